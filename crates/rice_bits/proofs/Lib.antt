@@ -1,0 +1,7 @@
+pub mod Words
+pub mod OneWay
+pub mod Bytes
+pub mod Gathering
+pub mod Pieces
+pub mod ReaderLemmas
+pub mod WindowLemmas

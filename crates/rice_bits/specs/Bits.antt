@@ -1,0 +1,46 @@
+-- Lists of bits, and the numbers and bytes that they spell.
+use Rattle.std.specs.Prelude.{ℕ, zero, suc, ◌+◌, ◌-◌, ◌*◌, ◌/◌, ◌%◌, ◌^◌, ◌<◌, ◌≤◌, All, Bool, true, false, List, [], ◌∷◌, ◌++◌, length, replicate, ◌==◌, if◌then◌else◌}
+use Rattle.std.specs.List.{flat_map}
+
+-- the fundamental sequence of m: m zeros and a one
+abbrev pub fundamental_sequence : ℕ → List Bool
+fundamental_sequence m = replicate m false ++ true ∷ []
+
+-- the lowest `width` binary digits of a value, most significant first
+unfoldable pub word : ℕ → ℕ → List Bool
+word zero value = []
+word (suc width) value = (value / 2 ^ width % 2 == 1) ∷ word width value
+
+-- the number that the digits spell, most significant first
+unfoldable pub number_of : List Bool → ℕ
+number_of [] = 0
+number_of (bit ∷ bits) = (if bit then 2 ^ length bits else 0) + number_of bits
+
+-- the bits of bytes, most significant first
+unfoldable pub bits_of : List ℕ → List Bool
+bits_of bytes = flat_map (word 8) bytes
+
+-- the bytes that are whole in the bits
+unfoldable pub whole_bytes : List Bool → List ℕ
+whole_bytes (a ∷ b ∷ c ∷ d ∷ e ∷ f ∷ g ∷ h ∷ bits) = number_of (a ∷ b ∷ c ∷ d ∷ e ∷ f ∷ g ∷ h ∷ []) ∷ whole_bytes bits
+whole_bytes _ = []
+
+-- how many of n bits are in whole bytes
+abbrev pub bits_in_bytes : ℕ → ℕ
+bits_in_bytes n = 8 * (n / 8)
+
+-- the zeros that fill n bits up to a byte
+abbrev pub bits_to_byte : ℕ → ℕ
+bits_to_byte n = (8 - n % 8) % 8
+
+-- the bits with zeros up to a whole byte
+abbrev pub padded : List Bool → List Bool
+padded bits = bits ++ replicate (bits_to_byte (length bits)) false
+
+-- Bytes, and the digits of a number that wait for more, within a capacity in bytes.
+pub record IsGathered (capacity : ℕ) (bytes : List ℕ) (waiting last : ℕ) : Type 0 where
+  pub short : waiting < 8
+  pub digits : last < 2 ^ waiting
+  pub room : 8 * length bytes + waiting ≤ 8 * capacity
+  pub small : capacity < 2 ^ 32
+  pub bytes_fit : All (λ b. b < 256) bytes

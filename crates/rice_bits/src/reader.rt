@@ -1,0 +1,293 @@
+//! A reader of bits.
+ghost use Rattle.std.specs.Prelude.{◌≡◌, ℕ, ◌+◌, ◌-◌, ◌*◌, ◌%◌, ◌^◌, ◌<◌, ◌≤◌, Bool, true, false, List, [], ◌++◌, length, replicate, IfOk, IfErr, OnOk, IfSome, IsSome};
+ghost use Rattle.rice_bits.specs.Bits.{fundamental_sequence, bits_to_byte, word};
+ghost use Rattle.rice_bits.specs.Reader.{Draws, Refuses};
+ghost use Rattle.rice_bits.specs.Window.{IsWindow, window_bits};
+
+use crate::device::Intake;
+use crate::digits::join;
+use crate::fault::BitFault;
+use crate::meter::Meter;
+use crate::window::{PIECE, Window};
+use std::marker::Model;
+
+/// The most bytes that a reader takes from its intake.
+const LIMIT: u64 = 1 << 49;
+
+/// Reads the bits of the bytes that an intake gives. Clauses see the bits that wait, how many were taken, and the intake.
+#[derive(Drop)]
+pub struct BitReader<I: Intake> {
+    intake: I,
+    window: Window,
+    taken: u64,
+    blank: bool,
+    refusal: Option<BitFault>,
+}
+
+impl<I: Intake> Model for BitReader<I> {
+    ghost use Rattle.rice_bits.specs.Reader.{Reader, IsReader};
+    ghost use Rattle.rice_bits.specs.Window.{window_bits};
+
+    ghost Value = { Reader I };
+
+    ghost view = { λ s. record { waiting = window_bits s.window; taken = s.taken; blank = s.blank; refusal = s.refusal; intake = s.intake } };
+
+    ghost invariant = { λ s. IsReader (I.failed s.intake) s.window s.taken s.refusal };
+}
+
+/// Asks the intake for bytes, where no bit waits.
+fn draw<I: Intake>(
+    intake: &mut I,
+    window: &mut Window,
+    taken: u64,
+    blank: bool,
+) -> Result<(), BitFault>
+    requires window { IsWindow window.old }
+    requires empty { (window.old.count ≡ 0) × (window.old.at ≡ window.old.end) }
+    requires countable { I.failed intake.old + 1 < 2 ^ 64 }
+    requires aligned { taken % 8 ≡ 0 }
+    requires limit { taken ≤ 2 ^ 52 }
+    ensures window { IsWindow window.new }
+    ensures count { window.new.count ≡ 0 }
+    ensures some { OnOk result (window.new.at < window.new.end) }
+    ensures ok { OnOk result (Draws (I.left intake.old) (I.left intake.new) (window_bits window.old) (window_bits window.new) []) }
+    ensures limit { OnOk result (taken + length (window_bits window.new) ≤ 2 ^ 52) }
+    ensures failures { OnOk result (I.failed intake.new ≡ I.failed intake.old) }
+    ensures err { IfErr result (λ f. (window_bits window.new ≡ []) ×
+        Refuses f (I.left intake.old) (I.left intake.new) (I.failed intake.old) (I.failed intake.new) taken blank) }
+{
+    let given = taken / 8;
+    let most = if given < LIMIT {
+        (LIMIT - given).min(PIECE as u64) as usize
+    } else {
+        1
+    };
+    let count = match intake.fill(&mut window.buffer[..most]) {
+        Ok(count) => count,
+        Err(_) => return Err(BitFault::Read),
+    };
+    if count == 0 {
+        return Err(BitFault::End { blank });
+    }
+    if given >= LIMIT {
+        return Err(BitFault::TooLong);
+    }
+    window.at = 0;
+    window.end = count;
+    Ok(())
+}
+
+/// Makes sure that a digit waits.
+fn supply<I: Intake>(
+    intake: &mut I,
+    window: &mut Window,
+    taken: u64,
+    blank: bool,
+) -> Result<(), BitFault>
+    requires window { IsWindow window.old }
+    requires countable { I.failed intake.old + 1 < 2 ^ 64 }
+    requires aligned { (taken + window.old.count) % 8 ≡ 0 }
+    requires limit { taken + length (window_bits window.old) ≤ 2 ^ 52 }
+    ensures window { IsWindow window.new }
+    ensures some { OnOk result (0 < window.new.count) }
+    ensures ok { OnOk result (Draws (I.left intake.old) (I.left intake.new) (window_bits window.old) (window_bits window.new) []) }
+    ensures aligned { OnOk result ((taken + window.new.count) % 8 ≡ 0) }
+    ensures limit { OnOk result (taken + length (window_bits window.new) ≤ 2 ^ 52) }
+    ensures failures { OnOk result (I.failed intake.new ≡ I.failed intake.old) }
+    ensures idle { 0 < length (window_bits window.old) → intake.new ≡ intake.old }
+    ensures err { IfErr result (λ f. (window_bits window.old ≡ []) × (window_bits window.new ≡ []) × (window.new.count ≡ 0) × (taken % 8 ≡ 0) ×
+        Refuses f (I.left intake.old) (I.left intake.new) (I.failed intake.old) (I.failed intake.new) taken blank) }
+{
+    if window.count > 0 {
+        return Ok(());
+    }
+    if window.at == window.end {
+        if let Err(fault) = draw(intake, window, taken, blank) {
+            return Err(fault);
+        }
+    }
+    window.load();
+    Ok(())
+}
+
+impl<I: Intake> BitReader<I> {
+    ghost use Rattle.rice_bits.specs.Reader.{Takes, Stops};
+
+    /// A reader that has taken no bit, as just after `mark`.
+    pub fn new(intake: I) -> Self
+        requires { I.failed intake + 1 < 2 ^ 64 }
+        ensures { result ≡ record { waiting = []; taken = 0; blank = true; refusal = None; intake = intake } }
+    {
+        BitReader {
+            intake,
+            window: Window::new(),
+            taken: 0,
+            blank: true,
+            refusal: None,
+        }
+    }
+
+    /// The intake, as the last call of its `fill` left it.
+    pub fn into_inner(self) -> I
+        ensures { result ≡ self.intake }
+    {
+        let BitReader {
+            intake,
+            window: _,
+            taken: _,
+            blank: _,
+            refusal: _,
+        } = self;
+        intake
+    }
+
+    /// How many bits were taken.
+    pub fn taken(&self) -> u64
+        ensures value { result ≡ self.now.taken }
+        ensures limit { result + length self.now.waiting ≤ 2 ^ 52 }
+        // At most 4,096 bytes are asked for at a time.
+        ensures waiting { length self.now.waiting ≤ 32768 }
+        ensures aligned { (result + length self.now.waiting) % 8 ≡ 0 }
+    {
+        self.taken
+    }
+
+    /// From here on no 1 has been taken. After a refusal it changes nothing.
+    pub fn mark(&mut self)
+        ensures going { self.old.refusal ≡ None → self.new ≡ record self.old { blank = true } }
+        ensures stopped { IsSome self.old.refusal → self.new ≡ self.old }
+    {
+        if self.refusal.is_none() {
+            self.blank = true;
+        }
+    }
+
+    /// Takes the number that the next `width` bits spell, most significant first.
+    pub fn take(&mut self, width: u32, meter: &mut Meter) -> Result<u32, BitFault>
+        requires width { width ≤ 32 }
+        requires meter { meter.old + width < 2 ^ 62 }
+        ensures ok { IfOk result (λ v. (v < 2 ^ width) × Takes I.left I.failed self.old self.new (word width v)) }
+        // A first refusal took all bits that were left, which were too few.
+        ensures err { self.old.refusal ≡ None → IfErr result (λ f.
+            (bits : List Bool) × (length bits < width) × Stops I.left I.failed self.old self.new bits f) }
+        // A reader that has refused answers the same, and takes nothing.
+        ensures stopped { IfSome self.old.refusal (λ f. (result ≡ Err f) × (self.new ≡ self.old)) }
+        ensures taken { OnOk result (self.new.taken ≡ self.old.taken + width) }
+        ensures most { self.new.taken ≤ self.old.taken + width }
+        ensures limit { self.new.taken ≤ 2 ^ 52 }
+        // The intake is not called where enough bits wait.
+        ensures idle { width ≤ length self.old.waiting → self.new.intake ≡ self.old.intake }
+        ensures steps { meter.new + self.old.taken ≡ meter.old + self.new.taken }
+    {
+        if let Some(fault) = self.refusal {
+            return Err(fault);
+        }
+        let mut value = 0;
+        let mut left = width;
+        while left > 0 {
+            match self.take_some(left, meter) {
+                Ok((digits, count)) => {
+                    value = join(value, count, digits);
+                    left -= count;
+                }
+                Err(fault) => return Err(fault),
+            }
+        }
+        Ok(value as u32)
+    }
+
+    /// Takes zeros up to and with the next 1, and answers how many zeros they were.
+    pub fn take_fs(&mut self, meter: &mut Meter) -> Result<u64, BitFault>
+        requires meter { meter.old + (2 ^ 52 - self.old.taken) < 2 ^ 62 }
+        ensures ok { IfOk result (λ m. Takes I.left I.failed self.old self.new (fundamental_sequence m)) }
+        // A first refusal took all bits that were left, which were zeros.
+        ensures err { self.old.refusal ≡ None → IfErr result (λ f.
+            (m : ℕ) × Stops I.left I.failed self.old self.new (replicate m false) f) }
+        // A reader that has refused answers the same, and takes nothing.
+        ensures stopped { IfSome self.old.refusal (λ f. (result ≡ Err f) × (self.new ≡ self.old)) }
+        ensures taken { IfOk result (λ m. self.new.taken ≡ self.old.taken + m + 1) }
+        ensures most { self.new.taken ≤ 2 ^ 52 }
+        ensures steps { meter.new + self.old.taken ≡ meter.old + self.new.taken }
+    {
+        if let Some(fault) = self.refusal {
+            return Err(fault);
+        }
+        let mut zeros = 0;
+        loop {
+            match self.take_run(meter) {
+                Ok((count, true)) => return Ok(zeros + count),
+                Ok((count, false)) => zeros += count,
+                Err(fault) => return Err(fault),
+            }
+        }
+    }
+
+    /// Takes some zeros, or zeros and a 1, and answers the zeros' number and whether there was a 1.
+    fn take_run(&mut self, meter: &mut Meter) -> Result<(u64, bool), BitFault>
+        requires going { self.old.refusal ≡ None }
+        requires meter { meter.old + (2 ^ 52 - self.old.taken) < 2 ^ 62 }
+        ensures one { IfOk result (λ r. r.1 ≡ true → Takes I.left I.failed self.old self.new (fundamental_sequence r.0)) }
+        ensures zeros { IfOk result (λ r. r.1 ≡ false → (0 < r.0) × Takes I.left I.failed self.old self.new (replicate r.0 false)) }
+        ensures err { IfErr result (Stops I.left I.failed self.old self.new []) }
+        ensures steps { meter.new + self.old.taken ≡ meter.old + self.new.taken }
+        ensures limit { self.new.taken ≤ 2 ^ 52 }
+    {
+        if let Err(fault) = supply(&mut self.intake, &mut self.window, self.taken, self.blank) {
+            self.refusal = Some(fault);
+            return Err(fault);
+        }
+        if self.window.digits > 0 {
+            let zeros = self.window.take_run() as u64;
+            self.taken += zeros + 1;
+            self.blank = false;
+            meter.tick(zeros + 1);
+            return Ok((zeros, true));
+        }
+        let zeros = self.window.take_zeros() as u64;
+        self.taken += zeros;
+        meter.tick(zeros);
+        Ok((zeros, false))
+    }
+
+    /// Takes the bits up to the next whole byte, whatever they are.
+    pub fn align(&mut self, meter: &mut Meter)
+        requires meter { meter.old + bits_to_byte self.old.taken < 2 ^ 62 }
+        ensures bits { (bits : List Bool) × (length bits ≡ bits_to_byte self.old.taken) × (self.old.waiting ≡ bits ++ self.new.waiting) }
+        ensures rest { self.new ≡ record self.old { waiting = self.new.waiting; taken = self.old.taken + bits_to_byte self.old.taken } }
+        ensures steps { meter.new ≡ meter.old + bits_to_byte self.old.taken }
+    {
+        let gap = ((8 - self.taken % 8) % 8) as u32;
+        if gap > 0 {
+            let _digits = self.window.take_digits(gap);
+            self.taken += gap as u64;
+            meter.tick(gap as u64);
+        }
+    }
+
+    /// Takes up to `most` digits, at least one, and answers them with their count.
+    fn take_some(&mut self, most: u32, meter: &mut Meter) -> Result<(u64, u32), BitFault>
+        requires going { self.old.refusal ≡ None }
+        requires some { 0 < most }
+        requires width { most ≤ 32 }
+        requires meter { meter.old + most < 2 ^ 62 }
+        ensures count { IfOk result (λ r. (0 < r.1) × (r.1 ≤ most) × (r.0 < 2 ^ r.1)) }
+        ensures ok { IfOk result (λ r. Takes I.left I.failed self.old self.new (word r.1 r.0)) }
+        ensures err { IfErr result (Stops I.left I.failed self.old self.new []) }
+        ensures idle { 0 < length self.old.waiting → self.new.intake ≡ self.old.intake }
+        ensures steps { meter.new + self.old.taken ≡ meter.old + self.new.taken }
+        ensures limit { self.new.taken ≤ 2 ^ 52 }
+    {
+        if let Err(fault) = supply(&mut self.intake, &mut self.window, self.taken, self.blank) {
+            self.refusal = Some(fault);
+            return Err(fault);
+        }
+        let count = most.min(self.window.count);
+        let digits = self.window.take_digits(count);
+        meter.tick(count as u64);
+        self.taken += count as u64;
+        if digits > 0 {
+            self.blank = false;
+        }
+        Ok((digits, count))
+    }
+}

@@ -1,0 +1,7 @@
+pub mod Parameters
+pub mod Places
+pub mod Residuals
+pub mod Pairs
+pub mod Spelling
+pub mod Rows
+pub mod Laws

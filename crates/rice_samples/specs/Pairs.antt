@@ -1,0 +1,12 @@
+-- The numbers by which second extension sends pairs of residuals.
+use Rattle.std.specs.Prelude.{ℕ, ◌+◌, ◌*◌, ◌/◌, List, [], ◌∷◌}
+
+-- the number that stands for a pair
+abbrev pub pair_code : ℕ → ℕ → ℕ
+pair_code a b = (a + b) * (a + b + 1) / 2 + b
+
+-- those of all pairs, one after another
+abbrev pub pair_codes : List ℕ → List ℕ
+pair_codes [] = []
+pair_codes (a ∷ []) = []
+pair_codes (a ∷ b ∷ ds) = pair_code a b ∷ pair_codes ds
