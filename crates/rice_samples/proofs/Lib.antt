@@ -6,3 +6,5 @@ pub mod Patterns
 pub mod CutLemmas
 pub mod InverseLemmas
 pub mod PairLemmas
+pub mod Counts
+pub mod SpellingLemmas

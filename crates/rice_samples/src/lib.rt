@@ -3,3 +3,9 @@
 
 pub mod examples;
 pub mod laws;
+mod pattern;
+pub mod setting;
+pub mod spelling;
+
+pub use setting::{Setting, SettingFault};
+pub use spelling::{bytes_of, sample_of};
