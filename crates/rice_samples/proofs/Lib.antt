@@ -8,3 +8,4 @@ pub mod InverseLemmas
 pub mod PairLemmas
 pub mod Counts
 pub mod SpellingLemmas
+pub mod Gaps

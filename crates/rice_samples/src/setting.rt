@@ -1,6 +1,6 @@
 //! What coder and decoder are set to.
 ghost use Rattle.std.specs.Prelude.{◌≡◌, ◌⊎◌, ℕ, ◌+◌, ◌-◌, ◌*◌, ◌%◌, ◌^◌, ◌<◌, ◌≤◌, ◌↔◌, IsTrue, IsOk, IfErr, ℤ};
-ghost use Rattle.rice_samples.specs.Parameters.{Parameters, IsLegal, IsSample, id_len, k_max, width, value_count, least};
+ghost use Rattle.rice_samples.specs.Parameters.{Parameters, IsLegal, IsSample, id_len, k_max, width, value_count, least, level, level as level_of};
 ghost use Rattle.rice_samples.specs.Places.{segment_blocks, blocks_left, has_reference};
 ghost use Rattle.rice_samples.specs.Settings.{parameters, setting_of, IsRefused};
 
@@ -243,6 +243,26 @@ impl Setting {
         ensures legal { IsLegal self.now }
     {
         1 << self.bits
+    }
+
+    /// How many values that a sample can have lie below `x`.
+    #[inline]
+    pub(crate) fn level(&self, x: i64) -> u64
+        requires { IsSample self.now x }
+        ensures value { result ≡ level self.now x }
+        ensures below { result < value_count self.now }
+    {
+        (x - self.least()) as u64
+    }
+
+    /// The value with so many below it.
+    #[inline]
+    pub(crate) fn value_at(&self, level: u64) -> i64
+        requires { level < value_count self.now }
+        ensures sample { IsSample self.now result }
+        ensures level { level_of self.now result ≡ level }
+    {
+        self.least() + level as i64
     }
 
     #[inline]

@@ -4,7 +4,7 @@ ghost use Rattle.rice_samples.specs.Parameters.{IsSample, width};
 ghost use Rattle.rice_samples.specs.Spelling.{spelling};
 
 use crate::Setting;
-use crate::pattern::{bytes_with, digits_of, value_with, word_of};
+use crate::digits::{bytes_with, digits_of, value_with, word_of};
 use arrayvec::ArrayVec;
 
 /// The sample that `width()` bytes spell. `None` where they spell none: where the unused high bits
