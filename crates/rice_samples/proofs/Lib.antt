@@ -6,3 +6,6 @@ pub mod Patterns
 pub mod CutLemmas
 pub mod InverseLemmas
 pub mod PairLemmas
+pub mod Counts
+pub mod SpellingLemmas
+pub mod Gaps

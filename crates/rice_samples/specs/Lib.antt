@@ -3,5 +3,7 @@ pub mod Places
 pub mod Residuals
 pub mod Pairs
 pub mod Spelling
+pub mod Values
+pub mod Settings
 pub mod Rows
 pub mod Laws
