@@ -1,2 +1,6 @@
 pub mod PlainLemmas
 pub mod CoderLemmas
+pub mod Entries
+pub mod WholeLemmas
+pub mod SpelledLemmas
+pub mod EncoderLemmas

@@ -18,12 +18,7 @@ use Rattle.rice_code.proofs.Covers.{bool_cases}
 use Rattle.rice_code.proofs.Filling.{last_append, last_replicate, blocks_append}
 use Rattle.rice_code.proofs.SoundBlocks.{filled_len}
 use Rattle.rice_code.proofs.WholeBlocks.{not_filled}
-use Rattle.aec_tool.specs.Plain.{sample_word, words, block_code, plain_code, early_code, in_blocks}
-
--- the samples go on, so the next begins nothing
-abbrev pub begins : {X : Type 0} → Bool → List X → Bool
-begins first [] = first
-begins first (x ∷ xs) = false
+use Rattle.aec_tool.specs.Plain.{begins, sample_word, words, block_code, plain_code, early_code, in_blocks}
 
 begins_no : (xs : List ℤ) → begins false xs ≡ false
 begins_no [] = refl
@@ -108,6 +103,9 @@ whole_texts : (s : Parameters) (b : ℕ) (coded : List ℤ) → 1 ≤ s.block �
 unfolding plain_code
 whole_texts s b coded j len = let bare = not_filled s b (pos 0) coded j len in λ i. texts s (blocks_from s 0 (pos 0) (bare.1 i) (bare.0 i))
 
+pub plain_nothing : (s : Parameters) → 1 ≤ s.block → plain_code s [] ≡ []
+plain_nothing s j = whole_texts s 0 [] j (omega arith)
+
 -- one block more
 one_more : (s : Parameters) (b : ℕ) (coded block : List ℤ) → length coded ≡ s.block * b → length block ≡ s.block →
     texts s (blocks_from s 0 (pos 0) (b + 1) (coded ++ block)) ≡ texts s (blocks_from s 0 (pos 0) b coded) ++ text s (NoCompression (contents s b (last_of (pos 0) coded) block))
@@ -179,7 +177,7 @@ plain_last s b coded x xs len k =
         omega arith
 
 length_texts : (s : Parameters) (b : ℕ) (p : ℤ) (n : ℕ) (xs : List ℤ) → 1 ≤ s.block → length xs ≡ s.block * n → length (texts s (blocks_from s b p n xs)) ≡ n * (id_len s + s.bits * s.block)
-length_texts s b p zero xs j e = none (id_len s + s.bits * s.block)
+length_texts s b p zero xs j e = omega arith
 length_texts s b p (suc n) xs j e =
     let front : length (take s.block xs) ≡ s.block = omega (arith, length-take s.block xs) in
     let back : length (drop s.block xs) ≡ s.block * n = omega (arith, length-drop s.block xs) in
@@ -188,9 +186,6 @@ length_texts s b p (suc n) xs j e =
     length-append (text s (NoCompression (contents s b p (take s.block xs)))) (texts s (blocks_from s (b + 1) (last_of p (take s.block xs)) n (drop s.block xs)))
     ∙ (λ i. one i + more i) ∙ next n (id_len s + s.bits * s.block)
   where
-    none : (c : ℕ) → 0 ≡ 0 * c
-    none c = omega arith
-
     next : (n c : ℕ) → c + n * c ≡ suc n * c
     next n c = omega arith
 

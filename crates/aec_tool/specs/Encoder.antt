@@ -1,5 +1,5 @@
 -- A coder at work: which samples it has taken, and what is written of their code.
-use Rattle.std.specs.Prelude.{◌≡◌, ℕ, ◌+◌, ◌*◌, ◌<◌, ◌≤◌, List, [], ◌∷◌, ◌++◌, length, drop, All, Option, Some, None, Result, Ok, Err, ℤ}
+use Rattle.std.specs.Prelude.{◌≡◌, ℕ, ◌+◌, ◌*◌, ◌<◌, ◌≤◌, Bool, List, [], ◌∷◌, ◌++◌, length, take, drop, All, Option, Some, None, Result, Ok, Err, ℤ}
 use Rattle.std.specs.Io.KnownBytes.{Appends}
 use Rattle.rice_bits.specs.Bits.{bits_in_bytes, whole_bytes, padded}
 use Rattle.rice_samples.specs.Parameters.{Parameters, IsSample, width}
@@ -20,6 +20,10 @@ early_bytes s xs = whole_bytes (early_code s xs)
 -- the bytes that carry all of the code
 abbrev pub all_bytes : Parameters → List ℤ → List ℕ
 all_bytes s xs = whole_bytes (padded (plain_code s xs))
+
+-- the bits of the bytes that are whole
+abbrev pub whole_part : List Bool → List Bool
+whole_part bits = take (bits_in_bytes (length bits)) bits
 
 -- an encoding has taken the samples
 pub record Counts (s : Parameters) (e : Encoding) (xs : List ℤ) : Type 0 where
@@ -68,6 +72,13 @@ Finishes s old new xs (Some _) = ⊥
 pub record Reads (s : Parameters) (bytes : List ℕ) (samples : List ℤ) (rest : List ℕ) : Type 0 where
   pub split : bytes ≡ spellings s samples ++ rest
   pub legal : All (IsSample s) samples
+
+-- an encoding that held xs has taken what the first of the bytes spell
+pub record Reaches (s : Parameters) (old new : Option (List ℕ)) (e : Encoding) (xs : List ℤ) (bytes : List ℕ) (at : ℕ) : Type 0 where
+  pub more : List ℤ
+  pub split : take at bytes ≡ spellings s more
+  pub legal : All (IsSample s) more
+  pub holds : Holds s old new e (xs ++ more)
 
 -- an encoding that held xs takes what the bytes spell
 pub record TakesAll (s : Parameters) (old new : Option (List ℕ)) (e : Encoding) (xs : List ℤ) (bytes : List ℕ) : Type 0 where

@@ -1,3 +1,7 @@
 pub mod Writes
 pub mod Plain
 pub mod Coder
+pub mod Calls
+pub mod Encoding
+pub mod Encoder
+pub mod Plan

@@ -1,5 +1,5 @@
 -- Samples whose blocks are all sent without compression.
-use Rattle.std.specs.Prelude.{ℕ, ◌+◌, ◌-◌, ◌*◌, ◌/◌, ◌^◌, Bool, true, false, not, ◌&&◌, if◌then◌else◌, List, [], ◌∷◌, ◌++◌, length, take, flat_map, ℤ, pos}
+use Rattle.std.specs.Prelude.{ℕ, ◌+◌, ◌-◌, ◌*◌, ◌/◌, ◌^◌, Bool, true, false, not, ◌&&◌, ◌==◌, if◌then◌else◌, List, [], ◌∷◌, ◌++◌, length, take, flat_map, ℤ, pos}
 use Rattle.rice_bits.specs.Bits.{word}
 use Rattle.rice_samples.specs.Parameters.{Parameters, id_len}
 use Rattle.rice_samples.specs.Residuals.{rank, pattern}
@@ -14,6 +14,15 @@ sample_word s first p x = if s.preprocess && not first then rank s p x else patt
 abbrev pub words : Parameters → Bool → ℤ → List ℤ → List ℕ
 words s first p [] = []
 words s first p (x ∷ xs) = sample_word s first p x ∷ words s false x xs
+
+-- the next of some samples or words begins an interval: the block does, and none comes before it
+abbrev pub begins : {X : Type 0} → Bool → List X → Bool
+begins first [] = first
+begins first (x ∷ xs) = false
+
+-- the place of the block behind one at this place
+abbrev pub place_behind : Parameters → ℕ → ℕ
+place_behind s place = if place + 1 == s.interval then 0 else place + 1
 
 -- the code of a block with these words
 unfoldable pub block_code : Parameters → List ℕ → List Bool
