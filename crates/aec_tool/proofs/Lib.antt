@@ -4,3 +4,5 @@ pub mod Entries
 pub mod WholeLemmas
 pub mod SpelledLemmas
 pub mod EncoderLemmas
+pub mod BufferLemmas
+pub mod EndLemmas

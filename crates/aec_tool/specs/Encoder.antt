@@ -1,6 +1,6 @@
 -- A coder at work: which samples it has taken, and what is written of their code.
-use Rattle.std.specs.Prelude.{◌≡◌, ℕ, ◌+◌, ◌*◌, ◌<◌, ◌≤◌, Bool, List, [], ◌∷◌, ◌++◌, length, take, drop, All, Option, Some, None, Result, Ok, Err, ℤ}
-use Rattle.std.specs.Io.KnownBytes.{Appends}
+use Rattle.std.specs.Prelude.{◌≡◌, ℕ, ◌+◌, ◌*◌, ◌^◌, ◌<◌, ◌≤◌, Bool, List, [], ◌∷◌, ◌++◌, length, take, drop, All, Option, Some, None, Result, Ok, Err, ℤ}
+use Rattle.std.specs.Io.KnownBytes.{Appends, Consumes}
 use Rattle.rice_bits.specs.Bits.{bits_in_bytes, whole_bytes, padded}
 use Rattle.rice_samples.specs.Parameters.{Parameters, IsSample, width}
 use Rattle.rice_samples.specs.Spelling.{spellings, StopsAt, NoSpelling}
@@ -115,3 +115,21 @@ abbrev pub PushFails : {T : Type 0} → ℕ → ℕ → Result T Fault → Type 
 PushFails old new (Ok _) = new ≡ old
 PushFails old new (Err Write) = new ≡ old + 1
 PushFails old new (Err _) = new ≡ old
+
+-- Bytes were given so far: those of samples, whose code is written as far as it is whole, and the first bytes of one more.
+pub record Runs (s : Parameters) (left_old left taken_old taken : Option (List ℕ)) (e : Encoding) (given waiting : ℕ) (buffer : List ℕ) : Type 0 where
+  pub bytes : List ℕ
+  pub samples : List ℤ
+  pub reads : Reads s bytes samples (take waiting buffer)
+  pub count : given ≡ length bytes
+  pub limit : given ≤ 2 ^ 48
+  pub few : waiting < width s
+  pub gave : Consumes left_old left bytes
+  pub holds : Holds s taken_old taken e samples
+
+-- Bytes were put behind those that wait in a buffer.
+pub record Refills (left_old left_new : Option (List ℕ)) (old new : List ℕ) (waiting count : ℕ) : Type 0 where
+  pub given : List ℕ
+  pub length_is : length given ≡ count
+  pub gave : Consumes left_old left_new given
+  pub front : take (waiting + count) new ≡ take waiting old ++ given

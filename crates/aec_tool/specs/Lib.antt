@@ -4,4 +4,5 @@ pub mod Coder
 pub mod Calls
 pub mod Encoding
 pub mod Encoder
+pub mod Decoder
 pub mod Plan

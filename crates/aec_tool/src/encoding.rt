@@ -1,17 +1,18 @@
 //! From samples to their code.
-ghost use Rattle.std.specs.Prelude.{◌≡◌, ℕ, ◌+◌, ◌-◌, ◌*◌, ◌%◌, ◌^◌, ◌<◌, ◌≤◌, List, [], ◌∷◌, ◌++◌, length, take, drop, Option, Some, OnOk, OnErr, ℤ};
-ghost use Rattle.std.specs.Io.KnownBytes.{Appends};
+ghost use Rattle.std.specs.Prelude.{◌≡◌, ℕ, ◌+◌, ◌-◌, ◌*◌, ◌%◌, ◌^◌, ◌<◌, ◌≤◌, List, [], ◌∷◌, ◌++◌, length, take, drop, Option, Some, OnOk, OnErr, IfOk, ℤ};
+ghost use Rattle.std.specs.Io.KnownBytes.{Appends, IsAtEnd, Keeps};
+ghost use Rattle.rice_bits.specs.Device.{CountsFailure};
 ghost use Rattle.rice_bits.specs.Bits.{bits_in_bytes, padded};
 ghost use Rattle.rice_samples.specs.Parameters.{Parameters, IsSample, width};
 ghost use Rattle.aec_tool.specs.Calls.{Call, Happens, Fails};
 ghost use Rattle.aec_tool.specs.Encoding.{Encodes, EncodesWithin};
-ghost use Rattle.aec_tool.specs.Encoder.{whole_part, Counts, Holds, FailsAt, Tells, Closes, Finishes, Pushes, PushFails};
+ghost use Rattle.aec_tool.specs.Encoder.{whole_part, Refills, Counts, Holds, FailsAt, Tells, Closes, Finishes, Pushes, PushFails};
 ghost use Rattle.aec_tool.specs.Plain.{early_code, plain_code};
 
 use crate::outcome::{Fault, Outcome, Report};
 use crate::plain_coder::Coder;
 use crate::write::write_whole;
-use rice_bits::{BitSink, Intake, Meter, Outlet, WriteFault};
+use rice_bits::{BitSink, Intake, Meter, Outlet, ReadFault, WriteFault};
 use rice_samples::{Setting, sample_of};
 
 /// The most bytes that are encoded.
@@ -174,7 +175,43 @@ fn piece(given: u64, waiting: usize) -> usize
     }
 }
 
+/// Puts the next bytes, at most so many, behind those that wait in the buffer, and answers how many.
+fn refill<I: Intake>(
+    intake: &mut I,
+    buffer: &mut [u8],
+    waiting: usize,
+    most: usize,
+) -> Result<usize, ReadFault>
+    requires some { 0 < most }
+    requires room { waiting + most ≤ length buffer.old }
+    requires countable { I.failed intake.old + 1 < 2 ^ 64 }
+    ensures count { IfOk result (λ n. n ≤ most) }
+    ensures bytes { IfOk result (λ n. Refills (I.left intake.old) (I.left intake.new) buffer.old buffer.new waiting n) }
+    ensures end { IfOk result (λ n. n ≡ 0 → IsAtEnd (I.left intake.new)) }
+    ensures err { OnErr result (Keeps (I.left intake.old) (I.left intake.new)) }
+    ensures failures { CountsFailure (I.failed intake.old) (I.failed intake.new) result }
+{
+    let end = waiting + most;
+    match intake.fill(&mut buffer[waiting..end]) {
+        Ok(count) => Ok(count),
+        Err(fault) => Err(fault),
+    }
+}
+
+/// Moves the last of the bytes before `filled` to the front.
+fn carry(buffer: &mut [u8], filled: usize, waiting: usize)
+    requires order { waiting ≤ filled }
+    requires within { filled ≤ length buffer.old }
+    ensures front { take waiting buffer.new ≡ drop (filled - waiting) (take filled buffer.old) }
+    ensures len { length buffer.new ≡ length buffer.old }
+{
+    buffer.copy_within(filled - waiting..filled, 0);
+}
+
 /// Encodes the samples that the intake's bytes spell, and writes their code to the outlet.
+///
+/// It asks for at most 4,096 bytes at a time and for at most 2^48 in all, and then for one more.
+/// Each block that a sample makes whole is written before the next sample is taken.
 pub fn encode<I: Intake, O: Outlet>(setting: &Setting, intake: &mut I, outlet: &mut O) -> Outcome
     requires reads { I.failed intake.old + 1 < 2 ^ 64 }
     requires writes { O.failed outlet.old + 1 < 2 ^ 64 }
@@ -189,8 +226,7 @@ pub fn encode<I: Intake, O: Outlet>(setting: &Setting, intake: &mut I, outlet: &
     let mut waiting = 0;
     let mut given = 0u64;
     'fill_all: loop {
-        let end = waiting + piece(given, waiting);
-        let count = match intake.fill(&mut buffer[waiting..end]) {
+        let count = match refill(intake, &mut buffer, waiting, piece(given, waiting)) {
             Ok(count) => count,
             Err(_) => return encoding.stopped(Fault::Read),
         };
@@ -206,10 +242,11 @@ pub fn encode<I: Intake, O: Outlet>(setting: &Setting, intake: &mut I, outlet: &
         }
         given += count as u64;
         let filled = waiting + count;
-        if let Err(fault) = encoding.push_all(setting, &buffer[..filled], outlet) {
-            return encoding.stopped(fault);
+        match encoding.push_all(setting, &buffer[..filled], outlet) {
+            Ok(()) => {}
+            Err(fault) => return encoding.stopped(fault),
         }
         waiting = filled % width;
-        buffer.copy_within(filled - waiting..filled, 0);
+        carry(&mut buffer, filled, waiting);
     }
 }
