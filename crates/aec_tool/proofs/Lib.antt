@@ -6,3 +6,6 @@ pub mod SpelledLemmas
 pub mod EncoderLemmas
 pub mod BufferLemmas
 pub mod EndLemmas
+pub mod DecoderLemmas
+pub mod TakenLemmas
+pub mod AnswerLemmas

@@ -5,4 +5,5 @@ pub mod Calls
 pub mod Encoding
 pub mod Encoder
 pub mod Decoder
+pub mod Decoding
 pub mod Plan

@@ -1,4 +1,10 @@
 //! From the code to its samples.
+ghost use Rattle.std.specs.Prelude.{◌≡◌, ℕ, ◌+◌, ◌-◌, ◌*◌, ◌^◌, ◌<◌, ◌≤◌, ◌++◌, length, All};
+ghost use Rattle.rice_samples.specs.Parameters.{IsSample, width};
+ghost use Rattle.rice_samples.specs.Spelling.{spellings};
+ghost use Rattle.aec_tool.specs.Calls.{Fails};
+ghost use Rattle.aec_tool.specs.Decoding.{DecodesWithin, wanted_of};
+
 use crate::outcome::{Fault, Outcome, Report};
 use crate::plain_decoder::{CodeFault, Decoder, Step};
 use crate::write::write_all;
@@ -6,115 +12,111 @@ use arrayvec::ArrayVec;
 use rice_bits::{BitReader, Intake, Meter, Outlet};
 use rice_samples::{Setting, bytes_of};
 
-/// A decoder at work.
-#[derive(Drop)]
-struct Decoding<I: Intake> {
-    setting: Setting,
-    decoder: Decoder,
-    reader: BitReader<I>,
-    meter: Meter,
-    samples: u64,
-}
-
-impl<I: Intake> Decoding<I> {
-    /// A decoding that has taken no bit.
-    fn new(setting: Setting, intake: I) -> Self {
-        Decoding {
-            setting,
-            decoder: Decoder::new(setting),
-            reader: BitReader::new(intake),
-            meter: Meter::new(),
-            samples: 0,
-        }
-    }
-
-    /// Writes samples.
-    fn write<O: Outlet>(&mut self, samples: &[i64], outlet: &mut O) -> Result<(), Fault> {
-        let bytes = spelled(&self.setting, samples);
-        match write_all(outlet, bytes.as_slice()) {
-            Ok(()) => {
-                self.samples += samples.len() as u64;
-                self.meter.tick(samples.len() as u64);
-                Ok(())
-            }
-            Err(_) => Err(Fault::Write),
-        }
-    }
-
-    /// The fault of a decoding that stops so.
-    fn fault_of(&self, asked: Option<u64>, answer: Result<Step, CodeFault>) -> Option<Fault> {
-        match answer {
-            Ok(_) if asked.is_none() => None,
-            Ok(_) | Err(CodeFault::CodeEnds) => Some(Fault::CodeEnds { samples: self.samples }),
-            Err(CodeFault::NotYet) => {
-                let block = self.samples / self.setting.block() as u64;
-                Some(Fault::NotYet { block })
-            }
-            Err(CodeFault::Read) => Some(Fault::Read),
-            Err(CodeFault::TooLong) => Some(Fault::TooLong),
-        }
-    }
-
-    /// What was done, and the intake.
-    fn end(self, fault: Option<Fault>) -> (Outcome, I) {
-        let Decoding {
-            setting: _,
-            decoder: _,
-            reader,
-            meter,
-            samples,
-        } = self;
-        let report = Report {
-            samples,
-            bits: reader.taken(),
-            steps: meter.steps(),
-        };
-        (Outcome { report, fault }, reader.into_inner())
-    }
-}
-
-/// The bytes of samples.
-fn spelled(setting: &Setting, samples: &[i64]) -> ArrayVec<u8, 256> {
+/// The bytes of the samples of a block.
+fn spelled(setting: &Setting, samples: &[i64]) -> ArrayVec<u8, 256>
+    requires legal { All (IsSample setting.now) samples.now }
+    requires few { length samples.now ≤ 64 }
+    ensures { result.items ≡ spellings setting.now samples.now }
+{
     let mut bytes = ArrayVec::new();
     for x in samples {
-        for byte in bytes_of(setting, *x).as_slice() {
-            bytes.push(*byte);
-        }
+        let spelling = bytes_of(setting, *x);
+        append(&mut bytes, spelling.as_slice());
     }
     bytes
 }
 
-/// How many samples of a block are wanted, behind so many.
-fn wanted(asked: Option<u64>, samples: u64, block: usize) -> usize {
-    match asked {
-        None => block,
-        Some(count) => (count - samples).min(block as u64) as usize,
+/// Appends bytes.
+#[inline]
+fn append(bytes: &mut ArrayVec<u8, 256>, more: &[u8])
+    requires { length bytes.old.items + length more.now ≤ 256 }
+    ensures { bytes.new.items ≡ bytes.old.items ++ more.now }
+{
+    for byte in more {
+        bytes.push(*byte);
     }
 }
 
+/// How many samples of the next block are wanted, behind those that are written.
+fn wanted(asked: Option<u64>, written: u64, block: u32) -> usize
+    ensures value { result ≡ wanted_of asked written block }
+    ensures most { result ≤ block }
+{
+    match asked {
+        None => block as usize,
+        Some(count) => count.saturating_sub(written).min(block as u64) as usize,
+    }
+}
+
+/// Why decoding stops where the decoder answers so, behind so many samples.
+fn fault_of(asked: Option<u64>, answer: Result<Step, CodeFault>, samples: u64, block: u32) -> Option<Fault>
+    requires { 0 < block }
+{
+    match answer {
+        Ok(_) if asked.is_none() => None,
+        Ok(_) | Err(CodeFault::CodeEnds) => Some(Fault::CodeEnds { samples }),
+        Err(CodeFault::NotYet) => Some(Fault::NotYet {
+            block: samples / block as u64,
+        }),
+        Err(CodeFault::Read) => Some(Fault::Read),
+        Err(CodeFault::TooLong) => Some(Fault::TooLong),
+    }
+}
+
+/// What was done, and the intake.
+fn ended<I: Intake>(
+    fault: Option<Fault>,
+    samples: u64,
+    reader: BitReader<I>,
+    meter: &Meter,
+) -> (Outcome, I)
+    ensures samples { result.0.report.samples ≡ samples }
+    ensures bits { result.0.report.bits ≡ reader.taken }
+    ensures steps { result.0.report.steps ≡ meter.now }
+    ensures fault { result.0.fault ≡ fault }
+    ensures intake { result.1 ≡ reader.intake }
+{
+    let report = Report {
+        samples,
+        bits: reader.taken(),
+        steps: meter.steps(),
+    };
+    (Outcome { report, fault }, reader.into_inner())
+}
+
 /// Decodes the code that the intake gives, up to the samples asked for, and writes them to the outlet.
+/// Each block is written before the next is read. With a count of 0 nothing is read.
 pub fn decode<I: Intake, O: Outlet>(
     setting: &Setting,
     asked: Option<u64>,
     intake: I,
     outlet: &mut O,
-) -> (Outcome, I) {
-    let mut decoding = Decoding::new(*setting, intake);
+) -> (Outcome, I)
+    requires reads { I.failed intake + 1 < 2 ^ 64 }
+    requires writes { O.failed outlet.old + 1 < 2 ^ 64 }
+    ensures bounds { DecodesWithin asked result.0.report }
+{
+    let block = setting.block();
+    let mut decoder = Decoder::new(*setting);
+    let mut reader = BitReader::new(intake);
+    let mut meter = Meter::new();
     let mut samples = ArrayVec::new();
+    let mut written = 0u64;
     'blocks: loop {
-        if let Some(count) = asked {
-            if decoding.samples >= count {
-                return decoding.end(None);
-            }
+        let count = wanted(asked, written, block);
+        if count == 0 {
+            return ended(None, written, reader, &meter);
         }
-        let answer = decoding.decoder.next_block(&mut decoding.reader, &mut decoding.meter, &mut samples);
+        let answer = decoder.next_block(&mut reader, &mut meter, &mut samples);
         if answer != Ok(Step::Block) {
-            let fault = decoding.fault_of(asked, answer);
-            return decoding.end(fault);
+            return ended(fault_of(asked, answer, written, block), written, reader, &meter);
         }
-        let count = wanted(asked, decoding.samples, samples.len());
-        if let Err(fault) = decoding.write(&samples.as_slice()[..count], outlet) {
-            return decoding.end(Some(fault));
+        let bytes = spelled(setting, &samples.as_slice()[..count]);
+        match write_all(outlet, bytes.as_slice()) {
+            Ok(()) => {}
+            Err(_) => return ended(Some(Fault::Write), written, reader, &meter),
         }
+        written += count as u64;
+        meter.tick(count as u64);
     }
 }

@@ -142,6 +142,7 @@ fn take_identifier<I: Intake>(
     ensures steps { meter.new + reader.old.taken ≡ meter.old + reader.new.taken }
     ensures limit { reader.new.taken ≤ 2 ^ 52 }
 {
+    let _legal = setting.bits();
     let id_len = setting.id_len();
     let identifier = match reader.take(id_len, meter) {
         Ok(identifier) => identifier,
