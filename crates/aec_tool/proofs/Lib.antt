@@ -9,3 +9,6 @@ pub mod EndLemmas
 pub mod DecoderLemmas
 pub mod TakenLemmas
 pub mod AnswerLemmas
+pub mod DecodingLemmas
+pub mod DecodedLemmas
+pub mod ReachLemmas

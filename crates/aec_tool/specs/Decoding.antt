@@ -10,6 +10,8 @@ use Rattle.aec_tool.specs.Calls.{Call, Leaves, StopsBetween, PassesLimit}
 use Rattle.aec_tool.specs.declared.outcome.Report.{Report}
 use Rattle.aec_tool.specs.declared.outcome.Fault.{Fault}
 use Rattle.aec_tool.specs.declared.outcome.Fault.TheVariants.{Read, Write, TooLong, CodeEnds, NotYet}
+use Rattle.aec_tool.specs.declared.plain_decoder.CodeFault.{CodeFault}
+use Rattle.aec_tool.specs.declared.plain_decoder.CodeFault.TheVariants as codes
 
 -- the bytes decode so, and these samples and bits are what the call left
 abbrev pub Decodes : Parameters → Option ℕ → Call → Report → List ℕ → List ℤ → Ending → Type 0
@@ -72,3 +74,15 @@ pub record DecodesWithin (asked : Option ℕ) (r : Report) : Type 0 where
 abbrev pub wanted_of : Option ℕ → ℕ → ℕ → ℕ
 wanted_of None written block = block
 wanted_of (Some n) written block = min (n - written) block
+
+-- the fault where no 1 is left
+abbrev pub end_of_lem : Option ℕ → ℕ → Option Fault
+end_of_lem None samples = None
+end_of_lem (Some n) samples = Some (CodeEnds samples)
+
+-- the fault where the decoder refuses
+abbrev pub fault_of_lem : CodeFault → ℕ → ℕ → Fault
+fault_of_lem codes.CodeEnds samples block = CodeEnds samples
+fault_of_lem codes.NotYet samples block = NotYet (samples / block)
+fault_of_lem codes.Read samples block = Read
+fault_of_lem codes.TooLong samples block = TooLong

@@ -6,4 +6,5 @@ pub mod Encoding
 pub mod Encoder
 pub mod Decoder
 pub mod Decoding
+pub mod Decodings
 pub mod Plan

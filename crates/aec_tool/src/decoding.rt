@@ -3,7 +3,7 @@ ghost use Rattle.std.specs.Prelude.{◌≡◌, ℕ, ◌+◌, ◌-◌, ◌*◌, �
 ghost use Rattle.rice_samples.specs.Parameters.{IsSample, width};
 ghost use Rattle.rice_samples.specs.Spelling.{spellings};
 ghost use Rattle.aec_tool.specs.Calls.{Fails};
-ghost use Rattle.aec_tool.specs.Decoding.{DecodesWithin, wanted_of};
+ghost use Rattle.aec_tool.specs.Decoding.{DecodesWithin, wanted_of, end_of_lem, fault_of_lem};
 
 use crate::outcome::{Fault, Outcome, Report};
 use crate::plain_decoder::{CodeFault, Decoder, Step};
@@ -48,18 +48,28 @@ fn wanted(asked: Option<u64>, written: u64, block: u32) -> usize
     }
 }
 
-/// Why decoding stops where the decoder answers so, behind so many samples.
-fn fault_of(asked: Option<u64>, answer: Result<Step, CodeFault>, samples: u64, block: u32) -> Option<Fault>
-    requires { 0 < block }
+/// Why decoding stops where no 1 is left: only where more samples were asked for.
+fn end_of(asked: Option<u64>, samples: u64) -> Option<Fault>
+    ensures { result ≡ end_of_lem asked samples }
 {
-    match answer {
-        Ok(_) if asked.is_none() => None,
-        Ok(_) | Err(CodeFault::CodeEnds) => Some(Fault::CodeEnds { samples }),
-        Err(CodeFault::NotYet) => Some(Fault::NotYet {
+    match asked {
+        None => None,
+        Some(_) => Some(Fault::CodeEnds { samples }),
+    }
+}
+
+/// Why decoding stops where the decoder refuses so, behind so many samples.
+fn fault_of(fault: CodeFault, samples: u64, block: u32) -> Fault
+    requires { 0 < block }
+    ensures { result ≡ fault_of_lem fault samples block }
+{
+    match fault {
+        CodeFault::CodeEnds => Fault::CodeEnds { samples },
+        CodeFault::NotYet => Fault::NotYet {
             block: samples / block as u64,
-        }),
-        Err(CodeFault::Read) => Some(Fault::Read),
-        Err(CodeFault::TooLong) => Some(Fault::TooLong),
+        },
+        CodeFault::Read => Fault::Read,
+        CodeFault::TooLong => Fault::TooLong,
     }
 }
 
@@ -102,14 +112,21 @@ pub fn decode<I: Intake, O: Outlet>(
     let mut meter = Meter::new();
     let mut samples = ArrayVec::new();
     let mut written = 0u64;
-    'blocks: loop {
+    'decode_all: loop {
         let count = wanted(asked, written, block);
         if count == 0 {
             return ended(None, written, reader, &meter);
         }
-        let answer = decoder.next_block(&mut reader, &mut meter, &mut samples);
-        if answer != Ok(Step::Block) {
-            return ended(fault_of(asked, answer, written, block), written, reader, &meter);
+        let step = match decoder.next_block(&mut reader, &mut meter, &mut samples) {
+            Ok(step) => step,
+            Err(fault) => {
+                let fault = fault_of(fault, written, block);
+                return ended(Some(fault), written, reader, &meter);
+            }
+        };
+        match step {
+            Step::Block => {}
+            Step::Done => return ended(end_of(asked, written), written, reader, &meter),
         }
         let bytes = spelled(setting, &samples.as_slice()[..count]);
         match write_all(outlet, bytes.as_slice()) {

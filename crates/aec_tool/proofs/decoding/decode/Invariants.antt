@@ -1,10 +1,12 @@
-use Rattle.std.proofs.Common.{◌≡◌, ◌+◌, ◌-◌, ◌≤◌, None}
+use Rattle.std.proofs.Common.{◌≡◌, ◌+◌, ◌-◌, ◌≤◌, ℕ, None}
+use Rattle.rice_samples.specs.Places.{place}
 use Rattle.std.specs.Prelude.{IfSome}
 use Rattle.aec_tool.proofs.decoding.decode.Given as goal
 
-abbrev pub invariant-blocks : goal.invariant-blocks
-invariant-blocks g l = record {
+abbrev pub invariant-decode_all : goal.invariant-decode_all
+invariant-decode_all g l = record {
   setting : l.decoder.setting ≡ l.setting;
+  here : (b : ℕ) × (place l.setting b ≡ l.decoder.block);
   going : l.decoder.stopped ≡ None;
   reader_going : l.reader.refusal ≡ None;
   limit : l.reader.taken ≤ 4503599627370496;
@@ -14,5 +16,5 @@ invariant-blocks g l = record {
   writes : g.O.Outlet.failed l.outlet ≡ g.O.Outlet.failed l.fn.outlet;
 }
 
-abbrev pub decreases-blocks : goal.decreases-blocks
-decreases-blocks g l = 4503599627370496 - l.reader.taken
+abbrev pub decreases-decode_all : goal.decreases-decode_all
+decreases-decode_all g l = 4503599627370496 - l.reader.taken
