@@ -1,9 +1,9 @@
 -- How decoding ends.
 use Rattle.std.proofs.Common.{◌≡◌, ◌≢◌, ℕ, zero, suc, ◌+◌, ◌-◌, ◌*◌, ◌/◌, ◌%◌, ◌<◌, ◌≤◌, ◌&&◌, not, min, Bool, true, false, List, [], ◌∷◌, ◌++◌, length, take, drop, refl, ap, arith, sym, ◌∙◌, subst, append_assoc, append-nil, length-append, Option, Some, None, ℤ, pos, inl, inr, ◌⊎◌}
-use Rattle.std.specs.Prelude.{All, Contains, IfSome, IsSome, IsSomeAnd}
+use Rattle.std.specs.Prelude.{Ok, Err, All, Contains, IfSome, IsSome, IsSomeAnd}
 use Rattle.std.specs.Io.KnownBytes.{Appends, Consumes, IsAtEnd}
-use Rattle.std.proofs.KnownBytes.{Appends-trans, Consumes-trans}
-use Rattle.std.proofs.Math.Nat.{mul-div_cancel_left, mul-le-mul_left}
+use Rattle.std.proofs.KnownBytes.{Appends-nil, Appends-trans, Consumes-nil, Consumes-trans}
+use Rattle.std.proofs.Math.Nat.{mod-eq_of_lt, mul-div_cancel_left, mul-le-mul_left}
 use Rattle.std.proofs.Math.Seq.{take-length, take-append_seam, drop-append_seam}
 use Rattle.std.proofs.lemmas.List.{length-take-le, length-take, take-append-le}
 use Rattle.std.proofs.lemmas.List.Elements.{Contains-append_left}
@@ -12,7 +12,7 @@ use Rattle.rice_bits.specs.Bits.{bits_of, word}
 use Rattle.rice_bits.specs.Reader.{Reader, Takes, Stops, is_blank}
 use Rattle.rice_bits.specs.declared.fault.BitFault.{BitFault}
 use Rattle.rice_bits.specs.declared.fault.BitFault.TheVariants as bit_faults
-use Rattle.rice_bits.proofs.Bytes.{bits_of-append, length-bits_of}
+use Rattle.rice_bits.proofs.Bytes.{bits_of-nil, bits_of-append, length-bits_of}
 use Rattle.rice_samples.specs.Parameters.{Parameters, IsLegal, IsSample, id_len}
 use Rattle.rice_samples.specs.Places.{place}
 use Rattle.rice_samples.specs.Residuals.{last_of}
@@ -22,17 +22,21 @@ use Rattle.rice_code.proofs.Filling.{last_append}
 use Rattle.rice_code.specs.Blocks.{contents}
 use Rattle.rice_code.specs.DataSets.{DataSet, NoCompression, text}
 use Rattle.rice_code.specs.Forms.{IsForm}
-use Rattle.aec_tool.specs.Calls.{Call, Happens, Leaves, StopsBetween, PassesLimit}
-use Rattle.aec_tool.specs.Decoder.{Place, GivesBlock, SetCut, SetEnds, OtherOption, marked, moved}
-use Rattle.aec_tool.specs.Decoding.{Decodings, EndsSo, Decodes, RunsOut, MeetsOther, FailsInBlock, at_most, wanted_of, end_of_lem}
+use Rattle.aec_tool.specs.Calls.{Call, Happens, Fails, Leaves, StopsBetween, PassesLimit}
+use Rattle.aec_tool.specs.Decoder.{Place, Answers, StopsBy, GivesBlock, SetCut, SetEnds, OtherOption, marked, moved}
+use Rattle.aec_tool.specs.Decoding.{Decodings, EndsSo, Decodes, RunsOut, MeetsOther, FailsInBlock, at_most, wanted_of, end_of_lem, fault_of_lem}
 use Rattle.aec_tool.specs.Decodings.{Behind, RunsOn}
 use Rattle.aec_tool.specs.Writes.{TakesPart}
 use Rattle.aec_tool.specs.Plain.{place_behind}
+use Rattle.aec_tool.specs.declared.plain_decoder.Step.{Step}
+use Rattle.aec_tool.specs.declared.plain_decoder.Step.TheVariants.{Done}
+use Rattle.aec_tool.specs.declared.plain_decoder.CodeFault.{CodeFault}
+use Rattle.aec_tool.specs.declared.plain_decoder.CodeFault.TheVariants as faults
 use Rattle.aec_tool.specs.declared.outcome.Report.{Report}
 use Rattle.aec_tool.specs.declared.outcome.Fault.{Fault}
 use Rattle.aec_tool.specs.declared.outcome.Fault.TheVariants.{Read, Write, TooLong, CodeEnds, NotYet}
 use Rattle.aec_tool.proofs.CoderLemmas.{place_is}
-use Rattle.aec_tool.proofs.DecodedLemmas.{behind_more, ends_here, cut_more, cut_none}
+use Rattle.aec_tool.proofs.DecodedLemmas.{behind_nothing, behind_more, ends_here, cut_nothing, cut_more, cut_none}
 use Rattle.aec_tool.proofs.DecodingLemmas.{block_bits, more_bits, still_asked}
 use Rattle.aec_tool.proofs.SpelledLemmas.{spellings-append}
 
@@ -391,3 +395,92 @@ write_ends left failed s asked start out_old out out_new p r new steps written s
     exactly : (asked : Option ℕ) → cut_to s (Some (length (cut_to s asked 0 (runs.all ++ xs)))) 0 (runs.all ++ xs) ≡ cut_to s asked 0 (runs.all ++ xs)
     exactly None = let n : length (runs.all ++ xs) - s.block * 0 ≡ length (runs.all ++ xs) = omega arith in ap (λ m. take m (runs.all ++ xs)) n ∙ take-length (runs.all ++ xs)
     exactly (Some m) = let zs = runs.all ++ xs in let n : length (take (m - s.block * 0) zs) - s.block * 0 ≡ length (take (m - s.block * 0) zs) = omega arith in ap (λ m. take m zs) n ∙ take_same (m - s.block * 0) zs
+
+-- what a decoder says where it refuses
+refused : {I : Type 0} (left : I → Option (List ℕ)) (failed : I → ℕ) (old new : Reader I) (p q : Place) (s : Parameters) (b : ℕ) (xs : List ℤ) (fault : CodeFault) → (p.stopped ≡ None → (b : ℕ) → place p.setting b ≡ p.block → Answers left failed (marked old) new p q b xs (Err fault)) →
+    p.setting ≡ s → p.stopped ≡ None → place s b ≡ p.block → StopsBy left failed (marked old) new s b (Err fault)
+refused left failed old new p q s b xs fault reads setting going here =
+    subst (λ (t : Parameters). StopsBy left failed (marked old) new t b (Err fault)) setting (reads going b (ap (λ t. place t b) setting ∙ here)).0
+
+-- and where it is done
+done : {I : Type 0} (left : I → Option (List ℕ)) (failed : I → ℕ) (old new : Reader I) (p q : Place) (s : Parameters) (b : ℕ) (xs : List ℤ) (step : Step) → (p.stopped ≡ None → (b : ℕ) → place p.setting b ≡ p.block → Answers left failed (marked old) new p q b xs (Ok step)) →
+    step ≡ Done → p.setting ≡ s → p.stopped ≡ None → place s b ≡ p.block → SetEnds left failed (marked old) new s b true
+done left failed old new p q s b xs step reads is setting going here =
+    let a = subst (λ (st : Step). Answers left failed (marked old) new p q b xs (Ok st)) is (reads going b (ap (λ t. place t b) setting ∙ here)) in
+    subst (λ (t : Parameters). SetEnds left failed (marked old) new t b true) setting a.0
+
+stops_ends : {I : Type 0} (left : I → Option (List ℕ)) (failed : I → ℕ) (s : Parameters) (asked : Option ℕ) (start : I) (out_old out : Option (List ℕ)) (p : Place) (r new : Reader I) (steps written steps_new : ℕ) (rep : Report) (f : Option Fault) (fault : CodeFault) → IsLegal s →
+    (runs : RunsOn left failed s asked start out_old out p r steps written) → wanted_of asked written s.block ≢ 0 → StopsBy left failed (marked r) new s runs.blocks (Err fault) → Tells rep written new.taken steps_new → length new.waiting ≤ 32768 → f ≡ Some (fault_of_lem fault written s.block) →
+    Ends s asked (left start) (left new.intake) out_old out rep f
+stops_ends left failed s asked start out_old out p r new steps written steps_new rep f faults.CodeEnds legal runs some stops tells few is = ended_ends left failed s asked start out_old out p r new steps written steps_new false rep f runs some stops tells is
+stops_ends left failed s asked start out_old out p r new steps written steps_new rep f faults.NotYet legal runs some stops tells few is = other_ends left failed s asked start out_old out p r new steps written steps_new rep f legal runs some stops tells few is
+stops_ends left failed s asked start out_old out p r new steps written steps_new rep f faults.Read legal runs some stops tells few is = read_ends left failed s asked start out_old out p r new steps written steps_new rep f runs some stops tells is
+stops_ends left failed s asked start out_old out p r new steps written steps_new rep f faults.TooLong legal runs some stops tells few is = long_ends left failed s asked start out_old out p r new steps written steps_new rep f runs some stops tells is
+
+pub refusal_ends : {I : Type 0} (left : I → Option (List ℕ)) (failed : I → ℕ) (s : Parameters) (asked : Option ℕ) (start : I) (out_old out : Option (List ℕ)) (p q : Place) (r new : Reader I) (steps written steps_new : ℕ) (xs : List ℤ) (rep : Report) (f : Option Fault) (fault : CodeFault) → IsLegal s →
+    (runs : RunsOn left failed s asked start out_old out p r steps written) → wanted_of asked written s.block ≢ 0 → (p.stopped ≡ None → (b : ℕ) → place p.setting b ≡ p.block → Answers left failed (marked r) new p q b xs (Err fault)) →
+    Tells rep written new.taken steps_new → length new.waiting ≤ 32768 → f ≡ Some (fault_of_lem fault written s.block) → Ends s asked (left start) (left new.intake) out_old out rep f
+refusal_ends left failed s asked start out_old out p q r new steps written steps_new xs rep f fault legal runs some reads tells few is =
+    stops_ends left failed s asked start out_old out p r new steps written steps_new rep f fault legal runs some (refused left failed r new p q s runs.blocks xs fault reads runs.setting runs.going runs.here) tells few is
+
+pub done_ends : {I : Type 0} (left : I → Option (List ℕ)) (failed : I → ℕ) (s : Parameters) (asked : Option ℕ) (start : I) (out_old out : Option (List ℕ)) (p q : Place) (r new : Reader I) (steps written steps_new : ℕ) (xs : List ℤ) (rep : Report) (f : Option Fault) (step : Step) →
+    (runs : RunsOn left failed s asked start out_old out p r steps written) → wanted_of asked written s.block ≢ 0 → (p.stopped ≡ None → (b : ℕ) → place p.setting b ≡ p.block → Answers left failed (marked r) new p q b xs (Ok step)) → step ≡ Done →
+    Tells rep written new.taken steps_new → f ≡ end_of_lem asked written → Ends s asked (left start) (left new.intake) out_old out rep f
+done_ends left failed s asked start out_old out p q r new steps written steps_new xs rep f step runs some reads is_done tells is =
+    ended_ends left failed s asked start out_old out p r new steps written steps_new true rep f runs some (done left failed r new p q s runs.blocks xs step reads is_done runs.setting runs.going runs.here) tells is
+
+stops_fail : {I : Type 0} (left : I → Option (List ℕ)) (failed : I → ℕ) (s : Parameters) (b : ℕ) (r new : Reader I) (n written block writes : ℕ) (fault : CodeFault) → StopsBy left failed (marked r) new s b (Err fault) → failed r.intake ≡ n → Fails (Some (fault_of_lem fault written block)) n (failed new.intake) writes writes
+stops_fail left failed s b r new n written block writes faults.CodeEnds stops e = (stops.cut.stops.refuses.2 ∙ e, refl)
+stops_fail left failed s b r new n written block writes faults.NotYet stops e = (stops.takes.failures ∙ e, refl)
+stops_fail left failed s b r new n written block writes faults.Read stops e = (stops.stops.refuses.1 ∙ ap (λ m. m + 1) e, refl)
+stops_fail left failed s b r new n written block writes faults.TooLong stops e = (stops.stops.refuses.1 ∙ e, refl)
+
+pub refusal_fails : {I : Type 0} (left : I → Option (List ℕ)) (failed : I → ℕ) (s : Parameters) (asked : Option ℕ) (start : I) (out_old out : Option (List ℕ)) (p q : Place) (r new : Reader I) (steps written writes writes_new : ℕ) (xs : List ℤ) (f : Option Fault) (fault : CodeFault) →
+    (runs : RunsOn left failed s asked start out_old out p r steps written) → (p.stopped ≡ None → (b : ℕ) → place p.setting b ≡ p.block → Answers left failed (marked r) new p q b xs (Err fault)) →
+    writes_new ≡ writes → f ≡ Some (fault_of_lem fault written s.block) → Fails f (failed start) (failed new.intake) writes writes_new
+refusal_fails left failed s asked start out_old out p q r new steps written writes writes_new xs f fault runs reads same is =
+    subst (λ (f : Option Fault). Fails f (failed start) (failed new.intake) writes writes_new) (sym is)
+    (subst (λ (w : ℕ). Fails (Some (fault_of_lem fault written s.block)) (failed start) (failed new.intake) writes w) (sym same)
+        (stops_fail left failed s runs.blocks r new (failed start) written s.block writes fault (refused left failed r new p q s runs.blocks xs fault reads runs.setting runs.going runs.here) runs.reads))
+
+pub done_fails : {I : Type 0} (left : I → Option (List ℕ)) (failed : I → ℕ) (s : Parameters) (asked : Option ℕ) (start : I) (out_old out : Option (List ℕ)) (p q : Place) (r new : Reader I) (steps written writes writes_new : ℕ) (xs : List ℤ) (f : Option Fault) (step : Step) →
+    (runs : RunsOn left failed s asked start out_old out p r steps written) → (p.stopped ≡ None → (b : ℕ) → place p.setting b ≡ p.block → Answers left failed (marked r) new p q b xs (Ok step)) → step ≡ Done →
+    writes_new ≡ writes → f ≡ end_of_lem asked written → Fails f (failed start) (failed new.intake) writes writes_new
+done_fails left failed s asked start out_old out p q r new steps written writes writes_new xs f step runs reads is_done same is =
+    subst (λ (f : Option Fault). Fails f (failed start) (failed new.intake) writes writes_new) (sym is)
+    (by_count asked ((done left failed r new p q s runs.blocks xs step reads is_done runs.setting runs.going runs.here).cut.stops.refuses.2 ∙ runs.reads) same)
+  where
+    by_count : (asked : Option ℕ) → failed new.intake ≡ failed start → writes_new ≡ writes → Fails (end_of_lem asked written) (failed start) (failed new.intake) writes writes_new
+    by_count None e h = (e, h)
+    by_count (Some n) e h = (e, h)
+
+-- nothing is decoded yet
+pub runs_first : {I : Type 0} (left : I → Option (List ℕ)) (failed : I → ℕ) (s : Parameters) (asked : Option ℕ) (start : I) (out : Option (List ℕ)) (p : Place) (r : Reader I) (steps : ℕ) → IsLegal s →
+    p ≡ record { setting = s; block = 0; before = pos 0; stopped = None } → r ≡ record { waiting = []; taken = 0; blank = true; refusal = None; intake = start } → steps ≡ 0 → RunsOn left failed s asked start out out p r steps 0
+runs_first {I = I} left failed s asked start out p r steps legal ep er es = record {
+  blocks = 0;
+  bytes = [];
+  front = [];
+  all = [];
+  setting = ap (λ p. p.setting) ep;
+  here = mod-eq_of_lt legal.interval_from ∙ sym (ap (λ p. p.block) ep);
+  before = ap (λ p. p.before) ep;
+  going = ap (λ p. p.stopped) ep;
+  reader_going = ap (λ r. r.refusal) er;
+  gave = subst (λ (i : I). Consumes (left start) (left i) []) (sym (ap (λ r. r.intake) er)) (Consumes-nil (left start));
+  bits = bits_of-nil ∙ sym (ap (λ r. r.waiting) er);
+  taken = ap (λ r. r.taken) er;
+  limit = let n = ap (λ r. r.taken) er in omega (arith, n);
+  behind = behind_nothing s;
+  wanted = λ i lt. absurd (omega arith);
+  count = sym (ap length (cut_nothing s asked 0));
+  few = omega arith;
+  asked_for = from_none asked;
+  counted = let n = ap (λ r. r.taken) er in omega (arith, n, es);
+  reads = ap failed (ap (λ r. r.intake) er);
+  put = subst (λ (l : List ℤ). Appends out out (spellings s l)) (sym (cut_nothing s asked 0)) (Appends-nil out);
+}
+  where
+    from_none : (asked : Option ℕ) → IfSome asked (λ n. 0 ≤ n)
+    from_none None = tt
+    from_none (Some n) = omega arith

@@ -1,9 +1,9 @@
 //! From the code to its samples.
-ghost use Rattle.std.specs.Prelude.{◌≡◌, ℕ, ◌+◌, ◌-◌, ◌*◌, ◌^◌, ◌<◌, ◌≤◌, ◌++◌, length, All};
+ghost use Rattle.std.specs.Prelude.{◌≡◌, ℕ, ◌+◌, ◌-◌, ◌*◌, ◌^◌, ◌<◌, ◌≤◌, ◌++◌, length, All, false, Option, List};
 ghost use Rattle.rice_samples.specs.Parameters.{IsSample, width};
 ghost use Rattle.rice_samples.specs.Spelling.{spellings};
-ghost use Rattle.aec_tool.specs.Calls.{Fails};
-ghost use Rattle.aec_tool.specs.Decoding.{DecodesWithin, wanted_of, end_of_lem, fault_of_lem};
+ghost use Rattle.aec_tool.specs.Calls.{Call, Happens, Fails};
+ghost use Rattle.aec_tool.specs.Decoding.{Decodings, DecodesWithin, wanted_of, end_of_lem, fault_of_lem};
 
 use crate::outcome::{Fault, Outcome, Report};
 use crate::plain_decoder::{CodeFault, Decoder, Step};
@@ -85,6 +85,7 @@ fn ended<I: Intake>(
     ensures steps { result.0.report.steps ≡ meter.now }
     ensures fault { result.0.fault ≡ fault }
     ensures intake { result.1 ≡ reader.intake }
+    ensures ahead { length reader.waiting ≤ 32768 }
 {
     let report = Report {
         samples,
@@ -102,8 +103,13 @@ pub fn decode<I: Intake, O: Outlet>(
     intake: I,
     outlet: &mut O,
 ) -> (Outcome, I)
+    // Intervals that are padded are not decoded yet.
+    requires unpadded { setting.now.pad ≡ false }
     requires reads { I.failed intake + 1 < 2 ^ 64 }
     requires writes { O.failed outlet.old + 1 < 2 ^ 64 }
+    ensures call { (c : Call) × Happens (I.left intake) (I.left result.1) (O.taken outlet.old) (O.taken outlet.new) c ×
+        Decodings setting.now asked c result.0.report result.0.fault }
+    ensures failures { Fails result.0.fault (I.failed intake) (I.failed result.1) (O.failed outlet.old) (O.failed outlet.new) }
     ensures bounds { DecodesWithin asked result.0.report }
 {
     let block = setting.block();

@@ -1,18 +1,10 @@
-use Rattle.std.proofs.Common.{◌≡◌, ◌+◌, ◌-◌, ◌≤◌, ℕ, None}
-use Rattle.rice_samples.specs.Places.{place}
-use Rattle.std.specs.Prelude.{IfSome}
+use Rattle.std.proofs.Common.{◌≡◌, ◌-◌}
+use Rattle.aec_tool.specs.Decodings.{RunsOn}
 use Rattle.aec_tool.proofs.decoding.decode.Given as goal
 
 abbrev pub invariant-decode_all : goal.invariant-decode_all
 invariant-decode_all g l = record {
-  setting : l.decoder.setting ≡ l.setting;
-  here : (b : ℕ) × (place l.setting b ≡ l.decoder.block);
-  going : l.decoder.stopped ≡ None;
-  reader_going : l.reader.refusal ≡ None;
-  limit : l.reader.taken ≤ 4503599627370496;
-  steps : l.meter ≡ l.reader.taken + l.written;
-  few : l.written ≤ l.reader.taken;
-  asked_for : IfSome l.asked (λ n. l.written ≤ n);
+  runs : RunsOn g.I.Intake.left g.I.Intake.failed l.setting l.asked l.fn.intake (g.O.Outlet.taken l.fn.outlet) (g.O.Outlet.taken l.outlet) l.decoder l.reader l.meter l.written;
   writes : g.O.Outlet.failed l.outlet ≡ g.O.Outlet.failed l.fn.outlet;
 }
 
