@@ -109,7 +109,7 @@ push_whole c xs x t k whole =
       },
       ap (early_code s) (parts ∙ bare) ∙ early_is s (t.block + 1) (t.coded ++ block) [] all j ∙ plain_one_more s t.block t.coded block j h.whole size
           ∙ (λ i. sym (ap (early_code s) t.parts ∙ early_is s t.block t.coded t.held h.whole h.short) i
-              ++ block_code s ((ap (λ p. words s (p == 0) (last_of (pos 0) t.coded) block) h.place ∙ sym (words_grow c t.block t.coded t.held x h)) i)),
+          ++ block_code s ((ap (λ p. words s (p == 0) (last_of (pos 0) t.coded) block) h.place ∙ sym (words_grow c t.block t.coded t.held x h)) i)),
     )
 
 -- no sample waits
@@ -141,7 +141,7 @@ finish_some c xs t some = by_held t.held t.parts t.holds
         let ws : words s (place s t.block == 0) (last_of (pos 0) t.coded) (y ∷ ys) ≡ c.words = ap (λ p. words s (p == 0) (last_of (pos 0) t.coded) (y ∷ ys)) h.place ∙ sym h.words in
         ap (plain_code s) parts ∙ plain_last s t.block t.coded y ys h.whole h.short
         ∙ (λ i. sym (ap (early_code s) parts ∙ early_is s t.block t.coded (y ∷ ys) h.whole h.short) i
-            ++ block_code s (ws i ++ replicate (s.block - sym n i) (sample_word s false (sym last i) (sym last i))))
+        ++ block_code s (ws i ++ replicate (s.block - sym n i) (sample_word s false (sym last i) (sym last i))))
 
 -- how many samples fill the last block
 rest_is : (c : State) (xs : List ℤ) → StandsFor c xs → length xs % c.setting.block ≡ length c.words

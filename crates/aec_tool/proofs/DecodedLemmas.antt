@@ -87,9 +87,9 @@ behind_more s front b all xs legal pad behind e legal_xs =
       legal = All-append (IsSample s) all xs behind.legal legal_xs;
       goes_on = λ (wanted : Option ℕ) (rest : List Bool) (ys : List ℤ) (ending : Ending) (used : ℕ) (goes : (i : ℕ) → i < b + 1 → GoesOn s wanted i) next. (
           let there : DecodedFrom s (b + 1) (length front + length (t ++ [])) (last_of p xs) rest wanted ys ending used =
-              subst (λ (n : ℕ). DecodedFrom s (b + 1) n (last_of p xs) rest wanted ys ending used) position (subst (λ (x : ℤ). DecodedFrom s (b + 1) (length (front ++ t)) x rest wanted ys ending used) last next) in
+          subst (λ (n : ℕ). DecodedFrom s (b + 1) n (last_of p xs) rest wanted ys ending used) position (subst (λ (x : ℤ). DecodedFrom s (b + 1) (length (front ++ t)) x rest wanted ys ending used) last next) in
           let here = decoding_goes_on s legal b (length front) p d [] rest wanted xs ys ending used (goes b (omega arith)) form tt tt (no_padding s (b + 1) (length front + length t) pad) legal_xs one
-              (ap (λ l. contents s b p l ∷ []) whole) there in
+          (ap (λ l. contents s b p l ∷ []) whole) there in
           let all_of = behind.goes_on wanted (t ++ rest) (cut_to s wanted b xs ++ ys) ending (length (t ++ []) + used) (λ i lt. goes i (omega arith)) here in
           let samples : cut_to s wanted 0 all ++ (cut_to s wanted b xs ++ ys) ≡ cut_to s wanted 0 (all ++ xs) ++ ys = sym (append_assoc (cut_to s wanted 0 all) (cut_to s wanted b xs) ys) ∙ ap (λ l. l ++ ys) (sym (cut_more s wanted b all xs behind.len)) in
           let count : length front + (length (t ++ []) + used) ≡ length (front ++ t) + used = (let n = position in omega arith) in

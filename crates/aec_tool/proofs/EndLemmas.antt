@@ -79,9 +79,11 @@ read_ends s left_old left mid taken_old taken e given waiting buffer r f runs ke
     let xs = runs.samples in
     let c : Call = record { given = runs.bytes; left = left; written = early_bytes s xs } in
     let t = told xs runs.holds.counts in
-    let ends : EndsSo s (early_code s) (plain_code s) (Some Read) c r xs = (spelled_so_far s runs.bytes xs (take waiting buffer) runs.reads few, leaves s r xs runs.bytes left t) in
-    (c, record { gave = Consumes-kept left_old mid left runs.bytes runs.gave keeps; left = refl; took = runs.holds.took },
-        subst (λ (f : Option Fault). Encodes s (early_code s) (plain_code s) c r f) (sym is) (xs, ends))
+    let ends : EndsSo s (early_code s) (plain_code s) (Some Read) c r xs = (spelled_so_far s runs.bytes xs (take waiting buffer) runs.reads few, leaves s r xs runs.bytes left t) in (
+      c,
+      record { gave = Consumes-kept left_old mid left runs.bytes runs.gave keeps; left = refl; took = runs.holds.took },
+      subst (λ (f : Option Fault). Encodes s (early_code s) (plain_code s) c r f) (sym is) (xs, ends),
+    )
 
 pub cut_ends : (s : Parameters) (left_old left mid taken_old taken : Option (List ℕ)) (e : Encoding) (given waiting : ℕ) (buffer : List ℕ) (r : Report) (f : Option Fault) → Runs s left_old mid taken_old taken e given waiting buffer →
     Consumes mid left [] → IsAtEnd left → ((xs : List ℤ) → Counts s e xs → Tells s r xs) → length (take waiting buffer) < width s → take waiting buffer ≢ [] → f ≡ Some (SampleCut e.samples) →
@@ -92,9 +94,11 @@ cut_ends s left_old left mid taken_old taken e given waiting buffer r f runs gav
     let t = told xs runs.holds.counts in
     let spells : Spells s runs.bytes xs TooFew = record { rest = take waiting buffer; whole = runs.reads.split; legal = runs.reads.legal; stops = (some, few) } in
     let ends : EndsSo s (early_code s) (plain_code s) (Some (SampleCut e.samples)) c r xs = (spells, end, runs.holds.counts.samples, leaves s r xs runs.bytes left t) in
-    let all = Consumes-trans left_old mid left runs.bytes [] runs.gave gave in
-    (c, record { gave = subst (λ (l : List ℕ). Consumes left_old left l) (append-nil runs.bytes) all; left = refl; took = runs.holds.took },
-        subst (λ (f : Option Fault). Encodes s (early_code s) (plain_code s) c r f) (sym is) (xs, ends))
+    let all = Consumes-trans left_old mid left runs.bytes [] runs.gave gave in (
+      c,
+      record { gave = subst (λ (l : List ℕ). Consumes left_old left l) (append-nil runs.bytes) all; left = refl; took = runs.holds.took },
+      subst (λ (f : Option Fault). Encodes s (early_code s) (plain_code s) c r f) (sym is) (xs, ends),
+    )
 
 pub long_ends : (s : Parameters) (left_old left mid taken_old taken : Option (List ℕ)) (e : Encoding) (given waiting : ℕ) (buffer : List ℕ) (r : Report) (f : Option Fault) (more : List ℕ) → Runs s left_old mid taken_old taken e given waiting buffer →
     Consumes mid left more → length more ≡ 1 → 281474976710656 ≤ given → ((xs : List ℤ) → Counts s e xs → Tells s r xs) → length (take waiting buffer) < width s → f ≡ Some TooLong →
@@ -106,9 +110,11 @@ long_ends s left_old left mid taken_old taken e given waiting buffer r f more ru
     let so_far = spelled_so_far s runs.bytes xs (take waiting buffer) runs.reads few in
     let last = single more one in
     let passes : PassesLimit 281474976710656 (runs.bytes ++ more) runs.bytes = record { last = last.0; split = ap (λ l. runs.bytes ++ l) last.1; full = omega (arith, runs.count, runs.limit, full) } in
-    let ends : EndsSo s (early_code s) (plain_code s) (Some TooLong) c r xs = ((runs.bytes, so_far.0, passes, so_far.1, so_far.2), leaves s r xs (runs.bytes ++ more) left t) in
-    (c, record { gave = Consumes-trans left_old mid left runs.bytes more runs.gave gave; left = refl; took = runs.holds.took },
-        subst (λ (f : Option Fault). Encodes s (early_code s) (plain_code s) c r f) (sym is) (xs, ends))
+    let ends : EndsSo s (early_code s) (plain_code s) (Some TooLong) c r xs = ((runs.bytes, so_far.0, passes, so_far.1, so_far.2), leaves s r xs (runs.bytes ++ more) left t) in (
+      c,
+      record { gave = Consumes-trans left_old mid left runs.bytes more runs.gave gave; left = refl; took = runs.holds.took },
+      subst (λ (f : Option Fault). Encodes s (early_code s) (plain_code s) c r f) (sym is) (xs, ends),
+    )
   where
     single : (l : List ℕ) → length l ≡ 1 → (x : ℕ) × (l ≡ x ∷ [])
     single [] e = absurd (omega arith)
@@ -137,12 +143,16 @@ finish_ends s left_old left mid taken_old taken new e given waiting buffer r f r
     ahead w n m k e h = let p = ap (λ v. v * w) h in omega arith
 
     by_fault : (f : Option Fault) → Finishes s taken_old new xs f → (c : Call) × Happens left_old left taken_old new c × Encodes s (early_code s) (plain_code s) c r f
-    by_fault None took =
-        (record { given = runs.bytes; left = left; written = all_bytes s xs }, record { gave = all; left = refl; took = took },
-            (xs, (spells, end, record { written = refl; samples = closes.samples; bits = closes.bits })))
-    by_fault (Some Write) part =
-        (record { given = runs.bytes; left = left; written = part.written }, record { gave = all; left = refl; took = part.took },
-            (xs, (ahead (width s) (length xs) (length runs.bytes) r.samples count closes.samples, inr (record { given = spells; end = end; samples = closes.samples; bits = closes.bits; stops = part.stops }))))
+    by_fault None took = (
+      record { given = runs.bytes; left = left; written = all_bytes s xs },
+      record { gave = all; left = refl; took = took },
+      (xs, (spells, end, record { written = refl; samples = closes.samples; bits = closes.bits })),
+    )
+    by_fault (Some Write) part = (
+      record { given = runs.bytes; left = left; written = part.written },
+      record { gave = all; left = refl; took = part.took },
+      (xs, (ahead (width s) (length xs) (length runs.bytes) r.samples count closes.samples, inr (record { given = spells; end = end; samples = closes.samples; bits = closes.bits; stops = part.stops }))),
+    )
     by_fault (Some Read) bad = absurd bad
     by_fault (Some TooLong) bad = absurd bad
     by_fault (Some (SampleOutOfRange index)) bad = absurd bad
@@ -169,9 +179,11 @@ push_ends s left_old left taken_old taken e r f g xs given bytes split legal gav
     out_of_range index m same =
         let ys = xs ++ m.more in
         let t = told ys m.holds.counts in
-        let spells : Spells s given ys NoSpelling = record { rest = m.rest; whole = joined m.more m.rest m.reads.split; legal = All-append (IsSample s) xs m.more legal m.reads.legal; stops = m.none } in
-        (record { given = given; left = left; written = early_bytes s ys }, record { gave = gave; left = refl; took = m.holds.took },
-            (ys, (spells, same ∙ m.holds.counts.samples, leaves s r ys given left t)))
+        let spells : Spells s given ys NoSpelling = record { rest = m.rest; whole = joined m.more m.rest m.reads.split; legal = All-append (IsSample s) xs m.more legal m.reads.legal; stops = m.none } in (
+          record { given = given; left = left; written = early_bytes s ys },
+          record { gave = gave; left = refl; took = m.holds.took },
+          (ys, (spells, same ∙ m.holds.counts.samples, leaves s r ys given left t)),
+        )
 
     fails : MeetsFailure s taken_old taken e xs bytes → Ends Write
     fails m =
@@ -182,9 +194,12 @@ push_ends s left_old left taken_old taken e r f g xs given bytes split legal gav
         let k : length before ≡ length xs + length m.more = length-append xs m.more in
         let front : take (length ys - 1) ys ≡ before = (let i : length ys - 1 ≡ length before = omega arith in ap (λ i. take i ys) i ∙ take-append_seam before (m.last ∷ [])) in
         let same : xs ++ (m.more ++ m.last ∷ []) ≡ ys = sym (append_assoc xs m.more (m.last ∷ [])) in
-        let size : length given ≡ width s * length xs + length bytes = ap length split ∙ length-append (spellings s xs) bytes ∙ ap (λ n. n + length bytes) (length-spellings s xs) in
-        (record { given = given; left = left; written = m.fails.takes.written }, record { gave = gave; left = refl; took = m.fails.takes.took },
-            (ys, (
+        let size : length given ≡ width s * length xs + length bytes = ap length split ∙ length-append (spellings s xs) bytes ∙ ap (λ n. n + length bytes) (length-spellings s xs) in (
+          record { given = given; left = left; written = m.fails.takes.written },
+          record { gave = gave; left = refl; took = m.fails.takes.took },
+          (
+            ys,
+            (
               ahead (width s) (length xs) (length bytes) (length given) r.samples size few some (omega (arith, t.samples, n, k)),
               inl (record {
                 given = record {
@@ -197,7 +212,9 @@ push_ends s left_old left taken_old taken e r f g xs given bytes split legal gav
                 bits = t.bits;
                 stops = subst (λ (l : List ℤ). StopsBetween (early_bytes s l) (early_bytes s ys) m.fails.takes.written) (sym front) m.fails.takes.stops;
               }),
-            )))
+            ),
+          ),
+        )
       where
         ahead : (w n b g k : ℕ) → g ≡ w * n + b → b ≤ 4096 → 1 ≤ w → n < k → g < k * w + 4096
         ahead w n b g k e few some lt = let p = mul-le-mul_right w lt in omega arith

@@ -1,6 +1,6 @@
 pub mod PlainLemmas
 pub mod CoderLemmas
-pub mod Entries
+pub mod EntryLemmas
 pub mod WholeLemmas
 pub mod SpelledLemmas
 pub mod EncoderLemmas
@@ -12,3 +12,4 @@ pub mod AnswerLemmas
 pub mod DecodingLemmas
 pub mod DecodedLemmas
 pub mod ReachLemmas
+pub mod ReturnLemmas

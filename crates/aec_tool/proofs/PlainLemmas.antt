@@ -96,7 +96,7 @@ text_of_block s b p x xs j h =
     by_none false f e r = (λ i. flat_map (word s.bits) (pattern s x ∷ more i))
 
 -- the texts of whole blocks
-abbrev texts : Parameters → List Contents → List Bool
+abbrev pub texts : Parameters → List Contents → List Bool
 texts s cs = flat_map (λ c. text s (NoCompression c)) cs
 
 whole_texts : (s : Parameters) (b : ℕ) (coded : List ℤ) → 1 ≤ s.block → length coded ≡ s.block * b → plain_code s coded ≡ texts s (blocks_from s 0 (pos 0) b coded)

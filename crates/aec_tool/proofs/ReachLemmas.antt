@@ -142,9 +142,11 @@ reached_ends left failed s asked start out_old out p r steps written rep f legal
     let decoded = ends_here s runs.front r.waiting runs.blocks runs.all asked Reached 0 runs.behind runs.wanted (reached asked none runs.count, refl) in
     let used : length runs.front + 0 ≡ r.taken = omega (arith, runs.taken) in
     let all : Decoded s (bits_of runs.bytes) asked ys Reached (length runs.front + 0) = subst (λ (l : List Bool). Decoded s l asked ys Reached (length runs.front + 0)) (sym runs.bits) decoded in
-    let ends : EndsSo s asked None c rep ys Reached = ((length runs.front + 0, all, record { written = refl; samples = tells.samples_are ∙ runs.count; bits = tells.bits_are ∙ sym used }), inl refl) in
-    (c, record { gave = runs.gave; left = refl; took = runs.put },
-        record { samples = ys; ending = Reached; ends = subst (λ (f : Option Fault). EndsSo s asked f c rep ys Reached) (sym is) ends; ahead = ahead runs.bytes runs.front r.waiting rep.bits runs.bits few (tells.bits_are ∙ runs.taken) })
+    let ends : EndsSo s asked None c rep ys Reached = ((length runs.front + 0, all, record { written = refl; samples = tells.samples_are ∙ runs.count; bits = tells.bits_are ∙ sym used }), inl refl) in (
+      c,
+      record { gave = runs.gave; left = refl; took = runs.put },
+      record { samples = ys; ending = Reached; ends = subst (λ (f : Option Fault). EndsSo s asked f c rep ys Reached) (sym is) ends; ahead = ahead runs.bytes runs.front r.waiting rep.bits runs.bits few (tells.bits_are ∙ runs.taken) },
+    )
   where
     reached : (asked : Option ℕ) → wanted_of asked written s.block ≡ 0 → written ≡ length (cut_to s asked 0 runs.all) → IsSomeAnd asked (λ n. n ≤ s.block * runs.blocks)
     reached None none count = absurd (let j : 8 ≤ s.block = grind (arith, legal.block) in omega arith)
@@ -211,15 +213,20 @@ ended_ends left failed s asked start out_old out p r new steps written steps_new
     let goes = goes_on s asked runs.blocks written runs.all runs.behind.len runs.count some in
     let out_of = ends_here s runs.front bits runs.blocks runs.all asked (ending_of blank) (length bits) runs.behind runs.wanted (ends_out s asked runs.blocks bits blank goes ends.told ends.cut.none) in
     let used : length runs.front + length bits ≡ new.taken = omega (arith, runs.taken, stops.taken) in
-    let decodes : Decodes s asked c rep all.total ys (ending_of blank) = (length runs.front + length bits, subst (λ (l : List Bool). Decoded s l asked ys (ending_of blank) (length runs.front + length bits)) (sym all.bits_are) out_of,
-        record { written = refl; samples = tells.samples_are ∙ runs.count; bits = tells.bits_are ∙ sym used }) in
+    let decodes : Decodes s asked c rep all.total ys (ending_of blank) = (
+      length runs.front + length bits,
+      subst (λ (l : List Bool). Decoded s l asked ys (ending_of blank) (length runs.front + length bits)) (sym all.bits_are) out_of,
+      record { written = refl; samples = tells.samples_are ∙ runs.count; bits = tells.bits_are ∙ sym used },
+    ) in
     let gave = subst (λ (l : List ℕ). Consumes (left start) (left new.intake) l) (append-nil all.total) (Consumes-trans (left start) stops.middle (left new.intake) all.total [] all.gave stops.refuses.0) in
     let front = runs.front ++ bits in
     let few : length {A = Bool} [] ≤ 32768 = omega arith in
     let whole : bits_of all.total ≡ front ++ [] = all.bits_are ∙ sym (append-nil front) in
-    let bits_count : rep.bits ≡ length front = tells.bits_are ∙ sym used ∙ sym (length-append runs.front bits) in
-    (c, record { gave = gave; left = refl; took = runs.put },
-        record { samples = ys; ending = ending_of blank; ends = subst (λ (f : Option Fault). EndsSo s asked f c rep ys (ending_of blank)) (sym is) (by_fault blank asked decodes stops.refuses.1 runs.count); ahead = ahead all.total front [] rep.bits whole few bits_count })
+    let bits_count : rep.bits ≡ length front = tells.bits_are ∙ sym used ∙ sym (length-append runs.front bits) in (
+      c,
+      record { gave = gave; left = refl; took = runs.put },
+      record { samples = ys; ending = ending_of blank; ends = subst (λ (f : Option Fault). EndsSo s asked f c rep ys (ending_of blank)) (sym is) (by_fault blank asked decodes stops.refuses.1 runs.count); ahead = ahead all.total front [] rep.bits whole few bits_count },
+    )
   where
     by_fault : {c : Call} {ys : List ℤ} (blank : Bool) (asked : Option ℕ) → Decodes s asked c rep c.given ys (ending_of blank) → IsAtEnd c.left → written ≡ length ys → EndsSo s asked (fault_at_end asked blank written) c rep ys (ending_of blank)
     by_fault true None d end n = (d, inr (refl, refl, end))
@@ -240,16 +247,21 @@ read_ends left failed s asked start out_old out p r new steps written steps_new 
     let goes = goes_on s asked runs.blocks written runs.all runs.behind.len runs.count some in
     let out_of = ends_here s runs.front bits runs.blocks runs.all asked ending (length bits) runs.behind runs.wanted (ends_out s asked runs.blocks bits (is_blank bits) goes refl cut.none) in
     let used : length runs.front + length bits ≡ new.taken = omega (arith, runs.taken, stops.taken) in
-    let decodes : Decodes s asked c rep all.total ys ending = (length runs.front + length bits, subst (λ (l : List Bool). Decoded s l asked ys ending (length runs.front + length bits)) (sym all.bits_are) out_of,
-        record { written = refl; samples = tells.samples_are ∙ runs.count; bits = tells.bits_are ∙ sym used }) in
+    let decodes : Decodes s asked c rep all.total ys ending = (
+      length runs.front + length bits,
+      subst (λ (l : List Bool). Decoded s l asked ys ending (length runs.front + length bits)) (sym all.bits_are) out_of,
+      record { written = refl; samples = tells.samples_are ∙ runs.count; bits = tells.bits_are ∙ sym used },
+    ) in
     let gave = subst (λ (l : List ℕ). Consumes (left start) (left new.intake) l) (append-nil all.total) (Consumes-trans (left start) stops.middle (left new.intake) all.total [] all.gave stops.refuses.0) in
     let front = runs.front ++ bits in
     let few : length {A = Bool} [] ≤ 32768 = omega arith in
     let whole : bits_of all.total ≡ front ++ [] = all.bits_are ∙ sym (append-nil front) in
     let bits_count : rep.bits ≡ length front = tells.bits_are ∙ sym used ∙ sym (length-append runs.front bits) in
-    let ends : EndsSo s asked (Some Read) c rep ys ending = (decodes, run_out (is_blank bits)) in
-    (c, record { gave = gave; left = refl; took = runs.put },
-        record { samples = ys; ending = ending; ends = subst (λ (f : Option Fault). EndsSo s asked f c rep ys ending) (sym is) ends; ahead = ahead all.total front [] rep.bits whole few bits_count })
+    let ends : EndsSo s asked (Some Read) c rep ys ending = (decodes, run_out (is_blank bits)) in (
+      c,
+      record { gave = gave; left = refl; took = runs.put },
+      record { samples = ys; ending = ending; ends = subst (λ (f : Option Fault). EndsSo s asked f c rep ys ending) (sym is) ends; ahead = ahead all.total front [] rep.bits whole few bits_count },
+    )
 
 -- the byte past the limit was given
 pub long_ends : {I : Type 0} (left : I → Option (List ℕ)) (failed : I → ℕ) (s : Parameters) (asked : Option ℕ) (start : I) (out_old out : Option (List ℕ)) (p : Place) (r new : Reader I) (steps written steps_new : ℕ) (rep : Report) (f : Option Fault) →
@@ -266,14 +278,19 @@ long_ends left failed s asked start out_old out p r new steps written steps_new 
     let goes = goes_on s asked runs.blocks written runs.all runs.behind.len runs.count some in
     let out_of = ends_here s runs.front bits runs.blocks runs.all asked ending (length bits) runs.behind runs.wanted (ends_out s asked runs.blocks bits (is_blank bits) goes refl cut.none) in
     let used : length runs.front + length bits ≡ new.taken = omega (arith, runs.taken, stops.taken) in
-    let decodes : Decodes s asked c rep all.total ys ending = (length runs.front + length bits, subst (λ (l : List Bool). Decoded s l asked ys ending (length runs.front + length bits)) (sym all.bits_are) out_of,
-        record { written = refl; samples = tells.samples_are ∙ runs.count; bits = tells.bits_are ∙ sym used }) in
+    let decodes : Decodes s asked c rep all.total ys ending = (
+      length runs.front + length bits,
+      subst (λ (l : List Bool). Decoded s l asked ys ending (length runs.front + length bits)) (sym all.bits_are) out_of,
+      record { written = refl; samples = tells.samples_are ∙ runs.count; bits = tells.bits_are ∙ sym used },
+    ) in
     let gave = Consumes-trans (left start) stops.middle (left new.intake) all.total (last ∷ []) all.gave stops.refuses.0.1 in
     let full : length all.total ≡ 562949953421312 = full_is all.total runs.front bits new.taken all.bits_are used stops.refuses.2 in
     let passes : PassesLimit 562949953421312 (all.total ++ last ∷ []) all.total = record { last = last; split = refl; full = full } in
-    let ends : EndsSo s asked (Some TooLong) c rep ys ending = ((all.total, passes, decodes), run_out (is_blank bits)) in
-    (c, record { gave = gave; left = refl; took = runs.put },
-        record { samples = ys; ending = ending; ends = subst (λ (f : Option Fault). EndsSo s asked f c rep ys ending) (sym is) ends; ahead = past (length-append all.total (last ∷ [])) full (tells.bits_are ∙ stops.refuses.2) })
+    let ends : EndsSo s asked (Some TooLong) c rep ys ending = ((all.total, passes, decodes), run_out (is_blank bits)) in (
+      c,
+      record { gave = gave; left = refl; took = runs.put },
+      record { samples = ys; ending = ending; ends = subst (λ (f : Option Fault). EndsSo s asked f c rep ys ending) (sym is) ends; ahead = past (length-append all.total (last ∷ [])) full (tells.bits_are ∙ stops.refuses.2) },
+    )
   where
     full_is : (total : List ℕ) (front bits : List Bool) (n : ℕ) → bits_of total ≡ front ++ bits → length front + length bits ≡ n → n ≡ 4503599627370496 → length total ≡ 562949953421312
     full_is total front bits n e h k = let a = length-bits_of total in let b = ap length e in let c = length-append front bits in omega arith
@@ -300,7 +317,7 @@ other_ends left failed s asked start out_old out p r new steps written steps_new
     let at_block : EndsWith s (Some count) b rest Reached 0 = (omega arith, refl) in
     let here = ends_here s runs.front rest b runs.all (Some count) Reached 0 runs.behind (λ i lt. below s.block i b j lt) at_block in
     let decoded : Decoded s (bits_of total) (Some count) runs.all Reached (length runs.front + 0) = subst (λ (l : List ℤ). Decoded s (bits_of total) (Some count) l Reached (length runs.front + 0)) exact
-        (subst (λ (l : List Bool). Decoded s l (Some count) (cut_to s (Some count) 0 runs.all) Reached (length runs.front + 0)) (sym bits_are) here) in
+    (subst (λ (l : List Bool). Decoded s l (Some count) (cut_to s (Some count) 0 runs.all) Reached (length runs.front + 0)) (sym bits_are) here) in
     let used : length runs.front + 0 ≡ length runs.front = omega arith in
     let behind : drop (length runs.front + 0) (bits_of total) ≡ rest = (λ i. drop (used i) (bits_are i)) ∙ drop-append_seam runs.front rest in
     let meets : MeetsOther s asked c rep b runs.all = record {
@@ -316,9 +333,11 @@ other_ends left failed s asked start out_old out p r new steps written steps_new
     let number : written / s.block ≡ b = ap (λ n. n / s.block) so_far.0 ∙ mul-div_cancel_left b j in
     let ends : EndsSo s asked (Some (NotYet b)) c rep runs.all Reached = (meets, refl) in
     let bits_split : bits_of total ≡ (runs.front ++ other.bits) ++ new.waiting = bits_are ∙ sym (append_assoc runs.front other.bits new.waiting) in
-    let taken : rep.bits ≡ length (runs.front ++ other.bits) = tells.bits_are ∙ other.takes.taken ∙ ap (λ n. n + length other.bits) runs.taken ∙ sym (length-append runs.front other.bits) in
-    (c, record { gave = Consumes-trans (left start) (left r.intake) (left new.intake) runs.bytes draws.given runs.gave draws.consumed; left = refl; took = runs.put },
-        record { samples = runs.all; ending = Reached; ends = subst (λ (f : Option Fault). EndsSo s asked f c rep runs.all Reached) (sym (is ∙ ap (λ n. Some (NotYet n)) number)) ends; ahead = ahead total (runs.front ++ other.bits) new.waiting rep.bits bits_split few taken })
+    let taken : rep.bits ≡ length (runs.front ++ other.bits) = tells.bits_are ∙ other.takes.taken ∙ ap (λ n. n + length other.bits) runs.taken ∙ sym (length-append runs.front other.bits) in (
+      c,
+      record { gave = Consumes-trans (left start) (left r.intake) (left new.intake) runs.bytes draws.given runs.gave draws.consumed; left = refl; took = runs.put },
+      record { samples = runs.all; ending = Reached; ends = subst (λ (f : Option Fault). EndsSo s asked f c rep runs.all Reached) (sym (is ∙ ap (λ n. Some (NotYet n)) number)) ends; ahead = ahead total (runs.front ++ other.bits) new.waiting rep.bits bits_split few taken },
+    )
   where
     below : (m i b : ℕ) → 1 ≤ m → i < b → m * i < m * b
     below m i b h lt = let p = mul-le-mul_left m lt in omega arith
@@ -358,7 +377,7 @@ write_ends left failed s asked start out_old out out_new p r new steps written s
     let exact : cut_to s (Some (length ys)) 0 (runs.all ++ xs) ≡ ys = exactly asked in
     let used : length front + 0 ≡ rep.bits = omega (arith, taken) in
     let decoded : Decoded s (bits_of total) (Some (length ys)) ys Reached rep.bits = subst (λ (n : ℕ). Decoded s (bits_of total) (Some (length ys)) ys Reached n) used (subst (λ (l : List ℤ). Decoded s (bits_of total) (Some (length ys)) l Reached (length front + 0)) exact
-        (subst (λ (l : List Bool). Decoded s l (Some (length ys)) (cut_to s (Some (length ys)) 0 (runs.all ++ xs)) Reached (length front + 0)) (sym bits_are) here)) in
+    (subst (λ (l : List Bool). Decoded s l (Some (length ys)) (cut_to s (Some (length ys)) 0 (runs.all ++ xs)) Reached (length front + 0)) (sym bits_are) here)) in
     let all_of : spellings s ys ≡ spellings s (cut_to s asked 0 runs.all) ++ spellings s (take w xs) = ap (spellings s) cut ∙ spellings-append s (cut_to s asked 0 runs.all) (cut_to s asked b xs) ∙ ap (λ l. spellings s (cut_to s asked 0 runs.all) ++ spellings s l) (sym piece) in
     let between = part_between out_old out out_new (spellings s (cut_to s asked 0 runs.all)) (spellings s (take w xs)) (spellings s ys) runs.put part all_of in
     let n : rep.samples ≡ length (cut_to s asked 0 runs.all) = tells.samples_are ∙ runs.count in
@@ -371,9 +390,11 @@ write_ends left failed s asked start out_old out out_new p r new steps written s
       decoded = decoded;
       stops = subst (λ (l : List ℤ). StopsBetween (spellings s l) (spellings s ys) between.written) (sym before) between.stops;
     } in
-    let ends : EndsSo s asked (Some Write) c rep ys Reached = (fails, refl) in
-    (c, record { gave = Consumes-trans (left start) (left r.intake) (left new.intake) runs.bytes draws.given runs.gave draws.consumed; left = refl; took = between.took },
-        record { samples = ys; ending = Reached; ends = subst (λ (f : Option Fault). EndsSo s asked f c rep ys Reached) (sym is) ends; ahead = ahead total front new.waiting rep.bits bits_are few taken })
+    let ends : EndsSo s asked (Some Write) c rep ys Reached = (fails, refl) in (
+      c,
+      record { gave = Consumes-trans (left start) (left r.intake) (left new.intake) runs.bytes draws.given runs.gave draws.consumed; left = refl; took = between.took },
+      record { samples = ys; ending = Reached; ends = subst (λ (f : Option Fault). EndsSo s asked f c rep ys Reached) (sym is) ends; ahead = ahead total front new.waiting rep.bits bits_are few taken },
+    )
   where
     most_wanted : (asked : Option ℕ) (written block : ℕ) → wanted_of asked written block ≤ block
     most_wanted None written block = omega arith
@@ -441,7 +462,7 @@ pub refusal_fails : {I : Type 0} (left : I → Option (List ℕ)) (failed : I �
 refusal_fails left failed s asked start out_old out p q r new steps written writes writes_new xs f fault runs reads same is =
     subst (λ (f : Option Fault). Fails f (failed start) (failed new.intake) writes writes_new) (sym is)
     (subst (λ (w : ℕ). Fails (Some (fault_of_lem fault written s.block)) (failed start) (failed new.intake) writes w) (sym same)
-        (stops_fail left failed s runs.blocks r new (failed start) written s.block writes fault (refused left failed r new p q s runs.blocks xs fault reads runs.setting runs.going runs.here) runs.reads))
+    (stops_fail left failed s runs.blocks r new (failed start) written s.block writes fault (refused left failed r new p q s runs.blocks xs fault reads runs.setting runs.going runs.here) runs.reads))
 
 pub done_fails : {I : Type 0} (left : I → Option (List ℕ)) (failed : I → ℕ) (s : Parameters) (asked : Option ℕ) (start : I) (out_old out : Option (List ℕ)) (p q : Place) (r new : Reader I) (steps written writes writes_new : ℕ) (xs : List ℤ) (f : Option Fault) (step : Step) →
     (runs : RunsOn left failed s asked start out_old out p r steps written) → (p.stopped ≡ None → (b : ℕ) → place p.setting b ≡ p.block → Answers left failed (marked r) new p q b xs (Ok step)) → step ≡ Done →

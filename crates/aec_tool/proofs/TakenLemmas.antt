@@ -27,8 +27,8 @@ pub taken_on : {I : Type 0} (left : I → Option (List ℕ)) (failed : I → ℕ
 taken_on left failed old mid new s first p x v xs ys so_far more ey ev =
     let w = sample_word s (begins first xs) (last_of p xs) x in
     let bits : taken_bits s first p ys ≡ taken_bits s first p xs ++ word s.bits v =
-        ap (λ l. flat_map (word s.bits) (words s first p l)) ey ∙ ap (flat_map (word s.bits)) (words-push s first p xs x) ∙ flat_map-append (word s.bits) (words s first p xs) (w ∷ [])
-        ∙ ap (λ l. taken_bits s first p xs ++ l) (append-nil (word s.bits w) ∙ ap (word s.bits) ev) in
+    ap (λ l. flat_map (word s.bits) (words s first p l)) ey ∙ ap (flat_map (word s.bits)) (words-push s first p xs x) ∙ flat_map-append (word s.bits) (words s first p xs) (w ∷ [])
+    ∙ ap (λ l. taken_bits s first p xs ++ l) (append-nil (word s.bits w) ∙ ap (word s.bits) ev) in
     subst (λ (l : List Bool). Takes left failed old new l) (sym bits) (takes-append left failed old mid new (taken_bits s first p xs) (word s.bits v) so_far more)
 
 length-taken : (s : Parameters) (first : Bool) (p : ℤ) (xs : List ℤ) → length (taken_bits s first p xs) ≡ s.bits * length xs

@@ -8,3 +8,4 @@ pub mod Decoder
 pub mod Decoding
 pub mod Decodings
 pub mod Plan
+pub mod Laws

@@ -5,15 +5,16 @@ mod command_line;
 mod decoding;
 mod encoding;
 mod engine;
+mod entries;
+mod laws;
 mod outcome;
 mod plain_coder;
 mod plain_decoder;
 mod plan;
 mod start_up;
-mod write;
-
 #[cfg(test)]
 mod tests;
+mod write;
 
 use std::process::ExitCode;
 

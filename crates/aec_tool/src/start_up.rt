@@ -3,8 +3,9 @@ ghost use Rattle.std.specs.Prelude.{◌≡◌};
 
 use crate::command_line::command;
 use crate::engine::run;
+use crate::entries::plan_of;
 use crate::outcome::{Fault, exit_status};
-use crate::plan::{Plan, plan_of};
+use crate::plan::Plan;
 use clap::error::ErrorKind;
 use clap::{ArgMatches, Error};
 use rice_bits::{FromReader, FromWriter};

@@ -85,8 +85,22 @@ fn runs_the_engine_that_is_asked_for(rt: HostRuntime) -> Result<(), Fail> {
     // The words, the input, the room for output, the output, the errors, the status.
     let cases: [(&[&str], &[u8], usize, &str, &str, u8); 7] = [
         (&["-N", "-n", "7", "-", "-"], b"", 100, "", "", 0),
-        (&["-N", "-n", "7", "-d", "-", "-"], b"\xE0\0\0\0\0\0\0\0", 100, "\0\0\0\0\0\0\0\0", "", 0),
-        (&["-N", "-n", "7", "-d", "--samples", "2", "-", "-"], b"\xE0\0\0\0\0\0\0\0", 100, "\0\0", "", 0),
+        (
+            &["-N", "-n", "7", "-d", "-", "-"],
+            b"\xE0\0\0\0\0\0\0\0",
+            100,
+            "\0\0\0\0\0\0\0\0",
+            "",
+            0,
+        ),
+        (
+            &["-N", "-n", "7", "-d", "--samples", "2", "-", "-"],
+            b"\xE0\0\0\0\0\0\0\0",
+            100,
+            "\0\0",
+            "",
+            0,
+        ),
         (
             &["-N", "-n", "7", "-d", "--samples", "9", "-", "-"],
             b"\xE0\0\0\0\0\0\0\0",
@@ -95,9 +109,30 @@ fn runs_the_engine_that_is_asked_for(rt: HostRuntime) -> Result<(), Fail> {
             "aec: code ends after 8 samples\n",
             1,
         ),
-        (&["-d", "-", "-"], b"\x20\x09\x24\x92", 100, "", "aec: option not supported yet in block 0\n", 1),
-        (&["-N", "-n", "4", "-", "-"], b"\x10", 100, "", "aec: sample 0 is out of range\n", 1),
-        (&["-N", "-n", "7", "-d", "-", "-"], b"\xE0\0\0\0\0\0\0\0", 3, "\0\0\0", "aec: write failed\n", 1),
+        (
+            &["-d", "-", "-"],
+            b"\x20\x09\x24\x92",
+            100,
+            "",
+            "aec: option not supported yet in block 0\n",
+            1,
+        ),
+        (
+            &["-N", "-n", "4", "-", "-"],
+            b"\x10",
+            100,
+            "",
+            "aec: sample 0 is out of range\n",
+            1,
+        ),
+        (
+            &["-N", "-n", "7", "-d", "-", "-"],
+            b"\xE0\0\0\0\0\0\0\0",
+            3,
+            "\0\0\0",
+            "aec: write failed\n",
+            1,
+        ),
     ];
     for (words, input, room, output, errors, status) in cases {
         let (told_status, told_output, told_errors, _) = told(rt, words, input, room)?;
@@ -119,4 +154,5 @@ fn shows_its_help(rt: HostRuntime) -> Result<(), Fail> {
     Ok(())
 }
 
-const HELP: &str = "Usage: aec [OPTIONS] <SOURCE> <DEST>\n\nArguments:\n  <SOURCE>  File to read, or - for standard input\n  <DEST>    File to write, or - for standard output\n\nOptions:\n  -3                 Three bytes for samples of 17 to 24 bits\n  -N                 No pre or post processing\n  -b <BYTES>         Accepted, with no effect\n  -d                 Decompress\n  -j <SAMPLES>       Block size [default: 8]\n  -m                 Most significant byte first\n  -n <BITS>          Bits per sample [default: 8]\n  -r <BLOCKS>        Reference interval [default: 2]\n  -s                 Signed samples\n      --samples <N>  Stop after N samples, with -d only\n  -h, --help         Print help\n";
+const HELP: &str =
+    "Usage: aec [OPTIONS] <SOURCE> <DEST>\n\nArguments:\n  <SOURCE>  File to read, or - for standard input\n  <DEST>    File to write, or - for standard output\n\nOptions:\n  -3                 Three bytes for samples of 17 to 24 bits\n  -N                 No pre or post processing\n  -b <BYTES>         Accepted, with no effect\n  -d                 Decompress\n  -j <SAMPLES>       Block size [default: 8]\n  -m                 Most significant byte first\n  -n <BITS>          Bits per sample [default: 8]\n  -r <BLOCKS>        Reference interval [default: 2]\n  -s                 Signed samples\n      --samples <N>  Stop after N samples, with -d only\n  -h, --help         Print help\n";

@@ -129,14 +129,18 @@ fn encodes_and_decodes_back(rt: HostRuntime) -> Result<(), Fail> {
         ),
         (
             with_msb(with_bits(BARE, 9)),
-            &[1, 255, 1, 255, 1, 255, 1, 255, 1, 255, 1, 255, 1, 255, 1, 255],
+            &[
+                1, 255, 1, 255, 1, 255, 1, 255, 1, 255, 1, 255, 1, 255, 1, 255,
+            ],
             &[255, 255, 255, 255, 255, 255, 255, 255, 255, 0xF0],
             8,
             76,
         ),
         (
             with_bits(BARE, 9),
-            &[255, 1, 255, 1, 255, 1, 255, 1, 255, 1, 255, 1, 255, 1, 255, 1],
+            &[
+                255, 1, 255, 1, 255, 1, 255, 1, 255, 1, 255, 1, 255, 1, 255, 1,
+            ],
             &[255, 255, 255, 255, 255, 255, 255, 255, 255, 0xF0],
             8,
             76,
@@ -151,7 +155,10 @@ fn encodes_and_decodes_back(rt: HostRuntime) -> Result<(), Fail> {
                 let mut outlet = MemoryOut::new(&mut room, piece, None);
                 let outcome = encode(&setting, &mut intake, &mut outlet);
                 assert_eq!(rt; outcome.fault, None);
-                assert_eq!(rt; (outcome.report.samples, outcome.report.bits), (samples, bits));
+                assert_eq!(rt;
+                    (outcome.report.samples, outcome.report.bits),
+                    (samples, bits)
+                );
                 assert_eq!(rt; outlet.written(), output);
                 let mut back = [0u8; 64];
                 let mut second = MemoryOut::new(&mut back, piece, None);
@@ -261,7 +268,10 @@ fn decodes_as_far_as_asked(rt: HostRuntime) -> Result<(), Fail> {
                 let intake = MemoryIn::new(code, piece, None);
                 let (outcome, _) = decode(&setting, count, intake, &mut outlet);
                 assert_eq!(rt; outcome.fault, fault);
-                assert_eq!(rt; (outcome.report.samples, outcome.report.bits), (samples, bits));
+                assert_eq!(rt;
+                    (outcome.report.samples, outcome.report.bits),
+                    (samples, bits)
+                );
                 assert_eq!(rt; outlet.written(), written);
             }
         }
@@ -283,7 +293,11 @@ fn stops_where_a_device_fails(rt: HostRuntime) -> Result<(), Fail> {
     // The intake fails behind one block: its whole bytes stand, and the code is not finished.
     let mut room = [0u8; 64];
     let mut outlet = MemoryOut::new(&mut room, 64, None);
-    let outcome = encode(&setting, &mut MemoryIn::new(&input, 64, Some(8)), &mut outlet);
+    let outcome = encode(
+        &setting,
+        &mut MemoryIn::new(&input, 64, Some(8)),
+        &mut outlet,
+    );
     assert_eq!(rt; outcome.fault, Some(Fault::Read));
     assert_eq!(rt; (outcome.report.samples, outcome.report.bits), (8, 67));
     assert_eq!(rt; outlet.written(), &code[..8]);

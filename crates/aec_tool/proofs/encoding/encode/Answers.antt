@@ -71,7 +71,7 @@ finish-requires-clause-ready g c =
     let s = c.args.setting.now in
     let i = c.fill_all.invariant in
     let n = runs_count s (g.I.Intake.left c.args.intake.now) (g.I.Intake.left c.fill_all.intake) (g.O.Outlet.taken c.args.outlet.now) (g.O.Outlet.taken c.fill_all.outlet) c.fill_all.encoding c.fill_all.given c.fill_all.waiting c.fill_all.buffer i.runs
-        (omega (arith, c.width-width.ensures.value, c.width-width.ensures.range)) (omega (arith, i.size, i.runs.few, c.width-width.ensures.value, c.width-width.ensures.range)) in
+    (omega (arith, c.width-width.ensures.value, c.width-width.ensures.range)) (omega (arith, i.size, i.runs.few, c.width-width.ensures.value, c.width-width.ensures.range)) in
     (s, g.O.Outlet.taken c.args.outlet.now, i.runs.samples, i.runs.holds, omega (arith, n, i.runs.limit))
 
 pub returns-then-count-eq0-clause-call : goal.returns-then-count-eq0-clause-call
@@ -119,7 +119,7 @@ push_all-requires-clause-ready g c =
     let i = c.fill_all.invariant in
     let most : c.fill_all.waiting ≤ length c.fill_all.buffer = omega (arith, i.size, i.runs.few, c.width-width.ensures.value, c.width-width.ensures.range) in
     let n = runs_count s (g.I.Intake.left c.args.intake.now) (g.I.Intake.left c.fill_all.intake) (g.O.Outlet.taken c.args.outlet.now) (g.O.Outlet.taken c.fill_all.outlet) c.fill_all.encoding c.fill_all.given c.fill_all.waiting c.fill_all.buffer i.runs
-        (omega (arith, c.width-width.ensures.value, c.width-width.ensures.range)) most in
+    (omega (arith, c.width-width.ensures.value, c.width-width.ensures.range)) most in
     let more = c.in-Ok.ensures.bytes in
     let limit = c.piece.ensures.limit (omega (arith, c.if-given-ge-LIMIT.false)) in
     (g.O.Outlet.taken c.args.outlet.now, i.runs.samples, i.runs.holds, omega (arith, n, limit, c.in-Ok.ensures.count, length-take (c.fill_all.waiting + c.in-Ok.count) c.refill.new.buffer))

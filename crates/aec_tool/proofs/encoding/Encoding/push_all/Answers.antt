@@ -22,14 +22,16 @@ returns-in_default-clause-did g c old xs h =
     let i = c.loop-at.invariant in
     let r = i.reaches old xs h in
     let w : at + c.width-width.result - at ≡ width s = omega (arith, c.width-width.ensures.value) in
-    let enough : width s ≤ length (drop at bytes) = omega (arith, c.width-width.ensures.value, length-drop at bytes, c.loop-at-test.true) in
-    (record {
-      more = r.more;
-      rest = drop at bytes;
-      reads = reads_to s old (g.O.Outlet.taken c.loop-at.outlet) c.loop-at.self xs bytes at r;
-      none = (enough, λ x k e. c.in_default.ensures.none x k (ap (λ n. take n (drop at bytes)) w ∙ e));
-      holds = r.holds;
-    }, refl)
+    let enough : width s ≤ length (drop at bytes) = omega (arith, c.width-width.ensures.value, length-drop at bytes, c.loop-at-test.true) in (
+      record {
+        more = r.more;
+        rest = drop at bytes;
+        reads = reads_to s old (g.O.Outlet.taken c.loop-at.outlet) c.loop-at.self xs bytes at r;
+        none = (enough, λ x k e. c.in_default.ensures.none x k (ap (λ n. take n (drop at bytes)) w ∙ e));
+        holds = r.holds;
+      },
+      refl,
+    )
 
 pub push-requires-clause-ready : goal.push-requires-clause-ready
 push-requires-clause-ready g c =
@@ -39,9 +41,14 @@ push-requires-clause-ready g c =
     let i = c.loop-at.invariant in
     let r = i.reaches old xs c.requires.ready.2 in
     let px = to_z-of_z w64 c.in-Some.x (search rules) in
-    let few = reach_count s old (g.O.Outlet.taken c.loop-at.outlet) c.loop-at.self xs c.args.bytes.now c.loop-at.at (width s) r i.within refl (omega (arith, c.width-width.ensures.value, c.width-width.ensures.range)) in
-    (s, old, xs ++ r.more, r.holds, subst (λ (x : ℤ). IsSample s x) (sym px) c.in-Some.ensures.value.0,
-        omega (arith, length-append xs r.more, few, c.requires.ready.3, c.loop-at-test.true, c.width-width.ensures.range))
+    let few = reach_count s old (g.O.Outlet.taken c.loop-at.outlet) c.loop-at.self xs c.args.bytes.now c.loop-at.at (width s) r i.within refl (omega (arith, c.width-width.ensures.value, c.width-width.ensures.range)) in (
+      s,
+      old,
+      xs ++ r.more,
+      r.holds,
+      subst (λ (x : ℤ). IsSample s x) (sym px) c.in-Some.ensures.value.0,
+      omega (arith, length-append xs r.more, few, c.requires.ready.3, c.loop-at-test.true, c.width-width.ensures.range),
+    )
 
 pub loop-at-preserved : goal.loop-at-preserved
 loop-at-preserved g c =

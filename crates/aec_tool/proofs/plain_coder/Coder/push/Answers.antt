@@ -58,7 +58,7 @@ returns-then-len-block-clause-stands c xs h =
     let sample : IsSample st.setting c.args.x = subst (λ (l : State). IsSample l.setting c.args.x) (sym c.self.view_is) c.requires.sample in
     let n : length c.push.new.self.items ≡ st.setting.block = sym c.len.ensures.value ∙ c.if-len-block.true ∙ c.block.ensures.value in
     (whole_by st c.args.x _ c.next_word-word.result c.push.new.self.items c.clear.new.self.items c.next_place-self-inside.result px w c.push.ensures.items c.clear.ensures c.next_place-self-inside.ensures n sample xs
-        (subst (λ (l : State). StandsFor l xs) (sym c.self.view_is) h)).0
+    (subst (λ (l : State). StandsFor l xs) (sym c.self.view_is) h)).0
 
 pub returns-then-len-block-clause-code : goal.returns-then-len-block-clause-code
 returns-then-len-block-clause-code c xs h =
@@ -69,7 +69,7 @@ returns-then-len-block-clause-code c xs h =
     let sample : IsSample st.setting c.args.x = subst (λ (l : State). IsSample l.setting c.args.x) (sym c.self.view_is) c.requires.sample in
     let n : length c.push.new.self.items ≡ st.setting.block = sym c.len.ensures.value ∙ c.if-len-block.true ∙ c.block.ensures.value in
     let r = whole_by st c.args.x _ c.next_word-word.result c.push.new.self.items c.clear.new.self.items c.next_place-self-inside.result px w c.push.ensures.items c.clear.ensures c.next_place-self-inside.ensures n sample xs
-        (subst (λ (l : State). StandsFor l xs) (sym c.self.view_is) h) in
+    (subst (λ (l : State). StandsFor l xs) (sym c.self.view_is) h) in
     subst (λ (l : State). Completes l.setting xs (xs ++ c.args.x ∷ []) c.args.sink.now c.put_block.new.sink) c.self.view_is
     (record {
       bits = block_code st.setting c.push.new.self.items;
