@@ -2,7 +2,7 @@
 use Rattle.std.proofs.Common.{◌≡◌, ℕ, zero, suc, ◌+◌, ◌-◌, ◌*◌, ◌/◌, ◌%◌, ◌^◌, ◌<◌, ◌≤◌, Bool, true, false, List, [], ◌∷◌, ◌++◌, length, take, drop, get_or, replicate, refl, sym, ◌∙◌, ap, subst, arith, rules, append_assoc, length-append, Option, Some, None}
 use Rattle.std.specs.Prelude.{slice_range, ◌&&◌, IsSome}
 use Rattle.std.specs.Io.KnownBytes.{Consumes, Keeps}
-use Rattle.std.proofs.lemmas.List.{append-nil, length-take, length-drop, take-append-le, length-take-le, replicate-append-replicate, length-replicate}
+use Rattle.std.proofs.lemmas.List.{append-nil, length-take, length-drop, take-append-le, length-take-le, replicate-append-replicate}
 use Rattle.rice_bits.specs.Bits.{word, bits_of, number_of, fundamental_sequence}
 use Rattle.rice_bits.specs.declared.fault.BitFault.{BitFault}
 use Rattle.rice_bits.specs.Window.{IsWindow, window_bits}

@@ -2,6 +2,7 @@ pub mod Reading
 pub mod Covers
 pub mod Laying
 pub mod Costs
+pub mod Savings
 pub mod Segments
 pub mod Bounded
 pub mod SoundBlocks
@@ -18,3 +19,4 @@ pub mod Ones
 pub mod Determined
 pub mod Totality
 pub mod WholeBlocks
+pub mod Witnesses

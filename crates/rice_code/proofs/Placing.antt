@@ -13,7 +13,9 @@ use Rattle.rice_code.specs.Forms.{blocks_in, zero_blocks}
 use Rattle.rice_code.specs.Layout.{block_behind, laid}
 use Rattle.std.proofs.lemmas.Bool.{cases_lt}
 use Rattle.rice_code.proofs.Laying.{sent_first}
-use Rattle.rice_code.specs.Code.{data_sets, zero_run, shortest, code_behind}
+use Rattle.rice_code.specs.Choice.{shortest}
+use Rattle.rice_code.specs.Code.{data_sets, code_behind}
+use Rattle.rice_code.specs.Runs.{zero_run}
 
 place_step : (s : Parameters) (b c : ℕ) → place s b ≡ place s c → place s (b + 1) ≡ place s (c + 1)
 place_step s b c e =

@@ -6,3 +6,4 @@ pub mod Patterns
 pub mod CutLemmas
 pub mod InverseLemmas
 pub mod PairLemmas
+pub mod RankLaws

@@ -3,5 +3,5 @@ pub mod Places
 pub mod Residuals
 pub mod Pairs
 pub mod Spelling
-pub mod Rows
+pub mod Examples
 pub mod Laws
