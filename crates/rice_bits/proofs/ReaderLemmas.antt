@@ -194,3 +194,17 @@ unfolding window_bits
 length-window w h =
     let n : length (slice_range w.buffer w.at w.end) ≡ w.end - w.at = omega (arith, length-take (w.end - w.at) (drop w.at w.buffer), length-drop w.at w.buffer, h.ordered, h.fits) in
     omega (arith, n, length-append (word w.count w.digits) (bits_of (slice_range w.buffer w.at w.end)), length-word w.count w.digits, length-bits_of (slice_range w.buffer w.at w.end))
+
+one_behind_zeros : (old more new : List Bool) (n : ℕ) → is_blank old ≡ false → old ++ more ≡ replicate n false ++ new → 0 < length new
+one_behind_zeros old more [] n some e =
+    let zeros : is_blank (replicate n false ++ []) ≡ true = ap is_blank (append-nil (replicate n false)) ∙ blank-zeros n in
+    let joined : is_blank (old ++ more) ≡ (is_blank old && is_blank more) = blank-append old more in
+    let none : (is_blank old && is_blank more) ≡ false = ap (λ b. b && is_blank more) some in
+    let both : false ≡ true = sym none ∙ (sym joined ∙ (ap is_blank e ∙ zeros)) in
+    absurd cc
+one_behind_zeros old more (b ∷ new) n some e = omega arith
+
+-- where a 1 waits, some bit waits after zeros were taken
+pub one_waits : {I : Type 0} (left : I → Option (List ℕ)) (failed : I → ℕ) (old new : Reader I) (n : ℕ)
+    → Takes left failed old new (replicate n false) → is_blank old.waiting ≡ false → 0 < length new.waiting
+one_waits left failed old new n taken some = one_behind_zeros old.waiting (bits_of taken.draws.given) new.waiting n some taken.draws.split

@@ -111,7 +111,7 @@ fn supply<I: Intake>(
 }
 
 impl<I: Intake> BitReader<I> {
-    ghost use Rattle.rice_bits.specs.Reader.{Takes, Stops};
+    ghost use Rattle.rice_bits.specs.Reader.{Takes, Stops, is_blank};
 
     /// A reader that has taken no bit, as just after `mark`.
     pub fn new(intake: I) -> Self
@@ -207,6 +207,8 @@ impl<I: Intake> BitReader<I> {
         ensures stopped { IfSome self.old.refusal (λ f. (result ≡ Err f) × (self.new ≡ self.old)) }
         ensures taken { IfOk result (λ m. self.new.taken ≡ self.old.taken + m + 1) }
         ensures most { self.new.taken ≤ 2 ^ 52 }
+        // The intake is not called where a 1 waits.
+        ensures idle { is_blank self.old.waiting ≡ false → self.new.intake ≡ self.old.intake }
         ensures steps { meter.new + self.old.taken ≡ meter.old + self.new.taken }
     {
         if let Some(fault) = self.refusal {
@@ -229,6 +231,7 @@ impl<I: Intake> BitReader<I> {
         ensures one { IfOk result (λ r. r.1 ≡ true → Takes I.left I.failed self.old self.new (fundamental_sequence r.0)) }
         ensures zeros { IfOk result (λ r. r.1 ≡ false → (0 < r.0) × Takes I.left I.failed self.old self.new (replicate r.0 false)) }
         ensures err { IfErr result (Stops I.left I.failed self.old self.new []) }
+        ensures idle { 0 < length self.old.waiting → self.new.intake ≡ self.old.intake }
         ensures steps { meter.new + self.old.taken ≡ meter.old + self.new.taken }
         ensures limit { self.new.taken ≤ 2 ^ 52 }
     {
