@@ -29,7 +29,7 @@ bits_of-high_first zero n = sym (word-nil n)
 bits_of-high_first (suc k) n =
     let e : 8 + 8 * k ≡ 8 * suc k = omega arith in
     let front : word 8 (byte_at k n) ++ bits_of (bytes_high_first k n) ≡ word 8 (n / 2 ^ (8 * k)) ++ word (8 * k) (n % 2 ^ (8 * k)) =
-        rw (byte_digits k n, bits_of-high_first k n, word-mod (8 * k) (8 * k) n (omega arith)) refl in
+    rw (byte_digits k n, bits_of-high_first k n, word-mod (8 * k) (8 * k) n (omega arith)) refl in
     front ∙ (sym (word-split 8 (8 * k) n) ∙ ap (λ w. word w n) e)
 
 pub bits_of-eight : (n : ℕ) → bits_of (to_be_bytes w64 n) ≡ word 64 n
@@ -48,9 +48,9 @@ front-eight q v bytes h e =
     let eight : length bytes ≡ 8 = ap length (sym e) in
     let size : 8 * q + (64 - 8 * q) ≡ 64 = omega arith in
     let whole : bits_of bytes ≡ word (8 * q) (v / 2 ^ (64 - 8 * q)) ++ word (64 - 8 * q) (v % 2 ^ (64 - 8 * q)) =
-        ap bits_of (sym e) ∙ (bits_of-eight v ∙ (ap (λ w. word w v) (sym size) ∙ word-split (8 * q) (64 - 8 * q) v)) in
+    ap bits_of (sym e) ∙ (bits_of-eight v ∙ (ap (λ w. word w v) (sym size) ∙ word-split (8 * q) (64 - 8 * q) v)) in
     (bits_read (bits_of (take q bytes)) (word (8 * q) (v / 2 ^ (64 - 8 * q))) (bits_of (drop q bytes)) (word (64 - 8 * q) (v % 2 ^ (64 - 8 * q)))
-        (length-front q bytes (omega arith) ∙ sym (length-word (8 * q) (v / 2 ^ (64 - 8 * q)))) (split-bytes q bytes ∙ whole)).0
+    (length-front q bytes (omega arith) ∙ sym (length-word (8 * q) (v / 2 ^ (64 - 8 * q)))) (split-bytes q bytes ∙ whole)).0
 
 -- digits that are moved to the front of 64, with zeros behind them
 top-word : (c j : ℕ) → c ≤ 64 → word 64 (j * 2 ^ (64 - c) % 2 ^ 64) ≡ word c j ++ word (64 - c) 0
@@ -67,9 +67,9 @@ front-moved q c j h m =
     let size : 8 * q + (c - 8 * q) ≡ c = omega arith in
     let bytes : List ℕ = to_be_bytes w64 (j * 2 ^ (64 - c) % 2 ^ 64) in
     let digits : word c j ≡ word (8 * q) (j / 2 ^ (c - 8 * q)) ++ word (c - 8 * q) (j % 2 ^ (c - 8 * q)) =
-        ap (λ w. word w j) (sym size) ∙ word-split (8 * q) (c - 8 * q) j in
+    ap (λ w. word w j) (sym size) ∙ word-split (8 * q) (c - 8 * q) j in
     let whole : bits_of bytes ≡ word (8 * q) (j / 2 ^ (c - 8 * q)) ++ (word (c - 8 * q) (j % 2 ^ (c - 8 * q)) ++ word (64 - c) 0) =
-        bits_of-eight (j * 2 ^ (64 - c) % 2 ^ 64)
-        ∙ (top-word c j m ∙ (ap (λ d. d ++ word (64 - c) 0) digits ∙ append_assoc (word (8 * q) (j / 2 ^ (c - 8 * q))) (word (c - 8 * q) (j % 2 ^ (c - 8 * q))) (word (64 - c) 0))) in
+    bits_of-eight (j * 2 ^ (64 - c) % 2 ^ 64)
+    ∙ (top-word c j m ∙ (ap (λ d. d ++ word (64 - c) 0) digits ∙ append_assoc (word (8 * q) (j / 2 ^ (c - 8 * q))) (word (c - 8 * q) (j % 2 ^ (c - 8 * q))) (word (64 - c) 0))) in
     (bits_read (bits_of (take q bytes)) (word (8 * q) (j / 2 ^ (c - 8 * q))) (bits_of (drop q bytes)) (word (c - 8 * q) (j % 2 ^ (c - 8 * q)) ++ word (64 - c) 0)
-        (length-front q bytes (omega arith) ∙ sym (length-word (8 * q) (j / 2 ^ (c - 8 * q)))) (split-bytes q bytes ∙ whole)).0
+    (length-front q bytes (omega arith) ∙ sym (length-word (8 * q) (j / 2 ^ (c - 8 * q)))) (split-bytes q bytes ∙ whole)).0

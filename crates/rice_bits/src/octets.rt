@@ -1,8 +1,18 @@
 //! Eight bytes at a time.
-ghost use Rattle.std.specs.Prelude.{◌≡◌, ◌+◌, ◌<◌, ◌≤◌, ◌++◌, length, drop, take};
+ghost use Rattle.std.specs.Prelude.{All, ◌≡◌, ◌+◌, ◌<◌, ◌≤◌, ◌++◌, length, drop, replicate, take};
 ghost use Rattle.std.specs.Int.{to_be_bytes, w64};
 
 use std::simd::prelude::*;
+
+/// The first `count` bytes.
+#[inline]
+pub fn front(bytes: &[u8], count: usize) -> &[u8]
+    requires { count ≤ length bytes.now }
+    ensures bytes { result.now ≡ take count bytes.now }
+    ensures fit { All (λ b. b < 256) result.now }
+{
+    &bytes[..count]
+}
 
 /// Writes the eight bytes of `word`, most significant first, from the place `at` on.
 #[inline]
@@ -40,6 +50,14 @@ fn store_last(bytes: &mut [u8], at: usize, word: u64, count: usize)
     let mut eight = [0; 8];
     store(&mut eight, 0, word);
     bytes[at..at + count].copy_from_slice(&eight[..count]);
+}
+
+/// Writes `count` zeros from the place `at` on.
+pub fn store_zeros(bytes: &mut [u8], at: usize, count: usize)
+    requires { at + count ≤ length bytes.old }
+    ensures { take (at + count) bytes.new ≡ take at bytes.old ++ replicate count 0 }
+{
+    bytes[at..at + count].fill(0);
 }
 
 /// The number that the eight bytes from the place `at` on spell, most significant first.

@@ -1,8 +1,7 @@
 use Rattle.std.proofs.Common.{arith, ◌≡◌, ◌+◌, ◌-◌, ◌++◌, [], ap, sym, ◌∙◌, refl, None, length-append}
 use Rattle.std.proofs.lemmas.Nat.{pow_pos}
 use Rattle.rice_bits.specs.Bits.{word}
-use Rattle.rice_bits.proofs.Gathering.{join_below}
-use Rattle.rice_bits.proofs.Words.{length-word, word-nil, word-cat}
+use Rattle.rice_bits.proofs.Words.{join_below, length-word, word-nil, word-cat}
 use Rattle.rice_bits.proofs.ReaderLemmas.{takes-none, takes-append, stops-append, still_wait}
 use Rattle.rice_bits.proofs.reader.BitReader.take.Goals as goal
 
