@@ -1,8 +1,9 @@
 -- Lemmas on what a reader of bits draws and takes.
 use Rattle.std.proofs.Common.{◌≡◌, ℕ, zero, suc, ◌+◌, ◌-◌, ◌*◌, ◌/◌, ◌%◌, ◌^◌, ◌<◌, ◌≤◌, Bool, true, false, List, [], ◌∷◌, ◌++◌, length, take, drop, get_or, replicate, refl, sym, ◌∙◌, ap, subst, arith, rules, append_assoc, length-append, Option, Some, None}
-use Rattle.std.specs.Prelude.{slice_range, ◌&&◌, IsSome}
+use Rattle.std.specs.Prelude.{slice_range, ◌&&◌, ◌==◌, IsSome}
 use Rattle.std.specs.Io.KnownBytes.{Consumes, Keeps}
-use Rattle.std.proofs.lemmas.List.{append-nil, length-take, length-drop, take-append-le, length-take-le, replicate-append-replicate}
+use Rattle.std.proofs.lemmas.List.{append-nil, length-take, length-drop, take-append-le, length-take-le, replicate-append-replicate, length-replicate}
+use Rattle.std.proofs.lemmas.Bool.Decides.{nat_tests}
 use Rattle.rice_bits.specs.Bits.{word, bits_of, number_of, fundamental_sequence}
 use Rattle.rice_bits.specs.declared.fault.BitFault.{BitFault}
 use Rattle.rice_bits.specs.Window.{IsWindow, window_bits}
@@ -100,6 +101,11 @@ blank-word_positive w v p h = go (is_blank (word w v)) refl
 pub blank-word_zero : (w v : ℕ) → v ≡ 0 → is_blank (word w v) ≡ true
 blank-word_zero w v e = rw (e, word-zero w) (blank-zeros w)
 
+-- digits are blank where they are those of 0
+pub blank-word : (w v : ℕ) → v < 2 ^ w → is_blank (word w v) ≡ (v == 0)
+blank-word w zero h = blank-word_zero w 0 refl
+blank-word w (suc v) h = let some : (suc v == 0) ≡ false = grind (arith, nat_tests) in blank-word_positive w (suc v) (omega arith) h ∙ sym some
+
 pub and-false : (b : Bool) → (b && false) ≡ false
 and-false true = refl
 and-false false = refl
@@ -194,3 +200,22 @@ unfolding window_bits
 length-window w h =
     let n : length (slice_range w.buffer w.at w.end) ≡ w.end - w.at = omega (arith, length-take (w.end - w.at) (drop w.at w.buffer), length-drop w.at w.buffer, h.ordered, h.fits) in
     omega (arith, n, length-append (word w.count w.digits) (bits_of (slice_range w.buffer w.at w.end)), length-word w.count w.digits, length-bits_of (slice_range w.buffer w.at w.end))
+
+one_behind_zeros : (old more new : List Bool) (n : ℕ) → is_blank old ≡ false → old ++ more ≡ replicate n false ++ new → 0 < length new
+one_behind_zeros old more [] n some e =
+    let zeros : is_blank (replicate n false ++ []) ≡ true = ap is_blank (append-nil (replicate n false)) ∙ blank-zeros n in
+    let joined : is_blank (old ++ more) ≡ (is_blank old && is_blank more) = blank-append old more in
+    let none : (is_blank old && is_blank more) ≡ false = ap (λ b. b && is_blank more) some in
+    let both : false ≡ true = sym none ∙ (sym joined ∙ (ap is_blank e ∙ zeros)) in
+    absurd cc
+one_behind_zeros old more (b ∷ new) n some e = omega arith
+
+-- where a 1 waits, some bit waits after zeros were taken
+pub one_waits : {I : Type 0} (left : I → Option (List ℕ)) (failed : I → ℕ) (old new : Reader I) (n : ℕ)
+    → Takes left failed old new (replicate n false) → is_blank old.waiting ≡ false → 0 < length new.waiting
+one_waits left failed old new n taken some = one_behind_zeros old.waiting (bits_of taken.draws.given) new.waiting n some taken.draws.split
+
+-- a reader with a digit has refused nothing
+pub not_refused : (refusal : Option BitFault) (w : Window) → IsWindow w → 0 < w.count → (IsSome refusal → window_bits w ≡ []) → refusal ≡ None
+not_refused None w h some stopped = refl
+not_refused (Some f) w h some stopped = absurd (omega (arith, ap length (stopped refl), length-window w h, some))

@@ -1,5 +1,5 @@
 -- Lemmas on the bits that were given and not yet taken.
-use Rattle.std.proofs.Common.{◌≡◌, ℕ, suc, ◌+◌, ◌-◌, ◌*◌, ◌/◌, ◌%◌, ◌^◌, ◌<◌, ◌≤◌, Bool, true, false, List, [], ◌∷◌, ◌++◌, length, take, drop, get_or, replicate, sym, ◌∙◌, ap, subst, inl, inr, arith, append_assoc}
+use Rattle.std.proofs.Common.{take-take, ◌≡◌, ℕ, suc, ◌+◌, ◌-◌, ◌*◌, ◌/◌, ◌%◌, ◌^◌, ◌<◌, ◌≤◌, Bool, true, false, List, [], ◌∷◌, ◌++◌, length, take, drop, get_or, replicate, sym, ◌∙◌, ap, subst, inl, inr, arith, append_assoc}
 use Rattle.std.specs.Prelude.{slice_range}
 use Rattle.std.proofs.Math.Seq.{take-add}
 use Rattle.std.proofs.Math.Nat.{pow-le-pow_right, pow-suc}
@@ -8,7 +8,9 @@ use Rattle.std.proofs.lemmas.List.{drop-drop}
 use Rattle.std.proofs.lemmas.List.Edits.{between_more}
 use Rattle.std.proofs.lemmas.Nat.{shr_below, leading_top, mod-mul-add}
 use Rattle.std.proofs.lemmas.Bool.{cases_lt}
+use Rattle.std.specs.Int.{to_be_bytes, w64}
 use Rattle.rice_bits.specs.Bits.{word, bits_of, fundamental_sequence}
+use Rattle.rice_bits.proofs.EightBytes.{front-eight}
 use Rattle.rice_bits.proofs.Bytes.{bits_of-append, bits_of-push, bits_of-nil}
 use Rattle.rice_bits.proofs.Words.{word-split, word-wide, word-nil, one_more, word-cat}
 
@@ -95,3 +97,17 @@ some_digit w v p h = elim (cases_lt 0 w) [ inl k ↦ k | inr k ↦ (let e : w �
 pub run_left : (w v : ℕ) → 0 < v → v < 2 ^ w → w ≤ 64
     → 63 - count_leading_zeros 64 v + (w - 1 - (63 - count_leading_zeros 64 v) + 1) ≡ w
 run_left w v p h q = omega (arith, one_within w v p h q, some_digit w v p h)
+
+-- the first of eight bytes became digits behind those that were there
+pub load-front : (xs : List ℕ) (a e w v n b : ℕ) → b ≤ 8 → a + 8 ≤ e → n < 2 ^ 64 → to_be_bytes w64 n ≡ take 8 (drop a xs)
+    → word (w + 8 * b) (v * 2 ^ (8 * b) + n / 2 ^ (64 - 8 * b)) ++ bits_of (slice_range xs (a + b) e) ≡ word w v ++ bits_of (slice_range xs a e)
+load-front xs a e w v n b few room fits eight =
+    let low : n / 2 ^ (64 - 8 * b) < 2 ^ (8 * b) = front_below 64 (8 * b) n (omega arith) fits in
+    let size : a + b - a ≡ b = omega arith in
+    let front : bits_of (slice_range xs a (a + b)) ≡ word (8 * b) (n / 2 ^ (64 - 8 * b)) =
+    ap (λ k. bits_of (take k (drop a xs))) size
+    ∙ (ap bits_of (sym (take-take b 8 (drop a xs) few)) ∙ front-eight b n (take 8 (drop a xs)) few eight) in
+    let bytes : bits_of (slice_range xs a e) ≡ bits_of (slice_range xs a (a + b)) ++ bits_of (slice_range xs (a + b) e) =
+    ap bits_of (sym (between-join xs a (a + b) e (omega arith) (omega arith))) ∙ bits_of-append (slice_range xs a (a + b)) (slice_range xs (a + b) e) in
+    rw (word-cat w (8 * b) v (n / 2 ^ (64 - 8 * b)) low, bytes, front)
+    (append_assoc (word w v) (word (8 * b) (n / 2 ^ (64 - 8 * b))) (bits_of (slice_range xs (a + b) e)))

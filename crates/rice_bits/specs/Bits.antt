@@ -37,10 +37,9 @@ bits_to_byte n = (8 - n % 8) % 8
 abbrev pub padded : List Bool → List Bool
 padded bits = bits ++ replicate (bits_to_byte (length bits)) false
 
--- Bytes, and the digits of a number that wait for more, within a capacity in bytes.
-pub record IsGathered (capacity : ℕ) (bytes : List ℕ) (waiting last : ℕ) : Type 0 where
+-- Whole bytes, and the digits of a number that wait for more, within a capacity in bytes.
+pub record IsGathered (capacity whole waiting last : ℕ) : Type 0 where
   pub short : waiting < 8
-  pub digits : last < 2 ^ waiting
-  pub room : 8 * length bytes + waiting ≤ 8 * capacity
+  pub digits : last < 2 ^ 8
+  pub room : 8 * whole + waiting ≤ 8 * capacity
   pub small : capacity < 2 ^ 32
-  pub bytes_fit : All (λ b. b < 256) bytes

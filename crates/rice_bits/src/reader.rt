@@ -1,5 +1,5 @@
 //! A reader of bits.
-ghost use Rattle.std.specs.Prelude.{◌≡◌, ℕ, ◌+◌, ◌-◌, ◌*◌, ◌%◌, ◌^◌, ◌<◌, ◌≤◌, Bool, true, false, List, [], ◌++◌, length, replicate, IfOk, IfErr, OnOk, IfSome, IsSome};
+ghost use Rattle.std.specs.Prelude.{◌≡◌, ℕ, ◌+◌, ◌-◌, ◌*◌, ◌%◌, ◌^◌, ◌<◌, ◌≤◌, Bool, true, false, List, [], ◌++◌, length, replicate, IfOk, IfErr, OnOk, IfSome, IfNone, IsSome, Option, None};
 ghost use Rattle.rice_bits.specs.Bits.{fundamental_sequence, bits_to_byte, word};
 ghost use Rattle.rice_bits.specs.Reader.{Draws, Refuses};
 ghost use Rattle.rice_bits.specs.Window.{IsWindow, window_bits};
@@ -111,7 +111,7 @@ fn supply<I: Intake>(
 }
 
 impl<I: Intake> BitReader<I> {
-    ghost use Rattle.rice_bits.specs.Reader.{Takes, Stops};
+    ghost use Rattle.rice_bits.specs.Reader.{Takes, Stops, is_blank};
 
     /// A reader that has taken no bit, as just after `mark`.
     pub fn new(intake: I) -> Self
@@ -162,8 +162,57 @@ impl<I: Intake> BitReader<I> {
         }
     }
 
-    /// Takes the number that the next `width` bits spell, most significant first.
+    /// Takes the number that the next `width` bits spell, most significant first, and ticks one for each bit taken.
+    ///
+    /// A refusal says why the bits were not there: [`BitFault`] tells each case.
+    #[inline]
     pub fn take(&mut self, width: u32, meter: &mut Meter) -> Result<u32, BitFault>
+        requires width { width ≤ 32 }
+        requires meter { meter.old + width < 2 ^ 62 }
+        ensures ok { IfOk result (λ v. (v < 2 ^ width) × Takes I.left I.failed self.old self.new (word width v)) }
+        // A first refusal took all bits that were left, which were too few.
+        ensures err { self.old.refusal ≡ None → IfErr result (λ f.
+            (bits : List Bool) × (length bits < width) × Stops I.left I.failed self.old self.new bits f) }
+        // A reader that has refused answers the same, and takes nothing.
+        ensures stopped { IfSome self.old.refusal (λ f. (result ≡ Err f) × (self.new ≡ self.old)) }
+        ensures taken { OnOk result (self.new.taken ≡ self.old.taken + width) }
+        ensures most { self.new.taken ≤ self.old.taken + width }
+        ensures limit { self.new.taken ≤ 2 ^ 52 }
+        // The intake is not called where enough bits wait.
+        ensures idle { width ≤ length self.old.waiting → self.new.intake ≡ self.old.intake }
+        ensures steps { meter.new + self.old.taken ≡ meter.old + self.new.taken }
+    {
+        if let Some(value) = self.take_ready(width, meter) {
+            return Ok(value);
+        }
+        self.take_across(width, meter)
+    }
+
+    /// Takes the next `width` digits, where the word has more.
+    #[inline]
+    fn take_ready(&mut self, width: u32, meter: &mut Meter) -> Option<u32>
+        requires width { width ≤ 32 }
+        requires meter { meter.old + width < 2 ^ 62 }
+        ensures some { IfSome result (λ v. (v < 2 ^ width) × Takes I.left I.failed self.old self.new (word width v)) }
+        ensures going { IsSome result → self.old.refusal ≡ None }
+        ensures idle { self.new.intake ≡ self.old.intake }
+        ensures none { IfNone result ((self.new ≡ self.old) × (meter.new ≡ meter.old)) }
+        ensures steps { meter.new + self.old.taken ≡ meter.old + self.new.taken }
+        ensures limit { self.new.taken ≤ 2 ^ 52 }
+    {
+        self.window.refill(width);
+        if self.window.count <= width {
+            return None;
+        }
+        let digits = self.window.take_digits(width);
+        meter.tick(width as u64);
+        self.taken += width as u64;
+        self.blank = self.blank & (digits == 0);
+        Some(digits as u32)
+    }
+
+    /// Takes the next `width` bits, and calls the intake where too few wait.
+    fn take_across(&mut self, width: u32, meter: &mut Meter) -> Result<u32, BitFault>
         requires width { width ≤ 32 }
         requires meter { meter.old + width < 2 ^ 62 }
         ensures ok { IfOk result (λ v. (v < 2 ^ width) × Takes I.left I.failed self.old self.new (word width v)) }
@@ -196,7 +245,11 @@ impl<I: Intake> BitReader<I> {
         Ok(value as u32)
     }
 
-    /// Takes zeros up to and with the next 1, and answers how many zeros they were.
+    /// Takes zeros up to and with the next 1, and answers how many zeros they were: the number of a fundamental sequence
+    /// (CCSDS 121.0-B-3, section 3.2). It ticks one for each bit taken.
+    ///
+    /// A refusal says why no 1 was there: [`BitFault`] tells each case.
+    #[inline]
     pub fn take_fs(&mut self, meter: &mut Meter) -> Result<u64, BitFault>
         requires meter { meter.old + (2 ^ 52 - self.old.taken) < 2 ^ 62 }
         ensures ok { IfOk result (λ m. Takes I.left I.failed self.old self.new (fundamental_sequence m)) }
@@ -207,6 +260,51 @@ impl<I: Intake> BitReader<I> {
         ensures stopped { IfSome self.old.refusal (λ f. (result ≡ Err f) × (self.new ≡ self.old)) }
         ensures taken { IfOk result (λ m. self.new.taken ≡ self.old.taken + m + 1) }
         ensures most { self.new.taken ≤ 2 ^ 52 }
+        // The intake is not called where a 1 waits.
+        ensures idle { is_blank self.old.waiting ≡ false → self.new.intake ≡ self.old.intake }
+        ensures steps { meter.new + self.old.taken ≡ meter.old + self.new.taken }
+    {
+        if let Some(zeros) = self.take_fs_ready(meter) {
+            return Ok(zeros);
+        }
+        self.take_fs_across(meter)
+    }
+
+    /// Takes a fundamental sequence, where the word has its 1.
+    #[inline]
+    fn take_fs_ready(&mut self, meter: &mut Meter) -> Option<u64>
+        requires meter { meter.old + (2 ^ 52 - self.old.taken) < 2 ^ 62 }
+        ensures some { IfSome result (λ m. Takes I.left I.failed self.old self.new (fundamental_sequence m)) }
+        ensures going { IsSome result → self.old.refusal ≡ None }
+        ensures idle { self.new.intake ≡ self.old.intake }
+        ensures none { IfNone result ((self.new ≡ self.old) × (meter.new ≡ meter.old)) }
+        ensures steps { meter.new + self.old.taken ≡ meter.old + self.new.taken }
+        ensures limit { self.new.taken ≤ 2 ^ 52 }
+    {
+        self.window.refill_zeros();
+        if self.window.digits == 0 {
+            return None;
+        }
+        let zeros = self.window.take_run() as u64;
+        meter.tick(zeros + 1);
+        self.taken += zeros + 1;
+        self.blank = false;
+        Some(zeros)
+    }
+
+    /// Takes a fundamental sequence, and calls the intake where no 1 waits.
+    fn take_fs_across(&mut self, meter: &mut Meter) -> Result<u64, BitFault>
+        requires meter { meter.old + (2 ^ 52 - self.old.taken) < 2 ^ 62 }
+        ensures ok { IfOk result (λ m. Takes I.left I.failed self.old self.new (fundamental_sequence m)) }
+        // A first refusal took all bits that were left, which were zeros.
+        ensures err { self.old.refusal ≡ None → IfErr result (λ f.
+            (m : ℕ) × Stops I.left I.failed self.old self.new (replicate m false) f) }
+        // A reader that has refused answers the same, and takes nothing.
+        ensures stopped { IfSome self.old.refusal (λ f. (result ≡ Err f) × (self.new ≡ self.old)) }
+        ensures taken { IfOk result (λ m. self.new.taken ≡ self.old.taken + m + 1) }
+        ensures most { self.new.taken ≤ 2 ^ 52 }
+        // The intake is not called where a 1 waits.
+        ensures idle { is_blank self.old.waiting ≡ false → self.new.intake ≡ self.old.intake }
         ensures steps { meter.new + self.old.taken ≡ meter.old + self.new.taken }
     {
         if let Some(fault) = self.refusal {
@@ -229,6 +327,7 @@ impl<I: Intake> BitReader<I> {
         ensures one { IfOk result (λ r. r.1 ≡ true → Takes I.left I.failed self.old self.new (fundamental_sequence r.0)) }
         ensures zeros { IfOk result (λ r. r.1 ≡ false → (0 < r.0) × Takes I.left I.failed self.old self.new (replicate r.0 false)) }
         ensures err { IfErr result (Stops I.left I.failed self.old self.new []) }
+        ensures idle { 0 < length self.old.waiting → self.new.intake ≡ self.old.intake }
         ensures steps { meter.new + self.old.taken ≡ meter.old + self.new.taken }
         ensures limit { self.new.taken ≤ 2 ^ 52 }
     {
