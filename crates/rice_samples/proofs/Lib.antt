@@ -7,3 +7,6 @@ pub mod CutLemmas
 pub mod InverseLemmas
 pub mod PairLemmas
 pub mod RankLaws
+pub mod Counts
+pub mod SpellingLemmas
+pub mod Gaps

@@ -4,4 +4,6 @@ pub mod Residuals
 pub mod Pairs
 pub mod Spelling
 pub mod Examples
+pub mod Values
+pub mod Settings
 pub mod Laws

@@ -1,0 +1,41 @@
+-- Which settings there are, and which of their parameters is refused first.
+use Rattle.std.specs.Prelude.{ℕ, Bool, ◌≡◌, ◌⊎◌, ◌≤◌, if◌then◌else◌, nat_le, ◌&&◌, ◌||◌, ◌==◌, Result, Ok, Err}
+use Rattle.rice_samples.specs.Parameters.{Parameters}
+use Rattle.rice_samples.specs.declared.setting.SettingFault.{SettingFault}
+use Rattle.rice_samples.specs.declared.setting.SettingFault.TheVariants.{BadBits, BadBlock, BadInterval}
+
+abbrev pub parameters : ℕ → ℕ → ℕ → Bool → Bool → Bool → Bool → Bool → Parameters
+parameters bits block interval signed msb three preprocess pad = record {
+  bits = bits;
+  block = block;
+  interval = interval;
+  signed = signed;
+  msb = msb;
+  three = three;
+  preprocess = preprocess;
+  pad = pad;
+}
+
+abbrev pub HasLegalBits : Parameters → Type 0
+HasLegalBits s = (1 ≤ s.bits) × (s.bits ≤ 32)
+
+abbrev pub HasLegalBlock : Parameters → Type 0
+HasLegalBlock s = (s.block ≡ 8) ⊎ (s.block ≡ 16) ⊎ (s.block ≡ 32) ⊎ (s.block ≡ 64)
+
+abbrev pub HasLegalInterval : Parameters → Type 0
+HasLegalInterval s = (1 ≤ s.interval) × (s.interval ≤ 4096)
+
+-- the fault is that of the first illegal parameter, in the order bits, block, interval
+abbrev pub IsRefused : Parameters → SettingFault → Type 0
+IsRefused s BadBits = ¬ HasLegalBits s
+IsRefused s BadBlock = HasLegalBits s × ¬ HasLegalBlock s
+IsRefused s BadInterval = HasLegalBits s × HasLegalBlock s × ¬ HasLegalInterval s
+
+-- the same by tests: the setting with these parameters, or the fault
+abbrev pub setting_of : Parameters → Result Parameters SettingFault
+setting_of s =
+    if nat_le 1 s.bits && nat_le s.bits 32 then
+    (if s.block == 8 || s.block == 16 || s.block == 32 || s.block == 64 then
+    (if nat_le 1 s.interval && nat_le s.interval 4096 then Ok s else Err BadInterval)
+    else Err BadBlock)
+    else Err BadBits

@@ -1,0 +1,16 @@
+-- The values that have a pattern of so many bits.
+use Rattle.std.specs.Prelude.{ℕ, ◌-◌, ◌^◌, ◌<◌, Bool, if◌then◌else◌, ℤ, pos, neg_ℤ, ◌≤ℤ◌}
+use Rattle.std.specs.Int.{int_gap, bytes_high_first, bytes_low_first}
+use Rattle.std.specs.Prelude.{List}
+
+-- the least of them
+abbrev pub least_value : ℕ → Bool → ℤ
+least_value bits signed = if signed then neg_ℤ (pos (2 ^ (bits - 1))) else pos 0
+
+-- x is one of them: in two's complement where `signed`
+abbrev pub IsValue : ℕ → Bool → ℤ → Type 0
+IsValue bits signed x = (least_value bits signed ≤ℤ x) × (int_gap (least_value bits signed) x < 2 ^ bits)
+
+-- the lowest k bytes of a word, in the given order
+abbrev pub ordered_bytes : Bool → ℕ → ℕ → List ℕ
+ordered_bytes msb k word = if msb then bytes_high_first k word else bytes_low_first 0 k word

@@ -1,0 +1,86 @@
+//! Numbers as patterns of bits, and patterns as bytes.
+ghost use Rattle.std.specs.Prelude.{◌≡◌, ◌⊎◌, ℕ, ◌+◌, ◌-◌, ◌*◌, ◌^◌, ◌<◌, ◌≤◌, length, ℤ, pos, neg_ℤ, ◌≤ℤ◌, ◌<ℤ◌};
+ghost use Rattle.rice_samples.specs.Residuals.{twos_complement};
+ghost use Rattle.rice_samples.specs.Values.{IsValue, ordered_bytes};
+
+use arrayvec::ArrayVec;
+
+/// The lowest `bits` binary digits of `x`.
+#[inline]
+pub(crate) fn digits_of(x: i64, bits: u32) -> u32
+    requires bits { bits ≤ 32 }
+    requires from { neg_ℤ (pos (2 ^ bits)) ≤ℤ x }
+    requires below { x <ℤ pos (2 ^ bits) }
+    ensures value { result ≡ twos_complement bits x }
+    ensures fits { result < 2 ^ bits }
+{
+    let count = 1i64 << bits;
+    if x < 0 { (x + count) as u32 } else { x as u32 }
+}
+
+/// The value with these `bits` binary digits, in two's complement where `signed`.
+#[inline]
+pub(crate) fn value_with(digits: u32, bits: u32, signed: bool) -> i64
+    requires bits { (1 ≤ bits) × (bits ≤ 32) }
+    requires digits { digits < 2 ^ bits }
+    ensures value { IsValue bits signed result }
+    ensures digits { twos_complement bits result ≡ digits }
+{
+    let count = 1i64 << bits;
+    let digits = digits as i64;
+    if signed && count <= 2 * digits {
+        digits - count
+    } else {
+        digits
+    }
+}
+
+/// The number that one to four bytes spell.
+#[inline]
+pub(crate) fn word_of(bytes: &[u8], msb: bool) -> u32
+    requires { (1 ≤ length bytes.now) × (length bytes.now ≤ 4) }
+    ensures bytes { bytes.now ≡ ordered_bytes msb (length bytes.now) result }
+    ensures fits { result < 2 ^ (8 * length bytes.now) }
+{
+    match *bytes {
+        [a] => a as u32,
+        [a, b] if msb => u16::from_be_bytes([a, b]) as u32,
+        [a, b] => u16::from_le_bytes([a, b]) as u32,
+        [a, b, c] if msb => u32::from_be_bytes([0, a, b, c]),
+        [a, b, c] => u32::from_le_bytes([a, b, c, 0]),
+        [a, b, c, d] if msb => u32::from_be_bytes([a, b, c, d]),
+        [a, b, c, d] => u32::from_le_bytes([a, b, c, d]),
+        _ => 0,
+    }
+}
+
+/// The lowest `width` bytes of a word.
+#[inline]
+pub(crate) fn bytes_with(word: u32, width: u32, msb: bool) -> ArrayVec<u8, 4>
+    requires { (1 ≤ width) × (width ≤ 4) }
+    ensures { result.items ≡ ordered_bytes msb width word }
+{
+    let [a, b, c, d] = word.to_le_bytes();
+    match width {
+        1 => vector_of(&[a]),
+        2 if msb => vector_of(&[b, a]),
+        2 => vector_of(&[a, b]),
+        3 if msb => vector_of(&[c, b, a]),
+        3 => vector_of(&[a, b, c]),
+        _ if msb => vector_of(&[d, c, b, a]),
+        _ => vector_of(&[a, b, c, d]),
+    }
+}
+
+/// These bytes in a vector.
+#[inline]
+fn vector_of(bytes: &[u8]) -> ArrayVec<u8, 4>
+    requires { length bytes.now ≤ 4 }
+    ensures { result.items ≡ bytes.now }
+{
+    let mut vector = ArrayVec::new();
+    for byte in bytes {
+        vector.push(*byte);
+    }
+    vector
+}

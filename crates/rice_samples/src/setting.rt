@@ -1,0 +1,290 @@
+//! What coder and decoder are set to.
+ghost use Rattle.std.specs.Prelude.{◌≡◌, ◌⊎◌, ℕ, ◌+◌, ◌-◌, ◌*◌, ◌%◌, ◌^◌, ◌<◌, ◌≤◌, ◌↔◌, IsTrue, IsOk, IfErr, ℤ};
+ghost use Rattle.rice_samples.specs.Parameters.{Parameters, IsLegal, IsSample, id_len, k_max, width, value_count, least, level, level as level_of};
+ghost use Rattle.rice_samples.specs.Places.{segment_blocks, blocks_left, has_reference};
+ghost use Rattle.rice_samples.specs.Settings.{parameters, setting_of, IsRefused};
+
+use std::marker::Model;
+use thiserror::Error;
+
+/// Why a setting is refused.
+#[derive(Clone, Copy, Debug, PartialEq, Eq, Error)]
+pub enum SettingFault {
+    /// The bits per sample are not 1 to 32.
+    #[error("bits per sample must be 1 to 32")]
+    BadBits,
+    /// The block size is none of the four.
+    #[error("block size must be 8, 16, 32 or 64")]
+    BadBlock,
+    /// The reference interval is not 1 to 4,096 blocks.
+    #[error("interval must be 1 to 4096")]
+    BadInterval,
+}
+
+/// What coder and decoder are set to. Clauses see the parameters, which are legal.
+#[derive(Clone, Copy, Debug)]
+pub struct Setting {
+    bits: u32,
+    block: u32,
+    interval: u32,
+    signed: bool,
+    msb: bool,
+    three: bool,
+    preprocess: bool,
+    pad: bool,
+}
+
+impl Model for Setting {
+    ghost use Rattle.rice_samples.specs.Parameters.{Parameters, IsLegal};
+    ghost use Rattle.rice_samples.specs.Settings.{parameters};
+
+    ghost Value = { Parameters };
+
+    ghost view = { λ s. parameters s.bits s.block s.interval s.signed s.msb s.three s.preprocess s.pad };
+
+    ghost invariant = { λ s. IsLegal (parameters s.bits s.block s.interval s.signed s.msb s.three s.preprocess s.pad) };
+
+    ghost inverse = { λ p. record {
+      bits = p.bits;
+      block = p.block;
+      interval = p.interval;
+      signed = p.signed;
+      msb = p.msb;
+      three = p.three;
+      preprocess = p.preprocess;
+      pad = p.pad;
+    } };
+}
+
+impl Setting {
+    /// The setting with these parameters: bits per sample, samples per block, blocks per reference
+    /// interval, whether samples are signed, whether their most significant byte comes first,
+    /// whether 17 to 24 bits take three bytes in place of four, whether samples are predicted, and
+    /// whether the code of each interval is filled to a byte.
+    ///
+    /// The first parameter that is not legal is refused: `BadBits` unless `bits` is 1 to 32, then
+    /// `BadBlock` unless `block` is 8, 16, 32 or 64, then `BadInterval` unless `interval` is 1 to
+    /// 4,096 (CCSDS 121.0-B-3, sections 3 and 4).
+    pub fn new(
+        bits: u32,
+        block: u32,
+        interval: u32,
+        signed: bool,
+        msb: bool,
+        three: bool,
+        preprocess: bool,
+        pad: bool,
+    ) -> Result<Setting, SettingFault>
+        ensures answer { result ≡ setting_of (parameters bits block interval signed msb three preprocess pad) }
+        ensures legal { IsOk result ↔ IsLegal (parameters bits block interval signed msb three preprocess pad) }
+        ensures refused { IfErr result (IsRefused (parameters bits block interval signed msb three preprocess pad)) }
+    {
+        if bits < 1 || bits > 32 {
+            return Err(SettingFault::BadBits);
+        }
+        if block != 8 && block != 16 && block != 32 && block != 64 {
+            return Err(SettingFault::BadBlock);
+        }
+        if interval < 1 || interval > 4096 {
+            return Err(SettingFault::BadInterval);
+        }
+        Ok(Setting {
+            bits,
+            block,
+            interval,
+            signed,
+            msb,
+            three,
+            preprocess,
+            pad,
+        })
+    }
+
+    /// The bits of a sample, n: 1 to 32.
+    #[inline]
+    pub fn bits(&self) -> u32
+        ensures value { result ≡ self.now.bits }
+        ensures range { (1 ≤ result) × (result ≤ 32) }
+        ensures legal { IsLegal self.now }
+    {
+        self.bits
+    }
+
+    /// The samples of a block, J: 8, 16, 32 or 64.
+    #[inline]
+    pub fn block(&self) -> u32
+        ensures value { result ≡ self.now.block }
+        ensures sizes { (result ≡ 8) ⊎ (result ≡ 16) ⊎ (result ≡ 32) ⊎ (result ≡ 64) }
+        ensures range { (8 ≤ result) × (result ≤ 64) }
+        ensures legal { IsLegal self.now }
+    {
+        self.block
+    }
+
+    /// The blocks of a reference interval, r: 1 to 4,096.
+    #[inline]
+    pub fn interval(&self) -> u32
+        ensures value { result ≡ self.now.interval }
+        ensures range { (1 ≤ result) × (result ≤ 4096) }
+        ensures legal { IsLegal self.now }
+    {
+        self.interval
+    }
+
+    /// The bits of an option's identifier: 3, 4 or 5 (CCSDS 121.0-B-3, section 5).
+    #[inline]
+    pub fn id_len(&self) -> u32
+        ensures value { result ≡ id_len self.now }
+        ensures range { (3 ≤ result) × (result ≤ 5) }
+    {
+        match self.bits {
+            0..=8 => 3,
+            9..=16 => 4,
+            _ => 5,
+        }
+    }
+
+    /// The greatest split: 5, 13 or 29.
+    #[inline]
+    pub fn k_max(&self) -> u32
+        ensures value { result ≡ k_max self.now }
+        ensures range { (5 ≤ result) × (result ≤ 29) }
+    {
+        (1 << self.id_len()) - 3
+    }
+
+    /// The bytes of a sample: 1 to 4.
+    #[inline]
+    pub fn width(&self) -> u32
+        ensures value { result ≡ width self.now }
+        ensures range { (1 ≤ result) × (result ≤ 4) }
+        ensures holds_bits { self.now.bits ≤ 8 * result }
+        ensures legal { IsLegal self.now }
+    {
+        match self.bits {
+            0..=8 => 1,
+            9..=16 => 2,
+            17..=24 if self.three => 3,
+            _ => 4,
+        }
+    }
+
+    /// The blocks of the segment in which block `b` lies: 64, or fewer at the end of an interval.
+    #[inline]
+    pub fn segment_blocks(&self, b: u64) -> u32
+        ensures value { result ≡ segment_blocks self.now b }
+        ensures range { (1 ≤ result) × (result ≤ 64) }
+    {
+        let place = self.place(b);
+        (self.interval - place / 64 * 64).min(64)
+    }
+
+    /// The blocks from block `b` to the end of its segment, `b` included.
+    #[inline]
+    pub fn blocks_left(&self, b: u64) -> u32
+        ensures value { result ≡ blocks_left self.now b }
+        ensures range { (1 ≤ result) × (result ≤ segment_blocks self.now b) × (result ≤ 64) }
+    {
+        let place = self.place(b);
+        (self.interval - place / 64 * 64).min(64) - place % 64
+    }
+
+    /// Whether the first sample of block `b` is a reference sample. Never without preprocessing.
+    #[inline]
+    pub fn is_reference(&self, b: u64) -> bool
+        ensures { result ≡ has_reference self.now b }
+    {
+        self.preprocess && self.place(b) == 0
+    }
+
+    /// Whether samples are predicted, and their residuals coded in place of their patterns.
+    #[inline]
+    pub fn preprocess(&self) -> bool
+        ensures { result ≡ self.now.preprocess }
+    {
+        self.preprocess
+    }
+
+    /// Whether the code of each interval is filled to a byte.
+    #[inline]
+    pub fn pads(&self) -> bool
+        ensures { result ≡ self.now.pad }
+    {
+        self.pad
+    }
+
+    /// Whether `x` is a value that a sample can have.
+    #[inline]
+    pub fn in_range(&self, x: i64) -> bool
+        ensures { IsTrue result ↔ IsSample self.now x }
+    {
+        let least = self.least();
+        least <= x && x < least + (1 << self.bits)
+    }
+
+    /// The least value that a sample can have.
+    #[inline]
+    pub(crate) fn least(&self) -> i64
+        ensures value { result ≡ least self.now }
+        ensures legal { IsLegal self.now }
+    {
+        if self.signed {
+            -(1 << (self.bits - 1))
+        } else {
+            0
+        }
+    }
+
+    /// How many values a sample can have.
+    #[inline]
+    pub(crate) fn values(&self) -> u64
+        ensures value { result ≡ value_count self.now }
+        ensures range { (2 ≤ result) × (result ≤ 2 ^ 32) }
+        ensures legal { IsLegal self.now }
+    {
+        1 << self.bits
+    }
+
+    /// How many values that a sample can have lie below `x`.
+    #[inline]
+    pub(crate) fn level(&self, x: i64) -> u64
+        requires { IsSample self.now x }
+        ensures value { result ≡ level self.now x }
+        ensures below { result < value_count self.now }
+    {
+        (x - self.least()) as u64
+    }
+
+    /// The value with so many below it.
+    #[inline]
+    pub(crate) fn value_at(&self, level: u64) -> i64
+        requires { level < value_count self.now }
+        ensures sample { IsSample self.now result }
+        ensures level { level_of self.now result ≡ level }
+    {
+        self.least() + level as i64
+    }
+
+    #[inline]
+    pub(crate) fn signed(&self) -> bool
+        ensures { result ≡ self.now.signed }
+    {
+        self.signed
+    }
+
+    #[inline]
+    pub(crate) fn msb(&self) -> bool
+        ensures { result ≡ self.now.msb }
+    {
+        self.msb
+    }
+
+    /// The place of block `b` in its interval.
+    #[inline]
+    fn place(&self, b: u64) -> u32
+        ensures value { result ≡ b % self.now.interval }
+        ensures inside { result < self.now.interval }
+    {
+        (b % self.interval as u64) as u32
+    }
+}
