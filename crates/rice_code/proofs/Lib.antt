@@ -20,3 +20,9 @@ pub mod Determined
 pub mod Totality
 pub mod WholeBlocks
 pub mod Witnesses
+pub mod FieldLemmas
+pub mod JoinedParts
+pub mod ReadLemmas
+pub mod CutSets
+pub mod RestoredBlocks
+pub mod DecoderLemmas

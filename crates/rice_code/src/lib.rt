@@ -1,6 +1,17 @@
-//! The code of CCSDS 121.0-B-3: its definitions in `specs/`, their laws, and worked examples.
+//! The code of CCSDS 121.0-B-3: its definitions in `specs/`, their laws and worked examples, and the decoder.
 #![tactic(auto)]
 
+mod data_set;
+pub mod decoder;
 pub mod decoding_examples;
 pub mod examples;
+pub mod fault;
+mod fields;
 pub mod laws;
+mod options;
+mod pair;
+mod residuals;
+mod restoring;
+
+pub use decoder::Decoder;
+pub use fault::{CodeFault, Step};
