@@ -6,7 +6,7 @@ use Rattle.std.proofs.Math.Nat.{pow-le-pow_right, pow-suc}
 use lib.Count.{count_leading_zeros}
 use Rattle.std.proofs.lemmas.List.{drop-drop}
 use Rattle.std.proofs.lemmas.List.Edits.{between_more}
-use Rattle.std.proofs.lemmas.Nat.{shr_below, leading_top, mod-mul-add}
+use Rattle.std.proofs.lemmas.Nat.{div-mul-add, shr_below, leading_top, mod-mul-add}
 use Rattle.std.proofs.lemmas.Bool.{cases_lt}
 use Rattle.std.specs.Int.{to_be_bytes, w64}
 use Rattle.rice_bits.specs.Bits.{word, bits_of, fundamental_sequence}
@@ -111,3 +111,12 @@ load-front xs a e w v n b few room fits eight =
     ap bits_of (sym (between-join xs a (a + b) e (omega arith) (omega arith))) ∙ bits_of-append (slice_range xs a (a + b)) (slice_range xs (a + b) e) in
     rw (word-cat w (8 * b) v (n / 2 ^ (64 - 8 * b)) low, bytes, front)
     (append_assoc (word w v) (word (8 * b) (n / 2 ^ (64 - 8 * b))) (bits_of (slice_range xs (a + b) e)))
+
+-- what stands before the digits behind the first 1 is that 1
+pub one_high : (v : ℕ) → 0 < v → v < 2 ^ 64 → 1 ≡ v / 2 ^ (63 - count_leading_zeros 64 v)
+one_high v p h =
+    let t = leading_top 64 v p h in
+    let j : 63 - count_leading_zeros 64 v ≡ t.0 = omega (arith, t.1) in
+    let below : v - 2 ^ t.0 < 2 ^ t.0 = omega (arith, t.2, t.3, pow-suc 2 t.0) in
+    let whole : 1 * 2 ^ t.0 + (v - 2 ^ t.0) ≡ v = omega (arith, t.2) in
+    sym (ap (λ k. v / 2 ^ k) j ∙ (ap (λ n. n / 2 ^ t.0) (sym whole) ∙ div-mul-add 1 (2 ^ t.0) (v - 2 ^ t.0) below))

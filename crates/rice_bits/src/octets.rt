@@ -34,7 +34,7 @@ pub fn store_front(bytes: &mut [u8], at: usize, word: u64, count: usize)
     requires room { at + count ≤ length bytes.old }
     ensures { take (at + count) bytes.new ≡ take at bytes.old ++ take count (to_be_bytes w64 word) }
 {
-    if at + 8 <= bytes.len() {
+    if 8 <= bytes.len() && at <= bytes.len() - 8 {
         store(bytes, at, word);
     } else {
         store_last(bytes, at, word, count);

@@ -16,7 +16,7 @@ pub struct BitSink<const N: usize> {
     /// How many bits wait behind them.
     waiting: u32,
     /// The bits that wait, as the lowest of eight digits.
-    last: u64,
+    last: u8,
 }
 
 impl<const N: usize> Model for BitSink<N> {
@@ -116,7 +116,7 @@ impl<const N: usize> BitSink<N> {
         ensures bits { self.new ≡ self.old ++ word width value }
         ensures len { length self.new ≡ length self.old + width }
     {
-        let joined = join(self.last, width, value);
+        let joined = join(self.last as u64, width, value);
         let count = self.waiting + width;
         let more = (count / 8) as usize;
         store_front(
@@ -127,7 +127,7 @@ impl<const N: usize> BitSink<N> {
         );
         self.whole += more;
         self.waiting = count % 8;
-        self.last = low_digits(joined, 8);
+        self.last = low_digits(joined, 8) as u8;
     }
 
     /// Appends `count` bytes of zeros, where no bit waits.

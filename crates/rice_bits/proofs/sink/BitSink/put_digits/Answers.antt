@@ -18,14 +18,14 @@ invariant_of-self g c =
     let before = length_viewed c.self.inside.bytes c.self.inside.whole c.self.inside.waiting c.self.inside.last c.args.self.now fits c.self.view_is in
     record {
       short = omega arith;
-      digits = c.low_digits-self-inside.ensures.below;
+      digits = c.low_digits.ensures.below;
       room = omega (arith, before);
       small = c.self.invariant.small;
     }
 
 pub returns-clause-bits : goal.returns-clause-bits
 returns-clause-bits g c =
-    rw (c.store_front.ensures, c.low_digits-self-inside.ensures.value, c.first_digits.ensures, c.join-joined.ensures, ← c.self.view_is)
+    rw (c.store_front.ensures, c.low_digits.ensures.value, c.first_digits.ensures, c.join-joined.ensures, ← c.self.view_is)
     (gathered-put _ c.self.inside.last c.args.value c.self.inside.waiting c.args.width c.requires.value c.self.invariant.short (omega arith))
 
 pub returns-clause-len : goal.returns-clause-len
