@@ -9,3 +9,5 @@ pub mod PairLemmas
 pub mod Counts
 pub mod SpellingLemmas
 pub mod Gaps
+pub mod LaneLemmas
+pub mod PairSums

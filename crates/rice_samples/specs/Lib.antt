@@ -4,6 +4,7 @@ pub mod Residuals
 pub mod Pairs
 pub mod Spelling
 pub mod Values
+pub mod Segments
 pub mod Settings
 pub mod Rows
 pub mod Laws
