@@ -10,3 +10,5 @@ pub mod RankLaws
 pub mod Counts
 pub mod SpellingLemmas
 pub mod Gaps
+pub mod LaneLemmas
+pub mod PairSums

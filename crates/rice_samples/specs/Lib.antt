@@ -5,5 +5,6 @@ pub mod Pairs
 pub mod Spelling
 pub mod Examples
 pub mod Values
+pub mod Segments
 pub mod Settings
 pub mod Laws
