@@ -17,7 +17,8 @@ use Rattle.rice_code.specs.DataSets.{DataSet, NoCompression, SecondExtension, Sp
 use Rattle.rice_code.specs.Forms.{IsForm, IsReference, RunIsSound, ResidualsAreSound, blocks_in, zero_blocks}
 use Rattle.rice_code.specs.ReadSets.{SetRead, SetCut}
 use Rattle.rice_code.specs.declared.options.SetHead.TheVariants.{Zeros}
-use Rattle.rice_code.specs.Decoder.{GivesSet, GoesOn, IsPlace, SetEnds, StopsBy, answer_to, next_block_place}
+use Rattle.rice_code.specs.Layout.{block_behind, padding}
+use Rattle.rice_code.specs.Decoder.{Skips, TakesSet, GivesSet, GoesOn, IsPlace, SetEnds, StopsBy, answer_to, next_block_place}
 use Rattle.rice_bits.specs.declared.fault.BitFault.{BitFault}
 use Rattle.rice_bits.specs.declared.fault.BitFault.TheVariants as bit_faults
 use Rattle.rice_samples.specs.Residuals.{last_of}
@@ -41,7 +42,7 @@ given_run : {I : Type 0} (left : I → Option (List ℕ)) (failed : I → ℕ) (
     → set ≡ d → IsForm s b set → Takes left failed old new (text s set) → last + old.taken ≡ first + new.taken + turns set
     → RunIsSound s b d → ResidualsAreSound s d → zero_blocks s r z ≡ blocks_in s b d
     → length samples ≡ s.block → All (IsSample s) samples → contents s b p samples ≡ zeros s r
-    → GivesSet left failed old new first last s b p samples (z - 1)
+    → TakesSet left failed old new first last s b p samples (z - 1)
 given_run left failed old new first last s b p r z samples set d e form takes steps run sound blocks len legal says = record {
   set = d;
   form = subst (λ x. IsForm s b x) e form;
@@ -60,7 +61,7 @@ pub run_given : {I : Type 0} (left : I → Option (List ℕ)) (failed : I → �
     → SetRead left failed old new first last s b (Zeros r zeros_read) items → z ≤ blocks_left s b → (zeros_read ≡ 4 → z ≡ blocks_left s b)
     → ((zeros_read ≡ 4 → ⊥) → (z ≡ (if nat_lt zeros_read 4 then zeros_read + 1 else zeros_read)) × (z ≤ 63))
     → length samples ≡ s.block → All (IsSample s) samples → contents s b p samples ≡ zeros s r
-    → GivesSet left failed old new first last s b p samples (z - 1)
+    → TakesSet left failed old new first last s b p samples (z - 1)
 run_given left failed old new first last s b p r m z samples items read le four other len legal says = by_zeros (m == 4) refl
   where
     is_four : (m == 4) ≡ true → m ≡ 4
@@ -69,7 +70,7 @@ run_given left failed old new first last s b p r m z samples items read le four 
     not_four : (m == 4) ≡ false → m ≡ 4 → ⊥
     not_four e f = absurd (grind (arith, nat_tests))
 
-    by_zeros : (t : Bool) → (m == 4) ≡ t → GivesSet left failed old new first last s b p samples (z - 1)
+    by_zeros : (t : Bool) → (m == 4) ≡ t → TakesSet left failed old new first last s b p samples (z - 1)
     by_zeros true e =
         let d : read.set ≡ RemainderOfSegment r = read.tells ∙ ap (λ c. cond c (RemainderOfSegment r) (ZeroBlocks r (if nat_lt m 4 then m + 1 else m))) e in
         given_run left failed old new first last s b p r z samples read.set (RemainderOfSegment r) d read.form read.takes read.steps tt tt (ap (λ n. zero_blocks s r n) (four (is_four e))) len legal says
@@ -157,7 +158,7 @@ few_blocks s b (RemainderOfSegment r) legal form run =
 
 -- the samples that are given and wait are bounded by the bits
 pub samples_by_bits : {I : Type 0} (left : I → Option (List ℕ)) (failed : I → ℕ) (old new : Reader I) (first last : ℕ) (s : Parameters) (b : ℕ) (p : ℤ) (samples : List ℤ) (run : ℕ)
-    → IsLegal s → GivesSet left failed old new first last s b p samples run → length samples + run * s.block ≤ 456 * (new.taken - old.taken)
+    → IsLegal s → TakesSet left failed old new first last s b p samples run → length samples + run * s.block ≤ 456 * (new.taken - old.taken)
 samples_by_bits left failed old new first last s b p samples run legal given =
     let n : suc (length (replicate run (zeros s None))) ≡ length (blocks_in s b given.set) = ap length given.gives.blocks_are in
     let m : length (replicate run (zeros s None)) ≡ run = length-replicate run (zeros s None) in
@@ -178,3 +179,27 @@ stops_by left failed old new s b (bit_faults.End true) h cut = ends left failed 
 stops_by left failed old new s b (bit_faults.End false) h cut = ends left failed old new s b false h cut
 stops_by left failed old new s b bit_faults.Read h cut = cut
 stops_by left failed old new s b bit_faults.TooLong h cut = cut
+
+-- a run that stays in its segment stays in its interval
+pub within_interval : (s : Parameters) (b run : ℕ) → b < s.interval → (0 < run → run + 1 ≤ blocks_left s b) → b + 1 + run ≤ s.interval
+within_interval s b zero h more = omega arith
+within_interval s b (suc run) h more =
+    let at : place s b ≡ b = mod-eq_of_lt h in
+    let few = more (omega arith) in
+    omega arith
+
+-- a coded data set that was taken, and the padding behind it
+pub set_given : {I : Type 0} (left : I → Option (List ℕ)) (failed : I → ℕ) (old middle new : Reader I) (first steps last : ℕ) (s : Parameters) (b : ℕ) (p : ℤ) (samples : List ℤ) (run : ℕ)
+    → TakesSet left failed old middle first steps s b p samples run → Skips middle new (padding s (b + 1 + run) middle.taken) → last + middle.taken ≡ steps + new.taken
+    → GivesSet left failed old new first last s b p samples run
+set_given left failed old middle new first steps last s b p samples run set skips counted =
+    let n : suc (length (replicate run (zeros s None))) ≡ length (blocks_in s b set.set) = ap length set.gives.blocks_are in
+    let m : length (replicate run (zeros s None)) ≡ run = length-replicate run (zeros s None) in
+    let behind : b + 1 + run ≡ block_behind s b set.set = omega arith in
+    record {
+      middle = middle;
+      middle_steps = steps;
+      set = set;
+      skips = subst (λ next. Skips middle new (padding s next middle.taken)) behind skips;
+      steps = counted;
+    }

@@ -52,7 +52,7 @@ pub words-stop : {I : Type 0} (left : I → Option (List ℕ)) (failed : I → �
 words-stop left failed width P old mid new done count before after bits f r s short h = (
   flat_map (word width) r.values ++ bits,
   (let e : length (flat_map (word width) r.values) ≡ done * width = length-words width r.values ∙ ap (λ n. n * width) r.len in
-  omega (arith, e, length-append (flat_map (word width) r.values) bits, few done count width (length bits) h short)),
+      omega (arith, e, length-append (flat_map (word width) r.values) bits, few done count width (length bits) h short)),
   stops-append left failed old mid new _ bits f r.takes s,
 )
 

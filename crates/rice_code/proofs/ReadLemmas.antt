@@ -188,8 +188,14 @@ split_cut_high left failed old mid new s b k r count bits f h n t short stops = 
   stops = stops-append left failed old mid new _ bits f t stops;
   none = λ c more form e.
       (let a = behind_reference s b r c.reference bits (flat_map (λ d. fundamental_sequence (d / 2 ^ k)) (coded c) ++ flat_map (word k) (coded c)) more h form.0.reference e in
-      omega (arith, ap ones a.1, ones-append (flat_map (λ d. fundamental_sequence (d / 2 ^ k)) (coded c) ++ flat_map (word k) (coded c)) more,
-      ones-append (flat_map (λ d. fundamental_sequence (d / 2 ^ k)) (coded c)) (flat_map (word k) (coded c)), ones-high k (coded c), length-coded_at s b c r count form.0 h n));
+      omega (
+        arith,
+        ap ones a.1,
+        ones-append (flat_map (λ d. fundamental_sequence (d / 2 ^ k)) (coded c) ++ flat_map (word k) (coded c)) more,
+        ones-append (flat_map (λ d. fundamental_sequence (d / 2 ^ k)) (coded c)) (flat_map (word k) (coded c)),
+        ones-high k (coded c),
+        length-coded_at s b c r count form.0 h n,
+      ));
 }
 
 after_sequences : (k : ℕ) (ms ds : List ℕ) (x y : List Bool) → length ms ≡ length ds → flat_map fundamental_sequence ms ++ x ≡ flat_map (λ d. fundamental_sequence (d / 2 ^ k)) ds ++ y → x ≡ y

@@ -1,5 +1,5 @@
 -- What a contract sees of a decoder, and what a call of it says.
-use Rattle.std.specs.Prelude.{◌≡◌, ℕ, ◌+◌, ◌<◌, ◌≤◌, ◌==◌, if◌then◌else◌, Bool, true, false, List, [], ◌∷◌, length, replicate, All, Option, Some, None, Result, Ok, Err, ℤ}
+use Rattle.std.specs.Prelude.{◌≡◌, ℕ, ◌+◌, ◌<◌, ◌≤◌, ◌==◌, if◌then◌else◌, Bool, true, false, List, [], ◌∷◌, ◌++◌, length, replicate, All, Option, Some, None, Result, Ok, Err, ℤ}
 use Rattle.rice_bits.specs.Reader.{Reader, Takes, is_blank}
 use Rattle.rice_bits.specs.declared.fault.BitFault.{BitFault}
 use Rattle.rice_bits.specs.declared.fault.BitFault.TheVariants as bit_faults
@@ -9,6 +9,7 @@ use Rattle.rice_samples.specs.Residuals.{last_of}
 use Rattle.rice_code.specs.Blocks.{Contents, contents, zeros}
 use Rattle.rice_code.specs.DataSets.{DataSet, text, turns}
 use Rattle.rice_code.specs.Forms.{IsForm, RunIsSound, ResidualsAreSound, blocks_in}
+use Rattle.rice_code.specs.Layout.{block_behind, padding}
 use Rattle.rice_code.specs.ReadSets.{SetCut}
 use Rattle.rice_code.specs.declared.fault.Step.{Step}
 use Rattle.rice_code.specs.declared.fault.Step.TheVariants.{Block, Done}
@@ -22,7 +23,7 @@ pub record GivesBlock (s : Parameters) (b : ℕ) (p : ℤ) (samples : List ℤ) 
   pub blocks_are : contents s b p samples ∷ replicate run (zeros s None) ≡ blocks
 
 -- A reader took a sound data set, and these are the samples of its first block.
-pub record GivesSet {I : Type 0} (left : I → Option (List ℕ)) (failed : I → ℕ) (old new : Reader I) (old_steps new_steps : ℕ) (s : Parameters) (b : ℕ) (p : ℤ) (samples : List ℤ) (run : ℕ) : Type 0 where
+pub record TakesSet {I : Type 0} (left : I → Option (List ℕ)) (failed : I → ℕ) (old new : Reader I) (old_steps new_steps : ℕ) (s : Parameters) (b : ℕ) (p : ℤ) (samples : List ℤ) (run : ℕ) : Type 0 where
   pub set : DataSet
   pub form : IsForm s b set
   pub run_sound : RunIsSound s b set
@@ -31,6 +32,22 @@ pub record GivesSet {I : Type 0} (left : I → Option (List ℕ)) (failed : I �
   pub gives : GivesBlock s b p samples run (blocks_in s b set)
   -- each bit and each turn of the search is a step
   pub steps : new_steps + old.taken ≡ old_steps + new.taken + turns set
+
+-- A reader skipped so many bits, whatever they are.
+pub record Skips {I : Type 0} (old new : Reader I) (count : ℕ) : Type 0 where
+  pub bits : List Bool
+  pub len : length bits ≡ count
+  pub split : old.waiting ≡ bits ++ new.waiting
+  pub same : new ≡ record old { waiting = new.waiting; taken = old.taken + count }
+
+-- A reader took a sound data set and the padding behind it, and these are the samples of its first block.
+pub record GivesSet {I : Type 0} (left : I → Option (List ℕ)) (failed : I → ℕ) (old new : Reader I) (old_steps new_steps : ℕ) (s : Parameters) (b : ℕ) (p : ℤ) (samples : List ℤ) (run : ℕ) : Type 0 where
+  pub middle : Reader I
+  pub middle_steps : ℕ
+  pub set : TakesSet left failed old middle old_steps middle_steps s b p samples run
+  pub skips : Skips middle new (padding s (block_behind s b set.set) middle.taken)
+  -- each bit that is skipped is a step
+  pub steps : new_steps + middle.taken ≡ middle_steps + new.taken
 
 -- A reader took a data set that is not sound.
 pub record SetRefused {I : Type 0} (left : I → Option (List ℕ)) (failed : I → ℕ) (old new : Reader I) (s : Parameters) (b : ℕ) (P : DataSet → Type 0) : Type 0 where

@@ -6,12 +6,13 @@ ghost use Rattle.rice_samples.specs.Residuals.{last_of};
 ghost use Rattle.rice_code.specs.Blocks.{Contents, contents, zeros};
 ghost use Rattle.rice_code.specs.Forms.{IsReference};
 ghost use Rattle.rice_code.specs.Fields.{HasRoom, AreCounted};
-ghost use Rattle.rice_code.specs.Decoder.{GivesSet, StopsBy, answer_to, next_block_place};
+ghost use Rattle.rice_code.specs.Decoder.{TakesSet, StopsBy, Skips, answer_to, next_block_place};
+ghost use Rattle.rice_code.specs.Layout.{padding};
 
-use crate::restoring::restore_block;
-use crate::fault::{CodeFault, Step};
 use crate::data_set::read_set;
+use crate::fault::{CodeFault, Step};
 use crate::options::SetHead;
+use crate::restoring::restore_block;
 use arrayvec::ArrayVec;
 use rice_bits::{BitFault, BitReader, Intake, Meter};
 use rice_samples::Setting;
@@ -81,7 +82,7 @@ fn decode_set<I: Intake>(
     requires room { HasRoom meter.old reader.old.taken }
     requires p { IsSample setting.now p }
     requires marked { reader.old.blank ≡ true }
-    ensures ok { IfOk result (λ r. GivesSet I.left I.failed reader.old reader.new meter.old meter.new setting.now block p samples.new.items r.1) }
+    ensures ok { IfOk result (λ r. TakesSet I.left I.failed reader.old reader.new meter.old meter.new setting.now block p samples.new.items r.1) }
     ensures last { IfOk result (λ r. (r.0 ≡ last_of p samples.new.items) × IsSample setting.now r.0 × (0 < r.1 → r.1 + 1 ≤ blocks_left setting.now block)) }
     ensures err { IfErr result (StopsBy I.left I.failed reader.old reader.new setting.now block) }
     ensures empty { OnErr result (samples.new.items ≡ []) }
@@ -118,6 +119,25 @@ fn next_place(setting: &Setting, block: u64) -> u64
     let interval = setting.interval() as u64;
     let next = block + 1;
     if next == interval { 0 } else { next }
+}
+
+/// Skips what fills the byte before block `next` of the interval, if that is where the next one begins and intervals are padded.
+fn skip_padding<I: Intake>(
+    setting: &Setting,
+    next: u64,
+    reader: &mut BitReader<I>,
+    meter: &mut Meter,
+)
+    requires some { 0 < next }
+    requires within { next ≤ setting.now.interval }
+    requires meter { meter.old + 7 < 2 ^ 62 }
+    ensures skips { Skips reader.old reader.new (padding setting.now next reader.old.taken) }
+    ensures steps { meter.new + reader.old.taken ≡ meter.old + reader.new.taken }
+    ensures few { reader.new.taken ≡ reader.old.taken + padding setting.now next reader.old.taken }
+{
+    if setting.pads() && next == setting.interval() as u64 {
+        reader.align(meter);
+    }
 }
 
 /// Decodes a code, a block a call. Clauses see its place: the block that comes next, the sample before it, and how much of a run is still to come.
@@ -208,6 +228,7 @@ impl Decoder {
             samples,
         ) {
             Ok((last, run)) => {
+                skip_padding(&self.setting, self.block + 1 + run as u64, reader, meter);
                 self.run = run;
                 self.before = last;
                 self.block = next_place(&self.setting, self.block);

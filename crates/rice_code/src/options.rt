@@ -9,8 +9,8 @@ ghost use Rattle.rice_code.specs.Forms.{IsReference};
 ghost use Rattle.rice_code.specs.Fields.{HasRoom, AreCounted};
 ghost use Rattle.rice_code.specs.ReadSets.{BlockRead, BlockCut, reference_place, coded_count};
 
-use crate::residuals::{are_sound, join_all, values};
 use crate::fields::{read_counts, read_pairs, read_words};
+use crate::residuals::{are_sound, join_all, values};
 use arrayvec::ArrayVec;
 use rice_bits::{BitFault, BitReader, Intake, Meter};
 use rice_samples::Setting;
@@ -18,14 +18,8 @@ use rice_samples::Setting;
 /// What was read of a data set, besides residuals.
 #[derive(Clone, Copy)]
 pub enum SetHead {
-    Residuals {
-        reference: Option<u32>,
-        sound: bool,
-    },
-    Zeros {
-        reference: Option<u32>,
-        zeros: u64,
-    },
+    Residuals { reference: Option<u32>, sound: bool },
+    Zeros { reference: Option<u32>, zeros: u64 },
 }
 
 /// What was read of a block besides its residuals.
@@ -75,7 +69,11 @@ pub fn count_coded(setting: &Setting, reference: Option<u32>) -> usize
     ensures limit { result + length (reference_place reference) ≤ 64 }
 {
     let block = setting.block() as usize;
-    if reference.is_some() { block - 1 } else { block }
+    if reference.is_some() {
+        block - 1
+    } else {
+        block
+    }
 }
 
 /// Reads a run's reference and the number of its codeword.
