@@ -1,6 +1,6 @@
 -- What a decoder gives.
 use Rattle.std.proofs.Common.{◌≡◌, ℕ, zero, suc, ◌+◌, ◌-◌, ◌*◌, ◌/◌, ◌^◌, ◌<◌, ◌≤◌, ◌==◌, Bool, true, false, cond, List, ◌∷◌, ◌++◌, length, take, get_or, replicate, refl, sym, ◌∙◌, ap, subst, arith, Option, None, ℤ, inl, inr, length-append}
-use Rattle.std.specs.Prelude.{All, nat_lt, if◌then◌else◌, ◌&&◌, Result}
+use Rattle.std.specs.Prelude.{◌≢◌, All, nat_lt, if◌then◌else◌, ◌&&◌, Some, Result, Ok}
 use Rattle.std.proofs.lemmas.Bool.Decides.{nat_tests}
 use Rattle.std.proofs.Math.Nat.{mod-eq_of_lt}
 use Rattle.std.proofs.Math.Nat.{mul-le-mul_left}
@@ -23,6 +23,7 @@ use Rattle.rice_bits.specs.declared.fault.BitFault.{BitFault}
 use Rattle.rice_bits.specs.declared.fault.BitFault.TheVariants as bit_faults
 use Rattle.rice_samples.specs.Residuals.{last_of}
 use Rattle.rice_code.specs.declared.fault.Step.{Step}
+use Rattle.rice_code.specs.declared.fault.Step.TheVariants.{Block}
 use Rattle.rice_code.specs.declared.fault.CodeFault.{CodeFault}
 
 with_zero : (n : ℕ) (xs : List ℕ) → 0 < n → All (λ d. d < n) xs → All (λ d. d < n) (0 ∷ xs)
@@ -109,13 +110,14 @@ run_goes_on s b run legal h pos le = by_begin (begins_segment s (b + 1)) refl
         let same : next_block_place s b ≡ b + 1 = grind (arith, nat_tests) in
         (ap (λ n. begins_segment s n) same ∙ e, rw same (omega arith))
 
-pub place_moves : (s : Parameters) (b next run : ℕ) (last : ℤ) → IsLegal s → b < s.interval → next ≡ next_block_place s b → IsSample s last → (0 < run → run + 1 ≤ blocks_left s b) → IsPlace s next last run
-place_moves s b next run last legal h e sample more = record {
+pub place_moves : (s : Parameters) (b next run : ℕ) (last : ℤ) (stopped : Option (Result Step CodeFault)) → IsLegal s → b < s.interval → next ≡ next_block_place s b → IsSample s last → (0 < run → run + 1 ≤ blocks_left s b) → stopped ≢ Some (Ok Block) → IsPlace s next last run stopped
+place_moves s b next run last stopped legal h e sample more no_block = record {
   legal = legal;
   within = subst (λ n. n < s.interval) (sym e) (next_within s b h);
   sample = sample;
   run_begun = λ pos. ap (λ n. begins_segment s n) e ∙ (run_goes_on s b run legal h pos (more pos)).0;
   run_fits = λ pos. subst (λ n. run ≤ blocks_left s n) (sym e) (run_goes_on s b run legal h pos (more pos)).1;
+  no_block = no_block;
 }
 
 replicate-first : (run : ℕ) (z : Contents) → 0 < run → z ∷ replicate (run - 1) z ≡ replicate run z

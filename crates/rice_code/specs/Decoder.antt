@@ -1,5 +1,5 @@
 -- What a contract sees of a decoder, and what a call of it says.
-use Rattle.std.specs.Prelude.{◌≡◌, ℕ, ◌+◌, ◌<◌, ◌≤◌, ◌==◌, if◌then◌else◌, Bool, true, false, List, [], ◌∷◌, ◌++◌, length, replicate, All, Option, Some, None, Result, Ok, Err, ℤ}
+use Rattle.std.specs.Prelude.{◌≡◌, ◌≢◌, ℕ, ◌+◌, ◌<◌, ◌≤◌, ◌==◌, if◌then◌else◌, Bool, true, false, List, [], ◌∷◌, ◌++◌, length, replicate, All, Option, Some, None, Result, Ok, Err, ℤ}
 use Rattle.rice_bits.specs.Reader.{Reader, Takes, is_blank}
 use Rattle.rice_bits.specs.declared.fault.BitFault.{BitFault}
 use Rattle.rice_bits.specs.declared.fault.BitFault.TheVariants as bit_faults
@@ -86,12 +86,13 @@ pub record Place : Type 0 where
   pub stopped : Option (Result Step CodeFault)
 
 -- what is so of each decoder's fields
-pub record IsPlace (s : Parameters) (block : ℕ) (before : ℤ) (run : ℕ) : Type 0 where
+pub record IsPlace (s : Parameters) (block : ℕ) (before : ℤ) (run : ℕ) (stopped : Option (Result Step CodeFault)) : Type 0 where
   pub legal : IsLegal s
   pub within : block < s.interval
   pub sample : IsSample s before
   pub run_begun : 0 < run → begins_segment s block ≡ false
   pub run_fits : 0 < run → run ≤ blocks_left s block
+  pub no_block : stopped ≢ Some (Ok Block)
 
 -- the place of the next block
 abbrev pub next_block_place : Parameters → ℕ → ℕ

@@ -100,9 +100,9 @@ fn decode_set<I: Intake>(
         }
         Ok(SetHead::Zeros { reference, zeros }) => {
             match run_blocks(zeros, setting.blocks_left(block)) {
-                Some(blocks) => {
+                Some(count) => {
                     let last = restore_zeros(setting, block, p, reference, samples);
-                    Ok((last, blocks - 1))
+                    Ok((last, count - 1))
                 }
                 None => Err(Err(CodeFault::RunPastSegment)),
             }
@@ -157,7 +157,7 @@ impl Model for Decoder {
 
     ghost view = { λ d. record { setting = d.setting; block = d.block; before = d.before; run = d.run; stopped = d.stopped } };
 
-    ghost invariant = { λ d. IsPlace d.setting d.block d.before d.run };
+    ghost invariant = { λ d. IsPlace d.setting d.block d.before d.run d.stopped };
 }
 
 impl Decoder {
@@ -201,6 +201,10 @@ impl Decoder {
             (result ≡ Ok Block) × GoesOn self.old self.new samples.new.items × (reader.new ≡ reader.old) × (meter.new ≡ meter.old) }
         ensures reads { self.old.stopped ≡ None → self.old.run ≡ 0 →
             Answers I.left I.failed (marked reader.old) reader.new meter.old meter.new self.old self.new samples.new.items result }
+        // Only a decoder that has stopped may not be called again with this reader.
+        ensures going { self.new.stopped ≡ None → reader.new.refusal ≡ None }
+        ensures block { result ≡ Ok Block → self.new.stopped ≡ None }
+        ensures setting { self.new.setting ≡ self.old.setting }
         // Steps are at least the bits taken, and at most twice as many.
         ensures steps { AreCounted meter.old meter.new reader.old.taken reader.new.taken }
         // The samples that are given and those that then wait are bounded by the bits.

@@ -15,3 +15,6 @@ mod restoring;
 
 pub use decoder::Decoder;
 pub use fault::{CodeFault, Step};
+
+#[cfg(test)]
+mod decoder_tests;
