@@ -211,7 +211,7 @@ impl<I: Intake> BitReader<I> {
     }
 
     /// Refills the word, and takes the next `width` bits.
-    #[inline(never)]
+    #[inline]
     fn take_refilled(&mut self, width: u32, meter: &mut Meter) -> Result<u32, BitFault>
         requires width { width ≤ 32 }
         requires meter { meter.old + width < 2 ^ 62 }
@@ -326,7 +326,7 @@ impl<I: Intake> BitReader<I> {
     }
 
     /// Refills the word where no 1 is left in it, and takes a fundamental sequence.
-    #[inline(never)]
+    #[inline]
     fn take_fs_refilled(&mut self, meter: &mut Meter) -> Result<u64, BitFault>
         requires meter { meter.old + (2 ^ 52 - self.old.taken) < 2 ^ 62 }
         ensures ok { IfOk result (λ m. Takes I.left I.failed self.old self.new (fundamental_sequence m)) }
@@ -364,8 +364,8 @@ impl<I: Intake> BitReader<I> {
         ensures idle { is_blank self.old.waiting ≡ false → self.new.intake ≡ self.old.intake }
         ensures steps { meter.new + self.old.taken ≡ meter.old + self.new.taken }
     {
-        if let Some(fault) = self.refusal {
-            return Err(fault);
+        if let Some(refusal) = self.refusal {
+            return Err(refusal);
         }
         let mut zeros = 0;
         loop {
@@ -388,9 +388,9 @@ impl<I: Intake> BitReader<I> {
         ensures steps { meter.new + self.old.taken ≡ meter.old + self.new.taken }
         ensures limit { self.new.taken ≤ 2 ^ 52 }
     {
-        if let Err(fault) = supply(&mut self.intake, &mut self.window, self.taken, self.blank) {
-            self.refusal = Some(fault);
-            return Err(fault);
+        if let Err(refusal) = supply(&mut self.intake, &mut self.window, self.taken, self.blank) {
+            self.refusal = Some(refusal);
+            return Err(refusal);
         }
         if self.window.digits > 0 {
             let zeros = self.window.take_run() as u64;
