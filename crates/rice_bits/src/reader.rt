@@ -14,7 +14,12 @@ use std::marker::Model;
 /// The most bytes that a reader takes from its intake.
 const LIMIT: u64 = 1 << 49;
 
-/// Reads the bits of the bytes that an intake gives. Clauses see the bits that wait, how many were taken, and the intake.
+/// Reads the bits of the bytes that an intake gives, most significant first. Clauses see the bits that were given and wait, how many
+/// were taken, whether all since the mark were 0, what was refused, and the intake.
+///
+/// The intake is called only when a bit is asked for and none waits: for at most 4,096 bytes, never past 2^49 bytes in all, and
+/// after 2^49 bytes once for one byte (own rule). A call that is refused has taken all bits that were left, and each later `take` or
+/// `take_fs` answers the same refusal and takes nothing.
 #[derive(Drop)]
 pub struct BitReader<I: Intake> {
     intake: I,
@@ -113,7 +118,7 @@ fn supply<I: Intake>(
 impl<I: Intake> BitReader<I> {
     ghost use Rattle.rice_bits.specs.Reader.{Takes, Stops, is_blank};
 
-    /// A reader that has taken no bit, as just after `mark`.
+    /// A reader that has taken no bit, and is as just after [`mark`](Self::mark).
     pub fn new(intake: I) -> Self
         requires { I.failed intake + 1 < 2 ^ 64 }
         ensures { result ≡ record { waiting = []; taken = 0; blank = true; refusal = None; intake = intake } }
@@ -127,7 +132,7 @@ impl<I: Intake> BitReader<I> {
         }
     }
 
-    /// The intake, as the last call of its `fill` left it.
+    /// The intake, as the last call of its `fill` left it. Bits that wait are lost.
     pub fn into_inner(self) -> I
         ensures { result ≡ self.intake }
     {
@@ -141,7 +146,8 @@ impl<I: Intake> BitReader<I> {
         intake
     }
 
-    /// How many bits were taken.
+    /// How many bits were taken, at most 2^52.
+    #[inline]
     pub fn taken(&self) -> u64
         ensures value { result ≡ self.now.taken }
         ensures limit { result + length self.now.waiting ≤ 2 ^ 52 }
@@ -153,6 +159,7 @@ impl<I: Intake> BitReader<I> {
     }
 
     /// From here on no 1 has been taken. After a refusal it changes nothing.
+    #[inline]
     pub fn mark(&mut self)
         ensures going { self.old.refusal ≡ None → self.new ≡ record self.old { blank = true } }
         ensures stopped { IsSome self.old.refusal → self.new ≡ self.old }
@@ -405,7 +412,8 @@ impl<I: Intake> BitReader<I> {
         Ok((zeros, false))
     }
 
-    /// Takes the bits up to the next whole byte, whatever they are.
+    /// Takes the 0 to 7 bits up to the next multiple of 8 of [`taken`](Self::taken), whatever they are, and ticks one for each. These
+    /// are always there, and do not count towards `blank`.
     pub fn align(&mut self, meter: &mut Meter)
         requires meter { meter.old + bits_to_byte self.old.taken < 2 ^ 62 }
         ensures bits { (bits : List Bool) × (length bits ≡ bits_to_byte self.old.taken) × (self.old.waiting ≡ bits ++ self.new.waiting) }
