@@ -1,16 +1,11 @@
 -- Bits without a 1.
-use Rattle.std.proofs.Common.{◌≡◌, ℕ, zero, suc, ◌+◌, ◌-◌, ◌*◌, ◌/◌, ◌%◌, ◌^◌, ◌<◌, ◌≤◌, Bool, true, false, List, [], ◌∷◌, ◌++◌, length, take, drop, get_or, replicate, refl, sym, ◌∙◌, ap, subst, arith, rules, append_assoc, length-append, Option, Some, None}
-use Rattle.std.specs.Prelude.{slice_range, ◌&&◌, ◌==◌, IsSome}
-use Rattle.std.specs.Io.KnownBytes.{Consumes, Keeps}
-use Rattle.std.proofs.lemmas.List.{append-nil, length-take, length-drop, take-append-le, length-take-le, replicate-append-replicate, length-replicate}
+use Rattle.std.proofs.Common.{◌≡◌, ℕ, zero, suc, ◌^◌, ◌<◌, Bool, true, false, List, [], ◌∷◌, ◌++◌, length, replicate, refl, sym, ◌∙◌, ap, arith}
+use Rattle.std.specs.Prelude.{◌&&◌, ◌==◌}
+use Rattle.std.proofs.lemmas.List.{append-nil}
 use Rattle.std.proofs.lemmas.Bool.Decides.{nat_tests}
-use Rattle.rice_bits.specs.Bits.{word, bits_of, number_of, fundamental_sequence}
-use Rattle.rice_bits.specs.declared.fault.BitFault.{BitFault}
-use Rattle.rice_bits.specs.Window.{IsWindow, window_bits}
-use Rattle.rice_bits.specs.Reader.{Draws, Takes, Stops, Refuses, Reader, IsReader, is_blank}
-use Rattle.rice_bits.specs.declared.window.Window.{Window}
-use Rattle.rice_bits.proofs.Bytes.{bits_of-nil, bits_of-append, length-bits_of}
-use Rattle.rice_bits.proofs.Words.{word-nil, length-word, word-zero, number_of-word}
+use Rattle.rice_bits.specs.Bits.{word, number_of, fundamental_sequence}
+use Rattle.rice_bits.specs.Reader.{is_blank}
+use Rattle.rice_bits.proofs.Words.{word-zero, number_of-word}
 
 pub blank-append : (xs ys : List Bool) → is_blank (xs ++ ys) ≡ (is_blank xs && is_blank ys)
 blank-append [] ys = refl

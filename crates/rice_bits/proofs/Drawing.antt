@@ -1,16 +1,10 @@
 -- Bytes that are drawn from an intake, and the bits taken of them.
-use Rattle.std.proofs.Common.{◌≡◌, ℕ, zero, suc, ◌+◌, ◌-◌, ◌*◌, ◌/◌, ◌%◌, ◌^◌, ◌<◌, ◌≤◌, Bool, true, false, List, [], ◌∷◌, ◌++◌, length, take, drop, get_or, replicate, refl, sym, ◌∙◌, ap, subst, arith, rules, append_assoc, length-append, Option, Some, None}
-use Rattle.std.specs.Prelude.{slice_range, ◌&&◌, ◌==◌, IsSome}
+use Rattle.std.proofs.Common.{◌≡◌, ℕ, ◌≤◌, Bool, List, [], ◌∷◌, ◌++◌, length, take, get_or, refl, sym, ◌∙◌, ap, subst, arith, append_assoc, Option, Some, None}
 use Rattle.std.specs.Io.KnownBytes.{Consumes, Keeps}
-use Rattle.std.proofs.lemmas.List.{append-nil, length-take, length-drop, take-append-le, length-take-le, replicate-append-replicate, length-replicate}
-use Rattle.std.proofs.lemmas.Bool.Decides.{nat_tests}
-use Rattle.rice_bits.specs.Bits.{word, bits_of, number_of, fundamental_sequence}
-use Rattle.rice_bits.specs.declared.fault.BitFault.{BitFault}
-use Rattle.rice_bits.specs.Window.{IsWindow, window_bits}
-use Rattle.rice_bits.specs.Reader.{Draws, Takes, Stops, Refuses, Reader, IsReader, is_blank}
-use Rattle.rice_bits.specs.declared.window.Window.{Window}
-use Rattle.rice_bits.proofs.Bytes.{bits_of-nil, bits_of-append, length-bits_of}
-use Rattle.rice_bits.proofs.Words.{word-nil, length-word, word-zero, number_of-word}
+use Rattle.std.proofs.lemmas.List.{append-nil}
+use Rattle.rice_bits.specs.Bits.{bits_of}
+use Rattle.rice_bits.specs.Reader.{Draws}
+use Rattle.rice_bits.proofs.Bytes.{bits_of-nil, bits_of-append}
 
 -- nothing is drawn where the known bytes stay
 pub consumes-none : (old new : Option (List ℕ)) → Keeps old new → Consumes old new []

@@ -1,9 +1,9 @@
 -- Whole bytes, and the digits that wait for more.
-use Rattle.std.proofs.Common.{◌≡◌, ℕ, zero, suc, ◌+◌, ◌-◌, ◌*◌, ◌/◌, ◌%◌, ◌^◌, ◌<◌, ◌≤◌, Bool, true, false, List, [], ◌∷◌, ◌++◌, length, drop, take, replicate, refl, sym, ◌∙◌, ap, subst, arith, append_assoc, length-append, get_or}
+use Rattle.std.proofs.Common.{◌≡◌, ℕ, ◌+◌, ◌-◌, ◌*◌, ◌/◌, ◌%◌, ◌^◌, ◌<◌, ◌≤◌, Bool, true, false, List, [], ◌∷◌, ◌++◌, length, drop, take, replicate, sym, ◌∙◌, ap, arith, append_assoc, length-append, get_or}
 use Rattle.std.specs.Int.{to_be_bytes, w64}
 use Rattle.std.proofs.lemmas.List.{append-nil, replicate-append-replicate, length-take-le}
-use Rattle.rice_bits.specs.Bits.{IsGathered, bits_in_bytes, bits_to_byte, word, bits_of, whole_bytes, fundamental_sequence}
-use Rattle.rice_bits.proofs.Words.{length-word, word-nil, word-cat, word-zero, word-split, word-fs}
+use Rattle.rice_bits.specs.Bits.{IsGathered, bits_in_bytes, word, bits_of, whole_bytes, fundamental_sequence}
+use Rattle.rice_bits.proofs.Words.{length-word, word-nil, word-cat, word-split, word-fs}
 use Rattle.rice_bits.proofs.Bytes.{bits_of-nil, bits_of-append, bits_of-zeros, length-bits_of, whole-bits, rest-bits}
 use Rattle.rice_bits.proofs.EightBytes.{word-mod, front-moved}
 

@@ -1,17 +1,13 @@
 -- What a reader of bits takes, and where it stops.
-use Rattle.std.proofs.Common.{◌≡◌, ℕ, zero, suc, ◌+◌, ◌-◌, ◌*◌, ◌/◌, ◌%◌, ◌^◌, ◌<◌, ◌≤◌, Bool, true, false, List, [], ◌∷◌, ◌++◌, length, take, drop, get_or, replicate, refl, sym, ◌∙◌, ap, subst, arith, rules, append_assoc, length-append, Option, Some, None}
-use Rattle.std.specs.Prelude.{slice_range, ◌&&◌, ◌==◌, IsSome}
-use Rattle.std.specs.Io.KnownBytes.{Consumes, Keeps}
-use Rattle.std.proofs.lemmas.List.{append-nil, length-take, length-drop, take-append-le, length-take-le, replicate-append-replicate, length-replicate}
-use Rattle.std.proofs.lemmas.Bool.Decides.{nat_tests}
-use Rattle.rice_bits.specs.Bits.{word, bits_of, number_of, fundamental_sequence}
+use Rattle.std.proofs.Common.{◌≡◌, ℕ, ◌+◌, ◌%◌, ◌^◌, ◌<◌, ◌≤◌, Bool, true, false, List, [], ◌∷◌, ◌++◌, length, replicate, refl, sym, ◌∙◌, ap, subst, arith, rules, append_assoc, length-append, Option, Some, None}
+use Rattle.std.specs.Prelude.{◌&&◌, IsSome}
+use Rattle.std.proofs.lemmas.List.{replicate-append-replicate}
+use Rattle.rice_bits.specs.Bits.{bits_of, fundamental_sequence}
 use Rattle.rice_bits.specs.declared.fault.BitFault.{BitFault}
 use Rattle.rice_bits.specs.Window.{IsWindow, window_bits}
 use Rattle.rice_bits.specs.Reader.{Draws, Takes, Stops, Refuses, Reader, IsReader, is_blank}
 use Rattle.rice_bits.specs.declared.window.Window.{Window}
-use Rattle.rice_bits.proofs.Bytes.{bits_of-nil, bits_of-append, length-bits_of}
-use Rattle.rice_bits.proofs.Words.{word-nil, length-word, word-zero, number_of-word}
-use Rattle.rice_bits.proofs.Blank.{blank-zeros, blank-fs, and-true, and-false, blank_joined, one_behind_zeros}
+use Rattle.rice_bits.proofs.Blank.{and-true, blank_joined, one_behind_zeros}
 use Rattle.rice_bits.proofs.Drawing.{draws-append, draws-same, draws-take}
 use Rattle.rice_bits.proofs.WindowLemmas.{length-window}
 

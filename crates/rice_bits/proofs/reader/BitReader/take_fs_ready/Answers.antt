@@ -1,4 +1,4 @@
-use Rattle.std.proofs.Common.{◌≡◌, ◌+◌, ◌%◌, ◌^◌, ◌++◌, ◌≤◌, arith, ap, sym, ◌∙◌, refl, None, length, length-append}
+use Rattle.std.proofs.Common.{◌≡◌, ◌+◌, ◌%◌, ◌^◌, ◌++◌, ◌≤◌, arith, ap, sym, ◌∙◌, refl, None, length}
 use Rattle.std.specs.Prelude.{◌&&◌}
 use Rattle.rice_bits.specs.Bits.{fundamental_sequence}
 use Rattle.rice_bits.specs.Window.{window_bits}

@@ -1,4 +1,4 @@
-use Rattle.std.proofs.Common.{◌≡◌, ◌+◌, ◌%◌, ◌^◌, ◌++◌, ◌≤◌, arith, ap, sym, ◌∙◌, refl, None, [], length, length-append}
+use Rattle.std.proofs.Common.{◌≡◌, ◌+◌, ◌%◌, ◌^◌, ◌++◌, ◌≤◌, arith, ap, sym, ◌∙◌, refl, None, length, length-append}
 use Rattle.std.specs.Prelude.{◌&&◌}
 use Rattle.rice_bits.specs.Bits.{word}
 use Rattle.rice_bits.specs.Window.{window_bits}

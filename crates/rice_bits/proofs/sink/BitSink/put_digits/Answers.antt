@@ -1,4 +1,4 @@
-use Rattle.std.proofs.Common.{◌≡◌, ◌+◌, ◌/◌, ◌%◌, ◌≤◌, ◌++◌, ap, arith, length, take, ◌∙◌, sym}
+use Rattle.std.proofs.Common.{◌≡◌, ◌+◌, ◌/◌, ◌%◌, ◌≤◌, ap, arith, length, take, ◌∙◌}
 use Rattle.rice_bits.proofs.Gathering.{gathered-put, length_viewed, length-gathered}
 use Rattle.rice_bits.proofs.Words.{shift_fits}
 use Rattle.rice_bits.proofs.sink.BitSink.put_digits.Goals as goal

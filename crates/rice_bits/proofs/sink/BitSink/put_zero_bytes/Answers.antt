@@ -1,4 +1,4 @@
-use Rattle.std.proofs.Common.{◌≡◌, ◌+◌, ◌*◌, ◌/◌, ◌%◌, ◌≤◌, ◌∙◌, ap, arith, length, take}
+use Rattle.std.proofs.Common.{◌≡◌, ◌+◌, ◌*◌, ◌/◌, ◌%◌, ◌∙◌, ap, arith, length, take}
 use Rattle.rice_bits.proofs.Gathering.{gathered-zero_bytes, length_viewed}
 use Rattle.rice_bits.proofs.sink.BitSink.put_zero_bytes.Goals as goal
 
