@@ -1,12 +1,12 @@
 -- Eight bytes, and the digits of the number that they spell.
-use Rattle.std.proofs.Common.{◌≡◌, ℕ, zero, suc, ◌+◌, ◌-◌, ◌*◌, ◌/◌, ◌%◌, ◌^◌, ◌<◌, ◌≤◌, Bool, List, [], ◌∷◌, ◌++◌, length, drop, take, refl, sym, ◌∙◌, ap, arith, append_assoc, length-append}
+use Rattle.std.proofs.Common.{◌≡◌, ℕ, zero, suc, ◌+◌, ◌-◌, ◌*◌, ◌/◌, ◌%◌, ◌^◌, ◌≤◌, List, ◌++◌, length, drop, take, refl, sym, ◌∙◌, ap, arith, append_assoc}
 use Rattle.std.specs.Int.{to_be_bytes, byte_at, bytes_high_first, w64}
 use Rattle.std.proofs.lemmas.Nat.{pow_pos, shr_split, pow-add}
 use Rattle.std.proofs.lemmas.List.{take-append-drop, length-take-le}
 use Rattle.std.proofs.Math.Nat.{pow-suc}
 use Rattle.rice_bits.specs.Bits.{word, bits_of}
 use Rattle.rice_bits.proofs.Words.{length-word, word-nil, word-low, word-cat, word-split}
-use Rattle.rice_bits.proofs.Bytes.{bits_of-nil, bits_of-append, length-bits_of}
+use Rattle.rice_bits.proofs.Bytes.{bits_of-append, length-bits_of}
 use Rattle.rice_bits.proofs.OneWay.{bits_read}
 
 -- the lowest digits are those of the low part

@@ -4,5 +4,7 @@ pub mod Bytes
 pub mod EightBytes
 pub mod Gathering
 pub mod Pieces
+pub mod Drawing
+pub mod Blank
 pub mod ReaderLemmas
 pub mod WindowLemmas

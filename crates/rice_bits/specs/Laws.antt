@@ -1,5 +1,5 @@
 -- What holds of bits, numbers and bytes alone.
-use Rattle.std.specs.Prelude.{◌≡◌, ℕ, ◌*◌, ◌^◌, ◌<◌, ◌≤◌, All, Bool, List, ◌++◌, length, drop}
+use Rattle.std.specs.Prelude.{◌≡◌, ℕ, ◌^◌, ◌<◌, All, Bool, List, ◌++◌, length, drop}
 use Rattle.rice_bits.specs.Bits.{fundamental_sequence, word, number_of, bits_of, whole_bytes, bits_in_bytes}
 
 -- The whole bytes of bits, and the bits behind them, are the bits again.

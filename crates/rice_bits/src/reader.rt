@@ -14,7 +14,12 @@ use std::marker::Model;
 /// The most bytes that a reader takes from its intake.
 const LIMIT: u64 = 1 << 49;
 
-/// Reads the bits of the bytes that an intake gives. Clauses see the bits that wait, how many were taken, and the intake.
+/// Reads the bits of the bytes that an intake gives, most significant first. Clauses see the bits that were given and wait, how many
+/// were taken, whether all since the mark were 0, what was refused, and the intake.
+///
+/// The intake is called only when a bit is asked for and none waits: for at most 4,096 bytes, never past 2^49 bytes in all, and
+/// after 2^49 bytes once for one byte (own rule). A call that is refused has taken all bits that were left, and each later `take` or
+/// `take_fs` answers the same refusal and takes nothing.
 #[derive(Drop)]
 pub struct BitReader<I: Intake> {
     intake: I,
@@ -113,7 +118,7 @@ fn supply<I: Intake>(
 impl<I: Intake> BitReader<I> {
     ghost use Rattle.rice_bits.specs.Reader.{Takes, Stops, is_blank};
 
-    /// A reader that has taken no bit, as just after `mark`.
+    /// A reader that has taken no bit, and is as just after [`mark`](Self::mark).
     pub fn new(intake: I) -> Self
         requires { I.failed intake + 1 < 2 ^ 64 }
         ensures { result ≡ record { waiting = []; taken = 0; blank = true; refusal = None; intake = intake } }
@@ -127,7 +132,7 @@ impl<I: Intake> BitReader<I> {
         }
     }
 
-    /// The intake, as the last call of its `fill` left it.
+    /// The intake, as the last call of its `fill` left it. Bits that wait are lost.
     pub fn into_inner(self) -> I
         ensures { result ≡ self.intake }
     {
@@ -141,7 +146,8 @@ impl<I: Intake> BitReader<I> {
         intake
     }
 
-    /// How many bits were taken.
+    /// How many bits were taken, at most 2^52.
+    #[inline]
     pub fn taken(&self) -> u64
         ensures value { result ≡ self.now.taken }
         ensures limit { result + length self.now.waiting ≤ 2 ^ 52 }
@@ -153,6 +159,7 @@ impl<I: Intake> BitReader<I> {
     }
 
     /// From here on no 1 has been taken. After a refusal it changes nothing.
+    #[inline]
     pub fn mark(&mut self)
         ensures going { self.old.refusal ≡ None → self.new ≡ record self.old { blank = true } }
         ensures stopped { IsSome self.old.refusal → self.new ≡ self.old }
@@ -211,7 +218,7 @@ impl<I: Intake> BitReader<I> {
     }
 
     /// Refills the word, and takes the next `width` bits.
-    #[inline(never)]
+    #[inline]
     fn take_refilled(&mut self, width: u32, meter: &mut Meter) -> Result<u32, BitFault>
         requires width { width ≤ 32 }
         requires meter { meter.old + width < 2 ^ 62 }
@@ -326,7 +333,7 @@ impl<I: Intake> BitReader<I> {
     }
 
     /// Refills the word where no 1 is left in it, and takes a fundamental sequence.
-    #[inline(never)]
+    #[inline]
     fn take_fs_refilled(&mut self, meter: &mut Meter) -> Result<u64, BitFault>
         requires meter { meter.old + (2 ^ 52 - self.old.taken) < 2 ^ 62 }
         ensures ok { IfOk result (λ m. Takes I.left I.failed self.old self.new (fundamental_sequence m)) }
@@ -364,8 +371,8 @@ impl<I: Intake> BitReader<I> {
         ensures idle { is_blank self.old.waiting ≡ false → self.new.intake ≡ self.old.intake }
         ensures steps { meter.new + self.old.taken ≡ meter.old + self.new.taken }
     {
-        if let Some(fault) = self.refusal {
-            return Err(fault);
+        if let Some(refusal) = self.refusal {
+            return Err(refusal);
         }
         let mut zeros = 0;
         loop {
@@ -388,9 +395,9 @@ impl<I: Intake> BitReader<I> {
         ensures steps { meter.new + self.old.taken ≡ meter.old + self.new.taken }
         ensures limit { self.new.taken ≤ 2 ^ 52 }
     {
-        if let Err(fault) = supply(&mut self.intake, &mut self.window, self.taken, self.blank) {
-            self.refusal = Some(fault);
-            return Err(fault);
+        if let Err(refusal) = supply(&mut self.intake, &mut self.window, self.taken, self.blank) {
+            self.refusal = Some(refusal);
+            return Err(refusal);
         }
         if self.window.digits > 0 {
             let zeros = self.window.take_run() as u64;
@@ -405,7 +412,8 @@ impl<I: Intake> BitReader<I> {
         Ok((zeros, false))
     }
 
-    /// Takes the bits up to the next whole byte, whatever they are.
+    /// Takes the 0 to 7 bits up to the next multiple of 8 of [`taken`](Self::taken), whatever they are, and ticks one for each. These
+    /// are always there, and do not count towards `blank`.
     pub fn align(&mut self, meter: &mut Meter)
         requires meter { meter.old + bits_to_byte self.old.taken < 2 ^ 62 }
         ensures bits { (bits : List Bool) × (length bits ≡ bits_to_byte self.old.taken) × (self.old.waiting ≡ bits ++ self.new.waiting) }

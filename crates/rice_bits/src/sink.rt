@@ -11,23 +11,21 @@ use std::marker::Model;
 #[derive(Drop)]
 pub struct BitSink<const N: usize> {
     bytes: [u8; N],
-    /// How many bytes are whole.
-    whole: usize,
-    /// How many bits wait behind them.
-    waiting: u32,
+    /// How many bits there are: those of the whole bytes, and at most seven more that wait.
+    bits: u64,
     /// The bits that wait, as the lowest of eight digits.
     last: u8,
 }
 
 impl<const N: usize> Model for BitSink<N> {
-    ghost use Rattle.std.specs.Prelude.{ℕ, ◌+◌, ◌*◌, ◌^◌, ◌<◌, ◌≤◌, Bool, List, ◌++◌, length, take};
+    ghost use Rattle.std.specs.Prelude.{◌/◌, ◌%◌, Bool, List, ◌++◌, take};
     ghost use Rattle.rice_bits.specs.Bits.{word, bits_of, IsGathered};
 
     ghost Value = { List Bool };
 
-    ghost view = { λ s. bits_of (take s.whole s.bytes) ++ word s.waiting s.last };
+    ghost view = { λ s. bits_of (take (s.bits / 8) s.bytes) ++ word (s.bits % 8) s.last };
 
-    ghost invariant = { λ s. IsGathered N s.whole s.waiting s.last };
+    ghost invariant = { λ s. IsGathered N s.bits s.last };
 }
 
 impl<const N: usize> BitSink<N> {
@@ -38,8 +36,7 @@ impl<const N: usize> BitSink<N> {
     {
         BitSink {
             bytes: [0; N],
-            whole: 0,
-            waiting: 0,
+            bits: 0,
             last: 0,
         }
     }
@@ -50,7 +47,7 @@ impl<const N: usize> BitSink<N> {
         ensures value { result ≡ length self.now }
         ensures fits { result ≤ 8 * N }
     {
-        8 * self.whole as u64 + self.waiting as u64
+        self.bits
     }
 
     /// How many bits more there is room for.
@@ -58,7 +55,8 @@ impl<const N: usize> BitSink<N> {
     pub fn room(&self) -> u64
         ensures { result + length self.now ≡ 8 * N }
     {
-        8 * (N - self.whole) as u64 - self.waiting as u64
+        let bits = self.bits;
+        8 * N as u64 - bits
     }
 
     /// Appends the `width` binary digits of `value`, most significant first, and ticks one for each.
@@ -117,16 +115,11 @@ impl<const N: usize> BitSink<N> {
         ensures len { length self.new ≡ length self.old + width }
     {
         let joined = join(self.last as u64, width, value);
-        let count = self.waiting + width;
-        let more = (count / 8) as usize;
-        store_front(
-            &mut self.bytes,
-            self.whole,
-            first_digits(joined, count),
-            more,
-        );
-        self.whole += more;
-        self.waiting = count % 8;
+        let count = (self.bits % 8) as u32 + width;
+        let first = first_digits(joined, count);
+        let whole = (self.bits / 8) as usize;
+        store_front(&mut self.bytes, whole, first, (count / 8) as usize);
+        self.bits += width as u64;
         self.last = low_digits(joined, 8) as u8;
     }
 
@@ -136,8 +129,8 @@ impl<const N: usize> BitSink<N> {
         requires room { length self.old + 8 * count ≤ 8 * N }
         ensures { self.new ≡ self.old ++ replicate (8 * count) false }
     {
-        store_zeros(&mut self.bytes, self.whole, count);
-        self.whole += count;
+        store_zeros(&mut self.bytes, (self.bits / 8) as usize, count);
+        self.bits += 8 * count as u64;
     }
 
     /// The bytes that are whole.
@@ -145,7 +138,7 @@ impl<const N: usize> BitSink<N> {
     pub fn whole(&self) -> &[u8]
         ensures { result.now ≡ whole_bytes self.now }
     {
-        front(&self.bytes, self.whole)
+        front(&self.bytes, (self.bits / 8) as usize)
     }
 
     /// Removes the bytes that are whole, so that at most seven bits wait.
@@ -154,7 +147,7 @@ impl<const N: usize> BitSink<N> {
         ensures bits { self.new ≡ drop (bits_in_bytes (length self.old)) self.old }
         ensures len { length self.new ≡ length self.old % 8 }
     {
-        self.whole = 0;
+        self.bits %= 8;
     }
 
     /// Appends zeros up to a whole byte, and ticks nothing.
@@ -162,7 +155,7 @@ impl<const N: usize> BitSink<N> {
         ensures bits { self.new ≡ self.old ++ replicate (bits_to_byte (length self.old)) false }
         ensures len { length self.new ≡ length self.old + bits_to_byte (length self.old) }
     {
-        let gap = (8 - self.waiting) % 8;
-        self.put_digits(0, gap);
+        let gap = (8 - self.bits % 8) % 8;
+        self.put_digits(0, gap as u32);
     }
 }

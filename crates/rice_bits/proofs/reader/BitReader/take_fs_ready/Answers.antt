@@ -1,9 +1,11 @@
-use Rattle.std.proofs.Common.{◌≡◌, ◌+◌, ◌%◌, ◌^◌, ◌++◌, ◌≤◌, arith, ap, sym, ◌∙◌, refl, None, length, length-append}
+use Rattle.std.proofs.Common.{◌≡◌, ◌+◌, ◌%◌, ◌^◌, ◌++◌, ◌≤◌, arith, ap, sym, ◌∙◌, refl, None, length}
 use Rattle.std.specs.Prelude.{◌&&◌}
 use Rattle.rice_bits.specs.Bits.{fundamental_sequence}
 use Rattle.rice_bits.specs.Window.{window_bits}
 use Rattle.rice_bits.proofs.Words.{length-fundamental_sequence}
-use Rattle.rice_bits.proofs.ReaderLemmas.{draws-same, blank-fs, and-false, not_refused, reader_on, takes_some}
+use Rattle.rice_bits.proofs.Drawing.{draws-same}
+use Rattle.rice_bits.proofs.Blank.{blank-fs, and-false}
+use Rattle.rice_bits.proofs.ReaderLemmas.{not_refused, reader_on, takes_some}
 use Rattle.rice_bits.proofs.reader.BitReader.take_fs_ready.Goals as goal
 
 pub invariant_of-self : goal.invariant_of-self

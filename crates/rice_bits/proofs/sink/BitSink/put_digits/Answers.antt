@@ -1,5 +1,4 @@
-use Rattle.std.proofs.Common.{◌≡◌, ◌+◌, ◌*◌, ◌/◌, ◌≤◌, ap, arith, length, length-append, ◌∙◌, sym}
-use Rattle.rice_bits.specs.Bits.{word}
+use Rattle.std.proofs.Common.{◌≡◌, ◌+◌, ◌/◌, ◌%◌, ◌≤◌, ap, arith, length, take, ◌∙◌}
 use Rattle.rice_bits.proofs.Gathering.{gathered-put, length_viewed, length-gathered}
 use Rattle.rice_bits.proofs.Words.{shift_fits}
 use Rattle.rice_bits.proofs.sink.BitSink.put_digits.Goals as goal
@@ -9,29 +8,28 @@ join-joined-requires-clause-high g c = shift_fits 8 c.args.width c.self.inside.l
 
 pub store_front-requires-clause-room : goal.store_front-requires-clause-room
 store_front-requires-clause-room g c =
-    let fits : c.self.inside.whole ≤ length c.self.inside.bytes = omega arith in
-    omega (arith, length_viewed c.self.inside.bytes c.self.inside.whole c.self.inside.waiting c.self.inside.last c.args.self.now fits c.self.view_is)
+    let before : length c.args.self.now ≡ c.self.inside.bits = length_viewed _ _ _ _ _ c.self.invariant c.self.told c.self.view_is in
+    omega (arith, before, c.requires.room, c.self.told)
 
 pub invariant_of-self : goal.invariant_of-self
 invariant_of-self g c =
-    let fits : c.self.inside.whole ≤ length c.self.inside.bytes = omega arith in
-    let before = length_viewed c.self.inside.bytes c.self.inside.whole c.self.inside.waiting c.self.inside.last c.args.self.now fits c.self.view_is in
+    let before : length c.args.self.now ≡ c.self.inside.bits = length_viewed _ _ _ _ _ c.self.invariant c.self.told c.self.view_is in
     record {
-      short = omega arith;
-      digits = c.low_digits.ensures.below;
       room = omega (arith, before);
+      digits = c.low_digits.ensures.below;
       small = c.self.invariant.small;
     }
 
 pub returns-clause-bits : goal.returns-clause-bits
 returns-clause-bits g c =
-    rw (c.store_front.ensures, c.low_digits.ensures.value, c.first_digits.ensures, c.join-joined.ensures, ← c.self.view_is)
-    (gathered-put _ c.self.inside.last c.args.value c.self.inside.waiting c.args.width c.requires.value c.self.invariant.short (omega arith))
+    let more : (c.self.inside.bits + c.args.width) / 8 ≡ c.self.inside.bits / 8 + (c.self.inside.bits % 8 + c.args.width) / 8 = omega arith in
+    let bytes = ap (λ n. take n c.store_front.new.bytes) more ∙ c.store_front.ensures in
+    rw (c.low_digits.ensures.value, c.join-joined.ensures, ← c.self.view_is)
+    (gathered-put _ _ c.self.inside.last c.args.value c.self.inside.bits c.args.width c.requires.value (omega arith)
+    (rw (c.first_digits-first.ensures, c.join-joined.ensures) at bytes))
 
 pub returns-clause-len : goal.returns-clause-len
 returns-clause-len g c =
-    let fits : c.self.inside.whole ≤ length c.self.inside.bytes = omega arith in
-    let before : length c.args.self.now ≡ 8 * c.self.inside.whole + c.self.inside.waiting =
-    length_viewed c.self.inside.bytes c.self.inside.whole c.self.inside.waiting c.self.inside.last c.args.self.now fits c.self.view_is in
-    let more : c.self.inside.whole + (c.self.inside.waiting + c.args.width) / 8 ≤ length c.store_front.new.bytes = omega arith in
-    length-gathered _ _ _ _ more ∙ omega (arith, before)
+    let before : length c.args.self.now ≡ c.self.inside.bits = length_viewed _ _ _ _ _ c.self.invariant c.self.told c.self.view_is in
+    let more : (c.self.inside.bits + c.args.width) / 8 ≤ length c.store_front.new.bytes = omega (arith, before, c.requires.room, c.self.told) in
+    length-gathered _ _ _ more ∙ omega (arith, before)

@@ -1,4 +1,4 @@
-use Rattle.std.proofs.Common.{◌+◌, ◌*◌, ◌/◌, ◌%◌, ◌-◌, false, replicate, arith, rules, ap, length, length-append, ◌∙◌}
+use Rattle.std.proofs.Common.{◌*◌, ◌/◌, ◌%◌, ◌-◌, false, replicate, arith, rules, ap, length, length-append, ◌∙◌}
 use Rattle.std.proofs.lemmas.List.{length-replicate}
 use Rattle.std.proofs.lemmas.Nat.{pow_below}
 use Rattle.rice_bits.specs.Bits.{bits_to_byte}

@@ -1,27 +1,26 @@
-use Rattle.std.proofs.Common.{◌≡◌, ◌+◌, ◌*◌, ◌≤◌, arith, length}
+use Rattle.std.proofs.Common.{◌≡◌, ◌+◌, ◌*◌, ◌/◌, ◌%◌, ◌∙◌, ap, arith, length, take}
 use Rattle.rice_bits.proofs.Gathering.{gathered-zero_bytes, length_viewed}
 use Rattle.rice_bits.proofs.sink.BitSink.put_zero_bytes.Goals as goal
 
 pub store_zeros-requires : goal.store_zeros-requires
 store_zeros-requires g c =
-    let fits : c.self.inside.whole ≤ length c.self.inside.bytes = omega arith in
-    omega (arith, length_viewed c.self.inside.bytes c.self.inside.whole c.self.inside.waiting c.self.inside.last c.args.self.now fits c.self.view_is)
+    let before : length c.args.self.now ≡ c.self.inside.bits = length_viewed _ _ _ _ _ c.self.invariant c.self.told c.self.view_is in
+    omega (arith, before, c.requires.room, c.self.told)
 
 pub invariant_of-self : goal.invariant_of-self
 invariant_of-self g c =
-    let fits : c.self.inside.whole ≤ length c.self.inside.bytes = omega arith in
-    let before = length_viewed c.self.inside.bytes c.self.inside.whole c.self.inside.waiting c.self.inside.last c.args.self.now fits c.self.view_is in
+    let before : length c.args.self.now ≡ c.self.inside.bits = length_viewed _ _ _ _ _ c.self.invariant c.self.told c.self.view_is in
     record {
-      short = c.self.invariant.short;
-      digits = c.self.invariant.digits;
       room = omega (arith, before);
+      digits = c.self.invariant.digits;
       small = c.self.invariant.small;
     }
 
 pub returns : goal.returns
 returns g c =
-    let fits : c.self.inside.whole ≤ length c.self.inside.bytes = omega arith in
-    let before : length c.args.self.now ≡ 8 * c.self.inside.whole + c.self.inside.waiting =
-    length_viewed c.self.inside.bytes c.self.inside.whole c.self.inside.waiting c.self.inside.last c.args.self.now fits c.self.view_is in
-    let none : c.self.inside.waiting ≡ 0 = omega arith in
-    rw (c.store_zeros.ensures, ← c.self.view_is, none) (gathered-zero_bytes _ _ _)
+    let before : length c.args.self.now ≡ c.self.inside.bits = length_viewed _ _ _ _ _ c.self.invariant c.self.told c.self.view_is in
+    let none : c.self.inside.bits % 8 ≡ 0 = omega (arith, before, c.requires.aligned) in
+    let after : (c.self.inside.bits + 8 * c.args.count) % 8 ≡ 0 = omega (arith, none) in
+    let more : (c.self.inside.bits + 8 * c.args.count) / 8 ≡ c.self.inside.bits / 8 + c.args.count = omega arith in
+    let bytes = ap (λ n. take n c.store_zeros.new.bytes) more ∙ c.store_zeros.ensures in
+    rw (bytes, after, ← c.self.view_is, none) (gathered-zero_bytes _ _ _)

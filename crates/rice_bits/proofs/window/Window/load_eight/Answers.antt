@@ -1,4 +1,4 @@
-use Rattle.std.proofs.Common.{◌≡◌, ◌+◌, ◌-◌, ◌*◌, ◌/◌, ◌^◌, ◌<◌, arith}
+use Rattle.std.proofs.Common.{◌-◌, ◌*◌, ◌/◌, ◌^◌, ◌<◌, arith}
 use Rattle.rice_bits.specs.Window.{window_bits}
 use Rattle.rice_bits.proofs.Words.{shift_fits, join_below}
 use Rattle.rice_bits.proofs.WindowLemmas.{front_below, load-front}
