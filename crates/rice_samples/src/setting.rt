@@ -3,6 +3,7 @@ ghost use Rattle.std.specs.Prelude.{◌≡◌, ◌⊎◌, ℕ, ◌+◌, ◌-◌,
 ghost use Rattle.rice_samples.specs.Parameters.{Parameters, IsLegal, IsSample, id_len, k_max, width, value_count, least, level, level as level_of};
 ghost use Rattle.rice_samples.specs.Places.{segment_blocks, blocks_left, has_reference};
 ghost use Rattle.rice_samples.specs.Settings.{parameters, setting_of, IsRefused};
+ghost use Rattle.rice_samples.specs.Values.{offset};
 
 use std::marker::Model;
 use thiserror::Error;
@@ -233,6 +234,16 @@ impl Setting {
         } else {
             0
         }
+    }
+
+    /// How many values that a sample can have lie below 0.
+    #[inline]
+    pub(crate) fn offset(&self) -> u64
+        ensures value { result ≡ offset self.now }
+        ensures range { result ≤ 2 ^ 31 }
+        ensures legal { IsLegal self.now }
+    {
+        if self.signed { 1 << (self.bits - 1) } else { 0 }
     }
 
     /// How many values a sample can have.
