@@ -129,8 +129,8 @@ level_from_pattern s more y h le k = by_sign s.signed s.bits h le k.0 k.1
 same_offset : (v w h c : ℕ) → v < c → w < c → h ≤ c → (v + h) % c ≡ (w + h) % c → v ≡ w
 same_offset v w h c hv hw le e =
     elim (mod_once (v + h) c (omega arith)) [
-      | inl p ↦ elim (mod_once (w + h) c (omega arith)) [ | inl q ↦ omega (arith, p.0, q.0) | inr q ↦ absurd (omega (arith, p.0, p.1, q.0, q.1)) ]
-      | inr p ↦ elim (mod_once (w + h) c (omega arith)) [ | inl q ↦ absurd (omega (arith, p.0, p.1, q.0, q.1)) | inr q ↦ omega (arith, p.0, q.0) ]
+      | inl p ↦ elim (mod_once (w + h) c (omega arith)) [ inl q ↦ omega (arith, p.0, q.0) | inr q ↦ absurd (omega (arith, p.0, p.1, q.0, q.1)) ]
+      | inr p ↦ elim (mod_once (w + h) c (omega arith)) [ inl q ↦ absurd (omega (arith, p.0, p.1, q.0, q.1)) | inr q ↦ omega (arith, p.0, q.0) ]
     ]
 
 pub offset_limit : (s : Parameters) (more : ℕ) → 1 ≤ s.bits → s.bits ≤ more → offset s ≤ 2 ^ more
@@ -150,8 +150,8 @@ spelled_level s bytes msb k word o x legal m f w n holds from b lt hx e =
     let vx : IsValue (8 * k) s.signed x = wider_value s.bits (8 * k) s.signed x legal.bits_from holds hx in
     let below : twos_complement (8 * k) x < 2 ^ (8 * k) = pattern_fits wide x (omega arith) vx in
     let same : word ≡ twos_complement (8 * k) x =
-        same_offset word (twos_complement (8 * k) x) (offset s) (2 ^ (8 * k)) fits below (offset_limit s (8 * k) legal.bits_from holds)
-        (ap (λ v. (word + v) % 2 ^ (8 * k)) (sym f) ∙ (sym e ∙ sym (level_from_pattern s (8 * k) x legal.bits_from holds hx)))
+    same_offset word (twos_complement (8 * k) x) (offset s) (2 ^ (8 * k)) fits below (offset_limit s (8 * k) legal.bits_from holds)
+    (ap (λ v. (word + v) % 2 ^ (8 * k)) (sym f) ∙ (sym e ∙ sym (level_from_pattern s (8 * k) x legal.bits_from holds hx)))
     in
     b ∙ (ap (λ v. ordered_bytes v (length bytes) word) m ∙ (ap (λ v. ordered_bytes s.msb v word) n ∙ (ap (λ v. ordered_bytes s.msb (width s) v) same ∙ ap (λ v. ordered_bytes s.msb (width s) (twos_complement (8 * v) x)) w)))
 
@@ -165,7 +165,7 @@ level_spelled s bytes msb k word o y legal m f w n holds from to b lt hy e =
     let vy : IsValue (8 * k) s.signed y = wider_value s.bits (8 * k) s.signed y legal.bits_from holds hy in
     let below : twos_complement (8 * k) y < 2 ^ (8 * k) = pattern_fits wide y (omega arith) vy in
     let spelled : ordered_bytes s.msb k word ≡ ordered_bytes s.msb k (twos_complement (8 * k) y) =
-        ap (λ v. ordered_bytes v k word) (sym m) ∙ (ap (λ v. ordered_bytes msb v word) (sym len) ∙ (sym b ∙ (e ∙ ap (λ v. ordered_bytes s.msb v (twos_complement (8 * v) y)) (sym w))))
+    ap (λ v. ordered_bytes v k word) (sym m) ∙ (ap (λ v. ordered_bytes msb v word) (sym len) ∙ (sym b ∙ (e ∙ ap (λ v. ordered_bytes s.msb v (twos_complement (8 * v) y)) (sym w))))
     in
     let same = same_word s.msb k word (twos_complement (8 * k) y) from to fits below spelled in
     ap (λ v. (v + o) % 2 ^ (8 * k)) same ∙ (ap (λ v. (twos_complement (8 * k) y + v) % 2 ^ (8 * k)) f ∙ level_from_pattern s (8 * k) y legal.bits_from holds hy)

@@ -2,6 +2,7 @@
 ghost use Rattle.std.specs.Prelude.{◌≡◌, ◌⊎◌, ℕ, ◌+◌, ◌-◌, ◌*◌, ◌%◌, ◌^◌, ◌<◌, ◌≤◌, ◌↔◌, IsTrue, IsOk, IfErr, ℤ};
 ghost use Rattle.rice_samples.specs.Parameters.{Parameters, IsLegal, IsSample, id_len, k_max, width, value_count, least, level, level as level_of};
 ghost use Rattle.rice_samples.specs.Places.{segment_blocks, blocks_left, has_reference};
+ghost use Rattle.rice_samples.specs.Segments.{IsBlockSize};
 ghost use Rattle.rice_samples.specs.Settings.{parameters, setting_of, IsRefused};
 ghost use Rattle.rice_samples.specs.Values.{offset};
 
@@ -115,7 +116,7 @@ impl Setting {
     #[inline]
     pub fn block(&self) -> u32
         ensures value { result ≡ self.now.block }
-        ensures sizes { (result ≡ 8) ⊎ (result ≡ 16) ⊎ (result ≡ 32) ⊎ (result ≡ 64) }
+        ensures size { IsBlockSize result }
         ensures range { (8 ≤ result) × (result ≤ 64) }
         ensures legal { IsLegal self.now }
     {
@@ -176,8 +177,7 @@ impl Setting {
         ensures value { result ≡ segment_blocks self.now b }
         ensures range { (1 ≤ result) × (result ≤ 64) }
     {
-        let place = self.place(b);
-        (self.interval - place / 64 * 64).min(64)
+        (self.interval - self.place(b) / 64 * 64).min(64)
     }
 
     /// The blocks from block `b` to the end of its segment, `b` included.
@@ -186,8 +186,7 @@ impl Setting {
         ensures value { result ≡ blocks_left self.now b }
         ensures range { (1 ≤ result) × (result ≤ segment_blocks self.now b) × (result ≤ 64) }
     {
-        let place = self.place(b);
-        (self.interval - place / 64 * 64).min(64) - place % 64
+        self.segment_blocks(b) - self.place(b) % 64
     }
 
     /// Whether the first sample of block `b` is a reference sample. Never without preprocessing.
