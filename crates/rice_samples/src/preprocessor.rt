@@ -62,13 +62,9 @@ fn rank_of(count: u64, p: u64, x: u64) -> u32
     ensures fits { result < count }
 {
     let reach = p.min(count - 1 - p);
-    if p <= x {
-        let distance = x - p;
-        (distance + distance.min(reach)) as u32
-    } else {
-        let nearer = p - x - 1;
-        (nearer + 1 + nearer.min(reach)) as u32
-    }
+    let distance = p.abs_diff(x);
+    let nearer = if p <= x { x - p } else { p - x - 1 };
+    (distance + nearer.min(reach)) as u32
 }
 
 /// The number below `count` with rank `d` from number `p`.
