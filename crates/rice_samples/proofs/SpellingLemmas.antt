@@ -11,7 +11,6 @@ use Rattle.rice_samples.specs.Residuals.{twos_complement}
 use Rattle.rice_samples.specs.Spelling.{spelling}
 use Rattle.rice_samples.specs.Values.{offset, IsValue, ordered_bytes}
 use Rattle.rice_samples.proofs.Levels.{half_pow, pattern_fits}
-use Rattle.rice_samples.proofs.Patterns.{same_pattern}
 
 -- a pattern in the upper half stands for a negative value
 pub high_value : (signed : Bool) (bits d : ℕ) → signed ≡ true → 1 ≤ bits → d < 2 ^ bits → 2 ^ bits ≤ 2 * d → IsValue bits signed (pos d -ℤ pos (2 ^ bits))

@@ -1,8 +1,7 @@
-use Rattle.std.proofs.Common.{◌≡◌, ◌+◌, ◌*◌, ◌%◌, ◌^◌, ◌<◌, sym, arith, subst, ℤ, ℕ, to_z, of_z, w64, FitsSigned, rules}
+use Rattle.std.proofs.Common.{◌≡◌, ◌+◌, ◌*◌, ◌%◌, ◌^◌, ◌<◌, arith, w64, FitsSigned, rules}
 use Rattle.std.proofs.lemmas.Int.{to_z-of_z}
 use Rattle.std.proofs.lemmas.Nat.{one_shl}
-use Rattle.rice_samples.specs.Parameters.{IsSample, level, value_count}
-use Rattle.rice_samples.specs.Spelling.{spelling}
+use Rattle.rice_samples.specs.Parameters.{level, value_count}
 use Rattle.rice_samples.proofs.SpellingLemmas.{spelled_level, level_spelled}
 use Rattle.rice_samples.proofs.spelling.sample_of.Goals as goal
 
