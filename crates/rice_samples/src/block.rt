@@ -57,8 +57,7 @@ impl Block<'_> {
         ensures value { result ≡ list_all (λ d. d == 0) self.now }
         ensures steps { meter.new ≡ meter.old + length self.now }
     {
-        meter.tick(self.items.len() as u64);
-        all_zero(self.items)
+        all_zero(self.look(meter))
     }
 
     /// The sum of the residuals without their `k` lowest binary digits, for `k` up to 29.
@@ -70,8 +69,7 @@ impl Block<'_> {
         ensures limit { result ≤ 2 ^ 38 }
         ensures steps { meter.new ≡ meter.old + length self.now }
     {
-        meter.tick(self.items.len() as u64);
-        sum_shifted(self.items, k)
+        sum_shifted(self.look(meter), k)
     }
 
     /// The bits of the codewords that second extension sends for the pairs of residuals.
@@ -82,8 +80,7 @@ impl Block<'_> {
         ensures limit { result ≤ 2 ^ 72 }
         ensures steps { meter.new ≡ meter.old + length self.now }
     {
-        meter.tick(self.items.len() as u64);
-        pair_sum(self.items)
+        pair_sum(self.look(meter))
     }
 
     /// Residual number `i`.
@@ -97,5 +94,17 @@ impl Block<'_> {
         let items = self.items;
         meter.tick(1);
         items[i]
+    }
+
+    /// All residuals, at a step each.
+    #[inline]
+    fn look(&self, meter: &mut Meter) -> &[u32]
+        requires { meter.old + length self.now < 2 ^ 62 }
+        ensures value { result.now ≡ self.now }
+        ensures size { IsBlockSize (length result.now) }
+        ensures steps { meter.new ≡ meter.old + length self.now }
+    {
+        meter.tick(self.items.len() as u64);
+        self.items
     }
 }

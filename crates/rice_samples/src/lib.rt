@@ -18,3 +18,6 @@ pub use preprocessor::{from_pattern, pattern, residual, restore};
 pub use segment::Segment;
 pub use setting::{Setting, SettingFault};
 pub use spelling::{bytes_of, sample_of};
+
+#[cfg(test)]
+mod tests;
