@@ -12,34 +12,11 @@ ghost use Rattle.rice_code.specs.Layout.{padding};
 use crate::data_set::read_set;
 use crate::fault::{CodeFault, Step};
 use crate::options::SetHead;
-use crate::restoring::restore_block;
+use crate::restoring::{restore_block, restore_zeros};
 use arrayvec::ArrayVec;
 use rice_bits::{BitFault, BitReader, Intake, Meter};
 use rice_samples::Setting;
 use std::marker::Model;
-
-/// The residuals of a block of zeros.
-static ZEROS: [u32; 64] = [0; 64];
-
-/// The samples of a block of zeros, behind p.
-fn restore_zeros(
-    setting: &Setting,
-    block: u64,
-    p: i64,
-    reference: Option<u32>,
-    samples: &mut ArrayVec<i64, 64>,
-) -> i64
-    requires p { IsSample setting.now p }
-    requires reference { IsReference setting.now block reference }
-    ensures len { length samples.new.items ≡ setting.now.block }
-    ensures legal { All (IsSample setting.now) samples.new.items }
-    ensures contents { contents setting.now block p samples.new.items ≡ zeros setting.now reference }
-    ensures last { result ≡ last_of p samples.new.items }
-    ensures sample { IsSample setting.now result }
-{
-    let count = setting.block() as usize;
-    restore_block(setting, block, p, reference, &ZEROS[..count], samples)
-}
 
 /// The blocks of a run with so many zeros in its codeword, where it is sound.
 fn run_blocks(zeros: u64, left: u32) -> Option<u32>
