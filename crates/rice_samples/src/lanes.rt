@@ -43,21 +43,30 @@ pub(crate) fn sum_shifted(items: &[u32], k: u32) -> u64
     // The loops unroll where the length is known.
     if items.len() <= 8 << k {
         match items.len() {
-            8 => narrow_sum(items, k),
-            16 => narrow_sum(items, k),
-            32 => narrow_sum(items, k),
+            8 => narrow_sum(all_of(items, 8), k),
+            16 => narrow_sum(all_of(items, 16), k),
+            32 => narrow_sum(all_of(items, 32), k),
             _ => narrow_sum(items, k),
         }
     } else {
         match items.len() {
-            16 => wide_sum(items, k),
-            32 => wide_sum(items, k),
+            16 => wide_sum(all_of(items, 16), k),
+            32 => wide_sum(all_of(items, 32), k),
             _ => wide_sum(items, k),
         }
     }
 }
 
-/// The same in lanes of 64 bits.
+/// All `len` numbers, with a length that the compiler knows where it knows `len`.
+#[inline(always)]
+fn all_of(items: &[u32], len: usize) -> &[u32]
+    requires { length items.now ≡ len }
+    ensures { result.now ≡ items.now }
+{
+    &items[..len]
+}
+
+/// The sum of the numbers without their `k` lowest digits, in lanes of 64 bits.
 #[inline(always)]
 fn wide_sum(items: &[u32], k: u32) -> u64
     requires chunks { length items.now % 8 ≡ 0 }
