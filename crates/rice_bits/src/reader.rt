@@ -287,7 +287,7 @@ impl<I: Intake> BitReader<I> {
     }
 
     /// Takes zeros up to and with the next 1, and answers how many zeros they were: the number of a fundamental sequence
-    /// (CCSDS 121.0-B-3, section 3.2). It ticks one for each bit taken.
+    /// (CCSDS 121.0-B-3, section 3, fundamental sequence). It ticks one for each bit taken.
     ///
     /// A refusal says why no 1 was there: [`BitFault`] tells each case.
     #[inline]

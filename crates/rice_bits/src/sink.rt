@@ -74,7 +74,7 @@ impl<const N: usize> BitSink<N> {
         self.put_digits(value as u64, width);
     }
 
-    /// Appends the fundamental sequence of `m`, `m` zeros and a one, and ticks one for each bit (CCSDS 121.0-B-3, section 3.2).
+    /// Appends the fundamental sequence of `m`, `m` zeros and a one, and ticks one for each bit (CCSDS 121.0-B-3, section 3, fundamental sequence).
     #[inline]
     pub fn put_fs(&mut self, m: u64, meter: &mut Meter)
         requires room { length self.old + m + 1 ≤ 8 * N }
