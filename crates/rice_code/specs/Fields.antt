@@ -1,8 +1,13 @@
 -- What the pieces of a coded data set are read by.
-use Rattle.std.specs.Prelude.{◌≡◌, ℕ, suc, All, Option, length, flat_map, sum, ◌+◌, ◌-◌, ◌*◌, ◌^◌, ◌<◌, ◌≤◌, Bool, true, false, List, [], ◌∷◌, ◌++◌}
+use Rattle.std.specs.Prelude.{◌≡◌, ℕ, zero, suc, ◌/◌, ◌%◌, All, Option, length, flat_map, sum, ◌+◌, ◌-◌, ◌*◌, ◌^◌, ◌<◌, ◌≤◌, Bool, true, false, List, [], ◌∷◌, ◌++◌}
 use Rattle.rice_bits.specs.Bits.{fundamental_sequence}
 use Rattle.rice_bits.specs.Reader.{Reader, Takes}
 use Rattle.rice_samples.specs.Pairs.{pair_codes}
+
+-- the words of `width` digits that a number is made of, so many, the first ones first
+unfoldable pub words : ℕ → ℕ → ℕ → List ℕ
+words width zero value = []
+words width (suc count) value = (value / 2 ^ (count * width) % 2 ^ width) ∷ words width count value
 
 -- how many of the bits are 1
 abbrev pub ones : List Bool → ℕ

@@ -1,14 +1,53 @@
 //! Words and fundamental sequences, several in a row.
-ghost use Rattle.std.specs.Prelude.{◌≡◌, ℕ, ◌+◌, ◌-◌, ◌*◌, ◌/◌, ◌^◌, ◌<◌, ◌≤◌, Bool, List, length, None, IfErr, OnOk};
+ghost use Rattle.std.specs.Prelude.{◌≡◌, ℕ, ◌+◌, ◌-◌, ◌*◌, ◌/◌, ◌^◌, ◌<◌, ◌≤◌, Bool, List, ◌++◌, length, None, IfErr, OnOk};
 ghost use Rattle.rice_bits.specs.Bits.{word, fundamental_sequence};
 ghost use Rattle.rice_bits.specs.Reader.{Stops};
-ghost use Rattle.rice_code.specs.Fields.{HasRoom, AreCounted, Row, PairRow, ones};
+ghost use Rattle.rice_code.specs.Fields.{HasRoom, AreCounted, Row, PairRow, ones, words};
 
 use crate::pair::pair_of;
 use arrayvec::ArrayVec;
 use rice_bits::{BitFault, BitReader, Intake, Meter};
 
-/// Reads so many words, and appends them.
+/// Appends the words of `width` digits that a number of so many digits is made of, so many, the first ones first.
+fn push_words(joined: u64, count: u32, width: u32, out: &mut ArrayVec<u32, 64>)
+    requires digits { count * width ≤ 32 }
+    requires narrow { width ≤ 32 }
+    requires fits { length out.old.items + count ≤ 64 }
+    ensures { out.new.items ≡ out.old.items ++ words width count joined }
+{
+    for done in 0..count {
+        let behind = (count - 1 - done) * width;
+        out.push(((joined >> behind) % (1 << width)) as u32);
+    }
+}
+
+/// Reads so many words in one, and appends them.
+fn read_joined<I: Intake>(
+    reader: &mut BitReader<I>,
+    meter: &mut Meter,
+    count: u32,
+    width: u32,
+    out: &mut ArrayVec<u32, 64>,
+) -> Result<(), BitFault>
+    requires going { reader.old.refusal ≡ None }
+    requires room { HasRoom meter.old reader.old.taken }
+    requires digits { count * width ≤ 32 }
+    requires narrow { width ≤ 32 }
+    requires fits { length out.old.items + count ≤ 64 }
+    ensures ok { OnOk result (Row I.left I.failed (word width) (λ v. v < 2 ^ width) reader.old reader.new count out.old.items out.new.items) }
+    ensures err { IfErr result (λ f. (bits : List Bool) × (length bits < count * width) × Stops I.left I.failed reader.old reader.new bits f) }
+    ensures steps { meter.new + reader.old.taken ≡ meter.old + reader.new.taken }
+    ensures limit { reader.new.taken ≤ 2 ^ 52 }
+{
+    let joined = match reader.take(count * width, meter) {
+        Ok(joined) => joined,
+        Err(fault) => return Err(fault),
+    };
+    push_words(joined as u64, count, width, out);
+    Ok(())
+}
+
+/// Reads so many words, as many as 32 bits hold at a time, and appends them.
 pub fn read_words<I: Intake>(
     reader: &mut BitReader<I>,
     meter: &mut Meter,
@@ -25,11 +64,14 @@ pub fn read_words<I: Intake>(
     ensures steps { meter.new + reader.old.taken ≡ meter.old + reader.new.taken }
     ensures limit { reader.new.taken ≤ 2 ^ 52 }
 {
-    for done in 0..count {
-        match reader.take(width, meter) {
-            Ok(value) => out.push(value),
-            Err(fault) => return Err(fault),
+    let most = 32 / width.max(1);
+    let mut done = 0;
+    while done < count {
+        let some = most.min((count - done) as u32);
+        if let Err(fault) = read_joined(reader, meter, some, width, out) {
+            return Err(fault);
         }
+        done += some as usize;
     }
     Ok(())
 }

@@ -1,10 +1,10 @@
-use Rattle.std.proofs.Common.{rules, arith, ◌≡◌, ◌≤◌, ◌∙◌, ap, sym, subst, w64, to_z, of_z, replicate, length, refl, ℤ, List, ◌++◌}
+use Rattle.std.proofs.Common.{rules, arith, ◌≡◌, ◌≤◌, ◌∙◌, ap, sym, subst, w64, replicate, refl, ℤ, List}
 use Rattle.std.specs.Prelude.{All}
 use Rattle.std.proofs.lemmas.Int.{to_z-of_z}
 use Rattle.std.proofs.lemmas.List.Elements.{All-replicate}
 use mir.Val.{SFits}
 use Rattle.rice_samples.specs.Parameters.{IsSample}
-use Rattle.rice_code.specs.Blocks.{contents, zeros}
+use Rattle.rice_code.specs.Blocks.{contents}
 use Rattle.rice_code.proofs.RestoredBlocks.{zeros_restored}
 use Rattle.rice_code.proofs.restoring.restore_zeros.Goals as goal
 
