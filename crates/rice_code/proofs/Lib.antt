@@ -26,3 +26,7 @@ pub mod ReadLemmas
 pub mod CutSets
 pub mod RestoredBlocks
 pub mod DecoderLemmas
+pub mod SearchLemmas
+pub mod TextLemmas
+pub mod Waiting
+pub mod SegmentSteps

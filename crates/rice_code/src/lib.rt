@@ -1,6 +1,7 @@
-//! The code of CCSDS 121.0-B-3: its definitions in `specs/`, their laws and worked examples, and the decoder.
+//! The code of CCSDS 121.0-B-3: its definitions in `specs/`, their laws and worked examples, the coder, and the decoder.
 #![tactic(auto)]
 
+mod cost;
 mod data_set;
 pub mod decoder;
 pub mod decoding_examples;
@@ -12,6 +13,9 @@ mod options;
 mod pair;
 mod residuals;
 mod restoring;
+mod search;
+mod segment;
+mod text;
 
 pub use decoder::Decoder;
 pub use fault::{CodeFault, Step};
