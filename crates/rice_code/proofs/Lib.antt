@@ -30,3 +30,8 @@ pub mod SearchLemmas
 pub mod TextLemmas
 pub mod Waiting
 pub mod SegmentSteps
+pub mod SegmentPlaces
+pub mod LaidSegments
+pub mod OpenSegments
+pub mod HeldSamples
+pub mod CoderLemmas

@@ -1,8 +1,8 @@
 -- A segment's blocks are coded one by one.
-use Rattle.std.proofs.Common.{◌≡◌, ℕ, zero, suc, ◌+◌, ◌-◌, ◌*◌, ◌^◌, ◌<◌, ◌≤◌, ◌==◌, min, Bool, true, false, cond, List, [], ◌∷◌, ◌++◌, length, take, drop, refl, ap, arith, sym, ◌∙◌, inl, inr, subst, append_assoc, append-nil, length-append, Option, None, Some}
-use Rattle.std.specs.Prelude.{flat_map, sum_by, IfSome, slice_range}
+use Rattle.std.proofs.Common.{◌≡◌, ℕ, zero, suc, ◌+◌, ◌-◌, ◌*◌, ◌^◌, ◌<◌, ◌≤◌, min, Bool, true, false, cond, List, [], ◌∷◌, ◌++◌, length, take, drop, refl, ap, arith, sym, ◌∙◌, inl, inr, subst, append_assoc, append-nil, length-append, Option, None}
+use Rattle.std.specs.Prelude.{sum_by, IfSome, slice_range}
 use Rattle.std.proofs.lemmas.Bool.{cases_lt}
-use Rattle.std.proofs.lemmas.List.{drop_all, take_all}
+use Rattle.std.proofs.lemmas.List.{drop_all}
 use Rattle.std.proofs.lemmas.List.Sums.{sum_by-cons}
 use Rattle.std.proofs.lemmas.Grind.{flat_map-append}
 use Rattle.std.proofs.Math.Nat.{mul-le-mul_left, mul-le-mul_right}
@@ -11,8 +11,8 @@ use Rattle.rice_bits.specs.Bits.{word, fundamental_sequence}
 use Rattle.rice_samples.specs.Parameters.{Parameters, id_len, k_max, value_count}
 use Rattle.rice_samples.specs.Places.{begins_segment, blocks_left}
 use Rattle.rice_samples.proofs.PlaceLemmas.{one_less_left, last_of_segment}
-use Rattle.rice_code.specs.Blocks.{Contents, is_zero, zeros}
-use Rattle.rice_code.specs.DataSets.{DataSet, text, cost, reference_text, joined}
+use Rattle.rice_code.specs.Blocks.{Contents, is_zero}
+use Rattle.rice_code.specs.DataSets.{text, cost, reference_text, joined}
 use Rattle.rice_code.specs.Code.{data_sets}
 use Rattle.rice_code.specs.Choice.{shortest, best_split}
 use Rattle.rice_code.specs.Held.{told, IsSound, sent_run, sent_zeros, waiting, waiting_run, held_blocks, reference_at, AreSoundBlocks, IsSoundBlock}

@@ -1,10 +1,10 @@
 -- The texts of blocks, piece by piece.
-use Rattle.std.proofs.Common.{◌≡◌, ℕ, zero, suc, ◌+◌, ◌-◌, ◌*◌, ◌/◌, ◌%◌, ◌^◌, ◌<◌, ◌≤◌, Bool, true, false, cond, ◌&&◌, nat_le, List, [], ◌∷◌, ◌++◌, length, drop, replicate, get_or, refl, ap, arith, sym, ◌∙◌, append_assoc, append-nil, Option, Some, None}
-use Rattle.std.specs.Prelude.{flat_map, sum_by}
+use Rattle.std.proofs.Common.{◌≡◌, ℕ, zero, suc, ◌+◌, ◌-◌, ◌*◌, ◌<◌, Bool, true, false, cond, ◌&&◌, nat_le, List, [], ◌∷◌, ◌++◌, length, drop, get_or, refl, ap, arith, sym, ◌∙◌, append_assoc, Option}
+use Rattle.std.specs.Prelude.{flat_map}
 use Rattle.std.proofs.lemmas.List.{length-drop}
 use Rattle.rice_samples.specs.Parameters.{Parameters, id_len}
 use Rattle.rice_samples.specs.Pairs.{pair_code, pair_codes}
-use Rattle.rice_code.specs.DataSets.{DataSet, text, cost, reference_text, reference_len, run_number, ZeroBlocks, RemainderOfSegment}
+use Rattle.rice_code.specs.DataSets.{text, cost, reference_text, reference_len, run_number, ZeroBlocks, RemainderOfSegment}
 use Rattle.rice_code.specs.Held.{sent_run, sent_zeros}
 use Rattle.rice_bits.specs.Bits.{word, fundamental_sequence}
 use Rattle.rice_bits.proofs.Words.{word-fs, word-zero, word-cat, word-nil}

@@ -1,21 +1,18 @@
 -- Zero blocks that wait for the end of their run.
-use Rattle.std.proofs.Common.{◌≡◌, ℕ, zero, suc, ◌+◌, ◌-◌, ◌*◌, ◌<◌, ◌≤◌, ◌==◌, Bool, true, false, cond, not, ◌&&◌, ◌||◌, nat_le, List, [], ◌∷◌, ◌++◌, length, take, drop, replicate, refl, ap, arith, sym, ◌∙◌, inl, inr, subst, append_assoc, append-nil, length-append, length-drop, Option, None, Some}
-use Rattle.std.specs.Prelude.{flat_map, sum_by, slice_range}
+use Rattle.std.proofs.Common.{◌≡◌, ℕ, zero, suc, ◌+◌, ◌*◌, ◌<◌, ◌≤◌, ◌==◌, Bool, true, false, cond, not, ◌&&◌, ◌||◌, nat_le, List, [], ◌∷◌, ◌++◌, length, take, drop, replicate, refl, ap, arith, sym, ◌∙◌, inl, inr, subst, append-nil, length-append, Option, None}
 use Rattle.std.specs.List.{list_all}
 use Rattle.std.proofs.lemmas.Bool.Decides.{nat_tests}
 use Rattle.std.proofs.lemmas.List.{length-replicate, drop-drop}
-use Rattle.std.proofs.lemmas.List.Sums.{sum_by-cons}
-use Rattle.std.proofs.lemmas.Grind.{flat_map-append}
 use Rattle.rice_samples.specs.Parameters.{Parameters}
 use Rattle.rice_samples.specs.Places.{begins_segment, blocks_left}
 use Rattle.rice_samples.proofs.PlaceLemmas.{one_less_left, last_of_segment}
 use Rattle.rice_code.specs.Blocks.{Contents, is_zero, zeros}
-use Rattle.rice_code.specs.DataSets.{DataSet, ZeroBlocks, RemainderOfSegment, text, joined}
+use Rattle.rice_code.specs.DataSets.{DataSet, ZeroBlocks, RemainderOfSegment}
 use Rattle.rice_code.specs.Code.{data_sets}
 use Rattle.rice_code.specs.Runs.{zero_run, run_len}
 use Rattle.rice_code.specs.Choice.{shortest}
 use Rattle.rice_code.specs.Held.{told, sent_run, waiting, waiting_run, held_blocks, reference_at, AreSoundBlocks}
-use Rattle.rice_code.proofs.Covers.{bool_cases, skipped, run_cons, skipped_go, skipped_plain, skipped_nil, skipped_stop, data_sets_inside, data_sets_start, data_sets_plain, zero_block}
+use Rattle.rice_code.proofs.Covers.{bool_cases, skipped, run_cons, skipped_go, skipped_plain, skipped_nil, skipped_stop, data_sets_inside, data_sets_start, data_sets_plain}
 
 zeros_are_zero : (n : ℕ) → list_all (λ d. d == 0) (replicate n 0) ≡ true
 zeros_are_zero zero = refl

@@ -18,33 +18,38 @@ pub record State : Type 0 where
   pub previous : ℤ
   pub start : ℕ
 
--- what is so of what each coder holds
-pub record IsOpen (coder : State) : Type 0 where
+-- what is so of what each coder holds, whose segment is whole with so many residuals
+pub record IsOpen (coder : State) (end : ℕ) : Type 0 where
   pub legal : IsLegal coder.setting
   pub place : place coder.setting coder.start ≡ coder.start
   pub begins : begins_segment coder.setting coder.start ≡ true
   pub few : length coder.residuals ≤ coder.setting.block * blocks_left coder.setting coder.start
   pub previous : IsSample coder.setting coder.previous
   pub reference : IfSome coder.reference (λ v. v < value_count coder.setting)
+  pub ends : end ≡ coder.setting.block * blocks_left coder.setting coder.start
 
 -- the segment is whole
 abbrev pub IsWhole : State → Type 0
 IsWhole coder = length coder.residuals ≡ coder.setting.block * blocks_left coder.setting coder.start
 
+abbrev pub is_empty : List ℕ → Bool
+is_empty [] = true
+is_empty (d ∷ ds) = false
+
 -- a coder that holds nothing
 abbrev pub empty : Parameters → State
 empty s = record { setting = s; residuals = []; reference = None; previous = pos 0; start = 0 }
 
--- what the coder holds when it takes one sample more
-abbrev pub is_first : List ℕ → Bool
-is_first [] = true
-is_first (d ∷ ds) = false
+-- no sample is held, and an interval begins
+abbrev pub is_first : State → Bool
+is_first coder = is_empty coder.residuals && coder.start == 0
 
+-- what the coder holds when it takes one sample more
 abbrev pub next_residual : State → ℤ → ℕ
-next_residual coder x = if coder.setting.preprocess then (if is_first coder.residuals && coder.start == 0 then 0 else rank coder.setting coder.previous x) else pattern coder.setting x
+next_residual coder x = if coder.setting.preprocess then (if is_first coder then 0 else rank coder.setting coder.previous x) else pattern coder.setting x
 
 abbrev pub next_reference : State → ℤ → Option ℕ
-next_reference coder x = if is_first coder.residuals then (if coder.setting.preprocess && coder.start == 0 then Some (pattern coder.setting x) else None) else coder.reference
+next_reference coder x = if coder.setting.preprocess && is_first coder then Some (pattern coder.setting x) else coder.reference
 
 abbrev pub grown : State → ℤ → State
 grown coder x = record { setting = coder.setting; residuals = coder.residuals ++ next_residual coder x ∷ []; reference = next_reference coder x; previous = x; start = coder.start }

@@ -28,7 +28,12 @@ pub fn no_compression_cost(setting: &Setting, reference: Option<u32>, block: &Bl
 }
 
 /// The length of the text by second extension.
-pub fn second_extension_cost(setting: &Setting, reference: Option<u32>, block: &Block<'_>, meter: &mut Meter) -> u128
+pub fn second_extension_cost(
+    setting: &Setting,
+    reference: Option<u32>,
+    block: &Block<'_>,
+    meter: &mut Meter,
+) -> u128
     requires sound { IsSound setting.now (told reference block.now) }
     requires meter { meter.old + length block.now < 2 ^ 62 }
     ensures value { result ≡ cost setting.now (SecondExtension (told reference block.now)) }
@@ -40,7 +45,13 @@ pub fn second_extension_cost(setting: &Setting, reference: Option<u32>, block: &
 }
 
 /// The length of the text by split `k`.
-pub fn split_cost(setting: &Setting, reference: Option<u32>, block: &Block<'_>, k: u32, meter: &mut Meter) -> u64
+pub fn split_cost(
+    setting: &Setting,
+    reference: Option<u32>,
+    block: &Block<'_>,
+    k: u32,
+    meter: &mut Meter,
+) -> u64
     requires split { k ≤ k_max setting.now }
     requires sound { IsSound setting.now (told reference block.now) }
     requires meter { meter.old + length block.now < 2 ^ 62 }
@@ -54,6 +65,8 @@ pub fn split_cost(setting: &Setting, reference: Option<u32>, block: &Block<'_>, 
     };
     let limit = setting.k_max();
     prove!(k <= limit);
-    let head = setting.id_len() as u64 + reference_len(setting, reference) + (coded * (k + 1)) as u64;
+    let head = setting.id_len() as u64
+        + reference_len(setting, reference)
+        + (coded * (k + 1)) as u64;
     head + block.sum_shifted(k, meter)
 }

@@ -1,6 +1,7 @@
 //! The code of CCSDS 121.0-B-3: its definitions in `specs/`, their laws and worked examples, the coder, and the decoder.
 #![tactic(auto)]
 
+pub mod coder;
 mod cost;
 mod data_set;
 pub mod decoder;
@@ -9,6 +10,7 @@ pub mod examples;
 pub mod fault;
 mod fields;
 pub mod laws;
+mod open_segment;
 mod options;
 mod pair;
 mod residuals;
@@ -17,5 +19,6 @@ mod search;
 mod segment;
 mod text;
 
+pub use coder::Coder;
 pub use decoder::Decoder;
 pub use fault::{CodeFault, Step};

@@ -19,7 +19,12 @@ pub enum Choice {
 }
 
 /// The smallest of the best splits, and its length.
-pub fn best_split(setting: &Setting, reference: Option<u32>, block: &Block<'_>, meter: &mut Meter) -> (u32, u64)
+pub fn best_split(
+    setting: &Setting,
+    reference: Option<u32>,
+    block: &Block<'_>,
+    meter: &mut Meter,
+) -> (u32, u64)
     requires sound { IsSound setting.now (told reference block.now) }
     requires meter { meter.old + setting.now.block * (k_max setting.now + 1) < 2 ^ 62 }
     ensures best { IsBestSplit setting.now (told reference block.now) result.0 }
@@ -44,7 +49,12 @@ pub fn best_split(setting: &Setting, reference: Option<u32>, block: &Block<'_>, 
 }
 
 /// The option of least length.
-pub fn choose(setting: &Setting, reference: Option<u32>, block: &Block<'_>, meter: &mut Meter) -> Choice
+pub fn choose(
+    setting: &Setting,
+    reference: Option<u32>,
+    block: &Block<'_>,
+    meter: &mut Meter,
+) -> Choice
     requires sound { IsSound setting.now (told reference block.now) }
     requires meter { meter.old + setting.now.block * (k_max setting.now + 2) < 2 ^ 62 }
     ensures value { chosen_set result (told reference block.now) ≡ shortest setting.now (told reference block.now) }
@@ -58,7 +68,11 @@ pub fn choose(setting: &Setting, reference: Option<u32>, block: &Block<'_>, mete
     let no_compression = no_compression_cost(setting, reference, block) as u128;
     let split = split as u128;
     if second_extension < no_compression {
-        if split < second_extension { Choice::Split(k) } else { Choice::SecondExtension }
+        if split < second_extension {
+            Choice::Split(k)
+        } else {
+            Choice::SecondExtension
+        }
     } else if split < no_compression {
         Choice::Split(k)
     } else {

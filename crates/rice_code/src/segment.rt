@@ -15,7 +15,13 @@ use rice_bits::{BitSink, Meter};
 use rice_samples::{Block, Segment, Setting};
 
 /// The shortest text of a block that is not zero.
-fn code_block(setting: &Setting, reference: Option<u32>, block: &Block<'_>, sink: &mut BitSink<16432>, meter: &mut Meter)
+fn code_block(
+    setting: &Setting,
+    reference: Option<u32>,
+    block: &Block<'_>,
+    sink: &mut BitSink<16432>,
+    meter: &mut Meter,
+)
     requires sound { IsSound setting.now (told reference block.now) }
     requires room { length sink.old + cost setting.now (shortest setting.now (told reference block.now)) ≤ 131456 }
     requires meter { meter.old + cost setting.now (shortest setting.now (told reference block.now)) + setting.now.block * (k_max setting.now + 4) < 2 ^ 62 }
@@ -29,7 +35,14 @@ fn code_block(setting: &Setting, reference: Option<u32>, block: &Block<'_>, sink
 }
 
 /// The text of the zero blocks that wait, if there are any.
-fn put_waiting(setting: &Setting, reference: Option<u32>, run: u32, to_end: bool, sink: &mut BitSink<16432>, meter: &mut Meter)
+fn put_waiting(
+    setting: &Setting,
+    reference: Option<u32>,
+    run: u32,
+    to_end: bool,
+    sink: &mut BitSink<16432>,
+    meter: &mut Meter,
+)
     requires few { run ≤ 64 }
     requires fits { IfSome reference (λ v. v < value_count setting.now) }
     requires room { length sink.old + length (joined setting.now (waiting_run to_end reference run)) ≤ 131456 }
@@ -44,7 +57,15 @@ fn put_waiting(setting: &Setting, reference: Option<u32>, run: u32, to_end: bool
 }
 
 /// A block behind `run` zero blocks that wait: it waits too, or it ends the run. Answers how many blocks wait then.
-fn code_next(setting: &Setting, first: Option<u32>, run: u32, reference: Option<u32>, block: &Block<'_>, sink: &mut BitSink<16432>, meter: &mut Meter) -> u32
+fn code_next(
+    setting: &Setting,
+    first: Option<u32>,
+    run: u32,
+    reference: Option<u32>,
+    block: &Block<'_>,
+    sink: &mut BitSink<16432>,
+    meter: &mut Meter,
+) -> u32
     requires few { run < 64 }
     requires fits { IfSome first (λ v. v < value_count setting.now) }
     requires sound { IsSound setting.now (told reference block.now) }
@@ -79,7 +100,15 @@ fn reference_of(reference: Option<u32>, i: usize) -> Option<u32>
 }
 
 /// The code of `count` blocks at the front of a segment that begins at place `start`.
-pub fn code_segment(setting: &Setting, start: u32, reference: Option<u32>, count: usize, segment: &Segment, sink: &mut BitSink<16432>, meter: &mut Meter)
+pub fn code_blocks(
+    setting: &Setting,
+    start: u32,
+    reference: Option<u32>,
+    count: usize,
+    segment: &Segment,
+    sink: &mut BitSink<16432>,
+    meter: &mut Meter,
+)
     requires place { place setting.now start ≡ start }
     requires begins { begins_segment setting.now start ≡ true }
     requires few { count ≤ blocks_left setting.now start }
@@ -97,7 +126,15 @@ pub fn code_segment(setting: &Setting, start: u32, reference: Option<u32>, count
     for i in 0..count {
         let block = segment.block(i, size);
         let first = reference_of(reference, i - run as usize);
-        run = code_next(setting, first, run, reference_of(reference, i), &block, sink, meter);
+        run = code_next(
+            setting,
+            first,
+            run,
+            reference_of(reference, i),
+            &block,
+            sink,
+            meter,
+        );
     }
     let first = reference_of(reference, count - run as usize);
     put_waiting(setting, first, run, true, sink, meter);

@@ -12,7 +12,12 @@ use rice_bits::{BitSink, Meter};
 use rice_samples::{Block, Setting};
 
 /// The reference, if there is one.
-fn put_reference(setting: &Setting, reference: Option<u32>, sink: &mut BitSink<16432>, meter: &mut Meter)
+fn put_reference(
+    setting: &Setting,
+    reference: Option<u32>,
+    sink: &mut BitSink<16432>,
+    meter: &mut Meter,
+)
     requires fits { IfSome reference (λ v. v < value_count setting.now) }
     requires room { length sink.old + reference_len setting.now reference ≤ 131456 }
     requires meter { meter.old + reference_len setting.now reference < 2 ^ 62 }
@@ -102,7 +107,13 @@ fn first_coded(reference: Option<u32>) -> usize
 }
 
 /// The text by no compression.
-fn put_no_compression(setting: &Setting, reference: Option<u32>, block: &Block<'_>, sink: &mut BitSink<16432>, meter: &mut Meter)
+fn put_no_compression(
+    setting: &Setting,
+    reference: Option<u32>,
+    block: &Block<'_>,
+    sink: &mut BitSink<16432>,
+    meter: &mut Meter,
+)
     requires sound { IsSound setting.now (told reference block.now) }
     requires room { length sink.old + cost setting.now (NoCompression (told reference block.now)) ≤ 131456 }
     requires meter { meter.old + cost setting.now (NoCompression (told reference block.now)) + 2 * setting.now.block < 2 ^ 62 }
@@ -121,7 +132,13 @@ fn put_no_compression(setting: &Setting, reference: Option<u32>, block: &Block<'
 }
 
 /// The text by second extension.
-fn put_second_extension(setting: &Setting, reference: Option<u32>, block: &Block<'_>, sink: &mut BitSink<16432>, meter: &mut Meter)
+fn put_second_extension(
+    setting: &Setting,
+    reference: Option<u32>,
+    block: &Block<'_>,
+    sink: &mut BitSink<16432>,
+    meter: &mut Meter,
+)
     requires sound { IsSound setting.now (told reference block.now) }
     requires room { length sink.old + cost setting.now (SecondExtension (told reference block.now)) ≤ 131456 }
     requires meter { meter.old + cost setting.now (SecondExtension (told reference block.now)) + 2 * setting.now.block < 2 ^ 62 }
@@ -137,7 +154,14 @@ fn put_second_extension(setting: &Setting, reference: Option<u32>, block: &Block
 }
 
 /// The text by split `k`.
-fn put_split(setting: &Setting, k: u32, reference: Option<u32>, block: &Block<'_>, sink: &mut BitSink<16432>, meter: &mut Meter)
+fn put_split(
+    setting: &Setting,
+    k: u32,
+    reference: Option<u32>,
+    block: &Block<'_>,
+    sink: &mut BitSink<16432>,
+    meter: &mut Meter,
+)
     requires sound { IsSound setting.now (told reference block.now) }
     requires split { k ≤ k_max setting.now }
     requires room { length sink.old + cost setting.now (Split k (told reference block.now)) ≤ 131456 }
@@ -160,7 +184,14 @@ fn put_split(setting: &Setting, k: u32, reference: Option<u32>, block: &Block<'_
 }
 
 /// The text of a block by an option.
-pub fn put_block(setting: &Setting, choice: Choice, reference: Option<u32>, block: &Block<'_>, sink: &mut BitSink<16432>, meter: &mut Meter)
+pub fn put_block(
+    setting: &Setting,
+    choice: Choice,
+    reference: Option<u32>,
+    block: &Block<'_>,
+    sink: &mut BitSink<16432>,
+    meter: &mut Meter,
+)
     requires sound { IsSound setting.now (told reference block.now) }
     requires split { IsSplitWithin (k_max setting.now) choice }
     requires room { length sink.old + cost setting.now (chosen_set choice (told reference block.now)) ≤ 131456 }
@@ -178,7 +209,14 @@ pub fn put_block(setting: &Setting, choice: Choice, reference: Option<u32>, bloc
 }
 
 /// The text of a run of zero blocks: of `z` blocks, or of all blocks that are left in the segment.
-pub fn put_run(setting: &Setting, reference: Option<u32>, z: u32, to_end: bool, sink: &mut BitSink<16432>, meter: &mut Meter)
+pub fn put_run(
+    setting: &Setting,
+    reference: Option<u32>,
+    z: u32,
+    to_end: bool,
+    sink: &mut BitSink<16432>,
+    meter: &mut Meter,
+)
     requires blocks { 1 ≤ z }
     requires few { z ≤ 64 }
     requires fits { IfSome reference (λ v. v < value_count setting.now) }

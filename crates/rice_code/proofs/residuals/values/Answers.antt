@@ -1,4 +1,4 @@
-use Rattle.std.proofs.Common.{◌^◌, arith, ap, ◌∙◌}
+use Rattle.std.proofs.Common.{◌^◌, arith, ap}
 use Rattle.std.proofs.lemmas.Nat.{one_shl}
 use Rattle.rice_samples.proofs.Counts.{count_range}
 use Rattle.rice_code.proofs.residuals.values.Goals as goal

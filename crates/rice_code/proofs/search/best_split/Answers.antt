@@ -1,7 +1,5 @@
-use Rattle.std.proofs.Common.{◌≡◌, ◌+◌, ◌≤◌, arith, ap, sym}
-use Rattle.rice_code.specs.DataSets.{Split, cost}
+use Rattle.std.proofs.Common.{arith}
 use Rattle.rice_code.specs.Held.{told}
-use Rattle.rice_code.specs.Choice.{IsBestSplit}
 use Rattle.rice_code.proofs.Savings.{best_where_it_stops, best_where_it_ends}
 use Rattle.rice_code.proofs.SearchLemmas.{best_split_is}
 use Rattle.rice_code.proofs.search.best_split.Goals as goal

@@ -1,4 +1,4 @@
-use Rattle.std.proofs.Common.{arith, ap, ◌+◌, ◌≤◌, ◌*◌}
+use Rattle.std.proofs.Common.{arith, ap}
 use Rattle.rice_samples.specs.Parameters.{k_max}
 use Rattle.rice_code.specs.DataSets.{cost}
 use Rattle.rice_code.specs.Choice.{shortest, best_split}

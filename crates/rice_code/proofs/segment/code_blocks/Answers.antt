@@ -1,8 +1,7 @@
-use Rattle.std.proofs.Common.{◌≡◌, ℕ, ◌+◌, ◌-◌, ◌*◌, ◌^◌, ◌<◌, ◌≤◌, ◌++◌, ◌∙◌, min, List, [], ◌∷◌, Bool, true, false, length, drop, take, arith, ap, sym, subst, Option, inl, inr}
-use Rattle.std.specs.Prelude.{sum_by, IfSome, slice_range}
-use Rattle.std.proofs.lemmas.Bool.Decides.{nat_tests}
+use Rattle.std.proofs.Common.{◌≡◌, ◌+◌, ◌-◌, ◌*◌, ◌^◌, ◌<◌, ◌≤◌, ◌++◌, ◌∙◌, min, true, false, length, drop, take, arith, ap, sym, subst, inl, inr}
+use Rattle.std.specs.Prelude.{sum_by, slice_range}
 use Rattle.std.proofs.lemmas.List.{take_all}
-use Rattle.rice_samples.specs.Parameters.{k_max, value_count}
+use Rattle.rice_samples.specs.Parameters.{k_max}
 use Rattle.rice_code.specs.Blocks.{Contents, is_zero}
 use Rattle.rice_code.specs.DataSets.{cost, text, joined}
 use Rattle.rice_code.specs.Code.{data_sets}
@@ -12,7 +11,7 @@ use Rattle.rice_code.specs.Steps.{least_looks, most_looks}
 use Rattle.rice_code.proofs.Covers.{bool_cases}
 use Rattle.rice_code.proofs.Waiting.{held_at, held_len}
 use Rattle.rice_code.proofs.SegmentSteps.{to_come, held, held_range, held_sound, sound_of, next_zero, next_other, at_end, sum_next, most_of_all, looks_zero, looks_other, room_other, room_within, meter_fits, meter_ends, length_both, looks_more, other_same, least_more, most_more}
-use Rattle.rice_code.proofs.segment.code_segment.Goals as goal
+use Rattle.rice_code.proofs.segment.code_blocks.Goals as goal
 
 pub code_next-run-requires-clause-sound : goal.code_next-run-requires-clause-sound
 code_next-run-requires-clause-sound c =
@@ -46,7 +45,7 @@ code_next-run-requires-clause-look c =
     let i = c.loop-i.i in
     let room = room_within c.loop-i.sink (to_come s c.args.start c.args.reference c.args.count c.args.segment.now i c.loop-i.run) c.args.sink.now all c.loop-i.invariant.same in
     let fits = meter_fits c.loop-i.meter c.args.meter.now (length c.loop-i.sink) (length c.args.sink.now) (length all) 0 (sum_by (most_looks s) (take i cs)) i c.args.count (s.block * (k_max s + 5))
-        c.loop-i.invariant.steps_to (most_of_all s i cs) c.loop-i-test.true (omega (arith, room)) c.requires.meter in
+    c.loop-i.invariant.steps_to (most_of_all s i cs) c.loop-i-test.true (omega (arith, room)) c.requires.meter in
     let more = looks_more s.block (k_max s) in
     omega (arith, fits, more)
 
@@ -68,7 +67,7 @@ code_next-run-requires-clause-meter c =
     let put = length (joined s (waiting_run false (reference_at c.args.reference (i - c.loop-i.run)) c.loop-i.run)) + cost s (shortest s (held s c.args.reference ds i)) in
     let g = room_other s c.args.start c.args.reference c.args.count ds i c.loop-i.run c.loop-i.sink c.args.sink.now all legal.interval_from one c.requires.few c.loop-i.invariant.inside c.loop-i-test.true c.requires.sound z c.loop-i.invariant.same in
     let fits = meter_fits c.loop-i.meter c.args.meter.now (length c.loop-i.sink) (length c.args.sink.now) (length all) put (sum_by (most_looks s) (take i cs)) i c.args.count (s.block * (k_max s + 5))
-        c.loop-i.invariant.steps_to (most_of_all s i cs) c.loop-i-test.true (omega (arith, g)) c.requires.meter in
+    c.loop-i.invariant.steps_to (most_of_all s i cs) c.loop-i-test.true (omega (arith, g)) c.requires.meter in
     omega (arith, fits, w))
 
 pub loop-i-preserved : goal.loop-i-preserved
@@ -156,7 +155,7 @@ put_waiting-requires-clause-meter c =
     let room = room_within c.loop-i.sink (joined s (waiting_run true (reference_at c.args.reference (n - run)) run)) c.args.sink.now all (sym ends ∙ same) in
     let w = ap (λ f. length (joined s (waiting_run true f run))) c.reference_of-first-2.ensures in
     let fits = meter_ends c.loop-i.meter c.args.meter.now (length c.loop-i.sink) (length c.args.sink.now) (length all) put (sum_by (most_looks s) (take c.loop-i.i cs)) c.loop-i.i n (s.block * (k_max s + 5))
-        c.loop-i.invariant.steps_to (most_of_all s c.loop-i.i cs) (omega arith) (omega (arith, room)) c.requires.meter in
+    c.loop-i.invariant.steps_to (most_of_all s c.loop-i.i cs) (omega arith) (omega (arith, room)) c.requires.meter in
     omega (arith, fits, w)
 
 pub returns-clause-bits : goal.returns-clause-bits

@@ -1,10 +1,10 @@
-use Rattle.std.proofs.Common.{◌≡◌, ◌+◌, ◌-◌, ◌*◌, ◌≤◌, ◌++◌, length, drop, take, true, false}
+use Rattle.std.proofs.Common.{◌≡◌, ◌+◌, ◌-◌, ◌≤◌, ◌++◌, length, drop, take, false}
 use Rattle.std.specs.Prelude.{sum_by}
 use Rattle.rice_code.specs.Code.{data_sets}
 use Rattle.rice_code.specs.DataSets.{joined}
 use Rattle.rice_code.specs.Held.{held_blocks, reference_at, waiting}
 use Rattle.rice_code.specs.Steps.{least_looks, most_looks}
-use Rattle.rice_code.proofs.segment.code_segment.Given as goal
+use Rattle.rice_code.proofs.segment.code_blocks.Given as goal
 
 abbrev pub invariant-loop-i : goal.invariant-loop-i
 invariant-loop-i l = record {

@@ -1,5 +1,4 @@
-use Rattle.std.proofs.Common.{◌≡◌, ◌≤◌, ◌+◌, ◌-◌, ◌*◌, arith, length, ap}
-use Rattle.std.proofs.lemmas.Bool.Decides.{nat_tests}
+use Rattle.std.proofs.Common.{◌≤◌, ◌-◌, ◌*◌, arith, length, ap}
 use Rattle.rice_code.specs.DataSets.{coded_from}
 use Rattle.rice_code.proofs.Costs.{coded_and_reference}
 use Rattle.rice_code.proofs.TextLemmas.{coded_len}

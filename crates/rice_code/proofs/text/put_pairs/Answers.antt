@@ -1,5 +1,5 @@
 use Rattle.std.proofs.lemmas.Grind.{common_steps}
-use Rattle.std.proofs.Common.{arith, ◌+◌, ◌*◌, ap}
+use Rattle.std.proofs.Common.{arith, ◌+◌, ap}
 use Rattle.std.specs.Prelude.{sum_by}
 use Rattle.rice_code.proofs.TextLemmas.{pairs_left}
 use Rattle.rice_code.proofs.text.put_pairs.Goals as goal

@@ -1,4 +1,4 @@
-use Rattle.std.proofs.Common.{◌≡◌, ◌+◌, ◌++◌, ◌∙◌, ap, true}
+use Rattle.std.proofs.Common.{◌+◌, ◌++◌, ◌∙◌, ap, true}
 use Rattle.std.specs.Prelude.{flat_map}
 use Rattle.rice_bits.specs.Bits.{word, fundamental_sequence}
 use Rattle.rice_samples.specs.Parameters.{id_len}
