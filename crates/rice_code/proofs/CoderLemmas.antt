@@ -140,7 +140,7 @@ sound_same s a b (c ∷ cs) e k = (
 )
 
 -- the blocks of samples behind whole blocks
-blocks_go_on : (s : Parameters) (b q : ℕ) (p : ℤ) (xs ys : List ℤ) → 1 ≤ s.block → length xs ≡ s.block * q → blocks_behind s b p (xs ++ ys) ≡ blocks_behind s b p xs ++ blocks_behind s (b + q) (last_of p xs) ys
+pub blocks_go_on : (s : Parameters) (b q : ℕ) (p : ℤ) (xs ys : List ℤ) → 1 ≤ s.block → length xs ≡ s.block * q → blocks_behind s b p (xs ++ ys) ≡ blocks_behind s b p xs ++ blocks_behind s (b + q) (last_of p xs) ys
 blocks_go_on s b q p xs ys j len =
     let parts = filled_behind s q p xs ys j len in
     (λ i. blocks_from s b p (parts.1 i) (parts.0 i))

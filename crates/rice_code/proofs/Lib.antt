@@ -35,3 +35,4 @@ pub mod LaidSegments
 pub mod OpenSegments
 pub mod HeldSamples
 pub mod CoderLemmas
+pub mod LooksPaid

@@ -143,7 +143,7 @@ sum_next f (suc i) (d ∷ cs) c rest e =
     let g = ap (λ n. sum_by f (take n (d ∷ cs))) n in
     omega (arith, ih, a, b, g)
 
-most_of_one : (s : Parameters) (c : Contents) → most_looks s c ≤ s.block * (k_max s + 5)
+pub most_of_one : (s : Parameters) (c : Contents) → most_looks s c ≤ s.block * (k_max s + 5)
 most_of_one s c =
     let p : s.block * (min (best_split s c + 1) (k_max s) + 5) ≤ s.block * (k_max s + 5) = mul-le-mul_left s.block (omega arith) in
     let q : s.block * 1 ≤ s.block * (k_max s + 5) = mul-le-mul_left s.block (omega arith) in

@@ -1,6 +1,7 @@
 //! The code of CCSDS 121.0-B-3: its definitions in `specs/`, their laws and worked examples, the coder, and the decoder.
 #![tactic(auto)]
 
+pub mod bounds;
 pub mod coder;
 mod cost;
 mod data_set;
@@ -19,6 +20,7 @@ mod search;
 mod segment;
 mod text;
 
+pub use bounds::{bit_bound, padded_bound, step_bound};
 pub use coder::Coder;
 pub use decoder::Decoder;
 pub use fault::{CodeFault, Step};
