@@ -26,3 +26,13 @@ pub mod ReadLemmas
 pub mod CutSets
 pub mod RestoredBlocks
 pub mod DecoderLemmas
+pub mod SearchLemmas
+pub mod TextLemmas
+pub mod Waiting
+pub mod SegmentSteps
+pub mod SegmentPlaces
+pub mod LaidSegments
+pub mod OpenSegments
+pub mod HeldSamples
+pub mod CoderLemmas
+pub mod LooksPaid

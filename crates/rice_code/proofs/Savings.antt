@@ -68,14 +68,14 @@ stops ds l k (suc m) h =
         let i = sum_halves ds k in
         omega (arith, f, g, i, h)
 
-less : (m n : ℕ) → m < n → nat_lt m n ≡ true
+pub less : (m n : ℕ) → m < n → nat_lt m n ≡ true
 less m n h = grind (arith, nat_tests)
 
-not_less : (m n : ℕ) → n ≤ m → nat_lt m n ≡ false
+pub not_less : (m n : ℕ) → n ≤ m → nat_lt m n ≡ false
 not_less m n h = grind (arith, nat_tests)
 
 -- no option behind is shorter, so the first stays
-kept : {A : Type 0} (f : A → ℕ) (g : ℕ → A) (a : A) (from n : ℕ) → ((j : ℕ) → from ≤ j → j < from + n → f a ≤ f (g j)) → best_of (λ x y. nat_lt (f x) (f y)) a (map g (range_with_len from n)) ≡ a
+pub kept : {A : Type 0} (f : A → ℕ) (g : ℕ → A) (a : A) (from n : ℕ) → ((j : ℕ) → from ≤ j → j < from + n → f a ≤ f (g j)) → best_of (λ x y. nat_lt (f x) (f y)) a (map g (range_with_len from n)) ≡ a
 kept f g a from zero h = refl
 kept f g a from (suc n) h =
     let e : nat_lt (f (g from)) (f a) ≡ false = no (f (g from)) (f a) (h from (omega arith) (omega arith)) in

@@ -23,7 +23,7 @@ use Rattle.rice_code.specs.Forms.{IsReference, AllFit, RunIsSound, ResidualsAreS
 use Rattle.rice_code.specs.Layout.{block_behind, padding}
 use Rattle.rice_code.specs.Decoded.{Decoded, DecodedFrom, Ending, Reached, Ended, CutOff, Past, Large, GoesOn, EndsWith, cut_to}
 use Rattle.rice_code.proofs.Covers.{bool_cases, GoOn, segment_goes_on}
-use Rattle.rice_code.proofs.Bounded.{IsSoundBlock, AreSoundBlocks}
+use Rattle.rice_code.specs.Held.{IsSoundBlock, AreSoundBlocks}
 use Rattle.rice_code.proofs.SoundBlocks.{all_append, last_legal}
 use Rattle.rice_code.proofs.Taken.{IsSound}
 use Rattle.rice_code.proofs.Ones.{forms_have_a_one}

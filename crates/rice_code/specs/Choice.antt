@@ -18,3 +18,7 @@ pub record IsBestSplit (s : Parameters) (c : Contents) (k : ℕ) : Type 0 where
   pub at_most : k ≤ k_max s
   pub least : (j : ℕ) → j ≤ k_max s → cost s (Split k c) ≤ cost s (Split j c)
   pub first : (j : ℕ) → j < k → cost s (Split k c) < cost s (Split j c)
+
+-- that k
+abbrev pub best_split : Parameters → Contents → ℕ
+best_split s c = best_of (λ j k. nat_lt (cost s (Split j c)) (cost s (Split k c))) 0 (range_with_len 1 (k_max s))

@@ -1,5 +1,5 @@
 //! The laws of code and decoding, each the contract of a function that does nothing. Their statements are in `specs/Laws.antt`.
-ghost use Rattle.rice_code.specs.Laws.{ReturnsSamples, ReturnsSamplesAndFill, DecodedIsOne, AllBytesAreDecoded, FormsAreReadInOneWay, FormsHaveAOne, CodeGrows, CodeIsBounded, PaddedCodeIsBounded, CodeIsJoined, CostIsLength, ChoiceIsLeast, SavingNeverRises, FirstStopIsBest, ChoiceIsOfThree, CodeGoesOn, BitsGoOn, CodeStandsInIntervals, CodeStandsInBytes, DecodingGoesOn, DecodingStandsInPlaces};
+ghost use Rattle.rice_code.specs.Laws.{ReturnsSamples, ReturnsSamplesAndFill, DecodedIsOne, AllBytesAreDecoded, FormsAreReadInOneWay, FormsHaveAOne, CodeGrows, CodeIsBounded, PaddedCodeIsBounded, CodeIsJoined, CostIsLength, ChoiceIsLeast, SavingNeverRises, FirstStopIsBest, ChoiceIsOfThree, CodeGoesOn, BitsGoOn, CodeStandsInIntervals, CodeStandsInBytes, DecodingGoesOn, DecodingStandsInPlaces, StepsAreBounded, StepsArePaid, AllStepsAreBounded};
 
 /// With the count of the samples, the output decodes to exactly these.
 pub fn returns_samples()
@@ -96,4 +96,11 @@ pub fn decoding_goes_on()
 /// Where no number is asked for, only the places in the interval and in the byte matter to decoding.
 pub fn decoding_stands_in_places()
     ensures { DecodingStandsInPlaces }
+{}
+
+/// The steps of coding are bounded, for the blocks of each segment and for all samples.
+pub fn steps_are_bounded()
+    ensures blocks { StepsAreBounded }
+    ensures paid { StepsArePaid }
+    ensures all { AllStepsAreBounded }
 {}
