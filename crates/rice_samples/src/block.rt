@@ -104,7 +104,8 @@ impl Block<'_> {
         ensures size { IsBlockSize (length result.now) }
         ensures steps { meter.new ≡ meter.old + length self.now }
     {
-        meter.tick(self.items.len() as u64);
-        self.items
+        let items = self.items;
+        meter.tick(items.len() as u64);
+        items
     }
 }

@@ -41,19 +41,14 @@ pub(crate) fn sum_shifted(items: &[u32], k: u32) -> u64
     ensures limit { result ≤ 2 ^ 38 }
 {
     // The loops unroll where the length is known.
-    if items.len() <= 8 << k {
-        match items.len() {
-            8 => narrow_sum(all_of(items, 8), k),
-            16 => narrow_sum(all_of(items, 16), k),
-            32 => narrow_sum(all_of(items, 32), k),
-            _ => narrow_sum(items, k),
-        }
-    } else {
-        match items.len() {
-            16 => wide_sum(all_of(items, 16), k),
-            32 => wide_sum(all_of(items, 32), k),
-            _ => wide_sum(items, k),
-        }
+    match items.len() {
+        8 => narrow_sum(all_of(items, 8), k),
+        16 if 2 <= 1usize << k => narrow_sum(all_of(items, 16), k),
+        16 => wide_sum(all_of(items, 16), k),
+        32 if 4 <= 1usize << k => narrow_sum(all_of(items, 32), k),
+        32 => wide_sum(all_of(items, 32), k),
+        _ if 8 <= 1usize << k => narrow_sum(items, k),
+        _ => wide_sum(items, k),
     }
 }
 
