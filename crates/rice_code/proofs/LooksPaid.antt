@@ -1,5 +1,5 @@
 -- The best split is no larger than the bits of a sample, and costs less than J bits for each of its digits.
-use Rattle.std.proofs.Common.{◌≡◌, ℕ, zero, suc, ◌+◌, ◌-◌, ◌*◌, ◌/◌, ◌^◌, ◌<◌, ◌≤◌, Bool, true, false, cond, nat_lt, map, min, List, [], ◌∷◌, length, ap, arith, inl, inr, subst, sym, Option, None, Some, ◌∙◌, ◌++◌, ℤ, pos}
+use Rattle.std.proofs.Common.{◌≡◌, ℕ, zero, suc, ◌+◌, ◌*◌, ◌/◌, ◌^◌, ◌<◌, ◌≤◌, Bool, true, false, cond, nat_lt, map, min, List, [], ◌∷◌, length, ap, arith, inl, inr, Option, None, Some, ◌∙◌, ◌++◌, ℤ, pos}
 use Rattle.std.specs.Prelude.{sum_by, slice_index, OnSome, All}
 use Rattle.std.specs.List.{AllByRecursion, range_with_len}
 use Rattle.std.proofs.lemmas.Bool.{cases_lt}
@@ -7,7 +7,7 @@ use Rattle.std.proofs.lemmas.Nat.{pow_pos}
 use Rattle.std.proofs.lemmas.List.Sums.{sum_by-cons, sum_by-append}
 use Rattle.std.proofs.lemmas.List.Elements.{recursion_from_All}
 use Rattle.std.proofs.Math.Nat.{mul-le-mul_left, div-eq_of_lt}
-use Rattle.rice_samples.specs.Parameters.{Parameters, IsLegal, IsSample, id_len, k_max, value_count}
+use Rattle.rice_samples.specs.Parameters.{Parameters, IsLegal, IsSample, id_len, k_max}
 use Rattle.rice_samples.specs.Places.{begins_segment, block_count}
 use Rattle.rice_samples.specs.Residuals.{last_of, filled}
 use Rattle.rice_samples.proofs.Levels.{zero_is_sample}
@@ -212,7 +212,7 @@ behind_whole s legal q xs ys len begins =
     let p = last_of (pos 0) xs in (
       bits_go_on s legal 0 q (pos 0) xs ys len (ap (λ m. begins_segment s m) here ∙ begins) ∙ ap (λ m. code_bits s xs + bits_behind s m p ys) here,
       ap (λ v. sum_by (most_looks s) v) (blocks_go_on s 0 q (pos 0) xs ys j len ∙ ap (λ m. blocks_behind s 0 (pos 0) xs ++ blocks_behind s m p ys) here)
-      ∙ sum_by-append (most_looks s) (blocks_behind s 0 (pos 0) xs) (blocks_behind s q p ys),
+          ∙ sum_by-append (most_looks s) (blocks_behind s 0 (pos 0) xs) (blocks_behind s q p ys),
     )
 
 pub steps_are_bounded : (s : Parameters) → IsLegal s → (blocks : ℕ) (xs ys : List ℤ) → All (IsSample s) xs → All (IsSample s) ys → length xs ≡ s.block * blocks → begins_segment s blocks ≡ true →
