@@ -48,7 +48,7 @@ fn read_joined<I: Intake>(
 }
 
 /// Reads so many words, as many as 32 bits hold at a time, and appends them.
-pub fn read_words<I: Intake>(
+fn read_grouped<I: Intake>(
     reader: &mut BitReader<I>,
     meter: &mut Meter,
     count: usize,
@@ -74,6 +74,55 @@ pub fn read_words<I: Intake>(
         done += some as usize;
     }
     Ok(())
+}
+
+/// Reads so many words, one at a time, and appends them.
+fn read_each<I: Intake>(
+    reader: &mut BitReader<I>,
+    meter: &mut Meter,
+    count: usize,
+    width: u32,
+    out: &mut ArrayVec<u32, 64>,
+) -> Result<(), BitFault>
+    requires going { reader.old.refusal ≡ None }
+    requires room { HasRoom meter.old reader.old.taken }
+    requires width { width ≤ 32 }
+    requires fits { length out.old.items + count ≤ 64 }
+    ensures ok { OnOk result (Row I.left I.failed (word width) (λ v. v < 2 ^ width) reader.old reader.new count out.old.items out.new.items) }
+    ensures err { IfErr result (λ f. (bits : List Bool) × (length bits < count * width) × Stops I.left I.failed reader.old reader.new bits f) }
+    ensures steps { meter.new + reader.old.taken ≡ meter.old + reader.new.taken }
+    ensures limit { reader.new.taken ≤ 2 ^ 52 }
+{
+    for done in 0..count {
+        match reader.take(width, meter) {
+            Ok(value) => out.push(value),
+            Err(fault) => return Err(fault),
+        }
+    }
+    Ok(())
+}
+
+/// Reads so many words, and appends them.
+pub fn read_words<I: Intake>(
+    reader: &mut BitReader<I>,
+    meter: &mut Meter,
+    count: usize,
+    width: u32,
+    out: &mut ArrayVec<u32, 64>,
+) -> Result<(), BitFault>
+    requires going { reader.old.refusal ≡ None }
+    requires room { HasRoom meter.old reader.old.taken }
+    requires width { width ≤ 32 }
+    requires fits { length out.old.items + count ≤ 64 }
+    ensures ok { OnOk result (Row I.left I.failed (word width) (λ v. v < 2 ^ width) reader.old reader.new count out.old.items out.new.items) }
+    ensures err { IfErr result (λ f. (bits : List Bool) × (length bits < count * width) × Stops I.left I.failed reader.old reader.new bits f) }
+    ensures steps { meter.new + reader.old.taken ≡ meter.old + reader.new.taken }
+    ensures limit { reader.new.taken ≤ 2 ^ 52 }
+{
+    if width > 16 {
+        return read_each(reader, meter, count, width, out);
+    }
+    read_grouped(reader, meter, count, width, out)
 }
 
 /// Reads so many fundamental sequences, and appends the numbers of their zeros.

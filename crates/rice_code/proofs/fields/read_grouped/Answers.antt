@@ -2,7 +2,7 @@ use Rattle.std.proofs.Common.{arith, ◌+◌, ◌-◌, ◌/◌, ◌^◌, ◌<◌
 use Rattle.std.proofs.Math.Nat.{min-le_right}
 use Rattle.rice_bits.specs.Bits.{word}
 use Rattle.rice_code.proofs.FieldLemmas.{row-none, row-append, words-stop}
-use Rattle.rice_code.proofs.fields.read_words.Goals as goal
+use Rattle.rice_code.proofs.fields.read_grouped.Goals as goal
 
 pub loop-done-init : goal.loop-done-init
 loop-done-init g c = record {
