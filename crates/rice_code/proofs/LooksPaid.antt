@@ -212,7 +212,7 @@ behind_whole s legal q xs ys len begins =
     let p = last_of (pos 0) xs in (
       bits_go_on s legal 0 q (pos 0) xs ys len (ap (λ m. begins_segment s m) here ∙ begins) ∙ ap (λ m. code_bits s xs + bits_behind s m p ys) here,
       ap (λ v. sum_by (most_looks s) v) (blocks_go_on s 0 q (pos 0) xs ys j len ∙ ap (λ m. blocks_behind s 0 (pos 0) xs ++ blocks_behind s m p ys) here)
-      ∙ sum_by-append (most_looks s) (blocks_behind s 0 (pos 0) xs) (blocks_behind s q p ys),
+          ∙ sum_by-append (most_looks s) (blocks_behind s 0 (pos 0) xs) (blocks_behind s q p ys),
     )
 
 pub steps_are_bounded : (s : Parameters) → IsLegal s → (blocks : ℕ) (xs ys : List ℤ) → All (IsSample s) xs → All (IsSample s) ys → length xs ≡ s.block * blocks → begins_segment s blocks ≡ true →

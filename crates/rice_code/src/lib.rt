@@ -24,3 +24,6 @@ pub use bounds::{bit_bound, padded_bound, step_bound};
 pub use coder::Coder;
 pub use decoder::Decoder;
 pub use fault::{CodeFault, Step};
+
+#[cfg(test)]
+mod coder_tests;
