@@ -4,11 +4,12 @@ use Rattle.std.specs.Prelude.{sum_by}
 use Rattle.std.specs.List.{AllByRecursion}
 use Rattle.std.specs.Int.{next_multiple_of}
 use Rattle.std.proofs.lemmas.Bool.{cases_lt}
+use Rattle.std.proofs.lemmas.Bool.Decides.{nat_tests}
 use Rattle.std.proofs.lemmas.List.{take_at}
 use Rattle.std.proofs.lemmas.List.Elements.{All-from_recursion}
 use Rattle.std.proofs.lemmas.List.Sums.{sum_by-append}
 use Rattle.std.proofs.Math.Nat.{mod-lt, mod-eq_of_lt, mul-div_cancel_left, mul-add-mod_self_left, mod_self, mul-le-mul_left}
-use Rattle.rice_samples.specs.Parameters.{Parameters, IsLegal, IsSample}
+use Rattle.rice_samples.specs.Parameters.{Parameters, IsLegal, IsSample, id_len, k_max}
 use Rattle.rice_samples.specs.Places.{place, begins_segment, blocks_left, cut, block_count}
 use Rattle.rice_samples.specs.Residuals.{last_of, filled}
 use Rattle.rice_samples.proofs.PlaceLemmas.{some_left}
@@ -20,7 +21,7 @@ use Rattle.rice_code.specs.Coder.{State, Holds, StandsFor, IsCoder, IsWhole, IsI
 use Rattle.rice_code.specs.DataSets.{DataSet, text}
 use Rattle.rice_code.specs.Held.{AreSoundBlocks, held_blocks}
 use Rattle.rice_code.specs.Layout.{laid}
-use Rattle.rice_code.specs.Steps.{least_looks, most_looks, least_looks_at, most_looks_at, least_steps, most_steps}
+use Rattle.rice_code.specs.Steps.{least_looks, most_looks, least_looks_at, most_looks_at, least_steps, most_steps, segment_steps}
 use Rattle.rice_code.proofs.Covers.{bool_cases}
 use Rattle.rice_code.proofs.Filling.{last_append, blocks_append}
 use Rattle.rice_code.proofs.GoingOn.{filled_behind, own_blocks, code_goes_on, bits_go_on}
@@ -431,3 +432,12 @@ finish_most coder held xs m n g steps h =
 -- the room in the meter
 pub meter_room : (i j k m : ℕ) → m + 64 * (i + j * (k + 6)) < 2 ^ 62 → 1 ≤ j → m + j + 64 * (i + j * (k + 5)) < 2 ^ 62
 meter_room i j k m h one = let e : i + j * (k + 6) ≡ i + j * (k + 5) + j = omega arith in omega (arith, e)
+
+-- the steps of a segment are few
+pub segment_steps_few : (s : Parameters) → IsLegal s → segment_steps s ≤ 274752
+segment_steps_few s legal =
+    let j : s.block ≤ 64 = grind (arith, legal.block) in
+    let i : id_len s ≤ 5 = grind (arith, nat_tests) in
+    let k : k_max s ≤ 29 = grind (arith, nat_tests) in
+    let a : s.block * (s.bits + k_max s + 6) ≤ s.block * 67 = mul-le-mul_left s.block (omega (arith, legal.bits_to, k)) in
+    omega (arith, a, i, j)

@@ -26,4 +26,6 @@ pub use decoder::Decoder;
 pub use fault::{CodeFault, Step};
 
 #[cfg(test)]
+mod coder_tests;
+#[cfg(test)]
 mod decoder_tests;
