@@ -36,3 +36,4 @@ pub mod OpenSegments
 pub mod HeldSamples
 pub mod CoderLemmas
 pub mod LooksPaid
+pub mod GatheredLemmas

@@ -10,6 +10,7 @@ pub mod decoding_examples;
 pub mod examples;
 pub mod fault;
 mod fields;
+mod gathered;
 pub mod laws;
 mod open_segment;
 mod options;

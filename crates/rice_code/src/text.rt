@@ -7,6 +7,7 @@ ghost use Rattle.rice_code.specs.DataSets.{NoCompression, SecondExtension, Split
 ghost use Rattle.rice_code.specs.Held.{told, IsSound, sent_run, sent_zeros};
 ghost use Rattle.rice_code.specs.Chosen.{chosen_set, IsSplitWithin};
 
+use crate::gathered::Gathered;
 use crate::search::Choice;
 use rice_bits::{BitSink, Meter};
 use rice_samples::{Block, Setting};
@@ -49,10 +50,12 @@ fn put_low(block: &Block<'_>, from: usize, width: u32, sink: &mut BitSink<16432>
     ensures len { length sink.new ≡ length sink.old + (length block.now - from) * width }
     ensures steps { meter.new ≡ meter.old + (length block.now - from) * (width + 1) }
 {
+    let mut fields = Gathered::new();
     for i in from..block.len() {
         let residual = block.at(i, meter);
-        sink.put(low_digits(residual, width), width, meter);
+        fields.add(low_digits(residual, width), width, sink, meter);
     }
+    fields.put(sink, meter);
 }
 
 /// The fundamental sequences of the residuals from number `from` on, without their `k` lowest digits.
@@ -65,10 +68,12 @@ fn put_high(block: &Block<'_>, from: usize, k: u32, sink: &mut BitSink<16432>, m
     ensures len { length sink.new ≡ length sink.old + (length block.now - from) + sum_by (λ d. d / 2 ^ k) (drop from block.now) }
     ensures steps { meter.new ≡ meter.old + 2 * (length block.now - from) + sum_by (λ d. d / 2 ^ k) (drop from block.now) }
 {
+    let mut fields = Gathered::new();
     for i in from..block.len() {
         let residual = block.at(i, meter);
-        sink.put_fs((residual >> k) as u64, meter);
+        fields.add_fs(residual >> k, sink, meter);
     }
+    fields.put(sink, meter);
 }
 
 /// The number that stands for a pair.
