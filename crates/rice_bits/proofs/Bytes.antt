@@ -1,11 +1,11 @@
 -- Bytes and their bits.
-use Rattle.std.proofs.Common.{◌≡◌, ℕ, zero, suc, ◌+◌, ◌-◌, ◌*◌, ◌/◌, ◌%◌, ◌^◌, ◌<◌, ◌≤◌, Bool, true, false, List, [], ◌∷◌, ◌++◌, length, drop, take, replicate, refl, sym, ◌∙◌, ap, subst, inl, inr, arith, zero-add, append_assoc, length-append, get_or, mod-eq_of_lt}
+use Rattle.std.proofs.Common.{◌≡◌, ℕ, zero, suc, ◌+◌, ◌*◌, ◌<◌, Bool, false, List, [], ◌∷◌, ◌++◌, length, drop, take, replicate, refl, sym, ◌∙◌, ap, inl, inr, arith, append_assoc, length-append, get_or}
 use Rattle.std.specs.Prelude.{All}
 use Rattle.std.proofs.Math.Seq.{take-length}
 use Rattle.std.proofs.lemmas.List.{length-replicate, append-nil, get_or_past, replicate-append-replicate, drop_at}
 use Rattle.std.proofs.lemmas.Bool.{cases_lt}
 use Rattle.std.proofs.lemmas.List.Elements.{All-get_or}
-use Rattle.rice_bits.specs.Bits.{bits_in_bytes, bits_to_byte, padded, word, number_of, bits_of, whole_bytes}
+use Rattle.rice_bits.specs.Bits.{bits_in_bytes, bits_to_byte, padded, word, bits_of, whole_bytes}
 use Rattle.rice_bits.proofs.Words.{length-word, word-zero, number_of-word, word-number_of}
 
 pub bits_of-nil : bits_of [] ≡ []

@@ -1,63 +1,61 @@
--- Bytes, and the digits that wait for more.
-use Rattle.std.proofs.Common.{◌≡◌, ℕ, zero, suc, ◌+◌, ◌-◌, ◌*◌, ◌/◌, ◌%◌, ◌^◌, ◌<◌, ◌≤◌, Bool, true, false, List, [], ◌∷◌, ◌++◌, length, drop, take, replicate, refl, sym, ◌∙◌, ap, subst, inl, inr, arith, zero-add, append_assoc, length-append, get_or, mod-eq_of_lt}
-use Rattle.std.specs.Prelude.{All}
-use Rattle.std.proofs.lemmas.Nat.{pow_pos, pow-add, mul-add-lt, shl_below, shr_below}
-use Rattle.std.proofs.lemmas.List.{append-nil, replicate-append-replicate, length-replicate}
-use Rattle.std.proofs.Math.Nat.{mul_comm, pow-le-pow_right}
-use Rattle.rice_bits.specs.Bits.{bits_in_bytes, bits_to_byte, word, bits_of, whole_bytes, fundamental_sequence}
-use Rattle.rice_bits.proofs.Words.{length-word, word-nil, word-cat, word-zero, word-split, word-fs}
-use Rattle.rice_bits.proofs.Bytes.{bits_of-append, bits_of-push, bits_of-zeros, length-bits_of, whole-bits, rest-bits, each_byte}
+-- Whole bytes, and the digits that wait for more.
+use Rattle.std.proofs.Common.{◌≡◌, ℕ, ◌+◌, ◌-◌, ◌*◌, ◌/◌, ◌%◌, ◌^◌, ◌<◌, ◌≤◌, Bool, true, false, List, [], ◌∷◌, ◌++◌, length, drop, take, replicate, sym, ◌∙◌, ap, arith, append_assoc, length-append, get_or}
+use Rattle.std.specs.Int.{to_be_bytes, w64}
+use Rattle.std.proofs.lemmas.List.{append-nil, replicate-append-replicate, length-take-le}
+use Rattle.rice_bits.specs.Bits.{IsGathered, bits_in_bytes, word, bits_of, whole_bytes, fundamental_sequence}
+use Rattle.rice_bits.proofs.Words.{length-word, word-nil, word-cat, word-split, word-fs}
+use Rattle.rice_bits.proofs.Bytes.{bits_of-nil, bits_of-append, bits_of-zeros, length-bits_of, whole-bits, rest-bits}
+use Rattle.rice_bits.proofs.EightBytes.{word-mod, front-moved}
 
--- no bytes and no digits
-pub gathered_none : bits_of [] ++ word 0 0 ≡ []
+-- no bits
+pub gathered_none : (bytes : List ℕ) (v : ℕ) → bits_of (take 0 bytes) ++ word 0 v ≡ []
 unfolding bits_of
-gathered_none = word-nil 0
+gathered_none bytes v = word-nil v
 
-pub length-gathered : (bytes : List ℕ) (w v : ℕ) → length (bits_of bytes ++ word w v) ≡ 8 * length bytes + w
-length-gathered bytes w v = omega (arith, length-append (bits_of bytes) (word w v), length-bits_of bytes, length-word w v)
+pub length-gathered : (bytes : List ℕ) (n v : ℕ) → n / 8 ≤ length bytes → length (bits_of (take (n / 8) bytes) ++ word (n % 8) v) ≡ n
+length-gathered bytes n v h =
+    omega (arith, length-append (bits_of (take (n / 8) bytes)) (word (n % 8) v), length-bits_of (take (n / 8) bytes), length-word (n % 8) v, length-take-le (n / 8) bytes h)
 
--- the digits that wait move up when others come behind them
-pub gathered-join : (bytes : List ℕ) (a b h l : ℕ) → l < 2 ^ b
-    → bits_of bytes ++ word (a + b) (h * 2 ^ b + l) ≡ bits_of bytes ++ word a h ++ word b l
-gathered-join bytes a b h l p = rw (word-cat a b h l p) (sym (append_assoc (bits_of bytes) (word a h) (word b l)))
+-- the length of what a view shows
+pub length_viewed : (bytes : List ℕ) (capacity n v : ℕ) (bits : List Bool) → IsGathered capacity n v → length bytes ≡ capacity
+    → bits_of (take (n / 8) bytes) ++ word (n % 8) v ≡ bits → length bits ≡ n
+length_viewed bytes capacity n v bits h size e = ap length (sym e) ∙ length-gathered bytes n v (omega (arith, h.room, size))
 
--- eight digits become a byte
-pub gathered-flush : (bytes : List ℕ) (left v : ℕ) → 8 ≤ left
-    → bits_of (bytes ++ (v / 2 ^ (left - 8)) ∷ []) ++ word (left - 8) (v % 2 ^ (left - 8)) ≡ bits_of bytes ++ word left v
-gathered-flush bytes left v h =
-    let e : 8 + (left - 8) ≡ left = omega arith in
-    let s : word left v ≡ word 8 (v / 2 ^ (left - 8)) ++ word (left - 8) (v % 2 ^ (left - 8)) = ap (λ n. word n v) (sym e) ∙ word-split 8 (left - 8) v in
-    rw (bits_of-push bytes (v / 2 ^ (left - 8)), s) (append_assoc (bits_of bytes) (word 8 (v / 2 ^ (left - 8))) (word (left - 8) (v % 2 ^ (left - 8))))
+-- digits that come behind those that wait: the whole bytes of all, and the others
+gathered-joined : (front : List ℕ) (last value w width : ℕ) → value < 2 ^ width → w < 8 → w + width < 64
+    → bits_of (front ++ take ((w + width) / 8) (to_be_bytes w64 ((last * 2 ^ width + value) * 2 ^ (64 - (w + width)) % 2 ^ 64)))
+    ++ word ((w + width) % 8) ((last * 2 ^ width + value) % 2 ^ 8)
+    ≡ bits_of front ++ word w last ++ word width value
+gathered-joined front last value w width p short narrow =
+    let c : ℕ = w + width in
+    let j : ℕ = last * 2 ^ width + value in
+    let q : ℕ = c / 8 in
+    let r : ℕ = c % 8 in
+    let rest : c - 8 * q ≡ r = omega arith in
+    let size : 8 * q + r ≡ c = omega arith in
+    let bytes : bits_of (take q (to_be_bytes w64 (j * 2 ^ (64 - c) % 2 ^ 64))) ≡ word (8 * q) (j / 2 ^ r) =
+    front-moved q c j (omega arith) (omega arith) ∙ ap (λ n. word (8 * q) (j / 2 ^ n)) rest in
+    let last_digits : word r (j % 2 ^ 8) ≡ word r (j % 2 ^ r) = word-mod r 8 j (omega arith) ∙ sym (word-mod r r j (omega arith)) in
+    let digits : word (8 * q) (j / 2 ^ r) ++ word r (j % 2 ^ r) ≡ word w last ++ word width value =
+    sym (word-split (8 * q) r j) ∙ (ap (λ n. word n j) size ∙ word-cat w width last value p) in
+    rw (bits_of-append front (take q (to_be_bytes w64 (j * 2 ^ (64 - c) % 2 ^ 64))), bytes, last_digits)
+    (append_assoc (bits_of front) (word (8 * q) (j / 2 ^ r)) (word r (j % 2 ^ r))
+    ∙ (ap (λ d. bits_of front ++ d) digits ∙ sym (append_assoc (bits_of front) (word w last) (word width value))))
 
--- what a shift leaves fits a byte
-pub high_below : (v left : ℕ) → 8 ≤ left → v < 2 ^ left → v / 2 ^ (left - 8) < 256
-high_below v left h p =
-    let e : 8 + (left - 8) ≡ left = omega arith in
-    shr_below v 8 (left - 8) (subst (λ n. v < 2 ^ n) (sym e) p)
-
-pub join_below : (a b h l : ℕ) → h < 2 ^ a → l < 2 ^ b → h * 2 ^ b + l < 2 ^ (a + b)
-join_below a b h l p q =
-    let e : 2 ^ (a + b) ≡ 2 ^ b * 2 ^ a = pow-add 2 a b ∙ mul_comm (2 ^ a) (2 ^ b) in
-    rw e (mul-add-lt h (2 ^ b) l (2 ^ a) p q)
-
--- zeros behind the digits that wait
-pub gathered-zeros : (bytes : List ℕ) (w n v : ℕ)
-    → bits_of bytes ++ word (w + n) (v * 2 ^ n + 0) ≡ bits_of bytes ++ word w v ++ replicate n false
-gathered-zeros bytes w n v = rw (gathered-join bytes w n v 0 (pow_pos n), word-zero n) refl
-
--- the digits that wait, filled up by zeros to a byte
-pub gathered-byte : (bytes : List ℕ) (w v : ℕ) → w ≤ 8
-    → bits_of (bytes ++ (v * 2 ^ (8 - w) + 0) ∷ []) ≡ bits_of bytes ++ word w v ++ replicate (8 - w) false
-gathered-byte bytes w v h =
-    let e : 8 ≡ w + (8 - w) = omega arith in
-    let s : word 8 (v * 2 ^ (8 - w) + 0) ≡ word (w + (8 - w)) (v * 2 ^ (8 - w) + 0) = ap (λ n. word n (v * 2 ^ (8 - w) + 0)) e in
-    rw (bits_of-push, s) (gathered-zeros bytes w (8 - w) v)
+-- the same, as a number of bits and a list of bytes
+pub gathered-put : (bytes front : List ℕ) (last value n width : ℕ) → value < 2 ^ width → width < 56
+    → bytes ≡ front ++ take ((n % 8 + width) / 8) (to_be_bytes w64 ((last * 2 ^ width + value) * 2 ^ (64 - (n % 8 + width)) % 2 ^ 64))
+    → bits_of bytes ++ word ((n + width) % 8) ((last * 2 ^ width + value) % 2 ^ 8)
+    ≡ bits_of front ++ word (n % 8) last ++ word width value
+gathered-put bytes front last value n width p narrow e =
+    let rest : (n + width) % 8 ≡ (n % 8 + width) % 8 = omega arith in
+    rw (e, rest) (gathered-joined front last value (n % 8) width p (omega arith) (omega arith))
 
 -- zeros by whole bytes, where no digit waits
-pub gathered-zero_bytes : (bytes : List ℕ) (count v : ℕ)
-    → bits_of (bytes ++ replicate count 0) ++ word 0 v ≡ bits_of bytes ++ word 0 v ++ replicate (8 * count) false
-gathered-zero_bytes bytes count v =
-    rw (bits_of-append bytes (replicate count 0), bits_of-zeros count, word-nil v, append-nil (bits_of bytes)) (append-nil _)
+pub gathered-zero_bytes : (front : List ℕ) (count v : ℕ)
+    → bits_of (front ++ replicate count 0) ++ word 0 v ≡ bits_of front ++ word 0 v ++ replicate (8 * count) false
+gathered-zero_bytes front count v =
+    rw (bits_of-append front (replicate count 0), bits_of-zeros count, word-nil v, append-nil (bits_of front)) (append-nil _)
 
 -- a fundamental sequence that is put in three parts
 pub fs-parts : (a b c m : ℕ) (bits : List Bool) → a + 8 * b + c ≡ m
@@ -75,44 +73,14 @@ fs-parts a b c m bits e =
     )
     (ap (λ n. bits ++ (replicate n false ++ true ∷ [])) (omega arith))
 
--- a number that is shifted up, where there is room
-pub shift_fits : (a b v : ℕ) → v < 2 ^ a → a + b ≤ 64 → v * 2 ^ b < 2 ^ 64
-shift_fits a b v p h = omega (arith, shl_below v a b p, pow-le-pow_right {n = 2} (omega arith) {i = a + b} {j = 64} h)
+-- bytes that are dropped leave the digits that wait
+pub gathered-dropped : (bytes : List ℕ) (n v : ℕ)
+    → bits_of (take (n % 8 / 8) bytes) ++ word (n % 8 % 8) v
+    ≡ drop (bits_in_bytes (length (bits_of (take (n / 8) bytes) ++ word (n % 8) v))) (bits_of (take (n / 8) bytes) ++ word (n % 8) v)
+gathered-dropped bytes n v =
+    let none : n % 8 / 8 ≡ 0 = omega arith in
+    let same : n % 8 % 8 ≡ n % 8 = omega arith in
+    rw (none, same) (ap (λ front. front ++ word (n % 8) v) bits_of-nil ∙ sym (rest-bits (take (n / 8) bytes) (word (n % 8) v) (rw (length-word (n % 8) v) (omega arith))))
 
--- padding of what waits
-pub gathered-pad : (bytes : List ℕ) (w v : ℕ) → 0 < w → w < 8
-    → bits_of (bytes ++ (v * 2 ^ (8 - w) + 0) ∷ []) ++ word 0 0
-    ≡ bits_of bytes ++ word w v ++ replicate (bits_to_byte (length (bits_of bytes ++ word w v))) false
-gathered-pad bytes w v p h =
-    let e : bits_to_byte (length (bits_of bytes ++ word w v)) ≡ 8 - w = omega (arith, length-gathered bytes w v) in
-    rw (e, word-nil 0, append-nil) (gathered-byte bytes w v (omega arith))
-
-pub gathered-padded : (bytes : List ℕ) (v : ℕ)
-    → bits_of bytes ++ word 0 v
-    ≡ bits_of bytes ++ word 0 v ++ replicate (bits_to_byte (length (bits_of bytes ++ word 0 v))) false
-gathered-padded bytes v =
-    let e : bits_to_byte (length (bits_of bytes ++ word 0 v)) ≡ 0 = omega (arith, length-gathered bytes 0 v) in
-    rw e (sym (append-nil _))
-
--- a number shifted up to a byte
-pub byte_below : (w v : ℕ) → w ≤ 8 → v < 2 ^ w → v * 2 ^ (8 - w) + 0 < 256
-byte_below w v h p =
-    let e : w + (8 - w) ≡ 8 = omega arith in
-    subst (λ n. v * 2 ^ (8 - w) + 0 < 2 ^ n) e (join_below w (8 - w) v 0 p (pow_pos (8 - w)))
-
--- bytes that are cleared leave the digits that wait
-pub gathered-dropped : (bytes : List ℕ) (w v : ℕ) → w < 8
-    → bits_of [] ++ word w v ≡ drop (bits_in_bytes (length (bits_of bytes ++ word w v))) (bits_of bytes ++ word w v)
-unfolding bits_of
-gathered-dropped bytes w v h = sym (rest-bits bytes (word w v) (rw (length-word w v) h))
-
-pub gathered-whole : (bytes : List ℕ) (w v : ℕ) → All (λ b. b < 256) bytes → w < 8
-    → whole_bytes (bits_of bytes ++ word w v) ≡ bytes
-gathered-whole bytes w v f h = whole-bits bytes (word w v) (each_byte bytes f) (rw (length-word w v) h)
-
--- the length of what a view shows
-pub length_viewed : (bytes : List ℕ) (w v : ℕ) (bits : List Bool) → bits_of bytes ++ word w v ≡ bits → length bits ≡ 8 * length bytes + w
-length_viewed bytes w v bits e = ap length (sym e) ∙ length-gathered bytes w v
-
-pub length-zeros_pushed : (xs ys : List ℕ) (n : ℕ) → xs ≡ ys ++ replicate n 0 → length xs ≡ length ys + n
-length-zeros_pushed xs ys n e = omega (arith, ap length e, length-append ys (replicate n 0), length-replicate {A = ℕ} n 0)
+pub gathered-whole : (front : List ℕ) (w v : ℕ) → ((i : ℕ) → get_or front i 0 < 256) → w < 8 → whole_bytes (bits_of front ++ word w v) ≡ front
+gathered-whole front w v f h = whole-bits front (word w v) f (rw (length-word w v) h)

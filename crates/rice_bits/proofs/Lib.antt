@@ -1,7 +1,10 @@
 pub mod Words
 pub mod OneWay
 pub mod Bytes
+pub mod EightBytes
 pub mod Gathering
 pub mod Pieces
+pub mod Drawing
+pub mod Blank
 pub mod ReaderLemmas
 pub mod WindowLemmas

@@ -1,16 +1,47 @@
--- Lemmas on the bits that were given and not yet taken.
-use Rattle.std.proofs.Common.{◌≡◌, ℕ, suc, ◌+◌, ◌-◌, ◌*◌, ◌/◌, ◌%◌, ◌^◌, ◌<◌, ◌≤◌, Bool, true, false, List, [], ◌∷◌, ◌++◌, length, take, drop, get_or, replicate, sym, ◌∙◌, ap, subst, inl, inr, arith, append_assoc}
+-- The bits that were given and not yet taken.
+use Rattle.std.proofs.Common.{take-take, ◌≡◌, ℕ, suc, ◌+◌, ◌-◌, ◌*◌, ◌/◌, ◌%◌, ◌^◌, ◌<◌, ◌≤◌, Bool, true, false, List, [], ◌∷◌, ◌++◌, length, take, drop, get_or, replicate, length-append, refl, sym, ◌∙◌, ap, subst, inl, inr, arith, append_assoc}
 use Rattle.std.specs.Prelude.{slice_range}
 use Rattle.std.proofs.Math.Seq.{take-add}
 use Rattle.std.proofs.Math.Nat.{pow-le-pow_right, pow-suc}
 use lib.Count.{count_leading_zeros}
-use Rattle.std.proofs.lemmas.List.{drop-drop}
+use Rattle.std.proofs.lemmas.List.{drop-drop, take-append-le, length-take, length-drop, length-take-le}
 use Rattle.std.proofs.lemmas.List.Edits.{between_more}
-use Rattle.std.proofs.lemmas.Nat.{shr_below, leading_top, mod-mul-add}
+use Rattle.std.proofs.lemmas.Nat.{div-mul-add, shr_below, leading_top, mod-mul-add}
 use Rattle.std.proofs.lemmas.Bool.{cases_lt}
+use Rattle.std.specs.Int.{to_be_bytes, w64}
 use Rattle.rice_bits.specs.Bits.{word, bits_of, fundamental_sequence}
-use Rattle.rice_bits.proofs.Bytes.{bits_of-append, bits_of-push, bits_of-nil}
-use Rattle.rice_bits.proofs.Words.{word-split, word-wide, word-nil, one_more, word-cat}
+use Rattle.rice_bits.proofs.EightBytes.{front-eight}
+use Rattle.rice_bits.proofs.Bytes.{bits_of-append, bits_of-push, bits_of-nil, length-bits_of}
+use Rattle.rice_bits.proofs.Words.{length-word, word-split, word-wide, word-nil, one_more, word-cat}
+use Rattle.rice_bits.specs.Window.{IsWindow, window_bits}
+use Rattle.rice_bits.specs.declared.window.Window.{Window}
+
+pub window_empty : (w : Window) → w.count ≡ 0 → w.at ≡ w.end → window_bits w ≡ []
+unfolding window_bits
+window_empty w c e =
+    let n : w.end - w.at ≡ 0 = omega arith in
+    rw (c, word-nil w.digits, n) bits_of-nil
+
+pub window_filled : (w : Window) (ys zs : List ℕ) (n : ℕ) → w.count ≡ 0 → w.at ≡ 0 → w.end ≡ n → w.buffer ≡ ys ++ zs → n ≤ length ys
+    → window_bits w ≡ bits_of (take n ys)
+unfolding window_bits
+window_filled w ys zs n c a e b h =
+    let m : n - 0 ≡ n = omega arith in
+    rw (c, word-nil w.digits, a, e, b, m, take-append-le n ys zs h) refl
+
+-- what is drawn stays within the limit
+pub filled_limit : (w : Window) (ys zs : List ℕ) (n taken : ℕ) → w.count ≡ 0 → w.at ≡ 0 → w.end ≡ n → w.buffer ≡ ys ++ zs → n ≤ length ys
+    → taken % 8 ≡ 0 → taken / 8 + n ≤ 2 ^ 49 → taken + length (window_bits w) ≤ 2 ^ 52
+filled_limit w ys zs n taken c a e b h aligned room =
+    let k : length (window_bits w) ≡ 8 * length (take n ys) = ap length (window_filled w ys zs n c a e b h) ∙ length-bits_of (take n ys) in
+    let m : length (take n ys) ≡ n = length-take-le n ys h in
+    omega arith
+
+pub length-window : (w : Window) → IsWindow w → length (window_bits w) ≡ w.count + 8 * (w.end - w.at)
+unfolding window_bits
+length-window w h =
+    let n : length (slice_range w.buffer w.at w.end) ≡ w.end - w.at = omega (arith, length-take (w.end - w.at) (drop w.at w.buffer), length-drop w.at w.buffer, h.ordered, h.fits) in
+    omega (arith, n, length-append (word w.count w.digits) (bits_of (slice_range w.buffer w.at w.end)), length-word w.count w.digits, length-bits_of (slice_range w.buffer w.at w.end))
 
 -- the first n digits, and those behind them
 pub front-digits : (w n v : ℕ) (rest : List Bool) → n ≤ w
@@ -95,3 +126,26 @@ some_digit w v p h = elim (cases_lt 0 w) [ inl k ↦ k | inr k ↦ (let e : w �
 pub run_left : (w v : ℕ) → 0 < v → v < 2 ^ w → w ≤ 64
     → 63 - count_leading_zeros 64 v + (w - 1 - (63 - count_leading_zeros 64 v) + 1) ≡ w
 run_left w v p h q = omega (arith, one_within w v p h q, some_digit w v p h)
+
+-- the first of eight bytes became digits behind those that were there
+pub load-front : (xs : List ℕ) (a e w v n b : ℕ) → b ≤ 8 → a + 8 ≤ e → n < 2 ^ 64 → to_be_bytes w64 n ≡ take 8 (drop a xs)
+    → word (w + 8 * b) (v * 2 ^ (8 * b) + n / 2 ^ (64 - 8 * b)) ++ bits_of (slice_range xs (a + b) e) ≡ word w v ++ bits_of (slice_range xs a e)
+load-front xs a e w v n b few room fits eight =
+    let low : n / 2 ^ (64 - 8 * b) < 2 ^ (8 * b) = front_below 64 (8 * b) n (omega arith) fits in
+    let size : a + b - a ≡ b = omega arith in
+    let front : bits_of (slice_range xs a (a + b)) ≡ word (8 * b) (n / 2 ^ (64 - 8 * b)) =
+    ap (λ k. bits_of (take k (drop a xs))) size
+    ∙ (ap bits_of (sym (take-take b 8 (drop a xs) few)) ∙ front-eight b n (take 8 (drop a xs)) few eight) in
+    let bytes : bits_of (slice_range xs a e) ≡ bits_of (slice_range xs a (a + b)) ++ bits_of (slice_range xs (a + b) e) =
+    ap bits_of (sym (between-join xs a (a + b) e (omega arith) (omega arith))) ∙ bits_of-append (slice_range xs a (a + b)) (slice_range xs (a + b) e) in
+    rw (word-cat w (8 * b) v (n / 2 ^ (64 - 8 * b)) low, bytes, front)
+    (append_assoc (word w v) (word (8 * b) (n / 2 ^ (64 - 8 * b))) (bits_of (slice_range xs (a + b) e)))
+
+-- what stands before the digits behind the first 1 is that 1
+pub one_high : (v : ℕ) → 0 < v → v < 2 ^ 64 → 1 ≡ v / 2 ^ (63 - count_leading_zeros 64 v)
+one_high v p h =
+    let t = leading_top 64 v p h in
+    let j : 63 - count_leading_zeros 64 v ≡ t.0 = omega (arith, t.1) in
+    let below : v - 2 ^ t.0 < 2 ^ t.0 = omega (arith, t.2, t.3, pow-suc 2 t.0) in
+    let whole : 1 * 2 ^ t.0 + (v - 2 ^ t.0) ≡ v = omega (arith, t.2) in
+    sym (ap (λ k. v / 2 ^ k) j ∙ (ap (λ n. n / 2 ^ t.0) (sym whole) ∙ div-mul-add 1 (2 ^ t.0) (v - 2 ^ t.0) below))

@@ -1,9 +1,9 @@
 -- Words: their lengths, their parts, and the numbers that they spell.
-use Rattle.std.proofs.Common.{◌≡◌, ℕ, zero, suc, ◌+◌, ◌-◌, ◌*◌, ◌/◌, ◌%◌, ◌^◌, ◌<◌, ◌≤◌, Bool, true, false, List, [], ◌∷◌, ◌++◌, length, drop, take, replicate, refl, sym, ◌∙◌, ap, subst, inl, inr, arith, zero-add, append_assoc, length-append, get_or, mod-eq_of_lt}
+use Rattle.std.proofs.Common.{◌≡◌, ℕ, zero, suc, ◌+◌, ◌-◌, ◌*◌, ◌/◌, ◌%◌, ◌^◌, ◌<◌, ◌≤◌, Bool, true, false, List, [], ◌∷◌, ◌++◌, length, replicate, refl, sym, ◌∙◌, ap, arith, zero-add, length-append, mod-eq_of_lt}
 use Rattle.std.specs.Prelude.{◌==◌, if◌then◌else◌}
-use Rattle.std.proofs.lemmas.Nat.{pow_pos, div-mul-add, shr_split, mod-pow-add, mod_below}
+use Rattle.std.proofs.lemmas.Nat.{pow-add, mul-add-lt, shl_below, pow_pos, div-mul-add, shr_split, mod-pow-add, mod_below}
 use Rattle.std.proofs.lemmas.Nat.Bits.{bit_at_cat_low, bit_at_cat_high, bit_at-zero}
-use Rattle.std.proofs.Math.Nat.{suc-add, pow-suc, mod-one, mod-lt}
+use Rattle.std.proofs.Math.Nat.{mul_comm, pow-le-pow_right, suc-add, pow-suc, mod-one, mod-lt}
 use Rattle.std.proofs.lemmas.List.{length-replicate}
 use Rattle.rice_bits.specs.Bits.{word, number_of, fundamental_sequence}
 
@@ -118,3 +118,13 @@ high-followed_by v digits = div-mul-add v (2 ^ length digits) (number_of digits)
 pub word-followed_by : (v : ℕ) (digits : List Bool) → word (length digits) (followed_by v digits) ≡ digits
 unfolding followed_by
 word-followed_by v digits = word-low (length digits) (length digits) v (number_of digits) (omega arith) ∙ word-number_of digits
+
+-- a number that is shifted up, where there is room
+pub shift_fits : (a b v : ℕ) → v < 2 ^ a → a + b ≤ 64 → v * 2 ^ b < 2 ^ 64
+shift_fits a b v p h = omega (arith, shl_below v a b p, pow-le-pow_right {n = 2} (omega arith) {i = a + b} {j = 64} h)
+
+-- a number joined of two parts fits the digits of both
+pub join_below : (a b h l : ℕ) → h < 2 ^ a → l < 2 ^ b → h * 2 ^ b + l < 2 ^ (a + b)
+join_below a b h l p q =
+    let e : 2 ^ (a + b) ≡ 2 ^ b * 2 ^ a = pow-add 2 a b ∙ mul_comm (2 ^ a) (2 ^ b) in
+    rw e (mul-add-lt h (2 ^ b) l (2 ^ a) p q)

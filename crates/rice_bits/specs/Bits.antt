@@ -1,5 +1,5 @@
 -- Lists of bits, and the numbers and bytes that they spell.
-use Rattle.std.specs.Prelude.{ℕ, zero, suc, ◌+◌, ◌-◌, ◌*◌, ◌/◌, ◌%◌, ◌^◌, ◌<◌, ◌≤◌, All, Bool, true, false, List, [], ◌∷◌, ◌++◌, length, replicate, ◌==◌, if◌then◌else◌}
+use Rattle.std.specs.Prelude.{ℕ, zero, suc, ◌+◌, ◌-◌, ◌*◌, ◌/◌, ◌%◌, ◌^◌, ◌<◌, ◌≤◌, Bool, true, false, List, [], ◌∷◌, ◌++◌, length, replicate, ◌==◌, if◌then◌else◌}
 use Rattle.std.specs.List.{flat_map}
 
 -- the fundamental sequence of m: m zeros and a one
@@ -37,10 +37,8 @@ bits_to_byte n = (8 - n % 8) % 8
 abbrev pub padded : List Bool → List Bool
 padded bits = bits ++ replicate (bits_to_byte (length bits)) false
 
--- Bytes, and the digits of a number that wait for more, within a capacity in bytes.
-pub record IsGathered (capacity : ℕ) (bytes : List ℕ) (waiting last : ℕ) : Type 0 where
-  pub short : waiting < 8
-  pub digits : last < 2 ^ waiting
-  pub room : 8 * length bytes + waiting ≤ 8 * capacity
+-- So many bits are gathered within a capacity in bytes, the last of them as digits of a number.
+pub record IsGathered (capacity bits last : ℕ) : Type 0 where
+  pub room : bits ≤ 8 * capacity
+  pub digits : last < 2 ^ 8
   pub small : capacity < 2 ^ 32
-  pub bytes_fit : All (λ b. b < 256) bytes

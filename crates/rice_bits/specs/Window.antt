@@ -8,7 +8,7 @@ unfoldable pub window_bits : Window → List Bool
 window_bits w = word w.count w.digits ++ bits_of (slice_range w.buffer w.at w.end)
 
 pub record IsWindow (w : Window) : Type 0 where
-  pub count : w.count ≤ 64
+  pub count : w.count < 64
   pub below : w.digits < 2 ^ w.count
   pub ordered : w.at ≤ w.end
   pub fits : w.end ≤ length w.buffer

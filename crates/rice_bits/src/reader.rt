@@ -1,5 +1,5 @@
 //! A reader of bits.
-ghost use Rattle.std.specs.Prelude.{◌≡◌, ℕ, ◌+◌, ◌-◌, ◌*◌, ◌%◌, ◌^◌, ◌<◌, ◌≤◌, Bool, true, false, List, [], ◌++◌, length, replicate, IfOk, IfErr, OnOk, IfSome, IsSome};
+ghost use Rattle.std.specs.Prelude.{◌≡◌, ℕ, ◌+◌, ◌-◌, ◌*◌, ◌%◌, ◌^◌, ◌<◌, ◌≤◌, Bool, true, false, List, [], ◌++◌, length, replicate, IfOk, IfErr, OnOk, IfSome, IfNone, IsSome, Option, None};
 ghost use Rattle.rice_bits.specs.Bits.{fundamental_sequence, bits_to_byte, word};
 ghost use Rattle.rice_bits.specs.Reader.{Draws, Refuses};
 ghost use Rattle.rice_bits.specs.Window.{IsWindow, window_bits};
@@ -14,7 +14,12 @@ use std::marker::Model;
 /// The most bytes that a reader takes from its intake.
 const LIMIT: u64 = 1 << 49;
 
-/// Reads the bits of the bytes that an intake gives. Clauses see the bits that wait, how many were taken, and the intake.
+/// Reads the bits of the bytes that an intake gives, most significant first. Clauses see the bits that were given and wait, how many
+/// were taken, whether all since the mark were 0, what was refused, and the intake.
+///
+/// The intake is called only when a bit is asked for and none waits: for at most 4,096 bytes, never past 2^49 bytes in all, and
+/// after 2^49 bytes once for one byte (own rule). A call that is refused has taken all bits that were left, and each later `take` or
+/// `take_fs` answers the same refusal and takes nothing.
 #[derive(Drop)]
 pub struct BitReader<I: Intake> {
     intake: I,
@@ -111,9 +116,9 @@ fn supply<I: Intake>(
 }
 
 impl<I: Intake> BitReader<I> {
-    ghost use Rattle.rice_bits.specs.Reader.{Takes, Stops};
+    ghost use Rattle.rice_bits.specs.Reader.{Takes, Stops, is_blank};
 
-    /// A reader that has taken no bit, as just after `mark`.
+    /// A reader that has taken no bit, and is as just after [`mark`](Self::mark).
     pub fn new(intake: I) -> Self
         requires { I.failed intake + 1 < 2 ^ 64 }
         ensures { result ≡ record { waiting = []; taken = 0; blank = true; refusal = None; intake = intake } }
@@ -127,7 +132,7 @@ impl<I: Intake> BitReader<I> {
         }
     }
 
-    /// The intake, as the last call of its `fill` left it.
+    /// The intake, as the last call of its `fill` left it. Bits that wait are lost.
     pub fn into_inner(self) -> I
         ensures { result ≡ self.intake }
     {
@@ -141,7 +146,8 @@ impl<I: Intake> BitReader<I> {
         intake
     }
 
-    /// How many bits were taken.
+    /// How many bits were taken, at most 2^52.
+    #[inline]
     pub fn taken(&self) -> u64
         ensures value { result ≡ self.now.taken }
         ensures limit { result + length self.now.waiting ≤ 2 ^ 52 }
@@ -153,6 +159,7 @@ impl<I: Intake> BitReader<I> {
     }
 
     /// From here on no 1 has been taken. After a refusal it changes nothing.
+    #[inline]
     pub fn mark(&mut self)
         ensures going { self.old.refusal ≡ None → self.new ≡ record self.old { blank = true } }
         ensures stopped { IsSome self.old.refusal → self.new ≡ self.old }
@@ -162,8 +169,91 @@ impl<I: Intake> BitReader<I> {
         }
     }
 
-    /// Takes the number that the next `width` bits spell, most significant first.
+    /// Takes the number that the next `width` bits spell, most significant first, and ticks one for each bit taken.
+    ///
+    /// A refusal says why the bits were not there: [`BitFault`] tells each case.
+    #[inline]
     pub fn take(&mut self, width: u32, meter: &mut Meter) -> Result<u32, BitFault>
+        requires width { width ≤ 32 }
+        requires meter { meter.old + width < 2 ^ 62 }
+        ensures ok { IfOk result (λ v. (v < 2 ^ width) × Takes I.left I.failed self.old self.new (word width v)) }
+        // A first refusal took all bits that were left, which were too few.
+        ensures err { self.old.refusal ≡ None → IfErr result (λ f.
+            (bits : List Bool) × (length bits < width) × Stops I.left I.failed self.old self.new bits f) }
+        // A reader that has refused answers the same, and takes nothing.
+        ensures stopped { IfSome self.old.refusal (λ f. (result ≡ Err f) × (self.new ≡ self.old)) }
+        ensures taken { OnOk result (self.new.taken ≡ self.old.taken + width) }
+        ensures most { self.new.taken ≤ self.old.taken + width }
+        ensures limit { self.new.taken ≤ 2 ^ 52 }
+        // The intake is not called where enough bits wait.
+        ensures idle { width ≤ length self.old.waiting → self.new.intake ≡ self.old.intake }
+        ensures steps { meter.new + self.old.taken ≡ meter.old + self.new.taken }
+    {
+        if let Some(value) = self.take_ready(width, meter) {
+            return Ok(value);
+        }
+        self.take_refilled(width, meter)
+    }
+
+    /// Takes the next `width` digits, where the word has more.
+    #[inline]
+    fn take_ready(&mut self, width: u32, meter: &mut Meter) -> Option<u32>
+        requires width { width ≤ 32 }
+        requires meter { meter.old + width < 2 ^ 62 }
+        ensures some { IfSome result (λ v. (v < 2 ^ width) × Takes I.left I.failed self.old self.new (word width v)) }
+        ensures going { IsSome result → self.old.refusal ≡ None }
+        ensures idle { self.new.intake ≡ self.old.intake }
+        ensures none { IfNone result ((self.new ≡ self.old) × (meter.new ≡ meter.old)) }
+        ensures steps { meter.new + self.old.taken ≡ meter.old + self.new.taken }
+        ensures limit { self.new.taken ≤ 2 ^ 52 }
+    {
+        if self.window.count <= width {
+            return None;
+        }
+        let digits = self.window.take_digits(width);
+        meter.tick(width as u64);
+        self.taken += width as u64;
+        self.blank = self.blank & (digits == 0);
+        Some(digits as u32)
+    }
+
+    /// Refills the word, and takes the next `width` bits.
+    #[inline]
+    fn take_refilled(&mut self, width: u32, meter: &mut Meter) -> Result<u32, BitFault>
+        requires width { width ≤ 32 }
+        requires meter { meter.old + width < 2 ^ 62 }
+        ensures ok { IfOk result (λ v. (v < 2 ^ width) × Takes I.left I.failed self.old self.new (word width v)) }
+        // A first refusal took all bits that were left, which were too few.
+        ensures err { self.old.refusal ≡ None → IfErr result (λ f.
+            (bits : List Bool) × (length bits < width) × Stops I.left I.failed self.old self.new bits f) }
+        // A reader that has refused answers the same, and takes nothing.
+        ensures stopped { IfSome self.old.refusal (λ f. (result ≡ Err f) × (self.new ≡ self.old)) }
+        ensures taken { OnOk result (self.new.taken ≡ self.old.taken + width) }
+        ensures most { self.new.taken ≤ self.old.taken + width }
+        ensures limit { self.new.taken ≤ 2 ^ 52 }
+        // The intake is not called where enough bits wait.
+        ensures idle { width ≤ length self.old.waiting → self.new.intake ≡ self.old.intake }
+        ensures steps { meter.new + self.old.taken ≡ meter.old + self.new.taken }
+    {
+        self.refill(width);
+        if let Some(value) = self.take_ready(width, meter) {
+            return Ok(value);
+        }
+        self.take_across(width, meter)
+    }
+
+    /// Moves bytes into the word, where it has at most `few` digits.
+    #[inline]
+    fn refill(&mut self, few: u32)
+        requires { few ≤ 32 }
+        ensures { self.new ≡ self.old }
+    {
+        self.window.refill(few);
+    }
+
+    /// Takes the next `width` bits, and calls the intake where too few wait.
+    #[inline(never)]
+    fn take_across(&mut self, width: u32, meter: &mut Meter) -> Result<u32, BitFault>
         requires width { width ≤ 32 }
         requires meter { meter.old + width < 2 ^ 62 }
         ensures ok { IfOk result (λ v. (v < 2 ^ width) × Takes I.left I.failed self.old self.new (word width v)) }
@@ -196,7 +286,11 @@ impl<I: Intake> BitReader<I> {
         Ok(value as u32)
     }
 
-    /// Takes zeros up to and with the next 1, and answers how many zeros they were.
+    /// Takes zeros up to and with the next 1, and answers how many zeros they were: the number of a fundamental sequence
+    /// (CCSDS 121.0-B-3, section 3, fundamental sequence). It ticks one for each bit taken.
+    ///
+    /// A refusal says why no 1 was there: [`BitFault`] tells each case.
+    #[inline]
     pub fn take_fs(&mut self, meter: &mut Meter) -> Result<u64, BitFault>
         requires meter { meter.old + (2 ^ 52 - self.old.taken) < 2 ^ 62 }
         ensures ok { IfOk result (λ m. Takes I.left I.failed self.old self.new (fundamental_sequence m)) }
@@ -207,10 +301,78 @@ impl<I: Intake> BitReader<I> {
         ensures stopped { IfSome self.old.refusal (λ f. (result ≡ Err f) × (self.new ≡ self.old)) }
         ensures taken { IfOk result (λ m. self.new.taken ≡ self.old.taken + m + 1) }
         ensures most { self.new.taken ≤ 2 ^ 52 }
+        // The intake is not called where a 1 waits.
+        ensures idle { is_blank self.old.waiting ≡ false → self.new.intake ≡ self.old.intake }
         ensures steps { meter.new + self.old.taken ≡ meter.old + self.new.taken }
     {
-        if let Some(fault) = self.refusal {
-            return Err(fault);
+        if let Some(zeros) = self.take_fs_ready(meter) {
+            return Ok(zeros);
+        }
+        self.take_fs_refilled(meter)
+    }
+
+    /// Takes a fundamental sequence, where the word has its 1.
+    #[inline]
+    fn take_fs_ready(&mut self, meter: &mut Meter) -> Option<u64>
+        requires meter { meter.old + (2 ^ 52 - self.old.taken) < 2 ^ 62 }
+        ensures some { IfSome result (λ m. Takes I.left I.failed self.old self.new (fundamental_sequence m)) }
+        ensures going { IsSome result → self.old.refusal ≡ None }
+        ensures idle { self.new.intake ≡ self.old.intake }
+        ensures none { IfNone result ((self.new ≡ self.old) × (meter.new ≡ meter.old)) }
+        ensures steps { meter.new + self.old.taken ≡ meter.old + self.new.taken }
+        ensures limit { self.new.taken ≤ 2 ^ 52 }
+    {
+        if self.window.digits == 0 {
+            return None;
+        }
+        let zeros = self.window.take_run() as u64;
+        meter.tick(zeros + 1);
+        self.taken += zeros + 1;
+        self.blank = false;
+        Some(zeros)
+    }
+
+    /// Refills the word where no 1 is left in it, and takes a fundamental sequence.
+    #[inline]
+    fn take_fs_refilled(&mut self, meter: &mut Meter) -> Result<u64, BitFault>
+        requires meter { meter.old + (2 ^ 52 - self.old.taken) < 2 ^ 62 }
+        ensures ok { IfOk result (λ m. Takes I.left I.failed self.old self.new (fundamental_sequence m)) }
+        // A first refusal took all bits that were left, which were zeros.
+        ensures err { self.old.refusal ≡ None → IfErr result (λ f.
+            (m : ℕ) × Stops I.left I.failed self.old self.new (replicate m false) f) }
+        // A reader that has refused answers the same, and takes nothing.
+        ensures stopped { IfSome self.old.refusal (λ f. (result ≡ Err f) × (self.new ≡ self.old)) }
+        ensures taken { IfOk result (λ m. self.new.taken ≡ self.old.taken + m + 1) }
+        ensures most { self.new.taken ≤ 2 ^ 52 }
+        // The intake is not called where a 1 waits.
+        ensures idle { is_blank self.old.waiting ≡ false → self.new.intake ≡ self.old.intake }
+        ensures steps { meter.new + self.old.taken ≡ meter.old + self.new.taken }
+    {
+        self.refill(32);
+        if let Some(zeros) = self.take_fs_ready(meter) {
+            return Ok(zeros);
+        }
+        self.take_fs_across(meter)
+    }
+
+    /// Takes a fundamental sequence, and calls the intake where no 1 waits.
+    #[inline(never)]
+    fn take_fs_across(&mut self, meter: &mut Meter) -> Result<u64, BitFault>
+        requires meter { meter.old + (2 ^ 52 - self.old.taken) < 2 ^ 62 }
+        ensures ok { IfOk result (λ m. Takes I.left I.failed self.old self.new (fundamental_sequence m)) }
+        // A first refusal took all bits that were left, which were zeros.
+        ensures err { self.old.refusal ≡ None → IfErr result (λ f.
+            (m : ℕ) × Stops I.left I.failed self.old self.new (replicate m false) f) }
+        // A reader that has refused answers the same, and takes nothing.
+        ensures stopped { IfSome self.old.refusal (λ f. (result ≡ Err f) × (self.new ≡ self.old)) }
+        ensures taken { IfOk result (λ m. self.new.taken ≡ self.old.taken + m + 1) }
+        ensures most { self.new.taken ≤ 2 ^ 52 }
+        // The intake is not called where a 1 waits.
+        ensures idle { is_blank self.old.waiting ≡ false → self.new.intake ≡ self.old.intake }
+        ensures steps { meter.new + self.old.taken ≡ meter.old + self.new.taken }
+    {
+        if let Some(refusal) = self.refusal {
+            return Err(refusal);
         }
         let mut zeros = 0;
         loop {
@@ -229,12 +391,13 @@ impl<I: Intake> BitReader<I> {
         ensures one { IfOk result (λ r. r.1 ≡ true → Takes I.left I.failed self.old self.new (fundamental_sequence r.0)) }
         ensures zeros { IfOk result (λ r. r.1 ≡ false → (0 < r.0) × Takes I.left I.failed self.old self.new (replicate r.0 false)) }
         ensures err { IfErr result (Stops I.left I.failed self.old self.new []) }
+        ensures idle { 0 < length self.old.waiting → self.new.intake ≡ self.old.intake }
         ensures steps { meter.new + self.old.taken ≡ meter.old + self.new.taken }
         ensures limit { self.new.taken ≤ 2 ^ 52 }
     {
-        if let Err(fault) = supply(&mut self.intake, &mut self.window, self.taken, self.blank) {
-            self.refusal = Some(fault);
-            return Err(fault);
+        if let Err(refusal) = supply(&mut self.intake, &mut self.window, self.taken, self.blank) {
+            self.refusal = Some(refusal);
+            return Err(refusal);
         }
         if self.window.digits > 0 {
             let zeros = self.window.take_run() as u64;
@@ -249,7 +412,8 @@ impl<I: Intake> BitReader<I> {
         Ok((zeros, false))
     }
 
-    /// Takes the bits up to the next whole byte, whatever they are.
+    /// Takes the 0 to 7 bits up to the next multiple of 8 of [`taken`](Self::taken), whatever they are, and ticks one for each. These
+    /// are always there, and do not count towards `blank`.
     pub fn align(&mut self, meter: &mut Meter)
         requires meter { meter.old + bits_to_byte self.old.taken < 2 ^ 62 }
         ensures bits { (bits : List Bool) × (length bits ≡ bits_to_byte self.old.taken) × (self.old.waiting ≡ bits ++ self.new.waiting) }

@@ -14,11 +14,11 @@ pub length_pieces : {X : Type 0} (piece : X → List Bool) (f : X → ℕ) → (
 length_pieces piece f each [] = refl
 length_pieces piece f each (x ∷ xs) = length-append (piece x) (flat_map piece xs) ∙ ((λ i. each x i + length_pieces piece f each xs i) ∙ sym (sum_by-cons f x xs))
 
-length_words : (w : ℕ) (xs : List ℕ) → length (flat_map (word w) xs) ≡ length xs * w
+pub length_words : (w : ℕ) (xs : List ℕ) → length (flat_map (word w) xs) ≡ length xs * w
 length_words w [] = omega arith
 length_words w (x ∷ xs) = let e = length-append (word w x) (flat_map (word w) xs) in let f = length-word w x in let g = length_words w xs in omega arith
 
-length_sequences : (k : ℕ) (xs : List ℕ) → length (flat_map (λ d. fundamental_sequence (d / 2 ^ k)) xs) ≡ length xs + sum_by (λ d. d / 2 ^ k) xs
+pub length_sequences : (k : ℕ) (xs : List ℕ) → length (flat_map (λ d. fundamental_sequence (d / 2 ^ k)) xs) ≡ length xs + sum_by (λ d. d / 2 ^ k) xs
 length_sequences k [] = omega arith
 length_sequences k (x ∷ xs) =
     let e = length-append (fundamental_sequence (x / 2 ^ k)) (flat_map (λ d. fundamental_sequence (d / 2 ^ k)) xs) in
@@ -26,12 +26,12 @@ length_sequences k (x ∷ xs) =
     let g = length_sequences k xs in
     let h = sum_by-cons (λ d. d / 2 ^ k) x xs in omega arith
 
-length_reference : (s : Parameters) (r : Option ℕ) → length (reference_text s r) ≡ reference_len s r
+pub length_reference : (s : Parameters) (r : Option ℕ) → length (reference_text s r) ≡ reference_len s r
 length_reference s None = refl
 length_reference s (Some v) = length-word s.bits v
 
 -- the residuals and the reference are J words
-coded_and_reference : (s : Parameters) (r : Option ℕ) (ds : List ℕ) → 1 ≤ length ds → reference_len s r + length (coded_from r ds) * s.bits ≡ length ds * s.bits
+pub coded_and_reference : (s : Parameters) (r : Option ℕ) (ds : List ℕ) → 1 ≤ length ds → reference_len s r + length (coded_from r ds) * s.bits ≡ length ds * s.bits
 coded_and_reference s None ds h = omega arith
 coded_and_reference s (Some v) [] h = absurd (omega arith)
 coded_and_reference s (Some v) (d ∷ ds) h = omega arith

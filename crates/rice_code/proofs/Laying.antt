@@ -32,7 +32,7 @@ laid_plain s end b position (d ∷ ds) e =
     λ i. first i ++ rest i
 
 -- the blocks of the first of several coded data sets end no later than those of all
-ends_inside : (s : Parameters) (b : ℕ) (d : DataSet) (ds : List DataSet) → block_behind s b d + length (blocks_in_all s (block_behind s b d) ds) ≡ b + length (blocks_in_all s b (d ∷ ds))
+pub ends_inside : (s : Parameters) (b : ℕ) (d : DataSet) (ds : List DataSet) → block_behind s b d + length (blocks_in_all s (block_behind s b d) ds) ≡ b + length (blocks_in_all s b (d ∷ ds))
 ends_inside s b d ds = omega (arith, length-append (blocks_in s b d) (blocks_in_all s (block_behind s b d) ds))
 
 -- where the blocks end makes no difference to coded data sets before that end

@@ -13,9 +13,11 @@ use Rattle.rice_code.specs.Forms.{blocks_in, zero_blocks}
 use Rattle.rice_code.specs.Layout.{block_behind, laid}
 use Rattle.std.proofs.lemmas.Bool.{cases_lt}
 use Rattle.rice_code.proofs.Laying.{sent_first}
-use Rattle.rice_code.specs.Code.{data_sets, zero_run, shortest, code_behind}
+use Rattle.rice_code.specs.Choice.{shortest}
+use Rattle.rice_code.specs.Code.{data_sets, code_behind}
+use Rattle.rice_code.specs.Runs.{zero_run}
 
-place_step : (s : Parameters) (b c : ℕ) → place s b ≡ place s c → place s (b + 1) ≡ place s (c + 1)
+pub place_step : (s : Parameters) (b c : ℕ) → place s b ≡ place s c → place s (b + 1) ≡ place s (c + 1)
 place_step s b c e =
     let r = s.interval in
     let f : b + 1 ≡ suc b = omega arith in
@@ -32,7 +34,7 @@ place_on s b c (suc n) e =
 pub same_reference : (s : Parameters) (b c : ℕ) → place s b ≡ place s c → has_reference s b ≡ has_reference s c
 same_reference s b c e = ap (λ v. s.preprocess && v == 0) e
 
-same_start : (s : Parameters) (b c : ℕ) → place s b ≡ place s c → begins_segment s b ≡ begins_segment s c
+pub same_start : (s : Parameters) (b c : ℕ) → place s b ≡ place s c → begins_segment s b ≡ begins_segment s c
 same_start s b c e = ap (λ v. v == 64 * (v / 64)) e
 
 pub same_left : (s : Parameters) (b c : ℕ) → place s b ≡ place s c → blocks_left s b ≡ blocks_left s c
@@ -72,7 +74,7 @@ same_run : (s : Parameters) (b c : ℕ) (r : Option ℕ) (cs : List Contents) �
 same_run s b c r cs e =
     ap (λ (left : ℕ). cond (nat_le 5 (prefix_len is_zero (take left cs)) && (prefix_len is_zero (take left cs) == left || prefix_len is_zero (take left cs) == length cs)) (RemainderOfSegment r) (ZeroBlocks r (prefix_len is_zero (take left cs)))) (same_left s b c e)
 
-same_data_sets : (s : Parameters) (b c : ℕ) (behind : Bool) (cs : List Contents) → place s b ≡ place s c → data_sets s b behind cs ≡ data_sets s c behind cs
+pub same_data_sets : (s : Parameters) (b c : ℕ) (behind : Bool) (cs : List Contents) → place s b ≡ place s c → data_sets s b behind cs ≡ data_sets s c behind cs
 same_data_sets s b c behind [] e = refl
 same_data_sets s b c behind (d ∷ ds) e =
     let run = same_run s b c d.reference (d ∷ ds) e in

@@ -49,11 +49,11 @@ same_all (x ∷ xs) [] e = absurd e
 same_all (x ∷ xs) (y ∷ ys) e = λ i. e.0 i ∷ same_all xs ys e.1 i
 
 -- what follows a word, where the words are alike
-after_word : (w a b : ℕ) (t u x y : List Bool) → (word w a ++ t) ++ x ≡ (word w b ++ u) ++ y → (a % 2 ^ w ≡ b % 2 ^ w) × (t ++ x ≡ u ++ y)
+pub after_word : (w a b : ℕ) (t u x y : List Bool) → (word w a ++ t) ++ x ≡ (word w b ++ u) ++ y → (a % 2 ^ w ≡ b % 2 ^ w) × (t ++ x ≡ u ++ y)
 after_word w a b t u x y e = word_reads w a b (t ++ x) (u ++ y) (sym (append_assoc (word w a) t x) ∙ (e ∙ append_assoc (word w b) u y))
 
 -- what follows a reference
-after_reference : (s : Parameters) (b : ℕ) (r q : Option ℕ) → IsReference s b r → IsReference s b q → (t u x y : List Bool) →
+pub after_reference : (s : Parameters) (b : ℕ) (r q : Option ℕ) → IsReference s b r → IsReference s b q → (t u x y : List Bool) →
     (reference_text s r ++ t) ++ x ≡ (reference_text s q ++ u) ++ y → (r ≡ q) × (t ++ x ≡ u ++ y)
 after_reference s b None None h k t u x y e = (refl, e)
 after_reference s b None (Some w) h k t u x y e = absurd (let f : false ≡ true = h.there ∙ sym k.there in cc)
@@ -70,7 +70,7 @@ identifier s (Split k c) = k + 1
 identifier s (ZeroBlocks r z) = 0
 identifier s (RemainderOfSegment r) = 0
 
-long_id : (s : Parameters) → 3 ≤ id_len s
+pub long_id : (s : Parameters) → 3 ≤ id_len s
 long_id s = grind (arith, nat_tests)
 
 pub wide_id : (s : Parameters) → 8 ≤ 2 ^ id_len s
@@ -241,3 +241,11 @@ pub forms_read_in_one_way : (s : Parameters) (b : ℕ) (d e : DataSet) (x y : Li
 forms_read_in_one_way s b d e x y legal hd he eq =
     let a = heads s b d e x y hd he eq in
     by_tails s b d e x y legal hd he a.0 a.1
+
+-- an identifier and what follows it
+pub head_reads : (s : Parameters) (b id : ℕ) (d : DataSet) (bits more : List Bool) → id < 2 ^ id_len s → IsForm s b d → word (id_len s) id ++ bits ≡ text s d ++ more →
+    (id ≡ identifier s d) × (bits ≡ tail s d ++ more)
+head_reads s b id d bits more lt form e =
+    let a = word_reads (id_len s) id (identifier s d) bits (tail s d ++ more)
+    (e ∙ (ap (λ t. t ++ more) (text_is s d) ∙ append_assoc (word (id_len s) (identifier s d)) (tail s d) more)) in
+    (same_below (2 ^ id_len s) _ _ lt (identifier_fits s b d form) a.0, a.1)

@@ -7,8 +7,7 @@ use Rattle.std.proofs.lemmas.List.{length-replicate, length-take-le, length-drop
 use Rattle.std.proofs.lemmas.List.Elements.{All-from_recursion, recursion_from_All, All-replicate, Contains-append_right}
 use Rattle.std.proofs.lemmas.Nat.{pow_pos}
 use Rattle.std.proofs.Math.Seq.{take-append_seam, drop-append_seam}
-use Rattle.rice_bits.specs.Bits.{word, bits_to_byte, bits_of}
-use Rattle.rice_bits.proofs.Words.{length-word}
+use Rattle.rice_bits.specs.Bits.{bits_to_byte, bits_of}
 use Rattle.rice_bits.proofs.Bytes.{length-bits_of}
 use Rattle.rice_samples.specs.Parameters.{Parameters, IsLegal, IsSample, value_count}
 use Rattle.rice_samples.specs.Places.{has_reference, is_reference, is_padded, blocks_left}
@@ -24,7 +23,7 @@ use Rattle.rice_code.specs.Forms.{IsReference, AllFit, RunIsSound, ResidualsAreS
 use Rattle.rice_code.specs.Layout.{block_behind, padding}
 use Rattle.rice_code.specs.Decoded.{Decoded, DecodedFrom, Ending, Reached, Ended, CutOff, Past, Large, GoesOn, EndsWith, cut_to}
 use Rattle.rice_code.proofs.Covers.{bool_cases, GoOn, segment_goes_on}
-use Rattle.rice_code.proofs.Bounded.{IsSoundBlock, AreSoundBlocks}
+use Rattle.rice_code.specs.Held.{IsSoundBlock, AreSoundBlocks}
 use Rattle.rice_code.proofs.SoundBlocks.{all_append, last_legal}
 use Rattle.rice_code.proofs.Taken.{IsSound}
 use Rattle.rice_code.proofs.Ones.{forms_have_a_one}

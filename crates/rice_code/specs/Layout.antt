@@ -1,4 +1,4 @@
--- How coded data sets lie in the bits: one behind the other, and each interval filled to a byte where intervals are padded.
+-- How coded data sets lie in the bits: one behind the other, and each interval filled to a byte where intervals are padded (own rule).
 use Rattle.std.specs.Prelude.{◌≡◌, ℕ, ◌+◌, Bool, false, if◌then◌else◌, List, [], ◌∷◌, ◌++◌, length, replicate, min}
 use Rattle.rice_bits.specs.Bits.{bits_to_byte}
 use Rattle.rice_samples.specs.Parameters.{Parameters}

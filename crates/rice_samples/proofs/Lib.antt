@@ -6,6 +6,9 @@ pub mod Patterns
 pub mod CutLemmas
 pub mod InverseLemmas
 pub mod PairLemmas
+pub mod RankLaws
 pub mod Counts
 pub mod SpellingLemmas
 pub mod Gaps
+pub mod LaneLemmas
+pub mod PairSums

@@ -1,10 +1,10 @@
 -- The numbers that stand for pairs stand for one pair each.
-use Rattle.std.proofs.Common.{◌≡◌, ℕ, zero, suc, ◌+◌, ◌*◌, ◌/◌, ◌<◌, ◌≤◌, List, [], ◌∷◌, length, refl, ap, arith, inl, inr}
+use Rattle.std.proofs.Common.{◌≡◌, ℕ, zero, suc, ◌+◌, ◌-◌, ◌*◌, ◌/◌, ◌^◌, ◌<◌, ◌≤◌, ◌∙◌, add-one, List, [], ◌∷◌, length, refl, ap, arith, inl, inr}
 use Rattle.std.proofs.lemmas.Bool.{cases_lt}
 use Rattle.rice_samples.specs.Pairs.{pair_code, pair_codes}
 
 -- the codes of the pairs whose sum is below s
-triangle : ℕ → ℕ
+pub triangle : ℕ → ℕ
 triangle zero = 0
 triangle (suc s) = triangle s + suc s
 
@@ -12,7 +12,7 @@ next_triangle : (s : ℕ) → triangle (suc s) ≡ triangle s + suc s
 unfolding triangle
 next_triangle s = refl
 
-triangle_is : (s : ℕ) → s * (s + 1) / 2 ≡ triangle s
+pub triangle_is : (s : ℕ) → s * (s + 1) / 2 ≡ triangle s
 unfolding triangle
 triangle_is zero = refl
 triangle_is (suc s) = let e = triangle_is s in omega arith
@@ -114,3 +114,30 @@ count_pairs zero (d ∷ ds) e = absurd (omega arith)
 count_pairs (suc half) [] e = absurd (omega arith)
 count_pairs (suc half) (d ∷ []) e = absurd (omega arith)
 count_pairs (suc half) (d ∷ c ∷ ds) e = ap (λ n. suc n) (count_pairs half ds (omega arith))
+
+pub triangle_none : triangle 0 ≡ 0
+unfolding triangle
+triangle_none = refl
+
+pub triangle-more : (s : ℕ) → triangle (s + 1) ≡ triangle s + (s + 1)
+unfolding triangle
+triangle-more s = rw add-one refl
+
+-- the sum of a pair whose code is within the bits of a code
+pub triangle_small : (s : ℕ) → triangle s ≤ 2 ^ 52 → s < 2 ^ 32
+triangle_small s h =
+    elim (cases_lt s (2 ^ 32)) [
+      | inl lt ↦ lt
+      | inr le ↦ absurd (large (2 ^ 32) s le (triangle_is (2 ^ 32)) h (omega arith))
+    ]
+  where
+    large : (m s : ℕ) → m ≤ s → m * (m + 1) / 2 ≡ triangle m → triangle s ≤ 2 ^ 52 → (2 ^ 53 ≤ m * (m + 1) / 2) → ⊥
+    large m s le e h k = elim (cases_lt m s) [
+      | inl lt ↦ let g = triangle_below m s lt in omega arith
+      | inr ge ↦ let f : m ≡ s = omega arith in let g = ap triangle f in omega arith
+    ]
+
+pub pair_is : (s r g : ℕ) → r ≤ s → triangle s + r ≡ g → pair_code (s - r) r ≡ g
+pair_is s r g h e =
+    let f : s - r + r ≡ s = omega arith in
+    rw f (ap (λ n. n + r) (triangle_is s) ∙ e)

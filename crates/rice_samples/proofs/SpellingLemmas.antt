@@ -1,15 +1,16 @@
 -- Values, their patterns, and the bytes that spell these.
-use Rattle.std.proofs.Common.{◌≡◌, ℕ, zero, suc, ◌+◌, ◌-◌, ◌*◌, ◌/◌, ◌%◌, ◌^◌, ◌<◌, ◌≤◌, Bool, true, false, ap, arith, sym, ◌∙◌, subst, List, length, ℤ, pos, negsuc, neg_ℤ, ◌≤ℤ◌, ◌<ℤ◌, ◌-ℤ◌}
+use Rattle.std.proofs.Common.{◌≡◌, ℕ, zero, suc, ◌+◌, ◌-◌, ◌*◌, ◌/◌, ◌%◌, ◌^◌, ◌<◌, ◌≤◌, ◌⊎◌, inl, inr, cond, mod-eq_of_lt, Bool, true, false, ap, arith, sym, ◌∙◌, subst, List, length, ℤ, pos, negsuc, neg_ℤ, ◌≤ℤ◌, ◌<ℤ◌, ◌-ℤ◌}
 use Rattle.std.specs.Int.{int_gap, bytes_low_first, bytes_high_first}
 use Rattle.std.proofs.lemmas.Int.{ints}
+use Rattle.std.proofs.lemmas.Bool.{cases_lt}
 use Rattle.std.proofs.lemmas.Nat.{pow_pos}
+use Rattle.std.proofs.Math.Nat.{mul-add-mod_self_left}
 use Rattle.std.proofs.Math.Pow.{pow_mono}
-use Rattle.rice_samples.specs.Parameters.{Parameters, IsLegal, IsSample, width}
+use Rattle.rice_samples.specs.Parameters.{level, Parameters, IsLegal, IsSample, width}
 use Rattle.rice_samples.specs.Residuals.{twos_complement}
 use Rattle.rice_samples.specs.Spelling.{spelling}
-use Rattle.rice_samples.specs.Values.{IsValue, ordered_bytes}
+use Rattle.rice_samples.specs.Values.{offset, IsValue, ordered_bytes}
 use Rattle.rice_samples.proofs.Levels.{half_pow, pattern_fits}
-use Rattle.rice_samples.proofs.Patterns.{same_pattern}
 
 -- a pattern in the upper half stands for a negative value
 pub high_value : (signed : Bool) (bits d : ℕ) → signed ≡ true → 1 ≤ bits → d < 2 ^ bits → 2 ^ bits ≤ 2 * d → IsValue bits signed (pos d -ℤ pos (2 ^ bits))
@@ -79,16 +80,6 @@ same_word : (msb : Bool) (k v w : ℕ) → 1 ≤ k → k ≤ 4 → v < 2 ^ (8 * 
 same_word true k v w h le hv hw e = same_high k v w h le hv hw e
 same_word false k v w h le hv hw e = same_low k v w h le hv hw e
 
--- the sample with the pattern that the bytes spell is the only one that they can spell
-pub only_spelling : (s : Parameters) (k word : ℕ) (x y : ℤ) → k ≡ width s → 1 ≤ s.bits → s.bits ≤ 8 * k → 1 ≤ k → k ≤ 4 → word < 2 ^ (8 * k) →
-    IsValue (8 * k) s.signed x → twos_complement (8 * k) x ≡ word → IsSample s y → ordered_bytes s.msb k word ≡ spelling s y → x ≡ y
-only_spelling s k word x y w h holds from to lt hx ex hy e =
-    let wide : Parameters = record s { bits = 8 * k } in
-    let vy : IsValue (8 * k) s.signed y = wider_value s.bits (8 * k) s.signed y h holds hy in
-    let fits : twos_complement (8 * k) y < 2 ^ (8 * k) = pattern_fits wide y (omega arith) vy in
-    let same : ordered_bytes s.msb k word ≡ ordered_bytes s.msb k (twos_complement (8 * k) y) = e ∙ ap (λ n. ordered_bytes s.msb n (twos_complement (8 * n) y)) (sym w) in
-    same_pattern wide x y (omega arith) hx vy (ex ∙ same_word s.msb k word (twos_complement (8 * k) y) from to lt fits same)
-
 -- a value of so many bits lies between the powers of two
 pub value_limits : (signed : Bool) (bits more : ℕ) (x : ℤ) → 1 ≤ bits → bits ≤ more → IsValue bits signed x → (neg_ℤ (pos (2 ^ more)) ≤ℤ x) × (x <ℤ pos (2 ^ more))
 value_limits true bits more x h le k = halves (2 ^ (bits - 1)) (2 ^ bits) (2 ^ more) x (half_pow bits h) (pow_pos (bits - 1)) (pow_mono le) k.0 k.1
@@ -103,11 +94,77 @@ value_limits false bits more x h le k = unsigned (2 ^ bits) (2 ^ more) x (pow_mo
     unsigned count limit (pos v) le k l = (omega (arith, ints), omega (arith, ints))
     unsigned count limit (negsuc v) le k l = absurd (omega (arith, ints))
 
-pub spelled_value : (s : Parameters) (bytes : List ℕ) (msb signed : Bool) (k word : ℕ) (x y : ℤ) → IsLegal s → msb ≡ s.msb → signed ≡ s.signed → k ≡ width s → length bytes ≡ width s → s.bits ≤ 8 * k → 1 ≤ k → k ≤ 4 →
-    bytes ≡ ordered_bytes msb (length bytes) word → word < 2 ^ (8 * length bytes) → IsValue (8 * k) signed x → twos_complement (8 * k) x ≡ word → IsSample s y → bytes ≡ spelling s y → x ≡ y
-spelled_value s bytes msb signed k word x y legal m g w n holds from to b lt hx ex hy e =
+mod_once : (n c : ℕ) → n < c + c → ((n % c ≡ n) × (n < c)) ⊎ ((n % c + c ≡ n) × (c ≤ n))
+mod_once n c h =
+    elim (cases_lt n c) [
+      | inl lt ↦ inl (mod-eq_of_lt lt, lt)
+      | inr ge ↦ inr (let e : n ≡ c * 1 + (n - c) = omega arith in let f : n % c ≡ (n - c) % c = ap (λ v. v % c) e ∙ mul-add-mod_self_left c 1 (n - c) in let g : (n - c) % c ≡ n - c = mod-eq_of_lt (omega arith) in omega arith, ge)
+    ]
+
+-- the level of a sample, from its pattern of so many bits or more
+pub level_from_pattern : (s : Parameters) (more : ℕ) (y : ℤ) → 1 ≤ s.bits → s.bits ≤ more → IsSample s y → (twos_complement more y + offset s) % 2 ^ more ≡ level s y
+level_from_pattern s more y h le k = by_sign s.signed s.bits h le k.0 k.1
+  where
+    halves : (half count : ℕ) (y : ℤ) → count ≡ half + half → 0 < half → count ≤ 2 ^ more → neg_ℤ (pos half) ≤ℤ y → int_gap (neg_ℤ (pos half)) y < count →
+        (twos_complement more y + half) % 2 ^ more ≡ int_gap (neg_ℤ (pos half)) y
+    halves zero count y e some le k l = absurd (omega arith)
+    halves (suc half) count (pos v) e some le k l = let m : (v + suc half) % 2 ^ more ≡ v + suc half = mod-eq_of_lt (omega (arith, ints)) in omega (arith, ints, m)
+    halves (suc half) count (negsuc v) e some le k l =
+        let n : 2 ^ more - 1 - v + suc half ≡ 2 ^ more * 1 + (half - v) = omega (arith, ints) in
+        let m : (half - v) % 2 ^ more ≡ half - v = mod-eq_of_lt (omega (arith, ints)) in
+        let f = ap (λ w. w % 2 ^ more) n ∙ mul-add-mod_self_left (2 ^ more) 1 (half - v) in
+        omega (arith, ints, m, f)
+
+    whole : (count : ℕ) (y : ℤ) → count ≤ 2 ^ more → pos 0 ≤ℤ y → int_gap (pos 0) y < count → (twos_complement more y + 0) % 2 ^ more ≡ int_gap (pos 0) y
+    whole count (pos v) le k l = let m : (v + 0) % 2 ^ more ≡ v + 0 = mod-eq_of_lt (omega (arith, ints)) in omega (arith, ints, m)
+    whole count (negsuc v) le k l = absurd (omega (arith, ints))
+
+    by_sign : (b : Bool) (n : ℕ) → 1 ≤ n → n ≤ more → cond b (neg_ℤ (pos (2 ^ (n - 1)))) (pos 0) ≤ℤ y → int_gap (cond b (neg_ℤ (pos (2 ^ (n - 1)))) (pos 0)) y < 2 ^ n →
+        (twos_complement more y + cond b (2 ^ (n - 1)) 0) % 2 ^ more ≡ int_gap (cond b (neg_ℤ (pos (2 ^ (n - 1)))) (pos 0)) y
+    by_sign true n h le k l = halves (2 ^ (n - 1)) (2 ^ n) y (half_pow n h) (pow_pos (n - 1)) (pow_mono le) k l
+    by_sign false n h le k l = whole (2 ^ n) y (pow_mono le) k l
+
+-- and the pattern from the level
+same_offset : (v w h c : ℕ) → v < c → w < c → h ≤ c → (v + h) % c ≡ (w + h) % c → v ≡ w
+same_offset v w h c hv hw le e =
+    elim (mod_once (v + h) c (omega arith)) [
+      | inl p ↦ elim (mod_once (w + h) c (omega arith)) [ inl q ↦ omega (arith, p.0, q.0) | inr q ↦ absurd (omega (arith, p.0, p.1, q.0, q.1)) ]
+      | inr p ↦ elim (mod_once (w + h) c (omega arith)) [ inl q ↦ absurd (omega (arith, p.0, p.1, q.0, q.1)) | inr q ↦ omega (arith, p.0, q.0) ]
+    ]
+
+pub offset_limit : (s : Parameters) (more : ℕ) → 1 ≤ s.bits → s.bits ≤ more → offset s ≤ 2 ^ more
+offset_limit s more h le = by_sign s.signed
+  where
+    by_sign : (b : Bool) → cond b (2 ^ (s.bits - 1)) 0 ≤ 2 ^ more
+    by_sign true = pow_mono {i = s.bits - 1} {j = more} (omega arith)
+    by_sign false = omega arith
+
+-- bytes that spell the word of a sample's pattern spell the sample
+pub spelled_level : (s : Parameters) (bytes : List ℕ) (msb : Bool) (k word o : ℕ) (x : ℤ) → IsLegal s → msb ≡ s.msb → o ≡ offset s → k ≡ width s → length bytes ≡ width s → s.bits ≤ 8 * k → 1 ≤ k →
+    bytes ≡ ordered_bytes msb (length bytes) word → word < 2 ^ (8 * length bytes) → IsSample s x → level s x ≡ (word + o) % 2 ^ (8 * k) → bytes ≡ spelling s x
+spelled_level s bytes msb k word o x legal m f w n holds from b lt hx e =
     let len : length bytes ≡ k = n ∙ sym w in
-    let vx : IsValue (8 * k) s.signed x = subst (λ (v : Bool). IsValue (8 * k) v x) g hx in
     let fits : word < 2 ^ (8 * k) = subst (λ (v : ℕ). word < 2 ^ (8 * v)) len lt in
-    let spelled : ordered_bytes s.msb k word ≡ spelling s y = ap (λ v. ordered_bytes v k word) (sym m) ∙ ap (λ v. ordered_bytes msb v word) (sym len) ∙ sym b ∙ e in
-    only_spelling s k word x y w legal.bits_from holds from to fits vx ex hy spelled
+    let wide : Parameters = record s { bits = 8 * k } in
+    let vx : IsValue (8 * k) s.signed x = wider_value s.bits (8 * k) s.signed x legal.bits_from holds hx in
+    let below : twos_complement (8 * k) x < 2 ^ (8 * k) = pattern_fits wide x (omega arith) vx in
+    let same : word ≡ twos_complement (8 * k) x =
+    same_offset word (twos_complement (8 * k) x) (offset s) (2 ^ (8 * k)) fits below (offset_limit s (8 * k) legal.bits_from holds)
+    (ap (λ v. (word + v) % 2 ^ (8 * k)) (sym f) ∙ (sym e ∙ sym (level_from_pattern s (8 * k) x legal.bits_from holds hx)))
+    in
+    b ∙ (ap (λ v. ordered_bytes v (length bytes) word) m ∙ (ap (λ v. ordered_bytes s.msb v word) n ∙ (ap (λ v. ordered_bytes s.msb (width s) v) same ∙ ap (λ v. ordered_bytes s.msb (width s) (twos_complement (8 * v) x)) w)))
+
+-- bytes that spell a sample tell its level
+pub level_spelled : (s : Parameters) (bytes : List ℕ) (msb : Bool) (k word o : ℕ) (y : ℤ) → IsLegal s → msb ≡ s.msb → o ≡ offset s → k ≡ width s → length bytes ≡ width s → s.bits ≤ 8 * k → 1 ≤ k → k ≤ 4 →
+    bytes ≡ ordered_bytes msb (length bytes) word → word < 2 ^ (8 * length bytes) → IsSample s y → bytes ≡ spelling s y → (word + o) % 2 ^ (8 * k) ≡ level s y
+level_spelled s bytes msb k word o y legal m f w n holds from to b lt hy e =
+    let len : length bytes ≡ k = n ∙ sym w in
+    let fits : word < 2 ^ (8 * k) = subst (λ (v : ℕ). word < 2 ^ (8 * v)) len lt in
+    let wide : Parameters = record s { bits = 8 * k } in
+    let vy : IsValue (8 * k) s.signed y = wider_value s.bits (8 * k) s.signed y legal.bits_from holds hy in
+    let below : twos_complement (8 * k) y < 2 ^ (8 * k) = pattern_fits wide y (omega arith) vy in
+    let spelled : ordered_bytes s.msb k word ≡ ordered_bytes s.msb k (twos_complement (8 * k) y) =
+    ap (λ v. ordered_bytes v k word) (sym m) ∙ (ap (λ v. ordered_bytes msb v word) (sym len) ∙ (sym b ∙ (e ∙ ap (λ v. ordered_bytes s.msb v (twos_complement (8 * v) y)) (sym w))))
+    in
+    let same = same_word s.msb k word (twos_complement (8 * k) y) from to fits below spelled in
+    ap (λ v. (v + o) % 2 ^ (8 * k)) same ∙ (ap (λ v. (twos_complement (8 * k) y + v) % 2 ^ (8 * k)) f ∙ level_from_pattern s (8 * k) y legal.bits_from holds hy)

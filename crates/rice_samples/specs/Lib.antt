@@ -3,7 +3,8 @@ pub mod Places
 pub mod Residuals
 pub mod Pairs
 pub mod Spelling
+pub mod Examples
 pub mod Values
+pub mod Segments
 pub mod Settings
-pub mod Rows
 pub mod Laws

@@ -1,7 +1,7 @@
 -- The values that have a pattern of so many bits.
-use Rattle.std.specs.Prelude.{ℕ, ◌-◌, ◌^◌, ◌<◌, Bool, if◌then◌else◌, ℤ, pos, neg_ℤ, ◌≤ℤ◌}
+use Rattle.std.specs.Prelude.{ℕ, ◌-◌, ◌^◌, ◌<◌, Bool, if◌then◌else◌, List, ℤ, pos, neg_ℤ, ◌≤ℤ◌}
 use Rattle.std.specs.Int.{int_gap, bytes_high_first, bytes_low_first}
-use Rattle.std.specs.Prelude.{List}
+use Rattle.rice_samples.specs.Parameters.{Parameters}
 
 -- the least of them
 abbrev pub least_value : ℕ → Bool → ℤ
@@ -14,3 +14,7 @@ IsValue bits signed x = (least_value bits signed ≤ℤ x) × (int_gap (least_va
 -- the lowest k bytes of a word, in the given order
 abbrev pub ordered_bytes : Bool → ℕ → ℕ → List ℕ
 ordered_bytes msb k word = if msb then bytes_high_first k word else bytes_low_first 0 k word
+
+-- how many of the values that a sample can have lie below 0
+abbrev pub offset : Parameters → ℕ
+offset s = if s.signed then 2 ^ (s.bits - 1) else 0

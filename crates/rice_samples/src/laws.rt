@@ -1,16 +1,38 @@
-//! Laws of the definitions, which callers may cite.
-ghost use Rattle.rice_samples.specs.Laws.{CutIsStart, CutIsGreatest, PatternsAreSamples, PatternsTell, RanksAreSamples, RanksTell};
+//! The laws of samples and places, each the contract of a function that does nothing. Their statements are in `specs/Laws.antt`.
+ghost use Rattle.rice_samples.specs.Laws.{RankIsCount, RankFolds, RanksAreBounded, RanksAreSamples, RanksTell, PatternsAreBounded, PatternsAreSamples, PatternsTell, PairCodesArePairs, PairCodesTell, CutIsStart, CutIsGreatest};
 
-/// A cut is the greatest start of a segment that is not above the number of samples.
-pub fn cuts()
-    ensures start { CutIsStart }
-    ensures greatest { CutIsGreatest }
+/// The rank of a sample is the number of legal values nearer to the sample before, and one more where it is the second of two as near.
+pub fn rank_is_count()
+    ensures { RankIsCount }
 {}
 
-/// Each number below the count of values is the pattern of one sample, and the rank of one from each other sample.
-pub fn inverses()
-    ensures patterns { PatternsAreSamples }
-    ensures by_pattern { PatternsTell }
-    ensures ranks { RanksAreSamples }
-    ensures by_rank { RanksTell }
+/// The rank is what the prediction error mapper gives.
+pub fn rank_folds()
+    ensures { RankFolds }
+{}
+
+/// From each sample the ranks of all samples are the numbers below their count, each of them once.
+pub fn ranks_are_all_numbers()
+    ensures bounded { RanksAreBounded }
+    ensures each { RanksAreSamples }
+    ensures once { RanksTell }
+{}
+
+/// The patterns of all samples are the numbers below their count, each of them once.
+pub fn patterns_are_all_numbers()
+    ensures bounded { PatternsAreBounded }
+    ensures each { PatternsAreSamples }
+    ensures once { PatternsTell }
+{}
+
+/// Each number stands for one pair of residuals in second extension.
+pub fn pair_codes_are_all_numbers()
+    ensures each { PairCodesArePairs }
+    ensures once { PairCodesTell }
+{}
+
+/// A cut is the greatest start of a segment that is not above the number of samples.
+pub fn cut_is_greatest_start()
+    ensures start { CutIsStart }
+    ensures greatest { CutIsGreatest }
 {}

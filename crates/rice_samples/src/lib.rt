@@ -1,13 +1,23 @@
-//! Samples: what they are set to, how they are spelled, and the residuals that stand for them.
+//! Samples: what they are set to, how they are spelled, the residuals that stand for them, and
+//! blocks of residuals.
 #![tactic(auto)]
 
+pub mod block;
+mod codewords;
 mod digits;
 pub mod examples;
+mod lanes;
 pub mod laws;
 pub mod preprocessor;
+pub mod segment;
 pub mod setting;
 pub mod spelling;
 
+pub use block::Block;
 pub use preprocessor::{from_pattern, pattern, residual, restore};
+pub use segment::Segment;
 pub use setting::{Setting, SettingFault};
 pub use spelling::{bytes_of, sample_of};
+
+#[cfg(test)]
+mod tests;

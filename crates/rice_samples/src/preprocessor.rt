@@ -63,13 +63,8 @@ fn rank_of(count: u64, p: u64, x: u64) -> u32
 {
     let reach = p.min(count - 1 - p);
     let distance = p.abs_diff(x);
-    if distance > reach {
-        (reach + distance) as u32
-    } else if p <= x {
-        (2 * distance) as u32
-    } else {
-        (2 * distance - 1) as u32
-    }
+    let nearer = if p <= x { x - p } else { p - x - 1 };
+    (distance + nearer.min(reach)) as u32
 }
 
 /// The number below `count` with rank `d` from number `p`.

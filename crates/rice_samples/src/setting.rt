@@ -2,7 +2,9 @@
 ghost use Rattle.std.specs.Prelude.{◌≡◌, ◌⊎◌, ℕ, ◌+◌, ◌-◌, ◌*◌, ◌%◌, ◌^◌, ◌<◌, ◌≤◌, ◌↔◌, IsTrue, IsOk, IfErr, ℤ};
 ghost use Rattle.rice_samples.specs.Parameters.{Parameters, IsLegal, IsSample, id_len, k_max, width, value_count, least, level, level as level_of};
 ghost use Rattle.rice_samples.specs.Places.{segment_blocks, blocks_left, has_reference};
+ghost use Rattle.rice_samples.specs.Segments.{IsBlockSize};
 ghost use Rattle.rice_samples.specs.Settings.{parameters, setting_of, IsRefused};
+ghost use Rattle.rice_samples.specs.Values.{offset};
 
 use std::marker::Model;
 use thiserror::Error;
@@ -114,7 +116,7 @@ impl Setting {
     #[inline]
     pub fn block(&self) -> u32
         ensures value { result ≡ self.now.block }
-        ensures sizes { (result ≡ 8) ⊎ (result ≡ 16) ⊎ (result ≡ 32) ⊎ (result ≡ 64) }
+        ensures size { IsBlockSize result }
         ensures range { (8 ≤ result) × (result ≤ 64) }
         ensures legal { IsLegal self.now }
     {
@@ -175,8 +177,7 @@ impl Setting {
         ensures value { result ≡ segment_blocks self.now b }
         ensures range { (1 ≤ result) × (result ≤ 64) }
     {
-        let place = self.place(b);
-        (self.interval - place / 64 * 64).min(64)
+        (self.interval - self.place(b) / 64 * 64).min(64)
     }
 
     /// The blocks from block `b` to the end of its segment, `b` included.
@@ -185,8 +186,7 @@ impl Setting {
         ensures value { result ≡ blocks_left self.now b }
         ensures range { (1 ≤ result) × (result ≤ segment_blocks self.now b) × (result ≤ 64) }
     {
-        let place = self.place(b);
-        (self.interval - place / 64 * 64).min(64) - place % 64
+        self.segment_blocks(b) - self.place(b) % 64
     }
 
     /// Whether the first sample of block `b` is a reference sample. Never without preprocessing.
@@ -233,6 +233,16 @@ impl Setting {
         } else {
             0
         }
+    }
+
+    /// How many values that a sample can have lie below 0.
+    #[inline]
+    pub(crate) fn offset(&self) -> u64
+        ensures value { result ≡ offset self.now }
+        ensures range { result ≤ 2 ^ 31 }
+        ensures legal { IsLegal self.now }
+    {
+        if self.signed { 1 << (self.bits - 1) } else { 0 }
     }
 
     /// How many values a sample can have.

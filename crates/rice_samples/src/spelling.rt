@@ -4,7 +4,7 @@ ghost use Rattle.rice_samples.specs.Parameters.{IsSample, width};
 ghost use Rattle.rice_samples.specs.Spelling.{spelling};
 
 use crate::Setting;
-use crate::digits::{bytes_with, digits_of, value_with, word_of};
+use crate::digits::{bytes_with, digits_of, word_of};
 use arrayvec::ArrayVec;
 
 /// The sample that `width()` bytes spell. `None` where they spell none: where the unused high bits
@@ -16,8 +16,12 @@ pub fn sample_of(setting: &Setting, bytes: &[u8]) -> Option<i64>
     ensures value { IfSome result (λ x. IsSample setting.now x × (bytes.now ≡ spelling setting.now x)) }
 {
     let word = word_of(bytes, setting.msb());
-    let x = value_with(word, 8 * setting.width(), setting.signed());
-    if setting.in_range(x) { Some(x) } else { None }
+    let level = (word as u64 + setting.offset()) % (1 << (8 * setting.width()));
+    if level < setting.values() {
+        Some(setting.value_at(level))
+    } else {
+        None
+    }
 }
 
 /// The spelling of a sample: `width()` bytes.

@@ -1,7 +1,8 @@
 use Rattle.std.proofs.Common.{arith, ◌≡◌, ◌+◌, ◌/◌, ◌^◌, ◌≤◌, ◌++◌, take, ap, sym, ◌∙◌, subst, get_or, refl}
 use Rattle.std.specs.Io.KnownBytes.{Consumes}
 use Rattle.rice_bits.specs.Bits.{bits_of}
-use Rattle.rice_bits.proofs.ReaderLemmas.{window_empty, window_filled, filled_limit, consumes-none, take-one}
+use Rattle.rice_bits.proofs.WindowLemmas.{window_empty, window_filled, filled_limit}
+use Rattle.rice_bits.proofs.Drawing.{consumes-none, take-one}
 use Rattle.rice_bits.proofs.reader.draw.Goals as goal
 use Rattle.rice_bits.proofs.reader.draw.Goals.{then-given-lt-LIMIT, else-given-lt-LIMIT}
 

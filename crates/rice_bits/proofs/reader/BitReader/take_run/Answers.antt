@@ -4,7 +4,9 @@ use Rattle.std.proofs.lemmas.List.{length-replicate}
 use Rattle.rice_bits.specs.Window.{window_bits}
 use Rattle.rice_bits.specs.Reader.{is_blank}
 use Rattle.rice_bits.proofs.Words.{length-fundamental_sequence}
-use Rattle.rice_bits.proofs.ReaderLemmas.{draws_nothing, blank-zeros, and-true, reader_on, takes_some}
+use Rattle.rice_bits.proofs.Drawing.{draws_nothing}
+use Rattle.rice_bits.proofs.Blank.{blank-zeros, and-true}
+use Rattle.rice_bits.proofs.ReaderLemmas.{reader_on, takes_some}
 use Rattle.rice_bits.proofs.reader.BitReader.take_run.Goals as goal
 
 pub returns-in-Err-clause-err : goal.returns-in-Err-clause-err

@@ -4,7 +4,9 @@ use Rattle.rice_bits.specs.Bits.{word}
 use Rattle.rice_bits.specs.Window.{window_bits}
 use Rattle.rice_bits.specs.Reader.{is_blank}
 use Rattle.rice_bits.proofs.Words.{length-word}
-use Rattle.rice_bits.proofs.ReaderLemmas.{draws_nothing, blank-word_positive, blank-word_zero, and-false, and-true, reader_on, takes_some}
+use Rattle.rice_bits.proofs.Drawing.{draws_nothing}
+use Rattle.rice_bits.proofs.Blank.{blank-word_positive, blank-word_zero, and-false, and-true}
+use Rattle.rice_bits.proofs.ReaderLemmas.{reader_on, takes_some}
 use Rattle.rice_bits.proofs.reader.BitReader.take_some.Goals as goal
 
 pub returns-in-Err-clause-err : goal.returns-in-Err-clause-err

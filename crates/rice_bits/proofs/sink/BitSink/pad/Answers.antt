@@ -1,33 +1,22 @@
-use Rattle.std.proofs.Common.{arith, ◌≡◌, ◌<◌}
-use Rattle.std.proofs.lemmas.List.Elements.{All-push}
-use Rattle.rice_bits.proofs.Gathering.{length-gathered, gathered-pad, gathered-padded, byte_below}
+use Rattle.std.proofs.Common.{◌≡◌, ◌-◌, ◌%◌, ◌++◌, ◌∙◌, ap, arith, rules, length}
+use Rattle.std.proofs.lemmas.Nat.{pow_pos}
+use Rattle.rice_bits.specs.Bits.{word, bits_to_byte}
+use Rattle.rice_bits.proofs.Gathering.{length_viewed}
+use Rattle.rice_bits.proofs.Words.{word-zero}
 use Rattle.rice_bits.proofs.sink.BitSink.pad.Goals as goal
 
-pub overflow_cast-join : goal.overflow_cast-join
-overflow_cast-join g c = omega (arith, c.join.ensures, byte_below c.self.inside.waiting c.self.inside.last (omega arith) c.self.invariant.digits)
+pub put_digits-requires : goal.put_digits-requires
+put_digits-requires g c =
+    let before : length c.args.self.now ≡ c.self.inside.bits = length_viewed _ _ _ _ _ c.self.invariant c.self.told c.self.view_is in
+    (search rules, (omega arith, (pow_pos _, omega (arith, before, c.self.invariant.room))))
 
-pub invariant_of-self : goal.invariant_of-self
-invariant_of-self g c = record {
-  short = omega arith;
-  digits = omega arith;
-  room = omega arith;
-  small = c.self.invariant.small;
-  bytes_fit =
-      let h : c.join.result < 256 = omega (arith, c.join.ensures, byte_below c.self.inside.waiting c.self.inside.last (omega arith) c.self.invariant.digits) in
-      rw c.push.ensures.items (All-push (λ b. b < 256) c.self.inside.bytes.items c.join.result c.self.invariant.bytes_fit h);
-}
+pub returns-clause-bits : goal.returns-clause-bits
+returns-clause-bits g c =
+    let before : length c.args.self.now ≡ c.self.inside.bits = length_viewed _ _ _ _ _ c.self.invariant c.self.told c.self.view_is in
+    let gap : (8 - c.self.inside.bits % 8) % 8 ≡ bits_to_byte (length c.args.self.now) = omega (arith, before) in
+    c.put_digits.ensures.bits ∙ ap (λ bits. c.args.self.now ++ bits) (ap (λ n. word n 0) gap ∙ word-zero (bits_to_byte (length c.args.self.now)))
 
-pub returns-then-self-gt0-clause-bits : goal.returns-then-self-gt0-clause-bits
-returns-then-self-gt0-clause-bits g c = rw (c.push.ensures.items, c.join.ensures, ← c.self.view_is) (gathered-pad _ _ _ c.if-self-gt0.true c.self.invariant.short)
-
-pub returns-else-self-gt0-clause-bits : goal.returns-else-self-gt0-clause-bits
-returns-else-self-gt0-clause-bits g c =
-    let e : c.self.inside.waiting ≡ 0 = omega arith in
-    rw (← c.self.view_is, e) (gathered-padded _ _)
-
-pub returns-then-self-gt0-clause-len : goal.returns-then-self-gt0-clause-len
-returns-then-self-gt0-clause-len g c =
-    rw (← c.self.view_is, length-gathered, length-gathered) (omega (arith, c.push.ensures.len, c.self.invariant.short, c.if-self-gt0.true))
-
-pub returns-else-self-gt0-clause-len : goal.returns-else-self-gt0-clause-len
-returns-else-self-gt0-clause-len g c = rw (← c.self.view_is, length-gathered) (omega (arith, c.if-self-gt0.false))
+pub returns-clause-len : goal.returns-clause-len
+returns-clause-len g c =
+    let before : length c.args.self.now ≡ c.self.inside.bits = length_viewed _ _ _ _ _ c.self.invariant c.self.told c.self.view_is in
+    omega (arith, before, c.put_digits.ensures.len)

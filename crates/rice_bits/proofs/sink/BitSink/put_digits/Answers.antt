@@ -1,34 +1,35 @@
-use Rattle.std.proofs.Common.{length-append, ◌+◌, ◌<◌, length, ◌∙◌, arith, ap}
-use Rattle.std.proofs.lemmas.List.Elements.{All-push}
-use Rattle.rice_bits.specs.Bits.{word}
-use Rattle.rice_bits.proofs.Gathering.{shift_fits, join_below, gathered-join, gathered-flush, high_below, length-gathered}
-use Rattle.rice_bits.proofs.Words.{length-word}
+use Rattle.std.proofs.Common.{◌≡◌, ◌+◌, ◌/◌, ◌%◌, ◌≤◌, ap, arith, length, take, ◌∙◌}
+use Rattle.rice_bits.proofs.Gathering.{gathered-put, length_viewed, length-gathered}
+use Rattle.rice_bits.proofs.Words.{shift_fits}
 use Rattle.rice_bits.proofs.sink.BitSink.put_digits.Goals as goal
 
-pub loop-left-init : goal.loop-left-init
-loop-left-init g c = record {
-  narrow = omega arith;
-  below = rw c.join-joined.ensures (join_below _ _ _ _ c.self.invariant.digits c.requires.value);
-  room = omega (arith, ap length c.self.view_is, length-gathered c.self.inside.bytes.items c.self.inside.waiting c.self.inside.last);
-  bytes_fit = c.self.invariant.bytes_fit;
-  same = rw (c.join-joined.ensures, ← c.self.view_is) (gathered-join _ _ _ _ _ c.requires.value);
-}
-
-pub overflow_cast-high_digits : goal.overflow_cast-high_digits
-overflow_cast-high_digits g c = omega (arith, c.high_digits.ensures, high_below _ _ c.loop-left-test.true c.loop-left.invariant.below)
-
-pub loop-left-preserved : goal.loop-left-preserved
-loop-left-preserved g c = record {
-  narrow = omega arith;
-  below = c.low_digits-joined.ensures.below;
-  room = omega arith;
-  bytes_fit = rw c.push.ensures.items (All-push (λ b. b < 256) c.loop-left.self-inside.bytes.items c.high_digits.result c.loop-left.invariant.bytes_fit (omega (arith, c.high_digits.ensures, high_below c.loop-left.joined c.loop-left.left c.loop-left-test.true c.loop-left.invariant.below)));
-  same = rw (c.push.ensures.items, c.low_digits-joined.ensures.value, c.high_digits.ensures) (gathered-flush _ _ _ c.loop-left-test.true ∙ c.loop-left.invariant.same);
-}
-
 pub join-joined-requires-clause-high : goal.join-joined-requires-clause-high
-join-joined-requires-clause-high g c = shift_fits c.self.inside.waiting c.args.width c.self.inside.last c.self.invariant.digits (omega arith)
+join-joined-requires-clause-high g c = shift_fits 8 c.args.width c.self.inside.last c.self.invariant.digits (omega arith)
+
+pub store_front-requires-clause-room : goal.store_front-requires-clause-room
+store_front-requires-clause-room g c =
+    let before : length c.args.self.now ≡ c.self.inside.bits = length_viewed _ _ _ _ _ c.self.invariant c.self.told c.self.view_is in
+    omega (arith, before, c.requires.room, c.self.told)
+
+pub invariant_of-self : goal.invariant_of-self
+invariant_of-self g c =
+    let before : length c.args.self.now ≡ c.self.inside.bits = length_viewed _ _ _ _ _ c.self.invariant c.self.told c.self.view_is in
+    record {
+      room = omega (arith, before);
+      digits = c.low_digits.ensures.below;
+      small = c.self.invariant.small;
+    }
+
+pub returns-clause-bits : goal.returns-clause-bits
+returns-clause-bits g c =
+    let more : (c.self.inside.bits + c.args.width) / 8 ≡ c.self.inside.bits / 8 + (c.self.inside.bits % 8 + c.args.width) / 8 = omega arith in
+    let bytes = ap (λ n. take n c.store_front.new.bytes) more ∙ c.store_front.ensures in
+    rw (c.low_digits.ensures.value, c.join-joined.ensures, ← c.self.view_is)
+    (gathered-put _ _ c.self.inside.last c.args.value c.self.inside.bits c.args.width c.requires.value (omega arith)
+    (rw (c.first_digits-first.ensures, c.join-joined.ensures) at bytes))
 
 pub returns-clause-len : goal.returns-clause-len
 returns-clause-len g c =
-    ap length c.loop-left.invariant.same ∙ length-append c.args.self.now (word c.args.width c.args.value) ∙ ap (λ n. length c.args.self.now + n) (length-word c.args.width c.args.value)
+    let before : length c.args.self.now ≡ c.self.inside.bits = length_viewed _ _ _ _ _ c.self.invariant c.self.told c.self.view_is in
+    let more : (c.self.inside.bits + c.args.width) / 8 ≤ length c.store_front.new.bytes = omega (arith, before, c.requires.room, c.self.told) in
+    length-gathered _ _ _ more ∙ omega (arith, before)

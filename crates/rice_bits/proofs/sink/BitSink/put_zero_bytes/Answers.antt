@@ -1,38 +1,26 @@
-use Rattle.std.proofs.Common.{◌≡◌, ◌<◌, arith, rules, refl}
-use Rattle.std.proofs.lemmas.List.{append_assoc, replicate_more}
-use Rattle.std.proofs.lemmas.List.Elements.{All-push}
-use Rattle.rice_bits.proofs.Gathering.{gathered-zero_bytes, length_viewed, length-zeros_pushed}
+use Rattle.std.proofs.Common.{◌≡◌, ◌+◌, ◌*◌, ◌/◌, ◌%◌, ◌∙◌, ap, arith, length, take}
+use Rattle.rice_bits.proofs.Gathering.{gathered-zero_bytes, length_viewed}
 use Rattle.rice_bits.proofs.sink.BitSink.put_zero_bytes.Goals as goal
+
+pub store_zeros-requires : goal.store_zeros-requires
+store_zeros-requires g c =
+    let before : length c.args.self.now ≡ c.self.inside.bits = length_viewed _ _ _ _ _ c.self.invariant c.self.told c.self.view_is in
+    omega (arith, before, c.requires.room, c.self.told)
 
 pub invariant_of-self : goal.invariant_of-self
 invariant_of-self g c =
-    let n = length_viewed c.self.inside.bytes.items c.self.inside.waiting c.self.inside.last c.args.self.now c.self.view_is in
-    let m = length-zeros_pushed c.loop.self-inside.bytes.items c.self.inside.bytes.items c.loop.counter c.loop.invariant.items in
+    let before : length c.args.self.now ≡ c.self.inside.bits = length_viewed _ _ _ _ _ c.self.invariant c.self.told c.self.view_is in
     record {
-      short = omega arith;
-      digits = rw (c.loop.invariant.last, c.loop.invariant.waiting) c.self.invariant.digits;
-      room = omega arith;
+      room = omega (arith, before);
+      digits = c.self.invariant.digits;
       small = c.self.invariant.small;
-      bytes_fit = c.loop.invariant.bytes;
     }
-
-pub push-requires : goal.push-requires
-push-requires g c =
-    let n = length_viewed c.self.inside.bytes.items c.self.inside.waiting c.self.inside.last c.args.self.now c.self.view_is in
-    let m = length-zeros_pushed c.loop.self-inside.bytes.items c.self.inside.bytes.items c.loop.counter c.loop.invariant.items in
-    (search rules, omega (arith, n, m, c.requires.room, c.loop-test.true))
-
-pub loop-preserved : goal.loop-preserved
-loop-preserved g c = record {
-  items = rw (c.push.ensures.items, c.loop.invariant.items, append_assoc, replicate_more) refl;
-  last = c.loop.invariant.last;
-  waiting = c.loop.invariant.waiting;
-  bytes = rw c.push.ensures.items (All-push (λ b. b < 256) c.loop.self-inside.bytes.items 0 c.loop.invariant.bytes (omega arith));
-}
 
 pub returns : goal.returns
 returns g c =
-    let m = length_viewed c.self.inside.bytes.items c.self.inside.waiting c.self.inside.last c.args.self.now c.self.view_is in
-    let n : c.self.inside.waiting ≡ 0 = omega arith in
-    let e : c.loop.counter ≡ c.args.count = omega arith in
-    rw (c.loop.invariant.items, c.loop.invariant.waiting, c.loop.invariant.last, ← c.self.view_is, n, e) (gathered-zero_bytes _ _ _)
+    let before : length c.args.self.now ≡ c.self.inside.bits = length_viewed _ _ _ _ _ c.self.invariant c.self.told c.self.view_is in
+    let none : c.self.inside.bits % 8 ≡ 0 = omega (arith, before, c.requires.aligned) in
+    let after : (c.self.inside.bits + 8 * c.args.count) % 8 ≡ 0 = omega (arith, none) in
+    let more : (c.self.inside.bits + 8 * c.args.count) / 8 ≡ c.self.inside.bits / 8 + c.args.count = omega arith in
+    let bytes = ap (λ n. take n c.store_zeros.new.bytes) more ∙ c.store_zeros.ensures in
+    rw (bytes, after, ← c.self.view_is, none) (gathered-zero_bytes _ _ _)

@@ -1,6 +1,13 @@
-use Rattle.std.proofs.Common.{sym}
+use Rattle.std.proofs.Common.{◌∙◌, sym, ap, arith}
+use Rattle.rice_bits.specs.Bits.{whole_bytes}
+use Rattle.rice_bits.proofs.Bytes.{each_byte}
 use Rattle.rice_bits.proofs.Gathering.{gathered-whole}
 use Rattle.rice_bits.proofs.sink.BitSink.whole.Goals as goal
 
+pub front-requires : goal.front-requires
+front-requires g c = omega (arith, c.self.invariant.room, c.self.told)
+
 pub returns : goal.returns
-returns g c = rw (c.as_slice.ensures.value, ← c.self.view_is) (sym (gathered-whole _ _ _ c.self.invariant.bytes_fit c.self.invariant.short))
+returns g c =
+    c.front.ensures.bytes
+    ∙ (sym (gathered-whole _ _ c.self.inside.last (each_byte _ (rw c.front.ensures.bytes at c.front.ensures.fit)) (omega arith)) ∙ ap whole_bytes c.self.view_is)

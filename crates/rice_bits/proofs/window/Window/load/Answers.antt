@@ -2,7 +2,7 @@ use Rattle.std.proofs.Common.{◌≡◌, ◌<◌, arith, rules, get_or, subst}
 use Rattle.std.specs.Prelude.{slice_range}
 use Rattle.rice_bits.specs.Window.{window_bits}
 use Rattle.rice_bits.specs.Bits.{word, bits_of}
-use Rattle.rice_bits.proofs.Gathering.{shift_fits, join_below}
+use Rattle.rice_bits.proofs.Words.{shift_fits, join_below}
 use Rattle.rice_bits.proofs.WindowLemmas.{load-more, load-none, load-all}
 use Rattle.rice_bits.proofs.window.Window.load.Goals as goal
 

@@ -1,0 +1,70 @@
+-- The texts of blocks, piece by piece.
+use Rattle.std.proofs.Common.{◌≡◌, ℕ, zero, suc, ◌+◌, ◌-◌, ◌*◌, ◌<◌, Bool, true, false, cond, ◌&&◌, nat_le, List, [], ◌∷◌, ◌++◌, length, drop, get_or, refl, ap, arith, sym, ◌∙◌, append_assoc, Option}
+use Rattle.std.specs.Prelude.{flat_map}
+use Rattle.std.proofs.lemmas.List.{length-drop}
+use Rattle.rice_samples.specs.Parameters.{Parameters, id_len}
+use Rattle.rice_samples.specs.Pairs.{pair_code, pair_codes}
+use Rattle.rice_code.specs.DataSets.{text, cost, reference_text, reference_len, run_number, ZeroBlocks, RemainderOfSegment}
+use Rattle.rice_code.specs.Held.{sent_run, sent_zeros}
+use Rattle.rice_bits.specs.Bits.{word, fundamental_sequence}
+use Rattle.rice_bits.proofs.Words.{word-fs, word-zero, word-cat, word-nil}
+
+-- zeros and a one
+pub word_flag : (n : ℕ) → word (n + 1) 1 ≡ word n 0 ++ true ∷ []
+word_flag n = word-fs n ∙ ap (λ z. z ++ true ∷ []) (sym (word-zero n))
+
+-- and one zero more
+pub word_flag_zero : (n : ℕ) → word (n + 1) 0 ≡ word n 0 ++ false ∷ []
+word_flag_zero n = word-cat n 1 0 0 (omega arith) ∙ ap (λ z. word n 0 ++ z) (word-zero 1)
+
+-- no digits
+pub no_digits : (xs : List ℕ) → flat_map (word 0) xs ≡ []
+no_digits [] = refl
+no_digits (x ∷ xs) = rw word-nil (no_digits xs)
+
+pub flagged : (sink head ref body : List Bool) (b : Bool) → sink ++ (head ++ b ∷ []) ++ ref ++ body ≡ sink ++ (head ++ b ∷ (ref ++ body))
+flagged sink head ref body b =
+    append_assoc (sink ++ (head ++ b ∷ [])) ref body ∙ (append_assoc sink (head ++ b ∷ []) (ref ++ body) ∙ ap (λ z. sink ++ z) (append_assoc head (b ∷ []) (ref ++ body)))
+
+pub four : (sink head ref high low : List Bool) → sink ++ head ++ ref ++ high ++ low ≡ sink ++ (head ++ (ref ++ (high ++ low)))
+four sink head ref high low = simp append_assoc
+
+pub three : (sink head ref body : List Bool) → sink ++ head ++ ref ++ body ≡ sink ++ (head ++ (ref ++ body))
+three sink head ref body = simp append_assoc
+
+-- one fewer to go
+pub one_fewer : (n i w : ℕ) → i < n → (n - i) * w ≡ (n - (i + 1)) * w + w
+one_fewer n i w h = let e : n - i ≡ suc (n - (i + 1)) = omega arith in ap (λ k. k * w) e ∙ (omega arith)
+
+-- the coded residuals, counted
+pub coded_len : (ds es : List ℕ) (from w : ℕ) → es ≡ drop from ds → length es * w ≡ (length ds - from) * w
+coded_len ds es from w e = ap (λ n. n * w) (ap length e ∙ length-drop from ds)
+
+-- the text of a run, and its length
+pub run_text : (s : Parameters) (to_end : Bool) (r : Option ℕ) (z : ℕ) → text s (sent_run to_end r z) ≡ word (id_len s) 0 ++ false ∷ (reference_text s r ++ fundamental_sequence (sent_zeros to_end z))
+run_text s to_end r z = by_test (nat_le 5 z && to_end)
+  where
+    by_test : (v : Bool) → text s (cond v (RemainderOfSegment r) (ZeroBlocks r z)) ≡ word (id_len s) 0 ++ false ∷ (reference_text s r ++ fundamental_sequence (cond v 4 (run_number z)))
+    by_test true = refl
+    by_test false = refl
+
+pub run_cost : (s : Parameters) (to_end : Bool) (r : Option ℕ) (z : ℕ) → cost s (sent_run to_end r z) ≡ id_len s + 1 + reference_len s r + sent_zeros to_end z + 1
+run_cost s to_end r z = by_test (nat_le 5 z && to_end)
+  where
+    by_test : (v : Bool) → cost s (cond v (RemainderOfSegment r) (ZeroBlocks r z)) ≡ id_len s + 1 + reference_len s r + cond v 4 (run_number z) + 1
+    by_test true = omega arith
+    by_test false = refl
+
+-- the codewords of the pairs from number i on
+pub pairs_left : (i : ℕ) (xs : List ℕ) → 2 * i + 1 < length xs →
+    pair_codes (drop (2 * i) xs) ≡ pair_code (get_or xs (2 * i) 0) (get_or xs (2 * i + 1) 0) ∷ pair_codes (drop (2 * (i + 1)) xs)
+pairs_left i [] h = absurd (omega arith)
+pairs_left i (a ∷ []) h = absurd (omega arith)
+pairs_left zero (a ∷ b ∷ xs) h = refl
+pairs_left (suc i) (a ∷ b ∷ xs) h =
+    let ih = pairs_left i xs (omega arith) in
+    let e : 2 * (suc i + 1) ≡ suc (suc (2 * (i + 1))) = omega arith in
+    let k : 2 * suc i ≡ suc (suc (2 * i)) = omega arith in
+    let l : 2 * suc i + 1 ≡ suc (suc (2 * i + 1)) = omega arith in
+    ap (λ n. pair_codes (drop n (a ∷ b ∷ xs))) k ∙ (ih
+    ∙ (λ j. pair_code (get_or (a ∷ b ∷ xs) (sym k j) 0) (get_or (a ∷ b ∷ xs) (sym l j) 0) ∷ pair_codes (drop (sym e j) (a ∷ b ∷ xs))))

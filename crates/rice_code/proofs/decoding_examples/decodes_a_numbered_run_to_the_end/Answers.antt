@@ -1,0 +1,21 @@
+use Rattle.std.proofs.Common.{◌∷◌, [], replicate, false, Some, None, refl, lit<, lit≤, pos}
+use Rattle.rice_bits.specs.Bits.{word, bits_of}
+use Rattle.rice_samples.specs.Examples.{defaults}
+use Rattle.rice_code.specs.DataSets.{ZeroBlocks}
+use Rattle.rice_code.specs.Decoded.{Ended}
+use Rattle.rice_code.proofs.Witnesses.{Gives, unsigned_samples, zeros_end, decoded_by_one}
+use Rattle.rice_code.proofs.decoding_examples.decodes_a_numbered_run_to_the_end.Goals as goal
+
+gives : Gives (record defaults { interval = 5 }) (ZeroBlocks (Some 0) 5) (replicate 40 (pos 0))
+gives = record {
+  form = (record { there = refl; fits = lit< tt }, lit≤ tt);
+  run = (lit≤ tt, lit≤ tt);
+  residuals = tt;
+  legal = unsigned_samples (record defaults { interval = 5 }) refl (replicate 40 0) refl;
+  len = refl;
+  blocks = refl;
+}
+
+pub returns : goal.returns
+unfolding word bits_of
+returns c = decoded_by_one (record defaults { interval = 5 }) (ZeroBlocks (Some 0) 5) (replicate 40 (pos 0)) gives [] (replicate 6 false) (bits_of (0x00 ∷ 0x00 ∷ 0x40 ∷ [])) refl refl None tt Ended 6 (zeros_end (record defaults { interval = 5 }) None 5 6 tt)

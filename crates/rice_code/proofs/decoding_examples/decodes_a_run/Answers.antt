@@ -1,0 +1,29 @@
+use Rattle.std.proofs.Common.{◌∷◌, [], replicate, false, Some, None, refl, lit<, lit≤, pos}
+use Rattle.rice_bits.specs.Bits.{word, bits_of}
+use Rattle.rice_samples.specs.Examples.{defaults}
+use Rattle.rice_code.specs.DataSets.{ZeroBlocks}
+use Rattle.rice_code.specs.Decoded.{Reached, Ended}
+use Rattle.rice_code.proofs.Witnesses.{Gives, unsigned_samples, zeros_end, decoded_by_one}
+use Rattle.rice_code.proofs.decoding_examples.decodes_a_run.Goals as goal
+
+gives : Gives defaults (ZeroBlocks (Some 5) 1) (replicate 8 (pos 5))
+gives = record {
+  form = (record { there = refl; fits = lit< tt }, lit≤ tt);
+  run = (lit≤ tt, lit≤ tt);
+  residuals = tt;
+  legal = unsigned_samples defaults refl (replicate 8 5) refl;
+  len = refl;
+  blocks = refl;
+}
+
+pub returns-clause-all : goal.returns-clause-all
+unfolding word bits_of
+returns-clause-all c = decoded_by_one defaults (ZeroBlocks (Some 5) 1) (replicate 8 (pos 5)) gives [] (replicate 3 false) (bits_of (0x00 ∷ 0x58 ∷ [])) refl refl None tt Ended 3 (zeros_end defaults None 1 3 tt)
+
+pub returns-clause-asked : goal.returns-clause-asked
+unfolding word bits_of
+returns-clause-asked c = decoded_by_one defaults (ZeroBlocks (Some 5) 1) (replicate 8 (pos 5)) gives [] (replicate 3 false) (bits_of (0x00 ∷ 0x58 ∷ [])) refl refl (Some 8) (lit< tt) Reached 0 (lit≤ tt, refl)
+
+pub returns-clause-one : goal.returns-clause-one
+unfolding word bits_of
+returns-clause-one c = decoded_by_one defaults (ZeroBlocks (Some 5) 1) (replicate 8 (pos 5)) gives [] (replicate 3 false) (bits_of (0x00 ∷ 0x58 ∷ [])) refl refl (Some 1) (lit< tt) Reached 0 (lit≤ tt, refl)

@@ -1,0 +1,26 @@
+use Rattle.std.proofs.Common.{◌∷◌, [], replicate, false, Some, None, refl, lit<, lit≤, pos, map}
+use Rattle.std.specs.List.{range_with_len}
+use Rattle.rice_bits.specs.Bits.{word, bits_of}
+use Rattle.rice_samples.specs.Examples.{defaults}
+use Rattle.rice_code.specs.Blocks.{Contents}
+use Rattle.rice_code.specs.DataSets.{Split}
+use Rattle.rice_code.specs.Decoded.{Ended}
+use Rattle.rice_code.proofs.Witnesses.{Gives, all_below, unsigned_samples, zeros_end, decoded_by_one}
+use Rattle.rice_code.proofs.decoding_examples.decodes_another_split.Goals as goal
+
+abbrev block : Contents
+block = record { reference = Some 0; residuals = 0 ∷ 1 ∷ replicate 6 2 }
+
+gives : Gives defaults (Split 1 block) (map pos (range_with_len 0 8))
+gives = record {
+  form = (record { reference = record { there = refl; fits = lit< tt }; len = refl }, refl, lit≤ tt);
+  run = tt;
+  residuals = all_below 256 block.residuals refl;
+  legal = unsigned_samples defaults refl (range_with_len 0 8) refl;
+  len = refl;
+  blocks = refl;
+}
+
+pub returns : goal.returns
+unfolding word bits_of
+returns c = decoded_by_one defaults (Split 1 block) (map pos (range_with_len 0 8)) gives [] (replicate 1 false) (bits_of (0x40 ∷ 0x15 ∷ 0x55 ∷ 0x80 ∷ [])) refl refl None tt Ended 1 (zeros_end defaults None 1 1 tt)

@@ -1,0 +1,10 @@
+use Rattle.std.proofs.Common.{[], None}
+use Rattle.rice_bits.specs.Bits.{word, bits_of}
+use Rattle.rice_samples.specs.Examples.{defaults}
+use Rattle.rice_code.specs.Decoded.{Ended}
+use Rattle.rice_code.proofs.Witnesses.{zeros_end, decoded_by_none}
+use Rattle.rice_code.proofs.decoding_examples.decodes_no_bytes.Goals as goal
+
+pub returns : goal.returns
+unfolding word bits_of
+returns c = decoded_by_none defaults (bits_of ([])) None Ended 0 (zeros_end defaults None 0 0 tt)

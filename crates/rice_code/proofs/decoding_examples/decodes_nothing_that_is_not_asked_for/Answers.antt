@@ -1,0 +1,10 @@
+use Rattle.std.proofs.Common.{◌∷◌, [], Some, refl, lit≤}
+use Rattle.rice_bits.specs.Bits.{word, bits_of}
+use Rattle.rice_samples.specs.Examples.{defaults}
+use Rattle.rice_code.specs.Decoded.{Reached}
+use Rattle.rice_code.proofs.Witnesses.{decoded_by_none}
+use Rattle.rice_code.proofs.decoding_examples.decodes_nothing_that_is_not_asked_for.Goals as goal
+
+pub returns : goal.returns
+unfolding word bits_of
+returns c = decoded_by_none defaults (bits_of (0xFF ∷ 0xFF ∷ [])) (Some 0) Reached 0 (lit≤ tt, refl)

@@ -1,0 +1,25 @@
+use Rattle.std.proofs.Common.{◌∷◌, [], replicate, false, Some, None, refl, lit<, lit≤, pos}
+use Rattle.rice_bits.specs.Bits.{word, bits_of}
+use Rattle.rice_samples.specs.Examples.{one_bit_defaults}
+use Rattle.rice_code.specs.Blocks.{Contents}
+use Rattle.rice_code.specs.DataSets.{Split}
+use Rattle.rice_code.specs.Decoded.{Ended}
+use Rattle.rice_code.proofs.Witnesses.{Gives, all_below, unsigned_samples, zeros_end, decoded_by_one}
+use Rattle.rice_code.proofs.decoding_examples.decodes_the_greatest_split.Goals as goal
+
+abbrev block : Contents
+block = record { reference = Some 0; residuals = 0 ∷ 1 ∷ replicate 6 0 }
+
+gives : Gives one_bit_defaults (Split 5 block) (pos 0 ∷ replicate 7 (pos 1))
+gives = record {
+  form = (record { reference = record { there = refl; fits = lit< tt }; len = refl }, refl, lit≤ tt);
+  run = tt;
+  residuals = all_below 2 block.residuals refl;
+  legal = unsigned_samples one_bit_defaults refl (0 ∷ replicate 7 1) refl;
+  len = refl;
+  blocks = refl;
+}
+
+pub returns : goal.returns
+unfolding word bits_of
+returns c = decoded_by_one one_bit_defaults (Split 5 block) (pos 0 ∷ replicate 7 (pos 1)) gives [] (replicate 2 false) (bits_of (0xCF ∷ 0xE1 ∷ 0x00 ∷ 0x00 ∷ 0x00 ∷ 0x00 ∷ [])) refl refl None tt Ended 2 (zeros_end one_bit_defaults None 1 2 tt)

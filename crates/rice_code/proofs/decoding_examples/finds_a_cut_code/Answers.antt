@@ -1,0 +1,37 @@
+use Rattle.std.proofs.Common.{◌≡◌, ◌∷◌, [], ◌++◌, Bool, List, length, replicate, true, false, Some, None, refl, lit<, lit≤, ap, arith, sym, ◌∙◌, append_assoc, length-append, inl}
+use Rattle.std.specs.Prelude.{flat_map}
+use Rattle.std.specs.List.{range_with_len}
+use Rattle.rice_bits.specs.Bits.{word, bits_of}
+use Rattle.rice_samples.specs.Examples.{defaults}
+use Rattle.rice_samples.specs.Parameters.{IsLegal}
+use Rattle.rice_code.specs.Blocks.{Contents}
+use Rattle.rice_code.specs.DataSets.{DataSet, Split, text}
+use Rattle.rice_code.specs.Decoded.{CutOff}
+use Rattle.rice_code.specs.Forms.{IsForm}
+use Rattle.rice_code.proofs.Witnesses.{decoded_by_none}
+use Rattle.rice_code.proofs.Reading.{forms_read_in_one_way}
+use Rattle.rice_code.proofs.decoding_examples.finds_a_cut_code.Goals as goal
+
+abbrev block : Contents
+block = record { reference = Some 0; residuals = 0 ∷ 1 ∷ replicate 6 2 }
+
+legal : IsLegal defaults
+legal = record { bits_from = lit≤ tt; bits_to = lit≤ tt; block = inl refl; interval_from = lit≤ tt; interval_to = lit≤ tt }
+
+-- what is missing of the coded data set
+missing : List Bool
+missing = flat_map (λ _. false ∷ false ∷ true ∷ []) (range_with_len 0 5)
+
+-- a form that began the bits would begin that coded data set too, and be it
+no_form : (d : DataSet) (more : List Bool) → IsForm defaults 0 d → bits_of (0x20 ∷ 0x09 ∷ []) ≡ text defaults d ++ more → ⊥
+unfolding word bits_of missing
+no_form d more h e =
+    let whole : text defaults d ++ (more ++ missing) ≡ text defaults (Split 0 block) ++ [] = sym (append_assoc (text defaults d) more missing) ∙ ap (λ v. v ++ missing) (sym e) in
+    let same = forms_read_in_one_way defaults 0 d (Split 0 block) (more ++ missing) [] legal h (record { reference = record { there = refl; fits = lit< tt }; len = refl }, refl, lit≤ tt) whole in
+    let none = ap length same.1 in
+    let some = length-append more missing in
+    omega arith
+
+pub returns : goal.returns
+unfolding word bits_of
+returns c = decoded_by_none defaults (bits_of (0x20 ∷ 0x09 ∷ [])) None CutOff 16 (tt, (2, lit< tt, refl), no_form, refl)

@@ -1,0 +1,44 @@
+use Rattle.std.proofs.Common.{◌∷◌, [], ◌++◌, replicate, true, false, Some, None, refl, lit<, lit≤, pos}
+use Rattle.rice_bits.specs.Bits.{word, bits_of}
+use Rattle.rice_samples.specs.Examples.{defaults}
+use Rattle.rice_code.specs.DataSets.{DataSet, ZeroBlocks, text}
+use Rattle.rice_code.specs.Decoded.{Reached}
+use Rattle.rice_code.proofs.Witnesses.{Gives, unsigned_samples, zeros_end, decoded_by_one}
+use Rattle.rice_code.proofs.decoding_examples.skips_padding.Goals as goal
+
+-- eight samples 5 behind a reference
+abbrev run : DataSet
+run = ZeroBlocks (Some 5) 1
+
+gives : Gives (record defaults { interval = 1; pad = true }) run (replicate 8 (pos 5))
+gives = record {
+  form = (record { there = refl; fits = lit< tt }, lit≤ tt);
+  run = (lit≤ tt, lit≤ tt);
+  residuals = tt;
+  legal = unsigned_samples (record defaults { interval = 1; pad = true }) refl (replicate 8 5) refl;
+  len = refl;
+  blocks = refl;
+}
+
+pub returns-clause-all : goal.returns-clause-all
+unfolding word bits_of
+returns-clause-all c = record {
+  sets = run ∷ run ∷ [];
+  front = text (record defaults { interval = 1; pad = true }) run ++ (replicate 3 true ++ (text (record defaults { interval = 1; pad = true }) run ++ replicate 3 false));
+  rest = [];
+  parts = refl;
+  lie = (replicate 3 true, text (record defaults { interval = 1; pad = true }) run ++ replicate 3 false, refl, refl, (replicate 3 false, [], refl, refl, refl));
+  taken = (tt, (record { there = refl; fits = lit< tt }, lit≤ tt), (lit≤ tt, lit≤ tt), tt, (tt, (record { there = refl; fits = lit< tt }, lit≤ tt), (lit≤ tt, lit≤ tt), tt, tt));
+  all = replicate 16 (pos 5);
+  legal = unsigned_samples (record defaults { interval = 1; pad = true }) refl (replicate 16 5) refl;
+  len = refl;
+  blocks = refl;
+  asked_for = refl;
+  last = 0;
+  ends = zeros_end (record defaults { interval = 1; pad = true }) None 2 0 tt;
+  bits_used = refl;
+}
+
+pub returns-clause-asked : goal.returns-clause-asked
+unfolding word bits_of
+returns-clause-asked c = decoded_by_one (record defaults { interval = 1; pad = true }) run (replicate 8 (pos 5)) gives (replicate 3 true) (text (record defaults { interval = 1; pad = true }) run ++ replicate 3 false) (bits_of (0x00 ∷ 0x5F ∷ 0x00 ∷ 0x58 ∷ [])) refl refl (Some 8) (lit< tt) Reached 0 (lit≤ tt, refl)

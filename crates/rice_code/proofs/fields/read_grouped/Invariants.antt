@@ -1,0 +1,15 @@
+use Rattle.std.proofs.Common.{◌+◌, ◌-◌, ◌≡◌, ◌^◌, ◌<◌, ◌≤◌}
+use Rattle.rice_bits.specs.Bits.{word}
+use Rattle.rice_code.specs.Fields.{Row}
+use Rattle.rice_code.proofs.fields.read_grouped.Given as goal
+
+abbrev pub invariant-loop-done : goal.invariant-loop-done
+invariant-loop-done g l = record {
+  row : Row g.I.Intake.left g.I.Intake.failed (word l.width) (λ v. v < 2 ^ l.width) l.fn.reader l.reader l.done l.fn.out.items l.out.items;
+  steps : l.meter + l.fn.reader.taken ≡ l.fn.meter + l.reader.taken;
+  limit : l.reader.taken ≤ 2 ^ 52;
+  within : l.done ≤ l.count;
+}
+
+abbrev pub decreases-loop-done : goal.decreases-loop-done
+decreases-loop-done g l = l.count - l.done

@@ -1,0 +1,8 @@
+use Rattle.rice_code.proofs.laws.code_goes_on.Goals as goal
+use Rattle.rice_code.proofs.GoingOn as going
+
+pub returns-clause-code : goal.returns-clause-code
+returns-clause-code c = going.code_goes_on
+
+pub returns-clause-bits : goal.returns-clause-bits
+returns-clause-bits c = going.bits_go_on

@@ -1,0 +1,12 @@
+use Rattle.std.proofs.Common.{◌+◌, length}
+use Rattle.rice_samples.specs.Places.{block_count}
+use Rattle.rice_code.specs.Code.{sets_behind}
+use Rattle.rice_code.proofs.laws.code_stands_in_places.Goals as goal
+use Rattle.rice_code.proofs.Laying.{laid_at}
+use Rattle.rice_code.proofs.Placing.{code_stands_in_intervals}
+
+pub returns-clause-intervals : goal.returns-clause-intervals
+returns-clause-intervals c = code_stands_in_intervals
+
+pub returns-clause-bytes : goal.returns-clause-bytes
+returns-clause-bytes c = λ s b m n p xs e. laid_at s (b + block_count s (length xs)) b m n (sets_behind s b p xs) e

@@ -1,0 +1,5 @@
+use Rattle.rice_code.proofs.laws.returns_samples.Goals as goal
+use Rattle.rice_code.proofs.Returned as returned
+
+pub returns : goal.returns
+returns c = returned.returns_samples

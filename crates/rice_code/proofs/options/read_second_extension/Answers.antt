@@ -1,0 +1,24 @@
+use Rattle.std.proofs.Common.{◌/◌, ◌∙◌}
+use Rattle.std.specs.Prelude.{flat_map}
+use Rattle.rice_bits.specs.Bits.{fundamental_sequence}
+use Rattle.rice_samples.specs.Pairs.{pair_codes}
+use Rattle.rice_code.specs.DataSets.{SecondExtension}
+use Rattle.rice_code.proofs.ReadLemmas.{two_halves, second_read, second_cut, cut_at_reference}
+use Rattle.rice_code.proofs.options.read_second_extension.Goals as goal
+
+pub returns-in-Err-clause-err : goal.returns-in-Err-clause-err
+returns-in-Err-clause-err g c =
+    let e = c.in-Err.ensures.err in
+    cut_at_reference g.I.Intake.left g.I.Intake.failed c.args.reader.now c.read_reference.new.reader c.args.setting.now c.args.block SecondExtension (λ x. flat_map fundamental_sequence (pair_codes x.residuals)) e.0 c.in-Err.fault
+    (λ x form. form.reference) e.1 e.2 e.3
+
+pub returns-in-Err-read_pairs-clause-err : goal.returns-in-Err-read_pairs-clause-err
+returns-in-Err-read_pairs-clause-err g c =
+    let e = c.in-Err-read_pairs.ensures.err in
+    second_cut g.I.Intake.left g.I.Intake.failed c.args.reader.now c.read_reference.new.reader c.read_pairs.new.reader c.args.setting.now c.args.block c.in-Ok.reference (c.block.result / 2) e.0 c.in-Err-read_pairs.fault
+    c.in-Ok.ensures.reference (two_halves c.block.result c.block.ensures.size ∙ c.block.ensures.value) c.in-Ok.ensures.ok e.1 e.2
+
+pub returns-in-Ok-read_pairs-clause-ok : goal.returns-in-Ok-read_pairs-clause-ok
+returns-in-Ok-read_pairs-clause-ok g c = second_read g.I.Intake.left g.I.Intake.failed c.args.reader.now c.read_reference.new.reader c.read_pairs.new.reader c.args.meter.now c.read_reference.new.meter c.read_pairs.new.meter c.args.setting.now c.args.block c.in-Ok.reference (c.block.result / 2) c.read_pairs.new.out.items c.are_sound-sound.result
+    c.in-Ok.ensures.reference (two_halves c.block.result c.block.ensures.size ∙ c.block.ensures.value) c.in-Ok.ensures.ok (rw c.clear.ensures at c.in-Ok-read_pairs.ensures.ok) c.in-Ok.ensures.steps
+    (rw (c.as_slice.ensures.value, c.values.ensures.value) at c.are_sound-sound.ensures.sound) (rw (c.as_slice.ensures.value, c.values.ensures.value) at c.are_sound-sound.ensures.unsound)

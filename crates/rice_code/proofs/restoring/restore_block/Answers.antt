@@ -1,0 +1,27 @@
+use Rattle.std.proofs.Common.{arith, rules, ◌≡◌, ap, ◌∙◌, w64, to_z, of_z, length, take}
+use Rattle.std.proofs.lemmas.Int.{to_z-of_z}
+use Rattle.std.proofs.Math.Seq.{take-length}
+use mir.Val.{SFits}
+use Rattle.rice_code.proofs.RestoredBlocks.{restored-none, restored-more, contents_are}
+use Rattle.rice_code.proofs.restoring.restore_block.Goals as goal
+
+pub loop-i-init : goal.loop-i-init
+loop-i-init c = rw (to_z-of_z w64 c.args.p c.ranges.p, c.clear.ensures) (restored-none c.args.setting.now c.args.block c.args.p c.args.reference c.args.residuals.now c.requires.p)
+
+pub loop-i-preserved : goal.loop-i-preserved
+loop-i-preserved c =
+    let r : SFits w64 c.sample_of_residual-last.result = search rules in
+    let items = rw (to_z-of_z w64 c.sample_of_residual-last.result r) at c.push.ensures.items in
+    rw (to_z-of_z w64 c.sample_of_residual-last.result r, items)
+    (restored-more c.args.setting.now c.args.block (to_z w64 (of_z w64 c.args.p)) c.args.reference c.args.residuals.now c.loop-i.i c.loop-i.samples.items (to_z w64 c.loop-i.last-bits) c.sample_of_residual-last.result
+    c.loop-i.invariant c.requires.form.reference (omega (arith, c.loop-i-test.true, c.requires.form.len)) c.requires.form.len c.sample_of_residual-last.ensures.sample c.sample_of_residual-last.ensures.residual c.sample_of_residual-last.ensures.reference)
+
+pub push-requires : goal.push-requires
+push-requires c = omega (arith, c.loop-i.invariant.len)
+
+pub returns-clause-contents : goal.returns-clause-contents
+returns-clause-contents c =
+    let inv = rw (to_z-of_z w64 c.args.p c.ranges.p) at c.loop-i.invariant in
+    let n : c.loop-i.i ≡ length c.args.residuals.now = omega (arith, c.loop-i-test.false, c.loop-i.auto.i-end, c.requires.form.len, c.block-i-end.ensures.value) in
+    let whole : take c.loop-i.i c.args.residuals.now ≡ c.args.residuals.now = ap (λ k. take k c.args.residuals.now) n ∙ take-length c.args.residuals.now in
+    contents_are c.args.setting.now c.args.block c.args.p c.args.reference c.args.residuals.now c.loop-i.samples.items c.requires.form.reference (inv.same ∙ whole) (inv.first (omega (arith, c.loop-i-test.false, c.block-i-end.ensures.range)))

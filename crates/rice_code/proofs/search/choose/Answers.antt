@@ -1,0 +1,28 @@
+use Rattle.std.proofs.Common.{arith}
+use Rattle.rice_code.specs.Held.{told}
+use Rattle.rice_code.proofs.SearchLemmas.{takes_no_compression, takes_second_extension, takes_split}
+use Rattle.rice_code.proofs.search.choose.Goals as goal
+
+pub returns-then-split-second_extension-clause-value : goal.returns-then-split-second_extension-clause-value
+returns-then-split-second_extension-clause-value c =
+    takes_split c.args.setting.now (told c.args.reference c.args.block.now) c.best_split-k.result.0 c.best_split-k.ensures.best
+    (omega (arith, c.best_split-k.ensures.value, c.second_extension_cost-second_extension.ensures.value, c.no_compression_cost-no_compression.ensures.value))
+    (omega (arith, c.best_split-k.ensures.value, c.second_extension_cost-second_extension.ensures.value, c.no_compression_cost-no_compression.ensures.value))
+
+pub returns-else-split-second_extension-clause-value : goal.returns-else-split-second_extension-clause-value
+returns-else-split-second_extension-clause-value c =
+    takes_second_extension c.args.setting.now (told c.args.reference c.args.block.now) c.best_split-k.result.0 c.best_split-k.ensures.best
+    (omega (arith, c.best_split-k.ensures.value, c.second_extension_cost-second_extension.ensures.value, c.no_compression_cost-no_compression.ensures.value))
+    (omega (arith, c.best_split-k.ensures.value, c.second_extension_cost-second_extension.ensures.value, c.no_compression_cost-no_compression.ensures.value))
+
+pub returns-then-split-no_compression-clause-value : goal.returns-then-split-no_compression-clause-value
+returns-then-split-no_compression-clause-value c =
+    takes_split c.args.setting.now (told c.args.reference c.args.block.now) c.best_split-k.result.0 c.best_split-k.ensures.best
+    (omega (arith, c.best_split-k.ensures.value, c.second_extension_cost-second_extension.ensures.value, c.no_compression_cost-no_compression.ensures.value))
+    (omega (arith, c.best_split-k.ensures.value, c.second_extension_cost-second_extension.ensures.value, c.no_compression_cost-no_compression.ensures.value))
+
+pub returns-else-split-no_compression-clause-value : goal.returns-else-split-no_compression-clause-value
+returns-else-split-no_compression-clause-value c =
+    takes_no_compression c.args.setting.now (told c.args.reference c.args.block.now) c.best_split-k.result.0 c.best_split-k.ensures.best
+    (omega (arith, c.best_split-k.ensures.value, c.second_extension_cost-second_extension.ensures.value, c.no_compression_cost-no_compression.ensures.value))
+    (omega (arith, c.best_split-k.ensures.value, c.second_extension_cost-second_extension.ensures.value, c.no_compression_cost-no_compression.ensures.value))

@@ -1,0 +1,7 @@
+-- Bits that wait to be put.
+use Rattle.std.specs.Prelude.{ℕ, ◌^◌, ◌<◌, ◌≤◌}
+
+-- these are the digits of a number, at most 32
+pub record IsShort (width value : ℕ) : Type 0 where
+  pub most : width ≤ 32
+  pub digits : value < 2 ^ width

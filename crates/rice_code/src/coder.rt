@@ -1,0 +1,88 @@
+//! The coder.
+ghost use Rattle.std.specs.Prelude.{◌≡◌, ℕ, ◌+◌, ◌*◌, ◌^◌, ◌<◌, ◌≤◌, ◌++◌, [], ◌∷◌, length, List, ℤ};
+ghost use Rattle.rice_samples.specs.Parameters.{IsSample};
+ghost use Rattle.rice_samples.specs.Places.{cut};
+ghost use Rattle.rice_code.specs.Steps.{least_steps, most_steps, segment_steps};
+
+use crate::open_segment::OpenSegment;
+use rice_bits::{BitSink, Meter};
+use rice_samples::Setting;
+use std::marker::Model;
+
+/// A coder: it takes samples one by one, and appends the code of each segment of 64 blocks, or
+/// fewer at the end of a reference interval, once it is whole. Clauses see what it holds, and which
+/// samples it stands for (CCSDS 121.0-B-3, sections 3 to 5).
+#[derive(Drop)]
+pub struct Coder {
+    segment: OpenSegment,
+}
+
+impl Model for Coder {
+    ghost use Rattle.rice_code.specs.Coder.{State, IsCoder};
+
+    ghost Value = { State };
+
+    ghost view = { λ c. c.segment };
+
+    ghost invariant = { λ c. IsCoder c.segment };
+}
+
+impl Coder {
+    ghost use Rattle.rice_code.specs.Coder.{StandsFor, IsInPlace, Completes, Finishes, fill_samples, settled};
+
+    /// A coder that stands for no samples.
+    pub fn new(setting: Setting) -> Self
+        ensures stands { StandsFor result [] }
+        ensures setting { result.setting ≡ setting }
+    {
+        let _block = setting.block();
+        Coder {
+            segment: OpenSegment::new(setting),
+        }
+    }
+
+    /// How many samples wait for their segment to be whole: fewer than 64 blocks of them.
+    pub fn pending(&self) -> u32
+        ensures value { (xs : List ℤ) → StandsFor self.now xs → result + cut self.now.setting (length xs) ≡ length xs }
+        ensures limit { result < 64 * self.now.setting.block }
+    {
+        self.segment.len() as u32
+    }
+
+    /// Takes the sample `x`. If it makes a segment whole, the code of the segment is appended, with the
+    /// padding of an interval that it ends where intervals are padded; else nothing is.
+    ///
+    /// A step is a sample, a bit put, padding aside, or a look at a residual.
+    #[inline]
+    pub fn push(&mut self, x: i64, sink: &mut BitSink<16432>, meter: &mut Meter)
+        requires sample { IsSample self.old.setting x }
+        requires room { length sink.old ≤ 7 }
+        requires meter { meter.old + segment_steps self.old.setting < 2 ^ 62 }
+        ensures setting { self.new.setting ≡ self.old.setting }
+        ensures stands { (xs : List ℤ) → StandsFor self.old xs → StandsFor self.new (xs ++ x ∷ []) }
+        ensures code { (xs : List ℤ) → StandsFor self.old xs → IsInPlace self.old.setting xs sink.old → Completes self.old.setting xs (xs ++ x ∷ []) sink.old sink.new }
+        ensures steps_from { (xs : List ℤ) → StandsFor self.old xs → meter.old + 1 + least_steps self.old.setting (settled self.old.setting (xs ++ x ∷ [])) ≤ meter.new + least_steps self.old.setting (settled self.old.setting xs) }
+        ensures steps_to { (xs : List ℤ) → StandsFor self.old xs → meter.new + most_steps self.old.setting (settled self.old.setting xs) ≤ meter.old + 1 + most_steps self.old.setting (settled self.old.setting (xs ++ x ∷ [])) }
+    {
+        meter.tick(1);
+        self.segment.hold(x);
+        if self.segment.is_whole() {
+            self.segment.code(sink, meter);
+            self.segment.begin_next();
+        }
+    }
+
+    /// Fills the last block by repeating the last sample, a step for each, and appends the code of the
+    /// samples that wait. An interval that is left unfinished is not padded, nor is the end.
+    pub fn finish(self, sink: &mut BitSink<16432>, meter: &mut Meter)
+        requires room { length sink.old ≤ 7 }
+        requires meter { meter.old + segment_steps self.setting < 2 ^ 62 }
+        ensures code { (xs : List ℤ) → StandsFor self xs → IsInPlace self.setting xs sink.old → Finishes self.setting xs sink.old sink.new }
+        ensures steps_from { (xs : List ℤ) → StandsFor self xs → meter.old + fill_samples self.setting xs + least_steps self.setting xs ≤ meter.new + least_steps self.setting (settled self.setting xs) }
+        ensures steps_to { (xs : List ℤ) → StandsFor self xs → meter.new + most_steps self.setting (settled self.setting xs) ≤ meter.old + fill_samples self.setting xs + most_steps self.setting xs }
+    {
+        let Coder { mut segment } = self;
+        segment.fill(meter);
+        segment.code(sink, meter);
+    }
+}

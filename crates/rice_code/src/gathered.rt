@@ -1,0 +1,99 @@
+//! Fields that are gathered into one put.
+ghost use Rattle.std.specs.Prelude.{◌≡◌, ℕ, ◌+◌, ◌*◌, ◌^◌, ◌<◌, ◌≤◌, ◌++◌, [], length};
+ghost use Rattle.rice_bits.specs.Bits.{word, fundamental_sequence};
+
+use rice_bits::{BitSink, Meter};
+use std::marker::Model;
+
+/// At most 32 bits that are still to be put into a sink. Clauses see the bits.
+#[derive(Drop)]
+pub struct Gathered {
+    value: u64,
+    width: u32,
+}
+
+impl Model for Gathered {
+    ghost use Rattle.std.specs.Prelude.{Bool, List};
+    ghost use Rattle.rice_bits.specs.Bits.{word};
+    ghost use Rattle.rice_code.specs.Gathered.{IsShort};
+
+    ghost Value = { List Bool };
+
+    ghost view = { λ g. word g.width g.value };
+
+    ghost invariant = { λ g. IsShort g.width g.value };
+}
+
+impl Gathered {
+    /// No bits.
+    #[inline]
+    pub fn new() -> Self
+        ensures { result ≡ [] }
+    {
+        Gathered { value: 0, width: 0 }
+    }
+
+    /// Adds the `width` binary digits of `value`. The bits before them are put where these have no room with them.
+    #[inline]
+    pub fn add(&mut self, value: u32, width: u32, sink: &mut BitSink<16432>, meter: &mut Meter)
+        requires width { width ≤ 32 }
+        requires value { value < 2 ^ width }
+        requires room { length sink.old + length self.old ≤ 131456 }
+        requires meter { meter.old + length self.old < 2 ^ 62 }
+        ensures bits { sink.new ++ self.new ≡ sink.old ++ self.old ++ word width value }
+        ensures len { length sink.new + length self.new ≡ length sink.old + length self.old + width }
+        ensures steps { meter.new + length self.new ≡ meter.old + length self.old + width }
+    {
+        if self.width + width > 32 {
+            sink.put(self.value as u32, self.width, meter);
+            self.value = value as u64;
+            self.width = width;
+            return;
+        }
+        self.value = joined(self.value, width, value);
+        self.width += width;
+    }
+
+    /// Adds the fundamental sequence of `m`.
+    #[inline]
+    pub fn add_fs(&mut self, m: u32, sink: &mut BitSink<16432>, meter: &mut Meter)
+        requires room { length sink.old + length self.old + m + 1 ≤ 131456 }
+        requires meter { meter.old + length self.old + m + 1 < 2 ^ 62 }
+        ensures bits { sink.new ++ self.new ≡ sink.old ++ self.old ++ fundamental_sequence m }
+        ensures len { length sink.new + length self.new ≡ length sink.old + length self.old + m + 1 }
+        ensures steps { meter.new + length self.new ≡ meter.old + length self.old + m + 1 }
+    {
+        if m < 32 {
+            self.add(1, m + 1, sink, meter);
+            return;
+        }
+        self.put(sink, meter);
+        sink.put_fs(m as u64, meter);
+    }
+
+    /// Puts the bits.
+    #[inline]
+    pub fn put(&mut self, sink: &mut BitSink<16432>, meter: &mut Meter)
+        requires room { length sink.old + length self.old ≤ 131456 }
+        requires meter { meter.old + length self.old < 2 ^ 62 }
+        ensures empty { self.new ≡ [] }
+        ensures bits { sink.new ≡ sink.old ++ self.old }
+        ensures len { length sink.new ≡ length sink.old + length self.old }
+        ensures steps { meter.new ≡ meter.old + length self.old }
+    {
+        sink.put(self.value as u32, self.width, meter);
+        self.value = 0;
+        self.width = 0;
+    }
+}
+
+/// A number with so many binary digits behind it.
+#[inline]
+fn joined(high: u64, width: u32, low: u32) -> u64
+    requires width { width ≤ 32 }
+    requires high { high < 2 ^ 32 }
+    requires low { low < 2 ^ width }
+    ensures { result ≡ high * 2 ^ width + low }
+{
+    high * (1 << width) + low as u64
+}

@@ -1,0 +1,81 @@
+//! The search for the shortest text.
+ghost use Rattle.std.specs.Prelude.{◌≡◌, ℕ, ◌+◌, ◌*◌, ◌^◌, ◌<◌, ◌≤◌, length};
+ghost use Rattle.rice_samples.specs.Parameters.{k_max};
+ghost use Rattle.rice_code.specs.DataSets.{Split, cost};
+ghost use Rattle.rice_code.specs.Choice.{shortest, IsBestSplit, best_split};
+ghost use Rattle.rice_code.specs.Held.{told, IsSound};
+ghost use Rattle.rice_code.specs.Chosen.{chosen_set, IsSplitWithin};
+
+use crate::cost::{no_compression_cost, second_extension_cost, split_cost};
+use rice_bits::Meter;
+use rice_samples::{Block, Setting};
+
+/// An option for a block.
+#[derive(Clone, Copy)]
+pub enum Choice {
+    NoCompression,
+    SecondExtension,
+    Split(u32),
+}
+
+/// The smallest of the best splits, and its length.
+pub fn best_split(
+    setting: &Setting,
+    reference: Option<u32>,
+    block: &Block<'_>,
+    meter: &mut Meter,
+) -> (u32, u64)
+    requires sound { IsSound setting.now (told reference block.now) }
+    requires meter { meter.old + setting.now.block * (k_max setting.now + 1) < 2 ^ 62 }
+    ensures best { IsBestSplit setting.now (told reference block.now) result.0 }
+    ensures named { best_split setting.now (told reference block.now) ≡ result.0 }
+    ensures value { result.1 ≡ cost setting.now (Split result.0 (told reference block.now)) }
+    ensures steps_from { meter.old + setting.now.block * (result.0 + 1) ≤ meter.new }
+    ensures steps_to { meter.new ≤ meter.old + setting.now.block * (result.0 + 2) }
+    ensures steps_limit { meter.new ≤ meter.old + setting.now.block * (k_max setting.now + 1) }
+{
+    let limit = setting.k_max();
+    let mut best = 0;
+    let mut least = split_cost(setting, reference, block, 0, meter);
+    while best < limit {
+        let next = split_cost(setting, reference, block, best + 1, meter);
+        if next >= least {
+            return (best, least);
+        }
+        best += 1;
+        least = next;
+    }
+    (best, least)
+}
+
+/// The option of least length.
+pub fn choose(
+    setting: &Setting,
+    reference: Option<u32>,
+    block: &Block<'_>,
+    meter: &mut Meter,
+) -> Choice
+    requires sound { IsSound setting.now (told reference block.now) }
+    requires meter { meter.old + setting.now.block * (k_max setting.now + 2) < 2 ^ 62 }
+    ensures value { chosen_set result (told reference block.now) ≡ shortest setting.now (told reference block.now) }
+    ensures steps_from { meter.old + setting.now.block * (best_split setting.now (told reference block.now) + 2) ≤ meter.new }
+    ensures steps_to { meter.new ≤ meter.old + setting.now.block * (best_split setting.now (told reference block.now) + 3) }
+    ensures steps_limit { meter.new ≤ meter.old + setting.now.block * (k_max setting.now + 2) }
+    ensures split { IsSplitWithin (k_max setting.now) result }
+{
+    let (k, split) = best_split(setting, reference, block, meter);
+    let second_extension = second_extension_cost(setting, reference, block, meter);
+    let no_compression = no_compression_cost(setting, reference, block) as u128;
+    let split = split as u128;
+    if second_extension < no_compression {
+        if split < second_extension {
+            Choice::Split(k)
+        } else {
+            Choice::SecondExtension
+        }
+    } else if split < no_compression {
+        Choice::Split(k)
+    } else {
+        Choice::NoCompression
+    }
+}

@@ -1,0 +1,141 @@
+//! The code of the blocks of a segment.
+ghost use Rattle.std.specs.Prelude.{◌≡◌, ℕ, ◌+◌, ◌-◌, ◌*◌, ◌/◌, ◌^◌, ◌<◌, ◌≤◌, ◌++◌, [], ◌∷◌, min, true, false, length, sum_by, IfSome};
+ghost use Rattle.rice_samples.specs.Parameters.{k_max, value_count};
+ghost use Rattle.rice_samples.specs.Places.{begins_segment, blocks_left, place};
+ghost use Rattle.rice_code.specs.Blocks.{is_zero};
+ghost use Rattle.rice_code.specs.DataSets.{cost, text, joined};
+ghost use Rattle.rice_code.specs.Code.{data_sets};
+ghost use Rattle.rice_code.specs.Choice.{shortest, best_split};
+ghost use Rattle.rice_code.specs.Held.{told, IsSound, AreSoundBlocks, held_blocks, reference_at, waiting_run};
+ghost use Rattle.rice_code.specs.Steps.{least_looks, most_looks};
+
+use crate::search::choose;
+use crate::text::{put_block, put_run};
+use rice_bits::{BitSink, Meter};
+use rice_samples::{Block, Segment, Setting};
+
+/// The shortest text of a block that is not zero.
+fn code_block(
+    setting: &Setting,
+    reference: Option<u32>,
+    block: &Block<'_>,
+    sink: &mut BitSink<16432>,
+    meter: &mut Meter,
+)
+    requires sound { IsSound setting.now (told reference block.now) }
+    requires room { length sink.old + cost setting.now (shortest setting.now (told reference block.now)) ≤ 131456 }
+    requires meter { meter.old + cost setting.now (shortest setting.now (told reference block.now)) + setting.now.block * (k_max setting.now + 4) < 2 ^ 62 }
+    ensures bits { sink.new ≡ sink.old ++ text setting.now (shortest setting.now (told reference block.now)) }
+    ensures len { length sink.new ≡ length sink.old + cost setting.now (shortest setting.now (told reference block.now)) }
+    ensures steps_from { meter.old + cost setting.now (shortest setting.now (told reference block.now)) + setting.now.block * (best_split setting.now (told reference block.now) + 3) ≤ meter.new + 1 }
+    ensures steps_to { meter.new ≤ meter.old + cost setting.now (shortest setting.now (told reference block.now)) + setting.now.block * (min (best_split setting.now (told reference block.now) + 1) (k_max setting.now) + 4) }
+{
+    let choice = choose(setting, reference, block, meter);
+    put_block(setting, choice, reference, block, sink, meter);
+}
+
+/// The text of the zero blocks that wait, if there are any.
+fn put_waiting(
+    setting: &Setting,
+    reference: Option<u32>,
+    run: u32,
+    to_end: bool,
+    sink: &mut BitSink<16432>,
+    meter: &mut Meter,
+)
+    requires few { run ≤ 64 }
+    requires fits { IfSome reference (λ v. v < value_count setting.now) }
+    requires room { length sink.old + length (joined setting.now (waiting_run to_end reference run)) ≤ 131456 }
+    requires meter { meter.old + length (joined setting.now (waiting_run to_end reference run)) < 2 ^ 62 }
+    ensures bits { sink.new ≡ sink.old ++ joined setting.now (waiting_run to_end reference run) }
+    ensures len { length sink.new ≡ length sink.old + length (joined setting.now (waiting_run to_end reference run)) }
+    ensures steps { meter.new ≡ meter.old + length (joined setting.now (waiting_run to_end reference run)) }
+{
+    if run > 0 {
+        put_run(setting, reference, run, to_end, sink, meter);
+    }
+}
+
+/// A block behind `run` zero blocks that wait: it waits too, or it ends the run. Answers how many blocks wait then.
+fn code_next(
+    setting: &Setting,
+    first: Option<u32>,
+    run: u32,
+    reference: Option<u32>,
+    block: &Block<'_>,
+    sink: &mut BitSink<16432>,
+    meter: &mut Meter,
+) -> u32
+    requires few { run < 64 }
+    requires fits { IfSome first (λ v. v < value_count setting.now) }
+    requires sound { IsSound setting.now (told reference block.now) }
+    requires room { is_zero (told reference block.now) ≡ false → length sink.old + length (joined setting.now (waiting_run false first run)) + cost setting.now (shortest setting.now (told reference block.now)) ≤ 131456 }
+    requires look { meter.old + setting.now.block < 2 ^ 62 }
+    requires meter { is_zero (told reference block.now) ≡ false → meter.old + length (joined setting.now (waiting_run false first run)) + cost setting.now (shortest setting.now (told reference block.now)) + setting.now.block * (k_max setting.now + 5) < 2 ^ 62 }
+    ensures run_zero { is_zero (told reference block.now) ≡ true → result ≡ run + 1 }
+    ensures bits_zero { is_zero (told reference block.now) ≡ true → sink.new ≡ sink.old }
+    ensures steps_zero { is_zero (told reference block.now) ≡ true → meter.new ≡ meter.old + setting.now.block }
+    ensures run { is_zero (told reference block.now) ≡ false → result ≡ 0 }
+    ensures bits { is_zero (told reference block.now) ≡ false → sink.new ≡ sink.old ++ joined setting.now (waiting_run false first run) ++ text setting.now (shortest setting.now (told reference block.now)) }
+    ensures len { is_zero (told reference block.now) ≡ false → length sink.new ≡ length sink.old + length (joined setting.now (waiting_run false first run)) + cost setting.now (shortest setting.now (told reference block.now)) }
+    ensures steps_from { is_zero (told reference block.now) ≡ false → meter.old + length (joined setting.now (waiting_run false first run)) + cost setting.now (shortest setting.now (told reference block.now)) + setting.now.block * (best_split setting.now (told reference block.now) + 4) ≤ meter.new + 1 }
+    ensures steps_to { is_zero (told reference block.now) ≡ false → meter.new ≤ meter.old + length (joined setting.now (waiting_run false first run)) + cost setting.now (shortest setting.now (told reference block.now)) + setting.now.block * (min (best_split setting.now (told reference block.now) + 1) (k_max setting.now) + 5) }
+{
+    if block.is_zero(meter) {
+        return run + 1;
+    }
+    put_waiting(setting, first, run, false, sink, meter);
+    code_block(setting, reference, block, sink, meter);
+    0
+}
+
+/// The reference of a block, of which only the first may have one.
+fn reference_of(reference: Option<u32>, i: usize) -> Option<u32>
+    ensures { result ≡ reference_at reference i }
+{
+    match i {
+        0 => reference,
+        _ => None,
+    }
+}
+
+/// The code of `count` blocks at the front of a segment that begins at place `start`.
+pub fn code_blocks(
+    setting: &Setting,
+    start: u32,
+    reference: Option<u32>,
+    count: usize,
+    segment: &Segment,
+    sink: &mut BitSink<16432>,
+    meter: &mut Meter,
+)
+    requires place { place setting.now start ≡ start }
+    requires begins { begins_segment setting.now start ≡ true }
+    requires few { count ≤ blocks_left setting.now start }
+    requires len { length segment.now ≡ setting.now.block * count }
+    requires fits { IfSome reference (λ v. v < value_count setting.now) }
+    requires sound { AreSoundBlocks setting.now start (held_blocks setting.now reference count segment.now) }
+    requires room { length sink.old + length (joined setting.now (data_sets setting.now start false (held_blocks setting.now reference count segment.now))) ≤ 131456 }
+    requires meter { meter.old + length (joined setting.now (data_sets setting.now start false (held_blocks setting.now reference count segment.now))) + count * (setting.now.block * (k_max setting.now + 5)) < 2 ^ 62 }
+    ensures bits { sink.new ≡ sink.old ++ joined setting.now (data_sets setting.now start false (held_blocks setting.now reference count segment.now)) }
+    ensures steps_from { meter.old + length (joined setting.now (data_sets setting.now start false (held_blocks setting.now reference count segment.now))) + sum_by (least_looks setting.now) (held_blocks setting.now reference count segment.now) ≤ meter.new }
+    ensures steps_to { meter.new ≤ meter.old + length (joined setting.now (data_sets setting.now start false (held_blocks setting.now reference count segment.now))) + sum_by (most_looks setting.now) (held_blocks setting.now reference count segment.now) }
+{
+    let size = setting.block() as usize;
+    let mut run: u32 = 0;
+    for i in 0..count {
+        let block = segment.block(i, size);
+        let first = reference_of(reference, i - run as usize);
+        run = code_next(
+            setting,
+            first,
+            run,
+            reference_of(reference, i),
+            &block,
+            sink,
+            meter,
+        );
+    }
+    let first = reference_of(reference, count - run as usize);
+    put_waiting(setting, first, run, true, sink, meter);
+}

@@ -1,0 +1,207 @@
+-- Chunks of eight numbers in the lanes of a vector.
+use Rattle.std.proofs.Common.{◌≡◌, ◌≢◌, ℕ, zero, suc, ◌+◌, ◌-◌, ◌*◌, ◌/◌, ◌%◌, ◌^◌, ◌<◌, ◌≤◌, ◌==◌, Bool, true, false, ◌&&◌, List, [], ◌∷◌, ◌++◌, map, length, take, drop, get_or, sum_by, refl, sym, ◌∙◌, ap, subst, arith, inl, inr, Fits, w32}
+use Rattle.std.specs.Prelude.{All, bit_or, replicate}
+use Rattle.std.specs.List.{list_all}
+use Rattle.std.specs.Simd.Lanes.{zip2, Each1, Each2, chunk, sum_l, fold_l}
+use Rattle.std.proofs.lemmas.Bool.Decides.{nat_tests}
+use Rattle.std.proofs.lemmas.Bool.{cases_lt}
+use Rattle.std.proofs.lemmas.Nat.{le_or_l, le_or_r, pow_pos}
+use Rattle.std.proofs.lemmas.List.Sums.{sum_by-append, sum_by-cons, sum_by-take-le}
+use Rattle.std.proofs.lemmas.Simd.{zip2_splat, sum-zip2, fold-sum, length-zip2, length-chunk, Each1-chunk, Each1-get_or, Each1-from_get_or, Each1-weaker, Each1-zip2, Each2-of}
+use Rattle.std.proofs.Math.Seq.{take-add}
+use Rattle.std.proofs.Math.Nat.{div-mul-le_self, mul-le-mul_right}
+
+-- the numbers up to the next chunk
+pub take_chunk : (i : ℕ) (xs : List ℕ) → take (8 * (i + 1)) xs ≡ take (8 * i) xs ++ chunk (8 * i) 8 xs
+take_chunk i xs = let e : 8 * (i + 1) ≡ 8 * i + 8 = omega arith in rw e (take-add (8 * i) 8 xs)
+
+pub take_all : (n : ℕ) (xs : List ℕ) → length xs % 8 ≡ 0 → length xs / 8 ≤ n → take (8 * n) xs ≡ xs
+take_all n xs e le = whole (8 * n) xs (omega arith)
+  where
+    whole : (n : ℕ) (xs : List ℕ) → length xs ≤ n → take n xs ≡ xs
+    whole zero [] h = refl
+    whole zero (x ∷ xs) h = absurd (omega arith)
+    whole (suc n) [] h = refl
+    whole (suc n) (x ∷ xs) h = ap (λ ys. x ∷ ys) (whole n xs (omega arith))
+
+-- sums
+
+pub sum_map : (f : ℕ → ℕ) (xs : List ℕ) → sum_l (map f xs) ≡ sum_by f xs
+sum_map f [] = refl
+sum_map f (x ∷ xs) = ap (λ n. f x + n) (sum_map f xs) ∙ sym (sum_by-cons f x xs)
+
+pub sum_limit : (k limit : ℕ) (xs : List ℕ) → ((i : ℕ) → get_or xs i 0 < limit) → sum_by (λ d. d / 2 ^ k) xs ≤ length xs * limit
+sum_limit k limit [] h = omega arith
+sum_limit k limit (x ∷ xs) h = rw (sum_by-cons (λ d. d / 2 ^ k) x xs) (one x (x / 2 ^ k) (2 ^ k) (length xs) limit (sum_by (λ d. d / 2 ^ k) xs) (div-mul-le_self x (2 ^ k)) (pow_pos k) (h 0) (sum_limit k limit xs (λ i. h (suc i))))
+  where
+    one : (x q p n limit s : ℕ) → q * p ≤ x → 0 < p → x < limit → s ≤ n * limit → q + s ≤ suc n * limit
+    one x q zero n limit s le lt h k = absurd (omega arith)
+    one x q (suc p) n limit s le lt h k = omega arith
+
+-- each number of a chunk without its k lowest digits
+pub shifted : (k : ℕ) (xs : List ℕ) → length xs ≡ 8 → zip2 (λ d s. d / 2 ^ s) xs (replicate 8 k) ≡ map (λ d. d / 2 ^ k) xs
+shifted k xs e = zip2_splat (λ d s. d / 2 ^ s) xs 8 k e
+
+pub length-map : (f : ℕ → ℕ) (xs : List ℕ) → length (map f xs) ≡ length xs
+length-map f [] = refl
+length-map f (x ∷ xs) = ap (λ n. suc n) (length-map f xs)
+
+pub next_sum : (k i : ℕ) (xs total : List ℕ) → length total ≡ 8 → 8 * i + 8 ≤ length xs → sum_l total ≡ sum_by (λ d. d / 2 ^ k) (take (8 * i) xs) →
+    sum_l total + sum_l (zip2 (λ d s. d / 2 ^ s) (chunk (8 * i) 8 xs) (replicate 8 k)) ≡ sum_by (λ d. d / 2 ^ k) (take (8 * (i + 1)) xs)
+next_sum k i xs total lanes room value =
+    rw (shifted k (chunk (8 * i) 8 xs) (length-chunk (8 * i) 8 xs room), sum_map (λ d. d / 2 ^ k) (chunk (8 * i) 8 xs), take_chunk i xs, sum_by-append (λ d. d / 2 ^ k) (take (8 * i) xs) (chunk (8 * i) 8 xs), value) refl
+
+pub map_same : (xs : List ℕ) → map (λ d. d) xs ≡ xs
+map_same [] = refl
+map_same (x ∷ xs) = ap (λ ys. x ∷ ys) (map_same xs)
+
+-- digits
+
+fold_or_above : (a : ℕ) (xs : List ℕ) → (a ≤ fold_l bit_or a xs) × Each1 (λ x. x ≤ fold_l bit_or a xs) xs
+fold_or_above a [] = (omega arith, tt)
+fold_or_above a (x ∷ xs) =
+    let rest = fold_or_above (bit_or a x) xs in
+    let l = le_or_l a x in
+    let r = le_or_r a x in
+    (omega (arith, rest.0), (omega (arith, rest.0), rest.1))
+
+pub lanes_below_digits : (xs : List ℕ) → Each1 (λ x. x ≤ fold_l bit_or 0 xs) xs
+lanes_below_digits xs = (fold_or_above 0 xs).1
+
+pub parts_below : (limit : ℕ) (xs ys : List ℕ) → length xs ≡ length ys → Each1 (λ x. x ≤ limit) (zip2 bit_or xs ys) → Each1 (λ x. x ≤ limit) xs × Each1 (λ x. x ≤ limit) ys
+parts_below limit [] [] n h = (tt, tt)
+parts_below limit [] (y ∷ ys) n h = absurd (omega arith)
+parts_below limit (x ∷ xs) [] n h = absurd (omega arith)
+parts_below limit (x ∷ xs) (y ∷ ys) n h =
+    let rest = parts_below limit xs ys (omega arith) h.1 in
+    let l = le_or_l x y in
+    let r = le_or_r x y in
+    ((omega (arith, h.0), rest.0), (omega (arith, h.0), rest.1))
+
+pub Each1-append : (P : ℕ → Type 0) (xs ys : List ℕ) → Each1 P xs → Each1 P ys → Each1 P (xs ++ ys)
+Each1-append P [] ys h k = k
+Each1-append P (x ∷ xs) ys h k = (h.0, Each1-append P xs ys h.1 k)
+
+-- zeros
+
+pub zero_digits : (xs : List ℕ) → fold_l bit_or 0 xs ≡ 0 → list_all (λ d. d == 0) xs ≡ true
+zero_digits xs e = zeros xs (subst (λ (n : ℕ). Each1 (λ x. x ≤ n) xs) e (lanes_below_digits xs))
+  where
+    zeros : (xs : List ℕ) → Each1 (λ x. x ≤ 0) xs → list_all (λ d. d == 0) xs ≡ true
+    zeros [] h = refl
+    zeros (zero ∷ xs) h = zeros xs h.1
+    zeros (suc x ∷ xs) h = absurd (omega (arith, h.0))
+
+pub no_digits : (xs : List ℕ) → list_all (λ d. d == 0) xs ≡ true → fold_l bit_or 0 xs ≡ 0
+no_digits [] e = refl
+no_digits (zero ∷ xs) e = no_digits xs e
+no_digits (suc x ∷ xs) e = absurd (grind (arith, nat_tests))
+
+pub list_all-append : (p : ℕ → Bool) (xs ys : List ℕ) → list_all p (xs ++ ys) ≡ (list_all p xs && list_all p ys)
+list_all-append p [] ys = refl
+list_all-append p (x ∷ xs) ys =
+    let rest = list_all-append p xs ys in
+    elim (p x) as (λ b. (b && list_all p (xs ++ ys)) ≡ (b && list_all p xs && list_all p ys)) [ true ↦ rest | false ↦ refl ]
+
+pub more_zeros : (i : ℕ) (xs : List ℕ) → list_all (λ d. d == 0) (take (8 * i) xs) ≡ true → fold_l bit_or 0 (chunk (8 * i) 8 xs) ≡ 0 → list_all (λ d. d == 0) (take (8 * (i + 1)) xs) ≡ true
+more_zeros i xs h e = rw (take_chunk i xs, list_all-append (λ d. d == 0) (take (8 * i) xs) (chunk (8 * i) 8 xs), h) (zero_digits (chunk (8 * i) 8 xs) e)
+
+pub some_digits : (i : ℕ) (xs : List ℕ) → fold_l bit_or 0 (chunk (8 * i) 8 xs) ≢ 0 → list_all (λ d. d == 0) xs ≡ false
+some_digits i xs h = by_value (list_all (λ d. d == 0) xs) refl
+  where
+    parts : (n m : ℕ) (xs : List ℕ) → list_all (λ d. d == 0) xs ≡ true → list_all (λ d. d == 0) (chunk n m xs) ≡ true
+    parts n m xs e = front m (drop n xs) (behind n xs e)
+      where
+        behind : (n : ℕ) (xs : List ℕ) → list_all (λ d. d == 0) xs ≡ true → list_all (λ d. d == 0) (drop n xs) ≡ true
+        behind zero xs e = e
+        behind (suc n) [] e = refl
+        behind (suc n) (zero ∷ xs) e = behind n xs e
+        behind (suc n) (suc x ∷ xs) e = absurd (grind (arith, nat_tests))
+
+        front : (n : ℕ) (xs : List ℕ) → list_all (λ d. d == 0) xs ≡ true → list_all (λ d. d == 0) (take n xs) ≡ true
+        front zero xs e = refl
+        front (suc n) [] e = refl
+        front (suc n) (zero ∷ xs) e = front n xs e
+        front (suc n) (suc x ∷ xs) e = absurd (grind (arith, nat_tests))
+
+    by_value : (b : Bool) → list_all (λ d. d == 0) xs ≡ b → list_all (λ d. d == 0) xs ≡ false
+    by_value true e = absurd (h (no_digits (chunk (8 * i) 8 xs) (parts (8 * i) 8 xs e)))
+    by_value false e = e
+
+-- a step of a sum
+
+pub lanes_shifted : (k i : ℕ) (xs : List ℕ) → 8 * i + 8 ≤ length xs → length (zip2 (λ d s. d / 2 ^ s) (chunk (8 * i) 8 xs) (replicate 8 k)) ≡ 8
+lanes_shifted k i xs room = let e = length-chunk (8 * i) 8 xs room in length-zip2 (λ d s. d / 2 ^ s) (chunk (8 * i) 8 xs) (replicate 8 k) e ∙ e
+
+pub sums_fit : (k i : ℕ) (xs total : List ℕ) → length total ≡ 8 → 8 * i + 8 ≤ length xs → length xs ≤ 64 → ((j : ℕ) → get_or xs j 0 < 2 ^ 32) → sum_l total ≡ sum_by (λ d. d / 2 ^ k) (take (8 * i) xs) →
+    sum_l total + sum_l (zip2 (λ d s. d / 2 ^ s) (chunk (8 * i) 8 xs) (replicate 8 k)) < 2 ^ 64
+sums_fit k i xs total lanes room few small value =
+    rw (next_sum k i xs total lanes room value)
+    (let a = sum_by-take-le (λ d. d / 2 ^ k) xs (8 * (i + 1)) in let b = sum_limit k (2 ^ 32) xs small in omega arith)
+
+pub sum_added : (k i : ℕ) (xs total : List ℕ) → length total ≡ 8 → 8 * i + 8 ≤ length xs → sum_l total ≡ sum_by (λ d. d / 2 ^ k) (take (8 * i) xs) →
+    sum_l (zip2 (λ a b. a + b) total (zip2 (λ d s. d / 2 ^ s) (chunk (8 * i) 8 xs) (replicate 8 k))) ≡ sum_by (λ d. d / 2 ^ k) (take (8 * (i + 1)) xs)
+sum_added k i xs total lanes room value = sum-zip2 total _ (lanes ∙ sym (lanes_shifted k i xs room)) ∙ next_sum k i xs total lanes room value
+
+pub lanes_added : (k i : ℕ) (xs total : List ℕ) → length total ≡ 8 → 8 * i + 8 ≤ length xs → length (zip2 (λ a b. a + b) total (zip2 (λ d s. d / 2 ^ s) (chunk (8 * i) 8 xs) (replicate 8 k))) ≡ 8
+lanes_added k i xs total lanes room = length-zip2 (λ a b. a + b) total _ (lanes ∙ sym (lanes_shifted k i xs room)) ∙ lanes
+
+pub whole_sum : (k n : ℕ) (xs total : List ℕ) → length xs % 8 ≡ 0 → length xs / 8 ≤ n → sum_l total ≡ sum_by (λ d. d / 2 ^ k) (take (8 * n) xs) → fold_l (λ s x. s + x) 0 total ≡ sum_by (λ d. d / 2 ^ k) xs
+whole_sum k n xs total e le value = fold-sum 0 total ∙ (omega arith ∙ (value ∙ ap (λ ys. sum_by (λ d. d / 2 ^ k) ys) (take_all n xs e le)))
+
+pub total_fits : (k n : ℕ) (xs total : List ℕ) → length xs ≤ 64 → ((j : ℕ) → get_or xs j 0 < 2 ^ 32) → sum_l total ≡ sum_by (λ d. d / 2 ^ k) (take (8 * n) xs) → 0 + sum_l total < 2 ^ 64
+total_fits k n xs total few small value = let a = sum_by-take-le (λ d. d / 2 ^ k) xs (8 * n) in let b = sum_limit k (2 ^ 32) xs small in omega arith
+
+-- lanes of 32 bits
+
+pub Each1-map : (P : ℕ → Type 0) (f : ℕ → ℕ) (xs : List ℕ) → Each1 (λ x. P (f x)) xs → Each1 P (map f xs)
+Each1-map P f [] h = tt
+Each1-map P f (x ∷ xs) h = (h.0, Each1-map P f xs h.1)
+
+pub lanes_small : (k i : ℕ) (xs : List ℕ) → 8 * i + 8 ≤ length xs → ((j : ℕ) → get_or xs j 0 < 2 ^ 32) → Each1 (λ y. y * 2 ^ k ≤ 2 ^ 32 - 1) (zip2 (λ d s. d / 2 ^ s) (chunk (8 * i) 8 xs) (replicate 8 k))
+lanes_small k i xs room small =
+    rw (shifted k (chunk (8 * i) 8 xs) (length-chunk (8 * i) 8 xs room))
+    (Each1-map (λ y. y * 2 ^ k ≤ 2 ^ 32 - 1) (λ d. d / 2 ^ k) (chunk (8 * i) 8 xs)
+    (Each1-weaker (λ d. d < 2 ^ 32) (λ d. d / 2 ^ k * 2 ^ k ≤ 2 ^ 32 - 1) (λ d h. let a = div-mul-le_self d (2 ^ k) in omega arith) (chunk (8 * i) 8 xs)
+    (Each1-chunk (λ d. d < 2 ^ 32) (8 * i) 8 xs (Each1-from_get_or (λ d. d < 2 ^ 32) xs 0 (λ j _. small j)))))
+
+pub narrow_fits : (k i : ℕ) (xs total : List ℕ) → 8 * i + 8 ≤ length xs → length xs ≤ 8 * 2 ^ k → ((j : ℕ) → get_or xs j 0 < 2 ^ 32) → Each1 (λ t. t * 2 ^ k ≤ i * (2 ^ 32 - 1)) total →
+    Each2 (λ a b. Fits w32 (a + b)) total (zip2 (λ d s. d / 2 ^ s) (chunk (8 * i) 8 xs) (replicate 8 k))
+narrow_fits k i xs total room narrow small below =
+    Each2-of (λ t. t * 2 ^ k ≤ i * (2 ^ 32 - 1)) (λ y. y * 2 ^ k ≤ 2 ^ 32 - 1) (λ a b. Fits w32 (a + b)) (λ a b h l. lane a b (2 ^ k) i (length xs) (pow_pos k) room narrow h l) total _ below (lanes_small k i xs room small)
+  where
+    lane : (a b p i n : ℕ) → 0 < p → 8 * i + 8 ≤ n → n ≤ 8 * p → a * p ≤ i * (2 ^ 32 - 1) → b * p ≤ 2 ^ 32 - 1 → Fits w32 (a + b)
+    lane a b p i n some room narrow h l =
+        elim (cases_lt (a + b) (2 ^ 32)) [
+          | inl lt ↦ record { fits = lt }
+          | inr ge ↦ let e : 2 ^ 32 * p ≤ (a + b) * p = mul-le-mul_right p ge in absurd (omega arith)
+        ]
+
+pub narrow_lanes : (k i : ℕ) (xs total : List ℕ) → 8 * i + 8 ≤ length xs → length xs ≤ 8 * 2 ^ k → ((j : ℕ) → get_or xs j 0 < 2 ^ 32) → Each1 (λ t. t * 2 ^ k ≤ i * (2 ^ 32 - 1)) total →
+    Each1 (Fits w32) (zip2 (λ a b. a + b) total (zip2 (λ d s. d / 2 ^ s) (chunk (8 * i) 8 xs) (replicate 8 k)))
+narrow_lanes k i xs total room narrow small below = Each1-zip2 (λ a b. a + b) (Fits w32) total _ (narrow_fits k i xs total room narrow small below)
+
+pub narrow_below : (k i : ℕ) (xs total : List ℕ) → 8 * i + 8 ≤ length xs → ((j : ℕ) → get_or xs j 0 < 2 ^ 32) → Each1 (λ t. t * 2 ^ k ≤ i * (2 ^ 32 - 1)) total →
+    Each1 (λ t. t * 2 ^ k ≤ (i + 1) * (2 ^ 32 - 1)) (zip2 (λ a b. a + b) total (zip2 (λ d s. d / 2 ^ s) (chunk (8 * i) 8 xs) (replicate 8 k)))
+narrow_below k i xs total room small below =
+    Each1-zip2 (λ a b. a + b) (λ t. t * 2 ^ k ≤ (i + 1) * (2 ^ 32 - 1)) total _
+    (Each2-of (λ t. t * 2 ^ k ≤ i * (2 ^ 32 - 1)) (λ y. y * 2 ^ k ≤ 2 ^ 32 - 1) (λ a b. (a + b) * 2 ^ k ≤ (i + 1) * (2 ^ 32 - 1)) (λ a b h l. lane a b (2 ^ k) i h l) total _ below (lanes_small k i xs room small))
+  where
+    lane : (a b p i : ℕ) → a * p ≤ i * (2 ^ 32 - 1) → b * p ≤ 2 ^ 32 - 1 → (a + b) * p ≤ (i + 1) * (2 ^ 32 - 1)
+    lane a b p i h l = omega arith
+
+-- a step of a test
+
+pub digits_above : (limit i : ℕ) (xs digits : List ℕ) → length digits ≡ 8 → 8 * i + 8 ≤ length xs → ((limit : ℕ) → Each1 (λ d. d ≤ limit) digits → Each1 (λ d. d ≤ limit) (take (8 * i) xs)) →
+    Each1 (λ d. d ≤ limit) (zip2 bit_or digits (chunk (8 * i) 8 xs)) → Each1 (λ d. d ≤ limit) (take (8 * (i + 1)) xs)
+digits_above limit i xs digits lanes room above h =
+    let parts = parts_below limit digits (chunk (8 * i) 8 xs) (lanes ∙ sym (length-chunk (8 * i) 8 xs room)) h in
+    rw (take_chunk i xs) (Each1-append (λ d. d ≤ limit) (take (8 * i) xs) (chunk (8 * i) 8 xs) (above limit parts.0) parts.1)
+
+pub digits_bound : (n : ℕ) (xs digits : List ℕ) → length xs % 8 ≡ 0 → length xs / 8 ≤ n → ((limit : ℕ) → Each1 (λ d. d ≤ limit) digits → Each1 (λ d. d ≤ limit) (take (8 * n) xs)) → All (λ d. d ≤ fold_l bit_or 0 digits) xs
+digits_bound n xs digits e le above = λ k d lt.
+    let all : Each1 (λ d. d ≤ fold_l bit_or 0 digits) xs = rw (take_all n xs e le) at (above (fold_l bit_or 0 digits) (lanes_below_digits digits)) in
+    Each1-get_or (λ d. d ≤ fold_l bit_or 0 digits) xs k d lt all
+
+pub sum_limited : (k n : ℕ) (xs total : List ℕ) → length xs ≤ 64 → length xs % 8 ≡ 0 → length xs / 8 ≤ n → ((j : ℕ) → get_or xs j 0 < 2 ^ 32) → sum_l total ≡ sum_by (λ d. d / 2 ^ k) (take (8 * n) xs) → fold_l (λ s x. s + x) 0 total ≤ 2 ^ 38
+sum_limited k n xs total few e le small value = let a = whole_sum k n xs total e le value in let b = sum_limit k (2 ^ 32) xs small in omega arith

@@ -1,0 +1,111 @@
+//! Blocks of residuals, which are read only by calls that count their steps.
+ghost use Rattle.std.specs.Prelude.{◌≡◌, ℕ, ◌+◌, ◌*◌, ◌/◌, ◌^◌, ◌==◌, ◌<◌, ◌≤◌, length, slice_index, sum_by};
+ghost use Rattle.std.specs.List.{list_all};
+ghost use Rattle.rice_samples.specs.Pairs.{pair_codes};
+ghost use Rattle.rice_samples.specs.Segments.{IsBlockSize};
+
+use crate::codewords::pair_sum;
+use crate::lanes::{all_zero, sum_shifted};
+use rice_bits::Meter;
+use std::marker::Model;
+
+/// The residuals of a block, 8, 16, 32 or 64 of them, lent by a segment. Clauses see their list.
+///
+/// Each look at a residual is a step: the calls below count as many as the block has residuals,
+/// and `at` counts one. No other call tells anything of the residuals.
+#[derive(Drop)]
+pub struct Block<'a> {
+    items: &'a [u32],
+}
+
+impl<'a> Model for Block<'a> {
+    ghost use Rattle.std.specs.Prelude.{ℕ, List, length};
+    ghost use Rattle.rice_samples.specs.Segments.{IsBlockSize};
+
+    ghost Value = { List ℕ };
+
+    ghost view = { λ b. b.items.now };
+
+    ghost invariant = { λ b. IsBlockSize (length b.items.now) };
+}
+
+impl<'a> Block<'a> {
+    #[inline]
+    pub(crate) fn of(items: &'a [u32]) -> Self
+        requires { IsBlockSize (length items.now) }
+        ensures { result ≡ items.now }
+    {
+        Block { items }
+    }
+}
+
+impl Block<'_> {
+    /// How many residuals there are: 8, 16, 32 or 64.
+    #[inline]
+    pub fn len(&self) -> usize
+        ensures value { result ≡ length self.now }
+        ensures size { IsBlockSize result }
+        ensures range { (8 ≤ result) × (result ≤ 64) }
+    {
+        self.items.len()
+    }
+
+    /// Whether all residuals are 0.
+    #[inline]
+    pub fn is_zero(&self, meter: &mut Meter) -> bool
+        requires { meter.old + length self.now < 2 ^ 62 }
+        ensures value { result ≡ list_all (λ d. d == 0) self.now }
+        ensures steps { meter.new ≡ meter.old + length self.now }
+    {
+        all_zero(self.look(meter))
+    }
+
+    /// The sum of the residuals without their `k` lowest binary digits, for `k` up to 29.
+    #[inline]
+    pub fn sum_shifted(&self, k: u32, meter: &mut Meter) -> u64
+        requires split { k ≤ 29 }
+        requires meter { meter.old + length self.now < 2 ^ 62 }
+        ensures value { result ≡ sum_by (λ d. d / 2 ^ k) self.now }
+        ensures limit { result ≤ 2 ^ 38 }
+        ensures steps { meter.new ≡ meter.old + length self.now }
+    {
+        sum_shifted(self.look(meter), k)
+    }
+
+    /// The bits of the codewords that second extension sends for the pairs of residuals.
+    #[inline]
+    pub fn pair_sum(&self, meter: &mut Meter) -> u128
+        requires { meter.old + length self.now < 2 ^ 62 }
+        ensures value { result ≡ sum_by (λ g. g + 1) (pair_codes self.now) }
+        ensures limit { result ≤ 2 ^ 72 }
+        ensures steps { meter.new ≡ meter.old + length self.now }
+    {
+        pair_sum(self.look(meter))
+    }
+
+    /// Residual number `i`.
+    #[inline]
+    pub fn at(&self, i: usize, meter: &mut Meter) -> u32
+        requires inside { i < length self.now }
+        requires meter { meter.old + 1 < 2 ^ 62 }
+        ensures value { result ≡ slice_index self.now i }
+        ensures steps { meter.new ≡ meter.old + 1 }
+    {
+        let items = self.items;
+        meter.tick(1);
+        items[i]
+    }
+
+    /// All residuals, at a step each.
+    #[inline]
+    fn look(&self, meter: &mut Meter) -> &[u32]
+        requires { meter.old + length self.now < 2 ^ 62 }
+        ensures value { result.now ≡ self.now }
+        ensures size { IsBlockSize (length result.now) }
+        ensures steps { meter.new ≡ meter.old + length self.now }
+    {
+        let items = self.items;
+        meter.tick(items.len() as u64);
+        items
+    }
+}

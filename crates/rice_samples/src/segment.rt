@@ -1,0 +1,80 @@
+//! The residuals of a segment.
+ghost use Rattle.std.specs.Prelude.{◌≡◌, ℕ, ◌+◌, ◌*◌, ◌<◌, ◌≤◌, [], ◌∷◌, ◌++◌, length, slice_range};
+ghost use Rattle.rice_samples.specs.Segments.{IsBlockSize};
+
+use crate::Block;
+use std::marker::Model;
+
+/// The most residuals of a segment: 64 blocks of 64.
+const CAPACITY: usize = 4096;
+
+/// The residuals of a segment, at most 4,096. Clauses see their list. They are told by blocks alone.
+#[derive(Drop)]
+pub struct Segment {
+    items: [u32; CAPACITY],
+    len: usize,
+}
+
+impl Model for Segment {
+    ghost use Rattle.std.specs.Prelude.{ℕ, ◌≤◌, List, take};
+
+    ghost Value = { List ℕ };
+
+    ghost view = { λ s. take s.len s.items };
+
+    ghost invariant = { λ s. s.len ≤ 4096 };
+}
+
+impl Segment {
+    /// A segment without residuals.
+    #[inline]
+    pub fn new() -> Self
+        ensures { result ≡ [] }
+    {
+        Segment {
+            items: [0; CAPACITY],
+            len: 0,
+        }
+    }
+
+    /// How many residuals there are.
+    #[inline]
+    pub fn len(&self) -> usize
+        ensures value { result ≡ length self.now }
+        ensures limit { result ≤ 4096 }
+    {
+        self.len
+    }
+
+    /// Adds a residual at the end.
+    #[inline]
+    pub fn push(&mut self, residual: u32)
+        requires { length self.old < 4096 }
+        ensures value { self.new ≡ self.old ++ residual ∷ [] }
+        ensures len { length self.new ≡ length self.old + 1 }
+    {
+        self.items[self.len] = residual;
+        self.len += 1;
+    }
+
+    /// Removes all residuals.
+    #[inline]
+    pub fn clear(&mut self)
+        ensures { self.new ≡ [] }
+    {
+        self.len = 0;
+    }
+
+    /// Block `i`: the `size` residuals from number `i * size` on, where `size` is 8, 16, 32 or 64.
+    #[inline]
+    pub fn block(&self, i: usize, size: usize) -> Block<'_>
+        requires size { IsBlockSize size }
+        requires inside { i * size + size ≤ length self.now }
+        ensures value { result ≡ slice_range self.now (i * size) (i * size + size) }
+        ensures len { length result ≡ size }
+    {
+        let items = &self.items[..self.len];
+        let start = i * size;
+        Block::of(&items[start..start + size])
+    }
+}
