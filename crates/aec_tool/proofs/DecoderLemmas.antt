@@ -11,7 +11,8 @@ use Rattle.rice_bits.specs.declared.fault.BitFault.{BitFault}
 use Rattle.rice_bits.specs.declared.fault.BitFault.TheVariants.{End, Read, TooLong}
 use Rattle.rice_bits.proofs.Words.{length-word}
 use Rattle.rice_bits.proofs.OneWay.{word_reads}
-use Rattle.rice_bits.proofs.ReaderLemmas.{takes-append, stops-append, blank-append, blank-zeros, blank-word_zero}
+use Rattle.rice_bits.proofs.Blank.{blank-append, blank-zeros, blank-word_zero}
+use Rattle.rice_bits.proofs.ReaderLemmas.{takes-append, stops-append}
 use Rattle.rice_samples.specs.Parameters.{Parameters, IsLegal, IsSample, id_len}
 use Rattle.rice_samples.specs.Places.{place}
 use Rattle.rice_code.specs.Blocks.{contents}

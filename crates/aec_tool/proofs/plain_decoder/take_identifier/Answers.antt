@@ -2,7 +2,8 @@ use Rattle.std.proofs.Common.{arith, ◌≡◌, ◌≢◌, ◌-◌, ◌^◌, ◌
 use Rattle.std.specs.Prelude.{Result}
 use Rattle.rice_bits.specs.Bits.{word, fundamental_sequence}
 use Rattle.rice_bits.specs.Reader.{Takes, is_blank}
-use Rattle.rice_bits.proofs.ReaderLemmas.{takes-append, blank-append, blank-fs, blank-word_positive, and-false}
+use Rattle.rice_bits.proofs.Blank.{blank-append, blank-fs, blank-word_positive, and-false}
+use Rattle.rice_bits.proofs.ReaderLemmas.{takes-append}
 use Rattle.rice_samples.specs.Parameters.{id_len}
 use Rattle.aec_tool.specs.Decoder.{StopsBy}
 use Rattle.aec_tool.specs.declared.plain_decoder.Step.{Step}
