@@ -1,0 +1,507 @@
+-- How decoding ends.
+use Rattle.std.proofs.Common.{◌≡◌, ◌≢◌, ℕ, zero, suc, ◌+◌, ◌-◌, ◌*◌, ◌/◌, ◌%◌, ◌<◌, ◌≤◌, ◌&&◌, not, min, Bool, true, false, List, [], ◌∷◌, ◌++◌, length, take, drop, refl, ap, arith, sym, ◌∙◌, subst, append_assoc, append-nil, length-append, Option, Some, None, ℤ, pos, inl, inr, ◌⊎◌}
+use Rattle.std.specs.Prelude.{Ok, Err, All, Contains, IfSome, IsSome, IsSomeAnd}
+use Rattle.std.specs.Io.KnownBytes.{Appends, Consumes, IsAtEnd}
+use Rattle.std.proofs.KnownBytes.{Appends-nil, Appends-trans, Consumes-nil, Consumes-trans}
+use Rattle.std.proofs.Math.Nat.{mod-eq_of_lt, mul-div_cancel_left, mul-le-mul_left}
+use Rattle.std.proofs.Math.Seq.{take-length, take-append_seam, drop-append_seam}
+use Rattle.std.proofs.lemmas.List.{length-take-le, length-take, take-append-le}
+use Rattle.std.proofs.lemmas.List.Elements.{Contains-append_left}
+use Rattle.aec_tool.proofs.EncoderLemmas.{part_between}
+use Rattle.rice_bits.specs.Bits.{bits_of, word}
+use Rattle.rice_bits.specs.Reader.{Reader, Takes, Stops, is_blank}
+use Rattle.rice_bits.specs.declared.fault.BitFault.{BitFault}
+use Rattle.rice_bits.specs.declared.fault.BitFault.TheVariants as bit_faults
+use Rattle.rice_bits.proofs.Bytes.{bits_of-nil, bits_of-append, length-bits_of}
+use Rattle.rice_samples.specs.Parameters.{Parameters, IsLegal, IsSample, id_len}
+use Rattle.rice_samples.specs.Places.{place}
+use Rattle.rice_samples.specs.Residuals.{last_of}
+use Rattle.rice_samples.specs.Spelling.{spellings}
+use Rattle.rice_code.specs.Decoded.{Decoded, Ending, EndsWith, Reached, Ended, CutOff, GoesOn, cut_to}
+use Rattle.rice_code.proofs.Filling.{last_append}
+use Rattle.rice_code.specs.Blocks.{contents}
+use Rattle.rice_code.specs.DataSets.{DataSet, NoCompression, text}
+use Rattle.rice_code.specs.Forms.{IsForm}
+use Rattle.aec_tool.specs.Calls.{Call, Happens, Fails, Leaves, StopsBetween, PassesLimit}
+use Rattle.aec_tool.specs.Decoder.{Place, Answers, StopsBy, GivesBlock, SetCut, SetEnds, OtherOption, marked, moved}
+use Rattle.aec_tool.specs.Decoding.{Decodings, EndsSo, Decodes, RunsOut, MeetsOther, FailsInBlock, at_most, wanted_of, end_of_lem, fault_of_lem}
+use Rattle.aec_tool.specs.Decodings.{Behind, RunsOn}
+use Rattle.aec_tool.specs.Writes.{TakesPart}
+use Rattle.aec_tool.specs.Plain.{place_behind}
+use Rattle.aec_tool.specs.declared.plain_decoder.Step.{Step}
+use Rattle.aec_tool.specs.declared.plain_decoder.Step.TheVariants.{Done}
+use Rattle.aec_tool.specs.declared.plain_decoder.CodeFault.{CodeFault}
+use Rattle.aec_tool.specs.declared.plain_decoder.CodeFault.TheVariants as faults
+use Rattle.aec_tool.specs.declared.outcome.Report.{Report}
+use Rattle.aec_tool.specs.declared.outcome.Fault.{Fault}
+use Rattle.aec_tool.specs.declared.outcome.Fault.TheVariants.{Read, Write, TooLong, CodeEnds, NotYet}
+use Rattle.aec_tool.proofs.CoderLemmas.{place_is}
+use Rattle.aec_tool.proofs.DecodedLemmas.{behind_nothing, behind_more, ends_here, cut_nothing, cut_more, cut_none}
+use Rattle.aec_tool.proofs.DecodingLemmas.{block_bits, more_bits, still_asked}
+use Rattle.aec_tool.proofs.SpelledLemmas.{spellings-append}
+
+-- more samples are wanted than are written
+pub goes_on : (s : Parameters) (asked : Option ℕ) (blocks written : ℕ) (all : List ℤ) → length all ≡ s.block * blocks → written ≡ length (cut_to s asked 0 all) → wanted_of asked written s.block ≢ 0 → GoesOn s asked blocks
+goes_on s None blocks written all e w some = tt
+goes_on s (Some n) blocks written all e w some = let k = length-take (n - s.block * 0) all in omega arith
+
+-- and then as many are written as there are
+pub all_written : (s : Parameters) (asked : Option ℕ) (blocks written : ℕ) (all : List ℤ) → length all ≡ s.block * blocks → written ≡ length (cut_to s asked 0 all) → GoesOn s asked blocks → (written ≡ s.block * blocks) × (cut_to s asked 0 all ≡ all)
+all_written s asked blocks written all e w goes = let same = cut_none s asked blocks all e goes in (w ∙ ap length same ∙ e, same)
+
+-- the wanted part of the next block
+pub wanted_part : (s : Parameters) (asked : Option ℕ) (blocks written : ℕ) (xs : List ℤ) → written ≡ s.block * blocks → length xs ≡ s.block → take (wanted_of asked written s.block) xs ≡ cut_to s asked blocks xs
+wanted_part s None blocks written xs e n = ap (λ m. take m xs) (sym n) ∙ take-length xs
+wanted_part s (Some m) blocks written xs e n = ap (λ k. take (min (m - k) s.block) xs) e ∙ by_min (m - s.block * blocks) s.block xs n
+  where
+    by_min : (a j : ℕ) (xs : List ℤ) → length xs ≡ j → take (min a j) xs ≡ take a xs
+    by_min a j [] e = nil (min a j) ∙ sym (nil a)
+      where
+        nil : (n : ℕ) → take {A = ℤ} n [] ≡ []
+        nil zero = refl
+        nil (suc n) = refl
+    by_min zero j (x ∷ xs) e = let z : min 0 j ≡ 0 = omega arith in ap (λ m. take m (x ∷ xs)) z
+    by_min (suc a) zero (x ∷ xs) e = absurd (omega arith)
+    by_min (suc a) (suc j) (x ∷ xs) e = let z : min (suc a) (suc j) ≡ suc (min a j) = omega arith in ap (λ m. take m (x ∷ xs)) z ∙ ap (λ l. x ∷ l) (by_min a j xs (omega arith))
+
+-- a block more is written
+pub runs_more : {I : Type 0} (left : I → Option (List ℕ)) (failed : I → ℕ) (s : Parameters) (asked : Option ℕ) (start : I) (out_old out out_new : Option (List ℕ)) (p q : Place) (r new : Reader I) (steps written steps_new : ℕ) (xs : List ℤ) → IsLegal s → s.pad ≡ false →
+    (runs : RunsOn left failed s asked start out_old out p r steps written) → wanted_of asked written s.block ≢ 0 → GivesBlock left failed (marked r) new s runs.blocks p.before xs → q ≡ moved p xs → new.taken ≤ 4503599627370496 →
+    steps_new + r.taken ≡ steps + new.taken + wanted_of asked written s.block → Appends out out_new (spellings s (take (wanted_of asked written s.block) xs)) →
+    RunsOn left failed s asked start out_old out_new q new steps_new (written + wanted_of asked written s.block)
+runs_more left failed s asked start out_old out out_new p q r new steps written steps_new xs legal pad runs some gives moves limit counted put =
+    let b = runs.blocks in
+    let goes = goes_on s asked b written runs.all runs.behind.len runs.count some in
+    let so_far = all_written s asked b written runs.all runs.behind.len runs.count goes in
+    let d = NoCompression (contents s b p.before xs) in
+    let same : text s d ≡ text s (NoCompression (contents s b (last_of (pos 0) runs.all) xs)) = ap (λ z. text s (NoCompression (contents s b z xs))) runs.before in
+    let front = runs.front ++ text s d in
+    let behind = subst (λ (l : List Bool). Behind s l (b + 1) (runs.all ++ xs)) (ap (λ l. runs.front ++ l) (sym same)) (behind_more s runs.front b runs.all xs legal pad runs.behind gives.len gives.legal) in
+    let draws = gives.takes.draws in
+    let part = wanted_part s asked b written xs so_far.0 gives.len in
+    let cut = cut_more s asked b runs.all xs runs.behind.len in
+    let bits = block_bits left failed r new s b p.before xs legal gives in
+    let more = more_bits s legal in
+    let most = most_wanted asked written s.block in
+    record {
+      blocks = b + 1;
+      bytes = runs.bytes ++ draws.given;
+      front = front;
+      all = runs.all ++ xs;
+      setting = ap (λ p. p.setting) moves ∙ runs.setting;
+      here = place_is s b legal ∙ (λ j. place_behind (sym runs.setting j) (runs.here j)) ∙ sym (ap (λ p. p.block) moves);
+      before = ap (λ p. p.before) moves ∙ ap (λ z. last_of z xs) runs.before ∙ sym (last_append (pos 0) runs.all xs);
+      going = ap (λ p. p.stopped) moves ∙ runs.going;
+      reader_going = gives.takes.going;
+      gave = Consumes-trans (left start) (left r.intake) (left new.intake) runs.bytes draws.given runs.gave draws.consumed;
+      bits = bits_of-append runs.bytes draws.given ∙ ap (λ l. l ++ bits_of draws.given) runs.bits ∙ append_assoc runs.front r.waiting (bits_of draws.given) ∙ ap (λ l. runs.front ++ l) draws.split ∙ sym (append_assoc runs.front (text s d) new.waiting);
+      taken = gives.takes.taken ∙ ap (λ n. n + length (text s d)) runs.taken ∙ sym (length-append runs.front (text s d));
+      limit = limit;
+      behind = behind;
+      wanted = λ i lt. one_more_wanted s asked b i runs.wanted goes lt;
+      count = so_many (wanted_of asked written s.block) (omega (arith, most, gives.len)) (ap length (sym part)) cut;
+      few = omega (arith, runs.few, bits, more, most);
+      asked_for = still_asked asked written s.block runs.asked_for;
+      counted = omega (arith, counted, runs.counted);
+      reads = gives.takes.failures ∙ runs.reads;
+      put = subst (λ (l : List ℕ). Appends out_old out_new l) (ap (λ l. spellings s (cut_to s asked 0 runs.all) ++ spellings s l) part ∙ sym (spellings-append s (cut_to s asked 0 runs.all) (cut_to s asked b xs)) ∙ ap (spellings s) (sym cut))
+          (Appends-trans out_old out out_new (spellings s (cut_to s asked 0 runs.all)) (spellings s (take (wanted_of asked written s.block) xs)) runs.put put);
+    }
+  where
+    most_wanted : (asked : Option ℕ) (written block : ℕ) → wanted_of asked written block ≤ block
+    most_wanted None written block = omega arith
+    most_wanted (Some n) written block = omega arith
+
+    one_more_wanted : (s : Parameters) (asked : Option ℕ) (b i : ℕ) → ((i : ℕ) → i < b → GoesOn s asked i) → GoesOn s asked b → i < b + 1 → GoesOn s asked i
+    one_more_wanted s None b i h k lt = tt
+    one_more_wanted s (Some n) b i h k lt = let le : s.block * i ≤ s.block * b = mul-le-mul_left s.block (omega arith) in let k' : s.block * b < n = k in omega arith
+
+    so_many : (w : ℕ) → w ≤ length xs → length (cut_to s asked runs.blocks xs) ≡ length (take w xs) → cut_to s asked 0 (runs.all ++ xs) ≡ cut_to s asked 0 runs.all ++ cut_to s asked runs.blocks xs → written + w ≡ length (cut_to s asked 0 (runs.all ++ xs))
+    so_many w le part cut = omega (arith, runs.count, ap length cut, length-append (cut_to s asked 0 runs.all) (cut_to s asked runs.blocks xs), part, length-take-le w xs le)
+
+-- what a report tells of a decoding
+pub record Tells (r : Report) (samples bits steps : ℕ) : Type 0 where
+  pub samples_are : r.samples ≡ samples
+  pub bits_are : r.bits ≡ bits
+  pub steps_are : r.steps ≡ steps
+
+-- the call and what it says
+abbrev pub Ends : Parameters → Option ℕ → Option (List ℕ) → Option (List ℕ) → Option (List ℕ) → Option (List ℕ) → Report → Option Fault → Type 0
+Ends s asked left_old left_new out_old out r fault = (c : Call) × Happens left_old left_new out_old out c × Decodings s asked c r fault
+
+-- at most 4,096 bytes are given ahead
+ahead : (bytes : List ℕ) (front waiting : List Bool) (bits : ℕ) → bits_of bytes ≡ front ++ waiting → length waiting ≤ 32768 → bits ≡ length front → length bytes ≤ bits / 8 + 4096
+ahead bytes front waiting bits e few n = let a = length-bits_of bytes in let b = ap length e in let c = length-append front waiting in omega arith
+
+-- the samples that were asked for are reached
+pub reached_ends : {I : Type 0} (left : I → Option (List ℕ)) (failed : I → ℕ) (s : Parameters) (asked : Option ℕ) (start : I) (out_old out : Option (List ℕ)) (p : Place) (r : Reader I) (steps written : ℕ) (rep : Report) (f : Option Fault) → IsLegal s →
+    (runs : RunsOn left failed s asked start out_old out p r steps written) → wanted_of asked written s.block ≡ 0 → Tells rep written r.taken steps → length r.waiting ≤ 32768 → f ≡ None → Ends s asked (left start) (left r.intake) out_old out rep f
+reached_ends left failed s asked start out_old out p r steps written rep f legal runs none tells few is =
+    let ys = cut_to s asked 0 runs.all in
+    let c : Call = record { given = runs.bytes; left = left r.intake; written = spellings s ys } in
+    let decoded = ends_here s runs.front r.waiting runs.blocks runs.all asked Reached 0 runs.behind runs.wanted (reached asked none runs.count, refl) in
+    let used : length runs.front + 0 ≡ r.taken = omega (arith, runs.taken) in
+    let all : Decoded s (bits_of runs.bytes) asked ys Reached (length runs.front + 0) = subst (λ (l : List Bool). Decoded s l asked ys Reached (length runs.front + 0)) (sym runs.bits) decoded in
+    let ends : EndsSo s asked None c rep ys Reached = ((length runs.front + 0, all, record { written = refl; samples = tells.samples_are ∙ runs.count; bits = tells.bits_are ∙ sym used }), inl refl) in (
+      c,
+      record { gave = runs.gave; left = refl; took = runs.put },
+      record { samples = ys; ending = Reached; ends = subst (λ (f : Option Fault). EndsSo s asked f c rep ys Reached) (sym is) ends; ahead = ahead runs.bytes runs.front r.waiting rep.bits runs.bits few (tells.bits_are ∙ runs.taken) },
+    )
+  where
+    reached : (asked : Option ℕ) → wanted_of asked written s.block ≡ 0 → written ≡ length (cut_to s asked 0 runs.all) → IsSomeAnd asked (λ n. n ≤ s.block * runs.blocks)
+    reached None none count = absurd (let j : 8 ≤ s.block = grind (arith, legal.block) in omega arith)
+    reached (Some n) none count = let j : 8 ≤ s.block = grind (arith, legal.block) in let k = length-take (n - s.block * 0) runs.all in omega (arith, none, count, k, runs.behind.len)
+
+-- All that the intake gave was taken.
+record Drained {I : Type 0} (left : I → Option (List ℕ)) (start new : I) (middle : Option (List ℕ)) (front bits : List Bool) : Type 0 where
+  pub total : List ℕ
+  pub gave : Consumes (left start) middle total
+  pub bits_are : bits_of total ≡ front ++ bits
+
+drained : {I : Type 0} (left : I → Option (List ℕ)) (failed : I → ℕ) (s : Parameters) (asked : Option ℕ) (start : I) (out_old out : Option (List ℕ)) (p : Place) (r new : Reader I) (steps written : ℕ) (bits : List Bool) (fault : BitFault) →
+    (runs : RunsOn left failed s asked start out_old out p r steps written) → (stops : Stops left failed (marked r) new bits fault) → Drained left start new.intake stops.middle runs.front bits
+drained left failed s asked start out_old out p r new steps written bits fault runs stops =
+    let given = stops.draws.given in
+    record {
+      total = runs.bytes ++ given;
+      gave = Consumes-trans (left start) (left r.intake) stops.middle runs.bytes given runs.gave stops.draws.consumed;
+      bits_are = bits_of-append runs.bytes given ∙ ap (λ l. l ++ bits_of given) runs.bits ∙ append_assoc runs.front r.waiting (bits_of given) ∙ ap (λ l. runs.front ++ l) (stops.draws.split ∙ append-nil bits);
+    }
+
+blank_all : (bits : List Bool) → is_blank bits ≡ true → All (λ bit. bit ≡ false) bits
+blank_all [] e k d lt = absurd (omega arith)
+blank_all (true ∷ bits) e k d lt = absurd (let f : false ≡ true = e in cc)
+blank_all (false ∷ bits) e zero d lt = refl
+blank_all (false ∷ bits) e (suc k) d lt = blank_all bits e k d (omega arith)
+
+some_one : (bits : List Bool) → is_blank bits ≡ false → Contains bits true
+some_one [] e = absurd (let f : true ≡ false = e in cc)
+some_one (true ∷ bits) e = (0, omega arith, refl)
+some_one (false ∷ bits) e = let r = some_one bits e in (suc r.0, omega (arith, r.1), r.2)
+
+-- how decoding ends where all bits are taken and no data set begins with them
+ending_of : Bool → Ending
+ending_of true = Ended
+ending_of false = CutOff
+
+run_out : (b : Bool) → RunsOut (ending_of b)
+unfolding ending_of
+run_out true = inl refl
+run_out false = inr refl
+
+ends_out : (s : Parameters) (asked : Option ℕ) (b : ℕ) (bits : List Bool) (blank : Bool) → GoesOn s asked b → is_blank bits ≡ blank → ((d : DataSet) (more : List Bool) → IsForm s b d → bits ≡ text s d ++ more → ⊥) → EndsWith s asked b bits (ending_of blank) (length bits)
+unfolding ending_of
+ends_out s asked b bits true goes e none = (goes, blank_all bits e, refl)
+ends_out s asked b bits false goes e none = (goes, some_one bits e, none, refl)
+
+-- the fault where all bits are taken and the intake has ended
+abbrev pub fault_at_end : Option ℕ → Bool → ℕ → Option Fault
+fault_at_end asked true written = end_of_lem asked written
+fault_at_end asked false written = Some (CodeEnds written)
+
+-- no 1 is left, or no data set begins with what is left, where the intake has ended
+pub ended_ends : {I : Type 0} (left : I → Option (List ℕ)) (failed : I → ℕ) (s : Parameters) (asked : Option ℕ) (start : I) (out_old out : Option (List ℕ)) (p : Place) (r new : Reader I) (steps written steps_new : ℕ) (blank : Bool) (rep : Report) (f : Option Fault) →
+    (runs : RunsOn left failed s asked start out_old out p r steps written) → wanted_of asked written s.block ≢ 0 → SetEnds left failed (marked r) new s runs.blocks blank → Tells rep written new.taken steps_new → f ≡ fault_at_end asked blank written →
+    Ends s asked (left start) (left new.intake) out_old out rep f
+unfolding ending_of
+ended_ends left failed s asked start out_old out p r new steps written steps_new blank rep f runs some ends tells is =
+    let bits = ends.cut.bits in
+    let stops = ends.cut.stops in
+    let all = drained left failed s asked start out_old out p r new steps written bits (bit_faults.End blank) runs stops in
+    let ys = cut_to s asked 0 runs.all in
+    let c : Call = record { given = all.total; left = left new.intake; written = spellings s ys } in
+    let goes = goes_on s asked runs.blocks written runs.all runs.behind.len runs.count some in
+    let out_of = ends_here s runs.front bits runs.blocks runs.all asked (ending_of blank) (length bits) runs.behind runs.wanted (ends_out s asked runs.blocks bits blank goes ends.told ends.cut.none) in
+    let used : length runs.front + length bits ≡ new.taken = omega (arith, runs.taken, stops.taken) in
+    let decodes : Decodes s asked c rep all.total ys (ending_of blank) = (
+      length runs.front + length bits,
+      subst (λ (l : List Bool). Decoded s l asked ys (ending_of blank) (length runs.front + length bits)) (sym all.bits_are) out_of,
+      record { written = refl; samples = tells.samples_are ∙ runs.count; bits = tells.bits_are ∙ sym used },
+    ) in
+    let gave = subst (λ (l : List ℕ). Consumes (left start) (left new.intake) l) (append-nil all.total) (Consumes-trans (left start) stops.middle (left new.intake) all.total [] all.gave stops.refuses.0) in
+    let front = runs.front ++ bits in
+    let few : length {A = Bool} [] ≤ 32768 = omega arith in
+    let whole : bits_of all.total ≡ front ++ [] = all.bits_are ∙ sym (append-nil front) in
+    let bits_count : rep.bits ≡ length front = tells.bits_are ∙ sym used ∙ sym (length-append runs.front bits) in (
+      c,
+      record { gave = gave; left = refl; took = runs.put },
+      record { samples = ys; ending = ending_of blank; ends = subst (λ (f : Option Fault). EndsSo s asked f c rep ys (ending_of blank)) (sym is) (by_fault blank asked decodes stops.refuses.1 runs.count); ahead = ahead all.total front [] rep.bits whole few bits_count },
+    )
+  where
+    by_fault : {c : Call} {ys : List ℤ} (blank : Bool) (asked : Option ℕ) → Decodes s asked c rep c.given ys (ending_of blank) → IsAtEnd c.left → written ≡ length ys → EndsSo s asked (fault_at_end asked blank written) c rep ys (ending_of blank)
+    by_fault true None d end n = (d, inr (refl, refl, end))
+    by_fault true (Some m) d end n = (d, inr (refl, refl), end, n)
+    by_fault false asked d end n = (d, inl refl, end, n)
+
+-- the intake failed
+pub read_ends : {I : Type 0} (left : I → Option (List ℕ)) (failed : I → ℕ) (s : Parameters) (asked : Option ℕ) (start : I) (out_old out : Option (List ℕ)) (p : Place) (r new : Reader I) (steps written steps_new : ℕ) (rep : Report) (f : Option Fault) →
+    (runs : RunsOn left failed s asked start out_old out p r steps written) → wanted_of asked written s.block ≢ 0 → SetCut left failed (marked r) new s runs.blocks bit_faults.Read → Tells rep written new.taken steps_new → f ≡ Some Read →
+    Ends s asked (left start) (left new.intake) out_old out rep f
+read_ends left failed s asked start out_old out p r new steps written steps_new rep f runs some cut tells is =
+    let bits = cut.bits in
+    let stops = cut.stops in
+    let ending = ending_of (is_blank bits) in
+    let all = drained left failed s asked start out_old out p r new steps written bits bit_faults.Read runs stops in
+    let ys = cut_to s asked 0 runs.all in
+    let c : Call = record { given = all.total; left = left new.intake; written = spellings s ys } in
+    let goes = goes_on s asked runs.blocks written runs.all runs.behind.len runs.count some in
+    let out_of = ends_here s runs.front bits runs.blocks runs.all asked ending (length bits) runs.behind runs.wanted (ends_out s asked runs.blocks bits (is_blank bits) goes refl cut.none) in
+    let used : length runs.front + length bits ≡ new.taken = omega (arith, runs.taken, stops.taken) in
+    let decodes : Decodes s asked c rep all.total ys ending = (
+      length runs.front + length bits,
+      subst (λ (l : List Bool). Decoded s l asked ys ending (length runs.front + length bits)) (sym all.bits_are) out_of,
+      record { written = refl; samples = tells.samples_are ∙ runs.count; bits = tells.bits_are ∙ sym used },
+    ) in
+    let gave = subst (λ (l : List ℕ). Consumes (left start) (left new.intake) l) (append-nil all.total) (Consumes-trans (left start) stops.middle (left new.intake) all.total [] all.gave stops.refuses.0) in
+    let front = runs.front ++ bits in
+    let few : length {A = Bool} [] ≤ 32768 = omega arith in
+    let whole : bits_of all.total ≡ front ++ [] = all.bits_are ∙ sym (append-nil front) in
+    let bits_count : rep.bits ≡ length front = tells.bits_are ∙ sym used ∙ sym (length-append runs.front bits) in
+    let ends : EndsSo s asked (Some Read) c rep ys ending = (decodes, run_out (is_blank bits)) in (
+      c,
+      record { gave = gave; left = refl; took = runs.put },
+      record { samples = ys; ending = ending; ends = subst (λ (f : Option Fault). EndsSo s asked f c rep ys ending) (sym is) ends; ahead = ahead all.total front [] rep.bits whole few bits_count },
+    )
+
+-- the byte past the limit was given
+pub long_ends : {I : Type 0} (left : I → Option (List ℕ)) (failed : I → ℕ) (s : Parameters) (asked : Option ℕ) (start : I) (out_old out : Option (List ℕ)) (p : Place) (r new : Reader I) (steps written steps_new : ℕ) (rep : Report) (f : Option Fault) →
+    (runs : RunsOn left failed s asked start out_old out p r steps written) → wanted_of asked written s.block ≢ 0 → SetCut left failed (marked r) new s runs.blocks bit_faults.TooLong → Tells rep written new.taken steps_new → f ≡ Some TooLong →
+    Ends s asked (left start) (left new.intake) out_old out rep f
+long_ends left failed s asked start out_old out p r new steps written steps_new rep f runs some cut tells is =
+    let bits = cut.bits in
+    let stops = cut.stops in
+    let ending = ending_of (is_blank bits) in
+    let all = drained left failed s asked start out_old out p r new steps written bits bit_faults.TooLong runs stops in
+    let last = stops.refuses.0.0 in
+    let ys = cut_to s asked 0 runs.all in
+    let c : Call = record { given = all.total ++ last ∷ []; left = left new.intake; written = spellings s ys } in
+    let goes = goes_on s asked runs.blocks written runs.all runs.behind.len runs.count some in
+    let out_of = ends_here s runs.front bits runs.blocks runs.all asked ending (length bits) runs.behind runs.wanted (ends_out s asked runs.blocks bits (is_blank bits) goes refl cut.none) in
+    let used : length runs.front + length bits ≡ new.taken = omega (arith, runs.taken, stops.taken) in
+    let decodes : Decodes s asked c rep all.total ys ending = (
+      length runs.front + length bits,
+      subst (λ (l : List Bool). Decoded s l asked ys ending (length runs.front + length bits)) (sym all.bits_are) out_of,
+      record { written = refl; samples = tells.samples_are ∙ runs.count; bits = tells.bits_are ∙ sym used },
+    ) in
+    let gave = Consumes-trans (left start) stops.middle (left new.intake) all.total (last ∷ []) all.gave stops.refuses.0.1 in
+    let full : length all.total ≡ 562949953421312 = full_is all.total runs.front bits new.taken all.bits_are used stops.refuses.2 in
+    let passes : PassesLimit 562949953421312 (all.total ++ last ∷ []) all.total = record { last = last; split = refl; full = full } in
+    let ends : EndsSo s asked (Some TooLong) c rep ys ending = ((all.total, passes, decodes), run_out (is_blank bits)) in (
+      c,
+      record { gave = gave; left = refl; took = runs.put },
+      record { samples = ys; ending = ending; ends = subst (λ (f : Option Fault). EndsSo s asked f c rep ys ending) (sym is) ends; ahead = past (length-append all.total (last ∷ [])) full (tells.bits_are ∙ stops.refuses.2) },
+    )
+  where
+    full_is : (total : List ℕ) (front bits : List Bool) (n : ℕ) → bits_of total ≡ front ++ bits → length front + length bits ≡ n → n ≡ 4503599627370496 → length total ≡ 562949953421312
+    full_is total front bits n e h k = let a = length-bits_of total in let b = ap length e in let c = length-append front bits in omega arith
+
+    past : {n m b : ℕ} → n ≡ m + 1 → m ≡ 562949953421312 → b ≡ 4503599627370496 → n ≤ b / 8 + 4096
+    past e h k = omega arith
+
+-- another option comes
+pub other_ends : {I : Type 0} (left : I → Option (List ℕ)) (failed : I → ℕ) (s : Parameters) (asked : Option ℕ) (start : I) (out_old out : Option (List ℕ)) (p : Place) (r new : Reader I) (steps written steps_new : ℕ) (rep : Report) (f : Option Fault) → IsLegal s →
+    (runs : RunsOn left failed s asked start out_old out p r steps written) → wanted_of asked written s.block ≢ 0 → OtherOption left failed (marked r) new s → Tells rep written new.taken steps_new → length new.waiting ≤ 32768 → f ≡ Some (NotYet (written / s.block)) →
+    Ends s asked (left start) (left new.intake) out_old out rep f
+other_ends left failed s asked start out_old out p r new steps written steps_new rep f legal runs some other tells few is =
+    let b = runs.blocks in
+    let j : 1 ≤ s.block = let k : 8 ≤ s.block = grind (arith, legal.block) in omega arith in
+    let draws = other.takes.draws in
+    let total = runs.bytes ++ draws.given in
+    let rest = other.bits ++ new.waiting in
+    let bits_are : bits_of total ≡ runs.front ++ rest = bits_of-append runs.bytes draws.given ∙ ap (λ l. l ++ bits_of draws.given) runs.bits ∙ append_assoc runs.front r.waiting (bits_of draws.given) ∙ ap (λ l. runs.front ++ l) draws.split in
+    let goes = goes_on s asked b written runs.all runs.behind.len runs.count some in
+    let so_far = all_written s asked b written runs.all runs.behind.len runs.count goes in
+    let c : Call = record { given = total; left = left new.intake; written = spellings s (cut_to s asked 0 runs.all) } in
+    let count = s.block * b in
+    let exact : cut_to s (Some count) 0 runs.all ≡ runs.all = (let n : count - s.block * 0 ≡ length runs.all = omega (arith, runs.behind.len) in ap (λ n. take n runs.all) n ∙ take-length runs.all) in
+    let at_block : EndsWith s (Some count) b rest Reached 0 = (omega arith, refl) in
+    let here = ends_here s runs.front rest b runs.all (Some count) Reached 0 runs.behind (λ i lt. below s.block i b j lt) at_block in
+    let decoded : Decoded s (bits_of total) (Some count) runs.all Reached (length runs.front + 0) = subst (λ (l : List ℤ). Decoded s (bits_of total) (Some count) l Reached (length runs.front + 0)) exact
+    (subst (λ (l : List Bool). Decoded s l (Some count) (cut_to s (Some count) 0 runs.all) Reached (length runs.front + 0)) (sym bits_are) here) in
+    let used : length runs.front + 0 ≡ length runs.front = omega arith in
+    let behind : drop (length runs.front + 0) (bits_of total) ≡ rest = (λ i. drop (used i) (bits_are i)) ∙ drop-append_seam runs.front rest in
+    let meets : MeetsOther s asked c rep b runs.all = record {
+      wanted = goes;
+      used = length runs.front + 0;
+      decoded = decoded;
+      written = ap (spellings s) so_far.1;
+      samples = tells.samples_are ∙ so_far.0 ∙ sym runs.behind.len;
+      one = subst (λ (l : List Bool). Contains l true) (sym behind) (Contains-append_left other.bits new.waiting true (some_one other.bits other.one));
+      enough = subst (λ (l : List Bool). id_len s ≤ length l) (sym behind) (omega (arith, other.enough, length-append other.bits new.waiting));
+      other = λ e. other.other (sym (ap (λ l. take (id_len s) l) behind ∙ take-append-le (id_len s) other.bits new.waiting other.enough) ∙ e);
+    } in
+    let number : written / s.block ≡ b = ap (λ n. n / s.block) so_far.0 ∙ mul-div_cancel_left b j in
+    let ends : EndsSo s asked (Some (NotYet b)) c rep runs.all Reached = (meets, refl) in
+    let bits_split : bits_of total ≡ (runs.front ++ other.bits) ++ new.waiting = bits_are ∙ sym (append_assoc runs.front other.bits new.waiting) in
+    let taken : rep.bits ≡ length (runs.front ++ other.bits) = tells.bits_are ∙ other.takes.taken ∙ ap (λ n. n + length other.bits) runs.taken ∙ sym (length-append runs.front other.bits) in (
+      c,
+      record { gave = Consumes-trans (left start) (left r.intake) (left new.intake) runs.bytes draws.given runs.gave draws.consumed; left = refl; took = runs.put },
+      record { samples = runs.all; ending = Reached; ends = subst (λ (f : Option Fault). EndsSo s asked f c rep runs.all Reached) (sym (is ∙ ap (λ n. Some (NotYet n)) number)) ends; ahead = ahead total (runs.front ++ other.bits) new.waiting rep.bits bits_split few taken },
+    )
+  where
+    below : (m i b : ℕ) → 1 ≤ m → i < b → m * i < m * b
+    below m i b h lt = let p = mul-le-mul_left m lt in omega arith
+
+-- the first of some elements, as many as the first of them are
+take_same : (n : ℕ) (xs : List ℤ) → take (length (take n xs)) xs ≡ take n xs
+take_same zero xs = refl
+take_same (suc n) [] = refl
+take_same (suc n) (x ∷ xs) = ap (λ l. x ∷ l) (take_same n xs)
+
+-- the outlet failed in a block
+pub write_ends : {I : Type 0} (left : I → Option (List ℕ)) (failed : I → ℕ) (s : Parameters) (asked : Option ℕ) (start : I) (out_old out out_new : Option (List ℕ)) (p : Place) (r new : Reader I) (steps written steps_new : ℕ) (xs : List ℤ) (rep : Report) (f : Option Fault) → IsLegal s → s.pad ≡ false →
+    (runs : RunsOn left failed s asked start out_old out p r steps written) → wanted_of asked written s.block ≢ 0 → GivesBlock left failed (marked r) new s runs.blocks p.before xs → TakesPart out out_new (spellings s (take (wanted_of asked written s.block) xs)) →
+    Tells rep written new.taken steps_new → length new.waiting ≤ 32768 → f ≡ Some Write → Ends s asked (left start) (left new.intake) out_old out_new rep f
+write_ends left failed s asked start out_old out out_new p r new steps written steps_new xs rep f legal pad runs some gives part tells few is =
+    let b = runs.blocks in
+    let j : 1 ≤ s.block = let k : 8 ≤ s.block = grind (arith, legal.block) in omega arith in
+    let goes = goes_on s asked b written runs.all runs.behind.len runs.count some in
+    let so_far = all_written s asked b written runs.all runs.behind.len runs.count goes in
+    let d = NoCompression (contents s b p.before xs) in
+    let same : text s d ≡ text s (NoCompression (contents s b (last_of (pos 0) runs.all) xs)) = ap (λ z. text s (NoCompression (contents s b z xs))) runs.before in
+    let front = runs.front ++ text s d in
+    let behind = subst (λ (l : List Bool). Behind s l (b + 1) (runs.all ++ xs)) (ap (λ l. runs.front ++ l) (sym same)) (behind_more s runs.front b runs.all xs legal pad runs.behind gives.len gives.legal) in
+    let draws = gives.takes.draws in
+    let total = runs.bytes ++ draws.given in
+    let bits_are : bits_of total ≡ front ++ new.waiting = bits_of-append runs.bytes draws.given ∙ ap (λ l. l ++ bits_of draws.given) runs.bits ∙ append_assoc runs.front r.waiting (bits_of draws.given) ∙ ap (λ l. runs.front ++ l) draws.split ∙ sym (append_assoc runs.front (text s d) new.waiting) in
+    let taken : rep.bits ≡ length front = tells.bits_are ∙ gives.takes.taken ∙ ap (λ n. n + length (text s d)) runs.taken ∙ sym (length-append runs.front (text s d)) in
+    let w = wanted_of asked written s.block in
+    let most = most_wanted asked written s.block in
+    let piece = wanted_part s asked b written xs so_far.0 gives.len in
+    let ys = cut_to s asked 0 (runs.all ++ xs) in
+    let cut : ys ≡ cut_to s asked 0 runs.all ++ cut_to s asked b xs = cut_more s asked b runs.all xs runs.behind.len in
+    let size : length ys ≡ written + w = counted w (omega (arith, most, gives.len)) (ap length (sym piece)) cut in
+    let wanted : (i : ℕ) → i < b + 1 → GoesOn s (Some (length ys)) i = λ i lt. below s.block i b (length ys) written w size so_far.0 some lt in
+    let bound : length ys ≤ s.block * (b + 1) = up_to s.block b (length ys) written w size so_far.0 most in
+    let here = ends_here s front new.waiting (b + 1) (runs.all ++ xs) (Some (length ys)) Reached 0 behind wanted (bound, refl) in
+    let exact : cut_to s (Some (length ys)) 0 (runs.all ++ xs) ≡ ys = exactly asked in
+    let used : length front + 0 ≡ rep.bits = omega (arith, taken) in
+    let decoded : Decoded s (bits_of total) (Some (length ys)) ys Reached rep.bits = subst (λ (n : ℕ). Decoded s (bits_of total) (Some (length ys)) ys Reached n) used (subst (λ (l : List ℤ). Decoded s (bits_of total) (Some (length ys)) l Reached (length front + 0)) exact
+    (subst (λ (l : List Bool). Decoded s l (Some (length ys)) (cut_to s (Some (length ys)) 0 (runs.all ++ xs)) Reached (length front + 0)) (sym bits_are) here)) in
+    let all_of : spellings s ys ≡ spellings s (cut_to s asked 0 runs.all) ++ spellings s (take w xs) = ap (spellings s) cut ∙ spellings-append s (cut_to s asked 0 runs.all) (cut_to s asked b xs) ∙ ap (λ l. spellings s (cut_to s asked 0 runs.all) ++ spellings s l) (sym piece) in
+    let between = part_between out_old out out_new (spellings s (cut_to s asked 0 runs.all)) (spellings s (take w xs)) (spellings s ys) runs.put part all_of in
+    let n : rep.samples ≡ length (cut_to s asked 0 runs.all) = tells.samples_are ∙ runs.count in
+    let before : take rep.samples ys ≡ cut_to s asked 0 runs.all = (λ i. take (n i) (cut i)) ∙ take-append_seam (cut_to s asked 0 runs.all) (cut_to s asked b xs) in
+    let c : Call = record { given = total; left = left new.intake; written = between.written } in
+    let fails : FailsInBlock s asked c rep ys = record {
+      block = b;
+      samples = tells.samples_are ∙ so_far.0;
+      count = size ∙ as_many asked written s.block some ∙ ap (λ m. at_most asked (m + s.block)) (sym tells.samples_are);
+      decoded = decoded;
+      stops = subst (λ (l : List ℤ). StopsBetween (spellings s l) (spellings s ys) between.written) (sym before) between.stops;
+    } in
+    let ends : EndsSo s asked (Some Write) c rep ys Reached = (fails, refl) in (
+      c,
+      record { gave = Consumes-trans (left start) (left r.intake) (left new.intake) runs.bytes draws.given runs.gave draws.consumed; left = refl; took = between.took },
+      record { samples = ys; ending = Reached; ends = subst (λ (f : Option Fault). EndsSo s asked f c rep ys Reached) (sym is) ends; ahead = ahead total front new.waiting rep.bits bits_are few taken },
+    )
+  where
+    most_wanted : (asked : Option ℕ) (written block : ℕ) → wanted_of asked written block ≤ block
+    most_wanted None written block = omega arith
+    most_wanted (Some n) written block = omega arith
+
+    counted : (w : ℕ) → w ≤ length xs → length (cut_to s asked runs.blocks xs) ≡ length (take w xs) → cut_to s asked 0 (runs.all ++ xs) ≡ cut_to s asked 0 runs.all ++ cut_to s asked runs.blocks xs → length (cut_to s asked 0 (runs.all ++ xs)) ≡ written + w
+    counted w le part cut = omega (arith, runs.count, ap length cut, length-append (cut_to s asked 0 runs.all) (cut_to s asked runs.blocks xs), part, length-take-le w xs le)
+
+    below : (m i b n k w : ℕ) → n ≡ k + w → k ≡ m * b → w ≢ 0 → i < b + 1 → m * i < n
+    below m i b n k w e h some lt = let le : m * i ≤ m * b = mul-le-mul_left m (omega arith) in omega arith
+
+    up_to : (m b n k w : ℕ) → n ≡ k + w → k ≡ m * b → w ≤ m → n ≤ m * (b + 1)
+    up_to m b n k w e h le = omega arith
+
+    as_many : (asked : Option ℕ) (written block : ℕ) → wanted_of asked written block ≢ 0 → written + wanted_of asked written block ≡ at_most asked (written + block)
+    as_many None written block some = refl
+    as_many (Some n) written block some = omega arith
+
+    exactly : (asked : Option ℕ) → cut_to s (Some (length (cut_to s asked 0 (runs.all ++ xs)))) 0 (runs.all ++ xs) ≡ cut_to s asked 0 (runs.all ++ xs)
+    exactly None = let n : length (runs.all ++ xs) - s.block * 0 ≡ length (runs.all ++ xs) = omega arith in ap (λ m. take m (runs.all ++ xs)) n ∙ take-length (runs.all ++ xs)
+    exactly (Some m) = let zs = runs.all ++ xs in let n : length (take (m - s.block * 0) zs) - s.block * 0 ≡ length (take (m - s.block * 0) zs) = omega arith in ap (λ m. take m zs) n ∙ take_same (m - s.block * 0) zs
+
+-- what a decoder says where it refuses
+refused : {I : Type 0} (left : I → Option (List ℕ)) (failed : I → ℕ) (old new : Reader I) (p q : Place) (s : Parameters) (b : ℕ) (xs : List ℤ) (fault : CodeFault) → (p.stopped ≡ None → (b : ℕ) → place p.setting b ≡ p.block → Answers left failed (marked old) new p q b xs (Err fault)) →
+    p.setting ≡ s → p.stopped ≡ None → place s b ≡ p.block → StopsBy left failed (marked old) new s b (Err fault)
+refused left failed old new p q s b xs fault reads setting going here =
+    subst (λ (t : Parameters). StopsBy left failed (marked old) new t b (Err fault)) setting (reads going b (ap (λ t. place t b) setting ∙ here)).0
+
+-- and where it is done
+done : {I : Type 0} (left : I → Option (List ℕ)) (failed : I → ℕ) (old new : Reader I) (p q : Place) (s : Parameters) (b : ℕ) (xs : List ℤ) (step : Step) → (p.stopped ≡ None → (b : ℕ) → place p.setting b ≡ p.block → Answers left failed (marked old) new p q b xs (Ok step)) →
+    step ≡ Done → p.setting ≡ s → p.stopped ≡ None → place s b ≡ p.block → SetEnds left failed (marked old) new s b true
+done left failed old new p q s b xs step reads is setting going here =
+    let a = subst (λ (st : Step). Answers left failed (marked old) new p q b xs (Ok st)) is (reads going b (ap (λ t. place t b) setting ∙ here)) in
+    subst (λ (t : Parameters). SetEnds left failed (marked old) new t b true) setting a.0
+
+stops_ends : {I : Type 0} (left : I → Option (List ℕ)) (failed : I → ℕ) (s : Parameters) (asked : Option ℕ) (start : I) (out_old out : Option (List ℕ)) (p : Place) (r new : Reader I) (steps written steps_new : ℕ) (rep : Report) (f : Option Fault) (fault : CodeFault) → IsLegal s →
+    (runs : RunsOn left failed s asked start out_old out p r steps written) → wanted_of asked written s.block ≢ 0 → StopsBy left failed (marked r) new s runs.blocks (Err fault) → Tells rep written new.taken steps_new → length new.waiting ≤ 32768 → f ≡ Some (fault_of_lem fault written s.block) →
+    Ends s asked (left start) (left new.intake) out_old out rep f
+stops_ends left failed s asked start out_old out p r new steps written steps_new rep f faults.CodeEnds legal runs some stops tells few is = ended_ends left failed s asked start out_old out p r new steps written steps_new false rep f runs some stops tells is
+stops_ends left failed s asked start out_old out p r new steps written steps_new rep f faults.NotYet legal runs some stops tells few is = other_ends left failed s asked start out_old out p r new steps written steps_new rep f legal runs some stops tells few is
+stops_ends left failed s asked start out_old out p r new steps written steps_new rep f faults.Read legal runs some stops tells few is = read_ends left failed s asked start out_old out p r new steps written steps_new rep f runs some stops tells is
+stops_ends left failed s asked start out_old out p r new steps written steps_new rep f faults.TooLong legal runs some stops tells few is = long_ends left failed s asked start out_old out p r new steps written steps_new rep f runs some stops tells is
+
+pub refusal_ends : {I : Type 0} (left : I → Option (List ℕ)) (failed : I → ℕ) (s : Parameters) (asked : Option ℕ) (start : I) (out_old out : Option (List ℕ)) (p q : Place) (r new : Reader I) (steps written steps_new : ℕ) (xs : List ℤ) (rep : Report) (f : Option Fault) (fault : CodeFault) → IsLegal s →
+    (runs : RunsOn left failed s asked start out_old out p r steps written) → wanted_of asked written s.block ≢ 0 → (p.stopped ≡ None → (b : ℕ) → place p.setting b ≡ p.block → Answers left failed (marked r) new p q b xs (Err fault)) →
+    Tells rep written new.taken steps_new → length new.waiting ≤ 32768 → f ≡ Some (fault_of_lem fault written s.block) → Ends s asked (left start) (left new.intake) out_old out rep f
+refusal_ends left failed s asked start out_old out p q r new steps written steps_new xs rep f fault legal runs some reads tells few is =
+    stops_ends left failed s asked start out_old out p r new steps written steps_new rep f fault legal runs some (refused left failed r new p q s runs.blocks xs fault reads runs.setting runs.going runs.here) tells few is
+
+pub done_ends : {I : Type 0} (left : I → Option (List ℕ)) (failed : I → ℕ) (s : Parameters) (asked : Option ℕ) (start : I) (out_old out : Option (List ℕ)) (p q : Place) (r new : Reader I) (steps written steps_new : ℕ) (xs : List ℤ) (rep : Report) (f : Option Fault) (step : Step) →
+    (runs : RunsOn left failed s asked start out_old out p r steps written) → wanted_of asked written s.block ≢ 0 → (p.stopped ≡ None → (b : ℕ) → place p.setting b ≡ p.block → Answers left failed (marked r) new p q b xs (Ok step)) → step ≡ Done →
+    Tells rep written new.taken steps_new → f ≡ end_of_lem asked written → Ends s asked (left start) (left new.intake) out_old out rep f
+done_ends left failed s asked start out_old out p q r new steps written steps_new xs rep f step runs some reads is_done tells is =
+    ended_ends left failed s asked start out_old out p r new steps written steps_new true rep f runs some (done left failed r new p q s runs.blocks xs step reads is_done runs.setting runs.going runs.here) tells is
+
+stops_fail : {I : Type 0} (left : I → Option (List ℕ)) (failed : I → ℕ) (s : Parameters) (b : ℕ) (r new : Reader I) (n written block writes : ℕ) (fault : CodeFault) → StopsBy left failed (marked r) new s b (Err fault) → failed r.intake ≡ n → Fails (Some (fault_of_lem fault written block)) n (failed new.intake) writes writes
+stops_fail left failed s b r new n written block writes faults.CodeEnds stops e = (stops.cut.stops.refuses.2 ∙ e, refl)
+stops_fail left failed s b r new n written block writes faults.NotYet stops e = (stops.takes.failures ∙ e, refl)
+stops_fail left failed s b r new n written block writes faults.Read stops e = (stops.stops.refuses.1 ∙ ap (λ m. m + 1) e, refl)
+stops_fail left failed s b r new n written block writes faults.TooLong stops e = (stops.stops.refuses.1 ∙ e, refl)
+
+pub refusal_fails : {I : Type 0} (left : I → Option (List ℕ)) (failed : I → ℕ) (s : Parameters) (asked : Option ℕ) (start : I) (out_old out : Option (List ℕ)) (p q : Place) (r new : Reader I) (steps written writes writes_new : ℕ) (xs : List ℤ) (f : Option Fault) (fault : CodeFault) →
+    (runs : RunsOn left failed s asked start out_old out p r steps written) → (p.stopped ≡ None → (b : ℕ) → place p.setting b ≡ p.block → Answers left failed (marked r) new p q b xs (Err fault)) →
+    writes_new ≡ writes → f ≡ Some (fault_of_lem fault written s.block) → Fails f (failed start) (failed new.intake) writes writes_new
+refusal_fails left failed s asked start out_old out p q r new steps written writes writes_new xs f fault runs reads same is =
+    subst (λ (f : Option Fault). Fails f (failed start) (failed new.intake) writes writes_new) (sym is)
+    (subst (λ (w : ℕ). Fails (Some (fault_of_lem fault written s.block)) (failed start) (failed new.intake) writes w) (sym same)
+    (stops_fail left failed s runs.blocks r new (failed start) written s.block writes fault (refused left failed r new p q s runs.blocks xs fault reads runs.setting runs.going runs.here) runs.reads))
+
+pub done_fails : {I : Type 0} (left : I → Option (List ℕ)) (failed : I → ℕ) (s : Parameters) (asked : Option ℕ) (start : I) (out_old out : Option (List ℕ)) (p q : Place) (r new : Reader I) (steps written writes writes_new : ℕ) (xs : List ℤ) (f : Option Fault) (step : Step) →
+    (runs : RunsOn left failed s asked start out_old out p r steps written) → (p.stopped ≡ None → (b : ℕ) → place p.setting b ≡ p.block → Answers left failed (marked r) new p q b xs (Ok step)) → step ≡ Done →
+    writes_new ≡ writes → f ≡ end_of_lem asked written → Fails f (failed start) (failed new.intake) writes writes_new
+done_fails left failed s asked start out_old out p q r new steps written writes writes_new xs f step runs reads is_done same is =
+    subst (λ (f : Option Fault). Fails f (failed start) (failed new.intake) writes writes_new) (sym is)
+    (by_count asked ((done left failed r new p q s runs.blocks xs step reads is_done runs.setting runs.going runs.here).cut.stops.refuses.2 ∙ runs.reads) same)
+  where
+    by_count : (asked : Option ℕ) → failed new.intake ≡ failed start → writes_new ≡ writes → Fails (end_of_lem asked written) (failed start) (failed new.intake) writes writes_new
+    by_count None e h = (e, h)
+    by_count (Some n) e h = (e, h)
+
+-- nothing is decoded yet
+pub runs_first : {I : Type 0} (left : I → Option (List ℕ)) (failed : I → ℕ) (s : Parameters) (asked : Option ℕ) (start : I) (out : Option (List ℕ)) (p : Place) (r : Reader I) (steps : ℕ) → IsLegal s →
+    p ≡ record { setting = s; block = 0; before = pos 0; stopped = None } → r ≡ record { waiting = []; taken = 0; blank = true; refusal = None; intake = start } → steps ≡ 0 → RunsOn left failed s asked start out out p r steps 0
+runs_first {I = I} left failed s asked start out p r steps legal ep er es = record {
+  blocks = 0;
+  bytes = [];
+  front = [];
+  all = [];
+  setting = ap (λ p. p.setting) ep;
+  here = mod-eq_of_lt legal.interval_from ∙ sym (ap (λ p. p.block) ep);
+  before = ap (λ p. p.before) ep;
+  going = ap (λ p. p.stopped) ep;
+  reader_going = ap (λ r. r.refusal) er;
+  gave = subst (λ (i : I). Consumes (left start) (left i) []) (sym (ap (λ r. r.intake) er)) (Consumes-nil (left start));
+  bits = bits_of-nil ∙ sym (ap (λ r. r.waiting) er);
+  taken = ap (λ r. r.taken) er;
+  limit = let n = ap (λ r. r.taken) er in omega (arith, n);
+  behind = behind_nothing s;
+  wanted = λ i lt. absurd (omega arith);
+  count = sym (ap length (cut_nothing s asked 0));
+  few = omega arith;
+  asked_for = from_none asked;
+  counted = let n = ap (λ r. r.taken) er in omega (arith, n, es);
+  reads = ap failed (ap (λ r. r.intake) er);
+  put = subst (λ (l : List ℤ). Appends out out (spellings s l)) (sym (cut_nothing s asked 0)) (Appends-nil out);
+}
+  where
+    from_none : (asked : Option ℕ) → IfSome asked (λ n. 0 ≤ n)
+    from_none None = tt
+    from_none (Some n) = omega arith

@@ -1,0 +1,11 @@
+pub mod Writes
+pub mod Plain
+pub mod Coder
+pub mod Calls
+pub mod Encoding
+pub mod Encoder
+pub mod Decoder
+pub mod Decoding
+pub mod Decodings
+pub mod Plan
+pub mod Laws

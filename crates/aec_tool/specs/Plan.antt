@@ -1,0 +1,98 @@
+-- What a parsed command line asks for.
+use Rattle.std.specs.Prelude.{ℕ, ◌^◌, Bool, true, false, not, ◌&&◌, nat_lt, List, length, codes, Option, Some, None, is_some, Result, Ok, Err, if◌then◌else◌}
+use Rattle.std.specs.List.{list_all}
+use Rattle.std.specs.Option.{option_and_then, option_map_or}
+use Rattle.std.specs.Char.{digit_value}
+use Rattle.std.specs.Str.{bytes_eq}
+use Rattle.std.specs.Str.Parse.{digits_value, without_leading_plus}
+use Rattle.clap.specs.Words.{first_value, one_text}
+use Rattle.clap.specs.declared.parser.matches.Found.{Found}
+use Rattle.rice_samples.specs.Parameters.{Parameters}
+use Rattle.rice_samples.specs.Settings.{setting_of}
+use Rattle.rice_samples.specs.declared.setting.SettingFault.{SettingFault}
+use Rattle.aec_tool.specs.declared.plan.Plan.{Plan}
+use Rattle.aec_tool.specs.declared.plan.PlanFault.{PlanFault}
+use Rattle.aec_tool.specs.declared.plan.PlanFault.TheVariants as fault
+
+-- the text is decimal digits, and nothing else
+abbrev pub is_digits : List ℕ → Bool
+is_digits ds = nat_lt 0 (length ds) && list_all (λ c. nat_lt (digit_value c) 10) ds
+
+-- the number that a text writes, where it is one below a limit
+abbrev pub number_below : ℕ → List ℕ → Option ℕ
+number_below limit text =
+    if is_digits (without_leading_plus text)
+    && nat_lt (digits_value 10 (without_leading_plus text)) limit
+    then Some (digits_value 10 (without_leading_plus text)) else None
+
+-- the readable number of an option, if it has one
+abbrev pub number_of : ℕ → Found → List ℕ → Option ℕ
+number_of limit f id = option_and_then (number_below limit) (one_text f id)
+
+-- a flag was used
+abbrev pub is_flagged : Found → List ℕ → Bool
+is_flagged f id = option_map_or (λ t. bytes_eq t (codes "true")) (one_text f id) false
+
+-- what a plan says, with its names as texts
+pub record Wanted : Type 0 where
+  setting : Parameters
+  decode : Bool
+  samples : Option ℕ
+  source : List ℕ
+  dest : List ℕ
+
+abbrev pub wanted_of : Plan → Wanted
+wanted_of p = record {
+  setting = p.setting;
+  decode = p.decode;
+  samples = p.samples;
+  source = p.source.now;
+  dest = p.dest.now;
+}
+
+-- the same of an answer
+abbrev pub wanted_by : Result Plan PlanFault → Result Wanted PlanFault
+wanted_by (Ok p) = Ok (wanted_of p)
+wanted_by (Err e) = Err e
+
+-- the samples that are asked for
+abbrev pub samples_in : Found → Option ℕ
+samples_in f = number_of (2 ^ 64) f (codes "samples")
+
+-- the setting of these numbers and of the flags that were used
+abbrev pub setting_in : Found → ℕ → ℕ → ℕ → Result Parameters SettingFault
+setting_in f bits block interval =
+    setting_of (record {
+      bits = bits;
+      block = block;
+      interval = interval;
+      signed = is_flagged f (codes "s");
+      msb = is_flagged f (codes "m");
+      three = is_flagged f (codes "3");
+      preprocess = not (is_flagged f (codes "N"));
+      pad = false;
+    })
+
+abbrev pub judged : Found → List ℕ → List ℕ → Result Parameters SettingFault → Result Wanted PlanFault
+judged f source dest (Ok setting) = Ok (record {
+  setting = setting;
+  decode = is_flagged f (codes "d");
+  samples = samples_in f;
+  source = source;
+  dest = dest;
+})
+judged f source dest (Err e) = Err (fault.Setting e)
+
+abbrev pub settled : Found → Option ℕ → Option ℕ → Option ℕ → Option (List ℕ) → Option (List ℕ)
+    → Result Wanted PlanFault
+settled f (Some bits) (Some block) (Some interval) (Some source) (Some dest) =
+    judged f source dest (setting_in f bits block interval)
+settled f bits block interval source dest = Err fault.Unreadable
+
+-- the plan that the entries give, or the first reason to refuse them
+abbrev pub planned : Found → Result Wanted PlanFault
+planned f =
+    if is_some (samples_in f) && not (is_flagged f (codes "d")) then Err fault.SamplesWithoutDecode
+    else settled f (number_of (2 ^ 32) f (codes "n")) (number_of (2 ^ 32) f (codes "j"))
+    (number_of (2 ^ 32) f (codes "r")) (first_value f (codes "source"))
+    (first_value f (codes "dest"))

@@ -1,0 +1,23 @@
+//! The command `aec`: the coder and decoder of CCSDS 121.0-B-3, Lossless Data Compression.
+#![tactic(auto)]
+
+mod command_line;
+mod decoding;
+mod encoding;
+mod engine;
+mod entries;
+mod laws;
+mod outcome;
+mod plain_coder;
+mod plain_decoder;
+mod plan;
+mod start_up;
+#[cfg(test)]
+mod tests;
+mod write;
+
+use std::process::ExitCode;
+
+fn main(rt: HostRuntime) -> ExitCode {
+    ExitCode::from(start_up::start_with_arguments(&rt))
+}

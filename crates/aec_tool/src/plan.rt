@@ -1,0 +1,28 @@
+//! What the command line asks for.
+ghost use Rattle.std.specs.Prelude.{◌≡◌, false};
+
+use rice_samples::{Setting, SettingFault};
+use thiserror::Error;
+
+/// What the command line asks for: a setting, which direction, how many samples at most, and the two names.
+#[derive(Clone, Copy, Debug)]
+pub struct Plan<'a> {
+    pub setting: Setting,
+    pub decode: bool,
+    pub samples: Option<u64>,
+    pub source: &'a str,
+    pub dest: &'a str,
+    // Intervals are not padded yet.
+    ghost unpadded: { setting.pad ≡ false },
+}
+
+/// Why a command line that was parsed is refused.
+#[derive(Clone, Copy, Debug, PartialEq, Eq, Error)]
+pub enum PlanFault {
+    #[error("--samples needs -d")]
+    SamplesWithoutDecode,
+    #[error("option value cannot be read")]
+    Unreadable,
+    #[error(transparent)]
+    Setting(SettingFault),
+}

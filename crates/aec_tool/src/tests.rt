@@ -1,0 +1,4 @@
+//! Worked examples: the engines over memory, and `start` over a runtime in memory.
+mod commands;
+mod engines;
+mod memory;

@@ -1,0 +1,42 @@
+//! Writing all of some bytes.
+ghost use Rattle.std.specs.Prelude.{◌≡◌, ℕ, ◌+◌, ◌^◌, ◌<◌, ◌≤◌, length, drop, OnOk, OnErr};
+ghost use Rattle.std.specs.Io.KnownBytes.{Appends};
+ghost use Rattle.rice_bits.specs.Bits.{whole_bytes, bits_in_bytes};
+ghost use Rattle.aec_tool.specs.Writes.{TakesPart};
+
+use rice_bits::{BitSink, Outlet, WriteFault};
+
+/// Writes all of the bytes. `WriteFault` only where the outlet fails, which has then taken a part of them, and not all.
+pub fn write_all<O: Outlet>(outlet: &mut O, bytes: &[u8]) -> Result<(), WriteFault>
+    requires { O.failed outlet.old + 1 < 2 ^ 64 }
+    ensures ok { OnOk result (Appends (O.taken outlet.old) (O.taken outlet.new) bytes.now × (O.failed outlet.new ≡ O.failed outlet.old)) }
+    ensures err { OnErr result (TakesPart (O.taken outlet.old) (O.taken outlet.new) bytes.now × (O.failed outlet.new ≡ O.failed outlet.old + 1)) }
+{
+    let mut done = 0;
+    while done < bytes.len() {
+        match outlet.put(&bytes[done..]) {
+            Ok(count) => done += count,
+            Err(fault) => return Err(fault),
+        }
+    }
+    Ok(())
+}
+
+/// Writes the bytes that are whole in a sink, and removes them from it.
+pub fn write_whole<const N: usize, O: Outlet>(
+    sink: &mut BitSink<N>,
+    outlet: &mut O,
+) -> Result<(), WriteFault>
+    requires { O.failed outlet.old + 1 < 2 ^ 64 }
+    ensures ok { OnOk result (Appends (O.taken outlet.old) (O.taken outlet.new) (whole_bytes sink.old) × (O.failed outlet.new ≡ O.failed outlet.old)
+        × (sink.new ≡ drop (bits_in_bytes (length sink.old)) sink.old)) }
+    ensures err { OnErr result (TakesPart (O.taken outlet.old) (O.taken outlet.new) (whole_bytes sink.old) × (O.failed outlet.new ≡ O.failed outlet.old + 1)) }
+{
+    match write_all(outlet, sink.whole()) {
+        Ok(()) => {
+            sink.drop_whole();
+            Ok(())
+        }
+        Err(fault) => Err(fault),
+    }
+}
