@@ -89,7 +89,7 @@ impl OpenSegment {
     {
         let first = self.is_first();
         let residual = next_residual(&self.setting, first, self.previous, x);
-        self.reference = next_reference(&self.setting, first, self.reference, x);
+        note_reference(&self.setting, first, &mut self.reference, x);
         self.residuals.push(residual);
         self.previous = x;
     }
@@ -179,16 +179,15 @@ fn next_residual(setting: &Setting, first: bool, previous: i64, x: i64) -> u32
     }
 }
 
-/// The reference of the segment once `x` is in it.
+/// Notes the sample `x` as the segment's reference, if it is the first of an interval.
 #[inline]
-fn next_reference(setting: &Setting, first: bool, reference: Option<u32>, x: i64) -> Option<u32>
+fn note_reference(setting: &Setting, first: bool, reference: &mut Option<u32>, x: i64)
     requires { IsSample setting.now x }
-    ensures { result ≡ (if setting.now.preprocess && first then Some (pattern setting.now x) else reference) }
+    ensures { reference.new ≡ (if setting.now.preprocess && first then Some (pattern setting.now x) else reference.old) }
 {
     if setting.preprocess() && first {
-        return Some(pattern(setting, x));
+        *reference = Some(pattern(setting, x));
     }
-    reference
 }
 
 /// Fills the last byte with zeros if an interval ends with so many blocks, and intervals are padded.

@@ -76,12 +76,14 @@ fn put_high(block: &Block<'_>, from: usize, k: u32, sink: &mut BitSink<16432>, m
     fields.put(sink, meter);
 }
 
-/// The number that stands for a pair.
-fn number_of(a: u32, b: u32) -> u128
+/// The number that stands for a pair whose codeword fits a sink.
+#[inline]
+fn codeword_of(a: u32, b: u32) -> u32
+    requires { pair_code a b ≤ 131456 }
     ensures { result ≡ pair_code a b }
 {
-    let sum = a as u128 + b as u128;
-    sum * (sum + 1) / 2 + b as u128
+    let sum = a as u64 + b as u64;
+    (sum * (sum + 1) / 2) as u32 + b
 }
 
 /// The fundamental sequences of the pairs.
@@ -93,11 +95,13 @@ fn put_pairs(block: &Block<'_>, sink: &mut BitSink<16432>, meter: &mut Meter)
     ensures len { length sink.new ≡ length sink.old + sum_by (λ g. g + 1) (pair_codes block.now) }
     ensures steps { meter.new ≡ meter.old + length block.now + sum_by (λ g. g + 1) (pair_codes block.now) }
 {
+    let mut fields = Gathered::new();
     for i in 0..block.len() / 2 {
         let a = block.at(2 * i, meter);
         let b = block.at(2 * i + 1, meter);
-        sink.put_fs(number_of(a, b) as u64, meter);
+        fields.add_fs(codeword_of(a, b), sink, meter);
     }
+    fields.put(sink, meter);
 }
 
 /// How many residuals are not coded: that at the reference place, where there is one.
