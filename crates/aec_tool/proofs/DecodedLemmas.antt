@@ -12,8 +12,8 @@ use Rattle.rice_code.specs.Blocks.{contents, blocks_from}
 use Rattle.rice_code.specs.DataSets.{DataSet, NoCompression, text}
 use Rattle.rice_code.specs.Decoded.{Decoded, DecodedFrom, Ending, EndsWith, Reached, Ended, CutOff, GoesOn, cut_to}
 use Rattle.rice_code.specs.Forms.{IsForm}
+use Rattle.rice_code.specs.Held.{IsSoundBlock}
 use Rattle.rice_code.specs.Layout.{padding, block_behind}
-use Rattle.rice_code.proofs.Bounded.{IsSoundBlock}
 use Rattle.rice_code.proofs.Decoding.{decoding_goes_on}
 use Rattle.rice_code.proofs.Filling.{last_append}
 use Rattle.rice_code.proofs.SoundBlocks.{blocks_sound, last_legal}
