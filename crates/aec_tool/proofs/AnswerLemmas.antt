@@ -1,5 +1,5 @@
 -- What a decoder answers where it stops.
-use Rattle.std.proofs.Common.{◌≡◌, ℕ, List, [], refl, Option, Some, ℤ}
+use Rattle.std.proofs.Common.{◌≡◌, ℕ, List, [], Option, Some, ℤ}
 use Rattle.std.specs.Prelude.{Result, Ok, Err}
 use Rattle.rice_bits.specs.Reader.{Reader}
 use Rattle.aec_tool.specs.Decoder.{Place, Answers, StopsBy}

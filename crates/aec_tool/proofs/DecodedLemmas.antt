@@ -1,19 +1,19 @@
 -- What the bits so far decode to, whatever follows them.
-use Rattle.std.proofs.Common.{◌≡◌, ◌≢◌, ℕ, zero, suc, ◌+◌, ◌-◌, ◌*◌, ◌/◌, ◌<◌, ◌≤◌, ◌==◌, ◌&&◌, cond, Bool, true, false, List, [], ◌∷◌, ◌++◌, length, take, drop, refl, ap, arith, sym, ◌∙◌, subst, append_assoc, append-nil, length-append, Option, Some, None, ℤ, pos, inl, inr}
-use Rattle.std.specs.Prelude.{All, Contains, IfSome, IsSomeAnd}
-use Rattle.std.proofs.lemmas.List.Elements.{All-from_recursion, recursion_from_All, All-append}
+use Rattle.std.proofs.Common.{◌≡◌, ℕ, zero, suc, ◌+◌, ◌-◌, ◌*◌, ◌<◌, ◌≤◌, ◌==◌, ◌&&◌, cond, Bool, false, List, [], ◌∷◌, ◌++◌, length, take, refl, ap, arith, sym, ◌∙◌, subst, append_assoc, append-nil, length-append, Option, Some, None, ℤ, pos}
+use Rattle.std.specs.Prelude.{All}
+use Rattle.std.proofs.lemmas.List.Elements.{recursion_from_All, All-append}
 use Rattle.std.proofs.Math.Seq.{take-length}
 use Rattle.rice_samples.specs.Parameters.{Parameters, IsLegal, IsSample}
 use Rattle.rice_bits.specs.Bits.{bits_to_byte}
 use Rattle.rice_samples.specs.Places.{place}
 use Rattle.rice_samples.specs.Residuals.{last_of}
 use Rattle.rice_samples.proofs.Levels.{zero_is_sample}
-use Rattle.rice_code.specs.Blocks.{contents, blocks_from}
-use Rattle.rice_code.specs.DataSets.{DataSet, NoCompression, text}
-use Rattle.rice_code.specs.Decoded.{Decoded, DecodedFrom, Ending, EndsWith, Reached, Ended, CutOff, GoesOn, cut_to}
+use Rattle.rice_code.specs.Blocks.{contents}
+use Rattle.rice_code.specs.DataSets.{NoCompression, text}
+use Rattle.rice_code.specs.Decoded.{Decoded, DecodedFrom, Ending, EndsWith, GoesOn, cut_to}
 use Rattle.rice_code.specs.Forms.{IsForm}
-use Rattle.rice_code.specs.Layout.{padding, block_behind}
 use Rattle.rice_code.specs.Held.{IsSoundBlock}
+use Rattle.rice_code.specs.Layout.{padding}
 use Rattle.rice_code.proofs.Decoding.{decoding_goes_on}
 use Rattle.rice_code.proofs.Filling.{last_append}
 use Rattle.rice_code.proofs.SoundBlocks.{blocks_sound, last_legal}

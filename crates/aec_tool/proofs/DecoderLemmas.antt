@@ -1,11 +1,10 @@
 -- What a reader took where a block comes, and what stops a decoder.
-use Rattle.std.proofs.Common.{◌≡◌, ◌≢◌, ℕ, zero, suc, ◌+◌, ◌-◌, ◌*◌, ◌%◌, ◌^◌, ◌<◌, ◌≤◌, ◌==◌, ◌&&◌, not, Bool, true, false, List, [], ◌∷◌, ◌++◌, length, take, replicate, refl, ap, arith, sym, ◌∙◌, subst, append_assoc, length-append, length-drop, Option, Some, None, ℤ, inl, inr}
+use Rattle.std.proofs.Common.{◌≡◌, ◌≢◌, ℕ, zero, suc, ◌+◌, ◌-◌, ◌*◌, ◌%◌, ◌^◌, ◌<◌, ◌≤◌, ◌==◌, ◌&&◌, Bool, true, false, List, [], ◌∷◌, ◌++◌, length, take, replicate, ap, arith, sym, ◌∙◌, subst, append_assoc, length-append, Option, ℤ, inl, inr}
 use Rattle.std.specs.Prelude.{All, Contains, flat_map}
-use Rattle.std.specs.Io.KnownBytes.{IsAtEnd}
 use Rattle.std.proofs.lemmas.List.Elements.{Contains-append_left, Contains-append_cases}
 use Rattle.std.proofs.Math.Nat.{mod-eq_of_lt, pow-le-pow_right}
 use Rattle.std.proofs.Math.Seq.{take-append_seam}
-use Rattle.rice_bits.specs.Bits.{word, fundamental_sequence}
+use Rattle.rice_bits.specs.Bits.{word}
 use Rattle.rice_bits.specs.Reader.{Reader, Takes, Stops, is_blank}
 use Rattle.rice_bits.specs.declared.fault.BitFault.{BitFault}
 use Rattle.rice_bits.specs.declared.fault.BitFault.TheVariants.{End, Read, TooLong}
@@ -15,13 +14,12 @@ use Rattle.rice_bits.proofs.Blank.{blank-append, blank-zeros, blank-word_zero}
 use Rattle.rice_bits.proofs.ReaderLemmas.{takes-append, stops-append}
 use Rattle.rice_samples.specs.Parameters.{Parameters, IsLegal, IsSample, id_len}
 use Rattle.rice_samples.specs.Places.{place}
-use Rattle.rice_code.specs.Blocks.{contents}
 use Rattle.rice_code.specs.DataSets.{DataSet, NoCompression, SecondExtension, Split, ZeroBlocks, RemainderOfSegment, text}
 use Rattle.rice_code.specs.Forms.{IsForm}
 use Rattle.rice_code.proofs.Costs.{cost_is_length}
 use Rattle.rice_code.proofs.Ones.{forms_have_a_one}
 use Rattle.rice_code.proofs.Reading.{identifier, tail, text_is, identifier_fits, wide_id}
-use Rattle.aec_tool.specs.Decoder.{StopsBy, SetCut, OtherOption, CutBefore, GivesBlock, answer_to_lem}
+use Rattle.aec_tool.specs.Decoder.{StopsBy, OtherOption, CutBefore, GivesBlock, answer_to_lem}
 use Rattle.aec_tool.specs.Plain.{words, block_code}
 use Rattle.aec_tool.proofs.PlainLemmas.{text_of_block}
 

@@ -1,9 +1,9 @@
 -- What a block that is taken does to a decoding.
-use Rattle.std.proofs.Common.{◌≡◌, ◌≢◌, ℕ, zero, suc, ◌+◌, ◌-◌, ◌*◌, ◌/◌, ◌%◌, ◌<◌, ◌≤◌, ◌==◌, min, Bool, List, [], ◌∷◌, ◌++◌, length, take, drop, refl, ap, arith, sym, ◌∙◌, subst, append_assoc, append-nil, length-append, Option, Some, None, ℤ, pos, inl, inr}
+use Rattle.std.proofs.Common.{◌≡◌, ℕ, ◌+◌, ◌*◌, ◌≤◌, ◌==◌, List, [], ◌∷◌, length, take, ap, arith, sym, ◌∙◌, subst, Option, Some, None, ℤ}
 use Rattle.std.specs.Prelude.{All, IfSome, Ok}
 use Rattle.std.proofs.lemmas.List.Elements.{All-from_recursion, recursion_from_All}
 use Rattle.std.proofs.Math.Nat.{mul-le-mul_right}
-use Rattle.rice_bits.specs.Reader.{Reader, Takes}
+use Rattle.rice_bits.specs.Reader.{Reader}
 use Rattle.rice_samples.specs.Parameters.{Parameters, IsLegal, IsSample, id_len}
 use Rattle.rice_samples.specs.Places.{place}
 use Rattle.rice_code.specs.Blocks.{contents}
@@ -11,7 +11,7 @@ use Rattle.rice_code.specs.DataSets.{NoCompression, text}
 use Rattle.rice_code.proofs.SoundBlocks.{all_take}
 use Rattle.aec_tool.specs.Decoder.{Place, Answers, GivesBlock, marked, moved}
 use Rattle.aec_tool.specs.Decoding.{wanted_of}
-use Rattle.aec_tool.specs.Plain.{words, block_code}
+use Rattle.aec_tool.specs.Plain.{words}
 use Rattle.aec_tool.specs.declared.plain_decoder.Step.{Step}
 use Rattle.aec_tool.specs.declared.plain_decoder.Step.TheVariants.{Block}
 use Rattle.aec_tool.proofs.PlainLemmas.{text_of_block, length-block_code, length-words}

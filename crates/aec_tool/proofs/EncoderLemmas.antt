@@ -1,5 +1,5 @@
 -- A coder at work takes a sample, writes, and ends.
-use Rattle.std.proofs.Common.{◌≡◌, ◌≢◌, ℕ, zero, suc, ◌+◌, ◌-◌, ◌*◌, ◌/◌, ◌%◌, ◌<◌, ◌≤◌, Bool, List, [], ◌∷◌, ◌++◌, length, take, drop, replicate, false, refl, ap, arith, sym, ◌∙◌, subst, append_assoc, append-nil, length-append, length-drop, take-append-drop, Option, ℤ, inl, inr}
+use Rattle.std.proofs.Common.{◌≡◌, ℕ, ◌+◌, ◌-◌, ◌*◌, ◌/◌, ◌<◌, ◌≤◌, Bool, List, [], ◌∷◌, ◌++◌, length, take, drop, replicate, false, refl, ap, arith, sym, ◌∙◌, subst, append_assoc, append-nil, length-append, length-drop, take-append-drop, Option, ℤ}
 use Rattle.std.specs.Prelude.{All}
 use Rattle.std.specs.Io.KnownBytes.{Appends}
 use Rattle.std.proofs.Math.Nat.{div-add-mod, mul-le-mul_left, mul-le-mul_right}
@@ -7,10 +7,9 @@ use Rattle.std.proofs.KnownBytes.{Appends-trans}
 use Rattle.rice_bits.specs.Bits.{bits_in_bytes, bits_to_byte, padded, whole_bytes}
 use Rattle.rice_samples.specs.Parameters.{Parameters, IsLegal, IsSample, id_len, width}
 use Rattle.rice_samples.specs.Spelling.{spelling, spellings}
-use Rattle.aec_tool.specs.Calls.{StopsBetween}
 use Rattle.aec_tool.specs.Coder.{StandsFor, Completes, filling}
 use Rattle.aec_tool.specs.Coder.{Finishes as FinishesCode}
-use Rattle.aec_tool.specs.Encoder.{Counts, Holds, FailsAt, TakesBetween, Closes, Reaches, Reads, early_bytes, whole_part}
+use Rattle.aec_tool.specs.Encoder.{Counts, Holds, TakesBetween, Closes, Reaches, Reads, early_bytes, whole_part}
 use Rattle.aec_tool.specs.Plain.{early_code, plain_code}
 use Rattle.aec_tool.specs.Writes.{TakesPart}
 use Rattle.aec_tool.specs.declared.encoding.Encoding.{Encoding}

@@ -1,24 +1,24 @@
 -- The code of blocks without compression.
-use Rattle.std.proofs.Common.{◌≡◌, ℕ, zero, suc, ◌+◌, ◌-◌, ◌*◌, ◌/◌, ◌%◌, ◌<◌, ◌≤◌, ◌^◌, ◌==◌, ◌&&◌, not, Bool, true, false, cond, List, [], ◌∷◌, ◌++◌, length, take, drop, min, replicate, refl, ap, arith, sym, ◌∙◌, ◌⊎◌, inl, inr, append_assoc, append-nil, length-append, Some, None, ℤ, pos}
-use Rattle.std.specs.Prelude.{flat_map, slice_index_or}
-use Rattle.std.specs.Int.{next_multiple_of, div_ceil}
+use Rattle.std.proofs.Common.{◌≡◌, ℕ, zero, suc, ◌+◌, ◌-◌, ◌*◌, ◌/◌, ◌%◌, ◌<◌, ◌≤◌, ◌^◌, ◌==◌, ◌&&◌, not, Bool, true, false, cond, List, [], ◌∷◌, ◌++◌, length, take, drop, min, replicate, refl, ap, arith, sym, ◌∙◌, inl, inr, append_assoc, append-nil, length-append, Some, None, ℤ, pos}
+use Rattle.std.specs.Prelude.{flat_map}
+use Rattle.std.specs.Int.{next_multiple_of}
 use Rattle.std.proofs.lemmas.Grind.{flat_map-append}
 use Rattle.std.proofs.lemmas.List.{length-replicate, length-take, length-take-le, length-drop}
 use Rattle.std.proofs.Math.Seq.{take-length, take-append_seam}
 use Rattle.std.proofs.Math.Nat.{div-add-mod, mul-add-div, div-eq_of_lt, mod-eq_of_lt, mul-add-mod_self_left}
 use Rattle.rice_bits.specs.Bits.{word}
 use Rattle.rice_bits.proofs.Words.{length-word}
-use Rattle.rice_samples.specs.Parameters.{Parameters, IsLegal, id_len}
+use Rattle.rice_samples.specs.Parameters.{Parameters, id_len}
 use Rattle.rice_samples.specs.Places.{place, has_reference, is_reference, block_count}
 use Rattle.rice_samples.specs.Residuals.{rank, pattern, residual, residuals, last_of, filled}
 use Rattle.rice_samples.proofs.Patterns.{inside_block, no_reference_at}
-use Rattle.rice_code.specs.Blocks.{Contents, contents, blocks_from, blocks_behind}
+use Rattle.rice_code.specs.Blocks.{Contents, contents, blocks_from}
 use Rattle.rice_code.specs.DataSets.{NoCompression, text, reference_text, coded_from}
 use Rattle.rice_code.proofs.Covers.{bool_cases}
-use Rattle.rice_code.proofs.Filling.{last_append, last_replicate, blocks_append}
+use Rattle.rice_code.proofs.Filling.{last_append, blocks_append}
 use Rattle.rice_code.proofs.SoundBlocks.{filled_len}
 use Rattle.rice_code.proofs.WholeBlocks.{not_filled}
-use Rattle.aec_tool.specs.Plain.{begins, sample_word, words, block_code, plain_code, early_code, in_blocks}
+use Rattle.aec_tool.specs.Plain.{begins, sample_word, words, block_code, plain_code, early_code}
 
 begins_no : (xs : List ℤ) → begins false xs ≡ false
 begins_no [] = refl

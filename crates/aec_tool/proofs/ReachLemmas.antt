@@ -1,6 +1,6 @@
 -- How decoding ends.
-use Rattle.std.proofs.Common.{◌≡◌, ◌≢◌, ℕ, zero, suc, ◌+◌, ◌-◌, ◌*◌, ◌/◌, ◌%◌, ◌<◌, ◌≤◌, ◌&&◌, not, min, Bool, true, false, List, [], ◌∷◌, ◌++◌, length, take, drop, refl, ap, arith, sym, ◌∙◌, subst, append_assoc, append-nil, length-append, Option, Some, None, ℤ, pos, inl, inr, ◌⊎◌}
-use Rattle.std.specs.Prelude.{Ok, Err, All, Contains, IfSome, IsSome, IsSomeAnd}
+use Rattle.std.proofs.Common.{◌≡◌, ◌≢◌, ℕ, zero, suc, ◌+◌, ◌-◌, ◌*◌, ◌/◌, ◌<◌, ◌≤◌, min, Bool, true, false, List, [], ◌∷◌, ◌++◌, length, take, drop, refl, ap, arith, sym, ◌∙◌, subst, append_assoc, append-nil, length-append, Option, Some, None, ℤ, pos, inl, inr}
+use Rattle.std.specs.Prelude.{Ok, Err, All, Contains, IfSome, IsSomeAnd}
 use Rattle.std.specs.Io.KnownBytes.{Appends, Consumes, IsAtEnd}
 use Rattle.std.proofs.KnownBytes.{Appends-nil, Appends-trans, Consumes-nil, Consumes-trans}
 use Rattle.std.proofs.Math.Nat.{mod-eq_of_lt, mul-div_cancel_left, mul-le-mul_left}
@@ -8,12 +8,12 @@ use Rattle.std.proofs.Math.Seq.{take-length, take-append_seam, drop-append_seam}
 use Rattle.std.proofs.lemmas.List.{length-take-le, length-take, take-append-le}
 use Rattle.std.proofs.lemmas.List.Elements.{Contains-append_left}
 use Rattle.aec_tool.proofs.EncoderLemmas.{part_between}
-use Rattle.rice_bits.specs.Bits.{bits_of, word}
-use Rattle.rice_bits.specs.Reader.{Reader, Takes, Stops, is_blank}
+use Rattle.rice_bits.specs.Bits.{bits_of}
+use Rattle.rice_bits.specs.Reader.{Reader, Stops, is_blank}
 use Rattle.rice_bits.specs.declared.fault.BitFault.{BitFault}
 use Rattle.rice_bits.specs.declared.fault.BitFault.TheVariants as bit_faults
 use Rattle.rice_bits.proofs.Bytes.{bits_of-nil, bits_of-append, length-bits_of}
-use Rattle.rice_samples.specs.Parameters.{Parameters, IsLegal, IsSample, id_len}
+use Rattle.rice_samples.specs.Parameters.{Parameters, IsLegal, id_len}
 use Rattle.rice_samples.specs.Places.{place}
 use Rattle.rice_samples.specs.Residuals.{last_of}
 use Rattle.rice_samples.specs.Spelling.{spellings}
@@ -22,7 +22,7 @@ use Rattle.rice_code.proofs.Filling.{last_append}
 use Rattle.rice_code.specs.Blocks.{contents}
 use Rattle.rice_code.specs.DataSets.{DataSet, NoCompression, text}
 use Rattle.rice_code.specs.Forms.{IsForm}
-use Rattle.aec_tool.specs.Calls.{Call, Happens, Fails, Leaves, StopsBetween, PassesLimit}
+use Rattle.aec_tool.specs.Calls.{Call, Happens, Fails, StopsBetween, PassesLimit}
 use Rattle.aec_tool.specs.Decoder.{Place, Answers, StopsBy, GivesBlock, SetCut, SetEnds, OtherOption, marked, moved}
 use Rattle.aec_tool.specs.Decoding.{Decodings, EndsSo, Decodes, RunsOut, MeetsOther, FailsInBlock, at_most, wanted_of, end_of_lem, fault_of_lem}
 use Rattle.aec_tool.specs.Decodings.{Behind, RunsOn}

@@ -1,5 +1,5 @@
 -- What a contract sees of a decoder, and what a call of it says.
-use Rattle.std.specs.Prelude.{◌≡◌, ◌≢◌, ℕ, ◌-◌, ◌^◌, ◌<◌, ◌≤◌, Bool, true, false, List, [], ◌++◌, length, take, drop, All, Contains, Option, Some, None, Result, Ok, Err, ℤ}
+use Rattle.std.specs.Prelude.{◌≡◌, ◌≢◌, ℕ, ◌-◌, ◌^◌, ◌<◌, ◌≤◌, Bool, true, false, List, [], ◌++◌, length, take, All, Option, Some, Result, Ok, Err, ℤ}
 use Rattle.rice_bits.specs.Bits.{word}
 use Rattle.rice_bits.specs.Reader.{Reader, Takes, Stops, is_blank}
 use Rattle.rice_bits.specs.declared.fault.BitFault.{BitFault}

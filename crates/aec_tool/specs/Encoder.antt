@@ -1,5 +1,5 @@
 -- A coder at work: which samples it has taken, and what is written of their code.
-use Rattle.std.specs.Prelude.{◌≡◌, ℕ, ◌+◌, ◌*◌, ◌^◌, ◌<◌, ◌≤◌, Bool, List, [], ◌∷◌, ◌++◌, length, take, drop, All, Option, Some, None, Result, Ok, Err, ℤ}
+use Rattle.std.specs.Prelude.{◌≡◌, ℕ, ◌+◌, ◌^◌, ◌<◌, ◌≤◌, Bool, List, [], ◌∷◌, ◌++◌, length, take, drop, All, Option, Some, None, Result, Ok, Err, ℤ}
 use Rattle.std.specs.Io.KnownBytes.{Appends, Consumes}
 use Rattle.rice_bits.specs.Bits.{bits_in_bytes, whole_bytes, padded}
 use Rattle.rice_samples.specs.Parameters.{Parameters, IsSample, width}
@@ -8,7 +8,6 @@ use Rattle.aec_tool.specs.Calls.{StopsBetween}
 use Rattle.aec_tool.specs.Coder.{StandsFor, filling}
 use Rattle.aec_tool.specs.Plain.{early_code, plain_code}
 use Rattle.aec_tool.specs.declared.encoding.Encoding.{Encoding}
-use Rattle.aec_tool.specs.declared.outcome.Outcome.{Outcome}
 use Rattle.aec_tool.specs.declared.outcome.Report.{Report}
 use Rattle.aec_tool.specs.declared.outcome.Fault.{Fault}
 use Rattle.aec_tool.specs.declared.outcome.Fault.TheVariants.{Write, SampleOutOfRange}

@@ -1,4 +1,6 @@
 //! The engines over devices in memory.
+ghost use Rattle.std.specs.Prelude.{◌≡◌, false, IfOk};
+
 use crate::decoding::decode;
 use crate::encoding::encode;
 use crate::outcome::Fault;
@@ -19,7 +21,9 @@ struct Options {
 }
 
 impl Options {
-    fn setting(self) -> Result<Setting, Fail> {
+    fn setting(self) -> Result<Setting, Fail>
+        ensures { IfOk result (λ s. s.pad ≡ false) }
+    {
         let setting = Setting::new(
             self.bits,
             self.block,
@@ -342,7 +346,7 @@ fn comes_back(alloc: Global, options: Options) -> Result<bool, Fail> {
             x -= 1i64 << setting.bits();
         }
         if setting.in_range(x) {
-            count += 1;
+            count = count.saturating_add(1);
             for byte in bytes_of(&setting, x).as_slice() {
                 input.push(*byte)?;
             }

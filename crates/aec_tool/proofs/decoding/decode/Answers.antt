@@ -1,11 +1,10 @@
-use Rattle.std.proofs.Common.{arith, ◌≡◌, ◌≢◌, ◌+◌, ◌≤◌, List, ℕ, length, take, refl, ap, sym, ◌∙◌, subst, Some}
-use Rattle.std.proofs.lemmas.List.{length-take-le}
+use Rattle.std.proofs.Common.{arith, ◌≡◌, ◌≢◌, ◌+◌, List, ℕ, take, refl, ap, sym, ◌∙◌, subst, Some}
 use Rattle.std.specs.Io.KnownBytes.{Appends}
 use Rattle.rice_samples.specs.Spelling.{spellings}
 use Rattle.aec_tool.specs.Decoding.{wanted_of, fault_of_lem}
 use Rattle.aec_tool.specs.Decodings.{RunsOn}
 use Rattle.aec_tool.specs.Writes.{TakesPart}
-use Rattle.aec_tool.proofs.DecodingLemmas.{took, block_bits, more_bits, few_legal}
+use Rattle.aec_tool.proofs.DecodingLemmas.{took, block_bits, more_bits}
 use Rattle.aec_tool.proofs.ReachLemmas.{Ends, runs_first, refusal_ends, done_ends, write_ends, reached_ends, runs_more}
 use Rattle.aec_tool.proofs.decoding.decode.Goals as goal
 

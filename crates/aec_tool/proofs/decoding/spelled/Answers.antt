@@ -1,4 +1,4 @@
-use Rattle.std.proofs.Common.{arith, ◌≡◌, ◌+◌, ◌*◌, ◌≤◌, ◌++◌, ◌∷◌, [], length, take, refl, ap, sym, ◌∙◌, get_or, pos, w64, rules}
+use Rattle.std.proofs.Common.{arith, ◌*◌, ◌++◌, length, take, ap, sym, ◌∙◌, get_or, pos, w64, rules}
 use Rattle.std.proofs.lemmas.Int.{to_z-of_z}
 use Rattle.std.proofs.lemmas.List.{take_more, length-take-le}
 use Rattle.rice_samples.specs.Parameters.{width}

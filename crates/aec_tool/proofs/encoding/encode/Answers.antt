@@ -1,9 +1,8 @@
-use Rattle.std.proofs.Common.{arith, rules, ◌∷◌, ◌≡◌, ◌≢◌, ◌+◌, ◌<◌, ◌≤◌, ◌++◌, List, [], length, take, refl, ap, sym, ◌∙◌, subst, ℕ, ℤ, Option}
+use Rattle.std.proofs.Common.{arith, ◌∷◌, ◌≡◌, ◌≢◌, ◌+◌, ◌<◌, ◌≤◌, ◌++◌, List, [], length, take, refl, ap, ◌∙◌, subst, ℕ}
 use Rattle.std.proofs.lemmas.List.{length-take, length-take-le}
-use Rattle.std.specs.Io.KnownBytes.{Appends, Consumes}
-use Rattle.std.proofs.KnownBytes.{Appends-nil, Consumes-nil, Consumes-trans}
-use Rattle.rice_samples.specs.Parameters.{IsSample, width}
-use Rattle.aec_tool.specs.Encoder.{Counts, Tells}
+use Rattle.std.specs.Io.KnownBytes.{Consumes}
+use Rattle.std.proofs.KnownBytes.{Consumes-nil, Consumes-trans}
+use Rattle.rice_samples.specs.Parameters.{width}
 use Rattle.aec_tool.proofs.EncoderLemmas.{legal_of}
 use Rattle.aec_tool.proofs.EndLemmas.{within_early, within_all, read_ends, cut_ends, long_ends, finish_ends, push_ends, push_within, in_hand, runs_on, runs_count}
 use Rattle.aec_tool.proofs.encoding.encode.Goals as goal

@@ -1,4 +1,4 @@
-use Rattle.std.proofs.Common.{◌≡◌, ◌+◌, ◌≤◌, ◌++◌, replicate}
+use Rattle.std.proofs.Common.{◌≡◌, ◌+◌, ◌++◌, replicate}
 use Rattle.aec_tool.proofs.plain_coder.fill.Given as goal
 
 abbrev pub invariant-loop : goal.invariant-loop

@@ -1,4 +1,4 @@
-use Rattle.std.proofs.Common.{rules, arith, w64, ◌≡◌, ◌+◌, ◌*◌, ◌-◌, ◌<◌, ◌≤◌, ◌==◌, ◌++◌, ◌∷◌, [], List, ℕ, length, refl, ap, sym, ◌∙◌, subst, ℤ}
+use Rattle.std.proofs.Common.{rules, arith, w64, ◌==◌, List, ℕ, length, refl, ap, sym, ◌∙◌, subst, ℤ}
 use Rattle.std.specs.Prelude.{All}
 use Rattle.std.proofs.lemmas.Int.{to_z-of_z}
 use Rattle.std.proofs.lemmas.List.Elements.{All-push}

@@ -1,4 +1,4 @@
-use Rattle.std.proofs.Common.{arith, ◌≡◌, ◌≢◌, ◌-◌, ◌^◌, ◌<◌, ◌&&◌, ℕ, ◌++◌, [], false, refl, ap, sym, ◌∙◌, subst, append-nil, List, Bool}
+use Rattle.std.proofs.Common.{arith, ◌≢◌, ◌-◌, ◌^◌, ◌<◌, ◌&&◌, ℕ, [], ap, sym, ◌∙◌, subst, append-nil, List, Bool}
 use Rattle.std.specs.Prelude.{Result}
 use Rattle.rice_bits.specs.Bits.{word, fundamental_sequence}
 use Rattle.rice_bits.specs.Reader.{Takes, is_blank}

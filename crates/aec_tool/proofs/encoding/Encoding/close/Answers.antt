@@ -1,4 +1,4 @@
-use Rattle.std.proofs.Common.{arith, ◌≡◌, ◌+◌, ◌-◌, ◌∙◌, length, refl, ap, sym, length-append}
+use Rattle.std.proofs.Common.{arith, ◌≡◌, ◌+◌, ◌-◌, ◌∙◌, length, refl, ap}
 use Rattle.aec_tool.specs.Coder.{filling}
 use Rattle.aec_tool.specs.declared.outcome.Report.{Report}
 use Rattle.aec_tool.proofs.EncoderLemmas.{legal_of, early_small, closed}

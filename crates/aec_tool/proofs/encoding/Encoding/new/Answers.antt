@@ -1,9 +1,8 @@
-use Rattle.std.proofs.Common.{refl, ◌∙◌, ap, [], List, ℕ, Option, subst, sym}
+use Rattle.std.proofs.Common.{refl, ◌∙◌, ap, [], List, ℕ, subst, sym}
 use Rattle.std.specs.Io.KnownBytes.{Appends}
 use Rattle.std.proofs.KnownBytes.{Appends-nil}
 use Rattle.aec_tool.proofs.EncoderLemmas.{early_nothing}
 use Rattle.rice_bits.specs.Bits.{bits_in_bytes, whole_bytes}
-use Rattle.aec_tool.specs.Encoder.{early_bytes}
 use Rattle.aec_tool.specs.Plain.{early_code}
 use Rattle.std.proofs.Common.{drop, length, arith, ◌≡◌, ◌≤◌}
 use Rattle.rice_samples.specs.Parameters.{IsLegal}

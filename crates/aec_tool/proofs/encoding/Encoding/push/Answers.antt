@@ -1,4 +1,4 @@
-use Rattle.std.proofs.Common.{arith, rules, w64, subst, ◌≡◌, ◌<◌, ◌++◌, ◌∷◌, [], length, ap, sym, ◌∙◌, ℤ}
+use Rattle.std.proofs.Common.{arith, rules, w64, subst, ◌≡◌, ◌<◌, ◌++◌, ◌∷◌, [], length, sym, ℤ}
 use Rattle.std.proofs.lemmas.Int.{to_z-of_z}
 use Rattle.rice_bits.specs.Bits.{whole_bytes}
 use Rattle.aec_tool.specs.Encoder.{Counts, early_bytes, whole_part}

@@ -1,8 +1,6 @@
-use Rattle.std.proofs.Common.{rules, arith, w64, ◌≡◌, ◌+◌, ◌-◌, ◌<◌, ◌≤◌, ◌++◌, ◌∷◌, [], List, length, take, drop, refl, ap, sym, ◌∙◌, subst, append_assoc, length-append, length-drop, ℤ}
+use Rattle.std.proofs.Common.{rules, arith, w64, ◌≡◌, ◌+◌, ◌-◌, ◌≤◌, ◌++◌, ◌∷◌, [], length, take, drop, refl, ap, sym, ◌∙◌, subst, length-append, length-drop, ℤ}
 use Rattle.std.proofs.lemmas.Int.{to_z-of_z}
-use Rattle.std.proofs.lemmas.List.{length-take-le}
 use Rattle.rice_samples.specs.Parameters.{IsSample, width}
-use Rattle.rice_samples.specs.Spelling.{spelling, spellings}
 use Rattle.aec_tool.specs.Encoder.{Holds, FailsAt}
 use Rattle.aec_tool.proofs.EncoderLemmas.{reach_first, reach_on, reach_count, reads_to, one_more}
 use Rattle.aec_tool.proofs.encoding.Encoding.push_all.Goals as goal

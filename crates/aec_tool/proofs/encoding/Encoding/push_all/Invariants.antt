@@ -1,5 +1,4 @@
 use Rattle.std.proofs.Common.{◌≡◌, ◌≤◌, ◌-◌, ℕ, List, length, Option, ℤ}
-use Rattle.rice_samples.specs.Parameters.{width}
 use Rattle.aec_tool.specs.Encoder.{Holds, Reaches}
 use Rattle.aec_tool.proofs.encoding.Encoding.push_all.Given as goal
 

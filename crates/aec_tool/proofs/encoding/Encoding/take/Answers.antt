@@ -1,4 +1,4 @@
-use Rattle.std.proofs.Common.{arith, rules, ◌≡◌, ◌+◌, ◌-◌, ◌++◌, ◌∷◌, [], length, refl, ap, sym, ◌∙◌, subst, length-append, w64, ℤ}
+use Rattle.std.proofs.Common.{arith, rules, ◌+◌, ◌-◌, length, refl, ap, sym, subst, length-append, w64, ℤ}
 use Rattle.std.proofs.lemmas.Int.{to_z-of_z}
 use Rattle.rice_samples.specs.Parameters.{Parameters, IsSample}
 use Rattle.aec_tool.proofs.EncoderLemmas.{legal_of, early_small, sink_short, taken_on}

@@ -1,7 +1,5 @@
-use Rattle.std.proofs.Common.{rules, arith, ◌≡◌, ℕ, zero, ◌+◌, ◌-◌, ◌<◌, ◌≤◌, ◌==◌, ◌++◌, ◌∷◌, List, [], length, replicate, refl, ap, sym, ◌∙◌, subst, append-nil, length-append, w64, ℤ}
-use Rattle.std.specs.Prelude.{if◌then◌else◌}
+use Rattle.std.proofs.Common.{rules, arith, ◌≡◌, ◌-◌, ◌<◌, ◌==◌, ◌++◌, [], length, ap, sym, ◌∙◌, subst, append-nil, w64}
 use Rattle.std.proofs.lemmas.Int.{to_z-of_z}
-use Rattle.std.proofs.lemmas.Bool.Decides.{nat_tests}
 use Rattle.rice_samples.specs.Parameters.{IsSample}
 use Rattle.aec_tool.specs.Plain.{begins, sample_word, block_code, early_code}
 use Rattle.aec_tool.specs.Coder.{State, StandsFor, Finishes, filling}

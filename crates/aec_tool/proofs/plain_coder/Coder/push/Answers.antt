@@ -1,4 +1,4 @@
-use Rattle.std.proofs.Common.{rules, arith, ◌≡◌, ◌+◌, ◌<◌, ◌≤◌, ◌==◌, ◌++◌, ◌∷◌, [], length, ap, sym, ◌∙◌, subst, append-nil, length-append, w64, ℤ}
+use Rattle.std.proofs.Common.{rules, arith, ◌≡◌, ◌+◌, ◌<◌, ◌==◌, ◌++◌, ◌∷◌, [], length, ap, sym, ◌∙◌, subst, append-nil, w64}
 use Rattle.std.proofs.lemmas.Int.{to_z-of_z}
 use Rattle.rice_samples.specs.Parameters.{IsSample}
 use Rattle.aec_tool.specs.Plain.{begins, sample_word, block_code, early_code}

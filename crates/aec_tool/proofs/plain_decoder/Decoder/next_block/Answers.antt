@@ -1,12 +1,10 @@
-use Rattle.std.proofs.Common.{rules, arith, w64, ◌≡◌, ◌-◌, ◌^◌, ◌*◌, ◌==◌, true, [], List, ℕ, length, refl, ap, sym, ◌∙◌, subst, ℤ, to_z, of_z, Some}
+use Rattle.std.proofs.Common.{rules, w64, ◌≡◌, ◌==◌, refl, ap, sym, ◌∙◌, subst, ℤ, to_z, of_z, Some}
 use Rattle.std.specs.Prelude.{Result}
 use Rattle.std.proofs.lemmas.Int.{to_z-of_z}
-use Rattle.rice_bits.specs.Bits.{word}
 use Rattle.rice_bits.specs.Reader.{Reader, Takes}
-use Rattle.rice_samples.specs.Parameters.{id_len}
 use Rattle.rice_samples.specs.Places.{place}
 use Rattle.rice_samples.specs.Residuals.{last_of}
-use Rattle.aec_tool.specs.Decoder.{Place, Answers, StopsBy, GivesBlock, marked, moved}
+use Rattle.aec_tool.specs.Decoder.{Place, StopsBy, GivesBlock, marked, moved}
 use Rattle.aec_tool.specs.declared.plain_decoder.Step.{Step}
 use Rattle.aec_tool.specs.declared.plain_decoder.CodeFault.{CodeFault}
 use Rattle.aec_tool.proofs.AnswerLemmas.{answers_stop}

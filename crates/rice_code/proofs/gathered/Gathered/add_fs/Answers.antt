@@ -1,4 +1,4 @@
-use Rattle.std.proofs.Common.{arith, ◌+◌, ◌++◌, ◌∙◌, ◌^◌, ap}
+use Rattle.std.proofs.Common.{◌++◌, ◌∙◌, ap}
 use Rattle.rice_bits.proofs.Words.{word-fs}
 use Rattle.rice_code.proofs.GatheredLemmas.{one_fits}
 use Rattle.rice_code.proofs.gathered.Gathered.add_fs.Goals as goal
