@@ -13,6 +13,7 @@ use rice_bits::{BitReader, Intake, Meter, Outlet};
 use rice_samples::{Setting, bytes_of};
 
 /// The bytes of the samples of a block.
+#[inline(always)]
 fn spelled(setting: &Setting, samples: &[i64]) -> ArrayVec<u8, 256>
     requires legal { All (IsSample setting.now) samples.now }
     requires few { length samples.now ≤ 64 }
@@ -27,7 +28,7 @@ fn spelled(setting: &Setting, samples: &[i64]) -> ArrayVec<u8, 256>
 }
 
 /// Appends bytes.
-#[inline]
+#[inline(always)]
 fn append(bytes: &mut ArrayVec<u8, 256>, more: &[u8])
     requires { length bytes.old.items + length more.now ≤ 256 }
     ensures { bytes.new.items ≡ bytes.old.items ++ more.now }

@@ -46,7 +46,7 @@ impl Encoding {
     }
 
     /// Takes one more sample.
-    #[inline]
+    #[inline(always)]
     fn take(&mut self, x: i64)
         requires { (s : Parameters) × (old : Option (List ℕ)) × (now : Option (List ℕ)) × (xs : List ℤ) × Holds s old now self.old xs × IsSample s x × (length xs < 2 ^ 48) }
         ensures { (s : Parameters) (old now : Option (List ℕ)) (xs : List ℤ) → Holds s old now self.old xs →
@@ -59,7 +59,7 @@ impl Encoding {
     }
 
     /// Takes one more sample, and writes the whole bytes of what it completes.
-    #[inline]
+    #[inline(always)]
     fn push<O: Outlet>(&mut self, x: i64, outlet: &mut O) -> Result<(), WriteFault>
         requires ready { (s : Parameters) × (old : Option (List ℕ)) × (xs : List ℤ) × Holds s old (O.taken outlet.old) self.old xs × IsSample s x × (length xs < 2 ^ 48) }
         requires writes { O.failed outlet.old + 1 < 2 ^ 64 }
@@ -93,11 +93,12 @@ impl Encoding {
             Pushes setting.now old (O.taken outlet.new) self.new xs bytes.now result }
         ensures failures { PushFails (O.failed outlet.old) (O.failed outlet.new) result }
     {
-        let width = setting.width() as usize;
+        let local = *setting;
+        let width = local.width() as usize;
         let mut at = 0;
         while bytes.len() - at >= width {
             let end = at + width;
-            let Some(x) = sample_of(setting, &bytes[at..end]) else {
+            let Some(x) = sample_of(&local, &bytes[at..end]) else {
                 return Err(Fault::SampleOutOfRange {
                     index: self.samples,
                 });

@@ -44,7 +44,7 @@ impl Coder {
     }
 
     /// Takes the sample `x`. If it makes the block whole, its code is appended, and nothing else is.
-    #[inline]
+    #[inline(always)]
     pub fn push(&mut self, x: i64, sink: &mut BitSink<16432>, meter: &mut Meter)
         requires sample { IsSample self.old.setting x }
         requires room { length sink.old ≤ 7 }
