@@ -1,5 +1,5 @@
 #!/usr/bin/env python3
-"""Compares ./aec with Debian's aec (package libaec-tools) on generated data.
+"""Compares ./aec with Debian's aec (package libaec-tools) on generated data. Both decode what ours has coded.
 
 Prints a table in Markdown: for each row the CPU time of each program (user and system, the least of some runs) and,
 where valgrind is there, the instructions for each byte of the samples.
@@ -98,7 +98,7 @@ def main():
             for kind, count in (("large", size), ("small", COUNTED), ("empty", 0)):
                 with open(path(kind), "wb") as file:
                     file.write(make(count, width, random.Random(1)))
-                subprocess.run([THEIRS, *options, path(kind), path(kind + ".code")], check=True)
+                subprocess.run([OURS, *options, path(kind), path(kind + ".code")], check=True)
             title = f"{name}, `{' '.join(options)}`"
             compare(title + ", encode", lambda program, kind: [program, *options, path(kind), path("out")], size, COUNTED, folder)
             decode = lambda program, kind: [program, "-d", *options, path(kind + ".code"), path("out")]
