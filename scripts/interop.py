@@ -77,6 +77,14 @@ def exchange(setting):
 
 # What differs: its name, options, input, what they write, what we write and say, in this order.
 DIFFERENCES = [
+    (
+        "two splits are equally short: they take the other",
+        "",
+        "181a0012151704090102010201030000",
+        "8310270b1ad2963f7cce80",
+        "8310270b1ad29402da75c0",
+        "",
+    ),
     ("signed samples of 4 bits: they want them without their sign", "-n 4 -s", "08*8", "0880", "", "sample 0 is out of range"),
     ("and write them with it, as we do", "-d -n 4 -s", "0880", "f8*8", "f8*8", ""),
     ("without preprocessing they write them without it", "-d -N -n 4 -s", "f1 11*3 00", "08*8", "f8*8", ""),
@@ -101,9 +109,17 @@ def differ(difference):
     words = options.split()
     they_wrote = code(THEIRS, words, parsed_bytes(data))[0]
     we_wrote, _, we_said = code(OURS, words, parsed_bytes(data))
-    print(f"  {name}: {they_wrote[:8].hex(' ') or '-'} there, {we_wrote[:8].hex(' ') or '-'} here{message and ', ' + message}")
+    print(f"  {name}: {they_wrote[:12].hex(' ') or '-'} there, {we_wrote[:12].hex(' ') or '-'} here{message and ', ' + message}")
     expected = (parsed_bytes(theirs), parsed_bytes(ours), message and "aec: " + message)
     return [] if (they_wrote, we_wrote, we_said) == expected else [f"interop: otherwise than known: {name}"]
+
+
+def differ_in_streams():
+    """Shows that a name - is a stream here and a file there; answers what is wrong with it."""
+    data = {"input": b"", "stdout": subprocess.DEVNULL, "stderr": subprocess.DEVNULL}
+    theirs, ours = (subprocess.run([program, "-", "-"], **data).returncode for program in (THEIRS, OURS))
+    print(f"  the name -: status {theirs} there, where no file has it, {ours} here, where it is a stream")
+    return [] if theirs != 0 and ours == 0 else ["interop: otherwise than known: the name -"]
 
 
 def work_in(folder):
@@ -118,6 +134,7 @@ def main():
         print("Known differences:")
         os.chdir(folder)
         wrong += [text for difference in DIFFERENCES for text in differ(difference)]
+        wrong += differ_in_streams()
     for text in wrong:
         print(text)
     same = sum(is_same for _, is_same in answers)
