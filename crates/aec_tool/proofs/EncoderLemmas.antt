@@ -1,16 +1,25 @@
 -- A coder at work takes a sample, writes, and ends.
-use Rattle.std.proofs.Common.{◌≡◌, ℕ, ◌+◌, ◌-◌, ◌*◌, ◌/◌, ◌<◌, ◌≤◌, Bool, List, [], ◌∷◌, ◌++◌, length, take, drop, replicate, false, refl, ap, arith, sym, ◌∙◌, subst, append_assoc, append-nil, length-append, length-drop, take-append-drop, Option, ℤ}
-use Rattle.std.specs.Prelude.{All}
+use Rattle.std.proofs.Common.{◌≡◌, ℕ, ◌+◌, ◌-◌, ◌*◌, ◌/◌, ◌<◌, ◌≤◌, Bool, List, [], ◌∷◌, ◌++◌, length, take, drop, replicate, false, refl, ap, arith, sym, ◌∙◌, subst, append_assoc, append-nil, length-append, length-drop, take-append-drop, Option, ℤ, pos, zero, suc}
+use Rattle.std.specs.Prelude.{All, sum_by}
+use Rattle.std.specs.Int.{div_ceil}
+use Rattle.rice_code.specs.DataSets.{text}
+use Rattle.rice_code.specs.Blocks.{blocks_from}
+use Rattle.rice_code.specs.Code.{data_sets}
+use Rattle.rice_code.specs.Layout.{laid}
 use Rattle.std.specs.Io.KnownBytes.{Appends}
-use Rattle.std.proofs.Math.Nat.{div-add-mod, mul-le-mul_left, mul-le-mul_right}
+use Rattle.std.proofs.Math.Nat.{mul-le-mul_right}
 use Rattle.std.proofs.KnownBytes.{Appends-trans}
 use Rattle.rice_bits.specs.Bits.{bits_in_bytes, bits_to_byte, padded, whole_bytes}
-use Rattle.rice_samples.specs.Parameters.{Parameters, IsLegal, IsSample, id_len, width}
+use Rattle.rice_samples.specs.Parameters.{Parameters, IsLegal, IsSample, width}
+use Rattle.rice_samples.specs.Places.{block_count, cut}
+use Rattle.rice_samples.specs.Residuals.{filled}
 use Rattle.rice_samples.specs.Spelling.{spelling, spellings}
-use Rattle.aec_tool.specs.Coder.{StandsFor, Completes, filling}
-use Rattle.aec_tool.specs.Coder.{Finishes as FinishesCode}
-use Rattle.aec_tool.specs.Encoder.{Counts, Holds, TakesBetween, Closes, Reaches, Reads, early_bytes, whole_part}
-use Rattle.aec_tool.specs.Plain.{early_code, plain_code}
+use Rattle.rice_code.specs.Coder.{State, StandsFor, IsInPlace, Completes, settled, settled_code, fill_samples}
+use Rattle.rice_code.specs.Coder.{Finishes as FinishesCode}
+use Rattle.rice_code.specs.Code.{code, code_bits, output, early_output}
+use Rattle.rice_code.specs.Steps.{least_looks, most_looks, least_looks_at, most_looks_at, least_steps, most_steps, segment_steps}
+use Rattle.rice_code.proofs.CoderLemmas.{segment_steps_few}
+use Rattle.aec_tool.specs.Encoder.{Counts, Holds, TakesBetween, Closes, Reaches, Reads, whole_part}
 use Rattle.aec_tool.specs.Writes.{TakesPart}
 use Rattle.aec_tool.specs.declared.encoding.Encoding.{Encoding}
 use Rattle.aec_tool.specs.declared.outcome.Report.{Report}
@@ -18,62 +27,77 @@ use Rattle.aec_tool.proofs.SpelledLemmas.{length-spellings, spellings-push}
 use Rattle.std.proofs.Math.Seq.{take-add}
 use Rattle.std.proofs.lemmas.List.{length-take-le}
 use Rattle.std.proofs.lemmas.List.Elements.{All-push}
-use Rattle.aec_tool.proofs.PlainLemmas.{early_is, plain_nothing, length-early_code}
+use Rattle.aec_tool.proofs.BoundLemmas.{Settles, settles, early_bounded, all_bounded, few_steps, few_bits}
 use Rattle.aec_tool.proofs.WholeLemmas.{whole_short, length-part, more_bytes, more_rest}
 
 pub legal_of : (s : Parameters) (e : Encoding) (xs : List ℤ) → Counts s e xs → IsLegal s
 legal_of s e xs c = subst IsLegal c.setting c.stands.holds.legal
 
--- the code is at most 33 bits a sample, before the last block is filled
-pub early_small : (s : Parameters) (xs : List ℤ) → IsLegal s → length (early_code s xs) ≤ 33 * length xs
-early_small s xs legal =
-    let j : 8 ≤ s.block = grind (arith, legal.block) in
-    let e = length-early_code s xs (omega arith) in
-    let k : id_len s ≤ 8 = grind arith in
-    at s.block (length xs) s.bits (id_len s) (length (early_code s xs)) e (omega arith) legal.bits_to
-  where
-    at : (j n bits id m : ℕ) → m ≡ (n / j) * (id + bits * j) → id ≤ j → bits ≤ 32 → m ≤ 33 * n
-    at j n bits id m e h k =
-        let q = n / j in
-        let each : id + bits * j ≤ 33 * j = let p = mul-le-mul_right j k in omega arith in
-        let all : q * (id + bits * j) ≤ q * (33 * j) = mul-le-mul_left q each in
-        let le = div-add-mod n j in
-        omega arith
+pub settled_by : (s : Parameters) (e : Encoding) (xs : List ℤ) → Counts s e xs → Settles s xs
+settled_by s e xs c = settles s e.coder xs c.setting c.stands
+
+-- bits and steps are far below what a number holds
+pub counts_small : (s : Parameters) (e : Encoding) (xs : List ℤ) → Counts s e xs → (e.bits ≤ 73 * length xs + 4700) × (e.meter ≤ 73 * length xs + 4700) × (segment_steps e.coder.setting ≤ 274752)
+counts_small s e xs c =
+    let h = settled_by s e xs c in
+    let b = early_bounded s xs h in
+    let few = few_steps s (length xs) h.setting in
+    let segment = ap segment_steps c.setting in
+    (omega (arith, c.bits, c.least, c.most, b.steps, few), omega (arith, c.most, b.steps, few), omega (arith, segment, segment_steps_few s h.setting))
+
+-- so are the bits of a coder's samples so far, and of all
+pub early_small : (s : Parameters) (coder : State) (xs : List ℤ) → coder.setting ≡ s → StandsFor coder xs → code_bits s (settled s xs) ≤ 73 * length xs + 4700
+early_small s coder xs e h = let k = settles s coder xs e h in few_bits s (length xs) _ _ k.setting (early_bounded s xs k) (omega arith)
+
+pub all_small : (s : Parameters) (coder : State) (xs : List ℤ) → coder.setting ≡ s → StandsFor coder xs → code_bits s xs ≤ 73 * length xs + 4700
+all_small s coder xs e h = let k = settles s coder xs e h in few_bits s (length xs) _ _ k.setting (all_bounded s xs k) (omega arith)
 
 -- what the sink holds goes on from the bytes that are whole
-pub joined : (s : Parameters) (old now : Option (List ℕ)) (e : Encoding) (xs : List ℤ) → Holds s old now e xs → whole_part (early_code s xs) ++ e.sink ≡ early_code s xs
-joined s old now e xs h = ap (λ l. whole_part (early_code s xs) ++ l) h.sink ∙ take-append-drop (bits_in_bytes (length (early_code s xs))) (early_code s xs)
+pub joined : (s : Parameters) (old now : Option (List ℕ)) (e : Encoding) (xs : List ℤ) → Holds s old now e xs → whole_part (settled_code s xs) ++ e.sink ≡ settled_code s xs
+joined s old now e xs h = ap (λ l. whole_part (settled_code s xs) ++ l) h.sink ∙ take-append-drop (bits_in_bytes (length (settled_code s xs))) (settled_code s xs)
 
 pub sink_short : (s : Parameters) (old now : Option (List ℕ)) (e : Encoding) (xs : List ℤ) → Holds s old now e xs → length e.sink ≤ 7
-sink_short s old now e xs h = omega (arith, ap length h.sink, length-drop (bits_in_bytes (length (early_code s xs))) (early_code s xs))
+sink_short s old now e xs h = omega (arith, ap length h.sink, length-drop (bits_in_bytes (length (settled_code s xs))) (settled_code s xs))
+
+-- the sink stands at the place in a byte where the code does
+pub sink_place : (s : Parameters) (old now : Option (List ℕ)) (e : Encoding) (xs : List ℤ) → Holds s old now e xs → IsInPlace e.coder.setting xs e.sink
+sink_place s old now e xs h =
+    let in_place : IsInPlace s xs e.sink = λ pads. (let n = ap length h.sink in let m = length-drop (bits_in_bytes (length (settled_code s xs))) (settled_code s xs) in omega arith) in
+    subst (λ (t : Parameters). IsInPlace t xs e.sink) (sym h.counts.setting) in_place
+
+-- How bits and steps grow when the samples xs become ys, so many more.
+pub record Tally (s : Parameters) (xs ys : List ℤ) (more meter meter_new count count_new : ℕ) : Type 0 where
+  pub least : meter + more + least_steps s (settled s ys) ≤ meter_new + least_steps s (settled s xs)
+  pub most : meter_new + most_steps s (settled s xs) ≤ meter + more + most_steps s (settled s ys)
+  pub bits : count_new + code_bits s (settled s xs) ≡ count + code_bits s (settled s ys)
 
 -- a sample is taken
 pub taken_on : (s : Parameters) (old now : Option (List ℕ)) (e f : Encoding) (xs : List ℤ) (x y : ℤ) → y ≡ x → Holds s old now e xs →
-    f.coder.setting ≡ e.coder.setting → StandsFor f.coder (xs ++ y ∷ []) → Completes e.coder.setting xs (xs ++ y ∷ []) e.sink f.sink → f.meter + length e.sink ≡ e.meter + 1 + length f.sink →
-    f.samples ≡ e.samples + 1 → f.bits ≡ e.bits + (length f.sink - length e.sink) →
-    Counts s f (xs ++ x ∷ []) × (early_code s (xs ++ x ∷ []) ≡ whole_part (early_code s xs) ++ f.sink)
-taken_on s old now e f xs x y same h setting stands completes steps samples bits =
+    f.coder.setting ≡ e.coder.setting → StandsFor f.coder (xs ++ y ∷ []) → Completes e.coder.setting xs (xs ++ y ∷ []) e.sink f.sink → Tally e.coder.setting xs (xs ++ y ∷ []) 1 e.meter f.meter e.bits f.bits →
+    f.samples ≡ e.samples + 1 →
+    Counts s f (xs ++ x ∷ []) × (settled_code s (xs ++ x ∷ []) ≡ whole_part (settled_code s xs) ++ f.sink)
+taken_on s old now e f xs x y same h setting stands completes tally samples =
+    let t = subst (λ (t : Parameters). Tally t xs (xs ++ x ∷ []) 1 e.meter f.meter e.bits f.bits) h.counts.setting (subst (λ (z : ℤ). Tally e.coder.setting xs (xs ++ z ∷ []) 1 e.meter f.meter e.bits f.bits) same tally) in
     let k = subst (λ (t : Parameters). Completes t xs (xs ++ x ∷ []) e.sink f.sink) h.counts.setting (subst (λ (z : ℤ). Completes e.coder.setting xs (xs ++ z ∷ []) e.sink f.sink) same completes) in
-    let part = whole_part (early_code s xs) in
-    let n : length f.sink ≡ length e.sink + length k.bits = ap length k.appended ∙ length-append e.sink k.bits in
-    let m : length (early_code s (xs ++ x ∷ [])) ≡ length (early_code s xs) + length k.bits = ap length k.completes ∙ length-append (early_code s xs) k.bits in
+    let part = whole_part (settled_code s xs) in
     let c = length-append xs (x ∷ []) in (
       record {
         setting = setting ∙ h.counts.setting;
         stands = subst (λ (z : ℤ). StandsFor f.coder (xs ++ z ∷ [])) same stands;
         samples = omega (arith, samples, h.counts.samples, c);
-        bits = omega (arith, bits, h.counts.bits, n, m);
-        steps = omega (arith, steps, h.counts.steps, n, m, c);
+        bits = omega (arith, t.bits, h.counts.bits);
+        least = omega (arith, t.least, h.counts.least, c);
+        most = omega (arith, t.most, h.counts.most, c);
       },
       k.completes ∙ ap (λ l. l ++ k.bits) (sym (joined s old now e xs h)) ∙ append_assoc part e.sink k.bits ∙ ap (λ l. part ++ l) (sym k.appended),
     )
 
 -- nothing is whole
-pub none_whole : (s : Parameters) (old now : Option (List ℕ)) (e f : Encoding) (xs : List ℤ) (x : ℤ) → Holds s old now e xs → Counts s f (xs ++ x ∷ []) → early_code s (xs ++ x ∷ []) ≡ whole_part (early_code s xs) ++ f.sink →
+pub none_whole : (s : Parameters) (old now : Option (List ℕ)) (e f : Encoding) (xs : List ℤ) (x : ℤ) → Holds s old now e xs → Counts s f (xs ++ x ∷ []) → settled_code s (xs ++ x ∷ []) ≡ whole_part (settled_code s xs) ++ f.sink →
     length f.sink < 8 → Holds s old now f (xs ++ x ∷ [])
 none_whole s old now e f xs x h c same few =
-    let a = early_code s xs in
-    let b = early_code s (xs ++ x ∷ []) in
+    let a = settled_code s xs in
+    let b = settled_code s (xs ++ x ∷ []) in
     let z : bits_in_bytes (length f.sink) ≡ 0 = omega arith in
     let bytes : whole_bytes b ≡ whole_bytes a = more_bytes a b f.sink (sym same) ∙ ap (λ l. whole_bytes a ++ l) (whole_short f.sink few) ∙ append-nil (whole_bytes a) in
     record {
@@ -83,15 +107,15 @@ none_whole s old now e f xs x h c same few =
     }
 
 -- the whole bytes are written
-pub all_written : (s : Parameters) (old now new : Option (List ℕ)) (e f g : Encoding) (xs : List ℤ) (x : ℤ) → Holds s old now e xs → Counts s f (xs ++ x ∷ []) → early_code s (xs ++ x ∷ []) ≡ whole_part (early_code s xs) ++ f.sink →
+pub all_written : (s : Parameters) (old now new : Option (List ℕ)) (e f g : Encoding) (xs : List ℤ) (x : ℤ) → Holds s old now e xs → Counts s f (xs ++ x ∷ []) → settled_code s (xs ++ x ∷ []) ≡ whole_part (settled_code s xs) ++ f.sink →
     Appends now new (whole_bytes f.sink) → g.sink ≡ drop (bits_in_bytes (length f.sink)) f.sink → Counts s g (xs ++ x ∷ []) → Holds s old new g (xs ++ x ∷ [])
 all_written s old now new e f g xs x h c same took rest d =
-    let a = early_code s xs in
-    let b = early_code s (xs ++ x ∷ []) in
+    let a = settled_code s xs in
+    let b = settled_code s (xs ++ x ∷ []) in
     record {
       counts = d;
       sink = rest ∙ more_rest a b f.sink (sym same);
-      took = subst (λ (l : List ℕ). Appends old new l) (sym (more_bytes a b f.sink (sym same))) (Appends-trans old now new (early_bytes s xs) (whole_bytes f.sink) h.took took);
+      took = subst (λ (l : List ℕ). Appends old new l) (sym (more_bytes a b f.sink (sym same))) (Appends-trans old now new (early_output s xs) (whole_bytes f.sink) h.took took);
     }
 
 -- what is taken of more bytes lies between
@@ -109,27 +133,52 @@ part_between old now new from more to took part e = record {
 }
 
 -- nothing is coded of no samples
-pub early_nothing : (s : Parameters) → 1 ≤ s.block → early_code s [] ≡ []
-early_nothing s j = early_is s 0 [] [] (omega arith) j ∙ plain_nothing s j
+pub settled_nothing : (s : Parameters) → settled s [] ≡ []
+settled_nothing s = none (cut s 0)
+  where
+    none : (n : ℕ) → take {A = ℤ} n [] ≡ []
+    none zero = refl
+    none (suc n) = refl
+
+no_blocks : (s : Parameters) → 1 ≤ s.block → block_count s 0 ≡ 0
+no_blocks s j = by_block s.block j
+  where
+    by_block : (j : ℕ) → 1 ≤ j → div_ceil 0 j ≡ 0
+    by_block j h = omega arith
+
+pub code_nothing : (s : Parameters) → 1 ≤ s.block → code s [] ≡ []
+code_nothing s j = ap (λ n. laid s (0 + n) 0 0 (data_sets s 0 false (blocks_from s 0 (pos 0) n (filled s (pos 0) [])))) (no_blocks s j)
+
+pub sets_nothing : (s : Parameters) → 1 ≤ s.block → (code_bits s [] ≡ 0) × (least_steps s [] ≡ 0) × (most_steps s [] ≡ 0)
+sets_nothing s j =
+    let none = no_blocks s j in
+    let bits : code_bits s [] ≡ 0 = ap (λ n. sum_by (λ d. length (text s d)) (data_sets s 0 false (blocks_from s 0 (pos 0) n (filled s (pos 0) [])))) none in
+    let least : least_looks_at s [] ≡ 0 = ap (λ n. sum_by (least_looks s) (blocks_from s 0 (pos 0) n (filled s (pos 0) []))) none in
+    let most : most_looks_at s [] ≡ 0 = ap (λ n. sum_by (most_looks s) (blocks_from s 0 (pos 0) n (filled s (pos 0) []))) none in
+    (bits, omega (arith, bits, least), omega (arith, bits, most))
+
+-- How bits and steps grow at the end of the samples.
+pub record Total (s : Parameters) (xs : List ℤ) (meter meter_new count count_new : ℕ) : Type 0 where
+  pub least : meter + fill_samples s xs + least_steps s xs ≤ meter_new + least_steps s (settled s xs)
+  pub most : meter_new + most_steps s (settled s xs) ≤ meter + fill_samples s xs + most_steps s xs
+  pub bits : count_new + code_bits s (settled s xs) ≡ count + code_bits s xs
 
 -- the end of the samples
 pub closed : (s : Parameters) (old now : Option (List ℕ)) (e : Encoding) (r : Report) (sink end : List Bool) (xs : List ℤ) → Holds s old now e xs →
-    FinishesCode e.coder.setting xs e.sink sink → r.steps + length e.sink ≡ e.meter + filling e.coder.setting (length xs) + length sink →
-    r.samples ≡ e.samples → r.bits ≡ e.bits + (length sink - length e.sink) → end ≡ sink ++ replicate (bits_to_byte (length sink)) false →
-    Closes s r xs × (padded (plain_code s xs) ≡ whole_part (early_code s xs) ++ end)
-closed s old now e r sink end xs h finishes steps samples bits fill =
+    FinishesCode e.coder.setting xs e.sink sink → Total e.coder.setting xs e.meter r.steps e.bits r.bits → r.samples ≡ e.samples → end ≡ sink ++ replicate (bits_to_byte (length sink)) false →
+    Closes s r xs × (padded (code s xs) ≡ whole_part (settled_code s xs) ++ end)
+closed s old now e r sink end xs h finishes total samples fill =
+    let t = subst (λ (t : Parameters). Total t xs e.meter r.steps e.bits r.bits) h.counts.setting total in
     let k = subst (λ (t : Parameters). FinishesCode t xs e.sink sink) h.counts.setting finishes in
-    let counted : r.steps + length e.sink ≡ e.meter + filling s (length xs) + length sink = subst (λ (t : Parameters). r.steps + length e.sink ≡ e.meter + filling t (length xs) + length sink) h.counts.setting steps in
-    let part = whole_part (early_code s xs) in
-    let n : length sink ≡ length e.sink + length k.bits = ap length k.appended ∙ length-append e.sink k.bits in
-    let m : length (plain_code s xs) ≡ length (early_code s xs) + length k.bits = ap length k.completes ∙ length-append (early_code s xs) k.bits in
-    let all : part ++ sink ≡ plain_code s xs = ap (λ l. part ++ l) k.appended ∙ sym (append_assoc part e.sink k.bits) ∙ ap (λ l. l ++ k.bits) (joined s old now e xs h) ∙ sym k.completes in
-    let size : length (plain_code s xs) ≡ length part + length sink = ap length (sym all) ∙ length-append part sink in
-    let gap : bits_to_byte (length sink) ≡ bits_to_byte (length (plain_code s xs)) = omega (arith, size, length-part (early_code s xs)) in (
+    let part = whole_part (settled_code s xs) in
+    let all : part ++ sink ≡ code s xs = ap (λ l. part ++ l) k.appended ∙ sym (append_assoc part e.sink k.bits) ∙ ap (λ l. l ++ k.bits) (joined s old now e xs h) ∙ sym k.completes in
+    let size : length (code s xs) ≡ length part + length sink = ap length (sym all) ∙ length-append part sink in
+    let gap : bits_to_byte (length sink) ≡ bits_to_byte (length (code s xs)) = omega (arith, size, length-part (settled_code s xs)) in (
       record {
         samples = samples ∙ h.counts.samples;
-        bits = omega (arith, bits, h.counts.bits, n, m);
-        steps = omega (arith, counted, h.counts.steps, n, m);
+        bits = omega (arith, t.bits, h.counts.bits);
+        least = omega (arith, t.least, h.counts.least);
+        most = omega (arith, t.most, h.counts.most);
       },
       (λ i. sym all i ++ replicate (sym gap i) false) ∙ append_assoc part sink (replicate (bits_to_byte (length sink)) false) ∙ ap (λ l. part ++ l) (sym fill),
     )

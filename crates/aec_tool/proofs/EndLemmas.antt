@@ -14,53 +14,40 @@ use Rattle.std.proofs.lemmas.List.Elements.{All-append}
 use Rattle.rice_samples.specs.Parameters.{Parameters, IsLegal, IsSample, id_len, k_max, width}
 use Rattle.rice_samples.specs.Spelling.{Spells, spellings, Stop, AtEnd, NoSpelling, TooFew}
 use Rattle.rice_code.specs.Bounds.{bit_bound, step_bound}
-use Rattle.aec_tool.specs.Calls.{Call, Happens, Leaves, PassesLimit, StopsBetween}
-use Rattle.aec_tool.specs.Coder.{filling}
-use Rattle.aec_tool.specs.Encoder.{Counts, Tells, Closes, Finishes, Reads, Runs, TakesAll, MeetsNoSpelling, MeetsFailure, Pushes, Refills, early_bytes, all_bytes}
+use Rattle.aec_tool.specs.Calls.{Call, Happens, Fails, Leaves, PassesLimit, StopsBetween}
+use Rattle.aec_tool.specs.Encoder.{Counts, Tells, Closes, Finishes, Reads, Runs, TakesAll, MeetsNoSpelling, MeetsFailure, Pushes, PushFails, Refills}
 use Rattle.aec_tool.specs.Encoding.{Encodes, EndsSo, EncodesWithin}
-use Rattle.aec_tool.specs.Plain.{early_code, plain_code}
+use Rattle.rice_code.specs.Code.{code_bits, output, early_output}
+use Rattle.rice_code.specs.Coder.{settled}
 use Rattle.aec_tool.specs.declared.encoding.Encoding.{Encoding}
 use Rattle.aec_tool.specs.declared.outcome.Report.{Report}
 use Rattle.aec_tool.specs.declared.outcome.Fault.{Fault}
-use Rattle.aec_tool.specs.declared.outcome.Fault.TheVariants.{Read, Write, TooLong, SampleOutOfRange, SampleCut, CodeEnds, NotYet}
-use Rattle.aec_tool.proofs.EncoderLemmas.{legal_of}
-use Rattle.aec_tool.proofs.PlainLemmas.{length-early_code, length-plain_code}
+use Rattle.aec_tool.specs.declared.outcome.Fault.TheVariants.{Read, Write, TooLong, SampleOutOfRange, SampleCut, CodeEnds, RunPastSegment, ResidualTooLarge}
+use Rattle.aec_tool.proofs.BoundLemmas.{Settles, early_bounded, all_bounded}
+use Rattle.aec_tool.proofs.EncoderLemmas.{settled_by}
 use Rattle.aec_tool.proofs.SpelledLemmas.{length-spellings, spellings-append}
 
--- the blocks of so many samples, as products
-block_of : (s : Parameters) → IsLegal s → 1 ≤ s.block
-block_of s legal = grind (arith, legal.block)
+pub within_early : (s : Parameters) (r : Report) (xs : List ℤ) → Settles s xs → Tells s r xs → EncodesWithin s r
+within_early s r xs settles t =
+    let b = early_bounded s xs settles in
+    let at : EncodesWithin s (record { samples = length xs; bits = code_bits s (settled s xs); steps = r.steps }) = record {
+      bits = b.bits;
+      at_least = omega (arith, t.least);
+      at_most = omega (arith, t.most, b.steps);
+      amortised = omega (arith, t.most, b.amortised);
+    } in
+    subst (EncodesWithin s) (λ i. record { samples = sym t.samples i; bits = sym t.bits i; steps = r.steps }) at
 
-pub within_early : (s : Parameters) (r : Report) (xs : List ℤ) → IsLegal s → Tells s r xs → EncodesWithin s r
-within_early s r xs legal t =
-    let j = block_of s legal in
-    let e = length-early_code s xs j in
-    let b = block_count s (length xs) in
-    let w = at s.block (length xs) (length xs / s.block) b s.bits (id_len s) (k_max s) (length (early_code s xs)) e (omega arith) (div_ceil_times (length xs) s.block j).0 in
-    record {
-      bits = subst (λ (n : ℕ). r.bits ≤ bit_bound s n) (sym t.samples) (subst (λ (n : ℕ). n ≤ bit_bound s (length xs)) (sym t.bits) w.0);
-      at_least = omega (arith, t.samples, t.bits, t.steps);
-      at_most = subst (λ (n : ℕ). r.steps ≤ step_bound s n) (sym t.samples) (subst (λ (n : ℕ). n ≤ step_bound s (length xs)) (sym t.steps) w.1);
-    }
-  where
-    at : (j n q b bits id k m : ℕ) → m ≡ q * (id + bits * j) → q ≤ b → n ≤ b * j → (m ≤ b * (id + j * bits)) × (n + m ≤ b * (id + j * (bits + k + 6)))
-    at j n q b bits id k m e h more = let first = mul-le-mul_right (id + bits * j) h in (omega arith, omega arith)
-
-pub within_all : (s : Parameters) (r : Report) (xs : List ℤ) → IsLegal s → Closes s r xs → EncodesWithin s r
-within_all s r xs legal t =
-    let j = block_of s legal in
-    let e = length-plain_code s xs j in
-    let b = block_count s (length xs) in
-    let full : length xs + filling s (length xs) ≡ s.block * b = ap (λ n. length xs + n) (sym (length-replicate (filling s (length xs)) (last_of (pos 0) xs))) ∙ sym (length-append xs (replicate (filling s (length xs)) (last_of (pos 0) xs))) ∙ filled_len s (pos 0) xs j in
-    let w = at s.block (length xs) (filling s (length xs)) b s.bits (id_len s) (k_max s) (length (plain_code s xs)) e full in
-    record {
-      bits = subst (λ (n : ℕ). r.bits ≤ bit_bound s n) (sym t.samples) (subst (λ (n : ℕ). n ≤ bit_bound s (length xs)) (sym t.bits) w.0);
-      at_least = omega (arith, t.samples, t.bits, t.steps);
-      at_most = subst (λ (n : ℕ). r.steps ≤ step_bound s n) (sym t.samples) (subst (λ (n : ℕ). n ≤ step_bound s (length xs)) (sym t.steps) w.1);
-    }
-  where
-    at : (j n fill b bits id k m : ℕ) → m ≡ b * (id + bits * j) → n + fill ≡ j * b → (m ≤ b * (id + j * bits)) × (n + fill + m ≤ b * (id + j * (bits + k + 6)))
-    at j n fill b bits id k m e h = (omega arith, omega arith)
+pub within_all : (s : Parameters) (r : Report) (xs : List ℤ) → Settles s xs → Closes s r xs → EncodesWithin s r
+within_all s r xs settles t =
+    let b = all_bounded s xs settles in
+    let at : EncodesWithin s (record { samples = length xs; bits = code_bits s xs; steps = r.steps }) = record {
+      bits = b.bits;
+      at_least = omega (arith, t.least);
+      at_most = omega (arith, t.most, b.steps);
+      amortised = omega (arith, t.most, b.amortised);
+    } in
+    subst (EncodesWithin s) (λ i. record { samples = sym t.samples i; bits = sym t.bits i; steps = r.steps }) at
 
 -- the samples of bytes, of which too few for one more are left
 pub spelled_so_far : (s : Parameters) (bytes : List ℕ) (xs : List ℤ) (rest : List ℕ) → Reads s bytes xs rest → length rest < width s → (stop : Stop) × Spells s bytes xs stop × (stop ≢ NoSpelling)
@@ -68,51 +55,51 @@ spelled_so_far s bytes xs [] r few = (AtEnd, record { rest = []; whole = r.split
 spelled_so_far s bytes xs (b ∷ rest) r few = (TooFew, record { rest = b ∷ rest; whole = r.split; legal = r.legal; stops = ((λ e. cc), few) }, λ e. cc)
 
 -- what a call leaves that stops early
-leaves : (s : Parameters) (r : Report) (xs : List ℤ) (given : List ℕ) (left : Option (List ℕ)) → Tells s r xs → Leaves (record { given = given; left = left; written = early_bytes s xs }) r (early_bytes s xs) (length xs) (length (early_code s xs))
+leaves : (s : Parameters) (r : Report) (xs : List ℤ) (given : List ℕ) (left : Option (List ℕ)) → Tells s r xs → Leaves (record { given = given; left = left; written = early_output s xs }) r (early_output s xs) (length xs) (code_bits s (settled s xs))
 leaves s r xs given left t = record { written = refl; samples = t.samples; bits = t.bits }
 
 pub read_ends : (s : Parameters) (left_old left mid taken_old taken : Option (List ℕ)) (e : Encoding) (given waiting : ℕ) (buffer : List ℕ) (r : Report) (f : Option Fault) → Runs s left_old mid taken_old taken e given waiting buffer →
     Keeps mid left → ((xs : List ℤ) → Counts s e xs → Tells s r xs) → length (take waiting buffer) < width s → f ≡ Some Read →
-    (c : Call) × Happens left_old left taken_old taken c × Encodes s (early_code s) (plain_code s) c r f
+    (c : Call) × Happens left_old left taken_old taken c × Encodes s c r f
 read_ends s left_old left mid taken_old taken e given waiting buffer r f runs keeps told few is =
     let xs = runs.samples in
-    let c : Call = record { given = runs.bytes; left = left; written = early_bytes s xs } in
+    let c : Call = record { given = runs.bytes; left = left; written = early_output s xs } in
     let t = told xs runs.holds.counts in
-    let ends : EndsSo s (early_code s) (plain_code s) (Some Read) c r xs = (spelled_so_far s runs.bytes xs (take waiting buffer) runs.reads few, leaves s r xs runs.bytes left t) in (
+    let ends : EndsSo s (Some Read) c r xs = (spelled_so_far s runs.bytes xs (take waiting buffer) runs.reads few, leaves s r xs runs.bytes left t) in (
       c,
       record { gave = Consumes-kept left_old mid left runs.bytes runs.gave keeps; left = refl; took = runs.holds.took },
-      subst (λ (f : Option Fault). Encodes s (early_code s) (plain_code s) c r f) (sym is) (xs, ends),
+      subst (λ (f : Option Fault). Encodes s c r f) (sym is) (xs, ends),
     )
 
 pub cut_ends : (s : Parameters) (left_old left mid taken_old taken : Option (List ℕ)) (e : Encoding) (given waiting : ℕ) (buffer : List ℕ) (r : Report) (f : Option Fault) → Runs s left_old mid taken_old taken e given waiting buffer →
     Consumes mid left [] → IsAtEnd left → ((xs : List ℤ) → Counts s e xs → Tells s r xs) → length (take waiting buffer) < width s → take waiting buffer ≢ [] → f ≡ Some (SampleCut e.samples) →
-    (c : Call) × Happens left_old left taken_old taken c × Encodes s (early_code s) (plain_code s) c r f
+    (c : Call) × Happens left_old left taken_old taken c × Encodes s c r f
 cut_ends s left_old left mid taken_old taken e given waiting buffer r f runs gave end told few some is =
     let xs = runs.samples in
-    let c : Call = record { given = runs.bytes; left = left; written = early_bytes s xs } in
+    let c : Call = record { given = runs.bytes; left = left; written = early_output s xs } in
     let t = told xs runs.holds.counts in
     let spells : Spells s runs.bytes xs TooFew = record { rest = take waiting buffer; whole = runs.reads.split; legal = runs.reads.legal; stops = (some, few) } in
-    let ends : EndsSo s (early_code s) (plain_code s) (Some (SampleCut e.samples)) c r xs = (spells, end, runs.holds.counts.samples, leaves s r xs runs.bytes left t) in
+    let ends : EndsSo s (Some (SampleCut e.samples)) c r xs = (spells, end, runs.holds.counts.samples, leaves s r xs runs.bytes left t) in
     let all = Consumes-trans left_old mid left runs.bytes [] runs.gave gave in (
       c,
       record { gave = subst (λ (l : List ℕ). Consumes left_old left l) (append-nil runs.bytes) all; left = refl; took = runs.holds.took },
-      subst (λ (f : Option Fault). Encodes s (early_code s) (plain_code s) c r f) (sym is) (xs, ends),
+      subst (λ (f : Option Fault). Encodes s c r f) (sym is) (xs, ends),
     )
 
 pub long_ends : (s : Parameters) (left_old left mid taken_old taken : Option (List ℕ)) (e : Encoding) (given waiting : ℕ) (buffer : List ℕ) (r : Report) (f : Option Fault) (more : List ℕ) → Runs s left_old mid taken_old taken e given waiting buffer →
     Consumes mid left more → length more ≡ 1 → 281474976710656 ≤ given → ((xs : List ℤ) → Counts s e xs → Tells s r xs) → length (take waiting buffer) < width s → f ≡ Some TooLong →
-    (c : Call) × Happens left_old left taken_old taken c × Encodes s (early_code s) (plain_code s) c r f
+    (c : Call) × Happens left_old left taken_old taken c × Encodes s c r f
 long_ends s left_old left mid taken_old taken e given waiting buffer r f more runs gave one full told few is =
     let xs = runs.samples in
-    let c : Call = record { given = runs.bytes ++ more; left = left; written = early_bytes s xs } in
+    let c : Call = record { given = runs.bytes ++ more; left = left; written = early_output s xs } in
     let t = told xs runs.holds.counts in
     let so_far = spelled_so_far s runs.bytes xs (take waiting buffer) runs.reads few in
     let last = single more one in
     let passes : PassesLimit 281474976710656 (runs.bytes ++ more) runs.bytes = record { last = last.0; split = ap (λ l. runs.bytes ++ l) last.1; full = omega (arith, runs.count, runs.limit, full) } in
-    let ends : EndsSo s (early_code s) (plain_code s) (Some TooLong) c r xs = ((runs.bytes, so_far.0, passes, so_far.1, so_far.2), leaves s r xs (runs.bytes ++ more) left t) in (
+    let ends : EndsSo s (Some TooLong) c r xs = ((runs.bytes, so_far.0, passes, so_far.1, so_far.2), leaves s r xs (runs.bytes ++ more) left t) in (
       c,
       record { gave = Consumes-trans left_old mid left runs.bytes more runs.gave gave; left = refl; took = runs.holds.took },
-      subst (λ (f : Option Fault). Encodes s (early_code s) (plain_code s) c r f) (sym is) (xs, ends),
+      subst (λ (f : Option Fault). Encodes s c r f) (sym is) (xs, ends),
     )
   where
     single : (l : List ℕ) → length l ≡ 1 → (x : ℕ) × (l ≡ x ∷ [])
@@ -123,7 +110,7 @@ long_ends s left_old left mid taken_old taken e given waiting buffer r f more ru
 -- all samples were given, and their code is written or not
 pub finish_ends : (s : Parameters) (left_old left mid taken_old taken new : Option (List ℕ)) (e : Encoding) (given waiting : ℕ) (buffer : List ℕ) (r : Report) (f : Option Fault) → (runs : Runs s left_old mid taken_old taken e given waiting buffer) →
     Consumes mid left [] → IsAtEnd left → 1 ≤ width s → take waiting buffer ≡ [] → Closes s r runs.samples → Finishes s taken_old new runs.samples f →
-    (c : Call) × Happens left_old left taken_old new c × Encodes s (early_code s) (plain_code s) c r f
+    (c : Call) × Happens left_old left taken_old new c × Encodes s c r f
 finish_ends s left_old left mid taken_old taken new e given waiting buffer r f runs gave end some none closes finishes = by_fault f finishes
   where
     xs : List ℤ
@@ -141,9 +128,9 @@ finish_ends s left_old left mid taken_old taken new e given waiting buffer r f r
     ahead : (w n m k : ℕ) → m ≡ w * n → k ≡ n → m < k * w + 4096
     ahead w n m k e h = let p = ap (λ v. v * w) h in omega arith
 
-    by_fault : (f : Option Fault) → Finishes s taken_old new xs f → (c : Call) × Happens left_old left taken_old new c × Encodes s (early_code s) (plain_code s) c r f
+    by_fault : (f : Option Fault) → Finishes s taken_old new xs f → (c : Call) × Happens left_old left taken_old new c × Encodes s c r f
     by_fault None took = (
-      record { given = runs.bytes; left = left; written = all_bytes s xs },
+      record { given = runs.bytes; left = left; written = output s xs },
       record { gave = all; left = refl; took = took },
       (xs, (spells, end, record { written = refl; samples = closes.samples; bits = closes.bits })),
     )
@@ -157,18 +144,19 @@ finish_ends s left_old left mid taken_old taken new e given waiting buffer r f r
     by_fault (Some (SampleOutOfRange index)) bad = absurd bad
     by_fault (Some (SampleCut index)) bad = absurd bad
     by_fault (Some (CodeEnds samples)) bad = absurd bad
-    by_fault (Some (NotYet block)) bad = absurd bad
+    by_fault (Some (RunPastSegment block)) bad = absurd bad
+    by_fault (Some (ResidualTooLarge block)) bad = absurd bad
 
 -- the samples of the bytes in hand are taken, as far as that goes
 pub push_ends : (s : Parameters) (left_old left taken_old taken : Option (List ℕ)) (e : Encoding) (r : Report) (f : Fault) (g : Option Fault) (xs : List ℤ) (given bytes : List ℕ) → given ≡ spellings s xs ++ bytes → All (IsSample s) xs →
     Consumes left_old left given → length bytes ≤ 4096 → 1 ≤ width s → ((ys : List ℤ) → Counts s e ys → Tells s r ys) → g ≡ Some f → Pushes {T = Unit {0}} s taken_old taken e xs bytes (Err f) →
-    (c : Call) × Happens left_old left taken_old taken c × Encodes s (early_code s) (plain_code s) c r g
+    (c : Call) × Happens left_old left taken_old taken c × Encodes s c r g
 push_ends s left_old left taken_old taken e r f g xs given bytes split legal gave few some told is pushes =
     let result = by_fault f pushes in
-    subst (λ (g : Option Fault). (c : Call) × Happens left_old left taken_old taken c × Encodes s (early_code s) (plain_code s) c r g) (sym is) result
+    subst (λ (g : Option Fault). (c : Call) × Happens left_old left taken_old taken c × Encodes s c r g) (sym is) result
   where
     Ends : Fault → Type 0
-    Ends f = (c : Call) × Happens left_old left taken_old taken c × Encodes s (early_code s) (plain_code s) c r (Some f)
+    Ends f = (c : Call) × Happens left_old left taken_old taken c × Encodes s c r (Some f)
 
     joined : (more : List ℤ) (rest : List ℕ) → bytes ≡ spellings s more ++ rest → given ≡ spellings s (xs ++ more) ++ rest
     joined more rest e =
@@ -179,7 +167,7 @@ push_ends s left_old left taken_old taken e r f g xs given bytes split legal gav
         let ys = xs ++ m.more in
         let t = told ys m.holds.counts in
         let spells : Spells s given ys NoSpelling = record { rest = m.rest; whole = joined m.more m.rest m.reads.split; legal = All-append (IsSample s) xs m.more legal m.reads.legal; stops = m.none } in (
-          record { given = given; left = left; written = early_bytes s ys },
+          record { given = given; left = left; written = early_output s ys },
           record { gave = gave; left = refl; took = m.holds.took },
           (ys, (spells, same ∙ m.holds.counts.samples, leaves s r ys given left t)),
         )
@@ -209,7 +197,7 @@ push_ends s left_old left taken_old taken e r f g xs given bytes split legal gav
                 some = omega arith;
                 samples = t.samples;
                 bits = t.bits;
-                stops = subst (λ (l : List ℤ). StopsBetween (early_bytes s l) (early_bytes s ys) m.fails.takes.written) (sym front) m.fails.takes.stops;
+                stops = subst (λ (l : List ℤ). StopsBetween (early_output s l) (early_output s ys) m.fails.takes.written) (sym front) m.fails.takes.stops;
               }),
             ),
           ),
@@ -225,7 +213,25 @@ push_ends s left_old left taken_old taken e r f g xs given bytes split legal gav
     by_fault TooLong bad = absurd bad
     by_fault (SampleCut index) bad = absurd bad
     by_fault (CodeEnds samples) bad = absurd bad
-    by_fault (NotYet block) bad = absurd bad
+    by_fault (RunPastSegment block) bad = absurd bad
+    by_fault (ResidualTooLarge block) bad = absurd bad
+
+-- and the failures then
+pub push_fails : (s : Parameters) (taken_old taken : Option (List ℕ)) (e : Encoding) (xs : List ℤ) (bytes : List ℕ) (f : Fault) (g : Option Fault) (reads reads_new writes mid writes_new : ℕ) → reads_new ≡ reads → mid ≡ writes →
+    Pushes {T = Unit {0}} s taken_old taken e xs bytes (Err f) → PushFails {T = Unit {0}} mid writes_new (Err f) → g ≡ Some f → Fails g reads reads_new writes writes_new
+push_fails s taken_old taken e xs bytes f g reads reads_new writes mid writes_new same before pushes fails is =
+    let result = by_fault f pushes fails in
+    subst (λ (g : Option Fault). Fails g reads reads_new writes writes_new) (sym is) result
+  where
+    by_fault : (f : Fault) → Pushes {T = Unit {0}} s taken_old taken e xs bytes (Err f) → PushFails {T = Unit {0}} mid writes_new (Err f) → Fails (Some f) reads reads_new writes writes_new
+    by_fault (SampleOutOfRange index) m k = (same, k ∙ before)
+    by_fault Write m k = (same, k ∙ ap (λ n. n + 1) before)
+    by_fault Read bad k = absurd bad
+    by_fault TooLong bad k = absurd bad
+    by_fault (SampleCut index) bad k = absurd bad
+    by_fault (CodeEnds samples) bad k = absurd bad
+    by_fault (RunPastSegment block) bad k = absurd bad
+    by_fault (ResidualTooLarge block) bad k = absurd bad
 
 -- the bytes in hand: those that waited, and those that were given
 pub in_hand : (s : Parameters) (left_old left mid taken_old taken : Option (List ℕ)) (e : Encoding) (given waiting count : ℕ) (buffer full : List ℕ) → (runs : Runs s left_old mid taken_old taken e given waiting buffer) → (more : Refills mid left buffer full waiting count) →
@@ -272,10 +278,11 @@ runs_count s left_old left taken_old taken e given waiting buffer runs some with
 
 -- the report's bounds where taking the bytes in hand stops
 pub push_within : (s : Parameters) (taken_old taken : Option (List ℕ)) (e : Encoding) (r : Report) (f : Fault) (xs : List ℤ) (bytes : List ℕ) → ((ys : List ℤ) → Counts s e ys → Tells s r ys) → Pushes {T = Unit {0}} s taken_old taken e xs bytes (Err f) → EncodesWithin s r
-push_within s taken_old taken e r (SampleOutOfRange index) xs bytes told m = let k = m.0.holds.counts in within_early s r (xs ++ m.0.more) (legal_of s e (xs ++ m.0.more) k) (told (xs ++ m.0.more) k)
-push_within s taken_old taken e r Write xs bytes told m = let ys = (xs ++ m.more) ++ m.last ∷ [] in let k = m.fails.counts in within_early s r ys (legal_of s e ys k) (told ys k)
+push_within s taken_old taken e r (SampleOutOfRange index) xs bytes told m = let k = m.0.holds.counts in within_early s r (xs ++ m.0.more) (settled_by s e (xs ++ m.0.more) k) (told (xs ++ m.0.more) k)
+push_within s taken_old taken e r Write xs bytes told m = let ys = (xs ++ m.more) ++ m.last ∷ [] in let k = m.fails.counts in within_early s r ys (settled_by s e ys k) (told ys k)
 push_within s taken_old taken e r Read xs bytes told bad = absurd bad
 push_within s taken_old taken e r TooLong xs bytes told bad = absurd bad
 push_within s taken_old taken e r (SampleCut index) xs bytes told bad = absurd bad
 push_within s taken_old taken e r (CodeEnds samples) xs bytes told bad = absurd bad
-push_within s taken_old taken e r (NotYet block) xs bytes told bad = absurd bad
+push_within s taken_old taken e r (RunPastSegment block) xs bytes told bad = absurd bad
+push_within s taken_old taken e r (ResidualTooLarge block) xs bytes told bad = absurd bad

@@ -1,14 +1,10 @@
-pub mod PlainLemmas
-pub mod CoderLemmas
+pub mod BoundLemmas
 pub mod EntryLemmas
 pub mod WholeLemmas
 pub mod SpelledLemmas
 pub mod EncoderLemmas
 pub mod BufferLemmas
 pub mod EndLemmas
-pub mod DecoderLemmas
-pub mod TakenLemmas
-pub mod AnswerLemmas
 pub mod DecodingLemmas
 pub mod DecodedLemmas
 pub mod ReachLemmas

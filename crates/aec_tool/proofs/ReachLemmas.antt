@@ -1,9 +1,11 @@
 -- How decoding ends.
-use Rattle.std.proofs.Common.{◌≡◌, ◌≢◌, ℕ, zero, suc, ◌+◌, ◌-◌, ◌*◌, ◌/◌, ◌<◌, ◌≤◌, min, Bool, true, false, List, [], ◌∷◌, ◌++◌, length, take, drop, refl, ap, arith, sym, ◌∙◌, subst, append_assoc, append-nil, length-append, Option, Some, None, ℤ, pos, inl, inr}
+use Rattle.std.proofs.Common.{◌≡◌, ◌≢◌, ℕ, zero, suc, ◌+◌, ◌-◌, ◌*◌, ◌/◌, ◌%◌, ◌<◌, ◌≤◌, ◌==◌, ◌⊎◌, cond, min, Bool, true, false, List, [], ◌∷◌, ◌++◌, length, take, drop, refl, ap, arith, sym, ◌∙◌, subst, append_assoc, append-nil, length-append, Option, Some, None, ℤ, pos, inl, inr}
 use Rattle.std.specs.Prelude.{Ok, Err, All, Contains, IfSome, IsSomeAnd}
 use Rattle.std.specs.Io.KnownBytes.{Appends, Consumes, IsAtEnd}
 use Rattle.std.proofs.KnownBytes.{Appends-nil, Appends-trans, Consumes-nil, Consumes-trans}
-use Rattle.std.proofs.Math.Nat.{mod-eq_of_lt, mul-div_cancel_left, mul-le-mul_left}
+use Rattle.std.proofs.Math.Nat.{mod-lt, mod-eq_of_lt, mod_self, mul-div_cancel_left, mul-le-mul_left}
+use Rattle.std.proofs.lemmas.Bool.{cases_lt}
+use Rattle.std.proofs.lemmas.Bool.Decides.{nat_tests}
 use Rattle.std.proofs.Math.Seq.{take-length, take-append_seam, drop-append_seam}
 use Rattle.std.proofs.lemmas.List.{length-take-le, length-take, take-append-le}
 use Rattle.std.proofs.lemmas.List.Elements.{Contains-append_left}
@@ -13,31 +15,28 @@ use Rattle.rice_bits.specs.Reader.{Reader, Stops, is_blank}
 use Rattle.rice_bits.specs.declared.fault.BitFault.{BitFault}
 use Rattle.rice_bits.specs.declared.fault.BitFault.TheVariants as bit_faults
 use Rattle.rice_bits.proofs.Bytes.{bits_of-nil, bits_of-append, length-bits_of}
-use Rattle.rice_samples.specs.Parameters.{Parameters, IsLegal, id_len}
+use Rattle.rice_samples.specs.Parameters.{Parameters, IsLegal}
 use Rattle.rice_samples.specs.Places.{place}
 use Rattle.rice_samples.specs.Residuals.{last_of}
 use Rattle.rice_samples.specs.Spelling.{spellings}
-use Rattle.rice_code.specs.Decoded.{Decoded, Ending, EndsWith, Reached, Ended, CutOff, GoesOn, cut_to}
+use Rattle.rice_code.specs.Decoded.{Decoded, Ending, EndsWith, Reached, Ended, CutOff, Past, Large, Refuses, GoesOn, cut_to}
 use Rattle.rice_code.proofs.Filling.{last_append}
-use Rattle.rice_code.specs.Blocks.{contents}
-use Rattle.rice_code.specs.DataSets.{DataSet, NoCompression, text}
-use Rattle.rice_code.specs.Forms.{IsForm}
+use Rattle.rice_code.proofs.Placing.{place_step}
+use Rattle.rice_code.specs.DataSets.{DataSet, text}
+use Rattle.rice_code.specs.Decoder.{Place, StopsBy, SetEnds, SetRefused, marked, moved, next_block_place}
+use Rattle.rice_code.specs.Forms.{IsForm, RunIsSound, ResidualsAreSound}
+use Rattle.rice_code.specs.ReadSets.{SetCut}
+use Rattle.rice_code.specs.declared.fault.CodeFault.{CodeFault}
+use Rattle.rice_code.specs.declared.fault.CodeFault.TheVariants as faults
 use Rattle.aec_tool.specs.Calls.{Call, Happens, Fails, StopsBetween, PassesLimit}
-use Rattle.aec_tool.specs.Decoder.{Place, Answers, StopsBy, GivesBlock, SetCut, SetEnds, OtherOption, marked, moved}
-use Rattle.aec_tool.specs.Decoding.{Decodings, EndsSo, Decodes, RunsOut, MeetsOther, FailsInBlock, at_most, wanted_of, end_of_lem, fault_of_lem}
-use Rattle.aec_tool.specs.Decodings.{Behind, RunsOn}
+use Rattle.aec_tool.specs.Decoding.{Decodings, EndsSo, Decodes, RunsOut, FailsInBlock, at_most, wanted_of, ended_fault, refusal_fault}
+use Rattle.aec_tool.specs.Decodings.{Behind, Gains, RunsOn}
 use Rattle.aec_tool.specs.Writes.{TakesPart}
-use Rattle.aec_tool.specs.Plain.{place_behind}
-use Rattle.aec_tool.specs.declared.plain_decoder.Step.{Step}
-use Rattle.aec_tool.specs.declared.plain_decoder.Step.TheVariants.{Done}
-use Rattle.aec_tool.specs.declared.plain_decoder.CodeFault.{CodeFault}
-use Rattle.aec_tool.specs.declared.plain_decoder.CodeFault.TheVariants as faults
 use Rattle.aec_tool.specs.declared.outcome.Report.{Report}
 use Rattle.aec_tool.specs.declared.outcome.Fault.{Fault}
-use Rattle.aec_tool.specs.declared.outcome.Fault.TheVariants.{Read, Write, TooLong, CodeEnds, NotYet}
-use Rattle.aec_tool.proofs.CoderLemmas.{place_is}
-use Rattle.aec_tool.proofs.DecodedLemmas.{behind_nothing, behind_more, ends_here, cut_nothing, cut_more, cut_none}
-use Rattle.aec_tool.proofs.DecodingLemmas.{block_bits, more_bits, still_asked}
+use Rattle.aec_tool.specs.declared.outcome.Fault.TheVariants.{Read, Write, TooLong, CodeEnds, RunPastSegment, ResidualTooLarge}
+use Rattle.aec_tool.proofs.DecodedLemmas.{behind_nothing, ends_here, ends_reached, cut_nothing, cut_more, cut_none}
+use Rattle.aec_tool.proofs.DecodingLemmas.{still_asked}
 use Rattle.aec_tool.proofs.SpelledLemmas.{spellings-append}
 
 -- more samples are wanted than are written
@@ -64,60 +63,76 @@ wanted_part s (Some m) blocks written xs e n = ap (λ k. take (min (m - k) s.blo
     by_min (suc a) zero (x ∷ xs) e = absurd (omega arith)
     by_min (suc a) (suc j) (x ∷ xs) e = let z : min (suc a) (suc j) ≡ suc (min a j) = omega arith in ap (λ m. take m (x ∷ xs)) z ∙ ap (λ l. x ∷ l) (by_min a j xs (omega arith))
 
+-- the place behind a block
+next_here : (s : Parameters) (b c : ℕ) → IsLegal s → place s b ≡ c → place s (b + 1) ≡ next_block_place s c
+next_here s b c legal e =
+    let lt : c < s.interval = omega (arith, e, mod-lt b legal.interval_from) in
+    let same : place s b ≡ place s c = e ∙ sym (mod-eq_of_lt lt) in
+    place_step s b c same ∙ by_end (cases_lt (c + 1) s.interval) lt
+  where
+    by_end : (c + 1 < s.interval) ⊎ (s.interval ≤ c + 1) → c < s.interval → place s (c + 1) ≡ next_block_place s c
+    by_end (inl inside) lt = let no : (c + 1 == s.interval) ≡ false = grind (arith, nat_tests) in mod-eq_of_lt inside ∙ ap (λ v. cond v 0 (c + 1)) (sym no)
+    by_end (inr end) lt = let yes : (c + 1 == s.interval) ≡ true = grind (arith, nat_tests) in let same : c + 1 ≡ s.interval = omega arith in ap (λ n. n % s.interval) same ∙ mod_self s.interval ∙ ap (λ v. cond v 0 (c + 1)) (sym yes)
+
+pub most_wanted : (asked : Option ℕ) (written block : ℕ) → wanted_of asked written block ≤ block
+most_wanted None written block = omega arith
+most_wanted (Some n) written block = omega arith
+
+-- how the numbers of a decoding grow with a block
+pub record Grows (old_steps new_steps old_taken new_taken written wanted run run_new block : ℕ) : Type 0 where
+  pub limit : new_taken ≤ 4503599627370496
+  pub forward : old_taken ≤ new_taken
+  pub least : old_steps + new_taken + wanted ≤ new_steps + old_taken
+  pub most : new_steps + 2 * old_taken ≤ old_steps + 2 * new_taken + wanted
+  pub few : block + run_new * block ≤ run * block + 456 * (new_taken - old_taken)
+
 -- a block more is written
-pub runs_more : {I : Type 0} (left : I → Option (List ℕ)) (failed : I → ℕ) (s : Parameters) (asked : Option ℕ) (start : I) (out_old out out_new : Option (List ℕ)) (p q : Place) (r new : Reader I) (steps written steps_new : ℕ) (xs : List ℤ) → IsLegal s → s.pad ≡ false →
-    (runs : RunsOn left failed s asked start out_old out p r steps written) → wanted_of asked written s.block ≢ 0 → GivesBlock left failed (marked r) new s runs.blocks p.before xs → q ≡ moved p xs → new.taken ≤ 4503599627370496 →
-    steps_new + r.taken ≡ steps + new.taken + wanted_of asked written s.block → Appends out out_new (spellings s (take (wanted_of asked written s.block) xs)) →
+pub runs_more : {I : Type 0} (left : I → Option (List ℕ)) (failed : I → ℕ) (s : Parameters) (asked : Option ℕ) (start : I) (out_old out out_new : Option (List ℕ)) (p q : Place) (r new : Reader I) (steps written steps_new : ℕ) (xs : List ℤ) → IsLegal s →
+    (runs : RunsOn left failed s asked start out_old out p r steps written) → wanted_of asked written s.block ≢ 0 → Gains left failed s r new runs.front runs.blocks q.run runs.given xs → q ≡ moved p xs q.run →
+    Grows steps steps_new r.taken new.taken written (wanted_of asked written s.block) p.run q.run s.block → Appends out out_new (spellings s (take (wanted_of asked written s.block) xs)) →
     RunsOn left failed s asked start out_old out_new q new steps_new (written + wanted_of asked written s.block)
-runs_more left failed s asked start out_old out out_new p q r new steps written steps_new xs legal pad runs some gives moves limit counted put =
+runs_more left failed s asked start out_old out out_new p q r new steps written steps_new xs legal runs some gains moves grows put =
     let b = runs.blocks in
-    let goes = goes_on s asked b written runs.all runs.behind.len runs.count some in
-    let so_far = all_written s asked b written runs.all runs.behind.len runs.count goes in
-    let d = NoCompression (contents s b p.before xs) in
-    let same : text s d ≡ text s (NoCompression (contents s b (last_of (pos 0) runs.all) xs)) = ap (λ z. text s (NoCompression (contents s b z xs))) runs.before in
-    let front = runs.front ++ text s d in
-    let behind = subst (λ (l : List Bool). Behind s l (b + 1) (runs.all ++ xs)) (ap (λ l. runs.front ++ l) (sym same)) (behind_more s runs.front b runs.all xs legal pad runs.behind gives.len gives.legal) in
-    let draws = gives.takes.draws in
-    let part = wanted_part s asked b written xs so_far.0 gives.len in
-    let cut = cut_more s asked b runs.all xs runs.behind.len in
-    let bits = block_bits left failed r new s b p.before xs legal gives in
-    let more = more_bits s legal in
+    let goes = goes_on s asked b written runs.given runs.behind.len runs.count some in
+    let so_far = all_written s asked b written runs.given runs.behind.len runs.count goes in
+    let draws = gains.draws in
+    let part = wanted_part s asked b written xs so_far.0 gains.len in
+    let cut = cut_more s asked b runs.given xs runs.behind.len in
     let most = most_wanted asked written s.block in
     record {
       blocks = b + 1;
       bytes = runs.bytes ++ draws.given;
-      front = front;
-      all = runs.all ++ xs;
+      front = runs.front ++ gains.bits;
+      given = runs.given ++ xs;
       setting = ap (λ p. p.setting) moves ∙ runs.setting;
-      here = place_is s b legal ∙ (λ j. place_behind (sym runs.setting j) (runs.here j)) ∙ sym (ap (λ p. p.block) moves);
-      before = ap (λ p. p.before) moves ∙ ap (λ z. last_of z xs) runs.before ∙ sym (last_append (pos 0) runs.all xs);
+      here = next_here s b p.block legal runs.here ∙ ap (λ t. next_block_place t p.block) (sym runs.setting) ∙ sym (ap (λ p. p.block) moves);
+      previous = ap (λ p. p.before) moves ∙ ap (λ z. last_of z xs) runs.previous ∙ sym (last_append (pos 0) runs.given xs);
       going = ap (λ p. p.stopped) moves ∙ runs.going;
-      reader_going = gives.takes.going;
+      reader_going = gains.going;
       gave = Consumes-trans (left start) (left r.intake) (left new.intake) runs.bytes draws.given runs.gave draws.consumed;
-      bits = bits_of-append runs.bytes draws.given ∙ ap (λ l. l ++ bits_of draws.given) runs.bits ∙ append_assoc runs.front r.waiting (bits_of draws.given) ∙ ap (λ l. runs.front ++ l) draws.split ∙ sym (append_assoc runs.front (text s d) new.waiting);
-      taken = gives.takes.taken ∙ ap (λ n. n + length (text s d)) runs.taken ∙ sym (length-append runs.front (text s d));
-      limit = limit;
-      behind = behind;
+      bits = bits_of-append runs.bytes draws.given ∙ ap (λ l. l ++ bits_of draws.given) runs.bits ∙ append_assoc runs.front r.waiting (bits_of draws.given) ∙ ap (λ l. runs.front ++ l) draws.split ∙ sym (append_assoc runs.front gains.bits new.waiting);
+      taken = gains.taken ∙ ap (λ n. n + length gains.bits) runs.taken ∙ sym (length-append runs.front gains.bits);
+      limit = grows.limit;
+      begun = gains.begun;
+      before = gains.before;
+      behind = gains.behind;
       wanted = λ i lt. one_more_wanted s asked b i runs.wanted goes lt;
-      count = so_many (wanted_of asked written s.block) (omega (arith, most, gives.len)) (ap length (sym part)) cut;
-      few = omega (arith, runs.few, bits, more, most);
+      count = so_many (wanted_of asked written s.block) (omega (arith, most, gains.len)) (ap length (sym part)) cut;
+      few = omega (arith, runs.few, grows.few, grows.forward, most);
       asked_for = still_asked asked written s.block runs.asked_for;
-      counted = omega (arith, counted, runs.counted);
-      reads = gives.takes.failures ∙ runs.reads;
-      put = subst (λ (l : List ℕ). Appends out_old out_new l) (ap (λ l. spellings s (cut_to s asked 0 runs.all) ++ spellings s l) part ∙ sym (spellings-append s (cut_to s asked 0 runs.all) (cut_to s asked b xs)) ∙ ap (spellings s) (sym cut))
-          (Appends-trans out_old out out_new (spellings s (cut_to s asked 0 runs.all)) (spellings s (take (wanted_of asked written s.block) xs)) runs.put put);
+      least = omega (arith, grows.least, runs.least);
+      most = omega (arith, grows.most, runs.most);
+      reads = gains.failures ∙ runs.reads;
+      put = subst (λ (l : List ℕ). Appends out_old out_new l) (ap (λ l. spellings s (cut_to s asked 0 runs.given) ++ spellings s l) part ∙ sym (spellings-append s (cut_to s asked 0 runs.given) (cut_to s asked b xs)) ∙ ap (spellings s) (sym cut))
+          (Appends-trans out_old out out_new (spellings s (cut_to s asked 0 runs.given)) (spellings s (take (wanted_of asked written s.block) xs)) runs.put put);
     }
   where
-    most_wanted : (asked : Option ℕ) (written block : ℕ) → wanted_of asked written block ≤ block
-    most_wanted None written block = omega arith
-    most_wanted (Some n) written block = omega arith
-
     one_more_wanted : (s : Parameters) (asked : Option ℕ) (b i : ℕ) → ((i : ℕ) → i < b → GoesOn s asked i) → GoesOn s asked b → i < b + 1 → GoesOn s asked i
     one_more_wanted s None b i h k lt = tt
     one_more_wanted s (Some n) b i h k lt = let le : s.block * i ≤ s.block * b = mul-le-mul_left s.block (omega arith) in let k' : s.block * b < n = k in omega arith
 
-    so_many : (w : ℕ) → w ≤ length xs → length (cut_to s asked runs.blocks xs) ≡ length (take w xs) → cut_to s asked 0 (runs.all ++ xs) ≡ cut_to s asked 0 runs.all ++ cut_to s asked runs.blocks xs → written + w ≡ length (cut_to s asked 0 (runs.all ++ xs))
-    so_many w le part cut = omega (arith, runs.count, ap length cut, length-append (cut_to s asked 0 runs.all) (cut_to s asked runs.blocks xs), part, length-take-le w xs le)
+    so_many : (w : ℕ) → w ≤ length xs → length (cut_to s asked runs.blocks xs) ≡ length (take w xs) → cut_to s asked 0 (runs.given ++ xs) ≡ cut_to s asked 0 runs.given ++ cut_to s asked runs.blocks xs → written + w ≡ length (cut_to s asked 0 (runs.given ++ xs))
+    so_many w le part cut = omega (arith, runs.count, ap length cut, length-append (cut_to s asked 0 runs.given) (cut_to s asked runs.blocks xs), part, length-take-le w xs le)
 
 -- what a report tells of a decoding
 pub record Tells (r : Report) (samples bits steps : ℕ) : Type 0 where
@@ -133,13 +148,26 @@ Ends s asked left_old left_new out_old out r fault = (c : Call) × Happens left_
 ahead : (bytes : List ℕ) (front waiting : List Bool) (bits : ℕ) → bits_of bytes ≡ front ++ waiting → length waiting ≤ 32768 → bits ≡ length front → length bytes ≤ bits / 8 + 4096
 ahead bytes front waiting bits e few n = let a = length-bits_of bytes in let b = ap length e in let c = length-append front waiting in omega arith
 
+-- the coded data sets so far are wanted
+begun_wanted : {I : Type 0} (left : I → Option (List ℕ)) (failed : I → ℕ) (s : Parameters) (asked : Option ℕ) (start : I) (out_old out : Option (List ℕ)) (p : Place) (r : Reader I) (steps written : ℕ) → (runs : RunsOn left failed s asked start out_old out p r steps written) → (i : ℕ) → i < runs.begun → GoesOn s asked i
+begun_wanted left failed s asked start out_old out p r steps written runs i lt = runs.wanted i (omega (arith, lt, runs.before))
+
+-- no run goes on
+pub at_set : {I : Type 0} (left : I → Option (List ℕ)) (failed : I → ℕ) (s : Parameters) (asked : Option ℕ) (start : I) (out_old out : Option (List ℕ)) (p : Place) (r : Reader I) (steps written : ℕ) → (runs : RunsOn left failed s asked start out_old out p r steps written) → p.run ≡ 0 → Behind s runs.front runs.begun runs.blocks 0 runs.given
+at_set left failed s asked start out_old out p r steps written runs none = subst (λ (n : ℕ). Behind s runs.front runs.begun runs.blocks n runs.given) none runs.behind
+
 -- the samples that were asked for are reached
 pub reached_ends : {I : Type 0} (left : I → Option (List ℕ)) (failed : I → ℕ) (s : Parameters) (asked : Option ℕ) (start : I) (out_old out : Option (List ℕ)) (p : Place) (r : Reader I) (steps written : ℕ) (rep : Report) (f : Option Fault) → IsLegal s →
     (runs : RunsOn left failed s asked start out_old out p r steps written) → wanted_of asked written s.block ≡ 0 → Tells rep written r.taken steps → length r.waiting ≤ 32768 → f ≡ None → Ends s asked (left start) (left r.intake) out_old out rep f
-reached_ends left failed s asked start out_old out p r steps written rep f legal runs none tells few is =
-    let ys = cut_to s asked 0 runs.all in
+reached_ends left failed s None start out_old out p r steps written rep f legal runs none tells few is = absurd (let j : 8 ≤ s.block = grind (arith, legal.block) in omega arith)
+reached_ends left failed s (Some n) start out_old out p r steps written rep f legal runs none tells few is =
+    let j : 8 ≤ s.block = grind (arith, legal.block) in
+    let asked = Some n in
+    let ys = cut_to s asked 0 runs.given in
     let c : Call = record { given = runs.bytes; left = left r.intake; written = spellings s ys } in
-    let decoded = ends_here s runs.front r.waiting runs.blocks runs.all asked Reached 0 runs.behind runs.wanted (reached asked none runs.count, refl) in
+    let k = length-take (n - s.block * 0) runs.given in
+    let enough : n ≤ s.block * runs.blocks = omega (arith, none, runs.count, k, runs.behind.len) in
+    let decoded = ends_reached s runs.front r.waiting runs.begun runs.blocks p.run runs.given n legal runs.behind (begun_wanted left failed s asked start out_old out p r steps written runs) enough in
     let used : length runs.front + 0 ≡ r.taken = omega (arith, runs.taken) in
     let all : Decoded s (bits_of runs.bytes) asked ys Reached (length runs.front + 0) = subst (λ (l : List Bool). Decoded s l asked ys Reached (length runs.front + 0)) (sym runs.bits) decoded in
     let ends : EndsSo s asked None c rep ys Reached = ((length runs.front + 0, all, record { written = refl; samples = tells.samples_are ∙ runs.count; bits = tells.bits_are ∙ sym used }), inl refl) in (
@@ -147,10 +175,6 @@ reached_ends left failed s asked start out_old out p r steps written rep f legal
       record { gave = runs.gave; left = refl; took = runs.put },
       record { samples = ys; ending = Reached; ends = subst (λ (f : Option Fault). EndsSo s asked f c rep ys Reached) (sym is) ends; ahead = ahead runs.bytes runs.front r.waiting rep.bits runs.bits few (tells.bits_are ∙ runs.taken) },
     )
-  where
-    reached : (asked : Option ℕ) → wanted_of asked written s.block ≡ 0 → written ≡ length (cut_to s asked 0 runs.all) → IsSomeAnd asked (λ n. n ≤ s.block * runs.blocks)
-    reached None none count = absurd (let j : 8 ≤ s.block = grind (arith, legal.block) in omega arith)
-    reached (Some n) none count = let j : 8 ≤ s.block = grind (arith, legal.block) in let k = length-take (n - s.block * 0) runs.all in omega (arith, none, count, k, runs.behind.len)
 
 -- All that the intake gave was taken.
 record Drained {I : Type 0} (left : I → Option (List ℕ)) (start new : I) (middle : Option (List ℕ)) (front bits : List Bool) : Type 0 where
@@ -196,22 +220,22 @@ ends_out s asked b bits false goes e none = (goes, some_one bits e, none, refl)
 
 -- the fault where all bits are taken and the intake has ended
 abbrev pub fault_at_end : Option ℕ → Bool → ℕ → Option Fault
-fault_at_end asked true written = end_of_lem asked written
+fault_at_end asked true written = ended_fault asked written
 fault_at_end asked false written = Some (CodeEnds written)
 
 -- no 1 is left, or no data set begins with what is left, where the intake has ended
 pub ended_ends : {I : Type 0} (left : I → Option (List ℕ)) (failed : I → ℕ) (s : Parameters) (asked : Option ℕ) (start : I) (out_old out : Option (List ℕ)) (p : Place) (r new : Reader I) (steps written steps_new : ℕ) (blank : Bool) (rep : Report) (f : Option Fault) →
-    (runs : RunsOn left failed s asked start out_old out p r steps written) → wanted_of asked written s.block ≢ 0 → SetEnds left failed (marked r) new s runs.blocks blank → Tells rep written new.taken steps_new → f ≡ fault_at_end asked blank written →
+    (runs : RunsOn left failed s asked start out_old out p r steps written) → wanted_of asked written s.block ≢ 0 → p.run ≡ 0 → SetEnds left failed (marked r) new s runs.blocks blank → Tells rep written new.taken steps_new → f ≡ fault_at_end asked blank written →
     Ends s asked (left start) (left new.intake) out_old out rep f
 unfolding ending_of
-ended_ends left failed s asked start out_old out p r new steps written steps_new blank rep f runs some ends tells is =
+ended_ends left failed s asked start out_old out p r new steps written steps_new blank rep f runs some none ends tells is =
     let bits = ends.cut.bits in
     let stops = ends.cut.stops in
     let all = drained left failed s asked start out_old out p r new steps written bits (bit_faults.End blank) runs stops in
-    let ys = cut_to s asked 0 runs.all in
+    let ys = cut_to s asked 0 runs.given in
     let c : Call = record { given = all.total; left = left new.intake; written = spellings s ys } in
-    let goes = goes_on s asked runs.blocks written runs.all runs.behind.len runs.count some in
-    let out_of = ends_here s runs.front bits runs.blocks runs.all asked (ending_of blank) (length bits) runs.behind runs.wanted (ends_out s asked runs.blocks bits blank goes ends.told ends.cut.none) in
+    let goes = goes_on s asked runs.blocks written runs.given runs.behind.len runs.count some in
+    let out_of = ends_here s runs.front bits runs.begun runs.blocks runs.given asked (ending_of blank) (length bits) (at_set left failed s asked start out_old out p r steps written runs none) (begun_wanted left failed s asked start out_old out p r steps written runs) (ends_out s asked runs.blocks bits blank goes ends.told ends.cut.none) in
     let used : length runs.front + length bits ≡ new.taken = omega (arith, runs.taken, stops.taken) in
     let decodes : Decodes s asked c rep all.total ys (ending_of blank) = (
       length runs.front + length bits,
@@ -235,17 +259,17 @@ ended_ends left failed s asked start out_old out p r new steps written steps_new
 
 -- the intake failed
 pub read_ends : {I : Type 0} (left : I → Option (List ℕ)) (failed : I → ℕ) (s : Parameters) (asked : Option ℕ) (start : I) (out_old out : Option (List ℕ)) (p : Place) (r new : Reader I) (steps written steps_new : ℕ) (rep : Report) (f : Option Fault) →
-    (runs : RunsOn left failed s asked start out_old out p r steps written) → wanted_of asked written s.block ≢ 0 → SetCut left failed (marked r) new s runs.blocks bit_faults.Read → Tells rep written new.taken steps_new → f ≡ Some Read →
+    (runs : RunsOn left failed s asked start out_old out p r steps written) → wanted_of asked written s.block ≢ 0 → p.run ≡ 0 → SetCut left failed (marked r) new s runs.blocks bit_faults.Read → Tells rep written new.taken steps_new → f ≡ Some Read →
     Ends s asked (left start) (left new.intake) out_old out rep f
-read_ends left failed s asked start out_old out p r new steps written steps_new rep f runs some cut tells is =
+read_ends left failed s asked start out_old out p r new steps written steps_new rep f runs some none cut tells is =
     let bits = cut.bits in
     let stops = cut.stops in
     let ending = ending_of (is_blank bits) in
     let all = drained left failed s asked start out_old out p r new steps written bits bit_faults.Read runs stops in
-    let ys = cut_to s asked 0 runs.all in
+    let ys = cut_to s asked 0 runs.given in
     let c : Call = record { given = all.total; left = left new.intake; written = spellings s ys } in
-    let goes = goes_on s asked runs.blocks written runs.all runs.behind.len runs.count some in
-    let out_of = ends_here s runs.front bits runs.blocks runs.all asked ending (length bits) runs.behind runs.wanted (ends_out s asked runs.blocks bits (is_blank bits) goes refl cut.none) in
+    let goes = goes_on s asked runs.blocks written runs.given runs.behind.len runs.count some in
+    let out_of = ends_here s runs.front bits runs.begun runs.blocks runs.given asked ending (length bits) (at_set left failed s asked start out_old out p r steps written runs none) (begun_wanted left failed s asked start out_old out p r steps written runs) (ends_out s asked runs.blocks bits (is_blank bits) goes refl cut.none) in
     let used : length runs.front + length bits ≡ new.taken = omega (arith, runs.taken, stops.taken) in
     let decodes : Decodes s asked c rep all.total ys ending = (
       length runs.front + length bits,
@@ -265,18 +289,18 @@ read_ends left failed s asked start out_old out p r new steps written steps_new 
 
 -- the byte past the limit was given
 pub long_ends : {I : Type 0} (left : I → Option (List ℕ)) (failed : I → ℕ) (s : Parameters) (asked : Option ℕ) (start : I) (out_old out : Option (List ℕ)) (p : Place) (r new : Reader I) (steps written steps_new : ℕ) (rep : Report) (f : Option Fault) →
-    (runs : RunsOn left failed s asked start out_old out p r steps written) → wanted_of asked written s.block ≢ 0 → SetCut left failed (marked r) new s runs.blocks bit_faults.TooLong → Tells rep written new.taken steps_new → f ≡ Some TooLong →
+    (runs : RunsOn left failed s asked start out_old out p r steps written) → wanted_of asked written s.block ≢ 0 → p.run ≡ 0 → SetCut left failed (marked r) new s runs.blocks bit_faults.TooLong → Tells rep written new.taken steps_new → f ≡ Some TooLong →
     Ends s asked (left start) (left new.intake) out_old out rep f
-long_ends left failed s asked start out_old out p r new steps written steps_new rep f runs some cut tells is =
+long_ends left failed s asked start out_old out p r new steps written steps_new rep f runs some none cut tells is =
     let bits = cut.bits in
     let stops = cut.stops in
     let ending = ending_of (is_blank bits) in
     let all = drained left failed s asked start out_old out p r new steps written bits bit_faults.TooLong runs stops in
     let last = stops.refuses.0.0 in
-    let ys = cut_to s asked 0 runs.all in
+    let ys = cut_to s asked 0 runs.given in
     let c : Call = record { given = all.total ++ last ∷ []; left = left new.intake; written = spellings s ys } in
-    let goes = goes_on s asked runs.blocks written runs.all runs.behind.len runs.count some in
-    let out_of = ends_here s runs.front bits runs.blocks runs.all asked ending (length bits) runs.behind runs.wanted (ends_out s asked runs.blocks bits (is_blank bits) goes refl cut.none) in
+    let goes = goes_on s asked runs.blocks written runs.given runs.behind.len runs.count some in
+    let out_of = ends_here s runs.front bits runs.begun runs.blocks runs.given asked ending (length bits) (at_set left failed s asked start out_old out p r steps written runs none) (begun_wanted left failed s asked start out_old out p r steps written runs) (ends_out s asked runs.blocks bits (is_blank bits) goes refl cut.none) in
     let used : length runs.front + length bits ≡ new.taken = omega (arith, runs.taken, stops.taken) in
     let decodes : Decodes s asked c rep all.total ys ending = (
       length runs.front + length bits,
@@ -298,49 +322,65 @@ long_ends left failed s asked start out_old out p r new steps written steps_new 
     past : {n m b : ℕ} → n ≡ m + 1 → m ≡ 562949953421312 → b ≡ 4503599627370496 → n ≤ b / 8 + 4096
     past e h k = omega arith
 
--- another option comes
-pub other_ends : {I : Type 0} (left : I → Option (List ℕ)) (failed : I → ℕ) (s : Parameters) (asked : Option ℕ) (start : I) (out_old out : Option (List ℕ)) (p : Place) (r new : Reader I) (steps written steps_new : ℕ) (rep : Report) (f : Option Fault) → IsLegal s →
-    (runs : RunsOn left failed s asked start out_old out p r steps written) → wanted_of asked written s.block ≢ 0 → OtherOption left failed (marked r) new s → Tells rep written new.taken steps_new → length new.waiting ≤ 32768 → f ≡ Some (NotYet (written / s.block)) →
-    Ends s asked (left start) (left new.intake) out_old out rep f
-other_ends left failed s asked start out_old out p r new steps written steps_new rep f legal runs some other tells few is =
+-- What a call has done that refuses a coded data set.
+record Refusal {I : Type 0} (left : I → Option (List ℕ)) (s : Parameters) (asked : Option ℕ) (start new : I) (out_old out : Option (List ℕ)) (rep : Report) (written : ℕ) (ending : Ending) : Type 0 where
+  pub call : Call
+  pub happens : Happens (left start) (left new) out_old out call
+  pub samples : List ℤ
+  pub decodes : Decodes s asked call rep call.given samples ending
+  pub count : length samples ≡ s.block * (written / s.block)
+  pub ahead_of : length call.given ≤ rep.bits / 8 + 4096
+
+refusal : {I : Type 0} (left : I → Option (List ℕ)) (failed : I → ℕ) (s : Parameters) (asked : Option ℕ) (start : I) (out_old out : Option (List ℕ)) (p : Place) (r new : Reader I) (steps written steps_new : ℕ) (rep : Report) (P : DataSet → Type 0) (ending : Ending) → IsLegal s →
+    (runs : RunsOn left failed s asked start out_old out p r steps written) → wanted_of asked written s.block ≢ 0 → p.run ≡ 0 → SetRefused left failed (marked r) new s runs.blocks P →
+    ((rest : List Bool) (used : ℕ) → GoesOn s asked runs.blocks → Refuses s runs.blocks rest used P → EndsWith s asked runs.blocks rest ending used) → Tells rep written new.taken steps_new → length new.waiting ≤ 32768 →
+    Refusal left s asked start new.intake out_old out rep written ending
+refusal left failed s asked start out_old out p r new steps written steps_new rep P ending legal runs some none refused by_rule tells few =
     let b = runs.blocks in
     let j : 1 ≤ s.block = let k : 8 ≤ s.block = grind (arith, legal.block) in omega arith in
-    let draws = other.takes.draws in
+    let set = text s refused.set in
+    let draws = refused.takes.draws in
     let total = runs.bytes ++ draws.given in
-    let rest = other.bits ++ new.waiting in
+    let rest = set ++ new.waiting in
     let bits_are : bits_of total ≡ runs.front ++ rest = bits_of-append runs.bytes draws.given ∙ ap (λ l. l ++ bits_of draws.given) runs.bits ∙ append_assoc runs.front r.waiting (bits_of draws.given) ∙ ap (λ l. runs.front ++ l) draws.split in
-    let goes = goes_on s asked b written runs.all runs.behind.len runs.count some in
-    let so_far = all_written s asked b written runs.all runs.behind.len runs.count goes in
-    let c : Call = record { given = total; left = left new.intake; written = spellings s (cut_to s asked 0 runs.all) } in
-    let count = s.block * b in
-    let exact : cut_to s (Some count) 0 runs.all ≡ runs.all = (let n : count - s.block * 0 ≡ length runs.all = omega (arith, runs.behind.len) in ap (λ n. take n runs.all) n ∙ take-length runs.all) in
-    let at_block : EndsWith s (Some count) b rest Reached 0 = (omega arith, refl) in
-    let here = ends_here s runs.front rest b runs.all (Some count) Reached 0 runs.behind (λ i lt. below s.block i b j lt) at_block in
-    let decoded : Decoded s (bits_of total) (Some count) runs.all Reached (length runs.front + 0) = subst (λ (l : List ℤ). Decoded s (bits_of total) (Some count) l Reached (length runs.front + 0)) exact
-    (subst (λ (l : List Bool). Decoded s l (Some count) (cut_to s (Some count) 0 runs.all) Reached (length runs.front + 0)) (sym bits_are) here) in
-    let used : length runs.front + 0 ≡ length runs.front = omega arith in
-    let behind : drop (length runs.front + 0) (bits_of total) ≡ rest = (λ i. drop (used i) (bits_are i)) ∙ drop-append_seam runs.front rest in
-    let meets : MeetsOther s asked c rep b runs.all = record {
-      wanted = goes;
-      used = length runs.front + 0;
-      decoded = decoded;
-      written = ap (spellings s) so_far.1;
-      samples = tells.samples_are ∙ so_far.0 ∙ sym runs.behind.len;
-      one = subst (λ (l : List Bool). Contains l true) (sym behind) (Contains-append_left other.bits new.waiting true (some_one other.bits other.one));
-      enough = subst (λ (l : List Bool). id_len s ≤ length l) (sym behind) (omega (arith, other.enough, length-append other.bits new.waiting));
-      other = λ e. other.other (sym (ap (λ l. take (id_len s) l) behind ∙ take-append-le (id_len s) other.bits new.waiting other.enough) ∙ e);
-    } in
+    let goes = goes_on s asked b written runs.given runs.behind.len runs.count some in
+    let so_far = all_written s asked b written runs.given runs.behind.len runs.count goes in
+    let ys = cut_to s asked 0 runs.given in
+    let refuses : Refuses s b rest (length set) P = record { refused = refused.set; more = new.waiting; form = refused.form; unsound = refused.unsound; begins = refl; bits = refl } in
+    let here = ends_here s runs.front rest runs.begun b runs.given asked ending (length set) (at_set left failed s asked start out_old out p r steps written runs none) (begun_wanted left failed s asked start out_old out p r steps written runs) (by_rule rest (length set) goes refuses) in
+    let used : length runs.front + length set ≡ rep.bits = sym (tells.bits_are ∙ refused.takes.taken ∙ ap (λ n. n + length set) runs.taken) in
+    let whole : bits_of total ≡ (runs.front ++ set) ++ new.waiting = bits_are ∙ sym (append_assoc runs.front set new.waiting) in
     let number : written / s.block ≡ b = ap (λ n. n / s.block) so_far.0 ∙ mul-div_cancel_left b j in
-    let ends : EndsSo s asked (Some (NotYet b)) c rep runs.all Reached = (meets, refl) in
-    let bits_split : bits_of total ≡ (runs.front ++ other.bits) ++ new.waiting = bits_are ∙ sym (append_assoc runs.front other.bits new.waiting) in
-    let taken : rep.bits ≡ length (runs.front ++ other.bits) = tells.bits_are ∙ other.takes.taken ∙ ap (λ n. n + length other.bits) runs.taken ∙ sym (length-append runs.front other.bits) in (
-      c,
-      record { gave = Consumes-trans (left start) (left r.intake) (left new.intake) runs.bytes draws.given runs.gave draws.consumed; left = refl; took = runs.put },
-      record { samples = runs.all; ending = Reached; ends = subst (λ (f : Option Fault). EndsSo s asked f c rep runs.all Reached) (sym (is ∙ ap (λ n. Some (NotYet n)) number)) ends; ahead = ahead total (runs.front ++ other.bits) new.waiting rep.bits bits_split few taken },
-    )
-  where
-    below : (m i b : ℕ) → 1 ≤ m → i < b → m * i < m * b
-    below m i b h lt = let p = mul-le-mul_left m lt in omega arith
+    record {
+      call = record { given = total; left = left new.intake; written = spellings s ys };
+      happens = record { gave = Consumes-trans (left start) (left r.intake) (left new.intake) runs.bytes draws.given runs.gave draws.consumed; left = refl; took = runs.put };
+      samples = ys;
+      decodes = (
+        length runs.front + length set,
+        subst (λ (l : List Bool). Decoded s l asked ys ending (length runs.front + length set)) (sym bits_are) here,
+        record { written = refl; samples = tells.samples_are ∙ runs.count; bits = sym used },
+      );
+      count = sym runs.count ∙ so_far.0 ∙ ap (λ n. s.block * n) (sym number);
+      ahead_of = ahead total (runs.front ++ set) new.waiting rep.bits whole few (sym used ∙ sym (length-append runs.front set));
+    }
+
+-- a run passes its segment
+pub past_ends : {I : Type 0} (left : I → Option (List ℕ)) (failed : I → ℕ) (s : Parameters) (asked : Option ℕ) (start : I) (out_old out : Option (List ℕ)) (p : Place) (r new : Reader I) (steps written steps_new : ℕ) (rep : Report) (f : Option Fault) → IsLegal s →
+    (runs : RunsOn left failed s asked start out_old out p r steps written) → wanted_of asked written s.block ≢ 0 → p.run ≡ 0 → SetRefused left failed (marked r) new s runs.blocks (RunIsSound s runs.blocks) → Tells rep written new.taken steps_new → length new.waiting ≤ 32768 → f ≡ Some (RunPastSegment (written / s.block)) →
+    Ends s asked (left start) (left new.intake) out_old out rep f
+past_ends left failed s asked start out_old out p r new steps written steps_new rep f legal runs some none refused tells few is =
+    let k = refusal left failed s asked start out_old out p r new steps written steps_new rep (RunIsSound s runs.blocks) Past legal runs some none refused (λ rest used goes h. (goes, h)) tells few in
+    let ends : EndsSo s asked (Some (RunPastSegment (written / s.block))) k.call rep k.samples Past = (k.decodes, refl, k.count) in
+    (k.call, k.happens, record { samples = k.samples; ending = Past; ends = subst (λ (f : Option Fault). EndsSo s asked f k.call rep k.samples Past) (sym is) ends; ahead = k.ahead_of })
+
+-- a residual is too large
+pub large_ends : {I : Type 0} (left : I → Option (List ℕ)) (failed : I → ℕ) (s : Parameters) (asked : Option ℕ) (start : I) (out_old out : Option (List ℕ)) (p : Place) (r new : Reader I) (steps written steps_new : ℕ) (rep : Report) (f : Option Fault) → IsLegal s →
+    (runs : RunsOn left failed s asked start out_old out p r steps written) → wanted_of asked written s.block ≢ 0 → p.run ≡ 0 → SetRefused left failed (marked r) new s runs.blocks (ResidualsAreSound s) → Tells rep written new.taken steps_new → length new.waiting ≤ 32768 → f ≡ Some (ResidualTooLarge (written / s.block)) →
+    Ends s asked (left start) (left new.intake) out_old out rep f
+large_ends left failed s asked start out_old out p r new steps written steps_new rep f legal runs some none refused tells few is =
+    let k = refusal left failed s asked start out_old out p r new steps written steps_new rep (ResidualsAreSound s) Large legal runs some none refused (λ rest used goes h. (goes, h)) tells few in
+    let ends : EndsSo s asked (Some (ResidualTooLarge (written / s.block))) k.call rep k.samples Large = (k.decodes, refl, k.count) in
+    (k.call, k.happens, record { samples = k.samples; ending = Large; ends = subst (λ (f : Option Fault). EndsSo s asked f k.call rep k.samples Large) (sym is) ends; ahead = k.ahead_of })
 
 -- the first of some elements, as many as the first of them are
 take_same : (n : ℕ) (xs : List ℤ) → take (length (take n xs)) xs ≡ take n xs
@@ -349,39 +389,35 @@ take_same (suc n) [] = refl
 take_same (suc n) (x ∷ xs) = ap (λ l. x ∷ l) (take_same n xs)
 
 -- the outlet failed in a block
-pub write_ends : {I : Type 0} (left : I → Option (List ℕ)) (failed : I → ℕ) (s : Parameters) (asked : Option ℕ) (start : I) (out_old out out_new : Option (List ℕ)) (p : Place) (r new : Reader I) (steps written steps_new : ℕ) (xs : List ℤ) (rep : Report) (f : Option Fault) → IsLegal s → s.pad ≡ false →
-    (runs : RunsOn left failed s asked start out_old out p r steps written) → wanted_of asked written s.block ≢ 0 → GivesBlock left failed (marked r) new s runs.blocks p.before xs → TakesPart out out_new (spellings s (take (wanted_of asked written s.block) xs)) →
+pub write_ends : {I : Type 0} (left : I → Option (List ℕ)) (failed : I → ℕ) (s : Parameters) (asked : Option ℕ) (start : I) (out_old out out_new : Option (List ℕ)) (p q : Place) (r new : Reader I) (steps written steps_new : ℕ) (xs : List ℤ) (rep : Report) (f : Option Fault) → IsLegal s →
+    (runs : RunsOn left failed s asked start out_old out p r steps written) → wanted_of asked written s.block ≢ 0 → Gains left failed s r new runs.front runs.blocks q.run runs.given xs → TakesPart out out_new (spellings s (take (wanted_of asked written s.block) xs)) →
     Tells rep written new.taken steps_new → length new.waiting ≤ 32768 → f ≡ Some Write → Ends s asked (left start) (left new.intake) out_old out_new rep f
-write_ends left failed s asked start out_old out out_new p r new steps written steps_new xs rep f legal pad runs some gives part tells few is =
+write_ends left failed s asked start out_old out out_new p q r new steps written steps_new xs rep f legal runs some gives part tells few is =
     let b = runs.blocks in
-    let j : 1 ≤ s.block = let k : 8 ≤ s.block = grind (arith, legal.block) in omega arith in
-    let goes = goes_on s asked b written runs.all runs.behind.len runs.count some in
-    let so_far = all_written s asked b written runs.all runs.behind.len runs.count goes in
-    let d = NoCompression (contents s b p.before xs) in
-    let same : text s d ≡ text s (NoCompression (contents s b (last_of (pos 0) runs.all) xs)) = ap (λ z. text s (NoCompression (contents s b z xs))) runs.before in
-    let front = runs.front ++ text s d in
-    let behind = subst (λ (l : List Bool). Behind s l (b + 1) (runs.all ++ xs)) (ap (λ l. runs.front ++ l) (sym same)) (behind_more s runs.front b runs.all xs legal pad runs.behind gives.len gives.legal) in
-    let draws = gives.takes.draws in
+    let goes = goes_on s asked b written runs.given runs.behind.len runs.count some in
+    let so_far = all_written s asked b written runs.given runs.behind.len runs.count goes in
+    let front = runs.front ++ gives.bits in
+    let draws = gives.draws in
     let total = runs.bytes ++ draws.given in
-    let bits_are : bits_of total ≡ front ++ new.waiting = bits_of-append runs.bytes draws.given ∙ ap (λ l. l ++ bits_of draws.given) runs.bits ∙ append_assoc runs.front r.waiting (bits_of draws.given) ∙ ap (λ l. runs.front ++ l) draws.split ∙ sym (append_assoc runs.front (text s d) new.waiting) in
-    let taken : rep.bits ≡ length front = tells.bits_are ∙ gives.takes.taken ∙ ap (λ n. n + length (text s d)) runs.taken ∙ sym (length-append runs.front (text s d)) in
+    let bits_are : bits_of total ≡ front ++ new.waiting = bits_of-append runs.bytes draws.given ∙ ap (λ l. l ++ bits_of draws.given) runs.bits ∙ append_assoc runs.front r.waiting (bits_of draws.given) ∙ ap (λ l. runs.front ++ l) draws.split ∙ sym (append_assoc runs.front gives.bits new.waiting) in
+    let taken : rep.bits ≡ length front = tells.bits_are ∙ gives.taken ∙ ap (λ n. n + length gives.bits) runs.taken ∙ sym (length-append runs.front gives.bits) in
     let w = wanted_of asked written s.block in
     let most = most_wanted asked written s.block in
     let piece = wanted_part s asked b written xs so_far.0 gives.len in
-    let ys = cut_to s asked 0 (runs.all ++ xs) in
-    let cut : ys ≡ cut_to s asked 0 runs.all ++ cut_to s asked b xs = cut_more s asked b runs.all xs runs.behind.len in
+    let ys = cut_to s asked 0 (runs.given ++ xs) in
+    let cut : ys ≡ cut_to s asked 0 runs.given ++ cut_to s asked b xs = cut_more s asked b runs.given xs runs.behind.len in
     let size : length ys ≡ written + w = counted w (omega (arith, most, gives.len)) (ap length (sym piece)) cut in
-    let wanted : (i : ℕ) → i < b + 1 → GoesOn s (Some (length ys)) i = λ i lt. below s.block i b (length ys) written w size so_far.0 some lt in
+    let wanted : (i : ℕ) → i < gives.begun → GoesOn s (Some (length ys)) i = λ i lt. below s.block i b (length ys) written w size so_far.0 some (omega (arith, lt, gives.before)) in
     let bound : length ys ≤ s.block * (b + 1) = up_to s.block b (length ys) written w size so_far.0 most in
-    let here = ends_here s front new.waiting (b + 1) (runs.all ++ xs) (Some (length ys)) Reached 0 behind wanted (bound, refl) in
-    let exact : cut_to s (Some (length ys)) 0 (runs.all ++ xs) ≡ ys = exactly asked in
+    let here = ends_reached s front new.waiting gives.begun (b + 1) q.run (runs.given ++ xs) (length ys) legal gives.behind wanted bound in
+    let exact : cut_to s (Some (length ys)) 0 (runs.given ++ xs) ≡ ys = exactly asked in
     let used : length front + 0 ≡ rep.bits = omega (arith, taken) in
     let decoded : Decoded s (bits_of total) (Some (length ys)) ys Reached rep.bits = subst (λ (n : ℕ). Decoded s (bits_of total) (Some (length ys)) ys Reached n) used (subst (λ (l : List ℤ). Decoded s (bits_of total) (Some (length ys)) l Reached (length front + 0)) exact
-    (subst (λ (l : List Bool). Decoded s l (Some (length ys)) (cut_to s (Some (length ys)) 0 (runs.all ++ xs)) Reached (length front + 0)) (sym bits_are) here)) in
-    let all_of : spellings s ys ≡ spellings s (cut_to s asked 0 runs.all) ++ spellings s (take w xs) = ap (spellings s) cut ∙ spellings-append s (cut_to s asked 0 runs.all) (cut_to s asked b xs) ∙ ap (λ l. spellings s (cut_to s asked 0 runs.all) ++ spellings s l) (sym piece) in
-    let between = part_between out_old out out_new (spellings s (cut_to s asked 0 runs.all)) (spellings s (take w xs)) (spellings s ys) runs.put part all_of in
-    let n : rep.samples ≡ length (cut_to s asked 0 runs.all) = tells.samples_are ∙ runs.count in
-    let before : take rep.samples ys ≡ cut_to s asked 0 runs.all = (λ i. take (n i) (cut i)) ∙ take-append_seam (cut_to s asked 0 runs.all) (cut_to s asked b xs) in
+    (subst (λ (l : List Bool). Decoded s l (Some (length ys)) (cut_to s (Some (length ys)) 0 (runs.given ++ xs)) Reached (length front + 0)) (sym bits_are) here)) in
+    let all_of : spellings s ys ≡ spellings s (cut_to s asked 0 runs.given) ++ spellings s (take w xs) = ap (spellings s) cut ∙ spellings-append s (cut_to s asked 0 runs.given) (cut_to s asked b xs) ∙ ap (λ l. spellings s (cut_to s asked 0 runs.given) ++ spellings s l) (sym piece) in
+    let between = part_between out_old out out_new (spellings s (cut_to s asked 0 runs.given)) (spellings s (take w xs)) (spellings s ys) runs.put part all_of in
+    let n : rep.samples ≡ length (cut_to s asked 0 runs.given) = tells.samples_are ∙ runs.count in
+    let before : take rep.samples ys ≡ cut_to s asked 0 runs.given = (λ i. take (n i) (cut i)) ∙ take-append_seam (cut_to s asked 0 runs.given) (cut_to s asked b xs) in
     let c : Call = record { given = total; left = left new.intake; written = between.written } in
     let fails : FailsInBlock s asked c rep ys = record {
       block = b;
@@ -396,12 +432,8 @@ write_ends left failed s asked start out_old out out_new p r new steps written s
       record { samples = ys; ending = Reached; ends = subst (λ (f : Option Fault). EndsSo s asked f c rep ys Reached) (sym is) ends; ahead = ahead total front new.waiting rep.bits bits_are few taken },
     )
   where
-    most_wanted : (asked : Option ℕ) (written block : ℕ) → wanted_of asked written block ≤ block
-    most_wanted None written block = omega arith
-    most_wanted (Some n) written block = omega arith
-
-    counted : (w : ℕ) → w ≤ length xs → length (cut_to s asked runs.blocks xs) ≡ length (take w xs) → cut_to s asked 0 (runs.all ++ xs) ≡ cut_to s asked 0 runs.all ++ cut_to s asked runs.blocks xs → length (cut_to s asked 0 (runs.all ++ xs)) ≡ written + w
-    counted w le part cut = omega (arith, runs.count, ap length cut, length-append (cut_to s asked 0 runs.all) (cut_to s asked runs.blocks xs), part, length-take-le w xs le)
+    counted : (w : ℕ) → w ≤ length xs → length (cut_to s asked runs.blocks xs) ≡ length (take w xs) → cut_to s asked 0 (runs.given ++ xs) ≡ cut_to s asked 0 runs.given ++ cut_to s asked runs.blocks xs → length (cut_to s asked 0 (runs.given ++ xs)) ≡ written + w
+    counted w le part cut = omega (arith, runs.count, ap length cut, length-append (cut_to s asked 0 runs.given) (cut_to s asked runs.blocks xs), part, length-take-le w xs le)
 
     below : (m i b n k w : ℕ) → n ≡ k + w → k ≡ m * b → w ≢ 0 → i < b + 1 → m * i < n
     below m i b n k w e h some lt = let le : m * i ≤ m * b = mul-le-mul_left m (omega arith) in omega arith
@@ -413,94 +445,74 @@ write_ends left failed s asked start out_old out out_new p r new steps written s
     as_many None written block some = refl
     as_many (Some n) written block some = omega arith
 
-    exactly : (asked : Option ℕ) → cut_to s (Some (length (cut_to s asked 0 (runs.all ++ xs)))) 0 (runs.all ++ xs) ≡ cut_to s asked 0 (runs.all ++ xs)
-    exactly None = let n : length (runs.all ++ xs) - s.block * 0 ≡ length (runs.all ++ xs) = omega arith in ap (λ m. take m (runs.all ++ xs)) n ∙ take-length (runs.all ++ xs)
-    exactly (Some m) = let zs = runs.all ++ xs in let n : length (take (m - s.block * 0) zs) - s.block * 0 ≡ length (take (m - s.block * 0) zs) = omega arith in ap (λ m. take m zs) n ∙ take_same (m - s.block * 0) zs
+    exactly : (asked : Option ℕ) → cut_to s (Some (length (cut_to s asked 0 (runs.given ++ xs)))) 0 (runs.given ++ xs) ≡ cut_to s asked 0 (runs.given ++ xs)
+    exactly None = let n : length (runs.given ++ xs) - s.block * 0 ≡ length (runs.given ++ xs) = omega arith in ap (λ m. take m (runs.given ++ xs)) n ∙ take-length (runs.given ++ xs)
+    exactly (Some m) = let zs = runs.given ++ xs in let n : length (take (m - s.block * 0) zs) - s.block * 0 ≡ length (take (m - s.block * 0) zs) = omega arith in ap (λ m. take m zs) n ∙ take_same (m - s.block * 0) zs
 
--- what a decoder says where it refuses
-refused : {I : Type 0} (left : I → Option (List ℕ)) (failed : I → ℕ) (old new : Reader I) (p q : Place) (s : Parameters) (b : ℕ) (xs : List ℤ) (fault : CodeFault) → (p.stopped ≡ None → (b : ℕ) → place p.setting b ≡ p.block → Answers left failed (marked old) new p q b xs (Err fault)) →
-    p.setting ≡ s → p.stopped ≡ None → place s b ≡ p.block → StopsBy left failed (marked old) new s b (Err fault)
-refused left failed old new p q s b xs fault reads setting going here =
-    subst (λ (t : Parameters). StopsBy left failed (marked old) new t b (Err fault)) setting (reads going b (ap (λ t. place t b) setting ∙ here)).0
-
--- and where it is done
-done : {I : Type 0} (left : I → Option (List ℕ)) (failed : I → ℕ) (old new : Reader I) (p q : Place) (s : Parameters) (b : ℕ) (xs : List ℤ) (step : Step) → (p.stopped ≡ None → (b : ℕ) → place p.setting b ≡ p.block → Answers left failed (marked old) new p q b xs (Ok step)) →
-    step ≡ Done → p.setting ≡ s → p.stopped ≡ None → place s b ≡ p.block → SetEnds left failed (marked old) new s b true
-done left failed old new p q s b xs step reads is setting going here =
-    let a = subst (λ (st : Step). Answers left failed (marked old) new p q b xs (Ok st)) is (reads going b (ap (λ t. place t b) setting ∙ here)) in
-    subst (λ (t : Parameters). SetEnds left failed (marked old) new t b true) setting a.0
-
-stops_ends : {I : Type 0} (left : I → Option (List ℕ)) (failed : I → ℕ) (s : Parameters) (asked : Option ℕ) (start : I) (out_old out : Option (List ℕ)) (p : Place) (r new : Reader I) (steps written steps_new : ℕ) (rep : Report) (f : Option Fault) (fault : CodeFault) → IsLegal s →
-    (runs : RunsOn left failed s asked start out_old out p r steps written) → wanted_of asked written s.block ≢ 0 → StopsBy left failed (marked r) new s runs.blocks (Err fault) → Tells rep written new.taken steps_new → length new.waiting ≤ 32768 → f ≡ Some (fault_of_lem fault written s.block) →
+pub refusal_ends : {I : Type 0} (left : I → Option (List ℕ)) (failed : I → ℕ) (s : Parameters) (asked : Option ℕ) (start : I) (out_old out : Option (List ℕ)) (p : Place) (r new : Reader I) (steps written steps_new : ℕ) (rep : Report) (f : Option Fault) (fault : CodeFault) → IsLegal s →
+    (runs : RunsOn left failed s asked start out_old out p r steps written) → wanted_of asked written s.block ≢ 0 → p.run ≡ 0 → StopsBy left failed (marked r) new s runs.blocks (Err fault) → Tells rep written new.taken steps_new → length new.waiting ≤ 32768 → f ≡ Some (refusal_fault fault written s.block) →
     Ends s asked (left start) (left new.intake) out_old out rep f
-stops_ends left failed s asked start out_old out p r new steps written steps_new rep f faults.CodeEnds legal runs some stops tells few is = ended_ends left failed s asked start out_old out p r new steps written steps_new false rep f runs some stops tells is
-stops_ends left failed s asked start out_old out p r new steps written steps_new rep f faults.NotYet legal runs some stops tells few is = other_ends left failed s asked start out_old out p r new steps written steps_new rep f legal runs some stops tells few is
-stops_ends left failed s asked start out_old out p r new steps written steps_new rep f faults.Read legal runs some stops tells few is = read_ends left failed s asked start out_old out p r new steps written steps_new rep f runs some stops tells is
-stops_ends left failed s asked start out_old out p r new steps written steps_new rep f faults.TooLong legal runs some stops tells few is = long_ends left failed s asked start out_old out p r new steps written steps_new rep f runs some stops tells is
+refusal_ends left failed s asked start out_old out p r new steps written steps_new rep f faults.CodeEnds legal runs some none stops tells few is = ended_ends left failed s asked start out_old out p r new steps written steps_new false rep f runs some none stops tells is
+refusal_ends left failed s asked start out_old out p r new steps written steps_new rep f faults.RunPastSegment legal runs some none stops tells few is = past_ends left failed s asked start out_old out p r new steps written steps_new rep f legal runs some none stops tells few is
+refusal_ends left failed s asked start out_old out p r new steps written steps_new rep f faults.ResidualTooLarge legal runs some none stops tells few is = large_ends left failed s asked start out_old out p r new steps written steps_new rep f legal runs some none stops tells few is
+refusal_ends left failed s asked start out_old out p r new steps written steps_new rep f faults.Read legal runs some none stops tells few is = read_ends left failed s asked start out_old out p r new steps written steps_new rep f runs some none stops tells is
+refusal_ends left failed s asked start out_old out p r new steps written steps_new rep f faults.TooLong legal runs some none stops tells few is = long_ends left failed s asked start out_old out p r new steps written steps_new rep f runs some none stops tells is
 
-pub refusal_ends : {I : Type 0} (left : I → Option (List ℕ)) (failed : I → ℕ) (s : Parameters) (asked : Option ℕ) (start : I) (out_old out : Option (List ℕ)) (p q : Place) (r new : Reader I) (steps written steps_new : ℕ) (xs : List ℤ) (rep : Report) (f : Option Fault) (fault : CodeFault) → IsLegal s →
-    (runs : RunsOn left failed s asked start out_old out p r steps written) → wanted_of asked written s.block ≢ 0 → (p.stopped ≡ None → (b : ℕ) → place p.setting b ≡ p.block → Answers left failed (marked r) new p q b xs (Err fault)) →
-    Tells rep written new.taken steps_new → length new.waiting ≤ 32768 → f ≡ Some (fault_of_lem fault written s.block) → Ends s asked (left start) (left new.intake) out_old out rep f
-refusal_ends left failed s asked start out_old out p q r new steps written steps_new xs rep f fault legal runs some reads tells few is =
-    stops_ends left failed s asked start out_old out p r new steps written steps_new rep f fault legal runs some (refused left failed r new p q s runs.blocks xs fault reads runs.setting runs.going runs.here) tells few is
-
-pub done_ends : {I : Type 0} (left : I → Option (List ℕ)) (failed : I → ℕ) (s : Parameters) (asked : Option ℕ) (start : I) (out_old out : Option (List ℕ)) (p q : Place) (r new : Reader I) (steps written steps_new : ℕ) (xs : List ℤ) (rep : Report) (f : Option Fault) (step : Step) →
-    (runs : RunsOn left failed s asked start out_old out p r steps written) → wanted_of asked written s.block ≢ 0 → (p.stopped ≡ None → (b : ℕ) → place p.setting b ≡ p.block → Answers left failed (marked r) new p q b xs (Ok step)) → step ≡ Done →
-    Tells rep written new.taken steps_new → f ≡ end_of_lem asked written → Ends s asked (left start) (left new.intake) out_old out rep f
-done_ends left failed s asked start out_old out p q r new steps written steps_new xs rep f step runs some reads is_done tells is =
-    ended_ends left failed s asked start out_old out p r new steps written steps_new true rep f runs some (done left failed r new p q s runs.blocks xs step reads is_done runs.setting runs.going runs.here) tells is
-
-stops_fail : {I : Type 0} (left : I → Option (List ℕ)) (failed : I → ℕ) (s : Parameters) (b : ℕ) (r new : Reader I) (n written block writes : ℕ) (fault : CodeFault) → StopsBy left failed (marked r) new s b (Err fault) → failed r.intake ≡ n → Fails (Some (fault_of_lem fault written block)) n (failed new.intake) writes writes
+stops_fail : {I : Type 0} (left : I → Option (List ℕ)) (failed : I → ℕ) (s : Parameters) (b : ℕ) (r new : Reader I) (n written block writes : ℕ) (fault : CodeFault) → StopsBy left failed (marked r) new s b (Err fault) → failed r.intake ≡ n → Fails (Some (refusal_fault fault written block)) n (failed new.intake) writes writes
 stops_fail left failed s b r new n written block writes faults.CodeEnds stops e = (stops.cut.stops.refuses.2 ∙ e, refl)
-stops_fail left failed s b r new n written block writes faults.NotYet stops e = (stops.takes.failures ∙ e, refl)
+stops_fail left failed s b r new n written block writes faults.RunPastSegment stops e = (stops.takes.failures ∙ e, refl)
+stops_fail left failed s b r new n written block writes faults.ResidualTooLarge stops e = (stops.takes.failures ∙ e, refl)
 stops_fail left failed s b r new n written block writes faults.Read stops e = (stops.stops.refuses.1 ∙ ap (λ m. m + 1) e, refl)
 stops_fail left failed s b r new n written block writes faults.TooLong stops e = (stops.stops.refuses.1 ∙ e, refl)
 
-pub refusal_fails : {I : Type 0} (left : I → Option (List ℕ)) (failed : I → ℕ) (s : Parameters) (asked : Option ℕ) (start : I) (out_old out : Option (List ℕ)) (p q : Place) (r new : Reader I) (steps written writes writes_new : ℕ) (xs : List ℤ) (f : Option Fault) (fault : CodeFault) →
-    (runs : RunsOn left failed s asked start out_old out p r steps written) → (p.stopped ≡ None → (b : ℕ) → place p.setting b ≡ p.block → Answers left failed (marked r) new p q b xs (Err fault)) →
-    writes_new ≡ writes → f ≡ Some (fault_of_lem fault written s.block) → Fails f (failed start) (failed new.intake) writes writes_new
-refusal_fails left failed s asked start out_old out p q r new steps written writes writes_new xs f fault runs reads same is =
-    subst (λ (f : Option Fault). Fails f (failed start) (failed new.intake) writes writes_new) (sym is)
-    (subst (λ (w : ℕ). Fails (Some (fault_of_lem fault written s.block)) (failed start) (failed new.intake) writes w) (sym same)
-    (stops_fail left failed s runs.blocks r new (failed start) written s.block writes fault (refused left failed r new p q s runs.blocks xs fault reads runs.setting runs.going runs.here) runs.reads))
+pub refusal_fails : {I : Type 0} (left : I → Option (List ℕ)) (failed : I → ℕ) (s : Parameters) (b : ℕ) (r new : Reader I) (reads written writes writes_new : ℕ) (f : Option Fault) (fault : CodeFault) →
+    failed r.intake ≡ reads → StopsBy left failed (marked r) new s b (Err fault) → writes_new ≡ writes → f ≡ Some (refusal_fault fault written s.block) → Fails f reads (failed new.intake) writes writes_new
+refusal_fails left failed s b r new reads written writes writes_new f fault e stops same is =
+    subst (λ (f : Option Fault). Fails f reads (failed new.intake) writes writes_new) (sym is)
+    (subst (λ (w : ℕ). Fails (Some (refusal_fault fault written s.block)) reads (failed new.intake) writes w) (sym same)
+    (stops_fail left failed s b r new reads written s.block writes fault stops e))
 
-pub done_fails : {I : Type 0} (left : I → Option (List ℕ)) (failed : I → ℕ) (s : Parameters) (asked : Option ℕ) (start : I) (out_old out : Option (List ℕ)) (p q : Place) (r new : Reader I) (steps written writes writes_new : ℕ) (xs : List ℤ) (f : Option Fault) (step : Step) →
-    (runs : RunsOn left failed s asked start out_old out p r steps written) → (p.stopped ≡ None → (b : ℕ) → place p.setting b ≡ p.block → Answers left failed (marked r) new p q b xs (Ok step)) → step ≡ Done →
-    writes_new ≡ writes → f ≡ end_of_lem asked written → Fails f (failed start) (failed new.intake) writes writes_new
-done_fails left failed s asked start out_old out p q r new steps written writes writes_new xs f step runs reads is_done same is =
-    subst (λ (f : Option Fault). Fails f (failed start) (failed new.intake) writes writes_new) (sym is)
-    (by_count asked ((done left failed r new p q s runs.blocks xs step reads is_done runs.setting runs.going runs.here).cut.stops.refuses.2 ∙ runs.reads) same)
+pub done_fails : {I : Type 0} (left : I → Option (List ℕ)) (failed : I → ℕ) (s : Parameters) (b : ℕ) (asked : Option ℕ) (r new : Reader I) (reads written writes writes_new : ℕ) (f : Option Fault) →
+    failed r.intake ≡ reads → SetEnds left failed (marked r) new s b true → writes_new ≡ writes → f ≡ ended_fault asked written → Fails f reads (failed new.intake) writes writes_new
+done_fails left failed s b asked r new reads written writes writes_new f e ends same is =
+    subst (λ (f : Option Fault). Fails f reads (failed new.intake) writes writes_new) (sym is) (by_count asked (ends.cut.stops.refuses.2 ∙ e) same)
   where
-    by_count : (asked : Option ℕ) → failed new.intake ≡ failed start → writes_new ≡ writes → Fails (end_of_lem asked written) (failed start) (failed new.intake) writes writes_new
+    by_count : (asked : Option ℕ) → failed new.intake ≡ reads → writes_new ≡ writes → Fails (ended_fault asked written) reads (failed new.intake) writes writes_new
     by_count None e h = (e, h)
     by_count (Some n) e h = (e, h)
 
 -- nothing is decoded yet
 pub runs_first : {I : Type 0} (left : I → Option (List ℕ)) (failed : I → ℕ) (s : Parameters) (asked : Option ℕ) (start : I) (out : Option (List ℕ)) (p : Place) (r : Reader I) (steps : ℕ) → IsLegal s →
-    p ≡ record { setting = s; block = 0; before = pos 0; stopped = None } → r ≡ record { waiting = []; taken = 0; blank = true; refusal = None; intake = start } → steps ≡ 0 → RunsOn left failed s asked start out out p r steps 0
-runs_first {I = I} left failed s asked start out p r steps legal ep er es = record {
-  blocks = 0;
-  bytes = [];
-  front = [];
-  all = [];
-  setting = ap (λ p. p.setting) ep;
-  here = mod-eq_of_lt legal.interval_from ∙ sym (ap (λ p. p.block) ep);
-  before = ap (λ p. p.before) ep;
-  going = ap (λ p. p.stopped) ep;
-  reader_going = ap (λ r. r.refusal) er;
-  gave = subst (λ (i : I). Consumes (left start) (left i) []) (sym (ap (λ r. r.intake) er)) (Consumes-nil (left start));
-  bits = bits_of-nil ∙ sym (ap (λ r. r.waiting) er);
-  taken = ap (λ r. r.taken) er;
-  limit = let n = ap (λ r. r.taken) er in omega (arith, n);
-  behind = behind_nothing s;
-  wanted = λ i lt. absurd (omega arith);
-  count = sym (ap length (cut_nothing s asked 0));
-  few = omega arith;
-  asked_for = from_none asked;
-  counted = let n = ap (λ r. r.taken) er in omega (arith, n, es);
-  reads = ap failed (ap (λ r. r.intake) er);
-  put = subst (λ (l : List ℤ). Appends out out (spellings s l)) (sym (cut_nothing s asked 0)) (Appends-nil out);
-}
+    p ≡ record { setting = s; block = 0; before = pos 0; run = 0; stopped = None } → r ≡ record { waiting = []; taken = 0; blank = true; refusal = None; intake = start } → steps ≡ 0 → RunsOn left failed s asked start out out p r steps 0
+runs_first {I = I} left failed s asked start out p r steps legal ep er es =
+    let taken = ap (λ r. r.taken) er in
+    let run = ap (λ p. p.run) ep in
+    record {
+      blocks = 0;
+      bytes = [];
+      front = [];
+      given = [];
+      setting = ap (λ p. p.setting) ep;
+      here = mod-eq_of_lt legal.interval_from ∙ sym (ap (λ p. p.block) ep);
+      previous = ap (λ p. p.before) ep;
+      going = ap (λ p. p.stopped) ep;
+      reader_going = ap (λ r. r.refusal) er;
+      gave = subst (λ (i : I). Consumes (left start) (left i) []) (sym (ap (λ r. r.intake) er)) (Consumes-nil (left start));
+      bits = bits_of-nil ∙ sym (ap (λ r. r.waiting) er);
+      taken = taken;
+      limit = omega (arith, taken);
+      begun = 0;
+      before = omega arith;
+      behind = subst (λ (n : ℕ). Behind s [] 0 0 n []) (sym run) (behind_nothing s);
+      wanted = λ i lt. absurd (omega arith);
+      count = sym (ap length (cut_nothing s asked 0));
+      few = omega (arith, ap (λ n. n * s.block) run);
+      asked_for = from_none asked;
+      least = omega (arith, taken, es);
+      most = omega (arith, taken, es);
+      reads = ap failed (ap (λ r. r.intake) er);
+      put = subst (λ (l : List ℤ). Appends out out (spellings s l)) (sym (cut_nothing s asked 0)) (Appends-nil out);
+    }
   where
     from_none : (asked : Option ℕ) → IfSome asked (λ n. 0 ≤ n)
     from_none None = tt

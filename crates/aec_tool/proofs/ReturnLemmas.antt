@@ -1,76 +1,121 @@
--- With their count, the samples come back.
-use Rattle.std.proofs.Common.{◌≡◌, ℕ, zero, suc, ◌+◌, ◌-◌, ◌*◌, ◌<◌, ◌≤◌, Bool, false, List, [], ◌∷◌, ◌++◌, length, take, drop, replicate, refl, ap, arith, sym, ◌∙◌, subst, append_assoc, append-nil, length-drop, Some, ℤ, pos}
-use Rattle.std.specs.Prelude.{All}
-use Rattle.std.proofs.Math.Nat.{mul-le-mul_left}
-use Rattle.std.proofs.Math.Seq.{take-append_seam}
-use Rattle.std.proofs.lemmas.Grind.{div_ceil_times}
-use Rattle.std.proofs.lemmas.List.{length-take, take-append-drop}
-use Rattle.std.proofs.lemmas.List.Elements.{All-from_recursion, recursion_from_All}
-use Rattle.rice_bits.specs.Bits.{bits_to_byte}
-use Rattle.rice_bits.proofs.Bytes.{bits_of-padded}
-use Rattle.rice_samples.specs.Parameters.{Parameters, IsLegal, IsSample}
-use Rattle.rice_samples.specs.Places.{block_count}
-use Rattle.rice_samples.specs.Residuals.{last_of, filled}
+-- What was encoded comes back.
+use Rattle.std.proofs.Common.{◌≡◌, ℕ, Bool, List, [], ◌++◌, length, refl, ap, arith, sym, ◌∙◌, ◌⊎◌, inl, inr, subst, append_assoc, append-nil, Option, Some, None, ℤ, pos}
+use Rattle.std.specs.Prelude.{IsSome}
+use Rattle.std.specs.Io.KnownBytes.{Consumes, IsAtEnd}
+use Rattle.rice_bits.specs.Bits.{bits_of}
+use Rattle.rice_bits.proofs.Bytes.{bits_of-append}
+use Rattle.rice_samples.specs.Parameters.{Parameters, IsLegal}
+use Rattle.rice_samples.specs.Spelling.{spellings}
 use Rattle.rice_samples.proofs.Levels.{zero_is_sample}
-use Rattle.rice_code.specs.Blocks.{contents, blocks_from}
-use Rattle.rice_code.specs.DataSets.{NoCompression, text}
-use Rattle.rice_code.specs.Decoded.{Decoded, Reached, GoesOn, cut_to}
-use Rattle.rice_code.proofs.Filling.{last_append}
-use Rattle.rice_code.proofs.SoundBlocks.{all_take, all_drop, all_append, all_replicate, last_legal, filled_len}
-use Rattle.aec_tool.specs.Decodings.{Behind}
-use Rattle.aec_tool.specs.Laws.{ReturnsSamples}
-use Rattle.aec_tool.specs.Plain.{plain_code}
-use Rattle.aec_tool.proofs.DecodedLemmas.{behind_nothing, behind_more, ends_here}
-use Rattle.aec_tool.proofs.PlainLemmas.{texts}
+use Rattle.rice_code.specs.Code.{output}
+use Rattle.rice_code.specs.Decoded.{Decoded, Ending, EndsWith, Reached, Ended, CutOff, Past, Large}
+use Rattle.rice_code.proofs.Determined.{decoded_is_one}
+use Rattle.rice_code.proofs.Returned as returned
+use Rattle.aec_tool.specs.Calls.{Call}
+use Rattle.aec_tool.specs.Encoding.{Encodes}
+use Rattle.aec_tool.specs.Decoding.{Decodings, Decodes, EndsSo}
+use Rattle.aec_tool.specs.Laws.{ReturnsBytes}
+use Rattle.aec_tool.specs.declared.outcome.Report.{Report}
+use Rattle.aec_tool.specs.declared.outcome.Fault.{Fault}
+use Rattle.aec_tool.specs.declared.outcome.Fault.TheVariants.{Read, Write, TooLong, SampleOutOfRange, SampleCut, CodeEnds, RunPastSegment, ResidualTooLarge}
 
--- some blocks more
-behind_blocks : (s : Parameters) (front : List Bool) (b n : ℕ) (all zs : List ℤ) → IsLegal s → s.pad ≡ false → 1 ≤ s.block → Behind s front b all → length zs ≡ s.block * n → All (IsSample s) zs →
-    Behind s (front ++ texts s (blocks_from s b (last_of (pos 0) all) n zs)) (b + n) (all ++ zs)
-behind_blocks s front b zero all [] legal pad j behind e k =
-    let here : b ≡ b + 0 = omega arith in
-    subst (λ (m : ℕ). Behind s (front ++ []) m (all ++ [])) here (subst (λ (l : List Bool). Behind s l b (all ++ [])) (sym (append-nil front)) (subst (λ (l : List ℤ). Behind s front b l) (sym (append-nil all)) behind))
-behind_blocks s front b zero all (z ∷ zs) legal pad j behind e k = absurd (omega arith)
-behind_blocks s front b (suc n) all zs legal pad j behind e k =
-    let p = last_of (pos 0) all in
-    let first = take s.block zs in
-    let rest = drop s.block zs in
-    let len : length first ≡ s.block = omega (arith, length-take s.block zs) in
-    let back : length rest ≡ s.block * n = omega (arith, length-drop s.block zs) in
-    let ks = recursion_from_All (IsSample s) zs k in
-    let t = text s (NoCompression (contents s b p first)) in
-    let one = behind_more s front b all first legal pad behind len (All-from_recursion (IsSample s) first (all_take (IsSample s) s.block zs ks)) in
-    let more = behind_blocks s (front ++ t) (b + 1) n (all ++ first) rest legal pad j one back (All-from_recursion (IsSample s) rest (all_drop (IsSample s) s.block zs ks)) in
-    let last : last_of (pos 0) (all ++ first) ≡ last_of p first = last_append (pos 0) all first in
-    let number : b + 1 + n ≡ b + suc n = omega arith in
-    let samples : (all ++ first) ++ rest ≡ all ++ zs = append_assoc all first rest ∙ ap (λ l. all ++ l) (take-append-drop s.block zs) in
-    let bits : (front ++ t) ++ texts s (blocks_from s (b + 1) (last_of (pos 0) (all ++ first)) n rest) ≡ front ++ (t ++ texts s (blocks_from s (b + 1) (last_of p first) n rest)) =
-    ap (λ z. (front ++ t) ++ texts s (blocks_from s (b + 1) z n rest)) last ∙ append_assoc front t (texts s (blocks_from s (b + 1) (last_of p first) n rest)) in
-    subst (λ (m : ℕ). Behind s (front ++ (t ++ texts s (blocks_from s (b + 1) (last_of p first) n rest))) m (all ++ zs)) number
-    (subst (λ (l : List Bool). Behind s l (b + 1 + n) (all ++ zs)) bits (subst (λ (l : List ℤ). Behind s ((front ++ t) ++ texts s (blocks_from s (b + 1) (last_of (pos 0) (all ++ first)) n rest)) (b + 1 + n) l) samples more))
+-- it does not end where the bits do
+abbrev EndsBefore : Ending → Type 0
+EndsBefore ending = (ending ≡ Reached) ⊎ ((ending ≡ Past) ⊎ (ending ≡ Large))
 
-pub returns_samples : ReturnsSamples
-unfolding plain_code
-returns_samples s legal pad xs k =
-    let j : 1 ≤ s.block = let j8 : 8 ≤ s.block = grind (arith, legal.block) in omega arith in
-    let ks = recursion_from_All (IsSample s) xs k in
-    let n = block_count s (length xs) in
-    let zs = filled s (pos 0) xs in
-    let last = last_legal s (pos 0) xs (zero_is_sample s legal.bits_from) ks in
-    let legal_zs = All-from_recursion (IsSample s) zs (all_append (IsSample s) xs _ ks (all_replicate (IsSample s) _ (last_of (pos 0) xs) last)) in
-    let code = texts s (blocks_from s 0 (pos 0) n zs) in
-    let behind = behind_blocks s [] 0 n [] zs legal pad j (behind_nothing s) (filled_len s (pos 0) xs j) legal_zs in
-    let bounds = div_ceil_times (length xs) s.block j in
-    let goes : (i : ℕ) → i < 0 + n → GoesOn s (Some (length xs)) i = λ i lt. goes_to s.block (length xs) n i bounds.1 lt in
-    let enough : length xs ≤ s.block * (0 + n) = up_to s.block (length xs) n bounds.0 in
-    let rest = replicate (bits_to_byte (length code)) false in
-    let here = ends_here s code rest (0 + n) zs (Some (length xs)) Reached 0 behind goes (enough, refl) in
-    let cut : cut_to s (Some (length xs)) 0 zs ≡ xs = (let m : length xs - s.block * 0 ≡ length xs = omega arith in ap (λ m. take m zs) m ∙ take-append_seam xs _) in (
-      length code + 0,
-      subst (λ (l : List Bool). Decoded s l (Some (length xs)) xs Reached (length code + 0)) (sym (bits_of-padded code)) (subst (λ (l : List ℤ). Decoded s (code ++ rest) (Some (length xs)) l Reached (length code + 0)) cut here),
-    )
+-- what follows the bits does not matter then
+ends_before : (s : Parameters) (asked : Option ℕ) (b : ℕ) (rest more : List Bool) (ending : Ending) (used : ℕ) → EndsBefore ending → EndsWith s asked b rest ending used → EndsWith s asked b (rest ++ more) ending used
+ends_before s asked b rest more Reached used early e = e
+ends_before s asked b rest more Past used early e =
+    let r = e.1 in (e.0, record { refused = r.refused; more = r.more ++ more; form = r.form; unsound = r.unsound; begins = ap (λ l. l ++ more) r.begins ∙ append_assoc _ r.more more; bits = r.bits })
+ends_before s asked b rest more Large used early e =
+    let r = e.1 in (e.0, record { refused = r.refused; more = r.more ++ more; form = r.form; unsound = r.unsound; begins = ap (λ l. l ++ more) r.begins ∙ append_assoc _ r.more more; bits = r.bits })
+ends_before s asked b rest more Ended used (inl e) h = absurd cc
+ends_before s asked b rest more Ended used (inr (inl e)) h = absurd cc
+ends_before s asked b rest more Ended used (inr (inr e)) h = absurd cc
+ends_before s asked b rest more CutOff used (inl e) h = absurd cc
+ends_before s asked b rest more CutOff used (inr (inl e)) h = absurd cc
+ends_before s asked b rest more CutOff used (inr (inr e)) h = absurd cc
+
+decoded_before : (s : Parameters) (asked : Option ℕ) (bits more : List Bool) (xs : List ℤ) (ending : Ending) (used : ℕ) → EndsBefore ending → Decoded s bits asked xs ending used → Decoded s (bits ++ more) asked xs ending used
+decoded_before s asked bits more xs ending used early d = record {
+  sets = d.sets;
+  front = d.front;
+  rest = d.rest ++ more;
+  parts = ap (λ l. l ++ more) d.parts ∙ append_assoc d.front d.rest more;
+  lie = d.lie;
+  taken = d.taken;
+  all = d.all;
+  legal = d.legal;
+  len = d.len;
+  blocks = d.blocks;
+  asked_for = d.asked_for;
+  last = d.last;
+  ends = ends_before s asked _ d.rest more ending d.last early d.ends;
+  bits_used = d.bits_used;
+}
+
+-- what the first bytes of the output decode to, where that ends before them
+from_front : (s : Parameters) → IsLegal s → (xs ys : List ℤ) (front left : List ℕ) (ending : Ending) (used all : ℕ) → output s xs ≡ front ++ left → EndsBefore ending → Decoded s (bits_of front) (Some (length xs)) ys ending used → Decoded s (bits_of (output s xs)) (Some (length xs)) xs Reached all → (ys ≡ xs) × (ending ≡ Reached)
+from_front s legal xs ys front left ending used all split early d whole =
+    let more = decoded_before s (Some (length xs)) (bits_of front) (bits_of left) ys ending used early d in
+    let bits : bits_of front ++ bits_of left ≡ bits_of (output s xs) = sym (bits_of-append front left) ∙ ap bits_of (sym split) in
+    let there = subst (λ (l : List Bool). Decoded s l (Some (length xs)) ys ending used) bits more in
+    let one = decoded_is_one s legal 0 0 (pos 0) (zero_is_sample s legal.bits_from) (bits_of (output s xs)) (Some (length xs)) ys xs ending Reached used all there whole in
+    (one.0, one.1)
+
+pub returns_bytes : ReturnsBytes
+returns_bytes s legal enc dec encoded decoded fault encodes consumed decodes = by_fault fault dec.left refl decodes.ends
   where
-    goes_to : (j m n i : ℕ) → n * j < m + j → i < 0 + n → j * i < m
-    goes_to j m n i h lt = let p : j * (i + 1) ≤ j * n = mul-le-mul_left j (omega arith) in omega arith
+    xs : List ℤ
+    xs = encodes.0
 
-    up_to : (j m n : ℕ) → m ≤ n * j → m ≤ j * (0 + n)
-    up_to j m n h = omega arith
+    n : encoded.samples ≡ length xs
+    n = encodes.1.2.samples
+
+    written : enc.written ≡ output s xs
+    written = encodes.1.2.written
+
+    ys : List ℤ
+    ys = decodes.samples
+
+    bytes : enc.given ≡ spellings s xs
+    bytes = encodes.1.0.whole ∙ ap (λ l. spellings s xs ++ l) encodes.1.0.stops ∙ append-nil (spellings s xs)
+
+    split : (left : Option (List ℕ)) → dec.left ≡ left → (rest : List ℕ) × (output s xs ≡ dec.given ++ rest)
+    split None e = absurd (subst (λ (l : Option (List ℕ)). Consumes (Some enc.written) l dec.given) e consumed)
+    split (Some rest) e = (rest, sym written ∙ subst (λ (l : Option (List ℕ)). Consumes (Some enc.written) l dec.given) e consumed)
+
+    Ends : Option Fault → Type 0
+    Ends fault = ((fault ≡ None) × (dec.written ≡ enc.given)) ⊎ ((fault ≡ Some Read) ⊎ ((fault ≡ Some Write) ⊎ (fault ≡ Some TooLong)))
+
+    all : (used : ℕ) × Decoded s (bits_of (output s xs)) (Some (length xs)) xs Reached used
+    all = returned.returns_samples s legal xs encodes.1.0.legal
+
+    at_front : (left : Option (List ℕ)) → dec.left ≡ left → Decodes s (Some encoded.samples) dec decoded dec.given ys decodes.ending → EndsBefore decodes.ending → (ys ≡ xs) × (decodes.ending ≡ Reached)
+    at_front left e d early =
+        let parts = split left e in
+        from_front s legal xs ys dec.given parts.0 decodes.ending d.0 all.0 parts.1 early (subst (λ (m : ℕ). Decoded s (bits_of dec.given) (Some m) ys decodes.ending d.0) n d.1) all.1
+
+    not_at_end : (left : Option (List ℕ)) → dec.left ≡ left → IsAtEnd dec.left → Decodes s (Some encoded.samples) dec decoded dec.given ys decodes.ending → (decodes.ending ≡ CutOff) ⊎ ((decodes.ending ≡ Ended) × IsSome (Some encoded.samples)) → ⊥
+    not_at_end None e end d ends = absurd (subst (λ (l : Option (List ℕ)). Consumes (Some enc.written) l dec.given) e consumed)
+    not_at_end (Some rest) e end d ends =
+        let none : rest ≡ [] = subst (λ (l : Option (List ℕ)). IsAtEnd l) e end in
+        let parts = split (Some rest) e in
+        let whole : dec.given ≡ output s xs = sym (append-nil dec.given) ∙ ap (λ l. dec.given ++ l) (sym none) ∙ sym parts.1 in
+        let there = subst (λ (l : List ℕ). Decoded s (bits_of l) (Some (length xs)) ys decodes.ending d.0) whole (subst (λ (m : ℕ). Decoded s (bits_of dec.given) (Some m) ys decodes.ending d.0) n d.1) in
+        let one = decoded_is_one s legal 0 0 (pos 0) (zero_is_sample s legal.bits_from) (bits_of (output s xs)) (Some (length xs)) ys xs decodes.ending Reached d.0 all.0 there all.1 in
+        let reached = one.1 in
+        elim ends [ inl e ↦ absurd cc | inr e ↦ absurd (let ended = e.0 in cc) ]
+
+    by_fault : (fault : Option Fault) (left : Option (List ℕ)) → dec.left ≡ left → EndsSo s (Some encoded.samples) fault dec decoded ys decodes.ending → Ends fault
+    by_fault None left e (d, inl reached) = inl (refl, d.2.written ∙ ap (spellings s) (at_front left e d (inl reached)).0 ∙ sym bytes)
+    by_fault None left e (d, inr (ended, none, end)) = absurd cc
+    by_fault (Some Read) left e h = inr (inl refl)
+    by_fault (Some Write) left e h = inr (inr (inl refl))
+    by_fault (Some TooLong) left e h = inr (inr (inr refl))
+    by_fault (Some (CodeEnds samples)) left e (d, ends, end, count) = absurd (not_at_end left e end d ends)
+    by_fault (Some (RunPastSegment block)) left e (d, past, count) = absurd (let reached = (at_front left e d (inr (inl past))).1 in cc)
+    by_fault (Some (ResidualTooLarge block)) left e (d, large, count) = absurd (let reached = (at_front left e d (inr (inr large))).1 in cc)
+    by_fault (Some (SampleOutOfRange index)) left e h = absurd h
+    by_fault (Some (SampleCut index)) left e h = absurd h

@@ -1,17 +1,17 @@
 -- What decoding does: each way in which it ends.
-use Rattle.std.specs.Prelude.{◌≡◌, ◌≢◌, ℕ, ◌+◌, ◌-◌, ◌*◌, ◌/◌, ◌^◌, ◌≤◌, ◌⊎◌, true, List, length, take, drop, min, Contains, Option, Some, None, IfSome, IsSome, ℤ}
+use Rattle.std.specs.Prelude.{◌≡◌, ℕ, ◌+◌, ◌-◌, ◌*◌, ◌/◌, ◌^◌, ◌≤◌, ◌⊎◌, List, length, take, min, Option, Some, None, IfSome, IsSome, ℤ}
 use Rattle.std.specs.Io.KnownBytes.{IsAtEnd}
-use Rattle.rice_bits.specs.Bits.{bits_of, word}
-use Rattle.rice_samples.specs.Parameters.{Parameters, id_len}
+use Rattle.rice_bits.specs.Bits.{bits_of}
+use Rattle.rice_samples.specs.Parameters.{Parameters}
 use Rattle.rice_samples.specs.Spelling.{spellings}
 use Rattle.rice_code.specs.Bounds.{decoder_step_bound}
-use Rattle.rice_code.specs.Decoded.{Decoded, Ending, Reached, Ended, CutOff, GoesOn}
+use Rattle.rice_code.specs.Decoded.{Decoded, Ending, Reached, Ended, CutOff, Past, Large}
 use Rattle.aec_tool.specs.Calls.{Call, Leaves, StopsBetween, PassesLimit}
 use Rattle.aec_tool.specs.declared.outcome.Report.{Report}
 use Rattle.aec_tool.specs.declared.outcome.Fault.{Fault}
-use Rattle.aec_tool.specs.declared.outcome.Fault.TheVariants.{Read, Write, TooLong, CodeEnds, NotYet}
-use Rattle.aec_tool.specs.declared.plain_decoder.CodeFault.{CodeFault}
-use Rattle.aec_tool.specs.declared.plain_decoder.CodeFault.TheVariants as codes
+use Rattle.aec_tool.specs.declared.outcome.Fault.TheVariants.{Read, Write, TooLong, CodeEnds, RunPastSegment, ResidualTooLarge}
+use Rattle.rice_code.specs.declared.fault.CodeFault.{CodeFault}
+use Rattle.rice_code.specs.declared.fault.CodeFault.TheVariants as codes
 
 -- the bytes decode so, and these samples and bits are what the call left
 abbrev pub Decodes : Parameters → Option ℕ → Call → Report → List ℕ → List ℤ → Ending → Type 0
@@ -35,23 +35,13 @@ pub record FailsInBlock (s : Parameters) (asked : Option ℕ) (c : Call) (r : Re
   pub decoded : Decoded s (bits_of c.given) (Some (length ys)) ys Reached r.bits
   pub stops : StopsBetween (spellings s (take r.samples ys)) (spellings s ys) c.written
 
--- Behind all blocks before this one, which are written, stands a 1, and the identifier of another option than no compression.
-pub record MeetsOther (s : Parameters) (asked : Option ℕ) (c : Call) (r : Report) (block : ℕ) (ys : List ℤ) : Type 0 where
-  pub wanted : GoesOn s asked block
-  pub used : ℕ
-  pub decoded : Decoded s (bits_of c.given) (Some (s.block * block)) ys Reached used
-  pub written : c.written ≡ spellings s ys
-  pub samples : r.samples ≡ length ys
-  pub one : Contains (drop used (bits_of c.given)) true
-  pub enough : id_len s ≤ length (drop used (bits_of c.given))
-  pub other : take (id_len s) (drop used (bits_of c.given)) ≢ word (id_len s) (2 ^ id_len s - 1)
-
--- the samples, and how decoding ends
+-- The samples, and how decoding ends. A coded data set that is refused begins with the block behind the samples.
 abbrev pub EndsSo : Parameters → Option ℕ → Option Fault → Call → Report → List ℤ → Ending → Type 0
 EndsSo s asked None c r ys ending = Decodes s asked c r c.given ys ending × ((ending ≡ Reached) ⊎ ((ending ≡ Ended) × (asked ≡ None) × IsAtEnd c.left))
 EndsSo s asked (Some (CodeEnds samples)) c r ys ending =
     Decodes s asked c r c.given ys ending × ((ending ≡ CutOff) ⊎ ((ending ≡ Ended) × IsSome asked)) × IsAtEnd c.left × (samples ≡ length ys)
-EndsSo s asked (Some (NotYet block)) c r ys ending = MeetsOther s asked c r block ys × (ending ≡ Reached)
+EndsSo s asked (Some (RunPastSegment block)) c r ys ending = Decodes s asked c r c.given ys ending × (ending ≡ Past) × (length ys ≡ s.block * block)
+EndsSo s asked (Some (ResidualTooLarge block)) c r ys ending = Decodes s asked c r c.given ys ending × (ending ≡ Large) × (length ys ≡ s.block * block)
 EndsSo s asked (Some Read) c r ys ending = Decodes s asked c r c.given ys ending × RunsOut ending
 EndsSo s asked (Some TooLong) c r ys ending = ((front : List ℕ) × PassesLimit (2 ^ 49) c.given front × Decodes s asked c r front ys ending) × RunsOut ending
 EndsSo s asked (Some Write) c r ys ending = FailsInBlock s asked c r ys × (ending ≡ Reached)
@@ -76,13 +66,14 @@ wanted_of None written block = block
 wanted_of (Some n) written block = min (n - written) block
 
 -- the fault where no 1 is left
-abbrev pub end_of_lem : Option ℕ → ℕ → Option Fault
-end_of_lem None samples = None
-end_of_lem (Some n) samples = Some (CodeEnds samples)
+abbrev pub ended_fault : Option ℕ → ℕ → Option Fault
+ended_fault None samples = None
+ended_fault (Some n) samples = Some (CodeEnds samples)
 
 -- the fault where the decoder refuses
-abbrev pub fault_of_lem : CodeFault → ℕ → ℕ → Fault
-fault_of_lem codes.CodeEnds samples block = CodeEnds samples
-fault_of_lem codes.NotYet samples block = NotYet (samples / block)
-fault_of_lem codes.Read samples block = Read
-fault_of_lem codes.TooLong samples block = TooLong
+abbrev pub refusal_fault : CodeFault → ℕ → ℕ → Fault
+refusal_fault codes.CodeEnds samples block = CodeEnds samples
+refusal_fault codes.RunPastSegment samples block = RunPastSegment (samples / block)
+refusal_fault codes.ResidualTooLarge samples block = ResidualTooLarge (samples / block)
+refusal_fault codes.Read samples block = Read
+refusal_fault codes.TooLong samples block = TooLong

@@ -1,24 +1,17 @@
 -- A coder at work: which samples it has taken, and what is written of their code.
 use Rattle.std.specs.Prelude.{◌≡◌, ℕ, ◌+◌, ◌^◌, ◌<◌, ◌≤◌, Bool, List, [], ◌∷◌, ◌++◌, length, take, drop, All, Option, Some, None, Result, Ok, Err, ℤ}
 use Rattle.std.specs.Io.KnownBytes.{Appends, Consumes}
-use Rattle.rice_bits.specs.Bits.{bits_in_bytes, whole_bytes, padded}
+use Rattle.rice_bits.specs.Bits.{bits_in_bytes}
 use Rattle.rice_samples.specs.Parameters.{Parameters, IsSample, width}
 use Rattle.rice_samples.specs.Spelling.{spellings, StopsAt, NoSpelling}
 use Rattle.aec_tool.specs.Calls.{StopsBetween}
-use Rattle.aec_tool.specs.Coder.{StandsFor, filling}
-use Rattle.aec_tool.specs.Plain.{early_code, plain_code}
+use Rattle.rice_code.specs.Code.{code, code_bits, output, early_output}
+use Rattle.rice_code.specs.Coder.{StandsFor, settled, settled_code, fill_samples}
+use Rattle.rice_code.specs.Steps.{least_steps, most_steps}
 use Rattle.aec_tool.specs.declared.encoding.Encoding.{Encoding}
 use Rattle.aec_tool.specs.declared.outcome.Report.{Report}
 use Rattle.aec_tool.specs.declared.outcome.Fault.{Fault}
 use Rattle.aec_tool.specs.declared.outcome.Fault.TheVariants.{Write, SampleOutOfRange}
-
--- the bytes that are whole in what is coded
-abbrev pub early_bytes : Parameters → List ℤ → List ℕ
-early_bytes s xs = whole_bytes (early_code s xs)
-
--- the bytes that carry all of the code
-abbrev pub all_bytes : Parameters → List ℤ → List ℕ
-all_bytes s xs = whole_bytes (padded (plain_code s xs))
 
 -- the bits of the bytes that are whole
 abbrev pub whole_part : List Bool → List Bool
@@ -29,14 +22,15 @@ pub record Counts (s : Parameters) (e : Encoding) (xs : List ℤ) : Type 0 where
   pub setting : e.coder.setting ≡ s
   pub stands : StandsFor e.coder xs
   pub samples : e.samples ≡ length xs
-  pub bits : e.bits ≡ length (early_code s xs)
-  pub steps : e.meter ≡ length xs + length (early_code s xs)
+  pub bits : e.bits ≡ code_bits s (settled s xs)
+  pub least : length xs + least_steps s (settled s xs) ≤ e.meter
+  pub most : e.meter ≤ length xs + most_steps s (settled s xs)
 
 -- and an outlet has taken the whole bytes of what is coded since its state was `old`
 pub record Holds (s : Parameters) (old new : Option (List ℕ)) (e : Encoding) (xs : List ℤ) : Type 0 where
   pub counts : Counts s e xs
-  pub sink : e.sink ≡ drop (bits_in_bytes (length (early_code s xs))) (early_code s xs)
-  pub took : Appends old new (early_bytes s xs)
+  pub sink : e.sink ≡ drop (bits_in_bytes (length (settled_code s xs))) (settled_code s xs)
+  pub took : Appends old new (early_output s xs)
 
 -- an outlet has taken bytes up to a place between the ends of two texts
 pub record TakesBetween (old new : Option (List ℕ)) (from to : List ℕ) : Type 0 where
@@ -47,24 +41,26 @@ pub record TakesBetween (old new : Option (List ℕ)) (from to : List ℕ) : Typ
 -- an encoding has taken the samples and one more, and an outlet not all that it completes
 pub record FailsAt (s : Parameters) (old new : Option (List ℕ)) (e : Encoding) (xs : List ℤ) (x : ℤ) : Type 0 where
   pub counts : Counts s e (xs ++ x ∷ [])
-  pub takes : TakesBetween old new (early_bytes s xs) (early_bytes s (xs ++ x ∷ []))
+  pub takes : TakesBetween old new (early_output s xs) (early_output s (xs ++ x ∷ []))
 
 -- the report of all samples
 pub record Closes (s : Parameters) (r : Report) (xs : List ℤ) : Type 0 where
   pub samples : r.samples ≡ length xs
-  pub bits : r.bits ≡ length (plain_code s xs)
-  pub steps : r.steps ≡ length xs + filling s (length xs) + length (plain_code s xs)
+  pub bits : r.bits ≡ code_bits s xs
+  pub least : length xs + fill_samples s xs + least_steps s xs ≤ r.steps
+  pub most : r.steps ≤ length xs + fill_samples s xs + most_steps s xs
 
 -- the report of samples so far
 pub record Tells (s : Parameters) (r : Report) (xs : List ℤ) : Type 0 where
   pub samples : r.samples ≡ length xs
-  pub bits : r.bits ≡ length (early_code s xs)
-  pub steps : r.steps ≡ length xs + length (early_code s xs)
+  pub bits : r.bits ≡ code_bits s (settled s xs)
+  pub least : length xs + least_steps s (settled s xs) ≤ r.steps
+  pub most : r.steps ≤ length xs + most_steps s (settled s xs)
 
 -- an outlet has taken the code of all samples, or not all of it
 abbrev pub Finishes : Parameters → Option (List ℕ) → Option (List ℕ) → List ℤ → Option Fault → Type 0
-Finishes s old new xs None = Appends old new (all_bytes s xs)
-Finishes s old new xs (Some Write) = TakesBetween old new (early_bytes s xs) (all_bytes s xs)
+Finishes s old new xs None = Appends old new (output s xs)
+Finishes s old new xs (Some Write) = TakesBetween old new (early_output s xs) (output s xs)
 Finishes s old new xs (Some _) = ⊥
 
 -- bytes that spell samples, and what is behind them

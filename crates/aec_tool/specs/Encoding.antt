@@ -1,10 +1,11 @@
 -- What encoding does: each way in which it ends.
-use Rattle.std.specs.Prelude.{◌≡◌, ◌≢◌, ℕ, ◌+◌, ◌-◌, ◌*◌, ◌^◌, ◌<◌, ◌≤◌, ◌⊎◌, Bool, List, ◌++◌, length, take, All, Option, Some, None, ℤ}
+use Rattle.std.specs.Prelude.{◌≡◌, ◌≢◌, ℕ, ◌+◌, ◌-◌, ◌*◌, ◌^◌, ◌<◌, ◌≤◌, ◌⊎◌, List, ◌++◌, length, take, All, Option, Some, None, ℤ}
 use Rattle.std.specs.Io.KnownBytes.{IsAtEnd}
-use Rattle.rice_bits.specs.Bits.{padded, whole_bytes}
 use Rattle.rice_samples.specs.Parameters.{Parameters, IsSample, width}
 use Rattle.rice_samples.specs.Spelling.{Spells, spellings, Stop, AtEnd, NoSpelling, TooFew}
-use Rattle.rice_code.specs.Bounds.{bit_bound, step_bound}
+use Rattle.rice_code.specs.Bounds.{bit_bound, step_bound, amortised_step_bound}
+use Rattle.rice_code.specs.Code.{code_bits, output, early_output}
+use Rattle.rice_code.specs.Coder.{settled}
 use Rattle.aec_tool.specs.Calls.{Call, Leaves, StopsBetween, PassesLimit}
 use Rattle.aec_tool.specs.declared.outcome.Report.{Report}
 use Rattle.aec_tool.specs.declared.outcome.Fault.{Fault}
@@ -16,39 +17,30 @@ pub record BeginsWith (s : Parameters) (bytes : List ℕ) (samples : List ℤ) :
   pub split : bytes ≡ spellings s samples ++ rest
   pub legal : All (IsSample s) samples
 
--- `early` is the code of as many samples as are coded before the end, and `code` that of all.
-module _ (s : Parameters) (early code : List ℤ → List Bool) where
-  -- the bytes that are whole in the early code
-  abbrev pub early_output : List ℤ → List ℕ
-  early_output xs = whole_bytes (early xs)
-
-  -- the bytes that carry all of the code
-  abbrev pub whole_output : List ℤ → List ℕ
-  whole_output xs = whole_bytes (padded (code xs))
-
+module _ (s : Parameters) where
   -- the samples are coded up to the last one
   abbrev pub LeavesAll : Call → Report → List ℤ → Type 0
-  LeavesAll c r xs = Leaves c r (whole_output xs) (length xs) (length (code xs))
+  LeavesAll c r xs = Leaves c r (output s xs) (length xs) (code_bits s xs)
 
-  -- the samples are coded as far as they are before the end
+  -- the samples are coded as far as they make whole segments
   abbrev pub LeavesEarly : Call → Report → List ℤ → Type 0
-  LeavesEarly c r xs = Leaves c r (early_output xs) (length xs) (length (early xs))
+  LeavesEarly c r xs = Leaves c r (early_output s xs) (length xs) (code_bits s (settled s xs))
 
   -- The outlet failed behind the last of these samples: all before it is written, and not all that it completes.
   pub record FailsBehind (c : Call) (r : Report) (xs : List ℤ) : Type 0 where
     pub given : BeginsWith s c.given xs
     pub some : 1 ≤ length xs
     pub samples : r.samples ≡ length xs
-    pub bits : r.bits ≡ length (early xs)
-    pub stops : StopsBetween (early_output (take (length xs - 1) xs)) (early_output xs) c.written
+    pub bits : r.bits ≡ code_bits s (settled s xs)
+    pub stops : StopsBetween (early_output s (take (length xs - 1) xs)) (early_output s xs) c.written
 
   -- The outlet failed at the end of these samples: all before it is written, and not all of the code.
   pub record FailsAtEnd (c : Call) (r : Report) (xs : List ℤ) : Type 0 where
     pub given : Spells s c.given xs AtEnd
     pub end : IsAtEnd c.left
     pub samples : r.samples ≡ length xs
-    pub bits : r.bits ≡ length (code xs)
-    pub stops : StopsBetween (early_output xs) (whole_output xs) c.written
+    pub bits : r.bits ≡ code_bits s xs
+    pub stops : StopsBetween (early_output s xs) (output s xs) c.written
 
   -- The outcome for the samples xs. Without a fault these are all that were given, and their code is written.
   abbrev pub EndsSo : Option Fault → Call → Report → List ℤ → Type 0
@@ -69,3 +61,5 @@ pub record EncodesWithin (s : Parameters) (r : Report) : Type 0 where
   pub bits : r.bits ≤ bit_bound s r.samples
   pub at_least : r.bits + r.samples ≤ r.steps
   pub at_most : r.steps ≤ step_bound s r.samples
+  -- whatever the number of split options
+  pub amortised : r.steps ≤ amortised_step_bound s r.bits r.samples

@@ -1,12 +1,17 @@
 -- What joins encoding and decoding.
-use Rattle.std.specs.Prelude.{◌≡◌, ℕ, false, List, length, All, Some, ℤ}
-use Rattle.rice_bits.specs.Bits.{bits_of}
-use Rattle.rice_samples.specs.Parameters.{Parameters, IsLegal, IsSample}
-use Rattle.rice_code.specs.Decoded.{Decoded, Reached}
-use Rattle.aec_tool.specs.Encoding.{whole_output}
-use Rattle.aec_tool.specs.Plain.{early_code, plain_code}
+use Rattle.std.specs.Prelude.{◌≡◌, ◌⊎◌, ℕ, List, Option, Some, None}
+use Rattle.std.specs.Io.KnownBytes.{Consumes}
+use Rattle.rice_samples.specs.Parameters.{Parameters, IsLegal}
+use Rattle.aec_tool.specs.Calls.{Call}
+use Rattle.aec_tool.specs.Encoding.{Encodes}
+use Rattle.aec_tool.specs.Decoding.{Decodings}
+use Rattle.aec_tool.specs.declared.outcome.Report.{Report}
+use Rattle.aec_tool.specs.declared.outcome.Fault.{Fault}
+use Rattle.aec_tool.specs.declared.outcome.Fault.TheVariants.{Read, Write, TooLong}
 
--- with their count, the bytes that encoding writes decode to the samples
-abbrev pub ReturnsSamples : Type 0
-ReturnsSamples = (s : Parameters) → IsLegal s → s.pad ≡ false → (xs : List ℤ) → All (IsSample s) xs →
-    (used : ℕ) × Decoded s (bits_of (whole_output s (early_code s) (plain_code s) xs)) (Some (length xs)) xs Reached used
+-- A call that decodes is given what a call that encoded without a fault has written, and the number of its samples.
+-- Then it writes the bytes that were encoded, unless a device fails or the code is longer than a decoder takes.
+abbrev pub ReturnsBytes : Type 0
+ReturnsBytes = (s : Parameters) → IsLegal s → (encoding decoding : Call) (encoded decoded : Report) (fault : Option Fault) →
+    Encodes s encoding encoded None → Consumes (Some encoding.written) decoding.left decoding.given → Decodings s (Some encoded.samples) decoding decoded fault →
+    ((fault ≡ None) × (decoding.written ≡ encoding.given)) ⊎ ((fault ≡ Some Read) ⊎ ((fault ≡ Some Write) ⊎ (fault ≡ Some TooLong)))

@@ -1,15 +1,15 @@
 //! From the code to its samples.
-ghost use Rattle.std.specs.Prelude.{◌≡◌, ℕ, ◌+◌, ◌-◌, ◌*◌, ◌^◌, ◌<◌, ◌≤◌, ◌++◌, length, All, false, Option, List};
+ghost use Rattle.std.specs.Prelude.{◌≡◌, ℕ, ◌+◌, ◌-◌, ◌*◌, ◌^◌, ◌<◌, ◌≤◌, ◌++◌, length, All, Option, List};
 ghost use Rattle.rice_samples.specs.Parameters.{IsSample, width};
 ghost use Rattle.rice_samples.specs.Spelling.{spellings};
 ghost use Rattle.aec_tool.specs.Calls.{Call, Happens, Fails};
-ghost use Rattle.aec_tool.specs.Decoding.{Decodings, DecodesWithin, wanted_of, end_of_lem, fault_of_lem};
+ghost use Rattle.aec_tool.specs.Decoding.{Decodings, DecodesWithin, wanted_of, ended_fault, refusal_fault};
 
 use crate::outcome::{Fault, Outcome, Report};
-use crate::plain_decoder::{CodeFault, Decoder, Step};
 use crate::write::write_all;
 use arrayvec::ArrayVec;
 use rice_bits::{BitReader, Intake, Meter, Outlet};
+use rice_code::{CodeFault, Decoder, Step};
 use rice_samples::{Setting, bytes_of};
 
 /// The bytes of the samples of a block.
@@ -51,7 +51,7 @@ fn wanted(asked: Option<u64>, written: u64, block: u32) -> usize
 
 /// Why decoding stops where no 1 is left: only where more samples were asked for.
 fn end_of(asked: Option<u64>, samples: u64) -> Option<Fault>
-    ensures { result ≡ end_of_lem asked samples }
+    ensures { result ≡ ended_fault asked samples }
 {
     match asked {
         None => None,
@@ -62,11 +62,14 @@ fn end_of(asked: Option<u64>, samples: u64) -> Option<Fault>
 /// Why decoding stops where the decoder refuses so, behind so many samples.
 fn fault_of(fault: CodeFault, samples: u64, block: u32) -> Fault
     requires { 0 < block }
-    ensures { result ≡ fault_of_lem fault samples block }
+    ensures { result ≡ refusal_fault fault samples block }
 {
     match fault {
         CodeFault::CodeEnds => Fault::CodeEnds { samples },
-        CodeFault::NotYet => Fault::NotYet {
+        CodeFault::RunPastSegment => Fault::RunPastSegment {
+            block: samples / block as u64,
+        },
+        CodeFault::ResidualTooLarge => Fault::ResidualTooLarge {
             block: samples / block as u64,
         },
         CodeFault::Read => Fault::Read,
@@ -104,8 +107,6 @@ pub fn decode<I: Intake, O: Outlet>(
     intake: I,
     outlet: &mut O,
 ) -> (Outcome, I)
-    // Intervals that are padded are not decoded yet.
-    requires unpadded { setting.now.pad ≡ false }
     requires reads { I.failed intake + 1 < 2 ^ 64 }
     requires writes { O.failed outlet.old + 1 < 2 ^ 64 }
     ensures call { (c : Call) × Happens (I.left intake) (I.left result.1) (O.taken outlet.old) (O.taken outlet.new) c ×

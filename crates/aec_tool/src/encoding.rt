@@ -7,12 +7,13 @@ ghost use Rattle.rice_samples.specs.Parameters.{Parameters, IsSample, width};
 ghost use Rattle.aec_tool.specs.Calls.{Call, Happens, Fails};
 ghost use Rattle.aec_tool.specs.Encoding.{Encodes, EncodesWithin};
 ghost use Rattle.aec_tool.specs.Encoder.{whole_part, Refills, Counts, Holds, FailsAt, Tells, Closes, Finishes, Pushes, PushFails};
-ghost use Rattle.aec_tool.specs.Plain.{early_code, plain_code};
+ghost use Rattle.rice_code.specs.Code.{code};
+ghost use Rattle.rice_code.specs.Coder.{settled_code};
 
 use crate::outcome::{Fault, Outcome, Report};
-use crate::plain_coder::Coder;
 use crate::write::write_whole;
 use rice_bits::{BitSink, Intake, Meter, Outlet, ReadFault, WriteFault};
+use rice_code::Coder;
 use rice_samples::{Setting, sample_of};
 
 /// The most bytes that are encoded.
@@ -50,12 +51,11 @@ impl Encoding {
     fn take(&mut self, x: i64)
         requires { (s : Parameters) × (old : Option (List ℕ)) × (now : Option (List ℕ)) × (xs : List ℤ) × Holds s old now self.old xs × IsSample s x × (length xs < 2 ^ 48) }
         ensures { (s : Parameters) (old now : Option (List ℕ)) (xs : List ℤ) → Holds s old now self.old xs →
-            Counts s self.new (xs ++ x ∷ []) × (early_code s (xs ++ x ∷ []) ≡ whole_part (early_code s xs) ++ self.new.sink) }
+            Counts s self.new (xs ++ x ∷ []) × (settled_code s (xs ++ x ∷ []) ≡ whole_part (settled_code s xs) ++ self.new.sink) }
     {
-        let before = self.sink.len();
-        self.coder.push(x, &mut self.sink, &mut self.meter);
+        let bits = self.coder.push(x, &mut self.sink, &mut self.meter);
         self.samples += 1;
-        self.bits += self.sink.len() - before;
+        self.bits += bits;
     }
 
     /// Takes one more sample, and writes the whole bytes of what it completes.
@@ -115,13 +115,12 @@ impl Encoding {
     fn close(mut self) -> (Report, BitSink<16432>)
         requires { (s : Parameters) × (old : Option (List ℕ)) × (now : Option (List ℕ)) × (xs : List ℤ) × Holds s old now self xs × (length xs ≤ 2 ^ 48) }
         ensures { (s : Parameters) (old now : Option (List ℕ)) (xs : List ℤ) → Holds s old now self xs →
-            Closes s result.0 xs × (padded (plain_code s xs) ≡ whole_part (early_code s xs) ++ result.1) }
+            Closes s result.0 xs × (padded (code s xs) ≡ whole_part (settled_code s xs) ++ result.1) }
     {
-        let before = self.sink.len();
-        self.coder.finish(&mut self.sink, &mut self.meter);
+        let bits = self.coder.finish(&mut self.sink, &mut self.meter);
         let report = Report {
             samples: self.samples,
-            bits: self.bits + (self.sink.len() - before),
+            bits: self.bits + bits,
             steps: self.meter.steps(),
         };
         self.sink.pad();
@@ -212,12 +211,12 @@ fn carry(buffer: &mut [u8], filled: usize, waiting: usize)
 /// Encodes the samples that the intake's bytes spell, and writes their code to the outlet.
 ///
 /// It asks for at most 4,096 bytes at a time and for at most 2^48 in all, and then for one more.
-/// Each block that a sample makes whole is written before the next sample is taken.
+/// The code of each segment that a sample makes whole is written before the next sample is taken.
 pub fn encode<I: Intake, O: Outlet>(setting: &Setting, intake: &mut I, outlet: &mut O) -> Outcome
     requires reads { I.failed intake.old + 1 < 2 ^ 64 }
     requires writes { O.failed outlet.old + 1 < 2 ^ 64 }
     ensures call { (c : Call) × Happens (I.left intake.old) (I.left intake.new) (O.taken outlet.old) (O.taken outlet.new) c ×
-        Encodes setting.now (early_code setting.now) (plain_code setting.now) c result.report result.fault }
+        Encodes setting.now c result.report result.fault }
     ensures failures { Fails result.fault (I.failed intake.old) (I.failed intake.new) (O.failed outlet.old) (O.failed outlet.new) }
     ensures bounds { EncodesWithin setting.now result.report }
 {

@@ -3,7 +3,6 @@ ghost use Rattle.std.specs.Prelude.{◌≡◌, ◌+◌, ◌^◌, ◌<◌, true, 
 ghost use Rattle.aec_tool.specs.Calls.{Call, Happens, Fails};
 ghost use Rattle.aec_tool.specs.Decoding.{Decodings, DecodesWithin};
 ghost use Rattle.aec_tool.specs.Encoding.{Encodes, EncodesWithin};
-ghost use Rattle.aec_tool.specs.Plain.{early_code, plain_code};
 
 use crate::decoding::decode;
 use crate::encoding::encode;
@@ -16,7 +15,7 @@ pub fn run<I: Intake, O: Outlet>(plan: &Plan<'_>, intake: I, outlet: &mut O) -> 
     requires reads { I.failed intake + 1 < 2 ^ 64 }
     requires writes { O.failed outlet.old + 1 < 2 ^ 64 }
     ensures encodes { plan.now.decode ≡ false → (c : Call) × Happens (I.left intake) (I.left result.1) (O.taken outlet.old) (O.taken outlet.new) c ×
-        Encodes plan.now.setting (early_code plan.now.setting) (plain_code plan.now.setting) c result.0.report result.0.fault }
+        Encodes plan.now.setting c result.0.report result.0.fault }
     ensures encodes_within { plan.now.decode ≡ false → EncodesWithin plan.now.setting result.0.report }
     ensures decodes { plan.now.decode ≡ true → (c : Call) × Happens (I.left intake) (I.left result.1) (O.taken outlet.old) (O.taken outlet.new) c ×
         Decodings plan.now.setting plan.now.samples c result.0.report result.0.fault }

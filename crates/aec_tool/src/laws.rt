@@ -1,7 +1,7 @@
 //! What joins encoding and decoding.
-ghost use Rattle.aec_tool.specs.Laws.{ReturnsSamples};
+ghost use Rattle.aec_tool.specs.Laws.{ReturnsBytes};
 
-/// With their count, the bytes that encoding writes decode to the samples.
-pub fn returns_samples()
-    ensures { ReturnsSamples }
+/// The bytes that encoding writes decode, with the number of their samples, to the bytes that were encoded.
+pub fn returns_bytes()
+    ensures { ReturnsBytes }
 {}

@@ -8,8 +8,6 @@ mod engine;
 mod entries;
 mod laws;
 mod outcome;
-mod plain_coder;
-mod plain_decoder;
 mod plan;
 mod start_up;
 #[cfg(test)]

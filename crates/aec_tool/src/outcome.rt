@@ -24,9 +24,12 @@ pub enum Fault {
     /// The code ends after so many samples, and inside a coded data set or before the samples asked for.
     #[error("code ends after {samples} samples")]
     CodeEnds { samples: u64 },
-    /// This block, counted from 0, is coded by an option that is not decoded yet.
-    #[error("option not supported yet in block {block}")]
-    NotYet { block: u64 },
+    /// The run that begins with this block, counted from 0, passes the end of its segment.
+    #[error("run at block {block} passes its segment")]
+    RunPastSegment { block: u64 },
+    /// A residual of this block, counted from 0, is larger than any sample makes, or no 0 stands at the reference place.
+    #[error("residual too large in block {block}")]
+    ResidualTooLarge { block: u64 },
 }
 
 /// What an engine has done.
@@ -34,7 +37,7 @@ pub enum Fault {
 pub struct Report {
     /// The samples encoded, or decoded and written.
     pub samples: u64,
-    /// The bits of the code put or taken, without the zeros that fill the last byte.
+    /// The bits of the code: those that were put, without any padding, or those that were taken.
     pub bits: u64,
     /// The steps of coder or decoder.
     pub steps: u64,

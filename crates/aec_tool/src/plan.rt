@@ -1,5 +1,4 @@
 //! What the command line asks for.
-ghost use Rattle.std.specs.Prelude.{◌≡◌, false};
 
 use rice_samples::{Setting, SettingFault};
 use thiserror::Error;
@@ -12,8 +11,6 @@ pub struct Plan<'a> {
     pub samples: Option<u64>,
     pub source: &'a str,
     pub dest: &'a str,
-    // Intervals are not padded yet.
-    ghost unpadded: { setting.pad ≡ false },
 }
 
 /// Why a command line that was parsed is refused.

@@ -364,6 +364,13 @@ push_completes coder held x xs old new g e legal whole h place =
     let next = ends_next coder x xs h legal (push_as coder held x IsWhole g whole) in
     record { bits = code_held (grown coder x) (length old); appended = e ∙ ap (λ v. old ++ code_held v (length old)) g; completes = next.code_is (length old) place }
 
+pub push_bits : (coder held : State) (x : ℤ) (xs : List ℤ) (n : ℕ) → held ≡ grown coder x → n ≡ sum_by (λ d. length (text held.setting d)) (sets_held held) → IsSample coder.setting x → IsWhole held → StandsFor coder xs →
+    code_bits coder.setting (settled coder.setting (xs ++ x ∷ [])) ≡ code_bits coder.setting (settled coder.setting xs) + n
+push_bits coder held x xs n g count legal whole h =
+    let next = ends_next coder x xs h legal (push_as coder held x IsWhole g whole) in
+    let all : n ≡ sum_by (λ d. length (text coder.setting d)) (sets_held (grown coder x)) = push_as coder held x (λ v. n ≡ sum_by (λ d. length (text v.setting d)) (sets_held v)) g count in
+    next.bits_are ∙ ap (λ m. code_bits coder.setting (settled coder.setting xs) + m) (sym all)
+
 pub push_least : (coder held : State) (x : ℤ) (xs : List ℤ) (m n : ℕ) → held ≡ grown coder x → m + sum_by (λ d. length (text held.setting d)) (sets_held held) + sum_by (least_looks held.setting) (contents_held held) ≤ n → IsSample coder.setting x → IsWhole held → StandsFor coder xs →
     m + least_steps coder.setting (settled coder.setting (xs ++ x ∷ [])) ≤ n + least_steps coder.setting (settled coder.setting xs)
 push_least coder held x xs m n g steps legal whole h =
@@ -412,6 +419,12 @@ pub finish_completes : (coder held : State) (xs : List ℤ) (old new : List Bool
 finish_completes coder held xs old new g e h place =
     let next = filled_next coder xs h in
     record { bits = code_held (filled_up coder (fill_count coder)) (length old); appended = e ∙ ap (λ v. old ++ code_held v (length old)) g; completes = next.code_is (length old) place }
+
+pub finish_bits : (coder held : State) (xs : List ℤ) (n : ℕ) → held ≡ filled_up coder (fill_count coder) → n ≡ sum_by (λ d. length (text held.setting d)) (sets_held held) → StandsFor coder xs →
+    code_bits coder.setting xs ≡ code_bits coder.setting (settled coder.setting xs) + n
+finish_bits coder held xs n g count h =
+    let all : n ≡ sum_by (λ d. length (text coder.setting d)) (sets_held (filled_up coder (fill_count coder))) = subst (λ (v : State). n ≡ sum_by (λ d. length (text v.setting d)) (sets_held v)) g count in
+    (filled_next coder xs h).bits_are ∙ ap (λ m. code_bits coder.setting (settled coder.setting xs) + m) (sym all)
 
 pub finish_least : (coder held : State) (xs : List ℤ) (m n : ℕ) → held ≡ filled_up coder (fill_count coder) → m + fill_count coder + sum_by (λ d. length (text held.setting d)) (sets_held held) + sum_by (least_looks held.setting) (contents_held held) ≤ n → StandsFor coder xs →
     m + fill_samples coder.setting xs + least_steps coder.setting xs ≤ n + least_steps coder.setting (settled coder.setting xs)

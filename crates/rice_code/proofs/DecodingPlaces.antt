@@ -11,7 +11,7 @@ use Rattle.rice_code.specs.Decoded.{DecodedFrom, Ending, Reached, Ended, CutOff,
 use Rattle.rice_code.proofs.Laying.{lies_at}
 use Rattle.rice_code.proofs.Placing.{place_on, same_reference, same_left, same_blocks_in, same_blocks}
 
-next_place : (s : Parameters) (b c : ℕ) (d : DataSet) → place s b ≡ place s c → place s (block_behind s b d) ≡ place s (block_behind s c d)
+pub next_place : (s : Parameters) (b c : ℕ) (d : DataSet) → place s b ≡ place s c → place s (block_behind s b d) ≡ place s (block_behind s c d)
 next_place s b c d e = place_on s b c (length (blocks_in s b d)) e ∙ ap (λ v. place s (c + length v)) (same_blocks_in s b c d e)
 
 same_all_blocks : (s : Parameters) (b c : ℕ) (ds : List DataSet) → place s b ≡ place s c → blocks_in_all s b ds ≡ blocks_in_all s c ds
@@ -30,14 +30,14 @@ same_lie s b c m (d ∷ ds) bits e h =
 reference_there : (s : Parameters) (b c : ℕ) (r : Option ℕ) → place s b ≡ place s c → IsReference s b r → IsReference s c r
 reference_there s b c r e h = record { there = h.there ∙ same_reference s b c e; fits = h.fits }
 
-form_there : (s : Parameters) (b c : ℕ) (d : DataSet) → place s b ≡ place s c → IsForm s b d → IsForm s c d
+pub form_there : (s : Parameters) (b c : ℕ) (d : DataSet) → place s b ≡ place s c → IsForm s b d → IsForm s c d
 form_there s b c (NoCompression v) e h = (record { reference = reference_there s b c v.reference e h.0.reference; len = h.0.len }, h.1, h.2)
 form_there s b c (SecondExtension v) e h = record { reference = reference_there s b c v.reference e h.reference; len = h.len }
 form_there s b c (Split k v) e h = (record { reference = reference_there s b c v.reference e h.0.reference; len = h.0.len }, h.1, h.2)
 form_there s b c (ZeroBlocks r z) e h = (reference_there s b c r e h.0, h.1)
 form_there s b c (RemainderOfSegment r) e h = reference_there s b c r e h
 
-run_there : (s : Parameters) (b c : ℕ) (d : DataSet) → place s b ≡ place s c → RunIsSound s b d → RunIsSound s c d
+pub run_there : (s : Parameters) (b c : ℕ) (d : DataSet) → place s b ≡ place s c → RunIsSound s b d → RunIsSound s c d
 run_there s b c (NoCompression v) e h = tt
 run_there s b c (SecondExtension v) e h = tt
 run_there s b c (Split k v) e h = tt

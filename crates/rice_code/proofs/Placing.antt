@@ -55,7 +55,7 @@ same_residuals s b c t p (x ∷ xs) h e =
     let rest = ap (λ n. residuals s n x xs) f ∙ (same_residuals s b c (t + 1) x xs h e ∙ ap (λ n. residuals s n x xs) g) in
     λ i. first i ∷ rest i
 
-same_contents : (s : Parameters) (b c : ℕ) (p : ℤ) (xs : List ℤ) → 1 ≤ s.block → place s b ≡ place s c → contents s b p xs ≡ contents s c p xs
+pub same_contents : (s : Parameters) (b c : ℕ) (p : ℤ) (xs : List ℤ) → 1 ≤ s.block → place s b ≡ place s c → contents s b p xs ≡ contents s c p xs
 same_contents s b c p xs h e =
     let f : s.block * b ≡ s.block * b + 0 = omega arith in
     let g : s.block * c + 0 ≡ s.block * c = omega arith in

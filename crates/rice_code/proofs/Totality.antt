@@ -104,7 +104,7 @@ more_zeros s b (suc n) h =
     let none : has_reference s b ≡ false = elim (bool_cases (has_reference s b)) [ inl r ↦ absurd (let f : true ≡ false = sym (reference_begins s b r) ∙ h.0 in cc) | inr r ↦ r ] in
     (zeros_sound s b None (record { there = sym none; fits = tt }), more_zeros s (b + 1) n h.1)
 
-blocks_are_sound : (s : Parameters) (b : ℕ) (d : DataSet) → IsLegal s → IsSound s b d → AreSoundBlocks s b (blocks_in s b d)
+pub blocks_are_sound : (s : Parameters) (b : ℕ) (d : DataSet) → IsLegal s → IsSound s b d → AreSoundBlocks s b (blocks_in s b d)
 blocks_are_sound s b (NoCompression c) legal h = (record { block = h.0.0; at_reference = h.0.1; fit = h.0.2 }, tt)
 blocks_are_sound s b (SecondExtension c) legal h = (record { block = h.0; at_reference = h.2.0; fit = h.2.1 }, tt)
 blocks_are_sound s b (Split k c) legal h = (record { block = h.0.0; at_reference = h.0.1; fit = h.2 }, tt)
@@ -168,7 +168,7 @@ block_has_samples s b p (Some v) (d ∷ ds) legal j h k =
     let reference = ap (λ u. cond u (Some (pattern s x.0)) None) there ∙ ap (λ n. Some n) x.2 in
     (x.0 ∷ rest.0, ap (λ n. suc n) rest.1 ∙ len, (x.1, rest.2), λ t. record { reference = reference t; residuals = first t ∷ others t })
 
-blocks_have_samples : (s : Parameters) (b : ℕ) (p : ℤ) (cs : List Contents) → IsLegal s → 1 ≤ s.block → IsSample s p → AreSoundBlocks s b cs →
+pub blocks_have_samples : (s : Parameters) (b : ℕ) (p : ℤ) (cs : List Contents) → IsLegal s → 1 ≤ s.block → IsSample s p → AreSoundBlocks s b cs →
     (xs : List ℤ) × (length xs ≡ s.block * length cs) × AllByRecursion (IsSample s) xs × (blocks_from s b p (length cs) xs ≡ cs)
 blocks_have_samples s b p [] legal j h k = ([], omega arith, tt, refl)
 blocks_have_samples s b p (c ∷ cs) legal j h k =

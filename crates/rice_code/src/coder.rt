@@ -2,6 +2,7 @@
 ghost use Rattle.std.specs.Prelude.{◌≡◌, ℕ, ◌+◌, ◌*◌, ◌^◌, ◌<◌, ◌≤◌, ◌++◌, [], ◌∷◌, length, List, ℤ};
 ghost use Rattle.rice_samples.specs.Parameters.{IsSample};
 ghost use Rattle.rice_samples.specs.Places.{cut};
+ghost use Rattle.rice_code.specs.Code.{code_bits};
 ghost use Rattle.rice_code.specs.Steps.{least_steps, most_steps, segment_steps};
 
 use crate::open_segment::OpenSegment;
@@ -50,39 +51,46 @@ impl Coder {
     }
 
     /// Takes the sample `x`. If it makes a segment whole, the code of the segment is appended, with the
-    /// padding of an interval that it ends where intervals are padded; else nothing is.
+    /// padding of an interval that it ends where intervals are padded; else nothing is. Answers how many
+    /// bits were appended, padding aside.
     ///
     /// A step is a sample, a bit put, padding aside, or a look at a residual.
     #[inline]
-    pub fn push(&mut self, x: i64, sink: &mut BitSink<16432>, meter: &mut Meter)
+    pub fn push(&mut self, x: i64, sink: &mut BitSink<16432>, meter: &mut Meter) -> u64
         requires sample { IsSample self.old.setting x }
         requires room { length sink.old ≤ 7 }
         requires meter { meter.old + segment_steps self.old.setting < 2 ^ 62 }
         ensures setting { self.new.setting ≡ self.old.setting }
         ensures stands { (xs : List ℤ) → StandsFor self.old xs → StandsFor self.new (xs ++ x ∷ []) }
         ensures code { (xs : List ℤ) → StandsFor self.old xs → IsInPlace self.old.setting xs sink.old → Completes self.old.setting xs (xs ++ x ∷ []) sink.old sink.new }
+        ensures bits { (xs : List ℤ) → StandsFor self.old xs → code_bits self.old.setting (settled self.old.setting (xs ++ x ∷ [])) ≡ code_bits self.old.setting (settled self.old.setting xs) + result }
         ensures steps_from { (xs : List ℤ) → StandsFor self.old xs → meter.old + 1 + least_steps self.old.setting (settled self.old.setting (xs ++ x ∷ [])) ≤ meter.new + least_steps self.old.setting (settled self.old.setting xs) }
         ensures steps_to { (xs : List ℤ) → StandsFor self.old xs → meter.new + most_steps self.old.setting (settled self.old.setting xs) ≤ meter.old + 1 + most_steps self.old.setting (settled self.old.setting (xs ++ x ∷ [])) }
     {
         meter.tick(1);
         self.segment.hold(x);
         if self.segment.is_whole() {
-            self.segment.code(sink, meter);
+            let bits = self.segment.code(sink, meter);
             self.segment.begin_next();
+            bits
+        } else {
+            0
         }
     }
 
     /// Fills the last block by repeating the last sample, a step for each, and appends the code of the
-    /// samples that wait. An interval that is left unfinished is not padded, nor is the end.
-    pub fn finish(self, sink: &mut BitSink<16432>, meter: &mut Meter)
+    /// samples that wait. An interval that is left unfinished is not padded, nor is the end. Answers how
+    /// many bits were appended, padding aside.
+    pub fn finish(self, sink: &mut BitSink<16432>, meter: &mut Meter) -> u64
         requires room { length sink.old ≤ 7 }
         requires meter { meter.old + segment_steps self.setting < 2 ^ 62 }
         ensures code { (xs : List ℤ) → StandsFor self xs → IsInPlace self.setting xs sink.old → Finishes self.setting xs sink.old sink.new }
+        ensures bits { (xs : List ℤ) → StandsFor self xs → code_bits self.setting xs ≡ code_bits self.setting (settled self.setting xs) + result }
         ensures steps_from { (xs : List ℤ) → StandsFor self xs → meter.old + fill_samples self.setting xs + least_steps self.setting xs ≤ meter.new + least_steps self.setting (settled self.setting xs) }
         ensures steps_to { (xs : List ℤ) → StandsFor self xs → meter.new + most_steps self.setting (settled self.setting xs) ≤ meter.old + fill_samples self.setting xs + most_steps self.setting xs }
     {
         let Coder { mut segment } = self;
         segment.fill(meter);
-        segment.code(sink, meter);
+        segment.code(sink, meter)
     }
 }

@@ -107,18 +107,20 @@ impl OpenSegment {
         push_copies(&mut self.residuals, residual, count, meter);
     }
 
-    /// Appends the code of its blocks, with the padding of the interval that they end.
-    pub fn code(&self, sink: &mut BitSink<16432>, meter: &mut Meter)
+    /// Appends the code of its blocks, with the padding of the interval that they end. Answers how many bits that are, padding aside.
+    pub fn code(&self, sink: &mut BitSink<16432>, meter: &mut Meter) -> u64
         requires sound { AreSoundBlocks self.now.setting self.now.start (contents_held self.now) }
         requires blocks { length self.now.residuals ≡ self.now.setting.block * blocks_held self.now }
         requires room { length sink.old ≤ 7 }
         requires meter { meter.old + 64 * (id_len self.now.setting + self.now.setting.block * (self.now.setting.bits + k_max self.now.setting + 5)) < 2 ^ 62 }
         ensures bits { sink.new ≡ sink.old ++ code_held self.now (length sink.old) }
+        ensures count { result ≡ sum_by (λ d. length (text self.now.setting d)) (sets_held self.now) }
         ensures steps_from { meter.old + sum_by (λ d. length (text self.now.setting d)) (sets_held self.now) + sum_by (least_looks self.now.setting) (contents_held self.now) ≤ meter.new }
         ensures steps_to { meter.new ≤ meter.old + sum_by (λ d. length (text self.now.setting d)) (sets_held self.now) + sum_by (most_looks self.now.setting) (contents_held self.now) }
     {
         let setting = &self.setting;
         let blocks = self.residuals.len() / setting.block() as usize;
+        let before = sink.len();
         code_blocks(
             setting,
             self.start,
@@ -128,7 +130,9 @@ impl OpenSegment {
             sink,
             meter,
         );
+        let bits = sink.len() - before;
         pad_interval(setting, self.start as usize + blocks, sink);
+        bits
     }
 
     /// Goes on to the next segment.

@@ -1,4 +1,4 @@
-use Rattle.std.proofs.Common.{◌≡◌, ◌-◌}
+use Rattle.std.proofs.Common.{◌≡◌, ◌+◌, ◌-◌, ◌*◌}
 use Rattle.aec_tool.specs.Decodings.{RunsOn}
 use Rattle.aec_tool.proofs.decoding.decode.Given as goal
 
@@ -8,5 +8,6 @@ invariant-decode_all g l = record {
   writes : g.O.Outlet.failed l.outlet ≡ g.O.Outlet.failed l.fn.outlet;
 }
 
+-- The samples of a run that are still to come are fewer with each block, and each bit brings at most so many.
 abbrev pub decreases-decode_all : goal.decreases-decode_all
-decreases-decode_all g l = 4503599627370496 - l.reader.taken
+decreases-decode_all g l = 456 * (4503599627370496 - l.reader.taken) + l.decoder.run * l.decoder.setting.block

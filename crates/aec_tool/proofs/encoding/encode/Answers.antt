@@ -3,8 +3,8 @@ use Rattle.std.proofs.lemmas.List.{length-take, length-take-le}
 use Rattle.std.specs.Io.KnownBytes.{Consumes}
 use Rattle.std.proofs.KnownBytes.{Consumes-nil, Consumes-trans}
 use Rattle.rice_samples.specs.Parameters.{width}
-use Rattle.aec_tool.proofs.EncoderLemmas.{legal_of}
-use Rattle.aec_tool.proofs.EndLemmas.{within_early, within_all, read_ends, cut_ends, long_ends, finish_ends, push_ends, push_within, in_hand, runs_on, runs_count}
+use Rattle.aec_tool.proofs.EncoderLemmas.{settled_by}
+use Rattle.aec_tool.proofs.EndLemmas.{within_early, within_all, read_ends, cut_ends, long_ends, finish_ends, push_ends, push_fails, push_within, in_hand, runs_on, runs_count}
 use Rattle.aec_tool.proofs.encoding.encode.Goals as goal
 
 -- no bytes
@@ -42,7 +42,7 @@ returns-in-Err-clause-bounds g c =
     let s = c.args.setting.now in
     let i = c.fill_all.invariant in
     let k = i.runs.holds.counts in
-    within_early s c.stopped.result.report i.runs.samples (legal_of s c.fill_all.encoding i.runs.samples k) (c.stopped.ensures.told s i.runs.samples k)
+    within_early s c.stopped.result.report i.runs.samples (settled_by s c.fill_all.encoding i.runs.samples k) (c.stopped.ensures.told s i.runs.samples k)
 
 pub returns-then-waiting-gt0-clause-call : goal.returns-then-waiting-gt0-clause-call
 returns-then-waiting-gt0-clause-call g c =
@@ -63,7 +63,7 @@ returns-then-waiting-gt0-clause-bounds g c =
     let s = c.args.setting.now in
     let i = c.fill_all.invariant in
     let k = i.runs.holds.counts in
-    within_early s c.stopped-then-waiting-gt0.result.report i.runs.samples (legal_of s c.fill_all.encoding i.runs.samples k) (c.stopped-then-waiting-gt0.ensures.told s i.runs.samples k)
+    within_early s c.stopped-then-waiting-gt0.result.report i.runs.samples (settled_by s c.fill_all.encoding i.runs.samples k) (c.stopped-then-waiting-gt0.ensures.told s i.runs.samples k)
 
 pub finish-requires-clause-ready : goal.finish-requires-clause-ready
 finish-requires-clause-ready g c =
@@ -92,7 +92,7 @@ returns-then-count-eq0-clause-bounds g c =
     let s = c.args.setting.now in
     let i = c.fill_all.invariant in
     let did = c.finish.ensures.did s (g.O.Outlet.taken c.args.outlet.now) i.runs.samples i.runs.holds in
-    within_all s c.finish.result.report i.runs.samples (legal_of s c.fill_all.encoding i.runs.samples i.runs.holds.counts) did.0
+    within_all s c.finish.result.report i.runs.samples (settled_by s c.fill_all.encoding i.runs.samples i.runs.holds.counts) did.0
 
 pub returns-then-given-ge-LIMIT-clause-call : goal.returns-then-given-ge-LIMIT-clause-call
 returns-then-given-ge-LIMIT-clause-call g c =
@@ -110,7 +110,7 @@ returns-then-given-ge-LIMIT-clause-bounds g c =
     let s = c.args.setting.now in
     let i = c.fill_all.invariant in
     let k = i.runs.holds.counts in
-    within_early s c.stopped-then-given-ge-LIMIT.result.report i.runs.samples (legal_of s c.fill_all.encoding i.runs.samples k) (c.stopped-then-given-ge-LIMIT.ensures.told s i.runs.samples k)
+    within_early s c.stopped-then-given-ge-LIMIT.result.report i.runs.samples (settled_by s c.fill_all.encoding i.runs.samples k) (c.stopped-then-given-ge-LIMIT.ensures.told s i.runs.samples k)
 
 pub push_all-requires-clause-ready : goal.push_all-requires-clause-ready
 push_all-requires-clause-ready g c =
@@ -139,6 +139,15 @@ returns-in-Err-push_all-clause-call g c =
     (in_hand s left_old left mid start (g.O.Outlet.taken c.fill_all.outlet) c.fill_all.encoding c.fill_all.given c.fill_all.waiting c.in-Ok.count c.fill_all.buffer c.refill.new.buffer i.runs more)
     i.runs.reads.legal (Consumes-trans left_old mid left i.runs.bytes more.given i.runs.gave more.gave) (omega (arith, c.in-Ok.ensures.count, c.piece.ensures.most, length-take filled c.refill.new.buffer)) (omega (arith, c.width-width.ensures.value, c.width-width.ensures.range))
     (λ xs h. o.ensures.told s xs h) o.ensures.fault (c.in-Err-push_all.ensures.did start i.runs.samples i.runs.holds)
+
+pub returns-in-Err-push_all-clause-failures : goal.returns-in-Err-push_all-clause-failures
+returns-in-Err-push_all-clause-failures g c =
+    let s = c.args.setting.now in
+    let i = c.fill_all.invariant in
+    let start = g.O.Outlet.taken c.args.outlet.now in
+    push_fails s start (g.O.Outlet.taken c.push_all.new.outlet) c.push_all.new.self i.runs.samples (take (c.fill_all.waiting + c.in-Ok.count) c.refill.new.buffer) c.in-Err-push_all.fault c.stopped-in-Err-push_all.result.fault
+    (g.I.Intake.failed c.args.intake.now) (g.I.Intake.failed c.refill.new.intake) (g.O.Outlet.failed c.args.outlet.now) (g.O.Outlet.failed c.fill_all.outlet) (g.O.Outlet.failed c.push_all.new.outlet)
+    (c.in-Ok.ensures.failures ∙ i.reads) i.writes (c.in-Err-push_all.ensures.did start i.runs.samples i.runs.holds) c.in-Err-push_all.ensures.failures c.stopped-in-Err-push_all.ensures.fault
 
 pub returns-in-Err-push_all-clause-bounds : goal.returns-in-Err-push_all-clause-bounds
 returns-in-Err-push_all-clause-bounds g c =

@@ -1,18 +1,33 @@
-use Rattle.std.proofs.Common.{arith, ◌≡◌, ◌+◌, ◌-◌, ◌∙◌, length, refl, ap}
-use Rattle.aec_tool.specs.Coder.{filling}
+use Rattle.std.proofs.Common.{arith, ◌≡◌, ◌+◌, length, refl, subst}
+use Rattle.rice_samples.specs.Parameters.{Parameters}
+use Rattle.rice_code.specs.Code.{code_bits}
+use Rattle.rice_code.specs.Coder.{settled}
 use Rattle.aec_tool.specs.declared.outcome.Report.{Report}
-use Rattle.aec_tool.proofs.EncoderLemmas.{legal_of, early_small, closed}
+use Rattle.aec_tool.proofs.EncoderLemmas.{Total, all_small, counts_small, sink_short, sink_place, closed}
 use Rattle.aec_tool.proofs.encoding.Encoding.close.Goals as goal
 
-pub finish-requires-clause-meter : goal.finish-requires-clause-meter
-finish-requires-clause-meter c =
+pub finish-bits-requires-clause-room : goal.finish-bits-requires-clause-room
+finish-bits-requires-clause-room c = sink_short c.requires.0 c.requires.1 c.requires.2 c.args.self c.requires.3 c.requires.4
+
+pub finish-bits-requires-clause-meter : goal.finish-bits-requires-clause-meter
+finish-bits-requires-clause-meter c = let small = counts_small c.requires.0 _ c.requires.3 c.requires.4.counts in omega (arith, small.1, small.2, c.requires.5)
+
+pub overflow_add-report : goal.overflow_add-report
+overflow_add-report c =
+    let s = c.requires.0 in
+    let xs = c.requires.3 in
     let k = c.requires.4.counts in
-    let small = early_small c.requires.0 c.requires.3 (legal_of c.requires.0 _ c.requires.3 k) in
-    omega (arith, k.steps, small, c.requires.5)
+    let same = subst (λ (t : Parameters). code_bits t xs ≡ code_bits t (settled t xs) + c.finish-bits.result) k.setting (c.finish-bits.ensures.bits xs k.stands) in
+    omega (arith, all_small s c.args.self.coder xs k.setting k.stands, same, k.bits, c.requires.5)
 
 pub returns : goal.returns
 returns c s old now xs h =
-    let r : Report = record { samples = c.args.self.samples; bits = c.args.self.bits + (c.len.result - c.len-before.result); steps = c.steps.result } in
-    let counted : c.steps.result + length c.args.self.sink ≡ c.args.self.meter + filling c.args.self.coder.setting (length xs) + length c.finish.new.sink = ap (λ n. n + length c.args.self.sink) c.steps.ensures.value ∙ c.finish.ensures.steps xs h.counts.stands in
-    closed s old now c.args.self r c.finish.new.sink c.pad.new.self xs h (c.finish.ensures.code xs h.counts.stands) counted refl
-    (λ i. c.args.self.bits + (c.len.ensures.value i - c.len-before.ensures.value i)) c.pad.ensures.bits
+    let f = c.finish-bits in
+    let r : Report = record { samples = c.args.self.samples; bits = c.args.self.bits + f.result; steps = c.steps.result } in
+    let stands = h.counts.stands in
+    let total : Total c.args.self.coder.setting xs c.args.self.meter c.steps.result c.args.self.bits (c.args.self.bits + f.result) = record {
+      least = omega (arith, c.steps.ensures.value, f.ensures.steps_from xs stands);
+      most = omega (arith, c.steps.ensures.value, f.ensures.steps_to xs stands);
+      bits = omega (arith, f.ensures.bits xs stands);
+    } in
+    closed s old now c.args.self r f.new.sink c.pad.new.self xs h (f.ensures.code xs stands (sink_place s old now c.args.self xs h)) total refl c.pad.ensures.bits

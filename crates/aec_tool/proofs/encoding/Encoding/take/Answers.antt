@@ -1,38 +1,47 @@
-use Rattle.std.proofs.Common.{arith, rules, ◌+◌, ◌-◌, length, refl, ap, sym, subst, length-append, w64, ℤ}
+use Rattle.std.proofs.Common.{arith, rules, ◌≡◌, ◌∙◌, ◌+◌, ◌++◌, ◌∷◌, [], length, length-append, refl, sym, subst, w64, ℤ}
 use Rattle.std.proofs.lemmas.Int.{to_z-of_z}
 use Rattle.rice_samples.specs.Parameters.{Parameters, IsSample}
-use Rattle.aec_tool.proofs.EncoderLemmas.{legal_of, early_small, sink_short, taken_on}
+use Rattle.rice_code.specs.Code.{code_bits}
+use Rattle.rice_code.specs.Coder.{StandsFor, settled}
+use Rattle.aec_tool.proofs.EncoderLemmas.{Tally, counts_small, early_small, sink_short, sink_place, taken_on}
 use Rattle.aec_tool.proofs.encoding.Encoding.take.Goals as goal
 
-pub push-requires-clause-sample : goal.push-requires-clause-sample
-push-requires-clause-sample c =
+pub push-bits-requires-clause-sample : goal.push-bits-requires-clause-sample
+push-bits-requires-clause-sample c =
     let px = to_z-of_z w64 c.args.x (search rules) in
     subst (λ (x : ℤ). IsSample c.args.self.now.coder.setting x) (sym px) (subst (λ (t : Parameters). IsSample t c.args.x) (sym c.requires.4.counts.setting) c.requires.5)
 
-pub push-requires-clause-room : goal.push-requires-clause-room
-push-requires-clause-room c = sink_short c.requires.0 c.requires.1 c.requires.2 _ c.requires.3 c.requires.4
+pub push-bits-requires-clause-room : goal.push-bits-requires-clause-room
+push-bits-requires-clause-room c = sink_short c.requires.0 c.requires.1 c.requires.2 _ c.requires.3 c.requires.4
 
-pub push-requires-clause-meter : goal.push-requires-clause-meter
-push-requires-clause-meter c =
-    let k = c.requires.4.counts in
-    let small = early_small c.requires.0 c.requires.3 (legal_of c.requires.0 _ c.requires.3 k) in
-    omega (arith, k.steps, small, c.requires.6)
+pub push-bits-requires-clause-meter : goal.push-bits-requires-clause-meter
+push-bits-requires-clause-meter c = let small = counts_small c.requires.0 _ c.requires.3 c.requires.4.counts in omega (arith, small.1, small.2, c.requires.6)
 
 pub overflow_add-self : goal.overflow_add-self
 overflow_add-self c = omega (arith, c.requires.4.counts.samples, c.requires.6)
 
-pub overflow_sub-self : goal.overflow_sub-self
-overflow_sub-self c =
-    let k = c.push.ensures.code c.requires.3 c.requires.4.counts.stands in
-    omega (arith, ap length k.appended, length-append c.args.self.now.sink k.bits, c.len.ensures.value, c.len-before.ensures.value)
-
 pub overflow_add-self-2 : goal.overflow_add-self-2
 overflow_add-self-2 c =
     let k = c.requires.4.counts in
-    let small = early_small c.requires.0 c.requires.3 (legal_of c.requires.0 _ c.requires.3 k) in
-    omega (arith, k.bits, small, c.requires.6, c.len.ensures.fits)
+    let p = c.push-bits in
+    let xs = c.requires.3 in
+    let ys = xs ++ c.args.x ∷ [] in
+    let px = to_z-of_z w64 c.args.x (search rules) in
+    let t = c.args.self.now.coder.setting in
+    let stands = subst (λ (x : ℤ). StandsFor p.new.self (xs ++ x ∷ [])) px (p.ensures.stands xs k.stands) in
+    let bits = subst (λ (x : ℤ). code_bits t (settled t (xs ++ x ∷ [])) ≡ code_bits t (settled t xs) + p.result) px (p.ensures.bits xs k.stands) in
+    let same = subst (λ (t : Parameters). code_bits t (settled t ys) ≡ code_bits t (settled t xs) + p.result) k.setting bits in
+    let small = early_small c.requires.0 p.new.self ys (p.ensures.setting ∙ k.setting) stands in
+    omega (arith, small, same, k.bits, c.requires.6, length-append xs (c.args.x ∷ []))
 
 pub returns : goal.returns
 returns c s old now xs h =
-    taken_on s old now c.args.self.now _ xs c.args.x _ (to_z-of_z w64 c.args.x (search rules)) h c.push.ensures.setting (c.push.ensures.stands xs h.counts.stands) (c.push.ensures.code xs h.counts.stands)
-    c.push.ensures.steps refl (λ i. c.args.self.now.bits + (c.len.ensures.value i - c.len-before.ensures.value i))
+    let e = c.args.self.now in
+    let p = c.push-bits in
+    let stands = h.counts.stands in
+    let tally : Tally e.coder.setting xs (xs ++ _ ∷ []) 1 e.meter p.new.meter e.bits (e.bits + p.result) = record {
+      least = p.ensures.steps_from xs stands;
+      most = p.ensures.steps_to xs stands;
+      bits = omega (arith, p.ensures.bits xs stands);
+    } in
+    taken_on s old now e _ xs c.args.x _ (to_z-of_z w64 c.args.x (search rules)) h p.ensures.setting (p.ensures.stands xs stands) (p.ensures.code xs stands (sink_place s old now e xs h)) tally refl

@@ -1,7 +1,8 @@
-use Rattle.std.proofs.Common.{arith, ◌+◌, ◌≤◌, subst, List, ℤ}
+use Rattle.std.proofs.Common.{arith, ◌≡◌, ◌+◌, ◌≤◌, subst, List, ℤ}
 use Rattle.rice_code.specs.Coder.{State, StandsFor, IsInPlace, Finishes, fill_samples, settled}
+use Rattle.rice_code.specs.Code.{code_bits}
 use Rattle.rice_code.specs.Steps.{least_steps, most_steps}
-use Rattle.rice_code.proofs.CoderLemmas.{finish_sound, finish_completes, finish_least, finish_most}
+use Rattle.rice_code.proofs.CoderLemmas.{finish_sound, finish_completes, finish_bits, finish_least, finish_most}
 use Rattle.rice_code.proofs.coder.Coder.finish.Goals as goal
 
 pub code-requires-clause-sound : goal.code-requires-clause-sound
@@ -14,6 +15,11 @@ pub returns-clause-code : goal.returns-clause-code
 returns-clause-code c =
     subst (λ (v : State). (xs : List ℤ) → StandsFor v xs → IsInPlace v.setting xs c.args.sink.now → Finishes v.setting xs c.args.sink.now c.code.new.sink) c.self.view_is
     (λ xs h place. finish_completes c.self.inside.segment c.fill.new.self xs c.args.sink.now c.code.new.sink c.fill.ensures.value c.code.ensures.bits h place)
+
+pub returns-clause-bits : goal.returns-clause-bits
+returns-clause-bits c =
+    subst (λ (v : State). (xs : List ℤ) → StandsFor v xs → code_bits v.setting xs ≡ code_bits v.setting (settled v.setting xs) + c.code.result) c.self.view_is
+    (λ xs h. finish_bits c.self.inside.segment c.fill.new.self xs c.code.result c.fill.ensures.value c.code.ensures.count h)
 
 pub returns-clause-steps_from : goal.returns-clause-steps_from
 returns-clause-steps_from c =

@@ -1,4 +1,4 @@
-use Rattle.std.proofs.Common.{◌≡◌, ◌+◌, ◌*◌, ◌/◌, ◌^◌, ◌<◌, ◌≤◌, ◌++◌, ◌∙◌, ap, arith, length, subst, sym, false}
+use Rattle.std.proofs.Common.{◌≡◌, ◌+◌, ◌-◌, ◌*◌, ◌/◌, ◌^◌, ◌<◌, ◌≤◌, ◌++◌, ◌∙◌, ap, arith, length, length-append, subst, sym, false}
 use Rattle.std.specs.Prelude.{sum_by}
 use Rattle.std.proofs.lemmas.List.Concat.{length-flat_map}
 use Rattle.rice_samples.specs.Parameters.{id_len, k_max}
@@ -44,6 +44,16 @@ returns-clause-bits c =
     let whole = subst (λ (v : State). length v.residuals ≡ v.setting.block * blocks_held v) (sym c.self.view_is) c.requires.blocks in
     subst (λ (v : State). c.pad_interval.new.sink ≡ c.args.sink.now ++ code_held v (length c.args.sink.now)) c.self.view_is
     (code_is_held st (c.len.result / c.block.result) i.end c.args.sink.now c.code_blocks.new.sink c.pad_interval.new.sink n c.self.invariant sound whole c.code_blocks.ensures.bits c.pad_interval.ensures)
+
+pub returns-clause-count : goal.returns-clause-count
+returns-clause-count c =
+    let i = c.self.inside in
+    let s = i.setting in
+    let st : State = record { setting = i.setting; residuals = i.residuals; reference = i.reference; previous = i.previous; start = i.start } in
+    let n : c.len.result / c.block.result ≡ blocks_held st = λ j. c.len.ensures.value j / c.block.ensures.value j in
+    let texts = ap (λ m. length (joined s (data_sets s i.start false (held_blocks s i.reference m i.residuals)))) n ∙ length-flat_map (text s) (sets_held st) in
+    subst (λ (v : State). c.len-2.result - c.len-before.result ≡ sum_by (λ d. length (text v.setting d)) (sets_held v)) c.self.view_is
+    (omega (arith, texts, ap length c.code_blocks.ensures.bits, length-append c.args.sink.now (joined s (data_sets s i.start false (held_blocks s i.reference (c.len.result / c.block.result) i.residuals))), c.len-2.ensures.value, c.len-before.ensures.value))
 
 pub returns-clause-steps_from : goal.returns-clause-steps_from
 returns-clause-steps_from c =
