@@ -85,6 +85,11 @@ fn create<R: Runtime + AllocGlobal, S: Read + Drop>(rt: &R, plan: &Plan<'_>, sou
     if plan.dest == "-" {
         return finish(rt, plan, source, io::writer(rt));
     }
+    // Where standard streams are closed, a new file takes their place, and messages would go into it. A directory, which is
+    // neither read nor written, stands in for each.
+    let _input = File::open(rt, "/");
+    let _output = File::open(rt, "/");
+    let _errors = File::open(rt, "/");
     match File::create(rt, plan.dest) {
         Ok(file) => finish(rt, plan, source, file),
         Err(_) => complain(rt, StartFault::NoDest { name: plan.dest }, FAILURE),
