@@ -1,5 +1,5 @@
 //! The coder.
-ghost use Rattle.std.specs.Prelude.{◌≡◌, ℕ, ◌+◌, ◌*◌, ◌^◌, ◌<◌, ◌≤◌, ◌++◌, [], ◌∷◌, length, List, ℤ};
+ghost use Rattle.std.specs.Prelude.{◌≡◌, ℕ, ◌+◌, ◌*◌, ◌^◌, ◌<◌, ◌≤◌, ◌++◌, [], ◌∷◌, length, take, All, List, ℤ};
 ghost use Rattle.rice_samples.specs.Parameters.{IsSample};
 ghost use Rattle.rice_samples.specs.Places.{cut};
 ghost use Rattle.rice_code.specs.Steps.{least_steps, most_steps, segment_steps};
@@ -70,6 +70,39 @@ impl Coder {
             self.segment.code(sink, meter);
             self.segment.begin_next();
         }
+    }
+
+    /// Takes samples from the front, up to and with the one that makes a segment whole, or all of them, and answers how many.
+    /// It does what `push` does with each of them in turn, so code is appended for the last of them alone.
+    ///
+    /// A step is a sample, a bit put, padding aside, or a look at a residual.
+    pub fn push_some(
+        &mut self,
+        samples: &[i64],
+        sink: &mut BitSink<16432>,
+        meter: &mut Meter,
+    ) -> usize
+        requires samples { All (IsSample self.old.setting) samples.now }
+        requires room { length sink.old ≤ 7 }
+        requires meter { meter.old + segment_steps self.old.setting < 2 ^ 62 }
+        ensures taken { result ≤ length samples.now }
+        ensures some { 0 < length samples.now → 0 < result }
+        ensures setting { self.new.setting ≡ self.old.setting }
+        ensures stands { (xs : List ℤ) → StandsFor self.old xs → StandsFor self.new (xs ++ take result samples.now) }
+        ensures code { (xs : List ℤ) → StandsFor self.old xs → IsInPlace self.old.setting xs sink.old → Completes self.old.setting xs (xs ++ take result samples.now) sink.old sink.new }
+        ensures before_last { (xs : List ℤ) → StandsFor self.old xs → (m : ℕ) → m < result → settled self.old.setting (xs ++ take m samples.now) ≡ settled self.old.setting xs }
+        ensures stops { (xs : List ℤ) → StandsFor self.old xs → result < length samples.now → settled self.old.setting (xs ++ take result samples.now) ≡ xs ++ take result samples.now }
+        ensures steps_from { (xs : List ℤ) → StandsFor self.old xs → meter.old + result + least_steps self.old.setting (settled self.old.setting (xs ++ take result samples.now)) ≤ meter.new + least_steps self.old.setting (settled self.old.setting xs) }
+        ensures steps_to { (xs : List ℤ) → StandsFor self.old xs → meter.new + most_steps self.old.setting (settled self.old.setting xs) ≤ meter.old + result + most_steps self.old.setting (settled self.old.setting (xs ++ take result samples.now)) }
+    {
+        let taken = samples.len().min(self.segment.room());
+        meter.tick(taken as u64);
+        self.segment.hold_all(&samples[..taken]);
+        if self.segment.is_whole() {
+            self.segment.code(sink, meter);
+            self.segment.begin_next();
+        }
+        taken
     }
 
     /// Fills the last block by repeating the last sample, a step for each, and appends the code of the
