@@ -106,13 +106,11 @@ fn code_some(
     let mut bytes = Vec::new(alloc);
     let mut taken: usize = 0;
     for _ in 0..samples.len() {
-        if taken < samples.len() {
-            let rest = &samples[taken..];
-            let more = push_some(rt, &setting, &mut coder, rest, &mut sink, &mut meter)?;
-            taken = taken.saturating_add(more);
-            bytes.extend_from_slice(sink.whole())?;
-            sink.drop_whole();
-        }
+        let rest = &samples[taken.min(samples.len())..];
+        let more = push_some(rt, &setting, &mut coder, rest, &mut sink, &mut meter)?;
+        taken = taken.saturating_add(more);
+        bytes.extend_from_slice(sink.whole())?;
+        sink.drop_whole();
     }
     assert_eq!(rt; taken, samples.len());
     assert!(rt; meter.steps() < 1 << 61);

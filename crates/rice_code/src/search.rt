@@ -32,11 +32,13 @@ pub fn best_split(
     ensures value { result.1 ≡ cost setting.now (Split result.0 (told reference block.now)) }
     ensures steps { meter.new ≡ meter.old + setting.now.block * (min (result.0 + 1) (k_max setting.now) + 1) }
 {
+    // What a copy of its own says is read once, and not again behind each tick.
+    let setting = *setting;
     let limit = setting.k_max();
     let mut best = 0;
-    let mut least = split_cost(setting, reference, block, 0, meter);
+    let mut least = split_cost(&setting, reference, block, 0, meter);
     while best < limit {
-        let next = split_cost(setting, reference, block, best + 1, meter);
+        let next = split_cost(&setting, reference, block, best + 1, meter);
         if next >= least {
             return (best, least);
         }
