@@ -27,6 +27,7 @@ pub mod CutSets
 pub mod RestoredBlocks
 pub mod DecoderLemmas
 pub mod SearchLemmas
+pub mod PairCosts
 pub mod TextLemmas
 pub mod Waiting
 pub mod SegmentSteps
@@ -35,5 +36,7 @@ pub mod LaidSegments
 pub mod OpenSegments
 pub mod HeldSamples
 pub mod CoderLemmas
+pub mod GrownBy
+pub mod PushedSamples
 pub mod LooksPaid
 pub mod GatheredLemmas

@@ -1,8 +1,7 @@
 -- The search for the best split, and the choice behind it.
-use Rattle.std.proofs.Common.{◌≡◌, ℕ, zero, suc, ◌+◌, ◌*◌, ◌^◌, ◌<◌, ◌≤◌, Bool, true, false, cond, nat_lt, map, List, [], ◌∷◌, refl, ap, arith, sym, ◌∙◌}
+use Rattle.std.proofs.Common.{◌≡◌, ℕ, zero, suc, ◌<◌, ◌≤◌, Bool, true, false, cond, nat_lt, map, List, [], ◌∷◌, refl, ap, arith, sym, ◌∙◌}
 use Rattle.std.specs.List.{best_of, range_with_len}
 use Rattle.std.proofs.lemmas.Bool.Decides.{nat_tests}
-use Rattle.std.proofs.Math.Nat.{mul-le-mul_left}
 use Rattle.rice_samples.specs.Parameters.{Parameters, k_max}
 use Rattle.rice_code.specs.Blocks.{Contents}
 use Rattle.rice_code.specs.Choice.{shortest, IsBestSplit, best_split}
@@ -50,26 +49,3 @@ takes_split s c k h p q =
     let below : (v : Bool) → cost s (Split k c) < cost s (first v) = λ v. elim v as (λ v. cost s (Split k c) < cost s (first v)) [ true ↦ q | false ↦ p ] in
     let v = nat_lt (cost s (SecondExtension c)) (cost s (NoCompression c)) in
     sym (shortest_is s c k h ∙ ap (λ w. cond w (Split k c) (first v)) (less (cost s (Split k c)) (cost s (first v)) (below v)))
-
-pub steps_more : (j k m0 m1 m2 : ℕ) → m1 ≡ m0 + j * (k + 1) → m2 ≡ m1 + j → m2 ≡ m0 + j * (k + 1 + 1)
-steps_more j k m0 m1 m2 h e = omega arith
-
-pub steps_within : (j k limit m0 m1 : ℕ) → k < limit → m1 ≡ m0 + j * (k + 1) → m0 + j * (limit + 1) < 2 ^ 62 → m1 + j < 2 ^ 62
-steps_within j k limit m0 m1 h e r =
-    let p : j * (k + 2) ≤ j * (limit + 1) = mul-le-mul_left j (omega arith) in
-    omega arith
-
-pub steps_stopped : (j k limit m0 m1 m2 : ℕ) → k < limit → m1 ≡ m0 + j * (k + 1) → m2 ≡ m1 + j → (m0 + j * (k + 1) ≤ m2) × (m2 ≤ m0 + j * (k + 2)) × (m2 ≤ m0 + j * (limit + 1))
-steps_stopped j k limit m0 m1 m2 h e f =
-    let p : j * (k + 2) ≤ j * (limit + 1) = mul-le-mul_left j (omega arith) in
-    (omega arith, omega arith, omega arith)
-
-pub steps_ended : (j k limit m0 m1 : ℕ) → k ≤ limit → m1 ≡ m0 + j * (k + 1) → (m0 + j * (k + 1) ≤ m1) × (m1 ≤ m0 + j * (k + 2)) × (m1 ≤ m0 + j * (limit + 1))
-steps_ended j k limit m0 m1 h e =
-    let p : j * (k + 1) ≤ j * (limit + 1) = mul-le-mul_left j (omega arith) in
-    (omega arith, omega arith, omega arith)
-
-pub steps_chosen : (j b k limit m0 m1 m2 : ℕ) → b ≡ k → m0 + j * (k + 1) ≤ m1 → m1 ≤ m0 + j * (k + 2) → m1 ≤ m0 + j * (limit + 1) → m2 ≡ m1 + j → (m0 + j * (b + 2) ≤ m2) × (m2 ≤ m0 + j * (b + 3)) × (m2 ≤ m0 + j * (limit + 2))
-steps_chosen j b k limit m0 m1 m2 e p q r h =
-    let f = ap (λ n. j * n) e in
-    (omega arith, omega arith, omega arith)

@@ -1,5 +1,5 @@
 -- The texts of blocks, piece by piece.
-use Rattle.std.proofs.Common.{◌≡◌, ℕ, zero, suc, ◌+◌, ◌-◌, ◌*◌, ◌<◌, Bool, true, false, cond, ◌&&◌, nat_le, List, [], ◌∷◌, ◌++◌, length, drop, get_or, refl, ap, arith, sym, ◌∙◌, append_assoc, Option}
+use Rattle.std.proofs.Common.{◌≡◌, ℕ, zero, suc, ◌+◌, ◌-◌, ◌*◌, ◌<◌, Bool, true, false, cond, ◌&&◌, nat_le, List, [], ◌∷◌, ◌++◌, length, drop, get_or, refl, ap, arith, sym, ◌∙◌, append_assoc, append-nil, Option}
 use Rattle.std.specs.Prelude.{flat_map}
 use Rattle.std.proofs.lemmas.List.{length-drop}
 use Rattle.rice_samples.specs.Parameters.{Parameters, id_len}
@@ -16,6 +16,10 @@ word_flag n = word-fs n ∙ ap (λ z. z ++ true ∷ []) (sym (word-zero n))
 -- and one zero more
 pub word_flag_zero : (n : ℕ) → word (n + 1) 0 ≡ word n 0 ++ false ∷ []
 word_flag_zero n = word-cat n 1 0 0 (omega arith) ∙ ap (λ z. word n 0 ++ z) (word-zero 1)
+
+-- the first of gathered fields
+pub first_field : (sink fields more both : List Bool) → fields ≡ [] → both ≡ sink ++ fields ++ more → both ≡ sink ++ more
+first_field sink fields more both e f = f ∙ ((λ i. sink ++ e i ++ more) ∙ ap (λ v. v ++ more) (append-nil sink))
 
 -- no digits
 pub no_digits : (xs : List ℕ) → flat_map (word 0) xs ≡ []

@@ -54,6 +54,22 @@ next_reference coder x = if coder.setting.preprocess && is_first coder then Some
 abbrev pub grown : State → ℤ → State
 grown coder x = record { setting = coder.setting; residuals = coder.residuals ++ next_residual coder x ∷ []; reference = next_reference coder x; previous = x; start = coder.start }
 
+-- and several: their residuals, of which only the first can be at a reference place, and the reference
+abbrev pub later_residuals : Parameters → ℤ → List ℤ → List ℕ
+later_residuals s p [] = []
+later_residuals s p (x ∷ xs) = (if s.preprocess then rank s p x else pattern s x) ∷ later_residuals s x xs
+
+abbrev pub next_residuals : State → List ℤ → List ℕ
+next_residuals coder [] = []
+next_residuals coder (x ∷ xs) = next_residual coder x ∷ later_residuals coder.setting x xs
+
+abbrev pub next_references : State → List ℤ → Option ℕ
+next_references coder [] = coder.reference
+next_references coder (x ∷ xs) = next_reference coder x
+
+abbrev pub grown_by : State → List ℤ → State
+grown_by coder xs = record { setting = coder.setting; residuals = coder.residuals ++ next_residuals coder xs; reference = next_references coder xs; previous = last_of coder.previous xs; start = coder.start }
+
 -- and when its last block is filled with so many samples
 abbrev pub filled_up : State → ℕ → State
 filled_up coder n = record { setting = coder.setting; residuals = coder.residuals ++ replicate n (next_residual coder coder.previous); reference = coder.reference; previous = coder.previous; start = coder.start }

@@ -1,5 +1,5 @@
 //! The coder.
-ghost use Rattle.std.specs.Prelude.{◌≡◌, ℕ, ◌+◌, ◌*◌, ◌^◌, ◌<◌, ◌≤◌, ◌++◌, [], ◌∷◌, length, List, ℤ};
+ghost use Rattle.std.specs.Prelude.{◌≡◌, ℕ, ◌+◌, ◌*◌, ◌^◌, ◌<◌, ◌≤◌, ◌++◌, [], ◌∷◌, length, take, All, List, ℤ};
 ghost use Rattle.rice_samples.specs.Parameters.{IsSample};
 ghost use Rattle.rice_samples.specs.Places.{cut};
 ghost use Rattle.rice_code.specs.Code.{code_bits};
@@ -9,6 +9,15 @@ use crate::open_segment::OpenSegment;
 use rice_bits::{BitSink, Meter};
 use rice_samples::Setting;
 use std::marker::Model;
+
+/// What a coder has taken at once.
+#[derive(Clone, Copy, Debug, PartialEq, Eq)]
+pub struct Pushed {
+    /// How many samples it took.
+    pub samples: usize,
+    /// How many bits of code it appended, padding aside.
+    pub bits: u64,
+}
 
 /// A coder: it takes samples one by one, and appends the code of each segment of 64 blocks, or
 /// fewer at the end of a reference interval, once it is whole. Clauses see what it holds, and which
@@ -75,6 +84,48 @@ impl Coder {
             bits
         } else {
             0
+        }
+    }
+
+    /// Takes samples from the front, up to and with the one that makes a segment whole, or all of them.
+    /// It does what `push` does with each of them in turn, so code is appended for the last of them alone.
+    ///
+    /// A step is a sample, a bit put, padding aside, or a look at a residual.
+    pub fn push_some(
+        &mut self,
+        samples: &[i64],
+        sink: &mut BitSink<16432>,
+        meter: &mut Meter,
+    ) -> Pushed
+        requires samples { All (IsSample self.old.setting) samples.now }
+        requires room { length sink.old ≤ 7 }
+        requires meter { meter.old + segment_steps self.old.setting < 2 ^ 62 }
+        ensures taken { result.samples ≤ length samples.now }
+        ensures some { 0 < length samples.now → 0 < result.samples }
+        ensures setting { self.new.setting ≡ self.old.setting }
+        ensures stands { (xs : List ℤ) → StandsFor self.old xs → StandsFor self.new (xs ++ take result.samples samples.now) }
+        ensures code { (xs : List ℤ) → StandsFor self.old xs → IsInPlace self.old.setting xs sink.old → Completes self.old.setting xs (xs ++ take result.samples samples.now) sink.old sink.new }
+        ensures bits { (xs : List ℤ) → StandsFor self.old xs → code_bits self.old.setting (settled self.old.setting (xs ++ take result.samples samples.now)) ≡ code_bits self.old.setting (settled self.old.setting xs) + result.bits }
+        ensures before_last { (xs : List ℤ) → StandsFor self.old xs → (m : ℕ) → m < result.samples → settled self.old.setting (xs ++ take m samples.now) ≡ settled self.old.setting xs }
+        ensures stops { (xs : List ℤ) → StandsFor self.old xs → result.samples < length samples.now → settled self.old.setting (xs ++ take result.samples samples.now) ≡ xs ++ take result.samples samples.now }
+        ensures steps_from { (xs : List ℤ) → StandsFor self.old xs → meter.old + result.samples + least_steps self.old.setting (settled self.old.setting (xs ++ take result.samples samples.now)) ≤ meter.new + least_steps self.old.setting (settled self.old.setting xs) }
+        ensures steps_to { (xs : List ℤ) → StandsFor self.old xs → meter.new + most_steps self.old.setting (settled self.old.setting xs) ≤ meter.old + result.samples + most_steps self.old.setting (settled self.old.setting (xs ++ take result.samples samples.now)) }
+    {
+        let taken = samples.len().min(self.segment.room());
+        meter.tick(taken as u64);
+        self.segment.hold_all(&samples[..taken]);
+        if self.segment.is_whole() {
+            let bits = self.segment.code(sink, meter);
+            self.segment.begin_next();
+            Pushed {
+                samples: taken,
+                bits,
+            }
+        } else {
+            Pushed {
+                samples: taken,
+                bits: 0,
+            }
         }
     }
 

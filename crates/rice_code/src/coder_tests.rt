@@ -1,4 +1,5 @@
-ghost use Rattle.std.specs.Prelude.{◌≡◌, ℕ, ◌≤◌, length};
+ghost use Rattle.std.specs.Prelude.{◌≡◌, ℕ, ◌≤◌, true, All, length};
+ghost use Rattle.rice_samples.specs.Parameters.{IsSample};
 
 use crate::{Coder, bit_bound, padded_bound, step_bound};
 use rice_bits::{BitSink, Meter};
@@ -61,6 +62,71 @@ fn code(rt: &impl Abort, alloc: Global, setting: Setting, samples: &[i64]) -> Re
     })
 }
 
+fn are_in_range(setting: &Setting, samples: &[i64]) -> bool
+    ensures { result ≡ true → All (IsSample setting.now) samples.now }
+{
+    for i in 0..samples.len() {
+        if !setting.in_range(samples[i]) {
+            return false;
+        }
+    }
+    true
+}
+
+/// Pushes as many samples as one call takes, behind tests of all that it asks for but the sink's room.
+fn push_some(
+    rt: &impl Abort,
+    setting: &Setting,
+    coder: &mut Coder,
+    samples: &[i64],
+    sink: &mut BitSink<16432>,
+    meter: &mut Meter,
+) -> Result<usize, Fail>
+    requires setting { coder.old.setting ≡ setting.now }
+    requires room { length sink.old ≤ 7 }
+    ensures setting { coder.new.setting ≡ setting.now }
+{
+    let _block = setting.block();
+    assert!(rt; are_in_range(setting, samples));
+    assert!(rt; meter.steps() < 1 << 61);
+    Ok(coder.push_some(samples, sink, meter).samples)
+}
+
+/// Codes samples as `code` does, several at a time.
+fn code_some(
+    rt: &impl Abort,
+    alloc: Global,
+    setting: Setting,
+    samples: &[i64],
+) -> Result<Coded, Fail> {
+    let _block = setting.block();
+    let mut coder = Coder::new(setting);
+    let mut sink = BitSink::new();
+    let mut meter = Meter::new();
+    let mut bytes = Vec::new(alloc);
+    let mut taken: usize = 0;
+    for _ in 0..samples.len() {
+        let rest = &samples[taken.min(samples.len())..];
+        let more = push_some(rt, &setting, &mut coder, rest, &mut sink, &mut meter)?;
+        taken = taken.saturating_add(more);
+        bytes.extend_from_slice(sink.whole())?;
+        sink.drop_whole();
+    }
+    assert_eq!(rt; taken, samples.len());
+    assert!(rt; meter.steps() < 1 << 61);
+    coder.finish(&mut sink, &mut meter);
+    let bits = (bytes.len() as u64)
+        .saturating_mul(8)
+        .saturating_add(sink.len());
+    sink.pad();
+    bytes.extend_from_slice(sink.whole())?;
+    Ok(Coded {
+        bytes,
+        bits,
+        steps: meter.steps(),
+    })
+}
+
 /// Samples, and the bytes and the number of bits of their code.
 #[derive(Drop)]
 struct Row<'a> {
@@ -84,6 +150,9 @@ fn check_rows(rt: &impl Abort, alloc: Global, rows: &[Row<'_>]) -> Result<(), Fa
         let coded = code(rt, alloc, row.setting, row.samples)?;
         assert_eq!(rt; coded.bytes.as_slice(), row.bytes);
         assert_eq!(rt; coded.bits, row.bits);
+        let at_once = code_some(rt, alloc, row.setting, row.samples)?;
+        assert_eq!(rt; at_once.bytes.as_slice(), row.bytes);
+        assert_eq!(rt; (at_once.bits, at_once.steps), (row.bits, coded.steps));
     }
     Ok(())
 }

@@ -6,6 +6,8 @@ use rice_bits::{BitSink, Meter};
 use std::marker::Model;
 
 /// At most 32 bits that are still to be put into a sink. Clauses see the bits.
+///
+/// Its calls are always inlined, so that the bits stay in registers while a data set is written.
 #[derive(Drop)]
 pub struct Gathered {
     value: u64,
@@ -26,15 +28,16 @@ impl Model for Gathered {
 
 impl Gathered {
     /// No bits.
-    #[inline]
+    #[inline(always)]
     pub fn new() -> Self
-        ensures { result ≡ [] }
+        ensures bits { result ≡ [] }
+        ensures len { length result ≡ 0 }
     {
         Gathered { value: 0, width: 0 }
     }
 
     /// Adds the `width` binary digits of `value`. The bits before them are put where these have no room with them.
-    #[inline]
+    #[inline(always)]
     pub fn add(&mut self, value: u32, width: u32, sink: &mut BitSink<16432>, meter: &mut Meter)
         requires width { width ≤ 32 }
         requires value { value < 2 ^ width }
@@ -55,7 +58,7 @@ impl Gathered {
     }
 
     /// Adds the fundamental sequence of `m`.
-    #[inline]
+    #[inline(always)]
     pub fn add_fs(&mut self, m: u32, sink: &mut BitSink<16432>, meter: &mut Meter)
         requires room { length sink.old + length self.old + m + 1 ≤ 131456 }
         requires meter { meter.old + length self.old + m + 1 < 2 ^ 62 }
@@ -72,7 +75,7 @@ impl Gathered {
     }
 
     /// Puts the bits.
-    #[inline]
+    #[inline(always)]
     pub fn put(&mut self, sink: &mut BitSink<16432>, meter: &mut Meter)
         requires room { length sink.old + length self.old ≤ 131456 }
         requires meter { meter.old + length self.old < 2 ^ 62 }

@@ -22,7 +22,7 @@ mod segment;
 mod text;
 
 pub use bounds::{bit_bound, padded_bound, step_bound};
-pub use coder::Coder;
+pub use coder::{Coder, Pushed};
 pub use decoder::Decoder;
 pub use fault::{CodeFault, Step};
 

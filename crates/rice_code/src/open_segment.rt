@@ -1,5 +1,5 @@
 //! The segment that a coder fills.
-ghost use Rattle.std.specs.Prelude.{◌≡◌, ℕ, ◌+◌, ◌-◌, ◌*◌, ◌^◌, ◌<◌, ◌≤◌, ◌↔◌, ◌++◌, List, [], length, replicate, sum_by, if◌then◌else◌, ◌==◌, ◌&&◌, Some, None, false, IsTrue};
+ghost use Rattle.std.specs.Prelude.{◌≡◌, ℕ, ◌+◌, ◌-◌, ◌*◌, ◌^◌, ◌<◌, ◌≤◌, ◌↔◌, ◌++◌, List, [], length, replicate, sum_by, if◌then◌else◌, ◌==◌, ◌&&◌, Some, None, false, IsTrue, All};
 ghost use Rattle.rice_bits.specs.Bits.{bits_to_byte};
 ghost use Rattle.rice_samples.specs.Parameters.{IsLegal, IsSample, id_len, k_max};
 ghost use Rattle.rice_samples.specs.Places.{blocks_left};
@@ -7,7 +7,7 @@ ghost use Rattle.rice_samples.specs.Residuals.{pattern, rank};
 ghost use Rattle.rice_code.specs.DataSets.{text};
 ghost use Rattle.rice_code.specs.Held.{AreSoundBlocks};
 ghost use Rattle.rice_code.specs.Steps.{least_looks, most_looks};
-ghost use Rattle.rice_code.specs.Coder.{IsWhole, empty, grown, filled_up, fill_count, emptied, blocks_held, contents_held, sets_held, code_held, is_first};
+ghost use Rattle.rice_code.specs.Coder.{IsWhole, empty, grown, grown_by, later_residuals, filled_up, fill_count, emptied, blocks_held, contents_held, sets_held, code_held, is_first};
 
 use crate::segment::code_blocks;
 use rice_bits::{BitSink, Meter};
@@ -64,6 +64,14 @@ impl OpenSegment {
         self.residuals.len()
     }
 
+    /// How many more residuals make the segment whole.
+    #[inline]
+    pub fn room(&self) -> usize
+        ensures { result + length self.now.residuals ≡ self.now.setting.block * blocks_left self.now.setting self.now.start }
+    {
+        self.end - self.residuals.len()
+    }
+
     /// Whether the residuals make the segment whole.
     #[inline]
     pub fn is_whole(&self) -> bool
@@ -92,6 +100,33 @@ impl OpenSegment {
         note_reference(&self.setting, first, &mut self.reference, x);
         self.residuals.push(residual);
         self.previous = x;
+    }
+
+    /// Adds the residuals of the samples, which the segment has room for.
+    pub fn hold_all(&mut self, samples: &[i64])
+        requires samples { All (IsSample self.old.setting) samples.now }
+        requires room { length self.old.residuals + length samples.now ≤ self.old.setting.block * blocks_left self.old.setting self.old.start }
+        ensures { self.new ≡ grown_by self.old samples.now }
+    {
+        if samples.is_empty() {
+            return;
+        }
+        self.hold(samples[0]);
+        self.hold_later(&samples[1..]);
+    }
+
+    /// Adds the residuals of samples behind others of the segment.
+    fn hold_later(&mut self, samples: &[i64])
+        requires later { is_first self.old ≡ false }
+        requires samples { All (IsSample self.old.setting) samples.now }
+        requires room { length self.old.residuals + length samples.now ≤ self.old.setting.block * blocks_left self.old.setting self.old.start }
+        ensures { self.new ≡ grown_by self.old samples.now }
+    {
+        if samples.is_empty() {
+            return;
+        }
+        push_later(&self.setting, self.previous, samples, &mut self.residuals);
+        self.previous = samples[samples.len() - 1];
     }
 
     /// Fills the last block by repeating the last sample, a step for each.
@@ -191,6 +226,20 @@ fn note_reference(setting: &Setting, first: bool, reference: &mut Option<u32>, x
 {
     if setting.preprocess() && first {
         *reference = Some(pattern(setting, x));
+    }
+}
+
+/// Adds the residuals of samples behind `previous` that are not the first of an interval.
+fn push_later(setting: &Setting, previous: i64, samples: &[i64], segment: &mut Segment)
+    requires before { IsSample setting.now previous }
+    requires samples { All (IsSample setting.now) samples.now }
+    requires room { length segment.old + length samples.now ≤ 4096 }
+    ensures { segment.new ≡ segment.old ++ later_residuals setting.now previous samples.now }
+{
+    if setting.preprocess() {
+        segment.push_residuals(setting, previous, samples);
+    } else {
+        segment.push_patterns(setting, samples);
     }
 }
 

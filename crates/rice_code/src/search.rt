@@ -1,5 +1,5 @@
 //! The search for the shortest text.
-ghost use Rattle.std.specs.Prelude.{◌≡◌, ℕ, ◌+◌, ◌*◌, ◌^◌, ◌<◌, ◌≤◌, length};
+ghost use Rattle.std.specs.Prelude.{◌≡◌, ℕ, ◌+◌, ◌*◌, ◌^◌, ◌<◌, ◌≤◌, min, length};
 ghost use Rattle.rice_samples.specs.Parameters.{k_max};
 ghost use Rattle.rice_code.specs.DataSets.{Split, cost};
 ghost use Rattle.rice_code.specs.Choice.{shortest, IsBestSplit, best_split};
@@ -30,15 +30,15 @@ pub fn best_split(
     ensures best { IsBestSplit setting.now (told reference block.now) result.0 }
     ensures named { best_split setting.now (told reference block.now) ≡ result.0 }
     ensures value { result.1 ≡ cost setting.now (Split result.0 (told reference block.now)) }
-    ensures steps_from { meter.old + setting.now.block * (result.0 + 1) ≤ meter.new }
-    ensures steps_to { meter.new ≤ meter.old + setting.now.block * (result.0 + 2) }
-    ensures steps_limit { meter.new ≤ meter.old + setting.now.block * (k_max setting.now + 1) }
+    ensures steps { meter.new ≡ meter.old + setting.now.block * (min (result.0 + 1) (k_max setting.now) + 1) }
 {
+    // What a copy of its own says is read once, and not again behind each tick.
+    let setting = *setting;
     let limit = setting.k_max();
     let mut best = 0;
-    let mut least = split_cost(setting, reference, block, 0, meter);
+    let mut least = split_cost(&setting, reference, block, 0, meter);
     while best < limit {
-        let next = split_cost(setting, reference, block, best + 1, meter);
+        let next = split_cost(&setting, reference, block, best + 1, meter);
         if next >= least {
             return (best, least);
         }
@@ -63,9 +63,18 @@ pub fn choose(
     ensures steps_limit { meter.new ≤ meter.old + setting.now.block * (k_max setting.now + 2) }
     ensures split { IsSplitWithin (k_max setting.now) result }
 {
+    let _block = setting.block();
     let (k, split) = best_split(setting, reference, block, meter);
+    let no_compression = no_compression_cost(setting, reference, block);
+    // Residuals that are worth a split are so large that second extension is longer.
+    if 0 < k && k < setting.k_max() {
+        if split < no_compression {
+            return Choice::Split(k);
+        }
+        return Choice::NoCompression;
+    }
     let second_extension = second_extension_cost(setting, reference, block, meter);
-    let no_compression = no_compression_cost(setting, reference, block) as u128;
+    let no_compression = no_compression as u128;
     let split = split as u128;
     if second_extension < no_compression {
         if split < second_extension {

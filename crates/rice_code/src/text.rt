@@ -12,23 +12,32 @@ use crate::search::Choice;
 use rice_bits::{BitSink, Meter};
 use rice_samples::{Block, Setting};
 
-/// The reference, if there is one.
-fn put_reference(
+/// The `width` digits of an identifier, with the flag behind it where it has one, and the reference, if there is one.
+#[inline(always)]
+fn begin(
     setting: &Setting,
+    identifier: u32,
+    width: u32,
     reference: Option<u32>,
     sink: &mut BitSink<16432>,
     meter: &mut Meter,
-)
+) -> Gathered
+    requires width { width ≤ 32 }
+    requires identifier { identifier < 2 ^ width }
     requires fits { IfSome reference (λ v. v < value_count setting.now) }
-    requires room { length sink.old + reference_len setting.now reference ≤ 131456 }
-    requires meter { meter.old + reference_len setting.now reference < 2 ^ 62 }
-    ensures bits { sink.new ≡ sink.old ++ reference_text setting.now reference }
-    ensures len { length sink.new ≡ length sink.old + reference_len setting.now reference }
-    ensures steps { meter.new ≡ meter.old + reference_len setting.now reference }
+    requires room { length sink.old + width + reference_len setting.now reference ≤ 131456 }
+    requires meter { meter.old + width + reference_len setting.now reference < 2 ^ 62 }
+    ensures bits { sink.new ++ result ≡ sink.old ++ word width identifier ++ reference_text setting.now reference }
+    ensures len { length sink.new + length result ≡ length sink.old + width + reference_len setting.now reference }
+    ensures steps { meter.new + length result ≡ meter.old + width + reference_len setting.now reference }
 {
+    let mut fields = Gathered::new();
+    fields.add(identifier, width, sink, meter);
     if let Some(v) = reference {
-        sink.put(v, setting.bits(), meter);
+        fields.add(v, setting.bits(), sink, meter);
+        return fields;
     }
+    fields
 }
 
 /// The `width` lowest digits of a number.
@@ -41,39 +50,51 @@ fn low_digits(value: u32, width: u32) -> u32
 }
 
 /// The lowest digits of the residuals from number `from` on.
-fn put_low(block: &Block<'_>, from: usize, width: u32, sink: &mut BitSink<16432>, meter: &mut Meter)
+#[inline(always)]
+fn put_low(
+    block: &Block<'_>,
+    from: usize,
+    width: u32,
+    fields: &mut Gathered,
+    sink: &mut BitSink<16432>,
+    meter: &mut Meter,
+)
     requires width { width ≤ 32 }
     requires from { from ≤ length block.now }
-    requires room { length sink.old + (length block.now - from) * width ≤ 131456 }
-    requires meter { meter.old + (length block.now - from) * (width + 1) < 2 ^ 62 }
-    ensures bits { sink.new ≡ sink.old ++ flat_map (word width) (drop from block.now) }
-    ensures len { length sink.new ≡ length sink.old + (length block.now - from) * width }
-    ensures steps { meter.new ≡ meter.old + (length block.now - from) * (width + 1) }
+    requires room { length sink.old + length fields.old + (length block.now - from) * width ≤ 131456 }
+    requires meter { meter.old + length fields.old + (length block.now - from) * (width + 1) < 2 ^ 62 }
+    ensures bits { sink.new ++ fields.new ≡ sink.old ++ fields.old ++ flat_map (word width) (drop from block.now) }
+    ensures len { length sink.new + length fields.new ≡ length sink.old + length fields.old + (length block.now - from) * width }
+    ensures steps { meter.new + length fields.new ≡ meter.old + length fields.old + (length block.now - from) * (width + 1) }
 {
-    let mut fields = Gathered::new();
     for i in from..block.len() {
         let residual = block.at(i, meter);
         fields.add(low_digits(residual, width), width, sink, meter);
     }
-    fields.put(sink, meter);
 }
 
 /// The fundamental sequences of the residuals from number `from` on, without their `k` lowest digits.
-fn put_high(block: &Block<'_>, from: usize, k: u32, sink: &mut BitSink<16432>, meter: &mut Meter)
+#[inline(always)]
+fn put_high(
+    block: &Block<'_>,
+    from: usize,
+    k: u32,
+    fields: &mut Gathered,
+    sink: &mut BitSink<16432>,
+    meter: &mut Meter,
+)
     requires split { k ≤ 29 }
     requires from { from ≤ length block.now }
-    requires room { length sink.old + (length block.now - from) + sum_by (λ d. d / 2 ^ k) (drop from block.now) ≤ 131456 }
-    requires meter { meter.old + 2 * (length block.now - from) + sum_by (λ d. d / 2 ^ k) (drop from block.now) < 2 ^ 62 }
-    ensures bits { sink.new ≡ sink.old ++ flat_map (λ d. fundamental_sequence (d / 2 ^ k)) (drop from block.now) }
-    ensures len { length sink.new ≡ length sink.old + (length block.now - from) + sum_by (λ d. d / 2 ^ k) (drop from block.now) }
-    ensures steps { meter.new ≡ meter.old + 2 * (length block.now - from) + sum_by (λ d. d / 2 ^ k) (drop from block.now) }
+    requires room { length sink.old + length fields.old + (length block.now - from) + sum_by (λ d. d / 2 ^ k) (drop from block.now) ≤ 131456 }
+    requires meter { meter.old + length fields.old + 2 * (length block.now - from) + sum_by (λ d. d / 2 ^ k) (drop from block.now) < 2 ^ 62 }
+    ensures bits { sink.new ++ fields.new ≡ sink.old ++ fields.old ++ flat_map (λ d. fundamental_sequence (d / 2 ^ k)) (drop from block.now) }
+    ensures len { length sink.new + length fields.new ≡ length sink.old + length fields.old + (length block.now - from) + sum_by (λ d. d / 2 ^ k) (drop from block.now) }
+    ensures steps { meter.new + length fields.new ≡ meter.old + length fields.old + 2 * (length block.now - from) + sum_by (λ d. d / 2 ^ k) (drop from block.now) }
 {
-    let mut fields = Gathered::new();
     for i in from..block.len() {
         let residual = block.at(i, meter);
         fields.add_fs(residual >> k, sink, meter);
     }
-    fields.put(sink, meter);
 }
 
 /// The number that stands for a pair whose codeword fits a sink.
@@ -87,21 +108,25 @@ fn codeword_of(a: u32, b: u32) -> u32
 }
 
 /// The fundamental sequences of the pairs.
-fn put_pairs(block: &Block<'_>, sink: &mut BitSink<16432>, meter: &mut Meter)
+#[inline(always)]
+fn put_pairs(
+    block: &Block<'_>,
+    fields: &mut Gathered,
+    sink: &mut BitSink<16432>,
+    meter: &mut Meter,
+)
     requires even { length block.now % 2 ≡ 0 }
-    requires room { length sink.old + sum_by (λ g. g + 1) (pair_codes block.now) ≤ 131456 }
-    requires meter { meter.old + length block.now + sum_by (λ g. g + 1) (pair_codes block.now) < 2 ^ 62 }
-    ensures bits { sink.new ≡ sink.old ++ flat_map fundamental_sequence (pair_codes block.now) }
-    ensures len { length sink.new ≡ length sink.old + sum_by (λ g. g + 1) (pair_codes block.now) }
-    ensures steps { meter.new ≡ meter.old + length block.now + sum_by (λ g. g + 1) (pair_codes block.now) }
+    requires room { length sink.old + length fields.old + sum_by (λ g. g + 1) (pair_codes block.now) ≤ 131456 }
+    requires meter { meter.old + length fields.old + length block.now + sum_by (λ g. g + 1) (pair_codes block.now) < 2 ^ 62 }
+    ensures bits { sink.new ++ fields.new ≡ sink.old ++ fields.old ++ flat_map fundamental_sequence (pair_codes block.now) }
+    ensures len { length sink.new + length fields.new ≡ length sink.old + length fields.old + sum_by (λ g. g + 1) (pair_codes block.now) }
+    ensures steps { meter.new + length fields.new ≡ meter.old + length fields.old + length block.now + sum_by (λ g. g + 1) (pair_codes block.now) }
 {
-    let mut fields = Gathered::new();
     for i in 0..block.len() / 2 {
         let a = block.at(2 * i, meter);
         let b = block.at(2 * i + 1, meter);
         fields.add_fs(codeword_of(a, b), sink, meter);
     }
-    fields.put(sink, meter);
 }
 
 /// How many residuals are not coded: that at the reference place, where there is one.
@@ -135,9 +160,9 @@ fn put_no_compression(
     let from = first_coded(reference);
     let bits = setting.bits();
     let _block = setting.block();
-    sink.put((1 << id) - 1, id, meter);
-    put_reference(setting, reference, sink, meter);
-    put_low(block, from, bits, sink, meter);
+    let mut fields = begin(setting, (1 << id) - 1, id, reference, sink, meter);
+    put_low(block, from, bits, &mut fields, sink, meter);
+    fields.put(sink, meter);
 }
 
 /// The text by second extension.
@@ -157,9 +182,9 @@ fn put_second_extension(
 {
     let id = setting.id_len();
     let _block = setting.block();
-    sink.put(1, id + 1, meter);
-    put_reference(setting, reference, sink, meter);
-    put_pairs(block, sink, meter);
+    let mut fields = begin(setting, 1, id + 1, reference, sink, meter);
+    put_pairs(block, &mut fields, sink, meter);
+    fields.put(sink, meter);
 }
 
 /// The text by split `k`.
@@ -184,12 +209,14 @@ fn put_split(
     let from = first_coded(reference);
     let _limit = setting.k_max();
     let _block = setting.block();
-    sink.put(k + 1, id, meter);
-    put_reference(setting, reference, sink, meter);
-    put_high(block, from, k, sink, meter);
-    if k > 0 {
-        put_low(block, from, k, sink, meter);
+    let mut fields = begin(setting, k + 1, id, reference, sink, meter);
+    put_high(block, from, k, &mut fields, sink, meter);
+    if k == 0 {
+        fields.put(sink, meter);
+        return;
     }
+    put_low(block, from, k, &mut fields, sink, meter);
+    fields.put(sink, meter);
 }
 
 /// The text of a block by an option.
@@ -236,8 +263,8 @@ pub fn put_run(
     ensures steps { meter.new ≡ meter.old + cost setting.now (sent_run to_end reference z) }
 {
     let id = setting.id_len();
-    sink.put(0, id + 1, meter);
-    put_reference(setting, reference, sink, meter);
+    let mut fields = begin(setting, 0, id + 1, reference, sink, meter);
+    fields.put(sink, meter);
     sink.put_fs(sent_zeros(z, to_end), meter);
 }
 

@@ -12,3 +12,4 @@ pub mod SpellingLemmas
 pub mod Gaps
 pub mod LaneLemmas
 pub mod PairSums
+pub mod Folding

@@ -9,6 +9,7 @@ pub mod examples;
 mod lanes;
 pub mod laws;
 pub mod preprocessor;
+mod residuals;
 pub mod segment;
 pub mod setting;
 pub mod spelling;

@@ -1,5 +1,5 @@
 //! Residuals of samples behind the sample before, which predicts them, and samples from residuals.
-ghost use Rattle.std.specs.Prelude.{◌≡◌, ℕ, ◌^◌, ◌<◌, ◌≤◌, ℤ};
+ghost use Rattle.std.specs.Prelude.{◌≡◌, ℕ, ◌+◌, ◌^◌, ◌<◌, ◌≤◌, ℤ};
 ghost use Rattle.rice_samples.specs.Parameters.{IsSample, value_count};
 ghost use Rattle.rice_samples.specs.Residuals.{pattern as pattern_of, rank, rank_below};
 
@@ -16,7 +16,11 @@ pub fn residual(setting: &Setting, p: i64, x: i64) -> u32
     ensures rank { result ≡ rank setting.now p x }
     ensures fits { result < value_count setting.now }
 {
-    rank_of(setting.values(), setting.level(p), setting.level(x))
+    rank_of(
+        (setting.values() - 1) as u32,
+        setting.level(p) as u32,
+        setting.level(x) as u32,
+    )
 }
 
 /// The sample whose residual behind the sample `p` is `d`.
@@ -52,19 +56,18 @@ pub fn from_pattern(setting: &Setting, v: u32) -> i64
     value_with(v, setting.bits(), setting.signed())
 }
 
-/// The rank of number `x` from number `p` among the numbers below `count`, by folding.
+/// The rank of number `x` from number `p` among the numbers up to `greatest`, by folding.
 #[inline]
-fn rank_of(count: u64, p: u64, x: u64) -> u32
-    requires count { count ≤ 2 ^ 32 }
-    requires before { p < count }
-    requires sample { x < count }
-    ensures rank { result ≡ rank_below count p x }
-    ensures fits { result < count }
+pub(crate) fn rank_of(greatest: u32, p: u32, x: u32) -> u32
+    requires before { p ≤ greatest }
+    requires sample { x ≤ greatest }
+    ensures rank { result ≡ rank_below (greatest + 1) p x }
+    ensures fits { result ≤ greatest }
 {
-    let reach = p.min(count - 1 - p);
-    let distance = p.abs_diff(x);
-    let nearer = if p <= x { x - p } else { p - x - 1 };
-    (distance + nearer.min(reach)) as u32
+    let reach = p.min(greatest - p);
+    let distance = p.max(x) - p.min(x);
+    let nearer = distance - (x < p) as u32;
+    distance + nearer.min(reach)
 }
 
 /// The number below `count` with rank `d` from number `p`.

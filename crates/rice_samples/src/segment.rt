@@ -1,8 +1,11 @@
 //! The residuals of a segment.
-ghost use Rattle.std.specs.Prelude.{◌≡◌, ℕ, ◌+◌, ◌*◌, ◌<◌, ◌≤◌, [], ◌∷◌, ◌++◌, length, slice_range};
+ghost use Rattle.std.specs.Prelude.{◌≡◌, ℕ, ◌+◌, ◌*◌, ◌<◌, ◌≤◌, [], ◌∷◌, ◌++◌, All, length, map, slice_range, ℤ};
+ghost use Rattle.rice_samples.specs.Parameters.{IsSample};
+ghost use Rattle.rice_samples.specs.Residuals.{pattern, ranks};
 ghost use Rattle.rice_samples.specs.Segments.{IsBlockSize};
 
-use crate::Block;
+use crate::residuals::{write_patterns, write_residuals};
+use crate::{Block, Setting};
 use std::marker::Model;
 
 /// The most residuals of a segment: 64 blocks of 64.
@@ -55,6 +58,33 @@ impl Segment {
     {
         self.items[self.len] = residual;
         self.len += 1;
+    }
+
+    /// Adds the residuals of the samples, the first behind the sample `p`, each other behind the one before it.
+    #[inline]
+    pub fn push_residuals(&mut self, setting: &Setting, p: i64, samples: &[i64])
+        requires before { IsSample setting.now p }
+        requires samples { All (IsSample setting.now) samples.now }
+        requires room { length self.old + length samples.now ≤ 4096 }
+        ensures value { self.new ≡ self.old ++ ranks setting.now p samples.now }
+        ensures len { length self.new ≡ length self.old + length samples.now }
+    {
+        let end = self.len + samples.len();
+        write_residuals(setting, p, samples, &mut self.items[self.len..end]);
+        self.len = end;
+    }
+
+    /// Adds the patterns of the samples.
+    #[inline]
+    pub fn push_patterns(&mut self, setting: &Setting, samples: &[i64])
+        requires samples { All (IsSample setting.now) samples.now }
+        requires room { length self.old + length samples.now ≤ 4096 }
+        ensures value { self.new ≡ self.old ++ map (pattern setting.now) samples.now }
+        ensures len { length self.new ≡ length self.old + length samples.now }
+    {
+        let end = self.len + samples.len();
+        write_patterns(setting, samples, &mut self.items[self.len..end]);
+        self.len = end;
     }
 
     /// Removes all residuals.

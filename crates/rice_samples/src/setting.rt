@@ -261,6 +261,7 @@ impl Setting {
         requires { IsSample self.now x }
         ensures value { result ≡ level self.now x }
         ensures below { result < value_count self.now }
+        ensures fits { result < 2 ^ 32 }
     {
         (x - self.least()) as u64
     }

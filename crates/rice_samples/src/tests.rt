@@ -1,3 +1,6 @@
+ghost use Rattle.std.specs.Prelude.{◌≡◌, true, All};
+ghost use Rattle.rice_samples.specs.Parameters.{IsSample};
+
 use crate::{
     Segment, Setting, SettingFault, bytes_of, from_pattern, pattern, residual, restore, sample_of,
 };
@@ -328,4 +331,47 @@ fn blocks_of_a_segment(rt: HostRuntime) {
     }
     segment.clear();
     assert_eq!(rt; segment.len(), 0);
+}
+
+fn are_in_range(setting: &Setting, samples: &[i64]) -> bool
+    ensures { result ≡ true → All (IsSample setting.now) samples.now }
+{
+    for i in 0..samples.len() {
+        if !setting.in_range(samples[i]) {
+            return false;
+        }
+    }
+    true
+}
+
+#[test]
+fn samples_in_a_row(rt: HostRuntime) -> Result<(), Fail> {
+    let setting = of_bits(8, false)?;
+    let signed = of_bits(8, true)?;
+    let samples = [6, 5, 5, 4, 0, 255, 0, 255];
+    let negative = [-1, -128, 127, 0, 1, 2, -2, -127];
+    assert!(rt; setting.in_range(5));
+    assert!(rt; are_in_range(&setting, &samples));
+    assert!(rt; are_in_range(&signed, &negative));
+    let mut segment = Segment::new();
+    segment.push_residuals(&setting, 5, &samples);
+    segment.push_patterns(&signed, &negative);
+    assert_eq!(rt; segment.len(), 16);
+    let mut meter = Meter::new();
+    let residuals = [2, 1, 0, 1, 7, 255, 255, 255];
+    let patterns = [255, 128, 127, 0, 1, 2, 254, 129];
+    for i in 0..8usize {
+        assert!(rt; meter.steps() < 16);
+        assert_eq!(rt;
+            segment.block(0, 8).at(i, &mut meter),
+            residuals[i],
+            "at {i}"
+        );
+        assert_eq!(rt;
+            segment.block(1, 8).at(i, &mut meter),
+            patterns[i],
+            "at {i}"
+        );
+    }
+    Ok(())
 }

@@ -13,7 +13,7 @@ returns-clause-bits c =
     let ref = reference_text s c.args.reference in
     let body = flat_map fundamental_sequence (pair_codes c.args.block.now) in
     let head = ap (λ n. word (n + 1) 1) c.id_len-id.ensures.value ∙ word_flag (id_len s) in
-    let one = c.put.ensures.bits ∙ ap (λ z. c.args.sink.now ++ z) head in
-    let two = c.put_reference.ensures.bits ∙ ap (λ z. z ++ ref) one in
-    let three = c.put_pairs.ensures.bits ∙ ap (λ z. z ++ body) two in
+    let one = ap (λ z. c.args.sink.now ++ z) head in
+    let two = c.begin-fields.ensures.bits ∙ ap (λ z. z ++ ref) one in
+    let three = c.put.ensures.bits ∙ (c.put_pairs.ensures.bits ∙ ap (λ z. z ++ body) two) in
     three ∙ flagged c.args.sink.now (word (id_len s) 0) ref body true

@@ -9,3 +9,9 @@ returns-clause-value c =
     let s = c.args.self.now in
     let legal = c.least.ensures.legal in
     omega (arith, ints, least_low s legal, least_high s, count_limit s legal, gap_is (least s) c.args.x c.requires.0)
+
+pub returns-clause-fits : goal.returns-clause-fits
+returns-clause-fits c =
+    let s = c.args.self.now in
+    let legal = c.least.ensures.legal in
+    omega (arith, ints, least_low s legal, least_high s, count_limit s legal, gap_is (least s) c.args.x c.requires.0, c.requires.1)
