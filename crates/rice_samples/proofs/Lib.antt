@@ -13,3 +13,4 @@ pub mod Gaps
 pub mod LaneLemmas
 pub mod PairSums
 pub mod Folding
+pub mod Readings

@@ -12,7 +12,7 @@ use std::marker::Model;
 /// The residuals of a block, 8, 16, 32 or 64 of them, lent by a segment. Clauses see their list.
 ///
 /// Each look at a residual is a step: the calls below count as many as the block has residuals,
-/// and `at` counts one. No other call tells anything of the residuals.
+/// `at` counts one, and `four_at` four. No other call tells anything of the residuals.
 #[derive(Drop)]
 pub struct Block<'a> {
     items: &'a [u32],
@@ -94,6 +94,22 @@ impl Block<'_> {
         let items = self.items;
         meter.tick(1);
         items[i]
+    }
+
+    /// Residuals number `i` to `i + 3`, at a step each.
+    #[inline]
+    pub fn four_at(&self, i: usize, meter: &mut Meter) -> (u32, u32, u32, u32)
+        requires inside { i + 3 < length self.now }
+        requires meter { meter.old + 4 < 2 ^ 62 }
+        ensures first { result.0 ≡ slice_index self.now i }
+        ensures second { result.1 ≡ slice_index self.now (i + 1) }
+        ensures third { result.2 ≡ slice_index self.now (i + 2) }
+        ensures last { result.3 ≡ slice_index self.now (i + 3) }
+        ensures steps { meter.new ≡ meter.old + 4 }
+    {
+        let items = self.items;
+        meter.tick(4);
+        (items[i], items[i + 1], items[i + 2], items[i + 3])
     }
 
     /// All residuals, at a step each.

@@ -9,6 +9,7 @@ pub mod examples;
 mod lanes;
 pub mod laws;
 pub mod preprocessor;
+pub mod reading;
 mod residuals;
 pub mod segment;
 pub mod setting;
@@ -16,6 +17,7 @@ pub mod spelling;
 
 pub use block::Block;
 pub use preprocessor::{from_pattern, pattern, residual, restore};
+pub use reading::samples_of;
 pub use segment::Segment;
 pub use setting::{Setting, SettingFault};
 pub use spelling::{bytes_of, sample_of};

@@ -3,6 +3,7 @@ ghost use Rattle.rice_samples.specs.Parameters.{IsSample};
 
 use crate::{
     Segment, Setting, SettingFault, bytes_of, from_pattern, pattern, residual, restore, sample_of,
+    samples_of,
 };
 use rice_bits::Meter;
 use std::test::Fail;
@@ -328,6 +329,8 @@ fn blocks_of_a_segment(rt: HostRuntime) {
         assert_eq!(rt; segment.block(2, 8).at(0, &mut meter), 16);
         assert_eq!(rt; segment.block(2, 8).at(7, &mut meter), 23);
         assert_eq!(rt; meter.steps(), 2);
+        assert_eq!(rt; segment.block(1, 8).four_at(4, &mut meter), (12, 13, 14, 15));
+        assert_eq!(rt; meter.steps(), 6);
     }
     segment.clear();
     assert_eq!(rt; segment.len(), 0);
@@ -372,6 +375,46 @@ fn samples_in_a_row(rt: HostRuntime) -> Result<(), Fail> {
             patterns[i],
             "at {i}"
         );
+    }
+    Ok(())
+}
+
+/// A setting of predicted samples in three bytes where these are enough.
+fn spelled(bits: u32, signed: bool, msb: bool) -> Result<Setting, SettingFault> {
+    Setting::new(bits, 8, 2, signed, msb, true, true, false)
+}
+
+#[test]
+fn samples_of_bytes(rt: HostRuntime) -> Result<(), Fail> {
+    let bytes = [
+        0x01, 0x02, 0xFF, 0xFE, 0x00, 0x80, 0x02, 0x01, 0x03, 0x00, 0x00, 0x04,
+    ];
+    let table: [(Setting, usize, usize, [i64; 4]); 7] = [
+        (spelled(8, false, false)?, 4, 4, [1, 2, 255, 254]),
+        (spelled(8, true, true)?, 4, 4, [1, 2, -1, -2]),
+        (spelled(16, false, false)?, 4, 4, [513, 65279, 32768, 258]),
+        (spelled(16, true, true)?, 4, 4, [258, -2, 128, 513]),
+        (
+            spelled(24, true, false)?,
+            4,
+            4,
+            [-65023, -8388354, 196866, 262144],
+        ),
+        (spelled(10, false, false)?, 4, 1, [513, 0, 0, 0]),
+        (
+            spelled(32, false, true)?,
+            3,
+            3,
+            [16973822, 8389121, 50331652, 0],
+        ),
+    ];
+    for (setting, len, count, samples) in table {
+        let mut read = [0; 4];
+        let width = setting.width() as usize;
+        assert!(rt; len <= 4 && width * len <= 12);
+        let taken = samples_of(&setting, &bytes[..width * len], &mut read[..len]);
+        assert_eq!(rt; taken, count);
+        assert_eq!(rt; read[..count.min(4)], samples[..count.min(4)]);
     }
     Ok(())
 }
