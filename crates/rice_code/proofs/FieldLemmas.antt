@@ -1,20 +1,21 @@
 -- Pieces that a reader takes one after another.
 use Rattle.std.proofs.Common.{◌≡◌, ℕ, zero, suc, ◌+◌, ◌*◌, ◌<◌, ◌≤◌, Bool, true, false, List, [], ◌∷◌, ◌++◌, length, replicate, refl, sym, ◌∙◌, ap, arith, append_assoc, length-append, Option, None, sum, ◌-◌, ◌/◌, ◌%◌, ◌^◌, subst}
-use Rattle.std.specs.Prelude.{flat_map}
-use Rattle.std.proofs.lemmas.List.{append-nil}
+use Rattle.std.specs.Prelude.{flat_map, ◌&&◌}
+use Rattle.std.proofs.lemmas.List.{append-nil, get_or_append_left}
 use Rattle.std.proofs.lemmas.Grind.{flat_map-append}
 use Rattle.std.specs.List.{AllByRecursion}
 use Rattle.std.proofs.lemmas.Nat.{pow_pos, mod_below, shr_split}
 use Rattle.std.proofs.lemmas.List.Elements.{All-push, All-append, All-from_recursion}
 use Rattle.std.proofs.lemmas.List.Sums.{sum_by-append}
 use Rattle.std.proofs.Math.Nat.{mul-le-mul_right}
+use Rattle.std.proofs.Math.Seq.{get_or-append_seam}
 use Rattle.rice_bits.specs.Bits.{word, fundamental_sequence}
 use Rattle.rice_bits.specs.Reader.{Reader, Takes, Stops}
 use Rattle.rice_bits.proofs.ReaderLemmas.{takes-none, takes-append, stops-append}
 use Rattle.rice_bits.proofs.Words.{length-word, word-low, word-nil, word-split, length-fundamental_sequence}
 use Rattle.rice_bits.specs.declared.fault.BitFault.{BitFault}
 use Rattle.rice_samples.specs.Pairs.{pair_code, pair_codes}
-use Rattle.rice_code.specs.Fields.{Row, PairRow, ones, words}
+use Rattle.rice_code.specs.Fields.{Row, CountRow, PairRow, ones, words}
 
 pub flat_map-push : (f : ℕ → List Bool) (xs : List ℕ) (x : ℕ) → flat_map f (xs ++ x ∷ []) ≡ flat_map f xs ++ f x
 flat_map-push f xs x = flat_map-append f xs (x ∷ []) ∙ ap (λ z. flat_map f xs ++ z) (append-nil (f x))
@@ -38,6 +39,44 @@ row-more left failed f P old mid new count before after v r p t = record {
   appended = ap (λ z. z ++ v ∷ []) r.appended ∙ append_assoc before r.values (v ∷ []);
   takes = rw (flat_map-push f r.values v) (takes-append left failed old mid new _ _ r.takes t);
 }
+
+both : (a b : Bool) → (a && b) ≡ true → (a ≡ true) × (b ≡ true)
+both true true e = (refl, refl)
+both true false e = absurd cc
+both false b e = absurd cc
+
+pub count-none : {I : Type 0} (left : I → Option (List ℕ)) (failed : I → ℕ) (r : Reader I) (most : ℕ) (told : List ℕ)
+    → told ≡ [] → r.refusal ≡ None → CountRow left failed r r most true 0 told
+count-none left failed r most told e h = record {
+  values = [];
+  len = refl;
+  told_are = λ _. (e, λ i d lt. absurd (omega arith));
+  refused = λ f. absurd cc;
+  takes = takes-none left failed r h;
+}
+
+-- one fundamental sequence more, of m zeros, for which v was written
+pub count-more : {I : Type 0} (left : I → Option (List ℕ)) (failed : I → ℕ) (old mid new : Reader I) (most done : ℕ) (small fits : Bool) (told : List ℕ) (m v : ℕ)
+    → CountRow left failed old mid most small done told → (fits ≡ true → (v ≡ m) × (m ≤ most)) → (fits ≡ false → most < m) → Takes left failed mid new (fundamental_sequence m)
+    → CountRow left failed old new most (small && fits) (done + 1) (told ++ v ∷ [])
+count-more left failed old mid new most done small fits told m v r good bad t =
+    let P : ℕ → Type 0 = λ x. x ≤ most in
+    record {
+      values = r.values ++ m ∷ [];
+      len = omega (arith, length-append r.values (m ∷ []), r.len);
+      told_are = λ e.
+          (let b = both small fits e in
+          let q = r.told_are b.0 in
+          let y = good b.1 in ((λ i. q.0 i ++ y.0 i ∷ []), All-push P r.values m q.1 y.1));
+      refused = not_told small fits (λ e h. r.refused e (λ i d lt. subst P (get_or_append_left r.values (m ∷ []) d i lt) (h i d (omega (arith, length-append r.values (m ∷ []), lt)))))
+          (λ e h. omega (arith, bad e, subst P (get_or-append_seam r.values m [] 0) (h (length r.values) 0 (omega (arith, length-append r.values (m ∷ []))))));
+      takes = rw (flat_map-push fundamental_sequence r.values m) (takes-append left failed old mid new _ _ r.takes t);
+    }
+  where
+    not_told : {Q : Type 0} (a b : Bool) → (a ≡ false → Q → ⊥) → (b ≡ false → Q → ⊥) → (a && b) ≡ false → Q → ⊥
+    not_told true true f g e q = absurd cc
+    not_told true false f g e q = g refl q
+    not_told false b f g e q = f refl q
 
 pub length-words : (width : ℕ) (vs : List ℕ) → length (flat_map (word width) vs) ≡ length vs * width
 length-words width [] = omega arith

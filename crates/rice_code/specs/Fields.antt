@@ -35,6 +35,14 @@ pub record Row {I : Type 0} (left : I → Option (List ℕ)) (failed : I → ℕ
   pub appended : after ≡ before ++ values
   pub takes : Takes left failed old new (flat_map piece values)
 
+-- A reader took fundamental sequences, one for each of so many numbers. The numbers are told where all are at most `most`.
+pub record CountRow {I : Type 0} (left : I → Option (List ℕ)) (failed : I → ℕ) (old new : Reader I) (most : ℕ) (small : Bool) (count : ℕ) (told : List ℕ) : Type 0 where
+  pub values : List ℕ
+  pub len : length values ≡ count
+  pub told_are : small ≡ true → (told ≡ values) × All (λ m. m ≤ most) values
+  pub refused : small ≡ false → All (λ m. m ≤ most) values → ⊥
+  pub takes : Takes left failed old new (flat_map fundamental_sequence values)
+
 -- A reader took the codewords of so many pairs, which were appended to other numbers.
 pub record PairRow {I : Type 0} (left : I → Option (List ℕ)) (failed : I → ℕ) (old new : Reader I) (count : ℕ) (before after : List ℕ) (old_steps new_steps : ℕ) : Type 0 where
   pub values : List ℕ

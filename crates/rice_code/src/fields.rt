@@ -1,8 +1,8 @@
 //! Words and fundamental sequences, several in a row.
-ghost use Rattle.std.specs.Prelude.{◌≡◌, ℕ, ◌+◌, ◌-◌, ◌*◌, ◌/◌, ◌^◌, ◌<◌, ◌≤◌, Bool, List, ◌++◌, length, None, IfErr, OnOk};
+ghost use Rattle.std.specs.Prelude.{◌≡◌, ℕ, ◌+◌, ◌-◌, ◌*◌, ◌/◌, ◌^◌, ◌<◌, ◌≤◌, Bool, List, ◌++◌, length, take, None, IfOk, IfErr, OnOk};
 ghost use Rattle.rice_bits.specs.Bits.{word, fundamental_sequence};
 ghost use Rattle.rice_bits.specs.Reader.{Stops};
-ghost use Rattle.rice_code.specs.Fields.{HasRoom, AreCounted, Row, PairRow, ones, words};
+ghost use Rattle.rice_code.specs.Fields.{HasRoom, AreCounted, Row, CountRow, PairRow, ones, words};
 
 use crate::pair::pair_of;
 use arrayvec::ArrayVec;
@@ -125,28 +125,35 @@ pub fn read_words<I: Intake>(
     read_grouped(reader, meter, count, width, out)
 }
 
-/// Reads so many fundamental sequences, and appends the numbers of their zeros.
+/// Reads so many fundamental sequences, and writes the numbers of their zeros to the front of `counts`. It answers whether all are at
+/// most `most`: where one is larger, what is written says nothing.
 pub fn read_counts<I: Intake>(
     reader: &mut BitReader<I>,
     meter: &mut Meter,
+    most: u64,
     count: usize,
-    out: &mut ArrayVec<u64, 64>,
-) -> Result<(), BitFault>
+    counts: &mut [u32; 64],
+) -> Result<bool, BitFault>
     requires going { reader.old.refusal ≡ None }
     requires room { HasRoom meter.old reader.old.taken }
-    requires fits { length out.old.items + count ≤ 64 }
-    ensures ok { OnOk result (Row I.left I.failed fundamental_sequence (λ m. m ≤ 2 ^ 52) reader.old reader.new count out.old.items out.new.items) }
+    requires most { most < 2 ^ 32 }
+    requires count { count ≤ 64 }
+    ensures ok { IfOk result (λ small. CountRow I.left I.failed reader.old reader.new most small count (take count counts.new)) }
     ensures err { IfErr result (λ f. (bits : List Bool) × (ones bits < count) × Stops I.left I.failed reader.old reader.new bits f) }
     ensures steps { meter.new + reader.old.taken ≡ meter.old + reader.new.taken }
     ensures limit { reader.new.taken ≤ 2 ^ 52 }
 {
+    let mut small = true;
     for done in 0..count {
         match reader.take_fs(meter) {
-            Ok(zeros) => out.push(zeros),
+            Ok(zeros) => {
+                counts[done] = zeros.min(most) as u32;
+                small = small & (zeros <= most);
+            }
             Err(fault) => return Err(fault),
         }
     }
-    Ok(())
+    Ok(small)
 }
 
 /// Reads the codewords of so many pairs, and appends the pairs.

@@ -10,7 +10,7 @@ ghost use Rattle.rice_code.specs.Fields.{HasRoom, AreCounted};
 ghost use Rattle.rice_code.specs.ReadSets.{BlockRead, BlockCut, reference_place, coded_count};
 
 use crate::fields::{read_counts, read_pairs, read_words};
-use crate::residuals::{are_sound, join_all, values};
+use crate::residuals::{are_below, are_sound, join_from, values};
 use arrayvec::ArrayVec;
 use rice_bits::{BitFault, BitReader, Intake, Meter};
 use rice_samples::Setting;
@@ -182,21 +182,24 @@ pub fn read_split<I: Intake>(
         Err(fault) => return Err(fault),
     };
     let count = count_coded(setting, reference);
-    let mut highs = ArrayVec::new();
-    if let Err(fault) = read_counts(reader, meter, count, &mut highs) {
-        return Err(fault);
-    }
-    let mut lows = ArrayVec::new();
-    if let Err(fault) = read_words(reader, meter, count, k, &mut lows) {
-        return Err(fault);
-    }
+    let values = values(setting);
+    let mut parts = [0; 64];
+    let small = match read_counts(reader, meter, (values - 1) >> k, count, &mut parts) {
+        Ok(small) => small,
+        Err(fault) => return Err(fault),
+    };
     begin_residuals(reference, residuals);
-    let sound = join_all(
-        highs.as_slice(),
-        lows.as_slice(),
-        k,
-        values(setting),
-        residuals,
-    );
+    if let Err(fault) = read_words(reader, meter, count, k, residuals) {
+        return Err(fault);
+    }
+    if !small {
+        return Ok(BlockHead {
+            reference,
+            sound: false,
+        });
+    }
+    let first = residuals.len() - count;
+    join_from(first, &parts[..count], k, residuals);
+    let sound = are_below(residuals.as_slice(), values);
     Ok(BlockHead { reference, sound })
 }

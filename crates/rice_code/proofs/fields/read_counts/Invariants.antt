@@ -1,11 +1,10 @@
-use Rattle.std.proofs.Common.{◌+◌, ◌≡◌, ◌^◌, ◌≤◌}
-use Rattle.rice_bits.specs.Bits.{fundamental_sequence}
-use Rattle.rice_code.specs.Fields.{Row}
+use Rattle.std.proofs.Common.{◌+◌, ◌≡◌, ◌^◌, ◌≤◌, take}
+use Rattle.rice_code.specs.Fields.{CountRow}
 use Rattle.rice_code.proofs.fields.read_counts.Given as goal
 
 abbrev pub invariant-loop-done : goal.invariant-loop-done
 invariant-loop-done g l = record {
-  row : Row g.I.Intake.left g.I.Intake.failed fundamental_sequence (λ m. m ≤ 2 ^ 52) l.fn.reader l.reader l.done l.fn.out.items l.out.items;
+  row : CountRow g.I.Intake.left g.I.Intake.failed l.fn.reader l.reader l.most l.small l.done (take l.done l.counts);
   steps : l.meter + l.fn.reader.taken ≡ l.fn.meter + l.reader.taken;
   limit : l.reader.taken ≤ 2 ^ 52;
 }
