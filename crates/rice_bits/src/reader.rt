@@ -1,11 +1,11 @@
 //! A reader of bits.
-ghost use Rattle.std.specs.Prelude.{◌≡◌, ℕ, ◌+◌, ◌-◌, ◌*◌, ◌%◌, ◌^◌, ◌<◌, ◌≤◌, Bool, true, false, List, [], ◌++◌, length, replicate, IfOk, IfErr, OnOk, IfSome, IfNone, IsSome, Option, None};
+ghost use Rattle.std.specs.Prelude.{◌≡◌, ℕ, ◌+◌, ◌-◌, ◌*◌, ◌%◌, ◌^◌, ◌<◌, ◌≤◌, Bool, true, false, List, [], ◌++◌, length, replicate, All, drop, flat_map, take, IfOk, IfErr, OnOk, IfSome, IfNone, IsSome, Option, None};
 ghost use Rattle.rice_bits.specs.Bits.{fundamental_sequence, bits_to_byte, word};
 ghost use Rattle.rice_bits.specs.Reader.{Draws, Refuses};
 ghost use Rattle.rice_bits.specs.Window.{IsWindow, window_bits};
 
 use crate::device::Intake;
-use crate::digits::join;
+use crate::digits::{high_digits, join};
 use crate::fault::BitFault;
 use crate::meter::Meter;
 use crate::window::{PIECE, Window};
@@ -410,6 +410,94 @@ impl<I: Intake> BitReader<I> {
         self.taken += zeros;
         meter.tick(zeros);
         Ok((zeros, false))
+    }
+
+    /// Takes words of `width` digits that wait together, at most one for each place of `words`, and writes them there. It answers how
+    /// many, which may be none, and ticks one for each bit. Places behind them stay.
+    ///
+    /// It never calls the intake, and so never refuses: where it takes none, [`take`](Self::take) takes the next.
+    #[inline]
+    pub fn take_waiting(&mut self, width: u32, words: &mut [u32], meter: &mut Meter) -> usize
+        requires going { self.old.refusal ≡ None }
+        requires width { width ≤ 32 }
+        requires meter { meter.old + (2 ^ 52 - self.old.taken) < 2 ^ 62 }
+        ensures within { result ≤ length words.new }
+        ensures fit { All (λ v. v < 2 ^ width) (take result words.new) }
+        ensures rest { drop result words.new ≡ drop result words.old }
+        ensures takes { Takes I.left I.failed self.old self.new (flat_map (word width) (take result words.new)) }
+        ensures idle { self.new.intake ≡ self.old.intake }
+        ensures steps { meter.new + self.old.taken ≡ meter.old + self.new.taken }
+        ensures limit { self.new.taken ≤ 2 ^ 52 }
+    {
+        self.refill(32);
+        self.take_words_ready(width, words, meter)
+    }
+
+    /// Takes the words that the word has.
+    #[inline]
+    fn take_words_ready(&mut self, width: u32, words: &mut [u32], meter: &mut Meter) -> usize
+        requires going { self.old.refusal ≡ None }
+        requires width { width ≤ 32 }
+        requires meter { meter.old + (2 ^ 52 - self.old.taken) < 2 ^ 62 }
+        ensures within { result ≤ length words.new }
+        ensures fit { All (λ v. v < 2 ^ width) (take result words.new) }
+        ensures rest { drop result words.new ≡ drop result words.old }
+        ensures takes { Takes I.left I.failed self.old self.new (flat_map (word width) (take result words.new)) }
+        ensures idle { self.new.intake ≡ self.old.intake }
+        ensures steps { meter.new + self.old.taken ≡ meter.old + self.new.taken }
+        ensures limit { self.new.taken ≤ 2 ^ 52 }
+    {
+        let digits = self.window.digits;
+        let count = self.window.count;
+        let taken = self.window.take_words(width, words);
+        let left = self.window.count;
+        let bits = (count - left) as u64;
+        meter.tick(bits);
+        self.taken += bits;
+        self.blank = self.blank & (high_digits(digits, left) == 0);
+        taken
+    }
+
+    /// Takes fundamental sequences that wait together, at most one for each place of `zeros`, and writes the numbers of their zeros
+    /// there. It answers how many, which may be none, and ticks one for each bit. Places behind them stay.
+    ///
+    /// It never calls the intake, and so never refuses: where it takes none, [`take_fs`](Self::take_fs) takes the next.
+    #[inline]
+    pub fn take_waiting_fs(&mut self, zeros: &mut [u32], meter: &mut Meter) -> usize
+        requires going { self.old.refusal ≡ None }
+        requires meter { meter.old + (2 ^ 52 - self.old.taken) < 2 ^ 62 }
+        ensures within { result ≤ length zeros.new }
+        ensures fit { All (λ m. m < 64) (take result zeros.new) }
+        ensures rest { drop result zeros.new ≡ drop result zeros.old }
+        ensures takes { Takes I.left I.failed self.old self.new (flat_map fundamental_sequence (take result zeros.new)) }
+        ensures idle { self.new.intake ≡ self.old.intake }
+        ensures steps { meter.new + self.old.taken ≡ meter.old + self.new.taken }
+        ensures limit { self.new.taken ≤ 2 ^ 52 }
+    {
+        self.refill(32);
+        self.take_sequences_ready(zeros, meter)
+    }
+
+    /// Takes the fundamental sequences that the word has.
+    #[inline]
+    fn take_sequences_ready(&mut self, zeros: &mut [u32], meter: &mut Meter) -> usize
+        requires going { self.old.refusal ≡ None }
+        requires meter { meter.old + (2 ^ 52 - self.old.taken) < 2 ^ 62 }
+        ensures within { result ≤ length zeros.new }
+        ensures fit { All (λ m. m < 64) (take result zeros.new) }
+        ensures rest { drop result zeros.new ≡ drop result zeros.old }
+        ensures takes { Takes I.left I.failed self.old self.new (flat_map fundamental_sequence (take result zeros.new)) }
+        ensures idle { self.new.intake ≡ self.old.intake }
+        ensures steps { meter.new + self.old.taken ≡ meter.old + self.new.taken }
+        ensures limit { self.new.taken ≤ 2 ^ 52 }
+    {
+        let count = self.window.count;
+        let taken = self.window.take_sequences(zeros);
+        let bits = (count - self.window.count) as u64;
+        meter.tick(bits);
+        self.taken += bits;
+        self.blank = self.blank & (taken == 0);
+        taken
     }
 
     /// Takes the 0 to 7 bits up to the next multiple of 8 of [`taken`](Self::taken), whatever they are, and ticks one for each. These

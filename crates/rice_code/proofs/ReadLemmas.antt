@@ -1,8 +1,7 @@
 -- What is read of a block behind its identifier.
-use Rattle.std.proofs.Common.{◌≡◌, ℕ, zero, suc, ◌+◌, ◌-◌, ◌*◌, ◌/◌, ◌%◌, ◌^◌, ◌<◌, ◌≤◌, Bool, true, false, List, [], ◌∷◌, ◌++◌, length, take, drop, refl, sym, ◌∙◌, ap, subst, arith, append_assoc, length-append, replicate, Option, Some, None, ◌⊎◌}
+use Rattle.std.proofs.Common.{◌≡◌, ℕ, zero, suc, ◌+◌, ◌-◌, ◌*◌, ◌/◌, ◌%◌, ◌^◌, ◌<◌, ◌≤◌, Bool, true, false, List, [], ◌∷◌, ◌++◌, length, refl, sym, ◌∙◌, ap, subst, arith, append_assoc, length-append, replicate, Option, Some, None, ◌⊎◌}
 use Rattle.std.specs.Prelude.{All, flat_map, slice_index, OnSome, sum}
 use Rattle.std.proofs.lemmas.List.{append-nil}
-use Rattle.std.proofs.Math.Seq.{take-append_seam, drop-append_seam}
 use Rattle.rice_bits.specs.Bits.{word, fundamental_sequence}
 use Rattle.rice_bits.specs.Reader.{Reader, Takes, Stops}
 use Rattle.rice_bits.specs.declared.fault.BitFault.{BitFault}
@@ -70,6 +69,17 @@ short_words : (width count : ℕ) (vs : List ℕ) (bits more : List Bool) → le
 short_words width count vs bits more n lt e =
     let k : length vs * width ≡ count * width = ap (λ m. m * width) n in
     omega (arith, ap length e, length-append (flat_map (word width) vs) more, length-words width vs)
+
+-- what was read alone stands behind others
+pub placed_row : {I : Type 0} (left : I → Option (List ℕ)) (failed : I → ℕ) (piece : ℕ → List Bool) (P : ℕ → Type 0) (old new : Reader I) (count : ℕ) (before alone after : List ℕ)
+    → Row left failed piece P old new count [] alone → after ≡ before ++ alone → Row left failed piece P old new count before after
+placed_row left failed piece P old new count before alone after row e = record {
+  values = row.values;
+  len = row.len;
+  each = row.each;
+  appended = e ∙ ap (λ z. before ++ z) row.appended;
+  takes = row.takes;
+}
 
 pub plain_read : {I : Type 0} (left : I → Option (List ℕ)) (failed : I → ℕ) (old mid new : Reader I) (first last : ℕ) (s : Parameters) (b : ℕ) (r : Option ℕ) (count : ℕ) (items : List ℕ)
     → IsReference s b r → count + length (reference_place r) ≡ s.block → 0 < value_count s → Takes left failed old mid (reference_text s r)
@@ -177,11 +187,6 @@ split_read left failed old mid next new first last s b k r count P highs lows it
       steps = omega arith;
     }
 
--- words that stand behind others
-own_row : {I : Type 0} (left : I → Option (List ℕ)) (failed : I → ℕ) (piece : ℕ → List Bool) (P : ℕ → Type 0) (old new : Reader I) (count : ℕ) (before after : List ℕ)
-    → (row : Row left failed piece P old new count before after) → Row left failed piece P old new count [] row.values
-own_row left failed piece P old new count before after row = record { values = row.values; len = row.len; each = row.each; appended = refl; takes = row.takes }
-
 -- those of a row of counts, whatever is told
 pub count_row : {I : Type 0} (left : I → Option (List ℕ)) (failed : I → ℕ) (old new : Reader I) (most : ℕ) (small : Bool) (count : ℕ) (told : List ℕ)
     → (row : CountRow left failed old new most small count told) → Row left failed fundamental_sequence (λ _. Unit {0}) old new count [] row.values
@@ -190,29 +195,28 @@ count_row left failed old new most small count told row = record { values = row.
 -- a high part is too large
 pub split_large : {I : Type 0} (left : I → Option (List ℕ)) (failed : I → ℕ) (old mid next new : Reader I) (first last : ℕ) (s : Parameters) (b k : ℕ) (r : Option ℕ) (count : ℕ) (told lows items : List ℕ) (small : Bool)
     → IsReference s b r → k ≤ k_max s → count + length (reference_place r) ≡ s.block → Takes left failed old mid (reference_text s r)
-    → CountRow left failed mid next ((value_count s - 1) / 2 ^ k) small count told → small ≡ false → Row left failed (word k) (λ v. v < 2 ^ k) next new count (reference_place r) lows → last + old.taken ≡ first + new.taken
+    → CountRow left failed mid next ((value_count s - 1) / 2 ^ k) small count told → small ≡ false → Row left failed (word k) (λ v. v < 2 ^ k) next new count [] lows → last + old.taken ≡ first + new.taken
     → BlockRead left failed old new first last s b (Split k) (split_tail s k) r false items
 split_large left failed old mid next new first last s b k r count told lows items small h le n t high e low steps =
-    split_read left failed old mid next new first last s b k r count (λ _. Unit {0}) high.values low.values items false h le n t
-    (count_row left failed mid next _ small count told high) (own_row left failed (word k) (λ v. v < 2 ^ k) next new count (reference_place r) lows low) steps (λ f. absurd cc) (λ f. absurd cc)
-    (λ f all. high.refused e (highs_small k (value_count s) high.values low.values (low.len ∙ sym high.len) (pow_pos s.bits) all))
+    let nl : length lows ≡ count = ap length low.appended ∙ low.len in
+    split_read left failed old mid next new first last s b k r count (λ _. Unit {0}) high.values lows items false h le n t
+    (count_row left failed mid next _ small count told high) low steps (λ f. absurd cc) (λ f. absurd cc)
+    (λ f all. high.refused e (highs_small k (value_count s) high.values lows (nl ∙ sym high.len) (pow_pos s.bits) all))
 
 -- high parts stand in their places
-pub split_joined : {I : Type 0} (left : I → Option (List ℕ)) (failed : I → ℕ) (old mid next new : Reader I) (first last : ℕ) (s : Parameters) (b k : ℕ) (r : Option ℕ) (count : ℕ) (told lows items : List ℕ) (small sound : Bool) (from : ℕ)
+pub split_joined : {I : Type 0} (left : I → Option (List ℕ)) (failed : I → ℕ) (old mid next new : Reader I) (first last : ℕ) (s : Parameters) (b k : ℕ) (r : Option ℕ) (count : ℕ) (told lows items : List ℕ) (small sound : Bool)
     → IsReference s b r → k ≤ k_max s → count + length (reference_place r) ≡ s.block → Takes left failed old mid (reference_text s r)
-    → CountRow left failed mid next ((value_count s - 1) / 2 ^ k) small count told → small ≡ true → Row left failed (word k) (λ v. v < 2 ^ k) next new count (reference_place r) lows → last + old.taken ≡ first + new.taken
-    → from ≡ length (reference_place r) → items ≡ take from lows ++ joined_parts k told (drop from lows)
+    → CountRow left failed mid next ((value_count s - 1) / 2 ^ k) small count told → small ≡ true → Row left failed (word k) (λ v. v < 2 ^ k) next new count [] lows → last + old.taken ≡ first + new.taken
+    → items ≡ reference_place r ++ joined_parts k told lows
     → (sound ≡ true → All (λ d. d < value_count s) items) → (sound ≡ false → All (λ d. d < value_count s) items → ⊥)
     → BlockRead left failed old new first last s b (Split k) (split_tail s k) r sound items
-split_joined left failed old mid next new first last s b k r count told lows items small sound from h le n t high e low steps at joined below above =
-    let front : take from lows ≡ reference_place r = (λ i. take (at i) (low.appended i)) ∙ take-append_seam (reference_place r) low.values in
-    let back : drop from lows ≡ low.values = (λ i. drop (at i) (low.appended i)) ∙ drop-append_seam (reference_place r) low.values in
-    let is : items ≡ reference_place r ++ joined_parts k high.values low.values = joined ∙ (λ i. front i ++ joined_parts k ((high.told_are e).0 i) (back i)) in
-    split_read left failed old mid next new first last s b k r count (λ _. Unit {0}) high.values low.values items sound h le n t
-    (count_row left failed mid next _ small count told high) (own_row left failed (word k) (λ v. v < 2 ^ k) next new count (reference_place r) lows low) steps
-    (λ f. all-suffix (λ d. d < value_count s) r (joined_parts k high.values low.values) (subst (λ xs. All (λ d. d < value_count s) xs) is (below f)))
+split_joined left failed old mid next new first last s b k r count told lows items small sound h le n t high e low steps joined below above =
+    let is : items ≡ reference_place r ++ joined_parts k high.values lows = joined ∙ (λ i. reference_place r ++ joined_parts k ((high.told_are e).0 i) lows) in
+    split_read left failed old mid next new first last s b k r count (λ _. Unit {0}) high.values lows items sound h le n t
+    (count_row left failed mid next _ small count told high) low steps
+    (λ f. all-suffix (λ d. d < value_count s) r (joined_parts k high.values lows) (subst (λ xs. All (λ d. d < value_count s) xs) is (below f)))
     (λ f. is)
-    (λ f all. above f (subst (λ xs. All (λ d. d < value_count s) xs) (sym is) (all-placed (λ d. d < value_count s) r (joined_parts k high.values low.values) (pow_pos s.bits) all)))
+    (λ f all. above f (subst (λ xs. All (λ d. d < value_count s) xs) (sym is) (all-placed (λ d. d < value_count s) r (joined_parts k high.values lows) (pow_pos s.bits) all)))
 
 ones-high : (k : ℕ) (ds : List ℕ) → ones (flat_map (λ d. fundamental_sequence (d / 2 ^ k)) ds) ≡ length ds
 ones-high k [] = refl

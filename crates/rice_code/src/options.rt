@@ -10,7 +10,7 @@ ghost use Rattle.rice_code.specs.Fields.{HasRoom, AreCounted};
 ghost use Rattle.rice_code.specs.ReadSets.{BlockRead, BlockCut, reference_place, coded_count};
 
 use crate::fields::{read_counts, read_pairs, read_words};
-use crate::residuals::{are_below, are_sound, join_from, values};
+use crate::residuals::{append, are_below, are_sound, join_all, values};
 use arrayvec::ArrayVec;
 use rice_bits::{BitFault, BitReader, Intake, Meter};
 use rice_samples::Setting;
@@ -120,15 +120,17 @@ pub fn read_no_compression<I: Intake>(
         Ok(reference) => reference,
         Err(fault) => return Err(fault),
     };
-    begin_residuals(reference, residuals);
     let count = count_coded(setting, reference);
-    match read_words(reader, meter, count, setting.bits(), residuals) {
-        Ok(()) => Ok(BlockHead {
-            reference,
-            sound: true,
-        }),
-        Err(fault) => Err(fault),
+    let mut words = [0; 64];
+    if let Err(fault) = read_words(reader, meter, count, setting.bits(), &mut words) {
+        return Err(fault);
     }
+    begin_residuals(reference, residuals);
+    append(&words[..count], residuals);
+    Ok(BlockHead {
+        reference,
+        sound: true,
+    })
 }
 
 /// Reads a block by second extension.
@@ -183,13 +185,13 @@ pub fn read_split<I: Intake>(
     };
     let count = count_coded(setting, reference);
     let values = values(setting);
-    let mut parts = [0; 64];
-    let small = match read_counts(reader, meter, (values - 1) >> k, count, &mut parts) {
+    let mut highs = [0; 64];
+    let small = match read_counts(reader, meter, (values - 1) >> k, count, &mut highs) {
         Ok(small) => small,
         Err(fault) => return Err(fault),
     };
-    begin_residuals(reference, residuals);
-    if let Err(fault) = read_words(reader, meter, count, k, residuals) {
+    let mut lows = [0; 64];
+    if let Err(fault) = read_words(reader, meter, count, k, &mut lows) {
         return Err(fault);
     }
     if !small {
@@ -198,8 +200,9 @@ pub fn read_split<I: Intake>(
             sound: false,
         });
     }
-    let first = residuals.len() - count;
-    join_from(first, &parts[..count], k, residuals);
+    join_all(&highs[..count], k, &mut lows[..count]);
+    begin_residuals(reference, residuals);
+    append(&lows[..count], residuals);
     let sound = are_below(residuals.as_slice(), values);
     Ok(BlockHead { reference, sound })
 }

@@ -1,5 +1,5 @@
 //! Residuals from their high and low parts, and whether they are sound.
-ghost use Rattle.std.specs.Prelude.{◌≡◌, ℕ, ◌+◌, ◌-◌, ◌*◌, ◌/◌, ◌^◌, ◌<◌, ◌≤◌, true, false, List, ◌++◌, length, drop, take, slice_index, OnSome, All};
+ghost use Rattle.std.specs.Prelude.{◌≡◌, ℕ, ◌+◌, ◌-◌, ◌*◌, ◌/◌, ◌^◌, ◌<◌, ◌≤◌, true, false, List, ◌++◌, length, slice_index, OnSome, All};
 ghost use Rattle.rice_samples.specs.Parameters.{value_count};
 ghost use Rattle.rice_code.specs.ReadSets.{joined_parts};
 
@@ -15,29 +15,26 @@ pub fn values(setting: &Setting) -> u64
     1 << setting.bits()
 }
 
-/// Puts high parts before these low parts of k bits.
-fn join_all(highs: &[u32], k: u32, residuals: &mut [u32])
-    requires same { length residuals.old ≡ length highs.now }
+/// Puts high parts before low parts of k bits.
+pub fn join_all(highs: &[u32], k: u32, lows: &mut [u32])
+    requires same { length lows.old ≡ length highs.now }
     requires k { k ≤ 29 }
     requires highs { All (λ h. h ≤ (2 ^ 32 - 1) / 2 ^ k) highs.now }
-    requires lows { All (λ l. l < 2 ^ k) residuals.old }
-    ensures { residuals.new ≡ joined_parts k highs.now residuals.old }
+    requires lows { All (λ l. l < 2 ^ k) lows.old }
+    ensures { lows.new ≡ joined_parts k highs.now lows.old }
 {
     for i in 0..highs.len() {
-        residuals[i] += highs[i] << k;
+        lows[i] += highs[i] << k;
     }
 }
 
-/// Puts high parts before the low parts of k bits that stand from the place `first` on.
-pub fn join_from(first: usize, highs: &[u32], k: u32, residuals: &mut ArrayVec<u32, 64>)
-    requires first { first ≤ length residuals.old.items }
-    requires same { length (drop first residuals.old.items) ≡ length highs.now }
-    requires k { k ≤ 29 }
-    requires highs { All (λ h. h ≤ (2 ^ 32 - 1) / 2 ^ k) highs.now }
-    requires lows { All (λ l. l < 2 ^ k) (drop first residuals.old.items) }
-    ensures { residuals.new.items ≡ take first residuals.old.items ++ joined_parts k highs.now (drop first residuals.old.items) }
+/// Appends residuals.
+#[inline]
+pub fn append(more: &[u32], residuals: &mut ArrayVec<u32, 64>)
+    requires { length residuals.old.items + length more.now ≤ 64 }
+    ensures { residuals.new.items ≡ residuals.old.items ++ more.now }
 {
-    join_all(highs, k, &mut residuals.as_mut_slice()[first..]);
+    let _appended = residuals.try_extend_from_slice(more);
 }
 
 /// Whether all residuals are below `count`.

@@ -1,8 +1,8 @@
-use Rattle.std.proofs.Common.{arith, ◌≡◌, ◌∙◌, ap, ◌/◌, ◌^◌, ◌++◌, ◌-◌, take, length, length-append}
+use Rattle.std.proofs.Common.{arith, rules, sym, drop, ◌≡◌, ◌∙◌, ap, ◌/◌, ◌^◌, ◌++◌, take, length}
 use Rattle.std.specs.Prelude.{flat_map}
+use Rattle.std.proofs.Math.Seq.{take-append_seam}
 use Rattle.rice_bits.specs.Bits.{word, fundamental_sequence}
 use Rattle.rice_code.specs.DataSets.{Split, coded}
-use Rattle.rice_code.specs.ReadSets.{reference_place}
 use Rattle.rice_code.proofs.ReadLemmas.{split_large, split_joined, split_cut_high, split_cut_low, cut_at_reference, count_row}
 use Rattle.rice_code.proofs.options.read_split.Goals as goal
 
@@ -29,18 +29,19 @@ returns-in-Err-read_words-clause-err g c =
 pub returns-then-not-small-clause-ok : goal.returns-then-not-small-clause-ok
 returns-then-not-small-clause-ok g c =
     split_large g.I.Intake.left g.I.Intake.failed c.args.reader.now c.read_reference.new.reader c.read_counts.new.reader c.read_words.new.reader c.args.meter.now c.read_words.new.meter c.args.setting.now c.args.block c.args.k c.in-Ok.reference c.count_coded-count.result
-    (take c.count_coded-count.result c.read_counts.new.counts) c.read_words.new.out.items c.read_words.new.out.items c.in-Ok-read_counts.small
+    (take c.count_coded-count.result c.read_counts.new.counts) (take c.count_coded-count.result c.read_words.new.words) _ c.in-Ok-read_counts.small
     c.in-Ok.ensures.reference c.requires.k c.count_coded-count.ensures.sum c.in-Ok.ensures.ok (rw c.values-values.ensures.value at c.in-Ok-read_counts.ensures.ok) c.if-not-small.true
-    (rw c.begin_residuals.ensures at c.in_default.ensures.ok) (omega (arith, c.in-Ok.ensures.steps, c.in-Ok-read_counts.ensures.steps, c.in_default.ensures.steps))
+    c.in_default.ensures.ok (omega (arith, c.in-Ok.ensures.steps, c.in-Ok-read_counts.ensures.steps, c.in_default.ensures.steps))
 
 pub returns-clause-ok : goal.returns-clause-ok
 returns-clause-ok g c =
-    let low = (rw c.begin_residuals.ensures at c.in_default.ensures.ok) in
     split_joined g.I.Intake.left g.I.Intake.failed c.args.reader.now c.read_reference.new.reader c.read_counts.new.reader c.read_words.new.reader c.args.meter.now c.read_words.new.meter c.args.setting.now c.args.block c.args.k c.in-Ok.reference c.count_coded-count.result
-    (take c.count_coded-count.result c.read_counts.new.counts) c.read_words.new.out.items c.join_from.new.residuals.items c.in-Ok-read_counts.small c.are_below-sound.result (c.len.result - c.count_coded-count.result)
+    (take c.count_coded-count.result c.read_counts.new.counts) (take c.count_coded-count.result c.read_words.new.words) c.append.new.residuals.items c.in-Ok-read_counts.small c.are_below-sound.result
     c.in-Ok.ensures.reference c.requires.k c.count_coded-count.ensures.sum c.in-Ok.ensures.ok (rw c.values-values.ensures.value at c.in-Ok-read_counts.ensures.ok) c.if-not-small.false
-    low (omega (arith, c.in-Ok.ensures.steps, c.in-Ok-read_counts.ensures.steps, c.in_default.ensures.steps))
-    (omega (arith, c.len.ensures.value, ap length low.appended, length-append (reference_place c.in-Ok.reference) low.values, low.len))
-    c.join_from.ensures
+    c.in_default.ensures.ok (omega (arith, c.in-Ok.ensures.steps, c.in-Ok-read_counts.ensures.steps, c.in_default.ensures.steps))
+    (let count = c.count_coded-count.result in
+    let len : length c.join_all.new.lows ≡ count = search rules in
+    let front = ap (λ n. take n (c.join_all.new.lows ++ drop count c.read_words.new.words)) (sym len) ∙ take-append_seam c.join_all.new.lows (drop count c.read_words.new.words) in
+    rw (c.begin_residuals.ensures, front, c.join_all.ensures) at c.append.ensures)
     (rw (c.as_slice.ensures.value, c.values-values.ensures.value) at c.are_below-sound.ensures.below)
     (rw (c.as_slice.ensures.value, c.values-values.ensures.value) at c.are_below-sound.ensures.not_below)

@@ -1,4 +1,4 @@
-use Rattle.std.proofs.Common.{◌≡◌, ◌<◌, arith, length, take, ap, subst, true}
+use Rattle.std.proofs.Common.{◌≡◌, ◌<◌, arith, take, subst}
 use Rattle.std.specs.Prelude.{All}
 use Rattle.std.proofs.lemmas.List.{take_all}
 use Rattle.rice_code.proofs.JoinedParts.{below-more}

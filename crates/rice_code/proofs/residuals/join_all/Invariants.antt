@@ -4,6 +4,6 @@ use Rattle.rice_code.proofs.residuals.join_all.Given as goal
 
 abbrev pub invariant-loop-i : goal.invariant-loop-i
 invariant-loop-i l = record {
-  done : take l.i l.residuals ≡ take l.i (joined_parts l.k l.highs l.fn.residuals);
-  rest : drop l.i l.residuals ≡ drop l.i l.fn.residuals;
+  done : take l.i l.lows ≡ take l.i (joined_parts l.k l.highs l.fn.lows);
+  rest : drop l.i l.lows ≡ drop l.i l.fn.lows;
 }
