@@ -192,7 +192,11 @@ impl<I: Intake> BitReader<I> {
         if let Some(value) = self.take_ready(width, meter) {
             return Ok(value);
         }
-        self.take_refilled(width, meter)
+        self.refill(width);
+        if let Some(value) = self.take_ready(width, meter) {
+            return Ok(value);
+        }
+        self.take_across(width, meter)
     }
 
     /// Takes the next `width` digits, where the word has more.
@@ -215,31 +219,6 @@ impl<I: Intake> BitReader<I> {
         self.taken += width as u64;
         self.blank = self.blank & (digits == 0);
         Some(digits as u32)
-    }
-
-    /// Refills the word, and takes the next `width` bits.
-    #[inline]
-    fn take_refilled(&mut self, width: u32, meter: &mut Meter) -> Result<u32, BitFault>
-        requires width { width ≤ 32 }
-        requires meter { meter.old + width < 2 ^ 62 }
-        ensures ok { IfOk result (λ v. (v < 2 ^ width) × Takes I.left I.failed self.old self.new (word width v)) }
-        // A first refusal took all bits that were left, which were too few.
-        ensures err { self.old.refusal ≡ None → IfErr result (λ f.
-            (bits : List Bool) × (length bits < width) × Stops I.left I.failed self.old self.new bits f) }
-        // A reader that has refused answers the same, and takes nothing.
-        ensures stopped { IfSome self.old.refusal (λ f. (result ≡ Err f) × (self.new ≡ self.old)) }
-        ensures taken { OnOk result (self.new.taken ≡ self.old.taken + width) }
-        ensures most { self.new.taken ≤ self.old.taken + width }
-        ensures limit { self.new.taken ≤ 2 ^ 52 }
-        // The intake is not called where enough bits wait.
-        ensures idle { width ≤ length self.old.waiting → self.new.intake ≡ self.old.intake }
-        ensures steps { meter.new + self.old.taken ≡ meter.old + self.new.taken }
-    {
-        self.refill(width);
-        if let Some(value) = self.take_ready(width, meter) {
-            return Ok(value);
-        }
-        self.take_across(width, meter)
     }
 
     /// Moves bytes into the word, where it has at most `few` digits.
@@ -308,7 +287,11 @@ impl<I: Intake> BitReader<I> {
         if let Some(zeros) = self.take_fs_ready(meter) {
             return Ok(zeros);
         }
-        self.take_fs_refilled(meter)
+        self.refill(32);
+        if let Some(zeros) = self.take_fs_ready(meter) {
+            return Ok(zeros);
+        }
+        self.take_fs_across(meter)
     }
 
     /// Takes a fundamental sequence, where the word has its 1.
@@ -330,29 +313,6 @@ impl<I: Intake> BitReader<I> {
         self.taken += zeros + 1;
         self.blank = false;
         Some(zeros)
-    }
-
-    /// Refills the word where no 1 is left in it, and takes a fundamental sequence.
-    #[inline]
-    fn take_fs_refilled(&mut self, meter: &mut Meter) -> Result<u64, BitFault>
-        requires meter { meter.old + (2 ^ 52 - self.old.taken) < 2 ^ 62 }
-        ensures ok { IfOk result (λ m. Takes I.left I.failed self.old self.new (fundamental_sequence m)) }
-        // A first refusal took all bits that were left, which were zeros.
-        ensures err { self.old.refusal ≡ None → IfErr result (λ f.
-            (m : ℕ) × Stops I.left I.failed self.old self.new (replicate m false) f) }
-        // A reader that has refused answers the same, and takes nothing.
-        ensures stopped { IfSome self.old.refusal (λ f. (result ≡ Err f) × (self.new ≡ self.old)) }
-        ensures taken { IfOk result (λ m. self.new.taken ≡ self.old.taken + m + 1) }
-        ensures most { self.new.taken ≤ 2 ^ 52 }
-        // The intake is not called where a 1 waits.
-        ensures idle { is_blank self.old.waiting ≡ false → self.new.intake ≡ self.old.intake }
-        ensures steps { meter.new + self.old.taken ≡ meter.old + self.new.taken }
-    {
-        self.refill(32);
-        if let Some(zeros) = self.take_fs_ready(meter) {
-            return Ok(zeros);
-        }
-        self.take_fs_across(meter)
     }
 
     /// Takes a fundamental sequence, and calls the intake where no 1 waits.

@@ -1,30 +1,36 @@
-use Rattle.std.proofs.Common.{◌-◌, ◌%◌, ◌^◌, ◌<◌, ◌≤◌, ◌++◌, [], arith, ap, sym, ◌∙◌}
+use Rattle.std.proofs.Common.{◌+◌, ◌-◌, ◌/◌, ◌^◌, ◌<◌, arith, subst, sym}
 use lib.Count.{count_leading_zeros}
-use Rattle.std.proofs.Math.Nat.{pow-le-pow_right}
-use Rattle.std.proofs.lemmas.List.{append-nil}
-use Rattle.rice_bits.specs.Bits.{word, fundamental_sequence}
-use Rattle.rice_bits.proofs.WindowLemmas.{one_high, one_within, run-digits}
-use Rattle.rice_bits.proofs.Parting.{parted-more}
+use Rattle.rice_bits.specs.Bits.{fundamental_sequence}
+use Rattle.rice_bits.specs.Window.{AreParted}
+use Rattle.rice_bits.proofs.Parting.{moved-back, parted-more, parted-none, run_short, run_step}
 use Rattle.rice_bits.proofs.window.part_sequences.Goals as goal
 
-pub overflow_sub-zeros-in-loop-taken : goal.overflow_sub-zeros-in-loop-taken
-overflow_sub-zeros-in-loop-taken c =
-    one_within c.loop-taken.count c.loop-taken.digits (omega (arith, c.if-digits-eq0.false)) c.loop-taken.invariant.below (omega (arith, c.requires.count, c.loop-taken.invariant.few))
-
-pub behind-digits-requires-clause-high : goal.behind-digits-requires-clause-high
-behind-digits-requires-clause-high c =
-    one_high c.loop-taken.digits (omega (arith, c.if-digits-eq0.false))
-    (omega (arith, c.loop-taken.invariant.below, pow-le-pow_right {n = 2} (omega arith) {i = c.loop-taken.count} {j = 64} (omega (arith, c.requires.count, c.loop-taken.invariant.few))))
+pub loop-taken-init : goal.loop-taken-init
+loop-taken-init c =
+    let back = moved-back c.args.count c.args.digits c.requires.count c.requires.digits in
+    rw c.first_digits-rest.ensures record {
+      parted = subst (λ d. AreParted fundamental_sequence (λ m. m < 64) c.args.digits c.args.count c.args.zeros.now c.args.zeros.now d c.args.count 0) (sym back.0)
+          (parted-none fundamental_sequence (λ m. m < 64) c.args.digits c.args.count c.args.zeros.now c.requires.digits);
+      whole = back.1;
+    }
 
 pub loop-taken-preserved : goal.loop-taken-preserved
 loop-taken-preserved c =
-    let d = c.loop-taken.digits in
-    let after = 63 - count_leading_zeros 64 d in
-    let some : 0 < d = omega (arith, c.if-digits-eq0.false) in
-    let short : c.loop-taken.count ≤ 64 = omega (arith, c.requires.count, c.loop-taken.invariant.few) in
-    let within = one_within c.loop-taken.count d some c.loop-taken.invariant.below short in
-    let run = run-digits c.loop-taken.count d [] some c.loop-taken.invariant.below short in
-    parted-more fundamental_sequence (λ m. m < 64) c.args.digits c.args.count c.args.zeros.now c.loop-taken.zeros d c.loop-taken.count c.behind-digits.result after
-    c.loop-taken.taken (c.loop-taken.count - 1 - after) c.loop-taken.invariant (omega (arith, c.loop-taken-test.true, c.loop-taken.auto.zeros)) (omega (arith, c.requires.count, c.loop-taken.invariant.few))
-    c.behind-digits.ensures.below (omega (arith, within))
-    (rw c.behind-digits.ensures.value (sym (append-nil (word c.loop-taken.count d)) ∙ (run ∙ ap (λ z. fundamental_sequence (c.loop-taken.count - 1 - after) ++ z) (append-nil (word after (d % 2 ^ after))))))
+    let parted = c.loop-taken.invariant.parted in
+    let step = run_step c.loop-taken.left c.loop-taken.rest c.behind_front-rest.result (omega (arith, c.requires.count, parted.few)) parted.below c.loop-taken.invariant.whole (omega (arith, c.if-rest-eq0.false)) c.behind_front-rest.ensures in
+    record {
+      parted = parted-more fundamental_sequence (λ m. m < 64) c.args.digits c.args.count c.args.zeros.now c.loop-taken.zeros (c.loop-taken.rest / 2 ^ (64 - c.loop-taken.left)) c.loop-taken.left _ (c.loop-taken.left - (count_leading_zeros 64 c.loop-taken.rest + 1))
+          c.loop-taken.taken (count_leading_zeros 64 c.loop-taken.rest) parted (omega (arith, c.loop-taken-test.true, c.loop-taken.auto.zeros)) (omega (arith, step.0, c.requires.count, parted.few)) step.1 (omega (arith, step.0)) step.3;
+      whole = step.2;
+    }
+
+pub behind_front-rest-requires : goal.behind_front-rest-requires
+behind_front-rest-requires c =
+    let parted = c.loop-taken.invariant.parted in
+    let short = run_short c.loop-taken.left c.loop-taken.rest (omega (arith, c.requires.count, parted.few)) parted.below c.loop-taken.invariant.whole (omega (arith, c.if-rest-eq0.false)) in
+    omega (arith, short, c.requires.count, parted.few)
+
+pub overflow_sub-left : goal.overflow_sub-left
+overflow_sub-left c =
+    let parted = c.loop-taken.invariant.parted in
+    run_short c.loop-taken.left c.loop-taken.rest (omega (arith, c.requires.count, parted.few)) parted.below c.loop-taken.invariant.whole (omega (arith, c.if-rest-eq0.false))
