@@ -8,3 +8,4 @@ pub mod Drawing
 pub mod Blank
 pub mod ReaderLemmas
 pub mod WindowLemmas
+pub mod Parting

@@ -1,5 +1,5 @@
 -- The bits that were given and not yet taken.
-use Rattle.std.specs.Prelude.{◌≡◌, ◌+◌, ◌-◌, ◌*◌, ◌^◌, ◌<◌, ◌≤◌, Bool, List, ◌++◌, length, slice_range}
+use Rattle.std.specs.Prelude.{◌≡◌, ◌+◌, ◌-◌, ◌*◌, ◌^◌, ◌<◌, ◌≤◌, ℕ, All, Bool, List, ◌++◌, length, drop, flat_map, take, slice_range}
 use Rattle.rice_bits.specs.Bits.{word, bits_of}
 use Rattle.rice_bits.specs.declared.window.Window.{Window}
 
@@ -14,3 +14,12 @@ pub record IsWindow (w : Window) : Type 0 where
   pub fits : w.end ≤ length w.buffer
   pub size : length w.buffer ≡ 4096
   pub piece : w.count + 8 * (w.end - w.at) ≤ 32768
+
+-- Pieces were taken from the front of a number's digits, one for each of the numbers that were written to the first places of a list.
+pub record AreParted (piece : ℕ → List Bool) (P : ℕ → Type 0) (digits count : ℕ) (old new : List ℕ) (left_digits left_count taken : ℕ) : Type 0 where
+  pub within : taken ≤ length new
+  pub each : All P (take taken new)
+  pub rest : drop taken new ≡ drop taken old
+  pub below : left_digits < 2 ^ left_count
+  pub few : left_count ≤ count
+  pub bits : word count digits ≡ flat_map piece (take taken new) ++ word left_count left_digits

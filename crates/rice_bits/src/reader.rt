@@ -1,11 +1,11 @@
 //! A reader of bits.
-ghost use Rattle.std.specs.Prelude.{◌≡◌, ℕ, ◌+◌, ◌-◌, ◌*◌, ◌%◌, ◌^◌, ◌<◌, ◌≤◌, Bool, true, false, List, [], ◌++◌, length, replicate, IfOk, IfErr, OnOk, IfSome, IfNone, IsSome, Option, None};
+ghost use Rattle.std.specs.Prelude.{◌≡◌, ℕ, ◌+◌, ◌-◌, ◌*◌, ◌%◌, ◌^◌, ◌<◌, ◌≤◌, Bool, true, false, List, [], ◌++◌, length, replicate, All, drop, flat_map, take, IfOk, IfErr, OnOk, IfSome, IfNone, IsSome, Option, None};
 ghost use Rattle.rice_bits.specs.Bits.{fundamental_sequence, bits_to_byte, word};
 ghost use Rattle.rice_bits.specs.Reader.{Draws, Refuses};
 ghost use Rattle.rice_bits.specs.Window.{IsWindow, window_bits};
 
 use crate::device::Intake;
-use crate::digits::join;
+use crate::digits::{high_digits, join};
 use crate::fault::BitFault;
 use crate::meter::Meter;
 use crate::window::{PIECE, Window};
@@ -192,7 +192,11 @@ impl<I: Intake> BitReader<I> {
         if let Some(value) = self.take_ready(width, meter) {
             return Ok(value);
         }
-        self.take_refilled(width, meter)
+        self.refill(width);
+        if let Some(value) = self.take_ready(width, meter) {
+            return Ok(value);
+        }
+        self.take_across(width, meter)
     }
 
     /// Takes the next `width` digits, where the word has more.
@@ -215,31 +219,6 @@ impl<I: Intake> BitReader<I> {
         self.taken += width as u64;
         self.blank = self.blank & (digits == 0);
         Some(digits as u32)
-    }
-
-    /// Refills the word, and takes the next `width` bits.
-    #[inline]
-    fn take_refilled(&mut self, width: u32, meter: &mut Meter) -> Result<u32, BitFault>
-        requires width { width ≤ 32 }
-        requires meter { meter.old + width < 2 ^ 62 }
-        ensures ok { IfOk result (λ v. (v < 2 ^ width) × Takes I.left I.failed self.old self.new (word width v)) }
-        // A first refusal took all bits that were left, which were too few.
-        ensures err { self.old.refusal ≡ None → IfErr result (λ f.
-            (bits : List Bool) × (length bits < width) × Stops I.left I.failed self.old self.new bits f) }
-        // A reader that has refused answers the same, and takes nothing.
-        ensures stopped { IfSome self.old.refusal (λ f. (result ≡ Err f) × (self.new ≡ self.old)) }
-        ensures taken { OnOk result (self.new.taken ≡ self.old.taken + width) }
-        ensures most { self.new.taken ≤ self.old.taken + width }
-        ensures limit { self.new.taken ≤ 2 ^ 52 }
-        // The intake is not called where enough bits wait.
-        ensures idle { width ≤ length self.old.waiting → self.new.intake ≡ self.old.intake }
-        ensures steps { meter.new + self.old.taken ≡ meter.old + self.new.taken }
-    {
-        self.refill(width);
-        if let Some(value) = self.take_ready(width, meter) {
-            return Ok(value);
-        }
-        self.take_across(width, meter)
     }
 
     /// Moves bytes into the word, where it has at most `few` digits.
@@ -308,7 +287,11 @@ impl<I: Intake> BitReader<I> {
         if let Some(zeros) = self.take_fs_ready(meter) {
             return Ok(zeros);
         }
-        self.take_fs_refilled(meter)
+        self.refill(32);
+        if let Some(zeros) = self.take_fs_ready(meter) {
+            return Ok(zeros);
+        }
+        self.take_fs_across(meter)
     }
 
     /// Takes a fundamental sequence, where the word has its 1.
@@ -330,29 +313,6 @@ impl<I: Intake> BitReader<I> {
         self.taken += zeros + 1;
         self.blank = false;
         Some(zeros)
-    }
-
-    /// Refills the word where no 1 is left in it, and takes a fundamental sequence.
-    #[inline]
-    fn take_fs_refilled(&mut self, meter: &mut Meter) -> Result<u64, BitFault>
-        requires meter { meter.old + (2 ^ 52 - self.old.taken) < 2 ^ 62 }
-        ensures ok { IfOk result (λ m. Takes I.left I.failed self.old self.new (fundamental_sequence m)) }
-        // A first refusal took all bits that were left, which were zeros.
-        ensures err { self.old.refusal ≡ None → IfErr result (λ f.
-            (m : ℕ) × Stops I.left I.failed self.old self.new (replicate m false) f) }
-        // A reader that has refused answers the same, and takes nothing.
-        ensures stopped { IfSome self.old.refusal (λ f. (result ≡ Err f) × (self.new ≡ self.old)) }
-        ensures taken { IfOk result (λ m. self.new.taken ≡ self.old.taken + m + 1) }
-        ensures most { self.new.taken ≤ 2 ^ 52 }
-        // The intake is not called where a 1 waits.
-        ensures idle { is_blank self.old.waiting ≡ false → self.new.intake ≡ self.old.intake }
-        ensures steps { meter.new + self.old.taken ≡ meter.old + self.new.taken }
-    {
-        self.refill(32);
-        if let Some(zeros) = self.take_fs_ready(meter) {
-            return Ok(zeros);
-        }
-        self.take_fs_across(meter)
     }
 
     /// Takes a fundamental sequence, and calls the intake where no 1 waits.
@@ -410,6 +370,94 @@ impl<I: Intake> BitReader<I> {
         self.taken += zeros;
         meter.tick(zeros);
         Ok((zeros, false))
+    }
+
+    /// Takes words of `width` digits that wait together, at most one for each place of `words`, and writes them there. It answers how
+    /// many, which may be none, and ticks one for each bit. Places behind them stay.
+    ///
+    /// It never calls the intake, and so never refuses: where it takes none, [`take`](Self::take) takes the next.
+    #[inline]
+    pub fn take_waiting(&mut self, width: u32, words: &mut [u32], meter: &mut Meter) -> usize
+        requires going { self.old.refusal ≡ None }
+        requires width { width ≤ 32 }
+        requires meter { meter.old + (2 ^ 52 - self.old.taken) < 2 ^ 62 }
+        ensures within { result ≤ length words.new }
+        ensures fit { All (λ v. v < 2 ^ width) (take result words.new) }
+        ensures rest { drop result words.new ≡ drop result words.old }
+        ensures takes { Takes I.left I.failed self.old self.new (flat_map (word width) (take result words.new)) }
+        ensures idle { self.new.intake ≡ self.old.intake }
+        ensures steps { meter.new + self.old.taken ≡ meter.old + self.new.taken }
+        ensures limit { self.new.taken ≤ 2 ^ 52 }
+    {
+        self.refill(32);
+        self.take_words_ready(width, words, meter)
+    }
+
+    /// Takes the words that the word has.
+    #[inline]
+    fn take_words_ready(&mut self, width: u32, words: &mut [u32], meter: &mut Meter) -> usize
+        requires going { self.old.refusal ≡ None }
+        requires width { width ≤ 32 }
+        requires meter { meter.old + (2 ^ 52 - self.old.taken) < 2 ^ 62 }
+        ensures within { result ≤ length words.new }
+        ensures fit { All (λ v. v < 2 ^ width) (take result words.new) }
+        ensures rest { drop result words.new ≡ drop result words.old }
+        ensures takes { Takes I.left I.failed self.old self.new (flat_map (word width) (take result words.new)) }
+        ensures idle { self.new.intake ≡ self.old.intake }
+        ensures steps { meter.new + self.old.taken ≡ meter.old + self.new.taken }
+        ensures limit { self.new.taken ≤ 2 ^ 52 }
+    {
+        let digits = self.window.digits;
+        let count = self.window.count;
+        let taken = self.window.take_words(width, words);
+        let left = self.window.count;
+        let bits = (count - left) as u64;
+        meter.tick(bits);
+        self.taken += bits;
+        self.blank = self.blank & (high_digits(digits, left) == 0);
+        taken
+    }
+
+    /// Takes fundamental sequences that wait together, at most one for each place of `zeros`, and writes the numbers of their zeros
+    /// there. It answers how many, which may be none, and ticks one for each bit. Places behind them stay.
+    ///
+    /// It never calls the intake, and so never refuses: where it takes none, [`take_fs`](Self::take_fs) takes the next.
+    #[inline]
+    pub fn take_waiting_fs(&mut self, zeros: &mut [u32], meter: &mut Meter) -> usize
+        requires going { self.old.refusal ≡ None }
+        requires meter { meter.old + (2 ^ 52 - self.old.taken) < 2 ^ 62 }
+        ensures within { result ≤ length zeros.new }
+        ensures fit { All (λ m. m < 64) (take result zeros.new) }
+        ensures rest { drop result zeros.new ≡ drop result zeros.old }
+        ensures takes { Takes I.left I.failed self.old self.new (flat_map fundamental_sequence (take result zeros.new)) }
+        ensures idle { self.new.intake ≡ self.old.intake }
+        ensures steps { meter.new + self.old.taken ≡ meter.old + self.new.taken }
+        ensures limit { self.new.taken ≤ 2 ^ 52 }
+    {
+        self.refill(32);
+        self.take_sequences_ready(zeros, meter)
+    }
+
+    /// Takes the fundamental sequences that the word has.
+    #[inline]
+    fn take_sequences_ready(&mut self, zeros: &mut [u32], meter: &mut Meter) -> usize
+        requires going { self.old.refusal ≡ None }
+        requires meter { meter.old + (2 ^ 52 - self.old.taken) < 2 ^ 62 }
+        ensures within { result ≤ length zeros.new }
+        ensures fit { All (λ m. m < 64) (take result zeros.new) }
+        ensures rest { drop result zeros.new ≡ drop result zeros.old }
+        ensures takes { Takes I.left I.failed self.old self.new (flat_map fundamental_sequence (take result zeros.new)) }
+        ensures idle { self.new.intake ≡ self.old.intake }
+        ensures steps { meter.new + self.old.taken ≡ meter.old + self.new.taken }
+        ensures limit { self.new.taken ≤ 2 ^ 52 }
+    {
+        let count = self.window.count;
+        let taken = self.window.take_sequences(zeros);
+        let bits = (count - self.window.count) as u64;
+        meter.tick(bits);
+        self.taken += bits;
+        self.blank = self.blank & (taken == 0);
+        taken
     }
 
     /// Takes the 0 to 7 bits up to the next multiple of 8 of [`taken`](Self::taken), whatever they are, and ticks one for each. These

@@ -1,20 +1,22 @@
 -- Pieces that a reader takes one after another.
-use Rattle.std.proofs.Common.{◌≡◌, ℕ, zero, suc, ◌+◌, ◌*◌, ◌<◌, ◌≤◌, Bool, true, false, List, [], ◌∷◌, ◌++◌, length, replicate, refl, sym, ◌∙◌, ap, arith, append_assoc, length-append, Option, None, sum, ◌-◌, ◌/◌, ◌%◌, ◌^◌, subst}
-use Rattle.std.specs.Prelude.{flat_map}
-use Rattle.std.proofs.lemmas.List.{append-nil}
+use Rattle.std.proofs.Common.{◌≡◌, ℕ, zero, suc, ◌+◌, ◌*◌, ◌<◌, ◌≤◌, Bool, true, false, List, [], ◌∷◌, ◌++◌, length, replicate, set, take, refl, sym, ◌∙◌, ap, arith, append_assoc, length-append, Option, None, sum, ◌^◌, subst}
+use Rattle.std.specs.Prelude.{All, flat_map, ◌&&◌}
+use Rattle.std.proofs.lemmas.List.{append-nil, get_or_append_left, get_or-append-add, length-set, length-take, length-take-le, take-take, take_more_set}
+use Rattle.std.proofs.lemmas.Grind.{get_or_head}
+use Rattle.std.proofs.lemmas.Slice.{take-put_mid}
+use borrow.Rule.Slice.PartMut.{put_mid}
 use Rattle.std.proofs.lemmas.Grind.{flat_map-append}
-use Rattle.std.specs.List.{AllByRecursion}
-use Rattle.std.proofs.lemmas.Nat.{pow_pos, mod_below, shr_split}
-use Rattle.std.proofs.lemmas.List.Elements.{All-push, All-append, All-from_recursion}
+use Rattle.std.proofs.lemmas.List.Elements.{All-push, All-append}
 use Rattle.std.proofs.lemmas.List.Sums.{sum_by-append}
 use Rattle.std.proofs.Math.Nat.{mul-le-mul_right}
+use Rattle.std.proofs.Math.Seq.{take-append-add}
 use Rattle.rice_bits.specs.Bits.{word, fundamental_sequence}
 use Rattle.rice_bits.specs.Reader.{Reader, Takes, Stops}
 use Rattle.rice_bits.proofs.ReaderLemmas.{takes-none, takes-append, stops-append}
-use Rattle.rice_bits.proofs.Words.{length-word, word-low, word-nil, word-split, length-fundamental_sequence}
+use Rattle.rice_bits.proofs.Words.{length-word, length-fundamental_sequence}
 use Rattle.rice_bits.specs.declared.fault.BitFault.{BitFault}
 use Rattle.rice_samples.specs.Pairs.{pair_code, pair_codes}
-use Rattle.rice_code.specs.Fields.{Row, PairRow, ones, words}
+use Rattle.rice_code.specs.Fields.{Row, WordsRead, CountRow, CountsRead, PairRow, ones}
 
 pub flat_map-push : (f : ℕ → List Bool) (xs : List ℕ) (x : ℕ) → flat_map f (xs ++ x ∷ []) ≡ flat_map f xs ++ f x
 flat_map-push f xs x = flat_map-append f xs (x ∷ []) ∙ ap (λ z. flat_map f xs ++ z) (append-nil (f x))
@@ -38,6 +40,138 @@ row-more left failed f P old mid new count before after v r p t = record {
   appended = ap (λ z. z ++ v ∷ []) r.appended ∙ append_assoc before r.values (v ∷ []);
   takes = rw (flat_map-push f r.values v) (takes-append left failed old mid new _ _ r.takes t);
 }
+
+both : (a b : Bool) → (a && b) ≡ true → (a ≡ true) × (b ≡ true)
+both true true e = (refl, refl)
+both true false e = absurd cc
+both false b e = absurd cc
+
+pub counts-none : {I : Type 0} (left : I → Option (List ℕ)) (failed : I → ℕ) (r : Reader I) (most : ℕ) (told : List ℕ)
+    → told ≡ [] → r.refusal ≡ None → CountsRead left failed r r most true 0 told
+counts-none left failed r most told e h = record {
+  values = [];
+  len = refl;
+  told_are = λ _. e;
+  refused = λ f. absurd cc;
+  takes = takes-none left failed r h;
+}
+
+-- those that waited
+pub counts-waiting : {I : Type 0} (left : I → Option (List ℕ)) (failed : I → ℕ) (old new : Reader I) (most some : ℕ) (counts : List ℕ)
+    → some ≤ length counts → Takes left failed old new (flat_map fundamental_sequence (take some counts)) → CountsRead left failed old new most true some (take some counts)
+counts-waiting left failed old new most some counts h t = record {
+  values = take some counts;
+  len = length-take-le some counts h;
+  told_are = λ _. refl;
+  refused = λ f. absurd cc;
+  takes = t;
+}
+
+-- a single one, for which v was written, behind none
+pub counts-one : {I : Type 0} (left : I → Option (List ℕ)) (failed : I → ℕ) (old mid new : Reader I) (most : ℕ) (fits : Bool) (counts none : List ℕ) (m v : ℕ)
+    → 0 < length counts → none ≡ [] → Takes left failed old mid (flat_map fundamental_sequence none) → Takes left failed mid new (fundamental_sequence m)
+    → (fits ≡ true → v ≡ m) → (fits ≡ false → most < m) → CountsRead left failed old new most fits 1 (take 1 (set counts 0 v))
+counts-one left failed old mid new most fits counts none m v some e before t good bad =
+    let nothing : flat_map fundamental_sequence none ≡ [] = ap (flat_map fundamental_sequence) e in
+    record {
+      values = m ∷ [];
+      len = refl;
+      told_are = λ f. take_more_set counts 0 v some ∙ ap (λ x. x ∷ []) (good f);
+      refused = λ f h. omega (arith, bad f, h 0 0 (omega arith));
+      takes = subst (λ bits. Takes left failed old new bits) (sym (append-nil (fundamental_sequence m))) (takes-append left failed old mid new [] (fundamental_sequence m) (subst (λ bits. Takes left failed old mid bits) nothing before) t);
+    }
+
+all_front : (P : ℕ → Type 0) (xs ys : List ℕ) → All P (xs ++ ys) → All P xs
+all_front P xs ys h = λ i d lt. subst P (get_or_append_left xs ys d i lt) (h i d (omega (arith, length-append xs ys, lt)))
+
+all_back : (P : ℕ → Type 0) (xs ys : List ℕ) → All P (xs ++ ys) → All P ys
+all_back P xs ys h = λ i d lt. subst P (get_or-append-add xs ys i d) (h (length xs + i) d (omega (arith, length-append xs ys, lt)))
+
+-- more of them
+pub counts-append : {I : Type 0} (left : I → Option (List ℕ)) (failed : I → ℕ) (old mid new : Reader I) (most done some : ℕ) (small fits : Bool) (front part after : List ℕ)
+    → CountsRead left failed old mid most small done front → CountsRead left failed mid new most fits some part → after ≡ front ++ part
+    → CountsRead left failed old new most (small && fits) (done + some) after
+counts-append left failed old mid new most done some small fits front part after r q e =
+    let P : ℕ → Type 0 = λ x. x ≤ most in
+    record {
+      values = r.values ++ q.values;
+      len = omega (arith, length-append r.values q.values, r.len, q.len);
+      told_are = λ f. (let b = both small fits f in e ∙ (λ i. r.told_are b.0 i ++ q.told_are b.1 i));
+      refused = not_told small fits (λ f h. r.refused f (all_front P r.values q.values h)) (λ f h. q.refused f (all_back P r.values q.values h));
+      takes = rw (flat_map-append fundamental_sequence r.values q.values) (takes-append left failed old mid new _ _ r.takes q.takes);
+    }
+  where
+    not_told : {Q : Type 0} (a b : Bool) → (a ≡ false → Q → ⊥) → (b ≡ false → Q → ⊥) → (a && b) ≡ false → Q → ⊥
+    not_told true true f g e q = absurd cc
+    not_told true false f g e q = g refl q
+    not_told false b f g e q = f refl q
+
+-- those that were written, judged
+pub counts-judged : {I : Type 0} (left : I → Option (List ℕ)) (failed : I → ℕ) (old new : Reader I) (most count : ℕ) (small below : Bool) (told : List ℕ)
+    → CountsRead left failed old new most small count told → (below ≡ true → All (λ m. m < most + 1) told) → (below ≡ false → All (λ m. m < most + 1) told → ⊥)
+    → CountRow left failed old new most (small && below) count told
+counts-judged left failed old new most count small below told r good bad = record {
+  values = r.values;
+  len = r.len;
+  told_are = λ e. (let b = both small below e in (r.told_are b.0, λ i d lt. omega (arith, subst (λ xs. All (λ m. m < most + 1) xs) (r.told_are b.0) (good b.1) i d lt)));
+  refused = judged small below refl refl;
+  takes = r.takes;
+}
+  where
+    judged : (a b : Bool) → small ≡ a → below ≡ b → (a && b) ≡ false → All (λ m. m ≤ most) r.values → ⊥
+    judged true true s t e h = absurd cc
+    judged true false s t e h = bad t (subst (λ xs. All (λ m. m < most + 1) xs) (sym (r.told_are s)) (λ i d lt. omega (arith, h i d lt)))
+    judged false b s t e h = r.refused s h
+
+-- a part of a list that was written over from a place on
+pub put_front : (a k some : ℕ) (xs ys : List ℕ) → a ≤ length xs → some ≤ length ys → take (a + some) (put_mid a k xs ys) ≡ take a xs ++ take some ys
+put_front a k some xs ys h few =
+    sym (take-take (a + some) (a + length ys) (put_mid a k xs ys) (omega arith))
+    ∙ (ap (take (a + some)) (take-put_mid a k xs ys (a + length ys) refl h)
+    ∙ (ap (λ n. take (n + some) (take a xs ++ ys)) (sym (length-take-le a xs h)) ∙ take-append-add (take a xs) ys some))
+
+-- some pieces, and then others
+pub row-append : {I : Type 0} (left : I → Option (List ℕ)) (failed : I → ℕ) (f : ℕ → List Bool) (P : ℕ → Type 0) (old mid new : Reader I) (m n : ℕ) (before between after : List ℕ)
+    → Row left failed f P old mid m before between → Row left failed f P mid new n between after → Row left failed f P old new (m + n) before after
+row-append left failed f P old mid new m n before between after r q = record {
+  values = r.values ++ q.values;
+  len = omega (arith, length-append r.values q.values, r.len, q.len);
+  each = All-append P r.values q.values r.each q.each;
+  appended = q.appended ∙ (ap (λ z. z ++ q.values) r.appended ∙ append_assoc before r.values q.values);
+  takes = rw (flat_map-append f r.values q.values) (takes-append left failed old mid new _ _ r.takes q.takes);
+}
+
+pub part_within : (n : ℕ) (xs part : List ℕ) → length part ≡ length (take n xs) → length part ≤ n
+part_within n xs part e = omega (arith, e, length-take n xs)
+
+-- pieces were cut off behind none
+pub stops-first : {I : Type 0} (left : I → Option (List ℕ)) (failed : I → ℕ) (piece : ℕ → List Bool) (old mid new : Reader I) (none : List ℕ) (bits : List Bool) (f : BitFault)
+    → none ≡ [] → Takes left failed old mid (flat_map piece none) → Stops left failed mid new bits f → Stops left failed old new bits f
+stops-first left failed piece old mid new none bits f e t s =
+    stops-append left failed old mid new [] bits f (subst (λ xs. Takes left failed old mid (flat_map piece xs)) e t) s
+
+-- some words more
+pub row-words : {I : Type 0} (left : I → Option (List ℕ)) (failed : I → ℕ) (old mid new : Reader I) (width done some : ℕ) (front part after : List ℕ)
+    → Row left failed (word width) (λ v. v < 2 ^ width) old mid done [] front → WordsRead left failed mid new width some part → after ≡ front ++ take some part
+    → Row left failed (word width) (λ v. v < 2 ^ width) old new (done + some) [] after
+row-words left failed old mid new width done some front part after r q e =
+    row-append left failed (word width) (λ v. v < 2 ^ width) old mid new done some [] front after r
+    (record { values = take some part; len = length-take-le some part q.within; each = q.each; appended = e; takes = q.takes })
+
+-- a single word, behind none
+pub words-one : {I : Type 0} (left : I → Option (List ℕ)) (failed : I → ℕ) (old mid new : Reader I) (width : ℕ) (words none : List ℕ) (v : ℕ)
+    → 0 < length words → none ≡ [] → Takes left failed old mid (flat_map (word width) none) → v < 2 ^ width → Takes left failed mid new (word width v)
+    → WordsRead left failed old new width 1 (set words 0 v)
+words-one left failed old mid new width words none v some e before fits t =
+    let nothing : flat_map (word width) none ≡ [] = ap (flat_map (word width)) e in
+    let one : take 1 (set words 0 v) ≡ v ∷ [] = take_more_set words 0 v some in
+    record {
+      positive = omega arith;
+      within = omega (arith, some, length-set words 0 v);
+      each = subst (λ xs. All (λ x. x < 2 ^ width) xs) (sym one) (λ i d lt. subst (λ x. x < 2 ^ width) (sym (get_or_head v [] i d (omega arith))) fits);
+      takes = subst (λ bits. Takes left failed old new bits) (sym (ap (flat_map (word width)) one ∙ append-nil (word width v)))
+          (takes-append left failed old mid new [] (word width v) (subst (λ bits. Takes left failed old mid bits) nothing before) t);
+    }
 
 pub length-words : (width : ℕ) (vs : List ℕ) → length (flat_map (word width) vs) ≡ length vs * width
 length-words width [] = omega arith
@@ -128,72 +262,3 @@ pairs-more left failed old mid new count before after g a b first second third f
       steps = omega (arith, sum-push2 r.values a b, r.steps);
       turns = omega (arith, sum-push2 r.values a b, r.turns, ap length codes, length-append (flat_map fundamental_sequence (pair_codes r.values)) (fundamental_sequence g), length-fundamental_sequence g);
     }
-
--- the digits of a word are those of its number's lowest digits
-word-mod : (w v : ℕ) → word w (v % 2 ^ w) ≡ word w v
-word-mod w v =
-    let whole : (v / 2 ^ w) * 2 ^ w + v % 2 ^ w ≡ v = shr_split v w in
-    sym (word-low w w (v / 2 ^ w) (v % 2 ^ w) (omega arith)) ∙ ap (λ n. word w n) whole
-
--- the digits of a number are those of its words
-pub digits-words : (w n v : ℕ) → word (n * w) v ≡ flat_map (word w) (words w n v)
-unfolding words
-digits-words w zero v = let e : zero * w ≡ 0 = omega arith in ap (λ m. word m v) e ∙ word-nil v
-digits-words w (suc n) v =
-    let e : suc n * w ≡ w + n * w = omega arith in
-    let low : word (n * w) (v % 2 ^ (n * w)) ≡ word (n * w) v = word-mod (n * w) v in
-    let first : word w (v / 2 ^ (n * w)) ≡ word w (v / 2 ^ (n * w) % 2 ^ w) = sym (word-mod w (v / 2 ^ (n * w))) in
-    ap (λ m. word m v) e ∙ (word-split w (n * w) v ∙ ((λ i. first i ++ low i) ∙ ap (λ z. word w (v / 2 ^ (n * w) % 2 ^ w) ++ z) (digits-words w n v)))
-
-pub length-words_of : (w n v : ℕ) → length (words w n v) ≡ n
-unfolding words
-length-words_of w zero v = refl
-length-words_of w (suc n) v = ap (λ m. suc m) (length-words_of w n v)
-
-words_fit : (w n v : ℕ) → AllByRecursion (λ x. x < 2 ^ w) (words w n v)
-unfolding words
-words_fit w zero v = tt
-words_fit w (suc n) v = (mod_below (v / 2 ^ (n * w)) (2 ^ w) (pow_pos w), words_fit w n v)
-
--- one word more
-pub words-more : (w n v : ℕ) → 0 < n → words w n v ≡ (v / 2 ^ ((n - 1) * w) % 2 ^ w) ∷ words w (n - 1) v
-unfolding words
-words-more w zero v h = absurd (omega arith)
-words-more w (suc n) v h = let e : suc n - 1 ≡ n = omega arith in λ i. (v / 2 ^ (sym e i * w) % 2 ^ w) ∷ words w (sym e i) v
-
-pub words-none : (w v : ℕ) → words w 0 v ≡ []
-unfolding words
-words-none w v = refl
-
--- so many words, read in one
-pub row-joined : {I : Type 0} (left : I → Option (List ℕ)) (failed : I → ℕ) (w n v : ℕ) (old new : Reader I) (before after : List ℕ)
-    → Takes left failed old new (word (n * w) v) → after ≡ before ++ words w n v → Row left failed (word w) (λ x. x < 2 ^ w) old new n before after
-row-joined left failed w n v old new before after t e = record {
-  values = words w n v;
-  len = length-words_of w n v;
-  each = All-from_recursion (λ x. x < 2 ^ w) (words w n v) (words_fit w n v);
-  appended = e;
-  takes = subst (λ bits. Takes left failed old new bits) (digits-words w n v) t;
-}
-
--- some pieces, and then others
-pub row-append : {I : Type 0} (left : I → Option (List ℕ)) (failed : I → ℕ) (f : ℕ → List Bool) (P : ℕ → Type 0) (old mid new : Reader I) (m n : ℕ) (before between after : List ℕ)
-    → Row left failed f P old mid m before between → Row left failed f P mid new n between after → Row left failed f P old new (m + n) before after
-row-append left failed f P old mid new m n before between after r q = record {
-  values = r.values ++ q.values;
-  len = omega (arith, length-append r.values q.values, r.len, q.len);
-  each = All-append P r.values q.values r.each q.each;
-  appended = q.appended ∙ (ap (λ z. z ++ q.values) r.appended ∙ append_assoc before r.values q.values);
-  takes = rw (flat_map-append f r.values q.values) (takes-append left failed old mid new _ _ r.takes q.takes);
-}
-
--- one word more was appended
-pub words-pushed : (before now : List ℕ) (w count done v word : ℕ)
-    → word ≡ v / 2 ^ ((count - 1 - done) * w) % 2 ^ w → done < count → now ++ words w (count - done) v ≡ before ++ words w count v
-    → (now ++ word ∷ []) ++ words w (count - (done + 1)) v ≡ before ++ words w count v
-words-pushed before now w count done v word e h k =
-    let a : count - done - 1 ≡ count - 1 - done = omega arith in
-    let b : count - done - 1 ≡ count - (done + 1) = omega arith in
-    let more : words w (count - done) v ≡ (v / 2 ^ ((count - done - 1) * w) % 2 ^ w) ∷ words w (count - done - 1) v = words-more w (count - done) v (omega arith) in
-    let first : v / 2 ^ ((count - done - 1) * w) % 2 ^ w ≡ word = ap (λ n. v / 2 ^ (n * w) % 2 ^ w) a ∙ sym e in
-    append_assoc now (word ∷ []) (words w (count - (done + 1)) v) ∙ (ap (λ z. now ++ z) (sym (more ∙ (λ i. first i ∷ words w (b i) v))) ∙ k)

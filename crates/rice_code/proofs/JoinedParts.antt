@@ -1,12 +1,13 @@
 -- Residuals from their high and low parts.
-use Rattle.std.proofs.Common.{◌≡◌, ℕ, zero, suc, ◌+◌, ◌-◌, ◌*◌, ◌/◌, ◌%◌, ◌^◌, ◌<◌, ◌≤◌, Bool, true, false, List, [], ◌∷◌, length, get_or, take, refl, ◌∙◌, ap, arith}
-use Rattle.std.specs.Prelude.{All, flat_map, ◌&&◌, nat_lt}
-use Rattle.std.specs.List.{list_all, AllByRecursion}
-use Rattle.std.proofs.lemmas.List.{take_more}
+use Rattle.std.proofs.Common.{◌≡◌, ℕ, zero, suc, ◌+◌, ◌-◌, ◌*◌, ◌/◌, ◌%◌, ◌^◌, ◌<◌, ◌≤◌, Bool, true, false, List, [], ◌∷◌, ◌++◌, length, get_or, take, drop, set, refl, sym, ◌∙◌, ap, subst, arith}
+use Rattle.std.specs.Prelude.{All, flat_map, ◌&&◌}
+use Rattle.std.proofs.lemmas.List.{take_more, take_more_set, drop-set-lt, drop-drop, get_or-drop}
+use Rattle.std.proofs.lemmas.Grind.{get_or_default_zero}
+use Rattle.std.proofs.Math.Dec.{leb}
 use Rattle.std.proofs.lemmas.List.Elements.{All-push}
-use Rattle.std.proofs.lemmas.Nat.{div-mul-add}
-use Rattle.std.proofs.lemmas.Bool.{ltb-true, lt-ltb}
-use Rattle.std.proofs.Math.Nat.{le-div_iff_mul-le, div-lt_iff_lt-mul, mod-eq_of_lt}
+use Rattle.std.proofs.lemmas.Nat.{div-mul-add, pow_pos, pow-add}
+use Rattle.std.proofs.lemmas.Bool.{leb-true, leb-false}
+use Rattle.std.proofs.Math.Nat.{le-div_iff_mul-le, div-lt_iff_lt-mul, mod-eq_of_lt, mul-le-mul_right}
 use Rattle.rice_bits.specs.Bits.{word, fundamental_sequence}
 use Rattle.rice_bits.proofs.Words.{word-low}
 use Rattle.rice_code.specs.ReadSets.{joined_parts}
@@ -26,10 +27,7 @@ joined-at k (m ∷ ms) (l ∷ ls) (suc i) h e = joined-at k ms ls i (omega arith
 pub fit_more : (count : ℕ) (xs : List ℕ) (i : ℕ) → i < length xs → All (λ d. d < count) (take i xs) → get_or xs i 0 < count → All (λ d. d < count) (take (i + 1) xs)
 fit_more count xs i h f k = rw (take_more xs i 0 h) (All-push (λ d. d < count) (take i xs) (get_or xs i 0) f k)
 
--- what is too large
-pub high_is_large : (high low limit p : ℕ) → 0 < p → limit / p < high → limit < high * p + low
-high_is_large high low limit p h lt = let k : limit < high * p = (div-lt_iff_lt-mul {k = p} {x = limit} {y = high} h).0 lt in omega arith
-
+-- a part that is small in its place
 pub high_fits : (high limit p : ℕ) → 0 < p → high ≤ limit / p → high * p ≤ limit
 high_fits high limit p h le = (le-div_iff_mul-le {k = p} {x = high} {y = limit} h).0 le
 
@@ -49,19 +47,67 @@ low_pieces k [] (l ∷ ls) e = absurd (omega arith)
 low_pieces k (m ∷ ms) [] e = absurd (omega arith)
 low_pieces k (m ∷ ms) (l ∷ ls) e = rw (word-low k k m l (omega arith), low_pieces k ms ls (omega arith)) refl
 
--- the test of all
-pub below_from : (count : ℕ) (xs : List ℕ) → list_all (λ d. nat_lt d count) xs ≡ true → AllByRecursion (λ d. d < count) xs
-below_from count [] e = tt
-below_from count (x ∷ xs) e = by_head (nat_lt x count) (list_all (λ d. nat_lt d count) xs) refl e (below_from count xs)
+-- whether all of a list are below a number, one more of them
+pub below-more : (count : ℕ) (xs : List ℕ) (i : ℕ) (all : Bool) → i < length xs → 0 < count → (all ≡ true → All (λ d. d < count) (take i xs)) → (all ≡ false → All (λ d. d < count) xs → ⊥)
+    → ((all && leb (get_or xs i 0) (count - 1)) ≡ true → All (λ d. d < count) (take (i + 1) xs)) × ((all && leb (get_or xs i 0) (count - 1)) ≡ false → All (λ d. d < count) xs → ⊥)
+below-more count xs i all lt some good bad = by_test all (leb (get_or xs i 0) (count - 1)) refl good bad
   where
-    by_head : (b t : Bool) → nat_lt x count ≡ b → (b && t) ≡ true → (t ≡ true → AllByRecursion (λ d. d < count) xs) → AllByRecursion (λ d. d < count) (x ∷ xs)
-    by_head true t h e f = (ltb-true x count h, f e)
-    by_head false t h e f = absurd cc
+    by_test : (a b : Bool) → leb (get_or xs i 0) (count - 1) ≡ b → (a ≡ true → All (λ d. d < count) (take i xs)) → (a ≡ false → All (λ d. d < count) xs → ⊥)
+        → ((a && b) ≡ true → All (λ d. d < count) (take (i + 1) xs)) × ((a && b) ≡ false → All (λ d. d < count) xs → ⊥)
+    by_test true true t good bad = ((λ e. fit_more count xs i lt (good refl) (omega (arith, some, leb-true (get_or xs i 0) (count - 1) t))), λ e. absurd cc)
+    by_test true false t good bad = ((λ e. absurd cc), λ e h. omega (arith, h i 0 lt, leb-false (get_or xs i 0) (count - 1) t))
+    by_test false b t good bad = ((λ e. absurd cc), λ e h. bad refl h)
 
-pub from_below : (count : ℕ) (xs : List ℕ) → AllByRecursion (λ d. d < count) xs → list_all (λ d. nat_lt d count) xs ≡ true
-from_below count [] h = refl
-from_below count (x ∷ xs) h = (λ i. lt-ltb x count h.0 i && list_all (λ d. nat_lt d count) xs) ∙ from_below count xs h.1
+at_rest : (xs ys : List ℕ) (i : ℕ) → drop i xs ≡ drop i ys → get_or xs i 0 ≡ get_or ys i 0
+at_rest xs ys i e =
+    let z : i + 0 ≡ i = omega arith in
+    ap (λ n. get_or xs n 0) (sym z) ∙ (sym (get_or-drop i xs 0 0) ∙ (ap (λ zs. get_or zs 0 0) e ∙ (get_or-drop i ys 0 0 ∙ ap (λ n. get_or ys n 0) z)))
 
--- a high part in its place
-pub high_value : (high count p : ℕ) → 0 < p → count ≤ 2 ^ 32 → high ≤ (count - 1) / p → (high * p) % 2 ^ 64 ≡ high * p
-high_value high count p h le k = let e = high_fits high (count - 1) p h k in mod-eq_of_lt (omega arith)
+-- a high part, and a low part of fewer than p values, where 2^32 is a multiple of p
+join_fits : (high low p q : ℕ) → 0 < p → q * p ≡ 2 ^ 32 → high ≤ (2 ^ 32 - 1) / p → low < p → high * p + low < 2 ^ 32
+join_fits high low p q h e le lt =
+    let small : (2 ^ 32 - 1) / p < q = (div-lt_iff_lt-mul {k = p} {x = 2 ^ 32 - 1} {y = q} h).1 (omega (arith, e)) in
+    let more : (high + 1) * p ≤ q * p = mul-le-mul_right p (omega (arith, le, small)) in
+    omega (arith, more, e, lt)
+
+pub part_fits : (high low k : ℕ) → k ≤ 29 → high ≤ (2 ^ 32 - 1) / 2 ^ k → low < 2 ^ k → high * 2 ^ k + low < 2 ^ 32
+part_fits high low k h le lt =
+    let n : 32 - k + k ≡ 32 = omega arith in
+    join_fits high low (2 ^ k) (2 ^ (32 - k)) (pow_pos k) (sym (pow-add 2 (32 - k) k) ∙ ap (λ m. 2 ^ m) n) le lt
+
+-- high parts are put before low parts, one more
+pub join-more : (k : ℕ) (ms old now : List ℕ) (i : ℕ) → length old ≡ length ms → length now ≡ length old → i < length ms → k ≤ 29 → All (λ h. h ≤ (2 ^ 32 - 1) / 2 ^ k) ms → All (λ l. l < 2 ^ k) old
+    → take i now ≡ take i (joined_parts k ms old) → drop i now ≡ drop i old
+    → (get_or now i 0 + get_or ms i 0 * 2 ^ k % 2 ^ 32 < 2 ^ 32)
+    × (take (i + 1) (set now i (get_or now i 0 + get_or ms i 0 * 2 ^ k % 2 ^ 32)) ≡ take (i + 1) (joined_parts k ms old))
+    × (drop (i + 1) (set now i (get_or now i 0 + get_or ms i 0 * 2 ^ k % 2 ^ 32)) ≡ drop (i + 1) old)
+join-more k ms old now i same long lt few highs lows done rest =
+    let v = get_or now i 0 + get_or ms i 0 * 2 ^ k % 2 ^ 32 in
+    let high : get_or ms i 0 ≤ (2 ^ 32 - 1) / 2 ^ k = highs i 0 lt in
+    let low : get_or old i 0 < 2 ^ k = lows i 0 (omega (arith, same, lt)) in
+    let here : get_or now i 0 ≡ get_or old i 0 = at_rest now old i rest in
+    let fits : get_or ms i 0 * 2 ^ k + get_or old i 0 < 2 ^ 32 = part_fits (get_or ms i 0) (get_or old i 0) k few high low in
+    let whole : get_or ms i 0 * 2 ^ k % 2 ^ 32 ≡ get_or ms i 0 * 2 ^ k = mod-eq_of_lt (omega (arith, fits)) in
+    let n : length (joined_parts k ms old) ≡ length ms = length-joined k ms old same in
+    let value : v ≡ get_or (joined_parts k ms old) i 0 = omega (arith, here, whole, joined-at k ms old i lt same) in (
+      omega (arith, here, whole, fits),
+      take_more_set now i v (omega (arith, long, same, lt)) ∙ ((λ j. done j ++ value j ∷ []) ∙ sym (take_more (joined_parts k ms old) i 0 (omega (arith, n, lt)))),
+      drop-set-lt (i + 1) now i v (omega arith) ∙ (drop_next now i ∙ (ap (λ zs. drop 1 zs) rest ∙ sym (drop_next old i))),
+    )
+  where
+    drop_next : (xs : List ℕ) (i : ℕ) → drop (i + 1) xs ≡ drop 1 (drop i xs)
+    drop_next xs i = sym (drop-drop 1 i xs)
+
+-- high parts of numbers that are all below `count`
+pub highs_small : (k count : ℕ) (ms ls : List ℕ) → length ls ≡ length ms → 0 < count → All (λ d. d < count) (joined_parts k ms ls) → All (λ m. m ≤ (count - 1) / 2 ^ k) ms
+highs_small k count ms ls same some h = λ i d lt.
+    let n : length (joined_parts k ms ls) ≡ length ms = length-joined k ms ls same in
+    let below : get_or (joined_parts k ms ls) i 0 < count = h i 0 (omega (arith, n, lt)) in
+    let fits : get_or ms i 0 * 2 ^ k ≤ count - 1 = omega (arith, below, joined-at k ms ls i lt same) in
+    let small : get_or ms i 0 ≤ (count - 1) / 2 ^ k = (le-div_iff_mul-le {k = 2 ^ k} {x = get_or ms i 0} {y = count - 1} (pow_pos k)).1 fits in
+    subst (λ m. m ≤ (count - 1) / 2 ^ k) (sym (get_or_default_zero ms i d lt)) small
+
+-- what is small for a number of values is small for 2^32
+pub small_fits : (k count : ℕ) (ms : List ℕ) → 0 < count → count ≤ 2 ^ 32 → All (λ m. m ≤ (count - 1) / 2 ^ k) ms → All (λ m. m ≤ (2 ^ 32 - 1) / 2 ^ k) ms
+small_fits k count ms some le h = λ i d lt.
+    (le-div_iff_mul-le {k = 2 ^ k} {x = get_or ms i d} {y = 2 ^ 32 - 1} (pow_pos k)).1 (omega (arith, high_fits (get_or ms i d) (count - 1) (2 ^ k) (pow_pos k) (h i d lt), some, le))

@@ -14,10 +14,10 @@ use Rattle.rice_code.specs.Blocks.{Contents}
 use Rattle.rice_samples.specs.Pairs.{pair_codes}
 use Rattle.rice_code.specs.DataSets.{DataSet, NoCompression, SecondExtension, Split, coded, coded_from, reference_text, no_compression_tail, second_extension_tail, split_tail, run_tail}
 use Rattle.rice_code.specs.Forms.{IsForm, IsReference, IsBlock}
-use Rattle.rice_code.specs.Fields.{Row, PairRow, ones}
+use Rattle.rice_code.specs.Fields.{Row, CountRow, PairRow, ones}
 use Rattle.rice_code.specs.ReadSets.{BlockRead, BlockCut, reference_place, joined_parts}
 use Rattle.rice_code.proofs.FieldLemmas.{length-words, ones-append, ones-zeros, ones-sequence, ones-sequences, length-pairs}
-use Rattle.rice_code.proofs.JoinedParts.{length-joined, high_pieces, low_pieces}
+use Rattle.rice_code.proofs.JoinedParts.{length-joined, high_pieces, low_pieces, highs_small}
 use Rattle.std.proofs.lemmas.Nat.{pow_pos}
 use Rattle.rice_code.proofs.Reading.{after_reference}
 
@@ -69,6 +69,17 @@ short_words : (width count : ℕ) (vs : List ℕ) (bits more : List Bool) → le
 short_words width count vs bits more n lt e =
     let k : length vs * width ≡ count * width = ap (λ m. m * width) n in
     omega (arith, ap length e, length-append (flat_map (word width) vs) more, length-words width vs)
+
+-- what was read alone stands behind others
+pub placed_row : {I : Type 0} (left : I → Option (List ℕ)) (failed : I → ℕ) (piece : ℕ → List Bool) (P : ℕ → Type 0) (old new : Reader I) (count : ℕ) (before alone after : List ℕ)
+    → Row left failed piece P old new count [] alone → after ≡ before ++ alone → Row left failed piece P old new count before after
+placed_row left failed piece P old new count before alone after row e = record {
+  values = row.values;
+  len = row.len;
+  each = row.each;
+  appended = e ∙ ap (λ z. before ++ z) row.appended;
+  takes = row.takes;
+}
 
 pub plain_read : {I : Type 0} (left : I → Option (List ℕ)) (failed : I → ℕ) (old mid new : Reader I) (first last : ℕ) (s : Parameters) (b : ℕ) (r : Option ℕ) (count : ℕ) (items : List ℕ)
     → IsReference s b r → count + length (reference_place r) ≡ s.block → 0 < value_count s → Takes left failed old mid (reference_text s r)
@@ -175,6 +186,37 @@ split_read left failed old mid next new first last s b k r count P highs lows it
       refused = λ e q. refused e (all-suffix (λ d. d < value_count s) r ds q);
       steps = omega arith;
     }
+
+-- those of a row of counts, whatever is told
+pub count_row : {I : Type 0} (left : I → Option (List ℕ)) (failed : I → ℕ) (old new : Reader I) (most : ℕ) (small : Bool) (count : ℕ) (told : List ℕ)
+    → (row : CountRow left failed old new most small count told) → Row left failed fundamental_sequence (λ _. Unit {0}) old new count [] row.values
+count_row left failed old new most small count told row = record { values = row.values; len = row.len; each = λ i d lt. tt; appended = refl; takes = row.takes }
+
+-- a high part is too large
+pub split_large : {I : Type 0} (left : I → Option (List ℕ)) (failed : I → ℕ) (old mid next new : Reader I) (first last : ℕ) (s : Parameters) (b k : ℕ) (r : Option ℕ) (count : ℕ) (told lows items : List ℕ) (small : Bool)
+    → IsReference s b r → k ≤ k_max s → count + length (reference_place r) ≡ s.block → Takes left failed old mid (reference_text s r)
+    → CountRow left failed mid next ((value_count s - 1) / 2 ^ k) small count told → small ≡ false → Row left failed (word k) (λ v. v < 2 ^ k) next new count [] lows → last + old.taken ≡ first + new.taken
+    → BlockRead left failed old new first last s b (Split k) (split_tail s k) r false items
+split_large left failed old mid next new first last s b k r count told lows items small h le n t high e low steps =
+    let nl : length lows ≡ count = ap length low.appended ∙ low.len in
+    split_read left failed old mid next new first last s b k r count (λ _. Unit {0}) high.values lows items false h le n t
+    (count_row left failed mid next _ small count told high) low steps (λ f. absurd cc) (λ f. absurd cc)
+    (λ f all. high.refused e (highs_small k (value_count s) high.values lows (nl ∙ sym high.len) (pow_pos s.bits) all))
+
+-- high parts stand in their places
+pub split_joined : {I : Type 0} (left : I → Option (List ℕ)) (failed : I → ℕ) (old mid next new : Reader I) (first last : ℕ) (s : Parameters) (b k : ℕ) (r : Option ℕ) (count : ℕ) (told lows items : List ℕ) (small sound : Bool)
+    → IsReference s b r → k ≤ k_max s → count + length (reference_place r) ≡ s.block → Takes left failed old mid (reference_text s r)
+    → CountRow left failed mid next ((value_count s - 1) / 2 ^ k) small count told → small ≡ true → Row left failed (word k) (λ v. v < 2 ^ k) next new count [] lows → last + old.taken ≡ first + new.taken
+    → items ≡ reference_place r ++ joined_parts k told lows
+    → (sound ≡ true → All (λ d. d < value_count s) items) → (sound ≡ false → All (λ d. d < value_count s) items → ⊥)
+    → BlockRead left failed old new first last s b (Split k) (split_tail s k) r sound items
+split_joined left failed old mid next new first last s b k r count told lows items small sound h le n t high e low steps joined below above =
+    let is : items ≡ reference_place r ++ joined_parts k high.values lows = joined ∙ (λ i. reference_place r ++ joined_parts k ((high.told_are e).0 i) lows) in
+    split_read left failed old mid next new first last s b k r count (λ _. Unit {0}) high.values lows items sound h le n t
+    (count_row left failed mid next _ small count told high) low steps
+    (λ f. all-suffix (λ d. d < value_count s) r (joined_parts k high.values lows) (subst (λ xs. All (λ d. d < value_count s) xs) is (below f)))
+    (λ f. is)
+    (λ f all. above f (subst (λ xs. All (λ d. d < value_count s) xs) (sym is) (all-placed (λ d. d < value_count s) r (joined_parts k high.values lows) (pow_pos s.bits) all)))
 
 ones-high : (k : ℕ) (ds : List ℕ) → ones (flat_map (λ d. fundamental_sequence (d / 2 ^ k)) ds) ≡ length ds
 ones-high k [] = refl

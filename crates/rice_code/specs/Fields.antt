@@ -1,13 +1,8 @@
 -- What the pieces of a coded data set are read by.
-use Rattle.std.specs.Prelude.{◌≡◌, ℕ, zero, suc, ◌/◌, ◌%◌, All, Option, length, flat_map, sum, ◌+◌, ◌-◌, ◌*◌, ◌^◌, ◌<◌, ◌≤◌, Bool, true, false, List, [], ◌∷◌, ◌++◌}
-use Rattle.rice_bits.specs.Bits.{fundamental_sequence}
+use Rattle.std.specs.Prelude.{◌≡◌, ℕ, suc, All, Option, length, flat_map, take, sum, ◌+◌, ◌-◌, ◌*◌, ◌^◌, ◌<◌, ◌≤◌, Bool, true, false, List, [], ◌∷◌, ◌++◌}
+use Rattle.rice_bits.specs.Bits.{fundamental_sequence, word}
 use Rattle.rice_bits.specs.Reader.{Reader, Takes}
 use Rattle.rice_samples.specs.Pairs.{pair_codes}
-
--- the words of `width` digits that a number is made of, so many, the first ones first
-unfoldable pub words : ℕ → ℕ → ℕ → List ℕ
-words width zero value = []
-words width (suc count) value = (value / 2 ^ (count * width) % 2 ^ width) ∷ words width count value
 
 -- how many of the bits are 1
 abbrev pub ones : List Bool → ℕ
@@ -34,6 +29,29 @@ pub record Row {I : Type 0} (left : I → Option (List ℕ)) (failed : I → ℕ
   pub each : All P values
   pub appended : after ≡ before ++ values
   pub takes : Takes left failed old new (flat_map piece values)
+
+-- A reader took some words, which were written to the first places of a list.
+pub record WordsRead {I : Type 0} (left : I → Option (List ℕ)) (failed : I → ℕ) (old new : Reader I) (width some : ℕ) (words : List ℕ) : Type 0 where
+  pub positive : 0 < some
+  pub within : some ≤ length words
+  pub each : All (λ v. v < 2 ^ width) (take some words)
+  pub takes : Takes left failed old new (flat_map (word width) (take some words))
+
+-- A reader took fundamental sequences, one for each of so many numbers. The numbers are told where none was found above `most`.
+pub record CountsRead {I : Type 0} (left : I → Option (List ℕ)) (failed : I → ℕ) (old new : Reader I) (most : ℕ) (small : Bool) (count : ℕ) (told : List ℕ) : Type 0 where
+  pub values : List ℕ
+  pub len : length values ≡ count
+  pub told_are : small ≡ true → told ≡ values
+  pub refused : small ≡ false → All (λ m. m ≤ most) values → ⊥
+  pub takes : Takes left failed old new (flat_map fundamental_sequence values)
+
+-- A reader took fundamental sequences, one for each of so many numbers. The numbers are told where all are at most `most`.
+pub record CountRow {I : Type 0} (left : I → Option (List ℕ)) (failed : I → ℕ) (old new : Reader I) (most : ℕ) (small : Bool) (count : ℕ) (told : List ℕ) : Type 0 where
+  pub values : List ℕ
+  pub len : length values ≡ count
+  pub told_are : small ≡ true → (told ≡ values) × All (λ m. m ≤ most) values
+  pub refused : small ≡ false → All (λ m. m ≤ most) values → ⊥
+  pub takes : Takes left failed old new (flat_map fundamental_sequence values)
 
 -- A reader took the codewords of so many pairs, which were appended to other numbers.
 pub record PairRow {I : Type 0} (left : I → Option (List ℕ)) (failed : I → ℕ) (old new : Reader I) (count : ℕ) (before after : List ℕ) (old_steps new_steps : ℕ) : Type 0 where

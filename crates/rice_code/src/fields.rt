@@ -1,152 +1,157 @@
 //! Words and fundamental sequences, several in a row.
-ghost use Rattle.std.specs.Prelude.{◌≡◌, ℕ, ◌+◌, ◌-◌, ◌*◌, ◌/◌, ◌^◌, ◌<◌, ◌≤◌, Bool, List, ◌++◌, length, None, IfErr, OnOk};
+ghost use Rattle.std.specs.Prelude.{◌≡◌, ℕ, ◌+◌, ◌-◌, ◌*◌, ◌/◌, ◌^◌, ◌<◌, ◌≤◌, Bool, false, List, [], ◌++◌, length, replicate, take, None, IfOk, IfErr, OnOk};
 ghost use Rattle.rice_bits.specs.Bits.{word, fundamental_sequence};
 ghost use Rattle.rice_bits.specs.Reader.{Stops};
-ghost use Rattle.rice_code.specs.Fields.{HasRoom, AreCounted, Row, PairRow, ones, words};
+ghost use Rattle.rice_code.specs.Fields.{HasRoom, AreCounted, Row, WordsRead, CountRow, CountsRead, PairRow, ones};
 
 use crate::pair::pair_of;
+use crate::residuals::are_below;
 use arrayvec::ArrayVec;
 use rice_bits::{BitFault, BitReader, Intake, Meter};
 
-/// Appends the words of `width` digits that a number of so many digits is made of, so many, the first ones first.
-fn push_words(joined: u64, count: u32, width: u32, out: &mut ArrayVec<u32, 64>)
-    requires digits { count * width ≤ 32 }
-    requires narrow { width ≤ 32 }
-    requires fits { length out.old.items + count ≤ 64 }
-    ensures { out.new.items ≡ out.old.items ++ words width count joined }
-{
-    for done in 0..count {
-        let behind = (count - 1 - done) * width;
-        out.push(((joined >> behind) % (1 << width)) as u32);
-    }
-}
-
-/// Reads so many words in one, and appends them.
-fn read_joined<I: Intake>(
+/// Reads some words, one at least, and writes them to the first places. It answers how many.
+#[inline]
+fn read_some_words<I: Intake>(
     reader: &mut BitReader<I>,
     meter: &mut Meter,
-    count: u32,
     width: u32,
-    out: &mut ArrayVec<u32, 64>,
-) -> Result<(), BitFault>
-    requires going { reader.old.refusal ≡ None }
-    requires room { HasRoom meter.old reader.old.taken }
-    requires digits { count * width ≤ 32 }
-    requires narrow { width ≤ 32 }
-    requires fits { length out.old.items + count ≤ 64 }
-    ensures ok { OnOk result (Row I.left I.failed (word width) (λ v. v < 2 ^ width) reader.old reader.new count out.old.items out.new.items) }
-    ensures err { IfErr result (λ f. (bits : List Bool) × (length bits < count * width) × Stops I.left I.failed reader.old reader.new bits f) }
-    ensures steps { meter.new + reader.old.taken ≡ meter.old + reader.new.taken }
-    ensures limit { reader.new.taken ≤ 2 ^ 52 }
-{
-    let joined = match reader.take(count * width, meter) {
-        Ok(joined) => joined,
-        Err(fault) => return Err(fault),
-    };
-    push_words(joined as u64, count, width, out);
-    Ok(())
-}
-
-/// Reads so many words, as many as 32 bits hold at a time, and appends them.
-fn read_grouped<I: Intake>(
-    reader: &mut BitReader<I>,
-    meter: &mut Meter,
-    count: usize,
-    width: u32,
-    out: &mut ArrayVec<u32, 64>,
-) -> Result<(), BitFault>
+    words: &mut [u32],
+) -> Result<usize, BitFault>
     requires going { reader.old.refusal ≡ None }
     requires room { HasRoom meter.old reader.old.taken }
     requires width { width ≤ 32 }
-    requires fits { length out.old.items + count ≤ 64 }
-    ensures ok { OnOk result (Row I.left I.failed (word width) (λ v. v < 2 ^ width) reader.old reader.new count out.old.items out.new.items) }
-    ensures err { IfErr result (λ f. (bits : List Bool) × (length bits < count * width) × Stops I.left I.failed reader.old reader.new bits f) }
+    requires some { 0 < length words.old }
+    ensures ok { IfOk result (λ some. WordsRead I.left I.failed reader.old reader.new width some words.new) }
+    ensures err { IfErr result (λ f. (bits : List Bool) × (length bits < width) × Stops I.left I.failed reader.old reader.new bits f) }
     ensures steps { meter.new + reader.old.taken ≡ meter.old + reader.new.taken }
     ensures limit { reader.new.taken ≤ 2 ^ 52 }
 {
-    let most = 32 / width.max(1);
-    let mut done = 0;
-    while done < count {
-        let some = most.min((count - done) as u32);
-        if let Err(fault) = read_joined(reader, meter, some, width, out) {
-            return Err(fault);
-        }
-        done += some as usize;
+    let some = reader.take_waiting(width, words, meter);
+    if some > 0 {
+        return Ok(some);
     }
-    Ok(())
+    match reader.take(width, meter) {
+        Ok(value) => {
+            words[0] = value;
+            Ok(1)
+        }
+        Err(fault) => Err(fault),
+    }
 }
 
-/// Reads so many words, one at a time, and appends them.
-fn read_each<I: Intake>(
-    reader: &mut BitReader<I>,
-    meter: &mut Meter,
-    count: usize,
-    width: u32,
-    out: &mut ArrayVec<u32, 64>,
-) -> Result<(), BitFault>
-    requires going { reader.old.refusal ≡ None }
-    requires room { HasRoom meter.old reader.old.taken }
-    requires width { width ≤ 32 }
-    requires fits { length out.old.items + count ≤ 64 }
-    ensures ok { OnOk result (Row I.left I.failed (word width) (λ v. v < 2 ^ width) reader.old reader.new count out.old.items out.new.items) }
-    ensures err { IfErr result (λ f. (bits : List Bool) × (length bits < count * width) × Stops I.left I.failed reader.old reader.new bits f) }
-    ensures steps { meter.new + reader.old.taken ≡ meter.old + reader.new.taken }
-    ensures limit { reader.new.taken ≤ 2 ^ 52 }
-{
-    for done in 0..count {
-        match reader.take(width, meter) {
-            Ok(value) => out.push(value),
-            Err(fault) => return Err(fault),
-        }
-    }
-    Ok(())
-}
-
-/// Reads so many words, and appends them.
+/// Reads so many words, and writes them to the front of `words`.
 pub fn read_words<I: Intake>(
     reader: &mut BitReader<I>,
     meter: &mut Meter,
     count: usize,
     width: u32,
-    out: &mut ArrayVec<u32, 64>,
+    words: &mut [u32; 64],
 ) -> Result<(), BitFault>
     requires going { reader.old.refusal ≡ None }
     requires room { HasRoom meter.old reader.old.taken }
     requires width { width ≤ 32 }
-    requires fits { length out.old.items + count ≤ 64 }
-    ensures ok { OnOk result (Row I.left I.failed (word width) (λ v. v < 2 ^ width) reader.old reader.new count out.old.items out.new.items) }
+    requires count { count ≤ 64 }
+    ensures ok { OnOk result (Row I.left I.failed (word width) (λ v. v < 2 ^ width) reader.old reader.new count [] (take count words.new)) }
     ensures err { IfErr result (λ f. (bits : List Bool) × (length bits < count * width) × Stops I.left I.failed reader.old reader.new bits f) }
     ensures steps { meter.new + reader.old.taken ≡ meter.old + reader.new.taken }
     ensures limit { reader.new.taken ≤ 2 ^ 52 }
 {
-    if width > 16 {
-        return read_each(reader, meter, count, width, out);
-    }
-    read_grouped(reader, meter, count, width, out)
-}
-
-/// Reads so many fundamental sequences, and appends the numbers of their zeros.
-pub fn read_counts<I: Intake>(
-    reader: &mut BitReader<I>,
-    meter: &mut Meter,
-    count: usize,
-    out: &mut ArrayVec<u64, 64>,
-) -> Result<(), BitFault>
-    requires going { reader.old.refusal ≡ None }
-    requires room { HasRoom meter.old reader.old.taken }
-    requires fits { length out.old.items + count ≤ 64 }
-    ensures ok { OnOk result (Row I.left I.failed fundamental_sequence (λ m. m ≤ 2 ^ 52) reader.old reader.new count out.old.items out.new.items) }
-    ensures err { IfErr result (λ f. (bits : List Bool) × (ones bits < count) × Stops I.left I.failed reader.old reader.new bits f) }
-    ensures steps { meter.new + reader.old.taken ≡ meter.old + reader.new.taken }
-    ensures limit { reader.new.taken ≤ 2 ^ 52 }
-{
-    for done in 0..count {
-        match reader.take_fs(meter) {
-            Ok(zeros) => out.push(zeros),
+    let mut done = 0;
+    while done < count {
+        match read_some_words(reader, meter, width, &mut words[done..count]) {
+            Ok(some) => done += some,
             Err(fault) => return Err(fault),
         }
     }
     Ok(())
+}
+
+/// Reads some fundamental sequences, one at least, and writes the numbers of their zeros to the first places. It answers how many, and
+/// false where one that is above `most` could not be written.
+#[inline]
+fn read_some_counts<I: Intake>(
+    reader: &mut BitReader<I>,
+    meter: &mut Meter,
+    most: u64,
+    counts: &mut [u32],
+) -> Result<(usize, bool), BitFault>
+    requires going { reader.old.refusal ≡ None }
+    requires room { HasRoom meter.old reader.old.taken }
+    requires most { most < 2 ^ 32 }
+    requires some { 0 < length counts.old }
+    ensures some { IfOk result (λ r. (0 < r.0) × (r.0 ≤ length counts.new)) }
+    ensures ok { IfOk result (λ r. CountsRead I.left I.failed reader.old reader.new most r.1 r.0 (take r.0 counts.new)) }
+    ensures err { IfErr result (λ f. (m : ℕ) × Stops I.left I.failed reader.old reader.new (replicate m false) f) }
+    ensures steps { meter.new + reader.old.taken ≡ meter.old + reader.new.taken }
+    ensures limit { reader.new.taken ≤ 2 ^ 52 }
+{
+    let some = reader.take_waiting_fs(counts, meter);
+    if some > 0 {
+        return Ok((some, true));
+    }
+    match reader.take_fs(meter) {
+        Ok(zeros) => {
+            counts[0] = zeros.min(most) as u32;
+            Ok((1, zeros <= most))
+        }
+        Err(fault) => Err(fault),
+    }
+}
+
+/// Reads so many fundamental sequences, and writes the numbers of their zeros to the front of `counts`. It answers false where one that
+/// is above `most` could not be written.
+fn read_each_count<I: Intake>(
+    reader: &mut BitReader<I>,
+    meter: &mut Meter,
+    most: u64,
+    count: usize,
+    counts: &mut [u32; 64],
+) -> Result<bool, BitFault>
+    requires going { reader.old.refusal ≡ None }
+    requires room { HasRoom meter.old reader.old.taken }
+    requires most { most < 2 ^ 32 }
+    requires count { count ≤ 64 }
+    ensures ok { IfOk result (λ small. CountsRead I.left I.failed reader.old reader.new most small count (take count counts.new)) }
+    ensures err { IfErr result (λ f. (bits : List Bool) × (ones bits < count) × Stops I.left I.failed reader.old reader.new bits f) }
+    ensures steps { meter.new + reader.old.taken ≡ meter.old + reader.new.taken }
+    ensures limit { reader.new.taken ≤ 2 ^ 52 }
+{
+    let mut small = true;
+    let mut done = 0;
+    while done < count {
+        match read_some_counts(reader, meter, most, &mut counts[done..count]) {
+            Ok((some, fit)) => {
+                done += some;
+                small = small & fit;
+            }
+            Err(fault) => return Err(fault),
+        }
+    }
+    Ok(small)
+}
+
+/// Reads so many fundamental sequences, and writes the numbers of their zeros to the front of `counts`. It answers whether all are at
+/// most `most`: where one is larger, what is written says nothing.
+pub fn read_counts<I: Intake>(
+    reader: &mut BitReader<I>,
+    meter: &mut Meter,
+    most: u64,
+    count: usize,
+    counts: &mut [u32; 64],
+) -> Result<bool, BitFault>
+    requires going { reader.old.refusal ≡ None }
+    requires room { HasRoom meter.old reader.old.taken }
+    requires most { most < 2 ^ 32 }
+    requires count { count ≤ 64 }
+    ensures ok { IfOk result (λ small. CountRow I.left I.failed reader.old reader.new most small count (take count counts.new)) }
+    ensures err { IfErr result (λ f. (bits : List Bool) × (ones bits < count) × Stops I.left I.failed reader.old reader.new bits f) }
+    ensures steps { meter.new + reader.old.taken ≡ meter.old + reader.new.taken }
+    ensures limit { reader.new.taken ≤ 2 ^ 52 }
+{
+    match read_each_count(reader, meter, most, count, counts) {
+        Ok(small) => Ok(small & are_below(&counts[..count], most + 1)),
+        Err(fault) => Err(fault),
+    }
 }
 
 /// Reads the codewords of so many pairs, and appends the pairs.

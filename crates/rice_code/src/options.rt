@@ -10,7 +10,7 @@ ghost use Rattle.rice_code.specs.Fields.{HasRoom, AreCounted};
 ghost use Rattle.rice_code.specs.ReadSets.{BlockRead, BlockCut, reference_place, coded_count};
 
 use crate::fields::{read_counts, read_pairs, read_words};
-use crate::residuals::{are_sound, join_all, values};
+use crate::residuals::{append, are_below, are_sound, join_all, values};
 use arrayvec::ArrayVec;
 use rice_bits::{BitFault, BitReader, Intake, Meter};
 use rice_samples::Setting;
@@ -120,15 +120,17 @@ pub fn read_no_compression<I: Intake>(
         Ok(reference) => reference,
         Err(fault) => return Err(fault),
     };
-    begin_residuals(reference, residuals);
     let count = count_coded(setting, reference);
-    match read_words(reader, meter, count, setting.bits(), residuals) {
-        Ok(()) => Ok(BlockHead {
-            reference,
-            sound: true,
-        }),
-        Err(fault) => Err(fault),
+    let mut words = [0; 64];
+    if let Err(fault) = read_words(reader, meter, count, setting.bits(), &mut words) {
+        return Err(fault);
     }
+    begin_residuals(reference, residuals);
+    append(&words[..count], residuals);
+    Ok(BlockHead {
+        reference,
+        sound: true,
+    })
 }
 
 /// Reads a block by second extension.
@@ -182,21 +184,25 @@ pub fn read_split<I: Intake>(
         Err(fault) => return Err(fault),
     };
     let count = count_coded(setting, reference);
-    let mut highs = ArrayVec::new();
-    if let Err(fault) = read_counts(reader, meter, count, &mut highs) {
-        return Err(fault);
-    }
-    let mut lows = ArrayVec::new();
+    let values = values(setting);
+    let mut highs = [0; 64];
+    let small = match read_counts(reader, meter, (values - 1) >> k, count, &mut highs) {
+        Ok(small) => small,
+        Err(fault) => return Err(fault),
+    };
+    let mut lows = [0; 64];
     if let Err(fault) = read_words(reader, meter, count, k, &mut lows) {
         return Err(fault);
     }
+    if !small {
+        return Ok(BlockHead {
+            reference,
+            sound: false,
+        });
+    }
+    join_all(&highs[..count], k, &mut lows[..count]);
     begin_residuals(reference, residuals);
-    let sound = join_all(
-        highs.as_slice(),
-        lows.as_slice(),
-        k,
-        values(setting),
-        residuals,
-    );
+    append(&lows[..count], residuals);
+    let sound = are_below(residuals.as_slice(), values);
     Ok(BlockHead { reference, sound })
 }

@@ -1,9 +1,10 @@
-use Rattle.std.proofs.Common.{arith}
+use Rattle.std.proofs.Common.{arith, take, ◌^◌, ◌<◌}
+use Rattle.rice_code.specs.ReadSets.{reference_place}
 use Rattle.std.specs.Prelude.{flat_map}
 use Rattle.std.proofs.lemmas.Nat.{pow_pos}
 use Rattle.rice_bits.specs.Bits.{word}
 use Rattle.rice_code.specs.DataSets.{NoCompression, coded}
-use Rattle.rice_code.proofs.ReadLemmas.{plain_read, plain_cut, cut_at_reference}
+use Rattle.rice_code.proofs.ReadLemmas.{plain_read, placed_row, plain_cut, cut_at_reference}
 use Rattle.rice_code.proofs.options.read_no_compression.Goals as goal
 
 pub returns-in-Err-clause-err : goal.returns-in-Err-clause-err
@@ -13,12 +14,14 @@ returns-in-Err-clause-err g c =
     cut_at_reference g.I.Intake.left g.I.Intake.failed c.args.reader.now c.read_reference.new.reader s c.args.block NoCompression (λ x. flat_map (word s.bits) (coded x)) e.0 c.in-Err.fault
     (λ x form. form.0.reference) e.1 e.2 e.3
 
-pub returns-in-Ok-read_words-clause-ok : goal.returns-in-Ok-read_words-clause-ok
-returns-in-Ok-read_words-clause-ok g c =
+pub returns-clause-ok : goal.returns-clause-ok
+returns-clause-ok g c =
     let s = c.args.setting.now in
-    plain_read g.I.Intake.left g.I.Intake.failed c.args.reader.now c.read_reference.new.reader c.read_words.new.reader c.args.meter.now c.read_words.new.meter s c.args.block c.in-Ok.reference c.count_coded-count.result c.read_words.new.out.items
+    let row = (rw c.bits.ensures.value at c.in_default.ensures.ok) in
+    plain_read g.I.Intake.left g.I.Intake.failed c.args.reader.now c.read_reference.new.reader c.read_words.new.reader c.args.meter.now c.read_words.new.meter s c.args.block c.in-Ok.reference c.count_coded-count.result c.append.new.residuals.items
     c.in-Ok.ensures.reference c.count_coded-count.ensures.sum (pow_pos s.bits) c.in-Ok.ensures.ok
-    (rw (c.bits.ensures.value, c.begin_residuals.ensures) at c.in-Ok-read_words.ensures.ok) (omega (arith, c.in-Ok.ensures.steps, c.in-Ok-read_words.ensures.steps))
+    (placed_row g.I.Intake.left g.I.Intake.failed (word s.bits) (λ v. v < 2 ^ s.bits) c.read_reference.new.reader c.read_words.new.reader c.count_coded-count.result (reference_place c.in-Ok.reference) (take c.count_coded-count.result c.read_words.new.words) c.append.new.residuals.items row (rw c.begin_residuals.ensures at c.append.ensures))
+    (omega (arith, c.in-Ok.ensures.steps, c.in_default.ensures.steps))
 
 pub returns-in-Err-read_words-clause-err : goal.returns-in-Err-read_words-clause-err
 returns-in-Err-read_words-clause-err g c =

@@ -1,0 +1,161 @@
+-- Pieces that are taken one after another from the front of a number's digits.
+use Rattle.std.proofs.Common.{◌≡◌, ℕ, suc, ◌+◌, ◌/◌, ◌%◌, ◌^◌, ◌<◌, ◌≤◌, Bool, false, List, [], ◌∷◌, ◌++◌, length, take, drop, set, refl, sym, ◌∙◌, ap, subst, arith, append_assoc, length-append, inl, inr, mod-eq_of_lt, ◌-◌, ◌*◌}
+use Rattle.std.specs.Prelude.{All, flat_map, ◌==◌, ◌&&◌}
+use Rattle.std.proofs.lemmas.Bool.Decides.{nat_tests}
+use Rattle.std.proofs.lemmas.List.{length-set, append-nil, take_more_set, drop-set-lt, drop-drop}
+use Rattle.std.proofs.lemmas.List.Elements.{All-push}
+use Rattle.std.proofs.lemmas.Grind.{flat_map-append}
+use Rattle.std.proofs.lemmas.Nat.{div-mul-add, leading_top, mod-mul-add, mod_below, pow-add, pow_pos, shl_below, shr_below, shr_split}
+use Rattle.std.proofs.lemmas.Bool.{cases_lt}
+use Rattle.std.proofs.Math.Nat.{mul-le-mul_right, pow-le-pow_right}
+use lib.Count.{count_leading_zeros}
+use Rattle.rice_bits.proofs.WindowLemmas.{run-digits}
+use Rattle.std.proofs.Math.Seq.{take-append_seam}
+use Rattle.rice_bits.specs.Bits.{word, fundamental_sequence}
+use Rattle.rice_bits.specs.Window.{AreParted}
+use Rattle.rice_bits.specs.Reader.{is_blank}
+use Rattle.rice_bits.proofs.Words.{length-word, shift_fits, word-split}
+use Rattle.rice_bits.proofs.Blank.{blank-word, blank-append, blank-fs}
+
+pub parted-none : (piece : ℕ → List Bool) (P : ℕ → Type 0) (digits count : ℕ) (xs : List ℕ) → digits < 2 ^ count → AreParted piece P digits count xs xs digits count 0
+parted-none piece P digits count xs h = record {
+  within = omega arith;
+  each = λ i d lt. absurd (omega arith);
+  rest = refl;
+  below = h;
+  few = omega arith;
+  bits = refl;
+}
+
+pub parted-more : (piece : ℕ → List Bool) (P : ℕ → Type 0) (digits count : ℕ) (old now : List ℕ) (d c e n done v : ℕ)
+    → AreParted piece P digits count old now d c done → done < length now → P v → e < 2 ^ n → n ≤ c → word c d ≡ piece v ++ word n e
+    → AreParted piece P digits count old (set now done v) e n (done + 1)
+parted-more piece P digits count old now d c e n done v p lt holds below few step =
+    let front : take (done + 1) (set now done v) ≡ take done now ++ v ∷ [] = take_more_set now done v lt in
+    let pieces : flat_map piece (take (done + 1) (set now done v)) ≡ flat_map piece (take done now) ++ piece v =
+    ap (flat_map piece) front ∙ (flat_map-append piece (take done now) (v ∷ []) ∙ ap (λ z. flat_map piece (take done now) ++ z) (append-nil (piece v))) in
+    record {
+      within = omega (arith, lt, length-set now done v);
+      each = subst (λ xs. All P xs) (sym front) (All-push P (take done now) v p.each holds);
+      rest = drop-set-lt (done + 1) now done v (omega arith) ∙ (sym (drop-drop 1 done now) ∙ (ap (λ zs. drop 1 zs) p.rest ∙ drop-drop 1 done old));
+      below = below;
+      few = omega (arith, few, p.few);
+      bits = p.bits ∙ (ap (λ z. flat_map piece (take done now) ++ z) step ∙ (sym (append_assoc (flat_map piece (take done now)) (piece v) (word n e)) ∙ ap (λ z. z ++ word n e) (sym pieces)));
+    }
+
+pub parted-left : (piece : ℕ → List Bool) (P : ℕ → Type 0) (digits count : ℕ) (old new : List ℕ) (d c taken : ℕ)
+    → AreParted piece P digits count old new d c taken → c + length (flat_map piece (take taken new)) ≡ count
+parted-left piece P digits count old new d c taken p =
+    omega (arith, ap length p.bits, length-append (flat_map piece (take taken new)) (word c d), length-word count digits, length-word c d)
+
+-- the digits that were taken are zeros where the number's front is 0
+pub parted-blank : (piece : ℕ → List Bool) (P : ℕ → Type 0) (digits count : ℕ) (old new : List ℕ) (d c taken : ℕ)
+    → digits < 2 ^ count → AreParted piece P digits count old new d c taken → is_blank (flat_map piece (take taken new)) ≡ (digits / 2 ^ c == 0)
+parted-blank piece P digits count old new d c taken h p =
+    let pieces = flat_map piece (take taken new) in
+    let len : c + length pieces ≡ count = parted-left piece P digits count old new d c taken p in
+    let n : length pieces + c ≡ count = omega (arith, len) in
+    let split : word count digits ≡ word (length pieces) (digits / 2 ^ c) ++ word c (digits % 2 ^ c) = ap (λ w. word w digits) (sym n) ∙ word-split (length pieces) c digits in
+    let front : take (length pieces) (word count digits) ≡ pieces = ap (take (length pieces)) p.bits ∙ take-append_seam pieces (word c d) in
+    let same : take (length pieces) (word count digits) ≡ word (length pieces) (digits / 2 ^ c) =
+    ap (take (length pieces)) split ∙ (ap (λ k. take k (word (length pieces) (digits / 2 ^ c) ++ word c (digits % 2 ^ c))) (sym (length-word (length pieces) (digits / 2 ^ c)))
+    ∙ take-append_seam (word (length pieces) (digits / 2 ^ c)) (word c (digits % 2 ^ c))) in
+    ap is_blank (sym front ∙ same) ∙ blank-word (length pieces) (digits / 2 ^ c) (shr_below digits (length pieces) c (subst (λ k. digits < 2 ^ k) (sym n) h))
+
+-- fundamental sequences have a 1, where there are any
+pub sequences-blank : (ms : List ℕ) → is_blank (flat_map fundamental_sequence ms) ≡ (length ms == 0)
+sequences-blank [] = refl
+sequences-blank (m ∷ ms) =
+    let some : (suc (length ms) == 0) ≡ false = grind (arith, nat_tests) in
+    blank-append (fundamental_sequence m) (flat_map fundamental_sequence ms) ∙ (ap (λ b. b && is_blank (flat_map fundamental_sequence ms)) (blank-fs m) ∙ sym some)
+
+below_top : (i j v : ℕ) → 2 ^ i ≤ v → v < 2 ^ suc j → i ≤ j
+below_top i j v h k = elim (cases_lt j i) [
+  | inl l ↦ absurd (omega (arith, h, k, pow-le-pow_right {n = 2} (omega arith) {i = suc j} {j = i} (omega (arith, l))))
+  | inr r ↦ r
+]
+
+moved_bounds : (d rest s t : ℕ) → rest ≡ d * 2 ^ s → 2 ^ t ≤ d → d < 2 ^ suc t → (2 ^ (t + s) ≤ rest) × (rest < 2 ^ suc (t + s))
+moved_bounds d rest s t e h k =
+    let n : suc t + s ≡ suc (t + s) = omega arith in
+    let below : d * 2 ^ s < 2 ^ (suc t + s) = shl_below d (suc t) s k in
+    (omega (arith, e, pow-add 2 t s, mul-le-mul_right (2 ^ s) h), omega (arith, e, below, ap (λ m. 2 ^ m) n))
+
+-- the zeros before the first 1, where the digits stand at the front of 64
+zeros_moved : (c d rest : ℕ) → c < 64 → 0 < d → d < 2 ^ c → rest ≡ d * 2 ^ (64 - c)
+    → (after : ℕ) × (after < c) × (count_leading_zeros 64 rest + suc after ≡ c) × (63 - count_leading_zeros 64 d ≡ after)
+zeros_moved c d rest narrow some h e =
+    let s = 64 - c in
+    let fits : d * 2 ^ s < 2 ^ 64 = shift_fits c s d h (omega arith) in
+    let t = leading_top 64 d some (omega (arith, h, pow-le-pow_right {n = 2} (omega arith) {i = c} {j = 64} (omega arith))) in
+    let bounds = moved_bounds d rest s t.0 e t.2 t.3 in
+    let low = bounds.0 in
+    let high = bounds.1 in
+    let u = leading_top 64 rest (omega (arith, low, pow_pos (t.0 + s))) (omega (arith, e, fits)) in
+    let up : u.0 ≤ t.0 + s = below_top u.0 (t.0 + s) rest u.2 high in
+    let down : t.0 + s ≤ u.0 = below_top (t.0 + s) u.0 rest low u.3 in
+    let within : t.0 < c = elim (cases_lt t.0 c) [ inl l ↦ l | inr r ↦ absurd (omega (arith, h, t.2, pow-le-pow_right {n = 2} (omega arith) {i = c} {j = t.0} r)) ] in
+    (t.0, within, omega (arith, u.1, up, down, narrow), omega (arith, t.1))
+
+spread : (q p r s m : ℕ) → p * s ≡ m → (q * p + r) * s ≡ q * m + r * s
+spread q p r s m e = rw (← e) (grind arith)
+
+-- digits behind the first ones, at the front of 64
+moved_up : (a d : ℕ) → a < 64 → d * 2 ^ (64 - a) % 2 ^ 64 ≡ d % 2 ^ a * 2 ^ (64 - a)
+moved_up a d h =
+    let s = 64 - a in
+    let n : a + s ≡ 64 = omega arith in
+    let power : 2 ^ a * 2 ^ s ≡ 2 ^ 64 = sym (pow-add 2 a s) ∙ ap (λ k. 2 ^ k) n in
+    let low : d % 2 ^ a < 2 ^ a = mod_below d (2 ^ a) (pow_pos a) in
+    ap (λ k. k * 2 ^ s % 2 ^ 64) (sym (shr_split d a))
+    ∙ (ap (λ k. k % 2 ^ 64) (spread (d / 2 ^ a) (2 ^ a) (d % 2 ^ a) (2 ^ s) (2 ^ 64) power)
+    ∙ mod-mul-add (d / 2 ^ a) (2 ^ 64) (d % 2 ^ a * 2 ^ s) (shift_fits a s (d % 2 ^ a) low (omega arith)))
+
+-- a fundamental sequence is taken from the front of 64 digits, of which c count
+pub run_step : (c rest next : ℕ) → c < 64 → rest / 2 ^ (64 - c) < 2 ^ c → rest ≡ rest / 2 ^ (64 - c) * 2 ^ (64 - c) → 0 < rest
+    → next ≡ rest * 2 ^ (count_leading_zeros 64 rest + 1) % 2 ^ 64
+    → (count_leading_zeros 64 rest + 1 ≤ c)
+    × (next / 2 ^ (64 - (c - (count_leading_zeros 64 rest + 1))) < 2 ^ (c - (count_leading_zeros 64 rest + 1)))
+    × (next ≡ next / 2 ^ (64 - (c - (count_leading_zeros 64 rest + 1))) * 2 ^ (64 - (c - (count_leading_zeros 64 rest + 1))))
+    × (word c (rest / 2 ^ (64 - c)) ≡ fundamental_sequence (count_leading_zeros 64 rest) ++ word (c - (count_leading_zeros 64 rest + 1)) (next / 2 ^ (64 - (c - (count_leading_zeros 64 rest + 1)))))
+run_step c rest next narrow below whole some e =
+    let d = rest / 2 ^ (64 - c) in
+    let z = count_leading_zeros 64 rest in
+    let positive : 0 < d = elim (cases_lt 0 d) [ inl l ↦ l | inr r ↦ (let none : d ≡ 0 = omega arith in absurd (omega (arith, some, whole ∙ ap (λ k. k * 2 ^ (64 - c)) none))) ] in
+    let m = zeros_moved c d rest narrow positive below whole in
+    let a = m.0 in
+    let left : c - (z + 1) ≡ a = omega (arith, m.2) in
+    let up : 64 - c + (z + 1) ≡ 64 - a = omega (arith, m.1, m.2, narrow) in
+    let product : rest * 2 ^ (z + 1) ≡ d * 2 ^ (64 - a) =
+    ap (λ k. k * 2 ^ (z + 1)) whole ∙ (regrouped d (2 ^ (64 - c)) (2 ^ (z + 1)) ∙ ap (λ k. d * k) (sym (pow-add 2 (64 - c) (z + 1)) ∙ ap (λ k. 2 ^ k) up)) in
+    let low : d % 2 ^ a < 2 ^ a = mod_below d (2 ^ a) (pow_pos a) in
+    let after : next ≡ d % 2 ^ a * 2 ^ (64 - a) = e ∙ (ap (λ k. k % 2 ^ 64) product ∙ moved_up a d (omega (arith, m.1, narrow))) in
+    let back : next / 2 ^ (64 - a) ≡ d % 2 ^ a = ap (λ k. k / 2 ^ (64 - a)) after ∙ mul-div_cancel (d % 2 ^ a) (2 ^ (64 - a)) (pow_pos (64 - a)) in
+    let zeros : c - 1 - a ≡ z = omega (arith, m.2) in
+    let run : word c d ≡ fundamental_sequence z ++ word a (d % 2 ^ a) =
+    sym (append-nil (word c d)) ∙ (run-digits c d [] positive below (omega arith)
+    ∙ (ap (λ k. fundamental_sequence (c - 1 - k) ++ (word k (d % 2 ^ k) ++ [])) m.3
+    ∙ (ap (λ k. fundamental_sequence k ++ (word a (d % 2 ^ a) ++ [])) zeros ∙ ap (λ k. fundamental_sequence z ++ k) (append-nil (word a (d % 2 ^ a)))))) in (
+      omega (arith, m.2),
+      subst (λ k. next / 2 ^ (64 - k) < 2 ^ k) (sym left) (rw back low),
+      subst (λ k. next ≡ next / 2 ^ (64 - k) * 2 ^ (64 - k)) (sym left) (after ∙ ap (λ k. k * 2 ^ (64 - a)) (sym back)),
+      run ∙ subst (λ k. fundamental_sequence z ++ word a (d % 2 ^ a) ≡ fundamental_sequence z ++ word k (next / 2 ^ (64 - k))) (sym left) (ap (λ k. fundamental_sequence z ++ word a k) (sym back)),
+    )
+  where
+    regrouped : (x y w : ℕ) → x * y * w ≡ x * (y * w)
+    regrouped x y w = grind arith
+
+    mul-div_cancel : (x p : ℕ) → 0 < p → x * p / p ≡ x
+    mul-div_cancel x p h = (let n : x * p + 0 ≡ x * p = omega arith in ap (λ k. k / p) (sym n) ∙ div-mul-add x p 0 h)
+
+pub run_short : (c rest : ℕ) → c < 64 → rest / 2 ^ (64 - c) < 2 ^ c → rest ≡ rest / 2 ^ (64 - c) * 2 ^ (64 - c) → 0 < rest → count_leading_zeros 64 rest + 1 ≤ c
+run_short c rest narrow below whole some = (run_step c rest _ narrow below whole some refl).0
+
+-- digits moved to the front of 64, and back
+pub moved-back : (c d : ℕ) → c < 64 → d < 2 ^ c → (d * 2 ^ (64 - c) % 2 ^ 64 / 2 ^ (64 - c) ≡ d) × (d * 2 ^ (64 - c) % 2 ^ 64 ≡ d * 2 ^ (64 - c) % 2 ^ 64 / 2 ^ (64 - c) * 2 ^ (64 - c))
+moved-back c d narrow h =
+    let s = 64 - c in
+    let n : d * 2 ^ s + 0 ≡ d * 2 ^ s = omega arith in
+    let whole : d * 2 ^ s % 2 ^ 64 ≡ d * 2 ^ s = mod-eq_of_lt (shift_fits c s d h (omega arith)) in
+    let back : d * 2 ^ s % 2 ^ 64 / 2 ^ s ≡ d = ap (λ k. k / 2 ^ s) (whole ∙ sym n) ∙ div-mul-add d (2 ^ s) 0 (pow_pos s) in
+    (back, whole ∙ ap (λ k. k * 2 ^ s) (sym back))
