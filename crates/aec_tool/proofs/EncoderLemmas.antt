@@ -7,7 +7,6 @@ use Rattle.rice_code.specs.Blocks.{blocks_from}
 use Rattle.rice_code.specs.Code.{data_sets}
 use Rattle.rice_code.specs.Layout.{laid}
 use Rattle.std.specs.Io.KnownBytes.{Appends}
-use Rattle.std.proofs.Math.Nat.{mul-le-mul_right}
 use Rattle.std.proofs.KnownBytes.{Appends-trans}
 use Rattle.rice_bits.specs.Bits.{bits_in_bytes, bits_to_byte, padded, whole_bytes}
 use Rattle.rice_samples.specs.Parameters.{Parameters, IsLegal, IsSample, width}
@@ -19,14 +18,15 @@ use Rattle.rice_code.specs.Coder.{Finishes as FinishesCode}
 use Rattle.rice_code.specs.Code.{code, code_bits, output, early_output}
 use Rattle.rice_code.specs.Steps.{least_looks, most_looks, least_looks_at, most_looks_at, least_steps, most_steps, segment_steps}
 use Rattle.rice_code.proofs.CoderLemmas.{segment_steps_few}
-use Rattle.aec_tool.specs.Encoder.{Counts, Holds, TakesBetween, Closes, Reaches, Reads, whole_part}
+use Rattle.aec_tool.specs.Encoder.{Counts, Holds, Takes, TakesBetween, FailsAt, FailsIn, MeetsFailure, Closes, Reads, whole_part}
 use Rattle.aec_tool.specs.Writes.{TakesPart}
 use Rattle.aec_tool.specs.declared.encoding.Encoding.{Encoding}
 use Rattle.aec_tool.specs.declared.outcome.Report.{Report}
-use Rattle.aec_tool.proofs.SpelledLemmas.{length-spellings, spellings-push}
-use Rattle.std.proofs.Math.Seq.{take-add}
-use Rattle.std.proofs.lemmas.List.{length-take-le}
-use Rattle.std.proofs.lemmas.List.Elements.{All-push}
+use Rattle.aec_tool.proofs.SpelledLemmas.{spellings-append}
+use Rattle.std.proofs.Math.Seq.{take-append_seam}
+use Rattle.std.proofs.lemmas.List.{length-take-le, drop-take}
+use Rattle.std.proofs.lemmas.List.Elements.{All-take}
+use Rattle.std.proofs.Math.Nat.{mul-le-mul_left}
 use Rattle.aec_tool.proofs.BoundLemmas.{Settles, settles, early_bounded, all_bounded, few_steps, few_bits}
 use Rattle.aec_tool.proofs.WholeLemmas.{whole_short, length-part, more_bytes, more_rest}
 
@@ -71,33 +71,45 @@ pub record Tally (s : Parameters) (xs ys : List ℤ) (more meter meter_new count
   pub most : meter_new + most_steps s (settled s xs) ≤ meter + more + most_steps s (settled s ys)
   pub bits : count_new + code_bits s (settled s xs) ≡ count + code_bits s (settled s ys)
 
--- a sample is taken
-pub taken_on : (s : Parameters) (old now : Option (List ℕ)) (e f : Encoding) (xs : List ℤ) (x y : ℤ) → y ≡ x → Holds s old now e xs →
-    f.coder.setting ≡ e.coder.setting → StandsFor f.coder (xs ++ y ∷ []) → Completes e.coder.setting xs (xs ++ y ∷ []) e.sink f.sink → Tally e.coder.setting xs (xs ++ y ∷ []) 1 e.meter f.meter e.bits f.bits →
-    f.samples ≡ e.samples + 1 →
-    Counts s f (xs ++ x ∷ []) × (settled_code s (xs ++ x ∷ []) ≡ whole_part (settled_code s xs) ++ f.sink)
-taken_on s old now e f xs x y same h setting stands completes tally samples =
-    let t = subst (λ (t : Parameters). Tally t xs (xs ++ x ∷ []) 1 e.meter f.meter e.bits f.bits) h.counts.setting (subst (λ (z : ℤ). Tally e.coder.setting xs (xs ++ z ∷ []) 1 e.meter f.meter e.bits f.bits) same tally) in
-    let k = subst (λ (t : Parameters). Completes t xs (xs ++ x ∷ []) e.sink f.sink) h.counts.setting (subst (λ (z : ℤ). Completes e.coder.setting xs (xs ++ z ∷ []) e.sink f.sink) same completes) in
+-- the first of the first
+pub take_less : {X : Type 0} (m n : ℕ) (l : List X) → m ≤ n → take m (take n l) ≡ take m l
+take_less {X = X} m n [] h = ap (take m) (nothing n)
+  where
+    nothing : (n : ℕ) → take {A = X} n [] ≡ []
+    nothing zero = refl
+    nothing (suc n) = refl
+take_less zero n (x ∷ l) h = refl
+take_less (suc m) zero (x ∷ l) h = absurd (omega arith)
+take_less (suc m) (suc n) (x ∷ l) h = ap (λ l. x ∷ l) (take_less m n l (omega arith))
+
+-- samples are taken
+pub taken_on : (s : Parameters) (old now : Option (List ℕ)) (e f : Encoding) (xs ys : List ℤ) → Holds s old now e xs →
+    f.coder.setting ≡ e.coder.setting → StandsFor f.coder (xs ++ ys) → Completes e.coder.setting xs (xs ++ ys) e.sink f.sink → Tally e.coder.setting xs (xs ++ ys) (length ys) e.meter f.meter e.bits f.bits →
+    f.samples ≡ e.samples + length ys → ((m : ℕ) → m < length ys → settled e.coder.setting (xs ++ take m ys) ≡ settled e.coder.setting xs) → Takes s f xs ys
+taken_on s old now e f xs ys h setting stands completes tally samples before =
+    let t = subst (λ (t : Parameters). Tally t xs (xs ++ ys) (length ys) e.meter f.meter e.bits f.bits) h.counts.setting tally in
+    let k = subst (λ (t : Parameters). Completes t xs (xs ++ ys) e.sink f.sink) h.counts.setting completes in
     let part = whole_part (settled_code s xs) in
-    let c = length-append xs (x ∷ []) in (
-      record {
+    let c = length-append xs ys in
+    record {
+      counts = record {
         setting = setting ∙ h.counts.setting;
-        stands = subst (λ (z : ℤ). StandsFor f.coder (xs ++ z ∷ [])) same stands;
+        stands = stands;
         samples = omega (arith, samples, h.counts.samples, c);
         bits = omega (arith, t.bits, h.counts.bits);
         least = omega (arith, t.least, h.counts.least, c);
         most = omega (arith, t.most, h.counts.most, c);
-      },
-      k.completes ∙ ap (λ l. l ++ k.bits) (sym (joined s old now e xs h)) ∙ append_assoc part e.sink k.bits ∙ ap (λ l. part ++ l) (sym k.appended),
-    )
+      };
+      code_is = k.completes ∙ ap (λ l. l ++ k.bits) (sym (joined s old now e xs h)) ∙ append_assoc part e.sink k.bits ∙ ap (λ l. part ++ l) (sym k.appended);
+      before_last = subst (λ (t : Parameters). (m : ℕ) → m < length ys → settled t (xs ++ take m ys) ≡ settled t xs) h.counts.setting before;
+    }
 
 -- nothing is whole
-pub none_whole : (s : Parameters) (old now : Option (List ℕ)) (e f : Encoding) (xs : List ℤ) (x : ℤ) → Holds s old now e xs → Counts s f (xs ++ x ∷ []) → settled_code s (xs ++ x ∷ []) ≡ whole_part (settled_code s xs) ++ f.sink →
-    length f.sink < 8 → Holds s old now f (xs ++ x ∷ [])
-none_whole s old now e f xs x h c same few =
+pub none_whole : (s : Parameters) (old now : Option (List ℕ)) (e f : Encoding) (xs ys : List ℤ) → Holds s old now e xs → Counts s f (xs ++ ys) → settled_code s (xs ++ ys) ≡ whole_part (settled_code s xs) ++ f.sink →
+    length f.sink < 8 → Holds s old now f (xs ++ ys)
+none_whole s old now e f xs ys h c same few =
     let a = settled_code s xs in
-    let b = settled_code s (xs ++ x ∷ []) in
+    let b = settled_code s (xs ++ ys) in
     let z : bits_in_bytes (length f.sink) ≡ 0 = omega arith in
     let bytes : whole_bytes b ≡ whole_bytes a = more_bytes a b f.sink (sym same) ∙ ap (λ l. whole_bytes a ++ l) (whole_short f.sink few) ∙ append-nil (whole_bytes a) in
     record {
@@ -107,11 +119,11 @@ none_whole s old now e f xs x h c same few =
     }
 
 -- the whole bytes are written
-pub all_written : (s : Parameters) (old now new : Option (List ℕ)) (e f g : Encoding) (xs : List ℤ) (x : ℤ) → Holds s old now e xs → Counts s f (xs ++ x ∷ []) → settled_code s (xs ++ x ∷ []) ≡ whole_part (settled_code s xs) ++ f.sink →
-    Appends now new (whole_bytes f.sink) → g.sink ≡ drop (bits_in_bytes (length f.sink)) f.sink → Counts s g (xs ++ x ∷ []) → Holds s old new g (xs ++ x ∷ [])
-all_written s old now new e f g xs x h c same took rest d =
+pub all_written : (s : Parameters) (old now new : Option (List ℕ)) (e f g : Encoding) (xs ys : List ℤ) → Holds s old now e xs → Counts s f (xs ++ ys) → settled_code s (xs ++ ys) ≡ whole_part (settled_code s xs) ++ f.sink →
+    Appends now new (whole_bytes f.sink) → g.sink ≡ drop (bits_in_bytes (length f.sink)) f.sink → Counts s g (xs ++ ys) → Holds s old new g (xs ++ ys)
+all_written s old now new e f g xs ys h c same took rest d =
     let a = settled_code s xs in
-    let b = settled_code s (xs ++ x ∷ []) in
+    let b = settled_code s (xs ++ ys) in
     record {
       counts = d;
       sink = rest ∙ more_rest a b f.sink (sym same);
@@ -130,6 +142,50 @@ part_between old now new from more to took part e = record {
     short = part.short;
   };
   took = Appends-trans old now new from part.front took part.took;
+}
+
+-- some samples have a last one
+record Parts (ys : List ℤ) : Type 0 where
+  pub before : List ℤ
+  pub last : ℤ
+  pub split : ys ≡ before ++ last ∷ []
+
+parts_of : (ys : List ℤ) → 0 < length ys → Parts ys
+parts_of [] h = absurd (omega arith)
+parts_of (y ∷ []) h = record { before = []; last = y; split = refl }
+parts_of (y ∷ z ∷ ys) h = let p = parts_of (z ∷ ys) (omega arith) in record { before = y ∷ p.before; last = p.last; split = ap (λ l. y ∷ l) p.split }
+
+-- not all that the samples complete was written
+pub fails_in : (s : Parameters) (old now new : Option (List ℕ)) (e f g : Encoding) (xs samples : List ℤ) (n : ℕ) → Holds s old now e xs → Takes s f xs (take n samples) → 0 < n → n ≤ length samples → TakesPart now new (whole_bytes f.sink) → Counts s g (xs ++ take n samples) → FailsIn s old new g xs samples
+fails_in s old now new e f g xs samples n h takes some within part counts =
+    let ys = take n samples in
+    let len = length-take-le n samples within in
+    let p = parts_of ys (omega (arith, len)) in
+    let front : take (length p.before) ys ≡ p.before = ap (take (length p.before)) p.split ∙ take-append_seam p.before (p.last ∷ []) in
+    let size : length ys ≡ length p.before + 1 = ap length p.split ∙ length-append p.before (p.last ∷ []) in
+    let all : xs ++ ys ≡ (xs ++ p.before) ++ p.last ∷ [] = ap (λ l. xs ++ l) p.split ∙ sym (append_assoc xs p.before (p.last ∷ [])) in
+    let before : early_output s (xs ++ p.before) ≡ early_output s xs =
+    ap (λ l. early_output s (xs ++ l)) (sym front) ∙ ap (λ l. whole_bytes (code s l)) (takes.before_last (length p.before) (omega (arith, size))) in
+    let between = part_between old now new (early_output s xs) (whole_bytes f.sink) (early_output s (xs ++ ys)) h.took part (more_bytes (settled_code s xs) (settled_code s (xs ++ ys)) f.sink (sym takes.code_is)) in
+    record {
+      before = p.before;
+      last = p.last;
+      behind = drop n samples;
+      split = sym (take-append-drop n samples) ∙ ap (λ l. l ++ drop n samples) p.split ∙ append_assoc p.before (p.last ∷ []) (drop n samples);
+      fails = record {
+        counts = subst (Counts s g) all counts;
+        takes = subst (λ (l : List ℕ). TakesBetween old new l (early_output s ((xs ++ p.before) ++ p.last ∷ []))) (sym before) (subst (λ (l : List ℤ). TakesBetween old new (early_output s xs) (early_output s l)) all between);
+      };
+    }
+
+-- the samples before some others were taken
+pub fails_later : (s : Parameters) (old new : Option (List ℕ)) (e : Encoding) (xs samples : List ℤ) (at : ℕ) → FailsIn s old new e (xs ++ take at samples) (drop at samples) → FailsIn s old new e xs samples
+fails_later s old new e xs samples at f = record {
+  before = take at samples ++ f.before;
+  last = f.last;
+  behind = f.behind;
+  split = sym (take-append-drop at samples) ∙ ap (λ l. take at samples ++ l) f.split ∙ sym (append_assoc (take at samples) f.before (f.last ∷ f.behind));
+  fails = subst (λ (l : List ℤ). FailsAt s old new e l f.last) (append_assoc xs (take at samples) f.before) f.fails;
 }
 
 -- nothing is coded of no samples
@@ -183,42 +239,39 @@ closed s old now e r sink end xs h finishes total samples fill =
       (λ i. sym all i ++ replicate (sym gap i) false) ∙ append_assoc part sink (replicate (bits_to_byte (length sink)) false) ∙ ap (λ l. part ++ l) (sym fill),
     )
 
--- a sample more of some bytes
-pub reach_on : (s : Parameters) (old now new : Option (List ℕ)) (e f : Encoding) (xs : List ℤ) (bytes : List ℕ) (at end : ℕ) (x : ℤ) → (r : Reaches s old now e xs bytes at) →
-    take (end - at) (drop at bytes) ≡ spelling s x → IsSample s x → at ≤ end → Holds s old new f ((xs ++ r.more) ++ x ∷ []) → Reaches s old new f xs bytes end
-reach_on s old now new e f xs bytes at end x r piece legal le holds =
-    let n : at + (end - at) ≡ end = omega arith in
+-- the bytes of the first of some samples
+pub first_of : (s : Parameters) (bytes : List ℕ) (count n : ℕ) (ys : List ℤ) → n ≤ count → take (width s * n) (take (width s * count) bytes) ≡ spellings s ys → All (IsSample s) ys → Reads s bytes ys (drop (width s * n) bytes)
+first_of s bytes count n ys le front legal =
+    let w = width s in
+    let more : w * n ≤ w * count = mul-le-mul_left w le in
+    let first = take_less (w * n) (w * count) bytes more in
+    record { split = sym (take-append-drop (w * n) bytes) ∙ ap (λ l. l ++ drop (w * n) bytes) (sym first ∙ front); legal = legal }
+
+-- what stands behind them
+pub behind_them : (s : Parameters) (bytes : List ℕ) (count n : ℕ) → n < count → width s * count ≤ length bytes → (width s ≤ length (drop (width s * n) bytes)) × (take (width s) (drop (width s * n) (take (width s * count) bytes)) ≡ take (width s) (drop (width s * n) bytes))
+behind_them s bytes count n lt within =
+    let w = width s in
+    let more : w * (n + 1) ≤ w * count = mul-le-mul_left w (omega arith) in
+    let same : w * n + (w + (w * count - w * n - w)) ≡ w * count = omega arith in
+    let len = length-drop (w * n) bytes in (
+      omega (arith, len, more, within),
+      ap (λ m. take w (drop (w * n) (take m bytes))) (sym same) ∙ ap (take w) (drop-take (w * n) (w + (w * count - w * n - w)) bytes) ∙ take_less w (w + (w * count - w * n - w)) (drop (w * n) bytes) (omega arith),
+    )
+
+All-front : {X : Type 0} (P : X → Type 0) (xs ys : List X) → All P (xs ++ ys) → All P xs
+All-front P xs ys h = subst (All P) (take-append_seam xs ys) (All-take P (length xs) (xs ++ ys) h)
+
+-- of samples that the bytes spell one is the last that was taken
+pub fails_among : (s : Parameters) (old new : Option (List ℕ)) (e : Encoding) (xs ys : List ℤ) (bytes rest : List ℕ) → Reads s bytes ys rest → FailsIn s old new e xs ys → MeetsFailure s old new e xs bytes
+fails_among s old new e xs ys bytes rest reads f =
+    let parts : ys ≡ (f.before ++ f.last ∷ []) ++ f.behind = f.split ∙ sym (append_assoc f.before (f.last ∷ []) f.behind) in
     record {
-      more = r.more ++ x ∷ [];
-      split = ap (λ n. take n bytes) (sym n) ∙ take-add at (end - at) bytes ∙ (λ i. r.split i ++ piece i) ∙ sym (spellings-push s r.more x);
-      legal = All-push (IsSample s) r.more x r.legal legal;
-      holds = subst (λ (l : List ℤ). Holds s old new f l) (append_assoc xs r.more (x ∷ [])) holds;
+      more = f.before;
+      last = f.last;
+      rest = spellings s f.behind ++ rest;
+      reads = record {
+        split = reads.split ∙ ap (λ l. spellings s l ++ rest) parts ∙ ap (λ l. l ++ rest) (spellings-append s (f.before ++ f.last ∷ []) f.behind) ∙ append_assoc (spellings s (f.before ++ f.last ∷ [])) (spellings s f.behind) rest;
+        legal = All-front (IsSample s) (f.before ++ f.last ∷ []) f.behind (subst (All (IsSample s)) parts reads.legal);
+      };
+      fails = f.fails;
     }
-
--- how many samples that is
-pub reach_count : (s : Parameters) (old now : Option (List ℕ)) (e : Encoding) (xs : List ℤ) (bytes : List ℕ) (at w : ℕ) → (r : Reaches s old now e xs bytes at) → at ≤ length bytes → w ≡ width s → 1 ≤ w → length r.more ≤ at
-reach_count s old now e xs bytes at w r le ew some =
-    let n : at ≡ width s * length r.more = sym (length-take-le at bytes le) ∙ ap length r.split ∙ length-spellings s r.more in
-    by_width (width s) at (length r.more) n (subst (λ (v : ℕ). 1 ≤ v) ew some)
-  where
-    by_width : (w n m : ℕ) → n ≡ w * m → 1 ≤ w → m ≤ n
-    by_width w n m e h = let p = mul-le-mul_right m h in omega arith
-
-pub reach_first : (s : Parameters) (old now : Option (List ℕ)) (e : Encoding) (xs : List ℤ) (bytes : List ℕ) → Holds s old now e xs → Reaches s old now e xs bytes 0
-reach_first s old now e xs bytes h = record {
-  more = [];
-  split = refl;
-  legal = λ k d lt. absurd (omega arith);
-  holds = subst (λ (l : List ℤ). Holds s old now e l) (sym (append-nil xs)) h;
-}
-
-pub reads_to : (s : Parameters) (old now : Option (List ℕ)) (e : Encoding) (xs : List ℤ) (bytes : List ℕ) (at : ℕ) → (r : Reaches s old now e xs bytes at) → Reads s bytes r.more (drop at bytes)
-reads_to s old now e xs bytes at r = record { split = sym (take-append-drop at bytes) ∙ ap (λ l. l ++ drop at bytes) r.split; legal = r.legal }
-
--- the samples of some bytes and one more
-pub one_more : (s : Parameters) (bytes : List ℕ) (at end : ℕ) (x : ℤ) (xs : List ℤ) → take at bytes ≡ spellings s xs → All (IsSample s) xs → take (end - at) (drop at bytes) ≡ spelling s x → IsSample s x → at ≤ end →
-    Reads s bytes (xs ++ x ∷ []) (drop end bytes)
-one_more s bytes at end x xs split legal piece k le =
-    let n : at + (end - at) ≡ end = omega arith in
-    let front : take end bytes ≡ spellings s (xs ++ x ∷ []) = ap (λ n. take n bytes) (sym n) ∙ take-add at (end - at) bytes ∙ (λ i. split i ++ piece i) ∙ sym (spellings-push s xs x) in
-    record { split = sym (take-append-drop end bytes) ∙ ap (λ l. l ++ drop end bytes) front; legal = All-push (IsSample s) xs x legal k }

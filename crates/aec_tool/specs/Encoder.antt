@@ -32,6 +32,12 @@ pub record Holds (s : Parameters) (old new : Option (List ℕ)) (e : Encoding) (
   pub sink : e.sink ≡ drop (bits_in_bytes (length (settled_code s xs))) (settled_code s xs)
   pub took : Appends old new (early_output s xs)
 
+-- An encoding that held xs has taken these samples too. Only the last of them can have made a segment whole.
+pub record Takes (s : Parameters) (e : Encoding) (xs more : List ℤ) : Type 0 where
+  pub counts : Counts s e (xs ++ more)
+  pub code_is : settled_code s (xs ++ more) ≡ whole_part (settled_code s xs) ++ e.sink
+  pub before_last : (m : ℕ) → m < length more → settled s (xs ++ take m more) ≡ settled s xs
+
 -- an outlet has taken bytes up to a place between the ends of two texts
 pub record TakesBetween (old new : Option (List ℕ)) (from to : List ℕ) : Type 0 where
   pub written : List ℕ
@@ -42,6 +48,14 @@ pub record TakesBetween (old new : Option (List ℕ)) (from to : List ℕ) : Typ
 pub record FailsAt (s : Parameters) (old new : Option (List ℕ)) (e : Encoding) (xs : List ℤ) (x : ℤ) : Type 0 where
   pub counts : Counts s e (xs ++ x ∷ [])
   pub takes : TakesBetween old new (early_output s xs) (early_output s (xs ++ x ∷ []))
+
+-- the outlet failed behind one of some samples
+pub record FailsIn (s : Parameters) (old new : Option (List ℕ)) (e : Encoding) (xs samples : List ℤ) : Type 0 where
+  pub before : List ℤ
+  pub last : ℤ
+  pub behind : List ℤ
+  pub split : samples ≡ before ++ last ∷ behind
+  pub fails : FailsAt s old new e (xs ++ before) last
 
 -- the report of all samples
 pub record Closes (s : Parameters) (r : Report) (xs : List ℤ) : Type 0 where
@@ -67,13 +81,6 @@ Finishes s old new xs (Some _) = ⊥
 pub record Reads (s : Parameters) (bytes : List ℕ) (samples : List ℤ) (rest : List ℕ) : Type 0 where
   pub split : bytes ≡ spellings s samples ++ rest
   pub legal : All (IsSample s) samples
-
--- an encoding that held xs has taken what the first of the bytes spell
-pub record Reaches (s : Parameters) (old new : Option (List ℕ)) (e : Encoding) (xs : List ℤ) (bytes : List ℕ) (at : ℕ) : Type 0 where
-  pub more : List ℤ
-  pub split : take at bytes ≡ spellings s more
-  pub legal : All (IsSample s) more
-  pub holds : Holds s old new e (xs ++ more)
 
 -- an encoding that held xs takes what the bytes spell
 pub record TakesAll (s : Parameters) (old new : Option (List ℕ)) (e : Encoding) (xs : List ℤ) (bytes : List ℕ) : Type 0 where

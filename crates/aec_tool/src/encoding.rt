@@ -1,12 +1,12 @@
 //! From samples to their code.
-ghost use Rattle.std.specs.Prelude.{◌≡◌, ℕ, ◌+◌, ◌-◌, ◌*◌, ◌%◌, ◌^◌, ◌<◌, ◌≤◌, List, [], ◌∷◌, ◌++◌, length, take, drop, Option, Some, OnOk, OnErr, IfOk, ℤ};
+ghost use Rattle.std.specs.Prelude.{◌≡◌, ℕ, ◌+◌, ◌-◌, ◌*◌, ◌%◌, ◌^◌, ◌<◌, ◌≤◌, List, [], ◌++◌, length, take, drop, All, Option, Some, OnOk, OnErr, IfOk, ℤ};
 ghost use Rattle.std.specs.Io.KnownBytes.{Appends, IsAtEnd, Keeps};
 ghost use Rattle.rice_bits.specs.Device.{CountsFailure};
 ghost use Rattle.rice_bits.specs.Bits.{bits_in_bytes, padded};
 ghost use Rattle.rice_samples.specs.Parameters.{Parameters, IsSample, width};
 ghost use Rattle.aec_tool.specs.Calls.{Call, Happens, Fails};
 ghost use Rattle.aec_tool.specs.Encoding.{Encodes, EncodesWithin};
-ghost use Rattle.aec_tool.specs.Encoder.{whole_part, Refills, Counts, Holds, FailsAt, Tells, Closes, Finishes, Pushes, PushFails};
+ghost use Rattle.aec_tool.specs.Encoder.{whole_part, Refills, Takes, Counts, Holds, FailsIn, Tells, Closes, Finishes, Pushes, PushFails};
 ghost use Rattle.rice_code.specs.Code.{code};
 ghost use Rattle.rice_code.specs.Coder.{settled_code};
 
@@ -14,7 +14,7 @@ use crate::outcome::{Fault, Outcome, Report};
 use crate::write::write_whole;
 use rice_bits::{BitSink, Intake, Meter, Outlet, ReadFault, WriteFault};
 use rice_code::Coder;
-use rice_samples::{Setting, sample_of};
+use rice_samples::{Setting, samples_of};
 
 /// The most bytes that are encoded.
 const LIMIT: u64 = 1 << 48;
@@ -46,67 +46,92 @@ impl Encoding {
         }
     }
 
-    /// Takes one more sample.
-    #[inline(always)]
-    fn take(&mut self, x: i64)
-        requires { (s : Parameters) × (old : Option (List ℕ)) × (now : Option (List ℕ)) × (xs : List ℤ) × Holds s old now self.old xs × IsSample s x × (length xs < 2 ^ 48) }
-        ensures { (s : Parameters) (old now : Option (List ℕ)) (xs : List ℤ) → Holds s old now self.old xs →
-            Counts s self.new (xs ++ x ∷ []) × (settled_code s (xs ++ x ∷ []) ≡ whole_part (settled_code s xs) ++ self.new.sink) }
+    /// Takes samples up to the one that makes a segment whole, or all of them. Answers how many.
+    #[inline]
+    fn take(&mut self, samples: &[i64]) -> usize
+        requires ready { (s : Parameters) × (old : Option (List ℕ)) × (now : Option (List ℕ)) × (xs : List ℤ) × Holds s old now self.old xs × All (IsSample s) samples.now × (length xs + length samples.now ≤ 2 ^ 48) }
+        ensures count { result ≤ length samples.now }
+        ensures some { 0 < length samples.now → 0 < result }
+        ensures took { (s : Parameters) (old now : Option (List ℕ)) (xs : List ℤ) → Holds s old now self.old xs → Takes s self.new xs (take result samples.now) }
     {
-        let bits = self.coder.push(x, &mut self.sink, &mut self.meter);
-        self.samples += 1;
-        self.bits += bits;
+        let pushed = self.coder.push_some(samples, &mut self.sink, &mut self.meter);
+        self.samples += pushed.samples as u64;
+        self.bits += pushed.bits;
+        pushed.samples
     }
 
-    /// Takes one more sample, and writes the whole bytes of what it completes.
-    #[inline(always)]
-    fn push<O: Outlet>(&mut self, x: i64, outlet: &mut O) -> Result<(), WriteFault>
-        requires ready { (s : Parameters) × (old : Option (List ℕ)) × (xs : List ℤ) × Holds s old (O.taken outlet.old) self.old xs × IsSample s x × (length xs < 2 ^ 48) }
+    /// Takes samples in the same way, and writes the whole bytes of what they complete. Answers how many.
+    fn push<O: Outlet>(&mut self, samples: &[i64], outlet: &mut O) -> Result<usize, WriteFault>
+        requires ready { (s : Parameters) × (old : Option (List ℕ)) × (xs : List ℤ) × Holds s old (O.taken outlet.old) self.old xs × All (IsSample s) samples.now × (length xs + length samples.now ≤ 2 ^ 48) }
+        requires some { 0 < length samples.now }
         requires writes { O.failed outlet.old + 1 < 2 ^ 64 }
-        ensures ok { OnOk result ((s : Parameters) (old : Option (List ℕ)) (xs : List ℤ) → Holds s old (O.taken outlet.old) self.old xs →
-            Holds s old (O.taken outlet.new) self.new (xs ++ x ∷ [])) }
+        ensures count { IfOk result (λ n. (0 < n) × (n ≤ length samples.now)) }
+        ensures ok { IfOk result (λ n. (s : Parameters) (old : Option (List ℕ)) (xs : List ℤ) → Holds s old (O.taken outlet.old) self.old xs →
+            Holds s old (O.taken outlet.new) self.new (xs ++ take n samples.now)) }
         ensures calm { OnOk result (O.failed outlet.new ≡ O.failed outlet.old) }
         ensures err { OnErr result ((s : Parameters) (old : Option (List ℕ)) (xs : List ℤ) → Holds s old (O.taken outlet.old) self.old xs →
-            FailsAt s old (O.taken outlet.new) self.new xs x) }
+            FailsIn s old (O.taken outlet.new) self.new xs samples.now) }
         ensures raised { OnErr result (O.failed outlet.new ≡ O.failed outlet.old + 1) }
     {
-        self.take(x);
+        let taken = self.take(samples);
         if self.sink.len() < 8 {
-            return Ok(());
+            return Ok(taken);
         }
         match write_whole(&mut self.sink, outlet) {
-            Ok(()) => Ok(()),
+            Ok(()) => Ok(taken),
             Err(fault) => Err(fault),
         }
     }
 
-    /// Takes the samples that the bytes spell, as far as they are whole, and writes the whole bytes of what each completes.
+    /// Takes all samples, and writes the whole bytes of what each segment completes before it goes on.
+    fn push_each<O: Outlet>(&mut self, samples: &[i64], outlet: &mut O) -> Result<(), WriteFault>
+        requires ready { (s : Parameters) × (old : Option (List ℕ)) × (xs : List ℤ) × Holds s old (O.taken outlet.old) self.old xs × All (IsSample s) samples.now × (length xs + length samples.now ≤ 2 ^ 48) }
+        requires writes { O.failed outlet.old + 1 < 2 ^ 64 }
+        ensures ok { OnOk result ((s : Parameters) (old : Option (List ℕ)) (xs : List ℤ) → Holds s old (O.taken outlet.old) self.old xs →
+            Holds s old (O.taken outlet.new) self.new (xs ++ samples.now)) }
+        ensures calm { OnOk result (O.failed outlet.new ≡ O.failed outlet.old) }
+        ensures err { OnErr result ((s : Parameters) (old : Option (List ℕ)) (xs : List ℤ) → Holds s old (O.taken outlet.old) self.old xs →
+            FailsIn s old (O.taken outlet.new) self.new xs samples.now) }
+        ensures raised { OnErr result (O.failed outlet.new ≡ O.failed outlet.old + 1) }
+    {
+        let mut at = 0;
+        while at < samples.len() {
+            match self.push(&samples[at..], outlet) {
+                Ok(taken) => at += taken,
+                Err(fault) => return Err(fault),
+            }
+        }
+        Ok(())
+    }
+
+    /// Takes the samples that the bytes spell, as far as they are whole, and writes the whole bytes of what they complete.
+    /// What `samples` holds is lost.
     fn push_all<O: Outlet>(
         &mut self,
         setting: &Setting,
         bytes: &[u8],
+        samples: &mut [i64],
         outlet: &mut O,
     ) -> Result<(), Fault>
         requires ready { (old : Option (List ℕ)) × (xs : List ℤ) × Holds setting.now old (O.taken outlet.old) self.old xs × (length xs + length bytes.now ≤ 2 ^ 48) }
+        requires room { length bytes.now ≤ length samples.old }
         requires writes { O.failed outlet.old + 1 < 2 ^ 64 }
         ensures did { (old : Option (List ℕ)) (xs : List ℤ) → Holds setting.now old (O.taken outlet.old) self.old xs →
             Pushes setting.now old (O.taken outlet.new) self.new xs bytes.now result }
         ensures failures { PushFails (O.failed outlet.old) (O.failed outlet.new) result }
+        ensures room { length samples.new ≡ length samples.old }
     {
-        let local = *setting;
-        let width = local.width() as usize;
-        let mut at = 0;
-        while bytes.len() - at >= width {
-            let end = at + width;
-            let Some(x) = sample_of(&local, &bytes[at..end]) else {
-                return Err(Fault::SampleOutOfRange {
-                    index: self.samples,
-                });
-            };
-            match self.push(x, outlet) {
-                Ok(()) => at = end,
-                Err(_) => return Err(Fault::Write),
-            }
+        let width = setting.width() as usize;
+        let count = bytes.len() / width;
+        let found = samples_of(setting, &bytes[..count * width], &mut samples[..count]);
+        match self.push_each(&samples[..found], outlet) {
+            Ok(()) => {}
+            Err(_) => return Err(Fault::Write),
+        }
+        if found < count {
+            return Err(Fault::SampleOutOfRange {
+                index: self.samples,
+            });
         }
         Ok(())
     }
@@ -223,6 +248,7 @@ pub fn encode<I: Intake, O: Outlet>(setting: &Setting, intake: &mut I, outlet: &
     let width = setting.width() as usize;
     let mut encoding = Encoding::new(*setting);
     let mut buffer = [0u8; PIECE];
+    let mut samples = [0i64; PIECE];
     let mut waiting = 0;
     let mut given = 0u64;
     'fill_all: loop {
@@ -242,7 +268,7 @@ pub fn encode<I: Intake, O: Outlet>(setting: &Setting, intake: &mut I, outlet: &
         }
         given += count as u64;
         let filled = waiting + count;
-        match encoding.push_all(setting, &buffer[..filled], outlet) {
+        match encoding.push_all(setting, &buffer[..filled], &mut samples, outlet) {
             Ok(()) => {}
             Err(fault) => return encoding.stopped(fault),
         }

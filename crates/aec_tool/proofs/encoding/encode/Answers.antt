@@ -25,6 +25,7 @@ fill_all-init g c = record {
     holds = c.new-encoding.ensures (g.O.Outlet.taken c.args.outlet.now);
   };
   size = refl;
+  room = refl;
   reads = refl;
   writes = refl;
 }
@@ -123,6 +124,9 @@ push_all-requires-clause-ready g c =
     let limit = c.piece.ensures.limit (omega (arith, c.if-given-ge-LIMIT.false)) in
     (g.O.Outlet.taken c.args.outlet.now, i.runs.samples, i.runs.holds, omega (arith, n, limit, c.in-Ok.ensures.count, length-take (c.fill_all.waiting + c.in-Ok.count) c.refill.new.buffer))
 
+pub push_all-requires-clause-room : goal.push_all-requires-clause-room
+push_all-requires-clause-room g c = omega (arith, c.fill_all.invariant.room, c.in-Ok.ensures.count, c.piece.ensures.most, length-take (c.fill_all.waiting + c.in-Ok.count) c.refill.new.buffer)
+
 pub returns-in-Err-push_all-clause-call : goal.returns-in-Err-push_all-clause-call
 returns-in-Err-push_all-clause-call g c =
     let s = c.args.setting.now in
@@ -171,6 +175,7 @@ fill_all-preserved g c =
           c.fill_all.encoding c.push_all.new.self c.fill_all.given c.fill_all.waiting c.in-Ok.count c.width-width.result _ c.fill_all.buffer c.refill.new.buffer c.carry.new.buffer i.runs more
           (c.in-Ok-push_all.ensures.did start i.runs.samples i.runs.holds) c.width-width.ensures.value most refl c.carry.ensures.front limit;
       size = c.carry.ensures.len ∙ c.refill.auto.buffer ∙ i.size;
+      room = c.in-Ok-push_all.ensures.room ∙ i.room;
       reads = c.in-Ok.ensures.failures ∙ i.reads;
       writes = c.in-Ok-push_all.ensures.failures ∙ i.writes;
     }

@@ -1,100 +1,100 @@
-use Rattle.std.proofs.Common.{rules, arith, w64, ◌≡◌, ◌+◌, ◌-◌, ◌≤◌, ◌++◌, ◌∷◌, [], length, take, drop, refl, ap, sym, ◌∙◌, subst, length-append, length-drop, ℤ}
-use Rattle.std.proofs.lemmas.Int.{to_z-of_z}
-use Rattle.rice_samples.specs.Parameters.{IsSample, width}
-use Rattle.aec_tool.specs.Encoder.{Holds, FailsAt}
-use Rattle.aec_tool.proofs.EncoderLemmas.{reach_first, reach_on, reach_count, reads_to, one_more}
+use Rattle.std.proofs.Common.{arith, ◌≡◌, ◌≢◌, ◌+◌, ◌-◌, ◌*◌, ◌/◌, ◌%◌, ◌<◌, ◌≤◌, ◌++◌, length, take, drop, refl, ap, sym, ◌∙◌, subst, length-append, length-drop, ℕ, List, ℤ}
+use Rattle.std.specs.Prelude.{All}
+use Rattle.std.proofs.Math.Nat.{div-add-mod, mod-lt, mul-le-mul_left}
+use Rattle.std.proofs.lemmas.List.{length-take, length-take-le, take-append-le}
+use Rattle.rice_samples.specs.Parameters.{Parameters, IsSample, width}
+use Rattle.rice_samples.specs.Spelling.{spelling, spellings}
+use Rattle.aec_tool.specs.Encoder.{Holds, FailsIn, Reads}
+use Rattle.aec_tool.proofs.EncoderLemmas.{first_of, behind_them, fails_among}
 use Rattle.aec_tool.proofs.encoding.Encoding.push_all.Goals as goal
 
-pub loop-at-init : goal.loop-at-init
-loop-at-init g c = record {
-  within = omega arith;
-  reaches = λ old xs h. reach_first c.args.setting.now old (g.O.Outlet.taken c.args.outlet.now) c.args.self.now xs c.args.bytes.now h;
-  failures = refl;
-}
+-- the bytes of whole samples, and their number
+whole_samples : (m w v : ℕ) → w ≡ v → 1 ≤ w → (v * (m / w) ≤ m) × (m / w ≤ m) × (m < v * (m / w) + v) × (m / w * w ≡ v * (m / w))
+whole_samples m w v e some =
+    let parts = div-add-mod m w in
+    let rest = mod-lt m some in
+    let q = m / w in
+    let p : q * 1 ≤ q * w = mul-le-mul_left q some in
+    let same : q * w ≡ v * q = ap (λ n. q * n) e ∙ (omega arith) in
+    (omega (arith, parts, same), omega (arith, parts, p), omega (arith, parts, same, rest, e), same)
 
-pub returns-in_default-clause-did : goal.returns-in_default-clause-did
-returns-in_default-clause-did g c old xs h =
+pub push_each-requires-clause-ready : goal.push_each-requires-clause-ready
+push_each-requires-clause-ready g c =
     let s = c.args.setting.now in
-    let bytes = c.args.bytes.now in
-    let at = c.loop-at.at in
-    let i = c.loop-at.invariant in
-    let r = i.reaches old xs h in
-    let w : at + c.width-width.result - at ≡ width s = omega (arith, c.width-width.ensures.value) in
-    let enough : width s ≤ length (drop at bytes) = omega (arith, c.width-width.ensures.value, length-drop at bytes, c.loop-at-test.true) in (
-      record {
-        more = r.more;
-        rest = drop at bytes;
-        reads = reads_to s old (g.O.Outlet.taken c.loop-at.outlet) c.loop-at.self xs bytes at r;
-        none = (enough, λ x k e. c.in_default.ensures.none x k (ap (λ n. take n (drop at bytes)) w ∙ e));
-        holds = r.holds;
-      },
-      refl,
-    )
-
-pub push-requires-clause-ready : goal.push-requires-clause-ready
-push-requires-clause-ready g c =
-    let s = c.args.setting.now in
-    let old = c.requires.ready.0 in
-    let xs = c.requires.ready.1 in
-    let i = c.loop-at.invariant in
-    let r = i.reaches old xs c.requires.ready.2 in
-    let px = to_z-of_z w64 c.in-Some.x (search rules) in
-    let few = reach_count s old (g.O.Outlet.taken c.loop-at.outlet) c.loop-at.self xs c.args.bytes.now c.loop-at.at (width s) r i.within refl (omega (arith, c.width-width.ensures.value, c.width-width.ensures.range)) in (
+    let f = c.samples_of-found in
+    let zs = f.new.samples in
+    let count = length c.args.bytes.now / c.width-width.result in
+    let slice : take f.result (zs ++ drop count c.args.samples.now) ≡ take f.result zs = take-append-le f.result zs (drop count c.args.samples.now) f.ensures.count in
+    let whole = whole_samples (length c.args.bytes.now) c.width-width.result (width s) c.width-width.ensures.value (omega (arith, c.width-width.ensures.range)) in
+    let r = c.requires.ready in (
       s,
-      old,
-      xs ++ r.more,
-      r.holds,
-      subst (λ (x : ℤ). IsSample s x) (sym px) c.in-Some.ensures.value.0,
-      omega (arith, length-append xs r.more, few, c.requires.ready.3, c.loop-at-test.true, c.width-width.ensures.range),
+      r.0,
+      r.1,
+      r.2,
+      subst (All (IsSample s)) (sym slice) f.ensures.legal,
+      omega (arith, r.3, ap length slice, length-take f.result zs, f.ensures.count, f.ensures.len, length-take count c.args.samples.now, whole.1),
     )
-
-pub loop-at-preserved : goal.loop-at-preserved
-loop-at-preserved g c =
-    let s = c.args.setting.now in
-    let bytes = c.args.bytes.now in
-    let i = c.loop-at.invariant in
-    let mid = g.O.Outlet.taken c.loop-at.outlet in
-    let new = g.O.Outlet.taken c.push.new.outlet in
-    let x = c.in-Some.x in
-    let px = to_z-of_z w64 x (search rules) in
-    record {
-      within = omega (arith, i.within, c.loop-at-test.true);
-      reaches = λ old xs h. (let r = i.reaches old xs h in
-          reach_on s old mid new c.loop-at.self c.push.new.self xs bytes c.loop-at.at (c.loop-at.at + c.width-width.result) x r c.in-Some.ensures.value.1 c.in-Some.ensures.value.0 (omega arith)
-          (subst (λ (y : ℤ). Holds s old new c.push.new.self ((xs ++ r.more) ++ y ∷ [])) px (c.in-Ok.ensures.ok s old (xs ++ r.more) r.holds)));
-      failures = c.in-Ok.ensures.calm ∙ i.failures;
-    }
 
 pub returns-in-Err-clause-did : goal.returns-in-Err-clause-did
 returns-in-Err-clause-did g c old xs h =
     let s = c.args.setting.now in
     let bytes = c.args.bytes.now in
-    let i = c.loop-at.invariant in
-    let at = c.loop-at.at in
-    let mid = g.O.Outlet.taken c.loop-at.outlet in
-    let new = g.O.Outlet.taken c.push.new.outlet in
-    let x = c.in-Some.x in
-    let px = to_z-of_z w64 x (search rules) in
-    let r = i.reaches old xs h in
-    let end = at + c.width-width.result in
-    record {
-      more = r.more;
-      last = x;
-      rest = drop end bytes;
-      reads = one_more s bytes at end x r.more r.split r.legal c.in-Some.ensures.value.1 c.in-Some.ensures.value.0 (omega arith);
-      fails = subst (λ (y : ℤ). FailsAt s old new c.push.new.self (xs ++ r.more) y) px (c.in-Err.ensures.err s old (xs ++ r.more) r.holds);
-    }
+    let f = c.samples_of-found in
+    let zs = f.new.samples in
+    let count = length bytes / c.width-width.result in
+    let slice : take f.result (zs ++ drop count c.args.samples.now) ≡ take f.result zs = take-append-le f.result zs (drop count c.args.samples.now) f.ensures.count in
+    let whole = whole_samples (length bytes) c.width-width.result (width s) c.width-width.ensures.value (omega (arith, c.width-width.ensures.range)) in
+    let few : f.result ≤ count = omega (arith, f.ensures.count, f.ensures.len, length-take count c.args.samples.now) in
+    let spelled : take (width s * f.result) (take (width s * count) bytes) ≡ spellings s (take f.result zs) = ap (λ n. take (width s * f.result) (take n bytes)) (sym whole.3) ∙ f.ensures.spelled in
+    let reads = first_of s bytes count f.result (take f.result zs) few spelled f.ensures.legal in
+    let new = g.O.Outlet.taken c.push_each.new.outlet in
+    fails_among s old new c.push_each.new.self xs (take f.result zs) bytes (drop (width s * f.result) bytes) reads (subst (λ (l : List ℤ). FailsIn s old new c.push_each.new.self xs l) slice (c.in-Err.ensures.err s old xs h))
+
+pub returns-then-found-count-clause-did : goal.returns-then-found-count-clause-did
+returns-then-found-count-clause-did g c old xs h =
+    let s = c.args.setting.now in
+    let bytes = c.args.bytes.now in
+    let f = c.samples_of-found in
+    let zs = f.new.samples in
+    let count = length bytes / c.width-width.result in
+    let slice : take f.result (zs ++ drop count c.args.samples.now) ≡ take f.result zs = take-append-le f.result zs (drop count c.args.samples.now) f.ensures.count in
+    let whole = whole_samples (length bytes) c.width-width.result (width s) c.width-width.ensures.value (omega (arith, c.width-width.ensures.range)) in
+    let len : length zs ≡ count = omega (arith, f.ensures.len, length-take count c.args.samples.now, whole.1, c.requires.room) in
+    let few : f.result < count = c.if-found-count.true in
+    let spelled : take (width s * f.result) (take (width s * count) bytes) ≡ spellings s (take f.result zs) = ap (λ n. take (width s * f.result) (take n bytes)) (sym whole.3) ∙ f.ensures.spelled in
+    let behind = behind_them s bytes count f.result few whole.0 in
+    let new = g.O.Outlet.taken c.push_each.new.outlet in
+    let none = f.ensures.stop (omega (arith, len, few)) in
+    let there : take (width s) (drop (width s * f.result) (take (count * c.width-width.result) bytes)) ≡ take (width s) (drop (width s * f.result) bytes) =
+    ap (λ n. take (width s) (drop (width s * f.result) (take n bytes))) whole.3 ∙ behind.1 in (
+      record {
+        more = take f.result zs;
+        rest = drop (width s * f.result) bytes;
+        reads = first_of s bytes count f.result (take f.result zs) (omega (arith, few)) spelled f.ensures.legal;
+        none = (behind.0, λ x k e. none x k (there ∙ e));
+        holds = subst (λ (l : List ℤ). Holds s old new c.push_each.new.self (xs ++ l)) slice (c.in-Ok.ensures.ok s old xs h);
+      },
+      refl,
+    )
 
 pub returns-clause-did : goal.returns-clause-did
 returns-clause-did g c old xs h =
     let s = c.args.setting.now in
     let bytes = c.args.bytes.now in
-    let at = c.loop-at.at in
-    let r = c.loop-at.invariant.reaches old xs h in
+    let f = c.samples_of-found in
+    let zs = f.new.samples in
+    let count = length bytes / c.width-width.result in
+    let slice : take f.result (zs ++ drop count c.args.samples.now) ≡ take f.result zs = take-append-le f.result zs (drop count c.args.samples.now) f.ensures.count in
+    let whole = whole_samples (length bytes) c.width-width.result (width s) c.width-width.ensures.value (omega (arith, c.width-width.ensures.range)) in
+    let few : f.result ≤ count = omega (arith, f.ensures.count, f.ensures.len, length-take count c.args.samples.now) in
+    let all : f.result ≡ count = omega (arith, few, c.if-found-count.false) in
+    let spelled : take (width s * f.result) (take (width s * count) bytes) ≡ spellings s (take f.result zs) = ap (λ n. take (width s * f.result) (take n bytes)) (sym whole.3) ∙ f.ensures.spelled in
+    let new = g.O.Outlet.taken c.push_each.new.outlet in
+    let size : width s * f.result ≡ width s * count = ap (λ n. width s * n) all in
     record {
-      more = r.more;
-      rest = drop at bytes;
-      reads = reads_to s old (g.O.Outlet.taken c.loop-at.outlet) c.loop-at.self xs bytes at r;
-      few = omega (arith, c.width-width.ensures.value, length-drop at bytes, c.loop-at-test.false);
-      holds = r.holds;
+      more = take f.result zs;
+      rest = drop (width s * f.result) bytes;
+      reads = first_of s bytes count f.result (take f.result zs) few spelled f.ensures.legal;
+      few = omega (arith, length-drop (width s * f.result) bytes, size, whole.2);
+      holds = subst (λ (l : List ℤ). Holds s old new c.push_each.new.self (xs ++ l)) slice (c.in-Ok.ensures.ok s old xs h);
     }

@@ -1,47 +1,51 @@
-use Rattle.std.proofs.Common.{arith, rules, ◌≡◌, ◌∙◌, ◌+◌, ◌++◌, ◌∷◌, [], length, length-append, refl, sym, subst, w64, ℤ}
-use Rattle.std.proofs.lemmas.Int.{to_z-of_z}
+use Rattle.std.proofs.Common.{arith, ◌≡◌, ◌<◌, ◌∙◌, ◌+◌, ◌++◌, length, length-append, take, ap, sym, subst, ℕ, List, ℤ}
+use Rattle.std.specs.Prelude.{All}
+use Rattle.std.proofs.lemmas.List.{length-take-le}
 use Rattle.rice_samples.specs.Parameters.{Parameters, IsSample}
 use Rattle.rice_code.specs.Code.{code_bits}
-use Rattle.rice_code.specs.Coder.{StandsFor, settled}
-use Rattle.aec_tool.proofs.EncoderLemmas.{Tally, counts_small, early_small, sink_short, sink_place, taken_on}
+use Rattle.rice_code.specs.Coder.{settled}
+use Rattle.aec_tool.proofs.EncoderLemmas.{Tally, counts_small, early_small, sink_short, sink_place, take_less, taken_on}
 use Rattle.aec_tool.proofs.encoding.Encoding.take.Goals as goal
 
-pub push-bits-requires-clause-sample : goal.push-bits-requires-clause-sample
-push-bits-requires-clause-sample c =
-    let px = to_z-of_z w64 c.args.x (search rules) in
-    subst (λ (x : ℤ). IsSample c.args.self.now.coder.setting x) (sym px) (subst (λ (t : Parameters). IsSample t c.args.x) (sym c.requires.4.counts.setting) c.requires.5)
+pub push_some-pushed-requires-clause-samples : goal.push_some-pushed-requires-clause-samples
+push_some-pushed-requires-clause-samples c = subst (λ (t : Parameters). All (IsSample t) c.args.samples.now) (sym c.requires.ready.4.counts.setting) c.requires.ready.5
 
-pub push-bits-requires-clause-room : goal.push-bits-requires-clause-room
-push-bits-requires-clause-room c = sink_short c.requires.0 c.requires.1 c.requires.2 _ c.requires.3 c.requires.4
+pub push_some-pushed-requires-clause-room : goal.push_some-pushed-requires-clause-room
+push_some-pushed-requires-clause-room c = sink_short c.requires.ready.0 c.requires.ready.1 c.requires.ready.2 _ c.requires.ready.3 c.requires.ready.4
 
-pub push-bits-requires-clause-meter : goal.push-bits-requires-clause-meter
-push-bits-requires-clause-meter c = let small = counts_small c.requires.0 _ c.requires.3 c.requires.4.counts in omega (arith, small.1, small.2, c.requires.6)
+pub push_some-pushed-requires-clause-meter : goal.push_some-pushed-requires-clause-meter
+push_some-pushed-requires-clause-meter c = let small = counts_small c.requires.ready.0 _ c.requires.ready.3 c.requires.ready.4.counts in omega (arith, small.1, small.2, c.requires.ready.6)
 
 pub overflow_add-self : goal.overflow_add-self
-overflow_add-self c = omega (arith, c.requires.4.counts.samples, c.requires.6)
+overflow_add-self c = omega (arith, c.requires.ready.4.counts.samples, c.requires.ready.6, c.push_some-pushed.ensures.taken)
 
 pub overflow_add-self-2 : goal.overflow_add-self-2
 overflow_add-self-2 c =
-    let k = c.requires.4.counts in
-    let p = c.push-bits in
-    let xs = c.requires.3 in
-    let ys = xs ++ c.args.x ∷ [] in
-    let px = to_z-of_z w64 c.args.x (search rules) in
+    let k = c.requires.ready.4.counts in
+    let p = c.push_some-pushed in
+    let xs = c.requires.ready.3 in
+    let zs = take p.result.samples c.args.samples.now in
+    let ys = xs ++ zs in
     let t = c.args.self.now.coder.setting in
-    let stands = subst (λ (x : ℤ). StandsFor p.new.self (xs ++ x ∷ [])) px (p.ensures.stands xs k.stands) in
-    let bits = subst (λ (x : ℤ). code_bits t (settled t (xs ++ x ∷ [])) ≡ code_bits t (settled t xs) + p.result) px (p.ensures.bits xs k.stands) in
-    let same = subst (λ (t : Parameters). code_bits t (settled t ys) ≡ code_bits t (settled t xs) + p.result) k.setting bits in
-    let small = early_small c.requires.0 p.new.self ys (p.ensures.setting ∙ k.setting) stands in
-    omega (arith, small, same, k.bits, c.requires.6, length-append xs (c.args.x ∷ []))
+    let same = subst (λ (t : Parameters). code_bits t (settled t ys) ≡ code_bits t (settled t xs) + p.result.bits) k.setting (p.ensures.bits xs k.stands) in
+    let small = early_small c.requires.ready.0 p.new.self ys (p.ensures.setting ∙ k.setting) (p.ensures.stands xs k.stands) in
+    let len = length-take-le p.result.samples c.args.samples.now p.ensures.taken in
+    omega (arith, small, same, k.bits, c.requires.ready.6, length-append xs zs, len, p.ensures.taken)
 
-pub returns : goal.returns
-returns c s old now xs h =
+pub returns-clause-took : goal.returns-clause-took
+returns-clause-took c s old now xs h =
     let e = c.args.self.now in
-    let p = c.push-bits in
+    let p = c.push_some-pushed in
     let stands = h.counts.stands in
-    let tally : Tally e.coder.setting xs (xs ++ _ ∷ []) 1 e.meter p.new.meter e.bits (e.bits + p.result) = record {
-      least = p.ensures.steps_from xs stands;
-      most = p.ensures.steps_to xs stands;
+    let samples = c.args.samples.now in
+    let n = p.result.samples in
+    let zs = take n samples in
+    let len : length zs ≡ n = length-take-le n samples p.ensures.taken in
+    let tally : Tally e.coder.setting xs (xs ++ zs) (length zs) e.meter p.new.meter e.bits (e.bits + p.result.bits) = record {
+      least = omega (arith, p.ensures.steps_from xs stands, len);
+      most = omega (arith, p.ensures.steps_to xs stands, len);
       bits = omega (arith, p.ensures.bits xs stands);
     } in
-    taken_on s old now e _ xs c.args.x _ (to_z-of_z w64 c.args.x (search rules)) h p.ensures.setting (p.ensures.stands xs stands) (p.ensures.code xs stands (sink_place s old now e xs h)) tally refl
+    let before : (m : ℕ) → m < length zs → settled e.coder.setting (xs ++ take m zs) ≡ settled e.coder.setting xs =
+    λ m lt. ap (λ l. settled e.coder.setting (xs ++ l)) (take_less m n samples (omega (arith, lt, len))) ∙ p.ensures.before_last xs stands m (omega (arith, lt, len)) in
+    taken_on s old now e _ xs zs h p.ensures.setting (p.ensures.stands xs stands) (p.ensures.code xs stands (sink_place s old now e xs h)) tally (ap (λ m. e.samples + m) (sym len)) before
