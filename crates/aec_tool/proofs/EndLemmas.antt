@@ -132,7 +132,7 @@ finish_ends s left_old left mid taken_old taken new e given waiting buffer r f r
     by_fault None took = (
       record { given = runs.bytes; left = left; written = output s xs },
       record { gave = all; left = refl; took = took },
-      (xs, (spells, end, record { written = refl; samples = closes.samples; bits = closes.bits })),
+      (xs, (spells, end, omega (arith, runs.count, runs.limit), record { written = refl; samples = closes.samples; bits = closes.bits })),
     )
     by_fault (Some Write) part = (
       record { given = runs.bytes; left = left; written = part.written },

@@ -1,16 +1,26 @@
 -- What was encoded comes back.
-use Rattle.std.proofs.Common.{◌≡◌, ℕ, Bool, List, [], ◌++◌, length, refl, ap, arith, sym, ◌∙◌, ◌⊎◌, inl, inr, subst, append_assoc, append-nil, Option, Some, None, ℤ, pos}
-use Rattle.std.specs.Prelude.{IsSome}
+use Rattle.std.proofs.Common.{◌≡◌, ℕ, ◌+◌, ◌*◌, ◌<◌, ◌≤◌, cond, Bool, true, false, List, [], ◌∷◌, ◌++◌, length, length-append, replicate, refl, ap, arith, sym, ◌∙◌, ◌⊎◌, inl, inr, subst, append_assoc, append-nil, Option, Some, None, ℤ, pos}
+use Rattle.std.specs.Prelude.{All, IsSome}
+use Rattle.std.specs.Int.{div_ceil}
+use Rattle.std.proofs.Math.Nat.{mul_assoc, mul-le-mul_left, mul-le-mul_right}
+use Rattle.std.proofs.lemmas.Bool.{cases_lt}
+use Rattle.std.proofs.lemmas.Bool.Decides.{nat_tests}
+use Rattle.std.proofs.lemmas.Grind.{div_ceil_times}
+use Rattle.std.proofs.lemmas.List.{length-replicate}
 use Rattle.std.specs.Io.KnownBytes.{Consumes, IsAtEnd}
-use Rattle.rice_bits.specs.Bits.{bits_of}
-use Rattle.rice_bits.proofs.Bytes.{bits_of-append}
-use Rattle.rice_samples.specs.Parameters.{Parameters, IsLegal}
+use Rattle.rice_bits.specs.Bits.{bits_of, bits_to_byte}
+use Rattle.rice_bits.proofs.Bytes.{bits_of-append, bits_of-padded, length-bits_of}
+use Rattle.rice_samples.specs.Parameters.{Parameters, IsLegal, IsSample, id_len, width}
+use Rattle.rice_samples.specs.Places.{block_count, interval_count}
 use Rattle.rice_samples.specs.Spelling.{spellings}
 use Rattle.rice_samples.proofs.Levels.{zero_is_sample}
-use Rattle.rice_code.specs.Code.{output}
+use Rattle.rice_code.specs.Code.{code, output}
 use Rattle.rice_code.specs.Decoded.{Decoded, Ending, EndsWith, Reached, Ended, CutOff, Past, Large}
 use Rattle.rice_code.proofs.Determined.{decoded_is_one}
+use Rattle.rice_code.proofs.Padded.{padding_is_bounded}
 use Rattle.rice_code.proofs.Returned as returned
+use Rattle.rice_code.proofs.SoundBlocks.{code_is_bounded}
+use Rattle.aec_tool.proofs.SpelledLemmas.{length-spellings}
 use Rattle.aec_tool.specs.Calls.{Call}
 use Rattle.aec_tool.specs.Encoding.{Encodes}
 use Rattle.aec_tool.specs.Decoding.{Decodings, Decodes, EndsSo}
@@ -64,6 +74,58 @@ from_front s legal xs ys front left ending used all split early d whole =
     let one = decoded_is_one s legal 0 0 (pos 0) (zero_is_sample s legal.bits_from) (bits_of (output s xs)) (Some (length xs)) ys xs ending Reached used all there whole in
     (one.0, one.1)
 
+-- no output is longer than a decoder takes
+few_pads : (s : Parameters) (b : ℕ) → 1 ≤ s.interval → div_ceil b s.interval ≤ b
+few_pads s b some = at b (div_ceil b s.interval) s.interval some (div_ceil_times b s.interval some).1
+  where
+    at : (b c r : ℕ) → 1 ≤ r → c * r < b + r → c ≤ b
+    at b c r some few = elim (cases_lt b c) [
+      | inl lt ↦ absurd (let p : (b + 1) * r ≤ c * r = mul-le-mul_right r (omega arith) in let q : b * 1 ≤ b * r = mul-le-mul_left b some in omega arith)
+      | inr le ↦ le
+    ]
+
+code_short : (s : Parameters) → IsLegal s → (xs : List ℤ) → All (IsSample s) xs → length (code s xs) ≤ block_count s (length xs) * (id_len s + s.block * s.bits) + 7 * block_count s (length xs)
+code_short s legal xs k =
+    let bits = padding_is_bounded s legal xs k in
+    let count = code_is_bounded s legal 0 (pos 0) xs (zero_is_sample s legal.bits_from) k in
+    let pads = by_pad s.pad (interval_count s (length xs)) (block_count s (length xs)) (few_pads s (block_count s (length xs)) legal.interval_from) in
+    omega (arith, bits, count, pads)
+  where
+    by_pad : (pad : Bool) (c b : ℕ) → c ≤ b → cond pad (7 * c) 0 ≤ 7 * b
+    by_pad true c b h = omega arith
+    by_pad false c b h = omega arith
+
+output_bits : (s : Parameters) (xs : List ℤ) → 8 * length (output s xs) ≤ length (code s xs) + 7
+output_bits s xs =
+    let bits = code s xs in
+    let n = bits_to_byte (length bits) in
+    omega (arith, length-bits_of (output s xs), ap length (bits_of-padded bits), length-append bits (replicate n false), length-replicate n false)
+
+output_short : (s : Parameters) → IsLegal s → (xs : List ℤ) → All (IsSample s) xs → width s * length xs ≤ 281474976710656 → length (output s xs) ≤ 562949953421312
+output_short s legal xs k limit =
+    let j : 8 ≤ s.block = grind (arith, legal.block) in
+    let most : s.block ≤ 64 = grind (arith, legal.block) in
+    let i : id_len s ≤ 5 = grind (arith, nat_tests) in
+    let some : 1 ≤ width s = grind (arith, nat_tests) in
+    let few : width s ≤ 4 = grind (arith, nat_tests) in
+    let holds : s.bits ≤ 8 * width s = grind (arith, nat_tests, legal.bits_to) in
+    at s.block (length xs) (block_count s (length xs)) (id_len s) s.bits (width s) (length (code s xs)) (length (output s xs)) j most i some few holds limit (div_ceil_times (length xs) s.block (omega arith)).1 (code_short s legal xs k) (output_bits s xs)
+  where
+    sums : (b id x z w m bits bytes : ℕ) → b * id ≤ 5 * b → b * x ≤ 8 * z → z ≤ w * m + 256 → 8 * b ≤ m + 64 → m ≤ w * m → w * m ≤ 281474976710656 → bits ≤ b * (id + x) + 7 * b → 8 * bytes ≤ bits + 7 → bytes ≤ 562949953421312
+    sums b id x z w m bits bytes h f g few some limit most whole = omega arith
+
+    at : (j m b id n w bits bytes : ℕ) → 8 ≤ j → j ≤ 64 → id ≤ 5 → 1 ≤ w → w ≤ 4 → n ≤ 8 * w → w * m ≤ 281474976710656 → b * j < m + j → bits ≤ b * (id + j * n) + 7 * b → 8 * bytes ≤ bits + 7 → bytes ≤ 562949953421312
+    at j m b id n w bits bytes lo hi h some four holds limit few most whole =
+        let first : b * id ≤ b * 5 = mul-le-mul_left b h in
+        let each : b * j * n ≤ b * j * (8 * w) = mul-le-mul_left (b * j) holds in
+        let same : b * (j * n) ≡ b * j * n = sym (mul_assoc b j n) in
+        let eight : b * j * (8 * w) ≡ 8 * (b * j * w) = omega arith in
+        let z : b * j * w ≤ (m + j) * w = mul-le-mul_right w (omega arith) in
+        let all : (m + j) * w ≤ w * m + 256 = (let p : j * w ≤ 64 * w = mul-le-mul_right w hi in omega arith) in
+        let blocks : b * 8 ≤ b * j = mul-le-mul_left b lo in
+        let more : m * 1 ≤ m * w = mul-le-mul_left m some in
+        sums b id (j * n) (b * j * w) w m bits bytes (omega arith) (omega (arith, same, each, eight)) (omega (arith, z, all)) (omega (arith, blocks, few, hi)) (omega arith) limit most whole
+
 pub returns_bytes : ReturnsBytes
 returns_bytes s legal enc dec encoded decoded fault encodes consumed decodes = by_fault fault dec.left refl decodes.ends
   where
@@ -71,10 +133,10 @@ returns_bytes s legal enc dec encoded decoded fault encodes consumed decodes = b
     xs = encodes.0
 
     n : encoded.samples ≡ length xs
-    n = encodes.1.2.samples
+    n = encodes.1.3.samples
 
     written : enc.written ≡ output s xs
-    written = encodes.1.2.written
+    written = encodes.1.3.written
 
     ys : List ℤ
     ys = decodes.samples
@@ -87,7 +149,7 @@ returns_bytes s legal enc dec encoded decoded fault encodes consumed decodes = b
     split (Some rest) e = (rest, sym written ∙ subst (λ (l : Option (List ℕ)). Consumes (Some enc.written) l dec.given) e consumed)
 
     Ends : Option Fault → Type 0
-    Ends fault = ((fault ≡ None) × (dec.written ≡ enc.given)) ⊎ ((fault ≡ Some Read) ⊎ ((fault ≡ Some Write) ⊎ (fault ≡ Some TooLong)))
+    Ends fault = ((fault ≡ None) × (dec.written ≡ enc.given)) ⊎ ((fault ≡ Some Read) ⊎ (fault ≡ Some Write))
 
     all : (used : ℕ) × Decoded s (bits_of (output s xs)) (Some (length xs)) xs Reached used
     all = returned.returns_samples s legal xs encodes.1.0.legal
@@ -112,8 +174,14 @@ returns_bytes s legal enc dec encoded decoded fault encodes consumed decodes = b
     by_fault None left e (d, inl reached) = inl (refl, d.2.written ∙ ap (spellings s) (at_front left e d (inl reached)).0 ∙ sym bytes)
     by_fault None left e (d, inr (ended, none, end)) = absurd cc
     by_fault (Some Read) left e h = inr (inl refl)
-    by_fault (Some Write) left e h = inr (inr (inl refl))
-    by_fault (Some TooLong) left e h = inr (inr (inr refl))
+    by_fault (Some Write) left e h = inr (inr refl)
+    by_fault (Some TooLong) left e h =
+        let passes = h.0.1 in
+        let given = ap length passes.split ∙ length-append h.0.0 (passes.last ∷ []) in
+        let parts = split left e in
+        let all = ap length parts.1 ∙ length-append dec.given parts.0 in
+        let spelled = ap length bytes ∙ length-spellings s xs in
+        absurd (let short = output_short s legal xs encodes.1.0.legal (omega (arith, spelled, encodes.1.2)) in omega (arith, given, passes.full, all, short))
     by_fault (Some (CodeEnds samples)) left e (d, ends, end, count) = absurd (not_at_end left e end d ends)
     by_fault (Some (RunPastSegment block)) left e (d, past, count) = absurd (let reached = (at_front left e d (inr (inl past))).1 in cc)
     by_fault (Some (ResidualTooLarge block)) left e (d, large, count) = absurd (let reached = (at_front left e d (inr (inr large))).1 in cc)

@@ -44,7 +44,7 @@ module _ (s : Parameters) where
 
   -- The outcome for the samples xs. Without a fault these are all that were given, and their code is written.
   abbrev pub EndsSo : Option Fault → Call → Report → List ℤ → Type 0
-  EndsSo None c r xs = Spells s c.given xs AtEnd × IsAtEnd c.left × LeavesAll c r xs
+  EndsSo None c r xs = Spells s c.given xs AtEnd × IsAtEnd c.left × (length c.given ≤ 2 ^ 48) × LeavesAll c r xs
   EndsSo (Some (SampleOutOfRange index)) c r xs = Spells s c.given xs NoSpelling × (index ≡ length xs) × LeavesEarly c r xs
   EndsSo (Some (SampleCut index)) c r xs = Spells s c.given xs TooFew × IsAtEnd c.left × (index ≡ length xs) × LeavesEarly c r xs
   EndsSo (Some Read) c r xs = ((stop : Stop) × Spells s c.given xs stop × (stop ≢ NoSpelling)) × LeavesEarly c r xs

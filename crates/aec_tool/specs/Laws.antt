@@ -7,11 +7,11 @@ use Rattle.aec_tool.specs.Encoding.{Encodes}
 use Rattle.aec_tool.specs.Decoding.{Decodings}
 use Rattle.aec_tool.specs.declared.outcome.Report.{Report}
 use Rattle.aec_tool.specs.declared.outcome.Fault.{Fault}
-use Rattle.aec_tool.specs.declared.outcome.Fault.TheVariants.{Read, Write, TooLong}
+use Rattle.aec_tool.specs.declared.outcome.Fault.TheVariants.{Read, Write}
 
 -- A call that decodes is given what a call that encoded without a fault has written, and the number of its samples.
--- Then it writes the bytes that were encoded, unless a device fails or the code is longer than a decoder takes.
+-- Then it writes the bytes that were encoded, unless a device fails.
 abbrev pub ReturnsBytes : Type 0
 ReturnsBytes = (s : Parameters) → IsLegal s → (encoding decoding : Call) (encoded decoded : Report) (fault : Option Fault) →
     Encodes s encoding encoded None → Consumes (Some encoding.written) decoding.left decoding.given → Decodings s (Some encoded.samples) decoding decoded fault →
-    ((fault ≡ None) × (decoding.written ≡ encoding.given)) ⊎ ((fault ≡ Some Read) ⊎ ((fault ≡ Some Write) ⊎ (fault ≡ Some TooLong)))
+    ((fault ≡ None) × (decoding.written ≡ encoding.given)) ⊎ ((fault ≡ Some Read) ⊎ (fault ≡ Some Write))

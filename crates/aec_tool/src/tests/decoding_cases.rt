@@ -3,9 +3,12 @@ use crate::decoding::decode;
 use crate::outcome::Fault;
 use crate::tests::options::{Bytes, DEFAULT, Options};
 use rice_bits::{MemoryIn, MemoryOut, ZeroIn};
+use std::alloc::Global;
+use std::process::Abort;
 use std::test::Fail;
 
 /// A code, how many samples are asked for, what is written, and how it ends.
+#[derive(Clone, Copy)]
 struct Case<'a>(Options, Bytes<'a>, Option<u64>, Bytes<'a>, Option<Fault>);
 
 /// A clean end.
@@ -22,11 +25,11 @@ fn cut(samples: u64) -> Option<Fault> {
 }
 
 /// Whether each is decoded so, in pieces of any size.
-fn holds(rt: &HostRuntime, cases: &[Case<'_>]) -> Result<(), Fail> {
+fn holds(rt: &impl Abort, alloc: Global, cases: &[Case<'_>]) -> Result<(), Fail> {
     for Case(options, code, asked, written, fault) in cases {
         let setting = options.setting()?;
-        let code = code.list(rt.alloc())?;
-        let written = written.list(rt.alloc())?;
+        let code = code.list(alloc)?;
+        let written = written.list(alloc)?;
         for piece in [1, 7, 4096] {
             let mut room = [0u8; 4200];
             let mut outlet = MemoryOut::new(&mut room, piece, None);
@@ -44,22 +47,100 @@ fn holds(rt: &HostRuntime, cases: &[Case<'_>]) -> Result<(), Fail> {
 fn any_coder_is_decoded(rt: HostRuntime) -> Result<(), Fail> {
     let cases = [
         Case(DEFAULT, NOTHING, None, NOTHING, CLEAN),
-        Case(DEFAULT, Bytes(&[0x00, 0x58], 1, b""), None, Bytes(&[5], 8, b""), CLEAN),
-        Case(DEFAULT, Bytes(&[0x00, 0x58], 1, b""), Some(1), Bytes(&[5], 1, b""), CLEAN),
-        Case(DEFAULT, Bytes(&[0x00, 0x58, 0, 0], 1, b""), None, Bytes(&[5], 8, b""), CLEAN),
+        Case(
+            DEFAULT,
+            Bytes(&[0x00, 0x58], 1, b""),
+            None,
+            Bytes(&[5], 8, b""),
+            CLEAN,
+        ),
+        Case(
+            DEFAULT,
+            Bytes(&[0x00, 0x58], 1, b""),
+            Some(1),
+            Bytes(&[5], 1, b""),
+            CLEAN,
+        ),
+        Case(
+            DEFAULT,
+            Bytes(&[0x00, 0x58, 0, 0], 1, b""),
+            None,
+            Bytes(&[5], 8, b""),
+            CLEAN,
+        ),
         Case(DEFAULT, Bytes(&[0xFF], 2, b""), Some(0), NOTHING, CLEAN),
-        Case(DEFAULT, Bytes(b"", 0, &[0x40, 0x15, 0x55, 0x80]), None, Bytes(b"", 0, &[0, 1, 2, 3, 4, 5, 6, 7]), CLEAN),
-        Case(DEFAULT, Bytes(&[0, 0, 0x80], 1, b""), None, Bytes(&[0], 16, b""), CLEAN),
-        Case(DEFAULT.interval(64), Bytes(&[0, 0, 0x80], 1, b""), None, Bytes(&[0], 512, b""), CLEAN),
-        Case(DEFAULT.interval(64), Bytes(&[0, 0, 0x80], 1, b""), Some(40), Bytes(&[0], 40, b""), CLEAN),
-        Case(DEFAULT.interval(5), Bytes(&[0, 0, 0x40], 1, b""), None, Bytes(&[0], 40, b""), CLEAN),
-        Case(DEFAULT.interval(64), Bytes(&[0], 9, &[0x10]), None, Bytes(&[0], 504, b""), CLEAN),
-        Case(DEFAULT.bits(1), Bytes(b"", 0, &[0xCF, 0xE1, 0, 0, 0, 0]), None, Bytes(b"", 0, &[0, 1, 1, 1, 1, 1, 1, 1]), CLEAN),
-        Case(DEFAULT.bare().block(64).interval(64), Bytes(&[0x00, 0x80], 1, b""), None, Bytes(&[0], 4096, b""), CLEAN),
-        Case(DEFAULT.interval(1).padded(), Bytes(&[0x00, 0x58], 2, b""), None, Bytes(&[5], 16, b""), CLEAN),
-        Case(DEFAULT.interval(1).padded(), Bytes(&[0x00, 0x5F, 0x00, 0x58], 1, b""), None, Bytes(&[5], 16, b""), CLEAN),
+        Case(
+            DEFAULT,
+            Bytes(b"", 0, &[0x40, 0x15, 0x55, 0x80]),
+            None,
+            Bytes(b"", 0, &[0, 1, 2, 3, 4, 5, 6, 7]),
+            CLEAN,
+        ),
+        Case(
+            DEFAULT,
+            Bytes(&[0, 0, 0x80], 1, b""),
+            None,
+            Bytes(&[0], 16, b""),
+            CLEAN,
+        ),
+        Case(
+            DEFAULT.interval(64),
+            Bytes(&[0, 0, 0x80], 1, b""),
+            None,
+            Bytes(&[0], 512, b""),
+            CLEAN,
+        ),
+        Case(
+            DEFAULT.interval(64),
+            Bytes(&[0, 0, 0x80], 1, b""),
+            Some(40),
+            Bytes(&[0], 40, b""),
+            CLEAN,
+        ),
+        Case(
+            DEFAULT.interval(5),
+            Bytes(&[0, 0, 0x40], 1, b""),
+            None,
+            Bytes(&[0], 40, b""),
+            CLEAN,
+        ),
+        Case(
+            DEFAULT.interval(64),
+            Bytes(&[0], 9, &[0x10]),
+            None,
+            Bytes(&[0], 504, b""),
+            CLEAN,
+        ),
+        Case(
+            DEFAULT.bits(1),
+            Bytes(b"", 0, &[0xCF, 0xE1, 0, 0, 0, 0]),
+            None,
+            Bytes(b"", 0, &[0, 1, 1, 1, 1, 1, 1, 1]),
+            CLEAN,
+        ),
+        Case(
+            DEFAULT.bare().block(64).interval(64),
+            Bytes(&[0x00, 0x80], 1, b""),
+            None,
+            Bytes(&[0], 4096, b""),
+            CLEAN,
+        ),
+        Case(
+            DEFAULT.interval(1).padded(),
+            Bytes(&[0x00, 0x58], 2, b""),
+            None,
+            Bytes(&[5], 16, b""),
+            CLEAN,
+        ),
+        Case(
+            DEFAULT.interval(1).padded(),
+            Bytes(&[0x00, 0x5F, 0x00, 0x58], 1, b""),
+            None,
+            Bytes(&[5], 16, b""),
+            CLEAN,
+        ),
     ];
-    holds(&rt, &cases)
+    holds(&rt, rt.alloc(), &cases)
 }
 
 #[test]
@@ -67,17 +148,65 @@ fn what_is_no_code_is_refused(rt: HostRuntime) -> Result<(), Fail> {
     let cases = [
         Case(DEFAULT, Bytes(&[0x20, 0x09], 1, b""), None, NOTHING, cut(0)),
         Case(DEFAULT, NOTHING, Some(1), NOTHING, cut(0)),
-        Case(DEFAULT, Bytes(&[0x00, 0x58], 1, b""), Some(9), Bytes(&[5], 8, b""), cut(8)),
-        Case(DEFAULT.bare(), Bytes(&[0xFE, 0x1E], 1, b""), None, NOTHING, cut(0)),
-        Case(DEFAULT.interval(1), Bytes(&[0x00, 0x58], 2, b""), None, Bytes(&[5], 8, &[0, 0, 0, 0, 0, 0, 0, 0]), cut(16)),
+        Case(
+            DEFAULT,
+            Bytes(&[0x00, 0x58], 1, b""),
+            Some(9),
+            Bytes(&[5], 8, b""),
+            cut(8),
+        ),
+        Case(
+            DEFAULT.bare(),
+            Bytes(&[0xFE, 0x1E], 1, b""),
+            None,
+            NOTHING,
+            cut(0),
+        ),
+        Case(
+            DEFAULT.interval(1),
+            Bytes(&[0x00, 0x58], 2, b""),
+            None,
+            Bytes(&[5], 8, &[0, 0, 0, 0, 0, 0, 0, 0]),
+            cut(16),
+        ),
         Case(DEFAULT, Bytes(&[0x00, 0x02], 1, b""), None, NOTHING, PAST),
-        Case(DEFAULT, Bytes(&[0x00, 0x02], 1, b""), Some(8), NOTHING, PAST),
-        Case(DEFAULT.interval(64), Bytes(&[0], 9, &[0x08]), None, NOTHING, PAST),
-        Case(DEFAULT.bits(4), Bytes(b"", 0, &[0x20, 0x00, 0x01, 0xFC]), None, NOTHING, LARGE),
-        Case(DEFAULT, Bytes(b"", 0, &[0x10, 0x57, 0x80]), None, NOTHING, LARGE),
-        Case(DEFAULT.bits(1), Bytes(b"", 0, &[0xCF, 0xE2, 0, 0, 0, 0]), None, NOTHING, LARGE),
+        Case(
+            DEFAULT,
+            Bytes(&[0x00, 0x02], 1, b""),
+            Some(8),
+            NOTHING,
+            PAST,
+        ),
+        Case(
+            DEFAULT.interval(64),
+            Bytes(&[0], 9, &[0x08]),
+            None,
+            NOTHING,
+            PAST,
+        ),
+        Case(
+            DEFAULT.bits(4),
+            Bytes(b"", 0, &[0x20, 0x00, 0x01, 0xFC]),
+            None,
+            NOTHING,
+            LARGE,
+        ),
+        Case(
+            DEFAULT,
+            Bytes(b"", 0, &[0x10, 0x57, 0x80]),
+            None,
+            NOTHING,
+            LARGE,
+        ),
+        Case(
+            DEFAULT.bits(1),
+            Bytes(b"", 0, &[0xCF, 0xE2, 0, 0, 0, 0]),
+            None,
+            NOTHING,
+            LARGE,
+        ),
     ];
-    holds(&rt, &cases)
+    holds(&rt, rt.alloc(), &cases)
 }
 
 #[test]
@@ -94,7 +223,14 @@ fn bits_and_steps_are_reported(rt: HostRuntime) -> Result<(), Fail> {
         (DEFAULT.bare(), &[0x1E, 0x40], Some(8), 10, 19, 23),
         (run, &[0x00, 0x80], None, 16, 4112, 4128),
         (run, &[0x00, 0x80], Some(10), 9, 19, 28),
-        (DEFAULT.interval(1).padded(), &[0x00, 0x5F, 0x00, 0x58], Some(8), 16, 24, 40),
+        (
+            DEFAULT.interval(1).padded(),
+            &[0x00, 0x5F, 0x00, 0x58],
+            Some(8),
+            16,
+            24,
+            40,
+        ),
     ];
     for (options, code, asked, bits, least, most) in cases {
         let mut room = [0u8; 4200];
@@ -140,7 +276,10 @@ fn a_code_that_is_cut_between_data_sets_is_whole(rt: HostRuntime) -> Result<(), 
         let intake = MemoryIn::new(&code[..count], 1, None);
         let (outcome, _) = decode(&DEFAULT.interval(1).setting()?, None, intake, &mut outlet);
         assert_eq!(&rt; outcome.fault, fault);
-        assert_eq!(&rt; (outcome.report.samples, outcome.report.bits), (samples, bits));
+        assert_eq!(&rt;
+            (outcome.report.samples, outcome.report.bits),
+            (samples, bits)
+        );
         assert_eq!(&rt; outlet.written(), &[5u8; 16][..samples as usize]);
     }
     Ok(())
@@ -151,7 +290,12 @@ fn zeros_are_a_clean_end(rt: HostRuntime) -> Result<(), Fail> {
     for (asked, fault) in [(None, CLEAN), (Some(1), cut(0))] {
         let mut room = [0u8; 8];
         let mut outlet = MemoryOut::new(&mut room, 8, None);
-        let (outcome, _) = decode(&DEFAULT.setting()?, asked, ZeroIn::new(1 << 20), &mut outlet);
+        let (outcome, _) = decode(
+            &DEFAULT.setting()?,
+            asked,
+            ZeroIn::new(1 << 20),
+            &mut outlet,
+        );
         assert_eq!(&rt; outcome.fault, fault);
         assert_eq!(&rt; (outcome.report.samples, outcome.report.bits), (0, 1 << 23));
         assert!(&rt; outcome.report.steps >= 1 << 23 && outcome.report.steps <= 1 << 24);
@@ -184,8 +328,12 @@ fn any_bytes_stay_in_their_bounds(rt: HostRuntime) -> Result<(), Fail> {
                     let report = outcome.report;
                     let most = asked.unwrap_or(u64::MAX);
                     assert!(&rt; report.bits <= 512 && report.samples <= most);
-                    assert!(&rt; report.steps <= 2 * report.bits.min(512) + report.samples.min(65536));
-                    assert!(&rt; outcome.fault != Some(Fault::Write) && outcome.fault != Some(Fault::Read));
+                    assert!(&rt;
+                        report.steps <= 2 * report.bits.min(512) + report.samples.min(65536)
+                    );
+                    assert!(&rt;
+                        outcome.fault != Some(Fault::Write) && outcome.fault != Some(Fault::Read)
+                    );
                 }
             }
         }

@@ -7,7 +7,17 @@ use rice_bits::{MemoryIn, MemoryOut};
 use std::test::Fail;
 
 /// Samples to encode, where the intake and the outlet fail, what is written, and how it ends.
-struct Case<'a>(Options, Bytes<'a>, Option<usize>, Option<usize>, &'a [u8], Fault, u64, u64);
+#[derive(Clone, Copy)]
+struct Case<'a>(
+    Options,
+    Bytes<'a>,
+    Option<usize>,
+    Option<usize>,
+    &'a [u8],
+    Fault,
+    u64,
+    u64,
+);
 
 fn range(index: u64) -> Fault {
     Fault::SampleOutOfRange { index }
@@ -19,20 +29,83 @@ fn encoding_stops_at_a_fault(rt: HostRuntime) -> Result<(), Fail> {
     let mixed = Bytes(&[5], 8, &[0x10]);
     let single = DEFAULT.interval(1);
     let cases = [
-        Case(DEFAULT.bits(4), Bytes(&[0x10], 1, b""), None, None, b"", range(0), 0, 0),
-        Case(DEFAULT.bits(10), Bytes(b"", 0, &[5, 0, 5]), None, None, b"", Fault::SampleCut { index: 1 }, 1, 0),
-        Case(DEFAULT.bits(10), Bytes(b"", 0, &[5, 0, 0, 4, 5]), None, None, b"", range(1), 1, 0),
+        Case(
+            DEFAULT.bits(4),
+            Bytes(&[0x10], 1, b""),
+            None,
+            None,
+            b"",
+            range(0),
+            0,
+            0,
+        ),
+        Case(
+            DEFAULT.bits(10),
+            Bytes(b"", 0, &[5, 0, 5]),
+            None,
+            None,
+            b"",
+            Fault::SampleCut { index: 1 },
+            1,
+            0,
+        ),
+        Case(
+            DEFAULT.bits(10),
+            Bytes(b"", 0, &[5, 0, 0, 4, 5]),
+            None,
+            None,
+            b"",
+            range(1),
+            1,
+            0,
+        ),
         Case(single.bits(4), mixed, None, None, &[0x05], range(8), 8, 9),
-        Case(single.bits(4).padded(), mixed, None, None, &[0x05, 0x80], range(8), 8, 9),
+        Case(
+            single.bits(4).padded(),
+            mixed,
+            None,
+            None,
+            &[0x05, 0x80],
+            range(8),
+            8,
+            9,
+        ),
         Case(single, fives, Some(8), None, &[0x00], Fault::Read, 8, 13),
-        Case(single.padded(), fives, Some(8), None, &[0x00, 0x58], Fault::Read, 8, 13),
+        Case(
+            single.padded(),
+            fives,
+            Some(8),
+            None,
+            &[0x00, 0x58],
+            Fault::Read,
+            8,
+            13,
+        ),
         Case(single, fives, Some(0), None, b"", Fault::Read, 0, 0),
         Case(single, fives, Some(7), None, b"", Fault::Read, 7, 0),
         Case(single, fives, Some(15), None, &[0x00], Fault::Read, 15, 13),
-        Case(single, fives, Some(16), None, &[0x00, 0x58, 0x02], Fault::Read, 16, 26),
+        Case(
+            single,
+            fives,
+            Some(16),
+            None,
+            &[0x00, 0x58, 0x02],
+            Fault::Read,
+            16,
+            26,
+        ),
         Case(single, fives, None, Some(1), &[0x00], Fault::Write, 16, 26),
         Case(single, fives, None, Some(0), b"", Fault::Write, 8, 13),
-        Case(single.padded(), fives, None, Some(1), &[0x00], Fault::Write, 8, 13),
+        Case(
+            single.padded(),
+            fives,
+            None,
+            Some(1),
+            &[0x00],
+            Fault::Write,
+            8,
+            13,
+        ),
     ];
     for Case(options, samples, reads, writes, written, fault, count, bits) in cases {
         let input = samples.list(rt.alloc())?;
@@ -43,7 +116,10 @@ fn encoding_stops_at_a_fault(rt: HostRuntime) -> Result<(), Fail> {
             let outcome = encode(&options.setting()?, &mut intake, &mut outlet);
             assert_eq!(&rt; outcome.fault, Some(fault));
             assert_eq!(&rt; outlet.written(), written);
-            assert_eq!(&rt; (outcome.report.samples, outcome.report.bits), (count, bits));
+            assert_eq!(&rt;
+                (outcome.report.samples, outcome.report.bits),
+                (count, bits)
+            );
         }
     }
     Ok(())
@@ -78,7 +154,10 @@ fn decoding_stops_where_its_intake_fails(rt: HostRuntime) -> Result<(), Fail> {
         let intake = MemoryIn::new(&code, 1, Some(place));
         let (outcome, _) = decode(&setting, None, intake, &mut outlet);
         assert_eq!(&rt; outcome.fault, Some(Fault::Read));
-        assert_eq!(&rt; (outcome.report.samples, outcome.report.bits), (samples, bits));
+        assert_eq!(&rt;
+            (outcome.report.samples, outcome.report.bits),
+            (samples, bits)
+        );
         assert_eq!(&rt; outlet.written(), &[5u8; 16][..samples as usize]);
     }
     let mut room = [0u8; 16];
@@ -96,7 +175,7 @@ fn decoding_stops_where_its_outlet_fails(rt: HostRuntime) -> Result<(), Fail> {
     let intake = MemoryIn::new(&[0x00, 0x58], 8, None);
     let (outcome, _) = decode(&DEFAULT.setting()?, None, intake, &mut outlet);
     assert_eq!(&rt; outcome.fault, Some(Fault::Write));
-    assert_eq!(&rt; outlet.written(), &[5, 5, 5]);
+    assert_eq!(&rt; outlet.written(), [5, 5, 5].as_slice());
     assert_eq!(&rt; (outcome.report.samples, outcome.report.bits), (0, 13));
     Ok(())
 }

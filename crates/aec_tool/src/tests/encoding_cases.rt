@@ -4,9 +4,12 @@ use crate::encoding::encode;
 use crate::tests::options::{Bytes, DEFAULT, Options};
 use rice_bits::{MemoryIn, MemoryOut};
 use rice_samples::Setting;
+use std::alloc::Global;
+use std::process::Abort;
 use std::test::Fail;
 
 /// Samples, their code, and how many bits it has where that is told.
+#[derive(Clone, Copy)]
 struct Case<'a>(Options, Bytes<'a>, &'a [u8], Option<u64>);
 
 const COUNTED: [u8; 8] = [0xF0, 0xF1, 0xF2, 0xF3, 0xF4, 0xF5, 0xF6, 0xF7];
@@ -18,10 +21,10 @@ const ONE_CODE: [u8; 9] = [0xFE, 0x1E, 0x1E, 0x1E, 0x1E, 0x1E, 0x1E, 0x1E, 0x00]
 const LARGEST_CODE: [u8; 9] = [0xE0, 0x1F, 0xFF, 0xFF, 0xFF, 0xFF, 0xFF, 0xFF, 0xE0];
 
 /// Whether each encodes to its code and comes back with its count, in pieces of any size.
-fn holds(rt: &HostRuntime, cases: &[Case<'_>]) -> Result<(), Fail> {
+fn holds(rt: &impl Abort, alloc: Global, cases: &[Case<'_>]) -> Result<(), Fail> {
     for Case(options, samples, code, bits) in cases {
         let setting = options.setting()?;
-        let input = samples.list(rt.alloc())?;
+        let input = samples.list(alloc)?;
         for piece in [1, 7, 4096] {
             let count = encodes(rt, &setting, input.as_slice(), code, *bits, piece)?;
             let mut back = [0u8; 1024];
@@ -38,7 +41,7 @@ fn holds(rt: &HostRuntime, cases: &[Case<'_>]) -> Result<(), Fail> {
 
 /// Whether samples encode to a code; answers how many they are.
 fn encodes(
-    rt: &HostRuntime,
+    rt: &impl Abort,
     setting: &Setting,
     input: &[u8],
     code: &[u8],
@@ -53,7 +56,10 @@ fn encodes(
     let outcome = encode(setting, &mut intake, &mut outlet);
     assert_eq!(rt; outcome.fault, None);
     assert_eq!(rt; outlet.written(), code);
-    assert_eq!(rt; outcome.report.samples, input.len() as u64 / setting.width() as u64);
+    assert_eq!(rt;
+        outcome.report.samples,
+        input.len() as u64 / setting.width() as u64
+    );
     if let Some(bits) = bits {
         assert_eq!(rt; outcome.report.bits, bits);
     }
@@ -66,17 +72,47 @@ fn samples_encode_by_one_option(rt: HostRuntime) -> Result<(), Fail> {
         Case(DEFAULT, Bytes(b"", 0, b""), b"", Some(0)),
         Case(DEFAULT.bare(), Bytes(b"", 0, b""), b"", Some(0)),
         Case(DEFAULT, Bytes(&[5], 1, b""), &[0x00, 0x58], None),
-        Case(DEFAULT, Bytes(b"", 0, &[0, 1, 2, 3, 4, 5, 6, 7]), &[0x20, 0x09, 0x24, 0x92], Some(31)),
+        Case(
+            DEFAULT,
+            Bytes(b"", 0, &[0, 1, 2, 3, 4, 5, 6, 7]),
+            &[0x20, 0x09, 0x24, 0x92],
+            Some(31),
+        ),
         Case(DEFAULT, Bytes(&[0, 0xFF], 4, b""), &LARGEST_CODE, Some(67)),
-        Case(DEFAULT, Bytes(&[5], 15, &[4]), &[0x00, 0x58, 0xF2], Some(23)),
-        Case(DEFAULT, Bytes(&[5], 10, &[5, 4, 4, 3, 3, 2]), &[0x00, 0x58, 0xC9, 0x20], Some(27)),
+        Case(
+            DEFAULT,
+            Bytes(&[5], 15, &[4]),
+            &[0x00, 0x58, 0xF2],
+            Some(23),
+        ),
+        Case(
+            DEFAULT,
+            Bytes(&[5], 10, &[5, 4, 4, 3, 3, 2]),
+            &[0x00, 0x58, 0xC9, 0x20],
+            Some(27),
+        ),
         Case(DEFAULT.bare(), Bytes(&[0], 7, &[1]), &[0x1E, 0x40], None),
-        Case(DEFAULT.bare(), Bytes(b"", 0, &COUNTED), &COUNTED_CODE, Some(67)),
+        Case(
+            DEFAULT.bare(),
+            Bytes(b"", 0, &COUNTED),
+            &COUNTED_CODE,
+            Some(67),
+        ),
         Case(DEFAULT.bare(), Bytes(&[0xF0], 1, b""), &ONE_CODE, Some(67)),
-        Case(DEFAULT.bare(), Bytes(&[0], 3, &[1, 0, 1, 0, 1]), &[0x19, 0x24], Some(14)),
-        Case(DEFAULT.bits(1), Bytes(&[0, 1], 4, b""), &[0xEF, 0xE0], Some(11)),
+        Case(
+            DEFAULT.bare(),
+            Bytes(&[0], 3, &[1, 0, 1, 0, 1]),
+            &[0x19, 0x24],
+            Some(14),
+        ),
+        Case(
+            DEFAULT.bits(1),
+            Bytes(&[0, 1], 4, b""),
+            &[0xEF, 0xE0],
+            Some(11),
+        ),
     ];
-    holds(&rt, &cases)
+    holds(&rt, rt.alloc(), &cases)
 }
 
 #[test]
@@ -84,39 +120,149 @@ fn samples_encode_by_runs(rt: HostRuntime) -> Result<(), Fail> {
     let cases = [
         Case(DEFAULT, Bytes(&[5], 8, b""), &[0x00, 0x58], Some(13)),
         Case(DEFAULT, Bytes(&[5], 16, b""), &[0x00, 0x54], Some(14)),
-        Case(DEFAULT.interval(1), Bytes(&[5], 16, b""), &[0x00, 0x58, 0x02, 0xC0], Some(26)),
+        Case(
+            DEFAULT.interval(1),
+            Bytes(&[5], 16, b""),
+            &[0x00, 0x58, 0x02, 0xC0],
+            Some(26),
+        ),
         Case(DEFAULT.block(16), Bytes(&[5], 16, b""), &[0x00, 0x58], None),
-        Case(DEFAULT.interval(64), Bytes(&[0], 40, b""), &[0x00, 0x00, 0x80], None),
-        Case(DEFAULT.interval(64), Bytes(&[0], 33, b""), &[0x00, 0x00, 0x80], None),
-        Case(DEFAULT.interval(64), Bytes(&[0], 32, b""), &[0x00, 0x01], Some(16)),
-        Case(DEFAULT.interval(64), Bytes(&[0], 47, &[1]), &[0x00, 0x00, 0x47, 0x90], None),
-        Case(DEFAULT.interval(128), Bytes(&[0], 520, b""), &[0x00, 0x00, 0x84], None),
-        Case(DEFAULT.interval(64), Bytes(&[0], 504, &[1]), &[0, 0, 0, 0, 0, 0, 0, 0, 0, 0x11, 0x78], Some(85)),
-        Case(DEFAULT.interval(1).padded(), Bytes(&[5], 16, b""), &[0x00, 0x58, 0x00, 0x58], Some(26)),
-        Case(DEFAULT.padded(), Bytes(&[5], 17, b""), &[0x00, 0x54, 0x00, 0x58], Some(27)),
-        Case(DEFAULT.padded(), Bytes(&[5], 15, &[4]), &[0x00, 0x58, 0xF2], None),
+        Case(
+            DEFAULT.interval(64),
+            Bytes(&[0], 40, b""),
+            &[0x00, 0x00, 0x80],
+            None,
+        ),
+        Case(
+            DEFAULT.interval(64),
+            Bytes(&[0], 33, b""),
+            &[0x00, 0x00, 0x80],
+            None,
+        ),
+        Case(
+            DEFAULT.interval(64),
+            Bytes(&[0], 32, b""),
+            &[0x00, 0x01],
+            Some(16),
+        ),
+        Case(
+            DEFAULT.interval(64),
+            Bytes(&[0], 47, &[1]),
+            &[0x00, 0x00, 0x47, 0x90],
+            None,
+        ),
+        Case(
+            DEFAULT.interval(128),
+            Bytes(&[0], 520, b""),
+            &[0x00, 0x00, 0x84],
+            None,
+        ),
+        Case(
+            DEFAULT.interval(64),
+            Bytes(&[0], 504, &[1]),
+            &[0, 0, 0, 0, 0, 0, 0, 0, 0, 0x11, 0x78],
+            Some(85),
+        ),
+        Case(
+            DEFAULT.interval(1).padded(),
+            Bytes(&[5], 16, b""),
+            &[0x00, 0x58, 0x00, 0x58],
+            Some(26),
+        ),
+        Case(
+            DEFAULT.padded(),
+            Bytes(&[5], 17, b""),
+            &[0x00, 0x54, 0x00, 0x58],
+            Some(27),
+        ),
+        Case(
+            DEFAULT.padded(),
+            Bytes(&[5], 15, &[4]),
+            &[0x00, 0x58, 0xF2],
+            None,
+        ),
     ];
-    holds(&rt, &cases)
+    holds(&rt, rt.alloc(), &cases)
 }
 
 #[test]
 fn samples_of_any_shape_encode(rt: HostRuntime) -> Result<(), Fail> {
     let nines: [u8; 10] = [255, 255, 255, 255, 255, 255, 255, 255, 255, 0xF0];
     let cases = [
-        Case(DEFAULT.signed(), Bytes(b"", 0, &[0, 0xFF, 0xFE, 0xFD, 0xFC, 0xFB, 0xFA, 0xF9]), &[0x20, 0x0A, 0xAA, 0x80], Some(25)),
-        Case(DEFAULT.signed(), Bytes(&[0x80, 0x7F], 4, b""), &[0xF0, 0x1F, 0xFF, 0xFF, 0xFF, 0xFF, 0xFF, 0xFF, 0xE0], Some(67)),
-        Case(DEFAULT.bits(4).signed(), Bytes(&[0xF8], 8, b""), &[0x08, 0x80], None),
-        Case(DEFAULT.bits(4).signed().bare(), Bytes(&[0xFF], 1, b""), &[0xFF, 0xFF, 0xFF, 0xFF, 0xE0], None),
-        Case(DEFAULT.bits(9).msb().bare(), Bytes(&[1, 255], 8, b""), &nines, Some(76)),
-        Case(DEFAULT.bits(9).bare(), Bytes(&[255, 1], 8, b""), &nines, Some(76)),
-        Case(DEFAULT.bits(16).msb(), Bytes(&[0, 5], 8, b""), &[0x00, 0x00, 0x2C], None),
-        Case(DEFAULT.bits(24).three().msb(), Bytes(&[0, 0, 5], 8, b""), &[0x00, 0x00, 0x00, 0x16], None),
-        Case(DEFAULT.bits(24).three(), Bytes(&[5, 0, 0], 8, b""), &[0x00, 0x00, 0x00, 0x16], None),
-        Case(DEFAULT.bits(24).msb(), Bytes(&[0, 0, 0, 5], 8, b""), &[0x00, 0x00, 0x00, 0x16], None),
-        Case(DEFAULT.bits(32), Bytes(&[5, 0, 0, 0], 8, b""), &[0x00, 0x00, 0x00, 0x00, 0x16], None),
-        Case(DEFAULT.bits(32).block(64).bare(), Bytes(&[0], 252, &[1, 0, 0, 0]), &[0x07, 0xFF, 0xFF, 0xFF, 0xF9], Some(40)),
+        Case(
+            DEFAULT.signed(),
+            Bytes(b"", 0, &[0, 0xFF, 0xFE, 0xFD, 0xFC, 0xFB, 0xFA, 0xF9]),
+            &[0x20, 0x0A, 0xAA, 0x80],
+            Some(25),
+        ),
+        Case(
+            DEFAULT.signed(),
+            Bytes(&[0x80, 0x7F], 4, b""),
+            &[0xF0, 0x1F, 0xFF, 0xFF, 0xFF, 0xFF, 0xFF, 0xFF, 0xE0],
+            Some(67),
+        ),
+        Case(
+            DEFAULT.bits(4).signed(),
+            Bytes(&[0xF8], 8, b""),
+            &[0x08, 0x80],
+            None,
+        ),
+        Case(
+            DEFAULT.bits(4).signed().bare(),
+            Bytes(&[0xFF], 1, b""),
+            &[0xFF, 0xFF, 0xFF, 0xFF, 0xE0],
+            None,
+        ),
+        Case(
+            DEFAULT.bits(9).msb().bare(),
+            Bytes(&[1, 255], 8, b""),
+            &nines,
+            Some(76),
+        ),
+        Case(
+            DEFAULT.bits(9).bare(),
+            Bytes(&[255, 1], 8, b""),
+            &nines,
+            Some(76),
+        ),
+        Case(
+            DEFAULT.bits(16).msb(),
+            Bytes(&[0, 5], 8, b""),
+            &[0x00, 0x00, 0x2C],
+            None,
+        ),
+        Case(
+            DEFAULT.bits(24).three().msb(),
+            Bytes(&[0, 0, 5], 8, b""),
+            &[0x00, 0x00, 0x00, 0x16],
+            None,
+        ),
+        Case(
+            DEFAULT.bits(24).three(),
+            Bytes(&[5, 0, 0], 8, b""),
+            &[0x00, 0x00, 0x00, 0x16],
+            None,
+        ),
+        Case(
+            DEFAULT.bits(24).msb(),
+            Bytes(&[0, 0, 0, 5], 8, b""),
+            &[0x00, 0x00, 0x00, 0x16],
+            None,
+        ),
+        Case(
+            DEFAULT.bits(32),
+            Bytes(&[5, 0, 0, 0], 8, b""),
+            &[0x00, 0x00, 0x00, 0x00, 0x16],
+            None,
+        ),
+        Case(
+            DEFAULT.bits(32).block(64).bare(),
+            Bytes(&[0], 252, &[1, 0, 0, 0]),
+            &[0x07, 0xFF, 0xFF, 0xFF, 0xF9],
+            Some(40),
+        ),
     ];
-    holds(&rt, &cases)
+    holds(&rt, rt.alloc(), &cases)
 }
 
 #[test]
