@@ -1,4 +1,6 @@
 //! Samples and their codes.
+ghost use Rattle.std.specs.Prelude.{◌<◌};
+
 use crate::decoding::decode;
 use crate::encoding::encode;
 use crate::tests::options::{Bytes, DEFAULT, Options};
