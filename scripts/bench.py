@@ -19,12 +19,26 @@ RUNS = 5
 COUNTED = 1 << 20  # bytes of samples that callgrind is given
 
 
+def zeros(size, width, generator):
+    return bytes(size)
+
+
 def noise(size, width, generator):
     return generator.randbytes(size)
 
 
+def image(size, width, generator):
+    """Smooth shades with a little noise, in lines of 1,024."""
+    samples = bytearray()
+    for i in range(size):
+        x, y = i % 1024, i // 1024
+        shade = 128 + 60 * math.sin(x / 37) + 40 * math.sin((x + 3 * y) / 91) + generator.gauss(0, 3)
+        samples.append(min(255, max(0, int(shade))))
+    return bytes(samples)
+
+
 def walk(size, width, generator):
-    """A random walk, which a predictor would follow."""
+    """A random walk, which a predictor follows."""
     top = (1 << (8 * width)) - 1
     value = top // 2
     samples = bytearray()
@@ -45,9 +59,13 @@ def waves(size, width, generator):
 
 
 ROWS = [
+    ("8-bit zeros", zeros, 1, ["-r", "128"]),
+    ("8-bit image", image, 1, []),
+    ("8-bit image", image, 1, ["-j", "16", "-r", "128"]),
+    ("16-bit walk", walk, 2, ["-n", "16", "-j", "16", "-r", "128"]),
+    ("32-bit waves", waves, 4, ["-n", "32", "-j", "32", "-r", "128"]),
+    ("32-bit noise", noise, 4, ["-n", "32", "-j", "32", "-r", "128"]),
     ("8-bit noise", noise, 1, ["-N"]),
-    ("16-bit walk", walk, 2, ["-N", "-n", "16"]),
-    ("32-bit waves", waves, 4, ["-N", "-n", "32"]),
 ]
 
 
@@ -99,7 +117,7 @@ def main():
                 with open(path(kind), "wb") as file:
                     file.write(make(count, width, random.Random(1)))
                 subprocess.run([OURS, *options, path(kind), path(kind + ".code")], check=True)
-            title = f"{name}, `{' '.join(options)}`"
+            title = f"{name}, `{' '.join(options)}`" if options else f"{name}, defaults"
             compare(title + ", encode", lambda program, kind: [program, *options, path(kind), path("out")], size, COUNTED, folder)
             decode = lambda program, kind: [program, "-d", *options, path(kind + ".code"), path("out")]
             compare(title + ", decode", decode, size, COUNTED, folder)

@@ -69,13 +69,14 @@ CODES = [
     (Setting(bits=4, block=16, flags="s"), 80),
     (Setting(bits=12, flags="N"), 30),
     (Setting(bits=16, block=16, interval=3, flags="ms"), 40),
+    (Setting(interval=1, flags="p"), 70),
     (Setting(bits=20, block=32, interval=1, flags="3"), 70),
     (Setting(bits=32, block=64, interval=4096), 20),
 ]
 
 
 def random_setting(generator):
-    flags = "".join(flag for flag in "3Nms" if generator.random() < 0.4)
+    flags = "".join(flag for flag in "3Nmps" if generator.random() < 0.4)
     interval = generator.choice([1, 2, 3, 63, 64, 65, 128, 4096, generator.randint(1, 4096)])
     return Setting(generator.randint(1, 32), generator.choice([8, 16, 32, 64]), interval, flags)
 

@@ -72,6 +72,9 @@ def exchange(setting):
         wrong.append("they do not decode our code")
     if code(OURS, ["-d", "--samples", str(count), *words], theirs)[0] != data:
         wrong.append("we do not decode their code")
+    padded = code(OURS, ["-p", *words], data)[0]
+    if code(THEIRS, ["-d", "-p", *words], padded)[0][: len(data)] != data:
+        wrong.append("they do not decode our code with padded intervals")
     return [f"interop: {text}: {' '.join(words)}" for text in wrong], ours == theirs
 
 
@@ -88,6 +91,8 @@ DIFFERENCES = [
     ("signed samples of 4 bits: they want them without their sign", "-n 4 -s", "08*8", "0880", "", "sample 0 is out of range"),
     ("and write them with it, as we do", "-d -n 4 -s", "0880", "f8*8", "f8*8", ""),
     ("without preprocessing they write them without it", "-d -N -n 4 -s", "f1 11*3 00", "08*8", "f8*8", ""),
+    ("they pad no interval with -p", "-p -r 1", "05*16", "005802c0", "00580058", ""),
+    ("and read intervals that are padded", "-d -p -r 1", "00580058", "05*16", "05*16", ""),
     ("no samples: they write a byte", "", "", "00", "", ""),
     ("a sample that is cut: they drop it", "-n 10", "050005", "000b", "", "input ends inside sample 1"),
     ("a sample with a high bit: they code it", "-n 4", "10", "1080", "", "sample 0 is out of range"),

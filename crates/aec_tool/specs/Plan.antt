@@ -70,7 +70,7 @@ setting_in f bits block interval =
       msb = is_flagged f (codes "m");
       three = is_flagged f (codes "3");
       preprocess = not (is_flagged f (codes "N"));
-      pad = false;
+      pad = is_flagged f (codes "p");
     })
 
 abbrev pub judged : Found → List ℕ → List ℕ → Result Parameters SettingFault → Result Wanted PlanFault

@@ -57,7 +57,8 @@ pub fn plan_of<'a>(matches: &ArgMatches<'a>) -> Result<Plan<'a>, PlanFault>
     let msb = is_used(matches, "m");
     let three = is_used(matches, "3");
     let preprocess = !is_used(matches, "N");
-    match Setting::new(bits, block, interval, signed, msb, three, preprocess, false) {
+    let pad = is_used(matches, "p");
+    match Setting::new(bits, block, interval, signed, msb, three, preprocess, pad) {
         Ok(setting) => Ok(Plan {
             setting,
             decode,

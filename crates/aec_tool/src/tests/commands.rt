@@ -6,6 +6,9 @@ use std::test::Fail;
 // Eight samples of 7 bits, all 0, coded without compression.
 const CODE: &[u8] = b"\xE0\0\0\0\0\0\0\0";
 
+// Sixteen samples of 8 bits, all 5.
+const SIXTEEN: &[u8] = b"\x05\x05\x05\x05\x05\x05\x05\x05\x05\x05\x05\x05\x05\x05\x05\x05";
+
 // What a start with these words wrote, and its status. Standard output and files have so much room each.
 fn told(rt: HostRuntime, words: &[&str], input: &[u8], room: usize) -> Result<(u8, Told), Fail> {
     let record = Record::new(rt.alloc(), room);
@@ -177,7 +180,7 @@ fn finds_options_in_all_places(rt: HostRuntime) -> Result<(), Fail> {
 #[test]
 fn tells_what_the_engine_says(rt: HostRuntime) -> Result<(), Fail> {
     // The words, the input, the room for output, the output, the errors, the status.
-    let cases: [(&[&str], &[u8], usize, &str, &str, u8); 8] = [
+    let cases: [(&[&str], &[u8], usize, &str, &str, u8); 13] = [
         (&["-N", "-n", "7", "-", "-"], b"", 100, "", "", 0),
         (
             &["-N", "-n", "7", "-d", "-", "-"],
@@ -219,6 +222,25 @@ fn tells_what_the_engine_says(rt: HostRuntime) -> Result<(), Fail> {
             "aec: input ends inside sample 1\n",
             1,
         ),
+        (&["-", "-"], &SIXTEEN[..8], 100, "\0X", "", 0),
+        (&["-", "-"], SIXTEEN, 100, "\0T", "", 0),
+        (&["-r", "1", "-p", "-", "-"], SIXTEEN, 100, "\0X\0X", "", 0),
+        (
+            &["-d", "-", "-"],
+            b"\0\x02",
+            100,
+            "",
+            "aec: run at block 0 passes its segment\n",
+            1,
+        ),
+        (
+            &["-d", "-n", "4", "-", "-"],
+            b"\x20\0\x01\xFC",
+            100,
+            "",
+            "aec: residual too large in block 0\n",
+            1,
+        ),
         // The flush fails.
         (
             &["-N", "-n", "7", "-d", "-", "-"],
@@ -251,7 +273,7 @@ fn tells_what_the_engine_says(rt: HostRuntime) -> Result<(), Fail> {
 fn reads_and_writes_files(rt: HostRuntime) -> Result<(), Fail> {
     let eight = "\0\0\0\0\0\0\0\0";
     // The two names, standard output, the file, the room, the errors, the status, the files made.
-    let cases: [(&str, &str, &str, &str, usize, &str, u8, usize); 5] = [
+    let cases: [(&str, &str, &str, &str, usize, &str, u8, usize); 6] = [
         ("in.bin", "out.bin", "", eight, 100, "", 0, 1),
         ("-", "out.bin", "", eight, 100, "", 0, 1),
         ("in.bin", "-", eight, "", 100, "", 0, 0),
@@ -265,6 +287,7 @@ fn reads_and_writes_files(rt: HostRuntime) -> Result<(), Fail> {
             1,
             1,
         ),
+        ("/", "out.bin", "", "", 100, "aec: read failed\n", 1, 1),
         (
             "other.bin",
             "out.bin",
@@ -299,4 +322,4 @@ fn shows_its_help(rt: HostRuntime) -> Result<(), Fail> {
 }
 
 const HELP: &str =
-    "Compresses samples without loss, by the adaptive Rice coder of CCSDS 121.0-B-3\n\nUsage: aec [OPTIONS] <SOURCE> <DEST>\n\nArguments:\n  <SOURCE>  File to read; - is standard input\n  <DEST>    File to write; - is standard output\n\nOptions:\n  -3                 Three bytes for each sample of 17 to 24 bits\n  -N                 No pre or post processing\n  -b <BYTES>         Size of a buffer, from 1 on; without effect\n  -d                 Decompress\n  -j <SAMPLES>       Block size: 8, 16, 32 or 64 [default: 8]\n  -m                 Most significant byte of a sample first\n  -n <BITS>          Bits per sample, 1 to 32 [default: 8]\n  -r <BLOCKS>        Reference interval, 1 to 4096 [default: 2]\n  -s                 Signed samples\n      --samples <N>  Stop after N samples; with -d only\n  -h, --help         Print help\n\nDecompress with the options that compressed. A code does not tell how many samples\nit has: without --samples, those that fill its last block or run are written too.\n\nExamples:\n  aec -n 16 -r 128 samples.bin code.aec\n  aec -d -n 16 -r 128 --samples 5000 code.aec samples.bin\n";
+    "Compresses samples without loss, by the adaptive Rice coder of CCSDS 121.0-B-3\n\nUsage: aec [OPTIONS] <SOURCE> <DEST>\n\nArguments:\n  <SOURCE>  File to read; - is standard input\n  <DEST>    File to write; - is standard output\n\nOptions:\n  -3                 Three bytes for each sample of 17 to 24 bits\n  -N                 No pre or post processing\n  -b <BYTES>         Size of a buffer, from 1 on; without effect\n  -d                 Decompress\n  -j <SAMPLES>       Block size: 8, 16, 32 or 64 [default: 8]\n  -m                 Most significant byte of a sample first\n  -n <BITS>          Bits per sample, 1 to 32 [default: 8]\n  -p                 Pad each interval to a byte\n  -r <BLOCKS>        Reference interval, 1 to 4096 [default: 2]\n  -s                 Signed samples\n      --samples <N>  Stop after N samples; with -d only\n  -h, --help         Print help\n\nDecompress with the options that compressed. A code does not tell how many samples\nit has: without --samples, those that fill its last block or run are written too.\n\nExamples:\n  aec -n 16 -r 128 samples.bin code.aec\n  aec -d -n 16 -r 128 --samples 5000 code.aec samples.bin\n";
