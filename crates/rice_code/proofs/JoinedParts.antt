@@ -81,6 +81,7 @@ pub join-more : (k : ℕ) (ms old now : List ℕ) (i : ℕ) → length old ≡ l
     → (get_or now i 0 + get_or ms i 0 * 2 ^ k % 2 ^ 32 < 2 ^ 32)
     × (take (i + 1) (set now i (get_or now i 0 + get_or ms i 0 * 2 ^ k % 2 ^ 32)) ≡ take (i + 1) (joined_parts k ms old))
     × (drop (i + 1) (set now i (get_or now i 0 + get_or ms i 0 * 2 ^ k % 2 ^ 32)) ≡ drop (i + 1) old)
+    × (get_or now i 0 + get_or ms i 0 * 2 ^ k % 2 ^ 32 ≡ get_or (joined_parts k ms old) i 0)
 join-more k ms old now i same long lt few highs lows done rest =
     let v = get_or now i 0 + get_or ms i 0 * 2 ^ k % 2 ^ 32 in
     let high : get_or ms i 0 ≤ (2 ^ 32 - 1) / 2 ^ k = highs i 0 lt in
@@ -93,6 +94,7 @@ join-more k ms old now i same long lt few highs lows done rest =
       omega (arith, here, whole, fits),
       take_more_set now i v (omega (arith, long, same, lt)) ∙ ((λ j. done j ++ value j ∷ []) ∙ sym (take_more (joined_parts k ms old) i 0 (omega (arith, n, lt)))),
       drop-set-lt (i + 1) now i v (omega arith) ∙ (drop_next now i ∙ (ap (λ zs. drop 1 zs) rest ∙ sym (drop_next old i))),
+      value,
     )
   where
     drop_next : (xs : List ℕ) (i : ℕ) → drop (i + 1) xs ≡ drop 1 (drop i xs)

@@ -208,15 +208,15 @@ pub split_joined : {I : Type 0} (left : I → Option (List ℕ)) (failed : I →
     → IsReference s b r → k ≤ k_max s → count + length (reference_place r) ≡ s.block → Takes left failed old mid (reference_text s r)
     → CountRow left failed mid next ((value_count s - 1) / 2 ^ k) small count told → small ≡ true → Row left failed (word k) (λ v. v < 2 ^ k) next new count [] lows → last + old.taken ≡ first + new.taken
     → items ≡ reference_place r ++ joined_parts k told lows
-    → (sound ≡ true → All (λ d. d < value_count s) items) → (sound ≡ false → All (λ d. d < value_count s) items → ⊥)
+    → (sound ≡ true → All (λ d. d < value_count s) (joined_parts k told lows)) → (sound ≡ false → All (λ d. d < value_count s) (joined_parts k told lows) → ⊥)
     → BlockRead left failed old new first last s b (Split k) (split_tail s k) r sound items
 split_joined left failed old mid next new first last s b k r count told lows items small sound h le n t high e low steps joined below above =
-    let is : items ≡ reference_place r ++ joined_parts k high.values lows = joined ∙ (λ i. reference_place r ++ joined_parts k ((high.told_are e).0 i) lows) in
+    let is : joined_parts k told lows ≡ joined_parts k high.values lows = ap (λ xs. joined_parts k xs lows) (high.told_are e).0 in
     split_read left failed old mid next new first last s b k r count (λ _. Unit {0}) high.values lows items sound h le n t
     (count_row left failed mid next _ small count told high) low steps
-    (λ f. all-suffix (λ d. d < value_count s) r (joined_parts k high.values lows) (subst (λ xs. All (λ d. d < value_count s) xs) is (below f)))
-    (λ f. is)
-    (λ f all. above f (subst (λ xs. All (λ d. d < value_count s) xs) (sym is) (all-placed (λ d. d < value_count s) r (joined_parts k high.values lows) (pow_pos s.bits) all)))
+    (λ f. subst (λ xs. All (λ d. d < value_count s) xs) is (below f))
+    (λ f. joined ∙ ap (λ xs. reference_place r ++ xs) is)
+    (λ f all. above f (subst (λ xs. All (λ d. d < value_count s) xs) (sym is) all))
 
 ones-high : (k : ℕ) (ds : List ℕ) → ones (flat_map (λ d. fundamental_sequence (d / 2 ^ k)) ds) ≡ length ds
 ones-high k [] = refl

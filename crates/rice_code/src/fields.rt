@@ -40,6 +40,7 @@ fn read_some_words<I: Intake>(
 }
 
 /// Reads so many words, and writes them to the front of `words`.
+#[inline]
 pub fn read_words<I: Intake>(
     reader: &mut BitReader<I>,
     meter: &mut Meter,

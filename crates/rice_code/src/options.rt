@@ -10,7 +10,7 @@ ghost use Rattle.rice_code.specs.Fields.{HasRoom, AreCounted};
 ghost use Rattle.rice_code.specs.ReadSets.{BlockRead, BlockCut, reference_place, coded_count};
 
 use crate::fields::{read_counts, read_pairs, read_words};
-use crate::residuals::{append, are_below, are_sound, join_all, values};
+use crate::residuals::{append, are_sound, join_all, values};
 use arrayvec::ArrayVec;
 use rice_bits::{BitFault, BitReader, Intake, Meter};
 use rice_samples::Setting;
@@ -200,9 +200,8 @@ pub fn read_split<I: Intake>(
             sound: false,
         });
     }
-    join_all(&highs[..count], k, &mut lows[..count]);
+    let sound = join_all(&highs[..count], k, values, &mut lows[..count]);
     begin_residuals(reference, residuals);
     append(&lows[..count], residuals);
-    let sound = are_below(residuals.as_slice(), values);
     Ok(BlockHead { reference, sound })
 }

@@ -15,17 +15,25 @@ pub fn values(setting: &Setting) -> u64
     1 << setting.bits()
 }
 
-/// Puts high parts before low parts of k bits.
-pub fn join_all(highs: &[u32], k: u32, lows: &mut [u32])
+/// Puts high parts before low parts of k bits, and says whether all residuals that they make are below `count`.
+pub fn join_all(highs: &[u32], k: u32, count: u64, lows: &mut [u32]) -> bool
     requires same { length lows.old ≡ length highs.now }
     requires k { k ≤ 29 }
+    requires count { (0 < count) × (count ≤ 2 ^ 32) }
     requires highs { All (λ h. h ≤ (2 ^ 32 - 1) / 2 ^ k) highs.now }
     requires lows { All (λ l. l < 2 ^ k) lows.old }
-    ensures { lows.new ≡ joined_parts k highs.now lows.old }
+    ensures joined { lows.new ≡ joined_parts k highs.now lows.old }
+    ensures below { result ≡ true → All (λ d. d < count) (joined_parts k highs.now lows.old) }
+    ensures not_below { result ≡ false → All (λ d. d < count) (joined_parts k highs.now lows.old) → ⊥ }
 {
+    let greatest = (count - 1) as u32;
+    let mut all = true;
     for i in 0..highs.len() {
-        lows[i] += highs[i] << k;
+        let residual = lows[i] + (highs[i] << k);
+        lows[i] = residual;
+        all = all & (residual <= greatest);
     }
+    all
 }
 
 /// Appends residuals.

@@ -36,12 +36,11 @@ returns-then-not-small-clause-ok g c =
 pub returns-clause-ok : goal.returns-clause-ok
 returns-clause-ok g c =
     split_joined g.I.Intake.left g.I.Intake.failed c.args.reader.now c.read_reference.new.reader c.read_counts.new.reader c.read_words.new.reader c.args.meter.now c.read_words.new.meter c.args.setting.now c.args.block c.args.k c.in-Ok.reference c.count_coded-count.result
-    (take c.count_coded-count.result c.read_counts.new.counts) (take c.count_coded-count.result c.read_words.new.words) c.append.new.residuals.items c.in-Ok-read_counts.small c.are_below-sound.result
+    (take c.count_coded-count.result c.read_counts.new.counts) (take c.count_coded-count.result c.read_words.new.words) c.append.new.residuals.items c.in-Ok-read_counts.small c.join_all-sound.result
     c.in-Ok.ensures.reference c.requires.k c.count_coded-count.ensures.sum c.in-Ok.ensures.ok (rw c.values-values.ensures.value at c.in-Ok-read_counts.ensures.ok) c.if-not-small.false
     c.in_default.ensures.ok (omega (arith, c.in-Ok.ensures.steps, c.in-Ok-read_counts.ensures.steps, c.in_default.ensures.steps))
     (let count = c.count_coded-count.result in
-    let len : length c.join_all.new.lows ≡ count = search rules in
-    let front = ap (λ n. take n (c.join_all.new.lows ++ drop count c.read_words.new.words)) (sym len) ∙ take-append_seam c.join_all.new.lows (drop count c.read_words.new.words) in
-    rw (c.begin_residuals.ensures, front, c.join_all.ensures) at c.append.ensures)
-    (rw (c.as_slice.ensures.value, c.values-values.ensures.value) at c.are_below-sound.ensures.below)
-    (rw (c.as_slice.ensures.value, c.values-values.ensures.value) at c.are_below-sound.ensures.not_below)
+    let len : length c.join_all-sound.new.lows ≡ count = search rules in
+    let front = ap (λ n. take n (c.join_all-sound.new.lows ++ drop count c.read_words.new.words)) (sym len) ∙ take-append_seam c.join_all-sound.new.lows (drop count c.read_words.new.words) in
+    rw (c.begin_residuals.ensures, front, c.join_all-sound.ensures.joined) at c.append.ensures)
+    (rw c.values-values.ensures.value at c.join_all-sound.ensures.below) (rw c.values-values.ensures.value at c.join_all-sound.ensures.not_below)

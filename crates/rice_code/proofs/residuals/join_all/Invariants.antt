@@ -1,4 +1,5 @@
-use Rattle.std.proofs.Common.{◌≡◌, take, drop}
+use Rattle.std.proofs.Common.{◌≡◌, ◌<◌, take, drop, true, false}
+use Rattle.std.specs.Prelude.{All}
 use Rattle.rice_code.specs.ReadSets.{joined_parts}
 use Rattle.rice_code.proofs.residuals.join_all.Given as goal
 
@@ -6,4 +7,6 @@ abbrev pub invariant-loop-i : goal.invariant-loop-i
 invariant-loop-i l = record {
   done : take l.i l.lows ≡ take l.i (joined_parts l.k l.highs l.fn.lows);
   rest : drop l.i l.lows ≡ drop l.i l.fn.lows;
+  below : l.all ≡ true → All (λ d. d < l.count) (take l.i (joined_parts l.k l.highs l.fn.lows));
+  not_below : l.all ≡ false → All (λ d. d < l.count) (joined_parts l.k l.highs l.fn.lows) → ⊥;
 }
