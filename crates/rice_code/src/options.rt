@@ -10,7 +10,7 @@ ghost use Rattle.rice_code.specs.Fields.{HasRoom, AreCounted};
 ghost use Rattle.rice_code.specs.ReadSets.{BlockRead, BlockCut, reference_place, coded_count};
 
 use crate::fields::{read_counts, read_pairs, read_words};
-use crate::residuals::{are_sound, join_all, values};
+use crate::residuals::{are_sound, join_all};
 use arrayvec::ArrayVec;
 use rice_bits::{BitFault, BitReader, Intake, Meter};
 use rice_samples::Setting;
@@ -153,7 +153,7 @@ pub fn read_second_extension<I: Intake>(
     let half = setting.block() as usize / 2;
     match read_pairs(reader, meter, half, residuals) {
         Ok(()) => {
-            let sound = are_sound(reference, residuals.as_slice(), values(setting));
+            let sound = are_sound(reference, residuals.as_slice(), setting.values());
             Ok(BlockHead { reference, sound })
         }
         Err(fault) => Err(fault),
@@ -195,7 +195,7 @@ pub fn read_split<I: Intake>(
         highs.as_slice(),
         lows.as_slice(),
         k,
-        values(setting),
+        setting.values(),
         residuals,
     );
     Ok(BlockHead { reference, sound })

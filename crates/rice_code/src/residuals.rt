@@ -1,20 +1,9 @@
 //! Residuals from their high and low parts, and whether they are sound.
 ghost use Rattle.std.specs.Prelude.{◌≡◌, ℕ, ◌+◌, ◌-◌, ◌*◌, ◌^◌, ◌<◌, ◌≤◌, nat_lt, true, false, List, ◌++◌, length, slice_index, OnSome, All};
 ghost use Rattle.std.specs.List.{list_all};
-ghost use Rattle.rice_samples.specs.Parameters.{value_count};
 ghost use Rattle.rice_code.specs.ReadSets.{joined_parts};
 
 use arrayvec::ArrayVec;
-use rice_samples::Setting;
-
-/// How many values a residual can have: 2^n.
-#[inline]
-pub fn values(setting: &Setting) -> u64
-    ensures value { result ≡ value_count setting.now }
-    ensures range { (0 < result) × (result ≤ 2 ^ 32) }
-{
-    1 << setting.bits()
-}
 
 /// Appends the residuals with these high parts and low parts of k bits, and says whether all are below `count`.
 pub fn join_all(

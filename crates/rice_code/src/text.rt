@@ -232,12 +232,7 @@ fn codeword_of(a: u32, b: u32) -> u32
 
 /// The fundamental sequences of the pairs.
 #[inline(always)]
-fn put_pairs(
-    block: &Block<'_>,
-    fields: &mut Gathered,
-    sink: &mut BitSink<16432>,
-    meter: &mut Meter,
-)
+fn put_pairs(block: &Block<'_>, fields: &mut Gathered, sink: &mut BitSink<16432>, meter: &mut Meter)
     requires even { length block.now % 2 ≡ 0 }
     requires room { length sink.old + length fields.old + sum_by (λ g. g + 1) (pair_codes block.now) ≤ 131456 }
     requires meter { meter.old + length fields.old + length block.now + sum_by (λ g. g + 1) (pair_codes block.now) < 2 ^ 62 }
