@@ -1,7 +1,7 @@
 use Rattle.std.proofs.Common.{arith, ◌+◌, ◌*◌, ◌++◌, ◌∙◌, ap, length}
 use Rattle.rice_bits.specs.Bits.{word}
 use Rattle.rice_code.proofs.TextLemmas.{four_added, four_fewer}
-use Rattle.rice_code.proofs.text.put_four_low.Goals as goal
+use Rattle.rice_code.proofs.split_parts.put_four_low.Goals as goal
 
 pub loop-i-preserved : goal.loop-i-preserved
 loop-i-preserved c =

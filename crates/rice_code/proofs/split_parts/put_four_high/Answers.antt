@@ -1,7 +1,7 @@
 use Rattle.std.proofs.Common.{arith, ℕ, ◌+◌, ◌*◌, ◌/◌, ◌^◌, ◌++◌, ◌∙◌, ap}
 use Rattle.rice_bits.specs.Bits.{fundamental_sequence}
 use Rattle.rice_code.proofs.TextLemmas.{four_added, four_summed}
-use Rattle.rice_code.proofs.text.put_four_high.Goals as goal
+use Rattle.rice_code.proofs.split_parts.put_four_high.Goals as goal
 
 pub loop-i-preserved : goal.loop-i-preserved
 loop-i-preserved c =

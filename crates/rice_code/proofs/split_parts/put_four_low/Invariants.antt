@@ -1,7 +1,7 @@
 use Rattle.std.proofs.Common.{◌≡◌, ◌+◌, ◌-◌, ◌*◌, ◌++◌, length, drop}
 use Rattle.std.specs.Prelude.{flat_map}
 use Rattle.rice_bits.specs.Bits.{word}
-use Rattle.rice_code.proofs.text.put_four_low.Given as goal
+use Rattle.rice_code.proofs.split_parts.put_four_low.Given as goal
 
 abbrev pub invariant-loop-i : goal.invariant-loop-i
 invariant-loop-i l = record {

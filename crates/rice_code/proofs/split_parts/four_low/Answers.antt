@@ -1,6 +1,6 @@
 use Rattle.std.proofs.Common.{arith, ◌*◌}
 use Rattle.rice_code.proofs.GatheredLemmas.{is_small, low_word, four_words}
-use Rattle.rice_code.proofs.text.four_low.Goals as goal
+use Rattle.rice_code.proofs.split_parts.four_low.Goals as goal
 
 pub returns-clause-fits : goal.returns-clause-fits
 returns-clause-fits c =
