@@ -1,8 +1,9 @@
 -- Words that are joined.
-use Rattle.std.proofs.Common.{◌≡◌, ℕ, ◌+◌, ◌*◌, ◌^◌, ◌<◌, ◌≤◌, Bool, List, ◌++◌, length, ap, arith, sym, ◌∙◌, append_assoc}
+use Rattle.std.proofs.Common.{◌≡◌, ℕ, ◌+◌, ◌*◌, ◌%◌, ◌^◌, ◌<◌, ◌≤◌, Bool, List, ◌++◌, length, ap, arith, sym, subst, ◌∙◌, append_assoc}
 use Rattle.std.proofs.Math.Nat.{pow-le-pow_right}
 use Rattle.std.proofs.lemmas.Nat.{pow-add, pow_pos}
 use Rattle.rice_bits.specs.Bits.{word}
+use Rattle.rice_bits.proofs.EightBytes.{word-mod}
 use Rattle.rice_bits.proofs.Words.{length-word, word-cat, join_below}
 use Rattle.rice_code.specs.Gathered.{IsShort}
 
@@ -27,3 +28,32 @@ joined_bits sink bits width value more digits joined total e lt f g =
 -- a one fits the width of its fundamental sequence
 pub one_fits : (m : ℕ) → 1 < 2 ^ (m + 1)
 one_fits m = let e : 2 ^ (m + 1) ≡ 2 ^ m * 2 = pow-add 2 m 1 in let some : 0 < 2 ^ m = pow_pos m in omega (arith, e, some)
+
+-- the lowest digits of a number
+pub low_word : (w d l : ℕ) → l ≡ d % 2 ^ w → word w l ≡ word w d
+low_word w d l e = ap (word w) e ∙ word-mod w w d (omega arith)
+
+-- one number more behind a number
+pub joined_fits : (width more v l all : ℕ) → v < 2 ^ width → l < 2 ^ more → all ≡ v * 2 ^ more + l → all < 2 ^ (width + more)
+joined_fits width more v l all h k e = let b = join_below width more v l h k in omega (arith, b, e)
+
+pub joined_small : (width more v l all : ℕ) → v < 2 ^ width → l < 2 ^ more → width + more ≤ 32 → all ≡ v * 2 ^ more + l → all < 2 ^ 32
+joined_small width more v l all h k few e =
+    let le : 2 ^ (width + more) ≤ 2 ^ 32 = pow-le-pow_right {n = 2} (omega arith) {i = width + more} {j = 32} few in
+    let b = joined_fits width more v l all h k e in
+    omega (arith, le, b)
+
+pub joined_words : (width more v l all : ℕ) (bits last : List Bool) → l < 2 ^ more → word width v ≡ bits → word more l ≡ last → all ≡ v * 2 ^ more + l → word (width + more) all ≡ bits ++ last
+joined_words width more v l all bits last k e f g = ap (word (width + more)) g ∙ (word-cat width more v l k ∙ (λ i. e i ++ f i))
+
+-- and three
+pub four_words : (w0 w1 w2 w3 n v0 v1 v2 v3 two three all : ℕ) (b0 b1 b2 b3 : List Bool) → v0 < 2 ^ w0 → v1 < 2 ^ w1 → v2 < 2 ^ w2 → v3 < 2 ^ w3 → two ≡ v0 * 2 ^ w1 + v1 → three ≡ two * 2 ^ w2 + v2 → all ≡ three * 2 ^ w3 + v3 →
+    word w0 v0 ≡ b0 → word w1 v1 ≡ b1 → word w2 v2 ≡ b2 → word w3 v3 ≡ b3 → n ≡ w0 + w1 + w2 + w3 → (all < 2 ^ n) × (word n all ≡ b0 ++ b1 ++ b2 ++ b3)
+four_words w0 w1 w2 w3 n v0 v1 v2 v3 two three all b0 b1 b2 b3 h0 h1 h2 h3 e2 e3 e4 f0 f1 f2 f3 g =
+    let x = joined_fits w0 w1 v0 v1 two h0 h1 e2 in
+    let y = joined_fits (w0 + w1) w2 two v2 three x h2 e3 in
+    let z = joined_fits (w0 + w1 + w2) w3 three v3 all y h3 e4 in
+    let i = joined_words w0 w1 v0 v1 two b0 b1 h1 f0 f1 e2 in
+    let j = joined_words (w0 + w1) w2 two v2 three (b0 ++ b1) b2 h2 i f2 e3 in
+    let k = joined_words (w0 + w1 + w2) w3 three v3 all (b0 ++ b1 ++ b2) b3 h3 j f3 e4 in
+    (subst (λ m. all < 2 ^ m) (sym g) z, ap (λ m. word m all) g ∙ k)

@@ -26,8 +26,7 @@ stay_by coder (y ∷ ys) xs h legal less =
     let short : length (grown coder y).residuals < coder.setting.block * blocks_left coder.setting coder.start = omega (arith, len, less) in
     let kept = stays_settled coder y xs h legal.0 short in
     let more = stay_by (grown coder y) ys (xs ++ y ∷ []) (stays coder y xs h legal.0 short) legal.1 (omega (arith, len, less)) in
-    let parts : (xs ++ y ∷ []) ++ ys ≡ xs ++ y ∷ ys = append_assoc xs (y ∷ []) ys in
-    (
+    let parts : (xs ++ y ∷ []) ++ ys ≡ xs ++ y ∷ ys = append_assoc xs (y ∷ []) ys in (
       subst (λ v. StandsFor v (xs ++ y ∷ ys)) (grown_cons coder y ys) (subst (StandsFor (grown_by (grown coder y) ys)) parts more.0),
       ap (settled coder.setting) (sym parts) ∙ (more.1 ∙ kept),
     )

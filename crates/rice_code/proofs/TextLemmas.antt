@@ -1,7 +1,8 @@
 -- The texts of blocks, piece by piece.
 use Rattle.std.proofs.Common.{◌≡◌, ℕ, zero, suc, ◌+◌, ◌-◌, ◌*◌, ◌<◌, Bool, true, false, cond, ◌&&◌, nat_le, List, [], ◌∷◌, ◌++◌, length, drop, get_or, refl, ap, arith, sym, ◌∙◌, append_assoc, append-nil, Option}
-use Rattle.std.specs.Prelude.{flat_map}
-use Rattle.std.proofs.lemmas.List.{length-drop}
+use Rattle.std.specs.Prelude.{flat_map, sum_by}
+use Rattle.std.proofs.lemmas.List.{length-drop, drop_more}
+use Rattle.std.proofs.lemmas.List.Sums.{sum_by-cons}
 use Rattle.rice_samples.specs.Parameters.{Parameters, id_len}
 use Rattle.rice_samples.specs.Pairs.{pair_code, pair_codes}
 use Rattle.rice_code.specs.DataSets.{text, cost, reference_text, reference_len, run_number, ZeroBlocks, RemainderOfSegment}
@@ -72,3 +73,46 @@ pairs_left (suc i) (a ∷ b ∷ xs) h =
     let l : 2 * suc i + 1 ≡ suc (suc (2 * i + 1)) = omega arith in
     ap (λ n. pair_codes (drop n (a ∷ b ∷ xs))) k ∙ (ih
     ∙ (λ j. pair_code (get_or (a ∷ b ∷ xs) (sym k j) 0) (get_or (a ∷ b ∷ xs) (sym l j) 0) ∷ pair_codes (drop (sym e j) (a ∷ b ∷ xs))))
+
+-- four residuals more
+pub four_more : (xs : List ℕ) (i n : ℕ) → i + 3 < length xs → n ≡ i + 4 → drop i xs ≡ get_or xs i 0 ∷ get_or xs (i + 1) 0 ∷ get_or xs (i + 2) 0 ∷ get_or xs (i + 3) 0 ∷ drop n xs
+four_more xs i n h e =
+    let a = drop_more xs i 0 (omega arith) in
+    let b = drop_more xs (i + 1) 0 (omega arith) in
+    let c = drop_more xs (i + 2) 0 (omega arith) in
+    let d = drop_more xs (i + 3) 0 h in
+    let p : i + 1 + 1 ≡ i + 2 = omega arith in
+    let q : i + 2 + 1 ≡ i + 3 = omega arith in
+    let r : i + 3 + 1 ≡ n = omega arith in
+    let b' = b ∙ ap (λ m. get_or xs (i + 1) 0 ∷ drop m xs) p in
+    let c' = c ∙ ap (λ m. get_or xs (i + 2) 0 ∷ drop m xs) q in
+    let d' = d ∙ ap (λ m. get_or xs (i + 3) 0 ∷ drop m xs) r in
+    a ∙ ap (λ v. get_or xs i 0 ∷ v) (b' ∙ ap (λ v. get_or xs (i + 1) 0 ∷ v) (c' ∙ ap (λ v. get_or xs (i + 2) 0 ∷ v) d'))
+
+pub four_added : (f : ℕ → List Bool) (xs : List ℕ) (i n : ℕ) (a b all : List Bool) → i + 3 < length xs → n ≡ i + 4 →
+    b ≡ a ++ (f (get_or xs i 0) ++ f (get_or xs (i + 1) 0) ++ f (get_or xs (i + 2) 0) ++ f (get_or xs (i + 3) 0)) → a ++ flat_map f (drop i xs) ≡ all → b ++ flat_map f (drop n xs) ≡ all
+four_added f xs i n a b all h e added same =
+    let rest = flat_map f (drop n xs) in
+    ap (λ v. v ++ rest) added ∙ (nest a (f (get_or xs i 0)) (f (get_or xs (i + 1) 0)) (f (get_or xs (i + 2) 0)) (f (get_or xs (i + 3) 0)) rest
+    ∙ (sym (ap (λ v. a ++ flat_map f v) (four_more xs i n h e)) ∙ same))
+  where
+    nest : (a b c d e rest : List Bool) → (a ++ (b ++ c ++ d ++ e)) ++ rest ≡ a ++ (b ++ (c ++ (d ++ (e ++ rest))))
+    nest a b c d e rest = simp append_assoc
+
+pub four_fewer : (n i m w : ℕ) → i + 3 < n → m ≡ i + 4 → (n - i) * w ≡ (n - m) * w + 4 * w
+four_fewer n i m w h e = let f : n - i ≡ n - m + 4 = omega arith in ap (λ k. k * w) f ∙ (omega arith)
+
+pub four_summed : (f : ℕ → ℕ) (xs : List ℕ) (i n : ℕ) → i + 3 < length xs → n ≡ i + 4 →
+    sum_by f (drop i xs) ≡ f (get_or xs i 0) + f (get_or xs (i + 1) 0) + f (get_or xs (i + 2) 0) + f (get_or xs (i + 3) 0) + sum_by f (drop n xs)
+four_summed f xs i n h e =
+    let a = get_or xs i 0 in
+    let b = get_or xs (i + 1) 0 in
+    let c = get_or xs (i + 2) 0 in
+    let d = get_or xs (i + 3) 0 in
+    let rest = drop n xs in
+    let p = ap (sum_by f) (four_more xs i n h e) in
+    let q = sum_by-cons f a (b ∷ c ∷ d ∷ rest) in
+    let r = sum_by-cons f b (c ∷ d ∷ rest) in
+    let s = sum_by-cons f c (d ∷ rest) in
+    let t = sum_by-cons f d rest in
+    omega (arith, p, q, r, s, t)

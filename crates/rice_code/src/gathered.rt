@@ -74,6 +74,32 @@ impl Gathered {
         sink.put_fs(m as u64, meter);
     }
 
+    /// Adds the fundamental sequences of four numbers.
+    #[inline(always)]
+    pub fn add_four_fs(
+        &mut self,
+        m: (u32, u32, u32, u32),
+        sink: &mut BitSink<16432>,
+        meter: &mut Meter,
+    )
+        requires room { length sink.old + length self.old + m.0 + m.1 + m.2 + m.3 + 4 ≤ 131456 }
+        requires meter { meter.old + length self.old + m.0 + m.1 + m.2 + m.3 + 4 < 2 ^ 62 }
+        ensures bits { sink.new ++ self.new ≡ sink.old ++ self.old ++ (fundamental_sequence m.0 ++ fundamental_sequence m.1 ++ fundamental_sequence m.2 ++ fundamental_sequence m.3) }
+        ensures len { length sink.new + length self.new ≡ length sink.old + length self.old + m.0 + m.1 + m.2 + m.3 + 4 }
+        ensures steps { meter.new + length self.new ≡ meter.old + length self.old + m.0 + m.1 + m.2 + m.3 + 4 }
+    {
+        let (a, b, c, d) = m;
+        let sum = a as u64 + b as u64 + c as u64 + d as u64;
+        if sum <= 28 {
+            self.add(four_ones(a, b, c, d), sum as u32 + 4, sink, meter);
+            return;
+        }
+        self.add_fs(a, sink, meter);
+        self.add_fs(b, sink, meter);
+        self.add_fs(c, sink, meter);
+        self.add_fs(d, sink, meter);
+    }
+
     /// Puts the bits.
     #[inline(always)]
     pub fn put(&mut self, sink: &mut BitSink<16432>, meter: &mut Meter)
@@ -90,9 +116,22 @@ impl Gathered {
     }
 }
 
+/// The number whose digits are the fundamental sequences of four small numbers.
+#[inline(always)]
+fn four_ones(a: u32, b: u32, c: u32, d: u32) -> u32
+    requires { a + b + c + d ≤ 28 }
+    ensures fits { result < 2 ^ (a + b + c + d + 4) }
+    ensures bits { word (a + b + c + d + 4) result ≡ fundamental_sequence a ++ fundamental_sequence b ++ fundamental_sequence c ++ fundamental_sequence d }
+{
+    let _first = a;
+    let two = joined(1, b + 1, 1);
+    let three = joined(two, c + 1, 1);
+    joined(three, d + 1, 1) as u32
+}
+
 /// A number with so many binary digits behind it.
-#[inline]
-fn joined(high: u64, width: u32, low: u32) -> u64
+#[inline(always)]
+pub fn joined(high: u64, width: u32, low: u32) -> u64
     requires width { width ≤ 32 }
     requires high { high < 2 ^ 32 }
     requires low { low < 2 ^ width }

@@ -19,6 +19,7 @@ mod residuals;
 mod restoring;
 mod search;
 mod segment;
+mod split_parts;
 mod text;
 
 pub use bounds::{bit_bound, padded_bound, step_bound};

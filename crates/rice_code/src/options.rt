@@ -10,7 +10,7 @@ ghost use Rattle.rice_code.specs.Fields.{HasRoom, AreCounted};
 ghost use Rattle.rice_code.specs.ReadSets.{BlockRead, BlockCut, reference_place, coded_count};
 
 use crate::fields::{read_counts, read_pairs, read_words};
-use crate::residuals::{append, are_sound, join_all, values};
+use crate::residuals::{append, are_sound, join_all};
 use arrayvec::ArrayVec;
 use rice_bits::{BitFault, BitReader, Intake, Meter};
 use rice_samples::Setting;
@@ -155,7 +155,7 @@ pub fn read_second_extension<I: Intake>(
     let half = setting.block() as usize / 2;
     match read_pairs(reader, meter, half, residuals) {
         Ok(()) => {
-            let sound = are_sound(reference, residuals.as_slice(), values(setting));
+            let sound = are_sound(reference, residuals.as_slice(), setting.values());
             Ok(BlockHead { reference, sound })
         }
         Err(fault) => Err(fault),
@@ -184,7 +184,7 @@ pub fn read_split<I: Intake>(
         Err(fault) => return Err(fault),
     };
     let count = count_coded(setting, reference);
-    let values = values(setting);
+    let values = setting.values();
     let mut highs = [0; 64];
     let small = match read_counts(reader, meter, (values - 1) >> k, count, &mut highs) {
         Ok(small) => small,

@@ -1,19 +1,8 @@
 //! Residuals from their high and low parts, and whether they are sound.
 ghost use Rattle.std.specs.Prelude.{◌≡◌, ℕ, ◌+◌, ◌-◌, ◌*◌, ◌/◌, ◌^◌, ◌<◌, ◌≤◌, true, false, List, ◌++◌, length, slice_index, OnSome, All};
-ghost use Rattle.rice_samples.specs.Parameters.{value_count};
 ghost use Rattle.rice_code.specs.ReadSets.{joined_parts};
 
 use arrayvec::ArrayVec;
-use rice_samples::Setting;
-
-/// How many values a residual can have: 2^n.
-#[inline]
-pub fn values(setting: &Setting) -> u64
-    ensures value { result ≡ value_count setting.now }
-    ensures range { (0 < result) × (result ≤ 2 ^ 32) }
-{
-    1 << setting.bits()
-}
 
 /// Puts high parts before low parts of k bits, and says whether all residuals that they make are below `count`.
 pub fn join_all(highs: &[u32], k: u32, count: u64, lows: &mut [u32]) -> bool

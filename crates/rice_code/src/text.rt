@@ -9,6 +9,7 @@ ghost use Rattle.rice_code.specs.Chosen.{chosen_set, IsSplitWithin};
 
 use crate::gathered::Gathered;
 use crate::search::Choice;
+use crate::split_parts::{put_high, put_low};
 use rice_bits::{BitSink, Meter};
 use rice_samples::{Block, Setting};
 
@@ -40,63 +41,6 @@ fn begin(
     fields
 }
 
-/// The `width` lowest digits of a number.
-fn low_digits(value: u32, width: u32) -> u32
-    requires { width ≤ 32 }
-    ensures value { result ≡ value % 2 ^ width }
-    ensures fits { result < 2 ^ width }
-{
-    (value as u64 % (1 << width)) as u32
-}
-
-/// The lowest digits of the residuals from number `from` on.
-#[inline(always)]
-fn put_low(
-    block: &Block<'_>,
-    from: usize,
-    width: u32,
-    fields: &mut Gathered,
-    sink: &mut BitSink<16432>,
-    meter: &mut Meter,
-)
-    requires width { width ≤ 32 }
-    requires from { from ≤ length block.now }
-    requires room { length sink.old + length fields.old + (length block.now - from) * width ≤ 131456 }
-    requires meter { meter.old + length fields.old + (length block.now - from) * (width + 1) < 2 ^ 62 }
-    ensures bits { sink.new ++ fields.new ≡ sink.old ++ fields.old ++ flat_map (word width) (drop from block.now) }
-    ensures len { length sink.new + length fields.new ≡ length sink.old + length fields.old + (length block.now - from) * width }
-    ensures steps { meter.new + length fields.new ≡ meter.old + length fields.old + (length block.now - from) * (width + 1) }
-{
-    for i in from..block.len() {
-        let residual = block.at(i, meter);
-        fields.add(low_digits(residual, width), width, sink, meter);
-    }
-}
-
-/// The fundamental sequences of the residuals from number `from` on, without their `k` lowest digits.
-#[inline(always)]
-fn put_high(
-    block: &Block<'_>,
-    from: usize,
-    k: u32,
-    fields: &mut Gathered,
-    sink: &mut BitSink<16432>,
-    meter: &mut Meter,
-)
-    requires split { k ≤ 29 }
-    requires from { from ≤ length block.now }
-    requires room { length sink.old + length fields.old + (length block.now - from) + sum_by (λ d. d / 2 ^ k) (drop from block.now) ≤ 131456 }
-    requires meter { meter.old + length fields.old + 2 * (length block.now - from) + sum_by (λ d. d / 2 ^ k) (drop from block.now) < 2 ^ 62 }
-    ensures bits { sink.new ++ fields.new ≡ sink.old ++ fields.old ++ flat_map (λ d. fundamental_sequence (d / 2 ^ k)) (drop from block.now) }
-    ensures len { length sink.new + length fields.new ≡ length sink.old + length fields.old + (length block.now - from) + sum_by (λ d. d / 2 ^ k) (drop from block.now) }
-    ensures steps { meter.new + length fields.new ≡ meter.old + length fields.old + 2 * (length block.now - from) + sum_by (λ d. d / 2 ^ k) (drop from block.now) }
-{
-    for i in from..block.len() {
-        let residual = block.at(i, meter);
-        fields.add_fs(residual >> k, sink, meter);
-    }
-}
-
 /// The number that stands for a pair whose codeword fits a sink.
 #[inline]
 fn codeword_of(a: u32, b: u32) -> u32
@@ -109,12 +53,7 @@ fn codeword_of(a: u32, b: u32) -> u32
 
 /// The fundamental sequences of the pairs.
 #[inline(always)]
-fn put_pairs(
-    block: &Block<'_>,
-    fields: &mut Gathered,
-    sink: &mut BitSink<16432>,
-    meter: &mut Meter,
-)
+fn put_pairs(block: &Block<'_>, fields: &mut Gathered, sink: &mut BitSink<16432>, meter: &mut Meter)
     requires even { length block.now % 2 ≡ 0 }
     requires room { length sink.old + length fields.old + sum_by (λ g. g + 1) (pair_codes block.now) ≤ 131456 }
     requires meter { meter.old + length fields.old + length block.now + sum_by (λ g. g + 1) (pair_codes block.now) < 2 ^ 62 }

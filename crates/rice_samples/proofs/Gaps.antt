@@ -1,12 +1,9 @@
 -- The least value of a sample, and the values above it by their levels.
-use Rattle.std.proofs.Common.{◌≡◌, ◌∙◌, sym, ℕ, ◌-◌, ◌^◌, ◌<◌, ◌≤◌, Bool, true, false, cond, arith, ℤ, pos, negsuc, neg_ℤ, ◌≤ℤ◌, ◌+ℤ◌, ◌-ℤ◌}
+use Rattle.std.proofs.Common.{◌≡◌, ℕ, ◌-◌, ◌^◌, ◌<◌, ◌≤◌, Bool, true, false, cond, arith, ℤ, pos, negsuc, neg_ℤ, ◌≤ℤ◌, ◌+ℤ◌, ◌-ℤ◌}
 use Rattle.std.specs.Int.{int_gap}
 use Rattle.std.proofs.lemmas.Int.{ints}
 use Rattle.std.proofs.Math.Pow.{pow_mono}
-use Rattle.rice_samples.specs.Parameters.{Parameters, IsLegal, IsSample, least, level, value_count}
-use Rattle.rice_samples.specs.Residuals.{rank}
-use Rattle.rice_samples.proofs.Levels.{same_level}
-use Rattle.rice_samples.proofs.Ranks.{rank_injective}
+use Rattle.rice_samples.specs.Parameters.{Parameters, IsLegal, IsSample, least, value_count}
 
 pub least_low : (s : Parameters) → IsLegal s → neg_ℤ (pos (2 ^ 31)) ≤ℤ least s
 least_low s h = by_sign s.signed (2 ^ (s.bits - 1)) (let e : s.bits - 1 ≤ 31 = omega (arith, h.bits_to) in pow_mono e)
@@ -38,7 +35,3 @@ gap_above l n = let h : l ≤ℤ (l +ℤ pos n) = omega (arith, ints) in omega (
 
 pub sample_at : (s : Parameters) (n : ℕ) → n < value_count s → IsSample s (least s +ℤ pos n)
 sample_at s n h = (omega (arith, ints), rw (gap_above (least s) n) h)
-
--- one sample has the rank
-pub same_rank : (s : Parameters) (p x y : ℤ) (d : ℕ) → IsSample s p → IsSample s x → rank s p x ≡ d → IsSample s y → rank s p y ≡ d → x ≡ y
-same_rank s p x y d h k e l f = same_level s x y k l (rank_injective (value_count s) (level s p) (level s x) (level s y) h.1 k.1 l.1 (e ∙ sym f))

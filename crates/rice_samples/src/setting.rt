@@ -245,9 +245,9 @@ impl Setting {
         if self.signed { 1 << (self.bits - 1) } else { 0 }
     }
 
-    /// How many values a sample can have.
+    /// How many values a sample can have, and so a residual: 2^n.
     #[inline]
-    pub(crate) fn values(&self) -> u64
+    pub fn values(&self) -> u64
         ensures value { result ≡ value_count self.now }
         ensures range { (2 ≤ result) × (result ≤ 2 ^ 32) }
         ensures legal { IsLegal self.now }

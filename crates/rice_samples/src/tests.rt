@@ -329,7 +329,10 @@ fn blocks_of_a_segment(rt: HostRuntime) {
         assert_eq!(rt; segment.block(2, 8).at(0, &mut meter), 16);
         assert_eq!(rt; segment.block(2, 8).at(7, &mut meter), 23);
         assert_eq!(rt; meter.steps(), 2);
-        assert_eq!(rt; segment.block(1, 8).four_at(4, &mut meter), (12, 13, 14, 15));
+        assert_eq!(rt;
+            segment.block(1, 8).four_at(4, &mut meter),
+            (12, 13, 14, 15)
+        );
         assert_eq!(rt; meter.steps(), 6);
     }
     segment.clear();

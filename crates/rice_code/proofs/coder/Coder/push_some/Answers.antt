@@ -95,9 +95,9 @@ returns-then-is_whole-clause-before_last c =
     let legal : All (IsSample s) samples = subst (λ (v : State). All (IsSample v.setting) samples) (sym c.self.view_is) c.requires.samples in
     subst (λ (v : State). (xs : List ℤ) → StandsFor v xs → (m : ℕ) → m < c.min-taken.result → settled v.setting (xs ++ take m samples) ≡ settled v.setting xs) c.self.view_is
     (λ xs h m lt.
-        let all = recursion_from_All (IsSample s) (take m samples) (All-take (IsSample s) m samples legal) in
-        let len : length (take m samples) ≡ m = length-take-le m samples (omega (arith, lt, c.min-taken.ensures)) in
-        (stay_by coder (take m samples) xs h all (omega (arith, len, lt, c.min-taken.ensures, c.room.ensures))).1)
+    let all = recursion_from_All (IsSample s) (take m samples) (All-take (IsSample s) m samples legal) in
+    let len : length (take m samples) ≡ m = length-take-le m samples (omega (arith, lt, c.min-taken.ensures)) in
+    (stay_by coder (take m samples) xs h all (omega (arith, len, lt, c.min-taken.ensures, c.room.ensures))).1)
 
 pub returns-then-is_whole-clause-stops : goal.returns-then-is_whole-clause-stops
 returns-then-is_whole-clause-stops c =
@@ -195,9 +195,9 @@ returns-else-is_whole-clause-before_last c =
     let legal : All (IsSample s) samples = subst (λ (v : State). All (IsSample v.setting) samples) (sym c.self.view_is) c.requires.samples in
     subst (λ (v : State). (xs : List ℤ) → StandsFor v xs → (m : ℕ) → m < c.min-taken.result → settled v.setting (xs ++ take m samples) ≡ settled v.setting xs) c.self.view_is
     (λ xs h m lt.
-        let all = recursion_from_All (IsSample s) (take m samples) (All-take (IsSample s) m samples legal) in
-        let len : length (take m samples) ≡ m = length-take-le m samples (omega (arith, lt, c.min-taken.ensures)) in
-        (stay_by coder (take m samples) xs h all (omega (arith, len, lt, c.min-taken.ensures, c.room.ensures))).1)
+    let all = recursion_from_All (IsSample s) (take m samples) (All-take (IsSample s) m samples legal) in
+    let len : length (take m samples) ≡ m = length-take-le m samples (omega (arith, lt, c.min-taken.ensures)) in
+    (stay_by coder (take m samples) xs h all (omega (arith, len, lt, c.min-taken.ensures, c.room.ensures))).1)
 
 pub returns-else-is_whole-clause-stops : goal.returns-else-is_whole-clause-stops
 returns-else-is_whole-clause-stops c =

@@ -2,7 +2,7 @@ use Rattle.rice_bits.proofs.EightBytes.{word-mod}
 use Rattle.std.proofs.lemmas.Grind.{common_steps}
 use Rattle.std.proofs.Common.{arith, length, ◌+◌}
 use Rattle.rice_code.proofs.TextLemmas.{one_fewer}
-use Rattle.rice_code.proofs.text.put_low.Goals as goal
+use Rattle.rice_code.proofs.split_parts.put_each_low.Goals as goal
 
 pub loop-i-preserved : goal.loop-i-preserved
 loop-i-preserved c =
