@@ -146,6 +146,13 @@ fn any_coder_is_decoded(rt: HostRuntime) -> Result<(), Fail> {
 #[test]
 fn what_is_no_code_is_refused(rt: HostRuntime) -> Result<(), Fail> {
     let cases = [
+        Case(
+            DEFAULT.bare(),
+            Bytes(b"", 0, &[0xFE, 0x1E, 0x3E, 0x5E, 0x7E, 0x9E, 0xBE, 0xDE, 0xE0]),
+            Some(9),
+            Bytes(b"", 0, &[0xF0, 0xF1, 0xF2, 0xF3, 0xF4, 0xF5, 0xF6, 0xF7]),
+            cut(8),
+        ),
         Case(DEFAULT, Bytes(&[0x20, 0x09], 1, b""), None, NOTHING, cut(0)),
         Case(DEFAULT, NOTHING, Some(1), NOTHING, cut(0)),
         Case(
@@ -213,7 +220,9 @@ fn what_is_no_code_is_refused(rt: HostRuntime) -> Result<(), Fail> {
 fn bits_and_steps_are_reported(rt: HostRuntime) -> Result<(), Fail> {
     // The code, the count, the bits, and the least and the most steps.
     let run = DEFAULT.bare().block(64).interval(64);
-    let cases: [(Options, &[u8], Option<u64>, u64, u64, u64); 10] = [
+    let one = [0xFE, 0x1E, 0x1E, 0x1E, 0x1E, 0x1E, 0x1E, 0x1E, 0x00];
+    let padded = DEFAULT.interval(1).padded();
+    let cases: [(Options, &[u8], Option<u64>, u64, u64, u64); 14] = [
         (DEFAULT, &[0x00, 0x58], None, 16, 24, 40),
         (DEFAULT, &[0x00, 0x58], Some(8), 13, 21, 34),
         (DEFAULT, &[0xFF, 0xFF], Some(0), 0, 0, 0),
@@ -223,14 +232,11 @@ fn bits_and_steps_are_reported(rt: HostRuntime) -> Result<(), Fail> {
         (DEFAULT.bare(), &[0x1E, 0x40], Some(8), 10, 19, 23),
         (run, &[0x00, 0x80], None, 16, 4112, 4128),
         (run, &[0x00, 0x80], Some(10), 9, 19, 28),
-        (
-            DEFAULT.interval(1).padded(),
-            &[0x00, 0x5F, 0x00, 0x58],
-            Some(8),
-            16,
-            24,
-            40,
-        ),
+        (DEFAULT.bare(), &one, None, 72, 80, 152),
+        (DEFAULT.bare(), &one, Some(1), 67, 68, 135),
+        (padded, &[0x00, 0x58, 0x00, 0x58], None, 32, 48, 80),
+        (padded, &[0x00, 0x5F, 0x00, 0x58], None, 32, 48, 80),
+        (padded, &[0x00, 0x5F, 0x00, 0x58], Some(8), 16, 24, 40),
     ];
     for (options, code, asked, bits, least, most) in cases {
         let mut room = [0u8; 4200];
