@@ -1,4 +1,4 @@
-use Rattle.std.proofs.Common.{arith, ap, ◌+◌}
+use Rattle.std.proofs.Common.{arith, ap}
 use Rattle.rice_code.specs.Steps.{segment_steps}
 use Rattle.rice_code.proofs.CoderLemmas.{segment_steps_few}
 use Rattle.rice_code.proofs.coder_tests.code_some.Goals as goal

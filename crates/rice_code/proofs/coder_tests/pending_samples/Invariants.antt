@@ -1,4 +1,4 @@
-use Rattle.std.proofs.Common.{◌≡◌, ◌≤◌, length}
+use Rattle.std.proofs.Common.{◌≡◌}
 use Rattle.rice_code.proofs.coder_tests.pending_samples.Given as goal
 
 abbrev pub invariant-loop-waiting : goal.invariant-loop-waiting

@@ -1,4 +1,4 @@
-use Rattle.std.proofs.Common.{◌≡◌, ◌+◌, ◌-◌, ◌*◌, ◌^◌, ◌<◌, ◌≤◌, None}
+use Rattle.std.proofs.Common.{◌≡◌, ◌*◌, ◌^◌, ◌≤◌, None}
 use Rattle.rice_code.proofs.decoder_tests.decode.Given as goal
 
 abbrev pub invariant-loop : goal.invariant-loop
