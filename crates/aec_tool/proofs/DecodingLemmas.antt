@@ -1,5 +1,5 @@
 -- What a call of the decoder does to a decoding.
-use Rattle.std.proofs.Common.{◌≡◌, ℕ, ◌+◌, ◌*◌, ◌<◌, ◌≤◌, ◌==◌, ◌&&◌, cond, Bool, true, false, List, [], ◌∷◌, ◌++◌, length, take, replicate, refl, ap, arith, sym, ◌∙◌, ◌⊎◌, inl, inr, subst, append_assoc, append-nil, length-append, Option, Some, None, ℤ, pos}
+use Rattle.std.proofs.Common.{◌≡◌, ℕ, ◌+◌, ◌<◌, ◌≤◌, ◌==◌, ◌&&◌, cond, Bool, true, false, List, [], ◌∷◌, ◌++◌, length, take, replicate, ap, arith, sym, ◌∙◌, ◌⊎◌, inl, inr, subst, append_assoc, append-nil, length-append, Option, Some, None, ℤ, pos}
 use Rattle.std.specs.Prelude.{All, IfSome, Result, Ok, Err}
 use Rattle.std.specs.Io.KnownBytes.{Consumes}
 use Rattle.std.proofs.KnownBytes.{Consumes-nil}
@@ -7,15 +7,15 @@ use Rattle.std.proofs.Math.Nat.{mod-lt, mod-eq_of_lt}
 use Rattle.std.proofs.lemmas.Bool.{cases_lt}
 use Rattle.std.proofs.lemmas.List.Elements.{All-from_recursion, recursion_from_All}
 use Rattle.rice_bits.specs.Bits.{bits_to_byte}
-use Rattle.rice_bits.specs.Reader.{Reader, Draws}
+use Rattle.rice_bits.specs.Reader.{Reader}
 use Rattle.rice_bits.proofs.Bytes.{bits_of-nil}
 use Rattle.rice_samples.specs.Parameters.{Parameters, IsLegal, IsSample}
 use Rattle.rice_samples.specs.Places.{place}
 use Rattle.rice_samples.specs.Residuals.{last_of}
 use Rattle.rice_code.specs.Blocks.{zeros}
 use Rattle.rice_code.specs.DataSets.{DataSet, text}
-use Rattle.rice_code.specs.Decoder.{Place, Answers, GivesBlock, GivesSet, GoesOn, StopsBy, SetEnds, SetRefused, marked, moved}
-use Rattle.rice_code.specs.Forms.{RunIsSound, ResidualsAreSound, blocks_in}
+use Rattle.rice_code.specs.Decoder.{Place, Answers, GivesBlock, GivesSet, GoesOn, StopsBy, SetEnds, marked, moved}
+use Rattle.rice_code.specs.Forms.{blocks_in}
 use Rattle.rice_code.specs.Layout.{block_behind, padding}
 use Rattle.rice_code.specs.ReadSets.{SetCut}
 use Rattle.rice_code.specs.declared.fault.Step.{Step}

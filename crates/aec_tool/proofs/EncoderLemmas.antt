@@ -1,5 +1,5 @@
 -- A coder at work takes a sample, writes, and ends.
-use Rattle.std.proofs.Common.{◌≡◌, ℕ, ◌+◌, ◌-◌, ◌*◌, ◌/◌, ◌<◌, ◌≤◌, Bool, List, [], ◌∷◌, ◌++◌, length, take, drop, replicate, false, refl, ap, arith, sym, ◌∙◌, subst, append_assoc, append-nil, length-append, length-drop, take-append-drop, Option, ℤ, pos, zero, suc}
+use Rattle.std.proofs.Common.{◌≡◌, ℕ, ◌+◌, ◌-◌, ◌*◌, ◌<◌, ◌≤◌, Bool, List, [], ◌∷◌, ◌++◌, length, take, drop, replicate, false, refl, ap, arith, sym, ◌∙◌, subst, append_assoc, append-nil, length-append, length-drop, take-append-drop, Option, ℤ, pos, zero, suc}
 use Rattle.std.specs.Prelude.{All, sum_by}
 use Rattle.std.specs.Int.{div_ceil}
 use Rattle.rice_code.specs.DataSets.{text}
@@ -12,10 +12,10 @@ use Rattle.rice_bits.specs.Bits.{bits_in_bytes, bits_to_byte, padded, whole_byte
 use Rattle.rice_samples.specs.Parameters.{Parameters, IsLegal, IsSample, width}
 use Rattle.rice_samples.specs.Places.{block_count, cut}
 use Rattle.rice_samples.specs.Residuals.{filled}
-use Rattle.rice_samples.specs.Spelling.{spelling, spellings}
+use Rattle.rice_samples.specs.Spelling.{spellings}
 use Rattle.rice_code.specs.Coder.{State, StandsFor, IsInPlace, Completes, settled, settled_code, fill_samples}
 use Rattle.rice_code.specs.Coder.{Finishes as FinishesCode}
-use Rattle.rice_code.specs.Code.{code, code_bits, output, early_output}
+use Rattle.rice_code.specs.Code.{code, code_bits, early_output}
 use Rattle.rice_code.specs.Steps.{least_looks, most_looks, least_looks_at, most_looks_at, least_steps, most_steps, segment_steps}
 use Rattle.rice_code.proofs.CoderLemmas.{segment_steps_few}
 use Rattle.aec_tool.specs.Encoder.{Counts, Holds, Takes, TakesBetween, FailsAt, FailsIn, MeetsFailure, Closes, Reads, whole_part}

@@ -1,19 +1,14 @@
 -- How encoding ends.
-use Rattle.std.proofs.Common.{◌≡◌, ◌≢◌, ℕ, ◌+◌, ◌-◌, ◌*◌, ◌/◌, ◌%◌, ◌<◌, ◌≤◌, List, [], ◌∷◌, ◌++◌, length, take, drop, replicate, refl, ap, arith, sym, ◌∙◌, subst, append_assoc, append-nil, length-append, Option, Some, None, ℤ, pos, inl, inr}
+use Rattle.std.proofs.Common.{◌≡◌, ◌≢◌, ℕ, ◌+◌, ◌-◌, ◌*◌, ◌%◌, ◌<◌, ◌≤◌, List, [], ◌∷◌, ◌++◌, length, take, drop, refl, ap, arith, sym, ◌∙◌, subst, append_assoc, append-nil, length-append, Option, Some, None, ℤ, inl, inr}
 use Rattle.std.specs.Prelude.{All, Err}
 use Rattle.std.specs.Io.KnownBytes.{Consumes, IsAtEnd, Keeps}
 use Rattle.std.proofs.Math.Nat.{mod-eq_of_lt, mul-add-mod_self_left, mul-le-mul_right}
 use Rattle.std.proofs.Math.Seq.{take-append_seam, drop-append_seam}
-use Rattle.std.proofs.lemmas.Grind.{div_ceil_times}
-use Rattle.std.proofs.lemmas.List.{length-replicate, length-take-le}
+use Rattle.std.proofs.lemmas.List.{length-take-le}
 use Rattle.std.proofs.KnownBytes.{Consumes-trans, Consumes-kept}
-use Rattle.rice_code.proofs.SoundBlocks.{filled_len}
-use Rattle.rice_samples.specs.Places.{block_count}
-use Rattle.rice_samples.specs.Residuals.{last_of}
 use Rattle.std.proofs.lemmas.List.Elements.{All-append}
-use Rattle.rice_samples.specs.Parameters.{Parameters, IsLegal, IsSample, id_len, k_max, width}
+use Rattle.rice_samples.specs.Parameters.{Parameters, IsSample, width}
 use Rattle.rice_samples.specs.Spelling.{Spells, spellings, Stop, AtEnd, NoSpelling, TooFew}
-use Rattle.rice_code.specs.Bounds.{bit_bound, step_bound}
 use Rattle.aec_tool.specs.Calls.{Call, Happens, Fails, Leaves, PassesLimit, StopsBetween}
 use Rattle.aec_tool.specs.Encoder.{Counts, Tells, Closes, Finishes, Reads, Runs, TakesAll, MeetsNoSpelling, MeetsFailure, Pushes, PushFails, Refills}
 use Rattle.aec_tool.specs.Encoding.{Encodes, EndsSo, EncodesWithin}

@@ -21,11 +21,8 @@ use Rattle.rice_code.proofs.Padded.{padding_is_bounded}
 use Rattle.rice_code.proofs.Returned as returned
 use Rattle.rice_code.proofs.SoundBlocks.{code_is_bounded}
 use Rattle.aec_tool.proofs.SpelledLemmas.{length-spellings}
-use Rattle.aec_tool.specs.Calls.{Call}
-use Rattle.aec_tool.specs.Encoding.{Encodes}
-use Rattle.aec_tool.specs.Decoding.{Decodings, Decodes, EndsSo}
+use Rattle.aec_tool.specs.Decoding.{Decodes, EndsSo}
 use Rattle.aec_tool.specs.Laws.{ReturnsBytes}
-use Rattle.aec_tool.specs.declared.outcome.Report.{Report}
 use Rattle.aec_tool.specs.declared.outcome.Fault.{Fault}
 use Rattle.aec_tool.specs.declared.outcome.Fault.TheVariants.{Read, Write, TooLong, SampleOutOfRange, SampleCut, CodeEnds, RunPastSegment, ResidualTooLarge}
 

@@ -5,7 +5,7 @@ use Rattle.rice_bits.specs.Bits.{bits_in_bytes}
 use Rattle.rice_samples.specs.Parameters.{Parameters, IsSample, width}
 use Rattle.rice_samples.specs.Spelling.{spellings, StopsAt, NoSpelling}
 use Rattle.aec_tool.specs.Calls.{StopsBetween}
-use Rattle.rice_code.specs.Code.{code, code_bits, output, early_output}
+use Rattle.rice_code.specs.Code.{code_bits, output, early_output}
 use Rattle.rice_code.specs.Coder.{StandsFor, settled, settled_code, fill_samples}
 use Rattle.rice_code.specs.Steps.{least_steps, most_steps}
 use Rattle.aec_tool.specs.declared.encoding.Encoding.{Encoding}

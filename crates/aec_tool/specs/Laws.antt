@@ -1,5 +1,5 @@
 -- What joins encoding and decoding.
-use Rattle.std.specs.Prelude.{◌≡◌, ◌⊎◌, ℕ, List, Option, Some, None}
+use Rattle.std.specs.Prelude.{◌≡◌, ◌⊎◌, Option, Some, None}
 use Rattle.std.specs.Io.KnownBytes.{Consumes}
 use Rattle.rice_samples.specs.Parameters.{Parameters, IsLegal}
 use Rattle.aec_tool.specs.Calls.{Call}

@@ -54,7 +54,9 @@ impl Encoding {
         ensures some { 0 < length samples.now → 0 < result }
         ensures took { (s : Parameters) (old now : Option (List ℕ)) (xs : List ℤ) → Holds s old now self.old xs → Takes s self.new xs (take result samples.now) }
     {
-        let pushed = self.coder.push_some(samples, &mut self.sink, &mut self.meter);
+        let pushed = self
+            .coder
+            .push_some(samples, &mut self.sink, &mut self.meter);
         self.samples += pushed.samples as u64;
         self.bits += pushed.bits;
         pushed.samples

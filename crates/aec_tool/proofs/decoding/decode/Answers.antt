@@ -1,4 +1,4 @@
-use Rattle.std.proofs.Common.{arith, ◌≡◌, ◌≢◌, ◌+◌, ◌*◌, ◌≤◌, List, ℕ, take, refl, ap, sym, ◌∙◌, subst, true, Some}
+use Rattle.std.proofs.Common.{arith, ◌≡◌, ◌≢◌, ◌+◌, ◌*◌, List, ℕ, take, refl, ap, sym, ◌∙◌, subst, true, Some}
 use Rattle.std.specs.Io.KnownBytes.{Appends}
 use Rattle.std.specs.Prelude.{All}
 use Rattle.rice_samples.specs.Parameters.{Parameters, IsSample}
@@ -9,7 +9,7 @@ use Rattle.aec_tool.specs.Decoding.{wanted_of, refusal_fault}
 use Rattle.aec_tool.specs.Decodings.{RunsOn}
 use Rattle.aec_tool.specs.Writes.{TakesPart}
 use Rattle.aec_tool.proofs.DecodingLemmas.{took, gains, moves_of, legal_of_block, stopped, done, stops_here, ends_at, few_legal}
-use Rattle.aec_tool.proofs.ReachLemmas.{Ends, Grows, most_wanted, runs_first, refusal_ends, refusal_fails, ended_ends, done_fails, write_ends, reached_ends, runs_more}
+use Rattle.aec_tool.proofs.ReachLemmas.{Ends, Grows, runs_first, refusal_ends, refusal_fails, ended_ends, done_fails, write_ends, reached_ends, runs_more}
 use Rattle.aec_tool.proofs.decoding.decode.Goals as goal
 
 pub decode_all-init : goal.decode_all-init

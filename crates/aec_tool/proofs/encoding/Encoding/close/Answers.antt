@@ -1,4 +1,4 @@
-use Rattle.std.proofs.Common.{arith, ◌≡◌, ◌+◌, length, refl, subst}
+use Rattle.std.proofs.Common.{arith, ◌≡◌, ◌+◌, refl, subst}
 use Rattle.rice_samples.specs.Parameters.{Parameters}
 use Rattle.rice_code.specs.Code.{code_bits}
 use Rattle.rice_code.specs.Coder.{settled}

@@ -1,5 +1,4 @@
 use Rattle.std.proofs.Common.{arith, ◌<◌, length, take}
-use Rattle.aec_tool.specs.Encoder.{Counts}
 use Rattle.aec_tool.proofs.EncoderLemmas.{none_whole, all_written, fails_in}
 use Rattle.aec_tool.proofs.encoding.Encoding.push.Goals as goal
 

@@ -1,10 +1,10 @@
-use Rattle.std.proofs.Common.{arith, ◌≡◌, ◌≢◌, ◌+◌, ◌-◌, ◌*◌, ◌/◌, ◌%◌, ◌<◌, ◌≤◌, ◌++◌, length, take, drop, refl, ap, sym, ◌∙◌, subst, length-append, length-drop, ℕ, List, ℤ}
+use Rattle.std.proofs.Common.{arith, ◌≡◌, ◌+◌, ◌*◌, ◌/◌, ◌<◌, ◌≤◌, ◌++◌, length, take, drop, refl, ap, sym, ◌∙◌, subst, length-drop, ℕ, List, ℤ}
 use Rattle.std.specs.Prelude.{All}
 use Rattle.std.proofs.Math.Nat.{div-add-mod, mod-lt, mul-le-mul_left}
-use Rattle.std.proofs.lemmas.List.{length-take, length-take-le, take-append-le}
-use Rattle.rice_samples.specs.Parameters.{Parameters, IsSample, width}
-use Rattle.rice_samples.specs.Spelling.{spelling, spellings}
-use Rattle.aec_tool.specs.Encoder.{Holds, FailsIn, Reads}
+use Rattle.std.proofs.lemmas.List.{length-take, take-append-le}
+use Rattle.rice_samples.specs.Parameters.{IsSample, width}
+use Rattle.rice_samples.specs.Spelling.{spellings}
+use Rattle.aec_tool.specs.Encoder.{Holds, FailsIn}
 use Rattle.aec_tool.proofs.EncoderLemmas.{first_of, behind_them, fails_among}
 use Rattle.aec_tool.proofs.encoding.Encoding.push_all.Goals as goal
 

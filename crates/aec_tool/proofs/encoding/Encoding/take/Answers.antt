@@ -1,4 +1,4 @@
-use Rattle.std.proofs.Common.{arith, ◌≡◌, ◌<◌, ◌∙◌, ◌+◌, ◌++◌, length, length-append, take, ap, sym, subst, ℕ, List, ℤ}
+use Rattle.std.proofs.Common.{arith, ◌≡◌, ◌<◌, ◌∙◌, ◌+◌, ◌++◌, length, length-append, take, ap, sym, subst, ℕ}
 use Rattle.std.specs.Prelude.{All}
 use Rattle.std.proofs.lemmas.List.{length-take-le}
 use Rattle.rice_samples.specs.Parameters.{Parameters, IsSample}
