@@ -66,6 +66,8 @@ ROWS = [
     ("32-bit waves", waves, 4, ["-n", "32", "-j", "32", "-r", "128"]),
     ("32-bit noise", noise, 4, ["-n", "32", "-j", "32", "-r", "128"]),
     ("8-bit noise", noise, 1, ["-N"]),
+    ("16-bit noise", noise, 2, ["-N", "-n", "16"]),
+    ("32-bit noise", noise, 4, ["-N", "-n", "32"]),
 ]
 
 
