@@ -46,7 +46,16 @@ impl Segment {
         ensures value { result ≡ length self.now }
         ensures limit { result ≤ 4096 }
     {
-        self.len
+        self.filled().len()
+    }
+
+    /// The residuals so far.
+    #[inline]
+    fn filled(&self) -> &[u32]
+        ensures value { result.now ≡ self.now }
+        ensures limit { length result.now ≤ 4096 }
+    {
+        &self.items[..self.len]
     }
 
     /// Adds a residual at the end.
@@ -103,8 +112,8 @@ impl Segment {
         ensures value { result ≡ slice_range self.now (i * size) (i * size + size) }
         ensures len { length result ≡ size }
     {
-        let items = &self.items[..self.len];
+        let residuals = self.filled();
         let start = i * size;
-        Block::of(&items[start..start + size])
+        Block::of(&residuals[start..start + size])
     }
 }
