@@ -3,7 +3,7 @@ use Rattle.std.proofs.Common.{◌≡◌, ℕ, zero, suc, ◌+◌, ◌-◌, ◌*�
 use Rattle.std.proofs.lemmas.List.Elements.{recursion_from_All, All-from_recursion, All-append}
 use Rattle.std.proofs.Math.Nat.{mul-le-mul_left}
 use Rattle.std.proofs.Math.Seq.{take-length}
-use Rattle.std.proofs.lemmas.List.{length-replicate, take-append-le}
+use Rattle.std.proofs.lemmas.List.{length-replicate, take-append-le, take_all}
 use Rattle.rice_samples.specs.Parameters.{Parameters, IsLegal, IsSample}
 use Rattle.rice_samples.specs.Residuals.{last_of}
 use Rattle.rice_samples.proofs.Levels.{zero_is_sample}
@@ -38,15 +38,9 @@ pub cut_more : (s : Parameters) (wanted : Option ℕ) (b : ℕ) (all xs : List �
 cut_more s None b all xs e = refl
 cut_more s (Some n) b all xs e = let m : n - s.block * 0 - length all ≡ n - s.block * b = omega arith in take_both (n - s.block * 0) all xs ∙ ap (λ k. take (n - s.block * 0) all ++ take k xs) m
 
--- where more are wanted, all are
-take_enough : (n : ℕ) (xs : List ℤ) → length xs ≤ n → take n xs ≡ xs
-take_enough n [] h = take_nothing n
-take_enough zero (x ∷ xs) h = absurd (omega arith)
-take_enough (suc n) (x ∷ xs) h = ap (λ l. x ∷ l) (take_enough n xs (omega arith))
-
 pub cut_none : (s : Parameters) (wanted : Option ℕ) (b : ℕ) (all : List ℤ) → length all ≡ s.block * b → GoesOn s wanted b → cut_to s wanted 0 all ≡ all
 cut_none s None b all e h = refl
-cut_none s (Some n) b all e h = let lt : s.block * b < n = h in take_enough (n - s.block * 0) all (omega arith)
+cut_none s (Some n) b all e h = let lt : s.block * b < n = h in take_all (n - s.block * 0) all (omega arith)
 
 -- no samples
 no_samples : (more : List ℤ) (n : ℕ) → length more ≡ n → n ≡ 0 → more ≡ []

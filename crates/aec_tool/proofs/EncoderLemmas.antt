@@ -8,8 +8,9 @@ use Rattle.rice_code.specs.Code.{data_sets}
 use Rattle.rice_code.specs.Layout.{laid}
 use Rattle.std.specs.Io.KnownBytes.{Appends}
 use Rattle.std.proofs.KnownBytes.{Appends-trans}
+use Rattle.rice_bits.proofs.Bytes.{whole_short}
 use Rattle.rice_bits.specs.Bits.{bits_in_bytes, bits_to_byte, padded, whole_bytes}
-use Rattle.rice_samples.specs.Parameters.{Parameters, IsLegal, IsSample, width}
+use Rattle.rice_samples.specs.Parameters.{Parameters, IsSample, width}
 use Rattle.rice_samples.specs.Places.{block_count, cut}
 use Rattle.rice_samples.specs.Residuals.{filled}
 use Rattle.rice_samples.specs.Spelling.{spellings}
@@ -24,14 +25,11 @@ use Rattle.aec_tool.specs.declared.encoding.Encoding.{Encoding}
 use Rattle.aec_tool.specs.declared.outcome.Report.{Report}
 use Rattle.aec_tool.proofs.SpelledLemmas.{spellings-append}
 use Rattle.std.proofs.Math.Seq.{take-append_seam}
-use Rattle.std.proofs.lemmas.List.{length-take-le, drop-take}
+use Rattle.std.proofs.lemmas.List.{length-take-le, drop-take, take-take}
 use Rattle.std.proofs.lemmas.List.Elements.{All-take}
 use Rattle.std.proofs.Math.Nat.{mul-le-mul_left}
 use Rattle.aec_tool.proofs.BoundLemmas.{Settles, settles, early_bounded, all_bounded, few_steps, few_bits}
-use Rattle.aec_tool.proofs.WholeLemmas.{whole_short, length-part, more_bytes, more_rest}
-
-pub legal_of : (s : Parameters) (e : Encoding) (xs : List ℤ) → Counts s e xs → IsLegal s
-legal_of s e xs c = subst IsLegal c.setting c.stands.holds.legal
+use Rattle.aec_tool.proofs.WholeLemmas.{length-part, more_bytes, more_rest}
 
 pub settled_by : (s : Parameters) (e : Encoding) (xs : List ℤ) → Counts s e xs → Settles s xs
 settled_by s e xs c = settles s e.coder xs c.setting c.stands
@@ -70,17 +68,6 @@ pub record Tally (s : Parameters) (xs ys : List ℤ) (more meter meter_new count
   pub least : meter + more + least_steps s (settled s ys) ≤ meter_new + least_steps s (settled s xs)
   pub most : meter_new + most_steps s (settled s xs) ≤ meter + more + most_steps s (settled s ys)
   pub bits : count_new + code_bits s (settled s xs) ≡ count + code_bits s (settled s ys)
-
--- the first of the first
-pub take_less : {X : Type 0} (m n : ℕ) (l : List X) → m ≤ n → take m (take n l) ≡ take m l
-take_less {X = X} m n [] h = ap (take m) (nothing n)
-  where
-    nothing : (n : ℕ) → take {A = X} n [] ≡ []
-    nothing zero = refl
-    nothing (suc n) = refl
-take_less zero n (x ∷ l) h = refl
-take_less (suc m) zero (x ∷ l) h = absurd (omega arith)
-take_less (suc m) (suc n) (x ∷ l) h = ap (λ l. x ∷ l) (take_less m n l (omega arith))
 
 -- samples are taken
 pub taken_on : (s : Parameters) (old now : Option (List ℕ)) (e f : Encoding) (xs ys : List ℤ) → Holds s old now e xs →
@@ -244,7 +231,7 @@ pub first_of : (s : Parameters) (bytes : List ℕ) (count n : ℕ) (ys : List �
 first_of s bytes count n ys le front legal =
     let w = width s in
     let more : w * n ≤ w * count = mul-le-mul_left w le in
-    let first = take_less (w * n) (w * count) bytes more in
+    let first = take-take (w * n) (w * count) bytes more in
     record { split = sym (take-append-drop (w * n) bytes) ∙ ap (λ l. l ++ drop (w * n) bytes) (sym first ∙ front); legal = legal }
 
 -- what stands behind them
@@ -255,7 +242,7 @@ behind_them s bytes count n lt within =
     let same : w * n + (w + (w * count - w * n - w)) ≡ w * count = omega arith in
     let len = length-drop (w * n) bytes in (
       omega (arith, len, more, within),
-      ap (λ m. take w (drop (w * n) (take m bytes))) (sym same) ∙ ap (take w) (drop-take (w * n) (w + (w * count - w * n - w)) bytes) ∙ take_less w (w + (w * count - w * n - w)) (drop (w * n) bytes) (omega arith),
+      ap (λ m. take w (drop (w * n) (take m bytes))) (sym same) ∙ ap (take w) (drop-take (w * n) (w + (w * count - w * n - w)) bytes) ∙ take-take w (w + (w * count - w * n - w)) (drop (w * n) bytes) (omega arith),
     )
 
 All-front : {X : Type 0} (P : X → Type 0) (xs ys : List X) → All P (xs ++ ys) → All P xs

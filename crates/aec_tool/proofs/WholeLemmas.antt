@@ -2,20 +2,9 @@
 use Rattle.std.proofs.Common.{arith, ◌≡◌, ℕ, zero, suc, ◌+◌, ◌*◌, ◌/◌, ◌<◌, Bool, List, [], ◌∷◌, ◌++◌, length, drop, refl, ap, sym, ◌∙◌, append-nil, length-append, length-drop, take-append-drop}
 use Rattle.std.proofs.Math.Seq.{drop-append-add}
 use Rattle.std.proofs.lemmas.List.{length-take-le}
+use Rattle.rice_bits.proofs.Bytes.{whole_short}
 use Rattle.rice_bits.specs.Bits.{number_of, whole_bytes, bits_in_bytes}
 use Rattle.aec_tool.specs.Encoder.{whole_part}
-
-pub whole_short : (rest : List Bool) → length rest < 8 → whole_bytes rest ≡ []
-unfolding whole_bytes
-whole_short [] h = refl
-whole_short (a ∷ []) h = refl
-whole_short (a ∷ b ∷ []) h = refl
-whole_short (a ∷ b ∷ c ∷ []) h = refl
-whole_short (a ∷ b ∷ c ∷ d ∷ []) h = refl
-whole_short (a ∷ b ∷ c ∷ d ∷ e ∷ []) h = refl
-whole_short (a ∷ b ∷ c ∷ d ∷ e ∷ f ∷ []) h = refl
-whole_short (a ∷ b ∷ c ∷ d ∷ e ∷ f ∷ g ∷ []) h = refl
-whole_short (a ∷ b ∷ c ∷ d ∷ e ∷ f ∷ g ∷ i ∷ rest) h = absurd (omega arith)
 
 pub whole-append : (m : ℕ) (a b : List Bool) → length a ≡ 8 * m → whole_bytes (a ++ b) ≡ whole_bytes a ++ whole_bytes b
 unfolding whole_bytes

@@ -37,7 +37,7 @@ whole_word : (b : ℕ) (rest : List Bool) → b < 256 → whole_bytes (word 8 b 
 unfolding whole_bytes word
 whole_word b rest h = ap (λ n. n ∷ whole_bytes rest) (unfold word in number_of-word 8 b h)
 
-whole_short : (rest : List Bool) → length rest < 8 → whole_bytes rest ≡ []
+pub whole_short : (rest : List Bool) → length rest < 8 → whole_bytes rest ≡ []
 unfolding whole_bytes
 whole_short [] h = refl
 whole_short (a ∷ []) h = refl

@@ -1,5 +1,5 @@
 -- What a decoder gives.
-use Rattle.std.proofs.Common.{◌≡◌, ℕ, zero, suc, ◌+◌, ◌-◌, ◌*◌, ◌/◌, ◌^◌, ◌<◌, ◌≤◌, ◌==◌, Bool, true, false, cond, List, ◌∷◌, ◌++◌, length, take, get_or, replicate, refl, sym, ◌∙◌, ap, subst, arith, Option, None, ℤ, inl, inr, length-append}
+use Rattle.std.proofs.Common.{◌≡◌, ℕ, zero, suc, ◌+◌, ◌-◌, ◌*◌, ◌/◌, ◌^◌, ◌<◌, ◌≤◌, ◌==◌, Bool, true, false, cond, List, ◌∷◌, ◌++◌, length, replicate, refl, sym, ◌∙◌, ap, subst, arith, Option, None, ℤ, inl, inr, length-append}
 use Rattle.std.specs.Prelude.{◌≢◌, All, nat_lt, if◌then◌else◌, ◌&&◌, Some, Result, Ok}
 use Rattle.std.proofs.lemmas.Bool.Decides.{nat_tests}
 use Rattle.std.proofs.Math.Nat.{mod-eq_of_lt}
@@ -25,18 +25,6 @@ use Rattle.rice_samples.specs.Residuals.{last_of}
 use Rattle.rice_code.specs.declared.fault.Step.{Step}
 use Rattle.rice_code.specs.declared.fault.Step.TheVariants.{Block}
 use Rattle.rice_code.specs.declared.fault.CodeFault.{CodeFault}
-
-with_zero : (n : ℕ) (xs : List ℕ) → 0 < n → All (λ d. d < n) xs → All (λ d. d < n) (0 ∷ xs)
-with_zero n xs h f = by_index
-  where
-    by_index : (i d : ℕ) → i < length (0 ∷ xs) → get_or (0 ∷ xs) i d < n
-    by_index zero d lt = h
-    by_index (suc i) d lt = f i d (omega arith)
-
-pub zeros_fit : (count m n : ℕ) → 0 < n → All (λ d. d < n) (take count (replicate m 0))
-zeros_fit zero m n h = λ i d lt. absurd (omega arith)
-zeros_fit (suc count) zero n h = λ i d lt. absurd (omega arith)
-zeros_fit (suc count) (suc m) n h = with_zero n (take count (replicate m 0)) h (zeros_fit count m n h)
 
 -- a run's blocks
 given_run : {I : Type 0} (left : I → Option (List ℕ)) (failed : I → ℕ) (old new : Reader I) (first last : ℕ) (s : Parameters) (b : ℕ) (p : ℤ) (r : Option ℕ) (z : ℕ) (samples : List ℤ) (set d : DataSet)

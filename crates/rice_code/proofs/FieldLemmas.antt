@@ -6,7 +6,7 @@ use Rattle.std.proofs.lemmas.Grind.{get_or_head}
 use Rattle.std.proofs.lemmas.Slice.{take-put_mid}
 use borrow.Rule.Slice.PartMut.{put_mid}
 use Rattle.std.proofs.lemmas.Grind.{flat_map-append}
-use Rattle.std.proofs.lemmas.List.Elements.{All-push, All-append}
+use Rattle.std.proofs.lemmas.List.Elements.{All-append}
 use Rattle.std.proofs.lemmas.List.Sums.{sum_by-append}
 use Rattle.std.proofs.Math.Nat.{mul-le-mul_right}
 use Rattle.std.proofs.Math.Seq.{take-append-add}
@@ -16,6 +16,7 @@ use Rattle.rice_bits.proofs.ReaderLemmas.{takes-none, takes-append, stops-append
 use Rattle.rice_bits.proofs.Words.{length-word, length-fundamental_sequence}
 use Rattle.rice_bits.specs.declared.fault.BitFault.{BitFault}
 use Rattle.rice_samples.specs.Pairs.{pair_code, pair_codes}
+use Rattle.rice_code.proofs.Covers.{both}
 use Rattle.rice_code.specs.Fields.{Row, WordsRead, CountRow, CountsRead, PairRow, ones}
 
 pub flat_map-push : (f : ℕ → List Bool) (xs : List ℕ) (x : ℕ) → flat_map f (xs ++ x ∷ []) ≡ flat_map f xs ++ f x
@@ -31,21 +32,6 @@ row-none left failed f P r before h = record {
   takes = takes-none left failed r h;
 }
 
-pub row-more : {I : Type 0} (left : I → Option (List ℕ)) (failed : I → ℕ) (f : ℕ → List Bool) (P : ℕ → Type 0) (old mid new : Reader I) (count : ℕ) (before after : List ℕ) (v : ℕ)
-    → Row left failed f P old mid count before after → P v → Takes left failed mid new (f v) → Row left failed f P old new (count + 1) before (after ++ v ∷ [])
-row-more left failed f P old mid new count before after v r p t = record {
-  values = r.values ++ v ∷ [];
-  len = omega (arith, length-append r.values (v ∷ []), r.len);
-  each = All-push P r.values v r.each p;
-  appended = ap (λ z. z ++ v ∷ []) r.appended ∙ append_assoc before r.values (v ∷ []);
-  takes = rw (flat_map-push f r.values v) (takes-append left failed old mid new _ _ r.takes t);
-}
-
-both : (a b : Bool) → (a && b) ≡ true → (a ≡ true) × (b ≡ true)
-both true true e = (refl, refl)
-both true false e = absurd cc
-both false b e = absurd cc
-
 pub counts-none : {I : Type 0} (left : I → Option (List ℕ)) (failed : I → ℕ) (r : Reader I) (most : ℕ) (told : List ℕ)
     → told ≡ [] → r.refusal ≡ None → CountsRead left failed r r most true 0 told
 counts-none left failed r most told e h = record {
@@ -54,17 +40,6 @@ counts-none left failed r most told e h = record {
   told_are = λ _. e;
   refused = λ f. absurd cc;
   takes = takes-none left failed r h;
-}
-
--- those that waited
-pub counts-waiting : {I : Type 0} (left : I → Option (List ℕ)) (failed : I → ℕ) (old new : Reader I) (most some : ℕ) (counts : List ℕ)
-    → some ≤ length counts → Takes left failed old new (flat_map fundamental_sequence (take some counts)) → CountsRead left failed old new most true some (take some counts)
-counts-waiting left failed old new most some counts h t = record {
-  values = take some counts;
-  len = length-take-le some counts h;
-  told_are = λ _. refl;
-  refused = λ f. absurd cc;
-  takes = t;
 }
 
 -- a single one, for which v was written, behind none
@@ -225,13 +200,6 @@ pair_codes-push zero (d ∷ ds) a b h = absurd (omega arith)
 pair_codes-push (suc half) [] a b h = absurd (omega arith)
 pair_codes-push (suc half) (d ∷ []) a b h = absurd (omega arith)
 pair_codes-push (suc half) (d ∷ e ∷ ds) a b h = ap (λ z. pair_code d e ∷ z) (pair_codes-push half ds a b (omega arith))
-
-pub length-pairs : (half : ℕ) (ds : List ℕ) → length ds ≡ half + half → length (pair_codes ds) ≡ half
-length-pairs zero [] h = refl
-length-pairs zero (d ∷ ds) h = absurd (omega arith)
-length-pairs (suc half) [] h = absurd (omega arith)
-length-pairs (suc half) (d ∷ []) h = absurd (omega arith)
-length-pairs (suc half) (d ∷ e ∷ ds) h = omega (arith, length-pairs half ds (omega arith))
 
 sum-push2 : (xs : List ℕ) (a b : ℕ) → sum ((xs ++ a ∷ []) ++ b ∷ []) ≡ sum xs + (a + b)
 sum-push2 xs a b = omega (arith, sum_by-append (λ (x : ℕ). x) (xs ++ a ∷ []) (b ∷ []), sum_by-append (λ (x : ℕ). x) xs (a ∷ []))

@@ -27,10 +27,6 @@ joined-at k (m ∷ ms) (l ∷ ls) (suc i) h e = joined-at k ms ls i (omega arith
 pub fit_more : (count : ℕ) (xs : List ℕ) (i : ℕ) → i < length xs → All (λ d. d < count) (take i xs) → get_or xs i 0 < count → All (λ d. d < count) (take (i + 1) xs)
 fit_more count xs i h f k = rw (take_more xs i 0 h) (All-push (λ d. d < count) (take i xs) (get_or xs i 0) f k)
 
--- a part that is small in its place
-pub high_fits : (high limit p : ℕ) → 0 < p → high ≤ limit / p → high * p ≤ limit
-high_fits high limit p h le = (le-div_iff_mul-le {k = p} {x = high} {y = limit} h).0 le
-
 -- the pieces of joined parts
 pub high_pieces : (k : ℕ) (ms ls : List ℕ) → length ls ≡ length ms → All (λ l. l < 2 ^ k) ls →
     flat_map (λ d. fundamental_sequence (d / 2 ^ k)) (joined_parts k ms ls) ≡ flat_map fundamental_sequence ms
@@ -108,8 +104,3 @@ highs_small k count ms ls same some h = λ i d lt.
     let fits : get_or ms i 0 * 2 ^ k ≤ count - 1 = omega (arith, below, joined-at k ms ls i lt same) in
     let small : get_or ms i 0 ≤ (count - 1) / 2 ^ k = (le-div_iff_mul-le {k = 2 ^ k} {x = get_or ms i 0} {y = count - 1} (pow_pos k)).1 fits in
     subst (λ m. m ≤ (count - 1) / 2 ^ k) (sym (get_or_default_zero ms i d lt)) small
-
--- what is small for a number of values is small for 2^32
-pub small_fits : (k count : ℕ) (ms : List ℕ) → 0 < count → count ≤ 2 ^ 32 → All (λ m. m ≤ (count - 1) / 2 ^ k) ms → All (λ m. m ≤ (2 ^ 32 - 1) / 2 ^ k) ms
-small_fits k count ms some le h = λ i d lt.
-    (le-div_iff_mul-le {k = 2 ^ k} {x = get_or ms i d} {y = 2 ^ 32 - 1} (pow_pos k)).1 (omega (arith, high_fits (get_or ms i d) (count - 1) (2 ^ k) (pow_pos k) (h i d lt), some, le))

@@ -16,7 +16,8 @@ use Rattle.rice_code.specs.DataSets.{DataSet, NoCompression, SecondExtension, Sp
 use Rattle.rice_code.specs.Forms.{IsForm, IsReference, IsBlock}
 use Rattle.rice_code.specs.Fields.{Row, CountRow, PairRow, ones}
 use Rattle.rice_code.specs.ReadSets.{BlockRead, BlockCut, reference_place, joined_parts}
-use Rattle.rice_code.proofs.FieldLemmas.{length-words, ones-append, ones-zeros, ones-sequence, ones-sequences, length-pairs}
+use Rattle.rice_samples.proofs.PairLemmas.{count_pairs}
+use Rattle.rice_code.proofs.FieldLemmas.{length-words, ones-append, ones-zeros, ones-sequence, ones-sequences}
 use Rattle.rice_code.proofs.JoinedParts.{length-joined, high_pieces, low_pieces, highs_small}
 use Rattle.std.proofs.lemmas.Nat.{pow_pos}
 use Rattle.rice_code.proofs.Reading.{after_reference}
@@ -156,7 +157,7 @@ second_cut left failed old mid new s b r half bits f h n t short stops = record 
   stops = stops-append left failed old mid new _ bits f t stops;
   none = λ c more form e.
       (let a = behind_reference s b r c.reference bits (flat_map fundamental_sequence (pair_codes c.residuals)) more h form.reference e in
-      omega (arith, ap ones a.1, ones-append (flat_map fundamental_sequence (pair_codes c.residuals)) more, ones-sequences (pair_codes c.residuals), length-pairs half c.residuals (form.len ∙ sym n)));
+      omega (arith, ap ones a.1, ones-append (flat_map fundamental_sequence (pair_codes c.residuals)) more, ones-sequences (pair_codes c.residuals), count_pairs half c.residuals (form.len ∙ sym n)));
 }
 
 all-suffix : (P : ℕ → Type 0) (r : Option ℕ) (vs : List ℕ) → All P (reference_place r ++ vs) → All P vs

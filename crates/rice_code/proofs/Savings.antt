@@ -126,10 +126,6 @@ best_numbered {A} f g a from (suc n) k h i first least =
     at_least : (m n : ℕ) → nat_lt m n ≡ false → n ≤ m
     at_least m n e = grind (arith, nat_tests)
 
--- the costs of the splits, without what they share
-split_cost_is : (s : Parameters) (c : Contents) (k : ℕ) → cost s (Split k c) ≡ id_len s + reference_len s c.reference + (length (coded c) * (k + 1) + shifted (coded c) k)
-split_cost_is s c k = omega arith
-
 -- the search may stop where the next split is no shorter
 pub best_where_it_stops : (s : Parameters) (c : Contents) (k : ℕ) → k ≤ k_max s → ((j : ℕ) → j < k → cost s (Split k c) < cost s (Split j c)) → cost s (Split k c) ≤ cost s (Split (k + 1) c) → IsBestSplit s c k
 best_where_it_stops s c k h first stop = record {

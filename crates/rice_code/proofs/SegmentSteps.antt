@@ -1,6 +1,6 @@
 -- A segment's blocks are coded one by one.
 use Rattle.std.proofs.Common.{◌≡◌, ℕ, zero, suc, ◌+◌, ◌-◌, ◌*◌, ◌^◌, ◌<◌, ◌≤◌, min, Bool, true, false, cond, List, [], ◌∷◌, ◌++◌, length, take, drop, refl, ap, arith, sym, ◌∙◌, inl, inr, subst, append_assoc, append-nil, length-append, Option, None}
-use Rattle.std.specs.Prelude.{sum_by, IfSome, slice_range}
+use Rattle.std.specs.Prelude.{sum_by, slice_range}
 use Rattle.std.proofs.lemmas.Bool.{cases_lt}
 use Rattle.std.proofs.lemmas.List.{drop_all}
 use Rattle.std.proofs.lemmas.List.Sums.{sum_by-cons}
@@ -8,7 +8,7 @@ use Rattle.std.proofs.lemmas.Grind.{flat_map-append}
 use Rattle.std.proofs.Math.Nat.{mul-le-mul_left, mul-le-mul_right}
 use Rattle.rice_bits.proofs.Words.{length-word, length-fundamental_sequence}
 use Rattle.rice_bits.specs.Bits.{word, fundamental_sequence}
-use Rattle.rice_samples.specs.Parameters.{Parameters, id_len, k_max, value_count}
+use Rattle.rice_samples.specs.Parameters.{Parameters, id_len, k_max}
 use Rattle.rice_samples.specs.Places.{begins_segment, blocks_left}
 use Rattle.rice_samples.proofs.PlaceLemmas.{one_less_left, last_of_segment}
 use Rattle.rice_code.specs.Blocks.{Contents, is_zero}
@@ -77,10 +77,6 @@ held_sound s start r n ds i h k = (subst (λ cs. AreSoundBlocks s (start + i) cs
 
 pub sound_of : (s : Parameters) (b : ℕ) (c : Contents) → IsSoundBlock s b c → IsSound s c
 sound_of s b c h = record { len = h.block.len; fit = h.fit; reference = h.block.reference.fits; zero = h.at_reference }
-
-pub reference_fits : (s : Parameters) (r : Option ℕ) (i : ℕ) → IfSome r (λ v. v < value_count s) → IfSome (reference_at r i) (λ v. v < value_count s)
-reference_fits s r zero h = h
-reference_fits s r (suc i) h = tt
 
 reference_first : (r : Option ℕ) (i run : ℕ) → run ≡ 0 → reference_at r i ≡ reference_at r (i - run)
 reference_first r i run e = let f : i ≡ i - run = omega arith in ap (reference_at r) f

@@ -1,13 +1,9 @@
 -- The residuals of samples in a row, by ranks among numbers.
-use Rattle.std.proofs.Common.{◌≡◌, ℕ, ◌+◌, ◌<◌, ◌≤◌, List, [], ◌∷◌, ◌++◌, length, take, drop, map, All, refl, ap, sym, arith, ◌∙◌, append_assoc, slice_index_or, slice_set, suc, ℤ}
+use Rattle.std.proofs.Common.{◌≡◌, ℕ, ◌+◌, ◌<◌, ◌≤◌, List, [], ◌∷◌, ◌++◌, length, take, drop, map, All, refl, ap, sym, arith, ◌∙◌, append_assoc, slice_index_or, slice_set, ℤ}
 use Rattle.std.proofs.lemmas.List.Elements.{All-map}
 use Rattle.std.proofs.lemmas.List.{drop_more, take_more_set, drop-set-lt}
 use Rattle.rice_samples.specs.Parameters.{Parameters, IsSample, level, value_count}
 use Rattle.rice_samples.specs.Residuals.{rank, rank_below, ranks, ranks_below}
-
-pub length-ranks : (s : Parameters) (p : ℤ) (xs : List ℤ) → length (ranks s p xs) ≡ length xs
-length-ranks s p [] = refl
-length-ranks s p (x ∷ xs) = ap (λ n. suc n) (length-ranks s x xs)
 
 pub ranks_are : (s : Parameters) (p : ℤ) (xs : List ℤ) → ranks s p xs ≡ ranks_below (value_count s) (level s p) (map (level s) xs)
 ranks_are s p [] = refl

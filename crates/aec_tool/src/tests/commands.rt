@@ -1,6 +1,7 @@
 //! `start` over a runtime in memory.
 use crate::start_up::start;
 use crate::tests::memory::{Memory, Record, Told};
+use std::process::Abort;
 use std::test::Fail;
 
 // Eight samples of 7 bits, all 0, coded without compression.
@@ -177,10 +178,23 @@ fn finds_options_in_all_places(rt: HostRuntime) -> Result<(), Fail> {
     Ok(())
 }
 
+/// The words, the input, the room for output, the output, the errors, the status.
+type Case<'a> = (&'a [&'a str], &'a [u8], usize, &'a str, &'a str, u8);
+
+/// Whether each is answered so.
+fn says(rt: HostRuntime, abort: &impl Abort, cases: &[Case<'_>]) -> Result<(), Fail> {
+    for (words, input, room, output, errors, wanted) in cases {
+        let (status, told) = told(rt, words, input, *room)?;
+        assert_eq!(abort; told.output.as_str(), *output);
+        assert_eq!(abort; told.errors.as_str(), *errors);
+        assert_eq!(abort; (status, told.created), (*wanted, 0));
+    }
+    Ok(())
+}
+
 #[test]
-fn tells_what_the_engine_says(rt: HostRuntime) -> Result<(), Fail> {
-    // The words, the input, the room for output, the output, the errors, the status.
-    let cases: [(&[&str], &[u8], usize, &str, &str, u8); 13] = [
+fn writes_what_the_engine_makes(rt: HostRuntime) -> Result<(), Fail> {
+    let cases: [Case<'_>; 6] = [
         (&["-N", "-n", "7", "-", "-"], b"", 100, "", "", 0),
         (
             &["-N", "-n", "7", "-d", "-", "-"],
@@ -198,6 +212,16 @@ fn tells_what_the_engine_says(rt: HostRuntime) -> Result<(), Fail> {
             "",
             0,
         ),
+        (&["-", "-"], &SIXTEEN[..8], 100, "\0X", "", 0),
+        (&["-", "-"], SIXTEEN, 100, "\0T", "", 0),
+        (&["-r", "1", "-p", "-", "-"], SIXTEEN, 100, "\0X\0X", "", 0),
+    ];
+    says(rt, &rt, &cases)
+}
+
+#[test]
+fn tells_why_the_engine_stopped(rt: HostRuntime) -> Result<(), Fail> {
+    let cases: [Case<'_>; 5] = [
         (
             &["-N", "-n", "7", "-d", "--samples", "9", "-", "-"],
             CODE,
@@ -222,9 +246,6 @@ fn tells_what_the_engine_says(rt: HostRuntime) -> Result<(), Fail> {
             "aec: input ends inside sample 1\n",
             1,
         ),
-        (&["-", "-"], &SIXTEEN[..8], 100, "\0X", "", 0),
-        (&["-", "-"], SIXTEEN, 100, "\0T", "", 0),
-        (&["-r", "1", "-p", "-", "-"], SIXTEEN, 100, "\0X\0X", "", 0),
         (
             &["-d", "-", "-"],
             b"\0\x02",
@@ -241,32 +262,34 @@ fn tells_what_the_engine_says(rt: HostRuntime) -> Result<(), Fail> {
             "aec: residual too large in block 0\n",
             1,
         ),
-        // The flush fails.
-        (
-            &["-N", "-n", "7", "-d", "-", "-"],
-            CODE,
-            3,
-            "\0\0\0",
-            "aec: write failed\n",
-            1,
-        ),
-        // The engine stops first, and then the flush fails.
-        (
-            &["-N", "-n", "7", "-d", "--samples", "9", "-", "-"],
-            CODE,
-            3,
-            "\0\0\0",
-            "aec: code ends after 8 samples\n",
-            1,
-        ),
     ];
-    for (words, input, room, output, errors, wanted) in cases {
-        let (status, told) = told(rt, words, input, room)?;
-        assert_eq!(rt; told.output.as_str(), output);
-        assert_eq!(rt; told.errors.as_str(), errors);
-        assert_eq!(rt; (status, told.created), (wanted, 0));
-    }
-    Ok(())
+    says(rt, &rt, &cases)
+}
+
+#[test]
+fn tells_that_the_flush_failed(rt: HostRuntime) -> Result<(), Fail> {
+    let cases: [Case<'_>; 1] = [(
+        &["-N", "-n", "7", "-d", "-", "-"],
+        CODE,
+        3,
+        "\0\0\0",
+        "aec: write failed\n",
+        1,
+    )];
+    says(rt, &rt, &cases)
+}
+
+#[test]
+fn tells_of_the_engine_before_the_flush(rt: HostRuntime) -> Result<(), Fail> {
+    let cases: [Case<'_>; 1] = [(
+        &["-N", "-n", "7", "-d", "--samples", "9", "-", "-"],
+        CODE,
+        3,
+        "\0\0\0",
+        "aec: code ends after 8 samples\n",
+        1,
+    )];
+    says(rt, &rt, &cases)
 }
 
 #[test]

@@ -1,7 +1,7 @@
 //! Codes of any coder, whole and cut, and what they decode to.
 use crate::decoding::decode;
 use crate::outcome::Fault;
-use crate::tests::options::{Bytes, DEFAULT, Options};
+use crate::tests::options::{Bytes, DEFAULT, NOTHING, Options, again, all};
 use rice_bits::{MemoryIn, MemoryOut, ZeroIn};
 use std::alloc::Global;
 use std::process::Abort;
@@ -17,8 +17,6 @@ const CLEAN: Option<Fault> = None;
 const PAST: Option<Fault> = Some(Fault::RunPastSegment { block: 0 });
 
 const LARGE: Option<Fault> = Some(Fault::ResidualTooLarge { block: 0 });
-
-const NOTHING: Bytes<'static> = Bytes(b"", 0, b"");
 
 fn cut(samples: u64) -> Option<Fault> {
     Some(Fault::CodeEnds { samples })
@@ -44,99 +42,24 @@ fn holds(rt: &impl Abort, alloc: Global, cases: &[Case<'_>]) -> Result<(), Fail>
 }
 
 #[test]
-fn any_coder_is_decoded(rt: HostRuntime) -> Result<(), Fail> {
+fn blocks_are_decoded(rt: HostRuntime) -> Result<(), Fail> {
     let cases = [
         Case(DEFAULT, NOTHING, None, NOTHING, CLEAN),
+        Case(DEFAULT, all(&[0x00, 0x58]), None, again(&[5], 8), CLEAN),
+        Case(DEFAULT, all(&[0x00, 0x58]), Some(1), all(&[5]), CLEAN),
         Case(
             DEFAULT,
-            Bytes(&[0x00, 0x58], 1, b""),
+            all(&[0x00, 0x58, 0, 0]),
             None,
-            Bytes(&[5], 8, b""),
+            again(&[5], 8),
             CLEAN,
         ),
+        Case(DEFAULT, again(&[0xFF], 2), Some(0), NOTHING, CLEAN),
         Case(
             DEFAULT,
-            Bytes(&[0x00, 0x58], 1, b""),
-            Some(1),
-            Bytes(&[5], 1, b""),
-            CLEAN,
-        ),
-        Case(
-            DEFAULT,
-            Bytes(&[0x00, 0x58, 0, 0], 1, b""),
+            all(&[0x40, 0x15, 0x55, 0x80]),
             None,
-            Bytes(&[5], 8, b""),
-            CLEAN,
-        ),
-        Case(DEFAULT, Bytes(&[0xFF], 2, b""), Some(0), NOTHING, CLEAN),
-        Case(
-            DEFAULT,
-            Bytes(b"", 0, &[0x40, 0x15, 0x55, 0x80]),
-            None,
-            Bytes(b"", 0, &[0, 1, 2, 3, 4, 5, 6, 7]),
-            CLEAN,
-        ),
-        Case(
-            DEFAULT,
-            Bytes(&[0, 0, 0x80], 1, b""),
-            None,
-            Bytes(&[0], 16, b""),
-            CLEAN,
-        ),
-        Case(
-            DEFAULT.interval(64),
-            Bytes(&[0, 0, 0x80], 1, b""),
-            None,
-            Bytes(&[0], 512, b""),
-            CLEAN,
-        ),
-        Case(
-            DEFAULT.interval(64),
-            Bytes(&[0, 0, 0x80], 1, b""),
-            Some(40),
-            Bytes(&[0], 40, b""),
-            CLEAN,
-        ),
-        Case(
-            DEFAULT.interval(5),
-            Bytes(&[0, 0, 0x40], 1, b""),
-            None,
-            Bytes(&[0], 40, b""),
-            CLEAN,
-        ),
-        Case(
-            DEFAULT.interval(64),
-            Bytes(&[0], 9, &[0x10]),
-            None,
-            Bytes(&[0], 504, b""),
-            CLEAN,
-        ),
-        Case(
-            DEFAULT.bits(1),
-            Bytes(b"", 0, &[0xCF, 0xE1, 0, 0, 0, 0]),
-            None,
-            Bytes(b"", 0, &[0, 1, 1, 1, 1, 1, 1, 1]),
-            CLEAN,
-        ),
-        Case(
-            DEFAULT.bare().block(64).interval(64),
-            Bytes(&[0x00, 0x80], 1, b""),
-            None,
-            Bytes(&[0], 4096, b""),
-            CLEAN,
-        ),
-        Case(
-            DEFAULT.interval(1).padded(),
-            Bytes(&[0x00, 0x58], 2, b""),
-            None,
-            Bytes(&[5], 16, b""),
-            CLEAN,
-        ),
-        Case(
-            DEFAULT.interval(1).padded(),
-            Bytes(&[0x00, 0x5F, 0x00, 0x58], 1, b""),
-            None,
-            Bytes(&[5], 16, b""),
+            all(&[0, 1, 2, 3, 4, 5, 6, 7]),
             CLEAN,
         ),
     ];
@@ -144,50 +67,106 @@ fn any_coder_is_decoded(rt: HostRuntime) -> Result<(), Fail> {
 }
 
 #[test]
-fn what_is_no_code_is_refused(rt: HostRuntime) -> Result<(), Fail> {
+fn runs_are_decoded(rt: HostRuntime) -> Result<(), Fail> {
+    let cases = [
+        Case(DEFAULT, all(&[0, 0, 0x80]), None, again(&[0], 16), CLEAN),
+        Case(
+            DEFAULT.interval(64),
+            all(&[0, 0, 0x80]),
+            None,
+            again(&[0], 512),
+            CLEAN,
+        ),
+        Case(
+            DEFAULT.interval(64),
+            all(&[0, 0, 0x80]),
+            Some(40),
+            again(&[0], 40),
+            CLEAN,
+        ),
+        Case(
+            DEFAULT.interval(5),
+            all(&[0, 0, 0x40]),
+            None,
+            again(&[0], 40),
+            CLEAN,
+        ),
+        Case(
+            DEFAULT.interval(64),
+            Bytes(&[0], 9, &[0x10]),
+            None,
+            again(&[0], 504),
+            CLEAN,
+        ),
+        Case(
+            DEFAULT.bare().block(64).interval(64),
+            all(&[0x00, 0x80]),
+            None,
+            again(&[0], 4096),
+            CLEAN,
+        ),
+    ];
+    holds(&rt, rt.alloc(), &cases)
+}
+
+#[test]
+fn other_splits_and_padding_are_decoded(rt: HostRuntime) -> Result<(), Fail> {
+    let cases = [
+        Case(
+            DEFAULT.bits(1),
+            all(&[0xCF, 0xE1, 0, 0, 0, 0]),
+            None,
+            all(&[0, 1, 1, 1, 1, 1, 1, 1]),
+            CLEAN,
+        ),
+        Case(
+            DEFAULT.interval(1).padded(),
+            again(&[0x00, 0x58], 2),
+            None,
+            again(&[5], 16),
+            CLEAN,
+        ),
+        Case(
+            DEFAULT.interval(1).padded(),
+            all(&[0x00, 0x5F, 0x00, 0x58]),
+            None,
+            again(&[5], 16),
+            CLEAN,
+        ),
+    ];
+    holds(&rt, rt.alloc(), &cases)
+}
+
+#[test]
+fn a_code_that_ends_early_is_told(rt: HostRuntime) -> Result<(), Fail> {
     let cases = [
         Case(
             DEFAULT.bare(),
-            Bytes(
-                b"",
-                0,
-                &[0xFE, 0x1E, 0x3E, 0x5E, 0x7E, 0x9E, 0xBE, 0xDE, 0xE0],
-            ),
+            all(&[0xFE, 0x1E, 0x3E, 0x5E, 0x7E, 0x9E, 0xBE, 0xDE, 0xE0]),
             Some(9),
-            Bytes(b"", 0, &[0xF0, 0xF1, 0xF2, 0xF3, 0xF4, 0xF5, 0xF6, 0xF7]),
+            all(&[0xF0, 0xF1, 0xF2, 0xF3, 0xF4, 0xF5, 0xF6, 0xF7]),
             cut(8),
         ),
-        Case(DEFAULT, Bytes(&[0x20, 0x09], 1, b""), None, NOTHING, cut(0)),
+        Case(DEFAULT, all(&[0x20, 0x09]), None, NOTHING, cut(0)),
         Case(DEFAULT, NOTHING, Some(1), NOTHING, cut(0)),
-        Case(
-            DEFAULT,
-            Bytes(&[0x00, 0x58], 1, b""),
-            Some(9),
-            Bytes(&[5], 8, b""),
-            cut(8),
-        ),
-        Case(
-            DEFAULT.bare(),
-            Bytes(&[0xFE, 0x1E], 1, b""),
-            None,
-            NOTHING,
-            cut(0),
-        ),
+        Case(DEFAULT, all(&[0x00, 0x58]), Some(9), again(&[5], 8), cut(8)),
+        Case(DEFAULT.bare(), all(&[0xFE, 0x1E]), None, NOTHING, cut(0)),
         Case(
             DEFAULT.interval(1),
-            Bytes(&[0x00, 0x58], 2, b""),
+            again(&[0x00, 0x58], 2),
             None,
             Bytes(&[5], 8, &[0, 0, 0, 0, 0, 0, 0, 0]),
             cut(16),
         ),
-        Case(DEFAULT, Bytes(&[0x00, 0x02], 1, b""), None, NOTHING, PAST),
-        Case(
-            DEFAULT,
-            Bytes(&[0x00, 0x02], 1, b""),
-            Some(8),
-            NOTHING,
-            PAST,
-        ),
+    ];
+    holds(&rt, rt.alloc(), &cases)
+}
+
+#[test]
+fn what_is_not_sound_is_refused(rt: HostRuntime) -> Result<(), Fail> {
+    let cases = [
+        Case(DEFAULT, all(&[0x00, 0x02]), None, NOTHING, PAST),
+        Case(DEFAULT, all(&[0x00, 0x02]), Some(8), NOTHING, PAST),
         Case(
             DEFAULT.interval(64),
             Bytes(&[0], 9, &[0x08]),
@@ -197,21 +176,15 @@ fn what_is_no_code_is_refused(rt: HostRuntime) -> Result<(), Fail> {
         ),
         Case(
             DEFAULT.bits(4),
-            Bytes(b"", 0, &[0x20, 0x00, 0x01, 0xFC]),
+            all(&[0x20, 0x00, 0x01, 0xFC]),
             None,
             NOTHING,
             LARGE,
         ),
-        Case(
-            DEFAULT,
-            Bytes(b"", 0, &[0x10, 0x57, 0x80]),
-            None,
-            NOTHING,
-            LARGE,
-        ),
+        Case(DEFAULT, all(&[0x10, 0x57, 0x80]), None, NOTHING, LARGE),
         Case(
             DEFAULT.bits(1),
-            Bytes(b"", 0, &[0xCF, 0xE2, 0, 0, 0, 0]),
+            all(&[0xCF, 0xE2, 0, 0, 0, 0]),
             None,
             NOTHING,
             LARGE,

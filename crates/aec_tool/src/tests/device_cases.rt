@@ -2,8 +2,10 @@
 use crate::decoding::decode;
 use crate::encoding::encode;
 use crate::outcome::Fault;
-use crate::tests::options::{Bytes, DEFAULT, Options};
+use crate::tests::options::{Bytes, DEFAULT, Options, again, all};
 use rice_bits::{MemoryIn, MemoryOut};
+use std::alloc::Global;
+use std::process::Abort;
 use std::test::Fail;
 
 /// Samples to encode, where the intake and the outlet fail, what is written, and how it ends.
@@ -23,15 +25,41 @@ fn range(index: u64) -> Fault {
     Fault::SampleOutOfRange { index }
 }
 
+/// Whether each ends so, in pieces of any size.
+fn holds(rt: &impl Abort, alloc: Global, cases: &[Case<'_>]) -> Result<(), Fail> {
+    for Case(options, samples, reads, writes, written, fault, count, bits) in cases {
+        let setting = options.setting()?;
+        let input = samples.list(alloc)?;
+        for piece in [1, 7, 4096] {
+            let mut room = [0u8; 64];
+            let mut outlet = MemoryOut::new(&mut room, piece, *writes);
+            let mut intake = MemoryIn::new(input.as_slice(), piece, *reads);
+            let outcome = encode(&setting, &mut intake, &mut outlet);
+            assert_eq!(rt; outcome.fault, Some(*fault));
+            has_written(rt, &outlet, written)?;
+            assert_eq!(rt;
+                (outcome.report.samples, outcome.report.bits),
+                (*count, *bits)
+            );
+        }
+    }
+    Ok(())
+}
+
+/// Whether these bytes were written.
+fn has_written(rt: &impl Abort, outlet: &MemoryOut<'_>, bytes: &[u8]) -> Result<(), Fail> {
+    assert_eq!(rt; outlet.written(), bytes);
+    Ok(())
+}
+
 #[test]
-fn encoding_stops_at_a_fault(rt: HostRuntime) -> Result<(), Fail> {
-    let fives = Bytes(&[5], 16, b"");
+fn what_is_no_sample_stops_encoding(rt: HostRuntime) -> Result<(), Fail> {
     let mixed = Bytes(&[5], 8, &[0x10]);
     let single = DEFAULT.interval(1);
     let cases = [
         Case(
             DEFAULT.bits(4),
-            Bytes(&[0x10], 1, b""),
+            all(&[0x10]),
             None,
             None,
             b"",
@@ -41,7 +69,7 @@ fn encoding_stops_at_a_fault(rt: HostRuntime) -> Result<(), Fail> {
         ),
         Case(
             DEFAULT.bits(10),
-            Bytes(b"", 0, &[5, 0, 5]),
+            all(&[5, 0, 5]),
             None,
             None,
             b"",
@@ -51,7 +79,7 @@ fn encoding_stops_at_a_fault(rt: HostRuntime) -> Result<(), Fail> {
         ),
         Case(
             DEFAULT.bits(10),
-            Bytes(b"", 0, &[5, 0, 0, 4, 5]),
+            all(&[5, 0, 0, 4, 5]),
             None,
             None,
             b"",
@@ -70,6 +98,15 @@ fn encoding_stops_at_a_fault(rt: HostRuntime) -> Result<(), Fail> {
             8,
             9,
         ),
+    ];
+    holds(&rt, rt.alloc(), &cases)
+}
+
+#[test]
+fn an_intake_that_fails_stops_encoding(rt: HostRuntime) -> Result<(), Fail> {
+    let fives = again(&[5], 16);
+    let single = DEFAULT.interval(1);
+    let cases = [
         Case(single, fives, Some(8), None, &[0x00], Fault::Read, 8, 13),
         Case(
             single.padded(),
@@ -94,6 +131,15 @@ fn encoding_stops_at_a_fault(rt: HostRuntime) -> Result<(), Fail> {
             16,
             26,
         ),
+    ];
+    holds(&rt, rt.alloc(), &cases)
+}
+
+#[test]
+fn an_outlet_that_fails_stops_encoding(rt: HostRuntime) -> Result<(), Fail> {
+    let fives = again(&[5], 16);
+    let single = DEFAULT.interval(1);
+    let cases = [
         Case(single, fives, None, Some(1), &[0x00], Fault::Write, 16, 26),
         Case(single, fives, None, Some(0), b"", Fault::Write, 8, 13),
         Case(
@@ -107,22 +153,7 @@ fn encoding_stops_at_a_fault(rt: HostRuntime) -> Result<(), Fail> {
             13,
         ),
     ];
-    for Case(options, samples, reads, writes, written, fault, count, bits) in cases {
-        let input = samples.list(rt.alloc())?;
-        for piece in [1, 7, 4096] {
-            let mut room = [0u8; 64];
-            let mut outlet = MemoryOut::new(&mut room, piece, writes);
-            let mut intake = MemoryIn::new(input.as_slice(), piece, reads);
-            let outcome = encode(&options.setting()?, &mut intake, &mut outlet);
-            assert_eq!(&rt; outcome.fault, Some(fault));
-            assert_eq!(&rt; outlet.written(), written);
-            assert_eq!(&rt;
-                (outcome.report.samples, outcome.report.bits),
-                (count, bits)
-            );
-        }
-    }
-    Ok(())
+    holds(&rt, rt.alloc(), &cases)
 }
 
 #[test]

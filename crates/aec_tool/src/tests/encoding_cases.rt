@@ -3,7 +3,7 @@ ghost use Rattle.std.specs.Prelude.{◌<◌};
 
 use crate::decoding::decode;
 use crate::encoding::encode;
-use crate::tests::options::{Bytes, DEFAULT, Options};
+use crate::tests::options::{Bytes, DEFAULT, NOTHING, Options, again, all};
 use rice_bits::{MemoryIn, MemoryOut};
 use rice_samples::Setting;
 use std::alloc::Global;
@@ -69,18 +69,18 @@ fn encodes(
 }
 
 #[test]
-fn samples_encode_by_one_option(rt: HostRuntime) -> Result<(), Fail> {
+fn blocks_encode(rt: HostRuntime) -> Result<(), Fail> {
     let cases = [
-        Case(DEFAULT, Bytes(b"", 0, b""), b"", Some(0)),
-        Case(DEFAULT.bare(), Bytes(b"", 0, b""), b"", Some(0)),
-        Case(DEFAULT, Bytes(&[5], 1, b""), &[0x00, 0x58], None),
+        Case(DEFAULT, NOTHING, b"", Some(0)),
+        Case(DEFAULT.bare(), NOTHING, b"", Some(0)),
+        Case(DEFAULT, all(&[5]), &[0x00, 0x58], None),
         Case(
             DEFAULT,
-            Bytes(b"", 0, &[0, 1, 2, 3, 4, 5, 6, 7]),
+            all(&[0, 1, 2, 3, 4, 5, 6, 7]),
             &[0x20, 0x09, 0x24, 0x92],
             Some(31),
         ),
-        Case(DEFAULT, Bytes(&[0, 0xFF], 4, b""), &LARGEST_CODE, Some(67)),
+        Case(DEFAULT, again(&[0, 0xFF], 4), &LARGEST_CODE, Some(67)),
         Case(
             DEFAULT,
             Bytes(&[5], 15, &[4]),
@@ -93,57 +93,61 @@ fn samples_encode_by_one_option(rt: HostRuntime) -> Result<(), Fail> {
             &[0x00, 0x58, 0xC9, 0x20],
             Some(27),
         ),
+    ];
+    holds(&rt, rt.alloc(), &cases)
+}
+
+#[test]
+fn blocks_without_preprocessing_encode(rt: HostRuntime) -> Result<(), Fail> {
+    let cases = [
         Case(DEFAULT.bare(), Bytes(&[0], 7, &[1]), &[0x1E, 0x40], None),
-        Case(
-            DEFAULT.bare(),
-            Bytes(b"", 0, &COUNTED),
-            &COUNTED_CODE,
-            Some(67),
-        ),
-        Case(DEFAULT.bare(), Bytes(&[0xF0], 1, b""), &ONE_CODE, Some(67)),
+        Case(DEFAULT.bare(), all(&COUNTED), &COUNTED_CODE, Some(67)),
+        Case(DEFAULT.bare(), all(&[0xF0]), &ONE_CODE, Some(67)),
         Case(
             DEFAULT.bare(),
             Bytes(&[0], 3, &[1, 0, 1, 0, 1]),
             &[0x19, 0x24],
             Some(14),
         ),
-        Case(
-            DEFAULT.bits(1),
-            Bytes(&[0, 1], 4, b""),
-            &[0xEF, 0xE0],
-            Some(11),
-        ),
+        Case(DEFAULT.bits(1), again(&[0, 1], 4), &[0xEF, 0xE0], Some(11)),
     ];
     holds(&rt, rt.alloc(), &cases)
 }
 
 #[test]
-fn samples_encode_by_runs(rt: HostRuntime) -> Result<(), Fail> {
+fn runs_encode(rt: HostRuntime) -> Result<(), Fail> {
     let cases = [
-        Case(DEFAULT, Bytes(&[5], 8, b""), &[0x00, 0x58], Some(13)),
-        Case(DEFAULT, Bytes(&[5], 16, b""), &[0x00, 0x54], Some(14)),
+        Case(DEFAULT, again(&[5], 8), &[0x00, 0x58], Some(13)),
+        Case(DEFAULT, again(&[5], 16), &[0x00, 0x54], Some(14)),
         Case(
             DEFAULT.interval(1),
-            Bytes(&[5], 16, b""),
+            again(&[5], 16),
             &[0x00, 0x58, 0x02, 0xC0],
             Some(26),
         ),
-        Case(DEFAULT.block(16), Bytes(&[5], 16, b""), &[0x00, 0x58], None),
+        Case(DEFAULT.block(16), again(&[5], 16), &[0x00, 0x58], None),
+    ];
+    holds(&rt, rt.alloc(), &cases)
+}
+
+#[test]
+fn runs_of_a_segment_encode(rt: HostRuntime) -> Result<(), Fail> {
+    let cases = [
         Case(
             DEFAULT.interval(64),
-            Bytes(&[0], 40, b""),
+            again(&[0], 40),
             &[0x00, 0x00, 0x80],
             None,
         ),
         Case(
             DEFAULT.interval(64),
-            Bytes(&[0], 33, b""),
+            again(&[0], 33),
             &[0x00, 0x00, 0x80],
             None,
         ),
         Case(
             DEFAULT.interval(64),
-            Bytes(&[0], 32, b""),
+            again(&[0], 32),
             &[0x00, 0x01],
             Some(16),
         ),
@@ -155,7 +159,7 @@ fn samples_encode_by_runs(rt: HostRuntime) -> Result<(), Fail> {
         ),
         Case(
             DEFAULT.interval(128),
-            Bytes(&[0], 520, b""),
+            again(&[0], 520),
             &[0x00, 0x00, 0x84],
             None,
         ),
@@ -165,15 +169,22 @@ fn samples_encode_by_runs(rt: HostRuntime) -> Result<(), Fail> {
             &[0, 0, 0, 0, 0, 0, 0, 0, 0, 0x11, 0x78],
             Some(85),
         ),
+    ];
+    holds(&rt, rt.alloc(), &cases)
+}
+
+#[test]
+fn intervals_are_padded(rt: HostRuntime) -> Result<(), Fail> {
+    let cases = [
         Case(
             DEFAULT.interval(1).padded(),
-            Bytes(&[5], 16, b""),
+            again(&[5], 16),
             &[0x00, 0x58, 0x00, 0x58],
             Some(26),
         ),
         Case(
             DEFAULT.padded(),
-            Bytes(&[5], 17, b""),
+            again(&[5], 17),
             &[0x00, 0x54, 0x00, 0x58],
             Some(27),
         ),
@@ -188,72 +199,86 @@ fn samples_encode_by_runs(rt: HostRuntime) -> Result<(), Fail> {
 }
 
 #[test]
-fn samples_of_any_shape_encode(rt: HostRuntime) -> Result<(), Fail> {
-    let nines: [u8; 10] = [255, 255, 255, 255, 255, 255, 255, 255, 255, 0xF0];
+fn signed_samples_encode(rt: HostRuntime) -> Result<(), Fail> {
     let cases = [
         Case(
             DEFAULT.signed(),
-            Bytes(b"", 0, &[0, 0xFF, 0xFE, 0xFD, 0xFC, 0xFB, 0xFA, 0xF9]),
+            all(&[0, 0xFF, 0xFE, 0xFD, 0xFC, 0xFB, 0xFA, 0xF9]),
             &[0x20, 0x0A, 0xAA, 0x80],
             Some(25),
         ),
         Case(
             DEFAULT.signed(),
-            Bytes(&[0x80, 0x7F], 4, b""),
+            again(&[0x80, 0x7F], 4),
             &[0xF0, 0x1F, 0xFF, 0xFF, 0xFF, 0xFF, 0xFF, 0xFF, 0xE0],
             Some(67),
         ),
         Case(
             DEFAULT.bits(4).signed(),
-            Bytes(&[0xF8], 8, b""),
+            again(&[0xF8], 8),
             &[0x08, 0x80],
             None,
         ),
         Case(
             DEFAULT.bits(4).signed().bare(),
-            Bytes(&[0xFF], 1, b""),
+            all(&[0xFF]),
             &[0xFF, 0xFF, 0xFF, 0xFF, 0xE0],
             None,
         ),
+    ];
+    holds(&rt, rt.alloc(), &cases)
+}
+
+#[test]
+fn samples_of_nine_bits_encode(rt: HostRuntime) -> Result<(), Fail> {
+    let nines: [u8; 10] = [255, 255, 255, 255, 255, 255, 255, 255, 255, 0xF0];
+    let cases = [
         Case(
             DEFAULT.bits(9).msb().bare(),
-            Bytes(&[1, 255], 8, b""),
+            again(&[1, 255], 8),
             &nines,
             Some(76),
         ),
         Case(
             DEFAULT.bits(9).bare(),
-            Bytes(&[255, 1], 8, b""),
+            again(&[255, 1], 8),
             &nines,
             Some(76),
         ),
+    ];
+    holds(&rt, rt.alloc(), &cases)
+}
+
+#[test]
+fn samples_of_several_bytes_encode(rt: HostRuntime) -> Result<(), Fail> {
+    let cases = [
         Case(
             DEFAULT.bits(16).msb(),
-            Bytes(&[0, 5], 8, b""),
+            again(&[0, 5], 8),
             &[0x00, 0x00, 0x2C],
             None,
         ),
         Case(
             DEFAULT.bits(24).three().msb(),
-            Bytes(&[0, 0, 5], 8, b""),
+            again(&[0, 0, 5], 8),
             &[0x00, 0x00, 0x00, 0x16],
             None,
         ),
         Case(
             DEFAULT.bits(24).three(),
-            Bytes(&[5, 0, 0], 8, b""),
+            again(&[5, 0, 0], 8),
             &[0x00, 0x00, 0x00, 0x16],
             None,
         ),
         Case(
             DEFAULT.bits(24).msb(),
-            Bytes(&[0, 0, 0, 5], 8, b""),
+            again(&[0, 0, 0, 5], 8),
             &[0x00, 0x00, 0x00, 0x16],
             None,
         ),
         Case(
             DEFAULT.bits(32),
-            Bytes(&[5, 0, 0, 0], 8, b""),
+            again(&[5, 0, 0, 0], 8),
             &[0x00, 0x00, 0x00, 0x00, 0x16],
             None,
         ),

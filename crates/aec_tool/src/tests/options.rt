@@ -88,6 +88,19 @@ impl Options {
 #[derive(Clone, Copy)]
 pub struct Bytes<'a>(pub &'a [u8], pub usize, pub &'a [u8]);
 
+/// No bytes.
+pub const NOTHING: Bytes<'static> = Bytes(b"", 0, b"");
+
+/// These bytes.
+pub fn all(bytes: &[u8]) -> Bytes<'_> {
+    Bytes(b"", 0, bytes)
+}
+
+/// Some bytes again and again.
+pub fn again(bytes: &[u8], times: usize) -> Bytes<'_> {
+    Bytes(bytes, times, b"")
+}
+
 impl Bytes<'_> {
     pub fn list(self, alloc: Global) -> Result<Vec<u8>, Fail> {
         let mut list = Vec::new(alloc);

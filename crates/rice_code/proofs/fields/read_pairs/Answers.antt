@@ -1,5 +1,6 @@
 use Rattle.std.proofs.Common.{arith}
-use Rattle.rice_code.proofs.FieldLemmas.{pairs-none, pairs-more, sequences-stop, length-pairs}
+use Rattle.rice_samples.proofs.PairLemmas.{count_pairs}
+use Rattle.rice_code.proofs.FieldLemmas.{pairs-none, pairs-more, sequences-stop}
 use Rattle.rice_samples.specs.Pairs.{pair_codes}
 use Rattle.rice_code.proofs.fields.read_pairs.Goals as goal
 
@@ -14,7 +15,7 @@ returns-in-Err-clause-err g c =
     let r = c.loop-done.invariant.row in
     let e = c.in-Err.ensures.err r.takes.going in
     sequences-stop g.I.Intake.left g.I.Intake.failed c.args.reader.now c.loop-done.reader c.take_fs.new.self (pair_codes r.values) c.args.count
-    e.0 c.in-Err.fault r.takes (omega (arith, length-pairs c.loop-done.done r.values r.len, c.loop-done-test.true)) e.1
+    e.0 c.in-Err.fault r.takes (omega (arith, count_pairs c.loop-done.done r.values r.len, c.loop-done-test.true)) e.1
 
 pub loop-done-preserved : goal.loop-done-preserved
 loop-done-preserved g c = record {

@@ -1,10 +1,10 @@
 use Rattle.std.proofs.Common.{arith, ◌≡◌, ◌<◌, ◌∙◌, ◌+◌, ◌++◌, length, length-append, take, ap, sym, subst, ℕ}
 use Rattle.std.specs.Prelude.{All}
-use Rattle.std.proofs.lemmas.List.{length-take-le}
+use Rattle.std.proofs.lemmas.List.{length-take-le, take-take}
 use Rattle.rice_samples.specs.Parameters.{Parameters, IsSample}
 use Rattle.rice_code.specs.Code.{code_bits}
 use Rattle.rice_code.specs.Coder.{settled}
-use Rattle.aec_tool.proofs.EncoderLemmas.{Tally, counts_small, early_small, sink_short, sink_place, take_less, taken_on}
+use Rattle.aec_tool.proofs.EncoderLemmas.{Tally, counts_small, early_small, sink_short, sink_place, taken_on}
 use Rattle.aec_tool.proofs.encoding.Encoding.take.Goals as goal
 
 pub push_some-pushed-requires-clause-samples : goal.push_some-pushed-requires-clause-samples
@@ -47,5 +47,5 @@ returns-clause-took c s old now xs h =
       bits = omega (arith, p.ensures.bits xs stands);
     } in
     let before : (m : ℕ) → m < length zs → settled e.coder.setting (xs ++ take m zs) ≡ settled e.coder.setting xs =
-    λ m lt. ap (λ l. settled e.coder.setting (xs ++ l)) (take_less m n samples (omega (arith, lt, len))) ∙ p.ensures.before_last xs stands m (omega (arith, lt, len)) in
+    λ m lt. ap (λ l. settled e.coder.setting (xs ++ l)) (take-take m n samples (omega (arith, lt, len))) ∙ p.ensures.before_last xs stands m (omega (arith, lt, len)) in
     taken_on s old now e _ xs zs h p.ensures.setting (p.ensures.stands xs stands) (p.ensures.code xs stands (sink_place s old now e xs h)) tally (ap (λ m. e.samples + m) (sym len)) before
