@@ -1,42 +1,14 @@
 //! From the code to its samples.
-ghost use Rattle.std.specs.Prelude.{◌≡◌, ℕ, ◌+◌, ◌-◌, ◌*◌, ◌^◌, ◌<◌, ◌≤◌, ◌++◌, length, All, Option, List};
-ghost use Rattle.rice_samples.specs.Parameters.{IsSample, width};
-ghost use Rattle.rice_samples.specs.Spelling.{spellings};
+ghost use Rattle.std.specs.Prelude.{◌≡◌, ℕ, ◌+◌, ◌-◌, ◌*◌, ◌^◌, ◌<◌, ◌≤◌, length, Option};
 ghost use Rattle.aec_tool.specs.Calls.{Call, Happens, Fails};
 ghost use Rattle.aec_tool.specs.Decoding.{Decodings, DecodesWithin, wanted_of, ended_fault, refusal_fault};
 
 use crate::outcome::{Fault, Outcome, Report};
-use crate::write::write_all;
+use crate::write::write_samples;
 use arrayvec::ArrayVec;
 use rice_bits::{BitReader, Intake, Meter, Outlet};
 use rice_code::{CodeFault, Decoder, Step};
-use rice_samples::{Setting, bytes_of};
-
-/// The bytes of the samples of a block.
-#[inline(always)]
-fn spelled(setting: &Setting, samples: &[i64]) -> ArrayVec<u8, 256>
-    requires legal { All (IsSample setting.now) samples.now }
-    requires few { length samples.now ≤ 64 }
-    ensures { result.items ≡ spellings setting.now samples.now }
-{
-    let mut bytes = ArrayVec::new();
-    for x in samples {
-        let spelling = bytes_of(setting, *x);
-        append(&mut bytes, spelling.as_slice());
-    }
-    bytes
-}
-
-/// Appends bytes.
-#[inline(always)]
-fn append(bytes: &mut ArrayVec<u8, 256>, more: &[u8])
-    requires { length bytes.old.items + length more.now ≤ 256 }
-    ensures { bytes.new.items ≡ bytes.old.items ++ more.now }
-{
-    for byte in more {
-        bytes.push(*byte);
-    }
-}
+use rice_samples::Setting;
 
 /// How many samples of the next block are wanted, behind those that are written.
 fn wanted(asked: Option<u64>, written: u64, block: u32) -> usize
@@ -119,6 +91,8 @@ pub fn decode<I: Intake, O: Outlet>(
     let mut reader = BitReader::new(intake);
     let mut meter = Meter::new();
     let mut samples = ArrayVec::new();
+    // Here, and not where it is filled, it need not be cleared for each block.
+    let mut bytes = [0; 256];
     let mut written = 0u64;
     'decode_all: loop {
         let count = wanted(asked, written, block);
@@ -136,8 +110,8 @@ pub fn decode<I: Intake, O: Outlet>(
             Step::Block => {}
             Step::Done => return ended(end_of(asked, written), written, reader, &meter),
         }
-        let bytes = spelled(setting, &samples.as_slice()[..count]);
-        match write_all(outlet, bytes.as_slice()) {
+        let block_samples = &samples.as_slice()[..count];
+        match write_samples(setting, block_samples, &mut bytes, outlet) {
             Ok(()) => {}
             Err(_) => return ended(Some(Fault::Write), written, reader, &meter),
         }

@@ -1,5 +1,5 @@
 //! The decoder.
-ghost use Rattle.std.specs.Prelude.{◌≡◌, ℕ, ◌+◌, ◌-◌, ◌*◌, ◌/◌, ◌^◌, ◌<◌, ◌≤◌, Bool, true, false, if◌then◌else◌, nat_lt, List, All, [], length, replicate, None, Some, IfOk, IfErr, OnErr, IfSome, IfNone, Ok, ℤ, pos};
+ghost use Rattle.std.specs.Prelude.{◌≡◌, ℕ, ◌+◌, ◌-◌, ◌*◌, ◌/◌, ◌^◌, ◌<◌, ◌≤◌, Bool, true, false, if◌then◌else◌, nat_lt, List, All, [], length, replicate, None, Some, IfOk, IfErr, IfSome, IfNone, Ok, ℤ, pos};
 ghost use Rattle.rice_samples.specs.Parameters.{IsLegal, IsSample};
 ghost use Rattle.rice_samples.specs.Places.{blocks_left};
 ghost use Rattle.rice_samples.specs.Residuals.{last_of};
@@ -62,10 +62,8 @@ fn decode_set<I: Intake>(
     ensures ok { IfOk result (λ r. TakesSet I.left I.failed reader.old reader.new meter.old meter.new setting.now block p samples.new.items r.1) }
     ensures last { IfOk result (λ r. (r.0 ≡ last_of p samples.new.items) × IsSample setting.now r.0 × (0 < r.1 → r.1 + 1 ≤ blocks_left setting.now block)) }
     ensures err { IfErr result (StopsBy I.left I.failed reader.old reader.new setting.now block) }
-    ensures empty { OnErr result (samples.new.items ≡ []) }
     ensures steps { AreCounted meter.old meter.new reader.old.taken reader.new.taken }
 {
-    samples.clear();
     let mut residuals = ArrayVec::new();
     match read_set(setting, block, reader, meter, &mut residuals) {
         Ok(SetHead::Residuals { reference, sound }) => {
@@ -187,9 +185,9 @@ impl Decoder {
         // The samples that are given and those that then wait are bounded by the bits.
         ensures waiting { length samples.new.items + self.new.run * self.new.setting.block ≤ self.old.run * self.old.setting.block + 456 * (reader.new.taken - reader.old.taken) }
     {
-        samples.clear();
         let _taken = reader.taken();
         if let Some(answer) = self.stopped {
+            samples.clear();
             return answer;
         }
         if self.run > 0 {
@@ -216,6 +214,7 @@ impl Decoder {
                 Ok(Step::Block)
             }
             Err(answer) => {
+                samples.clear();
                 self.stopped = Some(answer);
                 answer
             }

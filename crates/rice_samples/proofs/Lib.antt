@@ -14,3 +14,4 @@ pub mod LaneLemmas
 pub mod PairSums
 pub mod Folding
 pub mod Readings
+pub mod Restoring

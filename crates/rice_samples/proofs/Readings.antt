@@ -1,8 +1,10 @@
--- Samples that are read one behind the other.
-use Rattle.std.proofs.Common.{◌≡◌, ℕ, ◌+◌, ◌-◌, ◌*◌, ◌<◌, ◌≤◌, List, [], ◌∷◌, ◌++◌, length, take, drop, All, ap, sym, subst, arith, ◌∙◌, append-nil, length-drop, slice_set, ℤ}
+-- Samples that are read, and written, one behind the other.
+use Rattle.std.proofs.Common.{◌≡◌, ℕ, ◌+◌, ◌-◌, ◌*◌, ◌<◌, ◌≤◌, List, [], ◌∷◌, ◌++◌, length, take, drop, All, ap, sym, subst, arith, ◌∙◌, append-nil, length-drop, slice_set, get_or, ℤ, pos}
 use Rattle.std.specs.Prelude.{flat_map}
 use Rattle.std.proofs.lemmas.Grind.{flat_map-append}
-use Rattle.std.proofs.lemmas.List.{take_more_set, length-take-le}
+use Rattle.std.proofs.lemmas.List.{take_more, take_more_set, length-take-le}
+use Rattle.std.proofs.lemmas.Slice.{take-put_mid}
+use borrow.Rule.Slice.PartMut.{put_mid}
 use Rattle.std.proofs.Math.Nat.{mul-le-mul_left}
 use Rattle.std.proofs.lemmas.List.Elements.{All-push}
 use Rattle.std.proofs.Math.Seq.{take-add}
@@ -14,16 +16,28 @@ one_len w i n bytes h e =
     let rest = length-drop (w * i) bytes in
     length-take-le (w * i + w - w * i) (drop (w * i) bytes) (omega (arith, more, rest, e)) ∙ (omega arith)
 
+-- the samples behind one more
+push : (f : ℤ → List ℕ) (xs : List ℤ) (x : ℤ) → flat_map f (xs ++ x ∷ []) ≡ flat_map f xs ++ f x
+push f xs x = flat_map-append f xs (x ∷ []) ∙ ap (λ v. flat_map f xs ++ v) (append-nil (f x))
+
 -- one more is read
 pub one_read : (f : ℤ → List ℕ) (w i : ℕ) (bytes : List ℕ) (xs : List ℤ) (x : ℤ) → i < length xs → take (w * i) bytes ≡ flat_map f (take i xs) → take (w * i + w - w * i) (drop (w * i) bytes) ≡ f x →
     take (w * (i + 1)) bytes ≡ flat_map f (take (i + 1) (slice_set xs i x))
 one_read f w i bytes xs x h e g =
     let n : w * (i + 1) ≡ w * i + w = omega arith in
     let m : w * i + w - w * i ≡ w = omega arith in
-    let one : flat_map f (x ∷ []) ≡ f x = append-nil (f x) in
     let last : take w (drop (w * i) bytes) ≡ f x = ap (λ v. take v (drop (w * i) bytes)) (sym m) ∙ g in
-    let all : flat_map f (take (i + 1) (slice_set xs i x)) ≡ flat_map f (take i xs) ++ f x = ap (flat_map f) (take_more_set xs i x h) ∙ (flat_map-append f (take i xs) (x ∷ []) ∙ ap (λ v. flat_map f (take i xs) ++ v) one) in
+    let all : flat_map f (take (i + 1) (slice_set xs i x)) ≡ flat_map f (take i xs) ++ f x = ap (flat_map f) (take_more_set xs i x h) ∙ push f (take i xs) x in
     ap (λ v. take v bytes) n ∙ (take-add (w * i) w bytes ∙ ((λ j. e j ++ last j) ∙ sym all))
 
 pub one_legal : (P : ℤ → Type 0) (i : ℕ) (xs : List ℤ) (x : ℤ) → i < length xs → All P (take i xs) → P x → All P (take (i + 1) (slice_set xs i x))
 one_legal P i xs x h all p = subst (All P) (sym (take_more_set xs i x h)) (All-push P (take i xs) x all p)
+
+-- one more is written
+pub one_written : (f : ℤ → List ℕ) (w i k : ℕ) (bytes ys : List ℕ) (xs : List ℤ) → i < length xs → length bytes ≡ w * length xs → length ys ≡ w → take (w * i) bytes ≡ flat_map f (take i xs) → ys ≡ f (get_or xs i (pos 0)) →
+    take (w * (i + 1)) (put_mid (w * i) k bytes ys) ≡ flat_map f (take (i + 1) xs)
+one_written f w i k bytes ys xs h len one e g =
+    let n : w * (i + 1) ≡ w * i + length ys = omega (arith, one) in
+    let more : w * i ≤ w * length xs = mul-le-mul_left w (omega arith) in
+    take-put_mid (w * i) k bytes ys (w * (i + 1)) n (omega (arith, more, len))
+    ∙ ((λ j. e j ++ g j) ∙ sym (ap (flat_map f) (take_more xs i (pos 0) h) ∙ push f (take i xs) (get_or xs i (pos 0))))

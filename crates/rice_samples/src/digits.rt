@@ -60,15 +60,27 @@ pub(crate) fn bytes_with(word: u32, width: u32, msb: bool) -> ArrayVec<u8, 4>
     requires { (1 ≤ width) × (width ≤ 4) }
     ensures { result.items ≡ ordered_bytes msb width word }
 {
+    let mut bytes = [0; 4];
+    let lowest = &mut bytes[..width as usize];
+    store_word(word, msb, lowest);
+    vector_of(lowest)
+}
+
+/// Stores the lowest bytes of a word, as many as there are places.
+#[inline(always)]
+pub(crate) fn store_word(word: u32, msb: bool, bytes: &mut [u8])
+    requires { (1 ≤ length bytes.old) × (length bytes.old ≤ 4) }
+    ensures { bytes.new ≡ ordered_bytes msb (length bytes.old) word }
+{
     let [a, b, c, d] = word.to_le_bytes();
-    match width {
-        1 => vector_of(&[a]),
-        2 if msb => vector_of(&[b, a]),
-        2 => vector_of(&[a, b]),
-        3 if msb => vector_of(&[c, b, a]),
-        3 => vector_of(&[a, b, c]),
-        _ if msb => vector_of(&[d, c, b, a]),
-        _ => vector_of(&[a, b, c, d]),
+    match bytes.len() {
+        1 => bytes.copy_from_slice(&[a]),
+        2 if msb => bytes.copy_from_slice(&[b, a]),
+        2 => bytes.copy_from_slice(&[a, b]),
+        3 if msb => bytes.copy_from_slice(&[c, b, a]),
+        3 => bytes.copy_from_slice(&[a, b, c]),
+        _ if msb => bytes.copy_from_slice(&[d, c, b, a]),
+        _ => bytes.copy_from_slice(&[a, b, c, d]),
     }
 }
 

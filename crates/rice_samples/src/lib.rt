@@ -11,16 +11,20 @@ pub mod laws;
 pub mod preprocessor;
 pub mod reading;
 mod residuals;
+pub mod samples;
 pub mod segment;
 pub mod setting;
 pub mod spelling;
+pub mod writing;
 
 pub use block::Block;
 pub use preprocessor::{from_pattern, pattern, residual, restore};
 pub use reading::samples_of;
+pub use samples::{from_patterns, restore_all};
 pub use segment::Segment;
 pub use setting::{Setting, SettingFault};
 pub use spelling::{bytes_of, sample_of};
+pub use writing::write_spellings;
 
 #[cfg(test)]
 mod tests;

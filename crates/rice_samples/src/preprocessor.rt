@@ -32,7 +32,9 @@ pub fn restore(setting: &Setting, p: i64, d: u32) -> i64
     ensures rank { rank setting.now p result ≡ d }
     ensures only { (x : ℤ) → IsSample setting.now x → rank setting.now p x ≡ d → result ≡ x }
 {
-    setting.value_at(level_with(setting.values(), setting.level(p), d as u64))
+    let greatest = (setting.values() - 1) as u32;
+    let level = number_with(greatest, setting.level(p) as u32, d);
+    setting.value_at(level as u64)
 }
 
 /// The n-bit pattern of the sample `x`: two's complement where samples are signed.
@@ -70,21 +72,20 @@ pub(crate) fn rank_of(greatest: u32, p: u32, x: u32) -> u32
     distance + nearer.min(reach)
 }
 
-/// The number below `count` with rank `d` from number `p`.
+/// The number up to `greatest` with rank `d` from number `p`.
 #[inline]
-fn level_with(count: u64, p: u64, d: u64) -> u64
-    requires count { count ≤ 2 ^ 32 }
-    requires before { p < count }
-    requires residual { d < count }
-    ensures below { result < count }
-    ensures rank { rank_below count p result ≡ d }
+pub(crate) fn number_with(greatest: u32, p: u32, d: u32) -> u32
+    requires before { p ≤ greatest }
+    requires residual { d ≤ greatest }
+    ensures fits { result ≤ greatest }
+    ensures rank { rank_below (greatest + 1) p result ≡ d }
 {
-    let reach = p.min(count - 1 - p);
+    let reach = p.min(greatest - p);
     if d > 2 * reach {
-        if p <= reach { d } else { count - 1 - d }
+        if p == reach { d } else { greatest - d }
     } else if d % 2 == 0 {
         p + d / 2
     } else {
-        p - (d + 1) / 2
+        p - d / 2 - 1
     }
 }

@@ -1,9 +1,9 @@
-ghost use Rattle.std.specs.Prelude.{◌≡◌, true, All};
+ghost use Rattle.std.specs.Prelude.{◌≡◌, ◌<◌, true, All};
 ghost use Rattle.rice_samples.specs.Parameters.{IsSample};
 
 use crate::{
-    Segment, Setting, SettingFault, bytes_of, from_pattern, pattern, residual, restore, sample_of,
-    samples_of,
+    Segment, Setting, SettingFault, bytes_of, from_pattern, from_patterns, pattern, residual,
+    restore, restore_all, sample_of, samples_of, write_spellings,
 };
 use rice_bits::Meter;
 use std::test::Fail;
@@ -350,6 +350,17 @@ fn are_in_range(setting: &Setting, samples: &[i64]) -> bool
     true
 }
 
+fn are_below(count: u64, items: &[u32]) -> bool
+    ensures { result ≡ true → All (λ d. d < count) items.now }
+{
+    for i in 0..items.len() {
+        if items[i] as u64 >= count {
+            return false;
+        }
+    }
+    true
+}
+
 #[test]
 fn samples_in_a_row(rt: HostRuntime) -> Result<(), Fail> {
     let setting = of_bits(8, false)?;
@@ -379,6 +390,23 @@ fn samples_in_a_row(rt: HostRuntime) -> Result<(), Fail> {
             "at {i}"
         );
     }
+    Ok(())
+}
+
+#[test]
+fn samples_restored_in_a_row(rt: HostRuntime) -> Result<(), Fail> {
+    let setting = of_bits(8, false)?;
+    let signed = of_bits(8, true)?;
+    let residuals = [2, 1, 0, 1, 7, 255, 255, 255];
+    let patterns = [255, 128, 127, 0, 1, 2, 254, 129];
+    assert!(rt; setting.in_range(5));
+    assert!(rt; are_below(setting.values(), &residuals));
+    assert!(rt; are_below(signed.values(), &patterns));
+    let mut samples = [0; 8];
+    restore_all(&setting, 5, &residuals, &mut samples);
+    assert_eq!(rt; samples, [6, 5, 5, 4, 0, 255, 0, 255]);
+    from_patterns(&signed, &patterns, &mut samples);
+    assert_eq!(rt; samples, [-1, -128, 127, 0, 1, 2, -2, -127]);
     Ok(())
 }
 
@@ -418,6 +446,12 @@ fn samples_of_bytes(rt: HostRuntime) -> Result<(), Fail> {
         let taken = samples_of(&setting, &bytes[..width * len], &mut read[..len]);
         assert_eq!(rt; taken, count);
         assert_eq!(rt; read[..count.min(4)], samples[..count.min(4)]);
+        let spelled = &samples[..count.min(4)];
+        let end = width * spelled.len();
+        assert!(rt; end <= 12 && are_in_range(&setting, spelled));
+        let mut back = [0; 12];
+        write_spellings(&setting, spelled, &mut back[..end]);
+        assert_eq!(rt; back[..end], bytes[..end]);
     }
     Ok(())
 }

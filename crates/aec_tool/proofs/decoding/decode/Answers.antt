@@ -18,8 +18,8 @@ decode_all-init g c = record {
   writes = refl;
 }
 
-pub spelled-bytes-requires-clause-legal : goal.spelled-bytes-requires-clause-legal
-spelled-bytes-requires-clause-legal g c =
+pub write_samples-requires-clause-legal : goal.write_samples-requires-clause-legal
+write_samples-requires-clause-legal g c =
     let i = c.decode_all.invariant in
     let s = c.args.setting.now in
     let left = g.I.Intake.left in
@@ -175,8 +175,8 @@ returns-in-Done-clause-failures g c =
     subst (λ (x : g.row.I.Denot). Fails e.result.0.fault (failed start) (failed x) writes (g.O.Outlet.failed c.decode_all.outlet)) (sym e.ensures.intake)
     (done_fails left failed s i.runs.blocks asked r new (failed start) written writes (g.O.Outlet.failed c.decode_all.outlet) e.result.0.fault i.runs.reads ends i.writes (e.ensures.fault ∙ c.end_of.ensures))
 
-pub returns-in-Err-write_all-clause-call : goal.returns-in-Err-write_all-clause-call
-returns-in-Err-write_all-clause-call g c =
+pub returns-in-Err-write_samples-clause-call : goal.returns-in-Err-write_samples-clause-call
+returns-in-Err-write_samples-clause-call g c =
     let i = c.decode_all.invariant in
     let s = c.args.setting.now in
     let left = g.I.Intake.left in
@@ -197,10 +197,10 @@ returns-in-Err-write_all-clause-call g c =
     let w = c.wanted-count.ensures.value ∙ ap (wanted_of asked written) c.block-block.ensures.value in
     let some : wanted_of asked written s.block ≢ 0 = λ e. c.if-count-eq0.false (w ∙ e) in
     let t = took left failed r new steps steps_new p q xs c.in-Ok.step c.in-Block.is i.runs.going c.in-Ok.ensures.in_run c.in-Ok.ensures.reads in
-    let e = c.ended-in-Err-write_all in
-    let out_new = g.O.Outlet.taken c.write_all.new.outlet in
-    let bytes = c.as_slice-in-decode_all.ensures.value ∙ c.spelled-bytes.ensures ∙ (λ j. spellings s (take (w j) (c.as_slice.ensures.value j))) in
-    let part = subst (λ (l : List ℕ). TakesPart out out_new l) bytes c.in-Err-write_all.ensures.err.0 in
+    let e = c.ended-in-Err-write_samples in
+    let out_new = g.O.Outlet.taken c.write_samples.new.outlet in
+    let bytes : spellings s (take c.wanted-count.result c.as_slice.result.now) ≡ spellings s (take (wanted_of asked written s.block) xs) = (λ j. spellings s (take (w j) (c.as_slice.ensures.value j))) in
+    let part = subst (λ (l : List ℕ). TakesPart out out_new l) bytes c.in-Err-write_samples.ensures.err.0 in
     let more = gains left failed s asked start out_old out p q r new steps steps_new written xs legal i.runs t in
     subst (λ (x : g.row.I.Denot). Ends s asked (left start) (left x) out_old out_new e.result.0.report e.result.0.fault) (sym e.ensures.intake)
     (write_ends left failed s asked start out_old out out_new p q r new steps written steps_new xs e.result.0.report e.result.0.fault legal i.runs some more part (record { samples_are = e.ensures.samples; bits_are = e.ensures.bits; steps_are = e.ensures.steps }) e.ensures.ahead e.ensures.fault)
@@ -254,9 +254,9 @@ decode_all-preserved g c =
     let some : wanted_of asked written s.block ≢ 0 = λ e. c.if-count-eq0.false (w ∙ e) in
     let t = took left failed r new steps steps_new p q xs c.in-Ok.step c.in-Block.is i.runs.going c.in-Ok.ensures.in_run c.in-Ok.ensures.reads in
     let len = (legal_of_block left failed r new steps steps_new p q xs t).0 ∙ ap (λ (v : Parameters). v.block) i.runs.setting in
-    let out_new = g.O.Outlet.taken c.write_all.new.outlet in
-    let bytes = c.as_slice-in-decode_all.ensures.value ∙ c.spelled-bytes.ensures ∙ (λ j. spellings s (take (w j) (c.as_slice.ensures.value j))) in
-    let put = subst (λ (l : List ℕ). Appends out out_new l) bytes c.in-Ok-write_all.ensures.ok.0 in
+    let out_new = g.O.Outlet.taken c.write_samples.new.outlet in
+    let bytes : spellings s (take c.wanted-count.result c.as_slice.result.now) ≡ spellings s (take (wanted_of asked written s.block) xs) = (λ j. spellings s (take (w j) (c.as_slice.ensures.value j))) in
+    let put = subst (λ (l : List ℕ). Appends out out_new l) bytes c.in-Ok-write_samples.ensures.ok.0 in
     let counted = c.in-Ok.ensures.steps in
     let old_run : p.run * p.setting.block ≡ p.run * s.block = ap (λ (v : Parameters). p.run * v.block) i.runs.setting in
     let new_run : q.run * q.setting.block ≡ q.run * s.block = ap (λ (v : Parameters). q.run * v.block) (c.in-Ok.ensures.setting ∙ i.runs.setting) in
@@ -272,5 +272,5 @@ decode_all-preserved g c =
     let next = runs_more left failed s asked start out_old out out_new p q r new steps written c.tick.new.self xs legal i.runs some more moves grows put in
     record {
       runs = subst (λ (n : ℕ). RunsOn left failed s asked start out_old out_new q new c.tick.new.self (written + n)) (sym w) next;
-      writes = c.in-Ok-write_all.ensures.ok.1 ∙ i.writes;
+      writes = c.in-Ok-write_samples.ensures.ok.1 ∙ i.writes;
     }

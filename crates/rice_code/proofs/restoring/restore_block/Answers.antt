@@ -1,27 +1,35 @@
-use Rattle.std.proofs.Common.{arith, rules, ◌≡◌, ap, ◌∙◌, w64, to_z, of_z, length, take}
+use Rattle.std.proofs.Common.{arith, rules, ◌≡◌, ◌-◌, ◌∙◌, ap, sym, subst, length, ℤ, pos, w64, FitsSigned, slice_index_or}
 use Rattle.std.proofs.lemmas.Int.{to_z-of_z}
-use Rattle.std.proofs.Math.Seq.{take-length}
-use mir.Val.{SFits}
-use Rattle.rice_code.proofs.RestoredBlocks.{restored-none, restored-more, contents_are}
+use Rattle.rice_samples.specs.Parameters.{IsSample}
+use Rattle.rice_samples.specs.Residuals.{last_of}
+use Rattle.rice_code.specs.Blocks.{contents}
+use Rattle.rice_code.proofs.GrownBy.{last_at}
+use Rattle.rice_code.proofs.RestoredBlocks.{refill_all}
 use Rattle.rice_code.proofs.restoring.restore_block.Goals as goal
-
-pub loop-i-init : goal.loop-i-init
-loop-i-init c = rw (to_z-of_z w64 c.args.p c.ranges.p, c.clear.ensures) (restored-none c.args.setting.now c.args.block c.args.p c.args.reference c.args.residuals.now c.requires.p)
-
-pub loop-i-preserved : goal.loop-i-preserved
-loop-i-preserved c =
-    let r : SFits w64 c.sample_of_residual-last.result = search rules in
-    let items = rw (to_z-of_z w64 c.sample_of_residual-last.result r) at c.push.ensures.items in
-    rw (to_z-of_z w64 c.sample_of_residual-last.result r, items)
-    (restored-more c.args.setting.now c.args.block (to_z w64 (of_z w64 c.args.p)) c.args.reference c.args.residuals.now c.loop-i.i c.loop-i.samples.items (to_z w64 c.loop-i.last-bits) c.sample_of_residual-last.result
-    c.loop-i.invariant c.requires.form.reference (omega (arith, c.loop-i-test.true, c.requires.form.len)) c.requires.form.len c.sample_of_residual-last.ensures.sample c.sample_of_residual-last.ensures.residual c.sample_of_residual-last.ensures.reference)
-
-pub push-requires : goal.push-requires
-push-requires c = omega (arith, c.loop-i.invariant.len)
 
 pub returns-clause-contents : goal.returns-clause-contents
 returns-clause-contents c =
-    let inv = rw (to_z-of_z w64 c.args.p c.ranges.p) at c.loop-i.invariant in
-    let n : c.loop-i.i ≡ length c.args.residuals.now = omega (arith, c.loop-i-test.false, c.loop-i.auto.i-end, c.requires.form.len, c.block-i-end.ensures.value) in
-    let whole : take c.loop-i.i c.args.residuals.now ≡ c.args.residuals.now = ap (λ k. take k c.args.residuals.now) n ∙ take-length c.args.residuals.now in
-    contents_are c.args.setting.now c.args.block c.args.p c.args.reference c.args.residuals.now c.loop-i.samples.items c.requires.form.reference (inv.same ∙ whole) (inv.first (omega (arith, c.loop-i-test.false, c.block-i-end.ensures.range)))
+    let told = rw (to_z-of_z w64 c.args.p c.ranges.p) at c.write_block.ensures.contents in
+    ap (contents c.args.setting.now c.args.block c.args.p) (refill_all c.set_len.new.samples.items c.write_block.new.samples (omega arith)) ∙ told
+
+pub returns-clause-last : goal.returns-clause-last
+returns-clause-last c =
+    let ys = c.write_block.new.samples in
+    let all = refill_all c.set_len.new.samples.items ys (omega arith) in
+    let n : c.block-size.result - 1 ≡ length ys - 1 = omega arith in
+    let whole = c.as_slice.ensures.value ∙ all in
+    let x = slice_index_or c.as_slice.result.now (c.block-size.result - 1) (pos 0) in
+    let fits : FitsSigned w64 x = search rules in
+    let item : x ≡ slice_index_or ys (length ys - 1) (pos 0) = (λ j. slice_index_or (whole j) (n j) (pos 0)) in
+    to_z-of_z w64 x fits ∙ (item ∙ (sym (last_at c.args.p (pos 0) ys (omega arith)) ∙ ap (last_of c.args.p) (sym all)))
+
+pub returns-clause-sample : goal.returns-clause-sample
+returns-clause-sample c =
+    let s = c.args.setting.now in
+    let ys = c.write_block.new.samples in
+    let whole = c.as_slice.ensures.value ∙ refill_all c.set_len.new.samples.items ys (omega arith) in
+    let last = c.block-size.result - 1 in
+    let x = slice_index_or c.as_slice.result.now last (pos 0) in
+    let fits : FitsSigned w64 x = search rules in
+    let item : slice_index_or ys last (pos 0) ≡ x = ap (λ l. slice_index_or l last (pos 0)) (sym whole) in
+    rw (to_z-of_z w64 x fits) (subst (λ (y : ℤ). IsSample s y) item (c.write_block.ensures.legal last (pos 0) (omega arith)))

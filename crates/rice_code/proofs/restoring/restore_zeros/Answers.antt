@@ -1,29 +1,20 @@
-use Rattle.std.proofs.Common.{rules, arith, ◌≡◌, ◌≤◌, ◌∙◌, ap, sym, subst, w64, replicate, refl, ℤ, List}
-use Rattle.std.specs.Prelude.{All}
+use Rattle.std.proofs.Common.{arith, rules, ◌≡◌, ◌≤◌, ◌∙◌, ap, length, replicate, w64, FitsSigned}
+use Rattle.std.specs.List.{refill}
 use Rattle.std.proofs.lemmas.Int.{to_z-of_z}
-use Rattle.std.proofs.lemmas.List.Elements.{All-replicate}
-use mir.Val.{SFits}
-use Rattle.rice_samples.specs.Parameters.{IsSample}
 use Rattle.rice_code.specs.Blocks.{contents}
-use Rattle.rice_code.proofs.RestoredBlocks.{zeros_restored}
+use Rattle.rice_code.proofs.RestoredBlocks.{refill_all, zeros_restored}
 use Rattle.rice_code.proofs.restoring.restore_zeros.Goals as goal
-
-pub returns-clause-legal : goal.returns-clause-legal
-returns-clause-legal c =
-    let x = c.sample_of_residual-first.result in
-    let f : SFits w64 x = search rules in
-    let items = rw (to_z-of_z w64 x f) at c.loop.invariant in
-    subst (λ (ys : List ℤ). All (IsSample c.args.setting.now) ys) (sym items) (All-replicate (IsSample c.args.setting.now) c.loop.counter x c.sample_of_residual-first.ensures.sample)
 
 pub returns-clause-contents : goal.returns-clause-contents
 returns-clause-contents c =
     let s = c.args.setting.now in
-    let x = c.sample_of_residual-first.result in
-    let f : SFits w64 x = search rules in
-    let e : SFits w64 c.args.p = c.ranges.p in
-    let items = rw (to_z-of_z w64 x f) at c.loop.invariant in
-    let count : c.loop.counter ≡ s.block = omega (arith, c.loop-test.false, c.loop.auto.counter-end, c.block-end.ensures.value) in
-    let some : 1 ≤ s.block = omega (arith, c.block-end.ensures.value, c.block-end.ensures.range) in
-    let all : c.loop.samples.items ≡ replicate s.block x = items ∙ ap (λ n. replicate n x) count in
-    let residual = rw (to_z-of_z w64 c.args.p e) at c.sample_of_residual-first.ensures.residual in
-    ap (λ ys. contents s c.args.block c.args.p ys) all ∙ zeros_restored s c.args.block c.args.p x c.args.reference c.requires.reference some residual (c.sample_of_residual-first.ensures.reference refl)
+    let x = c.sample_of_zero-first.result in
+    let old = c.set_len.new.samples.items in
+    let fits : FitsSigned w64 x = search rules in
+    let filled : c.fill.new.self ≡ replicate (length c.as_mut_slice.result.now) x = rw (to_z-of_z w64 x fits) at c.fill.ensures.after (λ y e. e) in
+    let count : length c.as_mut_slice.result.now ≡ s.block = ap length c.as_mut_slice.ensures.value ∙ (c.set_len.ensures ∙ c.block.ensures.value) in
+    let whole : refill (length old) old c.fill.new.self ≡ c.fill.new.self = refill_all old c.fill.new.self (c.fill.ensures.len ∙ ap length c.as_mut_slice.ensures.value) in
+    let all : refill (length old) old c.fill.new.self ≡ replicate s.block x = whole ∙ (filled ∙ ap (λ n. replicate n x) count) in
+    let some : 1 ≤ s.block = omega (arith, c.block.ensures.value, c.block.ensures.range) in
+    let residual = rw (to_z-of_z w64 c.args.p c.ranges.p) at c.sample_of_zero-first.ensures.residual in
+    ap (contents s c.args.block c.args.p) all ∙ zeros_restored s c.args.block c.args.p x c.args.reference c.requires.reference some residual c.sample_of_zero-first.ensures.reference

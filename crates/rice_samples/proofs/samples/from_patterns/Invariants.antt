@@ -1,0 +1,10 @@
+use Rattle.std.proofs.Common.{◌≡◌, take, map, All}
+use Rattle.rice_samples.specs.Parameters.{IsSample}
+use Rattle.rice_samples.specs.Residuals.{pattern}
+use Rattle.rice_samples.proofs.samples.from_patterns.Given as goal
+
+abbrev pub invariant-loop-i : goal.invariant-loop-i
+invariant-loop-i l = record {
+  legal : All (IsSample l.setting) (take l.i l.samples);
+  patterns : map (pattern l.setting) (take l.i l.samples) ≡ take l.i l.patterns;
+}
