@@ -1,7 +1,7 @@
 -- Pieces that a reader takes one after another.
-use Rattle.std.proofs.Common.{◌≡◌, ℕ, zero, suc, ◌+◌, ◌*◌, ◌<◌, ◌≤◌, Bool, true, false, List, [], ◌∷◌, ◌++◌, length, replicate, set, take, refl, sym, ◌∙◌, ap, arith, append_assoc, length-append, Option, None, sum, ◌^◌, subst}
+use Rattle.std.proofs.Common.{◌≡◌, ℕ, zero, suc, ◌+◌, ◌*◌, ◌/◌, ◌<◌, ◌≤◌, Bool, true, false, List, [], ◌∷◌, ◌++◌, length, replicate, set, take, refl, sym, ◌∙◌, ap, arith, append_assoc, length-append, Option, None, sum, ◌^◌, subst}
 use Rattle.std.specs.Prelude.{All, flat_map, ◌&&◌}
-use Rattle.std.proofs.lemmas.List.{append-nil, get_or_append_left, get_or-append-add, length-set, length-take, length-take-le, take-take, take_more_set}
+use Rattle.std.proofs.lemmas.List.{append-nil, get_or_append_left, get_or-append-add, length-set, length-take, length-take-le, take-take, take_all, take_more_set}
 use Rattle.std.proofs.lemmas.Grind.{get_or_head}
 use Rattle.std.proofs.lemmas.Slice.{take-put_mid}
 use borrow.Rule.Slice.PartMut.{put_mid}
@@ -119,6 +119,17 @@ row-append left failed f P old mid new m n before between after r q = record {
 pub part_within : (n : ℕ) (xs part : List ℕ) → length part ≡ length (take n xs) → length part ≤ n
 part_within n xs part e = omega (arith, e, length-take n xs)
 
+-- pieces for all places
+pub row-whole : {I : Type 0} (left : I → Option (List ℕ)) (failed : I → ℕ) (f : ℕ → List Bool) (P : ℕ → Type 0) (old new : Reader I) (done count : ℕ) (before xs : List ℕ)
+    → Row left failed f P old new done before (take done xs) → done ≡ count → length xs ≡ count → Row left failed f P old new count before xs
+row-whole left failed f P old new done count before xs r e n =
+    record { values = r.values; len = r.len ∙ e; each = r.each; appended = sym (take_all done xs (omega (arith, e, n))) ∙ r.appended; takes = r.takes }
+
+pub counts-whole : {I : Type 0} (left : I → Option (List ℕ)) (failed : I → ℕ) (old new : Reader I) (most : ℕ) (small : Bool) (done count : ℕ) (xs : List ℕ)
+    → CountsRead left failed old new most small done (take done xs) → done ≡ count → length xs ≡ count → CountsRead left failed old new most small count xs
+counts-whole left failed old new most small done count xs r e n =
+    record { values = r.values; len = r.len ∙ e; told_are = λ f. sym (take_all done xs (omega (arith, e, n))) ∙ r.told_are f; refused = r.refused; takes = r.takes }
+
 -- pieces were cut off behind none
 pub stops-first : {I : Type 0} (left : I → Option (List ℕ)) (failed : I → ℕ) (piece : ℕ → List Bool) (old mid new : Reader I) (none : List ℕ) (bits : List Bool) (f : BitFault)
     → none ≡ [] → Takes left failed old mid (flat_map piece none) → Stops left failed mid new bits f → Stops left failed old new bits f
@@ -204,29 +215,35 @@ pair_codes-push (suc half) (d ∷ e ∷ ds) a b h = ap (λ z. pair_code d e ∷ 
 sum-push2 : (xs : List ℕ) (a b : ℕ) → sum ((xs ++ a ∷ []) ++ b ∷ []) ≡ sum xs + (a + b)
 sum-push2 xs a b = omega (arith, sum_by-append (λ (x : ℕ). x) (xs ++ a ∷ []) (b ∷ []), sum_by-append (λ (x : ℕ). x) xs (a ∷ []))
 
-pub pairs-none : {I : Type 0} (left : I → Option (List ℕ)) (failed : I → ℕ) (r : Reader I) (before : List ℕ) (steps : ℕ)
-    → r.refusal ≡ None → PairRow left failed r r 0 before before steps steps
-pairs-none left failed r before steps h = record {
-  values = [];
+pub pairs-none : {I : Type 0} (left : I → Option (List ℕ)) (failed : I → ℕ) (r : Reader I) (steps : ℕ)
+    → r.refusal ≡ None → PairRow left failed r r 0 [] steps steps
+pairs-none left failed r steps h = record {
   len = refl;
-  appended = sym (append-nil before);
   takes = takes-none left failed r h;
   steps = omega arith;
   turns = omega arith;
 }
 
-pub pairs-more : {I : Type 0} (left : I → Option (List ℕ)) (failed : I → ℕ) (old mid new : Reader I) (count : ℕ) (before after : List ℕ) (g a b first second third fourth : ℕ)
-    → PairRow left failed old mid count before after first second → Takes left failed mid new (fundamental_sequence g) → pair_code a b ≡ g → a + b ≤ g
-    → third + mid.taken ≡ second + new.taken → fourth ≡ third + (a + b)
-    → PairRow left failed old new (count + 1) before ((after ++ a ∷ []) ++ b ∷ []) first fourth
-pairs-more left failed old mid new count before after g a b first second third fourth r t e le steps turns =
-    let codes : flat_map fundamental_sequence (pair_codes ((r.values ++ a ∷ []) ++ b ∷ [])) ≡ flat_map fundamental_sequence (pair_codes r.values) ++ fundamental_sequence g =
-    ap (flat_map fundamental_sequence) (pair_codes-push count r.values a b r.len ∙ ap (λ c. pair_codes r.values ++ c ∷ []) e) ∙ flat_map-push fundamental_sequence (pair_codes r.values) g in
+pub pairs-more : {I : Type 0} (left : I → Option (List ℕ)) (failed : I → ℕ) (old mid new : Reader I) (count : ℕ) (front after : List ℕ) (g a b first second third fourth : ℕ)
+    → PairRow left failed old mid count front first second → Takes left failed mid new (fundamental_sequence g) → pair_code a b ≡ g → a + b ≤ g
+    → third + mid.taken ≡ second + new.taken → fourth ≡ third + (a + b) → after ≡ (front ++ a ∷ []) ++ b ∷ []
+    → PairRow left failed old new (count + 1) after first fourth
+pairs-more left failed old mid new count front after g a b first second third fourth r t e le steps turns is =
+    subst (λ xs. PairRow left failed old new (count + 1) xs first fourth) (sym is)
+    (let codes : flat_map fundamental_sequence (pair_codes ((front ++ a ∷ []) ++ b ∷ [])) ≡ flat_map fundamental_sequence (pair_codes front) ++ fundamental_sequence g =
+    ap (flat_map fundamental_sequence) (pair_codes-push count front a b r.len ∙ ap (λ c. pair_codes front ++ c ∷ []) e) ∙ flat_map-push fundamental_sequence (pair_codes front) g in
     record {
-      values = (r.values ++ a ∷ []) ++ b ∷ [];
-      len = omega (arith, length-append (r.values ++ a ∷ []) (b ∷ []), length-append r.values (a ∷ []), r.len);
-      appended = ap (λ z. (z ++ a ∷ []) ++ b ∷ []) r.appended ∙ (ap (λ z. z ++ b ∷ []) (append_assoc before r.values (a ∷ [])) ∙ append_assoc before (r.values ++ a ∷ []) (b ∷ []));
+      len = omega (arith, length-append (front ++ a ∷ []) (b ∷ []), length-append front (a ∷ []), r.len);
       takes = rw codes (takes-append left failed old mid new _ _ r.takes t);
-      steps = omega (arith, sum-push2 r.values a b, r.steps);
-      turns = omega (arith, sum-push2 r.values a b, r.turns, ap length codes, length-append (flat_map fundamental_sequence (pair_codes r.values)) (fundamental_sequence g), length-fundamental_sequence g);
-    }
+      steps = omega (arith, sum-push2 front a b, r.steps);
+      turns = omega (arith, sum-push2 front a b, r.turns, ap length codes, length-append (flat_map fundamental_sequence (pair_codes front)) (fundamental_sequence g), length-fundamental_sequence g);
+    })
+
+-- two numbers more are written
+pub two_more : (done : ℕ) (xs : List ℕ) (a b : ℕ) → done < length xs / 2 → take (done + 1 + (done + 1)) (set (set xs (2 * done) a) (2 * done + 1) b) ≡ (take (done + done) xs ++ a ∷ []) ++ b ∷ []
+two_more done xs a b h =
+    let n : done + 1 + (done + 1) ≡ 2 * done + 1 + 1 = omega arith in
+    let m : 2 * done ≡ done + done = omega arith in
+    ap (λ i. take i (set (set xs (2 * done) a) (2 * done + 1) b)) n
+    ∙ (take_more_set (set xs (2 * done) a) (2 * done + 1) b (omega (arith, h, length-set xs (2 * done) a))
+    ∙ ap (λ z. z ++ b ∷ []) (take_more_set xs (2 * done) a (omega (arith, h)) ∙ ap (λ i. take i xs ++ a ∷ []) m))

@@ -1,14 +1,14 @@
 -- What is read of a block behind its identifier.
-use Rattle.std.proofs.Common.{◌≡◌, ℕ, zero, suc, ◌+◌, ◌-◌, ◌*◌, ◌/◌, ◌%◌, ◌^◌, ◌<◌, ◌≤◌, Bool, true, false, List, [], ◌∷◌, ◌++◌, length, refl, sym, ◌∙◌, ap, subst, arith, append_assoc, length-append, replicate, Option, Some, None, ◌⊎◌}
-use Rattle.std.specs.Prelude.{All, flat_map, slice_index, OnSome, sum}
-use Rattle.std.proofs.lemmas.List.{append-nil}
+use Rattle.std.proofs.Common.{◌≡◌, ℕ, zero, suc, ◌+◌, ◌-◌, ◌*◌, ◌/◌, ◌%◌, ◌^◌, ◌<◌, ◌≤◌, Bool, true, false, List, [], ◌∷◌, ◌++◌, length, refl, sym, ◌∙◌, ap, subst, arith, append_assoc, length-append, replicate, take, drop, length-drop, Option, Some, None, ◌⊎◌}
+use Rattle.std.specs.Prelude.{All, flat_map, is_some, slice_index, OnSome, sum}
+use Rattle.std.proofs.lemmas.List.{append-nil, drop_all, length-take, length-take-le}
 use Rattle.rice_bits.specs.Bits.{word, fundamental_sequence}
 use Rattle.rice_bits.specs.Reader.{Reader, Takes, Stops}
 use Rattle.rice_bits.specs.declared.fault.BitFault.{BitFault}
 use Rattle.rice_bits.proofs.OneWay.{sequence_reads}
 use Rattle.rice_bits.proofs.ReaderLemmas.{takes-append, stops-append}
 use Rattle.rice_bits.proofs.Words.{length-word}
-use Rattle.rice_samples.specs.Parameters.{Parameters, value_count, k_max}
+use Rattle.rice_samples.specs.Parameters.{Parameters, IsLegal, value_count, k_max}
 use Rattle.rice_samples.specs.Places.{has_reference}
 use Rattle.rice_code.specs.Blocks.{Contents}
 use Rattle.rice_samples.specs.Pairs.{pair_codes}
@@ -20,6 +20,7 @@ use Rattle.rice_samples.proofs.PairLemmas.{count_pairs}
 use Rattle.rice_code.proofs.FieldLemmas.{length-words, ones-append, ones-zeros, ones-sequence, ones-sequences}
 use Rattle.rice_code.proofs.JoinedParts.{length-joined, high_pieces, low_pieces, highs_small}
 use Rattle.std.proofs.lemmas.Nat.{pow_pos}
+use borrow.Rule.Slice.PartMut.{put_mid}
 use Rattle.rice_code.proofs.Reading.{after_reference}
 
 pub coded-placed : (r : Option ℕ) (vs : List ℕ) → coded_from r (reference_place r ++ vs) ≡ vs
@@ -132,22 +133,19 @@ run_cut s b r zeros h q m more k e =
 
 pub second_read : {I : Type 0} (left : I → Option (List ℕ)) (failed : I → ℕ) (old mid new : Reader I) (first second last : ℕ) (s : Parameters) (b : ℕ) (r : Option ℕ) (half : ℕ) (items : List ℕ) (sound : Bool)
     → IsReference s b r → half + half ≡ s.block → Takes left failed old mid (reference_text s r)
-    → PairRow left failed mid new half [] items second last → second + old.taken ≡ first + mid.taken
+    → PairRow left failed mid new half items second last → second + old.taken ≡ first + mid.taken
     → (sound ≡ true → OnSome r (slice_index items 0 ≡ 0) × All (λ d. d < value_count s) items)
     → (sound ≡ false → OnSome r (slice_index items 0 ≡ 0) × All (λ d. d < value_count s) items → ⊥)
     → BlockRead left failed old new first last s b SecondExtension (second_extension_tail s) r sound items
-second_read left failed old mid new first second last s b r half items sound h n t row steps told refused =
-    let same : row.values ≡ items = sym row.appended in
-    let Q : List ℕ → Type 0 = λ xs. OnSome r (slice_index xs 0 ≡ 0) × All (λ d. d < value_count s) xs in
-    record {
-      contents = record { reference = r; residuals = row.values };
-      form = record { reference = h; len = row.len ∙ n };
-      reference_is = refl;
-      takes = takes-append left failed old mid new _ _ t row.takes;
-      told = λ e. (let q = subst Q (sym same) (told e) in (q, q.1, same));
-      refused = λ e q. refused e (subst Q same q);
-      steps = omega (arith, row.steps);
-    }
+second_read left failed old mid new first second last s b r half items sound h n t row steps told refused = record {
+  contents = record { reference = r; residuals = items };
+  form = record { reference = h; len = row.len ∙ n };
+  reference_is = refl;
+  takes = takes-append left failed old mid new _ _ t row.takes;
+  told = λ e. (told e, (told e).1, refl);
+  refused = refused;
+  steps = omega (arith, row.steps);
+}
 
 pub second_cut : {I : Type 0} (left : I → Option (List ℕ)) (failed : I → ℕ) (old mid new : Reader I) (s : Parameters) (b : ℕ) (r : Option ℕ) (half : ℕ) (bits : List Bool) (f : BitFault)
     → IsReference s b r → half + half ≡ s.block → Takes left failed old mid (reference_text s r)
@@ -189,32 +187,32 @@ split_read left failed old mid next new first last s b k r count P highs lows it
     }
 
 -- those of a row of counts, whatever is told
-pub count_row : {I : Type 0} (left : I → Option (List ℕ)) (failed : I → ℕ) (old new : Reader I) (most : ℕ) (small : Bool) (count : ℕ) (told : List ℕ)
-    → (row : CountRow left failed old new most small count told) → Row left failed fundamental_sequence (λ _. Unit {0}) old new count [] row.values
-count_row left failed old new most small count told row = record { values = row.values; len = row.len; each = λ i d lt. tt; appended = refl; takes = row.takes }
+pub count_row : {I : Type 0} (left : I → Option (List ℕ)) (failed : I → ℕ) (old new : Reader I) (most : ℕ) (small : Bool) (many count : ℕ) (told : List ℕ)
+    → many ≡ count → (row : CountRow left failed old new most small many told) → Row left failed fundamental_sequence (λ _. Unit {0}) old new count [] row.values
+count_row left failed old new most small many count told e row = record { values = row.values; len = row.len ∙ e; each = λ i d lt. tt; appended = refl; takes = row.takes }
 
 -- a high part is too large
-pub split_large : {I : Type 0} (left : I → Option (List ℕ)) (failed : I → ℕ) (old mid next new : Reader I) (first last : ℕ) (s : Parameters) (b k : ℕ) (r : Option ℕ) (count : ℕ) (told lows items : List ℕ) (small : Bool)
-    → IsReference s b r → k ≤ k_max s → count + length (reference_place r) ≡ s.block → Takes left failed old mid (reference_text s r)
-    → CountRow left failed mid next ((value_count s - 1) / 2 ^ k) small count told → small ≡ false → Row left failed (word k) (λ v. v < 2 ^ k) next new count [] lows → last + old.taken ≡ first + new.taken
+pub split_large : {I : Type 0} (left : I → Option (List ℕ)) (failed : I → ℕ) (old mid next new : Reader I) (first last : ℕ) (s : Parameters) (b k : ℕ) (r : Option ℕ) (many count : ℕ) (told lows items : List ℕ) (small : Bool)
+    → IsReference s b r → k ≤ k_max s → count + length (reference_place r) ≡ s.block → many ≡ count → Takes left failed old mid (reference_text s r)
+    → CountRow left failed mid next ((value_count s - 1) / 2 ^ k) small many told → small ≡ false → Row left failed (word k) (λ v. v < 2 ^ k) next new count [] lows → last + old.taken ≡ first + new.taken
     → BlockRead left failed old new first last s b (Split k) (split_tail s k) r false items
-split_large left failed old mid next new first last s b k r count told lows items small h le n t high e low steps =
+split_large left failed old mid next new first last s b k r many count told lows items small h le n m t high e low steps =
     let nl : length lows ≡ count = ap length low.appended ∙ low.len in
     split_read left failed old mid next new first last s b k r count (λ _. Unit {0}) high.values lows items false h le n t
-    (count_row left failed mid next _ small count told high) low steps (λ f. absurd cc) (λ f. absurd cc)
-    (λ f all. high.refused e (highs_small k (value_count s) high.values lows (nl ∙ sym high.len) (pow_pos s.bits) all))
+    (count_row left failed mid next _ small many count told m high) low steps (λ f. absurd cc) (λ f. absurd cc)
+    (λ f all. high.refused e (highs_small k (value_count s) high.values lows (nl ∙ sym (high.len ∙ m)) (pow_pos s.bits) all))
 
 -- high parts stand in their places
-pub split_joined : {I : Type 0} (left : I → Option (List ℕ)) (failed : I → ℕ) (old mid next new : Reader I) (first last : ℕ) (s : Parameters) (b k : ℕ) (r : Option ℕ) (count : ℕ) (told lows items : List ℕ) (small sound : Bool)
-    → IsReference s b r → k ≤ k_max s → count + length (reference_place r) ≡ s.block → Takes left failed old mid (reference_text s r)
-    → CountRow left failed mid next ((value_count s - 1) / 2 ^ k) small count told → small ≡ true → Row left failed (word k) (λ v. v < 2 ^ k) next new count [] lows → last + old.taken ≡ first + new.taken
+pub split_joined : {I : Type 0} (left : I → Option (List ℕ)) (failed : I → ℕ) (old mid next new : Reader I) (first last : ℕ) (s : Parameters) (b k : ℕ) (r : Option ℕ) (many count : ℕ) (told lows items : List ℕ) (small sound : Bool)
+    → IsReference s b r → k ≤ k_max s → count + length (reference_place r) ≡ s.block → many ≡ count → Takes left failed old mid (reference_text s r)
+    → CountRow left failed mid next ((value_count s - 1) / 2 ^ k) small many told → small ≡ true → Row left failed (word k) (λ v. v < 2 ^ k) next new count [] lows → last + old.taken ≡ first + new.taken
     → items ≡ reference_place r ++ joined_parts k told lows
     → (sound ≡ true → All (λ d. d < value_count s) (joined_parts k told lows)) → (sound ≡ false → All (λ d. d < value_count s) (joined_parts k told lows) → ⊥)
     → BlockRead left failed old new first last s b (Split k) (split_tail s k) r sound items
-split_joined left failed old mid next new first last s b k r count told lows items small sound h le n t high e low steps joined below above =
+split_joined left failed old mid next new first last s b k r many count told lows items small sound h le n m t high e low steps joined below above =
     let is : joined_parts k told lows ≡ joined_parts k high.values lows = ap (λ xs. joined_parts k xs lows) (high.told_are e).0 in
     split_read left failed old mid next new first last s b k r count (λ _. Unit {0}) high.values lows items sound h le n t
-    (count_row left failed mid next _ small count told high) low steps
+    (count_row left failed mid next _ small many count told m high) low steps
     (λ f. subst (λ xs. All (λ d. d < value_count s) xs) is (below f))
     (λ f. joined ∙ ap (λ xs. reference_place r ++ xs) is)
     (λ f all. above f (subst (λ xs. All (λ d. d < value_count s) xs) (sym is) all))
@@ -268,3 +266,33 @@ split_cut_low left failed old mid next new s b k r count P highs bits f h n t hi
 -- a block is two halves
 pub two_halves : (n : ℕ) → (n ≡ 8) ⊎ (n ≡ 16) ⊎ (n ≡ 32) ⊎ (n ≡ 64) → n / 2 + n / 2 ≡ n
 two_halves n h = grind (arith, h)
+
+-- the coded residuals of a block: where they begin, and how many there are
+pub coded_part : (s : Parameters) (r : Option ℕ) (first : ℕ) (xs : List ℕ) → IsLegal s → first ≡ length (reference_place r) → length xs ≡ s.block
+    → (first ≤ length xs) × (length (take (length xs - first) (drop first xs)) + length (reference_place r) ≡ s.block) × (length xs - first ≤ 64)
+coded_part s r first xs legal e n =
+    let few : length (reference_place r) ≤ 1 = one_at_most r in
+    let size = sizes s.block legal.block in
+    let len : length (take (length xs - first) (drop first xs)) ≡ length xs - first = length-take-le (length xs - first) (drop first xs) (omega (arith, length-drop first xs)) in
+    (omega (arith, few, size.0, e, n), omega (arith, len, few, size.0, e, n), omega (arith, size.1, n))
+  where
+    one_at_most : (r : Option ℕ) → length (reference_place r) ≤ 1
+    one_at_most None = omega arith
+    one_at_most (Some v) = omega arith
+
+    sizes : (n : ℕ) → (n ≡ 8) ⊎ (n ≡ 16) ⊎ (n ≡ 32) ⊎ (n ≡ 64) → (1 ≤ n) × (n ≤ 64)
+    sizes n h = (grind (arith, h), grind (arith, h))
+
+-- as many of 64 places
+pub as_many : (n : ℕ) (xs zs : List ℕ) → length zs ≡ 64 → n ≤ 64 → length (take (length (take n xs)) zs) ≡ length (take n xs)
+as_many n xs zs e h = length-take-le (length (take n xs)) zs (omega (arith, e, length-take n xs))
+
+-- coded residuals that are written behind the reference place
+pub placed : (first : ℕ) (r : Option ℕ) (xs ys : List ℕ) → take first xs ≡ reference_place r → first ≤ length xs → put_mid first (length xs - first) xs ys ≡ reference_place r ++ ys
+placed first r xs ys e h =
+    let rest : drop (length xs - first) (drop first xs) ≡ [] = drop_all (length xs - first) (drop first xs) (omega (arith, length-drop first xs)) in
+    (λ j. e j ++ (ys ++ rest j)) ∙ ap (λ z. reference_place r ++ z) (append-nil ys)
+
+pub zero-place : (r : Option ℕ) → is_some r ≡ true → 0 ∷ [] ≡ reference_place r
+zero-place None h = absurd cc
+zero-place (Some v) h = refl

@@ -53,11 +53,9 @@ pub record CountRow {I : Type 0} (left : I → Option (List ℕ)) (failed : I �
   pub refused : small ≡ false → All (λ m. m ≤ most) values → ⊥
   pub takes : Takes left failed old new (flat_map fundamental_sequence values)
 
--- A reader took the codewords of so many pairs, which were appended to other numbers.
-pub record PairRow {I : Type 0} (left : I → Option (List ℕ)) (failed : I → ℕ) (old new : Reader I) (count : ℕ) (before after : List ℕ) (old_steps new_steps : ℕ) : Type 0 where
-  pub values : List ℕ
+-- A reader took the codewords of so many pairs, whose numbers are these.
+pub record PairRow {I : Type 0} (left : I → Option (List ℕ)) (failed : I → ℕ) (old new : Reader I) (count : ℕ) (values : List ℕ) (old_steps new_steps : ℕ) : Type 0 where
   pub len : length values ≡ count + count
-  pub appended : after ≡ before ++ values
   pub takes : Takes left failed old new (flat_map fundamental_sequence (pair_codes values))
   -- each bit and each turn of the search is a step
   pub steps : new_steps + old.taken ≡ old_steps + new.taken + sum values

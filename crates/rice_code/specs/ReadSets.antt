@@ -1,9 +1,8 @@
 -- What a reader took of a coded data set, behind its identifier.
-use Rattle.std.specs.Prelude.{◌≡◌, ℕ, ◌+◌, ◌-◌, ◌*◌, ◌^◌, Bool, true, false, if◌then◌else◌, List, [], ◌∷◌, ◌++◌, Option, Some, None, ⊤}
+use Rattle.std.specs.Prelude.{◌≡◌, ℕ, ◌+◌, ◌*◌, ◌^◌, Bool, true, false, List, [], ◌∷◌, ◌++◌, Option, Some, None, ⊤}
 use Rattle.rice_bits.specs.Reader.{Reader, Takes, Stops}
 use Rattle.rice_bits.specs.declared.fault.BitFault.{BitFault}
 use Rattle.rice_samples.specs.Parameters.{Parameters}
-use Rattle.rice_samples.specs.Places.{has_reference}
 use Rattle.rice_code.specs.Blocks.{Contents}
 use Rattle.rice_code.specs.DataSets.{DataSet, NoCompression, SecondExtension, Split, ZeroBlocks, RemainderOfSegment, text, turns, run_of, run_number, second_extension_tail, run_tail}
 use Rattle.rice_code.specs.declared.options.SetHead.{SetHead}
@@ -20,10 +19,6 @@ joined_parts k (m ∷ ms) (l ∷ ls) = (m * 2 ^ k + l) ∷ joined_parts k ms ls
 abbrev pub reference_place : Option ℕ → List ℕ
 reference_place None = []
 reference_place (Some v) = 0 ∷ []
-
--- how many residuals of block b are coded
-abbrev pub coded_count : Parameters → ℕ → ℕ
-coded_count s b = if has_reference s b then s.block - 1 else s.block
 
 -- A reader took what follows the identifier of one block by this option. Its residuals are told where they are sound.
 pub record BlockRead {I : Type 0} (left : I → Option (List ℕ)) (failed : I → ℕ) (old new : Reader I) (old_steps new_steps : ℕ)

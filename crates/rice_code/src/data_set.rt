@@ -6,7 +6,6 @@ ghost use Rattle.rice_code.specs.Fields.{HasRoom, AreCounted};
 ghost use Rattle.rice_code.specs.ReadSets.{LowRead, LowCut, SetRead, SetCut};
 
 use crate::options::{SetHead, read_no_compression, read_run, read_second_extension, read_split};
-use arrayvec::ArrayVec;
 use rice_bits::{BitFault, BitReader, Intake, Meter};
 use rice_samples::Setting;
 
@@ -16,11 +15,12 @@ fn read_low<I: Intake>(
     block: u64,
     reader: &mut BitReader<I>,
     meter: &mut Meter,
-    residuals: &mut ArrayVec<u32, 64>,
+    residuals: &mut [u32],
 ) -> Result<SetHead, BitFault>
     requires going { reader.old.refusal ≡ None }
     requires room { HasRoom meter.old reader.old.taken }
-    ensures ok { IfOk result (λ t. LowRead I.left I.failed reader.old reader.new meter.old meter.new setting.now block t residuals.new.items) }
+    requires size { length residuals.old ≡ setting.now.block }
+    ensures ok { IfOk result (λ t. LowRead I.left I.failed reader.old reader.new meter.old meter.new setting.now block t residuals.new) }
     ensures err { IfErr result (LowCut I.left I.failed reader.old reader.new setting.now block) }
     ensures steps { AreCounted meter.old meter.new reader.old.taken reader.new.taken }
 {
@@ -49,11 +49,12 @@ pub fn read_set<I: Intake>(
     block: u64,
     reader: &mut BitReader<I>,
     meter: &mut Meter,
-    residuals: &mut ArrayVec<u32, 64>,
+    residuals: &mut [u32],
 ) -> Result<SetHead, BitFault>
     requires going { reader.old.refusal ≡ None }
     requires room { HasRoom meter.old reader.old.taken }
-    ensures ok { IfOk result (λ t. SetRead I.left I.failed reader.old reader.new meter.old meter.new setting.now block t residuals.new.items) }
+    requires size { length residuals.old ≡ setting.now.block }
+    ensures ok { IfOk result (λ t. SetRead I.left I.failed reader.old reader.new meter.old meter.new setting.now block t residuals.new) }
     ensures err { IfErr result (SetCut I.left I.failed reader.old reader.new setting.now block) }
     ensures steps { AreCounted meter.old meter.new reader.old.taken reader.new.taken }
 {

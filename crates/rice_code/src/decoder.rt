@@ -64,13 +64,14 @@ fn decode_set<I: Intake>(
     ensures err { IfErr result (StopsBy I.left I.failed reader.old reader.new setting.now block) }
     ensures steps { AreCounted meter.old meter.new reader.old.taken reader.new.taken }
 {
-    let mut residuals = ArrayVec::new();
-    match read_set(setting, block, reader, meter, &mut residuals) {
+    let mut residuals = [0; 64];
+    let residuals = &mut residuals[..setting.block() as usize];
+    match read_set(setting, block, reader, meter, residuals) {
         Ok(SetHead::Residuals { reference, sound }) => {
             if !sound {
                 return Err(Err(CodeFault::ResidualTooLarge));
             }
-            let last = restore_block(setting, block, p, reference, residuals.as_slice(), samples);
+            let last = restore_block(setting, block, p, reference, residuals, samples);
             Ok((last, 0))
         }
         Ok(SetHead::Zeros { reference, zeros }) => {

@@ -6,7 +6,6 @@ ghost use Rattle.rice_code.specs.Fields.{HasRoom, AreCounted, Row, WordsRead, Co
 
 use crate::pair::pair_of;
 use crate::residuals::are_below;
-use arrayvec::ArrayVec;
 use rice_bits::{BitFault, BitReader, Intake, Meter};
 
 /// Reads some words, one at least, and writes them to the first places. It answers how many.
@@ -39,27 +38,25 @@ fn read_some_words<I: Intake>(
     }
 }
 
-/// Reads so many words, and writes them to the front of `words`.
+/// Reads as many words as `words` has places.
 #[inline]
 pub fn read_words<I: Intake>(
     reader: &mut BitReader<I>,
     meter: &mut Meter,
-    count: usize,
     width: u32,
-    words: &mut [u32; 64],
+    words: &mut [u32],
 ) -> Result<(), BitFault>
     requires going { reader.old.refusal ≡ None }
     requires room { HasRoom meter.old reader.old.taken }
     requires width { width ≤ 32 }
-    requires count { count ≤ 64 }
-    ensures ok { OnOk result (Row I.left I.failed (word width) (λ v. v < 2 ^ width) reader.old reader.new count [] (take count words.new)) }
-    ensures err { IfErr result (λ f. (bits : List Bool) × (length bits < count * width) × Stops I.left I.failed reader.old reader.new bits f) }
+    ensures ok { OnOk result (Row I.left I.failed (word width) (λ v. v < 2 ^ width) reader.old reader.new (length words.old) [] words.new) }
+    ensures err { IfErr result (λ f. (bits : List Bool) × (length bits < length words.old * width) × Stops I.left I.failed reader.old reader.new bits f) }
     ensures steps { meter.new + reader.old.taken ≡ meter.old + reader.new.taken }
     ensures limit { reader.new.taken ≤ 2 ^ 52 }
 {
     let mut done = 0;
-    while done < count {
-        match read_some_words(reader, meter, width, &mut words[done..count]) {
+    while done < words.len() {
+        match read_some_words(reader, meter, width, &mut words[done..]) {
             Ok(some) => done += some,
             Err(fault) => return Err(fault),
         }
@@ -99,28 +96,26 @@ fn read_some_counts<I: Intake>(
     }
 }
 
-/// Reads so many fundamental sequences, and writes the numbers of their zeros to the front of `counts`. It answers false where one that
-/// is above `most` could not be written.
+/// Reads as many fundamental sequences as `counts` has places, and writes the numbers of their zeros. It answers false where one that is
+/// above `most` could not be written.
 fn read_each_count<I: Intake>(
     reader: &mut BitReader<I>,
     meter: &mut Meter,
     most: u64,
-    count: usize,
-    counts: &mut [u32; 64],
+    counts: &mut [u32],
 ) -> Result<bool, BitFault>
     requires going { reader.old.refusal ≡ None }
     requires room { HasRoom meter.old reader.old.taken }
     requires most { most < 2 ^ 32 }
-    requires count { count ≤ 64 }
-    ensures ok { IfOk result (λ small. CountsRead I.left I.failed reader.old reader.new most small count (take count counts.new)) }
-    ensures err { IfErr result (λ f. (bits : List Bool) × (ones bits < count) × Stops I.left I.failed reader.old reader.new bits f) }
+    ensures ok { IfOk result (λ small. CountsRead I.left I.failed reader.old reader.new most small (length counts.old) counts.new) }
+    ensures err { IfErr result (λ f. (bits : List Bool) × (ones bits < length counts.old) × Stops I.left I.failed reader.old reader.new bits f) }
     ensures steps { meter.new + reader.old.taken ≡ meter.old + reader.new.taken }
     ensures limit { reader.new.taken ≤ 2 ^ 52 }
 {
     let mut small = true;
     let mut done = 0;
-    while done < count {
-        match read_some_counts(reader, meter, most, &mut counts[done..count]) {
+    while done < counts.len() {
+        match read_some_counts(reader, meter, most, &mut counts[done..]) {
             Ok((some, fit)) => {
                 done += some;
                 small = small & fit;
@@ -131,50 +126,47 @@ fn read_each_count<I: Intake>(
     Ok(small)
 }
 
-/// Reads so many fundamental sequences, and writes the numbers of their zeros to the front of `counts`. It answers whether all are at
-/// most `most`: where one is larger, what is written says nothing.
+/// Reads as many fundamental sequences as `counts` has places, and writes the numbers of their zeros. It answers whether all are at most
+/// `most`: where one is larger, what is written says nothing.
 pub fn read_counts<I: Intake>(
     reader: &mut BitReader<I>,
     meter: &mut Meter,
     most: u64,
-    count: usize,
-    counts: &mut [u32; 64],
+    counts: &mut [u32],
 ) -> Result<bool, BitFault>
     requires going { reader.old.refusal ≡ None }
     requires room { HasRoom meter.old reader.old.taken }
     requires most { most < 2 ^ 32 }
-    requires count { count ≤ 64 }
-    ensures ok { IfOk result (λ small. CountRow I.left I.failed reader.old reader.new most small count (take count counts.new)) }
-    ensures err { IfErr result (λ f. (bits : List Bool) × (ones bits < count) × Stops I.left I.failed reader.old reader.new bits f) }
+    ensures ok { IfOk result (λ small. CountRow I.left I.failed reader.old reader.new most small (length counts.old) counts.new) }
+    ensures err { IfErr result (λ f. (bits : List Bool) × (ones bits < length counts.old) × Stops I.left I.failed reader.old reader.new bits f) }
     ensures steps { meter.new + reader.old.taken ≡ meter.old + reader.new.taken }
     ensures limit { reader.new.taken ≤ 2 ^ 52 }
 {
-    match read_each_count(reader, meter, most, count, counts) {
-        Ok(small) => Ok(small & are_below(&counts[..count], most + 1)),
+    match read_each_count(reader, meter, most, counts) {
+        Ok(small) => Ok(small & are_below(counts, most + 1)),
         Err(fault) => Err(fault),
     }
 }
 
-/// Reads the codewords of so many pairs, and appends the pairs.
+/// Reads the codewords of as many pairs as `out` has places for, and writes the pairs.
 pub fn read_pairs<I: Intake>(
     reader: &mut BitReader<I>,
     meter: &mut Meter,
-    count: usize,
-    out: &mut ArrayVec<u32, 64>,
+    out: &mut [u32],
 ) -> Result<(), BitFault>
     requires going { reader.old.refusal ≡ None }
     requires room { HasRoom meter.old reader.old.taken }
-    requires fits { length out.old.items + (count + count) ≤ 64 }
-    ensures ok { OnOk result (PairRow I.left I.failed reader.old reader.new count out.old.items out.new.items meter.old meter.new) }
-    ensures err { IfErr result (λ f. (bits : List Bool) × (ones bits < count) × Stops I.left I.failed reader.old reader.new bits f) }
+    requires even { length out.old / 2 + length out.old / 2 ≡ length out.old }
+    ensures ok { OnOk result (PairRow I.left I.failed reader.old reader.new (length out.old / 2) out.new meter.old meter.new) }
+    ensures err { IfErr result (λ f. (bits : List Bool) × (ones bits < length out.old / 2) × Stops I.left I.failed reader.old reader.new bits f) }
     ensures steps { AreCounted meter.old meter.new reader.old.taken reader.new.taken }
 {
-    for done in 0..count {
+    for done in 0..out.len() / 2 {
         match reader.take_fs(meter) {
             Ok(g) => {
                 let (a, b) = pair_of(g, meter);
-                out.push(a);
-                out.push(b);
+                out[2 * done] = a;
+                out[2 * done + 1] = b;
             }
             Err(fault) => return Err(fault),
         }

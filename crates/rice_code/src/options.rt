@@ -1,5 +1,5 @@
 //! Blocks by each option, and runs, behind their identifiers.
-ghost use Rattle.std.specs.Prelude.{◌≡◌, ℕ, ◌+◌, ◌-◌, ◌*◌, ◌/◌, ◌^◌, ◌<◌, ◌≤◌, Bool, true, false, List, [], ◌++◌, length, Option, None, IfOk, IfErr};
+ghost use Rattle.std.specs.Prelude.{◌≡◌, ℕ, ◌+◌, ◌-◌, ◌*◌, ◌/◌, ◌^◌, ◌<◌, ◌≤◌, Bool, true, false, List, [], ◌++◌, length, take, Option, None, IfOk, IfErr};
 ghost use Rattle.rice_bits.specs.Reader.{Takes, Stops};
 ghost use Rattle.rice_samples.specs.Parameters.{Parameters, IsLegal, k_max};
 ghost use Rattle.rice_samples.specs.Places.{has_reference};
@@ -7,11 +7,10 @@ ghost use Rattle.rice_code.specs.Blocks.{Contents};
 ghost use Rattle.rice_code.specs.DataSets.{NoCompression, SecondExtension, Split, reference_text, no_compression_tail, second_extension_tail, split_tail, run_tail};
 ghost use Rattle.rice_code.specs.Forms.{IsReference};
 ghost use Rattle.rice_code.specs.Fields.{HasRoom, AreCounted};
-ghost use Rattle.rice_code.specs.ReadSets.{BlockRead, BlockCut, reference_place, coded_count};
+ghost use Rattle.rice_code.specs.ReadSets.{BlockRead, BlockCut, reference_place};
 
 use crate::fields::{read_counts, read_pairs, read_words};
-use crate::residuals::{append, are_sound, join_all};
-use arrayvec::ArrayVec;
+use crate::residuals::{are_sound, join_all};
 use rice_bits::{BitFault, BitReader, Intake, Meter};
 use rice_samples::Setting;
 
@@ -53,26 +52,17 @@ pub fn read_reference<I: Intake>(
     }
 }
 
-/// Begins a block's residuals: 0 at the reference place, if there is one.
-pub fn begin_residuals(reference: Option<u32>, residuals: &mut ArrayVec<u32, 64>)
-    ensures { residuals.new.items ≡ reference_place reference }
+/// Begins a block's residuals: 0 at the reference place, if there is one. It answers where the coded residuals begin.
+pub fn begin_residuals(reference: Option<u32>, residuals: &mut [u32]) -> usize
+    requires { 0 < length residuals.old }
+    ensures first { result ≡ length (reference_place reference) }
+    ensures place { take result residuals.new ≡ reference_place reference }
 {
-    residuals.clear();
     if reference.is_some() {
-        residuals.push(0);
-    }
-}
-
-/// How many residuals of a block are coded.
-pub fn count_coded(setting: &Setting, reference: Option<u32>) -> usize
-    ensures sum { result + length (reference_place reference) ≡ setting.now.block }
-    ensures limit { result + length (reference_place reference) ≤ 64 }
-{
-    let block = setting.block() as usize;
-    if reference.is_some() {
-        block - 1
+        residuals[0] = 0;
+        1
     } else {
-        block
+        0
     }
 }
 
@@ -108,11 +98,12 @@ pub fn read_no_compression<I: Intake>(
     block: u64,
     reader: &mut BitReader<I>,
     meter: &mut Meter,
-    residuals: &mut ArrayVec<u32, 64>,
+    residuals: &mut [u32],
 ) -> Result<BlockHead, BitFault>
     requires going { reader.old.refusal ≡ None }
     requires room { HasRoom meter.old reader.old.taken }
-    ensures ok { IfOk result (λ h. BlockRead I.left I.failed reader.old reader.new meter.old meter.new setting.now block NoCompression (no_compression_tail setting.now) h.reference h.sound residuals.new.items) }
+    requires size { length residuals.old ≡ setting.now.block }
+    ensures ok { IfOk result (λ h. BlockRead I.left I.failed reader.old reader.new meter.old meter.new setting.now block NoCompression (no_compression_tail setting.now) h.reference h.sound residuals.new) }
     ensures err { IfErr result (BlockCut I.left I.failed reader.old reader.new setting.now block NoCompression (no_compression_tail setting.now)) }
     ensures steps { AreCounted meter.old meter.new reader.old.taken reader.new.taken }
 {
@@ -120,13 +111,11 @@ pub fn read_no_compression<I: Intake>(
         Ok(reference) => reference,
         Err(fault) => return Err(fault),
     };
-    let count = count_coded(setting, reference);
-    let mut words = [0; 64];
-    if let Err(fault) = read_words(reader, meter, count, setting.bits(), &mut words) {
+    let width = setting.bits();
+    let first = begin_residuals(reference, residuals);
+    if let Err(fault) = read_words(reader, meter, width, &mut residuals[first..]) {
         return Err(fault);
     }
-    begin_residuals(reference, residuals);
-    append(&words[..count], residuals);
     Ok(BlockHead {
         reference,
         sound: true,
@@ -139,11 +128,12 @@ pub fn read_second_extension<I: Intake>(
     block: u64,
     reader: &mut BitReader<I>,
     meter: &mut Meter,
-    residuals: &mut ArrayVec<u32, 64>,
+    residuals: &mut [u32],
 ) -> Result<BlockHead, BitFault>
     requires going { reader.old.refusal ≡ None }
     requires room { HasRoom meter.old reader.old.taken }
-    ensures ok { IfOk result (λ h. BlockRead I.left I.failed reader.old reader.new meter.old meter.new setting.now block SecondExtension (second_extension_tail setting.now) h.reference h.sound residuals.new.items) }
+    requires size { length residuals.old ≡ setting.now.block }
+    ensures ok { IfOk result (λ h. BlockRead I.left I.failed reader.old reader.new meter.old meter.new setting.now block SecondExtension (second_extension_tail setting.now) h.reference h.sound residuals.new) }
     ensures err { IfErr result (BlockCut I.left I.failed reader.old reader.new setting.now block SecondExtension (second_extension_tail setting.now)) }
     ensures steps { AreCounted meter.old meter.new reader.old.taken reader.new.taken }
 {
@@ -151,11 +141,10 @@ pub fn read_second_extension<I: Intake>(
         Ok(reference) => reference,
         Err(fault) => return Err(fault),
     };
-    residuals.clear();
-    let half = setting.block() as usize / 2;
-    match read_pairs(reader, meter, half, residuals) {
+    let values = setting.values();
+    match read_pairs(reader, meter, residuals) {
         Ok(()) => {
-            let sound = are_sound(reference, residuals.as_slice(), setting.values());
+            let sound = are_sound(reference, residuals, values);
             Ok(BlockHead { reference, sound })
         }
         Err(fault) => Err(fault),
@@ -169,13 +158,14 @@ pub fn read_split<I: Intake>(
     k: u32,
     reader: &mut BitReader<I>,
     meter: &mut Meter,
-    residuals: &mut ArrayVec<u32, 64>,
+    residuals: &mut [u32],
 ) -> Result<BlockHead, BitFault>
     requires going { reader.old.refusal ≡ None }
     requires room { HasRoom meter.old reader.old.taken }
     requires k { k ≤ k_max setting.now }
     requires limit { k ≤ 29 }
-    ensures ok { IfOk result (λ h. BlockRead I.left I.failed reader.old reader.new meter.old meter.new setting.now block (Split k) (split_tail setting.now k) h.reference h.sound residuals.new.items) }
+    requires size { length residuals.old ≡ setting.now.block }
+    ensures ok { IfOk result (λ h. BlockRead I.left I.failed reader.old reader.new meter.old meter.new setting.now block (Split k) (split_tail setting.now k) h.reference h.sound residuals.new) }
     ensures err { IfErr result (BlockCut I.left I.failed reader.old reader.new setting.now block (Split k) (split_tail setting.now k)) }
     ensures steps { AreCounted meter.old meter.new reader.old.taken reader.new.taken }
 {
@@ -183,15 +173,16 @@ pub fn read_split<I: Intake>(
         Ok(reference) => reference,
         Err(fault) => return Err(fault),
     };
-    let count = count_coded(setting, reference);
     let values = setting.values();
+    let first = begin_residuals(reference, residuals);
+    let coded = &mut residuals[first..];
     let mut highs = [0; 64];
-    let small = match read_counts(reader, meter, (values - 1) >> k, count, &mut highs) {
+    let highs = &mut highs[..coded.len()];
+    let small = match read_counts(reader, meter, (values - 1) >> k, highs) {
         Ok(small) => small,
         Err(fault) => return Err(fault),
     };
-    let mut lows = [0; 64];
-    if let Err(fault) = read_words(reader, meter, count, k, &mut lows) {
+    if let Err(fault) = read_words(reader, meter, k, coded) {
         return Err(fault);
     }
     if !small {
@@ -200,8 +191,6 @@ pub fn read_split<I: Intake>(
             sound: false,
         });
     }
-    let sound = join_all(&highs[..count], k, values, &mut lows[..count]);
-    begin_residuals(reference, residuals);
-    append(&lows[..count], residuals);
+    let sound = join_all(highs, k, values, coded);
     Ok(BlockHead { reference, sound })
 }

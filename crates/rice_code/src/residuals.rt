@@ -1,8 +1,6 @@
 //! Residuals from their high and low parts, and whether they are sound.
-ghost use Rattle.std.specs.Prelude.{◌≡◌, ℕ, ◌+◌, ◌-◌, ◌*◌, ◌/◌, ◌^◌, ◌<◌, ◌≤◌, true, false, List, ◌++◌, length, slice_index, OnSome, All};
+ghost use Rattle.std.specs.Prelude.{◌≡◌, ℕ, ◌+◌, ◌-◌, ◌*◌, ◌/◌, ◌^◌, ◌<◌, ◌≤◌, true, false, List, length, slice_index, OnSome, All};
 ghost use Rattle.rice_code.specs.ReadSets.{joined_parts};
-
-use arrayvec::ArrayVec;
 
 /// Puts high parts before low parts of k bits, and says whether all residuals that they make are below `count`.
 pub fn join_all(highs: &[u32], k: u32, count: u64, lows: &mut [u32]) -> bool
@@ -23,15 +21,6 @@ pub fn join_all(highs: &[u32], k: u32, count: u64, lows: &mut [u32]) -> bool
         all = all & (residual <= greatest);
     }
     all
-}
-
-/// Appends residuals.
-#[inline]
-pub fn append(more: &[u32], residuals: &mut ArrayVec<u32, 64>)
-    requires { length residuals.old.items + length more.now ≤ 64 }
-    ensures { residuals.new.items ≡ residuals.old.items ++ more.now }
-{
-    let _appended = residuals.try_extend_from_slice(more);
 }
 
 /// Whether all residuals are below `count`.

@@ -1,5 +1,5 @@
-use Rattle.std.proofs.Common.{arith, refl, rules, take}
-use Rattle.rice_code.proofs.FieldLemmas.{counts-none, counts-append, put_front, part_within, sequences-stop}
+use Rattle.std.proofs.Common.{arith, length, refl, rules, take}
+use Rattle.rice_code.proofs.FieldLemmas.{counts-none, counts-append, counts-whole, put_front, part_within, sequences-stop}
 use Rattle.rice_code.proofs.fields.read_each_count.Goals as goal
 
 pub loop-done-init : goal.loop-done-init
@@ -14,8 +14,13 @@ pub returns-in-Err-clause-err : goal.returns-in-Err-clause-err
 returns-in-Err-clause-err g c =
     let r = c.loop-done.invariant.row in
     let e = c.in-Err.ensures.err in
-    sequences-stop g.I.Intake.left g.I.Intake.failed c.args.reader.now c.loop-done.reader c.read_some_counts.new.reader r.values c.args.count
-    e.0 c.in-Err.fault r.takes (omega (arith, r.len, c.loop-done-test.true)) e.1
+    sequences-stop g.I.Intake.left g.I.Intake.failed c.args.reader.now c.loop-done.reader c.read_some_counts.new.reader r.values (length c.args.counts.now)
+    e.0 c.in-Err.fault r.takes (omega (arith, r.len, c.loop-done-test.true, c.loop-done.auto.counts)) e.1
+
+pub returns-clause-ok : goal.returns-clause-ok
+returns-clause-ok g c =
+    counts-whole g.I.Intake.left g.I.Intake.failed c.args.reader.now c.loop-done.reader c.args.most c.loop-done.small c.loop-done.done (length c.args.counts.now) c.loop-done.counts
+    c.loop-done.invariant.row (omega (arith, c.loop-done.invariant.within, c.loop-done-test.false, c.loop-done.auto.counts)) c.loop-done.auto.counts
 
 pub loop-done-preserved : goal.loop-done-preserved
 loop-done-preserved g c = record {
@@ -24,5 +29,5 @@ loop-done-preserved g c = record {
       (put_front c.loop-done.done _ c.in-Ok.some c.loop-done.counts c.read_some_counts.new.counts (search rules) c.in-Ok.ensures.some.1);
   steps = omega (arith, c.in-Ok.ensures.steps, c.loop-done.invariant.steps);
   limit = c.in-Ok.ensures.limit;
-  within = omega (arith, c.in-Ok.ensures.some.1, part_within _ _ _ c.read_some_counts.auto.counts, c.loop-done-test.true);
+  within = omega (arith, c.in-Ok.ensures.some.1, part_within _ _ _ c.read_some_counts.auto.counts, c.loop-done-test.true, c.loop-done.auto.counts);
 }

@@ -1,4 +1,4 @@
-use Rattle.std.proofs.Common.{◌+◌, ◌-◌, ◌≡◌, ◌^◌, ◌≤◌, take}
+use Rattle.std.proofs.Common.{◌+◌, ◌-◌, ◌≡◌, ◌^◌, ◌≤◌, length, take}
 use Rattle.rice_code.specs.Fields.{CountsRead}
 use Rattle.rice_code.proofs.fields.read_each_count.Given as goal
 
@@ -7,8 +7,8 @@ invariant-loop-done g l = record {
   row : CountsRead g.I.Intake.left g.I.Intake.failed l.fn.reader l.reader l.most l.small l.done (take l.done l.counts);
   steps : l.meter + l.fn.reader.taken ≡ l.fn.meter + l.reader.taken;
   limit : l.reader.taken ≤ 2 ^ 52;
-  within : l.done ≤ l.count;
+  within : l.done ≤ length l.fn.counts;
 }
 
 abbrev pub decreases-loop-done : goal.decreases-loop-done
-decreases-loop-done g l = l.count - l.done
+decreases-loop-done g l = length l.counts - l.done

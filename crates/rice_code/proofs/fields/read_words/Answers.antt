@@ -1,6 +1,6 @@
-use Rattle.std.proofs.Common.{arith, ◌^◌, ◌<◌, [], refl, rules, take}
+use Rattle.std.proofs.Common.{arith, ◌^◌, ◌<◌, [], length, refl, rules, take}
 use Rattle.rice_bits.specs.Bits.{word}
-use Rattle.rice_code.proofs.FieldLemmas.{row-none, row-words, put_front, part_within, words-stop}
+use Rattle.rice_code.proofs.FieldLemmas.{row-none, row-words, row-whole, put_front, part_within, words-stop}
 use Rattle.rice_code.proofs.fields.read_words.Goals as goal
 
 pub loop-done-init : goal.loop-done-init
@@ -14,8 +14,13 @@ loop-done-init g c = record {
 pub returns-in-Err-clause-err : goal.returns-in-Err-clause-err
 returns-in-Err-clause-err g c =
     let e = c.in-Err.ensures.err in
-    words-stop g.I.Intake.left g.I.Intake.failed c.args.width (λ v. v < 2 ^ c.args.width) c.args.reader.now c.loop-done.reader c.read_some_words.new.reader c.loop-done.done 1 c.args.count [] (take c.loop-done.done c.loop-done.words)
-    e.0 c.in-Err.fault c.loop-done.invariant.row e.2 (omega (arith, e.1)) (omega (arith, c.loop-done-test.true))
+    words-stop g.I.Intake.left g.I.Intake.failed c.args.width (λ v. v < 2 ^ c.args.width) c.args.reader.now c.loop-done.reader c.read_some_words.new.reader c.loop-done.done 1 (length c.args.words.now) [] (take c.loop-done.done c.loop-done.words)
+    e.0 c.in-Err.fault c.loop-done.invariant.row e.2 (omega (arith, e.1)) (omega (arith, c.loop-done-test.true, c.loop-done.auto.words))
+
+pub returns-clause-ok : goal.returns-clause-ok
+returns-clause-ok g c =
+    row-whole g.I.Intake.left g.I.Intake.failed (word c.args.width) (λ v. v < 2 ^ c.args.width) c.args.reader.now c.loop-done.reader c.loop-done.done (length c.args.words.now) [] c.loop-done.words
+    c.loop-done.invariant.row (omega (arith, c.loop-done.invariant.within, c.loop-done-test.false, c.loop-done.auto.words)) c.loop-done.auto.words
 
 pub loop-done-preserved : goal.loop-done-preserved
 loop-done-preserved g c = record {
@@ -24,5 +29,5 @@ loop-done-preserved g c = record {
       (put_front c.loop-done.done _ c.in-Ok.some c.loop-done.words c.read_some_words.new.words (search rules) c.in-Ok.ensures.ok.within);
   steps = omega (arith, c.in-Ok.ensures.steps, c.loop-done.invariant.steps);
   limit = c.in-Ok.ensures.limit;
-  within = omega (arith, c.in-Ok.ensures.ok.within, part_within _ _ _ c.read_some_words.auto.words, c.loop-done-test.true);
+  within = omega (arith, c.in-Ok.ensures.ok.within, part_within _ _ _ c.read_some_words.auto.words, c.loop-done-test.true, c.loop-done.auto.words);
 }
