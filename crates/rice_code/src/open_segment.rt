@@ -1,5 +1,5 @@
 //! The segment that a coder fills.
-ghost use Rattle.std.specs.Prelude.{◌≡◌, ℕ, ◌+◌, ◌-◌, ◌*◌, ◌^◌, ◌<◌, ◌≤◌, ◌↔◌, ◌++◌, List, [], length, replicate, sum_by, if◌then◌else◌, ◌==◌, ◌&&◌, Some, None, false, IsTrue, All};
+ghost use Rattle.std.specs.Prelude.{◌≡◌, ℕ, ◌+◌, ◌-◌, ◌*◌, ◌/◌, ◌^◌, ◌<◌, ◌≤◌, ◌↔◌, ◌++◌, List, [], length, replicate, sum_by, if◌then◌else◌, ◌==◌, ◌&&◌, Some, None, false, IsTrue, All};
 ghost use Rattle.rice_bits.specs.Bits.{bits_to_byte};
 ghost use Rattle.rice_samples.specs.Parameters.{IsLegal, IsSample, id_len, k_max};
 ghost use Rattle.rice_samples.specs.Places.{blocks_left};
@@ -154,7 +154,7 @@ impl OpenSegment {
         ensures steps_to { meter.new ≤ meter.old + sum_by (λ d. length (text self.now.setting d)) (sets_held self.now) + sum_by (most_looks self.now.setting) (contents_held self.now) }
     {
         let setting = &self.setting;
-        let blocks = self.residuals.len() / setting.block() as usize;
+        let blocks = blocks_of(setting, self.residuals.len());
         let before = sink.len();
         code_blocks(
             setting,
@@ -180,6 +180,19 @@ impl OpenSegment {
         self.reference = None;
         self.end = residuals_from(&self.setting, start);
         self.start = start;
+    }
+}
+
+/// How many whole blocks so many residuals make. Division by a size that the compiler knows is a shift.
+#[inline]
+fn blocks_of(setting: &Setting, len: usize) -> usize
+    ensures { result ≡ len / setting.now.block }
+{
+    match setting.block() {
+        8 => len / 8,
+        16 => len / 16,
+        32 => len / 32,
+        _ => len / 64,
     }
 }
 

@@ -296,6 +296,11 @@ impl Setting {
         ensures value { result ≡ b % self.now.interval }
         ensures inside { result < self.now.interval }
     {
-        (b % self.interval as u64) as u32
+        // A coder and a decoder count blocks from the beginning of their interval, and a division takes longer than a sample.
+        if b < self.interval as u64 {
+            b as u32
+        } else {
+            (b % self.interval as u64) as u32
+        }
     }
 }

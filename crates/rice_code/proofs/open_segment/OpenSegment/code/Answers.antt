@@ -14,12 +14,12 @@ pub code_blocks-requires-clause-room : goal.code_blocks-requires-clause-room
 code_blocks-requires-clause-room c =
     let i = c.self.inside in
     let st : State = record { setting = i.setting; residuals = i.residuals; reference = i.reference; previous = i.previous; start = i.start } in
-    let n : c.len.result / c.block.result ≡ blocks_held st = λ j. c.len.ensures.value j / c.block.ensures.value j in
+    let n : c.blocks_of-blocks.result ≡ blocks_held st = c.blocks_of-blocks.ensures ∙ ap (λ l. l / i.setting.block) c.len.ensures.value in
     let sound = subst (λ (v : State). AreSoundBlocks v.setting v.start (contents_held v)) (sym c.self.view_is) c.requires.sound in
     let whole = subst (λ (v : State). length v.residuals ≡ v.setting.block * blocks_held v) (sym c.self.view_is) c.requires.blocks in
-    let bits = few_bits st (c.len.result / c.block.result) i.end n c.self.invariant sound in
+    let bits = few_bits st (c.blocks_of-blocks.result) i.end n c.self.invariant sound in
     let few = (few_blocks st i.end c.self.invariant whole).1 in
-    let room = segment_room i.setting (c.len.result / c.block.result) c.self.invariant.legal (omega (arith, n, few)) in
+    let room = segment_room i.setting (c.blocks_of-blocks.result) c.self.invariant.legal (omega (arith, n, few)) in
     omega (arith, bits, room, c.requires.room)
 
 pub code_blocks-requires-clause-meter : goal.code_blocks-requires-clause-meter
@@ -27,40 +27,40 @@ code_blocks-requires-clause-meter c =
     let i = c.self.inside in
     let s = i.setting in
     let st : State = record { setting = i.setting; residuals = i.residuals; reference = i.reference; previous = i.previous; start = i.start } in
-    let n : c.len.result / c.block.result ≡ blocks_held st = λ j. c.len.ensures.value j / c.block.ensures.value j in
+    let n : c.blocks_of-blocks.result ≡ blocks_held st = c.blocks_of-blocks.ensures ∙ ap (λ l. l / i.setting.block) c.len.ensures.value in
     let sound = subst (λ (v : State). AreSoundBlocks v.setting v.start (contents_held v)) (sym c.self.view_is) c.requires.sound in
     let whole = subst (λ (v : State). length v.residuals ≡ v.setting.block * blocks_held v) (sym c.self.view_is) c.requires.blocks in
     let meter = subst (λ (v : State). c.args.meter.now + 64 * (id_len v.setting + v.setting.block * (v.setting.bits + k_max v.setting + 5)) < 2 ^ 62) (sym c.self.view_is) c.requires.meter in
-    let bits = few_bits st (c.len.result / c.block.result) i.end n c.self.invariant sound in
+    let bits = few_bits st (c.blocks_of-blocks.result) i.end n c.self.invariant sound in
     let few = (few_blocks st i.end c.self.invariant whole).1 in
-    segment_meter (c.len.result / c.block.result) (id_len s) s.block s.bits (k_max s) c.args.meter.now _ (omega (arith, n, few)) bits meter
+    segment_meter (c.blocks_of-blocks.result) (id_len s) s.block s.bits (k_max s) c.args.meter.now _ (omega (arith, n, few)) bits meter
 
 pub returns-clause-bits : goal.returns-clause-bits
 returns-clause-bits c =
     let i = c.self.inside in
     let st : State = record { setting = i.setting; residuals = i.residuals; reference = i.reference; previous = i.previous; start = i.start } in
-    let n : c.len.result / c.block.result ≡ blocks_held st = λ j. c.len.ensures.value j / c.block.ensures.value j in
+    let n : c.blocks_of-blocks.result ≡ blocks_held st = c.blocks_of-blocks.ensures ∙ ap (λ l. l / i.setting.block) c.len.ensures.value in
     let sound = subst (λ (v : State). AreSoundBlocks v.setting v.start (contents_held v)) (sym c.self.view_is) c.requires.sound in
     let whole = subst (λ (v : State). length v.residuals ≡ v.setting.block * blocks_held v) (sym c.self.view_is) c.requires.blocks in
     subst (λ (v : State). c.pad_interval.new.sink ≡ c.args.sink.now ++ code_held v (length c.args.sink.now)) c.self.view_is
-    (code_is_held st (c.len.result / c.block.result) i.end c.args.sink.now c.code_blocks.new.sink c.pad_interval.new.sink n c.self.invariant sound whole c.code_blocks.ensures.bits c.pad_interval.ensures)
+    (code_is_held st (c.blocks_of-blocks.result) i.end c.args.sink.now c.code_blocks.new.sink c.pad_interval.new.sink n c.self.invariant sound whole c.code_blocks.ensures.bits c.pad_interval.ensures)
 
 pub returns-clause-count : goal.returns-clause-count
 returns-clause-count c =
     let i = c.self.inside in
     let s = i.setting in
     let st : State = record { setting = i.setting; residuals = i.residuals; reference = i.reference; previous = i.previous; start = i.start } in
-    let n : c.len.result / c.block.result ≡ blocks_held st = λ j. c.len.ensures.value j / c.block.ensures.value j in
+    let n : c.blocks_of-blocks.result ≡ blocks_held st = c.blocks_of-blocks.ensures ∙ ap (λ l. l / i.setting.block) c.len.ensures.value in
     let texts = ap (λ m. length (joined s (data_sets s i.start false (held_blocks s i.reference m i.residuals)))) n ∙ length-flat_map (text s) (sets_held st) in
     subst (λ (v : State). c.len-2.result - c.len-before.result ≡ sum_by (λ d. length (text v.setting d)) (sets_held v)) c.self.view_is
-    (omega (arith, texts, ap length c.code_blocks.ensures.bits, length-append c.args.sink.now (joined s (data_sets s i.start false (held_blocks s i.reference (c.len.result / c.block.result) i.residuals))), c.len-2.ensures.value, c.len-before.ensures.value))
+    (omega (arith, texts, ap length c.code_blocks.ensures.bits, length-append c.args.sink.now (joined s (data_sets s i.start false (held_blocks s i.reference (c.blocks_of-blocks.result) i.residuals))), c.len-2.ensures.value, c.len-before.ensures.value))
 
 pub returns-clause-steps_from : goal.returns-clause-steps_from
 returns-clause-steps_from c =
     let i = c.self.inside in
     let s = i.setting in
     let st : State = record { setting = i.setting; residuals = i.residuals; reference = i.reference; previous = i.previous; start = i.start } in
-    let n : c.len.result / c.block.result ≡ blocks_held st = λ j. c.len.ensures.value j / c.block.ensures.value j in
+    let n : c.blocks_of-blocks.result ≡ blocks_held st = c.blocks_of-blocks.ensures ∙ ap (λ l. l / i.setting.block) c.len.ensures.value in
     let texts = ap (λ m. length (joined s (data_sets s i.start false (held_blocks s i.reference m i.residuals)))) n ∙ length-flat_map (text s) (sets_held st) in
     let looks = ap (λ m. sum_by (least_looks s) (held_blocks s i.reference m i.residuals)) n in
     subst (λ (v : State). c.args.meter.now + sum_by (λ d. length (text v.setting d)) (sets_held v) + sum_by (least_looks v.setting) (contents_held v) ≤ c.code_blocks.new.meter) c.self.view_is
@@ -71,7 +71,7 @@ returns-clause-steps_to c =
     let i = c.self.inside in
     let s = i.setting in
     let st : State = record { setting = i.setting; residuals = i.residuals; reference = i.reference; previous = i.previous; start = i.start } in
-    let n : c.len.result / c.block.result ≡ blocks_held st = λ j. c.len.ensures.value j / c.block.ensures.value j in
+    let n : c.blocks_of-blocks.result ≡ blocks_held st = c.blocks_of-blocks.ensures ∙ ap (λ l. l / i.setting.block) c.len.ensures.value in
     let texts = ap (λ m. length (joined s (data_sets s i.start false (held_blocks s i.reference m i.residuals)))) n ∙ length-flat_map (text s) (sets_held st) in
     let looks = ap (λ m. sum_by (most_looks s) (held_blocks s i.reference m i.residuals)) n in
     subst (λ (v : State). c.code_blocks.new.meter ≤ c.args.meter.now + sum_by (λ d. length (text v.setting d)) (sets_held v) + sum_by (most_looks v.setting) (contents_held v)) c.self.view_is
