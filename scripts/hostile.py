@@ -81,7 +81,7 @@ def random_setting(generator):
     return Setting(generator.randint(1, 32), generator.choice([8, 16, 32, 64]), interval, flags)
 
 
-def run(words, given):
+def run_once(words, given):
     """Runs the program over two files in the current folder, within its limits."""
     with open("in", "wb") as file:
         file.write(given)
@@ -95,13 +95,26 @@ def run(words, given):
         return Answer(out.read(), errors.read(), os.waitstatus_to_exitcode(status), usage.ru_utime + usage.ru_stime)
 
 
+def is_slow(answer, given):
+    return answer.seconds > BASE_TIME + BYTE_TIME * (len(given) + len(answer.output))
+
+
+def run(words, given):
+    """The fastest of up to three runs: a busy machine counts time to a program that did not use it."""
+    answer = run_once(words, given)
+    for _ in range(2):
+        if is_slow(answer, given):
+            answer = min(answer, run_once(words, given), key=lambda each: each.seconds)
+    return answer
+
+
 def faults_of_any(answer, known, given):
     """What is wrong with an answer, whatever was asked for."""
     if answer.status not in (0, 1):
         yield f"status {answer.status}"
     if (answer.errors == "") != (answer.status == 0) or (answer.errors and not known.fullmatch(answer.errors)):
         yield f"status {answer.status} with the message {answer.errors!r}"
-    if answer.seconds > BASE_TIME + BYTE_TIME * (len(given) + len(answer.output)):
+    if is_slow(answer, given):
         yield f"{answer.seconds} seconds"
 
 
