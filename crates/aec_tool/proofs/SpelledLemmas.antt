@@ -1,8 +1,7 @@
 -- How many bytes samples take.
-use Rattle.std.proofs.Common.{◌≡◌, ℕ, zero, suc, ◌+◌, ◌*◌, ◌<◌, ◌≤◌, Bool, true, false, cond, List, [], ◌∷◌, ◌++◌, length, refl, ap, arith, sym, ◌∙◌, append_assoc, append-nil, length-append, ℤ}
+use Rattle.std.proofs.Common.{◌≡◌, ℕ, zero, suc, ◌+◌, ◌*◌, Bool, true, false, cond, List, [], ◌∷◌, ◌++◌, length, refl, ap, arith, ◌∙◌, length-append, ℤ}
 use Rattle.std.specs.Int.{bytes_low_first, bytes_high_first}
-use Rattle.std.proofs.Math.Nat.{mul-le-mul_right}
-use Rattle.std.proofs.lemmas.Bool.Decides.{nat_tests}
+use Rattle.std.proofs.lemmas.Grind.{flat_map-append}
 use Rattle.rice_samples.specs.Parameters.{Parameters, width}
 use Rattle.rice_samples.specs.Residuals.{twos_complement}
 use Rattle.rice_samples.specs.Spelling.{spelling, spellings}
@@ -30,18 +29,4 @@ length-spellings s (x ∷ xs) = length-append (spelling s x) (spellings s xs) �
     next w n = omega arith
 
 pub spellings-append : (s : Parameters) (xs ys : List ℤ) → spellings s (xs ++ ys) ≡ spellings s xs ++ spellings s ys
-spellings-append s [] ys = refl
-spellings-append s (x ∷ xs) ys = ap (λ l. spelling s x ++ l) (spellings-append s xs ys) ∙ sym (append_assoc (spelling s x) (spellings s xs) (spellings s ys))
-
-pub spellings-push : (s : Parameters) (xs : List ℤ) (x : ℤ) → spellings s (xs ++ x ∷ []) ≡ spellings s xs ++ spelling s x
-spellings-push s xs x = spellings-append s xs (x ∷ []) ∙ ap (λ l. spellings s xs ++ l) (append-nil (spelling s x))
-
--- one more sample of at most 64 keeps within 256 bytes
-pub few_bytes : (s : Parameters) (i m k : ℕ) → m ≡ width s * i → k ≡ width s → i < 64 → m + k ≤ 256
-few_bytes s i m k e h lt = at (width s) i m k (most s.bits s.three) e h lt
-  where
-    most : (bits : ℕ) (three : Bool) → width s ≤ 4
-    most bits three = grind (arith, nat_tests)
-
-    at : (w i m k : ℕ) → w ≤ 4 → m ≡ w * i → k ≡ w → i < 64 → m + k ≤ 256
-    at w i m k h e f lt = let p = mul-le-mul_right i h in omega arith
+spellings-append s xs ys = flat_map-append (spelling s) xs ys

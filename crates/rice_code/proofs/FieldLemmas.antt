@@ -16,11 +16,9 @@ use Rattle.rice_bits.proofs.ReaderLemmas.{takes-none, takes-append, stops-append
 use Rattle.rice_bits.proofs.Words.{length-word, length-fundamental_sequence}
 use Rattle.rice_bits.specs.declared.fault.BitFault.{BitFault}
 use Rattle.rice_samples.specs.Pairs.{pair_code, pair_codes}
+use Rattle.rice_samples.proofs.Readings.{flat_map-push}
 use Rattle.rice_code.proofs.Covers.{both}
 use Rattle.rice_code.specs.Fields.{Row, WordsRead, CountRow, CountsRead, PairRow, ones}
-
-pub flat_map-push : (f : ℕ → List Bool) (xs : List ℕ) (x : ℕ) → flat_map f (xs ++ x ∷ []) ≡ flat_map f xs ++ f x
-flat_map-push f xs x = flat_map-append f xs (x ∷ []) ∙ ap (λ z. flat_map f xs ++ z) (append-nil (f x))
 
 pub row-none : {I : Type 0} (left : I → Option (List ℕ)) (failed : I → ℕ) (f : ℕ → List Bool) (P : ℕ → Type 0) (r : Reader I) (before : List ℕ)
     → r.refusal ≡ None → Row left failed f P r r 0 before before

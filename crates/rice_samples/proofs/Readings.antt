@@ -16,9 +16,8 @@ one_len w i n bytes h e =
     let rest = length-drop (w * i) bytes in
     length-take-le (w * i + w - w * i) (drop (w * i) bytes) (omega (arith, more, rest, e)) ∙ (omega arith)
 
--- the samples behind one more
-push : (f : ℤ → List ℕ) (xs : List ℤ) (x : ℤ) → flat_map f (xs ++ x ∷ []) ≡ flat_map f xs ++ f x
-push f xs x = flat_map-append f xs (x ∷ []) ∙ ap (λ v. flat_map f xs ++ v) (append-nil (f x))
+pub flat_map-push : {X A : Type 0} (f : X → List A) (xs : List X) (x : X) → flat_map f (xs ++ x ∷ []) ≡ flat_map f xs ++ f x
+flat_map-push f xs x = flat_map-append f xs (x ∷ []) ∙ ap (λ v. flat_map f xs ++ v) (append-nil (f x))
 
 -- one more is read
 pub one_read : (f : ℤ → List ℕ) (w i : ℕ) (bytes : List ℕ) (xs : List ℤ) (x : ℤ) → i < length xs → take (w * i) bytes ≡ flat_map f (take i xs) → take (w * i + w - w * i) (drop (w * i) bytes) ≡ f x →
@@ -27,7 +26,7 @@ one_read f w i bytes xs x h e g =
     let n : w * (i + 1) ≡ w * i + w = omega arith in
     let m : w * i + w - w * i ≡ w = omega arith in
     let last : take w (drop (w * i) bytes) ≡ f x = ap (λ v. take v (drop (w * i) bytes)) (sym m) ∙ g in
-    let all : flat_map f (take (i + 1) (slice_set xs i x)) ≡ flat_map f (take i xs) ++ f x = ap (flat_map f) (take_more_set xs i x h) ∙ push f (take i xs) x in
+    let all : flat_map f (take (i + 1) (slice_set xs i x)) ≡ flat_map f (take i xs) ++ f x = ap (flat_map f) (take_more_set xs i x h) ∙ flat_map-push f (take i xs) x in
     ap (λ v. take v bytes) n ∙ (take-add (w * i) w bytes ∙ ((λ j. e j ++ last j) ∙ sym all))
 
 pub one_legal : (P : ℤ → Type 0) (i : ℕ) (xs : List ℤ) (x : ℤ) → i < length xs → All P (take i xs) → P x → All P (take (i + 1) (slice_set xs i x))
@@ -40,4 +39,4 @@ one_written f w i k bytes ys xs h len one e g =
     let n : w * (i + 1) ≡ w * i + length ys = omega (arith, one) in
     let more : w * i ≤ w * length xs = mul-le-mul_left w (omega arith) in
     take-put_mid (w * i) k bytes ys (w * (i + 1)) n (omega (arith, more, len))
-    ∙ ((λ j. e j ++ g j) ∙ sym (ap (flat_map f) (take_more xs i (pos 0) h) ∙ push f (take i xs) (get_or xs i (pos 0))))
+    ∙ ((λ j. e j ++ g j) ∙ sym (ap (flat_map f) (take_more xs i (pos 0) h) ∙ flat_map-push f (take i xs) (get_or xs i (pos 0))))

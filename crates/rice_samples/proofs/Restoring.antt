@@ -4,7 +4,7 @@ use Rattle.std.proofs.lemmas.List.{map-append, take_more, take_more_set}
 use Rattle.rice_samples.specs.Parameters.{Parameters}
 use Rattle.rice_samples.specs.Residuals.{rank, ranks, pattern, last_of}
 
-pub last_of-push : (p : ℤ) (xs : List ℤ) (x : ℤ) → last_of p (xs ++ x ∷ []) ≡ x
+last_of-push : (p : ℤ) (xs : List ℤ) (x : ℤ) → last_of p (xs ++ x ∷ []) ≡ x
 last_of-push p [] x = refl
 last_of-push p (y ∷ xs) x = last_of-push y xs x
 

@@ -296,7 +296,7 @@ impl Setting {
         ensures value { result ≡ b % self.now.interval }
         ensures inside { result < self.now.interval }
     {
-        // A coder and a decoder count blocks from the beginning of their interval, and a division takes longer than a sample.
+        // A coder and a decoder count blocks from the beginning of their interval, and need no division.
         if b < self.interval as u64 {
             b as u32
         } else {
