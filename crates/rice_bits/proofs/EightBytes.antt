@@ -1,11 +1,11 @@
 -- Eight bytes, and the digits of the number that they spell.
-use Rattle.std.proofs.Common.{◌≡◌, ℕ, zero, suc, ◌+◌, ◌-◌, ◌*◌, ◌/◌, ◌%◌, ◌^◌, ◌≤◌, List, ◌++◌, length, drop, take, refl, sym, ◌∙◌, ap, arith, append_assoc}
+use Rattle.std.proofs.Common.{◌≡◌, ℕ, zero, suc, ◌+◌, ◌-◌, ◌*◌, ◌/◌, ◌%◌, ◌^◌, ◌≤◌, Bool, false, List, ◌++◌, length, drop, take, replicate, refl, sym, ◌∙◌, ap, arith, append_assoc}
 use Rattle.std.specs.Int.{to_be_bytes, byte_at, bytes_high_first, w64}
 use Rattle.std.proofs.lemmas.Nat.{pow_pos, shr_split, pow-add}
 use Rattle.std.proofs.lemmas.List.{take-append-drop, length-take-le}
 use Rattle.std.proofs.Math.Nat.{pow-suc}
 use Rattle.rice_bits.specs.Bits.{word, bits_of}
-use Rattle.rice_bits.proofs.Words.{length-word, word-nil, word-low, word-cat, word-split}
+use Rattle.rice_bits.proofs.Words.{length-word, word-nil, word-low, word-zero, word-cat, word-split}
 use Rattle.rice_bits.proofs.Bytes.{bits_of-append, length-bits_of}
 use Rattle.rice_bits.proofs.OneWay.{bits_read}
 
@@ -36,10 +36,10 @@ pub bits_of-eight : (n : ℕ) → bits_of (to_be_bytes w64 n) ≡ word 64 n
 bits_of-eight n = bits_of-high_first 8 n
 
 -- the bits of the first bytes, and those of the others
-split-bytes : (q : ℕ) (bytes : List ℕ) → bits_of (take q bytes) ++ bits_of (drop q bytes) ≡ bits_of bytes
+pub split-bytes : (q : ℕ) (bytes : List ℕ) → bits_of (take q bytes) ++ bits_of (drop q bytes) ≡ bits_of bytes
 split-bytes q bytes = sym (bits_of-append (take q bytes) (drop q bytes)) ∙ ap bits_of (take-append-drop q bytes)
 
-length-front : (q : ℕ) (bytes : List ℕ) → q ≤ length bytes → length (bits_of (take q bytes)) ≡ 8 * q
+pub length-front : (q : ℕ) (bytes : List ℕ) → q ≤ length bytes → length (bits_of (take q bytes)) ≡ 8 * q
 length-front q bytes h = length-bits_of (take q bytes) ∙ ap (λ n. 8 * n) (length-take-le q bytes h)
 
 -- the first q bytes spell the first 8 * q digits
@@ -53,23 +53,9 @@ front-eight q v bytes h e =
     (length-front q bytes (omega arith) ∙ sym (length-word (8 * q) (v / 2 ^ (64 - 8 * q)))) (split-bytes q bytes ∙ whole)).0
 
 -- digits that are moved to the front of 64, with zeros behind them
-top-word : (c j : ℕ) → c ≤ 64 → word 64 (j * 2 ^ (64 - c) % 2 ^ 64) ≡ word c j ++ word (64 - c) 0
+pub top-word : (c j : ℕ) → c ≤ 64 → word 64 (j * 2 ^ (64 - c)) ≡ word c j ++ replicate (64 - c) false
 top-word c j h =
     let size : c + (64 - c) ≡ 64 = omega arith in
     let plain : j * 2 ^ (64 - c) + 0 ≡ j * 2 ^ (64 - c) = omega arith in
-    word-mod 64 64 (j * 2 ^ (64 - c)) (omega arith)
-    ∙ (ap (λ w. word w (j * 2 ^ (64 - c))) (sym size) ∙ (ap (word (c + (64 - c))) (sym plain) ∙ word-cat c (64 - c) j 0 (pow_pos (64 - c))))
-
--- the bytes at the front of digits that are moved to the front
-pub front-moved : (q c j : ℕ) → 8 * q ≤ c → c ≤ 64
-    → bits_of (take q (to_be_bytes w64 (j * 2 ^ (64 - c) % 2 ^ 64))) ≡ word (8 * q) (j / 2 ^ (c - 8 * q))
-front-moved q c j h m =
-    let size : 8 * q + (c - 8 * q) ≡ c = omega arith in
-    let bytes : List ℕ = to_be_bytes w64 (j * 2 ^ (64 - c) % 2 ^ 64) in
-    let digits : word c j ≡ word (8 * q) (j / 2 ^ (c - 8 * q)) ++ word (c - 8 * q) (j % 2 ^ (c - 8 * q)) =
-    ap (λ w. word w j) (sym size) ∙ word-split (8 * q) (c - 8 * q) j in
-    let whole : bits_of bytes ≡ word (8 * q) (j / 2 ^ (c - 8 * q)) ++ (word (c - 8 * q) (j % 2 ^ (c - 8 * q)) ++ word (64 - c) 0) =
-    bits_of-eight (j * 2 ^ (64 - c) % 2 ^ 64)
-    ∙ (top-word c j m ∙ (ap (λ d. d ++ word (64 - c) 0) digits ∙ append_assoc (word (8 * q) (j / 2 ^ (c - 8 * q))) (word (c - 8 * q) (j % 2 ^ (c - 8 * q))) (word (64 - c) 0))) in
-    (bits_read (bits_of (take q bytes)) (word (8 * q) (j / 2 ^ (c - 8 * q))) (bits_of (drop q bytes)) (word (c - 8 * q) (j % 2 ^ (c - 8 * q)) ++ word (64 - c) 0)
-    (length-front q bytes (omega arith) ∙ sym (length-word (8 * q) (j / 2 ^ (c - 8 * q)))) (split-bytes q bytes ∙ whole)).0
+    ap (λ w. word w (j * 2 ^ (64 - c))) (sym size)
+    ∙ (ap (word (c + (64 - c))) (sym plain) ∙ (word-cat c (64 - c) j 0 (pow_pos (64 - c)) ∙ ap (λ z. word c j ++ z) (word-zero (64 - c))))

@@ -1,6 +1,7 @@
 //! Eight bytes at a time.
-ghost use Rattle.std.specs.Prelude.{All, ◌≡◌, ◌+◌, ◌<◌, ◌≤◌, ◌++◌, length, drop, replicate, take};
+ghost use Rattle.std.specs.Prelude.{All, ◌≡◌, ◌+◌, ◌*◌, ◌^◌, ◌<◌, ◌≤◌, ◌++◌, bit_or, length, drop, replicate, take};
 ghost use Rattle.std.specs.Int.{to_be_bytes, w64};
+ghost use Rattle.std.specs.List.{slice_index};
 
 use std::simd::prelude::*;
 
@@ -16,40 +17,52 @@ pub fn front(bytes: &[u8], count: usize) -> &[u8]
 
 /// Writes the eight bytes of `word`, most significant first, from the place `at` on.
 #[inline]
-pub fn store(bytes: &mut [u8], at: usize, word: u64)
+fn store(bytes: &mut [u8], at: usize, word: u64)
     requires { at + 8 ≤ length bytes.old }
     ensures { bytes.new ≡ take at bytes.old ++ (to_be_bytes w64 word ++ drop (at + 8) bytes.old) }
 {
-    u64x1::splat(word)
+    u64x1::splat(word.swap_bytes())
         .to_le_bytes()
-        .reverse()
         .copy_to_slice(&mut bytes[at..]);
 }
 
-/// Writes the first `count` of the eight bytes of `word`, most significant first, from the place `at` on. What stands behind them
-/// may change.
+/// Joins the digits of `word` to those of the byte at the place `at`, and writes them from there on as eight bytes, most
+/// significant first, as far as there is room.
 #[inline]
-pub fn store_front(bytes: &mut [u8], at: usize, word: u64, count: usize)
-    requires count { count ≤ 8 }
-    requires room { at + count ≤ length bytes.old }
-    ensures { take (at + count) bytes.new ≡ take at bytes.old ++ take count (to_be_bytes w64 word) }
+pub fn join_bytes(bytes: &mut [u8], at: usize, word: u64)
+    requires { at ≤ length bytes.old }
+    ensures { take (at + 8) bytes.new ≡ take (length bytes.old) (take at bytes.old ++ to_be_bytes w64 (bit_or (slice_index bytes.old at * 2 ^ 56) word)) }
 {
     if 8 <= bytes.len() && at <= bytes.len() - 8 {
-        store(bytes, at, word);
-    } else {
-        store_last(bytes, at, word, count);
+        let joined = (bytes[at] as u64) << 56 | word;
+        store(bytes, at, joined);
+    } else if at < bytes.len() {
+        join_last_bytes(bytes, at, word);
     }
 }
 
-/// Writes the first `count` of the eight bytes of `word` where the room ends.
-fn store_last(bytes: &mut [u8], at: usize, word: u64, count: usize)
-    requires count { count ≤ 8 }
-    requires room { at + count ≤ length bytes.old }
-    ensures { take (at + count) bytes.new ≡ take at bytes.old ++ take count (to_be_bytes w64 word) }
+/// Joins the digits of `word` where fewer than eight bytes are left.
+#[cold]
+fn join_last_bytes(bytes: &mut [u8], at: usize, word: u64)
+    requires at { at < length bytes.old }
+    requires few { length bytes.old ≤ at + 8 }
+    ensures { bytes.new ≡ take (length bytes.old) (take at bytes.old ++ to_be_bytes w64 (bit_or (slice_index bytes.old at * 2 ^ 56) word)) }
 {
     let mut eight = [0; 8];
-    store(&mut eight, 0, word);
-    bytes[at..at + count].copy_from_slice(&eight[..count]);
+    store(&mut eight, 0, (bytes[at] as u64) << 56 | word);
+    let left = bytes.len() - at;
+    bytes[at..].copy_from_slice(&eight[..left]);
+}
+
+/// Moves the byte at the place `at` to the front, or a zero where there is none.
+pub fn move_to_front(bytes: &mut [u8], at: usize)
+    ensures { slice_index bytes.new 0 ≡ slice_index bytes.old at }
+{
+    if at < bytes.len() {
+        bytes[0] = bytes[at];
+    } else if !bytes.is_empty() {
+        bytes[0] = 0;
+    }
 }
 
 /// Writes `count` zeros from the place `at` on.

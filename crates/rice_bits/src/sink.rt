@@ -3,29 +3,28 @@ ghost use Rattle.std.specs.Prelude.{◌≡◌, ℕ, ◌+◌, ◌-◌, ◌*◌, �
 ghost use Rattle.rice_bits.specs.Bits.{fundamental_sequence, word, whole_bytes, bits_in_bytes, bits_to_byte};
 
 use crate::Meter;
-use crate::digits::{first_digits, join, low_digits};
-use crate::octets::{front, store_front, store_zeros};
+use crate::digits::to_front;
+use crate::octets::{front, join_bytes, move_to_front, store_zeros};
 use std::marker::Model;
 
 /// A list of at most `8 * N` bits, gathered into bytes, most significant bit first. Clauses see the bits.
 #[derive(Drop)]
 pub struct BitSink<const N: usize> {
+    /// The bits, with zeros behind them in the byte that is not whole. What stands behind that byte is of no account.
     bytes: [u8; N],
-    /// How many bits there are: those of the whole bytes, and at most seven more that wait.
+    /// How many bits there are.
     bits: u64,
-    /// The bits that wait, as the lowest of eight digits.
-    last: u8,
 }
 
 impl<const N: usize> Model for BitSink<N> {
-    ghost use Rattle.std.specs.Prelude.{◌/◌, ◌%◌, Bool, List, ◌++◌, take};
-    ghost use Rattle.rice_bits.specs.Bits.{word, bits_of, IsGathered};
+    ghost use Rattle.std.specs.Prelude.{Bool, List, take};
+    ghost use Rattle.rice_bits.specs.Bits.{bits_of, IsGathered};
 
     ghost Value = { List Bool };
 
-    ghost view = { λ s. bits_of (take (s.bits / 8) s.bytes) ++ word (s.bits % 8) s.last };
+    ghost view = { λ s. take s.bits (bits_of s.bytes) };
 
-    ghost invariant = { λ s. IsGathered N s.bits s.last };
+    ghost invariant = { λ s. IsGathered N s.bits s.bytes };
 }
 
 impl<const N: usize> BitSink<N> {
@@ -37,7 +36,6 @@ impl<const N: usize> BitSink<N> {
         BitSink {
             bytes: [0; N],
             bits: 0,
-            last: 0,
         }
     }
 
@@ -93,16 +91,12 @@ impl<const N: usize> BitSink<N> {
 
     /// Appends a fundamental sequence by whole zero bytes, and ticks nothing.
     fn put_long_fs(&mut self, m: u64)
-        requires long { 32 ≤ m }
         requires room { length self.old + m + 1 ≤ 8 * N }
         ensures bits { self.new ≡ self.old ++ fundamental_sequence m }
         ensures len { length self.new ≡ length self.old + m + 1 }
     {
-        let start = self.len();
-        self.pad();
-        let rest = m - (self.len() - start);
-        self.put_zero_bytes((rest / 8) as usize);
-        self.put_digits(1, (rest % 8) as u32 + 1);
+        self.put_zeros(m);
+        self.put_digits(1, 1);
     }
 
     /// Appends the `width` binary digits of `value`, and ticks nothing.
@@ -114,23 +108,26 @@ impl<const N: usize> BitSink<N> {
         ensures bits { self.new ≡ self.old ++ word width value }
         ensures len { length self.new ≡ length self.old + width }
     {
-        let joined = join(self.last as u64, width, value);
         let count = (self.bits % 8) as u32 + width;
-        let first = first_digits(joined, count);
-        let whole = (self.bits / 8) as usize;
-        store_front(&mut self.bytes, whole, first, (count / 8) as usize);
+        join_bytes(
+            &mut self.bytes,
+            (self.bits / 8) as usize,
+            to_front(value, count),
+        );
         self.bits += width as u64;
-        self.last = low_digits(joined, 8) as u8;
     }
 
-    /// Appends `count` bytes of zeros, where no bit waits.
-    fn put_zero_bytes(&mut self, count: usize)
-        requires aligned { length self.old % 8 ≡ 0 }
-        requires room { length self.old + 8 * count ≤ 8 * N }
-        ensures { self.new ≡ self.old ++ replicate (8 * count) false }
+    /// Appends `count` zeros, where there is room for another bit.
+    fn put_zeros(&mut self, count: u64)
+        requires { length self.old + count < 8 * N }
+        ensures bits { self.new ≡ self.old ++ replicate count false }
+        ensures len { length self.new ≡ length self.old + count }
     {
-        store_zeros(&mut self.bytes, (self.bits / 8) as usize, count);
-        self.bits += 8 * count as u64;
+        let end = self.bits + count;
+        let behind = self.bits / 8 + 1;
+        let bytes = end / 8 + 1 - behind;
+        store_zeros(&mut self.bytes, behind as usize, bytes as usize);
+        self.bits = end;
     }
 
     /// The bytes that are whole.
@@ -147,6 +144,7 @@ impl<const N: usize> BitSink<N> {
         ensures bits { self.new ≡ drop (bits_in_bytes (length self.old)) self.old }
         ensures len { length self.new ≡ length self.old % 8 }
     {
+        move_to_front(&mut self.bytes, (self.bits / 8) as usize);
         self.bits %= 8;
     }
 

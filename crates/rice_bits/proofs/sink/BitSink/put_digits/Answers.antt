@@ -1,35 +1,33 @@
-use Rattle.std.proofs.Common.{◌≡◌, ◌+◌, ◌/◌, ◌%◌, ◌≤◌, ap, arith, length, take, ◌∙◌}
-use Rattle.rice_bits.proofs.Gathering.{gathered-put, length_viewed, length-gathered}
-use Rattle.rice_bits.proofs.Words.{shift_fits}
+use Rattle.std.proofs.Common.{◌≡◌, ◌+◌, ◌*◌, ◌%◌, ◌≤◌, ◌∙◌, ap, arith, length, length-append}
+use Rattle.std.proofs.Math.Nat.{pow-le-pow_right}
+use Rattle.rice_bits.specs.Bits.{word}
+use Rattle.rice_bits.proofs.Words.{length-word}
+use Rattle.rice_bits.proofs.Gathering.{gathered-put, length_viewed}
 use Rattle.rice_bits.proofs.sink.BitSink.put_digits.Goals as goal
 
-pub join-joined-requires-clause-high : goal.join-joined-requires-clause-high
-join-joined-requires-clause-high g c = shift_fits 8 c.args.width c.self.inside.last c.self.invariant.digits (omega arith)
-
-pub store_front-requires-clause-room : goal.store_front-requires-clause-room
-store_front-requires-clause-room g c =
-    let before : length c.args.self.now ≡ c.self.inside.bits = length_viewed _ _ _ _ _ c.self.invariant c.self.told c.self.view_is in
-    omega (arith, before, c.requires.room, c.self.told)
+pub to_front-requires-clause-value : goal.to_front-requires-clause-value
+to_front-requires-clause-value g c =
+    omega (arith, c.requires.value, pow-le-pow_right {n = 2} (omega arith) {i = c.args.width} {j = c.self.inside.bits % 8 + c.args.width} (omega arith))
 
 pub invariant_of-self : goal.invariant_of-self
 invariant_of-self g c =
-    let before : length c.args.self.now ≡ c.self.inside.bits = length_viewed _ _ _ _ _ c.self.invariant c.self.told c.self.view_is in
+    let before : length c.args.self.now ≡ c.self.inside.bits = length_viewed _ _ _ _ c.self.invariant c.self.told c.self.view_is in
     record {
-      room = omega (arith, before);
-      digits = c.low_digits.ensures.below;
+      room = omega (arith, before, c.requires.room);
+      zeros =
+          (gathered-put c.self.inside.bytes _ c.self.inside.bits c.args.width c.args.value (omega (arith, before, c.requires.room, c.self.told)) c.requires.width c.requires.value c.self.invariant.zeros
+          (rw c.to_front.ensures at c.join_bytes.ensures)).1;
       small = c.self.invariant.small;
     }
 
 pub returns-clause-bits : goal.returns-clause-bits
 returns-clause-bits g c =
-    let more : (c.self.inside.bits + c.args.width) / 8 ≡ c.self.inside.bits / 8 + (c.self.inside.bits % 8 + c.args.width) / 8 = omega arith in
-    let bytes = ap (λ n. take n c.store_front.new.bytes) more ∙ c.store_front.ensures in
-    rw (c.low_digits.ensures.value, c.join-joined.ensures, ← c.self.view_is)
-    (gathered-put _ _ c.self.inside.last c.args.value c.self.inside.bits c.args.width c.requires.value (omega arith)
-    (rw (c.first_digits-first.ensures, c.join-joined.ensures) at bytes))
+    let before : length c.args.self.now ≡ c.self.inside.bits = length_viewed _ _ _ _ c.self.invariant c.self.told c.self.view_is in
+    rw (← c.self.view_is)
+    (gathered-put c.self.inside.bytes _ c.self.inside.bits c.args.width c.args.value (omega (arith, before, c.requires.room, c.self.told)) c.requires.width c.requires.value c.self.invariant.zeros
+    (rw c.to_front.ensures at c.join_bytes.ensures)).0
 
 pub returns-clause-len : goal.returns-clause-len
 returns-clause-len g c =
-    let before : length c.args.self.now ≡ c.self.inside.bits = length_viewed _ _ _ _ _ c.self.invariant c.self.told c.self.view_is in
-    let more : (c.self.inside.bits + c.args.width) / 8 ≤ length c.store_front.new.bytes = omega (arith, before, c.requires.room, c.self.told) in
-    length-gathered _ _ _ more ∙ omega (arith, before)
+    ap length (returns-clause-bits g c)
+    ∙ (length-append c.args.self.now (word c.args.width c.args.value) ∙ ap (λ n. length c.args.self.now + n) (length-word c.args.width c.args.value))

@@ -3,4 +3,4 @@ use Rattle.rice_bits.proofs.Gathering.{length_viewed}
 use Rattle.rice_bits.proofs.sink.BitSink.room.Goals as goal
 
 pub returns : goal.returns
-returns g c = omega (arith, length_viewed _ _ _ _ _ c.self.invariant c.self.told c.self.view_is)
+returns g c = omega (arith, length_viewed _ _ _ _ c.self.invariant c.self.told c.self.view_is)

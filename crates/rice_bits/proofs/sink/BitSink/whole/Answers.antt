@@ -1,4 +1,4 @@
-use Rattle.std.proofs.Common.{◌∙◌, sym, ap, arith}
+use Rattle.std.proofs.Common.{◌≡◌, ◌≤◌, ◌*◌, ◌∙◌, sym, ap, arith, length}
 use Rattle.rice_bits.specs.Bits.{whole_bytes}
 use Rattle.rice_bits.proofs.Bytes.{each_byte}
 use Rattle.rice_bits.proofs.Gathering.{gathered-whole}
@@ -10,4 +10,4 @@ front-requires g c = omega (arith, c.self.invariant.room, c.self.told)
 pub returns : goal.returns
 returns g c =
     c.front.ensures.bytes
-    ∙ (sym (gathered-whole _ _ c.self.inside.last (each_byte _ (rw c.front.ensures.bytes at c.front.ensures.fit)) (omega arith)) ∙ ap whole_bytes c.self.view_is)
+    ∙ (sym (gathered-whole _ _ (omega (arith, c.self.invariant.room, c.self.told)) (each_byte _ (rw c.front.ensures.bytes at c.front.ensures.fit))) ∙ ap whole_bytes c.self.view_is)
