@@ -1,14 +1,13 @@
 -- Bits that are gathered in bytes, with zeros behind them.
 use Rattle.std.proofs.Common.{◌≡◌, ℕ, ◌+◌, ◌-◌, ◌*◌, ◌/◌, ◌%◌, ◌^◌, ◌<◌, ◌≤◌, Bool, true, false, List, [], ◌∷◌, ◌++◌, length, drop, take, replicate, refl, sym, ◌∙◌, ap, inl, inr, arith, append_assoc, length-append, get_or, mod-eq_of_lt}
-use Rattle.std.specs.Prelude.{bit_or}
 use Rattle.std.specs.Int.{to_be_bytes, w64}
 use Rattle.std.specs.List.{slice_index}
 use Rattle.std.proofs.Math.Seq.{take-append-add}
 use Rattle.std.proofs.lemmas.Bool.{cases_lt}
-use Rattle.std.proofs.lemmas.Nat.{pow-add, pow_pos, shl_below, shr_split, mod_below, or_shifted}
-use Rattle.std.proofs.lemmas.List.{append-nil, replicate-append-replicate, length-replicate, length-take-le, take-replicate, take_all, take_at, take_more, drop_more, drop_at, get_or_past, get_or-take}
+use Rattle.std.proofs.lemmas.Nat.{pow-add, pow_pos, shr_below, shr_split, mod_below}
+use Rattle.std.proofs.lemmas.List.{append-nil, replicate-append-replicate, length-replicate, length-take-le, take-replicate, take_all, take_at, take_more, drop_more, get_or_past, get_or-take}
 use Rattle.rice_bits.specs.Bits.{IsGathered, bits_in_bytes, word, bits_of, whole_bytes, fundamental_sequence}
-use Rattle.rice_bits.proofs.Words.{length-word, word-nil, word-zero, word-cat, word-split, word-fs}
+use Rattle.rice_bits.proofs.Words.{length-word, word-nil, word-zero, word-cat, word-split, word-fs, shift_fits, join_below}
 use Rattle.rice_bits.proofs.Bytes.{bits_of-nil, bits_of-append, bits_of-push, bits_of-zeros, length-bits_of, whole-bits, rest-bits}
 use Rattle.rice_bits.proofs.EightBytes.{bits_of-eight, split-bytes, length-front, top-word}
 use Rattle.rice_bits.proofs.OneWay.{bits_read, word_reads}
@@ -122,19 +121,25 @@ moved : (b h k n : ℕ) → b ≡ h * 2 ^ k → k + 56 ≡ n → b * 2 ^ 56 ≡ 
 moved b h k n e f = ap (λ c. c * 2 ^ 56) e ∙ (shifted h (2 ^ k) (2 ^ 56) ∙ ap (λ c. h * c) (sym (pow-add 2 k 56) ∙ ap (λ c. 2 ^ c) f))
 
 -- digits that are joined to those of a byte
-joined : (b g width value : ℕ) → b % 2 ^ (8 - g) ≡ 0 → g < 8 → g + width < 64 → value < 2 ^ width
-    → bit_or (b * 2 ^ 56) (value * 2 ^ (64 - (g + width))) ≡ (b / 2 ^ (8 - g) * 2 ^ width + value) * 2 ^ (64 - (g + width))
-joined b g width value zeros short narrow below =
+joined : (b g width value : ℕ) → b % 2 ^ (8 - g) ≡ 0 → g < 8 → g + width < 64
+    → b * 2 ^ 56 + value * 2 ^ (64 - (g + width)) ≡ (b / 2 ^ (8 - g) * 2 ^ width + value) * 2 ^ (64 - (g + width))
+joined b g width value zeros short narrow =
     let h : ℕ = b / 2 ^ (8 - g) in
     let s : ℕ = 64 - (g + width) in
     let byte : b ≡ h * 2 ^ (8 - g) = omega (arith, shr_split b (8 - g)) in
     let up : 8 - g + 56 ≡ 64 - g = omega arith in
-    let sum : width + s ≡ 64 - g = omega arith in
+    let split : width + s ≡ 64 - g = omega arith in
     let high : b * 2 ^ 56 ≡ h * 2 ^ (64 - g) = moved b h (8 - g) (64 - g) byte up in
-    let low : value * 2 ^ s < 2 ^ (64 - g) = rw (sym sum) (shl_below value width s below) in
-    ap (λ n. bit_or n (value * 2 ^ s)) high
-    ∙ (or_shifted h (64 - g) (value * 2 ^ s) low
-    ∙ (ap (λ n. h * n + value * 2 ^ s) (ap (λ n. 2 ^ n) (sym sum) ∙ pow-add 2 width s) ∙ product h (2 ^ width) (2 ^ s) value))
+    ap (λ n. n + value * 2 ^ s) (high ∙ ap (λ n. h * n) (ap (λ n. 2 ^ n) (sym split) ∙ pow-add 2 width s)) ∙ product h (2 ^ width) (2 ^ s) value
+
+-- so they fit eight bytes
+pub joined_below : (b g width value : ℕ) → b < 256 → b % 2 ^ (8 - g) ≡ 0 → g < 8 → g + width < 64 → value < 2 ^ width
+    → b * 2 ^ 56 + value * 2 ^ (64 - (g + width)) < 2 ^ 64
+joined_below b g width value byte zeros short narrow below =
+    let size : g + (8 - g) ≡ 8 = omega arith in
+    let h : b / 2 ^ (8 - g) < 2 ^ g = shr_below b g (8 - g) (rw size byte) in
+    rw (joined b g width value zeros short narrow)
+    (shift_fits (g + width) (64 - (g + width)) (b / 2 ^ (8 - g) * 2 ^ width + value) (join_below g width (b / 2 ^ (8 - g)) value h below) (omega arith))
 
 regroup : (a b c d : List Bool) → a ++ ((b ++ c) ++ d) ≡ ((a ++ b) ++ c) ++ d
 regroup a b c d =
@@ -143,16 +148,16 @@ regroup a b c d =
 -- digits that come behind the bits
 pub gathered-put : (old new : List ℕ) (n width value : ℕ) → n + width ≤ 8 * length old → width ≤ 32 → value < 2 ^ width
     → slice_index old (n / 8) % 2 ^ (8 - n % 8) ≡ 0
-    → take (n / 8 + 8) new ≡ take (length old) (take (n / 8) old ++ to_be_bytes w64 (bit_or (slice_index old (n / 8) * 2 ^ 56) (value * 2 ^ (64 - (n % 8 + width)))))
+    → take (n / 8 + 8) new ≡ take (length old) (take (n / 8) old ++ to_be_bytes w64 (slice_index old (n / 8) * 2 ^ 56 + value * 2 ^ (64 - (n % 8 + width))))
     → (take (n + width) (bits_of new) ≡ take n (bits_of old) ++ word width value) × (slice_index new ((n + width) / 8) % 2 ^ (8 - (n + width) % 8) ≡ 0)
 gathered-put old new n width value room narrow below zeros e =
     let b : ℕ = slice_index old (n / 8) in
     let h : ℕ = b / 2 ^ (8 - n % 8) in
     let behind : List Bool = replicate (64 - (n % 8 + width)) false in
-    let x : ℕ = bit_or (b * 2 ^ 56) (value * 2 ^ (64 - (n % 8 + width))) in
+    let x : ℕ = b * 2 ^ 56 + value * 2 ^ (64 - (n % 8 + width)) in
     let eight : bits_of (to_be_bytes w64 x) ≡ (word (n % 8) h ++ word width value) ++ behind =
     bits_of-eight x
-    ∙ (ap (word 64) (joined b (n % 8) width value zeros (omega arith) (omega arith) below)
+    ∙ (ap (word 64) (joined b (n % 8) width value zeros (omega arith) (omega arith))
     ∙ (top-word (n % 8 + width) (h * 2 ^ width + value) (omega arith) ∙ ap (λ d. d ++ behind) (word-cat (n % 8) width h value below))) in
     let all : bits_of (take (n / 8) old ++ to_be_bytes w64 x) ≡ (take n (bits_of old) ++ word width value) ++ behind =
     bits_of-append (take (n / 8) old) (to_be_bytes w64 x)

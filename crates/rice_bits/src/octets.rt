@@ -1,6 +1,6 @@
 //! Eight bytes at a time.
-ghost use Rattle.std.specs.Prelude.{All, ◌≡◌, ◌+◌, ◌*◌, ◌^◌, ◌<◌, ◌≤◌, ◌++◌, bit_or, length, drop, replicate, take};
-ghost use Rattle.std.specs.Int.{to_be_bytes, w64};
+ghost use Rattle.std.specs.Prelude.{All, ◌≡◌, ◌+◌, ◌*◌, ◌^◌, ◌<◌, ◌≤◌, ◌++◌, length, drop, replicate, take};
+ghost use Rattle.std.specs.Int.{to_be_bytes, to_le_bytes, w64};
 ghost use Rattle.std.specs.List.{slice_index};
 
 use std::simd::prelude::*;
@@ -15,27 +15,37 @@ pub fn front(bytes: &[u8], count: usize) -> &[u8]
     &bytes[..count]
 }
 
-/// Writes the eight bytes of `word`, most significant first, from the place `at` on.
+/// Writes the eight bytes of `word`, least significant first, from the place `at` on.
 #[inline]
 fn store(bytes: &mut [u8], at: usize, word: u64)
     requires { at + 8 ≤ length bytes.old }
-    ensures { bytes.new ≡ take at bytes.old ++ (to_be_bytes w64 word ++ drop (at + 8) bytes.old) }
+    ensures { bytes.new ≡ take at bytes.old ++ (to_le_bytes w64 word ++ drop (at + 8) bytes.old) }
 {
-    u64x1::splat(word.swap_bytes())
+    u64x1::splat(word)
         .to_le_bytes()
         .copy_to_slice(&mut bytes[at..]);
+}
+
+/// The digits of `byte` in front of those of `word`, as the eight bytes that spell them, the first as the least significant.
+#[inline]
+fn joined(byte: u8, word: u64) -> u64
+    requires { byte * 2 ^ 56 + word < 2 ^ 64 }
+    ensures { to_le_bytes w64 result ≡ to_be_bytes w64 (byte * 2 ^ 56 + word) }
+{
+    word.swap_bytes() + byte as u64
 }
 
 /// Joins the digits of `word` to those of the byte at the place `at`, and writes them from there on as eight bytes, most
 /// significant first, as far as there is room.
 #[inline]
 pub fn join_bytes(bytes: &mut [u8], at: usize, word: u64)
-    requires { at ≤ length bytes.old }
-    ensures { take (at + 8) bytes.new ≡ take (length bytes.old) (take at bytes.old ++ to_be_bytes w64 (bit_or (slice_index bytes.old at * 2 ^ 56) word)) }
+    requires at { at ≤ length bytes.old }
+    requires digits { slice_index bytes.old at * 2 ^ 56 + word < 2 ^ 64 }
+    ensures { take (at + 8) bytes.new ≡ take (length bytes.old) (take at bytes.old ++ to_be_bytes w64 (slice_index bytes.old at * 2 ^ 56 + word)) }
 {
     if 8 <= bytes.len() && at <= bytes.len() - 8 {
-        let joined = (bytes[at] as u64) << 56 | word;
-        store(bytes, at, joined);
+        let eight = joined(bytes[at], word);
+        store(bytes, at, eight);
     } else if at < bytes.len() {
         join_last_bytes(bytes, at, word);
     }
@@ -46,10 +56,11 @@ pub fn join_bytes(bytes: &mut [u8], at: usize, word: u64)
 fn join_last_bytes(bytes: &mut [u8], at: usize, word: u64)
     requires at { at < length bytes.old }
     requires few { length bytes.old ≤ at + 8 }
-    ensures { bytes.new ≡ take (length bytes.old) (take at bytes.old ++ to_be_bytes w64 (bit_or (slice_index bytes.old at * 2 ^ 56) word)) }
+    requires digits { slice_index bytes.old at * 2 ^ 56 + word < 2 ^ 64 }
+    ensures { bytes.new ≡ take (length bytes.old) (take at bytes.old ++ to_be_bytes w64 (slice_index bytes.old at * 2 ^ 56 + word)) }
 {
     let mut eight = [0; 8];
-    store(&mut eight, 0, (bytes[at] as u64) << 56 | word);
+    store(&mut eight, 0, joined(bytes[at], word));
     let left = bytes.len() - at;
     bytes[at..].copy_from_slice(&eight[..left]);
 }

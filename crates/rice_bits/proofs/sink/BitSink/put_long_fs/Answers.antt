@@ -1,4 +1,3 @@
-use Rattle.std.proofs.Common.{arith}
 use Rattle.rice_bits.proofs.Gathering.{fs-parts}
 use Rattle.rice_bits.proofs.sink.BitSink.put_long_fs.Goals as goal
 

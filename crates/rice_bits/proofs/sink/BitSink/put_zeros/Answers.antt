@@ -1,4 +1,4 @@
-use Rattle.std.proofs.Common.{◌≡◌, ◌+◌, ◌*◌, ◌<◌, ◌∙◌, false, ap, arith, length, replicate, refl, length-append}
+use Rattle.std.proofs.Common.{◌≡◌, ◌+◌, ◌∙◌, false, ap, arith, length, replicate, refl, length-append}
 use Rattle.std.proofs.lemmas.List.{length-replicate}
 use Rattle.rice_bits.proofs.Gathering.{gathered-zeros, length_viewed}
 use Rattle.rice_bits.proofs.sink.BitSink.put_zeros.Goals as goal

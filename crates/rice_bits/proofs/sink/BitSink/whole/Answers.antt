@@ -1,4 +1,4 @@
-use Rattle.std.proofs.Common.{◌≡◌, ◌≤◌, ◌*◌, ◌∙◌, sym, ap, arith, length}
+use Rattle.std.proofs.Common.{◌∙◌, sym, ap, arith}
 use Rattle.rice_bits.specs.Bits.{whole_bytes}
 use Rattle.rice_bits.proofs.Bytes.{each_byte}
 use Rattle.rice_bits.proofs.Gathering.{gathered-whole}
