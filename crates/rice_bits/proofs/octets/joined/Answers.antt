@@ -1,6 +1,6 @@
-use Rattle.std.proofs.Common.{◌≡◌, ℕ, zero, suc, ◌+◌, ◌*◌, ◌/◌, ◌%◌, ◌^◌, ◌<◌, List, [], ◌∷◌, reverse, refl, ap, arith, get_or}
+use Rattle.std.proofs.Common.{◌≡◌, ℕ, zero, suc, ◌+◌, ◌*◌, ◌/◌, ◌%◌, ◌^◌, ◌<◌, List, [], ◌∷◌, reverse, refl, sym, ◌∙◌, ap, arith, get_or}
 use Rattle.std.specs.Int.{byte_at, bytes_low_first, swap_bytes, to_be_bytes, to_le_bytes, w64}
-use Rattle.std.proofs.Math.Nat.{mod-lt}
+use Rattle.std.proofs.Math.Nat.{mod-lt, add-mul-div_left, div-div-eq-div-mul}
 use Rattle.std.proofs.lemmas.Nat.{be_bytes_8}
 use Rattle.rice_bits.proofs.octets.joined.Goals as goal
 
@@ -20,56 +20,33 @@ swapped : (n r : ℕ) → r ≡ swap_bytes w64 n
 swapped n r e = ap reverse (be_bytes_8 (to_le_bytes w64 n) r refl (bytes_below 0 8 n) e)
 
 -- a sum of which only the lowest byte is another
-low_0 : (s b : ℕ) → s % 256 + b < 256 → (s + b) % 256 ≡ s % 256 + b
-low_0 s b h = omega arith
+first_below : (s b : ℕ) → s % 256 + b < 256 → (s + b) % 256 ≡ s % 256 + b
+first_below s b h = omega arith
 
-low_1 : (s b : ℕ) → s % 256 + b < 256 → (s + b) / 256 % 256 ≡ s / 256 % 256
-low_1 s b h = omega arith
+same_above : (s b k : ℕ) → s % 256 + b < 256 → (s + b) / (256 * k) ≡ s / (256 * k)
+same_above s b k h =
+    let same : (s + b) / 256 ≡ s / 256 = omega arith in
+    sym (div-div-eq-div-mul (s + b) 256 k) ∙ (ap (λ n. n / k) same ∙ div-div-eq-div-mul s 256 k)
 
-low_2 : (s b : ℕ) → s % 256 + b < 256 → (s + b) / 65536 % 256 ≡ s / 65536 % 256
-low_2 s b h = omega arith
+factors : (b n k m : ℕ) → b * (k * (m * 256)) + n ≡ n + k * (b * (m * 256))
+factors b n k m = omega arith
 
-low_3 : (s b : ℕ) → s % 256 + b < 256 → (s + b) / 16777216 % 256 ≡ s / 16777216 % 256
-low_3 s b h = omega arith
-
-low_4 : (s b : ℕ) → s % 256 + b < 256 → (s + b) / 4294967296 % 256 ≡ s / 4294967296 % 256
-low_4 s b h = omega arith
-
-low_5 : (s b : ℕ) → s % 256 + b < 256 → (s + b) / 1099511627776 % 256 ≡ s / 1099511627776 % 256
-low_5 s b h = omega arith
-
-low_6 : (s b : ℕ) → s % 256 + b < 256 → (s + b) / 281474976710656 % 256 ≡ s / 281474976710656 % 256
-low_6 s b h = omega arith
-
-low_7 : (s b : ℕ) → s % 256 + b < 256 → (s + b) / 72057594037927936 % 256 ≡ s / 72057594037927936 % 256
-low_7 s b h = omega arith
+multiple : (c b m : ℕ) → (c + b * (m * 256)) % 256 ≡ c % 256
+multiple c b m = omega arith
 
 -- a sum of which only the highest byte is another
-high_0 : (b n : ℕ) → (b * 2 ^ 56 + n) % 256 ≡ n % 256
-high_0 b n = omega arith
+same_below : (b n k m : ℕ) → 0 < k → (b * (k * (m * 256)) + n) / k % 256 ≡ n / k % 256
+same_below b n k m h =
+    let split : b * (k * (m * 256)) + n ≡ n + k * (b * (m * 256)) = factors b n k m in
+    ap (λ c. c % 256) (ap (λ c. c / k) split ∙ add-mul-div_left n (b * (m * 256)) h) ∙ multiple (n / k) b m
 
-high_1 : (b n : ℕ) → (b * 2 ^ 56 + n) / 256 % 256 ≡ n / 256 % 256
-high_1 b n = omega arith
+bottom : (b n : ℕ) → (b * 2 ^ 56 + n) % 256 ≡ n % 256
+bottom b n = omega arith
 
-high_2 : (b n : ℕ) → (b * 2 ^ 56 + n) / 65536 % 256 ≡ n / 65536 % 256
-high_2 b n = omega arith
+last_below : (b n : ℕ) → b * 2 ^ 56 + n < 2 ^ 64 → (b * 2 ^ 56 + n) / 2 ^ 56 % 256 ≡ n / 2 ^ 56 % 256 + b
+last_below b n h = omega arith
 
-high_3 : (b n : ℕ) → (b * 2 ^ 56 + n) / 16777216 % 256 ≡ n / 16777216 % 256
-high_3 b n = omega arith
-
-high_4 : (b n : ℕ) → (b * 2 ^ 56 + n) / 4294967296 % 256 ≡ n / 4294967296 % 256
-high_4 b n = omega arith
-
-high_5 : (b n : ℕ) → (b * 2 ^ 56 + n) / 1099511627776 % 256 ≡ n / 1099511627776 % 256
-high_5 b n = omega arith
-
-high_6 : (b n : ℕ) → (b * 2 ^ 56 + n) / 281474976710656 % 256 ≡ n / 281474976710656 % 256
-high_6 b n = omega arith
-
-high_7 : (b n : ℕ) → b * 2 ^ 56 + n < 2 ^ 64 → (b * 2 ^ 56 + n) / 72057594037927936 % 256 ≡ n / 72057594037927936 % 256 + b
-high_7 b n h = omega arith
-
-top_below : (b n : ℕ) → b * 2 ^ 56 + n < 2 ^ 64 → n / 72057594037927936 % 256 + b < 256
+top_below : (b n : ℕ) → b * 2 ^ 56 + n < 2 ^ 64 → n / 2 ^ 56 % 256 + b < 256
 top_below b n h = omega arith
 
 add_first : ℕ → List ℕ → List ℕ
@@ -80,25 +57,25 @@ sum : (n s b : ℕ) → s ≡ swap_bytes w64 n → b * 2 ^ 56 + n < 2 ^ 64 → t
 unfolding add_first
 sum n s b e h =
     let bytes = swapped n s e in
-    let first : s % 256 ≡ n / 72057594037927936 % 256 = ap (λ xs. get_or xs 0 0) bytes in
+    let first : s % 256 ≡ n / 2 ^ 56 % 256 = ap (λ xs. get_or xs 0 0) bytes in
     let below : s % 256 + b < 256 = omega (arith, first, top_below b n h) in
     rw (
-      low_0 s b below,
-      low_1 s b below,
-      low_2 s b below,
-      low_3 s b below,
-      low_4 s b below,
-      low_5 s b below,
-      low_6 s b below,
-      low_7 s b below,
-      high_0 b n,
-      high_1 b n,
-      high_2 b n,
-      high_3 b n,
-      high_4 b n,
-      high_5 b n,
-      high_6 b n,
-      high_7 b n h,
+      first_below s b below,
+      same_above s b 1 below,
+      same_above s b (2 ^ 8) below,
+      same_above s b (2 ^ 16) below,
+      same_above s b (2 ^ 24) below,
+      same_above s b (2 ^ 32) below,
+      same_above s b (2 ^ 40) below,
+      same_above s b (2 ^ 48) below,
+      bottom b n,
+      same_below b n (2 ^ 8) (2 ^ 40) (omega arith),
+      same_below b n (2 ^ 16) (2 ^ 32) (omega arith),
+      same_below b n (2 ^ 24) (2 ^ 24) (omega arith),
+      same_below b n (2 ^ 32) (2 ^ 16) (omega arith),
+      same_below b n (2 ^ 40) (2 ^ 8) (omega arith),
+      same_below b n (2 ^ 48) (2 ^ 0) (omega arith),
+      last_below b n h,
     )
     (ap (add_first b) bytes)
 
