@@ -3,20 +3,51 @@ ghost use Rattle.std.specs.Prelude.{◌≡◌, ℕ, ◌+◌, ◌^◌, ◌<◌, �
 ghost use Rattle.rice_samples.specs.Pairs.{pair_code, pair_codes};
 ghost use Rattle.rice_samples.specs.Segments.{IsBlockSize};
 
-use crate::lanes::set_digits;
+use crate::lanes::{all_of, set_digits};
 
-/// The bits of the codewords of all pairs, counted in 64 bits where all residuals are small.
+/// The bits of the codewords of all pairs.
 #[inline]
 pub(crate) fn pair_sum(items: &[u32]) -> u128
     requires { IsBlockSize (length items.now) }
     ensures value { result ≡ sum_by (λ g. g + 1) (pair_codes items.now) }
     ensures limit { result ≤ 2 ^ 72 }
 {
-    if set_digits(items) < 1 << 28 {
+    // The loops unroll where the length is known.
+    match items.len() {
+        8 => narrowest_pair_sum(all_of(items, 8)),
+        _ => narrowest_pair_sum(items),
+    }
+}
+
+/// The same, counted in 32 or 64 bits where all residuals are so small.
+#[inline(always)]
+fn narrowest_pair_sum(items: &[u32]) -> u128
+    requires { IsBlockSize (length items.now) }
+    ensures value { result ≡ sum_by (λ g. g + 1) (pair_codes items.now) }
+    ensures limit { result ≤ 2 ^ 72 }
+{
+    let digits = set_digits(items);
+    if digits < 1 << 12 {
+        tiny_pair_sum(items) as u128
+    } else if digits < 1 << 28 {
         small_pair_sum(items) as u128
     } else {
         large_pair_sum(items)
     }
+}
+
+#[inline]
+fn tiny_pair_sum(items: &[u32]) -> u32
+    requires size { IsBlockSize (length items.now) }
+    requires tiny { All (λ d. d < 2 ^ 12) items.now }
+    ensures value { result ≡ sum_by (λ g. g + 1) (pair_codes items.now) }
+    ensures limit { result ≤ 2 ^ 30 }
+{
+    let mut total: u32 = 0;
+    for i in 0..items.len() / 2 {
+        total += tiny_codeword_len(items[2 * i], items[2 * i + 1]);
+    }
+    total
 }
 
 #[inline]
@@ -43,6 +74,17 @@ fn large_pair_sum(items: &[u32]) -> u128
         total += large_codeword_len(items[2 * i], items[2 * i + 1]);
     }
     total
+}
+
+#[inline]
+fn tiny_codeword_len(a: u32, b: u32) -> u32
+    requires a { a < 2 ^ 12 }
+    requires b { b < 2 ^ 12 }
+    ensures value { result ≡ pair_code a b + 1 }
+    ensures limit { result ≤ 2 ^ 25 }
+{
+    let sum = a + b;
+    sum * (sum + 1) / 2 + b + 1
 }
 
 #[inline]

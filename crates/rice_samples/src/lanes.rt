@@ -54,7 +54,7 @@ pub(crate) fn sum_shifted(items: &[u32], k: u32) -> u64
 
 /// All `len` numbers, with a length that the compiler knows where it knows `len`.
 #[inline(always)]
-fn all_of(items: &[u32], len: usize) -> &[u32]
+pub(crate) fn all_of(items: &[u32], len: usize) -> &[u32]
     requires { length items.now ≡ len }
     ensures { result.now ≡ items.now }
 {
