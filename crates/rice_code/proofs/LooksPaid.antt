@@ -1,9 +1,8 @@
 -- The best split is no larger than the bits of a sample, and costs less than J bits for each of its digits.
 use Rattle.std.proofs.Common.{◌≡◌, ℕ, zero, suc, ◌+◌, ◌*◌, ◌/◌, ◌^◌, ◌<◌, ◌≤◌, Bool, true, false, cond, nat_lt, map, min, List, [], ◌∷◌, length, ap, arith, inl, inr, Option, None, Some, ◌∙◌, ◌++◌, ℤ, pos}
-use Rattle.std.specs.Prelude.{sum_by, slice_index, OnSome, All}
+use Rattle.std.specs.Prelude.{sum_by, All}
 use Rattle.std.specs.List.{AllByRecursion, range_with_len}
 use Rattle.std.proofs.lemmas.Bool.{cases_lt}
-use Rattle.std.proofs.lemmas.Nat.{pow_pos}
 use Rattle.std.proofs.lemmas.List.Sums.{sum_by-cons, sum_by-append}
 use Rattle.std.proofs.lemmas.List.Elements.{recursion_from_All}
 use Rattle.std.proofs.Math.Nat.{mul-le-mul_left, div-eq_of_lt}
@@ -20,14 +19,15 @@ use Rattle.rice_code.specs.Held.{IsSound, AreSoundBlocks}
 use Rattle.rice_code.specs.Steps.{most_looks, most_looks_at, most_steps}
 use Rattle.rice_code.proofs.Covers.{best_keeps, bool_cases, data_sets_plain}
 use Rattle.rice_code.specs.Choice.{IsBestSplit, best_split, shortest, other_options}
-use Rattle.rice_code.proofs.Savings.{shifted, sum_halves, best_where_it_stops, best_where_it_ends, first_more}
+use Rattle.rice_samples.proofs.Halves.{cut_sum, sum_halves}
+use Rattle.rice_code.proofs.Savings.{coded_sum, best_where_it_stops, best_where_it_ends, first_more}
 use Rattle.rice_code.proofs.SearchLemmas.{best_split_is}
 use Rattle.rice_code.proofs.SegmentSteps.{most_of_one, looks_zero, sound_of, shortest_len}
 use Rattle.rice_code.proofs.CoderLemmas.{blocks_go_on}
 use Rattle.rice_code.proofs.SoundBlocks.{blocks_sound_behind, count_blocks, last_legal, code_is_bounded}
 use Rattle.rice_code.proofs.GoingOn.{bits_go_on}
 
-none_above : (n : ℕ) (ds : List ℕ) → AllByRecursion (λ d. d < 2 ^ n) ds → shifted ds n ≡ 0
+none_above : (n : ℕ) (ds : List ℕ) → AllByRecursion (λ d. d < 2 ^ n) ds → cut_sum ds n ≡ 0
 none_above n [] h = omega arith
 none_above n (d ∷ ds) h =
     let a = sum_by-cons (λ d. d / 2 ^ n) d ds in
@@ -68,27 +68,15 @@ plain_pays s c k h b =
     let f = ap (λ n. n * s.bits) h.len in
     omega (arith, e, f)
 
--- sums of all residuals
-shifted_zero : (r : Option ℕ) (ds : List ℕ) (k : ℕ) → OnSome r (slice_index ds 0 ≡ 0) → shifted (coded_from r ds) k ≡ shifted ds k
-shifted_zero None ds k h = let e : shifted ds k ≡ shifted ds k = omega arith in e
-shifted_zero (Some v) [] k h = omega arith
-shifted_zero (Some v) (d ∷ ds) k h =
-    let a = sum_by-cons (λ d. d / 2 ^ k) d ds in
-    let z : d ≡ 0 = h in
-    let b = ap (λ d. d / 2 ^ k) z in
-    let p = pow_pos k in
-    let q : 0 / 2 ^ k ≡ 0 = div-eq_of_lt p in
-    omega (arith, a, b, q)
-
--- a sum is at least its shifted sum, doubled for each digit
-grows : (ds : List ℕ) (k : ℕ) → suc k * shifted ds k ≤ shifted ds 0
+-- a sum is at least its sum without k digits, doubled for each digit
+grows : (ds : List ℕ) (k : ℕ) → suc k * cut_sum ds k ≤ cut_sum ds 0
 grows ds zero = omega arith
 grows ds (suc k) =
     let ih = grows ds k in
     let e : suc k ≡ k + 1 = omega arith in
-    let g = ap (shifted ds) e in
+    let g = ap (cut_sum ds) e in
     let h = sum_halves ds k in
-    step (shifted ds 0) (shifted ds k) (shifted ds (suc k)) k ih (omega (arith, g, h))
+    step (cut_sum ds 0) (cut_sum ds k) (cut_sum ds (suc k)) k ih (omega (arith, g, h))
   where
     step : (a x y k : ℕ) → suc k * x ≤ a → y + y ≤ x → suc (suc k) * y ≤ a
     step a x y k h e =
@@ -104,7 +92,7 @@ pair_covers a b = at (a + b) b
         let p : suc s * 2 ≤ suc s * (suc s + 1) = mul-le-mul_left (suc s) (omega arith) in
         omega (arith, p)
 
-pairs_cover : (half : ℕ) (ds : List ℕ) → length ds ≡ half + half → shifted ds 0 ≤ sum_by (λ g. g + 1) (pair_codes ds)
+pairs_cover : (half : ℕ) (ds : List ℕ) → length ds ≡ half + half → cut_sum ds 0 ≤ sum_by (λ g. g + 1) (pair_codes ds)
 pairs_cover zero [] h = omega arith
 pairs_cover zero (d ∷ ds) h = absurd (omega arith)
 pairs_cover (suc half) [] h = absurd (omega arith)
@@ -128,11 +116,11 @@ second_pays s c (suc k) half e h b =
     let l = length (coded c) in
     let first = b.first k (omega arith) in
     let g : k + 1 ≡ suc k = omega arith in
-    let at = ap (shifted (coded c)) g in
-    let more : l + 1 ≤ shifted (coded c) k = larger l k (id_len s + reference_len s c.reference) (shifted (coded c) k) (shifted (coded c) (suc k)) first in
-    let p : suc k * (l + 1) ≤ suc k * shifted (coded c) k = mul-le-mul_left (suc k) more in
+    let at = ap (cut_sum (coded c)) g in
+    let more : l + 1 ≤ cut_sum (coded c) k = larger l k (id_len s + reference_len s c.reference) (cut_sum (coded c) k) (cut_sum (coded c) (suc k)) first in
+    let p : suc k * (l + 1) ≤ suc k * cut_sum (coded c) k = mul-le-mul_left (suc k) more in
     let q = grows (coded c) k in
-    let same = shifted_zero c.reference c.residuals 0 h.zero in
+    let same = coded_sum c.reference c.residuals 0 h.zero in
     let pairs = pairs_cover half c.residuals (omega (arith, h.len, e)) in
     let most = coded_most c.reference c.residuals in
     let j : s.block ≤ l + 1 = omega (arith, most, h.len) in

@@ -1,37 +1,19 @@
 -- How the costs of the splits go from one to the next, and which option is chosen.
 use Rattle.std.proofs.Common.{◌≡◌, ℕ, zero, suc, ◌+◌, ◌-◌, ◌*◌, ◌/◌, ◌^◌, ◌<◌, ◌≤◌, Bool, true, false, cond, nat_lt, map, List, [], ◌∷◌, length, refl, ap, arith, sym, ◌∙◌, ◌⊎◌, inl, inr, subst}
-use Rattle.std.specs.Prelude.{sum_by, All}
+use Rattle.std.specs.Prelude.{All, OnSome, slice_index, Option, Some, None}
 use Rattle.std.specs.List.{best_of, range_with_len, AllByRecursion}
 use Rattle.std.proofs.lemmas.List.Elements.{All-from_recursion}
 use Rattle.std.proofs.lemmas.Bool.{cases_lt}
 use Rattle.std.proofs.lemmas.Bool.Decides.{nat_tests}
 use Rattle.std.proofs.lemmas.List.Sums.{sum_by-cons}
-use Rattle.std.proofs.lemmas.Nat.{pow-add}
-use Rattle.std.proofs.Math.Nat.{div-div-eq-div-mul}
+use Rattle.std.proofs.Math.Nat.{zero-div}
 use Rattle.rice_samples.specs.Parameters.{Parameters, id_len, k_max}
+use Rattle.rice_samples.proofs.Halves.{cut_sum, sum_halves}
 use Rattle.rice_code.specs.Blocks.{Contents}
-use Rattle.rice_code.specs.DataSets.{NoCompression, SecondExtension, Split, cost, coded, reference_len}
+use Rattle.rice_code.specs.DataSets.{NoCompression, SecondExtension, Split, cost, coded, coded_from, reference_len}
 use Rattle.rice_code.specs.Choice.{shortest, other_options, IsBestSplit}
+use Rattle.rice_code.specs.Forms.{IsZeroAtReference}
 use Rattle.rice_code.proofs.Covers.{bool_cases}
-
--- the residuals without their k lowest digits
-abbrev pub shifted : List ℕ → ℕ → ℕ
-shifted ds k = sum_by (λ d. d / 2 ^ k) ds
-
--- a digit fewer halves a number at least
-half : (d k : ℕ) → d / 2 ^ (k + 1) + d / 2 ^ (k + 1) ≤ d / 2 ^ k
-half d k =
-    let e : 2 ^ (k + 1) ≡ 2 ^ k * 2 = pow-add 2 k 1 in
-    let f : d / 2 ^ (k + 1) ≡ d / 2 ^ k / 2 = ap (λ n. d / n) e ∙ sym (div-div-eq-div-mul d (2 ^ k) 2) in
-    omega (arith, f)
-
--- so it does the sum
-pub sum_halves : (ds : List ℕ) (k : ℕ) → shifted ds (k + 1) + shifted ds (k + 1) ≤ shifted ds k
-sum_halves [] k = omega arith
-sum_halves (d ∷ ds) k =
-    let a = sum_by-cons (λ d. d / 2 ^ k) d ds in
-    let b = sum_by-cons (λ d. d / 2 ^ (k + 1)) d ds in
-    omega (arith, sum_halves ds k, half d k)
 
 pub saving_never_rises : (s : Parameters) (c : Contents) (k : ℕ) → 2 * cost s (Split (k + 1) c) ≤ cost s (Split k c) + cost s (Split (k + 2) c)
 saving_never_rises s c k =
@@ -42,28 +24,28 @@ saving_never_rises s c k =
     at l base k x y z h = omega arith
 
 -- a sum never rises
-sum_falls : (ds : List ℕ) (k m : ℕ) → shifted ds (k + m) ≤ shifted ds k
-sum_falls ds k zero = let e : k + 0 ≡ k = omega arith in let f = ap (shifted ds) e in omega arith
+sum_falls : (ds : List ℕ) (k m : ℕ) → cut_sum ds (k + m) ≤ cut_sum ds k
+sum_falls ds k zero = let e : k + 0 ≡ k = omega arith in let f = ap (cut_sum ds) e in omega arith
 sum_falls ds k (suc m) =
     let e : k + suc m ≡ k + m + 1 = omega arith in
-    let f = ap (shifted ds) e in
+    let f = ap (cut_sum ds) e in
     omega (arith, f, sum_falls ds k m, sum_halves ds (k + m))
 
 -- where the next is no shorter, none behind it is
-pub stops : (ds : List ℕ) (l k m : ℕ) → l * (k + 1) + shifted ds k ≤ l * (k + 1 + 1) + shifted ds (k + 1) → l * (k + 1) + shifted ds k ≤ l * (k + m + 1) + shifted ds (k + m)
-stops ds l k zero h = let e : k + 0 ≡ k = omega arith in let f = ap (λ n. l * (n + 1) + shifted ds n) e in omega arith
+pub stops : (ds : List ℕ) (l k m : ℕ) → l * (k + 1) + cut_sum ds k ≤ l * (k + 1 + 1) + cut_sum ds (k + 1) → l * (k + 1) + cut_sum ds k ≤ l * (k + m + 1) + cut_sum ds (k + m)
+stops ds l k zero h = let e : k + 0 ≡ k = omega arith in let f = ap (λ n. l * (n + 1) + cut_sum ds n) e in omega arith
 stops ds l k (suc m) h =
     let ih = stops ds l k m h in
     let e : k + suc m ≡ k + m + 1 = omega arith in
-    let f = ap (λ n. l * (n + 1) + shifted ds n) e in
-    let low : shifted ds (k + m) ≤ shifted ds (k + m + 1) + l = below m in
+    let f = ap (λ n. l * (n + 1) + cut_sum ds n) e in
+    let low : cut_sum ds (k + m) ≤ cut_sum ds (k + m + 1) + l = below m in
     omega (arith, f, ih, low)
   where
-    below : (m : ℕ) → shifted ds (k + m) ≤ shifted ds (k + m + 1) + l
-    below zero = let e : k + 0 ≡ k = omega arith in let f = ap (shifted ds) e in let g = ap (λ n. shifted ds (n + 1)) e in omega (arith, f, g, h)
+    below : (m : ℕ) → cut_sum ds (k + m) ≤ cut_sum ds (k + m + 1) + l
+    below zero = let e : k + 0 ≡ k = omega arith in let f = ap (cut_sum ds) e in let g = ap (λ n. cut_sum ds (n + 1)) e in omega (arith, f, g, h)
     below (suc m) =
         let e : k + suc m ≡ k + 1 + m = omega arith in
-        let f = ap (shifted ds) e in
+        let f = ap (cut_sum ds) e in
         let g = sum_falls ds (k + 1) m in
         let i = sum_halves ds k in
         omega (arith, f, g, i, h)
@@ -179,6 +161,37 @@ pub first_stop_is_best : (s : Parameters) (c : Contents) (k : ℕ) → k ≤ k_m
     (cost s (Split k c) ≤ cost s (Split (k + 1) c)) ⊎ (k ≡ k_max s) → IsBestSplit s c k
 first_stop_is_best s c k le h (inl stop) = best_where_it_stops s c k le (falling s c k h) stop
 first_stop_is_best s c k le h (inr end) = best_where_it_ends s c k end (falling s c k h)
+
+-- the residual at the reference place adds nothing
+pub coded_sum : (r : Option ℕ) (ds : List ℕ) (k : ℕ) → OnSome r (slice_index ds 0 ≡ 0) → cut_sum (coded_from r ds) k ≡ cut_sum ds k
+coded_sum None ds k h = refl
+coded_sum (Some v) [] k h = refl
+coded_sum (Some v) (d ∷ ds) k h =
+    let e : d ≡ 0 = h in
+    let f = ap (λ n. n / 2 ^ k) e in
+    let g = zero-div (2 ^ k) in
+    let i = sum_by-cons (λ d. d / 2 ^ k) d ds in
+    omega (arith, f, g, i)
+
+-- where the sum of the residuals first falls by no more than the digits that a split adds, the split is best
+pub sum_stop_is_best : (s : Parameters) (c : Contents) (k : ℕ) → IsZeroAtReference c → k ≤ k_max s →
+    ((j : ℕ) → j < k → cut_sum c.residuals (j + 1) + length (coded c) < cut_sum c.residuals j) →
+    (k < k_max s → cut_sum c.residuals k ≤ cut_sum c.residuals (k + 1) + length (coded c)) → IsBestSplit s c k
+sum_stop_is_best s c k at_reference le falls ends =
+    let base = id_len s + reference_len s c.reference in
+    let same = λ (j : ℕ). coded_sum c.reference c.residuals j at_reference in
+    first_stop_is_best s c k le
+    (λ j lt. shorter (length (coded c)) base j (cut_sum (coded c) j) (cut_sum (coded c) (j + 1)) (omega (arith, falls j lt, same j, same (j + 1))))
+    (elim (cases_lt k (k_max s)) [
+      | inl lt ↦ inl (no_shorter (length (coded c)) base k (cut_sum (coded c) k) (cut_sum (coded c) (k + 1)) (omega (arith, ends lt, same k, same (k + 1))))
+      | inr ge ↦ inr (omega arith)
+    ])
+  where
+    shorter : (l base j x y : ℕ) → y + l < x → base + l * (j + 1 + 1) + y < base + l * (j + 1) + x
+    shorter l base j x y h = omega arith
+
+    no_shorter : (l base k x y : ℕ) → x ≤ y + l → base + l * (k + 1) + x ≤ base + l * (k + 1 + 1) + y
+    no_shorter l base k x y h = omega arith
 
 -- the one that is taken of two is no longer than either
 lesser : {A : Type 0} (f : A → ℕ) (a x : A) → (f (cond (nat_lt (f x) (f a)) x a) ≤ f a) × (f (cond (nat_lt (f x) (f a)) x a) ≤ f x)

@@ -1,7 +1,7 @@
 //! The lengths of the texts of a block.
-ghost use Rattle.std.specs.Prelude.{◌≡◌, ℕ, ◌+◌, ◌*◌, ◌^◌, ◌<◌, ◌≤◌, length};
+ghost use Rattle.std.specs.Prelude.{◌≡◌, ℕ, ◌+◌, ◌*◌, ◌/◌, ◌^◌, ◌<◌, ◌≤◌, length, sum_by};
 ghost use Rattle.rice_samples.specs.Parameters.{id_len, k_max};
-ghost use Rattle.rice_code.specs.DataSets.{NoCompression, SecondExtension, Split, cost, reference_len};
+ghost use Rattle.rice_code.specs.DataSets.{NoCompression, SecondExtension, Split, coded, cost, reference_len};
 ghost use Rattle.rice_code.specs.Held.{told, IsSound};
 
 use rice_bits::Meter;
@@ -44,29 +44,35 @@ pub fn second_extension_cost(
     head as u128 + block.pair_sum(meter)
 }
 
-/// The length of the text by split `k`.
+/// How many residuals a split sends: all but that at the reference place.
+pub fn coded_len(setting: &Setting, reference: Option<u32>, block: &Block<'_>) -> u32
+    requires { IsSound setting.now (told reference block.now) }
+    ensures value { result ≡ length (coded (told reference block.now)) }
+    ensures limit { result ≤ 64 }
+{
+    match reference {
+        Some(_) => setting.block() - 1,
+        None => setting.block(),
+    }
+}
+
+/// The length of the text by split `k`, where `sum` is that of the residuals without their `k` lowest digits.
 pub fn split_cost(
     setting: &Setting,
     reference: Option<u32>,
     block: &Block<'_>,
     k: u32,
-    meter: &mut Meter,
+    sum: u64,
 ) -> u64
     requires split { k ≤ k_max setting.now }
     requires sound { IsSound setting.now (told reference block.now) }
-    requires meter { meter.old + length block.now < 2 ^ 62 }
+    requires sum { sum ≡ sum_by (λ d. d / 2 ^ k) block.now }
+    requires few { sum ≤ 2 ^ 38 }
     ensures value { result ≡ cost setting.now (Split k (told reference block.now)) }
     ensures limit { result < 2 ^ 40 }
-    ensures steps { meter.new ≡ meter.old + setting.now.block }
 {
-    let coded = match reference {
-        Some(_) => setting.block() - 1,
-        None => setting.block(),
-    };
     let limit = setting.k_max();
     prove!(k <= limit);
-    let head = setting.id_len() as u64
-        + reference_len(setting, reference)
-        + (coded * (k + 1)) as u64;
-    head + block.sum_shifted(k, meter)
+    let digits = coded_len(setting, reference, block) * (k + 1);
+    setting.id_len() as u64 + reference_len(setting, reference) + digits as u64 + sum
 }

@@ -6,7 +6,7 @@ ghost use Rattle.rice_code.specs.Choice.{shortest, IsBestSplit, best_split};
 ghost use Rattle.rice_code.specs.Held.{told, IsSound};
 ghost use Rattle.rice_code.specs.Chosen.{chosen_set, IsSplitWithin};
 
-use crate::cost::{no_compression_cost, second_extension_cost, split_cost};
+use crate::cost::{coded_len, no_compression_cost, second_extension_cost, split_cost};
 use rice_bits::Meter;
 use rice_samples::{Block, Setting};
 
@@ -32,20 +32,9 @@ pub fn best_split(
     ensures value { result.1 ≡ cost setting.now (Split result.0 (told reference block.now)) }
     ensures steps { meter.new ≡ meter.old + setting.now.block * (min (result.0 + 1) (k_max setting.now) + 1) }
 {
-    // What a copy of its own says is read once, and not again behind each tick.
-    let setting = *setting;
-    let limit = setting.k_max();
-    let mut best = 0;
-    let mut least = split_cost(&setting, reference, block, 0, meter);
-    while best < limit {
-        let next = split_cost(&setting, reference, block, best + 1, meter);
-        if next >= least {
-            return (best, least);
-        }
-        best += 1;
-        least = next;
-    }
-    (best, least)
+    let coded = coded_len(setting, reference, block);
+    let (k, sum) = block.first_stop(setting.k_max(), coded as u64, meter);
+    (k, split_cost(setting, reference, block, k, sum))
 }
 
 /// The option of least length.
@@ -63,9 +52,11 @@ pub fn choose(
     ensures steps_limit { meter.new ≤ meter.old + setting.now.block * (k_max setting.now + 2) }
     ensures split { IsSplitWithin (k_max setting.now) result }
 {
+    // What a copy of its own says is read once, and not again behind each tick.
+    let setting = *setting;
     let _block = setting.block();
-    let (k, split) = best_split(setting, reference, block, meter);
-    let no_compression = no_compression_cost(setting, reference, block);
+    let (k, split) = best_split(&setting, reference, block, meter);
+    let no_compression = no_compression_cost(&setting, reference, block);
     // Residuals that are worth a split are so large that second extension is longer.
     if 0 < k && k < setting.k_max() {
         if split < no_compression {
@@ -73,7 +64,7 @@ pub fn choose(
         }
         return Choice::NoCompression;
     }
-    let second_extension = second_extension_cost(setting, reference, block, meter);
+    let second_extension = second_extension_cost(&setting, reference, block, meter);
     let no_compression = no_compression as u128;
     let split = split as u128;
     if second_extension < no_compression {

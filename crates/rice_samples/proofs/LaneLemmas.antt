@@ -133,11 +133,16 @@ some_digits i xs h = by_value (list_all (λ d. d == 0) xs) refl
 pub lanes_shifted : (k i : ℕ) (xs : List ℕ) → 8 * i + 8 ≤ length xs → length (zip2 (λ d s. d / 2 ^ s) (chunk (8 * i) 8 xs) (replicate 8 k)) ≡ 8
 lanes_shifted k i xs room = let e = length-chunk (8 * i) 8 xs room in length-zip2 (λ d s. d / 2 ^ s) (chunk (8 * i) 8 xs) (replicate 8 k) e ∙ e
 
+-- up to a chunk the sum is within the whole
+pub sums_below : (k i limit : ℕ) (xs total : List ℕ) → length total ≡ 8 → 8 * i + 8 ≤ length xs → sum_by (λ d. d / 2 ^ k) xs < limit → sum_l total ≡ sum_by (λ d. d / 2 ^ k) (take (8 * i) xs) →
+    sum_l total + sum_l (zip2 (λ d s. d / 2 ^ s) (chunk (8 * i) 8 xs) (replicate 8 k)) < limit
+sums_below k i limit xs total lanes room small value =
+    rw (next_sum k i xs total lanes room value)
+    (let a = sum_by-take-le (λ d. d / 2 ^ k) xs (8 * (i + 1)) in omega arith)
+
 pub sums_fit : (k i : ℕ) (xs total : List ℕ) → length total ≡ 8 → 8 * i + 8 ≤ length xs → length xs ≤ 64 → ((j : ℕ) → get_or xs j 0 < 2 ^ 32) → sum_l total ≡ sum_by (λ d. d / 2 ^ k) (take (8 * i) xs) →
     sum_l total + sum_l (zip2 (λ d s. d / 2 ^ s) (chunk (8 * i) 8 xs) (replicate 8 k)) < 2 ^ 64
-sums_fit k i xs total lanes room few small value =
-    rw (next_sum k i xs total lanes room value)
-    (let a = sum_by-take-le (λ d. d / 2 ^ k) xs (8 * (i + 1)) in let b = sum_limit k (2 ^ 32) xs small in omega arith)
+sums_fit k i xs total lanes room few small value = sums_below k i (2 ^ 64) xs total lanes room (let b = sum_limit k (2 ^ 32) xs small in omega arith) value
 
 pub sum_added : (k i : ℕ) (xs total : List ℕ) → length total ≡ 8 → 8 * i + 8 ≤ length xs → sum_l total ≡ sum_by (λ d. d / 2 ^ k) (take (8 * i) xs) →
     sum_l (zip2 (λ a b. a + b) total (zip2 (λ d s. d / 2 ^ s) (chunk (8 * i) 8 xs) (replicate 8 k))) ≡ sum_by (λ d. d / 2 ^ k) (take (8 * (i + 1)) xs)
@@ -149,8 +154,11 @@ lanes_added k i xs total lanes room = length-zip2 (λ a b. a + b) total _ (lanes
 pub whole_sum : (k n : ℕ) (xs total : List ℕ) → length xs % 8 ≡ 0 → length xs / 8 ≤ n → sum_l total ≡ sum_by (λ d. d / 2 ^ k) (take (8 * n) xs) → fold_l (λ s x. s + x) 0 total ≡ sum_by (λ d. d / 2 ^ k) xs
 whole_sum k n xs total e le value = fold-sum 0 total ∙ (omega arith ∙ (value ∙ ap (λ ys. sum_by (λ d. d / 2 ^ k) ys) (take_all n xs e le)))
 
+pub total_below : (k n limit : ℕ) (xs total : List ℕ) → sum_by (λ d. d / 2 ^ k) xs < limit → sum_l total ≡ sum_by (λ d. d / 2 ^ k) (take (8 * n) xs) → 0 + sum_l total < limit
+total_below k n limit xs total small value = let a = sum_by-take-le (λ d. d / 2 ^ k) xs (8 * n) in omega arith
+
 pub total_fits : (k n : ℕ) (xs total : List ℕ) → length xs ≤ 64 → ((j : ℕ) → get_or xs j 0 < 2 ^ 32) → sum_l total ≡ sum_by (λ d. d / 2 ^ k) (take (8 * n) xs) → 0 + sum_l total < 2 ^ 64
-total_fits k n xs total few small value = let a = sum_by-take-le (λ d. d / 2 ^ k) xs (8 * n) in let b = sum_limit k (2 ^ 32) xs small in omega arith
+total_fits k n xs total few small value = total_below k n (2 ^ 64) xs total (let b = sum_limit k (2 ^ 32) xs small in omega arith) value
 
 -- lanes of 32 bits
 

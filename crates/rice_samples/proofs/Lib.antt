@@ -15,3 +15,4 @@ pub mod PairSums
 pub mod Folding
 pub mod Readings
 pub mod Restoring
+pub mod Halves

@@ -1,11 +1,12 @@
 //! Blocks of residuals, which are read only by calls that count their steps.
-ghost use Rattle.std.specs.Prelude.{◌≡◌, ℕ, ◌+◌, ◌*◌, ◌/◌, ◌^◌, ◌==◌, ◌<◌, ◌≤◌, length, slice_index, sum_by};
+ghost use Rattle.std.specs.Prelude.{◌≡◌, ℕ, ◌+◌, ◌*◌, ◌/◌, ◌^◌, ◌==◌, ◌<◌, ◌≤◌, min, length, slice_index, sum_by};
 ghost use Rattle.std.specs.List.{list_all};
 ghost use Rattle.rice_samples.specs.Pairs.{pair_codes};
 ghost use Rattle.rice_samples.specs.Segments.{IsBlockSize};
 
 use crate::codewords::pair_sum;
 use crate::lanes::{all_zero, sum_shifted};
+use crate::stops::first_stop;
 use rice_bits::Meter;
 use std::marker::Model;
 
@@ -70,6 +71,28 @@ impl Block<'_> {
         ensures steps { meter.new ≡ meter.old + length self.now }
     {
         sum_shifted(self.look(meter), k)
+    }
+
+    /// The first `k`, up to `limit`, at which one digit more takes no more than `price` off the sum of the residuals
+    /// without their `k` lowest binary digits, and this sum. It looks at each sum up to the next, if that is not
+    /// above `limit`.
+    #[inline]
+    pub fn first_stop(&self, limit: u32, price: u64, meter: &mut Meter) -> (u32, u64)
+        requires limit { limit ≤ 29 }
+        requires price { price ≤ 64 }
+        requires meter { meter.old + length self.now * (limit + 1) < 2 ^ 62 }
+        ensures limit { result.0 ≤ limit }
+        ensures value { result.1 ≡ sum_by (λ d. d / 2 ^ result.0) self.now }
+        ensures size { result.1 ≤ 2 ^ 38 }
+        ensures falls { (j : ℕ) → j < result.0 → sum_by (λ d. d / 2 ^ (j + 1)) self.now + price < sum_by (λ d. d / 2 ^ j) self.now }
+        ensures stops { result.0 < limit → sum_by (λ d. d / 2 ^ result.0) self.now ≤ sum_by (λ d. d / 2 ^ (result.0 + 1)) self.now + price }
+        ensures steps { meter.new ≡ meter.old + length self.now * (min (result.0 + 1) limit + 1) }
+    {
+        let items = self.items;
+        let (k, sum) = first_stop(items, limit, price);
+        let looks = (k + 1).min(limit) + 1;
+        meter.tick(items.len() as u64 * looks as u64);
+        (k, sum)
     }
 
     /// The bits of the codewords that second extension sends for the pairs of residuals.

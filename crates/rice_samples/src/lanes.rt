@@ -95,3 +95,19 @@ fn narrow_sum(items: &[u32], k: u32) -> u64
     }
     total.cast::<u64>().strict_reduce_sum()
 }
+
+/// The same where the sum is so small that nothing overflows 32 bits.
+#[inline(always)]
+pub(crate) fn small_sum(items: &[u32], k: u32) -> u32
+    requires chunks { length items.now % 8 ≡ 0 }
+    requires small { sum_by (λ d. d / 2 ^ k) items.now < 2 ^ 32 }
+    requires shift { k < 32 }
+    ensures { result ≡ sum_by (λ d. d / 2 ^ k) items.now }
+{
+    let shift = u32x8::splat(k);
+    let mut sums = u32x8::splat(0);
+    for i in 0..items.len() / 8 {
+        sums = sums.strict_add(u32x8::from_slice(&items[8 * i..]) >> shift);
+    }
+    sums.strict_reduce_sum()
+}

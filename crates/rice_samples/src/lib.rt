@@ -15,6 +15,7 @@ pub mod samples;
 pub mod segment;
 pub mod setting;
 pub mod spelling;
+mod stops;
 pub mod writing;
 
 pub use block::Block;

@@ -1,17 +1,17 @@
 use Rattle.std.proofs.Common.{arith}
 use Rattle.rice_code.specs.Held.{told}
-use Rattle.rice_code.proofs.Savings.{best_where_it_stops, best_where_it_ends}
+use Rattle.rice_code.proofs.Savings.{sum_stop_is_best}
 use Rattle.rice_code.proofs.SearchLemmas.{best_split_is}
 use Rattle.rice_code.proofs.search.best_split.Goals as goal
 
-pub returns-then-next-least-clause-best : goal.returns-then-next-least-clause-best
-returns-then-next-least-clause-best c =
-    best_where_it_stops c.args.setting.now (told c.args.reference c.args.block.now) c.loop-best.best c.loop-best.invariant.at_most c.loop-best.invariant.first (omega (arith, c.loop-best.invariant.value, c.split_cost-next.ensures.value, c.if-next-least.true))
-
-pub returns-then-next-least-clause-named : goal.returns-then-next-least-clause-named
-returns-then-next-least-clause-named c =
-    best_split_is c.args.setting.now (told c.args.reference c.args.block.now) c.loop-best.best (returns-then-next-least-clause-best c)
+pub returns-clause-best : goal.returns-clause-best
+returns-clause-best c =
+    let stop = c.first_stop-k.ensures in
+    let len = c.coded_len-coded.ensures.value in
+    let limit = c.k_max.ensures.value in
+    sum_stop_is_best c.args.setting.now (told c.args.reference c.args.block.now) c.first_stop-k.result.0 c.requires.sound.zero (omega (arith, stop.limit, limit))
+    (λ j lt. omega (arith, stop.falls j lt, len))
+    (λ lt. omega (arith, stop.stops (omega (arith, lt, limit)), len))
 
 pub returns-clause-named : goal.returns-clause-named
-returns-clause-named c =
-    best_split_is c.args.setting.now (told c.args.reference c.args.block.now) c.loop-best.best (best_where_it_ends c.args.setting.now (told c.args.reference c.args.block.now) c.loop-best.best (omega arith) c.loop-best.invariant.first)
+returns-clause-named c = best_split_is c.args.setting.now (told c.args.reference c.args.block.now) c.first_stop-k.result.0 (returns-clause-best c)
