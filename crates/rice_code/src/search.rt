@@ -52,11 +52,9 @@ pub fn choose(
     ensures steps_limit { meter.new ≤ meter.old + setting.now.block * (k_max setting.now + 2) }
     ensures split { IsSplitWithin (k_max setting.now) result }
 {
-    // What a copy of its own says is read once, and not again behind each tick.
-    let setting = *setting;
     let _block = setting.block();
-    let (k, split) = best_split(&setting, reference, block, meter);
-    let no_compression = no_compression_cost(&setting, reference, block);
+    let (k, split) = best_split(setting, reference, block, meter);
+    let no_compression = no_compression_cost(setting, reference, block);
     // Residuals that are worth a split are so large that second extension is longer.
     if 0 < k && k < setting.k_max() {
         if split < no_compression {
@@ -64,7 +62,7 @@ pub fn choose(
         }
         return Choice::NoCompression;
     }
-    let second_extension = second_extension_cost(&setting, reference, block, meter);
+    let second_extension = second_extension_cost(setting, reference, block, meter);
     let no_compression = no_compression as u128;
     let split = split as u128;
     if second_extension < no_compression {

@@ -30,11 +30,14 @@ fn code_block(
     ensures steps_from { meter.old + cost setting.now (shortest setting.now (told reference block.now)) + setting.now.block * (best_split setting.now (told reference block.now) + 3) ≤ meter.new + 1 }
     ensures steps_to { meter.new ≤ meter.old + cost setting.now (shortest setting.now (told reference block.now)) + setting.now.block * (min (best_split setting.now (told reference block.now) + 1) (k_max setting.now) + 4) }
 {
-    let choice = choose(setting, reference, block, meter);
-    put_block(setting, choice, reference, block, sink, meter);
+    // What a copy of its own says is read once, and not again behind each tick.
+    let setting = *setting;
+    let choice = choose(&setting, reference, block, meter);
+    put_block(&setting, choice, reference, block, sink, meter);
 }
 
 /// The text of the zero blocks that wait, if there are any.
+#[inline(always)]
 fn put_waiting(
     setting: &Setting,
     reference: Option<u32>,

@@ -8,6 +8,18 @@ use std::simd::prelude::*;
 /// Whether all numbers are 0.
 #[inline]
 pub(crate) fn all_zero(items: &[u32]) -> bool
+    requires { IsBlockSize (length items.now) }
+    ensures { result ≡ list_all (λ d. d == 0) items.now }
+{
+    // The loop unrolls where the length is known.
+    match items.len() {
+        8 => each_is_zero(all_of(items, 8)),
+        _ => each_is_zero(items),
+    }
+}
+
+#[inline(always)]
+fn each_is_zero(items: &[u32]) -> bool
     requires { length items.now % 8 ≡ 0 }
     ensures { result ≡ list_all (λ d. d == 0) items.now }
 {

@@ -1,6 +1,6 @@
 use Rattle.std.proofs.Common.{sym}
 use Rattle.rice_samples.proofs.LaneLemmas.{more_zeros, some_digits}
-use Rattle.rice_samples.proofs.lanes.all_zero.Goals as goal
+use Rattle.rice_samples.proofs.lanes.each_is_zero.Goals as goal
 
 pub returns-then-items-i-ne0 : goal.returns-then-items-i-ne0
 returns-then-items-i-ne0 c = sym (some_digits c.loop-i.i c.args.items.now c.if-items-i-ne0.true)
