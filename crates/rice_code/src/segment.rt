@@ -30,10 +30,8 @@ fn code_block(
     ensures steps_from { meter.old + cost setting.now (shortest setting.now (told reference block.now)) + setting.now.block * (best_split setting.now (told reference block.now) + 3) ≤ meter.new + 1 }
     ensures steps_to { meter.new ≤ meter.old + cost setting.now (shortest setting.now (told reference block.now)) + setting.now.block * (min (best_split setting.now (told reference block.now) + 1) (k_max setting.now) + 4) }
 {
-    // What a copy of its own says is read once, and not again behind each tick.
-    let setting = *setting;
-    let choice = choose(&setting, reference, block, meter);
-    put_block(&setting, choice, reference, block, sink, meter);
+    let choice = choose(setting, reference, block, meter);
+    put_block(setting, choice, reference, block, sink, meter);
 }
 
 /// The text of the zero blocks that wait, if there are any.
@@ -124,13 +122,15 @@ pub fn code_blocks(
     ensures steps_from { meter.old + length (joined setting.now (data_sets setting.now start false (held_blocks setting.now reference count segment.now))) + sum_by (least_looks setting.now) (held_blocks setting.now reference count segment.now) ≤ meter.new }
     ensures steps_to { meter.new ≤ meter.old + length (joined setting.now (data_sets setting.now start false (held_blocks setting.now reference count segment.now))) + sum_by (most_looks setting.now) (held_blocks setting.now reference count segment.now) }
 {
-    let size = setting.block() as usize;
+    // What a copy of its own says is read once, and not again behind each tick.
+    let own = *setting;
+    let size = own.block() as usize;
     let mut run: u32 = 0;
     for i in 0..count {
         let block = segment.block(i, size);
         let first = reference_of(reference, i - run as usize);
         run = code_next(
-            setting,
+            &own,
             first,
             run,
             reference_of(reference, i),
@@ -140,5 +140,5 @@ pub fn code_blocks(
         );
     }
     let first = reference_of(reference, count - run as usize);
-    put_waiting(setting, first, run, true, sink, meter);
+    put_waiting(&own, first, run, true, sink, meter);
 }
