@@ -94,8 +94,9 @@ fn small_codeword_len(a: u32, b: u32) -> u64
     ensures value { result ≡ pair_code a b + 1 }
     ensures limit { result < 2 ^ 58 }
 {
-    let sum = (a + b) as u64;
-    sum * (sum + 1) / 2 + b as u64 + 1
+    // Factors of 32 bits take one multiplication each.
+    let sum = a + b;
+    sum as u64 * (sum + 1) as u64 / 2 + b as u64 + 1
 }
 
 #[inline]

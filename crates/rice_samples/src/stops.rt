@@ -26,7 +26,7 @@ pub(crate) fn first_stop(items: &[u32], limit: u32, price: u64) -> (u32, u64)
     }
 }
 
-/// The same. No sum is above the first, which says whether all can be counted in 32 bits.
+/// The same. Sums below 2^32 are counted in 32 bits, since none is above one before it.
 #[inline(always)]
 fn stop_of(items: &[u32], limit: u32, price: u64) -> (u32, u64)
     requires size { IsBlockSize (length items.now) }
@@ -40,19 +40,18 @@ fn stop_of(items: &[u32], limit: u32, price: u64) -> (u32, u64)
 {
     let first = sum_shifted(items, 0);
     if first < 1 << 32 {
-        stop_behind(items, first, true, limit, price)
+        stop_behind(items, 0, first, true, limit, price)
     } else {
-        stop_behind(items, first, false, limit, price)
+        stop_of_large(items, first, limit, price)
     }
 }
 
-/// The same, where `first` is the sum of the numbers.
-#[inline(always)]
-fn stop_behind(items: &[u32], first: u64, is_small: bool, limit: u32, price: u64) -> (u32, u64)
+/// The same where `first`, the sum of the numbers, is large. It stands apart, so that the usual case stays short.
+#[inline(never)]
+fn stop_of_large(items: &[u32], first: u64, limit: u32, price: u64) -> (u32, u64)
     requires size { IsBlockSize (length items.now) }
     requires first { first ≡ sum_by (λ d. d / 2 ^ 0) items.now }
     requires few { first ≤ 2 ^ 38 }
-    requires small { is_small ≡ true → first < 2 ^ 32 }
     requires limit { limit ≤ 29 }
     requires price { price ≤ 64 }
     ensures limit { result.0 ≤ limit }
@@ -61,9 +60,64 @@ fn stop_behind(items: &[u32], first: u64, is_small: bool, limit: u32, price: u64
     ensures falls { (j : ℕ) → j < result.0 → sum_by (λ d. d / 2 ^ (j + 1)) items.now + price < sum_by (λ d. d / 2 ^ j) items.now }
     ensures stops { result.0 < limit → sum_by (λ d. d / 2 ^ result.0) items.now ≤ sum_by (λ d. d / 2 ^ (result.0 + 1)) items.now + price }
 {
-    let mut k = 0;
-    let mut sum = first;
-    while k < limit {
+    match items.len() {
+        8 => stop_behind_large(all_of(items, 8), first, limit, price),
+        16 => stop_behind_large(all_of(items, 16), first, limit, price),
+        32 => stop_behind_large(all_of(items, 32), first, limit, price),
+        _ => stop_behind_large(items, first, limit, price),
+    }
+}
+
+/// The same: the sums are large for a while, and small from then on.
+#[inline(always)]
+fn stop_behind_large(items: &[u32], first: u64, limit: u32, price: u64) -> (u32, u64)
+    requires size { IsBlockSize (length items.now) }
+    requires first { first ≡ sum_by (λ d. d / 2 ^ 0) items.now }
+    requires few { first ≤ 2 ^ 38 }
+    requires limit { limit ≤ 29 }
+    requires price { price ≤ 64 }
+    ensures limit { result.0 ≤ limit }
+    ensures value { result.1 ≡ sum_by (λ d. d / 2 ^ result.0) items.now }
+    ensures size { result.1 ≤ 2 ^ 38 }
+    ensures falls { (j : ℕ) → j < result.0 → sum_by (λ d. d / 2 ^ (j + 1)) items.now + price < sum_by (λ d. d / 2 ^ j) items.now }
+    ensures stops { result.0 < limit → sum_by (λ d. d / 2 ^ result.0) items.now ≤ sum_by (λ d. d / 2 ^ (result.0 + 1)) items.now + price }
+{
+    let (k, sum) = stop_behind(items, 0, first, false, limit, price);
+    if sum < 1 << 32 {
+        stop_behind(items, k, sum, true, limit, price)
+    } else {
+        (k, sum)
+    }
+}
+
+/// The same from `first` on, with the sum there. Where not all sums are small, it ends at the first that is, too.
+#[inline(always)]
+fn stop_behind(
+    items: &[u32],
+    first: u32,
+    first_sum: u64,
+    is_small: bool,
+    limit: u32,
+    price: u64,
+) -> (u32, u64)
+    requires size { IsBlockSize (length items.now) }
+    requires first { first ≤ limit }
+    requires value { first_sum ≡ sum_by (λ d. d / 2 ^ first) items.now }
+    requires few { first_sum ≤ 2 ^ 38 }
+    requires small { is_small ≡ true → first_sum < 2 ^ 32 }
+    requires falls { (j : ℕ) → j < first → sum_by (λ d. d / 2 ^ (j + 1)) items.now + price < sum_by (λ d. d / 2 ^ j) items.now }
+    requires limit { limit ≤ 29 }
+    requires price { price ≤ 64 }
+    ensures limit { result.0 ≤ limit }
+    ensures value { result.1 ≡ sum_by (λ d. d / 2 ^ result.0) items.now }
+    ensures size { result.1 ≤ 2 ^ 38 }
+    ensures falls { (j : ℕ) → j < result.0 → sum_by (λ d. d / 2 ^ (j + 1)) items.now + price < sum_by (λ d. d / 2 ^ j) items.now }
+    ensures stops_small { is_small ≡ true → result.0 < limit → sum_by (λ d. d / 2 ^ result.0) items.now ≤ sum_by (λ d. d / 2 ^ (result.0 + 1)) items.now + price }
+    ensures stops { 2 ^ 32 ≤ result.1 → result.0 < limit → sum_by (λ d. d / 2 ^ result.0) items.now ≤ sum_by (λ d. d / 2 ^ (result.0 + 1)) items.now + price }
+{
+    let mut k = first;
+    let mut sum = first_sum;
+    while k < limit && (is_small || sum >= 1 << 32) {
         let next = next_sum(items, k + 1, is_small);
         if sum <= next + price {
             return (k, sum);
