@@ -266,6 +266,38 @@ fn sums_of_blocks(rt: HostRuntime) {
     }
 }
 
+/// Blocks of one value, with small and large sums, that stop at the limit or before it.
+#[test]
+fn stops(rt: HostRuntime) {
+    let table: [(usize, u32, u32, u32, u64, u64); 5] = [
+        (8, 255, 5, 5, 56, 48),
+        (8, 255, 29, 7, 8, 72),
+        (64, 4294967295, 29, 29, 448, 1920),
+        (32, 0, 29, 0, 0, 64),
+        (16, 3, 0, 0, 48, 16),
+    ];
+    for (size, value, limit, k, sum, steps) in table {
+        let mut segment = Segment::new();
+        for _ in 0..size {
+            if segment.len() < 64 {
+                segment.push(value);
+            }
+        }
+        assert_eq!(rt; segment.len(), size);
+        if segment.len() == size
+            && (size == 8 || size == 16 || size == 32 || size == 64)
+            && limit <= 29
+        {
+            let mut meter = Meter::new();
+            let stop = segment
+                .block(0, size)
+                .first_stop(limit, size as u64, &mut meter);
+            assert_eq!(rt; stop, (k, sum), "at {size}, {limit}");
+            assert_eq!(rt; meter.steps(), steps);
+        }
+    }
+}
+
 #[test]
 fn pair_sums(rt: HostRuntime) {
     let table: [(u32, u128); 3] = [(4294967295, (1 << 67) - (1 << 35) + 4), (0, 4), (1, 20)];
