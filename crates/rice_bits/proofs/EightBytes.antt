@@ -5,9 +5,8 @@ use Rattle.std.proofs.lemmas.Nat.{pow_pos, shr_split, pow-add}
 use Rattle.std.proofs.lemmas.List.{take-append-drop, length-take-le}
 use Rattle.std.proofs.Math.Nat.{pow-suc}
 use Rattle.rice_bits.specs.Bits.{word, bits_of}
-use Rattle.rice_bits.proofs.Words.{length-word, word-nil, word-low, word-zero, word-cat, word-split}
+use Rattle.rice_bits.proofs.Words.{word-nil, word-low, word-zero, word-cat, word-split}
 use Rattle.rice_bits.proofs.Bytes.{bits_of-append, length-bits_of}
-use Rattle.rice_bits.proofs.OneWay.{bits_read}
 
 -- the lowest digits are those of the low part
 pub word-mod : (k b n : ℕ) → k ≤ b → word k (n % 2 ^ b) ≡ word k n
@@ -41,16 +40,6 @@ split-bytes q bytes = sym (bits_of-append (take q bytes) (drop q bytes)) ∙ ap 
 
 pub length-front : (q : ℕ) (bytes : List ℕ) → q ≤ length bytes → length (bits_of (take q bytes)) ≡ 8 * q
 length-front q bytes h = length-bits_of (take q bytes) ∙ ap (λ n. 8 * n) (length-take-le q bytes h)
-
--- the first q bytes spell the first 8 * q digits
-pub front-eight : (q v : ℕ) (bytes : List ℕ) → q ≤ 8 → to_be_bytes w64 v ≡ bytes → bits_of (take q bytes) ≡ word (8 * q) (v / 2 ^ (64 - 8 * q))
-front-eight q v bytes h e =
-    let eight : length bytes ≡ 8 = ap length (sym e) in
-    let size : 8 * q + (64 - 8 * q) ≡ 64 = omega arith in
-    let whole : bits_of bytes ≡ word (8 * q) (v / 2 ^ (64 - 8 * q)) ++ word (64 - 8 * q) (v % 2 ^ (64 - 8 * q)) =
-    ap bits_of (sym e) ∙ (bits_of-eight v ∙ (ap (λ w. word w v) (sym size) ∙ word-split (8 * q) (64 - 8 * q) v)) in
-    (bits_read (bits_of (take q bytes)) (word (8 * q) (v / 2 ^ (64 - 8 * q))) (bits_of (drop q bytes)) (word (64 - 8 * q) (v % 2 ^ (64 - 8 * q)))
-    (length-front q bytes (omega arith) ∙ sym (length-word (8 * q) (v / 2 ^ (64 - 8 * q)))) (split-bytes q bytes ∙ whole)).0
 
 -- digits that are moved to the front of 64, with zeros behind them
 pub top-word : (c j : ℕ) → c ≤ 64 → word 64 (j * 2 ^ (64 - c)) ≡ word c j ++ replicate (64 - c) false

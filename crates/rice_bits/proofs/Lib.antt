@@ -1,4 +1,5 @@
 pub mod Words
+pub mod Runs
 pub mod OneWay
 pub mod Bytes
 pub mod EightBytes

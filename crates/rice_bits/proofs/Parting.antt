@@ -1,21 +1,21 @@
 -- Pieces that are taken one after another from the front of a number's digits.
-use Rattle.std.proofs.Common.{◌≡◌, ℕ, suc, ◌+◌, ◌/◌, ◌%◌, ◌^◌, ◌<◌, ◌≤◌, Bool, false, List, [], ◌∷◌, ◌++◌, length, take, drop, set, refl, sym, ◌∙◌, ap, subst, arith, append_assoc, length-append, inl, inr, mod-eq_of_lt, ◌-◌, ◌*◌}
+use Rattle.std.proofs.Common.{◌≡◌, ℕ, suc, ◌+◌, ◌/◌, ◌%◌, ◌^◌, ◌<◌, ◌≤◌, Bool, false, List, [], ◌∷◌, ◌++◌, length, take, drop, set, refl, sym, ◌∙◌, ap, subst, arith, append_assoc, length-append, inl, inr, mod-eq_of_lt, ◌-◌, ◌*◌, take-take}
 use Rattle.std.specs.Prelude.{All, flat_map, ◌==◌, ◌&&◌}
 use Rattle.std.proofs.lemmas.Bool.Decides.{nat_tests}
 use Rattle.std.proofs.lemmas.List.{length-set, append-nil, take_more_set, drop-set-lt, drop-drop}
 use Rattle.std.proofs.lemmas.List.Elements.{All-push}
 use Rattle.std.proofs.lemmas.Grind.{flat_map-append}
-use Rattle.std.proofs.lemmas.Nat.{div-mul-add, leading_top, mod-mul-add, mod_below, pow-add, pow_pos, shl_below, shr_below, shr_split}
+use Rattle.std.proofs.lemmas.Nat.{div-mul-add, leading_top, mod-mul-add, mod_below, pow-add, pow_pos, shl_below, shr_split}
+use Rattle.std.proofs.Math.Seq.{take-append_seam}
 use Rattle.std.proofs.lemmas.Bool.{cases_lt}
 use Rattle.std.proofs.Math.Nat.{mul-le-mul_right, pow-le-pow_right}
 use lib.Count.{count_leading_zeros}
-use Rattle.rice_bits.proofs.WindowLemmas.{run-digits}
-use Rattle.std.proofs.Math.Seq.{take-append_seam}
+use Rattle.rice_bits.proofs.Runs.{run-digits}
 use Rattle.rice_bits.specs.Bits.{word, fundamental_sequence}
 use Rattle.rice_bits.specs.Window.{AreParted}
 use Rattle.rice_bits.specs.Reader.{is_blank}
-use Rattle.rice_bits.proofs.Words.{length-word, shift_fits, word-split}
-use Rattle.rice_bits.proofs.Blank.{blank-word, blank-append, blank-fs}
+use Rattle.rice_bits.proofs.Words.{length-word, shift_fits}
+use Rattle.rice_bits.proofs.Blank.{blank-append, blank-fs}
 
 pub parted-none : (piece : ℕ → List Bool) (P : ℕ → Type 0) (digits count : ℕ) (xs : List ℕ) → digits < 2 ^ count → AreParted piece P digits count xs xs digits count 0
 parted-none piece P digits count xs h = record {
@@ -48,19 +48,14 @@ pub parted-left : (piece : ℕ → List Bool) (P : ℕ → Type 0) (digits count
 parted-left piece P digits count old new d c taken p =
     omega (arith, ap length p.bits, length-append (flat_map piece (take taken new)) (word c d), length-word count digits, length-word c d)
 
--- the digits that were taken are zeros where the number's front is 0
-pub parted-blank : (piece : ℕ → List Bool) (P : ℕ → Type 0) (digits count : ℕ) (old new : List ℕ) (d c taken : ℕ)
-    → digits < 2 ^ count → AreParted piece P digits count old new d c taken → is_blank (flat_map piece (take taken new)) ≡ (digits / 2 ^ c == 0)
-parted-blank piece P digits count old new d c taken h p =
+-- the pieces are the first bits of those that the digits are
+pub parted-pieces : (piece : ℕ → List Bool) (P : ℕ → Type 0) (digits count : ℕ) (old new : List ℕ) (d c taken : ℕ) (bits : List Bool)
+    → AreParted piece P digits count old new d c taken → word count digits ≡ take count bits → flat_map piece (take taken new) ≡ take (count - c) bits
+parted-pieces piece P digits count old new d c taken bits p e =
     let pieces = flat_map piece (take taken new) in
-    let len : c + length pieces ≡ count = parted-left piece P digits count old new d c taken p in
-    let n : length pieces + c ≡ count = omega (arith, len) in
-    let split : word count digits ≡ word (length pieces) (digits / 2 ^ c) ++ word c (digits % 2 ^ c) = ap (λ w. word w digits) (sym n) ∙ word-split (length pieces) c digits in
-    let front : take (length pieces) (word count digits) ≡ pieces = ap (take (length pieces)) p.bits ∙ take-append_seam pieces (word c d) in
-    let same : take (length pieces) (word count digits) ≡ word (length pieces) (digits / 2 ^ c) =
-    ap (take (length pieces)) split ∙ (ap (λ k. take k (word (length pieces) (digits / 2 ^ c) ++ word c (digits % 2 ^ c))) (sym (length-word (length pieces) (digits / 2 ^ c)))
-    ∙ take-append_seam (word (length pieces) (digits / 2 ^ c)) (word c (digits % 2 ^ c))) in
-    ap is_blank (sym front ∙ same) ∙ blank-word (length pieces) (digits / 2 ^ c) (shr_below digits (length pieces) c (subst (λ k. digits < 2 ^ k) (sym n) h))
+    let len : count - c ≡ length pieces = omega (arith, parted-left piece P digits count old new d c taken p) in
+    sym (take-append_seam pieces (word c d)) ∙ (ap (λ k. take k (pieces ++ word c d)) (sym len)
+    ∙ (ap (take (count - c)) (sym p.bits ∙ e) ∙ take-take (count - c) count bits (omega arith)))
 
 -- fundamental sequences have a 1, where there are any
 pub sequences-blank : (ms : List ℕ) → is_blank (flat_map fundamental_sequence ms) ≡ (length ms == 0)

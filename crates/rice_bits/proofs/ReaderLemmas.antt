@@ -1,33 +1,15 @@
 -- What a reader of bits takes, and where it stops.
-use Rattle.std.proofs.Common.{◌≡◌, ℕ, ◌+◌, ◌%◌, ◌^◌, ◌<◌, ◌≤◌, Bool, true, false, List, [], ◌∷◌, ◌++◌, length, replicate, refl, sym, ◌∙◌, ap, subst, arith, rules, append_assoc, length-append, Option, Some, None}
+use Rattle.std.proofs.Common.{◌≡◌, ℕ, ◌+◌, ◌<◌, ◌≤◌, Bool, true, false, List, [], ◌∷◌, ◌++◌, length, replicate, refl, sym, ◌∙◌, ap, subst, arith, append_assoc, length-append, Option, Some, None}
 use Rattle.std.specs.Prelude.{◌&&◌, IsSome}
 use Rattle.std.proofs.lemmas.List.{replicate-append-replicate}
 use Rattle.rice_bits.specs.Bits.{bits_of, fundamental_sequence}
 use Rattle.rice_bits.specs.declared.fault.BitFault.{BitFault}
-use Rattle.rice_bits.specs.Window.{IsWindow, window_bits}
-use Rattle.rice_bits.specs.Reader.{Draws, Takes, Stops, Refuses, Reader, IsReader, is_blank}
-use Rattle.rice_bits.specs.declared.window.Window.{Window}
+use Rattle.rice_bits.specs.Reader.{Draws, Takes, Stops, Refuses, Reader, is_blank}
 use Rattle.rice_bits.proofs.Blank.{and-true, blank_joined, one_behind_zeros}
 use Rattle.rice_bits.proofs.Drawing.{draws-append, draws-same, draws-take}
-use Rattle.rice_bits.proofs.WindowLemmas.{length-window}
 
-pub not_stopped : (o : Option BitFault) (xs ys : List Bool) → o ≡ None → IsSome o → xs ≡ ys
-not_stopped o xs ys e s = absurd (search (rules, e, s))
-
--- a reader that took some of the bits that wait goes on
-pub reader_on : (failed failed' : ℕ) (mid new : Window) (taken n : ℕ) (xs : List Bool) (refusal : Option BitFault)
-    → refusal ≡ None → failed' ≡ failed → failed + 1 < 2 ^ 64 → IsWindow new → taken + length (window_bits mid) ≤ 2 ^ 52
-    → window_bits mid ≡ xs ++ window_bits new → length xs ≡ n → (taken + mid.count) % 8 ≡ 0 → new.count + n ≡ mid.count
-    → IsReader failed' new (taken + n) refusal
-reader_on failed failed' mid new taken n xs refusal none same going window limit bits count aligned left =
-    let e : taken + n + new.count ≡ taken + mid.count = omega arith in
-    record {
-      window = window;
-      limit = omega (arith, ap length bits ∙ length-append xs (window_bits new));
-      aligned = ap (λ k. k % 8) e ∙ aligned;
-      going = λ _. omega arith;
-      stopped = λ s. not_stopped refusal (window_bits new) [] none s;
-    }
+pub with-taken : {I : Type 0} (r : Reader I) (n : ℕ) → r.taken ≡ n → r ≡ record r { taken = n }
+with-taken r n e = ap (λ k. record r { taken = k }) e
 
 pub takes_some : {I : Type 0} (left : I → Option (List ℕ)) (failed : I → ℕ) (old new : Reader I) (mid xs : List Bool)
     → Draws (left old.intake) (left new.intake) old.waiting mid [] → mid ≡ xs ++ new.waiting → new.taken ≡ old.taken + length xs
@@ -86,7 +68,7 @@ pub one_waits : {I : Type 0} (left : I → Option (List ℕ)) (failed : I → �
     → Takes left failed old new (replicate n false) → is_blank old.waiting ≡ false → 0 < length new.waiting
 one_waits left failed old new n taken some = one_behind_zeros old.waiting (bits_of taken.draws.given) new.waiting n some taken.draws.split
 
--- a reader with a digit has refused nothing
-pub not_refused : (refusal : Option BitFault) (w : Window) → IsWindow w → 0 < w.count → (IsSome refusal → window_bits w ≡ []) → refusal ≡ None
-not_refused None w h some stopped = refl
-not_refused (Some f) w h some stopped = absurd (omega (arith, ap length (stopped refl), length-window w h, some))
+-- a reader with a bit has refused nothing
+pub not_refused : (refusal : Option BitFault) (bits : List Bool) → 0 < length bits → (IsSome refusal → bits ≡ []) → refusal ≡ None
+not_refused None bits some stopped = refl
+not_refused (Some f) bits some stopped = absurd (omega (arith, ap length (stopped refl), some))

@@ -1,5 +1,5 @@
 -- What a contract sees of a reader of bits.
-use Rattle.std.specs.Prelude.{◌≡◌, ℕ, ◌+◌, ◌%◌, ◌^◌, ◌<◌, ◌≤◌, Bool, not, ◌&&◌, List, [], ◌∷◌, ◌++◌, length, Option, Some, None, IsSome}
+use Rattle.std.specs.Prelude.{◌≡◌, ℕ, ◌+◌, ◌^◌, ◌<◌, Bool, not, ◌&&◌, List, [], ◌∷◌, ◌++◌, length, Option, Some, None, IsSome}
 use Rattle.std.specs.List.{list_all}
 use Rattle.std.specs.Io.KnownBytes.{Consumes, IsAtEnd}
 use Rattle.rice_bits.specs.Bits.{bits_of}
@@ -58,9 +58,7 @@ pub record Stops {I : Type 0} (left : I → Option (List ℕ)) (failed : I → �
   pub refusal : new.refusal ≡ Some fault
 
 -- what is so of each reader's fields
-pub record IsReader (failed : ℕ) (bits : Window) (taken : ℕ) (refusal : Option BitFault) : Type 0 where
+pub record IsReader (failed : ℕ) (bits : Window) (refusal : Option BitFault) : Type 0 where
   pub window : IsWindow bits
-  pub limit : taken + length (window_bits bits) ≤ 2 ^ 52
-  pub aligned : (taken + bits.count) % 8 ≡ 0
   pub going : refusal ≡ None → failed + 1 < 2 ^ 64
   pub stopped : IsSome refusal → window_bits bits ≡ []

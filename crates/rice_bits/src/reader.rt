@@ -2,10 +2,10 @@
 ghost use Rattle.std.specs.Prelude.{◌≡◌, ℕ, ◌+◌, ◌-◌, ◌*◌, ◌%◌, ◌^◌, ◌<◌, ◌≤◌, Bool, true, false, List, [], ◌++◌, length, replicate, All, drop, flat_map, take, IfOk, IfErr, OnOk, IfSome, IfNone, IsSome, Option, None};
 ghost use Rattle.rice_bits.specs.Bits.{fundamental_sequence, bits_to_byte, word};
 ghost use Rattle.rice_bits.specs.Reader.{Draws, Refuses};
-ghost use Rattle.rice_bits.specs.Window.{IsWindow, window_bits};
+ghost use Rattle.rice_bits.specs.Window.{IsWindow, window_bits, window_taken};
 
 use crate::device::Intake;
-use crate::digits::{high_digits, join};
+use crate::digits::join;
 use crate::fault::BitFault;
 use crate::meter::Meter;
 use crate::window::{PIECE, Window};
@@ -24,44 +24,37 @@ const LIMIT: u64 = 1 << 49;
 pub struct BitReader<I: Intake> {
     intake: I,
     window: Window,
-    taken: u64,
-    blank: bool,
+    /// The digits of all numbers that were taken since the mark, one over the other: 0 where no 1 was taken.
+    ones: u64,
     refusal: Option<BitFault>,
 }
 
 impl<I: Intake> Model for BitReader<I> {
+    ghost use Rattle.std.specs.Prelude.{◌==◌};
     ghost use Rattle.rice_bits.specs.Reader.{Reader, IsReader};
-    ghost use Rattle.rice_bits.specs.Window.{window_bits};
+    ghost use Rattle.rice_bits.specs.Window.{window_bits, window_taken};
 
     ghost Value = { Reader I };
 
-    ghost view = { λ s. record { waiting = window_bits s.window; taken = s.taken; blank = s.blank; refusal = s.refusal; intake = s.intake } };
+    ghost view = { λ s. record { waiting = window_bits s.window; taken = window_taken s.window; blank = s.ones == 0; refusal = s.refusal; intake = s.intake } };
 
-    ghost invariant = { λ s. IsReader (I.failed s.intake) s.window s.taken s.refusal };
+    ghost invariant = { λ s. IsReader (I.failed s.intake) s.window s.refusal };
 }
 
 /// Asks the intake for bytes, where no bit waits.
-fn draw<I: Intake>(
-    intake: &mut I,
-    window: &mut Window,
-    taken: u64,
-    blank: bool,
-) -> Result<(), BitFault>
+fn draw<I: Intake>(intake: &mut I, window: &mut Window, blank: bool) -> Result<(), BitFault>
     requires window { IsWindow window.old }
-    requires empty { (window.old.count ≡ 0) × (window.old.at ≡ window.old.end) }
+    requires empty { window.old.at ≡ window.old.end }
     requires countable { I.failed intake.old + 1 < 2 ^ 64 }
-    requires aligned { taken % 8 ≡ 0 }
-    requires limit { taken ≤ 2 ^ 52 }
     ensures window { IsWindow window.new }
-    ensures count { window.new.count ≡ 0 }
-    ensures some { OnOk result (window.new.at < window.new.end) }
+    ensures some { OnOk result (0 < length (window_bits window.new)) }
     ensures ok { OnOk result (Draws (I.left intake.old) (I.left intake.new) (window_bits window.old) (window_bits window.new) []) }
-    ensures limit { OnOk result (taken + length (window_bits window.new) ≤ 2 ^ 52) }
+    ensures taken { window_taken window.new ≡ window_taken window.old }
     ensures failures { OnOk result (I.failed intake.new ≡ I.failed intake.old) }
-    ensures err { IfErr result (λ f. (window_bits window.new ≡ []) ×
-        Refuses f (I.left intake.old) (I.left intake.new) (I.failed intake.old) (I.failed intake.new) taken blank) }
+    ensures err { IfErr result (λ f. (window_bits window.old ≡ []) × (window_bits window.new ≡ []) ×
+        Refuses f (I.left intake.old) (I.left intake.new) (I.failed intake.old) (I.failed intake.new) (window_taken window.old) blank) }
 {
-    let given = taken / 8;
+    let given = window.given;
     let most = if given < LIMIT {
         (LIMIT - given).min(PIECE as u64) as usize
     } else {
@@ -78,41 +71,28 @@ fn draw<I: Intake>(
         return Err(BitFault::TooLong);
     }
     window.at = 0;
-    window.end = count;
+    window.end = 8 * count;
+    window.given = given + count as u64;
     Ok(())
 }
 
-/// Makes sure that a digit waits.
-fn supply<I: Intake>(
-    intake: &mut I,
-    window: &mut Window,
-    taken: u64,
-    blank: bool,
-) -> Result<(), BitFault>
+/// Makes sure that a bit waits.
+fn supply<I: Intake>(intake: &mut I, window: &mut Window, blank: bool) -> Result<(), BitFault>
     requires window { IsWindow window.old }
     requires countable { I.failed intake.old + 1 < 2 ^ 64 }
-    requires aligned { (taken + window.old.count) % 8 ≡ 0 }
-    requires limit { taken + length (window_bits window.old) ≤ 2 ^ 52 }
     ensures window { IsWindow window.new }
-    ensures some { OnOk result (0 < window.new.count) }
+    ensures some { OnOk result (0 < length (window_bits window.new)) }
     ensures ok { OnOk result (Draws (I.left intake.old) (I.left intake.new) (window_bits window.old) (window_bits window.new) []) }
-    ensures aligned { OnOk result ((taken + window.new.count) % 8 ≡ 0) }
-    ensures limit { OnOk result (taken + length (window_bits window.new) ≤ 2 ^ 52) }
+    ensures taken { window_taken window.new ≡ window_taken window.old }
     ensures failures { OnOk result (I.failed intake.new ≡ I.failed intake.old) }
     ensures idle { 0 < length (window_bits window.old) → intake.new ≡ intake.old }
-    ensures err { IfErr result (λ f. (window_bits window.old ≡ []) × (window_bits window.new ≡ []) × (window.new.count ≡ 0) × (taken % 8 ≡ 0) ×
-        Refuses f (I.left intake.old) (I.left intake.new) (I.failed intake.old) (I.failed intake.new) taken blank) }
+    ensures err { IfErr result (λ f. (window_bits window.old ≡ []) × (window_bits window.new ≡ []) ×
+        Refuses f (I.left intake.old) (I.left intake.new) (I.failed intake.old) (I.failed intake.new) (window_taken window.old) blank) }
 {
-    if window.count > 0 {
+    if window.len() > 0 {
         return Ok(());
     }
-    if window.at == window.end {
-        if let Err(fault) = draw(intake, window, taken, blank) {
-            return Err(fault);
-        }
-    }
-    window.load();
-    Ok(())
+    draw(intake, window, blank)
 }
 
 impl<I: Intake> BitReader<I> {
@@ -126,8 +106,7 @@ impl<I: Intake> BitReader<I> {
         BitReader {
             intake,
             window: Window::new(),
-            taken: 0,
-            blank: true,
+            ones: 0,
             refusal: None,
         }
     }
@@ -139,8 +118,7 @@ impl<I: Intake> BitReader<I> {
         let BitReader {
             intake,
             window: _,
-            taken: _,
-            blank: _,
+            ones: _,
             refusal: _,
         } = self;
         intake
@@ -155,7 +133,7 @@ impl<I: Intake> BitReader<I> {
         ensures waiting { length self.now.waiting ≤ 32768 }
         ensures aligned { (result + length self.now.waiting) % 8 ≡ 0 }
     {
-        self.taken
+        self.window.taken()
     }
 
     /// From here on no 1 has been taken. After a refusal it changes nothing.
@@ -165,7 +143,7 @@ impl<I: Intake> BitReader<I> {
         ensures stopped { IsSome self.old.refusal → self.new ≡ self.old }
     {
         if self.refusal.is_none() {
-            self.blank = true;
+            self.ones = 0;
         }
     }
 
@@ -192,14 +170,10 @@ impl<I: Intake> BitReader<I> {
         if let Some(value) = self.take_ready(width, meter) {
             return Ok(value);
         }
-        self.refill(width);
-        if let Some(value) = self.take_ready(width, meter) {
-            return Ok(value);
-        }
         self.take_across(width, meter)
     }
 
-    /// Takes the next `width` digits, where the word has more.
+    /// Takes the next `width` bits, where more wait.
     #[inline]
     fn take_ready(&mut self, width: u32, meter: &mut Meter) -> Option<u32>
         requires width { width ≤ 32 }
@@ -211,23 +185,14 @@ impl<I: Intake> BitReader<I> {
         ensures steps { meter.new + self.old.taken ≡ meter.old + self.new.taken }
         ensures limit { self.new.taken ≤ 2 ^ 52 }
     {
-        if self.window.count <= width {
-            return None;
+        match self.window.take_of_more(width) {
+            Some(number) => {
+                meter.tick(width as u64);
+                self.ones |= number;
+                Some(number as u32)
+            }
+            None => None,
         }
-        let digits = self.window.take_digits(width);
-        meter.tick(width as u64);
-        self.taken += width as u64;
-        self.blank = self.blank & (digits == 0);
-        Some(digits as u32)
-    }
-
-    /// Moves bytes into the word, where it has at most `few` digits.
-    #[inline]
-    fn refill(&mut self, few: u32)
-        requires { few ≤ 32 }
-        ensures { self.new ≡ self.old }
-    {
-        self.window.refill(few);
     }
 
     /// Takes the next `width` bits, and calls the intake where too few wait.
@@ -287,14 +252,10 @@ impl<I: Intake> BitReader<I> {
         if let Some(zeros) = self.take_fs_ready(meter) {
             return Ok(zeros);
         }
-        self.refill(32);
-        if let Some(zeros) = self.take_fs_ready(meter) {
-            return Ok(zeros);
-        }
         self.take_fs_across(meter)
     }
 
-    /// Takes a fundamental sequence, where the word has its 1.
+    /// Takes a fundamental sequence, where its 1 comes soon.
     #[inline]
     fn take_fs_ready(&mut self, meter: &mut Meter) -> Option<u64>
         requires meter { meter.old + (2 ^ 52 - self.old.taken) < 2 ^ 62 }
@@ -305,14 +266,14 @@ impl<I: Intake> BitReader<I> {
         ensures steps { meter.new + self.old.taken ≡ meter.old + self.new.taken }
         ensures limit { self.new.taken ≤ 2 ^ 52 }
     {
-        if self.window.digits == 0 {
-            return None;
+        match self.window.take_sequence() {
+            Some(zeros) => {
+                meter.tick(zeros as u64 + 1);
+                self.ones = 1;
+                Some(zeros as u64)
+            }
+            None => None,
         }
-        let zeros = self.window.take_run() as u64;
-        meter.tick(zeros + 1);
-        self.taken += zeros + 1;
-        self.blank = false;
-        Some(zeros)
     }
 
     /// Takes a fundamental sequence, and calls the intake where no 1 waits.
@@ -355,19 +316,16 @@ impl<I: Intake> BitReader<I> {
         ensures steps { meter.new + self.old.taken ≡ meter.old + self.new.taken }
         ensures limit { self.new.taken ≤ 2 ^ 52 }
     {
-        if let Err(refusal) = supply(&mut self.intake, &mut self.window, self.taken, self.blank) {
+        if let Err(refusal) = supply(&mut self.intake, &mut self.window, self.ones == 0) {
             self.refusal = Some(refusal);
             return Err(refusal);
         }
-        if self.window.digits > 0 {
-            let zeros = self.window.take_run() as u64;
-            self.taken += zeros + 1;
-            self.blank = false;
-            meter.tick(zeros + 1);
-            return Ok((zeros, true));
+        if let Some(zeros) = self.window.take_sequence() {
+            self.ones = 1;
+            meter.tick(zeros as u64 + 1);
+            return Ok((zeros as u64, true));
         }
         let zeros = self.window.take_zeros() as u64;
-        self.taken += zeros;
         meter.tick(zeros);
         Ok((zeros, false))
     }
@@ -389,32 +347,11 @@ impl<I: Intake> BitReader<I> {
         ensures steps { meter.new + self.old.taken ≡ meter.old + self.new.taken }
         ensures limit { self.new.taken ≤ 2 ^ 52 }
     {
-        self.refill(32);
-        self.take_words_ready(width, words, meter)
-    }
-
-    /// Takes the words that the word has.
-    #[inline]
-    fn take_words_ready(&mut self, width: u32, words: &mut [u32], meter: &mut Meter) -> usize
-        requires going { self.old.refusal ≡ None }
-        requires width { width ≤ 32 }
-        requires meter { meter.old + (2 ^ 52 - self.old.taken) < 2 ^ 62 }
-        ensures within { result ≤ length words.new }
-        ensures fit { All (λ v. v < 2 ^ width) (take result words.new) }
-        ensures rest { drop result words.new ≡ drop result words.old }
-        ensures takes { Takes I.left I.failed self.old self.new (flat_map (word width) (take result words.new)) }
-        ensures idle { self.new.intake ≡ self.old.intake }
-        ensures steps { meter.new + self.old.taken ≡ meter.old + self.new.taken }
-        ensures limit { self.new.taken ≤ 2 ^ 52 }
-    {
-        let digits = self.window.digits;
-        let count = self.window.count;
-        let taken = self.window.take_words(width, words);
-        let left = self.window.count;
-        let bits = (count - left) as u64;
-        meter.tick(bits);
-        self.taken += bits;
-        self.blank = self.blank & (high_digits(digits, left) == 0);
+        let before = self.window.len();
+        let (taken, ones) = self.window.take_words(width, words);
+        let left = self.window.len();
+        meter.tick((before - left) as u64);
+        self.ones |= ones;
         taken
     }
 
@@ -434,29 +371,10 @@ impl<I: Intake> BitReader<I> {
         ensures steps { meter.new + self.old.taken ≡ meter.old + self.new.taken }
         ensures limit { self.new.taken ≤ 2 ^ 52 }
     {
-        self.refill(32);
-        self.take_sequences_ready(zeros, meter)
-    }
-
-    /// Takes the fundamental sequences that the word has.
-    #[inline]
-    fn take_sequences_ready(&mut self, zeros: &mut [u32], meter: &mut Meter) -> usize
-        requires going { self.old.refusal ≡ None }
-        requires meter { meter.old + (2 ^ 52 - self.old.taken) < 2 ^ 62 }
-        ensures within { result ≤ length zeros.new }
-        ensures fit { All (λ m. m < 64) (take result zeros.new) }
-        ensures rest { drop result zeros.new ≡ drop result zeros.old }
-        ensures takes { Takes I.left I.failed self.old self.new (flat_map fundamental_sequence (take result zeros.new)) }
-        ensures idle { self.new.intake ≡ self.old.intake }
-        ensures steps { meter.new + self.old.taken ≡ meter.old + self.new.taken }
-        ensures limit { self.new.taken ≤ 2 ^ 52 }
-    {
-        let count = self.window.count;
+        let before = self.window.len();
         let taken = self.window.take_sequences(zeros);
-        let bits = (count - self.window.count) as u64;
-        meter.tick(bits);
-        self.taken += bits;
-        self.blank = self.blank & (taken == 0);
+        meter.tick((before - self.window.len()) as u64);
+        self.ones |= taken as u64;
         taken
     }
 
@@ -468,12 +386,9 @@ impl<I: Intake> BitReader<I> {
         ensures rest { self.new ≡ record self.old { waiting = self.new.waiting; taken = self.old.taken + bits_to_byte self.old.taken } }
         ensures steps { meter.new ≡ meter.old + bits_to_byte self.old.taken }
     {
-        let gap = ((8 - self.taken % 8) % 8) as u32;
-        if gap > 0 {
-            let _digits = self.window.take_digits(gap);
-            self.taken += gap as u64;
-            meter.tick(gap as u64);
-        }
+        let gap = (self.window.len() % 8) as u32;
+        let _number = self.window.take_first(gap);
+        meter.tick(gap as u64);
     }
 
     /// Takes up to `most` digits, at least one, and answers them with their count.
@@ -489,17 +404,14 @@ impl<I: Intake> BitReader<I> {
         ensures steps { meter.new + self.old.taken ≡ meter.old + self.new.taken }
         ensures limit { self.new.taken ≤ 2 ^ 52 }
     {
-        if let Err(fault) = supply(&mut self.intake, &mut self.window, self.taken, self.blank) {
+        if let Err(fault) = supply(&mut self.intake, &mut self.window, self.ones == 0) {
             self.refusal = Some(fault);
             return Err(fault);
         }
-        let count = most.min(self.window.count);
-        let digits = self.window.take_digits(count);
+        let count = most.min(self.window.len() as u32);
+        let digits = self.window.take_first(count);
         meter.tick(count as u64);
-        self.taken += count as u64;
-        if digits > 0 {
-            self.blank = false;
-        }
+        self.ones |= digits;
         Ok((digits, count))
     }
 }

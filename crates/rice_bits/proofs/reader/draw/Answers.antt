@@ -1,18 +1,19 @@
-use Rattle.std.proofs.Common.{arith, ◌≡◌, ◌+◌, ◌/◌, ◌^◌, ◌≤◌, ◌++◌, take, ap, sym, ◌∙◌, subst, get_or, refl}
+use Rattle.std.proofs.Common.{arith, ◌≡◌, ◌++◌, take, ap, sym, ◌∙◌, subst, get_or, refl}
 use Rattle.std.specs.Io.KnownBytes.{Consumes}
 use Rattle.rice_bits.specs.Bits.{bits_of}
-use Rattle.rice_bits.proofs.WindowLemmas.{window_empty, window_filled, filled_limit}
+use Rattle.rice_bits.proofs.WindowLemmas.{some-bytes, window_empty, window_filled}
 use Rattle.rice_bits.proofs.Drawing.{consumes-none, take-one}
 use Rattle.rice_bits.proofs.reader.draw.Goals as goal
 use Rattle.rice_bits.proofs.reader.draw.Goals.{then-given-lt-LIMIT, else-given-lt-LIMIT}
 
 pub returns-in-Err-clause-err : goal.returns-in-Err-clause-err
 returns-in-Err-clause-err g c =
-    (window_empty _ c.requires.empty.0 c.requires.empty.1, (consumes-none _ _ c.in-Err.ensures.err, c.in-Err.ensures.failures))
+    (window_empty _ c.requires.empty, window_empty _ c.requires.empty, (consumes-none _ _ c.in-Err.ensures.err, c.in-Err.ensures.failures))
 
 pub returns-then-count-eq0-clause-err : goal.returns-then-count-eq0-clause-err
 returns-then-count-eq0-clause-err g c = (
-  window_empty _ c.requires.empty.0 c.requires.empty.1,
+  window_empty _ c.requires.empty,
+  window_empty _ c.requires.empty,
   (
     subst (λ n. Consumes (g.I.Intake.left c.args.intake.now) (g.I.Intake.left c.fill.new.self) (take n c.fill.new.buf)) c.if-count-eq0.true c.in-Ok.ensures.bytes,
     c.in-Ok.ensures.end c.if-count-eq0.true,
@@ -28,7 +29,8 @@ returns-then-given-ge-LIMIT-clause-err g c =
       | then-given-lt-LIMIT w ↦ absurd (omega arith)
       | else-given-lt-LIMIT w ↦ omega (arith, c.in-Ok.ensures.count)
     ] in (
-      window_empty _ c.requires.empty.0 c.requires.empty.1,
+      window_empty _ c.requires.empty,
+      window_empty _ c.requires.empty,
       (
         (
           get_or c.fill.new.buf 0 0,
@@ -36,7 +38,7 @@ returns-then-given-ge-LIMIT-clause-err g c =
               (take-one c.fill.new.buf c.in-Ok.count one c.in-Ok.ensures.count) c.in-Ok.ensures.bytes,
         ),
         c.in-Ok.ensures.failures,
-        omega arith,
+        omega (arith, c.requires.window.limit, c.requires.empty),
       ),
     )
 
@@ -44,15 +46,10 @@ pub returns-clause-ok : goal.returns-clause-ok
 returns-clause-ok g c = record {
   given = take c.in-Ok.count c.fill.new.buf;
   consumed = c.in-Ok.ensures.bytes;
-  split = ap (λ z. z ++ bits_of (take c.in-Ok.count c.fill.new.buf)) (window_empty _ c.requires.empty.0 c.requires.empty.1)
-      ∙ sym (window_filled _ c.fill.new.buf _ c.in-Ok.count c.requires.empty.0 refl refl refl c.in-Ok.ensures.count);
+  split = ap (λ z. z ++ bits_of (take c.in-Ok.count c.fill.new.buf)) (window_empty _ c.requires.empty)
+      ∙ sym (window_filled _ c.fill.new.buf _ c.in-Ok.count refl refl refl c.in-Ok.ensures.count);
 }
 
-pub returns-clause-limit : goal.returns-clause-limit
-returns-clause-limit g c =
-    let room : c.args.taken / 8 + c.in-Ok.count ≤ 2 ^ 49 =
-    elim c.if-given-lt-LIMIT.branch [
-      | then-given-lt-LIMIT w ↦ omega (arith, c.in-Ok.ensures.count)
-      | else-given-lt-LIMIT w ↦ absurd (omega arith)
-    ] in
-    filled_limit _ c.fill.new.buf _ c.in-Ok.count c.args.taken c.requires.empty.0 refl refl refl c.in-Ok.ensures.count c.requires.aligned room
+pub returns-clause-some : goal.returns-clause-some
+returns-clause-some g c =
+    some-bytes _ c.fill.new.buf _ c.in-Ok.count refl refl refl c.in-Ok.ensures.count (omega arith)

@@ -1,22 +1,32 @@
-use Rattle.std.proofs.Common.{arith, length, ap, ◌-◌, ◌∙◌, ◌%◌, length-append}
-use Rattle.std.proofs.lemmas.List.{nil_from_length}
-use Rattle.rice_bits.specs.Bits.{word}
-use Rattle.rice_bits.specs.Window.{window_bits}
+use Rattle.std.proofs.Common.{arith, ◌≡◌, ◌+◌, ◌%◌, ap, ◌∙◌}
+use Rattle.rice_bits.specs.Bits.{word, bits_to_byte}
+use Rattle.rice_bits.specs.Window.{window_taken}
 use Rattle.rice_bits.proofs.Words.{length-word}
+use Rattle.rice_bits.proofs.ReaderLemmas.{with-taken}
+use Rattle.rice_bits.proofs.WindowLemmas.{length-window}
 use Rattle.rice_bits.proofs.reader.BitReader.align.Goals as goal
 
-pub invariant_of-self : goal.invariant_of-self
-invariant_of-self g c =
-    let n = ap length c.take_digits-digits.ensures.bits ∙ length-append (word ((8 - c.self.inside.taken % 8) % 8) c.take_digits-digits.result) (window_bits c.take_digits-digits.new.self) in
-    let m = length-word ((8 - c.self.inside.taken % 8) % 8) c.take_digits-digits.result in
-    record {
-      window = c.take_digits-digits.ensures.window;
-      limit = omega (arith, n, m, c.self.invariant.limit);
-      aligned = omega (arith, c.self.invariant.aligned, c.take_digits-digits.ensures.left);
-      going = c.self.invariant.going;
-      stopped = λ s. nil_from_length _ (omega (arith, n, m, ap length (c.self.invariant.stopped s)));
-    }
+pub tick-requires : goal.tick-requires
+tick-requires g c =
+    let window = c.self.invariant.window in
+    omega (arith, c.requires, ap (λ r. r.taken) c.self.view_is, length-window c.self.inside.window window, window.held)
 
-pub returns-then-gap-gt0-clause-bits : goal.returns-then-gap-gt0-clause-bits
-returns-then-gap-gt0-clause-bits g c = rw (← c.self.view_is)
-    (word ((8 - c.self.inside.taken % 8) % 8) c.take_digits-digits.result, length-word _ _, c.take_digits-digits.ensures.bits)
+pub returns-clause-bits : goal.returns-clause-bits
+returns-clause-bits g c =
+    let window = c.self.invariant.window in
+    rw (← c.self.view_is) (
+      word (c.len.result % 8) c.take_first-number.result,
+      length-word _ _ ∙ omega (arith, length-window c.self.inside.window window, window.held, c.len.ensures.value),
+      c.take_first-number.ensures.bits,
+    )
+
+pub returns-clause-rest : goal.returns-clause-rest
+returns-clause-rest g c =
+    let window = c.self.invariant.window in
+    let gap : c.len.result % 8 ≡ bits_to_byte (window_taken c.self.inside.window) = omega (arith, length-window c.self.inside.window window, window.held, c.len.ensures.value) in
+    rw (← c.self.view_is) (with-taken _ _ (c.take_first-number.ensures.taken ∙ ap (λ n. window_taken c.self.inside.window + n) gap))
+
+pub returns-clause-steps : goal.returns-clause-steps
+returns-clause-steps g c =
+    let window = c.self.invariant.window in
+    omega (arith, ap (λ r. r.taken) c.self.view_is, length-window c.self.inside.window window, window.held, c.len.ensures.value)

@@ -8,23 +8,3 @@ returns-in-Some-clause-taken g c =
 
 pub returns-in-Some-clause-most : goal.returns-in-Some-clause-most
 returns-in-Some-clause-most g c = omega (arith, c.in-Some.ensures.some.1.taken, length-word c.args.width c.in-Some.value)
-
-pub returns-in-Some-take_ready-clause-taken : goal.returns-in-Some-take_ready-clause-taken
-returns-in-Some-take_ready-clause-taken g c =
-    omega (
-      arith,
-      c.in-Some-take_ready.ensures.some.1.taken,
-      length-word c.args.width c.in-Some-take_ready.value,
-      ap (λ r. r.taken) c.refill.ensures,
-      ap (λ r. r.taken) c.in_default.ensures.none.0,
-    )
-
-pub returns-in-Some-take_ready-clause-most : goal.returns-in-Some-take_ready-clause-most
-returns-in-Some-take_ready-clause-most g c =
-    omega (
-      arith,
-      c.in-Some-take_ready.ensures.some.1.taken,
-      length-word c.args.width c.in-Some-take_ready.value,
-      ap (λ r. r.taken) c.refill.ensures,
-      ap (λ r. r.taken) c.in_default.ensures.none.0,
-    )

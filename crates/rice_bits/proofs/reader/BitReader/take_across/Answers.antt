@@ -14,7 +14,7 @@ loop-left-init g c =
       below = pow_pos _;
       takes = rw (e, word-nil 0) (takes-none _ _ _ none);
       idle = λ _. refl;
-      limit = (let taken : c.self.inside.taken ≡ c.args.self.now.taken = ap (λ r. r.taken) c.self.view_is in omega (arith, taken, c.self.invariant.limit));
+      limit = (let window = c.self.invariant.window in let taken = ap (λ r. r.taken) c.self.view_is in omega (arith, taken, window.limit));
       steps = refl;
     }
 

@@ -1,28 +1,28 @@
-use Rattle.std.proofs.Common.{◌≡◌, ◌+◌, ◌%◌, ◌^◌, ◌++◌, ◌≤◌, arith, ap, sym, ◌∙◌, refl, None, length}
-use Rattle.std.specs.Prelude.{◌&&◌}
+use Rattle.std.proofs.Common.{◌≡◌, ◌<◌, ap, sym, ◌∙◌, refl, None, length, length-append, arith}
+use Rattle.std.specs.Prelude.{◌&&◌, ◌==◌}
 use Rattle.rice_bits.specs.Bits.{fundamental_sequence}
 use Rattle.rice_bits.specs.Window.{window_bits}
 use Rattle.rice_bits.proofs.Words.{length-fundamental_sequence}
 use Rattle.rice_bits.proofs.Drawing.{draws-same}
 use Rattle.rice_bits.proofs.Blank.{blank-fs, and-false}
-use Rattle.rice_bits.proofs.ReaderLemmas.{not_refused, reader_on, takes_some}
+use Rattle.rice_bits.proofs.ReaderLemmas.{not_refused, takes_some}
 use Rattle.rice_bits.proofs.reader.BitReader.take_fs_ready.Goals as goal
 
-pub invariant_of-self : goal.invariant_of-self
-invariant_of-self g c =
-    let none : c.self.inside.refusal ≡ None =
-    not_refused _ _ c.self.invariant.window (omega (arith, c.take_run-zeros.ensures.left)) c.self.invariant.stopped in
-    let limit : c.self.inside.taken + length (window_bits c.self.inside.window) ≤ 2 ^ 52 = omega (arith, c.self.invariant.limit) in
-    let aligned : (c.self.inside.taken + c.self.inside.window.count) % 8 ≡ 0 = omega (arith, c.self.invariant.aligned) in
-    reader_on _ _ c.self.inside.window c.take_run-zeros.new.self c.self.inside.taken (c.take_run-zeros.result + 1) _ c.self.inside.refusal none
-    refl (c.self.invariant.going none) c.take_run-zeros.ensures.window limit
-    c.take_run-zeros.ensures.bits (length-fundamental_sequence _) aligned c.take_run-zeros.ensures.left
+pub returns-in-Some-clause-some : goal.returns-in-Some-clause-some
+returns-in-Some-clause-some g c =
+    let m = c.in-Some.zeros in
+    let split = c.in-Some.ensures.some.1 in
+    let some : 0 < length (window_bits c.self.inside.window) = omega (arith, ap length split ∙ length-append (fundamental_sequence m) _, length-fundamental_sequence m) in
+    let none : c.self.inside.refusal ≡ None = not_refused _ _ some c.self.invariant.stopped in
+    rw (← c.self.view_is) (takes_some _ _ _ _ (window_bits c.self.inside.window) _ (draws-same _ _) split
+    (omega (arith, c.in-Some.ensures.some.2, length-fundamental_sequence m))
+    (sym (ap (λ b. (c.self.inside.ones == 0) && b) (blank-fs m) ∙ and-false _)) none refl)
 
-pub returns-clause-some : goal.returns-clause-some
-returns-clause-some g c =
-    let none : c.self.inside.refusal ≡ None =
-    not_refused _ _ c.self.invariant.window (omega (arith, c.take_run-zeros.ensures.left)) c.self.invariant.stopped in
-    let bits : window_bits c.self.inside.window ≡ fundamental_sequence c.take_run-zeros.result ++ window_bits c.take_run-zeros.new.self =
-    c.take_run-zeros.ensures.bits in
-    rw (← c.self.view_is) (takes_some _ _ _ _ (window_bits c.self.inside.window) _ (draws-same _ _) bits (omega (arith, length-fundamental_sequence c.take_run-zeros.result))
-    (sym (ap (λ b. c.self.inside.blank && b) (blank-fs c.take_run-zeros.result) ∙ and-false _)) none refl)
+pub returns-in-Some-clause-going : goal.returns-in-Some-clause-going
+returns-in-Some-clause-going g c _ =
+    let split = c.in-Some.ensures.some.1 in
+    let some : 0 < length (window_bits c.self.inside.window) = omega (arith, ap length split ∙ length-append (fundamental_sequence c.in-Some.zeros) _, length-fundamental_sequence c.in-Some.zeros) in
+    ap (λ r. r.refusal) (sym c.self.view_is) ∙ not_refused _ _ some c.self.invariant.stopped
+
+pub returns-in-Some-clause-steps : goal.returns-in-Some-clause-steps
+returns-in-Some-clause-steps g c = omega (arith, c.in-Some.ensures.some.2, ap (λ r. r.taken) c.self.view_is)

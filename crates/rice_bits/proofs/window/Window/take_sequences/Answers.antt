@@ -1,18 +1,22 @@
-use Rattle.std.proofs.Common.{◌<◌, ◌++◌, take, ap, append_assoc, ◌∙◌}
-use Rattle.std.specs.Prelude.{flat_map, slice_range}
-use Rattle.rice_bits.specs.Bits.{word, fundamental_sequence, bits_of}
-use Rattle.rice_bits.specs.Window.{window_bits}
-use Rattle.rice_bits.proofs.Parting.{parted-left}
+use Rattle.std.proofs.Common.{◌-◌, arith, refl, ap, ◌∙◌}
+use Rattle.rice_bits.specs.Bits.{fundamental_sequence, word}
+use Rattle.rice_bits.proofs.Parting.{parted-left, parted-pieces}
+use Rattle.rice_bits.proofs.Runs.{front_below}
+use Rattle.rice_bits.proofs.WindowLemmas.{first-ahead, window_split}
 use Rattle.rice_bits.proofs.window.Window.take_sequences.Goals as goal
 
-pub returns-clause-bits : goal.returns-clause-bits
-unfolding window_bits
-returns-clause-bits c =
-    let rest = bits_of (slice_range c.args.self.now.buffer c.args.self.now.at c.args.self.now.end) in
-    let parted = c.part_sequences-parted in
-    ap (λ z. z ++ rest) parted.ensures.bits ∙ append_assoc (flat_map fundamental_sequence (take parted.result.taken parted.new.zeros)) (word parted.result.count parted.result.digits) rest
+pub part_sequences-parted-requires-clause-digits : goal.part_sequences-parted-requires-clause-digits
+part_sequences-parted-requires-clause-digits c = rw c.front_digits.ensures (front_below 64 c.min-count.result c.ahead.result (omega arith) (omega arith))
 
-pub returns-clause-left : goal.returns-clause-left
-returns-clause-left c =
+pub returns-clause-bits : goal.returns-clause-bits
+returns-clause-bits c =
     let parted = c.part_sequences-parted in
-    parted-left fundamental_sequence (λ m. m < 64) _ _ _ _ _ _ _ parted.ensures
+    let digits = ap (word c.min-count.result) c.front_digits.ensures ∙ first-ahead _ c.min-count.result c.ahead.result (omega arith) c.ahead.ensures in
+    window_split _ _ (c.min-count.result - parted.result.count) _ (omega (arith, parted.ensures.1.few)) refl refl refl
+    (parted-pieces fundamental_sequence _ _ _ _ _ _ _ _ _ parted.ensures.1 digits)
+
+pub returns-clause-taken : goal.returns-clause-taken
+returns-clause-taken c =
+    let parted = c.part_sequences-parted in
+    let left = parted-left fundamental_sequence _ _ _ _ _ _ _ _ parted.ensures.1 in
+    omega (arith, left, parted.ensures.1.few, c.requires.window.held)

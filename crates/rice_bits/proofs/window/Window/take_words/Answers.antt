@@ -1,18 +1,13 @@
-use Rattle.std.proofs.Common.{◌^◌, ◌<◌, ◌++◌, take, ap, append_assoc, ◌∙◌}
-use Rattle.std.specs.Prelude.{flat_map, slice_range}
-use Rattle.rice_bits.specs.Bits.{word, bits_of}
-use Rattle.rice_bits.specs.Window.{window_bits}
-use Rattle.rice_bits.proofs.Parting.{parted-left}
+use Rattle.std.proofs.Common.{◌*◌, arith, refl, ap}
+use Rattle.rice_bits.proofs.WindowLemmas.{length-words, words_split}
 use Rattle.rice_bits.proofs.window.Window.take_words.Goals as goal
 
 pub returns-clause-bits : goal.returns-clause-bits
-unfolding window_bits
 returns-clause-bits c =
-    let rest = bits_of (slice_range c.args.self.now.buffer c.args.self.now.at c.args.self.now.end) in
-    let parted = c.part_words-parted in
-    ap (λ z. z ++ rest) parted.ensures.bits ∙ append_assoc (flat_map (word c.args.width) (take parted.result.taken parted.new.words)) (word parted.result.count parted.result.digits) rest
+    words_split _ _ _ _ _ _ c.words_from-ones.ensures.taken
+    (omega (arith, ap (λ n. n * c.args.width) c.words_from-ones.auto.words, c.if-words-width.false, c.requires.window.ordered)) refl refl
 
-pub returns-clause-left : goal.returns-clause-left
-returns-clause-left c =
-    let parted = c.part_words-parted in
-    parted-left (word c.args.width) (λ v. v < 2 ^ c.args.width) _ _ _ _ _ _ _ parted.ensures
+pub returns-clause-taken : goal.returns-clause-taken
+returns-clause-taken c =
+    let len = length-words c.args.width _ _ _ _ _ _ c.words_from-ones.ensures.taken in
+    omega (arith, len, ap (λ n. n * c.args.width) c.words_from-ones.auto.words, c.if-words-width.false, c.requires.window.held)
