@@ -1,14 +1,14 @@
--- Pieces that are taken one after another from the front of a number's digits.
-use Rattle.std.proofs.Common.{◌≡◌, ℕ, suc, ◌+◌, ◌/◌, ◌%◌, ◌^◌, ◌<◌, ◌≤◌, Bool, false, List, [], ◌∷◌, ◌++◌, length, take, drop, set, refl, sym, ◌∙◌, ap, subst, arith, append_assoc, length-append, inl, inr, mod-eq_of_lt, ◌-◌, ◌*◌, take-take}
+-- Numbers that are written to places one after another, and fundamental sequences that are taken so from the front of a number's digits.
+use Rattle.std.proofs.Common.{◌≡◌, ℕ, suc, ◌+◌, ◌/◌, ◌%◌, ◌^◌, ◌<◌, ◌≤◌, Bool, false, List, [], ◌∷◌, ◌++◌, length, take, drop, set, refl, sym, ◌∙◌, ap, subst, arith, append_assoc, length-append, inl, inr, ◌-◌, ◌*◌, take-take}
 use Rattle.std.specs.Prelude.{All, flat_map, ◌==◌, ◌&&◌}
 use Rattle.std.proofs.lemmas.Bool.Decides.{nat_tests}
 use Rattle.std.proofs.lemmas.List.{length-set, append-nil, take_more_set, drop-set-lt, drop-drop}
 use Rattle.std.proofs.lemmas.List.Elements.{All-push}
 use Rattle.std.proofs.lemmas.Grind.{flat_map-append}
-use Rattle.std.proofs.lemmas.Nat.{div-mul-add, leading_top, mod-mul-add, mod_below, pow-add, pow_pos, shl_below, shr_split}
+use Rattle.std.proofs.lemmas.Nat.{leading_top, mod-mul-add, mod_below, pow-add, pow_pos, shl_below, shr_split}
 use Rattle.std.proofs.Math.Seq.{take-append_seam}
 use Rattle.std.proofs.lemmas.Bool.{cases_lt}
-use Rattle.std.proofs.Math.Nat.{mul-le-mul_right, pow-le-pow_right}
+use Rattle.std.proofs.Math.Nat.{mul-div_cancel, mul-le-mul_right, pow-le-pow_right}
 use lib.Count.{count_leading_zeros}
 use Rattle.rice_bits.proofs.Runs.{run-digits}
 use Rattle.rice_bits.specs.Bits.{word, fundamental_sequence}
@@ -17,45 +17,56 @@ use Rattle.rice_bits.specs.Reader.{is_blank}
 use Rattle.rice_bits.proofs.Words.{length-word, shift_fits}
 use Rattle.rice_bits.proofs.Blank.{blank-append, blank-fs}
 
-pub parted-none : (piece : ℕ → List Bool) (P : ℕ → Type 0) (digits count : ℕ) (xs : List ℕ) → digits < 2 ^ count → AreParted piece P digits count xs xs digits count 0
-parted-none piece P digits count xs h = record {
-  within = omega arith;
-  each = λ i d lt. absurd (omega arith);
-  rest = refl;
-  below = h;
-  few = omega arith;
-  bits = refl;
-}
+-- one more number, written to the next place
+pub each-more : (P : ℕ → Type 0) (now : List ℕ) (done v : ℕ) → done < length now → All P (take done now) → P v → All P (take (done + 1) (set now done v))
+each-more P now done v lt each holds = subst (λ xs. All P xs) (sym (take_more_set now done v lt)) (All-push P (take done now) v each holds)
 
-pub parted-more : (piece : ℕ → List Bool) (P : ℕ → Type 0) (digits count : ℕ) (old now : List ℕ) (d c e n done v : ℕ)
-    → AreParted piece P digits count old now d c done → done < length now → P v → e < 2 ^ n → n ≤ c → word c d ≡ piece v ++ word n e
-    → AreParted piece P digits count old (set now done v) e n (done + 1)
-parted-more piece P digits count old now d c e n done v p lt holds below few step =
-    let front : take (done + 1) (set now done v) ≡ take done now ++ v ∷ [] = take_more_set now done v lt in
-    let pieces : flat_map piece (take (done + 1) (set now done v)) ≡ flat_map piece (take done now) ++ piece v =
-    ap (flat_map piece) front ∙ (flat_map-append piece (take done now) (v ∷ []) ∙ ap (λ z. flat_map piece (take done now) ++ z) (append-nil (piece v))) in
+pub pieces-more : (piece : ℕ → List Bool) (now : List ℕ) (done v : ℕ) → done < length now
+    → flat_map piece (take (done + 1) (set now done v)) ≡ flat_map piece (take done now) ++ piece v
+pieces-more piece now done v lt =
+    ap (flat_map piece) (take_more_set now done v lt)
+    ∙ (flat_map-append piece (take done now) (v ∷ []) ∙ ap (λ z. flat_map piece (take done now) ++ z) (append-nil (piece v)))
+
+pub parted-none : (digits count : ℕ) (xs : List ℕ) → digits < 2 ^ count → AreParted digits count xs xs digits 0 0
+parted-none digits count xs h =
+    let all : count ≡ count - 0 = omega arith in
     record {
-      within = omega (arith, lt, length-set now done v);
-      each = subst (λ xs. All P xs) (sym front) (All-push P (take done now) v p.each holds);
-      rest = drop-set-lt (done + 1) now done v (omega arith) ∙ (sym (drop-drop 1 done now) ∙ (ap (λ zs. drop 1 zs) p.rest ∙ drop-drop 1 done old));
-      below = below;
-      few = omega (arith, few, p.few);
-      bits = p.bits ∙ (ap (λ z. flat_map piece (take done now) ++ z) step ∙ (sym (append_assoc (flat_map piece (take done now)) (piece v) (word n e)) ∙ ap (λ z. z ++ word n e) (sym pieces)));
+      within = omega arith;
+      each = λ i d lt. absurd (omega arith);
+      rest = refl;
+      few = omega arith;
+      below = subst (λ k. digits < 2 ^ k) all h;
+      bits = ap (λ k. word k digits) all;
     }
 
-pub parted-left : (piece : ℕ → List Bool) (P : ℕ → Type 0) (digits count : ℕ) (old new : List ℕ) (d c taken : ℕ)
-    → AreParted piece P digits count old new d c taken → c + length (flat_map piece (take taken new)) ≡ count
-parted-left piece P digits count old new d c taken p =
-    omega (arith, ap length p.bits, length-append (flat_map piece (take taken new)) (word c d), length-word count digits, length-word c d)
+pub parted-more : (digits count : ℕ) (old now : List ℕ) (d e used n done v : ℕ)
+    → AreParted digits count old now d used done → done < length now → v < 64 → n ≤ count → e < 2 ^ (count - n)
+    → word (count - used) d ≡ fundamental_sequence v ++ word (count - n) e → AreParted digits count old (set now done v) e n (done + 1)
+parted-more digits count old now d e used n done v p lt holds few below step =
+    let before = flat_map fundamental_sequence (take done now) in
+    record {
+      within = omega (arith, lt, length-set now done v);
+      each = each-more (λ m. m < 64) now done v lt p.each holds;
+      rest = drop-set-lt (done + 1) now done v (omega arith) ∙ (sym (drop-drop 1 done now) ∙ (ap (λ zs. drop 1 zs) p.rest ∙ drop-drop 1 done old));
+      few = few;
+      below = below;
+      bits = p.bits ∙ (ap (λ z. before ++ z) step ∙ (sym (append_assoc before (fundamental_sequence v) (word (count - n) e))
+          ∙ ap (λ z. z ++ word (count - n) e) (sym (pieces-more fundamental_sequence now done v lt))));
+    }
 
--- the pieces are the first bits of those that the digits are
-pub parted-pieces : (piece : ℕ → List Bool) (P : ℕ → Type 0) (digits count : ℕ) (old new : List ℕ) (d c taken : ℕ) (bits : List Bool)
-    → AreParted piece P digits count old new d c taken → word count digits ≡ take count bits → flat_map piece (take taken new) ≡ take (count - c) bits
-parted-pieces piece P digits count old new d c taken bits p e =
-    let pieces = flat_map piece (take taken new) in
-    let len : count - c ≡ length pieces = omega (arith, parted-left piece P digits count old new d c taken p) in
-    sym (take-append_seam pieces (word c d)) ∙ (ap (λ k. take k (pieces ++ word c d)) (sym len)
-    ∙ (ap (take (count - c)) (sym p.bits ∙ e) ∙ take-take (count - c) count bits (omega arith)))
+pub length-parted : (digits count : ℕ) (old new : List ℕ) (d used taken : ℕ)
+    → AreParted digits count old new d used taken → length (flat_map fundamental_sequence (take taken new)) ≡ used
+length-parted digits count old new d used taken p =
+    omega (arith, p.few, ap length p.bits, length-append (flat_map fundamental_sequence (take taken new)) (word (count - used) d), length-word count digits, length-word (count - used) d)
+
+-- the sequences are the first bits of those that the digits are
+pub parted-bits : (digits count : ℕ) (old new : List ℕ) (d used taken : ℕ) (bits : List Bool)
+    → AreParted digits count old new d used taken → word count digits ≡ take count bits → flat_map fundamental_sequence (take taken new) ≡ take used bits
+parted-bits digits count old new d used taken bits p e =
+    let sequences = flat_map fundamental_sequence (take taken new) in
+    let rest = word (count - used) d in
+    sym (take-append_seam sequences rest) ∙ (ap (λ k. take k (sequences ++ rest)) (length-parted digits count old new d used taken p)
+    ∙ (ap (take used) (sym p.bits ∙ e) ∙ take-take used count bits p.few))
 
 -- fundamental sequences have a 1, where there are any
 pub sequences-blank : (ms : List ℕ) → is_blank (flat_map fundamental_sequence ms) ≡ (length ms == 0)
@@ -125,7 +136,7 @@ run_step c rest next narrow below whole some e =
     ap (λ k. k * 2 ^ (z + 1)) whole ∙ (regrouped d (2 ^ (64 - c)) (2 ^ (z + 1)) ∙ ap (λ k. d * k) (sym (pow-add 2 (64 - c) (z + 1)) ∙ ap (λ k. 2 ^ k) up)) in
     let low : d % 2 ^ a < 2 ^ a = mod_below d (2 ^ a) (pow_pos a) in
     let after : next ≡ d % 2 ^ a * 2 ^ (64 - a) = e ∙ (ap (λ k. k % 2 ^ 64) product ∙ moved_up a d (omega (arith, m.1, narrow))) in
-    let back : next / 2 ^ (64 - a) ≡ d % 2 ^ a = ap (λ k. k / 2 ^ (64 - a)) after ∙ mul-div_cancel (d % 2 ^ a) (2 ^ (64 - a)) (pow_pos (64 - a)) in
+    let back : next / 2 ^ (64 - a) ≡ d % 2 ^ a = ap (λ k. k / 2 ^ (64 - a)) after ∙ mul-div_cancel (d % 2 ^ a) (pow_pos (64 - a)) in
     let zeros : c - 1 - a ≡ z = omega (arith, m.2) in
     let run : word c d ≡ fundamental_sequence z ++ word a (d % 2 ^ a) =
     sym (append-nil (word c d)) ∙ (run-digits c d [] positive below (omega arith)
@@ -140,17 +151,5 @@ run_step c rest next narrow below whole some e =
     regrouped : (x y w : ℕ) → x * y * w ≡ x * (y * w)
     regrouped x y w = grind arith
 
-    mul-div_cancel : (x p : ℕ) → 0 < p → x * p / p ≡ x
-    mul-div_cancel x p h = (let n : x * p + 0 ≡ x * p = omega arith in ap (λ k. k / p) (sym n) ∙ div-mul-add x p 0 h)
-
 pub run_short : (c rest : ℕ) → c < 64 → rest / 2 ^ (64 - c) < 2 ^ c → rest ≡ rest / 2 ^ (64 - c) * 2 ^ (64 - c) → 0 < rest → count_leading_zeros 64 rest + 1 ≤ c
 run_short c rest narrow below whole some = (run_step c rest _ narrow below whole some refl).0
-
--- digits moved to the front of 64, and back
-pub moved-back : (c d : ℕ) → c < 64 → d < 2 ^ c → (d * 2 ^ (64 - c) % 2 ^ 64 / 2 ^ (64 - c) ≡ d) × (d * 2 ^ (64 - c) % 2 ^ 64 ≡ d * 2 ^ (64 - c) % 2 ^ 64 / 2 ^ (64 - c) * 2 ^ (64 - c))
-moved-back c d narrow h =
-    let s = 64 - c in
-    let n : d * 2 ^ s + 0 ≡ d * 2 ^ s = omega arith in
-    let whole : d * 2 ^ s % 2 ^ 64 ≡ d * 2 ^ s = mod-eq_of_lt (shift_fits c s d h (omega arith)) in
-    let back : d * 2 ^ s % 2 ^ 64 / 2 ^ s ≡ d = ap (λ k. k / 2 ^ s) (whole ∙ sym n) ∙ div-mul-add d (2 ^ s) 0 (pow_pos s) in
-    (back, whole ∙ ap (λ k. k * 2 ^ s) (sym back))

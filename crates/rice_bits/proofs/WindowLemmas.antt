@@ -1,16 +1,15 @@
 -- The bits that were given and not yet taken.
-use Rattle.std.proofs.Common.{◌≡◌, ℕ, ◌+◌, ◌-◌, ◌*◌, ◌/◌, ◌%◌, ◌^◌, ◌<◌, ◌≤◌, Bool, false, List, [], ◌∷◌, ◌++◌, length, take, drop, set, replicate, length-append, refl, sym, ◌∙◌, ap, subst, arith, take-take}
-use Rattle.std.specs.Prelude.{All, flat_map, slice_range}
+use Rattle.std.proofs.Common.{◌≡◌, ℕ, ◌+◌, ◌-◌, ◌*◌, ◌/◌, ◌%◌, ◌^◌, ◌<◌, ◌≤◌, Bool, false, List, [], ◌∷◌, ◌++◌, length, take, drop, set, replicate, length-append, refl, sym, ◌∙◌, ap, arith, take-take}
+use Rattle.std.specs.Prelude.{flat_map, slice_range}
 use Rattle.std.specs.Int.{to_be_bytes, w64}
 use Rattle.std.proofs.Math.Seq.{drop-append_seam, take-add, take-append_seam}
-use Rattle.std.proofs.lemmas.Grind.{flat_map-append}
-use Rattle.std.proofs.lemmas.List.{append-nil, drop-drop, drop-set-lt, drop-take, length-drop, length-set, length-take-le, take-append-drop, take-append-le, take_more_set}
-use Rattle.std.proofs.lemmas.List.Elements.{All-push}
+use Rattle.std.proofs.lemmas.List.{drop-drop, drop-take, length-drop, length-take-le, take-append-drop, take-append-le}
 use Rattle.rice_bits.specs.Bits.{word, bits_of}
-use Rattle.rice_bits.specs.Window.{AreTaken, IsWindow, window_bits}
+use Rattle.rice_bits.specs.Window.{IsWindow, window_bits}
 use Rattle.rice_bits.specs.declared.window.Window.{Window}
 use Rattle.rice_bits.proofs.Bytes.{bits_of-append, length-bits_of}
 use Rattle.rice_bits.proofs.EightBytes.{bits_of-eight}
+use Rattle.rice_bits.proofs.Parting.{pieces-more}
 use Rattle.rice_bits.proofs.Runs.{take-front, word-moved, word-parts}
 use Rattle.rice_bits.proofs.Words.{length-word}
 
@@ -96,51 +95,20 @@ pub first-ahead : (bits : List Bool) (n r : ℕ) → n ≤ 57 → take 57 (word 
 first-ahead bits n r h e =
     sym (take-front n r (omega arith)) ∙ (sym (take-take n 57 (word 64 r) h) ∙ (ap (take n) e ∙ take-take n 57 bits h))
 
--- the bits of words that were taken, and those behind them
-pub words_split : (w v : Window) (width : ℕ) (old new : List ℕ) (taken : ℕ) → AreTaken width (bits_of w.buffer) w.at v.at old new taken → v.at ≤ w.end → v.end ≡ w.end → v.buffer ≡ w.buffer
-    → window_bits w ≡ flat_map (word width) (take taken new) ++ window_bits v
-unfolding window_bits
-words_split w v width old new taken p h end buffer =
-    rw (end, buffer, p.words) (sym (between-join (bits_of w.buffer) w.at v.at w.end (omega (arith, p.place)) h))
+pub length-words : (width : ℕ) (xs : List ℕ) → length (flat_map (word width) xs) ≡ length xs * width
+length-words width [] = omega arith
+length-words width (x ∷ xs) = omega (arith, length-append (word width x) (flat_map (word width) xs), length-word width x, length-words width xs)
 
-words_len : (width : ℕ) (xs : List ℕ) → length (flat_map (word width) xs) ≡ length xs * width
-words_len width [] = omega arith
-words_len width (x ∷ xs) = omega (arith, length-append (word width x) (flat_map (word width) xs), length-word width x, words_len width xs)
-
-pub length-words : (width : ℕ) (bits : List Bool) (from to : ℕ) (old new : List ℕ) (taken : ℕ) → AreTaken width bits from to old new taken → to ≡ from + length (flat_map (word width) (take taken new))
-length-words width bits from to old new taken p =
-    p.place ∙ ap (λ k. from + k) (ap (λ k. k * width) (sym (length-take-le taken new p.within)) ∙ sym (words_len width (take taken new)))
-
-pub taken-none : (width : ℕ) (bits : List Bool) (at : ℕ) (xs : List ℕ) → AreTaken width bits at at xs xs 0
-taken-none width bits at xs =
-    let n : at - at ≡ 0 = omega arith in
-    record {
-      within = omega arith;
-      each = λ i d lt. absurd (omega arith);
-      rest = refl;
-      place = omega arith;
-      words = rw n refl;
-    }
-
-pub taken-pieces : (width : ℕ) (now : List ℕ) (done v : ℕ) → done < length now
-    → flat_map (word width) (take (done + 1) (set now done v)) ≡ flat_map (word width) (take done now) ++ word width v
-taken-pieces width now done v lt =
-    ap (flat_map (word width)) (take_more_set now done v lt)
-    ∙ (flat_map-append (word width) (take done now) (v ∷ []) ∙ ap (λ z. flat_map (word width) (take done now) ++ z) (append-nil (word width v)))
-
-pub taken-more : (width : ℕ) (bits : List Bool) (from at next : ℕ) (old now : List ℕ) (done v : ℕ)
-    → AreTaken width bits from at old now done → done < length now → v < 2 ^ width → next ≡ at + width → word width v ≡ take width (drop at bits)
-    → AreTaken width bits from next old (set now done v) (done + 1)
-taken-more width bits from at next old now done v p lt below e step =
-    let m : next - at ≡ width = omega arith in
-    let one : word width v ≡ slice_range bits at next = step ∙ ap (λ k. take k (drop at bits)) (sym m) in
-    record {
-      within = omega (arith, lt, length-set now done v);
-      each = subst (λ xs. All (λ x. x < 2 ^ width) xs) (sym (take_more_set now done v lt)) (All-push (λ x. x < 2 ^ width) (take done now) v p.each below);
-      rest = drop-set-lt (done + 1) now done v (omega arith) ∙ (sym (drop-drop 1 done now) ∙ (ap (λ zs. drop 1 zs) p.rest ∙ drop-drop 1 done old));
-      place = omega (arith, p.place, e);
-      words = taken-pieces width now done v lt ∙ ((λ j. p.words j ++ one j) ∙ between-join bits from at next (omega (arith, p.place)) (omega (arith, e)));
-    }
+-- one more word, from the place behind those before it
+pub words-more : (width : ℕ) (bits : List Bool) (from at : ℕ) (now : List ℕ) (done v : ℕ) → at ≡ from + done * width → done < length now
+    → flat_map (word width) (take done now) ≡ take (done * width) (drop from bits) → word width v ≡ take width (drop at bits)
+    → flat_map (word width) (take (done + 1) (set now done v)) ≡ take ((done + 1) * width) (drop from bits)
+words-more width bits from at now done v place lt before step =
+    let one : word width v ≡ take width (drop (done * width) (drop from bits)) =
+    step ∙ ap (take width) (ap (λ k. drop k bits) place ∙ sym (drop-drop (done * width) from bits)) in
+    let n : done * width + width ≡ (done + 1) * width = grind arith in
+    pieces-more (word width) now done v lt ∙ ((λ j. before j ++ one j)
+    ∙ (sym (take-add (done * width) width (drop from bits)) ∙ ap (λ k. take k (drop from bits)) n))
 
 -- the first bits that wait
 pub front-waits : (w : Window) (n : ℕ) → n ≤ w.end - w.at → take n (window_bits w) ≡ take n (drop w.at (bits_of w.buffer))

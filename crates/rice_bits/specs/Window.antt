@@ -1,6 +1,6 @@
 -- The bits that were given and not yet taken.
-use Rattle.std.specs.Prelude.{◌≡◌, ◌+◌, ◌-◌, ◌*◌, ◌%◌, ◌^◌, ◌<◌, ◌≤◌, ℕ, All, Bool, List, ◌++◌, length, drop, flat_map, take, slice_range}
-use Rattle.rice_bits.specs.Bits.{word, bits_of}
+use Rattle.std.specs.Prelude.{◌≡◌, ◌-◌, ◌*◌, ◌%◌, ◌^◌, ◌<◌, ◌≤◌, ℕ, All, Bool, List, ◌++◌, length, drop, flat_map, take, slice_range}
+use Rattle.rice_bits.specs.Bits.{word, fundamental_sequence, bits_of}
 use Rattle.rice_bits.specs.declared.window.Window.{Window}
 
 -- the bits of the bytes from `at` to `end`
@@ -19,19 +19,11 @@ pub record IsWindow (w : Window) : Type 0 where
   pub held : w.end - w.at ≤ 8 * w.given
   pub limit : w.given ≤ 2 ^ 49
 
--- Pieces were taken from the front of a number's digits, one for each of the numbers that were written to the first places of a list.
-pub record AreParted (piece : ℕ → List Bool) (P : ℕ → Type 0) (digits count : ℕ) (old new : List ℕ) (left_digits left_count taken : ℕ) : Type 0 where
+-- Fundamental sequences were taken from the front of a number's digits, one for each of the numbers that were written to the first places of a list.
+pub record AreParted (digits count : ℕ) (old new : List ℕ) (left used taken : ℕ) : Type 0 where
   pub within : taken ≤ length new
-  pub each : All P (take taken new)
+  pub each : All (λ m. m < 64) (take taken new)
   pub rest : drop taken new ≡ drop taken old
-  pub below : left_digits < 2 ^ left_count
-  pub few : left_count ≤ count
-  pub bits : word count digits ≡ flat_map piece (take taken new) ++ word left_count left_digits
-
--- Words were taken from a place in bits to another.
-pub record AreTaken (width : ℕ) (bits : List Bool) (from to : ℕ) (old new : List ℕ) (taken : ℕ) : Type 0 where
-  pub within : taken ≤ length new
-  pub each : All (λ v. v < 2 ^ width) (take taken new)
-  pub rest : drop taken new ≡ drop taken old
-  pub place : to ≡ from + taken * width
-  pub words : flat_map (word width) (take taken new) ≡ slice_range bits from to
+  pub few : used ≤ count
+  pub below : left < 2 ^ (count - used)
+  pub bits : word count digits ≡ flat_map fundamental_sequence (take taken new) ++ word (count - used) left

@@ -1,6 +1,6 @@
-use Rattle.std.proofs.Common.{◌-◌, arith, refl, ap, ◌∙◌}
-use Rattle.rice_bits.specs.Bits.{fundamental_sequence, word}
-use Rattle.rice_bits.proofs.Parting.{parted-left, parted-pieces}
+use Rattle.std.proofs.Common.{◌+◌, arith, refl, ap, ◌∙◌}
+use Rattle.rice_bits.specs.Bits.{word}
+use Rattle.rice_bits.proofs.Parting.{length-parted, parted-bits}
 use Rattle.rice_bits.proofs.Runs.{front_below}
 use Rattle.rice_bits.proofs.WindowLemmas.{first-ahead, window_split}
 use Rattle.rice_bits.proofs.window.Window.take_sequences.Goals as goal
@@ -12,11 +12,11 @@ pub returns-clause-bits : goal.returns-clause-bits
 returns-clause-bits c =
     let parted = c.part_sequences-parted in
     let digits = ap (word c.min-count.result) c.front_digits.ensures ∙ first-ahead _ c.min-count.result c.ahead.result (omega arith) c.ahead.ensures in
-    window_split _ _ (c.min-count.result - parted.result.count) _ (omega (arith, parted.ensures.1.few)) refl refl refl
-    (parted-pieces fundamental_sequence _ _ _ _ _ _ _ _ _ parted.ensures.1 digits)
+    window_split _ _ (parted.result.zeros + parted.result.taken) _ (omega (arith, parted.ensures.1.few)) refl refl refl
+    (parted-bits _ _ _ _ _ _ _ _ parted.ensures.1 digits)
 
 pub returns-clause-taken : goal.returns-clause-taken
 returns-clause-taken c =
     let parted = c.part_sequences-parted in
-    let left = parted-left fundamental_sequence _ _ _ _ _ _ _ _ parted.ensures.1 in
-    omega (arith, left, parted.ensures.1.few, c.requires.window.held)
+    let length = length-parted _ _ _ _ _ _ _ parted.ensures.1 in
+    omega (arith, length, parted.ensures.1.few, c.requires.window.held)
