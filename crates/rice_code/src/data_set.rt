@@ -43,17 +43,19 @@ fn read_low<I: Intake>(
     }
 }
 
-/// Reads one coded data set, all its bits, and judges nothing.
+/// Reads one coded data set, all its bits, and judges nothing. `highs` is room for high parts.
 pub fn read_set<I: Intake>(
     setting: &Setting,
     block: u64,
     reader: &mut BitReader<I>,
     meter: &mut Meter,
     residuals: &mut [u32],
+    highs: &mut [u32],
 ) -> Result<SetHead, BitFault>
     requires going { reader.old.refusal ≡ None }
     requires room { HasRoom meter.old reader.old.taken }
     requires size { length residuals.old ≡ setting.now.block }
+    requires highs { length highs.old ≡ 64 }
     ensures ok { IfOk result (λ t. SetRead I.left I.failed reader.old reader.new meter.old meter.new setting.now block t residuals.new) }
     ensures err { IfErr result (SetCut I.left I.failed reader.old reader.new setting.now block) }
     ensures steps { AreCounted meter.old meter.new reader.old.taken reader.new.taken }
@@ -78,7 +80,7 @@ pub fn read_set<I: Intake>(
             Err(fault) => Err(fault),
         };
     }
-    match read_split(setting, block, id - 1, reader, meter, residuals) {
+    match read_split(setting, block, id - 1, reader, meter, residuals, highs) {
         Ok(head) => Ok(SetHead::Residuals {
             reference: head.reference,
             sound: head.sound,

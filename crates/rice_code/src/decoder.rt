@@ -46,11 +46,13 @@ fn answer_of(fault: BitFault) -> Result<Step, CodeFault>
     }
 }
 
-/// Reads a data set, and gives the samples of its first block; answers the last of them and how many zero blocks follow.
+/// Reads a data set, and gives the samples of its first block; answers the last of them and how many zero blocks follow. `scratch` is room
+/// for residuals.
 fn decode_set<I: Intake>(
     setting: &Setting,
     block: u64,
     p: i64,
+    scratch: &mut [u32],
     reader: &mut BitReader<I>,
     meter: &mut Meter,
     samples: &mut ArrayVec<i64, 64>,
@@ -59,14 +61,15 @@ fn decode_set<I: Intake>(
     requires room { HasRoom meter.old reader.old.taken }
     requires p { IsSample setting.now p }
     requires marked { reader.old.blank ≡ true }
+    requires scratch { length scratch.old ≡ 128 }
     ensures ok { IfOk result (λ r. TakesSet I.left I.failed reader.old reader.new meter.old meter.new setting.now block p samples.new.items r.1) }
     ensures last { IfOk result (λ r. (r.0 ≡ last_of p samples.new.items) × IsSample setting.now r.0 × (0 < r.1 → r.1 + 1 ≤ blocks_left setting.now block)) }
     ensures err { IfErr result (StopsBy I.left I.failed reader.old reader.new setting.now block) }
     ensures steps { AreCounted meter.old meter.new reader.old.taken reader.new.taken }
 {
-    let mut residuals = [0; 64];
+    let (residuals, highs) = scratch.split_at_mut(64);
     let residuals = &mut residuals[..setting.block() as usize];
-    match read_set(setting, block, reader, meter, residuals) {
+    match read_set(setting, block, reader, meter, residuals, highs) {
         Ok(SetHead::Residuals { reference, sound }) => {
             if !sound {
                 return Err(Err(CodeFault::ResidualTooLarge));
@@ -124,6 +127,8 @@ pub struct Decoder {
     before: i64,
     run: u32,
     stopped: Option<Result<Step, CodeFault>>,
+    /// Room for a block's residuals, and for their high parts. What one block leaves there says nothing to the next.
+    scratch: [u32; 128],
 }
 
 impl Model for Decoder {
@@ -151,6 +156,7 @@ impl Decoder {
             before: 0,
             run: 0,
             stopped: None,
+            scratch: [0; 128],
         }
     }
 
@@ -199,10 +205,13 @@ impl Decoder {
             return Ok(Step::Block);
         }
         reader.mark();
+        // A copy, since `scratch` is lent beside it.
+        let setting = self.setting;
         match decode_set(
-            &self.setting,
+            &setting,
             self.block,
             self.before,
+            &mut self.scratch,
             reader,
             meter,
             samples,

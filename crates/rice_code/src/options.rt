@@ -151,7 +151,7 @@ pub fn read_second_extension<I: Intake>(
     }
 }
 
-/// Reads a block by a split option.
+/// Reads a block by a split option, with `highs` as room for the high parts.
 pub fn read_split<I: Intake>(
     setting: &Setting,
     block: u64,
@@ -159,12 +159,14 @@ pub fn read_split<I: Intake>(
     reader: &mut BitReader<I>,
     meter: &mut Meter,
     residuals: &mut [u32],
+    highs: &mut [u32],
 ) -> Result<BlockHead, BitFault>
     requires going { reader.old.refusal ≡ None }
     requires room { HasRoom meter.old reader.old.taken }
     requires k { k ≤ k_max setting.now }
     requires limit { k ≤ 29 }
     requires size { length residuals.old ≡ setting.now.block }
+    requires highs { length highs.old ≡ 64 }
     ensures ok { IfOk result (λ h. BlockRead I.left I.failed reader.old reader.new meter.old meter.new setting.now block (Split k) (split_tail setting.now k) h.reference h.sound residuals.new) }
     ensures err { IfErr result (BlockCut I.left I.failed reader.old reader.new setting.now block (Split k) (split_tail setting.now k)) }
     ensures steps { AreCounted meter.old meter.new reader.old.taken reader.new.taken }
@@ -176,7 +178,6 @@ pub fn read_split<I: Intake>(
     let values = setting.values();
     let first = begin_residuals(reference, residuals);
     let coded = &mut residuals[first..];
-    let mut highs = [0; 64];
     let highs = &mut highs[..coded.len()];
     let small = match read_counts(reader, meter, (values - 1) >> k, highs) {
         Ok(small) => small,

@@ -1,4 +1,4 @@
-use Rattle.std.proofs.Common.{arith, drop, refl, replicate, ◌∙◌, ap, ◌-◌, ◌/◌, ◌^◌, ◌++◌, length}
+use Rattle.std.proofs.Common.{arith, drop, ◌∙◌, ap, ◌-◌, ◌/◌, ◌^◌, ◌++◌, length}
 use Rattle.std.specs.Prelude.{flat_map}
 use Rattle.rice_bits.specs.Bits.{word, fundamental_sequence}
 use Rattle.rice_code.specs.DataSets.{Split, coded}
@@ -18,7 +18,7 @@ returns-in-Err-read_counts-clause-err g c =
     let first = c.begin_residuals-first in
     let xs = first.new.residuals in
     let part = coded_part c.args.setting.now c.in-Ok.reference first.result xs c.values-values.ensures.legal first.ensures.first (first.auto.residuals ∙ c.requires.size) in
-    let many = as_many (length xs - first.result) (drop first.result xs) (replicate 64 0) refl part.2 in
+    let many = as_many (length xs - first.result) (drop first.result xs) c.args.highs.now c.requires.highs part.2 in
     let e = c.in-Err-read_counts.ensures.err in
     split_cut_high g.I.Intake.left g.I.Intake.failed c.args.reader.now c.read_reference.new.reader c.read_counts.new.reader c.args.setting.now c.args.block c.args.k c.in-Ok.reference _ e.0 c.in-Err-read_counts.fault
     c.in-Ok.ensures.reference part.1 c.in-Ok.ensures.ok (omega (arith, e.1, many)) e.2
@@ -28,7 +28,7 @@ returns-in-Err-read_words-clause-err g c =
     let first = c.begin_residuals-first in
     let xs = first.new.residuals in
     let part = coded_part c.args.setting.now c.in-Ok.reference first.result xs c.values-values.ensures.legal first.ensures.first (first.auto.residuals ∙ c.requires.size) in
-    let many = as_many (length xs - first.result) (drop first.result xs) (replicate 64 0) refl part.2 in
+    let many = as_many (length xs - first.result) (drop first.result xs) c.args.highs.now c.requires.highs part.2 in
     let high = c.in-Ok-read_counts.ensures.ok in
     let e = c.in-Err-read_words.ensures.err in
     split_cut_low g.I.Intake.left g.I.Intake.failed c.args.reader.now c.read_reference.new.reader c.read_counts.new.reader c.read_words.new.reader c.args.setting.now c.args.block c.args.k c.in-Ok.reference _ (λ _. Unit {0}) high.values e.0 c.in-Err-read_words.fault
@@ -39,7 +39,7 @@ returns-then-not-small-clause-ok g c =
     let first = c.begin_residuals-first in
     let xs = first.new.residuals in
     let part = coded_part c.args.setting.now c.in-Ok.reference first.result xs c.values-values.ensures.legal first.ensures.first (first.auto.residuals ∙ c.requires.size) in
-    let many = as_many (length xs - first.result) (drop first.result xs) (replicate 64 0) refl part.2 in
+    let many = as_many (length xs - first.result) (drop first.result xs) c.args.highs.now c.requires.highs part.2 in
     split_large g.I.Intake.left g.I.Intake.failed c.args.reader.now c.read_reference.new.reader c.read_counts.new.reader c.read_words.new.reader c.args.meter.now c.read_words.new.meter c.args.setting.now c.args.block c.args.k c.in-Ok.reference _ _
     c.read_counts.new.counts c.read_words.new.words _ c.in-Ok-read_counts.small
     c.in-Ok.ensures.reference c.requires.k part.1 many c.in-Ok.ensures.ok (rw c.values-values.ensures.value at c.in-Ok-read_counts.ensures.ok) c.if-not-small.true
@@ -50,7 +50,7 @@ returns-clause-ok g c =
     let first = c.begin_residuals-first in
     let xs = first.new.residuals in
     let part = coded_part c.args.setting.now c.in-Ok.reference first.result xs c.values-values.ensures.legal first.ensures.first (first.auto.residuals ∙ c.requires.size) in
-    let many = as_many (length xs - first.result) (drop first.result xs) (replicate 64 0) refl part.2 in
+    let many = as_many (length xs - first.result) (drop first.result xs) c.args.highs.now c.requires.highs part.2 in
     split_joined g.I.Intake.left g.I.Intake.failed c.args.reader.now c.read_reference.new.reader c.read_counts.new.reader c.read_words.new.reader c.args.meter.now c.read_words.new.meter c.args.setting.now c.args.block c.args.k c.in-Ok.reference _ _
     c.read_counts.new.counts c.read_words.new.words _ c.in-Ok-read_counts.small c.join_all-sound.result
     c.in-Ok.ensures.reference c.requires.k part.1 many c.in-Ok.ensures.ok (rw c.values-values.ensures.value at c.in-Ok-read_counts.ensures.ok) c.if-not-small.false
