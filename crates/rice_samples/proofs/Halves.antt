@@ -1,9 +1,10 @@
 -- How the sum of numbers without their lowest digits falls.
-use Rattle.std.proofs.Common.{◌≡◌, ℕ, ◌+◌, ◌*◌, ◌/◌, ◌^◌, ◌<◌, ◌≤◌, ◌∙◌, List, [], ◌∷◌, sum_by, ap, arith, sym, inl, inr}
+use Rattle.std.proofs.Common.{◌≡◌, ℕ, suc, ◌+◌, ◌-◌, ◌*◌, ◌/◌, ◌^◌, ◌<◌, ◌≤◌, ◌∙◌, List, [], ◌∷◌, length, sum_by, ap, arith, sym, inl, inr}
 use Rattle.std.proofs.lemmas.Bool.{cases_lt}
-use Rattle.std.proofs.lemmas.List.Sums.{sum_by-cons}
-use Rattle.std.proofs.lemmas.Nat.{pow-add}
-use Rattle.std.proofs.Math.Nat.{div-div-eq-div-mul}
+use Rattle.std.proofs.lemmas.List.Sums.{sum_by-cons, sum_by-le-sum_by}
+use Rattle.std.proofs.lemmas.Nat.{leading_length, pow-add, pow_pos}
+use Rattle.std.proofs.Math.Nat.{div-div-eq-div-mul, div-le_self, mod-add-div, mod-lt, mul-le-mul_right, pow-le-pow_right}
+use lib.Count.{count_leading_zeros}
 
 -- the numbers without their k lowest digits
 abbrev pub cut_sum : List ℕ → ℕ → ℕ
@@ -24,9 +25,48 @@ sum_halves (d ∷ ds) k =
     let b = sum_by-cons (λ d. d / 2 ^ (k + 1)) d ds in
     omega (arith, sum_halves ds k, half d k)
 
+-- no sum is above the whole
+pub sum_within : (ds : List ℕ) (k : ℕ) → cut_sum ds k ≤ cut_sum ds 0
+sum_within ds k = sum_by-le-sum_by (λ d. d / 2 ^ k) (λ d. d / 2 ^ 0) ds (λ d. let e : d / 2 ^ 0 ≡ d = omega arith in let h = div-le_self d (2 ^ k) in omega arith)
+
 -- where the sum falls by more than so much at k too, it does at each place up to k
 pub falls_more : (ds : List ℕ) (price k : ℕ) → ((j : ℕ) → j < k → cut_sum ds (j + 1) + price < cut_sum ds j) → cut_sum ds (k + 1) + price < cut_sum ds k → (j : ℕ) → j < k + 1 → cut_sum ds (j + 1) + price < cut_sum ds j
 falls_more ds price k falls more j h = elim (cases_lt j k) [
   | inl lt ↦ falls j lt
   | inr le ↦ let e : k ≡ j = omega arith in let f = ap (cut_sum ds) e in let g = ap (λ n. cut_sum ds (n + 1)) e in omega (arith, f, g, more)
 ]
+
+-- rounding takes less than one off each number
+rest : (d p : ℕ) → 0 < p → d + 1 ≤ (d / p + 1) * p
+rest d p some =
+    let e = mod-add-div d p in
+    let h = mod-lt d some in
+    omega arith
+
+sum_rest : (ds : List ℕ) (k : ℕ) → cut_sum ds 0 + length ds ≤ (cut_sum ds k + length ds) * 2 ^ k
+sum_rest [] k = omega arith
+sum_rest (d ∷ ds) k = rw (sum_by-cons (λ d. d / 2 ^ 0) d ds, sum_by-cons (λ d. d / 2 ^ k) d ds) (one d (cut_sum ds 0) (length ds) (d / 2 ^ k) (cut_sum ds k) (2 ^ k) (rest d (2 ^ k) (pow_pos k)) (sum_rest ds k))
+  where
+    one : (d s n q t p : ℕ) → d + 1 ≤ (q + 1) * p → s + n ≤ (t + n) * p → d / 2 ^ 0 + s + suc n ≤ (q + t + suc n) * p
+    one d s n q t p h l = omega (arith, h, l)
+
+-- while a sum is so large, the next digit takes more than so much off
+pub large_falls : (ds : List ℕ) (price k : ℕ) → 0 < length ds → (length ds + 2 * price) * 2 ^ k ≤ cut_sum ds 0 → cut_sum ds (k + 1) + price < cut_sum ds k
+large_falls ds price k some large =
+    elim (cases_lt (2 * price) (cut_sum ds k)) [
+      | inl lt ↦ omega (arith, lt, sum_halves ds k)
+      | inr le ↦
+          let le2 : (cut_sum ds k + length ds) * 2 ^ k ≤ (length ds + 2 * price) * 2 ^ k = mul-le-mul_right (2 ^ k) (omega (arith, le)) in
+          absurd (omega (arith, le2, large, some, sum_rest ds k))
+    ]
+
+-- a number with more leading zeros than another is so much smaller
+pub zeros_below : (a b j : ℕ) → a < 2 ^ 64 → b < 2 ^ 64 → j < count_leading_zeros 64 a - count_leading_zeros 64 b → a * 2 ^ j ≤ b
+zeros_below a b j fits below h =
+    let l = leading_length 64 a fits in
+    let t = leading_length 64 b below in
+    let p : 2 ^ (l.0 + j) ≡ 2 ^ l.0 * 2 ^ j = pow-add 2 l.0 j in
+    let q : 2 ^ (l.0 + j + 1) ≡ 2 ^ (l.0 + j) * 2 = pow-add 2 (l.0 + j) 1 in
+    let up : 2 ^ (l.0 + j + 1) ≤ 2 ^ t.0 = pow-le-pow_right {n = 2} (omega arith) {i = l.0 + j + 1} {j = t.0} (omega (arith, h, l.1, t.1)) in
+    let le : a * 2 ^ j ≤ 2 ^ l.0 * 2 ^ j = mul-le-mul_right (2 ^ j) (omega (arith, l.1)) in
+    omega (arith, le, up, q, p, t.1)
