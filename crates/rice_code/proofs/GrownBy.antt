@@ -1,5 +1,5 @@
 -- What a coder holds when it takes several samples.
-use Rattle.std.proofs.Common.{◌≡◌, ℕ, suc, ◌+◌, ◌-◌, ◌*◌, ◌<◌, ◌≤◌, ◌==◌, true, false, cond, ◌&&◌, List, [], ◌∷◌, ◌++◌, length, map, All, refl, ap, arith, sym, ◌∙◌, append_assoc, append-nil, length-append, slice_index_or, Some, ℤ}
+use Rattle.std.proofs.Common.{◌≡◌, ℕ, suc, ◌+◌, ◌-◌, ◌*◌, ◌<◌, ◌≤◌, ◌==◌, Bool, true, false, cond, ◌&&◌, List, [], ◌∷◌, ◌++◌, length, map, All, refl, ap, arith, sym, ◌∙◌, append_assoc, append-nil, length-append, slice_index_or, Some, ℤ}
 use Rattle.std.proofs.Math.Bool.{and-false}
 use Rattle.std.proofs.lemmas.List.Elements.{recursion_from_All}
 use Rattle.rice_samples.specs.Parameters.{Parameters, IsSample}
@@ -28,18 +28,21 @@ length-next coder (x ∷ xs) = ap (λ n. suc n) (length-later coder.setting x xs
 pub length-grown : (coder : State) (xs : List ℤ) → length (grown_by coder xs).residuals ≡ length coder.residuals + length xs
 length-grown coder xs = length-append coder.residuals (next_residuals coder xs) ∙ ap (λ n. length coder.residuals + n) (length-next coder xs)
 
--- where the next sample is not the first of an interval
-next_later : (coder : State) (xs : List ℤ) → is_first coder ≡ false → next_residuals coder xs ≡ later_residuals coder.setting coder.previous xs
+-- where the next sample is no reference sample
+next_later : (coder : State) (xs : List ℤ) → (coder.setting.preprocess && is_first coder) ≡ false → next_residuals coder xs ≡ later_residuals coder.setting coder.previous xs
 next_later coder [] e = refl
-next_later coder (x ∷ xs) e = ap (λ v. cond coder.setting.preprocess (cond v 0 (rank coder.setting coder.previous x)) (pattern coder.setting x) ∷ later_residuals coder.setting x xs) e
+next_later coder (x ∷ xs) e = ap (λ d. d ∷ later_residuals coder.setting x xs) (by_way coder.setting.preprocess (is_first coder) e)
+  where
+    by_way : (a b : Bool) → (a && b) ≡ false → cond a (cond b 0 (rank coder.setting coder.previous x)) (pattern coder.setting x) ≡ cond a (rank coder.setting coder.previous x) (pattern coder.setting x)
+    by_way false b e = refl
+    by_way true false e = refl
+    by_way true true e = absurd (let f : true ≡ false = e in cc)
 
-next_none : (coder : State) (xs : List ℤ) → is_first coder ≡ false → next_references coder xs ≡ coder.reference
+next_none : (coder : State) (xs : List ℤ) → (coder.setting.preprocess && is_first coder) ≡ false → next_references coder xs ≡ coder.reference
 next_none coder [] e = refl
-next_none coder (x ∷ xs) e =
-    let s = coder.setting in
-    ap (λ v. cond (s.preprocess && v) (Some (pattern s x)) coder.reference) e ∙ ap (λ v. cond v (Some (pattern s x)) coder.reference) (and-false s.preprocess)
+next_none coder (x ∷ xs) e = ap (λ v. cond v (Some (pattern coder.setting x)) coder.reference) e
 
-pub grown_later : (coder : State) (xs : List ℤ) → is_first coder ≡ false →
+pub grown_later : (coder : State) (xs : List ℤ) → (coder.setting.preprocess && is_first coder) ≡ false →
     grown_by coder xs ≡ record { setting = coder.setting; residuals = coder.residuals ++ later_residuals coder.setting coder.previous xs; reference = coder.reference; previous = last_of coder.previous xs; start = coder.start }
 grown_later coder xs e =
     let ds = next_later coder xs e in
@@ -51,8 +54,8 @@ pub grown_none : (coder : State) (xs : List ℤ) → length xs ≡ 0 → grown_b
 grown_none coder [] e = λ i. record { setting = coder.setting; residuals = append-nil coder.residuals i; reference = coder.reference; previous = coder.previous; start = coder.start }
 grown_none coder (x ∷ xs) e = absurd (omega arith)
 
-pub not_first : (coder : State) (x : ℤ) → is_first (grown coder x) ≡ false
-not_first coder x = ap (λ v. v && coder.start == 0) (some coder.residuals (next_residual coder x))
+pub not_first : (coder : State) (x : ℤ) → (coder.setting.preprocess && is_first (grown coder x)) ≡ false
+not_first coder x = ap (λ v. coder.setting.preprocess && (v && coder.start == 0)) (some coder.residuals (next_residual coder x)) ∙ and-false coder.setting.preprocess
   where
     some : (ds : List ℕ) (d : ℕ) → is_empty (ds ++ d ∷ []) ≡ false
     some [] d = refl

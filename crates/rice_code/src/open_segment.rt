@@ -88,6 +88,14 @@ impl OpenSegment {
         self.residuals.len() == 0 && self.start == 0
     }
 
+    /// Whether the next sample is a reference sample.
+    #[inline]
+    fn is_reference_next(&self) -> bool
+        ensures { result ≡ (self.now.setting.preprocess && is_first self.now) }
+    {
+        self.setting.preprocess() && self.is_first()
+    }
+
     /// Adds the residual of the sample `x`.
     #[inline]
     pub fn hold(&mut self, x: i64)
@@ -111,13 +119,17 @@ impl OpenSegment {
         if samples.is_empty() {
             return;
         }
-        self.hold(samples[0]);
-        self.hold_later(&samples[1..]);
+        if self.is_reference_next() {
+            self.hold(samples[0]);
+            self.hold_later(&samples[1..]);
+        } else {
+            self.hold_later(samples);
+        }
     }
 
-    /// Adds the residuals of samples behind others of the segment.
+    /// Adds the residuals of samples of which none is a reference sample.
     fn hold_later(&mut self, samples: &[i64])
-        requires later { is_first self.old ≡ false }
+        requires later { (self.old.setting.preprocess && is_first self.old) ≡ false }
         requires samples { All (IsSample self.old.setting) samples.now }
         requires room { length self.old.residuals + length samples.now ≤ self.old.setting.block * blocks_left self.old.setting self.old.start }
         ensures { self.new ≡ grown_by self.old samples.now }

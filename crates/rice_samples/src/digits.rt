@@ -14,8 +14,7 @@ pub(crate) fn digits_of(x: i64, bits: u32) -> u32
     ensures value { result ≡ twos_complement bits x }
     ensures fits { result < 2 ^ bits }
 {
-    let count = 1i64 << bits;
-    if x < 0 { (x + count) as u32 } else { x as u32 }
+    (x.cast_unsigned() % (1 << bits)) as u32
 }
 
 /// The value with these `bits` binary digits, in two's complement where `signed`.

@@ -7,8 +7,8 @@ use Rattle.rice_code.specs.Coder.{grown, grown_by}
 use Rattle.rice_code.proofs.GrownBy.{grown_cons}
 use Rattle.rice_code.proofs.open_segment.OpenSegment.hold_all.Goals as goal
 
-pub returns : goal.returns
-returns c =
+pub returns-then-is_reference_next : goal.returns-then-is_reference_next
+returns-then-is_reference_next c =
     let old = c.args.self.now in
     let xs = c.args.samples.now in
     let x = slice_index_or xs 0 (pos 0) in

@@ -1,4 +1,4 @@
-use Rattle.std.proofs.Common.{arith, rules, ◌≡◌, ◌+◌, ◌-◌, ◌*◌, ◌<◌, ◌≤◌, ◌++◌, ◌∙◌, ap, sym, subst, false, length, slice_index_or, All, ℕ, ℤ, List, w64, to_z, of_z, pos}
+use Rattle.std.proofs.Common.{arith, rules, ◌≡◌, ◌+◌, ◌-◌, ◌*◌, ◌<◌, ◌≤◌, ◌++◌, ◌∙◌, ◌&&◌, ap, sym, subst, false, length, slice_index_or, All, ℕ, ℤ, List, w64, to_z, of_z, pos}
 use Rattle.std.proofs.lemmas.Int.{to_z-of_z}
 use mir.Val.{SFits}
 use Rattle.rice_samples.specs.Parameters.{IsSample}
@@ -29,7 +29,7 @@ returns c =
     let i = c.self.inside in
     let st : State = record { setting = i.setting; residuals = i.residuals; reference = i.reference; previous = i.previous; start = i.start } in
     let xs = c.args.samples.now in
-    let later : is_first st ≡ false = subst (λ (v : State). is_first v ≡ false) (sym c.self.view_is) c.requires.later in
+    let later : (st.setting.preprocess && is_first st) ≡ false = subst (λ (v : State). (v.setting.preprocess && is_first v) ≡ false) (sym c.self.view_is) c.requires.later in
     let some : 0 < length xs = search (rules, arith) in
     let d = slice_index_or xs (length xs - 1) (pos 0) in
     let r : SFits w64 d = search rules in
