@@ -146,7 +146,7 @@ regroup a b c d =
     sym (append_assoc a (b ++ c) d) ∙ ap (λ z. z ++ d) (sym (append_assoc a b c))
 
 -- digits that come behind the bits
-pub gathered-put : (old new : List ℕ) (n width value : ℕ) → n + width ≤ 8 * length old → width ≤ 32 → value < 2 ^ width
+pub gathered-put : (old new : List ℕ) (n width value : ℕ) → n + width ≤ 8 * length old → width ≤ 56 → value < 2 ^ width
     → slice_index old (n / 8) % 2 ^ (8 - n % 8) ≡ 0
     → take (n / 8 + 8) new ≡ take (length old) (take (n / 8) old ++ to_be_bytes w64 (slice_index old (n / 8) * 2 ^ 56 + value * 2 ^ (64 - (n % 8 + width))))
     → (take (n + width) (bits_of new) ≡ take n (bits_of old) ++ word width value) × (slice_index new ((n + width) / 8) % 2 ^ (8 - (n + width) % 8) ≡ 0)

@@ -68,8 +68,22 @@ impl<const N: usize> BitSink<N> {
         ensures len { length self.new ≡ length self.old + width }
         ensures steps { meter.new ≡ meter.old + width }
     {
+        self.put_long(value as u64, width, meter);
+    }
+
+    /// Appends the `width` binary digits of `value`, at most 56, as `put` does.
+    #[inline]
+    pub fn put_long(&mut self, value: u64, width: u32, meter: &mut Meter)
+        requires width { width ≤ 56 }
+        requires value { value < 2 ^ width }
+        requires room { length self.old + width ≤ 8 * N }
+        requires meter { meter.old + width < 2 ^ 62 }
+        ensures bits { self.new ≡ self.old ++ word width value }
+        ensures len { length self.new ≡ length self.old + width }
+        ensures steps { meter.new ≡ meter.old + width }
+    {
         meter.tick(width as u64);
-        self.put_digits(value as u64, width);
+        self.put_digits(value, width);
     }
 
     /// Appends the fundamental sequence of `m`, `m` zeros and a one, and ticks one for each bit (CCSDS 121.0-B-3, section 3, fundamental sequence).
@@ -82,7 +96,7 @@ impl<const N: usize> BitSink<N> {
         ensures steps { meter.new ≡ meter.old + m + 1 }
     {
         meter.tick(m + 1);
-        if m < 32 {
+        if m < 56 {
             self.put_digits(1, m as u32 + 1);
         } else {
             self.put_long_fs(m);
@@ -102,7 +116,7 @@ impl<const N: usize> BitSink<N> {
     /// Appends the `width` binary digits of `value`, and ticks nothing.
     #[inline]
     fn put_digits(&mut self, value: u64, width: u32)
-        requires width { width ≤ 32 }
+        requires width { width ≤ 56 }
         requires value { value < 2 ^ width }
         requires room { length self.old + width ≤ 8 * N }
         ensures bits { self.new ≡ self.old ++ word width value }

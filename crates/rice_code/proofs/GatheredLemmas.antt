@@ -7,15 +7,11 @@ use Rattle.rice_bits.proofs.EightBytes.{word-mod}
 use Rattle.rice_bits.proofs.Words.{length-word, word-cat, join_below}
 use Rattle.rice_code.specs.Gathered.{IsShort}
 
--- the number of such digits fits 32 bits
-pub is_small : (width value : ℕ) → IsShort width value → value < 2 ^ 32
-is_small width value h = let le : 2 ^ width ≤ 2 ^ 32 = pow-le-pow_right {n = 2} (omega arith) {i = width} {j = 32} h.most in omega (arith, le, h.digits)
-
 pub gathered_len : (width value : ℕ) (bits : List Bool) → word width value ≡ bits → length bits ≡ width
 gathered_len width value bits e = sym (ap length e) ∙ length-word width value
 
 -- one field more
-pub more_fields : (width value more digits joined total : ℕ) → IsShort width value → digits < 2 ^ more → width + more ≤ 32 → joined ≡ value * 2 ^ more + digits → total ≡ width + more → IsShort total joined
+pub more_fields : (width value more digits joined total : ℕ) → IsShort width value → digits < 2 ^ more → width + more ≤ 56 → joined ≡ value * 2 ^ more + digits → total ≡ width + more → IsShort total joined
 more_fields width value more digits joined total h lt le e f = record {
   most = omega arith;
   digits = (let b = join_below width more value digits h.digits lt in let g = ap (λ n. 2 ^ n) f in omega (arith, b, g));
@@ -37,11 +33,10 @@ low_word w d l e = ap (word w) e ∙ word-mod w w d (omega arith)
 pub joined_fits : (width more v l all : ℕ) → v < 2 ^ width → l < 2 ^ more → all ≡ v * 2 ^ more + l → all < 2 ^ (width + more)
 joined_fits width more v l all h k e = let b = join_below width more v l h k in omega (arith, b, e)
 
-pub joined_small : (width more v l all : ℕ) → v < 2 ^ width → l < 2 ^ more → width + more ≤ 32 → all ≡ v * 2 ^ more + l → all < 2 ^ 32
-joined_small width more v l all h k few e =
-    let le : 2 ^ (width + more) ≤ 2 ^ 32 = pow-le-pow_right {n = 2} (omega arith) {i = width + more} {j = 32} few in
-    let b = joined_fits width more v l all h k e in
-    omega (arith, le, b)
+pub joined_small : (width more v l : ℕ) → v < 2 ^ width → l < 2 ^ more → width + more ≤ 56 → v * 2 ^ more + l < 2 ^ 64
+joined_small width more v l h k few =
+    let le : 2 ^ (width + more) ≤ 2 ^ 56 = pow-le-pow_right {n = 2} (omega arith) {i = width + more} {j = 56} few in
+    omega (arith, le, join_below width more v l h k)
 
 pub joined_words : (width more v l all : ℕ) (bits last : List Bool) → l < 2 ^ more → word width v ≡ bits → word more l ≡ last → all ≡ v * 2 ^ more + l → word (width + more) all ≡ bits ++ last
 joined_words width more v l all bits last k e f g = ap (word (width + more)) g ∙ (word-cat width more v l k ∙ (λ i. e i ++ f i))

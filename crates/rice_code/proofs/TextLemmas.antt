@@ -99,6 +99,9 @@ four_added f xs i n a b all h e added same =
     nest : (a b c d e rest : List Bool) → (a ++ (b ++ c ++ d ++ e)) ++ rest ≡ a ++ (b ++ (c ++ (d ++ (e ++ rest))))
     nest a b c d e rest = simp append_assoc
 
+pub two_pairs : (all a b c d : List Bool) → (all ++ (a ++ b)) ++ (c ++ d) ≡ all ++ (a ++ b ++ c ++ d)
+two_pairs all a b c d = simp append_assoc
+
 pub four_fewer : (n i m w : ℕ) → i + 3 < n → m ≡ i + 4 → (n - i) * w ≡ (n - m) * w + 4 * w
 four_fewer n i m w h e = let f : n - i ≡ n - m + 4 = omega arith in ap (λ k. k * w) f ∙ (omega arith)
 

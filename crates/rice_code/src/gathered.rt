@@ -5,7 +5,7 @@ ghost use Rattle.rice_bits.specs.Bits.{word, fundamental_sequence};
 use rice_bits::{BitSink, Meter};
 use std::marker::Model;
 
-/// At most 32 bits that are still to be put into a sink. Clauses see the bits.
+/// At most 56 bits that are still to be put into a sink. Clauses see the bits.
 ///
 /// Its calls are always inlined, so that the bits stay in registers while a data set is written.
 #[derive(Drop)]
@@ -38,8 +38,8 @@ impl Gathered {
 
     /// Adds the `width` binary digits of `value`. The bits before them are put where these have no room with them.
     #[inline(always)]
-    pub fn add(&mut self, value: u32, width: u32, sink: &mut BitSink<16432>, meter: &mut Meter)
-        requires width { width ≤ 32 }
+    pub fn add(&mut self, value: u64, width: u32, sink: &mut BitSink<16432>, meter: &mut Meter)
+        requires width { width ≤ 56 }
         requires value { value < 2 ^ width }
         requires room { length sink.old + length self.old ≤ 131456 }
         requires meter { meter.old + length self.old < 2 ^ 62 }
@@ -47,14 +47,25 @@ impl Gathered {
         ensures len { length sink.new + length self.new ≡ length sink.old + length self.old + width }
         ensures steps { meter.new + length self.new ≡ meter.old + length self.old + width }
     {
-        if self.width + width > 32 {
-            sink.put(self.value as u32, self.width, meter);
-            self.value = value as u64;
-            self.width = width;
-            return;
-        }
+        self.make_room(width, sink, meter);
         self.value = joined(self.value, width, value);
         self.width += width;
+    }
+
+    /// Puts the bits where they have no room with `width` more.
+    #[inline(always)]
+    fn make_room(&mut self, width: u32, sink: &mut BitSink<16432>, meter: &mut Meter)
+        requires width { width ≤ 56 }
+        requires room { length sink.old + length self.old ≤ 131456 }
+        requires meter { meter.old + length self.old < 2 ^ 62 }
+        ensures fits { length self.new + width ≤ 56 }
+        ensures bits { sink.new ++ self.new ≡ sink.old ++ self.old }
+        ensures len { length sink.new + length self.new ≡ length sink.old + length self.old }
+        ensures steps { meter.new + length self.new ≡ meter.old + length self.old }
+    {
+        if self.width + width > 56 {
+            self.put(sink, meter);
+        }
     }
 
     /// Adds the fundamental sequence of `m`.
@@ -66,7 +77,7 @@ impl Gathered {
         ensures len { length sink.new + length self.new ≡ length sink.old + length self.old + m + 1 }
         ensures steps { meter.new + length self.new ≡ meter.old + length self.old + m + 1 }
     {
-        if m < 32 {
+        if m < 56 {
             self.add(1, m + 1, sink, meter);
             return;
         }
@@ -90,7 +101,7 @@ impl Gathered {
     {
         let (a, b, c, d) = m;
         let sum = a as u64 + b as u64 + c as u64 + d as u64;
-        if sum <= 28 {
+        if sum <= 52 {
             self.add(four_ones(a, b, c, d), sum as u32 + 4, sink, meter);
             return;
         }
@@ -110,7 +121,7 @@ impl Gathered {
         ensures len { length sink.new ≡ length sink.old + length self.old }
         ensures steps { meter.new ≡ meter.old + length self.old }
     {
-        sink.put(self.value as u32, self.width, meter);
+        sink.put_long(self.value, self.width, meter);
         self.value = 0;
         self.width = 0;
     }
@@ -118,24 +129,23 @@ impl Gathered {
 
 /// The number whose digits are the fundamental sequences of four small numbers.
 #[inline(always)]
-fn four_ones(a: u32, b: u32, c: u32, d: u32) -> u32
-    requires { a + b + c + d ≤ 28 }
+fn four_ones(a: u32, b: u32, c: u32, d: u32) -> u64
+    requires { a + b + c + d ≤ 52 }
     ensures fits { result < 2 ^ (a + b + c + d + 4) }
     ensures bits { word (a + b + c + d + 4) result ≡ fundamental_sequence a ++ fundamental_sequence b ++ fundamental_sequence c ++ fundamental_sequence d }
 {
     let _first = a;
     let two = joined(1, b + 1, 1);
     let three = joined(two, c + 1, 1);
-    joined(three, d + 1, 1) as u32
+    joined(three, d + 1, 1)
 }
 
 /// A number with so many binary digits behind it.
 #[inline(always)]
-pub fn joined(high: u64, width: u32, low: u32) -> u64
-    requires width { width ≤ 32 }
-    requires high { high < 2 ^ 32 }
-    requires low { low < 2 ^ width }
+pub fn joined(high: u64, width: u32, low: u64) -> u64
+    requires width { width ≤ 56 }
+    requires fits { high * 2 ^ width + low < 2 ^ 64 }
     ensures { result ≡ high * 2 ^ width + low }
 {
-    high * (1 << width) + low as u64
+    high * (1 << width) + low
 }

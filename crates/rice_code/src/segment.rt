@@ -15,23 +15,28 @@ use rice_bits::{BitSink, Meter};
 use rice_samples::{Block, Segment, Setting};
 
 /// The shortest text of a block that is not zero.
+///
+/// It is never inlined, so that the loop over the blocks stays short.
+#[inline(never)]
 fn code_block(
     setting: &Setting,
     reference: Option<u32>,
-    block: &Block<'_>,
+    block: Block<'_>,
     sink: &mut BitSink<16432>,
     meter: &mut Meter,
 )
-    requires sound { IsSound setting.now (told reference block.now) }
-    requires room { length sink.old + cost setting.now (shortest setting.now (told reference block.now)) ≤ 131456 }
-    requires meter { meter.old + cost setting.now (shortest setting.now (told reference block.now)) + setting.now.block * (k_max setting.now + 4) < 2 ^ 62 }
-    ensures bits { sink.new ≡ sink.old ++ text setting.now (shortest setting.now (told reference block.now)) }
-    ensures len { length sink.new ≡ length sink.old + cost setting.now (shortest setting.now (told reference block.now)) }
-    ensures steps_from { meter.old + cost setting.now (shortest setting.now (told reference block.now)) + setting.now.block * (best_split setting.now (told reference block.now) + 3) ≤ meter.new + 1 }
-    ensures steps_to { meter.new ≤ meter.old + cost setting.now (shortest setting.now (told reference block.now)) + setting.now.block * (min (best_split setting.now (told reference block.now) + 1) (k_max setting.now) + 4) }
+    requires sound { IsSound setting.now (told reference block) }
+    requires room { length sink.old + cost setting.now (shortest setting.now (told reference block)) ≤ 131456 }
+    requires meter { meter.old + cost setting.now (shortest setting.now (told reference block)) + setting.now.block * (k_max setting.now + 4) < 2 ^ 62 }
+    ensures bits { sink.new ≡ sink.old ++ text setting.now (shortest setting.now (told reference block.entry)) }
+    ensures len { length sink.new ≡ length sink.old + cost setting.now (shortest setting.now (told reference block.entry)) }
+    ensures steps_from { meter.old + cost setting.now (shortest setting.now (told reference block.entry)) + setting.now.block * (best_split setting.now (told reference block.entry) + 3) ≤ meter.new + 1 }
+    ensures steps_to { meter.new ≤ meter.old + cost setting.now (shortest setting.now (told reference block.entry)) + setting.now.block * (min (best_split setting.now (told reference block.entry) + 1) (k_max setting.now) + 4) }
 {
-    let choice = choose(setting, reference, block, meter);
-    put_block(setting, choice, reference, block, sink, meter);
+    // What a copy of its own says stays in registers from step to step.
+    let own = *setting;
+    let choice = choose(&own, reference, &block, meter);
+    put_block(&own, choice, reference, &block, sink, meter);
 }
 
 /// The text of the zero blocks that wait, if there are any.
@@ -63,24 +68,24 @@ fn code_next(
     first: Option<u32>,
     run: u32,
     reference: Option<u32>,
-    block: &Block<'_>,
+    block: Block<'_>,
     sink: &mut BitSink<16432>,
     meter: &mut Meter,
 ) -> u32
     requires few { run < 64 }
     requires fits { IfSome first (λ v. v < value_count setting.now) }
-    requires sound { IsSound setting.now (told reference block.now) }
-    requires room { is_zero (told reference block.now) ≡ false → length sink.old + length (joined setting.now (waiting_run false first run)) + cost setting.now (shortest setting.now (told reference block.now)) ≤ 131456 }
+    requires sound { IsSound setting.now (told reference block) }
+    requires room { is_zero (told reference block) ≡ false → length sink.old + length (joined setting.now (waiting_run false first run)) + cost setting.now (shortest setting.now (told reference block)) ≤ 131456 }
     requires look { meter.old + setting.now.block < 2 ^ 62 }
-    requires meter { is_zero (told reference block.now) ≡ false → meter.old + length (joined setting.now (waiting_run false first run)) + cost setting.now (shortest setting.now (told reference block.now)) + setting.now.block * (k_max setting.now + 5) < 2 ^ 62 }
-    ensures run_zero { is_zero (told reference block.now) ≡ true → result ≡ run + 1 }
-    ensures bits_zero { is_zero (told reference block.now) ≡ true → sink.new ≡ sink.old }
-    ensures steps_zero { is_zero (told reference block.now) ≡ true → meter.new ≡ meter.old + setting.now.block }
-    ensures run { is_zero (told reference block.now) ≡ false → result ≡ 0 }
-    ensures bits { is_zero (told reference block.now) ≡ false → sink.new ≡ sink.old ++ joined setting.now (waiting_run false first run) ++ text setting.now (shortest setting.now (told reference block.now)) }
-    ensures len { is_zero (told reference block.now) ≡ false → length sink.new ≡ length sink.old + length (joined setting.now (waiting_run false first run)) + cost setting.now (shortest setting.now (told reference block.now)) }
-    ensures steps_from { is_zero (told reference block.now) ≡ false → meter.old + length (joined setting.now (waiting_run false first run)) + cost setting.now (shortest setting.now (told reference block.now)) + setting.now.block * (best_split setting.now (told reference block.now) + 4) ≤ meter.new + 1 }
-    ensures steps_to { is_zero (told reference block.now) ≡ false → meter.new ≤ meter.old + length (joined setting.now (waiting_run false first run)) + cost setting.now (shortest setting.now (told reference block.now)) + setting.now.block * (min (best_split setting.now (told reference block.now) + 1) (k_max setting.now) + 5) }
+    requires meter { is_zero (told reference block) ≡ false → meter.old + length (joined setting.now (waiting_run false first run)) + cost setting.now (shortest setting.now (told reference block)) + setting.now.block * (k_max setting.now + 5) < 2 ^ 62 }
+    ensures run_zero { is_zero (told reference block.entry) ≡ true → result ≡ run + 1 }
+    ensures bits_zero { is_zero (told reference block.entry) ≡ true → sink.new ≡ sink.old }
+    ensures steps_zero { is_zero (told reference block.entry) ≡ true → meter.new ≡ meter.old + setting.now.block }
+    ensures run { is_zero (told reference block.entry) ≡ false → result ≡ 0 }
+    ensures bits { is_zero (told reference block.entry) ≡ false → sink.new ≡ sink.old ++ joined setting.now (waiting_run false first run) ++ text setting.now (shortest setting.now (told reference block.entry)) }
+    ensures len { is_zero (told reference block.entry) ≡ false → length sink.new ≡ length sink.old + length (joined setting.now (waiting_run false first run)) + cost setting.now (shortest setting.now (told reference block.entry)) }
+    ensures steps_from { is_zero (told reference block.entry) ≡ false → meter.old + length (joined setting.now (waiting_run false first run)) + cost setting.now (shortest setting.now (told reference block.entry)) + setting.now.block * (best_split setting.now (told reference block.entry) + 4) ≤ meter.new + 1 }
+    ensures steps_to { is_zero (told reference block.entry) ≡ false → meter.new ≤ meter.old + length (joined setting.now (waiting_run false first run)) + cost setting.now (shortest setting.now (told reference block.entry)) + setting.now.block * (min (best_split setting.now (told reference block.entry) + 1) (k_max setting.now) + 5) }
 {
     if block.is_zero(meter) {
         return run + 1;
@@ -134,7 +139,7 @@ pub fn code_blocks(
             first,
             run,
             reference_of(reference, i),
-            &block,
+            block,
             sink,
             meter,
         );

@@ -8,12 +8,12 @@ use rice_samples::Block;
 
 /// The `width` lowest digits of a number.
 #[inline]
-fn low_digits(value: u32, width: u32) -> u32
+fn low_digits(value: u32, width: u32) -> u64
     requires { width ≤ 32 }
     ensures value { result ≡ value % 2 ^ width }
     ensures fits { result < 2 ^ width }
 {
-    (value as u64 % (1 << width)) as u32
+    value as u64 % (1 << width)
 }
 
 /// The lowest digits of the residuals from number `from` on.
@@ -58,12 +58,12 @@ fn put_low_digits(
     ensures steps { meter.new + length fields.new ≡ meter.old + length fields.old + (length block.now - from) * (width + 1) }
 {
     let end = block.len();
-    if width > 8 {
-        put_each_low(block, from, end, width, fields, sink, meter);
-        return;
-    }
     let fours = from + (end - from) % 4;
     put_each_low(block, from, fours, width, fields, sink, meter);
+    if width > 14 {
+        put_four_wide(block, fours, width, fields, sink, meter);
+        return;
+    }
     put_four_low(block, fours, width, fields, sink, meter);
 }
 
@@ -103,7 +103,7 @@ fn put_four_low(
     sink: &mut BitSink<16432>,
     meter: &mut Meter,
 )
-    requires width { width ≤ 8 }
+    requires width { width ≤ 14 }
     requires from { from ≤ length block.now }
     requires fours { (length block.now - from) % 4 ≡ 0 }
     requires room { length sink.old + length fields.old + (length block.now - from) * width ≤ 131456 }
@@ -118,10 +118,64 @@ fn put_four_low(
     }
 }
 
+/// The lowest digits of the residuals from number `from` on, where four of them are more than a put takes.
+#[inline(always)]
+fn put_four_wide(
+    block: &Block<'_>,
+    from: usize,
+    width: u32,
+    fields: &mut Gathered,
+    sink: &mut BitSink<16432>,
+    meter: &mut Meter,
+)
+    requires width { width ≤ 32 }
+    requires from { from ≤ length block.now }
+    requires fours { (length block.now - from) % 4 ≡ 0 }
+    requires room { length sink.old + length fields.old + (length block.now - from) * width ≤ 131456 }
+    requires meter { meter.old + length fields.old + (length block.now - from) * (width + 1) < 2 ^ 62 }
+    ensures bits { sink.new ++ fields.new ≡ sink.old ++ fields.old ++ flat_map (word width) (drop from block.now) }
+    ensures len { length sink.new + length fields.new ≡ length sink.old + length fields.old + (length block.now - from) * width }
+    ensures steps { meter.new + length fields.new ≡ meter.old + length fields.old + (length block.now - from) * (width + 1) }
+{
+    for i in 0..(block.len() - from) / 4 {
+        let (a, b, c, d) = block.four_at(from + 4 * i, meter);
+        put_wide_pair((a, b), width, fields, sink, meter);
+        put_wide_pair((c, d), width, fields, sink, meter);
+    }
+}
+
+/// Puts the bits that wait, and adds the lowest digits of two numbers.
+#[inline(always)]
+fn put_wide_pair(
+    pair: (u32, u32),
+    width: u32,
+    fields: &mut Gathered,
+    sink: &mut BitSink<16432>,
+    meter: &mut Meter,
+)
+    requires width { width ≤ 32 }
+    requires room { length sink.old + length fields.old + 2 * width ≤ 131456 }
+    requires meter { meter.old + length fields.old + 2 * width < 2 ^ 62 }
+    ensures bits { sink.new ++ fields.new ≡ sink.old ++ fields.old ++ (word width pair.0 ++ word width pair.1) }
+    ensures len { length sink.new + length fields.new ≡ length sink.old + length fields.old + 2 * width }
+    ensures steps { meter.new + length fields.new ≡ meter.old + length fields.old + 2 * width }
+{
+    let first = low_digits(pair.0, width);
+    let second = low_digits(pair.1, width);
+    fields.put(sink, meter);
+    if width <= 28 {
+        fields.add(joined(first, width, second), 2 * width, sink, meter);
+        return;
+    }
+    fields.add(first, width, sink, meter);
+    fields.put(sink, meter);
+    fields.add(second, width, sink, meter);
+}
+
 /// The lowest digits of four numbers, one behind the other.
 #[inline(always)]
-fn four_low(four: (u32, u32, u32, u32), width: u32) -> u32
-    requires { width ≤ 8 }
+fn four_low(four: (u32, u32, u32, u32), width: u32) -> u64
+    requires { width ≤ 14 }
     ensures fits { result < 2 ^ (4 * width) }
     ensures bits { word (4 * width) result ≡ word width four.0 ++ word width four.1 ++ word width four.2 ++ word width four.3 }
 {
@@ -129,9 +183,9 @@ fn four_low(four: (u32, u32, u32, u32), width: u32) -> u32
     let second = low_digits(four.1, width);
     let third = low_digits(four.2, width);
     let last = low_digits(four.3, width);
-    let two = joined(first as u64, width, second);
+    let two = joined(first, width, second);
     let three = joined(two, width, third);
-    joined(three, width, last) as u32
+    joined(three, width, last)
 }
 
 /// The fundamental sequences of the residuals from number `from` on, without their `k` lowest digits.

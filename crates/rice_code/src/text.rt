@@ -33,9 +33,9 @@ fn begin(
     ensures steps { meter.new + length result ≡ meter.old + width + reference_len setting.now reference }
 {
     let mut fields = Gathered::new();
-    fields.add(identifier, width, sink, meter);
+    fields.add(identifier as u64, width, sink, meter);
     if let Some(v) = reference {
-        fields.add(v, setting.bits(), sink, meter);
+        fields.add(v as u64, setting.bits(), sink, meter);
         return fields;
     }
     fields

@@ -9,5 +9,5 @@ use Rattle.rice_code.proofs.segment.code_block.Goals as goal
 pub returns-clause-steps_to : goal.returns-clause-steps_to
 returns-clause-steps_to c =
     let s = c.args.setting.now in
-    let b = told c.args.reference c.args.block.now in
-    steps_least s.block (best_split s b) (k_max s) c.args.meter.now c.choose-choice.new.meter c.put_block.new.meter (cost s (shortest s b)) c.choose-choice.ensures.steps_to c.choose-choice.ensures.steps_limit (omega (arith, ap (cost s) c.choose-choice.ensures.value, c.put_block.ensures.steps_to))
+    let b = told c.args.reference c.args.block in
+    (steps_least s.block (best_split s b) (k_max s) c.args.meter.now c.choose-choice.new.meter c.put_block.new.meter (cost s (shortest s b)) c.choose-choice.ensures.steps_to c.choose-choice.ensures.steps_limit (omega (arith, ap (cost s) c.choose-choice.ensures.value, c.put_block.ensures.steps_to)))

@@ -3,8 +3,8 @@ use Rattle.rice_bits.proofs.Words.{word-nil}
 use Rattle.rice_code.proofs.GatheredLemmas.{gathered_len}
 use Rattle.rice_code.proofs.gathered.Gathered.put.Goals as goal
 
-pub put-requires : goal.put-requires
-put-requires c =
+pub put_long-requires : goal.put_long-requires
+put_long-requires c =
     let i = c.self.inside in
     let len = gathered_len i.width i.value c.args.self.now c.self.view_is in
     (search rules, (c.self.invariant.most, (c.self.invariant.digits, (omega (arith, len, c.requires.room), omega (arith, len, c.requires.meter)))))
