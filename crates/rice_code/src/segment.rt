@@ -33,10 +33,12 @@ fn code_block(
     ensures steps_from { meter.old + cost setting.now (shortest setting.now (told reference block.entry)) + setting.now.block * (best_split setting.now (told reference block.entry) + 3) ≤ meter.new + 1 }
     ensures steps_to { meter.new ≤ meter.old + cost setting.now (shortest setting.now (told reference block.entry)) + setting.now.block * (min (best_split setting.now (told reference block.entry) + 1) (k_max setting.now) + 4) }
 {
-    // What a copy of its own says stays in registers from step to step.
+    // What a copy and a count of its own say stays in registers from step to step.
     let own = *setting;
-    let choice = choose(&own, reference, &block, meter);
-    put_block(&own, choice, reference, &block, sink, meter);
+    let mut steps = Meter::new();
+    let choice = choose(&own, reference, &block, &mut steps);
+    put_block(&own, choice, reference, &block, sink, &mut steps);
+    meter.tick(steps.steps());
 }
 
 /// The text of the zero blocks that wait, if there are any.

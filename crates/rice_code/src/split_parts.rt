@@ -34,29 +34,6 @@ pub fn put_low(
     ensures len { length sink.new + length fields.new ≡ length sink.old + length fields.old + (length block.now - from) * width }
     ensures steps { meter.new + length fields.new ≡ meter.old + length fields.old + (length block.now - from) * (width + 1) }
 {
-    // A count of its own stays in a register.
-    let mut steps = Meter::new();
-    put_low_digits(block, from, width, fields, sink, &mut steps);
-    meter.tick(steps.steps());
-}
-
-#[inline(always)]
-fn put_low_digits(
-    block: &Block<'_>,
-    from: usize,
-    width: u32,
-    fields: &mut Gathered,
-    sink: &mut BitSink<16432>,
-    meter: &mut Meter,
-)
-    requires width { width ≤ 32 }
-    requires from { from ≤ length block.now }
-    requires room { length sink.old + length fields.old + (length block.now - from) * width ≤ 131456 }
-    requires meter { meter.old + length fields.old + (length block.now - from) * (width + 1) < 2 ^ 62 }
-    ensures bits { sink.new ++ fields.new ≡ sink.old ++ fields.old ++ flat_map (word width) (drop from block.now) }
-    ensures len { length sink.new + length fields.new ≡ length sink.old + length fields.old + (length block.now - from) * width }
-    ensures steps { meter.new + length fields.new ≡ meter.old + length fields.old + (length block.now - from) * (width + 1) }
-{
     let end = block.len();
     let fours = from + (end - from) % 4;
     put_each_low(block, from, fours, width, fields, sink, meter);
