@@ -13,7 +13,8 @@ use std::marker::Model;
 /// The residuals of a block, 8, 16, 32 or 64 of them, lent by a segment. Clauses see their list.
 ///
 /// Each look at a residual is a step: the calls below count as many as the block has residuals,
-/// `at` counts one, and `four_at` four. No other call tells anything of the residuals.
+/// `at` counts one, `four_at` four, and `first_stop` says how many. No other call tells anything of
+/// the residuals.
 #[derive(Drop)]
 pub struct Block<'a> {
     items: &'a [u32],
