@@ -56,24 +56,24 @@ one_high v p h =
     sym (ap (λ k. v / 2 ^ k) j ∙ (ap (λ n. n / 2 ^ t.0) (sym whole) ∙ div-mul-add 1 (2 ^ t.0) (v - 2 ^ t.0) below))
 
 -- a number is its first digits and the others
-pub word-parts : (n m : ℕ) → n ≤ 64 → word 64 m ≡ word n (m / 2 ^ (64 - n)) ++ word (64 - n) m
-word-parts n m h =
-    let e : n + (64 - n) ≡ 64 = omega arith in
-    ap (λ k. word k m) (sym e) ∙ (word-split n (64 - n) m ∙ ap (λ v. word n (m / 2 ^ (64 - n)) ++ v) (word-mod (64 - n) (64 - n) m (omega arith)))
+pub word-parts : (size n m : ℕ) → n ≤ size → word size m ≡ word n (m / 2 ^ (size - n)) ++ word (size - n) m
+word-parts size n m h =
+    let e : n + (size - n) ≡ size = omega arith in
+    ap (λ k. word k m) (sym e) ∙ (word-split n (size - n) m ∙ ap (λ v. word n (m / 2 ^ (size - n)) ++ v) (word-mod (size - n) (size - n) m (omega arith)))
 
 -- the others stand at the front when the first are moved out
-pub word-moved : (n m : ℕ) → n ≤ 64 → word 64 (m * 2 ^ n % 2 ^ 64) ≡ word (64 - n) m ++ replicate n false
-word-moved n m h =
-    let e : (64 - n) + n ≡ 64 = omega arith in
+pub word-moved : (size n m : ℕ) → n ≤ size → word size (m * 2 ^ n % 2 ^ size) ≡ word (size - n) m ++ replicate n false
+word-moved size n m h =
+    let e : (size - n) + n ≡ size = omega arith in
     let plain : m * 2 ^ n + 0 ≡ m * 2 ^ n = omega arith in
-    word-mod 64 64 (m * 2 ^ n) (omega arith)
-    ∙ (ap (λ k. word k (m * 2 ^ n)) (sym e) ∙ (ap (word (64 - n + n)) (sym plain)
-    ∙ (word-cat (64 - n) n m 0 (pow_pos n) ∙ ap (λ v. word (64 - n) m ++ v) (word-zero n))))
+    word-mod size size (m * 2 ^ n) (omega arith)
+    ∙ (ap (λ k. word k (m * 2 ^ n)) (sym e) ∙ (ap (word (size - n + n)) (sym plain)
+    ∙ (word-cat (size - n) n m 0 (pow_pos n) ∙ ap (λ v. word (size - n) m ++ v) (word-zero n))))
 
-pub take-front : (n m : ℕ) → n ≤ 64 → take n (word 64 m) ≡ word n (m / 2 ^ (64 - n))
-take-front n m h =
-    let front = word n (m / 2 ^ (64 - n)) in
-    ap (take n) (word-parts n m h) ∙ (ap (λ k. take k (front ++ word (64 - n) m)) (sym (length-word n (m / 2 ^ (64 - n)))) ∙ take-append_seam front (word (64 - n) m))
+pub take-front : (size n m : ℕ) → n ≤ size → take n (word size m) ≡ word n (m / 2 ^ (size - n))
+take-front size n m h =
+    let front = word n (m / 2 ^ (size - n)) in
+    ap (take n) (word-parts size n m h) ∙ (ap (λ k. take k (front ++ word (size - n) m)) (sym (length-word n (m / 2 ^ (size - n)))) ∙ take-append_seam front (word (size - n) m))
 
 -- the digits up to and with the first 1
 pub first_run : (m : ℕ) → count_leading_zeros 64 m < 64 → m < 2 ^ 64

@@ -1,9 +1,12 @@
 -- The bits that were given and not yet taken.
-use Rattle.std.proofs.Common.{◌≡◌, ℕ, ◌+◌, ◌-◌, ◌*◌, ◌/◌, ◌%◌, ◌^◌, ◌<◌, ◌≤◌, Bool, false, List, [], ◌∷◌, ◌++◌, length, take, drop, set, replicate, length-append, refl, sym, ◌∙◌, ap, arith, take-take}
-use Rattle.std.specs.Prelude.{flat_map, slice_range}
+use Rattle.std.proofs.Common.{◌≡◌, ℕ, ◌+◌, ◌-◌, ◌*◌, ◌/◌, ◌%◌, ◌^◌, ◌<◌, ◌≤◌, Bool, false, List, [], ◌∷◌, ◌++◌, length, take, drop, set, replicate, length-append, refl, sym, ◌∙◌, ap, arith, take-take, append_assoc}
+use Rattle.std.specs.Prelude.{flat_map, slice_range, bit_or, ◌==◌, ◌&&◌}
+use Rattle.std.proofs.lemmas.Grind.{flat_map-append}
+use Rattle.rice_bits.specs.Reader.{is_blank}
+use Rattle.rice_bits.proofs.Blank.{blank-append, ones-none}
 use Rattle.std.specs.Int.{to_be_bytes, w64}
 use Rattle.std.proofs.Math.Seq.{drop-append_seam, take-add, take-append_seam}
-use Rattle.std.proofs.lemmas.List.{drop-drop, drop-take, length-drop, length-take-le, take-append-drop, take-append-le}
+use Rattle.std.proofs.lemmas.List.{append-nil, drop-drop, drop-take, length-drop, length-take-le, take-append-drop, take-append-le}
 use Rattle.rice_bits.specs.Bits.{word, bits_of}
 use Rattle.rice_bits.specs.Window.{IsWindow, window_bits}
 use Rattle.rice_bits.specs.declared.window.Window.{Window}
@@ -84,16 +87,16 @@ bits-ahead bytes at v h eight =
     let size : s + (64 - s) ≡ 64 = omega arith in
     let place : 8 * q + s ≡ at = omega arith in
     let rest : word (64 - s) v ≡ take (64 - s) (drop at (bits_of bytes)) =
-    sym (drop-seam front (word (64 - s) v) s (length-word s (v / 2 ^ (64 - s)))) ∙ (ap (drop s) (sym (word-parts s v (omega arith)) ∙ all)
+    sym (drop-seam front (word (64 - s) v) s (length-word s (v / 2 ^ (64 - s)))) ∙ (ap (drop s) (sym (word-parts 64 s v (omega arith)) ∙ all)
     ∙ (ap (λ k. drop s (take k behind)) (sym size) ∙ (drop-take s (64 - s) behind ∙ ap (take (64 - s)) (drop-drop s (8 * q) (bits_of bytes) ∙ ap (λ k. drop k (bits_of bytes)) place)))) in
-    ap (take 57) (word-moved s v (omega arith))
+    ap (take 57) (word-moved 64 s v (omega arith))
     ∙ (take-append-le 57 (word (64 - s) v) (replicate s false) (omega (arith, length-word (64 - s) v))
     ∙ (ap (take 57) rest ∙ take-take 57 (64 - s) (drop at (bits_of bytes)) (omega arith)))
 
 -- the first of these bits
 pub first-ahead : (bits : List Bool) (n r : ℕ) → n ≤ 57 → take 57 (word 64 r) ≡ take 57 bits → word n (r / 2 ^ (64 - n)) ≡ take n bits
 first-ahead bits n r h e =
-    sym (take-front n r (omega arith)) ∙ (sym (take-take n 57 (word 64 r) h) ∙ (ap (take n) e ∙ take-take n 57 bits h))
+    sym (take-front 64 n r (omega arith)) ∙ (sym (take-take n 57 (word 64 r) h) ∙ (ap (take n) e ∙ take-take n 57 bits h))
 
 pub length-words : (width : ℕ) (xs : List ℕ) → length (flat_map (word width) xs) ≡ length xs * width
 length-words width [] = omega arith
@@ -114,3 +117,53 @@ words-more width bits from at now done v place lt before step =
 pub front-waits : (w : Window) (n : ℕ) → n ≤ w.end - w.at → take n (window_bits w) ≡ take n (drop w.at (bits_of w.buffer))
 unfolding window_bits
 front-waits w n h = take-take n (w.end - w.at) (drop w.at (bits_of w.buffer)) h
+
+-- a word behind the first digits of 32
+word-behind : (w s x : ℕ) → s + w ≤ 32 → word w (x * 2 ^ s % 2 ^ 32 / 2 ^ (32 - w)) ≡ take w (drop s (word 32 x))
+word-behind w s x h =
+    let front = word s (x / 2 ^ (32 - s)) in
+    let rest : drop s (word 32 x) ≡ word (32 - s) x =
+    ap (drop s) (word-parts 32 s x (omega arith)) ∙ drop-seam front (word (32 - s) x) s (length-word s (x / 2 ^ (32 - s))) in
+    sym (take-front 32 w (x * 2 ^ s % 2 ^ 32) (omega arith)) ∙ (ap (take w) (word-moved 32 s x (omega arith))
+    ∙ (take-append-le w (word (32 - s) x) (replicate s false) (omega (arith, length-word (32 - s) x)) ∙ ap (take w) (sym rest)))
+
+-- four words in a row
+pub four-behind : (w x : ℕ) → w ≤ 8
+    → flat_map (word w) ((x * 2 ^ 0 % 2 ^ 32 / 2 ^ (32 - w)) ∷ (x * 2 ^ w % 2 ^ 32 / 2 ^ (32 - w)) ∷ (x * 2 ^ (2 * w) % 2 ^ 32 / 2 ^ (32 - w)) ∷ (x * 2 ^ (3 * w) % 2 ^ 32 / 2 ^ (32 - w)) ∷ [])
+    ≡ take (4 * w) (word 32 x)
+four-behind w x h =
+    let bits = word 32 x in
+    let two : w + w ≡ 2 * w = omega arith in
+    let three : 2 * w + w ≡ 3 * w = omega arith in
+    let four : 3 * w + w ≡ 4 * w = omega arith in
+    let a = word-behind w 0 x (omega arith) in
+    let b = word-behind w w x (omega arith) in
+    let c = word-behind w (2 * w) x (omega arith) in
+    let d = word-behind w (3 * w) x (omega arith) in
+    rw (a, b, c, d) (joined (take w bits) (take w (drop w bits)) (take w (drop (2 * w) bits)) (take w (drop (3 * w) bits))
+    ∙ (ap (λ k. (k ++ take w (drop (2 * w) bits)) ++ take w (drop (3 * w) bits)) (sym (take-add w w bits) ∙ ap (λ n. take n bits) two)
+    ∙ (ap (λ k. k ++ take w (drop (3 * w) bits)) (sym (take-add (2 * w) w bits) ∙ ap (λ n. take n bits) three)
+    ∙ (sym (take-add (3 * w) w bits) ∙ ap (λ n. take n bits) four))))
+  where
+    joined : (p q r t : List Bool) → p ++ (q ++ (r ++ (t ++ []))) ≡ ((p ++ q) ++ r) ++ t
+    joined p q r t = ap (λ z. p ++ (q ++ (r ++ z))) (append-nil t) ∙ (sym (append_assoc p q (r ++ t)) ∙ sym (append_assoc (p ++ q) r t))
+
+-- words, and those behind them
+pub words-joined : (width : ℕ) (bits : List Bool) (from at m k : ℕ) (xs ys : List ℕ) → at ≡ from + m * width
+    → flat_map (word width) xs ≡ take (m * width) (drop from bits) → flat_map (word width) ys ≡ take (k * width) (drop at bits)
+    → flat_map (word width) (xs ++ ys) ≡ take ((m + k) * width) (drop from bits)
+words-joined width bits from at m k xs ys place first second =
+    let n : m * width + k * width ≡ (m + k) * width = grind arith in
+    let rest : flat_map (word width) ys ≡ take (k * width) (drop (m * width) (drop from bits)) =
+    second ∙ ap (take (k * width)) (ap (λ a. drop a bits) place ∙ sym (drop-drop (m * width) from bits)) in
+    flat_map-append (word width) xs ys ∙ ((λ j. first j ++ rest j) ∙ (sym (take-add (m * width) (k * width) (drop from bits)) ∙ ap (λ a. take a (drop from bits)) n))
+
+pub words-blank : (width a b : ℕ) (xs ys : List ℕ) → is_blank (flat_map (word width) xs) ≡ (a == 0) → is_blank (flat_map (word width) ys) ≡ (b == 0)
+    → is_blank (flat_map (word width) (xs ++ ys)) ≡ (bit_or a b == 0)
+words-blank width a b xs ys first second =
+    ap is_blank (flat_map-append (word width) xs ys) ∙ (blank-append (flat_map (word width) xs) (flat_map (word width) ys) ∙ ((λ j. first j && second j) ∙ sym (ones-none a b)))
+
+-- four words at the front of 57 bits
+pub four-ahead : (width r : ℕ) (bits : List Bool) (four : List ℕ) → width ≤ 8 → take 57 (word 64 r) ≡ take 57 bits
+    → flat_map (word width) four ≡ take (4 * width) (word 32 (r / 2 ^ 32)) → flat_map (word width) four ≡ take (4 * width) bits
+four-ahead width r bits four h ahead e = e ∙ (ap (take (4 * width)) (first-ahead bits 32 r (omega arith) ahead) ∙ take-take (4 * width) 32 bits (omega arith))

@@ -3,7 +3,27 @@ ghost use Rattle.std.specs.Prelude.{◌≡◌, ℕ, ◌+◌, ◌-◌, ◌*◌, �
 ghost use Rattle.rice_code.specs.ReadSets.{joined_parts};
 
 /// Puts high parts before low parts of k bits, and says whether all residuals that they make are below `count`.
+#[inline(always)]
 pub fn join_all(highs: &[u32], k: u32, count: u64, lows: &mut [u32]) -> bool
+    requires same { length lows.old ≡ length highs.now }
+    requires k { k ≤ 29 }
+    requires count { (0 < count) × (count ≤ 2 ^ 32) }
+    requires highs { All (λ h. h ≤ (2 ^ 32 - 1) / 2 ^ k) highs.now }
+    requires lows { All (λ l. l < 2 ^ k) lows.old }
+    ensures joined { lows.new ≡ joined_parts k highs.now lows.old }
+    ensures below { result ≡ true → All (λ d. d < count) (joined_parts k highs.now lows.old) }
+    ensures not_below { result ≡ false → All (λ d. d < count) (joined_parts k highs.now lows.old) → ⊥ }
+{
+    // The loop is laid out for blocks of 8, with a reference and without.
+    match highs.len() {
+        7 => join_each(&highs[..7], k, count, lows),
+        8 => join_each(&highs[..8], k, count, lows),
+        _ => join_each(highs, k, count, lows),
+    }
+}
+
+#[inline(always)]
+fn join_each(highs: &[u32], k: u32, count: u64, lows: &mut [u32]) -> bool
     requires same { length lows.old ≡ length highs.now }
     requires k { k ≤ 29 }
     requires count { (0 < count) × (count ≤ 2 ^ 32) }
@@ -25,6 +45,20 @@ pub fn join_all(highs: &[u32], k: u32, count: u64, lows: &mut [u32]) -> bool
 
 /// Whether all residuals are below `count`.
 pub fn are_below(residuals: &[u32], count: u64) -> bool
+    requires { (0 < count) × (count ≤ 2 ^ 32) }
+    ensures below { result ≡ true → All (λ d. d < count) residuals.now }
+    ensures not_below { result ≡ false → All (λ d. d < count) residuals.now → ⊥ }
+{
+    // As above.
+    match residuals.len() {
+        7 => each_is_below(&residuals[..7], count),
+        8 => each_is_below(&residuals[..8], count),
+        _ => each_is_below(residuals, count),
+    }
+}
+
+#[inline(always)]
+fn each_is_below(residuals: &[u32], count: u64) -> bool
     requires { (0 < count) × (count ≤ 2 ^ 32) }
     ensures below { result ≡ true → All (λ d. d < count) residuals.now }
     ensures not_below { result ≡ false → All (λ d. d < count) residuals.now → ⊥ }

@@ -7,7 +7,24 @@ use crate::Setting;
 use crate::preprocessor::{from_pattern, number_with};
 
 /// Writes the samples with these residuals: the first behind the sample `p`, each other behind the one before it.
+#[inline(always)]
 pub fn restore_all(setting: &Setting, p: i64, residuals: &[u32], samples: &mut [i64])
+    requires before { IsSample setting.now p }
+    requires residuals { All (λ d. d < value_count setting.now) residuals.now }
+    requires len { length samples.old ≡ length residuals.now }
+    ensures legal { All (IsSample setting.now) samples.new }
+    ensures ranks { ranks setting.now p samples.new ≡ residuals.now }
+{
+    // The loop is laid out for blocks of 8, with a reference and without.
+    match samples.len() {
+        7 => restore_each(setting, p, residuals, &mut samples[..7]),
+        8 => restore_each(setting, p, residuals, &mut samples[..8]),
+        _ => restore_each(setting, p, residuals, samples),
+    }
+}
+
+#[inline(always)]
+fn restore_each(setting: &Setting, p: i64, residuals: &[u32], samples: &mut [i64])
     requires before { IsSample setting.now p }
     requires residuals { All (λ d. d < value_count setting.now) residuals.now }
     requires len { length samples.old ≡ length residuals.now }
@@ -25,6 +42,20 @@ pub fn restore_all(setting: &Setting, p: i64, residuals: &[u32], samples: &mut [
 
 /// Writes the samples with these n-bit patterns.
 pub fn from_patterns(setting: &Setting, patterns: &[u32], samples: &mut [i64])
+    requires patterns { All (λ v. v < value_count setting.now) patterns.now }
+    requires len { length samples.old ≡ length patterns.now }
+    ensures legal { All (IsSample setting.now) samples.new }
+    ensures patterns { map (pattern_of setting.now) samples.new ≡ patterns.now }
+{
+    // The loop is laid out for blocks of 8.
+    match samples.len() {
+        8 => from_each_pattern(setting, patterns, &mut samples[..8]),
+        _ => from_each_pattern(setting, patterns, samples),
+    }
+}
+
+#[inline(always)]
+fn from_each_pattern(setting: &Setting, patterns: &[u32], samples: &mut [i64])
     requires patterns { All (λ v. v < value_count setting.now) patterns.now }
     requires len { length samples.old ≡ length patterns.now }
     ensures legal { All (IsSample setting.now) samples.new }

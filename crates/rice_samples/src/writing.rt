@@ -14,13 +14,15 @@ pub fn write_spellings(setting: &Setting, samples: &[i64], bytes: &mut [u8])
     requires len { length bytes.old ≡ width_of setting.now * length samples.now }
     ensures { bytes.new ≡ spellings setting.now samples.now }
 {
-    // The loop is laid out for each of these: with a known width and order it writes a sample at one stroke.
-    match (setting.width(), setting.msb()) {
-        (1, msb) => write_words(setting, samples, 1, msb, bytes),
-        (2, false) => write_words(setting, samples, 2, false, bytes),
-        (2, true) => write_words(setting, samples, 2, true, bytes),
-        (4, false) => write_words(setting, samples, 4, false, bytes),
-        (width, msb) => write_words(setting, samples, width as usize, msb, bytes),
+    // The loop is laid out for each of these: with a known width and order it writes a sample at one stroke, with a known length
+    // a block.
+    match (setting.width(), setting.msb(), samples.len()) {
+        (1, msb, 8) => write_words(setting, &samples[..8], 1, msb, bytes),
+        (1, msb, _) => write_words(setting, samples, 1, msb, bytes),
+        (2, false, _) => write_words(setting, samples, 2, false, bytes),
+        (2, true, _) => write_words(setting, samples, 2, true, bytes),
+        (4, false, _) => write_words(setting, samples, 4, false, bytes),
+        (width, msb, _) => write_words(setting, samples, width as usize, msb, bytes),
     }
 }
 

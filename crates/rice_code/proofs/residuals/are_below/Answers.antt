@@ -1,15 +1,18 @@
-use Rattle.std.proofs.Common.{◌≡◌, ◌<◌, arith, take, subst}
+use Rattle.std.proofs.Common.{◌<◌, arith, subst, sym}
 use Rattle.std.specs.Prelude.{All}
 use Rattle.std.proofs.lemmas.List.{take_all}
-use Rattle.rice_code.proofs.JoinedParts.{below-more}
 use Rattle.rice_code.proofs.residuals.are_below.Goals as goal
 
-pub loop-i-preserved : goal.loop-i-preserved
-loop-i-preserved c =
-    let more = below-more c.args.count c.args.residuals.now c.loop-i.i c.loop-i.all c.loop-i-test.true c.requires.0 c.loop-i.invariant.below c.loop-i.invariant.not_below in
-    record { below = more.0; not_below = more.1 }
+pub returns-in-7-clause-below : goal.returns-in-7-clause-below
+returns-in-7-clause-below c e = subst (λ xs. All (λ d. d < c.args.count) xs) (take_all 7 c.args.residuals.now (omega (arith, c.in-7.is))) (c.each_is_below.ensures.below e)
 
-pub returns-clause-below : goal.returns-clause-below
-returns-clause-below c e =
-    let whole : take c.loop-i.i c.args.residuals.now ≡ c.args.residuals.now = take_all c.loop-i.i c.args.residuals.now (omega (arith, c.loop-i-test.false)) in
-    subst (λ xs. All (λ d. d < c.args.count) xs) whole (c.loop-i.invariant.below e)
+pub returns-in-7-clause-not_below : goal.returns-in-7-clause-not_below
+returns-in-7-clause-not_below c e all =
+    c.each_is_below.ensures.not_below e (subst (λ xs. All (λ d. d < c.args.count) xs) (sym (take_all 7 c.args.residuals.now (omega (arith, c.in-7.is)))) all)
+
+pub returns-in-8-clause-below : goal.returns-in-8-clause-below
+returns-in-8-clause-below c e = subst (λ xs. All (λ d. d < c.args.count) xs) (take_all 8 c.args.residuals.now (omega (arith, c.in-8.is))) (c.each_is_below-in-8.ensures.below e)
+
+pub returns-in-8-clause-not_below : goal.returns-in-8-clause-not_below
+returns-in-8-clause-not_below c e all =
+    c.each_is_below-in-8.ensures.not_below e (subst (λ xs. All (λ d. d < c.args.count) xs) (sym (take_all 8 c.args.residuals.now (omega (arith, c.in-8.is)))) all)

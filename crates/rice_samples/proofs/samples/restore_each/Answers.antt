@@ -4,7 +4,7 @@ use Rattle.rice_samples.specs.Parameters.{IsSample, level, value_count}
 use Rattle.rice_samples.specs.Residuals.{rank, rank_below, last_of}
 use Rattle.rice_samples.proofs.Readings.{one_legal}
 use Rattle.rice_samples.proofs.Restoring.{one_restored, last_restored}
-use Rattle.rice_samples.proofs.samples.restore_all.Goals as goal
+use Rattle.rice_samples.proofs.samples.restore_each.Goals as goal
 
 pub loop-i-init : goal.loop-i-init
 loop-i-init c = record {

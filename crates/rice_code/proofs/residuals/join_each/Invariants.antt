@@ -1,7 +1,7 @@
 use Rattle.std.proofs.Common.{◌≡◌, ◌<◌, take, drop, true, false}
 use Rattle.std.specs.Prelude.{All}
 use Rattle.rice_code.specs.ReadSets.{joined_parts}
-use Rattle.rice_code.proofs.residuals.join_all.Given as goal
+use Rattle.rice_code.proofs.residuals.join_each.Given as goal
 
 abbrev pub invariant-loop-i : goal.invariant-loop-i
 invariant-loop-i l = record {

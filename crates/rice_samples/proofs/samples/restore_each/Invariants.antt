@@ -1,7 +1,7 @@
 use Rattle.std.proofs.Common.{◌≡◌, ◌≤◌, take, All}
 use Rattle.rice_samples.specs.Parameters.{IsSample, level}
 use Rattle.rice_samples.specs.Residuals.{ranks, last_of}
-use Rattle.rice_samples.proofs.samples.restore_all.Given as goal
+use Rattle.rice_samples.proofs.samples.restore_each.Given as goal
 
 abbrev pub invariant-loop-i : goal.invariant-loop-i
 invariant-loop-i l = record {

@@ -1,6 +1,6 @@
 use Rattle.std.proofs.Common.{◌≡◌, ◌<◌, take, true, false}
 use Rattle.std.specs.Prelude.{All}
-use Rattle.rice_code.proofs.residuals.are_below.Given as goal
+use Rattle.rice_code.proofs.residuals.each_is_below.Given as goal
 
 abbrev pub invariant-loop-i : goal.invariant-loop-i
 invariant-loop-i l = record {

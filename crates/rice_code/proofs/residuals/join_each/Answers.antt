@@ -4,7 +4,7 @@ use Rattle.std.proofs.Math.Dec.{leb}
 use Rattle.std.proofs.lemmas.List.{take_all}
 use Rattle.rice_code.specs.ReadSets.{joined_parts}
 use Rattle.rice_code.proofs.JoinedParts.{below-more, join-more, length-joined}
-use Rattle.rice_code.proofs.residuals.join_all.Goals as goal
+use Rattle.rice_code.proofs.residuals.join_each.Goals as goal
 
 pub overflow_add-residual : goal.overflow_add-residual
 overflow_add-residual c =

@@ -3,7 +3,7 @@ use Rattle.std.proofs.lemmas.Int.{to_z-of_z}
 use Rattle.rice_samples.specs.Parameters.{IsSample}
 use Rattle.rice_samples.proofs.Readings.{one_legal}
 use Rattle.rice_samples.proofs.Restoring.{one_of_pattern}
-use Rattle.rice_samples.proofs.samples.from_patterns.Goals as goal
+use Rattle.rice_samples.proofs.samples.from_each_pattern.Goals as goal
 
 pub loop-i-preserved : goal.loop-i-preserved
 loop-i-preserved c =

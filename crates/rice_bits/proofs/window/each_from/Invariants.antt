@@ -2,7 +2,7 @@ use Rattle.std.proofs.Common.{◌≡◌, ◌+◌, ◌*◌, ◌^◌, ◌<◌, tak
 use Rattle.std.specs.Prelude.{All, flat_map, ◌==◌}
 use Rattle.rice_bits.specs.Bits.{word, bits_of}
 use Rattle.rice_bits.specs.Reader.{is_blank}
-use Rattle.rice_bits.proofs.window.words_from.Given as goal
+use Rattle.rice_bits.proofs.window.each_from.Given as goal
 
 abbrev pub invariant-loop-i : goal.invariant-loop-i
 invariant-loop-i l = record {

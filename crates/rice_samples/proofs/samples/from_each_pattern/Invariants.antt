@@ -1,7 +1,7 @@
 use Rattle.std.proofs.Common.{◌≡◌, take, map, All}
 use Rattle.rice_samples.specs.Parameters.{IsSample}
 use Rattle.rice_samples.specs.Residuals.{pattern}
-use Rattle.rice_samples.proofs.samples.from_patterns.Given as goal
+use Rattle.rice_samples.proofs.samples.from_each_pattern.Given as goal
 
 abbrev pub invariant-loop-i : goal.invariant-loop-i
 invariant-loop-i l = record {
