@@ -1,7 +1,7 @@
 -- Pieces that a reader takes one after another.
-use Rattle.std.proofs.Common.{◌≡◌, ℕ, zero, suc, ◌+◌, ◌*◌, ◌/◌, ◌<◌, ◌≤◌, Bool, true, false, List, [], ◌∷◌, ◌++◌, length, replicate, set, take, refl, sym, ◌∙◌, ap, arith, append_assoc, length-append, Option, None, sum, ◌^◌, subst}
+use Rattle.std.proofs.Common.{◌≡◌, ℕ, zero, suc, ◌+◌, ◌-◌, ◌*◌, ◌/◌, ◌<◌, ◌≤◌, Bool, true, false, List, [], ◌∷◌, ◌++◌, length, replicate, set, take, drop, refl, sym, ◌∙◌, ap, arith, append_assoc, length-append, Option, None, sum, ◌^◌, subst}
 use Rattle.std.specs.Prelude.{All, flat_map, ◌&&◌}
-use Rattle.std.proofs.lemmas.List.{append-nil, get_or_append_left, get_or-append-add, length-set, length-take, length-take-le, take-take, take_all, take_more_set}
+use Rattle.std.proofs.lemmas.List.{append-nil, drop_all, length-drop, get_or_append_left, get_or-append-add, length-set, length-take, length-take-le, take-take, take_all, take_more_set}
 use Rattle.std.proofs.lemmas.Grind.{get_or_head}
 use Rattle.std.proofs.lemmas.Slice.{take-put_mid}
 use borrow.Rule.Slice.PartMut.{put_mid}
@@ -18,7 +18,7 @@ use Rattle.rice_bits.specs.declared.fault.BitFault.{BitFault}
 use Rattle.rice_samples.specs.Pairs.{pair_code, pair_codes}
 use Rattle.rice_samples.proofs.Readings.{flat_map-push}
 use Rattle.rice_code.proofs.Covers.{both}
-use Rattle.rice_code.specs.Fields.{Row, WordsRead, CountRow, CountsRead, PairRow, ones}
+use Rattle.rice_code.specs.Fields.{Row, CountRow, CountsRead, PairRow, ones}
 
 pub row-none : {I : Type 0} (left : I → Option (List ℕ)) (failed : I → ℕ) (f : ℕ → List Bool) (P : ℕ → Type 0) (r : Reader I) (before : List ℕ)
     → r.refusal ≡ None → Row left failed f P r r 0 before before
@@ -103,6 +103,12 @@ put_front a k some xs ys h few =
     ∙ (ap (take (a + some)) (take-put_mid a k xs ys (a + length ys) refl h)
     ∙ (ap (λ n. take (n + some) (take a xs ++ ys)) (sym (length-take-le a xs h)) ∙ take-append-add (take a xs) ys some))
 
+-- the rest of a list that was written over
+pub put_rest : (a : ℕ) (xs ys : List ℕ) → a ≤ length xs → put_mid a (length xs - a) xs ys ≡ take a xs ++ ys
+put_rest a xs ys h =
+    let rest : drop (length xs - a) (drop a xs) ≡ [] = drop_all (length xs - a) (drop a xs) (omega (arith, length-drop a xs)) in
+    ap (λ z. take a xs ++ (ys ++ z)) rest ∙ ap (λ z. take a xs ++ z) (append-nil ys)
+
 -- some pieces, and then others
 pub row-append : {I : Type 0} (left : I → Option (List ℕ)) (failed : I → ℕ) (f : ℕ → List Bool) (P : ℕ → Type 0) (old mid new : Reader I) (m n : ℕ) (before between after : List ℕ)
     → Row left failed f P old mid m before between → Row left failed f P mid new n between after → Row left failed f P old new (m + n) before after
@@ -134,28 +140,34 @@ pub stops-first : {I : Type 0} (left : I → Option (List ℕ)) (failed : I → 
 stops-first left failed piece old mid new none bits f e t s =
     stops-append left failed old mid new [] bits f (subst (λ xs. Takes left failed old mid (flat_map piece xs)) e t) s
 
--- some words more
-pub row-words : {I : Type 0} (left : I → Option (List ℕ)) (failed : I → ℕ) (old mid new : Reader I) (width done some : ℕ) (front part after : List ℕ)
-    → Row left failed (word width) (λ v. v < 2 ^ width) old mid done [] front → WordsRead left failed mid new width some part → after ≡ front ++ take some part
-    → Row left failed (word width) (λ v. v < 2 ^ width) old new (done + some) [] after
-row-words left failed old mid new width done some front part after r q e =
-    row-append left failed (word width) (λ v. v < 2 ^ width) old mid new done some [] front after r
-    (record { values = take some part; len = length-take-le some part q.within; each = q.each; appended = e; takes = q.takes })
+-- one word more
+pub row-word : {I : Type 0} (left : I → Option (List ℕ)) (failed : I → ℕ) (old mid new : Reader I) (width done v : ℕ) (words : List ℕ) → done < length words
+    → Row left failed (word width) (λ v. v < 2 ^ width) old mid done [] (take done words) → v < 2 ^ width → Takes left failed mid new (word width v)
+    → Row left failed (word width) (λ v. v < 2 ^ width) old new (done + 1) [] (take (done + 1) (set words done v))
+row-word left failed old mid new width done v words lt r fits t =
+    row-append left failed (word width) (λ v. v < 2 ^ width) old mid new done 1 [] (take done words) (take (done + 1) (set words done v)) r
+    (record {
+      values = v ∷ [];
+      len = refl;
+      each = λ i d below. subst (λ x. x < 2 ^ width) (sym (get_or_head v [] i d (omega arith))) fits;
+      appended = take_more_set words done v lt;
+      takes = subst (λ bits. Takes left failed mid new bits) (sym (append-nil (word width v))) t;
+    })
 
--- a single word, behind none
-pub words-one : {I : Type 0} (left : I → Option (List ℕ)) (failed : I → ℕ) (old mid new : Reader I) (width : ℕ) (words none : List ℕ) (v : ℕ)
-    → 0 < length words → none ≡ [] → Takes left failed old mid (flat_map (word width) none) → v < 2 ^ width → Takes left failed mid new (word width v)
-    → WordsRead left failed old new width 1 (set words 0 v)
-words-one left failed old mid new width words none v some e before fits t =
-    let nothing : flat_map (word width) none ≡ [] = ap (flat_map (word width)) e in
-    let one : take 1 (set words 0 v) ≡ v ∷ [] = take_more_set words 0 v some in
-    record {
-      positive = omega arith;
-      within = omega (arith, some, length-set words 0 v);
-      each = subst (λ xs. All (λ x. x < 2 ^ width) xs) (sym one) (λ i d lt. subst (λ x. x < 2 ^ width) (sym (get_or_head v [] i d (omega arith))) fits);
-      takes = subst (λ bits. Takes left failed old new bits) (sym (ap (flat_map (word width)) one ∙ append-nil (word width v)))
-          (takes-append left failed old mid new [] (word width v) (subst (λ bits. Takes left failed old mid bits) nothing before) t);
-    }
+-- words that waited together, and those behind them
+pub row-waiting : {I : Type 0} (left : I → Option (List ℕ)) (failed : I → ℕ) (old new : Reader I) (width some : ℕ) (words : List ℕ) → some ≤ length words
+    → All (λ v. v < 2 ^ width) (take some words) → Takes left failed old new (flat_map (word width) (take some words))
+    → Row left failed (word width) (λ v. v < 2 ^ width) old new some [] (take some words)
+row-waiting left failed old new width some words within each t =
+    record { values = take some words; len = length-take-le some words within; each = each; appended = refl; takes = t }
+
+pub row-both : {I : Type 0} (left : I → Option (List ℕ)) (failed : I → ℕ) (old mid new : Reader I) (width m n count : ℕ) (front rest after : List ℕ) → m + n ≡ count → after ≡ front ++ rest
+    → Row left failed (word width) (λ v. v < 2 ^ width) old mid m [] front → Row left failed (word width) (λ v. v < 2 ^ width) mid new n [] rest
+    → Row left failed (word width) (λ v. v < 2 ^ width) old new count [] after
+row-both left failed old mid new width m n count front rest after e whole r q =
+    let both = row-append left failed (word width) (λ v. v < 2 ^ width) old mid new m n [] front after r
+    (record { values = q.values; len = q.len; each = q.each; appended = whole ∙ ap (λ z. front ++ z) q.appended; takes = q.takes }) in
+    subst (λ k. Row left failed (word width) (λ v. v < 2 ^ width) old new k [] after) e both
 
 pub length-words : (width : ℕ) (vs : List ℕ) → length (flat_map (word width) vs) ≡ length vs * width
 length-words width [] = omega arith

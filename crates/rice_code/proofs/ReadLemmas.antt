@@ -1,7 +1,7 @@
 -- What is read of a block behind its identifier.
 use Rattle.std.proofs.Common.{◌≡◌, ℕ, zero, suc, ◌+◌, ◌-◌, ◌*◌, ◌/◌, ◌%◌, ◌^◌, ◌<◌, ◌≤◌, Bool, true, false, List, [], ◌∷◌, ◌++◌, length, refl, sym, ◌∙◌, ap, subst, arith, append_assoc, length-append, replicate, take, drop, length-drop, Option, Some, None, ◌⊎◌}
 use Rattle.std.specs.Prelude.{All, flat_map, is_some, slice_index, OnSome, sum}
-use Rattle.std.proofs.lemmas.List.{append-nil, drop_all, length-take, length-take-le}
+use Rattle.std.proofs.lemmas.List.{append-nil, length-take, length-take-le}
 use Rattle.rice_bits.specs.Bits.{word, fundamental_sequence}
 use Rattle.rice_bits.specs.Reader.{Reader, Takes, Stops}
 use Rattle.rice_bits.specs.declared.fault.BitFault.{BitFault}
@@ -17,7 +17,7 @@ use Rattle.rice_code.specs.Forms.{IsForm, IsReference, IsBlock}
 use Rattle.rice_code.specs.Fields.{Row, CountRow, PairRow, ones}
 use Rattle.rice_code.specs.ReadSets.{BlockRead, BlockCut, reference_place, joined_parts}
 use Rattle.rice_samples.proofs.PairLemmas.{count_pairs}
-use Rattle.rice_code.proofs.FieldLemmas.{length-words, ones-append, ones-zeros, ones-sequence, ones-sequences}
+use Rattle.rice_code.proofs.FieldLemmas.{put_rest, length-words, ones-append, ones-zeros, ones-sequence, ones-sequences}
 use Rattle.rice_code.proofs.JoinedParts.{length-joined, high_pieces, low_pieces, highs_small}
 use Rattle.std.proofs.lemmas.Nat.{pow_pos}
 use borrow.Rule.Slice.PartMut.{put_mid}
@@ -289,9 +289,7 @@ as_many n xs zs e h = length-take-le (length (take n xs)) zs (omega (arith, e, l
 
 -- coded residuals that are written behind the reference place
 pub placed : (first : ℕ) (r : Option ℕ) (xs ys : List ℕ) → take first xs ≡ reference_place r → first ≤ length xs → put_mid first (length xs - first) xs ys ≡ reference_place r ++ ys
-placed first r xs ys e h =
-    let rest : drop (length xs - first) (drop first xs) ≡ [] = drop_all (length xs - first) (drop first xs) (omega (arith, length-drop first xs)) in
-    (λ j. e j ++ (ys ++ rest j)) ∙ ap (λ z. reference_place r ++ z) (append-nil ys)
+placed first r xs ys e h = put_rest first xs ys h ∙ ap (λ z. z ++ ys) e
 
 pub zero-place : (r : Option ℕ) → is_some r ≡ true → 0 ∷ [] ≡ reference_place r
 zero-place None h = absurd cc

@@ -1,6 +1,6 @@
 -- What the pieces of a coded data set are read by.
-use Rattle.std.specs.Prelude.{◌≡◌, ℕ, suc, All, Option, length, flat_map, take, sum, ◌+◌, ◌-◌, ◌*◌, ◌^◌, ◌<◌, ◌≤◌, Bool, true, false, List, [], ◌∷◌, ◌++◌}
-use Rattle.rice_bits.specs.Bits.{fundamental_sequence, word}
+use Rattle.std.specs.Prelude.{◌≡◌, ℕ, suc, All, Option, length, flat_map, sum, ◌+◌, ◌-◌, ◌*◌, ◌^◌, ◌<◌, ◌≤◌, Bool, true, false, List, [], ◌∷◌, ◌++◌}
+use Rattle.rice_bits.specs.Bits.{fundamental_sequence}
 use Rattle.rice_bits.specs.Reader.{Reader, Takes}
 use Rattle.rice_samples.specs.Pairs.{pair_codes}
 
@@ -29,13 +29,6 @@ pub record Row {I : Type 0} (left : I → Option (List ℕ)) (failed : I → ℕ
   pub each : All P values
   pub appended : after ≡ before ++ values
   pub takes : Takes left failed old new (flat_map piece values)
-
--- A reader took some words, which were written to the first places of a list.
-pub record WordsRead {I : Type 0} (left : I → Option (List ℕ)) (failed : I → ℕ) (old new : Reader I) (width some : ℕ) (words : List ℕ) : Type 0 where
-  pub positive : 0 < some
-  pub within : some ≤ length words
-  pub each : All (λ v. v < 2 ^ width) (take some words)
-  pub takes : Takes left failed old new (flat_map (word width) (take some words))
 
 -- A reader took fundamental sequences, one for each of so many numbers. The numbers are told where none was found above `most`.
 pub record CountsRead {I : Type 0} (left : I → Option (List ℕ)) (failed : I → ℕ) (old new : Reader I) (most : ℕ) (small : Bool) (count : ℕ) (told : List ℕ) : Type 0 where

@@ -2,40 +2,35 @@
 ghost use Rattle.std.specs.Prelude.{◌≡◌, ℕ, ◌+◌, ◌-◌, ◌*◌, ◌/◌, ◌^◌, ◌<◌, ◌≤◌, Bool, false, List, [], ◌++◌, length, replicate, take, None, IfOk, IfErr, OnOk};
 ghost use Rattle.rice_bits.specs.Bits.{word, fundamental_sequence};
 ghost use Rattle.rice_bits.specs.Reader.{Stops};
-ghost use Rattle.rice_code.specs.Fields.{HasRoom, AreCounted, Row, WordsRead, CountRow, CountsRead, PairRow, ones};
+ghost use Rattle.rice_code.specs.Fields.{HasRoom, AreCounted, Row, CountRow, CountsRead, PairRow, ones};
 
 use crate::pair::pair_of;
 use crate::residuals::are_below;
 use rice_bits::{BitFault, BitReader, Intake, Meter};
 
-/// Reads some words, one at least, and writes them to the first places. It answers how many.
-#[inline]
-fn read_some_words<I: Intake>(
+/// Reads as many words as `words` has places, one by one.
+#[inline(never)]
+fn read_each_word<I: Intake>(
     reader: &mut BitReader<I>,
     meter: &mut Meter,
     width: u32,
     words: &mut [u32],
-) -> Result<usize, BitFault>
+) -> Result<(), BitFault>
     requires going { reader.old.refusal ≡ None }
     requires room { HasRoom meter.old reader.old.taken }
     requires width { width ≤ 32 }
-    requires some { 0 < length words.old }
-    ensures ok { IfOk result (λ some. WordsRead I.left I.failed reader.old reader.new width some words.new) }
-    ensures err { IfErr result (λ f. (bits : List Bool) × (length bits < width) × Stops I.left I.failed reader.old reader.new bits f) }
+    ensures ok { OnOk result (Row I.left I.failed (word width) (λ v. v < 2 ^ width) reader.old reader.new (length words.old) [] words.new) }
+    ensures err { IfErr result (λ f. (bits : List Bool) × (length bits < length words.old * width) × Stops I.left I.failed reader.old reader.new bits f) }
     ensures steps { meter.new + reader.old.taken ≡ meter.old + reader.new.taken }
     ensures limit { reader.new.taken ≤ 2 ^ 52 }
 {
-    let some = reader.take_waiting(width, words, meter);
-    if some > 0 {
-        return Ok(some);
-    }
-    match reader.take(width, meter) {
-        Ok(value) => {
-            words[0] = value;
-            Ok(1)
+    for done in 0..words.len() {
+        match reader.take(width, meter) {
+            Ok(value) => words[done] = value,
+            Err(fault) => return Err(fault),
         }
-        Err(fault) => Err(fault),
     }
+    Ok(())
 }
 
 /// Reads as many words as `words` has places.
@@ -54,12 +49,12 @@ pub fn read_words<I: Intake>(
     ensures steps { meter.new + reader.old.taken ≡ meter.old + reader.new.taken }
     ensures limit { reader.new.taken ≤ 2 ^ 52 }
 {
-    let mut done = 0;
-    while done < words.len() {
-        match read_some_words(reader, meter, width, &mut words[done..]) {
-            Ok(some) => done += some,
-            Err(fault) => return Err(fault),
-        }
+    let some = reader.take_waiting(width, words, meter);
+    if some == words.len() {
+        return Ok(());
+    }
+    if let Err(fault) = read_each_word(reader, meter, width, &mut words[some..]) {
+        return Err(fault);
     }
     Ok(())
 }

@@ -1,4 +1,4 @@
-use Rattle.std.proofs.Common.{◌≡◌, ◌+◌, ◌*◌, ◌∙◌, arith, ap, sym, take, drop, length, length-append}
+use Rattle.std.proofs.Common.{◌+◌, ◌*◌, ◌∙◌, arith, ap, sym, take, drop, length, length-append}
 use Rattle.rice_bits.specs.Bits.{bits_of}
 use Rattle.rice_bits.proofs.WindowLemmas.{words-blank, words-joined}
 use Rattle.rice_bits.proofs.window.words_from.Goals as goal

@@ -1,33 +1,19 @@
-use Rattle.std.proofs.Common.{arith, ◌^◌, ◌<◌, [], length, refl, rules, take}
-use Rattle.rice_bits.specs.Bits.{word}
-use Rattle.rice_code.proofs.FieldLemmas.{row-none, row-words, row-whole, put_front, part_within, words-stop}
+use Rattle.std.proofs.Common.{◌^◌, ◌<◌, [], arith, length, take}
+use Rattle.rice_code.proofs.FieldLemmas.{put_rest, row-both, row-waiting, words-stop}
 use Rattle.rice_code.proofs.fields.read_words.Goals as goal
-
-pub loop-done-init : goal.loop-done-init
-loop-done-init g c = record {
-  row = row-none g.I.Intake.left g.I.Intake.failed (word c.args.width) (λ v. v < 2 ^ c.args.width) c.args.reader.now [] c.requires.going;
-  steps = refl;
-  limit = c.requires.room.limit;
-  within = omega arith;
-}
 
 pub returns-in-Err-clause-err : goal.returns-in-Err-clause-err
 returns-in-Err-clause-err g c =
+    let waiting = c.take_waiting-some in
     let e = c.in-Err.ensures.err in
-    words-stop g.I.Intake.left g.I.Intake.failed c.args.width (λ v. v < 2 ^ c.args.width) c.args.reader.now c.loop-done.reader c.read_some_words.new.reader c.loop-done.done 1 (length c.args.words.now) [] (take c.loop-done.done c.loop-done.words)
-    e.0 c.in-Err.fault c.loop-done.invariant.row e.2 (omega (arith, e.1)) (omega (arith, c.loop-done-test.true, c.loop-done.auto.words))
+    let row = row-waiting g.I.Intake.left g.I.Intake.failed c.args.reader.now waiting.new.self c.args.width waiting.result waiting.new.words waiting.ensures.within waiting.ensures.fit waiting.ensures.takes in
+    words-stop g.I.Intake.left g.I.Intake.failed c.args.width (λ v. v < 2 ^ c.args.width) c.args.reader.now waiting.new.self c.read_each_word.new.reader waiting.result _ (length c.args.words.now) [] (take waiting.result waiting.new.words)
+    e.0 c.in-Err.fault row e.2 e.1 (omega (arith, waiting.auto.words, waiting.ensures.within, c.read_each_word.auto.words))
 
 pub returns-clause-ok : goal.returns-clause-ok
 returns-clause-ok g c =
-    row-whole g.I.Intake.left g.I.Intake.failed (word c.args.width) (λ v. v < 2 ^ c.args.width) c.args.reader.now c.loop-done.reader c.loop-done.done (length c.args.words.now) [] c.loop-done.words
-    c.loop-done.invariant.row (omega (arith, c.loop-done.invariant.within, c.loop-done-test.false, c.loop-done.auto.words)) c.loop-done.auto.words
-
-pub loop-done-preserved : goal.loop-done-preserved
-loop-done-preserved g c = record {
-  row = row-words g.I.Intake.left g.I.Intake.failed c.args.reader.now c.loop-done.reader c.read_some_words.new.reader c.args.width c.loop-done.done c.in-Ok.some (take c.loop-done.done c.loop-done.words) c.read_some_words.new.words _
-      c.loop-done.invariant.row c.in-Ok.ensures.ok
-      (put_front c.loop-done.done _ c.in-Ok.some c.loop-done.words c.read_some_words.new.words (search rules) c.in-Ok.ensures.ok.within);
-  steps = omega (arith, c.in-Ok.ensures.steps, c.loop-done.invariant.steps);
-  limit = c.in-Ok.ensures.limit;
-  within = omega (arith, c.in-Ok.ensures.ok.within, part_within _ _ _ c.read_some_words.auto.words, c.loop-done-test.true, c.loop-done.auto.words);
-}
+    let waiting = c.take_waiting-some in
+    let rest = c.read_each_word.new.words in
+    let row = row-waiting g.I.Intake.left g.I.Intake.failed c.args.reader.now waiting.new.self c.args.width waiting.result waiting.new.words waiting.ensures.within waiting.ensures.fit waiting.ensures.takes in
+    row-both g.I.Intake.left g.I.Intake.failed c.args.reader.now waiting.new.self c.read_each_word.new.reader c.args.width waiting.result _ (length c.args.words.now) (take waiting.result waiting.new.words) rest _
+    (omega (arith, waiting.auto.words, waiting.ensures.within, c.read_each_word.auto.words)) (put_rest waiting.result waiting.new.words rest waiting.ensures.within) row c.in_default.ensures.ok

@@ -1,15 +1,11 @@
-use Rattle.std.proofs.Common.{◌+◌, ◌-◌, ◌≡◌, ◌^◌, ◌<◌, ◌≤◌, [], length, take}
+use Rattle.std.proofs.Common.{◌+◌, ◌≡◌, ◌^◌, ◌<◌, ◌≤◌, [], take}
 use Rattle.rice_bits.specs.Bits.{word}
 use Rattle.rice_code.specs.Fields.{Row}
-use Rattle.rice_code.proofs.fields.read_words.Given as goal
+use Rattle.rice_code.proofs.fields.read_each_word.Given as goal
 
 abbrev pub invariant-loop-done : goal.invariant-loop-done
 invariant-loop-done g l = record {
   row : Row g.I.Intake.left g.I.Intake.failed (word l.width) (λ v. v < 2 ^ l.width) l.fn.reader l.reader l.done [] (take l.done l.words);
   steps : l.meter + l.fn.reader.taken ≡ l.fn.meter + l.reader.taken;
   limit : l.reader.taken ≤ 2 ^ 52;
-  within : l.done ≤ length l.fn.words;
 }
-
-abbrev pub decreases-loop-done : goal.decreases-loop-done
-decreases-loop-done g l = length l.words - l.done
