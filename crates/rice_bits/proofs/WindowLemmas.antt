@@ -6,13 +6,12 @@ use Rattle.rice_bits.specs.Reader.{is_blank}
 use Rattle.rice_bits.proofs.Blank.{blank-append, ones-none}
 use Rattle.std.specs.Int.{to_be_bytes, w64}
 use Rattle.std.proofs.Math.Seq.{drop-append_seam, take-add, take-append_seam}
-use Rattle.std.proofs.lemmas.List.{append-nil, drop-drop, drop-take, length-drop, length-take-le, take-append-drop, take-append-le}
+use Rattle.std.proofs.lemmas.List.{append-nil, drop-drop, drop-take, length-drop, length-take-le, take-append-drop, take-append-le, take_more_set}
 use Rattle.rice_bits.specs.Bits.{word, bits_of}
 use Rattle.rice_bits.specs.Window.{IsWindow, window_bits}
 use Rattle.rice_bits.specs.declared.window.Window.{Window}
 use Rattle.rice_bits.proofs.Bytes.{bits_of-append, length-bits_of}
 use Rattle.rice_bits.proofs.EightBytes.{bits_of-eight}
-use Rattle.rice_bits.proofs.Parting.{pieces-more}
 use Rattle.rice_bits.proofs.Runs.{take-front, word-moved, word-parts}
 use Rattle.rice_bits.proofs.Words.{length-word}
 
@@ -102,16 +101,24 @@ pub length-words : (width : ℕ) (xs : List ℕ) → length (flat_map (word widt
 length-words width [] = omega arith
 length-words width (x ∷ xs) = omega (arith, length-append (word width x) (flat_map (word width) xs), length-word width x, length-words width xs)
 
+-- words, and those behind them
+pub words-joined : (width : ℕ) (bits : List Bool) (from at m k : ℕ) (xs ys : List ℕ) → at ≡ from + m * width
+    → flat_map (word width) xs ≡ take (m * width) (drop from bits) → flat_map (word width) ys ≡ take (k * width) (drop at bits)
+    → flat_map (word width) (xs ++ ys) ≡ take ((m + k) * width) (drop from bits)
+words-joined width bits from at m k xs ys place first second =
+    let n : m * width + k * width ≡ (m + k) * width = grind arith in
+    let rest : flat_map (word width) ys ≡ take (k * width) (drop (m * width) (drop from bits)) =
+    second ∙ ap (take (k * width)) (ap (λ a. drop a bits) place ∙ sym (drop-drop (m * width) from bits)) in
+    flat_map-append (word width) xs ys ∙ ((λ j. first j ++ rest j) ∙ (sym (take-add (m * width) (k * width) (drop from bits)) ∙ ap (λ a. take a (drop from bits)) n))
+
 -- one more word, from the place behind those before it
 pub words-more : (width : ℕ) (bits : List Bool) (from at : ℕ) (now : List ℕ) (done v : ℕ) → at ≡ from + done * width → done < length now
     → flat_map (word width) (take done now) ≡ take (done * width) (drop from bits) → word width v ≡ take width (drop at bits)
     → flat_map (word width) (take (done + 1) (set now done v)) ≡ take ((done + 1) * width) (drop from bits)
 words-more width bits from at now done v place lt before step =
-    let one : word width v ≡ take width (drop (done * width) (drop from bits)) =
-    step ∙ ap (take width) (ap (λ k. drop k bits) place ∙ sym (drop-drop (done * width) from bits)) in
-    let n : done * width + width ≡ (done + 1) * width = grind arith in
-    pieces-more (word width) now done v lt ∙ ((λ j. before j ++ one j)
-    ∙ (sym (take-add (done * width) width (drop from bits)) ∙ ap (λ k. take k (drop from bits)) n))
+    let n : width ≡ 1 * width = omega arith in
+    let one : flat_map (word width) (v ∷ []) ≡ take (1 * width) (drop at bits) = append-nil (word width v) ∙ (step ∙ ap (λ k. take k (drop at bits)) n) in
+    ap (flat_map (word width)) (take_more_set now done v lt) ∙ words-joined width bits from at done 1 (take done now) (v ∷ []) place before one
 
 -- the first bits that wait
 pub front-waits : (w : Window) (n : ℕ) → n ≤ w.end - w.at → take n (window_bits w) ≡ take n (drop w.at (bits_of w.buffer))
@@ -148,16 +155,7 @@ four-behind w x h =
     joined : (p q r t : List Bool) → p ++ (q ++ (r ++ (t ++ []))) ≡ ((p ++ q) ++ r) ++ t
     joined p q r t = ap (λ z. p ++ (q ++ (r ++ z))) (append-nil t) ∙ (sym (append_assoc p q (r ++ t)) ∙ sym (append_assoc (p ++ q) r t))
 
--- words, and those behind them
-pub words-joined : (width : ℕ) (bits : List Bool) (from at m k : ℕ) (xs ys : List ℕ) → at ≡ from + m * width
-    → flat_map (word width) xs ≡ take (m * width) (drop from bits) → flat_map (word width) ys ≡ take (k * width) (drop at bits)
-    → flat_map (word width) (xs ++ ys) ≡ take ((m + k) * width) (drop from bits)
-words-joined width bits from at m k xs ys place first second =
-    let n : m * width + k * width ≡ (m + k) * width = grind arith in
-    let rest : flat_map (word width) ys ≡ take (k * width) (drop (m * width) (drop from bits)) =
-    second ∙ ap (take (k * width)) (ap (λ a. drop a bits) place ∙ sym (drop-drop (m * width) from bits)) in
-    flat_map-append (word width) xs ys ∙ ((λ j. first j ++ rest j) ∙ (sym (take-add (m * width) (k * width) (drop from bits)) ∙ ap (λ a. take a (drop from bits)) n))
-
+-- words and those behind them have no 1 where neither have
 pub words-blank : (width a b : ℕ) (xs ys : List ℕ) → is_blank (flat_map (word width) xs) ≡ (a == 0) → is_blank (flat_map (word width) ys) ≡ (b == 0)
     → is_blank (flat_map (word width) (xs ++ ys)) ≡ (bit_or a b == 0)
 words-blank width a b xs ys first second =

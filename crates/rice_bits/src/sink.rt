@@ -71,7 +71,7 @@ impl<const N: usize> BitSink<N> {
         self.put_long(value as u64, width, meter);
     }
 
-    /// Appends the `width` binary digits of `value`, at most 56, as `put` does.
+    /// Appends the `width` binary digits of `value`, at most 56, most significant first, and ticks one for each.
     #[inline]
     pub fn put_long(&mut self, value: u64, width: u32, meter: &mut Meter)
         requires width { width ≤ 56 }

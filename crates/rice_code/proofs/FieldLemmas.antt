@@ -13,7 +13,8 @@ use Rattle.std.proofs.Math.Seq.{take-append-add}
 use Rattle.rice_bits.specs.Bits.{word, fundamental_sequence}
 use Rattle.rice_bits.specs.Reader.{Reader, Takes, Stops}
 use Rattle.rice_bits.proofs.ReaderLemmas.{takes-none, takes-append, stops-append}
-use Rattle.rice_bits.proofs.Words.{length-word, length-fundamental_sequence}
+use Rattle.rice_bits.proofs.WindowLemmas.{length-words}
+use Rattle.rice_bits.proofs.Words.{length-fundamental_sequence}
 use Rattle.rice_bits.specs.declared.fault.BitFault.{BitFault}
 use Rattle.rice_samples.specs.Pairs.{pair_code, pair_codes}
 use Rattle.rice_samples.proofs.Readings.{flat_map-push}
@@ -168,10 +169,6 @@ row-both left failed old mid new width m n count front rest after e whole r q =
     let both = row-append left failed (word width) (λ v. v < 2 ^ width) old mid new m n [] front after r
     (record { values = q.values; len = q.len; each = q.each; appended = whole ∙ ap (λ z. front ++ z) q.appended; takes = q.takes }) in
     subst (λ k. Row left failed (word width) (λ v. v < 2 ^ width) old new k [] after) e both
-
-pub length-words : (width : ℕ) (vs : List ℕ) → length (flat_map (word width) vs) ≡ length vs * width
-length-words width [] = omega arith
-length-words width (v ∷ vs) = omega (arith, length-append (word width v) (flat_map (word width) vs), length-word width v, length-words width vs)
 
 few : (done some count width short : ℕ) → done + some ≤ count → short < some * width → done * width + short < count * width
 few done some count width short h k =

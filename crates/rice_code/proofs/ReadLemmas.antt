@@ -17,7 +17,8 @@ use Rattle.rice_code.specs.Forms.{IsForm, IsReference, IsBlock}
 use Rattle.rice_code.specs.Fields.{Row, CountRow, PairRow, ones}
 use Rattle.rice_code.specs.ReadSets.{BlockRead, BlockCut, reference_place, joined_parts}
 use Rattle.rice_samples.proofs.PairLemmas.{count_pairs}
-use Rattle.rice_code.proofs.FieldLemmas.{put_rest, length-words, ones-append, ones-zeros, ones-sequence, ones-sequences}
+use Rattle.rice_bits.proofs.WindowLemmas.{length-words}
+use Rattle.rice_code.proofs.FieldLemmas.{put_rest, ones-append, ones-zeros, ones-sequence, ones-sequences}
 use Rattle.rice_code.proofs.JoinedParts.{length-joined, high_pieces, low_pieces, highs_small}
 use Rattle.std.proofs.lemmas.Nat.{pow_pos}
 use borrow.Rule.Slice.PartMut.{put_mid}

@@ -22,6 +22,7 @@ pub fn join_all(highs: &[u32], k: u32, count: u64, lows: &mut [u32]) -> bool
     }
 }
 
+/// The same, with a loop over parts of any number.
 #[inline(always)]
 fn join_each(highs: &[u32], k: u32, count: u64, lows: &mut [u32]) -> bool
     requires same { length lows.old ≡ length highs.now }
@@ -57,6 +58,7 @@ pub fn are_below(residuals: &[u32], count: u64) -> bool
     }
 }
 
+/// The same, with a loop over residuals of any number.
 #[inline(always)]
 fn each_is_below(residuals: &[u32], count: u64) -> bool
     requires { (0 < count) × (count ≤ 2 ^ 32) }

@@ -76,7 +76,7 @@ impl Block<'_> {
 
     /// The first `k`, up to `limit`, at which one digit more takes no more than `price` off the sum of the residuals
     /// without their `k` lowest binary digits, and this sum. It ticks for a look at each sum up to the next, if that is
-    /// not above `limit`, also where the first of them tells enough of others.
+    /// not above `limit`, even where it gets by with fewer.
     #[inline]
     pub fn first_stop(&self, limit: u32, price: u64, meter: &mut Meter) -> (u32, u64)
         requires limit { limit ≤ 29 }

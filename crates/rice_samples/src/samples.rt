@@ -23,6 +23,7 @@ pub fn restore_all(setting: &Setting, p: i64, residuals: &[u32], samples: &mut [
     }
 }
 
+/// The same, with a loop over samples of any number.
 #[inline(always)]
 fn restore_each(setting: &Setting, p: i64, residuals: &[u32], samples: &mut [i64])
     requires before { IsSample setting.now p }
@@ -54,6 +55,7 @@ pub fn from_patterns(setting: &Setting, patterns: &[u32], samples: &mut [i64])
     }
 }
 
+/// The same, with a loop over samples of any number.
 #[inline(always)]
 fn from_each_pattern(setting: &Setting, patterns: &[u32], samples: &mut [i64])
     requires patterns { All (λ v. v < value_count setting.now) patterns.now }
