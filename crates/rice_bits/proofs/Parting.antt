@@ -1,12 +1,11 @@
 -- Numbers that are written to places one after another, and fundamental sequences that are taken so from the front of a number's digits.
-use Rattle.std.proofs.Common.{◌≡◌, ℕ, suc, ◌+◌, ◌/◌, ◌%◌, ◌^◌, ◌<◌, ◌≤◌, Bool, false, List, [], ◌∷◌, ◌++◌, length, take, drop, set, refl, sym, ◌∙◌, ap, subst, arith, append_assoc, length-append, inl, inr, ◌-◌, ◌*◌, take-take}
+use Rattle.std.proofs.Common.{◌≡◌, ℕ, suc, ◌+◌, ◌/◌, ◌%◌, ◌^◌, ◌<◌, ◌≤◌, Bool, false, List, [], ◌∷◌, ◌++◌, length, take, drop, set, refl, sym, ◌∙◌, ap, subst, arith, append_assoc, length-append, inl, inr, ◌-◌, ◌*◌}
 use Rattle.std.specs.Prelude.{All, flat_map, ◌==◌, ◌&&◌}
 use Rattle.std.proofs.lemmas.Bool.Decides.{nat_tests}
 use Rattle.std.proofs.lemmas.List.{length-set, append-nil, take_more_set, drop-set-lt, drop-drop}
 use Rattle.std.proofs.lemmas.List.Elements.{All-push}
 use Rattle.std.proofs.lemmas.Grind.{flat_map-append}
 use Rattle.std.proofs.lemmas.Nat.{leading_top, mod-mul-add, mod_below, pow-add, pow_pos, shl_below, shr_split}
-use Rattle.std.proofs.Math.Seq.{take-append_seam}
 use Rattle.std.proofs.lemmas.Bool.{cases_lt}
 use Rattle.std.proofs.Math.Nat.{mul-div_cancel, mul-le-mul_right, pow-le-pow_right}
 use lib.Count.{count_leading_zeros}
@@ -27,22 +26,21 @@ pieces-more piece now done v lt =
     ap (flat_map piece) (take_more_set now done v lt)
     ∙ (flat_map-append piece (take done now) (v ∷ []) ∙ ap (λ z. flat_map piece (take done now) ++ z) (append-nil (piece v)))
 
-pub parted-none : (digits count : ℕ) (xs : List ℕ) → digits < 2 ^ count → AreParted digits count xs xs digits 0 0
-parted-none digits count xs h =
-    let all : count ≡ count - 0 = omega arith in
+pub parted-none : (front : ℕ) (xs : List ℕ) → front < 2 ^ 64 → AreParted front xs xs front 0 0
+parted-none front xs h =
     record {
       within = omega arith;
       each = λ i d lt. absurd (omega arith);
       rest = refl;
       few = omega arith;
-      below = subst (λ k. digits < 2 ^ k) all h;
-      bits = ap (λ k. word k digits) all;
+      below = h;
+      bits = refl;
     }
 
-pub parted-more : (digits count : ℕ) (old now : List ℕ) (d e used n done v : ℕ)
-    → AreParted digits count old now d used done → done < length now → v < 64 → n ≤ count → e < 2 ^ (count - n)
-    → word (count - used) d ≡ fundamental_sequence v ++ word (count - n) e → AreParted digits count old (set now done v) e n (done + 1)
-parted-more digits count old now d e used n done v p lt holds few below step =
+pub parted-more : (front : ℕ) (old now : List ℕ) (d e used n done v : ℕ)
+    → AreParted front old now d used done → done < length now → v < 64 → n ≤ 64 → e < 2 ^ (64 - n)
+    → word (64 - used) d ≡ fundamental_sequence v ++ word (64 - n) e → AreParted front old (set now done v) e n (done + 1)
+parted-more front old now d e used n done v p lt holds few below step =
     let before = flat_map fundamental_sequence (take done now) in
     record {
       within = omega (arith, lt, length-set now done v);
@@ -50,23 +48,14 @@ parted-more digits count old now d e used n done v p lt holds few below step =
       rest = drop-set-lt (done + 1) now done v (omega arith) ∙ (sym (drop-drop 1 done now) ∙ (ap (λ zs. drop 1 zs) p.rest ∙ drop-drop 1 done old));
       few = few;
       below = below;
-      bits = p.bits ∙ (ap (λ z. before ++ z) step ∙ (sym (append_assoc before (fundamental_sequence v) (word (count - n) e))
-          ∙ ap (λ z. z ++ word (count - n) e) (sym (pieces-more fundamental_sequence now done v lt))));
+      bits = p.bits ∙ (ap (λ z. before ++ z) step ∙ (sym (append_assoc before (fundamental_sequence v) (word (64 - n) e))
+          ∙ ap (λ z. z ++ word (64 - n) e) (sym (pieces-more fundamental_sequence now done v lt))));
     }
 
-pub length-parted : (digits count : ℕ) (old new : List ℕ) (d used taken : ℕ)
-    → AreParted digits count old new d used taken → length (flat_map fundamental_sequence (take taken new)) ≡ used
-length-parted digits count old new d used taken p =
-    omega (arith, p.few, ap length p.bits, length-append (flat_map fundamental_sequence (take taken new)) (word (count - used) d), length-word count digits, length-word (count - used) d)
-
--- the sequences are the first bits of those that the digits are
-pub parted-bits : (digits count : ℕ) (old new : List ℕ) (d used taken : ℕ) (bits : List Bool)
-    → AreParted digits count old new d used taken → word count digits ≡ take count bits → flat_map fundamental_sequence (take taken new) ≡ take used bits
-parted-bits digits count old new d used taken bits p e =
-    let sequences = flat_map fundamental_sequence (take taken new) in
-    let rest = word (count - used) d in
-    sym (take-append_seam sequences rest) ∙ (ap (λ k. take k (sequences ++ rest)) (length-parted digits count old new d used taken p)
-    ∙ (ap (take used) (sym p.bits ∙ e) ∙ take-take used count bits p.few))
+pub length-parted : (front : ℕ) (old new : List ℕ) (d used taken : ℕ)
+    → AreParted front old new d used taken → length (flat_map fundamental_sequence (take taken new)) ≡ used
+length-parted front old new d used taken p =
+    omega (arith, p.few, ap length p.bits, length-append (flat_map fundamental_sequence (take taken new)) (word (64 - used) d), length-word 64 front, length-word (64 - used) d)
 
 -- fundamental sequences have a 1, where there are any
 pub sequences-blank : (ms : List ℕ) → is_blank (flat_map fundamental_sequence ms) ≡ (length ms == 0)
@@ -88,7 +77,7 @@ moved_bounds d rest s t e h k =
     (omega (arith, e, pow-add 2 t s, mul-le-mul_right (2 ^ s) h), omega (arith, e, below, ap (λ m. 2 ^ m) n))
 
 -- the zeros before the first 1, where the digits stand at the front of 64
-zeros_moved : (c d rest : ℕ) → c < 64 → 0 < d → d < 2 ^ c → rest ≡ d * 2 ^ (64 - c)
+zeros_moved : (c d rest : ℕ) → c ≤ 64 → 0 < d → d < 2 ^ c → rest ≡ d * 2 ^ (64 - c)
     → (after : ℕ) × (after < c) × (count_leading_zeros 64 rest + suc after ≡ c) × (63 - count_leading_zeros 64 d ≡ after)
 zeros_moved c d rest narrow some h e =
     let s = 64 - c in
@@ -118,7 +107,7 @@ moved_up a d h =
     ∙ mod-mul-add (d / 2 ^ a) (2 ^ 64) (d % 2 ^ a * 2 ^ s) (shift_fits a s (d % 2 ^ a) low (omega arith)))
 
 -- a fundamental sequence is taken from the front of 64 digits, of which c count
-pub run_step : (c rest next : ℕ) → c < 64 → rest / 2 ^ (64 - c) < 2 ^ c → rest ≡ rest / 2 ^ (64 - c) * 2 ^ (64 - c) → 0 < rest
+pub run_step : (c rest next : ℕ) → c ≤ 64 → rest / 2 ^ (64 - c) < 2 ^ c → rest ≡ rest / 2 ^ (64 - c) * 2 ^ (64 - c) → 0 < rest
     → next ≡ rest * 2 ^ (count_leading_zeros 64 rest + 1) % 2 ^ 64
     → (count_leading_zeros 64 rest + 1 ≤ c)
     × (next / 2 ^ (64 - (c - (count_leading_zeros 64 rest + 1))) < 2 ^ (c - (count_leading_zeros 64 rest + 1)))
@@ -151,5 +140,5 @@ run_step c rest next narrow below whole some e =
     regrouped : (x y w : ℕ) → x * y * w ≡ x * (y * w)
     regrouped x y w = grind arith
 
-pub run_short : (c rest : ℕ) → c < 64 → rest / 2 ^ (64 - c) < 2 ^ c → rest ≡ rest / 2 ^ (64 - c) * 2 ^ (64 - c) → 0 < rest → count_leading_zeros 64 rest + 1 ≤ c
+pub run_short : (c rest : ℕ) → c ≤ 64 → rest / 2 ^ (64 - c) < 2 ^ c → rest ≡ rest / 2 ^ (64 - c) * 2 ^ (64 - c) → 0 < rest → count_leading_zeros 64 rest + 1 ≤ c
 run_short c rest narrow below whole some = (run_step c rest _ narrow below whole some refl).0

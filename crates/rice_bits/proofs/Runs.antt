@@ -83,16 +83,3 @@ first_run (suc m) short fits =
     let z = count_leading_zeros 64 (suc m) in
     let e : 64 - (z + 1) ≡ 63 - z = omega arith in
     ap (λ k. word (z + 1) (suc m / 2 ^ k)) e ∙ (ap (word (z + 1)) (sym (one_high (suc m) (omega arith) fits)) ∙ word-fs z)
-
-below_zeros : (n m : ℕ) → n ≤ count_leading_zeros 64 m → n ≤ 64 → m < 2 ^ 64 → m < 2 ^ (64 - n)
-below_zeros n zero h few fits = pow_pos (64 - n)
-below_zeros n (suc m) h few fits =
-    let top = leading_top 64 (suc m) (omega arith) fits in
-    omega (arith, top.3, pow-le-pow_right {n = 2} (omega arith) {i = suc top.0} {j = 64 - n} (omega (arith, top.1, h, few)))
-
--- the first digits are zeros
-pub first_zeros : (n m : ℕ) → n ≤ count_leading_zeros 64 m → n ≤ 64 → m < 2 ^ 64 → word n (m / 2 ^ (64 - n)) ≡ replicate n false
-first_zeros n m h few fits = ap (word n) (div-small m (2 ^ (64 - n)) (below_zeros n m h few fits)) ∙ word-zero n
-  where
-    div-small : (x p : ℕ) → x < p → x / p ≡ 0
-    div-small x p lt = (let e : 0 * p + x ≡ x = omega arith in ap (λ k. k / p) (sym e) ∙ div-mul-add 0 p x lt)

@@ -1,19 +1,20 @@
 -- The bits that were given and not yet taken.
-use Rattle.std.proofs.Common.{◌≡◌, ℕ, ◌+◌, ◌-◌, ◌*◌, ◌/◌, ◌%◌, ◌^◌, ◌<◌, ◌≤◌, Bool, false, List, [], ◌∷◌, ◌++◌, length, take, drop, set, replicate, length-append, refl, sym, ◌∙◌, ap, arith, take-take, append_assoc}
+use Rattle.std.proofs.Common.{◌≡◌, ℕ, zero, suc, inl, inr, ◌+◌, ◌-◌, ◌*◌, ◌/◌, ◌%◌, ◌^◌, ◌<◌, ◌≤◌, Bool, false, List, [], ◌∷◌, ◌++◌, length, take, drop, set, replicate, length-append, refl, sym, ◌∙◌, ap, arith, take-take, append_assoc}
 use Rattle.std.specs.Prelude.{flat_map, slice_range, bit_or, ◌==◌, ◌&&◌}
 use Rattle.std.proofs.lemmas.Grind.{flat_map-append}
 use Rattle.rice_bits.specs.Reader.{is_blank}
 use Rattle.rice_bits.proofs.Blank.{blank-append, ones-none}
 use Rattle.std.specs.Int.{to_be_bytes, w64}
 use Rattle.std.proofs.Math.Seq.{drop-append_seam, take-add, take-append_seam}
-use Rattle.std.proofs.lemmas.List.{append-nil, drop-drop, drop-take, length-drop, length-take-le, take-append-drop, take-append-le, take_more_set}
-use Rattle.rice_bits.specs.Bits.{word, bits_of}
-use Rattle.rice_bits.specs.Window.{IsWindow, window_bits}
+use Rattle.std.proofs.lemmas.Bool.{cases_lt}
+use Rattle.std.proofs.lemmas.List.{append-nil, drop-append-le, drop-drop, drop-take, length-drop, length-replicate, length-take-le, replicate-append-replicate, take-append-drop, take-append-le, take-replicate, take_more_set}
+use Rattle.rice_bits.specs.Bits.{fundamental_sequence, word, bits_of}
+use Rattle.rice_bits.specs.Window.{IsWindow, bits_near, window_bits}
 use Rattle.rice_bits.specs.declared.window.Window.{Window}
-use Rattle.rice_bits.proofs.Bytes.{bits_of-append, length-bits_of}
+use Rattle.rice_bits.proofs.Bytes.{bits_of-append, bits_of-zeros, length-bits_of}
 use Rattle.rice_bits.proofs.EightBytes.{bits_of-eight}
 use Rattle.rice_bits.proofs.Runs.{take-front, word-moved, word-parts}
-use Rattle.rice_bits.proofs.Words.{length-word}
+use Rattle.rice_bits.proofs.Words.{length-fundamental_sequence, length-word}
 
 -- a part of a list is its two parts
 between-join : {A : Type 0} (xs : List A) (a s e : ℕ) → a ≤ s → s ≤ e → slice_range xs a s ++ slice_range xs s e ≡ slice_range xs a e
@@ -24,7 +25,7 @@ between-join xs a s e p q =
     let j : take ((s - a) + (e - s)) (drop a xs) ≡ take (s - a) (drop a xs) ++ take (e - s) (drop (s - a) (drop a xs)) = take-add (s - a) (e - s) (drop a xs) in
     ap (λ k. take (s - a) (drop a xs) ++ take (e - s) k) (sym d) ∙ sym j ∙ ap (λ k. take k (drop a xs)) n
 
-drop-seam : (xs ys : List Bool) (n : ℕ) → length xs ≡ n → drop n (xs ++ ys) ≡ ys
+drop-seam : {A : Type 0} (xs ys : List A) (n : ℕ) → length xs ≡ n → drop n (xs ++ ys) ≡ ys
 drop-seam xs ys n e = ap (λ k. drop k (xs ++ ys)) (sym e) ∙ drop-append_seam xs ys
 
 take-bits_of : (n : ℕ) (xs : List ℕ) → n ≤ length xs → take (8 * n) (bits_of xs) ≡ bits_of (take n xs)
@@ -47,22 +48,37 @@ window_empty w e =
     let n : w.end - w.at ≡ 0 = omega arith in
     rw n refl
 
-pub window_filled : (w : Window) (ys zs : List ℕ) (n : ℕ) → w.at ≡ 0 → w.end ≡ 8 * n → w.buffer ≡ ys ++ zs → n ≤ length ys
-    → window_bits w ≡ bits_of (take n ys)
+pub window_filled : (w : Window) (n : ℕ) → w.at ≡ 0 → w.end ≡ 8 * n → n ≤ length w.buffer → window_bits w ≡ bits_of (take n w.buffer)
 unfolding window_bits
-window_filled w ys zs n a e b h =
+window_filled w n a e h =
     let m : 8 * n - 0 ≡ 8 * n = omega arith in
-    rw (a, e, b, m) (take-bits_of n (ys ++ zs) (omega (arith, h, length-append ys zs)) ∙ ap bits_of (take-append-le n ys zs h))
+    rw (a, e, m) (take-bits_of n w.buffer h)
 
-pub some-bytes : (w : Window) (ys zs : List ℕ) (n : ℕ) → w.at ≡ 0 → w.end ≡ 8 * n → w.buffer ≡ ys ++ zs → n ≤ length ys → 0 < n
-    → 0 < length (window_bits w)
-some-bytes w ys zs n a e b h some =
-    omega (arith, ap length (window_filled w ys zs n a e b h), length-bits_of (take n ys), length-take-le n ys h)
+-- bytes with zeros written behind them
+pub zeros-behind : (old new : List ℕ) (n k : ℕ) → n ≤ length old → take (n + k) new ≡ take n old ++ replicate k 0
+    → (take n new ≡ take n old) × (take k (drop n new) ≡ replicate k 0)
+zeros-behind old new n k h e =
+    let len : length (take n old) ≡ n = length-take-le n old h in (
+      sym (take-take n (n + k) new (omega arith)) ∙ (ap (take n) e ∙ (ap (λ m. take m (take n old ++ replicate k 0)) (sym len) ∙ take-append_seam (take n old) (replicate k 0))),
+      sym (drop-take n k new) ∙ (ap (drop n) e ∙ drop-seam (take n old) (replicate k 0) n len),
+    )
 
 pub length-window : (w : Window) → IsWindow w → length (window_bits w) ≡ w.end - w.at
 unfolding window_bits
 length-window w h =
     length-take-le (w.end - w.at) (drop w.at (bits_of w.buffer)) (omega (arith, length-drop w.at (bits_of w.buffer), length-bits_of w.buffer, h.size, h.fits))
+
+-- a window of which bits were taken
+pub window-moved : (w : Window) (at : ℕ) → IsWindow w → w.at ≤ at → at ≤ w.end → IsWindow (record w { at = at })
+window-moved w at h from to = record {
+  size = h.size;
+  ordered = to;
+  fits = h.fits;
+  whole = h.whole;
+  held = omega (arith, h.held);
+  limit = h.limit;
+  behind = h.behind;
+}
 
 -- bits are taken from the front of a window
 pub window_split : (w v : Window) (n : ℕ) (xs : List Bool) → w.at + n ≤ w.end → v.at ≡ w.at + n → v.end ≡ w.end → v.buffer ≡ w.buffer
@@ -75,7 +91,7 @@ window_split w v n xs h at end buffer e =
 
 -- the bits from a place on, in eight bytes that are moved up
 pub bits-ahead : (bytes : List ℕ) (at v : ℕ) → at / 8 + 8 ≤ length bytes → to_be_bytes w64 v ≡ take 8 (drop (at / 8) bytes)
-    → take 57 (word 64 (v * 2 ^ (at % 8) % 2 ^ 64)) ≡ take 57 (drop at (bits_of bytes))
+    → word 64 (v * 2 ^ (at % 8) % 2 ^ 64) ≡ take (64 - at % 8) (drop at (bits_of bytes)) ++ replicate (at % 8) false
 bits-ahead bytes at v h eight =
     let q = at / 8 in
     let s = at % 8 in
@@ -88,14 +104,48 @@ bits-ahead bytes at v h eight =
     let rest : word (64 - s) v ≡ take (64 - s) (drop at (bits_of bytes)) =
     sym (drop-seam front (word (64 - s) v) s (length-word s (v / 2 ^ (64 - s)))) ∙ (ap (drop s) (sym (word-parts 64 s v (omega arith)) ∙ all)
     ∙ (ap (λ k. drop s (take k behind)) (sym size) ∙ (drop-take s (64 - s) behind ∙ ap (take (64 - s)) (drop-drop s (8 * q) (bits_of bytes) ∙ ap (λ k. drop k (bits_of bytes)) place)))) in
-    ap (take 57) (word-moved 64 s v (omega arith))
-    ∙ (take-append-le 57 (word (64 - s) v) (replicate s false) (omega (arith, length-word (64 - s) v))
-    ∙ (ap (take 57) rest ∙ take-take 57 (64 - s) (drop at (bits_of bytes)) (omega arith)))
+    word-moved 64 s v (omega arith) ∙ ap (λ z. z ++ replicate s false) rest
 
--- the first of these bits
-pub first-ahead : (bits : List Bool) (n r : ℕ) → n ≤ 57 → take 57 (word 64 r) ≡ take 57 bits → word n (r / 2 ^ (64 - n)) ≡ take n bits
-first-ahead bits n r h e =
-    sym (take-front 64 n r (omega arith)) ∙ (sym (take-take n 57 (word 64 r) h) ∙ (ap (take n) e ∙ take-take n 57 bits h))
+-- the first of the bits that stand at the front of a word, with zeros behind them
+pub first-ahead : (bits : List Bool) (n m k r : ℕ) → n ≤ m → m + k ≡ 64 → word 64 r ≡ take m bits ++ replicate k false → word n (r / 2 ^ (64 - n)) ≡ take n bits
+first-ahead bits n m k r h all e =
+    let len : length (take m bits) ≡ m = omega (arith, all, ap length e, length-word 64 r, length-append (take m bits) (replicate k false), length-replicate k false) in
+    sym (take-front 64 n r (omega (arith, h, all)))
+    ∙ (ap (take n) e ∙ (take-append-le n (take m bits) (replicate k false) (omega (arith, h, len)) ∙ take-take n m bits h))
+
+-- all bits that wait, and zeros behind them
+pub near-ahead : (w : Window) (r : ℕ) → IsWindow w → word 64 r ≡ take (64 - w.at % 8) (drop w.at (bits_of w.buffer)) ++ replicate (w.at % 8) false
+    → word 64 r ≡ take (bits_near w) (window_bits w) ++ replicate (64 - bits_near w) false
+unfolding window_bits
+near-ahead w r h e =
+    let s = w.at % 8 in
+    let bits = bits_of w.buffer in
+    let ahead = drop w.at bits in
+    let len = w.end - w.at in
+    let waits = length-window w h in
+    let q = w.end / 8 in
+    let bytes : 8 * q ≡ w.end = omega (arith, h.whole) in
+    let room : q + 8 ≤ length w.buffer = omega (arith, h.size, h.fits) in
+    let zeros : take 64 (drop w.end bits) ≡ replicate 64 false =
+    ap (λ k. take 64 (drop k bits)) (sym bytes) ∙ (ap (take 64) (drop-bits_of q w.buffer (omega (arith, room)))
+    ∙ (take-bits_of 8 (drop q w.buffer) (omega (arith, room, length-drop q w.buffer)) ∙ (ap bits_of h.behind ∙ bits_of-zeros 8))) in
+    elim (cases_lt len (64 - s)) [
+      | inl short ↦
+          let d = 64 - s - len in
+          let near : bits_near w ≡ len = omega (arith, waits, short) in
+          let both : len + d ≡ 64 - s = omega (arith, short) in
+          let gap : d + s ≡ 64 - len = omega (arith, short) in
+          let past : w.at + len ≡ w.end = omega (arith, h.ordered) in
+          let behind : take d (drop len ahead) ≡ replicate d false =
+          ap (take d) (drop-drop len w.at bits ∙ ap (λ k. drop k bits) past) ∙ (sym (take-take d 64 (drop w.end bits) (omega arith)) ∙ (ap (take d) zeros ∙ take-replicate d 64 false (omega arith))) in
+          e ∙ (ap (λ k. take k ahead ++ replicate s false) (sym both) ∙ (ap (λ z. z ++ replicate s false) (take-add len d ahead ∙ ap (λ z. take len ahead ++ z) behind)
+          ∙ (append_assoc (take len ahead) (replicate d false) (replicate s false) ∙ (ap (λ z. take len ahead ++ z) (replicate-append-replicate d s false ∙ ap (λ k. replicate k false) gap)
+          ∙ rw near (ap (λ z. z ++ replicate (64 - len) false) (sym (take-take len len ahead (omega arith))))))))
+      | inr long ↦
+          let near : bits_near w ≡ 64 - s = omega (arith, waits, long) in
+          let gap : s ≡ 64 - (64 - s) = omega arith in
+          e ∙ rw near (ap (λ z. z ++ replicate s false) (sym (take-take (64 - s) len ahead long)) ∙ ap (λ k. take (64 - s) (take len ahead) ++ replicate k false) gap)
+    ]
 
 pub length-words : (width : ℕ) (xs : List ℕ) → length (flat_map (word width) xs) ≡ length xs * width
 length-words width [] = omega arith
@@ -161,7 +211,61 @@ pub words-blank : (width a b : ℕ) (xs ys : List ℕ) → is_blank (flat_map (w
 words-blank width a b xs ys first second =
     ap is_blank (flat_map-append (word width) xs ys) ∙ (blank-append (flat_map (word width) xs) (flat_map (word width) ys) ∙ ((λ j. first j && second j) ∙ sym (ones-none a b)))
 
--- four words at the front of 57 bits
-pub four-ahead : (width r : ℕ) (bits : List Bool) (four : List ℕ) → width ≤ 8 → take 57 (word 64 r) ≡ take 57 bits
+-- four words at the front of a word
+pub four-ahead : (width s r : ℕ) (bits : List Bool) (four : List ℕ) → width ≤ 8 → s < 8 → word 64 r ≡ take (64 - s) bits ++ replicate s false
     → flat_map (word width) four ≡ take (4 * width) (word 32 (r / 2 ^ 32)) → flat_map (word width) four ≡ take (4 * width) bits
-four-ahead width r bits four h ahead e = e ∙ (ap (take (4 * width)) (first-ahead bits 32 r (omega arith) ahead) ∙ take-take (4 * width) 32 bits (omega arith))
+four-ahead width s r bits four h few ahead e =
+    e ∙ (ap (take (4 * width)) (first-ahead bits 32 (64 - s) s r (omega arith) (omega arith) ahead) ∙ take-take (4 * width) 32 bits (omega arith))
+
+-- a sequence at the front of bits with zeros behind them is one of those bits
+pub run-within : (m k : ℕ) (rest xs : List Bool) → fundamental_sequence m ++ rest ≡ xs ++ replicate k false → m + 1 ≤ length xs
+run-within m k rest [] e = absurd (no-run m k rest e)
+  where
+    no-run : (m k : ℕ) (rest : List Bool) → fundamental_sequence m ++ rest ≡ replicate k false → ⊥
+    no-run zero zero rest e = absurd cc
+    no-run zero (suc k) rest e = absurd cc
+    no-run (suc m) zero rest e = absurd cc
+    no-run (suc m) (suc k) rest e = (let t : fundamental_sequence m ++ rest ≡ replicate k false = cc in no-run m k rest t)
+run-within zero k rest (x ∷ xs) e = omega arith
+run-within (suc m) k rest (x ∷ xs) e =
+    let t : fundamental_sequence m ++ rest ≡ xs ++ replicate k false = cc in
+    omega (arith, run-within m k rest xs t)
+
+pub sequences-within : (ms : List ℕ) (k : ℕ) (rest xs : List Bool) → flat_map fundamental_sequence ms ++ rest ≡ xs ++ replicate k false
+    → length (flat_map fundamental_sequence ms) ≤ length xs
+sequences-within [] k rest xs e = omega arith
+sequences-within (m ∷ ms) k rest xs e =
+    let run = fundamental_sequence m in
+    let more = flat_map fundamental_sequence ms in
+    let len : length run ≡ m + 1 = length-fundamental_sequence m in
+    let begins : run ++ (more ++ rest) ≡ xs ++ replicate k false = sym (append_assoc run more rest) ∙ e in
+    let first = run-within m k (more ++ rest) xs begins in
+    let behind : more ++ rest ≡ drop (m + 1) xs ++ replicate k false =
+    sym (drop-seam run (more ++ rest) (m + 1) len) ∙ (ap (drop (m + 1)) begins ∙ drop-append-le (m + 1) xs (replicate k false) first) in
+    omega (arith, len, first, length-append run more, length-drop (m + 1) xs, sequences-within ms k rest (drop (m + 1) xs) behind)
+
+-- bits that are near are there
+pub near-there : (w : Window) (xs : List Bool) → IsWindow w → length xs ≤ length (take (bits_near w) (window_bits w)) → w.at + length xs ≤ w.end
+near-there w xs h short =
+    omega (arith, short, length-take-le (bits_near w) (window_bits w) (omega arith), length-window w h, h.ordered)
+
+-- the first bits of a window, which stand at the front of a word
+pub window-front : (w v : Window) (r : ℕ) (xs rest : List Bool) → IsWindow w → word 64 r ≡ take (bits_near w) (window_bits w) ++ replicate (64 - bits_near w) false
+    → word 64 r ≡ xs ++ rest → length xs ≤ length (take (bits_near w) (window_bits w)) → v.at ≡ w.at + length xs → v.end ≡ w.end → v.buffer ≡ w.buffer
+    → window_bits w ≡ xs ++ window_bits v
+window-front w v r xs rest h near e short at end buffer =
+    let n = length xs in
+    let there = near-there w xs h short in
+    let few : n ≤ bits_near w = omega (arith, short, length-take-le (bits_near w) (window_bits w) (omega arith)) in
+    let front : xs ≡ take n (window_bits w) =
+    sym (take-append_seam xs rest) ∙ (ap (take n) (sym e ∙ near) ∙ (take-append-le n (take (bits_near w) (window_bits w)) _ short ∙ take-take n (bits_near w) (window_bits w) few)) in
+    window_split w v n xs there at end buffer (front ∙ front-waits w n (omega (arith, there)))
+
+-- the digits that a window begins with, which stand at the front of a word
+pub window-digits : (w v : Window) (r n : ℕ) → IsWindow w → word 64 r ≡ take (bits_near w) (window_bits w) ++ replicate (64 - bits_near w) false
+    → n ≤ 57 → w.at + n ≤ w.end → v.at ≡ w.at + n → v.end ≡ w.end → v.buffer ≡ w.buffer → window_bits w ≡ word n (r / 2 ^ (64 - n)) ++ window_bits v
+window-digits w v r n h near few there at end buffer =
+    let xs = word n (r / 2 ^ (64 - n)) in
+    let len : length xs ≡ n = length-word n (r / 2 ^ (64 - n)) in
+    let front : length (take (bits_near w) (window_bits w)) ≡ bits_near w = length-take-le (bits_near w) (window_bits w) (omega arith) in
+    window-front w v r xs (word (64 - n) r) h near (word-parts 64 n r (omega arith)) (omega (arith, len, front, there, length-window w h)) (omega (arith, at, len)) end buffer

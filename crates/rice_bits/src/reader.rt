@@ -1,5 +1,6 @@
 //! A reader of bits.
 ghost use Rattle.std.specs.Prelude.{◌≡◌, ℕ, ◌+◌, ◌-◌, ◌*◌, ◌%◌, ◌^◌, ◌<◌, ◌≤◌, Bool, true, false, List, [], ◌++◌, length, replicate, All, drop, flat_map, take, IfOk, IfErr, OnOk, IfSome, IfNone, IsSome, Option, None};
+ghost use Rattle.std.specs.Io.KnownBytes.{Consumes};
 ghost use Rattle.rice_bits.specs.Bits.{fundamental_sequence, bits_to_byte, word};
 ghost use Rattle.rice_bits.specs.Reader.{Draws, Refuses};
 ghost use Rattle.rice_bits.specs.Window.{IsWindow, window_bits, window_taken};
@@ -41,7 +42,39 @@ impl<I: Intake> Model for BitReader<I> {
     ghost invariant = { λ s. IsReader (I.failed s.intake) s.window s.refusal };
 }
 
-/// Asks the intake for bytes, where no bit waits.
+/// Asks the intake for the bytes behind those `given`, and answers how many it put at the front of the buffer.
+fn ask<I: Intake>(
+    intake: &mut I,
+    buffer: &mut [u8],
+    given: u64,
+    blank: bool,
+) -> Result<usize, BitFault>
+    requires room { 4096 ≤ length buffer.old }
+    requires given { given ≤ 2 ^ 49 }
+    requires countable { I.failed intake.old + 1 < 2 ^ 64 }
+    ensures ok { IfOk result (λ n. (0 < n) × (n ≤ 4096) × (given + n ≤ 2 ^ 49) × Consumes (I.left intake.old) (I.left intake.new) (take n buffer.new)) }
+    ensures failures { OnOk result (I.failed intake.new ≡ I.failed intake.old) }
+    ensures err { IfErr result (λ f. Refuses f (I.left intake.old) (I.left intake.new) (I.failed intake.old) (I.failed intake.new) (8 * given) blank) }
+{
+    let most = if given < LIMIT {
+        (LIMIT - given).min(PIECE as u64) as usize
+    } else {
+        1
+    };
+    let count = match intake.fill(&mut buffer[..most]) {
+        Ok(count) => count,
+        Err(_) => return Err(BitFault::Read),
+    };
+    if count == 0 {
+        return Err(BitFault::End { blank });
+    }
+    if given >= LIMIT {
+        return Err(BitFault::TooLong);
+    }
+    Ok(count)
+}
+
+/// Draws bytes from the intake, where no bit waits.
 fn draw<I: Intake>(intake: &mut I, window: &mut Window, blank: bool) -> Result<(), BitFault>
     requires window { IsWindow window.old }
     requires empty { window.old.at ≡ window.old.end }
@@ -54,26 +87,17 @@ fn draw<I: Intake>(intake: &mut I, window: &mut Window, blank: bool) -> Result<(
     ensures err { IfErr result (λ f. (window_bits window.old ≡ []) × (window_bits window.new ≡ []) ×
         Refuses f (I.left intake.old) (I.left intake.new) (I.failed intake.old) (I.failed intake.new) (window_taken window.old) blank) }
 {
-    let given = window.given;
-    let most = if given < LIMIT {
-        (LIMIT - given).min(PIECE as u64) as usize
-    } else {
-        1
-    };
-    let count = match intake.fill(&mut window.buffer[..most]) {
-        Ok(count) => count,
-        Err(_) => return Err(BitFault::Read),
-    };
-    if count == 0 {
-        return Err(BitFault::End { blank });
+    match ask(intake, &mut window.buffer, window.given, blank) {
+        Ok(count) => {
+            window.hold(count);
+            Ok(())
+        }
+        Err(fault) => {
+            // The intake may have left anything in the buffer.
+            window.hold(0);
+            Err(fault)
+        }
     }
-    if given >= LIMIT {
-        return Err(BitFault::TooLong);
-    }
-    window.at = 0;
-    window.end = 8 * count;
-    window.given = given + count as u64;
-    Ok(())
 }
 
 /// Makes sure that a bit waits.

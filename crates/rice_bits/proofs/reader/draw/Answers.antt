@@ -1,55 +1,30 @@
-use Rattle.std.proofs.Common.{arith, ◌≡◌, ◌++◌, take, ap, sym, ◌∙◌, subst, get_or, refl}
-use Rattle.std.specs.Io.KnownBytes.{Consumes}
+use Rattle.std.proofs.Common.{◌≡◌, ◌*◌, ◌++◌, arith, ap, length, subst, sym, take, ◌∙◌}
+use Rattle.std.proofs.lemmas.List.{length-take-le}
 use Rattle.rice_bits.specs.Bits.{bits_of}
-use Rattle.rice_bits.proofs.WindowLemmas.{some-bytes, window_empty, window_filled}
-use Rattle.rice_bits.proofs.Drawing.{consumes-none, take-one}
+use Rattle.rice_bits.specs.Reader.{Refuses}
+use Rattle.rice_bits.specs.Window.{window_taken}
+use Rattle.rice_bits.proofs.Bytes.{bits_of-nil, length-bits_of}
+use Rattle.rice_bits.proofs.WindowLemmas.{window_empty}
 use Rattle.rice_bits.proofs.reader.draw.Goals as goal
-use Rattle.rice_bits.proofs.reader.draw.Goals.{then-given-lt-LIMIT, else-given-lt-LIMIT}
+
+pub returns-in-Ok-clause-some : goal.returns-in-Ok-clause-some
+returns-in-Ok-clause-some g c =
+    let given = take c.in-Ok.count c.ask.new.buffer in
+    let len = length-take-le c.in-Ok.count c.ask.new.buffer (omega (arith, c.in-Ok.ensures.ok.1, c.ask.auto.buffer, c.requires.window.size)) in
+    omega (arith, ap length c.hold.ensures.bits, length-bits_of given, len, c.in-Ok.ensures.ok.0)
+
+pub returns-in-Ok-clause-ok : goal.returns-in-Ok-clause-ok
+returns-in-Ok-clause-ok g c = record {
+  given = take c.in-Ok.count c.ask.new.buffer;
+  consumed = c.in-Ok.ensures.ok.3;
+  split = ap (λ z. z ++ bits_of (take c.in-Ok.count c.ask.new.buffer)) (window_empty _ c.requires.empty) ∙ sym c.hold.ensures.bits;
+}
 
 pub returns-in-Err-clause-err : goal.returns-in-Err-clause-err
 returns-in-Err-clause-err g c =
-    (window_empty _ c.requires.empty, window_empty _ c.requires.empty, (consumes-none _ _ c.in-Err.ensures.err, c.in-Err.ensures.failures))
-
-pub returns-then-count-eq0-clause-err : goal.returns-then-count-eq0-clause-err
-returns-then-count-eq0-clause-err g c = (
-  window_empty _ c.requires.empty,
-  window_empty _ c.requires.empty,
-  (
-    subst (λ n. Consumes (g.I.Intake.left c.args.intake.now) (g.I.Intake.left c.fill.new.self) (take n c.fill.new.buf)) c.if-count-eq0.true c.in-Ok.ensures.bytes,
-    c.in-Ok.ensures.end c.if-count-eq0.true,
-    c.in-Ok.ensures.failures,
-    refl,
-  ),
-)
-
-pub returns-then-given-ge-LIMIT-clause-err : goal.returns-then-given-ge-LIMIT-clause-err
-returns-then-given-ge-LIMIT-clause-err g c =
-    let one : c.in-Ok.count ≡ 1 =
-    elim c.if-given-lt-LIMIT.branch [
-      | then-given-lt-LIMIT w ↦ absurd (omega arith)
-      | else-given-lt-LIMIT w ↦ omega (arith, c.in-Ok.ensures.count)
-    ] in (
+    let taken : 8 * c.args.window.now.given ≡ window_taken c.args.window.now = omega (arith, c.requires.empty) in (
       window_empty _ c.requires.empty,
-      window_empty _ c.requires.empty,
-      (
-        (
-          get_or c.fill.new.buf 0 0,
-          subst (λ xs. Consumes (g.I.Intake.left c.args.intake.now) (g.I.Intake.left c.fill.new.self) xs)
-              (take-one c.fill.new.buf c.in-Ok.count one c.in-Ok.ensures.count) c.in-Ok.ensures.bytes,
-        ),
-        c.in-Ok.ensures.failures,
-        omega (arith, c.requires.window.limit, c.requires.empty),
-      ),
+      c.hold-in-Err.ensures.bits ∙ bits_of-nil,
+      subst (λ n. Refuses c.in-Err.fault (g.I.Intake.left c.args.intake.now) (g.I.Intake.left c.ask.new.intake) (g.I.Intake.failed c.args.intake.now) (g.I.Intake.failed c.ask.new.intake) n c.args.blank)
+          taken c.in-Err.ensures.err,
     )
-
-pub returns-clause-ok : goal.returns-clause-ok
-returns-clause-ok g c = record {
-  given = take c.in-Ok.count c.fill.new.buf;
-  consumed = c.in-Ok.ensures.bytes;
-  split = ap (λ z. z ++ bits_of (take c.in-Ok.count c.fill.new.buf)) (window_empty _ c.requires.empty)
-      ∙ sym (window_filled _ c.fill.new.buf _ c.in-Ok.count refl refl refl c.in-Ok.ensures.count);
-}
-
-pub returns-clause-some : goal.returns-clause-some
-returns-clause-some g c =
-    some-bytes _ c.fill.new.buf _ c.in-Ok.count refl refl refl c.in-Ok.ensures.count (omega arith)

@@ -1,4 +1,4 @@
-use Rattle.std.proofs.Common.{◌≡◌, ◌*◌, ◌^◌, ◌<◌, arith, ap, sym, ◌∙◌, take, drop, length, refl}
+use Rattle.std.proofs.Common.{◌≡◌, ◌-◌, ◌%◌, ◌*◌, ◌^◌, ◌<◌, arith, ap, sym, ◌∙◌, take, drop, length, refl}
 use Rattle.std.specs.Prelude.{◌&&◌, flat_map}
 use Rattle.std.proofs.Math.Nat.{pow-le-pow_right}
 use Rattle.rice_bits.specs.Bits.{word, bits_of}
@@ -34,7 +34,7 @@ loop-i-preserved c =
       place = omega (arith, c.loop-i.invariant.place);
       fit = each-more (λ x. x < 2 ^ c.args.width) c.loop-i.words done v lt c.loop-i.invariant.fit below;
       bits = words-more c.args.width (bits_of c.args.bytes.now) c.args.at c.loop-i.at c.loop-i.words done v c.loop-i.invariant.place lt c.loop-i.invariant.bits
-          (rw c.front_digits-number.ensures (first-ahead _ c.args.width c.bits_from.result (omega arith) c.bits_from.ensures));
+          (rw c.front_digits-number.ensures (first-ahead _ c.args.width (64 - c.loop-i.at % 8) (c.loop-i.at % 8) c.bits_from.result (omega arith) (omega arith) c.bits_from.ensures));
       blank = ap is_blank (pieces-more (word c.args.width) c.loop-i.words done v lt)
           ∙ (blank-append (flat_map (word c.args.width) (take done c.loop-i.words)) (word c.args.width v)
           ∙ ((λ j. c.loop-i.invariant.blank j && blank-word c.args.width v below j) ∙ sym (ones-none c.loop-i.ones v)));

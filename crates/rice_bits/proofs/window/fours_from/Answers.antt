@@ -1,4 +1,4 @@
-use Rattle.std.proofs.Common.{◌≡◌, ℕ, ◌+◌, ◌*◌, ◌^◌, ◌<◌, ◌∙◌, arith, ap, sym, subst, take, drop}
+use Rattle.std.proofs.Common.{◌≡◌, ℕ, ◌-◌, ◌%◌, ◌+◌, ◌*◌, ◌^◌, ◌<◌, ◌∙◌, arith, ap, sym, subst, take, drop}
 use Rattle.std.specs.Prelude.{All, flat_map}
 use Rattle.std.proofs.lemmas.List.Elements.{All-append}
 use Rattle.std.proofs.lemmas.Simd.{take_more_put_chunk}
@@ -24,10 +24,10 @@ loop-i-preserved c =
     let written = take_more_put_chunk (4 * l.i) l.words four (4 * (l.i + 1)) (omega (arith, c.four_words-four.ensures.len)) (omega (arith, c.loop-i-test.true, l.auto.words)) in
     let ahead = c.bits_from-front.ensures in
     let digits : flat_map (word w) four ≡ take (4 * w) (drop l.at bits) =
-    four-ahead w r (drop l.at bits) four c.requires.width.1 ahead (c.four_words-four.ensures.bits ∙ ap (λ d. take (4 * w) (word 32 d)) c.front_digits.ensures) in
+    four-ahead w (l.at % 8) r (drop l.at bits) four c.requires.width.1 (omega arith) ahead (c.four_words-four.ensures.bits ∙ ap (λ d. take (4 * w) (word 32 d)) c.front_digits.ensures) in
     let below : v < 2 ^ (4 * w) = rw c.front_digits-ones.ensures (front_below 64 (4 * w) r (omega (arith, c.requires.width)) (omega arith)) in
     let same : flat_map (word w) four ≡ word (4 * w) v =
-    digits ∙ sym (rw c.front_digits-ones.ensures (first-ahead (drop l.at bits) (4 * w) r (omega (arith, c.requires.width)) ahead)) in
+    digits ∙ sym (rw c.front_digits-ones.ensures (first-ahead (drop l.at bits) (4 * w) (64 - l.at % 8) (l.at % 8) r (omega (arith, c.requires.width)) (omega arith) ahead)) in
     let more : 4 * l.i + 4 ≡ 4 * (l.i + 1) = omega arith in
     record {
       place = moved l.at c.args.at l.i w l.invariant.place;

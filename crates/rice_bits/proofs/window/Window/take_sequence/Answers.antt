@@ -1,32 +1,56 @@
-use Rattle.std.proofs.Common.{◌≡◌, ◌+◌, ◌<◌, ◌≤◌, arith, refl, sym, ◌∙◌, length, min}
+use Rattle.std.proofs.Common.{◌≡◌, ℕ, ◌+◌, ◌-◌, ◌^◌, ◌<◌, ◌++◌, arith, refl, sym, ◌∙◌, ap, false, length, min, replicate, take, take-take}
+use Rattle.std.proofs.Math.Seq.{take-append_seam}
+use Rattle.std.proofs.lemmas.List.{length-take-le, take-replicate}
+use Rattle.std.proofs.lemmas.Nat.{leading_top}
 use lib.Count.{count_leading_zeros}
-use Rattle.rice_bits.specs.Window.{window_bits}
-use Rattle.rice_bits.proofs.Runs.{first_run, first_zeros}
-use Rattle.rice_bits.proofs.WindowLemmas.{first-ahead, front-waits, length-window, window_split}
+use Rattle.rice_bits.specs.Bits.{fundamental_sequence, word}
+use Rattle.rice_bits.specs.Window.{bits_near, window_bits}
+use Rattle.rice_bits.proofs.Runs.{first_run, word-parts}
+use Rattle.rice_bits.proofs.Words.{length-fundamental_sequence, word-zero}
+use Rattle.rice_bits.proofs.WindowLemmas.{run-within, near-there, window-front, window-moved}
 use Rattle.rice_bits.proofs.window.Window.take_sequence.Goals as goal
-use Rattle.rice_bits.proofs.window.Window.take_sequence.Goals.{then-zeros-ge-AHEAD-via-then-zeros-ge-AHEAD, then-zeros-ge-AHEAD-via-else-zeros-ge-AHEAD+then-next-self}
 
-pub returns-then-zeros-ge-AHEAD-clause-none : goal.returns-then-zeros-ge-AHEAD-clause-none
-returns-then-zeros-ge-AHEAD-clause-none c =
-    let n = min 57 (length (window_bits c.args.self.now)) in
-    let len = length-window c.args.self.now c.requires.window in
-    let z : n ≤ count_leading_zeros 64 c.ahead-zeros.result =
-    elim c.then-zeros-ge-AHEAD.branch [
-      | then-zeros-ge-AHEAD-via-then-zeros-ge-AHEAD w ↦ omega (arith, w.if-zeros-ge-AHEAD.true)
-      | then-zeros-ge-AHEAD-via-else-zeros-ge-AHEAD+then-next-self w ↦ omega (arith, w.if-next-self.true, len)
-    ] in (
+pub returns-then-ahead-eq0-clause-none : goal.returns-then-ahead-eq0-clause-none
+returns-then-ahead-eq0-clause-none c =
+    let w = c.args.self.now in
+    let n = bits_near w in
+    let few = min 57 (length (window_bits w)) in
+    let near = take n (window_bits w) in
+    let len : length near ≡ n = length-take-le n (window_bits w) (omega arith) in
+    let zeros : near ≡ replicate n false =
+    sym (take-append_seam near (replicate (64 - n) false)) ∙ (ap (λ k. take k (near ++ replicate (64 - n) false)) len
+    ∙ (ap (take n) (sym c.ahead-ahead.ensures ∙ (ap (word 64) c.if-ahead-eq0.true ∙ word-zero 64)) ∙ take-replicate n 64 false (omega arith))) in (
       refl,
-      front-waits c.args.self.now n (omega (arith, len)) ∙ (sym (first-ahead _ n c.ahead-zeros.result (omega arith) c.ahead-zeros.ensures) ∙ first_zeros n c.ahead-zeros.result z (omega arith) (omega arith)),
+      sym (take-take few n (window_bits w) (omega arith)) ∙ (ap (take few) zeros ∙ take-replicate few n false (omega arith)),
     )
+
+-- a fundamental sequence stands at the front of a word that is not 0
+begins : (r : ℕ) → 0 < r → r < 2 ^ 64
+    → (count_leading_zeros 64 r < 64) × (word 64 r ≡ fundamental_sequence (count_leading_zeros 64 r) ++ word (64 - (count_leading_zeros 64 r + 1)) r)
+begins r some fits =
+    let z = count_leading_zeros 64 r in
+    let within : z < 64 = omega (arith, (leading_top 64 r some fits).1) in
+    (within, word-parts 64 (z + 1) r (omega (arith, within)) ∙ ap (λ d. d ++ word (64 - (z + 1)) r) (first_run r within fits))
+
+pub returns-clause-window : goal.returns-clause-window
+returns-clause-window c =
+    let r = c.ahead-ahead.result in
+    let z = count_leading_zeros 64 r in
+    let front = begins r (omega (arith, c.if-ahead-eq0.false)) (omega arith) in
+    let short = run-within z _ _ _ (sym front.1 ∙ c.ahead-ahead.ensures) in
+    let len = length-fundamental_sequence z in
+    let there = near-there c.args.self.now (fundamental_sequence z) c.requires.window (omega (arith, short, len)) in
+    window-moved c.args.self.now _ c.requires.window (omega arith) (omega (arith, there, len))
 
 pub returns-clause-some : goal.returns-clause-some
 returns-clause-some c =
-    let z = count_leading_zeros 64 c.ahead-zeros.result in
-    let within : z < 57 = omega arith in
-    let there : c.args.self.now.at + z + 1 ≤ c.args.self.now.end = omega arith in
-    let place : c.args.self.now.at + z + 1 ≡ c.args.self.now.at + (z + 1) = omega arith in (
-      within,
-      window_split c.args.self.now _ (z + 1) _ (omega (arith, there)) place refl refl
-          (sym (first_run c.ahead-zeros.result (omega (arith, within)) (omega arith)) ∙ first-ahead _ (z + 1) c.ahead-zeros.result (omega (arith, within)) c.ahead-zeros.ensures),
-      omega (arith, there, c.requires.window.held),
+    let r = c.ahead-ahead.result in
+    let z = count_leading_zeros 64 r in
+    let front = begins r (omega (arith, c.if-ahead-eq0.false)) (omega arith) in
+    let short = run-within z _ _ _ (sym front.1 ∙ c.ahead-ahead.ensures) in
+    let len = length-fundamental_sequence z in
+    let there = near-there c.args.self.now (fundamental_sequence z) c.requires.window (omega (arith, short, len)) in (
+      front.0,
+      window-front c.args.self.now _ r (fundamental_sequence z) _ c.requires.window c.ahead-ahead.ensures front.1 (omega (arith, short, len)) (omega (arith, len)) refl refl,
+      omega (arith, there, len, c.requires.window.held),
     )
