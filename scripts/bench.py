@@ -15,7 +15,7 @@ import subprocess
 import sys
 import tempfile
 
-RUNS = 5
+RUNS = 25
 COUNTED = 1 << 20  # bytes of samples that callgrind is given
 
 
@@ -71,14 +71,15 @@ ROWS = [
 ]
 
 
-def cpu_time(command):
-    """The least CPU time of some runs, in seconds."""
-    best = math.inf
+def cpu_times(commands):
+    """The least CPU time of some runs of each command, in seconds. The commands run in turn, so that a busy machine slows all."""
+    best = [math.inf] * len(commands)
     for _ in range(RUNS):
-        before = resource.getrusage(resource.RUSAGE_CHILDREN)
-        subprocess.run(command, check=True)
-        after = resource.getrusage(resource.RUSAGE_CHILDREN)
-        best = min(best, after.ru_utime + after.ru_stime - before.ru_utime - before.ru_stime)
+        for i, command in enumerate(commands):
+            before = resource.getrusage(resource.RUSAGE_CHILDREN)
+            subprocess.run(command, check=True)
+            after = resource.getrusage(resource.RUSAGE_CHILDREN)
+            best[i] = min(best[i], after.ru_utime + after.ru_stime - before.ru_utime - before.ru_stime)
     return best
 
 
@@ -96,8 +97,7 @@ def instructions(command, folder):
 def compare(name, command_of, size, counted, folder):
     """One line of the table: command_of(program, data) is a command, size and counted are the bytes of its samples."""
     cells = [name]
-    for program in (OURS, THEIRS):
-        seconds = cpu_time(command_of(program, "large"))
+    for seconds in cpu_times([command_of(program, "large") for program in (OURS, THEIRS)]):
         cells.append(f"{seconds:.3f} s ({size / seconds / 1e6:.0f} MB/s)")
     for program in (OURS, THEIRS):
         if shutil.which("valgrind"):
