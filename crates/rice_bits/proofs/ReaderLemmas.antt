@@ -1,6 +1,7 @@
 -- What a reader of bits takes, and where it stops.
 use Rattle.std.proofs.Common.{◌≡◌, ℕ, ◌+◌, ◌<◌, ◌≤◌, Bool, true, false, List, [], ◌∷◌, ◌++◌, length, replicate, refl, sym, ◌∙◌, ap, subst, arith, append_assoc, length-append, Option, Some, None}
-use Rattle.std.specs.Prelude.{◌&&◌, IsSome}
+use Rattle.std.specs.Prelude.{◌&&◌, IfSome, IsSome}
+use Rattle.std.specs.Option.{is_some}
 use Rattle.std.proofs.lemmas.List.{replicate-append-replicate}
 use Rattle.rice_bits.specs.Bits.{bits_of, fundamental_sequence}
 use Rattle.rice_bits.specs.declared.fault.BitFault.{BitFault}
@@ -67,6 +68,13 @@ zeros-fs a b = sym (append_assoc (replicate a false) (replicate b false) (true �
 pub one_waits : {I : Type 0} (left : I → Option (List ℕ)) (failed : I → ℕ) (old new : Reader I) (n : ℕ)
     → Takes left failed old new (replicate n false) → is_blank old.waiting ≡ false → 0 < length new.waiting
 one_waits left failed old new n taken some = one_behind_zeros old.waiting (bits_of taken.draws.given) new.waiting n some taken.draws.split
+
+pub no_refusal : (refusal : Option BitFault) → is_some refusal ≡ false → refusal ≡ None
+no_refusal None e = refl
+no_refusal (Some f) e = absurd cc
+
+pub refused : (refusal : Option BitFault) (f : BitFault) (P : BitFault → Type 0) → refusal ≡ Some f → P f → IfSome refusal P
+refused refusal f P e holds = rw e holds
 
 -- a reader with a bit has refused nothing
 pub not_refused : (refusal : Option BitFault) (bits : List Bool) → 0 < length bits → (IsSome refusal → bits ≡ []) → refusal ≡ None

@@ -194,7 +194,11 @@ impl<I: Intake> BitReader<I> {
         if let Some(value) = self.take_ready(width, meter) {
             return Ok(value);
         }
-        self.take_across(width, meter)
+        let value = self.take_across(width, meter);
+        match self.refusal {
+            None => Ok(value),
+            Some(fault) => Err(fault),
+        }
     }
 
     /// Takes the next `width` bits, where more wait.
@@ -219,26 +223,26 @@ impl<I: Intake> BitReader<I> {
         }
     }
 
-    /// Takes the next `width` bits, and calls the intake where too few wait.
+    /// Takes the next `width` bits, and calls the intake where too few wait. Where that leaves a refusal, the answer says nothing.
     #[inline(never)]
-    fn take_across(&mut self, width: u32, meter: &mut Meter) -> Result<u32, BitFault>
+    fn take_across(&mut self, width: u32, meter: &mut Meter) -> u32
         requires width { width ≤ 32 }
         requires meter { meter.old + width < 2 ^ 62 }
-        ensures ok { IfOk result (λ v. (v < 2 ^ width) × Takes I.left I.failed self.old self.new (word width v)) }
+        ensures ok { self.new.refusal ≡ None → (result < 2 ^ width) × Takes I.left I.failed self.old self.new (word width result) }
         // A first refusal took all bits that were left, which were too few.
-        ensures err { self.old.refusal ≡ None → IfErr result (λ f.
+        ensures err { self.old.refusal ≡ None → IfSome self.new.refusal (λ f.
             (bits : List Bool) × (length bits < width) × Stops I.left I.failed self.old self.new bits f) }
-        // A reader that has refused answers the same, and takes nothing.
-        ensures stopped { IfSome self.old.refusal (λ f. (result ≡ Err f) × (self.new ≡ self.old)) }
-        ensures taken { OnOk result (self.new.taken ≡ self.old.taken + width) }
+        // A reader that has refused takes nothing.
+        ensures stopped { IsSome self.old.refusal → self.new ≡ self.old }
+        ensures taken { self.new.refusal ≡ None → self.new.taken ≡ self.old.taken + width }
         ensures most { self.new.taken ≤ self.old.taken + width }
         ensures limit { self.new.taken ≤ 2 ^ 52 }
         // The intake is not called where enough bits wait.
         ensures idle { width ≤ length self.old.waiting → self.new.intake ≡ self.old.intake }
         ensures steps { meter.new + self.old.taken ≡ meter.old + self.new.taken }
     {
-        if let Some(fault) = self.refusal {
-            return Err(fault);
+        if self.refusal.is_some() {
+            return 0;
         }
         let mut value = 0;
         let mut left = width;
@@ -248,10 +252,10 @@ impl<I: Intake> BitReader<I> {
                     value = join(value, count, digits);
                     left -= count;
                 }
-                Err(fault) => return Err(fault),
+                Err(_) => return 0,
             }
         }
-        Ok(value as u32)
+        value as u32
     }
 
     /// Takes zeros up to and with the next 1, and answers how many zeros they were: the number of a fundamental sequence
@@ -276,7 +280,11 @@ impl<I: Intake> BitReader<I> {
         if let Some(zeros) = self.take_fs_ready(meter) {
             return Ok(zeros);
         }
-        self.take_fs_across(meter)
+        let zeros = self.take_fs_across(meter);
+        match self.refusal {
+            None => Ok(zeros),
+            Some(fault) => Err(fault),
+        }
     }
 
     /// Takes a fundamental sequence, where its 1 comes soon.
@@ -291,40 +299,40 @@ impl<I: Intake> BitReader<I> {
         ensures limit { self.new.taken ≤ 2 ^ 52 }
     {
         match self.window.take_sequence() {
-            Some(zeros) => {
-                meter.tick(zeros as u64 + 1);
+            Some(used) => {
+                meter.tick(used);
                 self.ones = 1;
-                Some(zeros as u64)
+                Some(used - 1)
             }
             None => None,
         }
     }
 
-    /// Takes a fundamental sequence, and calls the intake where no 1 waits.
+    /// Takes a fundamental sequence, and calls the intake where no 1 waits. Where that leaves a refusal, the answer says nothing.
     #[inline(never)]
-    fn take_fs_across(&mut self, meter: &mut Meter) -> Result<u64, BitFault>
+    fn take_fs_across(&mut self, meter: &mut Meter) -> u64
         requires meter { meter.old + (2 ^ 52 - self.old.taken) < 2 ^ 62 }
-        ensures ok { IfOk result (λ m. Takes I.left I.failed self.old self.new (fundamental_sequence m)) }
+        ensures ok { self.new.refusal ≡ None → Takes I.left I.failed self.old self.new (fundamental_sequence result) }
         // A first refusal took all bits that were left, which were zeros.
-        ensures err { self.old.refusal ≡ None → IfErr result (λ f.
+        ensures err { self.old.refusal ≡ None → IfSome self.new.refusal (λ f.
             (m : ℕ) × Stops I.left I.failed self.old self.new (replicate m false) f) }
-        // A reader that has refused answers the same, and takes nothing.
-        ensures stopped { IfSome self.old.refusal (λ f. (result ≡ Err f) × (self.new ≡ self.old)) }
-        ensures taken { IfOk result (λ m. self.new.taken ≡ self.old.taken + m + 1) }
+        // A reader that has refused takes nothing.
+        ensures stopped { IsSome self.old.refusal → self.new ≡ self.old }
+        ensures taken { self.new.refusal ≡ None → self.new.taken ≡ self.old.taken + result + 1 }
         ensures most { self.new.taken ≤ 2 ^ 52 }
         // The intake is not called where a 1 waits.
         ensures idle { is_blank self.old.waiting ≡ false → self.new.intake ≡ self.old.intake }
         ensures steps { meter.new + self.old.taken ≡ meter.old + self.new.taken }
     {
-        if let Some(refusal) = self.refusal {
-            return Err(refusal);
+        if self.refusal.is_some() {
+            return 0;
         }
         let mut zeros = 0;
         loop {
             match self.take_run(meter) {
-                Ok((count, true)) => return Ok(zeros + count),
+                Ok((count, true)) => return zeros + count,
                 Ok((count, false)) => zeros += count,
-                Err(fault) => return Err(fault),
+                Err(_) => return 0,
             }
         }
     }
@@ -344,10 +352,10 @@ impl<I: Intake> BitReader<I> {
             self.refusal = Some(refusal);
             return Err(refusal);
         }
-        if let Some(zeros) = self.window.take_sequence() {
+        if let Some(used) = self.window.take_sequence() {
             self.ones = 1;
-            meter.tick(zeros as u64 + 1);
-            return Ok((zeros as u64, true));
+            meter.tick(used);
+            return Ok((used - 1, true));
         }
         let zeros = self.window.take_zeros() as u64;
         meter.tick(zeros);

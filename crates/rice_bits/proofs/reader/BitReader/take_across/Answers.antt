@@ -2,13 +2,13 @@ use Rattle.std.proofs.Common.{arith, ◌≡◌, ◌+◌, ◌-◌, ◌++◌, [], 
 use Rattle.std.proofs.lemmas.Nat.{pow_pos}
 use Rattle.rice_bits.specs.Bits.{word}
 use Rattle.rice_bits.proofs.Words.{join_below, length-word, word-nil, word-cat}
-use Rattle.rice_bits.proofs.ReaderLemmas.{takes-none, takes-append, stops-append, still_wait}
+use Rattle.rice_bits.proofs.ReaderLemmas.{no_refusal, refused, takes-none, takes-append, stops-append, still_wait}
 use Rattle.rice_bits.proofs.reader.BitReader.take_across.Goals as goal
 
 pub loop-left-init : goal.loop-left-init
 loop-left-init g c =
     let e : c.args.width - c.args.width ≡ 0 = omega arith in
-    let none : c.args.self.now.refusal ≡ None = ap (λ r. r.refusal) (sym c.self.view_is) ∙ c.in_default.is in
+    let none : c.args.self.now.refusal ≡ None = ap (λ r. r.refusal) (sym c.self.view_is) ∙ no_refusal c.self.inside.refusal (sym c.is_some.ensures ∙ c.if-is_some.false) in
     record {
       within = omega arith;
       below = pow_pos _;
@@ -41,7 +41,7 @@ loop-left-preserved g c =
     }
 
 pub returns-in-Err-clause-err : goal.returns-in-Err-clause-err
-returns-in-Err-clause-err g c none = (
+returns-in-Err-clause-err g c none = refused _ _ _ c.in-Err.ensures.err.refusal (
   word (c.args.width - c.loop-left.left) c.loop-left.value ++ [],
   omega (arith, length-append (word (c.args.width - c.loop-left.left) c.loop-left.value) [], length-word (c.args.width - c.loop-left.left) c.loop-left.value, c.loop-left.invariant.within, c.loop-left-test.true),
   stops-append _ _ c.args.self.now c.loop-left.self c.take_some.new.self _ _ _ c.loop-left.invariant.takes c.in-Err.ensures.err,

@@ -1,4 +1,4 @@
-use Rattle.std.proofs.Common.{arith, ◌≡◌, ap, sym, ◌∙◌, refl, None, false, length}
+use Rattle.std.proofs.Common.{arith, ◌≡◌, ◌-◌, ap, sym, ◌∙◌, refl, None, false, length}
 use Rattle.std.specs.Prelude.{◌&&◌, ◌==◌}
 use Rattle.std.proofs.lemmas.List.{length-replicate}
 use Rattle.rice_bits.specs.Window.{window_bits, window_taken}
@@ -21,14 +21,14 @@ returns-in-Err-clause-err g c = rw (← c.self.view_is) record {
 
 pub returns-in-Some-clause-one : goal.returns-in-Some-clause-one
 returns-in-Some-clause-one g c _ =
-    let m = c.in-Some.zeros in
+    let m = c.in-Some.used - 1 in
     let none : c.self.inside.refusal ≡ None = ap (λ r. r.refusal) c.self.view_is ∙ c.requires.going in
-    rw (← c.self.view_is) (takes_some _ _ _ _ (window_bits c.supply.new.window) _ c.in_default.ensures.ok c.in-Some.ensures.some.1
-    (omega (arith, c.in-Some.ensures.some.2, length-fundamental_sequence m, c.in_default.ensures.taken))
+    rw (← c.self.view_is) (takes_some _ _ _ _ (window_bits c.supply.new.window) _ c.in_default.ensures.ok c.in-Some.ensures.some.2
+    (omega (arith, c.in-Some.ensures.some.0, c.in-Some.ensures.some.3, length-fundamental_sequence m, c.in_default.ensures.taken))
     (sym (ap (λ b. (c.self.inside.ones == 0) && b) (blank-fs m) ∙ and-false _)) none c.in_default.ensures.failures)
 
 pub returns-in-Some-clause-steps : goal.returns-in-Some-clause-steps
-returns-in-Some-clause-steps g c = omega (arith, c.in-Some.ensures.some.2, c.in_default.ensures.taken, ap (λ r. r.taken) c.self.view_is)
+returns-in-Some-clause-steps g c = omega (arith, c.in-Some.ensures.some.3, c.in_default.ensures.taken, ap (λ r. r.taken) c.self.view_is)
 
 pub returns-clause-zeros : goal.returns-clause-zeros
 returns-clause-zeros g c _ =
