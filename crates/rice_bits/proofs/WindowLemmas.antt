@@ -14,7 +14,7 @@ use Rattle.rice_bits.specs.declared.window.Window.{Window}
 use Rattle.rice_bits.proofs.Bytes.{bits_of-append, bits_of-zeros, length-bits_of}
 use Rattle.rice_bits.proofs.EightBytes.{bits_of-eight}
 use Rattle.rice_bits.proofs.Runs.{take-front, word-moved, word-parts}
-use Rattle.rice_bits.proofs.Words.{length-fundamental_sequence, length-word}
+use Rattle.rice_bits.proofs.Words.{length-fundamental_sequence, length-word, word-split}
 
 -- a part of a list is its two parts
 between-join : {A : Type 0} (xs : List A) (a s e : ℕ) → a ≤ s → s ≤ e → slice_range xs a s ++ slice_range xs s e ≡ slice_range xs a e
@@ -89,6 +89,26 @@ window_split w v n xs h at end buffer e =
     let m : w.at + n - w.at ≡ n = omega arith in
     rw (at, end, buffer) (sym (between-join bits w.at (w.at + n) w.end (omega arith) h) ∙ ap (λ k. k ++ slice_range bits (w.at + n) w.end) (ap (λ k. take k (drop w.at bits)) m ∙ sym e))
 
+-- the bits of eight bytes
+bits-loaded : (bytes : List ℕ) (q v : ℕ) → q + 8 ≤ length bytes → to_be_bytes w64 v ≡ take 8 (drop q bytes) → word 64 v ≡ take 64 (drop (8 * q) (bits_of bytes))
+bits-loaded bytes q v h eight =
+    sym (bits_of-eight v) ∙ (ap bits_of eight ∙ (sym (take-bits_of 8 (drop q bytes) (omega (arith, h, length-drop q bytes))) ∙ ap (take 64) (sym (drop-bits_of q bytes (omega arith)))))
+
+-- the bits from a place on, as a number inside eight bytes
+pub number-inside : (bytes : List ℕ) (at v width : ℕ) → width ≤ 32 → at / 8 + 8 ≤ length bytes → to_be_bytes w64 v ≡ take 8 (drop (at / 8) bytes)
+    → word width (v / 2 ^ (64 - (at % 8 + width)) % 2 ^ width) ≡ take width (drop at (bits_of bytes))
+number-inside bytes at v width few h eight =
+    let q = at / 8 in
+    let s = at % 8 in
+    let x = v / 2 ^ (64 - (s + width)) in
+    let behind = drop (8 * q) (bits_of bytes) in
+    let place : 8 * q + s ≡ at = omega arith in
+    let front : word (s + width) x ≡ take (s + width) behind =
+    sym (take-front 64 (s + width) v (omega (arith, few))) ∙ (ap (take (s + width)) (bits-loaded bytes q v h eight) ∙ take-take (s + width) 64 behind (omega (arith, few))) in
+    sym (drop-seam (word s (x / 2 ^ width)) (word width (x % 2 ^ width)) s (length-word s (x / 2 ^ width)))
+    ∙ (ap (drop s) (sym (word-split s width x) ∙ front)
+    ∙ (drop-take s width behind ∙ ap (take width) (drop-drop s (8 * q) (bits_of bytes) ∙ ap (λ k. drop k (bits_of bytes)) place)))
+
 -- the bits from a place on, in eight bytes that are moved up
 pub bits-ahead : (bytes : List ℕ) (at v : ℕ) → at / 8 + 8 ≤ length bytes → to_be_bytes w64 v ≡ take 8 (drop (at / 8) bytes)
     → word 64 (v * 2 ^ (at % 8) % 2 ^ 64) ≡ take (64 - at % 8) (drop at (bits_of bytes)) ++ replicate (at % 8) false
@@ -97,8 +117,7 @@ bits-ahead bytes at v h eight =
     let s = at % 8 in
     let front = word s (v / 2 ^ (64 - s)) in
     let behind = drop (8 * q) (bits_of bytes) in
-    let all : word 64 v ≡ take 64 behind =
-    sym (bits_of-eight v) ∙ (ap bits_of eight ∙ (sym (take-bits_of 8 (drop q bytes) (omega (arith, h, length-drop q bytes))) ∙ ap (take 64) (sym (drop-bits_of q bytes (omega arith))))) in
+    let all = bits-loaded bytes q v h eight in
     let size : s + (64 - s) ≡ 64 = omega arith in
     let place : 8 * q + s ≡ at = omega arith in
     let rest : word (64 - s) v ≡ take (64 - s) (drop at (bits_of bytes)) =
@@ -260,12 +279,3 @@ window-front w v r xs rest h near e short at end buffer =
     let front : xs ≡ take n (window_bits w) =
     sym (take-append_seam xs rest) ∙ (ap (take n) (sym e ∙ near) ∙ (take-append-le n (take (bits_near w) (window_bits w)) _ short ∙ take-take n (bits_near w) (window_bits w) few)) in
     window_split w v n xs there at end buffer (front ∙ front-waits w n (omega (arith, there)))
-
--- the digits that a window begins with, which stand at the front of a word
-pub window-digits : (w v : Window) (r n : ℕ) → IsWindow w → word 64 r ≡ take (bits_near w) (window_bits w) ++ replicate (64 - bits_near w) false
-    → n ≤ 57 → w.at + n ≤ w.end → v.at ≡ w.at + n → v.end ≡ w.end → v.buffer ≡ w.buffer → window_bits w ≡ word n (r / 2 ^ (64 - n)) ++ window_bits v
-window-digits w v r n h near few there at end buffer =
-    let xs = word n (r / 2 ^ (64 - n)) in
-    let len : length xs ≡ n = length-word n (r / 2 ^ (64 - n)) in
-    let front : length (take (bits_near w) (window_bits w)) ≡ bits_near w = length-take-le (bits_near w) (window_bits w) (omega arith) in
-    window-front w v r xs (word (64 - n) r) h near (word-parts 64 n r (omega arith)) (omega (arith, len, front, there, length-window w h)) (omega (arith, at, len)) end buffer

@@ -1,12 +1,11 @@
-use Rattle.std.proofs.Common.{◌≡◌, ◌-◌, ◌%◌, ◌*◌, ◌^◌, ◌<◌, arith, ap, sym, ◌∙◌, take, drop, length, refl}
+use Rattle.std.proofs.Common.{◌≡◌, ◌*◌, ◌^◌, ◌<◌, arith, ap, sym, ◌∙◌, take, drop, length, refl}
 use Rattle.std.specs.Prelude.{◌&&◌, flat_map}
 use Rattle.std.proofs.Math.Nat.{pow-le-pow_right}
 use Rattle.rice_bits.specs.Bits.{word, bits_of}
 use Rattle.rice_bits.specs.Reader.{is_blank}
 use Rattle.rice_bits.proofs.Blank.{blank-append, blank-word, ones-none}
 use Rattle.rice_bits.proofs.Parting.{each-more, pieces-more}
-use Rattle.rice_bits.proofs.Runs.{front_below}
-use Rattle.rice_bits.proofs.WindowLemmas.{first-ahead, words-more}
+use Rattle.rice_bits.proofs.WindowLemmas.{words-more}
 use Rattle.rice_bits.proofs.window.each_from.Goals as goal
 
 pub loop-i-init : goal.loop-i-init
@@ -21,20 +20,19 @@ loop-i-init c =
 
 pub overflow_cast-words : goal.overflow_cast-words
 overflow_cast-words c =
-    let below = front_below 64 c.args.width c.bits_from.result (omega arith) (omega arith) in
-    omega (arith, c.front_digits-number.ensures, below, c.requires.width, pow-le-pow_right {n = 2} (omega arith) {i = c.args.width} {j = 32} c.requires.width)
+    omega (arith, c.number_from-number.ensures.below, c.requires.width, pow-le-pow_right {n = 2} (omega arith) {i = c.args.width} {j = 32} c.requires.width)
 
 pub loop-i-preserved : goal.loop-i-preserved
 loop-i-preserved c =
-    let v = c.front_digits-number.result in
+    let v = c.number_from-number.result in
     let done = c.loop-i.i in
     let lt : done < length c.loop-i.words = omega (arith, c.loop-i-test.true, c.loop-i.auto.words) in
-    let below : v < 2 ^ c.args.width = rw c.front_digits-number.ensures (front_below 64 c.args.width c.bits_from.result (omega arith) (omega arith)) in
+    let below : v < 2 ^ c.args.width = c.number_from-number.ensures.below in
     record {
       place = omega (arith, c.loop-i.invariant.place);
       fit = each-more (λ x. x < 2 ^ c.args.width) c.loop-i.words done v lt c.loop-i.invariant.fit below;
       bits = words-more c.args.width (bits_of c.args.bytes.now) c.args.at c.loop-i.at c.loop-i.words done v c.loop-i.invariant.place lt c.loop-i.invariant.bits
-          (rw c.front_digits-number.ensures (first-ahead _ c.args.width (64 - c.loop-i.at % 8) (c.loop-i.at % 8) c.bits_from.result (omega arith) (omega arith) c.bits_from.ensures));
+          c.number_from-number.ensures.bits;
       blank = ap is_blank (pieces-more (word c.args.width) c.loop-i.words done v lt)
           ∙ (blank-append (flat_map (word c.args.width) (take done c.loop-i.words)) (word c.args.width v)
           ∙ ((λ j. c.loop-i.invariant.blank j && blank-word c.args.width v below j) ∙ sym (ones-none c.loop-i.ones v)));
