@@ -1,8 +1,6 @@
 -- Bits without a 1.
-use Rattle.std.proofs.Common.{◌≡◌, ℕ, zero, suc, ◌^◌, ◌<◌, ◌≤◌, Bool, true, false, List, [], ◌∷◌, ◌++◌, length, replicate, refl, sym, ◌∙◌, ap, arith}
-use Rattle.std.specs.Prelude.{◌&&◌, ◌==◌, bit_or}
-use Rattle.std.specs.Int.Bits.{or_zero_l}
-use Rattle.std.proofs.lemmas.Nat.{le_or_l}
+use Rattle.std.proofs.Common.{◌≡◌, ℕ, zero, suc, ◌^◌, ◌<◌, Bool, true, false, List, [], ◌∷◌, ◌++◌, length, replicate, refl, sym, ◌∙◌, ap, arith}
+use Rattle.std.specs.Prelude.{◌&&◌, ◌==◌}
 use Rattle.std.proofs.lemmas.List.{append-nil}
 use Rattle.std.proofs.lemmas.Bool.Decides.{nat_tests}
 use Rattle.rice_bits.specs.Bits.{word, number_of, fundamental_sequence}
@@ -66,12 +64,3 @@ one_behind_zeros old more [] n some e =
     let both : false ≡ true = sym none ∙ (sym joined ∙ (ap is_blank e ∙ zeros)) in
     absurd cc
 one_behind_zeros old more (b ∷ new) n some e = omega arith
-
--- no digit is set in either of two numbers
-pub ones-none : (a b : ℕ) → (bit_or a b == 0) ≡ ((a == 0) && (b == 0))
-ones-none zero zero = refl
-ones-none zero (suc b) = rw (or_zero_l (suc b)) refl
-ones-none (suc a) b = above (bit_or (suc a) b) (le_or_l (suc a) b) ∙ sym (ap (λ t. t && (b == 0)) (above (suc a) (omega arith)))
-  where
-    above : (n : ℕ) → suc a ≤ n → (n == 0) ≡ false
-    above n h = grind (arith, nat_tests)

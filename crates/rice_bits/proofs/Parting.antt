@@ -1,7 +1,6 @@
 -- Numbers that are written to places one after another, and fundamental sequences that are taken so from the front of a number's digits.
-use Rattle.std.proofs.Common.{◌≡◌, ℕ, suc, ◌+◌, ◌/◌, ◌%◌, ◌^◌, ◌<◌, ◌≤◌, Bool, false, List, [], ◌∷◌, ◌++◌, length, take, drop, set, refl, sym, ◌∙◌, ap, subst, arith, append_assoc, length-append, inl, inr, ◌-◌, ◌*◌}
-use Rattle.std.specs.Prelude.{All, flat_map, ◌==◌, ◌&&◌}
-use Rattle.std.proofs.lemmas.Bool.Decides.{nat_tests}
+use Rattle.std.proofs.Common.{◌≡◌, ℕ, suc, ◌+◌, ◌/◌, ◌%◌, ◌^◌, ◌<◌, ◌≤◌, Bool, List, [], ◌∷◌, ◌++◌, length, take, drop, set, refl, sym, ◌∙◌, ap, subst, arith, append_assoc, length-append, inl, inr, ◌-◌, ◌*◌}
+use Rattle.std.specs.Prelude.{All, flat_map}
 use Rattle.std.proofs.lemmas.List.{length-set, append-nil, take_more_set, drop-set-lt, drop-drop}
 use Rattle.std.proofs.lemmas.List.Elements.{All-push}
 use Rattle.std.proofs.lemmas.Grind.{flat_map-append}
@@ -12,9 +11,7 @@ use lib.Count.{count_leading_zeros}
 use Rattle.rice_bits.proofs.Runs.{run-digits}
 use Rattle.rice_bits.specs.Bits.{word, fundamental_sequence}
 use Rattle.rice_bits.specs.Window.{AreParted}
-use Rattle.rice_bits.specs.Reader.{is_blank}
 use Rattle.rice_bits.proofs.Words.{length-word, shift_fits}
-use Rattle.rice_bits.proofs.Blank.{blank-append, blank-fs}
 
 -- one more number, written to the next place
 pub each-more : (P : ℕ → Type 0) (now : List ℕ) (done v : ℕ) → done < length now → All P (take done now) → P v → All P (take (done + 1) (set now done v))
@@ -56,13 +53,6 @@ pub length-parted : (front : ℕ) (old new : List ℕ) (d used taken : ℕ)
     → AreParted front old new d used taken → length (flat_map fundamental_sequence (take taken new)) ≡ used
 length-parted front old new d used taken p =
     omega (arith, p.few, ap length p.bits, length-append (flat_map fundamental_sequence (take taken new)) (word (64 - used) d), length-word 64 front, length-word (64 - used) d)
-
--- fundamental sequences have a 1, where there are any
-pub sequences-blank : (ms : List ℕ) → is_blank (flat_map fundamental_sequence ms) ≡ (length ms == 0)
-sequences-blank [] = refl
-sequences-blank (m ∷ ms) =
-    let some : (suc (length ms) == 0) ≡ false = grind (arith, nat_tests) in
-    blank-append (fundamental_sequence m) (flat_map fundamental_sequence ms) ∙ (ap (λ b. b && is_blank (flat_map fundamental_sequence ms)) (blank-fs m) ∙ sym some)
 
 below_top : (i j v : ℕ) → 2 ^ i ≤ v → v < 2 ^ suc j → i ≤ j
 below_top i j v h k = elim (cases_lt j i) [

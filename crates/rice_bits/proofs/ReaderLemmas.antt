@@ -6,20 +6,23 @@ use Rattle.std.proofs.lemmas.List.{replicate-append-replicate}
 use Rattle.rice_bits.specs.Bits.{bits_of, fundamental_sequence}
 use Rattle.rice_bits.specs.declared.fault.BitFault.{BitFault}
 use Rattle.rice_bits.specs.Reader.{Draws, Takes, Stops, Refuses, Reader, is_blank}
-use Rattle.rice_bits.proofs.Blank.{and-true, blank_joined, one_behind_zeros}
+use Rattle.rice_bits.specs.Window.{Passes, window_bits, window_passed, window_taken}
+use Rattle.rice_bits.specs.declared.window.Window.{Window}
+use Rattle.rice_bits.proofs.Blank.{and-assoc, and-true, blank-append, blank_joined, one_behind_zeros}
 use Rattle.rice_bits.proofs.Drawing.{draws-append, draws-same, draws-take}
 
-pub with-taken : {I : Type 0} (r : Reader I) (n : ℕ) → r.taken ≡ n → r ≡ record r { taken = n }
-with-taken r n e = ap (λ k. record r { taken = k }) e
-
-pub takes_some : {I : Type 0} (left : I → Option (List ℕ)) (failed : I → ℕ) (old new : Reader I) (mid xs : List Bool)
-    → Draws (left old.intake) (left new.intake) old.waiting mid [] → mid ≡ xs ++ new.waiting → new.taken ≡ old.taken + length xs
-    → new.blank ≡ (old.blank && is_blank xs) → new.refusal ≡ None → failed new.intake ≡ failed old.intake
-    → Takes left failed old new xs
-takes_some left failed old new mid xs d e taken blank going same = record {
-  draws = draws-take (left old.intake) (left new.intake) old.waiting mid new.waiting xs d e;
-  taken = taken;
-  blank = blank;
+-- bits are taken of those that a window has
+pub takes_passed : {I : Type 0} (left : I → Option (List ℕ)) (failed : I → ℕ) (old : Reader I) (intake : I) (mid new : Window) (before : Bool) (refusal : Option BitFault) (bits : List Bool)
+    → Draws (left old.intake) (left intake) old.waiting (window_bits mid) [] → window_taken mid ≡ old.taken
+    → (before && is_blank (window_passed mid)) ≡ old.blank → refusal ≡ None → failed intake ≡ failed old.intake → Passes mid new bits
+    → Takes left failed old
+    (record { waiting = window_bits new; taken = window_taken new; blank = before && is_blank (window_passed new); refusal = refusal; intake = intake }) bits
+takes_passed left failed old intake mid new before refusal bits draws taken blank going same passes = record {
+  draws = draws-take (left old.intake) (left intake) old.waiting (window_bits mid) (window_bits new) bits draws passes.split;
+  taken = passes.taken ∙ ap (λ n. n + length bits) taken;
+  blank =
+      ap (λ passed. before && is_blank passed) passes.passed ∙ (ap (λ b. before && b) (blank-append (window_passed mid) bits)
+      ∙ (sym (and-assoc before (is_blank (window_passed mid)) (is_blank bits)) ∙ ap (λ b. b && is_blank bits) blank));
   going = going;
   failures = same;
 }

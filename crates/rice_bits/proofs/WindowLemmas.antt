@@ -1,19 +1,20 @@
 -- The bits that were given and not yet taken.
-use Rattle.std.proofs.Common.{◌≡◌, ℕ, zero, suc, inl, inr, ◌+◌, ◌-◌, ◌*◌, ◌/◌, ◌%◌, ◌^◌, ◌<◌, ◌≤◌, Bool, false, List, [], ◌∷◌, ◌++◌, length, take, drop, set, replicate, length-append, refl, sym, ◌∙◌, ap, arith, take-take, append_assoc}
-use Rattle.std.specs.Prelude.{flat_map, slice_range, bit_or, ◌==◌, ◌&&◌}
+use Rattle.std.proofs.Common.{◌≡◌, ℕ, zero, suc, inl, inr, ◌+◌, ◌-◌, ◌*◌, ◌/◌, ◌%◌, ◌^◌, ◌<◌, ◌≤◌, ◌≢◌, Bool, true, false, List, [], ◌∷◌, ◌++◌, length, take, drop, set, replicate, length-append, refl, sym, ◌∙◌, ap, arith, take-take, append_assoc}
+use Rattle.std.specs.Prelude.{flat_map, slice_range, ◌==◌, ◌&&◌}
 use Rattle.std.proofs.lemmas.Grind.{flat_map-append}
 use Rattle.rice_bits.specs.Reader.{is_blank}
-use Rattle.rice_bits.proofs.Blank.{blank-append, ones-none}
+use Rattle.rice_bits.proofs.Blank.{blank-append, blank-word}
 use Rattle.std.specs.Int.{to_be_bytes, w64}
 use Rattle.std.proofs.Math.Seq.{drop-append_seam, take-add, take-append_seam}
 use Rattle.std.proofs.lemmas.Bool.{cases_lt}
+use Rattle.std.proofs.lemmas.Bool.Decides.{nat_tests}
 use Rattle.std.proofs.lemmas.List.{append-nil, drop-append-le, drop-drop, drop-take, length-drop, length-replicate, length-take-le, replicate-append-replicate, take-append-drop, take-append-le, take-replicate, take_more_set}
 use Rattle.rice_bits.specs.Bits.{fundamental_sequence, word, bits_of}
-use Rattle.rice_bits.specs.Window.{IsWindow, bits_near, window_bits}
+use Rattle.rice_bits.specs.Window.{IsWindow, Passes, bits_near, window_bits, window_passed}
 use Rattle.rice_bits.specs.declared.window.Window.{Window}
 use Rattle.rice_bits.proofs.Bytes.{bits_of-append, bits_of-zeros, length-bits_of}
 use Rattle.rice_bits.proofs.EightBytes.{bits_of-eight}
-use Rattle.rice_bits.proofs.Runs.{take-front, word-moved, word-parts}
+use Rattle.rice_bits.proofs.Runs.{front_below, take-front, word-moved, word-parts}
 use Rattle.rice_bits.proofs.Words.{length-fundamental_sequence, length-word, word-split}
 
 -- a part of a list is its two parts
@@ -72,6 +73,7 @@ length-window w h =
 pub window-moved : (w : Window) (at : ℕ) → IsWindow w → w.at ≤ at → at ≤ w.end → IsWindow (record w { at = at })
 window-moved w at h from to = record {
   size = h.size;
+  marked = omega (arith, h.marked);
   ordered = to;
   fits = h.fits;
   whole = h.whole;
@@ -80,14 +82,31 @@ window-moved w at h from to = record {
   behind = h.behind;
 }
 
--- bits are taken from the front of a window
-pub window_split : (w v : Window) (n : ℕ) (xs : List Bool) → w.at + n ≤ w.end → v.at ≡ w.at + n → v.end ≡ w.end → v.buffer ≡ w.buffer
-    → xs ≡ take n (drop w.at (bits_of w.buffer)) → window_bits w ≡ xs ++ window_bits v
+pub passed_none : (w : Window) → w.marked ≡ w.at → window_passed w ≡ []
+unfolding window_passed
+passed_none w e =
+    let n : w.at - w.marked ≡ 0 = omega arith in
+    rw n refl
+
+pub marked-bits : (w : Window) (marked : ℕ) → window_bits (record w { marked = marked }) ≡ window_bits w
 unfolding window_bits
-window_split w v n xs h at end buffer e =
+marked-bits w marked = refl
+
+-- bits are taken from the front of a window
+pub window-passes : (w : Window) (at n : ℕ) (xs : List Bool) → IsWindow w → at ≡ w.at + n → at ≤ w.end
+    → xs ≡ take n (drop w.at (bits_of w.buffer)) → Passes w (record w { at = at }) xs
+unfolding window_bits window_passed
+window-passes w at n xs h place there e =
     let bits = bits_of w.buffer in
-    let m : w.at + n - w.at ≡ n = omega arith in
-    rw (at, end, buffer) (sym (between-join bits w.at (w.at + n) w.end (omega arith) h) ∙ ap (λ k. k ++ slice_range bits (w.at + n) w.end) (ap (λ k. take k (drop w.at bits)) m ∙ sym e))
+    let size : at - w.at ≡ n = omega arith in
+    let part : xs ≡ slice_range bits w.at at = e ∙ ap (λ k. take k (drop w.at bits)) (sym size) in
+    let len : length xs ≡ n =
+    ap length e ∙ length-take-le n (drop w.at bits) (omega (arith, length-drop w.at bits, length-bits_of w.buffer, h.size, h.fits)) in
+    record {
+      split = sym (between-join bits w.at at w.end (omega arith) there) ∙ ap (λ k. k ++ slice_range bits at w.end) (sym part);
+      passed = sym (between-join bits w.marked w.at at h.marked (omega arith)) ∙ ap (λ k. slice_range bits w.marked w.at ++ k) (sym part);
+      taken = omega (arith, len, h.held, h.ordered);
+    }
 
 -- the bits of eight bytes
 bits-loaded : (bytes : List ℕ) (q v : ℕ) → q + 8 ≤ length bytes → to_be_bytes w64 v ≡ take 8 (drop q bytes) → word 64 v ≡ take 64 (drop (8 * q) (bits_of bytes))
@@ -224,11 +243,38 @@ four-behind w x h =
     joined : (p q r t : List Bool) → p ++ (q ++ (r ++ (t ++ []))) ≡ ((p ++ q) ++ r) ++ t
     joined p q r t = ap (λ z. p ++ (q ++ (r ++ z))) (append-nil t) ∙ (sym (append_assoc p q (r ++ t)) ∙ sym (append_assoc (p ++ q) r t))
 
--- words and those behind them have no 1 where neither have
-pub words-blank : (width a b : ℕ) (xs ys : List ℕ) → is_blank (flat_map (word width) xs) ≡ (a == 0) → is_blank (flat_map (word width) ys) ≡ (b == 0)
-    → is_blank (flat_map (word width) (xs ++ ys)) ≡ (bit_or a b == 0)
-words-blank width a b xs ys first second =
-    ap is_blank (flat_map-append (word width) xs ys) ∙ (blank-append (flat_map (word width) xs) (flat_map (word width) ys) ∙ ((λ j. first j && second j) ∙ sym (ones-none a b)))
+-- a part of bits has no 1 where neither of its two parts has
+blank-parts : (bits : List Bool) (a s e : ℕ) → a ≤ s → s ≤ e
+    → is_blank (slice_range bits a e) ≡ (is_blank (slice_range bits a s) && is_blank (slice_range bits s e))
+blank-parts bits a s e p q = ap is_blank (sym (between-join bits a s e p q)) ∙ blank-append (slice_range bits a s) (slice_range bits s e)
+
+-- bits that stand at the front of a word have no 1 where they spell 0
+blank-ahead : (bits : List Bool) (s n r v : ℕ) → n ≤ 57 → r < 2 ^ 64 → word 64 r ≡ take (64 - s % 8) (drop s bits) ++ replicate (s % 8) false
+    → v ≡ r / 2 ^ (64 - n) → is_blank (slice_range bits s (s + n)) ≡ (v == 0)
+blank-ahead bits s n r v few fits ahead e =
+    let size : s + n - s ≡ n = omega arith in
+    let digits : word n v ≡ slice_range bits s (s + n) =
+    ap (word n) e ∙ (first-ahead (drop s bits) n (64 - s % 8) (s % 8) r (omega (arith, few)) (omega arith) ahead ∙ ap (λ k. take k (drop s bits)) (sym size)) in
+    ap is_blank (sym digits) ∙ blank-word n v (rw e (front_below 64 n r (omega (arith, few)) fits))
+
+pub blank-start : (bits : List Bool) (a : ℕ) → is_blank (slice_range bits a a) ≡ true
+blank-start bits a =
+    let none : a - a ≡ 0 = omega arith in
+    rw none refl
+
+pub blank-more : (bits : List Bool) (a s n r v : ℕ) → a ≤ s → n ≤ 57 → r < 2 ^ 64 → word 64 r ≡ take (64 - s % 8) (drop s bits) ++ replicate (s % 8) false
+    → v ≡ r / 2 ^ (64 - n) → is_blank (slice_range bits a s) ≡ true → v ≡ 0 → is_blank (slice_range bits a (s + n)) ≡ true
+blank-more bits a s n r v from few fits ahead e before none =
+    blank-parts bits a s (s + n) from (omega arith)
+    ∙ ((λ j. before j && blank-ahead bits s n r v few fits ahead e j) ∙ ap (λ k. k == 0) none)
+
+pub blank-not : (bits : List Bool) (a s n r v end : ℕ) → a ≤ s → n ≤ 57 → r < 2 ^ 64 → word 64 r ≡ take (64 - s % 8) (drop s bits) ++ replicate (s % 8) false
+    → v ≡ r / 2 ^ (64 - n) → is_blank (slice_range bits a s) ≡ true → v ≢ 0 → s + n ≤ end → is_blank (slice_range bits a end) ≡ false
+blank-not bits a s n r v end from few fits ahead e before some within =
+    let one : (v == 0) ≡ false = grind (arith, nat_tests) in
+    blank-parts bits a s end from (omega (arith, within))
+    ∙ ((λ j. before j && blank-parts bits s (s + n) end (omega arith) within j)
+    ∙ ap (λ b. b && is_blank (slice_range bits (s + n) end)) (blank-ahead bits s n r v few fits ahead e ∙ one))
 
 -- four words at the front of a word
 pub four-ahead : (width s r : ℕ) (bits : List Bool) (four : List ℕ) → width ≤ 8 → s < 8 → word 64 r ≡ take (64 - s) bits ++ replicate s false
@@ -269,13 +315,12 @@ near-there w xs h short =
     omega (arith, short, length-take-le (bits_near w) (window_bits w) (omega arith), length-window w h, h.ordered)
 
 -- the first bits of a window, which stand at the front of a word
-pub window-front : (w v : Window) (r : ℕ) (xs rest : List Bool) → IsWindow w → word 64 r ≡ take (bits_near w) (window_bits w) ++ replicate (64 - bits_near w) false
-    → word 64 r ≡ xs ++ rest → length xs ≤ length (take (bits_near w) (window_bits w)) → v.at ≡ w.at + length xs → v.end ≡ w.end → v.buffer ≡ w.buffer
-    → window_bits w ≡ xs ++ window_bits v
-window-front w v r xs rest h near e short at end buffer =
+pub window-front : (w : Window) (at r : ℕ) (xs rest : List Bool) → IsWindow w → word 64 r ≡ take (bits_near w) (window_bits w) ++ replicate (64 - bits_near w) false
+    → word 64 r ≡ xs ++ rest → length xs ≤ length (take (bits_near w) (window_bits w)) → at ≡ w.at + length xs → Passes w (record w { at = at }) xs
+window-front w at r xs rest h near e short place =
     let n = length xs in
     let there = near-there w xs h short in
     let few : n ≤ bits_near w = omega (arith, short, length-take-le (bits_near w) (window_bits w) (omega arith)) in
     let front : xs ≡ take n (window_bits w) =
     sym (take-append_seam xs rest) ∙ (ap (take n) (sym e ∙ near) ∙ (take-append-le n (take (bits_near w) (window_bits w)) _ short ∙ take-take n (bits_near w) (window_bits w) few)) in
-    window_split w v n xs there at end buffer (front ∙ front-waits w n (omega (arith, there)))
+    window-passes w at n xs h place (omega (arith, there)) (front ∙ front-waits w n (omega (arith, there)))

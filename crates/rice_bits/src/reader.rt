@@ -1,9 +1,9 @@
 //! A reader of bits.
-ghost use Rattle.std.specs.Prelude.{◌≡◌, ℕ, ◌+◌, ◌-◌, ◌*◌, ◌%◌, ◌^◌, ◌<◌, ◌≤◌, Bool, true, false, List, [], ◌++◌, length, replicate, All, drop, flat_map, take, IfOk, IfErr, OnOk, IfSome, IfNone, IsSome, Option, None};
+ghost use Rattle.std.specs.Prelude.{◌≡◌, ℕ, ◌+◌, ◌-◌, ◌*◌, ◌%◌, ◌^◌, ◌<◌, ◌≤◌, ◌&&◌, Bool, true, false, List, [], ◌++◌, length, replicate, All, drop, flat_map, take, IfOk, IfErr, OnOk, IfSome, IfNone, IsSome, Option, None};
 ghost use Rattle.std.specs.Io.KnownBytes.{Consumes};
 ghost use Rattle.rice_bits.specs.Bits.{fundamental_sequence, bits_to_byte, word};
-ghost use Rattle.rice_bits.specs.Reader.{Draws, Refuses};
-ghost use Rattle.rice_bits.specs.Window.{IsWindow, window_bits, window_taken};
+ghost use Rattle.rice_bits.specs.Reader.{Draws, Refuses, is_blank};
+ghost use Rattle.rice_bits.specs.Window.{IsWindow, window_bits, window_passed, window_taken};
 
 use crate::device::Intake;
 use crate::digits::join;
@@ -25,19 +25,19 @@ const LIMIT: u64 = 1 << 49;
 pub struct BitReader<I: Intake> {
     intake: I,
     window: Window,
-    /// The digits of all numbers that were taken since the mark, one over the other: 0 where no 1 was taken.
-    ones: u64,
+    /// Whether all bits that were taken since the mark were 0, those aside that the window still has.
+    blank_before: bool,
     refusal: Option<BitFault>,
 }
 
 impl<I: Intake> Model for BitReader<I> {
-    ghost use Rattle.std.specs.Prelude.{◌==◌};
-    ghost use Rattle.rice_bits.specs.Reader.{Reader, IsReader};
-    ghost use Rattle.rice_bits.specs.Window.{window_bits, window_taken};
+    ghost use Rattle.std.specs.Prelude.{◌&&◌};
+    ghost use Rattle.rice_bits.specs.Reader.{Reader, IsReader, is_blank};
+    ghost use Rattle.rice_bits.specs.Window.{window_bits, window_passed, window_taken};
 
     ghost Value = { Reader I };
 
-    ghost view = { λ s. record { waiting = window_bits s.window; taken = window_taken s.window; blank = s.ones == 0; refusal = s.refusal; intake = s.intake } };
+    ghost view = { λ s. record { waiting = window_bits s.window; taken = window_taken s.window; blank = s.blank_before && is_blank (window_passed s.window); refusal = s.refusal; intake = s.intake } };
 
     ghost invariant = { λ s. IsReader (I.failed s.intake) s.window s.refusal };
 }
@@ -75,19 +75,26 @@ fn ask<I: Intake>(
 }
 
 /// Draws bytes from the intake, where no bit waits.
-fn draw<I: Intake>(intake: &mut I, window: &mut Window, blank: bool) -> Result<(), BitFault>
+fn draw<I: Intake>(
+    intake: &mut I,
+    window: &mut Window,
+    blank_before: &mut bool,
+) -> Result<(), BitFault>
     requires window { IsWindow window.old }
     requires empty { window.old.at ≡ window.old.end }
     requires countable { I.failed intake.old + 1 < 2 ^ 64 }
     ensures window { IsWindow window.new }
     ensures some { OnOk result (0 < length (window_bits window.new)) }
     ensures ok { OnOk result (Draws (I.left intake.old) (I.left intake.new) (window_bits window.old) (window_bits window.new) []) }
+    ensures blank { (blank_before.new && is_blank (window_passed window.new)) ≡ (blank_before.old && is_blank (window_passed window.old)) }
     ensures taken { window_taken window.new ≡ window_taken window.old }
     ensures failures { OnOk result (I.failed intake.new ≡ I.failed intake.old) }
     ensures err { IfErr result (λ f. (window_bits window.old ≡ []) × (window_bits window.new ≡ []) ×
-        Refuses f (I.left intake.old) (I.left intake.new) (I.failed intake.old) (I.failed intake.new) (window_taken window.old) blank) }
+        Refuses f (I.left intake.old) (I.left intake.new) (I.failed intake.old) (I.failed intake.new) (window_taken window.old) (blank_before.old && is_blank (window_passed window.old))) }
 {
-    match ask(intake, &mut window.buffer, window.given, blank) {
+    // Other bytes may take the place of the bits that were taken.
+    *blank_before = window.is_blank(*blank_before);
+    match ask(intake, &mut window.buffer, window.given, *blank_before) {
         Ok(count) => {
             window.hold(count);
             Ok(())
@@ -101,26 +108,31 @@ fn draw<I: Intake>(intake: &mut I, window: &mut Window, blank: bool) -> Result<(
 }
 
 /// Makes sure that a bit waits.
-fn supply<I: Intake>(intake: &mut I, window: &mut Window, blank: bool) -> Result<(), BitFault>
+fn supply<I: Intake>(
+    intake: &mut I,
+    window: &mut Window,
+    blank_before: &mut bool,
+) -> Result<(), BitFault>
     requires window { IsWindow window.old }
     requires countable { I.failed intake.old + 1 < 2 ^ 64 }
     ensures window { IsWindow window.new }
     ensures some { OnOk result (0 < length (window_bits window.new)) }
     ensures ok { OnOk result (Draws (I.left intake.old) (I.left intake.new) (window_bits window.old) (window_bits window.new) []) }
+    ensures blank { (blank_before.new && is_blank (window_passed window.new)) ≡ (blank_before.old && is_blank (window_passed window.old)) }
     ensures taken { window_taken window.new ≡ window_taken window.old }
     ensures failures { OnOk result (I.failed intake.new ≡ I.failed intake.old) }
     ensures idle { 0 < length (window_bits window.old) → intake.new ≡ intake.old }
     ensures err { IfErr result (λ f. (window_bits window.old ≡ []) × (window_bits window.new ≡ []) ×
-        Refuses f (I.left intake.old) (I.left intake.new) (I.failed intake.old) (I.failed intake.new) (window_taken window.old) blank) }
+        Refuses f (I.left intake.old) (I.left intake.new) (I.failed intake.old) (I.failed intake.new) (window_taken window.old) (blank_before.old && is_blank (window_passed window.old))) }
 {
     if window.len() > 0 {
         return Ok(());
     }
-    draw(intake, window, blank)
+    draw(intake, window, blank_before)
 }
 
 impl<I: Intake> BitReader<I> {
-    ghost use Rattle.rice_bits.specs.Reader.{Takes, Stops, is_blank};
+    ghost use Rattle.rice_bits.specs.Reader.{Takes, Stops};
 
     /// A reader that has taken no bit, and is as just after [`mark`](Self::mark).
     pub fn new(intake: I) -> Self
@@ -130,7 +142,7 @@ impl<I: Intake> BitReader<I> {
         BitReader {
             intake,
             window: Window::new(),
-            ones: 0,
+            blank_before: true,
             refusal: None,
         }
     }
@@ -142,7 +154,7 @@ impl<I: Intake> BitReader<I> {
         let BitReader {
             intake,
             window: _,
-            ones: _,
+            blank_before: _,
             refusal: _,
         } = self;
         intake
@@ -167,7 +179,8 @@ impl<I: Intake> BitReader<I> {
         ensures stopped { IsSome self.old.refusal → self.new ≡ self.old }
     {
         if self.refusal.is_none() {
-            self.ones = 0;
+            self.window.mark();
+            self.blank_before = true;
         }
     }
 
@@ -213,14 +226,9 @@ impl<I: Intake> BitReader<I> {
         ensures steps { meter.new + self.old.taken ≡ meter.old + self.new.taken }
         ensures limit { self.new.taken ≤ 2 ^ 52 }
     {
-        match self.window.take_of_more(width) {
-            Some(number) => {
-                meter.tick(width as u64);
-                self.ones |= number;
-                Some(number as u32)
-            }
-            None => None,
-        }
+        let number = self.window.take_of_more(width)?;
+        meter.tick(width as u64);
+        Some(number as u32)
     }
 
     /// Takes the next `width` bits, and calls the intake where too few wait. Where that leaves a refusal, the answer says nothing.
@@ -298,14 +306,9 @@ impl<I: Intake> BitReader<I> {
         ensures steps { meter.new + self.old.taken ≡ meter.old + self.new.taken }
         ensures limit { self.new.taken ≤ 2 ^ 52 }
     {
-        match self.window.take_sequence() {
-            Some(used) => {
-                meter.tick(used);
-                self.ones = 1;
-                Some(used - 1)
-            }
-            None => None,
-        }
+        let used = self.window.take_sequence()?;
+        meter.tick(used);
+        Some(used - 1)
     }
 
     /// Takes a fundamental sequence, and calls the intake where no 1 waits. Where that leaves a refusal, the answer says nothing.
@@ -348,12 +351,11 @@ impl<I: Intake> BitReader<I> {
         ensures steps { meter.new + self.old.taken ≡ meter.old + self.new.taken }
         ensures limit { self.new.taken ≤ 2 ^ 52 }
     {
-        if let Err(refusal) = supply(&mut self.intake, &mut self.window, self.ones == 0) {
+        if let Err(refusal) = supply(&mut self.intake, &mut self.window, &mut self.blank_before) {
             self.refusal = Some(refusal);
             return Err(refusal);
         }
         if let Some(used) = self.window.take_sequence() {
-            self.ones = 1;
             meter.tick(used);
             return Ok((used - 1, true));
         }
@@ -380,10 +382,9 @@ impl<I: Intake> BitReader<I> {
         ensures limit { self.new.taken ≤ 2 ^ 52 }
     {
         let before = self.window.len();
-        let (taken, ones) = self.window.take_words(width, words);
+        let taken = self.window.take_words(width, words);
         let left = self.window.len();
         meter.tick((before - left) as u64);
-        self.ones |= ones;
         taken
     }
 
@@ -406,7 +407,6 @@ impl<I: Intake> BitReader<I> {
         let before = self.window.len();
         let taken = self.window.take_sequences(zeros);
         meter.tick((before - self.window.len()) as u64);
-        self.ones |= taken as u64;
         taken
     }
 
@@ -418,8 +418,11 @@ impl<I: Intake> BitReader<I> {
         ensures rest { self.new ≡ record self.old { waiting = self.new.waiting; taken = self.old.taken + bits_to_byte self.old.taken } }
         ensures steps { meter.new ≡ meter.old + bits_to_byte self.old.taken }
     {
+        // The bits of the gap do not count: those before it are looked at now, and the mark passes it.
+        self.blank_before = self.window.is_blank(self.blank_before);
         let gap = (self.window.len() % 8) as u32;
         let _number = self.window.take_first(gap);
+        self.window.mark();
         meter.tick(gap as u64);
     }
 
@@ -436,14 +439,13 @@ impl<I: Intake> BitReader<I> {
         ensures steps { meter.new + self.old.taken ≡ meter.old + self.new.taken }
         ensures limit { self.new.taken ≤ 2 ^ 52 }
     {
-        if let Err(fault) = supply(&mut self.intake, &mut self.window, self.ones == 0) {
+        if let Err(fault) = supply(&mut self.intake, &mut self.window, &mut self.blank_before) {
             self.refusal = Some(fault);
             return Err(fault);
         }
         let count = most.min(self.window.len() as u32);
         let digits = self.window.take_first(count);
         meter.tick(count as u64);
-        self.ones |= digits;
         Ok((digits, count))
     }
 }

@@ -1,7 +1,6 @@
-use Rattle.std.proofs.Common.{◌≡◌, ◌*◌, ◌++◌, arith, ap, length, subst, sym, take, ◌∙◌}
+use Rattle.std.proofs.Common.{◌≡◌, ◌*◌, ◌++◌, arith, ap, length, sym, take, ◌∙◌}
 use Rattle.std.proofs.lemmas.List.{length-take-le}
 use Rattle.rice_bits.specs.Bits.{bits_of}
-use Rattle.rice_bits.specs.Reader.{Refuses}
 use Rattle.rice_bits.specs.Window.{window_taken}
 use Rattle.rice_bits.proofs.Bytes.{bits_of-nil, length-bits_of}
 use Rattle.rice_bits.proofs.WindowLemmas.{window_empty}
@@ -22,9 +21,8 @@ returns-in-Ok-clause-ok g c = record {
 
 pub returns-in-Err-clause-err : goal.returns-in-Err-clause-err
 returns-in-Err-clause-err g c =
-    let taken : 8 * c.args.window.now.given ≡ window_taken c.args.window.now = omega (arith, c.requires.empty) in (
+    let taken : window_taken c.args.window.now ≡ 8 * c.args.window.now.given = omega (arith, c.requires.empty) in (
       window_empty _ c.requires.empty,
       c.hold-in-Err.ensures.bits ∙ bits_of-nil,
-      subst (λ n. Refuses c.in-Err.fault (g.I.Intake.left c.args.intake.now) (g.I.Intake.left c.ask.new.intake) (g.I.Intake.failed c.args.intake.now) (g.I.Intake.failed c.ask.new.intake) n c.args.blank)
-          taken c.in-Err.ensures.err,
+      rw (taken, ← c.is_blank.ensures) c.in-Err.ensures.err,
     )

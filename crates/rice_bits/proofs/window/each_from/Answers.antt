@@ -1,10 +1,7 @@
-use Rattle.std.proofs.Common.{◌≡◌, ◌*◌, ◌^◌, ◌<◌, arith, ap, sym, ◌∙◌, take, drop, length, refl}
-use Rattle.std.specs.Prelude.{◌&&◌, flat_map}
+use Rattle.std.proofs.Common.{◌≡◌, ◌*◌, ◌^◌, ◌<◌, arith, ap, take, drop, length}
 use Rattle.std.proofs.Math.Nat.{pow-le-pow_right}
-use Rattle.rice_bits.specs.Bits.{word, bits_of}
-use Rattle.rice_bits.specs.Reader.{is_blank}
-use Rattle.rice_bits.proofs.Blank.{blank-append, blank-word, ones-none}
-use Rattle.rice_bits.proofs.Parting.{each-more, pieces-more}
+use Rattle.rice_bits.specs.Bits.{bits_of}
+use Rattle.rice_bits.proofs.Parting.{each-more}
 use Rattle.rice_bits.proofs.WindowLemmas.{words-more}
 use Rattle.rice_bits.proofs.window.each_from.Goals as goal
 
@@ -15,7 +12,6 @@ loop-i-init c =
       place = omega arith;
       fit = λ i d lt. absurd (omega arith);
       bits = ap (λ n. take n (drop c.args.at (bits_of c.args.bytes.now))) none;
-      blank = refl;
     }
 
 pub overflow_cast-words : goal.overflow_cast-words
@@ -33,7 +29,4 @@ loop-i-preserved c =
       fit = each-more (λ x. x < 2 ^ c.args.width) c.loop-i.words done v lt c.loop-i.invariant.fit below;
       bits = words-more c.args.width (bits_of c.args.bytes.now) c.args.at c.loop-i.at c.loop-i.words done v c.loop-i.invariant.place lt c.loop-i.invariant.bits
           c.number_from-number.ensures.bits;
-      blank = ap is_blank (pieces-more (word c.args.width) c.loop-i.words done v lt)
-          ∙ (blank-append (flat_map (word c.args.width) (take done c.loop-i.words)) (word c.args.width v)
-          ∙ ((λ j. c.loop-i.invariant.blank j && blank-word c.args.width v below j) ∙ sym (ones-none c.loop-i.ones v)));
     }

@@ -1,12 +1,9 @@
-use Rattle.std.proofs.Common.{◌≡◌, ℕ, ◌-◌, ◌%◌, ◌+◌, ◌*◌, ◌^◌, ◌<◌, ◌∙◌, arith, ap, sym, subst, take, drop}
+use Rattle.std.proofs.Common.{◌≡◌, ℕ, ◌%◌, ◌+◌, ◌*◌, ◌^◌, ◌<◌, ◌∙◌, arith, ap, sym, subst, take, drop}
 use Rattle.std.specs.Prelude.{All, flat_map}
 use Rattle.std.proofs.lemmas.List.Elements.{All-append}
 use Rattle.std.proofs.lemmas.Simd.{take_more_put_chunk}
 use Rattle.rice_bits.specs.Bits.{word, bits_of}
-use Rattle.rice_bits.specs.Reader.{is_blank}
-use Rattle.rice_bits.proofs.Blank.{blank-word}
-use Rattle.rice_bits.proofs.Runs.{front_below}
-use Rattle.rice_bits.proofs.WindowLemmas.{first-ahead, four-ahead, words-blank, words-joined}
+use Rattle.rice_bits.proofs.WindowLemmas.{four-ahead, words-joined}
 use Rattle.rice_bits.proofs.window.fours_from.Goals as goal
 
 moved : (at from i w : ℕ) → at ≡ from + 4 * i * w → at + 4 * w ≡ from + 4 * (i + 1) * w
@@ -18,22 +15,16 @@ loop-i-preserved c =
     let bits = bits_of c.args.bytes.now in
     let l = c.loop-i in
     let r = c.bits_from-front.result in
-    let v = c.front_digits-ones.result in
     let before = take (4 * l.i) l.words in
     let four = c.four_words-four.result in
     let written = take_more_put_chunk (4 * l.i) l.words four (4 * (l.i + 1)) (omega (arith, c.four_words-four.ensures.len)) (omega (arith, c.loop-i-test.true, l.auto.words)) in
     let ahead = c.bits_from-front.ensures in
     let digits : flat_map (word w) four ≡ take (4 * w) (drop l.at bits) =
     four-ahead w (l.at % 8) r (drop l.at bits) four c.requires.width.1 (omega arith) ahead (c.four_words-four.ensures.bits ∙ ap (λ d. take (4 * w) (word 32 d)) c.front_digits.ensures) in
-    let below : v < 2 ^ (4 * w) = rw c.front_digits-ones.ensures (front_below 64 (4 * w) r (omega (arith, c.requires.width)) (omega arith)) in
-    let same : flat_map (word w) four ≡ word (4 * w) v =
-    digits ∙ sym (rw c.front_digits-ones.ensures (first-ahead (drop l.at bits) (4 * w) (64 - l.at % 8) (l.at % 8) r (omega (arith, c.requires.width)) (omega arith) ahead)) in
     let more : 4 * l.i + 4 ≡ 4 * (l.i + 1) = omega arith in
     record {
       place = moved l.at c.args.at l.i w l.invariant.place;
       fit = subst (All (λ d. d < 2 ^ w)) (sym written) (All-append (λ d. d < 2 ^ w) before four l.invariant.fit c.four_words-four.ensures.fit);
       bits = ap (flat_map (word w)) written ∙ (words-joined w bits c.args.at l.at (4 * l.i) 4 before four l.invariant.place l.invariant.bits digits
           ∙ ap (λ n. take (n * w) (drop c.args.at bits)) more);
-      blank = ap (λ xs. is_blank (flat_map (word w) xs)) written
-          ∙ words-blank w l.ones v before four l.invariant.blank (ap is_blank same ∙ blank-word (4 * w) v below);
     }

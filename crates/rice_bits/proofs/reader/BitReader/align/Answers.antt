@@ -1,8 +1,10 @@
-use Rattle.std.proofs.Common.{arith, ◌≡◌, ◌+◌, ◌%◌, ap, ◌∙◌}
+use Rattle.std.proofs.Common.{arith, ◌≡◌, ◌+◌, ◌%◌, ◌++◌, ap, sym, ◌∙◌}
+use Rattle.std.specs.Prelude.{◌&&◌}
 use Rattle.rice_bits.specs.Bits.{word, bits_to_byte}
-use Rattle.rice_bits.specs.Window.{window_taken}
+use Rattle.rice_bits.specs.Window.{window_bits, window_passed, window_taken}
+use Rattle.rice_bits.specs.Reader.{is_blank}
+use Rattle.rice_bits.proofs.Blank.{and-true}
 use Rattle.rice_bits.proofs.Words.{length-word}
-use Rattle.rice_bits.proofs.ReaderLemmas.{with-taken}
 use Rattle.rice_bits.proofs.WindowLemmas.{length-window}
 use Rattle.rice_bits.proofs.reader.BitReader.align.Goals as goal
 
@@ -17,14 +19,18 @@ returns-clause-bits g c =
     rw (← c.self.view_is) (
       word (c.len.result % 8) c.take_first-number.result,
       length-word _ _ ∙ omega (arith, length-window c.self.inside.window window, window.held, c.len.ensures.value),
-      c.take_first-number.ensures.bits,
+      c.take_first-number.ensures.passes.split ∙ ap (λ bits. word (c.len.result % 8) c.take_first-number.result ++ bits) (sym c.mark.ensures.bits),
     )
 
 pub returns-clause-rest : goal.returns-clause-rest
 returns-clause-rest g c =
     let window = c.self.invariant.window in
     let gap : c.len.result % 8 ≡ bits_to_byte (window_taken c.self.inside.window) = omega (arith, length-window c.self.inside.window window, window.held, c.len.ensures.value) in
-    rw (← c.self.view_is) (with-taken _ _ (c.take_first-number.ensures.taken ∙ ap (λ n. window_taken c.self.inside.window + n) gap))
+    let before = c.self.inside.blank_before && is_blank (window_passed c.self.inside.window) in
+    let taken = c.mark.ensures.taken ∙ (c.take_first-number.ensures.passes.taken
+    ∙ ap (λ n. window_taken c.self.inside.window + n) (length-word _ _ ∙ gap)) in
+    let blank = (λ j. c.is_blank-self-inside.ensures j && is_blank (c.mark.ensures.passed j)) ∙ and-true before in
+    rw (← c.self.view_is) (λ j. record { waiting = window_bits c.mark.new.self; taken = taken j; blank = blank j; refusal = c.self.inside.refusal; intake = c.self.inside.intake })
 
 pub returns-clause-steps : goal.returns-clause-steps
 returns-clause-steps g c =

@@ -1,5 +1,5 @@
 use Rattle.std.proofs.Common.{arith, refl, ◌≤◌, ◌+◌}
-use Rattle.rice_bits.proofs.WindowLemmas.{length-window, window-moved, window_split}
+use Rattle.rice_bits.proofs.WindowLemmas.{length-window, window-moved, window-passes}
 use Rattle.rice_bits.proofs.window.Window.take_first.Goals as goal
 
 pub returns-clause-window : goal.returns-clause-window
@@ -7,10 +7,7 @@ returns-clause-window c =
     let there : c.args.self.now.at + c.args.count ≤ c.args.self.now.end = omega (arith, c.requires.there, length-window c.args.self.now c.requires.window, c.requires.window.ordered) in
     window-moved c.args.self.now _ c.requires.window (omega arith) there
 
-pub returns-clause-bits : goal.returns-clause-bits
-returns-clause-bits c =
-    window_split _ _ c.args.count _ (omega (arith, c.requires.there, length-window c.args.self.now c.requires.window, c.requires.window.ordered)) refl refl refl
-    c.number_from-number.ensures.bits
-
-pub returns-clause-taken : goal.returns-clause-taken
-returns-clause-taken c = omega (arith, c.requires.there, length-window c.args.self.now c.requires.window, c.requires.window.held)
+pub returns-clause-passes : goal.returns-clause-passes
+returns-clause-passes c =
+    let there : c.args.self.now.at + c.args.count ≤ c.args.self.now.end = omega (arith, c.requires.there, length-window c.args.self.now c.requires.window, c.requires.window.ordered) in
+    window-passes _ _ c.args.count _ c.requires.window refl there c.number_from-number.ensures.bits

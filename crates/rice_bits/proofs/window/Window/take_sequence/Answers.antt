@@ -49,10 +49,8 @@ returns-clause-some c =
     let same : z + 1 - 1 ≡ z = omega arith in
     let front = begins r (omega (arith, c.if-ahead-eq0.false)) (omega arith) in
     let short = run-within z _ _ _ (sym front.1 ∙ c.ahead-ahead.ensures) in
-    let len = length-fundamental_sequence z in
-    let there = near-there c.args.self.now (fundamental_sequence z) c.requires.window (omega (arith, short, len)) in (
+    let len = length-fundamental_sequence z in (
       omega arith,
       omega (arith, front.0),
-      rw same (window-front c.args.self.now _ r (fundamental_sequence z) _ c.requires.window c.ahead-ahead.ensures front.1 (omega (arith, short, len)) (omega (arith, len)) refl refl),
-      omega (arith, there, len, c.requires.window.held),
+      rw same (window-front c.args.self.now _ r (fundamental_sequence z) _ c.requires.window c.ahead-ahead.ensures front.1 (omega (arith, short, len)) (omega (arith, len))),
     )

@@ -1,4 +1,4 @@
-use Rattle.std.proofs.Common.{arith, refl, sym, ◌∙◌, take}
+use Rattle.std.proofs.Common.{arith, sym, ◌∙◌, take}
 use Rattle.std.specs.Prelude.{flat_map}
 use Rattle.rice_bits.specs.Bits.{fundamental_sequence}
 use Rattle.rice_bits.proofs.Parting.{length-parted}
@@ -12,15 +12,8 @@ returns-clause-window c =
     (sequences-within _ _ _ _ (sym parted.bits ∙ c.ahead.ensures)) in
     window-moved c.args.self.now _ c.requires.window (omega arith) (omega (arith, there, length-parted _ _ _ _ _ _ parted))
 
-pub returns-clause-bits : goal.returns-clause-bits
-returns-clause-bits c =
+pub returns-clause-passes : goal.returns-clause-passes
+returns-clause-passes c =
     let parted = c.part_sequences-parted.ensures.1 in
     let short = sequences-within _ _ _ _ (sym parted.bits ∙ c.ahead.ensures) in
-    window-front _ _ c.ahead.result _ _ c.requires.window c.ahead.ensures parted.bits short (omega (arith, length-parted _ _ _ _ _ _ parted)) refl refl
-
-pub returns-clause-taken : goal.returns-clause-taken
-returns-clause-taken c =
-    let parted = c.part_sequences-parted.ensures.1 in
-    let there = near-there c.args.self.now (flat_map fundamental_sequence (take c.part_sequences-parted.result.taken c.part_sequences-parted.new.zeros)) c.requires.window
-    (sequences-within _ _ _ _ (sym parted.bits ∙ c.ahead.ensures)) in
-    omega (arith, there, length-parted _ _ _ _ _ _ parted, c.requires.window.held)
+    window-front _ _ c.ahead.result _ _ c.requires.window c.ahead.ensures parted.bits short (omega (arith, length-parted _ _ _ _ _ _ parted))
