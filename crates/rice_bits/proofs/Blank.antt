@@ -3,7 +3,7 @@ use Rattle.std.proofs.Common.{◌≡◌, ℕ, zero, suc, ◌^◌, ◌<◌, Bool,
 use Rattle.std.specs.Prelude.{◌&&◌, ◌==◌}
 use Rattle.std.proofs.lemmas.List.{append-nil}
 use Rattle.std.proofs.lemmas.Bool.Decides.{nat_tests}
-use Rattle.rice_bits.specs.Bits.{word, number_of, fundamental_sequence}
+use Rattle.rice_bits.specs.Bits.{word, number_of}
 use Rattle.rice_bits.specs.Reader.{is_blank}
 use Rattle.rice_bits.proofs.Words.{word-zero, number_of-word}
 
@@ -37,10 +37,6 @@ pub blank-word : (w v : ℕ) → v < 2 ^ w → is_blank (word w v) ≡ (v == 0)
 blank-word w zero h = blank-word_zero w 0 refl
 blank-word w (suc v) h = let some : (suc v == 0) ≡ false = grind (arith, nat_tests) in blank-word_positive w (suc v) (omega arith) h ∙ sym some
 
-pub and-false : (b : Bool) → (b && false) ≡ false
-and-false true = refl
-and-false false = refl
-
 pub and-true : (b : Bool) → (b && true) ≡ b
 and-true true = refl
 and-true false = refl
@@ -52,9 +48,6 @@ and-assoc false b c = refl
 pub blank_joined : (a b c : Bool) (xs ys : List Bool) → b ≡ (a && is_blank xs) → c ≡ (b && is_blank ys) → c ≡ (a && is_blank (xs ++ ys))
 blank_joined a b c xs ys p q =
     q ∙ ap (λ z. z && is_blank ys) p ∙ and-assoc a (is_blank xs) (is_blank ys) ∙ ap (λ z. a && z) (sym (blank-append xs ys))
-
-pub blank-fs : (m : ℕ) → is_blank (fundamental_sequence m) ≡ false
-blank-fs m = blank-append (replicate m false) (true ∷ []) ∙ and-false (is_blank (replicate m false))
 
 pub one_behind_zeros : (old more new : List Bool) (n : ℕ) → is_blank old ≡ false → old ++ more ≡ replicate n false ++ new → 0 < length new
 one_behind_zeros old more [] n some e =

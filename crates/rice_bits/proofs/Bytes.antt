@@ -2,7 +2,7 @@
 use Rattle.std.proofs.Common.{◌≡◌, ℕ, zero, suc, ◌+◌, ◌*◌, ◌<◌, Bool, false, List, [], ◌∷◌, ◌++◌, length, drop, take, replicate, refl, sym, ◌∙◌, ap, inl, inr, arith, append_assoc, length-append, get_or}
 use Rattle.std.specs.Prelude.{All}
 use Rattle.std.proofs.Math.Seq.{take-length}
-use Rattle.std.proofs.lemmas.List.{length-replicate, append-nil, get_or_past, replicate-append-replicate, drop_at}
+use Rattle.std.proofs.lemmas.List.{length-replicate, get_or_past, replicate-append-replicate, drop_at}
 use Rattle.std.proofs.lemmas.Bool.{cases_lt}
 use Rattle.std.proofs.lemmas.List.Elements.{All-get_or}
 use Rattle.rice_bits.specs.Bits.{bits_in_bytes, bits_to_byte, padded, word, bits_of, whole_bytes}
@@ -16,10 +16,6 @@ pub bits_of-append : (xs ys : List ℕ) → bits_of (xs ++ ys) ≡ bits_of xs ++
 unfolding bits_of
 bits_of-append [] ys = refl
 bits_of-append (x ∷ xs) ys = rw (bits_of-append xs ys) (sym (append_assoc (word 8 x) _ _))
-
-pub bits_of-push : (xs : List ℕ) (y : ℕ) → bits_of (xs ++ y ∷ []) ≡ bits_of xs ++ word 8 y
-unfolding bits_of
-bits_of-push xs y = bits_of-append xs (y ∷ []) ∙ ap (λ z. bits_of xs ++ z) (append-nil (word 8 y))
 
 pub length-bits_of : (xs : List ℕ) → length (bits_of xs) ≡ 8 * length xs
 unfolding bits_of

@@ -1,11 +1,11 @@
 -- Eight bytes, and the digits of the number that they spell.
-use Rattle.std.proofs.Common.{◌≡◌, ℕ, zero, suc, ◌+◌, ◌-◌, ◌*◌, ◌/◌, ◌%◌, ◌^◌, ◌≤◌, false, List, ◌++◌, length, drop, take, replicate, refl, sym, ◌∙◌, ap, arith}
+use Rattle.std.proofs.Common.{◌≡◌, ℕ, zero, suc, ◌+◌, ◌*◌, ◌/◌, ◌%◌, ◌^◌, ◌≤◌, List, ◌++◌, length, drop, take, refl, sym, ◌∙◌, ap, arith}
 use Rattle.std.specs.Int.{to_be_bytes, byte_at, bytes_high_first, w64}
-use Rattle.std.proofs.lemmas.Nat.{pow_pos, shr_split, pow-add}
+use Rattle.std.proofs.lemmas.Nat.{shr_split, pow-add}
 use Rattle.std.proofs.lemmas.List.{take-append-drop, length-take-le}
 use Rattle.std.proofs.Math.Nat.{pow-suc}
 use Rattle.rice_bits.specs.Bits.{word, bits_of}
-use Rattle.rice_bits.proofs.Words.{word-nil, word-low, word-zero, word-cat, word-split}
+use Rattle.rice_bits.proofs.Words.{word-nil, word-low, word-split}
 use Rattle.rice_bits.proofs.Bytes.{bits_of-append, length-bits_of}
 
 -- the lowest digits are those of the low part
@@ -40,11 +40,3 @@ split-bytes q bytes = sym (bits_of-append (take q bytes) (drop q bytes)) ∙ ap 
 
 pub length-front : (q : ℕ) (bytes : List ℕ) → q ≤ length bytes → length (bits_of (take q bytes)) ≡ 8 * q
 length-front q bytes h = length-bits_of (take q bytes) ∙ ap (λ n. 8 * n) (length-take-le q bytes h)
-
--- digits that are moved to the front of 64, with zeros behind them
-pub top-word : (c j : ℕ) → c ≤ 64 → word 64 (j * 2 ^ (64 - c)) ≡ word c j ++ replicate (64 - c) false
-top-word c j h =
-    let size : c + (64 - c) ≡ 64 = omega arith in
-    let plain : j * 2 ^ (64 - c) + 0 ≡ j * 2 ^ (64 - c) = omega arith in
-    ap (λ w. word w (j * 2 ^ (64 - c))) (sym size)
-    ∙ (ap (word (c + (64 - c))) (sym plain) ∙ (word-cat c (64 - c) j 0 (pow_pos (64 - c)) ∙ ap (λ z. word c j ++ z) (word-zero (64 - c))))

@@ -1,15 +1,15 @@
 -- Bits that are gathered in bytes, with zeros behind them.
-use Rattle.std.proofs.Common.{◌≡◌, ℕ, ◌+◌, ◌-◌, ◌*◌, ◌/◌, ◌%◌, ◌^◌, ◌<◌, ◌≤◌, Bool, true, false, List, [], ◌∷◌, ◌++◌, length, drop, take, replicate, refl, sym, ◌∙◌, ap, inl, inr, arith, append_assoc, length-append, get_or, mod-eq_of_lt}
+use Rattle.std.proofs.Common.{◌≡◌, ℕ, suc, ◌+◌, ◌-◌, ◌*◌, ◌/◌, ◌%◌, ◌^◌, ◌<◌, ◌≤◌, Bool, true, false, List, [], ◌∷◌, ◌++◌, length, drop, take, replicate, refl, sym, ◌∙◌, ap, inl, inr, arith, append_assoc, length-append, get_or, mod-eq_of_lt, bit_or, set}
 use Rattle.std.specs.Int.{to_be_bytes, w64}
 use Rattle.std.specs.List.{slice_index}
 use Rattle.std.proofs.Math.Seq.{take-append-add}
 use Rattle.std.proofs.lemmas.Bool.{cases_lt}
-use Rattle.std.proofs.lemmas.Nat.{pow-add, pow_pos, shr_below, shr_split, mod_below}
-use Rattle.std.proofs.lemmas.List.{append-nil, replicate-append-replicate, length-replicate, length-take-le, take-replicate, take_all, take_at, take_more, drop_more, get_or_past, get_or-take}
-use Rattle.rice_bits.specs.Bits.{IsGathered, bits_in_bytes, word, bits_of, whole_bytes, fundamental_sequence}
+use Rattle.std.proofs.lemmas.Nat.{or_shifted, pow-add, pow_pos, shl_below, shr_below, shr_split, mod_below}
+use Rattle.std.proofs.lemmas.List.{append-nil, replicate-append-replicate, length-replicate, length-drop, length-set, length-take-le, take-append-drop, take-replicate, take_all, take_at, drop-drop, drop-replicate, drop-set-lt, drop_all, drop_at, drop_more, get_or_past, get_or-set_same, take-set}
+use Rattle.rice_bits.specs.Bits.{IsGathered, bits_in_bytes, fundamental_sequence, word, bits_of, whole_bytes}
 use Rattle.rice_bits.proofs.Words.{length-word, word-nil, word-zero, word-cat, word-split, word-fs, shift_fits, join_below}
-use Rattle.rice_bits.proofs.Bytes.{bits_of-nil, bits_of-append, bits_of-push, bits_of-zeros, length-bits_of, whole-bits, rest-bits}
-use Rattle.rice_bits.proofs.EightBytes.{bits_of-eight, split-bytes, length-front, top-word}
+use Rattle.rice_bits.proofs.Bytes.{bits_of-nil, bits_of-append, bits_of-zeros, length-bits_of, whole-bits, rest-bits}
+use Rattle.rice_bits.proofs.EightBytes.{bits_of-eight, split-bytes, length-front}
 use Rattle.rice_bits.proofs.OneWay.{bits_read, word_reads}
 
 -- the length of what a view shows
@@ -46,7 +46,7 @@ length_before bytes at g v h =
     omega (arith, length-append (bits_of (take at bytes)) (word g v), length-front at bytes h, length-word g v)
 
 -- the bits are those of the whole bytes, and the digits that stand behind these
-pub viewed : (bytes : List ℕ) (n : ℕ) → n ≤ 8 * length bytes
+viewed : (bytes : List ℕ) (n : ℕ) → n ≤ 8 * length bytes
     → take n (bits_of bytes) ≡ bits_of (take (n / 8) bytes) ++ word (n % 8) (slice_index bytes (n / 8) / 2 ^ (8 - n % 8))
 viewed bytes n h = elim (cases_lt (n / 8) (length bytes)) [
   | inl i ↦
@@ -73,46 +73,136 @@ low_zeros w b z rest e =
     ap (λ k. replicate k false) (sym more) ∙ (sym (replicate-append-replicate w (z - w) false) ∙ ap (λ d. d ++ replicate (z - w) false) (sym (word-zero w))) in
     zero_low b (2 ^ w) (pow_pos w) (word_reads w (b % 2 ^ w) 0 rest (replicate (z - w) false) (e ∙ zeros)).0
 
-low_bits : (bytes : List ℕ) (xs : List Bool) (n z : ℕ) → bits_of bytes ≡ xs ++ replicate z false → length xs ≡ n
-    → slice_index bytes (n / 8) % 2 ^ (8 - n % 8) ≡ 0
-low_bits bytes xs n z e size = elim (cases_lt (n / 8) (length bytes)) [
-  | inl i ↦
-      let whole : 8 * (n / 8) + n % 8 ≡ n = omega arith in
-      low_zeros (8 - n % 8) (slice_index bytes (n / 8)) z (bits_of (drop (n / 8 + 1) bytes))
-      (bits_read (bits_of (take (n / 8) bytes) ++ word (n % 8) (slice_index bytes (n / 8) / 2 ^ (8 - n % 8))) xs (word (8 - n % 8) (slice_index bytes (n / 8) % 2 ^ (8 - n % 8)) ++ bits_of (drop (n / 8 + 1) bytes)) (replicate z false)
-      (length_before bytes (n / 8) (n % 8) (slice_index bytes (n / 8) / 2 ^ (8 - n % 8)) (omega arith) ∙ (whole ∙ sym size))
-      (sym (bits_at bytes (n / 8) (n % 8) i (omega arith)) ∙ e)).1
-  | inr i ↦ ap (λ b. b % 2 ^ (8 - n % 8)) (get_or_past bytes (n / 8) 0 i) ∙ mod-eq_of_lt (pow_pos (8 - n % 8))
-]
-
--- bytes whose first spell bits and zeros behind them
-pub spelled : (bytes : List ℕ) (xs : List Bool) (n m z : ℕ) → bits_of (take m bytes) ≡ xs ++ replicate z false → length xs ≡ n → n / 8 < m
-    → (take n (bits_of bytes) ≡ xs) × (slice_index bytes (n / 8) % 2 ^ (8 - n % 8) ≡ 0)
-spelled bytes xs n m z e size h = (
-  ap (take n) (sym (split-bytes m bytes) ∙ (ap (λ d. d ++ bits_of (drop m bytes)) e ∙ append_assoc xs (replicate z false) (bits_of (drop m bytes))))
-      ∙ take_at xs (replicate z false ++ bits_of (drop m bytes)) n size,
-  ap (λ b. b % 2 ^ (8 - n % 8)) (sym (get_or-take m bytes (n / 8) 0 h)) ∙ low_bits (take m bytes) xs n z e size,
+-- zeros behind bits
+behind : (bits xs : List Bool) (n z : ℕ) → bits ≡ xs ++ replicate z false → length xs ≡ n → (take n bits ≡ xs) × (drop n bits ≡ replicate z false)
+behind bits xs n z e size = (
+  ap (take n) e ∙ take_at xs (replicate z false) n size,
+  ap (drop n) e ∙ drop_at xs (replicate z false) n size,
 )
 
--- the zeros behind bits, as far as there is room
-cut : (bytes : List ℕ) (xs : List Bool) (z room : ℕ) → bits_of bytes ≡ xs ++ replicate z false → length xs ≤ 8 * room
-    → (k : ℕ) × (bits_of (take room bytes) ≡ xs ++ replicate k false)
-cut bytes xs z room e h = elim (cases_lt room (length bytes)) [
+-- more of the zeros behind bits
+pub passed : (bits : List Bool) (n m size : ℕ) → length bits ≡ size → n ≤ m → m ≤ size → drop n bits ≡ replicate (size - n) false
+    → (take m bits ≡ take n bits ++ replicate (m - n) false) × (drop m bits ≡ replicate (size - m) false)
+passed bits n m size e h i zeros =
+    let front : length (take n bits) ≡ n = length-take-le n bits (omega (arith, e)) in
+    let more : length (take n bits) + (m - n) ≡ m = omega (arith, front) in
+    let step : n + (m - n) ≡ m = omega arith in
+    let left : size - n - (m - n) ≡ size - m = omega arith in (
+      ap (take m) (sym (take-append-drop n bits))
+          ∙ (ap (λ k. take k (take n bits ++ drop n bits)) (sym more)
+          ∙ (take-append-add (take n bits) (drop n bits) (m - n)
+          ∙ ap (λ d. take n bits ++ d) (ap (take (m - n)) zeros ∙ take-replicate (m - n) (size - n) false (omega arith)))),
+      ap (λ k. drop k bits) (sym step)
+          ∙ (sym (drop-drop (m - n) n bits)
+          ∙ (ap (drop (m - n)) zeros ∙ (drop-replicate (m - n) (size - n) false ∙ ap (λ k. replicate k false) left))),
+    )
+
+-- the byte in which bits end has zeros behind them
+pub last_zeros : (bytes : List ℕ) (n : ℕ) → n ≤ 8 * length bytes → drop n (bits_of bytes) ≡ replicate (8 * length bytes - n) false
+    → slice_index bytes (n / 8) % 2 ^ (8 - n % 8) ≡ 0
+last_zeros bytes n h zeros =
+    let at : ℕ = n / 8 in
+    let g : ℕ = n % 8 in
+    let b : ℕ = slice_index bytes at in
+    let back : List Bool = bits_of (drop (at + 1) bytes) in elim (cases_lt at (length bytes)) [
+      | inl i ↦
+          let whole : 8 * at + g ≡ n = omega arith in
+          low_zeros (8 - g) b (8 * length bytes - n) back
+          (sym (drop_at (bits_of (take at bytes) ++ word g (b / 2 ^ (8 - g))) (word (8 - g) (b % 2 ^ (8 - g)) ++ back) n (length_before bytes at g (b / 2 ^ (8 - g)) (omega arith) ∙ whole))
+          ∙ (ap (drop n) (sym (bits_at bytes at g i (omega arith))) ∙ zeros))
+      | inr i ↦ ap (λ d. d % 2 ^ (8 - g)) (get_or_past bytes at 0 i) ∙ mod-eq_of_lt (pow_pos (8 - g))
+    ]
+
+-- the digits of the byte in which bits end, and the zeros behind them
+last_byte : (bytes : List ℕ) (n : ℕ) → n ≤ 8 * length bytes → drop n (bits_of bytes) ≡ replicate (8 * length bytes - n) false
+    → word 8 (slice_index bytes (n / 8)) ≡ word (n % 8) (slice_index bytes (n / 8) / 2 ^ (8 - n % 8)) ++ replicate (8 - n % 8) false
+last_byte bytes n h zeros =
+    byte_parts (n % 8) (slice_index bytes (n / 8)) (omega arith)
+    ∙ ap (λ d. word (n % 8) (slice_index bytes (n / 8) / 2 ^ (8 - n % 8)) ++ d) (ap (word (8 - n % 8)) (last_zeros bytes n h zeros) ∙ word-zero (8 - n % 8))
+
+-- bytes behind the bits
+bytes_behind : (bytes : List ℕ) (n q : ℕ) → n ≤ 8 * length bytes → n ≤ 8 * q → drop n (bits_of bytes) ≡ replicate (8 * length bytes - n) false
+    → bits_of (drop q bytes) ≡ replicate (8 * length bytes - 8 * q) false
+bytes_behind bytes n q h place zeros = elim (cases_lt q (length bytes)) [
   | inl i ↦
-      let k : ℕ = 8 * room - length xs in
-      let size : length xs + k ≡ 8 * room = omega arith in
-      let all : length xs + z ≡ 8 * length bytes = ap (λ n. length xs + n) (sym (length-replicate z false)) ∙ (sym (length-append xs (replicate z false)) ∙ (ap length (sym e) ∙ length-bits_of bytes)) in (
-        k,
-        sym (take_at (bits_of (take room bytes)) (bits_of (drop room bytes)) (8 * room) (length-front room bytes (omega arith)))
-            ∙ (ap (take (8 * room)) (split-bytes room bytes ∙ e)
-            ∙ (ap (λ n. take n (xs ++ replicate z false)) (sym size)
-            ∙ (take-append-add xs (replicate z false) k ∙ ap (λ d. xs ++ d) (take-replicate k z false (omega (arith, size, all)))))),
-      )
-  | inr i ↦ (z, ap bits_of (take_all room bytes i) ∙ e)
+      sym (drop_at (bits_of (take q bytes)) (bits_of (drop q bytes)) (8 * q) (length-front q bytes (omega arith)))
+      ∙ (ap (drop (8 * q)) (split-bytes q bytes) ∙ (passed (bits_of bytes) n (8 * q) (8 * length bytes) (length-bits_of bytes) place (omega arith) zeros).1)
+  | inr i ↦
+      let none : 8 * length bytes - 8 * q ≡ 0 = omega arith in
+      rw none (ap bits_of (drop_all q bytes (omega arith)) ∙ bits_of-nil)
 ]
+
+-- a fundamental sequence as zeros and a digit
+fs-parts : (m : ℕ) (bits : List Bool) → (bits ++ replicate m false) ++ word 1 1 ≡ bits ++ fundamental_sequence m
+fs-parts m bits = ap (λ d. (bits ++ replicate m false) ++ d) (word-fs 0) ∙ append_assoc bits (replicate m false) (true ∷ [])
+
+-- digits in front of zeros, and what comes behind them
+zeros_behind : (w v z : ℕ) (rest : List Bool) → word w v ++ rest ≡ replicate z false → rest ≡ replicate (z - w) false
+zeros_behind w v z rest e =
+    sym (drop_at (word w v) rest w (length-word w v)) ∙ (ap (drop w) e ∙ drop-replicate w z false)
+
+-- the zeros behind bits, as far as there is room
+cut : (bytes : List ℕ) (xs : List Bool) (z room : ℕ) → bits_of bytes ≡ xs ++ replicate z false → length xs ≤ 8 * room → 8 * room ≤ length xs + z
+    → bits_of (take room bytes) ≡ xs ++ replicate (8 * room - length xs) false
+cut bytes xs z room e h i =
+    let k : ℕ = 8 * room - length xs in
+    let size : length xs + k ≡ 8 * room = omega arith in
+    let all : length xs + z ≡ 8 * length bytes = ap (λ n. length xs + n) (sym (length-replicate z false)) ∙ (sym (length-append xs (replicate z false)) ∙ (ap length (sym e) ∙ length-bits_of bytes)) in
+    sym (take_at (bits_of (take room bytes)) (bits_of (drop room bytes)) (8 * room) (length-front room bytes (omega (arith, all))))
+    ∙ (ap (take (8 * room)) (split-bytes room bytes ∙ e)
+    ∙ (ap (λ n. take n (xs ++ replicate z false)) (sym size)
+    ∙ (take-append-add xs (replicate z false) k ∙ ap (λ d. xs ++ d) (take-replicate k z false (omega (arith, size))))))
 
 product : (h p q v : ℕ) → h * (p * q) + v * q ≡ (h * p + v) * q
 product h p q v = omega arith
+
+-- a number that ends in zeros, and digits that are joined to it
+joined : (size x used width value : ℕ) → x % 2 ^ (size - used) ≡ 0 → used + width ≤ size → value < 2 ^ width
+    → bit_or x (value * 2 ^ (size - (used + width))) ≡ (x / 2 ^ (size - used) * 2 ^ width + value) * 2 ^ (size - (used + width))
+joined size x used width value zeros room below =
+    let w : ℕ = size - used in
+    let s : ℕ = size - (used + width) in
+    let h : ℕ = x / 2 ^ w in
+    let split : width + s ≡ w = omega arith in
+    let high : x ≡ h * 2 ^ w = omega (arith, shr_split x w) in
+    let low : value * 2 ^ s < 2 ^ w = rw (← split) (shl_below value width s below) in
+    ap (λ n. bit_or n (value * 2 ^ s)) high
+    ∙ (or_shifted h w (value * 2 ^ s) low
+    ∙ (ap (λ n. h * n + value * 2 ^ s) (ap (λ n. 2 ^ n) (sym split) ∙ pow-add 2 width s) ∙ product h (2 ^ width) (2 ^ s) value))
+
+-- digits that are moved to the front, with zeros behind them
+top-word : (size c j : ℕ) → c ≤ size → word size (j * 2 ^ (size - c)) ≡ word c j ++ replicate (size - c) false
+top-word size c j h =
+    let all : c + (size - c) ≡ size = omega arith in
+    let plain : j * 2 ^ (size - c) + 0 ≡ j * 2 ^ (size - c) = omega arith in
+    ap (λ w. word w (j * 2 ^ (size - c))) (sym all)
+    ∙ (ap (word (c + (size - c))) (sym plain) ∙ (word-cat c (size - c) j 0 (pow_pos (size - c)) ∙ ap (λ z. word c j ++ z) (word-zero (size - c))))
+
+regroup : (a b c d e : List Bool) → a ++ (((b ++ c) ++ d) ++ e) ≡ ((a ++ b) ++ c) ++ (d ++ e)
+regroup a b c d e =
+    ap (λ z. a ++ z) (append_assoc (b ++ c) d e ∙ append_assoc b c (d ++ e)) ∙ (sym (append_assoc a b (c ++ (d ++ e))) ∙ sym (append_assoc (a ++ b) c (d ++ e)))
+
+-- digits that are joined to the number in which bits end and zeros begin
+joined_bits : (front back bits : List Bool) (size used width value x z : ℕ) → used + width ≤ size → value < 2 ^ width → length bits ≡ length front + used
+    → front ++ (word size x ++ back) ≡ bits ++ replicate z false
+    → front ++ (word size (bit_or x (value * 2 ^ (size - (used + width)))) ++ back) ≡ (bits ++ word width value) ++ replicate (size - (used + width) + (z - (size - used))) false
+joined_bits front back bits size used width value x z room below long e =
+    let w : ℕ = size - used in
+    let s : ℕ = size - (used + width) in
+    let h : ℕ = x / 2 ^ w in
+    let parts : used + w ≡ size = omega arith in
+    let halves : word size x ≡ word used h ++ word w (x % 2 ^ w) = ap (λ n. word n x) (sym parts) ∙ word-split used w x in
+    let read = bits_read (front ++ word used h) bits (word w (x % 2 ^ w) ++ back) (replicate z false) (omega (arith, long, length-append front (word used h), length-word used h))
+    (append_assoc front (word used h) (word w (x % 2 ^ w) ++ back)
+    ∙ (ap (λ d. front ++ d) (sym (append_assoc (word used h) (word w (x % 2 ^ w)) back) ∙ ap (λ d. d ++ back) (sym halves)) ∙ e)) in
+    let zeros : x % 2 ^ w ≡ 0 = low_zeros w x z back read.1 in
+    let spelled : word size (bit_or x (value * 2 ^ s)) ≡ (word used h ++ word width value) ++ replicate s false =
+    ap (word size) (joined size x used width value zeros room below)
+    ∙ (top-word size (used + width) (h * 2 ^ width + value) room ∙ ap (λ d. d ++ replicate s false) (word-cat used width h value below)) in
+    ap (λ d. front ++ (d ++ back)) spelled
+    ∙ (regroup front (word used h) (word width value) (replicate s false) back
+    ∙ (ap (λ d. (d ++ word width value) ++ (replicate s false ++ back)) read.0
+    ∙ ap (λ d. (bits ++ word width value) ++ d) (ap (λ d. replicate s false ++ d) (zeros_behind w (x % 2 ^ w) z back read.1) ∙ replicate-append-replicate s (z - w) false)))
 
 shifted : (h p q : ℕ) → h * p * q ≡ h * (p * q)
 shifted h p q = omega arith
@@ -121,9 +211,9 @@ moved : (b h k n : ℕ) → b ≡ h * 2 ^ k → k + 56 ≡ n → b * 2 ^ 56 ≡ 
 moved b h k n e f = ap (λ c. c * 2 ^ 56) e ∙ (shifted h (2 ^ k) (2 ^ 56) ∙ ap (λ c. h * c) (sym (pow-add 2 k 56) ∙ ap (λ c. 2 ^ c) f))
 
 -- digits that are joined to those of a byte
-joined : (b g width value : ℕ) → b % 2 ^ (8 - g) ≡ 0 → g < 8 → g + width < 64
+joined_to_byte : (b g width value : ℕ) → b % 2 ^ (8 - g) ≡ 0 → g < 8 → g + width < 64
     → b * 2 ^ 56 + value * 2 ^ (64 - (g + width)) ≡ (b / 2 ^ (8 - g) * 2 ^ width + value) * 2 ^ (64 - (g + width))
-joined b g width value zeros short narrow =
+joined_to_byte b g width value zeros short narrow =
     let h : ℕ = b / 2 ^ (8 - g) in
     let s : ℕ = 64 - (g + width) in
     let byte : b ≡ h * 2 ^ (8 - g) = omega (arith, shr_split b (8 - g)) in
@@ -138,86 +228,123 @@ pub joined_below : (b g width value : ℕ) → b < 256 → b % 2 ^ (8 - g) ≡ 0
 joined_below b g width value byte zeros short narrow below =
     let size : g + (8 - g) ≡ 8 = omega arith in
     let h : b / 2 ^ (8 - g) < 2 ^ g = shr_below b g (8 - g) (rw size byte) in
-    rw (joined b g width value zeros short narrow)
+    rw (joined_to_byte b g width value zeros short narrow)
     (shift_fits (g + width) (64 - (g + width)) (b / 2 ^ (8 - g) * 2 ^ width + value) (join_below g width (b / 2 ^ (8 - g)) value h below) (omega arith))
 
-regroup : (a b c d : List Bool) → a ++ ((b ++ c) ++ d) ≡ ((a ++ b) ++ c) ++ d
-regroup a b c d =
-    sym (append_assoc a (b ++ c) d) ∙ ap (λ z. z ++ d) (sym (append_assoc a b c))
-
 -- digits that come behind the bits
-pub gathered-put : (old new : List ℕ) (n width value : ℕ) → n + width ≤ 8 * length old → width ≤ 56 → value < 2 ^ width
-    → slice_index old (n / 8) % 2 ^ (8 - n % 8) ≡ 0
-    → take (n / 8 + 8) new ≡ take (length old) (take (n / 8) old ++ to_be_bytes w64 (slice_index old (n / 8) * 2 ^ 56 + value * 2 ^ (64 - (n % 8 + width))))
-    → (take (n + width) (bits_of new) ≡ take n (bits_of old) ++ word width value) × (slice_index new ((n + width) / 8) % 2 ^ (8 - (n + width) % 8) ≡ 0)
+pub gathered-put : (old new : List ℕ) (n width value : ℕ) → n + width ≤ 8 * length old → width ≤ 56 → value < 2 ^ width → drop n (bits_of old) ≡ replicate (8 * length old - n) false
+    → new ≡ take (length old) (take (n / 8) old ++ (to_be_bytes w64 (slice_index old (n / 8) * 2 ^ 56 + value * 2 ^ (64 - (n % 8 + width))) ++ drop (n / 8 + 8) old))
+    → (take (n + width) (bits_of new) ≡ take n (bits_of old) ++ word width value) × (drop (n + width) (bits_of new) ≡ replicate (8 * length old - (n + width)) false)
 gathered-put old new n width value room narrow below zeros e =
-    let b : ℕ = slice_index old (n / 8) in
-    let h : ℕ = b / 2 ^ (8 - n % 8) in
-    let behind : List Bool = replicate (64 - (n % 8 + width)) false in
-    let x : ℕ = b * 2 ^ 56 + value * 2 ^ (64 - (n % 8 + width)) in
-    let eight : bits_of (to_be_bytes w64 x) ≡ (word (n % 8) h ++ word width value) ++ behind =
-    bits_of-eight x
-    ∙ (ap (word 64) (joined b (n % 8) width value zeros (omega arith) (omega arith))
-    ∙ (top-word (n % 8 + width) (h * 2 ^ width + value) (omega arith) ∙ ap (λ d. d ++ behind) (word-cat (n % 8) width h value below))) in
-    let all : bits_of (take (n / 8) old ++ to_be_bytes w64 x) ≡ (take n (bits_of old) ++ word width value) ++ behind =
-    bits_of-append (take (n / 8) old) (to_be_bytes w64 x)
-    ∙ (ap (λ d. bits_of (take (n / 8) old) ++ d) eight
-    ∙ (regroup (bits_of (take (n / 8) old)) (word (n % 8) h) (word width value) behind
-    ∙ ap (λ d. (d ++ word width value) ++ behind) (sym (viewed old n (omega arith))))) in
-    let size : length (take n (bits_of old) ++ word width value) ≡ n + width =
-    omega (arith, length-append (take n (bits_of old)) (word width value), length-take-le n (bits_of old) (omega (arith, length-bits_of old)), length-word width value) in
-    let kept = cut (take (n / 8) old ++ to_be_bytes w64 x) (take n (bits_of old) ++ word width value) (64 - (n % 8 + width)) (length old) all (omega (arith, size)) in
-    spelled new (take n (bits_of old) ++ word width value) (n + width) (n / 8 + 8) kept.0 (ap bits_of e ∙ kept.1) size (omega arith)
-
--- the bits with those of their last byte
-last_byte : (bytes : List ℕ) (n : ℕ) → n < 8 * length bytes → slice_index bytes (n / 8) % 2 ^ (8 - n % 8) ≡ 0
-    → bits_of (take (n / 8 + 1) bytes) ≡ take n (bits_of bytes) ++ replicate (8 - n % 8) false
-last_byte bytes n h zeros =
-    let b : ℕ = slice_index bytes (n / 8) in
-    let front : List Bool = bits_of (take (n / 8) bytes) in
-    let digits : List Bool = word (n % 8) (b / 2 ^ (8 - n % 8)) in
-    let blank : word (8 - n % 8) (b % 2 ^ (8 - n % 8)) ≡ replicate (8 - n % 8) false = ap (word (8 - n % 8)) zeros ∙ word-zero (8 - n % 8) in
-    ap bits_of (take_more bytes (n / 8) 0 (omega arith))
-    ∙ (bits_of-push (take (n / 8) bytes) b
-    ∙ (ap (λ d. front ++ d) (byte_parts (n % 8) b (omega arith) ∙ ap (λ d. digits ++ d) blank)
-    ∙ (sym (append_assoc front digits (replicate (8 - n % 8) false)) ∙ ap (λ d. d ++ replicate (8 - n % 8) false) (sym (viewed bytes n (omega arith))))))
-
--- zeros that come behind the bits
-pub gathered-zeros : (old new : List ℕ) (n count more : ℕ) → n + count < 8 * length old → more ≡ (n + count) / 8 + 1 - (n / 8 + 1)
-    → slice_index old (n / 8) % 2 ^ (8 - n % 8) ≡ 0 → take (n / 8 + 1 + more) new ≡ take (n / 8 + 1) old ++ replicate more 0
-    → (take (n + count) (bits_of new) ≡ take n (bits_of old) ++ replicate count false) × (slice_index new ((n + count) / 8) % 2 ^ (8 - (n + count) % 8) ≡ 0)
-gathered-zeros old new n count more room size zeros e =
+    let at : ℕ = n / 8 in
+    let g : ℕ = n % 8 in
+    let b : ℕ = slice_index old at in
+    let h : ℕ = b / 2 ^ (8 - g) in
+    let s : ℕ = 64 - (g + width) in
+    let x : ℕ = b * 2 ^ 56 + value * 2 ^ s in
     let bits : List Bool = take n (bits_of old) in
-    let rest : ℕ = 8 - n % 8 + 8 * more - count in
-    let total : 8 - n % 8 + 8 * more ≡ count + rest = omega (arith, size) in
-    let all : bits_of (take (n / 8 + 1 + more) new) ≡ (bits ++ replicate count false) ++ replicate rest false =
-    ap bits_of e
-    ∙ (bits_of-append (take (n / 8 + 1) old) (replicate more 0)
-    ∙ (ap (λ d. d ++ bits_of (replicate more 0)) (last_byte old n (omega arith) zeros)
-    ∙ (ap (λ d. (bits ++ replicate (8 - n % 8) false) ++ d) (bits_of-zeros more)
-    ∙ (append_assoc bits (replicate (8 - n % 8) false) (replicate (8 * more) false)
-    ∙ (ap (λ d. bits ++ d) (replicate-append-replicate (8 - n % 8) (8 * more) false ∙ (ap (λ k. replicate k false) total ∙ sym (replicate-append-replicate count rest false)))
-    ∙ sym (append_assoc bits (replicate count false) (replicate rest false))))))) in
-    let long : length (bits ++ replicate count false) ≡ n + count =
-    omega (arith, length-append bits (replicate count false), length-take-le n (bits_of old) (omega (arith, length-bits_of old)), length-replicate count false) in
-    spelled new (bits ++ replicate count false) (n + count) (n / 8 + 1 + more) rest all long (omega (arith, size))
+    let front : List Bool = bits_of (take at old) in
+    let left : ℕ = 8 * length old - 8 * (at + 8) in
+    let eight : bits_of (to_be_bytes w64 x) ≡ (word g h ++ word width value) ++ replicate s false =
+    bits_of-eight x
+    ∙ (ap (word 64) (joined_to_byte b g width value (last_zeros old n (omega arith) zeros) (omega arith) (omega arith))
+    ∙ (top-word 64 (g + width) (h * 2 ^ width + value) (omega arith) ∙ ap (λ d. d ++ replicate s false) (word-cat g width h value below))) in
+    let all : bits_of (take at old ++ (to_be_bytes w64 x ++ drop (at + 8) old)) ≡ (bits ++ word width value) ++ replicate (s + left) false =
+    bits_of-append (take at old) (to_be_bytes w64 x ++ drop (at + 8) old)
+    ∙ (ap (λ d. front ++ d) (bits_of-append (to_be_bytes w64 x) (drop (at + 8) old) ∙ ap (λ d. d ++ bits_of (drop (at + 8) old)) eight)
+    ∙ (regroup front (word g h) (word width value) (replicate s false) (bits_of (drop (at + 8) old))
+    ∙ (ap (λ d. (d ++ word width value) ++ (replicate s false ++ bits_of (drop (at + 8) old))) (sym (viewed old n (omega arith)))
+    ∙ ap (λ d. (bits ++ word width value) ++ d) (ap (λ d. replicate s false ++ d) (bytes_behind old n (at + 8) (omega arith) (omega arith) zeros) ∙ replicate-append-replicate s left false)))) in
+    let size : length (bits ++ word width value) ≡ n + width =
+    omega (arith, length-append bits (word width value), length-take-le n (bits_of old) (omega (arith, length-bits_of old)), length-word width value) in
+    behind (bits_of new) (bits ++ word width value) (n + width) (8 * length old - (n + width))
+    (ap bits_of e
+    ∙ (cut _ (bits ++ word width value) _ (length old) all (omega (arith, size)) (omega (arith, size)) ∙ ap (λ k. (bits ++ word width value) ++ replicate (8 * length old - k) false) size))
+    size
 
--- a fundamental sequence that is put in two parts
-pub fs-parts : (m : ℕ) (bits : List Bool) → (bits ++ replicate m false) ++ word 1 1 ≡ bits ++ fundamental_sequence m
-fs-parts m bits = ap (λ d. (bits ++ replicate m false) ++ d) (word-fs 0) ∙ append_assoc bits (replicate m false) (true ∷ [])
+-- a byte among others
+set_apart : (bytes : List ℕ) (i b : ℕ) → i < length bytes → bits_of (set bytes i b) ≡ bits_of (take i bytes) ++ (word 8 b ++ bits_of (drop (i + 1) bytes))
+set_apart bytes i b h =
+    let next : suc i ≡ i + 1 = omega arith in
+    let back : drop (i + 1) (set bytes i b) ≡ drop (i + 1) bytes = drop-set-lt (i + 1) bytes i b (omega arith) in
+    sym (split-bytes i (set bytes i b))
+    ∙ (ap (λ d. bits_of d ++ bits_of (drop i (set bytes i b))) (take-set bytes i b)
+    ∙ ap (λ d. bits_of (take i bytes) ++ d)
+    (ap bits_of (drop_more (set bytes i b) i 0 (omega (arith, length-set bytes i b)))
+    ∙ (bits_of-first (get_or (set bytes i b) i 0) (drop (i + 1) (set bytes i b)) ∙ ap (λ d. word 8 d ++ bits_of (drop (i + 1) (set bytes i b))) (get_or-set_same bytes i b 0 h) ∙ ap (λ d. word 8 b ++ bits_of d) back)))
+
+-- a 1 that comes behind the bits and some zeros
+pub gathered-one : (old new : List ℕ) (n m : ℕ) → n + m < 8 * length old → drop n (bits_of old) ≡ replicate (8 * length old - n) false
+    → new ≡ set old ((n + m) / 8) (bit_or (slice_index old ((n + m) / 8)) (2 ^ (7 - (n + m) % 8)))
+    → (take (n + (m + 1)) (bits_of new) ≡ take n (bits_of old) ++ fundamental_sequence m) × (drop (n + (m + 1)) (bits_of new) ≡ replicate (8 * length old - (n + (m + 1))) false)
+gathered-one old new n m room zeros e =
+    let p : ℕ = n + m in
+    let at : ℕ = p / 8 in
+    let used : ℕ = p % 8 in
+    let x : ℕ = slice_index old at in
+    let far = passed (bits_of old) n p (8 * length old) (length-bits_of old) (omega arith) (omega arith) zeros in
+    let gap : p - n ≡ m = omega arith in
+    let bits : List Bool = take p (bits_of old) in
+    let front : List Bool = bits_of (take at old) in
+    let back : List Bool = bits_of (drop (at + 1) old) in
+    let size : length bits ≡ p = length-take-le p (bits_of old) (omega (arith, length-bits_of old)) in
+    let place : length bits ≡ length front + used = omega (arith, size, length-front at old (omega arith)) in
+    let before : front ++ (word 8 x ++ back) ≡ bits ++ replicate (8 * length old - p) false =
+    ap (λ d. front ++ d) (sym (bits_of-first x (drop (at + 1) old)) ∙ ap bits_of (sym (drop_more old at 0 (omega arith))))
+    ∙ (split-bytes at old ∙ (sym (take-append-drop p (bits_of old)) ∙ ap (λ d. bits ++ d) far.1)) in
+    let shift : 1 * 2 ^ (8 - (used + 1)) ≡ 2 ^ (7 - used) = (let k : 8 - (used + 1) ≡ 7 - used = omega arith in rw k (omega arith)) in
+    let left : 8 - (used + 1) + (8 * length old - p - (8 - used)) ≡ 8 * length old - (n + (m + 1)) = omega arith in
+    let sequence : bits ++ word 1 1 ≡ take n (bits_of old) ++ fundamental_sequence m =
+    ap (λ d. d ++ word 1 1) (far.0 ∙ ap (λ k. take n (bits_of old) ++ replicate k false) gap) ∙ fs-parts m (take n (bits_of old)) in
+    let longer : length (bits ++ word 1 1) ≡ n + (m + 1) = omega (arith, size, length-append bits (word 1 1), length-word 1 1) in
+    behind (bits_of new) (take n (bits_of old) ++ fundamental_sequence m) (n + (m + 1)) (8 * length old - (n + (m + 1)))
+    (ap bits_of e
+    ∙ (set_apart old at (bit_or x (2 ^ (7 - used))) (omega arith)
+    ∙ (ap (λ k. front ++ (word 8 (bit_or x k) ++ back)) (sym shift)
+    ∙ (joined_bits front back bits 8 used 1 1 x (8 * length old - p) (omega arith) (omega arith) place before
+    ∙ (ap (λ k. (bits ++ word 1 1) ++ replicate k false) left ∙ ap (λ d. d ++ replicate (8 * length old - (n + (m + 1))) false) sequence)))))
+    (ap length (sym sequence) ∙ longer)
+
+byte_first : (b : ℕ) (bytes : List ℕ) (at : ℕ) → bits_of (b ∷ replicate at 0 ++ bytes) ≡ word 8 b ++ (replicate (8 * at) false ++ bits_of bytes)
+byte_first b bytes at =
+    bits_of-first b (replicate at 0 ++ bytes) ∙ ap (λ d. word 8 b ++ d) (bits_of-append (replicate at 0) bytes ∙ ap (λ d. d ++ bits_of bytes) (bits_of-zeros at))
+
+three_zeros : (g h k : ℕ) (xs : List Bool) → (xs ++ replicate g false) ++ (replicate h false ++ replicate k false) ≡ xs ++ replicate (g + (h + k)) false
+three_zeros g h k xs =
+    append_assoc xs (replicate g false) (replicate h false ++ replicate k false)
+    ∙ ap (λ d. xs ++ d) (ap (λ d. replicate g false ++ d) (replicate-append-replicate h k false) ∙ replicate-append-replicate g (h + k) false)
+
+dropped : (old new : List ℕ) (n count : ℕ) → n ≤ 8 * length old → n / 8 ≤ count → drop n (bits_of old) ≡ replicate (8 * length old - n) false
+    → new ≡ take (length old) (slice_index old (n / 8) ∷ replicate count 0 ++ drop (count + 1) old)
+    → bits_of new ≡ drop (bits_in_bytes (length (take n (bits_of old)))) (take n (bits_of old)) ++ replicate (8 * length old - n % 8) false
+dropped old new n count room far zeros e =
+    let at : ℕ = n / 8 in
+    let g : ℕ = n % 8 in
+    let b : ℕ = slice_index old at in
+    let digits : List Bool = word g (b / 2 ^ (8 - g)) in
+    let left : ℕ = 8 * length old - 8 * (count + 1) in
+    let all : bits_of (b ∷ replicate count 0 ++ drop (count + 1) old) ≡ digits ++ replicate (8 - g + (8 * count + left)) false =
+    byte_first b (drop (count + 1) old) count
+    ∙ (ap (λ d. d ++ (replicate (8 * count) false ++ bits_of (drop (count + 1) old))) (last_byte old n room zeros)
+    ∙ (ap (λ d. (digits ++ replicate (8 - g) false) ++ (replicate (8 * count) false ++ d)) (bytes_behind old n (count + 1) room (omega (arith, far)) zeros) ∙ three_zeros (8 - g) (8 * count) left digits)) in
+    let size : length digits ≡ g = length-word g (b / 2 ^ (8 - g)) in
+    let kept : drop (bits_in_bytes (length (take n (bits_of old)))) (take n (bits_of old)) ≡ digits =
+    ap (λ d. drop (bits_in_bytes (length d)) d) (viewed old n room) ∙ rest-bits (take at old) digits (omega (arith, size)) in
+    ap bits_of e
+    ∙ (cut _ digits _ (length old) all (omega (arith, size)) (omega (arith, size, far))
+    ∙ (ap (λ k. digits ++ replicate (8 * length old - k) false) size ∙ ap (λ d. d ++ replicate (8 * length old - g) false) (sym kept)))
 
 -- the byte that is not whole comes to the front, when the others are dropped
-pub gathered-dropped : (old new : List ℕ) (n : ℕ) → n ≤ 8 * length old → length new ≡ length old → slice_index new 0 ≡ slice_index old (n / 8)
-    → take (n % 8) (bits_of new) ≡ drop (bits_in_bytes (length (take n (bits_of old)))) (take n (bits_of old))
-gathered-dropped old new n room same e =
-    let h : ℕ = slice_index old (n / 8) / 2 ^ (8 - n % 8) in
-    let none : n % 8 / 8 ≡ 0 = omega arith in
-    let rest : n % 8 % 8 ≡ n % 8 = omega arith in
-    let front : bits_of (take (n % 8 / 8) new) ++ word (n % 8 % 8) (slice_index new (n % 8 / 8) / 2 ^ (8 - n % 8 % 8)) ≡ word (n % 8) h =
-    rw (none, rest, e) (ap (λ d. d ++ word (n % 8) h) bits_of-nil) in
-    viewed new (n % 8) (omega arith)
-    ∙ (front
-    ∙ sym (ap (λ d. drop (bits_in_bytes (length d)) d) (viewed old n room) ∙ rest-bits (take (n / 8) old) (word (n % 8) h) (rw (length-word (n % 8) h) (omega arith))))
+pub gathered-dropped : (old new : List ℕ) (capacity n count : ℕ) → IsGathered capacity n old → length old ≡ capacity → n / 8 ≤ count
+    → new ≡ take (length old) (slice_index old (n / 8) ∷ replicate count 0 ++ drop (count + 1) old)
+    → (take (n % 8) (bits_of new) ≡ drop (bits_in_bytes (length (take n (bits_of old)))) (take n (bits_of old))) × IsGathered capacity (n % 8) new
+gathered-dropped old new capacity n count h size far e =
+    let bits : List Bool = take n (bits_of old) in
+    let zeros : drop n (bits_of old) ≡ replicate (8 * length old - n) false = h.zeros ∙ ap (λ k. replicate (8 * k - n) false) (sym size) in
+    let long : length bits ≡ n = length_viewed old capacity n bits h size refl in
+    let rest : length (drop (bits_in_bytes (length bits)) bits) ≡ n % 8 = omega (arith, long, length-drop (bits_in_bytes (length bits)) bits) in
+    let all = behind (bits_of new) (drop (bits_in_bytes (length bits)) bits) (n % 8) (8 * length old - n % 8) (dropped old new n count (omega (arith, h.room, size)) far zeros e) rest in
+    (all.0, record { room = omega (arith, h.room); zeros = all.1 ∙ ap (λ k. replicate (8 * k - n % 8) false) size; small = h.small })
 
 pub gathered-whole : (bytes : List ℕ) (n : ℕ) → n ≤ 8 * length bytes → ((i : ℕ) → get_or (take (n / 8) bytes) i 0 < 256)
     → whole_bytes (take n (bits_of bytes)) ≡ take (n / 8) bytes

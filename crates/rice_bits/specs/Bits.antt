@@ -1,6 +1,6 @@
 -- Lists of bits, and the numbers and bytes that they spell.
-use Rattle.std.specs.Prelude.{◌≡◌, ℕ, zero, suc, ◌+◌, ◌-◌, ◌*◌, ◌/◌, ◌%◌, ◌^◌, ◌<◌, ◌≤◌, Bool, true, false, List, [], ◌∷◌, ◌++◌, length, replicate, ◌==◌, if◌then◌else◌}
-use Rattle.std.specs.List.{flat_map, slice_index}
+use Rattle.std.specs.Prelude.{◌≡◌, ℕ, zero, suc, ◌+◌, ◌-◌, ◌*◌, ◌/◌, ◌%◌, ◌^◌, ◌<◌, ◌≤◌, Bool, true, false, List, [], ◌∷◌, ◌++◌, drop, length, replicate, ◌==◌, if◌then◌else◌}
+use Rattle.std.specs.List.{flat_map}
 
 -- the fundamental sequence of m: m zeros and a one
 abbrev pub fundamental_sequence : ℕ → List Bool
@@ -37,8 +37,8 @@ bits_to_byte n = (8 - n % 8) % 8
 abbrev pub padded : List Bool → List Bool
 padded bits = bits ++ replicate (bits_to_byte (length bits)) false
 
--- So many bits are gathered within a capacity in bytes, and zeros stand behind them in the byte that is not whole.
+-- So many bits are gathered within a capacity in bytes, and zeros stand behind them.
 pub record IsGathered (capacity bits : ℕ) (bytes : List ℕ) : Type 0 where
   pub room : bits ≤ 8 * capacity
-  pub zeros : slice_index bytes (bits / 8) % 2 ^ (8 - bits % 8) ≡ 0
+  pub zeros : drop bits (bits_of bytes) ≡ replicate (8 * capacity - bits) false
   pub small : capacity < 2 ^ 32

@@ -1,5 +1,5 @@
 //! Eight bytes at a time.
-ghost use Rattle.std.specs.Prelude.{All, ◌≡◌, ◌+◌, ◌*◌, ◌^◌, ◌<◌, ◌≤◌, ◌++◌, length, drop, replicate, take};
+ghost use Rattle.std.specs.Prelude.{All, ◌≡◌, ℕ, ◌+◌, ◌-◌, ◌*◌, ◌/◌, ◌%◌, ◌^◌, ◌<◌, ◌≤◌, ◌∷◌, ◌++◌, bit_or, drop, length, min, replicate, set, take};
 ghost use Rattle.std.specs.Int.{to_be_bytes, to_le_bytes, w64};
 ghost use Rattle.std.specs.List.{slice_index};
 
@@ -41,7 +41,7 @@ fn joined(byte: u8, word: u64) -> u64
 pub fn join_bytes(bytes: &mut [u8], at: usize, word: u64)
     requires at { at ≤ length bytes.old }
     requires digits { slice_index bytes.old at * 2 ^ 56 + word < 2 ^ 64 }
-    ensures { take (at + 8) bytes.new ≡ take (length bytes.old) (take at bytes.old ++ to_be_bytes w64 (slice_index bytes.old at * 2 ^ 56 + word)) }
+    ensures { bytes.new ≡ take (length bytes.old) (take at bytes.old ++ (to_be_bytes w64 (slice_index bytes.old at * 2 ^ 56 + word) ++ drop (at + 8) bytes.old)) }
 {
     if 8 <= bytes.len() && at <= bytes.len() - 8 {
         let eight = joined(bytes[at], word);
@@ -53,6 +53,7 @@ pub fn join_bytes(bytes: &mut [u8], at: usize, word: u64)
 
 /// Joins the digits of `word` where fewer than eight bytes are left.
 #[cold]
+#[inline(never)]
 fn join_last_bytes(bytes: &mut [u8], at: usize, word: u64)
     requires at { at < length bytes.old }
     requires few { length bytes.old ≤ at + 8 }
@@ -65,15 +66,48 @@ fn join_last_bytes(bytes: &mut [u8], at: usize, word: u64)
     bytes[at..].copy_from_slice(&eight[..left]);
 }
 
-/// Moves the byte at the place `at` to the front, or a zero where there is none.
-pub fn move_to_front(bytes: &mut [u8], at: usize)
-    ensures { slice_index bytes.new 0 ≡ slice_index bytes.old at }
+/// Joins a 1 at the bit number `at`.
+#[inline]
+pub fn join_one(bytes: &mut [u8], at: u64)
+    requires { at < 8 * length bytes.old }
+    ensures { bytes.new ≡ set bytes.old (at / 8) (bit_or (slice_index bytes.old (at / 8)) (2 ^ (7 - at % 8))) }
 {
-    if at < bytes.len() {
-        bytes[0] = bytes[at];
-    } else if !bytes.is_empty() {
-        bytes[0] = 0;
+    // A rotation, of which the machine takes the remainder by 8 itself.
+    bytes[(at / 8) as usize] |= 0x80_u8.rotate_right((at % 8) as u32);
+}
+
+/// Moves the byte at the place `at` to the front, or a zero where there is none, and writes zeros behind it, up to that place at least.
+#[inline]
+pub fn keep_byte(bytes: &mut [u8], at: usize)
+    requires { at ≤ length bytes.old }
+    ensures { (count : ℕ) × (at ≤ count) × (bytes.new ≡ take (length bytes.old) (slice_index bytes.old at ∷ replicate count 0 ++ drop (count + 1) bytes.old)) }
+{
+    let kept = if at < bytes.len() { bytes[at] } else { 0 };
+    store_front_zeros(bytes, at + 1);
+    if !bytes.is_empty() {
+        bytes[0] = kept;
     }
+}
+
+/// Writes zeros to the first bytes, to `count` of them at least, or to all where there are fewer.
+#[inline]
+fn store_front_zeros(bytes: &mut [u8], count: usize)
+    ensures { (some : ℕ) × (min count (length bytes.old) ≤ some) × (some ≤ length bytes.old) × (bytes.new ≡ replicate some 0 ++ drop some bytes.old) }
+{
+    if count <= 64 && 64 <= bytes.len() {
+        u8x64::splat(0).copy_to_slice(bytes);
+    } else {
+        store_many_zeros(bytes, count);
+    }
+}
+
+/// The same for exactly so many.
+#[inline(never)]
+fn store_many_zeros(bytes: &mut [u8], count: usize)
+    ensures { bytes.new ≡ replicate (min count (length bytes.old)) 0 ++ drop (min count (length bytes.old)) bytes.old }
+{
+    let end = bytes.len().min(count);
+    bytes[..end].fill(0);
 }
 
 /// Writes `count` zeros from the place `at` on.

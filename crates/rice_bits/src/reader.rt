@@ -306,9 +306,11 @@ impl<I: Intake> BitReader<I> {
         ensures steps { meter.new + self.old.taken ≡ meter.old + self.new.taken }
         ensures limit { self.new.taken ≤ 2 ^ 52 }
     {
-        let used = self.window.take_sequence()?;
-        meter.tick(used);
-        Some(used - 1)
+        let count = self.window.sequence_ahead()?;
+        // The meter first: behind its store the place is moved by one addition in memory.
+        meter.tick(count);
+        self.window.pass(count);
+        Some(count - 1)
     }
 
     /// Takes a fundamental sequence, and calls the intake where no 1 waits. Where that leaves a refusal, the answer says nothing.
@@ -355,9 +357,10 @@ impl<I: Intake> BitReader<I> {
             self.refusal = Some(refusal);
             return Err(refusal);
         }
-        if let Some(used) = self.window.take_sequence() {
-            meter.tick(used);
-            return Ok((used - 1, true));
+        if let Some(count) = self.window.sequence_ahead() {
+            meter.tick(count);
+            self.window.pass(count);
+            return Ok((count - 1, true));
         }
         let zeros = self.window.take_zeros() as u64;
         meter.tick(zeros);
@@ -420,10 +423,10 @@ impl<I: Intake> BitReader<I> {
     {
         // The bits of the gap do not count: those before it are looked at now, and the mark passes it.
         self.blank_before = self.window.is_blank(self.blank_before);
-        let gap = (self.window.len() % 8) as u32;
-        let _number = self.window.take_first(gap);
+        let gap = (self.window.len() % 8) as u64;
+        self.window.pass(gap);
         self.window.mark();
-        meter.tick(gap as u64);
+        meter.tick(gap);
     }
 
     /// Takes up to `most` digits, at least one, and answers them with their count.

@@ -4,13 +4,13 @@ ghost use Rattle.rice_bits.specs.Bits.{fundamental_sequence, word, whole_bytes, 
 
 use crate::Meter;
 use crate::digits::to_front;
-use crate::octets::{front, join_bytes, move_to_front, store_zeros};
+use crate::octets::{front, join_bytes, join_one, keep_byte};
 use std::marker::Model;
 
 /// A list of at most `8 * N` bits, gathered into bytes, most significant bit first. Clauses see the bits.
 #[derive(Drop)]
 pub struct BitSink<const N: usize> {
-    /// The bits, with zeros behind them in the byte that is not whole. What stands behind that byte is of no account.
+    /// The bits, and zeros behind them.
     bytes: [u8; N],
     /// How many bits there are.
     bits: u64,
@@ -83,7 +83,13 @@ impl<const N: usize> BitSink<N> {
         ensures steps { meter.new ≡ meter.old + width }
     {
         meter.tick(width as u64);
-        self.put_digits(value, width);
+        let count = (self.bits % 8) as u32 + width;
+        join_bytes(
+            &mut self.bytes,
+            (self.bits / 8) as usize,
+            to_front(value, count),
+        );
+        self.bits += width as u64;
     }
 
     /// Appends the fundamental sequence of `m`, `m` zeros and a one, and ticks one for each bit (CCSDS 121.0-B-3, section 3, fundamental sequence).
@@ -95,53 +101,10 @@ impl<const N: usize> BitSink<N> {
         ensures len { length self.new ≡ length self.old + m + 1 }
         ensures steps { meter.new ≡ meter.old + m + 1 }
     {
-        meter.tick(m + 1);
-        if m < 56 {
-            self.put_digits(1, m as u32 + 1);
-        } else {
-            self.put_long_fs(m);
-        }
-    }
-
-    /// Appends a fundamental sequence by whole zero bytes, and ticks nothing.
-    fn put_long_fs(&mut self, m: u64)
-        requires room { length self.old + m + 1 ≤ 8 * N }
-        ensures bits { self.new ≡ self.old ++ fundamental_sequence m }
-        ensures len { length self.new ≡ length self.old + m + 1 }
-    {
-        self.put_zeros(m);
-        self.put_digits(1, 1);
-    }
-
-    /// Appends the `width` binary digits of `value`, and ticks nothing.
-    #[inline]
-    fn put_digits(&mut self, value: u64, width: u32)
-        requires width { width ≤ 56 }
-        requires value { value < 2 ^ width }
-        requires room { length self.old + width ≤ 8 * N }
-        ensures bits { self.new ≡ self.old ++ word width value }
-        ensures len { length self.new ≡ length self.old + width }
-    {
-        let count = (self.bits % 8) as u32 + width;
-        join_bytes(
-            &mut self.bytes,
-            (self.bits / 8) as usize,
-            to_front(value, count),
-        );
-        self.bits += width as u64;
-    }
-
-    /// Appends `count` zeros, where there is room for another bit.
-    fn put_zeros(&mut self, count: u64)
-        requires { length self.old + count < 8 * N }
-        ensures bits { self.new ≡ self.old ++ replicate count false }
-        ensures len { length self.new ≡ length self.old + count }
-    {
-        let end = self.bits + count;
-        let behind = self.bits / 8 + 1;
-        let bytes = end / 8 + 1 - behind;
-        store_zeros(&mut self.bytes, behind as usize, bytes as usize);
-        self.bits = end;
+        let count = m + 1;
+        meter.tick(count);
+        join_one(&mut self.bytes, self.bits + m);
+        self.bits += count;
     }
 
     /// The bytes that are whole.
@@ -158,7 +121,7 @@ impl<const N: usize> BitSink<N> {
         ensures bits { self.new ≡ drop (bits_in_bytes (length self.old)) self.old }
         ensures len { length self.new ≡ length self.old % 8 }
     {
-        move_to_front(&mut self.bytes, (self.bits / 8) as usize);
+        keep_byte(&mut self.bytes, (self.bits / 8) as usize);
         self.bits %= 8;
     }
 
@@ -167,7 +130,6 @@ impl<const N: usize> BitSink<N> {
         ensures bits { self.new ≡ self.old ++ replicate (bits_to_byte (length self.old)) false }
         ensures len { length self.new ≡ length self.old + bits_to_byte (length self.old) }
     {
-        let gap = (8 - self.bits % 8) % 8;
-        self.put_digits(0, gap as u32);
+        self.bits += (8 - self.bits % 8) % 8;
     }
 }

@@ -1,22 +1,31 @@
-use Rattle.std.proofs.Common.{◌≡◌, ◌-◌, ◌%◌, ◌++◌, ◌∙◌, ap, arith, rules, length}
-use Rattle.std.proofs.lemmas.Nat.{pow_pos}
-use Rattle.rice_bits.specs.Bits.{word, bits_to_byte}
-use Rattle.rice_bits.proofs.Gathering.{length_viewed}
-use Rattle.rice_bits.proofs.Words.{word-zero}
+use Rattle.std.proofs.Common.{◌≡◌, ◌+◌, ◌-◌, ◌*◌, ◌%◌, ◌∙◌, ◌++◌, false, ap, arith, length, length-append, replicate, take}
+use Rattle.std.proofs.lemmas.List.{length-replicate}
+use Rattle.rice_bits.specs.Bits.{bits_of, bits_to_byte}
+use Rattle.rice_bits.proofs.Bytes.{length-bits_of}
+use Rattle.rice_bits.proofs.Gathering.{length_viewed, passed}
 use Rattle.rice_bits.proofs.sink.BitSink.pad.Goals as goal
 
-pub put_digits-requires : goal.put_digits-requires
-put_digits-requires g c =
-    let before : length c.args.self.now ≡ c.self.inside.bits = length_viewed _ _ _ _ c.self.invariant c.self.told c.self.view_is in
-    (search rules, (omega arith, (pow_pos _, omega (arith, before, c.self.invariant.room))))
+pub invariant_of-self : goal.invariant_of-self
+invariant_of-self g c =
+    let n = c.self.inside.bits in
+    record {
+      room = omega (arith, c.self.invariant.room);
+      zeros =
+          (passed (bits_of c.self.inside.bytes) n (n + (8 - n % 8) % 8) (8 * g.row.N) (omega (arith, c.self.told, length-bits_of c.self.inside.bytes)) (omega arith) (omega (arith, c.self.invariant.room))
+          c.self.invariant.zeros).1;
+      small = c.self.invariant.small;
+    }
 
 pub returns-clause-bits : goal.returns-clause-bits
 returns-clause-bits g c =
     let before : length c.args.self.now ≡ c.self.inside.bits = length_viewed _ _ _ _ c.self.invariant c.self.told c.self.view_is in
-    let gap : (8 - c.self.inside.bits % 8) % 8 ≡ bits_to_byte (length c.args.self.now) = omega (arith, before) in
-    c.put_digits.ensures.bits ∙ ap (λ bits. c.args.self.now ++ bits) (ap (λ n. word n 0) gap ∙ word-zero (bits_to_byte (length c.args.self.now)))
+    let n = c.self.inside.bits in
+    let gap : n + (8 - n % 8) % 8 - n ≡ bits_to_byte (length c.args.self.now) = omega (arith, before) in
+    (passed (bits_of c.self.inside.bytes) n (n + (8 - n % 8) % 8) (8 * g.row.N) (omega (arith, c.self.told, length-bits_of c.self.inside.bytes)) (omega arith) (omega (arith, c.self.invariant.room))
+    c.self.invariant.zeros).0
+    ∙ (ap (λ k. take n (bits_of c.self.inside.bytes) ++ replicate k false) gap ∙ ap (λ d. d ++ replicate (bits_to_byte (length c.args.self.now)) false) c.self.view_is)
 
 pub returns-clause-len : goal.returns-clause-len
 returns-clause-len g c =
-    let before : length c.args.self.now ≡ c.self.inside.bits = length_viewed _ _ _ _ c.self.invariant c.self.told c.self.view_is in
-    omega (arith, before, c.put_digits.ensures.len)
+    ap length (returns-clause-bits g c)
+    ∙ (length-append c.args.self.now (replicate (bits_to_byte (length c.args.self.now)) false) ∙ ap (λ n. length c.args.self.now + n) (length-replicate (bits_to_byte (length c.args.self.now)) false))
