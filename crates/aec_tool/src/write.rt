@@ -26,6 +26,7 @@ pub fn write_all<O: Outlet>(outlet: &mut O, bytes: &[u8]) -> Result<(), WriteFau
 }
 
 /// Writes the bytes that are whole in a sink, and removes them from it.
+#[inline]
 pub fn write_whole<const N: usize, O: Outlet>(
     sink: &mut BitSink<N>,
     outlet: &mut O,
