@@ -4,13 +4,13 @@ use Rattle.std.specs.Int.{to_be_bytes, w64}
 use Rattle.std.specs.List.{slice_index}
 use Rattle.std.proofs.Math.Seq.{take-append-add}
 use Rattle.std.proofs.lemmas.Bool.{cases_lt}
-use Rattle.std.proofs.lemmas.Nat.{or_shifted, pow-add, pow_pos, shl_below, shr_below, shr_split, mod_below}
+use Rattle.std.proofs.lemmas.Nat.{or_shifted, pow-add, pow_pos, shr_below, shr_split, mod_below}
 use Rattle.std.proofs.lemmas.List.{append-nil, replicate-append-replicate, length-replicate, length-drop, length-set, length-take-le, take-append-drop, take-replicate, take_all, take_at, drop-drop, drop-replicate, drop-set-lt, drop_all, drop_at, drop_more, get_or_past, get_or-set_same, take-set}
 use Rattle.rice_bits.specs.Bits.{IsGathered, bits_in_bytes, fundamental_sequence, word, bits_of, whole_bytes}
-use Rattle.rice_bits.proofs.Words.{length-word, word-nil, word-zero, word-cat, word-split, word-fs, shift_fits, join_below}
+use Rattle.rice_bits.proofs.Words.{length-word, word-nil, word-zero, word-cat, word-split, word-fs, length-fundamental_sequence, shift_fits, join_below}
 use Rattle.rice_bits.proofs.Bytes.{bits_of-nil, bits_of-append, bits_of-zeros, length-bits_of, whole-bits, rest-bits}
 use Rattle.rice_bits.proofs.EightBytes.{bits_of-eight, split-bytes, length-front}
-use Rattle.rice_bits.proofs.OneWay.{bits_read, word_reads}
+use Rattle.rice_bits.proofs.OneWay.{word_reads}
 
 -- the length of what a view shows
 pub length_viewed : (bytes : List ℕ) (capacity n : ℕ) (bits : List Bool) → IsGathered capacity n bytes → length bytes ≡ capacity
@@ -136,11 +136,6 @@ bytes_behind bytes n q h place zeros = elim (cases_lt q (length bytes)) [
 fs-parts : (m : ℕ) (bits : List Bool) → (bits ++ replicate m false) ++ word 1 1 ≡ bits ++ fundamental_sequence m
 fs-parts m bits = ap (λ d. (bits ++ replicate m false) ++ d) (word-fs 0) ∙ append_assoc bits (replicate m false) (true ∷ [])
 
--- digits in front of zeros, and what comes behind them
-zeros_behind : (w v z : ℕ) (rest : List Bool) → word w v ++ rest ≡ replicate z false → rest ≡ replicate (z - w) false
-zeros_behind w v z rest e =
-    sym (drop_at (word w v) rest w (length-word w v)) ∙ (ap (drop w) e ∙ drop-replicate w z false)
-
 -- the zeros behind bits, as far as there is room
 cut : (bytes : List ℕ) (xs : List Bool) (z room : ℕ) → bits_of bytes ≡ xs ++ replicate z false → length xs ≤ 8 * room → 8 * room ≤ length xs + z
     → bits_of (take room bytes) ≡ xs ++ replicate (8 * room - length xs) false
@@ -156,20 +151,6 @@ cut bytes xs z room e h i =
 product : (h p q v : ℕ) → h * (p * q) + v * q ≡ (h * p + v) * q
 product h p q v = omega arith
 
--- a number that ends in zeros, and digits that are joined to it
-joined : (size x used width value : ℕ) → x % 2 ^ (size - used) ≡ 0 → used + width ≤ size → value < 2 ^ width
-    → bit_or x (value * 2 ^ (size - (used + width))) ≡ (x / 2 ^ (size - used) * 2 ^ width + value) * 2 ^ (size - (used + width))
-joined size x used width value zeros room below =
-    let w : ℕ = size - used in
-    let s : ℕ = size - (used + width) in
-    let h : ℕ = x / 2 ^ w in
-    let split : width + s ≡ w = omega arith in
-    let high : x ≡ h * 2 ^ w = omega (arith, shr_split x w) in
-    let low : value * 2 ^ s < 2 ^ w = rw (← split) (shl_below value width s below) in
-    ap (λ n. bit_or n (value * 2 ^ s)) high
-    ∙ (or_shifted h w (value * 2 ^ s) low
-    ∙ (ap (λ n. h * n + value * 2 ^ s) (ap (λ n. 2 ^ n) (sym split) ∙ pow-add 2 width s) ∙ product h (2 ^ width) (2 ^ s) value))
-
 -- digits that are moved to the front, with zeros behind them
 top-word : (size c j : ℕ) → c ≤ size → word size (j * 2 ^ (size - c)) ≡ word c j ++ replicate (size - c) false
 top-word size c j h =
@@ -182,27 +163,20 @@ regroup : (a b c d e : List Bool) → a ++ (((b ++ c) ++ d) ++ e) ≡ ((a ++ b) 
 regroup a b c d e =
     ap (λ z. a ++ z) (append_assoc (b ++ c) d e ∙ append_assoc b c (d ++ e)) ∙ (sym (append_assoc a b (c ++ (d ++ e))) ∙ sym (append_assoc (a ++ b) c (d ++ e)))
 
--- digits that are joined to the number in which bits end and zeros begin
-joined_bits : (front back bits : List Bool) (size used width value x z : ℕ) → used + width ≤ size → value < 2 ^ width → length bits ≡ length front + used
-    → front ++ (word size x ++ back) ≡ bits ++ replicate z false
-    → front ++ (word size (bit_or x (value * 2 ^ (size - (used + width)))) ++ back) ≡ (bits ++ word width value) ++ replicate (size - (used + width) + (z - (size - used))) false
-joined_bits front back bits size used width value x z room below long e =
-    let w : ℕ = size - used in
-    let s : ℕ = size - (used + width) in
-    let h : ℕ = x / 2 ^ w in
-    let parts : used + w ≡ size = omega arith in
-    let halves : word size x ≡ word used h ++ word w (x % 2 ^ w) = ap (λ n. word n x) (sym parts) ∙ word-split used w x in
-    let read = bits_read (front ++ word used h) bits (word w (x % 2 ^ w) ++ back) (replicate z false) (omega (arith, long, length-append front (word used h), length-word used h))
-    (append_assoc front (word used h) (word w (x % 2 ^ w) ++ back)
-    ∙ (ap (λ d. front ++ d) (sym (append_assoc (word used h) (word w (x % 2 ^ w)) back) ∙ ap (λ d. d ++ back) (sym halves)) ∙ e)) in
-    let zeros : x % 2 ^ w ≡ 0 = low_zeros w x z back read.1 in
-    let spelled : word size (bit_or x (value * 2 ^ s)) ≡ (word used h ++ word width value) ++ replicate s false =
-    ap (word size) (joined size x used width value zeros room below)
-    ∙ (top-word size (used + width) (h * 2 ^ width + value) room ∙ ap (λ d. d ++ replicate s false) (word-cat used width h value below)) in
-    ap (λ d. front ++ (d ++ back)) spelled
-    ∙ (regroup front (word used h) (word width value) (replicate s false) back
-    ∙ (ap (λ d. (d ++ word width value) ++ (replicate s false ++ back)) read.0
-    ∙ ap (λ d. (bits ++ word width value) ++ d) (ap (λ d. replicate s false ++ d) (zeros_behind w (x % 2 ^ w) z back read.1) ∙ replicate-append-replicate s (z - w) false)))
+-- digits that are written in the byte in which bits end, and zeros behind them
+written : (old : List ℕ) (n count s : ℕ) (digits piece : List Bool) → n ≤ 8 * length old → n ≤ 8 * (n / 8 + count) → drop n (bits_of old) ≡ replicate (8 * length old - n) false
+    → piece ≡ (word (n % 8) (slice_index old (n / 8) / 2 ^ (8 - n % 8)) ++ digits) ++ replicate s false
+    → bits_of (take (n / 8) old) ++ (piece ++ bits_of (drop (n / 8 + count) old))
+    ≡ (take n (bits_of old) ++ digits) ++ replicate (s + (8 * length old - 8 * (n / 8 + count))) false
+written old n count s digits piece room past zeros e =
+    let front : List Bool = bits_of (take (n / 8) old) in
+    let first : List Bool = word (n % 8) (slice_index old (n / 8) / 2 ^ (8 - n % 8)) in
+    let back : List Bool = bits_of (drop (n / 8 + count) old) in
+    let left : ℕ = 8 * length old - 8 * (n / 8 + count) in
+    ap (λ d. front ++ (d ++ back)) e
+    ∙ (regroup front first digits (replicate s false) back
+    ∙ (ap (λ d. (d ++ digits) ++ (replicate s false ++ back)) (sym (viewed old n room))
+    ∙ ap (λ d. (take n (bits_of old) ++ digits) ++ d) (ap (λ d. replicate s false ++ d) (bytes_behind old n (n / 8 + count) room past zeros) ∙ replicate-append-replicate s left false)))
 
 shifted : (h p q : ℕ) → h * p * q ≡ h * (p * q)
 shifted h p q = omega arith
@@ -242,25 +216,36 @@ gathered-put old new n width value room narrow below zeros e =
     let h : ℕ = b / 2 ^ (8 - g) in
     let s : ℕ = 64 - (g + width) in
     let x : ℕ = b * 2 ^ 56 + value * 2 ^ s in
-    let bits : List Bool = take n (bits_of old) in
-    let front : List Bool = bits_of (take at old) in
-    let left : ℕ = 8 * length old - 8 * (at + 8) in
+    let bits : List Bool = take n (bits_of old) ++ word width value in
     let eight : bits_of (to_be_bytes w64 x) ≡ (word g h ++ word width value) ++ replicate s false =
     bits_of-eight x
     ∙ (ap (word 64) (joined_to_byte b g width value (last_zeros old n (omega arith) zeros) (omega arith) (omega arith))
     ∙ (top-word 64 (g + width) (h * 2 ^ width + value) (omega arith) ∙ ap (λ d. d ++ replicate s false) (word-cat g width h value below))) in
-    let all : bits_of (take at old ++ (to_be_bytes w64 x ++ drop (at + 8) old)) ≡ (bits ++ word width value) ++ replicate (s + left) false =
+    let all : bits_of (take at old ++ (to_be_bytes w64 x ++ drop (at + 8) old)) ≡ bits ++ replicate (s + (8 * length old - 8 * (at + 8))) false =
     bits_of-append (take at old) (to_be_bytes w64 x ++ drop (at + 8) old)
-    ∙ (ap (λ d. front ++ d) (bits_of-append (to_be_bytes w64 x) (drop (at + 8) old) ∙ ap (λ d. d ++ bits_of (drop (at + 8) old)) eight)
-    ∙ (regroup front (word g h) (word width value) (replicate s false) (bits_of (drop (at + 8) old))
-    ∙ (ap (λ d. (d ++ word width value) ++ (replicate s false ++ bits_of (drop (at + 8) old))) (sym (viewed old n (omega arith)))
-    ∙ ap (λ d. (bits ++ word width value) ++ d) (ap (λ d. replicate s false ++ d) (bytes_behind old n (at + 8) (omega arith) (omega arith) zeros) ∙ replicate-append-replicate s left false)))) in
-    let size : length (bits ++ word width value) ≡ n + width =
-    omega (arith, length-append bits (word width value), length-take-le n (bits_of old) (omega (arith, length-bits_of old)), length-word width value) in
-    behind (bits_of new) (bits ++ word width value) (n + width) (8 * length old - (n + width))
-    (ap bits_of e
-    ∙ (cut _ (bits ++ word width value) _ (length old) all (omega (arith, size)) (omega (arith, size)) ∙ ap (λ k. (bits ++ word width value) ++ replicate (8 * length old - k) false) size))
+    ∙ (ap (λ d. bits_of (take at old) ++ d) (bits_of-append (to_be_bytes w64 x) (drop (at + 8) old))
+    ∙ written old n 8 s (word width value) (bits_of (to_be_bytes w64 x)) (omega arith) (omega arith) zeros eight) in
+    let size : length bits ≡ n + width =
+    omega (arith, length-append (take n (bits_of old)) (word width value), length-take-le n (bits_of old) (omega (arith, length-bits_of old)), length-word width value) in
+    behind (bits_of new) bits (n + width) (8 * length old - (n + width))
+    (ap bits_of e ∙ (cut _ bits _ (length old) all (omega (arith, size)) (omega (arith, size)) ∙ ap (λ k. bits ++ replicate (8 * length old - k) false) size))
     size
+
+-- a 1 that is joined to a number that ends in zeros
+one_joined : (x g : ℕ) → x % 2 ^ (8 - g) ≡ 0 → g < 8 → bit_or x (2 ^ (7 - g)) ≡ (x / 2 ^ (8 - g) * 2 ^ 1 + 1) * 2 ^ (8 - (g + 1))
+one_joined x g zeros short =
+    let h : ℕ = x / 2 ^ (8 - g) in
+    let s : ℕ = 8 - (g + 1) in
+    let last : 7 - g ≡ s = omega arith in
+    let split : 1 + s ≡ 8 - g = omega arith in
+    let power : 2 ^ (8 - g) ≡ 2 ^ 1 * 2 ^ s = ap (λ n. 2 ^ n) (sym split) ∙ pow-add 2 1 s in
+    let high : x ≡ h * 2 ^ (8 - g) = omega (arith, shr_split x (8 - g)) in
+    let low : 2 ^ s < 2 ^ (8 - g) = omega (arith, power, pow_pos s) in
+    ap (λ n. bit_or x (2 ^ n)) last
+    ∙ (ap (λ n. bit_or n (2 ^ s)) high ∙ (or_shifted h (8 - g) (2 ^ s) low ∙ (ap (λ n. h * n + 2 ^ s) power ∙ one_more h (2 ^ s))))
+  where
+    one_more : (h q : ℕ) → h * (2 ^ 1 * q) + q ≡ (h * 2 ^ 1 + 1) * q
+    one_more h q = omega arith
 
 -- a byte among others
 set_apart : (bytes : List ℕ) (i b : ℕ) → i < length bytes → bits_of (set bytes i b) ≡ bits_of (take i bytes) ++ (word 8 b ++ bits_of (drop (i + 1) bytes))
@@ -280,30 +265,26 @@ pub gathered-one : (old new : List ℕ) (n m : ℕ) → n + m < 8 * length old �
 gathered-one old new n m room zeros e =
     let p : ℕ = n + m in
     let at : ℕ = p / 8 in
-    let used : ℕ = p % 8 in
+    let g : ℕ = p % 8 in
     let x : ℕ = slice_index old at in
+    let h : ℕ = x / 2 ^ (8 - g) in
+    let s : ℕ = 8 - (g + 1) in
     let far = passed (bits_of old) n p (8 * length old) (length-bits_of old) (omega arith) (omega arith) zeros in
     let gap : p - n ≡ m = omega arith in
-    let bits : List Bool = take p (bits_of old) in
-    let front : List Bool = bits_of (take at old) in
-    let back : List Bool = bits_of (drop (at + 1) old) in
-    let size : length bits ≡ p = length-take-le p (bits_of old) (omega (arith, length-bits_of old)) in
-    let place : length bits ≡ length front + used = omega (arith, size, length-front at old (omega arith)) in
-    let before : front ++ (word 8 x ++ back) ≡ bits ++ replicate (8 * length old - p) false =
-    ap (λ d. front ++ d) (sym (bits_of-first x (drop (at + 1) old)) ∙ ap bits_of (sym (drop_more old at 0 (omega arith))))
-    ∙ (split-bytes at old ∙ (sym (take-append-drop p (bits_of old)) ∙ ap (λ d. bits ++ d) far.1)) in
-    let shift : 1 * 2 ^ (8 - (used + 1)) ≡ 2 ^ (7 - used) = (let k : 8 - (used + 1) ≡ 7 - used = omega arith in rw k (omega arith)) in
-    let left : 8 - (used + 1) + (8 * length old - p - (8 - used)) ≡ 8 * length old - (n + (m + 1)) = omega arith in
-    let sequence : bits ++ word 1 1 ≡ take n (bits_of old) ++ fundamental_sequence m =
+    let bits : List Bool = take n (bits_of old) ++ fundamental_sequence m in
+    let byte : word 8 (bit_or x (2 ^ (7 - g))) ≡ (word g h ++ word 1 1) ++ replicate s false =
+    ap (word 8) (one_joined x g (last_zeros old p (omega arith) far.1) (omega arith))
+    ∙ (top-word 8 (g + 1) (h * 2 ^ 1 + 1) (omega arith) ∙ ap (λ d. d ++ replicate s false) (word-cat g 1 h 1 (omega arith))) in
+    let left : s + (8 * length old - 8 * (at + 1)) ≡ 8 * length old - (n + (m + 1)) = omega arith in
+    let sequence : take p (bits_of old) ++ word 1 1 ≡ bits =
     ap (λ d. d ++ word 1 1) (far.0 ∙ ap (λ k. take n (bits_of old) ++ replicate k false) gap) ∙ fs-parts m (take n (bits_of old)) in
-    let longer : length (bits ++ word 1 1) ≡ n + (m + 1) = omega (arith, size, length-append bits (word 1 1), length-word 1 1) in
-    behind (bits_of new) (take n (bits_of old) ++ fundamental_sequence m) (n + (m + 1)) (8 * length old - (n + (m + 1)))
+    let size : length bits ≡ n + (m + 1) =
+    omega (arith, length-append (take n (bits_of old)) (fundamental_sequence m), length-take-le n (bits_of old) (omega (arith, length-bits_of old)), length-fundamental_sequence m) in
+    behind (bits_of new) bits (n + (m + 1)) (8 * length old - (n + (m + 1)))
     (ap bits_of e
-    ∙ (set_apart old at (bit_or x (2 ^ (7 - used))) (omega arith)
-    ∙ (ap (λ k. front ++ (word 8 (bit_or x k) ++ back)) (sym shift)
-    ∙ (joined_bits front back bits 8 used 1 1 x (8 * length old - p) (omega arith) (omega arith) place before
-    ∙ (ap (λ k. (bits ++ word 1 1) ++ replicate k false) left ∙ ap (λ d. d ++ replicate (8 * length old - (n + (m + 1))) false) sequence)))))
-    (ap length (sym sequence) ∙ longer)
+    ∙ (set_apart old at (bit_or x (2 ^ (7 - g))) (omega arith)
+    ∙ (written old p 1 s (word 1 1) (word 8 (bit_or x (2 ^ (7 - g)))) (omega arith) (omega arith) far.1 byte ∙ ((λ j. sequence j ++ replicate (left j) false)))))
+    size
 
 byte_first : (b : ℕ) (bytes : List ℕ) (at : ℕ) → bits_of (b ∷ replicate at 0 ++ bytes) ≡ word 8 b ++ (replicate (8 * at) false ++ bits_of bytes)
 byte_first b bytes at =

@@ -9,7 +9,7 @@ use crate::device::Intake;
 use crate::digits::join;
 use crate::fault::BitFault;
 use crate::meter::Meter;
-use crate::window::{PIECE, Window};
+use crate::window::{AHEAD, PIECE, Window};
 use std::marker::Model;
 
 /// The most bytes that a reader takes from its intake.
@@ -362,8 +362,9 @@ impl<I: Intake> BitReader<I> {
             self.window.pass(count);
             return Ok((count - 1, true));
         }
-        let zeros = self.window.take_zeros() as u64;
+        let zeros = AHEAD.min(self.window.len()) as u64;
         meter.tick(zeros);
+        self.window.pass(zeros);
         Ok((zeros, false))
     }
 
