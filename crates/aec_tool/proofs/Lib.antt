@@ -1,11 +1,1 @@
-pub mod BoundLemmas
 pub mod EntryLemmas
-pub mod WholeLemmas
-pub mod SpelledLemmas
-pub mod EncoderLemmas
-pub mod BufferLemmas
-pub mod EndLemmas
-pub mod DecodingLemmas
-pub mod DecodedLemmas
-pub mod ReachLemmas
-pub mod ReturnLemmas

@@ -1,8 +1,1 @@
-pub mod Writes
-pub mod Calls
-pub mod Encoding
-pub mod Encoder
-pub mod Decoding
-pub mod Decodings
 pub mod Plan
-pub mod Laws

@@ -2,17 +2,13 @@
 #![tactic(auto)]
 
 mod command_line;
-mod decoding;
-mod encoding;
-mod engine;
 mod entries;
-mod laws;
-mod outcome;
+mod exit_status;
 mod plan;
+mod run;
 mod start_up;
 #[cfg(test)]
 mod tests;
-mod write;
 
 use std::process::ExitCode;
 

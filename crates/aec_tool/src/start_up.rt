@@ -2,13 +2,14 @@
 ghost use Rattle.std.specs.Prelude.{◌≡◌};
 
 use crate::command_line::command;
-use crate::engine::run;
 use crate::entries::plan_of;
-use crate::outcome::{Fault, exit_status};
+use crate::exit_status::exit_status;
 use crate::plan::Plan;
+use crate::run::run;
 use clap::error::ErrorKind;
 use clap::{ArgMatches, Error};
 use rice_bits::{FromReader, FromWriter};
+use rice_stream::Fault;
 use std::alloc::AllocGlobal;
 use std::fmt::Display;
 use std::fs::File;

@@ -1,7 +1,0 @@
-//! What joins encoding and decoding.
-ghost use Rattle.aec_tool.specs.Laws.{ReturnsBytes};
-
-/// The bytes that encoding writes decode, with the number of their samples, to the bytes that were encoded.
-pub fn returns_bytes()
-    ensures { ReturnsBytes }
-{}

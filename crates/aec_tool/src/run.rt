@@ -1,0 +1,29 @@
+//! The engine that a plan asks for.
+ghost use Rattle.std.specs.Prelude.{◌≡◌, ◌+◌, ◌^◌, ◌<◌, true, false};
+ghost use Rattle.rice_stream.specs.Calls.{Call, Happens, Fails};
+ghost use Rattle.rice_stream.specs.Decoding.{Decodings, DecodesWithin};
+ghost use Rattle.rice_stream.specs.Encoding.{Encodes, EncodesWithin};
+
+use crate::plan::Plan;
+use rice_bits::{Intake, Outlet};
+use rice_stream::{Outcome, decode, encode};
+
+/// Decodes where the plan says so, and else encodes. Answers the intake too.
+pub fn run<I: Intake, O: Outlet>(plan: &Plan<'_>, intake: I, outlet: &mut O) -> (Outcome, I)
+    requires reads { I.failed intake + 1 < 2 ^ 64 }
+    requires writes { O.failed outlet.old + 1 < 2 ^ 64 }
+    ensures encodes { plan.now.decode ≡ false → (c : Call) × Happens (I.left intake) (I.left result.1) (O.taken outlet.old) (O.taken outlet.new) c ×
+        Encodes plan.now.setting c result.0.report result.0.fault }
+    ensures encodes_within { plan.now.decode ≡ false → EncodesWithin plan.now.setting result.0.report }
+    ensures decodes { plan.now.decode ≡ true → (c : Call) × Happens (I.left intake) (I.left result.1) (O.taken outlet.old) (O.taken outlet.new) c ×
+        Decodings plan.now.setting plan.now.samples c result.0.report result.0.fault }
+    ensures failures { Fails result.0.fault (I.failed intake) (I.failed result.1) (O.failed outlet.old) (O.failed outlet.new) }
+    ensures decodes_within { plan.now.decode ≡ true → DecodesWithin plan.now.samples result.0.report }
+{
+    if plan.decode {
+        return decode(&plan.setting, plan.samples, intake, outlet);
+    }
+    let mut intake = intake;
+    let outcome = encode(&plan.setting, &mut intake, outlet);
+    (outcome, intake)
+}

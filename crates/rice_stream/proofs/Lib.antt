@@ -1,0 +1,10 @@
+pub mod BoundLemmas
+pub mod WholeLemmas
+pub mod SpelledLemmas
+pub mod EncoderLemmas
+pub mod BufferLemmas
+pub mod EndLemmas
+pub mod DecodingLemmas
+pub mod DecodedLemmas
+pub mod ReachLemmas
+pub mod ReturnLemmas

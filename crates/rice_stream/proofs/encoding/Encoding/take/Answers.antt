@@ -1,0 +1,51 @@
+use Rattle.std.proofs.Common.{arith, ◌≡◌, ◌<◌, ◌∙◌, ◌+◌, ◌++◌, length, length-append, take, ap, sym, subst, ℕ}
+use Rattle.std.specs.Prelude.{All}
+use Rattle.std.proofs.lemmas.List.{length-take-le, take-take}
+use Rattle.rice_samples.specs.Parameters.{Parameters, IsSample}
+use Rattle.rice_code.specs.Code.{code_bits}
+use Rattle.rice_code.specs.Coder.{settled}
+use Rattle.rice_stream.proofs.EncoderLemmas.{Tally, counts_small, early_small, sink_short, sink_place, taken_on}
+use Rattle.rice_stream.proofs.encoding.Encoding.take.Goals as goal
+
+pub push_some-pushed-requires-clause-samples : goal.push_some-pushed-requires-clause-samples
+push_some-pushed-requires-clause-samples c = subst (λ (t : Parameters). All (IsSample t) c.args.samples.now) (sym c.requires.ready.4.counts.setting) c.requires.ready.5
+
+pub push_some-pushed-requires-clause-room : goal.push_some-pushed-requires-clause-room
+push_some-pushed-requires-clause-room c = sink_short c.requires.ready.0 c.requires.ready.1 c.requires.ready.2 _ c.requires.ready.3 c.requires.ready.4
+
+pub push_some-pushed-requires-clause-meter : goal.push_some-pushed-requires-clause-meter
+push_some-pushed-requires-clause-meter c = let small = counts_small c.requires.ready.0 _ c.requires.ready.3 c.requires.ready.4.counts in omega (arith, small.1, small.2, c.requires.ready.6)
+
+pub overflow_add-self : goal.overflow_add-self
+overflow_add-self c = omega (arith, c.requires.ready.4.counts.samples, c.requires.ready.6, c.push_some-pushed.ensures.taken)
+
+pub overflow_add-self-2 : goal.overflow_add-self-2
+overflow_add-self-2 c =
+    let k = c.requires.ready.4.counts in
+    let p = c.push_some-pushed in
+    let xs = c.requires.ready.3 in
+    let zs = take p.result.samples c.args.samples.now in
+    let ys = xs ++ zs in
+    let t = c.args.self.now.coder.setting in
+    let same = subst (λ (t : Parameters). code_bits t (settled t ys) ≡ code_bits t (settled t xs) + p.result.bits) k.setting (p.ensures.bits xs k.stands) in
+    let small = early_small c.requires.ready.0 p.new.self ys (p.ensures.setting ∙ k.setting) (p.ensures.stands xs k.stands) in
+    let len = length-take-le p.result.samples c.args.samples.now p.ensures.taken in
+    omega (arith, small, same, k.bits, c.requires.ready.6, length-append xs zs, len, p.ensures.taken)
+
+pub returns-clause-took : goal.returns-clause-took
+returns-clause-took c s old now xs h =
+    let e = c.args.self.now in
+    let p = c.push_some-pushed in
+    let stands = h.counts.stands in
+    let samples = c.args.samples.now in
+    let n = p.result.samples in
+    let zs = take n samples in
+    let len : length zs ≡ n = length-take-le n samples p.ensures.taken in
+    let tally : Tally e.coder.setting xs (xs ++ zs) (length zs) e.meter p.new.meter e.bits (e.bits + p.result.bits) = record {
+      least = omega (arith, p.ensures.steps_from xs stands, len);
+      most = omega (arith, p.ensures.steps_to xs stands, len);
+      bits = omega (arith, p.ensures.bits xs stands);
+    } in
+    let before : (m : ℕ) → m < length zs → settled e.coder.setting (xs ++ take m zs) ≡ settled e.coder.setting xs =
+    λ m lt. ap (λ l. settled e.coder.setting (xs ++ l)) (take-take m n samples (omega (arith, lt, len))) ∙ p.ensures.before_last xs stands m (omega (arith, lt, len)) in
+    taken_on s old now e _ xs zs h p.ensures.setting (p.ensures.stands xs stands) (p.ensures.code xs stands (sink_place s old now e xs h)) tally (ap (λ m. e.samples + m) (sym len)) before

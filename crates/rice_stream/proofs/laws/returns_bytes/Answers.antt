@@ -1,0 +1,5 @@
+use Rattle.rice_stream.proofs.ReturnLemmas as returning
+use Rattle.rice_stream.proofs.laws.returns_bytes.Goals as goal
+
+pub returns : goal.returns
+returns c = returning.returns_bytes

@@ -1,0 +1,121 @@
+//! From the code to its samples.
+ghost use Rattle.std.specs.Prelude.{◌≡◌, ℕ, ◌+◌, ◌-◌, ◌*◌, ◌^◌, ◌<◌, ◌≤◌, length, Option};
+ghost use Rattle.rice_stream.specs.Calls.{Call, Happens, Fails};
+ghost use Rattle.rice_stream.specs.Decoding.{Decodings, DecodesWithin, wanted_of, ended_fault, refusal_fault};
+
+use crate::outcome::{Fault, Outcome, Report};
+use crate::write::write_samples;
+use arrayvec::ArrayVec;
+use rice_bits::{BitReader, Intake, Meter, Outlet};
+use rice_code::{CodeFault, Decoder, Step};
+use rice_samples::Setting;
+
+/// How many samples of the next block are wanted, behind those that are written.
+fn wanted(asked: Option<u64>, written: u64, block: u32) -> usize
+    ensures value { result ≡ wanted_of asked written block }
+    ensures most { result ≤ block }
+{
+    match asked {
+        None => block as usize,
+        Some(count) => count.saturating_sub(written).min(block as u64) as usize,
+    }
+}
+
+/// Why decoding stops where no 1 is left: only where more samples were asked for.
+fn end_of(asked: Option<u64>, samples: u64) -> Option<Fault>
+    ensures { result ≡ ended_fault asked samples }
+{
+    match asked {
+        None => None,
+        Some(_) => Some(Fault::CodeEnds { samples }),
+    }
+}
+
+/// Why decoding stops where the decoder refuses so, behind so many samples.
+fn fault_of(fault: CodeFault, samples: u64, block: u32) -> Fault
+    requires { 0 < block }
+    ensures { result ≡ refusal_fault fault samples block }
+{
+    match fault {
+        CodeFault::CodeEnds => Fault::CodeEnds { samples },
+        CodeFault::RunPastSegment => Fault::RunPastSegment {
+            block: samples / block as u64,
+        },
+        CodeFault::ResidualTooLarge => Fault::ResidualTooLarge {
+            block: samples / block as u64,
+        },
+        CodeFault::Read => Fault::Read,
+        CodeFault::TooLong => Fault::TooLong,
+    }
+}
+
+/// What was done, and the intake.
+fn ended<I: Intake>(
+    fault: Option<Fault>,
+    samples: u64,
+    reader: BitReader<I>,
+    meter: &Meter,
+) -> (Outcome, I)
+    ensures samples { result.0.report.samples ≡ samples }
+    ensures bits { result.0.report.bits ≡ reader.taken }
+    ensures steps { result.0.report.steps ≡ meter.now }
+    ensures fault { result.0.fault ≡ fault }
+    ensures intake { result.1 ≡ reader.intake }
+    ensures ahead { length reader.waiting ≤ 32768 }
+{
+    let report = Report {
+        samples,
+        bits: reader.taken(),
+        steps: meter.steps(),
+    };
+    (Outcome { report, fault }, reader.into_inner())
+}
+
+/// Decodes the code that the intake gives, up to the samples asked for, and writes them to the outlet.
+/// Each block is written before the next is read. With a count of 0 nothing is read.
+pub fn decode<I: Intake, O: Outlet>(
+    setting: &Setting,
+    asked: Option<u64>,
+    intake: I,
+    outlet: &mut O,
+) -> (Outcome, I)
+    requires reads { I.failed intake + 1 < 2 ^ 64 }
+    requires writes { O.failed outlet.old + 1 < 2 ^ 64 }
+    ensures call { (c : Call) × Happens (I.left intake) (I.left result.1) (O.taken outlet.old) (O.taken outlet.new) c ×
+        Decodings setting.now asked c result.0.report result.0.fault }
+    ensures failures { Fails result.0.fault (I.failed intake) (I.failed result.1) (O.failed outlet.old) (O.failed outlet.new) }
+    ensures bounds { DecodesWithin asked result.0.report }
+{
+    let block = setting.block();
+    let mut decoder = Decoder::new(*setting);
+    let mut reader = BitReader::new(intake);
+    let mut meter = Meter::new();
+    let mut samples = ArrayVec::new();
+    // Here, and not where it is filled, it need not be cleared for each block.
+    let mut bytes = [0; 256];
+    let mut written = 0u64;
+    'decode_all: loop {
+        let count = wanted(asked, written, block);
+        if count == 0 {
+            return ended(None, written, reader, &meter);
+        }
+        let step = match decoder.next_block(&mut reader, &mut meter, &mut samples) {
+            Ok(step) => step,
+            Err(fault) => {
+                let fault = fault_of(fault, written, block);
+                return ended(Some(fault), written, reader, &meter);
+            }
+        };
+        match step {
+            Step::Block => {}
+            Step::Done => return ended(end_of(asked, written), written, reader, &meter),
+        }
+        let block_samples = &samples.as_slice()[..count];
+        match write_samples(setting, block_samples, &mut bytes, outlet) {
+            Ok(()) => {}
+            Err(_) => return ended(Some(Fault::Write), written, reader, &meter),
+        }
+        written += count as u64;
+        meter.tick(count as u64);
+    }
+}

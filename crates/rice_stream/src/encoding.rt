@@ -1,0 +1,280 @@
+//! From samples to their code.
+ghost use Rattle.std.specs.Prelude.{◌≡◌, ℕ, ◌+◌, ◌-◌, ◌*◌, ◌%◌, ◌^◌, ◌<◌, ◌≤◌, List, [], ◌++◌, length, take, drop, All, Option, Some, OnOk, OnErr, IfOk, ℤ};
+ghost use Rattle.std.specs.Io.KnownBytes.{Appends, IsAtEnd, Keeps};
+ghost use Rattle.rice_bits.specs.Device.{CountsFailure};
+ghost use Rattle.rice_bits.specs.Bits.{bits_in_bytes, padded};
+ghost use Rattle.rice_samples.specs.Parameters.{Parameters, IsSample, width};
+ghost use Rattle.rice_stream.specs.Calls.{Call, Happens, Fails};
+ghost use Rattle.rice_stream.specs.Encoding.{Encodes, EncodesWithin};
+ghost use Rattle.rice_stream.specs.Encoder.{whole_part, Refills, Takes, Counts, Holds, FailsIn, Tells, Closes, Finishes, Pushes, PushFails};
+ghost use Rattle.rice_code.specs.Code.{code};
+ghost use Rattle.rice_code.specs.Coder.{settled_code};
+
+use crate::outcome::{Fault, Outcome, Report};
+use crate::write::write_whole;
+use rice_bits::{BitSink, Intake, Meter, Outlet, ReadFault, WriteFault};
+use rice_code::Coder;
+use rice_samples::{Setting, samples_of};
+
+/// The most bytes that are encoded.
+const LIMIT: u64 = 1 << 48;
+
+/// The bytes that a buffer holds.
+const PIECE: usize = 4096;
+
+/// A coder at work.
+#[derive(Drop)]
+pub struct Encoding {
+    coder: Coder,
+    sink: BitSink<16432>,
+    meter: Meter,
+    samples: u64,
+    bits: u64,
+}
+
+impl Encoding {
+    /// An encoding that has taken no sample.
+    fn new(setting: Setting) -> Self
+        ensures { (now : Option (List ℕ)) → Holds setting now now result [] }
+    {
+        Encoding {
+            coder: Coder::new(setting),
+            sink: BitSink::new(),
+            meter: Meter::new(),
+            samples: 0,
+            bits: 0,
+        }
+    }
+
+    /// Takes samples up to the one that makes a segment whole, or all of them. Answers how many.
+    #[inline]
+    fn take(&mut self, samples: &[i64]) -> usize
+        requires ready { (s : Parameters) × (old : Option (List ℕ)) × (now : Option (List ℕ)) × (xs : List ℤ) × Holds s old now self.old xs × All (IsSample s) samples.now × (length xs + length samples.now ≤ 2 ^ 48) }
+        ensures count { result ≤ length samples.now }
+        ensures some { 0 < length samples.now → 0 < result }
+        ensures took { (s : Parameters) (old now : Option (List ℕ)) (xs : List ℤ) → Holds s old now self.old xs → Takes s self.new xs (take result samples.now) }
+    {
+        let pushed = self
+            .coder
+            .push_some(samples, &mut self.sink, &mut self.meter);
+        self.samples += pushed.samples as u64;
+        self.bits += pushed.bits;
+        pushed.samples
+    }
+
+    /// Takes samples in the same way, and writes the whole bytes of what they complete. Answers how many.
+    fn push<O: Outlet>(&mut self, samples: &[i64], outlet: &mut O) -> Result<usize, WriteFault>
+        requires ready { (s : Parameters) × (old : Option (List ℕ)) × (xs : List ℤ) × Holds s old (O.taken outlet.old) self.old xs × All (IsSample s) samples.now × (length xs + length samples.now ≤ 2 ^ 48) }
+        requires some { 0 < length samples.now }
+        requires writes { O.failed outlet.old + 1 < 2 ^ 64 }
+        ensures count { IfOk result (λ n. (0 < n) × (n ≤ length samples.now)) }
+        ensures ok { IfOk result (λ n. (s : Parameters) (old : Option (List ℕ)) (xs : List ℤ) → Holds s old (O.taken outlet.old) self.old xs →
+            Holds s old (O.taken outlet.new) self.new (xs ++ take n samples.now)) }
+        ensures calm { OnOk result (O.failed outlet.new ≡ O.failed outlet.old) }
+        ensures err { OnErr result ((s : Parameters) (old : Option (List ℕ)) (xs : List ℤ) → Holds s old (O.taken outlet.old) self.old xs →
+            FailsIn s old (O.taken outlet.new) self.new xs samples.now) }
+        ensures raised { OnErr result (O.failed outlet.new ≡ O.failed outlet.old + 1) }
+    {
+        let taken = self.take(samples);
+        if self.sink.len() < 8 {
+            return Ok(taken);
+        }
+        match write_whole(&mut self.sink, outlet) {
+            Ok(()) => Ok(taken),
+            Err(fault) => Err(fault),
+        }
+    }
+
+    /// Takes all samples, and writes the whole bytes of what each segment completes before it goes on.
+    fn push_each<O: Outlet>(&mut self, samples: &[i64], outlet: &mut O) -> Result<(), WriteFault>
+        requires ready { (s : Parameters) × (old : Option (List ℕ)) × (xs : List ℤ) × Holds s old (O.taken outlet.old) self.old xs × All (IsSample s) samples.now × (length xs + length samples.now ≤ 2 ^ 48) }
+        requires writes { O.failed outlet.old + 1 < 2 ^ 64 }
+        ensures ok { OnOk result ((s : Parameters) (old : Option (List ℕ)) (xs : List ℤ) → Holds s old (O.taken outlet.old) self.old xs →
+            Holds s old (O.taken outlet.new) self.new (xs ++ samples.now)) }
+        ensures calm { OnOk result (O.failed outlet.new ≡ O.failed outlet.old) }
+        ensures err { OnErr result ((s : Parameters) (old : Option (List ℕ)) (xs : List ℤ) → Holds s old (O.taken outlet.old) self.old xs →
+            FailsIn s old (O.taken outlet.new) self.new xs samples.now) }
+        ensures raised { OnErr result (O.failed outlet.new ≡ O.failed outlet.old + 1) }
+    {
+        let mut at = 0;
+        while at < samples.len() {
+            match self.push(&samples[at..], outlet) {
+                Ok(taken) => at += taken,
+                Err(fault) => return Err(fault),
+            }
+        }
+        Ok(())
+    }
+
+    /// Takes the samples that the bytes spell, as far as they are whole, and writes the whole bytes of what they complete.
+    /// What `samples` holds is lost.
+    fn push_all<O: Outlet>(
+        &mut self,
+        setting: &Setting,
+        bytes: &[u8],
+        samples: &mut [i64],
+        outlet: &mut O,
+    ) -> Result<(), Fault>
+        requires ready { (old : Option (List ℕ)) × (xs : List ℤ) × Holds setting.now old (O.taken outlet.old) self.old xs × (length xs + length bytes.now ≤ 2 ^ 48) }
+        requires room { length bytes.now ≤ length samples.old }
+        requires writes { O.failed outlet.old + 1 < 2 ^ 64 }
+        ensures did { (old : Option (List ℕ)) (xs : List ℤ) → Holds setting.now old (O.taken outlet.old) self.old xs →
+            Pushes setting.now old (O.taken outlet.new) self.new xs bytes.now result }
+        ensures failures { PushFails (O.failed outlet.old) (O.failed outlet.new) result }
+        ensures room { length samples.new ≡ length samples.old }
+    {
+        let width = setting.width() as usize;
+        let count = bytes.len() / width;
+        let found = samples_of(setting, &bytes[..count * width], &mut samples[..count]);
+        match self.push_each(&samples[..found], outlet) {
+            Ok(()) => {}
+            Err(_) => return Err(Fault::Write),
+        }
+        if found < count {
+            return Err(Fault::SampleOutOfRange {
+                index: self.samples,
+            });
+        }
+        Ok(())
+    }
+
+    /// Codes the samples that wait, and fills the last byte. Answers the report.
+    fn close(mut self) -> (Report, BitSink<16432>)
+        requires { (s : Parameters) × (old : Option (List ℕ)) × (now : Option (List ℕ)) × (xs : List ℤ) × Holds s old now self xs × (length xs ≤ 2 ^ 48) }
+        ensures { (s : Parameters) (old now : Option (List ℕ)) (xs : List ℤ) → Holds s old now self xs →
+            Closes s result.0 xs × (padded (code s xs) ≡ whole_part (settled_code s xs) ++ result.1) }
+    {
+        let bits = self.coder.finish(&mut self.sink, &mut self.meter);
+        let report = Report {
+            samples: self.samples,
+            bits: self.bits + bits,
+            steps: self.meter.steps(),
+        };
+        self.sink.pad();
+        (report, self.sink)
+    }
+
+    /// Codes the samples that wait, fills the last byte, and writes.
+    fn finish<O: Outlet>(self, outlet: &mut O) -> Outcome
+        requires ready { (s : Parameters) × (old : Option (List ℕ)) × (xs : List ℤ) × Holds s old (O.taken outlet.old) self xs × (length xs ≤ 2 ^ 48) }
+        requires writes { O.failed outlet.old + 1 < 2 ^ 64 }
+        ensures did { (s : Parameters) (old : Option (List ℕ)) (xs : List ℤ) → Holds s old (O.taken outlet.old) self xs →
+            Closes s result.report xs × Finishes s old (O.taken outlet.new) xs result.fault }
+        ensures failures { Fails result.fault 0 0 (O.failed outlet.old) (O.failed outlet.new) }
+    {
+        let (report, mut sink) = self.close();
+        let fault = match write_whole(&mut sink, outlet) {
+            Ok(()) => None,
+            Err(_) => Some(Fault::Write),
+        };
+        Outcome { report, fault }
+    }
+
+    /// What was done up to a fault.
+    fn stopped(&self, fault: Fault) -> Outcome
+        ensures told { (s : Parameters) (xs : List ℤ) → Counts s self.now xs → Tells s result.report xs }
+        ensures fault { result.fault ≡ Some fault }
+    {
+        let report = Report {
+            samples: self.samples,
+            bits: self.bits,
+            steps: self.meter.steps(),
+        };
+        Outcome {
+            report,
+            fault: Some(fault),
+        }
+    }
+}
+
+/// How many bytes are asked for, behind so many that were given, of which so many wait in the buffer.
+fn piece(given: u64, waiting: usize) -> usize
+    requires { waiting < 4 }
+    ensures some { 0 < result }
+    ensures most { result + waiting ≤ 4096 }
+    ensures limit { given < 2 ^ 48 → given + result ≤ 2 ^ 48 }
+    ensures last { 2 ^ 48 ≤ given → result ≡ 1 }
+{
+    if given < LIMIT {
+        (LIMIT - given).min((PIECE - waiting) as u64) as usize
+    } else {
+        1
+    }
+}
+
+/// Puts the next bytes, at most so many, behind those that wait in the buffer, and answers how many.
+fn refill<I: Intake>(
+    intake: &mut I,
+    buffer: &mut [u8],
+    waiting: usize,
+    most: usize,
+) -> Result<usize, ReadFault>
+    requires some { 0 < most }
+    requires room { waiting + most ≤ length buffer.old }
+    requires countable { I.failed intake.old + 1 < 2 ^ 64 }
+    ensures count { IfOk result (λ n. n ≤ most) }
+    ensures bytes { IfOk result (λ n. Refills (I.left intake.old) (I.left intake.new) buffer.old buffer.new waiting n) }
+    ensures end { IfOk result (λ n. n ≡ 0 → IsAtEnd (I.left intake.new)) }
+    ensures err { OnErr result (Keeps (I.left intake.old) (I.left intake.new)) }
+    ensures failures { CountsFailure (I.failed intake.old) (I.failed intake.new) result }
+{
+    let end = waiting + most;
+    match intake.fill(&mut buffer[waiting..end]) {
+        Ok(count) => Ok(count),
+        Err(fault) => Err(fault),
+    }
+}
+
+/// Moves the last of the bytes before `filled` to the front.
+fn carry(buffer: &mut [u8], filled: usize, waiting: usize)
+    requires order { waiting ≤ filled }
+    requires within { filled ≤ length buffer.old }
+    ensures front { take waiting buffer.new ≡ drop (filled - waiting) (take filled buffer.old) }
+    ensures len { length buffer.new ≡ length buffer.old }
+{
+    buffer.copy_within(filled - waiting..filled, 0);
+}
+
+/// Encodes the samples that the intake's bytes spell, and writes their code to the outlet.
+///
+/// It asks for at most 4,096 bytes at a time and for at most 2^48 in all, and then for one more.
+/// The code of each segment that a sample makes whole is written before the next sample is taken.
+pub fn encode<I: Intake, O: Outlet>(setting: &Setting, intake: &mut I, outlet: &mut O) -> Outcome
+    requires reads { I.failed intake.old + 1 < 2 ^ 64 }
+    requires writes { O.failed outlet.old + 1 < 2 ^ 64 }
+    ensures call { (c : Call) × Happens (I.left intake.old) (I.left intake.new) (O.taken outlet.old) (O.taken outlet.new) c ×
+        Encodes setting.now c result.report result.fault }
+    ensures failures { Fails result.fault (I.failed intake.old) (I.failed intake.new) (O.failed outlet.old) (O.failed outlet.new) }
+    ensures bounds { EncodesWithin setting.now result.report }
+{
+    let width = setting.width() as usize;
+    let mut encoding = Encoding::new(*setting);
+    let mut buffer = [0u8; PIECE];
+    let mut samples = [0i64; PIECE];
+    let mut waiting = 0;
+    let mut given = 0u64;
+    'fill_all: loop {
+        let count = match refill(intake, &mut buffer, waiting, piece(given, waiting)) {
+            Ok(count) => count,
+            Err(_) => return encoding.stopped(Fault::Read),
+        };
+        if count == 0 {
+            if waiting > 0 {
+                let index = encoding.samples;
+                return encoding.stopped(Fault::SampleCut { index });
+            }
+            return encoding.finish(outlet);
+        }
+        if given >= LIMIT {
+            return encoding.stopped(Fault::TooLong);
+        }
+        given += count as u64;
+        let filled = waiting + count;
+        match encoding.push_all(setting, &buffer[..filled], &mut samples, outlet) {
+            Ok(()) => {}
+            Err(fault) => return encoding.stopped(fault),
+        }
+        waiting = filled % width;
+        carry(&mut buffer, filled, waiting);
+    }
+}
