@@ -1,8 +1,8 @@
 //! The engine that a plan asks for.
 ghost use Rattle.std.specs.Prelude.{◌≡◌, ◌+◌, ◌^◌, ◌<◌, true, false};
 ghost use Rattle.rice_stream.specs.Calls.{Call, Happens, Fails};
-ghost use Rattle.rice_stream.specs.Decoding.{Decodings, DecodesWithin};
-ghost use Rattle.rice_stream.specs.Encoding.{Encodes, EncodesWithin};
+ghost use Rattle.rice_stream.specs.Decodes.{Decodings, DecodesWithin};
+ghost use Rattle.rice_stream.specs.Encodes.{Encodes, EncodesWithin};
 
 use crate::plan::Plan;
 use rice_bits::{Intake, Outlet};

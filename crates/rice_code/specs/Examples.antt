@@ -2,7 +2,7 @@
 use Rattle.std.specs.Prelude.{◌≡◌, ℕ, List, map, flat_map, ℤ, pos}
 use Rattle.std.specs.List.{range_with_len}
 use Rattle.rice_samples.specs.Parameters.{Parameters}
-use Rattle.rice_code.specs.Code.{output, code_bits}
+use Rattle.rice_code.specs.code.Code.{output, code_bits}
 
 -- the samples are coded into these bytes, of which the code fills so many bits, padding aside
 abbrev pub CodesTo : Parameters → List ℤ → List ℕ → ℕ → Type 0

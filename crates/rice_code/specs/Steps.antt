@@ -1,9 +1,9 @@
 -- What the coder looks at in order to code blocks. A look at a residual is a step.
 use Rattle.std.specs.Prelude.{ℕ, ◌+◌, ◌-◌, ◌*◌, min, if◌then◌else◌, List, sum_by, ℤ, pos}
 use Rattle.rice_samples.specs.Parameters.{Parameters, id_len, k_max}
-use Rattle.rice_code.specs.Blocks.{Contents, blocks_behind, is_zero}
-use Rattle.rice_code.specs.Choice.{best_split}
-use Rattle.rice_code.specs.Code.{code_bits}
+use Rattle.rice_code.specs.code.Blocks.{Contents, blocks_behind, is_zero}
+use Rattle.rice_code.specs.code.Choice.{best_split}
+use Rattle.rice_code.specs.code.Code.{code_bits}
 
 -- the least and the most looks at residuals that coding a block takes
 abbrev pub least_looks : Parameters → Contents → ℕ

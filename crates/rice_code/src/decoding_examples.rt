@@ -2,7 +2,7 @@
 ghost use Rattle.std.specs.Prelude.{[], ◌∷◌, ◌++◌, replicate, ℤ, pos, true, None, Some};
 ghost use Rattle.rice_bits.specs.Bits.{bits_of};
 ghost use Rattle.rice_samples.specs.Examples.{defaults, unprocessed_defaults, one_bit_defaults};
-ghost use Rattle.rice_code.specs.Decoded.{Decoded, Reached, Ended, CutOff, Past, Large};
+ghost use Rattle.rice_code.specs.code.Decoded.{Decoded, Reached, Ended, CutOff, Past, Large};
 ghost use Rattle.rice_code.specs.Examples.{rising};
 
 /// No bytes are no samples, and a clean end.

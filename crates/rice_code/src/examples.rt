@@ -4,10 +4,10 @@
 ghost use Rattle.std.specs.Prelude.{◌≡◌, [], ◌∷◌, ◌++◌, length, replicate, ℤ, pos, negsuc, true, false, None, Some};
 ghost use Rattle.rice_bits.specs.Bits.{fundamental_sequence};
 ghost use Rattle.rice_samples.specs.Examples.{defaults, signed_defaults, unprocessed_defaults, one_bit_defaults};
-ghost use Rattle.rice_code.specs.Blocks.{contents};
+ghost use Rattle.rice_code.specs.code.Blocks.{contents};
 ghost use Rattle.rice_code.specs.Bounds.{bit_bound, padded_bound, step_bound};
-ghost use Rattle.rice_code.specs.Code.{code, code_bits, early_output};
-ghost use Rattle.rice_code.specs.DataSets.{cost, text, run_number, NoCompression, SecondExtension, Split, ZeroBlocks, RemainderOfSegment};
+ghost use Rattle.rice_code.specs.code.Code.{code, code_bits, early_output};
+ghost use Rattle.rice_code.specs.code.CodedDataSets.{cost, text, run_number, NoCompression, SecondExtension, Split, ZeroBlocks, RemainderOfSegment};
 ghost use Rattle.rice_code.specs.Examples.{CodesTo, rising, repeated};
 
 /// No samples have no code.

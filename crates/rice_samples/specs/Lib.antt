@@ -1,10 +1,8 @@
+pub mod Examples
+pub mod Laws
 pub mod Parameters
 pub mod Places
-pub mod Residuals
-pub mod Pairs
-pub mod Spelling
-pub mod Examples
-pub mod Values
-pub mod Segments
 pub mod Settings
-pub mod Laws
+pub mod bytes
+pub mod predict
+pub mod blocks

@@ -1,7 +1,7 @@
 //! Numbers as patterns of bits, and patterns as bytes.
 ghost use Rattle.std.specs.Prelude.{◌≡◌, ◌⊎◌, ℕ, ◌+◌, ◌-◌, ◌*◌, ◌^◌, ◌<◌, ◌≤◌, length, ℤ, pos, neg_ℤ, ◌≤ℤ◌, ◌<ℤ◌};
-ghost use Rattle.rice_samples.specs.Residuals.{twos_complement};
-ghost use Rattle.rice_samples.specs.Values.{IsValue, ordered_bytes};
+ghost use Rattle.rice_samples.specs.predict.Residuals.{twos_complement};
+ghost use Rattle.rice_samples.specs.bytes.Values.{IsValue, ordered_bytes};
 
 use arrayvec::ArrayVec;
 

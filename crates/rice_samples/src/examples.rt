@@ -2,9 +2,9 @@
 ghost use Rattle.std.specs.Prelude.{◌≡◌, ◌≢◌, [], ◌∷◌, ℤ, pos, negsuc, true, false};
 ghost use Rattle.rice_samples.specs.Parameters.{IsSample, id_len, k_max, width};
 ghost use Rattle.rice_samples.specs.Places.{segment_blocks, blocks_left, has_reference, cut};
-ghost use Rattle.rice_samples.specs.Residuals.{rank, pattern, residual_list};
-ghost use Rattle.rice_samples.specs.Pairs.{pair_code};
-ghost use Rattle.rice_samples.specs.Spelling.{spelling};
+ghost use Rattle.rice_samples.specs.predict.Residuals.{rank, pattern, residual_list};
+ghost use Rattle.rice_samples.specs.blocks.Pairs.{pair_code};
+ghost use Rattle.rice_samples.specs.bytes.Spelling.{spelling};
 ghost use Rattle.rice_samples.specs.Examples.{defaults, signed_defaults, unprocessed_defaults, one_bit_defaults};
 
 /// Identifiers have 3, 4 or 5 bits.

@@ -2,30 +2,22 @@
 //! blocks of residuals.
 #![tactic(auto)]
 
-pub mod block;
-mod codewords;
+pub mod blocks;
+pub mod bytes;
 mod digits;
 pub mod examples;
-mod lanes;
 pub mod laws;
-pub mod preprocessor;
-pub mod reading;
-mod residuals;
-pub mod samples;
-pub mod segment;
+pub mod predict;
 pub mod setting;
-pub mod spelling;
-mod stops;
-pub mod writing;
 
-pub use block::Block;
-pub use preprocessor::{from_pattern, pattern, residual, restore};
-pub use reading::samples_of;
-pub use samples::{from_patterns, restore_all};
-pub use segment::Segment;
+pub use blocks::block::Block;
+pub use blocks::segment::Segment;
+pub use bytes::reading::samples_of;
+pub use bytes::spelling::{bytes_of, sample_of};
+pub use bytes::writing::write_spellings;
+pub use predict::preprocessor::{from_pattern, pattern, residual, restore};
+pub use predict::samples::{from_patterns, restore_all};
 pub use setting::{Setting, SettingFault};
-pub use spelling::{bytes_of, sample_of};
-pub use writing::write_spellings;
 
 #[cfg(test)]
 mod tests;

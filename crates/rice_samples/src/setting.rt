@@ -2,9 +2,9 @@
 ghost use Rattle.std.specs.Prelude.{◌≡◌, ◌⊎◌, ℕ, ◌+◌, ◌-◌, ◌*◌, ◌%◌, ◌^◌, ◌<◌, ◌≤◌, ◌↔◌, IsTrue, IsOk, IfErr, ℤ};
 ghost use Rattle.rice_samples.specs.Parameters.{Parameters, IsLegal, IsSample, id_len, k_max, width, value_count, least, level, level as level_of};
 ghost use Rattle.rice_samples.specs.Places.{segment_blocks, blocks_left, has_reference};
-ghost use Rattle.rice_samples.specs.Segments.{IsBlockSize};
+ghost use Rattle.rice_samples.specs.blocks.Sizes.{IsBlockSize};
 ghost use Rattle.rice_samples.specs.Settings.{parameters, setting_of, IsRefused};
-ghost use Rattle.rice_samples.specs.Values.{offset};
+ghost use Rattle.rice_samples.specs.bytes.Values.{offset};
 
 use std::marker::Model;
 use thiserror::Error;

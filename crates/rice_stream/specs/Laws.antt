@@ -3,8 +3,8 @@ use Rattle.std.specs.Prelude.{◌≡◌, ◌⊎◌, Option, Some, None}
 use Rattle.std.specs.Io.KnownBytes.{Consumes}
 use Rattle.rice_samples.specs.Parameters.{Parameters, IsLegal}
 use Rattle.rice_stream.specs.Calls.{Call}
-use Rattle.rice_stream.specs.Encoding.{Encodes}
-use Rattle.rice_stream.specs.Decoding.{Decodings}
+use Rattle.rice_stream.specs.Encodes.{Encodes}
+use Rattle.rice_stream.specs.Decodes.{Decodings}
 use Rattle.rice_stream.specs.declared.outcome.Report.{Report}
 use Rattle.rice_stream.specs.declared.outcome.Fault.{Fault}
 use Rattle.rice_stream.specs.declared.outcome.Fault.TheVariants.{Read, Write}

@@ -1,7 +1,7 @@
-pub mod Writes
 pub mod Calls
-pub mod Encoding
-pub mod Encoder
-pub mod Decoding
-pub mod Decodings
+pub mod Decodes
+pub mod DecodingState
+pub mod Encodes
+pub mod EncodingState
 pub mod Laws
+pub mod Writes

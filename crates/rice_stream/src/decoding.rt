@@ -1,7 +1,7 @@
 //! From the code to its samples.
 ghost use Rattle.std.specs.Prelude.{◌≡◌, ℕ, ◌+◌, ◌-◌, ◌*◌, ◌^◌, ◌<◌, ◌≤◌, length, Option};
 ghost use Rattle.rice_stream.specs.Calls.{Call, Happens, Fails};
-ghost use Rattle.rice_stream.specs.Decoding.{Decodings, DecodesWithin, wanted_of, ended_fault, refusal_fault};
+ghost use Rattle.rice_stream.specs.Decodes.{Decodings, DecodesWithin, wanted_of, ended_fault, refusal_fault};
 
 use crate::outcome::{Fault, Outcome, Report};
 use crate::write::write_samples;

@@ -1,14 +1,14 @@
 //! From samples to their code.
 ghost use Rattle.std.specs.Prelude.{◌≡◌, ℕ, ◌+◌, ◌-◌, ◌*◌, ◌%◌, ◌^◌, ◌<◌, ◌≤◌, List, [], ◌++◌, length, take, drop, All, Option, Some, OnOk, OnErr, IfOk, ℤ};
 ghost use Rattle.std.specs.Io.KnownBytes.{Appends, IsAtEnd, Keeps};
-ghost use Rattle.rice_bits.specs.Device.{CountsFailure};
+ghost use Rattle.rice_bits.specs.device.Device.{CountsFailure};
 ghost use Rattle.rice_bits.specs.Bits.{bits_in_bytes, padded};
 ghost use Rattle.rice_samples.specs.Parameters.{Parameters, IsSample, width};
 ghost use Rattle.rice_stream.specs.Calls.{Call, Happens, Fails};
-ghost use Rattle.rice_stream.specs.Encoding.{Encodes, EncodesWithin};
-ghost use Rattle.rice_stream.specs.Encoder.{whole_part, Refills, Takes, Counts, Holds, FailsIn, Tells, Closes, Finishes, Pushes, PushFails};
-ghost use Rattle.rice_code.specs.Code.{code};
-ghost use Rattle.rice_code.specs.Coder.{settled_code};
+ghost use Rattle.rice_stream.specs.Encodes.{Encodes, EncodesWithin};
+ghost use Rattle.rice_stream.specs.EncodingState.{whole_part, Refills, Takes, Counts, Holds, FailsIn, Tells, Closes, Finishes, Pushes, PushFails};
+ghost use Rattle.rice_code.specs.code.Code.{code};
+ghost use Rattle.rice_code.specs.encode.Coder.{settled_code};
 
 use crate::outcome::{Fault, Outcome, Report};
 use crate::write::write_whole;

@@ -1,9 +1,9 @@
 use Rattle.std.proofs.Common.{◌∷◌, [], replicate, false, Some, None, refl, lit<, lit≤, pos}
 use Rattle.rice_bits.specs.Bits.{word, bits_of}
 use Rattle.rice_samples.specs.Examples.{defaults}
-use Rattle.rice_code.specs.DataSets.{ZeroBlocks}
-use Rattle.rice_code.specs.Decoded.{Reached, Ended}
-use Rattle.rice_code.proofs.Witnesses.{Gives, unsigned_samples, zeros_end, decoded_by_one}
+use Rattle.rice_code.specs.code.CodedDataSets.{ZeroBlocks}
+use Rattle.rice_code.specs.code.Decoded.{Reached, Ended}
+use Rattle.rice_code.proofs.lemmas.meaning.Witnesses.{Gives, unsigned_samples, zeros_end, decoded_by_one}
 use Rattle.rice_code.proofs.decoding_examples.decodes_a_run.Goals as goal
 
 gives : Gives defaults (ZeroBlocks (Some 5) 1) (replicate 8 (pos 5))

@@ -2,10 +2,10 @@ use Rattle.std.proofs.Common.{◌∷◌, [], replicate, false, Some, None, refl,
 use Rattle.std.specs.List.{range_with_len}
 use Rattle.rice_bits.specs.Bits.{word, bits_of}
 use Rattle.rice_samples.specs.Examples.{defaults}
-use Rattle.rice_code.specs.Blocks.{Contents}
-use Rattle.rice_code.specs.DataSets.{Split}
-use Rattle.rice_code.specs.Decoded.{Ended}
-use Rattle.rice_code.proofs.Witnesses.{Gives, all_below, unsigned_samples, zeros_end, decoded_by_one}
+use Rattle.rice_code.specs.code.Blocks.{Contents}
+use Rattle.rice_code.specs.code.CodedDataSets.{Split}
+use Rattle.rice_code.specs.code.Decoded.{Ended}
+use Rattle.rice_code.proofs.lemmas.meaning.Witnesses.{Gives, all_below, unsigned_samples, zeros_end, decoded_by_one}
 use Rattle.rice_code.proofs.decoding_examples.decodes_another_split.Goals as goal
 
 abbrev block : Contents

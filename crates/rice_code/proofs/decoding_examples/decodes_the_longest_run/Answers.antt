@@ -1,9 +1,9 @@
 use Rattle.std.proofs.Common.{◌≤◌, ◌∷◌, [], ◌++◌, replicate, false, Some, None, refl, lit<, lit≤, pos, arith}
 use Rattle.rice_bits.specs.Bits.{word, bits_of}
 use Rattle.rice_samples.specs.Examples.{defaults}
-use Rattle.rice_code.specs.DataSets.{ZeroBlocks}
-use Rattle.rice_code.specs.Decoded.{Ended, Past}
-use Rattle.rice_code.proofs.Witnesses.{Gives, unsigned_samples, zeros_end, decoded_by_one, decoded_by_none}
+use Rattle.rice_code.specs.code.CodedDataSets.{ZeroBlocks}
+use Rattle.rice_code.specs.code.Decoded.{Ended, Past}
+use Rattle.rice_code.proofs.lemmas.meaning.Witnesses.{Gives, unsigned_samples, zeros_end, decoded_by_one, decoded_by_none}
 use Rattle.rice_code.proofs.decoding_examples.decodes_the_longest_run.Goals as goal
 
 gives : Gives (record defaults { interval = 64 }) (ZeroBlocks (Some 0) 63) (replicate 504 (pos 0))

@@ -1,8 +1,8 @@
 use Rattle.std.proofs.Common.{◌∷◌, [], ◌++◌, replicate, false, Some, None, refl, lit<, lit≤, pos}
 use Rattle.rice_bits.specs.Bits.{word, bits_of}
 use Rattle.rice_samples.specs.Examples.{defaults}
-use Rattle.rice_code.specs.DataSets.{DataSet, ZeroBlocks, text}
-use Rattle.rice_code.proofs.Witnesses.{unsigned_samples, zeros_end}
+use Rattle.rice_code.specs.code.CodedDataSets.{DataSet, ZeroBlocks, text}
+use Rattle.rice_code.proofs.lemmas.meaning.Witnesses.{unsigned_samples, zeros_end}
 use Rattle.rice_code.proofs.decoding_examples.decodes_two_references.Goals as goal
 
 -- eight samples 5 behind a reference

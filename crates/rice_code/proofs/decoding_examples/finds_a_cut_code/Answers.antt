@@ -4,12 +4,12 @@ use Rattle.std.specs.List.{range_with_len}
 use Rattle.rice_bits.specs.Bits.{word, bits_of}
 use Rattle.rice_samples.specs.Examples.{defaults}
 use Rattle.rice_samples.specs.Parameters.{IsLegal}
-use Rattle.rice_code.specs.Blocks.{Contents}
-use Rattle.rice_code.specs.DataSets.{DataSet, Split, text}
-use Rattle.rice_code.specs.Decoded.{CutOff}
-use Rattle.rice_code.specs.Forms.{IsForm}
-use Rattle.rice_code.proofs.Witnesses.{decoded_by_none}
-use Rattle.rice_code.proofs.Reading.{forms_read_in_one_way}
+use Rattle.rice_code.specs.code.Blocks.{Contents}
+use Rattle.rice_code.specs.code.CodedDataSets.{DataSet, Split, text}
+use Rattle.rice_code.specs.code.Decoded.{CutOff}
+use Rattle.rice_code.specs.code.Forms.{IsForm}
+use Rattle.rice_code.proofs.lemmas.meaning.Witnesses.{decoded_by_none}
+use Rattle.rice_code.proofs.lemmas.code.ReadInOneWay.{forms_read_in_one_way}
 use Rattle.rice_code.proofs.decoding_examples.finds_a_cut_code.Goals as goal
 
 abbrev block : Contents

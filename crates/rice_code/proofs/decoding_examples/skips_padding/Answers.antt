@@ -1,9 +1,9 @@
 use Rattle.std.proofs.Common.{◌∷◌, [], ◌++◌, replicate, true, false, Some, None, refl, lit<, lit≤, pos}
 use Rattle.rice_bits.specs.Bits.{word, bits_of}
 use Rattle.rice_samples.specs.Examples.{defaults}
-use Rattle.rice_code.specs.DataSets.{DataSet, ZeroBlocks, text}
-use Rattle.rice_code.specs.Decoded.{Reached}
-use Rattle.rice_code.proofs.Witnesses.{Gives, unsigned_samples, zeros_end, decoded_by_one}
+use Rattle.rice_code.specs.code.CodedDataSets.{DataSet, ZeroBlocks, text}
+use Rattle.rice_code.specs.code.Decoded.{Reached}
+use Rattle.rice_code.proofs.lemmas.meaning.Witnesses.{Gives, unsigned_samples, zeros_end, decoded_by_one}
 use Rattle.rice_code.proofs.decoding_examples.skips_padding.Goals as goal
 
 -- eight samples 5 behind a reference

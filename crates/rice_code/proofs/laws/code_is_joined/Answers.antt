@@ -1,8 +1,8 @@
 use Rattle.std.proofs.Common.{◌+◌, length}
 use Rattle.rice_samples.specs.Places.{block_count}
-use Rattle.rice_code.specs.Code.{sets_of}
+use Rattle.rice_code.specs.code.Code.{sets_of}
 use Rattle.rice_code.proofs.laws.code_is_joined.Goals as goal
-use Rattle.rice_code.proofs.Laying.{laid_plain}
+use Rattle.rice_code.proofs.lemmas.code.Layouts.{laid_plain}
 
 pub returns : goal.returns
 returns c = λ s e xs. laid_plain s (0 + block_count s (length xs)) 0 0 (sets_of s xs) e

@@ -1,9 +1,9 @@
 use Rattle.std.proofs.Common.{◌+◌, length}
 use Rattle.rice_samples.specs.Places.{block_count}
-use Rattle.rice_code.specs.Code.{sets_behind}
+use Rattle.rice_code.specs.code.Code.{sets_behind}
 use Rattle.rice_code.proofs.laws.code_stands_in_places.Goals as goal
-use Rattle.rice_code.proofs.Laying.{laid_at}
-use Rattle.rice_code.proofs.Placing.{code_stands_in_intervals}
+use Rattle.rice_code.proofs.lemmas.code.Layouts.{laid_at}
+use Rattle.rice_code.proofs.lemmas.code.BlockPlaces.{code_stands_in_intervals}
 
 pub returns-clause-intervals : goal.returns-clause-intervals
 returns-clause-intervals c = code_stands_in_intervals

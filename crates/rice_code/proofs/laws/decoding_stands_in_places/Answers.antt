@@ -1,5 +1,5 @@
 use Rattle.rice_code.proofs.laws.decoding_stands_in_places.Goals as goal
-use Rattle.rice_code.proofs.DecodingPlaces as places
+use Rattle.rice_code.proofs.lemmas.meaning.DecodingPlaces as places
 
 pub returns : goal.returns
 returns c = places.decoding_stands

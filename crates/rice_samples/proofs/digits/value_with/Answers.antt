@@ -2,7 +2,7 @@ use Rattle.std.proofs.Common.{◌≡◌, ◌^◌, arith, pos, ◌-ℤ◌, w64, t
 use Rattle.std.proofs.lemmas.Int.{ints}
 use Rattle.std.proofs.lemmas.Nat.{one_shl}
 use Rattle.std.proofs.Math.Pow.{pow_mono}
-use Rattle.rice_samples.proofs.SpellingLemmas.{high_value}
+use Rattle.rice_samples.proofs.lemmas.bytes.SpellingLemmas.{high_value}
 use Rattle.rice_samples.proofs.digits.value_with.Goals as goal
 
 pub returns-then-count-digits-clause-value : goal.returns-then-count-digits-clause-value

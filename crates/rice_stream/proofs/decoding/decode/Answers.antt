@@ -2,14 +2,14 @@ use Rattle.std.proofs.Common.{arith, ◌≡◌, ◌≢◌, ◌+◌, ◌*◌, Lis
 use Rattle.std.specs.Io.KnownBytes.{Appends}
 use Rattle.std.specs.Prelude.{All}
 use Rattle.rice_samples.specs.Parameters.{Parameters, IsSample}
-use Rattle.rice_samples.specs.Spelling.{spellings}
-use Rattle.rice_code.specs.Decoder.{marked}
+use Rattle.rice_samples.specs.bytes.Spelling.{spellings}
+use Rattle.rice_code.specs.decode.Decoder.{marked}
 use Rattle.rice_stream.specs.Calls.{Fails}
-use Rattle.rice_stream.specs.Decoding.{wanted_of, refusal_fault}
-use Rattle.rice_stream.specs.Decodings.{RunsOn}
+use Rattle.rice_stream.specs.Decodes.{wanted_of, refusal_fault}
+use Rattle.rice_stream.specs.DecodingState.{RunsOn}
 use Rattle.rice_stream.specs.Writes.{TakesPart}
-use Rattle.rice_stream.proofs.DecodingLemmas.{took, gains, moves_of, legal_of_block, stopped, done, stops_here, ends_at, few_legal}
-use Rattle.rice_stream.proofs.ReachLemmas.{Ends, Grows, runs_first, refusal_ends, refusal_fails, ended_ends, done_fails, write_ends, reached_ends, runs_more}
+use Rattle.rice_stream.proofs.lemmas.DecodingLemmas.{took, gains, moves_of, legal_of_block, stopped, done, stops_here, ends_at, few_legal}
+use Rattle.rice_stream.proofs.lemmas.DecodingEnds.{Ends, Grows, runs_first, refusal_ends, refusal_fails, ended_ends, done_fails, write_ends, reached_ends, runs_more}
 use Rattle.rice_stream.proofs.decoding.decode.Goals as goal
 
 pub decode_all-init : goal.decode_all-init

@@ -1,5 +1,5 @@
 use Rattle.std.proofs.Common.{◌≡◌, ◌+◌, ◌-◌, ◌*◌}
-use Rattle.rice_stream.specs.Decodings.{RunsOn}
+use Rattle.rice_stream.specs.DecodingState.{RunsOn}
 use Rattle.rice_stream.proofs.decoding.decode.Given as goal
 
 abbrev pub invariant-decode_all : goal.invariant-decode_all

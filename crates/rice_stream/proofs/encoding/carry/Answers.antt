@@ -1,4 +1,4 @@
-use Rattle.rice_stream.proofs.BufferLemmas.{carried}
+use Rattle.rice_stream.proofs.lemmas.BufferLemmas.{carried}
 use Rattle.rice_stream.proofs.encoding.carry.Goals as goal
 
 pub returns-clause-front : goal.returns-clause-front

@@ -3,8 +3,8 @@ use Rattle.std.proofs.lemmas.List.{length-take, length-take-le}
 use Rattle.std.specs.Io.KnownBytes.{Consumes}
 use Rattle.std.proofs.KnownBytes.{Consumes-nil, Consumes-trans}
 use Rattle.rice_samples.specs.Parameters.{width}
-use Rattle.rice_stream.proofs.EncoderLemmas.{settled_by}
-use Rattle.rice_stream.proofs.EndLemmas.{within_early, within_all, read_ends, cut_ends, long_ends, finish_ends, push_ends, push_fails, push_within, in_hand, runs_on, runs_count}
+use Rattle.rice_stream.proofs.lemmas.EncodingLemmas.{settled_by}
+use Rattle.rice_stream.proofs.lemmas.EncodingEnds.{within_early, within_all, read_ends, cut_ends, long_ends, finish_ends, push_ends, push_fails, push_within, in_hand, runs_on, runs_count}
 use Rattle.rice_stream.proofs.encoding.encode.Goals as goal
 
 -- no bytes

@@ -1,5 +1,5 @@
 use Rattle.std.proofs.Common.{◌≡◌, ◌-◌, ◌+◌, ◌^◌, length}
-use Rattle.rice_stream.specs.Encoder.{Runs}
+use Rattle.rice_stream.specs.EncodingState.{Runs}
 use Rattle.rice_stream.proofs.encoding.encode.Given as goal
 
 abbrev pub invariant-fill_all : goal.invariant-fill_all

@@ -1,6 +1,6 @@
 use Rattle.std.proofs.Common.{arith, ◌+◌, ◌-◌, take}
 use Rattle.std.proofs.lemmas.List.{length-take-le}
-use Rattle.rice_stream.proofs.BufferLemmas.{front_is}
+use Rattle.rice_stream.proofs.lemmas.BufferLemmas.{front_is}
 use Rattle.rice_stream.proofs.encoding.refill.Goals as goal
 
 pub returns-in-Ok-clause-bytes : goal.returns-in-Ok-clause-bytes

@@ -1,4 +1,4 @@
-use Rattle.rice_stream.proofs.ReturnLemmas as returning
+use Rattle.rice_stream.proofs.lemmas.ReturnedBytes as returning
 use Rattle.rice_stream.proofs.laws.returns_bytes.Goals as goal
 
 pub returns : goal.returns

@@ -1,9 +1,9 @@
 use Rattle.std.proofs.Common.{arith, ◌≡◌, ◌+◌, refl, subst}
 use Rattle.rice_samples.specs.Parameters.{Parameters}
-use Rattle.rice_code.specs.Code.{code_bits}
-use Rattle.rice_code.specs.Coder.{settled}
+use Rattle.rice_code.specs.code.Code.{code_bits}
+use Rattle.rice_code.specs.encode.Coder.{settled}
 use Rattle.rice_stream.specs.declared.outcome.Report.{Report}
-use Rattle.rice_stream.proofs.EncoderLemmas.{Total, all_small, counts_small, sink_short, sink_place, closed}
+use Rattle.rice_stream.proofs.lemmas.EncodingLemmas.{Total, all_small, counts_small, sink_short, sink_place, closed}
 use Rattle.rice_stream.proofs.encoding.Encoding.close.Goals as goal
 
 pub finish-bits-requires-clause-room : goal.finish-bits-requires-clause-room

@@ -2,10 +2,10 @@ use Rattle.std.proofs.Common.{subst, sym, List, ℕ}
 use Rattle.std.specs.Io.KnownBytes.{Appends}
 use Rattle.std.proofs.KnownBytes.{Appends-trans}
 use Rattle.rice_bits.specs.Bits.{padded, whole_bytes}
-use Rattle.rice_code.specs.Code.{code, output, early_output}
-use Rattle.rice_code.specs.Coder.{settled_code}
-use Rattle.rice_stream.proofs.WholeLemmas.{more_bytes}
-use Rattle.rice_stream.proofs.EncoderLemmas.{part_between}
+use Rattle.rice_code.specs.code.Code.{code, output, early_output}
+use Rattle.rice_code.specs.encode.Coder.{settled_code}
+use Rattle.rice_stream.proofs.lemmas.WholeBytes.{more_bytes}
+use Rattle.rice_stream.proofs.lemmas.EncodingLemmas.{part_between}
 use Rattle.rice_stream.proofs.encoding.Encoding.finish.Goals as goal
 
 pub returns-in-Ok-clause-did : goal.returns-in-Ok-clause-did

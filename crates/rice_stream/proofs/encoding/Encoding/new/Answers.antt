@@ -3,10 +3,10 @@ use Rattle.std.specs.Io.KnownBytes.{Appends}
 use Rattle.std.proofs.KnownBytes.{Appends-nil}
 use Rattle.rice_bits.specs.Bits.{bits_in_bytes, whole_bytes}
 use Rattle.rice_samples.specs.Parameters.{IsLegal}
-use Rattle.rice_code.specs.Code.{code, code_bits}
-use Rattle.rice_code.specs.Coder.{settled}
+use Rattle.rice_code.specs.code.Code.{code, code_bits}
+use Rattle.rice_code.specs.encode.Coder.{settled}
 use Rattle.rice_code.specs.Steps.{least_steps, most_steps}
-use Rattle.rice_stream.proofs.EncoderLemmas.{settled_nothing, code_nothing, sets_nothing}
+use Rattle.rice_stream.proofs.lemmas.EncodingLemmas.{settled_nothing, code_nothing, sets_nothing}
 use Rattle.rice_stream.proofs.encoding.Encoding.new.Goals as goal
 
 pub returns : goal.returns

@@ -1,5 +1,5 @@
 use Rattle.std.proofs.Common.{arith, ◌<◌, length, take}
-use Rattle.rice_stream.proofs.EncoderLemmas.{none_whole, all_written, fails_in}
+use Rattle.rice_stream.proofs.lemmas.EncodingLemmas.{none_whole, all_written, fails_in}
 use Rattle.rice_stream.proofs.encoding.Encoding.push.Goals as goal
 
 pub returns-then-len-lt8-clause-ok : goal.returns-then-len-lt8-clause-ok

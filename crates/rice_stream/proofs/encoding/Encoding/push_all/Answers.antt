@@ -3,9 +3,9 @@ use Rattle.std.specs.Prelude.{All}
 use Rattle.std.proofs.Math.Nat.{div-add-mod, mod-lt, mul-le-mul_left}
 use Rattle.std.proofs.lemmas.List.{length-take, take-append-le}
 use Rattle.rice_samples.specs.Parameters.{IsSample, width}
-use Rattle.rice_samples.specs.Spelling.{spellings}
-use Rattle.rice_stream.specs.Encoder.{Holds, FailsIn}
-use Rattle.rice_stream.proofs.EncoderLemmas.{first_of, behind_them, fails_among}
+use Rattle.rice_samples.specs.bytes.Spelling.{spellings}
+use Rattle.rice_stream.specs.EncodingState.{Holds, FailsIn}
+use Rattle.rice_stream.proofs.lemmas.EncodingLemmas.{first_of, behind_them, fails_among}
 use Rattle.rice_stream.proofs.encoding.Encoding.push_all.Goals as goal
 
 -- the bytes of whole samples, and their number

@@ -4,8 +4,8 @@ use Rattle.std.proofs.Math.Seq.{take-add, take-length}
 use Rattle.std.proofs.lemmas.List.{length-take-le}
 use Rattle.std.proofs.lemmas.List.Elements.{All-drop}
 use Rattle.rice_samples.specs.Parameters.{IsSample}
-use Rattle.rice_stream.specs.Encoder.{Holds, FailsIn}
-use Rattle.rice_stream.proofs.EncoderLemmas.{fails_later}
+use Rattle.rice_stream.specs.EncodingState.{Holds, FailsIn}
+use Rattle.rice_stream.proofs.lemmas.EncodingLemmas.{fails_later}
 use Rattle.rice_stream.proofs.encoding.Encoding.push_each.Goals as goal
 
 -- the samples from a place on

@@ -1,6 +1,6 @@
 use Rattle.std.proofs.Common.{◌≡◌, ◌≤◌, ◌-◌, ◌++◌, ℕ, List, length, take, Option, ℤ}
 use Rattle.rice_samples.specs.Parameters.{Parameters}
-use Rattle.rice_stream.specs.Encoder.{Holds}
+use Rattle.rice_stream.specs.EncodingState.{Holds}
 use Rattle.rice_stream.proofs.encoding.Encoding.push_each.Given as goal
 
 abbrev pub invariant-loop-at : goal.invariant-loop-at

@@ -2,9 +2,9 @@ use Rattle.std.proofs.Common.{arith, ◌≡◌, ◌<◌, ◌∙◌, ◌+◌, ◌
 use Rattle.std.specs.Prelude.{All}
 use Rattle.std.proofs.lemmas.List.{length-take-le, take-take}
 use Rattle.rice_samples.specs.Parameters.{Parameters, IsSample}
-use Rattle.rice_code.specs.Code.{code_bits}
-use Rattle.rice_code.specs.Coder.{settled}
-use Rattle.rice_stream.proofs.EncoderLemmas.{Tally, counts_small, early_small, sink_short, sink_place, taken_on}
+use Rattle.rice_code.specs.code.Code.{code_bits}
+use Rattle.rice_code.specs.encode.Coder.{settled}
+use Rattle.rice_stream.proofs.lemmas.EncodingLemmas.{Tally, counts_small, early_small, sink_short, sink_place, taken_on}
 use Rattle.rice_stream.proofs.encoding.Encoding.take.Goals as goal
 
 pub push_some-pushed-requires-clause-samples : goal.push_some-pushed-requires-clause-samples

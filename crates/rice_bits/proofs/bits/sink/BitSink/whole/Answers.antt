@@ -1,0 +1,13 @@
+use Rattle.std.proofs.Common.{◌∙◌, sym, ap, arith}
+use Rattle.rice_bits.specs.Bits.{whole_bytes}
+use Rattle.rice_bits.proofs.lemmas.bits.Bytes.{each_byte}
+use Rattle.rice_bits.proofs.lemmas.bits.SinkBytes.{gathered-whole}
+use Rattle.rice_bits.proofs.bits.sink.BitSink.whole.Goals as goal
+
+pub front-requires : goal.front-requires
+front-requires g c = omega (arith, c.self.invariant.room, c.self.told)
+
+pub returns : goal.returns
+returns g c =
+    c.front.ensures.bytes
+    ∙ (sym (gathered-whole _ _ (omega (arith, c.self.invariant.room, c.self.told)) (each_byte _ (rw c.front.ensures.bytes at c.front.ensures.fit))) ∙ ap whole_bytes c.self.view_is)

@@ -1,0 +1,3 @@
+-- The lemmas of the proofs, by what they speak of.
+pub mod bits
+pub mod read

@@ -1,0 +1,8 @@
+-- Bits, words and bytes.
+pub mod Bytes
+pub mod EightBytes
+pub mod FirstOnes
+pub mod OneWay
+pub mod Pieces
+pub mod Words
+pub mod SinkBytes

@@ -1,0 +1,42 @@
+-- Eight bytes, and the digits of the number that they spell.
+use Rattle.std.proofs.Common.{◌≡◌, ℕ, zero, suc, ◌+◌, ◌*◌, ◌/◌, ◌%◌, ◌^◌, ◌≤◌, List, ◌++◌, length, drop, take, refl, sym, ◌∙◌, ap, arith}
+use Rattle.std.specs.Int.{to_be_bytes, byte_at, bytes_high_first, w64}
+use Rattle.std.proofs.lemmas.Nat.{shr_split, pow-add}
+use Rattle.std.proofs.lemmas.List.{take-append-drop, length-take-le}
+use Rattle.std.proofs.Math.Nat.{pow-suc}
+use Rattle.rice_bits.specs.Bits.{word, bits_of}
+use Rattle.rice_bits.proofs.lemmas.bits.Words.{word-nil, word-low, word-split}
+use Rattle.rice_bits.proofs.lemmas.bits.Bytes.{bits_of-append, length-bits_of}
+
+-- the lowest digits are those of the low part
+pub word-mod : (k b n : ℕ) → k ≤ b → word k (n % 2 ^ b) ≡ word k n
+word-mod k b n h = sym (word-low k b (n / 2 ^ b) (n % 2 ^ b) h) ∙ ap (word k) (shr_split n b)
+
+pow_bytes : (k : ℕ) → 256 ^ k ≡ 2 ^ (8 * k)
+pow_bytes zero = refl
+pow_bytes (suc k) =
+    let e : 8 * suc k ≡ 8 + 8 * k = omega arith in
+    rw (e, pow-add 2 8 (8 * k), ← pow_bytes k) (omega (arith, pow-suc 256 k))
+
+byte_digits : (k n : ℕ) → word 8 (byte_at k n) ≡ word 8 (n / 2 ^ (8 * k))
+byte_digits zero n = let e : n / 1 ≡ n = omega arith in word-mod 8 8 n (omega arith) ∙ ap (word 8) (sym e)
+byte_digits (suc k) n = word-mod 8 8 (n / 256 ^ suc k) (omega arith) ∙ ap (λ p. word 8 (n / p)) (pow_bytes (suc k))
+
+bits_of-high_first : (k n : ℕ) → bits_of (bytes_high_first k n) ≡ word (8 * k) n
+unfolding bits_of
+bits_of-high_first zero n = sym (word-nil n)
+bits_of-high_first (suc k) n =
+    let e : 8 + 8 * k ≡ 8 * suc k = omega arith in
+    let front : word 8 (byte_at k n) ++ bits_of (bytes_high_first k n) ≡ word 8 (n / 2 ^ (8 * k)) ++ word (8 * k) (n % 2 ^ (8 * k)) =
+    rw (byte_digits k n, bits_of-high_first k n, word-mod (8 * k) (8 * k) n (omega arith)) refl in
+    front ∙ (sym (word-split 8 (8 * k) n) ∙ ap (λ w. word w n) e)
+
+pub bits_of-eight : (n : ℕ) → bits_of (to_be_bytes w64 n) ≡ word 64 n
+bits_of-eight n = bits_of-high_first 8 n
+
+-- the bits of the first bytes, and those of the others
+pub split-bytes : (q : ℕ) (bytes : List ℕ) → bits_of (take q bytes) ++ bits_of (drop q bytes) ≡ bits_of bytes
+split-bytes q bytes = sym (bits_of-append (take q bytes) (drop q bytes)) ∙ ap bits_of (take-append-drop q bytes)
+
+pub length-front : (q : ℕ) (bytes : List ℕ) → q ≤ length bytes → length (bits_of (take q bytes)) ≡ 8 * q
+length-front q bytes h = length-bits_of (take q bytes) ∙ ap (λ n. 8 * n) (length-take-le q bytes h)

@@ -1,0 +1,6 @@
+-- What a reader takes, and where it stops.
+pub mod Blank
+pub mod Drawing
+pub mod Parting
+pub mod ReaderLemmas
+pub mod WindowLemmas

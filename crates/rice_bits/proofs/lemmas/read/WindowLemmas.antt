@@ -1,0 +1,326 @@
+-- The bits that were given and not yet taken.
+use Rattle.std.proofs.Common.{◌≡◌, ℕ, zero, suc, inl, inr, ◌+◌, ◌-◌, ◌*◌, ◌/◌, ◌%◌, ◌^◌, ◌<◌, ◌≤◌, ◌≢◌, Bool, true, false, List, [], ◌∷◌, ◌++◌, length, take, drop, set, replicate, length-append, refl, sym, ◌∙◌, ap, arith, take-take, append_assoc}
+use Rattle.std.specs.Prelude.{flat_map, slice_range, ◌==◌, ◌&&◌}
+use Rattle.std.proofs.lemmas.Grind.{flat_map-append}
+use Rattle.rice_bits.specs.read.Reader.{is_blank}
+use Rattle.rice_bits.proofs.lemmas.read.Blank.{blank-append, blank-word}
+use Rattle.std.specs.Int.{to_be_bytes, w64}
+use Rattle.std.proofs.Math.Seq.{drop-append_seam, take-add, take-append_seam}
+use Rattle.std.proofs.lemmas.Bool.{cases_lt}
+use Rattle.std.proofs.lemmas.Bool.Decides.{nat_tests}
+use Rattle.std.proofs.lemmas.List.{append-nil, drop-append-le, drop-drop, drop-take, length-drop, length-replicate, length-take-le, replicate-append-replicate, take-append-drop, take-append-le, take-replicate, take_more_set}
+use Rattle.rice_bits.specs.Bits.{fundamental_sequence, word, bits_of}
+use Rattle.rice_bits.specs.read.Window.{IsWindow, Passes, bits_near, window_bits, window_passed}
+use Rattle.rice_bits.specs.declared.read.window.Window.{Window}
+use Rattle.rice_bits.proofs.lemmas.bits.Bytes.{bits_of-append, bits_of-zeros, length-bits_of}
+use Rattle.rice_bits.proofs.lemmas.bits.EightBytes.{bits_of-eight}
+use Rattle.rice_bits.proofs.lemmas.bits.FirstOnes.{front_below, take-front, word-moved, word-parts}
+use Rattle.rice_bits.proofs.lemmas.bits.Words.{length-fundamental_sequence, length-word, word-split}
+
+-- a part of a list is its two parts
+between-join : {A : Type 0} (xs : List A) (a s e : ℕ) → a ≤ s → s ≤ e → slice_range xs a s ++ slice_range xs s e ≡ slice_range xs a e
+between-join xs a s e p q =
+    let n : (s - a) + (e - s) ≡ e - a = omega arith in
+    let m : a + (s - a) ≡ s = omega arith in
+    let d : drop (s - a) (drop a xs) ≡ drop s xs = drop-drop (s - a) a xs ∙ ap (λ k. drop k xs) m in
+    let j : take ((s - a) + (e - s)) (drop a xs) ≡ take (s - a) (drop a xs) ++ take (e - s) (drop (s - a) (drop a xs)) = take-add (s - a) (e - s) (drop a xs) in
+    ap (λ k. take (s - a) (drop a xs) ++ take (e - s) k) (sym d) ∙ sym j ∙ ap (λ k. take k (drop a xs)) n
+
+drop-seam : {A : Type 0} (xs ys : List A) (n : ℕ) → length xs ≡ n → drop n (xs ++ ys) ≡ ys
+drop-seam xs ys n e = ap (λ k. drop k (xs ++ ys)) (sym e) ∙ drop-append_seam xs ys
+
+take-bits_of : (n : ℕ) (xs : List ℕ) → n ≤ length xs → take (8 * n) (bits_of xs) ≡ bits_of (take n xs)
+take-bits_of n xs h =
+    let front = bits_of (take n xs) in
+    let len : length front ≡ 8 * n = length-bits_of (take n xs) ∙ ap (λ k. 8 * k) (length-take-le n xs h) in
+    let both : bits_of xs ≡ front ++ bits_of (drop n xs) = ap bits_of (sym (take-append-drop n xs)) ∙ bits_of-append (take n xs) (drop n xs) in
+    ap (take (8 * n)) both ∙ (ap (λ k. take k (front ++ bits_of (drop n xs))) (sym len) ∙ take-append_seam front (bits_of (drop n xs)))
+
+drop-bits_of : (n : ℕ) (xs : List ℕ) → n ≤ length xs → drop (8 * n) (bits_of xs) ≡ bits_of (drop n xs)
+drop-bits_of n xs h =
+    let front = bits_of (take n xs) in
+    let len : length front ≡ 8 * n = length-bits_of (take n xs) ∙ ap (λ k. 8 * k) (length-take-le n xs h) in
+    let both : bits_of xs ≡ front ++ bits_of (drop n xs) = ap bits_of (sym (take-append-drop n xs)) ∙ bits_of-append (take n xs) (drop n xs) in
+    ap (drop (8 * n)) both ∙ drop-seam front (bits_of (drop n xs)) (8 * n) len
+
+pub window_empty : (w : Window) → w.at ≡ w.end → window_bits w ≡ []
+unfolding window_bits
+window_empty w e =
+    let n : w.end - w.at ≡ 0 = omega arith in
+    rw n refl
+
+pub window_filled : (w : Window) (n : ℕ) → w.at ≡ 0 → w.end ≡ 8 * n → n ≤ length w.buffer → window_bits w ≡ bits_of (take n w.buffer)
+unfolding window_bits
+window_filled w n a e h =
+    let m : 8 * n - 0 ≡ 8 * n = omega arith in
+    rw (a, e, m) (take-bits_of n w.buffer h)
+
+-- bytes with zeros written behind them
+pub zeros-behind : (old new : List ℕ) (n k : ℕ) → n ≤ length old → take (n + k) new ≡ take n old ++ replicate k 0
+    → (take n new ≡ take n old) × (take k (drop n new) ≡ replicate k 0)
+zeros-behind old new n k h e =
+    let len : length (take n old) ≡ n = length-take-le n old h in (
+      sym (take-take n (n + k) new (omega arith)) ∙ (ap (take n) e ∙ (ap (λ m. take m (take n old ++ replicate k 0)) (sym len) ∙ take-append_seam (take n old) (replicate k 0))),
+      sym (drop-take n k new) ∙ (ap (drop n) e ∙ drop-seam (take n old) (replicate k 0) n len),
+    )
+
+pub length-window : (w : Window) → IsWindow w → length (window_bits w) ≡ w.end - w.at
+unfolding window_bits
+length-window w h =
+    length-take-le (w.end - w.at) (drop w.at (bits_of w.buffer)) (omega (arith, length-drop w.at (bits_of w.buffer), length-bits_of w.buffer, h.size, h.fits))
+
+-- a window of which bits were taken
+pub window-moved : (w : Window) (at : ℕ) → IsWindow w → w.at ≤ at → at ≤ w.end → IsWindow (record w { at = at })
+window-moved w at h from to = record {
+  size = h.size;
+  marked = omega (arith, h.marked);
+  ordered = to;
+  fits = h.fits;
+  whole = h.whole;
+  held = omega (arith, h.held);
+  limit = h.limit;
+  behind = h.behind;
+}
+
+pub passed_none : (w : Window) → w.marked ≡ w.at → window_passed w ≡ []
+unfolding window_passed
+passed_none w e =
+    let n : w.at - w.marked ≡ 0 = omega arith in
+    rw n refl
+
+pub marked-bits : (w : Window) (marked : ℕ) → window_bits (record w { marked = marked }) ≡ window_bits w
+unfolding window_bits
+marked-bits w marked = refl
+
+-- bits are taken from the front of a window
+pub window-passes : (w : Window) (at n : ℕ) (xs : List Bool) → IsWindow w → at ≡ w.at + n → at ≤ w.end
+    → xs ≡ take n (drop w.at (bits_of w.buffer)) → Passes w (record w { at = at }) xs
+unfolding window_bits window_passed
+window-passes w at n xs h place there e =
+    let bits = bits_of w.buffer in
+    let size : at - w.at ≡ n = omega arith in
+    let part : xs ≡ slice_range bits w.at at = e ∙ ap (λ k. take k (drop w.at bits)) (sym size) in
+    let len : length xs ≡ n =
+    ap length e ∙ length-take-le n (drop w.at bits) (omega (arith, length-drop w.at bits, length-bits_of w.buffer, h.size, h.fits)) in
+    record {
+      split = sym (between-join bits w.at at w.end (omega arith) there) ∙ ap (λ k. k ++ slice_range bits at w.end) (sym part);
+      passed = sym (between-join bits w.marked w.at at h.marked (omega arith)) ∙ ap (λ k. slice_range bits w.marked w.at ++ k) (sym part);
+      taken = omega (arith, len, h.held, h.ordered);
+    }
+
+-- the bits of eight bytes
+bits-loaded : (bytes : List ℕ) (q v : ℕ) → q + 8 ≤ length bytes → to_be_bytes w64 v ≡ take 8 (drop q bytes) → word 64 v ≡ take 64 (drop (8 * q) (bits_of bytes))
+bits-loaded bytes q v h eight =
+    sym (bits_of-eight v) ∙ (ap bits_of eight ∙ (sym (take-bits_of 8 (drop q bytes) (omega (arith, h, length-drop q bytes))) ∙ ap (take 64) (sym (drop-bits_of q bytes (omega arith)))))
+
+-- the bits from a place on, as a number inside eight bytes
+pub number-inside : (bytes : List ℕ) (at v width : ℕ) → width ≤ 32 → at / 8 + 8 ≤ length bytes → to_be_bytes w64 v ≡ take 8 (drop (at / 8) bytes)
+    → word width (v / 2 ^ (64 - (at % 8 + width)) % 2 ^ width) ≡ take width (drop at (bits_of bytes))
+number-inside bytes at v width few h eight =
+    let q = at / 8 in
+    let s = at % 8 in
+    let x = v / 2 ^ (64 - (s + width)) in
+    let behind = drop (8 * q) (bits_of bytes) in
+    let place : 8 * q + s ≡ at = omega arith in
+    let front : word (s + width) x ≡ take (s + width) behind =
+    sym (take-front 64 (s + width) v (omega (arith, few))) ∙ (ap (take (s + width)) (bits-loaded bytes q v h eight) ∙ take-take (s + width) 64 behind (omega (arith, few))) in
+    sym (drop-seam (word s (x / 2 ^ width)) (word width (x % 2 ^ width)) s (length-word s (x / 2 ^ width)))
+    ∙ (ap (drop s) (sym (word-split s width x) ∙ front)
+    ∙ (drop-take s width behind ∙ ap (take width) (drop-drop s (8 * q) (bits_of bytes) ∙ ap (λ k. drop k (bits_of bytes)) place)))
+
+-- the bits from a place on, in eight bytes that are moved up
+pub bits-ahead : (bytes : List ℕ) (at v : ℕ) → at / 8 + 8 ≤ length bytes → to_be_bytes w64 v ≡ take 8 (drop (at / 8) bytes)
+    → word 64 (v * 2 ^ (at % 8) % 2 ^ 64) ≡ take (64 - at % 8) (drop at (bits_of bytes)) ++ replicate (at % 8) false
+bits-ahead bytes at v h eight =
+    let q = at / 8 in
+    let s = at % 8 in
+    let front = word s (v / 2 ^ (64 - s)) in
+    let behind = drop (8 * q) (bits_of bytes) in
+    let all = bits-loaded bytes q v h eight in
+    let size : s + (64 - s) ≡ 64 = omega arith in
+    let place : 8 * q + s ≡ at = omega arith in
+    let rest : word (64 - s) v ≡ take (64 - s) (drop at (bits_of bytes)) =
+    sym (drop-seam front (word (64 - s) v) s (length-word s (v / 2 ^ (64 - s)))) ∙ (ap (drop s) (sym (word-parts 64 s v (omega arith)) ∙ all)
+    ∙ (ap (λ k. drop s (take k behind)) (sym size) ∙ (drop-take s (64 - s) behind ∙ ap (take (64 - s)) (drop-drop s (8 * q) (bits_of bytes) ∙ ap (λ k. drop k (bits_of bytes)) place)))) in
+    word-moved 64 s v (omega arith) ∙ ap (λ z. z ++ replicate s false) rest
+
+-- the first of the bits that stand at the front of a word, with zeros behind them
+pub first-ahead : (bits : List Bool) (n m k r : ℕ) → n ≤ m → m + k ≡ 64 → word 64 r ≡ take m bits ++ replicate k false → word n (r / 2 ^ (64 - n)) ≡ take n bits
+first-ahead bits n m k r h all e =
+    let len : length (take m bits) ≡ m = omega (arith, all, ap length e, length-word 64 r, length-append (take m bits) (replicate k false), length-replicate k false) in
+    sym (take-front 64 n r (omega (arith, h, all)))
+    ∙ (ap (take n) e ∙ (take-append-le n (take m bits) (replicate k false) (omega (arith, h, len)) ∙ take-take n m bits h))
+
+-- all bits that wait, and zeros behind them
+pub near-ahead : (w : Window) (r : ℕ) → IsWindow w → word 64 r ≡ take (64 - w.at % 8) (drop w.at (bits_of w.buffer)) ++ replicate (w.at % 8) false
+    → word 64 r ≡ take (bits_near w) (window_bits w) ++ replicate (64 - bits_near w) false
+unfolding window_bits
+near-ahead w r h e =
+    let s = w.at % 8 in
+    let bits = bits_of w.buffer in
+    let ahead = drop w.at bits in
+    let len = w.end - w.at in
+    let waits = length-window w h in
+    let q = w.end / 8 in
+    let bytes : 8 * q ≡ w.end = omega (arith, h.whole) in
+    let room : q + 8 ≤ length w.buffer = omega (arith, h.size, h.fits) in
+    let zeros : take 64 (drop w.end bits) ≡ replicate 64 false =
+    ap (λ k. take 64 (drop k bits)) (sym bytes) ∙ (ap (take 64) (drop-bits_of q w.buffer (omega (arith, room)))
+    ∙ (take-bits_of 8 (drop q w.buffer) (omega (arith, room, length-drop q w.buffer)) ∙ (ap bits_of h.behind ∙ bits_of-zeros 8))) in
+    elim (cases_lt len (64 - s)) [
+      | inl short ↦
+          let d = 64 - s - len in
+          let near : bits_near w ≡ len = omega (arith, waits, short) in
+          let both : len + d ≡ 64 - s = omega (arith, short) in
+          let gap : d + s ≡ 64 - len = omega (arith, short) in
+          let past : w.at + len ≡ w.end = omega (arith, h.ordered) in
+          let behind : take d (drop len ahead) ≡ replicate d false =
+          ap (take d) (drop-drop len w.at bits ∙ ap (λ k. drop k bits) past) ∙ (sym (take-take d 64 (drop w.end bits) (omega arith)) ∙ (ap (take d) zeros ∙ take-replicate d 64 false (omega arith))) in
+          e ∙ (ap (λ k. take k ahead ++ replicate s false) (sym both) ∙ (ap (λ z. z ++ replicate s false) (take-add len d ahead ∙ ap (λ z. take len ahead ++ z) behind)
+          ∙ (append_assoc (take len ahead) (replicate d false) (replicate s false) ∙ (ap (λ z. take len ahead ++ z) (replicate-append-replicate d s false ∙ ap (λ k. replicate k false) gap)
+          ∙ rw near (ap (λ z. z ++ replicate (64 - len) false) (sym (take-take len len ahead (omega arith))))))))
+      | inr long ↦
+          let near : bits_near w ≡ 64 - s = omega (arith, waits, long) in
+          let gap : s ≡ 64 - (64 - s) = omega arith in
+          e ∙ rw near (ap (λ z. z ++ replicate s false) (sym (take-take (64 - s) len ahead long)) ∙ ap (λ k. take (64 - s) (take len ahead) ++ replicate k false) gap)
+    ]
+
+pub length-words : (width : ℕ) (xs : List ℕ) → length (flat_map (word width) xs) ≡ length xs * width
+length-words width [] = omega arith
+length-words width (x ∷ xs) = omega (arith, length-append (word width x) (flat_map (word width) xs), length-word width x, length-words width xs)
+
+-- words, and those behind them
+pub words-joined : (width : ℕ) (bits : List Bool) (from at m k : ℕ) (xs ys : List ℕ) → at ≡ from + m * width
+    → flat_map (word width) xs ≡ take (m * width) (drop from bits) → flat_map (word width) ys ≡ take (k * width) (drop at bits)
+    → flat_map (word width) (xs ++ ys) ≡ take ((m + k) * width) (drop from bits)
+words-joined width bits from at m k xs ys place first second =
+    let n : m * width + k * width ≡ (m + k) * width = grind arith in
+    let rest : flat_map (word width) ys ≡ take (k * width) (drop (m * width) (drop from bits)) =
+    second ∙ ap (take (k * width)) (ap (λ a. drop a bits) place ∙ sym (drop-drop (m * width) from bits)) in
+    flat_map-append (word width) xs ys ∙ ((λ j. first j ++ rest j) ∙ (sym (take-add (m * width) (k * width) (drop from bits)) ∙ ap (λ a. take a (drop from bits)) n))
+
+-- one more word, from the place behind those before it
+pub words-more : (width : ℕ) (bits : List Bool) (from at : ℕ) (now : List ℕ) (done v : ℕ) → at ≡ from + done * width → done < length now
+    → flat_map (word width) (take done now) ≡ take (done * width) (drop from bits) → word width v ≡ take width (drop at bits)
+    → flat_map (word width) (take (done + 1) (set now done v)) ≡ take ((done + 1) * width) (drop from bits)
+words-more width bits from at now done v place lt before step =
+    let n : width ≡ 1 * width = omega arith in
+    let one : flat_map (word width) (v ∷ []) ≡ take (1 * width) (drop at bits) = append-nil (word width v) ∙ (step ∙ ap (λ k. take k (drop at bits)) n) in
+    ap (flat_map (word width)) (take_more_set now done v lt) ∙ words-joined width bits from at done 1 (take done now) (v ∷ []) place before one
+
+-- the first bits that wait
+pub front-waits : (w : Window) (n : ℕ) → n ≤ w.end - w.at → take n (window_bits w) ≡ take n (drop w.at (bits_of w.buffer))
+unfolding window_bits
+front-waits w n h = take-take n (w.end - w.at) (drop w.at (bits_of w.buffer)) h
+
+-- a word behind the first digits of 32
+word-behind : (w s x : ℕ) → s + w ≤ 32 → word w (x * 2 ^ s % 2 ^ 32 / 2 ^ (32 - w)) ≡ take w (drop s (word 32 x))
+word-behind w s x h =
+    let front = word s (x / 2 ^ (32 - s)) in
+    let rest : drop s (word 32 x) ≡ word (32 - s) x =
+    ap (drop s) (word-parts 32 s x (omega arith)) ∙ drop-seam front (word (32 - s) x) s (length-word s (x / 2 ^ (32 - s))) in
+    sym (take-front 32 w (x * 2 ^ s % 2 ^ 32) (omega arith)) ∙ (ap (take w) (word-moved 32 s x (omega arith))
+    ∙ (take-append-le w (word (32 - s) x) (replicate s false) (omega (arith, length-word (32 - s) x)) ∙ ap (take w) (sym rest)))
+
+-- four words in a row
+pub four-behind : (w x : ℕ) → w ≤ 8
+    → flat_map (word w) ((x * 2 ^ 0 % 2 ^ 32 / 2 ^ (32 - w)) ∷ (x * 2 ^ w % 2 ^ 32 / 2 ^ (32 - w)) ∷ (x * 2 ^ (2 * w) % 2 ^ 32 / 2 ^ (32 - w)) ∷ (x * 2 ^ (3 * w) % 2 ^ 32 / 2 ^ (32 - w)) ∷ [])
+    ≡ take (4 * w) (word 32 x)
+four-behind w x h =
+    let bits = word 32 x in
+    let two : w + w ≡ 2 * w = omega arith in
+    let three : 2 * w + w ≡ 3 * w = omega arith in
+    let four : 3 * w + w ≡ 4 * w = omega arith in
+    let a = word-behind w 0 x (omega arith) in
+    let b = word-behind w w x (omega arith) in
+    let c = word-behind w (2 * w) x (omega arith) in
+    let d = word-behind w (3 * w) x (omega arith) in
+    rw (a, b, c, d) (joined (take w bits) (take w (drop w bits)) (take w (drop (2 * w) bits)) (take w (drop (3 * w) bits))
+    ∙ (ap (λ k. (k ++ take w (drop (2 * w) bits)) ++ take w (drop (3 * w) bits)) (sym (take-add w w bits) ∙ ap (λ n. take n bits) two)
+    ∙ (ap (λ k. k ++ take w (drop (3 * w) bits)) (sym (take-add (2 * w) w bits) ∙ ap (λ n. take n bits) three)
+    ∙ (sym (take-add (3 * w) w bits) ∙ ap (λ n. take n bits) four))))
+  where
+    joined : (p q r t : List Bool) → p ++ (q ++ (r ++ (t ++ []))) ≡ ((p ++ q) ++ r) ++ t
+    joined p q r t = ap (λ z. p ++ (q ++ (r ++ z))) (append-nil t) ∙ (sym (append_assoc p q (r ++ t)) ∙ sym (append_assoc (p ++ q) r t))
+
+-- a part of bits has no 1 where neither of its two parts has
+blank-parts : (bits : List Bool) (a s e : ℕ) → a ≤ s → s ≤ e
+    → is_blank (slice_range bits a e) ≡ (is_blank (slice_range bits a s) && is_blank (slice_range bits s e))
+blank-parts bits a s e p q = ap is_blank (sym (between-join bits a s e p q)) ∙ blank-append (slice_range bits a s) (slice_range bits s e)
+
+-- bits that stand at the front of a word have no 1 where they spell 0
+blank-ahead : (bits : List Bool) (s n r v : ℕ) → n ≤ 57 → r < 2 ^ 64 → word 64 r ≡ take (64 - s % 8) (drop s bits) ++ replicate (s % 8) false
+    → v ≡ r / 2 ^ (64 - n) → is_blank (slice_range bits s (s + n)) ≡ (v == 0)
+blank-ahead bits s n r v few fits ahead e =
+    let size : s + n - s ≡ n = omega arith in
+    let digits : word n v ≡ slice_range bits s (s + n) =
+    ap (word n) e ∙ (first-ahead (drop s bits) n (64 - s % 8) (s % 8) r (omega (arith, few)) (omega arith) ahead ∙ ap (λ k. take k (drop s bits)) (sym size)) in
+    ap is_blank (sym digits) ∙ blank-word n v (rw e (front_below 64 n r (omega (arith, few)) fits))
+
+pub blank-start : (bits : List Bool) (a : ℕ) → is_blank (slice_range bits a a) ≡ true
+blank-start bits a =
+    let none : a - a ≡ 0 = omega arith in
+    rw none refl
+
+pub blank-more : (bits : List Bool) (a s n r v : ℕ) → a ≤ s → n ≤ 57 → r < 2 ^ 64 → word 64 r ≡ take (64 - s % 8) (drop s bits) ++ replicate (s % 8) false
+    → v ≡ r / 2 ^ (64 - n) → is_blank (slice_range bits a s) ≡ true → v ≡ 0 → is_blank (slice_range bits a (s + n)) ≡ true
+blank-more bits a s n r v from few fits ahead e before none =
+    blank-parts bits a s (s + n) from (omega arith)
+    ∙ ((λ j. before j && blank-ahead bits s n r v few fits ahead e j) ∙ ap (λ k. k == 0) none)
+
+pub blank-not : (bits : List Bool) (a s n r v end : ℕ) → a ≤ s → n ≤ 57 → r < 2 ^ 64 → word 64 r ≡ take (64 - s % 8) (drop s bits) ++ replicate (s % 8) false
+    → v ≡ r / 2 ^ (64 - n) → is_blank (slice_range bits a s) ≡ true → v ≢ 0 → s + n ≤ end → is_blank (slice_range bits a end) ≡ false
+blank-not bits a s n r v end from few fits ahead e before some within =
+    let one : (v == 0) ≡ false = grind (arith, nat_tests) in
+    blank-parts bits a s end from (omega (arith, within))
+    ∙ ((λ j. before j && blank-parts bits s (s + n) end (omega arith) within j)
+    ∙ ap (λ b. b && is_blank (slice_range bits (s + n) end)) (blank-ahead bits s n r v few fits ahead e ∙ one))
+
+-- four words at the front of a word
+pub four-ahead : (width s r : ℕ) (bits : List Bool) (four : List ℕ) → width ≤ 8 → s < 8 → word 64 r ≡ take (64 - s) bits ++ replicate s false
+    → flat_map (word width) four ≡ take (4 * width) (word 32 (r / 2 ^ 32)) → flat_map (word width) four ≡ take (4 * width) bits
+four-ahead width s r bits four h few ahead e =
+    e ∙ (ap (take (4 * width)) (first-ahead bits 32 (64 - s) s r (omega arith) (omega arith) ahead) ∙ take-take (4 * width) 32 bits (omega arith))
+
+-- a sequence at the front of bits with zeros behind them is one of those bits
+pub run-within : (m k : ℕ) (rest xs : List Bool) → fundamental_sequence m ++ rest ≡ xs ++ replicate k false → m + 1 ≤ length xs
+run-within m k rest [] e = absurd (no-run m k rest e)
+  where
+    no-run : (m k : ℕ) (rest : List Bool) → fundamental_sequence m ++ rest ≡ replicate k false → ⊥
+    no-run zero zero rest e = absurd cc
+    no-run zero (suc k) rest e = absurd cc
+    no-run (suc m) zero rest e = absurd cc
+    no-run (suc m) (suc k) rest e = (let t : fundamental_sequence m ++ rest ≡ replicate k false = cc in no-run m k rest t)
+run-within zero k rest (x ∷ xs) e = omega arith
+run-within (suc m) k rest (x ∷ xs) e =
+    let t : fundamental_sequence m ++ rest ≡ xs ++ replicate k false = cc in
+    omega (arith, run-within m k rest xs t)
+
+pub sequences-within : (ms : List ℕ) (k : ℕ) (rest xs : List Bool) → flat_map fundamental_sequence ms ++ rest ≡ xs ++ replicate k false
+    → length (flat_map fundamental_sequence ms) ≤ length xs
+sequences-within [] k rest xs e = omega arith
+sequences-within (m ∷ ms) k rest xs e =
+    let run = fundamental_sequence m in
+    let more = flat_map fundamental_sequence ms in
+    let len : length run ≡ m + 1 = length-fundamental_sequence m in
+    let begins : run ++ (more ++ rest) ≡ xs ++ replicate k false = sym (append_assoc run more rest) ∙ e in
+    let first = run-within m k (more ++ rest) xs begins in
+    let behind : more ++ rest ≡ drop (m + 1) xs ++ replicate k false =
+    sym (drop-seam run (more ++ rest) (m + 1) len) ∙ (ap (drop (m + 1)) begins ∙ drop-append-le (m + 1) xs (replicate k false) first) in
+    omega (arith, len, first, length-append run more, length-drop (m + 1) xs, sequences-within ms k rest (drop (m + 1) xs) behind)
+
+-- bits that are near are there
+pub near-there : (w : Window) (xs : List Bool) → IsWindow w → length xs ≤ length (take (bits_near w) (window_bits w)) → w.at + length xs ≤ w.end
+near-there w xs h short =
+    omega (arith, short, length-take-le (bits_near w) (window_bits w) (omega arith), length-window w h, h.ordered)
+
+-- the first bits of a window, which stand at the front of a word
+pub window-front : (w : Window) (at r : ℕ) (xs rest : List Bool) → IsWindow w → word 64 r ≡ take (bits_near w) (window_bits w) ++ replicate (64 - bits_near w) false
+    → word 64 r ≡ xs ++ rest → length xs ≤ length (take (bits_near w) (window_bits w)) → at ≡ w.at + length xs → Passes w (record w { at = at }) xs
+window-front w at r xs rest h near e short place =
+    let n = length xs in
+    let there = near-there w xs h short in
+    let few : n ≤ bits_near w = omega (arith, short, length-take-le (bits_near w) (window_bits w) (omega arith)) in
+    let front : xs ≡ take n (window_bits w) =
+    sym (take-append_seam xs rest) ∙ (ap (take n) (sym e ∙ near) ∙ (take-append-le n (take (bits_near w) (window_bits w)) _ short ∙ take-take n (bits_near w) (window_bits w) few)) in
+    window-passes w at n xs h place (omega (arith, there)) (front ∙ front-waits w n (omega (arith, there)))

@@ -1,0 +1,17 @@
+use Rattle.std.proofs.Common.{◌≡◌, ap, ◌∙◌, refl, None, arith, take, length-append, length}
+use Rattle.std.specs.Prelude.{flat_map}
+use Rattle.rice_bits.specs.Bits.{word}
+use Rattle.rice_bits.specs.read.Window.{window_bits}
+use Rattle.rice_bits.proofs.lemmas.read.Drawing.{draws-same}
+use Rattle.rice_bits.proofs.lemmas.read.ReaderLemmas.{takes_passed}
+use Rattle.rice_bits.proofs.read.reader.BitReader.take_waiting.Goals as goal
+
+pub returns-clause-takes : goal.returns-clause-takes
+returns-clause-takes g c =
+    let none : c.self.inside.refusal ≡ None = ap (λ r. r.refusal) c.self.view_is ∙ c.requires.going in
+    rw (← c.self.view_is) (takes_passed _ _ _ _ c.self.inside.window _ _ _ _ (draws-same _ _) refl refl none refl c.take_words-taken.ensures.passes)
+
+pub returns-clause-steps : goal.returns-clause-steps
+returns-clause-steps g c =
+    let taken = c.take_words-taken in
+    omega (arith, taken.ensures.passes.taken, ap length taken.ensures.passes.split ∙ length-append (flat_map (word c.args.width) (take taken.result taken.new.words)) (window_bits taken.new.self), c.len-before.ensures.value, c.len-left.ensures.value, ap (λ r. r.taken) c.self.view_is)

@@ -1,6 +1,0 @@
-use Rattle.std.proofs.Common.{sym}
-use Rattle.rice_bits.proofs.Gathering.{length_viewed}
-use Rattle.rice_bits.proofs.sink.BitSink.len.Goals as goal
-
-pub returns-clause-value : goal.returns-clause-value
-returns-clause-value g c = sym (length_viewed _ _ _ _ c.self.invariant c.self.told c.self.view_is)

@@ -1,0 +1,4 @@
+-- What contracts see of the devices that give and take bytes.
+pub mod Device
+pub mod Memory
+pub mod Wrap

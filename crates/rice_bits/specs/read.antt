@@ -1,0 +1,3 @@
+-- What contracts see of a reader of bits.
+pub mod Reader
+pub mod Window

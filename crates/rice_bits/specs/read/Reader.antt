@@ -1,0 +1,64 @@
+-- What a contract sees of a reader of bits.
+use Rattle.std.specs.Prelude.{◌≡◌, ℕ, ◌+◌, ◌^◌, ◌<◌, Bool, not, ◌&&◌, List, [], ◌∷◌, ◌++◌, length, Option, Some, None, IsSome}
+use Rattle.std.specs.List.{list_all}
+use Rattle.std.specs.Io.KnownBytes.{Consumes, IsAtEnd}
+use Rattle.rice_bits.specs.Bits.{bits_of}
+use Rattle.rice_bits.specs.read.Window.{IsWindow, window_bits}
+use Rattle.rice_bits.specs.declared.read.fault.BitFault.{BitFault}
+use Rattle.rice_bits.specs.declared.read.fault.BitFault.TheVariants.{End, Read, TooLong}
+use Rattle.rice_bits.specs.declared.read.window.Window.{Window}
+
+-- a reader of the bits that an intake gives
+pub record Reader (I : Type 0) : Type 0 where
+  -- the bits that were given and not yet taken
+  pub waiting : List Bool
+  -- how many bits were taken
+  pub taken : ℕ
+  -- no 1 was taken since the mark
+  pub blank : Bool
+  -- what the reader has refused
+  pub refusal : Option BitFault
+  pub intake : I
+
+-- no bit is a 1
+abbrev pub is_blank : List Bool → Bool
+is_blank bits = list_all not bits
+
+-- Bytes were drawn from an intake, and these bits taken of the bits that waited and those of the bytes.
+pub record Draws (old_left new_left : Option (List ℕ)) (old new bits : List Bool) : Type 0 where
+  pub given : List ℕ
+  pub consumed : Consumes old_left new_left given
+  pub split : old ++ bits_of given ≡ bits ++ new
+
+-- What an intake did where a reader refuses: it ended, it failed, or it gave the byte past the limit.
+abbrev pub Refuses : BitFault → Option (List ℕ) → Option (List ℕ) → ℕ → ℕ → ℕ → Bool → Type 0
+Refuses (End told) old_left new_left old_failed new_failed taken blank =
+    Consumes old_left new_left [] × IsAtEnd new_left × (new_failed ≡ old_failed) × (told ≡ blank)
+Refuses Read old_left new_left old_failed new_failed taken blank =
+    Consumes old_left new_left [] × (new_failed ≡ old_failed + 1)
+Refuses TooLong old_left new_left old_failed new_failed taken blank =
+    ((byte : ℕ) × Consumes old_left new_left (byte ∷ [])) × (new_failed ≡ old_failed) × (taken ≡ 2 ^ 52)
+
+-- A reader took these bits.
+pub record Takes {I : Type 0} (left : I → Option (List ℕ)) (failed : I → ℕ) (old new : Reader I) (bits : List Bool) : Type 0 where
+  pub draws : Draws (left old.intake) (left new.intake) old.waiting new.waiting bits
+  pub taken : new.taken ≡ old.taken + length bits
+  pub blank : new.blank ≡ (old.blank && is_blank bits)
+  pub going : new.refusal ≡ None
+  pub failures : failed new.intake ≡ failed old.intake
+
+-- A reader took these bits, which were all, and refused.
+pub record Stops {I : Type 0} (left : I → Option (List ℕ)) (failed : I → ℕ) (old new : Reader I) (bits : List Bool) (fault : BitFault) : Type 0 where
+  pub middle : Option (List ℕ)
+  pub draws : Draws (left old.intake) middle old.waiting [] bits
+  pub refuses : Refuses fault middle (left new.intake) (failed old.intake) (failed new.intake) new.taken new.blank
+  pub taken : new.taken ≡ old.taken + length bits
+  pub blank : new.blank ≡ (old.blank && is_blank bits)
+  pub waiting : new.waiting ≡ []
+  pub refusal : new.refusal ≡ Some fault
+
+-- what is so of each reader's fields
+pub record IsReader (failed : ℕ) (bits : Window) (refusal : Option BitFault) : Type 0 where
+  pub window : IsWindow bits
+  pub going : refusal ≡ None → failed + 1 < 2 ^ 64
+  pub stopped : IsSome refusal → window_bits bits ≡ []

@@ -1,0 +1,46 @@
+-- The bits that were given and not yet taken.
+use Rattle.std.specs.Prelude.{◌≡◌, ◌+◌, ◌-◌, ◌*◌, ◌/◌, ◌%◌, ◌^◌, ◌<◌, ◌≤◌, ℕ, All, Bool, List, ◌++◌, length, drop, flat_map, min, replicate, take, slice_range}
+use Rattle.rice_bits.specs.Bits.{word, fundamental_sequence, bits_of}
+use Rattle.rice_bits.specs.declared.read.window.Window.{Window}
+
+-- the bits of the bytes from `at` to `end`
+unfoldable pub window_bits : Window → List Bool
+window_bits w = slice_range (bits_of w.buffer) w.at w.end
+
+-- the bits that were taken since the mark, or since the bytes were given
+unfoldable pub window_passed : Window → List Bool
+window_passed w = slice_range (bits_of w.buffer) w.marked w.at
+
+-- how many bits were given and do not wait
+abbrev pub window_taken : Window → ℕ
+window_taken w = 8 * w.given - (w.end - w.at)
+
+-- how many of the bits that wait are in the eight bytes that the next of them is in
+abbrev pub bits_near : Window → ℕ
+bits_near w = min (64 - w.at % 8) (length (window_bits w))
+
+pub record IsWindow (w : Window) : Type 0 where
+  pub size : length w.buffer ≡ 4104
+  pub marked : w.marked ≤ w.at
+  pub ordered : w.at ≤ w.end
+  pub fits : w.end ≤ 32768
+  pub whole : w.end % 8 ≡ 0
+  pub held : w.end - w.at ≤ 8 * w.given
+  pub limit : w.given ≤ 2 ^ 49
+  -- behind the bytes stand eight zeros
+  pub behind : take 8 (drop (w.end / 8) w.buffer) ≡ replicate 8 0
+
+-- Bits were taken from the front of those that wait.
+pub record Passes (old new : Window) (bits : List Bool) : Type 0 where
+  pub split : window_bits old ≡ bits ++ window_bits new
+  pub passed : window_passed new ≡ window_passed old ++ bits
+  pub taken : window_taken new ≡ window_taken old + length bits
+
+-- Fundamental sequences were taken from the front of a word, one for each of the numbers that were written to the first places of a list.
+pub record AreParted (front : ℕ) (old new : List ℕ) (left used taken : ℕ) : Type 0 where
+  pub within : taken ≤ length new
+  pub each : All (λ m. m < 64) (take taken new)
+  pub rest : drop taken new ≡ drop taken old
+  pub few : used ≤ 64
+  pub below : left < 2 ^ (64 - used)
+  pub bits : word 64 front ≡ flat_map fundamental_sequence (take taken new) ++ word (64 - used) left

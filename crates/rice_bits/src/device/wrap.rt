@@ -1,0 +1,91 @@
+//! Devices over the readers and writers of `std`.
+ghost use Rattle.std.specs.Prelude.{◌≡◌, ◌+◌};
+
+use crate::device::{Intake, Outlet, ReadFault, WriteFault};
+use std::io::{Read, Write};
+
+/// An intake over a reader of `std`. An error of the reader, whatever its kind, is one failure, and nothing is tried again. It tells
+/// its bytes where the reader does.
+#[derive(Drop)]
+pub struct FromReader<R> {
+    reader: R,
+    failures: u64,
+}
+
+impl<R: Read> FromReader<R> {
+    ghost use Rattle.rice_bits.specs.device.Wrap.{reader_of, reader_failures};
+
+    /// An intake that has not failed.
+    pub fn new(reader: R) -> Self
+        ensures reader { reader_of result ≡ reader }
+        ensures failures { reader_failures result ≡ 0 }
+    {
+        FromReader {
+            reader,
+            failures: 0,
+        }
+    }
+}
+
+impl<R: Read> Intake for FromReader<R> {
+    ghost left = { λ s. R.remaining s.reader };
+
+    ghost failed = { λ s. s.failures };
+
+    fn fill(&mut self, buf: &mut [u8]) -> Result<usize, ReadFault> {
+        match self.reader.read(buf) {
+            Ok(count) => Ok(count),
+            Err(_) => {
+                self.failures += 1;
+                Err(ReadFault)
+            }
+        }
+    }
+
+    fn failures(&self) -> u64 {
+        self.failures
+    }
+}
+
+/// An outlet over a writer of `std`. An error of the writer, whatever its kind, is one failure, and so is a write that takes 0 bytes;
+/// nothing is tried again. It tells its bytes where the writer does.
+#[derive(Drop)]
+pub struct FromWriter<W> {
+    writer: W,
+    failures: u64,
+}
+
+impl<W: Write> FromWriter<W> {
+    ghost use Rattle.rice_bits.specs.device.Wrap.{writer_of, writer_failures};
+
+    /// An outlet that has not failed.
+    pub fn new(writer: W) -> Self
+        ensures writer { writer_of result ≡ writer }
+        ensures failures { writer_failures result ≡ 0 }
+    {
+        FromWriter {
+            writer,
+            failures: 0,
+        }
+    }
+}
+
+impl<W: Write> Outlet for FromWriter<W> {
+    ghost taken = { λ s. W.contents s.writer };
+
+    ghost failed = { λ s. s.failures };
+
+    fn put(&mut self, bytes: &[u8]) -> Result<usize, WriteFault> {
+        match self.writer.write(bytes) {
+            Ok(count) if count > 0 => Ok(count),
+            _ => {
+                self.failures += 1;
+                Err(WriteFault)
+            }
+        }
+    }
+
+    fn failures(&self) -> u64 {
+        self.failures
+    }
+}

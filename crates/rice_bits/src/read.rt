@@ -1,0 +1,5 @@
+//! Reading bits: the bits of the bytes that an intake gives, taken one word or one fundamental sequence at a time.
+
+pub mod fault;
+pub mod reader;
+mod window;

@@ -1,0 +1,455 @@
+//! A reader of bits.
+ghost use Rattle.std.specs.Prelude.{◌≡◌, ℕ, ◌+◌, ◌-◌, ◌*◌, ◌%◌, ◌^◌, ◌<◌, ◌≤◌, ◌&&◌, Bool, true, false, List, [], ◌++◌, length, replicate, All, drop, flat_map, take, IfOk, IfErr, OnOk, IfSome, IfNone, IsSome, Option, None};
+ghost use Rattle.std.specs.Io.KnownBytes.{Consumes};
+ghost use Rattle.rice_bits.specs.Bits.{fundamental_sequence, bits_to_byte, word};
+ghost use Rattle.rice_bits.specs.read.Reader.{Draws, Refuses, is_blank};
+ghost use Rattle.rice_bits.specs.read.Window.{IsWindow, window_bits, window_passed, window_taken};
+
+use crate::bits::digits::join;
+use crate::device::Intake;
+use crate::meter::Meter;
+use crate::read::fault::BitFault;
+use crate::read::window::{AHEAD, PIECE, Window};
+use std::marker::Model;
+
+/// The most bytes that a reader takes from its intake.
+const LIMIT: u64 = 1 << 49;
+
+/// Reads the bits of the bytes that an intake gives, most significant first. Clauses see the bits that were given and wait, how many
+/// were taken, whether all since the mark were 0, what was refused, and the intake.
+///
+/// The intake is called only when a bit is asked for and none waits: for at most 4,096 bytes, never past 2^49 bytes in all, and
+/// after 2^49 bytes once for one byte (own rule). A call that is refused has taken all bits that were left, and each later `take` or
+/// `take_fs` answers the same refusal and takes nothing.
+#[derive(Drop)]
+pub struct BitReader<I: Intake> {
+    intake: I,
+    window: Window,
+    /// Whether all bits that were taken since the mark were 0, those aside that the window still has.
+    blank_before: bool,
+    refusal: Option<BitFault>,
+}
+
+impl<I: Intake> Model for BitReader<I> {
+    ghost use Rattle.std.specs.Prelude.{◌&&◌};
+    ghost use Rattle.rice_bits.specs.read.Reader.{Reader, IsReader, is_blank};
+    ghost use Rattle.rice_bits.specs.read.Window.{window_bits, window_passed, window_taken};
+
+    ghost Value = { Reader I };
+
+    ghost view = { λ s. record { waiting = window_bits s.window; taken = window_taken s.window; blank = s.blank_before && is_blank (window_passed s.window); refusal = s.refusal; intake = s.intake } };
+
+    ghost invariant = { λ s. IsReader (I.failed s.intake) s.window s.refusal };
+}
+
+/// Asks the intake for the bytes behind those `given`, and answers how many it put at the front of the buffer.
+fn ask<I: Intake>(
+    intake: &mut I,
+    buffer: &mut [u8],
+    given: u64,
+    blank: bool,
+) -> Result<usize, BitFault>
+    requires room { 4096 ≤ length buffer.old }
+    requires given { given ≤ 2 ^ 49 }
+    requires countable { I.failed intake.old + 1 < 2 ^ 64 }
+    ensures ok { IfOk result (λ n. (0 < n) × (n ≤ 4096) × (given + n ≤ 2 ^ 49) × Consumes (I.left intake.old) (I.left intake.new) (take n buffer.new)) }
+    ensures failures { OnOk result (I.failed intake.new ≡ I.failed intake.old) }
+    ensures err { IfErr result (λ f. Refuses f (I.left intake.old) (I.left intake.new) (I.failed intake.old) (I.failed intake.new) (8 * given) blank) }
+{
+    let most = if given < LIMIT {
+        (LIMIT - given).min(PIECE as u64) as usize
+    } else {
+        1
+    };
+    let count = match intake.fill(&mut buffer[..most]) {
+        Ok(count) => count,
+        Err(_) => return Err(BitFault::Read),
+    };
+    if count == 0 {
+        return Err(BitFault::End { blank });
+    }
+    if given >= LIMIT {
+        return Err(BitFault::TooLong);
+    }
+    Ok(count)
+}
+
+/// Draws bytes from the intake, where no bit waits.
+fn draw<I: Intake>(
+    intake: &mut I,
+    window: &mut Window,
+    blank_before: &mut bool,
+) -> Result<(), BitFault>
+    requires window { IsWindow window.old }
+    requires empty { window.old.at ≡ window.old.end }
+    requires countable { I.failed intake.old + 1 < 2 ^ 64 }
+    ensures window { IsWindow window.new }
+    ensures some { OnOk result (0 < length (window_bits window.new)) }
+    ensures ok { OnOk result (Draws (I.left intake.old) (I.left intake.new) (window_bits window.old) (window_bits window.new) []) }
+    ensures blank { (blank_before.new && is_blank (window_passed window.new)) ≡ (blank_before.old && is_blank (window_passed window.old)) }
+    ensures taken { window_taken window.new ≡ window_taken window.old }
+    ensures failures { OnOk result (I.failed intake.new ≡ I.failed intake.old) }
+    ensures err { IfErr result (λ f. (window_bits window.old ≡ []) × (window_bits window.new ≡ []) ×
+        Refuses f (I.left intake.old) (I.left intake.new) (I.failed intake.old) (I.failed intake.new) (window_taken window.old) (blank_before.old && is_blank (window_passed window.old))) }
+{
+    // Other bytes may take the place of the bits that were taken.
+    *blank_before = window.is_blank(*blank_before);
+    match ask(intake, &mut window.buffer, window.given, *blank_before) {
+        Ok(count) => {
+            window.hold(count);
+            Ok(())
+        }
+        Err(fault) => {
+            // The intake may have left anything in the buffer.
+            window.hold(0);
+            Err(fault)
+        }
+    }
+}
+
+/// Makes sure that a bit waits.
+fn supply<I: Intake>(
+    intake: &mut I,
+    window: &mut Window,
+    blank_before: &mut bool,
+) -> Result<(), BitFault>
+    requires window { IsWindow window.old }
+    requires countable { I.failed intake.old + 1 < 2 ^ 64 }
+    ensures window { IsWindow window.new }
+    ensures some { OnOk result (0 < length (window_bits window.new)) }
+    ensures ok { OnOk result (Draws (I.left intake.old) (I.left intake.new) (window_bits window.old) (window_bits window.new) []) }
+    ensures blank { (blank_before.new && is_blank (window_passed window.new)) ≡ (blank_before.old && is_blank (window_passed window.old)) }
+    ensures taken { window_taken window.new ≡ window_taken window.old }
+    ensures failures { OnOk result (I.failed intake.new ≡ I.failed intake.old) }
+    ensures idle { 0 < length (window_bits window.old) → intake.new ≡ intake.old }
+    ensures err { IfErr result (λ f. (window_bits window.old ≡ []) × (window_bits window.new ≡ []) ×
+        Refuses f (I.left intake.old) (I.left intake.new) (I.failed intake.old) (I.failed intake.new) (window_taken window.old) (blank_before.old && is_blank (window_passed window.old))) }
+{
+    if window.len() > 0 {
+        return Ok(());
+    }
+    draw(intake, window, blank_before)
+}
+
+impl<I: Intake> BitReader<I> {
+    ghost use Rattle.rice_bits.specs.read.Reader.{Takes, Stops};
+
+    /// A reader that has taken no bit, and is as just after [`mark`](Self::mark).
+    pub fn new(intake: I) -> Self
+        requires { I.failed intake + 1 < 2 ^ 64 }
+        ensures { result ≡ record { waiting = []; taken = 0; blank = true; refusal = None; intake = intake } }
+    {
+        BitReader {
+            intake,
+            window: Window::new(),
+            blank_before: true,
+            refusal: None,
+        }
+    }
+
+    /// The intake, as the last call of its `fill` left it. Bits that wait are lost.
+    pub fn into_inner(self) -> I
+        ensures { result ≡ self.intake }
+    {
+        let BitReader {
+            intake,
+            window: _,
+            blank_before: _,
+            refusal: _,
+        } = self;
+        intake
+    }
+
+    /// How many bits were taken, at most 2^52.
+    #[inline]
+    pub fn taken(&self) -> u64
+        ensures value { result ≡ self.now.taken }
+        ensures limit { result + length self.now.waiting ≤ 2 ^ 52 }
+        // At most 4,096 bytes are asked for at a time.
+        ensures waiting { length self.now.waiting ≤ 32768 }
+        ensures aligned { (result + length self.now.waiting) % 8 ≡ 0 }
+    {
+        self.window.taken()
+    }
+
+    /// From here on no 1 has been taken. After a refusal it changes nothing.
+    #[inline]
+    pub fn mark(&mut self)
+        ensures going { self.old.refusal ≡ None → self.new ≡ record self.old { blank = true } }
+        ensures stopped { IsSome self.old.refusal → self.new ≡ self.old }
+    {
+        if self.refusal.is_none() {
+            self.window.mark();
+            self.blank_before = true;
+        }
+    }
+
+    /// Takes the number that the next `width` bits spell, most significant first, and ticks one for each bit taken.
+    ///
+    /// A refusal says why the bits were not there: [`BitFault`] tells each case.
+    #[inline]
+    pub fn take(&mut self, width: u32, meter: &mut Meter) -> Result<u32, BitFault>
+        requires width { width ≤ 32 }
+        requires meter { meter.old + width < 2 ^ 62 }
+        ensures ok { IfOk result (λ v. (v < 2 ^ width) × Takes I.left I.failed self.old self.new (word width v)) }
+        // A first refusal took all bits that were left, which were too few.
+        ensures err { self.old.refusal ≡ None → IfErr result (λ f.
+            (bits : List Bool) × (length bits < width) × Stops I.left I.failed self.old self.new bits f) }
+        // A reader that has refused answers the same, and takes nothing.
+        ensures stopped { IfSome self.old.refusal (λ f. (result ≡ Err f) × (self.new ≡ self.old)) }
+        ensures taken { OnOk result (self.new.taken ≡ self.old.taken + width) }
+        ensures most { self.new.taken ≤ self.old.taken + width }
+        ensures limit { self.new.taken ≤ 2 ^ 52 }
+        // The intake is not called where enough bits wait.
+        ensures idle { width ≤ length self.old.waiting → self.new.intake ≡ self.old.intake }
+        ensures steps { meter.new + self.old.taken ≡ meter.old + self.new.taken }
+    {
+        if let Some(value) = self.take_ready(width, meter) {
+            return Ok(value);
+        }
+        let value = self.take_across(width, meter);
+        match self.refusal {
+            None => Ok(value),
+            Some(fault) => Err(fault),
+        }
+    }
+
+    /// Takes the next `width` bits, where more wait.
+    #[inline]
+    fn take_ready(&mut self, width: u32, meter: &mut Meter) -> Option<u32>
+        requires width { width ≤ 32 }
+        requires meter { meter.old + width < 2 ^ 62 }
+        ensures some { IfSome result (λ v. (v < 2 ^ width) × Takes I.left I.failed self.old self.new (word width v)) }
+        ensures going { IsSome result → self.old.refusal ≡ None }
+        ensures idle { self.new.intake ≡ self.old.intake }
+        ensures none { IfNone result ((self.new ≡ self.old) × (meter.new ≡ meter.old)) }
+        ensures steps { meter.new + self.old.taken ≡ meter.old + self.new.taken }
+        ensures limit { self.new.taken ≤ 2 ^ 52 }
+    {
+        let number = self.window.take_of_more(width)?;
+        meter.tick(width as u64);
+        Some(number as u32)
+    }
+
+    /// Takes the next `width` bits, and calls the intake where too few wait. Where that leaves a refusal, the answer says nothing.
+    #[inline(never)]
+    fn take_across(&mut self, width: u32, meter: &mut Meter) -> u32
+        requires width { width ≤ 32 }
+        requires meter { meter.old + width < 2 ^ 62 }
+        ensures ok { self.new.refusal ≡ None → (result < 2 ^ width) × Takes I.left I.failed self.old self.new (word width result) }
+        // A first refusal took all bits that were left, which were too few.
+        ensures err { self.old.refusal ≡ None → IfSome self.new.refusal (λ f.
+            (bits : List Bool) × (length bits < width) × Stops I.left I.failed self.old self.new bits f) }
+        // A reader that has refused takes nothing.
+        ensures stopped { IsSome self.old.refusal → self.new ≡ self.old }
+        ensures taken { self.new.refusal ≡ None → self.new.taken ≡ self.old.taken + width }
+        ensures most { self.new.taken ≤ self.old.taken + width }
+        ensures limit { self.new.taken ≤ 2 ^ 52 }
+        // The intake is not called where enough bits wait.
+        ensures idle { width ≤ length self.old.waiting → self.new.intake ≡ self.old.intake }
+        ensures steps { meter.new + self.old.taken ≡ meter.old + self.new.taken }
+    {
+        if self.refusal.is_some() {
+            return 0;
+        }
+        let mut value = 0;
+        let mut left = width;
+        while left > 0 {
+            match self.take_some(left, meter) {
+                Ok((digits, count)) => {
+                    value = join(value, count, digits);
+                    left -= count;
+                }
+                Err(_) => return 0,
+            }
+        }
+        value as u32
+    }
+
+    /// Takes zeros up to and with the next 1, and answers how many zeros they were: the number of a fundamental sequence
+    /// (CCSDS 121.0-B-3, section 3, fundamental sequence). It ticks one for each bit taken.
+    ///
+    /// A refusal says why no 1 was there: [`BitFault`] tells each case.
+    #[inline]
+    pub fn take_fs(&mut self, meter: &mut Meter) -> Result<u64, BitFault>
+        requires meter { meter.old + (2 ^ 52 - self.old.taken) < 2 ^ 62 }
+        ensures ok { IfOk result (λ m. Takes I.left I.failed self.old self.new (fundamental_sequence m)) }
+        // A first refusal took all bits that were left, which were zeros.
+        ensures err { self.old.refusal ≡ None → IfErr result (λ f.
+            (m : ℕ) × Stops I.left I.failed self.old self.new (replicate m false) f) }
+        // A reader that has refused answers the same, and takes nothing.
+        ensures stopped { IfSome self.old.refusal (λ f. (result ≡ Err f) × (self.new ≡ self.old)) }
+        ensures taken { IfOk result (λ m. self.new.taken ≡ self.old.taken + m + 1) }
+        ensures most { self.new.taken ≤ 2 ^ 52 }
+        // The intake is not called where a 1 waits.
+        ensures idle { is_blank self.old.waiting ≡ false → self.new.intake ≡ self.old.intake }
+        ensures steps { meter.new + self.old.taken ≡ meter.old + self.new.taken }
+    {
+        if let Some(zeros) = self.take_fs_ready(meter) {
+            return Ok(zeros);
+        }
+        let zeros = self.take_fs_across(meter);
+        match self.refusal {
+            None => Ok(zeros),
+            Some(fault) => Err(fault),
+        }
+    }
+
+    /// Takes a fundamental sequence, where its 1 comes soon.
+    #[inline]
+    fn take_fs_ready(&mut self, meter: &mut Meter) -> Option<u64>
+        requires meter { meter.old + (2 ^ 52 - self.old.taken) < 2 ^ 62 }
+        ensures some { IfSome result (λ m. Takes I.left I.failed self.old self.new (fundamental_sequence m)) }
+        ensures going { IsSome result → self.old.refusal ≡ None }
+        ensures idle { self.new.intake ≡ self.old.intake }
+        ensures none { IfNone result ((self.new ≡ self.old) × (meter.new ≡ meter.old)) }
+        ensures steps { meter.new + self.old.taken ≡ meter.old + self.new.taken }
+        ensures limit { self.new.taken ≤ 2 ^ 52 }
+    {
+        let count = self.window.sequence_ahead()?;
+        // The meter first: behind its store the place is moved by one addition in memory.
+        meter.tick(count);
+        self.window.pass(count);
+        Some(count - 1)
+    }
+
+    /// Takes a fundamental sequence, and calls the intake where no 1 waits. Where that leaves a refusal, the answer says nothing.
+    #[inline(never)]
+    fn take_fs_across(&mut self, meter: &mut Meter) -> u64
+        requires meter { meter.old + (2 ^ 52 - self.old.taken) < 2 ^ 62 }
+        ensures ok { self.new.refusal ≡ None → Takes I.left I.failed self.old self.new (fundamental_sequence result) }
+        // A first refusal took all bits that were left, which were zeros.
+        ensures err { self.old.refusal ≡ None → IfSome self.new.refusal (λ f.
+            (m : ℕ) × Stops I.left I.failed self.old self.new (replicate m false) f) }
+        // A reader that has refused takes nothing.
+        ensures stopped { IsSome self.old.refusal → self.new ≡ self.old }
+        ensures taken { self.new.refusal ≡ None → self.new.taken ≡ self.old.taken + result + 1 }
+        ensures most { self.new.taken ≤ 2 ^ 52 }
+        // The intake is not called where a 1 waits.
+        ensures idle { is_blank self.old.waiting ≡ false → self.new.intake ≡ self.old.intake }
+        ensures steps { meter.new + self.old.taken ≡ meter.old + self.new.taken }
+    {
+        if self.refusal.is_some() {
+            return 0;
+        }
+        let mut zeros = 0;
+        loop {
+            match self.take_run(meter) {
+                Ok((count, true)) => return zeros + count,
+                Ok((count, false)) => zeros += count,
+                Err(_) => return 0,
+            }
+        }
+    }
+
+    /// Takes some zeros, or zeros and a 1, and answers the zeros' number and whether there was a 1.
+    fn take_run(&mut self, meter: &mut Meter) -> Result<(u64, bool), BitFault>
+        requires going { self.old.refusal ≡ None }
+        requires meter { meter.old + (2 ^ 52 - self.old.taken) < 2 ^ 62 }
+        ensures one { IfOk result (λ r. r.1 ≡ true → Takes I.left I.failed self.old self.new (fundamental_sequence r.0)) }
+        ensures zeros { IfOk result (λ r. r.1 ≡ false → (0 < r.0) × Takes I.left I.failed self.old self.new (replicate r.0 false)) }
+        ensures err { IfErr result (Stops I.left I.failed self.old self.new []) }
+        ensures idle { 0 < length self.old.waiting → self.new.intake ≡ self.old.intake }
+        ensures steps { meter.new + self.old.taken ≡ meter.old + self.new.taken }
+        ensures limit { self.new.taken ≤ 2 ^ 52 }
+    {
+        if let Err(refusal) = supply(&mut self.intake, &mut self.window, &mut self.blank_before) {
+            self.refusal = Some(refusal);
+            return Err(refusal);
+        }
+        if let Some(count) = self.window.sequence_ahead() {
+            meter.tick(count);
+            self.window.pass(count);
+            return Ok((count - 1, true));
+        }
+        let zeros = AHEAD.min(self.window.len()) as u64;
+        meter.tick(zeros);
+        self.window.pass(zeros);
+        Ok((zeros, false))
+    }
+
+    /// Takes words of `width` digits that wait together, at most one for each place of `words`, and writes them there. It answers how
+    /// many, which may be none, and ticks one for each bit. Places behind them stay.
+    ///
+    /// It never calls the intake, and so never refuses: where it takes none, [`take`](Self::take) takes the next.
+    #[inline]
+    pub fn take_waiting(&mut self, width: u32, words: &mut [u32], meter: &mut Meter) -> usize
+        requires going { self.old.refusal ≡ None }
+        requires width { width ≤ 32 }
+        requires meter { meter.old + (2 ^ 52 - self.old.taken) < 2 ^ 62 }
+        ensures within { result ≤ length words.new }
+        ensures fit { All (λ v. v < 2 ^ width) (take result words.new) }
+        ensures rest { drop result words.new ≡ drop result words.old }
+        ensures takes { Takes I.left I.failed self.old self.new (flat_map (word width) (take result words.new)) }
+        ensures idle { self.new.intake ≡ self.old.intake }
+        ensures steps { meter.new + self.old.taken ≡ meter.old + self.new.taken }
+        ensures limit { self.new.taken ≤ 2 ^ 52 }
+    {
+        let before = self.window.len();
+        let taken = self.window.take_words(width, words);
+        let left = self.window.len();
+        meter.tick((before - left) as u64);
+        taken
+    }
+
+    /// Takes fundamental sequences that wait together, at most one for each place of `zeros`, and writes the numbers of their zeros
+    /// there. It answers how many, which may be none, and ticks one for each bit. Places behind them stay.
+    ///
+    /// It never calls the intake, and so never refuses: where it takes none, [`take_fs`](Self::take_fs) takes the next.
+    #[inline]
+    pub fn take_waiting_fs(&mut self, zeros: &mut [u32], meter: &mut Meter) -> usize
+        requires going { self.old.refusal ≡ None }
+        requires meter { meter.old + (2 ^ 52 - self.old.taken) < 2 ^ 62 }
+        ensures within { result ≤ length zeros.new }
+        ensures fit { All (λ m. m < 64) (take result zeros.new) }
+        ensures rest { drop result zeros.new ≡ drop result zeros.old }
+        ensures takes { Takes I.left I.failed self.old self.new (flat_map fundamental_sequence (take result zeros.new)) }
+        ensures idle { self.new.intake ≡ self.old.intake }
+        ensures steps { meter.new + self.old.taken ≡ meter.old + self.new.taken }
+        ensures limit { self.new.taken ≤ 2 ^ 52 }
+    {
+        let before = self.window.len();
+        let taken = self.window.take_sequences(zeros);
+        meter.tick((before - self.window.len()) as u64);
+        taken
+    }
+
+    /// Takes the 0 to 7 bits up to the next multiple of 8 of [`taken`](Self::taken), whatever they are, and ticks one for each. These
+    /// are always there, and do not count towards `blank`.
+    pub fn align(&mut self, meter: &mut Meter)
+        requires meter { meter.old + bits_to_byte self.old.taken < 2 ^ 62 }
+        ensures bits { (bits : List Bool) × (length bits ≡ bits_to_byte self.old.taken) × (self.old.waiting ≡ bits ++ self.new.waiting) }
+        ensures rest { self.new ≡ record self.old { waiting = self.new.waiting; taken = self.old.taken + bits_to_byte self.old.taken } }
+        ensures steps { meter.new ≡ meter.old + bits_to_byte self.old.taken }
+    {
+        // The bits of the gap do not count: those before it are looked at now, and the mark passes it.
+        self.blank_before = self.window.is_blank(self.blank_before);
+        let gap = (self.window.len() % 8) as u64;
+        self.window.pass(gap);
+        self.window.mark();
+        meter.tick(gap);
+    }
+
+    /// Takes up to `most` digits, at least one, and answers them with their count.
+    fn take_some(&mut self, most: u32, meter: &mut Meter) -> Result<(u64, u32), BitFault>
+        requires going { self.old.refusal ≡ None }
+        requires some { 0 < most }
+        requires width { most ≤ 32 }
+        requires meter { meter.old + most < 2 ^ 62 }
+        ensures count { IfOk result (λ r. (0 < r.1) × (r.1 ≤ most) × (r.0 < 2 ^ r.1)) }
+        ensures ok { IfOk result (λ r. Takes I.left I.failed self.old self.new (word r.1 r.0)) }
+        ensures err { IfErr result (Stops I.left I.failed self.old self.new []) }
+        ensures idle { 0 < length self.old.waiting → self.new.intake ≡ self.old.intake }
+        ensures steps { meter.new + self.old.taken ≡ meter.old + self.new.taken }
+        ensures limit { self.new.taken ≤ 2 ^ 52 }
+    {
+        if let Err(fault) = supply(&mut self.intake, &mut self.window, &mut self.blank_before) {
+            self.refusal = Some(fault);
+            return Err(fault);
+        }
+        let count = most.min(self.window.len() as u32);
+        let digits = self.window.take_first(count);
+        meter.tick(count as u64);
+        Ok((digits, count))
+    }
+}

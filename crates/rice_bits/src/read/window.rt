@@ -1,0 +1,340 @@
+//! The bytes that were given last, and a place among their bits.
+ghost use Rattle.std.specs.Prelude.{◌≡◌, ℕ, ◌+◌, ◌-◌, ◌*◌, ◌/◌, ◌%◌, ◌^◌, ◌<◌, ◌≤◌, ◌&&◌, false, [], ◌++◌, min, replicate, flat_map, length, take, drop, All, IfSome, IfNone};
+ghost use Rattle.rice_bits.specs.Bits.{bits_of, fundamental_sequence, word};
+ghost use Rattle.rice_bits.specs.read.Reader.{is_blank};
+ghost use Rattle.rice_bits.specs.read.Window.{AreParted};
+
+use crate::bits::digits::{behind_front, digits_behind, four_words, front_digits};
+use crate::bits::octets::{load, store_zeros};
+
+/// How many bytes are asked for at a time.
+pub const PIECE: usize = 4096;
+
+/// Eight bytes more, so that eight can be loaded from each of them on.
+const ROOM: usize = PIECE + 8;
+
+/// So many bits are in the eight bytes from any bit on.
+pub const AHEAD: usize = 57;
+
+/// At most so many words are taken together.
+const WORDS: usize = 64;
+
+/// The bytes that were given last, and a place among their bits.
+#[derive(Drop)]
+pub struct Window {
+    /// The bytes, and eight zeros behind them.
+    pub buffer: [u8; ROOM],
+    /// The bits from here to `at` were taken since the mark, or since the bytes were given.
+    pub marked: usize,
+    /// How many bits of the bytes were taken.
+    pub at: usize,
+    /// How many bits the bytes have.
+    pub end: usize,
+    /// How many bytes were given in all.
+    pub given: u64,
+}
+
+impl Window {
+    ghost use Rattle.rice_bits.specs.read.Window.{IsWindow, Passes, bits_near, window_bits, window_passed, window_taken};
+
+    /// A window with no bits, of which none was taken.
+    pub fn new() -> Self
+        ensures window { IsWindow result }
+        ensures bits { window_bits result ≡ [] }
+        ensures passed { window_passed result ≡ [] }
+        ensures given { result.given ≡ 0 }
+    {
+        Window {
+            buffer: [0; ROOM],
+            marked: 0,
+            at: 0,
+            end: 0,
+            given: 0,
+        }
+    }
+
+    /// The first `count` bytes of the buffer wait from here on, and nothing else. Those that were taken are forgotten.
+    pub fn hold(&mut self, count: usize)
+        requires size { length self.old.buffer ≡ 4104 }
+        requires count { count ≤ 4096 }
+        requires limit { self.old.given + count ≤ 2 ^ 49 }
+        ensures window { IsWindow self.new }
+        ensures bits { window_bits self.new ≡ bits_of (take count self.old.buffer) }
+        ensures passed { window_passed self.new ≡ [] }
+        ensures taken { window_taken self.new ≡ 8 * self.old.given }
+    {
+        self.marked = 0;
+        self.at = 0;
+        self.end = 8 * count;
+        self.given += count as u64;
+        store_zeros(&mut self.buffer, count, 8);
+    }
+
+    /// How many bits wait.
+    #[inline]
+    pub fn len(&self) -> usize
+        requires { IsWindow self.now }
+        ensures value { result ≡ length (window_bits self.now) }
+        ensures piece { result ≤ 32768 }
+    {
+        self.end - self.at
+    }
+
+    /// How many bits were taken.
+    #[inline]
+    pub fn taken(&self) -> u64
+        requires { IsWindow self.now }
+        ensures { result ≡ window_taken self.now }
+    {
+        8 * self.given - (self.end - self.at) as u64
+    }
+
+    /// From here on no bit has been taken.
+    #[inline]
+    pub fn mark(&mut self)
+        requires window { IsWindow self.old }
+        ensures window { IsWindow self.new }
+        ensures bits { window_bits self.new ≡ window_bits self.old }
+        ensures passed { window_passed self.new ≡ [] }
+        ensures taken { window_taken self.new ≡ window_taken self.old }
+    {
+        self.marked = self.at;
+    }
+
+    /// Whether `before` is so, and no bit that was taken since the mark is a 1.
+    #[inline]
+    pub fn is_blank(&self, before: bool) -> bool
+        requires { IsWindow self.now }
+        ensures { result ≡ (before && is_blank (window_passed self.now)) }
+    {
+        before && self.has_passed_zeros()
+    }
+
+    /// Whether no bit that was taken since the mark is a 1.
+    fn has_passed_zeros(&self) -> bool
+        requires { IsWindow self.now }
+        ensures { result ≡ is_blank (window_passed self.now) }
+    {
+        let mut seen = self.marked;
+        while seen < self.at {
+            let count = AHEAD.min(self.at - seen);
+            if front_digits(bits_from(&self.buffer, seen), count as u32) != 0 {
+                return false;
+            }
+            seen += count;
+        }
+        true
+    }
+
+    /// The next bits at the front of a word, at least 57 of them if there are so many, and zeros behind them.
+    #[inline]
+    fn ahead(&self) -> u64
+        requires { IsWindow self.now }
+        ensures { word 64 result ≡ take (bits_near self.now) (window_bits self.now) ++ replicate (64 - bits_near self.now) false }
+    {
+        bits_from(&self.buffer, self.at)
+    }
+
+    /// Takes the first `width` bits, where more wait.
+    #[inline]
+    pub fn take_of_more(&mut self, width: u32) -> Option<u64>
+        requires window { IsWindow self.old }
+        requires width { width ≤ 32 }
+        ensures window { IsWindow self.new }
+        ensures some { IfSome result (λ v. (v < 2 ^ width) × Passes self.old self.new (word width v) × (0 < length (window_bits self.old))) }
+        ensures none { IfNone result (self.new ≡ self.old) }
+    {
+        let next = self.at + width as usize;
+        // A reader that has refused has no bits, and so gives no word of width 0 here.
+        if next >= self.end {
+            return None;
+        }
+        let number = number_from(&self.buffer, self.at, width);
+        self.at = next;
+        Some(number)
+    }
+
+    /// Takes the first `count` bits.
+    pub fn take_first(&mut self, count: u32) -> u64
+        requires window { IsWindow self.old }
+        requires few { count ≤ 32 }
+        requires there { count ≤ length (window_bits self.old) }
+        ensures window { IsWindow self.new }
+        ensures below { result < 2 ^ count }
+        ensures passes { Passes self.old self.new (word count result) }
+    {
+        let number = number_from(&self.buffer, self.at, count);
+        self.at += count as usize;
+        number
+    }
+
+    /// How many bits there are up to and with the first 1, where it comes soon.
+    #[inline]
+    pub fn sequence_ahead(&self) -> Option<u64>
+        requires { IsWindow self.now }
+        ensures some { IfSome result (λ n. (0 < n) × (n ≤ length (window_bits self.now)) × (take n (window_bits self.now) ≡ fundamental_sequence (n - 1))) }
+        ensures none { IfNone result (take (min 57 (length (window_bits self.now))) (window_bits self.now) ≡ replicate (min 57 (length (window_bits self.now))) false) }
+    {
+        // Behind one zero more, the zeros up to the 1 are as many as the bits up to and with it.
+        let behind_zero = self.ahead() >> 1;
+        if behind_zero == 0 {
+            return None;
+        }
+        Some(behind_zero.leading_zeros() as u64)
+    }
+
+    /// Takes the first `count` bits, whatever they are.
+    #[inline]
+    pub fn pass(&mut self, count: u64)
+        requires window { IsWindow self.old }
+        requires there { count ≤ length (window_bits self.old) }
+        ensures window { IsWindow self.new }
+        ensures passes { Passes self.old self.new (take count (window_bits self.old)) }
+    {
+        self.at += count as usize;
+    }
+
+    /// Takes words of `width` bits, one for each place of `words`, or none where fewer wait or there are more than 64 places, and answers
+    /// how many.
+    #[inline]
+    pub fn take_words(&mut self, width: u32, words: &mut [u32]) -> usize
+        requires window { IsWindow self.old }
+        requires width { width ≤ 32 }
+        ensures window { IsWindow self.new }
+        ensures within { result ≤ length words.new }
+        ensures fit { All (λ v. v < 2 ^ width) (take result words.new) }
+        ensures rest { drop result words.new ≡ drop result words.old }
+        ensures passes { Passes self.old self.new (flat_map (word width) (take result words.new)) }
+    {
+        if words.len() > WORDS || words.len() * width as usize > self.end - self.at {
+            return 0;
+        }
+        words_from(&self.buffer, self.at, width, words);
+        self.at += words.len() * width as usize;
+        words.len()
+    }
+
+    /// Takes fundamental sequences, as many as are in the bits ahead and `zeros` has places for, and answers how many.
+    #[inline]
+    pub fn take_sequences(&mut self, zeros: &mut [u32]) -> usize
+        requires window { IsWindow self.old }
+        ensures window { IsWindow self.new }
+        ensures within { result ≤ length zeros.new }
+        ensures fit { All (λ m. m < 64) (take result zeros.new) }
+        ensures rest { drop result zeros.new ≡ drop result zeros.old }
+        ensures passes { Passes self.old self.new (flat_map fundamental_sequence (take result zeros.new)) }
+    {
+        let parted = part_sequences(self.ahead(), zeros);
+        self.at += parted.zeros as usize + parted.taken;
+        parted.taken
+    }
+}
+
+/// The bits from number `at` on at the front of a word, 57 to 64 of them.
+#[inline]
+fn bits_from(bytes: &[u8], at: usize) -> u64
+    requires { at / 8 + 8 ≤ length bytes.now }
+    ensures { word 64 result ≡ take (64 - at % 8) (drop at (bits_of bytes.now)) ++ replicate (at % 8) false }
+{
+    load(bytes, at / 8) << (at % 8)
+}
+
+/// The number that the `width` bits from number `at` on spell.
+#[inline]
+fn number_from(bytes: &[u8], at: usize, width: u32) -> u64
+    requires width { width ≤ 32 }
+    requires room { at / 8 + 8 ≤ length bytes.now }
+    ensures below { result < 2 ^ width }
+    ensures bits { word width result ≡ take width (drop at (bits_of bytes.now)) }
+{
+    digits_behind(load(bytes, at / 8), (at % 8) as u32, width)
+}
+
+/// Writes the words of `width` bits from bit `at` on to all places of `words`.
+#[inline]
+fn words_from(bytes: &[u8], at: usize, width: u32, words: &mut [u32])
+    requires width { width ≤ 32 }
+    requires few { length words.old ≤ 64 }
+    requires within { at + length words.old * width ≤ 32768 }
+    requires room { 4104 ≤ length bytes.now }
+    ensures fit { All (λ v. v < 2 ^ width) words.new }
+    ensures bits { flat_map (word width) words.new ≡ take (length words.new * width) (drop at (bits_of bytes.now)) }
+{
+    if width < 1 || width > 8 {
+        return each_from(bytes, at, width, words);
+    }
+    let count = words.len() / 4 * 4;
+    let (fours, rest) = words.split_at_mut(count);
+    fours_from(bytes, at, width, fours);
+    each_from(bytes, at + count * width as usize, width, rest);
+}
+
+/// The same, four words at a time.
+#[inline]
+fn fours_from(bytes: &[u8], at: usize, width: u32, words: &mut [u32])
+    requires width { (1 ≤ width) × (width ≤ 8) }
+    requires fours { length words.old % 4 ≡ 0 }
+    requires few { length words.old ≤ 64 }
+    requires within { at + length words.old * width ≤ 32768 }
+    requires room { 4104 ≤ length bytes.now }
+    ensures fit { All (λ v. v < 2 ^ width) words.new }
+    ensures bits { flat_map (word width) words.new ≡ take (length words.new * width) (drop at (bits_of bytes.now)) }
+{
+    let mut at = at;
+    for i in 0..words.len() / 4 {
+        let front = bits_from(bytes, at);
+        let four = four_words(front_digits(front, 32) as u32, width);
+        four.copy_to_slice(&mut words[4 * i..]);
+        at += 4 * width as usize;
+    }
+}
+
+/// The same, one word at a time.
+#[inline]
+fn each_from(bytes: &[u8], at: usize, width: u32, words: &mut [u32])
+    requires width { width ≤ 32 }
+    requires few { length words.old ≤ 64 }
+    requires within { at + length words.old * width ≤ 32768 }
+    requires room { 4104 ≤ length bytes.now }
+    ensures fit { All (λ v. v < 2 ^ width) words.new }
+    ensures bits { flat_map (word width) words.new ≡ take (length words.new * width) (drop at (bits_of bytes.now)) }
+{
+    let mut at = at;
+    for i in 0..words.len() {
+        let number = number_from(bytes, at, width);
+        words[i] = number as u32;
+        at += width as usize;
+    }
+}
+
+/// How many fundamental sequences were taken from the front of a number, and how many zeros they have.
+#[derive(Clone, Copy)]
+struct Parted {
+    taken: usize,
+    zeros: u32,
+}
+
+/// Takes fundamental sequences from the front of a word, and writes the numbers of their zeros to the first places of `zeros`.
+#[inline]
+fn part_sequences(front: u64, zeros: &mut [u32]) -> Parted
+    ensures { (left : ℕ) × AreParted front zeros.old zeros.new left (result.zeros + result.taken) result.taken }
+{
+    let mut rest = front;
+    let mut passed = 0;
+    for taken in 0..zeros.len() {
+        if rest == 0 {
+            return Parted {
+                taken,
+                zeros: passed,
+            };
+        }
+        let run = rest.leading_zeros();
+        zeros[taken] = run;
+        rest = behind_front(rest, run);
+        passed += run;
+    }
+    Parted {
+        taken: zeros.len(),
+        zeros: passed,
+    }
+}

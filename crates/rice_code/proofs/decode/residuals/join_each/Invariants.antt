@@ -1,0 +1,12 @@
+use Rattle.std.proofs.Common.{◌≡◌, ◌<◌, take, drop, true, false}
+use Rattle.std.specs.Prelude.{All}
+use Rattle.rice_code.specs.decode.ReadSets.{joined_parts}
+use Rattle.rice_code.proofs.decode.residuals.join_each.Given as goal
+
+abbrev pub invariant-loop-i : goal.invariant-loop-i
+invariant-loop-i l = record {
+  done : take l.i l.lows ≡ take l.i (joined_parts l.k l.highs l.fn.lows);
+  rest : drop l.i l.lows ≡ drop l.i l.fn.lows;
+  below : l.all ≡ true → All (λ d. d < l.count) (take l.i (joined_parts l.k l.highs l.fn.lows));
+  not_below : l.all ≡ false → All (λ d. d < l.count) (joined_parts l.k l.highs l.fn.lows) → ⊥;
+}

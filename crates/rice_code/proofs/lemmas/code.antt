@@ -1,0 +1,12 @@
+-- The code: its blocks, coded data sets and their layout.
+pub mod BlockPlaces
+pub mod Filling
+pub mod GoingOn
+pub mod Layouts
+pub mod Ones
+pub mod ReadInOneWay
+pub mod SegmentLayouts
+pub mod SegmentPlaces
+pub mod Segments
+pub mod SoundBlocks
+pub mod WholeBlocks

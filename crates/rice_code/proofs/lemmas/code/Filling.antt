@@ -1,0 +1,111 @@
+-- Samples that repeat the last one make blocks of zeros.
+use Rattle.std.proofs.Common.{◌≡◌, ℕ, zero, suc, ◌+◌, ◌-◌, ◌*◌, ◌≤◌, ◌==◌, Bool, true, false, cond, List, [], ◌∷◌, ◌++◌, length, take, drop, replicate, refl, ap, arith, sym, ◌∙◌, ◌⊎◌, inl, inr, length-drop, Some, None, ℤ}
+use Rattle.std.specs.Prelude.{slice_index_or}
+use Rattle.std.specs.List.{list_all}
+use Rattle.std.proofs.lemmas.Bool.Decides.{nat_tests}
+use Rattle.std.proofs.lemmas.List.{take-append-le, drop-append-le, take-append-drop, take-replicate, drop-replicate}
+use Rattle.std.proofs.Math.Seq.{take-length}
+use Rattle.rice_samples.specs.Parameters.{Parameters, value_count, level}
+use Rattle.rice_samples.specs.Places.{is_reference, has_reference}
+use Rattle.rice_samples.specs.predict.Residuals.{rank_below, rank, residual, residuals, pattern, last_of}
+use Rattle.rice_samples.proofs.lemmas.setting.PlaceLemmas.{reference_begins}
+use Rattle.rice_code.specs.code.Blocks.{contents, blocks_from, zeros}
+use Rattle.rice_code.proofs.lemmas.meaning.Covers.{bool_cases, both, GoOn, EndsInZeros}
+
+pub last_append : (p : ℤ) (xs ys : List ℤ) → last_of p (xs ++ ys) ≡ last_of (last_of p xs) ys
+last_append p [] ys = refl
+last_append p (x ∷ xs) ys = last_append x xs ys
+
+pub last_replicate : (p : ℤ) (n : ℕ) → last_of p (replicate n p) ≡ p
+last_replicate p zero = refl
+last_replicate p (suc n) = last_replicate p n
+
+-- the last sample is that of what follows the first block
+last_behind : (p : ℤ) (n : ℕ) (xs : List ℤ) → last_of (last_of p (take n xs)) (drop n xs) ≡ last_of p xs
+last_behind p n xs = sym (last_append p (take n xs) (drop n xs)) ∙ ap (λ v. last_of p v) (take-append-drop n xs)
+
+-- the blocks of the first samples, and those behind them
+pub blocks_append : (s : Parameters) (b : ℕ) (p : ℤ) (m n : ℕ) (xs ys : List ℤ) → length xs ≡ s.block * m →
+    blocks_from s b p (m + n) (xs ++ ys) ≡ blocks_from s b p m xs ++ blocks_from s (b + m) (last_of p xs) n ys
+blocks_append s b p zero n [] ys e = let k : b + 0 ≡ b = omega arith in let z : 0 + n ≡ n = omega arith in λ i. blocks_from s (sym k i) p (z i) ys
+blocks_append s b p zero n (x ∷ xs) ys e = absurd (omega arith)
+blocks_append s b p (suc m) n xs ys e =
+    let le : s.block ≤ length xs = omega arith in
+    let len : length (drop s.block xs) ≡ s.block * m = omega (arith, length-drop s.block xs) in
+    let ih = blocks_append s (b + 1) (last_of p (take s.block xs)) m n (drop s.block xs) ys len in
+    let front = take-append-le s.block xs ys le in
+    let back = drop-append-le s.block xs ys le in
+    let z : suc m + n ≡ suc (m + n) = omega arith in
+    let k : b + 1 + m ≡ b + suc m = omega arith in
+    let last = last_behind p s.block xs in
+    ap (λ i. blocks_from s b p i (xs ++ ys)) z
+    ∙ ((λ i. contents s b p (front i) ∷ blocks_from s (b + 1) (last_of p (front i)) (m + n) (back i))
+    ∙ (ap (λ v. contents s b p (take s.block xs) ∷ v) ih
+    ∙ (λ i. blocks_from s b p (suc m) xs ++ blocks_from s (k i) (last i) n ys)))
+
+-- a sample that repeats the one before is predicted exactly, and without prediction it is zero where the one before is
+abbrev pub Repeats : Parameters → ℤ → Type 0
+Repeats s p = (s.preprocess ≡ true) ⊎ (pattern s p ≡ 0)
+
+same_rank : (count p : ℕ) → rank_below count p p ≡ 0
+same_rank count p = grind (arith, nat_tests)
+
+repeated : (s : Parameters) (i : ℕ) (p : ℤ) → Repeats s p → residual s i p p ≡ 0
+repeated s i p h =
+    elim (bool_cases s.preprocess) [
+      | inl e ↦ ap (λ v. cond v (cond (is_reference s i) 0 (rank s p p)) (pattern s p)) e ∙ predicted (is_reference s i)
+      | inr e ↦ ap (λ v. cond v (cond (is_reference s i) 0 (rank s p p)) (pattern s p)) e
+          ∙ elim h [ inl f ↦ absurd (let g : true ≡ false = sym f ∙ e in cc) | inr f ↦ f ]
+    ]
+  where
+    predicted : (v : Bool) → cond v 0 (rank s p p) ≡ 0
+    predicted true = refl
+    predicted false = same_rank (value_count s) (level s p)
+
+pub repeated_all : (s : Parameters) (i n : ℕ) (p : ℤ) → Repeats s p → residuals s i p (replicate n p) ≡ replicate n 0
+repeated_all s i zero p h = refl
+repeated_all s i (suc n) p h = let first = repeated s i p h in let rest = repeated_all s (i + 1) n p h in λ k. first k ∷ rest k
+
+repeated_block : (s : Parameters) (b : ℕ) (p : ℤ) → has_reference s b ≡ false → Repeats s p → contents s b p (replicate s.block p) ≡ zeros s None
+repeated_block s b p e h =
+    let r = ap (λ v. cond v (Some (pattern s (slice_index_or (replicate s.block p) 0 p))) None) e in
+    let d = repeated_all s (s.block * b) s.block p h in
+    λ i. record { reference = r i; residuals = d i }
+
+-- blocks of the same sample again and again
+pub repeated_blocks : (s : Parameters) (b : ℕ) (p : ℤ) (n : ℕ) → GoOn s b n → Repeats s p → blocks_from s b p n (replicate (s.block * n) p) ≡ replicate n (zeros s None)
+repeated_blocks s b p zero k h = refl
+repeated_blocks s b p (suc n) k h =
+    let j = s.block in
+    let front : take j (replicate (j * suc n) p) ≡ replicate j p = take-replicate j (j * suc n) p (omega arith) in
+    let less : j * suc n - j ≡ j * n = omega arith in
+    let back : drop j (replicate (j * suc n) p) ≡ replicate (j * n) p = drop-replicate j (j * suc n) p ∙ ap (λ m. replicate m p) less in
+    let none : has_reference s b ≡ false = elim (bool_cases (has_reference s b)) [ inl r ↦ absurd (let f : true ≡ false = sym (reference_begins s b r) ∙ k.0 in cc) | inr r ↦ r ] in
+    let first = repeated_block s b p none h in
+    let last = last_replicate p j in
+    let rest = repeated_blocks s (b + 1) p n k.1 h in
+    (λ i. contents s b p (front i) ∷ blocks_from s (b + 1) (last_of p (front i)) n (back i))
+    ∙ ((λ i. first i ∷ blocks_from s (b + 1) (last i) n (replicate (j * n) p)) ∙ ap (λ v. zeros s None ∷ v) rest)
+
+-- without prediction the last sample of a block of zeros is zero
+last_of_zeros : (s : Parameters) (i : ℕ) (p : ℤ) (xs : List ℤ) → s.preprocess ≡ false → 1 ≤ length xs → list_all (λ d. d == 0) (residuals s i p xs) ≡ true → pattern s (last_of p xs) ≡ 0
+last_of_zeros s i p [] e h k = absurd (omega arith)
+last_of_zeros s i p (x ∷ []) e h k = sym (ap (λ v. cond v (cond (is_reference s i) 0 (rank s p x)) (pattern s x)) e) ∙ is_none (residual s i p x) (both (residual s i p x == 0) true k).0
+  where
+    is_none : (d : ℕ) → (d == 0) ≡ true → d ≡ 0
+    is_none d e = grind (arith, nat_tests)
+last_of_zeros s i p (x ∷ y ∷ ys) e h k =
+    last_of_zeros s (i + 1) x (y ∷ ys) e (omega arith) (both (residual s i p x == 0) (list_all (λ d. d == 0) (residuals s (i + 1) x (y ∷ ys))) k).1
+
+pub last_repeats : (s : Parameters) (b : ℕ) (p : ℤ) (n : ℕ) (xs : List ℤ) → 1 ≤ s.block → length xs ≡ s.block * n → EndsInZeros (blocks_from s b p n xs) → Repeats s (last_of p xs)
+last_repeats s b p n xs j len h =
+    elim (bool_cases s.preprocess) [ inl e ↦ inl e | inr e ↦ inr (zero_pattern b p n xs e len h) ]
+  where
+    zero_pattern : (b : ℕ) (p : ℤ) (n : ℕ) (xs : List ℤ) → s.preprocess ≡ false → length xs ≡ s.block * n → EndsInZeros (blocks_from s b p n xs) → pattern s (last_of p xs) ≡ 0
+    zero_pattern b p zero xs e len h = absurd h
+    zero_pattern b p (suc zero) xs e len h =
+        let count : s.block ≡ length xs = omega arith in
+        let all : take s.block xs ≡ xs = ap (λ m. take m xs) count ∙ take-length xs in
+        last_of_zeros s (s.block * b) p xs e (omega arith) (sym (ap (λ v. list_all (λ d. d == 0) (residuals s (s.block * b) p v)) all) ∙ h)
+    zero_pattern b p (suc (suc n)) xs e len h =
+        sym (ap (λ v. pattern s v) (last_behind p s.block xs)) ∙ zero_pattern (b + 1) (last_of p (take s.block xs)) (suc n) (drop s.block xs) e (omega (arith, length-drop s.block xs)) h

@@ -1,0 +1,238 @@
+-- How coded data sets lie: without padding their texts are joined, what is laid is taken, and each interval has seven bits of padding at most.
+use Rattle.std.proofs.Common.{◌≡◌, ℕ, ◌+◌, ◌-◌, ◌*◌, ◌/◌, ◌%◌, ◌<◌, ◌≤◌, ◌==◌, min, Bool, true, false, cond, ◌&&◌, List, [], ◌∷◌, ◌++◌, length, replicate, refl, ap, arith, sym, ◌∙◌, inl, inr, append_assoc, append-nil, length-append}
+use Rattle.std.specs.Prelude.{flat_map, sum_by}
+use Rattle.std.proofs.lemmas.Bool.Decides.{nat_tests}
+use Rattle.std.proofs.lemmas.Bool.{cases_lt}
+use Rattle.std.proofs.lemmas.List.{length-replicate}
+use Rattle.std.proofs.lemmas.List.Sums.{sum_by-cons}
+use Rattle.std.proofs.lemmas.Nat.{le-div}
+use Rattle.std.proofs.Math.Nat.{div-add-mod, div-mul-le_self, mul-le-mul_left}
+use Rattle.rice_bits.specs.Bits.{bits_to_byte}
+use Rattle.rice_samples.specs.Parameters.{Parameters}
+use Rattle.rice_samples.specs.Places.{place, is_padded}
+use Rattle.rice_code.specs.code.CodedDataSets.{DataSet, NoCompression, SecondExtension, Split, ZeroBlocks, RemainderOfSegment, text}
+use Rattle.rice_code.specs.code.Forms.{blocks_in, blocks_in_all}
+use Rattle.rice_code.specs.code.Layout.{block_behind, padding, placed, laid, Lies}
+use Rattle.rice_code.proofs.lemmas.meaning.Covers.{bool_cases, both}
+
+-- without padding the texts are joined
+no_padding : (s : Parameters) (next bits : ℕ) → s.pad ≡ false → padding s next bits ≡ 0
+no_padding s next bits e = ap (λ v. cond (v && place s next == 0) (bits_to_byte bits) 0) e
+
+-- one coded data set, as it is sent
+abbrev pub sent_first : Parameters → ℕ → ℕ → ℕ → DataSet → List Bool
+sent_first s end b position d = placed s (min end (block_behind s b d)) position d
+
+pub laid_plain : (s : Parameters) (end b position : ℕ) (ds : List DataSet) → s.pad ≡ false → laid s end b position ds ≡ flat_map (text s) ds
+laid_plain s end b position [] e = refl
+laid_plain s end b position (d ∷ ds) e =
+    let n = no_padding s (min end (block_behind s b d)) (position + length (text s d)) e in
+    let first : sent_first s end b position d ≡ text s d = ap (λ m. text s d ++ replicate m false) n ∙ append-nil (text s d) in
+    let rest = laid_plain s end (block_behind s b d) (position + length (sent_first s end b position d)) ds e in
+    λ i. first i ++ rest i
+
+-- the blocks of the first of several coded data sets end no later than those of all
+pub ends_inside : (s : Parameters) (b : ℕ) (d : DataSet) (ds : List DataSet) → block_behind s b d + length (blocks_in_all s (block_behind s b d) ds) ≡ b + length (blocks_in_all s b (d ∷ ds))
+ends_inside s b d ds = omega (arith, length-append (blocks_in s b d) (blocks_in_all s (block_behind s b d) ds))
+
+-- where the blocks end makes no difference to coded data sets before that end
+pub laid_inside : (s : Parameters) (m n b position : ℕ) (ds : List DataSet) → b + length (blocks_in_all s b ds) ≤ m → b + length (blocks_in_all s b ds) ≤ n → laid s m b position ds ≡ laid s n b position ds
+laid_inside s m n b position [] h k = refl
+laid_inside s m n b position (d ∷ ds) h k =
+    let next = block_behind s b d in
+    let whole = ends_inside s b d ds in
+    let e : min m next ≡ min n next = omega arith in
+    let first = ap (λ v. placed s v position d) e in
+    let rest = laid_inside s m n next (position + length (sent_first s m b position d)) ds (omega arith) (omega arith) in
+    (λ i. sent_first s m b position d ++ rest i) ∙ (λ i. first i ++ laid s n next (position + length (first i)) ds)
+
+-- each of them begins before block `end`
+abbrev pub BeginBefore : Parameters → ℕ → ℕ → List DataSet → Type 0
+BeginBefore s end b [] = Unit {0}
+BeginBefore s end b (d ∷ ds) = (b < end) × BeginBefore s end (block_behind s b d) ds
+
+-- what is laid before the end is taken
+pub lies_inside : (s : Parameters) (end b position : ℕ) (ds : List DataSet) → b + length (blocks_in_all s b ds) ≤ end → Lies s b position ds (laid s end b position ds)
+lies_inside s end b position [] h = refl
+lies_inside s end b position (d ∷ ds) h =
+    let next = block_behind s b d in
+    let whole = ends_inside s b d ds in
+    let e : min end next ≡ next = omega arith in
+    let bits = position + length (text s d) in
+    let n = padding s (min end next) bits in
+    let zeros = replicate n false in
+    let rest = laid s end next (position + length (sent_first s end b position d)) ds in
+    (zeros, rest, length-replicate n false ∙ ap (λ v. padding s v bits) e, append_assoc (text s d) zeros rest, lies_inside s end next (position + length (sent_first s end b position d)) ds (omega arith))
+
+-- What is laid is taken with some zeros more, no more than fill the last byte.
+-- They are skipped behind a run that stands for more blocks than there are.
+pub lies_laid : (s : Parameters) (end b position : ℕ) (ds : List DataSet) → is_padded s end ≡ false → BeginBefore s end b ds →
+    (n : ℕ) × (n ≤ bits_to_byte (position + length (laid s end b position ds))) × Lies s b position ds (laid s end b position ds ++ replicate n false)
+lies_laid s end b position [] e h = (0, omega arith, refl)
+lies_laid s end b position (d ∷ []) e h =
+    let next = block_behind s b d in
+    let t = text s d in
+    let bits = position + length t in
+    let n = padding s (min end next) bits in
+    let zeros = replicate n false in
+    let len = length-append (t ++ zeros) [] in
+    let len' = length-append t zeros in
+    let size = length-replicate n false in
+    elim (cases_lt end next) [
+      | inr le ↦
+          let same : min end next ≡ next = omega arith in
+          let none : List Bool = [] in
+          (0, omega arith, (zeros, none, size ∙ ap (λ v. padding s v bits) same, append-nil (sent_first s end b position d ++ none) ∙ append_assoc t zeros none, refl))
+      | inl past ↦
+          let same : min end next ≡ end = omega arith in
+          let nothing : n ≡ 0 = ap (λ v. padding s v bits) same ∙ ap (λ v. cond v (bits_to_byte bits) 0) e in
+          let more = padding s next bits in
+          let front : (t ++ zeros) ++ [] ≡ t = append-nil (t ++ zeros) ∙ (ap (λ m. t ++ replicate m false) nothing ∙ append-nil t) in
+          let skipped = replicate more false in
+          let all = ap length front in
+          let bound = cond_below (is_padded s next) (bits_to_byte bits) in
+          let f = ap (λ m. bits_to_byte (position + m)) all in
+          (more, omega arith, (skipped, [], length-replicate more false, ap (λ v. v ++ skipped) front ∙ ap (λ v. t ++ v) (sym (append-nil skipped)), refl))
+    ]
+  where
+    cond_below : (v : Bool) (m : ℕ) → cond v m 0 ≤ m
+    cond_below true m = omega arith
+    cond_below false m = omega arith
+lies_laid s end b position (d ∷ c ∷ ds) e h =
+    let next = block_behind s b d in
+    let t = text s d in
+    let bits = position + length t in
+    let n = padding s (min end next) bits in
+    let zeros = replicate n false in
+    let at = position + length (sent_first s end b position d) in
+    let rest = laid s end next at (c ∷ ds) in
+    let ih = lies_laid s end next at (c ∷ ds) e h.1 in
+    let same : min end next ≡ next = omega (arith, h.1.0) in
+    let size : at + length rest ≡ position + length ((t ++ zeros) ++ rest) = omega (arith, length-append (t ++ zeros) rest) in
+    let f = ap (λ m. bits_to_byte m) size in (
+      ih.0,
+      omega (arith, ih.1),
+      (
+        zeros,
+        rest ++ replicate ih.0 false,
+        length-replicate n false ∙ ap (λ v. padding s v bits) same,
+        append_assoc (t ++ zeros) rest (replicate ih.0 false) ∙ append_assoc t zeros (rest ++ replicate ih.0 false),
+        ih.2,
+      ),
+    )
+
+-- what is laid behind other coded data sets
+pub laid_append : (s : Parameters) (end b position : ℕ) (ds es : List DataSet) →
+    laid s end b position (ds ++ es) ≡ laid s end b position ds ++ laid s end (b + length (blocks_in_all s b ds)) (position + length (laid s end b position ds)) es
+laid_append s end b position [] es = let e : b ≡ b + 0 = omega arith in let f : position ≡ position + 0 = omega arith in λ i. laid s end (e i) (f i) es
+laid_append s end b position (d ∷ ds) es =
+    let first = sent_first s end b position d in
+    let next = block_behind s b d in
+    let at = position + length first in
+    let rest = laid s end next at ds in
+    let ih = laid_append s end next at ds es in
+    let e = ends_inside s b d ds in
+    let f : at + length rest ≡ position + length (first ++ rest) = omega (arith, length-append first rest) in
+    ap (λ v. first ++ v) ih ∙ (sym (append_assoc first rest (laid s end (next + length (blocks_in_all s next ds)) (at + length rest) es)) ∙ (λ i. (first ++ rest) ++ laid s end (e i) (f i) es))
+
+-- a coded data set stands for a block at least
+pub some_block : (s : Parameters) (b : ℕ) (d : DataSet) → 1 ≤ length (blocks_in s b d)
+some_block s b (NoCompression c) = omega arith
+some_block s b (SecondExtension c) = omega arith
+some_block s b (Split k c) = omega arith
+some_block s b (ZeroBlocks r z) = omega arith
+some_block s b (RemainderOfSegment r) = omega arith
+
+-- blocks of which the last ends an interval
+end_passed : (b n r : ℕ) → 1 ≤ r → 1 ≤ n → (b + n) % r ≡ 0 → b / r + 1 ≤ (b + n) / r
+end_passed b n r h k e =
+    let p = div-add-mod b r in
+    let q = div-add-mod (b + n) r in
+    elim (cases_lt (b / r) ((b + n) / r)) [
+      | inl lt ↦ omega arith
+      | inr le ↦ let m : r * ((b + n) / r) ≤ r * (b / r) = mul-le-mul_left r le in absurd (omega arith)
+    ]
+
+no_end_passed : (b n r : ℕ) → 1 ≤ r → b / r ≤ (b + n) / r
+no_end_passed b n r h = le-div (b / r) (b + n) r h (let e = div-mul-le_self b r in omega arith)
+
+few_zeros : (n : ℕ) → bits_to_byte n ≤ 7
+few_zeros n = omega arith
+
+padding_bound : (s : Parameters) (end b bits : ℕ) (d : DataSet) → 1 ≤ s.interval → b < end → padding s (min end (block_behind s b d)) bits + 7 * (b / s.interval) ≤ 7 * (block_behind s b d / s.interval)
+padding_bound s end b bits d h lt =
+    let n = length (blocks_in s b d) in
+    let r = s.interval in
+    let next = min end (b + n) in
+    let k = next - b in
+    let some = some_block s b d in
+    let here : b + k ≡ next = omega arith in
+    let there : next + (b + n - next) ≡ b + n = omega arith in
+    let q = no_end_passed next (b + n - next) r h in
+    let q' = ap (λ m. m / r) there in
+    elim (bool_cases (is_padded s next)) [
+      | inl e ↦
+          let at_end : place s next ≡ 0 = same (place s next) (both s.pad (place s next == 0) e).1 in
+          let p = end_passed b k r h (omega arith) (ap (λ m. m % r) here ∙ at_end) in
+          let p' = ap (λ m. m / r) here in
+          let f : padding s next bits ≡ bits_to_byte bits = ap (λ v. cond v (bits_to_byte bits) 0) e in
+          sums _ _ _ _ f (few_zeros bits) (omega arith)
+      | inr e ↦
+          let p = no_end_passed b n r h in
+          let f : padding s next bits ≡ 0 = ap (λ v. cond v (bits_to_byte bits) 0) e in
+          omega arith
+    ]
+  where
+    same : (m : ℕ) → (m == 0) ≡ true → m ≡ 0
+    same m e = grind (arith, nat_tests)
+
+    sums : (p bits x y : ℕ) → p ≡ bits → bits ≤ 7 → x + 1 ≤ y → p + 7 * x ≤ 7 * y
+    sums p bits x y e h k = omega arith
+
+-- the bits of coded data sets, with at most seven for each end of an interval
+pub laid_bound : (s : Parameters) (end b position : ℕ) (ds : List DataSet) → 1 ≤ s.interval → BeginBefore s end b ds →
+    length (laid s end b position ds) + 7 * (b / s.interval) ≤ sum_by (λ d. length (text s d)) ds + 7 * ((b + length (blocks_in_all s b ds)) / s.interval)
+laid_bound s end b position [] h k = let e : b + 0 ≡ b = omega arith in let f = ap (λ n. n / s.interval) e in omega arith
+laid_bound s end b position (d ∷ ds) h k =
+    let first = sent_first s end b position d in
+    let next = block_behind s b d in
+    let bits = position + length (text s d) in
+    let n = padding s (min end next) bits in
+    let rest = laid s end next (position + length first) ds in
+    let ih = laid_bound s end next (position + length first) ds h k.1 in
+    let one = padding_bound s end b bits d h k.0 in
+    let len = length-append first rest in
+    let len' = length-append (text s d) (replicate n false) in
+    let zeros = length-replicate n false in
+    let sum = sum_by-cons (λ d. length (text s d)) d ds in
+    let f = ap (λ n. n / s.interval) (ends_inside s b d ds) in
+    sums _ _ _ _ _ _ _ _ _ _ _ len (len' ∙ ap (λ n. length (text s d) + n) zeros) sum one ih f
+  where
+    sums : (all first rest t p total more x y z w : ℕ) → all ≡ first + rest → first ≡ t + p → total ≡ t + more → p + 7 * x ≤ 7 * y → rest + 7 * y ≤ more + 7 * z → z ≡ w → all + 7 * x ≤ total + 7 * w
+    sums all first rest t p total more x y z w a b c d e f = omega arith
+
+-- of the position only its place in a byte matters
+same_to_byte : (m n : ℕ) → m % 8 ≡ n % 8 → bits_to_byte m ≡ bits_to_byte n
+same_to_byte m n e = omega arith
+
+same_place_behind : (m n k : ℕ) → m % 8 ≡ n % 8 → (m + k) % 8 ≡ (n + k) % 8
+same_place_behind m n k e = omega arith
+
+pub laid_at : (s : Parameters) (end b m n : ℕ) (ds : List DataSet) → m % 8 ≡ n % 8 → laid s end b m ds ≡ laid s end b n ds
+laid_at s end b m n [] e = refl
+laid_at s end b m n (d ∷ ds) e =
+    let t = length (text s d) in
+    let next = block_behind s b d in
+    let p = ap (λ v. cond (is_padded s (min end next)) v 0) (same_to_byte (m + t) (n + t) (same_place_behind m n t e)) in
+    let first : sent_first s end b m d ≡ sent_first s end b n d = ap (λ v. text s d ++ replicate v false) p in
+    let k = length (sent_first s end b m d) in
+    let rest = laid_at s end next (m + k) (n + k) ds (same_place_behind m n k e) in
+    (λ i. sent_first s end b m d ++ rest i) ∙ (λ i. first i ++ laid s end next (n + length (first i)) ds)
+
+pub lies_at : (s : Parameters) (b m n : ℕ) (ds : List DataSet) (bits : List Bool) → m % 8 ≡ n % 8 → Lies s b m ds bits → Lies s b n ds bits
+lies_at s b m n [] bits e h = h
+lies_at s b m n (d ∷ ds) bits e h =
+    let t = length (text s d) in
+    let p = ap (λ v. cond (is_padded s (block_behind s b d)) v 0) (same_to_byte (m + t) (n + t) (same_place_behind m n t e)) in
+    let k = length (text s d ++ h.0) in
+    (h.0, h.1, h.2 ∙ p, h.3, lies_at s (block_behind s b d) (m + k) (n + k) ds h.1 (same_place_behind m n k e) h.4)

@@ -1,0 +1,50 @@
+-- Every form contains a one.
+use Rattle.std.proofs.Common.{◌≡◌, ℕ, zero, suc, ◌+◌, ◌-◌, ◌*◌, ◌/◌, ◌%◌, ◌^◌, ◌<◌, ◌≤◌, ◌==◌, Bool, true, false, List, [], ◌∷◌, ◌++◌, replicate, refl, ap, arith, ◌∙◌, inl, inr}
+use Rattle.std.specs.Prelude.{Contains, flat_map}
+use Rattle.std.proofs.lemmas.Bool.Decides.{nat_tests}
+use Rattle.std.proofs.lemmas.List.Elements.{Contains-append_left, Contains-append_right, Contains-push}
+use Rattle.std.proofs.Math.Nat.{mod-eq_of_lt}
+use Rattle.rice_bits.specs.Bits.{word, fundamental_sequence}
+use Rattle.rice_bits.proofs.lemmas.bits.OneWay.{digit_split}
+use Rattle.rice_samples.specs.Parameters.{Parameters, IsLegal, id_len}
+use Rattle.rice_samples.specs.blocks.Pairs.{pair_codes}
+use Rattle.rice_code.specs.code.CodedDataSets.{DataSet, NoCompression, SecondExtension, Split, ZeroBlocks, RemainderOfSegment, text, coded, reference_text, run_number}
+use Rattle.rice_code.specs.code.Forms.{IsForm}
+use Rattle.rice_code.proofs.lemmas.meaning.Covers.{bool_cases}
+use Rattle.rice_code.proofs.lemmas.code.ReadInOneWay.{wide_id}
+
+-- the word of a number has a one, where its digits are not all zeros
+word_has_one : (w v : ℕ) → 1 ≤ v % 2 ^ w → Contains (word w v) true
+unfolding word
+word_has_one zero v h = absurd (omega arith)
+word_has_one (suc w) v h =
+    let digit = v / 2 ^ w % 2 == 1 in
+    elim (bool_cases digit) [
+      | inl e ↦ (0, omega arith, e)
+      | inr e ↦
+          let none : v / 2 ^ w % 2 ≡ 0 = not_one (v / 2 ^ w) e in
+          let less = digit_split w v ∙ ap (λ d. d * 2 ^ w + v % 2 ^ w) none in
+          Contains-append_right (digit ∷ []) (word w v) true (word_has_one w v (omega arith))
+    ]
+  where
+    not_one : (n : ℕ) → (n % 2 == 1) ≡ false → n % 2 ≡ 0
+    not_one n e = grind (arith, nat_tests)
+
+small_word_has_one : (w v : ℕ) → 1 ≤ v → v < 2 ^ w → (rest : List Bool) → Contains (word w v ++ rest) true
+small_word_has_one w v h lt rest = let e : v % 2 ^ w ≡ v = mod-eq_of_lt lt in Contains-append_left (word w v) rest true (word_has_one w v (omega arith))
+
+sequence_has_one : (s : Parameters) (front : List Bool) (m : ℕ) → Contains (word (id_len s) 0 ++ false ∷ (front ++ fundamental_sequence m)) true
+sequence_has_one s front m =
+    Contains-append_right (word (id_len s) 0) (false ∷ (front ++ fundamental_sequence m)) true
+    (Contains-append_right (false ∷ []) (front ++ fundamental_sequence m) true (Contains-append_right front (fundamental_sequence m) true (Contains-push (replicate m false) true)))
+
+pub forms_have_a_one : (s : Parameters) (b : ℕ) (d : DataSet) → IsLegal s → IsForm s b d → Contains (text s d) true
+forms_have_a_one s b (NoCompression c) legal h = let w = wide_id s in small_word_has_one (id_len s) (2 ^ id_len s - 1) (omega arith) (omega arith) (reference_text s c.reference ++ flat_map (word s.bits) (coded c))
+forms_have_a_one s b (SecondExtension c) legal h =
+    Contains-append_right (word (id_len s) 0) (true ∷ (reference_text s c.reference ++ flat_map fundamental_sequence (pair_codes c.residuals))) true (0, omega arith, refl)
+forms_have_a_one s b (Split k c) legal h =
+    let w = wide_id s in
+    let le : k ≤ 2 ^ id_len s - 3 = h.2 in
+    small_word_has_one (id_len s) (k + 1) (omega arith) (omega arith) (reference_text s c.reference ++ (flat_map (λ d. fundamental_sequence (d / 2 ^ k)) (coded c) ++ flat_map (word k) (coded c)))
+forms_have_a_one s b (ZeroBlocks r z) legal h = sequence_has_one s (reference_text s r) (run_number z)
+forms_have_a_one s b (RemainderOfSegment r) legal h = sequence_has_one s (reference_text s r) 4

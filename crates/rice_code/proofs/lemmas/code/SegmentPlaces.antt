@@ -1,0 +1,117 @@
+-- The places of the blocks of a segment, and of the segment behind it.
+use Rattle.std.proofs.Common.{◌≡◌, ℕ, zero, suc, ◌+◌, ◌-◌, ◌*◌, ◌/◌, ◌%◌, ◌<◌, ◌≤◌, ◌==◌, min, true, false, cond, ap, arith, sym, ◌∙◌, inl, inr}
+use Rattle.std.proofs.lemmas.Bool.{cases_lt}
+use Rattle.std.proofs.lemmas.Bool.Decides.{nat_tests}
+use Rattle.std.proofs.lemmas.Nat.{div-mul-add}
+use Rattle.std.proofs.Math.Nat.{div-add-mod, mod-lt, mod-eq_of_lt, mul-le-mul_left}
+use Rattle.rice_samples.specs.Parameters.{Parameters}
+use Rattle.rice_samples.specs.Places.{place, segment_start, begins_segment, blocks_left, is_padded, cut}
+use Rattle.rice_samples.proofs.lemmas.setting.PlaceLemmas.{next_place, some_left}
+use Rattle.rice_code.proofs.lemmas.meaning.Covers.{bool_cases, both}
+
+-- places go on inside a segment
+pub place_inside : (s : Parameters) (b q : ℕ) → 1 ≤ s.interval → q < blocks_left s b → place s (b + q) ≡ place s b + q
+place_inside s b zero h k = let e : b + 0 ≡ b = omega arith in ap (place s) e ∙ (omega arith)
+place_inside s b (suc q) h k =
+    let ih = place_inside s b q h (omega arith) in
+    let e : b + suc q ≡ b + q + 1 = omega arith in
+    let f = ap (place s) e in
+    elim (next_place s (b + q) h) [
+      | inl p ↦ omega (arith, f, ih, p.0)
+      | inr p ↦ absurd (omega (arith, ih, p.1, k))
+    ]
+
+-- a segment begins behind a whole one
+pub begins_next : (s : Parameters) (b : ℕ) → 1 ≤ s.interval → begins_segment s b ≡ true → begins_segment s (b + blocks_left s b) ≡ true
+begins_next s b h e =
+    let x = place s b in
+    let r = s.interval in
+    let left = some_left s b h in
+    let q = blocks_left s b - 1 in
+    let p = place_inside s b q h (omega arith) in
+    let n : b + q + 1 ≡ b + blocks_left s b = omega arith in
+    let lt = mod-lt b h in
+    let t : x ≡ 64 * (x / 64) = same x (64 * (x / 64)) e in
+    let l : blocks_left s b ≡ min 64 (r - x) = left_is x r t in
+    elim (next_place s (b + q) h) [
+      | inl f ↦ ap (begins_segment s) (sym n) ∙ (ap (λ y. y == 64 * (y / 64)) (up x r (place s (b + q)) (place s (b + q + 1)) (blocks_left s b) t l left.0 p f.0 f.1) ∙ whole (x / 64 + 1))
+      | inr f ↦ ap (begins_segment s) (sym n) ∙ ap (λ y. y == 64 * (y / 64)) f.0
+    ]
+  where
+    same : (x y : ℕ) → (x == y) ≡ true → x ≡ y
+    same x y e = grind (arith, nat_tests)
+
+    left_is : (x r : ℕ) → x ≡ 64 * (x / 64) → 64 * (x / 64) + min 64 (r - 64 * (x / 64)) - x ≡ min 64 (r - x)
+    left_is x r e = omega arith
+
+    up : (x r y z left : ℕ) → x ≡ 64 * (x / 64) → left ≡ min 64 (r - x) → 1 ≤ left → y ≡ x + (left - 1) → z ≡ y + 1 → y + 1 < r → z ≡ 64 * (x / 64 + 1)
+    up x r y z left e f g h k l = omega arith
+
+    whole : (n : ℕ) → (64 * n == 64 * (64 * n / 64)) ≡ true
+    whole n = grind (arith, nat_tests)
+
+-- the samples of whole segments
+pub cut_is : (s : Parameters) (b m n : ℕ) → 1 ≤ s.interval → 1 ≤ s.block → begins_segment s b ≡ true → m ≡ s.block * b + n → n < s.block * blocks_left s b → cut s m ≡ s.block * b
+cut_is s b m n h j e f k =
+    let q = n / s.block in
+    let d = div-add-mod n s.block in
+    let r = mod-lt n j in
+    let few : q < blocks_left s b = below q (n % s.block) s.block (blocks_left s b) n d k in
+    let at : m / s.block ≡ b + q = divided m n b s.block j f in
+    let p = place_inside s b q h few in
+    let t : place s b ≡ 64 * (place s b / 64) = same (place s b) (64 * (place s b / 64)) e in
+    let left = some_left s b h in
+    let back : b + q - (place s (b + q) - segment_start s (b + q)) ≡ b = offset b q (place s b) (place s (b + q)) p t (omega arith) in
+    ap (λ c. s.block * (c - (place s c - segment_start s c))) at ∙ ap (λ v. s.block * v) back
+  where
+    same : (x y : ℕ) → (x == y) ≡ true → x ≡ y
+    same x y e = grind (arith, nat_tests)
+
+    below : (q r j left n : ℕ) → j * q + r ≡ n → n < j * left → q < left
+    below q r j left n d k = elim (cases_lt q left) [
+      | inl lt ↦ lt
+      | inr le ↦ absurd (let f : j * left ≤ j * q = mul-le-mul_left j le in omega arith)
+    ]
+
+    divided : (m n b j : ℕ) → 1 ≤ j → m ≡ j * b + n → m / j ≡ b + n / j
+    divided m n b j h e =
+        let d = div-add-mod n j in
+        let f : m ≡ (b + n / j) * j + n % j = omega arith in
+        ap (λ v. v / j) f ∙ div-mul-add (b + n / j) j (n % j) (mod-lt n h)
+
+    offset : (b q x y : ℕ) → y ≡ x + q → x ≡ 64 * (x / 64) → q < 64 → b + q - (y - 64 * (y / 64)) ≡ b
+    offset b q x y e f k = omega arith
+
+-- inside a segment no interval begins
+pub none_padded : (s : Parameters) (b q : ℕ) → 1 ≤ s.interval → 1 ≤ q → q < blocks_left s b → is_padded s (b + q) ≡ false
+none_padded s b q h some k =
+    elim (bool_cases (is_padded s (b + q))) [
+      | inr e ↦ e
+      | inl e ↦ absurd (let first = same (place s (b + q)) (both s.pad (place s (b + q) == 0) e).1 in omega (arith, first, place_inside s b q h k))
+    ]
+  where
+    same : (m : ℕ) → (m == 0) ≡ true → m ≡ 0
+    same m e = grind (arith, nat_tests)
+
+-- the place behind a segment
+pub next_start_is : (s : Parameters) (b start : ℕ) → 1 ≤ s.interval → place s b ≡ start →
+    place s (b + blocks_left s b) ≡ (let next = start + blocks_left s start in cond (next == s.interval) 0 next)
+next_start_is s b start r e =
+    let left = some_left s b r in
+    let q = blocks_left s b - 1 in
+    let p = place_inside s b q r (omega arith) in
+    let n : b + q + 1 ≡ b + blocks_left s b = omega arith in
+    let m = ap (place s) n in
+    let lt : start < s.interval = omega (arith, e, mod-lt b r) in
+    let at : place s start ≡ place s b = mod-eq_of_lt lt ∙ sym e in
+    let l : blocks_left s start ≡ blocks_left s b = ap (λ p. 64 * (p / 64) + min 64 (s.interval - 64 * (p / 64)) - p) at in
+    elim (next_place s (b + q) r) [
+      | inl f ↦ sym m ∙ (stays (start + blocks_left s start) s.interval (place s (b + q + 1)) (omega (arith, f.0, f.1, p, l, e, left.0)) (omega (arith, f.0, f.1, p, l, e, left.0)))
+      | inr f ↦ sym m ∙ (f.0 ∙ zero_at (start + blocks_left s start) s.interval (omega (arith, f.1, p, l, e, left.0)))
+    ]
+  where
+    stays : (n r p : ℕ) → p ≡ n → n < r → p ≡ cond (n == r) 0 n
+    stays n r p e h = grind (arith, nat_tests)
+
+    zero_at : (n r : ℕ) → n ≡ r → 0 ≡ cond (n == r) 0 n
+    zero_at n r e = grind (arith, nat_tests)

@@ -1,0 +1,104 @@
+-- The blocks of legal samples are sound, and as many as they should be.
+use Rattle.std.proofs.Common.{◌≡◌, ℕ, zero, suc, ◌+◌, ◌-◌, ◌*◌, ◌/◌, ◌%◌, ◌<◌, ◌≤◌, min, Bool, true, false, cond, List, [], ◌∷◌, ◌++◌, length, take, drop, replicate, refl, ap, arith, ◌∙◌, inl, inr, length-append, Some, None, ℤ}
+use Rattle.std.specs.Prelude.{All, OnSome, slice_index}
+use Rattle.std.specs.List.{AllByRecursion}
+use Rattle.std.specs.Int.{next_multiple_of}
+use Rattle.std.proofs.lemmas.Bool.{cases_lt}
+use Rattle.std.proofs.lemmas.List.{length-take, length-drop, length-replicate}
+use Rattle.std.proofs.lemmas.List.Elements.{recursion_from_All, All-from_recursion}
+use Rattle.std.proofs.Math.Nat.{div-add-mod, mod-lt, mod-eq_of_lt, mod_self}
+use Rattle.rice_samples.specs.Parameters.{Parameters, IsLegal, IsSample, value_count}
+use Rattle.rice_samples.specs.Places.{has_reference, block_count}
+use Rattle.rice_samples.specs.predict.Residuals.{pattern, residuals, last_of, filled}
+use Rattle.rice_samples.proofs.lemmas.setting.Levels.{pattern_fits}
+use Rattle.rice_samples.proofs.lemmas.predict.ResidualLemmas.{length-residuals, residuals_fit, zero_at_reference}
+use Rattle.rice_code.specs.code.Blocks.{contents, blocks_from, blocks_behind}
+use Rattle.rice_code.specs.code.Code.{bits_behind}
+use Rattle.rice_code.specs.Bounds.{bit_bound}
+use Rattle.rice_code.specs.code.Forms.{IsReference}
+use Rattle.rice_code.specs.encode.HeldBlocks.{IsSoundBlock, AreSoundBlocks}
+use Rattle.rice_code.proofs.lemmas.cost.BlockBounds.{bounded}
+
+abbrev Samples : Parameters → List ℤ → Type 0
+Samples s xs = AllByRecursion (IsSample s) xs
+
+pub all_take : {X : Type 0} (P : X → Type 0) (n : ℕ) (xs : List X) → AllByRecursion P xs → AllByRecursion P (take n xs)
+all_take P zero xs h = tt
+all_take P (suc n) [] h = tt
+all_take P (suc n) (x ∷ xs) h = (h.0, all_take P n xs h.1)
+
+pub all_drop : {X : Type 0} (P : X → Type 0) (n : ℕ) (xs : List X) → AllByRecursion P xs → AllByRecursion P (drop n xs)
+all_drop P zero xs h = h
+all_drop P (suc n) [] h = tt
+all_drop P (suc n) (x ∷ xs) h = all_drop P n xs h.1
+
+pub all_replicate : {X : Type 0} (P : X → Type 0) (n : ℕ) (x : X) → P x → AllByRecursion P (replicate n x)
+all_replicate P zero x h = tt
+all_replicate P (suc n) x h = (h, all_replicate P n x h)
+
+pub all_append : {X : Type 0} (P : X → Type 0) (xs ys : List X) → AllByRecursion P xs → AllByRecursion P ys → AllByRecursion P (xs ++ ys)
+all_append P [] ys h k = k
+all_append P (x ∷ xs) ys h k = (h.0, all_append P xs ys h.1 k)
+
+pub last_legal : (s : Parameters) (p : ℤ) (xs : List ℤ) → IsSample s p → Samples s xs → IsSample s (last_of p xs)
+last_legal s p [] h k = h
+last_legal s p (x ∷ xs) h k = last_legal s x xs k.0 k.1
+
+is_reference : (s : Parameters) (b : ℕ) (h : Bool) (v : ℕ) → v < value_count s → h ≡ has_reference s b → IsReference s b (cond h (Some v) None)
+is_reference s b true v lt e = record { there = e; fits = lt }
+is_reference s b false v lt e = record { there = e; fits = tt }
+
+contents_sound : (s : Parameters) (b : ℕ) (p : ℤ) (xs : List ℤ) → IsLegal s → 1 ≤ s.block → IsSample s p → Samples s xs → length xs ≡ s.block → IsSoundBlock s b (contents s b p xs)
+contents_sound s b p [] legal j h k n = absurd (omega arith)
+contents_sound s b p (x ∷ xs) legal j h k n = record {
+  block = record { reference = is_reference s b (has_reference s b) (pattern s x) (pattern_fits s x legal.bits_from k.0) refl; len = length-residuals s (s.block * b) p (x ∷ xs) ∙ n };
+  at_reference = zero_there (has_reference s b) refl;
+  fit = All-from_recursion (λ d. d < value_count s) (residuals s (s.block * b) p (x ∷ xs)) (residuals_fit s (s.block * b) p (x ∷ xs) legal.bits_from h k);
+}
+  where
+    zero_there : (v : Bool) → has_reference s b ≡ v → OnSome (cond v (Some (pattern s x)) None) (slice_index (residuals s (s.block * b) p (x ∷ xs)) 0 ≡ 0)
+    zero_there true e = zero_at_reference s b p (x ∷ xs) j e
+    zero_there false e = tt
+
+pub blocks_sound : (s : Parameters) (b : ℕ) (p : ℤ) (n : ℕ) (xs : List ℤ) → IsLegal s → 1 ≤ s.block → IsSample s p → Samples s xs → length xs ≡ s.block * n → AreSoundBlocks s b (blocks_from s b p n xs)
+blocks_sound s b p zero xs legal j h k n = tt
+blocks_sound s b p (suc m) xs legal j h k n =
+    let front : length (take s.block xs) ≡ s.block = omega (arith, length-take s.block xs) in
+    let back : length (drop s.block xs) ≡ s.block * m = omega (arith, length-drop s.block xs) in
+    let ks = all_take (IsSample s) s.block xs k in (
+      contents_sound s b p (take s.block xs) legal j h ks front,
+      blocks_sound s (b + 1) (last_of p (take s.block xs)) m (drop s.block xs) legal j (last_legal s p (take s.block xs) h ks) (all_drop (IsSample s) s.block xs k) back,
+    )
+
+pub count_blocks : (s : Parameters) (b : ℕ) (p : ℤ) (n : ℕ) (xs : List ℤ) → length (blocks_from s b p n xs) ≡ n
+count_blocks s b p zero xs = refl
+count_blocks s b p (suc n) xs = ap (λ m. suc m) (count_blocks s (b + 1) (last_of p (take s.block xs)) n (drop s.block xs))
+
+-- filled up, the samples make whole blocks
+whole : (j n : ℕ) → 1 ≤ j → n + (n + (j - n % j) % j - n) ≡ j * (n / j + min 1 (n % j))
+whole j n h =
+    let e = div-add-mod n j in
+    elim (cases_lt 0 (n % j)) [
+      | inl some ↦ let f = mod-eq_of_lt (rest_below j n h some) in let g : min 1 (n % j) ≡ 1 = omega arith in let k = ap (λ v. j * (n / j + v)) g in let b = mod-lt n h in omega arith
+      | inr none ↦ let z : n % j ≡ 0 = omega arith in let same : j - 0 ≡ j = omega arith in let f = ap (λ v. (j - v) % j) z ∙ (ap (λ v. v % j) same ∙ mod_self j) in let k = ap (λ v. j * (n / j + min 1 v)) z in omega arith
+    ]
+  where
+    rest_below : (j n : ℕ) → 1 ≤ j → 0 < n % j → j - n % j < j
+    rest_below j n h k = omega arith
+
+pub filled_len : (s : Parameters) (p : ℤ) (xs : List ℤ) → 1 ≤ s.block → length (filled s p xs) ≡ s.block * block_count s (length xs)
+filled_len s p xs j = length-append xs _ ∙ (ap (λ n. length xs + n) (length-replicate (next_multiple_of (length xs) s.block - length xs) (last_of p xs)) ∙ whole s.block (length xs) j)
+
+pub blocks_sound_behind : (s : Parameters) (b : ℕ) (p : ℤ) (xs : List ℤ) → IsLegal s → 1 ≤ s.block → IsSample s p → Samples s xs → AreSoundBlocks s b (blocks_behind s b p xs)
+blocks_sound_behind s b p xs legal j h k =
+    blocks_sound s b p (block_count s (length xs)) (filled s p xs) legal j h (all_append (IsSample s) xs _ k (all_replicate (IsSample s) _ (last_of p xs) (last_legal s p xs h k))) (filled_len s p xs j)
+
+pub code_is_bounded : (s : Parameters) → IsLegal s → (b : ℕ) (p : ℤ) (xs : List ℤ) → IsSample s p → All (IsSample s) xs → bits_behind s b p xs ≤ bit_bound s (length xs)
+code_is_bounded s legal b p xs h k =
+    let j : 1 ≤ s.block = grind (arith, legal.block) in
+    let bound = bounded s b false (blocks_behind s b p xs) legal (blocks_sound_behind s b p xs legal j h (recursion_from_All (IsSample s) xs k)) in
+    let n = count_blocks s b p (block_count s (length xs)) (filled s p xs) in
+    at _ _ _ _ bound n
+  where
+    at : (x len count m : ℕ) → x + 0 * m ≤ len * m → len ≡ count → x ≤ count * m
+    at x len count m h e = let p = ap (λ v. v * m) e in omega arith

@@ -1,0 +1,19 @@
+-- Whole blocks are not filled.
+use Rattle.std.proofs.Common.{◌≡◌, ℕ, ◌-◌, ◌*◌, ◌/◌, ◌%◌, ◌≤◌, min, List, ◌++◌, length, replicate, ap, arith, ◌∙◌, append-nil, ℤ}
+use Rattle.std.specs.Int.{next_multiple_of}
+use Rattle.std.proofs.Math.Nat.{mul-mod_right, mul-div_cancel_left, mod_self}
+use Rattle.rice_samples.specs.Parameters.{Parameters}
+use Rattle.rice_samples.specs.Places.{block_count}
+use Rattle.rice_samples.specs.predict.Residuals.{last_of, filled}
+
+-- whole blocks are not filled
+pub not_filled : (s : Parameters) (q : ℕ) (p : ℤ) (xs : List ℤ) → 1 ≤ s.block → length xs ≡ s.block * q → (filled s p xs ≡ xs) × (block_count s (length xs) ≡ q)
+not_filled s q p xs h e =
+    let j = s.block in
+    let r : length xs % j ≡ 0 = ap (λ n. n % j) e ∙ mul-mod_right j q in
+    let d : length xs / j ≡ q = ap (λ n. n / j) e ∙ mul-div_cancel_left q h in
+    let same : j - 0 ≡ j = omega arith in
+    let f : (j - length xs % j) % j ≡ 0 = ap (λ v. (j - v) % j) r ∙ (ap (λ v. v % j) same ∙ mod_self j) in
+    let none : next_multiple_of (length xs) j - length xs ≡ 0 = omega arith in
+    let m = ap (λ v. min 1 v) r in
+    (ap (λ n. xs ++ replicate n (last_of p xs)) none ∙ append-nil xs, omega arith)

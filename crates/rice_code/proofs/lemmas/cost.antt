@@ -1,0 +1,7 @@
+-- How many bits and looks the options take.
+pub mod BlockBounds
+pub mod Costs
+pub mod LooksPaid
+pub mod PaddingBounds
+pub mod PairCosts
+pub mod Savings

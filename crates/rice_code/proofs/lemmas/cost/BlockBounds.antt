@@ -1,0 +1,134 @@
+-- Blocks cost no more bits than sent as they are.
+use Rattle.std.proofs.Common.{◌≡◌, ℕ, zero, suc, ◌+◌, ◌*◌, ◌<◌, ◌≤◌, Bool, true, false, cond, not, ◌&&◌, nat_lt, map, List, [], ◌∷◌, length, refl, ap, arith, sym, ◌∙◌, inl, inr, subst, Option, Some, None}
+use Rattle.std.specs.Prelude.{sum_by}
+use Rattle.std.specs.List.{best_of, range_with_len, AllByRecursion}
+use Rattle.std.proofs.lemmas.Bool.Decides.{nat_tests}
+use Rattle.std.proofs.lemmas.List.Sums.{sum_by-cons}
+use Rattle.std.proofs.Math.Nat.{mul-le-mul_left, mul-le-mul_right}
+use Rattle.rice_samples.specs.Parameters.{Parameters, IsLegal, id_len, k_max}
+use Rattle.rice_samples.specs.Places.{begins_segment}
+use Rattle.rice_code.specs.code.Blocks.{Contents, is_zero}
+use Rattle.rice_code.specs.code.CodedDataSets.{DataSet, NoCompression, Split, ZeroBlocks, RemainderOfSegment, text, cost, reference_len, run_number}
+use Rattle.rice_code.specs.code.Forms.{IsForm, IsReference}
+use Rattle.rice_code.specs.code.Choice.{shortest, other_options}
+use Rattle.rice_code.specs.encode.HeldBlocks.{IsSoundBlock, AreSoundBlocks}
+use Rattle.rice_code.specs.code.Code.{data_sets}
+use Rattle.rice_code.specs.code.Runs.{zero_run, run_len}
+use Rattle.rice_code.proofs.lemmas.meaning.Covers.{bool_cases, skipped, data_sets_plain, data_sets_start, data_sets_inside, skipped_nil, skipped_plain, skipped_go, skipped_stop, zero_run_is, best_keeps, run_cons}
+use Rattle.rice_code.proofs.lemmas.cost.Costs.{cost_is_length}
+
+-- one that costs no more than the first wins
+best_costs : (f : DataSet → ℕ) (a : DataSet) (xs : List DataSet) → f (best_of (λ x y. nat_lt (f x) (f y)) a xs) ≤ f a
+best_costs f a [] = omega arith
+best_costs f a (x ∷ xs) =
+    elim (bool_cases (nat_lt (f x) (f a))) [
+      | inl e ↦ subst (λ (v : Bool). f (best_of (λ x y. nat_lt (f x) (f y)) (cond v x a) xs) ≤ f a) (sym e) (let h = best_costs f x xs in let lt : f x < f a = below (f x) (f a) e in omega arith)
+      | inr e ↦ subst (λ (v : Bool). f (best_of (λ x y. nat_lt (f x) (f y)) (cond v x a) xs) ≤ f a) (sym e) (best_costs f a xs)
+    ]
+  where
+    below : (m n : ℕ) → nat_lt m n ≡ true → m < n
+    below m n e = grind (arith, nat_tests)
+
+-- the option that is chosen is a form
+pub shortest_is_form : (s : Parameters) (b : ℕ) (c : Contents) → IsSoundBlock s b c → IsForm s b (shortest s c)
+shortest_is_form s b c h =
+    best_keeps (IsForm s b) (λ x y. nat_lt (cost s x) (cost s y)) (NoCompression c) (other_options s c) (h.block, h.at_reference, h.fit) (h.block, splits 0 (k_max s + 1) (omega arith))
+  where
+    splits : (from n : ℕ) → from + n ≤ k_max s + 1 → AllByRecursion (IsForm s b) (map (λ k. Split k c) (range_with_len from n))
+    splits from zero le = tt
+    splits from (suc n) le = ((h.block, h.at_reference, omega arith), splits (from + 1) n (omega arith))
+
+-- a block of J samples of n bits and an identifier
+abbrev pub block_bits : Parameters → ℕ
+block_bits s = id_len s + s.block * s.bits
+
+pub shortest_bound : (s : Parameters) (b : ℕ) (c : Contents) → 1 ≤ s.block → IsSoundBlock s b c → length (text s (shortest s c)) ≤ block_bits s
+shortest_bound s b c j h =
+    let e = cost_is_length s b (shortest s c) j (shortest_is_form s b c h) in
+    let f = best_costs (cost s) (NoCompression c) (other_options s c) in
+    let g = ap (λ n. id_len s + n * s.bits) h.block.len in
+    omega arith
+
+-- a run of z blocks costs at most as much as z blocks
+run_cost : (i j n w number : ℕ) → 8 ≤ j → 1 ≤ n → 3 ≤ i → number ≤ w + 5 → (w ≡ 0 → number ≡ 0) → i + 1 + n + number + 1 ≤ suc w * (i + j * n)
+run_cost i j n zero number h k p m o = let z = o refl in let q = mul-le-mul_right n h in omega arith
+run_cost i j n (suc w) number h k p m o =
+    let q : 8 * n ≤ j * n = mul-le-mul_right n h in
+    let big : 11 ≤ i + j * n = omega arith in
+    let r : suc w * 11 ≤ suc w * (i + j * n) = mul-le-mul_left (suc w) big in
+    omega arith
+
+reference_bound : (s : Parameters) (r : Option ℕ) → reference_len s r ≤ s.bits
+reference_bound s None = omega arith
+reference_bound s (Some v) = omega arith
+
+-- the number of a run's codeword
+number_bound : (w : ℕ) → (run_number (suc w) ≤ w + 5) × (w ≡ 0 → run_number (suc w) ≡ 0)
+number_bound w = (grind (arith, nat_tests), λ e. ap (λ v. run_number (suc v)) e)
+
+pub run_bound : (s : Parameters) (b w : ℕ) (r : Option ℕ) (cs : List Contents) → IsLegal s → IsReference s b r → run_len s b cs ≡ suc w → length (text s (zero_run s b r cs)) ≤ suc w * block_bits s
+run_bound s b w r cs legal h e =
+    let j : 8 ≤ s.block = grind (arith, legal.block) in
+    let i : 3 ≤ id_len s = grind (arith, nat_tests) in
+    let ref = reference_bound s r in
+    let j' : 1 ≤ s.block = omega arith in
+    elim (zero_run_is s b r cs) [
+      | inl f ↦
+          let number = number_bound w in
+          let c = run_cost (id_len s) s.block s.bits w (run_number (suc w)) j legal.bits_from i number.0 number.1 in
+          let len = cost_is_length s b (ZeroBlocks r (suc w)) j' (h, omega arith) in
+          subst (λ (d : DataSet). length (text s d) ≤ suc w * block_bits s) (sym (f ∙ ap (λ z. ZeroBlocks r z) e)) (omega arith)
+      | inr f ↦
+          let z : 5 ≤ suc w = omega (arith, f.2) in
+          let c = run_cost (id_len s) s.block s.bits w 4 j legal.bits_from i (omega arith) (λ e. absurd (omega arith)) in
+          let len = cost_is_length s b (RemainderOfSegment r) j' h in
+          subst (λ (d : DataSet). length (text s d) ≤ suc w * block_bits s) (sym f.0) (omega arith)
+    ]
+
+-- the bits of coded data sets without padding
+abbrev pub text_bits : Parameters → List DataSet → ℕ
+text_bits s ds = sum_by (λ d. length (text s d)) ds
+
+text_bits_cons : (s : Parameters) (d : DataSet) (ds : List DataSet) → text_bits s (d ∷ ds) ≡ length (text s d) + text_bits s ds
+text_bits_cons s d ds = sum_by-cons (λ d. length (text s d)) d ds
+
+-- the code of blocks, where those that are skipped have been paid for
+pub bounded : (s : Parameters) (b : ℕ) (behind : Bool) (cs : List Contents) → IsLegal s → AreSoundBlocks s b cs →
+    text_bits s (data_sets s b behind cs) + skipped s b behind cs * block_bits s ≤ length cs * block_bits s
+bounded s b behind [] legal k = let e = skipped_nil s b behind in let f = ap (λ n. n * block_bits s) e in omega arith
+bounded s b behind (c ∷ cs) legal k =
+    let m = block_bits s in
+    let at = λ (n : ℕ) (ds : List DataSet) (e : skipped s b behind (c ∷ cs) ≡ n) (f : data_sets s b behind (c ∷ cs) ≡ ds) (g : text_bits s ds + n * m ≤ suc (length cs) * m).
+    let p = ap (λ n. n * m) e in let q = ap (λ ds. text_bits s ds) f in goal_from _ _ _ _ _ p q g in
+    let j : 1 ≤ s.block = grind (arith, legal.block) in
+    elim (bool_cases (is_zero c)) [
+      | inr z ↦
+          let ih = bounded s (b + 1) false cs legal k.1 in
+          let rest = data_sets s (b + 1) false cs in
+          let one = shortest_bound s b c j k.0 in
+          let two = text_bits_cons s (shortest s c) rest in
+          at 0 (shortest s c ∷ rest) (skipped_plain s b behind c cs legal.interval_from z) (data_sets_plain s b behind c cs z) (sums_plain _ _ _ _ m one two ih)
+      | inl z ↦
+          let ih = bounded s (b + 1) true cs legal k.1 in
+          let w = skipped s (b + 1) true cs in
+          let rest = data_sets s (b + 1) true cs in
+          elim (bool_cases (behind && not (begins_segment s b))) [
+            | inl go ↦ at (suc w) rest (skipped_go s b behind c cs legal.interval_from z go) (data_sets_inside s b behind c cs z go) (sums_inside _ w _ m ih)
+            | inr stop ↦
+                let one = run_bound s b w c.reference (c ∷ cs) legal k.0.block.reference (run_cons s b c cs legal.interval_from z) in
+                let two = text_bits_cons s (zero_run s b c.reference (c ∷ cs)) rest in
+                at 0 (zero_run s b c.reference (c ∷ cs) ∷ rest) (skipped_stop s b behind (c ∷ cs) stop) (data_sets_start s b behind c cs z stop) (sums_start _ _ _ w _ m one two ih)
+          ]
+    ]
+  where
+    goal_from : (x y x' y' n : ℕ) → y ≡ y' → x ≡ x' → x' + y' ≤ n → x + y ≤ n
+    goal_from x y x' y' n p q g = omega arith
+
+    sums_plain : (x y t len m : ℕ) → t ≤ m → x ≡ t + y → y + 0 * m ≤ len * m → x + 0 * m ≤ suc len * m
+    sums_plain x y t len m h e ih = omega arith
+
+    sums_inside : (y w len m : ℕ) → y + w * m ≤ len * m → y + suc w * m ≤ suc len * m
+    sums_inside y w len m ih = omega arith
+
+    sums_start : (x y t w len m : ℕ) → t ≤ suc w * m → x ≡ t + y → y + w * m ≤ len * m → x + 0 * m ≤ suc len * m
+    sums_start x y t w len m h e ih = omega arith

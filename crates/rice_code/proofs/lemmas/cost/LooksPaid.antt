@@ -1,0 +1,270 @@
+-- The best split is no larger than the bits of a sample, and costs less than J bits for each of its digits.
+use Rattle.std.proofs.Common.{◌≡◌, ℕ, zero, suc, ◌+◌, ◌*◌, ◌/◌, ◌^◌, ◌<◌, ◌≤◌, Bool, true, false, cond, nat_lt, map, min, List, [], ◌∷◌, length, ap, arith, inl, inr, Option, None, Some, ◌∙◌, ◌++◌, ℤ, pos}
+use Rattle.std.specs.Prelude.{sum_by, All}
+use Rattle.std.specs.List.{AllByRecursion, range_with_len}
+use Rattle.std.proofs.lemmas.Bool.{cases_lt}
+use Rattle.std.proofs.lemmas.List.Sums.{sum_by-cons, sum_by-append}
+use Rattle.std.proofs.lemmas.List.Elements.{recursion_from_All}
+use Rattle.std.proofs.Math.Nat.{mul-le-mul_left, div-eq_of_lt}
+use Rattle.rice_samples.specs.Parameters.{Parameters, IsLegal, IsSample, id_len, k_max}
+use Rattle.rice_samples.specs.Places.{begins_segment, block_count}
+use Rattle.rice_samples.specs.predict.Residuals.{last_of, filled}
+use Rattle.rice_samples.proofs.lemmas.setting.Levels.{zero_is_sample}
+use Rattle.rice_samples.specs.blocks.Pairs.{pair_code, pair_codes}
+use Rattle.rice_code.specs.code.Blocks.{Contents, blocks_behind, is_zero}
+use Rattle.rice_code.specs.Bounds.{step_bound, amortised_step_bound}
+use Rattle.rice_code.specs.code.CodedDataSets.{DataSet, NoCompression, SecondExtension, Split, text, cost, coded, coded_from, reference_len}
+use Rattle.rice_code.specs.code.Code.{data_sets, data_set_at, bits_behind, code_bits}
+use Rattle.rice_code.specs.encode.HeldBlocks.{IsSound, AreSoundBlocks}
+use Rattle.rice_code.specs.Steps.{most_looks, most_looks_at, most_steps}
+use Rattle.rice_code.proofs.lemmas.meaning.Covers.{best_keeps, bool_cases, data_sets_plain}
+use Rattle.rice_code.specs.code.Choice.{IsBestSplit, best_split, shortest, other_options}
+use Rattle.rice_samples.proofs.lemmas.blocks.Halves.{cut_sum, sum_halves}
+use Rattle.rice_code.proofs.lemmas.cost.Savings.{coded_sum, best_where_it_stops, best_where_it_ends, first_more}
+use Rattle.rice_code.proofs.lemmas.encode.SearchLemmas.{best_split_is}
+use Rattle.rice_code.proofs.lemmas.encode.SegmentSteps.{most_of_one, looks_zero, sound_of, shortest_len}
+use Rattle.rice_code.proofs.lemmas.encode.PushedCode.{blocks_go_on}
+use Rattle.rice_code.proofs.lemmas.code.SoundBlocks.{blocks_sound_behind, count_blocks, last_legal, code_is_bounded}
+use Rattle.rice_code.proofs.lemmas.code.GoingOn.{bits_go_on}
+
+none_above : (n : ℕ) (ds : List ℕ) → AllByRecursion (λ d. d < 2 ^ n) ds → cut_sum ds n ≡ 0
+none_above n [] h = omega arith
+none_above n (d ∷ ds) h =
+    let a = sum_by-cons (λ d. d / 2 ^ n) d ds in
+    let b : d / 2 ^ n ≡ 0 = div-eq_of_lt h.0 in
+    omega (arith, a, b, none_above n ds h.1)
+
+coded_fit : (n : ℕ) (r : Option ℕ) (ds : List ℕ) → AllByRecursion (λ d. d < 2 ^ n) ds → AllByRecursion (λ d. d < 2 ^ n) (coded_from r ds)
+coded_fit n None ds h = h
+coded_fit n (Some v) [] h = tt
+coded_fit n (Some v) (d ∷ ds) h = h.1
+
+-- the best split is at most n
+pub best_within : (s : Parameters) (c : Contents) (k : ℕ) → IsSound s c → IsBestSplit s c k → k ≤ s.bits
+best_within s c k h b =
+    elim (cases_lt s.bits k) [
+      | inr le ↦ le
+      | inl lt ↦
+          let z = none_above s.bits (coded c) (coded_fit s.bits c.reference c.residuals (recursion_from_All (λ d. d < 2 ^ s.bits) c.residuals h.fit)) in
+          let f = b.first s.bits lt in
+          let m : length (coded c) * (s.bits + 1) ≤ length (coded c) * (k + 1) = mul-le-mul_left (length (coded c)) (omega arith) in
+          absurd (omega (arith, z, f, m))
+    ]
+
+coded_count : (r : Option ℕ) (ds : List ℕ) (n : ℕ) (s : Parameters) → 1 ≤ length ds → n ≤ s.bits → length ds * n ≤ reference_len s r + length (coded_from r ds) * (n + 1)
+coded_count None ds n s h k = omega arith
+coded_count (Some v) [] n s h k = absurd (omega arith)
+coded_count (Some v) (d ∷ ds) n s h k = omega arith
+
+pub split_pays : (s : Parameters) (c : Contents) (k : ℕ) → 1 ≤ s.block → IsSound s c → IsBestSplit s c k → s.block * k ≤ cost s (Split k c)
+split_pays s c k j h b =
+    let e = coded_count c.reference c.residuals k s (omega (arith, h.len, j)) (best_within s c k h b) in
+    let f = ap (λ n. n * k) h.len in
+    omega (arith, e, f)
+
+pub plain_pays : (s : Parameters) (c : Contents) (k : ℕ) → IsSound s c → IsBestSplit s c k → s.block * k ≤ cost s (NoCompression c)
+plain_pays s c k h b =
+    let e : s.block * k ≤ s.block * s.bits = mul-le-mul_left s.block (best_within s c k h b) in
+    let f = ap (λ n. n * s.bits) h.len in
+    omega (arith, e, f)
+
+-- a sum is at least its sum without k digits, doubled for each digit
+grows : (ds : List ℕ) (k : ℕ) → suc k * cut_sum ds k ≤ cut_sum ds 0
+grows ds zero = omega arith
+grows ds (suc k) =
+    let ih = grows ds k in
+    let e : suc k ≡ k + 1 = omega arith in
+    let g = ap (cut_sum ds) e in
+    let h = sum_halves ds k in
+    step (cut_sum ds 0) (cut_sum ds k) (cut_sum ds (suc k)) k ih (omega (arith, g, h))
+  where
+    step : (a x y k : ℕ) → suc k * x ≤ a → y + y ≤ x → suc (suc k) * y ≤ a
+    step a x y k h e =
+        let p : suc k * (y + y) ≤ suc k * x = mul-le-mul_left (suc k) e in
+        omega (arith, p, h)
+
+pair_covers : (a b : ℕ) → a + b ≤ pair_code a b
+pair_covers a b = at (a + b) b
+  where
+    at : (s b : ℕ) → s ≤ s * (s + 1) / 2 + b
+    at zero b = omega arith
+    at (suc s) b =
+        let p : suc s * 2 ≤ suc s * (suc s + 1) = mul-le-mul_left (suc s) (omega arith) in
+        omega (arith, p)
+
+pairs_cover : (half : ℕ) (ds : List ℕ) → length ds ≡ half + half → cut_sum ds 0 ≤ sum_by (λ g. g + 1) (pair_codes ds)
+pairs_cover zero [] h = omega arith
+pairs_cover zero (d ∷ ds) h = absurd (omega arith)
+pairs_cover (suc half) [] h = absurd (omega arith)
+pairs_cover (suc half) (d ∷ []) h = absurd (omega arith)
+pairs_cover (suc half) (a ∷ b ∷ ds) h =
+    let ih = pairs_cover half ds (omega arith) in
+    let x = sum_by-cons (λ d. d / 2 ^ 0) a (b ∷ ds) in
+    let y = sum_by-cons (λ d. d / 2 ^ 0) b ds in
+    let z = sum_by-cons (λ g. g + 1) (pair_code a b) (pair_codes ds) in
+    let c = pair_covers a b in
+    omega (arith, ih, x, y, z, c)
+
+coded_most : (r : Option ℕ) (ds : List ℕ) → length ds ≤ length (coded_from r ds) + 1
+coded_most None ds = omega arith
+coded_most (Some v) [] = omega arith
+coded_most (Some v) (d ∷ ds) = omega arith
+
+pub second_pays : (s : Parameters) (c : Contents) (k half : ℕ) → s.block ≡ half + half → IsSound s c → IsBestSplit s c k → s.block * k ≤ cost s (SecondExtension c)
+second_pays s c zero half e h b = omega arith
+second_pays s c (suc k) half e h b =
+    let l = length (coded c) in
+    let first = b.first k (omega arith) in
+    let g : k + 1 ≡ suc k = omega arith in
+    let at = ap (cut_sum (coded c)) g in
+    let more : l + 1 ≤ cut_sum (coded c) k = larger l k (id_len s + reference_len s c.reference) (cut_sum (coded c) k) (cut_sum (coded c) (suc k)) first in
+    let p : suc k * (l + 1) ≤ suc k * cut_sum (coded c) k = mul-le-mul_left (suc k) more in
+    let q = grows (coded c) k in
+    let same = coded_sum c.reference c.residuals 0 h.zero in
+    let pairs = pairs_cover half c.residuals (omega (arith, h.len, e)) in
+    let most = coded_most c.reference c.residuals in
+    let j : s.block ≤ l + 1 = omega (arith, most, h.len) in
+    let m : suc k * s.block ≤ suc k * (l + 1) = mul-le-mul_left (suc k) j in
+    let t : s.block * suc k ≡ suc k * s.block = omega arith in
+    omega (arith, p, q, same, pairs, m, t)
+  where
+    larger : (l k base x y : ℕ) → base + l * (suc k + 1) + y < base + l * (k + 1) + x → l + 1 ≤ x
+    larger l k base x y h = omega arith
+
+best_from : (s : Parameters) (c : Contents) (fuel k : ℕ) → k + fuel ≡ k_max s → ((j : ℕ) → j < k → cost s (Split k c) < cost s (Split j c)) → (m : ℕ) × IsBestSplit s c m
+best_from s c zero k e first = (k, best_where_it_ends s c k (omega arith) first)
+best_from s c (suc fuel) k e first =
+    let next = λ (lt : cost s (Split (k + 1) c) < cost s (Split k c)). best_from s c fuel (k + 1) (omega arith) (first_more s c k first lt) in
+    elim (cases_lt (cost s (Split (k + 1) c)) (cost s (Split k c))) [
+      | inl lt ↦ next lt
+      | inr le ↦ (k, best_where_it_stops s c k (omega arith) first le)
+    ]
+
+shortest_pays : (s : Parameters) (c : Contents) (k half : ℕ) → s.block ≡ half + half → 1 ≤ s.block → IsSound s c → IsBestSplit s c k → s.block * k ≤ cost s (shortest s c)
+shortest_pays s c k half e j h b =
+    best_keeps (λ d. s.block * k ≤ cost s d) (λ x y. nat_lt (cost s x) (cost s y)) (NoCompression c) (other_options s c) (plain_pays s c k h b) (second_pays s c k half e h b, splits 0 (k_max s + 1) (omega arith))
+  where
+    splits : (from n : ℕ) → from + n ≤ k_max s + 1 → AllByRecursion (λ d. s.block * k ≤ cost s d) (map (λ k. Split k c) (range_with_len from n))
+    splits from zero le = tt
+    splits from (suc n) le = (let l = b.least from (omega arith) in let p = split_pays s c k j h b in omega (arith, l, p), splits (from + 1) n (omega arith))
+
+looks_are_paid : (s : Parameters) (c : Contents) → IsLegal s → IsSound s c → most_looks s c ≤ cost s (shortest s c) + 6 * s.block
+looks_are_paid s c legal h =
+    let best = best_from s c (k_max s) 0 (omega arith) (λ j p. absurd (omega arith)) in
+    let j : 1 ≤ s.block = grind (arith, legal.block) in
+    let half : s.block ≡ s.block / 2 + s.block / 2 = grind (arith, legal.block) in
+    let pays = shortest_pays s c best.0 (s.block / 2) half j h best.1 in
+    let named = ap (λ k. s.block * k) (best_split_is s c best.0 best.1) in
+    let m : s.block * (min (best_split s c + 1) (k_max s) + 5) ≤ s.block * (best_split s c + 6) = mul-le-mul_left s.block (omega arith) in
+    elim (is_zero c) as (λ v. cond v s.block (s.block * (min (best_split s c + 1) (k_max s) + 5)) ≤ cost s (shortest s c) + 6 * s.block) [ true ↦ omega arith | false ↦ omega (arith, pays, named, m) ]
+
+-- so are those of several blocks: a run's bits are not even needed
+looks_of_all_are_paid : (s : Parameters) (b : ℕ) (behind : Bool) (cs : List Contents) → IsLegal s → AreSoundBlocks s b cs →
+    sum_by (most_looks s) cs ≤ sum_by (λ d. length (text s d)) (data_sets s b behind cs) + length cs * (6 * s.block)
+looks_of_all_are_paid s b behind [] legal h = omega arith
+looks_of_all_are_paid s b behind (c ∷ cs) legal h =
+    let bits = λ (ds : List DataSet). sum_by (λ d. length (text s d)) ds in
+    let rest = data_sets s (b + 1) (is_zero c) cs in
+    let ih = looks_of_all_are_paid s (b + 1) (is_zero c) cs legal h.1 in
+    let j : 1 ≤ s.block = grind (arith, legal.block) in
+    let one = sum_by-cons (most_looks s) c cs in
+    let more : suc (length cs) * (6 * s.block) ≡ length cs * (6 * s.block) + 6 * s.block = omega arith in
+    elim (bool_cases (is_zero c)) [
+      | inl z ↦
+          let looks = looks_zero s c z in
+          let at = sum_by-append (λ d. length (text s d)) (data_set_at s b behind c cs) rest in
+          omega (arith, ih, one, more, looks.1, at)
+      | inr z ↦
+          let paid = looks_are_paid s c legal (sound_of s b c h.0) in
+          let len = shortest_len s b c j h.0 in
+          let at = ap bits (data_sets_plain s b behind c cs z) in
+          let sum = sum_by-cons (λ d. length (text s d)) (shortest s c) (data_sets s (b + 1) false cs) in
+          let same = ap (λ v. bits (data_sets s (b + 1) v cs)) z in
+          omega (arith, ih, one, more, paid, len, at, sum, same)
+    ]
+
+-- and they are bounded by the number of splits
+looks_are_few : (s : Parameters) (cs : List Contents) → sum_by (most_looks s) cs ≤ length cs * (s.block * (k_max s + 5))
+looks_are_few s [] = omega arith
+looks_are_few s (c ∷ cs) =
+    let one = sum_by-cons (most_looks s) c cs in
+    omega (arith, one, looks_are_few s cs, most_of_one s c)
+
+-- what coding some samples behind whole segments takes
+behind_whole : (s : Parameters) → IsLegal s → (blocks : ℕ) (xs ys : List ℤ) → length xs ≡ s.block * blocks → begins_segment s blocks ≡ true →
+    (code_bits s (xs ++ ys) ≡ code_bits s xs + bits_behind s blocks (last_of (pos 0) xs) ys) ×
+    (most_looks_at s (xs ++ ys) ≡ most_looks_at s xs + sum_by (most_looks s) (blocks_behind s blocks (last_of (pos 0) xs) ys))
+behind_whole s legal q xs ys len begins =
+    let j : 1 ≤ s.block = grind (arith, legal.block) in
+    let here : 0 + q ≡ q = omega arith in
+    let p = last_of (pos 0) xs in (
+      bits_go_on s legal 0 q (pos 0) xs ys len (ap (λ m. begins_segment s m) here ∙ begins) ∙ ap (λ m. code_bits s xs + bits_behind s m p ys) here,
+      ap (λ v. sum_by (most_looks s) v) (blocks_go_on s 0 q (pos 0) xs ys j len ∙ ap (λ m. blocks_behind s 0 (pos 0) xs ++ blocks_behind s m p ys) here)
+          ∙ sum_by-append (most_looks s) (blocks_behind s 0 (pos 0) xs) (blocks_behind s q p ys),
+    )
+
+pub steps_are_bounded : (s : Parameters) → IsLegal s → (blocks : ℕ) (xs ys : List ℤ) → All (IsSample s) xs → All (IsSample s) ys → length xs ≡ s.block * blocks → begins_segment s blocks ≡ true →
+    most_steps s (xs ++ ys) ≤ most_steps s xs + block_count s (length ys) * (id_len s + s.block * (s.bits + k_max s + 5))
+steps_are_bounded s legal q xs ys h k len begins =
+    let p = last_of (pos 0) xs in
+    let sample = last_legal s (pos 0) xs (zero_is_sample s legal.bits_from) (recursion_from_All (IsSample s) xs h) in
+    let parts = behind_whole s legal q xs ys len begins in
+    let bits = code_is_bounded s legal q p ys sample k in
+    let n = block_count s (length ys) in
+    let count = count_blocks s q p n (filled s p ys) in
+    let looks = looks_are_few s (blocks_behind s q p ys) in
+    sums n (id_len s) s.block s.bits (k_max s) _ _ _ _ _ _ _ parts.0 parts.1 bits looks count
+  where
+    sums : (n i j bits k b b' more l l' looks len : ℕ) → b' ≡ b + more → l' ≡ l + looks → more ≤ n * (i + j * bits) → looks ≤ len * (j * (k + 5)) → len ≡ n → b' + l' ≤ b + l + n * (i + j * (bits + k + 5))
+    sums n i j bits k b b' more l l' looks len e f h g c =
+        let m = ap (λ v. v * (j * (k + 5))) c in
+        let p : i + j * (bits + k + 5) ≡ i + j * bits + j * (k + 5) = omega arith in
+        let q : n * (i + j * bits + j * (k + 5)) ≡ n * (i + j * bits) + n * (j * (k + 5)) = omega arith in
+        let r = ap (λ v. n * v) p in
+        omega (arith, m, q, r)
+
+pub steps_are_paid : (s : Parameters) → IsLegal s → (blocks : ℕ) (xs ys : List ℤ) → All (IsSample s) xs → All (IsSample s) ys → length xs ≡ s.block * blocks → begins_segment s blocks ≡ true →
+    most_steps s (xs ++ ys) + 2 * code_bits s xs ≤ most_steps s xs + 2 * code_bits s (xs ++ ys) + 6 * s.block * block_count s (length ys)
+steps_are_paid s legal q xs ys h k len begins =
+    let p = last_of (pos 0) xs in
+    let j : 1 ≤ s.block = grind (arith, legal.block) in
+    let sample = last_legal s (pos 0) xs (zero_is_sample s legal.bits_from) (recursion_from_All (IsSample s) xs h) in
+    let parts = behind_whole s legal q xs ys len begins in
+    let n = block_count s (length ys) in
+    let count = count_blocks s q p n (filled s p ys) in
+    let sound = blocks_sound_behind s q p ys legal j sample (recursion_from_All (IsSample s) ys k) in
+    let looks = looks_of_all_are_paid s q false (blocks_behind s q p ys) legal sound in
+    sums n s.block _ _ _ _ _ _ _ parts.0 parts.1 looks count
+  where
+    sums : (n j b b' more l l' looks len : ℕ) → b' ≡ b + more → l' ≡ l + looks → looks ≤ more + len * (6 * j) → len ≡ n → b' + l' + 2 * b ≤ b + l + 2 * b' + 6 * j * n
+    sums n j b b' more l l' looks len e f g c =
+        let m = ap (λ v. v * (6 * j)) c in
+        let p : n * (6 * j) ≡ 6 * j * n = omega arith in
+        omega (arith, m, p)
+
+pub all_steps_are_bounded : (s : Parameters) → IsLegal s → (xs : List ℤ) → All (IsSample s) xs →
+    (s.block * block_count s (length xs) + most_steps s xs ≤ step_bound s (length xs)) × (s.block * block_count s (length xs) + most_steps s xs ≤ amortised_step_bound s (code_bits s xs) (length xs))
+all_steps_are_bounded s legal xs k =
+    let j : 1 ≤ s.block = grind (arith, legal.block) in
+    let p : ℤ = pos 0 in
+    let n = block_count s (length xs) in
+    let zero = zero_is_sample s legal.bits_from in
+    let count = count_blocks s 0 p n (filled s p xs) in
+    let bits = code_is_bounded s legal 0 p xs zero k in
+    let looks = looks_are_few s (blocks_behind s 0 p xs) in
+    let paid = looks_of_all_are_paid s 0 false (blocks_behind s 0 p xs) legal (blocks_sound_behind s 0 p xs legal j zero (recursion_from_All (IsSample s) xs k)) in
+    (few n (id_len s) s.block s.bits (k_max s) _ _ _ bits looks count, by_bits n s.block _ _ _ paid count)
+  where
+    few : (n i j bits k b looks len : ℕ) → b ≤ n * (i + j * bits) → looks ≤ len * (j * (k + 5)) → len ≡ n → j * n + (b + looks) ≤ n * (i + j * (bits + k + 6))
+    few n i j bits k b looks len h g c =
+        let m = ap (λ v. v * (j * (k + 5))) c in
+        let p : i + j * (bits + k + 6) ≡ i + j * bits + j * (k + 5) + j = omega arith in
+        let q : n * (i + j * bits + j * (k + 5) + j) ≡ n * (i + j * bits) + n * (j * (k + 5)) + j * n = omega arith in
+        let r = ap (λ v. n * v) p in
+        omega (arith, m, q, r)
+
+    by_bits : (n j b looks len : ℕ) → looks ≤ b + len * (6 * j) → len ≡ n → j * n + (b + looks) ≤ 2 * b + 7 * j * n
+    by_bits n j b looks len g c =
+        let m = ap (λ v. v * (6 * j)) c in
+        let p : n * (6 * j) + j * n ≡ 7 * j * n = omega arith in
+        omega (arith, m, p)

@@ -1,0 +1,44 @@
+-- Second extension is longer than a split that saves bits.
+use Rattle.std.proofs.Common.{◌≡◌, ℕ, zero, suc, ◌+◌, ◌*◌, ◌/◌, ◌^◌, ◌<◌, ◌≤◌, List, [], ◌∷◌, length, ap, arith, Option, Some, None}
+use Rattle.std.specs.Prelude.{sum_by}
+use Rattle.std.proofs.Math.Nat.{mul-le-mul_left}
+use Rattle.std.proofs.lemmas.List.Sums.{sum_by-cons}
+use Rattle.rice_samples.specs.blocks.Pairs.{pair_code, pair_codes}
+use Rattle.rice_samples.specs.Parameters.{Parameters}
+use Rattle.rice_code.specs.code.Blocks.{Contents}
+use Rattle.rice_code.specs.code.Choice.{IsBestSplit}
+use Rattle.rice_code.specs.code.CodedDataSets.{SecondExtension, Split, cost, coded, coded_from}
+
+-- the codeword of a pair is no shorter than twice its sum
+half_square : (s : ℕ) → 2 * s ≤ s * (s + 1) / 2 + 1
+half_square zero = omega arith
+half_square (suc zero) = omega arith
+half_square (suc (suc t)) = let e : suc (suc t) * (suc (suc t) + 1) ≡ t * t + 5 * t + 6 = omega arith in let f = ap (λ n. n / 2) e in omega (arith, f)
+
+pair_long : (a b : ℕ) → 2 * (a + b) ≤ pair_code a b + 1
+pair_long a b = let h = half_square (a + b) in omega (arith, h)
+
+pairs_long : (n : ℕ) (ds : List ℕ) → length ds ≡ 2 * n → 2 * sum_by (λ d. d / 2 ^ 0) ds ≤ sum_by (λ g. g + 1) (pair_codes ds)
+pairs_long n [] e = omega arith
+pairs_long n (a ∷ []) e = absurd (omega arith)
+pairs_long zero (a ∷ b ∷ ds) e = absurd (omega arith)
+pairs_long (suc n) (a ∷ b ∷ ds) e =
+    let h = pair_long a b in
+    let ih = pairs_long n ds (omega arith) in
+    let p = sum_by-cons (λ d. d / 2 ^ 0) a (b ∷ ds) in
+    let q = sum_by-cons (λ d. d / 2 ^ 0) b ds in
+    let r = sum_by-cons (λ g. g + 1) (pair_code a b) (pair_codes ds) in
+    omega (arith, h, ih, p, q, r)
+
+coded_few : (f : ℕ → ℕ) (r : Option ℕ) (ds : List ℕ) → sum_by f (coded_from r ds) ≤ sum_by f ds
+coded_few f None ds = omega arith
+coded_few f (Some v) [] = omega arith
+coded_few f (Some v) (d ∷ ds) = let p = sum_by-cons f d ds in omega (arith, p)
+
+pub pairs_are_longer : (s : Parameters) (c : Contents) (k n : ℕ) → IsBestSplit s c k → 0 < k → length c.residuals ≡ 2 * n → cost s (Split k c) < cost s (SecondExtension c)
+pairs_are_longer s c k n h some even =
+    let first = h.first 0 some in
+    let more : length (coded c) * 1 ≤ length (coded c) * k = mul-le-mul_left (length (coded c)) some in
+    let pairs = pairs_long n c.residuals even in
+    let few = coded_few (λ d. d / 2 ^ 0) c.reference c.residuals in
+    omega (arith, first, more, pairs, few)

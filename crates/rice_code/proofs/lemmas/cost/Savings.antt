@@ -1,0 +1,220 @@
+-- How the costs of the splits go from one to the next, and which option is chosen.
+use Rattle.std.proofs.Common.{◌≡◌, ℕ, zero, suc, ◌+◌, ◌-◌, ◌*◌, ◌/◌, ◌^◌, ◌<◌, ◌≤◌, Bool, true, false, cond, nat_lt, map, List, [], ◌∷◌, length, refl, ap, arith, sym, ◌∙◌, ◌⊎◌, inl, inr, subst}
+use Rattle.std.specs.Prelude.{All, OnSome, slice_index, Option, Some, None}
+use Rattle.std.specs.List.{best_of, range_with_len, AllByRecursion}
+use Rattle.std.proofs.lemmas.List.Elements.{All-from_recursion}
+use Rattle.std.proofs.lemmas.Bool.{cases_lt}
+use Rattle.std.proofs.lemmas.Bool.Decides.{nat_tests}
+use Rattle.std.proofs.lemmas.List.Sums.{sum_by-cons}
+use Rattle.std.proofs.Math.Nat.{zero-div}
+use Rattle.rice_samples.specs.Parameters.{Parameters, id_len, k_max}
+use Rattle.rice_samples.proofs.lemmas.blocks.Halves.{cut_sum, sum_halves}
+use Rattle.rice_code.specs.code.Blocks.{Contents}
+use Rattle.rice_code.specs.code.CodedDataSets.{NoCompression, SecondExtension, Split, cost, coded, coded_from, reference_len}
+use Rattle.rice_code.specs.code.Choice.{shortest, other_options, IsBestSplit}
+use Rattle.rice_code.specs.code.Forms.{IsZeroAtReference}
+use Rattle.rice_code.proofs.lemmas.meaning.Covers.{bool_cases}
+
+pub saving_never_rises : (s : Parameters) (c : Contents) (k : ℕ) → 2 * cost s (Split (k + 1) c) ≤ cost s (Split k c) + cost s (Split (k + 2) c)
+saving_never_rises s c k =
+    let h = sum_halves (coded c) k in
+    at (length (coded c)) (id_len s + reference_len s c.reference) k _ _ _ h
+  where
+    at : (l base k x y z : ℕ) → y + y ≤ x → 2 * (base + l * (k + 1 + 1) + y) ≤ base + l * (k + 1) + x + (base + l * (k + 2 + 1) + z)
+    at l base k x y z h = omega arith
+
+-- a sum never rises
+sum_falls : (ds : List ℕ) (k m : ℕ) → cut_sum ds (k + m) ≤ cut_sum ds k
+sum_falls ds k zero = let e : k + 0 ≡ k = omega arith in let f = ap (cut_sum ds) e in omega arith
+sum_falls ds k (suc m) =
+    let e : k + suc m ≡ k + m + 1 = omega arith in
+    let f = ap (cut_sum ds) e in
+    omega (arith, f, sum_falls ds k m, sum_halves ds (k + m))
+
+-- where the next is no shorter, none behind it is
+pub stops : (ds : List ℕ) (l k m : ℕ) → l * (k + 1) + cut_sum ds k ≤ l * (k + 1 + 1) + cut_sum ds (k + 1) → l * (k + 1) + cut_sum ds k ≤ l * (k + m + 1) + cut_sum ds (k + m)
+stops ds l k zero h = let e : k + 0 ≡ k = omega arith in let f = ap (λ n. l * (n + 1) + cut_sum ds n) e in omega arith
+stops ds l k (suc m) h =
+    let ih = stops ds l k m h in
+    let e : k + suc m ≡ k + m + 1 = omega arith in
+    let f = ap (λ n. l * (n + 1) + cut_sum ds n) e in
+    let low : cut_sum ds (k + m) ≤ cut_sum ds (k + m + 1) + l = below m in
+    omega (arith, f, ih, low)
+  where
+    below : (m : ℕ) → cut_sum ds (k + m) ≤ cut_sum ds (k + m + 1) + l
+    below zero = let e : k + 0 ≡ k = omega arith in let f = ap (cut_sum ds) e in let g = ap (λ n. cut_sum ds (n + 1)) e in omega (arith, f, g, h)
+    below (suc m) =
+        let e : k + suc m ≡ k + 1 + m = omega arith in
+        let f = ap (cut_sum ds) e in
+        let g = sum_falls ds (k + 1) m in
+        let i = sum_halves ds k in
+        omega (arith, f, g, i, h)
+
+pub less : (m n : ℕ) → m < n → nat_lt m n ≡ true
+less m n h = grind (arith, nat_tests)
+
+pub not_less : (m n : ℕ) → n ≤ m → nat_lt m n ≡ false
+not_less m n h = grind (arith, nat_tests)
+
+-- no option behind is shorter, so the first stays
+pub kept : {A : Type 0} (f : A → ℕ) (g : ℕ → A) (a : A) (from n : ℕ) → ((j : ℕ) → from ≤ j → j < from + n → f a ≤ f (g j)) → best_of (λ x y. nat_lt (f x) (f y)) a (map g (range_with_len from n)) ≡ a
+kept f g a from zero h = refl
+kept f g a from (suc n) h =
+    let e : nat_lt (f (g from)) (f a) ≡ false = no (f (g from)) (f a) (h from (omega arith) (omega arith)) in
+    ap (λ v. best_of (λ x y. nat_lt (f x) (f y)) (cond v (g from) a) (map g (range_with_len (from + 1) n))) e
+    ∙ kept f g a (from + 1) n (λ j p q. h j (omega arith) (omega arith))
+  where
+    no : (m n : ℕ) → n ≤ m → nat_lt m n ≡ false
+    no m n h = grind (arith, nat_tests)
+
+-- of numbered options the first of least length is the best, or what was best before
+pub best_numbered : {A : Type 0} (f : A → ℕ) (g : ℕ → A) (a : A) (from n k : ℕ) → from ≤ k → k < from + n →
+    ((j : ℕ) → from ≤ j → j < k → f (g k) < f (g j)) → ((j : ℕ) → j < from + n → f (g k) ≤ f (g j)) →
+    best_of (λ x y. nat_lt (f x) (f y)) a (map g (range_with_len from n)) ≡ cond (nat_lt (f (g k)) (f a)) (g k) a
+best_numbered f g a from zero k h i first least = absurd (omega arith)
+best_numbered {A} f g a from (suc n) k h i first least =
+    let next = λ (b : A). best_of (λ x y. nat_lt (f x) (f y)) b (map g (range_with_len (from + 1) n)) in
+    let step = λ (v : Bool) (e : nat_lt (f (g from)) (f a) ≡ v). ap (λ v. next (cond v (g from) a)) e in
+    elim (cases_lt from k) [
+      | inl lt ↦
+          let ih = λ (b : A). best_numbered f g b (from + 1) n k (omega arith) (omega arith) (λ j p q. first j (omega arith) q) (λ j p. least j (omega arith)) in
+          let less = first from (omega arith) lt in
+          elim (bool_cases (nat_lt (f (g from)) (f a))) [
+            | inl e ↦
+                let one : nat_lt (f (g k)) (f (g from)) ≡ true = yes (f (g k)) (f (g from)) less in
+                let two : nat_lt (f (g k)) (f a) ≡ true = yes (f (g k)) (f a) (let l = is (f (g from)) (f a) e in omega arith) in
+                step true e ∙ (ih (g from) ∙ (ap (λ v. cond v (g k) (g from)) one ∙ sym (ap (λ v. cond v (g k) a) two)))
+            | inr e ↦ step false e ∙ ih a
+          ]
+      | inr le ↦
+          let same : from ≡ k = omega arith in
+          elim (bool_cases (nat_lt (f (g from)) (f a))) [
+            | inl e ↦
+                step true e ∙ (kept f g (g from) (from + 1) n (λ j p q. subst (λ n. f (g n) ≤ f (g j)) (sym same) (least j (omega arith)))
+                ∙ (sym (ap (λ v. cond v (g from) a) e) ∙ ap (λ n. cond (nat_lt (f (g n)) (f a)) (g n) a) same))
+            | inr e ↦
+                let over : f a ≤ f (g from) = at_least (f (g from)) (f a) e in
+                step false e ∙ (kept f g a (from + 1) n (λ j p q. let l = subst (λ n. f (g n) ≤ f (g j)) (sym same) (least j (omega arith)) in omega arith)
+                ∙ (sym (ap (λ v. cond v (g from) a) e) ∙ ap (λ n. cond (nat_lt (f (g n)) (f a)) (g n) a) same))
+          ]
+    ]
+  where
+    yes : (m n : ℕ) → m < n → nat_lt m n ≡ true
+    yes m n h = grind (arith, nat_tests)
+
+    is : (m n : ℕ) → nat_lt m n ≡ true → m < n
+    is m n e = grind (arith, nat_tests)
+
+    at_least : (m n : ℕ) → nat_lt m n ≡ false → n ≤ m
+    at_least m n e = grind (arith, nat_tests)
+
+-- the search may stop where the next split is no shorter
+pub best_where_it_stops : (s : Parameters) (c : Contents) (k : ℕ) → k ≤ k_max s → ((j : ℕ) → j < k → cost s (Split k c) < cost s (Split j c)) → cost s (Split k c) ≤ cost s (Split (k + 1) c) → IsBestSplit s c k
+best_where_it_stops s c k h first stop = record {
+  at_most = h;
+  least = λ j p. elim (cases_lt j k) [
+    | inl lt ↦ let f = first j lt in omega arith
+    | inr le ↦
+        let m = j - k in
+        let e : k + m ≡ j = omega arith in
+        let f = stops (coded c) (length (coded c)) k m (omega arith) in
+        let g = ap (λ n. cost s (Split n c)) e in
+        omega (arith, f, g)
+  ];
+  first = first;
+}
+
+-- or where there is none behind
+pub best_where_it_ends : (s : Parameters) (c : Contents) (k : ℕ) → k ≡ k_max s → ((j : ℕ) → j < k → cost s (Split k c) < cost s (Split j c)) → IsBestSplit s c k
+best_where_it_ends s c k h first = record {
+  at_most = omega arith;
+  least = λ j p. elim (cases_lt j k) [
+    | inl lt ↦ let f = first j lt in omega arith
+    | inr le ↦ let e : k ≡ j = omega arith in let g = ap (λ n. cost s (Split n c)) e in omega (arith, g)
+  ];
+  first = first;
+}
+
+-- one split more
+pub first_more : (s : Parameters) (c : Contents) (k : ℕ) → ((j : ℕ) → j < k → cost s (Split k c) < cost s (Split j c)) → cost s (Split (k + 1) c) < cost s (Split k c) → (j : ℕ) → j < k + 1 → cost s (Split (k + 1) c) < cost s (Split j c)
+first_more s c k first less j h = elim (cases_lt j k) [
+  | inl lt ↦ let f = first j lt in omega arith
+  | inr le ↦ let e : k ≡ j = omega arith in let g = ap (λ n. cost s (Split n c)) e in omega (arith, g)
+]
+
+-- the shortest is decided by the three costs
+pub shortest_is : (s : Parameters) (c : Contents) (k : ℕ) → IsBestSplit s c k →
+    shortest s c ≡ (let first = cond (nat_lt (cost s (SecondExtension c)) (cost s (NoCompression c))) (SecondExtension c) (NoCompression c) in cond (nat_lt (cost s (Split k c)) (cost s first)) (Split k c) first)
+shortest_is s c k h =
+    let at = h.at_most in
+    best_numbered (cost s) (λ k. Split k c) (cond (nat_lt (cost s (SecondExtension c)) (cost s (NoCompression c))) (SecondExtension c) (NoCompression c)) 0 (k_max s + 1) k (omega arith) (omega arith) (λ j p q. h.first j q) (λ j p. h.least j (omega arith))
+
+-- where each split up to k is shorter than the one before, k is shorter than all before it
+falling : (s : Parameters) (c : Contents) (k : ℕ) → ((j : ℕ) → j < k → cost s (Split (j + 1) c) < cost s (Split j c)) → (j : ℕ) → j < k → cost s (Split k c) < cost s (Split j c)
+falling s c zero h j lt = absurd (omega arith)
+falling s c (suc k) h j lt =
+    let e : k + 1 ≡ suc k = omega arith in
+    let ShorterThanBefore : ℕ → Type 0 = λ n. cost s (Split n c) < cost s (Split j c) in
+    subst ShorterThanBefore e (first_more s c k (falling s c k (λ i p. h i (omega arith))) (h k (omega arith)) j (omega arith))
+
+pub first_stop_is_best : (s : Parameters) (c : Contents) (k : ℕ) → k ≤ k_max s → ((j : ℕ) → j < k → cost s (Split (j + 1) c) < cost s (Split j c)) →
+    (cost s (Split k c) ≤ cost s (Split (k + 1) c)) ⊎ (k ≡ k_max s) → IsBestSplit s c k
+first_stop_is_best s c k le h (inl stop) = best_where_it_stops s c k le (falling s c k h) stop
+first_stop_is_best s c k le h (inr end) = best_where_it_ends s c k end (falling s c k h)
+
+-- the residual at the reference place adds nothing
+pub coded_sum : (r : Option ℕ) (ds : List ℕ) (k : ℕ) → OnSome r (slice_index ds 0 ≡ 0) → cut_sum (coded_from r ds) k ≡ cut_sum ds k
+coded_sum None ds k h = refl
+coded_sum (Some v) [] k h = refl
+coded_sum (Some v) (d ∷ ds) k h =
+    let e : d ≡ 0 = h in
+    let f = ap (λ n. n / 2 ^ k) e in
+    let g = zero-div (2 ^ k) in
+    let i = sum_by-cons (λ d. d / 2 ^ k) d ds in
+    omega (arith, f, g, i)
+
+-- where the sum of the residuals first falls by no more than the digits that a split adds, the split is best
+pub sum_stop_is_best : (s : Parameters) (c : Contents) (k : ℕ) → IsZeroAtReference c → k ≤ k_max s →
+    ((j : ℕ) → j < k → cut_sum c.residuals (j + 1) + length (coded c) < cut_sum c.residuals j) →
+    (k < k_max s → cut_sum c.residuals k ≤ cut_sum c.residuals (k + 1) + length (coded c)) → IsBestSplit s c k
+sum_stop_is_best s c k at_reference le falls ends =
+    let base = id_len s + reference_len s c.reference in
+    let same = λ (j : ℕ). coded_sum c.reference c.residuals j at_reference in
+    first_stop_is_best s c k le
+    (λ j lt. shorter (length (coded c)) base j (cut_sum (coded c) j) (cut_sum (coded c) (j + 1)) (omega (arith, falls j lt, same j, same (j + 1))))
+    (elim (cases_lt k (k_max s)) [
+      | inl lt ↦ inl (no_shorter (length (coded c)) base k (cut_sum (coded c) k) (cut_sum (coded c) (k + 1)) (omega (arith, ends lt, same k, same (k + 1))))
+      | inr ge ↦ inr (omega arith)
+    ])
+  where
+    shorter : (l base j x y : ℕ) → y + l < x → base + l * (j + 1 + 1) + y < base + l * (j + 1) + x
+    shorter l base j x y h = omega arith
+
+    no_shorter : (l base k x y : ℕ) → x ≤ y + l → base + l * (k + 1) + x ≤ base + l * (k + 1 + 1) + y
+    no_shorter l base k x y h = omega arith
+
+-- the one that is taken of two is no longer than either
+lesser : {A : Type 0} (f : A → ℕ) (a x : A) → (f (cond (nat_lt (f x) (f a)) x a) ≤ f a) × (f (cond (nat_lt (f x) (f a)) x a) ≤ f x)
+lesser {A} f a x = by_test (nat_lt (f x) (f a)) refl
+  where
+    less : (m n : ℕ) → nat_lt m n ≡ true → m < n
+    less m n e = grind (arith, nat_tests)
+
+    no_less : (m n : ℕ) → nat_lt m n ≡ false → n ≤ m
+    no_less m n e = grind (arith, nat_tests)
+
+    by_test : (v : Bool) → nat_lt (f x) (f a) ≡ v → (f (cond v x a) ≤ f a) × (f (cond v x a) ≤ f x)
+    by_test true e = let lt = less (f x) (f a) e in (omega arith, omega arith)
+    by_test false e = let le = no_less (f x) (f a) e in (omega arith, omega arith)
+
+-- the best of several is no longer than any of them
+best_is_least : {A : Type 0} (f : A → ℕ) (a : A) (xs : List A) → AllByRecursion (λ x. f (best_of (λ x y. nat_lt (f x) (f y)) a xs) ≤ f x) (a ∷ xs)
+best_is_least f a [] = (omega arith, tt)
+best_is_least f a (x ∷ xs) =
+    let ih = best_is_least f (cond (nat_lt (f x) (f a)) x a) xs in
+    let both = lesser f a x in
+    let first = ih.0 in
+    (omega arith, (omega arith, ih.1))
+
+pub choice_is_least : (s : Parameters) (c : Contents) → All (λ d. cost s (shortest s c) ≤ cost s d) (NoCompression c ∷ other_options s c)
+choice_is_least s c = All-from_recursion (λ d. cost s (shortest s c) ≤ cost s d) (NoCompression c ∷ other_options s c) (best_is_least (cost s) (NoCompression c) (other_options s c))

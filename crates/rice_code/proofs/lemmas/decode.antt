@@ -1,0 +1,7 @@
+-- The decoder.
+pub mod CutSets
+pub mod DecoderLemmas
+pub mod FieldLemmas
+pub mod JoinedParts
+pub mod ReadLemmas
+pub mod RestoredBlocks

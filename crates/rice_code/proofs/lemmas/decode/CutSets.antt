@@ -1,0 +1,249 @@
+-- What is read of a data set.
+use Rattle.std.proofs.Common.{◌≡◌, ℕ, zero, suc, ◌+◌, ◌-◌, ◌*◌, ◌%◌, ◌^◌, ◌<◌, ◌≤◌, Bool, true, false, List, [], ◌∷◌, ◌++◌, length, refl, sym, ap, subst, arith, length-append, Option, cond}
+use Rattle.std.specs.Prelude.{if◌then◌else◌, nat_lt, ◌==◌}
+use Rattle.std.proofs.lemmas.Bool.Decides.{nat_tests}
+use Rattle.std.proofs.Math.Nat.{mod-eq_of_lt}
+use Rattle.std.proofs.Math.Pow.{pow_mono}
+use Rattle.rice_bits.specs.Bits.{word}
+use Rattle.rice_bits.specs.read.Reader.{Reader, Takes, Stops}
+use Rattle.rice_bits.specs.declared.read.fault.BitFault.{BitFault}
+use Rattle.rice_bits.proofs.lemmas.read.ReaderLemmas.{takes-append, stops-append}
+use Rattle.rice_bits.proofs.lemmas.bits.Words.{length-word}
+use Rattle.rice_samples.specs.Parameters.{Parameters, id_len}
+use Rattle.rice_code.specs.code.Blocks.{Contents}
+use Rattle.rice_code.specs.code.CodedDataSets.{DataSet, NoCompression, SecondExtension, Split, ZeroBlocks, RemainderOfSegment, text, run_number, no_compression_tail, second_extension_tail, split_tail, run_tail}
+use Rattle.rice_code.specs.code.Forms.{IsForm, IsReference}
+use Rattle.rice_code.specs.decode.ReadSets.{BlockRead, BlockCut, SetRead, SetCut, LowRead, LowCut, low_tail, IsLow}
+use Rattle.rice_code.specs.declared.decode.options.SetHead.TheVariants.{Residuals, Zeros}
+use Rattle.rice_code.proofs.lemmas.code.ReadInOneWay.{head_reads, identifier, tail, wide_id}
+
+-- a word of less than the identifier begins nothing
+pub cut_identifier : (s : Parameters) (b : ℕ) (bits : List Bool) → length bits < id_len s → (d : DataSet) (more : List Bool) → IsForm s b d → bits ≡ text s d ++ more → ⊥
+cut_identifier s b bits lt d more form e =
+    omega (arith, ap length e, length-append (text s d) more, ap length (Rattle.rice_code.proofs.lemmas.code.ReadInOneWay.text_is s d), length-append (word (id_len s) (identifier s d)) (tail s d), length-word (id_len s) (identifier s d))
+
+cut_plain : (s : Parameters) (b id : ℕ) (bits : List Bool) → id ≡ 2 ^ id_len s - 1 → ((c : Contents) (more : List Bool) → IsForm s b (NoCompression c) → bits ≡ no_compression_tail s c ++ more → ⊥)
+    → (d : DataSet) (more : List Bool) → IsForm s b d → id ≡ identifier s d → bits ≡ tail s d ++ more → ⊥
+unfolding identifier tail
+cut_plain s b id bits e none (NoCompression c) more form i t = none c more form t
+cut_plain s b id bits e none (SecondExtension c) more form i t = let w = wide_id s in omega arith
+cut_plain s b id bits e none (Split k c) more form i t = let w = wide_id s in let le : k ≤ 2 ^ id_len s - 3 = form.2 in omega arith
+cut_plain s b id bits e none (ZeroBlocks r z) more form i t = let w = wide_id s in omega arith
+cut_plain s b id bits e none (RemainderOfSegment r) more form i t = let w = wide_id s in omega arith
+
+cut_split : (s : Parameters) (b id k : ℕ) (bits : List Bool) → id ≡ k + 1 → id < 2 ^ id_len s - 1 → ((c : Contents) (more : List Bool) → IsForm s b (Split k c) → bits ≡ split_tail s k c ++ more → ⊥)
+    → (d : DataSet) (more : List Bool) → IsForm s b d → id ≡ identifier s d → bits ≡ tail s d ++ more → ⊥
+unfolding identifier tail
+cut_split s b id k bits e lt none (NoCompression c) more form i t = omega arith
+cut_split s b id k bits e lt none (SecondExtension c) more form i t = omega arith
+cut_split s b id k bits e lt none (Split m c) more form i t =
+    let same : m ≡ k = omega arith in
+    let T : ℕ → Type 0 = λ j. IsForm s b (Split j c) × (bits ≡ split_tail s j c ++ more) in
+    let q = subst T same (form, t) in none c more q.0 q.1
+cut_split s b id k bits e lt none (ZeroBlocks r z) more form i t = omega arith
+cut_split s b id k bits e lt none (RemainderOfSegment r) more form i t = omega arith
+
+cut_low : (s : Parameters) (b id : ℕ) (bits : List Bool) → id ≡ 0 → ((d : DataSet) (more : List Bool) → IsForm s b d → IsLow d → bits ≡ low_tail s d ++ more → ⊥)
+    → (d : DataSet) (more : List Bool) → IsForm s b d → id ≡ identifier s d → bits ≡ tail s d ++ more → ⊥
+unfolding identifier tail
+cut_low s b id bits e none (NoCompression c) more form i t = let w = wide_id s in omega arith
+cut_low s b id bits e none (SecondExtension c) more form i t = none (SecondExtension c) more form tt t
+cut_low s b id bits e none (Split k c) more form i t = omega arith
+cut_low s b id bits e none (ZeroBlocks r z) more form i t = none (ZeroBlocks r z) more form tt t
+cut_low s b id bits e none (RemainderOfSegment r) more form i t = none (RemainderOfSegment r) more form tt t
+
+-- a data set is cut off behind its identifier
+cut_behind : {I : Type 0} (left : I → Option (List ℕ)) (failed : I → ℕ) (old mid new : Reader I) (s : Parameters) (b id : ℕ) (bits : List Bool) (f : BitFault)
+    → id < 2 ^ id_len s → Takes left failed old mid (word (id_len s) id) → Stops left failed mid new bits f
+    → ((d : DataSet) (more : List Bool) → IsForm s b d → id ≡ identifier s d → bits ≡ tail s d ++ more → ⊥) → SetCut left failed old new s b f
+cut_behind left failed old mid new s b id bits f lt t stops none = record {
+  bits = word (id_len s) id ++ bits;
+  stops = stops-append left failed old mid new _ bits f t stops;
+  none = λ d more form e. (let a = head_reads s b id d bits more lt form e in none d more form a.0 a.1);
+}
+
+pub plain_set_cut : {I : Type 0} (left : I → Option (List ℕ)) (failed : I → ℕ) (old mid new : Reader I) (s : Parameters) (b id : ℕ) (f : BitFault)
+    → id < 2 ^ id_len s → id ≡ 2 ^ id_len s - 1 → Takes left failed old mid (word (id_len s) id) → BlockCut left failed mid new s b NoCompression (no_compression_tail s) f → SetCut left failed old new s b f
+plain_set_cut left failed old mid new s b id f lt e t cut = cut_behind left failed old mid new s b id cut.bits f lt t cut.stops (cut_plain s b id cut.bits e cut.none)
+
+pub split_set_cut : {I : Type 0} (left : I → Option (List ℕ)) (failed : I → ℕ) (old mid new : Reader I) (s : Parameters) (b id k : ℕ) (f : BitFault)
+    → id < 2 ^ id_len s - 1 → id ≡ k + 1 → Takes left failed old mid (word (id_len s) id) → BlockCut left failed mid new s b (Split k) (split_tail s k) f → SetCut left failed old new s b f
+split_set_cut left failed old mid new s b id k f lt e t cut = cut_behind left failed old mid new s b id cut.bits f (omega arith) t cut.stops (cut_split s b id k cut.bits e lt cut.none)
+
+pub low_set_cut : {I : Type 0} (left : I → Option (List ℕ)) (failed : I → ℕ) (old mid new : Reader I) (s : Parameters) (b id : ℕ) (f : BitFault)
+    → id < 2 ^ id_len s → id ≡ 0 → Takes left failed old mid (word (id_len s) id) → LowCut left failed mid new s b f → SetCut left failed old new s b f
+low_set_cut left failed old mid new s b id f lt e t cut = cut_behind left failed old mid new s b id cut.bits f lt t cut.stops (cut_low s b id cut.bits e cut.none)
+
+-- what a block by no compression says
+pub plain_set : {I : Type 0} (left : I → Option (List ℕ)) (failed : I → ℕ) (old mid new : Reader I) (first second last : ℕ) (s : Parameters) (b id : ℕ) (r : Option ℕ) (sound : Bool) (items : List ℕ)
+    → id ≡ 2 ^ id_len s - 1 → Takes left failed old mid (word (id_len s) id) → second + old.taken ≡ first + mid.taken
+    → BlockRead left failed mid new second last s b NoCompression (no_compression_tail s) r sound items → SetRead left failed old new first last s b (Residuals r sound) items
+plain_set left failed old mid new first second last s b id r sound items e t steps read = record {
+  set = NoCompression read.contents;
+  form = read.form;
+  takes = rw (← e) (takes-append left failed old mid new _ _ t read.takes);
+  tells = record {
+    contents = read.contents;
+    blocks = refl;
+    block = read.form.0;
+    reference_is = read.reference_is;
+    run = tt;
+    told = λ h. (let q = read.told h in (q.0, read.form.1, q.1, q.2));
+    refused = read.refused;
+  };
+  steps = omega (arith, read.steps);
+}
+
+pub split_set : {I : Type 0} (left : I → Option (List ℕ)) (failed : I → ℕ) (old mid new : Reader I) (first second last : ℕ) (s : Parameters) (b id k : ℕ) (r : Option ℕ) (sound : Bool) (items : List ℕ)
+    → id ≡ k + 1 → Takes left failed old mid (word (id_len s) id) → second + old.taken ≡ first + mid.taken
+    → BlockRead left failed mid new second last s b (Split k) (split_tail s k) r sound items → SetRead left failed old new first last s b (Residuals r sound) items
+split_set left failed old mid new first second last s b id k r sound items e t steps read = record {
+  set = Split k read.contents;
+  form = read.form;
+  takes = rw (← e) (takes-append left failed old mid new _ _ t read.takes);
+  tells = record {
+    contents = read.contents;
+    blocks = refl;
+    block = read.form.0;
+    reference_is = read.reference_is;
+    run = tt;
+    told = λ h. (let q = read.told h in (q.0, read.form.1, q.1, q.2));
+    refused = read.refused;
+  };
+  steps = omega (arith, read.steps);
+}
+
+-- low data sets are data sets
+pub low_set : {I : Type 0} (left : I → Option (List ℕ)) (failed : I → ℕ) (old mid new : Reader I) (first second last : ℕ) (s : Parameters) (b id : ℕ) (taken : Rattle.rice_code.specs.declared.decode.options.SetHead.SetHead) (items : List ℕ)
+    → id ≡ 0 → Takes left failed old mid (word (id_len s) id) → second + old.taken ≡ first + mid.taken
+    → LowRead left failed mid new second last s b taken items → SetRead left failed old new first last s b taken items
+low_set left failed old mid new first second last s b id taken items e t steps read = record {
+  set = read.set;
+  form = read.form;
+  takes = subst (λ xs. Takes left failed old new xs) (low_text read.set read.low) (rw e at (takes-append left failed old mid new _ _ t read.takes));
+  tells = read.tells;
+  steps = omega (arith, read.steps);
+}
+  where
+    low_text : (d : DataSet) → IsLow d → word (id_len s) 0 ++ low_tail s d ≡ text s d
+    low_text (NoCompression c) h = absurd h
+    low_text (SecondExtension c) h = refl
+    low_text (Split k c) h = absurd h
+    low_text (ZeroBlocks r z) h = refl
+    low_text (RemainderOfSegment r) h = refl
+
+-- one bit
+bit_word : (v : ℕ) → v < 2 → word 1 v ≡ (if v == 0 then false ∷ [] else true ∷ [])
+unfolding word
+bit_word zero h = refl
+bit_word (suc zero) h = refl
+bit_word (suc (suc v)) h = absurd (omega arith)
+
+pub zero_bit : word 1 0 ≡ false ∷ []
+zero_bit = bit_word 0 (omega arith)
+
+pub one_bit : (v : ℕ) → v < 2 → 0 < v → word 1 v ≡ true ∷ []
+one_bit zero h k = absurd (omega arith)
+one_bit (suc zero) h k = bit_word 1 (omega arith)
+one_bit (suc (suc v)) h k = absurd (omega arith)
+
+pub low_bit_cut : {I : Type 0} (left : I → Option (List ℕ)) (failed : I → ℕ) (old new : Reader I) (s : Parameters) (b : ℕ) (bits : List Bool) (f : BitFault)
+    → length bits < 1 → Stops left failed old new bits f → LowCut left failed old new s b f
+low_bit_cut left failed old new s b bits f lt stops = record { bits = bits; stops = stops; none = none bits lt }
+  where
+    none : (bits : List Bool) → length bits < 1 → (d : DataSet) (more : List Bool) → IsForm s b d → IsLow d → bits ≡ low_tail s d ++ more → ⊥
+    none bits lt (NoCompression c) more form low e = low
+    none bits lt (SecondExtension c) more form low e = omega (arith, ap length e)
+    none bits lt (Split k c) more form low e = low
+    none bits lt (ZeroBlocks r z) more form low e = omega (arith, ap length e)
+    none bits lt (RemainderOfSegment r) more form low e = omega (arith, ap length e)
+
+pub second_low_cut : {I : Type 0} (left : I → Option (List ℕ)) (failed : I → ℕ) (old mid new : Reader I) (s : Parameters) (b v : ℕ) (f : BitFault)
+    → v < 2 → 0 < v → Takes left failed old mid (word 1 v) → BlockCut left failed mid new s b SecondExtension (second_extension_tail s) f → LowCut left failed old new s b f
+second_low_cut left failed old mid new s b v f lt pos t cut = record {
+  bits = true ∷ cut.bits;
+  stops = stops-append left failed old mid new (true ∷ []) cut.bits f (rw (one_bit v lt pos) at t) cut.stops;
+  none = none cut.bits cut.none;
+}
+  where
+    none : (bits : List Bool) → ((c : Contents) (more : List Bool) → IsForm s b (SecondExtension c) → bits ≡ second_extension_tail s c ++ more → ⊥) → (d : DataSet) (more : List Bool) → IsForm s b d → IsLow d → true ∷ bits ≡ low_tail s d ++ more → ⊥
+    none bits h (NoCompression c) more form low e = low
+    none bits h (SecondExtension c) more form low e = h c more form cc
+    none bits h (Split k c) more form low e = low
+    none bits h (ZeroBlocks r z) more form low e = absurd cc
+    none bits h (RemainderOfSegment r) more form low e = absurd cc
+
+pub run_low_cut : {I : Type 0} (left : I → Option (List ℕ)) (failed : I → ℕ) (old mid new : Reader I) (s : Parameters) (b : ℕ) (bits : List Bool) (f : BitFault)
+    → Takes left failed old mid (word 1 0) → Stops left failed mid new bits f → ((r : Option ℕ) (m : ℕ) (more : List Bool) → IsReference s b r → bits ≡ run_tail s r m ++ more → ⊥) → LowCut left failed old new s b f
+run_low_cut left failed old mid new s b bits f t stops cut = record {
+  bits = false ∷ bits;
+  stops = stops-append left failed old mid new (false ∷ []) bits f (rw zero_bit at t) stops;
+  none = none bits cut;
+}
+  where
+    none : (bits : List Bool) → ((r : Option ℕ) (m : ℕ) (more : List Bool) → IsReference s b r → bits ≡ run_tail s r m ++ more → ⊥) → (d : DataSet) (more : List Bool) → IsForm s b d → IsLow d → false ∷ bits ≡ low_tail s d ++ more → ⊥
+    none bits h (NoCompression c) more form low e = low
+    none bits h (SecondExtension c) more form low e = absurd cc
+    none bits h (Split k c) more form low e = low
+    none bits h (ZeroBlocks r z) more form low e = h r (run_number z) more form.0 cc
+    none bits h (RemainderOfSegment r) more form low e = h r 4 more form cc
+
+pub second_low : {I : Type 0} (left : I → Option (List ℕ)) (failed : I → ℕ) (old mid new : Reader I) (first second last : ℕ) (s : Parameters) (b v : ℕ) (r : Option ℕ) (sound : Bool) (items : List ℕ)
+    → v < 2 → 0 < v → Takes left failed old mid (word 1 v) → second + old.taken ≡ first + mid.taken
+    → BlockRead left failed mid new second last s b SecondExtension (second_extension_tail s) r sound items → LowRead left failed old new first last s b (Residuals r sound) items
+second_low left failed old mid new first second last s b v r sound items lt pos t steps read = record {
+  set = SecondExtension read.contents;
+  low = tt;
+  form = read.form;
+  takes = takes-append left failed old mid new (true ∷ []) _ (rw (one_bit v lt pos) at t) read.takes;
+  tells = record {
+    contents = read.contents;
+    blocks = refl;
+    block = read.form;
+    reference_is = read.reference_is;
+    run = tt;
+    told = λ h. (let q = read.told h in (q.0, q.0.0, q.1, q.2));
+    refused = read.refused;
+  };
+  steps = omega (arith, read.steps);
+}
+
+pub run_low : {I : Type 0} (left : I → Option (List ℕ)) (failed : I → ℕ) (old mid new : Reader I) (first second last : ℕ) (s : Parameters) (b : ℕ) (r : Option ℕ) (zeros : ℕ) (items : List ℕ)
+    → Takes left failed old mid (word 1 0) → second + old.taken ≡ first + mid.taken
+    → IsReference s b r → Takes left failed mid new (run_tail s r zeros) → last + mid.taken ≡ second + new.taken → LowRead left failed old new first last s b (Zeros r zeros) items
+run_low left failed old mid new first second last s b r zeros items t steps h u more =
+    by_zeros (zeros == 4) refl
+  where
+    run_is : (m : ℕ) → (m == 4) ≡ false → (1 ≤ (if nat_lt m 4 then m + 1 else m)) × (run_number (if nat_lt m 4 then m + 1 else m) ≡ m)
+    run_is m e = (grind (arith, nat_tests), grind (arith, nat_tests))
+
+    whole : Takes left failed old new (false ∷ run_tail s r zeros)
+    whole = takes-append left failed old mid new (false ∷ []) _ (rw zero_bit at t) u
+
+    by_zeros : (b' : Bool) → (zeros == 4) ≡ b' → LowRead left failed old new first last s b (Zeros r zeros) items
+    by_zeros true e = record {
+      set = RemainderOfSegment r;
+      low = tt;
+      form = h;
+      takes = (let z : zeros ≡ 4 = grind (arith, nat_tests) in subst (λ m. Takes left failed old new (false ∷ run_tail s r m)) z whole);
+      tells = sym (ap (λ c. cond c (RemainderOfSegment r) (ZeroBlocks r (if nat_lt zeros 4 then zeros + 1 else zeros))) e);
+      steps = omega arith;
+    }
+    by_zeros false e = record {
+      set = ZeroBlocks r (if nat_lt zeros 4 then zeros + 1 else zeros);
+      low = tt;
+      form = (h, (run_is zeros e).0);
+      takes = subst (λ m. Takes left failed old new (false ∷ run_tail s r m)) (sym (run_is zeros e).1) whole;
+      tells = sym (ap (λ c. cond c (RemainderOfSegment r) (ZeroBlocks r (if nat_lt zeros 4 then zeros + 1 else zeros))) e);
+      steps = omega arith;
+    }
+
+short_id : (s : Parameters) → id_len s ≤ 5
+short_id s = grind (arith, nat_tests)
+
+-- the identifier of ones
+pub ones_id : (s : Parameters) → (1 * 2 ^ id_len s) % 2 ^ 32 - 1 ≡ 2 ^ id_len s - 1
+ones_id s = shifted (id_len s) (short_id s)
+  where
+    shifted : (w : ℕ) → w ≤ 5 → (1 * 2 ^ w) % 2 ^ 32 - 1 ≡ 2 ^ w - 1
+    shifted w h = let le : 2 ^ w ≤ 2 ^ 5 = pow_mono h in let e : (1 * 2 ^ w) % 2 ^ 32 ≡ 1 * 2 ^ w = mod-eq_of_lt (omega arith) in omega arith

@@ -1,0 +1,297 @@
+-- What is read of a block behind its identifier.
+use Rattle.std.proofs.Common.{◌≡◌, ℕ, zero, suc, ◌+◌, ◌-◌, ◌*◌, ◌/◌, ◌%◌, ◌^◌, ◌<◌, ◌≤◌, Bool, true, false, List, [], ◌∷◌, ◌++◌, length, refl, sym, ◌∙◌, ap, subst, arith, append_assoc, length-append, replicate, take, drop, length-drop, Option, Some, None, ◌⊎◌}
+use Rattle.std.specs.Prelude.{All, flat_map, is_some, slice_index, OnSome, sum}
+use Rattle.std.proofs.lemmas.List.{append-nil, length-take, length-take-le}
+use Rattle.rice_bits.specs.Bits.{word, fundamental_sequence}
+use Rattle.rice_bits.specs.read.Reader.{Reader, Takes, Stops}
+use Rattle.rice_bits.specs.declared.read.fault.BitFault.{BitFault}
+use Rattle.rice_bits.proofs.lemmas.bits.OneWay.{sequence_reads}
+use Rattle.rice_bits.proofs.lemmas.read.ReaderLemmas.{takes-append, stops-append}
+use Rattle.rice_bits.proofs.lemmas.bits.Words.{length-word}
+use Rattle.rice_samples.specs.Parameters.{Parameters, IsLegal, value_count, k_max}
+use Rattle.rice_samples.specs.Places.{has_reference}
+use Rattle.rice_code.specs.code.Blocks.{Contents}
+use Rattle.rice_samples.specs.blocks.Pairs.{pair_codes}
+use Rattle.rice_code.specs.code.CodedDataSets.{DataSet, NoCompression, SecondExtension, Split, coded, coded_from, reference_text, no_compression_tail, second_extension_tail, split_tail, run_tail}
+use Rattle.rice_code.specs.code.Forms.{IsForm, IsReference, IsBlock}
+use Rattle.rice_code.specs.decode.Fields.{Row, CountRow, PairRow, ones}
+use Rattle.rice_code.specs.decode.ReadSets.{BlockRead, BlockCut, reference_place, joined_parts}
+use Rattle.rice_samples.proofs.lemmas.blocks.PairLemmas.{count_pairs}
+use Rattle.rice_bits.proofs.lemmas.read.WindowLemmas.{length-words}
+use Rattle.rice_code.proofs.lemmas.decode.FieldLemmas.{put_rest, ones-append, ones-zeros, ones-sequence, ones-sequences}
+use Rattle.rice_code.proofs.lemmas.decode.JoinedParts.{length-joined, high_pieces, low_pieces, highs_small}
+use Rattle.std.proofs.lemmas.Nat.{pow_pos}
+use borrow.Rule.Slice.PartMut.{put_mid}
+use Rattle.rice_code.proofs.lemmas.code.ReadInOneWay.{after_reference}
+
+pub coded-placed : (r : Option ℕ) (vs : List ℕ) → coded_from r (reference_place r ++ vs) ≡ vs
+coded-placed None vs = refl
+coded-placed (Some v) vs = refl
+
+pub zero-placed : (r : Option ℕ) (vs : List ℕ) → OnSome r (slice_index (reference_place r ++ vs) 0 ≡ 0)
+zero-placed None vs = tt
+zero-placed (Some v) vs = refl
+
+pub all-placed : (P : ℕ → Type 0) (r : Option ℕ) (vs : List ℕ) → P 0 → All P vs → All P (reference_place r ++ vs)
+all-placed P None vs z h = h
+all-placed P (Some v) vs z h = λ i. by_index i
+  where
+    by_index : (i : ℕ) (d : ℕ) → i < length (0 ∷ vs) → P (Rattle.std.proofs.Common.get_or (0 ∷ vs) i d)
+    by_index zero d lt = z
+    by_index (suc i) d lt = h i d (omega arith)
+
+-- as many residuals are coded at a block, whatever they are
+pub length-coded_at : (s : Parameters) (b : ℕ) (c : Contents) (r : Option ℕ) (count : ℕ) → IsBlock s b c → IsReference s b r → count + length (reference_place r) ≡ s.block → length (coded c) ≡ count
+length-coded_at s b c r count h k e = by_cases r c.reference c.residuals (k.there ∙ sym h.reference.there) (e ∙ sym h.len)
+  where
+    by_cases : (r q : Option ℕ) (ds : List ℕ) → Rattle.std.specs.Prelude.is_some r ≡ Rattle.std.specs.Prelude.is_some q → count + length (reference_place r) ≡ length ds → length (coded_from q ds) ≡ count
+    by_cases None None ds e f = omega arith
+    by_cases None (Some w) ds e f = absurd cc
+    by_cases (Some v) None ds e f = absurd cc
+    by_cases (Some v) (Some w) [] e f = absurd (omega arith)
+    by_cases (Some v) (Some w) (d ∷ ds) e f = omega arith
+
+pub length-reference : (s : Parameters) (b : ℕ) (r : Option ℕ) → IsReference s b r → has_reference s b ≡ true → length (reference_text s r) ≡ s.bits
+length-reference s b None h k = absurd (let f : false ≡ true = h.there ∙ k in cc)
+length-reference s b (Some v) h k = length-word s.bits v
+
+-- nothing begins with less than a reference
+pub short_reference : (s : Parameters) (b : ℕ) (r : Option ℕ) (bits rest more : List Bool) → IsReference s b r → has_reference s b ≡ true → length bits < s.bits →
+    bits ≡ (reference_text s r ++ rest) ++ more → ⊥
+short_reference s b r bits rest more h k lt e =
+    omega (arith, ap length e, length-append (reference_text s r ++ rest) more, length-append (reference_text s r) rest, length-reference s b r h k)
+
+-- behind a reference stands one and what follows it
+pub behind_reference : (s : Parameters) (b : ℕ) (r q : Option ℕ) (bits rest more : List Bool) → IsReference s b r → IsReference s b q →
+    reference_text s r ++ bits ≡ (reference_text s q ++ rest) ++ more → (r ≡ q) × (bits ≡ rest ++ more)
+behind_reference s b r q bits rest more h k e =
+    let a = after_reference s b r q h k bits rest [] more (append-nil (reference_text s r ++ bits) ∙ e) in
+    (a.0, sym (append-nil bits) ∙ a.1)
+
+short_words : (width count : ℕ) (vs : List ℕ) (bits more : List Bool) → length vs ≡ count → length bits < count * width → bits ≡ flat_map (word width) vs ++ more → ⊥
+short_words width count vs bits more n lt e =
+    let k : length vs * width ≡ count * width = ap (λ m. m * width) n in
+    omega (arith, ap length e, length-append (flat_map (word width) vs) more, length-words width vs)
+
+-- what was read alone stands behind others
+pub placed_row : {I : Type 0} (left : I → Option (List ℕ)) (failed : I → ℕ) (piece : ℕ → List Bool) (P : ℕ → Type 0) (old new : Reader I) (count : ℕ) (before alone after : List ℕ)
+    → Row left failed piece P old new count [] alone → after ≡ before ++ alone → Row left failed piece P old new count before after
+placed_row left failed piece P old new count before alone after row e = record {
+  values = row.values;
+  len = row.len;
+  each = row.each;
+  appended = e ∙ ap (λ z. before ++ z) row.appended;
+  takes = row.takes;
+}
+
+pub plain_read : {I : Type 0} (left : I → Option (List ℕ)) (failed : I → ℕ) (old mid new : Reader I) (first last : ℕ) (s : Parameters) (b : ℕ) (r : Option ℕ) (count : ℕ) (items : List ℕ)
+    → IsReference s b r → count + length (reference_place r) ≡ s.block → 0 < value_count s → Takes left failed old mid (reference_text s r)
+    → Row left failed (word s.bits) (λ v. v < 2 ^ s.bits) mid new count (reference_place r) items → last + old.taken ≡ first + new.taken
+    → BlockRead left failed old new first last s b NoCompression (no_compression_tail s) r true items
+plain_read left failed old mid new first last s b r count items h n z t row steps =
+    let len : length (reference_place r ++ row.values) ≡ s.block = omega (arith, length-append (reference_place r) row.values, row.len) in
+    let fit = all-placed (λ d. d < value_count s) r row.values z row.each in
+    record {
+      contents = record { reference = r; residuals = reference_place r ++ row.values };
+      form = (record { reference = h; len = len }, zero-placed r row.values, fit);
+      reference_is = refl;
+      takes = rw (coded-placed r row.values) (takes-append left failed old mid new _ _ t row.takes);
+      told = λ _. (tt, fit, sym row.appended);
+      refused = λ e. absurd cc;
+      steps = omega arith;
+    }
+
+pub plain_cut : {I : Type 0} (left : I → Option (List ℕ)) (failed : I → ℕ) (old mid new : Reader I) (s : Parameters) (b : ℕ) (r : Option ℕ) (count : ℕ) (bits : List Bool) (f : BitFault)
+    → IsReference s b r → count + length (reference_place r) ≡ s.block → Takes left failed old mid (reference_text s r)
+    → length bits < count * s.bits → Stops left failed mid new bits f → BlockCut left failed old new s b NoCompression (no_compression_tail s) f
+plain_cut left failed old mid new s b r count bits f h n t short stops = record {
+  bits = reference_text s r ++ bits;
+  stops = stops-append left failed old mid new _ bits f t stops;
+  none = λ c more form e.
+      (let a = behind_reference s b r c.reference bits (flat_map (word s.bits) (coded c)) more h form.0.reference e in
+      short_words s.bits count (coded c) bits more (length-coded_at s b c r count form.0 h n) short a.1);
+}
+
+-- a block is cut off inside its reference
+pub cut_at_reference : {I : Type 0} (left : I → Option (List ℕ)) (failed : I → ℕ) (old new : Reader I) (s : Parameters) (b : ℕ) (option : Contents → DataSet) (rest : Contents → List Bool) (bits : List Bool) (f : BitFault)
+    → ((c : Contents) → IsForm s b (option c) → IsReference s b c.reference) → has_reference s b ≡ true → length bits < s.bits → Stops left failed old new bits f
+    → BlockCut left failed old new s b option (λ c. reference_text s c.reference ++ rest c) f
+cut_at_reference left failed old new s b option rest bits f refs k short stops = record {
+  bits = bits;
+  stops = stops;
+  none = λ c more form e. short_reference s b c.reference bits (rest c) more (refs c form) k short e;
+}
+
+pub run_cut_at_reference : (s : Parameters) (b : ℕ) (bits : List Bool) → has_reference s b ≡ true → length bits < s.bits
+    → (r : Option ℕ) (m : ℕ) (more : List Bool) → IsReference s b r → bits ≡ run_tail s r m ++ more → ⊥
+run_cut_at_reference s b bits k short r m more h e = short_reference s b r bits (fundamental_sequence m) more h k short e
+
+pub run_cut : (s : Parameters) (b : ℕ) (r : Option ℕ) (zeros : ℕ) → IsReference s b r
+    → (q : Option ℕ) (m : ℕ) (more : List Bool) → IsReference s b q → reference_text s r ++ replicate zeros false ≡ run_tail s q m ++ more → ⊥
+run_cut s b r zeros h q m more k e =
+    let a = behind_reference s b r q (replicate zeros false) (fundamental_sequence m) more h k e in
+    omega (arith, ap ones a.1, ones-zeros zeros, ones-append (fundamental_sequence m) more, ones-sequence m)
+
+pub second_read : {I : Type 0} (left : I → Option (List ℕ)) (failed : I → ℕ) (old mid new : Reader I) (first second last : ℕ) (s : Parameters) (b : ℕ) (r : Option ℕ) (half : ℕ) (items : List ℕ) (sound : Bool)
+    → IsReference s b r → half + half ≡ s.block → Takes left failed old mid (reference_text s r)
+    → PairRow left failed mid new half items second last → second + old.taken ≡ first + mid.taken
+    → (sound ≡ true → OnSome r (slice_index items 0 ≡ 0) × All (λ d. d < value_count s) items)
+    → (sound ≡ false → OnSome r (slice_index items 0 ≡ 0) × All (λ d. d < value_count s) items → ⊥)
+    → BlockRead left failed old new first last s b SecondExtension (second_extension_tail s) r sound items
+second_read left failed old mid new first second last s b r half items sound h n t row steps told refused = record {
+  contents = record { reference = r; residuals = items };
+  form = record { reference = h; len = row.len ∙ n };
+  reference_is = refl;
+  takes = takes-append left failed old mid new _ _ t row.takes;
+  told = λ e. (told e, (told e).1, refl);
+  refused = refused;
+  steps = omega (arith, row.steps);
+}
+
+pub second_cut : {I : Type 0} (left : I → Option (List ℕ)) (failed : I → ℕ) (old mid new : Reader I) (s : Parameters) (b : ℕ) (r : Option ℕ) (half : ℕ) (bits : List Bool) (f : BitFault)
+    → IsReference s b r → half + half ≡ s.block → Takes left failed old mid (reference_text s r)
+    → ones bits < half → Stops left failed mid new bits f → BlockCut left failed old new s b SecondExtension (second_extension_tail s) f
+second_cut left failed old mid new s b r half bits f h n t short stops = record {
+  bits = reference_text s r ++ bits;
+  stops = stops-append left failed old mid new _ bits f t stops;
+  none = λ c more form e.
+      (let a = behind_reference s b r c.reference bits (flat_map fundamental_sequence (pair_codes c.residuals)) more h form.reference e in
+      omega (arith, ap ones a.1, ones-append (flat_map fundamental_sequence (pair_codes c.residuals)) more, ones-sequences (pair_codes c.residuals), count_pairs half c.residuals (form.len ∙ sym n)));
+}
+
+all-suffix : (P : ℕ → Type 0) (r : Option ℕ) (vs : List ℕ) → All P (reference_place r ++ vs) → All P vs
+all-suffix P None vs h = h
+all-suffix P (Some v) vs h = λ i d lt. h (suc i) d (omega arith)
+
+pub split_read : {I : Type 0} (left : I → Option (List ℕ)) (failed : I → ℕ) (old mid next new : Reader I) (first last : ℕ) (s : Parameters) (b k : ℕ) (r : Option ℕ) (count : ℕ) (P : ℕ → Type 0) (highs lows items : List ℕ) (sound : Bool)
+    → IsReference s b r → k ≤ k_max s → count + length (reference_place r) ≡ s.block → Takes left failed old mid (reference_text s r)
+    → Row left failed fundamental_sequence P mid next count [] highs → Row left failed (word k) (λ v. v < 2 ^ k) next new count [] lows → last + old.taken ≡ first + new.taken
+    → (sound ≡ true → All (λ d. d < value_count s) (joined_parts k highs lows)) → (sound ≡ true → items ≡ reference_place r ++ joined_parts k highs lows)
+    → (sound ≡ false → All (λ d. d < value_count s) (joined_parts k highs lows) → ⊥)
+    → BlockRead left failed old new first last s b (Split k) (split_tail s k) r sound items
+split_read left failed old mid next new first last s b k r count P highs lows items sound h le n t high low steps fit same refused =
+    let ds = joined_parts k highs lows in
+    let nh : length highs ≡ count = ap length high.appended ∙ high.len in
+    let nl : length lows ≡ count = ap length low.appended ∙ low.len in
+    let nd : length ds ≡ count = length-joined k highs lows (nl ∙ sym nh) ∙ nh in
+    let lows_fit : All (λ v. v < 2 ^ k) lows = subst (λ xs. All (λ v. v < 2 ^ k) xs) (sym low.appended) low.each in
+    let hp : flat_map (λ d. fundamental_sequence (d / 2 ^ k)) ds ≡ flat_map fundamental_sequence high.values = high_pieces k highs lows (nl ∙ sym nh) lows_fit ∙ ap (flat_map fundamental_sequence) high.appended in
+    let lp : flat_map (word k) ds ≡ flat_map (word k) low.values = low_pieces k highs lows (nl ∙ sym nh) ∙ ap (flat_map (word k)) low.appended in
+    record {
+      contents = record { reference = r; residuals = reference_place r ++ ds };
+      form = (record { reference = h; len = omega (arith, length-append (reference_place r) ds) }, zero-placed r ds, le);
+      reference_is = refl;
+      takes = rw (coded-placed r ds, hp, lp) (takes-append left failed old mid new _ _ t (takes-append left failed mid next new _ _ high.takes low.takes));
+      told = λ e. (let q = all-placed (λ d. d < value_count s) r ds (pow_pos s.bits) (fit e) in (q, q, sym (same e)));
+      refused = λ e q. refused e (all-suffix (λ d. d < value_count s) r ds q);
+      steps = omega arith;
+    }
+
+-- those of a row of counts, whatever is told
+pub count_row : {I : Type 0} (left : I → Option (List ℕ)) (failed : I → ℕ) (old new : Reader I) (most : ℕ) (small : Bool) (many count : ℕ) (told : List ℕ)
+    → many ≡ count → (row : CountRow left failed old new most small many told) → Row left failed fundamental_sequence (λ _. Unit {0}) old new count [] row.values
+count_row left failed old new most small many count told e row = record { values = row.values; len = row.len ∙ e; each = λ i d lt. tt; appended = refl; takes = row.takes }
+
+-- a high part is too large
+pub split_large : {I : Type 0} (left : I → Option (List ℕ)) (failed : I → ℕ) (old mid next new : Reader I) (first last : ℕ) (s : Parameters) (b k : ℕ) (r : Option ℕ) (many count : ℕ) (told lows items : List ℕ) (small : Bool)
+    → IsReference s b r → k ≤ k_max s → count + length (reference_place r) ≡ s.block → many ≡ count → Takes left failed old mid (reference_text s r)
+    → CountRow left failed mid next ((value_count s - 1) / 2 ^ k) small many told → small ≡ false → Row left failed (word k) (λ v. v < 2 ^ k) next new count [] lows → last + old.taken ≡ first + new.taken
+    → BlockRead left failed old new first last s b (Split k) (split_tail s k) r false items
+split_large left failed old mid next new first last s b k r many count told lows items small h le n m t high e low steps =
+    let nl : length lows ≡ count = ap length low.appended ∙ low.len in
+    split_read left failed old mid next new first last s b k r count (λ _. Unit {0}) high.values lows items false h le n t
+    (count_row left failed mid next _ small many count told m high) low steps (λ f. absurd cc) (λ f. absurd cc)
+    (λ f all. high.refused e (highs_small k (value_count s) high.values lows (nl ∙ sym (high.len ∙ m)) (pow_pos s.bits) all))
+
+-- high parts stand in their places
+pub split_joined : {I : Type 0} (left : I → Option (List ℕ)) (failed : I → ℕ) (old mid next new : Reader I) (first last : ℕ) (s : Parameters) (b k : ℕ) (r : Option ℕ) (many count : ℕ) (told lows items : List ℕ) (small sound : Bool)
+    → IsReference s b r → k ≤ k_max s → count + length (reference_place r) ≡ s.block → many ≡ count → Takes left failed old mid (reference_text s r)
+    → CountRow left failed mid next ((value_count s - 1) / 2 ^ k) small many told → small ≡ true → Row left failed (word k) (λ v. v < 2 ^ k) next new count [] lows → last + old.taken ≡ first + new.taken
+    → items ≡ reference_place r ++ joined_parts k told lows
+    → (sound ≡ true → All (λ d. d < value_count s) (joined_parts k told lows)) → (sound ≡ false → All (λ d. d < value_count s) (joined_parts k told lows) → ⊥)
+    → BlockRead left failed old new first last s b (Split k) (split_tail s k) r sound items
+split_joined left failed old mid next new first last s b k r many count told lows items small sound h le n m t high e low steps joined below above =
+    let is : joined_parts k told lows ≡ joined_parts k high.values lows = ap (λ xs. joined_parts k xs lows) (high.told_are e).0 in
+    split_read left failed old mid next new first last s b k r count (λ _. Unit {0}) high.values lows items sound h le n t
+    (count_row left failed mid next _ small many count told m high) low steps
+    (λ f. subst (λ xs. All (λ d. d < value_count s) xs) is (below f))
+    (λ f. joined ∙ ap (λ xs. reference_place r ++ xs) is)
+    (λ f all. above f (subst (λ xs. All (λ d. d < value_count s) xs) (sym is) all))
+
+ones-high : (k : ℕ) (ds : List ℕ) → ones (flat_map (λ d. fundamental_sequence (d / 2 ^ k)) ds) ≡ length ds
+ones-high k [] = refl
+ones-high k (d ∷ ds) = omega (arith, ones-append (fundamental_sequence (d / 2 ^ k)) (flat_map (λ d. fundamental_sequence (d / 2 ^ k)) ds), ones-sequence (d / 2 ^ k), ones-high k ds)
+
+pub split_cut_high : {I : Type 0} (left : I → Option (List ℕ)) (failed : I → ℕ) (old mid new : Reader I) (s : Parameters) (b k : ℕ) (r : Option ℕ) (count : ℕ) (bits : List Bool) (f : BitFault)
+    → IsReference s b r → count + length (reference_place r) ≡ s.block → Takes left failed old mid (reference_text s r)
+    → ones bits < count → Stops left failed mid new bits f → BlockCut left failed old new s b (Split k) (split_tail s k) f
+split_cut_high left failed old mid new s b k r count bits f h n t short stops = record {
+  bits = reference_text s r ++ bits;
+  stops = stops-append left failed old mid new _ bits f t stops;
+  none = λ c more form e.
+      (let a = behind_reference s b r c.reference bits (flat_map (λ d. fundamental_sequence (d / 2 ^ k)) (coded c) ++ flat_map (word k) (coded c)) more h form.0.reference e in
+      omega (
+        arith,
+        ap ones a.1,
+        ones-append (flat_map (λ d. fundamental_sequence (d / 2 ^ k)) (coded c) ++ flat_map (word k) (coded c)) more,
+        ones-append (flat_map (λ d. fundamental_sequence (d / 2 ^ k)) (coded c)) (flat_map (word k) (coded c)),
+        ones-high k (coded c),
+        length-coded_at s b c r count form.0 h n,
+      ));
+}
+
+after_sequences : (k : ℕ) (ms ds : List ℕ) (x y : List Bool) → length ms ≡ length ds → flat_map fundamental_sequence ms ++ x ≡ flat_map (λ d. fundamental_sequence (d / 2 ^ k)) ds ++ y → x ≡ y
+after_sequences k [] [] x y n e = e
+after_sequences k [] (d ∷ ds) x y n e = absurd (omega arith)
+after_sequences k (m ∷ ms) [] x y n e = absurd (omega arith)
+after_sequences k (m ∷ ms) (d ∷ ds) x y n e =
+    let a = sequence_reads m (d / 2 ^ k) (flat_map fundamental_sequence ms ++ x) (flat_map (λ d. fundamental_sequence (d / 2 ^ k)) ds ++ y)
+    (sym (append_assoc (fundamental_sequence m) (flat_map fundamental_sequence ms) x) ∙ (e ∙ append_assoc (fundamental_sequence (d / 2 ^ k)) (flat_map (λ d. fundamental_sequence (d / 2 ^ k)) ds) y)) in
+    after_sequences k ms ds x y (omega arith) a.1
+
+pub split_cut_low : {I : Type 0} (left : I → Option (List ℕ)) (failed : I → ℕ) (old mid next new : Reader I) (s : Parameters) (b k : ℕ) (r : Option ℕ) (count : ℕ) (P : ℕ → Type 0) (highs : List ℕ) (bits : List Bool) (f : BitFault)
+    → IsReference s b r → count + length (reference_place r) ≡ s.block → Takes left failed old mid (reference_text s r)
+    → Row left failed fundamental_sequence P mid next count [] highs
+    → length bits < count * k → Stops left failed next new bits f → BlockCut left failed old new s b (Split k) (split_tail s k) f
+split_cut_low left failed old mid next new s b k r count P highs bits f h n t high short stops = record {
+  bits = reference_text s r ++ (flat_map fundamental_sequence high.values ++ bits);
+  stops = stops-append left failed old mid new _ _ f t (stops-append left failed mid next new _ bits f high.takes stops);
+  none = λ c more form e.
+      (let a = behind_reference s b r c.reference (flat_map fundamental_sequence high.values ++ bits) (flat_map (λ d. fundamental_sequence (d / 2 ^ k)) (coded c) ++ flat_map (word k) (coded c)) more h form.0.reference e in
+      let len = length-coded_at s b c r count form.0 h n in
+      let low = after_sequences k high.values (coded c) bits (flat_map (word k) (coded c) ++ more) (high.len ∙ sym len)
+      (a.1 ∙ append_assoc (flat_map (λ d. fundamental_sequence (d / 2 ^ k)) (coded c)) (flat_map (word k) (coded c)) more) in
+      short_words k count (coded c) bits more len short low);
+}
+
+-- a block is two halves
+pub two_halves : (n : ℕ) → (n ≡ 8) ⊎ (n ≡ 16) ⊎ (n ≡ 32) ⊎ (n ≡ 64) → n / 2 + n / 2 ≡ n
+two_halves n h = grind (arith, h)
+
+-- the coded residuals of a block: where they begin, and how many there are
+pub coded_part : (s : Parameters) (r : Option ℕ) (first : ℕ) (xs : List ℕ) → IsLegal s → first ≡ length (reference_place r) → length xs ≡ s.block
+    → (first ≤ length xs) × (length (take (length xs - first) (drop first xs)) + length (reference_place r) ≡ s.block) × (length xs - first ≤ 64)
+coded_part s r first xs legal e n =
+    let few : length (reference_place r) ≤ 1 = one_at_most r in
+    let size = sizes s.block legal.block in
+    let len : length (take (length xs - first) (drop first xs)) ≡ length xs - first = length-take-le (length xs - first) (drop first xs) (omega (arith, length-drop first xs)) in
+    (omega (arith, few, size.0, e, n), omega (arith, len, few, size.0, e, n), omega (arith, size.1, n))
+  where
+    one_at_most : (r : Option ℕ) → length (reference_place r) ≤ 1
+    one_at_most None = omega arith
+    one_at_most (Some v) = omega arith
+
+    sizes : (n : ℕ) → (n ≡ 8) ⊎ (n ≡ 16) ⊎ (n ≡ 32) ⊎ (n ≡ 64) → (1 ≤ n) × (n ≤ 64)
+    sizes n h = (grind (arith, h), grind (arith, h))
+
+-- as many of 64 places
+pub as_many : (n : ℕ) (xs zs : List ℕ) → length zs ≡ 64 → n ≤ 64 → length (take (length (take n xs)) zs) ≡ length (take n xs)
+as_many n xs zs e h = length-take-le (length (take n xs)) zs (omega (arith, e, length-take n xs))
+
+-- coded residuals that are written behind the reference place
+pub placed : (first : ℕ) (r : Option ℕ) (xs ys : List ℕ) → take first xs ≡ reference_place r → first ≤ length xs → put_mid first (length xs - first) xs ys ≡ reference_place r ++ ys
+placed first r xs ys e h = put_rest first xs ys h ∙ ap (λ z. z ++ ys) e
+
+pub zero-place : (r : Option ℕ) → is_some r ≡ true → 0 ∷ [] ≡ reference_place r
+zero-place None h = absurd cc
+zero-place (Some v) h = refl

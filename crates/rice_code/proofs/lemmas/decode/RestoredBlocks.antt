@@ -1,0 +1,123 @@
+-- Samples of a block, restored.
+use Rattle.std.proofs.Common.{◌≡◌, ℕ, suc, ◌+◌, ◌*◌, ◌/◌, ◌%◌, ◌<◌, ◌==◌, Bool, true, false, cond, List, [], ◌∷◌, ◌++◌, length, map, take, drop, slice_set, append-nil, refl, sym, ◌∙◌, ap, arith, Option, Some, None, ℤ, zero, ◌-◌, subst, ◌≤◌, inl, inr, replicate}
+use Rattle.std.specs.List.{refill}
+use Rattle.std.specs.Prelude.{IfSome, is_some, slice_index, slice_index_or, ◌&&◌}
+use Rattle.std.proofs.lemmas.Nat.{div-mul-add}
+use Rattle.std.proofs.Math.Nat.{mul_comm}
+use Rattle.std.proofs.lemmas.Nat.{mod-mul-add}
+use Rattle.std.proofs.lemmas.List.{drop_all, take_all}
+use Rattle.std.proofs.Math.Dec.{eqb-suc-zero}
+use borrow.Rule.Slice.PartMut.{put_mid}
+use Rattle.rice_samples.specs.Parameters.{Parameters}
+use Rattle.rice_samples.specs.Places.{has_reference, is_reference, place}
+use Rattle.rice_samples.specs.predict.Residuals.{residual, residuals, rank, ranks, pattern}
+use Rattle.rice_code.specs.code.Blocks.{contents, zeros}
+use Rattle.rice_code.specs.code.Forms.{IsReference}
+use Rattle.rice_code.specs.decode.Restored.{residual_at}
+use Rattle.rice_code.proofs.lemmas.meaning.Covers.{bool_cases}
+use Rattle.rice_code.proofs.lemmas.code.Filling.{Repeats, repeated_all}
+
+-- of a block's samples only the first is a reference, if the block has one
+pub reference_within : (s : Parameters) (b j : ℕ) → j < s.block → is_reference s (s.block * b + j) ≡ (has_reference s b && j == 0)
+reference_within s b j h =
+    let c : s.block * b + j ≡ b * s.block + j = ap (λ n. n + j) (mul_comm s.block b) in
+    let q : (s.block * b + j) / s.block ≡ b = ap (λ n. n / s.block) c ∙ div-mul-add b s.block j h in
+    let r : (s.block * b + j) % s.block ≡ j = ap (λ n. n % s.block) c ∙ mod-mul-add b s.block j h in
+    λ i. has_reference s (q i) && (r i == 0)
+
+and-swap : (a b : Bool) → (a && b) ≡ (b && a)
+and-swap true true = refl
+and-swap true false = refl
+and-swap false true = refl
+and-swap false false = refl
+
+pub residual_within : (s : Parameters) (b j : ℕ) (r : Option ℕ) (p x : ℤ) → j < s.block → IsReference s b r → residual s (s.block * b + j) p x ≡ residual_at s r (j == 0) p x
+residual_within s b j r p x h k =
+    let e : is_reference s (s.block * b + j) ≡ ((j == 0) && is_some r) = reference_within s b j h ∙ (ap (λ z. z && (j == 0)) (sym k.there) ∙ and-swap (is_some r) (j == 0)) in
+    ap (λ z. cond s.preprocess (cond z 0 (rank s p x)) (pattern s x)) e
+
+-- the residuals of samples that no reference is among
+ranks_within : (s : Parameters) (b j : ℕ) (r : Option ℕ) (p : ℤ) (xs : List ℤ) → IsReference s b r → s.preprocess ≡ true → ((j == 0) && is_some r) ≡ false → j + length xs ≤ s.block → residuals s (s.block * b + j) p xs ≡ ranks s p xs
+ranks_within s b j r p [] k e f h = refl
+ranks_within s b j r p (x ∷ xs) k e f h =
+    let one : residual s (s.block * b + j) p x ≡ rank s p x = residual_within s b j r p x (omega (arith, h)) k ∙ (λ i. cond (e i) (cond (f i) 0 (rank s p x)) (pattern s x)) in
+    let at : s.block * b + j + 1 ≡ s.block * b + suc j = omega arith in
+    let rest = ap (λ n. residuals s n x xs) at ∙ ranks_within s b (suc j) r x xs k e (ap (λ v. v && is_some r) (eqb-suc-zero j)) (omega (arith, h)) in
+    λ i. one i ∷ rest i
+
+patterns_alone : (s : Parameters) (n : ℕ) (p : ℤ) (xs : List ℤ) → s.preprocess ≡ false → residuals s n p xs ≡ map (pattern s) xs
+patterns_alone s n p [] e = refl
+patterns_alone s n p (x ∷ xs) e = let rest = patterns_alone s (n + 1) x xs e in λ i. cond (e i) (cond (is_reference s n) 0 (rank s p x)) (pattern s x) ∷ rest i
+
+pub contents_are : (s : Parameters) (b : ℕ) (p : ℤ) (r : Option ℕ) (ds : List ℕ) (samples : List ℤ) → IsReference s b r → residuals s (s.block * b) p samples ≡ ds → IfSome r (λ v. pattern s (slice_index_or samples 0 p) ≡ v)
+    → contents s b p samples ≡ record { reference = r; residuals = ds }
+contents_are s b p None ds samples h e first =
+    let f : cond (has_reference s b) (Some (pattern s (slice_index_or samples 0 p))) None ≡ None = ap (λ t. cond t (Some (pattern s (slice_index_or samples 0 p))) None) (sym h.there) in
+    λ i. record { reference = f i; residuals = e i }
+contents_are s b p (Some v) ds samples h e first =
+    let f : cond (has_reference s b) (Some (pattern s (slice_index_or samples 0 p))) None ≡ Some v = ap (λ t. cond t (Some (pattern s (slice_index_or samples 0 p))) None) (sym h.there) ∙ ap (λ w. Some w) first in
+    λ i. record { reference = f i; residuals = e i }
+
+pub contents_of_patterns : (s : Parameters) (b : ℕ) (p : ℤ) (ds : List ℕ) (xs : List ℤ) → IsReference s b None → s.preprocess ≡ false → map (pattern s) xs ≡ ds → contents s b p xs ≡ record { reference = None; residuals = ds }
+contents_of_patterns s b p ds xs h e m = contents_are s b p None ds xs h (patterns_alone s (s.block * b) p xs e ∙ m) tt
+
+pub contents_of_ranks : (s : Parameters) (b : ℕ) (p : ℤ) (ds : List ℕ) (xs : List ℤ) → IsReference s b None → s.preprocess ≡ true → length xs ≡ s.block → ranks s p xs ≡ ds → contents s b p xs ≡ record { reference = None; residuals = ds }
+contents_of_ranks s b p ds xs h e len r =
+    let at : s.block * b ≡ s.block * b + 0 = omega arith in
+    contents_are s b p None ds xs h (ap (λ n. residuals s n p xs) at ∙ (ranks_within s b 0 None p xs h e refl (omega (arith, len)) ∙ r)) tt
+
+-- a block has a reference only with preprocessing
+preprocesses : (s : Parameters) (b v : ℕ) → IsReference s b (Some v) → s.preprocess ≡ true
+preprocesses s b v h = at s.preprocess (place s b == 0) h.there
+  where
+    at : (preprocess first : Bool) → true ≡ (preprocess && first) → preprocess ≡ true
+    at true first e = refl
+    at false first e = absurd (let f : true ≡ false = e in cc)
+
+-- the samples behind a reference
+pub contents_behind : (s : Parameters) (b : ℕ) (p x : ℤ) (v : ℕ) (ds : List ℕ) (ys : List ℤ) → IsReference s b (Some v) → length ds ≡ s.block → length ds ≡ suc (length ys) → slice_index ds 0 ≡ 0 → ranks s x ys ≡ drop 1 ds → pattern s x ≡ v
+    → contents s b p (x ∷ ys) ≡ record { reference = Some v; residuals = ds }
+contents_behind s b p x v [] ys h n len first r pat = absurd (omega arith)
+contents_behind s b p x v (d ∷ ds) ys h n len first r pat =
+    let e = preprocesses s b v h in
+    let at : s.block * b ≡ s.block * b + 0 = omega arith in
+    let one : residual s (s.block * b) p x ≡ d = ap (λ j. residual s j p x) at ∙ (residual_within s b 0 (Some v) p x (omega (arith, n)) h ∙ ((λ i. cond (e i) 0 (pattern s x)) ∙ sym first)) in
+    let rest : residuals s (s.block * b + 1) x ys ≡ ds = ranks_within s b 1 (Some v) x ys h e refl (omega (arith, n, len)) ∙ r in
+    contents_are s b p (Some v) (d ∷ ds) (x ∷ ys) h (λ i. one i ∷ rest i) pat
+
+-- one sample, and others behind it, in places that are as many
+pub put_behind : (xs ys : List ℤ) (x : ℤ) → length xs ≡ suc (length ys) → put_mid 1 (length (slice_set xs 0 x) - 1) (slice_set xs 0 x) ys ≡ x ∷ ys
+put_behind [] ys x e = absurd (omega arith)
+put_behind (z ∷ xs) ys x e = ap (λ v. x ∷ v) (ap (λ v. ys ++ v) (drop_all (length (x ∷ xs) - 1) xs (omega arith)) ∙ append-nil ys)
+
+pub refill_all : (xs ys : List ℤ) → length ys ≡ length xs → refill (length xs) xs ys ≡ ys
+refill_all xs ys e =
+    ap (λ v. take (length xs) (ys ++ v)) (drop_all (length ys) xs (omega (arith, e)))
+    ∙ (ap (take (length xs)) (append-nil ys) ∙ take_all (length xs) ys (omega (arith, e)))
+
+-- a sample that gives a residual of 0 first gives it again and again
+pub zeros_restored : (s : Parameters) (b : ℕ) (p x : ℤ) (r : Option ℕ) → IsReference s b r → 1 ≤ s.block → residual_at s r true p x ≡ 0 → IfSome r (λ v. pattern s x ≡ v) → contents s b p (replicate s.block x) ≡ zeros s r
+zeros_restored s b p x r h j res ref = contents_are s b p r (replicate s.block 0) (replicate s.block x) h (all_zeros s.block j) (subst Q (sym (first s.block j)) ref)
+  where
+    Q : ℤ → Type 0
+    Q y = IfSome r (λ v. pattern s y ≡ v)
+
+    first : (n : ℕ) → 1 ≤ n → slice_index_or (replicate n x) 0 p ≡ x
+    first zero h = absurd (omega arith)
+    first (suc n) h = refl
+
+    repeats : Repeats s x
+    repeats = elim (bool_cases s.preprocess) [
+      | inl e ↦ inl e
+      | inr e ↦ inr (sym (ap (λ v. cond v (cond (is_some r) 0 (rank s p x)) (pattern s x)) e) ∙ res)
+    ]
+
+    here : s.block * b ≡ s.block * b + 0
+    here = omega arith
+
+    all_zeros : (n : ℕ) → 1 ≤ n → residuals s (s.block * b) p (replicate n x) ≡ replicate n 0
+    all_zeros zero h = absurd (omega arith)
+    all_zeros (suc n) h' =
+        let one = ap (λ i. residual s i p x) here ∙ (residual_within s b 0 r p x j h ∙ res) in
+        let rest = repeated_all s (s.block * b + 1) n x repeats in
+        λ i. one i ∷ rest i

@@ -1,0 +1,11 @@
+-- The coder. `PushedCode` joins what a push does with the code; begin there.
+pub mod HeldSamples
+pub mod JoinedWords
+pub mod OpenSegments
+pub mod OptionBits
+pub mod PendingRuns
+pub mod PushedCode
+pub mod SearchLemmas
+pub mod SegmentSteps
+pub mod SeveralHeld
+pub mod SeveralPushed

@@ -1,0 +1,131 @@
+-- What an open segment holds, and the room that its code takes.
+use Rattle.std.proofs.Common.{◌≡◌, ℕ, suc, ◌+◌, ◌-◌, ◌*◌, ◌/◌, ◌%◌, ◌^◌, ◌<◌, ◌≤◌, ◌==◌, Bool, false, cond, ◌&&◌, List, ◌++◌, length, replicate, ap, arith, sym, ◌∙◌, inl, inr, append_assoc, length-append}
+use Rattle.std.proofs.lemmas.Bool.{cases_lt}
+use Rattle.std.proofs.lemmas.Bool.Decides.{nat_tests}
+use Rattle.std.proofs.lemmas.List.Concat.{length-flat_map}
+use Rattle.std.proofs.Math.Nat.{div-add-mod, mod-lt, mod-eq_of_lt, mod_self, mul-le-mul_left, mul-le-mul_right}
+use Rattle.rice_bits.specs.Bits.{bits_to_byte}
+use Rattle.rice_samples.specs.Parameters.{Parameters, IsLegal, id_len}
+use Rattle.rice_samples.specs.Places.{place, blocks_left}
+use Rattle.rice_samples.proofs.lemmas.setting.Levels.{zero_is_sample}
+use Rattle.rice_samples.proofs.lemmas.setting.PlaceLemmas.{some_left}
+use Rattle.rice_code.specs.code.Code.{data_sets}
+use Rattle.rice_code.specs.encode.Coder.{State, IsOpen, empty, emptied, next_start, blocks_held, contents_held, sets_held, code_held}
+use Rattle.rice_code.specs.code.CodedDataSets.{text, joined}
+use Rattle.rice_code.specs.encode.HeldBlocks.{AreSoundBlocks, held_blocks}
+use Rattle.rice_code.proofs.lemmas.cost.BlockBounds.{bounded, block_bits}
+use Rattle.rice_code.proofs.lemmas.code.SegmentLayouts.{code_lies}
+use Rattle.rice_code.proofs.lemmas.code.SegmentPlaces.{begins_next, next_start_is}
+use Rattle.rice_code.proofs.lemmas.encode.PendingRuns.{held_len}
+
+-- the room that a segment takes
+pub segment_room : (s : Parameters) (n : ℕ) → IsLegal s → n ≤ 64 → n * block_bits s ≤ 131392
+segment_room s n h k =
+    let j : s.block ≤ 64 = grind (arith, h.block) in
+    let i : id_len s ≤ 5 = grind (arith, nat_tests) in
+    let a : s.block * s.bits ≤ s.block * 32 = mul-le-mul_left s.block h.bits_to in
+    let b : block_bits s ≤ 2053 = omega (arith, a, i, j) in
+    let c : n * block_bits s ≤ n * 2053 = mul-le-mul_left n b in
+    omega (arith, c)
+
+-- and the steps
+pub segment_meter : (n i j bits k m len : ℕ) → n ≤ 64 → len ≤ n * (i + j * bits) → m + 64 * (i + j * (bits + k + 5)) < 2 ^ 62 → m + len + n * (j * (k + 5)) < 2 ^ 62
+segment_meter n i j bits k m len h e f =
+    let p : i + j * (bits + k + 5) ≡ i + j * bits + j * (k + 5) = omega arith in
+    let a : n * (i + j * bits + j * (k + 5)) ≤ 64 * (i + j * bits + j * (k + 5)) = mul-le-mul_right (i + j * bits + j * (k + 5)) h in
+    let b : n * (i + j * bits + j * (k + 5)) ≡ n * (i + j * bits) + n * (j * (k + 5)) = omega arith in
+    omega (arith, a, b, p, e, f)
+
+-- the fill stays in the segment
+pub fill_inside : (n j left : ℕ) → 1 ≤ j → n < j * left → n + (j - n % j) % j ≤ j * left
+fill_inside n j left h k =
+    let d = div-add-mod n j in
+    let r = mod-lt n h in
+    elim (cases_lt (n / j) left) [
+      | inr le ↦ absurd (let m : j * left ≤ j * (n / j) = mul-le-mul_left j le in omega arith)
+      | inl lt ↦
+          let m : j * suc (n / j) ≤ j * left = mul-le-mul_left j lt in
+          elim (cases_lt 0 (n % j)) [
+            | inl some ↦ let e : (j - n % j) % j ≡ j - n % j = mod-eq_of_lt (omega arith) in omega (arith, e, m, d)
+            | inr none ↦
+                let z : n % j ≡ 0 = omega arith in
+                let same : j - 0 ≡ j = omega arith in
+                let e : (j - n % j) % j ≡ 0 = ap (λ v. (j - v) % j) z ∙ (ap (λ v. v % j) same ∙ mod_self j) in
+                omega (arith, e, k)
+          ]
+    ]
+
+-- the bits of the blocks that are held
+pub few_bits : (coder : State) (count end : ℕ) → count ≡ blocks_held coder → IsOpen coder end → AreSoundBlocks coder.setting coder.start (contents_held coder) →
+    length (joined coder.setting (data_sets coder.setting coder.start false (held_blocks coder.setting coder.reference count coder.residuals))) ≤ count * block_bits coder.setting
+few_bits coder count end e h sound =
+    let s = coder.setting in
+    let bound = bounded s coder.start false (contents_held coder) h.legal sound in
+    let len = held_len s coder.reference (blocks_held coder) coder.residuals in
+    at_most _ _ _ _ _ _ bound len e (ap (λ n. length (joined s (data_sets s coder.start false (held_blocks s coder.reference n coder.residuals)))) e ∙ length-flat_map (text s) (sets_held coder))
+  where
+    at_most : (x y len n count m : ℕ) → y + 0 * m ≤ len * m → len ≡ n → count ≡ n → x ≡ y → x ≤ count * m
+    at_most x y len n count m h e f g = let p = ap (λ v. v * m) (e ∙ sym f) in omega arith
+
+-- no more blocks than the segment has
+pub few_blocks : (coder : State) (end : ℕ) → IsOpen coder end → length coder.residuals ≡ coder.setting.block * blocks_held coder → (blocks_held coder ≤ blocks_left coder.setting coder.start) × (blocks_held coder ≤ 64)
+few_blocks coder end h whole =
+    let s = coder.setting in
+    let j : 1 ≤ s.block = grind (arith, h.legal.block) in
+    let less : blocks_held coder ≤ blocks_left s coder.start = few s.block (blocks_held coder) (blocks_left s coder.start) j (omega (arith, whole, h.few)) in
+    (less, omega (arith, less, some_left s coder.start h.legal.interval_from))
+  where
+    few : (j q count : ℕ) → 1 ≤ j → j * q ≤ j * count → q ≤ count
+    few j q count h e = elim (cases_lt count q) [
+      | inl lt ↦ absurd (let k : j * suc count ≤ j * q = mul-le-mul_left j lt in omega arith)
+      | inr le ↦ le
+    ]
+
+-- what is put is the code of what is held
+pub code_is_held : (coder : State) (count end : ℕ) (old put new : List Bool) → count ≡ blocks_held coder → IsOpen coder end → AreSoundBlocks coder.setting coder.start (contents_held coder) → length coder.residuals ≡ coder.setting.block * blocks_held coder →
+    put ≡ old ++ joined coder.setting (data_sets coder.setting coder.start false (held_blocks coder.setting coder.reference count coder.residuals)) →
+    new ≡ put ++ replicate (cond (coder.setting.pad && coder.start + count == coder.setting.interval) (bits_to_byte (length put)) 0) false → new ≡ old ++ code_held coder (length old)
+code_is_held coder count end old put new e h sound whole f g =
+    let s = coder.setting in
+    let n = blocks_held coder in
+    let texts = joined s (sets_held coder) in
+    let f' : put ≡ old ++ texts = f ∙ ap (λ m. old ++ joined s (data_sets s coder.start false (held_blocks s coder.reference m coder.residuals))) e in
+    let len : length put ≡ length old + length texts = ap length f' ∙ length-append old texts in
+    let pad = λ (m bits : ℕ). replicate (cond (s.pad && coder.start + m == s.interval) (bits_to_byte bits) 0) false in
+    let lies = code_lies s coder.start (length old) n (contents_held coder) (held_len s coder.reference n coder.residuals) h.legal h.place sound (few_blocks coder end h whole).0 in
+    g ∙ ((λ i. f' i ++ pad (e i) (len i)) ∙ (append_assoc old texts (pad n (length old + length texts)) ∙ ap (λ v. old ++ v) lies))
+
+-- behind a whole segment
+pub emptied_open : (coder : State) (end next : ℕ) → IsOpen coder end → next ≡ coder.setting.block * blocks_left coder.setting (next_start coder) → IsOpen (emptied coder) next
+emptied_open coder end next h e =
+    let s = coder.setting in
+    let r = h.legal.interval_from in
+    let b = coder.start + blocks_left s coder.start in
+    let p : place s b ≡ next_start coder = next_start_is s coder.start coder.start r h.place in
+    let lt : next_start coder < s.interval = omega (arith, p, mod-lt b r) in
+    let at : place s (next_start coder) ≡ next_start coder = mod-eq_of_lt lt in
+    let begins = begins_next s coder.start r h.begins in
+    record {
+      legal = h.legal;
+      place = at;
+      begins = ap (λ p. p == 64 * (p / 64)) (at ∙ sym p) ∙ begins;
+      few = omega arith;
+      previous = h.previous;
+      reference = tt;
+      ends = e;
+    }
+
+-- a first segment
+pub empty_open : (s : Parameters) (end : ℕ) → IsLegal s → end ≡ s.block * blocks_left s 0 → IsOpen (empty s) end
+empty_open s end legal e =
+    let lt : 0 < s.interval = omega (arith, legal.interval_from) in
+    let first : place s 0 ≡ 0 = mod-eq_of_lt lt in
+    record {
+      legal = legal;
+      place = first;
+      begins = ap (λ p. p == 64 * (p / 64)) first;
+      few = omega arith;
+      previous = zero_is_sample s legal.bits_from;
+      reference = tt;
+      ends = e;
+    }

@@ -1,0 +1,121 @@
+-- The texts of blocks, piece by piece.
+use Rattle.std.proofs.Common.{◌≡◌, ℕ, zero, suc, ◌+◌, ◌-◌, ◌*◌, ◌<◌, Bool, true, false, cond, ◌&&◌, nat_le, List, [], ◌∷◌, ◌++◌, length, drop, get_or, refl, ap, arith, sym, ◌∙◌, append_assoc, append-nil, Option}
+use Rattle.std.specs.Prelude.{flat_map, sum_by}
+use Rattle.std.proofs.lemmas.List.{length-drop, drop_more}
+use Rattle.std.proofs.lemmas.List.Sums.{sum_by-cons}
+use Rattle.rice_samples.specs.Parameters.{Parameters, id_len}
+use Rattle.rice_samples.specs.blocks.Pairs.{pair_code, pair_codes}
+use Rattle.rice_code.specs.code.CodedDataSets.{text, cost, reference_text, reference_len, run_number, ZeroBlocks, RemainderOfSegment}
+use Rattle.rice_code.specs.encode.HeldBlocks.{sent_run, sent_zeros}
+use Rattle.rice_bits.specs.Bits.{word, fundamental_sequence}
+use Rattle.rice_bits.proofs.lemmas.bits.Words.{word-fs, word-zero, word-cat, word-nil}
+
+-- zeros and a one
+pub word_flag : (n : ℕ) → word (n + 1) 1 ≡ word n 0 ++ true ∷ []
+word_flag n = word-fs n ∙ ap (λ z. z ++ true ∷ []) (sym (word-zero n))
+
+-- and one zero more
+pub word_flag_zero : (n : ℕ) → word (n + 1) 0 ≡ word n 0 ++ false ∷ []
+word_flag_zero n = word-cat n 1 0 0 (omega arith) ∙ ap (λ z. word n 0 ++ z) (word-zero 1)
+
+-- the first of gathered fields
+pub first_field : (sink fields more both : List Bool) → fields ≡ [] → both ≡ sink ++ fields ++ more → both ≡ sink ++ more
+first_field sink fields more both e f = f ∙ ((λ i. sink ++ e i ++ more) ∙ ap (λ v. v ++ more) (append-nil sink))
+
+-- no digits
+pub no_digits : (xs : List ℕ) → flat_map (word 0) xs ≡ []
+no_digits [] = refl
+no_digits (x ∷ xs) = rw word-nil (no_digits xs)
+
+pub flagged : (sink head ref body : List Bool) (b : Bool) → sink ++ (head ++ b ∷ []) ++ ref ++ body ≡ sink ++ (head ++ b ∷ (ref ++ body))
+flagged sink head ref body b =
+    append_assoc (sink ++ (head ++ b ∷ [])) ref body ∙ (append_assoc sink (head ++ b ∷ []) (ref ++ body) ∙ ap (λ z. sink ++ z) (append_assoc head (b ∷ []) (ref ++ body)))
+
+pub four : (sink head ref high low : List Bool) → sink ++ head ++ ref ++ high ++ low ≡ sink ++ (head ++ (ref ++ (high ++ low)))
+four sink head ref high low = simp append_assoc
+
+pub three : (sink head ref body : List Bool) → sink ++ head ++ ref ++ body ≡ sink ++ (head ++ (ref ++ body))
+three sink head ref body = simp append_assoc
+
+-- one fewer to go
+pub one_fewer : (n i w : ℕ) → i < n → (n - i) * w ≡ (n - (i + 1)) * w + w
+one_fewer n i w h = let e : n - i ≡ suc (n - (i + 1)) = omega arith in ap (λ k. k * w) e ∙ (omega arith)
+
+-- the coded residuals, counted
+pub coded_len : (ds es : List ℕ) (from w : ℕ) → es ≡ drop from ds → length es * w ≡ (length ds - from) * w
+coded_len ds es from w e = ap (λ n. n * w) (ap length e ∙ length-drop from ds)
+
+-- the text of a run, and its length
+pub run_text : (s : Parameters) (to_end : Bool) (r : Option ℕ) (z : ℕ) → text s (sent_run to_end r z) ≡ word (id_len s) 0 ++ false ∷ (reference_text s r ++ fundamental_sequence (sent_zeros to_end z))
+run_text s to_end r z = by_test (nat_le 5 z && to_end)
+  where
+    by_test : (v : Bool) → text s (cond v (RemainderOfSegment r) (ZeroBlocks r z)) ≡ word (id_len s) 0 ++ false ∷ (reference_text s r ++ fundamental_sequence (cond v 4 (run_number z)))
+    by_test true = refl
+    by_test false = refl
+
+pub run_cost : (s : Parameters) (to_end : Bool) (r : Option ℕ) (z : ℕ) → cost s (sent_run to_end r z) ≡ id_len s + 1 + reference_len s r + sent_zeros to_end z + 1
+run_cost s to_end r z = by_test (nat_le 5 z && to_end)
+  where
+    by_test : (v : Bool) → cost s (cond v (RemainderOfSegment r) (ZeroBlocks r z)) ≡ id_len s + 1 + reference_len s r + cond v 4 (run_number z) + 1
+    by_test true = omega arith
+    by_test false = refl
+
+-- the codewords of the pairs from number i on
+pub pairs_left : (i : ℕ) (xs : List ℕ) → 2 * i + 1 < length xs →
+    pair_codes (drop (2 * i) xs) ≡ pair_code (get_or xs (2 * i) 0) (get_or xs (2 * i + 1) 0) ∷ pair_codes (drop (2 * (i + 1)) xs)
+pairs_left i [] h = absurd (omega arith)
+pairs_left i (a ∷ []) h = absurd (omega arith)
+pairs_left zero (a ∷ b ∷ xs) h = refl
+pairs_left (suc i) (a ∷ b ∷ xs) h =
+    let ih = pairs_left i xs (omega arith) in
+    let e : 2 * (suc i + 1) ≡ suc (suc (2 * (i + 1))) = omega arith in
+    let k : 2 * suc i ≡ suc (suc (2 * i)) = omega arith in
+    let l : 2 * suc i + 1 ≡ suc (suc (2 * i + 1)) = omega arith in
+    ap (λ n. pair_codes (drop n (a ∷ b ∷ xs))) k ∙ (ih
+    ∙ (λ j. pair_code (get_or (a ∷ b ∷ xs) (sym k j) 0) (get_or (a ∷ b ∷ xs) (sym l j) 0) ∷ pair_codes (drop (sym e j) (a ∷ b ∷ xs))))
+
+-- four residuals more
+pub four_more : (xs : List ℕ) (i n : ℕ) → i + 3 < length xs → n ≡ i + 4 → drop i xs ≡ get_or xs i 0 ∷ get_or xs (i + 1) 0 ∷ get_or xs (i + 2) 0 ∷ get_or xs (i + 3) 0 ∷ drop n xs
+four_more xs i n h e =
+    let a = drop_more xs i 0 (omega arith) in
+    let b = drop_more xs (i + 1) 0 (omega arith) in
+    let c = drop_more xs (i + 2) 0 (omega arith) in
+    let d = drop_more xs (i + 3) 0 h in
+    let p : i + 1 + 1 ≡ i + 2 = omega arith in
+    let q : i + 2 + 1 ≡ i + 3 = omega arith in
+    let r : i + 3 + 1 ≡ n = omega arith in
+    let b' = b ∙ ap (λ m. get_or xs (i + 1) 0 ∷ drop m xs) p in
+    let c' = c ∙ ap (λ m. get_or xs (i + 2) 0 ∷ drop m xs) q in
+    let d' = d ∙ ap (λ m. get_or xs (i + 3) 0 ∷ drop m xs) r in
+    a ∙ ap (λ v. get_or xs i 0 ∷ v) (b' ∙ ap (λ v. get_or xs (i + 1) 0 ∷ v) (c' ∙ ap (λ v. get_or xs (i + 2) 0 ∷ v) d'))
+
+pub four_added : (f : ℕ → List Bool) (xs : List ℕ) (i n : ℕ) (a b all : List Bool) → i + 3 < length xs → n ≡ i + 4 →
+    b ≡ a ++ (f (get_or xs i 0) ++ f (get_or xs (i + 1) 0) ++ f (get_or xs (i + 2) 0) ++ f (get_or xs (i + 3) 0)) → a ++ flat_map f (drop i xs) ≡ all → b ++ flat_map f (drop n xs) ≡ all
+four_added f xs i n a b all h e added same =
+    let rest = flat_map f (drop n xs) in
+    ap (λ v. v ++ rest) added ∙ (nest a (f (get_or xs i 0)) (f (get_or xs (i + 1) 0)) (f (get_or xs (i + 2) 0)) (f (get_or xs (i + 3) 0)) rest
+    ∙ (sym (ap (λ v. a ++ flat_map f v) (four_more xs i n h e)) ∙ same))
+  where
+    nest : (a b c d e rest : List Bool) → (a ++ (b ++ c ++ d ++ e)) ++ rest ≡ a ++ (b ++ (c ++ (d ++ (e ++ rest))))
+    nest a b c d e rest = simp append_assoc
+
+pub two_pairs : (all a b c d : List Bool) → (all ++ (a ++ b)) ++ (c ++ d) ≡ all ++ (a ++ b ++ c ++ d)
+two_pairs all a b c d = simp append_assoc
+
+pub four_fewer : (n i m w : ℕ) → i + 3 < n → m ≡ i + 4 → (n - i) * w ≡ (n - m) * w + 4 * w
+four_fewer n i m w h e = let f : n - i ≡ n - m + 4 = omega arith in ap (λ k. k * w) f ∙ (omega arith)
+
+pub four_summed : (f : ℕ → ℕ) (xs : List ℕ) (i n : ℕ) → i + 3 < length xs → n ≡ i + 4 →
+    sum_by f (drop i xs) ≡ f (get_or xs i 0) + f (get_or xs (i + 1) 0) + f (get_or xs (i + 2) 0) + f (get_or xs (i + 3) 0) + sum_by f (drop n xs)
+four_summed f xs i n h e =
+    let a = get_or xs i 0 in
+    let b = get_or xs (i + 1) 0 in
+    let c = get_or xs (i + 2) 0 in
+    let d = get_or xs (i + 3) 0 in
+    let rest = drop n xs in
+    let p = ap (sum_by f) (four_more xs i n h e) in
+    let q = sum_by-cons f a (b ∷ c ∷ d ∷ rest) in
+    let r = sum_by-cons f b (c ∷ d ∷ rest) in
+    let s = sum_by-cons f c (d ∷ rest) in
+    let t = sum_by-cons f d rest in
+    omega (arith, p, q, r, s, t)

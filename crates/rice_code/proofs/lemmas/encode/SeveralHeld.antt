@@ -1,0 +1,96 @@
+-- What a coder holds when it takes several samples.
+use Rattle.std.proofs.Common.{◌≡◌, ℕ, suc, ◌+◌, ◌-◌, ◌*◌, ◌<◌, ◌≤◌, ◌==◌, Bool, true, false, cond, ◌&&◌, List, [], ◌∷◌, ◌++◌, length, map, All, refl, ap, arith, sym, ◌∙◌, append_assoc, append-nil, length-append, slice_index_or, Some, ℤ}
+use Rattle.std.proofs.Math.Bool.{and-false}
+use Rattle.std.proofs.lemmas.List.Elements.{recursion_from_All}
+use Rattle.rice_samples.specs.Parameters.{Parameters, IsSample}
+use Rattle.rice_samples.specs.Places.{blocks_left}
+use Rattle.rice_samples.specs.predict.Residuals.{pattern, rank, ranks, last_of}
+use Rattle.rice_code.specs.encode.Coder.{State, IsOpen, is_empty, is_first, next_residual, next_residuals, next_references, later_residuals, grown, grown_by}
+use Rattle.rice_code.proofs.lemmas.code.SoundBlocks.{last_legal}
+
+-- samples behind others, with preprocessing and without
+pub later_ranks : (s : Parameters) (p : ℤ) (xs : List ℤ) → s.preprocess ≡ true → later_residuals s p xs ≡ ranks s p xs
+later_ranks s p [] e = refl
+later_ranks s p (x ∷ xs) e = let rest = later_ranks s x xs e in λ i. cond (e i) (rank s p x) (pattern s x) ∷ rest i
+
+pub later_patterns : (s : Parameters) (p : ℤ) (xs : List ℤ) → s.preprocess ≡ false → later_residuals s p xs ≡ map (pattern s) xs
+later_patterns s p [] e = refl
+later_patterns s p (x ∷ xs) e = let rest = later_patterns s x xs e in λ i. cond (e i) (rank s p x) (pattern s x) ∷ rest i
+
+pub length-later : (s : Parameters) (p : ℤ) (xs : List ℤ) → length (later_residuals s p xs) ≡ length xs
+length-later s p [] = refl
+length-later s p (x ∷ xs) = ap (λ n. suc n) (length-later s x xs)
+
+length-next : (coder : State) (xs : List ℤ) → length (next_residuals coder xs) ≡ length xs
+length-next coder [] = refl
+length-next coder (x ∷ xs) = ap (λ n. suc n) (length-later coder.setting x xs)
+
+pub length-grown : (coder : State) (xs : List ℤ) → length (grown_by coder xs).residuals ≡ length coder.residuals + length xs
+length-grown coder xs = length-append coder.residuals (next_residuals coder xs) ∙ ap (λ n. length coder.residuals + n) (length-next coder xs)
+
+-- where the next sample is no reference sample
+next_later : (coder : State) (xs : List ℤ) → (coder.setting.preprocess && is_first coder) ≡ false → next_residuals coder xs ≡ later_residuals coder.setting coder.previous xs
+next_later coder [] e = refl
+next_later coder (x ∷ xs) e = ap (λ d. d ∷ later_residuals coder.setting x xs) (by_way coder.setting.preprocess (is_first coder) e)
+  where
+    by_way : (a b : Bool) → (a && b) ≡ false → cond a (cond b 0 (rank coder.setting coder.previous x)) (pattern coder.setting x) ≡ cond a (rank coder.setting coder.previous x) (pattern coder.setting x)
+    by_way false b e = refl
+    by_way true false e = refl
+    by_way true true e = absurd (let f : true ≡ false = e in cc)
+
+next_none : (coder : State) (xs : List ℤ) → (coder.setting.preprocess && is_first coder) ≡ false → next_references coder xs ≡ coder.reference
+next_none coder [] e = refl
+next_none coder (x ∷ xs) e = ap (λ v. cond v (Some (pattern coder.setting x)) coder.reference) e
+
+pub grown_later : (coder : State) (xs : List ℤ) → (coder.setting.preprocess && is_first coder) ≡ false →
+    grown_by coder xs ≡ record { setting = coder.setting; residuals = coder.residuals ++ later_residuals coder.setting coder.previous xs; reference = coder.reference; previous = last_of coder.previous xs; start = coder.start }
+grown_later coder xs e =
+    let ds = next_later coder xs e in
+    let r = next_none coder xs e in
+    λ i. record { setting = coder.setting; residuals = coder.residuals ++ ds i; reference = r i; previous = last_of coder.previous xs; start = coder.start }
+
+-- no sample,
+pub grown_none : (coder : State) (xs : List ℤ) → length xs ≡ 0 → grown_by coder xs ≡ coder
+grown_none coder [] e = λ i. record { setting = coder.setting; residuals = append-nil coder.residuals i; reference = coder.reference; previous = coder.previous; start = coder.start }
+grown_none coder (x ∷ xs) e = absurd (omega arith)
+
+pub not_first : (coder : State) (x : ℤ) → (coder.setting.preprocess && is_first (grown coder x)) ≡ false
+not_first coder x = ap (λ v. coder.setting.preprocess && (v && coder.start == 0)) (some coder.residuals (next_residual coder x)) ∙ and-false coder.setting.preprocess
+  where
+    some : (ds : List ℕ) (d : ℕ) → is_empty (ds ++ d ∷ []) ≡ false
+    some [] d = refl
+    some (e ∷ ds) d = refl
+
+-- one first,
+pub grown_cons : (coder : State) (x : ℤ) (xs : List ℤ) → grown_by (grown coder x) xs ≡ grown_by coder (x ∷ xs)
+grown_cons coder x xs =
+    let d = next_residual coder x in
+    let ds = append_assoc coder.residuals (d ∷ []) (next_residuals (grown coder x) xs) ∙ ap (λ v. coder.residuals ++ d ∷ v) (next_later (grown coder x) xs (not_first coder x)) in
+    let r = next_none (grown coder x) xs (not_first coder x) in
+    λ i. record { setting = coder.setting; residuals = ds i; reference = r i; previous = last_of x xs; start = coder.start }
+
+-- and one last
+pub grown_snoc : (coder : State) (xs : List ℤ) (x : ℤ) → grown_by coder (xs ++ x ∷ []) ≡ grown (grown_by coder xs) x
+grown_snoc coder [] x = sym (ap (λ v. grown v x) (grown_none coder [] refl))
+grown_snoc coder (y ∷ ys) x = sym (grown_cons coder y (ys ++ x ∷ [])) ∙ (grown_snoc (grown coder y) ys x ∙ ap (λ v. grown v x) (grown_cons coder y ys))
+
+pub last_at : (p d : ℤ) (xs : List ℤ) → 0 < length xs → last_of p xs ≡ slice_index_or xs (length xs - 1) d
+last_at p d [] h = absurd (omega arith)
+last_at p d (x ∷ []) h = refl
+last_at p d (x ∷ y ∷ ys) h =
+    let e : suc (length (y ∷ ys) - 1) ≡ length (x ∷ y ∷ ys) - 1 = omega arith in
+    last_at x d (y ∷ ys) (omega arith) ∙ ap (λ n. slice_index_or (x ∷ y ∷ ys) n d) e
+
+-- the segment stays open
+pub open_later : (coder : State) (end : ℕ) (ds : List ℕ) (xs : List ℤ) → IsOpen coder end → ds ≡ coder.residuals ++ later_residuals coder.setting coder.previous xs → All (IsSample coder.setting) xs →
+    length coder.residuals + length xs ≤ coder.setting.block * blocks_left coder.setting coder.start →
+    IsOpen (record { setting = coder.setting; residuals = ds; reference = coder.reference; previous = last_of coder.previous xs; start = coder.start }) end
+open_later coder end ds xs h e legal room = record {
+  legal = h.legal;
+  place = h.place;
+  begins = h.begins;
+  few = let l = ap length e ∙ length-append coder.residuals (later_residuals coder.setting coder.previous xs) in let m = length-later coder.setting coder.previous xs in omega (arith, l, m, room);
+  previous = last_legal coder.setting coder.previous xs h.previous (recursion_from_All (IsSample coder.setting) xs legal);
+  reference = h.reference;
+  ends = h.ends;
+}

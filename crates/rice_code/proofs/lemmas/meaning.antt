@@ -1,0 +1,10 @@
+-- What bits stand for: one thing, always something, and the samples that were coded.
+pub mod AllBytes
+pub mod Covers
+pub mod DecodingGoesOn
+pub mod DecodingPlaces
+pub mod OneMeaning
+pub mod Parsing
+pub mod Returned
+pub mod SentSets
+pub mod Witnesses

@@ -1,0 +1,24 @@
+-- The option that is chosen for a block: the one of least length, of several the first.
+use Rattle.std.specs.Prelude.{ℕ, ◌+◌, ◌<◌, ◌≤◌, nat_lt, List, ◌∷◌, map}
+use Rattle.std.specs.List.{best_of, range_with_len}
+use Rattle.rice_samples.specs.Parameters.{Parameters, k_max}
+use Rattle.rice_code.specs.code.Blocks.{Contents}
+use Rattle.rice_code.specs.code.CodedDataSets.{DataSet, NoCompression, SecondExtension, Split, cost}
+
+-- the options behind no compression, in the order in which ties go (own rule)
+abbrev pub other_options : Parameters → Contents → List DataSet
+other_options s c = SecondExtension c ∷ map (λ k. Split k c) (range_with_len 0 (k_max s + 1))
+
+-- the first option of least length (CCSDS 121.0-B-3, section 3: code selection; ties by an own rule)
+abbrev pub shortest : Parameters → Contents → DataSet
+shortest s c = best_of (λ x y. nat_lt (cost s x) (cost s y)) (NoCompression c) (other_options s c)
+
+-- k is the smallest of the splits of least length
+pub record IsBestSplit (s : Parameters) (c : Contents) (k : ℕ) : Type 0 where
+  pub at_most : k ≤ k_max s
+  pub least : (j : ℕ) → j ≤ k_max s → cost s (Split k c) ≤ cost s (Split j c)
+  pub first : (j : ℕ) → j < k → cost s (Split k c) < cost s (Split j c)
+
+-- that k
+abbrev pub best_split : Parameters → Contents → ℕ
+best_split s c = best_of (λ j k. nat_lt (cost s (Split j c)) (cost s (Split k c))) 0 (range_with_len 1 (k_max s))

@@ -1,0 +1,5 @@
+-- What contracts see of the decoder, and what its parts say to each other.
+pub mod Decoder
+pub mod Fields
+pub mod ReadSets
+pub mod Restored

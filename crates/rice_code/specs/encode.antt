@@ -1,0 +1,5 @@
+-- What contracts see of the coder, and what its parts say to each other.
+pub mod BitBuffer
+pub mod Chosen
+pub mod Coder
+pub mod HeldBlocks

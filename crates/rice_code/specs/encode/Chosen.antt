@@ -1,0 +1,17 @@
+-- The option that the code names.
+use Rattle.std.specs.Prelude.{ℕ, ◌≤◌, ⊤}
+use Rattle.rice_code.specs.code.Blocks.{Contents}
+use Rattle.rice_code.specs.code.CodedDataSets.{DataSet, NoCompression as no_compression, SecondExtension as second_extension, Split as split}
+use Rattle.rice_code.specs.declared.encode.search.Choice.{Choice}
+use Rattle.rice_code.specs.declared.encode.search.Choice.TheVariants.{NoCompression, SecondExtension, Split}
+
+abbrev pub chosen_set : Choice → Contents → DataSet
+chosen_set NoCompression c = no_compression c
+chosen_set SecondExtension c = second_extension c
+chosen_set (Split k) c = split k c
+
+-- where it is a split, it is no greater than the limit
+abbrev pub IsSplitWithin : ℕ → Choice → Type 0
+IsSplitWithin limit NoCompression = ⊤
+IsSplitWithin limit SecondExtension = ⊤
+IsSplitWithin limit (Split k) = k ≤ limit

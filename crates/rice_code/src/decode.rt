@@ -1,0 +1,13 @@
+//! The decoder: from bits to samples. A decoder reads a coded data set; what follows the identifier is read by its option, as
+//! a sequence of fields; the residuals are checked, and restored to the samples of a block.
+
+mod coded_data_set;
+pub mod decoder;
+#[cfg(test)]
+mod decoder_tests;
+pub mod fault;
+mod fields;
+mod options;
+mod pair;
+mod residuals;
+mod restoring;

@@ -1,0 +1,92 @@
+//! One coded data set.
+ghost use Rattle.std.specs.Prelude.{◌≡◌, ℕ, ◌+◌, ◌-◌, ◌*◌, ◌/◌, ◌^◌, ◌<◌, ◌≤◌, Bool, true, false, List, ◌++◌, ◌∷◌, length, None, IfOk, IfErr};
+ghost use Rattle.rice_bits.specs.read.Reader.{Takes, Stops};
+ghost use Rattle.rice_samples.specs.Parameters.{id_len};
+ghost use Rattle.rice_code.specs.decode.Fields.{HasRoom, AreCounted};
+ghost use Rattle.rice_code.specs.decode.ReadSets.{LowRead, LowCut, SetRead, SetCut};
+
+use crate::decode::options::{
+    SetHead, read_no_compression, read_run, read_second_extension, read_split,
+};
+use rice_bits::{BitFault, BitReader, Intake, Meter};
+use rice_samples::Setting;
+
+/// Reads what follows an identifier of zeros: a bit, and then second extension or a run.
+fn read_low<I: Intake>(
+    setting: &Setting,
+    block: u64,
+    reader: &mut BitReader<I>,
+    meter: &mut Meter,
+    residuals: &mut [u32],
+) -> Result<SetHead, BitFault>
+    requires going { reader.old.refusal ≡ None }
+    requires room { HasRoom meter.old reader.old.taken }
+    requires size { length residuals.old ≡ setting.now.block }
+    ensures ok { IfOk result (λ t. LowRead I.left I.failed reader.old reader.new meter.old meter.new setting.now block t residuals.new) }
+    ensures err { IfErr result (LowCut I.left I.failed reader.old reader.new setting.now block) }
+    ensures steps { AreCounted meter.old meter.new reader.old.taken reader.new.taken }
+{
+    let bit = match reader.take(1, meter) {
+        Ok(bit) => bit,
+        Err(fault) => return Err(fault),
+    };
+    if bit == 0 {
+        return match read_run(setting, block, reader, meter) {
+            Ok((reference, zeros)) => Ok(SetHead::Zeros { reference, zeros }),
+            Err(fault) => Err(fault),
+        };
+    }
+    match read_second_extension(setting, block, reader, meter, residuals) {
+        Ok(head) => Ok(SetHead::Residuals {
+            reference: head.reference,
+            sound: head.sound,
+        }),
+        Err(fault) => Err(fault),
+    }
+}
+
+/// Reads one coded data set, all its bits, and judges nothing. `highs` is room for high parts.
+pub fn read_set<I: Intake>(
+    setting: &Setting,
+    block: u64,
+    reader: &mut BitReader<I>,
+    meter: &mut Meter,
+    residuals: &mut [u32],
+    highs: &mut [u32],
+) -> Result<SetHead, BitFault>
+    requires going { reader.old.refusal ≡ None }
+    requires room { HasRoom meter.old reader.old.taken }
+    requires size { length residuals.old ≡ setting.now.block }
+    requires highs { length highs.old ≡ 64 }
+    ensures ok { IfOk result (λ t. SetRead I.left I.failed reader.old reader.new meter.old meter.new setting.now block t residuals.new) }
+    ensures err { IfErr result (SetCut I.left I.failed reader.old reader.new setting.now block) }
+    ensures steps { AreCounted meter.old meter.new reader.old.taken reader.new.taken }
+{
+    let width = setting.id_len();
+    let id = match reader.take(width, meter) {
+        Ok(id) => id,
+        Err(fault) => return Err(fault),
+    };
+    if id == 0 {
+        return match read_low(setting, block, reader, meter, residuals) {
+            Ok(taken) => Ok(taken),
+            Err(fault) => Err(fault),
+        };
+    }
+    if id == (1 << width) - 1 {
+        return match read_no_compression(setting, block, reader, meter, residuals) {
+            Ok(head) => Ok(SetHead::Residuals {
+                reference: head.reference,
+                sound: head.sound,
+            }),
+            Err(fault) => Err(fault),
+        };
+    }
+    match read_split(setting, block, id - 1, reader, meter, residuals, highs) {
+        Ok(head) => Ok(SetHead::Residuals {
+            reference: head.reference,
+            sound: head.sound,
+        }),
+        Err(fault) => Err(fault),
+    }
+}

@@ -1,0 +1,233 @@
+//! The decoder.
+ghost use Rattle.std.specs.Prelude.{◌≡◌, ℕ, ◌+◌, ◌-◌, ◌*◌, ◌/◌, ◌^◌, ◌<◌, ◌≤◌, Bool, true, false, if◌then◌else◌, nat_lt, List, All, [], length, replicate, None, Some, IfOk, IfErr, IfSome, IfNone, Ok, ℤ, pos};
+ghost use Rattle.rice_samples.specs.Parameters.{IsLegal, IsSample};
+ghost use Rattle.rice_samples.specs.Places.{blocks_left};
+ghost use Rattle.rice_samples.specs.predict.Residuals.{last_of};
+ghost use Rattle.rice_code.specs.code.Blocks.{Contents, contents, zeros};
+ghost use Rattle.rice_code.specs.code.Forms.{IsReference};
+ghost use Rattle.rice_code.specs.decode.Fields.{HasRoom, AreCounted};
+ghost use Rattle.rice_code.specs.decode.Decoder.{TakesSet, StopsBy, Skips, answer_to, next_block_place};
+ghost use Rattle.rice_code.specs.code.Layout.{padding};
+
+use crate::decode::coded_data_set::read_set;
+use crate::decode::fault::{CodeFault, Step};
+use crate::decode::options::SetHead;
+use crate::decode::restoring::{restore_block, restore_zeros};
+use arrayvec::ArrayVec;
+use rice_bits::{BitFault, BitReader, Intake, Meter};
+use rice_samples::Setting;
+use std::marker::Model;
+
+/// The blocks of a run with so many zeros in its codeword, where it is sound.
+fn run_blocks(zeros: u64, left: u32) -> Option<u32>
+    requires { 1 ≤ left }
+    ensures some { IfSome result (λ z. (1 ≤ z) × (z ≤ left) × (zeros ≡ 4 → z ≡ left) × (¬ (zeros ≡ 4) → (z ≡ (if nat_lt zeros 4 then zeros + 1 else zeros)) × (z ≤ 63))) }
+    ensures none { IfNone result (¬ (zeros ≡ 4) × ((if nat_lt zeros 4 then zeros + 1 else zeros) ≤ left → (if nat_lt zeros 4 then zeros + 1 else zeros) ≤ 63 → ⊥)) }
+{
+    if zeros == 4 {
+        return Some(left);
+    }
+    if zeros > 63 {
+        return None;
+    }
+    let blocks = if zeros < 4 { zeros + 1 } else { zeros } as u32;
+    if blocks <= left { Some(blocks) } else { None }
+}
+
+/// What a decoder answers where its reader refuses.
+fn answer_of(fault: BitFault) -> Result<Step, CodeFault>
+    ensures { result ≡ answer_to fault }
+{
+    match fault {
+        BitFault::End { blank: true } => Ok(Step::Done),
+        BitFault::End { blank: false } => Err(CodeFault::CodeEnds),
+        BitFault::Read => Err(CodeFault::Read),
+        BitFault::TooLong => Err(CodeFault::TooLong),
+    }
+}
+
+/// Reads a data set, and gives the samples of its first block; answers the last of them and how many zero blocks follow. `scratch` is room
+/// for residuals.
+fn decode_set<I: Intake>(
+    setting: &Setting,
+    block: u64,
+    p: i64,
+    scratch: &mut [u32],
+    reader: &mut BitReader<I>,
+    meter: &mut Meter,
+    samples: &mut ArrayVec<i64, 64>,
+) -> Result<(i64, u32), Result<Step, CodeFault>>
+    requires going { reader.old.refusal ≡ None }
+    requires room { HasRoom meter.old reader.old.taken }
+    requires p { IsSample setting.now p }
+    requires marked { reader.old.blank ≡ true }
+    requires scratch { length scratch.old ≡ 128 }
+    ensures ok { IfOk result (λ r. TakesSet I.left I.failed reader.old reader.new meter.old meter.new setting.now block p samples.new.items r.1) }
+    ensures last { IfOk result (λ r. (r.0 ≡ last_of p samples.new.items) × IsSample setting.now r.0 × (0 < r.1 → r.1 + 1 ≤ blocks_left setting.now block)) }
+    ensures err { IfErr result (StopsBy I.left I.failed reader.old reader.new setting.now block) }
+    ensures steps { AreCounted meter.old meter.new reader.old.taken reader.new.taken }
+{
+    let (residuals, highs) = scratch.split_at_mut(64);
+    let residuals = &mut residuals[..setting.block() as usize];
+    match read_set(setting, block, reader, meter, residuals, highs) {
+        Ok(SetHead::Residuals { reference, sound }) => {
+            if !sound {
+                return Err(Err(CodeFault::ResidualTooLarge));
+            }
+            let last = restore_block(setting, block, p, reference, residuals, samples);
+            Ok((last, 0))
+        }
+        Ok(SetHead::Zeros { reference, zeros }) => {
+            match run_blocks(zeros, setting.blocks_left(block)) {
+                Some(count) => {
+                    let last = restore_zeros(setting, block, p, reference, samples);
+                    Ok((last, count - 1))
+                }
+                None => Err(Err(CodeFault::RunPastSegment)),
+            }
+        }
+        Err(fault) => Err(answer_of(fault)),
+    }
+}
+
+/// The place of the next block in its reference interval.
+fn next_place(setting: &Setting, block: u64) -> u64
+    requires { block < setting.now.interval }
+    ensures { result ≡ next_block_place setting.now block }
+{
+    let interval = setting.interval() as u64;
+    let next = block + 1;
+    if next == interval { 0 } else { next }
+}
+
+/// Skips what fills the byte before block `next` of the interval, if that is where the next one begins and intervals are padded.
+fn skip_padding<I: Intake>(
+    setting: &Setting,
+    next: u64,
+    reader: &mut BitReader<I>,
+    meter: &mut Meter,
+)
+    requires some { 0 < next }
+    requires within { next ≤ setting.now.interval }
+    requires meter { meter.old + 7 < 2 ^ 62 }
+    ensures skips { Skips reader.old reader.new (padding setting.now next reader.old.taken) }
+    ensures steps { meter.new + reader.old.taken ≡ meter.old + reader.new.taken }
+    ensures few { reader.new.taken ≡ reader.old.taken + padding setting.now next reader.old.taken }
+{
+    if setting.pads() && next == setting.interval() as u64 {
+        reader.align(meter);
+    }
+}
+
+/// Decodes a code, a block a call. Clauses see its place: the block that comes next, the sample before it, and how much of a run is still to come.
+#[derive(Drop)]
+pub struct Decoder {
+    setting: Setting,
+    block: u64,
+    before: i64,
+    run: u32,
+    stopped: Option<Result<Step, CodeFault>>,
+    /// Room for a block's residuals, and for their high parts. What one block leaves there says nothing to the next.
+    scratch: [u32; 128],
+}
+
+impl Model for Decoder {
+    ghost use Rattle.rice_code.specs.decode.Decoder.{Place, IsPlace};
+
+    ghost Value = { Place };
+
+    ghost view = { λ d. record { setting = d.setting; block = d.block; before = d.before; run = d.run; stopped = d.stopped } };
+
+    ghost invariant = { λ d. IsPlace d.setting d.block d.before d.run d.stopped };
+}
+
+impl Decoder {
+    ghost use Rattle.rice_code.specs.decode.Decoder.{Answers, GoesOn, marked};
+    ghost use Rattle.rice_code.specs.declared.decode.fault.Step.TheVariants.{Block};
+
+    /// A decoder at the beginning of a code.
+    pub fn new(setting: Setting) -> Self
+        ensures { result ≡ record { setting = setting; block = 0; before = pos 0; run = 0; stopped = None } }
+    {
+        let _bits = setting.bits();
+        Decoder {
+            setting,
+            block: 0,
+            before: 0,
+            run: 0,
+            stopped: None,
+            scratch: [0; 128],
+        }
+    }
+
+    /// The samples of a run that are still to come.
+    pub fn waiting(&self) -> u64
+        ensures { result ≡ self.now.run * self.now.setting.block }
+    {
+        self.run as u64 * self.setting.block() as u64
+    }
+
+    /// Gives the next block of samples.
+    pub fn next_block<I: Intake>(
+        &mut self,
+        reader: &mut BitReader<I>,
+        meter: &mut Meter,
+        samples: &mut ArrayVec<i64, 64>,
+    ) -> Result<Step, CodeFault>
+        requires going { self.old.stopped ≡ None → reader.old.refusal ≡ None }
+        requires room { meter.old + 2 * (2 ^ 52 - reader.old.taken) + 64 < 2 ^ 62 }
+        // A decoder that is done or has refused answers the same for good.
+        ensures stopped { IfSome self.old.stopped (λ a. (result ≡ a) × (self.new ≡ self.old) × (reader.new ≡ reader.old) × (meter.new ≡ meter.old) × (samples.new.items ≡ [])) }
+        // Inside a run no bit is taken.
+        ensures in_run { self.old.stopped ≡ None → 0 < self.old.run →
+            (result ≡ Ok Block) × GoesOn self.old self.new samples.new.items × (reader.new ≡ reader.old) × (meter.new ≡ meter.old) }
+        ensures reads { self.old.stopped ≡ None → self.old.run ≡ 0 →
+            Answers I.left I.failed (marked reader.old) reader.new meter.old meter.new self.old self.new samples.new.items result }
+        // Only a decoder that has stopped may not be called again with this reader.
+        ensures going { self.new.stopped ≡ None → reader.new.refusal ≡ None }
+        ensures block { result ≡ Ok Block → self.new.stopped ≡ None }
+        ensures setting { self.new.setting ≡ self.old.setting }
+        // Steps are at least the bits taken, and at most twice as many.
+        ensures steps { AreCounted meter.old meter.new reader.old.taken reader.new.taken }
+        // The samples that are given and those that then wait are bounded by the bits.
+        ensures waiting { length samples.new.items + self.new.run * self.new.setting.block ≤ self.old.run * self.old.setting.block + 456 * (reader.new.taken - reader.old.taken) }
+    {
+        let _taken = reader.taken();
+        if let Some(answer) = self.stopped {
+            samples.clear();
+            return answer;
+        }
+        if self.run > 0 {
+            let last = restore_zeros(&self.setting, self.block, self.before, None, samples);
+            self.run -= 1;
+            self.before = last;
+            self.block = next_place(&self.setting, self.block);
+            return Ok(Step::Block);
+        }
+        reader.mark();
+        // A copy, since `scratch` is lent beside it.
+        let setting = self.setting;
+        match decode_set(
+            &setting,
+            self.block,
+            self.before,
+            &mut self.scratch,
+            reader,
+            meter,
+            samples,
+        ) {
+            Ok((last, run)) => {
+                skip_padding(&self.setting, self.block + 1 + run as u64, reader, meter);
+                self.run = run;
+                self.before = last;
+                self.block = next_place(&self.setting, self.block);
+                Ok(Step::Block)
+            }
+            Err(answer) => {
+                samples.clear();
+                self.stopped = Some(answer);
+                answer
+            }
+        }
+    }
+}

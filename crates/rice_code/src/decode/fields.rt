@@ -1,0 +1,170 @@
+//! Words and fundamental sequences, several in a row.
+ghost use Rattle.std.specs.Prelude.{◌≡◌, ℕ, ◌+◌, ◌-◌, ◌*◌, ◌/◌, ◌^◌, ◌<◌, ◌≤◌, Bool, false, List, [], ◌++◌, length, replicate, take, None, IfOk, IfErr, OnOk};
+ghost use Rattle.rice_bits.specs.Bits.{word, fundamental_sequence};
+ghost use Rattle.rice_bits.specs.read.Reader.{Stops};
+ghost use Rattle.rice_code.specs.decode.Fields.{HasRoom, AreCounted, Row, CountRow, CountsRead, PairRow, ones};
+
+use crate::decode::pair::pair_of;
+use crate::decode::residuals::are_below;
+use rice_bits::{BitFault, BitReader, Intake, Meter};
+
+/// Reads as many words as `words` has places, one by one.
+#[inline(never)]
+fn read_each_word<I: Intake>(
+    reader: &mut BitReader<I>,
+    meter: &mut Meter,
+    width: u32,
+    words: &mut [u32],
+) -> Result<(), BitFault>
+    requires going { reader.old.refusal ≡ None }
+    requires room { HasRoom meter.old reader.old.taken }
+    requires width { width ≤ 32 }
+    ensures ok { OnOk result (Row I.left I.failed (word width) (λ v. v < 2 ^ width) reader.old reader.new (length words.old) [] words.new) }
+    ensures err { IfErr result (λ f. (bits : List Bool) × (length bits < length words.old * width) × Stops I.left I.failed reader.old reader.new bits f) }
+    ensures steps { meter.new + reader.old.taken ≡ meter.old + reader.new.taken }
+    ensures limit { reader.new.taken ≤ 2 ^ 52 }
+{
+    for done in 0..words.len() {
+        match reader.take(width, meter) {
+            Ok(value) => words[done] = value,
+            Err(fault) => return Err(fault),
+        }
+    }
+    Ok(())
+}
+
+/// Reads as many words as `words` has places.
+#[inline]
+pub fn read_words<I: Intake>(
+    reader: &mut BitReader<I>,
+    meter: &mut Meter,
+    width: u32,
+    words: &mut [u32],
+) -> Result<(), BitFault>
+    requires going { reader.old.refusal ≡ None }
+    requires room { HasRoom meter.old reader.old.taken }
+    requires width { width ≤ 32 }
+    ensures ok { OnOk result (Row I.left I.failed (word width) (λ v. v < 2 ^ width) reader.old reader.new (length words.old) [] words.new) }
+    ensures err { IfErr result (λ f. (bits : List Bool) × (length bits < length words.old * width) × Stops I.left I.failed reader.old reader.new bits f) }
+    ensures steps { meter.new + reader.old.taken ≡ meter.old + reader.new.taken }
+    ensures limit { reader.new.taken ≤ 2 ^ 52 }
+{
+    let some = reader.take_waiting(width, words, meter);
+    if some == words.len() {
+        return Ok(());
+    }
+    if let Err(fault) = read_each_word(reader, meter, width, &mut words[some..]) {
+        return Err(fault);
+    }
+    Ok(())
+}
+
+/// Reads some fundamental sequences, one at least, and writes the numbers of their zeros to the first places. It answers how many, and
+/// false where one that is above `most` could not be written.
+#[inline]
+fn read_some_counts<I: Intake>(
+    reader: &mut BitReader<I>,
+    meter: &mut Meter,
+    most: u64,
+    counts: &mut [u32],
+) -> Result<(usize, bool), BitFault>
+    requires going { reader.old.refusal ≡ None }
+    requires room { HasRoom meter.old reader.old.taken }
+    requires most { most < 2 ^ 32 }
+    requires some { 0 < length counts.old }
+    ensures some { IfOk result (λ r. (0 < r.0) × (r.0 ≤ length counts.new)) }
+    ensures ok { IfOk result (λ r. CountsRead I.left I.failed reader.old reader.new most r.1 r.0 (take r.0 counts.new)) }
+    ensures err { IfErr result (λ f. (m : ℕ) × Stops I.left I.failed reader.old reader.new (replicate m false) f) }
+    ensures steps { meter.new + reader.old.taken ≡ meter.old + reader.new.taken }
+    ensures limit { reader.new.taken ≤ 2 ^ 52 }
+{
+    let some = reader.take_waiting_fs(counts, meter);
+    if some > 0 {
+        return Ok((some, true));
+    }
+    match reader.take_fs(meter) {
+        Ok(zeros) => {
+            counts[0] = zeros.min(most) as u32;
+            Ok((1, zeros <= most))
+        }
+        Err(fault) => Err(fault),
+    }
+}
+
+/// Reads as many fundamental sequences as `counts` has places, and writes the numbers of their zeros. It answers false where one that is
+/// above `most` could not be written.
+fn read_each_count<I: Intake>(
+    reader: &mut BitReader<I>,
+    meter: &mut Meter,
+    most: u64,
+    counts: &mut [u32],
+) -> Result<bool, BitFault>
+    requires going { reader.old.refusal ≡ None }
+    requires room { HasRoom meter.old reader.old.taken }
+    requires most { most < 2 ^ 32 }
+    ensures ok { IfOk result (λ small. CountsRead I.left I.failed reader.old reader.new most small (length counts.old) counts.new) }
+    ensures err { IfErr result (λ f. (bits : List Bool) × (ones bits < length counts.old) × Stops I.left I.failed reader.old reader.new bits f) }
+    ensures steps { meter.new + reader.old.taken ≡ meter.old + reader.new.taken }
+    ensures limit { reader.new.taken ≤ 2 ^ 52 }
+{
+    let mut small = true;
+    let mut done = 0;
+    while done < counts.len() {
+        match read_some_counts(reader, meter, most, &mut counts[done..]) {
+            Ok((some, fit)) => {
+                done += some;
+                small = small & fit;
+            }
+            Err(fault) => return Err(fault),
+        }
+    }
+    Ok(small)
+}
+
+/// Reads as many fundamental sequences as `counts` has places, and writes the numbers of their zeros. It answers whether all are at most
+/// `most`: where one is larger, what is written says nothing.
+pub fn read_counts<I: Intake>(
+    reader: &mut BitReader<I>,
+    meter: &mut Meter,
+    most: u64,
+    counts: &mut [u32],
+) -> Result<bool, BitFault>
+    requires going { reader.old.refusal ≡ None }
+    requires room { HasRoom meter.old reader.old.taken }
+    requires most { most < 2 ^ 32 }
+    ensures ok { IfOk result (λ small. CountRow I.left I.failed reader.old reader.new most small (length counts.old) counts.new) }
+    ensures err { IfErr result (λ f. (bits : List Bool) × (ones bits < length counts.old) × Stops I.left I.failed reader.old reader.new bits f) }
+    ensures steps { meter.new + reader.old.taken ≡ meter.old + reader.new.taken }
+    ensures limit { reader.new.taken ≤ 2 ^ 52 }
+{
+    match read_each_count(reader, meter, most, counts) {
+        Ok(small) => Ok(small & are_below(counts, most + 1)),
+        Err(fault) => Err(fault),
+    }
+}
+
+/// Reads the codewords of as many pairs as `out` has places for, and writes the pairs.
+pub fn read_pairs<I: Intake>(
+    reader: &mut BitReader<I>,
+    meter: &mut Meter,
+    out: &mut [u32],
+) -> Result<(), BitFault>
+    requires going { reader.old.refusal ≡ None }
+    requires room { HasRoom meter.old reader.old.taken }
+    requires even { length out.old / 2 + length out.old / 2 ≡ length out.old }
+    ensures ok { OnOk result (PairRow I.left I.failed reader.old reader.new (length out.old / 2) out.new meter.old meter.new) }
+    ensures err { IfErr result (λ f. (bits : List Bool) × (ones bits < length out.old / 2) × Stops I.left I.failed reader.old reader.new bits f) }
+    ensures steps { AreCounted meter.old meter.new reader.old.taken reader.new.taken }
+{
+    for done in 0..out.len() / 2 {
+        match reader.take_fs(meter) {
+            Ok(g) => {
+                let (a, b) = pair_of(g, meter);
+                out[2 * done] = a;
+                out[2 * done + 1] = b;
+            }
+            Err(fault) => return Err(fault),
+        }
+    }
+    Ok(())
+}

@@ -1,0 +1,197 @@
+//! Blocks by each option, and runs, behind their identifiers.
+ghost use Rattle.std.specs.Prelude.{◌≡◌, ℕ, ◌+◌, ◌-◌, ◌*◌, ◌/◌, ◌^◌, ◌<◌, ◌≤◌, Bool, true, false, List, [], ◌++◌, length, take, Option, None, IfOk, IfErr};
+ghost use Rattle.rice_bits.specs.read.Reader.{Takes, Stops};
+ghost use Rattle.rice_samples.specs.Parameters.{Parameters, IsLegal, k_max};
+ghost use Rattle.rice_samples.specs.Places.{has_reference};
+ghost use Rattle.rice_code.specs.code.Blocks.{Contents};
+ghost use Rattle.rice_code.specs.code.CodedDataSets.{NoCompression, SecondExtension, Split, reference_text, no_compression_tail, second_extension_tail, split_tail, run_tail};
+ghost use Rattle.rice_code.specs.code.Forms.{IsReference};
+ghost use Rattle.rice_code.specs.decode.Fields.{HasRoom, AreCounted};
+ghost use Rattle.rice_code.specs.decode.ReadSets.{BlockRead, BlockCut, reference_place};
+
+use crate::decode::fields::{read_counts, read_pairs, read_words};
+use crate::decode::residuals::{are_sound, join_all};
+use rice_bits::{BitFault, BitReader, Intake, Meter};
+use rice_samples::Setting;
+
+/// What was read of a data set, besides residuals.
+#[derive(Clone, Copy)]
+pub enum SetHead {
+    Residuals { reference: Option<u32>, sound: bool },
+    Zeros { reference: Option<u32>, zeros: u64 },
+}
+
+/// What was read of a block besides its residuals.
+#[derive(Clone, Copy)]
+pub struct BlockHead {
+    pub reference: Option<u32>,
+    pub sound: bool,
+}
+
+/// Reads the reference sample of a block, where it has one.
+pub fn read_reference<I: Intake>(
+    setting: &Setting,
+    block: u64,
+    reader: &mut BitReader<I>,
+    meter: &mut Meter,
+) -> Result<Option<u32>, BitFault>
+    requires going { reader.old.refusal ≡ None }
+    requires room { HasRoom meter.old reader.old.taken }
+    ensures reference { IfOk result (λ r. IsReference setting.now block r) }
+    ensures ok { IfOk result (λ r. Takes I.left I.failed reader.old reader.new (reference_text setting.now r)) }
+    ensures err { IfErr result (λ f. (bits : List Bool) × (has_reference setting.now block ≡ true) × (length bits < setting.now.bits) × Stops I.left I.failed reader.old reader.new bits f) }
+    ensures steps { meter.new + reader.old.taken ≡ meter.old + reader.new.taken }
+    ensures limit { reader.new.taken ≤ 2 ^ 52 }
+{
+    if !setting.is_reference(block) {
+        return Ok(None);
+    }
+    match reader.take(setting.bits(), meter) {
+        Ok(value) => Ok(Some(value)),
+        Err(fault) => Err(fault),
+    }
+}
+
+/// Begins a block's residuals: 0 at the reference place, if there is one. It answers where the coded residuals begin.
+pub fn begin_residuals(reference: Option<u32>, residuals: &mut [u32]) -> usize
+    requires { 0 < length residuals.old }
+    ensures first { result ≡ length (reference_place reference) }
+    ensures place { take result residuals.new ≡ reference_place reference }
+{
+    if reference.is_some() {
+        residuals[0] = 0;
+        1
+    } else {
+        0
+    }
+}
+
+/// Reads a run's reference and the number of its codeword.
+pub fn read_run<I: Intake>(
+    setting: &Setting,
+    block: u64,
+    reader: &mut BitReader<I>,
+    meter: &mut Meter,
+) -> Result<(Option<u32>, u64), BitFault>
+    requires going { reader.old.refusal ≡ None }
+    requires room { HasRoom meter.old reader.old.taken }
+    ensures reference { IfOk result (λ r. IsReference setting.now block r.0) }
+    ensures ok { IfOk result (λ r. Takes I.left I.failed reader.old reader.new (run_tail setting.now r.0 r.1)) }
+    ensures err { IfErr result (λ f. (bits : List Bool) × Stops I.left I.failed reader.old reader.new bits f
+        × ((r : Option ℕ) (m : ℕ) (more : List Bool) → IsReference setting.now block r → bits ≡ run_tail setting.now r m ++ more → ⊥)) }
+    ensures steps { meter.new + reader.old.taken ≡ meter.old + reader.new.taken }
+    ensures limit { reader.new.taken ≤ 2 ^ 52 }
+{
+    let reference = match read_reference(setting, block, reader, meter) {
+        Ok(reference) => reference,
+        Err(fault) => return Err(fault),
+    };
+    match reader.take_fs(meter) {
+        Ok(zeros) => Ok((reference, zeros)),
+        Err(fault) => Err(fault),
+    }
+}
+
+/// Reads a block by no compression.
+pub fn read_no_compression<I: Intake>(
+    setting: &Setting,
+    block: u64,
+    reader: &mut BitReader<I>,
+    meter: &mut Meter,
+    residuals: &mut [u32],
+) -> Result<BlockHead, BitFault>
+    requires going { reader.old.refusal ≡ None }
+    requires room { HasRoom meter.old reader.old.taken }
+    requires size { length residuals.old ≡ setting.now.block }
+    ensures ok { IfOk result (λ h. BlockRead I.left I.failed reader.old reader.new meter.old meter.new setting.now block NoCompression (no_compression_tail setting.now) h.reference h.sound residuals.new) }
+    ensures err { IfErr result (BlockCut I.left I.failed reader.old reader.new setting.now block NoCompression (no_compression_tail setting.now)) }
+    ensures steps { AreCounted meter.old meter.new reader.old.taken reader.new.taken }
+{
+    let reference = match read_reference(setting, block, reader, meter) {
+        Ok(reference) => reference,
+        Err(fault) => return Err(fault),
+    };
+    let width = setting.bits();
+    let first = begin_residuals(reference, residuals);
+    if let Err(fault) = read_words(reader, meter, width, &mut residuals[first..]) {
+        return Err(fault);
+    }
+    Ok(BlockHead {
+        reference,
+        sound: true,
+    })
+}
+
+/// Reads a block by second extension.
+pub fn read_second_extension<I: Intake>(
+    setting: &Setting,
+    block: u64,
+    reader: &mut BitReader<I>,
+    meter: &mut Meter,
+    residuals: &mut [u32],
+) -> Result<BlockHead, BitFault>
+    requires going { reader.old.refusal ≡ None }
+    requires room { HasRoom meter.old reader.old.taken }
+    requires size { length residuals.old ≡ setting.now.block }
+    ensures ok { IfOk result (λ h. BlockRead I.left I.failed reader.old reader.new meter.old meter.new setting.now block SecondExtension (second_extension_tail setting.now) h.reference h.sound residuals.new) }
+    ensures err { IfErr result (BlockCut I.left I.failed reader.old reader.new setting.now block SecondExtension (second_extension_tail setting.now)) }
+    ensures steps { AreCounted meter.old meter.new reader.old.taken reader.new.taken }
+{
+    let reference = match read_reference(setting, block, reader, meter) {
+        Ok(reference) => reference,
+        Err(fault) => return Err(fault),
+    };
+    let values = setting.values();
+    match read_pairs(reader, meter, residuals) {
+        Ok(()) => {
+            let sound = are_sound(reference, residuals, values);
+            Ok(BlockHead { reference, sound })
+        }
+        Err(fault) => Err(fault),
+    }
+}
+
+/// Reads a block by a split option, with `highs` as room for the high parts.
+pub fn read_split<I: Intake>(
+    setting: &Setting,
+    block: u64,
+    k: u32,
+    reader: &mut BitReader<I>,
+    meter: &mut Meter,
+    residuals: &mut [u32],
+    highs: &mut [u32],
+) -> Result<BlockHead, BitFault>
+    requires going { reader.old.refusal ≡ None }
+    requires room { HasRoom meter.old reader.old.taken }
+    requires k { k ≤ k_max setting.now }
+    requires limit { k ≤ 29 }
+    requires size { length residuals.old ≡ setting.now.block }
+    requires highs { length highs.old ≡ 64 }
+    ensures ok { IfOk result (λ h. BlockRead I.left I.failed reader.old reader.new meter.old meter.new setting.now block (Split k) (split_tail setting.now k) h.reference h.sound residuals.new) }
+    ensures err { IfErr result (BlockCut I.left I.failed reader.old reader.new setting.now block (Split k) (split_tail setting.now k)) }
+    ensures steps { AreCounted meter.old meter.new reader.old.taken reader.new.taken }
+{
+    let reference = match read_reference(setting, block, reader, meter) {
+        Ok(reference) => reference,
+        Err(fault) => return Err(fault),
+    };
+    let values = setting.values();
+    let first = begin_residuals(reference, residuals);
+    let coded = &mut residuals[first..];
+    let highs = &mut highs[..coded.len()];
+    let small = match read_counts(reader, meter, (values - 1) >> k, highs) {
+        Ok(small) => small,
+        Err(fault) => return Err(fault),
+    };
+    if let Err(fault) = read_words(reader, meter, k, coded) {
+        return Err(fault);
+    }
+    if !small {
+        return Ok(BlockHead {
+            reference,
+            sound: false,
+        });
+    }
+    let sound = join_all(highs, k, values, coded);
+    Ok(BlockHead { reference, sound })
+}

@@ -1,0 +1,87 @@
+//! Residuals from their high and low parts, and whether they are sound.
+ghost use Rattle.std.specs.Prelude.{◌≡◌, ℕ, ◌+◌, ◌-◌, ◌*◌, ◌/◌, ◌^◌, ◌<◌, ◌≤◌, true, false, List, length, slice_index, OnSome, All};
+ghost use Rattle.rice_code.specs.decode.ReadSets.{joined_parts};
+
+/// Puts high parts before low parts of k bits, and says whether all residuals that they make are below `count`.
+#[inline(always)]
+pub fn join_all(highs: &[u32], k: u32, count: u64, lows: &mut [u32]) -> bool
+    requires same { length lows.old ≡ length highs.now }
+    requires k { k ≤ 29 }
+    requires count { (0 < count) × (count ≤ 2 ^ 32) }
+    requires highs { All (λ h. h ≤ (2 ^ 32 - 1) / 2 ^ k) highs.now }
+    requires lows { All (λ l. l < 2 ^ k) lows.old }
+    ensures joined { lows.new ≡ joined_parts k highs.now lows.old }
+    ensures below { result ≡ true → All (λ d. d < count) (joined_parts k highs.now lows.old) }
+    ensures not_below { result ≡ false → All (λ d. d < count) (joined_parts k highs.now lows.old) → ⊥ }
+{
+    // The loop is laid out for blocks of 8, with a reference and without.
+    match highs.len() {
+        7 => join_each(&highs[..7], k, count, lows),
+        8 => join_each(&highs[..8], k, count, lows),
+        _ => join_each(highs, k, count, lows),
+    }
+}
+
+/// The same, with a loop over parts of any number.
+#[inline(always)]
+fn join_each(highs: &[u32], k: u32, count: u64, lows: &mut [u32]) -> bool
+    requires same { length lows.old ≡ length highs.now }
+    requires k { k ≤ 29 }
+    requires count { (0 < count) × (count ≤ 2 ^ 32) }
+    requires highs { All (λ h. h ≤ (2 ^ 32 - 1) / 2 ^ k) highs.now }
+    requires lows { All (λ l. l < 2 ^ k) lows.old }
+    ensures joined { lows.new ≡ joined_parts k highs.now lows.old }
+    ensures below { result ≡ true → All (λ d. d < count) (joined_parts k highs.now lows.old) }
+    ensures not_below { result ≡ false → All (λ d. d < count) (joined_parts k highs.now lows.old) → ⊥ }
+{
+    let greatest = (count - 1) as u32;
+    let mut all = true;
+    for i in 0..highs.len() {
+        let residual = lows[i] + (highs[i] << k);
+        lows[i] = residual;
+        all = all & (residual <= greatest);
+    }
+    all
+}
+
+/// Whether all residuals are below `count`.
+pub fn are_below(residuals: &[u32], count: u64) -> bool
+    requires { (0 < count) × (count ≤ 2 ^ 32) }
+    ensures below { result ≡ true → All (λ d. d < count) residuals.now }
+    ensures not_below { result ≡ false → All (λ d. d < count) residuals.now → ⊥ }
+{
+    // As above.
+    match residuals.len() {
+        7 => each_is_below(&residuals[..7], count),
+        8 => each_is_below(&residuals[..8], count),
+        _ => each_is_below(residuals, count),
+    }
+}
+
+/// The same, with a loop over residuals of any number.
+#[inline(always)]
+fn each_is_below(residuals: &[u32], count: u64) -> bool
+    requires { (0 < count) × (count ≤ 2 ^ 32) }
+    ensures below { result ≡ true → All (λ d. d < count) residuals.now }
+    ensures not_below { result ≡ false → All (λ d. d < count) residuals.now → ⊥ }
+{
+    let greatest = (count - 1) as u32;
+    let mut all = true;
+    for i in 0..residuals.len() {
+        all = all & (residuals[i] <= greatest);
+    }
+    all
+}
+
+/// Whether the residuals of second extension are sound.
+pub fn are_sound(reference: Option<u32>, residuals: &[u32], count: u64) -> bool
+    requires some { 0 < length residuals.now }
+    requires count { (0 < count) × (count ≤ 2 ^ 32) }
+    ensures sound { result ≡ true → OnSome reference (slice_index residuals.now 0 ≡ 0) × All (λ d. d < count) residuals.now }
+    ensures unsound { result ≡ false → OnSome reference (slice_index residuals.now 0 ≡ 0) × All (λ d. d < count) residuals.now → ⊥ }
+{
+    if reference.is_some() && residuals[0] != 0 {
+        return false;
+    }
+    are_below(residuals, count)
+}

@@ -1,0 +1,137 @@
+//! The samples of a block.
+ghost use Rattle.std.specs.Prelude.{◌≡◌, ℕ, ◌+◌, ◌-◌, ◌*◌, ◌/◌, ◌^◌, ◌<◌, ◌≤◌, ◌==◌, Bool, true, false, List, length, replicate, All, ℤ, IfSome, is_some};
+ghost use Rattle.rice_samples.specs.Parameters.{IsLegal, IsSample, value_count};
+ghost use Rattle.rice_samples.specs.predict.Residuals.{pattern, last_of};
+ghost use Rattle.rice_code.specs.code.Blocks.{Contents, contents, zeros};
+ghost use Rattle.rice_code.specs.code.Forms.{IsReference, IsBlock, IsZeroAtReference, AllFit};
+ghost use Rattle.rice_code.specs.decode.Restored.{residual_at};
+
+use arrayvec::ArrayVec;
+use rice_samples::{Setting, from_pattern, from_patterns, restore_all};
+
+/// Gives a vector so many items, whichever these are: the last block's where it had as many.
+#[inline]
+fn set_len(samples: &mut ArrayVec<i64, 64>, len: usize)
+    requires { len ≤ 64 }
+    ensures { length samples.new.items ≡ len }
+{
+    if samples.len() == len {
+        return;
+    }
+    samples.clear();
+    for _ in 0..len {
+        samples.push(0);
+    }
+}
+
+/// Writes the samples of a block that says this, behind p.
+fn write_block(
+    setting: &Setting,
+    block: u64,
+    p: i64,
+    reference: Option<u32>,
+    residuals: &[u32],
+    samples: &mut [i64],
+)
+    requires p { IsSample setting.now p }
+    requires legal { IsLegal setting.now }
+    requires form { IsBlock setting.now block (record { reference = reference; residuals = residuals.now }) }
+    requires zero { IsZeroAtReference (record { reference = reference; residuals = residuals.now }) }
+    requires fit { AllFit setting.now (record { reference = reference; residuals = residuals.now }) }
+    requires len { length samples.old ≡ setting.now.block }
+    ensures len { length samples.new ≡ setting.now.block }
+    ensures legal { All (IsSample setting.now) samples.new }
+    ensures contents { contents setting.now block p samples.new ≡ record { reference = reference; residuals = residuals.now } }
+{
+    match reference {
+        Some(value) => {
+            let first = from_pattern(setting, value);
+            samples[0] = first;
+            restore_all(setting, first, &residuals[1..], &mut samples[1..]);
+        }
+        None if setting.preprocess() => restore_all(setting, p, residuals, samples),
+        None => from_patterns(setting, residuals, samples),
+    }
+}
+
+/// The samples of a block that says this, behind p.
+pub fn restore_block(
+    setting: &Setting,
+    block: u64,
+    p: i64,
+    reference: Option<u32>,
+    residuals: &[u32],
+    samples: &mut ArrayVec<i64, 64>,
+) -> i64
+    requires p { IsSample setting.now p }
+    requires form { IsBlock setting.now block (record { reference = reference; residuals = residuals.now }) }
+    requires zero { IsZeroAtReference (record { reference = reference; residuals = residuals.now }) }
+    requires fit { AllFit setting.now (record { reference = reference; residuals = residuals.now }) }
+    ensures len { length samples.new.items ≡ setting.now.block }
+    ensures legal { All (IsSample setting.now) samples.new.items }
+    ensures contents { contents setting.now block p samples.new.items ≡ record { reference = reference; residuals = residuals.now } }
+    ensures last { result ≡ last_of p samples.new.items }
+    ensures sample { IsSample setting.now result }
+{
+    let size = setting.block() as usize;
+    set_len(samples, size);
+    write_block(
+        setting,
+        block,
+        p,
+        reference,
+        residuals,
+        samples.as_mut_slice(),
+    );
+    samples.as_slice()[size - 1]
+}
+
+/// The sample that a block of zeros behind p begins with.
+fn sample_of_zero(setting: &Setting, reference: Option<u32>, p: i64) -> i64
+    requires p { IsSample setting.now p }
+    requires reference { IfSome reference (λ v. v < value_count setting.now) }
+    requires preprocess { is_some reference ≡ true → setting.now.preprocess ≡ true }
+    ensures sample { IsSample setting.now result }
+    ensures residual { residual_at setting.now reference true p result ≡ 0 }
+    ensures reference { IfSome reference (λ v. pattern setting.now result ≡ v) }
+{
+    match reference {
+        Some(value) => from_pattern(setting, value),
+        None if setting.preprocess() => p,
+        None => from_pattern(setting, 0),
+    }
+}
+
+/// Writes a sample to all places.
+#[inline]
+fn fill_all(samples: &mut [i64], value: i64)
+    ensures { samples.new ≡ replicate (length samples.old) value }
+{
+    // The loop is laid out for blocks of 8.
+    match samples.len() {
+        8 => samples[..8].fill(value),
+        _ => samples.fill(value),
+    }
+}
+
+/// The samples of a block of zeros, behind p: the reference where there is one, or p, again and again.
+pub fn restore_zeros(
+    setting: &Setting,
+    block: u64,
+    p: i64,
+    reference: Option<u32>,
+    samples: &mut ArrayVec<i64, 64>,
+) -> i64
+    requires p { IsSample setting.now p }
+    requires reference { IsReference setting.now block reference }
+    ensures len { length samples.new.items ≡ setting.now.block }
+    ensures legal { All (IsSample setting.now) samples.new.items }
+    ensures contents { contents setting.now block p samples.new.items ≡ zeros setting.now reference }
+    ensures last { result ≡ last_of p samples.new.items }
+    ensures sample { IsSample setting.now result }
+{
+    let first = sample_of_zero(setting, reference, p);
+    set_len(samples, setting.block() as usize);
+    fill_all(samples.as_mut_slice(), first);
+    first
+}

@@ -1,0 +1,241 @@
+//! The two parts of residuals that a split sends: fundamental sequences, and lowest digits.
+ghost use Rattle.std.specs.Prelude.{◌≡◌, ℕ, ◌+◌, ◌-◌, ◌*◌, ◌/◌, ◌%◌, ◌^◌, ◌<◌, ◌≤◌, ◌++◌, length, drop, sum_by, flat_map};
+ghost use Rattle.rice_bits.specs.Bits.{word, fundamental_sequence};
+
+use crate::encode::bit_buffer::{Gathered, joined};
+use rice_bits::{BitSink, Meter};
+use rice_samples::Block;
+
+/// The `width` lowest digits of a number.
+#[inline]
+fn low_digits(value: u32, width: u32) -> u64
+    requires { width ≤ 32 }
+    ensures value { result ≡ value % 2 ^ width }
+    ensures fits { result < 2 ^ width }
+{
+    value as u64 % (1 << width)
+}
+
+/// The lowest digits of the residuals from number `from` on.
+#[inline(always)]
+pub fn put_low(
+    block: &Block<'_>,
+    from: usize,
+    width: u32,
+    fields: &mut Gathered,
+    sink: &mut BitSink<16432>,
+    meter: &mut Meter,
+)
+    requires width { width ≤ 32 }
+    requires from { from ≤ length block.now }
+    requires room { length sink.old + length fields.old + (length block.now - from) * width ≤ 131456 }
+    requires meter { meter.old + length fields.old + (length block.now - from) * (width + 1) < 2 ^ 62 }
+    ensures bits { sink.new ++ fields.new ≡ sink.old ++ fields.old ++ flat_map (word width) (drop from block.now) }
+    ensures len { length sink.new + length fields.new ≡ length sink.old + length fields.old + (length block.now - from) * width }
+    ensures steps { meter.new + length fields.new ≡ meter.old + length fields.old + (length block.now - from) * (width + 1) }
+{
+    let end = block.len();
+    let fours = from + (end - from) % 4;
+    put_each_low(block, from, fours, width, fields, sink, meter);
+    if width > 14 {
+        put_four_wide(block, fours, width, fields, sink, meter);
+        return;
+    }
+    put_four_low(block, fours, width, fields, sink, meter);
+}
+
+/// The lowest digits of the residuals from number `from` up to number `to`.
+#[inline(always)]
+fn put_each_low(
+    block: &Block<'_>,
+    from: usize,
+    to: usize,
+    width: u32,
+    fields: &mut Gathered,
+    sink: &mut BitSink<16432>,
+    meter: &mut Meter,
+)
+    requires width { width ≤ 32 }
+    requires from { from ≤ to }
+    requires to { to ≤ length block.now }
+    requires room { length sink.old + length fields.old + (length block.now - from) * width ≤ 131456 }
+    requires meter { meter.old + length fields.old + (length block.now - from) * (width + 1) < 2 ^ 62 }
+    ensures bits { (sink.new ++ fields.new) ++ flat_map (word width) (drop to block.now) ≡ sink.old ++ fields.old ++ flat_map (word width) (drop from block.now) }
+    ensures len { length sink.new + length fields.new + (length block.now - to) * width ≡ length sink.old + length fields.old + (length block.now - from) * width }
+    ensures steps { meter.new + length fields.new + (length block.now - to) * (width + 1) ≡ meter.old + length fields.old + (length block.now - from) * (width + 1) }
+{
+    for i in from..to {
+        let residual = block.at(i, meter);
+        fields.add(low_digits(residual, width), width, sink, meter);
+    }
+}
+
+/// The lowest digits of the residuals from number `from` on, four at a time.
+#[inline(always)]
+fn put_four_low(
+    block: &Block<'_>,
+    from: usize,
+    width: u32,
+    fields: &mut Gathered,
+    sink: &mut BitSink<16432>,
+    meter: &mut Meter,
+)
+    requires width { width ≤ 14 }
+    requires from { from ≤ length block.now }
+    requires fours { (length block.now - from) % 4 ≡ 0 }
+    requires room { length sink.old + length fields.old + (length block.now - from) * width ≤ 131456 }
+    requires meter { meter.old + length fields.old + (length block.now - from) * (width + 1) < 2 ^ 62 }
+    ensures bits { sink.new ++ fields.new ≡ sink.old ++ fields.old ++ flat_map (word width) (drop from block.now) }
+    ensures len { length sink.new + length fields.new ≡ length sink.old + length fields.old + (length block.now - from) * width }
+    ensures steps { meter.new + length fields.new ≡ meter.old + length fields.old + (length block.now - from) * (width + 1) }
+{
+    for i in 0..(block.len() - from) / 4 {
+        let four = block.four_at(from + 4 * i, meter);
+        fields.add(four_low(four, width), 4 * width, sink, meter);
+    }
+}
+
+/// The lowest digits of the residuals from number `from` on, where four of them are more than a put takes.
+#[inline(always)]
+fn put_four_wide(
+    block: &Block<'_>,
+    from: usize,
+    width: u32,
+    fields: &mut Gathered,
+    sink: &mut BitSink<16432>,
+    meter: &mut Meter,
+)
+    requires width { width ≤ 32 }
+    requires from { from ≤ length block.now }
+    requires fours { (length block.now - from) % 4 ≡ 0 }
+    requires room { length sink.old + length fields.old + (length block.now - from) * width ≤ 131456 }
+    requires meter { meter.old + length fields.old + (length block.now - from) * (width + 1) < 2 ^ 62 }
+    ensures bits { sink.new ++ fields.new ≡ sink.old ++ fields.old ++ flat_map (word width) (drop from block.now) }
+    ensures len { length sink.new + length fields.new ≡ length sink.old + length fields.old + (length block.now - from) * width }
+    ensures steps { meter.new + length fields.new ≡ meter.old + length fields.old + (length block.now - from) * (width + 1) }
+{
+    for i in 0..(block.len() - from) / 4 {
+        let (a, b, c, d) = block.four_at(from + 4 * i, meter);
+        put_wide_pair((a, b), width, fields, sink, meter);
+        put_wide_pair((c, d), width, fields, sink, meter);
+    }
+}
+
+/// Puts the bits that wait, and adds the lowest digits of two numbers.
+#[inline(always)]
+fn put_wide_pair(
+    pair: (u32, u32),
+    width: u32,
+    fields: &mut Gathered,
+    sink: &mut BitSink<16432>,
+    meter: &mut Meter,
+)
+    requires width { width ≤ 32 }
+    requires room { length sink.old + length fields.old + 2 * width ≤ 131456 }
+    requires meter { meter.old + length fields.old + 2 * width < 2 ^ 62 }
+    ensures bits { sink.new ++ fields.new ≡ sink.old ++ fields.old ++ (word width pair.0 ++ word width pair.1) }
+    ensures len { length sink.new + length fields.new ≡ length sink.old + length fields.old + 2 * width }
+    ensures steps { meter.new + length fields.new ≡ meter.old + length fields.old + 2 * width }
+{
+    let first = low_digits(pair.0, width);
+    let second = low_digits(pair.1, width);
+    fields.put(sink, meter);
+    if width <= 28 {
+        fields.add(joined(first, width, second), 2 * width, sink, meter);
+        return;
+    }
+    fields.add(first, width, sink, meter);
+    fields.put(sink, meter);
+    fields.add(second, width, sink, meter);
+}
+
+/// The lowest digits of four numbers, one behind the other.
+#[inline(always)]
+fn four_low(four: (u32, u32, u32, u32), width: u32) -> u64
+    requires { width ≤ 14 }
+    ensures fits { result < 2 ^ (4 * width) }
+    ensures bits { word (4 * width) result ≡ word width four.0 ++ word width four.1 ++ word width four.2 ++ word width four.3 }
+{
+    let first = low_digits(four.0, width);
+    let second = low_digits(four.1, width);
+    let third = low_digits(four.2, width);
+    let last = low_digits(four.3, width);
+    let two = joined(first, width, second);
+    let three = joined(two, width, third);
+    joined(three, width, last)
+}
+
+/// The fundamental sequences of the residuals from number `from` on, without their `k` lowest digits.
+#[inline(always)]
+pub fn put_high(
+    block: &Block<'_>,
+    from: usize,
+    k: u32,
+    fields: &mut Gathered,
+    sink: &mut BitSink<16432>,
+    meter: &mut Meter,
+)
+    requires split { k ≤ 29 }
+    requires from { from ≤ length block.now }
+    requires room { length sink.old + length fields.old + (length block.now - from) + sum_by (λ d. d / 2 ^ k) (drop from block.now) ≤ 131456 }
+    requires meter { meter.old + length fields.old + 2 * (length block.now - from) + sum_by (λ d. d / 2 ^ k) (drop from block.now) < 2 ^ 62 }
+    ensures bits { sink.new ++ fields.new ≡ sink.old ++ fields.old ++ flat_map (λ d. fundamental_sequence (d / 2 ^ k)) (drop from block.now) }
+    ensures len { length sink.new + length fields.new ≡ length sink.old + length fields.old + (length block.now - from) + sum_by (λ d. d / 2 ^ k) (drop from block.now) }
+    ensures steps { meter.new + length fields.new ≡ meter.old + length fields.old + 2 * (length block.now - from) + sum_by (λ d. d / 2 ^ k) (drop from block.now) }
+{
+    let end = block.len();
+    let fours = from + (end - from) % 4;
+    put_each_high(block, from, fours, k, fields, sink, meter);
+    put_four_high(block, fours, k, fields, sink, meter);
+}
+
+/// The same of the residuals from number `from` up to number `to`.
+#[inline(always)]
+fn put_each_high(
+    block: &Block<'_>,
+    from: usize,
+    to: usize,
+    k: u32,
+    fields: &mut Gathered,
+    sink: &mut BitSink<16432>,
+    meter: &mut Meter,
+)
+    requires split { k ≤ 29 }
+    requires from { from ≤ to }
+    requires to { to ≤ length block.now }
+    requires room { length sink.old + length fields.old + (length block.now - from) + sum_by (λ d. d / 2 ^ k) (drop from block.now) ≤ 131456 }
+    requires meter { meter.old + length fields.old + 2 * (length block.now - from) + sum_by (λ d. d / 2 ^ k) (drop from block.now) < 2 ^ 62 }
+    ensures bits { (sink.new ++ fields.new) ++ flat_map (λ d. fundamental_sequence (d / 2 ^ k)) (drop to block.now) ≡ sink.old ++ fields.old ++ flat_map (λ d. fundamental_sequence (d / 2 ^ k)) (drop from block.now) }
+    ensures len { length sink.new + length fields.new + (length block.now - to) + sum_by (λ d. d / 2 ^ k) (drop to block.now) ≡ length sink.old + length fields.old + (length block.now - from) + sum_by (λ d. d / 2 ^ k) (drop from block.now) }
+    ensures steps { meter.new + length fields.new + 2 * (length block.now - to) + sum_by (λ d. d / 2 ^ k) (drop to block.now) ≡ meter.old + length fields.old + 2 * (length block.now - from) + sum_by (λ d. d / 2 ^ k) (drop from block.now) }
+{
+    for i in from..to {
+        let residual = block.at(i, meter);
+        fields.add_fs(residual >> k, sink, meter);
+    }
+}
+
+/// The same of the residuals from number `from` on, four at a time.
+#[inline(always)]
+fn put_four_high(
+    block: &Block<'_>,
+    from: usize,
+    k: u32,
+    fields: &mut Gathered,
+    sink: &mut BitSink<16432>,
+    meter: &mut Meter,
+)
+    requires split { k ≤ 29 }
+    requires from { from ≤ length block.now }
+    requires fours { (length block.now - from) % 4 ≡ 0 }
+    requires room { length sink.old + length fields.old + (length block.now - from) + sum_by (λ d. d / 2 ^ k) (drop from block.now) ≤ 131456 }
+    requires meter { meter.old + length fields.old + 2 * (length block.now - from) + sum_by (λ d. d / 2 ^ k) (drop from block.now) < 2 ^ 62 }
+    ensures bits { sink.new ++ fields.new ≡ sink.old ++ fields.old ++ flat_map (λ d. fundamental_sequence (d / 2 ^ k)) (drop from block.now) }
+    ensures len { length sink.new + length fields.new ≡ length sink.old + length fields.old + (length block.now - from) + sum_by (λ d. d / 2 ^ k) (drop from block.now) }
+    ensures steps { meter.new + length fields.new ≡ meter.old + length fields.old + 2 * (length block.now - from) + sum_by (λ d. d / 2 ^ k) (drop from block.now) }
+{
+    for i in 0..(block.len() - from) / 4 {
+        let (a, b, c, d) = block.four_at(from + 4 * i, meter);
+        fields.add_four_fs((a >> k, b >> k, c >> k, d >> k), sink, meter);
+    }
+}

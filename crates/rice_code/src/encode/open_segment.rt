@@ -1,0 +1,292 @@
+//! The segment that a coder fills.
+ghost use Rattle.std.specs.Prelude.{◌≡◌, ℕ, ◌+◌, ◌-◌, ◌*◌, ◌/◌, ◌^◌, ◌<◌, ◌≤◌, ◌↔◌, ◌++◌, List, [], length, replicate, sum_by, if◌then◌else◌, ◌==◌, ◌&&◌, Some, None, false, IsTrue, All};
+ghost use Rattle.rice_bits.specs.Bits.{bits_to_byte};
+ghost use Rattle.rice_samples.specs.Parameters.{IsLegal, IsSample, id_len, k_max};
+ghost use Rattle.rice_samples.specs.Places.{blocks_left};
+ghost use Rattle.rice_samples.specs.predict.Residuals.{pattern, rank};
+ghost use Rattle.rice_code.specs.code.CodedDataSets.{text};
+ghost use Rattle.rice_code.specs.encode.HeldBlocks.{AreSoundBlocks};
+ghost use Rattle.rice_code.specs.Steps.{least_looks, most_looks};
+ghost use Rattle.rice_code.specs.encode.Coder.{IsWhole, empty, grown, grown_by, later_residuals, filled_up, fill_count, emptied, blocks_held, contents_held, sets_held, code_held, is_first};
+
+use crate::encode::blocks::code_blocks;
+use rice_bits::{BitSink, Meter};
+use rice_samples::{Segment, Setting, pattern, residual};
+use std::marker::Model;
+
+/// The residuals of a segment that is not coded yet, and what is known of it. Clauses see all of this.
+#[derive(Drop)]
+pub struct OpenSegment {
+    setting: Setting,
+    residuals: Segment,
+    /// The reference of its first block.
+    reference: Option<u32>,
+    /// The sample before the next.
+    previous: i64,
+    /// The place in its interval of its first block.
+    start: u32,
+    /// How many residuals it has when it is whole.
+    end: usize,
+}
+
+impl Model for OpenSegment {
+    ghost use Rattle.rice_code.specs.encode.Coder.{State, IsOpen};
+
+    ghost Value = { State };
+
+    ghost view = { λ c. record { setting = c.setting; residuals = c.residuals; reference = c.reference; previous = c.previous; start = c.start } };
+
+    ghost invariant = { λ c. IsOpen (record { setting = c.setting; residuals = c.residuals; reference = c.reference; previous = c.previous; start = c.start }) c.end };
+}
+
+impl OpenSegment {
+    /// The first segment, without residuals.
+    pub fn new(setting: Setting) -> Self
+        ensures { result ≡ empty setting }
+    {
+        let end = residuals_from(&setting, 0);
+        OpenSegment {
+            setting,
+            residuals: Segment::new(),
+            reference: None,
+            previous: 0,
+            start: 0,
+            end,
+        }
+    }
+
+    /// How many residuals there are.
+    #[inline]
+    pub fn len(&self) -> usize
+        ensures value { result ≡ length self.now.residuals }
+        ensures limit { result ≤ 4096 }
+    {
+        self.residuals.len()
+    }
+
+    /// How many more residuals make the segment whole.
+    #[inline]
+    pub fn room(&self) -> usize
+        ensures { result + length self.now.residuals ≡ self.now.setting.block * blocks_left self.now.setting self.now.start }
+    {
+        self.end - self.residuals.len()
+    }
+
+    /// Whether the residuals make the segment whole.
+    #[inline]
+    pub fn is_whole(&self) -> bool
+        ensures { IsTrue result ↔ IsWhole self.now }
+    {
+        self.residuals.len() == self.end
+    }
+
+    /// Whether there are no residuals, and a reference interval begins.
+    #[inline]
+    fn is_first(&self) -> bool
+        ensures { result ≡ is_first self.now }
+    {
+        self.residuals.len() == 0 && self.start == 0
+    }
+
+    /// Whether the next sample is a reference sample.
+    #[inline]
+    fn is_reference_next(&self) -> bool
+        ensures { result ≡ (self.now.setting.preprocess && is_first self.now) }
+    {
+        self.setting.preprocess() && self.is_first()
+    }
+
+    /// Adds the residual of the sample `x`.
+    #[inline]
+    pub fn hold(&mut self, x: i64)
+        requires sample { IsSample self.old.setting x }
+        requires open { length self.old.residuals < self.old.setting.block * blocks_left self.old.setting self.old.start }
+        ensures { self.new ≡ grown self.old x }
+    {
+        let first = self.is_first();
+        let residual = next_residual(&self.setting, first, self.previous, x);
+        note_reference(&self.setting, first, &mut self.reference, x);
+        self.residuals.push(residual);
+        self.previous = x;
+    }
+
+    /// Adds the residuals of the samples, which the segment has room for.
+    pub fn hold_all(&mut self, samples: &[i64])
+        requires samples { All (IsSample self.old.setting) samples.now }
+        requires room { length self.old.residuals + length samples.now ≤ self.old.setting.block * blocks_left self.old.setting self.old.start }
+        ensures { self.new ≡ grown_by self.old samples.now }
+    {
+        if samples.is_empty() {
+            return;
+        }
+        if self.is_reference_next() {
+            self.hold(samples[0]);
+            self.hold_later(&samples[1..]);
+        } else {
+            self.hold_later(samples);
+        }
+    }
+
+    /// Adds the residuals of samples of which none is a reference sample.
+    fn hold_later(&mut self, samples: &[i64])
+        requires later { (self.old.setting.preprocess && is_first self.old) ≡ false }
+        requires samples { All (IsSample self.old.setting) samples.now }
+        requires room { length self.old.residuals + length samples.now ≤ self.old.setting.block * blocks_left self.old.setting self.old.start }
+        ensures { self.new ≡ grown_by self.old samples.now }
+    {
+        if samples.is_empty() {
+            return;
+        }
+        push_later(&self.setting, self.previous, samples, &mut self.residuals);
+        self.previous = samples[samples.len() - 1];
+    }
+
+    /// Fills the last block by repeating the last sample, a step for each.
+    pub fn fill(&mut self, meter: &mut Meter)
+        requires { meter.old + 64 < 2 ^ 62 }
+        ensures value { self.new ≡ filled_up self.old (fill_count self.old) }
+        ensures steps { meter.new ≡ meter.old + fill_count self.old }
+    {
+        let size = self.setting.block() as usize;
+        let count = (size - self.residuals.len() % size) % size;
+        let first = self.is_first();
+        let residual = next_residual(&self.setting, first, self.previous, self.previous);
+        push_copies(&mut self.residuals, residual, count, meter);
+    }
+
+    /// Appends the code of its blocks, with the padding of the interval that they end. Answers how many bits that are, padding aside.
+    pub fn code(&self, sink: &mut BitSink<16432>, meter: &mut Meter) -> u64
+        requires sound { AreSoundBlocks self.now.setting self.now.start (contents_held self.now) }
+        requires blocks { length self.now.residuals ≡ self.now.setting.block * blocks_held self.now }
+        requires room { length sink.old ≤ 7 }
+        requires meter { meter.old + 64 * (id_len self.now.setting + self.now.setting.block * (self.now.setting.bits + k_max self.now.setting + 5)) < 2 ^ 62 }
+        ensures bits { sink.new ≡ sink.old ++ code_held self.now (length sink.old) }
+        ensures count { result ≡ sum_by (λ d. length (text self.now.setting d)) (sets_held self.now) }
+        ensures steps_from { meter.old + sum_by (λ d. length (text self.now.setting d)) (sets_held self.now) + sum_by (least_looks self.now.setting) (contents_held self.now) ≤ meter.new }
+        ensures steps_to { meter.new ≤ meter.old + sum_by (λ d. length (text self.now.setting d)) (sets_held self.now) + sum_by (most_looks self.now.setting) (contents_held self.now) }
+    {
+        let setting = &self.setting;
+        let blocks = blocks_of(setting, self.residuals.len());
+        let before = sink.len();
+        code_blocks(
+            setting,
+            self.start,
+            self.reference,
+            blocks,
+            &self.residuals,
+            sink,
+            meter,
+        );
+        let bits = sink.len() - before;
+        pad_interval(setting, self.start as usize + blocks, sink);
+        bits
+    }
+
+    /// Goes on to the next segment.
+    pub fn begin_next(&mut self)
+        requires { IsWhole self.old }
+        ensures { self.new ≡ emptied self.old }
+    {
+        let start = next_start(&self.setting, self.start);
+        self.residuals.clear();
+        self.reference = None;
+        self.end = residuals_from(&self.setting, start);
+        self.start = start;
+    }
+}
+
+/// How many whole blocks so many residuals make. Division by a size that the compiler knows is a shift.
+#[inline]
+fn blocks_of(setting: &Setting, len: usize) -> usize
+    ensures { result ≡ len / setting.now.block }
+{
+    match setting.block() {
+        8 => len / 8,
+        16 => len / 16,
+        32 => len / 32,
+        _ => len / 64,
+    }
+}
+
+/// The residuals of a segment from its block with this place in its interval on.
+fn residuals_from(setting: &Setting, start: u32) -> usize
+    ensures value { result ≡ setting.now.block * blocks_left setting.now start }
+    ensures limit { result ≤ 4096 }
+    ensures legal { IsLegal setting.now }
+{
+    (setting.block() * setting.blocks_left(start as u64)) as usize
+}
+
+/// The place of the block behind the segment of the block with this place.
+fn next_start(setting: &Setting, start: u32) -> u32
+    requires { start ≤ 4096 }
+    ensures { result ≡ (if start + blocks_left setting.now start == setting.now.interval then 0 else start + blocks_left setting.now start) }
+{
+    let next = start + setting.blocks_left(start as u64);
+    if next == setting.interval() { 0 } else { next }
+}
+
+/// The residual of `x` behind `previous`: 0 for the first sample of an interval.
+#[inline]
+fn next_residual(setting: &Setting, first: bool, previous: i64, x: i64) -> u32
+    requires before { IsSample setting.now previous }
+    requires sample { IsSample setting.now x }
+    ensures { result ≡ (if setting.now.preprocess then (if first then 0 else rank setting.now previous x) else pattern setting.now x) }
+{
+    if !setting.preprocess() {
+        return pattern(setting, x);
+    }
+    if first {
+        0
+    } else {
+        residual(setting, previous, x)
+    }
+}
+
+/// Notes the sample `x` as the segment's reference, if it is the first of an interval.
+#[inline]
+fn note_reference(setting: &Setting, first: bool, reference: &mut Option<u32>, x: i64)
+    requires { IsSample setting.now x }
+    ensures { reference.new ≡ (if setting.now.preprocess && first then Some (pattern setting.now x) else reference.old) }
+{
+    if setting.preprocess() && first {
+        *reference = Some(pattern(setting, x));
+    }
+}
+
+/// Adds the residuals of samples behind `previous` that are not the first of an interval.
+fn push_later(setting: &Setting, previous: i64, samples: &[i64], segment: &mut Segment)
+    requires before { IsSample setting.now previous }
+    requires samples { All (IsSample setting.now) samples.now }
+    requires room { length segment.old + length samples.now ≤ 4096 }
+    ensures { segment.new ≡ segment.old ++ later_residuals setting.now previous samples.now }
+{
+    if setting.preprocess() {
+        segment.push_residuals(setting, previous, samples);
+    } else {
+        segment.push_patterns(setting, samples);
+    }
+}
+
+/// Fills the last byte with zeros if an interval ends with so many blocks, and intervals are padded.
+fn pad_interval(setting: &Setting, blocks: usize, sink: &mut BitSink<16432>)
+    ensures { sink.new ≡ sink.old ++ replicate (if setting.now.pad && blocks == setting.now.interval then bits_to_byte (length sink.old) else 0) false }
+{
+    if setting.pads() && blocks == setting.interval() as usize {
+        sink.pad();
+    }
+}
+
+/// Adds one residual several times, a step for each.
+fn push_copies(segment: &mut Segment, residual: u32, count: usize, meter: &mut Meter)
+    requires room { length segment.old + count ≤ 4096 }
+    requires meter { meter.old + count < 2 ^ 62 }
+    ensures items { segment.new ≡ segment.old ++ replicate count residual }
+    ensures steps { meter.new ≡ meter.old + count }
+{
+    meter.tick(count as u64);
+    for i in 0..count {
+        let _i = i;
+        segment.push(residual);
+    }
+}

@@ -1,0 +1,223 @@
+//! The texts of blocks and runs.
+ghost use Rattle.std.specs.Prelude.{◌≡◌, ℕ, ◌+◌, ◌-◌, ◌*◌, ◌/◌, ◌%◌, ◌^◌, ◌<◌, ◌≤◌, ◌++◌, List, length, drop, sum_by, flat_map, IfSome};
+ghost use Rattle.rice_bits.specs.Bits.{word, fundamental_sequence};
+ghost use Rattle.rice_samples.specs.Parameters.{k_max, value_count};
+ghost use Rattle.rice_samples.specs.blocks.Pairs.{pair_code, pair_codes};
+ghost use Rattle.rice_code.specs.code.CodedDataSets.{NoCompression, SecondExtension, Split, cost, text, coded_from, reference_text, reference_len};
+ghost use Rattle.rice_code.specs.encode.HeldBlocks.{told, IsSound, sent_run, sent_zeros};
+ghost use Rattle.rice_code.specs.encode.Chosen.{chosen_set, IsSplitWithin};
+
+use crate::encode::bit_buffer::Gathered;
+use crate::encode::fields::{put_high, put_low};
+use crate::encode::search::Choice;
+use rice_bits::{BitSink, Meter};
+use rice_samples::{Block, Setting};
+
+/// The `width` digits of an identifier, with the flag behind it where it has one, and the reference, if there is one.
+#[inline(always)]
+fn begin(
+    setting: &Setting,
+    identifier: u32,
+    width: u32,
+    reference: Option<u32>,
+    sink: &mut BitSink<16432>,
+    meter: &mut Meter,
+) -> Gathered
+    requires width { width ≤ 32 }
+    requires identifier { identifier < 2 ^ width }
+    requires fits { IfSome reference (λ v. v < value_count setting.now) }
+    requires room { length sink.old + width + reference_len setting.now reference ≤ 131456 }
+    requires meter { meter.old + width + reference_len setting.now reference < 2 ^ 62 }
+    ensures bits { sink.new ++ result ≡ sink.old ++ word width identifier ++ reference_text setting.now reference }
+    ensures len { length sink.new + length result ≡ length sink.old + width + reference_len setting.now reference }
+    ensures steps { meter.new + length result ≡ meter.old + width + reference_len setting.now reference }
+{
+    let mut fields = Gathered::new();
+    fields.add(identifier as u64, width, sink, meter);
+    if let Some(v) = reference {
+        fields.add(v as u64, setting.bits(), sink, meter);
+        return fields;
+    }
+    fields
+}
+
+/// The number that stands for a pair whose codeword fits a sink.
+#[inline]
+fn codeword_of(a: u32, b: u32) -> u32
+    requires { pair_code a b ≤ 131456 }
+    ensures { result ≡ pair_code a b }
+{
+    let sum = a as u64 + b as u64;
+    (sum * (sum + 1) / 2) as u32 + b
+}
+
+/// The fundamental sequences of the pairs.
+#[inline(always)]
+fn put_pairs(block: &Block<'_>, fields: &mut Gathered, sink: &mut BitSink<16432>, meter: &mut Meter)
+    requires even { length block.now % 2 ≡ 0 }
+    requires room { length sink.old + length fields.old + sum_by (λ g. g + 1) (pair_codes block.now) ≤ 131456 }
+    requires meter { meter.old + length fields.old + length block.now + sum_by (λ g. g + 1) (pair_codes block.now) < 2 ^ 62 }
+    ensures bits { sink.new ++ fields.new ≡ sink.old ++ fields.old ++ flat_map fundamental_sequence (pair_codes block.now) }
+    ensures len { length sink.new + length fields.new ≡ length sink.old + length fields.old + sum_by (λ g. g + 1) (pair_codes block.now) }
+    ensures steps { meter.new + length fields.new ≡ meter.old + length fields.old + length block.now + sum_by (λ g. g + 1) (pair_codes block.now) }
+{
+    for i in 0..block.len() / 2 {
+        let a = block.at(2 * i, meter);
+        let b = block.at(2 * i + 1, meter);
+        fields.add_fs(codeword_of(a, b), sink, meter);
+    }
+}
+
+/// How many residuals are not coded: that at the reference place, where there is one.
+fn first_coded(reference: Option<u32>) -> usize
+    ensures coded { (ds : List ℕ) → coded_from reference ds ≡ drop result ds }
+    ensures limit { result ≤ 1 }
+{
+    match reference {
+        Some(_) => 1,
+        None => 0,
+    }
+}
+
+/// The text by no compression.
+fn put_no_compression(
+    setting: &Setting,
+    reference: Option<u32>,
+    block: &Block<'_>,
+    sink: &mut BitSink<16432>,
+    meter: &mut Meter,
+)
+    requires sound { IsSound setting.now (told reference block.now) }
+    requires room { length sink.old + cost setting.now (NoCompression (told reference block.now)) ≤ 131456 }
+    requires meter { meter.old + cost setting.now (NoCompression (told reference block.now)) + 2 * setting.now.block < 2 ^ 62 }
+    ensures bits { sink.new ≡ sink.old ++ text setting.now (NoCompression (told reference block.now)) }
+    ensures len { length sink.new ≡ length sink.old + cost setting.now (NoCompression (told reference block.now)) }
+    ensures steps_from { meter.old + cost setting.now (NoCompression (told reference block.now)) + setting.now.block ≤ meter.new + 1 }
+    ensures steps_to { meter.new ≤ meter.old + cost setting.now (NoCompression (told reference block.now)) + 2 * setting.now.block }
+{
+    let id = setting.id_len();
+    let from = first_coded(reference);
+    let bits = setting.bits();
+    let _block = setting.block();
+    let mut fields = begin(setting, (1 << id) - 1, id, reference, sink, meter);
+    put_low(block, from, bits, &mut fields, sink, meter);
+    fields.put(sink, meter);
+}
+
+/// The text by second extension.
+fn put_second_extension(
+    setting: &Setting,
+    reference: Option<u32>,
+    block: &Block<'_>,
+    sink: &mut BitSink<16432>,
+    meter: &mut Meter,
+)
+    requires sound { IsSound setting.now (told reference block.now) }
+    requires room { length sink.old + cost setting.now (SecondExtension (told reference block.now)) ≤ 131456 }
+    requires meter { meter.old + cost setting.now (SecondExtension (told reference block.now)) + 2 * setting.now.block < 2 ^ 62 }
+    ensures bits { sink.new ≡ sink.old ++ text setting.now (SecondExtension (told reference block.now)) }
+    ensures len { length sink.new ≡ length sink.old + cost setting.now (SecondExtension (told reference block.now)) }
+    ensures steps { meter.new ≡ meter.old + cost setting.now (SecondExtension (told reference block.now)) + setting.now.block }
+{
+    let id = setting.id_len();
+    let _block = setting.block();
+    let mut fields = begin(setting, 1, id + 1, reference, sink, meter);
+    put_pairs(block, &mut fields, sink, meter);
+    fields.put(sink, meter);
+}
+
+/// The text by split `k`.
+fn put_split(
+    setting: &Setting,
+    k: u32,
+    reference: Option<u32>,
+    block: &Block<'_>,
+    sink: &mut BitSink<16432>,
+    meter: &mut Meter,
+)
+    requires sound { IsSound setting.now (told reference block.now) }
+    requires split { k ≤ k_max setting.now }
+    requires room { length sink.old + cost setting.now (Split k (told reference block.now)) ≤ 131456 }
+    requires meter { meter.old + cost setting.now (Split k (told reference block.now)) + 2 * setting.now.block < 2 ^ 62 }
+    ensures bits { sink.new ≡ sink.old ++ text setting.now (Split k (told reference block.now)) }
+    ensures len { length sink.new ≡ length sink.old + cost setting.now (Split k (told reference block.now)) }
+    ensures steps_from { meter.old + cost setting.now (Split k (told reference block.now)) + setting.now.block ≤ meter.new + 1 }
+    ensures steps_to { meter.new ≤ meter.old + cost setting.now (Split k (told reference block.now)) + 2 * setting.now.block }
+{
+    let id = setting.id_len();
+    let from = first_coded(reference);
+    let _limit = setting.k_max();
+    let _block = setting.block();
+    let mut fields = begin(setting, k + 1, id, reference, sink, meter);
+    put_high(block, from, k, &mut fields, sink, meter);
+    if k == 0 {
+        fields.put(sink, meter);
+        return;
+    }
+    put_low(block, from, k, &mut fields, sink, meter);
+    fields.put(sink, meter);
+}
+
+/// The text of a block by an option.
+pub fn put_block(
+    setting: &Setting,
+    choice: Choice,
+    reference: Option<u32>,
+    block: &Block<'_>,
+    sink: &mut BitSink<16432>,
+    meter: &mut Meter,
+)
+    requires sound { IsSound setting.now (told reference block.now) }
+    requires split { IsSplitWithin (k_max setting.now) choice }
+    requires room { length sink.old + cost setting.now (chosen_set choice (told reference block.now)) ≤ 131456 }
+    requires meter { meter.old + cost setting.now (chosen_set choice (told reference block.now)) + 2 * setting.now.block < 2 ^ 62 }
+    ensures bits { sink.new ≡ sink.old ++ text setting.now (chosen_set choice (told reference block.now)) }
+    ensures len { length sink.new ≡ length sink.old + cost setting.now (chosen_set choice (told reference block.now)) }
+    ensures steps_from { meter.old + cost setting.now (chosen_set choice (told reference block.now)) + setting.now.block ≤ meter.new + 1 }
+    ensures steps_to { meter.new ≤ meter.old + cost setting.now (chosen_set choice (told reference block.now)) + 2 * setting.now.block }
+{
+    match choice {
+        Choice::NoCompression => put_no_compression(setting, reference, block, sink, meter),
+        Choice::SecondExtension => put_second_extension(setting, reference, block, sink, meter),
+        Choice::Split(k) => put_split(setting, k, reference, block, sink, meter),
+    }
+}
+
+/// The text of a run of zero blocks: of `z` blocks, or of all blocks that are left in the segment.
+pub fn put_run(
+    setting: &Setting,
+    reference: Option<u32>,
+    z: u32,
+    to_end: bool,
+    sink: &mut BitSink<16432>,
+    meter: &mut Meter,
+)
+    requires blocks { 1 ≤ z }
+    requires few { z ≤ 64 }
+    requires fits { IfSome reference (λ v. v < value_count setting.now) }
+    requires room { length sink.old + cost setting.now (sent_run to_end reference z) ≤ 131456 }
+    requires meter { meter.old + cost setting.now (sent_run to_end reference z) < 2 ^ 62 }
+    ensures bits { sink.new ≡ sink.old ++ text setting.now (sent_run to_end reference z) }
+    ensures len { length sink.new ≡ length sink.old + cost setting.now (sent_run to_end reference z) }
+    ensures steps { meter.new ≡ meter.old + cost setting.now (sent_run to_end reference z) }
+{
+    let id = setting.id_len();
+    let mut fields = begin(setting, 0, id + 1, reference, sink, meter);
+    fields.put(sink, meter);
+    sink.put_fs(sent_zeros(z, to_end), meter);
+}
+
+/// The zeros of the codeword of a run.
+fn sent_zeros(z: u32, to_end: bool) -> u64
+    requires { 1 ≤ z }
+    ensures value { result ≡ sent_zeros to_end z }
+    ensures limit { result ≤ z + 4 }
+{
+    if to_end && z >= 5 {
+        4
+    } else if z < 5 {
+        z as u64 - 1
+    } else {
+        z as u64
+    }
+}

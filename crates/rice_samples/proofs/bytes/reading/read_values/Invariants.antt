@@ -1,0 +1,11 @@
+use Rattle.std.proofs.Common.{◌≡◌, ◌*◌, take, All}
+use Rattle.std.specs.Prelude.{flat_map}
+use Rattle.rice_samples.specs.predict.Residuals.{twos_complement}
+use Rattle.rice_samples.specs.bytes.Values.{IsValue, ordered_bytes}
+use Rattle.rice_samples.proofs.bytes.reading.read_values.Given as goal
+
+abbrev pub invariant-loop-i : goal.invariant-loop-i
+invariant-loop-i l = record {
+  legal : All (IsValue (8 * l.width) l.signed) (take l.i l.samples);
+  spelled : take (l.width * l.i) l.bytes ≡ flat_map (λ x. ordered_bytes l.msb l.width (twos_complement (8 * l.width) x)) (take l.i l.samples);
+}

@@ -1,0 +1,3 @@
+-- Spelling, and reading samples from bytes.
+pub mod ReadSamples
+pub mod SpellingLemmas

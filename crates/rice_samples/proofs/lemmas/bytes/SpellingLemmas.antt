@@ -1,0 +1,170 @@
+-- Values, their patterns, and the bytes that spell these.
+use Rattle.std.proofs.Common.{◌≡◌, ℕ, zero, suc, ◌+◌, ◌-◌, ◌*◌, ◌/◌, ◌%◌, ◌^◌, ◌<◌, ◌≤◌, ◌⊎◌, inl, inr, cond, mod-eq_of_lt, Bool, true, false, ap, arith, sym, ◌∙◌, subst, List, length, ℤ, pos, negsuc, neg_ℤ, ◌≤ℤ◌, ◌<ℤ◌, ◌-ℤ◌}
+use Rattle.std.specs.Int.{int_gap, bytes_low_first, bytes_high_first}
+use Rattle.std.proofs.lemmas.Int.{ints}
+use Rattle.std.proofs.lemmas.Bool.{cases_lt}
+use Rattle.std.proofs.lemmas.Nat.{pow_pos}
+use Rattle.std.proofs.Math.Nat.{mul-add-mod_self_left}
+use Rattle.std.proofs.Math.Pow.{pow_mono}
+use Rattle.rice_samples.specs.Parameters.{level, Parameters, IsLegal, IsSample, width}
+use Rattle.rice_samples.specs.predict.Residuals.{twos_complement}
+use Rattle.rice_samples.specs.bytes.Spelling.{spelling}
+use Rattle.rice_samples.specs.bytes.Values.{offset, IsValue, ordered_bytes}
+use Rattle.rice_samples.proofs.lemmas.setting.Levels.{half_pow, pattern_fits}
+
+-- a pattern in the upper half stands for a negative value
+pub high_value : (signed : Bool) (bits d : ℕ) → signed ≡ true → 1 ≤ bits → d < 2 ^ bits → 2 ^ bits ≤ 2 * d → IsValue bits signed (pos d -ℤ pos (2 ^ bits))
+high_value false bits d e h lt high = absurd (let f : false ≡ true = e in cc)
+high_value true bits d e h lt high = halves (2 ^ (bits - 1)) (2 ^ bits) d (half_pow bits h) (pow_pos (bits - 1)) lt high
+  where
+    halves : (half count d : ℕ) → count ≡ half + half → 0 < half → d < count → count ≤ 2 * d → (neg_ℤ (pos half) ≤ℤ (pos d -ℤ pos count)) × (int_gap (neg_ℤ (pos half)) (pos d -ℤ pos count) < count)
+    halves zero count d e some lt high = absurd (omega arith)
+    halves (suc half) count d e some lt high =
+        let v : pos d -ℤ pos count ≡ negsuc (count - suc d) = omega (arith, ints) in
+        rw v (omega (arith, ints), omega (arith, ints))
+
+-- a value of so many bits is one of more bits too
+pub wider_value : (bits more : ℕ) (signed : Bool) (x : ℤ) → 1 ≤ bits → bits ≤ more → IsValue bits signed x → IsValue more signed x
+wider_value bits more true x h le k =
+    halves (2 ^ (bits - 1)) (2 ^ bits) (2 ^ (more - 1)) (2 ^ more) x (half_pow bits h) (half_pow more (omega arith)) (pow_pos (bits - 1)) (pow_mono {i = bits - 1} {j = more - 1} (omega arith)) k.0 k.1
+  where
+    halves : (half count half' count' : ℕ) (x : ℤ) → count ≡ half + half → count' ≡ half' + half' → 0 < half → half ≤ half' → neg_ℤ (pos half) ≤ℤ x → int_gap (neg_ℤ (pos half)) x < count → (neg_ℤ (pos half') ≤ℤ x) × (int_gap (neg_ℤ (pos half')) x < count')
+    halves zero count half' count' x e f some le k l = absurd (omega arith)
+    halves (suc half) count zero count' x e f some le k l = absurd (omega arith)
+    halves (suc half) count (suc half') count' (pos v) e f some le k l = (omega (arith, ints), omega (arith, ints))
+    halves (suc half) count (suc half') count' (negsuc v) e f some le k l = (omega (arith, ints), omega (arith, ints))
+wider_value bits more false x h le k = let e = pow_mono le in (k.0, omega arith)
+
+-- the bytes of a word tell the word
+same_low : (k v w : ℕ) → 1 ≤ k → k ≤ 4 → v < 2 ^ (8 * k) → w < 2 ^ (8 * k) → bytes_low_first 0 k v ≡ bytes_low_first 0 k w → v ≡ w
+same_low zero v w h le hv hw e = absurd (omega arith)
+same_low (suc zero) v w h le hv hw e = let a : v % 256 ≡ w % 256 = cc in omega arith
+same_low (suc (suc zero)) v w h le hv hw e =
+    let a : v % 256 ≡ w % 256 = cc in
+    let b : v / 256 % 256 ≡ w / 256 % 256 = cc in
+    omega arith
+same_low (suc (suc (suc zero))) v w h le hv hw e =
+    let a : v % 256 ≡ w % 256 = cc in
+    let b : v / 256 % 256 ≡ w / 256 % 256 = cc in
+    let c : v / 65536 % 256 ≡ w / 65536 % 256 = cc in
+    omega arith
+same_low (suc (suc (suc (suc zero)))) v w h le hv hw e =
+    let a : v % 256 ≡ w % 256 = cc in
+    let b : v / 256 % 256 ≡ w / 256 % 256 = cc in
+    let c : v / 65536 % 256 ≡ w / 65536 % 256 = cc in
+    let d : v / 16777216 % 256 ≡ w / 16777216 % 256 = cc in
+    omega arith
+same_low (suc (suc (suc (suc (suc k))))) v w h le hv hw e = absurd (omega arith)
+
+same_high : (k v w : ℕ) → 1 ≤ k → k ≤ 4 → v < 2 ^ (8 * k) → w < 2 ^ (8 * k) → bytes_high_first k v ≡ bytes_high_first k w → v ≡ w
+same_high zero v w h le hv hw e = absurd (omega arith)
+same_high (suc zero) v w h le hv hw e = let a : v % 256 ≡ w % 256 = cc in omega arith
+same_high (suc (suc zero)) v w h le hv hw e =
+    let a : v % 256 ≡ w % 256 = cc in
+    let b : v / 256 % 256 ≡ w / 256 % 256 = cc in
+    omega arith
+same_high (suc (suc (suc zero))) v w h le hv hw e =
+    let a : v % 256 ≡ w % 256 = cc in
+    let b : v / 256 % 256 ≡ w / 256 % 256 = cc in
+    let c : v / 65536 % 256 ≡ w / 65536 % 256 = cc in
+    omega arith
+same_high (suc (suc (suc (suc zero)))) v w h le hv hw e =
+    let a : v % 256 ≡ w % 256 = cc in
+    let b : v / 256 % 256 ≡ w / 256 % 256 = cc in
+    let c : v / 65536 % 256 ≡ w / 65536 % 256 = cc in
+    let d : v / 16777216 % 256 ≡ w / 16777216 % 256 = cc in
+    omega arith
+same_high (suc (suc (suc (suc (suc k))))) v w h le hv hw e = absurd (omega arith)
+
+same_word : (msb : Bool) (k v w : ℕ) → 1 ≤ k → k ≤ 4 → v < 2 ^ (8 * k) → w < 2 ^ (8 * k) → ordered_bytes msb k v ≡ ordered_bytes msb k w → v ≡ w
+same_word true k v w h le hv hw e = same_high k v w h le hv hw e
+same_word false k v w h le hv hw e = same_low k v w h le hv hw e
+
+-- a value of so many bits lies between the powers of two
+pub value_limits : (signed : Bool) (bits more : ℕ) (x : ℤ) → 1 ≤ bits → bits ≤ more → IsValue bits signed x → (neg_ℤ (pos (2 ^ more)) ≤ℤ x) × (x <ℤ pos (2 ^ more))
+value_limits true bits more x h le k = halves (2 ^ (bits - 1)) (2 ^ bits) (2 ^ more) x (half_pow bits h) (pow_pos (bits - 1)) (pow_mono le) k.0 k.1
+  where
+    halves : (half count limit : ℕ) (x : ℤ) → count ≡ half + half → 0 < half → count ≤ limit → neg_ℤ (pos half) ≤ℤ x → int_gap (neg_ℤ (pos half)) x < count → (neg_ℤ (pos limit) ≤ℤ x) × (x <ℤ pos limit)
+    halves zero count limit x e some le k l = absurd (omega arith)
+    halves (suc half) count limit (pos v) e some le k l = (omega (arith, ints), omega (arith, ints))
+    halves (suc half) count limit (negsuc v) e some le k l = (omega (arith, ints), omega (arith, ints))
+value_limits false bits more x h le k = unsigned (2 ^ bits) (2 ^ more) x (pow_mono le) k.0 k.1
+  where
+    unsigned : (count limit : ℕ) (x : ℤ) → count ≤ limit → pos 0 ≤ℤ x → int_gap (pos 0) x < count → (neg_ℤ (pos limit) ≤ℤ x) × (x <ℤ pos limit)
+    unsigned count limit (pos v) le k l = (omega (arith, ints), omega (arith, ints))
+    unsigned count limit (negsuc v) le k l = absurd (omega (arith, ints))
+
+mod_once : (n c : ℕ) → n < c + c → ((n % c ≡ n) × (n < c)) ⊎ ((n % c + c ≡ n) × (c ≤ n))
+mod_once n c h =
+    elim (cases_lt n c) [
+      | inl lt ↦ inl (mod-eq_of_lt lt, lt)
+      | inr ge ↦ inr (let e : n ≡ c * 1 + (n - c) = omega arith in let f : n % c ≡ (n - c) % c = ap (λ v. v % c) e ∙ mul-add-mod_self_left c 1 (n - c) in let g : (n - c) % c ≡ n - c = mod-eq_of_lt (omega arith) in omega arith, ge)
+    ]
+
+-- the level of a sample, from its pattern of so many bits or more
+pub level_from_pattern : (s : Parameters) (more : ℕ) (y : ℤ) → 1 ≤ s.bits → s.bits ≤ more → IsSample s y → (twos_complement more y + offset s) % 2 ^ more ≡ level s y
+level_from_pattern s more y h le k = by_sign s.signed s.bits h le k.0 k.1
+  where
+    halves : (half count : ℕ) (y : ℤ) → count ≡ half + half → 0 < half → count ≤ 2 ^ more → neg_ℤ (pos half) ≤ℤ y → int_gap (neg_ℤ (pos half)) y < count →
+        (twos_complement more y + half) % 2 ^ more ≡ int_gap (neg_ℤ (pos half)) y
+    halves zero count y e some le k l = absurd (omega arith)
+    halves (suc half) count (pos v) e some le k l = let m : (v + suc half) % 2 ^ more ≡ v + suc half = mod-eq_of_lt (omega (arith, ints)) in omega (arith, ints, m)
+    halves (suc half) count (negsuc v) e some le k l =
+        let n : 2 ^ more - 1 - v + suc half ≡ 2 ^ more * 1 + (half - v) = omega (arith, ints) in
+        let m : (half - v) % 2 ^ more ≡ half - v = mod-eq_of_lt (omega (arith, ints)) in
+        let f = ap (λ w. w % 2 ^ more) n ∙ mul-add-mod_self_left (2 ^ more) 1 (half - v) in
+        omega (arith, ints, m, f)
+
+    whole : (count : ℕ) (y : ℤ) → count ≤ 2 ^ more → pos 0 ≤ℤ y → int_gap (pos 0) y < count → (twos_complement more y + 0) % 2 ^ more ≡ int_gap (pos 0) y
+    whole count (pos v) le k l = let m : (v + 0) % 2 ^ more ≡ v + 0 = mod-eq_of_lt (omega (arith, ints)) in omega (arith, ints, m)
+    whole count (negsuc v) le k l = absurd (omega (arith, ints))
+
+    by_sign : (b : Bool) (n : ℕ) → 1 ≤ n → n ≤ more → cond b (neg_ℤ (pos (2 ^ (n - 1)))) (pos 0) ≤ℤ y → int_gap (cond b (neg_ℤ (pos (2 ^ (n - 1)))) (pos 0)) y < 2 ^ n →
+        (twos_complement more y + cond b (2 ^ (n - 1)) 0) % 2 ^ more ≡ int_gap (cond b (neg_ℤ (pos (2 ^ (n - 1)))) (pos 0)) y
+    by_sign true n h le k l = halves (2 ^ (n - 1)) (2 ^ n) y (half_pow n h) (pow_pos (n - 1)) (pow_mono le) k l
+    by_sign false n h le k l = whole (2 ^ n) y (pow_mono le) k l
+
+-- and the pattern from the level
+same_offset : (v w h c : ℕ) → v < c → w < c → h ≤ c → (v + h) % c ≡ (w + h) % c → v ≡ w
+same_offset v w h c hv hw le e =
+    elim (mod_once (v + h) c (omega arith)) [
+      | inl p ↦ elim (mod_once (w + h) c (omega arith)) [ inl q ↦ omega (arith, p.0, q.0) | inr q ↦ absurd (omega (arith, p.0, p.1, q.0, q.1)) ]
+      | inr p ↦ elim (mod_once (w + h) c (omega arith)) [ inl q ↦ absurd (omega (arith, p.0, p.1, q.0, q.1)) | inr q ↦ omega (arith, p.0, q.0) ]
+    ]
+
+pub offset_limit : (s : Parameters) (more : ℕ) → 1 ≤ s.bits → s.bits ≤ more → offset s ≤ 2 ^ more
+offset_limit s more h le = by_sign s.signed
+  where
+    by_sign : (b : Bool) → cond b (2 ^ (s.bits - 1)) 0 ≤ 2 ^ more
+    by_sign true = pow_mono {i = s.bits - 1} {j = more} (omega arith)
+    by_sign false = omega arith
+
+-- bytes that spell the word of a sample's pattern spell the sample
+pub spelled_level : (s : Parameters) (bytes : List ℕ) (msb : Bool) (k word o : ℕ) (x : ℤ) → IsLegal s → msb ≡ s.msb → o ≡ offset s → k ≡ width s → length bytes ≡ width s → s.bits ≤ 8 * k → 1 ≤ k →
+    bytes ≡ ordered_bytes msb (length bytes) word → word < 2 ^ (8 * length bytes) → IsSample s x → level s x ≡ (word + o) % 2 ^ (8 * k) → bytes ≡ spelling s x
+spelled_level s bytes msb k word o x legal m f w n holds from b lt hx e =
+    let len : length bytes ≡ k = n ∙ sym w in
+    let fits : word < 2 ^ (8 * k) = subst (λ (v : ℕ). word < 2 ^ (8 * v)) len lt in
+    let wide : Parameters = record s { bits = 8 * k } in
+    let vx : IsValue (8 * k) s.signed x = wider_value s.bits (8 * k) s.signed x legal.bits_from holds hx in
+    let below : twos_complement (8 * k) x < 2 ^ (8 * k) = pattern_fits wide x (omega arith) vx in
+    let same : word ≡ twos_complement (8 * k) x =
+    same_offset word (twos_complement (8 * k) x) (offset s) (2 ^ (8 * k)) fits below (offset_limit s (8 * k) legal.bits_from holds)
+    (ap (λ v. (word + v) % 2 ^ (8 * k)) (sym f) ∙ (sym e ∙ sym (level_from_pattern s (8 * k) x legal.bits_from holds hx)))
+    in
+    b ∙ (ap (λ v. ordered_bytes v (length bytes) word) m ∙ (ap (λ v. ordered_bytes s.msb v word) n ∙ (ap (λ v. ordered_bytes s.msb (width s) v) same ∙ ap (λ v. ordered_bytes s.msb (width s) (twos_complement (8 * v) x)) w)))
+
+-- bytes that spell a sample tell its level
+pub level_spelled : (s : Parameters) (bytes : List ℕ) (msb : Bool) (k word o : ℕ) (y : ℤ) → IsLegal s → msb ≡ s.msb → o ≡ offset s → k ≡ width s → length bytes ≡ width s → s.bits ≤ 8 * k → 1 ≤ k → k ≤ 4 →
+    bytes ≡ ordered_bytes msb (length bytes) word → word < 2 ^ (8 * length bytes) → IsSample s y → bytes ≡ spelling s y → (word + o) % 2 ^ (8 * k) ≡ level s y
+level_spelled s bytes msb k word o y legal m f w n holds from to b lt hy e =
+    let len : length bytes ≡ k = n ∙ sym w in
+    let fits : word < 2 ^ (8 * k) = subst (λ (v : ℕ). word < 2 ^ (8 * v)) len lt in
+    let wide : Parameters = record s { bits = 8 * k } in
+    let vy : IsValue (8 * k) s.signed y = wider_value s.bits (8 * k) s.signed y legal.bits_from holds hy in
+    let below : twos_complement (8 * k) y < 2 ^ (8 * k) = pattern_fits wide y (omega arith) vy in
+    let spelled : ordered_bytes s.msb k word ≡ ordered_bytes s.msb k (twos_complement (8 * k) y) =
+    ap (λ v. ordered_bytes v k word) (sym m) ∙ (ap (λ v. ordered_bytes msb v word) (sym len) ∙ (sym b ∙ (e ∙ ap (λ v. ordered_bytes s.msb v (twos_complement (8 * v) y)) (sym w))))
+    in
+    let same = same_word s.msb k word (twos_complement (8 * k) y) from to fits below spelled in
+    ap (λ v. (v + o) % 2 ^ (8 * k)) same ∙ (ap (λ v. (twos_complement (8 * k) y + v) % 2 ^ (8 * k)) f ∙ level_from_pattern s (8 * k) y legal.bits_from holds hy)

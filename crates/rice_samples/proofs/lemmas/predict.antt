@@ -1,0 +1,8 @@
+-- Residuals and patterns, and back.
+pub mod Folding
+pub mod InverseLemmas
+pub mod Patterns
+pub mod RankLaws
+pub mod Ranks
+pub mod ResidualLemmas
+pub mod RestoredSamples

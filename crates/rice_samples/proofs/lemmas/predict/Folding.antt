@@ -1,0 +1,35 @@
+-- The residuals of samples in a row, by ranks among numbers.
+use Rattle.std.proofs.Common.{◌≡◌, ℕ, ◌+◌, ◌<◌, ◌≤◌, List, [], ◌∷◌, ◌++◌, length, take, drop, map, All, refl, ap, sym, arith, ◌∙◌, append_assoc, slice_index_or, slice_set, ℤ}
+use Rattle.std.proofs.lemmas.List.Elements.{All-map}
+use Rattle.std.proofs.lemmas.List.{drop_more, take_more_set, drop-set-lt}
+use Rattle.rice_samples.specs.Parameters.{Parameters, IsSample, level, value_count}
+use Rattle.rice_samples.specs.predict.Residuals.{rank, rank_below, ranks, ranks_below}
+
+pub ranks_are : (s : Parameters) (p : ℤ) (xs : List ℤ) → ranks s p xs ≡ ranks_below (value_count s) (level s p) (map (level s) xs)
+ranks_are s p [] = refl
+ranks_are s p (x ∷ xs) = ap (λ v. rank s p x ∷ v) (ranks_are s x xs)
+
+-- one number more is replaced by its rank
+pub same_rest : (now xs : List ℕ) (i : ℕ) → i < length now → i < length xs → drop i now ≡ drop i xs → (slice_index_or now i 0 ≡ slice_index_or xs i 0) × (drop (i + 1) now ≡ drop (i + 1) xs)
+same_rest now xs i h k e =
+    let heads : slice_index_or now i 0 ∷ drop (i + 1) now ≡ slice_index_or xs i 0 ∷ drop (i + 1) xs = sym (drop_more now i 0 h) ∙ (e ∙ drop_more xs i 0 k) in
+    (cc, cc)
+
+pub one_rank : (count p before r i : ℕ) (now xs : List ℕ) → i < length now → i < length xs → ranks_below count p xs ≡ take i now ++ ranks_below count before (drop i xs) → drop i now ≡ drop i xs → r ≡ rank_below count before (slice_index_or now i 0) →
+    ranks_below count p xs ≡ take (i + 1) (slice_set now i r) ++ ranks_below count (slice_index_or now i 0) (drop (i + 1) xs)
+one_rank count p before r i now xs h k folded rest e =
+    let x = slice_index_or xs i 0 in
+    let more = ranks_below count x (drop (i + 1) xs) in
+    let same = same_rest now xs i h k rest in
+    let a : ranks_below count p xs ≡ take i now ++ rank_below count before x ∷ more = folded ∙ ap (λ v. take i now ++ ranks_below count before v) (drop_more xs i 0 k) in
+    let b : rank_below count before x ≡ r = ap (λ v. rank_below count before v) (sym same.0) ∙ sym e in
+    let c : take i now ++ rank_below count before x ∷ more ≡ take i now ++ r ∷ more = ap (λ v. take i now ++ v ∷ more) b in
+    let d : take (i + 1) (slice_set now i r) ++ more ≡ take i now ++ r ∷ more = ap (λ v. v ++ more) (take_more_set now i r h) ∙ append_assoc (take i now) (r ∷ []) more in
+    let f : take (i + 1) (slice_set now i r) ++ more ≡ take (i + 1) (slice_set now i r) ++ ranks_below count (slice_index_or now i 0) (drop (i + 1) xs) = ap (λ v. take (i + 1) (slice_set now i r) ++ ranks_below count v (drop (i + 1) xs)) (sym same.0) in
+    a ∙ (c ∙ (sym d ∙ f))
+
+pub rest_after : (now xs : List ℕ) (i r : ℕ) → i < length now → i < length xs → drop i now ≡ drop i xs → drop (i + 1) (slice_set now i r) ≡ drop (i + 1) xs
+rest_after now xs i r h k e = drop-set-lt (i + 1) now i r (omega arith) ∙ (same_rest now xs i h k e).1
+
+pub levels_fit : (s : Parameters) (greatest : ℕ) (xs : List ℤ) → greatest + 1 ≡ value_count s → All (IsSample s) xs → All (λ l. l ≤ greatest) (map (level s) xs)
+levels_fit s greatest xs e h = All-map (λ l. l ≤ greatest) (level s) xs (λ k d lt. let b = (h k d lt).1 in omega (arith, b, e))

@@ -1,0 +1,128 @@
+-- The rank of a sample, which goes by levels, as a count over all samples and as the standard's fold.
+use Rattle.std.proofs.Common.{◌≡◌, ℕ, zero, suc, ◌+◌, ◌-◌, ◌*◌, ◌<◌, ◌≤◌, cond, nat_lt, min, map, refl, ap, subst, sym, arith, ◌∙◌, ◌⊎◌, inl, inr, ℤ, pos, negsuc, ◌≤ℤ◌, ◌<ℤ◌, ◌+ℤ◌, ◌-ℤ◌}
+use Rattle.std.specs.Prelude.{count_by}
+use Rattle.std.specs.List.{range_with_len}
+use Rattle.std.specs.Int.{int_gap, abs_diff}
+use Rattle.std.proofs.lemmas.Bool.Decides.{nat_tests}
+use Rattle.std.proofs.lemmas.Bool.{cases_lt}
+use Rattle.std.proofs.lemmas.Int.{ints}
+use Rattle.std.proofs.lemmas.List.Sums.{sum_by-cons}
+use Rattle.rice_samples.specs.Parameters.{Parameters, IsSample, least, level, value_count}
+use Rattle.rice_samples.specs.predict.Residuals.{nearer, rank, rank_below}
+use Rattle.rice_samples.specs.Laws.{distance, greatest, nearer_count, IsSecondOfTwo}
+use Rattle.rice_samples.proofs.lemmas.predict.Ranks.{nearer_is_count, rank_above, rank_under, rank_far}
+
+-- a value is the least one and its level
+pub gap_is : (z x : ℤ) → z ≤ℤ x → x ≡ z +ℤ pos (int_gap z x)
+gap_is (pos a) (pos x) h = omega (arith, ints)
+gap_is (pos a) (negsuc x) h = absurd (omega (arith, ints))
+gap_is (negsuc a) (pos x) h = omega (arith, ints)
+gap_is (negsuc a) (negsuc x) h = omega (arith, ints)
+
+pub above_least : (z : ℤ) (l : ℕ) → z ≤ℤ (z +ℤ pos l)
+above_least z l = omega (arith, ints)
+
+pub gap_above : (z : ℤ) (l : ℕ) → int_gap z (z +ℤ pos l) ≡ l
+gap_above z l = let e = gap_is z (z +ℤ pos l) (above_least z l) in omega (arith, ints)
+
+distance_levels : (z p x : ℤ) → z ≤ℤ p → z ≤ℤ x → distance p x ≡ abs_diff (int_gap z p) (int_gap z x)
+distance_levels (pos a) (pos p) (pos x) h k = omega (arith, ints)
+distance_levels (pos a) (pos p) (negsuc x) h k = absurd (omega (arith, ints))
+distance_levels (pos a) (negsuc p) x h k = absurd (omega (arith, ints))
+distance_levels (negsuc a) (pos p) (pos x) h k = omega (arith, ints)
+distance_levels (negsuc a) (pos p) (negsuc x) h k = omega (arith, ints)
+distance_levels (negsuc a) (negsuc p) (pos x) h k = omega (arith, ints)
+distance_levels (negsuc a) (negsuc p) (negsuc x) h k = omega (arith, ints)
+
+-- the values that are nearer than d, counted by their levels
+counted_by_levels : (z p : ℤ) (d a n : ℕ) → z ≤ℤ p →
+    count_by (λ y. nat_lt (distance p y) d) (map (λ l. z +ℤ pos l) (range_with_len a n)) ≡ count_by (λ l. nat_lt (abs_diff (int_gap z p) l) d) (range_with_len a n)
+counted_by_levels z p d a zero h = refl
+counted_by_levels z p d a (suc n) h =
+    let y = z +ℤ pos a in
+    let rest = map (λ l. z +ℤ pos l) (range_with_len (a + 1) n) in
+    let here : distance p y ≡ abs_diff (int_gap z p) a = distance_levels z p y h (above_least z a) ∙ ap (λ l. abs_diff (int_gap z p) l) (gap_above z a) in
+    let later = counted_by_levels z p d (a + 1) n h in
+    sum_by-cons (λ v. cond (nat_lt (distance p v) d) 1 0) y rest
+    ∙ ((λ i. cond (nat_lt (here i) d) 1 0 + later i) ∙ sym (sum_by-cons (λ l. cond (nat_lt (abs_diff (int_gap z p) l) d) 1 0) a (range_with_len (a + 1) n)))
+
+pub nearer_count_is : (s : Parameters) (p x : ℤ) → IsSample s p → IsSample s x → nearer_count s p x ≡ nearer (value_count s) (level s p) (level s x)
+nearer_count_is s p x hp hx =
+    counted_by_levels (least s) p (distance p x) 0 (value_count s) hp.0
+    ∙ (ap (λ d. count_by (λ l. nat_lt (abs_diff (level s p) l) d) (range_with_len 0 (value_count s))) (distance_levels (least s) p x hp.0 hx.0)
+    ∙ nearer_is_count (value_count s) (level s p) (level s x))
+
+-- the second of two values as near, by levels
+second_levels : (s : Parameters) (p x : ℤ) → IsSample s p → IsSample s x → IsSecondOfTwo s p x → (level s p < level s x) × (level s x ≤ 2 * level s p)
+second_levels s p x hp hx h =
+    let e = gap_is (least s) p hp.0 in
+    let f = gap_is (least s) x hx.0 in
+    let above = h.0 in
+    let legal = h.1.0 in
+    (omega (arith, ints), omega (arith, ints))
+
+second_of_levels : (s : Parameters) (p x : ℤ) → IsSample s p → IsSample s x → level s p < level s x → level s x ≤ 2 * level s p → IsSecondOfTwo s p x
+second_of_levels s p x hp hx lt le =
+    let z = least s in
+    let e = gap_is z p hp.0 in
+    let f = gap_is z x hx.0 in
+    let k = 2 * level s p - level s x in
+    let mirror : p +ℤ p -ℤ x ≡ z +ℤ pos k = omega (arith, ints) in
+    let IsLegalLevel : ℤ → Type 0 = λ y. int_gap z y < value_count s in
+    let small : k < value_count s = omega (arith, hp.1) in
+    let IsBelow : ℕ → Type 0 = λ n. n < value_count s in
+    (omega (arith, ints), (omega (arith, ints), subst IsLegalLevel (sym mirror) (subst IsBelow (sym (gap_above z k)) small)))
+
+with_tie : (count p x : ℕ) → p < x → x ≤ 2 * p → rank_below count p x ≡ nearer count p x + 1
+with_tie count p x lt le = grind (arith, nat_tests)
+
+without_tie : (count p x : ℕ) → (x ≤ p) ⊎ (2 * p < x) → rank_below count p x ≡ nearer count p x
+without_tie count p x (inl le) = grind (arith, nat_tests)
+without_tie count p x (inr lt) = grind (arith, nat_tests)
+
+pub rank_of_second : (s : Parameters) (p x : ℤ) → IsSample s p → IsSample s x → IsSecondOfTwo s p x → rank s p x ≡ nearer_count s p x + 1
+rank_of_second s p x hp hx h =
+    let l = second_levels s p x hp hx h in
+    with_tie (value_count s) (level s p) (level s x) l.0 l.1 ∙ sym (ap (λ n. n + 1) (nearer_count_is s p x hp hx))
+
+pub rank_of_other : (s : Parameters) (p x : ℤ) → IsSample s p → IsSample s x → (IsSecondOfTwo s p x → ⊥) → rank s p x ≡ nearer_count s p x
+rank_of_other s p x hp hx h = without_tie (value_count s) (level s p) (level s x) one ∙ sym (nearer_count_is s p x hp hx)
+  where
+    one : (level s x ≤ level s p) ⊎ (2 * level s p < level s x)
+    one = elim (cases_lt (level s p) (level s x)) [
+      | inr le ↦ inl le
+      | inl lt ↦ elim (cases_lt (2 * level s p) (level s x)) [
+        | inl far ↦ inr far
+        | inr le ↦ absurd (h (second_of_levels s p x hp hx lt le))
+      ]
+    ]
+
+-- how far both sides of a sample reach
+sides : (s : Parameters) (p : ℤ) → IsSample s p → min (int_gap (least s) p) (int_gap p (greatest s)) ≡ min (level s p) (value_count s - 1 - level s p)
+sides s p hp =
+    let z = least s in
+    let up : int_gap p (greatest s) ≡ value_count s - 1 - level s p = upper z p (value_count s) hp.0 hp.1 in
+    ap (λ n. min (level s p) n) up
+  where
+    upper : (z p : ℤ) (count : ℕ) → z ≤ℤ p → int_gap z p < count → int_gap p (z +ℤ pos (count - 1)) ≡ count - 1 - int_gap z p
+    upper z p count h lt =
+        let e = gap_is z p h in
+        let same : z +ℤ pos (count - 1) ≡ p +ℤ pos (count - 1 - int_gap z p) = omega (arith, ints) in
+        ap (λ y. int_gap p y) same ∙ gap_above p (count - 1 - int_gap z p)
+
+pub rank_folds : (s : Parameters) (p x : ℤ) → IsSample s p → IsSample s x →
+    let θ = min (int_gap (least s) p) (int_gap p (greatest s)) in
+    let Δ = distance p x in
+    (p ≤ℤ x → Δ ≤ θ → rank s p x ≡ 2 * Δ) × (x <ℤ p → Δ ≤ θ → rank s p x ≡ 2 * Δ - 1) × (θ < Δ → rank s p x ≡ θ + Δ)
+rank_folds s p x hp hx =
+    let n = value_count s in
+    let l = level s p in
+    let m = level s x in
+    let reach = sides s p hp in
+    let far = distance_levels (least s) p x hp.0 hx.0 in
+    let e = gap_is (least s) p hp.0 in
+    let f = gap_is (least s) x hx.0 in (
+      (λ above near. let le : l ≤ m = omega (arith, ints) in let r = rank_above n l m hp.1 hx.1 le (omega arith) in omega arith),
+      (λ below near. let lt : m < l = omega (arith, ints) in let r = rank_under n l m hp.1 hx.1 lt (omega arith) in omega arith),
+      λ beyond. let r = rank_far n l m hp.1 hx.1 (omega arith) in omega arith,
+    )

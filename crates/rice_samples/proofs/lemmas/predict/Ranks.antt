@@ -1,0 +1,52 @@
+-- Each number below count has one rank from p, and each rank is that of one number.
+use Rattle.std.proofs.Common.{◌≡◌, ℕ, zero, suc, ◌+◌, ◌-◌, ◌*◌, ◌/◌, ◌%◌, ◌<◌, ◌≤◌, min, max, cond, nat_lt, nat_le, ap, arith, ◌∙◌, if◌then◌else◌, ◌==◌}
+use Rattle.std.specs.Prelude.{count_by}
+use Rattle.std.specs.List.{range_with_len}
+use Rattle.std.specs.Int.{abs_diff}
+use Rattle.std.proofs.lemmas.Bool.Decides.{nat_tests}
+use Rattle.std.proofs.lemmas.List.Sums.{sum_by-cons}
+use Rattle.rice_samples.specs.predict.Residuals.{nearer, rank_below}
+
+pub rank_fits : (count p x : ℕ) → p < count → x < count → rank_below count p x < count
+rank_fits count p x hp hx = grind (arith, nat_tests)
+
+pub rank_injective : (count p x y : ℕ) → p < count → x < count → y < count → rank_below count p x ≡ rank_below count p y → x ≡ y
+rank_injective count p x y hp hx hy e = grind (arith, nat_tests)
+
+-- how far the range reaches to both sides
+reach : ℕ → ℕ → ℕ
+reach count p = min p (count - 1 - p)
+
+-- the fold
+pub rank_above : (count p x : ℕ) → p < count → x < count → p ≤ x → x - p ≤ min p (count - 1 - p) → rank_below count p x ≡ 2 * (x - p)
+rank_above count p x hp hx le near = grind (arith, nat_tests)
+
+pub rank_under : (count p x : ℕ) → p < count → x < count → x < p → p - x ≤ min p (count - 1 - p) → suc (rank_below count p x) ≡ 2 * (p - x)
+rank_under count p x hp hx lt near = grind (arith, nat_tests)
+
+pub rank_far : (count p x : ℕ) → p < count → x < count → min p (count - 1 - p) < abs_diff p x → rank_below count p x ≡ min p (count - 1 - p) + abs_diff p x
+rank_far count p x hp hx far = grind (arith, nat_tests)
+
+-- the number with that rank
+unfoldable pub number_with : ℕ → ℕ → ℕ → ℕ
+number_with count p d =
+    let t = min p (count - 1 - p) in
+    if nat_le d (2 * t) then (if d % 2 == 0 then p + d / 2 else p - (d + 1) / 2) else if nat_le p t then d else count - 1 - d
+
+pub rank_of_number : (count p d : ℕ) → p < count → d < count → rank_below count p (number_with count p d) ≡ d
+unfolding number_with
+rank_of_number count p d hp hd = grind (arith, nat_tests)
+
+-- the numbers nearer to p than x, counted one by one
+count_step : (p d a n : ℕ) → count_by (λ y. nat_lt (abs_diff p y) d) (range_with_len a n) ≡ min (a + n) (p + d) - max a (p + 1 - d)
+count_step p d a zero = grind (arith, nat_tests)
+count_step p d a (suc n) =
+    let e = count_step p d (a + 1) n in
+    sum_by-cons (λ y. cond (nat_lt (abs_diff p y) d) 1 0) a (range_with_len (a + 1) n) ∙ (ap (λ k. cond (nat_lt (abs_diff p a) d) 1 0 + k) e ∙ one_more p d a n)
+  where
+    one_more : (p d a n : ℕ) → cond (nat_lt (abs_diff p a) d) 1 0 + (min (a + 1 + n) (p + d) - max (a + 1) (p + 1 - d)) ≡ min (a + suc n) (p + d) - max a (p + 1 - d)
+    one_more p d a n = grind (arith, nat_tests)
+
+-- the definition by the overlap is the count
+pub nearer_is_count : (count p x : ℕ) → count_by (λ y. nat_lt (abs_diff p y) (abs_diff p x)) (range_with_len 0 count) ≡ nearer count p x
+nearer_is_count count p x = count_step p (abs_diff p x) 0 count ∙ (omega arith)

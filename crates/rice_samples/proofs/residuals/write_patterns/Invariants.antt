@@ -1,6 +1,0 @@
-use Rattle.std.proofs.Common.{◌≡◌, take, map}
-use Rattle.rice_samples.specs.Residuals.{pattern}
-use Rattle.rice_samples.proofs.residuals.write_patterns.Given as goal
-
-abbrev pub invariant-loop-i : goal.invariant-loop-i
-invariant-loop-i l = take l.i l.patterns ≡ map (pattern l.setting) (take l.i l.samples)

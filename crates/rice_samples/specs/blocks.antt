@@ -1,0 +1,3 @@
+-- Blocks of residuals.
+pub mod Pairs
+pub mod Sizes

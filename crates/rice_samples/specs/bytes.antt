@@ -1,0 +1,3 @@
+-- Samples in bytes.
+pub mod Spelling
+pub mod Values

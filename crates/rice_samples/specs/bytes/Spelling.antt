@@ -1,0 +1,32 @@
+-- How samples stand in bytes (own rules): unsigned numbers as they are, signed ones in two's complement over the whole width.
+use Rattle.std.specs.Prelude.{◌≡◌, ◌≢◌, ℕ, ◌*◌, ◌<◌, ◌≤◌, ◌++◌, List, [], length, take, All, flat_map, if◌then◌else◌, ℤ}
+use Rattle.std.specs.Int.{bytes_high_first, bytes_low_first}
+use Rattle.rice_samples.specs.Parameters.{Parameters, width, IsSample}
+use Rattle.rice_samples.specs.predict.Residuals.{twos_complement}
+
+-- the one spelling of a sample
+abbrev pub spelling : Parameters → ℤ → List ℕ
+spelling s x =
+    let word = twos_complement (8 * width s) x in
+    if s.msb then bytes_high_first (width s) word else bytes_low_first 0 (width s) word
+
+abbrev pub spellings : Parameters → List ℤ → List ℕ
+spellings s xs = flat_map (spelling s) xs
+
+-- What stops the samples of a list of bytes: its end, bytes that are no spelling, or too few of them.
+pub data Stop : Type 0 where
+  AtEnd : Stop
+  NoSpelling : Stop
+  TooFew : Stop
+
+abbrev pub StopsAt : Parameters → List ℕ → Stop → Type 0
+StopsAt s rest AtEnd = rest ≡ []
+StopsAt s rest NoSpelling = (width s ≤ length rest) × ((x : ℤ) → IsSample s x → take (width s) rest ≢ spelling s x)
+StopsAt s rest TooFew = (rest ≢ []) × (length rest < width s)
+
+-- these are the samples of the bytes, up to what stops them
+pub record Spells (s : Parameters) (bytes : List ℕ) (samples : List ℤ) (stop : Stop) : Type 0 where
+  pub rest : List ℕ
+  pub whole : bytes ≡ spellings s samples ++ rest
+  pub legal : All (IsSample s) samples
+  pub stops : StopsAt s rest stop

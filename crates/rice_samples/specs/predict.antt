@@ -1,0 +1,2 @@
+-- The preprocessor.
+pub mod Residuals

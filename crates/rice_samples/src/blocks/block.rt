@@ -1,0 +1,151 @@
+//! Blocks of residuals, which are read only by calls that count their steps.
+ghost use Rattle.std.specs.Prelude.{◌≡◌, ℕ, ◌+◌, ◌*◌, ◌/◌, ◌^◌, ◌==◌, ◌<◌, ◌≤◌, min, length, slice_index, sum_by};
+ghost use Rattle.std.specs.List.{list_all};
+ghost use Rattle.rice_samples.specs.blocks.Pairs.{pair_codes};
+ghost use Rattle.rice_samples.specs.blocks.Sizes.{IsBlockSize};
+
+use crate::blocks::codewords::pair_sum;
+use crate::blocks::lanes::{all_zero, sum_shifted};
+use crate::blocks::minimum::first_stop;
+use rice_bits::Meter;
+use std::marker::Model;
+
+/// The residuals of a block, 8, 16, 32 or 64 of them, lent by a segment. Clauses see their list.
+///
+/// Each look at a residual is a step: the calls below count as many as the block has residuals,
+/// `at` counts one, `four_at` four, and `first_stop` says how many. No other call tells anything of
+/// the residuals.
+#[derive(Drop)]
+pub struct Block<'a> {
+    items: &'a [u32],
+}
+
+impl<'a> Model for Block<'a> {
+    ghost use Rattle.std.specs.Prelude.{ℕ, List, length};
+    ghost use Rattle.rice_samples.specs.blocks.Sizes.{IsBlockSize};
+
+    ghost Value = { List ℕ };
+
+    ghost view = { λ b. b.items.now };
+
+    ghost invariant = { λ b. IsBlockSize (length b.items.now) };
+}
+
+impl<'a> Block<'a> {
+    #[inline]
+    pub(crate) fn of(items: &'a [u32]) -> Self
+        requires { IsBlockSize (length items.now) }
+        ensures { result ≡ items.now }
+    {
+        Block { items }
+    }
+}
+
+impl Block<'_> {
+    /// How many residuals there are: 8, 16, 32 or 64.
+    #[inline]
+    pub fn len(&self) -> usize
+        ensures value { result ≡ length self.now }
+        ensures size { IsBlockSize result }
+        ensures range { (8 ≤ result) × (result ≤ 64) }
+    {
+        self.items.len()
+    }
+
+    /// Whether all residuals are 0.
+    #[inline]
+    pub fn is_zero(&self, meter: &mut Meter) -> bool
+        requires { meter.old + length self.now < 2 ^ 62 }
+        ensures value { result ≡ list_all (λ d. d == 0) self.now }
+        ensures steps { meter.new ≡ meter.old + length self.now }
+    {
+        all_zero(self.look(meter))
+    }
+
+    /// The sum of the residuals without their `k` lowest binary digits, for `k` up to 29.
+    #[inline]
+    pub fn sum_shifted(&self, k: u32, meter: &mut Meter) -> u64
+        requires split { k ≤ 29 }
+        requires meter { meter.old + length self.now < 2 ^ 62 }
+        ensures value { result ≡ sum_by (λ d. d / 2 ^ k) self.now }
+        ensures limit { result ≤ 2 ^ 38 }
+        ensures steps { meter.new ≡ meter.old + length self.now }
+    {
+        sum_shifted(self.look(meter), k)
+    }
+
+    /// The first `k`, up to `limit`, at which one digit more takes no more than `price` off the sum of the residuals
+    /// without their `k` lowest binary digits, and this sum. It ticks for a look at each sum up to the next, if that is
+    /// not above `limit`, even where it gets by with fewer.
+    #[inline]
+    pub fn first_stop(&self, limit: u32, price: u64, meter: &mut Meter) -> (u32, u64)
+        requires limit { limit ≤ 29 }
+        requires price { price ≤ 64 }
+        requires meter { meter.old + length self.now * (limit + 1) < 2 ^ 62 }
+        ensures limit { result.0 ≤ limit }
+        ensures value { result.1 ≡ sum_by (λ d. d / 2 ^ result.0) self.now }
+        ensures size { result.1 ≤ 2 ^ 38 }
+        ensures falls { (j : ℕ) → j < result.0 → sum_by (λ d. d / 2 ^ (j + 1)) self.now + price < sum_by (λ d. d / 2 ^ j) self.now }
+        ensures stops { result.0 < limit → sum_by (λ d. d / 2 ^ result.0) self.now ≤ sum_by (λ d. d / 2 ^ (result.0 + 1)) self.now + price }
+        ensures steps { meter.new ≡ meter.old + length self.now * (min (result.0 + 1) limit + 1) }
+    {
+        let items = self.items;
+        let (k, sum) = first_stop(items, limit, price);
+        let looks = (k + 1).min(limit) + 1;
+        meter.tick(items.len() as u64 * looks as u64);
+        (k, sum)
+    }
+
+    /// The bits of the codewords that second extension sends for the pairs of residuals.
+    #[inline]
+    pub fn pair_sum(&self, meter: &mut Meter) -> u128
+        requires { meter.old + length self.now < 2 ^ 62 }
+        ensures value { result ≡ sum_by (λ g. g + 1) (pair_codes self.now) }
+        ensures limit { result ≤ 2 ^ 72 }
+        ensures steps { meter.new ≡ meter.old + length self.now }
+    {
+        pair_sum(self.look(meter))
+    }
+
+    /// Residual number `i`.
+    #[inline]
+    pub fn at(&self, i: usize, meter: &mut Meter) -> u32
+        requires inside { i < length self.now }
+        requires meter { meter.old + 1 < 2 ^ 62 }
+        ensures value { result ≡ slice_index self.now i }
+        ensures steps { meter.new ≡ meter.old + 1 }
+    {
+        let items = self.items;
+        meter.tick(1);
+        items[i]
+    }
+
+    /// Residuals number `i` to `i + 3`, at a step each.
+    #[inline]
+    pub fn four_at(&self, i: usize, meter: &mut Meter) -> (u32, u32, u32, u32)
+        requires inside { i + 3 < length self.now }
+        requires meter { meter.old + 4 < 2 ^ 62 }
+        ensures first { result.0 ≡ slice_index self.now i }
+        ensures second { result.1 ≡ slice_index self.now (i + 1) }
+        ensures third { result.2 ≡ slice_index self.now (i + 2) }
+        ensures last { result.3 ≡ slice_index self.now (i + 3) }
+        ensures steps { meter.new ≡ meter.old + 4 }
+    {
+        let items = self.items;
+        meter.tick(4);
+        (items[i], items[i + 1], items[i + 2], items[i + 3])
+    }
+
+    /// All residuals, at a step each.
+    #[inline]
+    fn look(&self, meter: &mut Meter) -> &[u32]
+        requires { meter.old + length self.now < 2 ^ 62 }
+        ensures value { result.now ≡ self.now }
+        ensures size { IsBlockSize (length result.now) }
+        ensures steps { meter.new ≡ meter.old + length self.now }
+    {
+        let items = self.items;
+        meter.tick(items.len() as u64);
+        items
+    }
+}

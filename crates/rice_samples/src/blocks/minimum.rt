@@ -1,0 +1,82 @@
+//! Where the sum of residuals stops falling, digit by digit.
+ghost use Rattle.std.specs.Prelude.{◌≡◌, ℕ, ◌+◌, ◌*◌, ◌/◌, ◌^◌, ◌<◌, ◌≤◌, length, sum_by};
+ghost use Rattle.rice_samples.specs.blocks.Sizes.{IsBlockSize};
+
+use crate::blocks::lanes::{all_of, small_sum, sum_shifted};
+
+/// The first `k`, up to `limit`, at which one digit more takes no more than `price` off the sum of the numbers without
+/// their `k` lowest digits, and this sum.
+#[inline]
+pub(crate) fn first_stop(items: &[u32], limit: u32, price: u64) -> (u32, u64)
+    requires size { IsBlockSize (length items.now) }
+    requires limit { limit ≤ 29 }
+    requires price { price ≤ 64 }
+    ensures limit { result.0 ≤ limit }
+    ensures value { result.1 ≡ sum_by (λ d. d / 2 ^ result.0) items.now }
+    ensures size { result.1 ≤ 2 ^ 38 }
+    ensures falls { (j : ℕ) → j < result.0 → sum_by (λ d. d / 2 ^ (j + 1)) items.now + price < sum_by (λ d. d / 2 ^ j) items.now }
+    ensures stops { result.0 < limit → sum_by (λ d. d / 2 ^ result.0) items.now ≤ sum_by (λ d. d / 2 ^ (result.0 + 1)) items.now + price }
+{
+    // The loops unroll where the length is known.
+    match items.len() {
+        8 => stop_of(all_of(items, 8), limit, price),
+        16 => stop_of(all_of(items, 16), limit, price),
+        32 => stop_of(all_of(items, 32), limit, price),
+        _ => stop_of(items, limit, price),
+    }
+}
+
+/// The same. It begins behind the digits that surely take more than `price` off.
+#[inline(always)]
+fn stop_of(items: &[u32], limit: u32, price: u64) -> (u32, u64)
+    requires size { IsBlockSize (length items.now) }
+    requires limit { limit ≤ 29 }
+    requires price { price ≤ 64 }
+    ensures limit { result.0 ≤ limit }
+    ensures value { result.1 ≡ sum_by (λ d. d / 2 ^ result.0) items.now }
+    ensures size { result.1 ≤ 2 ^ 38 }
+    ensures falls { (j : ℕ) → j < result.0 → sum_by (λ d. d / 2 ^ (j + 1)) items.now + price < sum_by (λ d. d / 2 ^ j) items.now }
+    ensures stops { result.0 < limit → sum_by (λ d. d / 2 ^ result.0) items.now ≤ sum_by (λ d. d / 2 ^ (result.0 + 1)) items.now + price }
+{
+    let whole = sum_shifted(items, 0);
+    let mut k = sure_digits(whole, items.len(), price).min(limit);
+    let mut sum = sum_behind(items, k, whole);
+    while k < limit {
+        let next = sum_behind(items, k + 1, whole);
+        if sum <= next + price {
+            return (k, sum);
+        }
+        k += 1;
+        sum = next;
+    }
+    (k, sum)
+}
+
+/// How many of the lowest digits of `len` numbers surely take more than `price` each off their sum, one after the other.
+#[inline(always)]
+fn sure_digits(sum: u64, len: usize, price: u64) -> u32
+    requires len { len ≤ 64 }
+    requires price { price ≤ 64 }
+    ensures { (j : ℕ) → j < result → (len + 2 * price) * 2 ^ j ≤ sum }
+{
+    // A digit halves the sum at least, and rounding takes no more than `len` off.
+    let least = len as u64 + 2 * price;
+    least.leading_zeros().saturating_sub(sum.leading_zeros())
+}
+
+/// The sum of the numbers without their `k` lowest digits, where `whole` is their sum.
+#[inline(always)]
+fn sum_behind(items: &[u32], k: u32, whole: u64) -> u64
+    requires size { IsBlockSize (length items.now) }
+    requires shift { k < 32 }
+    requires whole { whole ≡ sum_by (λ d. d / 2 ^ 0) items.now }
+    requires few { whole ≤ 2 ^ 38 }
+    ensures value { result ≡ sum_by (λ d. d / 2 ^ k) items.now }
+    ensures limit { result ≤ 2 ^ 38 }
+{
+    match k {
+        0 => whole,
+        _ if whole < 1 << 32 => small_sum(items, k) as u64,
+        _ => sum_shifted(items, k),
+    }
+}

@@ -1,0 +1,119 @@
+//! The residuals of a segment.
+ghost use Rattle.std.specs.Prelude.{◌≡◌, ℕ, ◌+◌, ◌*◌, ◌<◌, ◌≤◌, [], ◌∷◌, ◌++◌, All, length, map, slice_range, ℤ};
+ghost use Rattle.rice_samples.specs.Parameters.{IsSample};
+ghost use Rattle.rice_samples.specs.predict.Residuals.{pattern, ranks};
+ghost use Rattle.rice_samples.specs.blocks.Sizes.{IsBlockSize};
+
+use crate::predict::residuals::{write_patterns, write_residuals};
+use crate::{Block, Setting};
+use std::marker::Model;
+
+/// The most residuals of a segment: 64 blocks of 64.
+const CAPACITY: usize = 4096;
+
+/// The residuals of a segment, at most 4,096. Clauses see their list. They are told by blocks alone.
+#[derive(Drop)]
+pub struct Segment {
+    items: [u32; CAPACITY],
+    len: usize,
+}
+
+impl Model for Segment {
+    ghost use Rattle.std.specs.Prelude.{ℕ, ◌≤◌, List, take};
+
+    ghost Value = { List ℕ };
+
+    ghost view = { λ s. take s.len s.items };
+
+    ghost invariant = { λ s. s.len ≤ 4096 };
+}
+
+impl Segment {
+    /// A segment without residuals.
+    #[inline]
+    pub fn new() -> Self
+        ensures { result ≡ [] }
+    {
+        Segment {
+            items: [0; CAPACITY],
+            len: 0,
+        }
+    }
+
+    /// How many residuals there are.
+    #[inline]
+    pub fn len(&self) -> usize
+        ensures value { result ≡ length self.now }
+        ensures limit { result ≤ 4096 }
+    {
+        self.filled().len()
+    }
+
+    /// The residuals so far.
+    #[inline]
+    fn filled(&self) -> &[u32]
+        ensures value { result.now ≡ self.now }
+        ensures limit { length result.now ≤ 4096 }
+    {
+        &self.items[..self.len]
+    }
+
+    /// Adds a residual at the end.
+    #[inline]
+    pub fn push(&mut self, residual: u32)
+        requires { length self.old < 4096 }
+        ensures value { self.new ≡ self.old ++ residual ∷ [] }
+        ensures len { length self.new ≡ length self.old + 1 }
+    {
+        self.items[self.len] = residual;
+        self.len += 1;
+    }
+
+    /// Adds the residuals of the samples, the first behind the sample `p`, each other behind the one before it.
+    #[inline]
+    pub fn push_residuals(&mut self, setting: &Setting, p: i64, samples: &[i64])
+        requires before { IsSample setting.now p }
+        requires samples { All (IsSample setting.now) samples.now }
+        requires room { length self.old + length samples.now ≤ 4096 }
+        ensures value { self.new ≡ self.old ++ ranks setting.now p samples.now }
+        ensures len { length self.new ≡ length self.old + length samples.now }
+    {
+        let end = self.len + samples.len();
+        write_residuals(setting, p, samples, &mut self.items[self.len..end]);
+        self.len = end;
+    }
+
+    /// Adds the patterns of the samples.
+    #[inline]
+    pub fn push_patterns(&mut self, setting: &Setting, samples: &[i64])
+        requires samples { All (IsSample setting.now) samples.now }
+        requires room { length self.old + length samples.now ≤ 4096 }
+        ensures value { self.new ≡ self.old ++ map (pattern setting.now) samples.now }
+        ensures len { length self.new ≡ length self.old + length samples.now }
+    {
+        let end = self.len + samples.len();
+        write_patterns(setting, samples, &mut self.items[self.len..end]);
+        self.len = end;
+    }
+
+    /// Removes all residuals.
+    #[inline]
+    pub fn clear(&mut self)
+        ensures { self.new ≡ [] }
+    {
+        self.len = 0;
+    }
+
+    /// Block `i`: the `size` residuals from number `i * size` on, where `size` is 8, 16, 32 or 64.
+    #[inline]
+    pub fn block(&self, i: usize, size: usize) -> Block<'_>
+        requires size { IsBlockSize size }
+        requires inside { i * size + size ≤ length self.now }
+        ensures value { result ≡ slice_range self.now (i * size) (i * size + size) }
+        ensures len { length result ≡ size }
+    {
+        let residuals = self.filled();
+        let start = i * size;
+        Block::of(&residuals[start..start + size])
+    }
+}

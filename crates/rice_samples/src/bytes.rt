@@ -1,0 +1,5 @@
+//! Samples in bytes: the one spelling of each, and reading and writing several at once.
+
+pub mod reading;
+pub mod spelling;
+pub mod writing;

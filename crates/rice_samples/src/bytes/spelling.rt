@@ -1,0 +1,36 @@
+//! The one spelling of each sample in bytes.
+ghost use Rattle.std.specs.Prelude.{◌≡◌, ◌≢◌, ℕ, ◌≤◌, length, ℤ, IfNone, IfSome};
+ghost use Rattle.rice_samples.specs.Parameters.{IsSample, width};
+ghost use Rattle.rice_samples.specs.bytes.Spelling.{spelling};
+
+use crate::Setting;
+use crate::digits::{bytes_with, digits_of, word_of};
+use arrayvec::ArrayVec;
+
+/// The sample that `width()` bytes spell. `None` where they spell none: where the unused high bits
+/// are not 0 or, of a signed sample, not its sign (own rule).
+#[inline]
+pub fn sample_of(setting: &Setting, bytes: &[u8]) -> Option<i64>
+    requires { length bytes.now ≡ width setting.now }
+    ensures none { IfNone result ((x : ℤ) → IsSample setting.now x → bytes.now ≢ spelling setting.now x) }
+    ensures value { IfSome result (λ x. IsSample setting.now x × (bytes.now ≡ spelling setting.now x)) }
+{
+    let word = word_of(bytes, setting.msb());
+    let level = (word as u64 + setting.offset()) % (1 << (8 * setting.width()));
+    if level < setting.values() {
+        Some(setting.value_at(level))
+    } else {
+        None
+    }
+}
+
+/// The spelling of a sample: `width()` bytes.
+#[inline]
+pub fn bytes_of(setting: &Setting, x: i64) -> ArrayVec<u8, 4>
+    requires { IsSample setting.now x }
+    ensures value { result.items ≡ spelling setting.now x }
+    ensures len { length result.items ≡ width setting.now }
+{
+    let width = setting.width();
+    bytes_with(digits_of(x, 8 * width), width, setting.msb())
+}

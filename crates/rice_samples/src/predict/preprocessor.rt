@@ -1,0 +1,91 @@
+//! Residuals of samples behind the sample before, which predicts them, and samples from residuals.
+ghost use Rattle.std.specs.Prelude.{◌≡◌, ℕ, ◌+◌, ◌^◌, ◌<◌, ◌≤◌, ℤ};
+ghost use Rattle.rice_samples.specs.Parameters.{IsSample, value_count};
+ghost use Rattle.rice_samples.specs.predict.Residuals.{pattern as pattern_of, rank, rank_below};
+
+use crate::Setting;
+use crate::digits::{digits_of, value_with};
+
+/// The residual of the sample `x` behind the sample `p`: below 2^n. Twice the distance, less one
+/// for a smaller sample, as far as the range of samples reaches to both sides of `p`, and beyond
+/// that the distance and that reach (CCSDS 121.0-B-3, section 4, prediction error mapper).
+#[inline]
+pub fn residual(setting: &Setting, p: i64, x: i64) -> u32
+    requires before { IsSample setting.now p }
+    requires sample { IsSample setting.now x }
+    ensures rank { result ≡ rank setting.now p x }
+    ensures fits { result < value_count setting.now }
+{
+    rank_of(
+        (setting.values() - 1) as u32,
+        setting.level(p) as u32,
+        setting.level(x) as u32,
+    )
+}
+
+/// The sample whose residual behind the sample `p` is `d`.
+#[inline]
+pub fn restore(setting: &Setting, p: i64, d: u32) -> i64
+    requires before { IsSample setting.now p }
+    requires residual { d < value_count setting.now }
+    ensures sample { IsSample setting.now result }
+    ensures rank { rank setting.now p result ≡ d }
+    ensures only { (x : ℤ) → IsSample setting.now x → rank setting.now p x ≡ d → result ≡ x }
+{
+    let greatest = (setting.values() - 1) as u32;
+    let level = number_with(greatest, setting.level(p) as u32, d);
+    setting.value_at(level as u64)
+}
+
+/// The n-bit pattern of the sample `x`: two's complement where samples are signed.
+#[inline]
+pub fn pattern(setting: &Setting, x: i64) -> u32
+    requires { IsSample setting.now x }
+    ensures value { result ≡ pattern_of setting.now x }
+    ensures fits { result < value_count setting.now }
+{
+    digits_of(x, setting.bits())
+}
+
+/// The sample with the n-bit pattern `v`.
+#[inline]
+pub fn from_pattern(setting: &Setting, v: u32) -> i64
+    requires { v < value_count setting.now }
+    ensures sample { IsSample setting.now result }
+    ensures pattern { pattern_of setting.now result ≡ v }
+    ensures only { (x : ℤ) → IsSample setting.now x → pattern_of setting.now x ≡ v → result ≡ x }
+{
+    value_with(v, setting.bits(), setting.signed())
+}
+
+/// The rank of number `x` from number `p` among the numbers up to `greatest`, by folding.
+#[inline]
+pub(crate) fn rank_of(greatest: u32, p: u32, x: u32) -> u32
+    requires before { p ≤ greatest }
+    requires sample { x ≤ greatest }
+    ensures rank { result ≡ rank_below (greatest + 1) p x }
+    ensures fits { result ≤ greatest }
+{
+    let reach = p.min(greatest - p);
+    let distance = p.max(x) - p.min(x);
+    let nearer = distance - (x < p) as u32;
+    distance + nearer.min(reach)
+}
+
+/// The number up to `greatest` with rank `d` from number `p`.
+#[inline]
+pub(crate) fn number_with(greatest: u32, p: u32, d: u32) -> u32
+    requires before { p ≤ greatest }
+    requires residual { d ≤ greatest }
+    ensures fits { result ≤ greatest }
+    ensures rank { rank_below (greatest + 1) p result ≡ d }
+{
+    let reach = p.min(greatest - p);
+    if d > 2 * reach {
+        if p == reach { d } else { greatest - d }
+    } else if d % 2 == 0 {
+        p + d / 2
+    } else {
+        p - d / 2 - 1
+    }
+}

@@ -1,0 +1,60 @@
+//! The residuals of samples in a row.
+ghost use Rattle.std.specs.Prelude.{◌≡◌, ℕ, ◌+◌, ◌^◌, ◌<◌, ◌≤◌, All, length, map, ℤ, pos, neg_ℤ, ◌≤ℤ◌};
+ghost use Rattle.std.specs.Int.{int_gap};
+ghost use Rattle.rice_samples.specs.Parameters.{IsSample, level};
+ghost use Rattle.rice_samples.specs.predict.Residuals.{pattern as pattern_of, ranks, ranks_below};
+
+use crate::Setting;
+use crate::predict::preprocessor::{pattern, rank_of};
+
+/// Writes the residuals of the samples, the first behind the sample `p`, each other behind the one before it.
+pub(crate) fn write_residuals(setting: &Setting, p: i64, samples: &[i64], residuals: &mut [u32])
+    requires before { IsSample setting.now p }
+    requires samples { All (IsSample setting.now) samples.now }
+    requires len { length residuals.old ≡ length samples.now }
+    ensures { residuals.new ≡ ranks setting.now p samples.now }
+{
+    let greatest = (setting.values() - 1) as u32;
+    let before = setting.level(p) as u32;
+    write_levels(setting, samples, residuals);
+    fold(greatest, before, residuals);
+}
+
+/// Writes the patterns of the samples.
+pub(crate) fn write_patterns(setting: &Setting, samples: &[i64], patterns: &mut [u32])
+    requires samples { All (IsSample setting.now) samples.now }
+    requires len { length patterns.old ≡ length samples.now }
+    ensures { patterns.new ≡ map (pattern_of setting.now) samples.now }
+{
+    let setting = *setting;
+    for i in 0..samples.len() {
+        patterns[i] = pattern(&setting, samples[i]);
+    }
+}
+
+/// Writes how many values that a sample can have lie below each of the samples.
+fn write_levels(setting: &Setting, samples: &[i64], levels: &mut [u32])
+    requires samples { All (IsSample setting.now) samples.now }
+    requires len { length levels.old ≡ length samples.now }
+    ensures { levels.new ≡ map (level setting.now) samples.now }
+{
+    // One loop with nothing but this difference works on several samples at a time, and so does the fold.
+    let setting = *setting;
+    for i in 0..samples.len() {
+        levels[i] = setting.level(samples[i]) as u32;
+    }
+}
+
+/// Puts ranks in place of numbers up to `greatest`: that of the first from `p`, of each other from the one before it.
+fn fold(greatest: u32, p: u32, numbers: &mut [u32])
+    requires before { p ≤ greatest }
+    requires numbers { All (λ x. x ≤ greatest) numbers.old }
+    ensures { numbers.new ≡ ranks_below (greatest + 1) p numbers.old }
+{
+    let mut before = p;
+    for i in 0..numbers.len() {
+        let number = numbers[i];
+        numbers[i] = rank_of(greatest, before, number);
+        before = number;
+    }
+}

@@ -1,0 +1,11 @@
+-- The lemmas of the proofs, by what they speak of.
+pub mod BoundLemmas
+pub mod BufferLemmas
+pub mod DecodedSamples
+pub mod DecodingEnds
+pub mod DecodingLemmas
+pub mod EncodingEnds
+pub mod EncodingLemmas
+pub mod ReturnedBytes
+pub mod SpellingLengths
+pub mod WholeBytes

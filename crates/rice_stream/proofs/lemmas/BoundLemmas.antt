@@ -1,0 +1,120 @@
+-- The bounds of bits and steps, of the samples so far and of all.
+use Rattle.std.proofs.Common.{◌≡◌, ℕ, ◌+◌, ◌-◌, ◌*◌, ◌%◌, ◌<◌, ◌≤◌, List, ◌++◌, length, replicate, ap, arith, sym, ◌∙◌, subst, length-append, ℤ, pos, inl, inr}
+use Rattle.std.specs.Prelude.{All}
+use Rattle.std.specs.Int.{next_multiple_of}
+use Rattle.std.proofs.Math.Nat.{mul-le-mul_left, mul-le-mul_right}
+use Rattle.std.proofs.lemmas.Bool.{cases_lt}
+use Rattle.std.proofs.lemmas.Bool.Decides.{nat_tests}
+use Rattle.std.proofs.lemmas.Grind.{div_ceil_times}
+use Rattle.std.proofs.lemmas.List.{length-replicate}
+use Rattle.std.proofs.lemmas.List.Elements.{All-from_recursion}
+use Rattle.rice_samples.specs.Parameters.{Parameters, IsLegal, IsSample, id_len, k_max}
+use Rattle.rice_samples.specs.Places.{block_count}
+use Rattle.rice_samples.specs.predict.Residuals.{last_of}
+use Rattle.rice_samples.proofs.lemmas.setting.Levels.{zero_is_sample}
+use Rattle.rice_code.specs.Bounds.{bit_bound, step_bound, amortised_step_bound}
+use Rattle.rice_code.specs.code.Code.{code_bits}
+use Rattle.rice_code.specs.encode.Coder.{State, StandsFor, settled, fill_samples}
+use Rattle.rice_code.specs.Steps.{most_steps}
+use Rattle.rice_code.proofs.lemmas.encode.PushedCode.{settled_is}
+use Rattle.rice_code.proofs.lemmas.encode.HeldSamples.{all_first}
+use Rattle.rice_code.proofs.lemmas.cost.LooksPaid.{all_steps_are_bounded}
+use Rattle.rice_code.proofs.lemmas.code.SoundBlocks.{code_is_bounded, filled_len}
+
+-- what is so of the samples that a coder stands for, and of those that make whole segments
+pub record Settles (s : Parameters) (xs : List ℤ) : Type 0 where
+  pub setting : IsLegal s
+  pub legal : All (IsSample s) xs
+  pub legal_settled : All (IsSample s) (settled s xs)
+  pub few : length (settled s xs) ≤ length xs
+
+pub settles : (s : Parameters) (coder : State) (xs : List ℤ) → coder.setting ≡ s → StandsFor coder xs → Settles s xs
+settles s coder xs e h =
+    let t = coder.setting in
+    let same = settled_is coder xs h in
+    subst (λ (t : Parameters). Settles t xs) e (record {
+      setting = h.holds.legal;
+      legal = subst (All (IsSample t)) (sym h.parts) (All-from_recursion (IsSample t) (h.coded ++ h.held) h.holds.samples);
+      legal_settled = subst (All (IsSample t)) (sym same) (All-from_recursion (IsSample t) h.coded (all_first t h.coded h.held h.holds.samples).0);
+      few = omega (arith, ap length same, ap length h.parts, length-append h.coded h.held);
+    })
+
+-- What bits and steps of samples are bounded by: `count` bits and at most `most` steps of so many samples.
+pub record Bounded (s : Parameters) (samples count most : ℕ) : Type 0 where
+  pub bits : count ≤ bit_bound s samples
+  pub steps : most ≤ step_bound s samples
+  pub amortised : most ≤ amortised_step_bound s count samples
+
+-- a block count is no more than another where its samples are no more
+count_le : (j n m c d : ℕ) → 1 ≤ j → n ≤ m → c * j < n + j → m ≤ d * j → c ≤ d
+count_le j n m c d one le few enough = elim (cases_lt d c) [
+  | inl lt ↦ absurd (let p : (d + 1) * j ≤ c * j = mul-le-mul_right j (omega arith) in omega arith)
+  | inr le ↦ le
+]
+
+-- of the samples so far
+pub early_bounded : (s : Parameters) (xs : List ℤ) → Settles s xs → Bounded s (length xs) (code_bits s (settled s xs)) (length xs + most_steps s (settled s xs))
+early_bounded s xs h =
+    let zs = settled s xs in
+    let j : 1 ≤ s.block = let k : 8 ≤ s.block = grind (arith, h.setting.block) in omega arith in
+    let c = block_count s (length zs) in
+    let d = block_count s (length xs) in
+    let le : c ≤ d = count_le s.block (length zs) (length xs) c d j h.few (div_ceil_times (length zs) s.block j).1 (div_ceil_times (length xs) s.block j).0 in
+    let bits = code_is_bounded s h.setting 0 (pos 0) zs (zero_is_sample s h.setting.bits_from) h.legal_settled in
+    let steps = all_steps_are_bounded s h.setting zs h.legal_settled in
+    let each = mul-le-mul_right (id_len s + s.block * s.bits) le in
+    let e : c + (d - c) ≡ d = omega arith in
+    let all = at s.block (length xs) c (d - c) (id_len s) (s.bits + k_max s) (most_steps s zs) (code_bits s zs) (subst (λ (v : ℕ). length xs ≤ v * s.block) (sym e) (div_ceil_times (length xs) s.block j).0) steps.0 steps.1 in
+    record {
+      bits = omega (arith, bits, each);
+      steps = subst (λ (v : ℕ). length xs + most_steps s zs ≤ v * (id_len s + s.block * (s.bits + k_max s + 6))) e all.0;
+      amortised = subst (λ (v : ℕ). length xs + most_steps s zs ≤ 2 * code_bits s zs + 7 * s.block * v) e all.1;
+    }
+  where
+    at : (j n c e id k most bits : ℕ) → n ≤ (c + e) * j → j * c + most ≤ c * (id + j * (k + 6)) → j * c + most ≤ 2 * bits + 7 * j * c →
+        (n + most ≤ (c + e) * (id + j * (k + 6))) × (n + most ≤ 2 * bits + 7 * j * (c + e))
+    at j n c e id k most bits h f g = (omega arith, omega arith)
+
+-- and of all
+pub all_bounded : (s : Parameters) (xs : List ℤ) → Settles s xs → Bounded s (length xs) (code_bits s xs) (length xs + fill_samples s xs + most_steps s xs)
+all_bounded s xs h =
+    let j : 1 ≤ s.block = let k : 8 ≤ s.block = grind (arith, h.setting.block) in omega arith in
+    let steps = all_steps_are_bounded s h.setting xs h.legal in
+    let full = filled_count s xs j in
+    record {
+      bits = code_is_bounded s h.setting 0 (pos 0) xs (zero_is_sample s h.setting.bits_from) h.legal;
+      steps = omega (arith, steps.0, full);
+      amortised = omega (arith, steps.1, full);
+    }
+  where
+    filled_count : (s : Parameters) (xs : List ℤ) → 1 ≤ s.block → length xs + fill_samples s xs ≡ s.block * block_count s (length xs)
+    filled_count s xs j =
+        let n = length xs in
+        let k = next_multiple_of n s.block - n in
+        let x = last_of (pos 0) xs in
+        let same : k ≡ fill_samples s xs = (let e : n + (s.block - n % s.block) % s.block - n ≡ (s.block - n % s.block) % s.block = omega arith in e) in
+        ap (λ m. n + m) (sym same ∙ sym (length-replicate k x)) ∙ sym (length-append xs (replicate k x)) ∙ filled_len s (pos 0) xs j
+
+-- few samples take few steps
+pub few_steps : (s : Parameters) (n : ℕ) → IsLegal s → step_bound s n ≤ 73 * n + 4700
+few_steps s n legal =
+    let j : 8 ≤ s.block = grind (arith, legal.block) in
+    let most : s.block ≤ 64 = grind (arith, legal.block) in
+    let i : id_len s ≤ 5 = grind (arith, nat_tests) in
+    let k : k_max s ≤ 29 = grind (arith, nat_tests) in
+    at s.block n (block_count s n) (id_len s) (s.bits + k_max s) (omega arith) most i (omega (arith, legal.bits_to, k)) (div_ceil_times n s.block (omega arith)).1
+  where
+    both : (c id x z n j : ℕ) → c * id ≤ 5 * c → c * x ≤ 67 * z → c ≤ z → j ≤ 64 → z < n + j → c * (id + x) ≤ 73 * n + 4700
+    both c id x z n j h f g few lt = omega arith
+
+    at : (j n c id k : ℕ) → 1 ≤ j → j ≤ 64 → id ≤ 5 → k ≤ 61 → c * j < n + j → c * (id + j * (k + 6)) ≤ 73 * n + 4700
+    at j n c id k one few h f lt =
+        let a : c * id ≤ c * 5 = mul-le-mul_left c h in
+        let b : c * (j * (k + 6)) ≤ c * (j * 67) = mul-le-mul_left c (mul-le-mul_left j (omega arith)) in
+        let d : c * 1 ≤ c * j = mul-le-mul_left c one in
+        let e : c * (j * 67) ≡ 67 * (c * j) = omega arith in
+        both c id (j * (k + 6)) (c * j) n j (omega arith) (omega (arith, b, e)) (omega arith) few lt
+
+-- and few bits
+pub few_bits : (s : Parameters) (n count most : ℕ) → IsLegal s → Bounded s n count most → count ≤ most → count ≤ 73 * n + 4700
+few_bits s n count most legal b le = omega (arith, b.steps, few_steps s n legal, le)

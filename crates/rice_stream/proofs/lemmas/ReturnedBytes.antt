@@ -1,0 +1,186 @@
+-- What was encoded comes back.
+use Rattle.std.proofs.Common.{◌≡◌, ℕ, ◌+◌, ◌*◌, ◌<◌, ◌≤◌, cond, Bool, true, false, List, [], ◌∷◌, ◌++◌, length, length-append, replicate, refl, ap, arith, sym, ◌∙◌, ◌⊎◌, inl, inr, subst, append_assoc, append-nil, Option, Some, None, ℤ, pos}
+use Rattle.std.specs.Prelude.{All, IsSome}
+use Rattle.std.specs.Int.{div_ceil}
+use Rattle.std.proofs.Math.Nat.{mul_assoc, mul-le-mul_left, mul-le-mul_right}
+use Rattle.std.proofs.lemmas.Bool.{cases_lt}
+use Rattle.std.proofs.lemmas.Bool.Decides.{nat_tests}
+use Rattle.std.proofs.lemmas.Grind.{div_ceil_times}
+use Rattle.std.proofs.lemmas.List.{length-replicate}
+use Rattle.std.specs.Io.KnownBytes.{Consumes, IsAtEnd}
+use Rattle.rice_bits.specs.Bits.{bits_of, bits_to_byte}
+use Rattle.rice_bits.proofs.lemmas.bits.Bytes.{bits_of-append, bits_of-padded, length-bits_of}
+use Rattle.rice_samples.specs.Parameters.{Parameters, IsLegal, IsSample, id_len, width}
+use Rattle.rice_samples.specs.Places.{block_count, interval_count}
+use Rattle.rice_samples.specs.bytes.Spelling.{spellings}
+use Rattle.rice_samples.proofs.lemmas.setting.Levels.{zero_is_sample}
+use Rattle.rice_code.specs.code.Code.{code, output}
+use Rattle.rice_code.specs.code.Decoded.{Decoded, Ending, EndsWith, Reached, Ended, CutOff, Past, Large}
+use Rattle.rice_code.proofs.lemmas.meaning.OneMeaning.{decoded_is_one}
+use Rattle.rice_code.proofs.lemmas.cost.PaddingBounds.{padding_is_bounded}
+use Rattle.rice_code.proofs.lemmas.meaning.Returned as returned
+use Rattle.rice_code.proofs.lemmas.code.SoundBlocks.{code_is_bounded}
+use Rattle.rice_stream.proofs.lemmas.SpellingLengths.{length-spellings}
+use Rattle.rice_stream.specs.Decodes.{Decodes, EndsSo}
+use Rattle.rice_stream.specs.Laws.{ReturnsBytes}
+use Rattle.rice_stream.specs.declared.outcome.Fault.{Fault}
+use Rattle.rice_stream.specs.declared.outcome.Fault.TheVariants.{Read, Write, TooLong, SampleOutOfRange, SampleCut, CodeEnds, RunPastSegment, ResidualTooLarge}
+
+-- it does not end where the bits do
+abbrev EndsBefore : Ending → Type 0
+EndsBefore ending = (ending ≡ Reached) ⊎ ((ending ≡ Past) ⊎ (ending ≡ Large))
+
+-- what follows the bits does not matter then
+ends_before : (s : Parameters) (asked : Option ℕ) (b : ℕ) (rest more : List Bool) (ending : Ending) (used : ℕ) → EndsBefore ending → EndsWith s asked b rest ending used → EndsWith s asked b (rest ++ more) ending used
+ends_before s asked b rest more Reached used early e = e
+ends_before s asked b rest more Past used early e =
+    let r = e.1 in (e.0, record { refused = r.refused; more = r.more ++ more; form = r.form; unsound = r.unsound; begins = ap (λ l. l ++ more) r.begins ∙ append_assoc _ r.more more; bits = r.bits })
+ends_before s asked b rest more Large used early e =
+    let r = e.1 in (e.0, record { refused = r.refused; more = r.more ++ more; form = r.form; unsound = r.unsound; begins = ap (λ l. l ++ more) r.begins ∙ append_assoc _ r.more more; bits = r.bits })
+ends_before s asked b rest more Ended used (inl e) h = absurd cc
+ends_before s asked b rest more Ended used (inr (inl e)) h = absurd cc
+ends_before s asked b rest more Ended used (inr (inr e)) h = absurd cc
+ends_before s asked b rest more CutOff used (inl e) h = absurd cc
+ends_before s asked b rest more CutOff used (inr (inl e)) h = absurd cc
+ends_before s asked b rest more CutOff used (inr (inr e)) h = absurd cc
+
+decoded_before : (s : Parameters) (asked : Option ℕ) (bits more : List Bool) (xs : List ℤ) (ending : Ending) (used : ℕ) → EndsBefore ending → Decoded s bits asked xs ending used → Decoded s (bits ++ more) asked xs ending used
+decoded_before s asked bits more xs ending used early d = record {
+  sets = d.sets;
+  front = d.front;
+  rest = d.rest ++ more;
+  parts = ap (λ l. l ++ more) d.parts ∙ append_assoc d.front d.rest more;
+  lie = d.lie;
+  taken = d.taken;
+  all = d.all;
+  legal = d.legal;
+  len = d.len;
+  blocks = d.blocks;
+  asked_for = d.asked_for;
+  last = d.last;
+  ends = ends_before s asked _ d.rest more ending d.last early d.ends;
+  bits_used = d.bits_used;
+}
+
+-- what the first bytes of the output decode to, where that ends before them
+from_front : (s : Parameters) → IsLegal s → (xs ys : List ℤ) (front left : List ℕ) (ending : Ending) (used all : ℕ) → output s xs ≡ front ++ left → EndsBefore ending → Decoded s (bits_of front) (Some (length xs)) ys ending used → Decoded s (bits_of (output s xs)) (Some (length xs)) xs Reached all → (ys ≡ xs) × (ending ≡ Reached)
+from_front s legal xs ys front left ending used all split early d whole =
+    let more = decoded_before s (Some (length xs)) (bits_of front) (bits_of left) ys ending used early d in
+    let bits : bits_of front ++ bits_of left ≡ bits_of (output s xs) = sym (bits_of-append front left) ∙ ap bits_of (sym split) in
+    let there = subst (λ (l : List Bool). Decoded s l (Some (length xs)) ys ending used) bits more in
+    let one = decoded_is_one s legal 0 0 (pos 0) (zero_is_sample s legal.bits_from) (bits_of (output s xs)) (Some (length xs)) ys xs ending Reached used all there whole in
+    (one.0, one.1)
+
+-- no output is longer than a decoder takes
+few_pads : (s : Parameters) (b : ℕ) → 1 ≤ s.interval → div_ceil b s.interval ≤ b
+few_pads s b some = at b (div_ceil b s.interval) s.interval some (div_ceil_times b s.interval some).1
+  where
+    at : (b c r : ℕ) → 1 ≤ r → c * r < b + r → c ≤ b
+    at b c r some few = elim (cases_lt b c) [
+      | inl lt ↦ absurd (let p : (b + 1) * r ≤ c * r = mul-le-mul_right r (omega arith) in let q : b * 1 ≤ b * r = mul-le-mul_left b some in omega arith)
+      | inr le ↦ le
+    ]
+
+code_short : (s : Parameters) → IsLegal s → (xs : List ℤ) → All (IsSample s) xs → length (code s xs) ≤ block_count s (length xs) * (id_len s + s.block * s.bits) + 7 * block_count s (length xs)
+code_short s legal xs k =
+    let bits = padding_is_bounded s legal xs k in
+    let count = code_is_bounded s legal 0 (pos 0) xs (zero_is_sample s legal.bits_from) k in
+    let pads = by_pad s.pad (interval_count s (length xs)) (block_count s (length xs)) (few_pads s (block_count s (length xs)) legal.interval_from) in
+    omega (arith, bits, count, pads)
+  where
+    by_pad : (pad : Bool) (c b : ℕ) → c ≤ b → cond pad (7 * c) 0 ≤ 7 * b
+    by_pad true c b h = omega arith
+    by_pad false c b h = omega arith
+
+output_bits : (s : Parameters) (xs : List ℤ) → 8 * length (output s xs) ≤ length (code s xs) + 7
+output_bits s xs =
+    let bits = code s xs in
+    let n = bits_to_byte (length bits) in
+    omega (arith, length-bits_of (output s xs), ap length (bits_of-padded bits), length-append bits (replicate n false), length-replicate n false)
+
+output_short : (s : Parameters) → IsLegal s → (xs : List ℤ) → All (IsSample s) xs → width s * length xs ≤ 281474976710656 → length (output s xs) ≤ 562949953421312
+output_short s legal xs k limit =
+    let j : 8 ≤ s.block = grind (arith, legal.block) in
+    let most : s.block ≤ 64 = grind (arith, legal.block) in
+    let i : id_len s ≤ 5 = grind (arith, nat_tests) in
+    let some : 1 ≤ width s = grind (arith, nat_tests) in
+    let few : width s ≤ 4 = grind (arith, nat_tests) in
+    let holds : s.bits ≤ 8 * width s = grind (arith, nat_tests, legal.bits_to) in
+    at s.block (length xs) (block_count s (length xs)) (id_len s) s.bits (width s) (length (code s xs)) (length (output s xs)) j most i some few holds limit (div_ceil_times (length xs) s.block (omega arith)).1 (code_short s legal xs k) (output_bits s xs)
+  where
+    sums : (b id x z w m bits bytes : ℕ) → b * id ≤ 5 * b → b * x ≤ 8 * z → z ≤ w * m + 256 → 8 * b ≤ m + 64 → m ≤ w * m → w * m ≤ 281474976710656 → bits ≤ b * (id + x) + 7 * b → 8 * bytes ≤ bits + 7 → bytes ≤ 562949953421312
+    sums b id x z w m bits bytes h f g few some limit most whole = omega arith
+
+    at : (j m b id n w bits bytes : ℕ) → 8 ≤ j → j ≤ 64 → id ≤ 5 → 1 ≤ w → w ≤ 4 → n ≤ 8 * w → w * m ≤ 281474976710656 → b * j < m + j → bits ≤ b * (id + j * n) + 7 * b → 8 * bytes ≤ bits + 7 → bytes ≤ 562949953421312
+    at j m b id n w bits bytes lo hi h some four holds limit few most whole =
+        let first : b * id ≤ b * 5 = mul-le-mul_left b h in
+        let each : b * j * n ≤ b * j * (8 * w) = mul-le-mul_left (b * j) holds in
+        let same : b * (j * n) ≡ b * j * n = sym (mul_assoc b j n) in
+        let eight : b * j * (8 * w) ≡ 8 * (b * j * w) = omega arith in
+        let z : b * j * w ≤ (m + j) * w = mul-le-mul_right w (omega arith) in
+        let all : (m + j) * w ≤ w * m + 256 = (let p : j * w ≤ 64 * w = mul-le-mul_right w hi in omega arith) in
+        let blocks : b * 8 ≤ b * j = mul-le-mul_left b lo in
+        let more : m * 1 ≤ m * w = mul-le-mul_left m some in
+        sums b id (j * n) (b * j * w) w m bits bytes (omega arith) (omega (arith, same, each, eight)) (omega (arith, z, all)) (omega (arith, blocks, few, hi)) (omega arith) limit most whole
+
+pub returns_bytes : ReturnsBytes
+returns_bytes s legal enc dec encoded decoded fault encodes consumed decodes = by_fault fault dec.left refl decodes.ends
+  where
+    xs : List ℤ
+    xs = encodes.0
+
+    n : encoded.samples ≡ length xs
+    n = encodes.1.3.samples
+
+    written : enc.written ≡ output s xs
+    written = encodes.1.3.written
+
+    ys : List ℤ
+    ys = decodes.samples
+
+    bytes : enc.given ≡ spellings s xs
+    bytes = encodes.1.0.whole ∙ ap (λ l. spellings s xs ++ l) encodes.1.0.stops ∙ append-nil (spellings s xs)
+
+    split : (left : Option (List ℕ)) → dec.left ≡ left → (rest : List ℕ) × (output s xs ≡ dec.given ++ rest)
+    split None e = absurd (subst (λ (l : Option (List ℕ)). Consumes (Some enc.written) l dec.given) e consumed)
+    split (Some rest) e = (rest, sym written ∙ subst (λ (l : Option (List ℕ)). Consumes (Some enc.written) l dec.given) e consumed)
+
+    Ends : Option Fault → Type 0
+    Ends fault = ((fault ≡ None) × (dec.written ≡ enc.given)) ⊎ ((fault ≡ Some Read) ⊎ (fault ≡ Some Write))
+
+    all : (used : ℕ) × Decoded s (bits_of (output s xs)) (Some (length xs)) xs Reached used
+    all = returned.returns_samples s legal xs encodes.1.0.legal
+
+    at_front : (left : Option (List ℕ)) → dec.left ≡ left → Decodes s (Some encoded.samples) dec decoded dec.given ys decodes.ending → EndsBefore decodes.ending → (ys ≡ xs) × (decodes.ending ≡ Reached)
+    at_front left e d early =
+        let parts = split left e in
+        from_front s legal xs ys dec.given parts.0 decodes.ending d.0 all.0 parts.1 early (subst (λ (m : ℕ). Decoded s (bits_of dec.given) (Some m) ys decodes.ending d.0) n d.1) all.1
+
+    not_at_end : (left : Option (List ℕ)) → dec.left ≡ left → IsAtEnd dec.left → Decodes s (Some encoded.samples) dec decoded dec.given ys decodes.ending → (decodes.ending ≡ CutOff) ⊎ ((decodes.ending ≡ Ended) × IsSome (Some encoded.samples)) → ⊥
+    not_at_end None e end d ends = absurd (subst (λ (l : Option (List ℕ)). Consumes (Some enc.written) l dec.given) e consumed)
+    not_at_end (Some rest) e end d ends =
+        let none : rest ≡ [] = subst (λ (l : Option (List ℕ)). IsAtEnd l) e end in
+        let parts = split (Some rest) e in
+        let whole : dec.given ≡ output s xs = sym (append-nil dec.given) ∙ ap (λ l. dec.given ++ l) (sym none) ∙ sym parts.1 in
+        let there = subst (λ (l : List ℕ). Decoded s (bits_of l) (Some (length xs)) ys decodes.ending d.0) whole (subst (λ (m : ℕ). Decoded s (bits_of dec.given) (Some m) ys decodes.ending d.0) n d.1) in
+        let one = decoded_is_one s legal 0 0 (pos 0) (zero_is_sample s legal.bits_from) (bits_of (output s xs)) (Some (length xs)) ys xs decodes.ending Reached d.0 all.0 there all.1 in
+        let reached = one.1 in
+        elim ends [ inl e ↦ absurd cc | inr e ↦ absurd (let ended = e.0 in cc) ]
+
+    by_fault : (fault : Option Fault) (left : Option (List ℕ)) → dec.left ≡ left → EndsSo s (Some encoded.samples) fault dec decoded ys decodes.ending → Ends fault
+    by_fault None left e (d, inl reached) = inl (refl, d.2.written ∙ ap (spellings s) (at_front left e d (inl reached)).0 ∙ sym bytes)
+    by_fault None left e (d, inr (ended, none, end)) = absurd cc
+    by_fault (Some Read) left e h = inr (inl refl)
+    by_fault (Some Write) left e h = inr (inr refl)
+    by_fault (Some TooLong) left e h =
+        let passes = h.0.1 in
+        let given = ap length passes.split ∙ length-append h.0.0 (passes.last ∷ []) in
+        let parts = split left e in
+        let all = ap length parts.1 ∙ length-append dec.given parts.0 in
+        let spelled = ap length bytes ∙ length-spellings s xs in
+        absurd (let short = output_short s legal xs encodes.1.0.legal (omega (arith, spelled, encodes.1.2)) in omega (arith, given, passes.full, all, short))
+    by_fault (Some (CodeEnds samples)) left e (d, ends, end, count) = absurd (not_at_end left e end d ends)
+    by_fault (Some (RunPastSegment block)) left e (d, past, count) = absurd (let reached = (at_front left e d (inr (inl past))).1 in cc)
+    by_fault (Some (ResidualTooLarge block)) left e (d, large, count) = absurd (let reached = (at_front left e d (inr (inr large))).1 in cc)
+    by_fault (Some (SampleOutOfRange index)) left e h = absurd h
+    by_fault (Some (SampleCut index)) left e h = absurd h

@@ -1,0 +1,32 @@
+-- How many bytes samples take.
+use Rattle.std.proofs.Common.{◌≡◌, ℕ, zero, suc, ◌+◌, ◌*◌, Bool, true, false, cond, List, [], ◌∷◌, ◌++◌, length, refl, ap, arith, ◌∙◌, length-append, ℤ}
+use Rattle.std.specs.Int.{bytes_low_first, bytes_high_first}
+use Rattle.std.proofs.lemmas.Grind.{flat_map-append}
+use Rattle.rice_samples.specs.Parameters.{Parameters, width}
+use Rattle.rice_samples.specs.predict.Residuals.{twos_complement}
+use Rattle.rice_samples.specs.bytes.Spelling.{spelling, spellings}
+
+low_count : (i k v : ℕ) → length (bytes_low_first i k v) ≡ k
+low_count i zero v = refl
+low_count i (suc k) v = ap suc (low_count (suc i) k v)
+
+high_count : (k v : ℕ) → length (bytes_high_first k v) ≡ k
+high_count zero v = refl
+high_count (suc k) v = ap suc (high_count k v)
+
+pub length-spelling : (s : Parameters) (x : ℤ) → length (spelling s x) ≡ width s
+length-spelling s x = by_order s.msb
+  where
+    by_order : (msb : Bool) → length (cond msb (bytes_high_first (width s) (twos_complement (8 * width s) x)) (bytes_low_first 0 (width s) (twos_complement (8 * width s) x))) ≡ width s
+    by_order true = high_count (width s) (twos_complement (8 * width s) x)
+    by_order false = low_count 0 (width s) (twos_complement (8 * width s) x)
+
+pub length-spellings : (s : Parameters) (xs : List ℤ) → length (spellings s xs) ≡ width s * length xs
+length-spellings s [] = omega arith
+length-spellings s (x ∷ xs) = length-append (spelling s x) (spellings s xs) ∙ (λ i. length-spelling s x i + length-spellings s xs i) ∙ next (width s) (length xs)
+  where
+    next : (w n : ℕ) → w + w * n ≡ w * suc n
+    next w n = omega arith
+
+pub spellings-append : (s : Parameters) (xs ys : List ℤ) → spellings s (xs ++ ys) ≡ spellings s xs ++ spellings s ys
+spellings-append s xs ys = flat_map-append (spelling s) xs ys

@@ -1,0 +1,45 @@
+-- The whole bytes of bits that go on.
+use Rattle.std.proofs.Common.{arith, ◌≡◌, ℕ, zero, suc, ◌+◌, ◌*◌, ◌/◌, ◌<◌, Bool, List, [], ◌∷◌, ◌++◌, length, drop, refl, ap, sym, ◌∙◌, append-nil, length-append, length-drop, take-append-drop}
+use Rattle.std.proofs.Math.Seq.{drop-append-add}
+use Rattle.std.proofs.lemmas.List.{length-take-le}
+use Rattle.rice_bits.proofs.lemmas.bits.Bytes.{whole_short}
+use Rattle.rice_bits.specs.Bits.{number_of, whole_bytes, bits_in_bytes}
+use Rattle.rice_stream.specs.EncodingState.{whole_part}
+
+pub whole-append : (m : ℕ) (a b : List Bool) → length a ≡ 8 * m → whole_bytes (a ++ b) ≡ whole_bytes a ++ whole_bytes b
+unfolding whole_bytes
+whole-append m [] b h = refl
+whole-append zero (x ∷ a) b h = absurd (omega (arith, h))
+whole-append (suc m) (a ∷ []) x h = absurd (omega (arith, h))
+whole-append (suc m) (a ∷ b ∷ []) x h = absurd (omega (arith, h))
+whole-append (suc m) (a ∷ b ∷ c ∷ []) x h = absurd (omega (arith, h))
+whole-append (suc m) (a ∷ b ∷ c ∷ d ∷ []) x h = absurd (omega (arith, h))
+whole-append (suc m) (a ∷ b ∷ c ∷ d ∷ e ∷ []) x h = absurd (omega (arith, h))
+whole-append (suc m) (a ∷ b ∷ c ∷ d ∷ e ∷ f ∷ []) x h = absurd (omega (arith, h))
+whole-append (suc m) (a ∷ b ∷ c ∷ d ∷ e ∷ f ∷ g ∷ []) x h = absurd (omega (arith, h))
+whole-append (suc m) (a ∷ b ∷ c ∷ d ∷ e ∷ f ∷ g ∷ i ∷ rest) x h =
+    ap (λ l. number_of (a ∷ b ∷ c ∷ d ∷ e ∷ f ∷ g ∷ i ∷ []) ∷ l) (whole-append m rest x (omega (arith, h)))
+
+pub length-part : (a : List Bool) → length (whole_part a) ≡ 8 * (length a / 8)
+length-part a = length-take-le (bits_in_bytes (length a)) a (omega arith)
+
+-- the part of whole bytes has the same bytes
+pub part_bytes : (a : List Bool) → whole_bytes (whole_part a) ≡ whole_bytes a
+part_bytes a =
+    let n = bits_in_bytes (length a) in
+    let short : length (drop n a) < 8 = omega (arith, length-drop n a) in
+    sym (append-nil (whole_bytes (whole_part a))) ∙ ap (λ l. whole_bytes (whole_part a) ++ l) (sym (whole_short (drop n a) short))
+    ∙ sym (whole-append (length a / 8) (whole_part a) (drop n a) (length-part a)) ∙ ap whole_bytes (take-append-drop n a)
+
+-- bits that go on from the part of whole bytes: their bytes
+pub more_bytes : (a b sink : List Bool) → whole_part a ++ sink ≡ b → whole_bytes b ≡ whole_bytes a ++ whole_bytes sink
+more_bytes a b sink e =
+    ap whole_bytes (sym e) ∙ whole-append (length a / 8) (whole_part a) sink (length-part a) ∙ ap (λ l. l ++ whole_bytes sink) (part_bytes a)
+
+-- and the bits behind them
+pub more_rest : (a b sink : List Bool) → whole_part a ++ sink ≡ b → drop (bits_in_bytes (length sink)) sink ≡ drop (bits_in_bytes (length b)) b
+more_rest a b sink e =
+    let p = whole_part a in
+    let n : length b ≡ length p + length sink = ap length (sym e) ∙ length-append p sink in
+    let k : length p + bits_in_bytes (length sink) ≡ bits_in_bytes (length b) = omega (arith, n, length-part a) in
+    sym (drop-append-add p sink (bits_in_bytes (length sink))) ∙ ap (λ l. drop (length p + bits_in_bytes (length sink)) l) e ∙ ap (λ i. drop i b) k

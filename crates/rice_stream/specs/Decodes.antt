@@ -1,0 +1,79 @@
+-- What decoding does: each way in which it ends.
+use Rattle.std.specs.Prelude.{◌≡◌, ℕ, ◌+◌, ◌-◌, ◌*◌, ◌/◌, ◌^◌, ◌≤◌, ◌⊎◌, List, length, take, min, Option, Some, None, IfSome, IsSome, ℤ}
+use Rattle.std.specs.Io.KnownBytes.{IsAtEnd}
+use Rattle.rice_bits.specs.Bits.{bits_of}
+use Rattle.rice_samples.specs.Parameters.{Parameters}
+use Rattle.rice_samples.specs.bytes.Spelling.{spellings}
+use Rattle.rice_code.specs.Bounds.{decoder_step_bound}
+use Rattle.rice_code.specs.code.Decoded.{Decoded, Ending, Reached, Ended, CutOff, Past, Large}
+use Rattle.rice_stream.specs.Calls.{Call, Leaves, StopsBetween, PassesLimit}
+use Rattle.rice_stream.specs.declared.outcome.Report.{Report}
+use Rattle.rice_stream.specs.declared.outcome.Fault.{Fault}
+use Rattle.rice_stream.specs.declared.outcome.Fault.TheVariants.{Read, Write, TooLong, CodeEnds, RunPastSegment, ResidualTooLarge}
+use Rattle.rice_code.specs.declared.decode.fault.CodeFault.{CodeFault}
+use Rattle.rice_code.specs.declared.decode.fault.CodeFault.TheVariants as codes
+
+-- the bytes decode so, and these samples and bits are what the call left
+abbrev pub Decodes : Parameters → Option ℕ → Call → Report → List ℕ → List ℤ → Ending → Type 0
+Decodes s asked c r bytes ys ending = (used : ℕ) × Decoded s (bits_of bytes) asked ys ending used × Leaves c r (spellings s ys) (length ys) used
+
+-- no whole coded data set is left
+abbrev pub RunsOut : Ending → Type 0
+RunsOut ending = (ending ≡ Ended) ⊎ (ending ≡ CutOff)
+
+-- the samples asked for, if they are fewer
+abbrev pub at_most : Option ℕ → ℕ → ℕ
+at_most None n = n
+at_most (Some m) n = min m n
+
+-- The outlet failed in the block behind `r.samples` samples: all before it is written, and not all of it.
+-- The bits are those of the coded data sets up to the one that holds the block.
+pub record FailsInBlock (s : Parameters) (asked : Option ℕ) (c : Call) (r : Report) (ys : List ℤ) : Type 0 where
+  pub block : ℕ
+  pub samples : r.samples ≡ s.block * block
+  pub count : length ys ≡ at_most asked (r.samples + s.block)
+  pub decoded : Decoded s (bits_of c.given) (Some (length ys)) ys Reached r.bits
+  pub stops : StopsBetween (spellings s (take r.samples ys)) (spellings s ys) c.written
+
+-- The samples, and how decoding ends. A coded data set that is refused begins with the block behind the samples.
+abbrev pub EndsSo : Parameters → Option ℕ → Option Fault → Call → Report → List ℤ → Ending → Type 0
+EndsSo s asked None c r ys ending = Decodes s asked c r c.given ys ending × ((ending ≡ Reached) ⊎ ((ending ≡ Ended) × (asked ≡ None) × IsAtEnd c.left))
+EndsSo s asked (Some (CodeEnds samples)) c r ys ending =
+    Decodes s asked c r c.given ys ending × ((ending ≡ CutOff) ⊎ ((ending ≡ Ended) × IsSome asked)) × IsAtEnd c.left × (samples ≡ length ys)
+EndsSo s asked (Some (RunPastSegment block)) c r ys ending = Decodes s asked c r c.given ys ending × (ending ≡ Past) × (length ys ≡ s.block * block)
+EndsSo s asked (Some (ResidualTooLarge block)) c r ys ending = Decodes s asked c r c.given ys ending × (ending ≡ Large) × (length ys ≡ s.block * block)
+EndsSo s asked (Some Read) c r ys ending = Decodes s asked c r c.given ys ending × RunsOut ending
+EndsSo s asked (Some TooLong) c r ys ending = ((front : List ℕ) × PassesLimit (2 ^ 49) c.given front × Decodes s asked c r front ys ending) × RunsOut ending
+EndsSo s asked (Some Write) c r ys ending = FailsInBlock s asked c r ys × (ending ≡ Reached)
+EndsSo s asked (Some _) c r ys ending = ⊥
+
+-- what the call did, for each outcome
+pub record Decodings (s : Parameters) (asked : Option ℕ) (c : Call) (r : Report) (fault : Option Fault) : Type 0 where
+  pub samples : List ℤ
+  pub ending : Ending
+  pub ends : EndsSo s asked fault c r samples ending
+  pub ahead : length c.given ≤ r.bits / 8 + 4096
+
+-- the report's bounds, at every exit
+pub record DecodesWithin (asked : Option ℕ) (r : Report) : Type 0 where
+  pub asked_for : IfSome asked (λ n. r.samples ≤ n)
+  pub at_least : r.bits + r.samples ≤ r.steps
+  pub at_most : r.steps ≤ decoder_step_bound r.bits r.samples
+
+-- how many samples of a block are wanted behind so many
+abbrev pub wanted_of : Option ℕ → ℕ → ℕ → ℕ
+wanted_of None written block = block
+wanted_of (Some n) written block = min (n - written) block
+
+-- the fault where no 1 is left
+abbrev pub ended_fault : Option ℕ → ℕ → Option Fault
+ended_fault None samples = None
+ended_fault (Some n) samples = Some (CodeEnds samples)
+
+-- the fault where the decoder refuses
+abbrev pub refusal_fault : CodeFault → ℕ → ℕ → Fault
+refusal_fault codes.CodeEnds samples block = CodeEnds samples
+refusal_fault codes.RunPastSegment samples block = RunPastSegment (samples / block)
+refusal_fault codes.ResidualTooLarge samples block = ResidualTooLarge (samples / block)
+refusal_fault codes.Read samples block = Read
+refusal_fault codes.TooLong samples block = TooLong
