@@ -26,23 +26,23 @@ number_below limit text =
     then Some (digits_value 10 (without_leading_plus text)) else None
 
 -- the readable number of an option, if it has one
-abbrev pub number_of : ℕ → Found → List ℕ → Option ℕ
-number_of limit f id = option_and_then (number_below limit) (one_text f id)
+abbrev pub number_in : ℕ → Found → List ℕ → Option ℕ
+number_in limit f id = option_and_then (number_below limit) (one_text f id)
 
 -- a flag was used
 abbrev pub is_flagged : Found → List ℕ → Bool
 is_flagged f id = option_map_or (λ t. bytes_eq t (codes "true")) (one_text f id) false
 
 -- what a plan says, with its names as texts
-pub record Wanted : Type 0 where
+pub record PlanView : Type 0 where
   setting : Parameters
   decode : Bool
   samples : Option ℕ
   source : List ℕ
   dest : List ℕ
 
-abbrev pub wanted_of : Plan → Wanted
-wanted_of p = record {
+abbrev pub plan_view : Plan → PlanView
+plan_view p = record {
   setting = p.setting;
   decode = p.decode;
   samples = p.samples;
@@ -51,13 +51,13 @@ wanted_of p = record {
 }
 
 -- the same of an answer
-abbrev pub wanted_by : Result Plan PlanFault → Result Wanted PlanFault
-wanted_by (Ok p) = Ok (wanted_of p)
-wanted_by (Err e) = Err e
+abbrev pub answer_view : Result Plan PlanFault → Result PlanView PlanFault
+answer_view (Ok p) = Ok (plan_view p)
+answer_view (Err e) = Err e
 
 -- the samples that are asked for
 abbrev pub samples_in : Found → Option ℕ
-samples_in f = number_of (2 ^ 64) f (codes "samples")
+samples_in f = number_in (2 ^ 64) f (codes "samples")
 
 -- the setting of these numbers and of the flags that were used
 abbrev pub setting_in : Found → ℕ → ℕ → ℕ → Result Parameters SettingFault
@@ -73,26 +73,26 @@ setting_in f bits block interval =
       pad = is_flagged f (codes "p");
     })
 
-abbrev pub judged : Found → List ℕ → List ℕ → Result Parameters SettingFault → Result Wanted PlanFault
-judged f source dest (Ok setting) = Ok (record {
+abbrev pub plan_with_setting : Found → List ℕ → List ℕ → Result Parameters SettingFault → Result PlanView PlanFault
+plan_with_setting f source dest (Ok setting) = Ok (record {
   setting = setting;
   decode = is_flagged f (codes "d");
   samples = samples_in f;
   source = source;
   dest = dest;
 })
-judged f source dest (Err e) = Err (fault.Setting e)
+plan_with_setting f source dest (Err e) = Err (fault.Setting e)
 
-abbrev pub settled : Found → Option ℕ → Option ℕ → Option ℕ → Option (List ℕ) → Option (List ℕ)
-    → Result Wanted PlanFault
-settled f (Some bits) (Some block) (Some interval) (Some source) (Some dest) =
-    judged f source dest (setting_in f bits block interval)
-settled f bits block interval source dest = Err fault.Unreadable
+abbrev pub plan_with_entries : Found → Option ℕ → Option ℕ → Option ℕ → Option (List ℕ) → Option (List ℕ)
+    → Result PlanView PlanFault
+plan_with_entries f (Some bits) (Some block) (Some interval) (Some source) (Some dest) =
+    plan_with_setting f source dest (setting_in f bits block interval)
+plan_with_entries f bits block interval source dest = Err fault.Unreadable
 
 -- the plan that the entries give, or the first reason to refuse them
-abbrev pub planned : Found → Result Wanted PlanFault
-planned f =
+abbrev pub plan_in : Found → Result PlanView PlanFault
+plan_in f =
     if is_some (samples_in f) && not (is_flagged f (codes "d")) then Err fault.SamplesWithoutDecode
-    else settled f (number_of (2 ^ 32) f (codes "n")) (number_of (2 ^ 32) f (codes "j"))
-    (number_of (2 ^ 32) f (codes "r")) (first_value f (codes "source"))
+    else plan_with_entries f (number_in (2 ^ 32) f (codes "n")) (number_in (2 ^ 32) f (codes "j"))
+    (number_in (2 ^ 32) f (codes "r")) (first_value f (codes "source"))
     (first_value f (codes "dest"))

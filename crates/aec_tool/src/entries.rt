@@ -1,7 +1,7 @@
 //! The entries of the parsed command line.
 ghost use Rattle.std.specs.Prelude.{◌≡◌, ◌^◌};
 ghost use Rattle.clap.specs.Words.{found_of};
-ghost use Rattle.aec_tool.specs.Plan.{is_flagged, number_of, planned, wanted_by};
+ghost use Rattle.aec_tool.specs.Plan.{is_flagged, number_in, plan_in, answer_view};
 
 use crate::plan::{Plan, PlanFault};
 use clap::ArgMatches;
@@ -16,14 +16,14 @@ fn is_used(matches: &ArgMatches<'_>, id: &str) -> bool
 
 /// The readable number of an option.
 fn number(matches: &ArgMatches<'_>, id: &str) -> Option<u32>
-    ensures { result ≡ number_of (2 ^ 32) (found_of matches.now) id.now }
+    ensures { result ≡ number_in (2 ^ 32) (found_of matches.now) id.now }
 {
     matches.get_one::<u32>(id)
 }
 
 /// The readable long number of an option.
 fn long_number(matches: &ArgMatches<'_>, id: &str) -> Option<u64>
-    ensures { result ≡ number_of (2 ^ 64) (found_of matches.now) id.now }
+    ensures { result ≡ number_in (2 ^ 64) (found_of matches.now) id.now }
 {
     matches.get_one::<u64>(id)
 }
@@ -31,7 +31,7 @@ fn long_number(matches: &ArgMatches<'_>, id: &str) -> Option<u64>
 /// The plan that the matches ask for. Refused, in this order, are `--samples` without `-d`, a missing or unreadable entry,
 /// and what `Setting::new` refuses.
 pub fn plan_of<'a>(matches: &ArgMatches<'a>) -> Result<Plan<'a>, PlanFault>
-    ensures { wanted_by result ≡ planned (found_of matches.now) }
+    ensures { answer_view result ≡ plan_in (found_of matches.now) }
 {
     let decode = is_used(matches, "d");
     let samples = long_number(matches, "samples");

@@ -1,7 +1,7 @@
 //! The engine that a plan asks for.
 ghost use Rattle.std.specs.Prelude.{◌≡◌, ◌+◌, ◌^◌, ◌<◌, true, false};
 ghost use Rattle.rice_stream.specs.Calls.{Call, Happens, Fails};
-ghost use Rattle.rice_stream.specs.Decodes.{Decodings, DecodesWithin};
+ghost use Rattle.rice_stream.specs.Decodes.{Decodes, DecodesWithin};
 ghost use Rattle.rice_stream.specs.Encodes.{Encodes, EncodesWithin};
 
 use crate::plan::Plan;
@@ -16,7 +16,7 @@ pub fn run<I: Intake, O: Outlet>(plan: &Plan<'_>, intake: I, outlet: &mut O) -> 
         Encodes plan.now.setting c result.0.report result.0.fault }
     ensures encodes_within { plan.now.decode ≡ false → EncodesWithin plan.now.setting result.0.report }
     ensures decodes { plan.now.decode ≡ true → (c : Call) × Happens (I.left intake) (I.left result.1) (O.taken outlet.old) (O.taken outlet.new) c ×
-        Decodings plan.now.setting plan.now.samples c result.0.report result.0.fault }
+        Decodes plan.now.setting plan.now.samples c result.0.report result.0.fault }
     ensures failures { Fails result.0.fault (I.failed intake) (I.failed result.1) (O.failed outlet.old) (O.failed outlet.new) }
     ensures decodes_within { plan.now.decode ≡ true → DecodesWithin plan.now.samples result.0.report }
 {

@@ -34,11 +34,11 @@ abbrev pub bits_to_byte : ℕ → ℕ
 bits_to_byte n = (8 - n % 8) % 8
 
 -- the bits with zeros up to a whole byte
-abbrev pub padded : List Bool → List Bool
-padded bits = bits ++ replicate (bits_to_byte (length bits)) false
+abbrev pub padded_bits : List Bool → List Bool
+padded_bits bits = bits ++ replicate (bits_to_byte (length bits)) false
 
 -- So many bits are gathered within a capacity in bytes, and zeros stand behind them.
-pub record IsGathered (capacity bits : ℕ) (bytes : List ℕ) : Type 0 where
+pub record IsBitSink (capacity bits : ℕ) (bytes : List ℕ) : Type 0 where
   pub room : bits ≤ 8 * capacity
   pub zeros : drop bits (bits_of bytes) ≡ replicate (8 * capacity - bits) false
   pub small : capacity < 2 ^ 32

@@ -9,9 +9,9 @@ abbrev pub CodesTo : Parameters → List ℤ → List ℕ → ℕ → Type 0
 CodesTo s xs bytes bits = (output s xs ≡ bytes) × (code_bits s xs ≡ bits)
 
 -- the numbers from `first` on, so many
-abbrev pub rising : ℕ → ℕ → List ℤ
-rising first count = map pos (range_with_len first count)
+abbrev pub numbers_from : ℕ → ℕ → List ℤ
+numbers_from first count = map pos (range_with_len first count)
 
 -- the list again and again, so many times
-abbrev pub repeated : ℕ → List ℤ → List ℤ
-repeated count xs = flat_map (λ _. xs) (range_with_len 0 count)
+abbrev pub repetition_of : ℕ → List ℤ → List ℤ
+repetition_of count xs = flat_map (λ _. xs) (range_with_len 0 count)

@@ -1,23 +1,23 @@
 -- What the coder looks at in order to code blocks. A look at a residual is a step.
 use Rattle.std.specs.Prelude.{ℕ, ◌+◌, ◌-◌, ◌*◌, min, if◌then◌else◌, List, sum_by, ℤ, pos}
 use Rattle.rice_samples.specs.Parameters.{Parameters, id_len, k_max}
-use Rattle.rice_code.specs.code.Blocks.{Contents, blocks_behind, is_zero}
+use Rattle.rice_code.specs.code.Blocks.{BlockData, blocks_of, is_zero_block}
 use Rattle.rice_code.specs.code.Choice.{best_split}
 use Rattle.rice_code.specs.code.Code.{code_bits}
 
 -- the least and the most looks at residuals that coding a block takes
-abbrev pub least_looks : Parameters → Contents → ℕ
-least_looks s c = if is_zero c then s.block else s.block * (best_split s c + 3) - 1
+abbrev pub least_looks : Parameters → BlockData → ℕ
+least_looks s c = if is_zero_block c then s.block else s.block * (best_split s c + 3) - 1
 
-abbrev pub most_looks : Parameters → Contents → ℕ
-most_looks s c = if is_zero c then s.block else s.block * (min (best_split s c + 1) (k_max s) + 5)
+abbrev pub most_looks : Parameters → BlockData → ℕ
+most_looks s c = if is_zero_block c then s.block else s.block * (min (best_split s c + 1) (k_max s) + 5)
 
 -- the same of all blocks of samples
 abbrev pub least_looks_at : Parameters → List ℤ → ℕ
-least_looks_at s xs = sum_by (least_looks s) (blocks_behind s 0 (pos 0) xs)
+least_looks_at s xs = sum_by (least_looks s) (blocks_of s 0 (pos 0) xs)
 
 abbrev pub most_looks_at : Parameters → List ℤ → ℕ
-most_looks_at s xs = sum_by (most_looks s) (blocks_behind s 0 (pos 0) xs)
+most_looks_at s xs = sum_by (most_looks s) (blocks_of s 0 (pos 0) xs)
 
 -- the least and the most steps of coding samples, those for the samples aside: a step is a bit put, padding aside, or a look
 abbrev pub least_steps : Parameters → List ℤ → ℕ

@@ -7,3 +7,4 @@ pub mod Decoded
 pub mod Forms
 pub mod Layout
 pub mod Runs
+pub mod SoundBlocks

@@ -1,5 +1,6 @@
 -- What contracts see of the decoder, and what its parts say to each other.
 pub mod Decoder
+pub mod DecoderState
 pub mod Fields
 pub mod ReadSets
 pub mod Restored

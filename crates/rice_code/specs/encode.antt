@@ -3,3 +3,4 @@ pub mod BitBuffer
 pub mod Chosen
 pub mod Coder
 pub mod HeldBlocks
+pub mod OpenSegment

@@ -3,7 +3,7 @@ ghost use Rattle.std.specs.Prelude.{[], ◌∷◌, ◌++◌, replicate, ℤ, pos
 ghost use Rattle.rice_bits.specs.Bits.{bits_of};
 ghost use Rattle.rice_samples.specs.Examples.{defaults, unprocessed_defaults, one_bit_defaults};
 ghost use Rattle.rice_code.specs.code.Decoded.{Decoded, Reached, Ended, CutOff, Past, Large};
-ghost use Rattle.rice_code.specs.Examples.{rising};
+ghost use Rattle.rice_code.specs.Examples.{numbers_from};
 
 /// No bytes are no samples, and a clean end.
 pub fn decodes_no_bytes()
@@ -29,7 +29,7 @@ pub fn decodes_nothing_that_is_not_asked_for()
 
 /// Another split than the coder takes.
 pub fn decodes_another_split()
-    ensures { Decoded defaults (bits_of (0x40 ∷ 0x15 ∷ 0x55 ∷ 0x80 ∷ [])) None (rising 0 8) Ended 32 }
+    ensures { Decoded defaults (bits_of (0x40 ∷ 0x15 ∷ 0x55 ∷ 0x80 ∷ [])) None (numbers_from 0 8) Ended 32 }
 {}
 
 /// The greatest split, of samples that have fewer bits.

@@ -4,11 +4,11 @@
 ghost use Rattle.std.specs.Prelude.{◌≡◌, [], ◌∷◌, ◌++◌, length, replicate, ℤ, pos, negsuc, true, false, None, Some};
 ghost use Rattle.rice_bits.specs.Bits.{fundamental_sequence};
 ghost use Rattle.rice_samples.specs.Examples.{defaults, signed_defaults, unprocessed_defaults, one_bit_defaults};
-ghost use Rattle.rice_code.specs.code.Blocks.{contents};
+ghost use Rattle.rice_code.specs.code.Blocks.{block_data};
 ghost use Rattle.rice_code.specs.Bounds.{bit_bound, padded_bound, step_bound};
 ghost use Rattle.rice_code.specs.code.Code.{code, code_bits, early_output};
-ghost use Rattle.rice_code.specs.code.CodedDataSets.{cost, text, run_number, NoCompression, SecondExtension, Split, ZeroBlocks, RemainderOfSegment};
-ghost use Rattle.rice_code.specs.Examples.{CodesTo, rising, repeated};
+ghost use Rattle.rice_code.specs.code.CodedDataSets.{cost, bits_of_set, run_number, NoCompression, SecondExtension, Split, ZeroBlocks, RemainderOfSegment};
+ghost use Rattle.rice_code.specs.Examples.{CodesTo, numbers_from, repetition_of};
 
 /// No samples have no code.
 pub fn no_samples()
@@ -27,17 +27,17 @@ pub fn one_sample()
 
 /// Of two equally short splits the smaller one is taken.
 pub fn tie_of_two_splits()
-    ensures { CodesTo defaults (rising 0 8) (0x20 ∷ 0x09 ∷ 0x24 ∷ 0x92 ∷ []) 31 }
+    ensures { CodesTo defaults (numbers_from 0 8) (0x20 ∷ 0x09 ∷ 0x24 ∷ 0x92 ∷ []) 31 }
 {}
 
 /// Samples far from each other go without compression: no block is longer.
 pub fn no_compression()
-    ensures { CodesTo defaults (repeated 4 (pos 0 ∷ pos 255 ∷ [])) (0xE0 ∷ 0x1F ∷ 0xFF ∷ 0xFF ∷ 0xFF ∷ 0xFF ∷ 0xFF ∷ 0xFF ∷ 0xE0 ∷ []) 67 }
+    ensures { CodesTo defaults (repetition_of 4 (pos 0 ∷ pos 255 ∷ [])) (0xE0 ∷ 0x1F ∷ 0xFF ∷ 0xFF ∷ 0xFF ∷ 0xFF ∷ 0xFF ∷ 0xFF ∷ 0xE0 ∷ []) 67 }
 {}
 
 /// The same with signed samples, whose reference is sent in two's complement.
 pub fn no_compression_of_signed_samples()
-    ensures { CodesTo signed_defaults (repeated 4 (negsuc 127 ∷ pos 127 ∷ [])) (0xF0 ∷ 0x1F ∷ 0xFF ∷ 0xFF ∷ 0xFF ∷ 0xFF ∷ 0xFF ∷ 0xFF ∷ 0xE0 ∷ []) 67 }
+    ensures { CodesTo signed_defaults (repetition_of 4 (negsuc 127 ∷ pos 127 ∷ [])) (0xF0 ∷ 0x1F ∷ 0xFF ∷ 0xFF ∷ 0xFF ∷ 0xFF ∷ 0xFF ∷ 0xFF ∷ 0xE0 ∷ []) 67 }
 {}
 
 /// A few small residuals go in pairs.
@@ -48,7 +48,7 @@ pub fn second_extension()
 /// Where second extension and a split are equally short, second extension is taken.
 pub fn tie_of_second_extension_and_split()
     ensures behind_a_run { CodesTo defaults (replicate 11 (pos 5) ++ pos 4 ∷ pos 4 ∷ pos 3 ∷ pos 3 ∷ pos 2 ∷ []) (0x00 ∷ 0x58 ∷ 0xC9 ∷ 0x20 ∷ []) 27 }
-    ensures unprocessed { CodesTo unprocessed_defaults (pos 0 ∷ pos 0 ∷ repeated 3 (pos 0 ∷ pos 1 ∷ [])) (0x19 ∷ 0x24 ∷ []) 14 }
+    ensures unprocessed { CodesTo unprocessed_defaults (pos 0 ∷ pos 0 ∷ repetition_of 3 (pos 0 ∷ pos 1 ∷ [])) (0x19 ∷ 0x24 ∷ []) 14 }
 {}
 
 /// A run that reaches the last block is the remainder of its segment, where it has five blocks or more, the last one filled.
@@ -99,7 +99,7 @@ pub fn signed_samples()
 
 /// Samples of one bit.
 pub fn one_bit()
-    ensures { CodesTo one_bit_defaults (repeated 4 (pos 0 ∷ pos 1 ∷ [])) (0xEF ∷ 0xE0 ∷ []) 11 }
+    ensures { CodesTo one_bit_defaults (repetition_of 4 (pos 0 ∷ pos 1 ∷ [])) (0xEF ∷ 0xE0 ∷ []) 11 }
 {}
 
 /// Identifiers of five bits and of six, and references of 16, 24 and 32.
@@ -117,7 +117,7 @@ pub fn larger_blocks()
 /// Without preprocessing there is no reference, and residuals are the samples' patterns.
 pub fn no_preprocessing()
     ensures second { CodesTo unprocessed_defaults (replicate 7 (pos 0) ++ pos 1 ∷ []) (0x1E ∷ 0x40 ∷ []) 10 }
-    ensures words { CodesTo unprocessed_defaults (rising 0xF0 8) (0xFE ∷ 0x1E ∷ 0x3E ∷ 0x5E ∷ 0x7E ∷ 0x9E ∷ 0xBE ∷ 0xDE ∷ 0xE0 ∷ []) 67 }
+    ensures words { CodesTo unprocessed_defaults (numbers_from 0xF0 8) (0xFE ∷ 0x1E ∷ 0x3E ∷ 0x5E ∷ 0x7E ∷ 0x9E ∷ 0xBE ∷ 0xDE ∷ 0xE0 ∷ []) 67 }
     ensures filled { CodesTo unprocessed_defaults (pos 0xF0 ∷ []) (0xFE ∷ replicate 7 0x1E ++ 0x00 ∷ []) 67 }
     ensures nine_bits { CodesTo (record unprocessed_defaults { bits = 9; msb = true }) (replicate 8 (pos 511)) (replicate 9 0xFF ++ 0xF0 ∷ []) 76 }
     ensures signed { CodesTo (record signed_defaults { bits = 4; preprocess = false }) (negsuc 0 ∷ []) (replicate 4 0xFF ++ 0xE0 ∷ []) 35 }
@@ -160,56 +160,56 @@ pub fn early_outputs()
 
 /// Identifiers of no compression, split 0, split 5, second extension and a run, where samples have eight bits.
 pub fn identifiers()
-    ensures no_compression { text defaults (NoCompression (record { reference = None; residuals = [] })) ≡ true ∷ true ∷ true ∷ [] }
-    ensures first_split { text defaults (Split 0 (record { reference = None; residuals = [] })) ≡ false ∷ false ∷ true ∷ [] }
-    ensures last_split { text defaults (Split 5 (record { reference = None; residuals = [] })) ≡ true ∷ true ∷ false ∷ [] }
-    ensures second_extension { text defaults (SecondExtension (record { reference = None; residuals = [] })) ≡ false ∷ false ∷ false ∷ true ∷ [] }
-    ensures run { text defaults (ZeroBlocks None 1) ≡ false ∷ false ∷ false ∷ false ∷ true ∷ [] }
+    ensures no_compression { bits_of_set defaults (NoCompression (record { reference = None; residuals = [] })) ≡ true ∷ true ∷ true ∷ [] }
+    ensures first_split { bits_of_set defaults (Split 0 (record { reference = None; residuals = [] })) ≡ false ∷ false ∷ true ∷ [] }
+    ensures last_split { bits_of_set defaults (Split 5 (record { reference = None; residuals = [] })) ≡ true ∷ true ∷ false ∷ [] }
+    ensures second_extension { bits_of_set defaults (SecondExtension (record { reference = None; residuals = [] })) ≡ false ∷ false ∷ false ∷ true ∷ [] }
+    ensures run { bits_of_set defaults (ZeroBlocks None 1) ≡ false ∷ false ∷ false ∷ false ∷ true ∷ [] }
 {}
 
 /// The codewords of runs: one less up to four, then the number itself, which leaves four zeros for the remainder of a segment.
 pub fn run_codewords()
     ensures one { run_number 1 ≡ 0 }
     ensures four { run_number 4 ≡ 3 }
-    ensures remainder { text defaults (RemainderOfSegment None) ≡ replicate 4 false ++ fundamental_sequence 4 }
+    ensures remainder { bits_of_set defaults (RemainderOfSegment None) ≡ replicate 4 false ++ fundamental_sequence 4 }
     ensures five { run_number 5 ≡ 5 }
     ensures most { run_number 63 ≡ 63 }
 {}
 
 /// The costs of some blocks. Rising samples behind a reference:
 pub fn costs_of_rising_samples()
-    ensures first_split { cost defaults (Split 0 (contents defaults 0 (pos 0) (rising 0 8))) ≡ 31 }
-    ensures second_split { cost defaults (Split 1 (contents defaults 0 (pos 0) (rising 0 8))) ≡ 31 }
-    ensures third_split { cost defaults (Split 2 (contents defaults 0 (pos 0) (rising 0 8))) ≡ 32 }
-    ensures second_extension { cost defaults (SecondExtension (contents defaults 0 (pos 0) (rising 0 8))) ≡ 54 }
-    ensures no_compression { cost defaults (NoCompression (contents defaults 0 (pos 0) (rising 0 8))) ≡ 67 }
+    ensures first_split { cost defaults (Split 0 (block_data defaults 0 (pos 0) (numbers_from 0 8))) ≡ 31 }
+    ensures second_split { cost defaults (Split 1 (block_data defaults 0 (pos 0) (numbers_from 0 8))) ≡ 31 }
+    ensures third_split { cost defaults (Split 2 (block_data defaults 0 (pos 0) (numbers_from 0 8))) ≡ 32 }
+    ensures second_extension { cost defaults (SecondExtension (block_data defaults 0 (pos 0) (numbers_from 0 8))) ≡ 54 }
+    ensures no_compression { cost defaults (NoCompression (block_data defaults 0 (pos 0) (numbers_from 0 8))) ≡ 67 }
 {}
 
 /// One residual of 1 behind seven of 0:
 pub fn costs_of_a_last_step()
-    ensures first_split { cost defaults (Split 0 (contents defaults 1 (pos 5) (replicate 7 (pos 5) ++ pos 4 ∷ []))) ≡ 12 }
-    ensures second_split { cost defaults (Split 1 (contents defaults 1 (pos 5) (replicate 7 (pos 5) ++ pos 4 ∷ []))) ≡ 19 }
-    ensures third_split { cost defaults (Split 2 (contents defaults 1 (pos 5) (replicate 7 (pos 5) ++ pos 4 ∷ []))) ≡ 27 }
-    ensures second_extension { cost defaults (SecondExtension (contents defaults 1 (pos 5) (replicate 7 (pos 5) ++ pos 4 ∷ []))) ≡ 10 }
-    ensures no_compression { cost defaults (NoCompression (contents defaults 1 (pos 5) (replicate 7 (pos 5) ++ pos 4 ∷ []))) ≡ 67 }
+    ensures first_split { cost defaults (Split 0 (block_data defaults 1 (pos 5) (replicate 7 (pos 5) ++ pos 4 ∷ []))) ≡ 12 }
+    ensures second_split { cost defaults (Split 1 (block_data defaults 1 (pos 5) (replicate 7 (pos 5) ++ pos 4 ∷ []))) ≡ 19 }
+    ensures third_split { cost defaults (Split 2 (block_data defaults 1 (pos 5) (replicate 7 (pos 5) ++ pos 4 ∷ []))) ≡ 27 }
+    ensures second_extension { cost defaults (SecondExtension (block_data defaults 1 (pos 5) (replicate 7 (pos 5) ++ pos 4 ∷ []))) ≡ 10 }
+    ensures no_compression { cost defaults (NoCompression (block_data defaults 1 (pos 5) (replicate 7 (pos 5) ++ pos 4 ∷ []))) ≡ 67 }
 {}
 
 /// Three residuals of 1:
 pub fn costs_of_three_steps()
-    ensures first_split { cost defaults (Split 0 (contents defaults 1 (pos 5) (pos 5 ∷ pos 5 ∷ pos 5 ∷ pos 4 ∷ pos 4 ∷ pos 3 ∷ pos 3 ∷ pos 2 ∷ []))) ≡ 14 }
-    ensures second_split { cost defaults (Split 1 (contents defaults 1 (pos 5) (pos 5 ∷ pos 5 ∷ pos 5 ∷ pos 4 ∷ pos 4 ∷ pos 3 ∷ pos 3 ∷ pos 2 ∷ []))) ≡ 19 }
-    ensures third_split { cost defaults (Split 2 (contents defaults 1 (pos 5) (pos 5 ∷ pos 5 ∷ pos 5 ∷ pos 4 ∷ pos 4 ∷ pos 3 ∷ pos 3 ∷ pos 2 ∷ []))) ≡ 27 }
-    ensures second_extension { cost defaults (SecondExtension (contents defaults 1 (pos 5) (pos 5 ∷ pos 5 ∷ pos 5 ∷ pos 4 ∷ pos 4 ∷ pos 3 ∷ pos 3 ∷ pos 2 ∷ []))) ≡ 14 }
-    ensures no_compression { cost defaults (NoCompression (contents defaults 1 (pos 5) (pos 5 ∷ pos 5 ∷ pos 5 ∷ pos 4 ∷ pos 4 ∷ pos 3 ∷ pos 3 ∷ pos 2 ∷ []))) ≡ 67 }
+    ensures first_split { cost defaults (Split 0 (block_data defaults 1 (pos 5) (pos 5 ∷ pos 5 ∷ pos 5 ∷ pos 4 ∷ pos 4 ∷ pos 3 ∷ pos 3 ∷ pos 2 ∷ []))) ≡ 14 }
+    ensures second_split { cost defaults (Split 1 (block_data defaults 1 (pos 5) (pos 5 ∷ pos 5 ∷ pos 5 ∷ pos 4 ∷ pos 4 ∷ pos 3 ∷ pos 3 ∷ pos 2 ∷ []))) ≡ 19 }
+    ensures third_split { cost defaults (Split 2 (block_data defaults 1 (pos 5) (pos 5 ∷ pos 5 ∷ pos 5 ∷ pos 4 ∷ pos 4 ∷ pos 3 ∷ pos 3 ∷ pos 2 ∷ []))) ≡ 27 }
+    ensures second_extension { cost defaults (SecondExtension (block_data defaults 1 (pos 5) (pos 5 ∷ pos 5 ∷ pos 5 ∷ pos 4 ∷ pos 4 ∷ pos 3 ∷ pos 3 ∷ pos 2 ∷ []))) ≡ 14 }
+    ensures no_compression { cost defaults (NoCompression (block_data defaults 1 (pos 5) (pos 5 ∷ pos 5 ∷ pos 5 ∷ pos 4 ∷ pos 4 ∷ pos 3 ∷ pos 3 ∷ pos 2 ∷ []))) ≡ 67 }
 {}
 
 /// Falling signed samples behind a reference:
 pub fn costs_of_signed_samples()
-    ensures first_split { cost signed_defaults (Split 0 (contents signed_defaults 0 (pos 0) (pos 0 ∷ negsuc 0 ∷ negsuc 1 ∷ negsuc 2 ∷ negsuc 3 ∷ negsuc 4 ∷ negsuc 5 ∷ negsuc 6 ∷ []))) ≡ 25 }
-    ensures second_split { cost signed_defaults (Split 1 (contents signed_defaults 0 (pos 0) (pos 0 ∷ negsuc 0 ∷ negsuc 1 ∷ negsuc 2 ∷ negsuc 3 ∷ negsuc 4 ∷ negsuc 5 ∷ negsuc 6 ∷ []))) ≡ 25 }
-    ensures third_split { cost signed_defaults (Split 2 (contents signed_defaults 0 (pos 0) (pos 0 ∷ negsuc 0 ∷ negsuc 1 ∷ negsuc 2 ∷ negsuc 3 ∷ negsuc 4 ∷ negsuc 5 ∷ negsuc 6 ∷ []))) ≡ 32 }
-    ensures second_extension { cost signed_defaults (SecondExtension (contents signed_defaults 0 (pos 0) (pos 0 ∷ negsuc 0 ∷ negsuc 1 ∷ negsuc 2 ∷ negsuc 3 ∷ negsuc 4 ∷ negsuc 5 ∷ negsuc 6 ∷ []))) ≡ 30 }
-    ensures no_compression { cost signed_defaults (NoCompression (contents signed_defaults 0 (pos 0) (pos 0 ∷ negsuc 0 ∷ negsuc 1 ∷ negsuc 2 ∷ negsuc 3 ∷ negsuc 4 ∷ negsuc 5 ∷ negsuc 6 ∷ []))) ≡ 67 }
+    ensures first_split { cost signed_defaults (Split 0 (block_data signed_defaults 0 (pos 0) (pos 0 ∷ negsuc 0 ∷ negsuc 1 ∷ negsuc 2 ∷ negsuc 3 ∷ negsuc 4 ∷ negsuc 5 ∷ negsuc 6 ∷ []))) ≡ 25 }
+    ensures second_split { cost signed_defaults (Split 1 (block_data signed_defaults 0 (pos 0) (pos 0 ∷ negsuc 0 ∷ negsuc 1 ∷ negsuc 2 ∷ negsuc 3 ∷ negsuc 4 ∷ negsuc 5 ∷ negsuc 6 ∷ []))) ≡ 25 }
+    ensures third_split { cost signed_defaults (Split 2 (block_data signed_defaults 0 (pos 0) (pos 0 ∷ negsuc 0 ∷ negsuc 1 ∷ negsuc 2 ∷ negsuc 3 ∷ negsuc 4 ∷ negsuc 5 ∷ negsuc 6 ∷ []))) ≡ 32 }
+    ensures second_extension { cost signed_defaults (SecondExtension (block_data signed_defaults 0 (pos 0) (pos 0 ∷ negsuc 0 ∷ negsuc 1 ∷ negsuc 2 ∷ negsuc 3 ∷ negsuc 4 ∷ negsuc 5 ∷ negsuc 6 ∷ []))) ≡ 30 }
+    ensures no_compression { cost signed_defaults (NoCompression (block_data signed_defaults 0 (pos 0) (pos 0 ∷ negsuc 0 ∷ negsuc 1 ∷ negsuc 2 ∷ negsuc 3 ∷ negsuc 4 ∷ negsuc 5 ∷ negsuc 6 ∷ []))) ≡ 67 }
 {}
 
 /// The bounds on bits and steps.

@@ -1,7 +1,7 @@
 //! Worked examples of the definitions, which the check computes.
 ghost use Rattle.std.specs.Prelude.{◌≡◌, ◌≢◌, [], ◌∷◌, ℤ, pos, negsuc, true, false};
 ghost use Rattle.rice_samples.specs.Parameters.{IsSample, id_len, k_max, width};
-ghost use Rattle.rice_samples.specs.Places.{segment_blocks, blocks_left, has_reference, cut};
+ghost use Rattle.rice_samples.specs.Places.{segment_blocks, blocks_left, is_reference, cut};
 ghost use Rattle.rice_samples.specs.predict.Residuals.{rank, pattern, residual_list};
 ghost use Rattle.rice_samples.specs.blocks.Pairs.{pair_code};
 ghost use Rattle.rice_samples.specs.bytes.Spelling.{spelling};
@@ -89,9 +89,9 @@ pub fn segments_of_an_interval()
     ensures third { segment_blocks (record defaults { interval = 130 }) 128 ≡ 2 }
     ensures next { segment_blocks (record defaults { interval = 130 }) 130 ≡ 64 }
     ensures last { blocks_left (record defaults { interval = 130 }) 129 ≡ 1 }
-    ensures reference { has_reference (record defaults { interval = 130 }) 130 ≡ true }
-    ensures no_reference { has_reference (record defaults { interval = 130 }) 64 ≡ false }
-    ensures unprocessed { has_reference unprocessed_defaults 0 ≡ false }
+    ensures reference { is_reference (record defaults { interval = 130 }) 130 ≡ true }
+    ensures no_reference { is_reference (record defaults { interval = 130 }) 64 ≡ false }
+    ensures unprocessed { is_reference unprocessed_defaults 0 ≡ false }
 {}
 
 /// Samples wait until their segment is whole.

@@ -1,7 +1,7 @@
 //! What coder and decoder are set to.
 ghost use Rattle.std.specs.Prelude.{◌≡◌, ◌⊎◌, ℕ, ◌+◌, ◌-◌, ◌*◌, ◌%◌, ◌^◌, ◌<◌, ◌≤◌, ◌↔◌, IsTrue, IsOk, IfErr, ℤ};
 ghost use Rattle.rice_samples.specs.Parameters.{Parameters, IsLegal, IsSample, id_len, k_max, width, value_count, least, level, level as level_of};
-ghost use Rattle.rice_samples.specs.Places.{segment_blocks, blocks_left, has_reference};
+ghost use Rattle.rice_samples.specs.Places.{segment_blocks, blocks_left, is_reference};
 ghost use Rattle.rice_samples.specs.blocks.Sizes.{IsBlockSize};
 ghost use Rattle.rice_samples.specs.Settings.{parameters, setting_of, IsRefused};
 ghost use Rattle.rice_samples.specs.bytes.Values.{offset};
@@ -192,7 +192,7 @@ impl Setting {
     /// Whether the first sample of block `b` is a reference sample. Never without preprocessing.
     #[inline]
     pub fn is_reference(&self, b: u64) -> bool
-        ensures { result ≡ has_reference self.now b }
+        ensures { result ≡ is_reference self.now b }
     {
         self.preprocess && self.place(b) == 0
     }

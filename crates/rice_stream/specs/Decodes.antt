@@ -14,8 +14,8 @@ use Rattle.rice_code.specs.declared.decode.fault.CodeFault.{CodeFault}
 use Rattle.rice_code.specs.declared.decode.fault.CodeFault.TheVariants as codes
 
 -- the bytes decode so, and these samples and bits are what the call left
-abbrev pub Decodes : Parameters → Option ℕ → Call → Report → List ℕ → List ℤ → Ending → Type 0
-Decodes s asked c r bytes ys ending = (used : ℕ) × Decoded s (bits_of bytes) asked ys ending used × Leaves c r (spellings s ys) (length ys) used
+abbrev pub DecodesBytes : Parameters → Option ℕ → Call → Report → List ℕ → List ℤ → Ending → Type 0
+DecodesBytes s asked c r bytes ys ending = (used : ℕ) × Decoded s (bits_of bytes) asked ys ending used × Leaves c r (spellings s ys) (length ys) used
 
 -- no whole coded data set is left
 abbrev pub RunsOut : Ending → Type 0
@@ -36,22 +36,22 @@ pub record FailsInBlock (s : Parameters) (asked : Option ℕ) (c : Call) (r : Re
   pub stops : StopsBetween (spellings s (take r.samples ys)) (spellings s ys) c.written
 
 -- The samples, and how decoding ends. A coded data set that is refused begins with the block behind the samples.
-abbrev pub EndsSo : Parameters → Option ℕ → Option Fault → Call → Report → List ℤ → Ending → Type 0
-EndsSo s asked None c r ys ending = Decodes s asked c r c.given ys ending × ((ending ≡ Reached) ⊎ ((ending ≡ Ended) × (asked ≡ None) × IsAtEnd c.left))
-EndsSo s asked (Some (CodeEnds samples)) c r ys ending =
-    Decodes s asked c r c.given ys ending × ((ending ≡ CutOff) ⊎ ((ending ≡ Ended) × IsSome asked)) × IsAtEnd c.left × (samples ≡ length ys)
-EndsSo s asked (Some (RunPastSegment block)) c r ys ending = Decodes s asked c r c.given ys ending × (ending ≡ Past) × (length ys ≡ s.block * block)
-EndsSo s asked (Some (ResidualTooLarge block)) c r ys ending = Decodes s asked c r c.given ys ending × (ending ≡ Large) × (length ys ≡ s.block * block)
-EndsSo s asked (Some Read) c r ys ending = Decodes s asked c r c.given ys ending × RunsOut ending
-EndsSo s asked (Some TooLong) c r ys ending = ((front : List ℕ) × PassesLimit (2 ^ 49) c.given front × Decodes s asked c r front ys ending) × RunsOut ending
-EndsSo s asked (Some Write) c r ys ending = FailsInBlock s asked c r ys × (ending ≡ Reached)
-EndsSo s asked (Some _) c r ys ending = ⊥
+abbrev pub EndsDecoding : Parameters → Option ℕ → Option Fault → Call → Report → List ℤ → Ending → Type 0
+EndsDecoding s asked None c r ys ending = DecodesBytes s asked c r c.given ys ending × ((ending ≡ Reached) ⊎ ((ending ≡ Ended) × (asked ≡ None) × IsAtEnd c.left))
+EndsDecoding s asked (Some (CodeEnds samples)) c r ys ending =
+    DecodesBytes s asked c r c.given ys ending × ((ending ≡ CutOff) ⊎ ((ending ≡ Ended) × IsSome asked)) × IsAtEnd c.left × (samples ≡ length ys)
+EndsDecoding s asked (Some (RunPastSegment block)) c r ys ending = DecodesBytes s asked c r c.given ys ending × (ending ≡ Past) × (length ys ≡ s.block * block)
+EndsDecoding s asked (Some (ResidualTooLarge block)) c r ys ending = DecodesBytes s asked c r c.given ys ending × (ending ≡ Large) × (length ys ≡ s.block * block)
+EndsDecoding s asked (Some Read) c r ys ending = DecodesBytes s asked c r c.given ys ending × RunsOut ending
+EndsDecoding s asked (Some TooLong) c r ys ending = ((front : List ℕ) × PassesLimit (2 ^ 49) c.given front × DecodesBytes s asked c r front ys ending) × RunsOut ending
+EndsDecoding s asked (Some Write) c r ys ending = FailsInBlock s asked c r ys × (ending ≡ Reached)
+EndsDecoding s asked (Some _) c r ys ending = ⊥
 
 -- what the call did, for each outcome
-pub record Decodings (s : Parameters) (asked : Option ℕ) (c : Call) (r : Report) (fault : Option Fault) : Type 0 where
+pub record Decodes (s : Parameters) (asked : Option ℕ) (c : Call) (r : Report) (fault : Option Fault) : Type 0 where
   pub samples : List ℤ
   pub ending : Ending
-  pub ends : EndsSo s asked fault c r samples ending
+  pub ends : EndsDecoding s asked fault c r samples ending
   pub ahead : length c.given ≤ r.bits / 8 + 4096
 
 -- the report's bounds, at every exit

@@ -7,25 +7,25 @@ use Rattle.rice_samples.specs.Parameters.{Parameters, IsSample}
 use Rattle.rice_samples.specs.Places.{place}
 use Rattle.rice_samples.specs.predict.Residuals.{last_of}
 use Rattle.rice_samples.specs.bytes.Spelling.{spellings}
-use Rattle.rice_code.specs.code.Blocks.{blocks_from, zeros}
-use Rattle.rice_code.specs.code.Decoded.{Decoded, DecodedFrom, Ending, GoesOn, cut_to}
-use Rattle.rice_code.specs.decode.Decoder.{Place}
-use Rattle.rice_code.specs.encode.HeldBlocks.{AreSoundBlocks}
+use Rattle.rice_code.specs.code.Blocks.{blocks_from, zero_block}
+use Rattle.rice_code.specs.code.Decoded.{Decoded, DecodedFrom, Ending, IsWanted, cut_to}
+use Rattle.rice_code.specs.decode.DecoderState.{DecoderState}
+use Rattle.rice_code.specs.code.SoundBlocks.{AreSoundBlocks}
 
 -- samples of so many blocks of zeros, from this block on, behind p
-pub record OfRun (s : Parameters) (block : ℕ) (p : ℤ) (run : ℕ) (samples : List ℤ) : Type 0 where
+pub record AreOfRun (s : Parameters) (block : ℕ) (p : ℤ) (run : ℕ) (samples : List ℤ) : Type 0 where
   pub len : length samples ≡ s.block * run
   pub legal : All (IsSample s) samples
-  pub blocks : blocks_from s block p run samples ≡ replicate run (zeros s None)
+  pub blocks : blocks_from s block p run samples ≡ replicate run (zero_block s None)
 
 -- The bits so far are coded data sets that begin before block `begun`. The samples of so many blocks were given, and so
 -- many blocks of a run are still to come: whatever follows these bits, and however many samples are wanted, decoding
 -- gives these samples first, then those of the run, and then goes on.
-pub record Behind (s : Parameters) (front : List Bool) (begun blocks run : ℕ) (given : List ℤ) : Type 0 where
+pub record DecodedSoFar (s : Parameters) (front : List Bool) (begun blocks run : ℕ) (given : List ℤ) : Type 0 where
   pub len : length given ≡ s.block * blocks
   pub legal : All (IsSample s) given
-  pub sound : AreSoundBlocks s blocks (replicate run (zeros s None))
-  pub goes_on : (wanted : Option ℕ) (more : List ℤ) (rest : List Bool) (ys : List ℤ) (ending : Ending) (used : ℕ) → ((i : ℕ) → i < begun → GoesOn s wanted i) → OfRun s blocks (last_of (pos 0) given) run more →
+  pub sound : AreSoundBlocks s blocks (replicate run (zero_block s None))
+  pub goes_on : (wanted : Option ℕ) (more : List ℤ) (rest : List Bool) (ys : List ℤ) (ending : Ending) (used : ℕ) → ((i : ℕ) → i < begun → IsWanted s wanted i) → AreOfRun s blocks (last_of (pos 0) given) run more →
       DecodedFrom s (blocks + run) (length front) (last_of (pos 0) (given ++ more)) rest wanted ys ending used → Decoded s (front ++ rest) wanted (cut_to s wanted 0 (given ++ more) ++ ys) ending (length front + used)
 
 -- One block more was given, for which these bits were taken.
@@ -38,10 +38,10 @@ pub record Gains {I : Type 0} (left : I → Option (List ℕ)) (failed : I → �
   pub len : length samples ≡ s.block
   pub begun : ℕ
   pub before : begun ≤ blocks + 1
-  pub behind : Behind s (front ++ bits) begun (blocks + 1) run (given ++ samples)
+  pub behind : DecodedSoFar s (front ++ bits) begun (blocks + 1) run (given ++ samples)
 
 -- Blocks were given so far, and their samples are written, cut to those that were asked for.
-pub record RunsOn {I : Type 0} (left : I → Option (List ℕ)) (failed : I → ℕ) (s : Parameters) (asked : Option ℕ) (start : I) (out_old out : Option (List ℕ)) (p : Place) (r : Reader I) (steps written : ℕ) : Type 0 where
+pub record DecodingProgress {I : Type 0} (left : I → Option (List ℕ)) (failed : I → ℕ) (s : Parameters) (asked : Option ℕ) (start : I) (out_old out : Option (List ℕ)) (p : DecoderState) (r : Reader I) (steps written : ℕ) : Type 0 where
   pub blocks : ℕ
   pub bytes : List ℕ
   pub front : List Bool
@@ -57,8 +57,8 @@ pub record RunsOn {I : Type 0} (left : I → Option (List ℕ)) (failed : I → 
   pub limit : r.taken ≤ 4503599627370496
   pub begun : ℕ
   pub before : begun ≤ blocks
-  pub behind : Behind s front begun blocks p.run given
-  pub wanted : (i : ℕ) → i < blocks → GoesOn s asked i
+  pub behind : DecodedSoFar s front begun blocks p.run given
+  pub wanted : (i : ℕ) → i < blocks → IsWanted s asked i
   pub count : written ≡ length (cut_to s asked 0 given)
   pub few : written + p.run * s.block ≤ 456 * r.taken
   pub asked_for : IfSome asked (λ n. written ≤ n)

@@ -2,10 +2,10 @@
 use Rattle.std.specs.Prelude.{◌≡◌, ◌≢◌, ℕ, ◌+◌, ◌-◌, ◌*◌, ◌^◌, ◌<◌, ◌≤◌, ◌⊎◌, List, ◌++◌, length, take, All, Option, Some, None, ℤ}
 use Rattle.std.specs.Io.KnownBytes.{IsAtEnd}
 use Rattle.rice_samples.specs.Parameters.{Parameters, IsSample, width}
-use Rattle.rice_samples.specs.bytes.Spelling.{Spells, spellings, Stop, AtEnd, NoSpelling, TooFew}
+use Rattle.rice_samples.specs.bytes.Spelling.{Spells, spellings, SpellingEnd, AtEnd, NoSpelling, TooFew}
 use Rattle.rice_code.specs.Bounds.{bit_bound, step_bound, amortised_step_bound}
 use Rattle.rice_code.specs.code.Code.{code_bits, output, early_output}
-use Rattle.rice_code.specs.encode.Coder.{settled}
+use Rattle.rice_code.specs.encode.Coder.{complete_samples}
 use Rattle.rice_stream.specs.Calls.{Call, Leaves, StopsBetween, PassesLimit}
 use Rattle.rice_stream.specs.declared.outcome.Report.{Report}
 use Rattle.rice_stream.specs.declared.outcome.Fault.{Fault}
@@ -24,14 +24,14 @@ module _ (s : Parameters) where
 
   -- the samples are coded as far as they make whole segments
   abbrev pub LeavesEarly : Call → Report → List ℤ → Type 0
-  LeavesEarly c r xs = Leaves c r (early_output s xs) (length xs) (code_bits s (settled s xs))
+  LeavesEarly c r xs = Leaves c r (early_output s xs) (length xs) (code_bits s (complete_samples s xs))
 
   -- The outlet failed behind the last of these samples: all before it is written, and not all that it completes.
   pub record FailsBehind (c : Call) (r : Report) (xs : List ℤ) : Type 0 where
     pub given : BeginsWith s c.given xs
     pub some : 1 ≤ length xs
     pub samples : r.samples ≡ length xs
-    pub bits : r.bits ≡ code_bits s (settled s xs)
+    pub bits : r.bits ≡ code_bits s (complete_samples s xs)
     pub stops : StopsBetween (early_output s (take (length xs - 1) xs)) (early_output s xs) c.written
 
   -- The outlet failed at the end of these samples: all before it is written, and not all of the code.
@@ -43,18 +43,18 @@ module _ (s : Parameters) where
     pub stops : StopsBetween (early_output s xs) (output s xs) c.written
 
   -- The outcome for the samples xs. Without a fault these are all that were given, and their code is written.
-  abbrev pub EndsSo : Option Fault → Call → Report → List ℤ → Type 0
-  EndsSo None c r xs = Spells s c.given xs AtEnd × IsAtEnd c.left × (length c.given ≤ 2 ^ 48) × LeavesAll c r xs
-  EndsSo (Some (SampleOutOfRange index)) c r xs = Spells s c.given xs NoSpelling × (index ≡ length xs) × LeavesEarly c r xs
-  EndsSo (Some (SampleCut index)) c r xs = Spells s c.given xs TooFew × IsAtEnd c.left × (index ≡ length xs) × LeavesEarly c r xs
-  EndsSo (Some Read) c r xs = ((stop : Stop) × Spells s c.given xs stop × (stop ≢ NoSpelling)) × LeavesEarly c r xs
-  EndsSo (Some TooLong) c r xs = ((front : List ℕ) × (stop : Stop) × PassesLimit (2 ^ 48) c.given front × Spells s front xs stop × (stop ≢ NoSpelling)) × LeavesEarly c r xs
-  EndsSo (Some Write) c r xs = (length c.given < r.samples * width s + 4096) × (FailsBehind c r xs ⊎ FailsAtEnd c r xs)
-  EndsSo (Some _) c r xs = ⊥
+  abbrev pub EndsEncoding : Option Fault → Call → Report → List ℤ → Type 0
+  EndsEncoding None c r xs = Spells s c.given xs AtEnd × IsAtEnd c.left × (length c.given ≤ 2 ^ 48) × LeavesAll c r xs
+  EndsEncoding (Some (SampleOutOfRange index)) c r xs = Spells s c.given xs NoSpelling × (index ≡ length xs) × LeavesEarly c r xs
+  EndsEncoding (Some (SampleCut index)) c r xs = Spells s c.given xs TooFew × IsAtEnd c.left × (index ≡ length xs) × LeavesEarly c r xs
+  EndsEncoding (Some Read) c r xs = ((stop : SpellingEnd) × Spells s c.given xs stop × (stop ≢ NoSpelling)) × LeavesEarly c r xs
+  EndsEncoding (Some TooLong) c r xs = ((front : List ℕ) × (stop : SpellingEnd) × PassesLimit (2 ^ 48) c.given front × Spells s front xs stop × (stop ≢ NoSpelling)) × LeavesEarly c r xs
+  EndsEncoding (Some Write) c r xs = (length c.given < r.samples * width s + 4096) × (FailsBehind c r xs ⊎ FailsAtEnd c r xs)
+  EndsEncoding (Some _) c r xs = ⊥
 
   -- what the call did, for each outcome
   abbrev pub Encodes : Call → Report → Option Fault → Type 0
-  Encodes c r fault = (xs : List ℤ) × EndsSo fault c r xs
+  Encodes c r fault = (xs : List ℤ) × EndsEncoding fault c r xs
 
 -- the report's bounds, at every exit
 pub record EncodesWithin (s : Parameters) (r : Report) : Type 0 where

@@ -3,10 +3,10 @@ use Rattle.std.specs.Prelude.{◌≡◌, ℕ, ◌+◌, ◌^◌, ◌<◌, ◌≤�
 use Rattle.std.specs.Io.KnownBytes.{Appends, Consumes}
 use Rattle.rice_bits.specs.Bits.{bits_in_bytes}
 use Rattle.rice_samples.specs.Parameters.{Parameters, IsSample, width}
-use Rattle.rice_samples.specs.bytes.Spelling.{spellings, StopsAt, NoSpelling}
+use Rattle.rice_samples.specs.bytes.Spelling.{spellings, EndsSpelling, NoSpelling}
 use Rattle.rice_stream.specs.Calls.{StopsBetween}
 use Rattle.rice_code.specs.code.Code.{code_bits, output, early_output}
-use Rattle.rice_code.specs.encode.Coder.{StandsFor, settled, settled_code, fill_samples}
+use Rattle.rice_code.specs.encode.Coder.{HasTaken, complete_samples, complete_code, fill_samples}
 use Rattle.rice_code.specs.Steps.{least_steps, most_steps}
 use Rattle.rice_stream.specs.declared.encoding.Encoding.{Encoding}
 use Rattle.rice_stream.specs.declared.outcome.Report.{Report}
@@ -18,25 +18,25 @@ abbrev pub whole_part : List Bool → List Bool
 whole_part bits = take (bits_in_bytes (length bits)) bits
 
 -- an encoding has taken the samples
-pub record Counts (s : Parameters) (e : Encoding) (xs : List ℤ) : Type 0 where
+pub record CountsSamples (s : Parameters) (e : Encoding) (xs : List ℤ) : Type 0 where
   pub setting : e.coder.setting ≡ s
-  pub stands : StandsFor e.coder xs
+  pub stands : HasTaken e.coder xs
   pub samples : e.samples ≡ length xs
-  pub bits : e.bits ≡ code_bits s (settled s xs)
-  pub least : length xs + least_steps s (settled s xs) ≤ e.meter
-  pub most : e.meter ≤ length xs + most_steps s (settled s xs)
+  pub bits : e.bits ≡ code_bits s (complete_samples s xs)
+  pub least : length xs + least_steps s (complete_samples s xs) ≤ e.meter
+  pub most : e.meter ≤ length xs + most_steps s (complete_samples s xs)
 
 -- and an outlet has taken the whole bytes of what is coded since its state was `old`
-pub record Holds (s : Parameters) (old new : Option (List ℕ)) (e : Encoding) (xs : List ℤ) : Type 0 where
-  pub counts : Counts s e xs
-  pub sink : e.sink ≡ drop (bits_in_bytes (length (settled_code s xs))) (settled_code s xs)
+pub record IsEncodingOf (s : Parameters) (old new : Option (List ℕ)) (e : Encoding) (xs : List ℤ) : Type 0 where
+  pub counts : CountsSamples s e xs
+  pub sink : e.sink ≡ drop (bits_in_bytes (length (complete_code s xs))) (complete_code s xs)
   pub took : Appends old new (early_output s xs)
 
 -- An encoding that held xs has taken these samples too. Only the last of them can have made a segment whole.
-pub record Takes (s : Parameters) (e : Encoding) (xs more : List ℤ) : Type 0 where
-  pub counts : Counts s e (xs ++ more)
-  pub code_is : settled_code s (xs ++ more) ≡ whole_part (settled_code s xs) ++ e.sink
-  pub before_last : (m : ℕ) → m < length more → settled s (xs ++ take m more) ≡ settled s xs
+pub record TakesSamples (s : Parameters) (e : Encoding) (xs more : List ℤ) : Type 0 where
+  pub counts : CountsSamples s e (xs ++ more)
+  pub code_is : complete_code s (xs ++ more) ≡ whole_part (complete_code s xs) ++ e.sink
+  pub before_last : (m : ℕ) → m < length more → complete_samples s (xs ++ take m more) ≡ complete_samples s xs
 
 -- an outlet has taken bytes up to a place between the ends of two texts
 pub record TakesBetween (old new : Option (List ℕ)) (from to : List ℕ) : Type 0 where
@@ -46,7 +46,7 @@ pub record TakesBetween (old new : Option (List ℕ)) (from to : List ℕ) : Typ
 
 -- an encoding has taken the samples and one more, and an outlet not all that it completes
 pub record FailsAt (s : Parameters) (old new : Option (List ℕ)) (e : Encoding) (xs : List ℤ) (x : ℤ) : Type 0 where
-  pub counts : Counts s e (xs ++ x ∷ [])
+  pub counts : CountsSamples s e (xs ++ x ∷ [])
   pub takes : TakesBetween old new (early_output s xs) (early_output s (xs ++ x ∷ []))
 
 -- the outlet failed behind one of some samples
@@ -58,24 +58,24 @@ pub record FailsIn (s : Parameters) (old new : Option (List ℕ)) (e : Encoding)
   pub fails : FailsAt s old new e (xs ++ before) last
 
 -- the report of all samples
-pub record Closes (s : Parameters) (r : Report) (xs : List ℤ) : Type 0 where
+pub record ReportsAll (s : Parameters) (r : Report) (xs : List ℤ) : Type 0 where
   pub samples : r.samples ≡ length xs
   pub bits : r.bits ≡ code_bits s xs
   pub least : length xs + fill_samples s xs + least_steps s xs ≤ r.steps
   pub most : r.steps ≤ length xs + fill_samples s xs + most_steps s xs
 
 -- the report of samples so far
-pub record Tells (s : Parameters) (r : Report) (xs : List ℤ) : Type 0 where
+pub record ReportsTaken (s : Parameters) (r : Report) (xs : List ℤ) : Type 0 where
   pub samples : r.samples ≡ length xs
-  pub bits : r.bits ≡ code_bits s (settled s xs)
-  pub least : length xs + least_steps s (settled s xs) ≤ r.steps
-  pub most : r.steps ≤ length xs + most_steps s (settled s xs)
+  pub bits : r.bits ≡ code_bits s (complete_samples s xs)
+  pub least : length xs + least_steps s (complete_samples s xs) ≤ r.steps
+  pub most : r.steps ≤ length xs + most_steps s (complete_samples s xs)
 
 -- an outlet has taken the code of all samples, or not all of it
-abbrev pub Finishes : Parameters → Option (List ℕ) → Option (List ℕ) → List ℤ → Option Fault → Type 0
-Finishes s old new xs None = Appends old new (output s xs)
-Finishes s old new xs (Some Write) = TakesBetween old new (early_output s xs) (output s xs)
-Finishes s old new xs (Some _) = ⊥
+abbrev pub WritesRest : Parameters → Option (List ℕ) → Option (List ℕ) → List ℤ → Option Fault → Type 0
+WritesRest s old new xs None = Appends old new (output s xs)
+WritesRest s old new xs (Some Write) = TakesBetween old new (early_output s xs) (output s xs)
+WritesRest s old new xs (Some _) = ⊥
 
 -- bytes that spell samples, and what is behind them
 pub record Reads (s : Parameters) (bytes : List ℕ) (samples : List ℤ) (rest : List ℕ) : Type 0 where
@@ -88,15 +88,15 @@ pub record TakesAll (s : Parameters) (old new : Option (List ℕ)) (e : Encoding
   pub rest : List ℕ
   pub reads : Reads s bytes more rest
   pub few : length rest < width s
-  pub holds : Holds s old new e (xs ++ more)
+  pub holds : IsEncodingOf s old new e (xs ++ more)
 
 -- it meets bytes that spell no sample
 pub record MeetsNoSpelling (s : Parameters) (old new : Option (List ℕ)) (e : Encoding) (xs : List ℤ) (bytes : List ℕ) : Type 0 where
   pub more : List ℤ
   pub rest : List ℕ
   pub reads : Reads s bytes more rest
-  pub none : StopsAt s rest NoSpelling
-  pub holds : Holds s old new e (xs ++ more)
+  pub none : EndsSpelling s rest NoSpelling
+  pub holds : IsEncodingOf s old new e (xs ++ more)
 
 -- the outlet fails behind one of the samples
 pub record MeetsFailure (s : Parameters) (old new : Option (List ℕ)) (e : Encoding) (xs : List ℤ) (bytes : List ℕ) : Type 0 where
@@ -119,7 +119,7 @@ PushFails old new (Err Write) = new ≡ old + 1
 PushFails old new (Err _) = new ≡ old
 
 -- Bytes were given so far: those of samples, whose code is written as far as it is whole, and the first bytes of one more.
-pub record Runs (s : Parameters) (left_old left taken_old taken : Option (List ℕ)) (e : Encoding) (given waiting : ℕ) (buffer : List ℕ) : Type 0 where
+pub record EncodingProgress (s : Parameters) (left_old left taken_old taken : Option (List ℕ)) (e : Encoding) (given waiting : ℕ) (buffer : List ℕ) : Type 0 where
   pub bytes : List ℕ
   pub samples : List ℤ
   pub reads : Reads s bytes samples (take waiting buffer)
@@ -127,7 +127,7 @@ pub record Runs (s : Parameters) (left_old left taken_old taken : Option (List �
   pub limit : given ≤ 2 ^ 48
   pub few : waiting < width s
   pub gave : Consumes left_old left bytes
-  pub holds : Holds s taken_old taken e samples
+  pub holds : IsEncodingOf s taken_old taken e samples
 
 -- Bytes were put behind those that wait in a buffer.
 pub record Refills (left_old left_new : Option (List ℕ)) (old new : List ℕ) (waiting count : ℕ) : Type 0 where

@@ -4,7 +4,7 @@ use Rattle.std.specs.Io.KnownBytes.{Consumes}
 use Rattle.rice_samples.specs.Parameters.{Parameters, IsLegal}
 use Rattle.rice_stream.specs.Calls.{Call}
 use Rattle.rice_stream.specs.Encodes.{Encodes}
-use Rattle.rice_stream.specs.Decodes.{Decodings}
+use Rattle.rice_stream.specs.Decodes.{Decodes}
 use Rattle.rice_stream.specs.declared.outcome.Report.{Report}
 use Rattle.rice_stream.specs.declared.outcome.Fault.{Fault}
 use Rattle.rice_stream.specs.declared.outcome.Fault.TheVariants.{Read, Write}
@@ -13,5 +13,5 @@ use Rattle.rice_stream.specs.declared.outcome.Fault.TheVariants.{Read, Write}
 -- Then it writes the bytes that were encoded, unless a device fails.
 abbrev pub ReturnsBytes : Type 0
 ReturnsBytes = (s : Parameters) → IsLegal s → (encoding decoding : Call) (encoded decoded : Report) (fault : Option Fault) →
-    Encodes s encoding encoded None → Consumes (Some encoding.written) decoding.left decoding.given → Decodings s (Some encoded.samples) decoding decoded fault →
+    Encodes s encoding encoded None → Consumes (Some encoding.written) decoding.left decoding.given → Decodes s (Some encoded.samples) decoding decoded fault →
     ((fault ≡ None) × (decoding.written ≡ encoding.given)) ⊎ ((fault ≡ Some Read) ⊎ (fault ≡ Some Write))

@@ -1,7 +1,7 @@
 //! From the code to its samples.
 ghost use Rattle.std.specs.Prelude.{◌≡◌, ℕ, ◌+◌, ◌-◌, ◌*◌, ◌^◌, ◌<◌, ◌≤◌, length, Option};
 ghost use Rattle.rice_stream.specs.Calls.{Call, Happens, Fails};
-ghost use Rattle.rice_stream.specs.Decodes.{Decodings, DecodesWithin, wanted_of, ended_fault, refusal_fault};
+ghost use Rattle.rice_stream.specs.Decodes.{Decodes, DecodesWithin, wanted_of, ended_fault, refusal_fault};
 
 use crate::outcome::{Fault, Outcome, Report};
 use crate::write::write_samples;
@@ -82,7 +82,7 @@ pub fn decode<I: Intake, O: Outlet>(
     requires reads { I.failed intake + 1 < 2 ^ 64 }
     requires writes { O.failed outlet.old + 1 < 2 ^ 64 }
     ensures call { (c : Call) × Happens (I.left intake) (I.left result.1) (O.taken outlet.old) (O.taken outlet.new) c ×
-        Decodings setting.now asked c result.0.report result.0.fault }
+        Decodes setting.now asked c result.0.report result.0.fault }
     ensures failures { Fails result.0.fault (I.failed intake) (I.failed result.1) (O.failed outlet.old) (O.failed outlet.new) }
     ensures bounds { DecodesWithin asked result.0.report }
 {

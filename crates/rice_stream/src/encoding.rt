@@ -2,13 +2,13 @@
 ghost use Rattle.std.specs.Prelude.{◌≡◌, ℕ, ◌+◌, ◌-◌, ◌*◌, ◌%◌, ◌^◌, ◌<◌, ◌≤◌, List, [], ◌++◌, length, take, drop, All, Option, Some, OnOk, OnErr, IfOk, ℤ};
 ghost use Rattle.std.specs.Io.KnownBytes.{Appends, IsAtEnd, Keeps};
 ghost use Rattle.rice_bits.specs.device.Device.{CountsFailure};
-ghost use Rattle.rice_bits.specs.Bits.{bits_in_bytes, padded};
+ghost use Rattle.rice_bits.specs.Bits.{bits_in_bytes, padded_bits};
 ghost use Rattle.rice_samples.specs.Parameters.{Parameters, IsSample, width};
 ghost use Rattle.rice_stream.specs.Calls.{Call, Happens, Fails};
 ghost use Rattle.rice_stream.specs.Encodes.{Encodes, EncodesWithin};
-ghost use Rattle.rice_stream.specs.EncodingState.{whole_part, Refills, Takes, Counts, Holds, FailsIn, Tells, Closes, Finishes, Pushes, PushFails};
+ghost use Rattle.rice_stream.specs.EncodingState.{whole_part, Refills, TakesSamples, CountsSamples, IsEncodingOf, FailsIn, ReportsTaken, ReportsAll, WritesRest, Pushes, PushFails};
 ghost use Rattle.rice_code.specs.code.Code.{code};
-ghost use Rattle.rice_code.specs.encode.Coder.{settled_code};
+ghost use Rattle.rice_code.specs.encode.Coder.{complete_code};
 
 use crate::outcome::{Fault, Outcome, Report};
 use crate::write::write_whole;
@@ -35,7 +35,7 @@ pub struct Encoding {
 impl Encoding {
     /// An encoding that has taken no sample.
     fn new(setting: Setting) -> Self
-        ensures { (now : Option (List ℕ)) → Holds setting now now result [] }
+        ensures { (now : Option (List ℕ)) → IsEncodingOf setting now now result [] }
     {
         Encoding {
             coder: Coder::new(setting),
@@ -49,10 +49,10 @@ impl Encoding {
     /// Takes samples up to the one that makes a segment whole, or all of them. Answers how many.
     #[inline]
     fn take(&mut self, samples: &[i64]) -> usize
-        requires ready { (s : Parameters) × (old : Option (List ℕ)) × (now : Option (List ℕ)) × (xs : List ℤ) × Holds s old now self.old xs × All (IsSample s) samples.now × (length xs + length samples.now ≤ 2 ^ 48) }
+        requires ready { (s : Parameters) × (old : Option (List ℕ)) × (now : Option (List ℕ)) × (xs : List ℤ) × IsEncodingOf s old now self.old xs × All (IsSample s) samples.now × (length xs + length samples.now ≤ 2 ^ 48) }
         ensures count { result ≤ length samples.now }
         ensures some { 0 < length samples.now → 0 < result }
-        ensures took { (s : Parameters) (old now : Option (List ℕ)) (xs : List ℤ) → Holds s old now self.old xs → Takes s self.new xs (take result samples.now) }
+        ensures took { (s : Parameters) (old now : Option (List ℕ)) (xs : List ℤ) → IsEncodingOf s old now self.old xs → TakesSamples s self.new xs (take result samples.now) }
     {
         let pushed = self
             .coder
@@ -64,14 +64,14 @@ impl Encoding {
 
     /// Takes samples in the same way, and writes the whole bytes of what they complete. Answers how many.
     fn push<O: Outlet>(&mut self, samples: &[i64], outlet: &mut O) -> Result<usize, WriteFault>
-        requires ready { (s : Parameters) × (old : Option (List ℕ)) × (xs : List ℤ) × Holds s old (O.taken outlet.old) self.old xs × All (IsSample s) samples.now × (length xs + length samples.now ≤ 2 ^ 48) }
+        requires ready { (s : Parameters) × (old : Option (List ℕ)) × (xs : List ℤ) × IsEncodingOf s old (O.taken outlet.old) self.old xs × All (IsSample s) samples.now × (length xs + length samples.now ≤ 2 ^ 48) }
         requires some { 0 < length samples.now }
         requires writes { O.failed outlet.old + 1 < 2 ^ 64 }
         ensures count { IfOk result (λ n. (0 < n) × (n ≤ length samples.now)) }
-        ensures ok { IfOk result (λ n. (s : Parameters) (old : Option (List ℕ)) (xs : List ℤ) → Holds s old (O.taken outlet.old) self.old xs →
-            Holds s old (O.taken outlet.new) self.new (xs ++ take n samples.now)) }
+        ensures ok { IfOk result (λ n. (s : Parameters) (old : Option (List ℕ)) (xs : List ℤ) → IsEncodingOf s old (O.taken outlet.old) self.old xs →
+            IsEncodingOf s old (O.taken outlet.new) self.new (xs ++ take n samples.now)) }
         ensures calm { OnOk result (O.failed outlet.new ≡ O.failed outlet.old) }
-        ensures err { OnErr result ((s : Parameters) (old : Option (List ℕ)) (xs : List ℤ) → Holds s old (O.taken outlet.old) self.old xs →
+        ensures err { OnErr result ((s : Parameters) (old : Option (List ℕ)) (xs : List ℤ) → IsEncodingOf s old (O.taken outlet.old) self.old xs →
             FailsIn s old (O.taken outlet.new) self.new xs samples.now) }
         ensures raised { OnErr result (O.failed outlet.new ≡ O.failed outlet.old + 1) }
     {
@@ -87,12 +87,12 @@ impl Encoding {
 
     /// Takes all samples, and writes the whole bytes of what each segment completes before it goes on.
     fn push_each<O: Outlet>(&mut self, samples: &[i64], outlet: &mut O) -> Result<(), WriteFault>
-        requires ready { (s : Parameters) × (old : Option (List ℕ)) × (xs : List ℤ) × Holds s old (O.taken outlet.old) self.old xs × All (IsSample s) samples.now × (length xs + length samples.now ≤ 2 ^ 48) }
+        requires ready { (s : Parameters) × (old : Option (List ℕ)) × (xs : List ℤ) × IsEncodingOf s old (O.taken outlet.old) self.old xs × All (IsSample s) samples.now × (length xs + length samples.now ≤ 2 ^ 48) }
         requires writes { O.failed outlet.old + 1 < 2 ^ 64 }
-        ensures ok { OnOk result ((s : Parameters) (old : Option (List ℕ)) (xs : List ℤ) → Holds s old (O.taken outlet.old) self.old xs →
-            Holds s old (O.taken outlet.new) self.new (xs ++ samples.now)) }
+        ensures ok { OnOk result ((s : Parameters) (old : Option (List ℕ)) (xs : List ℤ) → IsEncodingOf s old (O.taken outlet.old) self.old xs →
+            IsEncodingOf s old (O.taken outlet.new) self.new (xs ++ samples.now)) }
         ensures calm { OnOk result (O.failed outlet.new ≡ O.failed outlet.old) }
-        ensures err { OnErr result ((s : Parameters) (old : Option (List ℕ)) (xs : List ℤ) → Holds s old (O.taken outlet.old) self.old xs →
+        ensures err { OnErr result ((s : Parameters) (old : Option (List ℕ)) (xs : List ℤ) → IsEncodingOf s old (O.taken outlet.old) self.old xs →
             FailsIn s old (O.taken outlet.new) self.new xs samples.now) }
         ensures raised { OnErr result (O.failed outlet.new ≡ O.failed outlet.old + 1) }
     {
@@ -115,10 +115,10 @@ impl Encoding {
         samples: &mut [i64],
         outlet: &mut O,
     ) -> Result<(), Fault>
-        requires ready { (old : Option (List ℕ)) × (xs : List ℤ) × Holds setting.now old (O.taken outlet.old) self.old xs × (length xs + length bytes.now ≤ 2 ^ 48) }
+        requires ready { (old : Option (List ℕ)) × (xs : List ℤ) × IsEncodingOf setting.now old (O.taken outlet.old) self.old xs × (length xs + length bytes.now ≤ 2 ^ 48) }
         requires room { length bytes.now ≤ length samples.old }
         requires writes { O.failed outlet.old + 1 < 2 ^ 64 }
-        ensures did { (old : Option (List ℕ)) (xs : List ℤ) → Holds setting.now old (O.taken outlet.old) self.old xs →
+        ensures did { (old : Option (List ℕ)) (xs : List ℤ) → IsEncodingOf setting.now old (O.taken outlet.old) self.old xs →
             Pushes setting.now old (O.taken outlet.new) self.new xs bytes.now result }
         ensures failures { PushFails (O.failed outlet.old) (O.failed outlet.new) result }
         ensures room { length samples.new ≡ length samples.old }
@@ -140,9 +140,9 @@ impl Encoding {
 
     /// Codes the samples that wait, and fills the last byte. Answers the report.
     fn close(mut self) -> (Report, BitSink<16432>)
-        requires { (s : Parameters) × (old : Option (List ℕ)) × (now : Option (List ℕ)) × (xs : List ℤ) × Holds s old now self xs × (length xs ≤ 2 ^ 48) }
-        ensures { (s : Parameters) (old now : Option (List ℕ)) (xs : List ℤ) → Holds s old now self xs →
-            Closes s result.0 xs × (padded (code s xs) ≡ whole_part (settled_code s xs) ++ result.1) }
+        requires { (s : Parameters) × (old : Option (List ℕ)) × (now : Option (List ℕ)) × (xs : List ℤ) × IsEncodingOf s old now self xs × (length xs ≤ 2 ^ 48) }
+        ensures { (s : Parameters) (old now : Option (List ℕ)) (xs : List ℤ) → IsEncodingOf s old now self xs →
+            ReportsAll s result.0 xs × (padded_bits (code s xs) ≡ whole_part (complete_code s xs) ++ result.1) }
     {
         let bits = self.coder.finish(&mut self.sink, &mut self.meter);
         let report = Report {
@@ -156,10 +156,10 @@ impl Encoding {
 
     /// Codes the samples that wait, fills the last byte, and writes.
     fn finish<O: Outlet>(self, outlet: &mut O) -> Outcome
-        requires ready { (s : Parameters) × (old : Option (List ℕ)) × (xs : List ℤ) × Holds s old (O.taken outlet.old) self xs × (length xs ≤ 2 ^ 48) }
+        requires ready { (s : Parameters) × (old : Option (List ℕ)) × (xs : List ℤ) × IsEncodingOf s old (O.taken outlet.old) self xs × (length xs ≤ 2 ^ 48) }
         requires writes { O.failed outlet.old + 1 < 2 ^ 64 }
-        ensures did { (s : Parameters) (old : Option (List ℕ)) (xs : List ℤ) → Holds s old (O.taken outlet.old) self xs →
-            Closes s result.report xs × Finishes s old (O.taken outlet.new) xs result.fault }
+        ensures did { (s : Parameters) (old : Option (List ℕ)) (xs : List ℤ) → IsEncodingOf s old (O.taken outlet.old) self xs →
+            ReportsAll s result.report xs × WritesRest s old (O.taken outlet.new) xs result.fault }
         ensures failures { Fails result.fault 0 0 (O.failed outlet.old) (O.failed outlet.new) }
     {
         let (report, mut sink) = self.close();
@@ -172,7 +172,7 @@ impl Encoding {
 
     /// What was done up to a fault.
     fn stopped(&self, fault: Fault) -> Outcome
-        ensures told { (s : Parameters) (xs : List ℤ) → Counts s self.now xs → Tells s result.report xs }
+        ensures told { (s : Parameters) (xs : List ℤ) → CountsSamples s self.now xs → ReportsTaken s result.report xs }
         ensures fault { result.fault ≡ Some fault }
     {
         let report = Report {

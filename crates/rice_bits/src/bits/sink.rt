@@ -18,13 +18,13 @@ pub struct BitSink<const N: usize> {
 
 impl<const N: usize> Model for BitSink<N> {
     ghost use Rattle.std.specs.Prelude.{Bool, List, take};
-    ghost use Rattle.rice_bits.specs.Bits.{bits_of, IsGathered};
+    ghost use Rattle.rice_bits.specs.Bits.{bits_of, IsBitSink};
 
     ghost Value = { List Bool };
 
     ghost view = { λ s. take s.bits (bits_of s.bytes) };
 
-    ghost invariant = { λ s. IsGathered N s.bits s.bytes };
+    ghost invariant = { λ s. IsBitSink N s.bits s.bytes };
 }
 
 impl<const N: usize> BitSink<N> {

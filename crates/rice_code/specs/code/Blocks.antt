@@ -2,34 +2,34 @@
 use Rattle.std.specs.Prelude.{ℕ, zero, suc, ◌+◌, ◌*◌, ◌==◌, Bool, if◌then◌else◌, List, [], ◌∷◌, take, drop, length, replicate, slice_index_or, Option, Some, None, ℤ}
 use Rattle.std.specs.List.{list_all}
 use Rattle.rice_samples.specs.Parameters.{Parameters}
-use Rattle.rice_samples.specs.Places.{has_reference, block_count}
-use Rattle.rice_samples.specs.predict.Residuals.{pattern, residuals, last_of, filled}
+use Rattle.rice_samples.specs.Places.{is_reference, block_count}
+use Rattle.rice_samples.specs.predict.Residuals.{pattern, residuals, last_of, filled_samples}
 
 -- what a block says: its reference sample as a word, where it has one, and its residuals, with 0 at the reference place
-pub record Contents : Type 0 where
+pub record BlockData : Type 0 where
   pub reference : Option ℕ
   pub residuals : List ℕ
 
 -- what block b says where it has these samples, behind p
-abbrev pub contents : Parameters → ℕ → ℤ → List ℤ → Contents
-contents s b p xs = record {
-  reference = if has_reference s b then Some (pattern s (slice_index_or xs 0 p)) else None;
+abbrev pub block_data : Parameters → ℕ → ℤ → List ℤ → BlockData
+block_data s b p xs = record {
+  reference = if is_reference s b then Some (pattern s (slice_index_or xs 0 p)) else None;
   residuals = residuals s (s.block * b) p xs;
 }
 
 -- the blocks that samples make, so many from block b on, behind p
-abbrev pub blocks_from : Parameters → ℕ → ℤ → ℕ → List ℤ → List Contents
+abbrev pub blocks_from : Parameters → ℕ → ℤ → ℕ → List ℤ → List BlockData
 blocks_from s b p zero xs = []
-blocks_from s b p (suc count) xs = contents s b p (take s.block xs) ∷ blocks_from s (b + 1) (last_of p (take s.block xs)) count (drop s.block xs)
+blocks_from s b p (suc count) xs = block_data s b p (take s.block xs) ∷ blocks_from s (b + 1) (last_of p (take s.block xs)) count (drop s.block xs)
 
 -- the blocks of all these samples, from block b on, behind p
-abbrev pub blocks_behind : Parameters → ℕ → ℤ → List ℤ → List Contents
-blocks_behind s b p xs = blocks_from s b p (block_count s (length xs)) (filled s p xs)
+abbrev pub blocks_of : Parameters → ℕ → ℤ → List ℤ → List BlockData
+blocks_of s b p xs = blocks_from s b p (block_count s (length xs)) (filled_samples s p xs)
 
 -- all its residuals are 0, that at the reference place included
-abbrev pub is_zero : Contents → Bool
-is_zero c = list_all (λ d. d == 0) c.residuals
+abbrev pub is_zero_block : BlockData → Bool
+is_zero_block c = list_all (λ d. d == 0) c.residuals
 
 -- a block of zeros
-abbrev pub zeros : Parameters → Option ℕ → Contents
-zeros s reference = record { reference = reference; residuals = replicate s.block 0 }
+abbrev pub zero_block : Parameters → Option ℕ → BlockData
+zero_block s reference = record { reference = reference; residuals = replicate s.block 0 }

@@ -1,52 +1,52 @@
 -- The code of samples.
 use Rattle.std.specs.Prelude.{ℕ, ◌+◌, ◌&&◌, not, Bool, false, if◌then◌else◌, List, [], ◌∷◌, ◌++◌, take, length, sum_by, ℤ, pos}
-use Rattle.rice_bits.specs.Bits.{padded, whole_bytes}
+use Rattle.rice_bits.specs.Bits.{padded_bits, whole_bytes}
 use Rattle.rice_samples.specs.Parameters.{Parameters}
 use Rattle.rice_samples.specs.Places.{begins_segment, block_count, cut}
-use Rattle.rice_code.specs.code.Blocks.{Contents, blocks_behind, is_zero}
+use Rattle.rice_code.specs.code.Blocks.{BlockData, blocks_of, is_zero_block}
 use Rattle.rice_code.specs.code.Choice.{shortest}
-use Rattle.rice_code.specs.code.CodedDataSets.{DataSet, text}
-use Rattle.rice_code.specs.code.Layout.{laid}
+use Rattle.rice_code.specs.code.CodedDataSets.{CodedDataSet, bits_of_set}
+use Rattle.rice_code.specs.code.Layout.{layout}
 use Rattle.rice_code.specs.code.Runs.{zero_run}
 
 -- What is sent at block b: a run where one starts, nothing inside it, and else the shortest option.
 -- A zero block goes into a run and nowhere else (own rule).
-abbrev pub data_set_at : Parameters → ℕ → Bool → Contents → List Contents → List DataSet
+abbrev pub data_set_at : Parameters → ℕ → Bool → BlockData → List BlockData → List CodedDataSet
 data_set_at s b behind_zero c cs =
-    if is_zero c then (if behind_zero && not (begins_segment s b) then [] else zero_run s b c.reference (c ∷ cs) ∷ []) else shortest s c ∷ []
+    if is_zero_block c then (if behind_zero && not (begins_segment s b) then [] else zero_run s b c.reference (c ∷ cs) ∷ []) else shortest s c ∷ []
 
 -- the coded data sets of blocks, from block b on; `behind_zero`: the block before is one of zeros
-abbrev pub data_sets : Parameters → ℕ → Bool → List Contents → List DataSet
+abbrev pub data_sets : Parameters → ℕ → Bool → List BlockData → List CodedDataSet
 data_sets s b behind_zero [] = []
-data_sets s b behind_zero (c ∷ cs) = data_set_at s b behind_zero c cs ++ data_sets s (b + 1) (is_zero c) cs
+data_sets s b behind_zero (c ∷ cs) = data_set_at s b behind_zero c cs ++ data_sets s (b + 1) (is_zero_block c) cs
 
 -- the coded data sets of samples, from block b on, which begins a segment, behind the sample p
-abbrev pub sets_behind : Parameters → ℕ → ℤ → List ℤ → List DataSet
-sets_behind s b p xs = data_sets s b false (blocks_behind s b p xs)
+abbrev pub sets_from : Parameters → ℕ → ℤ → List ℤ → List CodedDataSet
+sets_from s b p xs = data_sets s b false (blocks_of s b p xs)
 
 -- their code, behind `position` bits
-abbrev pub code_behind : Parameters → ℕ → ℕ → ℤ → List ℤ → List Bool
-code_behind s b position p xs = laid s (b + block_count s (length xs)) b position (sets_behind s b p xs)
+abbrev pub code_from : Parameters → ℕ → ℕ → ℤ → List ℤ → List Bool
+code_from s b position p xs = layout s (b + block_count s (length xs)) b position (sets_from s b p xs)
 
 -- the number of its bits, without the padding of intervals
-abbrev pub bits_behind : Parameters → ℕ → ℤ → List ℤ → ℕ
-bits_behind s b p xs = sum_by (λ d. length (text s d)) (sets_behind s b p xs)
+abbrev pub bits_from : Parameters → ℕ → ℤ → List ℤ → ℕ
+bits_from s b p xs = sum_by (λ d. length (bits_of_set s d)) (sets_from s b p xs)
 
 -- The same of all samples: their coded data sets,
-abbrev pub sets_of : Parameters → List ℤ → List DataSet
-sets_of s xs = sets_behind s 0 (pos 0) xs
+abbrev pub sets_of : Parameters → List ℤ → List CodedDataSet
+sets_of s xs = sets_from s 0 (pos 0) xs
 
 -- their code,
 abbrev pub code : Parameters → List ℤ → List Bool
-code s xs = code_behind s 0 0 (pos 0) xs
+code s xs = code_from s 0 0 (pos 0) xs
 
 -- the number of its bits without padding,
 abbrev pub code_bits : Parameters → List ℤ → ℕ
-code_bits s xs = bits_behind s 0 (pos 0) xs
+code_bits s xs = bits_from s 0 (pos 0) xs
 
 -- and the bytes that carry it, the last one filled with zeros.
 abbrev pub output : Parameters → List ℤ → List ℕ
-output s xs = whole_bytes (padded (code s xs))
+output s xs = whole_bytes (padded_bits (code s xs))
 
 -- the bytes that stand whole once all whole segments are coded
 abbrev pub early_output : Parameters → List ℤ → List ℕ

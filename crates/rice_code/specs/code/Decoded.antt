@@ -2,9 +2,9 @@
 use Rattle.std.specs.Prelude.{◌≡◌, ◌≢◌, ℕ, ◌+◌, ◌-◌, ◌*◌, ◌<◌, ◌≤◌, Bool, true, false, List, [], ◌∷◌, ◌++◌, length, take, All, Contains, Option, Some, None, IfSome, IsSomeAnd, ℤ, pos, ⊤}
 use Rattle.rice_samples.specs.Parameters.{Parameters, IsSample}
 use Rattle.rice_code.specs.code.Blocks.{blocks_from}
-use Rattle.rice_code.specs.code.CodedDataSets.{DataSet, text}
+use Rattle.rice_code.specs.code.CodedDataSets.{CodedDataSet, bits_of_set}
 use Rattle.rice_code.specs.code.Forms.{IsForm, RunIsSound, ResidualsAreSound, blocks_in_all}
-use Rattle.rice_code.specs.code.Layout.{block_behind, Lies}
+use Rattle.rice_code.specs.code.Layout.{block_after, Lies}
 
 -- How decoding ends: with the asked samples, with the code, inside a coded data set,
 -- before a run that passes its segment, or before a block with a residual that is too large.
@@ -16,30 +16,30 @@ pub data Ending : Type 0 where
   Large : Ending
 
 -- the samples before block b are not yet as many as were asked for, or no number was asked for
-abbrev pub GoesOn : Parameters → Option ℕ → ℕ → Type 0
-GoesOn s asked b = IfSome asked (λ n. s.block * b < n)
+abbrev pub IsWanted : Parameters → Option ℕ → ℕ → Type 0
+IsWanted s asked b = IfSome asked (λ n. s.block * b < n)
 
 -- each coded data set is needed, is one, and is sound, from block b on
-abbrev pub AreTaken : Parameters → Option ℕ → ℕ → List DataSet → Type 0
+abbrev pub AreTaken : Parameters → Option ℕ → ℕ → List CodedDataSet → Type 0
 AreTaken s asked b [] = ⊤
-AreTaken s asked b (d ∷ ds) = GoesOn s asked b × IsForm s b d × RunIsSound s b d × ResidualsAreSound s d × AreTaken s asked (block_behind s b d) ds
+AreTaken s asked b (d ∷ ds) = IsWanted s asked b × IsForm s b d × RunIsSound s b d × ResidualsAreSound s d × AreTaken s asked (block_after s b d) ds
 
 -- `used` bits of the rest begin with a coded data set at block b of which P does not hold
-pub record Refuses (s : Parameters) (b : ℕ) (rest : List Bool) (used : ℕ) (P : DataSet → Type 0) : Type 0 where
-  pub refused : DataSet
+pub record BeginsUnsound (s : Parameters) (b : ℕ) (rest : List Bool) (used : ℕ) (P : CodedDataSet → Type 0) : Type 0 where
+  pub refused : CodedDataSet
   pub more : List Bool
   pub form : IsForm s b refused
   pub unsound : P refused → ⊥
-  pub begins : rest ≡ text s refused ++ more
-  pub bits : used ≡ length (text s refused)
+  pub begins : rest ≡ bits_of_set s refused ++ more
+  pub bits : used ≡ length (bits_of_set s refused)
 
 -- at block b, with these bits left, decoding ends so, and uses so many of them
 abbrev pub EndsWith : Parameters → Option ℕ → ℕ → List Bool → Ending → ℕ → Type 0
 EndsWith s asked b rest Reached used = IsSomeAnd asked (λ n. n ≤ s.block * b) × (used ≡ 0)
-EndsWith s asked b rest Ended used = GoesOn s asked b × All (λ bit. bit ≡ false) rest × (used ≡ length rest)
-EndsWith s asked b rest CutOff used = GoesOn s asked b × Contains rest true × ((d : DataSet) (more : List Bool) → IsForm s b d → rest ≢ text s d ++ more) × (used ≡ length rest)
-EndsWith s asked b rest Past used = GoesOn s asked b × Refuses s b rest used (RunIsSound s b)
-EndsWith s asked b rest Large used = GoesOn s asked b × Refuses s b rest used (ResidualsAreSound s)
+EndsWith s asked b rest Ended used = IsWanted s asked b × All (λ bit. bit ≡ false) rest × (used ≡ length rest)
+EndsWith s asked b rest CutOff used = IsWanted s asked b × Contains rest true × ((d : CodedDataSet) (more : List Bool) → IsForm s b d → rest ≢ bits_of_set s d ++ more) × (used ≡ length rest)
+EndsWith s asked b rest Past used = IsWanted s asked b × BeginsUnsound s b rest used (RunIsSound s b)
+EndsWith s asked b rest Large used = IsWanted s asked b × BeginsUnsound s b rest used (ResidualsAreSound s)
 
 -- the samples from block b on, cut to those that were asked for
 abbrev pub cut_to : Parameters → Option ℕ → ℕ → List ℤ → List ℤ
@@ -50,7 +50,7 @@ cut_to s (Some n) b xs = take (n - s.block * b) xs
 -- sound coded data sets with their padding as far as they go, and what the rest is.
 -- The samples are those that make the blocks of these coded data sets.
 pub record DecodedFrom (s : Parameters) (b position : ℕ) (p : ℤ) (bits : List Bool) (asked : Option ℕ) (samples : List ℤ) (ending : Ending) (used : ℕ) : Type 0 where
-  pub sets : List DataSet
+  pub sets : List CodedDataSet
   pub front : List Bool
   pub rest : List Bool
   pub parts : bits ≡ front ++ rest

@@ -6,29 +6,30 @@ use Rattle.rice_bits.specs.declared.read.fault.BitFault.TheVariants as bit_fault
 use Rattle.rice_samples.specs.Parameters.{Parameters, IsLegal, IsSample}
 use Rattle.rice_samples.specs.Places.{blocks_left, begins_segment}
 use Rattle.rice_samples.specs.predict.Residuals.{last_of}
-use Rattle.rice_code.specs.code.Blocks.{Contents, contents, zeros}
-use Rattle.rice_code.specs.code.CodedDataSets.{DataSet, text, turns}
+use Rattle.rice_code.specs.code.Blocks.{BlockData, block_data, zero_block}
+use Rattle.rice_code.specs.code.CodedDataSets.{CodedDataSet, bits_of_set, turns}
 use Rattle.rice_code.specs.code.Forms.{IsForm, RunIsSound, ResidualsAreSound, blocks_in}
-use Rattle.rice_code.specs.code.Layout.{block_behind, padding}
+use Rattle.rice_code.specs.code.Layout.{block_after, padding}
 use Rattle.rice_code.specs.decode.ReadSets.{SetCut}
 use Rattle.rice_code.specs.declared.decode.fault.Step.{Step}
 use Rattle.rice_code.specs.declared.decode.fault.Step.TheVariants.{Block, Done}
 use Rattle.rice_code.specs.declared.decode.fault.CodeFault.{CodeFault}
 use Rattle.rice_code.specs.declared.decode.fault.CodeFault.TheVariants as faults
+use Rattle.rice_code.specs.decode.DecoderState.{DecoderState, state_after_block}
 
 -- These are the samples of the first of some blocks from block b on, behind p, and so many zero blocks follow it.
-pub record GivesBlock (s : Parameters) (b : ℕ) (p : ℤ) (samples : List ℤ) (run : ℕ) (blocks : List Contents) : Type 0 where
+pub record GivesBlock (s : Parameters) (b : ℕ) (p : ℤ) (samples : List ℤ) (run : ℕ) (blocks : List BlockData) : Type 0 where
   pub len : length samples ≡ s.block
   pub legal : All (IsSample s) samples
-  pub blocks_are : contents s b p samples ∷ replicate run (zeros s None) ≡ blocks
+  pub blocks_are : block_data s b p samples ∷ replicate run (zero_block s None) ≡ blocks
 
 -- A reader took a sound data set, and these are the samples of its first block.
 pub record TakesSet {I : Type 0} (left : I → Option (List ℕ)) (failed : I → ℕ) (old new : Reader I) (old_steps new_steps : ℕ) (s : Parameters) (b : ℕ) (p : ℤ) (samples : List ℤ) (run : ℕ) : Type 0 where
-  pub set : DataSet
+  pub set : CodedDataSet
   pub form : IsForm s b set
   pub run_sound : RunIsSound s b set
   pub residuals_sound : ResidualsAreSound s set
-  pub takes : Takes left failed old new (text s set)
+  pub takes : Takes left failed old new (bits_of_set s set)
   pub gives : GivesBlock s b p samples run (blocks_in s b set)
   -- each bit and each turn of the search is a step
   pub steps : new_steps + old.taken ≡ old_steps + new.taken + turns set
@@ -45,15 +46,15 @@ pub record GivesSet {I : Type 0} (left : I → Option (List ℕ)) (failed : I �
   pub middle : Reader I
   pub middle_steps : ℕ
   pub set : TakesSet left failed old middle old_steps middle_steps s b p samples run
-  pub skips : Skips middle new (padding s (block_behind s b set.set) middle.taken)
+  pub skips : Skips middle new (padding s (block_after s b set.set) middle.taken)
   -- each bit that is skipped is a step
   pub steps : new_steps + middle.taken ≡ middle_steps + new.taken
 
 -- A reader took a data set that is not sound.
-pub record SetRefused {I : Type 0} (left : I → Option (List ℕ)) (failed : I → ℕ) (old new : Reader I) (s : Parameters) (b : ℕ) (P : DataSet → Type 0) : Type 0 where
-  pub set : DataSet
+pub record SetRefused {I : Type 0} (left : I → Option (List ℕ)) (failed : I → ℕ) (old new : Reader I) (s : Parameters) (b : ℕ) (P : CodedDataSet → Type 0) : Type 0 where
+  pub set : CodedDataSet
   pub form : IsForm s b set
-  pub takes : Takes left failed old new (text s set)
+  pub takes : Takes left failed old new (bits_of_set s set)
   pub unsound : P set → ⊥
 
 -- A reader took all that was left, where the intake has ended, and no data set begins with it. `blank`: no bit of it was a 1.
@@ -73,50 +74,21 @@ StopsBy left failed old new s b (Err faults.ResidualTooLarge) = SetRefused left 
 StopsBy left failed old new s b (Err faults.Read) = SetCut left failed old new s b bit_faults.Read
 StopsBy left failed old new s b (Err faults.TooLong) = SetCut left failed old new s b bit_faults.TooLong
 
--- The place of a decoder.
-pub record Place : Type 0 where
-  pub setting : Parameters
-  -- the block that comes next, by its place in its reference interval
-  pub block : ℕ
-  -- the sample before it
-  pub before : ℤ
-  -- the zero blocks of a run that are still to come
-  pub run : ℕ
-  -- what the decoder answers from now on
-  pub stopped : Option (Result Step CodeFault)
-
--- what is so of each decoder's fields
-pub record IsPlace (s : Parameters) (block : ℕ) (before : ℤ) (run : ℕ) (stopped : Option (Result Step CodeFault)) : Type 0 where
-  pub legal : IsLegal s
-  pub within : block < s.interval
-  pub sample : IsSample s before
-  pub run_begun : 0 < run → begins_segment s block ≡ false
-  pub run_fits : 0 < run → run ≤ blocks_left s block
-  pub no_block : stopped ≢ Some (Ok Block)
-
--- the place of the next block
-abbrev pub next_block_place : Parameters → ℕ → ℕ
-next_block_place s b = if b + 1 == s.interval then 0 else b + 1
-
--- the place behind a block with these samples, where so many zero blocks follow
-abbrev pub moved : Place → List ℤ → ℕ → Place
-moved p samples run = record p { block = next_block_place p.setting p.block; before = last_of p.before samples; run = run }
-
 -- a reader from whose place on no 1 was taken
-abbrev pub marked : {I : Type 0} → Reader I → Reader I
-marked r = record r { blank = true }
+abbrev pub with_mark : {I : Type 0} → Reader I → Reader I
+with_mark r = record r { blank = true }
 
 -- What a call says that reads a data set.
-abbrev pub Answers : {I : Type 0} → (I → Option (List ℕ)) → (I → ℕ) → Reader I → Reader I → ℕ → ℕ → Place → Place → List ℤ → Result Step CodeFault → Type 0
+abbrev pub Answers : {I : Type 0} → (I → Option (List ℕ)) → (I → ℕ) → Reader I → Reader I → ℕ → ℕ → DecoderState → DecoderState → List ℤ → Result Step CodeFault → Type 0
 Answers left failed old new old_steps new_steps p q samples (Ok Block) =
-    GivesSet left failed old new old_steps new_steps p.setting p.block p.before samples q.run × (q ≡ moved p samples q.run)
+    GivesSet left failed old new old_steps new_steps p.setting p.block p.before samples q.run × (q ≡ state_after_block p samples q.run)
 Answers left failed old new old_steps new_steps p q samples (Ok Done) = StopsBy left failed old new p.setting p.block (Ok Done) × (q ≡ record p { stopped = Some (Ok Done) }) × (samples ≡ [])
 Answers left failed old new old_steps new_steps p q samples (Err f) = StopsBy left failed old new p.setting p.block (Err f) × (q ≡ record p { stopped = Some (Err f) }) × (samples ≡ [])
 
 -- What a call says inside a run.
-pub record GoesOn (p q : Place) (samples : List ℤ) : Type 0 where
-  pub gives : GivesBlock p.setting p.block p.before samples q.run (replicate p.run (zeros p.setting None))
-  pub moves : q ≡ moved p samples q.run
+pub record GivesFromRun (p q : DecoderState) (samples : List ℤ) : Type 0 where
+  pub gives : GivesBlock p.setting p.block p.before samples q.run (replicate p.run (zero_block p.setting None))
+  pub moves : q ≡ state_after_block p samples q.run
 
 -- what a decoder answers where its reader refuses
 abbrev pub answer_to : BitFault → Result Step CodeFault

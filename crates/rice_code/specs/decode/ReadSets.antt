@@ -3,8 +3,8 @@ use Rattle.std.specs.Prelude.{◌≡◌, ℕ, ◌+◌, ◌*◌, ◌^◌, Bool, t
 use Rattle.rice_bits.specs.read.Reader.{Reader, Takes, Stops}
 use Rattle.rice_bits.specs.declared.read.fault.BitFault.{BitFault}
 use Rattle.rice_samples.specs.Parameters.{Parameters}
-use Rattle.rice_code.specs.code.Blocks.{Contents}
-use Rattle.rice_code.specs.code.CodedDataSets.{DataSet, NoCompression, SecondExtension, Split, ZeroBlocks, RemainderOfSegment, text, turns, run_of, run_number, second_extension_tail, run_tail}
+use Rattle.rice_code.specs.code.Blocks.{BlockData}
+use Rattle.rice_code.specs.code.CodedDataSets.{CodedDataSet, NoCompression, SecondExtension, Split, ZeroBlocks, RemainderOfSegment, bits_of_set, turns, run_with_zeros, run_number, second_extension_tail, run_tail}
 use Rattle.rice_code.specs.declared.decode.options.SetHead.{SetHead}
 use Rattle.rice_code.specs.declared.decode.options.SetHead.TheVariants.{Residuals, Zeros}
 use Rattle.rice_code.specs.code.Forms.{IsForm, IsBlock, IsZeroAtReference, RunIsSound, ResidualsAreSound, AllFit, blocks_in}
@@ -22,8 +22,8 @@ reference_place (Some v) = 0 ∷ []
 
 -- A reader took what follows the identifier of one block by this option. Its residuals are told where they are sound.
 pub record BlockRead {I : Type 0} (left : I → Option (List ℕ)) (failed : I → ℕ) (old new : Reader I) (old_steps new_steps : ℕ)
-    (s : Parameters) (b : ℕ) (option : Contents → DataSet) (spell : Contents → List Bool) (reference : Option ℕ) (sound : Bool) (residuals : List ℕ) : Type 0 where
-  pub contents : Contents
+    (s : Parameters) (b : ℕ) (option : BlockData → CodedDataSet) (spell : BlockData → List Bool) (reference : Option ℕ) (sound : Bool) (residuals : List ℕ) : Type 0 where
+  pub contents : BlockData
   pub form : IsForm s b (option contents)
   pub reference_is : contents.reference ≡ reference
   pub takes : Takes left failed old new (spell contents)
@@ -33,14 +33,14 @@ pub record BlockRead {I : Type 0} (left : I → Option (List ℕ)) (failed : I �
 
 -- A reader took all that was left and refused, and no block by this option begins with it.
 pub record BlockCut {I : Type 0} (left : I → Option (List ℕ)) (failed : I → ℕ) (old new : Reader I)
-    (s : Parameters) (b : ℕ) (option : Contents → DataSet) (spell : Contents → List Bool) (fault : BitFault) : Type 0 where
+    (s : Parameters) (b : ℕ) (option : BlockData → CodedDataSet) (spell : BlockData → List Bool) (fault : BitFault) : Type 0 where
   pub bits : List Bool
   pub stops : Stops left failed old new bits fault
-  pub none : (c : Contents) (more : List Bool) → IsForm s b (option c) → bits ≡ spell c ++ more → ⊥
+  pub none : (c : BlockData) (more : List Bool) → IsForm s b (option c) → bits ≡ spell c ++ more → ⊥
 
 -- A data set of one block has these residuals where they are sound.
-pub record BlockTold (s : Parameters) (b : ℕ) (reference : Option ℕ) (sound : Bool) (residuals : List ℕ) (set : DataSet) : Type 0 where
-  pub contents : Contents
+pub record DescribesBlock (s : Parameters) (b : ℕ) (reference : Option ℕ) (sound : Bool) (residuals : List ℕ) (set : CodedDataSet) : Type 0 where
+  pub contents : BlockData
   pub blocks : blocks_in s b set ≡ contents ∷ []
   pub block : IsBlock s b contents
   pub reference_is : contents.reference ≡ reference
@@ -49,16 +49,16 @@ pub record BlockTold (s : Parameters) (b : ℕ) (reference : Option ℕ) (sound 
   pub refused : sound ≡ false → ResidualsAreSound s set → ⊥
 
 -- what is told of a data set
-abbrev pub Tells : Parameters → ℕ → SetHead → List ℕ → DataSet → Type 0
-Tells s b (Residuals reference sound) residuals set = BlockTold s b reference sound residuals set
-Tells s b (Zeros reference zeros) residuals set = set ≡ run_of reference zeros
+abbrev pub DescribesSet : Parameters → ℕ → SetHead → List ℕ → CodedDataSet → Type 0
+DescribesSet s b (Residuals reference sound) residuals set = DescribesBlock s b reference sound residuals set
+DescribesSet s b (Zeros reference zeros) residuals set = set ≡ run_with_zeros reference zeros
 
 -- A reader took a data set, sound or not.
 pub record SetRead {I : Type 0} (left : I → Option (List ℕ)) (failed : I → ℕ) (old new : Reader I) (old_steps new_steps : ℕ) (s : Parameters) (b : ℕ) (taken : SetHead) (residuals : List ℕ) : Type 0 where
-  pub set : DataSet
+  pub set : CodedDataSet
   pub form : IsForm s b set
-  pub takes : Takes left failed old new (text s set)
-  pub tells : Tells s b taken residuals set
+  pub takes : Takes left failed old new (bits_of_set s set)
+  pub tells : DescribesSet s b taken residuals set
   -- each bit and each turn of the search is a step
   pub steps : new_steps + old.taken ≡ old_steps + new.taken + turns set
 
@@ -66,10 +66,10 @@ pub record SetRead {I : Type 0} (left : I → Option (List ℕ)) (failed : I →
 pub record SetCut {I : Type 0} (left : I → Option (List ℕ)) (failed : I → ℕ) (old new : Reader I) (s : Parameters) (b : ℕ) (fault : BitFault) : Type 0 where
   pub bits : List Bool
   pub stops : Stops left failed old new bits fault
-  pub none : (d : DataSet) (more : List Bool) → IsForm s b d → bits ≡ text s d ++ more → ⊥
+  pub none : (d : CodedDataSet) (more : List Bool) → IsForm s b d → bits ≡ bits_of_set s d ++ more → ⊥
 
 -- the data sets whose identifier is 0, behind it
-abbrev pub low_tail : Parameters → DataSet → List Bool
+abbrev pub low_tail : Parameters → CodedDataSet → List Bool
 low_tail s (NoCompression c) = []
 low_tail s (SecondExtension c) = true ∷ second_extension_tail s c
 low_tail s (Split k c) = []
@@ -77,7 +77,7 @@ low_tail s (ZeroBlocks reference z) = false ∷ run_tail s reference (run_number
 low_tail s (RemainderOfSegment reference) = false ∷ run_tail s reference 4
 
 -- its identifier is 0
-abbrev pub IsLow : DataSet → Type 0
+abbrev pub IsLow : CodedDataSet → Type 0
 IsLow (NoCompression c) = ⊥
 IsLow (SecondExtension c) = ⊤
 IsLow (Split k c) = ⊥
@@ -85,14 +85,14 @@ IsLow (ZeroBlocks reference z) = ⊤
 IsLow (RemainderOfSegment reference) = ⊤
 
 pub record LowRead {I : Type 0} (left : I → Option (List ℕ)) (failed : I → ℕ) (old new : Reader I) (old_steps new_steps : ℕ) (s : Parameters) (b : ℕ) (taken : SetHead) (residuals : List ℕ) : Type 0 where
-  pub set : DataSet
+  pub set : CodedDataSet
   pub low : IsLow set
   pub form : IsForm s b set
   pub takes : Takes left failed old new (low_tail s set)
-  pub tells : Tells s b taken residuals set
+  pub tells : DescribesSet s b taken residuals set
   pub steps : new_steps + old.taken ≡ old_steps + new.taken + turns set
 
 pub record LowCut {I : Type 0} (left : I → Option (List ℕ)) (failed : I → ℕ) (old new : Reader I) (s : Parameters) (b : ℕ) (fault : BitFault) : Type 0 where
   pub bits : List Bool
   pub stops : Stops left failed old new bits fault
-  pub none : (d : DataSet) (more : List Bool) → IsForm s b d → IsLow d → bits ≡ low_tail s d ++ more → ⊥
+  pub none : (d : CodedDataSet) (more : List Bool) → IsForm s b d → IsLow d → bits ≡ low_tail s d ++ more → ⊥

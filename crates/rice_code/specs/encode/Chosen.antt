@@ -1,11 +1,11 @@
 -- The option that the code names.
 use Rattle.std.specs.Prelude.{ℕ, ◌≤◌, ⊤}
-use Rattle.rice_code.specs.code.Blocks.{Contents}
-use Rattle.rice_code.specs.code.CodedDataSets.{DataSet, NoCompression as no_compression, SecondExtension as second_extension, Split as split}
+use Rattle.rice_code.specs.code.Blocks.{BlockData}
+use Rattle.rice_code.specs.code.CodedDataSets.{CodedDataSet, NoCompression as no_compression, SecondExtension as second_extension, Split as split}
 use Rattle.rice_code.specs.declared.encode.search.Choice.{Choice}
 use Rattle.rice_code.specs.declared.encode.search.Choice.TheVariants.{NoCompression, SecondExtension, Split}
 
-abbrev pub chosen_set : Choice → Contents → DataSet
+abbrev pub chosen_set : Choice → BlockData → CodedDataSet
 chosen_set NoCompression c = no_compression c
 chosen_set SecondExtension c = second_extension c
 chosen_set (Split k) c = split k c

@@ -3,10 +3,11 @@ ghost use Rattle.std.specs.Prelude.{◌≡◌, ℕ, ◌+◌, ◌-◌, ◌*◌, �
 ghost use Rattle.rice_samples.specs.Parameters.{IsLegal, IsSample};
 ghost use Rattle.rice_samples.specs.Places.{blocks_left};
 ghost use Rattle.rice_samples.specs.predict.Residuals.{last_of};
-ghost use Rattle.rice_code.specs.code.Blocks.{Contents, contents, zeros};
+ghost use Rattle.rice_code.specs.code.Blocks.{BlockData, block_data, zero_block};
 ghost use Rattle.rice_code.specs.code.Forms.{IsReference};
 ghost use Rattle.rice_code.specs.decode.Fields.{HasRoom, AreCounted};
-ghost use Rattle.rice_code.specs.decode.Decoder.{TakesSet, StopsBy, Skips, answer_to, next_block_place};
+ghost use Rattle.rice_code.specs.decode.Decoder.{TakesSet, StopsBy, Skips, answer_to};
+ghost use Rattle.rice_code.specs.decode.DecoderState.{next_block_place};
 ghost use Rattle.rice_code.specs.code.Layout.{padding};
 
 use crate::decode::coded_data_set::read_set;
@@ -132,17 +133,17 @@ pub struct Decoder {
 }
 
 impl Model for Decoder {
-    ghost use Rattle.rice_code.specs.decode.Decoder.{Place, IsPlace};
+    ghost use Rattle.rice_code.specs.decode.DecoderState.{DecoderState, IsDecoderState};
 
-    ghost Value = { Place };
+    ghost Value = { DecoderState };
 
     ghost view = { λ d. record { setting = d.setting; block = d.block; before = d.before; run = d.run; stopped = d.stopped } };
 
-    ghost invariant = { λ d. IsPlace d.setting d.block d.before d.run d.stopped };
+    ghost invariant = { λ d. IsDecoderState d.setting d.block d.before d.run d.stopped };
 }
 
 impl Decoder {
-    ghost use Rattle.rice_code.specs.decode.Decoder.{Answers, GoesOn, marked};
+    ghost use Rattle.rice_code.specs.decode.Decoder.{Answers, GivesFromRun, with_mark};
     ghost use Rattle.rice_code.specs.declared.decode.fault.Step.TheVariants.{Block};
 
     /// A decoder at the beginning of a code.
@@ -180,9 +181,9 @@ impl Decoder {
         ensures stopped { IfSome self.old.stopped (λ a. (result ≡ a) × (self.new ≡ self.old) × (reader.new ≡ reader.old) × (meter.new ≡ meter.old) × (samples.new.items ≡ [])) }
         // Inside a run no bit is taken.
         ensures in_run { self.old.stopped ≡ None → 0 < self.old.run →
-            (result ≡ Ok Block) × GoesOn self.old self.new samples.new.items × (reader.new ≡ reader.old) × (meter.new ≡ meter.old) }
+            (result ≡ Ok Block) × GivesFromRun self.old self.new samples.new.items × (reader.new ≡ reader.old) × (meter.new ≡ meter.old) }
         ensures reads { self.old.stopped ≡ None → self.old.run ≡ 0 →
-            Answers I.left I.failed (marked reader.old) reader.new meter.old meter.new self.old self.new samples.new.items result }
+            Answers I.left I.failed (with_mark reader.old) reader.new meter.old meter.new self.old self.new samples.new.items result }
         // Only a decoder that has stopped may not be called again with this reader.
         ensures going { self.new.stopped ≡ None → reader.new.refusal ≡ None }
         ensures block { result ≡ Ok Block → self.new.stopped ≡ None }

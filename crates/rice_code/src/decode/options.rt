@@ -2,9 +2,9 @@
 ghost use Rattle.std.specs.Prelude.{◌≡◌, ℕ, ◌+◌, ◌-◌, ◌*◌, ◌/◌, ◌^◌, ◌<◌, ◌≤◌, Bool, true, false, List, [], ◌++◌, length, take, Option, None, IfOk, IfErr};
 ghost use Rattle.rice_bits.specs.read.Reader.{Takes, Stops};
 ghost use Rattle.rice_samples.specs.Parameters.{Parameters, IsLegal, k_max};
-ghost use Rattle.rice_samples.specs.Places.{has_reference};
-ghost use Rattle.rice_code.specs.code.Blocks.{Contents};
-ghost use Rattle.rice_code.specs.code.CodedDataSets.{NoCompression, SecondExtension, Split, reference_text, no_compression_tail, second_extension_tail, split_tail, run_tail};
+ghost use Rattle.rice_samples.specs.Places.{is_reference};
+ghost use Rattle.rice_code.specs.code.Blocks.{BlockData};
+ghost use Rattle.rice_code.specs.code.CodedDataSets.{NoCompression, SecondExtension, Split, reference_bits, no_compression_tail, second_extension_tail, split_tail, run_tail};
 ghost use Rattle.rice_code.specs.code.Forms.{IsReference};
 ghost use Rattle.rice_code.specs.decode.Fields.{HasRoom, AreCounted};
 ghost use Rattle.rice_code.specs.decode.ReadSets.{BlockRead, BlockCut, reference_place};
@@ -38,8 +38,8 @@ pub fn read_reference<I: Intake>(
     requires going { reader.old.refusal ≡ None }
     requires room { HasRoom meter.old reader.old.taken }
     ensures reference { IfOk result (λ r. IsReference setting.now block r) }
-    ensures ok { IfOk result (λ r. Takes I.left I.failed reader.old reader.new (reference_text setting.now r)) }
-    ensures err { IfErr result (λ f. (bits : List Bool) × (has_reference setting.now block ≡ true) × (length bits < setting.now.bits) × Stops I.left I.failed reader.old reader.new bits f) }
+    ensures ok { IfOk result (λ r. Takes I.left I.failed reader.old reader.new (reference_bits setting.now r)) }
+    ensures err { IfErr result (λ f. (bits : List Bool) × (is_reference setting.now block ≡ true) × (length bits < setting.now.bits) × Stops I.left I.failed reader.old reader.new bits f) }
     ensures steps { meter.new + reader.old.taken ≡ meter.old + reader.new.taken }
     ensures limit { reader.new.taken ≤ 2 ^ 52 }
 {

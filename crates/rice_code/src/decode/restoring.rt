@@ -2,7 +2,7 @@
 ghost use Rattle.std.specs.Prelude.{◌≡◌, ℕ, ◌+◌, ◌-◌, ◌*◌, ◌/◌, ◌^◌, ◌<◌, ◌≤◌, ◌==◌, Bool, true, false, List, length, replicate, All, ℤ, IfSome, is_some};
 ghost use Rattle.rice_samples.specs.Parameters.{IsLegal, IsSample, value_count};
 ghost use Rattle.rice_samples.specs.predict.Residuals.{pattern, last_of};
-ghost use Rattle.rice_code.specs.code.Blocks.{Contents, contents, zeros};
+ghost use Rattle.rice_code.specs.code.Blocks.{BlockData, block_data, zero_block};
 ghost use Rattle.rice_code.specs.code.Forms.{IsReference, IsBlock, IsZeroAtReference, AllFit};
 ghost use Rattle.rice_code.specs.decode.Restored.{residual_at};
 
@@ -41,7 +41,7 @@ fn write_block(
     requires len { length samples.old ≡ setting.now.block }
     ensures len { length samples.new ≡ setting.now.block }
     ensures legal { All (IsSample setting.now) samples.new }
-    ensures contents { contents setting.now block p samples.new ≡ record { reference = reference; residuals = residuals.now } }
+    ensures contents { block_data setting.now block p samples.new ≡ record { reference = reference; residuals = residuals.now } }
 {
     match reference {
         Some(value) => {
@@ -69,7 +69,7 @@ pub fn restore_block(
     requires fit { AllFit setting.now (record { reference = reference; residuals = residuals.now }) }
     ensures len { length samples.new.items ≡ setting.now.block }
     ensures legal { All (IsSample setting.now) samples.new.items }
-    ensures contents { contents setting.now block p samples.new.items ≡ record { reference = reference; residuals = residuals.now } }
+    ensures contents { block_data setting.now block p samples.new.items ≡ record { reference = reference; residuals = residuals.now } }
     ensures last { result ≡ last_of p samples.new.items }
     ensures sample { IsSample setting.now result }
 {
@@ -126,7 +126,7 @@ pub fn restore_zeros(
     requires reference { IsReference setting.now block reference }
     ensures len { length samples.new.items ≡ setting.now.block }
     ensures legal { All (IsSample setting.now) samples.new.items }
-    ensures contents { contents setting.now block p samples.new.items ≡ zeros setting.now reference }
+    ensures contents { block_data setting.now block p samples.new.items ≡ zero_block setting.now reference }
     ensures last { result ≡ last_of p samples.new.items }
     ensures sample { IsSample setting.now result }
 {

@@ -2,11 +2,12 @@
 ghost use Rattle.std.specs.Prelude.{◌≡◌, ℕ, ◌+◌, ◌-◌, ◌*◌, ◌/◌, ◌^◌, ◌<◌, ◌≤◌, ◌++◌, [], ◌∷◌, min, true, false, length, sum_by, IfSome};
 ghost use Rattle.rice_samples.specs.Parameters.{k_max, value_count};
 ghost use Rattle.rice_samples.specs.Places.{begins_segment, blocks_left, place};
-ghost use Rattle.rice_code.specs.code.Blocks.{is_zero};
-ghost use Rattle.rice_code.specs.code.CodedDataSets.{cost, text, joined};
+ghost use Rattle.rice_code.specs.code.Blocks.{is_zero_block};
+ghost use Rattle.rice_code.specs.code.CodedDataSets.{cost, bits_of_set, bits_of_sets};
 ghost use Rattle.rice_code.specs.code.Code.{data_sets};
 ghost use Rattle.rice_code.specs.code.Choice.{shortest, best_split};
-ghost use Rattle.rice_code.specs.encode.HeldBlocks.{told, IsSound, AreSoundBlocks, held_blocks, reference_at, waiting_run};
+ghost use Rattle.rice_code.specs.encode.HeldBlocks.{held_blocks, reference_at, pending_run};
+ghost use Rattle.rice_code.specs.code.SoundBlocks.{block_with, IsSoundData, AreSoundBlocks};
 ghost use Rattle.rice_code.specs.Steps.{least_looks, most_looks};
 
 use crate::encode::options::{put_block, put_run};
@@ -25,13 +26,13 @@ fn code_block(
     sink: &mut BitSink<16432>,
     meter: &mut Meter,
 )
-    requires sound { IsSound setting.now (told reference block) }
-    requires room { length sink.old + cost setting.now (shortest setting.now (told reference block)) ≤ 131456 }
-    requires meter { meter.old + cost setting.now (shortest setting.now (told reference block)) + setting.now.block * (k_max setting.now + 4) < 2 ^ 62 }
-    ensures bits { sink.new ≡ sink.old ++ text setting.now (shortest setting.now (told reference block.entry)) }
-    ensures len { length sink.new ≡ length sink.old + cost setting.now (shortest setting.now (told reference block.entry)) }
-    ensures steps_from { meter.old + cost setting.now (shortest setting.now (told reference block.entry)) + setting.now.block * (best_split setting.now (told reference block.entry) + 3) ≤ meter.new + 1 }
-    ensures steps_to { meter.new ≤ meter.old + cost setting.now (shortest setting.now (told reference block.entry)) + setting.now.block * (min (best_split setting.now (told reference block.entry) + 1) (k_max setting.now) + 4) }
+    requires sound { IsSoundData setting.now (block_with reference block) }
+    requires room { length sink.old + cost setting.now (shortest setting.now (block_with reference block)) ≤ 131456 }
+    requires meter { meter.old + cost setting.now (shortest setting.now (block_with reference block)) + setting.now.block * (k_max setting.now + 4) < 2 ^ 62 }
+    ensures bits { sink.new ≡ sink.old ++ bits_of_set setting.now (shortest setting.now (block_with reference block.entry)) }
+    ensures len { length sink.new ≡ length sink.old + cost setting.now (shortest setting.now (block_with reference block.entry)) }
+    ensures steps_from { meter.old + cost setting.now (shortest setting.now (block_with reference block.entry)) + setting.now.block * (best_split setting.now (block_with reference block.entry) + 3) ≤ meter.new + 1 }
+    ensures steps_to { meter.new ≤ meter.old + cost setting.now (shortest setting.now (block_with reference block.entry)) + setting.now.block * (min (best_split setting.now (block_with reference block.entry) + 1) (k_max setting.now) + 4) }
 {
     // What a copy and a count of its own say stays in registers from step to step.
     let own = *setting;
@@ -53,11 +54,11 @@ fn put_waiting(
 )
     requires few { run ≤ 64 }
     requires fits { IfSome reference (λ v. v < value_count setting.now) }
-    requires room { length sink.old + length (joined setting.now (waiting_run to_end reference run)) ≤ 131456 }
-    requires meter { meter.old + length (joined setting.now (waiting_run to_end reference run)) < 2 ^ 62 }
-    ensures bits { sink.new ≡ sink.old ++ joined setting.now (waiting_run to_end reference run) }
-    ensures len { length sink.new ≡ length sink.old + length (joined setting.now (waiting_run to_end reference run)) }
-    ensures steps { meter.new ≡ meter.old + length (joined setting.now (waiting_run to_end reference run)) }
+    requires room { length sink.old + length (bits_of_sets setting.now (pending_run to_end reference run)) ≤ 131456 }
+    requires meter { meter.old + length (bits_of_sets setting.now (pending_run to_end reference run)) < 2 ^ 62 }
+    ensures bits { sink.new ≡ sink.old ++ bits_of_sets setting.now (pending_run to_end reference run) }
+    ensures len { length sink.new ≡ length sink.old + length (bits_of_sets setting.now (pending_run to_end reference run)) }
+    ensures steps { meter.new ≡ meter.old + length (bits_of_sets setting.now (pending_run to_end reference run)) }
 {
     if run > 0 {
         put_run(setting, reference, run, to_end, sink, meter);
@@ -76,18 +77,18 @@ fn code_next(
 ) -> u32
     requires few { run < 64 }
     requires fits { IfSome first (λ v. v < value_count setting.now) }
-    requires sound { IsSound setting.now (told reference block) }
-    requires room { is_zero (told reference block) ≡ false → length sink.old + length (joined setting.now (waiting_run false first run)) + cost setting.now (shortest setting.now (told reference block)) ≤ 131456 }
+    requires sound { IsSoundData setting.now (block_with reference block) }
+    requires room { is_zero_block (block_with reference block) ≡ false → length sink.old + length (bits_of_sets setting.now (pending_run false first run)) + cost setting.now (shortest setting.now (block_with reference block)) ≤ 131456 }
     requires look { meter.old + setting.now.block < 2 ^ 62 }
-    requires meter { is_zero (told reference block) ≡ false → meter.old + length (joined setting.now (waiting_run false first run)) + cost setting.now (shortest setting.now (told reference block)) + setting.now.block * (k_max setting.now + 5) < 2 ^ 62 }
-    ensures run_zero { is_zero (told reference block.entry) ≡ true → result ≡ run + 1 }
-    ensures bits_zero { is_zero (told reference block.entry) ≡ true → sink.new ≡ sink.old }
-    ensures steps_zero { is_zero (told reference block.entry) ≡ true → meter.new ≡ meter.old + setting.now.block }
-    ensures run { is_zero (told reference block.entry) ≡ false → result ≡ 0 }
-    ensures bits { is_zero (told reference block.entry) ≡ false → sink.new ≡ sink.old ++ joined setting.now (waiting_run false first run) ++ text setting.now (shortest setting.now (told reference block.entry)) }
-    ensures len { is_zero (told reference block.entry) ≡ false → length sink.new ≡ length sink.old + length (joined setting.now (waiting_run false first run)) + cost setting.now (shortest setting.now (told reference block.entry)) }
-    ensures steps_from { is_zero (told reference block.entry) ≡ false → meter.old + length (joined setting.now (waiting_run false first run)) + cost setting.now (shortest setting.now (told reference block.entry)) + setting.now.block * (best_split setting.now (told reference block.entry) + 4) ≤ meter.new + 1 }
-    ensures steps_to { is_zero (told reference block.entry) ≡ false → meter.new ≤ meter.old + length (joined setting.now (waiting_run false first run)) + cost setting.now (shortest setting.now (told reference block.entry)) + setting.now.block * (min (best_split setting.now (told reference block.entry) + 1) (k_max setting.now) + 5) }
+    requires meter { is_zero_block (block_with reference block) ≡ false → meter.old + length (bits_of_sets setting.now (pending_run false first run)) + cost setting.now (shortest setting.now (block_with reference block)) + setting.now.block * (k_max setting.now + 5) < 2 ^ 62 }
+    ensures run_zero { is_zero_block (block_with reference block.entry) ≡ true → result ≡ run + 1 }
+    ensures bits_zero { is_zero_block (block_with reference block.entry) ≡ true → sink.new ≡ sink.old }
+    ensures steps_zero { is_zero_block (block_with reference block.entry) ≡ true → meter.new ≡ meter.old + setting.now.block }
+    ensures run { is_zero_block (block_with reference block.entry) ≡ false → result ≡ 0 }
+    ensures bits { is_zero_block (block_with reference block.entry) ≡ false → sink.new ≡ sink.old ++ bits_of_sets setting.now (pending_run false first run) ++ bits_of_set setting.now (shortest setting.now (block_with reference block.entry)) }
+    ensures len { is_zero_block (block_with reference block.entry) ≡ false → length sink.new ≡ length sink.old + length (bits_of_sets setting.now (pending_run false first run)) + cost setting.now (shortest setting.now (block_with reference block.entry)) }
+    ensures steps_from { is_zero_block (block_with reference block.entry) ≡ false → meter.old + length (bits_of_sets setting.now (pending_run false first run)) + cost setting.now (shortest setting.now (block_with reference block.entry)) + setting.now.block * (best_split setting.now (block_with reference block.entry) + 4) ≤ meter.new + 1 }
+    ensures steps_to { is_zero_block (block_with reference block.entry) ≡ false → meter.new ≤ meter.old + length (bits_of_sets setting.now (pending_run false first run)) + cost setting.now (shortest setting.now (block_with reference block.entry)) + setting.now.block * (min (best_split setting.now (block_with reference block.entry) + 1) (k_max setting.now) + 5) }
 {
     if block.is_zero(meter) {
         return run + 1;
@@ -123,11 +124,11 @@ pub fn code_blocks(
     requires len { length segment.now ≡ setting.now.block * count }
     requires fits { IfSome reference (λ v. v < value_count setting.now) }
     requires sound { AreSoundBlocks setting.now start (held_blocks setting.now reference count segment.now) }
-    requires room { length sink.old + length (joined setting.now (data_sets setting.now start false (held_blocks setting.now reference count segment.now))) ≤ 131456 }
-    requires meter { meter.old + length (joined setting.now (data_sets setting.now start false (held_blocks setting.now reference count segment.now))) + count * (setting.now.block * (k_max setting.now + 5)) < 2 ^ 62 }
-    ensures bits { sink.new ≡ sink.old ++ joined setting.now (data_sets setting.now start false (held_blocks setting.now reference count segment.now)) }
-    ensures steps_from { meter.old + length (joined setting.now (data_sets setting.now start false (held_blocks setting.now reference count segment.now))) + sum_by (least_looks setting.now) (held_blocks setting.now reference count segment.now) ≤ meter.new }
-    ensures steps_to { meter.new ≤ meter.old + length (joined setting.now (data_sets setting.now start false (held_blocks setting.now reference count segment.now))) + sum_by (most_looks setting.now) (held_blocks setting.now reference count segment.now) }
+    requires room { length sink.old + length (bits_of_sets setting.now (data_sets setting.now start false (held_blocks setting.now reference count segment.now))) ≤ 131456 }
+    requires meter { meter.old + length (bits_of_sets setting.now (data_sets setting.now start false (held_blocks setting.now reference count segment.now))) + count * (setting.now.block * (k_max setting.now + 5)) < 2 ^ 62 }
+    ensures bits { sink.new ≡ sink.old ++ bits_of_sets setting.now (data_sets setting.now start false (held_blocks setting.now reference count segment.now)) }
+    ensures steps_from { meter.old + length (bits_of_sets setting.now (data_sets setting.now start false (held_blocks setting.now reference count segment.now))) + sum_by (least_looks setting.now) (held_blocks setting.now reference count segment.now) ≤ meter.new }
+    ensures steps_to { meter.new ≤ meter.old + length (bits_of_sets setting.now (data_sets setting.now start false (held_blocks setting.now reference count segment.now))) + sum_by (most_looks setting.now) (held_blocks setting.now reference count segment.now) }
 {
     // What a copy of its own says is read once, and not again behind each tick.
     let own = *setting;

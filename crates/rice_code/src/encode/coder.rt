@@ -28,9 +28,10 @@ pub struct Coder {
 }
 
 impl Model for Coder {
-    ghost use Rattle.rice_code.specs.encode.Coder.{State, IsCoder};
+    ghost use Rattle.rice_code.specs.encode.Coder.{IsCoder};
+    ghost use Rattle.rice_code.specs.encode.OpenSegment.{CoderState};
 
-    ghost Value = { State };
+    ghost Value = { CoderState };
 
     ghost view = { λ c. c.segment };
 
@@ -38,11 +39,11 @@ impl Model for Coder {
 }
 
 impl Coder {
-    ghost use Rattle.rice_code.specs.encode.Coder.{StandsFor, IsInPlace, Completes, Finishes, fill_samples, settled};
+    ghost use Rattle.rice_code.specs.encode.Coder.{HasTaken, IsAlignedWith, AppendsCode, AppendsRest, fill_samples, complete_samples};
 
     /// A coder that stands for no samples.
     pub fn new(setting: Setting) -> Self
-        ensures stands { StandsFor result [] }
+        ensures stands { HasTaken result [] }
         ensures setting { result.setting ≡ setting }
     {
         let _block = setting.block();
@@ -53,7 +54,7 @@ impl Coder {
 
     /// How many samples wait for their segment to be whole: fewer than 64 blocks of them.
     pub fn pending(&self) -> u32
-        ensures value { (xs : List ℤ) → StandsFor self.now xs → result + cut self.now.setting (length xs) ≡ length xs }
+        ensures value { (xs : List ℤ) → HasTaken self.now xs → result + cut self.now.setting (length xs) ≡ length xs }
         ensures limit { result < 64 * self.now.setting.block }
     {
         self.segment.len() as u32
@@ -70,11 +71,11 @@ impl Coder {
         requires room { length sink.old ≤ 7 }
         requires meter { meter.old + segment_steps self.old.setting < 2 ^ 62 }
         ensures setting { self.new.setting ≡ self.old.setting }
-        ensures stands { (xs : List ℤ) → StandsFor self.old xs → StandsFor self.new (xs ++ x ∷ []) }
-        ensures code { (xs : List ℤ) → StandsFor self.old xs → IsInPlace self.old.setting xs sink.old → Completes self.old.setting xs (xs ++ x ∷ []) sink.old sink.new }
-        ensures bits { (xs : List ℤ) → StandsFor self.old xs → code_bits self.old.setting (settled self.old.setting (xs ++ x ∷ [])) ≡ code_bits self.old.setting (settled self.old.setting xs) + result }
-        ensures steps_from { (xs : List ℤ) → StandsFor self.old xs → meter.old + 1 + least_steps self.old.setting (settled self.old.setting (xs ++ x ∷ [])) ≤ meter.new + least_steps self.old.setting (settled self.old.setting xs) }
-        ensures steps_to { (xs : List ℤ) → StandsFor self.old xs → meter.new + most_steps self.old.setting (settled self.old.setting xs) ≤ meter.old + 1 + most_steps self.old.setting (settled self.old.setting (xs ++ x ∷ [])) }
+        ensures stands { (xs : List ℤ) → HasTaken self.old xs → HasTaken self.new (xs ++ x ∷ []) }
+        ensures code { (xs : List ℤ) → HasTaken self.old xs → IsAlignedWith self.old.setting xs sink.old → AppendsCode self.old.setting xs (xs ++ x ∷ []) sink.old sink.new }
+        ensures bits { (xs : List ℤ) → HasTaken self.old xs → code_bits self.old.setting (complete_samples self.old.setting (xs ++ x ∷ [])) ≡ code_bits self.old.setting (complete_samples self.old.setting xs) + result }
+        ensures steps_from { (xs : List ℤ) → HasTaken self.old xs → meter.old + 1 + least_steps self.old.setting (complete_samples self.old.setting (xs ++ x ∷ [])) ≤ meter.new + least_steps self.old.setting (complete_samples self.old.setting xs) }
+        ensures steps_to { (xs : List ℤ) → HasTaken self.old xs → meter.new + most_steps self.old.setting (complete_samples self.old.setting xs) ≤ meter.old + 1 + most_steps self.old.setting (complete_samples self.old.setting (xs ++ x ∷ [])) }
     {
         meter.tick(1);
         self.segment.hold(x);
@@ -103,13 +104,13 @@ impl Coder {
         ensures taken { result.samples ≤ length samples.now }
         ensures some { 0 < length samples.now → 0 < result.samples }
         ensures setting { self.new.setting ≡ self.old.setting }
-        ensures stands { (xs : List ℤ) → StandsFor self.old xs → StandsFor self.new (xs ++ take result.samples samples.now) }
-        ensures code { (xs : List ℤ) → StandsFor self.old xs → IsInPlace self.old.setting xs sink.old → Completes self.old.setting xs (xs ++ take result.samples samples.now) sink.old sink.new }
-        ensures bits { (xs : List ℤ) → StandsFor self.old xs → code_bits self.old.setting (settled self.old.setting (xs ++ take result.samples samples.now)) ≡ code_bits self.old.setting (settled self.old.setting xs) + result.bits }
-        ensures before_last { (xs : List ℤ) → StandsFor self.old xs → (m : ℕ) → m < result.samples → settled self.old.setting (xs ++ take m samples.now) ≡ settled self.old.setting xs }
-        ensures stops { (xs : List ℤ) → StandsFor self.old xs → result.samples < length samples.now → settled self.old.setting (xs ++ take result.samples samples.now) ≡ xs ++ take result.samples samples.now }
-        ensures steps_from { (xs : List ℤ) → StandsFor self.old xs → meter.old + result.samples + least_steps self.old.setting (settled self.old.setting (xs ++ take result.samples samples.now)) ≤ meter.new + least_steps self.old.setting (settled self.old.setting xs) }
-        ensures steps_to { (xs : List ℤ) → StandsFor self.old xs → meter.new + most_steps self.old.setting (settled self.old.setting xs) ≤ meter.old + result.samples + most_steps self.old.setting (settled self.old.setting (xs ++ take result.samples samples.now)) }
+        ensures stands { (xs : List ℤ) → HasTaken self.old xs → HasTaken self.new (xs ++ take result.samples samples.now) }
+        ensures code { (xs : List ℤ) → HasTaken self.old xs → IsAlignedWith self.old.setting xs sink.old → AppendsCode self.old.setting xs (xs ++ take result.samples samples.now) sink.old sink.new }
+        ensures bits { (xs : List ℤ) → HasTaken self.old xs → code_bits self.old.setting (complete_samples self.old.setting (xs ++ take result.samples samples.now)) ≡ code_bits self.old.setting (complete_samples self.old.setting xs) + result.bits }
+        ensures before_last { (xs : List ℤ) → HasTaken self.old xs → (m : ℕ) → m < result.samples → complete_samples self.old.setting (xs ++ take m samples.now) ≡ complete_samples self.old.setting xs }
+        ensures stops { (xs : List ℤ) → HasTaken self.old xs → result.samples < length samples.now → complete_samples self.old.setting (xs ++ take result.samples samples.now) ≡ xs ++ take result.samples samples.now }
+        ensures steps_from { (xs : List ℤ) → HasTaken self.old xs → meter.old + result.samples + least_steps self.old.setting (complete_samples self.old.setting (xs ++ take result.samples samples.now)) ≤ meter.new + least_steps self.old.setting (complete_samples self.old.setting xs) }
+        ensures steps_to { (xs : List ℤ) → HasTaken self.old xs → meter.new + most_steps self.old.setting (complete_samples self.old.setting xs) ≤ meter.old + result.samples + most_steps self.old.setting (complete_samples self.old.setting (xs ++ take result.samples samples.now)) }
     {
         let taken = samples.len().min(self.segment.room());
         meter.tick(taken as u64);
@@ -135,10 +136,10 @@ impl Coder {
     pub fn finish(self, sink: &mut BitSink<16432>, meter: &mut Meter) -> u64
         requires room { length sink.old ≤ 7 }
         requires meter { meter.old + segment_steps self.setting < 2 ^ 62 }
-        ensures code { (xs : List ℤ) → StandsFor self xs → IsInPlace self.setting xs sink.old → Finishes self.setting xs sink.old sink.new }
-        ensures bits { (xs : List ℤ) → StandsFor self xs → code_bits self.setting xs ≡ code_bits self.setting (settled self.setting xs) + result }
-        ensures steps_from { (xs : List ℤ) → StandsFor self xs → meter.old + fill_samples self.setting xs + least_steps self.setting xs ≤ meter.new + least_steps self.setting (settled self.setting xs) }
-        ensures steps_to { (xs : List ℤ) → StandsFor self xs → meter.new + most_steps self.setting (settled self.setting xs) ≤ meter.old + fill_samples self.setting xs + most_steps self.setting xs }
+        ensures code { (xs : List ℤ) → HasTaken self xs → IsAlignedWith self.setting xs sink.old → AppendsRest self.setting xs sink.old sink.new }
+        ensures bits { (xs : List ℤ) → HasTaken self xs → code_bits self.setting xs ≡ code_bits self.setting (complete_samples self.setting xs) + result }
+        ensures steps_from { (xs : List ℤ) → HasTaken self xs → meter.old + fill_samples self.setting xs + least_steps self.setting xs ≤ meter.new + least_steps self.setting (complete_samples self.setting xs) }
+        ensures steps_to { (xs : List ℤ) → HasTaken self xs → meter.new + most_steps self.setting (complete_samples self.setting xs) ≤ meter.old + fill_samples self.setting xs + most_steps self.setting xs }
     {
         let Coder { mut segment } = self;
         segment.fill(meter);

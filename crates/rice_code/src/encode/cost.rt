@@ -1,8 +1,8 @@
 //! The lengths of the texts of a block.
 ghost use Rattle.std.specs.Prelude.{◌≡◌, ℕ, ◌+◌, ◌*◌, ◌/◌, ◌^◌, ◌<◌, ◌≤◌, length, sum_by};
 ghost use Rattle.rice_samples.specs.Parameters.{id_len, k_max};
-ghost use Rattle.rice_code.specs.code.CodedDataSets.{NoCompression, SecondExtension, Split, coded, cost, reference_len};
-ghost use Rattle.rice_code.specs.encode.HeldBlocks.{told, IsSound};
+ghost use Rattle.rice_code.specs.code.CodedDataSets.{NoCompression, SecondExtension, Split, sent_residuals, cost, reference_len};
+ghost use Rattle.rice_code.specs.code.SoundBlocks.{block_with, IsSoundData};
 
 use rice_bits::Meter;
 use rice_samples::{Block, Setting};
@@ -20,8 +20,8 @@ fn reference_len(setting: &Setting, reference: Option<u32>) -> u64
 
 /// The length of the text by no compression.
 pub fn no_compression_cost(setting: &Setting, reference: Option<u32>, block: &Block<'_>) -> u64
-    requires { IsSound setting.now (told reference block.now) }
-    ensures value { result ≡ cost setting.now (NoCompression (told reference block.now)) }
+    requires { IsSoundData setting.now (block_with reference block.now) }
+    ensures value { result ≡ cost setting.now (NoCompression (block_with reference block.now)) }
     ensures limit { result ≤ 2053 }
 {
     setting.id_len() as u64 + (setting.block() * setting.bits()) as u64
@@ -34,9 +34,9 @@ pub fn second_extension_cost(
     block: &Block<'_>,
     meter: &mut Meter,
 ) -> u128
-    requires sound { IsSound setting.now (told reference block.now) }
+    requires sound { IsSoundData setting.now (block_with reference block.now) }
     requires meter { meter.old + length block.now < 2 ^ 62 }
-    ensures value { result ≡ cost setting.now (SecondExtension (told reference block.now)) }
+    ensures value { result ≡ cost setting.now (SecondExtension (block_with reference block.now)) }
     ensures steps { meter.new ≡ meter.old + setting.now.block }
 {
     let _ = setting.block();
@@ -46,8 +46,8 @@ pub fn second_extension_cost(
 
 /// How many residuals a split sends: all but that at the reference place.
 pub fn coded_len(setting: &Setting, reference: Option<u32>, block: &Block<'_>) -> u32
-    requires { IsSound setting.now (told reference block.now) }
-    ensures value { result ≡ length (coded (told reference block.now)) }
+    requires { IsSoundData setting.now (block_with reference block.now) }
+    ensures value { result ≡ length (sent_residuals (block_with reference block.now)) }
     ensures limit { result ≤ 64 }
 {
     match reference {
@@ -65,10 +65,10 @@ pub fn split_cost(
     sum: u64,
 ) -> u64
     requires split { k ≤ k_max setting.now }
-    requires sound { IsSound setting.now (told reference block.now) }
+    requires sound { IsSoundData setting.now (block_with reference block.now) }
     requires sum { sum ≡ sum_by (λ d. d / 2 ^ k) block.now }
     requires few { sum ≤ 2 ^ 38 }
-    ensures value { result ≡ cost setting.now (Split k (told reference block.now)) }
+    ensures value { result ≡ cost setting.now (Split k (block_with reference block.now)) }
     ensures limit { result < 2 ^ 40 }
 {
     let limit = setting.k_max();

@@ -4,10 +4,10 @@ ghost use Rattle.rice_bits.specs.Bits.{bits_to_byte};
 ghost use Rattle.rice_samples.specs.Parameters.{IsLegal, IsSample, id_len, k_max};
 ghost use Rattle.rice_samples.specs.Places.{blocks_left};
 ghost use Rattle.rice_samples.specs.predict.Residuals.{pattern, rank};
-ghost use Rattle.rice_code.specs.code.CodedDataSets.{text};
-ghost use Rattle.rice_code.specs.encode.HeldBlocks.{AreSoundBlocks};
+ghost use Rattle.rice_code.specs.code.CodedDataSets.{bits_of_set};
+ghost use Rattle.rice_code.specs.code.SoundBlocks.{AreSoundBlocks};
 ghost use Rattle.rice_code.specs.Steps.{least_looks, most_looks};
-ghost use Rattle.rice_code.specs.encode.Coder.{IsWhole, empty, grown, grown_by, later_residuals, filled_up, fill_count, emptied, blocks_held, contents_held, sets_held, code_held, is_first};
+ghost use Rattle.rice_code.specs.encode.OpenSegment.{IsWhole, empty_state, state_after, state_after_all, later_residuals, state_with_fill, fill_count, state_after_segment, blocks_held, contents_held, sets_held, code_held, is_first};
 
 use crate::encode::blocks::code_blocks;
 use rice_bits::{BitSink, Meter};
@@ -30,9 +30,9 @@ pub struct OpenSegment {
 }
 
 impl Model for OpenSegment {
-    ghost use Rattle.rice_code.specs.encode.Coder.{State, IsOpen};
+    ghost use Rattle.rice_code.specs.encode.OpenSegment.{CoderState, IsOpen};
 
-    ghost Value = { State };
+    ghost Value = { CoderState };
 
     ghost view = { λ c. record { setting = c.setting; residuals = c.residuals; reference = c.reference; previous = c.previous; start = c.start } };
 
@@ -42,7 +42,7 @@ impl Model for OpenSegment {
 impl OpenSegment {
     /// The first segment, without residuals.
     pub fn new(setting: Setting) -> Self
-        ensures { result ≡ empty setting }
+        ensures { result ≡ empty_state setting }
     {
         let end = residuals_from(&setting, 0);
         OpenSegment {
@@ -101,7 +101,7 @@ impl OpenSegment {
     pub fn hold(&mut self, x: i64)
         requires sample { IsSample self.old.setting x }
         requires open { length self.old.residuals < self.old.setting.block * blocks_left self.old.setting self.old.start }
-        ensures { self.new ≡ grown self.old x }
+        ensures { self.new ≡ state_after self.old x }
     {
         let first = self.is_first();
         let residual = next_residual(&self.setting, first, self.previous, x);
@@ -114,7 +114,7 @@ impl OpenSegment {
     pub fn hold_all(&mut self, samples: &[i64])
         requires samples { All (IsSample self.old.setting) samples.now }
         requires room { length self.old.residuals + length samples.now ≤ self.old.setting.block * blocks_left self.old.setting self.old.start }
-        ensures { self.new ≡ grown_by self.old samples.now }
+        ensures { self.new ≡ state_after_all self.old samples.now }
     {
         if samples.is_empty() {
             return;
@@ -132,7 +132,7 @@ impl OpenSegment {
         requires later { (self.old.setting.preprocess && is_first self.old) ≡ false }
         requires samples { All (IsSample self.old.setting) samples.now }
         requires room { length self.old.residuals + length samples.now ≤ self.old.setting.block * blocks_left self.old.setting self.old.start }
-        ensures { self.new ≡ grown_by self.old samples.now }
+        ensures { self.new ≡ state_after_all self.old samples.now }
     {
         if samples.is_empty() {
             return;
@@ -144,7 +144,7 @@ impl OpenSegment {
     /// Fills the last block by repeating the last sample, a step for each.
     pub fn fill(&mut self, meter: &mut Meter)
         requires { meter.old + 64 < 2 ^ 62 }
-        ensures value { self.new ≡ filled_up self.old (fill_count self.old) }
+        ensures value { self.new ≡ state_with_fill self.old (fill_count self.old) }
         ensures steps { meter.new ≡ meter.old + fill_count self.old }
     {
         let size = self.setting.block() as usize;
@@ -161,9 +161,9 @@ impl OpenSegment {
         requires room { length sink.old ≤ 7 }
         requires meter { meter.old + 64 * (id_len self.now.setting + self.now.setting.block * (self.now.setting.bits + k_max self.now.setting + 5)) < 2 ^ 62 }
         ensures bits { sink.new ≡ sink.old ++ code_held self.now (length sink.old) }
-        ensures count { result ≡ sum_by (λ d. length (text self.now.setting d)) (sets_held self.now) }
-        ensures steps_from { meter.old + sum_by (λ d. length (text self.now.setting d)) (sets_held self.now) + sum_by (least_looks self.now.setting) (contents_held self.now) ≤ meter.new }
-        ensures steps_to { meter.new ≤ meter.old + sum_by (λ d. length (text self.now.setting d)) (sets_held self.now) + sum_by (most_looks self.now.setting) (contents_held self.now) }
+        ensures count { result ≡ sum_by (λ d. length (bits_of_set self.now.setting d)) (sets_held self.now) }
+        ensures steps_from { meter.old + sum_by (λ d. length (bits_of_set self.now.setting d)) (sets_held self.now) + sum_by (least_looks self.now.setting) (contents_held self.now) ≤ meter.new }
+        ensures steps_to { meter.new ≤ meter.old + sum_by (λ d. length (bits_of_set self.now.setting d)) (sets_held self.now) + sum_by (most_looks self.now.setting) (contents_held self.now) }
     {
         let setting = &self.setting;
         let blocks = blocks_of(setting, self.residuals.len());
@@ -185,7 +185,7 @@ impl OpenSegment {
     /// Goes on to the next segment.
     pub fn begin_next(&mut self)
         requires { IsWhole self.old }
-        ensures { self.new ≡ emptied self.old }
+        ensures { self.new ≡ state_after_segment self.old }
     {
         let start = next_start(&self.setting, self.start);
         self.residuals.clear();

@@ -3,8 +3,9 @@ ghost use Rattle.std.specs.Prelude.{◌≡◌, ℕ, ◌+◌, ◌-◌, ◌*◌, �
 ghost use Rattle.rice_bits.specs.Bits.{word, fundamental_sequence};
 ghost use Rattle.rice_samples.specs.Parameters.{k_max, value_count};
 ghost use Rattle.rice_samples.specs.blocks.Pairs.{pair_code, pair_codes};
-ghost use Rattle.rice_code.specs.code.CodedDataSets.{NoCompression, SecondExtension, Split, cost, text, coded_from, reference_text, reference_len};
-ghost use Rattle.rice_code.specs.encode.HeldBlocks.{told, IsSound, sent_run, sent_zeros};
+ghost use Rattle.rice_code.specs.code.CodedDataSets.{NoCompression, SecondExtension, Split, cost, bits_of_set, sent_from, reference_bits, reference_len};
+ghost use Rattle.rice_code.specs.encode.HeldBlocks.{run_of_blocks, zeros_of_run};
+ghost use Rattle.rice_code.specs.code.SoundBlocks.{block_with, IsSoundData};
 ghost use Rattle.rice_code.specs.encode.Chosen.{chosen_set, IsSplitWithin};
 
 use crate::encode::bit_buffer::Gathered;
@@ -28,7 +29,7 @@ fn begin(
     requires fits { IfSome reference (λ v. v < value_count setting.now) }
     requires room { length sink.old + width + reference_len setting.now reference ≤ 131456 }
     requires meter { meter.old + width + reference_len setting.now reference < 2 ^ 62 }
-    ensures bits { sink.new ++ result ≡ sink.old ++ word width identifier ++ reference_text setting.now reference }
+    ensures bits { sink.new ++ result ≡ sink.old ++ word width identifier ++ reference_bits setting.now reference }
     ensures len { length sink.new + length result ≡ length sink.old + width + reference_len setting.now reference }
     ensures steps { meter.new + length result ≡ meter.old + width + reference_len setting.now reference }
 {
@@ -70,7 +71,7 @@ fn put_pairs(block: &Block<'_>, fields: &mut Gathered, sink: &mut BitSink<16432>
 
 /// How many residuals are not coded: that at the reference place, where there is one.
 fn first_coded(reference: Option<u32>) -> usize
-    ensures coded { (ds : List ℕ) → coded_from reference ds ≡ drop result ds }
+    ensures coded { (ds : List ℕ) → sent_from reference ds ≡ drop result ds }
     ensures limit { result ≤ 1 }
 {
     match reference {
@@ -87,13 +88,13 @@ fn put_no_compression(
     sink: &mut BitSink<16432>,
     meter: &mut Meter,
 )
-    requires sound { IsSound setting.now (told reference block.now) }
-    requires room { length sink.old + cost setting.now (NoCompression (told reference block.now)) ≤ 131456 }
-    requires meter { meter.old + cost setting.now (NoCompression (told reference block.now)) + 2 * setting.now.block < 2 ^ 62 }
-    ensures bits { sink.new ≡ sink.old ++ text setting.now (NoCompression (told reference block.now)) }
-    ensures len { length sink.new ≡ length sink.old + cost setting.now (NoCompression (told reference block.now)) }
-    ensures steps_from { meter.old + cost setting.now (NoCompression (told reference block.now)) + setting.now.block ≤ meter.new + 1 }
-    ensures steps_to { meter.new ≤ meter.old + cost setting.now (NoCompression (told reference block.now)) + 2 * setting.now.block }
+    requires sound { IsSoundData setting.now (block_with reference block.now) }
+    requires room { length sink.old + cost setting.now (NoCompression (block_with reference block.now)) ≤ 131456 }
+    requires meter { meter.old + cost setting.now (NoCompression (block_with reference block.now)) + 2 * setting.now.block < 2 ^ 62 }
+    ensures bits { sink.new ≡ sink.old ++ bits_of_set setting.now (NoCompression (block_with reference block.now)) }
+    ensures len { length sink.new ≡ length sink.old + cost setting.now (NoCompression (block_with reference block.now)) }
+    ensures steps_from { meter.old + cost setting.now (NoCompression (block_with reference block.now)) + setting.now.block ≤ meter.new + 1 }
+    ensures steps_to { meter.new ≤ meter.old + cost setting.now (NoCompression (block_with reference block.now)) + 2 * setting.now.block }
 {
     let id = setting.id_len();
     let from = first_coded(reference);
@@ -112,12 +113,12 @@ fn put_second_extension(
     sink: &mut BitSink<16432>,
     meter: &mut Meter,
 )
-    requires sound { IsSound setting.now (told reference block.now) }
-    requires room { length sink.old + cost setting.now (SecondExtension (told reference block.now)) ≤ 131456 }
-    requires meter { meter.old + cost setting.now (SecondExtension (told reference block.now)) + 2 * setting.now.block < 2 ^ 62 }
-    ensures bits { sink.new ≡ sink.old ++ text setting.now (SecondExtension (told reference block.now)) }
-    ensures len { length sink.new ≡ length sink.old + cost setting.now (SecondExtension (told reference block.now)) }
-    ensures steps { meter.new ≡ meter.old + cost setting.now (SecondExtension (told reference block.now)) + setting.now.block }
+    requires sound { IsSoundData setting.now (block_with reference block.now) }
+    requires room { length sink.old + cost setting.now (SecondExtension (block_with reference block.now)) ≤ 131456 }
+    requires meter { meter.old + cost setting.now (SecondExtension (block_with reference block.now)) + 2 * setting.now.block < 2 ^ 62 }
+    ensures bits { sink.new ≡ sink.old ++ bits_of_set setting.now (SecondExtension (block_with reference block.now)) }
+    ensures len { length sink.new ≡ length sink.old + cost setting.now (SecondExtension (block_with reference block.now)) }
+    ensures steps { meter.new ≡ meter.old + cost setting.now (SecondExtension (block_with reference block.now)) + setting.now.block }
 {
     let id = setting.id_len();
     let _block = setting.block();
@@ -135,14 +136,14 @@ fn put_split(
     sink: &mut BitSink<16432>,
     meter: &mut Meter,
 )
-    requires sound { IsSound setting.now (told reference block.now) }
+    requires sound { IsSoundData setting.now (block_with reference block.now) }
     requires split { k ≤ k_max setting.now }
-    requires room { length sink.old + cost setting.now (Split k (told reference block.now)) ≤ 131456 }
-    requires meter { meter.old + cost setting.now (Split k (told reference block.now)) + 2 * setting.now.block < 2 ^ 62 }
-    ensures bits { sink.new ≡ sink.old ++ text setting.now (Split k (told reference block.now)) }
-    ensures len { length sink.new ≡ length sink.old + cost setting.now (Split k (told reference block.now)) }
-    ensures steps_from { meter.old + cost setting.now (Split k (told reference block.now)) + setting.now.block ≤ meter.new + 1 }
-    ensures steps_to { meter.new ≤ meter.old + cost setting.now (Split k (told reference block.now)) + 2 * setting.now.block }
+    requires room { length sink.old + cost setting.now (Split k (block_with reference block.now)) ≤ 131456 }
+    requires meter { meter.old + cost setting.now (Split k (block_with reference block.now)) + 2 * setting.now.block < 2 ^ 62 }
+    ensures bits { sink.new ≡ sink.old ++ bits_of_set setting.now (Split k (block_with reference block.now)) }
+    ensures len { length sink.new ≡ length sink.old + cost setting.now (Split k (block_with reference block.now)) }
+    ensures steps_from { meter.old + cost setting.now (Split k (block_with reference block.now)) + setting.now.block ≤ meter.new + 1 }
+    ensures steps_to { meter.new ≤ meter.old + cost setting.now (Split k (block_with reference block.now)) + 2 * setting.now.block }
 {
     let id = setting.id_len();
     let from = first_coded(reference);
@@ -167,14 +168,14 @@ pub fn put_block(
     sink: &mut BitSink<16432>,
     meter: &mut Meter,
 )
-    requires sound { IsSound setting.now (told reference block.now) }
+    requires sound { IsSoundData setting.now (block_with reference block.now) }
     requires split { IsSplitWithin (k_max setting.now) choice }
-    requires room { length sink.old + cost setting.now (chosen_set choice (told reference block.now)) ≤ 131456 }
-    requires meter { meter.old + cost setting.now (chosen_set choice (told reference block.now)) + 2 * setting.now.block < 2 ^ 62 }
-    ensures bits { sink.new ≡ sink.old ++ text setting.now (chosen_set choice (told reference block.now)) }
-    ensures len { length sink.new ≡ length sink.old + cost setting.now (chosen_set choice (told reference block.now)) }
-    ensures steps_from { meter.old + cost setting.now (chosen_set choice (told reference block.now)) + setting.now.block ≤ meter.new + 1 }
-    ensures steps_to { meter.new ≤ meter.old + cost setting.now (chosen_set choice (told reference block.now)) + 2 * setting.now.block }
+    requires room { length sink.old + cost setting.now (chosen_set choice (block_with reference block.now)) ≤ 131456 }
+    requires meter { meter.old + cost setting.now (chosen_set choice (block_with reference block.now)) + 2 * setting.now.block < 2 ^ 62 }
+    ensures bits { sink.new ≡ sink.old ++ bits_of_set setting.now (chosen_set choice (block_with reference block.now)) }
+    ensures len { length sink.new ≡ length sink.old + cost setting.now (chosen_set choice (block_with reference block.now)) }
+    ensures steps_from { meter.old + cost setting.now (chosen_set choice (block_with reference block.now)) + setting.now.block ≤ meter.new + 1 }
+    ensures steps_to { meter.new ≤ meter.old + cost setting.now (chosen_set choice (block_with reference block.now)) + 2 * setting.now.block }
 {
     match choice {
         Choice::NoCompression => put_no_compression(setting, reference, block, sink, meter),
@@ -195,11 +196,11 @@ pub fn put_run(
     requires blocks { 1 ≤ z }
     requires few { z ≤ 64 }
     requires fits { IfSome reference (λ v. v < value_count setting.now) }
-    requires room { length sink.old + cost setting.now (sent_run to_end reference z) ≤ 131456 }
-    requires meter { meter.old + cost setting.now (sent_run to_end reference z) < 2 ^ 62 }
-    ensures bits { sink.new ≡ sink.old ++ text setting.now (sent_run to_end reference z) }
-    ensures len { length sink.new ≡ length sink.old + cost setting.now (sent_run to_end reference z) }
-    ensures steps { meter.new ≡ meter.old + cost setting.now (sent_run to_end reference z) }
+    requires room { length sink.old + cost setting.now (run_of_blocks to_end reference z) ≤ 131456 }
+    requires meter { meter.old + cost setting.now (run_of_blocks to_end reference z) < 2 ^ 62 }
+    ensures bits { sink.new ≡ sink.old ++ bits_of_set setting.now (run_of_blocks to_end reference z) }
+    ensures len { length sink.new ≡ length sink.old + cost setting.now (run_of_blocks to_end reference z) }
+    ensures steps { meter.new ≡ meter.old + cost setting.now (run_of_blocks to_end reference z) }
 {
     let id = setting.id_len();
     let mut fields = begin(setting, 0, id + 1, reference, sink, meter);
@@ -210,7 +211,7 @@ pub fn put_run(
 /// The zeros of the codeword of a run.
 fn sent_zeros(z: u32, to_end: bool) -> u64
     requires { 1 ≤ z }
-    ensures value { result ≡ sent_zeros to_end z }
+    ensures value { result ≡ zeros_of_run to_end z }
     ensures limit { result ≤ z + 4 }
 {
     if to_end && z >= 5 {

@@ -3,7 +3,7 @@ ghost use Rattle.std.specs.Prelude.{◌≡◌, ℕ, ◌+◌, ◌*◌, ◌^◌, �
 ghost use Rattle.rice_samples.specs.Parameters.{k_max};
 ghost use Rattle.rice_code.specs.code.CodedDataSets.{Split, cost};
 ghost use Rattle.rice_code.specs.code.Choice.{shortest, IsBestSplit, best_split};
-ghost use Rattle.rice_code.specs.encode.HeldBlocks.{told, IsSound};
+ghost use Rattle.rice_code.specs.code.SoundBlocks.{block_with, IsSoundData};
 ghost use Rattle.rice_code.specs.encode.Chosen.{chosen_set, IsSplitWithin};
 
 use crate::encode::cost::{coded_len, no_compression_cost, second_extension_cost, split_cost};
@@ -25,11 +25,11 @@ pub fn best_split(
     block: &Block<'_>,
     meter: &mut Meter,
 ) -> (u32, u64)
-    requires sound { IsSound setting.now (told reference block.now) }
+    requires sound { IsSoundData setting.now (block_with reference block.now) }
     requires meter { meter.old + setting.now.block * (k_max setting.now + 1) < 2 ^ 62 }
-    ensures best { IsBestSplit setting.now (told reference block.now) result.0 }
-    ensures named { best_split setting.now (told reference block.now) ≡ result.0 }
-    ensures value { result.1 ≡ cost setting.now (Split result.0 (told reference block.now)) }
+    ensures best { IsBestSplit setting.now (block_with reference block.now) result.0 }
+    ensures named { best_split setting.now (block_with reference block.now) ≡ result.0 }
+    ensures value { result.1 ≡ cost setting.now (Split result.0 (block_with reference block.now)) }
     ensures steps { meter.new ≡ meter.old + setting.now.block * (min (result.0 + 1) (k_max setting.now) + 1) }
 {
     let coded = coded_len(setting, reference, block);
@@ -44,11 +44,11 @@ pub fn choose(
     block: &Block<'_>,
     meter: &mut Meter,
 ) -> Choice
-    requires sound { IsSound setting.now (told reference block.now) }
+    requires sound { IsSoundData setting.now (block_with reference block.now) }
     requires meter { meter.old + setting.now.block * (k_max setting.now + 2) < 2 ^ 62 }
-    ensures value { chosen_set result (told reference block.now) ≡ shortest setting.now (told reference block.now) }
-    ensures steps_from { meter.old + setting.now.block * (best_split setting.now (told reference block.now) + 2) ≤ meter.new }
-    ensures steps_to { meter.new ≤ meter.old + setting.now.block * (best_split setting.now (told reference block.now) + 3) }
+    ensures value { chosen_set result (block_with reference block.now) ≡ shortest setting.now (block_with reference block.now) }
+    ensures steps_from { meter.old + setting.now.block * (best_split setting.now (block_with reference block.now) + 2) ≤ meter.new }
+    ensures steps_to { meter.new ≤ meter.old + setting.now.block * (best_split setting.now (block_with reference block.now) + 3) }
     ensures steps_limit { meter.new ≤ meter.old + setting.now.block * (k_max setting.now + 2) }
     ensures split { IsSplitWithin (k_max setting.now) result }
 {

@@ -14,19 +14,19 @@ abbrev pub spellings : Parameters → List ℤ → List ℕ
 spellings s xs = flat_map (spelling s) xs
 
 -- What stops the samples of a list of bytes: its end, bytes that are no spelling, or too few of them.
-pub data Stop : Type 0 where
-  AtEnd : Stop
-  NoSpelling : Stop
-  TooFew : Stop
+pub data SpellingEnd : Type 0 where
+  AtEnd : SpellingEnd
+  NoSpelling : SpellingEnd
+  TooFew : SpellingEnd
 
-abbrev pub StopsAt : Parameters → List ℕ → Stop → Type 0
-StopsAt s rest AtEnd = rest ≡ []
-StopsAt s rest NoSpelling = (width s ≤ length rest) × ((x : ℤ) → IsSample s x → take (width s) rest ≢ spelling s x)
-StopsAt s rest TooFew = (rest ≢ []) × (length rest < width s)
+abbrev pub EndsSpelling : Parameters → List ℕ → SpellingEnd → Type 0
+EndsSpelling s rest AtEnd = rest ≡ []
+EndsSpelling s rest NoSpelling = (width s ≤ length rest) × ((x : ℤ) → IsSample s x → take (width s) rest ≢ spelling s x)
+EndsSpelling s rest TooFew = (rest ≢ []) × (length rest < width s)
 
 -- these are the samples of the bytes, up to what stops them
-pub record Spells (s : Parameters) (bytes : List ℕ) (samples : List ℤ) (stop : Stop) : Type 0 where
+pub record Spells (s : Parameters) (bytes : List ℕ) (samples : List ℤ) (stop : SpellingEnd) : Type 0 where
   pub rest : List ℕ
   pub whole : bytes ≡ spellings s samples ++ rest
   pub legal : All (IsSample s) samples
-  pub stops : StopsAt s rest stop
+  pub stops : EndsSpelling s rest stop

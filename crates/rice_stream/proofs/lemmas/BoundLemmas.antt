@@ -14,9 +14,10 @@ use Rattle.rice_samples.specs.predict.Residuals.{last_of}
 use Rattle.rice_samples.proofs.lemmas.setting.Levels.{zero_is_sample}
 use Rattle.rice_code.specs.Bounds.{bit_bound, step_bound, amortised_step_bound}
 use Rattle.rice_code.specs.code.Code.{code_bits}
-use Rattle.rice_code.specs.encode.Coder.{State, StandsFor, settled, fill_samples}
+use Rattle.rice_code.specs.encode.Coder.{HasTaken, complete_samples, fill_samples}
+use Rattle.rice_code.specs.encode.OpenSegment.{CoderState}
 use Rattle.rice_code.specs.Steps.{most_steps}
-use Rattle.rice_code.proofs.lemmas.encode.PushedCode.{settled_is}
+use Rattle.rice_code.proofs.lemmas.encode.PushedCode.{complete_are_coded}
 use Rattle.rice_code.proofs.lemmas.encode.HeldSamples.{all_first}
 use Rattle.rice_code.proofs.lemmas.cost.LooksPaid.{all_steps_are_bounded}
 use Rattle.rice_code.proofs.lemmas.code.SoundBlocks.{code_is_bounded, filled_len}
@@ -25,13 +26,13 @@ use Rattle.rice_code.proofs.lemmas.code.SoundBlocks.{code_is_bounded, filled_len
 pub record Settles (s : Parameters) (xs : List ℤ) : Type 0 where
   pub setting : IsLegal s
   pub legal : All (IsSample s) xs
-  pub legal_settled : All (IsSample s) (settled s xs)
-  pub few : length (settled s xs) ≤ length xs
+  pub legal_settled : All (IsSample s) (complete_samples s xs)
+  pub few : length (complete_samples s xs) ≤ length xs
 
-pub settles : (s : Parameters) (coder : State) (xs : List ℤ) → coder.setting ≡ s → StandsFor coder xs → Settles s xs
+pub settles : (s : Parameters) (coder : CoderState) (xs : List ℤ) → coder.setting ≡ s → HasTaken coder xs → Settles s xs
 settles s coder xs e h =
     let t = coder.setting in
-    let same = settled_is coder xs h in
+    let same = complete_are_coded coder xs h in
     subst (λ (t : Parameters). Settles t xs) e (record {
       setting = h.holds.legal;
       legal = subst (All (IsSample t)) (sym h.parts) (All-from_recursion (IsSample t) (h.coded ++ h.held) h.holds.samples);
@@ -53,9 +54,9 @@ count_le j n m c d one le few enough = elim (cases_lt d c) [
 ]
 
 -- of the samples so far
-pub early_bounded : (s : Parameters) (xs : List ℤ) → Settles s xs → Bounded s (length xs) (code_bits s (settled s xs)) (length xs + most_steps s (settled s xs))
+pub early_bounded : (s : Parameters) (xs : List ℤ) → Settles s xs → Bounded s (length xs) (code_bits s (complete_samples s xs)) (length xs + most_steps s (complete_samples s xs))
 early_bounded s xs h =
-    let zs = settled s xs in
+    let zs = complete_samples s xs in
     let j : 1 ≤ s.block = let k : 8 ≤ s.block = grind (arith, h.setting.block) in omega arith in
     let c = block_count s (length zs) in
     let d = block_count s (length xs) in

@@ -7,18 +7,18 @@ use Rattle.std.proofs.lemmas.List.{length-replicate, take-append-le, take_all}
 use Rattle.rice_samples.specs.Parameters.{Parameters, IsLegal, IsSample}
 use Rattle.rice_samples.specs.predict.Residuals.{last_of}
 use Rattle.rice_samples.proofs.lemmas.setting.Levels.{zero_is_sample}
-use Rattle.rice_code.specs.code.Blocks.{Contents, contents, zeros, blocks_from}
-use Rattle.rice_code.specs.code.CodedDataSets.{DataSet, text}
-use Rattle.rice_code.specs.code.Decoded.{Decoded, DecodedFrom, Ending, Reached, EndsWith, GoesOn, cut_to}
+use Rattle.rice_code.specs.code.Blocks.{BlockData, block_data, zero_block, blocks_from}
+use Rattle.rice_code.specs.code.CodedDataSets.{CodedDataSet, bits_of_set}
+use Rattle.rice_code.specs.code.Decoded.{Decoded, DecodedFrom, Ending, Reached, EndsWith, IsWanted, cut_to}
 use Rattle.rice_code.specs.decode.Decoder.{GivesBlock}
 use Rattle.rice_code.specs.code.Forms.{IsForm, RunIsSound, ResidualsAreSound, blocks_in}
-use Rattle.rice_code.specs.encode.HeldBlocks.{AreSoundBlocks}
-use Rattle.rice_code.specs.code.Layout.{block_behind, padding}
+use Rattle.rice_code.specs.code.SoundBlocks.{AreSoundBlocks}
+use Rattle.rice_code.specs.code.Layout.{block_after, padding}
 use Rattle.rice_code.proofs.lemmas.meaning.DecodingGoesOn.{decoding_goes_on}
 use Rattle.rice_code.proofs.lemmas.code.Filling.{last_append, blocks_append}
 use Rattle.rice_code.proofs.lemmas.code.SoundBlocks.{last_legal}
 use Rattle.rice_code.proofs.lemmas.meaning.AllBytes.{blocks_have_samples, blocks_are_sound}
-use Rattle.rice_stream.specs.DecodingState.{Behind, OfRun}
+use Rattle.rice_stream.specs.DecodingState.{DecodedSoFar, AreOfRun}
 
 take_nothing : {X : Type 0} (n : ℕ) → take {A = X} n [] ≡ []
 take_nothing zero = refl
@@ -38,7 +38,7 @@ pub cut_more : (s : Parameters) (wanted : Option ℕ) (b : ℕ) (all xs : List �
 cut_more s None b all xs e = refl
 cut_more s (Some n) b all xs e = let m : n - s.block * 0 - length all ≡ n - s.block * b = omega arith in take_both (n - s.block * 0) all xs ∙ ap (λ k. take (n - s.block * 0) all ++ take k xs) m
 
-pub cut_none : (s : Parameters) (wanted : Option ℕ) (b : ℕ) (all : List ℤ) → length all ≡ s.block * b → GoesOn s wanted b → cut_to s wanted 0 all ≡ all
+pub cut_none : (s : Parameters) (wanted : Option ℕ) (b : ℕ) (all : List ℤ) → length all ≡ s.block * b → IsWanted s wanted b → cut_to s wanted 0 all ≡ all
 cut_none s None b all e h = refl
 cut_none s (Some n) b all e h = let lt : s.block * b < n = h in take_all (n - s.block * 0) all (omega arith)
 
@@ -47,7 +47,7 @@ no_samples : (more : List ℤ) (n : ℕ) → length more ≡ n → n ≡ 0 → m
 no_samples [] n e h = refl
 no_samples (x ∷ more) n e h = absurd (omega arith)
 
-pub behind_nothing : (s : Parameters) → Behind s [] 0 0 0 []
+pub behind_nothing : (s : Parameters) → DecodedSoFar s [] 0 0 0 []
 behind_nothing s = record {
   len = omega arith;
   legal = λ k d lt. absurd (omega arith);
@@ -65,15 +65,15 @@ behind_nothing s = record {
         subst (λ (m : ℕ). Decoded s rest wanted (cut_to s wanted 0 [] ++ ys) ending m) n (subst (λ (l : List ℤ). Decoded s rest wanted l ending used) e (subst (λ (b : ℕ). DecodedFrom s b 0 (pos 0) rest wanted ys ending used) b d))
 
 -- the blocks of some samples and of a run behind them
-run_blocks : (s : Parameters) (b run : ℕ) (p : ℤ) (xs more : List ℤ) (cs : List Contents) → GivesBlock s b p xs run cs → OfRun s (b + 1) (last_of p xs) run more → (length cs ≡ 1 + run) × (length (xs ++ more) ≡ s.block * length cs) × (blocks_from s b p (length cs) (xs ++ more) ≡ cs)
+run_blocks : (s : Parameters) (b run : ℕ) (p : ℤ) (xs more : List ℤ) (cs : List BlockData) → GivesBlock s b p xs run cs → AreOfRun s (b + 1) (last_of p xs) run more → (length cs ≡ 1 + run) × (length (xs ++ more) ≡ s.block * length cs) × (blocks_from s b p (length cs) (xs ++ more) ≡ cs)
 run_blocks s b run p xs more cs gives of_run =
-    let n : length cs ≡ 1 + run = omega (arith, ap length gives.blocks_are, length-replicate run (zeros s None)) in
+    let n : length cs ≡ 1 + run = omega (arith, ap length gives.blocks_are, length-replicate run (zero_block s None)) in
     let one : length xs ≡ s.block * 1 = omega (arith, gives.len) in
     let whole : take s.block xs ≡ xs = ap (λ n. take n xs) (sym gives.len) ∙ take-length xs in
     let next = of_run.blocks in (
       n,
       length-append xs more ∙ sizes s.block run (length xs) (length more) gives.len of_run.len ∙ ap (λ m. s.block * m) (sym n),
-      ap (λ m. blocks_from s b p m (xs ++ more)) n ∙ blocks_append s b p 1 run xs more one ∙ (λ i. (contents s b p (whole i) ∷ []) ++ next i) ∙ gives.blocks_are,
+      ap (λ m. blocks_from s b p m (xs ++ more)) n ∙ blocks_append s b p 1 run xs more one ∙ (λ i. (block_data s b p (whole i) ∷ []) ++ next i) ∙ gives.blocks_are,
     )
   where
     sizes : (j run n m : ℕ) → n ≡ j → m ≡ j * run → n + m ≡ j * (1 + run)
@@ -84,8 +84,8 @@ last_both : (p : ℤ) (all xs more : List ℤ) → last_of p ((all ++ xs) ++ mor
 last_both p all xs more = ap (last_of p) (append_assoc all xs more) ∙ last_append p all (xs ++ more)
 
 -- a coded data set was taken, and its first block given
-pub behind_set : (s : Parameters) (front skipped : List Bool) (begun b run : ℕ) (all xs : List ℤ) (d : DataSet) → IsLegal s → Behind s front begun b 0 all → begun ≤ b → IsForm s b d → RunIsSound s b d → ResidualsAreSound s d →
-    length skipped ≡ padding s (block_behind s b d) (length front + length (text s d)) → GivesBlock s b (last_of (pos 0) all) xs run (blocks_in s b d) → Behind s (front ++ (text s d ++ skipped)) (b + 1) (b + 1) run (all ++ xs)
+pub behind_set : (s : Parameters) (front skipped : List Bool) (begun b run : ℕ) (all xs : List ℤ) (d : CodedDataSet) → IsLegal s → DecodedSoFar s front begun b 0 all → begun ≤ b → IsForm s b d → RunIsSound s b d → ResidualsAreSound s d →
+    length skipped ≡ padding s (block_after s b d) (length front + length (bits_of_set s d)) → GivesBlock s b (last_of (pos 0) all) xs run (blocks_in s b d) → DecodedSoFar s (front ++ (bits_of_set s d ++ skipped)) (b + 1) (b + 1) run (all ++ xs)
 behind_set s front skipped begun b run all xs d legal behind before form sound residuals skips gives =
     let p = last_of (pos 0) all in
     let more_one : s.block * b + s.block ≡ s.block * (b + 1) = omega arith in
@@ -94,30 +94,30 @@ behind_set s front skipped begun b run all xs d legal behind before form sound r
       len = length-append all xs ∙ (λ i. behind.len i + gives.len i) ∙ more_one;
       legal = All-append (IsSample s) all xs behind.legal gives.legal;
       sound = all_sound.1;
-      goes_on = λ (wanted : Option ℕ) (more : List ℤ) (rest : List Bool) (ys : List ℤ) (ending : Ending) (used : ℕ) (goes : (i : ℕ) → i < b + 1 → GoesOn s wanted i) (run_of : OfRun s (b + 1) (last_of (pos 0) (all ++ xs)) run more) next.
-          on wanted more rest ys ending used goes (subst (λ (q : ℤ). OfRun s (b + 1) q run more) (last_append (pos 0) all xs) run_of) next;
+      goes_on = λ (wanted : Option ℕ) (more : List ℤ) (rest : List Bool) (ys : List ℤ) (ending : Ending) (used : ℕ) (goes : (i : ℕ) → i < b + 1 → IsWanted s wanted i) (run_of : AreOfRun s (b + 1) (last_of (pos 0) (all ++ xs)) run more) next.
+          on wanted more rest ys ending used goes (subst (λ (q : ℤ). AreOfRun s (b + 1) q run more) (last_append (pos 0) all xs) run_of) next;
     }
   where
     t : List Bool
-    t = text s d
+    t = bits_of_set s d
 
     set : List Bool
     set = t ++ skipped
 
-    on : (wanted : Option ℕ) (more : List ℤ) (rest : List Bool) (ys : List ℤ) (ending : Ending) (used : ℕ) → ((i : ℕ) → i < b + 1 → GoesOn s wanted i) → OfRun s (b + 1) (last_of (last_of (pos 0) all) xs) run more →
+    on : (wanted : Option ℕ) (more : List ℤ) (rest : List Bool) (ys : List ℤ) (ending : Ending) (used : ℕ) → ((i : ℕ) → i < b + 1 → IsWanted s wanted i) → AreOfRun s (b + 1) (last_of (last_of (pos 0) all) xs) run more →
         DecodedFrom s (b + 1 + run) (length (front ++ set)) (last_of (pos 0) ((all ++ xs) ++ more)) rest wanted ys ending used → Decoded s ((front ++ set) ++ rest) wanted (cut_to s wanted 0 ((all ++ xs) ++ more) ++ ys) ending (length (front ++ set) + used)
     on wanted more rest ys ending used goes run_of next =
         let p = last_of (pos 0) all in
         let zs = xs ++ more in
         let made = run_blocks s b run p xs more (blocks_in s b d) gives run_of in
-        let place : b + 1 + run ≡ block_behind s b d = omega (arith, made.0) in
+        let place : b + 1 + run ≡ block_after s b d = omega (arith, made.0) in
         let position : length (front ++ set) ≡ length front + length set = length-append front set in
-        let there : DecodedFrom s (block_behind s b d) (length front + length set) (last_of p zs) rest wanted ys ending used =
+        let there : DecodedFrom s (block_after s b d) (length front + length set) (last_of p zs) rest wanted ys ending used =
         subst (λ (n : ℕ). DecodedFrom s n (length front + length set) (last_of p zs) rest wanted ys ending used) place
         (subst (λ (n : ℕ). DecodedFrom s (b + 1 + run) n (last_of p zs) rest wanted ys ending used) position
         (subst (λ (x : ℤ). DecodedFrom s (b + 1 + run) (length (front ++ set)) x rest wanted ys ending used) (last_both (pos 0) all xs more) next)) in
         let here = decoding_goes_on s legal b (length front) p d skipped rest wanted zs ys ending used (goes b (omega arith)) form sound residuals skips (All-append (IsSample s) xs more gives.legal run_of.legal) made.1 made.2 there in
-        let none : OfRun s b p 0 [] = record { len = omega arith; legal = λ k d lt. absurd (omega arith); blocks = refl } in
+        let none : AreOfRun s b p 0 [] = record { len = omega arith; legal = λ k d lt. absurd (omega arith); blocks = refl } in
         let again = append-nil all in
         let at : b ≡ b + 0 = omega arith in
         let back : DecodedFrom s (b + 0) (length front) (last_of (pos 0) (all ++ [])) (t ++ (skipped ++ rest)) wanted (cut_to s wanted b zs ++ ys) ending (length set + used) =
@@ -134,33 +134,33 @@ behind_set s front skipped begun b run all xs d legal behind before form sound r
         (subst (λ (n : ℕ). Decoded s (front ++ (t ++ (skipped ++ rest))) wanted (cut_to s wanted 0 (all ++ []) ++ (cut_to s wanted b zs ++ ys)) ending n) count all_of))
 
 -- a block of a run was given
-pub behind_run : (s : Parameters) (front : List Bool) (begun b run left : ℕ) (all xs : List ℤ) → Behind s front begun b run all → GivesBlock s b (last_of (pos 0) all) xs left (replicate run (zeros s None)) → Behind s front begun (b + 1) left (all ++ xs)
+pub behind_run : (s : Parameters) (front : List Bool) (begun b run left : ℕ) (all xs : List ℤ) → DecodedSoFar s front begun b run all → GivesBlock s b (last_of (pos 0) all) xs left (replicate run (zero_block s None)) → DecodedSoFar s front begun (b + 1) left (all ++ xs)
 behind_run s front begun b run left all xs behind gives =
     let more_one : s.block * b + s.block ≡ s.block * (b + 1) = omega arith in
     let some : run ≡ suc left = count in
-    let all_sound = subst (λ (n : ℕ). AreSoundBlocks s b (replicate n (zeros s None))) some behind.sound in
+    let all_sound = subst (λ (n : ℕ). AreSoundBlocks s b (replicate n (zero_block s None))) some behind.sound in
     record {
       len = length-append all xs ∙ (λ i. behind.len i + gives.len i) ∙ more_one;
       legal = All-append (IsSample s) all xs behind.legal gives.legal;
       sound = all_sound.1;
-      goes_on = λ (wanted : Option ℕ) (more : List ℤ) (rest : List Bool) (ys : List ℤ) (ending : Ending) (used : ℕ) (goes : (i : ℕ) → i < begun → GoesOn s wanted i) (run_of : OfRun s (b + 1) (last_of (pos 0) (all ++ xs)) left more) next.
-          on wanted more rest ys ending used goes (subst (λ (q : ℤ). OfRun s (b + 1) q left more) (last_append (pos 0) all xs) run_of) next;
+      goes_on = λ (wanted : Option ℕ) (more : List ℤ) (rest : List Bool) (ys : List ℤ) (ending : Ending) (used : ℕ) (goes : (i : ℕ) → i < begun → IsWanted s wanted i) (run_of : AreOfRun s (b + 1) (last_of (pos 0) (all ++ xs)) left more) next.
+          on wanted more rest ys ending used goes (subst (λ (q : ℤ). AreOfRun s (b + 1) q left more) (last_append (pos 0) all xs) run_of) next;
     }
   where
-    zero_blocks : List Contents
-    zero_blocks = replicate run (zeros s None)
+    zero_blocks : List BlockData
+    zero_blocks = replicate run (zero_block s None)
 
     count : run ≡ suc left
-    count = sym (length-replicate run (zeros s None)) ∙ ap length (sym gives.blocks_are) ∙ ap suc (length-replicate left (zeros s None))
+    count = sym (length-replicate run (zero_block s None)) ∙ ap length (sym gives.blocks_are) ∙ ap suc (length-replicate left (zero_block s None))
 
-    on : (wanted : Option ℕ) (more : List ℤ) (rest : List Bool) (ys : List ℤ) (ending : Ending) (used : ℕ) → ((i : ℕ) → i < begun → GoesOn s wanted i) → OfRun s (b + 1) (last_of (last_of (pos 0) all) xs) left more →
+    on : (wanted : Option ℕ) (more : List ℤ) (rest : List Bool) (ys : List ℤ) (ending : Ending) (used : ℕ) → ((i : ℕ) → i < begun → IsWanted s wanted i) → AreOfRun s (b + 1) (last_of (last_of (pos 0) all) xs) left more →
         DecodedFrom s (b + 1 + left) (length front) (last_of (pos 0) ((all ++ xs) ++ more)) rest wanted ys ending used → Decoded s (front ++ rest) wanted (cut_to s wanted 0 ((all ++ xs) ++ more) ++ ys) ending (length front + used)
     on wanted more rest ys ending used goes run_of next =
         let p = last_of (pos 0) all in
         let zs = xs ++ more in
         let made = run_blocks s b left p xs more zero_blocks gives run_of in
-        let n : length zero_blocks ≡ run = length-replicate run (zeros s None) in
-        let of_run : OfRun s b p run zs = record { len = made.1 ∙ ap (λ m. s.block * m) n; legal = All-append (IsSample s) xs more gives.legal run_of.legal; blocks = ap (λ m. blocks_from s b p m zs) (sym n) ∙ made.2 } in
+        let n : length zero_blocks ≡ run = length-replicate run (zero_block s None) in
+        let of_run : AreOfRun s b p run zs = record { len = made.1 ∙ ap (λ m. s.block * m) n; legal = All-append (IsSample s) xs more gives.legal run_of.legal; blocks = ap (λ m. blocks_from s b p m zs) (sym n) ∙ made.2 } in
         let place : b + 1 + left ≡ b + run = omega (arith, count) in
         let both = append_assoc all xs more in
         let there : DecodedFrom s (b + run) (length front) (last_of (pos 0) (all ++ zs)) rest wanted ys ending used =
@@ -190,31 +190,31 @@ at_end s b position p rest wanted ending used ends =
     }
 
 -- decoding ends behind the blocks of the run
-ends_behind : (s : Parameters) (front rest : List Bool) (begun b run : ℕ) (all more : List ℤ) (wanted : Option ℕ) (ending : Ending) (used : ℕ) → Behind s front begun b run all → ((i : ℕ) → i < begun → GoesOn s wanted i) → OfRun s b (last_of (pos 0) all) run more →
+ends_behind : (s : Parameters) (front rest : List Bool) (begun b run : ℕ) (all more : List ℤ) (wanted : Option ℕ) (ending : Ending) (used : ℕ) → DecodedSoFar s front begun b run all → ((i : ℕ) → i < begun → IsWanted s wanted i) → AreOfRun s b (last_of (pos 0) all) run more →
     EndsWith s wanted (b + run) rest ending used → Decoded s (front ++ rest) wanted (cut_to s wanted 0 (all ++ more)) ending (length front + used)
 ends_behind s front rest begun b run all more wanted ending used behind goes of_run ends =
     subst (λ (l : List ℤ). Decoded s (front ++ rest) wanted l ending (length front + used)) (append-nil (cut_to s wanted 0 (all ++ more)))
     (behind.goes_on wanted more rest [] ending used goes of_run (at_end s (b + run) (length front) (last_of (pos 0) (all ++ more)) rest wanted ending used ends))
 
 -- it ends where no run goes on
-pub ends_here : (s : Parameters) (front rest : List Bool) (begun b : ℕ) (all : List ℤ) (wanted : Option ℕ) (ending : Ending) (used : ℕ) → Behind s front begun b 0 all → ((i : ℕ) → i < begun → GoesOn s wanted i) → EndsWith s wanted b rest ending used →
+pub ends_here : (s : Parameters) (front rest : List Bool) (begun b : ℕ) (all : List ℤ) (wanted : Option ℕ) (ending : Ending) (used : ℕ) → DecodedSoFar s front begun b 0 all → ((i : ℕ) → i < begun → IsWanted s wanted i) → EndsWith s wanted b rest ending used →
     Decoded s (front ++ rest) wanted (cut_to s wanted 0 all) ending (length front + used)
 ends_here s front rest begun b all wanted ending used behind goes ends =
-    let none : OfRun s b (last_of (pos 0) all) 0 [] = record { len = omega arith; legal = λ k d lt. absurd (omega arith); blocks = refl } in
+    let none : AreOfRun s b (last_of (pos 0) all) 0 [] = record { len = omega arith; legal = λ k d lt. absurd (omega arith); blocks = refl } in
     let at : b ≡ b + 0 = omega arith in
     subst (λ (l : List ℤ). Decoded s (front ++ rest) wanted (cut_to s wanted 0 l) ending (length front + used)) (append-nil all)
     (ends_behind s front rest begun b 0 all [] wanted ending used behind goes none (subst (λ (n : ℕ). EndsWith s wanted n rest ending used) at ends))
 
 -- it ends with the samples that were asked for, all of which were given
-pub ends_reached : (s : Parameters) (front rest : List Bool) (begun b run : ℕ) (all : List ℤ) (n : ℕ) → IsLegal s → Behind s front begun b run all → ((i : ℕ) → i < begun → GoesOn s (Some n) i) → n ≤ s.block * b →
+pub ends_reached : (s : Parameters) (front rest : List Bool) (begun b run : ℕ) (all : List ℤ) (n : ℕ) → IsLegal s → DecodedSoFar s front begun b run all → ((i : ℕ) → i < begun → IsWanted s (Some n) i) → n ≤ s.block * b →
     Decoded s (front ++ rest) (Some n) (cut_to s (Some n) 0 all) Reached (length front + 0)
 ends_reached s front rest begun b run all n legal behind goes enough =
     let j : 1 ≤ s.block = let k : 8 ≤ s.block = grind (arith, legal.block) in omega arith in
     let p = last_of (pos 0) all in
     let hp = last_legal s (pos 0) all (zero_is_sample s legal.bits_from) (recursion_from_All (IsSample s) all behind.legal) in
-    let made = blocks_have_samples s b p (replicate run (zeros s None)) legal j hp behind.sound in
-    let count = length-replicate run (zeros s None) in
-    let of_run : OfRun s b p run made.0 = record { len = made.1 ∙ ap (λ m. s.block * m) count; legal = All-from_recursion (IsSample s) made.0 made.2; blocks = ap (λ m. blocks_from s b p m made.0) (sym count) ∙ made.3 } in
+    let made = blocks_have_samples s b p (replicate run (zero_block s None)) legal j hp behind.sound in
+    let count = length-replicate run (zero_block s None) in
+    let of_run : AreOfRun s b p run made.0 = record { len = made.1 ∙ ap (λ m. s.block * m) count; legal = All-from_recursion (IsSample s) made.0 made.2; blocks = ap (λ m. blocks_from s b p m made.0) (sym count) ∙ made.3 } in
     let far : s.block * b ≤ s.block * (b + run) = mul-le-mul_left s.block (omega arith) in
     let ends : EndsWith s (Some n) (b + run) rest Reached 0 = (omega arith, refl) in
     let cut : take (n - s.block * 0) (all ++ made.0) ≡ take (n - s.block * 0) all = take-append-le (n - s.block * 0) all made.0 (omega (arith, behind.len)) in

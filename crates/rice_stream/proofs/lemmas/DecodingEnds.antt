@@ -18,18 +18,19 @@ use Rattle.rice_samples.specs.Parameters.{Parameters, IsLegal}
 use Rattle.rice_samples.specs.Places.{place}
 use Rattle.rice_samples.specs.predict.Residuals.{last_of}
 use Rattle.rice_samples.specs.bytes.Spelling.{spellings}
-use Rattle.rice_code.specs.code.Decoded.{Decoded, Ending, EndsWith, Reached, Ended, CutOff, Past, Large, Refuses, GoesOn, cut_to}
+use Rattle.rice_code.specs.code.Decoded.{Decoded, Ending, EndsWith, Reached, Ended, CutOff, Past, Large, BeginsUnsound, IsWanted, cut_to}
 use Rattle.rice_code.proofs.lemmas.code.Filling.{last_append}
 use Rattle.rice_code.proofs.lemmas.code.BlockPlaces.{place_step}
-use Rattle.rice_code.specs.code.CodedDataSets.{DataSet, text}
-use Rattle.rice_code.specs.decode.Decoder.{Place, StopsBy, SetEnds, SetRefused, marked, moved, next_block_place}
+use Rattle.rice_code.specs.code.CodedDataSets.{CodedDataSet, bits_of_set}
+use Rattle.rice_code.specs.decode.Decoder.{StopsBy, SetEnds, SetRefused, with_mark}
+use Rattle.rice_code.specs.decode.DecoderState.{DecoderState, state_after_block, next_block_place}
 use Rattle.rice_code.specs.code.Forms.{IsForm, RunIsSound, ResidualsAreSound}
 use Rattle.rice_code.specs.decode.ReadSets.{SetCut}
 use Rattle.rice_code.specs.declared.decode.fault.CodeFault.{CodeFault}
 use Rattle.rice_code.specs.declared.decode.fault.CodeFault.TheVariants as faults
 use Rattle.rice_stream.specs.Calls.{Call, Happens, Fails, StopsBetween, PassesLimit}
-use Rattle.rice_stream.specs.Decodes.{Decodings, EndsSo, Decodes, RunsOut, FailsInBlock, at_most, wanted_of, ended_fault, refusal_fault}
-use Rattle.rice_stream.specs.DecodingState.{Behind, Gains, RunsOn}
+use Rattle.rice_stream.specs.Decodes.{Decodes, EndsDecoding, DecodesBytes, RunsOut, FailsInBlock, at_most, wanted_of, ended_fault, refusal_fault}
+use Rattle.rice_stream.specs.DecodingState.{DecodedSoFar, Gains, DecodingProgress}
 use Rattle.rice_stream.specs.Writes.{TakesPart}
 use Rattle.rice_stream.specs.declared.outcome.Report.{Report}
 use Rattle.rice_stream.specs.declared.outcome.Fault.{Fault}
@@ -39,12 +40,12 @@ use Rattle.rice_stream.proofs.lemmas.DecodingLemmas.{still_asked}
 use Rattle.rice_stream.proofs.lemmas.SpellingLengths.{spellings-append}
 
 -- more samples are wanted than are written
-pub goes_on : (s : Parameters) (asked : Option ℕ) (blocks written : ℕ) (all : List ℤ) → length all ≡ s.block * blocks → written ≡ length (cut_to s asked 0 all) → wanted_of asked written s.block ≢ 0 → GoesOn s asked blocks
+pub goes_on : (s : Parameters) (asked : Option ℕ) (blocks written : ℕ) (all : List ℤ) → length all ≡ s.block * blocks → written ≡ length (cut_to s asked 0 all) → wanted_of asked written s.block ≢ 0 → IsWanted s asked blocks
 goes_on s None blocks written all e w some = tt
 goes_on s (Some n) blocks written all e w some = let k = length-take (n - s.block * 0) all in omega arith
 
 -- and then as many are written as there are
-pub all_written : (s : Parameters) (asked : Option ℕ) (blocks written : ℕ) (all : List ℤ) → length all ≡ s.block * blocks → written ≡ length (cut_to s asked 0 all) → GoesOn s asked blocks → (written ≡ s.block * blocks) × (cut_to s asked 0 all ≡ all)
+pub all_written : (s : Parameters) (asked : Option ℕ) (blocks written : ℕ) (all : List ℤ) → length all ≡ s.block * blocks → written ≡ length (cut_to s asked 0 all) → IsWanted s asked blocks → (written ≡ s.block * blocks) × (cut_to s asked 0 all ≡ all)
 all_written s asked blocks written all e w goes = let same = cut_none s asked blocks all e goes in (w ∙ ap length same ∙ e, same)
 
 -- the wanted part of the next block
@@ -86,10 +87,10 @@ pub record Grows (old_steps new_steps old_taken new_taken written wanted run run
   pub few : block + run_new * block ≤ run * block + 456 * (new_taken - old_taken)
 
 -- a block more is written
-pub runs_more : {I : Type 0} (left : I → Option (List ℕ)) (failed : I → ℕ) (s : Parameters) (asked : Option ℕ) (start : I) (out_old out out_new : Option (List ℕ)) (p q : Place) (r new : Reader I) (steps written steps_new : ℕ) (xs : List ℤ) → IsLegal s →
-    (runs : RunsOn left failed s asked start out_old out p r steps written) → wanted_of asked written s.block ≢ 0 → Gains left failed s r new runs.front runs.blocks q.run runs.given xs → q ≡ moved p xs q.run →
+pub runs_more : {I : Type 0} (left : I → Option (List ℕ)) (failed : I → ℕ) (s : Parameters) (asked : Option ℕ) (start : I) (out_old out out_new : Option (List ℕ)) (p q : DecoderState) (r new : Reader I) (steps written steps_new : ℕ) (xs : List ℤ) → IsLegal s →
+    (runs : DecodingProgress left failed s asked start out_old out p r steps written) → wanted_of asked written s.block ≢ 0 → Gains left failed s r new runs.front runs.blocks q.run runs.given xs → q ≡ state_after_block p xs q.run →
     Grows steps steps_new r.taken new.taken written (wanted_of asked written s.block) p.run q.run s.block → Appends out out_new (spellings s (take (wanted_of asked written s.block) xs)) →
-    RunsOn left failed s asked start out_old out_new q new steps_new (written + wanted_of asked written s.block)
+    DecodingProgress left failed s asked start out_old out_new q new steps_new (written + wanted_of asked written s.block)
 runs_more left failed s asked start out_old out out_new p q r new steps written steps_new xs legal runs some gains moves grows put =
     let b = runs.blocks in
     let goes = goes_on s asked b written runs.given runs.behind.len runs.count some in
@@ -126,7 +127,7 @@ runs_more left failed s asked start out_old out out_new p q r new steps written 
           (Appends-trans out_old out out_new (spellings s (cut_to s asked 0 runs.given)) (spellings s (take (wanted_of asked written s.block) xs)) runs.put put);
     }
   where
-    one_more_wanted : (s : Parameters) (asked : Option ℕ) (b i : ℕ) → ((i : ℕ) → i < b → GoesOn s asked i) → GoesOn s asked b → i < b + 1 → GoesOn s asked i
+    one_more_wanted : (s : Parameters) (asked : Option ℕ) (b i : ℕ) → ((i : ℕ) → i < b → IsWanted s asked i) → IsWanted s asked b → i < b + 1 → IsWanted s asked i
     one_more_wanted s None b i h k lt = tt
     one_more_wanted s (Some n) b i h k lt = let le : s.block * i ≤ s.block * b = mul-le-mul_left s.block (omega arith) in let k' : s.block * b < n = k in omega arith
 
@@ -141,23 +142,23 @@ pub record Tells (r : Report) (samples bits steps : ℕ) : Type 0 where
 
 -- the call and what it says
 abbrev pub Ends : Parameters → Option ℕ → Option (List ℕ) → Option (List ℕ) → Option (List ℕ) → Option (List ℕ) → Report → Option Fault → Type 0
-Ends s asked left_old left_new out_old out r fault = (c : Call) × Happens left_old left_new out_old out c × Decodings s asked c r fault
+Ends s asked left_old left_new out_old out r fault = (c : Call) × Happens left_old left_new out_old out c × Decodes s asked c r fault
 
 -- at most 4,096 bytes are given ahead
 ahead : (bytes : List ℕ) (front waiting : List Bool) (bits : ℕ) → bits_of bytes ≡ front ++ waiting → length waiting ≤ 32768 → bits ≡ length front → length bytes ≤ bits / 8 + 4096
 ahead bytes front waiting bits e few n = let a = length-bits_of bytes in let b = ap length e in let c = length-append front waiting in omega arith
 
 -- the coded data sets so far are wanted
-begun_wanted : {I : Type 0} (left : I → Option (List ℕ)) (failed : I → ℕ) (s : Parameters) (asked : Option ℕ) (start : I) (out_old out : Option (List ℕ)) (p : Place) (r : Reader I) (steps written : ℕ) → (runs : RunsOn left failed s asked start out_old out p r steps written) → (i : ℕ) → i < runs.begun → GoesOn s asked i
+begun_wanted : {I : Type 0} (left : I → Option (List ℕ)) (failed : I → ℕ) (s : Parameters) (asked : Option ℕ) (start : I) (out_old out : Option (List ℕ)) (p : DecoderState) (r : Reader I) (steps written : ℕ) → (runs : DecodingProgress left failed s asked start out_old out p r steps written) → (i : ℕ) → i < runs.begun → IsWanted s asked i
 begun_wanted left failed s asked start out_old out p r steps written runs i lt = runs.wanted i (omega (arith, lt, runs.before))
 
 -- no run goes on
-pub at_set : {I : Type 0} (left : I → Option (List ℕ)) (failed : I → ℕ) (s : Parameters) (asked : Option ℕ) (start : I) (out_old out : Option (List ℕ)) (p : Place) (r : Reader I) (steps written : ℕ) → (runs : RunsOn left failed s asked start out_old out p r steps written) → p.run ≡ 0 → Behind s runs.front runs.begun runs.blocks 0 runs.given
-at_set left failed s asked start out_old out p r steps written runs none = subst (λ (n : ℕ). Behind s runs.front runs.begun runs.blocks n runs.given) none runs.behind
+pub at_set : {I : Type 0} (left : I → Option (List ℕ)) (failed : I → ℕ) (s : Parameters) (asked : Option ℕ) (start : I) (out_old out : Option (List ℕ)) (p : DecoderState) (r : Reader I) (steps written : ℕ) → (runs : DecodingProgress left failed s asked start out_old out p r steps written) → p.run ≡ 0 → DecodedSoFar s runs.front runs.begun runs.blocks 0 runs.given
+at_set left failed s asked start out_old out p r steps written runs none = subst (λ (n : ℕ). DecodedSoFar s runs.front runs.begun runs.blocks n runs.given) none runs.behind
 
 -- the samples that were asked for are reached
-pub reached_ends : {I : Type 0} (left : I → Option (List ℕ)) (failed : I → ℕ) (s : Parameters) (asked : Option ℕ) (start : I) (out_old out : Option (List ℕ)) (p : Place) (r : Reader I) (steps written : ℕ) (rep : Report) (f : Option Fault) → IsLegal s →
-    (runs : RunsOn left failed s asked start out_old out p r steps written) → wanted_of asked written s.block ≡ 0 → Tells rep written r.taken steps → length r.waiting ≤ 32768 → f ≡ None → Ends s asked (left start) (left r.intake) out_old out rep f
+pub reached_ends : {I : Type 0} (left : I → Option (List ℕ)) (failed : I → ℕ) (s : Parameters) (asked : Option ℕ) (start : I) (out_old out : Option (List ℕ)) (p : DecoderState) (r : Reader I) (steps written : ℕ) (rep : Report) (f : Option Fault) → IsLegal s →
+    (runs : DecodingProgress left failed s asked start out_old out p r steps written) → wanted_of asked written s.block ≡ 0 → Tells rep written r.taken steps → length r.waiting ≤ 32768 → f ≡ None → Ends s asked (left start) (left r.intake) out_old out rep f
 reached_ends left failed s None start out_old out p r steps written rep f legal runs none tells few is = absurd (let j : 8 ≤ s.block = grind (arith, legal.block) in omega arith)
 reached_ends left failed s (Some n) start out_old out p r steps written rep f legal runs none tells few is =
     let j : 8 ≤ s.block = grind (arith, legal.block) in
@@ -169,10 +170,10 @@ reached_ends left failed s (Some n) start out_old out p r steps written rep f le
     let decoded = ends_reached s runs.front r.waiting runs.begun runs.blocks p.run runs.given n legal runs.behind (begun_wanted left failed s asked start out_old out p r steps written runs) enough in
     let used : length runs.front + 0 ≡ r.taken = omega (arith, runs.taken) in
     let all : Decoded s (bits_of runs.bytes) asked ys Reached (length runs.front + 0) = subst (λ (l : List Bool). Decoded s l asked ys Reached (length runs.front + 0)) (sym runs.bits) decoded in
-    let ends : EndsSo s asked None c rep ys Reached = ((length runs.front + 0, all, record { written = refl; samples = tells.samples_are ∙ runs.count; bits = tells.bits_are ∙ sym used }), inl refl) in (
+    let ends : EndsDecoding s asked None c rep ys Reached = ((length runs.front + 0, all, record { written = refl; samples = tells.samples_are ∙ runs.count; bits = tells.bits_are ∙ sym used }), inl refl) in (
       c,
       record { gave = runs.gave; left = refl; took = runs.put },
-      record { samples = ys; ending = Reached; ends = subst (λ (f : Option Fault). EndsSo s asked f c rep ys Reached) (sym is) ends; ahead = ahead runs.bytes runs.front r.waiting rep.bits runs.bits few (tells.bits_are ∙ runs.taken) },
+      record { samples = ys; ending = Reached; ends = subst (λ (f : Option Fault). EndsDecoding s asked f c rep ys Reached) (sym is) ends; ahead = ahead runs.bytes runs.front r.waiting rep.bits runs.bits few (tells.bits_are ∙ runs.taken) },
     )
 
 -- All that the intake gave was taken.
@@ -181,8 +182,8 @@ record Drained {I : Type 0} (left : I → Option (List ℕ)) (start new : I) (mi
   pub gave : Consumes (left start) middle total
   pub bits_are : bits_of total ≡ front ++ bits
 
-drained : {I : Type 0} (left : I → Option (List ℕ)) (failed : I → ℕ) (s : Parameters) (asked : Option ℕ) (start : I) (out_old out : Option (List ℕ)) (p : Place) (r new : Reader I) (steps written : ℕ) (bits : List Bool) (fault : BitFault) →
-    (runs : RunsOn left failed s asked start out_old out p r steps written) → (stops : Stops left failed (marked r) new bits fault) → Drained left start new.intake stops.middle runs.front bits
+drained : {I : Type 0} (left : I → Option (List ℕ)) (failed : I → ℕ) (s : Parameters) (asked : Option ℕ) (start : I) (out_old out : Option (List ℕ)) (p : DecoderState) (r new : Reader I) (steps written : ℕ) (bits : List Bool) (fault : BitFault) →
+    (runs : DecodingProgress left failed s asked start out_old out p r steps written) → (stops : Stops left failed (with_mark r) new bits fault) → Drained left start new.intake stops.middle runs.front bits
 drained left failed s asked start out_old out p r new steps written bits fault runs stops =
     let given = stops.draws.given in
     record {
@@ -212,7 +213,7 @@ unfolding ending_of
 run_out true = inl refl
 run_out false = inr refl
 
-ends_out : (s : Parameters) (asked : Option ℕ) (b : ℕ) (bits : List Bool) (blank : Bool) → GoesOn s asked b → is_blank bits ≡ blank → ((d : DataSet) (more : List Bool) → IsForm s b d → bits ≡ text s d ++ more → ⊥) → EndsWith s asked b bits (ending_of blank) (length bits)
+ends_out : (s : Parameters) (asked : Option ℕ) (b : ℕ) (bits : List Bool) (blank : Bool) → IsWanted s asked b → is_blank bits ≡ blank → ((d : CodedDataSet) (more : List Bool) → IsForm s b d → bits ≡ bits_of_set s d ++ more → ⊥) → EndsWith s asked b bits (ending_of blank) (length bits)
 unfolding ending_of
 ends_out s asked b bits true goes e none = (goes, blank_all bits e, refl)
 ends_out s asked b bits false goes e none = (goes, some_one bits e, none, refl)
@@ -223,8 +224,8 @@ fault_at_end asked true written = ended_fault asked written
 fault_at_end asked false written = Some (CodeEnds written)
 
 -- no 1 is left, or no data set begins with what is left, where the intake has ended
-pub ended_ends : {I : Type 0} (left : I → Option (List ℕ)) (failed : I → ℕ) (s : Parameters) (asked : Option ℕ) (start : I) (out_old out : Option (List ℕ)) (p : Place) (r new : Reader I) (steps written steps_new : ℕ) (blank : Bool) (rep : Report) (f : Option Fault) →
-    (runs : RunsOn left failed s asked start out_old out p r steps written) → wanted_of asked written s.block ≢ 0 → p.run ≡ 0 → SetEnds left failed (marked r) new s runs.blocks blank → Tells rep written new.taken steps_new → f ≡ fault_at_end asked blank written →
+pub ended_ends : {I : Type 0} (left : I → Option (List ℕ)) (failed : I → ℕ) (s : Parameters) (asked : Option ℕ) (start : I) (out_old out : Option (List ℕ)) (p : DecoderState) (r new : Reader I) (steps written steps_new : ℕ) (blank : Bool) (rep : Report) (f : Option Fault) →
+    (runs : DecodingProgress left failed s asked start out_old out p r steps written) → wanted_of asked written s.block ≢ 0 → p.run ≡ 0 → SetEnds left failed (with_mark r) new s runs.blocks blank → Tells rep written new.taken steps_new → f ≡ fault_at_end asked blank written →
     Ends s asked (left start) (left new.intake) out_old out rep f
 unfolding ending_of
 ended_ends left failed s asked start out_old out p r new steps written steps_new blank rep f runs some none ends tells is =
@@ -236,7 +237,7 @@ ended_ends left failed s asked start out_old out p r new steps written steps_new
     let goes = goes_on s asked runs.blocks written runs.given runs.behind.len runs.count some in
     let out_of = ends_here s runs.front bits runs.begun runs.blocks runs.given asked (ending_of blank) (length bits) (at_set left failed s asked start out_old out p r steps written runs none) (begun_wanted left failed s asked start out_old out p r steps written runs) (ends_out s asked runs.blocks bits blank goes ends.told ends.cut.none) in
     let used : length runs.front + length bits ≡ new.taken = omega (arith, runs.taken, stops.taken) in
-    let decodes : Decodes s asked c rep all.total ys (ending_of blank) = (
+    let decodes : DecodesBytes s asked c rep all.total ys (ending_of blank) = (
       length runs.front + length bits,
       subst (λ (l : List Bool). Decoded s l asked ys (ending_of blank) (length runs.front + length bits)) (sym all.bits_are) out_of,
       record { written = refl; samples = tells.samples_are ∙ runs.count; bits = tells.bits_are ∙ sym used },
@@ -248,17 +249,17 @@ ended_ends left failed s asked start out_old out p r new steps written steps_new
     let bits_count : rep.bits ≡ length front = tells.bits_are ∙ sym used ∙ sym (length-append runs.front bits) in (
       c,
       record { gave = gave; left = refl; took = runs.put },
-      record { samples = ys; ending = ending_of blank; ends = subst (λ (f : Option Fault). EndsSo s asked f c rep ys (ending_of blank)) (sym is) (by_fault blank asked decodes stops.refuses.1 runs.count); ahead = ahead all.total front [] rep.bits whole few bits_count },
+      record { samples = ys; ending = ending_of blank; ends = subst (λ (f : Option Fault). EndsDecoding s asked f c rep ys (ending_of blank)) (sym is) (by_fault blank asked decodes stops.refuses.1 runs.count); ahead = ahead all.total front [] rep.bits whole few bits_count },
     )
   where
-    by_fault : {c : Call} {ys : List ℤ} (blank : Bool) (asked : Option ℕ) → Decodes s asked c rep c.given ys (ending_of blank) → IsAtEnd c.left → written ≡ length ys → EndsSo s asked (fault_at_end asked blank written) c rep ys (ending_of blank)
+    by_fault : {c : Call} {ys : List ℤ} (blank : Bool) (asked : Option ℕ) → DecodesBytes s asked c rep c.given ys (ending_of blank) → IsAtEnd c.left → written ≡ length ys → EndsDecoding s asked (fault_at_end asked blank written) c rep ys (ending_of blank)
     by_fault true None d end n = (d, inr (refl, refl, end))
     by_fault true (Some m) d end n = (d, inr (refl, refl), end, n)
     by_fault false asked d end n = (d, inl refl, end, n)
 
 -- the intake failed
-pub read_ends : {I : Type 0} (left : I → Option (List ℕ)) (failed : I → ℕ) (s : Parameters) (asked : Option ℕ) (start : I) (out_old out : Option (List ℕ)) (p : Place) (r new : Reader I) (steps written steps_new : ℕ) (rep : Report) (f : Option Fault) →
-    (runs : RunsOn left failed s asked start out_old out p r steps written) → wanted_of asked written s.block ≢ 0 → p.run ≡ 0 → SetCut left failed (marked r) new s runs.blocks bit_faults.Read → Tells rep written new.taken steps_new → f ≡ Some Read →
+pub read_ends : {I : Type 0} (left : I → Option (List ℕ)) (failed : I → ℕ) (s : Parameters) (asked : Option ℕ) (start : I) (out_old out : Option (List ℕ)) (p : DecoderState) (r new : Reader I) (steps written steps_new : ℕ) (rep : Report) (f : Option Fault) →
+    (runs : DecodingProgress left failed s asked start out_old out p r steps written) → wanted_of asked written s.block ≢ 0 → p.run ≡ 0 → SetCut left failed (with_mark r) new s runs.blocks bit_faults.Read → Tells rep written new.taken steps_new → f ≡ Some Read →
     Ends s asked (left start) (left new.intake) out_old out rep f
 read_ends left failed s asked start out_old out p r new steps written steps_new rep f runs some none cut tells is =
     let bits = cut.bits in
@@ -270,7 +271,7 @@ read_ends left failed s asked start out_old out p r new steps written steps_new 
     let goes = goes_on s asked runs.blocks written runs.given runs.behind.len runs.count some in
     let out_of = ends_here s runs.front bits runs.begun runs.blocks runs.given asked ending (length bits) (at_set left failed s asked start out_old out p r steps written runs none) (begun_wanted left failed s asked start out_old out p r steps written runs) (ends_out s asked runs.blocks bits (is_blank bits) goes refl cut.none) in
     let used : length runs.front + length bits ≡ new.taken = omega (arith, runs.taken, stops.taken) in
-    let decodes : Decodes s asked c rep all.total ys ending = (
+    let decodes : DecodesBytes s asked c rep all.total ys ending = (
       length runs.front + length bits,
       subst (λ (l : List Bool). Decoded s l asked ys ending (length runs.front + length bits)) (sym all.bits_are) out_of,
       record { written = refl; samples = tells.samples_are ∙ runs.count; bits = tells.bits_are ∙ sym used },
@@ -280,15 +281,15 @@ read_ends left failed s asked start out_old out p r new steps written steps_new 
     let few : length {A = Bool} [] ≤ 32768 = omega arith in
     let whole : bits_of all.total ≡ front ++ [] = all.bits_are ∙ sym (append-nil front) in
     let bits_count : rep.bits ≡ length front = tells.bits_are ∙ sym used ∙ sym (length-append runs.front bits) in
-    let ends : EndsSo s asked (Some Read) c rep ys ending = (decodes, run_out (is_blank bits)) in (
+    let ends : EndsDecoding s asked (Some Read) c rep ys ending = (decodes, run_out (is_blank bits)) in (
       c,
       record { gave = gave; left = refl; took = runs.put },
-      record { samples = ys; ending = ending; ends = subst (λ (f : Option Fault). EndsSo s asked f c rep ys ending) (sym is) ends; ahead = ahead all.total front [] rep.bits whole few bits_count },
+      record { samples = ys; ending = ending; ends = subst (λ (f : Option Fault). EndsDecoding s asked f c rep ys ending) (sym is) ends; ahead = ahead all.total front [] rep.bits whole few bits_count },
     )
 
 -- the byte past the limit was given
-pub long_ends : {I : Type 0} (left : I → Option (List ℕ)) (failed : I → ℕ) (s : Parameters) (asked : Option ℕ) (start : I) (out_old out : Option (List ℕ)) (p : Place) (r new : Reader I) (steps written steps_new : ℕ) (rep : Report) (f : Option Fault) →
-    (runs : RunsOn left failed s asked start out_old out p r steps written) → wanted_of asked written s.block ≢ 0 → p.run ≡ 0 → SetCut left failed (marked r) new s runs.blocks bit_faults.TooLong → Tells rep written new.taken steps_new → f ≡ Some TooLong →
+pub long_ends : {I : Type 0} (left : I → Option (List ℕ)) (failed : I → ℕ) (s : Parameters) (asked : Option ℕ) (start : I) (out_old out : Option (List ℕ)) (p : DecoderState) (r new : Reader I) (steps written steps_new : ℕ) (rep : Report) (f : Option Fault) →
+    (runs : DecodingProgress left failed s asked start out_old out p r steps written) → wanted_of asked written s.block ≢ 0 → p.run ≡ 0 → SetCut left failed (with_mark r) new s runs.blocks bit_faults.TooLong → Tells rep written new.taken steps_new → f ≡ Some TooLong →
     Ends s asked (left start) (left new.intake) out_old out rep f
 long_ends left failed s asked start out_old out p r new steps written steps_new rep f runs some none cut tells is =
     let bits = cut.bits in
@@ -301,7 +302,7 @@ long_ends left failed s asked start out_old out p r new steps written steps_new 
     let goes = goes_on s asked runs.blocks written runs.given runs.behind.len runs.count some in
     let out_of = ends_here s runs.front bits runs.begun runs.blocks runs.given asked ending (length bits) (at_set left failed s asked start out_old out p r steps written runs none) (begun_wanted left failed s asked start out_old out p r steps written runs) (ends_out s asked runs.blocks bits (is_blank bits) goes refl cut.none) in
     let used : length runs.front + length bits ≡ new.taken = omega (arith, runs.taken, stops.taken) in
-    let decodes : Decodes s asked c rep all.total ys ending = (
+    let decodes : DecodesBytes s asked c rep all.total ys ending = (
       length runs.front + length bits,
       subst (λ (l : List Bool). Decoded s l asked ys ending (length runs.front + length bits)) (sym all.bits_are) out_of,
       record { written = refl; samples = tells.samples_are ∙ runs.count; bits = tells.bits_are ∙ sym used },
@@ -309,10 +310,10 @@ long_ends left failed s asked start out_old out p r new steps written steps_new 
     let gave = Consumes-trans (left start) stops.middle (left new.intake) all.total (last ∷ []) all.gave stops.refuses.0.1 in
     let full : length all.total ≡ 562949953421312 = full_is all.total runs.front bits new.taken all.bits_are used stops.refuses.2 in
     let passes : PassesLimit 562949953421312 (all.total ++ last ∷ []) all.total = record { last = last; split = refl; full = full } in
-    let ends : EndsSo s asked (Some TooLong) c rep ys ending = ((all.total, passes, decodes), run_out (is_blank bits)) in (
+    let ends : EndsDecoding s asked (Some TooLong) c rep ys ending = ((all.total, passes, decodes), run_out (is_blank bits)) in (
       c,
       record { gave = gave; left = refl; took = runs.put },
-      record { samples = ys; ending = ending; ends = subst (λ (f : Option Fault). EndsSo s asked f c rep ys ending) (sym is) ends; ahead = past (length-append all.total (last ∷ [])) full (tells.bits_are ∙ stops.refuses.2) },
+      record { samples = ys; ending = ending; ends = subst (λ (f : Option Fault). EndsDecoding s asked f c rep ys ending) (sym is) ends; ahead = past (length-append all.total (last ∷ [])) full (tells.bits_are ∙ stops.refuses.2) },
     )
   where
     full_is : (total : List ℕ) (front bits : List Bool) (n : ℕ) → bits_of total ≡ front ++ bits → length front + length bits ≡ n → n ≡ 4503599627370496 → length total ≡ 562949953421312
@@ -326,18 +327,18 @@ record Refusal {I : Type 0} (left : I → Option (List ℕ)) (s : Parameters) (a
   pub call : Call
   pub happens : Happens (left start) (left new) out_old out call
   pub samples : List ℤ
-  pub decodes : Decodes s asked call rep call.given samples ending
+  pub decodes : DecodesBytes s asked call rep call.given samples ending
   pub count : length samples ≡ s.block * (written / s.block)
   pub ahead_of : length call.given ≤ rep.bits / 8 + 4096
 
-refusal : {I : Type 0} (left : I → Option (List ℕ)) (failed : I → ℕ) (s : Parameters) (asked : Option ℕ) (start : I) (out_old out : Option (List ℕ)) (p : Place) (r new : Reader I) (steps written steps_new : ℕ) (rep : Report) (P : DataSet → Type 0) (ending : Ending) → IsLegal s →
-    (runs : RunsOn left failed s asked start out_old out p r steps written) → wanted_of asked written s.block ≢ 0 → p.run ≡ 0 → SetRefused left failed (marked r) new s runs.blocks P →
-    ((rest : List Bool) (used : ℕ) → GoesOn s asked runs.blocks → Refuses s runs.blocks rest used P → EndsWith s asked runs.blocks rest ending used) → Tells rep written new.taken steps_new → length new.waiting ≤ 32768 →
+refusal : {I : Type 0} (left : I → Option (List ℕ)) (failed : I → ℕ) (s : Parameters) (asked : Option ℕ) (start : I) (out_old out : Option (List ℕ)) (p : DecoderState) (r new : Reader I) (steps written steps_new : ℕ) (rep : Report) (P : CodedDataSet → Type 0) (ending : Ending) → IsLegal s →
+    (runs : DecodingProgress left failed s asked start out_old out p r steps written) → wanted_of asked written s.block ≢ 0 → p.run ≡ 0 → SetRefused left failed (with_mark r) new s runs.blocks P →
+    ((rest : List Bool) (used : ℕ) → IsWanted s asked runs.blocks → BeginsUnsound s runs.blocks rest used P → EndsWith s asked runs.blocks rest ending used) → Tells rep written new.taken steps_new → length new.waiting ≤ 32768 →
     Refusal left s asked start new.intake out_old out rep written ending
 refusal left failed s asked start out_old out p r new steps written steps_new rep P ending legal runs some none refused by_rule tells few =
     let b = runs.blocks in
     let j : 1 ≤ s.block = let k : 8 ≤ s.block = grind (arith, legal.block) in omega arith in
-    let set = text s refused.set in
+    let set = bits_of_set s refused.set in
     let draws = refused.takes.draws in
     let total = runs.bytes ++ draws.given in
     let rest = set ++ new.waiting in
@@ -345,7 +346,7 @@ refusal left failed s asked start out_old out p r new steps written steps_new re
     let goes = goes_on s asked b written runs.given runs.behind.len runs.count some in
     let so_far = all_written s asked b written runs.given runs.behind.len runs.count goes in
     let ys = cut_to s asked 0 runs.given in
-    let refuses : Refuses s b rest (length set) P = record { refused = refused.set; more = new.waiting; form = refused.form; unsound = refused.unsound; begins = refl; bits = refl } in
+    let refuses : BeginsUnsound s b rest (length set) P = record { refused = refused.set; more = new.waiting; form = refused.form; unsound = refused.unsound; begins = refl; bits = refl } in
     let here = ends_here s runs.front rest runs.begun b runs.given asked ending (length set) (at_set left failed s asked start out_old out p r steps written runs none) (begun_wanted left failed s asked start out_old out p r steps written runs) (by_rule rest (length set) goes refuses) in
     let used : length runs.front + length set ≡ rep.bits = sym (tells.bits_are ∙ refused.takes.taken ∙ ap (λ n. n + length set) runs.taken) in
     let whole : bits_of total ≡ (runs.front ++ set) ++ new.waiting = bits_are ∙ sym (append_assoc runs.front set new.waiting) in
@@ -364,22 +365,22 @@ refusal left failed s asked start out_old out p r new steps written steps_new re
     }
 
 -- a run passes its segment
-pub past_ends : {I : Type 0} (left : I → Option (List ℕ)) (failed : I → ℕ) (s : Parameters) (asked : Option ℕ) (start : I) (out_old out : Option (List ℕ)) (p : Place) (r new : Reader I) (steps written steps_new : ℕ) (rep : Report) (f : Option Fault) → IsLegal s →
-    (runs : RunsOn left failed s asked start out_old out p r steps written) → wanted_of asked written s.block ≢ 0 → p.run ≡ 0 → SetRefused left failed (marked r) new s runs.blocks (RunIsSound s runs.blocks) → Tells rep written new.taken steps_new → length new.waiting ≤ 32768 → f ≡ Some (RunPastSegment (written / s.block)) →
+pub past_ends : {I : Type 0} (left : I → Option (List ℕ)) (failed : I → ℕ) (s : Parameters) (asked : Option ℕ) (start : I) (out_old out : Option (List ℕ)) (p : DecoderState) (r new : Reader I) (steps written steps_new : ℕ) (rep : Report) (f : Option Fault) → IsLegal s →
+    (runs : DecodingProgress left failed s asked start out_old out p r steps written) → wanted_of asked written s.block ≢ 0 → p.run ≡ 0 → SetRefused left failed (with_mark r) new s runs.blocks (RunIsSound s runs.blocks) → Tells rep written new.taken steps_new → length new.waiting ≤ 32768 → f ≡ Some (RunPastSegment (written / s.block)) →
     Ends s asked (left start) (left new.intake) out_old out rep f
 past_ends left failed s asked start out_old out p r new steps written steps_new rep f legal runs some none refused tells few is =
     let k = refusal left failed s asked start out_old out p r new steps written steps_new rep (RunIsSound s runs.blocks) Past legal runs some none refused (λ rest used goes h. (goes, h)) tells few in
-    let ends : EndsSo s asked (Some (RunPastSegment (written / s.block))) k.call rep k.samples Past = (k.decodes, refl, k.count) in
-    (k.call, k.happens, record { samples = k.samples; ending = Past; ends = subst (λ (f : Option Fault). EndsSo s asked f k.call rep k.samples Past) (sym is) ends; ahead = k.ahead_of })
+    let ends : EndsDecoding s asked (Some (RunPastSegment (written / s.block))) k.call rep k.samples Past = (k.decodes, refl, k.count) in
+    (k.call, k.happens, record { samples = k.samples; ending = Past; ends = subst (λ (f : Option Fault). EndsDecoding s asked f k.call rep k.samples Past) (sym is) ends; ahead = k.ahead_of })
 
 -- a residual is too large
-pub large_ends : {I : Type 0} (left : I → Option (List ℕ)) (failed : I → ℕ) (s : Parameters) (asked : Option ℕ) (start : I) (out_old out : Option (List ℕ)) (p : Place) (r new : Reader I) (steps written steps_new : ℕ) (rep : Report) (f : Option Fault) → IsLegal s →
-    (runs : RunsOn left failed s asked start out_old out p r steps written) → wanted_of asked written s.block ≢ 0 → p.run ≡ 0 → SetRefused left failed (marked r) new s runs.blocks (ResidualsAreSound s) → Tells rep written new.taken steps_new → length new.waiting ≤ 32768 → f ≡ Some (ResidualTooLarge (written / s.block)) →
+pub large_ends : {I : Type 0} (left : I → Option (List ℕ)) (failed : I → ℕ) (s : Parameters) (asked : Option ℕ) (start : I) (out_old out : Option (List ℕ)) (p : DecoderState) (r new : Reader I) (steps written steps_new : ℕ) (rep : Report) (f : Option Fault) → IsLegal s →
+    (runs : DecodingProgress left failed s asked start out_old out p r steps written) → wanted_of asked written s.block ≢ 0 → p.run ≡ 0 → SetRefused left failed (with_mark r) new s runs.blocks (ResidualsAreSound s) → Tells rep written new.taken steps_new → length new.waiting ≤ 32768 → f ≡ Some (ResidualTooLarge (written / s.block)) →
     Ends s asked (left start) (left new.intake) out_old out rep f
 large_ends left failed s asked start out_old out p r new steps written steps_new rep f legal runs some none refused tells few is =
     let k = refusal left failed s asked start out_old out p r new steps written steps_new rep (ResidualsAreSound s) Large legal runs some none refused (λ rest used goes h. (goes, h)) tells few in
-    let ends : EndsSo s asked (Some (ResidualTooLarge (written / s.block))) k.call rep k.samples Large = (k.decodes, refl, k.count) in
-    (k.call, k.happens, record { samples = k.samples; ending = Large; ends = subst (λ (f : Option Fault). EndsSo s asked f k.call rep k.samples Large) (sym is) ends; ahead = k.ahead_of })
+    let ends : EndsDecoding s asked (Some (ResidualTooLarge (written / s.block))) k.call rep k.samples Large = (k.decodes, refl, k.count) in
+    (k.call, k.happens, record { samples = k.samples; ending = Large; ends = subst (λ (f : Option Fault). EndsDecoding s asked f k.call rep k.samples Large) (sym is) ends; ahead = k.ahead_of })
 
 -- the first of some elements, as many as the first of them are
 take_same : (n : ℕ) (xs : List ℤ) → take (length (take n xs)) xs ≡ take n xs
@@ -388,8 +389,8 @@ take_same (suc n) [] = refl
 take_same (suc n) (x ∷ xs) = ap (λ l. x ∷ l) (take_same n xs)
 
 -- the outlet failed in a block
-pub write_ends : {I : Type 0} (left : I → Option (List ℕ)) (failed : I → ℕ) (s : Parameters) (asked : Option ℕ) (start : I) (out_old out out_new : Option (List ℕ)) (p q : Place) (r new : Reader I) (steps written steps_new : ℕ) (xs : List ℤ) (rep : Report) (f : Option Fault) → IsLegal s →
-    (runs : RunsOn left failed s asked start out_old out p r steps written) → wanted_of asked written s.block ≢ 0 → Gains left failed s r new runs.front runs.blocks q.run runs.given xs → TakesPart out out_new (spellings s (take (wanted_of asked written s.block) xs)) →
+pub write_ends : {I : Type 0} (left : I → Option (List ℕ)) (failed : I → ℕ) (s : Parameters) (asked : Option ℕ) (start : I) (out_old out out_new : Option (List ℕ)) (p q : DecoderState) (r new : Reader I) (steps written steps_new : ℕ) (xs : List ℤ) (rep : Report) (f : Option Fault) → IsLegal s →
+    (runs : DecodingProgress left failed s asked start out_old out p r steps written) → wanted_of asked written s.block ≢ 0 → Gains left failed s r new runs.front runs.blocks q.run runs.given xs → TakesPart out out_new (spellings s (take (wanted_of asked written s.block) xs)) →
     Tells rep written new.taken steps_new → length new.waiting ≤ 32768 → f ≡ Some Write → Ends s asked (left start) (left new.intake) out_old out_new rep f
 write_ends left failed s asked start out_old out out_new p q r new steps written steps_new xs rep f legal runs some gives part tells few is =
     let b = runs.blocks in
@@ -406,7 +407,7 @@ write_ends left failed s asked start out_old out out_new p q r new steps written
     let ys = cut_to s asked 0 (runs.given ++ xs) in
     let cut : ys ≡ cut_to s asked 0 runs.given ++ cut_to s asked b xs = cut_more s asked b runs.given xs runs.behind.len in
     let size : length ys ≡ written + w = counted w (omega (arith, most, gives.len)) (ap length (sym piece)) cut in
-    let wanted : (i : ℕ) → i < gives.begun → GoesOn s (Some (length ys)) i = λ i lt. below s.block i b (length ys) written w size so_far.0 some (omega (arith, lt, gives.before)) in
+    let wanted : (i : ℕ) → i < gives.begun → IsWanted s (Some (length ys)) i = λ i lt. below s.block i b (length ys) written w size so_far.0 some (omega (arith, lt, gives.before)) in
     let bound : length ys ≤ s.block * (b + 1) = up_to s.block b (length ys) written w size so_far.0 most in
     let here = ends_reached s front new.waiting gives.begun (b + 1) q.run (runs.given ++ xs) (length ys) legal gives.behind wanted bound in
     let exact : cut_to s (Some (length ys)) 0 (runs.given ++ xs) ≡ ys = exactly asked in
@@ -425,10 +426,10 @@ write_ends left failed s asked start out_old out out_new p q r new steps written
       decoded = decoded;
       stops = subst (λ (l : List ℤ). StopsBetween (spellings s l) (spellings s ys) between.written) (sym before) between.stops;
     } in
-    let ends : EndsSo s asked (Some Write) c rep ys Reached = (fails, refl) in (
+    let ends : EndsDecoding s asked (Some Write) c rep ys Reached = (fails, refl) in (
       c,
       record { gave = Consumes-trans (left start) (left r.intake) (left new.intake) runs.bytes draws.given runs.gave draws.consumed; left = refl; took = between.took },
-      record { samples = ys; ending = Reached; ends = subst (λ (f : Option Fault). EndsSo s asked f c rep ys Reached) (sym is) ends; ahead = ahead total front new.waiting rep.bits bits_are few taken },
+      record { samples = ys; ending = Reached; ends = subst (λ (f : Option Fault). EndsDecoding s asked f c rep ys Reached) (sym is) ends; ahead = ahead total front new.waiting rep.bits bits_are few taken },
     )
   where
     counted : (w : ℕ) → w ≤ length xs → length (cut_to s asked runs.blocks xs) ≡ length (take w xs) → cut_to s asked 0 (runs.given ++ xs) ≡ cut_to s asked 0 runs.given ++ cut_to s asked runs.blocks xs → length (cut_to s asked 0 (runs.given ++ xs)) ≡ written + w
@@ -448,8 +449,8 @@ write_ends left failed s asked start out_old out out_new p q r new steps written
     exactly None = let n : length (runs.given ++ xs) - s.block * 0 ≡ length (runs.given ++ xs) = omega arith in ap (λ m. take m (runs.given ++ xs)) n ∙ take-length (runs.given ++ xs)
     exactly (Some m) = let zs = runs.given ++ xs in let n : length (take (m - s.block * 0) zs) - s.block * 0 ≡ length (take (m - s.block * 0) zs) = omega arith in ap (λ m. take m zs) n ∙ take_same (m - s.block * 0) zs
 
-pub refusal_ends : {I : Type 0} (left : I → Option (List ℕ)) (failed : I → ℕ) (s : Parameters) (asked : Option ℕ) (start : I) (out_old out : Option (List ℕ)) (p : Place) (r new : Reader I) (steps written steps_new : ℕ) (rep : Report) (f : Option Fault) (fault : CodeFault) → IsLegal s →
-    (runs : RunsOn left failed s asked start out_old out p r steps written) → wanted_of asked written s.block ≢ 0 → p.run ≡ 0 → StopsBy left failed (marked r) new s runs.blocks (Err fault) → Tells rep written new.taken steps_new → length new.waiting ≤ 32768 → f ≡ Some (refusal_fault fault written s.block) →
+pub refusal_ends : {I : Type 0} (left : I → Option (List ℕ)) (failed : I → ℕ) (s : Parameters) (asked : Option ℕ) (start : I) (out_old out : Option (List ℕ)) (p : DecoderState) (r new : Reader I) (steps written steps_new : ℕ) (rep : Report) (f : Option Fault) (fault : CodeFault) → IsLegal s →
+    (runs : DecodingProgress left failed s asked start out_old out p r steps written) → wanted_of asked written s.block ≢ 0 → p.run ≡ 0 → StopsBy left failed (with_mark r) new s runs.blocks (Err fault) → Tells rep written new.taken steps_new → length new.waiting ≤ 32768 → f ≡ Some (refusal_fault fault written s.block) →
     Ends s asked (left start) (left new.intake) out_old out rep f
 refusal_ends left failed s asked start out_old out p r new steps written steps_new rep f faults.CodeEnds legal runs some none stops tells few is = ended_ends left failed s asked start out_old out p r new steps written steps_new false rep f runs some none stops tells is
 refusal_ends left failed s asked start out_old out p r new steps written steps_new rep f faults.RunPastSegment legal runs some none stops tells few is = past_ends left failed s asked start out_old out p r new steps written steps_new rep f legal runs some none stops tells few is
@@ -457,7 +458,7 @@ refusal_ends left failed s asked start out_old out p r new steps written steps_n
 refusal_ends left failed s asked start out_old out p r new steps written steps_new rep f faults.Read legal runs some none stops tells few is = read_ends left failed s asked start out_old out p r new steps written steps_new rep f runs some none stops tells is
 refusal_ends left failed s asked start out_old out p r new steps written steps_new rep f faults.TooLong legal runs some none stops tells few is = long_ends left failed s asked start out_old out p r new steps written steps_new rep f runs some none stops tells is
 
-stops_fail : {I : Type 0} (left : I → Option (List ℕ)) (failed : I → ℕ) (s : Parameters) (b : ℕ) (r new : Reader I) (n written block writes : ℕ) (fault : CodeFault) → StopsBy left failed (marked r) new s b (Err fault) → failed r.intake ≡ n → Fails (Some (refusal_fault fault written block)) n (failed new.intake) writes writes
+stops_fail : {I : Type 0} (left : I → Option (List ℕ)) (failed : I → ℕ) (s : Parameters) (b : ℕ) (r new : Reader I) (n written block writes : ℕ) (fault : CodeFault) → StopsBy left failed (with_mark r) new s b (Err fault) → failed r.intake ≡ n → Fails (Some (refusal_fault fault written block)) n (failed new.intake) writes writes
 stops_fail left failed s b r new n written block writes faults.CodeEnds stops e = (stops.cut.stops.refuses.2 ∙ e, refl)
 stops_fail left failed s b r new n written block writes faults.RunPastSegment stops e = (stops.takes.failures ∙ e, refl)
 stops_fail left failed s b r new n written block writes faults.ResidualTooLarge stops e = (stops.takes.failures ∙ e, refl)
@@ -465,14 +466,14 @@ stops_fail left failed s b r new n written block writes faults.Read stops e = (s
 stops_fail left failed s b r new n written block writes faults.TooLong stops e = (stops.stops.refuses.1 ∙ e, refl)
 
 pub refusal_fails : {I : Type 0} (left : I → Option (List ℕ)) (failed : I → ℕ) (s : Parameters) (b : ℕ) (r new : Reader I) (reads written writes writes_new : ℕ) (f : Option Fault) (fault : CodeFault) →
-    failed r.intake ≡ reads → StopsBy left failed (marked r) new s b (Err fault) → writes_new ≡ writes → f ≡ Some (refusal_fault fault written s.block) → Fails f reads (failed new.intake) writes writes_new
+    failed r.intake ≡ reads → StopsBy left failed (with_mark r) new s b (Err fault) → writes_new ≡ writes → f ≡ Some (refusal_fault fault written s.block) → Fails f reads (failed new.intake) writes writes_new
 refusal_fails left failed s b r new reads written writes writes_new f fault e stops same is =
     subst (λ (f : Option Fault). Fails f reads (failed new.intake) writes writes_new) (sym is)
     (subst (λ (w : ℕ). Fails (Some (refusal_fault fault written s.block)) reads (failed new.intake) writes w) (sym same)
     (stops_fail left failed s b r new reads written s.block writes fault stops e))
 
 pub done_fails : {I : Type 0} (left : I → Option (List ℕ)) (failed : I → ℕ) (s : Parameters) (b : ℕ) (asked : Option ℕ) (r new : Reader I) (reads written writes writes_new : ℕ) (f : Option Fault) →
-    failed r.intake ≡ reads → SetEnds left failed (marked r) new s b true → writes_new ≡ writes → f ≡ ended_fault asked written → Fails f reads (failed new.intake) writes writes_new
+    failed r.intake ≡ reads → SetEnds left failed (with_mark r) new s b true → writes_new ≡ writes → f ≡ ended_fault asked written → Fails f reads (failed new.intake) writes writes_new
 done_fails left failed s b asked r new reads written writes writes_new f e ends same is =
     subst (λ (f : Option Fault). Fails f reads (failed new.intake) writes writes_new) (sym is) (by_count asked (ends.cut.stops.refuses.2 ∙ e) same)
   where
@@ -481,8 +482,8 @@ done_fails left failed s b asked r new reads written writes writes_new f e ends 
     by_count (Some n) e h = (e, h)
 
 -- nothing is decoded yet
-pub runs_first : {I : Type 0} (left : I → Option (List ℕ)) (failed : I → ℕ) (s : Parameters) (asked : Option ℕ) (start : I) (out : Option (List ℕ)) (p : Place) (r : Reader I) (steps : ℕ) → IsLegal s →
-    p ≡ record { setting = s; block = 0; before = pos 0; run = 0; stopped = None } → r ≡ record { waiting = []; taken = 0; blank = true; refusal = None; intake = start } → steps ≡ 0 → RunsOn left failed s asked start out out p r steps 0
+pub runs_first : {I : Type 0} (left : I → Option (List ℕ)) (failed : I → ℕ) (s : Parameters) (asked : Option ℕ) (start : I) (out : Option (List ℕ)) (p : DecoderState) (r : Reader I) (steps : ℕ) → IsLegal s →
+    p ≡ record { setting = s; block = 0; before = pos 0; run = 0; stopped = None } → r ≡ record { waiting = []; taken = 0; blank = true; refusal = None; intake = start } → steps ≡ 0 → DecodingProgress left failed s asked start out out p r steps 0
 runs_first {I = I} left failed s asked start out p r steps legal ep er es =
     let taken = ap (λ r. r.taken) er in
     let run = ap (λ p. p.run) ep in
@@ -502,7 +503,7 @@ runs_first {I = I} left failed s asked start out p r steps legal ep er es =
       limit = omega (arith, taken);
       begun = 0;
       before = omega arith;
-      behind = subst (λ (n : ℕ). Behind s [] 0 0 n []) (sym run) (behind_nothing s);
+      behind = subst (λ (n : ℕ). DecodedSoFar s [] 0 0 n []) (sym run) (behind_nothing s);
       wanted = λ i lt. absurd (omega arith);
       count = sym (ap length (cut_nothing s asked 0));
       few = omega (arith, ap (λ n. n * s.block) run);

@@ -12,11 +12,12 @@ use Rattle.rice_bits.proofs.lemmas.bits.Bytes.{bits_of-nil}
 use Rattle.rice_samples.specs.Parameters.{Parameters, IsLegal, IsSample}
 use Rattle.rice_samples.specs.Places.{place}
 use Rattle.rice_samples.specs.predict.Residuals.{last_of}
-use Rattle.rice_code.specs.code.Blocks.{zeros}
-use Rattle.rice_code.specs.code.CodedDataSets.{DataSet, text}
-use Rattle.rice_code.specs.decode.Decoder.{Place, Answers, GivesBlock, GivesSet, GoesOn, StopsBy, SetEnds, marked, moved}
+use Rattle.rice_code.specs.code.Blocks.{zero_block}
+use Rattle.rice_code.specs.code.CodedDataSets.{CodedDataSet, bits_of_set}
+use Rattle.rice_code.specs.decode.Decoder.{Answers, GivesBlock, GivesSet, GivesFromRun, StopsBy, SetEnds, with_mark}
+use Rattle.rice_code.specs.decode.DecoderState.{DecoderState, state_after_block}
 use Rattle.rice_code.specs.code.Forms.{blocks_in}
-use Rattle.rice_code.specs.code.Layout.{block_behind, padding}
+use Rattle.rice_code.specs.code.Layout.{block_after, padding}
 use Rattle.rice_code.specs.decode.ReadSets.{SetCut}
 use Rattle.rice_code.specs.declared.decode.fault.Step.{Step}
 use Rattle.rice_code.specs.declared.decode.fault.Step.TheVariants.{Block, Done}
@@ -27,43 +28,43 @@ use Rattle.rice_code.proofs.lemmas.code.BlockPlaces.{same_blocks_in, same_conten
 use Rattle.rice_code.proofs.lemmas.code.SoundBlocks.{all_take}
 use Rattle.rice_bits.specs.declared.read.fault.BitFault.{BitFault}
 use Rattle.rice_stream.specs.Decodes.{wanted_of}
-use Rattle.rice_stream.specs.DecodingState.{Behind, Gains, RunsOn}
+use Rattle.rice_stream.specs.DecodingState.{DecodedSoFar, Gains, DecodingProgress}
 use Rattle.rice_stream.proofs.lemmas.DecodedSamples.{behind_set, behind_run}
 
 -- what the decoder says where it gives a block, inside a run and elsewhere
-pub record Inside {I : Type 0} (old new : Reader I) (p q : Place) (xs : List ℤ) : Type 0 where
+pub record Inside {I : Type 0} (old new : Reader I) (p q : DecoderState) (xs : List ℤ) : Type 0 where
   pub run : 0 < p.run
-  pub gives : GoesOn p q xs
+  pub gives : GivesFromRun p q xs
   pub same : new ≡ old
 
-pub record Outside {I : Type 0} (left : I → Option (List ℕ)) (failed : I → ℕ) (old new : Reader I) (steps steps_new : ℕ) (p q : Place) (xs : List ℤ) : Type 0 where
+pub record Outside {I : Type 0} (left : I → Option (List ℕ)) (failed : I → ℕ) (old new : Reader I) (steps steps_new : ℕ) (p q : DecoderState) (xs : List ℤ) : Type 0 where
   pub none : p.run ≡ 0
-  pub gives : GivesSet left failed (marked old) new steps steps_new p.setting p.block p.before xs q.run
-  pub moves : q ≡ moved p xs q.run
+  pub gives : GivesSet left failed (with_mark old) new steps steps_new p.setting p.block p.before xs q.run
+  pub moves : q ≡ state_after_block p xs q.run
 
 -- what a decoder answers
 abbrev pub answer : Step → Result Step CodeFault
 answer step = Ok step
 
 -- a run goes on, or it doesn't
-runs_or_not : (p : Place) → (0 < p.run) ⊎ (p.run ≡ 0)
+runs_or_not : (p : DecoderState) → (0 < p.run) ⊎ (p.run ≡ 0)
 runs_or_not p = elim (cases_lt 0 p.run) [ inl lt ↦ inl lt | inr le ↦ inr (omega arith) ]
 
 -- a block was given
-pub took : {I : Type 0} (left : I → Option (List ℕ)) (failed : I → ℕ) (old new : Reader I) (steps steps_new : ℕ) (p q : Place) (xs : List ℤ) (step : Step) → step ≡ Block → p.stopped ≡ None →
-    (p.stopped ≡ None → 0 < p.run → (answer step ≡ Ok Block) × GoesOn p q xs × (new ≡ old) × (steps_new ≡ steps)) →
-    (p.stopped ≡ None → p.run ≡ 0 → Answers left failed (marked old) new steps steps_new p q xs (Ok step)) → Inside old new p q xs ⊎ Outside left failed old new steps steps_new p q xs
+pub took : {I : Type 0} (left : I → Option (List ℕ)) (failed : I → ℕ) (old new : Reader I) (steps steps_new : ℕ) (p q : DecoderState) (xs : List ℤ) (step : Step) → step ≡ Block → p.stopped ≡ None →
+    (p.stopped ≡ None → 0 < p.run → (answer step ≡ Ok Block) × GivesFromRun p q xs × (new ≡ old) × (steps_new ≡ steps)) →
+    (p.stopped ≡ None → p.run ≡ 0 → Answers left failed (with_mark old) new steps steps_new p q xs (Ok step)) → Inside old new p q xs ⊎ Outside left failed old new steps steps_new p q xs
 took left failed old new steps steps_new p q xs step is going in_run reads =
     elim (runs_or_not p) [
       | inl lt ↦ let k = in_run going lt in inl (record { run = lt; gives = k.1; same = k.2 })
-      | inr none ↦ let a = subst (λ (st : Step). Answers left failed (marked old) new steps steps_new p q xs (Ok st)) is (reads going none) in inr (record { none = none; gives = a.0; moves = a.1 })
+      | inr none ↦ let a = subst (λ (st : Step). Answers left failed (with_mark old) new steps steps_new p q xs (Ok st)) is (reads going none) in inr (record { none = none; gives = a.0; moves = a.1 })
     ]
 
-pub moves_of : {I : Type 0} (left : I → Option (List ℕ)) (failed : I → ℕ) (old new : Reader I) (steps steps_new : ℕ) (p q : Place) (xs : List ℤ) → Inside old new p q xs ⊎ Outside left failed old new steps steps_new p q xs → q ≡ moved p xs q.run
+pub moves_of : {I : Type 0} (left : I → Option (List ℕ)) (failed : I → ℕ) (old new : Reader I) (steps steps_new : ℕ) (p q : DecoderState) (xs : List ℤ) → Inside old new p q xs ⊎ Outside left failed old new steps steps_new p q xs → q ≡ state_after_block p xs q.run
 moves_of left failed old new steps steps_new p q xs (inl k) = k.gives.moves
 moves_of left failed old new steps steps_new p q xs (inr k) = k.moves
 
-pub legal_of_block : {I : Type 0} (left : I → Option (List ℕ)) (failed : I → ℕ) (old new : Reader I) (steps steps_new : ℕ) (p q : Place) (xs : List ℤ) → Inside old new p q xs ⊎ Outside left failed old new steps steps_new p q xs → (length xs ≡ p.setting.block) × All (IsSample p.setting) xs
+pub legal_of_block : {I : Type 0} (left : I → Option (List ℕ)) (failed : I → ℕ) (old new : Reader I) (steps steps_new : ℕ) (p q : DecoderState) (xs : List ℤ) → Inside old new p q xs ⊎ Outside left failed old new steps steps_new p q xs → (length xs ≡ p.setting.block) × All (IsSample p.setting) xs
 legal_of_block left failed old new steps steps_new p q xs (inl k) = (k.gives.gives.len, k.gives.gives.legal)
 legal_of_block left failed old new steps steps_new p q xs (inr k) = (k.gives.set.gives.len, k.gives.set.gives.legal)
 
@@ -71,35 +72,35 @@ legal_of_block left failed old new steps steps_new p q xs (inr k) = (k.gives.set
 pub same_place : (s : Parameters) (b c : ℕ) → 1 ≤ s.interval → place s b ≡ c → place s c ≡ place s b
 same_place s b c h e = let lt : c < s.interval = omega (arith, e, mod-lt b h) in mod-eq_of_lt lt ∙ sym e
 
-gives_there : (s : Parameters) (b c run : ℕ) (p : ℤ) (xs : List ℤ) (d : DataSet) → 1 ≤ s.block → place s c ≡ place s b → GivesBlock s c p xs run (blocks_in s c d) → GivesBlock s b p xs run (blocks_in s b d)
+gives_there : (s : Parameters) (b c run : ℕ) (p : ℤ) (xs : List ℤ) (d : CodedDataSet) → 1 ≤ s.block → place s c ≡ place s b → GivesBlock s c p xs run (blocks_in s c d) → GivesBlock s b p xs run (blocks_in s b d)
 gives_there s b c run p xs d j e g = record {
   len = g.len;
   legal = g.legal;
-  blocks_are = ap (λ v. v ∷ replicate run (zeros s None)) (sym (same_contents s c b p xs j e)) ∙ g.blocks_are ∙ same_blocks_in s c b d e;
+  blocks_are = ap (λ v. v ∷ replicate run (zero_block s None)) (sym (same_contents s c b p xs j e)) ∙ g.blocks_are ∙ same_blocks_in s c b d e;
 }
 
-run_gives_there : (s : Parameters) (b c run left : ℕ) (p : ℤ) (xs : List ℤ) → 1 ≤ s.block → place s c ≡ place s b → GivesBlock s c p xs left (replicate run (zeros s None)) → GivesBlock s b p xs left (replicate run (zeros s None))
+run_gives_there : (s : Parameters) (b c run left : ℕ) (p : ℤ) (xs : List ℤ) → 1 ≤ s.block → place s c ≡ place s b → GivesBlock s c p xs left (replicate run (zero_block s None)) → GivesBlock s b p xs left (replicate run (zero_block s None))
 run_gives_there s b c run left p xs j e g = record {
   len = g.len;
   legal = g.legal;
-  blocks_are = ap (λ v. v ∷ replicate left (zeros s None)) (sym (same_contents s c b p xs j e)) ∙ g.blocks_are;
+  blocks_are = ap (λ v. v ∷ replicate left (zero_block s None)) (sym (same_contents s c b p xs j e)) ∙ g.blocks_are;
 }
 
 -- a block of a coded data set
-gains_set : {I : Type 0} (left : I → Option (List ℕ)) (failed : I → ℕ) (s : Parameters) (r new : Reader I) (steps steps_new b c begun run : ℕ) (p : ℤ) (front : List Bool) (given xs : List ℤ) → IsLegal s → place s b ≡ c → p ≡ last_of (pos 0) given → r.taken ≡ length front → begun ≤ b → Behind s front begun b 0 given →
-    GivesSet left failed (marked r) new steps steps_new s c p xs run → Gains left failed s r new front b run given xs
+gains_set : {I : Type 0} (left : I → Option (List ℕ)) (failed : I → ℕ) (s : Parameters) (r new : Reader I) (steps steps_new b c begun run : ℕ) (p : ℤ) (front : List Bool) (given xs : List ℤ) → IsLegal s → place s b ≡ c → p ≡ last_of (pos 0) given → r.taken ≡ length front → begun ≤ b → DecodedSoFar s front begun b 0 given →
+    GivesSet left failed (with_mark r) new steps steps_new s c p xs run → Gains left failed s r new front b run given xs
 gains_set {I = I} left failed s r new steps steps_new b c begun run p front given xs legal here previous taken before behind gives =
     let j : 1 ≤ s.block = let k : 8 ≤ s.block = grind (arith, legal.block) in omega arith in
     let e = same_place s b c legal.interval_from here in
     let set = gives.set in
     let d = set.set in
-    let t = text s d in
+    let t = bits_of_set s d in
     let middle = gives.middle in
     let skips = gives.skips in
     let draws = set.takes.draws in
     let position : middle.taken ≡ length front + length t = set.takes.taken ∙ ap (λ n. n + length t) taken in
-    let pads : length skips.bits ≡ padding s (block_behind s b d) (length front + length t) =
-    skips.len ∙ ap (λ n. padding s (block_behind s c d) n) position ∙ ap (λ v. cond (s.pad && v == 0) (bits_to_byte (length front + length t)) 0) (next_place s c b d e) in
+    let pads : length skips.bits ≡ padding s (block_after s b d) (length front + length t) =
+    skips.len ∙ ap (λ n. padding s (block_after s c d) n) position ∙ ap (λ v. cond (s.pad && v == 0) (bits_to_byte (length front + length t)) 0) (next_place s c b d e) in
     let block = gives_there s b c run p xs d j e set.gives in
     let intake : new.intake ≡ middle.intake = ap (λ (v : Reader I). v.intake) skips.same in
     let bits = t ++ skips.bits in
@@ -124,12 +125,12 @@ gains_set {I = I} left failed s r new steps steps_new b c begun run p front give
     sums n t m k all e f g = omega arith
 
 -- a block of a run
-gains_run : {I : Type 0} (left : I → Option (List ℕ)) (failed : I → ℕ) (s : Parameters) (r new : Reader I) (b c begun run run_new : ℕ) (p : ℤ) (front : List Bool) (given xs : List ℤ) → IsLegal s → place s b ≡ c → p ≡ last_of (pos 0) given → r.refusal ≡ None → begun ≤ b → Behind s front begun b run given → new ≡ r →
-    GivesBlock s c p xs run_new (replicate run (zeros s None)) → Gains left failed s r new front b run_new given xs
+gains_run : {I : Type 0} (left : I → Option (List ℕ)) (failed : I → ℕ) (s : Parameters) (r new : Reader I) (b c begun run run_new : ℕ) (p : ℤ) (front : List Bool) (given xs : List ℤ) → IsLegal s → place s b ≡ c → p ≡ last_of (pos 0) given → r.refusal ≡ None → begun ≤ b → DecodedSoFar s front begun b run given → new ≡ r →
+    GivesBlock s c p xs run_new (replicate run (zero_block s None)) → Gains left failed s r new front b run_new given xs
 gains_run {I = I} left failed s r new b c begun run run_new p front given xs legal here previous going before behind same gives =
     let j : 1 ≤ s.block = let k : 8 ≤ s.block = grind (arith, legal.block) in omega arith in
     let block = run_gives_there s b c run run_new p xs j (same_place s b c legal.interval_from here) gives in
-    let all = behind_run s front begun b run run_new given xs behind (subst (λ (q : ℤ). GivesBlock s b q xs run_new (replicate run (zeros s None))) previous block) in
+    let all = behind_run s front begun b run run_new given xs behind (subst (λ (q : ℤ). GivesBlock s b q xs run_new (replicate run (zero_block s None))) previous block) in
     let nothing : r.taken ≡ r.taken + 0 = omega arith in
     record {
       bits = [];
@@ -144,36 +145,36 @@ gains_run {I = I} left failed s r new b c begun run run_new p front given xs leg
       len = block.len;
       begun = begun;
       before = omega arith;
-      behind = subst (λ (l : List Bool). Behind s l begun (b + 1) run_new (given ++ xs)) (sym (append-nil front)) all;
+      behind = subst (λ (l : List Bool). DecodedSoFar s l begun (b + 1) run_new (given ++ xs)) (sym (append-nil front)) all;
     }
 
-pub gains : {I : Type 0} (left : I → Option (List ℕ)) (failed : I → ℕ) (s : Parameters) (asked : Option ℕ) (start : I) (out_old out : Option (List ℕ)) (p q : Place) (r new : Reader I) (steps steps_new written : ℕ) (xs : List ℤ) → IsLegal s →
-    (runs : RunsOn left failed s asked start out_old out p r steps written) → Inside r new p q xs ⊎ Outside left failed r new steps steps_new p q xs → Gains left failed s r new runs.front runs.blocks q.run runs.given xs
+pub gains : {I : Type 0} (left : I → Option (List ℕ)) (failed : I → ℕ) (s : Parameters) (asked : Option ℕ) (start : I) (out_old out : Option (List ℕ)) (p q : DecoderState) (r new : Reader I) (steps steps_new written : ℕ) (xs : List ℤ) → IsLegal s →
+    (runs : DecodingProgress left failed s asked start out_old out p r steps written) → Inside r new p q xs ⊎ Outside left failed r new steps steps_new p q xs → Gains left failed s r new runs.front runs.blocks q.run runs.given xs
 gains left failed s asked start out_old out p q r new steps steps_new written xs legal runs (inl k) =
-    let block = subst (λ (t : Parameters). GivesBlock t p.block p.before xs q.run (replicate p.run (zeros t None))) runs.setting k.gives.gives in
+    let block = subst (λ (t : Parameters). GivesBlock t p.block p.before xs q.run (replicate p.run (zero_block t None))) runs.setting k.gives.gives in
     gains_run left failed s r new runs.blocks p.block runs.begun p.run q.run p.before runs.front runs.given xs legal runs.here runs.previous runs.reader_going runs.before runs.behind k.same block
 gains left failed s asked start out_old out p q r new steps steps_new written xs legal runs (inr k) =
-    let set = subst (λ (t : Parameters). GivesSet left failed (marked r) new steps steps_new t p.block p.before xs q.run) runs.setting k.gives in
-    let behind = subst (λ (n : ℕ). Behind s runs.front runs.begun runs.blocks n runs.given) k.none runs.behind in
+    let set = subst (λ (t : Parameters). GivesSet left failed (with_mark r) new steps steps_new t p.block p.before xs q.run) runs.setting k.gives in
+    let behind = subst (λ (n : ℕ). DecodedSoFar s runs.front runs.begun runs.blocks n runs.given) k.none runs.behind in
     gains_set left failed s r new steps steps_new runs.blocks p.block runs.begun q.run p.before runs.front runs.given xs legal runs.here runs.previous runs.taken runs.before behind set
 
 -- where the decoder stops no run goes on
-pub stopped : {I : Type 0} (left : I → Option (List ℕ)) (failed : I → ℕ) (old new : Reader I) (steps steps_new : ℕ) (p q : Place) (xs : List ℤ) (fault : CodeFault) → p.stopped ≡ None →
-    (p.stopped ≡ None → 0 < p.run → (Err fault ≡ Ok Block) × GoesOn p q xs × (new ≡ old) × (steps_new ≡ steps)) →
-    (p.stopped ≡ None → p.run ≡ 0 → Answers left failed (marked old) new steps steps_new p q xs (Err fault)) → (p.run ≡ 0) × StopsBy left failed (marked old) new p.setting p.block (Err fault)
+pub stopped : {I : Type 0} (left : I → Option (List ℕ)) (failed : I → ℕ) (old new : Reader I) (steps steps_new : ℕ) (p q : DecoderState) (xs : List ℤ) (fault : CodeFault) → p.stopped ≡ None →
+    (p.stopped ≡ None → 0 < p.run → (Err fault ≡ Ok Block) × GivesFromRun p q xs × (new ≡ old) × (steps_new ≡ steps)) →
+    (p.stopped ≡ None → p.run ≡ 0 → Answers left failed (with_mark old) new steps steps_new p q xs (Err fault)) → (p.run ≡ 0) × StopsBy left failed (with_mark old) new p.setting p.block (Err fault)
 stopped left failed old new steps steps_new p q xs fault going in_run reads =
     elim (runs_or_not p) [
       | inl lt ↦ absurd (let e = (in_run going lt).0 in cc)
       | inr none ↦ (none, (reads going none).0)
     ]
 
-pub done : {I : Type 0} (left : I → Option (List ℕ)) (failed : I → ℕ) (old new : Reader I) (steps steps_new : ℕ) (p q : Place) (xs : List ℤ) (step : Step) → step ≡ Done → p.stopped ≡ None →
-    (p.stopped ≡ None → 0 < p.run → (answer step ≡ Ok Block) × GoesOn p q xs × (new ≡ old) × (steps_new ≡ steps)) →
-    (p.stopped ≡ None → p.run ≡ 0 → Answers left failed (marked old) new steps steps_new p q xs (Ok step)) → (p.run ≡ 0) × SetEnds left failed (marked old) new p.setting p.block true
+pub done : {I : Type 0} (left : I → Option (List ℕ)) (failed : I → ℕ) (old new : Reader I) (steps steps_new : ℕ) (p q : DecoderState) (xs : List ℤ) (step : Step) → step ≡ Done → p.stopped ≡ None →
+    (p.stopped ≡ None → 0 < p.run → (answer step ≡ Ok Block) × GivesFromRun p q xs × (new ≡ old) × (steps_new ≡ steps)) →
+    (p.stopped ≡ None → p.run ≡ 0 → Answers left failed (with_mark old) new steps steps_new p q xs (Ok step)) → (p.run ≡ 0) × SetEnds left failed (with_mark old) new p.setting p.block true
 done left failed old new steps steps_new p q xs step is going in_run reads =
     elim (runs_or_not p) [
       | inl lt ↦ absurd (let e = (in_run going lt).0 in cc)
-      | inr none ↦ let a = subst (λ (st : Step). Answers left failed (marked old) new steps steps_new p q xs (Ok st)) is (reads going none) in (none, a.0)
+      | inr none ↦ let a = subst (λ (st : Step). Answers left failed (with_mark old) new steps steps_new p q xs (Ok st)) is (reads going none) in (none, a.0)
     ]
 
 -- of the block only its place matters where the decoder stops

@@ -8,12 +8,12 @@ use Rattle.std.proofs.lemmas.List.{length-take-le}
 use Rattle.std.proofs.KnownBytes.{Consumes-trans, Consumes-kept}
 use Rattle.std.proofs.lemmas.List.Elements.{All-append}
 use Rattle.rice_samples.specs.Parameters.{Parameters, IsSample, width}
-use Rattle.rice_samples.specs.bytes.Spelling.{Spells, spellings, Stop, AtEnd, NoSpelling, TooFew}
+use Rattle.rice_samples.specs.bytes.Spelling.{Spells, spellings, SpellingEnd, AtEnd, NoSpelling, TooFew}
 use Rattle.rice_stream.specs.Calls.{Call, Happens, Fails, Leaves, PassesLimit, StopsBetween}
-use Rattle.rice_stream.specs.EncodingState.{Counts, Tells, Closes, Finishes, Reads, Runs, TakesAll, MeetsNoSpelling, MeetsFailure, Pushes, PushFails, Refills}
-use Rattle.rice_stream.specs.Encodes.{Encodes, EndsSo, EncodesWithin}
+use Rattle.rice_stream.specs.EncodingState.{CountsSamples, ReportsTaken, ReportsAll, WritesRest, Reads, EncodingProgress, TakesAll, MeetsNoSpelling, MeetsFailure, Pushes, PushFails, Refills}
+use Rattle.rice_stream.specs.Encodes.{Encodes, EndsEncoding, EncodesWithin}
 use Rattle.rice_code.specs.code.Code.{code_bits, output, early_output}
-use Rattle.rice_code.specs.encode.Coder.{settled}
+use Rattle.rice_code.specs.encode.Coder.{complete_samples}
 use Rattle.rice_stream.specs.declared.encoding.Encoding.{Encoding}
 use Rattle.rice_stream.specs.declared.outcome.Report.{Report}
 use Rattle.rice_stream.specs.declared.outcome.Fault.{Fault}
@@ -22,10 +22,10 @@ use Rattle.rice_stream.proofs.lemmas.BoundLemmas.{Settles, early_bounded, all_bo
 use Rattle.rice_stream.proofs.lemmas.EncodingLemmas.{settled_by}
 use Rattle.rice_stream.proofs.lemmas.SpellingLengths.{length-spellings, spellings-append}
 
-pub within_early : (s : Parameters) (r : Report) (xs : List ℤ) → Settles s xs → Tells s r xs → EncodesWithin s r
+pub within_early : (s : Parameters) (r : Report) (xs : List ℤ) → Settles s xs → ReportsTaken s r xs → EncodesWithin s r
 within_early s r xs settles t =
     let b = early_bounded s xs settles in
-    let at : EncodesWithin s (record { samples = length xs; bits = code_bits s (settled s xs); steps = r.steps }) = record {
+    let at : EncodesWithin s (record { samples = length xs; bits = code_bits s (complete_samples s xs); steps = r.steps }) = record {
       bits = b.bits;
       at_least = omega (arith, t.least);
       at_most = omega (arith, t.most, b.steps);
@@ -33,7 +33,7 @@ within_early s r xs settles t =
     } in
     subst (EncodesWithin s) (λ i. record { samples = sym t.samples i; bits = sym t.bits i; steps = r.steps }) at
 
-pub within_all : (s : Parameters) (r : Report) (xs : List ℤ) → Settles s xs → Closes s r xs → EncodesWithin s r
+pub within_all : (s : Parameters) (r : Report) (xs : List ℤ) → Settles s xs → ReportsAll s r xs → EncodesWithin s r
 within_all s r xs settles t =
     let b = all_bounded s xs settles in
     let at : EncodesWithin s (record { samples = length xs; bits = code_bits s xs; steps = r.steps }) = record {
@@ -45,44 +45,44 @@ within_all s r xs settles t =
     subst (EncodesWithin s) (λ i. record { samples = sym t.samples i; bits = sym t.bits i; steps = r.steps }) at
 
 -- the samples of bytes, of which too few for one more are left
-pub spelled_so_far : (s : Parameters) (bytes : List ℕ) (xs : List ℤ) (rest : List ℕ) → Reads s bytes xs rest → length rest < width s → (stop : Stop) × Spells s bytes xs stop × (stop ≢ NoSpelling)
+pub spelled_so_far : (s : Parameters) (bytes : List ℕ) (xs : List ℤ) (rest : List ℕ) → Reads s bytes xs rest → length rest < width s → (stop : SpellingEnd) × Spells s bytes xs stop × (stop ≢ NoSpelling)
 spelled_so_far s bytes xs [] r few = (AtEnd, record { rest = []; whole = r.split; legal = r.legal; stops = refl }, λ e. cc)
 spelled_so_far s bytes xs (b ∷ rest) r few = (TooFew, record { rest = b ∷ rest; whole = r.split; legal = r.legal; stops = ((λ e. cc), few) }, λ e. cc)
 
 -- what a call leaves that stops early
-leaves : (s : Parameters) (r : Report) (xs : List ℤ) (given : List ℕ) (left : Option (List ℕ)) → Tells s r xs → Leaves (record { given = given; left = left; written = early_output s xs }) r (early_output s xs) (length xs) (code_bits s (settled s xs))
+leaves : (s : Parameters) (r : Report) (xs : List ℤ) (given : List ℕ) (left : Option (List ℕ)) → ReportsTaken s r xs → Leaves (record { given = given; left = left; written = early_output s xs }) r (early_output s xs) (length xs) (code_bits s (complete_samples s xs))
 leaves s r xs given left t = record { written = refl; samples = t.samples; bits = t.bits }
 
-pub read_ends : (s : Parameters) (left_old left mid taken_old taken : Option (List ℕ)) (e : Encoding) (given waiting : ℕ) (buffer : List ℕ) (r : Report) (f : Option Fault) → Runs s left_old mid taken_old taken e given waiting buffer →
-    Keeps mid left → ((xs : List ℤ) → Counts s e xs → Tells s r xs) → length (take waiting buffer) < width s → f ≡ Some Read →
+pub read_ends : (s : Parameters) (left_old left mid taken_old taken : Option (List ℕ)) (e : Encoding) (given waiting : ℕ) (buffer : List ℕ) (r : Report) (f : Option Fault) → EncodingProgress s left_old mid taken_old taken e given waiting buffer →
+    Keeps mid left → ((xs : List ℤ) → CountsSamples s e xs → ReportsTaken s r xs) → length (take waiting buffer) < width s → f ≡ Some Read →
     (c : Call) × Happens left_old left taken_old taken c × Encodes s c r f
 read_ends s left_old left mid taken_old taken e given waiting buffer r f runs keeps told few is =
     let xs = runs.samples in
     let c : Call = record { given = runs.bytes; left = left; written = early_output s xs } in
     let t = told xs runs.holds.counts in
-    let ends : EndsSo s (Some Read) c r xs = (spelled_so_far s runs.bytes xs (take waiting buffer) runs.reads few, leaves s r xs runs.bytes left t) in (
+    let ends : EndsEncoding s (Some Read) c r xs = (spelled_so_far s runs.bytes xs (take waiting buffer) runs.reads few, leaves s r xs runs.bytes left t) in (
       c,
       record { gave = Consumes-kept left_old mid left runs.bytes runs.gave keeps; left = refl; took = runs.holds.took },
       subst (λ (f : Option Fault). Encodes s c r f) (sym is) (xs, ends),
     )
 
-pub cut_ends : (s : Parameters) (left_old left mid taken_old taken : Option (List ℕ)) (e : Encoding) (given waiting : ℕ) (buffer : List ℕ) (r : Report) (f : Option Fault) → Runs s left_old mid taken_old taken e given waiting buffer →
-    Consumes mid left [] → IsAtEnd left → ((xs : List ℤ) → Counts s e xs → Tells s r xs) → length (take waiting buffer) < width s → take waiting buffer ≢ [] → f ≡ Some (SampleCut e.samples) →
+pub cut_ends : (s : Parameters) (left_old left mid taken_old taken : Option (List ℕ)) (e : Encoding) (given waiting : ℕ) (buffer : List ℕ) (r : Report) (f : Option Fault) → EncodingProgress s left_old mid taken_old taken e given waiting buffer →
+    Consumes mid left [] → IsAtEnd left → ((xs : List ℤ) → CountsSamples s e xs → ReportsTaken s r xs) → length (take waiting buffer) < width s → take waiting buffer ≢ [] → f ≡ Some (SampleCut e.samples) →
     (c : Call) × Happens left_old left taken_old taken c × Encodes s c r f
 cut_ends s left_old left mid taken_old taken e given waiting buffer r f runs gave end told few some is =
     let xs = runs.samples in
     let c : Call = record { given = runs.bytes; left = left; written = early_output s xs } in
     let t = told xs runs.holds.counts in
     let spells : Spells s runs.bytes xs TooFew = record { rest = take waiting buffer; whole = runs.reads.split; legal = runs.reads.legal; stops = (some, few) } in
-    let ends : EndsSo s (Some (SampleCut e.samples)) c r xs = (spells, end, runs.holds.counts.samples, leaves s r xs runs.bytes left t) in
+    let ends : EndsEncoding s (Some (SampleCut e.samples)) c r xs = (spells, end, runs.holds.counts.samples, leaves s r xs runs.bytes left t) in
     let all = Consumes-trans left_old mid left runs.bytes [] runs.gave gave in (
       c,
       record { gave = subst (λ (l : List ℕ). Consumes left_old left l) (append-nil runs.bytes) all; left = refl; took = runs.holds.took },
       subst (λ (f : Option Fault). Encodes s c r f) (sym is) (xs, ends),
     )
 
-pub long_ends : (s : Parameters) (left_old left mid taken_old taken : Option (List ℕ)) (e : Encoding) (given waiting : ℕ) (buffer : List ℕ) (r : Report) (f : Option Fault) (more : List ℕ) → Runs s left_old mid taken_old taken e given waiting buffer →
-    Consumes mid left more → length more ≡ 1 → 281474976710656 ≤ given → ((xs : List ℤ) → Counts s e xs → Tells s r xs) → length (take waiting buffer) < width s → f ≡ Some TooLong →
+pub long_ends : (s : Parameters) (left_old left mid taken_old taken : Option (List ℕ)) (e : Encoding) (given waiting : ℕ) (buffer : List ℕ) (r : Report) (f : Option Fault) (more : List ℕ) → EncodingProgress s left_old mid taken_old taken e given waiting buffer →
+    Consumes mid left more → length more ≡ 1 → 281474976710656 ≤ given → ((xs : List ℤ) → CountsSamples s e xs → ReportsTaken s r xs) → length (take waiting buffer) < width s → f ≡ Some TooLong →
     (c : Call) × Happens left_old left taken_old taken c × Encodes s c r f
 long_ends s left_old left mid taken_old taken e given waiting buffer r f more runs gave one full told few is =
     let xs = runs.samples in
@@ -91,7 +91,7 @@ long_ends s left_old left mid taken_old taken e given waiting buffer r f more ru
     let so_far = spelled_so_far s runs.bytes xs (take waiting buffer) runs.reads few in
     let last = single more one in
     let passes : PassesLimit 281474976710656 (runs.bytes ++ more) runs.bytes = record { last = last.0; split = ap (λ l. runs.bytes ++ l) last.1; full = omega (arith, runs.count, runs.limit, full) } in
-    let ends : EndsSo s (Some TooLong) c r xs = ((runs.bytes, so_far.0, passes, so_far.1, so_far.2), leaves s r xs (runs.bytes ++ more) left t) in (
+    let ends : EndsEncoding s (Some TooLong) c r xs = ((runs.bytes, so_far.0, passes, so_far.1, so_far.2), leaves s r xs (runs.bytes ++ more) left t) in (
       c,
       record { gave = Consumes-trans left_old mid left runs.bytes more runs.gave gave; left = refl; took = runs.holds.took },
       subst (λ (f : Option Fault). Encodes s c r f) (sym is) (xs, ends),
@@ -103,8 +103,8 @@ long_ends s left_old left mid taken_old taken e given waiting buffer r f more ru
     single (x ∷ y ∷ l) e = absurd (omega arith)
 
 -- all samples were given, and their code is written or not
-pub finish_ends : (s : Parameters) (left_old left mid taken_old taken new : Option (List ℕ)) (e : Encoding) (given waiting : ℕ) (buffer : List ℕ) (r : Report) (f : Option Fault) → (runs : Runs s left_old mid taken_old taken e given waiting buffer) →
-    Consumes mid left [] → IsAtEnd left → 1 ≤ width s → take waiting buffer ≡ [] → Closes s r runs.samples → Finishes s taken_old new runs.samples f →
+pub finish_ends : (s : Parameters) (left_old left mid taken_old taken new : Option (List ℕ)) (e : Encoding) (given waiting : ℕ) (buffer : List ℕ) (r : Report) (f : Option Fault) → (runs : EncodingProgress s left_old mid taken_old taken e given waiting buffer) →
+    Consumes mid left [] → IsAtEnd left → 1 ≤ width s → take waiting buffer ≡ [] → ReportsAll s r runs.samples → WritesRest s taken_old new runs.samples f →
     (c : Call) × Happens left_old left taken_old new c × Encodes s c r f
 finish_ends s left_old left mid taken_old taken new e given waiting buffer r f runs gave end some none closes finishes = by_fault f finishes
   where
@@ -123,7 +123,7 @@ finish_ends s left_old left mid taken_old taken new e given waiting buffer r f r
     ahead : (w n m k : ℕ) → m ≡ w * n → k ≡ n → m < k * w + 4096
     ahead w n m k e h = let p = ap (λ v. v * w) h in omega arith
 
-    by_fault : (f : Option Fault) → Finishes s taken_old new xs f → (c : Call) × Happens left_old left taken_old new c × Encodes s c r f
+    by_fault : (f : Option Fault) → WritesRest s taken_old new xs f → (c : Call) × Happens left_old left taken_old new c × Encodes s c r f
     by_fault None took = (
       record { given = runs.bytes; left = left; written = output s xs },
       record { gave = all; left = refl; took = took },
@@ -144,7 +144,7 @@ finish_ends s left_old left mid taken_old taken new e given waiting buffer r f r
 
 -- the samples of the bytes in hand are taken, as far as that goes
 pub push_ends : (s : Parameters) (left_old left taken_old taken : Option (List ℕ)) (e : Encoding) (r : Report) (f : Fault) (g : Option Fault) (xs : List ℤ) (given bytes : List ℕ) → given ≡ spellings s xs ++ bytes → All (IsSample s) xs →
-    Consumes left_old left given → length bytes ≤ 4096 → 1 ≤ width s → ((ys : List ℤ) → Counts s e ys → Tells s r ys) → g ≡ Some f → Pushes {T = Unit {0}} s taken_old taken e xs bytes (Err f) →
+    Consumes left_old left given → length bytes ≤ 4096 → 1 ≤ width s → ((ys : List ℤ) → CountsSamples s e ys → ReportsTaken s r ys) → g ≡ Some f → Pushes {T = Unit {0}} s taken_old taken e xs bytes (Err f) →
     (c : Call) × Happens left_old left taken_old taken c × Encodes s c r g
 push_ends s left_old left taken_old taken e r f g xs given bytes split legal gave few some told is pushes =
     let result = by_fault f pushes in
@@ -229,14 +229,14 @@ push_fails s taken_old taken e xs bytes f g reads reads_new writes mid writes_ne
     by_fault (ResidualTooLarge block) bad k = absurd bad
 
 -- the bytes in hand: those that waited, and those that were given
-pub in_hand : (s : Parameters) (left_old left mid taken_old taken : Option (List ℕ)) (e : Encoding) (given waiting count : ℕ) (buffer full : List ℕ) → (runs : Runs s left_old mid taken_old taken e given waiting buffer) → (more : Refills mid left buffer full waiting count) →
+pub in_hand : (s : Parameters) (left_old left mid taken_old taken : Option (List ℕ)) (e : Encoding) (given waiting count : ℕ) (buffer full : List ℕ) → (runs : EncodingProgress s left_old mid taken_old taken e given waiting buffer) → (more : Refills mid left buffer full waiting count) →
     runs.bytes ++ more.given ≡ spellings s runs.samples ++ take (waiting + count) full
 in_hand s left_old left mid taken_old taken e given waiting count buffer full runs more =
     ap (λ l. l ++ more.given) runs.reads.split ∙ append_assoc (spellings s runs.samples) (take waiting buffer) more.given ∙ ap (λ l. spellings s runs.samples ++ l) (sym more.front)
 
-pub runs_on : (s : Parameters) (left_old left mid taken_old taken new : Option (List ℕ)) (e f : Encoding) (given waiting count w rest : ℕ) (buffer full last : List ℕ) → (runs : Runs s left_old mid taken_old taken e given waiting buffer) → Refills mid left buffer full waiting count →
+pub runs_on : (s : Parameters) (left_old left mid taken_old taken new : Option (List ℕ)) (e f : Encoding) (given waiting count w rest : ℕ) (buffer full last : List ℕ) → (runs : EncodingProgress s left_old mid taken_old taken e given waiting buffer) → Refills mid left buffer full waiting count →
     TakesAll s taken_old new f runs.samples (take (waiting + count) full) → w ≡ width s → waiting ≤ length buffer → rest ≡ (waiting + count) % w → take rest last ≡ drop (waiting + count - rest) (take (waiting + count) full) → given + count ≤ 281474976710656 →
-    Runs s left_old left taken_old new f (given + count) rest last
+    EncodingProgress s left_old left taken_old new f (given + count) rest last
 runs_on s left_old left mid taken_old taken new e f given waiting count w rest buffer full last runs more t ew within er el limit =
     let hand = take (waiting + count) full in
     let size : length hand ≡ waiting + count = ap length more.front ∙ length-append (take waiting buffer) more.given ∙ (λ i. length-take-le waiting buffer within i + more.length_is i) in
@@ -263,7 +263,7 @@ runs_on s left_old left mid taken_old taken new e f given waiting count w rest b
     behind n a b r e h = omega arith
 
 -- how many samples were taken
-pub runs_count : (s : Parameters) (left_old left taken_old taken : Option (List ℕ)) (e : Encoding) (given waiting : ℕ) (buffer : List ℕ) → (runs : Runs s left_old left taken_old taken e given waiting buffer) → 1 ≤ width s → waiting ≤ length buffer → length runs.samples + waiting ≤ given
+pub runs_count : (s : Parameters) (left_old left taken_old taken : Option (List ℕ)) (e : Encoding) (given waiting : ℕ) (buffer : List ℕ) → (runs : EncodingProgress s left_old left taken_old taken e given waiting buffer) → 1 ≤ width s → waiting ≤ length buffer → length runs.samples + waiting ≤ given
 runs_count s left_old left taken_old taken e given waiting buffer runs some within =
     at (width s) (length runs.samples) waiting given
     (runs.count ∙ ap length runs.reads.split ∙ length-append (spellings s runs.samples) (take waiting buffer) ∙ (λ i. length-spellings s runs.samples i + length-take-le waiting buffer within i)) some
@@ -272,7 +272,7 @@ runs_count s left_old left taken_old taken e given waiting buffer runs some with
     at w n k m e h = let p = mul-le-mul_right n h in omega arith
 
 -- the report's bounds where taking the bytes in hand stops
-pub push_within : (s : Parameters) (taken_old taken : Option (List ℕ)) (e : Encoding) (r : Report) (f : Fault) (xs : List ℤ) (bytes : List ℕ) → ((ys : List ℤ) → Counts s e ys → Tells s r ys) → Pushes {T = Unit {0}} s taken_old taken e xs bytes (Err f) → EncodesWithin s r
+pub push_within : (s : Parameters) (taken_old taken : Option (List ℕ)) (e : Encoding) (r : Report) (f : Fault) (xs : List ℤ) (bytes : List ℕ) → ((ys : List ℤ) → CountsSamples s e ys → ReportsTaken s r ys) → Pushes {T = Unit {0}} s taken_old taken e xs bytes (Err f) → EncodesWithin s r
 push_within s taken_old taken e r (SampleOutOfRange index) xs bytes told m = let k = m.0.holds.counts in within_early s r (xs ++ m.0.more) (settled_by s e (xs ++ m.0.more) k) (told (xs ++ m.0.more) k)
 push_within s taken_old taken e r Write xs bytes told m = let ys = (xs ++ m.more) ++ m.last ∷ [] in let k = m.fails.counts in within_early s r ys (settled_by s e ys k) (told ys k)
 push_within s taken_old taken e r Read xs bytes told bad = absurd bad

@@ -2,24 +2,25 @@
 use Rattle.std.proofs.Common.{◌≡◌, ℕ, ◌+◌, ◌-◌, ◌*◌, ◌<◌, ◌≤◌, Bool, List, [], ◌∷◌, ◌++◌, length, take, drop, replicate, false, refl, ap, arith, sym, ◌∙◌, subst, append_assoc, append-nil, length-append, length-drop, take-append-drop, Option, ℤ, pos, zero, suc}
 use Rattle.std.specs.Prelude.{All, sum_by}
 use Rattle.std.specs.Int.{div_ceil}
-use Rattle.rice_code.specs.code.CodedDataSets.{text}
+use Rattle.rice_code.specs.code.CodedDataSets.{bits_of_set}
 use Rattle.rice_code.specs.code.Blocks.{blocks_from}
 use Rattle.rice_code.specs.code.Code.{data_sets}
-use Rattle.rice_code.specs.code.Layout.{laid}
+use Rattle.rice_code.specs.code.Layout.{layout}
 use Rattle.std.specs.Io.KnownBytes.{Appends}
 use Rattle.std.proofs.KnownBytes.{Appends-trans}
 use Rattle.rice_bits.proofs.lemmas.bits.Bytes.{whole_short}
-use Rattle.rice_bits.specs.Bits.{bits_in_bytes, bits_to_byte, padded, whole_bytes}
+use Rattle.rice_bits.specs.Bits.{bits_in_bytes, bits_to_byte, padded_bits, whole_bytes}
 use Rattle.rice_samples.specs.Parameters.{Parameters, IsSample, width}
 use Rattle.rice_samples.specs.Places.{block_count, cut}
-use Rattle.rice_samples.specs.predict.Residuals.{filled}
+use Rattle.rice_samples.specs.predict.Residuals.{filled_samples}
 use Rattle.rice_samples.specs.bytes.Spelling.{spellings}
-use Rattle.rice_code.specs.encode.Coder.{State, StandsFor, IsInPlace, Completes, settled, settled_code, fill_samples}
-use Rattle.rice_code.specs.encode.Coder.{Finishes as FinishesCode}
+use Rattle.rice_code.specs.encode.Coder.{HasTaken, IsAlignedWith, AppendsCode, complete_samples, complete_code, fill_samples}
+use Rattle.rice_code.specs.encode.OpenSegment.{CoderState}
+use Rattle.rice_code.specs.encode.Coder.{AppendsRest as FinishesCode}
 use Rattle.rice_code.specs.code.Code.{code, code_bits, early_output}
 use Rattle.rice_code.specs.Steps.{least_looks, most_looks, least_looks_at, most_looks_at, least_steps, most_steps, segment_steps}
 use Rattle.rice_code.proofs.lemmas.encode.PushedCode.{segment_steps_few}
-use Rattle.rice_stream.specs.EncodingState.{Counts, Holds, Takes, TakesBetween, FailsAt, FailsIn, MeetsFailure, Closes, Reads, whole_part}
+use Rattle.rice_stream.specs.EncodingState.{CountsSamples, IsEncodingOf, TakesSamples, TakesBetween, FailsAt, FailsIn, MeetsFailure, ReportsAll, Reads, whole_part}
 use Rattle.rice_stream.specs.Writes.{TakesPart}
 use Rattle.rice_stream.specs.declared.encoding.Encoding.{Encoding}
 use Rattle.rice_stream.specs.declared.outcome.Report.{Report}
@@ -31,11 +32,11 @@ use Rattle.std.proofs.Math.Nat.{mul-le-mul_left}
 use Rattle.rice_stream.proofs.lemmas.BoundLemmas.{Settles, settles, early_bounded, all_bounded, few_steps, few_bits}
 use Rattle.rice_stream.proofs.lemmas.WholeBytes.{length-part, more_bytes, more_rest}
 
-pub settled_by : (s : Parameters) (e : Encoding) (xs : List ℤ) → Counts s e xs → Settles s xs
+pub settled_by : (s : Parameters) (e : Encoding) (xs : List ℤ) → CountsSamples s e xs → Settles s xs
 settled_by s e xs c = settles s e.coder xs c.setting c.stands
 
 -- bits and steps are far below what a number holds
-pub counts_small : (s : Parameters) (e : Encoding) (xs : List ℤ) → Counts s e xs → (e.bits ≤ 73 * length xs + 4700) × (e.meter ≤ 73 * length xs + 4700) × (segment_steps e.coder.setting ≤ 274752)
+pub counts_small : (s : Parameters) (e : Encoding) (xs : List ℤ) → CountsSamples s e xs → (e.bits ≤ 73 * length xs + 4700) × (e.meter ≤ 73 * length xs + 4700) × (segment_steps e.coder.setting ≤ 274752)
 counts_small s e xs c =
     let h = settled_by s e xs c in
     let b = early_bounded s xs h in
@@ -44,39 +45,39 @@ counts_small s e xs c =
     (omega (arith, c.bits, c.least, c.most, b.steps, few), omega (arith, c.most, b.steps, few), omega (arith, segment, segment_steps_few s h.setting))
 
 -- so are the bits of a coder's samples so far, and of all
-pub early_small : (s : Parameters) (coder : State) (xs : List ℤ) → coder.setting ≡ s → StandsFor coder xs → code_bits s (settled s xs) ≤ 73 * length xs + 4700
+pub early_small : (s : Parameters) (coder : CoderState) (xs : List ℤ) → coder.setting ≡ s → HasTaken coder xs → code_bits s (complete_samples s xs) ≤ 73 * length xs + 4700
 early_small s coder xs e h = let k = settles s coder xs e h in few_bits s (length xs) _ _ k.setting (early_bounded s xs k) (omega arith)
 
-pub all_small : (s : Parameters) (coder : State) (xs : List ℤ) → coder.setting ≡ s → StandsFor coder xs → code_bits s xs ≤ 73 * length xs + 4700
+pub all_small : (s : Parameters) (coder : CoderState) (xs : List ℤ) → coder.setting ≡ s → HasTaken coder xs → code_bits s xs ≤ 73 * length xs + 4700
 all_small s coder xs e h = let k = settles s coder xs e h in few_bits s (length xs) _ _ k.setting (all_bounded s xs k) (omega arith)
 
 -- what the sink holds goes on from the bytes that are whole
-pub joined : (s : Parameters) (old now : Option (List ℕ)) (e : Encoding) (xs : List ℤ) → Holds s old now e xs → whole_part (settled_code s xs) ++ e.sink ≡ settled_code s xs
-joined s old now e xs h = ap (λ l. whole_part (settled_code s xs) ++ l) h.sink ∙ take-append-drop (bits_in_bytes (length (settled_code s xs))) (settled_code s xs)
+pub joined : (s : Parameters) (old now : Option (List ℕ)) (e : Encoding) (xs : List ℤ) → IsEncodingOf s old now e xs → whole_part (complete_code s xs) ++ e.sink ≡ complete_code s xs
+joined s old now e xs h = ap (λ l. whole_part (complete_code s xs) ++ l) h.sink ∙ take-append-drop (bits_in_bytes (length (complete_code s xs))) (complete_code s xs)
 
-pub sink_short : (s : Parameters) (old now : Option (List ℕ)) (e : Encoding) (xs : List ℤ) → Holds s old now e xs → length e.sink ≤ 7
-sink_short s old now e xs h = omega (arith, ap length h.sink, length-drop (bits_in_bytes (length (settled_code s xs))) (settled_code s xs))
+pub sink_short : (s : Parameters) (old now : Option (List ℕ)) (e : Encoding) (xs : List ℤ) → IsEncodingOf s old now e xs → length e.sink ≤ 7
+sink_short s old now e xs h = omega (arith, ap length h.sink, length-drop (bits_in_bytes (length (complete_code s xs))) (complete_code s xs))
 
 -- the sink stands at the place in a byte where the code does
-pub sink_place : (s : Parameters) (old now : Option (List ℕ)) (e : Encoding) (xs : List ℤ) → Holds s old now e xs → IsInPlace e.coder.setting xs e.sink
+pub sink_place : (s : Parameters) (old now : Option (List ℕ)) (e : Encoding) (xs : List ℤ) → IsEncodingOf s old now e xs → IsAlignedWith e.coder.setting xs e.sink
 sink_place s old now e xs h =
-    let in_place : IsInPlace s xs e.sink = λ pads. (let n = ap length h.sink in let m = length-drop (bits_in_bytes (length (settled_code s xs))) (settled_code s xs) in omega arith) in
-    subst (λ (t : Parameters). IsInPlace t xs e.sink) (sym h.counts.setting) in_place
+    let in_place : IsAlignedWith s xs e.sink = λ pads. (let n = ap length h.sink in let m = length-drop (bits_in_bytes (length (complete_code s xs))) (complete_code s xs) in omega arith) in
+    subst (λ (t : Parameters). IsAlignedWith t xs e.sink) (sym h.counts.setting) in_place
 
 -- How bits and steps grow when the samples xs become ys, so many more.
 pub record Tally (s : Parameters) (xs ys : List ℤ) (more meter meter_new count count_new : ℕ) : Type 0 where
-  pub least : meter + more + least_steps s (settled s ys) ≤ meter_new + least_steps s (settled s xs)
-  pub most : meter_new + most_steps s (settled s xs) ≤ meter + more + most_steps s (settled s ys)
-  pub bits : count_new + code_bits s (settled s xs) ≡ count + code_bits s (settled s ys)
+  pub least : meter + more + least_steps s (complete_samples s ys) ≤ meter_new + least_steps s (complete_samples s xs)
+  pub most : meter_new + most_steps s (complete_samples s xs) ≤ meter + more + most_steps s (complete_samples s ys)
+  pub bits : count_new + code_bits s (complete_samples s xs) ≡ count + code_bits s (complete_samples s ys)
 
 -- samples are taken
-pub taken_on : (s : Parameters) (old now : Option (List ℕ)) (e f : Encoding) (xs ys : List ℤ) → Holds s old now e xs →
-    f.coder.setting ≡ e.coder.setting → StandsFor f.coder (xs ++ ys) → Completes e.coder.setting xs (xs ++ ys) e.sink f.sink → Tally e.coder.setting xs (xs ++ ys) (length ys) e.meter f.meter e.bits f.bits →
-    f.samples ≡ e.samples + length ys → ((m : ℕ) → m < length ys → settled e.coder.setting (xs ++ take m ys) ≡ settled e.coder.setting xs) → Takes s f xs ys
+pub taken_on : (s : Parameters) (old now : Option (List ℕ)) (e f : Encoding) (xs ys : List ℤ) → IsEncodingOf s old now e xs →
+    f.coder.setting ≡ e.coder.setting → HasTaken f.coder (xs ++ ys) → AppendsCode e.coder.setting xs (xs ++ ys) e.sink f.sink → Tally e.coder.setting xs (xs ++ ys) (length ys) e.meter f.meter e.bits f.bits →
+    f.samples ≡ e.samples + length ys → ((m : ℕ) → m < length ys → complete_samples e.coder.setting (xs ++ take m ys) ≡ complete_samples e.coder.setting xs) → TakesSamples s f xs ys
 taken_on s old now e f xs ys h setting stands completes tally samples before =
     let t = subst (λ (t : Parameters). Tally t xs (xs ++ ys) (length ys) e.meter f.meter e.bits f.bits) h.counts.setting tally in
-    let k = subst (λ (t : Parameters). Completes t xs (xs ++ ys) e.sink f.sink) h.counts.setting completes in
-    let part = whole_part (settled_code s xs) in
+    let k = subst (λ (t : Parameters). AppendsCode t xs (xs ++ ys) e.sink f.sink) h.counts.setting completes in
+    let part = whole_part (complete_code s xs) in
     let c = length-append xs ys in
     record {
       counts = record {
@@ -88,15 +89,15 @@ taken_on s old now e f xs ys h setting stands completes tally samples before =
         most = omega (arith, t.most, h.counts.most, c);
       };
       code_is = k.completes ∙ ap (λ l. l ++ k.bits) (sym (joined s old now e xs h)) ∙ append_assoc part e.sink k.bits ∙ ap (λ l. part ++ l) (sym k.appended);
-      before_last = subst (λ (t : Parameters). (m : ℕ) → m < length ys → settled t (xs ++ take m ys) ≡ settled t xs) h.counts.setting before;
+      before_last = subst (λ (t : Parameters). (m : ℕ) → m < length ys → complete_samples t (xs ++ take m ys) ≡ complete_samples t xs) h.counts.setting before;
     }
 
 -- nothing is whole
-pub none_whole : (s : Parameters) (old now : Option (List ℕ)) (e f : Encoding) (xs ys : List ℤ) → Holds s old now e xs → Counts s f (xs ++ ys) → settled_code s (xs ++ ys) ≡ whole_part (settled_code s xs) ++ f.sink →
-    length f.sink < 8 → Holds s old now f (xs ++ ys)
+pub none_whole : (s : Parameters) (old now : Option (List ℕ)) (e f : Encoding) (xs ys : List ℤ) → IsEncodingOf s old now e xs → CountsSamples s f (xs ++ ys) → complete_code s (xs ++ ys) ≡ whole_part (complete_code s xs) ++ f.sink →
+    length f.sink < 8 → IsEncodingOf s old now f (xs ++ ys)
 none_whole s old now e f xs ys h c same few =
-    let a = settled_code s xs in
-    let b = settled_code s (xs ++ ys) in
+    let a = complete_code s xs in
+    let b = complete_code s (xs ++ ys) in
     let z : bits_in_bytes (length f.sink) ≡ 0 = omega arith in
     let bytes : whole_bytes b ≡ whole_bytes a = more_bytes a b f.sink (sym same) ∙ ap (λ l. whole_bytes a ++ l) (whole_short f.sink few) ∙ append-nil (whole_bytes a) in
     record {
@@ -106,11 +107,11 @@ none_whole s old now e f xs ys h c same few =
     }
 
 -- the whole bytes are written
-pub all_written : (s : Parameters) (old now new : Option (List ℕ)) (e f g : Encoding) (xs ys : List ℤ) → Holds s old now e xs → Counts s f (xs ++ ys) → settled_code s (xs ++ ys) ≡ whole_part (settled_code s xs) ++ f.sink →
-    Appends now new (whole_bytes f.sink) → g.sink ≡ drop (bits_in_bytes (length f.sink)) f.sink → Counts s g (xs ++ ys) → Holds s old new g (xs ++ ys)
+pub all_written : (s : Parameters) (old now new : Option (List ℕ)) (e f g : Encoding) (xs ys : List ℤ) → IsEncodingOf s old now e xs → CountsSamples s f (xs ++ ys) → complete_code s (xs ++ ys) ≡ whole_part (complete_code s xs) ++ f.sink →
+    Appends now new (whole_bytes f.sink) → g.sink ≡ drop (bits_in_bytes (length f.sink)) f.sink → CountsSamples s g (xs ++ ys) → IsEncodingOf s old new g (xs ++ ys)
 all_written s old now new e f g xs ys h c same took rest d =
-    let a = settled_code s xs in
-    let b = settled_code s (xs ++ ys) in
+    let a = complete_code s xs in
+    let b = complete_code s (xs ++ ys) in
     record {
       counts = d;
       sink = rest ∙ more_rest a b f.sink (sym same);
@@ -143,7 +144,7 @@ parts_of (y ∷ []) h = record { before = []; last = y; split = refl }
 parts_of (y ∷ z ∷ ys) h = let p = parts_of (z ∷ ys) (omega arith) in record { before = y ∷ p.before; last = p.last; split = ap (λ l. y ∷ l) p.split }
 
 -- not all that the samples complete was written
-pub fails_in : (s : Parameters) (old now new : Option (List ℕ)) (e f g : Encoding) (xs samples : List ℤ) (n : ℕ) → Holds s old now e xs → Takes s f xs (take n samples) → 0 < n → n ≤ length samples → TakesPart now new (whole_bytes f.sink) → Counts s g (xs ++ take n samples) → FailsIn s old new g xs samples
+pub fails_in : (s : Parameters) (old now new : Option (List ℕ)) (e f g : Encoding) (xs samples : List ℤ) (n : ℕ) → IsEncodingOf s old now e xs → TakesSamples s f xs (take n samples) → 0 < n → n ≤ length samples → TakesPart now new (whole_bytes f.sink) → CountsSamples s g (xs ++ take n samples) → FailsIn s old new g xs samples
 fails_in s old now new e f g xs samples n h takes some within part counts =
     let ys = take n samples in
     let len = length-take-le n samples within in
@@ -153,14 +154,14 @@ fails_in s old now new e f g xs samples n h takes some within part counts =
     let all : xs ++ ys ≡ (xs ++ p.before) ++ p.last ∷ [] = ap (λ l. xs ++ l) p.split ∙ sym (append_assoc xs p.before (p.last ∷ [])) in
     let before : early_output s (xs ++ p.before) ≡ early_output s xs =
     ap (λ l. early_output s (xs ++ l)) (sym front) ∙ ap (λ l. whole_bytes (code s l)) (takes.before_last (length p.before) (omega (arith, size))) in
-    let between = part_between old now new (early_output s xs) (whole_bytes f.sink) (early_output s (xs ++ ys)) h.took part (more_bytes (settled_code s xs) (settled_code s (xs ++ ys)) f.sink (sym takes.code_is)) in
+    let between = part_between old now new (early_output s xs) (whole_bytes f.sink) (early_output s (xs ++ ys)) h.took part (more_bytes (complete_code s xs) (complete_code s (xs ++ ys)) f.sink (sym takes.code_is)) in
     record {
       before = p.before;
       last = p.last;
       behind = drop n samples;
       split = sym (take-append-drop n samples) ∙ ap (λ l. l ++ drop n samples) p.split ∙ append_assoc p.before (p.last ∷ []) (drop n samples);
       fails = record {
-        counts = subst (Counts s g) all counts;
+        counts = subst (CountsSamples s g) all counts;
         takes = subst (λ (l : List ℕ). TakesBetween old new l (early_output s ((xs ++ p.before) ++ p.last ∷ []))) (sym before) (subst (λ (l : List ℤ). TakesBetween old new (early_output s xs) (early_output s l)) all between);
       };
     }
@@ -176,7 +177,7 @@ fails_later s old new e xs samples at f = record {
 }
 
 -- nothing is coded of no samples
-pub settled_nothing : (s : Parameters) → settled s [] ≡ []
+pub settled_nothing : (s : Parameters) → complete_samples s [] ≡ []
 settled_nothing s = none (cut s 0)
   where
     none : (n : ℕ) → take {A = ℤ} n [] ≡ []
@@ -190,33 +191,33 @@ no_blocks s j = by_block s.block j
     by_block j h = omega arith
 
 pub code_nothing : (s : Parameters) → 1 ≤ s.block → code s [] ≡ []
-code_nothing s j = ap (λ n. laid s (0 + n) 0 0 (data_sets s 0 false (blocks_from s 0 (pos 0) n (filled s (pos 0) [])))) (no_blocks s j)
+code_nothing s j = ap (λ n. layout s (0 + n) 0 0 (data_sets s 0 false (blocks_from s 0 (pos 0) n (filled_samples s (pos 0) [])))) (no_blocks s j)
 
 pub sets_nothing : (s : Parameters) → 1 ≤ s.block → (code_bits s [] ≡ 0) × (least_steps s [] ≡ 0) × (most_steps s [] ≡ 0)
 sets_nothing s j =
     let none = no_blocks s j in
-    let bits : code_bits s [] ≡ 0 = ap (λ n. sum_by (λ d. length (text s d)) (data_sets s 0 false (blocks_from s 0 (pos 0) n (filled s (pos 0) [])))) none in
-    let least : least_looks_at s [] ≡ 0 = ap (λ n. sum_by (least_looks s) (blocks_from s 0 (pos 0) n (filled s (pos 0) []))) none in
-    let most : most_looks_at s [] ≡ 0 = ap (λ n. sum_by (most_looks s) (blocks_from s 0 (pos 0) n (filled s (pos 0) []))) none in
+    let bits : code_bits s [] ≡ 0 = ap (λ n. sum_by (λ d. length (bits_of_set s d)) (data_sets s 0 false (blocks_from s 0 (pos 0) n (filled_samples s (pos 0) [])))) none in
+    let least : least_looks_at s [] ≡ 0 = ap (λ n. sum_by (least_looks s) (blocks_from s 0 (pos 0) n (filled_samples s (pos 0) []))) none in
+    let most : most_looks_at s [] ≡ 0 = ap (λ n. sum_by (most_looks s) (blocks_from s 0 (pos 0) n (filled_samples s (pos 0) []))) none in
     (bits, omega (arith, bits, least), omega (arith, bits, most))
 
 -- How bits and steps grow at the end of the samples.
 pub record Total (s : Parameters) (xs : List ℤ) (meter meter_new count count_new : ℕ) : Type 0 where
-  pub least : meter + fill_samples s xs + least_steps s xs ≤ meter_new + least_steps s (settled s xs)
-  pub most : meter_new + most_steps s (settled s xs) ≤ meter + fill_samples s xs + most_steps s xs
-  pub bits : count_new + code_bits s (settled s xs) ≡ count + code_bits s xs
+  pub least : meter + fill_samples s xs + least_steps s xs ≤ meter_new + least_steps s (complete_samples s xs)
+  pub most : meter_new + most_steps s (complete_samples s xs) ≤ meter + fill_samples s xs + most_steps s xs
+  pub bits : count_new + code_bits s (complete_samples s xs) ≡ count + code_bits s xs
 
 -- the end of the samples
-pub closed : (s : Parameters) (old now : Option (List ℕ)) (e : Encoding) (r : Report) (sink end : List Bool) (xs : List ℤ) → Holds s old now e xs →
+pub closed : (s : Parameters) (old now : Option (List ℕ)) (e : Encoding) (r : Report) (sink end : List Bool) (xs : List ℤ) → IsEncodingOf s old now e xs →
     FinishesCode e.coder.setting xs e.sink sink → Total e.coder.setting xs e.meter r.steps e.bits r.bits → r.samples ≡ e.samples → end ≡ sink ++ replicate (bits_to_byte (length sink)) false →
-    Closes s r xs × (padded (code s xs) ≡ whole_part (settled_code s xs) ++ end)
+    ReportsAll s r xs × (padded_bits (code s xs) ≡ whole_part (complete_code s xs) ++ end)
 closed s old now e r sink end xs h finishes total samples fill =
     let t = subst (λ (t : Parameters). Total t xs e.meter r.steps e.bits r.bits) h.counts.setting total in
     let k = subst (λ (t : Parameters). FinishesCode t xs e.sink sink) h.counts.setting finishes in
-    let part = whole_part (settled_code s xs) in
+    let part = whole_part (complete_code s xs) in
     let all : part ++ sink ≡ code s xs = ap (λ l. part ++ l) k.appended ∙ sym (append_assoc part e.sink k.bits) ∙ ap (λ l. l ++ k.bits) (joined s old now e xs h) ∙ sym k.completes in
     let size : length (code s xs) ≡ length part + length sink = ap length (sym all) ∙ length-append part sink in
-    let gap : bits_to_byte (length sink) ≡ bits_to_byte (length (code s xs)) = omega (arith, size, length-part (settled_code s xs)) in (
+    let gap : bits_to_byte (length sink) ≡ bits_to_byte (length (code s xs)) = omega (arith, size, length-part (complete_code s xs)) in (
       record {
         samples = samples ∙ h.counts.samples;
         bits = omega (arith, t.bits, h.counts.bits);

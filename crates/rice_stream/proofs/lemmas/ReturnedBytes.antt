@@ -21,7 +21,7 @@ use Rattle.rice_code.proofs.lemmas.cost.PaddingBounds.{padding_is_bounded}
 use Rattle.rice_code.proofs.lemmas.meaning.Returned as returned
 use Rattle.rice_code.proofs.lemmas.code.SoundBlocks.{code_is_bounded}
 use Rattle.rice_stream.proofs.lemmas.SpellingLengths.{length-spellings}
-use Rattle.rice_stream.specs.Decodes.{Decodes, EndsSo}
+use Rattle.rice_stream.specs.Decodes.{DecodesBytes, EndsDecoding}
 use Rattle.rice_stream.specs.Laws.{ReturnsBytes}
 use Rattle.rice_stream.specs.declared.outcome.Fault.{Fault}
 use Rattle.rice_stream.specs.declared.outcome.Fault.TheVariants.{Read, Write, TooLong, SampleOutOfRange, SampleCut, CodeEnds, RunPastSegment, ResidualTooLarge}
@@ -151,12 +151,12 @@ returns_bytes s legal enc dec encoded decoded fault encodes consumed decodes = b
     all : (used : ℕ) × Decoded s (bits_of (output s xs)) (Some (length xs)) xs Reached used
     all = returned.returns_samples s legal xs encodes.1.0.legal
 
-    at_front : (left : Option (List ℕ)) → dec.left ≡ left → Decodes s (Some encoded.samples) dec decoded dec.given ys decodes.ending → EndsBefore decodes.ending → (ys ≡ xs) × (decodes.ending ≡ Reached)
+    at_front : (left : Option (List ℕ)) → dec.left ≡ left → DecodesBytes s (Some encoded.samples) dec decoded dec.given ys decodes.ending → EndsBefore decodes.ending → (ys ≡ xs) × (decodes.ending ≡ Reached)
     at_front left e d early =
         let parts = split left e in
         from_front s legal xs ys dec.given parts.0 decodes.ending d.0 all.0 parts.1 early (subst (λ (m : ℕ). Decoded s (bits_of dec.given) (Some m) ys decodes.ending d.0) n d.1) all.1
 
-    not_at_end : (left : Option (List ℕ)) → dec.left ≡ left → IsAtEnd dec.left → Decodes s (Some encoded.samples) dec decoded dec.given ys decodes.ending → (decodes.ending ≡ CutOff) ⊎ ((decodes.ending ≡ Ended) × IsSome (Some encoded.samples)) → ⊥
+    not_at_end : (left : Option (List ℕ)) → dec.left ≡ left → IsAtEnd dec.left → DecodesBytes s (Some encoded.samples) dec decoded dec.given ys decodes.ending → (decodes.ending ≡ CutOff) ⊎ ((decodes.ending ≡ Ended) × IsSome (Some encoded.samples)) → ⊥
     not_at_end None e end d ends = absurd (subst (λ (l : Option (List ℕ)). Consumes (Some enc.written) l dec.given) e consumed)
     not_at_end (Some rest) e end d ends =
         let none : rest ≡ [] = subst (λ (l : Option (List ℕ)). IsAtEnd l) e end in
@@ -167,7 +167,7 @@ returns_bytes s legal enc dec encoded decoded fault encodes consumed decodes = b
         let reached = one.1 in
         elim ends [ inl e ↦ absurd cc | inr e ↦ absurd (let ended = e.0 in cc) ]
 
-    by_fault : (fault : Option Fault) (left : Option (List ℕ)) → dec.left ≡ left → EndsSo s (Some encoded.samples) fault dec decoded ys decodes.ending → Ends fault
+    by_fault : (fault : Option Fault) (left : Option (List ℕ)) → dec.left ≡ left → EndsDecoding s (Some encoded.samples) fault dec decoded ys decodes.ending → Ends fault
     by_fault None left e (d, inl reached) = inl (refl, d.2.written ∙ ap (spellings s) (at_front left e d (inl reached)).0 ∙ sym bytes)
     by_fault None left e (d, inr (ended, none, end)) = absurd cc
     by_fault (Some Read) left e h = inr (inl refl)

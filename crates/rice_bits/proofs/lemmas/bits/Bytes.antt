@@ -5,7 +5,7 @@ use Rattle.std.proofs.Math.Seq.{take-length}
 use Rattle.std.proofs.lemmas.List.{length-replicate, get_or_past, replicate-append-replicate, drop_at}
 use Rattle.std.proofs.lemmas.Bool.{cases_lt}
 use Rattle.std.proofs.lemmas.List.Elements.{All-get_or}
-use Rattle.rice_bits.specs.Bits.{bits_in_bytes, bits_to_byte, padded, word, bits_of, whole_bytes}
+use Rattle.rice_bits.specs.Bits.{bits_in_bytes, bits_to_byte, padded_bits, word, bits_of, whole_bytes}
 use Rattle.rice_bits.proofs.lemmas.bits.Words.{length-word, word-zero, number_of-word, word-number_of}
 
 pub bits_of-nil : bits_of [] ≡ []
@@ -96,8 +96,8 @@ bits_of-whole_bytes (a ∷ b ∷ c ∷ d ∷ e ∷ f ∷ []) = short_bytes (a �
 bits_of-whole_bytes (a ∷ b ∷ c ∷ d ∷ e ∷ f ∷ g ∷ []) = short_bytes (a ∷ b ∷ c ∷ d ∷ e ∷ f ∷ g ∷ []) (omega arith)
 
 -- padded bits are whole bytes
-pub bits_of-padded : (bits : List Bool) → bits_of (whole_bytes (padded bits)) ≡ padded bits
+pub bits_of-padded : (bits : List Bool) → bits_of (whole_bytes (padded_bits bits)) ≡ padded_bits bits
 bits_of-padded bits =
-    let n : length (padded bits) ≡ length bits + bits_to_byte (length bits) = length-append bits (replicate (bits_to_byte (length bits)) false) ∙ ap (λ n. length bits + n) (length-replicate (bits_to_byte (length bits)) false) in
-    let whole : bits_in_bytes (length (padded bits)) ≡ length (padded bits) = omega arith in
-    bits_of-whole_bytes (padded bits) ∙ (ap (λ n. take n (padded bits)) whole ∙ take-length (padded bits))
+    let n : length (padded_bits bits) ≡ length bits + bits_to_byte (length bits) = length-append bits (replicate (bits_to_byte (length bits)) false) ∙ ap (λ n. length bits + n) (length-replicate (bits_to_byte (length bits)) false) in
+    let whole : bits_in_bytes (length (padded_bits bits)) ≡ length (padded_bits bits) = omega arith in
+    bits_of-whole_bytes (padded_bits bits) ∙ (ap (λ n. take n (padded_bits bits)) whole ∙ take-length (padded_bits bits))

@@ -6,14 +6,14 @@ use Rattle.std.proofs.Math.Seq.{take-append-add}
 use Rattle.std.proofs.lemmas.Bool.{cases_lt}
 use Rattle.std.proofs.lemmas.Nat.{or_shifted, pow-add, pow_pos, shr_below, shr_split, mod_below}
 use Rattle.std.proofs.lemmas.List.{append-nil, replicate-append-replicate, length-replicate, length-drop, length-set, length-take-le, take-append-drop, take-replicate, take_all, take_at, drop-drop, drop-replicate, drop-set-lt, drop_all, drop_at, drop_more, get_or_past, get_or-set_same, take-set}
-use Rattle.rice_bits.specs.Bits.{IsGathered, bits_in_bytes, fundamental_sequence, word, bits_of, whole_bytes}
+use Rattle.rice_bits.specs.Bits.{IsBitSink, bits_in_bytes, fundamental_sequence, word, bits_of, whole_bytes}
 use Rattle.rice_bits.proofs.lemmas.bits.Words.{length-word, word-nil, word-zero, word-cat, word-split, word-fs, length-fundamental_sequence, shift_fits, join_below}
 use Rattle.rice_bits.proofs.lemmas.bits.Bytes.{bits_of-nil, bits_of-append, bits_of-zeros, length-bits_of, whole-bits, rest-bits}
 use Rattle.rice_bits.proofs.lemmas.bits.EightBytes.{bits_of-eight, split-bytes, length-front}
 use Rattle.rice_bits.proofs.lemmas.bits.OneWay.{word_reads}
 
 -- the length of what a view shows
-pub length_viewed : (bytes : List ℕ) (capacity n : ℕ) (bits : List Bool) → IsGathered capacity n bytes → length bytes ≡ capacity
+pub length_viewed : (bytes : List ℕ) (capacity n : ℕ) (bits : List Bool) → IsBitSink capacity n bytes → length bytes ≡ capacity
     → take n (bits_of bytes) ≡ bits → length bits ≡ n
 length_viewed bytes capacity n bits h size e =
     ap length (sym e) ∙ length-take-le n (bits_of bytes) (omega (arith, h.room, size, length-bits_of bytes))
@@ -316,9 +316,9 @@ dropped old new n count room far zeros e =
     ∙ (ap (λ k. digits ++ replicate (8 * length old - k) false) size ∙ ap (λ d. d ++ replicate (8 * length old - g) false) (sym kept)))
 
 -- the byte that is not whole comes to the front, when the others are dropped
-pub gathered-dropped : (old new : List ℕ) (capacity n count : ℕ) → IsGathered capacity n old → length old ≡ capacity → n / 8 ≤ count
+pub gathered-dropped : (old new : List ℕ) (capacity n count : ℕ) → IsBitSink capacity n old → length old ≡ capacity → n / 8 ≤ count
     → new ≡ take (length old) (slice_index old (n / 8) ∷ replicate count 0 ++ drop (count + 1) old)
-    → (take (n % 8) (bits_of new) ≡ drop (bits_in_bytes (length (take n (bits_of old)))) (take n (bits_of old))) × IsGathered capacity (n % 8) new
+    → (take (n % 8) (bits_of new) ≡ drop (bits_in_bytes (length (take n (bits_of old)))) (take n (bits_of old))) × IsBitSink capacity (n % 8) new
 gathered-dropped old new capacity n count h size far e =
     let bits : List Bool = take n (bits_of old) in
     let zeros : drop n (bits_of old) ≡ replicate (8 * length old - n) false = h.zeros ∙ ap (λ k. replicate (8 * k - n) false) (sym size) in

@@ -2,13 +2,13 @@ use Rattle.std.proofs.Common.{◌∷◌, [], replicate, false, Some, None, refl,
 use Rattle.std.specs.List.{range_with_len}
 use Rattle.rice_bits.specs.Bits.{word, bits_of}
 use Rattle.rice_samples.specs.Examples.{defaults}
-use Rattle.rice_code.specs.code.Blocks.{Contents}
+use Rattle.rice_code.specs.code.Blocks.{BlockData}
 use Rattle.rice_code.specs.code.CodedDataSets.{Split}
 use Rattle.rice_code.specs.code.Decoded.{Ended}
 use Rattle.rice_code.proofs.lemmas.meaning.Witnesses.{Gives, all_below, unsigned_samples, zeros_end, decoded_by_one}
 use Rattle.rice_code.proofs.decoding_examples.decodes_another_split.Goals as goal
 
-abbrev block : Contents
+abbrev block : BlockData
 block = record { reference = Some 0; residuals = 0 ∷ 1 ∷ replicate 6 2 }
 
 gives : Gives defaults (Split 1 block) (map pos (range_with_len 0 8))

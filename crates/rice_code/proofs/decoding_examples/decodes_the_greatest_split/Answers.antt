@@ -1,13 +1,13 @@
 use Rattle.std.proofs.Common.{◌∷◌, [], replicate, false, Some, None, refl, lit<, lit≤, pos}
 use Rattle.rice_bits.specs.Bits.{word, bits_of}
 use Rattle.rice_samples.specs.Examples.{one_bit_defaults}
-use Rattle.rice_code.specs.code.Blocks.{Contents}
+use Rattle.rice_code.specs.code.Blocks.{BlockData}
 use Rattle.rice_code.specs.code.CodedDataSets.{Split}
 use Rattle.rice_code.specs.code.Decoded.{Ended}
 use Rattle.rice_code.proofs.lemmas.meaning.Witnesses.{Gives, all_below, unsigned_samples, zeros_end, decoded_by_one}
 use Rattle.rice_code.proofs.decoding_examples.decodes_the_greatest_split.Goals as goal
 
-abbrev block : Contents
+abbrev block : BlockData
 block = record { reference = Some 0; residuals = 0 ∷ 1 ∷ replicate 6 0 }
 
 gives : Gives one_bit_defaults (Split 5 block) (pos 0 ∷ replicate 7 (pos 1))

@@ -1,22 +1,22 @@
 use Rattle.std.proofs.Common.{◌∷◌, [], ◌++◌, replicate, false, Some, None, refl, lit<, lit≤, pos}
 use Rattle.rice_bits.specs.Bits.{word, bits_of}
 use Rattle.rice_samples.specs.Examples.{defaults}
-use Rattle.rice_code.specs.code.CodedDataSets.{DataSet, ZeroBlocks, text}
+use Rattle.rice_code.specs.code.CodedDataSets.{CodedDataSet, ZeroBlocks, bits_of_set}
 use Rattle.rice_code.proofs.lemmas.meaning.Witnesses.{unsigned_samples, zeros_end}
 use Rattle.rice_code.proofs.decoding_examples.decodes_two_references.Goals as goal
 
 -- eight samples 5 behind a reference
-abbrev run : DataSet
+abbrev run : CodedDataSet
 run = ZeroBlocks (Some 5) 1
 
 pub returns-clause-all : goal.returns-clause-all
 unfolding word bits_of
 returns-clause-all c = record {
   sets = run ∷ run ∷ [];
-  front = text (record defaults { interval = 1 }) run ++ ([] ++ (text (record defaults { interval = 1 }) run ++ []));
+  front = bits_of_set (record defaults { interval = 1 }) run ++ ([] ++ (bits_of_set (record defaults { interval = 1 }) run ++ []));
   rest = replicate 6 false;
   parts = refl;
-  lie = ([], text (record defaults { interval = 1 }) run ++ [], refl, refl, ([], [], refl, refl, refl));
+  lie = ([], bits_of_set (record defaults { interval = 1 }) run ++ [], refl, refl, ([], [], refl, refl, refl));
   taken = (tt, (record { there = refl; fits = lit< tt }, lit≤ tt), (lit≤ tt, lit≤ tt), tt, (tt, (record { there = refl; fits = lit< tt }, lit≤ tt), (lit≤ tt, lit≤ tt), tt, tt));
   all = replicate 16 (pos 5);
   legal = unsigned_samples (record defaults { interval = 1 }) refl (replicate 16 5) refl;
@@ -32,10 +32,10 @@ pub returns-clause-asked : goal.returns-clause-asked
 unfolding word bits_of
 returns-clause-asked c = record {
   sets = run ∷ run ∷ [];
-  front = text (record defaults { interval = 1 }) run ++ ([] ++ (text (record defaults { interval = 1 }) run ++ []));
+  front = bits_of_set (record defaults { interval = 1 }) run ++ ([] ++ (bits_of_set (record defaults { interval = 1 }) run ++ []));
   rest = replicate 6 false;
   parts = refl;
-  lie = ([], text (record defaults { interval = 1 }) run ++ [], refl, refl, ([], [], refl, refl, refl));
+  lie = ([], bits_of_set (record defaults { interval = 1 }) run ++ [], refl, refl, ([], [], refl, refl, refl));
   taken = (lit< tt, (record { there = refl; fits = lit< tt }, lit≤ tt), (lit≤ tt, lit≤ tt), tt, (lit< tt, (record { there = refl; fits = lit< tt }, lit≤ tt), (lit≤ tt, lit≤ tt), tt, tt));
   all = replicate 16 (pos 5);
   legal = unsigned_samples (record defaults { interval = 1 }) refl (replicate 16 5) refl;

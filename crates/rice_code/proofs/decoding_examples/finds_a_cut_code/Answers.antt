@@ -4,15 +4,15 @@ use Rattle.std.specs.List.{range_with_len}
 use Rattle.rice_bits.specs.Bits.{word, bits_of}
 use Rattle.rice_samples.specs.Examples.{defaults}
 use Rattle.rice_samples.specs.Parameters.{IsLegal}
-use Rattle.rice_code.specs.code.Blocks.{Contents}
-use Rattle.rice_code.specs.code.CodedDataSets.{DataSet, Split, text}
+use Rattle.rice_code.specs.code.Blocks.{BlockData}
+use Rattle.rice_code.specs.code.CodedDataSets.{CodedDataSet, Split, bits_of_set}
 use Rattle.rice_code.specs.code.Decoded.{CutOff}
 use Rattle.rice_code.specs.code.Forms.{IsForm}
 use Rattle.rice_code.proofs.lemmas.meaning.Witnesses.{decoded_by_none}
 use Rattle.rice_code.proofs.lemmas.code.ReadInOneWay.{forms_read_in_one_way}
 use Rattle.rice_code.proofs.decoding_examples.finds_a_cut_code.Goals as goal
 
-abbrev block : Contents
+abbrev block : BlockData
 block = record { reference = Some 0; residuals = 0 ∷ 1 ∷ replicate 6 2 }
 
 legal : IsLegal defaults
@@ -23,10 +23,10 @@ missing : List Bool
 missing = flat_map (λ _. false ∷ false ∷ true ∷ []) (range_with_len 0 5)
 
 -- a form that began the bits would begin that coded data set too, and be it
-no_form : (d : DataSet) (more : List Bool) → IsForm defaults 0 d → bits_of (0x20 ∷ 0x09 ∷ []) ≡ text defaults d ++ more → ⊥
+no_form : (d : CodedDataSet) (more : List Bool) → IsForm defaults 0 d → bits_of (0x20 ∷ 0x09 ∷ []) ≡ bits_of_set defaults d ++ more → ⊥
 unfolding word bits_of missing
 no_form d more h e =
-    let whole : text defaults d ++ (more ++ missing) ≡ text defaults (Split 0 block) ++ [] = sym (append_assoc (text defaults d) more missing) ∙ ap (λ v. v ++ missing) (sym e) in
+    let whole : bits_of_set defaults d ++ (more ++ missing) ≡ bits_of_set defaults (Split 0 block) ++ [] = sym (append_assoc (bits_of_set defaults d) more missing) ∙ ap (λ v. v ++ missing) (sym e) in
     let same = forms_read_in_one_way defaults 0 d (Split 0 block) (more ++ missing) [] legal h (record { reference = record { there = refl; fits = lit< tt }; len = refl }, refl, lit≤ tt) whole in
     let none = ap length same.1 in
     let some = length-append more missing in

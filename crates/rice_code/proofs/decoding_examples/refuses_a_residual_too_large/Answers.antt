@@ -2,16 +2,16 @@ use Rattle.std.proofs.Common.{◌<◌, ◌∷◌, [], replicate, false, Some, No
 use Rattle.std.proofs.lemmas.List.Elements.{recursion_from_All}
 use Rattle.rice_bits.specs.Bits.{word, bits_of}
 use Rattle.rice_samples.specs.Examples.{defaults, one_bit_defaults}
-use Rattle.rice_code.specs.code.Blocks.{Contents}
+use Rattle.rice_code.specs.code.Blocks.{BlockData}
 use Rattle.rice_code.specs.code.CodedDataSets.{Split}
 use Rattle.rice_code.specs.code.Decoded.{Large}
 use Rattle.rice_code.proofs.lemmas.meaning.Witnesses.{decoded_by_none}
 use Rattle.rice_code.proofs.decoding_examples.refuses_a_residual_too_large.Goals as goal
 
-abbrev low : Contents
+abbrev low : BlockData
 low = record { reference = Some 0; residuals = 0 ∷ 2 ∷ replicate 6 0 }
 
-abbrev high : Contents
+abbrev high : BlockData
 high = record { reference = Some 0; residuals = 0 ∷ 16 ∷ replicate 6 0 }
 
 pub returns-clause-low : goal.returns-clause-low

@@ -1,13 +1,13 @@
 use Rattle.std.proofs.Common.{◌≡◌, ◌∷◌, [], replicate, false, Some, None, refl, lit<, arith}
 use Rattle.rice_bits.specs.Bits.{word, bits_of}
 use Rattle.rice_samples.specs.Examples.{defaults}
-use Rattle.rice_code.specs.code.Blocks.{Contents}
+use Rattle.rice_code.specs.code.Blocks.{BlockData}
 use Rattle.rice_code.specs.code.CodedDataSets.{SecondExtension}
 use Rattle.rice_code.specs.code.Decoded.{Large}
 use Rattle.rice_code.proofs.lemmas.meaning.Witnesses.{decoded_by_none}
 use Rattle.rice_code.proofs.decoding_examples.refuses_a_value_at_the_reference_place.Goals as goal
 
-abbrev block : Contents
+abbrev block : BlockData
 block = record { reference = Some 5; residuals = 1 ∷ replicate 7 0 }
 
 pub returns : goal.returns

@@ -1,13 +1,13 @@
 use Rattle.std.proofs.Common.{◌∷◌, [], ◌++◌, replicate, true, false, Some, None, refl, lit<, lit≤, pos}
 use Rattle.rice_bits.specs.Bits.{word, bits_of}
 use Rattle.rice_samples.specs.Examples.{defaults}
-use Rattle.rice_code.specs.code.CodedDataSets.{DataSet, ZeroBlocks, text}
+use Rattle.rice_code.specs.code.CodedDataSets.{CodedDataSet, ZeroBlocks, bits_of_set}
 use Rattle.rice_code.specs.code.Decoded.{Reached}
 use Rattle.rice_code.proofs.lemmas.meaning.Witnesses.{Gives, unsigned_samples, zeros_end, decoded_by_one}
 use Rattle.rice_code.proofs.decoding_examples.skips_padding.Goals as goal
 
 -- eight samples 5 behind a reference
-abbrev run : DataSet
+abbrev run : CodedDataSet
 run = ZeroBlocks (Some 5) 1
 
 gives : Gives (record defaults { interval = 1; pad = true }) run (replicate 8 (pos 5))
@@ -24,10 +24,10 @@ pub returns-clause-all : goal.returns-clause-all
 unfolding word bits_of
 returns-clause-all c = record {
   sets = run ∷ run ∷ [];
-  front = text (record defaults { interval = 1; pad = true }) run ++ (replicate 3 true ++ (text (record defaults { interval = 1; pad = true }) run ++ replicate 3 false));
+  front = bits_of_set (record defaults { interval = 1; pad = true }) run ++ (replicate 3 true ++ (bits_of_set (record defaults { interval = 1; pad = true }) run ++ replicate 3 false));
   rest = [];
   parts = refl;
-  lie = (replicate 3 true, text (record defaults { interval = 1; pad = true }) run ++ replicate 3 false, refl, refl, (replicate 3 false, [], refl, refl, refl));
+  lie = (replicate 3 true, bits_of_set (record defaults { interval = 1; pad = true }) run ++ replicate 3 false, refl, refl, (replicate 3 false, [], refl, refl, refl));
   taken = (tt, (record { there = refl; fits = lit< tt }, lit≤ tt), (lit≤ tt, lit≤ tt), tt, (tt, (record { there = refl; fits = lit< tt }, lit≤ tt), (lit≤ tt, lit≤ tt), tt, tt));
   all = replicate 16 (pos 5);
   legal = unsigned_samples (record defaults { interval = 1; pad = true }) refl (replicate 16 5) refl;
@@ -41,4 +41,4 @@ returns-clause-all c = record {
 
 pub returns-clause-asked : goal.returns-clause-asked
 unfolding word bits_of
-returns-clause-asked c = decoded_by_one (record defaults { interval = 1; pad = true }) run (replicate 8 (pos 5)) gives (replicate 3 true) (text (record defaults { interval = 1; pad = true }) run ++ replicate 3 false) (bits_of (0x00 ∷ 0x5F ∷ 0x00 ∷ 0x58 ∷ [])) refl refl (Some 8) (lit< tt) Reached 0 (lit≤ tt, refl)
+returns-clause-asked c = decoded_by_one (record defaults { interval = 1; pad = true }) run (replicate 8 (pos 5)) gives (replicate 3 true) (bits_of_set (record defaults { interval = 1; pad = true }) run ++ replicate 3 false) (bits_of (0x00 ∷ 0x5F ∷ 0x00 ∷ 0x58 ∷ [])) refl refl (Some 8) (lit< tt) Reached 0 (lit≤ tt, refl)

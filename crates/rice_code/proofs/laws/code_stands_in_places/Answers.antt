@@ -1,6 +1,6 @@
 use Rattle.std.proofs.Common.{◌+◌, length}
 use Rattle.rice_samples.specs.Places.{block_count}
-use Rattle.rice_code.specs.code.Code.{sets_behind}
+use Rattle.rice_code.specs.code.Code.{sets_from}
 use Rattle.rice_code.proofs.laws.code_stands_in_places.Goals as goal
 use Rattle.rice_code.proofs.lemmas.code.Layouts.{laid_at}
 use Rattle.rice_code.proofs.lemmas.code.BlockPlaces.{code_stands_in_intervals}
@@ -9,4 +9,4 @@ pub returns-clause-intervals : goal.returns-clause-intervals
 returns-clause-intervals c = code_stands_in_intervals
 
 pub returns-clause-bytes : goal.returns-clause-bytes
-returns-clause-bytes c = λ s b m n p xs e. laid_at s (b + block_count s (length xs)) b m n (sets_behind s b p xs) e
+returns-clause-bytes c = λ s b m n p xs e. laid_at s (b + block_count s (length xs)) b m n (sets_from s b p xs) e

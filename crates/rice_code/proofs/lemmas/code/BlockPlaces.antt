@@ -5,16 +5,16 @@ use Rattle.std.specs.List.{prefix_len}
 use Rattle.std.proofs.Math.Nat.{suc-mod, mul-add-div, mul-add-mod_self_left}
 use Rattle.rice_bits.specs.Bits.{bits_to_byte}
 use Rattle.rice_samples.specs.Parameters.{Parameters, IsLegal}
-use Rattle.rice_samples.specs.Places.{place, has_reference, is_reference, begins_segment, blocks_left, block_count}
-use Rattle.rice_samples.specs.predict.Residuals.{rank, pattern, residuals, last_of, filled}
-use Rattle.rice_code.specs.code.Blocks.{Contents, contents, blocks_from, blocks_behind, is_zero}
-use Rattle.rice_code.specs.code.CodedDataSets.{DataSet, NoCompression, SecondExtension, Split, ZeroBlocks, RemainderOfSegment, text}
+use Rattle.rice_samples.specs.Places.{place, is_reference, is_reference_sample, begins_segment, blocks_left, block_count}
+use Rattle.rice_samples.specs.predict.Residuals.{rank, pattern, residuals, last_of, filled_samples}
+use Rattle.rice_code.specs.code.Blocks.{BlockData, block_data, blocks_from, blocks_of, is_zero_block}
+use Rattle.rice_code.specs.code.CodedDataSets.{CodedDataSet, NoCompression, SecondExtension, Split, ZeroBlocks, RemainderOfSegment, bits_of_set}
 use Rattle.rice_code.specs.code.Forms.{blocks_in, zero_blocks}
-use Rattle.rice_code.specs.code.Layout.{block_behind, laid}
+use Rattle.rice_code.specs.code.Layout.{block_after, layout}
 use Rattle.std.proofs.lemmas.Bool.{cases_lt}
 use Rattle.rice_code.proofs.lemmas.code.Layouts.{sent_first}
 use Rattle.rice_code.specs.code.Choice.{shortest}
-use Rattle.rice_code.specs.code.Code.{data_sets, code_behind}
+use Rattle.rice_code.specs.code.Code.{data_sets, code_from}
 use Rattle.rice_code.specs.code.Runs.{zero_run}
 
 pub place_step : (s : Parameters) (b c : ℕ) → place s b ≡ place s c → place s (b + 1) ≡ place s (c + 1)
@@ -31,7 +31,7 @@ place_on s b c (suc n) e =
     let g : c + 1 + n ≡ c + suc n = omega arith in
     ap (λ n. place s n) f ∙ (place_on s (b + 1) (c + 1) n (place_step s b c e) ∙ ap (λ n. place s n) g)
 
-pub same_reference : (s : Parameters) (b c : ℕ) → place s b ≡ place s c → has_reference s b ≡ has_reference s c
+pub same_reference : (s : Parameters) (b c : ℕ) → place s b ≡ place s c → is_reference s b ≡ is_reference s c
 same_reference s b c e = ap (λ v. s.preprocess && v == 0) e
 
 pub same_start : (s : Parameters) (b c : ℕ) → place s b ≡ place s c → begins_segment s b ≡ begins_segment s c
@@ -40,10 +40,10 @@ same_start s b c e = ap (λ v. v == 64 * (v / 64)) e
 pub same_left : (s : Parameters) (b c : ℕ) → place s b ≡ place s c → blocks_left s b ≡ blocks_left s c
 same_left s b c e = ap (λ v. 64 * (v / 64) + min 64 (s.interval - 64 * (v / 64)) - v) e
 
-same_reference_at : (s : Parameters) (b c t : ℕ) → 1 ≤ s.block → place s b ≡ place s c → is_reference s (s.block * b + t) ≡ is_reference s (s.block * c + t)
+same_reference_at : (s : Parameters) (b c t : ℕ) → 1 ≤ s.block → place s b ≡ place s c → is_reference_sample s (s.block * b + t) ≡ is_reference_sample s (s.block * c + t)
 same_reference_at s b c t h e =
     let j = s.block in
-    let at = λ (b : ℕ). (let q = mul-add-div h b t in let r = mul-add-mod_self_left j b t in ap (λ n. has_reference s n && (j * b + t) % j == 0) q ∙ ap (λ n. has_reference s (b + t / j) && n == 0) r) in
+    let at = λ (b : ℕ). (let q = mul-add-div h b t in let r = mul-add-mod_self_left j b t in ap (λ n. is_reference s n && (j * b + t) % j == 0) q ∙ ap (λ n. is_reference s (b + t / j) && n == 0) r) in
     at b ∙ (ap (λ v. v && t % j == 0) (same_reference s (b + t / j) (c + t / j) (place_on s b c (t / j) e)) ∙ sym (at c))
 
 same_residuals : (s : Parameters) (b c t : ℕ) (p : ℤ) (xs : List ℤ) → 1 ≤ s.block → place s b ≡ place s c → residuals s (s.block * b + t) p xs ≡ residuals s (s.block * c + t) p xs
@@ -55,7 +55,7 @@ same_residuals s b c t p (x ∷ xs) h e =
     let rest = ap (λ n. residuals s n x xs) f ∙ (same_residuals s b c (t + 1) x xs h e ∙ ap (λ n. residuals s n x xs) g) in
     λ i. first i ∷ rest i
 
-pub same_contents : (s : Parameters) (b c : ℕ) (p : ℤ) (xs : List ℤ) → 1 ≤ s.block → place s b ≡ place s c → contents s b p xs ≡ contents s c p xs
+pub same_contents : (s : Parameters) (b c : ℕ) (p : ℤ) (xs : List ℤ) → 1 ≤ s.block → place s b ≡ place s c → block_data s b p xs ≡ block_data s c p xs
 same_contents s b c p xs h e =
     let f : s.block * b ≡ s.block * b + 0 = omega arith in
     let g : s.block * c + 0 ≡ s.block * c = omega arith in
@@ -70,44 +70,44 @@ same_blocks s b c p (suc n) xs h e =
     let rest = same_blocks s (b + 1) (c + 1) (last_of p (take s.block xs)) n (drop s.block xs) h (place_step s b c e) in
     λ i. first i ∷ rest i
 
-same_run : (s : Parameters) (b c : ℕ) (r : Option ℕ) (cs : List Contents) → place s b ≡ place s c → zero_run s b r cs ≡ zero_run s c r cs
+same_run : (s : Parameters) (b c : ℕ) (r : Option ℕ) (cs : List BlockData) → place s b ≡ place s c → zero_run s b r cs ≡ zero_run s c r cs
 same_run s b c r cs e =
-    ap (λ (left : ℕ). cond (nat_le 5 (prefix_len is_zero (take left cs)) && (prefix_len is_zero (take left cs) == left || prefix_len is_zero (take left cs) == length cs)) (RemainderOfSegment r) (ZeroBlocks r (prefix_len is_zero (take left cs)))) (same_left s b c e)
+    ap (λ (left : ℕ). cond (nat_le 5 (prefix_len is_zero_block (take left cs)) && (prefix_len is_zero_block (take left cs) == left || prefix_len is_zero_block (take left cs) == length cs)) (RemainderOfSegment r) (ZeroBlocks r (prefix_len is_zero_block (take left cs)))) (same_left s b c e)
 
-pub same_data_sets : (s : Parameters) (b c : ℕ) (behind : Bool) (cs : List Contents) → place s b ≡ place s c → data_sets s b behind cs ≡ data_sets s c behind cs
+pub same_data_sets : (s : Parameters) (b c : ℕ) (behind : Bool) (cs : List BlockData) → place s b ≡ place s c → data_sets s b behind cs ≡ data_sets s c behind cs
 same_data_sets s b c behind [] e = refl
 same_data_sets s b c behind (d ∷ ds) e =
     let run = same_run s b c d.reference (d ∷ ds) e in
     let start = same_start s b c e in
-    let rest = same_data_sets s (b + 1) (c + 1) (is_zero d) ds (place_step s b c e) in
-    λ i. cond (is_zero d) (cond (behind && not (start i)) [] (run i ∷ [])) (shortest s d ∷ []) ++ rest i
+    let rest = same_data_sets s (b + 1) (c + 1) (is_zero_block d) ds (place_step s b c e) in
+    λ i. cond (is_zero_block d) (cond (behind && not (start i)) [] (run i ∷ [])) (shortest s d ∷ []) ++ rest i
 
-pub same_blocks_in : (s : Parameters) (b c : ℕ) (d : DataSet) → place s b ≡ place s c → blocks_in s b d ≡ blocks_in s c d
+pub same_blocks_in : (s : Parameters) (b c : ℕ) (d : CodedDataSet) → place s b ≡ place s c → blocks_in s b d ≡ blocks_in s c d
 same_blocks_in s b c (NoCompression v) e = refl
 same_blocks_in s b c (SecondExtension v) e = refl
 same_blocks_in s b c (Split k v) e = refl
 same_blocks_in s b c (ZeroBlocks r z) e = refl
 same_blocks_in s b c (RemainderOfSegment r) e = ap (λ z. zero_blocks s r z) (same_left s b c e)
 
-same_laid : (s : Parameters) (end stop b c m : ℕ) (ds : List DataSet) → place s b ≡ place s c → place s end ≡ place s stop → end + c ≡ stop + b → laid s end b m ds ≡ laid s stop c m ds
+same_laid : (s : Parameters) (end stop b c m : ℕ) (ds : List CodedDataSet) → place s b ≡ place s c → place s end ≡ place s stop → end + c ≡ stop + b → layout s end b m ds ≡ layout s stop c m ds
 same_laid s end stop b c m [] e f g = refl
 same_laid s end stop b c m (d ∷ ds) e f g =
     let n = ap length (same_blocks_in s b c d e) in
-    let next : place s (block_behind s b d) ≡ place s (block_behind s c d) = place_on s b c (length (blocks_in s b d)) e ∙ ap (λ k. place s (c + k)) n in
-    let at : place s (min end (block_behind s b d)) ≡ place s (min stop (block_behind s c d)) =
-    elim (cases_lt end (block_behind s b d)) [
-      | inl lt ↦ let x : min end (block_behind s b d) ≡ end = omega arith in let y : stop ≡ min stop (block_behind s c d) = omega arith in ap (λ v. place s v) x ∙ (f ∙ ap (λ v. place s v) y)
-      | inr le ↦ let x : min end (block_behind s b d) ≡ block_behind s b d = omega arith in let y : block_behind s c d ≡ min stop (block_behind s c d) = omega arith in ap (λ v. place s v) x ∙ (next ∙ ap (λ v. place s v) y)
+    let next : place s (block_after s b d) ≡ place s (block_after s c d) = place_on s b c (length (blocks_in s b d)) e ∙ ap (λ k. place s (c + k)) n in
+    let at : place s (min end (block_after s b d)) ≡ place s (min stop (block_after s c d)) =
+    elim (cases_lt end (block_after s b d)) [
+      | inl lt ↦ let x : min end (block_after s b d) ≡ end = omega arith in let y : stop ≡ min stop (block_after s c d) = omega arith in ap (λ v. place s v) x ∙ (f ∙ ap (λ v. place s v) y)
+      | inr le ↦ let x : min end (block_after s b d) ≡ block_after s b d = omega arith in let y : block_after s c d ≡ min stop (block_after s c d) = omega arith in ap (λ v. place s v) x ∙ (next ∙ ap (λ v. place s v) y)
     ] in
-    let first : sent_first s end b m d ≡ sent_first s stop c m d = ap (λ v. text s d ++ replicate (cond (s.pad && v == 0) (bits_to_byte (m + length (text s d))) 0) false) at in
+    let first : sent_first s end b m d ≡ sent_first s stop c m d = ap (λ v. bits_of_set s d ++ replicate (cond (s.pad && v == 0) (bits_to_byte (m + length (bits_of_set s d))) 0) false) at in
     let k = length (sent_first s end b m d) in
-    let rest = same_laid s end stop (block_behind s b d) (block_behind s c d) (m + k) ds next f (omega arith) in
-    (λ i. sent_first s end b m d ++ rest i) ∙ (λ i. first i ++ laid s stop (block_behind s c d) (m + length (first i)) ds)
+    let rest = same_laid s end stop (block_after s b d) (block_after s c d) (m + k) ds next f (omega arith) in
+    (λ i. sent_first s end b m d ++ rest i) ∙ (λ i. first i ++ layout s stop (block_after s c d) (m + length (first i)) ds)
 
-pub code_stands_in_intervals : (s : Parameters) → IsLegal s → (b c position : ℕ) (p : ℤ) (xs : List ℤ) → place s b ≡ place s c → code_behind s b position p xs ≡ code_behind s c position p xs
+pub code_stands_in_intervals : (s : Parameters) → IsLegal s → (b c position : ℕ) (p : ℤ) (xs : List ℤ) → place s b ≡ place s c → code_from s b position p xs ≡ code_from s c position p xs
 code_stands_in_intervals s legal b c position p xs e =
     let j : 1 ≤ s.block = grind (arith, legal.block) in
     let n = block_count s (length xs) in
-    ap (λ v. laid s (b + n) b position (data_sets s b false v)) (same_blocks s b c p n (filled s p xs) j e)
-    ∙ (ap (λ v. laid s (b + n) b position v) (same_data_sets s b c false (blocks_behind s c p xs) e)
-    ∙ same_laid s (b + n) (c + n) b c position (data_sets s c false (blocks_behind s c p xs)) e (place_on s b c n e) (omega arith))
+    ap (λ v. layout s (b + n) b position (data_sets s b false v)) (same_blocks s b c p n (filled_samples s p xs) j e)
+    ∙ (ap (λ v. layout s (b + n) b position v) (same_data_sets s b c false (blocks_of s c p xs) e)
+    ∙ same_laid s (b + n) (c + n) b c position (data_sets s c false (blocks_of s c p xs)) e (place_on s b c n e) (omega arith))

@@ -6,10 +6,10 @@ use Rattle.std.proofs.lemmas.Bool.Decides.{nat_tests}
 use Rattle.std.proofs.lemmas.List.{take-append-le, drop-append-le, take-append-drop, take-replicate, drop-replicate}
 use Rattle.std.proofs.Math.Seq.{take-length}
 use Rattle.rice_samples.specs.Parameters.{Parameters, value_count, level}
-use Rattle.rice_samples.specs.Places.{is_reference, has_reference}
+use Rattle.rice_samples.specs.Places.{is_reference_sample, is_reference}
 use Rattle.rice_samples.specs.predict.Residuals.{rank_below, rank, residual, residuals, pattern, last_of}
 use Rattle.rice_samples.proofs.lemmas.setting.PlaceLemmas.{reference_begins}
-use Rattle.rice_code.specs.code.Blocks.{contents, blocks_from, zeros}
+use Rattle.rice_code.specs.code.Blocks.{block_data, blocks_from, zero_block}
 use Rattle.rice_code.proofs.lemmas.meaning.Covers.{bool_cases, both, GoOn, EndsInZeros}
 
 pub last_append : (p : ℤ) (xs ys : List ℤ) → last_of p (xs ++ ys) ≡ last_of (last_of p xs) ys
@@ -39,8 +39,8 @@ blocks_append s b p (suc m) n xs ys e =
     let k : b + 1 + m ≡ b + suc m = omega arith in
     let last = last_behind p s.block xs in
     ap (λ i. blocks_from s b p i (xs ++ ys)) z
-    ∙ ((λ i. contents s b p (front i) ∷ blocks_from s (b + 1) (last_of p (front i)) (m + n) (back i))
-    ∙ (ap (λ v. contents s b p (take s.block xs) ∷ v) ih
+    ∙ ((λ i. block_data s b p (front i) ∷ blocks_from s (b + 1) (last_of p (front i)) (m + n) (back i))
+    ∙ (ap (λ v. block_data s b p (take s.block xs) ∷ v) ih
     ∙ (λ i. blocks_from s b p (suc m) xs ++ blocks_from s (k i) (last i) n ys)))
 
 -- a sample that repeats the one before is predicted exactly, and without prediction it is zero where the one before is
@@ -53,8 +53,8 @@ same_rank count p = grind (arith, nat_tests)
 repeated : (s : Parameters) (i : ℕ) (p : ℤ) → Repeats s p → residual s i p p ≡ 0
 repeated s i p h =
     elim (bool_cases s.preprocess) [
-      | inl e ↦ ap (λ v. cond v (cond (is_reference s i) 0 (rank s p p)) (pattern s p)) e ∙ predicted (is_reference s i)
-      | inr e ↦ ap (λ v. cond v (cond (is_reference s i) 0 (rank s p p)) (pattern s p)) e
+      | inl e ↦ ap (λ v. cond v (cond (is_reference_sample s i) 0 (rank s p p)) (pattern s p)) e ∙ predicted (is_reference_sample s i)
+      | inr e ↦ ap (λ v. cond v (cond (is_reference_sample s i) 0 (rank s p p)) (pattern s p)) e
           ∙ elim h [ inl f ↦ absurd (let g : true ≡ false = sym f ∙ e in cc) | inr f ↦ f ]
     ]
   where
@@ -66,31 +66,31 @@ pub repeated_all : (s : Parameters) (i n : ℕ) (p : ℤ) → Repeats s p → re
 repeated_all s i zero p h = refl
 repeated_all s i (suc n) p h = let first = repeated s i p h in let rest = repeated_all s (i + 1) n p h in λ k. first k ∷ rest k
 
-repeated_block : (s : Parameters) (b : ℕ) (p : ℤ) → has_reference s b ≡ false → Repeats s p → contents s b p (replicate s.block p) ≡ zeros s None
+repeated_block : (s : Parameters) (b : ℕ) (p : ℤ) → is_reference s b ≡ false → Repeats s p → block_data s b p (replicate s.block p) ≡ zero_block s None
 repeated_block s b p e h =
     let r = ap (λ v. cond v (Some (pattern s (slice_index_or (replicate s.block p) 0 p))) None) e in
     let d = repeated_all s (s.block * b) s.block p h in
     λ i. record { reference = r i; residuals = d i }
 
 -- blocks of the same sample again and again
-pub repeated_blocks : (s : Parameters) (b : ℕ) (p : ℤ) (n : ℕ) → GoOn s b n → Repeats s p → blocks_from s b p n (replicate (s.block * n) p) ≡ replicate n (zeros s None)
+pub repeated_blocks : (s : Parameters) (b : ℕ) (p : ℤ) (n : ℕ) → GoOn s b n → Repeats s p → blocks_from s b p n (replicate (s.block * n) p) ≡ replicate n (zero_block s None)
 repeated_blocks s b p zero k h = refl
 repeated_blocks s b p (suc n) k h =
     let j = s.block in
     let front : take j (replicate (j * suc n) p) ≡ replicate j p = take-replicate j (j * suc n) p (omega arith) in
     let less : j * suc n - j ≡ j * n = omega arith in
     let back : drop j (replicate (j * suc n) p) ≡ replicate (j * n) p = drop-replicate j (j * suc n) p ∙ ap (λ m. replicate m p) less in
-    let none : has_reference s b ≡ false = elim (bool_cases (has_reference s b)) [ inl r ↦ absurd (let f : true ≡ false = sym (reference_begins s b r) ∙ k.0 in cc) | inr r ↦ r ] in
+    let none : is_reference s b ≡ false = elim (bool_cases (is_reference s b)) [ inl r ↦ absurd (let f : true ≡ false = sym (reference_begins s b r) ∙ k.0 in cc) | inr r ↦ r ] in
     let first = repeated_block s b p none h in
     let last = last_replicate p j in
     let rest = repeated_blocks s (b + 1) p n k.1 h in
-    (λ i. contents s b p (front i) ∷ blocks_from s (b + 1) (last_of p (front i)) n (back i))
-    ∙ ((λ i. first i ∷ blocks_from s (b + 1) (last i) n (replicate (j * n) p)) ∙ ap (λ v. zeros s None ∷ v) rest)
+    (λ i. block_data s b p (front i) ∷ blocks_from s (b + 1) (last_of p (front i)) n (back i))
+    ∙ ((λ i. first i ∷ blocks_from s (b + 1) (last i) n (replicate (j * n) p)) ∙ ap (λ v. zero_block s None ∷ v) rest)
 
 -- without prediction the last sample of a block of zeros is zero
 last_of_zeros : (s : Parameters) (i : ℕ) (p : ℤ) (xs : List ℤ) → s.preprocess ≡ false → 1 ≤ length xs → list_all (λ d. d == 0) (residuals s i p xs) ≡ true → pattern s (last_of p xs) ≡ 0
 last_of_zeros s i p [] e h k = absurd (omega arith)
-last_of_zeros s i p (x ∷ []) e h k = sym (ap (λ v. cond v (cond (is_reference s i) 0 (rank s p x)) (pattern s x)) e) ∙ is_none (residual s i p x) (both (residual s i p x == 0) true k).0
+last_of_zeros s i p (x ∷ []) e h k = sym (ap (λ v. cond v (cond (is_reference_sample s i) 0 (rank s p x)) (pattern s x)) e) ∙ is_none (residual s i p x) (both (residual s i p x == 0) true k).0
   where
     is_none : (d : ℕ) → (d == 0) ≡ true → d ≡ 0
     is_none d e = grind (arith, nat_tests)

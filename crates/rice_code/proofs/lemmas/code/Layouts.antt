@@ -10,9 +10,9 @@ use Rattle.std.proofs.Math.Nat.{div-add-mod, div-mul-le_self, mul-le-mul_left}
 use Rattle.rice_bits.specs.Bits.{bits_to_byte}
 use Rattle.rice_samples.specs.Parameters.{Parameters}
 use Rattle.rice_samples.specs.Places.{place, is_padded}
-use Rattle.rice_code.specs.code.CodedDataSets.{DataSet, NoCompression, SecondExtension, Split, ZeroBlocks, RemainderOfSegment, text}
+use Rattle.rice_code.specs.code.CodedDataSets.{CodedDataSet, NoCompression, SecondExtension, Split, ZeroBlocks, RemainderOfSegment, bits_of_set}
 use Rattle.rice_code.specs.code.Forms.{blocks_in, blocks_in_all}
-use Rattle.rice_code.specs.code.Layout.{block_behind, padding, placed, laid, Lies}
+use Rattle.rice_code.specs.code.Layout.{block_after, padding, bits_with_padding, layout, Lies}
 use Rattle.rice_code.proofs.lemmas.meaning.Covers.{bool_cases, both}
 
 -- without padding the texts are joined
@@ -20,58 +20,58 @@ no_padding : (s : Parameters) (next bits : ℕ) → s.pad ≡ false → padding 
 no_padding s next bits e = ap (λ v. cond (v && place s next == 0) (bits_to_byte bits) 0) e
 
 -- one coded data set, as it is sent
-abbrev pub sent_first : Parameters → ℕ → ℕ → ℕ → DataSet → List Bool
-sent_first s end b position d = placed s (min end (block_behind s b d)) position d
+abbrev pub sent_first : Parameters → ℕ → ℕ → ℕ → CodedDataSet → List Bool
+sent_first s end b position d = bits_with_padding s (min end (block_after s b d)) position d
 
-pub laid_plain : (s : Parameters) (end b position : ℕ) (ds : List DataSet) → s.pad ≡ false → laid s end b position ds ≡ flat_map (text s) ds
+pub laid_plain : (s : Parameters) (end b position : ℕ) (ds : List CodedDataSet) → s.pad ≡ false → layout s end b position ds ≡ flat_map (bits_of_set s) ds
 laid_plain s end b position [] e = refl
 laid_plain s end b position (d ∷ ds) e =
-    let n = no_padding s (min end (block_behind s b d)) (position + length (text s d)) e in
-    let first : sent_first s end b position d ≡ text s d = ap (λ m. text s d ++ replicate m false) n ∙ append-nil (text s d) in
-    let rest = laid_plain s end (block_behind s b d) (position + length (sent_first s end b position d)) ds e in
+    let n = no_padding s (min end (block_after s b d)) (position + length (bits_of_set s d)) e in
+    let first : sent_first s end b position d ≡ bits_of_set s d = ap (λ m. bits_of_set s d ++ replicate m false) n ∙ append-nil (bits_of_set s d) in
+    let rest = laid_plain s end (block_after s b d) (position + length (sent_first s end b position d)) ds e in
     λ i. first i ++ rest i
 
 -- the blocks of the first of several coded data sets end no later than those of all
-pub ends_inside : (s : Parameters) (b : ℕ) (d : DataSet) (ds : List DataSet) → block_behind s b d + length (blocks_in_all s (block_behind s b d) ds) ≡ b + length (blocks_in_all s b (d ∷ ds))
-ends_inside s b d ds = omega (arith, length-append (blocks_in s b d) (blocks_in_all s (block_behind s b d) ds))
+pub ends_inside : (s : Parameters) (b : ℕ) (d : CodedDataSet) (ds : List CodedDataSet) → block_after s b d + length (blocks_in_all s (block_after s b d) ds) ≡ b + length (blocks_in_all s b (d ∷ ds))
+ends_inside s b d ds = omega (arith, length-append (blocks_in s b d) (blocks_in_all s (block_after s b d) ds))
 
 -- where the blocks end makes no difference to coded data sets before that end
-pub laid_inside : (s : Parameters) (m n b position : ℕ) (ds : List DataSet) → b + length (blocks_in_all s b ds) ≤ m → b + length (blocks_in_all s b ds) ≤ n → laid s m b position ds ≡ laid s n b position ds
+pub laid_inside : (s : Parameters) (m n b position : ℕ) (ds : List CodedDataSet) → b + length (blocks_in_all s b ds) ≤ m → b + length (blocks_in_all s b ds) ≤ n → layout s m b position ds ≡ layout s n b position ds
 laid_inside s m n b position [] h k = refl
 laid_inside s m n b position (d ∷ ds) h k =
-    let next = block_behind s b d in
+    let next = block_after s b d in
     let whole = ends_inside s b d ds in
     let e : min m next ≡ min n next = omega arith in
-    let first = ap (λ v. placed s v position d) e in
+    let first = ap (λ v. bits_with_padding s v position d) e in
     let rest = laid_inside s m n next (position + length (sent_first s m b position d)) ds (omega arith) (omega arith) in
-    (λ i. sent_first s m b position d ++ rest i) ∙ (λ i. first i ++ laid s n next (position + length (first i)) ds)
+    (λ i. sent_first s m b position d ++ rest i) ∙ (λ i. first i ++ layout s n next (position + length (first i)) ds)
 
 -- each of them begins before block `end`
-abbrev pub BeginBefore : Parameters → ℕ → ℕ → List DataSet → Type 0
+abbrev pub BeginBefore : Parameters → ℕ → ℕ → List CodedDataSet → Type 0
 BeginBefore s end b [] = Unit {0}
-BeginBefore s end b (d ∷ ds) = (b < end) × BeginBefore s end (block_behind s b d) ds
+BeginBefore s end b (d ∷ ds) = (b < end) × BeginBefore s end (block_after s b d) ds
 
 -- what is laid before the end is taken
-pub lies_inside : (s : Parameters) (end b position : ℕ) (ds : List DataSet) → b + length (blocks_in_all s b ds) ≤ end → Lies s b position ds (laid s end b position ds)
+pub lies_inside : (s : Parameters) (end b position : ℕ) (ds : List CodedDataSet) → b + length (blocks_in_all s b ds) ≤ end → Lies s b position ds (layout s end b position ds)
 lies_inside s end b position [] h = refl
 lies_inside s end b position (d ∷ ds) h =
-    let next = block_behind s b d in
+    let next = block_after s b d in
     let whole = ends_inside s b d ds in
     let e : min end next ≡ next = omega arith in
-    let bits = position + length (text s d) in
+    let bits = position + length (bits_of_set s d) in
     let n = padding s (min end next) bits in
     let zeros = replicate n false in
-    let rest = laid s end next (position + length (sent_first s end b position d)) ds in
-    (zeros, rest, length-replicate n false ∙ ap (λ v. padding s v bits) e, append_assoc (text s d) zeros rest, lies_inside s end next (position + length (sent_first s end b position d)) ds (omega arith))
+    let rest = layout s end next (position + length (sent_first s end b position d)) ds in
+    (zeros, rest, length-replicate n false ∙ ap (λ v. padding s v bits) e, append_assoc (bits_of_set s d) zeros rest, lies_inside s end next (position + length (sent_first s end b position d)) ds (omega arith))
 
 -- What is laid is taken with some zeros more, no more than fill the last byte.
 -- They are skipped behind a run that stands for more blocks than there are.
-pub lies_laid : (s : Parameters) (end b position : ℕ) (ds : List DataSet) → is_padded s end ≡ false → BeginBefore s end b ds →
-    (n : ℕ) × (n ≤ bits_to_byte (position + length (laid s end b position ds))) × Lies s b position ds (laid s end b position ds ++ replicate n false)
+pub lies_laid : (s : Parameters) (end b position : ℕ) (ds : List CodedDataSet) → is_padded s end ≡ false → BeginBefore s end b ds →
+    (n : ℕ) × (n ≤ bits_to_byte (position + length (layout s end b position ds))) × Lies s b position ds (layout s end b position ds ++ replicate n false)
 lies_laid s end b position [] e h = (0, omega arith, refl)
 lies_laid s end b position (d ∷ []) e h =
-    let next = block_behind s b d in
-    let t = text s d in
+    let next = block_after s b d in
+    let t = bits_of_set s d in
     let bits = position + length t in
     let n = padding s (min end next) bits in
     let zeros = replicate n false in
@@ -99,13 +99,13 @@ lies_laid s end b position (d ∷ []) e h =
     cond_below true m = omega arith
     cond_below false m = omega arith
 lies_laid s end b position (d ∷ c ∷ ds) e h =
-    let next = block_behind s b d in
-    let t = text s d in
+    let next = block_after s b d in
+    let t = bits_of_set s d in
     let bits = position + length t in
     let n = padding s (min end next) bits in
     let zeros = replicate n false in
     let at = position + length (sent_first s end b position d) in
-    let rest = laid s end next at (c ∷ ds) in
+    let rest = layout s end next at (c ∷ ds) in
     let ih = lies_laid s end next at (c ∷ ds) e h.1 in
     let same : min end next ≡ next = omega (arith, h.1.0) in
     let size : at + length rest ≡ position + length ((t ++ zeros) ++ rest) = omega (arith, length-append (t ++ zeros) rest) in
@@ -122,21 +122,21 @@ lies_laid s end b position (d ∷ c ∷ ds) e h =
     )
 
 -- what is laid behind other coded data sets
-pub laid_append : (s : Parameters) (end b position : ℕ) (ds es : List DataSet) →
-    laid s end b position (ds ++ es) ≡ laid s end b position ds ++ laid s end (b + length (blocks_in_all s b ds)) (position + length (laid s end b position ds)) es
-laid_append s end b position [] es = let e : b ≡ b + 0 = omega arith in let f : position ≡ position + 0 = omega arith in λ i. laid s end (e i) (f i) es
+pub laid_append : (s : Parameters) (end b position : ℕ) (ds es : List CodedDataSet) →
+    layout s end b position (ds ++ es) ≡ layout s end b position ds ++ layout s end (b + length (blocks_in_all s b ds)) (position + length (layout s end b position ds)) es
+laid_append s end b position [] es = let e : b ≡ b + 0 = omega arith in let f : position ≡ position + 0 = omega arith in λ i. layout s end (e i) (f i) es
 laid_append s end b position (d ∷ ds) es =
     let first = sent_first s end b position d in
-    let next = block_behind s b d in
+    let next = block_after s b d in
     let at = position + length first in
-    let rest = laid s end next at ds in
+    let rest = layout s end next at ds in
     let ih = laid_append s end next at ds es in
     let e = ends_inside s b d ds in
     let f : at + length rest ≡ position + length (first ++ rest) = omega (arith, length-append first rest) in
-    ap (λ v. first ++ v) ih ∙ (sym (append_assoc first rest (laid s end (next + length (blocks_in_all s next ds)) (at + length rest) es)) ∙ (λ i. (first ++ rest) ++ laid s end (e i) (f i) es))
+    ap (λ v. first ++ v) ih ∙ (sym (append_assoc first rest (layout s end (next + length (blocks_in_all s next ds)) (at + length rest) es)) ∙ (λ i. (first ++ rest) ++ layout s end (e i) (f i) es))
 
 -- a coded data set stands for a block at least
-pub some_block : (s : Parameters) (b : ℕ) (d : DataSet) → 1 ≤ length (blocks_in s b d)
+pub some_block : (s : Parameters) (b : ℕ) (d : CodedDataSet) → 1 ≤ length (blocks_in s b d)
 some_block s b (NoCompression c) = omega arith
 some_block s b (SecondExtension c) = omega arith
 some_block s b (Split k c) = omega arith
@@ -159,7 +159,7 @@ no_end_passed b n r h = le-div (b / r) (b + n) r h (let e = div-mul-le_self b r 
 few_zeros : (n : ℕ) → bits_to_byte n ≤ 7
 few_zeros n = omega arith
 
-padding_bound : (s : Parameters) (end b bits : ℕ) (d : DataSet) → 1 ≤ s.interval → b < end → padding s (min end (block_behind s b d)) bits + 7 * (b / s.interval) ≤ 7 * (block_behind s b d / s.interval)
+padding_bound : (s : Parameters) (end b bits : ℕ) (d : CodedDataSet) → 1 ≤ s.interval → b < end → padding s (min end (block_after s b d)) bits + 7 * (b / s.interval) ≤ 7 * (block_after s b d / s.interval)
 padding_bound s end b bits d h lt =
     let n = length (blocks_in s b d) in
     let r = s.interval in
@@ -190,23 +190,23 @@ padding_bound s end b bits d h lt =
     sums p bits x y e h k = omega arith
 
 -- the bits of coded data sets, with at most seven for each end of an interval
-pub laid_bound : (s : Parameters) (end b position : ℕ) (ds : List DataSet) → 1 ≤ s.interval → BeginBefore s end b ds →
-    length (laid s end b position ds) + 7 * (b / s.interval) ≤ sum_by (λ d. length (text s d)) ds + 7 * ((b + length (blocks_in_all s b ds)) / s.interval)
+pub laid_bound : (s : Parameters) (end b position : ℕ) (ds : List CodedDataSet) → 1 ≤ s.interval → BeginBefore s end b ds →
+    length (layout s end b position ds) + 7 * (b / s.interval) ≤ sum_by (λ d. length (bits_of_set s d)) ds + 7 * ((b + length (blocks_in_all s b ds)) / s.interval)
 laid_bound s end b position [] h k = let e : b + 0 ≡ b = omega arith in let f = ap (λ n. n / s.interval) e in omega arith
 laid_bound s end b position (d ∷ ds) h k =
     let first = sent_first s end b position d in
-    let next = block_behind s b d in
-    let bits = position + length (text s d) in
+    let next = block_after s b d in
+    let bits = position + length (bits_of_set s d) in
     let n = padding s (min end next) bits in
-    let rest = laid s end next (position + length first) ds in
+    let rest = layout s end next (position + length first) ds in
     let ih = laid_bound s end next (position + length first) ds h k.1 in
     let one = padding_bound s end b bits d h k.0 in
     let len = length-append first rest in
-    let len' = length-append (text s d) (replicate n false) in
+    let len' = length-append (bits_of_set s d) (replicate n false) in
     let zeros = length-replicate n false in
-    let sum = sum_by-cons (λ d. length (text s d)) d ds in
+    let sum = sum_by-cons (λ d. length (bits_of_set s d)) d ds in
     let f = ap (λ n. n / s.interval) (ends_inside s b d ds) in
-    sums _ _ _ _ _ _ _ _ _ _ _ len (len' ∙ ap (λ n. length (text s d) + n) zeros) sum one ih f
+    sums _ _ _ _ _ _ _ _ _ _ _ len (len' ∙ ap (λ n. length (bits_of_set s d) + n) zeros) sum one ih f
   where
     sums : (all first rest t p total more x y z w : ℕ) → all ≡ first + rest → first ≡ t + p → total ≡ t + more → p + 7 * x ≤ 7 * y → rest + 7 * y ≤ more + 7 * z → z ≡ w → all + 7 * x ≤ total + 7 * w
     sums all first rest t p total more x y z w a b c d e f = omega arith
@@ -218,21 +218,21 @@ same_to_byte m n e = omega arith
 same_place_behind : (m n k : ℕ) → m % 8 ≡ n % 8 → (m + k) % 8 ≡ (n + k) % 8
 same_place_behind m n k e = omega arith
 
-pub laid_at : (s : Parameters) (end b m n : ℕ) (ds : List DataSet) → m % 8 ≡ n % 8 → laid s end b m ds ≡ laid s end b n ds
+pub laid_at : (s : Parameters) (end b m n : ℕ) (ds : List CodedDataSet) → m % 8 ≡ n % 8 → layout s end b m ds ≡ layout s end b n ds
 laid_at s end b m n [] e = refl
 laid_at s end b m n (d ∷ ds) e =
-    let t = length (text s d) in
-    let next = block_behind s b d in
+    let t = length (bits_of_set s d) in
+    let next = block_after s b d in
     let p = ap (λ v. cond (is_padded s (min end next)) v 0) (same_to_byte (m + t) (n + t) (same_place_behind m n t e)) in
-    let first : sent_first s end b m d ≡ sent_first s end b n d = ap (λ v. text s d ++ replicate v false) p in
+    let first : sent_first s end b m d ≡ sent_first s end b n d = ap (λ v. bits_of_set s d ++ replicate v false) p in
     let k = length (sent_first s end b m d) in
     let rest = laid_at s end next (m + k) (n + k) ds (same_place_behind m n k e) in
-    (λ i. sent_first s end b m d ++ rest i) ∙ (λ i. first i ++ laid s end next (n + length (first i)) ds)
+    (λ i. sent_first s end b m d ++ rest i) ∙ (λ i. first i ++ layout s end next (n + length (first i)) ds)
 
-pub lies_at : (s : Parameters) (b m n : ℕ) (ds : List DataSet) (bits : List Bool) → m % 8 ≡ n % 8 → Lies s b m ds bits → Lies s b n ds bits
+pub lies_at : (s : Parameters) (b m n : ℕ) (ds : List CodedDataSet) (bits : List Bool) → m % 8 ≡ n % 8 → Lies s b m ds bits → Lies s b n ds bits
 lies_at s b m n [] bits e h = h
 lies_at s b m n (d ∷ ds) bits e h =
-    let t = length (text s d) in
-    let p = ap (λ v. cond (is_padded s (block_behind s b d)) v 0) (same_to_byte (m + t) (n + t) (same_place_behind m n t e)) in
-    let k = length (text s d ++ h.0) in
-    (h.0, h.1, h.2 ∙ p, h.3, lies_at s (block_behind s b d) (m + k) (n + k) ds h.1 (same_place_behind m n k e) h.4)
+    let t = length (bits_of_set s d) in
+    let p = ap (λ v. cond (is_padded s (block_after s b d)) v 0) (same_to_byte (m + t) (n + t) (same_place_behind m n t e)) in
+    let k = length (bits_of_set s d ++ h.0) in
+    (h.0, h.1, h.2 ∙ p, h.3, lies_at s (block_after s b d) (m + k) (n + k) ds h.1 (same_place_behind m n k e) h.4)

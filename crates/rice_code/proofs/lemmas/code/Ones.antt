@@ -8,7 +8,7 @@ use Rattle.rice_bits.specs.Bits.{word, fundamental_sequence}
 use Rattle.rice_bits.proofs.lemmas.bits.OneWay.{digit_split}
 use Rattle.rice_samples.specs.Parameters.{Parameters, IsLegal, id_len}
 use Rattle.rice_samples.specs.blocks.Pairs.{pair_codes}
-use Rattle.rice_code.specs.code.CodedDataSets.{DataSet, NoCompression, SecondExtension, Split, ZeroBlocks, RemainderOfSegment, text, coded, reference_text, run_number}
+use Rattle.rice_code.specs.code.CodedDataSets.{CodedDataSet, NoCompression, SecondExtension, Split, ZeroBlocks, RemainderOfSegment, bits_of_set, sent_residuals, reference_bits, run_number}
 use Rattle.rice_code.specs.code.Forms.{IsForm}
 use Rattle.rice_code.proofs.lemmas.meaning.Covers.{bool_cases}
 use Rattle.rice_code.proofs.lemmas.code.ReadInOneWay.{wide_id}
@@ -38,13 +38,13 @@ sequence_has_one s front m =
     Contains-append_right (word (id_len s) 0) (false ∷ (front ++ fundamental_sequence m)) true
     (Contains-append_right (false ∷ []) (front ++ fundamental_sequence m) true (Contains-append_right front (fundamental_sequence m) true (Contains-push (replicate m false) true)))
 
-pub forms_have_a_one : (s : Parameters) (b : ℕ) (d : DataSet) → IsLegal s → IsForm s b d → Contains (text s d) true
-forms_have_a_one s b (NoCompression c) legal h = let w = wide_id s in small_word_has_one (id_len s) (2 ^ id_len s - 1) (omega arith) (omega arith) (reference_text s c.reference ++ flat_map (word s.bits) (coded c))
+pub forms_have_a_one : (s : Parameters) (b : ℕ) (d : CodedDataSet) → IsLegal s → IsForm s b d → Contains (bits_of_set s d) true
+forms_have_a_one s b (NoCompression c) legal h = let w = wide_id s in small_word_has_one (id_len s) (2 ^ id_len s - 1) (omega arith) (omega arith) (reference_bits s c.reference ++ flat_map (word s.bits) (sent_residuals c))
 forms_have_a_one s b (SecondExtension c) legal h =
-    Contains-append_right (word (id_len s) 0) (true ∷ (reference_text s c.reference ++ flat_map fundamental_sequence (pair_codes c.residuals))) true (0, omega arith, refl)
+    Contains-append_right (word (id_len s) 0) (true ∷ (reference_bits s c.reference ++ flat_map fundamental_sequence (pair_codes c.residuals))) true (0, omega arith, refl)
 forms_have_a_one s b (Split k c) legal h =
     let w = wide_id s in
     let le : k ≤ 2 ^ id_len s - 3 = h.2 in
-    small_word_has_one (id_len s) (k + 1) (omega arith) (omega arith) (reference_text s c.reference ++ (flat_map (λ d. fundamental_sequence (d / 2 ^ k)) (coded c) ++ flat_map (word k) (coded c)))
-forms_have_a_one s b (ZeroBlocks r z) legal h = sequence_has_one s (reference_text s r) (run_number z)
-forms_have_a_one s b (RemainderOfSegment r) legal h = sequence_has_one s (reference_text s r) 4
+    small_word_has_one (id_len s) (k + 1) (omega arith) (omega arith) (reference_bits s c.reference ++ (flat_map (λ d. fundamental_sequence (d / 2 ^ k)) (sent_residuals c) ++ flat_map (word k) (sent_residuals c)))
+forms_have_a_one s b (ZeroBlocks r z) legal h = sequence_has_one s (reference_bits s r) (run_number z)
+forms_have_a_one s b (RemainderOfSegment r) legal h = sequence_has_one s (reference_bits s r) 4

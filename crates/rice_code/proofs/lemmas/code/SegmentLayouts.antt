@@ -6,13 +6,13 @@ use Rattle.std.proofs.Math.Nat.{mod-lt, mod-eq_of_lt, mul-le-mul_left, mod_self}
 use Rattle.rice_bits.specs.Bits.{bits_to_byte}
 use Rattle.rice_samples.specs.Parameters.{Parameters, IsLegal}
 use Rattle.rice_samples.specs.Places.{place, blocks_left, is_padded}
-use Rattle.rice_code.specs.code.Blocks.{Contents, zeros}
+use Rattle.rice_code.specs.code.Blocks.{BlockData, zero_block}
 use Rattle.rice_code.specs.code.Code.{data_sets}
-use Rattle.rice_code.specs.code.CodedDataSets.{DataSet, text, joined}
+use Rattle.rice_code.specs.code.CodedDataSets.{CodedDataSet, bits_of_set, bits_of_sets}
 use Rattle.rice_code.specs.code.Decoded.{AreTaken}
 use Rattle.rice_code.specs.code.Forms.{blocks_in_all}
-use Rattle.rice_code.specs.encode.HeldBlocks.{AreSoundBlocks}
-use Rattle.rice_code.specs.code.Layout.{block_behind, padding, placed, laid}
+use Rattle.rice_code.specs.code.SoundBlocks.{AreSoundBlocks}
+use Rattle.rice_code.specs.code.Layout.{block_after, padding, bits_with_padding, layout}
 use Rattle.rice_code.proofs.lemmas.meaning.Covers.{covers}
 use Rattle.rice_code.proofs.lemmas.code.Layouts.{BeginBefore, ends_inside, sent_first, some_block}
 use Rattle.rice_code.proofs.lemmas.cost.PaddingBounds.{are_blocks}
@@ -20,47 +20,47 @@ use Rattle.rice_code.proofs.lemmas.code.SegmentPlaces.{none_padded}
 use Rattle.rice_code.proofs.lemmas.meaning.SentSets.{are_taken, begin_before}
 
 -- only the last can be padded, since the others end inside
-laid_to_end : (s : Parameters) (end b position : ℕ) (d : DataSet) (ds : List DataSet) → ((m : ℕ) → b < m → m < end → is_padded s m ≡ false) → BeginBefore s end b (d ∷ ds) → end ≤ b + length (blocks_in_all s b (d ∷ ds)) →
-    laid s end b position (d ∷ ds) ≡ joined s (d ∷ ds) ++ replicate (padding s end (position + length (joined s (d ∷ ds)))) false
+laid_to_end : (s : Parameters) (end b position : ℕ) (d : CodedDataSet) (ds : List CodedDataSet) → ((m : ℕ) → b < m → m < end → is_padded s m ≡ false) → BeginBefore s end b (d ∷ ds) → end ≤ b + length (blocks_in_all s b (d ∷ ds)) →
+    layout s end b position (d ∷ ds) ≡ bits_of_sets s (d ∷ ds) ++ replicate (padding s end (position + length (bits_of_sets s (d ∷ ds)))) false
 laid_to_end s end b position d [] none h le =
-    let next = block_behind s b d in
-    let t = text s d in
+    let next = block_after s b d in
+    let t = bits_of_set s d in
     let whole = ends_inside s b d [] in
     let e : min end next ≡ end = omega arith in
     append-nil (sent_first s end b position d)
     ∙ (ap (λ m. t ++ replicate (padding s m (position + length t)) false) e ∙ ap (λ v. v ++ replicate (padding s end (position + length v)) false) (sym (append-nil t)))
 laid_to_end s end b position d (c ∷ ds) none h le =
-    let next = block_behind s b d in
-    let t = text s d in
-    let more = joined s (c ∷ ds) in
+    let next = block_after s b d in
+    let t = bits_of_set s d in
+    let more = bits_of_sets s (c ∷ ds) in
     let whole = ends_inside s b d (c ∷ ds) in
     let some = some_block s b d in
     let before : next < end = h.1.0 in
     let e : min end next ≡ next = omega arith in
     let nothing : padding s next (position + length t) ≡ 0 = ap (λ v. cond v (bits_to_byte (position + length t)) 0) (none next (omega arith) before) in
-    let first : sent_first s end b position d ≡ t = ap (λ m. placed s m position d) e ∙ (ap (λ k. t ++ replicate k false) nothing ∙ append-nil t) in
+    let first : sent_first s end b position d ≡ t = ap (λ m. bits_with_padding s m position d) e ∙ (ap (λ k. t ++ replicate k false) nothing ∙ append-nil t) in
     let ih = laid_to_end s end next (position + length t) c ds (λ m p q. none m (omega arith) q) h.1 (omega arith) in
     let n : position + length t + length more ≡ position + length (t ++ more) = omega (arith, length-append t more) in
-    (λ i. first i ++ laid s end next (position + length (first i)) (c ∷ ds))
+    (λ i. first i ++ layout s end next (position + length (first i)) (c ∷ ds))
     ∙ (ap (λ v. t ++ v) ih ∙ (sym (append_assoc t more (replicate (padding s end (position + length t + length more)) false)) ∙ ap (λ m. (t ++ more) ++ replicate (padding s end m) false) n))
 
 -- the same, where there are blocks
-laid_some : (s : Parameters) (end b position : ℕ) (ds : List DataSet) → b < end → ((m : ℕ) → b < m → m < end → is_padded s m ≡ false) → BeginBefore s end b ds → end ≤ b + length (blocks_in_all s b ds) →
-    laid s end b position ds ≡ joined s ds ++ replicate (padding s end (position + length (joined s ds))) false
+laid_some : (s : Parameters) (end b position : ℕ) (ds : List CodedDataSet) → b < end → ((m : ℕ) → b < m → m < end → is_padded s m ≡ false) → BeginBefore s end b ds → end ≤ b + length (blocks_in_all s b ds) →
+    layout s end b position ds ≡ bits_of_sets s ds ++ replicate (padding s end (position + length (bits_of_sets s ds))) false
 laid_some s end b position [] lt none h le = absurd (omega arith)
 laid_some s end b position (d ∷ ds) lt none h le = laid_to_end s end b position d ds none h le
 
 -- the blocks of a segment up to its end, or to the last of all blocks
-pub laid_segment : (s : Parameters) (start position : ℕ) (cs : List Contents) → IsLegal s → AreSoundBlocks s start cs → 1 ≤ length cs → length cs ≤ blocks_left s start →
-    laid s (start + length cs) start position (data_sets s start false cs) ≡ joined s (data_sets s start false cs) ++ replicate (padding s (start + length cs) (position + length (joined s (data_sets s start false cs)))) false
+pub laid_segment : (s : Parameters) (start position : ℕ) (cs : List BlockData) → IsLegal s → AreSoundBlocks s start cs → 1 ≤ length cs → length cs ≤ blocks_left s start →
+    layout s (start + length cs) start position (data_sets s start false cs) ≡ bits_of_sets s (data_sets s start false cs) ++ replicate (padding s (start + length cs) (position + length (bits_of_sets s (data_sets s start false cs)))) false
 laid_segment s start position cs legal sound some few =
     let end = start + length cs in
     let ds = data_sets s start false cs in
     let j : 1 ≤ s.block = grind (arith, legal.block) in
     let cover = covers s start false cs legal.interval_from (are_blocks s start cs sound) in
     let here : start + 0 ≡ start = omega arith in
-    let all : length (blocks_in_all s (start + 0) ds) ≡ length (cs ++ replicate cover.fill (zeros s None)) = ap length cover.blocks in
-    let reach : end ≤ start + length (blocks_in_all s start ds) = omega (arith, ap (λ m. length (blocks_in_all s m ds)) here, all, length-append cs (replicate cover.fill (zeros s None))) in
+    let all : length (blocks_in_all s (start + 0) ds) ≡ length (cs ++ replicate cover.fill (zero_block s None)) = ap length cover.blocks in
+    let reach : end ≤ start + length (blocks_in_all s start ds) = omega (arith, ap (λ m. length (blocks_in_all s m ds)) here, all, length-append cs (replicate cover.fill (zero_block s None))) in
     let taken = are_taken s (Some (s.block * end)) start false cs legal.interval_from sound (λ i lt. let m : s.block * suc i ≤ s.block * end = mul-le-mul_left s.block (omega arith) in less s.block i _ j m) in
     let begin = begin_before s end start ds (subst (λ m. AreTaken s (Some (s.block * end)) m ds) here taken) in
     let inside = λ (m : ℕ) (p : start < m) (q : m < end).
@@ -95,8 +95,8 @@ inside_interval s start count lt at few =
     omega (arith, e)
 
 -- the code of blocks of a segment: their texts, and zeros up to a byte where they end an interval and intervals are padded
-pub code_lies : (s : Parameters) (start position count : ℕ) (cs : List Contents) → length cs ≡ count → IsLegal s → place s start ≡ start → AreSoundBlocks s start cs → count ≤ blocks_left s start →
-    joined s (data_sets s start false cs) ++ replicate (cond (s.pad && start + count == s.interval) (bits_to_byte (position + length (joined s (data_sets s start false cs)))) 0) false ≡ laid s (start + count) start position (data_sets s start false cs)
+pub code_lies : (s : Parameters) (start position count : ℕ) (cs : List BlockData) → length cs ≡ count → IsLegal s → place s start ≡ start → AreSoundBlocks s start cs → count ≤ blocks_left s start →
+    bits_of_sets s (data_sets s start false cs) ++ replicate (cond (s.pad && start + count == s.interval) (bits_to_byte (position + length (bits_of_sets s (data_sets s start false cs)))) 0) false ≡ layout s (start + count) start position (data_sets s start false cs)
 code_lies s start position count [] e legal at sound few =
     let lt : start < s.interval = omega (arith, at, mod-lt start legal.interval_from) in
     ap (λ v. replicate (cond (s.pad && v) (bits_to_byte (position + 0)) 0) false) (no (start + count) s.interval (omega (arith, e))) ∙ ap (λ v. replicate (cond v (bits_to_byte (position + 0)) 0) false) (none s.pad)
@@ -109,8 +109,8 @@ code_lies s start position count [] e legal at sound few =
     none false = refl
 code_lies s start position count (c ∷ cs) e legal at sound few =
     let ds = data_sets s start false (c ∷ cs) in
-    let bits = position + length (joined s ds) in
+    let bits = position + length (bits_of_sets s ds) in
     let lt : start < s.interval = omega (arith, at, mod-lt start legal.interval_from) in
     let l = laid_segment s start position (c ∷ cs) legal sound (omega arith) (omega arith) in
     let same = padded_at_end s start count bits lt (omega arith) (inside_interval s start count lt at few) in
-    sym (sym (ap (λ n. laid s (start + n) start position ds) e) ∙ (l ∙ (ap (λ n. joined s ds ++ replicate (padding s (start + n) bits) false) e ∙ ap (λ n. joined s ds ++ replicate n false) same)))
+    sym (sym (ap (λ n. layout s (start + n) start position ds) e) ∙ (l ∙ (ap (λ n. bits_of_sets s ds ++ replicate (padding s (start + n) bits) false) e ∙ ap (λ n. bits_of_sets s ds ++ replicate n false) same)))

@@ -7,7 +7,7 @@ use Rattle.std.proofs.lemmas.List.{take-append-le}
 use Rattle.rice_samples.specs.Parameters.{Parameters}
 use Rattle.rice_samples.specs.Places.{begins_segment, blocks_left}
 use Rattle.rice_samples.proofs.lemmas.setting.PlaceLemmas.{one_less_left, last_of_segment}
-use Rattle.rice_code.specs.code.Blocks.{Contents, is_zero}
+use Rattle.rice_code.specs.code.Blocks.{BlockData, is_zero_block}
 use Rattle.rice_code.specs.code.CodedDataSets.{ZeroBlocks, RemainderOfSegment}
 use Rattle.rice_code.specs.code.Choice.{shortest}
 use Rattle.rice_code.specs.code.Code.{data_sets, data_set_at}
@@ -31,35 +31,35 @@ same_kind : (z left len len' : ℕ) → z ≤ left → left ≤ len → left ≤
 same_kind z left len len' h k l =
     elim (cases_lt z left) [ inl lt ↦ grind (arith, nat_tests) | inr le ↦ grind (arith, nat_tests) ]
 
-same_run : (s : Parameters) (b : ℕ) (r : Option ℕ) (cs ds : List Contents) → blocks_left s b ≤ length cs → zero_run s b r (cs ++ ds) ≡ zero_run s b r cs
+same_run : (s : Parameters) (b : ℕ) (r : Option ℕ) (cs ds : List BlockData) → blocks_left s b ≤ length cs → zero_run s b r (cs ++ ds) ≡ zero_run s b r cs
 same_run s b r cs ds h =
     let z = run_len s b cs in
     let run = λ (v : Bool) (z : ℕ). cond (nat_le 5 z && v) (RemainderOfSegment r) (ZeroBlocks r z) in
-    let len : run_len s b (cs ++ ds) ≡ z = ap (λ (l : List Contents). prefix_len is_zero l) (take-append-le (blocks_left s b) cs ds h) in
+    let len : run_len s b (cs ++ ds) ≡ z = ap (λ (l : List BlockData). prefix_len is_zero_block l) (take-append-le (blocks_left s b) cs ds h) in
     ap (λ z. run (z == blocks_left s b || z == length (cs ++ ds)) z) len
     ∙ ap (λ v. run v z) (same_kind z (blocks_left s b) (length (cs ++ ds)) (length cs) (run_inside s b cs) (omega (arith, length-append cs ds)) h)
 
 -- at the head of a segment it makes no difference what stood before it
-pub head_of_segment : (s : Parameters) (b : ℕ) (v w : Bool) (cs : List Contents) → begins_segment s b ≡ true → data_sets s b v cs ≡ data_sets s b w cs
+pub head_of_segment : (s : Parameters) (b : ℕ) (v w : Bool) (cs : List BlockData) → begins_segment s b ≡ true → data_sets s b v cs ≡ data_sets s b w cs
 head_of_segment s b v w [] e = refl
 head_of_segment s b v w (c ∷ cs) e =
     let run = zero_run s b c.reference (c ∷ cs) ∷ [] in
-    ap (λ x. cond (is_zero c) (cond x [] run) (shortest s c ∷ []) ++ data_sets s (b + 1) (is_zero c) cs) (no v ∙ sym (no w))
+    ap (λ x. cond (is_zero_block c) (cond x [] run) (shortest s c ∷ []) ++ data_sets s (b + 1) (is_zero_block c) cs) (no v ∙ sym (no w))
   where
     no : (v : Bool) → (v && not (begins_segment s b)) ≡ false
     no true = ap not e
     no false = refl
 
 -- the coded data sets of whole segments, and of what follows
-pub segments : (s : Parameters) (b : ℕ) (v w : Bool) (cs ds : List Contents) → 1 ≤ s.interval → begins_segment s (b + length cs) ≡ true →
+pub segments : (s : Parameters) (b : ℕ) (v w : Bool) (cs ds : List BlockData) → 1 ≤ s.interval → begins_segment s (b + length cs) ≡ true →
     data_sets s b v (cs ++ ds) ≡ data_sets s b v cs ++ data_sets s (b + length cs) w ds
 segments s b v w [] ds h e =
     let n : b + 0 ≡ b = omega arith in
     ap (λ m. data_sets s m v ds) (sym n) ∙ head_of_segment s (b + 0) v w ds e
 segments s b v w (c ∷ cs) ds h e =
     let n : b + suc (length cs) ≡ b + 1 + length cs = omega arith in
-    let rest = segments s (b + 1) (is_zero c) w cs ds h (ap (λ m. begins_segment s m) (sym n) ∙ e) in
+    let rest = segments s (b + 1) (is_zero_block c) w cs ds h (ap (λ m. begins_segment s m) (sym n) ∙ e) in
     let first : data_set_at s b v c (cs ++ ds) ≡ data_set_at s b v c cs =
-    ap (λ run. cond (is_zero c) (cond (v && not (begins_segment s b)) [] (run ∷ [])) (shortest s c ∷ [])) (same_run s b c.reference (c ∷ cs) ds (ends_before s b (length cs) h e)) in
-    (λ i. first i ++ rest i) ∙ (sym (append_assoc (data_set_at s b v c cs) (data_sets s (b + 1) (is_zero c) cs) (data_sets s (b + 1 + length cs) w ds))
+    ap (λ run. cond (is_zero_block c) (cond (v && not (begins_segment s b)) [] (run ∷ [])) (shortest s c ∷ [])) (same_run s b c.reference (c ∷ cs) ds (ends_before s b (length cs) h e)) in
+    (λ i. first i ++ rest i) ∙ (sym (append_assoc (data_set_at s b v c cs) (data_sets s (b + 1) (is_zero_block c) cs) (data_sets s (b + 1 + length cs) w ds))
     ∙ ap (λ m. data_sets s b v (c ∷ cs) ++ data_sets s m w ds) (sym n))

@@ -8,15 +8,15 @@ use Rattle.std.proofs.lemmas.List.{length-take, length-drop, length-replicate}
 use Rattle.std.proofs.lemmas.List.Elements.{recursion_from_All, All-from_recursion}
 use Rattle.std.proofs.Math.Nat.{div-add-mod, mod-lt, mod-eq_of_lt, mod_self}
 use Rattle.rice_samples.specs.Parameters.{Parameters, IsLegal, IsSample, value_count}
-use Rattle.rice_samples.specs.Places.{has_reference, block_count}
-use Rattle.rice_samples.specs.predict.Residuals.{pattern, residuals, last_of, filled}
+use Rattle.rice_samples.specs.Places.{is_reference, block_count}
+use Rattle.rice_samples.specs.predict.Residuals.{pattern, residuals, last_of, filled_samples}
 use Rattle.rice_samples.proofs.lemmas.setting.Levels.{pattern_fits}
 use Rattle.rice_samples.proofs.lemmas.predict.ResidualLemmas.{length-residuals, residuals_fit, zero_at_reference}
-use Rattle.rice_code.specs.code.Blocks.{contents, blocks_from, blocks_behind}
-use Rattle.rice_code.specs.code.Code.{bits_behind}
+use Rattle.rice_code.specs.code.Blocks.{block_data, blocks_from, blocks_of}
+use Rattle.rice_code.specs.code.Code.{bits_from}
 use Rattle.rice_code.specs.Bounds.{bit_bound}
 use Rattle.rice_code.specs.code.Forms.{IsReference}
-use Rattle.rice_code.specs.encode.HeldBlocks.{IsSoundBlock, AreSoundBlocks}
+use Rattle.rice_code.specs.code.SoundBlocks.{IsSoundBlock, AreSoundBlocks}
 use Rattle.rice_code.proofs.lemmas.cost.BlockBounds.{bounded}
 
 abbrev Samples : Parameters → List ℤ → Type 0
@@ -44,19 +44,19 @@ pub last_legal : (s : Parameters) (p : ℤ) (xs : List ℤ) → IsSample s p →
 last_legal s p [] h k = h
 last_legal s p (x ∷ xs) h k = last_legal s x xs k.0 k.1
 
-is_reference : (s : Parameters) (b : ℕ) (h : Bool) (v : ℕ) → v < value_count s → h ≡ has_reference s b → IsReference s b (cond h (Some v) None)
-is_reference s b true v lt e = record { there = e; fits = lt }
-is_reference s b false v lt e = record { there = e; fits = tt }
+reference_fits : (s : Parameters) (b : ℕ) (h : Bool) (v : ℕ) → v < value_count s → h ≡ is_reference s b → IsReference s b (cond h (Some v) None)
+reference_fits s b true v lt e = record { there = e; fits = lt }
+reference_fits s b false v lt e = record { there = e; fits = tt }
 
-contents_sound : (s : Parameters) (b : ℕ) (p : ℤ) (xs : List ℤ) → IsLegal s → 1 ≤ s.block → IsSample s p → Samples s xs → length xs ≡ s.block → IsSoundBlock s b (contents s b p xs)
+contents_sound : (s : Parameters) (b : ℕ) (p : ℤ) (xs : List ℤ) → IsLegal s → 1 ≤ s.block → IsSample s p → Samples s xs → length xs ≡ s.block → IsSoundBlock s b (block_data s b p xs)
 contents_sound s b p [] legal j h k n = absurd (omega arith)
 contents_sound s b p (x ∷ xs) legal j h k n = record {
-  block = record { reference = is_reference s b (has_reference s b) (pattern s x) (pattern_fits s x legal.bits_from k.0) refl; len = length-residuals s (s.block * b) p (x ∷ xs) ∙ n };
-  at_reference = zero_there (has_reference s b) refl;
+  block = record { reference = reference_fits s b (is_reference s b) (pattern s x) (pattern_fits s x legal.bits_from k.0) refl; len = length-residuals s (s.block * b) p (x ∷ xs) ∙ n };
+  at_reference = zero_there (is_reference s b) refl;
   fit = All-from_recursion (λ d. d < value_count s) (residuals s (s.block * b) p (x ∷ xs)) (residuals_fit s (s.block * b) p (x ∷ xs) legal.bits_from h k);
 }
   where
-    zero_there : (v : Bool) → has_reference s b ≡ v → OnSome (cond v (Some (pattern s x)) None) (slice_index (residuals s (s.block * b) p (x ∷ xs)) 0 ≡ 0)
+    zero_there : (v : Bool) → is_reference s b ≡ v → OnSome (cond v (Some (pattern s x)) None) (slice_index (residuals s (s.block * b) p (x ∷ xs)) 0 ≡ 0)
     zero_there true e = zero_at_reference s b p (x ∷ xs) j e
     zero_there false e = tt
 
@@ -86,18 +86,18 @@ whole j n h =
     rest_below : (j n : ℕ) → 1 ≤ j → 0 < n % j → j - n % j < j
     rest_below j n h k = omega arith
 
-pub filled_len : (s : Parameters) (p : ℤ) (xs : List ℤ) → 1 ≤ s.block → length (filled s p xs) ≡ s.block * block_count s (length xs)
+pub filled_len : (s : Parameters) (p : ℤ) (xs : List ℤ) → 1 ≤ s.block → length (filled_samples s p xs) ≡ s.block * block_count s (length xs)
 filled_len s p xs j = length-append xs _ ∙ (ap (λ n. length xs + n) (length-replicate (next_multiple_of (length xs) s.block - length xs) (last_of p xs)) ∙ whole s.block (length xs) j)
 
-pub blocks_sound_behind : (s : Parameters) (b : ℕ) (p : ℤ) (xs : List ℤ) → IsLegal s → 1 ≤ s.block → IsSample s p → Samples s xs → AreSoundBlocks s b (blocks_behind s b p xs)
+pub blocks_sound_behind : (s : Parameters) (b : ℕ) (p : ℤ) (xs : List ℤ) → IsLegal s → 1 ≤ s.block → IsSample s p → Samples s xs → AreSoundBlocks s b (blocks_of s b p xs)
 blocks_sound_behind s b p xs legal j h k =
-    blocks_sound s b p (block_count s (length xs)) (filled s p xs) legal j h (all_append (IsSample s) xs _ k (all_replicate (IsSample s) _ (last_of p xs) (last_legal s p xs h k))) (filled_len s p xs j)
+    blocks_sound s b p (block_count s (length xs)) (filled_samples s p xs) legal j h (all_append (IsSample s) xs _ k (all_replicate (IsSample s) _ (last_of p xs) (last_legal s p xs h k))) (filled_len s p xs j)
 
-pub code_is_bounded : (s : Parameters) → IsLegal s → (b : ℕ) (p : ℤ) (xs : List ℤ) → IsSample s p → All (IsSample s) xs → bits_behind s b p xs ≤ bit_bound s (length xs)
+pub code_is_bounded : (s : Parameters) → IsLegal s → (b : ℕ) (p : ℤ) (xs : List ℤ) → IsSample s p → All (IsSample s) xs → bits_from s b p xs ≤ bit_bound s (length xs)
 code_is_bounded s legal b p xs h k =
     let j : 1 ≤ s.block = grind (arith, legal.block) in
-    let bound = bounded s b false (blocks_behind s b p xs) legal (blocks_sound_behind s b p xs legal j h (recursion_from_All (IsSample s) xs k)) in
-    let n = count_blocks s b p (block_count s (length xs)) (filled s p xs) in
+    let bound = bounded s b false (blocks_of s b p xs) legal (blocks_sound_behind s b p xs legal j h (recursion_from_All (IsSample s) xs k)) in
+    let n = count_blocks s b p (block_count s (length xs)) (filled_samples s p xs) in
     at _ _ _ _ bound n
   where
     at : (x len count m : ℕ) → x + 0 * m ≤ len * m → len ≡ count → x ≤ count * m

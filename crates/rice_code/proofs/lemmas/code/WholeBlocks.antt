@@ -4,10 +4,10 @@ use Rattle.std.specs.Int.{next_multiple_of}
 use Rattle.std.proofs.Math.Nat.{mul-mod_right, mul-div_cancel_left, mod_self}
 use Rattle.rice_samples.specs.Parameters.{Parameters}
 use Rattle.rice_samples.specs.Places.{block_count}
-use Rattle.rice_samples.specs.predict.Residuals.{last_of, filled}
+use Rattle.rice_samples.specs.predict.Residuals.{last_of, filled_samples}
 
 -- whole blocks are not filled
-pub not_filled : (s : Parameters) (q : ℕ) (p : ℤ) (xs : List ℤ) → 1 ≤ s.block → length xs ≡ s.block * q → (filled s p xs ≡ xs) × (block_count s (length xs) ≡ q)
+pub not_filled : (s : Parameters) (q : ℕ) (p : ℤ) (xs : List ℤ) → 1 ≤ s.block → length xs ≡ s.block * q → (filled_samples s p xs ≡ xs) × (block_count s (length xs) ≡ q)
 not_filled s q p xs h e =
     let j = s.block in
     let r : length xs % j ≡ 0 = ap (λ n. n % j) e ∙ mul-mod_right j q in

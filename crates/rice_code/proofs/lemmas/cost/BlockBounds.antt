@@ -7,18 +7,18 @@ use Rattle.std.proofs.lemmas.List.Sums.{sum_by-cons}
 use Rattle.std.proofs.Math.Nat.{mul-le-mul_left, mul-le-mul_right}
 use Rattle.rice_samples.specs.Parameters.{Parameters, IsLegal, id_len, k_max}
 use Rattle.rice_samples.specs.Places.{begins_segment}
-use Rattle.rice_code.specs.code.Blocks.{Contents, is_zero}
-use Rattle.rice_code.specs.code.CodedDataSets.{DataSet, NoCompression, Split, ZeroBlocks, RemainderOfSegment, text, cost, reference_len, run_number}
+use Rattle.rice_code.specs.code.Blocks.{BlockData, is_zero_block}
+use Rattle.rice_code.specs.code.CodedDataSets.{CodedDataSet, NoCompression, Split, ZeroBlocks, RemainderOfSegment, bits_of_set, cost, reference_len, run_number}
 use Rattle.rice_code.specs.code.Forms.{IsForm, IsReference}
 use Rattle.rice_code.specs.code.Choice.{shortest, other_options}
-use Rattle.rice_code.specs.encode.HeldBlocks.{IsSoundBlock, AreSoundBlocks}
+use Rattle.rice_code.specs.code.SoundBlocks.{IsSoundBlock, AreSoundBlocks}
 use Rattle.rice_code.specs.code.Code.{data_sets}
 use Rattle.rice_code.specs.code.Runs.{zero_run, run_len}
 use Rattle.rice_code.proofs.lemmas.meaning.Covers.{bool_cases, skipped, data_sets_plain, data_sets_start, data_sets_inside, skipped_nil, skipped_plain, skipped_go, skipped_stop, zero_run_is, best_keeps, run_cons}
 use Rattle.rice_code.proofs.lemmas.cost.Costs.{cost_is_length}
 
 -- one that costs no more than the first wins
-best_costs : (f : DataSet → ℕ) (a : DataSet) (xs : List DataSet) → f (best_of (λ x y. nat_lt (f x) (f y)) a xs) ≤ f a
+best_costs : (f : CodedDataSet → ℕ) (a : CodedDataSet) (xs : List CodedDataSet) → f (best_of (λ x y. nat_lt (f x) (f y)) a xs) ≤ f a
 best_costs f a [] = omega arith
 best_costs f a (x ∷ xs) =
     elim (bool_cases (nat_lt (f x) (f a))) [
@@ -30,7 +30,7 @@ best_costs f a (x ∷ xs) =
     below m n e = grind (arith, nat_tests)
 
 -- the option that is chosen is a form
-pub shortest_is_form : (s : Parameters) (b : ℕ) (c : Contents) → IsSoundBlock s b c → IsForm s b (shortest s c)
+pub shortest_is_form : (s : Parameters) (b : ℕ) (c : BlockData) → IsSoundBlock s b c → IsForm s b (shortest s c)
 shortest_is_form s b c h =
     best_keeps (IsForm s b) (λ x y. nat_lt (cost s x) (cost s y)) (NoCompression c) (other_options s c) (h.block, h.at_reference, h.fit) (h.block, splits 0 (k_max s + 1) (omega arith))
   where
@@ -42,7 +42,7 @@ shortest_is_form s b c h =
 abbrev pub block_bits : Parameters → ℕ
 block_bits s = id_len s + s.block * s.bits
 
-pub shortest_bound : (s : Parameters) (b : ℕ) (c : Contents) → 1 ≤ s.block → IsSoundBlock s b c → length (text s (shortest s c)) ≤ block_bits s
+pub shortest_bound : (s : Parameters) (b : ℕ) (c : BlockData) → 1 ≤ s.block → IsSoundBlock s b c → length (bits_of_set s (shortest s c)) ≤ block_bits s
 shortest_bound s b c j h =
     let e = cost_is_length s b (shortest s c) j (shortest_is_form s b c h) in
     let f = best_costs (cost s) (NoCompression c) (other_options s c) in
@@ -66,7 +66,7 @@ reference_bound s (Some v) = omega arith
 number_bound : (w : ℕ) → (run_number (suc w) ≤ w + 5) × (w ≡ 0 → run_number (suc w) ≡ 0)
 number_bound w = (grind (arith, nat_tests), λ e. ap (λ v. run_number (suc v)) e)
 
-pub run_bound : (s : Parameters) (b w : ℕ) (r : Option ℕ) (cs : List Contents) → IsLegal s → IsReference s b r → run_len s b cs ≡ suc w → length (text s (zero_run s b r cs)) ≤ suc w * block_bits s
+pub run_bound : (s : Parameters) (b w : ℕ) (r : Option ℕ) (cs : List BlockData) → IsLegal s → IsReference s b r → run_len s b cs ≡ suc w → length (bits_of_set s (zero_run s b r cs)) ≤ suc w * block_bits s
 run_bound s b w r cs legal h e =
     let j : 8 ≤ s.block = grind (arith, legal.block) in
     let i : 3 ≤ id_len s = grind (arith, nat_tests) in
@@ -77,31 +77,31 @@ run_bound s b w r cs legal h e =
           let number = number_bound w in
           let c = run_cost (id_len s) s.block s.bits w (run_number (suc w)) j legal.bits_from i number.0 number.1 in
           let len = cost_is_length s b (ZeroBlocks r (suc w)) j' (h, omega arith) in
-          subst (λ (d : DataSet). length (text s d) ≤ suc w * block_bits s) (sym (f ∙ ap (λ z. ZeroBlocks r z) e)) (omega arith)
+          subst (λ (d : CodedDataSet). length (bits_of_set s d) ≤ suc w * block_bits s) (sym (f ∙ ap (λ z. ZeroBlocks r z) e)) (omega arith)
       | inr f ↦
           let z : 5 ≤ suc w = omega (arith, f.2) in
           let c = run_cost (id_len s) s.block s.bits w 4 j legal.bits_from i (omega arith) (λ e. absurd (omega arith)) in
           let len = cost_is_length s b (RemainderOfSegment r) j' h in
-          subst (λ (d : DataSet). length (text s d) ≤ suc w * block_bits s) (sym f.0) (omega arith)
+          subst (λ (d : CodedDataSet). length (bits_of_set s d) ≤ suc w * block_bits s) (sym f.0) (omega arith)
     ]
 
 -- the bits of coded data sets without padding
-abbrev pub text_bits : Parameters → List DataSet → ℕ
-text_bits s ds = sum_by (λ d. length (text s d)) ds
+abbrev pub text_bits : Parameters → List CodedDataSet → ℕ
+text_bits s ds = sum_by (λ d. length (bits_of_set s d)) ds
 
-text_bits_cons : (s : Parameters) (d : DataSet) (ds : List DataSet) → text_bits s (d ∷ ds) ≡ length (text s d) + text_bits s ds
-text_bits_cons s d ds = sum_by-cons (λ d. length (text s d)) d ds
+text_bits_cons : (s : Parameters) (d : CodedDataSet) (ds : List CodedDataSet) → text_bits s (d ∷ ds) ≡ length (bits_of_set s d) + text_bits s ds
+text_bits_cons s d ds = sum_by-cons (λ d. length (bits_of_set s d)) d ds
 
 -- the code of blocks, where those that are skipped have been paid for
-pub bounded : (s : Parameters) (b : ℕ) (behind : Bool) (cs : List Contents) → IsLegal s → AreSoundBlocks s b cs →
+pub bounded : (s : Parameters) (b : ℕ) (behind : Bool) (cs : List BlockData) → IsLegal s → AreSoundBlocks s b cs →
     text_bits s (data_sets s b behind cs) + skipped s b behind cs * block_bits s ≤ length cs * block_bits s
 bounded s b behind [] legal k = let e = skipped_nil s b behind in let f = ap (λ n. n * block_bits s) e in omega arith
 bounded s b behind (c ∷ cs) legal k =
     let m = block_bits s in
-    let at = λ (n : ℕ) (ds : List DataSet) (e : skipped s b behind (c ∷ cs) ≡ n) (f : data_sets s b behind (c ∷ cs) ≡ ds) (g : text_bits s ds + n * m ≤ suc (length cs) * m).
+    let at = λ (n : ℕ) (ds : List CodedDataSet) (e : skipped s b behind (c ∷ cs) ≡ n) (f : data_sets s b behind (c ∷ cs) ≡ ds) (g : text_bits s ds + n * m ≤ suc (length cs) * m).
     let p = ap (λ n. n * m) e in let q = ap (λ ds. text_bits s ds) f in goal_from _ _ _ _ _ p q g in
     let j : 1 ≤ s.block = grind (arith, legal.block) in
-    elim (bool_cases (is_zero c)) [
+    elim (bool_cases (is_zero_block c)) [
       | inr z ↦
           let ih = bounded s (b + 1) false cs legal k.1 in
           let rest = data_sets s (b + 1) false cs in

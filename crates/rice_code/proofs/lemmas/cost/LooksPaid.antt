@@ -8,14 +8,14 @@ use Rattle.std.proofs.lemmas.List.Elements.{recursion_from_All}
 use Rattle.std.proofs.Math.Nat.{mul-le-mul_left, div-eq_of_lt}
 use Rattle.rice_samples.specs.Parameters.{Parameters, IsLegal, IsSample, id_len, k_max}
 use Rattle.rice_samples.specs.Places.{begins_segment, block_count}
-use Rattle.rice_samples.specs.predict.Residuals.{last_of, filled}
+use Rattle.rice_samples.specs.predict.Residuals.{last_of, filled_samples}
 use Rattle.rice_samples.proofs.lemmas.setting.Levels.{zero_is_sample}
 use Rattle.rice_samples.specs.blocks.Pairs.{pair_code, pair_codes}
-use Rattle.rice_code.specs.code.Blocks.{Contents, blocks_behind, is_zero}
+use Rattle.rice_code.specs.code.Blocks.{BlockData, blocks_of, is_zero_block}
 use Rattle.rice_code.specs.Bounds.{step_bound, amortised_step_bound}
-use Rattle.rice_code.specs.code.CodedDataSets.{DataSet, NoCompression, SecondExtension, Split, text, cost, coded, coded_from, reference_len}
-use Rattle.rice_code.specs.code.Code.{data_sets, data_set_at, bits_behind, code_bits}
-use Rattle.rice_code.specs.encode.HeldBlocks.{IsSound, AreSoundBlocks}
+use Rattle.rice_code.specs.code.CodedDataSets.{CodedDataSet, NoCompression, SecondExtension, Split, bits_of_set, cost, sent_residuals, sent_from, reference_len}
+use Rattle.rice_code.specs.code.Code.{data_sets, data_set_at, bits_from, code_bits}
+use Rattle.rice_code.specs.code.SoundBlocks.{IsSoundData, AreSoundBlocks}
 use Rattle.rice_code.specs.Steps.{most_looks, most_looks_at, most_steps}
 use Rattle.rice_code.proofs.lemmas.meaning.Covers.{best_keeps, bool_cases, data_sets_plain}
 use Rattle.rice_code.specs.code.Choice.{IsBestSplit, best_split, shortest, other_options}
@@ -34,35 +34,35 @@ none_above n (d ∷ ds) h =
     let b : d / 2 ^ n ≡ 0 = div-eq_of_lt h.0 in
     omega (arith, a, b, none_above n ds h.1)
 
-coded_fit : (n : ℕ) (r : Option ℕ) (ds : List ℕ) → AllByRecursion (λ d. d < 2 ^ n) ds → AllByRecursion (λ d. d < 2 ^ n) (coded_from r ds)
+coded_fit : (n : ℕ) (r : Option ℕ) (ds : List ℕ) → AllByRecursion (λ d. d < 2 ^ n) ds → AllByRecursion (λ d. d < 2 ^ n) (sent_from r ds)
 coded_fit n None ds h = h
 coded_fit n (Some v) [] h = tt
 coded_fit n (Some v) (d ∷ ds) h = h.1
 
 -- the best split is at most n
-pub best_within : (s : Parameters) (c : Contents) (k : ℕ) → IsSound s c → IsBestSplit s c k → k ≤ s.bits
+pub best_within : (s : Parameters) (c : BlockData) (k : ℕ) → IsSoundData s c → IsBestSplit s c k → k ≤ s.bits
 best_within s c k h b =
     elim (cases_lt s.bits k) [
       | inr le ↦ le
       | inl lt ↦
-          let z = none_above s.bits (coded c) (coded_fit s.bits c.reference c.residuals (recursion_from_All (λ d. d < 2 ^ s.bits) c.residuals h.fit)) in
+          let z = none_above s.bits (sent_residuals c) (coded_fit s.bits c.reference c.residuals (recursion_from_All (λ d. d < 2 ^ s.bits) c.residuals h.fit)) in
           let f = b.first s.bits lt in
-          let m : length (coded c) * (s.bits + 1) ≤ length (coded c) * (k + 1) = mul-le-mul_left (length (coded c)) (omega arith) in
+          let m : length (sent_residuals c) * (s.bits + 1) ≤ length (sent_residuals c) * (k + 1) = mul-le-mul_left (length (sent_residuals c)) (omega arith) in
           absurd (omega (arith, z, f, m))
     ]
 
-coded_count : (r : Option ℕ) (ds : List ℕ) (n : ℕ) (s : Parameters) → 1 ≤ length ds → n ≤ s.bits → length ds * n ≤ reference_len s r + length (coded_from r ds) * (n + 1)
+coded_count : (r : Option ℕ) (ds : List ℕ) (n : ℕ) (s : Parameters) → 1 ≤ length ds → n ≤ s.bits → length ds * n ≤ reference_len s r + length (sent_from r ds) * (n + 1)
 coded_count None ds n s h k = omega arith
 coded_count (Some v) [] n s h k = absurd (omega arith)
 coded_count (Some v) (d ∷ ds) n s h k = omega arith
 
-pub split_pays : (s : Parameters) (c : Contents) (k : ℕ) → 1 ≤ s.block → IsSound s c → IsBestSplit s c k → s.block * k ≤ cost s (Split k c)
+pub split_pays : (s : Parameters) (c : BlockData) (k : ℕ) → 1 ≤ s.block → IsSoundData s c → IsBestSplit s c k → s.block * k ≤ cost s (Split k c)
 split_pays s c k j h b =
     let e = coded_count c.reference c.residuals k s (omega (arith, h.len, j)) (best_within s c k h b) in
     let f = ap (λ n. n * k) h.len in
     omega (arith, e, f)
 
-pub plain_pays : (s : Parameters) (c : Contents) (k : ℕ) → IsSound s c → IsBestSplit s c k → s.block * k ≤ cost s (NoCompression c)
+pub plain_pays : (s : Parameters) (c : BlockData) (k : ℕ) → IsSoundData s c → IsBestSplit s c k → s.block * k ≤ cost s (NoCompression c)
 plain_pays s c k h b =
     let e : s.block * k ≤ s.block * s.bits = mul-le-mul_left s.block (best_within s c k h b) in
     let f = ap (λ n. n * s.bits) h.len in
@@ -105,21 +105,21 @@ pairs_cover (suc half) (a ∷ b ∷ ds) h =
     let c = pair_covers a b in
     omega (arith, ih, x, y, z, c)
 
-coded_most : (r : Option ℕ) (ds : List ℕ) → length ds ≤ length (coded_from r ds) + 1
+coded_most : (r : Option ℕ) (ds : List ℕ) → length ds ≤ length (sent_from r ds) + 1
 coded_most None ds = omega arith
 coded_most (Some v) [] = omega arith
 coded_most (Some v) (d ∷ ds) = omega arith
 
-pub second_pays : (s : Parameters) (c : Contents) (k half : ℕ) → s.block ≡ half + half → IsSound s c → IsBestSplit s c k → s.block * k ≤ cost s (SecondExtension c)
+pub second_pays : (s : Parameters) (c : BlockData) (k half : ℕ) → s.block ≡ half + half → IsSoundData s c → IsBestSplit s c k → s.block * k ≤ cost s (SecondExtension c)
 second_pays s c zero half e h b = omega arith
 second_pays s c (suc k) half e h b =
-    let l = length (coded c) in
+    let l = length (sent_residuals c) in
     let first = b.first k (omega arith) in
     let g : k + 1 ≡ suc k = omega arith in
-    let at = ap (cut_sum (coded c)) g in
-    let more : l + 1 ≤ cut_sum (coded c) k = larger l k (id_len s + reference_len s c.reference) (cut_sum (coded c) k) (cut_sum (coded c) (suc k)) first in
-    let p : suc k * (l + 1) ≤ suc k * cut_sum (coded c) k = mul-le-mul_left (suc k) more in
-    let q = grows (coded c) k in
+    let at = ap (cut_sum (sent_residuals c)) g in
+    let more : l + 1 ≤ cut_sum (sent_residuals c) k = larger l k (id_len s + reference_len s c.reference) (cut_sum (sent_residuals c) k) (cut_sum (sent_residuals c) (suc k)) first in
+    let p : suc k * (l + 1) ≤ suc k * cut_sum (sent_residuals c) k = mul-le-mul_left (suc k) more in
+    let q = grows (sent_residuals c) k in
     let same = coded_sum c.reference c.residuals 0 h.zero in
     let pairs = pairs_cover half c.residuals (omega (arith, h.len, e)) in
     let most = coded_most c.reference c.residuals in
@@ -131,7 +131,7 @@ second_pays s c (suc k) half e h b =
     larger : (l k base x y : ℕ) → base + l * (suc k + 1) + y < base + l * (k + 1) + x → l + 1 ≤ x
     larger l k base x y h = omega arith
 
-best_from : (s : Parameters) (c : Contents) (fuel k : ℕ) → k + fuel ≡ k_max s → ((j : ℕ) → j < k → cost s (Split k c) < cost s (Split j c)) → (m : ℕ) × IsBestSplit s c m
+best_from : (s : Parameters) (c : BlockData) (fuel k : ℕ) → k + fuel ≡ k_max s → ((j : ℕ) → j < k → cost s (Split k c) < cost s (Split j c)) → (m : ℕ) × IsBestSplit s c m
 best_from s c zero k e first = (k, best_where_it_ends s c k (omega arith) first)
 best_from s c (suc fuel) k e first =
     let next = λ (lt : cost s (Split (k + 1) c) < cost s (Split k c)). best_from s c fuel (k + 1) (omega arith) (first_more s c k first lt) in
@@ -140,7 +140,7 @@ best_from s c (suc fuel) k e first =
       | inr le ↦ (k, best_where_it_stops s c k (omega arith) first le)
     ]
 
-shortest_pays : (s : Parameters) (c : Contents) (k half : ℕ) → s.block ≡ half + half → 1 ≤ s.block → IsSound s c → IsBestSplit s c k → s.block * k ≤ cost s (shortest s c)
+shortest_pays : (s : Parameters) (c : BlockData) (k half : ℕ) → s.block ≡ half + half → 1 ≤ s.block → IsSoundData s c → IsBestSplit s c k → s.block * k ≤ cost s (shortest s c)
 shortest_pays s c k half e j h b =
     best_keeps (λ d. s.block * k ≤ cost s d) (λ x y. nat_lt (cost s x) (cost s y)) (NoCompression c) (other_options s c) (plain_pays s c k h b) (second_pays s c k half e h b, splits 0 (k_max s + 1) (omega arith))
   where
@@ -148,7 +148,7 @@ shortest_pays s c k half e j h b =
     splits from zero le = tt
     splits from (suc n) le = (let l = b.least from (omega arith) in let p = split_pays s c k j h b in omega (arith, l, p), splits (from + 1) n (omega arith))
 
-looks_are_paid : (s : Parameters) (c : Contents) → IsLegal s → IsSound s c → most_looks s c ≤ cost s (shortest s c) + 6 * s.block
+looks_are_paid : (s : Parameters) (c : BlockData) → IsLegal s → IsSoundData s c → most_looks s c ≤ cost s (shortest s c) + 6 * s.block
 looks_are_paid s c legal h =
     let best = best_from s c (k_max s) 0 (omega arith) (λ j p. absurd (omega arith)) in
     let j : 1 ≤ s.block = grind (arith, legal.block) in
@@ -156,35 +156,35 @@ looks_are_paid s c legal h =
     let pays = shortest_pays s c best.0 (s.block / 2) half j h best.1 in
     let named = ap (λ k. s.block * k) (best_split_is s c best.0 best.1) in
     let m : s.block * (min (best_split s c + 1) (k_max s) + 5) ≤ s.block * (best_split s c + 6) = mul-le-mul_left s.block (omega arith) in
-    elim (is_zero c) as (λ v. cond v s.block (s.block * (min (best_split s c + 1) (k_max s) + 5)) ≤ cost s (shortest s c) + 6 * s.block) [ true ↦ omega arith | false ↦ omega (arith, pays, named, m) ]
+    elim (is_zero_block c) as (λ v. cond v s.block (s.block * (min (best_split s c + 1) (k_max s) + 5)) ≤ cost s (shortest s c) + 6 * s.block) [ true ↦ omega arith | false ↦ omega (arith, pays, named, m) ]
 
 -- so are those of several blocks: a run's bits are not even needed
-looks_of_all_are_paid : (s : Parameters) (b : ℕ) (behind : Bool) (cs : List Contents) → IsLegal s → AreSoundBlocks s b cs →
-    sum_by (most_looks s) cs ≤ sum_by (λ d. length (text s d)) (data_sets s b behind cs) + length cs * (6 * s.block)
+looks_of_all_are_paid : (s : Parameters) (b : ℕ) (behind : Bool) (cs : List BlockData) → IsLegal s → AreSoundBlocks s b cs →
+    sum_by (most_looks s) cs ≤ sum_by (λ d. length (bits_of_set s d)) (data_sets s b behind cs) + length cs * (6 * s.block)
 looks_of_all_are_paid s b behind [] legal h = omega arith
 looks_of_all_are_paid s b behind (c ∷ cs) legal h =
-    let bits = λ (ds : List DataSet). sum_by (λ d. length (text s d)) ds in
-    let rest = data_sets s (b + 1) (is_zero c) cs in
-    let ih = looks_of_all_are_paid s (b + 1) (is_zero c) cs legal h.1 in
+    let bits = λ (ds : List CodedDataSet). sum_by (λ d. length (bits_of_set s d)) ds in
+    let rest = data_sets s (b + 1) (is_zero_block c) cs in
+    let ih = looks_of_all_are_paid s (b + 1) (is_zero_block c) cs legal h.1 in
     let j : 1 ≤ s.block = grind (arith, legal.block) in
     let one = sum_by-cons (most_looks s) c cs in
     let more : suc (length cs) * (6 * s.block) ≡ length cs * (6 * s.block) + 6 * s.block = omega arith in
-    elim (bool_cases (is_zero c)) [
+    elim (bool_cases (is_zero_block c)) [
       | inl z ↦
           let looks = looks_zero s c z in
-          let at = sum_by-append (λ d. length (text s d)) (data_set_at s b behind c cs) rest in
+          let at = sum_by-append (λ d. length (bits_of_set s d)) (data_set_at s b behind c cs) rest in
           omega (arith, ih, one, more, looks.1, at)
       | inr z ↦
           let paid = looks_are_paid s c legal (sound_of s b c h.0) in
           let len = shortest_len s b c j h.0 in
           let at = ap bits (data_sets_plain s b behind c cs z) in
-          let sum = sum_by-cons (λ d. length (text s d)) (shortest s c) (data_sets s (b + 1) false cs) in
+          let sum = sum_by-cons (λ d. length (bits_of_set s d)) (shortest s c) (data_sets s (b + 1) false cs) in
           let same = ap (λ v. bits (data_sets s (b + 1) v cs)) z in
           omega (arith, ih, one, more, paid, len, at, sum, same)
     ]
 
 -- and they are bounded by the number of splits
-looks_are_few : (s : Parameters) (cs : List Contents) → sum_by (most_looks s) cs ≤ length cs * (s.block * (k_max s + 5))
+looks_are_few : (s : Parameters) (cs : List BlockData) → sum_by (most_looks s) cs ≤ length cs * (s.block * (k_max s + 5))
 looks_are_few s [] = omega arith
 looks_are_few s (c ∷ cs) =
     let one = sum_by-cons (most_looks s) c cs in
@@ -192,15 +192,15 @@ looks_are_few s (c ∷ cs) =
 
 -- what coding some samples behind whole segments takes
 behind_whole : (s : Parameters) → IsLegal s → (blocks : ℕ) (xs ys : List ℤ) → length xs ≡ s.block * blocks → begins_segment s blocks ≡ true →
-    (code_bits s (xs ++ ys) ≡ code_bits s xs + bits_behind s blocks (last_of (pos 0) xs) ys) ×
-    (most_looks_at s (xs ++ ys) ≡ most_looks_at s xs + sum_by (most_looks s) (blocks_behind s blocks (last_of (pos 0) xs) ys))
+    (code_bits s (xs ++ ys) ≡ code_bits s xs + bits_from s blocks (last_of (pos 0) xs) ys) ×
+    (most_looks_at s (xs ++ ys) ≡ most_looks_at s xs + sum_by (most_looks s) (blocks_of s blocks (last_of (pos 0) xs) ys))
 behind_whole s legal q xs ys len begins =
     let j : 1 ≤ s.block = grind (arith, legal.block) in
     let here : 0 + q ≡ q = omega arith in
     let p = last_of (pos 0) xs in (
-      bits_go_on s legal 0 q (pos 0) xs ys len (ap (λ m. begins_segment s m) here ∙ begins) ∙ ap (λ m. code_bits s xs + bits_behind s m p ys) here,
-      ap (λ v. sum_by (most_looks s) v) (blocks_go_on s 0 q (pos 0) xs ys j len ∙ ap (λ m. blocks_behind s 0 (pos 0) xs ++ blocks_behind s m p ys) here)
-          ∙ sum_by-append (most_looks s) (blocks_behind s 0 (pos 0) xs) (blocks_behind s q p ys),
+      bits_go_on s legal 0 q (pos 0) xs ys len (ap (λ m. begins_segment s m) here ∙ begins) ∙ ap (λ m. code_bits s xs + bits_from s m p ys) here,
+      ap (λ v. sum_by (most_looks s) v) (blocks_go_on s 0 q (pos 0) xs ys j len ∙ ap (λ m. blocks_of s 0 (pos 0) xs ++ blocks_of s m p ys) here)
+          ∙ sum_by-append (most_looks s) (blocks_of s 0 (pos 0) xs) (blocks_of s q p ys),
     )
 
 pub steps_are_bounded : (s : Parameters) → IsLegal s → (blocks : ℕ) (xs ys : List ℤ) → All (IsSample s) xs → All (IsSample s) ys → length xs ≡ s.block * blocks → begins_segment s blocks ≡ true →
@@ -211,8 +211,8 @@ steps_are_bounded s legal q xs ys h k len begins =
     let parts = behind_whole s legal q xs ys len begins in
     let bits = code_is_bounded s legal q p ys sample k in
     let n = block_count s (length ys) in
-    let count = count_blocks s q p n (filled s p ys) in
-    let looks = looks_are_few s (blocks_behind s q p ys) in
+    let count = count_blocks s q p n (filled_samples s p ys) in
+    let looks = looks_are_few s (blocks_of s q p ys) in
     sums n (id_len s) s.block s.bits (k_max s) _ _ _ _ _ _ _ parts.0 parts.1 bits looks count
   where
     sums : (n i j bits k b b' more l l' looks len : ℕ) → b' ≡ b + more → l' ≡ l + looks → more ≤ n * (i + j * bits) → looks ≤ len * (j * (k + 5)) → len ≡ n → b' + l' ≤ b + l + n * (i + j * (bits + k + 5))
@@ -231,9 +231,9 @@ steps_are_paid s legal q xs ys h k len begins =
     let sample = last_legal s (pos 0) xs (zero_is_sample s legal.bits_from) (recursion_from_All (IsSample s) xs h) in
     let parts = behind_whole s legal q xs ys len begins in
     let n = block_count s (length ys) in
-    let count = count_blocks s q p n (filled s p ys) in
+    let count = count_blocks s q p n (filled_samples s p ys) in
     let sound = blocks_sound_behind s q p ys legal j sample (recursion_from_All (IsSample s) ys k) in
-    let looks = looks_of_all_are_paid s q false (blocks_behind s q p ys) legal sound in
+    let looks = looks_of_all_are_paid s q false (blocks_of s q p ys) legal sound in
     sums n s.block _ _ _ _ _ _ _ parts.0 parts.1 looks count
   where
     sums : (n j b b' more l l' looks len : ℕ) → b' ≡ b + more → l' ≡ l + looks → looks ≤ more + len * (6 * j) → len ≡ n → b' + l' + 2 * b ≤ b + l + 2 * b' + 6 * j * n
@@ -249,10 +249,10 @@ all_steps_are_bounded s legal xs k =
     let p : ℤ = pos 0 in
     let n = block_count s (length xs) in
     let zero = zero_is_sample s legal.bits_from in
-    let count = count_blocks s 0 p n (filled s p xs) in
+    let count = count_blocks s 0 p n (filled_samples s p xs) in
     let bits = code_is_bounded s legal 0 p xs zero k in
-    let looks = looks_are_few s (blocks_behind s 0 p xs) in
-    let paid = looks_of_all_are_paid s 0 false (blocks_behind s 0 p xs) legal (blocks_sound_behind s 0 p xs legal j zero (recursion_from_All (IsSample s) xs k)) in
+    let looks = looks_are_few s (blocks_of s 0 p xs) in
+    let paid = looks_of_all_are_paid s 0 false (blocks_of s 0 p xs) legal (blocks_sound_behind s 0 p xs legal j zero (recursion_from_All (IsSample s) xs k)) in
     (few n (id_len s) s.block s.bits (k_max s) _ _ _ bits looks count, by_bits n s.block _ _ _ paid count)
   where
     few : (n i j bits k b looks len : ℕ) → b ≤ n * (i + j * bits) → looks ≤ len * (j * (k + 5)) → len ≡ n → j * n + (b + looks) ≤ n * (i + j * (bits + k + 6))

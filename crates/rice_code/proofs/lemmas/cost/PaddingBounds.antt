@@ -11,10 +11,10 @@ use Rattle.std.proofs.Math.Nat.{div-add-mod, mod-lt, mod-eq_of_lt, mul-add-mod_s
 use Rattle.std.proofs.lemmas.Nat.{div-mul-add}
 use Rattle.rice_samples.specs.Parameters.{Parameters, IsLegal, IsSample}
 use Rattle.rice_samples.specs.Places.{place, begins_segment, block_count, interval_count}
-use Rattle.rice_samples.specs.predict.Residuals.{filled}
+use Rattle.rice_samples.specs.predict.Residuals.{filled_samples}
 use Rattle.rice_samples.proofs.lemmas.setting.Levels.{zero_is_sample}
-use Rattle.rice_code.specs.code.Blocks.{Contents, blocks_behind, zeros}
-use Rattle.rice_code.specs.code.CodedDataSets.{text}
+use Rattle.rice_code.specs.code.Blocks.{BlockData, blocks_of, zero_block}
+use Rattle.rice_code.specs.code.CodedDataSets.{bits_of_set}
 use Rattle.rice_code.specs.code.Forms.{blocks_in_all}
 use Rattle.rice_code.specs.code.Code.{sets_of, code, code_bits}
 use Rattle.rice_code.specs.Bounds.{padding_bound}
@@ -22,11 +22,11 @@ use Rattle.rice_code.proofs.lemmas.meaning.Covers.{bool_cases, GoOn, AreBlocks, 
 use Rattle.rice_code.proofs.lemmas.code.Layouts.{BeginBefore, laid_plain, laid_bound}
 use Rattle.rice_code.proofs.lemmas.meaning.SentSets.{are_taken, begin_before}
 use Rattle.std.proofs.Math.Nat.{mul-le-mul_left}
-use Rattle.rice_code.specs.encode.HeldBlocks.{AreSoundBlocks}
+use Rattle.rice_code.specs.code.SoundBlocks.{AreSoundBlocks}
 use Rattle.rice_code.proofs.lemmas.code.SoundBlocks.{count_blocks, blocks_sound_behind}
 
 -- sound blocks are blocks
-pub are_blocks : (s : Parameters) (b : ℕ) (cs : List Contents) → AreSoundBlocks s b cs → AreBlocks s b cs
+pub are_blocks : (s : Parameters) (b : ℕ) (cs : List BlockData) → AreSoundBlocks s b cs → AreBlocks s b cs
 are_blocks s b [] h = tt
 are_blocks s b (c ∷ cs) h = (h.0.block, are_blocks s (b + 1) cs h.1)
 
@@ -69,9 +69,9 @@ pub sets_begin : (s : Parameters) (xs : List ℤ) → IsLegal s → All (IsSampl
 sets_begin s xs legal k =
     let j : 1 ≤ s.block = grind (arith, legal.block) in
     let n = block_count s (length xs) in
-    let cs = blocks_behind s 0 (pos 0) xs in
+    let cs = blocks_of s 0 (pos 0) xs in
     let sound = blocks_sound_behind s 0 (pos 0) xs legal j (zero_is_sample s legal.bits_from) (recursion_from_All (IsSample s) xs k) in
-    let count : length cs ≡ n = count_blocks s 0 (pos 0) n (filled s (pos 0) xs) in
+    let count : length cs ≡ n = count_blocks s 0 (pos 0) n (filled_samples s (pos 0) xs) in
     begin_before s (0 + n) 0 (sets_of s xs)
     (are_taken s (Some (s.block * (0 + n))) 0 false cs legal.interval_from sound (λ i lt. let m : s.block * suc i ≤ s.block * (0 + n) = mul-le-mul_left s.block (omega arith) in less s.block i _ j m))
   where
@@ -81,15 +81,15 @@ sets_begin s xs legal k =
 pub padding_is_bounded : (s : Parameters) → IsLegal s → (xs : List ℤ) → All (IsSample s) xs → length (code s xs) ≤ code_bits s xs + padding_bound s (length xs)
 padding_is_bounded s legal xs k =
     let j : 1 ≤ s.block = grind (arith, legal.block) in
-    let cs = blocks_behind s 0 (pos 0) xs in
+    let cs = blocks_of s 0 (pos 0) xs in
     let sound = blocks_sound_behind s 0 (pos 0) xs legal j (zero_is_sample s legal.bits_from) (recursion_from_All (IsSample s) xs k) in
     let cover = covers s 0 false cs legal.interval_from (are_blocks s 0 cs sound) in
-    let n : length cs ≡ block_count s (length xs) = count_blocks s 0 (pos 0) (block_count s (length xs)) (filled s (pos 0) xs) in
+    let n : length cs ≡ block_count s (length xs) = count_blocks s 0 (pos 0) (block_count s (length xs)) (filled_samples s (pos 0) xs) in
     elim (bool_cases s.pad) [
-      | inr e ↦ let l = ap length (laid_plain s (0 + block_count s (length xs)) 0 0 (sets_of s xs) e) ∙ length-flat_map (text s) (sets_of s xs) in omega arith
+      | inr e ↦ let l = ap length (laid_plain s (0 + block_count s (length xs)) 0 0 (sets_of s xs) e) ∙ length-flat_map (bits_of_set s) (sets_of s xs) in omega arith
       | inl e ↦
           let l = laid_bound s (0 + block_count s (length xs)) 0 0 (sets_of s xs) legal.interval_from (sets_begin s xs legal k) in
-          let all = ap length cover.blocks ∙ (length-append cs (replicate cover.fill (zeros s None)) ∙ ap (λ m. length cs + m) (length-replicate cover.fill (zeros s None))) in
+          let all = ap length cover.blocks ∙ (length-append cs (replicate cover.fill (zero_block s None)) ∙ ap (λ m. length cs + m) (length-replicate cover.fill (zero_block s None))) in
           let i = inside_interval s (0 + length cs) cover.fill legal.interval_from cover.inside in
           let few : (0 + length (blocks_in_all s 0 (sets_of s xs))) / s.interval ≤ interval_count s (length xs) = ceil _ (length cs) cover.fill _ s.interval all n i in
           let p : padding_bound s (length xs) ≡ 7 * interval_count s (length xs) = ap (λ v. cond v (7 * interval_count s (length xs)) 0) e in

@@ -5,9 +5,9 @@ use Rattle.std.proofs.Math.Nat.{mul-le-mul_left}
 use Rattle.std.proofs.lemmas.List.Sums.{sum_by-cons}
 use Rattle.rice_samples.specs.blocks.Pairs.{pair_code, pair_codes}
 use Rattle.rice_samples.specs.Parameters.{Parameters}
-use Rattle.rice_code.specs.code.Blocks.{Contents}
+use Rattle.rice_code.specs.code.Blocks.{BlockData}
 use Rattle.rice_code.specs.code.Choice.{IsBestSplit}
-use Rattle.rice_code.specs.code.CodedDataSets.{SecondExtension, Split, cost, coded, coded_from}
+use Rattle.rice_code.specs.code.CodedDataSets.{SecondExtension, Split, cost, sent_residuals, sent_from}
 
 -- the codeword of a pair is no shorter than twice its sum
 half_square : (s : ℕ) → 2 * s ≤ s * (s + 1) / 2 + 1
@@ -30,15 +30,15 @@ pairs_long (suc n) (a ∷ b ∷ ds) e =
     let r = sum_by-cons (λ g. g + 1) (pair_code a b) (pair_codes ds) in
     omega (arith, h, ih, p, q, r)
 
-coded_few : (f : ℕ → ℕ) (r : Option ℕ) (ds : List ℕ) → sum_by f (coded_from r ds) ≤ sum_by f ds
+coded_few : (f : ℕ → ℕ) (r : Option ℕ) (ds : List ℕ) → sum_by f (sent_from r ds) ≤ sum_by f ds
 coded_few f None ds = omega arith
 coded_few f (Some v) [] = omega arith
 coded_few f (Some v) (d ∷ ds) = let p = sum_by-cons f d ds in omega (arith, p)
 
-pub pairs_are_longer : (s : Parameters) (c : Contents) (k n : ℕ) → IsBestSplit s c k → 0 < k → length c.residuals ≡ 2 * n → cost s (Split k c) < cost s (SecondExtension c)
+pub pairs_are_longer : (s : Parameters) (c : BlockData) (k n : ℕ) → IsBestSplit s c k → 0 < k → length c.residuals ≡ 2 * n → cost s (Split k c) < cost s (SecondExtension c)
 pairs_are_longer s c k n h some even =
     let first = h.first 0 some in
-    let more : length (coded c) * 1 ≤ length (coded c) * k = mul-le-mul_left (length (coded c)) some in
+    let more : length (sent_residuals c) * 1 ≤ length (sent_residuals c) * k = mul-le-mul_left (length (sent_residuals c)) some in
     let pairs = pairs_long n c.residuals even in
     let few = coded_few (λ d. d / 2 ^ 0) c.reference c.residuals in
     omega (arith, first, more, pairs, few)

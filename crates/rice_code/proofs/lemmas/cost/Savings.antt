@@ -9,16 +9,16 @@ use Rattle.std.proofs.lemmas.List.Sums.{sum_by-cons}
 use Rattle.std.proofs.Math.Nat.{zero-div}
 use Rattle.rice_samples.specs.Parameters.{Parameters, id_len, k_max}
 use Rattle.rice_samples.proofs.lemmas.blocks.Halves.{cut_sum, sum_halves}
-use Rattle.rice_code.specs.code.Blocks.{Contents}
-use Rattle.rice_code.specs.code.CodedDataSets.{NoCompression, SecondExtension, Split, cost, coded, coded_from, reference_len}
+use Rattle.rice_code.specs.code.Blocks.{BlockData}
+use Rattle.rice_code.specs.code.CodedDataSets.{NoCompression, SecondExtension, Split, cost, sent_residuals, sent_from, reference_len}
 use Rattle.rice_code.specs.code.Choice.{shortest, other_options, IsBestSplit}
 use Rattle.rice_code.specs.code.Forms.{IsZeroAtReference}
 use Rattle.rice_code.proofs.lemmas.meaning.Covers.{bool_cases}
 
-pub saving_never_rises : (s : Parameters) (c : Contents) (k : ℕ) → 2 * cost s (Split (k + 1) c) ≤ cost s (Split k c) + cost s (Split (k + 2) c)
+pub saving_never_rises : (s : Parameters) (c : BlockData) (k : ℕ) → 2 * cost s (Split (k + 1) c) ≤ cost s (Split k c) + cost s (Split (k + 2) c)
 saving_never_rises s c k =
-    let h = sum_halves (coded c) k in
-    at (length (coded c)) (id_len s + reference_len s c.reference) k _ _ _ h
+    let h = sum_halves (sent_residuals c) k in
+    at (length (sent_residuals c)) (id_len s + reference_len s c.reference) k _ _ _ h
   where
     at : (l base k x y z : ℕ) → y + y ≤ x → 2 * (base + l * (k + 1 + 1) + y) ≤ base + l * (k + 1) + x + (base + l * (k + 2 + 1) + z)
     at l base k x y z h = omega arith
@@ -109,7 +109,7 @@ best_numbered {A} f g a from (suc n) k h i first least =
     at_least m n e = grind (arith, nat_tests)
 
 -- the search may stop where the next split is no shorter
-pub best_where_it_stops : (s : Parameters) (c : Contents) (k : ℕ) → k ≤ k_max s → ((j : ℕ) → j < k → cost s (Split k c) < cost s (Split j c)) → cost s (Split k c) ≤ cost s (Split (k + 1) c) → IsBestSplit s c k
+pub best_where_it_stops : (s : Parameters) (c : BlockData) (k : ℕ) → k ≤ k_max s → ((j : ℕ) → j < k → cost s (Split k c) < cost s (Split j c)) → cost s (Split k c) ≤ cost s (Split (k + 1) c) → IsBestSplit s c k
 best_where_it_stops s c k h first stop = record {
   at_most = h;
   least = λ j p. elim (cases_lt j k) [
@@ -117,7 +117,7 @@ best_where_it_stops s c k h first stop = record {
     | inr le ↦
         let m = j - k in
         let e : k + m ≡ j = omega arith in
-        let f = stops (coded c) (length (coded c)) k m (omega arith) in
+        let f = stops (sent_residuals c) (length (sent_residuals c)) k m (omega arith) in
         let g = ap (λ n. cost s (Split n c)) e in
         omega (arith, f, g)
   ];
@@ -125,7 +125,7 @@ best_where_it_stops s c k h first stop = record {
 }
 
 -- or where there is none behind
-pub best_where_it_ends : (s : Parameters) (c : Contents) (k : ℕ) → k ≡ k_max s → ((j : ℕ) → j < k → cost s (Split k c) < cost s (Split j c)) → IsBestSplit s c k
+pub best_where_it_ends : (s : Parameters) (c : BlockData) (k : ℕ) → k ≡ k_max s → ((j : ℕ) → j < k → cost s (Split k c) < cost s (Split j c)) → IsBestSplit s c k
 best_where_it_ends s c k h first = record {
   at_most = omega arith;
   least = λ j p. elim (cases_lt j k) [
@@ -136,34 +136,34 @@ best_where_it_ends s c k h first = record {
 }
 
 -- one split more
-pub first_more : (s : Parameters) (c : Contents) (k : ℕ) → ((j : ℕ) → j < k → cost s (Split k c) < cost s (Split j c)) → cost s (Split (k + 1) c) < cost s (Split k c) → (j : ℕ) → j < k + 1 → cost s (Split (k + 1) c) < cost s (Split j c)
+pub first_more : (s : Parameters) (c : BlockData) (k : ℕ) → ((j : ℕ) → j < k → cost s (Split k c) < cost s (Split j c)) → cost s (Split (k + 1) c) < cost s (Split k c) → (j : ℕ) → j < k + 1 → cost s (Split (k + 1) c) < cost s (Split j c)
 first_more s c k first less j h = elim (cases_lt j k) [
   | inl lt ↦ let f = first j lt in omega arith
   | inr le ↦ let e : k ≡ j = omega arith in let g = ap (λ n. cost s (Split n c)) e in omega (arith, g)
 ]
 
 -- the shortest is decided by the three costs
-pub shortest_is : (s : Parameters) (c : Contents) (k : ℕ) → IsBestSplit s c k →
+pub shortest_is : (s : Parameters) (c : BlockData) (k : ℕ) → IsBestSplit s c k →
     shortest s c ≡ (let first = cond (nat_lt (cost s (SecondExtension c)) (cost s (NoCompression c))) (SecondExtension c) (NoCompression c) in cond (nat_lt (cost s (Split k c)) (cost s first)) (Split k c) first)
 shortest_is s c k h =
     let at = h.at_most in
     best_numbered (cost s) (λ k. Split k c) (cond (nat_lt (cost s (SecondExtension c)) (cost s (NoCompression c))) (SecondExtension c) (NoCompression c)) 0 (k_max s + 1) k (omega arith) (omega arith) (λ j p q. h.first j q) (λ j p. h.least j (omega arith))
 
 -- where each split up to k is shorter than the one before, k is shorter than all before it
-falling : (s : Parameters) (c : Contents) (k : ℕ) → ((j : ℕ) → j < k → cost s (Split (j + 1) c) < cost s (Split j c)) → (j : ℕ) → j < k → cost s (Split k c) < cost s (Split j c)
+falling : (s : Parameters) (c : BlockData) (k : ℕ) → ((j : ℕ) → j < k → cost s (Split (j + 1) c) < cost s (Split j c)) → (j : ℕ) → j < k → cost s (Split k c) < cost s (Split j c)
 falling s c zero h j lt = absurd (omega arith)
 falling s c (suc k) h j lt =
     let e : k + 1 ≡ suc k = omega arith in
     let ShorterThanBefore : ℕ → Type 0 = λ n. cost s (Split n c) < cost s (Split j c) in
     subst ShorterThanBefore e (first_more s c k (falling s c k (λ i p. h i (omega arith))) (h k (omega arith)) j (omega arith))
 
-pub first_stop_is_best : (s : Parameters) (c : Contents) (k : ℕ) → k ≤ k_max s → ((j : ℕ) → j < k → cost s (Split (j + 1) c) < cost s (Split j c)) →
+pub first_stop_is_best : (s : Parameters) (c : BlockData) (k : ℕ) → k ≤ k_max s → ((j : ℕ) → j < k → cost s (Split (j + 1) c) < cost s (Split j c)) →
     (cost s (Split k c) ≤ cost s (Split (k + 1) c)) ⊎ (k ≡ k_max s) → IsBestSplit s c k
 first_stop_is_best s c k le h (inl stop) = best_where_it_stops s c k le (falling s c k h) stop
 first_stop_is_best s c k le h (inr end) = best_where_it_ends s c k end (falling s c k h)
 
 -- the residual at the reference place adds nothing
-pub coded_sum : (r : Option ℕ) (ds : List ℕ) (k : ℕ) → OnSome r (slice_index ds 0 ≡ 0) → cut_sum (coded_from r ds) k ≡ cut_sum ds k
+pub coded_sum : (r : Option ℕ) (ds : List ℕ) (k : ℕ) → OnSome r (slice_index ds 0 ≡ 0) → cut_sum (sent_from r ds) k ≡ cut_sum ds k
 coded_sum None ds k h = refl
 coded_sum (Some v) [] k h = refl
 coded_sum (Some v) (d ∷ ds) k h =
@@ -174,16 +174,16 @@ coded_sum (Some v) (d ∷ ds) k h =
     omega (arith, f, g, i)
 
 -- where the sum of the residuals first falls by no more than the digits that a split adds, the split is best
-pub sum_stop_is_best : (s : Parameters) (c : Contents) (k : ℕ) → IsZeroAtReference c → k ≤ k_max s →
-    ((j : ℕ) → j < k → cut_sum c.residuals (j + 1) + length (coded c) < cut_sum c.residuals j) →
-    (k < k_max s → cut_sum c.residuals k ≤ cut_sum c.residuals (k + 1) + length (coded c)) → IsBestSplit s c k
+pub sum_stop_is_best : (s : Parameters) (c : BlockData) (k : ℕ) → IsZeroAtReference c → k ≤ k_max s →
+    ((j : ℕ) → j < k → cut_sum c.residuals (j + 1) + length (sent_residuals c) < cut_sum c.residuals j) →
+    (k < k_max s → cut_sum c.residuals k ≤ cut_sum c.residuals (k + 1) + length (sent_residuals c)) → IsBestSplit s c k
 sum_stop_is_best s c k at_reference le falls ends =
     let base = id_len s + reference_len s c.reference in
     let same = λ (j : ℕ). coded_sum c.reference c.residuals j at_reference in
     first_stop_is_best s c k le
-    (λ j lt. shorter (length (coded c)) base j (cut_sum (coded c) j) (cut_sum (coded c) (j + 1)) (omega (arith, falls j lt, same j, same (j + 1))))
+    (λ j lt. shorter (length (sent_residuals c)) base j (cut_sum (sent_residuals c) j) (cut_sum (sent_residuals c) (j + 1)) (omega (arith, falls j lt, same j, same (j + 1))))
     (elim (cases_lt k (k_max s)) [
-      | inl lt ↦ inl (no_shorter (length (coded c)) base k (cut_sum (coded c) k) (cut_sum (coded c) (k + 1)) (omega (arith, ends lt, same k, same (k + 1))))
+      | inl lt ↦ inl (no_shorter (length (sent_residuals c)) base k (cut_sum (sent_residuals c) k) (cut_sum (sent_residuals c) (k + 1)) (omega (arith, ends lt, same k, same (k + 1))))
       | inr ge ↦ inr (omega arith)
     ])
   where
@@ -216,5 +216,5 @@ best_is_least f a (x ∷ xs) =
     let first = ih.0 in
     (omega arith, (omega arith, ih.1))
 
-pub choice_is_least : (s : Parameters) (c : Contents) → All (λ d. cost s (shortest s c) ≤ cost s d) (NoCompression c ∷ other_options s c)
+pub choice_is_least : (s : Parameters) (c : BlockData) → All (λ d. cost s (shortest s c) ≤ cost s d) (NoCompression c ∷ other_options s c)
 choice_is_least s c = All-from_recursion (λ d. cost s (shortest s c) ≤ cost s d) (NoCompression c ∷ other_options s c) (best_is_least (cost s) (NoCompression c) (other_options s c))

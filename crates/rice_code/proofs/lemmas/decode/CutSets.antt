@@ -10,20 +10,20 @@ use Rattle.rice_bits.specs.declared.read.fault.BitFault.{BitFault}
 use Rattle.rice_bits.proofs.lemmas.read.ReaderLemmas.{takes-append, stops-append}
 use Rattle.rice_bits.proofs.lemmas.bits.Words.{length-word}
 use Rattle.rice_samples.specs.Parameters.{Parameters, id_len}
-use Rattle.rice_code.specs.code.Blocks.{Contents}
-use Rattle.rice_code.specs.code.CodedDataSets.{DataSet, NoCompression, SecondExtension, Split, ZeroBlocks, RemainderOfSegment, text, run_number, no_compression_tail, second_extension_tail, split_tail, run_tail}
+use Rattle.rice_code.specs.code.Blocks.{BlockData}
+use Rattle.rice_code.specs.code.CodedDataSets.{CodedDataSet, NoCompression, SecondExtension, Split, ZeroBlocks, RemainderOfSegment, bits_of_set, run_number, no_compression_tail, second_extension_tail, split_tail, run_tail}
 use Rattle.rice_code.specs.code.Forms.{IsForm, IsReference}
 use Rattle.rice_code.specs.decode.ReadSets.{BlockRead, BlockCut, SetRead, SetCut, LowRead, LowCut, low_tail, IsLow}
 use Rattle.rice_code.specs.declared.decode.options.SetHead.TheVariants.{Residuals, Zeros}
 use Rattle.rice_code.proofs.lemmas.code.ReadInOneWay.{head_reads, identifier, tail, wide_id}
 
 -- a word of less than the identifier begins nothing
-pub cut_identifier : (s : Parameters) (b : ℕ) (bits : List Bool) → length bits < id_len s → (d : DataSet) (more : List Bool) → IsForm s b d → bits ≡ text s d ++ more → ⊥
+pub cut_identifier : (s : Parameters) (b : ℕ) (bits : List Bool) → length bits < id_len s → (d : CodedDataSet) (more : List Bool) → IsForm s b d → bits ≡ bits_of_set s d ++ more → ⊥
 cut_identifier s b bits lt d more form e =
-    omega (arith, ap length e, length-append (text s d) more, ap length (Rattle.rice_code.proofs.lemmas.code.ReadInOneWay.text_is s d), length-append (word (id_len s) (identifier s d)) (tail s d), length-word (id_len s) (identifier s d))
+    omega (arith, ap length e, length-append (bits_of_set s d) more, ap length (Rattle.rice_code.proofs.lemmas.code.ReadInOneWay.text_is s d), length-append (word (id_len s) (identifier s d)) (tail s d), length-word (id_len s) (identifier s d))
 
-cut_plain : (s : Parameters) (b id : ℕ) (bits : List Bool) → id ≡ 2 ^ id_len s - 1 → ((c : Contents) (more : List Bool) → IsForm s b (NoCompression c) → bits ≡ no_compression_tail s c ++ more → ⊥)
-    → (d : DataSet) (more : List Bool) → IsForm s b d → id ≡ identifier s d → bits ≡ tail s d ++ more → ⊥
+cut_plain : (s : Parameters) (b id : ℕ) (bits : List Bool) → id ≡ 2 ^ id_len s - 1 → ((c : BlockData) (more : List Bool) → IsForm s b (NoCompression c) → bits ≡ no_compression_tail s c ++ more → ⊥)
+    → (d : CodedDataSet) (more : List Bool) → IsForm s b d → id ≡ identifier s d → bits ≡ tail s d ++ more → ⊥
 unfolding identifier tail
 cut_plain s b id bits e none (NoCompression c) more form i t = none c more form t
 cut_plain s b id bits e none (SecondExtension c) more form i t = let w = wide_id s in omega arith
@@ -31,8 +31,8 @@ cut_plain s b id bits e none (Split k c) more form i t = let w = wide_id s in le
 cut_plain s b id bits e none (ZeroBlocks r z) more form i t = let w = wide_id s in omega arith
 cut_plain s b id bits e none (RemainderOfSegment r) more form i t = let w = wide_id s in omega arith
 
-cut_split : (s : Parameters) (b id k : ℕ) (bits : List Bool) → id ≡ k + 1 → id < 2 ^ id_len s - 1 → ((c : Contents) (more : List Bool) → IsForm s b (Split k c) → bits ≡ split_tail s k c ++ more → ⊥)
-    → (d : DataSet) (more : List Bool) → IsForm s b d → id ≡ identifier s d → bits ≡ tail s d ++ more → ⊥
+cut_split : (s : Parameters) (b id k : ℕ) (bits : List Bool) → id ≡ k + 1 → id < 2 ^ id_len s - 1 → ((c : BlockData) (more : List Bool) → IsForm s b (Split k c) → bits ≡ split_tail s k c ++ more → ⊥)
+    → (d : CodedDataSet) (more : List Bool) → IsForm s b d → id ≡ identifier s d → bits ≡ tail s d ++ more → ⊥
 unfolding identifier tail
 cut_split s b id k bits e lt none (NoCompression c) more form i t = omega arith
 cut_split s b id k bits e lt none (SecondExtension c) more form i t = omega arith
@@ -43,8 +43,8 @@ cut_split s b id k bits e lt none (Split m c) more form i t =
 cut_split s b id k bits e lt none (ZeroBlocks r z) more form i t = omega arith
 cut_split s b id k bits e lt none (RemainderOfSegment r) more form i t = omega arith
 
-cut_low : (s : Parameters) (b id : ℕ) (bits : List Bool) → id ≡ 0 → ((d : DataSet) (more : List Bool) → IsForm s b d → IsLow d → bits ≡ low_tail s d ++ more → ⊥)
-    → (d : DataSet) (more : List Bool) → IsForm s b d → id ≡ identifier s d → bits ≡ tail s d ++ more → ⊥
+cut_low : (s : Parameters) (b id : ℕ) (bits : List Bool) → id ≡ 0 → ((d : CodedDataSet) (more : List Bool) → IsForm s b d → IsLow d → bits ≡ low_tail s d ++ more → ⊥)
+    → (d : CodedDataSet) (more : List Bool) → IsForm s b d → id ≡ identifier s d → bits ≡ tail s d ++ more → ⊥
 unfolding identifier tail
 cut_low s b id bits e none (NoCompression c) more form i t = let w = wide_id s in omega arith
 cut_low s b id bits e none (SecondExtension c) more form i t = none (SecondExtension c) more form tt t
@@ -55,7 +55,7 @@ cut_low s b id bits e none (RemainderOfSegment r) more form i t = none (Remainde
 -- a data set is cut off behind its identifier
 cut_behind : {I : Type 0} (left : I → Option (List ℕ)) (failed : I → ℕ) (old mid new : Reader I) (s : Parameters) (b id : ℕ) (bits : List Bool) (f : BitFault)
     → id < 2 ^ id_len s → Takes left failed old mid (word (id_len s) id) → Stops left failed mid new bits f
-    → ((d : DataSet) (more : List Bool) → IsForm s b d → id ≡ identifier s d → bits ≡ tail s d ++ more → ⊥) → SetCut left failed old new s b f
+    → ((d : CodedDataSet) (more : List Bool) → IsForm s b d → id ≡ identifier s d → bits ≡ tail s d ++ more → ⊥) → SetCut left failed old new s b f
 cut_behind left failed old mid new s b id bits f lt t stops none = record {
   bits = word (id_len s) id ++ bits;
   stops = stops-append left failed old mid new _ bits f t stops;
@@ -125,7 +125,7 @@ low_set left failed old mid new first second last s b id taken items e t steps r
   steps = omega (arith, read.steps);
 }
   where
-    low_text : (d : DataSet) → IsLow d → word (id_len s) 0 ++ low_tail s d ≡ text s d
+    low_text : (d : CodedDataSet) → IsLow d → word (id_len s) 0 ++ low_tail s d ≡ bits_of_set s d
     low_text (NoCompression c) h = absurd h
     low_text (SecondExtension c) h = refl
     low_text (Split k c) h = absurd h
@@ -151,7 +151,7 @@ pub low_bit_cut : {I : Type 0} (left : I → Option (List ℕ)) (failed : I → 
     → length bits < 1 → Stops left failed old new bits f → LowCut left failed old new s b f
 low_bit_cut left failed old new s b bits f lt stops = record { bits = bits; stops = stops; none = none bits lt }
   where
-    none : (bits : List Bool) → length bits < 1 → (d : DataSet) (more : List Bool) → IsForm s b d → IsLow d → bits ≡ low_tail s d ++ more → ⊥
+    none : (bits : List Bool) → length bits < 1 → (d : CodedDataSet) (more : List Bool) → IsForm s b d → IsLow d → bits ≡ low_tail s d ++ more → ⊥
     none bits lt (NoCompression c) more form low e = low
     none bits lt (SecondExtension c) more form low e = omega (arith, ap length e)
     none bits lt (Split k c) more form low e = low
@@ -166,7 +166,7 @@ second_low_cut left failed old mid new s b v f lt pos t cut = record {
   none = none cut.bits cut.none;
 }
   where
-    none : (bits : List Bool) → ((c : Contents) (more : List Bool) → IsForm s b (SecondExtension c) → bits ≡ second_extension_tail s c ++ more → ⊥) → (d : DataSet) (more : List Bool) → IsForm s b d → IsLow d → true ∷ bits ≡ low_tail s d ++ more → ⊥
+    none : (bits : List Bool) → ((c : BlockData) (more : List Bool) → IsForm s b (SecondExtension c) → bits ≡ second_extension_tail s c ++ more → ⊥) → (d : CodedDataSet) (more : List Bool) → IsForm s b d → IsLow d → true ∷ bits ≡ low_tail s d ++ more → ⊥
     none bits h (NoCompression c) more form low e = low
     none bits h (SecondExtension c) more form low e = h c more form cc
     none bits h (Split k c) more form low e = low
@@ -181,7 +181,7 @@ run_low_cut left failed old mid new s b bits f t stops cut = record {
   none = none bits cut;
 }
   where
-    none : (bits : List Bool) → ((r : Option ℕ) (m : ℕ) (more : List Bool) → IsReference s b r → bits ≡ run_tail s r m ++ more → ⊥) → (d : DataSet) (more : List Bool) → IsForm s b d → IsLow d → false ∷ bits ≡ low_tail s d ++ more → ⊥
+    none : (bits : List Bool) → ((r : Option ℕ) (m : ℕ) (more : List Bool) → IsReference s b r → bits ≡ run_tail s r m ++ more → ⊥) → (d : CodedDataSet) (more : List Bool) → IsForm s b d → IsLow d → false ∷ bits ≡ low_tail s d ++ more → ⊥
     none bits h (NoCompression c) more form low e = low
     none bits h (SecondExtension c) more form low e = absurd cc
     none bits h (Split k c) more form low e = low

@@ -10,15 +10,16 @@ use Rattle.rice_bits.proofs.lemmas.bits.Words.{length-word, length-fundamental_s
 use Rattle.rice_code.proofs.lemmas.code.ReadInOneWay.{long_id}
 use Rattle.rice_bits.specs.read.Reader.{Reader, Takes, is_blank}
 use Rattle.rice_samples.specs.Parameters.{Parameters, IsSample, IsLegal, id_len}
-use Rattle.rice_samples.specs.Places.{blocks_left, begins_segment, has_reference, place}
+use Rattle.rice_samples.specs.Places.{blocks_left, begins_segment, is_reference, place}
 use Rattle.rice_samples.proofs.lemmas.setting.PlaceLemmas.{some_left, one_less_left, last_of_segment, reference_begins, next_place}
-use Rattle.rice_code.specs.code.Blocks.{Contents, contents, zeros}
-use Rattle.rice_code.specs.code.CodedDataSets.{DataSet, NoCompression, SecondExtension, Split, ZeroBlocks, RemainderOfSegment, text, turns, run_number, run_tail, no_compression_tail, second_extension_tail, split_tail, reference_text}
+use Rattle.rice_code.specs.code.Blocks.{BlockData, block_data, zero_block}
+use Rattle.rice_code.specs.code.CodedDataSets.{CodedDataSet, NoCompression, SecondExtension, Split, ZeroBlocks, RemainderOfSegment, bits_of_set, turns, run_number, run_tail, no_compression_tail, second_extension_tail, split_tail, reference_bits}
 use Rattle.rice_code.specs.code.Forms.{IsForm, IsReference, RunIsSound, ResidualsAreSound, blocks_in, zero_blocks}
 use Rattle.rice_code.specs.decode.ReadSets.{SetRead, SetCut}
 use Rattle.rice_code.specs.declared.decode.options.SetHead.TheVariants.{Zeros}
-use Rattle.rice_code.specs.code.Layout.{block_behind, padding}
-use Rattle.rice_code.specs.decode.Decoder.{Skips, TakesSet, GivesSet, GoesOn, IsPlace, SetEnds, StopsBy, answer_to, next_block_place}
+use Rattle.rice_code.specs.code.Layout.{block_after, padding}
+use Rattle.rice_code.specs.decode.Decoder.{Skips, TakesSet, GivesSet, GivesFromRun, SetEnds, StopsBy, answer_to}
+use Rattle.rice_code.specs.decode.DecoderState.{IsDecoderState, next_block_place}
 use Rattle.rice_bits.specs.declared.read.fault.BitFault.{BitFault}
 use Rattle.rice_bits.specs.declared.read.fault.BitFault.TheVariants as bit_faults
 use Rattle.rice_samples.specs.predict.Residuals.{last_of}
@@ -27,21 +28,21 @@ use Rattle.rice_code.specs.declared.decode.fault.Step.TheVariants.{Block}
 use Rattle.rice_code.specs.declared.decode.fault.CodeFault.{CodeFault}
 
 -- a run's blocks
-given_run : {I : Type 0} (left : I → Option (List ℕ)) (failed : I → ℕ) (old new : Reader I) (first last : ℕ) (s : Parameters) (b : ℕ) (p : ℤ) (r : Option ℕ) (z : ℕ) (samples : List ℤ) (set d : DataSet)
-    → set ≡ d → IsForm s b set → Takes left failed old new (text s set) → last + old.taken ≡ first + new.taken + turns set
+given_run : {I : Type 0} (left : I → Option (List ℕ)) (failed : I → ℕ) (old new : Reader I) (first last : ℕ) (s : Parameters) (b : ℕ) (p : ℤ) (r : Option ℕ) (z : ℕ) (samples : List ℤ) (set d : CodedDataSet)
+    → set ≡ d → IsForm s b set → Takes left failed old new (bits_of_set s set) → last + old.taken ≡ first + new.taken + turns set
     → RunIsSound s b d → ResidualsAreSound s d → zero_blocks s r z ≡ blocks_in s b d
-    → length samples ≡ s.block → All (IsSample s) samples → contents s b p samples ≡ zeros s r
+    → length samples ≡ s.block → All (IsSample s) samples → block_data s b p samples ≡ zero_block s r
     → TakesSet left failed old new first last s b p samples (z - 1)
 given_run left failed old new first last s b p r z samples set d e form takes steps run sound blocks len legal says = record {
   set = d;
   form = subst (λ x. IsForm s b x) e form;
   run_sound = run;
   residuals_sound = sound;
-  takes = subst (λ x. Takes left failed old new (text s x)) e takes;
+  takes = subst (λ x. Takes left failed old new (bits_of_set s x)) e takes;
   gives = record {
     len = len;
     legal = legal;
-    blocks_are = ap (λ c. c ∷ replicate (z - 1) (zeros s None)) says ∙ blocks;
+    blocks_are = ap (λ c. c ∷ replicate (z - 1) (zero_block s None)) says ∙ blocks;
   };
   steps = subst (λ x. last + old.taken ≡ first + new.taken + turns x) e steps;
 }
@@ -49,7 +50,7 @@ given_run left failed old new first last s b p r z samples set d e form takes st
 pub run_given : {I : Type 0} (left : I → Option (List ℕ)) (failed : I → ℕ) (old new : Reader I) (first last : ℕ) (s : Parameters) (b : ℕ) (p : ℤ) (r : Option ℕ) (zeros_read z : ℕ) (samples : List ℤ) (items : List ℕ)
     → SetRead left failed old new first last s b (Zeros r zeros_read) items → z ≤ blocks_left s b → (zeros_read ≡ 4 → z ≡ blocks_left s b)
     → ((zeros_read ≡ 4 → ⊥) → (z ≡ (if nat_lt zeros_read 4 then zeros_read + 1 else zeros_read)) × (z ≤ 63))
-    → length samples ≡ s.block → All (IsSample s) samples → contents s b p samples ≡ zeros s r
+    → length samples ≡ s.block → All (IsSample s) samples → block_data s b p samples ≡ zero_block s r
     → TakesSet left failed old new first last s b p samples (z - 1)
 run_given left failed old new first last s b p r m z samples items read le four other len legal says = by_zeros (m == 4) refl
   where
@@ -70,9 +71,9 @@ run_given left failed old new first last s b p r m z samples items read le four 
 
 -- no block of a run but its first has a reference
 pub no_reference : (s : Parameters) (b : ℕ) → begins_segment s b ≡ false → IsReference s b None
-no_reference s b e = record { there = by_reference (has_reference s b) refl; fits = tt }
+no_reference s b e = record { there = by_reference (is_reference s b) refl; fits = tt }
   where
-    by_reference : (t : Bool) → has_reference s b ≡ t → false ≡ has_reference s b
+    by_reference : (t : Bool) → is_reference s b ≡ t → false ≡ is_reference s b
     by_reference true h = absurd (let f : true ≡ false = sym (reference_begins s b h) ∙ e in cc)
     by_reference false h = sym h
 
@@ -98,7 +99,7 @@ run_goes_on s b run legal h pos le = by_begin (begins_segment s (b + 1)) refl
         let same : next_block_place s b ≡ b + 1 = grind (arith, nat_tests) in
         (ap (λ n. begins_segment s n) same ∙ e, rw same (omega arith))
 
-pub place_moves : (s : Parameters) (b next run : ℕ) (last : ℤ) (stopped : Option (Result Step CodeFault)) → IsLegal s → b < s.interval → next ≡ next_block_place s b → IsSample s last → (0 < run → run + 1 ≤ blocks_left s b) → stopped ≢ Some (Ok Block) → IsPlace s next last run stopped
+pub place_moves : (s : Parameters) (b next run : ℕ) (last : ℤ) (stopped : Option (Result Step CodeFault)) → IsLegal s → b < s.interval → next ≡ next_block_place s b → IsSample s last → (0 < run → run + 1 ≤ blocks_left s b) → stopped ≢ Some (Ok Block) → IsDecoderState s next last run stopped
 place_moves s b next run last stopped legal h e sample more no_block = record {
   legal = legal;
   within = subst (λ n. n < s.interval) (sym e) (next_within s b h);
@@ -108,15 +109,15 @@ place_moves s b next run last stopped legal h e sample more no_block = record {
   no_block = no_block;
 }
 
-replicate-first : (run : ℕ) (z : Contents) → 0 < run → z ∷ replicate (run - 1) z ≡ replicate run z
+replicate-first : (run : ℕ) (z : BlockData) → 0 < run → z ∷ replicate (run - 1) z ≡ replicate run z
 replicate-first zero z h = absurd (omega arith)
 replicate-first (suc run) z h = let e : suc run - 1 ≡ run = omega arith in ap (λ n. z ∷ replicate n z) e
 
 pub goes_on : (s : Parameters) (b next run : ℕ) (p last : ℤ) (stopped : Option (Result Step CodeFault)) (samples : List ℤ) → 0 < run → next ≡ next_block_place s b → last ≡ last_of p samples
-    → length samples ≡ s.block → All (IsSample s) samples → contents s b p samples ≡ zeros s None
-    → GoesOn (record { setting = s; block = b; before = p; run = run; stopped = stopped }) (record { setting = s; block = next; before = last; run = run - 1; stopped = stopped }) samples
+    → length samples ≡ s.block → All (IsSample s) samples → block_data s b p samples ≡ zero_block s None
+    → GivesFromRun (record { setting = s; block = b; before = p; run = run; stopped = stopped }) (record { setting = s; block = next; before = last; run = run - 1; stopped = stopped }) samples
 goes_on s b next run p last stopped samples pos e f len legal says = record {
-  gives = record { len = len; legal = legal; blocks_are = ap (λ c. c ∷ replicate (run - 1) (zeros s None)) says ∙ replicate-first run (zeros s None) pos };
+  gives = record { len = len; legal = legal; blocks_are = ap (λ c. c ∷ replicate (run - 1) (zero_block s None)) says ∙ replicate-first run (zero_block s None) pos };
   moves = λ i. record { setting = s; block = e i; before = f i; run = run - 1; stopped = stopped };
 }
 
@@ -130,19 +131,19 @@ few_samples blocks size bits h k = let m : blocks * size ≤ blocks * 64 = mul-l
 identified : (s : Parameters) (id : ℕ) (rest : List Bool) → length (word (id_len s) id ++ rest) ≡ id_len s + length rest
 identified s id rest = length-append (word (id_len s) id) rest ∙ ap (λ n. n + length rest) (length-word (id_len s) id)
 
-run_bits : (s : Parameters) (r : Option ℕ) (zeros : ℕ) → 5 + zeros ≤ length (word (id_len s) 0 ++ false ∷ run_tail s r zeros)
-run_bits s r m = omega (arith, long_id s, identified s 0 (false ∷ run_tail s r m), length-append (reference_text s r) (fundamental_sequence m), length-fundamental_sequence m)
+run_bits : (s : Parameters) (r : Option ℕ) (zero_block : ℕ) → 5 + zero_block ≤ length (word (id_len s) 0 ++ false ∷ run_tail s r zero_block)
+run_bits s r m = omega (arith, long_id s, identified s 0 (false ∷ run_tail s r m), length-append (reference_bits s r) (fundamental_sequence m), length-fundamental_sequence m)
 
-few_blocks : (s : Parameters) (b : ℕ) (d : DataSet) → IsLegal s → IsForm s b d → RunIsSound s b d → 64 * length (blocks_in s b d) ≤ 456 * length (text s d)
+few_blocks : (s : Parameters) (b : ℕ) (d : CodedDataSet) → IsLegal s → IsForm s b d → RunIsSound s b d → 64 * length (blocks_in s b d) ≤ 456 * length (bits_of_set s d)
 few_blocks s b (NoCompression c) legal form run = omega (arith, long_id s, identified s (2 ^ id_len s - 1) (no_compression_tail s c))
 few_blocks s b (SecondExtension c) legal form run = omega (arith, long_id s, identified s 0 (true ∷ second_extension_tail s c))
 few_blocks s b (Split k c) legal form run = omega (arith, long_id s, identified s (k + 1) (split_tail s k c))
 few_blocks s b (ZeroBlocks r z) legal form run =
-    let n : length (replicate (z - 1) (zeros s None)) ≡ z - 1 = length-replicate (z - 1) (zeros s None) in
+    let n : length (replicate (z - 1) (zero_block s None)) ≡ z - 1 = length-replicate (z - 1) (zero_block s None) in
     let m : z ≤ run_number z + 1 = grind (arith, nat_tests) in
     omega (arith, run_bits s r (run_number z), n, m, form.1)
 few_blocks s b (RemainderOfSegment r) legal form run =
-    let n : length (replicate (blocks_left s b - 1) (zeros s None)) ≡ blocks_left s b - 1 = length-replicate (blocks_left s b - 1) (zeros s None) in
+    let n : length (replicate (blocks_left s b - 1) (zero_block s None)) ≡ blocks_left s b - 1 = length-replicate (blocks_left s b - 1) (zero_block s None) in
     let left = some_left s b legal.interval_from in
     omega (arith, run_bits s r 4, n, left.0, left.1)
 
@@ -150,10 +151,10 @@ few_blocks s b (RemainderOfSegment r) legal form run =
 pub samples_by_bits : {I : Type 0} (left : I → Option (List ℕ)) (failed : I → ℕ) (old new : Reader I) (first last : ℕ) (s : Parameters) (b : ℕ) (p : ℤ) (samples : List ℤ) (run : ℕ)
     → IsLegal s → TakesSet left failed old new first last s b p samples run → length samples + run * s.block ≤ 456 * (new.taken - old.taken)
 samples_by_bits left failed old new first last s b p samples run legal given =
-    let n : suc (length (replicate run (zeros s None))) ≡ length (blocks_in s b given.set) = ap length given.gives.blocks_are in
-    let m : length (replicate run (zeros s None)) ≡ run = length-replicate run (zeros s None) in
-    let t : new.taken - old.taken ≡ length (text s given.set) = omega (arith, given.takes.taken) in
-    let few : length (blocks_in s b given.set) * s.block ≤ 456 * length (text s given.set) = few_samples (length (blocks_in s b given.set)) s.block (length (text s given.set)) (block_limit s legal) (few_blocks s b given.set legal given.form given.run_sound) in
+    let n : suc (length (replicate run (zero_block s None))) ≡ length (blocks_in s b given.set) = ap length given.gives.blocks_are in
+    let m : length (replicate run (zero_block s None)) ≡ run = length-replicate run (zero_block s None) in
+    let t : new.taken - old.taken ≡ length (bits_of_set s given.set) = omega (arith, given.takes.taken) in
+    let few : length (blocks_in s b given.set) * s.block ≤ 456 * length (bits_of_set s given.set) = few_samples (length (blocks_in s b given.set)) s.block (length (bits_of_set s given.set)) (block_limit s legal) (few_blocks s b given.set legal given.form given.run_sound) in
     let k : (1 + run) * s.block ≡ length (blocks_in s b given.set) * s.block = ap (λ j. j * s.block) (omega arith) in
     omega (arith, given.gives.len)
 
@@ -183,9 +184,9 @@ pub set_given : {I : Type 0} (left : I → Option (List ℕ)) (failed : I → �
     → TakesSet left failed old middle first steps s b p samples run → Skips middle new (padding s (b + 1 + run) middle.taken) → last + middle.taken ≡ steps + new.taken
     → GivesSet left failed old new first last s b p samples run
 set_given left failed old middle new first steps last s b p samples run set skips counted =
-    let n : suc (length (replicate run (zeros s None))) ≡ length (blocks_in s b set.set) = ap length set.gives.blocks_are in
-    let m : length (replicate run (zeros s None)) ≡ run = length-replicate run (zeros s None) in
-    let behind : b + 1 + run ≡ block_behind s b set.set = omega arith in
+    let n : suc (length (replicate run (zero_block s None))) ≡ length (blocks_in s b set.set) = ap length set.gives.blocks_are in
+    let m : length (replicate run (zero_block s None)) ≡ run = length-replicate run (zero_block s None) in
+    let behind : b + 1 + run ≡ block_after s b set.set = omega arith in
     record {
       middle = middle;
       middle_steps = steps;

@@ -9,10 +9,10 @@ use Rattle.rice_bits.proofs.lemmas.bits.OneWay.{sequence_reads}
 use Rattle.rice_bits.proofs.lemmas.read.ReaderLemmas.{takes-append, stops-append}
 use Rattle.rice_bits.proofs.lemmas.bits.Words.{length-word}
 use Rattle.rice_samples.specs.Parameters.{Parameters, IsLegal, value_count, k_max}
-use Rattle.rice_samples.specs.Places.{has_reference}
-use Rattle.rice_code.specs.code.Blocks.{Contents}
+use Rattle.rice_samples.specs.Places.{is_reference}
+use Rattle.rice_code.specs.code.Blocks.{BlockData}
 use Rattle.rice_samples.specs.blocks.Pairs.{pair_codes}
-use Rattle.rice_code.specs.code.CodedDataSets.{DataSet, NoCompression, SecondExtension, Split, coded, coded_from, reference_text, no_compression_tail, second_extension_tail, split_tail, run_tail}
+use Rattle.rice_code.specs.code.CodedDataSets.{CodedDataSet, NoCompression, SecondExtension, Split, sent_residuals, sent_from, reference_bits, no_compression_tail, second_extension_tail, split_tail, run_tail}
 use Rattle.rice_code.specs.code.Forms.{IsForm, IsReference, IsBlock}
 use Rattle.rice_code.specs.decode.Fields.{Row, CountRow, PairRow, ones}
 use Rattle.rice_code.specs.decode.ReadSets.{BlockRead, BlockCut, reference_place, joined_parts}
@@ -24,7 +24,7 @@ use Rattle.std.proofs.lemmas.Nat.{pow_pos}
 use borrow.Rule.Slice.PartMut.{put_mid}
 use Rattle.rice_code.proofs.lemmas.code.ReadInOneWay.{after_reference}
 
-pub coded-placed : (r : Option ℕ) (vs : List ℕ) → coded_from r (reference_place r ++ vs) ≡ vs
+pub coded-placed : (r : Option ℕ) (vs : List ℕ) → sent_from r (reference_place r ++ vs) ≡ vs
 coded-placed None vs = refl
 coded-placed (Some v) vs = refl
 
@@ -41,31 +41,31 @@ all-placed P (Some v) vs z h = λ i. by_index i
     by_index (suc i) d lt = h i d (omega arith)
 
 -- as many residuals are coded at a block, whatever they are
-pub length-coded_at : (s : Parameters) (b : ℕ) (c : Contents) (r : Option ℕ) (count : ℕ) → IsBlock s b c → IsReference s b r → count + length (reference_place r) ≡ s.block → length (coded c) ≡ count
+pub length-coded_at : (s : Parameters) (b : ℕ) (c : BlockData) (r : Option ℕ) (count : ℕ) → IsBlock s b c → IsReference s b r → count + length (reference_place r) ≡ s.block → length (sent_residuals c) ≡ count
 length-coded_at s b c r count h k e = by_cases r c.reference c.residuals (k.there ∙ sym h.reference.there) (e ∙ sym h.len)
   where
-    by_cases : (r q : Option ℕ) (ds : List ℕ) → Rattle.std.specs.Prelude.is_some r ≡ Rattle.std.specs.Prelude.is_some q → count + length (reference_place r) ≡ length ds → length (coded_from q ds) ≡ count
+    by_cases : (r q : Option ℕ) (ds : List ℕ) → Rattle.std.specs.Prelude.is_some r ≡ Rattle.std.specs.Prelude.is_some q → count + length (reference_place r) ≡ length ds → length (sent_from q ds) ≡ count
     by_cases None None ds e f = omega arith
     by_cases None (Some w) ds e f = absurd cc
     by_cases (Some v) None ds e f = absurd cc
     by_cases (Some v) (Some w) [] e f = absurd (omega arith)
     by_cases (Some v) (Some w) (d ∷ ds) e f = omega arith
 
-pub length-reference : (s : Parameters) (b : ℕ) (r : Option ℕ) → IsReference s b r → has_reference s b ≡ true → length (reference_text s r) ≡ s.bits
+pub length-reference : (s : Parameters) (b : ℕ) (r : Option ℕ) → IsReference s b r → is_reference s b ≡ true → length (reference_bits s r) ≡ s.bits
 length-reference s b None h k = absurd (let f : false ≡ true = h.there ∙ k in cc)
 length-reference s b (Some v) h k = length-word s.bits v
 
 -- nothing begins with less than a reference
-pub short_reference : (s : Parameters) (b : ℕ) (r : Option ℕ) (bits rest more : List Bool) → IsReference s b r → has_reference s b ≡ true → length bits < s.bits →
-    bits ≡ (reference_text s r ++ rest) ++ more → ⊥
+pub short_reference : (s : Parameters) (b : ℕ) (r : Option ℕ) (bits rest more : List Bool) → IsReference s b r → is_reference s b ≡ true → length bits < s.bits →
+    bits ≡ (reference_bits s r ++ rest) ++ more → ⊥
 short_reference s b r bits rest more h k lt e =
-    omega (arith, ap length e, length-append (reference_text s r ++ rest) more, length-append (reference_text s r) rest, length-reference s b r h k)
+    omega (arith, ap length e, length-append (reference_bits s r ++ rest) more, length-append (reference_bits s r) rest, length-reference s b r h k)
 
 -- behind a reference stands one and what follows it
 pub behind_reference : (s : Parameters) (b : ℕ) (r q : Option ℕ) (bits rest more : List Bool) → IsReference s b r → IsReference s b q →
-    reference_text s r ++ bits ≡ (reference_text s q ++ rest) ++ more → (r ≡ q) × (bits ≡ rest ++ more)
+    reference_bits s r ++ bits ≡ (reference_bits s q ++ rest) ++ more → (r ≡ q) × (bits ≡ rest ++ more)
 behind_reference s b r q bits rest more h k e =
-    let a = after_reference s b r q h k bits rest [] more (append-nil (reference_text s r ++ bits) ∙ e) in
+    let a = after_reference s b r q h k bits rest [] more (append-nil (reference_bits s r ++ bits) ∙ e) in
     (a.0, sym (append-nil bits) ∙ a.1)
 
 short_words : (width count : ℕ) (vs : List ℕ) (bits more : List Bool) → length vs ≡ count → length bits < count * width → bits ≡ flat_map (word width) vs ++ more → ⊥
@@ -85,7 +85,7 @@ placed_row left failed piece P old new count before alone after row e = record {
 }
 
 pub plain_read : {I : Type 0} (left : I → Option (List ℕ)) (failed : I → ℕ) (old mid new : Reader I) (first last : ℕ) (s : Parameters) (b : ℕ) (r : Option ℕ) (count : ℕ) (items : List ℕ)
-    → IsReference s b r → count + length (reference_place r) ≡ s.block → 0 < value_count s → Takes left failed old mid (reference_text s r)
+    → IsReference s b r → count + length (reference_place r) ≡ s.block → 0 < value_count s → Takes left failed old mid (reference_bits s r)
     → Row left failed (word s.bits) (λ v. v < 2 ^ s.bits) mid new count (reference_place r) items → last + old.taken ≡ first + new.taken
     → BlockRead left failed old new first last s b NoCompression (no_compression_tail s) r true items
 plain_read left failed old mid new first last s b r count items h n z t row steps =
@@ -102,38 +102,38 @@ plain_read left failed old mid new first last s b r count items h n z t row step
     }
 
 pub plain_cut : {I : Type 0} (left : I → Option (List ℕ)) (failed : I → ℕ) (old mid new : Reader I) (s : Parameters) (b : ℕ) (r : Option ℕ) (count : ℕ) (bits : List Bool) (f : BitFault)
-    → IsReference s b r → count + length (reference_place r) ≡ s.block → Takes left failed old mid (reference_text s r)
+    → IsReference s b r → count + length (reference_place r) ≡ s.block → Takes left failed old mid (reference_bits s r)
     → length bits < count * s.bits → Stops left failed mid new bits f → BlockCut left failed old new s b NoCompression (no_compression_tail s) f
 plain_cut left failed old mid new s b r count bits f h n t short stops = record {
-  bits = reference_text s r ++ bits;
+  bits = reference_bits s r ++ bits;
   stops = stops-append left failed old mid new _ bits f t stops;
   none = λ c more form e.
-      (let a = behind_reference s b r c.reference bits (flat_map (word s.bits) (coded c)) more h form.0.reference e in
-      short_words s.bits count (coded c) bits more (length-coded_at s b c r count form.0 h n) short a.1);
+      (let a = behind_reference s b r c.reference bits (flat_map (word s.bits) (sent_residuals c)) more h form.0.reference e in
+      short_words s.bits count (sent_residuals c) bits more (length-coded_at s b c r count form.0 h n) short a.1);
 }
 
 -- a block is cut off inside its reference
-pub cut_at_reference : {I : Type 0} (left : I → Option (List ℕ)) (failed : I → ℕ) (old new : Reader I) (s : Parameters) (b : ℕ) (option : Contents → DataSet) (rest : Contents → List Bool) (bits : List Bool) (f : BitFault)
-    → ((c : Contents) → IsForm s b (option c) → IsReference s b c.reference) → has_reference s b ≡ true → length bits < s.bits → Stops left failed old new bits f
-    → BlockCut left failed old new s b option (λ c. reference_text s c.reference ++ rest c) f
+pub cut_at_reference : {I : Type 0} (left : I → Option (List ℕ)) (failed : I → ℕ) (old new : Reader I) (s : Parameters) (b : ℕ) (option : BlockData → CodedDataSet) (rest : BlockData → List Bool) (bits : List Bool) (f : BitFault)
+    → ((c : BlockData) → IsForm s b (option c) → IsReference s b c.reference) → is_reference s b ≡ true → length bits < s.bits → Stops left failed old new bits f
+    → BlockCut left failed old new s b option (λ c. reference_bits s c.reference ++ rest c) f
 cut_at_reference left failed old new s b option rest bits f refs k short stops = record {
   bits = bits;
   stops = stops;
   none = λ c more form e. short_reference s b c.reference bits (rest c) more (refs c form) k short e;
 }
 
-pub run_cut_at_reference : (s : Parameters) (b : ℕ) (bits : List Bool) → has_reference s b ≡ true → length bits < s.bits
+pub run_cut_at_reference : (s : Parameters) (b : ℕ) (bits : List Bool) → is_reference s b ≡ true → length bits < s.bits
     → (r : Option ℕ) (m : ℕ) (more : List Bool) → IsReference s b r → bits ≡ run_tail s r m ++ more → ⊥
 run_cut_at_reference s b bits k short r m more h e = short_reference s b r bits (fundamental_sequence m) more h k short e
 
 pub run_cut : (s : Parameters) (b : ℕ) (r : Option ℕ) (zeros : ℕ) → IsReference s b r
-    → (q : Option ℕ) (m : ℕ) (more : List Bool) → IsReference s b q → reference_text s r ++ replicate zeros false ≡ run_tail s q m ++ more → ⊥
+    → (q : Option ℕ) (m : ℕ) (more : List Bool) → IsReference s b q → reference_bits s r ++ replicate zeros false ≡ run_tail s q m ++ more → ⊥
 run_cut s b r zeros h q m more k e =
     let a = behind_reference s b r q (replicate zeros false) (fundamental_sequence m) more h k e in
     omega (arith, ap ones a.1, ones-zeros zeros, ones-append (fundamental_sequence m) more, ones-sequence m)
 
 pub second_read : {I : Type 0} (left : I → Option (List ℕ)) (failed : I → ℕ) (old mid new : Reader I) (first second last : ℕ) (s : Parameters) (b : ℕ) (r : Option ℕ) (half : ℕ) (items : List ℕ) (sound : Bool)
-    → IsReference s b r → half + half ≡ s.block → Takes left failed old mid (reference_text s r)
+    → IsReference s b r → half + half ≡ s.block → Takes left failed old mid (reference_bits s r)
     → PairRow left failed mid new half items second last → second + old.taken ≡ first + mid.taken
     → (sound ≡ true → OnSome r (slice_index items 0 ≡ 0) × All (λ d. d < value_count s) items)
     → (sound ≡ false → OnSome r (slice_index items 0 ≡ 0) × All (λ d. d < value_count s) items → ⊥)
@@ -149,10 +149,10 @@ second_read left failed old mid new first second last s b r half items sound h n
 }
 
 pub second_cut : {I : Type 0} (left : I → Option (List ℕ)) (failed : I → ℕ) (old mid new : Reader I) (s : Parameters) (b : ℕ) (r : Option ℕ) (half : ℕ) (bits : List Bool) (f : BitFault)
-    → IsReference s b r → half + half ≡ s.block → Takes left failed old mid (reference_text s r)
+    → IsReference s b r → half + half ≡ s.block → Takes left failed old mid (reference_bits s r)
     → ones bits < half → Stops left failed mid new bits f → BlockCut left failed old new s b SecondExtension (second_extension_tail s) f
 second_cut left failed old mid new s b r half bits f h n t short stops = record {
-  bits = reference_text s r ++ bits;
+  bits = reference_bits s r ++ bits;
   stops = stops-append left failed old mid new _ bits f t stops;
   none = λ c more form e.
       (let a = behind_reference s b r c.reference bits (flat_map fundamental_sequence (pair_codes c.residuals)) more h form.reference e in
@@ -164,7 +164,7 @@ all-suffix P None vs h = h
 all-suffix P (Some v) vs h = λ i d lt. h (suc i) d (omega arith)
 
 pub split_read : {I : Type 0} (left : I → Option (List ℕ)) (failed : I → ℕ) (old mid next new : Reader I) (first last : ℕ) (s : Parameters) (b k : ℕ) (r : Option ℕ) (count : ℕ) (P : ℕ → Type 0) (highs lows items : List ℕ) (sound : Bool)
-    → IsReference s b r → k ≤ k_max s → count + length (reference_place r) ≡ s.block → Takes left failed old mid (reference_text s r)
+    → IsReference s b r → k ≤ k_max s → count + length (reference_place r) ≡ s.block → Takes left failed old mid (reference_bits s r)
     → Row left failed fundamental_sequence P mid next count [] highs → Row left failed (word k) (λ v. v < 2 ^ k) next new count [] lows → last + old.taken ≡ first + new.taken
     → (sound ≡ true → All (λ d. d < value_count s) (joined_parts k highs lows)) → (sound ≡ true → items ≡ reference_place r ++ joined_parts k highs lows)
     → (sound ≡ false → All (λ d. d < value_count s) (joined_parts k highs lows) → ⊥)
@@ -194,7 +194,7 @@ count_row left failed old new most small many count told e row = record { values
 
 -- a high part is too large
 pub split_large : {I : Type 0} (left : I → Option (List ℕ)) (failed : I → ℕ) (old mid next new : Reader I) (first last : ℕ) (s : Parameters) (b k : ℕ) (r : Option ℕ) (many count : ℕ) (told lows items : List ℕ) (small : Bool)
-    → IsReference s b r → k ≤ k_max s → count + length (reference_place r) ≡ s.block → many ≡ count → Takes left failed old mid (reference_text s r)
+    → IsReference s b r → k ≤ k_max s → count + length (reference_place r) ≡ s.block → many ≡ count → Takes left failed old mid (reference_bits s r)
     → CountRow left failed mid next ((value_count s - 1) / 2 ^ k) small many told → small ≡ false → Row left failed (word k) (λ v. v < 2 ^ k) next new count [] lows → last + old.taken ≡ first + new.taken
     → BlockRead left failed old new first last s b (Split k) (split_tail s k) r false items
 split_large left failed old mid next new first last s b k r many count told lows items small h le n m t high e low steps =
@@ -205,7 +205,7 @@ split_large left failed old mid next new first last s b k r many count told lows
 
 -- high parts stand in their places
 pub split_joined : {I : Type 0} (left : I → Option (List ℕ)) (failed : I → ℕ) (old mid next new : Reader I) (first last : ℕ) (s : Parameters) (b k : ℕ) (r : Option ℕ) (many count : ℕ) (told lows items : List ℕ) (small sound : Bool)
-    → IsReference s b r → k ≤ k_max s → count + length (reference_place r) ≡ s.block → many ≡ count → Takes left failed old mid (reference_text s r)
+    → IsReference s b r → k ≤ k_max s → count + length (reference_place r) ≡ s.block → many ≡ count → Takes left failed old mid (reference_bits s r)
     → CountRow left failed mid next ((value_count s - 1) / 2 ^ k) small many told → small ≡ true → Row left failed (word k) (λ v. v < 2 ^ k) next new count [] lows → last + old.taken ≡ first + new.taken
     → items ≡ reference_place r ++ joined_parts k told lows
     → (sound ≡ true → All (λ d. d < value_count s) (joined_parts k told lows)) → (sound ≡ false → All (λ d. d < value_count s) (joined_parts k told lows) → ⊥)
@@ -223,19 +223,19 @@ ones-high k [] = refl
 ones-high k (d ∷ ds) = omega (arith, ones-append (fundamental_sequence (d / 2 ^ k)) (flat_map (λ d. fundamental_sequence (d / 2 ^ k)) ds), ones-sequence (d / 2 ^ k), ones-high k ds)
 
 pub split_cut_high : {I : Type 0} (left : I → Option (List ℕ)) (failed : I → ℕ) (old mid new : Reader I) (s : Parameters) (b k : ℕ) (r : Option ℕ) (count : ℕ) (bits : List Bool) (f : BitFault)
-    → IsReference s b r → count + length (reference_place r) ≡ s.block → Takes left failed old mid (reference_text s r)
+    → IsReference s b r → count + length (reference_place r) ≡ s.block → Takes left failed old mid (reference_bits s r)
     → ones bits < count → Stops left failed mid new bits f → BlockCut left failed old new s b (Split k) (split_tail s k) f
 split_cut_high left failed old mid new s b k r count bits f h n t short stops = record {
-  bits = reference_text s r ++ bits;
+  bits = reference_bits s r ++ bits;
   stops = stops-append left failed old mid new _ bits f t stops;
   none = λ c more form e.
-      (let a = behind_reference s b r c.reference bits (flat_map (λ d. fundamental_sequence (d / 2 ^ k)) (coded c) ++ flat_map (word k) (coded c)) more h form.0.reference e in
+      (let a = behind_reference s b r c.reference bits (flat_map (λ d. fundamental_sequence (d / 2 ^ k)) (sent_residuals c) ++ flat_map (word k) (sent_residuals c)) more h form.0.reference e in
       omega (
         arith,
         ap ones a.1,
-        ones-append (flat_map (λ d. fundamental_sequence (d / 2 ^ k)) (coded c) ++ flat_map (word k) (coded c)) more,
-        ones-append (flat_map (λ d. fundamental_sequence (d / 2 ^ k)) (coded c)) (flat_map (word k) (coded c)),
-        ones-high k (coded c),
+        ones-append (flat_map (λ d. fundamental_sequence (d / 2 ^ k)) (sent_residuals c) ++ flat_map (word k) (sent_residuals c)) more,
+        ones-append (flat_map (λ d. fundamental_sequence (d / 2 ^ k)) (sent_residuals c)) (flat_map (word k) (sent_residuals c)),
+        ones-high k (sent_residuals c),
         length-coded_at s b c r count form.0 h n,
       ));
 }
@@ -250,18 +250,18 @@ after_sequences k (m ∷ ms) (d ∷ ds) x y n e =
     after_sequences k ms ds x y (omega arith) a.1
 
 pub split_cut_low : {I : Type 0} (left : I → Option (List ℕ)) (failed : I → ℕ) (old mid next new : Reader I) (s : Parameters) (b k : ℕ) (r : Option ℕ) (count : ℕ) (P : ℕ → Type 0) (highs : List ℕ) (bits : List Bool) (f : BitFault)
-    → IsReference s b r → count + length (reference_place r) ≡ s.block → Takes left failed old mid (reference_text s r)
+    → IsReference s b r → count + length (reference_place r) ≡ s.block → Takes left failed old mid (reference_bits s r)
     → Row left failed fundamental_sequence P mid next count [] highs
     → length bits < count * k → Stops left failed next new bits f → BlockCut left failed old new s b (Split k) (split_tail s k) f
 split_cut_low left failed old mid next new s b k r count P highs bits f h n t high short stops = record {
-  bits = reference_text s r ++ (flat_map fundamental_sequence high.values ++ bits);
+  bits = reference_bits s r ++ (flat_map fundamental_sequence high.values ++ bits);
   stops = stops-append left failed old mid new _ _ f t (stops-append left failed mid next new _ bits f high.takes stops);
   none = λ c more form e.
-      (let a = behind_reference s b r c.reference (flat_map fundamental_sequence high.values ++ bits) (flat_map (λ d. fundamental_sequence (d / 2 ^ k)) (coded c) ++ flat_map (word k) (coded c)) more h form.0.reference e in
+      (let a = behind_reference s b r c.reference (flat_map fundamental_sequence high.values ++ bits) (flat_map (λ d. fundamental_sequence (d / 2 ^ k)) (sent_residuals c) ++ flat_map (word k) (sent_residuals c)) more h form.0.reference e in
       let len = length-coded_at s b c r count form.0 h n in
-      let low = after_sequences k high.values (coded c) bits (flat_map (word k) (coded c) ++ more) (high.len ∙ sym len)
-      (a.1 ∙ append_assoc (flat_map (λ d. fundamental_sequence (d / 2 ^ k)) (coded c)) (flat_map (word k) (coded c)) more) in
-      short_words k count (coded c) bits more len short low);
+      let low = after_sequences k high.values (sent_residuals c) bits (flat_map (word k) (sent_residuals c) ++ more) (high.len ∙ sym len)
+      (a.1 ∙ append_assoc (flat_map (λ d. fundamental_sequence (d / 2 ^ k)) (sent_residuals c)) (flat_map (word k) (sent_residuals c)) more) in
+      short_words k count (sent_residuals c) bits more len short low);
 }
 
 -- a block is two halves

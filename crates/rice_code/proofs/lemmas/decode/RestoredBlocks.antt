@@ -9,21 +9,21 @@ use Rattle.std.proofs.lemmas.List.{drop_all, take_all}
 use Rattle.std.proofs.Math.Dec.{eqb-suc-zero}
 use borrow.Rule.Slice.PartMut.{put_mid}
 use Rattle.rice_samples.specs.Parameters.{Parameters}
-use Rattle.rice_samples.specs.Places.{has_reference, is_reference, place}
+use Rattle.rice_samples.specs.Places.{is_reference, is_reference_sample, place}
 use Rattle.rice_samples.specs.predict.Residuals.{residual, residuals, rank, ranks, pattern}
-use Rattle.rice_code.specs.code.Blocks.{contents, zeros}
+use Rattle.rice_code.specs.code.Blocks.{block_data, zero_block}
 use Rattle.rice_code.specs.code.Forms.{IsReference}
 use Rattle.rice_code.specs.decode.Restored.{residual_at}
 use Rattle.rice_code.proofs.lemmas.meaning.Covers.{bool_cases}
 use Rattle.rice_code.proofs.lemmas.code.Filling.{Repeats, repeated_all}
 
 -- of a block's samples only the first is a reference, if the block has one
-pub reference_within : (s : Parameters) (b j : ℕ) → j < s.block → is_reference s (s.block * b + j) ≡ (has_reference s b && j == 0)
+pub reference_within : (s : Parameters) (b j : ℕ) → j < s.block → is_reference_sample s (s.block * b + j) ≡ (is_reference s b && j == 0)
 reference_within s b j h =
     let c : s.block * b + j ≡ b * s.block + j = ap (λ n. n + j) (mul_comm s.block b) in
     let q : (s.block * b + j) / s.block ≡ b = ap (λ n. n / s.block) c ∙ div-mul-add b s.block j h in
     let r : (s.block * b + j) % s.block ≡ j = ap (λ n. n % s.block) c ∙ mod-mul-add b s.block j h in
-    λ i. has_reference s (q i) && (r i == 0)
+    λ i. is_reference s (q i) && (r i == 0)
 
 and-swap : (a b : Bool) → (a && b) ≡ (b && a)
 and-swap true true = refl
@@ -33,7 +33,7 @@ and-swap false false = refl
 
 pub residual_within : (s : Parameters) (b j : ℕ) (r : Option ℕ) (p x : ℤ) → j < s.block → IsReference s b r → residual s (s.block * b + j) p x ≡ residual_at s r (j == 0) p x
 residual_within s b j r p x h k =
-    let e : is_reference s (s.block * b + j) ≡ ((j == 0) && is_some r) = reference_within s b j h ∙ (ap (λ z. z && (j == 0)) (sym k.there) ∙ and-swap (is_some r) (j == 0)) in
+    let e : is_reference_sample s (s.block * b + j) ≡ ((j == 0) && is_some r) = reference_within s b j h ∙ (ap (λ z. z && (j == 0)) (sym k.there) ∙ and-swap (is_some r) (j == 0)) in
     ap (λ z. cond s.preprocess (cond z 0 (rank s p x)) (pattern s x)) e
 
 -- the residuals of samples that no reference is among
@@ -47,21 +47,21 @@ ranks_within s b j r p (x ∷ xs) k e f h =
 
 patterns_alone : (s : Parameters) (n : ℕ) (p : ℤ) (xs : List ℤ) → s.preprocess ≡ false → residuals s n p xs ≡ map (pattern s) xs
 patterns_alone s n p [] e = refl
-patterns_alone s n p (x ∷ xs) e = let rest = patterns_alone s (n + 1) x xs e in λ i. cond (e i) (cond (is_reference s n) 0 (rank s p x)) (pattern s x) ∷ rest i
+patterns_alone s n p (x ∷ xs) e = let rest = patterns_alone s (n + 1) x xs e in λ i. cond (e i) (cond (is_reference_sample s n) 0 (rank s p x)) (pattern s x) ∷ rest i
 
 pub contents_are : (s : Parameters) (b : ℕ) (p : ℤ) (r : Option ℕ) (ds : List ℕ) (samples : List ℤ) → IsReference s b r → residuals s (s.block * b) p samples ≡ ds → IfSome r (λ v. pattern s (slice_index_or samples 0 p) ≡ v)
-    → contents s b p samples ≡ record { reference = r; residuals = ds }
+    → block_data s b p samples ≡ record { reference = r; residuals = ds }
 contents_are s b p None ds samples h e first =
-    let f : cond (has_reference s b) (Some (pattern s (slice_index_or samples 0 p))) None ≡ None = ap (λ t. cond t (Some (pattern s (slice_index_or samples 0 p))) None) (sym h.there) in
+    let f : cond (is_reference s b) (Some (pattern s (slice_index_or samples 0 p))) None ≡ None = ap (λ t. cond t (Some (pattern s (slice_index_or samples 0 p))) None) (sym h.there) in
     λ i. record { reference = f i; residuals = e i }
 contents_are s b p (Some v) ds samples h e first =
-    let f : cond (has_reference s b) (Some (pattern s (slice_index_or samples 0 p))) None ≡ Some v = ap (λ t. cond t (Some (pattern s (slice_index_or samples 0 p))) None) (sym h.there) ∙ ap (λ w. Some w) first in
+    let f : cond (is_reference s b) (Some (pattern s (slice_index_or samples 0 p))) None ≡ Some v = ap (λ t. cond t (Some (pattern s (slice_index_or samples 0 p))) None) (sym h.there) ∙ ap (λ w. Some w) first in
     λ i. record { reference = f i; residuals = e i }
 
-pub contents_of_patterns : (s : Parameters) (b : ℕ) (p : ℤ) (ds : List ℕ) (xs : List ℤ) → IsReference s b None → s.preprocess ≡ false → map (pattern s) xs ≡ ds → contents s b p xs ≡ record { reference = None; residuals = ds }
+pub contents_of_patterns : (s : Parameters) (b : ℕ) (p : ℤ) (ds : List ℕ) (xs : List ℤ) → IsReference s b None → s.preprocess ≡ false → map (pattern s) xs ≡ ds → block_data s b p xs ≡ record { reference = None; residuals = ds }
 contents_of_patterns s b p ds xs h e m = contents_are s b p None ds xs h (patterns_alone s (s.block * b) p xs e ∙ m) tt
 
-pub contents_of_ranks : (s : Parameters) (b : ℕ) (p : ℤ) (ds : List ℕ) (xs : List ℤ) → IsReference s b None → s.preprocess ≡ true → length xs ≡ s.block → ranks s p xs ≡ ds → contents s b p xs ≡ record { reference = None; residuals = ds }
+pub contents_of_ranks : (s : Parameters) (b : ℕ) (p : ℤ) (ds : List ℕ) (xs : List ℤ) → IsReference s b None → s.preprocess ≡ true → length xs ≡ s.block → ranks s p xs ≡ ds → block_data s b p xs ≡ record { reference = None; residuals = ds }
 contents_of_ranks s b p ds xs h e len r =
     let at : s.block * b ≡ s.block * b + 0 = omega arith in
     contents_are s b p None ds xs h (ap (λ n. residuals s n p xs) at ∙ (ranks_within s b 0 None p xs h e refl (omega (arith, len)) ∙ r)) tt
@@ -76,7 +76,7 @@ preprocesses s b v h = at s.preprocess (place s b == 0) h.there
 
 -- the samples behind a reference
 pub contents_behind : (s : Parameters) (b : ℕ) (p x : ℤ) (v : ℕ) (ds : List ℕ) (ys : List ℤ) → IsReference s b (Some v) → length ds ≡ s.block → length ds ≡ suc (length ys) → slice_index ds 0 ≡ 0 → ranks s x ys ≡ drop 1 ds → pattern s x ≡ v
-    → contents s b p (x ∷ ys) ≡ record { reference = Some v; residuals = ds }
+    → block_data s b p (x ∷ ys) ≡ record { reference = Some v; residuals = ds }
 contents_behind s b p x v [] ys h n len first r pat = absurd (omega arith)
 contents_behind s b p x v (d ∷ ds) ys h n len first r pat =
     let e = preprocesses s b v h in
@@ -96,7 +96,7 @@ refill_all xs ys e =
     ∙ (ap (take (length xs)) (append-nil ys) ∙ take_all (length xs) ys (omega (arith, e)))
 
 -- a sample that gives a residual of 0 first gives it again and again
-pub zeros_restored : (s : Parameters) (b : ℕ) (p x : ℤ) (r : Option ℕ) → IsReference s b r → 1 ≤ s.block → residual_at s r true p x ≡ 0 → IfSome r (λ v. pattern s x ≡ v) → contents s b p (replicate s.block x) ≡ zeros s r
+pub zeros_restored : (s : Parameters) (b : ℕ) (p x : ℤ) (r : Option ℕ) → IsReference s b r → 1 ≤ s.block → residual_at s r true p x ≡ 0 → IfSome r (λ v. pattern s x ≡ v) → block_data s b p (replicate s.block x) ≡ zero_block s r
 zeros_restored s b p x r h j res ref = contents_are s b p r (replicate s.block 0) (replicate s.block x) h (all_zeros s.block j) (subst Q (sym (first s.block j)) ref)
   where
     Q : ℤ → Type 0

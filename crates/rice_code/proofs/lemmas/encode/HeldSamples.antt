@@ -8,36 +8,38 @@ use Rattle.std.proofs.lemmas.List.{take_at, drop_at, length-take-le, length-take
 use Rattle.std.proofs.lemmas.Nat.{div-mul-add}
 use Rattle.std.proofs.Math.Nat.{div-add-mod, mod-lt, mul-mod_right, mul-div_cancel_left, mul-le-mul_left}
 use Rattle.rice_samples.specs.Parameters.{Parameters, IsSample}
-use Rattle.rice_samples.specs.Places.{place, begins_segment, blocks_left, has_reference, is_reference}
+use Rattle.rice_samples.specs.Places.{place, begins_segment, blocks_left, is_reference, is_reference_sample}
 use Rattle.rice_samples.specs.predict.Residuals.{pattern, residual, residuals, last_of, rank}
 use Rattle.rice_samples.proofs.lemmas.setting.PlaceLemmas.{one_less_left, last_of_segment, reference_begins}
 use Rattle.rice_samples.proofs.lemmas.predict.ResidualLemmas.{length-residuals}
-use Rattle.rice_code.specs.code.Blocks.{Contents, blocks_from}
-use Rattle.rice_code.specs.encode.Coder.{State, Holds, reference_in, is_empty, next_residual, next_reference, grown, filled_up}
-use Rattle.rice_code.specs.encode.HeldBlocks.{told, held_blocks}
+use Rattle.rice_code.specs.code.Blocks.{BlockData, blocks_from}
+use Rattle.rice_code.specs.encode.Coder.{HasCodedBefore, reference_in}
+use Rattle.rice_code.specs.encode.OpenSegment.{CoderState, is_empty, next_residual, next_reference, state_after, state_with_fill}
+use Rattle.rice_code.specs.encode.HeldBlocks.{held_blocks}
+use Rattle.rice_code.specs.code.SoundBlocks.{block_with}
 use Rattle.rice_code.proofs.lemmas.meaning.Covers.{bool_cases, both}
 use Rattle.rice_code.proofs.lemmas.code.Filling.{last_append}
 use Rattle.rice_code.proofs.lemmas.code.SegmentPlaces.{place_inside}
 
 -- the next residual and the reference behind it
-first_reference : (s : Parameters) (b : ℕ) → 1 ≤ s.block → is_reference s (s.block * b + 0) ≡ has_reference s b
+first_reference : (s : Parameters) (b : ℕ) → 1 ≤ s.block → is_reference_sample s (s.block * b + 0) ≡ is_reference s b
 first_reference s b j =
     let e : s.block * b + 0 ≡ s.block * b = omega arith in
     let q : (s.block * b + 0) / s.block ≡ b = ap (λ v. v / s.block) e ∙ mul-div_cancel_left b j in
     let r : (s.block * b + 0) % s.block ≡ 0 = ap (λ v. v % s.block) e ∙ mul-mod_right s.block b in
-    (λ i. has_reference s (q i) && (r i == 0)) ∙ right (has_reference s b)
+    (λ i. is_reference s (q i) && (r i == 0)) ∙ right (is_reference s b)
   where
     right : (v : Bool) → (v && true) ≡ v
     right true = refl
     right false = refl
 
-later_reference : (s : Parameters) (b n : ℕ) → 1 ≤ s.interval → 1 ≤ s.block → suc n < s.block * blocks_left s b → is_reference s (s.block * b + suc n) ≡ false
+later_reference : (s : Parameters) (b n : ℕ) → 1 ≤ s.interval → 1 ≤ s.block → suc n < s.block * blocks_left s b → is_reference_sample s (s.block * b + suc n) ≡ false
 later_reference s b n h j k =
-    elim (bool_cases (is_reference s (s.block * b + suc n))) [
+    elim (bool_cases (is_reference_sample s (s.block * b + suc n))) [
       | inr e ↦ e
       | inl e ↦
           let m = s.block * b + suc n in
-          let p = both (has_reference s (m / s.block)) (m % s.block == 0) e in
+          let p = both (is_reference s (m / s.block)) (m % s.block == 0) e in
           let p' = both s.preprocess (place s (m / s.block) == 0) p.0 in
           let whole : m % s.block ≡ 0 = same (m % s.block) p.1 in
           let first : place s (m / s.block) ≡ 0 = same (place s (m / s.block)) p'.1 in
@@ -81,7 +83,7 @@ all_first s [] ys h = (tt, h)
 all_first s (x ∷ xs) ys h = let r = all_first s xs ys h.1 in ((h.0, r.0), r.1)
 
 -- the residual of the next sample
-the_residual : (coder : State) (b : ℕ) (held : List ℤ) (p x : ℤ) → 1 ≤ coder.setting.interval → 1 ≤ coder.setting.block → place coder.setting b ≡ coder.start → length held < coder.setting.block * blocks_left coder.setting b →
+the_residual : (coder : CoderState) (b : ℕ) (held : List ℤ) (p x : ℤ) → 1 ≤ coder.setting.interval → 1 ≤ coder.setting.block → place coder.setting b ≡ coder.start → length held < coder.setting.block * blocks_left coder.setting b →
     coder.residuals ≡ residuals coder.setting (coder.setting.block * b) p held → residual coder.setting (coder.setting.block * b + length held) coder.previous x ≡ next_residual coder x
 the_residual coder b [] p x h j e k f =
     let s = coder.setting in
@@ -106,7 +108,7 @@ residuals_append s i p (x ∷ xs) ys =
 none_inside : (s : Parameters) (b : ℕ) (xs : List ℤ) → begins_segment s b ≡ false → reference_in s b xs ≡ None
 none_inside s b [] e = refl
 none_inside s b (x ∷ xs) e =
-    elim (bool_cases (has_reference s b)) [
+    elim (bool_cases (is_reference s b)) [
       | inl f ↦ absurd (let g : true ≡ false = sym (reference_begins s b f) ∙ e in cc)
       | inr f ↦ ap (λ v. cond v (Some (pattern s x)) None) f
     ]
@@ -130,20 +132,20 @@ held_are s b p (suc n) xs h j k e =
     let t : take s.block (residuals s (s.block * b) p xs) ≡ residuals s (s.block * b) p front = ap (take s.block) all ∙ take_at (residuals s (s.block * b) p front) _ s.block rlen in
     let at : s.block * b + length front ≡ s.block * (b + 1) = omega arith in
     let d : drop s.block (residuals s (s.block * b) p xs) ≡ residuals s (s.block * (b + 1)) q back = ap (drop s.block) all ∙ (drop_at (residuals s (s.block * b) p front) _ s.block rlen ∙ ap (λ i. residuals s i q back) at) in
-    let ref : cond (has_reference s b) (Some (pattern s (slice_index_or front 0 p))) None ≡ reference_in s b xs = same_reference xs front flen refl in
+    let ref : cond (is_reference s b) (Some (pattern s (slice_index_or front 0 p))) None ≡ reference_in s b xs = same_reference xs front flen refl in
     let rest : blocks_from s (b + 1) q n back ≡ held_blocks s None n (residuals s (s.block * (b + 1)) q back) = behind n back (residuals s (s.block * (b + 1)) q back) (blocks_from s (b + 1) q n back) k (no_blocks s (b + 1) q n back)
     (λ f. held_are s (b + 1) q n back h j f blen) in
-    (λ i. told (ref i) (sym t i) ∷ (rest ∙ ap (held_blocks s None n) (sym d)) i)
+    (λ i. block_with (ref i) (sym t i) ∷ (rest ∙ ap (held_blocks s None n) (sym d)) i)
   where
-    same_reference : (xs front : List ℤ) → length front ≡ s.block → front ≡ take s.block xs → cond (has_reference s b) (Some (pattern s (slice_index_or front 0 p))) None ≡ reference_in s b xs
+    same_reference : (xs front : List ℤ) → length front ≡ s.block → front ≡ take s.block xs → cond (is_reference s b) (Some (pattern s (slice_index_or front 0 p))) None ≡ reference_in s b xs
     same_reference [] front l f = absurd (let g : length front ≡ min s.block 0 = ap length f ∙ length-take s.block (let e : List ℤ = [] in e) in omega (arith, g))
-    same_reference (x ∷ xs) front l f = ap (λ y. cond (has_reference s b) (Some (pattern s y)) None) (ap (λ f. slice_index_or f 0 p) f ∙ first s.block j)
+    same_reference (x ∷ xs) front l f = ap (λ y. cond (is_reference s b) (Some (pattern s y)) None) (ap (λ f. slice_index_or f 0 p) f ∙ first s.block j)
       where
         first : (n : ℕ) → 1 ≤ n → slice_index_or (take n (x ∷ xs)) 0 p ≡ x
         first zero h = absurd (omega arith)
         first (suc n) h = refl
 
-    behind : (m : ℕ) (ys : List ℤ) (ds : List ℕ) (rest : List Contents) → suc m ≤ blocks_left s b → (m ≡ 0 → rest ≡ []) → (m ≤ blocks_left s (b + 1) → rest ≡ held_blocks s (reference_in s (b + 1) ys) m ds) → rest ≡ held_blocks s None m ds
+    behind : (m : ℕ) (ys : List ℤ) (ds : List ℕ) (rest : List BlockData) → suc m ≤ blocks_left s b → (m ≡ 0 → rest ≡ []) → (m ≤ blocks_left s (b + 1) → rest ≡ held_blocks s (reference_in s (b + 1) ys) m ds) → rest ≡ held_blocks s None m ds
     behind zero ys ds rest g none again = none refl
     behind (suc m) ys ds rest g none again =
         elim (bool_cases (begins_segment s (b + 1))) [
@@ -156,7 +158,7 @@ none true = refl
 none false = refl
 
 -- the reference behind it
-the_reference : (coder : State) (b : ℕ) (held : List ℤ) (p x : ℤ) → place coder.setting b ≡ coder.start → coder.residuals ≡ residuals coder.setting (coder.setting.block * b) p held →
+the_reference : (coder : CoderState) (b : ℕ) (held : List ℤ) (p x : ℤ) → place coder.setting b ≡ coder.start → coder.residuals ≡ residuals coder.setting (coder.setting.block * b) p held →
     coder.reference ≡ reference_in coder.setting b held → next_reference coder x ≡ reference_in coder.setting b (held ++ x ∷ [])
 the_reference coder b [] p x e f g =
     let s = coder.setting in
@@ -166,8 +168,8 @@ the_reference coder b (y ∷ ys) p x e f g =
     ap (λ ds. cond (s.preprocess && (is_empty ds && coder.start == 0)) (Some (pattern s x)) coder.reference) f ∙ (ap (λ v. cond v (Some (pattern s x)) coder.reference) (none s.preprocess) ∙ g)
 
 -- one sample more is held
-pub one_more : (coder : State) (b : ℕ) (coded held : List ℤ) (x : ℤ) → Holds coder b coded held → length held < coder.setting.block * blocks_left coder.setting b → IsSample coder.setting x →
-    Holds (grown coder x) b coded (held ++ x ∷ [])
+pub one_more : (coder : CoderState) (b : ℕ) (coded held : List ℤ) (x : ℤ) → HasCodedBefore coder b coded held → length held < coder.setting.block * blocks_left coder.setting b → IsSample coder.setting x →
+    HasCodedBefore (state_after coder x) b coded (held ++ x ∷ [])
 one_more coder b coded held x h k legal =
     let s = coder.setting in
     let j : 1 ≤ s.block = grind (arith, h.legal.block) in
@@ -191,27 +193,27 @@ one_more coder b coded held x h k legal =
 push_last : {X : Type 0} (n : ℕ) (x : X) (xs : List X) → xs ++ replicate (suc n) x ≡ (xs ++ x ∷ []) ++ replicate n x
 push_last n x xs = sym (append_assoc xs (x ∷ []) (replicate n x))
 
-pub fills : (coder : State) (b : ℕ) (coded held : List ℤ) (n : ℕ) → Holds coder b coded held → IsSample coder.setting coder.previous → (0 < n → is_empty coder.residuals ≡ false) → length held + n ≤ coder.setting.block * blocks_left coder.setting b →
-    Holds (filled_up coder n) b coded (held ++ replicate n coder.previous)
-fills coder b coded held zero h legal f k = subst (λ ds. Holds (record { setting = coder.setting; residuals = ds; reference = coder.reference; previous = coder.previous; start = coder.start }) b coded (held ++ [])) (sym (append-nil coder.residuals))
-    (subst (Holds coder b coded) (sym (append-nil held)) h)
+pub fills : (coder : CoderState) (b : ℕ) (coded held : List ℤ) (n : ℕ) → HasCodedBefore coder b coded held → IsSample coder.setting coder.previous → (0 < n → is_empty coder.residuals ≡ false) → length held + n ≤ coder.setting.block * blocks_left coder.setting b →
+    HasCodedBefore (state_with_fill coder n) b coded (held ++ replicate n coder.previous)
+fills coder b coded held zero h legal f k = subst (λ ds. HasCodedBefore (record { setting = coder.setting; residuals = ds; reference = coder.reference; previous = coder.previous; start = coder.start }) b coded (held ++ [])) (sym (append-nil coder.residuals))
+    (subst (HasCodedBefore coder b coded) (sym (append-nil held)) h)
 fills coder b coded held (suc n) h legal f k =
     let x = coder.previous in
     let first = f (omega arith) in
     let more = one_more coder b coded held x h (omega arith) legal in
     let ref : next_reference coder x ≡ coder.reference = ap (λ v. cond (coder.setting.preprocess && (v && coder.start == 0)) (Some (pattern coder.setting x)) coder.reference) first ∙ ap (λ v. cond v (Some (pattern coder.setting x)) coder.reference) (none coder.setting.preprocess) in
     let later = not_first coder.residuals (next_residual coder x) in
-    let same : next_residual (grown coder x) x ≡ next_residual coder x = ap (λ v. cond coder.setting.preprocess (cond (v && coder.start == 0) 0 (rank coder.setting x x)) (pattern coder.setting x)) (later ∙ sym first) in
-    let ih = fills (grown coder x) b coded (held ++ x ∷ []) n more legal (λ p. later) (omega (arith, length-append held (x ∷ []), k)) in
+    let same : next_residual (state_after coder x) x ≡ next_residual coder x = ap (λ v. cond coder.setting.preprocess (cond (v && coder.start == 0) 0 (rank coder.setting x x)) (pattern coder.setting x)) (later ∙ sym first) in
+    let ih = fills (state_after coder x) b coded (held ++ x ∷ []) n more legal (λ p. later) (omega (arith, length-append held (x ∷ []), k)) in
     let d = next_residual coder x in
-    let state : filled_up (grown coder x) n ≡ filled_up coder (suc n) = λ i. record {
+    let state : state_with_fill (state_after coder x) n ≡ state_with_fill coder (suc n) = λ i. record {
       setting = coder.setting;
       residuals = (ap (λ v. (coder.residuals ++ d ∷ []) ++ replicate n v) same ∙ sym (push_last n d coder.residuals)) i;
       reference = ref i;
       previous = x;
       start = coder.start;
     } in
-    subst (λ v. Holds v b coded (held ++ replicate (suc n) x)) state (subst (Holds (filled_up (grown coder x) n) b coded) (sym (push_last n x held)) ih)
+    subst (λ v. HasCodedBefore v b coded (held ++ replicate (suc n) x)) state (subst (HasCodedBefore (state_with_fill (state_after coder x) n) b coded) (sym (push_last n x held)) ih)
   where
     not_first : (ds : List ℕ) (d : ℕ) → is_empty (ds ++ d ∷ []) ≡ false
     not_first [] d = refl

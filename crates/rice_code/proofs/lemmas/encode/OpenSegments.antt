@@ -10,9 +10,10 @@ use Rattle.rice_samples.specs.Places.{place, blocks_left}
 use Rattle.rice_samples.proofs.lemmas.setting.Levels.{zero_is_sample}
 use Rattle.rice_samples.proofs.lemmas.setting.PlaceLemmas.{some_left}
 use Rattle.rice_code.specs.code.Code.{data_sets}
-use Rattle.rice_code.specs.encode.Coder.{State, IsOpen, empty, emptied, next_start, blocks_held, contents_held, sets_held, code_held}
-use Rattle.rice_code.specs.code.CodedDataSets.{text, joined}
-use Rattle.rice_code.specs.encode.HeldBlocks.{AreSoundBlocks, held_blocks}
+use Rattle.rice_code.specs.encode.OpenSegment.{CoderState, IsOpen, empty_state, state_after_segment, next_start, blocks_held, contents_held, sets_held, code_held}
+use Rattle.rice_code.specs.code.CodedDataSets.{bits_of_set, bits_of_sets}
+use Rattle.rice_code.specs.encode.HeldBlocks.{held_blocks}
+use Rattle.rice_code.specs.code.SoundBlocks.{AreSoundBlocks}
 use Rattle.rice_code.proofs.lemmas.cost.BlockBounds.{bounded, block_bits}
 use Rattle.rice_code.proofs.lemmas.code.SegmentLayouts.{code_lies}
 use Rattle.rice_code.proofs.lemmas.code.SegmentPlaces.{begins_next, next_start_is}
@@ -56,19 +57,19 @@ fill_inside n j left h k =
     ]
 
 -- the bits of the blocks that are held
-pub few_bits : (coder : State) (count end : ℕ) → count ≡ blocks_held coder → IsOpen coder end → AreSoundBlocks coder.setting coder.start (contents_held coder) →
-    length (joined coder.setting (data_sets coder.setting coder.start false (held_blocks coder.setting coder.reference count coder.residuals))) ≤ count * block_bits coder.setting
+pub few_bits : (coder : CoderState) (count end : ℕ) → count ≡ blocks_held coder → IsOpen coder end → AreSoundBlocks coder.setting coder.start (contents_held coder) →
+    length (bits_of_sets coder.setting (data_sets coder.setting coder.start false (held_blocks coder.setting coder.reference count coder.residuals))) ≤ count * block_bits coder.setting
 few_bits coder count end e h sound =
     let s = coder.setting in
     let bound = bounded s coder.start false (contents_held coder) h.legal sound in
     let len = held_len s coder.reference (blocks_held coder) coder.residuals in
-    at_most _ _ _ _ _ _ bound len e (ap (λ n. length (joined s (data_sets s coder.start false (held_blocks s coder.reference n coder.residuals)))) e ∙ length-flat_map (text s) (sets_held coder))
+    at_most _ _ _ _ _ _ bound len e (ap (λ n. length (bits_of_sets s (data_sets s coder.start false (held_blocks s coder.reference n coder.residuals)))) e ∙ length-flat_map (bits_of_set s) (sets_held coder))
   where
     at_most : (x y len n count m : ℕ) → y + 0 * m ≤ len * m → len ≡ n → count ≡ n → x ≡ y → x ≤ count * m
     at_most x y len n count m h e f g = let p = ap (λ v. v * m) (e ∙ sym f) in omega arith
 
 -- no more blocks than the segment has
-pub few_blocks : (coder : State) (end : ℕ) → IsOpen coder end → length coder.residuals ≡ coder.setting.block * blocks_held coder → (blocks_held coder ≤ blocks_left coder.setting coder.start) × (blocks_held coder ≤ 64)
+pub few_blocks : (coder : CoderState) (end : ℕ) → IsOpen coder end → length coder.residuals ≡ coder.setting.block * blocks_held coder → (blocks_held coder ≤ blocks_left coder.setting coder.start) × (blocks_held coder ≤ 64)
 few_blocks coder end h whole =
     let s = coder.setting in
     let j : 1 ≤ s.block = grind (arith, h.legal.block) in
@@ -82,21 +83,21 @@ few_blocks coder end h whole =
     ]
 
 -- what is put is the code of what is held
-pub code_is_held : (coder : State) (count end : ℕ) (old put new : List Bool) → count ≡ blocks_held coder → IsOpen coder end → AreSoundBlocks coder.setting coder.start (contents_held coder) → length coder.residuals ≡ coder.setting.block * blocks_held coder →
-    put ≡ old ++ joined coder.setting (data_sets coder.setting coder.start false (held_blocks coder.setting coder.reference count coder.residuals)) →
+pub code_is_held : (coder : CoderState) (count end : ℕ) (old put new : List Bool) → count ≡ blocks_held coder → IsOpen coder end → AreSoundBlocks coder.setting coder.start (contents_held coder) → length coder.residuals ≡ coder.setting.block * blocks_held coder →
+    put ≡ old ++ bits_of_sets coder.setting (data_sets coder.setting coder.start false (held_blocks coder.setting coder.reference count coder.residuals)) →
     new ≡ put ++ replicate (cond (coder.setting.pad && coder.start + count == coder.setting.interval) (bits_to_byte (length put)) 0) false → new ≡ old ++ code_held coder (length old)
 code_is_held coder count end old put new e h sound whole f g =
     let s = coder.setting in
     let n = blocks_held coder in
-    let texts = joined s (sets_held coder) in
-    let f' : put ≡ old ++ texts = f ∙ ap (λ m. old ++ joined s (data_sets s coder.start false (held_blocks s coder.reference m coder.residuals))) e in
+    let texts = bits_of_sets s (sets_held coder) in
+    let f' : put ≡ old ++ texts = f ∙ ap (λ m. old ++ bits_of_sets s (data_sets s coder.start false (held_blocks s coder.reference m coder.residuals))) e in
     let len : length put ≡ length old + length texts = ap length f' ∙ length-append old texts in
     let pad = λ (m bits : ℕ). replicate (cond (s.pad && coder.start + m == s.interval) (bits_to_byte bits) 0) false in
     let lies = code_lies s coder.start (length old) n (contents_held coder) (held_len s coder.reference n coder.residuals) h.legal h.place sound (few_blocks coder end h whole).0 in
     g ∙ ((λ i. f' i ++ pad (e i) (len i)) ∙ (append_assoc old texts (pad n (length old + length texts)) ∙ ap (λ v. old ++ v) lies))
 
 -- behind a whole segment
-pub emptied_open : (coder : State) (end next : ℕ) → IsOpen coder end → next ≡ coder.setting.block * blocks_left coder.setting (next_start coder) → IsOpen (emptied coder) next
+pub emptied_open : (coder : CoderState) (end next : ℕ) → IsOpen coder end → next ≡ coder.setting.block * blocks_left coder.setting (next_start coder) → IsOpen (state_after_segment coder) next
 emptied_open coder end next h e =
     let s = coder.setting in
     let r = h.legal.interval_from in
@@ -116,7 +117,7 @@ emptied_open coder end next h e =
     }
 
 -- a first segment
-pub empty_open : (s : Parameters) (end : ℕ) → IsLegal s → end ≡ s.block * blocks_left s 0 → IsOpen (empty s) end
+pub empty_open : (s : Parameters) (end : ℕ) → IsLegal s → end ≡ s.block * blocks_left s 0 → IsOpen (empty_state s) end
 empty_open s end legal e =
     let lt : 0 < s.interval = omega (arith, legal.interval_from) in
     let first : place s 0 ≡ 0 = mod-eq_of_lt lt in

@@ -5,8 +5,8 @@ use Rattle.std.proofs.lemmas.List.{length-drop, drop_more}
 use Rattle.std.proofs.lemmas.List.Sums.{sum_by-cons}
 use Rattle.rice_samples.specs.Parameters.{Parameters, id_len}
 use Rattle.rice_samples.specs.blocks.Pairs.{pair_code, pair_codes}
-use Rattle.rice_code.specs.code.CodedDataSets.{text, cost, reference_text, reference_len, run_number, ZeroBlocks, RemainderOfSegment}
-use Rattle.rice_code.specs.encode.HeldBlocks.{sent_run, sent_zeros}
+use Rattle.rice_code.specs.code.CodedDataSets.{bits_of_set, cost, reference_bits, reference_len, run_number, ZeroBlocks, RemainderOfSegment}
+use Rattle.rice_code.specs.encode.HeldBlocks.{run_of_blocks, zeros_of_run}
 use Rattle.rice_bits.specs.Bits.{word, fundamental_sequence}
 use Rattle.rice_bits.proofs.lemmas.bits.Words.{word-fs, word-zero, word-cat, word-nil}
 
@@ -46,14 +46,14 @@ pub coded_len : (ds es : List ℕ) (from w : ℕ) → es ≡ drop from ds → le
 coded_len ds es from w e = ap (λ n. n * w) (ap length e ∙ length-drop from ds)
 
 -- the text of a run, and its length
-pub run_text : (s : Parameters) (to_end : Bool) (r : Option ℕ) (z : ℕ) → text s (sent_run to_end r z) ≡ word (id_len s) 0 ++ false ∷ (reference_text s r ++ fundamental_sequence (sent_zeros to_end z))
+pub run_text : (s : Parameters) (to_end : Bool) (r : Option ℕ) (z : ℕ) → bits_of_set s (run_of_blocks to_end r z) ≡ word (id_len s) 0 ++ false ∷ (reference_bits s r ++ fundamental_sequence (zeros_of_run to_end z))
 run_text s to_end r z = by_test (nat_le 5 z && to_end)
   where
-    by_test : (v : Bool) → text s (cond v (RemainderOfSegment r) (ZeroBlocks r z)) ≡ word (id_len s) 0 ++ false ∷ (reference_text s r ++ fundamental_sequence (cond v 4 (run_number z)))
+    by_test : (v : Bool) → bits_of_set s (cond v (RemainderOfSegment r) (ZeroBlocks r z)) ≡ word (id_len s) 0 ++ false ∷ (reference_bits s r ++ fundamental_sequence (cond v 4 (run_number z)))
     by_test true = refl
     by_test false = refl
 
-pub run_cost : (s : Parameters) (to_end : Bool) (r : Option ℕ) (z : ℕ) → cost s (sent_run to_end r z) ≡ id_len s + 1 + reference_len s r + sent_zeros to_end z + 1
+pub run_cost : (s : Parameters) (to_end : Bool) (r : Option ℕ) (z : ℕ) → cost s (run_of_blocks to_end r z) ≡ id_len s + 1 + reference_len s r + zeros_of_run to_end z + 1
 run_cost s to_end r z = by_test (nat_le 5 z && to_end)
   where
     by_test : (v : Bool) → cost s (cond v (RemainderOfSegment r) (ZeroBlocks r z)) ≡ id_len s + 1 + reference_len s r + cond v 4 (run_number z) + 1

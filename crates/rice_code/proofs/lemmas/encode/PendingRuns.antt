@@ -6,24 +6,25 @@ use Rattle.std.proofs.lemmas.List.{length-replicate, drop-drop}
 use Rattle.rice_samples.specs.Parameters.{Parameters}
 use Rattle.rice_samples.specs.Places.{begins_segment, blocks_left}
 use Rattle.rice_samples.proofs.lemmas.setting.PlaceLemmas.{one_less_left, last_of_segment}
-use Rattle.rice_code.specs.code.Blocks.{Contents, is_zero, zeros}
-use Rattle.rice_code.specs.code.CodedDataSets.{DataSet, ZeroBlocks, RemainderOfSegment}
+use Rattle.rice_code.specs.code.Blocks.{BlockData, is_zero_block, zero_block}
+use Rattle.rice_code.specs.code.CodedDataSets.{CodedDataSet, ZeroBlocks, RemainderOfSegment}
 use Rattle.rice_code.specs.code.Code.{data_sets}
 use Rattle.rice_code.specs.code.Runs.{zero_run, run_len}
 use Rattle.rice_code.specs.code.Choice.{shortest}
-use Rattle.rice_code.specs.encode.HeldBlocks.{told, sent_run, waiting, waiting_run, held_blocks, reference_at, AreSoundBlocks}
+use Rattle.rice_code.specs.encode.HeldBlocks.{run_of_blocks, pending_zeros, pending_run, held_blocks, reference_at}
+use Rattle.rice_code.specs.code.SoundBlocks.{block_with, AreSoundBlocks}
 use Rattle.rice_code.proofs.lemmas.meaning.Covers.{bool_cases, skipped, run_cons, skipped_go, skipped_plain, skipped_nil, skipped_stop, data_sets_inside, data_sets_start, data_sets_plain}
 
 zeros_are_zero : (n : ℕ) → list_all (λ d. d == 0) (replicate n 0) ≡ true
 zeros_are_zero zero = refl
 zeros_are_zero (suc n) = zeros_are_zero n
 
-is_zero_zeros : (s : Parameters) (r : Option ℕ) → is_zero (zeros s r) ≡ true
+is_zero_zeros : (s : Parameters) (r : Option ℕ) → is_zero_block (zero_block s r) ≡ true
 is_zero_zeros s r = zeros_are_zero s.block
 
 -- inside a segment nothing is sent for the zero blocks of a run
-skip_zeros : (s : Parameters) (b w : ℕ) (rest : List Contents) → 1 ≤ s.interval → suc w ≤ blocks_left s b →
-    data_sets s (b + 1) true (replicate w (zeros s None) ++ rest) ≡ data_sets s (b + 1 + w) true rest
+skip_zeros : (s : Parameters) (b w : ℕ) (rest : List BlockData) → 1 ≤ s.interval → suc w ≤ blocks_left s b →
+    data_sets s (b + 1) true (replicate w (zero_block s None) ++ rest) ≡ data_sets s (b + 1 + w) true rest
 skip_zeros s b zero rest h k = let e : b + 1 ≡ b + 1 + 0 = omega arith in ap (λ n. data_sets s n true rest) e
 skip_zeros s b (suc w) rest h k =
     elim (bool_cases (begins_segment s (b + 1))) [
@@ -31,13 +32,13 @@ skip_zeros s b (suc w) rest h k =
       | inr e ↦
           let f = one_less_left s b h e in
           let n : b + 1 + 1 + w ≡ b + 1 + suc w = omega arith in
-          data_sets_inside s (b + 1) true (zeros s None) (replicate w (zeros s None) ++ rest) (is_zero_zeros s None) (ap (λ v. true && not v) e)
+          data_sets_inside s (b + 1) true (zero_block s None) (replicate w (zero_block s None) ++ rest) (is_zero_zeros s None) (ap (λ v. true && not v) e)
           ∙ (skip_zeros s (b + 1) w rest h (omega arith) ∙ ap (λ n. data_sets s n true rest) n)
     ]
 
 -- and they are counted
-count_zeros : (s : Parameters) (b w : ℕ) (rest : List Contents) → 1 ≤ s.interval → suc w ≤ blocks_left s b → (suc w < blocks_left s b → skipped s (b + 1 + w) true rest ≡ 0) → (suc w ≡ blocks_left s b → rest ≡ []) →
-    skipped s (b + 1) true (replicate w (zeros s None) ++ rest) ≡ w
+count_zeros : (s : Parameters) (b w : ℕ) (rest : List BlockData) → 1 ≤ s.interval → suc w ≤ blocks_left s b → (suc w < blocks_left s b → skipped s (b + 1 + w) true rest ≡ 0) → (suc w ≡ blocks_left s b → rest ≡ []) →
+    skipped s (b + 1) true (replicate w (zero_block s None) ++ rest) ≡ w
 count_zeros s b zero rest h k stop none =
     let e : b + 1 + 0 ≡ b + 1 = omega arith in
     elim (bool_cases (begins_segment s (b + 1))) [
@@ -54,22 +55,22 @@ count_zeros s b (suc w) rest h k stop none =
       | inr e ↦
           let f = one_less_left s b h e in
           let n : b + 1 + suc w ≡ b + 1 + 1 + w = omega arith in
-          skipped_go s (b + 1) true (zeros s None) (replicate w (zeros s None) ++ rest) h (is_zero_zeros s None) (ap (λ v. true && not v) e)
+          skipped_go s (b + 1) true (zero_block s None) (replicate w (zero_block s None) ++ rest) h (is_zero_zeros s None) (ap (λ v. true && not v) e)
           ∙ ap (λ v. suc v) (count_zeros s (b + 1) w rest h (omega arith) (λ p. subst (λ m. skipped s m true rest ≡ 0) n (stop (omega arith))) (λ p. none (omega arith)))
     ]
 
-abbrev run_with : Option ℕ → ℕ → Bool → DataSet
+abbrev run_with : Option ℕ → ℕ → Bool → CodedDataSet
 run_with r z v = cond (nat_le 5 z && v) (RemainderOfSegment r) (ZeroBlocks r z)
 
 -- a run that ends before the segment and the list do
-run_before : (s : Parameters) (b w : ℕ) (r : Option ℕ) (cs : List Contents) → run_len s b cs ≡ suc w → suc w < blocks_left s b → suc w < length cs → zero_run s b r cs ≡ sent_run false r (suc w)
+run_before : (s : Parameters) (b w : ℕ) (r : Option ℕ) (cs : List BlockData) → run_len s b cs ≡ suc w → suc w < blocks_left s b → suc w < length cs → zero_run s b r cs ≡ run_of_blocks false r (suc w)
 run_before s b w r cs e h k =
     ap (λ z. run_with r z (z == blocks_left s b || z == length cs)) e ∙ ap (run_with r (suc w)) (no (suc w) (blocks_left s b) (length cs) h k)
   where
     no : (z m n : ℕ) → z < m → z < n → (z == m || z == n) ≡ false
     no z m n h k = grind (arith, nat_tests)
 
-run_at_end : (s : Parameters) (b w : ℕ) (r : Option ℕ) (cs : List Contents) → run_len s b cs ≡ suc w → suc w ≡ length cs → zero_run s b r cs ≡ sent_run true r (suc w)
+run_at_end : (s : Parameters) (b w : ℕ) (r : Option ℕ) (cs : List BlockData) → run_len s b cs ≡ suc w → suc w ≡ length cs → zero_run s b r cs ≡ run_of_blocks true r (suc w)
 run_at_end s b w r cs e k =
     ap (λ z. run_with r z (z == blocks_left s b || z == length cs)) e ∙ ap (run_with r (suc w)) (yes (suc w) (blocks_left s b) (length cs) k)
   where
@@ -77,56 +78,56 @@ run_at_end s b w r cs e k =
     yes z m n h = grind (arith, nat_tests)
 
 -- zero blocks, and then a block that is not zero
-pub run_then_block : (s : Parameters) (b run : ℕ) (r : Option ℕ) (c : Contents) (cs : List Contents) → 1 ≤ s.interval → run < blocks_left s b → is_zero c ≡ false →
-    data_sets s b false (waiting s r run ++ c ∷ cs) ≡ waiting_run false r run ++ shortest s c ∷ data_sets s (b + run + 1) false cs
+pub run_then_block : (s : Parameters) (b run : ℕ) (r : Option ℕ) (c : BlockData) (cs : List BlockData) → 1 ≤ s.interval → run < blocks_left s b → is_zero_block c ≡ false →
+    data_sets s b false (pending_zeros s r run ++ c ∷ cs) ≡ pending_run false r run ++ shortest s c ∷ data_sets s (b + run + 1) false cs
 run_then_block s b zero r c cs h k z =
     let n : b + 1 ≡ b + 0 + 1 = omega arith in
     data_sets_plain s b false c cs z ∙ ap (λ m. shortest s c ∷ data_sets s m false cs) n
 run_then_block s b (suc w) r c cs h k z =
-    let rest = replicate w (zeros s None) ++ c ∷ cs in
-    let len : length rest ≡ w + suc (length cs) = length-append (replicate w (zeros s None)) (c ∷ cs) ∙ ap (λ n. n + suc (length cs)) (length-replicate w (zeros s None)) in
-    let count = run_cons s b (zeros s r) rest h (is_zero_zeros s r) ∙ ap (λ v. suc v) (count_zeros s b w (c ∷ cs) h (omega arith) (λ p. skipped_plain s (b + 1 + w) true c cs h z) (λ p. absurd (omega arith))) in
+    let rest = replicate w (zero_block s None) ++ c ∷ cs in
+    let len : length rest ≡ w + suc (length cs) = length-append (replicate w (zero_block s None)) (c ∷ cs) ∙ ap (λ n. n + suc (length cs)) (length-replicate w (zero_block s None)) in
+    let count = run_cons s b (zero_block s r) rest h (is_zero_zeros s r) ∙ ap (λ v. suc v) (count_zeros s b w (c ∷ cs) h (omega arith) (λ p. skipped_plain s (b + 1 + w) true c cs h z) (λ p. absurd (omega arith))) in
     let n : b + 1 + w + 1 ≡ b + suc w + 1 = omega arith in
-    data_sets_start s b false (zeros s r) rest (is_zero_zeros s r) refl
-    ∙ (λ i. run_before s b w r (zeros s r ∷ rest) count k (omega arith) i ∷ (skip_zeros s b w (c ∷ cs) h (omega arith) ∙ (data_sets_plain s (b + 1 + w) true c cs z ∙ ap (λ m. shortest s c ∷ data_sets s m false cs) n)) i)
+    data_sets_start s b false (zero_block s r) rest (is_zero_zeros s r) refl
+    ∙ (λ i. run_before s b w r (zero_block s r ∷ rest) count k (omega arith) i ∷ (skip_zeros s b w (c ∷ cs) h (omega arith) ∙ (data_sets_plain s (b + 1 + w) true c cs z ∙ ap (λ m. shortest s c ∷ data_sets s m false cs) n)) i)
 
 -- zero blocks at the end
-pub run_ends : (s : Parameters) (b run : ℕ) (r : Option ℕ) → 1 ≤ s.interval → run ≤ blocks_left s b → data_sets s b false (waiting s r run) ≡ waiting_run true r run
+pub run_ends : (s : Parameters) (b run : ℕ) (r : Option ℕ) → 1 ≤ s.interval → run ≤ blocks_left s b → data_sets s b false (pending_zeros s r run) ≡ pending_run true r run
 run_ends s b zero r h k = refl
 run_ends s b (suc w) r h k =
-    let bare = replicate w (zeros s None) in
+    let bare = replicate w (zero_block s None) in
     let same : bare ++ [] ≡ bare = append-nil bare in
-    let len = length-replicate w (zeros s None) in
-    let count = run_cons s b (zeros s r) bare h (is_zero_zeros s r) ∙ ap (λ v. suc v) (sym (ap (λ l. skipped s (b + 1) true l) same) ∙ count_zeros s b w [] h (omega arith) (λ p. skipped_nil s (b + 1 + w) true) (λ p. refl)) in
-    data_sets_start s b false (zeros s r) bare (is_zero_zeros s r) refl
-    ∙ (λ i. run_at_end s b w r (zeros s r ∷ bare) count (omega arith) i ∷ (sym (ap (λ l. data_sets s (b + 1) true l) same) ∙ skip_zeros s b w [] h (omega arith)) i)
+    let len = length-replicate w (zero_block s None) in
+    let count = run_cons s b (zero_block s r) bare h (is_zero_zeros s r) ∙ ap (λ v. suc v) (sym (ap (λ l. skipped s (b + 1) true l) same) ∙ count_zeros s b w [] h (omega arith) (λ p. skipped_nil s (b + 1 + w) true) (λ p. refl)) in
+    data_sets_start s b false (zero_block s r) bare (is_zero_zeros s r) refl
+    ∙ (λ i. run_at_end s b w r (zero_block s r ∷ bare) count (omega arith) i ∷ (sym (ap (λ l. data_sets s (b + 1) true l) same) ∙ skip_zeros s b w [] h (omega arith)) i)
 
 replicate_push : {X : Type 0} (n : ℕ) (x : X) (xs : List X) → replicate n x ++ x ∷ xs ≡ x ∷ (replicate n x ++ xs)
 replicate_push zero x xs = refl
 replicate_push (suc n) x xs = ap (λ l. x ∷ l) (replicate_push n x xs)
 
 -- one more zero block waits
-pub one_waits : (s : Parameters) (run : ℕ) (r q : Option ℕ) (c : Contents) (cs : List Contents) → c ≡ zeros s q → (run ≡ 0 → q ≡ r) → (0 < run → q ≡ None) → waiting s r run ++ c ∷ cs ≡ waiting s r (run + 1) ++ cs
-one_waits s zero r q c cs e f g = ap (λ c. c ∷ cs) (e ∙ ap (zeros s) (f refl))
+pub one_waits : (s : Parameters) (run : ℕ) (r q : Option ℕ) (c : BlockData) (cs : List BlockData) → c ≡ zero_block s q → (run ≡ 0 → q ≡ r) → (0 < run → q ≡ None) → pending_zeros s r run ++ c ∷ cs ≡ pending_zeros s r (run + 1) ++ cs
+one_waits s zero r q c cs e f g = ap (λ c. c ∷ cs) (e ∙ ap (zero_block s) (f refl))
 one_waits s (suc w) r q c cs e f g =
-    let h : zeros s r ∷ (replicate w (zeros s None) ++ c ∷ cs) ≡ zeros s r ∷ (zeros s None ∷ (replicate w (zeros s None) ++ cs)) =
-    ap (λ c. zeros s r ∷ (replicate w (zeros s None) ++ c ∷ cs)) (e ∙ ap (zeros s) (g (omega arith))) ∙ ap (λ l. zeros s r ∷ l) (replicate_push w (zeros s None) cs) in
+    let h : zero_block s r ∷ (replicate w (zero_block s None) ++ c ∷ cs) ≡ zero_block s r ∷ (zero_block s None ∷ (replicate w (zero_block s None) ++ cs)) =
+    ap (λ c. zero_block s r ∷ (replicate w (zero_block s None) ++ c ∷ cs)) (e ∙ ap (zero_block s) (g (omega arith))) ∙ ap (λ l. zero_block s r ∷ l) (replicate_push w (zero_block s None) cs) in
     let n : suc (suc w) ≡ suc w + 1 = omega arith in
-    h ∙ ap (λ n. waiting s r n ++ cs) n
+    h ∙ ap (λ n. pending_zeros s r n ++ cs) n
 
 -- the block with number i
-pub held_at : (s : Parameters) (r : Option ℕ) (n i : ℕ) (ds : List ℕ) → i < n → drop i (held_blocks s r n ds) ≡ told (reference_at r i) (take s.block (drop (i * s.block) ds)) ∷ drop (i + 1) (held_blocks s r n ds)
+pub held_at : (s : Parameters) (r : Option ℕ) (n i : ℕ) (ds : List ℕ) → i < n → drop i (held_blocks s r n ds) ≡ block_with (reference_at r i) (take s.block (drop (i * s.block) ds)) ∷ drop (i + 1) (held_blocks s r n ds)
 held_at s r zero i ds h = absurd (omega arith)
 held_at s r (suc n) zero ds h =
     let e : 0 ≡ 0 * s.block = omega arith in
-    ap (λ m. told r (take s.block (drop m ds)) ∷ held_blocks s None n (drop s.block ds)) e
+    ap (λ m. block_with r (take s.block (drop m ds)) ∷ held_blocks s None n (drop s.block ds)) e
 held_at s r (suc n) (suc i) ds h =
     let ih = held_at s None n i (drop s.block ds) (omega arith) in
     let e : drop (i * s.block) (drop s.block ds) ≡ drop (suc i * s.block) ds = drop-drop (i * s.block) s.block ds ∙ ap (λ n. drop n ds) (let f : s.block + i * s.block ≡ suc i * s.block = omega arith in f) in
     let g : reference_at None i ≡ None = none i in
     let m : suc (i + 1) ≡ suc i + 1 = omega arith in
-    ih ∙ ((λ j. told (g j) (take s.block (e j)) ∷ drop (i + 1) (held_blocks s None n (drop s.block ds)))
-    ∙ ap (λ m. told None (take s.block (drop (suc i * s.block) ds)) ∷ drop m (held_blocks s r (suc n) ds)) m)
+    ih ∙ ((λ j. block_with (g j) (take s.block (e j)) ∷ drop (i + 1) (held_blocks s None n (drop s.block ds)))
+    ∙ ap (λ m. block_with None (take s.block (drop (suc i * s.block) ds)) ∷ drop m (held_blocks s r (suc n) ds)) m)
   where
     none : (i : ℕ) → reference_at None i ≡ None
     none zero = refl
@@ -136,7 +137,7 @@ pub held_len : (s : Parameters) (r : Option ℕ) (n : ℕ) (ds : List ℕ) → l
 held_len s r zero ds = refl
 held_len s r (suc n) ds = ap (λ n. suc n) (held_len s None n (drop s.block ds))
 
-pub drop_sound : (s : Parameters) (b i : ℕ) (cs : List Contents) → AreSoundBlocks s b cs → AreSoundBlocks s (b + i) (drop i cs)
+pub drop_sound : (s : Parameters) (b i : ℕ) (cs : List BlockData) → AreSoundBlocks s b cs → AreSoundBlocks s (b + i) (drop i cs)
 drop_sound s b zero cs h = let e : b ≡ b + 0 = omega arith in subst (λ n. AreSoundBlocks s n cs) e h
 drop_sound s b (suc i) [] h = tt
 drop_sound s b (suc i) (c ∷ cs) h = let e : b + 1 + i ≡ b + suc i = omega arith in subst (λ n. AreSoundBlocks s n (drop i cs)) e (drop_sound s (b + 1) i cs h.1)

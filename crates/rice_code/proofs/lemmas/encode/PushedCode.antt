@@ -11,16 +11,18 @@ use Rattle.std.proofs.lemmas.List.Sums.{sum_by-append}
 use Rattle.std.proofs.Math.Nat.{mod-lt, mod-eq_of_lt, mul-div_cancel_left, mul-add-mod_self_left, mod_self, mul-le-mul_left}
 use Rattle.rice_samples.specs.Parameters.{Parameters, IsLegal, IsSample, id_len, k_max}
 use Rattle.rice_samples.specs.Places.{place, begins_segment, blocks_left, cut, block_count}
-use Rattle.rice_samples.specs.predict.Residuals.{last_of, filled}
+use Rattle.rice_samples.specs.predict.Residuals.{last_of, filled_samples}
 use Rattle.rice_samples.proofs.lemmas.setting.PlaceLemmas.{some_left}
 use Rattle.rice_samples.proofs.lemmas.predict.ResidualLemmas.{length-residuals}
 use Rattle.rice_samples.proofs.lemmas.setting.Levels.{zero_is_sample}
-use Rattle.rice_code.specs.code.Blocks.{Contents, blocks_from, blocks_behind}
+use Rattle.rice_code.specs.code.Blocks.{BlockData, blocks_from, blocks_of}
 use Rattle.rice_code.specs.code.Code.{code, code_bits, data_sets}
-use Rattle.rice_code.specs.encode.Coder.{State, Holds, StandsFor, IsCoder, IsWhole, IsInPlace, Completes, Finishes, next_residual, empty, grown, filled_up, fill_count, emptied, next_start, blocks_held, contents_held, sets_held, code_held, settled, settled_code, fill_samples, is_empty}
-use Rattle.rice_code.specs.code.CodedDataSets.{DataSet, text}
-use Rattle.rice_code.specs.encode.HeldBlocks.{AreSoundBlocks, held_blocks}
-use Rattle.rice_code.specs.code.Layout.{laid}
+use Rattle.rice_code.specs.encode.Coder.{HasCodedBefore, HasTaken, IsCoder, IsAlignedWith, AppendsCode, AppendsRest, complete_samples, complete_code, fill_samples}
+use Rattle.rice_code.specs.encode.OpenSegment.{CoderState, IsWhole, next_residual, empty_state, state_after, state_with_fill, fill_count, state_after_segment, next_start, blocks_held, contents_held, sets_held, code_held, is_empty}
+use Rattle.rice_code.specs.code.CodedDataSets.{CodedDataSet, bits_of_set}
+use Rattle.rice_code.specs.encode.HeldBlocks.{held_blocks}
+use Rattle.rice_code.specs.code.SoundBlocks.{AreSoundBlocks}
+use Rattle.rice_code.specs.code.Layout.{layout}
 use Rattle.rice_code.specs.Steps.{least_looks, most_looks, least_looks_at, most_looks_at, least_steps, most_steps, segment_steps}
 use Rattle.rice_code.proofs.lemmas.meaning.Covers.{bool_cases}
 use Rattle.rice_code.proofs.lemmas.code.Filling.{last_append, blocks_append}
@@ -33,8 +35,8 @@ use Rattle.rice_code.proofs.lemmas.code.SegmentPlaces.{begins_next, cut_is, next
 use Rattle.rice_code.proofs.lemmas.code.SoundBlocks.{blocks_sound, last_legal, filled_len}
 use Rattle.rice_code.proofs.lemmas.code.WholeBlocks.{not_filled}
 
-pub settled_is : (coder : State) (xs : List ℤ) (h : StandsFor coder xs) → settled coder.setting xs ≡ h.coded
-settled_is coder xs h =
+pub complete_are_coded : (coder : CoderState) (xs : List ℤ) (h : HasTaken coder xs) → complete_samples coder.setting xs ≡ h.coded
+complete_are_coded coder xs h =
     let s = coder.setting in
     let j : 1 ≤ s.block = grind (arith, h.holds.legal.block) in
     let len : length xs ≡ s.block * h.block + length h.held = omega (arith, ap length h.parts, length-append h.coded h.held, h.holds.whole) in
@@ -42,8 +44,8 @@ settled_is coder xs h =
     (λ i. take (c i) (h.parts i)) ∙ take_at h.coded h.held (s.block * h.block) h.holds.whole
 
 -- a coder that holds nothing
-pub stands_empty : (s : Parameters) → IsLegal s → StandsFor (empty s) []
-stands_empty s legal =
+pub none_taken : (s : Parameters) → IsLegal s → HasTaken (empty_state s) []
+none_taken s legal =
     let zero_place : place s 0 ≡ 0 = let lt : 0 < s.interval = omega (arith, legal.interval_from) in mod-eq_of_lt lt in
     let j : 1 ≤ s.block = grind (arith, legal.block) in
     let left = some_left s 0 legal.interval_from in
@@ -67,8 +69,8 @@ stands_empty s legal =
     }
 
 -- how many samples wait
-pub waiting_are : (coder : State) (xs : List ℤ) → StandsFor coder xs → length coder.residuals + cut coder.setting (length xs) ≡ length xs
-waiting_are coder xs h =
+pub pending_are : (coder : CoderState) (xs : List ℤ) → HasTaken coder xs → length coder.residuals + cut coder.setting (length xs) ≡ length xs
+pending_are coder xs h =
     let s = coder.setting in
     let j : 1 ≤ s.block = grind (arith, h.holds.legal.block) in
     let len : length xs ≡ s.block * h.block + length h.held = omega (arith, ap length h.parts, length-append h.coded h.held, h.holds.whole) in
@@ -76,8 +78,8 @@ waiting_are coder xs h =
     let r = ap length h.holds.residuals ∙ length-residuals s (s.block * h.block) (last_of (pos 0) h.coded) h.held in
     omega (arith, len, c, r)
 
-pub few_wait : (coder : State) → IsCoder coder → length coder.residuals < 64 * coder.setting.block
-few_wait coder k =
+pub few_pending : (coder : CoderState) → IsCoder coder → length coder.residuals < 64 * coder.setting.block
+few_pending coder k =
     let h = k.stands in
     let s = coder.setting in
     let left = some_left s h.block h.holds.legal.interval_from in
@@ -85,27 +87,27 @@ few_wait coder k =
     let m : s.block * blocks_left s h.block ≤ s.block * 64 = mul-le-mul_left s.block left.1 in
     omega (arith, r, m, h.short)
 
-pub previous_legal : (coder : State) → IsCoder coder → IsSample coder.setting coder.previous
+pub previous_legal : (coder : CoderState) → IsCoder coder → IsSample coder.setting coder.previous
 previous_legal coder k =
     let h = k.stands.holds in
     subst (IsSample coder.setting) (sym h.previous) (last_legal coder.setting (pos 0) _ (zero_is_sample coder.setting h.legal.bits_from) h.samples)
 
-left_same : (coder : State) (b : ℕ) (coded held : List ℤ) → Holds coder b coded held → blocks_left coder.setting coder.start ≡ blocks_left coder.setting b
+left_same : (coder : CoderState) (b : ℕ) (coded held : List ℤ) → HasCodedBefore coder b coded held → blocks_left coder.setting coder.start ≡ blocks_left coder.setting b
 left_same coder b coded held h =
     let s = coder.setting in
     let lt : coder.start < s.interval = omega (arith, h.place, mod-lt b h.legal.interval_from) in
     let at : place s coder.start ≡ coder.start = mod-eq_of_lt lt in
     ap (λ p. 64 * (p / 64) + min 64 (s.interval - 64 * (p / 64)) - p) (at ∙ sym h.place)
 
-held_count : (coder : State) (b : ℕ) (coded held : List ℤ) → Holds coder b coded held → length coder.residuals ≡ length held
+held_count : (coder : CoderState) (b : ℕ) (coded held : List ℤ) → HasCodedBefore coder b coded held → length coder.residuals ≡ length held
 held_count coder b coded held h = ap length h.residuals ∙ length-residuals coder.setting (coder.setting.block * b) (last_of (pos 0) coded) held
 
 -- a sample that leaves the segment open
-pub stays : (coder : State) (x : ℤ) (xs : List ℤ) → StandsFor coder xs → IsSample coder.setting x → length (grown coder x).residuals < coder.setting.block * blocks_left coder.setting coder.start →
-    StandsFor (grown coder x) (xs ++ x ∷ [])
+pub stays : (coder : CoderState) (x : ℤ) (xs : List ℤ) → HasTaken coder xs → IsSample coder.setting x → length (state_after coder x).residuals < coder.setting.block * blocks_left coder.setting coder.start →
+    HasTaken (state_after coder x) (xs ++ x ∷ [])
 stays coder x xs h legal less =
     let more = one_more coder h.block h.coded h.held x h.holds h.short legal in
-    let count = held_count (grown coder x) h.block h.coded (h.held ++ x ∷ []) more in
+    let count = held_count (state_after coder x) h.block h.coded (h.held ++ x ∷ []) more in
     let m = ap (λ n. coder.setting.block * n) (left_same coder h.block h.coded h.held h.holds) in
     record {
       block = h.block;
@@ -116,20 +118,20 @@ stays coder x xs h legal less =
       short = omega (arith, count, m, less);
     }
 
-pub stays_settled : (coder : State) (x : ℤ) (xs : List ℤ) → (h : StandsFor coder xs) → IsSample coder.setting x → length (grown coder x).residuals < coder.setting.block * blocks_left coder.setting coder.start →
-    settled coder.setting (xs ++ x ∷ []) ≡ settled coder.setting xs
+pub open_completes_nothing : (coder : CoderState) (x : ℤ) (xs : List ℤ) → (h : HasTaken coder xs) → IsSample coder.setting x → length (state_after coder x).residuals < coder.setting.block * blocks_left coder.setting coder.start →
+    complete_samples coder.setting (xs ++ x ∷ []) ≡ complete_samples coder.setting xs
 unfolding stays
-stays_settled coder x xs h legal less =
-    settled_is (grown coder x) (xs ++ x ∷ []) (stays coder x xs h legal less) ∙ sym (settled_is coder xs h)
+open_completes_nothing coder x xs h legal less =
+    complete_are_coded (state_after coder x) (xs ++ x ∷ []) (stays coder x xs h legal less) ∙ sym (complete_are_coded coder xs h)
 
-pub short_of : (coder : State) (xs : List ℤ) → StandsFor coder xs → length coder.residuals < coder.setting.block * blocks_left coder.setting coder.start
+pub short_of : (coder : CoderState) (xs : List ℤ) → HasTaken coder xs → length coder.residuals < coder.setting.block * blocks_left coder.setting coder.start
 short_of coder xs h =
     let l = ap (λ n. coder.setting.block * n) (left_same coder h.block h.coded h.held h.holds) in
     let c = held_count coder h.block h.coded h.held h.holds in
     omega (arith, l, c, h.short)
 
 -- sound blocks stay sound at another block of the same place
-sound_same : (s : Parameters) (a b : ℕ) (cs : List Contents) → place s a ≡ place s b → AreSoundBlocks s a cs → AreSoundBlocks s b cs
+sound_same : (s : Parameters) (a b : ℕ) (cs : List BlockData) → place s a ≡ place s b → AreSoundBlocks s a cs → AreSoundBlocks s b cs
 sound_same s a b [] e k = tt
 sound_same s a b (c ∷ cs) e k = (
   record {
@@ -141,29 +143,29 @@ sound_same s a b (c ∷ cs) e k = (
 )
 
 -- the blocks of samples behind whole blocks
-pub blocks_go_on : (s : Parameters) (b q : ℕ) (p : ℤ) (xs ys : List ℤ) → 1 ≤ s.block → length xs ≡ s.block * q → blocks_behind s b p (xs ++ ys) ≡ blocks_behind s b p xs ++ blocks_behind s (b + q) (last_of p xs) ys
+pub blocks_go_on : (s : Parameters) (b q : ℕ) (p : ℤ) (xs ys : List ℤ) → 1 ≤ s.block → length xs ≡ s.block * q → blocks_of s b p (xs ++ ys) ≡ blocks_of s b p xs ++ blocks_of s (b + q) (last_of p xs) ys
 blocks_go_on s b q p xs ys j len =
     let parts = filled_behind s q p xs ys j len in
     (λ i. blocks_from s b p (parts.1 i) (parts.0 i))
-    ∙ (blocks_append s b p q (block_count s (length ys)) xs (filled s (last_of p xs) ys) len ∙ ap (λ v. v ++ blocks_behind s (b + q) (last_of p xs) ys) (sym (own_blocks s b q p xs j len)))
+    ∙ (blocks_append s b p q (block_count s (length ys)) xs (filled_samples s (last_of p xs) ys) len ∙ ap (λ v. v ++ blocks_of s (b + q) (last_of p xs) ys) (sym (own_blocks s b q p xs j len)))
 
 -- what a coder holds is the code of the samples that it holds, filled to whole blocks, behind those that are coded
-pub record IsPart (coder : State) (coded held : List ℤ) : Type 0 where
+pub record IsPart (coder : CoderState) (coded held : List ℤ) : Type 0 where
   pub sound : AreSoundBlocks coder.setting coder.start (contents_held coder)
   pub blocks : length coder.residuals ≡ coder.setting.block * blocks_held coder
   pub code_is : (position : ℕ) → (coder.setting.pad ≡ true → position % 8 ≡ length (code coder.setting coded) % 8) → code coder.setting (coded ++ held) ≡ code coder.setting coded ++ code_held coder position
-  pub bits_are : code_bits coder.setting (coded ++ held) ≡ code_bits coder.setting coded + sum_by (λ d. length (text coder.setting d)) (sets_held coder)
-  pub blocks_are : blocks_behind coder.setting 0 (pos 0) (coded ++ held) ≡ blocks_behind coder.setting 0 (pos 0) coded ++ contents_held coder
+  pub bits_are : code_bits coder.setting (coded ++ held) ≡ code_bits coder.setting coded + sum_by (λ d. length (bits_of_set coder.setting d)) (sets_held coder)
+  pub blocks_are : blocks_of coder.setting 0 (pos 0) (coded ++ held) ≡ blocks_of coder.setting 0 (pos 0) coded ++ contents_held coder
 
 -- of the position only the place in a byte matters, and where nothing is padded not even that
-same_position : (s : Parameters) (end b m n : ℕ) (ds : List DataSet) → (s.pad ≡ true → n % 8 ≡ m % 8) → laid s end b m ds ≡ laid s end b n ds
+same_position : (s : Parameters) (end b m n : ℕ) (ds : List CodedDataSet) → (s.pad ≡ true → n % 8 ≡ m % 8) → layout s end b m ds ≡ layout s end b n ds
 same_position s end b m n ds h =
     elim (bool_cases s.pad) [
       | inl e ↦ laid_at s end b m n ds (sym (h e))
       | inr e ↦ laid_plain s end b m ds e ∙ sym (laid_plain s end b n ds e)
     ]
 
-pub held_part : (coder : State) (b n : ℕ) (coded held full : List ℤ) → Holds coder b coded full → filled coder.setting (last_of (pos 0) coded) held ≡ full → block_count coder.setting (length held) ≡ n → length full ≡ coder.setting.block * n → IsPart coder coded held
+pub held_part : (coder : CoderState) (b n : ℕ) (coded held full : List ℤ) → HasCodedBefore coder b coded full → filled_samples coder.setting (last_of (pos 0) coded) held ≡ full → block_count coder.setting (length held) ≡ n → length full ≡ coder.setting.block * n → IsPart coder coded held
 held_part coder b n coded held full h shape counted len =
     let s = coder.setting in
     let j : 1 ≤ s.block = grind (arith, h.legal.block) in
@@ -176,16 +178,16 @@ held_part coder b n coded held full h shape counted len =
     let q : blocks_held coder ≡ n = ap (λ v. v / s.block) size ∙ mul-div_cancel_left n j in
     let few : n ≤ blocks_left s b = at_most s.block n (blocks_left s b) j (omega (arith, len, h.few)) in
     let own : blocks_from s b p n full ≡ contents_held coder = held_are s b p n full r j few len ∙ (λ i. held_blocks s (sym h.reference i) (sym q i) (sym h.residuals i)) in
-    let blocks : blocks_behind s b p held ≡ contents_held coder = (λ i. blocks_from s b p (counted i) (shape i)) ∙ own in
+    let blocks : blocks_of s b p held ≡ contents_held coder = (λ i. blocks_from s b p (counted i) (shape i)) ∙ own in
     let lt : coder.start < s.interval = omega (arith, h.place, mod-lt b r) in
     let at : place s coder.start ≡ coder.start = mod-eq_of_lt lt in
     let same : place s b ≡ place s coder.start = h.place ∙ sym at in
     let here : 0 + b ≡ b = omega arith in
     let begins : begins_segment s (0 + b) ≡ true = ap (λ m. begins_segment s m) here ∙ h.begins in
-    let moved : blocks_behind s coder.start p held ≡ contents_held coder = sym (same_blocks s b coder.start p (block_count s (length held)) (filled s p held) j same) ∙ blocks in
+    let moved : blocks_of s coder.start p held ≡ contents_held coder = sym (same_blocks s b coder.start p (block_count s (length held)) (filled_samples s p held) j same) ∙ blocks in
     let sets : data_sets s b false (contents_held coder) ≡ sets_held coder = same_data_sets s b coder.start false (contents_held coder) same in
     let goes_on = λ (m : ℕ). code_stands_in_intervals s h.legal (0 + b) coder.start m p held (ap (λ m. place s m) here ∙ same)
-    ∙ (λ i. laid s (coder.start + (counted ∙ sym q) i) coder.start m (data_sets s coder.start false (moved i))) in
+    ∙ (λ i. layout s (coder.start + (counted ∙ sym q) i) coder.start m (data_sets s coder.start false (moved i))) in
     let sound = sound_same s b coder.start (contents_held coder) same (subst (AreSoundBlocks s b) own (blocks_sound s b p n full h.legal j (last_legal s (pos 0) coded zero samples.0) samples.1 len)) in
     record {
       sound = sound;
@@ -193,8 +195,8 @@ held_part coder b n coded held full h shape counted len =
       code_is = λ position place. code_goes_on s h.legal 0 0 b (pos 0) coded held zero all_coded h.whole begins
           ∙ ap (λ v. code s coded ++ v) (goes_on (0 + length (code s coded)) ∙ same_position s (coder.start + blocks_held coder) coder.start (0 + length (code s coded)) position (sets_held coder) (λ e. place e ∙ ap (λ m. m % 8) (none (length (code s coded)))));
       bits_are = bits_go_on s h.legal 0 b (pos 0) coded held h.whole begins
-          ∙ ap (λ v. code_bits s coded + sum_by (λ d. length (text s d)) v) (ap (λ m. data_sets s m false (blocks_behind s m p held)) here ∙ (ap (λ v. data_sets s b false v) blocks ∙ sets));
-      blocks_are = blocks_go_on s 0 b (pos 0) coded held j h.whole ∙ ap (λ v. blocks_behind s 0 (pos 0) coded ++ v) (ap (λ m. blocks_behind s m p held) here ∙ blocks);
+          ∙ ap (λ v. code_bits s coded + sum_by (λ d. length (bits_of_set s d)) v) (ap (λ m. data_sets s m false (blocks_of s m p held)) here ∙ (ap (λ v. data_sets s b false v) blocks ∙ sets));
+      blocks_are = blocks_go_on s 0 b (pos 0) coded held j h.whole ∙ ap (λ v. blocks_of s 0 (pos 0) coded ++ v) (ap (λ m. blocks_of s m p held) here ∙ blocks);
     }
   where
     at_most : (j q count : ℕ) → 1 ≤ j → j * q ≤ j * count → q ≤ count
@@ -207,26 +209,26 @@ held_part coder b n coded held full h shape counted len =
     none n = omega arith
 
 -- the code of some samples is that of the settled ones, and then what the coder holds
-pub record IsNext (coder : State) (xs ys : List ℤ) : Type 0 where
-  pub code_is : (position : ℕ) → (coder.setting.pad ≡ true → position % 8 ≡ length (settled_code coder.setting xs) % 8) → code coder.setting ys ≡ settled_code coder.setting xs ++ code_held coder position
-  pub bits_are : code_bits coder.setting ys ≡ code_bits coder.setting (settled coder.setting xs) + sum_by (λ d. length (text coder.setting d)) (sets_held coder)
-  pub least : least_looks_at coder.setting ys ≡ least_looks_at coder.setting (settled coder.setting xs) + sum_by (least_looks coder.setting) (contents_held coder)
-  pub most : most_looks_at coder.setting ys ≡ most_looks_at coder.setting (settled coder.setting xs) + sum_by (most_looks coder.setting) (contents_held coder)
+pub record AddsHeldCode (coder : CoderState) (xs ys : List ℤ) : Type 0 where
+  pub code_is : (position : ℕ) → (coder.setting.pad ≡ true → position % 8 ≡ length (complete_code coder.setting xs) % 8) → code coder.setting ys ≡ complete_code coder.setting xs ++ code_held coder position
+  pub bits_are : code_bits coder.setting ys ≡ code_bits coder.setting (complete_samples coder.setting xs) + sum_by (λ d. length (bits_of_set coder.setting d)) (sets_held coder)
+  pub least : least_looks_at coder.setting ys ≡ least_looks_at coder.setting (complete_samples coder.setting xs) + sum_by (least_looks coder.setting) (contents_held coder)
+  pub most : most_looks_at coder.setting ys ≡ most_looks_at coder.setting (complete_samples coder.setting xs) + sum_by (most_looks coder.setting) (contents_held coder)
 
-next_from : (coder : State) (xs ys coded held : List ℤ) → settled coder.setting xs ≡ coded → ys ≡ coded ++ held → IsPart coder coded held → IsNext coder xs ys
-next_from coder xs ys coded held e f part =
+adds_held_code : (coder : CoderState) (xs ys coded held : List ℤ) → complete_samples coder.setting xs ≡ coded → ys ≡ coded ++ held → IsPart coder coded held → AddsHeldCode coder xs ys
+adds_held_code coder xs ys coded held e f part =
     let s = coder.setting in
-    let looks = λ (g : Contents → ℕ). ap (λ v. sum_by g (blocks_behind s 0 (pos 0) v)) f ∙ (ap (λ v. sum_by g v) part.blocks_are ∙ (sum_by-append g (blocks_behind s 0 (pos 0) coded) (contents_held coder) ∙ ap (λ v. sum_by g (blocks_behind s 0 (pos 0) v) + sum_by g (contents_held coder)) (sym e))) in
+    let looks = λ (g : BlockData → ℕ). ap (λ v. sum_by g (blocks_of s 0 (pos 0) v)) f ∙ (ap (λ v. sum_by g v) part.blocks_are ∙ (sum_by-append g (blocks_of s 0 (pos 0) coded) (contents_held coder) ∙ ap (λ v. sum_by g (blocks_of s 0 (pos 0) v) + sum_by g (contents_held coder)) (sym e))) in
     record {
       code_is = λ position place. ap (λ v. code s v) f ∙ (part.code_is position (λ p. place p ∙ ap (λ v. length (code s v) % 8) e) ∙ ap (λ v. code s v ++ code_held coder position) (sym e));
-      bits_are = ap (λ v. code_bits s v) f ∙ (part.bits_are ∙ ap (λ v. code_bits s v + sum_by (λ d. length (text s d)) (sets_held coder)) (sym e));
+      bits_are = ap (λ v. code_bits s v) f ∙ (part.bits_are ∙ ap (λ v. code_bits s v + sum_by (λ d. length (bits_of_set s d)) (sets_held coder)) (sym e));
       least = looks (least_looks s);
       most = looks (most_looks s);
     }
 
 -- behind a whole segment the next begins
-pub next_begins : (coder : State) (b : ℕ) (coded held : List ℤ) (start : ℕ) → Holds coder b coded held → length held ≡ coder.setting.block * blocks_left coder.setting b → place coder.setting (b + blocks_left coder.setting b) ≡ start →
-    StandsFor (record { setting = coder.setting; residuals = []; reference = None; previous = coder.previous; start = start }) (coded ++ held)
+pub next_begins : (coder : CoderState) (b : ℕ) (coded held : List ℤ) (start : ℕ) → HasCodedBefore coder b coded held → length held ≡ coder.setting.block * blocks_left coder.setting b → place coder.setting (b + blocks_left coder.setting b) ≡ start →
+    HasTaken (record { setting = coder.setting; residuals = []; reference = None; previous = coder.previous; start = start }) (coded ++ held)
 next_begins coder b coded held start h len e =
     let s = coder.setting in
     let j : 1 ≤ s.block = grind (arith, h.legal.block) in
@@ -253,43 +255,43 @@ next_begins coder b coded held start h len e =
     }
 
 -- a sample that makes the segment whole
-whole_part : (coder : State) (x : ℤ) (xs : List ℤ) → (h : StandsFor coder xs) → IsSample coder.setting x → IsWhole (grown coder x) → IsPart (grown coder x) h.coded (h.held ++ x ∷ [])
+whole_part : (coder : CoderState) (x : ℤ) (xs : List ℤ) → (h : HasTaken coder xs) → IsSample coder.setting x → IsWhole (state_after coder x) → IsPart (state_after coder x) h.coded (h.held ++ x ∷ [])
 whole_part coder x xs h legal e =
     let s = coder.setting in
     let j : 1 ≤ s.block = grind (arith, h.holds.legal.block) in
     let full = h.held ++ x ∷ [] in
     let more = one_more coder h.block h.coded h.held x h.holds h.short legal in
-    let len : length full ≡ s.block * blocks_left s coder.start = sym (held_count (grown coder x) h.block h.coded full more) ∙ e in
+    let len : length full ≡ s.block * blocks_left s coder.start = sym (held_count (state_after coder x) h.block h.coded full more) ∙ e in
     let bare = not_filled s (blocks_left s coder.start) (last_of (pos 0) h.coded) full j len in
-    held_part (grown coder x) h.block (blocks_left s coder.start) h.coded full full more bare.0 bare.1 len
+    held_part (state_after coder x) h.block (blocks_left s coder.start) h.coded full full more bare.0 bare.1 len
 
-pub whole_sound : (coder : State) (x : ℤ) → IsCoder coder → IsSample coder.setting x → IsWhole (grown coder x) →
-    AreSoundBlocks coder.setting coder.start (contents_held (grown coder x)) × (length (grown coder x).residuals ≡ coder.setting.block * blocks_held (grown coder x))
+pub whole_sound : (coder : CoderState) (x : ℤ) → IsCoder coder → IsSample coder.setting x → IsWhole (state_after coder x) →
+    AreSoundBlocks coder.setting coder.start (contents_held (state_after coder x)) × (length (state_after coder x).residuals ≡ coder.setting.block * blocks_held (state_after coder x))
 whole_sound coder x k legal e = let part = whole_part coder x k.samples k.stands legal e in (part.sound, part.blocks)
 
 -- then the coder stands for the samples with it
-pub ends : (coder : State) (x : ℤ) (xs : List ℤ) → StandsFor coder xs → IsSample coder.setting x → IsWhole (grown coder x) → StandsFor (emptied (grown coder x)) (xs ++ x ∷ [])
+pub ends : (coder : CoderState) (x : ℤ) (xs : List ℤ) → HasTaken coder xs → IsSample coder.setting x → IsWhole (state_after coder x) → HasTaken (state_after_segment (state_after coder x)) (xs ++ x ∷ [])
 ends coder x xs h legal e =
     let s = coder.setting in
     let more = one_more coder h.block h.coded h.held x h.holds h.short legal in
-    let count = held_count (grown coder x) h.block h.coded (h.held ++ x ∷ []) more in
+    let count = held_count (state_after coder x) h.block h.coded (h.held ++ x ∷ []) more in
     let l = ap (λ n. s.block * n) (left_same coder h.block h.coded h.held h.holds) in
     let start = next_start_is s h.block coder.start h.holds.legal.interval_from h.holds.place in
-    let next = next_begins (grown coder x) h.block h.coded (h.held ++ x ∷ []) (next_start (grown coder x)) more (sym count ∙ (e ∙ l)) start in
+    let next = next_begins (state_after coder x) h.block h.coded (h.held ++ x ∷ []) (next_start (state_after coder x)) more (sym count ∙ (e ∙ l)) start in
     let parts : xs ++ x ∷ [] ≡ h.coded ++ (h.held ++ x ∷ []) = ap (λ v. v ++ x ∷ []) h.parts ∙ append_assoc h.coded h.held (x ∷ []) in
-    subst (λ v. StandsFor (emptied (grown coder x)) v) (sym parts) next
+    subst (λ v. HasTaken (state_after_segment (state_after coder x)) v) (sym parts) next
 
 -- and this completes the code of the segment
-pub ends_next : (coder : State) (x : ℤ) (xs : List ℤ) → StandsFor coder xs → IsSample coder.setting x → IsWhole (grown coder x) → IsNext (grown coder x) xs (settled coder.setting (xs ++ x ∷ []))
-ends_next coder x xs h legal e =
+pub whole_segment_adds_code : (coder : CoderState) (x : ℤ) (xs : List ℤ) → HasTaken coder xs → IsSample coder.setting x → IsWhole (state_after coder x) → AddsHeldCode (state_after coder x) xs (complete_samples coder.setting (xs ++ x ∷ []))
+whole_segment_adds_code coder x xs h legal e =
     let next = ends coder x xs h legal e in
-    next_from (grown coder x) xs (settled coder.setting (xs ++ x ∷ [])) h.coded (h.held ++ x ∷ []) (settled_is coder xs h) (all_settled next) (whole_part coder x xs h legal e)
+    adds_held_code (state_after coder x) xs (complete_samples coder.setting (xs ++ x ∷ [])) h.coded (h.held ++ x ∷ []) (complete_are_coded coder xs h) (all_complete next) (whole_part coder x xs h legal e)
   where
-    all_settled : StandsFor (emptied (grown coder x)) (xs ++ x ∷ []) → settled coder.setting (xs ++ x ∷ []) ≡ h.coded ++ (h.held ++ x ∷ [])
-    all_settled next =
+    all_complete : HasTaken (state_after_segment (state_after coder x)) (xs ++ x ∷ []) → complete_samples coder.setting (xs ++ x ∷ []) ≡ h.coded ++ (h.held ++ x ∷ [])
+    all_complete next =
         let parts : xs ++ x ∷ [] ≡ h.coded ++ (h.held ++ x ∷ []) = ap (λ v. v ++ x ∷ []) h.parts ∙ append_assoc h.coded h.held (x ∷ []) in
         let none : length next.held ≡ 0 = sym (held_count _ next.block next.coded next.held next.holds) in
-        settled_is _ (xs ++ x ∷ []) next ∙ (sym (append-nil next.coded) ∙ (ap (λ v. next.coded ++ v) (sym (no_samples next.held none)) ∙ (sym next.parts ∙ parts)))
+        complete_are_coded _ (xs ++ x ∷ []) next ∙ (sym (append-nil next.coded) ∙ (ap (λ v. next.coded ++ v) (sym (no_samples next.held none)) ∙ (sym next.parts ∙ parts)))
       where
         no_samples : (ys : List ℤ) → length ys ≡ 0 → ys ≡ []
         no_samples [] e = refl
@@ -309,7 +311,7 @@ same_rest : (j b n m : ℕ) → m ≡ j * b + n → m % j ≡ n % j
 same_rest j b n m e = ap (λ v. v % j) e ∙ mul-add-mod_self_left j b n
 
 -- the samples that are held, filled to whole blocks
-filled_part : (coder : State) (xs : List ℤ) → (h : StandsFor coder xs) → IsPart (filled_up coder (fill_count coder)) h.coded h.held
+filled_part : (coder : CoderState) (xs : List ℤ) → (h : HasTaken coder xs) → IsPart (state_with_fill coder (fill_count coder)) h.coded h.held
 filled_part coder xs h =
     let s = coder.setting in
     let j : 1 ≤ s.block = grind (arith, h.holds.legal.block) in
@@ -325,19 +327,19 @@ filled_part coder xs h =
     let full = h.held ++ replicate n x in
     let last : last_of p h.held ≡ x = sym (h.holds.previous ∙ last_append (pos 0) h.coded h.held) in
     let fill : next_multiple_of (length h.held) s.block - length h.held ≡ n = (let e : length h.held + (s.block - length h.held % s.block) % s.block - length h.held ≡ (s.block - length h.held % s.block) % s.block = omega arith in e) ∙ ap (λ v. (s.block - v % s.block) % s.block) (sym count) in
-    let shape : filled s p h.held ≡ full = λ i. h.held ++ replicate (fill i) (last i) in
-    held_part (filled_up coder n) h.block (block_count s (length h.held)) h.coded h.held full holds shape refl (sym (ap length shape) ∙ filled_len s p h.held j)
+    let shape : filled_samples s p h.held ≡ full = λ i. h.held ++ replicate (fill i) (last i) in
+    held_part (state_with_fill coder n) h.block (block_count s (length h.held)) h.coded h.held full holds shape refl (sym (ap length shape) ∙ filled_len s p h.held j)
 
-pub filled_sound : (coder : State) → IsCoder coder →
-    AreSoundBlocks coder.setting coder.start (contents_held (filled_up coder (fill_count coder))) × (length (filled_up coder (fill_count coder)).residuals ≡ coder.setting.block * blocks_held (filled_up coder (fill_count coder)))
+pub filled_sound : (coder : CoderState) → IsCoder coder →
+    AreSoundBlocks coder.setting coder.start (contents_held (state_with_fill coder (fill_count coder))) × (length (state_with_fill coder (fill_count coder)).residuals ≡ coder.setting.block * blocks_held (state_with_fill coder (fill_count coder)))
 filled_sound coder k = let part = filled_part coder k.samples k.stands in (part.sound, part.blocks)
 
 -- and this completes the code of all samples
-pub filled_next : (coder : State) (xs : List ℤ) → StandsFor coder xs → IsNext (filled_up coder (fill_count coder)) xs xs
-filled_next coder xs h = next_from (filled_up coder (fill_count coder)) xs xs h.coded h.held (settled_is coder xs h) h.parts (filled_part coder xs h)
+pub filled_segment_adds_code : (coder : CoderState) (xs : List ℤ) → HasTaken coder xs → AddsHeldCode (state_with_fill coder (fill_count coder)) xs xs
+filled_segment_adds_code coder xs h = adds_held_code (state_with_fill coder (fill_count coder)) xs xs h.coded h.held (complete_are_coded coder xs h) h.parts (filled_part coder xs h)
 
 -- as many as fill the last block of all samples
-pub fill_count_is : (coder : State) (xs : List ℤ) → StandsFor coder xs → fill_count coder ≡ fill_samples coder.setting xs
+pub fill_count_is : (coder : CoderState) (xs : List ℤ) → HasTaken coder xs → fill_count coder ≡ fill_samples coder.setting xs
 fill_count_is coder xs h =
     let s = coder.setting in
     let count = held_count coder h.block h.coded h.held h.holds in
@@ -345,101 +347,101 @@ fill_count_is coder xs h =
     ap (λ v. (s.block - v) % s.block) (sym (same_rest s.block h.block (length coder.residuals) (length xs) all))
 
 -- What a push does, where `held` is what the coder holds with the sample, and `old` and `new` are the sink's bits.
-push_as : (coder held : State) (x : ℤ) (P : State → Type 0) → held ≡ grown coder x → P held → P (grown coder x)
+push_as : (coder held : CoderState) (x : ℤ) (P : CoderState → Type 0) → held ≡ state_after coder x → P held → P (state_after coder x)
 push_as coder held x P g h = subst P g h
 
-pub push_sound : (coder held : State) (x : ℤ) → held ≡ grown coder x → IsCoder coder → IsSample coder.setting x → IsWhole held →
+pub push_sound : (coder held : CoderState) (x : ℤ) → held ≡ state_after coder x → IsCoder coder → IsSample coder.setting x → IsWhole held →
     AreSoundBlocks held.setting held.start (contents_held held) × (length held.residuals ≡ held.setting.block * blocks_held held)
 push_sound coder held x g k legal whole =
-    subst (λ (v : State). AreSoundBlocks v.setting v.start (contents_held v) × (length v.residuals ≡ v.setting.block * blocks_held v)) (sym g)
+    subst (λ (v : CoderState). AreSoundBlocks v.setting v.start (contents_held v) × (length v.residuals ≡ v.setting.block * blocks_held v)) (sym g)
     (whole_sound coder x k legal (push_as coder held x IsWhole g whole))
 
-pub push_ends : (coder held after : State) (x : ℤ) (xs : List ℤ) → held ≡ grown coder x → after ≡ emptied held → IsSample coder.setting x → IsWhole held → StandsFor coder xs → StandsFor after (xs ++ x ∷ [])
+pub push_ends : (coder held after : CoderState) (x : ℤ) (xs : List ℤ) → held ≡ state_after coder x → after ≡ state_after_segment held → IsSample coder.setting x → IsWhole held → HasTaken coder xs → HasTaken after (xs ++ x ∷ [])
 push_ends coder held after x xs g e legal whole h =
-    subst (λ (v : State). StandsFor v (xs ++ x ∷ [])) (sym (e ∙ ap emptied g)) (ends coder x xs h legal (push_as coder held x IsWhole g whole))
+    subst (λ (v : CoderState). HasTaken v (xs ++ x ∷ [])) (sym (e ∙ ap state_after_segment g)) (ends coder x xs h legal (push_as coder held x IsWhole g whole))
 
-pub push_completes : (coder held : State) (x : ℤ) (xs : List ℤ) (old new : List Bool) → held ≡ grown coder x → new ≡ old ++ code_held held (length old) → IsSample coder.setting x → IsWhole held → StandsFor coder xs → IsInPlace coder.setting xs old →
-    Completes coder.setting xs (xs ++ x ∷ []) old new
+pub push_completes : (coder held : CoderState) (x : ℤ) (xs : List ℤ) (old new : List Bool) → held ≡ state_after coder x → new ≡ old ++ code_held held (length old) → IsSample coder.setting x → IsWhole held → HasTaken coder xs → IsAlignedWith coder.setting xs old →
+    AppendsCode coder.setting xs (xs ++ x ∷ []) old new
 push_completes coder held x xs old new g e legal whole h place =
-    let next = ends_next coder x xs h legal (push_as coder held x IsWhole g whole) in
-    record { bits = code_held (grown coder x) (length old); appended = e ∙ ap (λ v. old ++ code_held v (length old)) g; completes = next.code_is (length old) place }
+    let next = whole_segment_adds_code coder x xs h legal (push_as coder held x IsWhole g whole) in
+    record { bits = code_held (state_after coder x) (length old); appended = e ∙ ap (λ v. old ++ code_held v (length old)) g; completes = next.code_is (length old) place }
 
-pub push_bits : (coder held : State) (x : ℤ) (xs : List ℤ) (n : ℕ) → held ≡ grown coder x → n ≡ sum_by (λ d. length (text held.setting d)) (sets_held held) → IsSample coder.setting x → IsWhole held → StandsFor coder xs →
-    code_bits coder.setting (settled coder.setting (xs ++ x ∷ [])) ≡ code_bits coder.setting (settled coder.setting xs) + n
+pub push_bits : (coder held : CoderState) (x : ℤ) (xs : List ℤ) (n : ℕ) → held ≡ state_after coder x → n ≡ sum_by (λ d. length (bits_of_set held.setting d)) (sets_held held) → IsSample coder.setting x → IsWhole held → HasTaken coder xs →
+    code_bits coder.setting (complete_samples coder.setting (xs ++ x ∷ [])) ≡ code_bits coder.setting (complete_samples coder.setting xs) + n
 push_bits coder held x xs n g count legal whole h =
-    let next = ends_next coder x xs h legal (push_as coder held x IsWhole g whole) in
-    let all : n ≡ sum_by (λ d. length (text coder.setting d)) (sets_held (grown coder x)) = push_as coder held x (λ v. n ≡ sum_by (λ d. length (text v.setting d)) (sets_held v)) g count in
-    next.bits_are ∙ ap (λ m. code_bits coder.setting (settled coder.setting xs) + m) (sym all)
+    let next = whole_segment_adds_code coder x xs h legal (push_as coder held x IsWhole g whole) in
+    let all : n ≡ sum_by (λ d. length (bits_of_set coder.setting d)) (sets_held (state_after coder x)) = push_as coder held x (λ v. n ≡ sum_by (λ d. length (bits_of_set v.setting d)) (sets_held v)) g count in
+    next.bits_are ∙ ap (λ m. code_bits coder.setting (complete_samples coder.setting xs) + m) (sym all)
 
-pub push_least : (coder held : State) (x : ℤ) (xs : List ℤ) (m n : ℕ) → held ≡ grown coder x → m + sum_by (λ d. length (text held.setting d)) (sets_held held) + sum_by (least_looks held.setting) (contents_held held) ≤ n → IsSample coder.setting x → IsWhole held → StandsFor coder xs →
-    m + least_steps coder.setting (settled coder.setting (xs ++ x ∷ [])) ≤ n + least_steps coder.setting (settled coder.setting xs)
+pub push_least : (coder held : CoderState) (x : ℤ) (xs : List ℤ) (m n : ℕ) → held ≡ state_after coder x → m + sum_by (λ d. length (bits_of_set held.setting d)) (sets_held held) + sum_by (least_looks held.setting) (contents_held held) ≤ n → IsSample coder.setting x → IsWhole held → HasTaken coder xs →
+    m + least_steps coder.setting (complete_samples coder.setting (xs ++ x ∷ [])) ≤ n + least_steps coder.setting (complete_samples coder.setting xs)
 push_least coder held x xs m n g steps legal whole h =
-    let next = ends_next coder x xs h legal (push_as coder held x IsWhole g whole) in
-    let all : m + sum_by (λ d. length (text coder.setting d)) (sets_held (grown coder x)) + sum_by (least_looks coder.setting) (contents_held (grown coder x)) ≤ n =
-    push_as coder held x (λ v. m + sum_by (λ d. length (text v.setting d)) (sets_held v) + sum_by (least_looks v.setting) (contents_held v) ≤ n) g steps in
+    let next = whole_segment_adds_code coder x xs h legal (push_as coder held x IsWhole g whole) in
+    let all : m + sum_by (λ d. length (bits_of_set coder.setting d)) (sets_held (state_after coder x)) + sum_by (least_looks coder.setting) (contents_held (state_after coder x)) ≤ n =
+    push_as coder held x (λ v. m + sum_by (λ d. length (bits_of_set v.setting d)) (sets_held v) + sum_by (least_looks v.setting) (contents_held v) ≤ n) g steps in
     omega (arith, next.bits_are, next.least, all)
 
-pub push_most : (coder held : State) (x : ℤ) (xs : List ℤ) (m n : ℕ) → held ≡ grown coder x → n ≤ m + sum_by (λ d. length (text held.setting d)) (sets_held held) + sum_by (most_looks held.setting) (contents_held held) → IsSample coder.setting x → IsWhole held → StandsFor coder xs →
-    n + most_steps coder.setting (settled coder.setting xs) ≤ m + most_steps coder.setting (settled coder.setting (xs ++ x ∷ []))
+pub push_most : (coder held : CoderState) (x : ℤ) (xs : List ℤ) (m n : ℕ) → held ≡ state_after coder x → n ≤ m + sum_by (λ d. length (bits_of_set held.setting d)) (sets_held held) + sum_by (most_looks held.setting) (contents_held held) → IsSample coder.setting x → IsWhole held → HasTaken coder xs →
+    n + most_steps coder.setting (complete_samples coder.setting xs) ≤ m + most_steps coder.setting (complete_samples coder.setting (xs ++ x ∷ []))
 push_most coder held x xs m n g steps legal whole h =
-    let next = ends_next coder x xs h legal (push_as coder held x IsWhole g whole) in
-    let all : n ≤ m + sum_by (λ d. length (text coder.setting d)) (sets_held (grown coder x)) + sum_by (most_looks coder.setting) (contents_held (grown coder x)) =
-    push_as coder held x (λ v. n ≤ m + sum_by (λ d. length (text v.setting d)) (sets_held v) + sum_by (most_looks v.setting) (contents_held v)) g steps in
+    let next = whole_segment_adds_code coder x xs h legal (push_as coder held x IsWhole g whole) in
+    let all : n ≤ m + sum_by (λ d. length (bits_of_set coder.setting d)) (sets_held (state_after coder x)) + sum_by (most_looks coder.setting) (contents_held (state_after coder x)) =
+    push_as coder held x (λ v. n ≤ m + sum_by (λ d. length (bits_of_set v.setting d)) (sets_held v) + sum_by (most_looks v.setting) (contents_held v)) g steps in
     omega (arith, next.bits_are, next.most, all)
 
 -- the segment stays open
-still_open : (coder : State) (x : ℤ) (xs : List ℤ) → StandsFor coder xs → (IsWhole (grown coder x) → ⊥) → length (grown coder x).residuals < coder.setting.block * blocks_left coder.setting coder.start
+still_open : (coder : CoderState) (x : ℤ) (xs : List ℤ) → HasTaken coder xs → (IsWhole (state_after coder x) → ⊥) → length (state_after coder x).residuals < coder.setting.block * blocks_left coder.setting coder.start
 still_open coder x xs h not_whole =
     let shape = short_of coder xs h in
-    let len : length (grown coder x).residuals ≡ length coder.residuals + 1 = length-append coder.residuals (next_residual coder x ∷ []) in
-    elim (cases_lt (length (grown coder x).residuals) (coder.setting.block * blocks_left coder.setting coder.start)) [
+    let len : length (state_after coder x).residuals ≡ length coder.residuals + 1 = length-append coder.residuals (next_residual coder x ∷ []) in
+    elim (cases_lt (length (state_after coder x).residuals) (coder.setting.block * blocks_left coder.setting coder.start)) [
       | inl lt ↦ lt
       | inr le ↦ absurd (not_whole (omega (arith, shape, len, le)))
     ]
 
-pub push_stays : (coder held : State) (x : ℤ) (xs : List ℤ) → held ≡ grown coder x → IsSample coder.setting x → (IsWhole held → ⊥) → StandsFor coder xs → StandsFor held (xs ++ x ∷ [])
+pub push_stays : (coder held : CoderState) (x : ℤ) (xs : List ℤ) → held ≡ state_after coder x → IsSample coder.setting x → (IsWhole held → ⊥) → HasTaken coder xs → HasTaken held (xs ++ x ∷ [])
 push_stays coder held x xs g legal not_whole h =
-    subst (λ (v : State). StandsFor v (xs ++ x ∷ [])) (sym g) (stays coder x xs h legal (still_open coder x xs h (push_as coder held x (λ v. IsWhole v → ⊥) g not_whole)))
+    subst (λ (v : CoderState). HasTaken v (xs ++ x ∷ [])) (sym g) (stays coder x xs h legal (still_open coder x xs h (push_as coder held x (λ v. IsWhole v → ⊥) g not_whole)))
 
-pub push_settled : (coder held : State) (x : ℤ) (xs : List ℤ) → held ≡ grown coder x → IsSample coder.setting x → (IsWhole held → ⊥) → StandsFor coder xs → settled coder.setting (xs ++ x ∷ []) ≡ settled coder.setting xs
-push_settled coder held x xs g legal not_whole h = stays_settled coder x xs h legal (still_open coder x xs h (push_as coder held x (λ v. IsWhole v → ⊥) g not_whole))
+pub push_completes_nothing : (coder held : CoderState) (x : ℤ) (xs : List ℤ) → held ≡ state_after coder x → IsSample coder.setting x → (IsWhole held → ⊥) → HasTaken coder xs → complete_samples coder.setting (xs ++ x ∷ []) ≡ complete_samples coder.setting xs
+push_completes_nothing coder held x xs g legal not_whole h = open_completes_nothing coder x xs h legal (still_open coder x xs h (push_as coder held x (λ v. IsWhole v → ⊥) g not_whole))
 
-pub push_nothing : (coder held : State) (x : ℤ) (xs : List ℤ) (old : List Bool) → held ≡ grown coder x → IsSample coder.setting x → (IsWhole held → ⊥) → StandsFor coder xs → Completes coder.setting xs (xs ++ x ∷ []) old old
+pub push_nothing : (coder held : CoderState) (x : ℤ) (xs : List ℤ) (old : List Bool) → held ≡ state_after coder x → IsSample coder.setting x → (IsWhole held → ⊥) → HasTaken coder xs → AppendsCode coder.setting xs (xs ++ x ∷ []) old old
 push_nothing coder held x xs old g legal not_whole h = record {
   bits = [];
   appended = sym (append-nil old);
-  completes = ap (λ v. code coder.setting v) (push_settled coder held x xs g legal not_whole h) ∙ sym (append-nil (settled_code coder.setting xs));
+  completes = ap (λ v. code coder.setting v) (push_completes_nothing coder held x xs g legal not_whole h) ∙ sym (append-nil (complete_code coder.setting xs));
 }
 
 -- What the end does, where `held` is what the coder holds with its last block filled.
-pub finish_sound : (coder held : State) → held ≡ filled_up coder (fill_count coder) → IsCoder coder → AreSoundBlocks held.setting held.start (contents_held held) × (length held.residuals ≡ held.setting.block * blocks_held held)
-finish_sound coder held g k = subst (λ (v : State). AreSoundBlocks v.setting v.start (contents_held v) × (length v.residuals ≡ v.setting.block * blocks_held v)) (sym g) (filled_sound coder k)
+pub finish_sound : (coder held : CoderState) → held ≡ state_with_fill coder (fill_count coder) → IsCoder coder → AreSoundBlocks held.setting held.start (contents_held held) × (length held.residuals ≡ held.setting.block * blocks_held held)
+finish_sound coder held g k = subst (λ (v : CoderState). AreSoundBlocks v.setting v.start (contents_held v) × (length v.residuals ≡ v.setting.block * blocks_held v)) (sym g) (filled_sound coder k)
 
-pub finish_completes : (coder held : State) (xs : List ℤ) (old new : List Bool) → held ≡ filled_up coder (fill_count coder) → new ≡ old ++ code_held held (length old) → StandsFor coder xs → IsInPlace coder.setting xs old → Finishes coder.setting xs old new
+pub finish_completes : (coder held : CoderState) (xs : List ℤ) (old new : List Bool) → held ≡ state_with_fill coder (fill_count coder) → new ≡ old ++ code_held held (length old) → HasTaken coder xs → IsAlignedWith coder.setting xs old → AppendsRest coder.setting xs old new
 finish_completes coder held xs old new g e h place =
-    let next = filled_next coder xs h in
-    record { bits = code_held (filled_up coder (fill_count coder)) (length old); appended = e ∙ ap (λ v. old ++ code_held v (length old)) g; completes = next.code_is (length old) place }
+    let next = filled_segment_adds_code coder xs h in
+    record { bits = code_held (state_with_fill coder (fill_count coder)) (length old); appended = e ∙ ap (λ v. old ++ code_held v (length old)) g; completes = next.code_is (length old) place }
 
-pub finish_bits : (coder held : State) (xs : List ℤ) (n : ℕ) → held ≡ filled_up coder (fill_count coder) → n ≡ sum_by (λ d. length (text held.setting d)) (sets_held held) → StandsFor coder xs →
-    code_bits coder.setting xs ≡ code_bits coder.setting (settled coder.setting xs) + n
+pub finish_bits : (coder held : CoderState) (xs : List ℤ) (n : ℕ) → held ≡ state_with_fill coder (fill_count coder) → n ≡ sum_by (λ d. length (bits_of_set held.setting d)) (sets_held held) → HasTaken coder xs →
+    code_bits coder.setting xs ≡ code_bits coder.setting (complete_samples coder.setting xs) + n
 finish_bits coder held xs n g count h =
-    let all : n ≡ sum_by (λ d. length (text coder.setting d)) (sets_held (filled_up coder (fill_count coder))) = subst (λ (v : State). n ≡ sum_by (λ d. length (text v.setting d)) (sets_held v)) g count in
-    (filled_next coder xs h).bits_are ∙ ap (λ m. code_bits coder.setting (settled coder.setting xs) + m) (sym all)
+    let all : n ≡ sum_by (λ d. length (bits_of_set coder.setting d)) (sets_held (state_with_fill coder (fill_count coder))) = subst (λ (v : CoderState). n ≡ sum_by (λ d. length (bits_of_set v.setting d)) (sets_held v)) g count in
+    (filled_segment_adds_code coder xs h).bits_are ∙ ap (λ m. code_bits coder.setting (complete_samples coder.setting xs) + m) (sym all)
 
-pub finish_least : (coder held : State) (xs : List ℤ) (m n : ℕ) → held ≡ filled_up coder (fill_count coder) → m + fill_count coder + sum_by (λ d. length (text held.setting d)) (sets_held held) + sum_by (least_looks held.setting) (contents_held held) ≤ n → StandsFor coder xs →
-    m + fill_samples coder.setting xs + least_steps coder.setting xs ≤ n + least_steps coder.setting (settled coder.setting xs)
+pub finish_least : (coder held : CoderState) (xs : List ℤ) (m n : ℕ) → held ≡ state_with_fill coder (fill_count coder) → m + fill_count coder + sum_by (λ d. length (bits_of_set held.setting d)) (sets_held held) + sum_by (least_looks held.setting) (contents_held held) ≤ n → HasTaken coder xs →
+    m + fill_samples coder.setting xs + least_steps coder.setting xs ≤ n + least_steps coder.setting (complete_samples coder.setting xs)
 finish_least coder held xs m n g steps h =
-    let next = filled_next coder xs h in
-    let all : m + fill_count coder + sum_by (λ d. length (text coder.setting d)) (sets_held (filled_up coder (fill_count coder))) + sum_by (least_looks coder.setting) (contents_held (filled_up coder (fill_count coder))) ≤ n =
-    subst (λ (v : State). m + fill_count coder + sum_by (λ d. length (text v.setting d)) (sets_held v) + sum_by (least_looks v.setting) (contents_held v) ≤ n) g steps in
+    let next = filled_segment_adds_code coder xs h in
+    let all : m + fill_count coder + sum_by (λ d. length (bits_of_set coder.setting d)) (sets_held (state_with_fill coder (fill_count coder))) + sum_by (least_looks coder.setting) (contents_held (state_with_fill coder (fill_count coder))) ≤ n =
+    subst (λ (v : CoderState). m + fill_count coder + sum_by (λ d. length (bits_of_set v.setting d)) (sets_held v) + sum_by (least_looks v.setting) (contents_held v) ≤ n) g steps in
     omega (arith, next.bits_are, next.least, all, fill_count_is coder xs h)
 
-pub finish_most : (coder held : State) (xs : List ℤ) (m n : ℕ) → held ≡ filled_up coder (fill_count coder) → n ≤ m + fill_count coder + sum_by (λ d. length (text held.setting d)) (sets_held held) + sum_by (most_looks held.setting) (contents_held held) → StandsFor coder xs →
-    n + most_steps coder.setting (settled coder.setting xs) ≤ m + fill_samples coder.setting xs + most_steps coder.setting xs
+pub finish_most : (coder held : CoderState) (xs : List ℤ) (m n : ℕ) → held ≡ state_with_fill coder (fill_count coder) → n ≤ m + fill_count coder + sum_by (λ d. length (bits_of_set held.setting d)) (sets_held held) + sum_by (most_looks held.setting) (contents_held held) → HasTaken coder xs →
+    n + most_steps coder.setting (complete_samples coder.setting xs) ≤ m + fill_samples coder.setting xs + most_steps coder.setting xs
 finish_most coder held xs m n g steps h =
-    let next = filled_next coder xs h in
-    let all : n ≤ m + fill_count coder + sum_by (λ d. length (text coder.setting d)) (sets_held (filled_up coder (fill_count coder))) + sum_by (most_looks coder.setting) (contents_held (filled_up coder (fill_count coder))) =
-    subst (λ (v : State). n ≤ m + fill_count coder + sum_by (λ d. length (text v.setting d)) (sets_held v) + sum_by (most_looks v.setting) (contents_held v)) g steps in
+    let next = filled_segment_adds_code coder xs h in
+    let all : n ≤ m + fill_count coder + sum_by (λ d. length (bits_of_set coder.setting d)) (sets_held (state_with_fill coder (fill_count coder))) + sum_by (most_looks coder.setting) (contents_held (state_with_fill coder (fill_count coder))) =
+    subst (λ (v : CoderState). n ≤ m + fill_count coder + sum_by (λ d. length (bits_of_set v.setting d)) (sets_held v) + sum_by (most_looks v.setting) (contents_held v)) g steps in
     omega (arith, next.bits_are, next.most, all, fill_count_is coder xs h)
 
 -- the room in the meter

@@ -11,30 +11,31 @@ use Rattle.rice_bits.specs.Bits.{word, fundamental_sequence}
 use Rattle.rice_samples.specs.Parameters.{Parameters, id_len, k_max}
 use Rattle.rice_samples.specs.Places.{begins_segment, blocks_left}
 use Rattle.rice_samples.proofs.lemmas.setting.PlaceLemmas.{one_less_left, last_of_segment}
-use Rattle.rice_code.specs.code.Blocks.{Contents, is_zero}
-use Rattle.rice_code.specs.code.CodedDataSets.{text, cost, reference_text, joined}
+use Rattle.rice_code.specs.code.Blocks.{BlockData, is_zero_block}
+use Rattle.rice_code.specs.code.CodedDataSets.{bits_of_set, cost, reference_bits, bits_of_sets}
 use Rattle.rice_code.specs.code.Code.{data_sets}
 use Rattle.rice_code.specs.code.Choice.{shortest, best_split}
-use Rattle.rice_code.specs.encode.HeldBlocks.{told, IsSound, sent_run, sent_zeros, waiting, waiting_run, held_blocks, reference_at, AreSoundBlocks, IsSoundBlock}
+use Rattle.rice_code.specs.encode.HeldBlocks.{run_of_blocks, zeros_of_run, pending_zeros, pending_run, held_blocks, reference_at}
+use Rattle.rice_code.specs.code.SoundBlocks.{block_with, IsSoundData, AreSoundBlocks, IsSoundBlock}
 use Rattle.rice_code.specs.Steps.{least_looks, most_looks}
-use Rattle.rice_code.proofs.lemmas.meaning.Covers.{bool_cases, zero_block}
+use Rattle.rice_code.proofs.lemmas.meaning.Covers.{bool_cases, zero_block_is}
 use Rattle.rice_code.proofs.lemmas.cost.Costs.{cost_is_length, length_reference}
 use Rattle.rice_code.proofs.lemmas.cost.BlockBounds.{shortest_is_form}
 use Rattle.rice_code.proofs.lemmas.encode.OptionBits.{run_text, run_cost}
 use Rattle.rice_code.proofs.lemmas.encode.PendingRuns.{run_then_block, run_ends, one_waits, held_at, held_len, drop_sound}
 
 -- the text of a run is as long as it costs
-pub waiting_len : (s : Parameters) (to_end : Bool) (r : Option ℕ) (run : ℕ) → 0 < run → length (joined s (waiting_run to_end r run)) ≡ cost s (sent_run to_end r run)
+pub waiting_len : (s : Parameters) (to_end : Bool) (r : Option ℕ) (run : ℕ) → 0 < run → length (bits_of_sets s (pending_run to_end r run)) ≡ cost s (run_of_blocks to_end r run)
 waiting_len s to_end r zero h = absurd (omega arith)
 waiting_len s to_end r (suc w) h =
-    let d = sent_run to_end r (suc w) in
-    let body = fundamental_sequence (sent_zeros to_end (suc w)) in
-    let a = length-append (text s d) [] in
+    let d = run_of_blocks to_end r (suc w) in
+    let body = fundamental_sequence (zeros_of_run to_end (suc w)) in
+    let a = length-append (bits_of_set s d) [] in
     let b = ap length (run_text s to_end r (suc w)) in
-    let e = length-append (word (id_len s) 0) (false ∷ (reference_text s r ++ body)) in
-    let f = length-append (reference_text s r) body in
+    let e = length-append (word (id_len s) 0) (false ∷ (reference_bits s r ++ body)) in
+    let f = length-append (reference_bits s r) body in
     let g = length_reference s r in
-    let k = length-fundamental_sequence (sent_zeros to_end (suc w)) in
+    let k = length-fundamental_sequence (zeros_of_run to_end (suc w)) in
     let l = length-word (id_len s) 0 in
     let m = run_cost s to_end r (suc w) in
     a ∙ (omega (arith, b, e, f, g, k, l, m))
@@ -63,11 +64,11 @@ left_inside s b (suc i) h k =
 
 -- the code that is still to come when `run` zero blocks before block i wait
 abbrev pub to_come : Parameters → ℕ → Option ℕ → ℕ → List ℕ → ℕ → ℕ → List Bool
-to_come s start r n ds i run = joined s (data_sets s (start + (i - run)) false (waiting s (reference_at r (i - run)) run ++ drop i (held_blocks s r n ds)))
+to_come s start r n ds i run = bits_of_sets s (data_sets s (start + (i - run)) false (pending_zeros s (reference_at r (i - run)) run ++ drop i (held_blocks s r n ds)))
 
 -- block i
-abbrev pub held : Parameters → Option ℕ → List ℕ → ℕ → Contents
-held s r ds i = told (reference_at r i) (take s.block (drop (i * s.block) ds))
+abbrev pub held : Parameters → Option ℕ → List ℕ → ℕ → BlockData
+held s r ds i = block_with (reference_at r i) (take s.block (drop (i * s.block) ds))
 
 pub held_range : (s : Parameters) (ds : List ℕ) (i : ℕ) → slice_range ds (i * s.block) (i * s.block + s.block) ≡ take s.block (drop (i * s.block) ds)
 held_range s ds i = let e : i * s.block + s.block - i * s.block ≡ s.block = omega arith in ap (λ n. take n (drop (i * s.block) ds)) e
@@ -75,7 +76,7 @@ held_range s ds i = let e : i * s.block + s.block - i * s.block ≡ s.block = om
 pub held_sound : (s : Parameters) (start : ℕ) (r : Option ℕ) (n : ℕ) (ds : List ℕ) (i : ℕ) → i < n → AreSoundBlocks s start (held_blocks s r n ds) → IsSoundBlock s (start + i) (held s r ds i)
 held_sound s start r n ds i h k = (subst (λ cs. AreSoundBlocks s (start + i) cs) (held_at s r n i ds h) (drop_sound s start i (held_blocks s r n ds) k)).0
 
-pub sound_of : (s : Parameters) (b : ℕ) (c : Contents) → IsSoundBlock s b c → IsSound s c
+pub sound_of : (s : Parameters) (b : ℕ) (c : BlockData) → IsSoundBlock s b c → IsSoundData s c
 sound_of s b c h = record { len = h.block.len; fit = h.fit; reference = h.block.reference.fits; zero = h.at_reference }
 
 reference_first : (r : Option ℕ) (i run : ℕ) → run ≡ 0 → reference_at r i ≡ reference_at r (i - run)
@@ -86,49 +87,49 @@ reference_later r zero run h k = absurd (omega arith)
 reference_later r (suc i) run h k = refl
 
 pub next_zero : (s : Parameters) (start : ℕ) (r : Option ℕ) (n : ℕ) (ds : List ℕ) (i run : ℕ) → run ≤ i → i < n → AreSoundBlocks s start (held_blocks s r n ds) →
-    is_zero (held s r ds i) ≡ true → to_come s start r n ds i run ≡ to_come s start r n ds (i + 1) (run + 1)
+    is_zero_block (held s r ds i) ≡ true → to_come s start r n ds i run ≡ to_come s start r n ds (i + 1) (run + 1)
 next_zero s start r n ds i run h k sound z =
     let c = held s r ds i in
     let rest = drop (i + 1) (held_blocks s r n ds) in
     let e = held_at s r n i ds k in
-    let f = one_waits s run (reference_at r (i - run)) (reference_at r i) c rest (zero_block s (start + i) c (held_sound s start r n ds i k sound).block z) (reference_first r i run) (reference_later r i run h) in
+    let f = one_waits s run (reference_at r (i - run)) (reference_at r i) c rest (zero_block_is s (start + i) c (held_sound s start r n ds i k sound).block z) (reference_first r i run) (reference_later r i run h) in
     let g : i - run ≡ i + 1 - (run + 1) = omega arith in
-    ap (λ cs. joined s (data_sets s (start + (i - run)) false (waiting s (reference_at r (i - run)) run ++ cs))) e
-    ∙ (ap (λ cs. joined s (data_sets s (start + (i - run)) false cs)) f
-    ∙ ap (λ m. joined s (data_sets s (start + m) false (waiting s (reference_at r m) (run + 1) ++ rest))) g)
+    ap (λ cs. bits_of_sets s (data_sets s (start + (i - run)) false (pending_zeros s (reference_at r (i - run)) run ++ cs))) e
+    ∙ (ap (λ cs. bits_of_sets s (data_sets s (start + (i - run)) false cs)) f
+    ∙ ap (λ m. bits_of_sets s (data_sets s (start + m) false (pending_zeros s (reference_at r m) (run + 1) ++ rest))) g)
 
 inside : (s : Parameters) (start n i run : ℕ) → 1 ≤ s.interval → run ≤ i → i < n → n ≤ blocks_left s start → run < blocks_left s (start + (i - run))
 inside s start n i run h k l m = let e = left_inside s start (i - run) h (omega arith) in omega arith
 
 pub next_other : (s : Parameters) (start : ℕ) (r : Option ℕ) (n : ℕ) (ds : List ℕ) (i run : ℕ) → 1 ≤ s.interval → n ≤ blocks_left s start → run ≤ i → i < n →
-    is_zero (held s r ds i) ≡ false → to_come s start r n ds i run ≡ joined s (waiting_run false (reference_at r (i - run)) run) ++ (text s (shortest s (held s r ds i)) ++ to_come s start r n ds (i + 1) 0)
+    is_zero_block (held s r ds i) ≡ false → to_come s start r n ds i run ≡ bits_of_sets s (pending_run false (reference_at r (i - run)) run) ++ (bits_of_set s (shortest s (held s r ds i)) ++ to_come s start r n ds (i + 1) 0)
 next_other s start r n ds i run h m l k z =
     let c = held s r ds i in
     let rest = drop (i + 1) (held_blocks s r n ds) in
     let e = held_at s r n i ds k in
     let b = start + (i - run) in
-    let w = waiting_run false (reference_at r (i - run)) run in
+    let w = pending_run false (reference_at r (i - run)) run in
     let f = run_then_block s b run (reference_at r (i - run)) c rest h (inside s start n i run h l k m) z in
     let g : b + run + 1 ≡ start + (i + 1 - 0) = omega arith in
-    ap (λ cs. joined s (data_sets s b false (waiting s (reference_at r (i - run)) run ++ cs))) e
-    ∙ (ap (joined s) (f ∙ ap (λ m. w ++ shortest s c ∷ data_sets s m false rest) g)
-    ∙ flat_map-append (text s) w (shortest s c ∷ data_sets s (start + (i + 1 - 0)) false rest))
+    ap (λ cs. bits_of_sets s (data_sets s b false (pending_zeros s (reference_at r (i - run)) run ++ cs))) e
+    ∙ (ap (bits_of_sets s) (f ∙ ap (λ m. w ++ shortest s c ∷ data_sets s m false rest) g)
+    ∙ flat_map-append (bits_of_set s) w (shortest s c ∷ data_sets s (start + (i + 1 - 0)) false rest))
 
 pub at_end : (s : Parameters) (start : ℕ) (r : Option ℕ) (n : ℕ) (ds : List ℕ) (run : ℕ) → 1 ≤ s.interval → n ≤ blocks_left s start → run ≤ n →
-    to_come s start r n ds n run ≡ joined s (waiting_run true (reference_at r (n - run)) run)
+    to_come s start r n ds n run ≡ bits_of_sets s (pending_run true (reference_at r (n - run)) run)
 at_end s start r n ds run h m l =
     let b = start + (n - run) in
     let none = drop_all n (held_blocks s r n ds) (let e = held_len s r n ds in omega arith) in
-    ap (λ cs. joined s (data_sets s b false (waiting s (reference_at r (n - run)) run ++ cs))) none
-    ∙ (ap (λ cs. joined s (data_sets s b false cs)) (append-nil (waiting s (reference_at r (n - run)) run))
-    ∙ ap (joined s) (run_ends s b run (reference_at r (n - run)) h (enough run l)))
+    ap (λ cs. bits_of_sets s (data_sets s b false (pending_zeros s (reference_at r (n - run)) run ++ cs))) none
+    ∙ (ap (λ cs. bits_of_sets s (data_sets s b false cs)) (append-nil (pending_zeros s (reference_at r (n - run)) run))
+    ∙ ap (bits_of_sets s) (run_ends s b run (reference_at r (n - run)) h (enough run l)))
   where
     enough : (run : ℕ) → run ≤ n → run ≤ blocks_left s (start + (n - run))
     enough zero l = omega arith
     enough (suc w) l = let e = left_inside s start (n - suc w) h (omega arith) in omega arith
 
 -- one block more is summed
-pub sum_next : (f : Contents → ℕ) (i : ℕ) (cs : List Contents) (c : Contents) (rest : List Contents) → drop i cs ≡ c ∷ rest → sum_by f (take (i + 1) cs) ≡ sum_by f (take i cs) + f c
+pub sum_next : (f : BlockData → ℕ) (i : ℕ) (cs : List BlockData) (c : BlockData) (rest : List BlockData) → drop i cs ≡ c ∷ rest → sum_by f (take (i + 1) cs) ≡ sum_by f (take i cs) + f c
 sum_next f i [] c rest e = absurd (let g : [] ≡ c ∷ rest = sym (drop_all i [] (omega arith)) ∙ e in cc)
 sum_next f zero (d ∷ cs) c rest e = let g : d ≡ c = cc in ap (λ x. sum_by f (x ∷ [])) g
 sum_next f (suc i) (d ∷ cs) c rest e =
@@ -139,13 +140,13 @@ sum_next f (suc i) (d ∷ cs) c rest e =
     let g = ap (λ n. sum_by f (take n (d ∷ cs))) n in
     omega (arith, ih, a, b, g)
 
-pub most_of_one : (s : Parameters) (c : Contents) → most_looks s c ≤ s.block * (k_max s + 5)
+pub most_of_one : (s : Parameters) (c : BlockData) → most_looks s c ≤ s.block * (k_max s + 5)
 most_of_one s c =
     let p : s.block * (min (best_split s c + 1) (k_max s) + 5) ≤ s.block * (k_max s + 5) = mul-le-mul_left s.block (omega arith) in
     let q : s.block * 1 ≤ s.block * (k_max s + 5) = mul-le-mul_left s.block (omega arith) in
-    elim (is_zero c) as (λ v. cond v s.block (s.block * (min (best_split s c + 1) (k_max s) + 5)) ≤ s.block * (k_max s + 5)) [ true ↦ omega (arith, q) | false ↦ p ]
+    elim (is_zero_block c) as (λ v. cond v s.block (s.block * (min (best_split s c + 1) (k_max s) + 5)) ≤ s.block * (k_max s + 5)) [ true ↦ omega (arith, q) | false ↦ p ]
 
-pub most_of_all : (s : Parameters) (i : ℕ) (cs : List Contents) → sum_by (most_looks s) (take i cs) ≤ i * (s.block * (k_max s + 5))
+pub most_of_all : (s : Parameters) (i : ℕ) (cs : List BlockData) → sum_by (most_looks s) (take i cs) ≤ i * (s.block * (k_max s + 5))
 most_of_all s zero cs = omega arith
 most_of_all s (suc i) [] = omega arith
 most_of_all s (suc i) (c ∷ cs) =
@@ -154,13 +155,13 @@ most_of_all s (suc i) (c ∷ cs) =
     let d = most_of_one s c in
     omega (arith, a, b, d)
 
-pub looks_zero : (s : Parameters) (c : Contents) → is_zero c ≡ true → (least_looks s c ≡ s.block) × (most_looks s c ≡ s.block)
+pub looks_zero : (s : Parameters) (c : BlockData) → is_zero_block c ≡ true → (least_looks s c ≡ s.block) × (most_looks s c ≡ s.block)
 looks_zero s c e = (ap (λ v. cond v s.block (s.block * (best_split s c + 3) - 1)) e, ap (λ v. cond v s.block (s.block * (min (best_split s c + 1) (k_max s) + 5))) e)
 
-pub looks_other : (s : Parameters) (c : Contents) → is_zero c ≡ false → (least_looks s c ≡ s.block * (best_split s c + 3) - 1) × (most_looks s c ≡ s.block * (min (best_split s c + 1) (k_max s) + 5))
+pub looks_other : (s : Parameters) (c : BlockData) → is_zero_block c ≡ false → (least_looks s c ≡ s.block * (best_split s c + 3) - 1) × (most_looks s c ≡ s.block * (min (best_split s c + 1) (k_max s) + 5))
 looks_other s c e = (ap (λ v. cond v s.block (s.block * (best_split s c + 3) - 1)) e, ap (λ v. cond v s.block (s.block * (min (best_split s c + 1) (k_max s) + 5))) e)
 
-pub shortest_len : (s : Parameters) (b : ℕ) (c : Contents) → 1 ≤ s.block → IsSoundBlock s b c → length (text s (shortest s c)) ≡ cost s (shortest s c)
+pub shortest_len : (s : Parameters) (b : ℕ) (c : BlockData) → 1 ≤ s.block → IsSoundBlock s b c → length (bits_of_set s (shortest s c)) ≡ cost s (shortest s c)
 shortest_len s b c j h = cost_is_length s b (shortest s c) j (shortest_is_form s b c h)
 
 pub no_reference : (r : Option ℕ) (i : ℕ) → 0 < i → reference_at r i ≡ None
@@ -169,17 +170,17 @@ no_reference r (suc i) h = refl
 
 -- what is put has room
 pub room_other : (s : Parameters) (start : ℕ) (r : Option ℕ) (n : ℕ) (ds : List ℕ) (i run : ℕ) (sink before all : List Bool) → 1 ≤ s.interval → 1 ≤ s.block → n ≤ blocks_left s start → run ≤ i → i < n →
-    AreSoundBlocks s start (held_blocks s r n ds) → is_zero (held s r ds i) ≡ false → sink ++ to_come s start r n ds i run ≡ before ++ all →
-    length sink + length (joined s (waiting_run false (reference_at r (i - run)) run)) + cost s (shortest s (held s r ds i)) ≤ length before + length all
+    AreSoundBlocks s start (held_blocks s r n ds) → is_zero_block (held s r ds i) ≡ false → sink ++ to_come s start r n ds i run ≡ before ++ all →
+    length sink + length (bits_of_sets s (pending_run false (reference_at r (i - run)) run)) + cost s (shortest s (held s r ds i)) ≤ length before + length all
 room_other s start r n ds i run sink before all h j m l k sound z same =
     let c = held s r ds i in
-    let w = joined s (waiting_run false (reference_at r (i - run)) run) in
+    let w = bits_of_sets s (pending_run false (reference_at r (i - run)) run) in
     let rest = to_come s start r n ds (i + 1) 0 in
     let e = ap length (sym same ∙ ap (λ v. sink ++ v) (next_other s start r n ds i run h m l k z)) in
     let a = length-append before all in
-    let b = length-append sink (w ++ (text s (shortest s c) ++ rest)) in
-    let d = length-append w (text s (shortest s c) ++ rest) in
-    let f = length-append (text s (shortest s c)) rest in
+    let b = length-append sink (w ++ (bits_of_set s (shortest s c) ++ rest)) in
+    let d = length-append w (bits_of_set s (shortest s c) ++ rest) in
+    let f = length-append (bits_of_set s (shortest s c)) rest in
     let g = shortest_len s (start + i) c j (held_sound s start r n ds i k sound) in
     omega (arith, e, a, b, d, f, g)
 

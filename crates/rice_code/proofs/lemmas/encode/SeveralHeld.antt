@@ -5,7 +5,7 @@ use Rattle.std.proofs.lemmas.List.Elements.{recursion_from_All}
 use Rattle.rice_samples.specs.Parameters.{Parameters, IsSample}
 use Rattle.rice_samples.specs.Places.{blocks_left}
 use Rattle.rice_samples.specs.predict.Residuals.{pattern, rank, ranks, last_of}
-use Rattle.rice_code.specs.encode.Coder.{State, IsOpen, is_empty, is_first, next_residual, next_residuals, next_references, later_residuals, grown, grown_by}
+use Rattle.rice_code.specs.encode.OpenSegment.{CoderState, IsOpen, is_empty, is_first, next_residual, next_residuals, next_references, later_residuals, state_after, state_after_all}
 use Rattle.rice_code.proofs.lemmas.code.SoundBlocks.{last_legal}
 
 -- samples behind others, with preprocessing and without
@@ -21,15 +21,15 @@ pub length-later : (s : Parameters) (p : ℤ) (xs : List ℤ) → length (later_
 length-later s p [] = refl
 length-later s p (x ∷ xs) = ap (λ n. suc n) (length-later s x xs)
 
-length-next : (coder : State) (xs : List ℤ) → length (next_residuals coder xs) ≡ length xs
+length-next : (coder : CoderState) (xs : List ℤ) → length (next_residuals coder xs) ≡ length xs
 length-next coder [] = refl
 length-next coder (x ∷ xs) = ap (λ n. suc n) (length-later coder.setting x xs)
 
-pub length-grown : (coder : State) (xs : List ℤ) → length (grown_by coder xs).residuals ≡ length coder.residuals + length xs
+pub length-grown : (coder : CoderState) (xs : List ℤ) → length (state_after_all coder xs).residuals ≡ length coder.residuals + length xs
 length-grown coder xs = length-append coder.residuals (next_residuals coder xs) ∙ ap (λ n. length coder.residuals + n) (length-next coder xs)
 
 -- where the next sample is no reference sample
-next_later : (coder : State) (xs : List ℤ) → (coder.setting.preprocess && is_first coder) ≡ false → next_residuals coder xs ≡ later_residuals coder.setting coder.previous xs
+next_later : (coder : CoderState) (xs : List ℤ) → (coder.setting.preprocess && is_first coder) ≡ false → next_residuals coder xs ≡ later_residuals coder.setting coder.previous xs
 next_later coder [] e = refl
 next_later coder (x ∷ xs) e = ap (λ d. d ∷ later_residuals coder.setting x xs) (by_way coder.setting.preprocess (is_first coder) e)
   where
@@ -38,23 +38,23 @@ next_later coder (x ∷ xs) e = ap (λ d. d ∷ later_residuals coder.setting x 
     by_way true false e = refl
     by_way true true e = absurd (let f : true ≡ false = e in cc)
 
-next_none : (coder : State) (xs : List ℤ) → (coder.setting.preprocess && is_first coder) ≡ false → next_references coder xs ≡ coder.reference
+next_none : (coder : CoderState) (xs : List ℤ) → (coder.setting.preprocess && is_first coder) ≡ false → next_references coder xs ≡ coder.reference
 next_none coder [] e = refl
 next_none coder (x ∷ xs) e = ap (λ v. cond v (Some (pattern coder.setting x)) coder.reference) e
 
-pub grown_later : (coder : State) (xs : List ℤ) → (coder.setting.preprocess && is_first coder) ≡ false →
-    grown_by coder xs ≡ record { setting = coder.setting; residuals = coder.residuals ++ later_residuals coder.setting coder.previous xs; reference = coder.reference; previous = last_of coder.previous xs; start = coder.start }
+pub grown_later : (coder : CoderState) (xs : List ℤ) → (coder.setting.preprocess && is_first coder) ≡ false →
+    state_after_all coder xs ≡ record { setting = coder.setting; residuals = coder.residuals ++ later_residuals coder.setting coder.previous xs; reference = coder.reference; previous = last_of coder.previous xs; start = coder.start }
 grown_later coder xs e =
     let ds = next_later coder xs e in
     let r = next_none coder xs e in
     λ i. record { setting = coder.setting; residuals = coder.residuals ++ ds i; reference = r i; previous = last_of coder.previous xs; start = coder.start }
 
 -- no sample,
-pub grown_none : (coder : State) (xs : List ℤ) → length xs ≡ 0 → grown_by coder xs ≡ coder
+pub grown_none : (coder : CoderState) (xs : List ℤ) → length xs ≡ 0 → state_after_all coder xs ≡ coder
 grown_none coder [] e = λ i. record { setting = coder.setting; residuals = append-nil coder.residuals i; reference = coder.reference; previous = coder.previous; start = coder.start }
 grown_none coder (x ∷ xs) e = absurd (omega arith)
 
-pub not_first : (coder : State) (x : ℤ) → (coder.setting.preprocess && is_first (grown coder x)) ≡ false
+pub not_first : (coder : CoderState) (x : ℤ) → (coder.setting.preprocess && is_first (state_after coder x)) ≡ false
 not_first coder x = ap (λ v. coder.setting.preprocess && (v && coder.start == 0)) (some coder.residuals (next_residual coder x)) ∙ and-false coder.setting.preprocess
   where
     some : (ds : List ℕ) (d : ℕ) → is_empty (ds ++ d ∷ []) ≡ false
@@ -62,17 +62,17 @@ not_first coder x = ap (λ v. coder.setting.preprocess && (v && coder.start == 0
     some (e ∷ ds) d = refl
 
 -- one first,
-pub grown_cons : (coder : State) (x : ℤ) (xs : List ℤ) → grown_by (grown coder x) xs ≡ grown_by coder (x ∷ xs)
+pub grown_cons : (coder : CoderState) (x : ℤ) (xs : List ℤ) → state_after_all (state_after coder x) xs ≡ state_after_all coder (x ∷ xs)
 grown_cons coder x xs =
     let d = next_residual coder x in
-    let ds = append_assoc coder.residuals (d ∷ []) (next_residuals (grown coder x) xs) ∙ ap (λ v. coder.residuals ++ d ∷ v) (next_later (grown coder x) xs (not_first coder x)) in
-    let r = next_none (grown coder x) xs (not_first coder x) in
+    let ds = append_assoc coder.residuals (d ∷ []) (next_residuals (state_after coder x) xs) ∙ ap (λ v. coder.residuals ++ d ∷ v) (next_later (state_after coder x) xs (not_first coder x)) in
+    let r = next_none (state_after coder x) xs (not_first coder x) in
     λ i. record { setting = coder.setting; residuals = ds i; reference = r i; previous = last_of x xs; start = coder.start }
 
 -- and one last
-pub grown_snoc : (coder : State) (xs : List ℤ) (x : ℤ) → grown_by coder (xs ++ x ∷ []) ≡ grown (grown_by coder xs) x
-grown_snoc coder [] x = sym (ap (λ v. grown v x) (grown_none coder [] refl))
-grown_snoc coder (y ∷ ys) x = sym (grown_cons coder y (ys ++ x ∷ [])) ∙ (grown_snoc (grown coder y) ys x ∙ ap (λ v. grown v x) (grown_cons coder y ys))
+pub grown_snoc : (coder : CoderState) (xs : List ℤ) (x : ℤ) → state_after_all coder (xs ++ x ∷ []) ≡ state_after (state_after_all coder xs) x
+grown_snoc coder [] x = sym (ap (λ v. state_after v x) (grown_none coder [] refl))
+grown_snoc coder (y ∷ ys) x = sym (grown_cons coder y (ys ++ x ∷ [])) ∙ (grown_snoc (state_after coder y) ys x ∙ ap (λ v. state_after v x) (grown_cons coder y ys))
 
 pub last_at : (p d : ℤ) (xs : List ℤ) → 0 < length xs → last_of p xs ≡ slice_index_or xs (length xs - 1) d
 last_at p d [] h = absurd (omega arith)
@@ -82,7 +82,7 @@ last_at p d (x ∷ y ∷ ys) h =
     last_at x d (y ∷ ys) (omega arith) ∙ ap (λ n. slice_index_or (x ∷ y ∷ ys) n d) e
 
 -- the segment stays open
-pub open_later : (coder : State) (end : ℕ) (ds : List ℕ) (xs : List ℤ) → IsOpen coder end → ds ≡ coder.residuals ++ later_residuals coder.setting coder.previous xs → All (IsSample coder.setting) xs →
+pub open_later : (coder : CoderState) (end : ℕ) (ds : List ℕ) (xs : List ℤ) → IsOpen coder end → ds ≡ coder.residuals ++ later_residuals coder.setting coder.previous xs → All (IsSample coder.setting) xs →
     length coder.residuals + length xs ≤ coder.setting.block * blocks_left coder.setting coder.start →
     IsOpen (record { setting = coder.setting; residuals = ds; reference = coder.reference; previous = last_of coder.previous xs; start = coder.start }) end
 open_later coder end ds xs h e legal room = record {

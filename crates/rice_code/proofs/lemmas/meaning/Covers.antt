@@ -7,17 +7,17 @@ use Rattle.std.proofs.lemmas.List.{take-append-drop, length-replicate, replicate
 use Rattle.std.proofs.lemmas.List.Sums.{prefix_len-le-length}
 use Rattle.std.proofs.Math.Seq.{take-length}
 use Rattle.rice_samples.specs.Parameters.{Parameters, k_max}
-use Rattle.rice_samples.specs.Places.{has_reference, begins_segment, blocks_left}
+use Rattle.rice_samples.specs.Places.{is_reference, begins_segment, blocks_left}
 use Rattle.rice_samples.proofs.lemmas.setting.PlaceLemmas.{some_left, one_less_left, last_of_segment, reference_begins}
-use Rattle.rice_code.specs.code.Blocks.{Contents, is_zero, zeros}
-use Rattle.rice_code.specs.code.CodedDataSets.{DataSet, NoCompression, Split, ZeroBlocks, RemainderOfSegment, cost}
+use Rattle.rice_code.specs.code.Blocks.{BlockData, is_zero_block, zero_block}
+use Rattle.rice_code.specs.code.CodedDataSets.{CodedDataSet, NoCompression, Split, ZeroBlocks, RemainderOfSegment, cost}
 use Rattle.rice_code.specs.code.Choice.{shortest, other_options}
 use Rattle.rice_code.specs.code.Code.{data_sets}
 use Rattle.rice_code.specs.code.Runs.{zero_run, run_len}
 use Rattle.rice_code.specs.code.Forms.{IsBlock, blocks_in, blocks_in_all, zero_blocks}
 
 -- each block is one, from block b on
-abbrev pub AreBlocks : Parameters → ℕ → List Contents → Type 0
+abbrev pub AreBlocks : Parameters → ℕ → List BlockData → Type 0
 AreBlocks s b [] = Unit {0}
 AreBlocks s b (c ∷ cs) = IsBlock s b c × AreBlocks s (b + 1) cs
 
@@ -41,8 +41,8 @@ all_zero (d ∷ ds) e =
     cc
 
 -- a zero block is one of zeros
-pub zero_block : (s : Parameters) (b : ℕ) (c : Contents) → IsBlock s b c → is_zero c ≡ true → c ≡ zeros s c.reference
-zero_block s b c h e =
+pub zero_block_is : (s : Parameters) (b : ℕ) (c : BlockData) → IsBlock s b c → is_zero_block c ≡ true → c ≡ zero_block s c.reference
+zero_block_is s b c h e =
     let g = all_zero c.residuals e ∙ ap (λ n. replicate n 0) h.len in
     λ i. record { reference = c.reference; residuals = g i }
 
@@ -51,44 +51,44 @@ none None e = refl
 none (Some v) e = absurd cc
 
 -- the zero blocks at the front that a run before block b stands for
-abbrev pub skipped : Parameters → ℕ → Bool → List Contents → ℕ
+abbrev pub skipped : Parameters → ℕ → Bool → List BlockData → ℕ
 skipped s b behind_zero cs = cond (behind_zero && not (begins_segment s b)) (run_len s b cs) 0
 
-run_of : (n : ℕ) (c : Contents) (cs : List Contents) → is_zero c ≡ true → prefix_len is_zero (take (suc n) (c ∷ cs)) ≡ suc (prefix_len is_zero (take n cs))
-run_of n c cs z = ap (λ v. cond v (1 + prefix_len is_zero (take n cs)) 0) z ∙ (omega arith)
+run_of : (n : ℕ) (c : BlockData) (cs : List BlockData) → is_zero_block c ≡ true → prefix_len is_zero_block (take (suc n) (c ∷ cs)) ≡ suc (prefix_len is_zero_block (take n cs))
+run_of n c cs z = ap (λ v. cond v (1 + prefix_len is_zero_block (take n cs)) 0) z ∙ (omega arith)
 
-no_run_of : (n : ℕ) (c : Contents) (cs : List Contents) → is_zero c ≡ false → prefix_len is_zero (take n (c ∷ cs)) ≡ 0
+no_run_of : (n : ℕ) (c : BlockData) (cs : List BlockData) → is_zero_block c ≡ false → prefix_len is_zero_block (take n (c ∷ cs)) ≡ 0
 no_run_of zero c cs z = refl
-no_run_of (suc n) c cs z = ap (λ v. cond v (1 + prefix_len is_zero (take n cs)) 0) z
+no_run_of (suc n) c cs z = ap (λ v. cond v (1 + prefix_len is_zero_block (take n cs)) 0) z
 
-pub run_cons : (s : Parameters) (b : ℕ) (c : Contents) (cs : List Contents) → 1 ≤ s.interval → is_zero c ≡ true → run_len s b (c ∷ cs) ≡ suc (skipped s (b + 1) true cs)
+pub run_cons : (s : Parameters) (b : ℕ) (c : BlockData) (cs : List BlockData) → 1 ≤ s.interval → is_zero_block c ≡ true → run_len s b (c ∷ cs) ≡ suc (skipped s (b + 1) true cs)
 run_cons s b c cs h z =
     elim (bool_cases (begins_segment s (b + 1))) [
-      | inl e ↦ ap (λ n. prefix_len is_zero (take n (c ∷ cs))) (last_of_segment s b h e) ∙ (run_of 0 c cs z ∙ sym (ap (λ v. suc (cond (not v) (run_len s (b + 1) cs) 0)) e))
-      | inr e ↦ ap (λ n. prefix_len is_zero (take n (c ∷ cs))) (one_less_left s b h e) ∙ (run_of (blocks_left s (b + 1)) c cs z ∙ sym (ap (λ v. suc (cond (not v) (run_len s (b + 1) cs) 0)) e))
+      | inl e ↦ ap (λ n. prefix_len is_zero_block (take n (c ∷ cs))) (last_of_segment s b h e) ∙ (run_of 0 c cs z ∙ sym (ap (λ v. suc (cond (not v) (run_len s (b + 1) cs) 0)) e))
+      | inr e ↦ ap (λ n. prefix_len is_zero_block (take n (c ∷ cs))) (one_less_left s b h e) ∙ (run_of (blocks_left s (b + 1)) c cs z ∙ sym (ap (λ v. suc (cond (not v) (run_len s (b + 1) cs) 0)) e))
     ]
 
-run_stops : (s : Parameters) (b : ℕ) (c : Contents) (cs : List Contents) → 1 ≤ s.interval → is_zero c ≡ false → run_len s b (c ∷ cs) ≡ 0
+run_stops : (s : Parameters) (b : ℕ) (c : BlockData) (cs : List BlockData) → 1 ≤ s.interval → is_zero_block c ≡ false → run_len s b (c ∷ cs) ≡ 0
 run_stops s b c cs h z = no_run_of (blocks_left s b) c cs z
 
-pub data_sets_plain : (s : Parameters) (b : ℕ) (behind : Bool) (c : Contents) (cs : List Contents) → is_zero c ≡ false → data_sets s b behind (c ∷ cs) ≡ shortest s c ∷ data_sets s (b + 1) false cs
+pub data_sets_plain : (s : Parameters) (b : ℕ) (behind : Bool) (c : BlockData) (cs : List BlockData) → is_zero_block c ≡ false → data_sets s b behind (c ∷ cs) ≡ shortest s c ∷ data_sets s (b + 1) false cs
 data_sets_plain s b behind c cs e = rw e refl
 
-pub data_sets_start : (s : Parameters) (b : ℕ) (behind : Bool) (c : Contents) (cs : List Contents) → is_zero c ≡ true → (behind && not (begins_segment s b)) ≡ false →
+pub data_sets_start : (s : Parameters) (b : ℕ) (behind : Bool) (c : BlockData) (cs : List BlockData) → is_zero_block c ≡ true → (behind && not (begins_segment s b)) ≡ false →
     data_sets s b behind (c ∷ cs) ≡ zero_run s b c.reference (c ∷ cs) ∷ data_sets s (b + 1) true cs
 data_sets_start s b behind c cs e f =
     let run = zero_run s b c.reference (c ∷ cs) in
     ap (λ v. cond v (cond (behind && not (begins_segment s b)) [] (run ∷ [])) (shortest s c ∷ []) ++ data_sets s (b + 1) v cs) e
     ∙ ap (λ v. cond v [] (run ∷ []) ++ data_sets s (b + 1) true cs) f
 
-pub data_sets_inside : (s : Parameters) (b : ℕ) (behind : Bool) (c : Contents) (cs : List Contents) → is_zero c ≡ true → (behind && not (begins_segment s b)) ≡ true →
+pub data_sets_inside : (s : Parameters) (b : ℕ) (behind : Bool) (c : BlockData) (cs : List BlockData) → is_zero_block c ≡ true → (behind && not (begins_segment s b)) ≡ true →
     data_sets s b behind (c ∷ cs) ≡ data_sets s (b + 1) true cs
 data_sets_inside s b behind c cs e f =
     let run = zero_run s b c.reference (c ∷ cs) in
     ap (λ v. cond v (cond (behind && not (begins_segment s b)) [] (run ∷ [])) (shortest s c ∷ []) ++ data_sets s (b + 1) v cs) e
     ∙ ap (λ v. cond v [] (run ∷ []) ++ data_sets s (b + 1) true cs) f
 
-prefix_none : (n : ℕ) → prefix_len is_zero (take n []) ≡ 0
+prefix_none : (n : ℕ) → prefix_len is_zero_block (take n []) ≡ 0
 prefix_none zero = refl
 prefix_none (suc n) = refl
 
@@ -99,40 +99,40 @@ skipped_nil s b behind =
       | inr e ↦ ap (λ v. cond v (run_len s b []) 0) e
     ]
 
-pub skipped_plain : (s : Parameters) (b : ℕ) (behind : Bool) (c : Contents) (cs : List Contents) → 1 ≤ s.interval → is_zero c ≡ false → skipped s b behind (c ∷ cs) ≡ 0
+pub skipped_plain : (s : Parameters) (b : ℕ) (behind : Bool) (c : BlockData) (cs : List BlockData) → 1 ≤ s.interval → is_zero_block c ≡ false → skipped s b behind (c ∷ cs) ≡ 0
 skipped_plain s b behind c cs h z =
     elim (bool_cases (behind && not (begins_segment s b))) [
       | inl e ↦ ap (λ v. cond v (run_len s b (c ∷ cs)) 0) e ∙ run_stops s b c cs h z
       | inr e ↦ ap (λ v. cond v (run_len s b (c ∷ cs)) 0) e
     ]
 
-pub skipped_go : (s : Parameters) (b : ℕ) (behind : Bool) (c : Contents) (cs : List Contents) → 1 ≤ s.interval → is_zero c ≡ true → (behind && not (begins_segment s b)) ≡ true →
+pub skipped_go : (s : Parameters) (b : ℕ) (behind : Bool) (c : BlockData) (cs : List BlockData) → 1 ≤ s.interval → is_zero_block c ≡ true → (behind && not (begins_segment s b)) ≡ true →
     skipped s b behind (c ∷ cs) ≡ suc (skipped s (b + 1) true cs)
 skipped_go s b behind c cs h z e = ap (λ v. cond v (run_len s b (c ∷ cs)) 0) e ∙ run_cons s b c cs h z
 
-pub skipped_stop : (s : Parameters) (b : ℕ) (behind : Bool) (cs : List Contents) → (behind && not (begins_segment s b)) ≡ false → skipped s b behind cs ≡ 0
+pub skipped_stop : (s : Parameters) (b : ℕ) (behind : Bool) (cs : List BlockData) → (behind && not (begins_segment s b)) ≡ false → skipped s b behind cs ≡ 0
 skipped_stop s b behind cs e = ap (λ v. cond v (run_len s b cs) 0) e
 
 -- inside a segment no block has a reference
-no_reference : (s : Parameters) (b : ℕ) → not (begins_segment s b) ≡ true → has_reference s b ≡ false
+no_reference : (s : Parameters) (b : ℕ) → not (begins_segment s b) ≡ true → is_reference s b ≡ false
 no_reference s b e =
-    elim (bool_cases (has_reference s b)) [
+    elim (bool_cases (is_reference s b)) [
       | inl r ↦ absurd (let f : not true ≡ true = sym (ap not (reference_begins s b r)) ∙ e in cc)
       | inr r ↦ r
     ]
 
-zeros_inside : (s : Parameters) (b : ℕ) (c : Contents) → IsBlock s b c → is_zero c ≡ true → not (begins_segment s b) ≡ true → c ≡ zeros s None
-zeros_inside s b c h z e = zero_block s b c h z ∙ ap (λ r. zeros s r) (none c.reference (h.reference.there ∙ no_reference s b e))
+zeros_inside : (s : Parameters) (b : ℕ) (c : BlockData) → IsBlock s b c → is_zero_block c ≡ true → not (begins_segment s b) ≡ true → c ≡ zero_block s None
+zeros_inside s b c h z e = zero_block_is s b c h z ∙ ap (λ r. zero_block s r) (none c.reference (h.reference.there ∙ no_reference s b e))
 
 -- the blocks that are skipped are zeros without a reference
-skipped_zeros : (s : Parameters) (b : ℕ) (cs : List Contents) → 1 ≤ s.interval → AreBlocks s b cs → take (skipped s b true cs) cs ≡ replicate (skipped s b true cs) (zeros s None)
-skipped_zeros s b [] h k = ap (λ n. take n (let e : List Contents = [] in e)) (skipped_nil s b true) ∙ sym (ap (λ n. replicate n (zeros s None)) (skipped_nil s b true))
+skipped_zeros : (s : Parameters) (b : ℕ) (cs : List BlockData) → 1 ≤ s.interval → AreBlocks s b cs → take (skipped s b true cs) cs ≡ replicate (skipped s b true cs) (zero_block s None)
+skipped_zeros s b [] h k = ap (λ n. take n (let e : List BlockData = [] in e)) (skipped_nil s b true) ∙ sym (ap (λ n. replicate n (zero_block s None)) (skipped_nil s b true))
 skipped_zeros s b (c ∷ cs) h k =
-    let at = λ (n : ℕ) (e : skipped s b true (c ∷ cs) ≡ n) (f : take n (c ∷ cs) ≡ replicate n (zeros s None)).
-    ap (λ n. take n (c ∷ cs)) e ∙ (f ∙ sym (ap (λ n. replicate n (zeros s None)) e)) in
+    let at = λ (n : ℕ) (e : skipped s b true (c ∷ cs) ≡ n) (f : take n (c ∷ cs) ≡ replicate n (zero_block s None)).
+    ap (λ n. take n (c ∷ cs)) e ∙ (f ∙ sym (ap (λ n. replicate n (zero_block s None)) e)) in
     elim (bool_cases (not (begins_segment s b))) [
       | inr e ↦ at 0 (skipped_stop s b true (c ∷ cs) e) refl
-      | inl e ↦ elim (bool_cases (is_zero c)) [
+      | inl e ↦ elim (bool_cases (is_zero_block c)) [
         | inr z ↦ at 0 (skipped_plain s b true c cs h z) refl
         | inl z ↦ at (suc (skipped s (b + 1) true cs)) (skipped_go s b true c cs h z e)
             (let p = zeros_inside s b c k.0 z e in let q = skipped_zeros s (b + 1) cs h k.1 in λ i. p i ∷ q i)
@@ -140,19 +140,19 @@ skipped_zeros s b (c ∷ cs) h k =
     ]
 
 -- where all blocks are skipped, nothing more is sent
-pub nothing_more : (s : Parameters) (b : ℕ) (cs : List Contents) → 1 ≤ s.interval → skipped s b true cs ≡ length cs → data_sets s b true cs ≡ []
+pub nothing_more : (s : Parameters) (b : ℕ) (cs : List BlockData) → 1 ≤ s.interval → skipped s b true cs ≡ length cs → data_sets s b true cs ≡ []
 nothing_more s b [] h e = refl
 nothing_more s b (c ∷ cs) h e =
     elim (bool_cases (not (begins_segment s b))) [
       | inr f ↦ absurd (let g = skipped_stop s b true (c ∷ cs) f in omega arith)
-      | inl f ↦ elim (bool_cases (is_zero c)) [
+      | inl f ↦ elim (bool_cases (is_zero_block c)) [
         | inr z ↦ absurd (let g = skipped_plain s b true c cs h z in omega arith)
         | inl z ↦ data_sets_inside s b true c cs z f ∙ nothing_more s (b + 1) cs h (let g = skipped_go s b true c cs h z f in omega arith)
       ]
     ]
 
 -- what a run is
-pub zero_run_is : (s : Parameters) (b : ℕ) (r : Option ℕ) (cs : List Contents) →
+pub zero_run_is : (s : Parameters) (b : ℕ) (r : Option ℕ) (cs : List BlockData) →
     (zero_run s b r cs ≡ ZeroBlocks r (run_len s b cs)) ⊎ ((zero_run s b r cs ≡ RemainderOfSegment r) × ((run_len s b cs ≡ blocks_left s b) ⊎ (run_len s b cs ≡ length cs)) × (5 ≤ run_len s b cs))
 zero_run_is s b r cs = cases (run_len s b cs) (blocks_left s b) (length cs)
   where
@@ -184,7 +184,7 @@ best_keeps P beats a [] h k = h
 best_keeps P beats a (x ∷ xs) h k = best_keeps P beats (cond (beats x a) x a) xs (elim (beats x a) as (λ v. P (cond v x a)) [ true ↦ k.0 | false ↦ h ]) k.1
 
 -- the option that is chosen is one for that block
-pub shortest_covers : (s : Parameters) (b : ℕ) (c : Contents) → blocks_in s b (shortest s c) ≡ c ∷ []
+pub shortest_covers : (s : Parameters) (b : ℕ) (c : BlockData) → blocks_in s b (shortest s c) ≡ c ∷ []
 shortest_covers s b c =
     best_keeps (λ d. blocks_in s b d ≡ c ∷ []) (λ x y. nat_lt (cost s x) (cost s y)) (NoCompression c) (other_options s c) refl (refl, splits (range_with_len 0 (k_max s + 1)))
   where
@@ -192,36 +192,36 @@ shortest_covers s b c =
     splits [] = tt
     splits (k ∷ ks) = (refl, splits ks)
 
-drop_none : (n : ℕ) → drop n (let e : List Contents = [] in e) ≡ []
+drop_none : (n : ℕ) → drop n (let e : List BlockData = [] in e) ≡ []
 drop_none zero = refl
 drop_none (suc n) = refl
 
-cons_covers : (s : Parameters) (b : ℕ) (d : DataSet) (ds : List DataSet) (xs : List Contents) → blocks_in s b d ≡ xs → blocks_in_all s b (d ∷ ds) ≡ xs ++ blocks_in_all s (b + length xs) ds
+cons_covers : (s : Parameters) (b : ℕ) (d : CodedDataSet) (ds : List CodedDataSet) (xs : List BlockData) → blocks_in s b d ≡ xs → blocks_in_all s b (d ∷ ds) ≡ xs ++ blocks_in_all s (b + length xs) ds
 cons_covers s b d ds xs e = ap (λ x. x ++ blocks_in_all s (b + length x) ds) e
 
-pub run_inside : (s : Parameters) (b : ℕ) (cs : List Contents) → run_len s b cs ≤ blocks_left s b
-run_inside s b cs = omega (arith, prefix_len-le-length is_zero (take (blocks_left s b) cs), length-take (blocks_left s b) cs)
+pub run_inside : (s : Parameters) (b : ℕ) (cs : List BlockData) → run_len s b cs ≤ blocks_left s b
+run_inside s b cs = omega (arith, prefix_len-le-length is_zero_block (take (blocks_left s b) cs), length-take (blocks_left s b) cs)
 
-run_blocks : (s : Parameters) (r : Option ℕ) (z j : ℕ) → z ≡ suc j → zero_blocks s r z ≡ zeros s r ∷ replicate j (zeros s None)
-run_blocks s r z j e = let n : z - 1 ≡ j = omega arith in ap (λ m. zeros s r ∷ replicate m (zeros s None)) n
+run_blocks : (s : Parameters) (r : Option ℕ) (z j : ℕ) → z ≡ suc j → zero_blocks s r z ≡ zero_block s r ∷ replicate j (zero_block s None)
+run_blocks s r z j e = let n : z - 1 ≡ j = omega arith in ap (λ m. zero_block s r ∷ replicate m (zero_block s None)) n
 
 -- the run that all remaining blocks make, filled up to its segment's end
-run_fills : (s : Parameters) (r : Option ℕ) (j left : ℕ) (c : Contents) (cs : List Contents) → suc j ≤ left → j ≡ length cs →
-    c ≡ zeros s r → take j cs ≡ replicate j (zeros s None) → zero_blocks s r left ++ [] ≡ (c ∷ cs) ++ replicate (left - suc j) (zeros s None)
+run_fills : (s : Parameters) (r : Option ℕ) (j left : ℕ) (c : BlockData) (cs : List BlockData) → suc j ≤ left → j ≡ length cs →
+    c ≡ zero_block s r → take j cs ≡ replicate j (zero_block s None) → zero_blocks s r left ++ [] ≡ (c ∷ cs) ++ replicate (left - suc j) (zero_block s None)
 run_fills s r j left c cs h n f g =
-    let z = zeros s None in
+    let z = zero_block s None in
     let m : left ≡ suc (j + (left - suc j)) = omega arith in
     let whole : cs ≡ replicate j z = sym (ap (λ i. take i cs) n ∙ take-length cs) ∙ g in
-    append-nil (zero_blocks s r left) ∙ (run_blocks s r left (j + (left - suc j)) m ∙ (ap (λ v. zeros s r ∷ v) (sym (replicate-append-replicate j (left - suc j) z))
+    append-nil (zero_blocks s r left) ∙ (run_blocks s r left (j + (left - suc j)) m ∙ (ap (λ v. zero_block s r ∷ v) (sym (replicate-append-replicate j (left - suc j) z))
     ∙ (λ i. sym f i ∷ (sym whole i ++ replicate (left - suc j) z))))
 
 -- the blocks of a run that has z blocks, before what follows it
-run_covers : (s : Parameters) (b k : ℕ) (d : DataSet) (ds : List DataSet) (c : Contents) (cs tail : List Contents) →
-    blocks_in s (b + 0) d ≡ zeros s c.reference ∷ replicate k (zeros s None) → c ≡ zeros s c.reference → take k cs ≡ replicate k (zeros s None) →
+run_covers : (s : Parameters) (b k : ℕ) (d : CodedDataSet) (ds : List CodedDataSet) (c : BlockData) (cs tail : List BlockData) →
+    blocks_in s (b + 0) d ≡ zero_block s c.reference ∷ replicate k (zero_block s None) → c ≡ zero_block s c.reference → take k cs ≡ replicate k (zero_block s None) →
     blocks_in_all s (b + 1 + k) ds ≡ drop k cs ++ tail → blocks_in_all s (b + 0) (d ∷ ds) ≡ (c ∷ cs) ++ tail
 run_covers s b k d ds c cs tail e f g ih =
-    let zs = zeros s c.reference ∷ replicate k (zeros s None) in
-    let n : b + 0 + length zs ≡ b + 1 + k = omega (arith, length-replicate k (zeros s None)) in
+    let zs = zero_block s c.reference ∷ replicate k (zero_block s None) in
+    let n : b + 0 + length zs ≡ b + 1 + k = omega (arith, length-replicate k (zero_block s None)) in
     let front : zs ≡ c ∷ take k cs = λ i. sym f i ∷ sym g i in
     cons_covers s (b + 0) d ds zs e ∙ (ap (λ m. zs ++ blocks_in_all s m ds) n ∙ (ap (λ t. zs ++ t) ih ∙ (ap (λ v. v ++ (drop k cs ++ tail)) front
     ∙ (sym (append_assoc (c ∷ take k cs) (drop k cs) tail) ∙ ap (λ v. (c ∷ v) ++ tail) (take-append-drop k cs)))))
@@ -253,22 +253,22 @@ go_on_behind s b (suc m) n h =
     subst P f (go_on_behind s (b + 1) m n k.1)
 
 -- there is a last block, and it is one of zeros
-abbrev pub EndsInZeros : List Contents → Type 0
+abbrev pub EndsInZeros : List BlockData → Type 0
 EndsInZeros [] = ⊥
-EndsInZeros (c ∷ []) = is_zero c ≡ true
+EndsInZeros (c ∷ []) = is_zero_block c ≡ true
 EndsInZeros (c ∷ d ∷ cs) = EndsInZeros (d ∷ cs)
 
-ends_cons : (c : Contents) (cs : List Contents) → EndsInZeros cs → EndsInZeros (c ∷ cs)
+ends_cons : (c : BlockData) (cs : List BlockData) → EndsInZeros cs → EndsInZeros (c ∷ cs)
 ends_cons c [] h = absurd h
 ends_cons c (d ∷ cs) h = h
 
 -- where all blocks are skipped, they are zeros
-all_skipped : (s : Parameters) (b : ℕ) (c : Contents) (cs : List Contents) → 1 ≤ s.interval → is_zero c ≡ true → skipped s b true cs ≡ length cs → EndsInZeros (c ∷ cs)
+all_skipped : (s : Parameters) (b : ℕ) (c : BlockData) (cs : List BlockData) → 1 ≤ s.interval → is_zero_block c ≡ true → skipped s b true cs ≡ length cs → EndsInZeros (c ∷ cs)
 all_skipped s b c [] h z e = z
 all_skipped s b c (d ∷ cs) h z e =
     elim (bool_cases (not (begins_segment s b))) [
       | inr f ↦ absurd (let g = skipped_stop s b true (d ∷ cs) f in omega arith)
-      | inl f ↦ elim (bool_cases (is_zero d)) [
+      | inl f ↦ elim (bool_cases (is_zero_block d)) [
         | inr y ↦ absurd (let g = skipped_plain s b true d cs h y in omega arith)
         | inl y ↦ all_skipped s (b + 1) d cs h y (let g = skipped_go s b true d cs h y f in omega arith)
       ]
@@ -276,34 +276,34 @@ all_skipped s b c (d ∷ cs) h z e =
 
 -- The blocks of the coded data sets are the blocks, behind those that are skipped,
 -- and perhaps zero blocks to the end of the segment of the last block, which is then one of zeros too.
-pub record Covering (s : Parameters) (b : ℕ) (behind : Bool) (cs : List Contents) : Type 0 where
+pub record Covering (s : Parameters) (b : ℕ) (behind : Bool) (cs : List BlockData) : Type 0 where
   pub fill : ℕ
   pub few : fill < 64
   pub inside : GoOn s (b + length cs) fill
   pub last : 1 ≤ fill → EndsInZeros cs
-  pub blocks : blocks_in_all s (b + skipped s b behind cs) (data_sets s b behind cs) ≡ drop (skipped s b behind cs) cs ++ replicate fill (zeros s None)
+  pub blocks : blocks_in_all s (b + skipped s b behind cs) (data_sets s b behind cs) ≡ drop (skipped s b behind cs) cs ++ replicate fill (zero_block s None)
 
 -- one block more
-more : (s : Parameters) (b : ℕ) (behind ahead : Bool) (c : Contents) (cs : List Contents) → (ih : Covering s (b + 1) ahead cs) →
-    blocks_in_all s (b + skipped s b behind (c ∷ cs)) (data_sets s b behind (c ∷ cs)) ≡ drop (skipped s b behind (c ∷ cs)) (c ∷ cs) ++ replicate ih.fill (zeros s None) → Covering s b behind (c ∷ cs)
+more : (s : Parameters) (b : ℕ) (behind ahead : Bool) (c : BlockData) (cs : List BlockData) → (ih : Covering s (b + 1) ahead cs) →
+    blocks_in_all s (b + skipped s b behind (c ∷ cs)) (data_sets s b behind (c ∷ cs)) ≡ drop (skipped s b behind (c ∷ cs)) (c ∷ cs) ++ replicate ih.fill (zero_block s None) → Covering s b behind (c ∷ cs)
 more s b behind ahead c cs ih e =
     let n : b + 1 + length cs ≡ b + suc (length cs) = omega arith in
     let P : ℕ → Type 0 = λ x. GoOn s x ih.fill in
     record { fill = ih.fill; few = ih.few; inside = subst P n ih.inside; last = λ h. ends_cons c cs (ih.last h); blocks = e }
 
-pub covers : (s : Parameters) (b : ℕ) (behind : Bool) (cs : List Contents) → 1 ≤ s.interval → AreBlocks s b cs → Covering s b behind cs
+pub covers : (s : Parameters) (b : ℕ) (behind : Bool) (cs : List BlockData) → 1 ≤ s.interval → AreBlocks s b cs → Covering s b behind cs
 covers s b behind [] h k = record {
   fill = 0;
   few = lit< tt;
   inside = tt;
   last = λ e. absurd (omega arith);
-  blocks = sym (ap (λ v. v ++ (let e : List Contents = [] in e)) (drop_none (skipped s b behind [])));
+  blocks = sym (ap (λ v. v ++ (let e : List BlockData = [] in e)) (drop_none (skipped s b behind [])));
 }
 covers s b behind (c ∷ cs) h k =
-    let at = λ (n : ℕ) (ds : List DataSet) (fill : ℕ) (e : skipped s b behind (c ∷ cs) ≡ n) (f : data_sets s b behind (c ∷ cs) ≡ ds)
-    (g : blocks_in_all s (b + n) ds ≡ drop n (c ∷ cs) ++ replicate fill (zeros s None)).
-    (ap (λ m. blocks_in_all s (b + m) (data_sets s b behind (c ∷ cs))) e ∙ (ap (λ v. blocks_in_all s (b + n) v) f ∙ (g ∙ sym (ap (λ m. drop m (c ∷ cs) ++ replicate fill (zeros s None)) e)))) in
-    elim (bool_cases (is_zero c)) [
+    let at = λ (n : ℕ) (ds : List CodedDataSet) (fill : ℕ) (e : skipped s b behind (c ∷ cs) ≡ n) (f : data_sets s b behind (c ∷ cs) ≡ ds)
+    (g : blocks_in_all s (b + n) ds ≡ drop n (c ∷ cs) ++ replicate fill (zero_block s None)).
+    (ap (λ m. blocks_in_all s (b + m) (data_sets s b behind (c ∷ cs))) e ∙ (ap (λ v. blocks_in_all s (b + n) v) f ∙ (g ∙ sym (ap (λ m. drop m (c ∷ cs) ++ replicate fill (zero_block s None)) e)))) in
+    elim (bool_cases (is_zero_block c)) [
       | inr z ↦
           let ih = covers s (b + 1) false cs h k.1 in
           let rest = data_sets s (b + 1) false cs in
@@ -315,7 +315,7 @@ covers s b behind (c ∷ cs) h k =
           let ih = covers s (b + 1) true cs h k.1 in
           let j = skipped s (b + 1) true cs in
           let rest = data_sets s (b + 1) true cs in
-          let zc = zero_block s b c k.0 z in
+          let zc = zero_block_is s b c k.0 z in
           let zcs = skipped_zeros s (b + 1) cs h k.1 in
           let len = run_cons s b c cs h z in
           elim (bool_cases (behind && not (begins_segment s b))) [
@@ -323,12 +323,12 @@ covers s b behind (c ∷ cs) h k =
                 let n : b + suc j ≡ b + 1 + j = omega arith in
                 more s b behind true c cs ih (at (suc j) rest ih.fill (skipped_go s b behind c cs h z go) (data_sets_inside s b behind c cs z go) (ap (λ m. blocks_in_all s m rest) n ∙ ih.blocks))
             | inr stop ↦
-                let start = λ (d : DataSet) (e : zero_run s b c.reference (c ∷ cs) ≡ d) (fill : ℕ) (g : blocks_in_all s (b + 0) (d ∷ rest) ≡ (c ∷ cs) ++ replicate fill (zeros s None)).
+                let start = λ (d : CodedDataSet) (e : zero_run s b c.reference (c ∷ cs) ≡ d) (fill : ℕ) (g : blocks_in_all s (b + 0) (d ∷ rest) ≡ (c ∷ cs) ++ replicate fill (zero_block s None)).
                 at 0 (d ∷ rest) fill (skipped_stop s b behind (c ∷ cs) stop) (data_sets_start s b behind c cs z stop ∙ ap (λ v. v ∷ rest) e) g in
                 elim (zero_run_is s b c.reference (c ∷ cs)) [
                   | inl e ↦ more s b behind true c cs ih
                       (start (ZeroBlocks c.reference (run_len s b (c ∷ cs))) e ih.fill
-                      (run_covers s b j (ZeroBlocks c.reference (run_len s b (c ∷ cs))) rest c cs (replicate ih.fill (zeros s None))
+                      (run_covers s b j (ZeroBlocks c.reference (run_len s b (c ∷ cs))) rest c cs (replicate ih.fill (zero_block s None))
                       (run_blocks s c.reference (run_len s b (c ∷ cs)) j len) zc zcs ih.blocks))
                   | inr e ↦
                       let here : b + 0 ≡ b = omega arith in
@@ -336,7 +336,7 @@ covers s b behind (c ∷ cs) h k =
                       elim e.1 [
                         | inl full ↦ more s b behind true c cs ih
                             (start (RemainderOfSegment c.reference) e.0 ih.fill
-                            (run_covers s b j (RemainderOfSegment c.reference) rest c cs (replicate ih.fill (zeros s None))
+                            (run_covers s b j (RemainderOfSegment c.reference) rest c cs (replicate ih.fill (zero_block s None))
                             (run_blocks s c.reference (blocks_left s (b + 0)) j (left ∙ (sym full ∙ len))) zc zcs ih.blocks))
                         | inr all ↦
                             let n : j ≡ length cs = omega arith in

@@ -5,10 +5,10 @@ use Rattle.std.proofs.lemmas.List.Elements.{All-append}
 use Rattle.rice_samples.specs.Parameters.{Parameters, IsLegal, IsSample}
 use Rattle.rice_samples.specs.predict.Residuals.{last_of}
 use Rattle.rice_code.specs.code.Blocks.{blocks_from}
-use Rattle.rice_code.specs.code.CodedDataSets.{DataSet, text}
+use Rattle.rice_code.specs.code.CodedDataSets.{CodedDataSet, bits_of_set}
 use Rattle.rice_code.specs.code.Forms.{IsForm, RunIsSound, ResidualsAreSound, blocks_in, blocks_in_all}
-use Rattle.rice_code.specs.code.Layout.{block_behind, padding}
-use Rattle.rice_code.specs.code.Decoded.{DecodedFrom, Ending, GoesOn, EndsWith, cut_to}
+use Rattle.rice_code.specs.code.Layout.{block_after, padding}
+use Rattle.rice_code.specs.code.Decoded.{DecodedFrom, Ending, IsWanted, EndsWith, cut_to}
 use Rattle.rice_code.proofs.lemmas.code.Filling.{blocks_append}
 
 take_parts : (n : ℕ) (xs ys : List ℤ) → take n xs ++ take (n - length xs) ys ≡ take n (xs ++ ys)
@@ -24,24 +24,24 @@ cut_parts : (s : Parameters) (asked : Option ℕ) (b n : ℕ) (xs ys : List ℤ)
 cut_parts s None b n xs ys e = refl
 cut_parts s (Some m) b n xs ys e = let f : m - s.block * (b + n) ≡ m - s.block * b - length xs = omega arith in ap (λ k. take (m - s.block * b) xs ++ take k ys) f ∙ take_parts (m - s.block * b) xs ys
 
-pub decoding_goes_on : (s : Parameters) → IsLegal s → (b position : ℕ) (p : ℤ) (d : DataSet) (skipped rest : List Bool) (asked : Option ℕ) (xs ys : List ℤ) (ending : Ending) (used : ℕ) →
-    GoesOn s asked b → IsForm s b d → RunIsSound s b d → ResidualsAreSound s d → length skipped ≡ padding s (block_behind s b d) (position + length (text s d)) →
+pub decoding_goes_on : (s : Parameters) → IsLegal s → (b position : ℕ) (p : ℤ) (d : CodedDataSet) (skipped rest : List Bool) (asked : Option ℕ) (xs ys : List ℤ) (ending : Ending) (used : ℕ) →
+    IsWanted s asked b → IsForm s b d → RunIsSound s b d → ResidualsAreSound s d → length skipped ≡ padding s (block_after s b d) (position + length (bits_of_set s d)) →
     All (IsSample s) xs → length xs ≡ s.block * length (blocks_in s b d) → blocks_from s b p (length (blocks_in s b d)) xs ≡ blocks_in s b d →
-    DecodedFrom s (block_behind s b d) (position + length (text s d ++ skipped)) (last_of p xs) rest asked ys ending used →
-    DecodedFrom s b position p (text s d ++ (skipped ++ rest)) asked (cut_to s asked b xs ++ ys) ending (length (text s d ++ skipped) + used)
+    DecodedFrom s (block_after s b d) (position + length (bits_of_set s d ++ skipped)) (last_of p xs) rest asked ys ending used →
+    DecodedFrom s b position p (bits_of_set s d ++ (skipped ++ rest)) asked (cut_to s asked b xs ++ ys) ending (length (bits_of_set s d ++ skipped) + used)
 decoding_goes_on s legal b position p d skipped rest asked xs ys ending used go form run residuals len all xlen made h =
     let n = length (blocks_in s b d) in
-    let next = block_behind s b d in
+    let next = block_after s b d in
     let more = blocks_in_all s next h.sets in
     let count : length (blocks_in_all s b (d ∷ h.sets)) ≡ n + length more = length-append (blocks_in s b d) more in
     let P : ℕ → Type 0 = λ i. EndsWith s asked i h.rest ending h.last in
     let place : next + length more ≡ b + length (blocks_in_all s b (d ∷ h.sets)) = omega arith in
-    let front = text s d ++ (skipped ++ h.front) in
-    let whole : text s d ++ (skipped ++ rest) ≡ front ++ h.rest =
-    ap (λ v. text s d ++ (skipped ++ v)) h.parts ∙ (ap (λ v. text s d ++ v) (sym (append_assoc skipped h.front h.rest)) ∙ sym (append_assoc (text s d) (skipped ++ h.front) h.rest)) in
-    let l1 = length-append (text s d) (skipped ++ h.front) in
+    let front = bits_of_set s d ++ (skipped ++ h.front) in
+    let whole : bits_of_set s d ++ (skipped ++ rest) ≡ front ++ h.rest =
+    ap (λ v. bits_of_set s d ++ (skipped ++ v)) h.parts ∙ (ap (λ v. bits_of_set s d ++ v) (sym (append_assoc skipped h.front h.rest)) ∙ sym (append_assoc (bits_of_set s d) (skipped ++ h.front) h.rest)) in
+    let l1 = length-append (bits_of_set s d) (skipped ++ h.front) in
     let l2 = length-append skipped h.front in
-    let l3 = length-append (text s d) skipped in
+    let l3 = length-append (bits_of_set s d) skipped in
     let l4 = length-append xs h.all in
     let l5 = h.len in
     let l6 = h.bits_used in

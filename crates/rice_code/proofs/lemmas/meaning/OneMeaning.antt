@@ -6,14 +6,14 @@ use Rattle.std.proofs.lemmas.List.{length-take-le, take-append-drop}
 use Rattle.std.proofs.lemmas.List.Elements.{All-contains, Contains-append_left, recursion_from_All}
 use Rattle.rice_bits.proofs.lemmas.bits.OneWay.{bits_read}
 use Rattle.rice_samples.specs.Parameters.{Parameters, IsLegal, IsSample}
-use Rattle.rice_samples.specs.Places.{has_reference, is_reference}
+use Rattle.rice_samples.specs.Places.{is_reference, is_reference_sample}
 use Rattle.rice_samples.specs.predict.Residuals.{pattern, residuals, residual, last_of}
 use Rattle.rice_samples.proofs.lemmas.predict.Patterns.{same_pattern, same_residual, same_residuals, inside_block, no_reference_at}
-use Rattle.rice_code.specs.code.Blocks.{Contents, contents, blocks_from}
-use Rattle.rice_code.specs.code.CodedDataSets.{DataSet, NoCompression, SecondExtension, Split, ZeroBlocks, RemainderOfSegment, text}
+use Rattle.rice_code.specs.code.Blocks.{BlockData, block_data, blocks_from}
+use Rattle.rice_code.specs.code.CodedDataSets.{CodedDataSet, NoCompression, SecondExtension, Split, ZeroBlocks, RemainderOfSegment, bits_of_set}
 use Rattle.rice_code.specs.code.Forms.{IsForm, RunIsSound, ResidualsAreSound, blocks_in, blocks_in_all}
-use Rattle.rice_code.specs.code.Layout.{block_behind, padding, Lies}
-use Rattle.rice_code.specs.code.Decoded.{DecodedFrom, Ending, Reached, Ended, CutOff, Past, Large, GoesOn, AreTaken, Refuses, EndsWith, cut_to}
+use Rattle.rice_code.specs.code.Layout.{block_after, padding, Lies}
+use Rattle.rice_code.specs.code.Decoded.{DecodedFrom, Ending, Reached, Ended, CutOff, Past, Large, IsWanted, AreTaken, BeginsUnsound, EndsWith, cut_to}
 use Rattle.rice_code.proofs.lemmas.meaning.Covers.{bool_cases}
 use Rattle.rice_code.proofs.lemmas.code.SoundBlocks.{all_take, all_drop, last_legal}
 use Rattle.rice_code.proofs.lemmas.code.ReadInOneWay.{forms_read_in_one_way}
@@ -28,36 +28,36 @@ reached_or_not (Some n) m h k = omega arith
 zeros_or_one : (rest : List Bool) → All (λ bit. bit ≡ false) rest → Contains rest true → ⊥
 zeros_or_one rest h k = let e : true ≡ false = All-contains (λ bit. bit ≡ false) rest true h k in absurd cc
 
-begins_with_one : (s : Parameters) (b : ℕ) (d : DataSet) (rest more : List Bool) → IsLegal s → IsForm s b d → rest ≡ text s d ++ more → Contains rest true
+begins_with_one : (s : Parameters) (b : ℕ) (d : CodedDataSet) (rest more : List Bool) → IsLegal s → IsForm s b d → rest ≡ bits_of_set s d ++ more → Contains rest true
 begins_with_one s b d rest more legal h e =
     let P : List Bool → Type 0 = λ v. Contains v true in
-    subst P (sym e) (Contains-append_left (text s d) more true (forms_have_a_one s b d legal h))
+    subst P (sym e) (Contains-append_left (bits_of_set s d) more true (forms_have_a_one s b d legal h))
 
-refused_here : (s : Parameters) (b : ℕ) (rest : List Bool) (used : ℕ) (P : DataSet → Type 0) (d : DataSet) (more : List Bool) → IsLegal s → Refuses s b rest used P → IsForm s b d → rest ≡ text s d ++ more → P d → ⊥
+refused_here : (s : Parameters) (b : ℕ) (rest : List Bool) (used : ℕ) (P : CodedDataSet → Type 0) (d : CodedDataSet) (more : List Bool) → IsLegal s → BeginsUnsound s b rest used P → IsForm s b d → rest ≡ bits_of_set s d ++ more → P d → ⊥
 refused_here s b rest used P d more legal r h e k =
     let same = forms_read_in_one_way s b d r.refused more r.more legal h r.form (sym e ∙ r.begins) in
     r.unsound (subst P same.0 k)
 
-past_or_large : (s : Parameters) (b : ℕ) (d : DataSet) → (RunIsSound s b d → ⊥) → (ResidualsAreSound s d → ⊥) → ⊥
+past_or_large : (s : Parameters) (b : ℕ) (d : CodedDataSet) → (RunIsSound s b d → ⊥) → (ResidualsAreSound s d → ⊥) → ⊥
 past_or_large s b (NoCompression c) h k = h tt
 past_or_large s b (SecondExtension c) h k = h tt
 past_or_large s b (Split n c) h k = h tt
 past_or_large s b (ZeroBlocks r z) h k = k tt
 past_or_large s b (RemainderOfSegment r) h k = h tt
 
-past_and_large : (s : Parameters) (b : ℕ) (rest : List Bool) (m n : ℕ) → IsLegal s → Refuses s b rest m (RunIsSound s b) → Refuses s b rest n (ResidualsAreSound s) → ⊥
+past_and_large : (s : Parameters) (b : ℕ) (rest : List Bool) (m n : ℕ) → IsLegal s → BeginsUnsound s b rest m (RunIsSound s b) → BeginsUnsound s b rest n (ResidualsAreSound s) → ⊥
 past_and_large s b rest m n legal h k =
     let same = forms_read_in_one_way s b h.refused k.refused h.more k.more legal h.form k.form (sym h.begins ∙ k.begins) in
-    past_or_large s b k.refused (λ g. h.unsound (let P : DataSet → Type 0 = λ d. RunIsSound s b d in subst P (sym same.0) g)) k.unsound
+    past_or_large s b k.refused (λ g. h.unsound (let P : CodedDataSet → Type 0 = λ d. RunIsSound s b d in subst P (sym same.0) g)) k.unsound
 
-same_refusal : (s : Parameters) (b : ℕ) (rest : List Bool) (m n : ℕ) (P : DataSet → Type 0) → IsLegal s → Refuses s b rest m P → Refuses s b rest n P → m ≡ n
+same_refusal : (s : Parameters) (b : ℕ) (rest : List Bool) (m n : ℕ) (P : CodedDataSet → Type 0) → IsLegal s → BeginsUnsound s b rest m P → BeginsUnsound s b rest n P → m ≡ n
 same_refusal s b rest m n P legal h k =
     let same = forms_read_in_one_way s b h.refused k.refused h.more k.more legal h.form k.form (sym h.begins ∙ k.begins) in
-    h.bits ∙ (ap (λ d. length (text s d)) same.0 ∙ sym k.bits)
+    h.bits ∙ (ap (λ d. length (bits_of_set s d)) same.0 ∙ sym k.bits)
 
 -- where decoding ends, no coded data set is taken
 stops : (s : Parameters) (asked : Option ℕ) (b : ℕ) (rest : List Bool) (ending : Ending) (used : ℕ) → IsLegal s → EndsWith s asked b rest ending used →
-    (d : DataSet) (more : List Bool) → GoesOn s asked b → IsSound s b d → rest ≡ text s d ++ more → ⊥
+    (d : CodedDataSet) (more : List Bool) → IsWanted s asked b → IsSound s b d → rest ≡ bits_of_set s d ++ more → ⊥
 stops s asked b rest Reached used legal h d more go sound e = reached_or_not asked (s.block * b) h.0 go
 stops s asked b rest Ended used legal h d more go sound e = zeros_or_one rest h.1 (begins_with_one s b d rest more legal sound.0 e)
 stops s asked b rest CutOff used legal h d more go sound e = h.2 d more sound.0 e
@@ -94,9 +94,9 @@ same_ending s asked b rest Large Past m n legal h k = absurd (past_and_large s b
 
 -- at block b nothing of the rest is taken
 abbrev Stops : Parameters → Option ℕ → ℕ → List Bool → Type 0
-Stops s asked b rest = (d : DataSet) (more : List Bool) → GoesOn s asked b → IsSound s b d → rest ≡ text s d ++ more → ⊥
+Stops s asked b rest = (d : CodedDataSet) (more : List Bool) → IsWanted s asked b → IsSound s b d → rest ≡ bits_of_set s d ++ more → ⊥
 
-same_sets : (s : Parameters) (asked : Option ℕ) (b position m n : ℕ) (ds es : List DataSet) (f g r q : List Bool) → IsLegal s →
+same_sets : (s : Parameters) (asked : Option ℕ) (b position m n : ℕ) (ds es : List CodedDataSet) (f g r q : List Bool) → IsLegal s →
     b + length (blocks_in_all s b ds) ≡ m → b + length (blocks_in_all s b es) ≡ n →
     Lies s b position ds f → Lies s b position es g → f ++ r ≡ g ++ q → AreTaken s asked b ds → AreTaken s asked b es → Stops s asked m r → Stops s asked n q → (ds ≡ es) × (f ≡ g) × (r ≡ q)
 same_sets s asked b position m n [] [] f g r q legal bm bn lf lg e tf tg sr sq =
@@ -104,34 +104,34 @@ same_sets s asked b position m n [] [] f g r q legal bm bn lf lg e tf tg sr sq =
 same_sets s asked b position m n [] (d ∷ es) f g r q legal bm bn lf lg e tf tg sr sq =
     let P : ℕ → Type 0 = λ i. Stops s asked i r in
     let here : m ≡ b = omega arith in
-    let all : r ≡ text s d ++ ((lg.0 ++ lg.1) ++ q) = ap (λ v. v ++ r) (sym lf) ∙ (e ∙ (ap (λ v. v ++ q) lg.3 ∙ append_assoc (text s d) (lg.0 ++ lg.1) q)) in
+    let all : r ≡ bits_of_set s d ++ ((lg.0 ++ lg.1) ++ q) = ap (λ v. v ++ r) (sym lf) ∙ (e ∙ (ap (λ v. v ++ q) lg.3 ∙ append_assoc (bits_of_set s d) (lg.0 ++ lg.1) q)) in
     absurd (subst P here sr d ((lg.0 ++ lg.1) ++ q) tg.0 (tg.1, tg.2, tg.3) all)
 same_sets s asked b position m n (d ∷ ds) [] f g r q legal bm bn lf lg e tf tg sr sq =
     let P : ℕ → Type 0 = λ i. Stops s asked i q in
     let here : n ≡ b = omega arith in
-    let all : q ≡ text s d ++ ((lf.0 ++ lf.1) ++ r) = ap (λ v. v ++ q) (sym lg) ∙ (sym e ∙ (ap (λ v. v ++ r) lf.3 ∙ append_assoc (text s d) (lf.0 ++ lf.1) r)) in
+    let all : q ≡ bits_of_set s d ++ ((lf.0 ++ lf.1) ++ r) = ap (λ v. v ++ q) (sym lg) ∙ (sym e ∙ (ap (λ v. v ++ r) lf.3 ∙ append_assoc (bits_of_set s d) (lf.0 ++ lf.1) r)) in
     absurd (subst P here sq d ((lf.0 ++ lf.1) ++ r) tf.0 (tf.1, tf.2, tf.3) all)
 same_sets s asked b position m n (d ∷ ds) (c ∷ es) f g r q legal bm bn lf lg e tf tg sr sq =
-    let left : f ++ r ≡ text s d ++ (lf.0 ++ (lf.1 ++ r)) = ap (λ v. v ++ r) lf.3 ∙ (append_assoc (text s d) (lf.0 ++ lf.1) r ∙ ap (λ v. text s d ++ v) (append_assoc lf.0 lf.1 r)) in
-    let right : g ++ q ≡ text s c ++ (lg.0 ++ (lg.1 ++ q)) = ap (λ v. v ++ q) lg.3 ∙ (append_assoc (text s c) (lg.0 ++ lg.1) q ∙ ap (λ v. text s c ++ v) (append_assoc lg.0 lg.1 q)) in
+    let left : f ++ r ≡ bits_of_set s d ++ (lf.0 ++ (lf.1 ++ r)) = ap (λ v. v ++ r) lf.3 ∙ (append_assoc (bits_of_set s d) (lf.0 ++ lf.1) r ∙ ap (λ v. bits_of_set s d ++ v) (append_assoc lf.0 lf.1 r)) in
+    let right : g ++ q ≡ bits_of_set s c ++ (lg.0 ++ (lg.1 ++ q)) = ap (λ v. v ++ q) lg.3 ∙ (append_assoc (bits_of_set s c) (lg.0 ++ lg.1) q ∙ ap (λ v. bits_of_set s c ++ v) (append_assoc lg.0 lg.1 q)) in
     let one = forms_read_in_one_way s b d c (lf.0 ++ (lf.1 ++ r)) (lg.0 ++ (lg.1 ++ q)) legal tf.1 tg.1 (sym left ∙ (e ∙ right)) in
     let same = one.0 in
-    let two = bits_read lf.0 lg.0 (lf.1 ++ r) (lg.1 ++ q) (lf.2 ∙ (ap (λ x. padding s (block_behind s b x) (position + length (text s x))) same ∙ sym lg.2)) one.1 in
+    let two = bits_read lf.0 lg.0 (lf.1 ++ r) (lg.1 ++ q) (lf.2 ∙ (ap (λ x. padding s (block_after s b x) (position + length (bits_of_set s x))) same ∙ sym lg.2)) one.1 in
     let skipped = two.0 in
-    let P : DataSet → Type 0 = λ x. Lies s (block_behind s b x) (position + length (text s x ++ lg.0)) es lg.1 in
-    let Q : List Bool → Type 0 = λ v. Lies s (block_behind s b d) (position + length (text s d ++ v)) es lg.1 in
-    let R : DataSet → Type 0 = λ x. AreTaken s asked (block_behind s b x) es in
-    let lies : Lies s (block_behind s b d) (position + length (text s d ++ lf.0)) es lg.1 = subst Q (sym skipped) (subst P (sym same) lg.4) in
-    let taken : AreTaken s asked (block_behind s b d) es = subst R (sym same) tg.4 in
-    let next = ap (λ x. block_behind s b x + length (blocks_in_all s (block_behind s b x) es)) same in
-    let bm' : block_behind s b d + length (blocks_in_all s (block_behind s b d) ds) ≡ m = omega (arith, length-append (blocks_in s b d) (blocks_in_all s (block_behind s b d) ds)) in
-    let bn' : block_behind s b c + length (blocks_in_all s (block_behind s b c) es) ≡ n = omega (arith, length-append (blocks_in s b c) (blocks_in_all s (block_behind s b c) es)) in
-    let rest = same_sets s asked (block_behind s b d) (position + length (text s d ++ lf.0)) m n ds es lf.1 lg.1 r q legal bm' (next ∙ bn') lf.4 lies two.1 tf.4 taken sr sq in
-    ((λ i. same i ∷ rest.0 i), lf.3 ∙ ((λ i. text s (same i) ++ (skipped i ++ rest.1 i)) ∙ sym lg.3), rest.2)
+    let P : CodedDataSet → Type 0 = λ x. Lies s (block_after s b x) (position + length (bits_of_set s x ++ lg.0)) es lg.1 in
+    let Q : List Bool → Type 0 = λ v. Lies s (block_after s b d) (position + length (bits_of_set s d ++ v)) es lg.1 in
+    let R : CodedDataSet → Type 0 = λ x. AreTaken s asked (block_after s b x) es in
+    let lies : Lies s (block_after s b d) (position + length (bits_of_set s d ++ lf.0)) es lg.1 = subst Q (sym skipped) (subst P (sym same) lg.4) in
+    let taken : AreTaken s asked (block_after s b d) es = subst R (sym same) tg.4 in
+    let next = ap (λ x. block_after s b x + length (blocks_in_all s (block_after s b x) es)) same in
+    let bm' : block_after s b d + length (blocks_in_all s (block_after s b d) ds) ≡ m = omega (arith, length-append (blocks_in s b d) (blocks_in_all s (block_after s b d) ds)) in
+    let bn' : block_after s b c + length (blocks_in_all s (block_after s b c) es) ≡ n = omega (arith, length-append (blocks_in s b c) (blocks_in_all s (block_after s b c) es)) in
+    let rest = same_sets s asked (block_after s b d) (position + length (bits_of_set s d ++ lf.0)) m n ds es lf.1 lg.1 r q legal bm' (next ∙ bn') lf.4 lies two.1 tf.4 taken sr sq in
+    ((λ i. same i ∷ rest.0 i), lf.3 ∙ ((λ i. bits_of_set s (same i) ++ (skipped i ++ rest.1 i)) ∙ sym lg.3), rest.2)
 
 -- a block says its samples
 same_block : (s : Parameters) (b : ℕ) (p : ℤ) (xs ys : List ℤ) → IsLegal s → 1 ≤ s.block → IsSample s p → AllByRecursion (IsSample s) xs → AllByRecursion (IsSample s) ys →
-    length xs ≡ s.block → length ys ≡ s.block → contents s b p xs ≡ contents s b p ys → xs ≡ ys
+    length xs ≡ s.block → length ys ≡ s.block → block_data s b p xs ≡ block_data s b p ys → xs ≡ ys
 same_block s b p [] ys legal j h k l m n e = absurd (omega arith)
 same_block s b p (x ∷ xs) [] legal j h k l m n e = absurd (omega arith)
 same_block s b p (x ∷ xs) (y ∷ ys) legal j h k l m n e =
@@ -139,13 +139,13 @@ same_block s b p (x ∷ xs) (y ∷ ys) legal j h k l m n e =
     let ds : residual s i p x ∷ residuals s (i + 1) x xs ≡ residual s i p y ∷ residuals s (i + 1) y ys = ap (λ c. c.residuals) e in
     let one : residual s i p x ≡ residual s i p y = cc in
     let others : residuals s (i + 1) x xs ≡ residuals s (i + 1) y ys = cc in
-    let reference = λ (v : Bool) (f : has_reference s b ≡ v). ap (λ u. cond u (Some (pattern s x)) None) (sym f) ∙ (ap (λ c. c.reference) e ∙ ap (λ u. cond u (Some (pattern s y)) None) f) in
+    let reference = λ (v : Bool) (f : is_reference s b ≡ v). ap (λ u. cond u (Some (pattern s x)) None) (sym f) ∙ (ap (λ c. c.reference) e ∙ ap (λ u. cond u (Some (pattern s y)) None) f) in
     let first : x ≡ y =
-    elim (bool_cases (has_reference s b)) [
+    elim (bool_cases (is_reference s b)) [
       | inl f ↦ let g : Some (pattern s x) ≡ Some (pattern s y) = reference true f in same_pattern s x y legal.bits_from k.0 l.0 cc
       | inr f ↦ same_residual s i p x y legal.bits_from h k.0 l.0 (no_reference_at s b j f) one
     ] in
-    let inside = λ (t : ℕ) (lt : t < length xs). (let z : i + 1 + t ≡ i + (1 + t) = omega arith in ap (λ v. is_reference s v) z) ∙ inside_block s b (1 + t) (omega arith) (omega arith) in
+    let inside = λ (t : ℕ) (lt : t < length xs). (let z : i + 1 + t ≡ i + (1 + t) = omega arith in ap (λ v. is_reference_sample s v) z) ∙ inside_block s b (1 + t) (omega arith) (omega arith) in
     let rest = same_residuals s (i + 1) x xs ys legal.bits_from k.0 k.1 l.1 inside (others ∙ ap (λ v. residuals s (i + 1) v ys) (sym first)) in
     λ t. first t ∷ rest t
 
@@ -155,7 +155,7 @@ same_samples s b p zero [] [] legal j h k l m n e = refl
 same_samples s b p zero [] (y ∷ ys) legal j h k l m n e = absurd (omega arith)
 same_samples s b p zero (x ∷ xs) ys legal j h k l m n e = absurd (omega arith)
 same_samples s b p (suc count) xs ys legal j h k l m n e =
-    let one : contents s b p (take s.block xs) ≡ contents s b p (take s.block ys) = first_of_two _ _ _ _ e in
+    let one : block_data s b p (take s.block xs) ≡ block_data s b p (take s.block ys) = first_of_two _ _ _ _ e in
     let others : blocks_from s (b + 1) (last_of p (take s.block xs)) count (drop s.block xs) ≡ blocks_from s (b + 1) (last_of p (take s.block ys)) count (drop s.block ys) = second_of_two _ _ _ _ e in
     let kf = all_take (IsSample s) s.block xs k in
     let lf = all_take (IsSample s) s.block ys l in
@@ -164,10 +164,10 @@ same_samples s b p (suc count) xs ys legal j h k l m n e =
     (omega (arith, length-drop s.block xs)) (omega (arith, length-drop s.block ys)) (others ∙ ap (λ v. blocks_from s (b + 1) (last_of p v) count (drop s.block ys)) (sym front)) in
     sym (take-append-drop s.block xs) ∙ ((λ i. front i ++ back i) ∙ take-append-drop s.block ys)
   where
-    first_of_two : (c d : Contents) (cs ds : List Contents) → c ∷ cs ≡ d ∷ ds → c ≡ d
+    first_of_two : (c d : BlockData) (cs ds : List BlockData) → c ∷ cs ≡ d ∷ ds → c ≡ d
     first_of_two c d cs ds e = cc
 
-    second_of_two : (c d : Contents) (cs ds : List Contents) → c ∷ cs ≡ d ∷ ds → cs ≡ ds
+    second_of_two : (c d : BlockData) (cs ds : List BlockData) → c ∷ cs ≡ d ∷ ds → cs ≡ ds
     second_of_two c d cs ds e = cc
 
 pub decoded_is_one : (s : Parameters) → IsLegal s → (b position : ℕ) (t : ℤ) → IsSample s t → (bits : List Bool) (asked : Option ℕ) (xs ys : List ℤ) (p q : Ending) (m n : ℕ) →

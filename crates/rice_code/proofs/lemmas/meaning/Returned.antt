@@ -8,18 +8,18 @@ use Rattle.std.proofs.lemmas.Bool.Decides.{nat_tests}
 use Rattle.std.proofs.lemmas.List.Elements.{recursion_from_All, All-from_recursion, All-replicate}
 use Rattle.std.proofs.Math.Nat.{div-add-mod, mod-lt, mul-le-mul_left}
 use Rattle.std.proofs.Math.Seq.{take-append_seam}
-use Rattle.rice_bits.specs.Bits.{bits_to_byte, padded, whole_bytes, bits_of}
+use Rattle.rice_bits.specs.Bits.{bits_to_byte, padded_bits, whole_bytes, bits_of}
 use Rattle.rice_bits.proofs.lemmas.bits.Bytes.{bits_of-padded}
 use Rattle.rice_samples.specs.Parameters.{Parameters, IsLegal, IsSample}
 use Rattle.rice_samples.specs.Places.{place, is_padded, block_count}
-use Rattle.rice_samples.specs.predict.Residuals.{last_of, filled}
+use Rattle.rice_samples.specs.predict.Residuals.{last_of, filled_samples}
 use Rattle.rice_samples.proofs.lemmas.setting.Levels.{zero_is_sample}
-use Rattle.rice_code.specs.code.Blocks.{blocks_from, blocks_behind, zeros}
-use Rattle.rice_code.specs.code.CodedDataSets.{DataSet}
+use Rattle.rice_code.specs.code.Blocks.{blocks_from, blocks_of, zero_block}
+use Rattle.rice_code.specs.code.CodedDataSets.{CodedDataSet}
 use Rattle.rice_code.specs.code.Layout.{Lies}
 use Rattle.rice_code.specs.code.Forms.{blocks_in_all}
 use Rattle.rice_code.specs.code.Code.{sets_of, code, output}
-use Rattle.rice_code.specs.code.Decoded.{Decoded, Ending, Reached, Ended, GoesOn, EndsWith, cut_to}
+use Rattle.rice_code.specs.code.Decoded.{Decoded, Ending, Reached, Ended, IsWanted, EndsWith, cut_to}
 use Rattle.rice_code.proofs.lemmas.meaning.Covers.{bool_cases, both, GoOn, covers}
 use Rattle.rice_code.proofs.lemmas.code.Layouts.{lies_laid, lies_inside}
 use Rattle.rice_code.proofs.lemmas.cost.PaddingBounds.{are_blocks, starts, sets_begin}
@@ -37,7 +37,7 @@ pub record Returned (s : Parameters) (xs : List ℤ) : Type 0 where
   pub zeros : All (λ bit. bit ≡ false) rest
   pub size : ℕ
   pub sizes : size + length rest ≡ length (bits_of (output s xs))
-  pub decoded : (asked : Option ℕ) (samples : List ℤ) (ending : Ending) (last : ℕ) → ((i : ℕ) → i < block_count s (length xs) → GoesOn s asked i) →
+  pub decoded : (asked : Option ℕ) (samples : List ℤ) (ending : Ending) (last : ℕ) → ((i : ℕ) → i < block_count s (length xs) → IsWanted s asked i) →
       samples ≡ cut_to s asked 0 (xs ++ more) → EndsWith s asked count rest ending last → Decoded s (bits_of (output s xs)) asked samples ending (size + last)
 
 -- zeros behind bits, in two parts
@@ -46,10 +46,10 @@ two_fills bits m n h =
     let sum : n ≡ m + (n - m) = omega arith in
     ap (λ k. bits ++ replicate k false) sum ∙ (ap (λ v. bits ++ v) (sym (replicate-append-replicate m (n - m) false)) ∙ sym (append_assoc bits (replicate m false) (replicate (n - m) false)))
 
-byte_parts : (bits : List Bool) (m : ℕ) → m ≤ bits_to_byte (length bits) → bits_of (whole_bytes (padded bits)) ≡ (bits ++ replicate m false) ++ replicate (bits_to_byte (length bits) - m) false
+byte_parts : (bits : List Bool) (m : ℕ) → m ≤ bits_to_byte (length bits) → bits_of (whole_bytes (padded_bits bits)) ≡ (bits ++ replicate m false) ++ replicate (bits_to_byte (length bits) - m) false
 byte_parts bits m h = bits_of-padded bits ∙ two_fills bits m (bits_to_byte (length bits)) h
 
-with_none : (s : Parameters) (sets : List DataSet) (bits : List Bool) → Lies s 0 0 sets bits → Lies s 0 0 sets (bits ++ replicate 0 false)
+with_none : (s : Parameters) (sets : List CodedDataSet) (bits : List Bool) → Lies s 0 0 sets bits → Lies s 0 0 sets (bits ++ replicate 0 false)
 with_none s sets bits h = let P : List Bool → Type 0 = λ v. Lies s 0 0 sets v in subst P (sym (append-nil bits)) h
 
 two_lengths : (bits x y : List Bool) → bits ≡ x ++ y → length x + length y ≡ length bits
@@ -67,9 +67,9 @@ returned s legal xs k =
     with_block s legal jay xs k =
         let j = s.block in
         let n = block_count s (length xs) in
-        let base = filled s (pos 0) xs in
+        let base = filled_samples s (pos 0) xs in
         let end = last_of (pos 0) base in
-        let cs = blocks_behind s 0 (pos 0) xs in
+        let cs = blocks_of s 0 (pos 0) xs in
         let sets = sets_of s xs in
         let samples = recursion_from_All (IsSample s) xs k in
         let zero = zero_is_sample s legal.bits_from in
@@ -83,15 +83,15 @@ returned s legal xs k =
         let whole : length base ≡ j * n = filled_len s (pos 0) xs jay in
         let blocks : length cs ≡ n = count_blocks s 0 (pos 0) n base in
         let found : length (blocks_in_all s 0 sets) ≡ n + fill =
-        ap length cover.blocks ∙ (length-append cs (replicate fill (zeros s None)) ∙ (λ i. blocks i + length-replicate fill (zeros s None) i)) in
+        ap length cover.blocks ∙ (length-append cs (replicate fill (zero_block s None)) ∙ (λ i. blocks i + length-replicate fill (zero_block s None) i)) in
         let base_legal = all_append (IsSample s) xs front samples (all_replicate (IsSample s) _ (last_of (pos 0) xs) (last_legal s (pos 0) xs zero samples)) in
         let all_legal = all_append (IsSample s) base back base_legal (all_replicate (IsSample s) (j * fill) end (last_legal s (pos 0) base zero base_legal)) in
-        let behind : blocks_from s (0 + n) end fill back ≡ replicate fill (zeros s None) =
+        let behind : blocks_from s (0 + n) end fill back ≡ replicate fill (zero_block s None) =
         elim (cases_lt 0 fill) [
           | inl some ↦
               let P : ℕ → Type 0 = λ m. GoOn s (0 + m) fill in
               repeated_blocks s (0 + n) end fill (subst P blocks cover.inside) (last_repeats s 0 (pos 0) n base jay whole (cover.last some))
-          | inr none ↦ let e : fill ≡ 0 = omega arith in ap (λ f. blocks_from s (0 + n) end f (replicate (j * f) end)) e ∙ sym (ap (λ f. replicate f (zeros s None)) e)
+          | inr none ↦ let e : fill ≡ 0 = omega arith in ap (λ f. blocks_from s (0 + n) end f (replicate (j * f) end)) e ∙ sym (ap (λ f. replicate f (zero_block s None)) e)
         ] in
         let made = ap (λ m. blocks_from s 0 (pos 0) m (base ++ back)) found ∙ (blocks_append s 0 (pos 0) n fill base back whole ∙ (ap (λ v. cs ++ v) behind ∙ sym cover.blocks)) in
         let len = whole_len (length base) (length back) (length (base ++ back)) n fill j _ (length-append base back) whole back_len found in

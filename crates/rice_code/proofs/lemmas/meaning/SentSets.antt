@@ -9,23 +9,23 @@ use Rattle.rice_code.proofs.lemmas.code.Layouts.{BeginBefore}
 use Rattle.rice_samples.specs.Parameters.{Parameters, k_max}
 use Rattle.rice_samples.specs.Places.{begins_segment, blocks_left}
 use Rattle.rice_samples.proofs.lemmas.setting.PlaceLemmas.{some_left}
-use Rattle.rice_code.specs.code.Blocks.{Contents, is_zero, zeros}
-use Rattle.rice_code.specs.code.CodedDataSets.{DataSet, NoCompression, Split, ZeroBlocks, RemainderOfSegment, cost}
+use Rattle.rice_code.specs.code.Blocks.{BlockData, is_zero_block, zero_block}
+use Rattle.rice_code.specs.code.CodedDataSets.{CodedDataSet, NoCompression, Split, ZeroBlocks, RemainderOfSegment, cost}
 use Rattle.rice_code.specs.code.Forms.{IsForm, IsReference, RunIsSound, ResidualsAreSound, blocks_in, zero_blocks}
-use Rattle.rice_code.specs.code.Layout.{block_behind}
+use Rattle.rice_code.specs.code.Layout.{block_after}
 use Rattle.rice_code.specs.code.Choice.{shortest, other_options}
 use Rattle.rice_code.specs.code.Code.{data_sets}
 use Rattle.rice_code.specs.code.Runs.{zero_run, run_len}
-use Rattle.rice_code.specs.code.Decoded.{GoesOn, AreTaken}
+use Rattle.rice_code.specs.code.Decoded.{IsWanted, AreTaken}
 use Rattle.rice_code.proofs.lemmas.meaning.Covers.{bool_cases, skipped, data_sets_plain, data_sets_start, data_sets_inside, skipped_plain, skipped_go, skipped_stop, zero_run_is, best_keeps, run_cons, run_inside, shortest_covers, nothing_more}
-use Rattle.rice_code.specs.encode.HeldBlocks.{IsSoundBlock, AreSoundBlocks}
+use Rattle.rice_code.specs.code.SoundBlocks.{IsSoundBlock, AreSoundBlocks}
 use Rattle.rice_code.proofs.lemmas.cost.BlockBounds.{shortest_is_form}
 
 -- a form that is sound
-abbrev pub IsSound : Parameters → ℕ → DataSet → Type 0
+abbrev pub IsSound : Parameters → ℕ → CodedDataSet → Type 0
 IsSound s b d = IsForm s b d × RunIsSound s b d × ResidualsAreSound s d
 
-shortest_is_sound : (s : Parameters) (b : ℕ) (c : Contents) → IsSoundBlock s b c → IsSound s b (shortest s c)
+shortest_is_sound : (s : Parameters) (b : ℕ) (c : BlockData) → IsSoundBlock s b c → IsSound s b (shortest s c)
 shortest_is_sound s b c h =
     let p = best_keeps (λ d. RunIsSound s b d × ResidualsAreSound s d) (λ x y. nat_lt (cost s x) (cost s y)) (NoCompression c) (other_options s c)
     (tt, tt) ((tt, (h.at_reference, h.fit)), splits (range_with_len 0 (k_max s + 1))) in
@@ -40,7 +40,7 @@ numbered : (z left len : ℕ) → z ≤ left → left ≤ 64 → (nat_le 5 z && 
 numbered z left len h k e =
     elim (cases_lt z left) [ inl lt ↦ omega arith | inr le ↦ elim (cases_lt z 64) [ inl lt ↦ omega arith | inr ge ↦ absurd (grind (arith, nat_tests)) ] ]
 
-zero_run_is_sound : (s : Parameters) (b w : ℕ) (r : Option ℕ) (cs : List Contents) → 1 ≤ s.interval → IsReference s b r → run_len s b cs ≡ suc w → IsSound s b (zero_run s b r cs)
+zero_run_is_sound : (s : Parameters) (b w : ℕ) (r : Option ℕ) (cs : List BlockData) → 1 ≤ s.interval → IsReference s b r → run_len s b cs ≡ suc w → IsSound s b (zero_run s b r cs)
 zero_run_is_sound s b w r cs h k e =
     let z = run_len s b cs in
     let left = blocks_left s b in
@@ -53,25 +53,25 @@ zero_run_is_sound s b w r cs h k e =
     ]
 
 count_zeros : (s : Parameters) (r : Option ℕ) (z w : ℕ) → z ≡ suc w → length (zero_blocks s r z) ≡ suc w
-count_zeros s r z w e = omega (arith, length-replicate (z - 1) (zeros s None))
+count_zeros s r z w e = omega (arith, length-replicate (z - 1) (zero_block s None))
 
 -- one more coded data set, and those behind it
-take_one : (s : Parameters) (asked : Option ℕ) (b n : ℕ) (d : DataSet) (ds : List DataSet) → GoesOn s asked b → IsSound s b d → length (blocks_in s b d) ≡ suc n → AreTaken s asked (b + 1 + n) ds → AreTaken s asked b (d ∷ ds)
+take_one : (s : Parameters) (asked : Option ℕ) (b n : ℕ) (d : CodedDataSet) (ds : List CodedDataSet) → IsWanted s asked b → IsSound s b d → length (blocks_in s b d) ≡ suc n → AreTaken s asked (b + 1 + n) ds → AreTaken s asked b (d ∷ ds)
 take_one s asked b n d ds go sound e h =
     let P : ℕ → Type 0 = λ m. AreTaken s asked m ds in
-    let f : b + 1 + n ≡ block_behind s b d = omega arith in
+    let f : b + 1 + n ≡ block_after s b d = omega arith in
     (go, sound.0, sound.1, sound.2, subst P f h)
 
-pub are_taken : (s : Parameters) (asked : Option ℕ) (b : ℕ) (behind : Bool) (cs : List Contents) → 1 ≤ s.interval → AreSoundBlocks s b cs → ((i : ℕ) → i < b + length cs → GoesOn s asked i) →
+pub are_taken : (s : Parameters) (asked : Option ℕ) (b : ℕ) (behind : Bool) (cs : List BlockData) → 1 ≤ s.interval → AreSoundBlocks s b cs → ((i : ℕ) → i < b + length cs → IsWanted s asked i) →
     AreTaken s asked (b + skipped s b behind cs) (data_sets s b behind cs)
 are_taken s asked b behind [] h k go = tt
 are_taken s asked b behind (c ∷ cs) h k go =
     let P : ℕ → Type 0 = λ n. AreTaken s asked (b + n) (data_sets s b behind (c ∷ cs)) in
-    let Q : List DataSet → Type 0 = λ ds. AreTaken s asked b ds in
-    let at = λ (ds : List DataSet) (e : skipped s b behind (c ∷ cs) ≡ 0) (f : data_sets s b behind (c ∷ cs) ≡ ds) (g : AreTaken s asked b ds). zero_more s asked b (data_sets s b behind (c ∷ cs)) (skipped s b behind (c ∷ cs)) e (subst Q (sym f) g) in
-    let here : GoesOn s asked b = go b (omega arith) in
+    let Q : List CodedDataSet → Type 0 = λ ds. AreTaken s asked b ds in
+    let at = λ (ds : List CodedDataSet) (e : skipped s b behind (c ∷ cs) ≡ 0) (f : data_sets s b behind (c ∷ cs) ≡ ds) (g : AreTaken s asked b ds). zero_more s asked b (data_sets s b behind (c ∷ cs)) (skipped s b behind (c ∷ cs)) e (subst Q (sym f) g) in
+    let here : IsWanted s asked b = go b (omega arith) in
     let later = λ (i : ℕ) (lt : i < b + 1 + length cs). go i (omega arith) in
-    elim (bool_cases (is_zero c)) [
+    elim (bool_cases (is_zero_block c)) [
       | inr z ↦
           let ih = are_taken s asked (b + 1) false cs h k.1 later in
           let rest = data_sets s (b + 1) false cs in
@@ -87,7 +87,7 @@ are_taken s asked b behind (c ∷ cs) h k go =
                 let n : b + 1 + j ≡ b + suc j = omega arith in
                 let m : b + suc j ≡ b + skipped s b behind (c ∷ cs) = ap (λ x. b + x) (sym (skipped_go s b behind c cs h z go_on)) in
                 let R : ℕ → Type 0 = λ x. AreTaken s asked x rest in
-                let T : List DataSet → Type 0 = λ ds. AreTaken s asked (b + skipped s b behind (c ∷ cs)) ds in
+                let T : List CodedDataSet → Type 0 = λ ds. AreTaken s asked (b + skipped s b behind (c ∷ cs)) ds in
                 subst T (sym (data_sets_inside s b behind c cs z go_on)) (subst R (n ∙ m) ih)
             | inr stop ↦
                 let d = zero_run s b c.reference (c ∷ cs) in
@@ -98,20 +98,20 @@ are_taken s asked b behind (c ∷ cs) h k go =
                   | inr e ↦ elim e.1 [
                     | inl full ↦ take_one s asked b j d rest here sound (ap (λ d. length (blocks_in s b d)) e.0 ∙ count_zeros s c.reference (blocks_left s b) j (sym full ∙ len)) ih
                     | inr all ↦
-                        let R : List DataSet → Type 0 = λ ds. AreTaken s asked (block_behind s b d) ds in
+                        let R : List CodedDataSet → Type 0 = λ ds. AreTaken s asked (block_after s b d) ds in
                         (here, sound.0, sound.1, sound.2, subst R (sym (nothing_more s (b + 1) cs h (omega arith))) tt)
                   ]
                 ])
           ]
     ]
   where
-    zero_more : (s : Parameters) (asked : Option ℕ) (b : ℕ) (ds : List DataSet) (n : ℕ) → n ≡ 0 → AreTaken s asked b ds → AreTaken s asked (b + n) ds
+    zero_more : (s : Parameters) (asked : Option ℕ) (b : ℕ) (ds : List CodedDataSet) (n : ℕ) → n ≡ 0 → AreTaken s asked b ds → AreTaken s asked (b + n) ds
     zero_more s asked b ds n e h = let R : ℕ → Type 0 = λ m. AreTaken s asked m ds in let f : b ≡ b + n = omega arith in subst R f h
 
 -- those that are taken before a block begin before it
-pub begin_before : (s : Parameters) (end b : ℕ) (ds : List DataSet) → AreTaken s (Some (s.block * end)) b ds → BeginBefore s end b ds
+pub begin_before : (s : Parameters) (end b : ℕ) (ds : List CodedDataSet) → AreTaken s (Some (s.block * end)) b ds → BeginBefore s end b ds
 begin_before s end b [] h = tt
 begin_before s end b (d ∷ ds) h =
     let lt : s.block * b < s.block * end = h.0 in
     let before : b < end = elim (cases_lt b end) [ inl l ↦ l | inr le ↦ let m : s.block * end ≤ s.block * b = mul-le-mul_left s.block le in absurd (omega arith) ] in
-    (before, begin_before s end (block_behind s b d) ds h.4)
+    (before, begin_before s end (block_after s b d) ds h.4)

@@ -7,10 +7,10 @@ use Rattle.std.proofs.lemmas.Int.{ints}
 use Rattle.std.proofs.lemmas.List.Elements.{All-from_recursion, All-replicate}
 use Rattle.rice_samples.specs.Parameters.{Parameters, IsSample, value_count}
 use Rattle.rice_code.specs.code.Blocks.{blocks_from}
-use Rattle.rice_code.specs.code.CodedDataSets.{DataSet, text}
-use Rattle.rice_code.specs.code.Decoded.{Decoded, Ending, Ended, GoesOn, EndsWith, cut_to}
+use Rattle.rice_code.specs.code.CodedDataSets.{CodedDataSet, bits_of_set}
+use Rattle.rice_code.specs.code.Decoded.{Decoded, Ending, Ended, IsWanted, EndsWith, cut_to}
 use Rattle.rice_code.specs.code.Forms.{IsForm, RunIsSound, ResidualsAreSound, blocks_in}
-use Rattle.rice_code.specs.code.Layout.{block_behind, padding}
+use Rattle.rice_code.specs.code.Layout.{block_after, padding}
 use Rattle.rice_code.proofs.lemmas.meaning.Covers.{both}
 
 below : (limit d : ℕ) → nat_lt d limit ≡ true → d < limit
@@ -36,11 +36,11 @@ unsigned_samples s unsigned vs e = All-from_recursion (IsSample s) (map pos vs) 
     each (v ∷ vs) e = let p = both (nat_lt v (value_count s)) (list_all (λ v. nat_lt v (value_count s)) vs) e in (one v (below (value_count s) v p.0), each vs p.1)
 
 -- only zeros are left
-pub zeros_end : (s : Parameters) (asked : Option ℕ) (b n : ℕ) → GoesOn s asked b → EndsWith s asked b (replicate n false) Ended (length (replicate n false))
+pub zeros_end : (s : Parameters) (asked : Option ℕ) (b n : ℕ) → IsWanted s asked b → EndsWith s asked b (replicate n false) Ended (length (replicate n false))
 zeros_end s asked b n h = (h, All-replicate (λ bit. bit ≡ false) n false refl, refl)
 
 -- the first coded data set is sound, and stands for these samples
-pub record Gives (s : Parameters) (d : DataSet) (xs : List ℤ) : Type 0 where
+pub record Gives (s : Parameters) (d : CodedDataSet) (xs : List ℤ) : Type 0 where
   pub form : IsForm s 0 d
   pub run : RunIsSound s 0 d
   pub residuals : ResidualsAreSound s d
@@ -49,9 +49,9 @@ pub record Gives (s : Parameters) (d : DataSet) (xs : List ℤ) : Type 0 where
   pub blocks : blocks_from s 0 (pos 0) (length (blocks_in s 0 d)) xs ≡ blocks_in s 0 d
 
 -- one coded data set with its padding, and the rest
-pub decoded_by_one : (s : Parameters) (d : DataSet) (xs : List ℤ) → Gives s d xs → (skipped rest bits : List Bool) → length skipped ≡ padding s (block_behind s 0 d) (0 + length (text s d)) →
-    bits ≡ (text s d ++ skipped) ++ rest → (asked : Option ℕ) → GoesOn s asked 0 → (ending : Ending) (last : ℕ) → EndsWith s asked (length (blocks_in s 0 d)) rest ending last →
-    Decoded s bits asked (cut_to s asked 0 xs) ending (length (text s d ++ skipped) + last)
+pub decoded_by_one : (s : Parameters) (d : CodedDataSet) (xs : List ℤ) → Gives s d xs → (skipped rest bits : List Bool) → length skipped ≡ padding s (block_after s 0 d) (0 + length (bits_of_set s d)) →
+    bits ≡ (bits_of_set s d ++ skipped) ++ rest → (asked : Option ℕ) → IsWanted s asked 0 → (ending : Ending) (last : ℕ) → EndsWith s asked (length (blocks_in s 0 d)) rest ending last →
+    Decoded s bits asked (cut_to s asked 0 xs) ending (length (bits_of_set s d ++ skipped) + last)
 decoded_by_one s d xs g skipped rest bits padded e asked goes ending last ends =
     let blocks = append-nil (blocks_in s 0 d) in
     let same = ap length blocks in
@@ -59,10 +59,10 @@ decoded_by_one s d xs g skipped rest bits padded e asked goes ending last ends =
     let EndsAt : ℕ → Type 0 = λ b. EndsWith s asked b rest ending last in
     record {
       sets = d ∷ [];
-      front = text s d ++ skipped;
+      front = bits_of_set s d ++ skipped;
       rest = rest;
       parts = e;
-      lie = (skipped, [], padded, ap (λ v. text s d ++ v) (sym (append-nil skipped)), refl);
+      lie = (skipped, [], padded, ap (λ v. bits_of_set s d ++ v) (sym (append-nil skipped)), refl);
       taken = (goes, g.form, g.run, g.residuals, tt);
       all = xs;
       legal = g.legal;

@@ -7,7 +7,7 @@ use Rattle.std.proofs.lemmas.Int.{ints}
 use Rattle.std.proofs.lemmas.Nat.{mod-mul-add, pow-add, pow_pos}
 use Rattle.std.proofs.Math.Nat.{mul-add-mod_self_left, mod-eq_of_lt, mul-div_cancel_left}
 use Rattle.rice_samples.specs.Parameters.{Parameters, IsSample, level, value_count}
-use Rattle.rice_samples.specs.Places.{is_reference, has_reference}
+use Rattle.rice_samples.specs.Places.{is_reference_sample, is_reference}
 use Rattle.rice_samples.specs.predict.Residuals.{twos_complement, pattern, rank, residual, residuals}
 use Rattle.rice_samples.proofs.lemmas.predict.Ranks.{rank_injective}
 use Rattle.rice_samples.proofs.lemmas.setting.Levels.{half_pow, same_level}
@@ -43,8 +43,8 @@ same_pattern s x y h k l e = by_sign s.signed s.bits h k.0 k.1 l.0 l.1 e
     by_sign false n h a b c d e = same_unsigned n x y a c e
 
 -- where a sample is no reference, its residual tells it
-pub same_residual : (s : Parameters) (i : ℕ) (p x y : ℤ) → 1 ≤ s.bits → IsSample s p → IsSample s x → IsSample s y → is_reference s i ≡ false → residual s i p x ≡ residual s i p y → x ≡ y
-same_residual s i p x y n h k l r e = by_way s.preprocess (is_reference s i) r e
+pub same_residual : (s : Parameters) (i : ℕ) (p x y : ℤ) → 1 ≤ s.bits → IsSample s p → IsSample s x → IsSample s y → is_reference_sample s i ≡ false → residual s i p x ≡ residual s i p y → x ≡ y
+same_residual s i p x y n h k l r e = by_way s.preprocess (is_reference_sample s i) r e
   where
     by_way : (a b : Bool) → b ≡ false → cond a (cond b 0 (rank s p x)) (pattern s x) ≡ cond a (cond b 0 (rank s p y)) (pattern s y) → x ≡ y
     by_way true true r e = absurd (let f : true ≡ false = r in cc)
@@ -52,24 +52,24 @@ same_residual s i p x y n h k l r e = by_way s.preprocess (is_reference s i) r e
     by_way false b r e = same_pattern s x y n k l e
 
 pub same_residuals : (s : Parameters) (i : ℕ) (p : ℤ) (xs ys : List ℤ) → 1 ≤ s.bits → IsSample s p → AllByRecursion (IsSample s) xs → AllByRecursion (IsSample s) ys →
-    ((t : ℕ) → t < length xs → is_reference s (i + t) ≡ false) → residuals s i p xs ≡ residuals s i p ys → xs ≡ ys
+    ((t : ℕ) → t < length xs → is_reference_sample s (i + t) ≡ false) → residuals s i p xs ≡ residuals s i p ys → xs ≡ ys
 same_residuals s i p [] [] n h k l r e = refl
 same_residuals s i p [] (y ∷ ys) n h k l r e = absurd cc
 same_residuals s i p (x ∷ xs) [] n h k l r e = absurd cc
 same_residuals s i p (x ∷ xs) (y ∷ ys) n h k l r e =
     let one : residual s i p x ≡ residual s i p y = cc in
     let others : residuals s (i + 1) x xs ≡ residuals s (i + 1) y ys = cc in
-    let here : is_reference s i ≡ false = (let z : i ≡ i + 0 = omega arith in ap (λ m. is_reference s m) z) ∙ r 0 (omega arith) in
+    let here : is_reference_sample s i ≡ false = (let z : i ≡ i + 0 = omega arith in ap (λ m. is_reference_sample s m) z) ∙ r 0 (omega arith) in
     let first = same_residual s i p x y n h k.0 l.0 here one in
-    let later = λ (t : ℕ) (lt : t < length xs). (let z : i + 1 + t ≡ i + suc t = omega arith in ap (λ m. is_reference s m) z) ∙ r (suc t) (omega arith) in
+    let later = λ (t : ℕ) (lt : t < length xs). (let z : i + 1 + t ≡ i + suc t = omega arith in ap (λ m. is_reference_sample s m) z) ∙ r (suc t) (omega arith) in
     let rest = same_residuals s (i + 1) x xs ys n k.0 k.1 l.1 later (others ∙ ap (λ v. residuals s (i + 1) v ys) (sym first)) in
     λ j. first j ∷ rest j
 
 -- only the first sample of a block is a reference
-pub inside_block : (s : Parameters) (b t : ℕ) → 1 ≤ t → t < s.block → is_reference s (s.block * b + t) ≡ false
+pub inside_block : (s : Parameters) (b t : ℕ) → 1 ≤ t → t < s.block → is_reference_sample s (s.block * b + t) ≡ false
 inside_block s b t h lt =
     let m : (s.block * b + t) % s.block ≡ t = mul-add-mod_self_left s.block b t ∙ mod-eq_of_lt lt in
-    ap (λ v. has_reference s ((s.block * b + t) / s.block) && (v == 0)) m ∙ (ap (λ v. has_reference s ((s.block * b + t) / s.block) && v) (some t h) ∙ never (has_reference s ((s.block * b + t) / s.block)))
+    ap (λ v. is_reference s ((s.block * b + t) / s.block) && (v == 0)) m ∙ (ap (λ v. is_reference s ((s.block * b + t) / s.block) && v) (some t h) ∙ never (is_reference s ((s.block * b + t) / s.block)))
   where
     some : (t : ℕ) → 1 ≤ t → (t == 0) ≡ false
     some t h = grind (arith, nat_tests)
@@ -78,7 +78,7 @@ inside_block s b t h lt =
     never true = refl
     never false = refl
 
-pub no_reference_at : (s : Parameters) (b : ℕ) → 1 ≤ s.block → has_reference s b ≡ false → is_reference s (s.block * b) ≡ false
+pub no_reference_at : (s : Parameters) (b : ℕ) → 1 ≤ s.block → is_reference s b ≡ false → is_reference_sample s (s.block * b) ≡ false
 no_reference_at s b h e =
     let q : s.block * b / s.block ≡ b = mul-div_cancel_left b h in
-    ap (λ m. has_reference s m && (s.block * b % s.block == 0)) q ∙ ap (λ v. v && (s.block * b % s.block == 0)) e
+    ap (λ m. is_reference s m && (s.block * b % s.block == 0)) q ∙ ap (λ v. v && (s.block * b % s.block == 0)) e

@@ -5,7 +5,7 @@ use Rattle.std.specs.List.{AllByRecursion}
 use Rattle.std.proofs.lemmas.Nat.{pow_pos}
 use Rattle.std.proofs.Math.Nat.{mul-div_cancel_left, mul-mod_right}
 use Rattle.rice_samples.specs.Parameters.{Parameters, IsSample, level, value_count}
-use Rattle.rice_samples.specs.Places.{is_reference, has_reference}
+use Rattle.rice_samples.specs.Places.{is_reference_sample, is_reference}
 use Rattle.rice_samples.specs.predict.Residuals.{rank, residual, residuals, pattern}
 use Rattle.rice_samples.proofs.lemmas.predict.Ranks.{rank_fits}
 use Rattle.rice_samples.proofs.lemmas.setting.Levels.{pattern_fits}
@@ -16,8 +16,8 @@ length-residuals s i p (x ∷ xs) = ap (λ n. suc n) (length-residuals s (i + 1)
 
 pub residual_fits : (s : Parameters) (i : ℕ) (p x : ℤ) → 1 ≤ s.bits → IsSample s p → IsSample s x → residual s i p x < value_count s
 residual_fits s i p x n h k =
-    either (λ d. d < value_count s) s.preprocess (cond (is_reference s i) 0 (rank s p x)) (pattern s x)
-    (either (λ d. d < value_count s) (is_reference s i) 0 (rank s p x) (pow_pos s.bits) (rank_fits (value_count s) (level s p) (level s x) h.1 k.1))
+    either (λ d. d < value_count s) s.preprocess (cond (is_reference_sample s i) 0 (rank s p x)) (pattern s x)
+    (either (λ d. d < value_count s) (is_reference_sample s i) 0 (rank s p x) (pow_pos s.bits) (rank_fits (value_count s) (level s p) (level s x) h.1 k.1))
     (pattern_fits s x n k)
   where
     either : (P : ℕ → Type 0) (b : Bool) (x y : ℕ) → P x → P y → P (cond b x y)
@@ -28,15 +28,15 @@ pub residuals_fit : (s : Parameters) (i : ℕ) (p : ℤ) (xs : List ℤ) → 1 �
 residuals_fit s i p [] n h k = tt
 residuals_fit s i p (x ∷ xs) n h k = (residual_fits s i p x n h k.0, residuals_fit s (i + 1) x xs n k.0 k.1)
 
-pub at_reference : (s : Parameters) (b : ℕ) → 1 ≤ s.block → has_reference s b ≡ true → is_reference s (s.block * b) ≡ true
+pub at_reference : (s : Parameters) (b : ℕ) → 1 ≤ s.block → is_reference s b ≡ true → is_reference_sample s (s.block * b) ≡ true
 at_reference s b h e =
     let q : s.block * b / s.block ≡ b = mul-div_cancel_left b h in
     let r : s.block * b % s.block ≡ 0 = mul-mod_right s.block b in
-    (λ i. has_reference s (q i) && (r i == 0)) ∙ ap (λ v. v && true) e
+    (λ i. is_reference s (q i) && (r i == 0)) ∙ ap (λ v. v && true) e
 
-pub zero_at_reference : (s : Parameters) (b : ℕ) (p : ℤ) (xs : List ℤ) → 1 ≤ s.block → has_reference s b ≡ true → slice_index (residuals s (s.block * b) p xs) 0 ≡ 0
+pub zero_at_reference : (s : Parameters) (b : ℕ) (p : ℤ) (xs : List ℤ) → 1 ≤ s.block → is_reference s b ≡ true → slice_index (residuals s (s.block * b) p xs) 0 ≡ 0
 zero_at_reference s b p [] h e = refl
-zero_at_reference s b p (x ∷ xs) h e = first s.preprocess (is_reference s (s.block * b)) (at_reference s b h e) (preprocessed s.preprocess _ e)
+zero_at_reference s b p (x ∷ xs) h e = first s.preprocess (is_reference_sample s (s.block * b)) (at_reference s b h e) (preprocessed s.preprocess _ e)
   where
     preprocessed : (a b : Bool) → (a && b) ≡ true → a ≡ true
     preprocessed true b e = refl

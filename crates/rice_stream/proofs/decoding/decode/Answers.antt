@@ -3,10 +3,10 @@ use Rattle.std.specs.Io.KnownBytes.{Appends}
 use Rattle.std.specs.Prelude.{All}
 use Rattle.rice_samples.specs.Parameters.{Parameters, IsSample}
 use Rattle.rice_samples.specs.bytes.Spelling.{spellings}
-use Rattle.rice_code.specs.decode.Decoder.{marked}
+use Rattle.rice_code.specs.decode.Decoder.{with_mark}
 use Rattle.rice_stream.specs.Calls.{Fails}
 use Rattle.rice_stream.specs.Decodes.{wanted_of, refusal_fault}
-use Rattle.rice_stream.specs.DecodingState.{RunsOn}
+use Rattle.rice_stream.specs.DecodingState.{DecodingProgress}
 use Rattle.rice_stream.specs.Writes.{TakesPart}
 use Rattle.rice_stream.proofs.lemmas.DecodingLemmas.{took, gains, moves_of, legal_of_block, stopped, done, stops_here, ends_at, few_legal}
 use Rattle.rice_stream.proofs.lemmas.DecodingEnds.{Ends, Grows, runs_first, refusal_ends, refusal_fails, ended_ends, done_fails, write_ends, reached_ends, runs_more}
@@ -85,7 +85,7 @@ returns-in-Err-clause-call g c =
     let w = c.wanted-count.ensures.value ∙ ap (wanted_of asked written) c.block-block.ensures.value in
     let some : wanted_of asked written s.block ≢ 0 = λ e. c.if-count-eq0.false (w ∙ e) in
     let k = stopped left failed r new steps steps_new p q xs c.in-Err.fault i.runs.going c.in-Err.ensures.in_run c.in-Err.ensures.reads in
-    let stops = stops_here left failed (marked r) new s p.setting i.runs.blocks p.block c.in-Err.fault legal.interval_from i.runs.setting i.runs.here k.1 in
+    let stops = stops_here left failed (with_mark r) new s p.setting i.runs.blocks p.block c.in-Err.fault legal.interval_from i.runs.setting i.runs.here k.1 in
     let e = c.ended-in-Err in
     let fault = e.ensures.fault ∙ ap Some (c.fault_of-fault.ensures ∙ ap (refusal_fault c.in-Err.fault written) c.block-block.ensures.value) in
     subst (λ (x : g.row.I.Denot). Ends s asked (left start) (left x) out_old out e.result.0.report e.result.0.fault) (sym e.ensures.intake)
@@ -113,7 +113,7 @@ returns-in-Err-clause-failures g c =
     let w = c.wanted-count.ensures.value ∙ ap (wanted_of asked written) c.block-block.ensures.value in
     let some : wanted_of asked written s.block ≢ 0 = λ e. c.if-count-eq0.false (w ∙ e) in
     let k = stopped left failed r new steps steps_new p q xs c.in-Err.fault i.runs.going c.in-Err.ensures.in_run c.in-Err.ensures.reads in
-    let stops = stops_here left failed (marked r) new s p.setting i.runs.blocks p.block c.in-Err.fault legal.interval_from i.runs.setting i.runs.here k.1 in
+    let stops = stops_here left failed (with_mark r) new s p.setting i.runs.blocks p.block c.in-Err.fault legal.interval_from i.runs.setting i.runs.here k.1 in
     let e = c.ended-in-Err in
     let fault = e.ensures.fault ∙ ap Some (c.fault_of-fault.ensures ∙ ap (refusal_fault c.in-Err.fault written) c.block-block.ensures.value) in
     let writes = g.O.Outlet.failed c.args.outlet.now in
@@ -142,7 +142,7 @@ returns-in-Done-clause-call g c =
     let w = c.wanted-count.ensures.value ∙ ap (wanted_of asked written) c.block-block.ensures.value in
     let some : wanted_of asked written s.block ≢ 0 = λ e. c.if-count-eq0.false (w ∙ e) in
     let k = done left failed r new steps steps_new p q xs c.in-Ok.step c.in-Done.is i.runs.going c.in-Ok.ensures.in_run c.in-Ok.ensures.reads in
-    let ends = ends_at left failed (marked r) new s p.setting i.runs.blocks p.block true legal.interval_from i.runs.setting i.runs.here k.1 in
+    let ends = ends_at left failed (with_mark r) new s p.setting i.runs.blocks p.block true legal.interval_from i.runs.setting i.runs.here k.1 in
     let e = c.ended-in-Done in
     subst (λ (x : g.row.I.Denot). Ends s asked (left start) (left x) out_old out e.result.0.report e.result.0.fault) (sym e.ensures.intake)
     (ended_ends left failed s asked start out_old out p r new steps written steps_new true e.result.0.report e.result.0.fault i.runs some k.0 ends (record { samples_are = e.ensures.samples; bits_are = e.ensures.bits; steps_are = e.ensures.steps }) (e.ensures.fault ∙ c.end_of.ensures))
@@ -169,7 +169,7 @@ returns-in-Done-clause-failures g c =
     let w = c.wanted-count.ensures.value ∙ ap (wanted_of asked written) c.block-block.ensures.value in
     let some : wanted_of asked written s.block ≢ 0 = λ e. c.if-count-eq0.false (w ∙ e) in
     let k = done left failed r new steps steps_new p q xs c.in-Ok.step c.in-Done.is i.runs.going c.in-Ok.ensures.in_run c.in-Ok.ensures.reads in
-    let ends = ends_at left failed (marked r) new s p.setting i.runs.blocks p.block true legal.interval_from i.runs.setting i.runs.here k.1 in
+    let ends = ends_at left failed (with_mark r) new s p.setting i.runs.blocks p.block true legal.interval_from i.runs.setting i.runs.here k.1 in
     let e = c.ended-in-Done in
     let writes = g.O.Outlet.failed c.args.outlet.now in
     subst (λ (x : g.row.I.Denot). Fails e.result.0.fault (failed start) (failed x) writes (g.O.Outlet.failed c.decode_all.outlet)) (sym e.ensures.intake)
@@ -271,6 +271,6 @@ decode_all-preserved g c =
     let moves = moves_of left failed r new steps steps_new p q xs t in
     let next = runs_more left failed s asked start out_old out out_new p q r new steps written c.tick.new.self xs legal i.runs some more moves grows put in
     record {
-      runs = subst (λ (n : ℕ). RunsOn left failed s asked start out_old out_new q new c.tick.new.self (written + n)) (sym w) next;
+      runs = subst (λ (n : ℕ). DecodingProgress left failed s asked start out_old out_new q new c.tick.new.self (written + n)) (sym w) next;
       writes = c.in-Ok-write_samples.ensures.ok.1 ∙ i.writes;
     }

@@ -1,10 +1,10 @@
 use Rattle.std.proofs.Common.{◌≡◌, ◌-◌, ◌+◌, ◌^◌, length}
-use Rattle.rice_stream.specs.EncodingState.{Runs}
+use Rattle.rice_stream.specs.EncodingState.{EncodingProgress}
 use Rattle.rice_stream.proofs.encoding.encode.Given as goal
 
 abbrev pub invariant-fill_all : goal.invariant-fill_all
 invariant-fill_all g l = record {
-  runs : Runs l.setting (g.I.Intake.left l.fn.intake) (g.I.Intake.left l.intake) (g.O.Outlet.taken l.fn.outlet) (g.O.Outlet.taken l.outlet) l.encoding l.given l.waiting l.buffer;
+  runs : EncodingProgress l.setting (g.I.Intake.left l.fn.intake) (g.I.Intake.left l.intake) (g.O.Outlet.taken l.fn.outlet) (g.O.Outlet.taken l.outlet) l.encoding l.given l.waiting l.buffer;
   size : length l.buffer ≡ 4096;
   room : length l.samples ≡ 4096;
   reads : g.I.Intake.failed l.intake ≡ g.I.Intake.failed l.fn.intake;

@@ -3,7 +3,7 @@ use Rattle.rice_code.specs.decode.ReadSets.{reference_place}
 use Rattle.std.specs.Prelude.{flat_map}
 use Rattle.std.proofs.lemmas.Nat.{pow_pos}
 use Rattle.rice_bits.specs.Bits.{word}
-use Rattle.rice_code.specs.code.CodedDataSets.{NoCompression, coded}
+use Rattle.rice_code.specs.code.CodedDataSets.{NoCompression, sent_residuals}
 use Rattle.rice_code.proofs.lemmas.decode.ReadLemmas.{plain_read, placed, placed_row, coded_part, plain_cut, cut_at_reference}
 use Rattle.rice_code.proofs.decode.options.read_no_compression.Goals as goal
 
@@ -11,7 +11,7 @@ pub returns-in-Err-clause-err : goal.returns-in-Err-clause-err
 returns-in-Err-clause-err g c =
     let s = c.args.setting.now in
     let e = c.in-Err.ensures.err in
-    cut_at_reference g.I.Intake.left g.I.Intake.failed c.args.reader.now c.read_reference.new.reader s c.args.block NoCompression (λ x. flat_map (word s.bits) (coded x)) e.0 c.in-Err.fault
+    cut_at_reference g.I.Intake.left g.I.Intake.failed c.args.reader.now c.read_reference.new.reader s c.args.block NoCompression (λ x. flat_map (word s.bits) (sent_residuals x)) e.0 c.in-Err.fault
     (λ x form. form.0.reference) e.1 e.2 e.3
 
 pub returns-clause-ok : goal.returns-clause-ok

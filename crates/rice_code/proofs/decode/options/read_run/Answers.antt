@@ -1,6 +1,6 @@
 use Rattle.std.proofs.Common.{◌++◌, false, replicate}
 use Rattle.rice_bits.proofs.lemmas.read.ReaderLemmas.{takes-append, stops-append}
-use Rattle.rice_code.specs.code.CodedDataSets.{reference_text}
+use Rattle.rice_code.specs.code.CodedDataSets.{reference_bits}
 use Rattle.rice_code.proofs.lemmas.decode.ReadLemmas.{run_cut, run_cut_at_reference}
 use Rattle.rice_code.proofs.decode.options.read_run.Goals as goal
 
@@ -16,7 +16,7 @@ returns-in-Ok-take_fs-clause-ok g c =
 pub returns-in-Err-take_fs-clause-err : goal.returns-in-Err-take_fs-clause-err
 returns-in-Err-take_fs-clause-err g c =
     let e = c.in-Err-take_fs.ensures.err c.in-Ok.ensures.ok.going in (
-      reference_text c.args.setting.now c.in-Ok.reference ++ replicate e.0 false,
+      reference_bits c.args.setting.now c.in-Ok.reference ++ replicate e.0 false,
       stops-append g.I.Intake.left g.I.Intake.failed c.args.reader.now c.read_reference.new.reader c.take_fs.new.self _ _ c.in-Err-take_fs.fault c.in-Ok.ensures.ok e.1,
       run_cut c.args.setting.now c.args.block c.in-Ok.reference e.0 c.in-Ok.ensures.reference,
     )

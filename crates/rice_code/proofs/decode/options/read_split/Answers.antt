@@ -1,7 +1,7 @@
 use Rattle.std.proofs.Common.{arith, drop, ◌∙◌, ap, ◌-◌, ◌/◌, ◌^◌, ◌++◌, length}
 use Rattle.std.specs.Prelude.{flat_map}
 use Rattle.rice_bits.specs.Bits.{word, fundamental_sequence}
-use Rattle.rice_code.specs.code.CodedDataSets.{Split, coded}
+use Rattle.rice_code.specs.code.CodedDataSets.{Split, sent_residuals}
 use Rattle.rice_code.specs.decode.ReadSets.{reference_place}
 use Rattle.rice_code.proofs.lemmas.decode.ReadLemmas.{coded_part, as_many, placed, split_large, split_joined, split_cut_high, split_cut_low, cut_at_reference, count_row}
 use Rattle.rice_code.proofs.decode.options.read_split.Goals as goal
@@ -10,7 +10,7 @@ pub returns-in-Err-clause-err : goal.returns-in-Err-clause-err
 returns-in-Err-clause-err g c =
     let e = c.in-Err.ensures.err in
     cut_at_reference g.I.Intake.left g.I.Intake.failed c.args.reader.now c.read_reference.new.reader c.args.setting.now c.args.block (Split c.args.k)
-    (λ x. flat_map (λ d. fundamental_sequence (d / 2 ^ c.args.k)) (coded x) ++ flat_map (word c.args.k) (coded x)) e.0 c.in-Err.fault
+    (λ x. flat_map (λ d. fundamental_sequence (d / 2 ^ c.args.k)) (sent_residuals x) ++ flat_map (word c.args.k) (sent_residuals x)) e.0 c.in-Err.fault
     (λ x form. form.0.reference) e.1 e.2 e.3
 
 pub returns-in-Err-read_counts-clause-err : goal.returns-in-Err-read_counts-clause-err

@@ -2,7 +2,7 @@ use Rattle.std.proofs.Common.{arith, rules, ◌≡◌, ◌-◌, ◌∙◌, ap, s
 use Rattle.std.proofs.lemmas.Int.{to_z-of_z}
 use Rattle.rice_samples.specs.Parameters.{IsSample}
 use Rattle.rice_samples.specs.predict.Residuals.{last_of}
-use Rattle.rice_code.specs.code.Blocks.{contents}
+use Rattle.rice_code.specs.code.Blocks.{block_data}
 use Rattle.rice_code.proofs.lemmas.encode.SeveralHeld.{last_at}
 use Rattle.rice_code.proofs.lemmas.decode.RestoredBlocks.{refill_all}
 use Rattle.rice_code.proofs.decode.restoring.restore_block.Goals as goal
@@ -10,7 +10,7 @@ use Rattle.rice_code.proofs.decode.restoring.restore_block.Goals as goal
 pub returns-clause-contents : goal.returns-clause-contents
 returns-clause-contents c =
     let told = rw (to_z-of_z w64 c.args.p c.ranges.p) at c.write_block.ensures.contents in
-    ap (contents c.args.setting.now c.args.block c.args.p) (refill_all c.set_len.new.samples.items c.write_block.new.samples (omega arith)) ∙ told
+    ap (block_data c.args.setting.now c.args.block c.args.p) (refill_all c.set_len.new.samples.items c.write_block.new.samples (omega arith)) ∙ told
 
 pub returns-clause-last : goal.returns-clause-last
 returns-clause-last c =

@@ -4,7 +4,7 @@ use Rattle.std.proofs.lemmas.List.Elements.{All-replicate}
 use Rattle.rice_samples.specs.Parameters.{IsSample}
 use Rattle.std.specs.List.{refill}
 use Rattle.std.proofs.lemmas.Int.{to_z-of_z}
-use Rattle.rice_code.specs.code.Blocks.{contents}
+use Rattle.rice_code.specs.code.Blocks.{block_data}
 use Rattle.rice_code.proofs.lemmas.decode.RestoredBlocks.{refill_all, zeros_restored}
 use Rattle.rice_code.proofs.decode.restoring.restore_zeros.Goals as goal
 
@@ -20,7 +20,7 @@ returns-clause-contents c =
     let all : refill (length old) old c.fill_all.new.samples ≡ replicate s.block x = whole ∙ (filled ∙ ap (λ n. replicate n x) count) in
     let some : 1 ≤ s.block = omega (arith, c.block.ensures.value, c.block.ensures.range) in
     let residual = rw (to_z-of_z w64 c.args.p c.ranges.p) at c.sample_of_zero-first.ensures.residual in
-    ap (contents s c.args.block c.args.p) all ∙ zeros_restored s c.args.block c.args.p x c.args.reference c.requires.reference some residual c.sample_of_zero-first.ensures.reference
+    ap (block_data s c.args.block c.args.p) all ∙ zeros_restored s c.args.block c.args.p x c.args.reference c.requires.reference some residual c.sample_of_zero-first.ensures.reference
 
 pub returns-clause-legal : goal.returns-clause-legal
 returns-clause-legal c =

@@ -5,7 +5,7 @@ use Rattle.std.proofs.lemmas.List.{take_all}
 use Rattle.std.proofs.lemmas.List.Elements.{All-cons}
 use Rattle.rice_samples.specs.Parameters.{IsSample}
 use Rattle.rice_samples.specs.predict.Residuals.{ranks}
-use Rattle.rice_code.specs.code.Blocks.{contents}
+use Rattle.rice_code.specs.code.Blocks.{block_data}
 use Rattle.rice_code.proofs.lemmas.decode.RestoredBlocks.{contents_of_patterns, contents_of_ranks, contents_behind, put_behind}
 use Rattle.rice_code.proofs.decode.restoring.write_block.Goals as goal
 
@@ -32,7 +32,7 @@ returns-in-Some-clause-contents c =
     let told = rw (to_z-of_z w64 x fits) at c.restore_all.ensures.ranks in
     let rest : ranks s x ys ≡ drop 1 ds = told ∙ all in
     rw (to_z-of_z w64 x fits, c.in-Some.is)
-    (ap (contents s c.args.block c.args.p) (put_behind c.args.samples.now ys x len)
+    (ap (block_data s c.args.block c.args.p) (put_behind c.args.samples.now ys x len)
     ∙ contents_behind s c.args.block c.args.p x c.in-Some.value ds ys form c.requires.form.len (c.requires.form.len ∙ sym c.requires.len ∙ len) first rest c.from_pattern-first.ensures.pattern)
 
 pub returns-in-None-clause-contents : goal.returns-in-None-clause-contents

@@ -1,16 +1,16 @@
 use Rattle.std.proofs.Common.{◌+◌, ◌++◌, ◌∙◌, ap, sym, false}
 use Rattle.rice_bits.specs.Bits.{word, fundamental_sequence}
 use Rattle.rice_samples.specs.Parameters.{id_len}
-use Rattle.rice_code.specs.code.CodedDataSets.{reference_text}
-use Rattle.rice_code.specs.encode.HeldBlocks.{sent_zeros}
+use Rattle.rice_code.specs.code.CodedDataSets.{reference_bits}
+use Rattle.rice_code.specs.encode.HeldBlocks.{zeros_of_run}
 use Rattle.rice_code.proofs.lemmas.encode.OptionBits.{word_flag_zero, flagged, run_text}
 use Rattle.rice_code.proofs.encode.options.put_run.Goals as goal
 
 pub returns-clause-bits : goal.returns-clause-bits
 returns-clause-bits c =
     let s = c.args.setting.now in
-    let ref = reference_text s c.args.reference in
-    let body = fundamental_sequence (sent_zeros c.args.to_end c.args.z) in
+    let ref = reference_bits s c.args.reference in
+    let body = fundamental_sequence (zeros_of_run c.args.to_end c.args.z) in
     let head = ap (λ n. word (n + 1) 0) c.id_len-id.ensures.value ∙ word_flag_zero (id_len s) in
     let one = ap (λ z. c.args.sink.now ++ z) head in
     let two = c.put.ensures.bits ∙ (c.begin-fields.ensures.bits ∙ ap (λ z. z ++ ref) one) in

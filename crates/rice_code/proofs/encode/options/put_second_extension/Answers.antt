@@ -3,14 +3,14 @@ use Rattle.std.specs.Prelude.{flat_map}
 use Rattle.rice_bits.specs.Bits.{word, fundamental_sequence}
 use Rattle.rice_samples.specs.Parameters.{id_len}
 use Rattle.rice_samples.specs.blocks.Pairs.{pair_codes}
-use Rattle.rice_code.specs.code.CodedDataSets.{reference_text}
+use Rattle.rice_code.specs.code.CodedDataSets.{reference_bits}
 use Rattle.rice_code.proofs.lemmas.encode.OptionBits.{word_flag, flagged}
 use Rattle.rice_code.proofs.encode.options.put_second_extension.Goals as goal
 
 pub returns-clause-bits : goal.returns-clause-bits
 returns-clause-bits c =
     let s = c.args.setting.now in
-    let ref = reference_text s c.args.reference in
+    let ref = reference_bits s c.args.reference in
     let body = flat_map fundamental_sequence (pair_codes c.args.block.now) in
     let head = ap (λ n. word (n + 1) 1) c.id_len-id.ensures.value ∙ word_flag (id_len s) in
     let one = ap (λ z. c.args.sink.now ++ z) head in

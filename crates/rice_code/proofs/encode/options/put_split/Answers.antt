@@ -2,7 +2,7 @@ use Rattle.std.proofs.Common.{◌≡◌, ℕ, ◌+◌, ◌/◌, ◌^◌, ◌++�
 use Rattle.std.specs.Prelude.{flat_map, sum_by}
 use Rattle.rice_bits.specs.Bits.{word, fundamental_sequence}
 use Rattle.rice_samples.specs.Parameters.{id_len}
-use Rattle.rice_code.specs.code.CodedDataSets.{reference_text, coded_from}
+use Rattle.rice_code.specs.code.CodedDataSets.{reference_bits, sent_from}
 use Rattle.rice_code.proofs.lemmas.encode.OptionBits.{four, no_digits, coded_len}
 use Rattle.rice_code.proofs.encode.options.put_split.Goals as goal
 
@@ -10,8 +10,8 @@ pub put_low-requires-clause-room : goal.put_low-requires-clause-room
 put_low-requires-clause-room c =
     let s = c.args.setting.now in
     let ds = c.args.block.now in
-    let f = coded_len ds (coded_from c.args.reference ds) c.first_coded-from.result c.args.k (c.first_coded-from.ensures.coded ds) in
-    let g = coded_len ds (coded_from c.args.reference ds) c.first_coded-from.result 1 (c.first_coded-from.ensures.coded ds) in
+    let f = coded_len ds (sent_from c.args.reference ds) c.first_coded-from.result c.args.k (c.first_coded-from.ensures.coded ds) in
+    let g = coded_len ds (sent_from c.args.reference ds) c.first_coded-from.result 1 (c.first_coded-from.ensures.coded ds) in
     let h = ap (sum_by (λ d. d / 2 ^ c.args.k)) (c.first_coded-from.ensures.coded ds) in
     omega (arith, f, g, h)
 
@@ -19,19 +19,19 @@ pub put_low-requires-clause-meter : goal.put_low-requires-clause-meter
 put_low-requires-clause-meter c =
     let s = c.args.setting.now in
     let ds = c.args.block.now in
-    let f = coded_len ds (coded_from c.args.reference ds) c.first_coded-from.result c.args.k (c.first_coded-from.ensures.coded ds) in
-    let g = coded_len ds (coded_from c.args.reference ds) c.first_coded-from.result 1 (c.first_coded-from.ensures.coded ds) in
+    let f = coded_len ds (sent_from c.args.reference ds) c.first_coded-from.result c.args.k (c.first_coded-from.ensures.coded ds) in
+    let g = coded_len ds (sent_from c.args.reference ds) c.first_coded-from.result 1 (c.first_coded-from.ensures.coded ds) in
     let h = ap (sum_by (λ d. d / 2 ^ c.args.k)) (c.first_coded-from.ensures.coded ds) in
     omega (arith, f, g, h, c.requires.sound.len)
 
 pub returns-clause-bits : goal.returns-clause-bits
 returns-clause-bits c =
     let s = c.args.setting.now in
-    let ref = reference_text s c.args.reference in
+    let ref = reference_bits s c.args.reference in
     let e = sym (c.first_coded-from.ensures.coded c.args.block.now) in
     let high = λ (ds : List ℕ). flat_map (λ d. fundamental_sequence (d / 2 ^ c.args.k)) ds in
     let low = λ (ds : List ℕ). flat_map (word c.args.k) ds in
-    let ds = coded_from c.args.reference c.args.block.now in
+    let ds = sent_from c.args.reference c.args.block.now in
     let one = ap (λ n. c.args.sink.now ++ word n (c.args.k + 1)) c.id_len-id.ensures.value in
     let two = c.begin-fields.ensures.bits ∙ ap (λ z. z ++ ref) one in
     let three = c.put_high.ensures.bits ∙ (λ i. two i ++ high (e i)) in
@@ -41,10 +41,10 @@ returns-clause-bits c =
 pub returns-then-k-eq0-clause-bits : goal.returns-then-k-eq0-clause-bits
 returns-then-k-eq0-clause-bits c =
     let s = c.args.setting.now in
-    let ref = reference_text s c.args.reference in
+    let ref = reference_bits s c.args.reference in
     let e = sym (c.first_coded-from.ensures.coded c.args.block.now) in
     let high = λ (ds : List ℕ). flat_map (λ d. fundamental_sequence (d / 2 ^ c.args.k)) ds in
-    let ds = coded_from c.args.reference c.args.block.now in
+    let ds = sent_from c.args.reference c.args.block.now in
     let one = ap (λ n. c.args.sink.now ++ word n (c.args.k + 1)) c.id_len-id.ensures.value in
     let two = c.begin-fields.ensures.bits ∙ ap (λ z. z ++ ref) one in
     let three = c.put_high.ensures.bits ∙ (λ i. two i ++ high (e i)) in
@@ -57,8 +57,8 @@ pub put-requires-clause-room : goal.put-requires-clause-room
 put-requires-clause-room c =
     let s = c.args.setting.now in
     let ds = c.args.block.now in
-    let f = coded_len ds (coded_from c.args.reference ds) c.first_coded-from.result c.args.k (c.first_coded-from.ensures.coded ds) in
-    let g = coded_len ds (coded_from c.args.reference ds) c.first_coded-from.result 1 (c.first_coded-from.ensures.coded ds) in
+    let f = coded_len ds (sent_from c.args.reference ds) c.first_coded-from.result c.args.k (c.first_coded-from.ensures.coded ds) in
+    let g = coded_len ds (sent_from c.args.reference ds) c.first_coded-from.result 1 (c.first_coded-from.ensures.coded ds) in
     let h = ap (sum_by (λ d. d / 2 ^ c.args.k)) (c.first_coded-from.ensures.coded ds) in
     omega (arith, f, g, h)
 
@@ -66,8 +66,8 @@ pub put-requires-clause-meter : goal.put-requires-clause-meter
 put-requires-clause-meter c =
     let s = c.args.setting.now in
     let ds = c.args.block.now in
-    let f = coded_len ds (coded_from c.args.reference ds) c.first_coded-from.result c.args.k (c.first_coded-from.ensures.coded ds) in
-    let g = coded_len ds (coded_from c.args.reference ds) c.first_coded-from.result 1 (c.first_coded-from.ensures.coded ds) in
+    let f = coded_len ds (sent_from c.args.reference ds) c.first_coded-from.result c.args.k (c.first_coded-from.ensures.coded ds) in
+    let g = coded_len ds (sent_from c.args.reference ds) c.first_coded-from.result 1 (c.first_coded-from.ensures.coded ds) in
     let h = ap (sum_by (λ d. d / 2 ^ c.args.k)) (c.first_coded-from.ensures.coded ds) in
     omega (arith, f, g, h, c.requires.sound.len)
 
@@ -75,8 +75,8 @@ pub put-requires-2-clause-room : goal.put-requires-2-clause-room
 put-requires-2-clause-room c =
     let s = c.args.setting.now in
     let ds = c.args.block.now in
-    let f = coded_len ds (coded_from c.args.reference ds) c.first_coded-from.result c.args.k (c.first_coded-from.ensures.coded ds) in
-    let g = coded_len ds (coded_from c.args.reference ds) c.first_coded-from.result 1 (c.first_coded-from.ensures.coded ds) in
+    let f = coded_len ds (sent_from c.args.reference ds) c.first_coded-from.result c.args.k (c.first_coded-from.ensures.coded ds) in
+    let g = coded_len ds (sent_from c.args.reference ds) c.first_coded-from.result 1 (c.first_coded-from.ensures.coded ds) in
     let h = ap (sum_by (λ d. d / 2 ^ c.args.k)) (c.first_coded-from.ensures.coded ds) in
     omega (arith, f, g, h)
 
@@ -84,7 +84,7 @@ pub put-requires-2-clause-meter : goal.put-requires-2-clause-meter
 put-requires-2-clause-meter c =
     let s = c.args.setting.now in
     let ds = c.args.block.now in
-    let f = coded_len ds (coded_from c.args.reference ds) c.first_coded-from.result c.args.k (c.first_coded-from.ensures.coded ds) in
-    let g = coded_len ds (coded_from c.args.reference ds) c.first_coded-from.result 1 (c.first_coded-from.ensures.coded ds) in
+    let f = coded_len ds (sent_from c.args.reference ds) c.first_coded-from.result c.args.k (c.first_coded-from.ensures.coded ds) in
+    let g = coded_len ds (sent_from c.args.reference ds) c.first_coded-from.result 1 (c.first_coded-from.ensures.coded ds) in
     let h = ap (sum_by (λ d. d / 2 ^ c.args.k)) (c.first_coded-from.ensures.coded ds) in
     omega (arith, f, g, h, c.requires.sound.len)

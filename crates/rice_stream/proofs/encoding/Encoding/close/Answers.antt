@@ -1,7 +1,7 @@
 use Rattle.std.proofs.Common.{arith, ◌≡◌, ◌+◌, refl, subst}
 use Rattle.rice_samples.specs.Parameters.{Parameters}
 use Rattle.rice_code.specs.code.Code.{code_bits}
-use Rattle.rice_code.specs.encode.Coder.{settled}
+use Rattle.rice_code.specs.encode.Coder.{complete_samples}
 use Rattle.rice_stream.specs.declared.outcome.Report.{Report}
 use Rattle.rice_stream.proofs.lemmas.EncodingLemmas.{Total, all_small, counts_small, sink_short, sink_place, closed}
 use Rattle.rice_stream.proofs.encoding.Encoding.close.Goals as goal
@@ -17,7 +17,7 @@ overflow_add-report c =
     let s = c.requires.0 in
     let xs = c.requires.3 in
     let k = c.requires.4.counts in
-    let same = subst (λ (t : Parameters). code_bits t xs ≡ code_bits t (settled t xs) + c.finish-bits.result) k.setting (c.finish-bits.ensures.bits xs k.stands) in
+    let same = subst (λ (t : Parameters). code_bits t xs ≡ code_bits t (complete_samples t xs) + c.finish-bits.result) k.setting (c.finish-bits.ensures.bits xs k.stands) in
     omega (arith, all_small s c.args.self.coder xs k.setting k.stands, same, k.bits, c.requires.5)
 
 pub returns : goal.returns

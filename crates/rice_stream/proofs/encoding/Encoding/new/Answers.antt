@@ -4,7 +4,7 @@ use Rattle.std.proofs.KnownBytes.{Appends-nil}
 use Rattle.rice_bits.specs.Bits.{bits_in_bytes, whole_bytes}
 use Rattle.rice_samples.specs.Parameters.{IsLegal}
 use Rattle.rice_code.specs.code.Code.{code, code_bits}
-use Rattle.rice_code.specs.encode.Coder.{settled}
+use Rattle.rice_code.specs.encode.Coder.{complete_samples}
 use Rattle.rice_code.specs.Steps.{least_steps, most_steps}
 use Rattle.rice_stream.proofs.lemmas.EncodingLemmas.{settled_nothing, code_nothing, sets_nothing}
 use Rattle.rice_stream.proofs.encoding.Encoding.new.Goals as goal
@@ -17,9 +17,9 @@ returns c now =
     let j : 1 ≤ s.block = grind (arith, legal.block) in
     let none = ap (code s) (settled_nothing s) ∙ code_nothing s j in
     let steps = sets_nothing s j in
-    let bits : code_bits s (settled s []) ≡ 0 = ap (code_bits s) (settled_nothing s) ∙ steps.0 in
-    let least : least_steps s (settled s []) ≡ 0 = ap (least_steps s) (settled_nothing s) ∙ steps.1 in
-    let most : most_steps s (settled s []) ≡ 0 = ap (most_steps s) (settled_nothing s) ∙ steps.2 in
+    let bits : code_bits s (complete_samples s []) ≡ 0 = ap (code_bits s) (settled_nothing s) ∙ steps.0 in
+    let least : least_steps s (complete_samples s []) ≡ 0 = ap (least_steps s) (settled_nothing s) ∙ steps.1 in
+    let most : most_steps s (complete_samples s []) ≡ 0 = ap (most_steps s) (settled_nothing s) ∙ steps.2 in
     record {
       counts = record { setting = c.new.ensures.setting; stands = c.new.ensures.stands; samples = refl; bits = sym bits; least = omega (arith, c.new-3.ensures, least); most = omega (arith, c.new-3.ensures, most) };
       sink = c.new-2.ensures ∙ ap (λ l. drop (bits_in_bytes (length l)) l) (sym none);

@@ -4,7 +4,7 @@ use Rattle.std.proofs.Math.Nat.{div-add-mod, mod-lt, mul-le-mul_left}
 use Rattle.std.proofs.lemmas.List.{length-take, take-append-le}
 use Rattle.rice_samples.specs.Parameters.{IsSample, width}
 use Rattle.rice_samples.specs.bytes.Spelling.{spellings}
-use Rattle.rice_stream.specs.EncodingState.{Holds, FailsIn}
+use Rattle.rice_stream.specs.EncodingState.{IsEncodingOf, FailsIn}
 use Rattle.rice_stream.proofs.lemmas.EncodingLemmas.{first_of, behind_them, fails_among}
 use Rattle.rice_stream.proofs.encoding.Encoding.push_all.Goals as goal
 
@@ -72,7 +72,7 @@ returns-then-found-count-clause-did g c old xs h =
         rest = drop (width s * f.result) bytes;
         reads = first_of s bytes count f.result (take f.result zs) (omega (arith, few)) spelled f.ensures.legal;
         none = (behind.0, λ x k e. none x k (there ∙ e));
-        holds = subst (λ (l : List ℤ). Holds s old new c.push_each.new.self (xs ++ l)) slice (c.in-Ok.ensures.ok s old xs h);
+        holds = subst (λ (l : List ℤ). IsEncodingOf s old new c.push_each.new.self (xs ++ l)) slice (c.in-Ok.ensures.ok s old xs h);
       },
       refl,
     )
@@ -96,5 +96,5 @@ returns-clause-did g c old xs h =
       rest = drop (width s * f.result) bytes;
       reads = first_of s bytes count f.result (take f.result zs) few spelled f.ensures.legal;
       few = omega (arith, length-drop (width s * f.result) bytes, size, whole.2);
-      holds = subst (λ (l : List ℤ). Holds s old new c.push_each.new.self (xs ++ l)) slice (c.in-Ok.ensures.ok s old xs h);
+      holds = subst (λ (l : List ℤ). IsEncodingOf s old new c.push_each.new.self (xs ++ l)) slice (c.in-Ok.ensures.ok s old xs h);
     }

@@ -4,7 +4,7 @@ use Rattle.std.proofs.Math.Seq.{take-add, take-length}
 use Rattle.std.proofs.lemmas.List.{length-take-le}
 use Rattle.std.proofs.lemmas.List.Elements.{All-drop}
 use Rattle.rice_samples.specs.Parameters.{IsSample}
-use Rattle.rice_stream.specs.EncodingState.{Holds, FailsIn}
+use Rattle.rice_stream.specs.EncodingState.{IsEncodingOf, FailsIn}
 use Rattle.rice_stream.proofs.lemmas.EncodingLemmas.{fails_later}
 use Rattle.rice_stream.proofs.encoding.Encoding.push_each.Goals as goal
 
@@ -15,7 +15,7 @@ from at samples = ap (λ n. take n (drop at samples)) (sym (length-drop at sampl
 pub loop-at-init : goal.loop-at-init
 loop-at-init g c = record {
   within = omega arith;
-  holds = λ s old xs h. subst (λ (l : List ℤ). Holds s old (g.O.Outlet.taken c.args.outlet.now) c.args.self.now l) (sym (append-nil xs)) h;
+  holds = λ s old xs h. subst (λ (l : List ℤ). IsEncodingOf s old (g.O.Outlet.taken c.args.outlet.now) c.args.self.now l) (sym (append-nil xs)) h;
   failures = refl;
 }
 
@@ -50,7 +50,7 @@ loop-at-preserved g c =
     record {
       within = omega (arith, i.within, c.in-Ok.ensures.count.1, ap length (from at samples), length-drop at samples);
       holds = λ s old xs h. (let same : (xs ++ take at samples) ++ take n (take (length samples - at) (drop at samples)) ≡ xs ++ take (at + n) samples = ap (λ l. (xs ++ take at samples) ++ take n l) (from at samples) ∙ append_assoc xs (take at samples) (take n (drop at samples)) ∙ ap (λ l. xs ++ l) (sym (take-add at n samples)) in
-          subst (λ (l : List ℤ). Holds s old new c.push.new.self l) same (c.in-Ok.ensures.ok s old (xs ++ take at samples) (i.holds s old xs h)));
+          subst (λ (l : List ℤ). IsEncodingOf s old new c.push.new.self l) same (c.in-Ok.ensures.ok s old (xs ++ take at samples) (i.holds s old xs h)));
       failures = c.in-Ok.ensures.calm ∙ i.failures;
     }
 
@@ -60,4 +60,4 @@ returns-clause-ok g c s old xs h =
     let samples = c.args.samples.now in
     let i = c.loop-at.invariant in
     let all : at ≡ length samples = omega (arith, i.within, c.loop-at-test.false) in
-    subst (λ (l : List ℤ). Holds s old (g.O.Outlet.taken c.loop-at.outlet) c.loop-at.self (xs ++ l)) (ap (λ n. take n samples) all ∙ take-length samples) (i.holds s old xs h)
+    subst (λ (l : List ℤ). IsEncodingOf s old (g.O.Outlet.taken c.loop-at.outlet) c.loop-at.self (xs ++ l)) (ap (λ n. take n samples) all ∙ take-length samples) (i.holds s old xs h)

@@ -3,7 +3,7 @@ use Rattle.std.specs.Prelude.{All}
 use Rattle.std.proofs.lemmas.List.{length-take-le, take-take}
 use Rattle.rice_samples.specs.Parameters.{Parameters, IsSample}
 use Rattle.rice_code.specs.code.Code.{code_bits}
-use Rattle.rice_code.specs.encode.Coder.{settled}
+use Rattle.rice_code.specs.encode.Coder.{complete_samples}
 use Rattle.rice_stream.proofs.lemmas.EncodingLemmas.{Tally, counts_small, early_small, sink_short, sink_place, taken_on}
 use Rattle.rice_stream.proofs.encoding.Encoding.take.Goals as goal
 
@@ -27,7 +27,7 @@ overflow_add-self-2 c =
     let zs = take p.result.samples c.args.samples.now in
     let ys = xs ++ zs in
     let t = c.args.self.now.coder.setting in
-    let same = subst (λ (t : Parameters). code_bits t (settled t ys) ≡ code_bits t (settled t xs) + p.result.bits) k.setting (p.ensures.bits xs k.stands) in
+    let same = subst (λ (t : Parameters). code_bits t (complete_samples t ys) ≡ code_bits t (complete_samples t xs) + p.result.bits) k.setting (p.ensures.bits xs k.stands) in
     let small = early_small c.requires.ready.0 p.new.self ys (p.ensures.setting ∙ k.setting) (p.ensures.stands xs k.stands) in
     let len = length-take-le p.result.samples c.args.samples.now p.ensures.taken in
     omega (arith, small, same, k.bits, c.requires.ready.6, length-append xs zs, len, p.ensures.taken)
@@ -46,6 +46,6 @@ returns-clause-took c s old now xs h =
       most = omega (arith, p.ensures.steps_to xs stands, len);
       bits = omega (arith, p.ensures.bits xs stands);
     } in
-    let before : (m : ℕ) → m < length zs → settled e.coder.setting (xs ++ take m zs) ≡ settled e.coder.setting xs =
-    λ m lt. ap (λ l. settled e.coder.setting (xs ++ l)) (take-take m n samples (omega (arith, lt, len))) ∙ p.ensures.before_last xs stands m (omega (arith, lt, len)) in
+    let before : (m : ℕ) → m < length zs → complete_samples e.coder.setting (xs ++ take m zs) ≡ complete_samples e.coder.setting xs =
+    λ m lt. ap (λ l. complete_samples e.coder.setting (xs ++ l)) (take-take m n samples (omega (arith, lt, len))) ∙ p.ensures.before_last xs stands m (omega (arith, lt, len)) in
     taken_on s old now e _ xs zs h p.ensures.setting (p.ensures.stands xs stands) (p.ensures.code xs stands (sink_place s old now e xs h)) tally (ap (λ m. e.samples + m) (sym len)) before

@@ -1,5 +1,5 @@
 use Rattle.std.proofs.Common.{List, ℕ, subst, sym, None, pos}
-use Rattle.rice_code.specs.encode.Coder.{IsOpen}
+use Rattle.rice_code.specs.encode.OpenSegment.{IsOpen}
 use Rattle.rice_code.proofs.lemmas.encode.OpenSegments.{empty_open}
 use Rattle.rice_code.proofs.encode.open_segment.OpenSegment.new.Goals as goal
 

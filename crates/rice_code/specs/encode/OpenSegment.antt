@@ -1,0 +1,100 @@
+-- What a coder holds of the segment that it fills: its residuals, and how each call changes it.
+use Rattle.std.specs.Prelude.{◌≡◌, ℕ, ◌+◌, ◌-◌, ◌*◌, ◌/◌, ◌%◌, ◌<◌, ◌≤◌, Bool, true, false, ◌&&◌, ◌==◌, if◌then◌else◌, List, [], ◌∷◌, ◌++◌, length, take, replicate, Option, Some, None, IfSome, ℤ, pos}
+use Rattle.std.specs.List.{AllByRecursion}
+use Rattle.rice_samples.specs.Parameters.{Parameters, IsLegal, IsSample, value_count}
+use Rattle.rice_samples.specs.Places.{place, begins_segment, is_reference, blocks_left, cut}
+use Rattle.rice_samples.specs.predict.Residuals.{pattern, rank, residuals, last_of}
+use Rattle.rice_code.specs.code.Blocks.{BlockData}
+use Rattle.rice_code.specs.code.Code.{code, data_sets}
+use Rattle.rice_code.specs.code.CodedDataSets.{CodedDataSet}
+use Rattle.rice_code.specs.encode.HeldBlocks.{held_blocks}
+use Rattle.rice_code.specs.code.Layout.{layout}
+
+-- the residuals of the segment so far and its reference, the sample before the next, and the place at which the segment begins
+pub record CoderState : Type 0 where
+  pub setting : Parameters
+  pub residuals : List ℕ
+  pub reference : Option ℕ
+  pub previous : ℤ
+  pub start : ℕ
+
+-- what is so of what each coder holds, whose segment is whole with so many residuals
+pub record IsOpen (coder : CoderState) (end : ℕ) : Type 0 where
+  pub legal : IsLegal coder.setting
+  pub place : place coder.setting coder.start ≡ coder.start
+  pub begins : begins_segment coder.setting coder.start ≡ true
+  pub few : length coder.residuals ≤ coder.setting.block * blocks_left coder.setting coder.start
+  pub previous : IsSample coder.setting coder.previous
+  pub reference : IfSome coder.reference (λ v. v < value_count coder.setting)
+  pub ends : end ≡ coder.setting.block * blocks_left coder.setting coder.start
+
+-- the segment is whole
+abbrev pub IsWhole : CoderState → Type 0
+IsWhole coder = length coder.residuals ≡ coder.setting.block * blocks_left coder.setting coder.start
+
+abbrev pub is_empty : List ℕ → Bool
+is_empty [] = true
+is_empty (d ∷ ds) = false
+
+-- a coder that holds nothing
+abbrev pub empty_state : Parameters → CoderState
+empty_state s = record { setting = s; residuals = []; reference = None; previous = pos 0; start = 0 }
+
+-- no sample is held, and an interval begins
+abbrev pub is_first : CoderState → Bool
+is_first coder = is_empty coder.residuals && coder.start == 0
+
+-- what the coder holds when it takes one sample more
+abbrev pub next_residual : CoderState → ℤ → ℕ
+next_residual coder x = if coder.setting.preprocess then (if is_first coder then 0 else rank coder.setting coder.previous x) else pattern coder.setting x
+
+abbrev pub next_reference : CoderState → ℤ → Option ℕ
+next_reference coder x = if coder.setting.preprocess && is_first coder then Some (pattern coder.setting x) else coder.reference
+
+abbrev pub state_after : CoderState → ℤ → CoderState
+state_after coder x = record { setting = coder.setting; residuals = coder.residuals ++ next_residual coder x ∷ []; reference = next_reference coder x; previous = x; start = coder.start }
+
+-- and several: their residuals, of which only the first can be at a reference place, and the reference
+abbrev pub later_residuals : Parameters → ℤ → List ℤ → List ℕ
+later_residuals s p [] = []
+later_residuals s p (x ∷ xs) = (if s.preprocess then rank s p x else pattern s x) ∷ later_residuals s x xs
+
+abbrev pub next_residuals : CoderState → List ℤ → List ℕ
+next_residuals coder [] = []
+next_residuals coder (x ∷ xs) = next_residual coder x ∷ later_residuals coder.setting x xs
+
+abbrev pub next_references : CoderState → List ℤ → Option ℕ
+next_references coder [] = coder.reference
+next_references coder (x ∷ xs) = next_reference coder x
+
+abbrev pub state_after_all : CoderState → List ℤ → CoderState
+state_after_all coder xs = record { setting = coder.setting; residuals = coder.residuals ++ next_residuals coder xs; reference = next_references coder xs; previous = last_of coder.previous xs; start = coder.start }
+
+-- and when its last block is filled with so many samples
+abbrev pub state_with_fill : CoderState → ℕ → CoderState
+state_with_fill coder n = record { setting = coder.setting; residuals = coder.residuals ++ replicate n (next_residual coder coder.previous); reference = coder.reference; previous = coder.previous; start = coder.start }
+
+abbrev pub fill_count : CoderState → ℕ
+fill_count coder = (coder.setting.block - length coder.residuals % coder.setting.block) % coder.setting.block
+
+-- what it holds behind a whole segment
+abbrev pub next_start : CoderState → ℕ
+next_start coder = let next = coder.start + blocks_left coder.setting coder.start in if next == coder.setting.interval then 0 else next
+
+abbrev pub state_after_segment : CoderState → CoderState
+state_after_segment coder = record { setting = coder.setting; residuals = []; reference = None; previous = coder.previous; start = next_start coder }
+
+-- the blocks that it holds,
+abbrev pub blocks_held : CoderState → ℕ
+blocks_held coder = length coder.residuals / coder.setting.block
+
+abbrev pub contents_held : CoderState → List BlockData
+contents_held coder = held_blocks coder.setting coder.reference (blocks_held coder) coder.residuals
+
+-- and their coded data sets
+abbrev pub sets_held : CoderState → List CodedDataSet
+sets_held coder = data_sets coder.setting coder.start false (contents_held coder)
+
+-- as they lie behind so many bits
+abbrev pub code_held : CoderState → ℕ → List Bool
+code_held coder position = layout coder.setting (coder.start + blocks_held coder) coder.start position (sets_held coder)
