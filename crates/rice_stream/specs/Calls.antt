@@ -1,9 +1,9 @@
 -- What passes between an engine and its devices in one call, and what the engine says of it.
-use Rattle.std.specs.Prelude.{◌≡◌, ◌≢◌, ℕ, ◌+◌, List, [], ◌∷◌, ◌++◌, length, Option, Some}
+use Rattle.std.specs.Prelude.{◌≡◌, ◌≢◌, ℕ, ◌+◌, ◌≤◌, List, [], ◌∷◌, ◌++◌, length, Option, Some, ⊤}
 use Rattle.std.specs.Io.KnownBytes.{Appends, Consumes}
 use Rattle.rice_stream.specs.declared.outcome.Report.{Report}
 use Rattle.rice_stream.specs.declared.outcome.Fault.{Fault}
-use Rattle.rice_stream.specs.declared.outcome.Fault.TheVariants.{Read, Write}
+use Rattle.rice_stream.specs.declared.outcome.Fault.TheVariants.{Read, Write, TooLong}
 
 -- One call: the bytes that the intake gave, those that it has left, and the bytes that the outlet took.
 pub record Call : Type 0 where
@@ -42,3 +42,8 @@ pub record PassesLimit (limit : ℕ) (given front : List ℕ) : Type 0 where
   pub last : ℕ
   pub split : given ≡ front ++ last ∷ []
   pub full : length front ≡ limit
+
+-- only the fault that says so comes after more bytes than the limit
+abbrev pub IsWithinLimit : ℕ → Option Fault → List ℕ → Type 0
+IsWithinLimit limit (Some TooLong) given = ⊤
+IsWithinLimit limit _ given = length given ≤ limit

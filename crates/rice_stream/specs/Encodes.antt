@@ -5,8 +5,9 @@ use Rattle.rice_samples.specs.Parameters.{Parameters, IsSample, width}
 use Rattle.rice_samples.specs.bytes.Spelling.{Spells, spellings, SpellingEnd, AtEnd, NoSpelling, TooFew}
 use Rattle.rice_code.specs.Bounds.{bit_bound, step_bound, amortised_step_bound}
 use Rattle.rice_code.specs.code.Code.{code_bits, output, early_output}
-use Rattle.rice_code.specs.encode.Coder.{complete_samples}
-use Rattle.rice_stream.specs.Calls.{Call, Leaves, StopsBetween, PassesLimit}
+use Rattle.rice_code.specs.Steps.{least_steps, most_steps}
+use Rattle.rice_code.specs.encode.Coder.{complete_samples, fill_samples}
+use Rattle.rice_stream.specs.Calls.{Call, StopsBetween, PassesLimit, IsWithinLimit}
 use Rattle.rice_stream.specs.declared.outcome.Report.{Report}
 use Rattle.rice_stream.specs.declared.outcome.Fault.{Fault}
 use Rattle.rice_stream.specs.declared.outcome.Fault.TheVariants.{Read, Write, TooLong, SampleOutOfRange, SampleCut}
@@ -17,44 +18,70 @@ pub record BeginsWith (s : Parameters) (bytes : List ℕ) (samples : List ℤ) :
   pub split : bytes ≡ spellings s samples ++ rest
   pub legal : All (IsSample s) samples
 
-module _ (s : Parameters) where
-  -- the samples are coded up to the last one
-  abbrev pub LeavesAll : Call → Report → List ℤ → Type 0
-  LeavesAll c r xs = Leaves c r (output s xs) (length xs) (code_bits s xs)
+-- the report of samples of which those of the complete segments are coded
+pub record ReportsTaken (s : Parameters) (r : Report) (xs : List ℤ) : Type 0 where
+  pub samples : r.samples ≡ length xs
+  pub bits : r.bits ≡ code_bits s (complete_samples s xs)
+  pub least : length xs + least_steps s (complete_samples s xs) ≤ r.steps
+  pub most : r.steps ≤ length xs + most_steps s (complete_samples s xs)
 
-  -- the samples are coded as far as they make whole segments
-  abbrev pub LeavesEarly : Call → Report → List ℤ → Type 0
-  LeavesEarly c r xs = Leaves c r (early_output s xs) (length xs) (code_bits s (complete_samples s xs))
+-- the report of samples that are all coded, with those that fill the last block
+pub record ReportsAll (s : Parameters) (r : Report) (xs : List ℤ) : Type 0 where
+  pub samples : r.samples ≡ length xs
+  pub bits : r.bits ≡ code_bits s xs
+  pub least : length xs + fill_samples s xs + least_steps s xs ≤ r.steps
+  pub most : r.steps ≤ length xs + fill_samples s xs + most_steps s xs
+
+module _ (s : Parameters) where
+  -- the code of all samples is written
+  pub record LeavesAll (c : Call) (r : Report) (xs : List ℤ) : Type 0 where
+    pub written : c.written ≡ output s xs
+    pub reports : ReportsAll s r xs
+
+  -- the whole bytes of the code of the complete segments are written
+  pub record LeavesEarly (c : Call) (r : Report) (xs : List ℤ) : Type 0 where
+    pub written : c.written ≡ early_output s xs
+    pub reports : ReportsTaken s r xs
 
   -- The outlet failed behind the last of these samples: all before it is written, and not all that it completes.
   pub record FailsBehind (c : Call) (r : Report) (xs : List ℤ) : Type 0 where
     pub given : BeginsWith s c.given xs
     pub some : 1 ≤ length xs
-    pub samples : r.samples ≡ length xs
-    pub bits : r.bits ≡ code_bits s (complete_samples s xs)
+    pub reports : ReportsTaken s r xs
     pub stops : StopsBetween (early_output s (take (length xs - 1) xs)) (early_output s xs) c.written
 
   -- The outlet failed at the end of these samples: all before it is written, and not all of the code.
   pub record FailsAtEnd (c : Call) (r : Report) (xs : List ℤ) : Type 0 where
     pub given : Spells s c.given xs AtEnd
     pub end : IsAtEnd c.left
-    pub samples : r.samples ≡ length xs
-    pub bits : r.bits ≡ code_bits s xs
+    pub reports : ReportsAll s r xs
     pub stops : StopsBetween (early_output s xs) (output s xs) c.written
+
+  -- the samples of the bytes, after which at most a part of one more is left
+  abbrev pub SpellsSoFar : List ℕ → List ℤ → Type 0
+  SpellsSoFar bytes xs = (stop : SpellingEnd) × Spells s bytes xs stop × (stop ≢ NoSpelling)
 
   -- The outcome for the samples xs. Without a fault these are all that were given, and their code is written.
   abbrev pub EndsEncoding : Option Fault → Call → Report → List ℤ → Type 0
-  EndsEncoding None c r xs = Spells s c.given xs AtEnd × IsAtEnd c.left × (length c.given ≤ 2 ^ 48) × LeavesAll c r xs
-  EndsEncoding (Some (SampleOutOfRange index)) c r xs = Spells s c.given xs NoSpelling × (index ≡ length xs) × LeavesEarly c r xs
-  EndsEncoding (Some (SampleCut index)) c r xs = Spells s c.given xs TooFew × IsAtEnd c.left × (index ≡ length xs) × LeavesEarly c r xs
-  EndsEncoding (Some Read) c r xs = ((stop : SpellingEnd) × Spells s c.given xs stop × (stop ≢ NoSpelling)) × LeavesEarly c r xs
-  EndsEncoding (Some TooLong) c r xs = ((front : List ℕ) × (stop : SpellingEnd) × PassesLimit (2 ^ 48) c.given front × Spells s front xs stop × (stop ≢ NoSpelling)) × LeavesEarly c r xs
-  EndsEncoding (Some Write) c r xs = (length c.given < r.samples * width s + 4096) × (FailsBehind c r xs ⊎ FailsAtEnd c r xs)
+  EndsEncoding None c r xs = Spells s c.given xs AtEnd × IsAtEnd c.left × LeavesAll c r xs
+  EndsEncoding (Some (SampleOutOfRange index)) c r xs =
+      Spells s c.given xs NoSpelling × (index ≡ length xs) × LeavesEarly c r xs
+  EndsEncoding (Some (SampleCut index)) c r xs =
+      Spells s c.given xs TooFew × IsAtEnd c.left × (index ≡ length xs) × LeavesEarly c r xs
+  EndsEncoding (Some Read) c r xs = SpellsSoFar c.given xs × LeavesEarly c r xs
+  EndsEncoding (Some TooLong) c r xs =
+      ((front : List ℕ) × PassesLimit (2 ^ 48) c.given front × SpellsSoFar front xs) × LeavesEarly c r xs
+  EndsEncoding (Some Write) c r xs =
+      (length c.given < r.samples * width s + 4096) × (FailsBehind c r xs ⊎ FailsAtEnd c r xs)
   EndsEncoding (Some _) c r xs = ⊥
 
-  -- what the call did, for each outcome
-  abbrev pub Encodes : Call → Report → Option Fault → Type 0
-  Encodes c r fault = (xs : List ℤ) × EndsEncoding fault c r xs
+  -- What the call did, for each outcome.
+  pub record Encodes (c : Call) (r : Report) (fault : Option Fault) : Type 0 where
+    pub samples : List ℤ
+    pub ends : EndsEncoding fault c r samples
+    pub limit : IsWithinLimit (2 ^ 48) fault c.given
+    -- one read gives at most 4,096 bytes, and its samples are taken before the next
+    pub ahead : length c.given ≤ r.samples * width s + 4096
 
 -- the report's bounds, at every exit
 pub record EncodesWithin (s : Parameters) (r : Report) : Type 0 where

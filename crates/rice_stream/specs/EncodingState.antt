@@ -6,10 +6,9 @@ use Rattle.rice_samples.specs.Parameters.{Parameters, IsSample, width}
 use Rattle.rice_samples.specs.bytes.Spelling.{spellings, EndsSpelling, NoSpelling}
 use Rattle.rice_stream.specs.Calls.{StopsBetween}
 use Rattle.rice_code.specs.code.Code.{code_bits, output, early_output}
-use Rattle.rice_code.specs.encode.Coder.{HasTaken, complete_samples, complete_code, fill_samples}
+use Rattle.rice_code.specs.encode.Coder.{HasTaken, complete_samples, complete_code}
 use Rattle.rice_code.specs.Steps.{least_steps, most_steps}
 use Rattle.rice_stream.specs.declared.encoding.Encoding.{Encoding}
-use Rattle.rice_stream.specs.declared.outcome.Report.{Report}
 use Rattle.rice_stream.specs.declared.outcome.Fault.{Fault}
 use Rattle.rice_stream.specs.declared.outcome.Fault.TheVariants.{Write, SampleOutOfRange}
 
@@ -17,7 +16,7 @@ use Rattle.rice_stream.specs.declared.outcome.Fault.TheVariants.{Write, SampleOu
 abbrev pub whole_part : List Bool → List Bool
 whole_part bits = take (bits_in_bytes (length bits)) bits
 
--- an encoding has taken the samples
+-- an encoding has taken the samples, and counts them
 pub record CountsSamples (s : Parameters) (e : Encoding) (xs : List ℤ) : Type 0 where
   pub setting : e.coder.setting ≡ s
   pub stands : HasTaken e.coder xs
@@ -31,6 +30,15 @@ pub record IsEncodingOf (s : Parameters) (old new : Option (List ℕ)) (e : Enco
   pub counts : CountsSamples s e xs
   pub sink : e.sink ≡ drop (bits_in_bytes (length (complete_code s xs))) (complete_code s xs)
   pub took : Appends old new (early_output s xs)
+
+-- an encoding whose code an outlet has taken so far can take these samples too
+pub record CanTake (taken : Option (List ℕ)) (e : Encoding) (samples : List ℤ) : Type 0 where
+  pub setting : Parameters
+  pub start : Option (List ℕ)
+  pub before : List ℤ
+  pub holds : IsEncodingOf setting start taken e before
+  pub legal : All (IsSample setting) samples
+  pub few : length before + length samples ≤ 2 ^ 48
 
 -- An encoding that held xs has taken these samples too. Only the last of them can have made a segment whole.
 pub record TakesSamples (s : Parameters) (e : Encoding) (xs more : List ℤ) : Type 0 where
@@ -56,20 +64,6 @@ pub record FailsIn (s : Parameters) (old new : Option (List ℕ)) (e : Encoding)
   pub behind : List ℤ
   pub split : samples ≡ before ++ last ∷ behind
   pub fails : FailsAt s old new e (xs ++ before) last
-
--- the report of all samples
-pub record ReportsAll (s : Parameters) (r : Report) (xs : List ℤ) : Type 0 where
-  pub samples : r.samples ≡ length xs
-  pub bits : r.bits ≡ code_bits s xs
-  pub least : length xs + fill_samples s xs + least_steps s xs ≤ r.steps
-  pub most : r.steps ≤ length xs + fill_samples s xs + most_steps s xs
-
--- the report of samples so far
-pub record ReportsTaken (s : Parameters) (r : Report) (xs : List ℤ) : Type 0 where
-  pub samples : r.samples ≡ length xs
-  pub bits : r.bits ≡ code_bits s (complete_samples s xs)
-  pub least : length xs + least_steps s (complete_samples s xs) ≤ r.steps
-  pub most : r.steps ≤ length xs + most_steps s (complete_samples s xs)
 
 -- an outlet has taken the code of all samples, or not all of it
 abbrev pub WritesRest : Parameters → Option (List ℕ) → Option (List ℕ) → List ℤ → Option Fault → Type 0

@@ -5,8 +5,8 @@ ghost use Rattle.rice_bits.specs.device.Device.{CountsFailure};
 ghost use Rattle.rice_bits.specs.Bits.{bits_in_bytes, padded_bits};
 ghost use Rattle.rice_samples.specs.Parameters.{Parameters, IsSample, width};
 ghost use Rattle.rice_stream.specs.Calls.{Call, Happens, Fails};
-ghost use Rattle.rice_stream.specs.Encodes.{Encodes, EncodesWithin};
-ghost use Rattle.rice_stream.specs.EncodingState.{whole_part, Refills, TakesSamples, CountsSamples, IsEncodingOf, FailsIn, ReportsTaken, ReportsAll, WritesRest, Pushes, PushFails};
+ghost use Rattle.rice_stream.specs.Encodes.{Encodes, EncodesWithin, ReportsTaken, ReportsAll};
+ghost use Rattle.rice_stream.specs.EncodingState.{whole_part, CanTake, Refills, TakesSamples, CountsSamples, IsEncodingOf, FailsIn, WritesRest, Pushes, PushFails};
 ghost use Rattle.rice_code.specs.code.Code.{code};
 ghost use Rattle.rice_code.specs.encode.Coder.{complete_code};
 
@@ -49,7 +49,7 @@ impl Encoding {
     /// Takes samples up to the one that makes a segment whole, or all of them. Answers how many.
     #[inline]
     fn take(&mut self, samples: &[i64]) -> usize
-        requires ready { (s : Parameters) × (old : Option (List ℕ)) × (now : Option (List ℕ)) × (xs : List ℤ) × IsEncodingOf s old now self.old xs × All (IsSample s) samples.now × (length xs + length samples.now ≤ 2 ^ 48) }
+        requires ready { (now : Option (List ℕ)) × CanTake now self.old samples.now }
         ensures count { result ≤ length samples.now }
         ensures some { 0 < length samples.now → 0 < result }
         ensures took { (s : Parameters) (old now : Option (List ℕ)) (xs : List ℤ) → IsEncodingOf s old now self.old xs → TakesSamples s self.new xs (take result samples.now) }
@@ -64,7 +64,7 @@ impl Encoding {
 
     /// Takes samples in the same way, and writes the whole bytes of what they complete. Answers how many.
     fn push<O: Outlet>(&mut self, samples: &[i64], outlet: &mut O) -> Result<usize, WriteFault>
-        requires ready { (s : Parameters) × (old : Option (List ℕ)) × (xs : List ℤ) × IsEncodingOf s old (O.taken outlet.old) self.old xs × All (IsSample s) samples.now × (length xs + length samples.now ≤ 2 ^ 48) }
+        requires ready { CanTake (O.taken outlet.old) self.old samples.now }
         requires some { 0 < length samples.now }
         requires writes { O.failed outlet.old + 1 < 2 ^ 64 }
         ensures count { IfOk result (λ n. (0 < n) × (n ≤ length samples.now)) }
@@ -87,7 +87,7 @@ impl Encoding {
 
     /// Takes all samples, and writes the whole bytes of what each segment completes before it goes on.
     fn push_each<O: Outlet>(&mut self, samples: &[i64], outlet: &mut O) -> Result<(), WriteFault>
-        requires ready { (s : Parameters) × (old : Option (List ℕ)) × (xs : List ℤ) × IsEncodingOf s old (O.taken outlet.old) self.old xs × All (IsSample s) samples.now × (length xs + length samples.now ≤ 2 ^ 48) }
+        requires ready { CanTake (O.taken outlet.old) self.old samples.now }
         requires writes { O.failed outlet.old + 1 < 2 ^ 64 }
         ensures ok { OnOk result ((s : Parameters) (old : Option (List ℕ)) (xs : List ℤ) → IsEncodingOf s old (O.taken outlet.old) self.old xs →
             IsEncodingOf s old (O.taken outlet.new) self.new (xs ++ samples.now)) }

@@ -9,9 +9,9 @@ use Rattle.std.proofs.KnownBytes.{Consumes-trans, Consumes-kept}
 use Rattle.std.proofs.lemmas.List.Elements.{All-append}
 use Rattle.rice_samples.specs.Parameters.{Parameters, IsSample, width}
 use Rattle.rice_samples.specs.bytes.Spelling.{Spells, spellings, SpellingEnd, AtEnd, NoSpelling, TooFew}
-use Rattle.rice_stream.specs.Calls.{Call, Happens, Fails, Leaves, PassesLimit, StopsBetween}
-use Rattle.rice_stream.specs.EncodingState.{CountsSamples, ReportsTaken, ReportsAll, WritesRest, Reads, EncodingProgress, TakesAll, MeetsNoSpelling, MeetsFailure, Pushes, PushFails, Refills}
-use Rattle.rice_stream.specs.Encodes.{Encodes, EndsEncoding, EncodesWithin}
+use Rattle.rice_stream.specs.Calls.{Call, Happens, Fails, PassesLimit, StopsBetween}
+use Rattle.rice_stream.specs.EncodingState.{CountsSamples, WritesRest, Reads, EncodingProgress, TakesAll, MeetsNoSpelling, MeetsFailure, Pushes, PushFails, Refills}
+use Rattle.rice_stream.specs.Encodes.{Encodes, EndsEncoding, EncodesWithin, ReportsTaken, ReportsAll, LeavesEarly, SpellsSoFar}
 use Rattle.rice_code.specs.code.Code.{code_bits, output, early_output}
 use Rattle.rice_code.specs.encode.Coder.{complete_samples}
 use Rattle.rice_stream.specs.declared.encoding.Encoding.{Encoding}
@@ -45,31 +45,46 @@ within_all s r xs settles t =
     subst (EncodesWithin s) (λ i. record { samples = sym t.samples i; bits = sym t.bits i; steps = r.steps }) at
 
 -- the samples of bytes, of which too few for one more are left
-pub spelled_so_far : (s : Parameters) (bytes : List ℕ) (xs : List ℤ) (rest : List ℕ) → Reads s bytes xs rest → length rest < width s → (stop : SpellingEnd) × Spells s bytes xs stop × (stop ≢ NoSpelling)
+pub spelled_so_far : (s : Parameters) (bytes : List ℕ) (xs : List ℤ) (rest : List ℕ) → Reads s bytes xs rest → length rest < width s → SpellsSoFar s bytes xs
 spelled_so_far s bytes xs [] r few = (AtEnd, record { rest = []; whole = r.split; legal = r.legal; stops = refl }, λ e. cc)
 spelled_so_far s bytes xs (b ∷ rest) r few = (TooFew, record { rest = b ∷ rest; whole = r.split; legal = r.legal; stops = ((λ e. cc), few) }, λ e. cc)
 
 -- what a call leaves that stops early
-leaves : (s : Parameters) (r : Report) (xs : List ℤ) (given : List ℕ) (left : Option (List ℕ)) → ReportsTaken s r xs → Leaves (record { given = given; left = left; written = early_output s xs }) r (early_output s xs) (length xs) (code_bits s (complete_samples s xs))
-leaves s r xs given left t = record { written = refl; samples = t.samples; bits = t.bits }
+leaves : (s : Parameters) (r : Report) (xs : List ℤ) (given : List ℕ) (left : Option (List ℕ)) → ReportsTaken s r xs →
+    LeavesEarly s (record { given = given; left = left; written = early_output s xs }) r xs
+leaves s r xs given left t = record { written = refl; reports = t }
+
+-- of the bytes given, those after the samples that are reported are at most one call's
+given_ahead : (s : Parameters) (bytes rest : List ℕ) (xs : List ℤ) (samples : ℕ) → bytes ≡ spellings s xs ++ rest → length rest ≤ 4096 → samples ≡ length xs →
+    length bytes ≤ samples * width s + 4096
+given_ahead s bytes rest xs samples split few e =
+    at (width s) (length xs) samples (length rest) (length bytes) (ap length split ∙ length-append (spellings s xs) rest ∙ ap (λ n. n + length rest) (length-spellings s xs)) e few
+  where
+    at : (w n k b m : ℕ) → m ≡ w * n + b → k ≡ n → b ≤ 4096 → m ≤ k * w + 4096
+    at w n k b m e h few = let p = ap (λ v. v * w) h in omega arith
 
 pub read_ends : (s : Parameters) (left_old left mid taken_old taken : Option (List ℕ)) (e : Encoding) (given waiting : ℕ) (buffer : List ℕ) (r : Report) (f : Option Fault) → EncodingProgress s left_old mid taken_old taken e given waiting buffer →
-    Keeps mid left → ((xs : List ℤ) → CountsSamples s e xs → ReportsTaken s r xs) → length (take waiting buffer) < width s → f ≡ Some Read →
+    Keeps mid left → ((xs : List ℤ) → CountsSamples s e xs → ReportsTaken s r xs) → length (take waiting buffer) < width s → width s ≤ 4 → f ≡ Some Read →
     (c : Call) × Happens left_old left taken_old taken c × Encodes s c r f
-read_ends s left_old left mid taken_old taken e given waiting buffer r f runs keeps told few is =
+read_ends s left_old left mid taken_old taken e given waiting buffer r f runs keeps told few narrow is =
     let xs = runs.samples in
     let c : Call = record { given = runs.bytes; left = left; written = early_output s xs } in
     let t = told xs runs.holds.counts in
     let ends : EndsEncoding s (Some Read) c r xs = (spelled_so_far s runs.bytes xs (take waiting buffer) runs.reads few, leaves s r xs runs.bytes left t) in (
       c,
       record { gave = Consumes-kept left_old mid left runs.bytes runs.gave keeps; left = refl; took = runs.holds.took },
-      subst (λ (f : Option Fault). Encodes s c r f) (sym is) (xs, ends),
+      subst (λ (f : Option Fault). Encodes s c r f) (sym is) (record {
+        samples = xs;
+        ends = ends;
+        limit = omega (arith, runs.count, runs.limit);
+        ahead = given_ahead s runs.bytes (take waiting buffer) xs r.samples runs.reads.split (omega (arith, few, narrow)) t.samples;
+      }),
     )
 
 pub cut_ends : (s : Parameters) (left_old left mid taken_old taken : Option (List ℕ)) (e : Encoding) (given waiting : ℕ) (buffer : List ℕ) (r : Report) (f : Option Fault) → EncodingProgress s left_old mid taken_old taken e given waiting buffer →
-    Consumes mid left [] → IsAtEnd left → ((xs : List ℤ) → CountsSamples s e xs → ReportsTaken s r xs) → length (take waiting buffer) < width s → take waiting buffer ≢ [] → f ≡ Some (SampleCut e.samples) →
+    Consumes mid left [] → IsAtEnd left → ((xs : List ℤ) → CountsSamples s e xs → ReportsTaken s r xs) → length (take waiting buffer) < width s → width s ≤ 4 → take waiting buffer ≢ [] → f ≡ Some (SampleCut e.samples) →
     (c : Call) × Happens left_old left taken_old taken c × Encodes s c r f
-cut_ends s left_old left mid taken_old taken e given waiting buffer r f runs gave end told few some is =
+cut_ends s left_old left mid taken_old taken e given waiting buffer r f runs gave end told few narrow some is =
     let xs = runs.samples in
     let c : Call = record { given = runs.bytes; left = left; written = early_output s xs } in
     let t = told xs runs.holds.counts in
@@ -78,23 +93,34 @@ cut_ends s left_old left mid taken_old taken e given waiting buffer r f runs gav
     let all = Consumes-trans left_old mid left runs.bytes [] runs.gave gave in (
       c,
       record { gave = subst (λ (l : List ℕ). Consumes left_old left l) (append-nil runs.bytes) all; left = refl; took = runs.holds.took },
-      subst (λ (f : Option Fault). Encodes s c r f) (sym is) (xs, ends),
+      subst (λ (f : Option Fault). Encodes s c r f) (sym is) (record {
+        samples = xs;
+        ends = ends;
+        limit = omega (arith, runs.count, runs.limit);
+        ahead = given_ahead s runs.bytes (take waiting buffer) xs r.samples runs.reads.split (omega (arith, few, narrow)) t.samples;
+      }),
     )
 
 pub long_ends : (s : Parameters) (left_old left mid taken_old taken : Option (List ℕ)) (e : Encoding) (given waiting : ℕ) (buffer : List ℕ) (r : Report) (f : Option Fault) (more : List ℕ) → EncodingProgress s left_old mid taken_old taken e given waiting buffer →
-    Consumes mid left more → length more ≡ 1 → 281474976710656 ≤ given → ((xs : List ℤ) → CountsSamples s e xs → ReportsTaken s r xs) → length (take waiting buffer) < width s → f ≡ Some TooLong →
+    Consumes mid left more → length more ≡ 1 → 281474976710656 ≤ given → ((xs : List ℤ) → CountsSamples s e xs → ReportsTaken s r xs) → length (take waiting buffer) < width s → width s ≤ 4 → f ≡ Some TooLong →
     (c : Call) × Happens left_old left taken_old taken c × Encodes s c r f
-long_ends s left_old left mid taken_old taken e given waiting buffer r f more runs gave one full told few is =
+long_ends s left_old left mid taken_old taken e given waiting buffer r f more runs gave one full told few narrow is =
     let xs = runs.samples in
     let c : Call = record { given = runs.bytes ++ more; left = left; written = early_output s xs } in
     let t = told xs runs.holds.counts in
     let so_far = spelled_so_far s runs.bytes xs (take waiting buffer) runs.reads few in
     let last = single more one in
     let passes : PassesLimit 281474976710656 (runs.bytes ++ more) runs.bytes = record { last = last.0; split = ap (λ l. runs.bytes ++ l) last.1; full = omega (arith, runs.count, runs.limit, full) } in
-    let ends : EndsEncoding s (Some TooLong) c r xs = ((runs.bytes, so_far.0, passes, so_far.1, so_far.2), leaves s r xs (runs.bytes ++ more) left t) in (
+    let ends : EndsEncoding s (Some TooLong) c r xs = ((runs.bytes, passes, so_far), leaves s r xs (runs.bytes ++ more) left t) in (
       c,
       record { gave = Consumes-trans left_old mid left runs.bytes more runs.gave gave; left = refl; took = runs.holds.took },
-      subst (λ (f : Option Fault). Encodes s c r f) (sym is) (xs, ends),
+      subst (λ (f : Option Fault). Encodes s c r f) (sym is) (record {
+        samples = xs;
+        ends = ends;
+        limit = tt;
+        ahead = given_ahead s (runs.bytes ++ more) (take waiting buffer ++ more) xs r.samples (ap (λ l. l ++ more) runs.reads.split ∙ append_assoc (spellings s xs) (take waiting buffer) more)
+            (omega (arith, length-append (take waiting buffer) more, one, few, narrow)) t.samples;
+      }),
     )
   where
     single : (l : List ℕ) → length l ≡ 1 → (x : ℕ) × (l ≡ x ∷ [])
@@ -123,16 +149,29 @@ finish_ends s left_old left mid taken_old taken new e given waiting buffer r f r
     ahead : (w n m k : ℕ) → m ≡ w * n → k ≡ n → m < k * w + 4096
     ahead w n m k e h = let p = ap (λ v. v * w) h in omega arith
 
+    no_more : length runs.bytes ≤ r.samples * width s + 4096
+    no_more = given_ahead s runs.bytes (take waiting buffer) xs r.samples runs.reads.split (omega (arith, ap length none)) closes.samples
+
     by_fault : (f : Option Fault) → WritesRest s taken_old new xs f → (c : Call) × Happens left_old left taken_old new c × Encodes s c r f
     by_fault None took = (
       record { given = runs.bytes; left = left; written = output s xs },
       record { gave = all; left = refl; took = took },
-      (xs, (spells, end, omega (arith, runs.count, runs.limit), record { written = refl; samples = closes.samples; bits = closes.bits })),
+      record {
+        samples = xs;
+        ends = (spells, end, record { written = refl; reports = closes });
+        limit = omega (arith, runs.count, runs.limit);
+        ahead = no_more;
+      },
     )
     by_fault (Some Write) part = (
       record { given = runs.bytes; left = left; written = part.written },
       record { gave = all; left = refl; took = part.took },
-      (xs, (ahead (width s) (length xs) (length runs.bytes) r.samples count closes.samples, inr (record { given = spells; end = end; samples = closes.samples; bits = closes.bits; stops = part.stops }))),
+      record {
+        samples = xs;
+        ends = (ahead (width s) (length xs) (length runs.bytes) r.samples count closes.samples, inr (record { given = spells; end = end; reports = closes; stops = part.stops }));
+        limit = omega (arith, runs.count, runs.limit);
+        ahead = no_more;
+      },
     )
     by_fault (Some Read) bad = absurd bad
     by_fault (Some TooLong) bad = absurd bad
@@ -144,9 +183,9 @@ finish_ends s left_old left mid taken_old taken new e given waiting buffer r f r
 
 -- the samples of the bytes in hand are taken, as far as that goes
 pub push_ends : (s : Parameters) (left_old left taken_old taken : Option (List ℕ)) (e : Encoding) (r : Report) (f : Fault) (g : Option Fault) (xs : List ℤ) (given bytes : List ℕ) → given ≡ spellings s xs ++ bytes → All (IsSample s) xs →
-    Consumes left_old left given → length bytes ≤ 4096 → 1 ≤ width s → ((ys : List ℤ) → CountsSamples s e ys → ReportsTaken s r ys) → g ≡ Some f → Pushes {T = Unit {0}} s taken_old taken e xs bytes (Err f) →
+    Consumes left_old left given → length given ≤ 281474976710656 → length bytes ≤ 4096 → 1 ≤ width s → ((ys : List ℤ) → CountsSamples s e ys → ReportsTaken s r ys) → g ≡ Some f → Pushes {T = Unit {0}} s taken_old taken e xs bytes (Err f) →
     (c : Call) × Happens left_old left taken_old taken c × Encodes s c r g
-push_ends s left_old left taken_old taken e r f g xs given bytes split legal gave few some told is pushes =
+push_ends s left_old left taken_old taken e r f g xs given bytes split legal gave limit few some told is pushes =
     let result = by_fault f pushes in
     subst (λ (g : Option Fault). (c : Call) × Happens left_old left taken_old taken c × Encodes s c r g) (sym is) result
   where
@@ -164,7 +203,12 @@ push_ends s left_old left taken_old taken e r f g xs given bytes split legal gav
         let spells : Spells s given ys NoSpelling = record { rest = m.rest; whole = joined m.more m.rest m.reads.split; legal = All-append (IsSample s) xs m.more legal m.reads.legal; stops = m.none } in (
           record { given = given; left = left; written = early_output s ys },
           record { gave = gave; left = refl; took = m.holds.took },
-          (ys, (spells, same ∙ m.holds.counts.samples, leaves s r ys given left t)),
+          record {
+            samples = ys;
+            ends = (spells, same ∙ m.holds.counts.samples, leaves s r ys given left t);
+            limit = limit;
+            ahead = given_ahead s given m.rest ys r.samples (joined m.more m.rest m.reads.split) (omega (arith, few, ap length m.reads.split, length-append (spellings s m.more) m.rest)) t.samples;
+          },
         )
 
     fails : MeetsFailure s taken_old taken e xs bytes → Ends Write
@@ -176,13 +220,14 @@ push_ends s left_old left taken_old taken e r f g xs given bytes split legal gav
         let k : length before ≡ length xs + length m.more = length-append xs m.more in
         let front : take (length ys - 1) ys ≡ before = (let i : length ys - 1 ≡ length before = omega arith in ap (λ i. take i ys) i ∙ take-append_seam before (m.last ∷ [])) in
         let same : xs ++ (m.more ++ m.last ∷ []) ≡ ys = sym (append_assoc xs m.more (m.last ∷ [])) in
-        let size : length given ≡ width s * length xs + length bytes = ap length split ∙ length-append (spellings s xs) bytes ∙ ap (λ n. n + length bytes) (length-spellings s xs) in (
+        let size : length given ≡ width s * length xs + length bytes = ap length split ∙ length-append (spellings s xs) bytes ∙ ap (λ n. n + length bytes) (length-spellings s xs) in
+        let fewer = ahead (width s) (length xs) (length bytes) (length given) r.samples size few some (omega (arith, t.samples, n, k)) in (
           record { given = given; left = left; written = m.fails.takes.written },
           record { gave = gave; left = refl; took = m.fails.takes.took },
-          (
-            ys,
-            (
-              ahead (width s) (length xs) (length bytes) (length given) r.samples size few some (omega (arith, t.samples, n, k)),
+          record {
+            samples = ys;
+            ends = (
+              fewer,
               inl (record {
                 given = record {
                   rest = m.rest;
@@ -190,12 +235,13 @@ push_ends s left_old left taken_old taken e r f g xs given bytes split legal gav
                   legal = subst (All (IsSample s)) same (All-append (IsSample s) xs (m.more ++ m.last ∷ []) legal m.reads.legal);
                 };
                 some = omega arith;
-                samples = t.samples;
-                bits = t.bits;
+                reports = t;
                 stops = subst (λ (l : List ℤ). StopsBetween (early_output s l) (early_output s ys) m.fails.takes.written) (sym front) m.fails.takes.stops;
               }),
-            ),
-          ),
+            );
+            limit = limit;
+            ahead = omega (arith, fewer);
+          },
         )
       where
         ahead : (w n b g k : ℕ) → g ≡ w * n + b → b ≤ 4096 → 1 ≤ w → n < k → g < k * w + 4096

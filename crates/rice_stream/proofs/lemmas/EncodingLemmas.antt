@@ -20,7 +20,8 @@ use Rattle.rice_code.specs.encode.Coder.{AppendsRest as FinishesCode}
 use Rattle.rice_code.specs.code.Code.{code, code_bits, early_output}
 use Rattle.rice_code.specs.Steps.{least_looks, most_looks, least_looks_at, most_looks_at, least_steps, most_steps, segment_steps}
 use Rattle.rice_code.proofs.lemmas.encode.PushedCode.{segment_steps_few}
-use Rattle.rice_stream.specs.EncodingState.{CountsSamples, IsEncodingOf, TakesSamples, TakesBetween, FailsAt, FailsIn, MeetsFailure, ReportsAll, Reads, whole_part}
+use Rattle.rice_stream.specs.EncodingState.{CountsSamples, IsEncodingOf, TakesSamples, TakesBetween, FailsAt, FailsIn, MeetsFailure, Reads, whole_part}
+use Rattle.rice_stream.specs.Encodes.{ReportsAll}
 use Rattle.rice_stream.specs.Writes.{TakesPart}
 use Rattle.rice_stream.specs.declared.encoding.Encoding.{Encoding}
 use Rattle.rice_stream.specs.declared.outcome.Report.{Report}

@@ -127,19 +127,19 @@ pub returns_bytes : ReturnsBytes
 returns_bytes s legal enc dec encoded decoded fault encodes consumed decodes = by_fault fault dec.left refl decodes.ends
   where
     xs : List ℤ
-    xs = encodes.0
+    xs = encodes.samples
 
     n : encoded.samples ≡ length xs
-    n = encodes.1.3.samples
+    n = encodes.ends.2.reports.samples
 
     written : enc.written ≡ output s xs
-    written = encodes.1.3.written
+    written = encodes.ends.2.written
 
     ys : List ℤ
     ys = decodes.samples
 
     bytes : enc.given ≡ spellings s xs
-    bytes = encodes.1.0.whole ∙ ap (λ l. spellings s xs ++ l) encodes.1.0.stops ∙ append-nil (spellings s xs)
+    bytes = encodes.ends.0.whole ∙ ap (λ l. spellings s xs ++ l) encodes.ends.0.stops ∙ append-nil (spellings s xs)
 
     split : (left : Option (List ℕ)) → dec.left ≡ left → (rest : List ℕ) × (output s xs ≡ dec.given ++ rest)
     split None e = absurd (subst (λ (l : Option (List ℕ)). Consumes (Some enc.written) l dec.given) e consumed)
@@ -149,7 +149,7 @@ returns_bytes s legal enc dec encoded decoded fault encodes consumed decodes = b
     Ends fault = ((fault ≡ None) × (dec.written ≡ enc.given)) ⊎ ((fault ≡ Some Read) ⊎ (fault ≡ Some Write))
 
     all : (used : ℕ) × Decoded s (bits_of (output s xs)) (Some (length xs)) xs Reached used
-    all = returned.returns_samples s legal xs encodes.1.0.legal
+    all = returned.returns_samples s legal xs encodes.ends.0.legal
 
     at_front : (left : Option (List ℕ)) → dec.left ≡ left → DecodesBytes s (Some encoded.samples) dec decoded dec.given ys decodes.ending → EndsBefore decodes.ending → (ys ≡ xs) × (decodes.ending ≡ Reached)
     at_front left e d early =
@@ -178,7 +178,7 @@ returns_bytes s legal enc dec encoded decoded fault encodes consumed decodes = b
         let parts = split left e in
         let all = ap length parts.1 ∙ length-append dec.given parts.0 in
         let spelled = ap length bytes ∙ length-spellings s xs in
-        absurd (let short = output_short s legal xs encodes.1.0.legal (omega (arith, spelled, encodes.1.2)) in omega (arith, given, passes.full, all, short))
+        absurd (let short = output_short s legal xs encodes.ends.0.legal (omega (arith, spelled, encodes.limit)) in omega (arith, given, passes.full, all, short))
     by_fault (Some (CodeEnds samples)) left e (d, ends, end, count) = absurd (not_at_end left e end d ends)
     by_fault (Some (RunPastSegment block)) left e (d, past, count) = absurd (let reached = (at_front left e d (inr (inl past))).1 in cc)
     by_fault (Some (ResidualTooLarge block)) left e (d, large, count) = absurd (let reached = (at_front left e d (inr (inr large))).1 in cc)

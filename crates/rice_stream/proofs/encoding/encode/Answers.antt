@@ -1,4 +1,4 @@
-use Rattle.std.proofs.Common.{arith, ◌∷◌, ◌≡◌, ◌≢◌, ◌+◌, ◌<◌, ◌≤◌, ◌++◌, List, [], length, take, refl, ap, ◌∙◌, subst, ℕ}
+use Rattle.std.proofs.Common.{arith, ◌∷◌, ◌≡◌, ◌≢◌, ◌+◌, ◌<◌, ◌≤◌, ◌++◌, List, [], length, length-append, take, refl, ap, ◌∙◌, subst, ℕ}
 use Rattle.std.proofs.lemmas.List.{length-take, length-take-le}
 use Rattle.std.specs.Io.KnownBytes.{Consumes}
 use Rattle.std.proofs.KnownBytes.{Consumes-nil, Consumes-trans}
@@ -36,7 +36,7 @@ returns-in-Err-clause-call g c =
     let i = c.fill_all.invariant in
     let few : length (take c.fill_all.waiting c.fill_all.buffer) < width s = omega (arith, i.runs.few, length-take-le c.fill_all.waiting c.fill_all.buffer (omega (arith, i.size, i.runs.few, c.width-width.ensures.value, c.width-width.ensures.range))) in
     read_ends s (g.I.Intake.left c.args.intake.now) (g.I.Intake.left c.refill.new.intake) (g.I.Intake.left c.fill_all.intake) (g.O.Outlet.taken c.args.outlet.now) (g.O.Outlet.taken c.fill_all.outlet)
-    c.fill_all.encoding c.fill_all.given c.fill_all.waiting c.fill_all.buffer c.stopped.result.report c.stopped.result.fault i.runs c.in-Err.ensures.err (λ xs h. c.stopped.ensures.told s xs h) few c.stopped.ensures.fault
+    c.fill_all.encoding c.fill_all.given c.fill_all.waiting c.fill_all.buffer c.stopped.result.report c.stopped.result.fault i.runs c.in-Err.ensures.err (λ xs h. c.stopped.ensures.told s xs h) few (omega (arith, c.width-width.ensures.value, c.width-width.ensures.range)) c.stopped.ensures.fault
 
 pub returns-in-Err-clause-bounds : goal.returns-in-Err-clause-bounds
 returns-in-Err-clause-bounds g c =
@@ -57,7 +57,7 @@ returns-then-waiting-gt0-clause-call g c =
     let none : more.given ≡ [] = nothing more.given (omega (arith, more.length_is, c.if-count-eq0.true)) in
     cut_ends s (g.I.Intake.left c.args.intake.now) (g.I.Intake.left c.refill.new.intake) (g.I.Intake.left c.fill_all.intake) (g.O.Outlet.taken c.args.outlet.now) (g.O.Outlet.taken c.fill_all.outlet)
     c.fill_all.encoding c.fill_all.given c.fill_all.waiting c.fill_all.buffer o.result.report o.result.fault i.runs
-    (subst (λ (l : List ℕ). Consumes (g.I.Intake.left c.fill_all.intake) (g.I.Intake.left c.refill.new.intake) l) none more.gave) (c.in-Ok.ensures.end c.if-count-eq0.true) (λ xs h. o.ensures.told s xs h) few some o.ensures.fault
+    (subst (λ (l : List ℕ). Consumes (g.I.Intake.left c.fill_all.intake) (g.I.Intake.left c.refill.new.intake) l) none more.gave) (c.in-Ok.ensures.end c.if-count-eq0.true) (λ xs h. o.ensures.told s xs h) few (omega (arith, c.width-width.ensures.value, c.width-width.ensures.range)) some o.ensures.fault
 
 pub returns-then-waiting-gt0-clause-bounds : goal.returns-then-waiting-gt0-clause-bounds
 returns-then-waiting-gt0-clause-bounds g c =
@@ -104,7 +104,7 @@ returns-then-given-ge-LIMIT-clause-call g c =
     let more = c.in-Ok.ensures.bytes in
     let one : length more.given ≡ 1 = omega (arith, more.length_is, c.if-count-eq0.false, c.in-Ok.ensures.count, c.piece.ensures.last c.if-given-ge-LIMIT.true) in
     long_ends s (g.I.Intake.left c.args.intake.now) (g.I.Intake.left c.refill.new.intake) (g.I.Intake.left c.fill_all.intake) (g.O.Outlet.taken c.args.outlet.now) (g.O.Outlet.taken c.fill_all.outlet)
-    c.fill_all.encoding c.fill_all.given c.fill_all.waiting c.fill_all.buffer o.result.report o.result.fault more.given i.runs more.gave one c.if-given-ge-LIMIT.true (λ xs h. o.ensures.told s xs h) few o.ensures.fault
+    c.fill_all.encoding c.fill_all.given c.fill_all.waiting c.fill_all.buffer o.result.report o.result.fault more.given i.runs more.gave one c.if-given-ge-LIMIT.true (λ xs h. o.ensures.told s xs h) few (omega (arith, c.width-width.ensures.value, c.width-width.ensures.range)) o.ensures.fault
 
 pub returns-then-given-ge-LIMIT-clause-bounds : goal.returns-then-given-ge-LIMIT-clause-bounds
 returns-then-given-ge-LIMIT-clause-bounds g c =
@@ -141,7 +141,8 @@ returns-in-Err-push_all-clause-call g c =
     let bytes = take filled c.refill.new.buffer in
     push_ends s left_old left start (g.O.Outlet.taken c.push_all.new.outlet) c.push_all.new.self o.result.report c.in-Err-push_all.fault o.result.fault i.runs.samples (i.runs.bytes ++ more.given) bytes
     (in_hand s left_old left mid start (g.O.Outlet.taken c.fill_all.outlet) c.fill_all.encoding c.fill_all.given c.fill_all.waiting c.in-Ok.count c.fill_all.buffer c.refill.new.buffer i.runs more)
-    i.runs.reads.legal (Consumes-trans left_old mid left i.runs.bytes more.given i.runs.gave more.gave) (omega (arith, c.in-Ok.ensures.count, c.piece.ensures.most, length-take filled c.refill.new.buffer)) (omega (arith, c.width-width.ensures.value, c.width-width.ensures.range))
+    i.runs.reads.legal (Consumes-trans left_old mid left i.runs.bytes more.given i.runs.gave more.gave)
+    (omega (arith, length-append i.runs.bytes more.given, more.length_is, i.runs.count, c.in-Ok.ensures.count, c.piece.ensures.limit (omega (arith, c.if-given-ge-LIMIT.false)))) (omega (arith, c.in-Ok.ensures.count, c.piece.ensures.most, length-take filled c.refill.new.buffer)) (omega (arith, c.width-width.ensures.value, c.width-width.ensures.range))
     (λ xs h. o.ensures.told s xs h) o.ensures.fault (c.in-Err-push_all.ensures.did start i.runs.samples i.runs.holds)
 
 pub returns-in-Err-push_all-clause-failures : goal.returns-in-Err-push_all-clause-failures

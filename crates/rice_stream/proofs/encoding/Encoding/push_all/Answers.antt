@@ -26,14 +26,15 @@ push_each-requires-clause-ready g c =
     let count = length c.args.bytes.now / c.width-width.result in
     let slice : take f.result (zs ++ drop count c.args.samples.now) ≡ take f.result zs = take-append-le f.result zs (drop count c.args.samples.now) f.ensures.count in
     let whole = whole_samples (length c.args.bytes.now) c.width-width.result (width s) c.width-width.ensures.value (omega (arith, c.width-width.ensures.range)) in
-    let r = c.requires.ready in (
-      s,
-      r.0,
-      r.1,
-      r.2,
-      subst (All (IsSample s)) (sym slice) f.ensures.legal,
-      omega (arith, r.3, ap length slice, length-take f.result zs, f.ensures.count, f.ensures.len, length-take count c.args.samples.now, whole.1),
-    )
+    let r = c.requires.ready in
+    record {
+      setting = s;
+      start = r.0;
+      before = r.1;
+      holds = r.2;
+      legal = subst (All (IsSample s)) (sym slice) f.ensures.legal;
+      few = omega (arith, r.3, ap length slice, length-take f.result zs, f.ensures.count, f.ensures.len, length-take count c.args.samples.now, whole.1);
+    }
 
 pub returns-in-Err-clause-did : goal.returns-in-Err-clause-did
 returns-in-Err-clause-did g c old xs h =

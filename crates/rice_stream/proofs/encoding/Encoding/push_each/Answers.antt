@@ -24,14 +24,15 @@ push-requires-clause-ready g c =
     let k = c.requires.ready in
     let samples = c.args.samples.now in
     let at = c.loop-at.at in
-    let i = c.loop-at.invariant in (
-      k.0,
-      k.1,
-      k.2 ++ take at samples,
-      i.holds k.0 k.1 k.2 k.3,
-      subst (All (IsSample k.0)) (sym (from at samples)) (All-drop (IsSample k.0) at samples k.4),
-      omega (arith, k.5, length-append k.2 (take at samples), length-take-le at samples i.within, ap length (from at samples), length-drop at samples, i.within),
-    )
+    let i = c.loop-at.invariant in
+    record {
+      setting = k.setting;
+      start = k.start;
+      before = k.before ++ take at samples;
+      holds = i.holds k.setting k.start k.before k.holds;
+      legal = subst (All (IsSample k.setting)) (sym (from at samples)) (All-drop (IsSample k.setting) at samples k.legal);
+      few = omega (arith, k.few, length-append k.before (take at samples), length-take-le at samples i.within, ap length (from at samples), length-drop at samples, i.within);
+    }
 
 pub returns-in-Err-clause-err : goal.returns-in-Err-clause-err
 returns-in-Err-clause-err g c s old xs h =

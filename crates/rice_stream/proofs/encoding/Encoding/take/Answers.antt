@@ -8,29 +8,33 @@ use Rattle.rice_stream.proofs.lemmas.EncodingLemmas.{Tally, counts_small, early_
 use Rattle.rice_stream.proofs.encoding.Encoding.take.Goals as goal
 
 pub push_some-pushed-requires-clause-samples : goal.push_some-pushed-requires-clause-samples
-push_some-pushed-requires-clause-samples c = subst (λ (t : Parameters). All (IsSample t) c.args.samples.now) (sym c.requires.ready.4.counts.setting) c.requires.ready.5
+push_some-pushed-requires-clause-samples c = let can = c.requires.ready.1 in subst (λ (t : Parameters). All (IsSample t) c.args.samples.now) (sym can.holds.counts.setting) can.legal
 
 pub push_some-pushed-requires-clause-room : goal.push_some-pushed-requires-clause-room
-push_some-pushed-requires-clause-room c = sink_short c.requires.ready.0 c.requires.ready.1 c.requires.ready.2 _ c.requires.ready.3 c.requires.ready.4
+push_some-pushed-requires-clause-room c = let can = c.requires.ready.1 in sink_short can.setting can.start c.requires.ready.0 _ can.before can.holds
 
 pub push_some-pushed-requires-clause-meter : goal.push_some-pushed-requires-clause-meter
-push_some-pushed-requires-clause-meter c = let small = counts_small c.requires.ready.0 _ c.requires.ready.3 c.requires.ready.4.counts in omega (arith, small.1, small.2, c.requires.ready.6)
+push_some-pushed-requires-clause-meter c =
+    let can = c.requires.ready.1 in
+    let small = counts_small can.setting _ can.before can.holds.counts in
+    omega (arith, small.1, small.2, can.few)
 
 pub overflow_add-self : goal.overflow_add-self
-overflow_add-self c = omega (arith, c.requires.ready.4.counts.samples, c.requires.ready.6, c.push_some-pushed.ensures.taken)
+overflow_add-self c = let can = c.requires.ready.1 in omega (arith, can.holds.counts.samples, can.few, c.push_some-pushed.ensures.taken)
 
 pub overflow_add-self-2 : goal.overflow_add-self-2
 overflow_add-self-2 c =
-    let k = c.requires.ready.4.counts in
+    let can = c.requires.ready.1 in
+    let k = can.holds.counts in
     let p = c.push_some-pushed in
-    let xs = c.requires.ready.3 in
+    let xs = can.before in
     let zs = take p.result.samples c.args.samples.now in
     let ys = xs ++ zs in
     let t = c.args.self.now.coder.setting in
     let same = subst (λ (t : Parameters). code_bits t (complete_samples t ys) ≡ code_bits t (complete_samples t xs) + p.result.bits) k.setting (p.ensures.bits xs k.stands) in
-    let small = early_small c.requires.ready.0 p.new.self ys (p.ensures.setting ∙ k.setting) (p.ensures.stands xs k.stands) in
+    let small = early_small can.setting p.new.self ys (p.ensures.setting ∙ k.setting) (p.ensures.stands xs k.stands) in
     let len = length-take-le p.result.samples c.args.samples.now p.ensures.taken in
-    omega (arith, small, same, k.bits, c.requires.ready.6, length-append xs zs, len, p.ensures.taken)
+    omega (arith, small, same, k.bits, can.few, length-append xs zs, len, p.ensures.taken)
 
 pub returns-clause-took : goal.returns-clause-took
 returns-clause-took c s old now xs h =
