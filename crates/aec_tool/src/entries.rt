@@ -7,21 +7,21 @@ use crate::plan::{Plan, PlanFault};
 use clap::ArgMatches;
 use rice_samples::Setting;
 
-/// Whether a flag was used.
+/// Returns whether a flag was used.
 fn is_used(matches: &ArgMatches<'_>, id: &str) -> bool
     ensures { result ≡ is_flagged (found_of matches.now) id.now }
 {
     matches.get_one::<bool>(id).unwrap_or(false)
 }
 
-/// The readable number of an option.
+/// Returns the number of an option, if it can be read.
 fn number(matches: &ArgMatches<'_>, id: &str) -> Option<u32>
     ensures { result ≡ number_in (2 ^ 32) (found_of matches.now) id.now }
 {
     matches.get_one::<u32>(id)
 }
 
-/// The readable long number of an option.
+/// Returns the long number of an option, if it can be read.
 fn long_number(matches: &ArgMatches<'_>, id: &str) -> Option<u64>
     ensures { result ≡ number_in (2 ^ 64) (found_of matches.now) id.now }
 {

@@ -3,7 +3,7 @@ ghost use Rattle.std.specs.Prelude.{◌≡◌, ◌↔◌, IsSome, None};
 
 use rice_stream::Outcome;
 
-/// The exit status of an outcome: 0 without a fault, and else 1.
+/// Returns the exit status of an outcome: 0 without a fault, 1 with one.
 pub fn exit_status(outcome: &Outcome) -> u8
     ensures clean { (result ≡ 0) ↔ (outcome.now.fault ≡ None) }
     ensures fault { IsSome outcome.now.fault → result ≡ 1 }

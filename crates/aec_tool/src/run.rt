@@ -1,4 +1,4 @@
-//! The engine that a plan asks for.
+//! Encoding or decoding, as a plan asks.
 ghost use Rattle.std.specs.Prelude.{◌≡◌, ◌+◌, ◌^◌, ◌<◌, true, false};
 ghost use Rattle.rice_stream.specs.Calls.{Call, Happens, Fails};
 ghost use Rattle.rice_stream.specs.Decodes.{Decodes, DecodesWithin};
@@ -8,7 +8,7 @@ use crate::plan::Plan;
 use rice_bits::{Intake, Outlet};
 use rice_stream::{Outcome, decode, encode};
 
-/// Decodes where the plan says so, and else encodes. Answers the intake too.
+/// Decodes if the plan says so, and encodes otherwise. Returns what was done, and the intake.
 pub fn run<I: Intake, O: Outlet>(plan: &Plan<'_>, intake: I, outlet: &mut O) -> (Outcome, I)
     requires reads { I.failed intake + 1 < 2 ^ 64 }
     requires writes { O.failed outlet.old + 1 < 2 ^ 64 }

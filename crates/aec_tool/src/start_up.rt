@@ -18,7 +18,7 @@ use std::rt::Runtime;
 use std::{env, io};
 use thiserror::Error as ErrorText;
 
-/// Why a start gave up before its engine ran.
+/// Why the command gave up before it encoded or decoded.
 #[derive(Clone, Copy, Debug, ErrorText)]
 pub enum StartFault<'a> {
     #[error("cannot open {name}")]
@@ -35,7 +35,7 @@ const FAILURE: u8 = 1;
 
 const USAGE: u8 = 2;
 
-/// The bytes that wait for a write.
+/// The size of the buffer in front of the destination, in bytes.
 const BUFFER: usize = 1 << 16;
 
 fn complain<R: Eprint, D: Display + Drop>(rt: &R, text: D, status: u8) -> u8
@@ -52,7 +52,7 @@ fn matches_of<'a, R: Runtime + AllocGlobal>(
     command(rt.alloc())?.try_get_matches_from(words)
 }
 
-/// Does all that the program does with its words, and says the exit status.
+/// Runs the command with the given words, and returns its exit status.
 pub fn start<'a, R: Runtime + AllocGlobal>(rt: &R, words: &'a [&'a str]) -> u8 {
     let matches = match matches_of(rt, words) {
         Ok(matches) => matches,
@@ -97,7 +97,7 @@ fn create<R: Runtime + AllocGlobal, S: Read + Drop>(rt: &R, plan: &Plan<'_>, sou
     }
 }
 
-/// Runs the engine over the two streams, and flushes.
+/// Encodes or decodes from one stream to the other, and flushes.
 fn finish<R: Runtime + AllocGlobal, S: Read + Drop, W: Write + Drop>(
     rt: &R,
     plan: &Plan<'_>,
@@ -117,7 +117,7 @@ fn finish<R: Runtime + AllocGlobal, S: Read + Drop, W: Write + Drop>(
     }
 }
 
-/// The same with the words of the process.
+/// Runs the command with the words of the process, and returns its exit status.
 pub fn start_with_arguments<R: Runtime + AllocGlobal>(rt: &R) -> u8 {
     let words = match env::args(rt) {
         Ok(words) => words,

@@ -1,22 +1,22 @@
 //! Laws over the definitions that the contracts cite. The functions do nothing: what they promise is the law.
 ghost use Rattle.rice_bits.specs.Laws.{BytesKeepBits, BitsKeepBytes, WordsKeepNumbers, NumbersKeepBits, SequencesAreReadInOneWay};
 
-/// The whole bytes of bits, and the bits behind them, are the bits again.
+/// The bits of the whole bytes, and the bits after them, are the bits again.
 pub fn bytes_keep_bits()
     ensures { BytesKeepBits }
 {}
 
-/// The bits of bytes, and fewer than eight behind them, have just these bytes.
+/// Bytes come back from their bits, with fewer than eight bits after them.
 pub fn bits_keep_bytes()
     ensures { BitsKeepBytes }
 {}
 
-/// The digits of a number tell the number.
+/// A number comes back from its digits.
 pub fn words_keep_numbers()
     ensures { WordsKeepNumbers }
 {}
 
-/// Bits are the digits of the number that they spell.
+/// Bits come back from the number that they spell.
 pub fn numbers_keep_bits()
     ensures { NumbersKeepBits }
 {}

@@ -1,4 +1,4 @@
-//! How many bits and steps samples may cost.
+//! Bounds on the bits and steps of coding.
 ghost use Rattle.std.specs.Prelude.{◌≡◌, ℕ, ◌+◌, ◌*◌, ◌^◌, ◌≤◌};
 ghost use Rattle.rice_samples.specs.Parameters.{id_len};
 ghost use Rattle.rice_samples.specs.Places.{block_count as blocks_of};
@@ -6,7 +6,7 @@ ghost use Rattle.rice_code.specs.Bounds.{bit_bound as most_bits, padded_bound as
 
 use rice_samples::Setting;
 
-/// The most bits of the code of so many samples, at most 2^48, without padding.
+/// Returns the most bits that the code of `samples` samples, at most 2^48, can have without padding.
 pub fn bit_bound(setting: &Setting, samples: u64) -> u64
     requires { samples ≤ 2 ^ 48 }
     ensures value { result ≡ most_bits setting.now samples }
@@ -15,8 +15,8 @@ pub fn bit_bound(setting: &Setting, samples: u64) -> u64
     block_count(setting, samples) * block_bits(setting)
 }
 
-/// The most bits of the code of so many samples, at most 2^48, with the padding of intervals where
-/// intervals are padded: seven bits for each.
+/// Returns the most bits that the code of `samples` samples, at most 2^48, can have with the padding of
+/// intervals, if intervals are padded: seven bits for each.
 pub fn padded_bound(setting: &Setting, samples: u64) -> u64
     requires { samples ≤ 2 ^ 48 }
     ensures value { result ≡ most_padded_bits setting.now samples }
@@ -30,8 +30,8 @@ pub fn padded_bound(setting: &Setting, samples: u64) -> u64
     bits + 7 * intervals
 }
 
-/// The most steps of coding so many samples, at most 2^48: for each sample pushed or filled, for
-/// each bit put, padding aside, and for each look at a residual.
+/// Returns the most steps that coding `samples` samples, at most 2^48, can take: one for each sample pushed
+/// or filled, each bit put without padding, and each read of a residual.
 pub fn step_bound(setting: &Setting, samples: u64) -> u64
     requires { samples ≤ 2 ^ 48 }
     ensures value { result ≡ most_steps setting.now samples }
@@ -41,7 +41,7 @@ pub fn step_bound(setting: &Setting, samples: u64) -> u64
     block_count(setting, samples) * (setting.id_len() as u64 + setting.block() as u64 * residual)
 }
 
-/// The blocks of so many samples, a short last one filled.
+/// Returns the number of blocks of `samples` samples, with a short last one.
 fn block_count(setting: &Setting, samples: u64) -> u64
     requires { samples ≤ 2 ^ 48 }
     ensures value { result ≡ blocks_of setting.now samples }
@@ -50,7 +50,7 @@ fn block_count(setting: &Setting, samples: u64) -> u64
     samples.div_ceil(setting.block() as u64)
 }
 
-/// The bits of a block without compression.
+/// Returns the number of bits of a block without compression.
 fn block_bits(setting: &Setting) -> u64
     ensures value { result ≡ id_len setting.now + setting.now.block * setting.now.bits }
     ensures limit { result ≤ 2053 }

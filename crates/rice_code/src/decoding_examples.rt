@@ -10,19 +10,19 @@ pub fn decodes_no_bytes()
     ensures { Decoded defaults (bits_of []) None [] Ended 0 }
 {}
 
-/// A run of one block. Where eight samples are asked for, the zeros behind it are not looked at.
+/// A run of one block. Where eight samples are asked for, the zeros after it are not read.
 pub fn decodes_a_run()
     ensures all { Decoded defaults (bits_of (0x00 ∷ 0x58 ∷ [])) None (replicate 8 (pos 5)) Ended 16 }
     ensures asked { Decoded defaults (bits_of (0x00 ∷ 0x58 ∷ [])) (Some 8) (replicate 8 (pos 5)) Reached 13 }
     ensures one { Decoded defaults (bits_of (0x00 ∷ 0x58 ∷ [])) (Some 1) (pos 5 ∷ []) Reached 13 }
 {}
 
-/// Zeros behind the code are a clean end, however many they are.
+/// Zeros after the code are a clean end, however many there are.
 pub fn decodes_zeros_behind_the_code()
     ensures { Decoded defaults (bits_of (0x00 ∷ 0x58 ∷ 0x00 ∷ 0x00 ∷ [])) None (replicate 8 (pos 5)) Ended 32 }
 {}
 
-/// Where no sample is asked for, nothing is looked at.
+/// Where no sample is asked for, nothing is read.
 pub fn decodes_nothing_that_is_not_asked_for()
     ensures { Decoded defaults (bits_of (0xFF ∷ 0xFF ∷ [])) (Some 0) [] Reached 0 }
 {}
@@ -58,7 +58,7 @@ pub fn decodes_a_numbered_run_to_the_end()
     ensures { Decoded (record defaults { interval = 5 }) (bits_of (0x00 ∷ 0x00 ∷ 0x40 ∷ [])) None (replicate 40 (pos 0)) Ended 24 }
 {}
 
-/// The longest run, and one of 64 blocks, whose codeword stands for nothing.
+/// The longest run, and a codeword of 64 zeros, which is invalid.
 pub fn decodes_the_longest_run()
     ensures longest { Decoded (record defaults { interval = 64 }) (bits_of (replicate 9 0x00 ++ 0x10 ∷ [])) None (replicate 504 (pos 0)) Ended 80 }
     ensures longer { Decoded (record defaults { interval = 64 }) (bits_of (replicate 9 0x00 ++ 0x08 ∷ [])) None [] Past 77 }
@@ -87,7 +87,7 @@ pub fn decodes_the_most_samples_of_a_bit()
     ensures asked { Decoded (record unprocessed_defaults { block = 64; interval = 64 }) (bits_of (0x00 ∷ 0x80 ∷ [])) (Some 10) (replicate 10 (pos 0)) Reached 9 }
 {}
 
-/// Padding is skipped whatever its bits are. It counts as used, also behind the last sample that is asked for.
+/// Padding is skipped whatever its bits are. It counts as used, also after the last sample that is asked for.
 pub fn skips_padding()
     ensures all { Decoded (record defaults { interval = 1; pad = true }) (bits_of (0x00 ∷ 0x5F ∷ 0x00 ∷ 0x58 ∷ [])) None (replicate 16 (pos 5)) Ended 32 }
     ensures asked { Decoded (record defaults { interval = 1; pad = true }) (bits_of (0x00 ∷ 0x5F ∷ 0x00 ∷ 0x58 ∷ [])) (Some 8) (replicate 8 (pos 5)) Reached 16 }

@@ -35,7 +35,7 @@ pub fn no_compression()
     ensures { CodesTo defaults (repetition_of 4 (pos 0 ∷ pos 255 ∷ [])) (0xE0 ∷ 0x1F ∷ 0xFF ∷ 0xFF ∷ 0xFF ∷ 0xFF ∷ 0xFF ∷ 0xFF ∷ 0xE0 ∷ []) 67 }
 {}
 
-/// The same with signed samples, whose reference is sent in two's complement.
+/// Signed samples far from each other, whose reference is sent in two's complement.
 pub fn no_compression_of_signed_samples()
     ensures { CodesTo signed_defaults (repetition_of 4 (negsuc 127 ∷ pos 127 ∷ [])) (0xF0 ∷ 0x1F ∷ 0xFF ∷ 0xFF ∷ 0xFF ∷ 0xFF ∷ 0xFF ∷ 0xFF ∷ 0xE0 ∷ []) 67 }
 {}
@@ -133,7 +133,7 @@ pub fn padded_intervals()
     ensures { CodesTo (record defaults { interval = 1; pad = true }) (replicate 16 (pos 5)) (0x00 ∷ 0x58 ∷ 0x00 ∷ 0x58 ∷ []) 26 }
 {}
 
-/// A run that ends an interval is padded, and what stands in the next begins a byte.
+/// A run that ends an interval is padded, and the next interval begins a byte.
 pub fn padded_run()
     ensures { CodesTo (record defaults { pad = true }) (replicate 17 (pos 5)) (0x00 ∷ 0x54 ∷ 0x00 ∷ 0x58 ∷ []) 27 }
 {}
@@ -143,13 +143,13 @@ pub fn no_padding_inside_an_interval()
     ensures { CodesTo (record defaults { pad = true }) (replicate 15 (pos 5) ++ pos 4 ∷ []) (0x00 ∷ 0x58 ∷ 0xF2 ∷ []) 23 }
 {}
 
-/// An interval that the samples leave unfinished is not padded, though its last run stands for all its blocks; a whole one is.
+/// An interval that the samples leave unfinished is not padded, though its last run may cover all its blocks; a complete one is.
 pub fn padding_of_whole_intervals()
     ensures unfinished { length (code (record defaults { interval = 64; pad = true }) (replicate 40 (pos 0))) ≡ 17 }
     ensures whole { length (code (record defaults { interval = 5; pad = true }) (replicate 40 (pos 0))) ≡ 24 }
 {}
 
-/// What stands whole once the whole segments are coded: the last bits wait for more, where they are not padded.
+/// The complete bytes once the complete segments are coded: without padding the last bits wait for more.
 pub fn early_outputs()
     ensures waits { early_output (record defaults { interval = 1 }) (replicate 8 (pos 5)) ≡ 0x00 ∷ [] }
     ensures four_bits { early_output (record defaults { bits = 4; interval = 1 }) (replicate 8 (pos 5)) ≡ 0x05 ∷ [] }
@@ -176,7 +176,7 @@ pub fn run_codewords()
     ensures most { run_number 63 ≡ 63 }
 {}
 
-/// The costs of some blocks. Rising samples behind a reference:
+/// The costs of some blocks. Rising samples after a reference:
 pub fn costs_of_rising_samples()
     ensures first_split { cost defaults (Split 0 (block_data defaults 0 (pos 0) (numbers_from 0 8))) ≡ 31 }
     ensures second_split { cost defaults (Split 1 (block_data defaults 0 (pos 0) (numbers_from 0 8))) ≡ 31 }
@@ -185,7 +185,7 @@ pub fn costs_of_rising_samples()
     ensures no_compression { cost defaults (NoCompression (block_data defaults 0 (pos 0) (numbers_from 0 8))) ≡ 67 }
 {}
 
-/// One residual of 1 behind seven of 0:
+/// One residual of 1 after seven of 0:
 pub fn costs_of_a_last_step()
     ensures first_split { cost defaults (Split 0 (block_data defaults 1 (pos 5) (replicate 7 (pos 5) ++ pos 4 ∷ []))) ≡ 12 }
     ensures second_split { cost defaults (Split 1 (block_data defaults 1 (pos 5) (replicate 7 (pos 5) ++ pos 4 ∷ []))) ≡ 19 }
@@ -203,7 +203,7 @@ pub fn costs_of_three_steps()
     ensures no_compression { cost defaults (NoCompression (block_data defaults 1 (pos 5) (pos 5 ∷ pos 5 ∷ pos 5 ∷ pos 4 ∷ pos 4 ∷ pos 3 ∷ pos 3 ∷ pos 2 ∷ []))) ≡ 67 }
 {}
 
-/// Falling signed samples behind a reference:
+/// Falling signed samples after a reference:
 pub fn costs_of_signed_samples()
     ensures first_split { cost signed_defaults (Split 0 (block_data signed_defaults 0 (pos 0) (pos 0 ∷ negsuc 0 ∷ negsuc 1 ∷ negsuc 2 ∷ negsuc 3 ∷ negsuc 4 ∷ negsuc 5 ∷ negsuc 6 ∷ []))) ≡ 25 }
     ensures second_split { cost signed_defaults (Split 1 (block_data signed_defaults 0 (pos 0) (pos 0 ∷ negsuc 0 ∷ negsuc 1 ∷ negsuc 2 ∷ negsuc 3 ∷ negsuc 4 ∷ negsuc 5 ∷ negsuc 6 ∷ []))) ≡ 25 }

@@ -1,57 +1,57 @@
 //! The laws of code and decoding, each the contract of a function that does nothing. Their statements are in `specs/Laws.antt`.
-ghost use Rattle.rice_code.specs.Laws.{ReturnsSamples, ReturnsSamplesAndFill, DecodedIsOne, AllBytesAreDecoded, FormsAreReadInOneWay, FormsHaveAOne, CodeGrows, CodeIsBounded, PaddedCodeIsBounded, CodeIsJoined, CostIsLength, ChoiceIsLeast, SavingNeverRises, FirstStopIsBest, ChoiceIsOfThree, CodeGoesOn, BitsGoOn, CodeStandsInIntervals, CodeStandsInBytes, DecodingGoesOn, DecodingStandsInPlaces, StepsAreBounded, StepsArePaid, AllStepsAreBounded};
+ghost use Rattle.rice_code.specs.Laws.{ReturnsSamples, ReturnsSamplesAndFill, DecodedIsOne, AllBytesAreDecoded, FormsAreReadInOneWay, FormsHaveAOne, CodeGrows, CodeIsBounded, PaddedCodeIsBounded, CodeIsJoined, CostIsLength, ChoiceIsLeast, SavingNeverRises, FirstStopIsBest, ChoiceIsOfThree, CodeGoesOn, BitsGoOn, CodeStandsInIntervals, CodeStandsInBytes, DecodingGoesOn, DecodingStandsInPlaces, SplitIsPaid, RunIsNeverLonger, StepsAreBounded, StepsArePaid, AllStepsAreBounded};
 
-/// With the count of the samples, the output decodes to exactly these.
+/// With the number of samples, the output decodes to exactly these samples.
 pub fn returns_samples()
     ensures { ReturnsSamples }
 {}
 
-/// Without it, the output decodes to the samples and fewer than a segment more, to a clean end.
+/// Without their number, the output decodes to the samples and fewer than a segment more, to a clean end.
 pub fn returns_samples_and_fill()
     ensures { ReturnsSamplesAndFill }
 {}
 
-/// What bits are decoded to is one: the samples, how it ends, and the bits used.
+/// Decoding is deterministic: the samples, the ending, and the number of bits used.
 pub fn decoded_is_one()
     ensures { DecodedIsOne }
 {}
 
-/// The bits of all bytes are decoded to something, with and without a count.
+/// Decoding is total: all bytes decode to something, with and without a number of samples.
 pub fn all_bytes_are_decoded()
     ensures { AllBytesAreDecoded }
 {}
 
-/// At one block no coded data set begins another, so bits are read in one way.
+/// The coded data sets that are possible at a block form a prefix code.
 pub fn forms_are_read_in_one_way()
     ensures { FormsAreReadInOneWay }
 {}
 
-/// Each coded data set has a one.
+/// Each coded data set contains a 1.
 pub fn forms_have_a_one()
     ensures { FormsHaveAOne }
 {}
 
-/// The code of the whole segments among the first samples begins the code of all.
+/// The code of the complete segments among the first samples begins the code of all.
 pub fn code_grows()
     ensures { CodeGrows }
 {}
 
-/// Padding aside, the code is bounded.
+/// The number of bits without padding is bounded.
 pub fn code_is_bounded()
     ensures { CodeIsBounded }
 {}
 
-/// With padding, at most seven bits more for each interval begun.
+/// Padding adds at most seven bits for each interval begun.
 pub fn padded_code_is_bounded()
     ensures { PaddedCodeIsBounded }
 {}
 
-/// Where intervals are not padded, the code is the texts of its coded data sets, one behind the other.
+/// Where intervals are not padded, the code is its coded data sets, one after another.
 pub fn code_is_joined()
     ensures { CodeIsJoined }
 {}
 
-/// The cost of a coded data set is the length of its text.
+/// The cost of a coded data set is the number of its bits.
 pub fn cost_is_length()
     ensures { CostIsLength }
 {}
@@ -61,7 +61,7 @@ pub fn choice_is_least()
     ensures { ChoiceIsLeast }
 {}
 
-/// What a split saves against the one before never rises.
+/// The cost is convex in k: what a split saves against the one before never rises.
 pub fn saving_never_rises()
     ensures { SavingNeverRises }
 {}
@@ -76,24 +76,24 @@ pub fn choice_is_of_three()
     ensures { ChoiceIsOfThree }
 {}
 
-/// Behind whole segments the code goes on from their last sample and their last bit.
+/// After complete segments the rest of the code depends only on their last sample and on the bit position.
 pub fn code_goes_on()
     ensures code { CodeGoesOn }
     ensures bits { BitsGoOn }
 {}
 
-/// Of the place where code stands only the places in the interval and in the byte matter.
+/// Code depends on its position only by the block's place in its interval and the bit's place in its byte.
 pub fn code_stands_in_places()
     ensures intervals { CodeStandsInIntervals }
     ensures bytes { CodeStandsInBytes }
 {}
 
-/// Behind a coded data set that is taken, decoding goes on.
+/// After a valid coded data set decoding goes on from its last sample.
 pub fn decoding_goes_on()
     ensures { DecodingGoesOn }
 {}
 
-/// Where no number is asked for, only the places in the interval and in the byte matter to decoding.
+/// Without a number of samples, decoding depends on its position only by the places in the interval and in the byte.
 pub fn decoding_stands_in_places()
     ensures { DecodingStandsInPlaces }
 {}
@@ -103,4 +103,14 @@ pub fn steps_are_bounded()
     ensures blocks { StepsAreBounded }
     ensures paid { StepsArePaid }
     ensures all { AllStepsAreBounded }
+{}
+
+/// Each digit of the best split is paid for by the bits that the block takes.
+pub fn splits_are_paid()
+    ensures { SplitIsPaid }
+{}
+
+/// A run of zero blocks is never longer than its blocks without compression.
+pub fn runs_are_never_longer()
+    ensures { RunIsNeverLonger }
 {}

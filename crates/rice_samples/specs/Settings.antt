@@ -1,6 +1,6 @@
 -- Which settings there are, and which of their parameters is refused first.
 use Rattle.std.specs.Prelude.{ℕ, Bool, ◌≡◌, ◌⊎◌, ◌≤◌, if◌then◌else◌, nat_le, ◌&&◌, ◌||◌, ◌==◌, Result, Ok, Err}
-use Rattle.rice_samples.specs.Parameters.{Parameters}
+use Rattle.rice_samples.specs.Parameters.{Parameters, IsBlockSize}
 use Rattle.rice_samples.specs.declared.setting.SettingFault.{SettingFault}
 use Rattle.rice_samples.specs.declared.setting.SettingFault.TheVariants.{BadBits, BadBlock, BadInterval}
 
@@ -20,7 +20,7 @@ abbrev pub HasLegalBits : Parameters → Type 0
 HasLegalBits s = (1 ≤ s.bits) × (s.bits ≤ 32)
 
 abbrev pub HasLegalBlock : Parameters → Type 0
-HasLegalBlock s = (s.block ≡ 8) ⊎ (s.block ≡ 16) ⊎ (s.block ≡ 32) ⊎ (s.block ≡ 64)
+HasLegalBlock s = IsBlockSize s.block
 
 abbrev pub HasLegalInterval : Parameters → Type 0
 HasLegalInterval s = (1 ≤ s.interval) × (s.interval ≤ 4096)
@@ -31,7 +31,7 @@ IsRefused s BadBits = ¬ HasLegalBits s
 IsRefused s BadBlock = HasLegalBits s × ¬ HasLegalBlock s
 IsRefused s BadInterval = HasLegalBits s × HasLegalBlock s × ¬ HasLegalInterval s
 
--- the same by tests: the setting with these parameters, or the fault
+-- the setting with these parameters where they are legal, else the fault of the first that is not
 abbrev pub setting_of : Parameters → Result Parameters SettingFault
 setting_of s =
     if nat_le 1 s.bits && nat_le s.bits 32 then

@@ -5,7 +5,7 @@ ghost use Rattle.rice_samples.specs.bytes.Values.{IsValue, ordered_bytes};
 
 use arrayvec::ArrayVec;
 
-/// The lowest `bits` binary digits of `x`.
+/// Returns the lowest `bits` binary digits of `x`.
 #[inline]
 pub(crate) fn digits_of(x: i64, bits: u32) -> u32
     requires bits { bits ≤ 32 }
@@ -17,7 +17,7 @@ pub(crate) fn digits_of(x: i64, bits: u32) -> u32
     (x.cast_unsigned() % (1 << bits)) as u32
 }
 
-/// The value with these `bits` binary digits, in two's complement where `signed`.
+/// Returns the value with these `bits` binary digits, in two's complement if `signed`.
 #[inline]
 pub(crate) fn value_with(digits: u32, bits: u32, signed: bool) -> i64
     requires bits { (1 ≤ bits) × (bits ≤ 32) }
@@ -34,7 +34,7 @@ pub(crate) fn value_with(digits: u32, bits: u32, signed: bool) -> i64
     }
 }
 
-/// The number that one to four bytes spell.
+/// Returns the number that one to four bytes spell.
 #[inline]
 pub(crate) fn word_of(bytes: &[u8], msb: bool) -> u32
     requires { (1 ≤ length bytes.now) × (length bytes.now ≤ 4) }
@@ -53,7 +53,7 @@ pub(crate) fn word_of(bytes: &[u8], msb: bool) -> u32
     }
 }
 
-/// The lowest `width` bytes of a word.
+/// Returns the lowest `width` bytes of a word.
 #[inline]
 pub(crate) fn bytes_with(word: u32, width: u32, msb: bool) -> ArrayVec<u8, 4>
     requires { (1 ≤ width) × (width ≤ 4) }
@@ -65,7 +65,7 @@ pub(crate) fn bytes_with(word: u32, width: u32, msb: bool) -> ArrayVec<u8, 4>
     vector_of(lowest)
 }
 
-/// Stores the lowest bytes of a word, as many as there are places.
+/// Stores the lowest bytes of a word in all places of a slice.
 #[inline(always)]
 pub(crate) fn store_word(word: u32, msb: bool, bytes: &mut [u8])
     requires { (1 ≤ length bytes.old) × (length bytes.old ≤ 4) }
@@ -83,7 +83,7 @@ pub(crate) fn store_word(word: u32, msb: bool, bytes: &mut [u8])
     }
 }
 
-/// These bytes in a vector.
+/// Returns the bytes in a vector.
 #[inline]
 fn vector_of(bytes: &[u8]) -> ArrayVec<u8, 4>
     requires { length bytes.now ≤ 4 }

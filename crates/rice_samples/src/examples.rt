@@ -94,7 +94,7 @@ pub fn segments_of_an_interval()
     ensures unprocessed { is_reference unprocessed_defaults 0 ≡ false }
 {}
 
-/// Samples wait until their segment is whole.
+/// Samples wait until their segment is complete.
 pub fn whole_segments()
     ensures waits { cut defaults 15 ≡ 0 }
     ensures whole { cut defaults 16 ≡ 16 }

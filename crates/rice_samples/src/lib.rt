@@ -1,4 +1,4 @@
-//! Samples: what they are set to, how they are spelled, the residuals that stand for them, and
+//! Samples: settings, the spelling of samples in bytes, the preprocessor, and
 //! blocks of residuals.
 #![tactic(auto)]
 

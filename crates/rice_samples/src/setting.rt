@@ -1,8 +1,8 @@
-//! What coder and decoder are set to.
+//! The setting of a coder and a decoder.
 ghost use Rattle.std.specs.Prelude.{◌≡◌, ◌⊎◌, ℕ, ◌+◌, ◌-◌, ◌*◌, ◌%◌, ◌^◌, ◌<◌, ◌≤◌, ◌↔◌, IsTrue, IsOk, IfErr, ℤ};
 ghost use Rattle.rice_samples.specs.Parameters.{Parameters, IsLegal, IsSample, id_len, k_max, width, value_count, least, level, level as level_of};
 ghost use Rattle.rice_samples.specs.Places.{segment_blocks, blocks_left, is_reference};
-ghost use Rattle.rice_samples.specs.blocks.Sizes.{IsBlockSize};
+ghost use Rattle.rice_samples.specs.Parameters.{IsBlockSize};
 ghost use Rattle.rice_samples.specs.Settings.{parameters, setting_of, IsRefused};
 ghost use Rattle.rice_samples.specs.bytes.Values.{offset};
 
@@ -23,7 +23,7 @@ pub enum SettingFault {
     BadInterval,
 }
 
-/// What coder and decoder are set to. Clauses see the parameters, which are legal.
+/// The setting of a coder and a decoder. Contracts see the parameters, which are legal.
 #[derive(Clone, Copy, Debug)]
 pub struct Setting {
     bits: u32,
@@ -59,12 +59,12 @@ impl Model for Setting {
 }
 
 impl Setting {
-    /// The setting with these parameters: bits per sample, samples per block, blocks per reference
+    /// Returns the setting with these parameters: bits per sample, samples per block, blocks per reference
     /// interval, whether samples are signed, whether their most significant byte comes first,
     /// whether 17 to 24 bits take three bytes in place of four, whether samples are predicted, and
     /// whether the code of each interval is filled to a byte.
     ///
-    /// The first parameter that is not legal is refused: `BadBits` unless `bits` is 1 to 32, then
+    /// Refuses the first parameter that is not legal: `BadBits` unless `bits` is 1 to 32, then
     /// `BadBlock` unless `block` is 8, 16, 32 or 64, then `BadInterval` unless `interval` is 1 to
     /// 4,096 (CCSDS 121.0-B-3, sections 3 and 4).
     pub fn new(
@@ -102,7 +102,7 @@ impl Setting {
         })
     }
 
-    /// The bits of a sample, n: 1 to 32.
+    /// Returns the number of bits of a sample, n: 1 to 32.
     #[inline]
     pub fn bits(&self) -> u32
         ensures value { result ≡ self.now.bits }
@@ -112,7 +112,7 @@ impl Setting {
         self.bits
     }
 
-    /// The samples of a block, J: 8, 16, 32 or 64.
+    /// Returns the number of samples of a block, J: 8, 16, 32 or 64.
     #[inline]
     pub fn block(&self) -> u32
         ensures value { result ≡ self.now.block }
@@ -123,7 +123,7 @@ impl Setting {
         self.block
     }
 
-    /// The blocks of a reference interval, r: 1 to 4,096.
+    /// Returns the number of blocks of a reference interval, r: 1 to 4,096.
     #[inline]
     pub fn interval(&self) -> u32
         ensures value { result ≡ self.now.interval }
@@ -133,7 +133,7 @@ impl Setting {
         self.interval
     }
 
-    /// The bits of an option's identifier: 3, 4 or 5 (CCSDS 121.0-B-3, section 5).
+    /// Returns the number of bits of an option's identifier: 3, 4 or 5 (CCSDS 121.0-B-3, section 5).
     #[inline]
     pub fn id_len(&self) -> u32
         ensures value { result ≡ id_len self.now }
@@ -146,7 +146,7 @@ impl Setting {
         }
     }
 
-    /// The greatest split: 5, 13 or 29.
+    /// Returns the greatest split: 5, 13 or 29.
     #[inline]
     pub fn k_max(&self) -> u32
         ensures value { result ≡ k_max self.now }
@@ -155,7 +155,7 @@ impl Setting {
         (1 << self.id_len()) - 3
     }
 
-    /// The bytes of a sample: 1 to 4.
+    /// Returns the number of bytes of a sample: 1 to 4.
     #[inline]
     pub fn width(&self) -> u32
         ensures value { result ≡ width self.now }
@@ -171,7 +171,7 @@ impl Setting {
         }
     }
 
-    /// The blocks of the segment in which block `b` lies: 64, or fewer at the end of an interval.
+    /// Returns the number of blocks of the segment of block `b`: 64, or fewer at the end of an interval.
     #[inline]
     pub fn segment_blocks(&self, b: u64) -> u32
         ensures value { result ≡ segment_blocks self.now b }
@@ -180,7 +180,7 @@ impl Setting {
         (self.interval - self.place(b) / 64 * 64).min(64)
     }
 
-    /// The blocks from block `b` to the end of its segment, `b` included.
+    /// Returns the number of blocks from block `b` to the end of its segment, `b` included.
     #[inline]
     pub fn blocks_left(&self, b: u64) -> u32
         ensures value { result ≡ blocks_left self.now b }
@@ -189,7 +189,7 @@ impl Setting {
         self.segment_blocks(b) - self.place(b) % 64
     }
 
-    /// Whether the first sample of block `b` is a reference sample. Never without preprocessing.
+    /// Returns whether the first sample of block `b` is a reference sample. Never without preprocessing.
     #[inline]
     pub fn is_reference(&self, b: u64) -> bool
         ensures { result ≡ is_reference self.now b }
@@ -197,7 +197,7 @@ impl Setting {
         self.preprocess && self.place(b) == 0
     }
 
-    /// Whether samples are predicted, and their residuals coded in place of their patterns.
+    /// Returns whether samples are predicted, and their residuals coded in place of their patterns.
     #[inline]
     pub fn preprocess(&self) -> bool
         ensures { result ≡ self.now.preprocess }
@@ -205,7 +205,7 @@ impl Setting {
         self.preprocess
     }
 
-    /// Whether the code of each interval is filled to a byte.
+    /// Returns whether the code of each interval is filled to a byte.
     #[inline]
     pub fn pads(&self) -> bool
         ensures { result ≡ self.now.pad }
@@ -213,7 +213,7 @@ impl Setting {
         self.pad
     }
 
-    /// Whether `x` is a value that a sample can have.
+    /// Returns whether `x` is a value that a sample can have.
     #[inline]
     pub fn in_range(&self, x: i64) -> bool
         ensures { IsTrue result ↔ IsSample self.now x }
@@ -222,7 +222,7 @@ impl Setting {
         least <= x && x < least + (1 << self.bits)
     }
 
-    /// The least value that a sample can have.
+    /// Returns the least value that a sample can have.
     #[inline]
     pub(crate) fn least(&self) -> i64
         ensures value { result ≡ least self.now }
@@ -235,7 +235,7 @@ impl Setting {
         }
     }
 
-    /// How many values that a sample can have lie below 0.
+    /// Returns the number of legal values below 0.
     #[inline]
     pub(crate) fn offset(&self) -> u64
         ensures value { result ≡ offset self.now }
@@ -245,7 +245,7 @@ impl Setting {
         if self.signed { 1 << (self.bits - 1) } else { 0 }
     }
 
-    /// How many values a sample can have, and so a residual: 2^n.
+    /// Returns the number of values that a sample can have, and so a residual: 2^n.
     #[inline]
     pub fn values(&self) -> u64
         ensures value { result ≡ value_count self.now }
@@ -255,7 +255,7 @@ impl Setting {
         1 << self.bits
     }
 
-    /// How many values that a sample can have lie below `x`.
+    /// Returns the level of `x`: the number of legal values below it.
     #[inline]
     pub(crate) fn level(&self, x: i64) -> u64
         requires { IsSample self.now x }
@@ -266,7 +266,7 @@ impl Setting {
         (x - self.least()) as u64
     }
 
-    /// The value with so many below it.
+    /// Returns the value with the given level.
     #[inline]
     pub(crate) fn value_at(&self, level: u64) -> i64
         requires { level < value_count self.now }
@@ -290,7 +290,7 @@ impl Setting {
         self.msb
     }
 
-    /// The place of block `b` in its interval.
+    /// Returns the place of block `b` in its interval.
     #[inline]
     fn place(&self, b: u64) -> u32
         ensures value { result ≡ b % self.now.interval }

@@ -284,6 +284,7 @@ fn stops(rt: HostRuntime) {
             }
         }
         assert_eq!(rt; segment.len(), size);
+        assert!(rt; !segment.is_empty());
         if segment.len() == size
             && (size == 8 || size == 16 || size == 32 || size == 64)
             && limit <= 29

@@ -16,13 +16,13 @@ use rice_bits::{BitSink, Intake, Meter, Outlet, ReadFault, WriteFault};
 use rice_code::Coder;
 use rice_samples::{Setting, samples_of};
 
-/// The most bytes that are encoded.
+/// The limit of the input, in bytes.
 const LIMIT: u64 = 1 << 48;
 
-/// The bytes that a buffer holds.
+/// The size of a read, in bytes.
 const PIECE: usize = 4096;
 
-/// A coder at work.
+/// A coder with its sink, its meter, and what it has counted for the report.
 #[derive(Drop)]
 pub struct Encoding {
     coder: Coder,
@@ -33,7 +33,7 @@ pub struct Encoding {
 }
 
 impl Encoding {
-    /// An encoding that has taken no sample.
+    /// Returns an encoding that has taken no sample.
     fn new(setting: Setting) -> Self
         ensures { (now : Option (List ℕ)) → IsEncodingOf setting now now result [] }
     {
@@ -46,7 +46,7 @@ impl Encoding {
         }
     }
 
-    /// Takes samples up to the one that makes a segment whole, or all of them. Answers how many.
+    /// Takes samples up to the one that completes a segment, or all of them, and returns their number.
     #[inline]
     fn take(&mut self, samples: &[i64]) -> usize
         requires ready { (now : Option (List ℕ)) × CanTake now self.old samples.now }
@@ -62,7 +62,7 @@ impl Encoding {
         pushed.samples
     }
 
-    /// Takes samples in the same way, and writes the whole bytes of what they complete. Answers how many.
+    /// Takes samples as `take` does, writes the bytes that they complete, and returns their number.
     fn push<O: Outlet>(&mut self, samples: &[i64], outlet: &mut O) -> Result<usize, WriteFault>
         requires ready { CanTake (O.taken outlet.old) self.old samples.now }
         requires some { 0 < length samples.now }
@@ -85,7 +85,7 @@ impl Encoding {
         }
     }
 
-    /// Takes all samples, and writes the whole bytes of what each segment completes before it goes on.
+    /// Takes all samples, and writes the bytes that each segment completes before it takes the next sample.
     fn push_each<O: Outlet>(&mut self, samples: &[i64], outlet: &mut O) -> Result<(), WriteFault>
         requires ready { CanTake (O.taken outlet.old) self.old samples.now }
         requires writes { O.failed outlet.old + 1 < 2 ^ 64 }
@@ -106,8 +106,8 @@ impl Encoding {
         Ok(())
     }
 
-    /// Takes the samples that the bytes spell, as far as they are whole, and writes the whole bytes of what they complete.
-    /// What `samples` holds is lost.
+    /// Takes the samples that the bytes spell, and writes the bytes that they complete. A last sample that is cut is left.
+    /// `samples` is scratch space.
     fn push_all<O: Outlet>(
         &mut self,
         setting: &Setting,
@@ -138,7 +138,7 @@ impl Encoding {
         Ok(())
     }
 
-    /// Codes the samples that wait, and fills the last byte. Answers the report.
+    /// Codes the samples that wait, fills the last byte, and returns the report with the rest of the code.
     fn close(mut self) -> (Report, BitSink<16432>)
         requires { (s : Parameters) × (old : Option (List ℕ)) × (now : Option (List ℕ)) × (xs : List ℤ) × IsEncodingOf s old now self xs × (length xs ≤ 2 ^ 48) }
         ensures { (s : Parameters) (old now : Option (List ℕ)) (xs : List ℤ) → IsEncodingOf s old now self xs →
@@ -154,7 +154,7 @@ impl Encoding {
         (report, self.sink)
     }
 
-    /// Codes the samples that wait, fills the last byte, and writes.
+    /// Codes the samples that wait, fills the last byte, and writes the rest of the code.
     fn finish<O: Outlet>(self, outlet: &mut O) -> Outcome
         requires ready { (s : Parameters) × (old : Option (List ℕ)) × (xs : List ℤ) × IsEncodingOf s old (O.taken outlet.old) self xs × (length xs ≤ 2 ^ 48) }
         requires writes { O.failed outlet.old + 1 < 2 ^ 64 }
@@ -170,7 +170,7 @@ impl Encoding {
         Outcome { report, fault }
     }
 
-    /// What was done up to a fault.
+    /// Returns what was done up to a fault.
     fn stopped(&self, fault: Fault) -> Outcome
         ensures told { (s : Parameters) (xs : List ℤ) → CountsSamples s self.now xs → ReportsTaken s result.report xs }
         ensures fault { result.fault ≡ Some fault }
@@ -187,7 +187,7 @@ impl Encoding {
     }
 }
 
-/// How many bytes are asked for, behind so many that were given, of which so many wait in the buffer.
+/// Returns the number of bytes to request next, with `given` read so far and `waiting` left in the buffer.
 fn piece(given: u64, waiting: usize) -> usize
     requires { waiting < 4 }
     ensures some { 0 < result }
@@ -202,7 +202,7 @@ fn piece(given: u64, waiting: usize) -> usize
     }
 }
 
-/// Puts the next bytes, at most so many, behind those that wait in the buffer, and answers how many.
+/// Puts the next bytes, at most `most`, after those that wait in the buffer, and returns their number.
 fn refill<I: Intake>(
     intake: &mut I,
     buffer: &mut [u8],
@@ -225,7 +225,7 @@ fn refill<I: Intake>(
     }
 }
 
-/// Moves the last of the bytes before `filled` to the front.
+/// Moves the last `waiting` bytes before `filled` to the front.
 fn carry(buffer: &mut [u8], filled: usize, waiting: usize)
     requires order { waiting ≤ filled }
     requires within { filled ≤ length buffer.old }
@@ -238,7 +238,7 @@ fn carry(buffer: &mut [u8], filled: usize, waiting: usize)
 /// Encodes the samples that the intake's bytes spell, and writes their code to the outlet.
 ///
 /// It asks for at most 4,096 bytes at a time and for at most 2^48 in all, and then for one more.
-/// The code of each segment that a sample makes whole is written before the next sample is taken.
+/// The code of each segment that a sample completes is written before the next sample is taken.
 pub fn encode<I: Intake, O: Outlet>(setting: &Setting, intake: &mut I, outlet: &mut O) -> Outcome
     requires reads { I.failed intake.old + 1 < 2 ^ 64 }
     requires writes { O.failed outlet.old + 1 < 2 ^ 64 }

@@ -1,7 +1,7 @@
 //! What joins encoding and decoding.
 ghost use Rattle.rice_stream.specs.Laws.{ReturnsBytes};
 
-/// The bytes that encoding writes decode, with the number of their samples, to the bytes that were encoded.
+/// With the number of samples, decoding what was encoded gives the bytes back.
 pub fn returns_bytes()
     ensures { ReturnsBytes }
 {}

@@ -1,7 +1,7 @@
-//! What an engine answers.
+//! What encoding and decoding report.
 use thiserror::Error;
 
-/// Why an engine stopped before the end.
+/// Why encoding or decoding stopped before the end.
 #[derive(Clone, Copy, Debug, PartialEq, Eq, Error)]
 pub enum Fault {
     /// The intake failed.
@@ -13,35 +13,35 @@ pub enum Fault {
     /// The intake gave a byte past the limit.
     #[error("input is too long")]
     TooLong,
-    /// The bytes of this sample, counted from 0, spell none.
+    /// The bytes of sample `index`, counted from 0, spell no sample.
     #[error("sample {index} is out of range")]
     SampleOutOfRange { index: u64 },
-    /// The input ends inside this sample, counted from 0.
+    /// The input ends inside sample `index`, counted from 0.
     #[error("input ends inside sample {index}")]
     SampleCut { index: u64 },
-    /// The code ends after so many samples, and inside a coded data set or before the samples asked for.
+    /// The code ends after `samples` samples, inside a coded data set or before all samples that were asked for.
     #[error("code ends after {samples} samples")]
     CodeEnds { samples: u64 },
-    /// The run that begins with this block, counted from 0, passes the end of its segment.
+    /// The run that begins with block `block`, counted from 0, passes the end of its segment.
     #[error("run at block {block} passes its segment")]
     RunPastSegment { block: u64 },
-    /// A residual of this block, counted from 0, is larger than any sample makes, or no 0 stands at the reference place.
+    /// A residual of block `block`, counted from 0, does not fit in n bits, or the value at the reference place is not 0.
     #[error("residual too large in block {block}")]
     ResidualTooLarge { block: u64 },
 }
 
-/// What an engine has done.
+/// What encoding or decoding has done.
 #[derive(Clone, Copy, Debug, PartialEq, Eq)]
 pub struct Report {
-    /// The samples encoded, or decoded and written.
+    /// The number of samples that were encoded, or decoded and written.
     pub samples: u64,
-    /// The bits of the code: those that were put, without any padding, or those that were taken.
+    /// The number of bits of code: those that were put, without padding, or those that were taken.
     pub bits: u64,
-    /// The steps of coder or decoder.
+    /// The number of steps of the coder or the decoder.
     pub steps: u64,
 }
 
-/// What an engine has done, and why it stopped before the end, if it did.
+/// What encoding or decoding has done, and why it stopped before the end, if it did.
 #[derive(Clone, Copy, Debug, PartialEq, Eq)]
 pub struct Outcome {
     pub report: Report,

@@ -1,4 +1,4 @@
-//! Writing all of some bytes.
+//! Writing all bytes of a slice, of a sink, or of samples.
 ghost use Rattle.std.specs.Prelude.{◌≡◌, ℕ, ◌+◌, ◌*◌, ◌^◌, ◌<◌, ◌≤◌, All, length, drop, OnOk, OnErr};
 ghost use Rattle.std.specs.Io.KnownBytes.{Appends};
 ghost use Rattle.rice_bits.specs.Bits.{whole_bytes, bits_in_bytes};
@@ -9,7 +9,7 @@ ghost use Rattle.rice_stream.specs.Writes.{TakesPart};
 use rice_bits::{BitSink, Outlet, WriteFault};
 use rice_samples::{Setting, write_spellings};
 
-/// Writes all of the bytes. `WriteFault` only where the outlet fails, which has then taken a part of them, and not all.
+/// Writes all of the bytes. `WriteFault` only if the outlet fails, which has then taken a part of them, and not all.
 pub fn write_all<O: Outlet>(outlet: &mut O, bytes: &[u8]) -> Result<(), WriteFault>
     requires { O.failed outlet.old + 1 < 2 ^ 64 }
     ensures ok { OnOk result (Appends (O.taken outlet.old) (O.taken outlet.new) bytes.now × (O.failed outlet.new ≡ O.failed outlet.old)) }
@@ -25,7 +25,7 @@ pub fn write_all<O: Outlet>(outlet: &mut O, bytes: &[u8]) -> Result<(), WriteFau
     Ok(())
 }
 
-/// Writes the bytes that are whole in a sink, and removes them from it.
+/// Writes the complete bytes of a sink, and removes them from it.
 #[inline]
 pub fn write_whole<const N: usize, O: Outlet>(
     sink: &mut BitSink<N>,
@@ -45,7 +45,7 @@ pub fn write_whole<const N: usize, O: Outlet>(
     }
 }
 
-/// Writes the bytes of samples of a block, which it gathers in `bytes`.
+/// Writes the bytes of the samples of a block. `bytes` is scratch space.
 #[inline]
 pub fn write_samples<O: Outlet>(
     setting: &Setting,

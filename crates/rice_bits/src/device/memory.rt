@@ -18,8 +18,8 @@ pub struct MemoryIn<'a> {
 impl<'a> MemoryIn<'a> {
     ghost use Rattle.rice_bits.specs.device.Memory.{memory_left, memory_in_piece, memory_before_failure, memory_in_failures};
 
-    /// An intake that gives at most `piece` bytes a call. No call passes the place `fail_at`, and each call fails that finds the
-    /// intake there.
+    /// Returns an intake that gives at most `piece` bytes a call. No call passes the place `fail_at`, and each call that finds the
+    /// intake there fails.
     pub fn new(bytes: &'a [u8], piece: usize, fail_at: Option<usize>) -> Self
         requires { 0 < piece }
         ensures bytes { memory_left result ≡ bytes.now }
@@ -96,8 +96,8 @@ pub struct MemoryOut<'a> {
 impl<'a> MemoryOut<'a> {
     ghost use Rattle.rice_bits.specs.device.Memory.{memory_taken, memory_out_piece, memory_room, memory_out_failures, at_most};
 
-    /// An outlet that takes at most `piece` bytes a call. No call passes the place `fail_at` or the end of `room`, and each call
-    /// fails that finds the outlet there.
+    /// Returns an outlet that takes at most `piece` bytes a call. No call passes the place `fail_at` or the end of `room`, and each
+    /// call that finds the outlet there fails.
     pub fn new(room: &'a mut [u8], piece: usize, fail_at: Option<usize>) -> Self
         requires { 0 < piece }
         ensures bytes { memory_taken result ≡ [] }
@@ -118,7 +118,7 @@ impl<'a> MemoryOut<'a> {
         }
     }
 
-    /// The bytes taken so far.
+    /// Returns the bytes taken so far.
     pub fn written(&self) -> &[u8]
         ensures { result.now ≡ memory_taken self.now }
     {
@@ -173,7 +173,7 @@ pub struct ZeroIn {
 impl ZeroIn {
     ghost use Rattle.rice_bits.specs.device.Memory.{zeros_left};
 
-    /// An intake that gives `bytes` zero bytes.
+    /// Returns an intake that gives `bytes` zero bytes.
     pub fn new(bytes: u64) -> Self
         ensures { zeros_left result ≡ bytes }
     {

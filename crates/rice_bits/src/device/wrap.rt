@@ -4,8 +4,8 @@ ghost use Rattle.std.specs.Prelude.{◌≡◌, ◌+◌};
 use crate::device::{Intake, Outlet, ReadFault, WriteFault};
 use std::io::{Read, Write};
 
-/// An intake over a reader of `std`. An error of the reader, whatever its kind, is one failure, and nothing is tried again. It tells
-/// its bytes where the reader does.
+/// An intake over a reader of `std`. An error of the reader, whatever its kind, is one failure, and nothing is tried again. Contracts
+/// see its bytes where they see the reader's.
 #[derive(Drop)]
 pub struct FromReader<R> {
     reader: R,
@@ -15,7 +15,7 @@ pub struct FromReader<R> {
 impl<R: Read> FromReader<R> {
     ghost use Rattle.rice_bits.specs.device.Wrap.{reader_of, reader_failures};
 
-    /// An intake that has not failed.
+    /// Returns an intake that has not failed.
     pub fn new(reader: R) -> Self
         ensures reader { reader_of result ≡ reader }
         ensures failures { reader_failures result ≡ 0 }
@@ -48,7 +48,7 @@ impl<R: Read> Intake for FromReader<R> {
 }
 
 /// An outlet over a writer of `std`. An error of the writer, whatever its kind, is one failure, and so is a write that takes 0 bytes;
-/// nothing is tried again. It tells its bytes where the writer does.
+/// nothing is tried again. Contracts see its bytes where they see the writer's.
 #[derive(Drop)]
 pub struct FromWriter<W> {
     writer: W,
@@ -58,7 +58,7 @@ pub struct FromWriter<W> {
 impl<W: Write> FromWriter<W> {
     ghost use Rattle.rice_bits.specs.device.Wrap.{writer_of, writer_failures};
 
-    /// An outlet that has not failed.
+    /// Returns an outlet that has not failed.
     pub fn new(writer: W) -> Self
         ensures writer { writer_of result ≡ writer }
         ensures failures { writer_failures result ≡ 0 }

@@ -1,5 +1,5 @@
 -- How samples stand in bytes (own rules): unsigned numbers as they are, signed ones in two's complement over the whole width.
-use Rattle.std.specs.Prelude.{◌≡◌, ◌≢◌, ℕ, ◌*◌, ◌<◌, ◌≤◌, ◌++◌, List, [], length, take, All, flat_map, if◌then◌else◌, ℤ}
+use Rattle.std.specs.Prelude.{◌≡◌, ◌≢◌, ℕ, ◌*◌, ◌<◌, ◌≤◌, ◌++◌, List, [], length, take, drop, All, flat_map, if◌then◌else◌, ℤ}
 use Rattle.std.specs.Int.{bytes_high_first, bytes_low_first}
 use Rattle.rice_samples.specs.Parameters.{Parameters, width, IsSample}
 use Rattle.rice_samples.specs.predict.Residuals.{twos_complement}
@@ -19,9 +19,13 @@ pub data SpellingEnd : Type 0 where
   NoSpelling : SpellingEnd
   TooFew : SpellingEnd
 
+-- the first `width` bytes are the spelling of no sample
+abbrev pub IsNoSpelling : Parameters → List ℕ → Type 0
+IsNoSpelling s bytes = (x : ℤ) → IsSample s x → take (width s) bytes ≢ spelling s x
+
 abbrev pub EndsSpelling : Parameters → List ℕ → SpellingEnd → Type 0
 EndsSpelling s rest AtEnd = rest ≡ []
-EndsSpelling s rest NoSpelling = (width s ≤ length rest) × ((x : ℤ) → IsSample s x → take (width s) rest ≢ spelling s x)
+EndsSpelling s rest NoSpelling = (width s ≤ length rest) × IsNoSpelling s rest
 EndsSpelling s rest TooFew = (rest ≢ []) × (length rest < width s)
 
 -- these are the samples of the bytes, up to what stops them
@@ -30,3 +34,9 @@ pub record Spells (s : Parameters) (bytes : List ℕ) (samples : List ℤ) (stop
   pub whole : bytes ≡ spellings s samples ++ rest
   pub legal : All (IsSample s) samples
   pub stops : EndsSpelling s rest stop
+
+-- The first `count` of some numbers are the samples that bytes spell, up to the first bytes that spell none.
+pub record ReadsSamples (s : Parameters) (bytes : List ℕ) (numbers : List ℤ) (count : ℕ) : Type 0 where
+  pub legal : All (IsSample s) (take count numbers)
+  pub spelled : take (width s * count) bytes ≡ spellings s (take count numbers)
+  pub stop : count < length numbers → IsNoSpelling s (drop (width s * count) bytes)

@@ -1,11 +1,7 @@
 -- The values that have a pattern of so many bits.
 use Rattle.std.specs.Prelude.{ℕ, ◌-◌, ◌^◌, ◌<◌, Bool, if◌then◌else◌, List, ℤ, pos, neg_ℤ, ◌≤ℤ◌}
 use Rattle.std.specs.Int.{int_gap, bytes_high_first, bytes_low_first}
-use Rattle.rice_samples.specs.Parameters.{Parameters}
-
--- the least of them
-abbrev pub least_value : ℕ → Bool → ℤ
-least_value bits signed = if signed then neg_ℤ (pos (2 ^ (bits - 1))) else pos 0
+use Rattle.rice_samples.specs.Parameters.{Parameters, least_value}
 
 -- x is one of them: in two's complement where `signed`
 abbrev pub IsValue : ℕ → Bool → ℤ → Type 0

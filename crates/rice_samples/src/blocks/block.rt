@@ -2,7 +2,7 @@
 ghost use Rattle.std.specs.Prelude.{◌≡◌, ℕ, ◌+◌, ◌*◌, ◌/◌, ◌^◌, ◌==◌, ◌<◌, ◌≤◌, min, length, slice_index, sum_by};
 ghost use Rattle.std.specs.List.{list_all};
 ghost use Rattle.rice_samples.specs.blocks.Pairs.{pair_codes};
-ghost use Rattle.rice_samples.specs.blocks.Sizes.{IsBlockSize};
+ghost use Rattle.rice_samples.specs.Parameters.{IsBlockSize};
 
 use crate::blocks::codewords::pair_sum;
 use crate::blocks::lanes::{all_zero, sum_shifted};
@@ -10,11 +10,11 @@ use crate::blocks::minimum::first_stop;
 use rice_bits::Meter;
 use std::marker::Model;
 
-/// The residuals of a block, 8, 16, 32 or 64 of them, lent by a segment. Clauses see their list.
+/// The residuals of a block, 8, 16, 32 or 64 of them, lent by a segment. Contracts see their list.
 ///
-/// Each look at a residual is a step: the calls below count as many as the block has residuals,
-/// `at` counts one, `four_at` four, and `first_stop` says how many. No other call tells anything of
-/// the residuals.
+/// Each look at a residual is a step. The calls below tick one for each residual of the block, `at`
+/// ticks one, `four_at` four, and `first_stop` the looks of the definition. No other call reveals
+/// anything about the residuals. A block is never empty.
 #[derive(Drop)]
 pub struct Block<'a> {
     items: &'a [u32],
@@ -22,7 +22,7 @@ pub struct Block<'a> {
 
 impl<'a> Model for Block<'a> {
     ghost use Rattle.std.specs.Prelude.{ℕ, List, length};
-    ghost use Rattle.rice_samples.specs.blocks.Sizes.{IsBlockSize};
+    ghost use Rattle.rice_samples.specs.Parameters.{IsBlockSize};
 
     ghost Value = { List ℕ };
 
@@ -42,7 +42,7 @@ impl<'a> Block<'a> {
 }
 
 impl Block<'_> {
-    /// How many residuals there are: 8, 16, 32 or 64.
+    /// Returns the number of residuals: 8, 16, 32 or 64.
     #[inline]
     pub fn len(&self) -> usize
         ensures value { result ≡ length self.now }
@@ -52,7 +52,7 @@ impl Block<'_> {
         self.items.len()
     }
 
-    /// Whether all residuals are 0.
+    /// Returns whether all residuals are 0.
     #[inline]
     pub fn is_zero(&self, meter: &mut Meter) -> bool
         requires { meter.old + length self.now < 2 ^ 62 }
@@ -62,7 +62,7 @@ impl Block<'_> {
         all_zero(self.look(meter))
     }
 
-    /// The sum of the residuals without their `k` lowest binary digits, for `k` up to 29.
+    /// Returns the sum of the residuals without their `k` lowest binary digits, for `k` up to 29.
     #[inline]
     pub fn sum_shifted(&self, k: u32, meter: &mut Meter) -> u64
         requires split { k ≤ 29 }
@@ -74,9 +74,11 @@ impl Block<'_> {
         sum_shifted(self.look(meter), k)
     }
 
-    /// The first `k`, up to `limit`, at which one digit more takes no more than `price` off the sum of the residuals
-    /// without their `k` lowest binary digits, and this sum. It ticks for a look at each sum up to the next, if that is
-    /// not above `limit`, even where it gets by with fewer.
+    /// Returns the first `k`, up to `limit`, at which one more digit takes no more than `price` off the sum of the
+    /// residuals without their `k` lowest binary digits, and this sum.
+    ///
+    /// A step here is a look of the definition, and bounds the looks taken: it ticks each residual once for each sum from
+    /// `k = 0` up to the one after the result, if that is not above `limit`, though it may take fewer of these sums.
     #[inline]
     pub fn first_stop(&self, limit: u32, price: u64, meter: &mut Meter) -> (u32, u64)
         requires limit { limit ≤ 29 }
@@ -96,7 +98,7 @@ impl Block<'_> {
         (k, sum)
     }
 
-    /// The bits of the codewords that second extension sends for the pairs of residuals.
+    /// Returns the number of bits of the codewords that second extension sends for the pairs of residuals.
     #[inline]
     pub fn pair_sum(&self, meter: &mut Meter) -> u128
         requires { meter.old + length self.now < 2 ^ 62 }
@@ -107,7 +109,7 @@ impl Block<'_> {
         pair_sum(self.look(meter))
     }
 
-    /// Residual number `i`.
+    /// Returns residual number `i`, for one step.
     #[inline]
     pub fn at(&self, i: usize, meter: &mut Meter) -> u32
         requires inside { i < length self.now }
@@ -120,7 +122,7 @@ impl Block<'_> {
         items[i]
     }
 
-    /// Residuals number `i` to `i + 3`, at a step each.
+    /// Returns residuals number `i` to `i + 3`, for a step each.
     #[inline]
     pub fn four_at(&self, i: usize, meter: &mut Meter) -> (u32, u32, u32, u32)
         requires inside { i + 3 < length self.now }

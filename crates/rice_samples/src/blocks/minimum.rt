@@ -1,6 +1,6 @@
 //! Where the sum of residuals stops falling, digit by digit.
 ghost use Rattle.std.specs.Prelude.{◌≡◌, ℕ, ◌+◌, ◌*◌, ◌/◌, ◌^◌, ◌<◌, ◌≤◌, length, sum_by};
-ghost use Rattle.rice_samples.specs.blocks.Sizes.{IsBlockSize};
+ghost use Rattle.rice_samples.specs.Parameters.{IsBlockSize};
 
 use crate::blocks::lanes::{all_of, small_sum, sum_shifted};
 
@@ -26,7 +26,7 @@ pub(crate) fn first_stop(items: &[u32], limit: u32, price: u64) -> (u32, u64)
     }
 }
 
-/// The same. It begins behind the digits that surely take more than `price` off.
+/// Finds that `k`, beginning after the digits that surely take more than `price` off.
 #[inline(always)]
 fn stop_of(items: &[u32], limit: u32, price: u64) -> (u32, u64)
     requires size { IsBlockSize (length items.now) }
@@ -52,7 +52,7 @@ fn stop_of(items: &[u32], limit: u32, price: u64) -> (u32, u64)
     (k, sum)
 }
 
-/// How many of the lowest digits of `len` numbers surely take more than `price` each off their sum, one after the other.
+/// Returns how many of the lowest digits of `len` numbers surely take more than `price` each off their sum, one after another.
 #[inline(always)]
 fn sure_digits(sum: u64, len: usize, price: u64) -> u32
     requires len { len ≤ 64 }
@@ -64,7 +64,7 @@ fn sure_digits(sum: u64, len: usize, price: u64) -> u32
     least.leading_zeros().saturating_sub(sum.leading_zeros())
 }
 
-/// The sum of the numbers without their `k` lowest digits, where `whole` is their sum.
+/// Returns the sum of the numbers without their `k` lowest digits, where `whole` is their sum.
 #[inline(always)]
 fn sum_behind(items: &[u32], k: u32, whole: u64) -> u64
     requires size { IsBlockSize (length items.now) }

@@ -1,8 +1,8 @@
 //! The residuals of a segment.
-ghost use Rattle.std.specs.Prelude.{◌≡◌, ℕ, ◌+◌, ◌*◌, ◌<◌, ◌≤◌, [], ◌∷◌, ◌++◌, All, length, map, slice_range, ℤ};
+ghost use Rattle.std.specs.Prelude.{◌≡◌, ℕ, ◌+◌, ◌*◌, ◌<◌, ◌≤◌, ◌↔◌, IsTrue, [], ◌∷◌, ◌++◌, All, length, map, slice_range, ℤ};
 ghost use Rattle.rice_samples.specs.Parameters.{IsSample};
 ghost use Rattle.rice_samples.specs.predict.Residuals.{pattern, ranks};
-ghost use Rattle.rice_samples.specs.blocks.Sizes.{IsBlockSize};
+ghost use Rattle.rice_samples.specs.Parameters.{IsBlockSize};
 
 use crate::predict::residuals::{write_patterns, write_residuals};
 use crate::{Block, Setting};
@@ -11,7 +11,7 @@ use std::marker::Model;
 /// The most residuals of a segment: 64 blocks of 64.
 const CAPACITY: usize = 4096;
 
-/// The residuals of a segment, at most 4,096. Clauses see their list. They are told by blocks alone.
+/// The residuals of a segment, at most 4,096. Contracts see their list. They can be read only through blocks.
 #[derive(Drop)]
 pub struct Segment {
     items: [u32; CAPACITY],
@@ -29,7 +29,7 @@ impl Model for Segment {
 }
 
 impl Segment {
-    /// A segment without residuals.
+    /// Returns a segment without residuals.
     #[inline]
     pub fn new() -> Self
         ensures { result ≡ [] }
@@ -40,7 +40,7 @@ impl Segment {
         }
     }
 
-    /// How many residuals there are.
+    /// Returns the number of residuals.
     #[inline]
     pub fn len(&self) -> usize
         ensures value { result ≡ length self.now }
@@ -49,7 +49,15 @@ impl Segment {
         self.filled().len()
     }
 
-    /// The residuals so far.
+    /// Returns whether there are no residuals.
+    #[inline]
+    pub fn is_empty(&self) -> bool
+        ensures { IsTrue result ↔ (self.now ≡ []) }
+    {
+        self.filled().is_empty()
+    }
+
+    /// Returns the residuals so far.
     #[inline]
     fn filled(&self) -> &[u32]
         ensures value { result.now ≡ self.now }
@@ -69,7 +77,7 @@ impl Segment {
         self.len += 1;
     }
 
-    /// Adds the residuals of the samples, the first behind the sample `p`, each other behind the one before it.
+    /// Adds the residuals of the samples: of the first one after the sample `p`, and of each other after the one before it.
     #[inline]
     pub fn push_residuals(&mut self, setting: &Setting, p: i64, samples: &[i64])
         requires before { IsSample setting.now p }
@@ -104,7 +112,7 @@ impl Segment {
         self.len = 0;
     }
 
-    /// Block `i`: the `size` residuals from number `i * size` on, where `size` is 8, 16, 32 or 64.
+    /// Returns block `i`: the `size` residuals from number `i * size` on, where `size` is 8, 16, 32 or 64.
     #[inline]
     pub fn block(&self, i: usize, size: usize) -> Block<'_>
         requires size { IsBlockSize size }

@@ -2,22 +2,20 @@
 ghost use Rattle.std.specs.Prelude.{◌≡◌, ◌≢◌, ℕ, ◌*◌, ◌<◌, ◌≤◌, All, length, take, drop, flat_map, ℤ};
 ghost use Rattle.rice_samples.specs.Parameters.{IsSample, width as width_of};
 ghost use Rattle.rice_samples.specs.predict.Residuals.{twos_complement};
-ghost use Rattle.rice_samples.specs.bytes.Spelling.{spelling, spellings};
+ghost use Rattle.rice_samples.specs.bytes.Spelling.{ReadsSamples, spellings};
 ghost use Rattle.rice_samples.specs.bytes.Values.{IsValue, ordered_bytes};
 
 use crate::Setting;
 use crate::bytes::spelling::sample_of;
 use crate::digits::{value_with, word_of};
 
-/// Reads the samples that the bytes spell, `width()` bytes each, up to the first bytes that spell none, and answers how many
-/// samples these are. What `samples` has behind them may change.
+/// Reads the samples that the bytes spell, `width()` bytes each, up to the first bytes that spell no sample, and returns
+/// their number. What `samples` holds after them is unspecified.
 pub fn samples_of(setting: &Setting, bytes: &[u8], samples: &mut [i64]) -> usize
     requires { length bytes.now ≡ width_of setting.now * length samples.old }
     ensures count { result ≤ length samples.new }
     ensures len { length samples.new ≡ length samples.old }
-    ensures legal { All (IsSample setting.now) (take result samples.new) }
-    ensures spelled { take (width_of setting.now * result) bytes.now ≡ spellings setting.now (take result samples.new) }
-    ensures stop { result < length samples.new → (x : ℤ) → IsSample setting.now x → take (width_of setting.now) (drop (width_of setting.now * result) bytes.now) ≢ spelling setting.now x }
+    ensures reads { ReadsSamples setting.now bytes.now samples.new result }
 {
     if setting.bits() == 8 * setting.width() {
         read_words(setting, bytes, samples);
@@ -26,14 +24,12 @@ pub fn samples_of(setting: &Setting, bytes: &[u8], samples: &mut [i64]) -> usize
     read_each(setting, bytes, samples)
 }
 
-/// The same, one by one.
+/// Reads the samples one by one, as `samples_of` does.
 fn read_each(setting: &Setting, bytes: &[u8], samples: &mut [i64]) -> usize
     requires { length bytes.now ≡ width_of setting.now * length samples.old }
     ensures count { result ≤ length samples.new }
     ensures len { length samples.new ≡ length samples.old }
-    ensures legal { All (IsSample setting.now) (take result samples.new) }
-    ensures spelled { take (width_of setting.now * result) bytes.now ≡ spellings setting.now (take result samples.new) }
-    ensures stop { result < length samples.new → (x : ℤ) → IsSample setting.now x → take (width_of setting.now) (drop (width_of setting.now * result) bytes.now) ≢ spelling setting.now x }
+    ensures reads { ReadsSamples setting.now bytes.now samples.new result }
 {
     let setting = *setting;
     let width = setting.width() as usize;
@@ -46,7 +42,7 @@ fn read_each(setting: &Setting, bytes: &[u8], samples: &mut [i64]) -> usize
     samples.len()
 }
 
-/// The same where samples have all bits of their bytes, so that all bytes spell samples.
+/// Reads all samples where they have all bits of their bytes, so that any bytes spell samples.
 fn read_words(setting: &Setting, bytes: &[u8], samples: &mut [i64])
     requires len { length bytes.now ≡ width_of setting.now * length samples.old }
     requires bits { setting.now.bits ≡ 8 * width_of setting.now }
@@ -64,7 +60,7 @@ fn read_words(setting: &Setting, bytes: &[u8], samples: &mut [i64])
     }
 }
 
-/// The values that so many bytes each spell.
+/// Reads the values that `width` bytes each spell.
 #[inline(always)]
 fn read_values(bytes: &[u8], width: usize, msb: bool, signed: bool, samples: &mut [i64])
     requires width { (1 ≤ width) × (width ≤ 4) }

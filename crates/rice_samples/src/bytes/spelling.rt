@@ -7,7 +7,7 @@ use crate::Setting;
 use crate::digits::{bytes_with, digits_of, word_of};
 use arrayvec::ArrayVec;
 
-/// The sample that `width()` bytes spell. `None` where they spell none: where the unused high bits
+/// Returns the sample that `width()` bytes spell, or `None` if they spell no sample: if the unused high bits
 /// are not 0 or, of a signed sample, not its sign (own rule).
 #[inline]
 pub fn sample_of(setting: &Setting, bytes: &[u8]) -> Option<i64>
@@ -24,7 +24,7 @@ pub fn sample_of(setting: &Setting, bytes: &[u8]) -> Option<i64>
     }
 }
 
-/// The spelling of a sample: `width()` bytes.
+/// Returns the spelling of a sample: `width()` bytes.
 #[inline]
 pub fn bytes_of(setting: &Setting, x: i64) -> ArrayVec<u8, 4>
     requires { IsSample setting.now x }

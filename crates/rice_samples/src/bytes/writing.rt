@@ -8,7 +8,7 @@ ghost use Rattle.rice_samples.specs.bytes.Values.{ordered_bytes};
 use crate::Setting;
 use crate::digits::{digits_of, store_word};
 
-/// Writes the spellings of the samples, `width()` bytes each, one behind the other.
+/// Writes the spellings of the samples, `width()` bytes each, one after another.
 pub fn write_spellings(setting: &Setting, samples: &[i64], bytes: &mut [u8])
     requires legal { All (IsSample setting.now) samples.now }
     requires len { length bytes.old ≡ width_of setting.now * length samples.now }
@@ -26,7 +26,7 @@ pub fn write_spellings(setting: &Setting, samples: &[i64], bytes: &mut [u8])
     }
 }
 
-/// The same with bytes in this order.
+/// Writes the spellings with the bytes in the given order.
 #[inline(always)]
 fn write_words(setting: &Setting, samples: &[i64], width: usize, msb: bool, bytes: &mut [u8])
     requires legal { All (IsSample setting.now) samples.now }

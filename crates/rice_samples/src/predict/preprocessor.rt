@@ -1,4 +1,4 @@
-//! Residuals of samples behind the sample before, which predicts them, and samples from residuals.
+//! Residuals of samples, each predicted by the sample before, and samples from residuals.
 ghost use Rattle.std.specs.Prelude.{◌≡◌, ℕ, ◌+◌, ◌^◌, ◌<◌, ◌≤◌, ℤ};
 ghost use Rattle.rice_samples.specs.Parameters.{IsSample, value_count};
 ghost use Rattle.rice_samples.specs.predict.Residuals.{pattern as pattern_of, rank, rank_below};
@@ -6,7 +6,7 @@ ghost use Rattle.rice_samples.specs.predict.Residuals.{pattern as pattern_of, ra
 use crate::Setting;
 use crate::digits::{digits_of, value_with};
 
-/// The residual of the sample `x` behind the sample `p`: below 2^n. Twice the distance, less one
+/// Returns the residual of the sample `x` after the sample `p`: below 2^n. Twice the distance, less one
 /// for a smaller sample, as far as the range of samples reaches to both sides of `p`, and beyond
 /// that the distance and that reach (CCSDS 121.0-B-3, section 4, prediction error mapper).
 #[inline]
@@ -23,7 +23,7 @@ pub fn residual(setting: &Setting, p: i64, x: i64) -> u32
     )
 }
 
-/// The sample whose residual behind the sample `p` is `d`.
+/// Returns the sample whose residual after the sample `p` is `d`.
 #[inline]
 pub fn restore(setting: &Setting, p: i64, d: u32) -> i64
     requires before { IsSample setting.now p }
@@ -37,7 +37,7 @@ pub fn restore(setting: &Setting, p: i64, d: u32) -> i64
     setting.value_at(level as u64)
 }
 
-/// The n-bit pattern of the sample `x`: two's complement where samples are signed.
+/// Returns the n-bit pattern of the sample `x`: two's complement if samples are signed.
 #[inline]
 pub fn pattern(setting: &Setting, x: i64) -> u32
     requires { IsSample setting.now x }
@@ -47,7 +47,7 @@ pub fn pattern(setting: &Setting, x: i64) -> u32
     digits_of(x, setting.bits())
 }
 
-/// The sample with the n-bit pattern `v`.
+/// Returns the sample with the n-bit pattern `v`.
 #[inline]
 pub fn from_pattern(setting: &Setting, v: u32) -> i64
     requires { v < value_count setting.now }
@@ -58,7 +58,7 @@ pub fn from_pattern(setting: &Setting, v: u32) -> i64
     value_with(v, setting.bits(), setting.signed())
 }
 
-/// The rank of number `x` from number `p` among the numbers up to `greatest`, by folding.
+/// Returns the rank of `x` from `p` among the numbers up to `greatest`, by folding.
 #[inline]
 pub(crate) fn rank_of(greatest: u32, p: u32, x: u32) -> u32
     requires before { p ≤ greatest }
@@ -72,7 +72,7 @@ pub(crate) fn rank_of(greatest: u32, p: u32, x: u32) -> u32
     distance + nearer.min(reach)
 }
 
-/// The number up to `greatest` with rank `d` from number `p`.
+/// Returns the number up to `greatest` with rank `d` from `p`.
 #[inline]
 pub(crate) fn number_with(greatest: u32, p: u32, d: u32) -> u32
     requires before { p ≤ greatest }

@@ -7,7 +7,7 @@ ghost use Rattle.rice_samples.specs.predict.Residuals.{pattern as pattern_of, ra
 use crate::Setting;
 use crate::predict::preprocessor::{pattern, rank_of};
 
-/// Writes the residuals of the samples, the first behind the sample `p`, each other behind the one before it.
+/// Writes the residuals of the samples: of the first one after the sample `p`, and of each other after the one before it.
 pub(crate) fn write_residuals(setting: &Setting, p: i64, samples: &[i64], residuals: &mut [u32])
     requires before { IsSample setting.now p }
     requires samples { All (IsSample setting.now) samples.now }
@@ -32,7 +32,7 @@ pub(crate) fn write_patterns(setting: &Setting, samples: &[i64], patterns: &mut 
     }
 }
 
-/// Writes how many values that a sample can have lie below each of the samples.
+/// Writes the level of each sample: the number of legal values below it.
 fn write_levels(setting: &Setting, samples: &[i64], levels: &mut [u32])
     requires samples { All (IsSample setting.now) samples.now }
     requires len { length levels.old ≡ length samples.now }
@@ -45,7 +45,7 @@ fn write_levels(setting: &Setting, samples: &[i64], levels: &mut [u32])
     }
 }
 
-/// Puts ranks in place of numbers up to `greatest`: that of the first from `p`, of each other from the one before it.
+/// Replaces numbers up to `greatest` by their ranks: of the first from `p`, and of each other from the one before it.
 fn fold(greatest: u32, p: u32, numbers: &mut [u32])
     requires before { p ≤ greatest }
     requires numbers { All (λ x. x ≤ greatest) numbers.old }

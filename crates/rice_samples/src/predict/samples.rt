@@ -6,7 +6,7 @@ ghost use Rattle.rice_samples.specs.predict.Residuals.{pattern as pattern_of, ra
 use crate::Setting;
 use crate::predict::preprocessor::{from_pattern, number_with};
 
-/// Writes the samples with these residuals: the first behind the sample `p`, each other behind the one before it.
+/// Writes the samples with these residuals: the first after the sample `p`, and each other after the one before it.
 #[inline(always)]
 pub fn restore_all(setting: &Setting, p: i64, residuals: &[u32], samples: &mut [i64])
     requires before { IsSample setting.now p }
@@ -23,7 +23,7 @@ pub fn restore_all(setting: &Setting, p: i64, residuals: &[u32], samples: &mut [
     }
 }
 
-/// The same, with a loop over samples of any number.
+/// Writes the samples, whatever their number.
 #[inline(always)]
 fn restore_each(setting: &Setting, p: i64, residuals: &[u32], samples: &mut [i64])
     requires before { IsSample setting.now p }
@@ -55,7 +55,7 @@ pub fn from_patterns(setting: &Setting, patterns: &[u32], samples: &mut [i64])
     }
 }
 
-/// The same, with a loop over samples of any number.
+/// Writes the samples, whatever their number.
 #[inline(always)]
 fn from_each_pattern(setting: &Setting, patterns: &[u32], samples: &mut [i64])
     requires patterns { All (λ v. v < value_count setting.now) patterns.now }

@@ -1,5 +1,5 @@
 -- Blocks cost no more bits than sent as they are.
-use Rattle.std.proofs.Common.{◌≡◌, ℕ, zero, suc, ◌+◌, ◌*◌, ◌<◌, ◌≤◌, Bool, true, false, cond, not, ◌&&◌, nat_lt, map, List, [], ◌∷◌, length, refl, ap, arith, sym, ◌∙◌, inl, inr, subst, Option, Some, None}
+use Rattle.std.proofs.Common.{◌≡◌, ℕ, zero, suc, ◌+◌, ◌-◌, ◌*◌, ◌<◌, ◌≤◌, Bool, true, false, cond, not, ◌&&◌, nat_lt, map, List, [], ◌∷◌, length, refl, ap, arith, sym, ◌∙◌, inl, inr, subst, Option, Some, None}
 use Rattle.std.specs.Prelude.{sum_by}
 use Rattle.std.specs.List.{best_of, range_with_len, AllByRecursion}
 use Rattle.std.proofs.lemmas.Bool.Decides.{nat_tests}
@@ -13,6 +13,7 @@ use Rattle.rice_code.specs.code.Forms.{IsForm, IsReference}
 use Rattle.rice_code.specs.code.Choice.{shortest, other_options}
 use Rattle.rice_code.specs.code.SoundBlocks.{IsSoundBlock, AreSoundBlocks}
 use Rattle.rice_code.specs.code.Code.{data_sets}
+use Rattle.rice_code.specs.Laws.{RunIsNeverLonger}
 use Rattle.rice_code.specs.code.Runs.{zero_run, run_len}
 use Rattle.rice_code.proofs.lemmas.meaning.Covers.{bool_cases, skipped, data_sets_plain, data_sets_start, data_sets_inside, skipped_nil, skipped_plain, skipped_go, skipped_stop, zero_run_is, best_keeps, run_cons}
 use Rattle.rice_code.proofs.lemmas.cost.Costs.{cost_is_length}
@@ -84,6 +85,13 @@ run_bound s b w r cs legal h e =
           let len = cost_is_length s b (RemainderOfSegment r) j' h in
           subst (λ (d : CodedDataSet). length (bits_of_set s d) ≤ suc w * block_bits s) (sym f.0) (omega arith)
     ]
+
+pub run_is_never_longer : RunIsNeverLonger
+run_is_never_longer s legal b reference blocks h some =
+    let e : run_len s b blocks ≡ suc (run_len s b blocks - 1) = omega arith in
+    let bound = run_bound s b (run_len s b blocks - 1) reference blocks legal h e in
+    let same = ap (λ n. n * block_bits s) e in
+    omega (arith, bound, same)
 
 -- the bits of coded data sets without padding
 abbrev pub text_bits : Parameters → List CodedDataSet → ℕ

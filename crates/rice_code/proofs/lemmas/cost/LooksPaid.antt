@@ -16,6 +16,7 @@ use Rattle.rice_code.specs.Bounds.{step_bound, amortised_step_bound}
 use Rattle.rice_code.specs.code.CodedDataSets.{CodedDataSet, NoCompression, SecondExtension, Split, bits_of_set, cost, sent_residuals, sent_from, reference_len}
 use Rattle.rice_code.specs.code.Code.{data_sets, data_set_at, bits_from, code_bits}
 use Rattle.rice_code.specs.code.SoundBlocks.{IsSoundData, AreSoundBlocks}
+use Rattle.rice_code.specs.Laws.{SplitIsPaid}
 use Rattle.rice_code.specs.Steps.{most_looks, most_looks_at, most_steps}
 use Rattle.rice_code.proofs.lemmas.meaning.Covers.{best_keeps, bool_cases, data_sets_plain}
 use Rattle.rice_code.specs.code.Choice.{IsBestSplit, best_split, shortest, other_options}
@@ -147,6 +148,13 @@ shortest_pays s c k half e j h b =
     splits : (from n : ℕ) → from + n ≤ k_max s + 1 → AllByRecursion (λ d. s.block * k ≤ cost s d) (map (λ k. Split k c) (range_with_len from n))
     splits from zero le = tt
     splits from (suc n) le = (let l = b.least from (omega arith) in let p = split_pays s c k j h b in omega (arith, l, p), splits (from + 1) n (omega arith))
+
+pub split_is_paid : SplitIsPaid
+split_is_paid s legal b c k sound best =
+    let j : 1 ≤ s.block = grind (arith, legal.block) in
+    let half : s.block ≡ s.block / 2 + s.block / 2 = grind (arith, legal.block) in
+    let pays = shortest_pays s c k (s.block / 2) half j (sound_of s b c sound) best in
+    omega (arith, pays, shortest_len s b c j sound)
 
 looks_are_paid : (s : Parameters) (c : BlockData) → IsLegal s → IsSoundData s c → most_looks s c ≤ cost s (shortest s c) + 6 * s.block
 looks_are_paid s c legal h =

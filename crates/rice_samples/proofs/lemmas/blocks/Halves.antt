@@ -25,6 +25,10 @@ sum_halves (d ∷ ds) k =
     let b = sum_by-cons (λ d. d / 2 ^ (k + 1)) d ds in
     omega (arith, sum_halves ds k, half d k)
 
+-- so what one more digit saves never rises
+pub sum_saving : (ds : List ℕ) (k : ℕ) → 2 * cut_sum ds (k + 1) ≤ cut_sum ds k + cut_sum ds (k + 2)
+sum_saving ds k = omega (arith, sum_halves ds k)
+
 -- no sum is above the whole
 pub sum_within : (ds : List ℕ) (k : ℕ) → cut_sum ds k ≤ cut_sum ds 0
 sum_within ds k = sum_by-le-sum_by (λ d. d / 2 ^ k) (λ d. d / 2 ^ 0) ds (λ d. let e : d / 2 ^ 0 ≡ d = omega arith in let h = div-le_self d (2 ^ k) in omega arith)

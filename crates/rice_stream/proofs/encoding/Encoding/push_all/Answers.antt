@@ -32,7 +32,7 @@ push_each-requires-clause-ready g c =
       start = r.0;
       before = r.1;
       holds = r.2;
-      legal = subst (All (IsSample s)) (sym slice) f.ensures.legal;
+      legal = subst (All (IsSample s)) (sym slice) f.ensures.reads.legal;
       few = omega (arith, r.3, ap length slice, length-take f.result zs, f.ensures.count, f.ensures.len, length-take count c.args.samples.now, whole.1);
     }
 
@@ -46,8 +46,8 @@ returns-in-Err-clause-did g c old xs h =
     let slice : take f.result (zs ++ drop count c.args.samples.now) ≡ take f.result zs = take-append-le f.result zs (drop count c.args.samples.now) f.ensures.count in
     let whole = whole_samples (length bytes) c.width-width.result (width s) c.width-width.ensures.value (omega (arith, c.width-width.ensures.range)) in
     let few : f.result ≤ count = omega (arith, f.ensures.count, f.ensures.len, length-take count c.args.samples.now) in
-    let spelled : take (width s * f.result) (take (width s * count) bytes) ≡ spellings s (take f.result zs) = ap (λ n. take (width s * f.result) (take n bytes)) (sym whole.3) ∙ f.ensures.spelled in
-    let reads = first_of s bytes count f.result (take f.result zs) few spelled f.ensures.legal in
+    let spelled : take (width s * f.result) (take (width s * count) bytes) ≡ spellings s (take f.result zs) = ap (λ n. take (width s * f.result) (take n bytes)) (sym whole.3) ∙ f.ensures.reads.spelled in
+    let reads = first_of s bytes count f.result (take f.result zs) few spelled f.ensures.reads.legal in
     let new = g.O.Outlet.taken c.push_each.new.outlet in
     fails_among s old new c.push_each.new.self xs (take f.result zs) bytes (drop (width s * f.result) bytes) reads (subst (λ (l : List ℤ). FailsIn s old new c.push_each.new.self xs l) slice (c.in-Err.ensures.err s old xs h))
 
@@ -62,16 +62,16 @@ returns-then-found-count-clause-did g c old xs h =
     let whole = whole_samples (length bytes) c.width-width.result (width s) c.width-width.ensures.value (omega (arith, c.width-width.ensures.range)) in
     let len : length zs ≡ count = omega (arith, f.ensures.len, length-take count c.args.samples.now, whole.1, c.requires.room) in
     let few : f.result < count = c.if-found-count.true in
-    let spelled : take (width s * f.result) (take (width s * count) bytes) ≡ spellings s (take f.result zs) = ap (λ n. take (width s * f.result) (take n bytes)) (sym whole.3) ∙ f.ensures.spelled in
+    let spelled : take (width s * f.result) (take (width s * count) bytes) ≡ spellings s (take f.result zs) = ap (λ n. take (width s * f.result) (take n bytes)) (sym whole.3) ∙ f.ensures.reads.spelled in
     let behind = behind_them s bytes count f.result few whole.0 in
     let new = g.O.Outlet.taken c.push_each.new.outlet in
-    let none = f.ensures.stop (omega (arith, len, few)) in
+    let none = f.ensures.reads.stop (omega (arith, len, few)) in
     let there : take (width s) (drop (width s * f.result) (take (count * c.width-width.result) bytes)) ≡ take (width s) (drop (width s * f.result) bytes) =
     ap (λ n. take (width s) (drop (width s * f.result) (take n bytes))) whole.3 ∙ behind.1 in (
       record {
         more = take f.result zs;
         rest = drop (width s * f.result) bytes;
-        reads = first_of s bytes count f.result (take f.result zs) (omega (arith, few)) spelled f.ensures.legal;
+        reads = first_of s bytes count f.result (take f.result zs) (omega (arith, few)) spelled f.ensures.reads.legal;
         none = (behind.0, λ x k e. none x k (there ∙ e));
         holds = subst (λ (l : List ℤ). IsEncodingOf s old new c.push_each.new.self (xs ++ l)) slice (c.in-Ok.ensures.ok s old xs h);
       },
@@ -89,13 +89,13 @@ returns-clause-did g c old xs h =
     let whole = whole_samples (length bytes) c.width-width.result (width s) c.width-width.ensures.value (omega (arith, c.width-width.ensures.range)) in
     let few : f.result ≤ count = omega (arith, f.ensures.count, f.ensures.len, length-take count c.args.samples.now) in
     let all : f.result ≡ count = omega (arith, few, c.if-found-count.false) in
-    let spelled : take (width s * f.result) (take (width s * count) bytes) ≡ spellings s (take f.result zs) = ap (λ n. take (width s * f.result) (take n bytes)) (sym whole.3) ∙ f.ensures.spelled in
+    let spelled : take (width s * f.result) (take (width s * count) bytes) ≡ spellings s (take f.result zs) = ap (λ n. take (width s * f.result) (take n bytes)) (sym whole.3) ∙ f.ensures.reads.spelled in
     let new = g.O.Outlet.taken c.push_each.new.outlet in
     let size : width s * f.result ≡ width s * count = ap (λ n. width s * n) all in
     record {
       more = take f.result zs;
       rest = drop (width s * f.result) bytes;
-      reads = first_of s bytes count f.result (take f.result zs) few spelled f.ensures.legal;
+      reads = first_of s bytes count f.result (take f.result zs) few spelled f.ensures.reads.legal;
       few = omega (arith, length-drop (width s * f.result) bytes, size, whole.2);
       holds = subst (λ (l : List ℤ). IsEncodingOf s old new c.push_each.new.self (xs ++ l)) slice (c.in-Ok.ensures.ok s old xs h);
     }
