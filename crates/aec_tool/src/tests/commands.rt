@@ -333,6 +333,24 @@ fn reads_and_writes_files(rt: HostRuntime) -> Result<(), Fail> {
 }
 
 #[test]
+fn empties_no_file_that_it_reads(rt: HostRuntime) -> Result<(), Fail> {
+    // The two names, the errors, the status, the files made. The root is no regular file, and of standard input nothing is told.
+    let cases: [(&str, &str, &str, u8, usize); 4] = [
+        ("in.bin", "in.bin", "aec: cannot create in.bin\n", 1, 0),
+        ("in.bin", "./in.bin", "aec: cannot create ./in.bin\n", 1, 0),
+        ("/", "/", "aec: read failed\n", 1, 1),
+        ("-", "in.bin", "", 0, 1),
+    ];
+    for (source, dest, errors, wanted, created) in cases {
+        let (status, told) = told(rt, &[source, dest], SIXTEEN, 100)?;
+        assert_eq!(rt; told.errors.as_str(), errors);
+        assert_eq!(rt; told.output.as_str(), "");
+        assert_eq!(rt; (status, told.created), (wanted, created));
+    }
+    Ok(())
+}
+
+#[test]
 fn shows_its_help(rt: HostRuntime) -> Result<(), Fail> {
     let cases: [&[&str]; 3] = [&["-h"], &["--help"], &["-n", "0", "--help", "-", "-"]];
     for words in cases {
