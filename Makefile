@@ -2,7 +2,7 @@ PREFIX ?= /usr/local
 RANDOM_INPUTS ?= 100000
 
 .DEFAULT_GOAL := help
-.PHONY: help aec install uninstall test rows hostile interop refused-memory installed bench
+.PHONY: help aec install uninstall test rows hostile interop refused-memory installed recipes bench
 
 help:
 	@echo 'make aec                    prove and build the program, as ./aec'
@@ -14,6 +14,7 @@ help:
 	@echo "make interop                exchange codes between ./aec and Debian's aec (libaec-tools)"
 	@echo 'make refused-memory         refuse each request for memory of ./aec in turn'
 	@echo 'make installed              install ./aec into a folder, and try its manual page and completions there'
+	@echo 'make recipes                run the recipes of docs/COOKBOOK.md with ./aec'
 	@echo "make bench                  compare the speed of ./aec and Debian's aec"
 
 aec:
@@ -50,6 +51,9 @@ refused-memory: aec
 
 installed: aec
 	scripts/installed ./aec
+
+recipes: aec
+	scripts/recipes.py ./aec
 
 bench: aec
 	scripts/bench
