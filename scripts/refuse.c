@@ -1,11 +1,15 @@
 /* Allocation for a program that is started with this library loaded before the others (LD_PRELOAD): the request whose number
- * stands in the environment as REFUSE, counted from 1, is refused. */
+ * stands in the environment as REFUSE, counted from 1, is refused. The file whose name stands there as REFUSE_OPEN is not
+ * opened, for want of memory too. */
 #include <errno.h>
+#include <stdarg.h>
 #include <stddef.h>
 #include <stdlib.h>
+#include <string.h>
 
 extern void *__libc_malloc(size_t);
 extern void *__libc_realloc(void *, size_t);
+extern int __open(const char *, int, ...);
 
 static int refuses(void) {
     static long count;
@@ -21,3 +25,16 @@ static int refuses(void) {
 void *malloc(size_t size) { return refuses() ? NULL : __libc_malloc(size); }
 
 void *realloc(void *old, size_t size) { return refuses() ? NULL : __libc_realloc(old, size); }
+
+int open(const char *path, int flags, ...) {
+    const char *refused = getenv("REFUSE_OPEN");
+    if (refused != NULL && strcmp(path, refused) == 0) {
+        errno = ENOMEM;
+        return -1;
+    }
+    va_list rest;
+    va_start(rest, flags);
+    int mode = va_arg(rest, int);
+    va_end(rest);
+    return __open(path, flags, mode);
+}

@@ -4,8 +4,10 @@
 mod command_line;
 mod entries;
 mod exit_status;
+mod late_file;
 mod plan;
 mod run;
+mod same_file;
 mod start_up;
 #[cfg(test)]
 mod tests;

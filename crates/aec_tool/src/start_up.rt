@@ -4,18 +4,20 @@ ghost use Rattle.std.specs.Prelude.{◌≡◌};
 use crate::command_line::command;
 use crate::entries::plan_of;
 use crate::exit_status::exit_status;
+use crate::late_file::LateFile;
 use crate::plan::Plan;
 use crate::run::run;
+use crate::same_file::{FileId, known_id, names_source};
 use clap::error::ErrorKind;
 use clap::{ArgMatches, Error};
 use rice_bits::{FromReader, FromWriter};
 use rice_stream::Fault;
 use std::alloc::AllocGlobal;
 use std::fmt::Display;
-use std::fs::File;
+use std::fs::{File, OpenFile};
 use std::io::{BufWriter, Read, Write};
 use std::rt::Runtime;
-use std::{env, io};
+use std::{env, fs, io};
 use thiserror::Error as ErrorText;
 
 /// Why the command gave up before it encoded or decoded.
@@ -37,6 +39,9 @@ const USAGE: u8 = 2;
 
 /// The size of the buffer in front of the destination, in bytes.
 const BUFFER: usize = 1 << 16;
+
+/// The name of the file that standard input is.
+const STANDARD_INPUT: &str = "/dev/stdin";
 
 fn complain<R: Eprint, D: Display + Drop>(rt: &R, text: D, status: u8) -> u8
     ensures { result ≡ status }
@@ -74,25 +79,52 @@ fn refuse<R: Runtime>(rt: &R, error: &Error) -> u8 {
 
 fn open<R: Runtime + AllocGlobal>(rt: &R, plan: &Plan<'_>) -> u8 {
     if plan.source == "-" {
-        return create(rt, plan, rt.reader());
+        let found = known_id(fs::metadata(rt, STANDARD_INPUT));
+        return create(rt, plan, rt.reader(), found);
     }
     match File::open(rt, plan.source) {
-        Ok(file) => create(rt, plan, file),
+        Ok(file) => {
+            let found = known_id(file.metadata());
+            create(rt, plan, file, found)
+        }
         Err(_) => complain(rt, StartFault::NoSource { name: plan.source }, FAILURE),
     }
 }
 
-fn create<R: Runtime + AllocGlobal, S: Read + Drop>(rt: &R, plan: &Plan<'_>, source: S) -> u8 {
+/// Creates the destination, unless that would empty the source.
+fn create<R: Runtime + AllocGlobal, S: Read + Drop>(
+    rt: &R,
+    plan: &Plan<'_>,
+    source: S,
+    found: Option<FileId>,
+) -> u8 {
     if plan.dest == "-" {
-        return finish(rt, plan, source, io::writer(rt));
+        return match BufWriter::with_capacity(rt.alloc(), BUFFER, io::writer(rt)) {
+            Ok(writer) => finish(rt, plan, source, writer),
+            Err(_) => complain(rt, StartFault::NoMemory, FAILURE),
+        };
     }
+    if names_source(rt, plan.dest, found) {
+        return complain(rt, StartFault::NoDest { name: plan.dest }, FAILURE);
+    }
+    create_file(rt, plan, source)
+}
+
+/// Creates the file to write once there is a buffer for it: without one, the file that stands there is kept.
+fn create_file<R: Runtime + AllocGlobal, S: Read + Drop>(rt: &R, plan: &Plan<'_>, source: S) -> u8 {
     // Where standard streams are closed, a new file takes their place, and messages would go into it. A directory, which is
     // neither read nor written, stands in for each.
     let _input = File::open(rt, "/");
     let _output = File::open(rt, "/");
     let _errors = File::open(rt, "/");
+    let Ok(mut writer) = BufWriter::with_capacity(rt.alloc(), BUFFER, LateFile::new()) else {
+        return complain(rt, StartFault::NoMemory, FAILURE);
+    };
     match File::create(rt, plan.dest) {
-        Ok(file) => finish(rt, plan, source, file),
+        Ok(file) => {
+            writer.get_mut().set(file);
+            finish(rt, plan, source, writer)
+        }
         Err(_) => complain(rt, StartFault::NoDest { name: plan.dest }, FAILURE),
     }
 }
@@ -102,11 +134,8 @@ fn finish<R: Runtime + AllocGlobal, S: Read + Drop, W: Write + Drop>(
     rt: &R,
     plan: &Plan<'_>,
     source: S,
-    dest: W,
+    mut writer: BufWriter<W>,
 ) -> u8 {
-    let Ok(mut writer) = BufWriter::with_capacity(rt.alloc(), BUFFER, dest) else {
-        return complain(rt, StartFault::NoMemory, FAILURE);
-    };
     let mut outlet = FromWriter::new(&mut writer);
     let (outcome, _) = run(plan, FromReader::new(source), &mut outlet);
     let flushed = writer.flush();

@@ -333,6 +333,24 @@ fn reads_and_writes_files(rt: HostRuntime) -> Result<(), Fail> {
 }
 
 #[test]
+fn empties_no_file_that_it_reads(rt: HostRuntime) -> Result<(), Fail> {
+    // The two names, the errors, the status, the files made. The root is no regular file, and of standard input nothing is told.
+    let cases: [(&str, &str, &str, u8, usize); 4] = [
+        ("in.bin", "in.bin", "aec: cannot create in.bin\n", 1, 0),
+        ("in.bin", "./in.bin", "aec: cannot create ./in.bin\n", 1, 0),
+        ("/", "/", "aec: read failed\n", 1, 1),
+        ("-", "in.bin", "", 0, 1),
+    ];
+    for (source, dest, errors, wanted, created) in cases {
+        let (status, told) = told(rt, &[source, dest], SIXTEEN, 100)?;
+        assert_eq!(rt; told.errors.as_str(), errors);
+        assert_eq!(rt; told.output.as_str(), "");
+        assert_eq!(rt; (status, told.created), (wanted, created));
+    }
+    Ok(())
+}
+
+#[test]
 fn shows_its_help(rt: HostRuntime) -> Result<(), Fail> {
     let cases: [&[&str]; 3] = [&["-h"], &["--help"], &["-n", "0", "--help", "-", "-"]];
     for words in cases {
@@ -344,5 +362,17 @@ fn shows_its_help(rt: HostRuntime) -> Result<(), Fail> {
     Ok(())
 }
 
+#[test]
+fn tells_its_version(rt: HostRuntime) -> Result<(), Fail> {
+    let cases: [&[&str]; 3] = [&["-V"], &["--version"], &["-n", "0", "--version", "-", "-"]];
+    for words in cases {
+        let (status, told) = told(rt, words, b"", 100)?;
+        assert_eq!(rt; told.output.as_str(), "aec 1.0.0\n");
+        assert_eq!(rt; told.errors.as_str(), "");
+        assert_eq!(rt; (status, told.created), (0, 0));
+    }
+    Ok(())
+}
+
 const HELP: &str =
-    "Compresses samples without loss, by the adaptive Rice coder of CCSDS 121.0-B-3\n\nUsage: aec [OPTIONS] <SOURCE> <DEST>\n\nArguments:\n  <SOURCE>  File to read; - is standard input\n  <DEST>    File to write; - is standard output\n\nOptions:\n  -3                 Three bytes for each sample of 17 to 24 bits\n  -N                 No pre or post processing\n  -b <BYTES>         Size of a buffer, from 1 on; without effect\n  -d                 Decompress\n  -j <SAMPLES>       Block size: 8, 16, 32 or 64 [default: 8]\n  -m                 Most significant byte of a sample first\n  -n <BITS>          Bits per sample, 1 to 32 [default: 8]\n  -p                 Pad each interval to a byte\n  -r <BLOCKS>        Reference interval, 1 to 4096 [default: 2]\n  -s                 Signed samples\n      --samples <N>  Stop after N samples; with -d only\n  -h, --help         Print help\n\nDecompress with the options that compressed. A code does not tell how many samples\nit has: without --samples, those that fill its last block or run are written too.\n\nExamples:\n  aec -n 16 -r 128 samples.bin code.aec\n  aec -d -n 16 -r 128 --samples 5000 code.aec samples.bin\n";
+    "Compresses samples without loss, by the adaptive Rice coder of CCSDS 121.0-B-3\n\nUsage: aec [OPTIONS] <SOURCE> <DEST>\n\nArguments:\n  <SOURCE>  File to read; - is standard input\n  <DEST>    File to write; - is standard output\n\nOptions:\n  -3                 Three bytes for each sample of 17 to 24 bits\n  -N                 No pre or post processing\n  -b <BYTES>         Size of a buffer, from 1 on; without effect\n  -d                 Decompress\n  -j <SAMPLES>       Block size: 8, 16, 32 or 64 [default: 8]\n  -m                 Most significant byte of a sample first\n  -n <BITS>          Bits per sample, 1 to 32 [default: 8]\n  -p                 Pad each interval to a byte\n  -r <BLOCKS>        Reference interval, 1 to 4096 [default: 2]\n  -s                 Signed samples\n      --samples <N>  Stop after N samples; with -d only\n  -h, --help         Print help\n  -V, --version      Print version\n\nDecompress with the options that compressed. A code does not tell how many samples\nit has: without --samples, those that fill its last block or run are written too.\n\nExamples:\n  aec -n 16 -r 128 samples.bin code.aec\n  aec -d -n 16 -r 128 --samples 5000 code.aec samples.bin\n";

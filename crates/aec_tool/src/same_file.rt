@@ -1,0 +1,53 @@
+//! Whether a name is that of the file that is read.
+ghost use Rattle.std.specs.Prelude.{◌≡◌, ◌↔◌, IsTrue};
+ghost use Rattle.std.specs.Fs.{IsFile, file_type};
+
+use std::fs::Metadata;
+use std::os::unix::fs::MetadataExt;
+use std::rt::Files;
+use std::{fs, io};
+
+/// What tells a file from all others, its device and its number there, and whether it is a regular file.
+#[derive(Clone, Copy, Debug)]
+pub struct FileId {
+    pub device: u64,
+    pub number: u64,
+    pub is_regular: bool,
+}
+
+/// The identity of a file, by what the system says of it.
+fn id_of(found: &Metadata) -> FileId
+    ensures { IsTrue result.is_regular ↔ IsFile (file_type found.now) }
+{
+    FileId {
+        device: found.dev(),
+        number: found.ino(),
+        is_regular: found.is_file(),
+    }
+}
+
+/// The identity of a file, where the system tells it.
+pub fn known_id(found: io::Result<Metadata>) -> Option<FileId> {
+    match found {
+        Ok(found) => Some(id_of(&found)),
+        Err(_) => None,
+    }
+}
+
+/// Whether both are one regular file. Writing to anything else, such as a device, empties nothing.
+fn is_one_file(source: FileId, dest: FileId) -> bool
+    ensures { IsTrue result ↔ ((source ≡ dest) × IsTrue source.is_regular) }
+{
+    source.device == dest.device
+        && source.number == dest.number
+        && source.is_regular
+        && dest.is_regular
+}
+
+/// Whether a name is that of the source. Where the system can't tell, it is not.
+pub fn names_source<F: Files>(files: &F, name: &str, source: Option<FileId>) -> bool {
+    match (source, known_id(fs::metadata(files, name))) {
+        (Some(source), Some(dest)) => is_one_file(source, dest),
+        _ => false,
+    }
+}

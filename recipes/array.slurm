@@ -1,0 +1,10 @@
+#!/usr/bin/env bash
+#SBATCH --job-name=aec
+#SBATCH --array=0-63%16
+#SBATCH --time=00:10:00
+#SBATCH --mem=64M
+# Compresses one file in each task: that in the line of `names` which the task's number counts from 0.
+set -euo pipefail
+name=$(sed -n "$((SLURM_ARRAY_TASK_ID + 1))p" names)
+aec -n 16 -m -s -j 16 -r 128 "$name" "$name.part"
+mv "$name.part" "$name.aec"

@@ -1,0 +1,10 @@
+# The beginning of each recipe: a new folder, which is removed at the end, with the program that was given as `aec`.
+set -euo pipefail
+program=$(realpath "$1")
+recipes=$(realpath "$(dirname "$0")")
+folder=$(mktemp -d)
+trap 'rm -rf "$folder"' EXIT
+mkdir "$folder/bin"
+ln -s "$program" "$folder/bin/aec"
+PATH=$folder/bin:$PATH
+cd "$folder"
