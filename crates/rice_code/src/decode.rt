@@ -3,8 +3,6 @@
 
 mod coded_data_set;
 pub mod decoder;
-#[cfg(test)]
-mod decoder_tests;
 pub mod fault;
 mod fields;
 mod options;

@@ -4,8 +4,6 @@
 mod bit_buffer;
 mod blocks;
 pub mod coder;
-#[cfg(test)]
-mod coder_tests;
 mod cost;
 mod fields;
 mod open_segment;

@@ -18,6 +18,3 @@ pub use bytes::writing::write_spellings;
 pub use predict::preprocessor::{from_pattern, pattern, residual, restore};
 pub use predict::samples::{from_patterns, restore_all};
 pub use setting::{Setting, SettingFault};
-
-#[cfg(test)]
-mod tests;

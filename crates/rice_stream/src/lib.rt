@@ -6,8 +6,6 @@ pub mod decoding;
 pub mod encoding;
 pub mod laws;
 pub mod outcome;
-#[cfg(test)]
-mod tests;
 mod write;
 
 pub use decoding::decode;

@@ -1,9 +1,0 @@
-use Rattle.std.proofs.Common.{◌≡◌, ◌*◌, ◌^◌, ◌≤◌, None}
-use Rattle.rice_code.proofs.decode.decoder_tests.decode.Given as goal
-
-abbrev pub invariant-loop : goal.invariant-loop
-invariant-loop g l = record {
-  going : l.decoder.stopped ≡ None → l.reader.refusal ≡ None;
-  limit : l.reader.taken ≤ 2 ^ 52;
-  room : l.meter ≤ 2 * l.reader.taken;
-}

@@ -1,0 +1,302 @@
+use rice_bits::{
+    BitFault, BitReader, BitSink, FromReader, FromWriter, Intake, MemoryIn, MemoryOut, Meter,
+    Outlet, ReadFault, WriteFault, ZeroIn,
+};
+use std::io::{self, ErrorKind, Read, Write};
+use std::test::Fail;
+
+/// The sizes of pieces that each reading is tried with.
+const PIECES: [usize; 4] = [1, 3, 7, 4096];
+
+#[test]
+fn put_and_pad(rt: HostRuntime) -> Result<(), Fail> {
+    let mut sink = BitSink::<8>::new();
+    let mut meter = Meter::new();
+    sink.put(0, 4, &mut meter);
+    sink.put(5, 8, &mut meter);
+    sink.put_fs(0, &mut meter);
+    assert_eq!(rt; sink.len(), 13);
+    assert_eq!(rt; sink.room(), 51);
+    assert_eq!(rt; sink.whole(), [0].as_slice());
+    assert_eq!(rt; meter.steps(), 13);
+    sink.pad();
+    assert_eq!(rt; sink.whole(), [0, 0x58].as_slice());
+    assert_eq!(rt; meter.steps(), 13);
+    sink.drop_whole();
+    assert_eq!(rt; sink.len(), 0);
+    Ok(())
+}
+
+#[test]
+fn put_long_words(rt: HostRuntime) -> Result<(), Fail> {
+    let mut sink = BitSink::<8>::new();
+    let mut meter = Meter::new();
+    sink.put(0xA, 4, &mut meter);
+    sink.put_long(0x12_3456_789A_BCDE, 56, &mut meter);
+    assert_eq!(rt; sink.len(), 60);
+    assert_eq!(rt; meter.steps(), 60);
+    sink.pad();
+    let expected = [0xA1, 0x23, 0x45, 0x67, 0x89, 0xAB, 0xCD, 0xE0];
+    assert_eq!(rt; sink.whole(), expected.as_slice());
+
+    let mut sink = BitSink::<8>::new();
+    let mut meter = Meter::new();
+    sink.put(0x55, 7, &mut meter);
+    sink.put_long(0x80_0000_0000_0001, 56, &mut meter);
+    sink.pad();
+    let expected = [0xAB, 0, 0, 0, 0, 0, 0, 2];
+    assert_eq!(rt; sink.whole(), expected.as_slice());
+    Ok(())
+}
+
+#[test]
+fn put_sequences(rt: HostRuntime) -> Result<(), Fail> {
+    let mut sink = BitSink::<2>::new();
+    let mut meter = Meter::new();
+    sink.put_fs(5, &mut meter);
+    sink.put(42, 6, &mut meter);
+    sink.pad();
+    assert_eq!(rt; sink.whole(), [0x06, 0xA0].as_slice());
+    assert_eq!(rt; meter.steps(), 12);
+
+    let mut sink = BitSink::<17>::new();
+    let mut meter = Meter::new();
+    sink.put_fs(130, &mut meter);
+    sink.pad();
+    let mut expected = [0; 17];
+    expected[16] = 0x20;
+    assert_eq!(rt; sink.whole(), expected.as_slice());
+    assert_eq!(rt; meter.steps(), 131);
+    Ok(())
+}
+
+#[test]
+fn read_words_and_sequences(rt: HostRuntime) -> Result<(), Fail> {
+    let long = [0, 0, 0, 0, 0, 0, 0, 1, 0xDE, 0xAD, 0xBE, 0xEF];
+    for piece in PIECES.iter().copied().filter(|piece| *piece > 0) {
+        let mut meter = Meter::new();
+        let mut reader = BitReader::new(MemoryIn::new(&[0, 0x58], piece, None));
+        assert_eq!(rt; reader.take(4, &mut meter), Ok(0), "piece {piece}");
+        assert_eq!(rt; reader.take(8, &mut meter), Ok(5), "piece {piece}");
+        assert_eq!(rt; reader.take_fs(&mut meter), Ok(0), "piece {piece}");
+        let end = BitFault::End { blank: false };
+        assert_eq!(rt; reader.take_fs(&mut meter), Err(end), "piece {piece}");
+        assert_eq!(rt; reader.taken(), 16, "piece {piece}");
+        assert_eq!(rt; meter.steps(), 16, "piece {piece}");
+        reader.mark();
+        assert_eq!(rt; reader.take(0, &mut meter), Err(end), "piece {piece}");
+
+        let mut meter = Meter::new();
+        let mut reader = BitReader::new(MemoryIn::new(&long, piece, None));
+        assert_eq!(rt; reader.take_fs(&mut meter), Ok(63), "piece {piece}");
+        assert_eq!(rt;
+            reader.take(32, &mut meter),
+            Ok(3735928559),
+            "piece {piece}"
+        );
+        assert_eq!(rt; meter.steps(), 96, "piece {piece}");
+    }
+    Ok(())
+}
+
+#[test]
+fn read_to_the_end(rt: HostRuntime) -> Result<(), Fail> {
+    for piece in PIECES.iter().copied().filter(|piece| *piece > 0) {
+        let mut meter = Meter::new();
+        let mut reader = BitReader::new(MemoryIn::new(&[0, 0x58], piece, None));
+        assert_eq!(rt; reader.take(13, &mut meter), Ok(11), "piece {piece}");
+        reader.mark();
+        let blank = BitFault::End { blank: true };
+        assert_eq!(rt; reader.take_fs(&mut meter), Err(blank), "piece {piece}");
+
+        let mut reader = BitReader::new(MemoryIn::new(&[], piece, None));
+        assert_eq!(rt; reader.take(0, &mut meter), Ok(0), "piece {piece}");
+        assert_eq!(rt; reader.take(1, &mut meter), Err(blank), "piece {piece}");
+
+        let mut reader = BitReader::new(MemoryIn::new(&[0xFF], piece, Some(0)));
+        assert_eq!(rt;
+            reader.take(1, &mut meter),
+            Err(BitFault::Read),
+            "piece {piece}"
+        );
+        assert_eq!(rt;
+            reader.take(1, &mut meter),
+            Err(BitFault::Read),
+            "piece {piece}"
+        );
+        assert_eq!(rt; reader.into_inner().failures(), 1, "piece {piece}");
+
+        let long = [0, 0, 0, 0, 0, 0, 0, 0, 0x80];
+        let mut reader = BitReader::new(MemoryIn::new(&long, piece, None));
+        assert_eq!(rt; reader.take_fs(&mut meter), Ok(64), "piece {piece}");
+        reader.mark();
+        reader.align(&mut meter);
+        assert_eq!(rt; reader.taken(), 72, "piece {piece}");
+        assert_eq!(rt; reader.take(1, &mut meter), Err(blank), "piece {piece}");
+    }
+    Ok(())
+}
+
+#[test]
+fn take_what_waits(rt: HostRuntime) -> Result<(), Fail> {
+    let bytes = [0x12, 0x34, 0x56, 0x78, 0x9A, 0xBC, 0xDE, 0xF0, 0x12, 0x34];
+    let mut meter = Meter::new();
+    let mut reader = BitReader::new(MemoryIn::new(&bytes, 4096, None));
+    let mut words = [77; 3];
+    assert_eq!(rt; reader.take_waiting(4, &mut words, &mut meter), 0);
+    assert_eq!(rt; reader.take(8, &mut meter), Ok(0x12));
+    assert_eq!(rt; reader.take_waiting(4, &mut words, &mut meter), 3);
+    assert_eq!(rt; words, [3, 4, 5]);
+    assert_eq!(rt; (reader.taken(), meter.steps()), (20, 20));
+
+    // 0x18 is 00011, 000 and then zeros.
+    let bytes = [0x80, 0x18, 0, 0, 0, 0, 0, 0, 0, 1];
+    let mut meter = Meter::new();
+    let mut reader = BitReader::new(MemoryIn::new(&bytes, 4096, None));
+    let mut zeros = [77; 4];
+    assert_eq!(rt; reader.take_waiting_fs(&mut zeros, &mut meter), 0);
+    assert_eq!(rt; reader.take_fs(&mut meter), Ok(0));
+    assert_eq!(rt; reader.take_waiting_fs(&mut zeros, &mut meter), 2);
+    assert_eq!(rt; zeros, [10, 0, 77, 77]);
+    assert_eq!(rt; (reader.taken(), meter.steps()), (13, 13));
+    assert_eq!(rt; reader.take_fs(&mut meter), Ok(66));
+    Ok(())
+}
+
+#[test]
+fn align_passes_ones(rt: HostRuntime) -> Result<(), Fail> {
+    let mut meter = Meter::new();
+    let mut reader = BitReader::new(MemoryIn::new(&[0x1F, 0], 4096, None));
+    assert_eq!(rt; reader.take(3, &mut meter), Ok(0));
+    reader.align(&mut meter);
+    assert_eq!(rt; meter.steps(), 8);
+    assert_eq!(rt;
+        reader.take_fs(&mut meter),
+        Err(BitFault::End { blank: true })
+    );
+    Ok(())
+}
+
+#[test]
+fn devices_over_memory(rt: HostRuntime) -> Result<(), Fail> {
+    let mut buffer = [0xAA; 4];
+    let mut intake = MemoryIn::new(&[1, 2, 3], 2, Some(3));
+    assert_eq!(rt; intake.fill(&mut buffer), Ok(2));
+    assert_eq!(rt; buffer, [1, 2, 0xAA, 0xAA]);
+    assert_eq!(rt; intake.fill(&mut buffer), Ok(1));
+    assert_eq!(rt; intake.fill(&mut buffer), Err(ReadFault));
+    assert_eq!(rt; intake.failures(), 1);
+
+    let mut zeros = ZeroIn::new(5);
+    assert_eq!(rt; zeros.fill(&mut buffer), Ok(4));
+    assert_eq!(rt; buffer, [0, 0, 0, 0]);
+    assert_eq!(rt; zeros.fill(&mut buffer), Ok(1));
+    assert_eq!(rt; zeros.fill(&mut buffer), Ok(0));
+    assert_eq!(rt; zeros.failures(), 0);
+
+    let mut room = [0; 4];
+    let mut outlet = MemoryOut::new(&mut room, 2, Some(3));
+    assert_eq!(rt; outlet.put(&[7, 8, 9]), Ok(2));
+    assert_eq!(rt; outlet.put(&[9, 10]), Ok(1));
+    assert_eq!(rt; outlet.put(&[10]), Err(WriteFault));
+    assert_eq!(rt; outlet.failures(), 1);
+    assert_eq!(rt; outlet.written(), [7, 8, 9].as_slice());
+    Ok(())
+}
+
+/// Gives one byte a call, and fails from some call on.
+#[derive(Drop)]
+struct FailingReader {
+    bytes_before: u32,
+}
+
+impl Read for FailingReader {
+    fn read(&mut self, buf: &mut [u8]) -> io::Result<usize> {
+        if self.bytes_before == 0 {
+            return Err(io::Error::from(ErrorKind::Other));
+        }
+        self.bytes_before -= 1;
+        if buf.is_empty() {
+            return Ok(0);
+        }
+        buf[0] = 0xF0;
+        Ok(1)
+    }
+}
+
+/// Takes one byte a call, and fails from some call on.
+#[derive(Drop)]
+struct FailingWriter {
+    bytes_before: u32,
+}
+
+impl Write for FailingWriter {
+    fn write(&mut self, buf: &[u8]) -> io::Result<usize> {
+        if self.bytes_before == 0 {
+            return Err(io::Error::from(ErrorKind::Interrupted));
+        }
+        self.bytes_before -= 1;
+        Ok(buf.len().min(1))
+    }
+
+    fn flush(&mut self) -> io::Result<()> {
+        Ok(())
+    }
+}
+
+#[test]
+fn devices_over_readers(rt: HostRuntime) -> Result<(), Fail> {
+    let bytes: &[u8] = &[0, 0x58];
+    let mut meter = Meter::new();
+    let mut reader = BitReader::new(FromReader::new(bytes));
+    assert_eq!(rt; reader.take(12, &mut meter), Ok(5));
+    assert_eq!(rt; reader.take_fs(&mut meter), Ok(0));
+    assert_eq!(rt;
+        reader.take_fs(&mut meter),
+        Err(BitFault::End { blank: false })
+    );
+
+    let mut meter = Meter::new();
+    let mut reader = BitReader::new(FromReader::new(FailingReader { bytes_before: 2 }));
+    assert_eq!(rt; reader.take(12, &mut meter), Ok(0xF0F));
+    assert_eq!(rt; reader.take(8, &mut meter), Err(BitFault::Read));
+    assert_eq!(rt; meter.steps(), 16);
+    assert_eq!(rt; reader.take_fs(&mut meter), Err(BitFault::Read));
+    assert_eq!(rt; reader.into_inner().failures(), 1);
+    Ok(())
+}
+
+#[test]
+fn devices_over_writers(rt: HostRuntime) -> Result<(), Fail> {
+    let mut outlet = FromWriter::new(FailingWriter { bytes_before: 2 });
+    assert_eq!(rt; outlet.put(&[1, 2, 3]), Ok(1));
+    assert_eq!(rt; outlet.put(&[2, 3]), Ok(1));
+    assert_eq!(rt; outlet.put(&[3]), Err(WriteFault));
+    assert_eq!(rt; outlet.put(&[3]), Err(WriteFault));
+    assert_eq!(rt; outlet.failures(), 2);
+
+    // A slice that is full takes nothing, and says so by 0.
+    let mut room = [0; 2];
+    let mut outlet = FromWriter::new(&mut room[..]);
+    assert_eq!(rt; outlet.put(&[1, 2, 3]), Ok(2));
+    assert_eq!(rt; outlet.put(&[3]), Err(WriteFault));
+    assert_eq!(rt; outlet.failures(), 1);
+    drop(outlet);
+    assert_eq!(rt; room, [1, 2]);
+    Ok(())
+}
+
+#[test]
+fn fault_texts(rt: HostRuntime) -> Result<(), Fail> {
+    assert_eq!(rt; ReadFault.to_string(rt.alloc())?.as_str(), "read failed");
+    assert_eq!(rt; WriteFault.to_string(rt.alloc())?.as_str(), "write failed");
+    assert_eq!(rt;
+        BitFault::Read.to_string(rt.alloc())?.as_str(),
+        "read failed"
+    );
+    assert_eq!(rt;
+        BitFault::TooLong.to_string(rt.alloc())?.as_str(),
+        "input is too long"
+    );
+    Ok(())
+}

@@ -1,0 +1,15 @@
+//! Tests of the libraries over their public calls: worked bytes, bits and steps, pieces of several sizes, devices that fail.
+//!
+//! They are a crate of their own, since a crate with tests is proved twice: with them and without.
+#![tactic(auto)]
+
+#[cfg(test)]
+mod bits;
+#[cfg(test)]
+mod coder;
+#[cfg(test)]
+mod decoder;
+#[cfg(test)]
+mod samples;
+#[cfg(test)]
+mod stream;
