@@ -2,5 +2,5 @@
 mod decoding_cases;
 mod device_cases;
 mod encoding_cases;
-mod options;
 mod round_trips;
+mod table;

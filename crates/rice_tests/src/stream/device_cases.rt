@@ -1,163 +1,99 @@
 //! Devices that fail, and samples that are none.
-use crate::stream::options::{Bytes, DEFAULT, Options, again, all};
+use crate::stream::table::{Columns, bytes_of, fault_of, number_of, setting_of};
 use rice_bits::{MemoryIn, MemoryOut};
 use rice_stream::{Fault, decode, encode};
 use std::alloc::Global;
 use std::process::Abort;
 use std::test::Fail;
 
-/// Samples to encode, where the intake and the outlet fail, what is written, and how it ends.
-#[derive(Clone, Copy)]
-struct Case<'a>(
-    Options,
-    Bytes<'a>,
-    Option<usize>,
-    Option<usize>,
-    &'a [u8],
-    Fault,
-    u64,
-    u64,
-);
-
-fn range(index: u64) -> Fault {
-    Fault::SampleOutOfRange { index }
-}
-
-/// Whether each ends so, in pieces of any size.
-fn holds(rt: &impl Abort, alloc: Global, cases: &[Case<'_>]) -> Result<(), Fail> {
-    for Case(options, samples, reads, writes, written, fault, count, bits) in cases {
-        let setting = options.setting()?;
-        let input = samples.list(alloc)?;
+/// Tries each line of a table, in pieces of several sizes: the options, the bytes of the samples, the places where the intake and
+/// the outlet fail, what is written, the fault, and how many samples and bits are reported.
+fn stops(rt: &impl Abort, alloc: Global, table: &str) -> Result<(), Fail> {
+    for line in table.lines() {
+        let mut columns = Columns::of(line);
+        let setting = setting_of(columns.next())?;
+        let samples = bytes_of(columns.next(), alloc)?;
+        let reads = place_of(columns.next())?;
+        let writes = place_of(columns.next())?;
+        let written = bytes_of(columns.next(), alloc)?;
+        let fault = fault_of(columns.next())?;
+        let count = number_of(columns.next())?;
+        let bits = number_of(columns.next())?;
         for piece in [1, 7, 4096] {
             let mut room = [0u8; 64];
-            let mut outlet = MemoryOut::new(&mut room, piece, *writes);
-            let mut intake = MemoryIn::new(input.as_slice(), piece, *reads);
+            let mut outlet = MemoryOut::new(&mut room, piece, writes);
+            let mut intake = MemoryIn::new(samples.as_slice(), piece, reads);
             let outcome = encode(&setting, &mut intake, &mut outlet);
-            assert_eq!(rt; outcome.fault, Some(*fault));
-            has_written(rt, &outlet, written)?;
-            assert_eq!(rt;
-                (outcome.report.samples, outcome.report.bits),
-                (*count, *bits)
-            );
+            assert_eq!(rt; outcome.fault, fault, "{line}");
+            assert_eq!(rt; outlet.written(), written.as_slice(), "{line}");
+            assert_eq!(rt; Some(outcome.report.samples), count, "{line}");
+            assert_eq!(rt; Some(outcome.report.bits), bits, "{line}");
         }
     }
     Ok(())
 }
 
-/// Whether these bytes were written.
-fn has_written(rt: &impl Abort, outlet: &MemoryOut<'_>, bytes: &[u8]) -> Result<(), Fail> {
-    assert_eq!(rt; outlet.written(), bytes);
-    Ok(())
+/// Returns the place of a column, or `None` where it is empty.
+fn place_of(text: &str) -> Result<Option<usize>, Fail> {
+    match number_of(text)? {
+        Some(place) => Ok(Some(usize::try_from(place)?)),
+        None => Ok(None),
+    }
 }
+
+const NO_SAMPLES: &str = "n4 | 10 | | | | range 0 | 0 | 0
+    n10     | 050005     | | |      | inside 1 | 1 | 0
+    n10     | 0500000405 | | |      | range 1  | 1 | 0
+    n4 r1   | 05*8 10    | | | 05   | range 8  | 8 | 9
+    n4 r1 p | 05*8 10    | | | 0580 | range 8  | 8 | 9";
 
 #[test]
 fn what_is_no_sample_stops_encoding(rt: HostRuntime) -> Result<(), Fail> {
-    let mixed = Bytes(&[5], 8, &[0x10]);
-    let single = DEFAULT.interval(1);
-    let cases = [
-        Case(
-            DEFAULT.bits(4),
-            all(&[0x10]),
-            None,
-            None,
-            b"",
-            range(0),
-            0,
-            0,
-        ),
-        Case(
-            DEFAULT.bits(10),
-            all(&[5, 0, 5]),
-            None,
-            None,
-            b"",
-            Fault::SampleCut { index: 1 },
-            1,
-            0,
-        ),
-        Case(
-            DEFAULT.bits(10),
-            all(&[5, 0, 0, 4, 5]),
-            None,
-            None,
-            b"",
-            range(1),
-            1,
-            0,
-        ),
-        Case(single.bits(4), mixed, None, None, &[0x05], range(8), 8, 9),
-        Case(
-            single.bits(4).padded(),
-            mixed,
-            None,
-            None,
-            &[0x05, 0x80],
-            range(8),
-            8,
-            9,
-        ),
-    ];
-    holds(&rt, rt.alloc(), &cases)
+    stops(&rt, rt.alloc(), NO_SAMPLES)
 }
+
+// An intake that fails at each place of sixteen samples.
+const READS: &str = "r1 | 05*16 | 0 | | | read | 0 | 0
+    r1   | 05*16 | 1  | |        | read | 1  | 0
+    r1   | 05*16 | 2  | |        | read | 2  | 0
+    r1   | 05*16 | 3  | |        | read | 3  | 0
+    r1   | 05*16 | 4  | |        | read | 4  | 0
+    r1   | 05*16 | 5  | |        | read | 5  | 0
+    r1   | 05*16 | 6  | |        | read | 6  | 0
+    r1   | 05*16 | 7  | |        | read | 7  | 0
+    r1   | 05*16 | 8  | | 00     | read | 8  | 13
+    r1   | 05*16 | 9  | | 00     | read | 9  | 13
+    r1   | 05*16 | 10 | | 00     | read | 10 | 13
+    r1   | 05*16 | 11 | | 00     | read | 11 | 13
+    r1   | 05*16 | 12 | | 00     | read | 12 | 13
+    r1   | 05*16 | 13 | | 00     | read | 13 | 13
+    r1   | 05*16 | 14 | | 00     | read | 14 | 13
+    r1   | 05*16 | 15 | | 00     | read | 15 | 13
+    r1   | 05*16 | 16 | | 005802 | read | 16 | 26
+    r1 p | 05*16 | 8  | | 0058   | read | 8  | 13";
 
 #[test]
 fn an_intake_that_fails_stops_encoding(rt: HostRuntime) -> Result<(), Fail> {
-    let fives = again(&[5], 16);
-    let single = DEFAULT.interval(1);
-    let cases = [
-        Case(single, fives, Some(8), None, &[0x00], Fault::Read, 8, 13),
-        Case(
-            single.padded(),
-            fives,
-            Some(8),
-            None,
-            &[0x00, 0x58],
-            Fault::Read,
-            8,
-            13,
-        ),
-        Case(single, fives, Some(0), None, b"", Fault::Read, 0, 0),
-        Case(single, fives, Some(7), None, b"", Fault::Read, 7, 0),
-        Case(single, fives, Some(15), None, &[0x00], Fault::Read, 15, 13),
-        Case(
-            single,
-            fives,
-            Some(16),
-            None,
-            &[0x00, 0x58, 0x02],
-            Fault::Read,
-            16,
-            26,
-        ),
-    ];
-    holds(&rt, rt.alloc(), &cases)
+    stops(&rt, rt.alloc(), READS)
 }
+
+// An outlet that fails at each place of the code.
+const WRITES: &str = "r1 | 05*16 | | 0 | | write | 8 | 13
+    r1   | 05*16 | | 1 | 00     | write | 16 | 26
+    r1   | 05*16 | | 2 | 0058   | write | 16 | 26
+    r1   | 05*16 | | 3 | 005802 | write | 16 | 26
+    r1   | 05*16 | | 4 | 005802C0 |     | 16 | 26
+    r1 p | 05*16 | | 1 | 00     | write | 8  | 13";
 
 #[test]
 fn an_outlet_that_fails_stops_encoding(rt: HostRuntime) -> Result<(), Fail> {
-    let fives = again(&[5], 16);
-    let single = DEFAULT.interval(1);
-    let cases = [
-        Case(single, fives, None, Some(1), &[0x00], Fault::Write, 16, 26),
-        Case(single, fives, None, Some(0), b"", Fault::Write, 8, 13),
-        Case(
-            single.padded(),
-            fives,
-            None,
-            Some(1),
-            &[0x00],
-            Fault::Write,
-            8,
-            13,
-        ),
-    ];
-    holds(&rt, rt.alloc(), &cases)
+    stops(&rt, rt.alloc(), WRITES)
 }
 
 #[test]
 fn encoding_stops_where_its_end_is_not_written(rt: HostRuntime) -> Result<(), Fail> {
-    let setting = DEFAULT.interval(64).setting()?;
-    let input = Bytes(&[0], 47, &[1]).list(rt.alloc())?;
+    let setting = setting_of("r64")?;
+    let input = bytes_of("00*47 01", rt.alloc())?;
     for place in [0, 1, 2, 3, 4] {
         let mut room = [0u8; 8];
         let mut outlet = MemoryOut::new(&mut room, 8, Some(place));
@@ -175,7 +111,7 @@ fn encoding_stops_where_its_end_is_not_written(rt: HostRuntime) -> Result<(), Fa
 fn decoding_stops_where_its_intake_fails(rt: HostRuntime) -> Result<(), Fail> {
     // Where it fails, and the samples and bits by then.
     let cases = [(0, 0, 0), (1, 0, 8), (2, 8, 16), (3, 8, 24), (4, 16, 32)];
-    let setting = DEFAULT.interval(1).setting()?;
+    let setting = setting_of("r1")?;
     let code = [0x00, 0x58, 0x02, 0xC0];
     for (place, samples, bits) in cases {
         let mut room = [0u8; 16];
@@ -202,7 +138,7 @@ fn decoding_stops_where_its_outlet_fails(rt: HostRuntime) -> Result<(), Fail> {
     let mut room = [0u8; 16];
     let mut outlet = MemoryOut::new(&mut room, 8, Some(3));
     let intake = MemoryIn::new(&[0x00, 0x58], 8, None);
-    let (outcome, _) = decode(&DEFAULT.setting()?, None, intake, &mut outlet);
+    let (outcome, _) = decode(&setting_of("")?, None, intake, &mut outlet);
     assert_eq!(&rt; outcome.fault, Some(Fault::Write));
     assert_eq!(&rt; outlet.written(), [5, 5, 5].as_slice());
     assert_eq!(&rt; (outcome.report.samples, outcome.report.bits), (0, 13));

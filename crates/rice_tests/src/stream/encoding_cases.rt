@@ -1,7 +1,7 @@
 //! Samples and their codes.
 ghost use Rattle.std.specs.Prelude.{◌<◌};
 
-use crate::stream::options::{Bytes, DEFAULT, NOTHING, Options, again, all};
+use crate::stream::table::{Columns, bytes_of, number_of, setting_of};
 use rice_bits::{MemoryIn, MemoryOut};
 use rice_samples::Setting;
 use rice_stream::{decode, encode};
@@ -9,42 +9,41 @@ use std::alloc::Global;
 use std::process::Abort;
 use std::test::Fail;
 
-/// Samples, their code, and how many bits it has where that is told.
-#[derive(Clone, Copy)]
-struct Case<'a>(Options, Bytes<'a>, &'a [u8], Option<u64>);
-
-const COUNTED: [u8; 8] = [0xF0, 0xF1, 0xF2, 0xF3, 0xF4, 0xF5, 0xF6, 0xF7];
-
-const COUNTED_CODE: [u8; 9] = [0xFE, 0x1E, 0x3E, 0x5E, 0x7E, 0x9E, 0xBE, 0xDE, 0xE0];
-
-const ONE_CODE: [u8; 9] = [0xFE, 0x1E, 0x1E, 0x1E, 0x1E, 0x1E, 0x1E, 0x1E, 0x00];
-
-const LARGEST_CODE: [u8; 9] = [0xE0, 0x1F, 0xFF, 0xFF, 0xFF, 0xFF, 0xFF, 0xFF, 0xE0];
-
-/// Whether each encodes to its code and comes back with its count, in pieces of any size.
-fn holds(rt: &impl Abort, alloc: Global, cases: &[Case<'_>]) -> Result<(), Fail> {
-    for Case(options, samples, code, bits) in cases {
-        let setting = options.setting()?;
-        let input = samples.list(alloc)?;
+/// Tries each line of a table, in pieces of several sizes: the options, the bytes of the samples, their code, and its number of
+/// bits where that is given. The code decodes to the samples with their number.
+fn encodes(rt: &impl Abort, alloc: Global, table: &str) -> Result<(), Fail> {
+    for line in table.lines() {
+        let mut columns = Columns::of(line);
+        let setting = setting_of(columns.next())?;
+        let samples = bytes_of(columns.next(), alloc)?;
+        let code = bytes_of(columns.next(), alloc)?;
+        let bits = number_of(columns.next())?;
         for piece in [1, 7, 4096] {
-            let count = encodes(rt, &setting, input.as_slice(), code, *bits, piece)?;
+            let count = encodes_to(
+                rt,
+                &setting,
+                samples.as_slice(),
+                code.as_slice(),
+                bits,
+                piece,
+            )?;
             let mut back = [0u8; 1024];
             let mut outlet = MemoryOut::new(&mut back, piece, None);
-            let intake = MemoryIn::new(code, piece, None);
+            let intake = MemoryIn::new(code.as_slice(), piece, None);
             let (outcome, _) = decode(&setting, Some(count), intake, &mut outlet);
-            assert_eq!(rt; outcome.fault, None);
-            assert_eq!(rt; outcome.report.samples, count);
-            assert_eq!(rt; outlet.written(), input.as_slice());
+            assert_eq!(rt; outcome.fault, None, "{line}");
+            assert_eq!(rt; outcome.report.samples, count, "{line}");
+            assert_eq!(rt; outlet.written(), samples.as_slice(), "{line}");
         }
     }
     Ok(())
 }
 
-/// Whether samples encode to a code; answers how many they are.
-fn encodes(
+/// Tries that samples encode to a code, and returns the number of samples.
+fn encodes_to(
     rt: &impl Abort,
     setting: &Setting,
-    input: &[u8],
+    samples: &[u8],
     code: &[u8],
     bits: Option<u64>,
     piece: usize,
@@ -52,14 +51,14 @@ fn encodes(
     requires { 0 < piece }
 {
     let mut room = [0u8; 64];
-    let mut intake = MemoryIn::new(input, piece, None);
+    let mut intake = MemoryIn::new(samples, piece, None);
     let mut outlet = MemoryOut::new(&mut room, piece, None);
     let outcome = encode(setting, &mut intake, &mut outlet);
     assert_eq!(rt; outcome.fault, None);
     assert_eq!(rt; outlet.written(), code);
     assert_eq!(rt;
         outcome.report.samples,
-        input.len() as u64 / setting.width() as u64
+        samples.len() as u64 / setting.width() as u64
     );
     if let Some(bits) = bits {
         assert_eq!(rt; outcome.report.bits, bits);
@@ -67,234 +66,95 @@ fn encodes(
     Ok(outcome.report.samples)
 }
 
+const BLOCKS: &str = " |                    |                    | 0
+    N |                    |                    | 0
+      | 05                 | 0058               |
+      | 0001020304050607   | 20092492           | 31
+      | 00FF*4             | E0 1F FF*6 E0      | 67
+      | 05*15 04           | 0058F2             | 23
+      | 05*11 0404030302   | 0058C920           | 27";
+
 #[test]
 fn blocks_encode(rt: HostRuntime) -> Result<(), Fail> {
-    let cases = [
-        Case(DEFAULT, NOTHING, b"", Some(0)),
-        Case(DEFAULT.bare(), NOTHING, b"", Some(0)),
-        Case(DEFAULT, all(&[5]), &[0x00, 0x58], None),
-        Case(
-            DEFAULT,
-            all(&[0, 1, 2, 3, 4, 5, 6, 7]),
-            &[0x20, 0x09, 0x24, 0x92],
-            Some(31),
-        ),
-        Case(DEFAULT, again(&[0, 0xFF], 4), &LARGEST_CODE, Some(67)),
-        Case(
-            DEFAULT,
-            Bytes(&[5], 15, &[4]),
-            &[0x00, 0x58, 0xF2],
-            Some(23),
-        ),
-        Case(
-            DEFAULT,
-            Bytes(&[5], 10, &[5, 4, 4, 3, 3, 2]),
-            &[0x00, 0x58, 0xC9, 0x20],
-            Some(27),
-        ),
-    ];
-    holds(&rt, rt.alloc(), &cases)
+    encodes(&rt, rt.alloc(), BLOCKS)
 }
+
+const NOT_PREPROCESSED: &str = "N | 00*7 01 | 1E40 |
+    N  | F0F1F2F3F4F5F6F7 | FE1E3E5E7E9EBEDEE0 | 67
+    N  | F0               | FE 1E*7 00         | 67
+    N  | 00*3 0100010001  | 1924               | 14
+    n1 | 0001*4           | EFE0               | 11";
 
 #[test]
 fn blocks_without_preprocessing_encode(rt: HostRuntime) -> Result<(), Fail> {
-    let cases = [
-        Case(DEFAULT.bare(), Bytes(&[0], 7, &[1]), &[0x1E, 0x40], None),
-        Case(DEFAULT.bare(), all(&COUNTED), &COUNTED_CODE, Some(67)),
-        Case(DEFAULT.bare(), all(&[0xF0]), &ONE_CODE, Some(67)),
-        Case(
-            DEFAULT.bare(),
-            Bytes(&[0], 3, &[1, 0, 1, 0, 1]),
-            &[0x19, 0x24],
-            Some(14),
-        ),
-        Case(DEFAULT.bits(1), again(&[0, 1], 4), &[0xEF, 0xE0], Some(11)),
-    ];
-    holds(&rt, rt.alloc(), &cases)
+    encodes(&rt, rt.alloc(), NOT_PREPROCESSED)
 }
+
+const RUNS: &str = " | 05*8 | 0058 | 13
+        | 05*16 | 0054     | 14
+    r1  | 05*16 | 005802C0 | 26
+    j16 | 05*16 | 0058     |";
 
 #[test]
 fn runs_encode(rt: HostRuntime) -> Result<(), Fail> {
-    let cases = [
-        Case(DEFAULT, again(&[5], 8), &[0x00, 0x58], Some(13)),
-        Case(DEFAULT, again(&[5], 16), &[0x00, 0x54], Some(14)),
-        Case(
-            DEFAULT.interval(1),
-            again(&[5], 16),
-            &[0x00, 0x58, 0x02, 0xC0],
-            Some(26),
-        ),
-        Case(DEFAULT.block(16), again(&[5], 16), &[0x00, 0x58], None),
-    ];
-    holds(&rt, rt.alloc(), &cases)
+    encodes(&rt, rt.alloc(), RUNS)
 }
+
+const SEGMENTS: &str = "r64 | 00*40 | 000080 |
+    r64  | 00*33     | 000080    |
+    r64  | 00*32     | 0001      | 16
+    r64  | 00*47 01  | 00004790  |
+    r128 | 00*520    | 000084    |
+    r64  | 00*504 01 | 00*9 1178 | 85";
 
 #[test]
 fn runs_of_a_segment_encode(rt: HostRuntime) -> Result<(), Fail> {
-    let cases = [
-        Case(
-            DEFAULT.interval(64),
-            again(&[0], 40),
-            &[0x00, 0x00, 0x80],
-            None,
-        ),
-        Case(
-            DEFAULT.interval(64),
-            again(&[0], 33),
-            &[0x00, 0x00, 0x80],
-            None,
-        ),
-        Case(
-            DEFAULT.interval(64),
-            again(&[0], 32),
-            &[0x00, 0x01],
-            Some(16),
-        ),
-        Case(
-            DEFAULT.interval(64),
-            Bytes(&[0], 47, &[1]),
-            &[0x00, 0x00, 0x47, 0x90],
-            None,
-        ),
-        Case(
-            DEFAULT.interval(128),
-            again(&[0], 520),
-            &[0x00, 0x00, 0x84],
-            None,
-        ),
-        Case(
-            DEFAULT.interval(64),
-            Bytes(&[0], 504, &[1]),
-            &[0, 0, 0, 0, 0, 0, 0, 0, 0, 0x11, 0x78],
-            Some(85),
-        ),
-    ];
-    holds(&rt, rt.alloc(), &cases)
+    encodes(&rt, rt.alloc(), SEGMENTS)
 }
+
+const PADDED: &str = "r1 p | 05*16 | 00580058 | 26
+    p | 05*17    | 00540058 | 27
+    p | 05*15 04 | 0058F2   |";
 
 #[test]
 fn intervals_are_padded(rt: HostRuntime) -> Result<(), Fail> {
-    let cases = [
-        Case(
-            DEFAULT.interval(1).padded(),
-            again(&[5], 16),
-            &[0x00, 0x58, 0x00, 0x58],
-            Some(26),
-        ),
-        Case(
-            DEFAULT.padded(),
-            again(&[5], 17),
-            &[0x00, 0x54, 0x00, 0x58],
-            Some(27),
-        ),
-        Case(
-            DEFAULT.padded(),
-            Bytes(&[5], 15, &[4]),
-            &[0x00, 0x58, 0xF2],
-            None,
-        ),
-    ];
-    holds(&rt, rt.alloc(), &cases)
+    encodes(&rt, rt.alloc(), PADDED)
 }
+
+const SIGNED: &str = "s | 00FFFEFDFCFBFAF9 | 200AAA80 | 25
+    s      | 807F*4 | F0 1F FF*6 E0 | 67
+    n4 s   | F8*8   | 0880          |
+    n4 s N | FF     | FFFFFFFFE0    |";
 
 #[test]
 fn signed_samples_encode(rt: HostRuntime) -> Result<(), Fail> {
-    let cases = [
-        Case(
-            DEFAULT.signed(),
-            all(&[0, 0xFF, 0xFE, 0xFD, 0xFC, 0xFB, 0xFA, 0xF9]),
-            &[0x20, 0x0A, 0xAA, 0x80],
-            Some(25),
-        ),
-        Case(
-            DEFAULT.signed(),
-            again(&[0x80, 0x7F], 4),
-            &[0xF0, 0x1F, 0xFF, 0xFF, 0xFF, 0xFF, 0xFF, 0xFF, 0xE0],
-            Some(67),
-        ),
-        Case(
-            DEFAULT.bits(4).signed(),
-            again(&[0xF8], 8),
-            &[0x08, 0x80],
-            None,
-        ),
-        Case(
-            DEFAULT.bits(4).signed().bare(),
-            all(&[0xFF]),
-            &[0xFF, 0xFF, 0xFF, 0xFF, 0xE0],
-            None,
-        ),
-    ];
-    holds(&rt, rt.alloc(), &cases)
+    encodes(&rt, rt.alloc(), SIGNED)
 }
+
+const NINE_BITS: &str = "n9 m N | 01FF*8 | FF*9 F0 | 76
+    n9 N | FF01*8 | FF*9 F0 | 76";
 
 #[test]
 fn samples_of_nine_bits_encode(rt: HostRuntime) -> Result<(), Fail> {
-    let nines: [u8; 10] = [255, 255, 255, 255, 255, 255, 255, 255, 255, 0xF0];
-    let cases = [
-        Case(
-            DEFAULT.bits(9).msb().bare(),
-            again(&[1, 255], 8),
-            &nines,
-            Some(76),
-        ),
-        Case(
-            DEFAULT.bits(9).bare(),
-            again(&[255, 1], 8),
-            &nines,
-            Some(76),
-        ),
-    ];
-    holds(&rt, rt.alloc(), &cases)
+    encodes(&rt, rt.alloc(), NINE_BITS)
 }
+
+const SEVERAL_BYTES: &str = "n16 m | 0005*8 | 00002C |
+    n24 3 m   | 000005*8       | 00000016   |
+    n24 3     | 050000*8       | 00000016   |
+    n24 m     | 00000005*8     | 00000016   |
+    n32       | 05000000*8     | 0000000016 |
+    n32 j64 N | 00*252 01000000 | 07FFFFFFF9 | 40";
 
 #[test]
 fn samples_of_several_bytes_encode(rt: HostRuntime) -> Result<(), Fail> {
-    let cases = [
-        Case(
-            DEFAULT.bits(16).msb(),
-            again(&[0, 5], 8),
-            &[0x00, 0x00, 0x2C],
-            None,
-        ),
-        Case(
-            DEFAULT.bits(24).three().msb(),
-            again(&[0, 0, 5], 8),
-            &[0x00, 0x00, 0x00, 0x16],
-            None,
-        ),
-        Case(
-            DEFAULT.bits(24).three(),
-            again(&[5, 0, 0], 8),
-            &[0x00, 0x00, 0x00, 0x16],
-            None,
-        ),
-        Case(
-            DEFAULT.bits(24).msb(),
-            again(&[0, 0, 0, 5], 8),
-            &[0x00, 0x00, 0x00, 0x16],
-            None,
-        ),
-        Case(
-            DEFAULT.bits(32),
-            again(&[5, 0, 0, 0], 8),
-            &[0x00, 0x00, 0x00, 0x00, 0x16],
-            None,
-        ),
-        Case(
-            DEFAULT.bits(32).block(64).bare(),
-            Bytes(&[0], 252, &[1, 0, 0, 0]),
-            &[0x07, 0xFF, 0xFF, 0xFF, 0xF9],
-            Some(40),
-        ),
-    ];
-    holds(&rt, rt.alloc(), &cases)
+    encodes(&rt, rt.alloc(), SEVERAL_BYTES)
 }
 
 #[test]
 fn a_search_that_stops_early_takes_few_steps(rt: HostRuntime) -> Result<(), Fail> {
-    let setting = DEFAULT.bits(32).block(64).bare().setting()?;
-    let input = Bytes(&[0], 252, &[1, 0, 0, 0]).list(rt.alloc())?;
+    let setting = setting_of("n32 j64 N")?;
+    let input = bytes_of("00*252 01000000", rt.alloc())?;
     let mut room = [0u8; 8];
     let mut outlet = MemoryOut::new(&mut room, 8, None);
     let mut intake = MemoryIn::new(input.as_slice(), 4096, None);

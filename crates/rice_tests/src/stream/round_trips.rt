@@ -1,14 +1,12 @@
 //! Samples of every setting come back.
-use crate::stream::options::{DEFAULT, Options};
 use rice_bits::{MemoryIn, MemoryOut};
-use rice_samples::bytes_of;
+use rice_samples::{Setting, bytes_of};
 use rice_stream::{decode, encode};
 use std::alloc::Global;
 use std::test::Fail;
 
 /// Whether a hundred samples and one, from a generator of pseudorandom numbers, come back.
-fn comes_back(alloc: Global, options: Options) -> Result<bool, Fail> {
-    let setting = options.setting()?;
+fn comes_back(alloc: Global, setting: Setting) -> Result<bool, Fail> {
     let mut input = Vec::new(alloc);
     let mut state = 1u32;
     let mut count = 0u64;
@@ -41,24 +39,6 @@ fn comes_back(alloc: Global, options: Options) -> Result<bool, Fail> {
     Ok(count == 101 && !faults && returned.written() == input.as_slice())
 }
 
-/// The default setting with these flags.
-fn flagged(signed: bool, msb: bool, three: bool, preprocess: bool) -> Options {
-    let mut options = DEFAULT;
-    if signed {
-        options = options.signed();
-    }
-    if msb {
-        options = options.msb();
-    }
-    if three {
-        options = options.three();
-    }
-    if !preprocess {
-        options = options.bare();
-    }
-    options
-}
-
 #[test]
 fn every_setting_returns_its_samples(rt: HostRuntime) -> Result<(), Fail> {
     for bits in [1, 4, 8, 10, 16, 17, 24, 32] {
@@ -67,10 +47,12 @@ fn every_setting_returns_its_samples(rt: HostRuntime) -> Result<(), Fail> {
                 for msb in [false, true] {
                     for three in [false, true] {
                         for preprocess in [false, true] {
-                            let options = flagged(signed, msb, three, preprocess);
-                            let options = options.bits(bits).block(block);
-                            assert!(rt; comes_back(rt.alloc(), options)?);
-                            assert!(rt; comes_back(rt.alloc(), options.interval(1).padded())?);
+                            for (interval, pad) in [(2, false), (1, true)] {
+                                let setting = Setting::new(
+                                    bits, block, interval, signed, msb, three, preprocess, pad,
+                                )?;
+                                assert!(rt; comes_back(rt.alloc(), setting)?);
+                            }
                         }
                     }
                 }

@@ -1,0 +1,131 @@
+//! Tables of cases as texts: a line for each case, with `|` between its columns.
+use rice_samples::Setting;
+use rice_stream::Fault;
+use std::alloc::Global;
+use std::test::Fail;
+
+/// The columns of a line.
+#[derive(Drop)]
+pub struct Columns<'a> {
+    rest: &'a str,
+}
+
+impl<'a> Columns<'a> {
+    /// Returns the columns of `line`.
+    pub fn of(line: &'a str) -> Self {
+        Columns { rest: line }
+    }
+
+    /// Returns the next column, without the blanks around it.
+    pub fn next(&mut self) -> &'a str {
+        match self.rest.split_once('|') {
+            Some((column, rest)) => {
+                self.rest = rest;
+                column.trim()
+            }
+            None => {
+                let column = self.rest;
+                self.rest = "";
+                column.trim()
+            }
+        }
+    }
+}
+
+/// Returns the setting of options such as `n16 j32 r64 s`, those of the command line without dashes: `s` signed, `m` most
+/// significant byte first, `3` three bytes, `N` not preprocessed, `p` padded.
+pub fn setting_of(options: &str) -> Result<Setting, Fail> {
+    let mut bits = 8;
+    let mut block = 8;
+    let mut interval = 2;
+    let mut signed = false;
+    let mut msb = false;
+    let mut three = false;
+    let mut preprocess = true;
+    let mut pad = false;
+    for option in options.split_whitespace() {
+        match option {
+            "s" => signed = true,
+            "m" => msb = true,
+            "3" => three = true,
+            "N" => preprocess = false,
+            "p" => pad = true,
+            _ => {
+                if let Some(number) = option.strip_prefix('n') {
+                    bits = number.parse::<u32>()?;
+                } else if let Some(number) = option.strip_prefix('j') {
+                    block = number.parse::<u32>()?;
+                } else if let Some(number) = option.strip_prefix('r') {
+                    interval = number.parse::<u32>()?;
+                } else {
+                    return Err(Fail::new("no option"));
+                }
+            }
+        }
+    }
+    Ok(Setting::new(bits, block, interval, signed, msb, three, preprocess, pad)?)
+}
+
+/// Returns the number of a column, or `None` where it is empty.
+pub fn number_of(text: &str) -> Result<Option<u64>, Fail> {
+    if text.is_empty() {
+        return Ok(None);
+    }
+    Ok(Some(text.parse::<u64>()?))
+}
+
+/// Returns the bytes of words such as `00FF` in hexadecimal, and `05*8`, which is eight times `05`.
+pub fn bytes_of(text: &str, alloc: Global) -> Result<Vec<u8>, Fail> {
+    let mut bytes = Vec::new(alloc);
+    for word in text.split_whitespace() {
+        match word.split_once('*') {
+            Some((digits, times)) => {
+                for _ in 0..times.parse::<u32>()? {
+                    push_word(digits, &mut bytes)?;
+                }
+            }
+            None => push_word(word, &mut bytes)?,
+        }
+    }
+    Ok(bytes)
+}
+
+/// Adds the bytes of hexadecimal digits.
+fn push_word(digits: &str, bytes: &mut Vec<u8>) -> Result<(), Fail> {
+    let mut high: Option<u8> = None;
+    for digit in digits.chars() {
+        let Some(value) = digit.to_digit(16) else {
+            return Err(Fail::new("no hexadecimal digit"));
+        };
+        let value = u8::try_from(value)?;
+        match high {
+            None => high = Some(value),
+            Some(first) => {
+                bytes.push(first.wrapping_mul(16).wrapping_add(value))?;
+                high = None;
+            }
+        }
+    }
+    Ok(())
+}
+
+/// Returns the fault of a column such as `cut 8`, or `None` where it is empty.
+pub fn fault_of(text: &str) -> Result<Option<Fault>, Fail> {
+    if text.is_empty() {
+        return Ok(None);
+    }
+    let (name, number) = match text.split_once(' ') {
+        Some((name, number)) => (name, number.parse::<u64>()?),
+        None => (text, 0),
+    };
+    match name {
+        "read" => Ok(Some(Fault::Read)),
+        "write" => Ok(Some(Fault::Write)),
+        "range" => Ok(Some(Fault::SampleOutOfRange { index: number })),
+        "inside" => Ok(Some(Fault::SampleCut { index: number })),
+        "ends" => Ok(Some(Fault::CodeEnds { samples: number })),
+        "run" => Ok(Some(Fault::RunPastSegment { block: number })),
+        "residual" => Ok(Some(Fault::ResidualTooLarge { block: number })),
+        _ => Err(Fail::new("no fault")),
+    }
+}
