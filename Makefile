@@ -2,7 +2,7 @@ PREFIX ?= /usr/local
 RANDOM_INPUTS ?= 100000
 
 .DEFAULT_GOAL := help
-.PHONY: help aec install uninstall test rows hostile interop refused-memory installed recipes bench
+.PHONY: help aec install uninstall test rows hostile interop refused-memory installed recipes documents bench
 
 help:
 	@echo 'make aec                    prove and build the program, as ./aec'
@@ -15,6 +15,7 @@ help:
 	@echo 'make refused-memory         refuse each request for memory of ./aec in turn'
 	@echo 'make installed              install ./aec into a folder, and try its manual page and completions there'
 	@echo 'make recipes                run the recipes of docs/COOKBOOK.md with ./aec'
+	@echo 'make documents              try the links, commands, options and messages of the documents with ./aec'
 	@echo "make bench                  compare the speed of ./aec and Debian's aec"
 
 aec:
@@ -54,6 +55,9 @@ installed: aec
 
 recipes: aec
 	scripts/recipes.py ./aec
+
+documents: aec
+	scripts/documents.py ./aec
 
 bench: aec
 	scripts/bench

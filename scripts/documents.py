@@ -1,0 +1,158 @@
+#!/usr/bin/env python3
+"""Tries what the documents and the manual page say: links, paths, targets of make, commands, options, messages and edits.
+
+Commands that begin with `$` are run with the program, and what they print is compared; of others the first word is looked up.
+
+usage: documents.py PROGRAM
+"""
+import glob
+import os
+import random
+import re
+import shutil
+import subprocess
+import sys
+import tempfile
+
+FOLDERS = "crates|scripts|docs|recipes|man|completions"
+MANUAL = "man/aec.1"
+
+
+def read(path):
+    with open(path) as file:
+        return file.read()
+
+
+def slug(heading):
+    """The anchor that a heading gets."""
+    return re.sub(r"[^\w\- ]", "", heading.lower()).replace(" ", "-")
+
+
+def wrong_links(page):
+    """The links that lead nowhere."""
+    for link in re.findall(r"\]\(([^)\s]+)\)", read(page)):
+        path, _, anchor = link.partition("#")
+        if "://" in link:
+            continue
+        target = os.path.normpath(os.path.join(os.path.dirname(page), path)) if path else page
+        if not os.path.exists(target):
+            yield f"{page}: no file for the link {link}"
+        elif anchor and anchor not in map(slug, re.findall(r"(?m)^#+ (.*)$", read(target))):
+            yield f"{page}: no heading for the link {link}"
+
+
+def wrong_names(page, targets):
+    """The paths and the targets of make that are none."""
+    text = read(page)
+    for name in re.findall(rf"(?<![\w/.$-])(?:(?:{FOLDERS})/|\.ci/)[\w./*-]*[\w*]", text):
+        if not glob.glob(name) and not glob.glob(os.path.join(os.path.dirname(page), name)):
+            yield f"{page}: no file {name}"
+    for target in re.findall(r"(?m)(?:`|^ {4}|\$ )make ([a-z-]+)", text):
+        if target not in targets:
+            yield f"{page}: no target {target} of make"
+
+
+def wrong_commands(page):
+    """The commands in indented lines whose first word is none. Those with `$` are run."""
+    if not page.endswith(".md"):
+        return
+    text = re.sub(r"(?ms)^```.*?^```$", "", read(page))
+    for block in re.findall(r"(?m)(?:^ {4}.*\n)+", text):
+        if block.startswith("    $ ") or page == "docs/CODE.md":
+            continue
+        for line in block.splitlines():
+            word = line.split()[0]
+            if word not in ("aec", "rt") and not (os.path.exists(word) or shutil.which(word)):
+                yield f"{page}: no command {word}"
+
+
+def shell_blocks(page):
+    """The lines of commands and of what they print."""
+    if page == MANUAL:
+        return re.findall(r"(?ms)^\.Bd -literal.*?\n(.*?)^\.Ed$", read(page))
+    return [re.sub(r"(?m)^    ", "", block) for block in re.findall(r"(?m)^ {4}\$ .*\n(?: {4}.*\n)*", read(page))]
+
+
+def run(script):
+    """Runs lines of a shell in a folder that has the files of the examples."""
+    generator = random.Random(1)
+    with tempfile.TemporaryDirectory() as folder:
+        for name, size in (("frame.raw", 131072), ("sensor.raw", 90000), ("samples.bin", 10000)):
+            with open(os.path.join(folder, name), "wb") as file:
+                file.write(generator.randbytes(size))
+        return subprocess.run(["bash", "-e", "-o", "pipefail", "-c", script], cwd=folder, capture_output=True, text=True)
+
+
+def wrong_output(page):
+    """The commands of a page that fail or print otherwise."""
+    lines = "".join(shell_blocks(page)).splitlines()
+    done = run("\n".join(line[2:] for line in lines if line.startswith("$ ")))
+    shown = "".join(line + "\n" for line in lines if not line.startswith("$ "))
+    if done.returncode != 0 or done.stdout != shown:
+        yield f"{page}: its commands print {done.stdout!r}, with status {done.returncode} and {done.stderr!r}"
+
+
+def wrong_examples(help_text):
+    """The examples of the help that fail."""
+    done = run(help_text.partition("Examples:\n")[2])
+    if done.returncode != 0:
+        yield f"help: its examples fail with {done.stderr!r}"
+
+
+def wrong_options(help_text):
+    """The options that are not the same in the help, in README and in the manual."""
+    options_in = lambda text: set(re.findall(r"(?<![\w-])--?\w+", text))
+    wanted = options_in("\n".join(line.split("  ")[0] for line in re.findall(r"(?m)^ +(-.*)$", help_text)))
+    rows = options_in("\n".join(re.findall(r"(?m)^\| (`-.*?) \|", read("README.md"))))
+    items = re.findall(r"(?m)^\.It Fl (.*)$", read(MANUAL))
+    listed = options_in("\n".join(f"-{item}".replace(" , ", " -") for item in items))
+    for name, found in (("README.md", rows), (MANUAL, listed)):
+        for option in sorted(wanted ^ found):
+            yield f"{name}: the option {option} is not in the help, or only there"
+
+
+def wrong_messages():
+    """The messages of README and of the sources that the manual does not explain."""
+    numbered = lambda text: re.sub(r"\b\d+\b|\{\w+\}", "N", text.replace("{name}", "NAME"))
+    explained = {numbered(text) for text in re.findall(r'(?m)^\.It "(.*)"$', read(MANUAL))}
+    table = read("README.md").partition("| status | when |")[2].partition("\n\n")[0]
+    messages = {text for row in table.splitlines() for text in re.findall(r"`([^`]+)`", row.rpartition("|")[0].rpartition("|")[2])}
+    for crate in ("aec_tool", "rice_stream"):
+        for path in glob.glob(f"crates/{crate}/src/**/*.rt", recursive=True):
+            messages |= set(re.findall(r'#\[error\("([^"]+)"\)\]', read(path)))
+    for message in sorted(messages):
+        if numbered(message) not in explained:
+            yield f"{MANUAL}: the message {message!r} is not explained"
+
+
+def wrong_edits():
+    """The edits that docs/PROOFS.md names and that are none, and those that it does not name."""
+    tables = re.findall(r"(?m)^\|.*\| edits that must fail \|\n((?:\|.*\n)*)", read("docs/PROOFS.md"))
+    cells = [row.rpartition("|")[0].rpartition("|")[2] for table in tables for row in table.splitlines()]
+    named = {name for cell in cells if cell.startswith(" `") for name in re.findall(r"`(\w+)`", cell)}
+    edits = {os.path.basename(path).removesuffix(".edit") for path in glob.glob("crates/*/must-fail/*.edit")}
+    for name in sorted(named - edits):
+        yield f"docs/PROOFS.md: no edit {name}"
+    for edit in sorted(edits - named):
+        yield f"docs/PROOFS.md: the edit {edit} is not named"
+
+
+def main():
+    program = os.path.abspath(sys.argv[1])
+    os.chdir(os.path.join(os.path.dirname(os.path.abspath(__file__)), ".."))
+    pages = ["README.md", *sorted(glob.glob("docs/*.md")), MANUAL]
+    targets = re.findall(r"(?m)^([a-z-]+):", read("Makefile"))
+    help_text = subprocess.run([program, "--help"], capture_output=True, text=True, check=True).stdout
+    wrong = [text for page in pages for text in (*wrong_links(page), *wrong_names(page, targets), *wrong_commands(page))]
+    wrong += [*wrong_options(help_text), *wrong_messages(), *wrong_edits()]
+    with tempfile.TemporaryDirectory() as folder:
+        os.symlink(program, os.path.join(folder, "aec"))
+        os.environ["PATH"] = folder + ":" + os.environ["PATH"]
+        wrong += [*wrong_output("README.md"), *wrong_output(MANUAL), *wrong_examples(help_text)]
+    for text in wrong:
+        print(f"documents: {text}")
+    print(f"documents: {len(pages)} pages, {len(wrong)} wrong")
+    sys.exit(len(wrong) > 0)
+
+
+main()
