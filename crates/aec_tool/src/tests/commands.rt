@@ -23,111 +23,75 @@ fn told(rt: HostRuntime, words: &[&str], input: &[u8], room: usize) -> Result<(u
     Ok((status, record.into_told()?))
 }
 
+/// What a start with the words of a line wrote, and its status.
+fn told_of(rt: HostRuntime, line: &str, input: &[u8]) -> Result<(u8, Told), Fail> {
+    let mut words = Vec::new(rt.alloc());
+    for word in line.split_whitespace() {
+        words.push(word)?;
+    }
+    told(rt, words.as_slice(), input, 100)
+}
+
+/// Returns the two parts of a line, without the blanks around them.
+fn parts_of(line: &str) -> Result<(&str, &str), Fail> {
+    match line.split_once('|') {
+        Some((first, second)) => Ok((first.trim(), second.trim())),
+        None => Err(Fail::new("a line without two parts")),
+    }
+}
+
+// The words, and the message. What begins with a setting or a missing `-d` is wrong usage.
+const REFUSED: &str = "-n 0 - -     | bits per sample must be 1 to 32
+    -n 33 -j 7 - -          | bits per sample must be 1 to 32
+    -j 12 -r 0 - -          | block size must be 8, 16, 32 or 64
+    -r 4097 - -             | interval must be 1 to 4096
+    --samples 3 - -         | --samples needs -d
+    --samples 3 -n 0 - -    | --samples needs -d
+    -n 0 other.bin out.bin  | bits per sample must be 1 to 32
+    other.bin out.bin       | cannot open other.bin
+    in.bin none/out.bin     | cannot create none/out.bin";
+
 #[test]
 fn refuses_settings_and_names(rt: HostRuntime) -> Result<(), Fail> {
-    // The words, the text, the status.
-    let cases: [(&[&str], &str, u8); 10] = [
-        (
-            &["-n", "0", "-", "-"],
-            "aec: bits per sample must be 1 to 32\n",
-            2,
-        ),
-        (
-            &["-n", "33", "-j", "7", "-", "-"],
-            "aec: bits per sample must be 1 to 32\n",
-            2,
-        ),
-        (
-            &["-j", "12", "-r", "0", "-", "-"],
-            "aec: block size must be 8, 16, 32 or 64\n",
-            2,
-        ),
-        (
-            &["-r", "4097", "-", "-"],
-            "aec: interval must be 1 to 4096\n",
-            2,
-        ),
-        (
-            &["--samples", "3", "-", "-"],
-            "aec: --samples needs -d\n",
-            2,
-        ),
-        (
-            &["--samples", "3", "-n", "0", "-", "-"],
-            "aec: --samples needs -d\n",
-            2,
-        ),
-        (
-            &["-n", "0", "other.bin", "out.bin"],
-            "aec: bits per sample must be 1 to 32\n",
-            2,
-        ),
-        (&["other.bin", "out.bin"], "aec: cannot open other.bin\n", 1),
-        (&["", "out.bin"], "aec: cannot open \n", 1),
-        (
-            &["in.bin", "none/out.bin"],
-            "aec: cannot create none/out.bin\n",
-            1,
-        ),
-    ];
-    for (words, text, wanted) in cases {
-        let (status, told) = told(rt, words, b"hello", 100)?;
-        assert_eq!(rt; told.errors.as_str(), text);
+    for line in REFUSED.lines() {
+        let (words, text) = parts_of(line)?;
+        let (status, told) = told_of(rt, words, b"hello")?;
+        let message = told.errors.as_str().strip_prefix("aec: ");
+        assert_eq!(rt; message.and_then(|it| it.strip_suffix("\n")), Some(text));
         assert_eq!(rt; told.output.as_str(), "");
+        let wanted = if text.starts_with("cannot") { 1 } else { 2 };
         assert_eq!(rt; (status, told.created), (wanted, 0));
     }
     Ok(())
 }
 
 #[test]
+fn refuses_a_name_without_letters(rt: HostRuntime) -> Result<(), Fail> {
+    let (status, told) = told(rt, &["", "out.bin"], b"hello", 100)?;
+    assert_eq!(rt; told.errors.as_str(), "aec: cannot open \n");
+    assert_eq!(rt; (status, told.created), (1, 0));
+    Ok(())
+}
+
+// The words, and how the message begins.
+const UNPARSED: &str = "-t - -      | error: unexpected argument '-t' found
+    --sample - -           | error: unexpected argument '--sample' found
+    -n x - -               | error: invalid value 'x' for '-n <BITS>'
+    -n 4294967296 - -      | error: invalid value '4294967296' for '-n <BITS>'
+    -n -1 - -              | error: unexpected argument '-1' found
+    -b 0 - -               | error: invalid value '0' for '-b <BYTES>'
+    -d --samples 18446744073709551616 - - | error: invalid value '18446744073709551616' for '--samples <N>'
+    -                      | error: the following required arguments were not provided:
+                           | error: the following required arguments were not provided:
+    - - -                  | error: unexpected argument '-' found
+    -d -d - -              | error: the argument '-d' cannot be used multiple times
+    -n 7 -n 7 - -          | error: the argument '-n <BITS>' cannot be used multiple times";
+
+#[test]
 fn refuses_what_does_not_parse(rt: HostRuntime) -> Result<(), Fail> {
-    // The words, and the first line.
-    let cases: [(&[&str], &str); 12] = [
-        (&["-t", "-", "-"], "error: unexpected argument '-t' found\n"),
-        (
-            &["--sample", "-", "-"],
-            "error: unexpected argument '--sample' found\n",
-        ),
-        (
-            &["-n", "x", "-", "-"],
-            "error: invalid value 'x' for '-n <BITS>'",
-        ),
-        (
-            &["-n", "4294967296", "-", "-"],
-            "error: invalid value '4294967296' for '-n <BITS>'",
-        ),
-        (
-            &["-n", "-1", "-", "-"],
-            "error: unexpected argument '-1' found\n",
-        ),
-        (
-            &["-b", "0", "-", "-"],
-            "error: invalid value '0' for '-b <BYTES>'",
-        ),
-        (
-            &["-d", "--samples", "18446744073709551616", "-", "-"],
-            "error: invalid value '18446744073709551616' for '--samples <N>'",
-        ),
-        (
-            &["-"],
-            "error: the following required arguments were not provided:\n  <DEST>\n",
-        ),
-        (
-            &[],
-            "error: the following required arguments were not provided:\n  <SOURCE>\n  <DEST>\n",
-        ),
-        (&["-", "-", "-"], "error: unexpected argument '-' found\n"),
-        (
-            &["-d", "-d", "-", "-"],
-            "error: the argument '-d' cannot be used multiple times\n",
-        ),
-        (
-            &["-n", "7", "-n", "7", "-", "-"],
-            "error: the argument '-n <BITS>' cannot be used multiple times\n",
-        ),
-    ];
-    for (words, text) in cases {
-        let (status, told) = told(rt, words, b"hello", 100)?;
+    for line in UNPARSED.lines() {
+        let (words, text) = parts_of(line)?;
+        let (status, told) = told_of(rt, words, b"hello")?;
         assert_eq!(rt; status, 2, "{text}");
         assert_eq!(rt; told.output.as_str(), "");
         assert!(rt; told.errors.as_str().starts_with(text), "{}", told.errors);
@@ -137,43 +101,34 @@ fn refuses_what_does_not_parse(rt: HostRuntime) -> Result<(), Fail> {
 }
 
 #[test]
+fn names_each_argument_that_is_missing(rt: HostRuntime) -> Result<(), Fail> {
+    let (_, both) = told_of(rt, "", b"")?;
+    assert!(rt;
+        both.errors
+            .as_str()
+            .contains("provided:\n  <SOURCE>\n  <DEST>\n")
+    );
+    let (_, one) = told_of(rt, "-", b"")?;
+    assert!(rt; one.errors.as_str().contains("provided:\n  <DEST>\n"));
+    Ok(())
+}
+
+const PLACES: &str = "-N -n 7 -d --samples 2 - -
+    - - -N -n 7 -d --samples 2
+    -N - -n7 -d - --samples=2
+    -Ndn7 --samples 2 -- - -
+    -Ndn=7 --samples 2 - -- -
+    -dsN3mb 1 -j8 -r2 -n7 --samples 2 - -
+    -b 4294967295 -N -d -n +7 --samples 2 - -
+    -Ndn 7 -r 4096 --samples 2 - -";
+
+#[test]
 fn finds_options_in_all_places(rt: HostRuntime) -> Result<(), Fail> {
-    let cases: [&[&str]; 8] = [
-        &["-N", "-n", "7", "-d", "--samples", "2", "-", "-"],
-        &["-", "-", "-N", "-n", "7", "-d", "--samples", "2"],
-        &["-N", "-", "-n7", "-d", "-", "--samples=2"],
-        &["-Ndn7", "--samples", "2", "--", "-", "-"],
-        &["-Ndn=7", "--samples", "2", "-", "--", "-"],
-        &[
-            "-dsN3mb",
-            "1",
-            "-j8",
-            "-r2",
-            "-n7",
-            "--samples",
-            "2",
-            "-",
-            "-",
-        ],
-        &[
-            "-b",
-            "4294967295",
-            "-N",
-            "-d",
-            "-n",
-            "+7",
-            "--samples",
-            "2",
-            "-",
-            "-",
-        ],
-        &["-Ndn", "7", "-r", "4096", "--samples", "2", "-", "-"],
-    ];
-    for (i, words) in cases.iter().enumerate() {
-        let (status, told) = told(rt, words, CODE, 100)?;
-        assert_eq!(rt; told.errors.as_str(), "", "case {i}");
-        assert_eq!(rt; told.output.as_str(), "\0\0", "case {i}");
-        assert_eq!(rt; (status, told.created), (0, 0), "case {i}");
+    for line in PLACES.lines() {
+        let (status, told) = told_of(rt, line, CODE)?;
+        assert_eq!(rt; told.errors.as_str(), "", "{line}");
+        assert_eq!(rt; told.output.as_str(), "\0\0", "{line}");
+        assert_eq!(rt; (status, told.created), (0, 0), "{line}");
     }
     Ok(())
 }
