@@ -8,4 +8,4 @@ pub mod PushedCode
 pub mod SearchLemmas
 pub mod SegmentSteps
 pub mod SeveralHeld
-pub mod SeveralPushed
+pub mod PushedSamples

@@ -1,9 +1,8 @@
 -- The blocks that a coder holds, and the runs of zeros among them.
-use Rattle.std.specs.Prelude.{◌≡◌, ℕ, zero, suc, ◌+◌, ◌<◌, Bool, ◌&&◌, nat_le, if◌then◌else◌, List, [], ◌∷◌, length, take, drop, replicate, Option, None, IfSome}
-use Rattle.rice_samples.specs.Parameters.{Parameters, value_count}
+use Rattle.std.specs.Prelude.{ℕ, zero, suc, Bool, ◌&&◌, nat_le, if◌then◌else◌, List, [], ◌∷◌, take, drop, replicate, Option, None}
+use Rattle.rice_samples.specs.Parameters.{Parameters}
 use Rattle.rice_code.specs.code.Blocks.{BlockData, zero_block}
 use Rattle.rice_code.specs.code.CodedDataSets.{CodedDataSet, ZeroBlocks, RemainderOfSegment, run_number}
-use Rattle.rice_code.specs.code.Forms.{IsBlock, IsZeroAtReference, AllFit}
 use Rattle.rice_code.specs.code.SoundBlocks.{block_with}
 
 -- the blocks that residuals make, so many, the first with this reference

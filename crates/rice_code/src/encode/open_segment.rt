@@ -1,13 +1,11 @@
 //! The segment that a coder fills.
 ghost use Rattle.std.specs.Prelude.{◌≡◌, ℕ, ◌+◌, ◌-◌, ◌*◌, ◌/◌, ◌^◌, ◌<◌, ◌≤◌, ◌↔◌, ◌++◌, List, [], length, replicate, sum_by, if◌then◌else◌, ◌==◌, ◌&&◌, Some, None, false, IsTrue, All};
 ghost use Rattle.rice_bits.specs.Bits.{bits_to_byte};
-ghost use Rattle.rice_samples.specs.Parameters.{IsLegal, IsSample, id_len, k_max};
+ghost use Rattle.rice_samples.specs.Parameters.{IsLegal, IsSample};
 ghost use Rattle.rice_samples.specs.Places.{blocks_left};
 ghost use Rattle.rice_samples.specs.predict.Residuals.{pattern, rank};
-ghost use Rattle.rice_code.specs.code.CodedDataSets.{bits_of_set};
-ghost use Rattle.rice_code.specs.code.SoundBlocks.{AreSoundBlocks};
-ghost use Rattle.rice_code.specs.Steps.{least_looks, most_looks};
-ghost use Rattle.rice_code.specs.encode.OpenSegment.{IsWhole, empty_state, state_after, state_after_all, later_residuals, state_with_fill, fill_count, state_after_segment, blocks_held, contents_held, sets_held, code_held, is_first};
+ghost use Rattle.rice_code.specs.Steps.{coding_steps};
+ghost use Rattle.rice_code.specs.encode.OpenSegment.{IsWhole, empty_state, state_after, state_after_all, later_residuals, state_with_fill, fill_count, state_after_segment, HoldsSoundBlocks, CodesHeld, is_first};
 
 use crate::encode::blocks::code_blocks;
 use rice_bits::{BitSink, Meter};
@@ -154,16 +152,13 @@ impl OpenSegment {
         push_copies(&mut self.residuals, residual, count, meter);
     }
 
-    /// Appends the code of its blocks, with the padding of the interval that they end. Answers how many bits that are, padding aside.
+    /// Appends the code of its blocks, with the padding of the interval that they end. Returns the
+    /// number of its bits, padding aside.
     pub fn code(&self, sink: &mut BitSink<16432>, meter: &mut Meter) -> u64
-        requires sound { AreSoundBlocks self.now.setting self.now.start (contents_held self.now) }
-        requires blocks { length self.now.residuals ≡ self.now.setting.block * blocks_held self.now }
+        requires blocks { HoldsSoundBlocks self.now }
         requires room { length sink.old ≤ 7 }
-        requires meter { meter.old + 64 * (id_len self.now.setting + self.now.setting.block * (self.now.setting.bits + k_max self.now.setting + 5)) < 2 ^ 62 }
-        ensures bits { sink.new ≡ sink.old ++ code_held self.now (length sink.old) }
-        ensures count { result ≡ sum_by (λ d. length (bits_of_set self.now.setting d)) (sets_held self.now) }
-        ensures steps_from { meter.old + sum_by (λ d. length (bits_of_set self.now.setting d)) (sets_held self.now) + sum_by (least_looks self.now.setting) (contents_held self.now) ≤ meter.new }
-        ensures steps_to { meter.new ≤ meter.old + sum_by (λ d. length (bits_of_set self.now.setting d)) (sets_held self.now) + sum_by (most_looks self.now.setting) (contents_held self.now) }
+        requires meter { meter.old + coding_steps self.now.setting < 2 ^ 62 }
+        ensures { CodesHeld self.now sink.old sink.new result meter.old meter.new }
     {
         let setting = &self.setting;
         let blocks = blocks_of(setting, self.residuals.len());
