@@ -8,6 +8,7 @@ pub mod coder;
 mod coder_tests;
 mod cost;
 mod fields;
+mod held_block;
 mod open_segment;
 mod options;
 mod search;

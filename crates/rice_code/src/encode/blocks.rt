@@ -7,38 +7,33 @@ ghost use Rattle.rice_code.specs.code.CodedDataSets.{cost, bits_of_set, bits_of_
 ghost use Rattle.rice_code.specs.code.Code.{data_sets};
 ghost use Rattle.rice_code.specs.code.Choice.{shortest, best_split};
 ghost use Rattle.rice_code.specs.encode.HeldBlocks.{held_blocks, reference_at, pending_run};
-ghost use Rattle.rice_code.specs.code.SoundBlocks.{block_with, IsSoundData, AreSoundBlocks};
+ghost use Rattle.rice_code.specs.code.SoundBlocks.{IsSoundData, AreSoundBlocks};
 ghost use Rattle.rice_code.specs.Steps.{least_looks, most_looks};
 
+use crate::encode::held_block::HeldBlock;
 use crate::encode::options::{put_block, put_run};
 use crate::encode::search::choose;
 use rice_bits::{BitSink, Meter};
-use rice_samples::{Block, Segment, Setting};
+use rice_samples::{Segment, Setting};
 
 /// The shortest text of a block that is not zero.
 ///
 /// It is never inlined, so that the loop over the blocks stays short.
 #[inline(never)]
-fn code_block(
-    setting: &Setting,
-    reference: Option<u32>,
-    block: Block<'_>,
-    sink: &mut BitSink<16432>,
-    meter: &mut Meter,
-)
-    requires sound { IsSoundData setting.now (block_with reference block) }
-    requires room { length sink.old + cost setting.now (shortest setting.now (block_with reference block)) ≤ 131456 }
-    requires meter { meter.old + cost setting.now (shortest setting.now (block_with reference block)) + setting.now.block * (k_max setting.now + 4) < 2 ^ 62 }
-    ensures bits { sink.new ≡ sink.old ++ bits_of_set setting.now (shortest setting.now (block_with reference block.entry)) }
-    ensures len { length sink.new ≡ length sink.old + cost setting.now (shortest setting.now (block_with reference block.entry)) }
-    ensures steps_from { meter.old + cost setting.now (shortest setting.now (block_with reference block.entry)) + setting.now.block * (best_split setting.now (block_with reference block.entry) + 3) ≤ meter.new + 1 }
-    ensures steps_to { meter.new ≤ meter.old + cost setting.now (shortest setting.now (block_with reference block.entry)) + setting.now.block * (min (best_split setting.now (block_with reference block.entry) + 1) (k_max setting.now) + 4) }
+fn code_block(setting: &Setting, block: HeldBlock<'_>, sink: &mut BitSink<16432>, meter: &mut Meter)
+    requires sound { IsSoundData setting.now block }
+    requires room { length sink.old + cost setting.now (shortest setting.now block) ≤ 131456 }
+    requires meter { meter.old + cost setting.now (shortest setting.now block) + setting.now.block * (k_max setting.now + 4) < 2 ^ 62 }
+    ensures bits { sink.new ≡ sink.old ++ bits_of_set setting.now (shortest setting.now block.entry) }
+    ensures len { length sink.new ≡ length sink.old + cost setting.now (shortest setting.now block.entry) }
+    ensures steps_from { meter.old + cost setting.now (shortest setting.now block.entry) + setting.now.block * (best_split setting.now block.entry + 3) ≤ meter.new + 1 }
+    ensures steps_to { meter.new ≤ meter.old + cost setting.now (shortest setting.now block.entry) + setting.now.block * (min (best_split setting.now block.entry + 1) (k_max setting.now) + 4) }
 {
     // What a copy and a count of its own say stays in registers from step to step.
     let own = *setting;
     let mut steps = Meter::new();
-    let choice = choose(&own, reference, &block, &mut steps);
-    put_block(&own, choice, reference, &block, sink, &mut steps);
+    let choice = choose(&own, &block, &mut steps);
+    put_block(&own, choice, &block, sink, &mut steps);
     meter.tick(steps.steps());
 }
 
@@ -70,31 +65,30 @@ fn code_next(
     setting: &Setting,
     first: Option<u32>,
     run: u32,
-    reference: Option<u32>,
-    block: Block<'_>,
+    block: HeldBlock<'_>,
     sink: &mut BitSink<16432>,
     meter: &mut Meter,
 ) -> u32
     requires few { run < 64 }
     requires fits { IfSome first (λ v. v < value_count setting.now) }
-    requires sound { IsSoundData setting.now (block_with reference block) }
-    requires room { is_zero_block (block_with reference block) ≡ false → length sink.old + length (bits_of_sets setting.now (pending_run false first run)) + cost setting.now (shortest setting.now (block_with reference block)) ≤ 131456 }
+    requires sound { IsSoundData setting.now block }
+    requires room { is_zero_block block ≡ false → length sink.old + length (bits_of_sets setting.now (pending_run false first run)) + cost setting.now (shortest setting.now block) ≤ 131456 }
     requires look { meter.old + setting.now.block < 2 ^ 62 }
-    requires meter { is_zero_block (block_with reference block) ≡ false → meter.old + length (bits_of_sets setting.now (pending_run false first run)) + cost setting.now (shortest setting.now (block_with reference block)) + setting.now.block * (k_max setting.now + 5) < 2 ^ 62 }
-    ensures run_zero { is_zero_block (block_with reference block.entry) ≡ true → result ≡ run + 1 }
-    ensures bits_zero { is_zero_block (block_with reference block.entry) ≡ true → sink.new ≡ sink.old }
-    ensures steps_zero { is_zero_block (block_with reference block.entry) ≡ true → meter.new ≡ meter.old + setting.now.block }
-    ensures run { is_zero_block (block_with reference block.entry) ≡ false → result ≡ 0 }
-    ensures bits { is_zero_block (block_with reference block.entry) ≡ false → sink.new ≡ sink.old ++ bits_of_sets setting.now (pending_run false first run) ++ bits_of_set setting.now (shortest setting.now (block_with reference block.entry)) }
-    ensures len { is_zero_block (block_with reference block.entry) ≡ false → length sink.new ≡ length sink.old + length (bits_of_sets setting.now (pending_run false first run)) + cost setting.now (shortest setting.now (block_with reference block.entry)) }
-    ensures steps_from { is_zero_block (block_with reference block.entry) ≡ false → meter.old + length (bits_of_sets setting.now (pending_run false first run)) + cost setting.now (shortest setting.now (block_with reference block.entry)) + setting.now.block * (best_split setting.now (block_with reference block.entry) + 4) ≤ meter.new + 1 }
-    ensures steps_to { is_zero_block (block_with reference block.entry) ≡ false → meter.new ≤ meter.old + length (bits_of_sets setting.now (pending_run false first run)) + cost setting.now (shortest setting.now (block_with reference block.entry)) + setting.now.block * (min (best_split setting.now (block_with reference block.entry) + 1) (k_max setting.now) + 5) }
+    requires meter { is_zero_block block ≡ false → meter.old + length (bits_of_sets setting.now (pending_run false first run)) + cost setting.now (shortest setting.now block) + setting.now.block * (k_max setting.now + 5) < 2 ^ 62 }
+    ensures run_zero { is_zero_block block.entry ≡ true → result ≡ run + 1 }
+    ensures bits_zero { is_zero_block block.entry ≡ true → sink.new ≡ sink.old }
+    ensures steps_zero { is_zero_block block.entry ≡ true → meter.new ≡ meter.old + setting.now.block }
+    ensures run { is_zero_block block.entry ≡ false → result ≡ 0 }
+    ensures bits { is_zero_block block.entry ≡ false → sink.new ≡ sink.old ++ bits_of_sets setting.now (pending_run false first run) ++ bits_of_set setting.now (shortest setting.now block.entry) }
+    ensures len { is_zero_block block.entry ≡ false → length sink.new ≡ length sink.old + length (bits_of_sets setting.now (pending_run false first run)) + cost setting.now (shortest setting.now block.entry) }
+    ensures steps_from { is_zero_block block.entry ≡ false → meter.old + length (bits_of_sets setting.now (pending_run false first run)) + cost setting.now (shortest setting.now block.entry) + setting.now.block * (best_split setting.now block.entry + 4) ≤ meter.new + 1 }
+    ensures steps_to { is_zero_block block.entry ≡ false → meter.new ≤ meter.old + length (bits_of_sets setting.now (pending_run false first run)) + cost setting.now (shortest setting.now block.entry) + setting.now.block * (min (best_split setting.now block.entry + 1) (k_max setting.now) + 5) }
 {
-    if block.is_zero(meter) {
+    if block.residuals().is_zero(meter) {
         return run + 1;
     }
     put_waiting(setting, first, run, false, sink, meter);
-    code_block(setting, reference, block, sink, meter);
+    code_block(setting, block, sink, meter);
     0
 }
 
@@ -135,17 +129,9 @@ pub fn code_blocks(
     let size = own.block() as usize;
     let mut run: u32 = 0;
     for i in 0..count {
-        let block = segment.block(i, size);
+        let block = HeldBlock::new(reference_of(reference, i), segment.block(i, size));
         let first = reference_of(reference, i - run as usize);
-        run = code_next(
-            &own,
-            first,
-            run,
-            reference_of(reference, i),
-            block,
-            sink,
-            meter,
-        );
+        run = code_next(&own, first, run, block, sink, meter);
     }
     let first = reference_of(reference, count - run as usize);
     put_waiting(&own, first, run, true, sink, meter);

@@ -3,13 +3,14 @@ ghost use Rattle.std.specs.Prelude.{◌≡◌, ℕ, ◌+◌, ◌-◌, ◌*◌, �
 ghost use Rattle.rice_bits.specs.Bits.{word, fundamental_sequence};
 ghost use Rattle.rice_samples.specs.Parameters.{k_max, value_count};
 ghost use Rattle.rice_samples.specs.blocks.Pairs.{pair_code, pair_codes};
-ghost use Rattle.rice_code.specs.code.CodedDataSets.{NoCompression, SecondExtension, Split, cost, bits_of_set, sent_from, reference_bits, reference_len};
+ghost use Rattle.rice_code.specs.code.CodedDataSets.{NoCompression, SecondExtension, Split, cost, bits_of_set, sent_residuals, reference_bits, reference_len};
 ghost use Rattle.rice_code.specs.encode.HeldBlocks.{run_of_blocks, zeros_of_run};
-ghost use Rattle.rice_code.specs.code.SoundBlocks.{block_with, IsSoundData};
+ghost use Rattle.rice_code.specs.code.SoundBlocks.{IsSoundData};
 ghost use Rattle.rice_code.specs.encode.Chosen.{chosen_set, IsSplitWithin};
 
 use crate::encode::bit_buffer::Gathered;
 use crate::encode::fields::{put_high, put_low};
+use crate::encode::held_block::HeldBlock;
 use crate::encode::search::Choice;
 use rice_bits::{BitSink, Meter};
 use rice_samples::{Block, Setting};
@@ -70,11 +71,11 @@ fn put_pairs(block: &Block<'_>, fields: &mut Gathered, sink: &mut BitSink<16432>
 }
 
 /// How many residuals are not coded: that at the reference place, where there is one.
-fn first_coded(reference: Option<u32>) -> usize
-    ensures coded { (ds : List ℕ) → sent_from reference ds ≡ drop result ds }
+fn first_coded(block: &HeldBlock<'_>) -> usize
+    ensures coded { sent_residuals block.now ≡ drop result block.now.residuals }
     ensures limit { result ≤ 1 }
 {
-    match reference {
+    match block.reference() {
         Some(_) => 1,
         None => 0,
     }
@@ -83,47 +84,47 @@ fn first_coded(reference: Option<u32>) -> usize
 /// The text by no compression.
 fn put_no_compression(
     setting: &Setting,
-    reference: Option<u32>,
-    block: &Block<'_>,
+    block: &HeldBlock<'_>,
     sink: &mut BitSink<16432>,
     meter: &mut Meter,
 )
-    requires sound { IsSoundData setting.now (block_with reference block.now) }
-    requires room { length sink.old + cost setting.now (NoCompression (block_with reference block.now)) ≤ 131456 }
-    requires meter { meter.old + cost setting.now (NoCompression (block_with reference block.now)) + 2 * setting.now.block < 2 ^ 62 }
-    ensures bits { sink.new ≡ sink.old ++ bits_of_set setting.now (NoCompression (block_with reference block.now)) }
-    ensures len { length sink.new ≡ length sink.old + cost setting.now (NoCompression (block_with reference block.now)) }
-    ensures steps_from { meter.old + cost setting.now (NoCompression (block_with reference block.now)) + setting.now.block ≤ meter.new + 1 }
-    ensures steps_to { meter.new ≤ meter.old + cost setting.now (NoCompression (block_with reference block.now)) + 2 * setting.now.block }
+    requires sound { IsSoundData setting.now block.now }
+    requires room { length sink.old + cost setting.now (NoCompression block.now) ≤ 131456 }
+    requires meter { meter.old + cost setting.now (NoCompression block.now) + 2 * setting.now.block < 2 ^ 62 }
+    ensures bits { sink.new ≡ sink.old ++ bits_of_set setting.now (NoCompression block.now) }
+    ensures len { length sink.new ≡ length sink.old + cost setting.now (NoCompression block.now) }
+    ensures steps_from { meter.old + cost setting.now (NoCompression block.now) + setting.now.block ≤ meter.new + 1 }
+    ensures steps_to { meter.new ≤ meter.old + cost setting.now (NoCompression block.now) + 2 * setting.now.block }
 {
+    let residuals = block.residuals();
     let id = setting.id_len();
-    let from = first_coded(reference);
+    let from = first_coded(block);
     let bits = setting.bits();
     let _block = setting.block();
-    let mut fields = begin(setting, (1 << id) - 1, id, reference, sink, meter);
-    put_low(block, from, bits, &mut fields, sink, meter);
+    let mut fields = begin(setting, (1 << id) - 1, id, block.reference(), sink, meter);
+    put_low(residuals, from, bits, &mut fields, sink, meter);
     fields.put(sink, meter);
 }
 
 /// The text by second extension.
 fn put_second_extension(
     setting: &Setting,
-    reference: Option<u32>,
-    block: &Block<'_>,
+    block: &HeldBlock<'_>,
     sink: &mut BitSink<16432>,
     meter: &mut Meter,
 )
-    requires sound { IsSoundData setting.now (block_with reference block.now) }
-    requires room { length sink.old + cost setting.now (SecondExtension (block_with reference block.now)) ≤ 131456 }
-    requires meter { meter.old + cost setting.now (SecondExtension (block_with reference block.now)) + 2 * setting.now.block < 2 ^ 62 }
-    ensures bits { sink.new ≡ sink.old ++ bits_of_set setting.now (SecondExtension (block_with reference block.now)) }
-    ensures len { length sink.new ≡ length sink.old + cost setting.now (SecondExtension (block_with reference block.now)) }
-    ensures steps { meter.new ≡ meter.old + cost setting.now (SecondExtension (block_with reference block.now)) + setting.now.block }
+    requires sound { IsSoundData setting.now block.now }
+    requires room { length sink.old + cost setting.now (SecondExtension block.now) ≤ 131456 }
+    requires meter { meter.old + cost setting.now (SecondExtension block.now) + 2 * setting.now.block < 2 ^ 62 }
+    ensures bits { sink.new ≡ sink.old ++ bits_of_set setting.now (SecondExtension block.now) }
+    ensures len { length sink.new ≡ length sink.old + cost setting.now (SecondExtension block.now) }
+    ensures steps { meter.new ≡ meter.old + cost setting.now (SecondExtension block.now) + setting.now.block }
 {
+    let residuals = block.residuals();
     let id = setting.id_len();
     let _block = setting.block();
-    let mut fields = begin(setting, 1, id + 1, reference, sink, meter);
-    put_pairs(block, &mut fields, sink, meter);
+    let mut fields = begin(setting, 1, id + 1, block.reference(), sink, meter);
+    put_pairs(residuals, &mut fields, sink, meter);
     fields.put(sink, meter);
 }
 
@@ -131,31 +132,31 @@ fn put_second_extension(
 fn put_split(
     setting: &Setting,
     k: u32,
-    reference: Option<u32>,
-    block: &Block<'_>,
+    block: &HeldBlock<'_>,
     sink: &mut BitSink<16432>,
     meter: &mut Meter,
 )
-    requires sound { IsSoundData setting.now (block_with reference block.now) }
+    requires sound { IsSoundData setting.now block.now }
     requires split { k ≤ k_max setting.now }
-    requires room { length sink.old + cost setting.now (Split k (block_with reference block.now)) ≤ 131456 }
-    requires meter { meter.old + cost setting.now (Split k (block_with reference block.now)) + 2 * setting.now.block < 2 ^ 62 }
-    ensures bits { sink.new ≡ sink.old ++ bits_of_set setting.now (Split k (block_with reference block.now)) }
-    ensures len { length sink.new ≡ length sink.old + cost setting.now (Split k (block_with reference block.now)) }
-    ensures steps_from { meter.old + cost setting.now (Split k (block_with reference block.now)) + setting.now.block ≤ meter.new + 1 }
-    ensures steps_to { meter.new ≤ meter.old + cost setting.now (Split k (block_with reference block.now)) + 2 * setting.now.block }
+    requires room { length sink.old + cost setting.now (Split k block.now) ≤ 131456 }
+    requires meter { meter.old + cost setting.now (Split k block.now) + 2 * setting.now.block < 2 ^ 62 }
+    ensures bits { sink.new ≡ sink.old ++ bits_of_set setting.now (Split k block.now) }
+    ensures len { length sink.new ≡ length sink.old + cost setting.now (Split k block.now) }
+    ensures steps_from { meter.old + cost setting.now (Split k block.now) + setting.now.block ≤ meter.new + 1 }
+    ensures steps_to { meter.new ≤ meter.old + cost setting.now (Split k block.now) + 2 * setting.now.block }
 {
+    let residuals = block.residuals();
     let id = setting.id_len();
-    let from = first_coded(reference);
+    let from = first_coded(block);
     let _limit = setting.k_max();
     let _block = setting.block();
-    let mut fields = begin(setting, k + 1, id, reference, sink, meter);
-    put_high(block, from, k, &mut fields, sink, meter);
+    let mut fields = begin(setting, k + 1, id, block.reference(), sink, meter);
+    put_high(residuals, from, k, &mut fields, sink, meter);
     if k == 0 {
         fields.put(sink, meter);
         return;
     }
-    put_low(block, from, k, &mut fields, sink, meter);
+    put_low(residuals, from, k, &mut fields, sink, meter);
     fields.put(sink, meter);
 }
 
@@ -163,24 +164,23 @@ fn put_split(
 pub fn put_block(
     setting: &Setting,
     choice: Choice,
-    reference: Option<u32>,
-    block: &Block<'_>,
+    block: &HeldBlock<'_>,
     sink: &mut BitSink<16432>,
     meter: &mut Meter,
 )
-    requires sound { IsSoundData setting.now (block_with reference block.now) }
+    requires sound { IsSoundData setting.now block.now }
     requires split { IsSplitWithin (k_max setting.now) choice }
-    requires room { length sink.old + cost setting.now (chosen_set choice (block_with reference block.now)) ≤ 131456 }
-    requires meter { meter.old + cost setting.now (chosen_set choice (block_with reference block.now)) + 2 * setting.now.block < 2 ^ 62 }
-    ensures bits { sink.new ≡ sink.old ++ bits_of_set setting.now (chosen_set choice (block_with reference block.now)) }
-    ensures len { length sink.new ≡ length sink.old + cost setting.now (chosen_set choice (block_with reference block.now)) }
-    ensures steps_from { meter.old + cost setting.now (chosen_set choice (block_with reference block.now)) + setting.now.block ≤ meter.new + 1 }
-    ensures steps_to { meter.new ≤ meter.old + cost setting.now (chosen_set choice (block_with reference block.now)) + 2 * setting.now.block }
+    requires room { length sink.old + cost setting.now (chosen_set choice block.now) ≤ 131456 }
+    requires meter { meter.old + cost setting.now (chosen_set choice block.now) + 2 * setting.now.block < 2 ^ 62 }
+    ensures bits { sink.new ≡ sink.old ++ bits_of_set setting.now (chosen_set choice block.now) }
+    ensures len { length sink.new ≡ length sink.old + cost setting.now (chosen_set choice block.now) }
+    ensures steps_from { meter.old + cost setting.now (chosen_set choice block.now) + setting.now.block ≤ meter.new + 1 }
+    ensures steps_to { meter.new ≤ meter.old + cost setting.now (chosen_set choice block.now) + 2 * setting.now.block }
 {
     match choice {
-        Choice::NoCompression => put_no_compression(setting, reference, block, sink, meter),
-        Choice::SecondExtension => put_second_extension(setting, reference, block, sink, meter),
-        Choice::Split(k) => put_split(setting, k, reference, block, sink, meter),
+        Choice::NoCompression => put_no_compression(setting, block, sink, meter),
+        Choice::SecondExtension => put_second_extension(setting, block, sink, meter),
+        Choice::Split(k) => put_split(setting, k, block, sink, meter),
     }
 }
 

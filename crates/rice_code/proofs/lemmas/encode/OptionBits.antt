@@ -1,5 +1,5 @@
 -- The texts of blocks, piece by piece.
-use Rattle.std.proofs.Common.{◌≡◌, ℕ, zero, suc, ◌+◌, ◌-◌, ◌*◌, ◌<◌, Bool, true, false, cond, ◌&&◌, nat_le, List, [], ◌∷◌, ◌++◌, length, drop, get_or, refl, ap, arith, sym, ◌∙◌, append_assoc, append-nil, Option}
+use Rattle.std.proofs.Common.{◌≡◌, ℕ, zero, suc, ◌+◌, ◌-◌, ◌*◌, ◌/◌, ◌^◌, ◌<◌, Bool, true, false, cond, ◌&&◌, nat_le, List, [], ◌∷◌, ◌++◌, length, drop, get_or, refl, ap, arith, sym, ◌∙◌, append_assoc, append-nil, Option}
 use Rattle.std.specs.Prelude.{flat_map, sum_by}
 use Rattle.std.proofs.lemmas.List.{length-drop, drop_more}
 use Rattle.std.proofs.lemmas.List.Sums.{sum_by-cons}
@@ -41,9 +41,22 @@ three sink head ref body = simp append_assoc
 pub one_fewer : (n i w : ℕ) → i < n → (n - i) * w ≡ (n - (i + 1)) * w + w
 one_fewer n i w h = let e : n - i ≡ suc (n - (i + 1)) = omega arith in ap (λ k. k * w) e ∙ (omega arith)
 
--- the coded residuals, counted
-pub coded_len : (ds es : List ℕ) (from w : ℕ) → es ≡ drop from ds → length es * w ≡ (length ds - from) * w
-coded_len ds es from w e = ap (λ n. n * w) (ap length e ∙ length-drop from ds)
+-- The residuals rs that are sent from number `from` on, in numbers: how many, their digits, and the parts above these.
+pub record SentResiduals (sent rs : List ℕ) (from w k : ℕ) : Type 0 where
+  pub count : length sent ≡ length rs - from
+  pub digits : length sent * w ≡ (length rs - from) * w
+  pub parts : sum_by (λ d. d / 2 ^ k) sent ≡ sum_by (λ d. d / 2 ^ k) (drop from rs)
+  pub bits : (f : ℕ → List Bool) → flat_map f (drop from rs) ≡ flat_map f sent
+
+pub sent_are : (sent ds rs : List ℕ) (from w k : ℕ) → sent ≡ drop from ds → rs ≡ ds → SentResiduals sent rs from w k
+sent_are sent ds rs from w k coded same =
+    let e : sent ≡ drop from rs = coded ∙ ap (drop from) (sym same) in
+    record {
+      count = ap length e ∙ length-drop from rs;
+      digits = ap (λ n. n * w) (ap length e ∙ length-drop from rs);
+      parts = ap (sum_by (λ d. d / 2 ^ k)) e;
+      bits = λ f. ap (flat_map f) (sym e);
+    }
 
 -- the text of a run, and its length
 pub run_text : (s : Parameters) (to_end : Bool) (r : Option ℕ) (z : ℕ) → bits_of_set s (run_of_blocks to_end r z) ≡ word (id_len s) 0 ++ false ∷ (reference_bits s r ++ fundamental_sequence (zeros_of_run to_end z))

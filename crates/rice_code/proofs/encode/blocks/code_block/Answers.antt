@@ -9,7 +9,7 @@ use Rattle.rice_code.proofs.encode.blocks.code_block.Goals as goal
 pub returns-clause-steps_to : goal.returns-clause-steps_to
 returns-clause-steps_to c =
     let s = c.args.setting.now in
-    let b = block_with c.args.reference c.args.block in
+    let b = c.args.block in
     let own : c.put_block.new.meter ≤ 0 + cost s (shortest s b) + s.block * (min (best_split s b + 1) (k_max s) + 4) =
     steps_least s.block (best_split s b) (k_max s) 0 c.choose-choice.new.meter c.put_block.new.meter (cost s (shortest s b))
     (omega (arith, c.new-steps.ensures, c.choose-choice.ensures.steps_to)) (omega (arith, c.new-steps.ensures, c.choose-choice.ensures.steps_limit)) (omega (arith, ap (cost s) c.choose-choice.ensures.value, c.put_block.ensures.steps_to)) in
