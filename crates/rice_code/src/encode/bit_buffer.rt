@@ -1,6 +1,7 @@
 //! Fields that are gathered into one put.
 ghost use Rattle.std.specs.Prelude.{◌≡◌, ℕ, ◌+◌, ◌*◌, ◌^◌, ◌<◌, ◌≤◌, ◌++◌, [], length};
 ghost use Rattle.rice_bits.specs.Bits.{word, fundamental_sequence};
+ghost use Rattle.rice_code.specs.encode.BitBuffer.{HasRoomFor, AddsFields};
 
 use rice_bits::{BitSink, Meter};
 use std::marker::Model;
@@ -41,11 +42,9 @@ impl Gathered {
     pub fn add(&mut self, value: u64, width: u32, sink: &mut BitSink<16432>, meter: &mut Meter)
         requires width { width ≤ 56 }
         requires value { value < 2 ^ width }
-        requires room { length sink.old + length self.old ≤ 131456 }
-        requires meter { meter.old + length self.old < 2 ^ 62 }
-        ensures bits { sink.new ++ self.new ≡ sink.old ++ self.old ++ word width value }
-        ensures len { length sink.new + length self.new ≡ length sink.old + length self.old + width }
-        ensures steps { meter.new + length self.new ≡ meter.old + length self.old + width }
+        requires room { HasRoomFor 0 0 (length sink.old + length self.old) (meter.old + length self.old) }
+        ensures { AddsFields (word width value) width width
+            sink.old self.old sink.new self.new meter.old meter.new }
     {
         self.make_room(width, sink, meter);
         self.value = joined(self.value, width, value);
@@ -56,8 +55,7 @@ impl Gathered {
     #[inline(always)]
     fn make_room(&mut self, width: u32, sink: &mut BitSink<16432>, meter: &mut Meter)
         requires width { width ≤ 56 }
-        requires room { length sink.old + length self.old ≤ 131456 }
-        requires meter { meter.old + length self.old < 2 ^ 62 }
+        requires room { HasRoomFor 0 0 (length sink.old + length self.old) (meter.old + length self.old) }
         ensures fits { length self.new + width ≤ 56 }
         ensures bits { sink.new ++ self.new ≡ sink.old ++ self.old }
         ensures len { length sink.new + length self.new ≡ length sink.old + length self.old }
@@ -71,11 +69,9 @@ impl Gathered {
     /// Adds the fundamental sequence of `m`.
     #[inline(always)]
     pub fn add_fs(&mut self, m: u32, sink: &mut BitSink<16432>, meter: &mut Meter)
-        requires room { length sink.old + length self.old + m + 1 ≤ 131456 }
-        requires meter { meter.old + length self.old + m + 1 < 2 ^ 62 }
-        ensures bits { sink.new ++ self.new ≡ sink.old ++ self.old ++ fundamental_sequence m }
-        ensures len { length sink.new + length self.new ≡ length sink.old + length self.old + m + 1 }
-        ensures steps { meter.new + length self.new ≡ meter.old + length self.old + m + 1 }
+        requires { HasRoomFor (m + 1) (m + 1) (length sink.old + length self.old) (meter.old + length self.old) }
+        ensures { AddsFields (fundamental_sequence m) (m + 1) (m + 1)
+            sink.old self.old sink.new self.new meter.old meter.new }
     {
         if m < 56 {
             self.add(1, m + 1, sink, meter);
@@ -93,11 +89,12 @@ impl Gathered {
         sink: &mut BitSink<16432>,
         meter: &mut Meter,
     )
-        requires room { length sink.old + length self.old + m.0 + m.1 + m.2 + m.3 + 4 ≤ 131456 }
-        requires meter { meter.old + length self.old + m.0 + m.1 + m.2 + m.3 + 4 < 2 ^ 62 }
-        ensures bits { sink.new ++ self.new ≡ sink.old ++ self.old ++ (fundamental_sequence m.0 ++ fundamental_sequence m.1 ++ fundamental_sequence m.2 ++ fundamental_sequence m.3) }
-        ensures len { length sink.new + length self.new ≡ length sink.old + length self.old + m.0 + m.1 + m.2 + m.3 + 4 }
-        ensures steps { meter.new + length self.new ≡ meter.old + length self.old + m.0 + m.1 + m.2 + m.3 + 4 }
+        requires { HasRoomFor (m.0 + m.1 + m.2 + m.3 + 4) (m.0 + m.1 + m.2 + m.3 + 4)
+            (length sink.old + length self.old) (meter.old + length self.old) }
+        ensures { AddsFields
+            (fundamental_sequence m.0 ++ fundamental_sequence m.1 ++ fundamental_sequence m.2 ++ fundamental_sequence m.3)
+            (m.0 + m.1 + m.2 + m.3 + 4) (m.0 + m.1 + m.2 + m.3 + 4)
+            sink.old self.old sink.new self.new meter.old meter.new }
     {
         let (a, b, c, d) = m;
         let sum = a as u64 + b as u64 + c as u64 + d as u64;
@@ -114,8 +111,7 @@ impl Gathered {
     /// Puts the bits.
     #[inline(always)]
     pub fn put(&mut self, sink: &mut BitSink<16432>, meter: &mut Meter)
-        requires room { length sink.old + length self.old ≤ 131456 }
-        requires meter { meter.old + length self.old < 2 ^ 62 }
+        requires { HasRoomFor 0 0 (length sink.old + length self.old) (meter.old + length self.old) }
         ensures empty { self.new ≡ [] }
         ensures bits { sink.new ≡ sink.old ++ self.old }
         ensures len { length sink.new ≡ length sink.old + length self.old }
@@ -132,7 +128,8 @@ impl Gathered {
 fn four_ones(a: u32, b: u32, c: u32, d: u32) -> u64
     requires { a + b + c + d ≤ 52 }
     ensures fits { result < 2 ^ (a + b + c + d + 4) }
-    ensures bits { word (a + b + c + d + 4) result ≡ fundamental_sequence a ++ fundamental_sequence b ++ fundamental_sequence c ++ fundamental_sequence d }
+    ensures bits { word (a + b + c + d + 4) result
+        ≡ fundamental_sequence a ++ fundamental_sequence b ++ fundamental_sequence c ++ fundamental_sequence d }
 {
     let _first = a;
     let two = joined(1, b + 1, 1);

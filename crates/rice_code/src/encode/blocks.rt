@@ -6,31 +6,37 @@ ghost use Rattle.rice_code.specs.code.Blocks.{is_zero_block};
 ghost use Rattle.rice_code.specs.code.CodedDataSets.{cost, bits_of_set, bits_of_sets};
 ghost use Rattle.rice_code.specs.code.Code.{data_sets};
 ghost use Rattle.rice_code.specs.code.Choice.{shortest, best_split};
-ghost use Rattle.rice_code.specs.encode.HeldBlocks.{held_blocks, reference_at, pending_run};
-ghost use Rattle.rice_code.specs.code.SoundBlocks.{IsSoundData, AreSoundBlocks};
+ghost use Rattle.rice_code.specs.encode.BitBuffer.{HasRoomFor};
+ghost use Rattle.rice_code.specs.encode.HeldBlocks.{held_blocks, reference_at, pending_bits, JoinsRun, EndsRun, HasRoomForBlocks, PutsBlocks, HasRoomForShortest, PutsShortest};
+ghost use Rattle.rice_code.specs.code.SoundBlocks.{block_with, IsSoundData, AreSoundBlocks};
 ghost use Rattle.rice_code.specs.Steps.{least_looks, most_looks};
 
 use crate::encode::held_block::HeldBlock;
 use crate::encode::options::{put_block, put_run};
 use crate::encode::search::choose;
 use rice_bits::{BitSink, Meter};
-use rice_samples::{Segment, Setting};
+use rice_samples::{Block, Segment, Setting};
 
-/// The shortest text of a block that is not zero.
+/// Appends the shortest code of a block that is not zero.
 ///
-/// It is never inlined, so that the loop over the blocks stays short.
+/// It is never inlined, so that the loop over the blocks stays short, and takes the parts of the block,
+/// which are passed in registers.
 #[inline(never)]
-fn code_block(setting: &Setting, block: HeldBlock<'_>, sink: &mut BitSink<16432>, meter: &mut Meter)
-    requires sound { IsSoundData setting.now block }
-    requires room { length sink.old + cost setting.now (shortest setting.now block) ≤ 131456 }
-    requires meter { meter.old + cost setting.now (shortest setting.now block) + setting.now.block * (k_max setting.now + 4) < 2 ^ 62 }
-    ensures bits { sink.new ≡ sink.old ++ bits_of_set setting.now (shortest setting.now block.entry) }
-    ensures len { length sink.new ≡ length sink.old + cost setting.now (shortest setting.now block.entry) }
-    ensures steps_from { meter.old + cost setting.now (shortest setting.now block.entry) + setting.now.block * (best_split setting.now block.entry + 3) ≤ meter.new + 1 }
-    ensures steps_to { meter.new ≤ meter.old + cost setting.now (shortest setting.now block.entry) + setting.now.block * (min (best_split setting.now block.entry + 1) (k_max setting.now) + 4) }
+fn code_block(
+    setting: &Setting,
+    reference: Option<u32>,
+    residuals: Block<'_>,
+    sink: &mut BitSink<16432>,
+    meter: &mut Meter,
+)
+    requires sound { IsSoundData setting.now (block_with reference residuals) }
+    requires room { HasRoomForShortest setting.now (block_with reference residuals) sink.old meter.old }
+    ensures { PutsShortest setting.now (block_with reference residuals.entry)
+        sink.old sink.new meter.old meter.new }
 {
     // What a copy and a count of its own say stays in registers from step to step.
     let own = *setting;
+    let block = HeldBlock::new(reference, residuals);
     let mut steps = Meter::new();
     let choice = choose(&own, &block, &mut steps);
     put_block(&own, choice, &block, sink, &mut steps);
@@ -49,11 +55,11 @@ fn put_waiting(
 )
     requires few { run ≤ 64 }
     requires fits { IfSome reference (λ v. v < value_count setting.now) }
-    requires room { length sink.old + length (bits_of_sets setting.now (pending_run to_end reference run)) ≤ 131456 }
-    requires meter { meter.old + length (bits_of_sets setting.now (pending_run to_end reference run)) < 2 ^ 62 }
-    ensures bits { sink.new ≡ sink.old ++ bits_of_sets setting.now (pending_run to_end reference run) }
-    ensures len { length sink.new ≡ length sink.old + length (bits_of_sets setting.now (pending_run to_end reference run)) }
-    ensures steps { meter.new ≡ meter.old + length (bits_of_sets setting.now (pending_run to_end reference run)) }
+    requires room { HasRoomFor (length (pending_bits setting.now to_end reference run))
+        (length (pending_bits setting.now to_end reference run)) (length sink.old) meter.old }
+    ensures bits { sink.new ≡ sink.old ++ pending_bits setting.now to_end reference run }
+    ensures len { length sink.new ≡ length sink.old + length (pending_bits setting.now to_end reference run) }
+    ensures steps { meter.new ≡ meter.old + length (pending_bits setting.now to_end reference run) }
 {
     if run > 0 {
         put_run(setting, reference, run, to_end, sink, meter);
@@ -72,23 +78,23 @@ fn code_next(
     requires few { run < 64 }
     requires fits { IfSome first (λ v. v < value_count setting.now) }
     requires sound { IsSoundData setting.now block }
-    requires room { is_zero_block block ≡ false → length sink.old + length (bits_of_sets setting.now (pending_run false first run)) + cost setting.now (shortest setting.now block) ≤ 131456 }
     requires look { meter.old + setting.now.block < 2 ^ 62 }
-    requires meter { is_zero_block block ≡ false → meter.old + length (bits_of_sets setting.now (pending_run false first run)) + cost setting.now (shortest setting.now block) + setting.now.block * (k_max setting.now + 5) < 2 ^ 62 }
-    ensures run_zero { is_zero_block block.entry ≡ true → result ≡ run + 1 }
-    ensures bits_zero { is_zero_block block.entry ≡ true → sink.new ≡ sink.old }
-    ensures steps_zero { is_zero_block block.entry ≡ true → meter.new ≡ meter.old + setting.now.block }
-    ensures run { is_zero_block block.entry ≡ false → result ≡ 0 }
-    ensures bits { is_zero_block block.entry ≡ false → sink.new ≡ sink.old ++ bits_of_sets setting.now (pending_run false first run) ++ bits_of_set setting.now (shortest setting.now block.entry) }
-    ensures len { is_zero_block block.entry ≡ false → length sink.new ≡ length sink.old + length (bits_of_sets setting.now (pending_run false first run)) + cost setting.now (shortest setting.now block.entry) }
-    ensures steps_from { is_zero_block block.entry ≡ false → meter.old + length (bits_of_sets setting.now (pending_run false first run)) + cost setting.now (shortest setting.now block.entry) + setting.now.block * (best_split setting.now block.entry + 4) ≤ meter.new + 1 }
-    ensures steps_to { is_zero_block block.entry ≡ false → meter.new ≤ meter.old + length (bits_of_sets setting.now (pending_run false first run)) + cost setting.now (shortest setting.now block.entry) + setting.now.block * (min (best_split setting.now block.entry + 1) (k_max setting.now) + 5) }
+    requires room { is_zero_block block ≡ false →
+        HasRoomFor (length (pending_bits setting.now false first run) + cost setting.now (shortest setting.now block))
+        (length (pending_bits setting.now false first run) + cost setting.now (shortest setting.now block)
+        + setting.now.block * (k_max setting.now + 5)) (length sink.old) meter.old }
+    ensures joins { is_zero_block block.entry ≡ true →
+        JoinsRun setting.now run result sink.old sink.new meter.old meter.new }
+    ensures ends { is_zero_block block.entry ≡ false →
+        EndsRun setting.now (pending_bits setting.now false first run) block.entry result
+        sink.old sink.new meter.old meter.new }
 {
     if block.residuals().is_zero(meter) {
         return run + 1;
     }
     put_waiting(setting, first, run, false, sink, meter);
-    code_block(setting, block, sink, meter);
+    let (reference, residuals) = block.into_parts();
+    code_block(setting, reference, residuals, sink, meter);
     0
 }
 
@@ -118,11 +124,10 @@ pub fn code_blocks(
     requires len { length segment.now ≡ setting.now.block * count }
     requires fits { IfSome reference (λ v. v < value_count setting.now) }
     requires sound { AreSoundBlocks setting.now start (held_blocks setting.now reference count segment.now) }
-    requires room { length sink.old + length (bits_of_sets setting.now (data_sets setting.now start false (held_blocks setting.now reference count segment.now))) ≤ 131456 }
-    requires meter { meter.old + length (bits_of_sets setting.now (data_sets setting.now start false (held_blocks setting.now reference count segment.now))) + count * (setting.now.block * (k_max setting.now + 5)) < 2 ^ 62 }
-    ensures bits { sink.new ≡ sink.old ++ bits_of_sets setting.now (data_sets setting.now start false (held_blocks setting.now reference count segment.now)) }
-    ensures steps_from { meter.old + length (bits_of_sets setting.now (data_sets setting.now start false (held_blocks setting.now reference count segment.now))) + sum_by (least_looks setting.now) (held_blocks setting.now reference count segment.now) ≤ meter.new }
-    ensures steps_to { meter.new ≤ meter.old + length (bits_of_sets setting.now (data_sets setting.now start false (held_blocks setting.now reference count segment.now))) + sum_by (most_looks setting.now) (held_blocks setting.now reference count segment.now) }
+    requires room { HasRoomForBlocks setting.now start (held_blocks setting.now reference count segment.now)
+        (count * (setting.now.block * (k_max setting.now + 5))) sink.old meter.old }
+    ensures { PutsBlocks setting.now start (held_blocks setting.now reference count segment.now)
+        sink.old sink.new meter.old meter.new }
 {
     // What a copy of its own says is read once, and not again behind each tick.
     let own = *setting;

@@ -1,6 +1,8 @@
 //! The two parts of residuals that a split sends: fundamental sequences, and lowest digits.
 ghost use Rattle.std.specs.Prelude.{◌≡◌, ℕ, ◌+◌, ◌-◌, ◌*◌, ◌/◌, ◌%◌, ◌^◌, ◌<◌, ◌≤◌, ◌++◌, length, drop, sum_by, flat_map};
 ghost use Rattle.rice_bits.specs.Bits.{word, fundamental_sequence};
+ghost use Rattle.rice_code.specs.encode.BitBuffer.{HasRoomFor, AddsFields};
+ghost use Rattle.rice_code.specs.encode.Parts.{HasRoomForLow, AddsLow, HasRoomForHigh, AddsHigh};
 
 use crate::encode::bit_buffer::{Gathered, joined};
 use rice_bits::{BitSink, Meter};
@@ -28,11 +30,9 @@ pub fn put_low(
 )
     requires width { width ≤ 32 }
     requires from { from ≤ length block.now }
-    requires room { length sink.old + length fields.old + (length block.now - from) * width ≤ 131456 }
-    requires meter { meter.old + length fields.old + (length block.now - from) * (width + 1) < 2 ^ 62 }
-    ensures bits { sink.new ++ fields.new ≡ sink.old ++ fields.old ++ flat_map (word width) (drop from block.now) }
-    ensures len { length sink.new + length fields.new ≡ length sink.old + length fields.old + (length block.now - from) * width }
-    ensures steps { meter.new + length fields.new ≡ meter.old + length fields.old + (length block.now - from) * (width + 1) }
+    requires room { HasRoomForLow width (length block.now - from) (length sink.old + length fields.old) (meter.old + length fields.old) }
+    ensures { AddsLow width (length block.now - from) (drop from block.now)
+        sink.old fields.old sink.new fields.new meter.old meter.new }
 {
     let end = block.len();
     let fours = from + (end - from) % 4;
@@ -58,8 +58,7 @@ fn put_each_low(
     requires width { width ≤ 32 }
     requires from { from ≤ to }
     requires to { to ≤ length block.now }
-    requires room { length sink.old + length fields.old + (length block.now - from) * width ≤ 131456 }
-    requires meter { meter.old + length fields.old + (length block.now - from) * (width + 1) < 2 ^ 62 }
+    requires room { HasRoomForLow width (length block.now - from) (length sink.old + length fields.old) (meter.old + length fields.old) }
     ensures bits { (sink.new ++ fields.new) ++ flat_map (word width) (drop to block.now) ≡ sink.old ++ fields.old ++ flat_map (word width) (drop from block.now) }
     ensures len { length sink.new + length fields.new + (length block.now - to) * width ≡ length sink.old + length fields.old + (length block.now - from) * width }
     ensures steps { meter.new + length fields.new + (length block.now - to) * (width + 1) ≡ meter.old + length fields.old + (length block.now - from) * (width + 1) }
@@ -83,11 +82,9 @@ fn put_four_low(
     requires width { width ≤ 14 }
     requires from { from ≤ length block.now }
     requires fours { (length block.now - from) % 4 ≡ 0 }
-    requires room { length sink.old + length fields.old + (length block.now - from) * width ≤ 131456 }
-    requires meter { meter.old + length fields.old + (length block.now - from) * (width + 1) < 2 ^ 62 }
-    ensures bits { sink.new ++ fields.new ≡ sink.old ++ fields.old ++ flat_map (word width) (drop from block.now) }
-    ensures len { length sink.new + length fields.new ≡ length sink.old + length fields.old + (length block.now - from) * width }
-    ensures steps { meter.new + length fields.new ≡ meter.old + length fields.old + (length block.now - from) * (width + 1) }
+    requires room { HasRoomForLow width (length block.now - from) (length sink.old + length fields.old) (meter.old + length fields.old) }
+    ensures { AddsLow width (length block.now - from) (drop from block.now)
+        sink.old fields.old sink.new fields.new meter.old meter.new }
 {
     for i in 0..(block.len() - from) / 4 {
         let four = block.four_at(from + 4 * i, meter);
@@ -108,11 +105,9 @@ fn put_four_wide(
     requires width { width ≤ 32 }
     requires from { from ≤ length block.now }
     requires fours { (length block.now - from) % 4 ≡ 0 }
-    requires room { length sink.old + length fields.old + (length block.now - from) * width ≤ 131456 }
-    requires meter { meter.old + length fields.old + (length block.now - from) * (width + 1) < 2 ^ 62 }
-    ensures bits { sink.new ++ fields.new ≡ sink.old ++ fields.old ++ flat_map (word width) (drop from block.now) }
-    ensures len { length sink.new + length fields.new ≡ length sink.old + length fields.old + (length block.now - from) * width }
-    ensures steps { meter.new + length fields.new ≡ meter.old + length fields.old + (length block.now - from) * (width + 1) }
+    requires room { HasRoomForLow width (length block.now - from) (length sink.old + length fields.old) (meter.old + length fields.old) }
+    ensures { AddsLow width (length block.now - from) (drop from block.now)
+        sink.old fields.old sink.new fields.new meter.old meter.new }
 {
     for i in 0..(block.len() - from) / 4 {
         let (a, b, c, d) = block.four_at(from + 4 * i, meter);
@@ -131,11 +126,9 @@ fn put_wide_pair(
     meter: &mut Meter,
 )
     requires width { width ≤ 32 }
-    requires room { length sink.old + length fields.old + 2 * width ≤ 131456 }
-    requires meter { meter.old + length fields.old + 2 * width < 2 ^ 62 }
-    ensures bits { sink.new ++ fields.new ≡ sink.old ++ fields.old ++ (word width pair.0 ++ word width pair.1) }
-    ensures len { length sink.new + length fields.new ≡ length sink.old + length fields.old + 2 * width }
-    ensures steps { meter.new + length fields.new ≡ meter.old + length fields.old + 2 * width }
+    requires room { HasRoomFor (2 * width) (2 * width) (length sink.old + length fields.old) (meter.old + length fields.old) }
+    ensures { AddsFields (word width pair.0 ++ word width pair.1) (2 * width) (2 * width)
+        sink.old fields.old sink.new fields.new meter.old meter.new }
 {
     let first = low_digits(pair.0, width);
     let second = low_digits(pair.1, width);
@@ -177,11 +170,10 @@ pub fn put_high(
 )
     requires split { k ≤ 29 }
     requires from { from ≤ length block.now }
-    requires room { length sink.old + length fields.old + (length block.now - from) + sum_by (λ d. d / 2 ^ k) (drop from block.now) ≤ 131456 }
-    requires meter { meter.old + length fields.old + 2 * (length block.now - from) + sum_by (λ d. d / 2 ^ k) (drop from block.now) < 2 ^ 62 }
-    ensures bits { sink.new ++ fields.new ≡ sink.old ++ fields.old ++ flat_map (λ d. fundamental_sequence (d / 2 ^ k)) (drop from block.now) }
-    ensures len { length sink.new + length fields.new ≡ length sink.old + length fields.old + (length block.now - from) + sum_by (λ d. d / 2 ^ k) (drop from block.now) }
-    ensures steps { meter.new + length fields.new ≡ meter.old + length fields.old + 2 * (length block.now - from) + sum_by (λ d. d / 2 ^ k) (drop from block.now) }
+    requires room { HasRoomForHigh k (length block.now - from) (drop from block.now)
+        (length sink.old + length fields.old) (meter.old + length fields.old) }
+    ensures { AddsHigh k (length block.now - from) (drop from block.now)
+        sink.old fields.old sink.new fields.new meter.old meter.new }
 {
     let end = block.len();
     let fours = from + (end - from) % 4;
@@ -203,8 +195,8 @@ fn put_each_high(
     requires split { k ≤ 29 }
     requires from { from ≤ to }
     requires to { to ≤ length block.now }
-    requires room { length sink.old + length fields.old + (length block.now - from) + sum_by (λ d. d / 2 ^ k) (drop from block.now) ≤ 131456 }
-    requires meter { meter.old + length fields.old + 2 * (length block.now - from) + sum_by (λ d. d / 2 ^ k) (drop from block.now) < 2 ^ 62 }
+    requires room { HasRoomForHigh k (length block.now - from) (drop from block.now)
+        (length sink.old + length fields.old) (meter.old + length fields.old) }
     ensures bits { (sink.new ++ fields.new) ++ flat_map (λ d. fundamental_sequence (d / 2 ^ k)) (drop to block.now) ≡ sink.old ++ fields.old ++ flat_map (λ d. fundamental_sequence (d / 2 ^ k)) (drop from block.now) }
     ensures len { length sink.new + length fields.new + (length block.now - to) + sum_by (λ d. d / 2 ^ k) (drop to block.now) ≡ length sink.old + length fields.old + (length block.now - from) + sum_by (λ d. d / 2 ^ k) (drop from block.now) }
     ensures steps { meter.new + length fields.new + 2 * (length block.now - to) + sum_by (λ d. d / 2 ^ k) (drop to block.now) ≡ meter.old + length fields.old + 2 * (length block.now - from) + sum_by (λ d. d / 2 ^ k) (drop from block.now) }
@@ -228,11 +220,10 @@ fn put_four_high(
     requires split { k ≤ 29 }
     requires from { from ≤ length block.now }
     requires fours { (length block.now - from) % 4 ≡ 0 }
-    requires room { length sink.old + length fields.old + (length block.now - from) + sum_by (λ d. d / 2 ^ k) (drop from block.now) ≤ 131456 }
-    requires meter { meter.old + length fields.old + 2 * (length block.now - from) + sum_by (λ d. d / 2 ^ k) (drop from block.now) < 2 ^ 62 }
-    ensures bits { sink.new ++ fields.new ≡ sink.old ++ fields.old ++ flat_map (λ d. fundamental_sequence (d / 2 ^ k)) (drop from block.now) }
-    ensures len { length sink.new + length fields.new ≡ length sink.old + length fields.old + (length block.now - from) + sum_by (λ d. d / 2 ^ k) (drop from block.now) }
-    ensures steps { meter.new + length fields.new ≡ meter.old + length fields.old + 2 * (length block.now - from) + sum_by (λ d. d / 2 ^ k) (drop from block.now) }
+    requires room { HasRoomForHigh k (length block.now - from) (drop from block.now)
+        (length sink.old + length fields.old) (meter.old + length fields.old) }
+    ensures { AddsHigh k (length block.now - from) (drop from block.now)
+        sink.old fields.old sink.new fields.new meter.old meter.new }
 {
     for i in 0..(block.len() - from) / 4 {
         let (a, b, c, d) = block.four_at(from + 4 * i, meter);

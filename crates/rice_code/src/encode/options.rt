@@ -4,6 +4,8 @@ ghost use Rattle.rice_bits.specs.Bits.{word, fundamental_sequence};
 ghost use Rattle.rice_samples.specs.Parameters.{k_max, value_count};
 ghost use Rattle.rice_samples.specs.blocks.Pairs.{pair_code, pair_codes};
 ghost use Rattle.rice_code.specs.code.CodedDataSets.{NoCompression, SecondExtension, Split, cost, bits_of_set, sent_residuals, reference_bits, reference_len};
+ghost use Rattle.rice_code.specs.encode.BitBuffer.{sink_bits, HasRoomFor, AddsFields, HasRoomForSet, PutsSet};
+ghost use Rattle.rice_code.specs.encode.Parts.{pairs_len};
 ghost use Rattle.rice_code.specs.encode.HeldBlocks.{run_of_blocks, zeros_of_run};
 ghost use Rattle.rice_code.specs.code.SoundBlocks.{IsSoundData};
 ghost use Rattle.rice_code.specs.encode.Chosen.{chosen_set, IsSplitWithin};
@@ -28,8 +30,8 @@ fn begin(
     requires width { width ≤ 32 }
     requires identifier { identifier < 2 ^ width }
     requires fits { IfSome reference (λ v. v < value_count setting.now) }
-    requires room { length sink.old + width + reference_len setting.now reference ≤ 131456 }
-    requires meter { meter.old + width + reference_len setting.now reference < 2 ^ 62 }
+    requires room { HasRoomFor (width + reference_len setting.now reference)
+        (width + reference_len setting.now reference) (length sink.old) meter.old }
     ensures bits { sink.new ++ result ≡ sink.old ++ word width identifier ++ reference_bits setting.now reference }
     ensures len { length sink.new + length result ≡ length sink.old + width + reference_len setting.now reference }
     ensures steps { meter.new + length result ≡ meter.old + width + reference_len setting.now reference }
@@ -46,7 +48,7 @@ fn begin(
 /// The number that stands for a pair whose codeword fits a sink.
 #[inline]
 fn codeword_of(a: u32, b: u32) -> u32
-    requires { pair_code a b ≤ 131456 }
+    requires { pair_code a b ≤ sink_bits }
     ensures { result ≡ pair_code a b }
 {
     let sum = a as u64 + b as u64;
@@ -57,11 +59,11 @@ fn codeword_of(a: u32, b: u32) -> u32
 #[inline(always)]
 fn put_pairs(block: &Block<'_>, fields: &mut Gathered, sink: &mut BitSink<16432>, meter: &mut Meter)
     requires even { length block.now % 2 ≡ 0 }
-    requires room { length sink.old + length fields.old + sum_by (λ g. g + 1) (pair_codes block.now) ≤ 131456 }
-    requires meter { meter.old + length fields.old + length block.now + sum_by (λ g. g + 1) (pair_codes block.now) < 2 ^ 62 }
-    ensures bits { sink.new ++ fields.new ≡ sink.old ++ fields.old ++ flat_map fundamental_sequence (pair_codes block.now) }
-    ensures len { length sink.new + length fields.new ≡ length sink.old + length fields.old + sum_by (λ g. g + 1) (pair_codes block.now) }
-    ensures steps { meter.new + length fields.new ≡ meter.old + length fields.old + length block.now + sum_by (λ g. g + 1) (pair_codes block.now) }
+    requires room { HasRoomFor (pairs_len block.now) (length block.now + pairs_len block.now)
+        (length sink.old + length fields.old) (meter.old + length fields.old) }
+    ensures { AddsFields (flat_map fundamental_sequence (pair_codes block.now))
+        (pairs_len block.now) (length block.now + pairs_len block.now)
+        sink.old fields.old sink.new fields.new meter.old meter.new }
 {
     for i in 0..block.len() / 2 {
         let a = block.at(2 * i, meter);
@@ -89,12 +91,9 @@ fn put_no_compression(
     meter: &mut Meter,
 )
     requires sound { IsSoundData setting.now block.now }
-    requires room { length sink.old + cost setting.now (NoCompression block.now) ≤ 131456 }
-    requires meter { meter.old + cost setting.now (NoCompression block.now) + 2 * setting.now.block < 2 ^ 62 }
-    ensures bits { sink.new ≡ sink.old ++ bits_of_set setting.now (NoCompression block.now) }
-    ensures len { length sink.new ≡ length sink.old + cost setting.now (NoCompression block.now) }
-    ensures steps_from { meter.old + cost setting.now (NoCompression block.now) + setting.now.block ≤ meter.new + 1 }
-    ensures steps_to { meter.new ≤ meter.old + cost setting.now (NoCompression block.now) + 2 * setting.now.block }
+    requires room { HasRoomForSet setting.now (NoCompression block.now) (2 * setting.now.block) sink.old meter.old }
+    ensures { PutsSet setting.now (NoCompression block.now) (setting.now.block - 1) (2 * setting.now.block)
+        sink.old sink.new meter.old meter.new }
 {
     let residuals = block.residuals();
     let id = setting.id_len();
@@ -114,11 +113,9 @@ fn put_second_extension(
     meter: &mut Meter,
 )
     requires sound { IsSoundData setting.now block.now }
-    requires room { length sink.old + cost setting.now (SecondExtension block.now) ≤ 131456 }
-    requires meter { meter.old + cost setting.now (SecondExtension block.now) + 2 * setting.now.block < 2 ^ 62 }
-    ensures bits { sink.new ≡ sink.old ++ bits_of_set setting.now (SecondExtension block.now) }
-    ensures len { length sink.new ≡ length sink.old + cost setting.now (SecondExtension block.now) }
-    ensures steps { meter.new ≡ meter.old + cost setting.now (SecondExtension block.now) + setting.now.block }
+    requires room { HasRoomForSet setting.now (SecondExtension block.now) (2 * setting.now.block) sink.old meter.old }
+    ensures { PutsSet setting.now (SecondExtension block.now) setting.now.block setting.now.block
+        sink.old sink.new meter.old meter.new }
 {
     let residuals = block.residuals();
     let id = setting.id_len();
@@ -138,12 +135,9 @@ fn put_split(
 )
     requires sound { IsSoundData setting.now block.now }
     requires split { k ≤ k_max setting.now }
-    requires room { length sink.old + cost setting.now (Split k block.now) ≤ 131456 }
-    requires meter { meter.old + cost setting.now (Split k block.now) + 2 * setting.now.block < 2 ^ 62 }
-    ensures bits { sink.new ≡ sink.old ++ bits_of_set setting.now (Split k block.now) }
-    ensures len { length sink.new ≡ length sink.old + cost setting.now (Split k block.now) }
-    ensures steps_from { meter.old + cost setting.now (Split k block.now) + setting.now.block ≤ meter.new + 1 }
-    ensures steps_to { meter.new ≤ meter.old + cost setting.now (Split k block.now) + 2 * setting.now.block }
+    requires room { HasRoomForSet setting.now (Split k block.now) (2 * setting.now.block) sink.old meter.old }
+    ensures { PutsSet setting.now (Split k block.now) (setting.now.block - 1) (2 * setting.now.block)
+        sink.old sink.new meter.old meter.new }
 {
     let residuals = block.residuals();
     let id = setting.id_len();
@@ -170,12 +164,9 @@ pub fn put_block(
 )
     requires sound { IsSoundData setting.now block.now }
     requires split { IsSplitWithin (k_max setting.now) choice }
-    requires room { length sink.old + cost setting.now (chosen_set choice block.now) ≤ 131456 }
-    requires meter { meter.old + cost setting.now (chosen_set choice block.now) + 2 * setting.now.block < 2 ^ 62 }
-    ensures bits { sink.new ≡ sink.old ++ bits_of_set setting.now (chosen_set choice block.now) }
-    ensures len { length sink.new ≡ length sink.old + cost setting.now (chosen_set choice block.now) }
-    ensures steps_from { meter.old + cost setting.now (chosen_set choice block.now) + setting.now.block ≤ meter.new + 1 }
-    ensures steps_to { meter.new ≤ meter.old + cost setting.now (chosen_set choice block.now) + 2 * setting.now.block }
+    requires room { HasRoomForSet setting.now (chosen_set choice block.now) (2 * setting.now.block) sink.old meter.old }
+    ensures { PutsSet setting.now (chosen_set choice block.now) (setting.now.block - 1) (2 * setting.now.block)
+        sink.old sink.new meter.old meter.new }
 {
     match choice {
         Choice::NoCompression => put_no_compression(setting, block, sink, meter),
@@ -196,11 +187,8 @@ pub fn put_run(
     requires blocks { 1 ≤ z }
     requires few { z ≤ 64 }
     requires fits { IfSome reference (λ v. v < value_count setting.now) }
-    requires room { length sink.old + cost setting.now (run_of_blocks to_end reference z) ≤ 131456 }
-    requires meter { meter.old + cost setting.now (run_of_blocks to_end reference z) < 2 ^ 62 }
-    ensures bits { sink.new ≡ sink.old ++ bits_of_set setting.now (run_of_blocks to_end reference z) }
-    ensures len { length sink.new ≡ length sink.old + cost setting.now (run_of_blocks to_end reference z) }
-    ensures steps { meter.new ≡ meter.old + cost setting.now (run_of_blocks to_end reference z) }
+    requires room { HasRoomForSet setting.now (run_of_blocks to_end reference z) 0 sink.old meter.old }
+    ensures { PutsSet setting.now (run_of_blocks to_end reference z) 0 0 sink.old sink.new meter.old meter.new }
 {
     let id = setting.id_len();
     let mut fields = begin(setting, 0, id + 1, reference, sink, meter);

@@ -29,9 +29,8 @@ pub fn best_split(setting: &Setting, block: &HeldBlock<'_>, meter: &mut Meter) -
     ensures steps { meter.new ≡ meter.old + setting.now.block * (min (result.0 + 1) (k_max setting.now) + 1) }
 {
     let coded = coded_len(setting, block);
-    let (k, sum) = block
-        .residuals()
-        .first_stop(setting.k_max(), coded as u64, meter);
+    let residuals = block.residuals();
+    let (k, sum) = residuals.first_stop(setting.k_max(), coded as u64, meter);
     (k, split_cost(setting, block, k, sum))
 }
 

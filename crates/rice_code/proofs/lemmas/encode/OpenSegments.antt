@@ -13,7 +13,7 @@ use Rattle.rice_samples.proofs.lemmas.setting.PlaceLemmas.{some_left}
 use Rattle.rice_code.specs.code.Code.{data_sets}
 use Rattle.rice_code.specs.encode.OpenSegment.{CoderState, IsOpen, empty_state, state_after_segment, next_start, blocks_held, contents_held, sets_held, code_held, HoldsSoundBlocks, CodesHeld}
 use Rattle.rice_code.specs.code.CodedDataSets.{bits_of_set, bits_of_sets}
-use Rattle.rice_code.specs.encode.HeldBlocks.{held_blocks}
+use Rattle.rice_code.specs.encode.HeldBlocks.{held_blocks, code_of_blocks, PutsBlocks}
 use Rattle.rice_code.specs.code.SoundBlocks.{AreSoundBlocks}
 use Rattle.rice_code.specs.Steps.{least_looks, most_looks}
 use Rattle.rice_code.proofs.lemmas.cost.BlockBounds.{bounded, block_bits}
@@ -100,24 +100,22 @@ code_is_held coder count end old put new e h blocks f g =
 
 -- so this is what the call does
 pub codes_held : (coder value : CoderState) (count end : ℕ) (old put new : List Bool) (n m0 m1 : ℕ) → coder ≡ value → count ≡ blocks_held coder → IsOpen coder end → HoldsSoundBlocks value →
-    put ≡ old ++ bits_of_sets coder.setting (data_sets coder.setting coder.start false (held_blocks coder.setting coder.reference count coder.residuals)) →
+    PutsBlocks coder.setting coder.start (held_blocks coder.setting coder.reference count coder.residuals) old put m0 m1 →
     new ≡ put ++ replicate (cond (coder.setting.pad && coder.start + count == coder.setting.interval) (bits_to_byte (length put)) 0) false →
-    n ≡ length put - length old →
-    m0 + length (bits_of_sets coder.setting (data_sets coder.setting coder.start false (held_blocks coder.setting coder.reference count coder.residuals))) + sum_by (least_looks coder.setting) (held_blocks coder.setting coder.reference count coder.residuals) ≤ m1 →
-    m1 ≤ m0 + length (bits_of_sets coder.setting (data_sets coder.setting coder.start false (held_blocks coder.setting coder.reference count coder.residuals))) + sum_by (most_looks coder.setting) (held_blocks coder.setting coder.reference count coder.residuals) →
-    CodesHeld value old new n m0 m1
-codes_held coder value count end old put new n m0 m1 same e h sound f g len least most =
+    n ≡ length put - length old → CodesHeld value old new n m0 m1
+codes_held coder value count end old put new n m0 m1 same e h sound puts g len =
     let s = coder.setting in
     let blocks : HoldsSoundBlocks coder = subst HoldsSoundBlocks (sym same) sound in
-    let texts = ap (λ m. length (bits_of_sets s (data_sets s coder.start false (held_blocks s coder.reference m coder.residuals)))) e ∙ length-flat_map (bits_of_set s) (sets_held coder) in
-    let put_len = ap length f ∙ length-append old (bits_of_sets s (data_sets s coder.start false (held_blocks s coder.reference count coder.residuals))) in
+    let texts = ap (λ m. length (code_of_blocks s coder.start (held_blocks s coder.reference m coder.residuals))) e ∙ length-flat_map (bits_of_set s) (sets_held coder) in
+    let put_len = ap length puts.bits in
+    let both = length-append old (code_of_blocks s coder.start (held_blocks s coder.reference count coder.residuals)) in
     let few = ap (λ m. sum_by (least_looks s) (held_blocks s coder.reference m coder.residuals)) e in
     let many = ap (λ m. sum_by (most_looks s) (held_blocks s coder.reference m coder.residuals)) e in
     subst (λ v. CodesHeld v old new n m0 m1) same (record {
-      code_is = code_is_held coder count end old put new e h blocks f g;
-      bits = omega (arith, len, put_len, texts);
-      least = omega (arith, texts, few, least);
-      most = omega (arith, texts, many, most);
+      code_is = code_is_held coder count end old put new e h blocks puts.bits g;
+      bits = omega (arith, len, put_len, both, texts);
+      least = omega (arith, texts, few, puts.steps_from);
+      most = omega (arith, texts, many, puts.steps_to);
     })
 
 -- after a whole segment

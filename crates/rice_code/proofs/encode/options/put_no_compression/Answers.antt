@@ -11,13 +11,9 @@ put_low-requires-clause-room c =
     let j : 8 ≤ s.block = grind (arith, c.bits-bits.ensures.legal.block) in
     let all = coded_and_reference s c.args.block.now.reference c.args.block.now.residuals (omega (arith, c.requires.sound.len)) in
     let bits = ap (λ n. (length c.residuals-residuals.result.now - c.first_coded-from.result) * n) c.bits-bits.ensures.value in
-    omega (arith, all, sent.count, sent.digits, bits, ap length c.residuals-residuals.ensures, ap (reference_len s) c.reference.ensures)
-
-pub put_low-requires-clause-meter : goal.put_low-requires-clause-meter
-put_low-requires-clause-meter c =
-    let sent = sent_are (sent_residuals c.args.block.now) c.args.block.now.residuals c.residuals-residuals.result.now c.first_coded-from.result c.args.setting.now.bits 0 c.first_coded-from.ensures.coded c.residuals-residuals.ensures in
-    let s = c.args.setting.now in
-    let j : 8 ≤ s.block = grind (arith, c.bits-bits.ensures.legal.block) in
-    let all = coded_and_reference s c.args.block.now.reference c.args.block.now.residuals (omega (arith, c.requires.sound.len)) in
-    let bits = ap (λ n. (length c.residuals-residuals.result.now - c.first_coded-from.result) * n) c.bits-bits.ensures.value in
-    omega (arith, all, sent.count, sent.digits, bits, ap length c.residuals-residuals.ensures, ap (reference_len s) c.reference.ensures)
+    let len = ap length c.residuals-residuals.ensures in
+    let ref = ap (reference_len s) c.reference.ensures in
+    record {
+      room = omega (arith, all, sent.count, sent.digits, bits, len, ref);
+      steps = omega (arith, all, sent.count, sent.digits, bits, len, ref);
+    }

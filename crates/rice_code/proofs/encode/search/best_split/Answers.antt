@@ -9,7 +9,7 @@ returns-clause-best c =
     let stop = c.first_stop-k.ensures in
     let len = c.coded_len-coded.ensures.value in
     let limit = c.k_max.ensures.value in
-    let same = λ (j : ℕ). ap (sum_by (λ d. d / 2 ^ j)) c.residuals.ensures in
+    let same = λ (j : ℕ). ap (sum_by (λ d. d / 2 ^ j)) c.residuals-residuals.ensures in
     sum_stop_is_best c.args.setting.now c.args.block.now c.first_stop-k.result.0 c.requires.sound.zero (omega (arith, stop.limit, limit))
     (λ j lt. omega (arith, stop.falls j lt, len, same j, same (j + 1)))
     (λ lt. omega (arith, stop.stops (omega (arith, lt, limit)), len, same c.first_stop-k.result.0, same (c.first_stop-k.result.0 + 1)))

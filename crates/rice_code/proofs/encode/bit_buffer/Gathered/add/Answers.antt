@@ -14,18 +14,14 @@ invariant_of-self c =
     let i = c.self.inside in
     more_fields i.width i.value c.args.width c.args.value c.joined-self-inside.result (i.width + c.args.width) c.self.invariant c.requires.value (omega (arith, gathered_len i.width i.value _ c.self.view_is, c.make_room.ensures.fits)) c.joined-self-inside.ensures refl
 
-pub returns-clause-bits : goal.returns-clause-bits
-returns-clause-bits c =
+pub returns : goal.returns
+returns c =
     let i = c.self.inside in
-    joined_bits c.make_room.new.sink c.make_room.new.self i.width i.value c.args.width c.args.value c.joined-self-inside.result (i.width + c.args.width) c.self.view_is c.requires.value c.joined-self-inside.ensures refl
-    ∙ ap (λ bits. bits ++ word c.args.width c.args.value) c.make_room.ensures.bits
-
-pub returns-clause-len : goal.returns-clause-len
-returns-clause-len c =
-    let i = c.self.inside in
-    omega (arith, gathered_len i.width i.value _ c.self.view_is, length-word (i.width + c.args.width) c.joined-self-inside.result)
-
-pub returns-clause-steps : goal.returns-clause-steps
-returns-clause-steps c =
-    let i = c.self.inside in
-    omega (arith, gathered_len i.width i.value _ c.self.view_is, length-word (i.width + c.args.width) c.joined-self-inside.result)
+    let held = gathered_len i.width i.value _ c.self.view_is in
+    let len = length-word (i.width + c.args.width) c.joined-self-inside.result in
+    record {
+      bits = joined_bits c.make_room.new.sink c.make_room.new.self i.width i.value c.args.width c.args.value c.joined-self-inside.result (i.width + c.args.width) c.self.view_is c.requires.value c.joined-self-inside.ensures refl
+          ∙ ap (λ bits. bits ++ word c.args.width c.args.value) c.make_room.ensures.bits;
+      len = omega (arith, held, len);
+      steps = omega (arith, held, len);
+    }

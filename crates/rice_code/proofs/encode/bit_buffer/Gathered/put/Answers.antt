@@ -7,7 +7,7 @@ pub put_long-requires : goal.put_long-requires
 put_long-requires c =
     let i = c.self.inside in
     let len = gathered_len i.width i.value c.args.self.now c.self.view_is in
-    (search rules, (c.self.invariant.most, (c.self.invariant.digits, (omega (arith, len, c.requires.room), omega (arith, len, c.requires.meter)))))
+    (search rules, (c.self.invariant.most, (c.self.invariant.digits, (omega (arith, len, c.requires.room), omega (arith, len, c.requires.steps)))))
 
 pub returns-clause-empty : goal.returns-clause-empty
 returns-clause-empty c = word-nil 0

@@ -8,17 +8,6 @@ use Rattle.rice_code.proofs.encode.open_segment.OpenSegment.code.Goals as goal
 pub code_blocks-requires-clause-room : goal.code_blocks-requires-clause-room
 code_blocks-requires-clause-room c =
     let i = c.self.inside in
-    let st : CoderState = record { setting = i.setting; residuals = i.residuals; reference = i.reference; previous = i.previous; start = i.start } in
-    let n : c.blocks_of-blocks.result ≡ blocks_held st = c.blocks_of-blocks.ensures ∙ ap (λ l. l / i.setting.block) c.len.ensures.value in
-    let blocks : HoldsSoundBlocks st = subst HoldsSoundBlocks (sym c.self.view_is) c.requires.blocks in
-    let bits = few_bits st (c.blocks_of-blocks.result) i.end n c.self.invariant blocks.sound in
-    let few = (few_blocks st i.end c.self.invariant blocks.whole).1 in
-    let room = segment_room i.setting (c.blocks_of-blocks.result) c.self.invariant.legal (omega (arith, n, few)) in
-    omega (arith, bits, room, c.requires.room)
-
-pub code_blocks-requires-clause-meter : goal.code_blocks-requires-clause-meter
-code_blocks-requires-clause-meter c =
-    let i = c.self.inside in
     let s = i.setting in
     let st : CoderState = record { setting = i.setting; residuals = i.residuals; reference = i.reference; previous = i.previous; start = i.start } in
     let n : c.blocks_of-blocks.result ≡ blocks_held st = c.blocks_of-blocks.ensures ∙ ap (λ l. l / i.setting.block) c.len.ensures.value in
@@ -26,12 +15,14 @@ code_blocks-requires-clause-meter c =
     let meter : c.args.meter.now + coding_steps s < 2 ^ 62 = subst (λ (v : CoderState). c.args.meter.now + coding_steps v.setting < 2 ^ 62) (sym c.self.view_is) c.requires.meter in
     let bits = few_bits st (c.blocks_of-blocks.result) i.end n c.self.invariant blocks.sound in
     let few = (few_blocks st i.end c.self.invariant blocks.whole).1 in
-    segment_meter (c.blocks_of-blocks.result) (id_len s) s.block s.bits (k_max s) c.args.meter.now _ (omega (arith, n, few)) bits meter
+    let room = segment_room s (c.blocks_of-blocks.result) c.self.invariant.legal (omega (arith, n, few)) in
+    let steps = segment_meter (c.blocks_of-blocks.result) (id_len s) s.block s.bits (k_max s) c.args.meter.now _ (omega (arith, n, few)) bits meter in
+    record { room = omega (arith, bits, room, c.requires.room); steps = omega (arith, steps) }
 
 pub returns : goal.returns
 returns c =
     let i = c.self.inside in
     let st : CoderState = record { setting = i.setting; residuals = i.residuals; reference = i.reference; previous = i.previous; start = i.start } in
     let n : c.blocks_of-blocks.result ≡ blocks_held st = c.blocks_of-blocks.ensures ∙ ap (λ l. l / i.setting.block) c.len.ensures.value in
-    codes_held st _ _ i.end c.args.sink.now c.code_blocks.new.sink _ _ c.args.meter.now c.code_blocks.new.meter c.self.view_is n c.self.invariant c.requires.blocks c.code_blocks.ensures.bits c.pad_interval.ensures
-    (omega (arith, c.len-2.ensures.value, c.len-before.ensures.value)) c.code_blocks.ensures.steps_from c.code_blocks.ensures.steps_to
+    codes_held st _ _ i.end c.args.sink.now c.code_blocks.new.sink _ _ c.args.meter.now c.code_blocks.new.meter c.self.view_is n c.self.invariant c.requires.blocks c.code_blocks.ensures c.pad_interval.ensures
+    (omega (arith, c.len-2.ensures.value, c.len-before.ensures.value))
