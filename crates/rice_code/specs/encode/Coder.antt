@@ -6,7 +6,7 @@ use Rattle.rice_samples.specs.Places.{place, begins_segment, is_reference, block
 use Rattle.rice_samples.specs.predict.Residuals.{pattern, residuals, last_of}
 use Rattle.rice_code.specs.code.Code.{code, code_bits}
 use Rattle.rice_code.specs.Steps.{least_steps, most_steps}
-use Rattle.rice_code.specs.encode.OpenSegment.{CoderState}
+use Rattle.rice_code.specs.encode.OpenSegment.{CoderState, fill_count}
 
 -- the reference of block b, which has these samples
 abbrev pub reference_in : Parameters → ℕ → List ℤ → Option ℕ
@@ -82,6 +82,6 @@ CompletesNone coder ys = (xs : List ℤ) → HasTaken coder xs → complete_samp
 abbrev pub CompletesAll : CoderState → List ℤ → Type 0
 CompletesAll coder ys = (xs : List ℤ) → HasTaken coder xs → complete_samples coder.setting (xs ++ ys) ≡ xs ++ ys
 
--- the samples that fill the last block
+-- the samples that fill the last block of all
 abbrev pub fill_samples : Parameters → List ℤ → ℕ
-fill_samples s xs = (s.block - length xs % s.block) % s.block
+fill_samples s xs = fill_count s (length xs)

@@ -4,12 +4,13 @@ use Rattle.rice_samples.specs.Parameters.{Parameters, k_max}
 use Rattle.rice_code.specs.code.Blocks.{BlockData, zero_block}
 use Rattle.rice_code.specs.code.Choice.{shortest, best_split}
 use Rattle.rice_code.specs.code.Code.{data_sets}
-use Rattle.rice_code.specs.code.CodedDataSets.{CodedDataSet, ZeroBlocks, RemainderOfSegment, run_number, cost, bits_of_set, bits_of_sets}
+use Rattle.rice_code.specs.code.CodedDataSets.{CodedDataSet, run_number, cost, bits_of_set, bits_of_sets}
+use Rattle.rice_code.specs.code.Runs.{run_of_blocks}
 use Rattle.rice_code.specs.code.SoundBlocks.{block_with}
 use Rattle.rice_code.specs.encode.BitBuffer.{HasRoomFor, HasRoomForSet, PutsSet}
 use Rattle.rice_code.specs.Steps.{least_looks, most_looks}
 
--- the blocks that residuals make, so many, the first with this reference
+-- the first `count` blocks that residuals make, of which only the first has this reference
 abbrev pub held_blocks : Parameters → Option ℕ → ℕ → List ℕ → List BlockData
 held_blocks s reference zero ds = []
 held_blocks s reference (suc count) ds = block_with reference (take s.block ds) ∷ held_blocks s None count (drop s.block ds)
@@ -19,20 +20,16 @@ abbrev pub reference_at : Option ℕ → ℕ → Option ℕ
 reference_at reference zero = reference
 reference_at reference (suc i) = None
 
--- so many blocks of zeros that wait for the end of their run
+-- the zero blocks that are pending until their run ends
 abbrev pub pending_zeros : Parameters → Option ℕ → ℕ → List BlockData
 pending_zeros s reference zero = []
 pending_zeros s reference (suc more) = zero_block s reference ∷ replicate more (zero_block s None)
 
--- a run of z blocks, which reaches the end of the segment or the last block, or not
-abbrev pub run_of_blocks : Bool → Option ℕ → ℕ → CodedDataSet
-run_of_blocks to_end reference z = if nat_le 5 z && to_end then RemainderOfSegment reference else ZeroBlocks reference z
-
--- the zeros of its codeword
+-- the zeros of the codeword of a run
 abbrev pub zeros_of_run : Bool → ℕ → ℕ
 zeros_of_run to_end z = if nat_le 5 z && to_end then 4 else run_number z
 
--- the run of the blocks that wait, if there are any
+-- the run of the zero blocks that are pending, if there are any
 abbrev pub pending_run : Bool → Option ℕ → ℕ → List CodedDataSet
 pending_run to_end reference zero = []
 pending_run to_end reference (suc more) = run_of_blocks to_end reference (suc more) ∷ []

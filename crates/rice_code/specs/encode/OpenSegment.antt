@@ -75,8 +75,9 @@ state_after_all coder xs = record { setting = coder.setting; residuals = coder.r
 abbrev pub state_with_fill : CoderState → ℕ → CoderState
 state_with_fill coder n = record { setting = coder.setting; residuals = coder.residuals ++ replicate n (next_residual coder coder.previous); reference = coder.reference; previous = coder.previous; start = coder.start }
 
-abbrev pub fill_count : CoderState → ℕ
-fill_count coder = (coder.setting.block - length coder.residuals % coder.setting.block) % coder.setting.block
+-- the samples that fill the last block, after n samples
+abbrev pub fill_count : Parameters → ℕ → ℕ
+fill_count s n = (s.block - n % s.block) % s.block
 
 -- what it holds after a whole segment
 abbrev pub next_start : CoderState → ℕ

@@ -1,21 +1,23 @@
-//! Fields that are gathered into one put.
+//! A buffer of bits, which puts several fields into a sink at once.
 ghost use Rattle.std.specs.Prelude.{◌≡◌, ℕ, ◌+◌, ◌*◌, ◌^◌, ◌<◌, ◌≤◌, ◌++◌, [], length};
 ghost use Rattle.rice_bits.specs.Bits.{word, fundamental_sequence};
 ghost use Rattle.rice_code.specs.encode.BitBuffer.{HasRoomFor, AddsFields};
 
-use rice_bits::{BitSink, Meter};
+use crate::encode::SegmentSink;
+use rice_bits::{Meter, join};
 use std::marker::Model;
 
-/// At most 56 bits that are still to be put into a sink. Clauses see the bits.
+/// Holds at most 56 bits that are still to be put into a sink.
 ///
-/// Its calls are always inlined, so that the bits stay in registers while a data set is written.
+/// In contracts its value is the list of these bits. Its calls are always inlined, so that the bits stay
+/// in registers while a coded data set is written.
 #[derive(Drop)]
-pub struct Gathered {
+pub struct BitBuffer {
     value: u64,
     width: u32,
 }
 
-impl Model for Gathered {
+impl Model for BitBuffer {
     ghost use Rattle.std.specs.Prelude.{Bool, List};
     ghost use Rattle.rice_bits.specs.Bits.{word};
     ghost use Rattle.rice_code.specs.encode.BitBuffer.{IsShort};
@@ -27,19 +29,19 @@ impl Model for Gathered {
     ghost invariant = { λ g. IsShort g.width g.value };
 }
 
-impl Gathered {
-    /// No bits.
+impl BitBuffer {
+    /// Returns a buffer with no bits.
     #[inline(always)]
     pub fn new() -> Self
         ensures bits { result ≡ [] }
         ensures len { length result ≡ 0 }
     {
-        Gathered { value: 0, width: 0 }
+        BitBuffer { value: 0, width: 0 }
     }
 
-    /// Adds the `width` binary digits of `value`. The bits before them are put where these have no room with them.
+    /// Adds the `width` binary digits of `value`, after putting the bits before them where both do not fit.
     #[inline(always)]
-    pub fn add(&mut self, value: u64, width: u32, sink: &mut BitSink<16432>, meter: &mut Meter)
+    pub fn add(&mut self, value: u64, width: u32, sink: &mut SegmentSink, meter: &mut Meter)
         requires width { width ≤ 56 }
         requires value { value < 2 ^ width }
         requires room { HasRoomFor 0 0 (length sink.old + length self.old) (meter.old + length self.old) }
@@ -47,13 +49,13 @@ impl Gathered {
             sink.old self.old sink.new self.new meter.old meter.new }
     {
         self.make_room(width, sink, meter);
-        self.value = joined(self.value, width, value);
+        self.value = join(self.value, width, value);
         self.width += width;
     }
 
-    /// Puts the bits where they have no room with `width` more.
+    /// Puts the bits where `width` more do not fit beside them.
     #[inline(always)]
-    fn make_room(&mut self, width: u32, sink: &mut BitSink<16432>, meter: &mut Meter)
+    fn make_room(&mut self, width: u32, sink: &mut SegmentSink, meter: &mut Meter)
         requires width { width ≤ 56 }
         requires room { HasRoomFor 0 0 (length sink.old + length self.old) (meter.old + length self.old) }
         ensures fits { length self.new + width ≤ 56 }
@@ -68,7 +70,7 @@ impl Gathered {
 
     /// Adds the fundamental sequence of `m`.
     #[inline(always)]
-    pub fn add_fs(&mut self, m: u32, sink: &mut BitSink<16432>, meter: &mut Meter)
+    pub fn add_fs(&mut self, m: u32, sink: &mut SegmentSink, meter: &mut Meter)
         requires { HasRoomFor (m + 1) (m + 1) (length sink.old + length self.old) (meter.old + length self.old) }
         ensures { AddsFields (fundamental_sequence m) (m + 1) (m + 1)
             sink.old self.old sink.new self.new meter.old meter.new }
@@ -81,12 +83,12 @@ impl Gathered {
         sink.put_fs(m as u64, meter);
     }
 
-    /// Adds the fundamental sequences of four numbers.
+    /// Adds the fundamental sequences of four numbers, all at once where they are short.
     #[inline(always)]
     pub fn add_four_fs(
         &mut self,
         m: (u32, u32, u32, u32),
-        sink: &mut BitSink<16432>,
+        sink: &mut SegmentSink,
         meter: &mut Meter,
     )
         requires { HasRoomFor (m.0 + m.1 + m.2 + m.3 + 4) (m.0 + m.1 + m.2 + m.3 + 4)
@@ -108,9 +110,9 @@ impl Gathered {
         self.add_fs(d, sink, meter);
     }
 
-    /// Puts the bits.
+    /// Puts the bits into the sink, and is empty then.
     #[inline(always)]
-    pub fn put(&mut self, sink: &mut BitSink<16432>, meter: &mut Meter)
+    pub fn put(&mut self, sink: &mut SegmentSink, meter: &mut Meter)
         requires { HasRoomFor 0 0 (length sink.old + length self.old) (meter.old + length self.old) }
         ensures empty { self.new ≡ [] }
         ensures bits { sink.new ≡ sink.old ++ self.old }
@@ -123,7 +125,7 @@ impl Gathered {
     }
 }
 
-/// The number whose digits are the fundamental sequences of four small numbers.
+/// Returns the number whose digits are the fundamental sequences of four small numbers.
 #[inline(always)]
 fn four_ones(a: u32, b: u32, c: u32, d: u32) -> u64
     requires { a + b + c + d ≤ 52 }
@@ -132,17 +134,7 @@ fn four_ones(a: u32, b: u32, c: u32, d: u32) -> u64
         ≡ fundamental_sequence a ++ fundamental_sequence b ++ fundamental_sequence c ++ fundamental_sequence d }
 {
     let _first = a;
-    let two = joined(1, b + 1, 1);
-    let three = joined(two, c + 1, 1);
-    joined(three, d + 1, 1)
-}
-
-/// A number with so many binary digits behind it.
-#[inline(always)]
-pub fn joined(high: u64, width: u32, low: u64) -> u64
-    requires width { width ≤ 56 }
-    requires fits { high * 2 ^ width + low < 2 ^ 64 }
-    ensures { result ≡ high * 2 ^ width + low }
-{
-    high * (1 << width) + low
+    let two = join(1, b + 1, 1);
+    let three = join(two, c + 1, 1);
+    join(three, d + 1, 1)
 }

@@ -1,4 +1,4 @@
-//! The code of the blocks of a segment.
+//! Coding the blocks of a segment, one by one.
 ghost use Rattle.std.specs.Prelude.{◌≡◌, ℕ, ◌+◌, ◌-◌, ◌*◌, ◌/◌, ◌^◌, ◌<◌, ◌≤◌, ◌++◌, [], ◌∷◌, min, true, false, length, sum_by, IfSome};
 ghost use Rattle.rice_samples.specs.Parameters.{k_max, value_count};
 ghost use Rattle.rice_samples.specs.Places.{begins_segment, blocks_left, place};
@@ -11,10 +11,11 @@ ghost use Rattle.rice_code.specs.encode.HeldBlocks.{held_blocks, reference_at, p
 ghost use Rattle.rice_code.specs.code.SoundBlocks.{block_with, IsSoundData, AreSoundBlocks};
 ghost use Rattle.rice_code.specs.Steps.{least_looks, most_looks};
 
+use crate::encode::SegmentSink;
 use crate::encode::held_block::HeldBlock;
 use crate::encode::options::{put_block, put_run};
 use crate::encode::search::choose;
-use rice_bits::{BitSink, Meter};
+use rice_bits::Meter;
 use rice_samples::{Block, Segment, Setting};
 
 /// Appends the shortest code of a block that is not zero.
@@ -26,7 +27,7 @@ fn code_block(
     setting: &Setting,
     reference: Option<u32>,
     residuals: Block<'_>,
-    sink: &mut BitSink<16432>,
+    sink: &mut SegmentSink,
     meter: &mut Meter,
 )
     requires sound { IsSoundData setting.now (block_with reference residuals) }
@@ -43,14 +44,14 @@ fn code_block(
     meter.tick(steps.steps());
 }
 
-/// The text of the zero blocks that wait, if there are any.
+/// Appends the code of the run of `run` zero blocks that are pending, if there are any.
 #[inline(always)]
-fn put_waiting(
+fn put_pending(
     setting: &Setting,
     reference: Option<u32>,
     run: u32,
     to_end: bool,
-    sink: &mut BitSink<16432>,
+    sink: &mut SegmentSink,
     meter: &mut Meter,
 )
     requires few { run ≤ 64 }
@@ -66,13 +67,14 @@ fn put_waiting(
     }
 }
 
-/// A block behind `run` zero blocks that wait: it waits too, or it ends the run. Answers how many blocks wait then.
+/// Takes the block after `run` zero blocks that are pending: a zero block joins them, another ends the run.
+/// Returns the number of blocks that are pending then.
 fn code_next(
     setting: &Setting,
     first: Option<u32>,
     run: u32,
     block: HeldBlock<'_>,
-    sink: &mut BitSink<16432>,
+    sink: &mut SegmentSink,
     meter: &mut Meter,
 ) -> u32
     requires few { run < 64 }
@@ -92,13 +94,13 @@ fn code_next(
     if block.residuals().is_zero(meter) {
         return run + 1;
     }
-    put_waiting(setting, first, run, false, sink, meter);
+    put_pending(setting, first, run, false, sink, meter);
     let (reference, residuals) = block.into_parts();
     code_block(setting, reference, residuals, sink, meter);
     0
 }
 
-/// The reference of a block, of which only the first may have one.
+/// Returns the reference of block `i`, of which only the first may have one.
 fn reference_of(reference: Option<u32>, i: usize) -> Option<u32>
     ensures { result ≡ reference_at reference i }
 {
@@ -108,14 +110,14 @@ fn reference_of(reference: Option<u32>, i: usize) -> Option<u32>
     }
 }
 
-/// The code of `count` blocks at the front of a segment that begins at place `start`.
+/// Appends the code of the first `count` blocks of a segment that begins at place `start`.
 pub fn code_blocks(
     setting: &Setting,
     start: u32,
     reference: Option<u32>,
     count: usize,
     segment: &Segment,
-    sink: &mut BitSink<16432>,
+    sink: &mut SegmentSink,
     meter: &mut Meter,
 )
     requires place { place setting.now start ≡ start }
@@ -129,7 +131,7 @@ pub fn code_blocks(
     ensures { PutsBlocks setting.now start (held_blocks setting.now reference count segment.now)
         sink.old sink.new meter.old meter.new }
 {
-    // What a copy of its own says is read once, and not again behind each tick.
+    // What a copy of its own says is read once, and not again after each tick.
     let own = *setting;
     let size = own.block() as usize;
     let mut run: u32 = 0;
@@ -139,5 +141,5 @@ pub fn code_blocks(
         run = code_next(&own, first, run, block, sink, meter);
     }
     let first = reference_of(reference, count - run as usize);
-    put_waiting(&own, first, run, true, sink, meter);
+    put_pending(&own, first, run, true, sink, meter);
 }

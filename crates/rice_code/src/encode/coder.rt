@@ -4,8 +4,9 @@ ghost use Rattle.rice_samples.specs.Parameters.{IsSample};
 ghost use Rattle.rice_samples.specs.Places.{cut};
 ghost use Rattle.rice_code.specs.Steps.{segment_steps};
 
+use crate::encode::SegmentSink;
 use crate::encode::open_segment::OpenSegment;
-use rice_bits::{BitSink, Meter};
+use rice_bits::Meter;
 use rice_samples::Setting;
 use std::marker::Model;
 
@@ -67,7 +68,7 @@ impl Coder {
     ///
     /// A step is a sample, a bit put, padding aside, or a look at a residual.
     #[inline]
-    pub fn push(&mut self, x: i64, sink: &mut BitSink<16432>, meter: &mut Meter) -> u64
+    pub fn push(&mut self, x: i64, sink: &mut SegmentSink, meter: &mut Meter) -> u64
         requires sample { IsSample self.old.setting x }
         requires room { length sink.old ≤ 7 }
         requires meter { meter.old + segment_steps self.old.setting < 2 ^ 62 }
@@ -91,7 +92,7 @@ impl Coder {
     pub fn push_some(
         &mut self,
         samples: &[i64],
-        sink: &mut BitSink<16432>,
+        sink: &mut SegmentSink,
         meter: &mut Meter,
     ) -> Pushed
         requires samples { All (IsSample self.old.setting) samples.now }
@@ -125,7 +126,7 @@ impl Coder {
     /// Fills the last block by repeating the last sample, a step for each, and appends the code of the
     /// samples that are pending. Pads neither an interval that is left unfinished nor the end. Returns
     /// the number of bits that were appended, padding aside.
-    pub fn finish(self, sink: &mut BitSink<16432>, meter: &mut Meter) -> u64
+    pub fn finish(self, sink: &mut SegmentSink, meter: &mut Meter) -> u64
         requires room { length sink.old ≤ 7 }
         requires meter { meter.old + segment_steps self.setting < 2 ^ 62 }
         ensures { (xs : List ℤ) → HasTaken self xs →

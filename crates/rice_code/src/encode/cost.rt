@@ -1,4 +1,4 @@
-//! The lengths of the texts of a block.
+//! What a block costs by each option, in bits.
 ghost use Rattle.std.specs.Prelude.{◌≡◌, ℕ, ◌+◌, ◌*◌, ◌/◌, ◌^◌, ◌<◌, ◌≤◌, length, sum_by};
 ghost use Rattle.rice_samples.specs.Parameters.{id_len, k_max};
 ghost use Rattle.rice_code.specs.code.CodedDataSets.{NoCompression, SecondExtension, Split, sent_residuals, cost, reference_len};
@@ -8,7 +8,7 @@ use crate::encode::held_block::HeldBlock;
 use rice_bits::Meter;
 use rice_samples::Setting;
 
-/// The bits of the reference, if there is one.
+/// Returns the number of bits of the reference, if there is one.
 fn reference_len(setting: &Setting, reference: Option<u32>) -> u64
     ensures value { result ≡ reference_len setting.now reference }
     ensures limit { result ≤ 32 }
@@ -19,7 +19,7 @@ fn reference_len(setting: &Setting, reference: Option<u32>) -> u64
     }
 }
 
-/// The length of the text by no compression.
+/// Returns the cost of the block by no compression.
 pub fn no_compression_cost(setting: &Setting, block: &HeldBlock<'_>) -> u64
     requires { IsSoundData setting.now block.now }
     ensures value { result ≡ cost setting.now (NoCompression block.now) }
@@ -28,7 +28,7 @@ pub fn no_compression_cost(setting: &Setting, block: &HeldBlock<'_>) -> u64
     setting.id_len() as u64 + (setting.block() * setting.bits()) as u64
 }
 
-/// The length of the text by second extension.
+/// Returns the cost of the block by second extension.
 pub fn second_extension_cost(setting: &Setting, block: &HeldBlock<'_>, meter: &mut Meter) -> u128
     requires sound { IsSoundData setting.now block.now }
     requires meter { meter.old + length block.now.residuals < 2 ^ 62 }
@@ -40,7 +40,7 @@ pub fn second_extension_cost(setting: &Setting, block: &HeldBlock<'_>, meter: &m
     head as u128 + block.residuals().pair_sum(meter)
 }
 
-/// How many residuals a split sends: all but that at the reference place.
+/// Returns the number of residuals that a split sends: all but that at the reference place.
 pub fn coded_len(setting: &Setting, block: &HeldBlock<'_>) -> u32
     requires { IsSoundData setting.now block.now }
     ensures value { result ≡ length (sent_residuals block.now) }
@@ -52,7 +52,8 @@ pub fn coded_len(setting: &Setting, block: &HeldBlock<'_>) -> u32
     }
 }
 
-/// The length of the text by split `k`, where `sum` is that of the residuals without their `k` lowest digits.
+/// Returns the cost of the block by split `k`, where `sum` is that of the residuals without their `k`
+/// lowest digits.
 pub fn split_cost(setting: &Setting, block: &HeldBlock<'_>, k: u32, sum: u64) -> u64
     requires split { k ≤ k_max setting.now }
     requires sound { IsSoundData setting.now block.now }

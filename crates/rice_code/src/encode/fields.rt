@@ -1,14 +1,15 @@
-//! The two parts of residuals that a split sends: fundamental sequences, and lowest digits.
+//! Writing the two parts of residuals that a split sends: fundamental sequences, and lowest digits.
 ghost use Rattle.std.specs.Prelude.{◌≡◌, ℕ, ◌+◌, ◌-◌, ◌*◌, ◌/◌, ◌%◌, ◌^◌, ◌<◌, ◌≤◌, ◌++◌, length, drop, sum_by, flat_map};
 ghost use Rattle.rice_bits.specs.Bits.{word, fundamental_sequence};
 ghost use Rattle.rice_code.specs.encode.BitBuffer.{HasRoomFor, AddsFields};
 ghost use Rattle.rice_code.specs.encode.Parts.{HasRoomForLow, AddsLow, HasRoomForHigh, AddsHigh};
 
-use crate::encode::bit_buffer::{Gathered, joined};
-use rice_bits::{BitSink, Meter};
+use crate::encode::SegmentSink;
+use crate::encode::bit_buffer::BitBuffer;
+use rice_bits::{Meter, join};
 use rice_samples::Block;
 
-/// The `width` lowest digits of a number.
+/// Returns the number of the `width` lowest digits of `value`.
 #[inline]
 fn low_digits(value: u32, width: u32) -> u64
     requires { width ≤ 32 }
@@ -18,14 +19,14 @@ fn low_digits(value: u32, width: u32) -> u64
     value as u64 % (1 << width)
 }
 
-/// The lowest digits of the residuals from number `from` on.
+/// Adds the `width` lowest digits of each residual from number `from` on.
 #[inline(always)]
 pub fn put_low(
     block: &Block<'_>,
     from: usize,
     width: u32,
-    fields: &mut Gathered,
-    sink: &mut BitSink<16432>,
+    fields: &mut BitBuffer,
+    sink: &mut SegmentSink,
     meter: &mut Meter,
 )
     requires width { width ≤ 32 }
@@ -44,15 +45,15 @@ pub fn put_low(
     put_four_low(block, fours, width, fields, sink, meter);
 }
 
-/// The lowest digits of the residuals from number `from` up to number `to`.
+/// Adds those of residuals `from` to `to`, one at a time.
 #[inline(always)]
 fn put_each_low(
     block: &Block<'_>,
     from: usize,
     to: usize,
     width: u32,
-    fields: &mut Gathered,
-    sink: &mut BitSink<16432>,
+    fields: &mut BitBuffer,
+    sink: &mut SegmentSink,
     meter: &mut Meter,
 )
     requires width { width ≤ 32 }
@@ -69,14 +70,14 @@ fn put_each_low(
     }
 }
 
-/// The lowest digits of the residuals from number `from` on, four at a time.
+/// Adds those of the residuals from number `from` on, four at a time.
 #[inline(always)]
 fn put_four_low(
     block: &Block<'_>,
     from: usize,
     width: u32,
-    fields: &mut Gathered,
-    sink: &mut BitSink<16432>,
+    fields: &mut BitBuffer,
+    sink: &mut SegmentSink,
     meter: &mut Meter,
 )
     requires width { width ≤ 14 }
@@ -92,14 +93,14 @@ fn put_four_low(
     }
 }
 
-/// The lowest digits of the residuals from number `from` on, where four of them are more than a put takes.
+/// Adds those of the residuals from number `from` on, two at a time: four may be more than a buffer holds.
 #[inline(always)]
 fn put_four_wide(
     block: &Block<'_>,
     from: usize,
     width: u32,
-    fields: &mut Gathered,
-    sink: &mut BitSink<16432>,
+    fields: &mut BitBuffer,
+    sink: &mut SegmentSink,
     meter: &mut Meter,
 )
     requires width { width ≤ 32 }
@@ -116,13 +117,13 @@ fn put_four_wide(
     }
 }
 
-/// Puts the bits that wait, and adds the lowest digits of two numbers.
+/// Puts the bits of the buffer, and adds the lowest digits of two numbers.
 #[inline(always)]
 fn put_wide_pair(
     pair: (u32, u32),
     width: u32,
-    fields: &mut Gathered,
-    sink: &mut BitSink<16432>,
+    fields: &mut BitBuffer,
+    sink: &mut SegmentSink,
     meter: &mut Meter,
 )
     requires width { width ≤ 32 }
@@ -134,7 +135,7 @@ fn put_wide_pair(
     let second = low_digits(pair.1, width);
     fields.put(sink, meter);
     if width <= 28 {
-        fields.add(joined(first, width, second), 2 * width, sink, meter);
+        fields.add(join(first, width, second), 2 * width, sink, meter);
         return;
     }
     fields.add(first, width, sink, meter);
@@ -142,7 +143,7 @@ fn put_wide_pair(
     fields.add(second, width, sink, meter);
 }
 
-/// The lowest digits of four numbers, one behind the other.
+/// Returns the number whose digits are the lowest digits of four numbers, one after the other.
 #[inline(always)]
 fn four_low(four: (u32, u32, u32, u32), width: u32) -> u64
     requires { width ≤ 14 }
@@ -153,19 +154,19 @@ fn four_low(four: (u32, u32, u32, u32), width: u32) -> u64
     let second = low_digits(four.1, width);
     let third = low_digits(four.2, width);
     let last = low_digits(four.3, width);
-    let two = joined(first, width, second);
-    let three = joined(two, width, third);
-    joined(three, width, last)
+    let two = join(first, width, second);
+    let three = join(two, width, third);
+    join(three, width, last)
 }
 
-/// The fundamental sequences of the residuals from number `from` on, without their `k` lowest digits.
+/// Adds the fundamental sequences of the residuals from number `from` on, without their `k` lowest digits.
 #[inline(always)]
 pub fn put_high(
     block: &Block<'_>,
     from: usize,
     k: u32,
-    fields: &mut Gathered,
-    sink: &mut BitSink<16432>,
+    fields: &mut BitBuffer,
+    sink: &mut SegmentSink,
     meter: &mut Meter,
 )
     requires split { k ≤ 29 }
@@ -181,15 +182,15 @@ pub fn put_high(
     put_four_high(block, fours, k, fields, sink, meter);
 }
 
-/// The same of the residuals from number `from` up to number `to`.
+/// Adds those of residuals `from` to `to`, one at a time.
 #[inline(always)]
 fn put_each_high(
     block: &Block<'_>,
     from: usize,
     to: usize,
     k: u32,
-    fields: &mut Gathered,
-    sink: &mut BitSink<16432>,
+    fields: &mut BitBuffer,
+    sink: &mut SegmentSink,
     meter: &mut Meter,
 )
     requires split { k ≤ 29 }
@@ -207,14 +208,14 @@ fn put_each_high(
     }
 }
 
-/// The same of the residuals from number `from` on, four at a time.
+/// Adds those of the residuals from number `from` on, four at a time.
 #[inline(always)]
 fn put_four_high(
     block: &Block<'_>,
     from: usize,
     k: u32,
-    fields: &mut Gathered,
-    sink: &mut BitSink<16432>,
+    fields: &mut BitBuffer,
+    sink: &mut SegmentSink,
     meter: &mut Meter,
 )
     requires split { k ≤ 29 }

@@ -1,4 +1,4 @@
-//! The texts of blocks and runs.
+//! Writing coded data sets: a block by each option, and runs of zero blocks.
 ghost use Rattle.std.specs.Prelude.{◌≡◌, ℕ, ◌+◌, ◌-◌, ◌*◌, ◌/◌, ◌%◌, ◌^◌, ◌<◌, ◌≤◌, ◌++◌, List, length, drop, sum_by, flat_map, IfSome};
 ghost use Rattle.rice_bits.specs.Bits.{word, fundamental_sequence};
 ghost use Rattle.rice_samples.specs.Parameters.{k_max, value_count};
@@ -6,27 +6,30 @@ ghost use Rattle.rice_samples.specs.blocks.Pairs.{pair_code, pair_codes};
 ghost use Rattle.rice_code.specs.code.CodedDataSets.{NoCompression, SecondExtension, Split, cost, bits_of_set, sent_residuals, reference_bits, reference_len};
 ghost use Rattle.rice_code.specs.encode.BitBuffer.{sink_bits, HasRoomFor, AddsFields, HasRoomForSet, PutsSet};
 ghost use Rattle.rice_code.specs.encode.Parts.{pairs_len};
-ghost use Rattle.rice_code.specs.encode.HeldBlocks.{run_of_blocks, zeros_of_run};
+ghost use Rattle.rice_code.specs.code.Runs.{run_of_blocks};
+ghost use Rattle.rice_code.specs.encode.HeldBlocks.{zeros_of_run};
 ghost use Rattle.rice_code.specs.code.SoundBlocks.{IsSoundData};
 ghost use Rattle.rice_code.specs.encode.Chosen.{chosen_set, IsSplitWithin};
 
-use crate::encode::bit_buffer::Gathered;
+use crate::encode::SegmentSink;
+use crate::encode::bit_buffer::BitBuffer;
 use crate::encode::fields::{put_high, put_low};
 use crate::encode::held_block::HeldBlock;
 use crate::encode::search::Choice;
-use rice_bits::{BitSink, Meter};
+use rice_bits::Meter;
 use rice_samples::{Block, Setting};
 
-/// The `width` digits of an identifier, with the flag behind it where it has one, and the reference, if there is one.
+/// Begins a coded data set: returns a buffer after the `width` digits of its identifier, with the flag
+/// after it where there is one, and the reference, if there is one.
 #[inline(always)]
 fn begin(
     setting: &Setting,
     identifier: u32,
     width: u32,
     reference: Option<u32>,
-    sink: &mut BitSink<16432>,
+    sink: &mut SegmentSink,
     meter: &mut Meter,
-) -> Gathered
+) -> BitBuffer
     requires width { width ≤ 32 }
     requires identifier { identifier < 2 ^ width }
     requires fits { IfSome reference (λ v. v < value_count setting.now) }
@@ -36,7 +39,7 @@ fn begin(
     ensures len { length sink.new + length result ≡ length sink.old + width + reference_len setting.now reference }
     ensures steps { meter.new + length result ≡ meter.old + width + reference_len setting.now reference }
 {
-    let mut fields = Gathered::new();
+    let mut fields = BitBuffer::new();
     fields.add(identifier as u64, width, sink, meter);
     if let Some(v) = reference {
         fields.add(v as u64, setting.bits(), sink, meter);
@@ -45,7 +48,7 @@ fn begin(
     fields
 }
 
-/// The number that stands for a pair whose codeword fits a sink.
+/// Returns the number of the codeword of a pair, where the codeword fits a sink.
 #[inline]
 fn codeword_of(a: u32, b: u32) -> u32
     requires { pair_code a b ≤ sink_bits }
@@ -55,9 +58,9 @@ fn codeword_of(a: u32, b: u32) -> u32
     (sum * (sum + 1) / 2) as u32 + b
 }
 
-/// The fundamental sequences of the pairs.
+/// Adds the codewords of the pairs.
 #[inline(always)]
-fn put_pairs(block: &Block<'_>, fields: &mut Gathered, sink: &mut BitSink<16432>, meter: &mut Meter)
+fn put_pairs(block: &Block<'_>, fields: &mut BitBuffer, sink: &mut SegmentSink, meter: &mut Meter)
     requires even { length block.now % 2 ≡ 0 }
     requires room { HasRoomFor (pairs_len block.now) (length block.now + pairs_len block.now)
         (length sink.old + length fields.old) (meter.old + length fields.old) }
@@ -72,7 +75,7 @@ fn put_pairs(block: &Block<'_>, fields: &mut Gathered, sink: &mut BitSink<16432>
     }
 }
 
-/// How many residuals are not coded: that at the reference place, where there is one.
+/// Returns the number of residuals that are not sent: that at the reference place, where there is one.
 fn first_coded(block: &HeldBlock<'_>) -> usize
     ensures coded { sent_residuals block.now ≡ drop result block.now.residuals }
     ensures limit { result ≤ 1 }
@@ -83,11 +86,11 @@ fn first_coded(block: &HeldBlock<'_>) -> usize
     }
 }
 
-/// The text by no compression.
+/// Appends the block, coded by no compression.
 fn put_no_compression(
     setting: &Setting,
     block: &HeldBlock<'_>,
-    sink: &mut BitSink<16432>,
+    sink: &mut SegmentSink,
     meter: &mut Meter,
 )
     requires sound { IsSoundData setting.now block.now }
@@ -105,11 +108,11 @@ fn put_no_compression(
     fields.put(sink, meter);
 }
 
-/// The text by second extension.
+/// Appends the block, coded by second extension.
 fn put_second_extension(
     setting: &Setting,
     block: &HeldBlock<'_>,
-    sink: &mut BitSink<16432>,
+    sink: &mut SegmentSink,
     meter: &mut Meter,
 )
     requires sound { IsSoundData setting.now block.now }
@@ -125,12 +128,12 @@ fn put_second_extension(
     fields.put(sink, meter);
 }
 
-/// The text by split `k`.
+/// Appends the block, coded by split `k`.
 fn put_split(
     setting: &Setting,
     k: u32,
     block: &HeldBlock<'_>,
-    sink: &mut BitSink<16432>,
+    sink: &mut SegmentSink,
     meter: &mut Meter,
 )
     requires sound { IsSoundData setting.now block.now }
@@ -154,12 +157,12 @@ fn put_split(
     fields.put(sink, meter);
 }
 
-/// The text of a block by an option.
+/// Appends the block, coded by `choice`.
 pub fn put_block(
     setting: &Setting,
     choice: Choice,
     block: &HeldBlock<'_>,
-    sink: &mut BitSink<16432>,
+    sink: &mut SegmentSink,
     meter: &mut Meter,
 )
     requires sound { IsSoundData setting.now block.now }
@@ -175,13 +178,14 @@ pub fn put_block(
     }
 }
 
-/// The text of a run of zero blocks: of `z` blocks, or of all blocks that are left in the segment.
+/// Appends a run of `z` zero blocks, which reaches the end of the segment, or of the last segment, where
+/// `to_end` is true.
 pub fn put_run(
     setting: &Setting,
     reference: Option<u32>,
     z: u32,
     to_end: bool,
-    sink: &mut BitSink<16432>,
+    sink: &mut SegmentSink,
     meter: &mut Meter,
 )
     requires blocks { 1 ≤ z }
@@ -196,7 +200,7 @@ pub fn put_run(
     sink.put_fs(sent_zeros(z, to_end), meter);
 }
 
-/// The zeros of the codeword of a run.
+/// Returns the number of zeros of the codeword of a run.
 fn sent_zeros(z: u32, to_end: bool) -> u64
     requires { 1 ≤ z }
     ensures value { result ≡ zeros_of_run to_end z }

@@ -1,4 +1,4 @@
-//! The search for the shortest text.
+//! The search for the option that codes a block in the fewest bits.
 ghost use Rattle.std.specs.Prelude.{◌≡◌, ℕ, ◌+◌, ◌*◌, ◌^◌, ◌<◌, ◌≤◌, min, length};
 ghost use Rattle.rice_samples.specs.Parameters.{k_max};
 ghost use Rattle.rice_code.specs.code.CodedDataSets.{Split, cost};
@@ -11,7 +11,7 @@ use crate::encode::held_block::HeldBlock;
 use rice_bits::Meter;
 use rice_samples::Setting;
 
-/// An option for a block.
+/// The option by which a block is coded.
 #[derive(Clone, Copy)]
 pub enum Choice {
     NoCompression,
@@ -19,7 +19,7 @@ pub enum Choice {
     Split(u32),
 }
 
-/// The smallest of the best splits, and its length.
+/// Returns the smallest `k` of minimal cost, and that cost.
 pub fn best_split(setting: &Setting, block: &HeldBlock<'_>, meter: &mut Meter) -> (u32, u64)
     requires sound { IsSoundData setting.now block.now }
     requires meter { meter.old + setting.now.block * (k_max setting.now + 1) < 2 ^ 62 }
@@ -34,7 +34,7 @@ pub fn best_split(setting: &Setting, block: &HeldBlock<'_>, meter: &mut Meter) -
     (k, split_cost(setting, block, k, sum))
 }
 
-/// The option of least length.
+/// Returns the option of minimal cost.
 pub fn choose(setting: &Setting, block: &HeldBlock<'_>, meter: &mut Meter) -> Choice
     requires sound { IsSoundData setting.now block.now }
     requires meter { meter.old + setting.now.block * (k_max setting.now + 2) < 2 ^ 62 }

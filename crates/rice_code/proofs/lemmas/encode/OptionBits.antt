@@ -6,7 +6,8 @@ use Rattle.std.proofs.lemmas.List.Sums.{sum_by-cons}
 use Rattle.rice_samples.specs.Parameters.{Parameters, id_len}
 use Rattle.rice_samples.specs.blocks.Pairs.{pair_code, pair_codes}
 use Rattle.rice_code.specs.code.CodedDataSets.{bits_of_set, cost, reference_bits, reference_len, run_number, ZeroBlocks, RemainderOfSegment}
-use Rattle.rice_code.specs.encode.HeldBlocks.{run_of_blocks, zeros_of_run}
+use Rattle.rice_code.specs.code.Runs.{run_of_blocks}
+use Rattle.rice_code.specs.encode.HeldBlocks.{zeros_of_run}
 use Rattle.rice_bits.specs.Bits.{word, fundamental_sequence}
 use Rattle.rice_bits.proofs.lemmas.bits.Words.{word-fs, word-zero, word-cat, word-nil}
 

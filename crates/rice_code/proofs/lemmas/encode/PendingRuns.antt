@@ -11,7 +11,8 @@ use Rattle.rice_code.specs.code.CodedDataSets.{CodedDataSet, ZeroBlocks, Remaind
 use Rattle.rice_code.specs.code.Code.{data_sets}
 use Rattle.rice_code.specs.code.Runs.{zero_run, run_len}
 use Rattle.rice_code.specs.code.Choice.{shortest}
-use Rattle.rice_code.specs.encode.HeldBlocks.{run_of_blocks, pending_zeros, pending_run, held_blocks, reference_at}
+use Rattle.rice_code.specs.code.Runs.{run_of_blocks}
+use Rattle.rice_code.specs.encode.HeldBlocks.{pending_zeros, pending_run, held_blocks, reference_at}
 use Rattle.rice_code.specs.code.SoundBlocks.{block_with, AreSoundBlocks}
 use Rattle.rice_code.proofs.lemmas.meaning.Covers.{bool_cases, skipped, run_cons, skipped_go, skipped_plain, skipped_nil, skipped_stop, data_sets_inside, data_sets_start, data_sets_plain}
 

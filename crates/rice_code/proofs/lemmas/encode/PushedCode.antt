@@ -334,12 +334,12 @@ same_rest : (j b n m : ℕ) → m ≡ j * b + n → m % j ≡ n % j
 same_rest j b n m e = ap (λ v. v % j) e ∙ mul-add-mod_self_left j b n
 
 -- the samples that are held, filled to whole blocks
-filled_part : (coder : CoderState) (xs : List ℤ) → (h : HasTaken coder xs) → IsPart (state_with_fill coder (fill_count coder)) h.coded h.held
+filled_part : (coder : CoderState) (xs : List ℤ) → (h : HasTaken coder xs) → IsPart (state_with_fill coder (fill_count coder.setting (length coder.residuals))) h.coded h.held
 filled_part coder xs h =
     let s = coder.setting in
     let j : 1 ≤ s.block = grind (arith, h.holds.legal.block) in
     let m = length coder.residuals in
-    let n = fill_count coder in
+    let n = fill_count coder.setting (length coder.residuals) in
     let x = coder.previous in
     let p = last_of (pos 0) h.coded in
     let count = held_count coder h.block h.coded h.held h.holds in
@@ -353,15 +353,15 @@ filled_part coder xs h =
     let shape : filled_samples s p h.held ≡ full = λ i. h.held ++ replicate (fill i) (last i) in
     held_part (state_with_fill coder n) h.block (block_count s (length h.held)) h.coded h.held full holds shape refl (sym (ap length shape) ∙ filled_len s p h.held j)
 
-pub filled_sound : (coder : CoderState) (xs : List ℤ) → HasTaken coder xs → HoldsSoundBlocks (state_with_fill coder (fill_count coder))
+pub filled_sound : (coder : CoderState) (xs : List ℤ) → HasTaken coder xs → HoldsSoundBlocks (state_with_fill coder (fill_count coder.setting (length coder.residuals)))
 filled_sound coder xs h = let part = filled_part coder xs h in record { sound = part.sound; whole = part.blocks }
 
 -- and this completes the code of all samples
-pub filled_segment_adds_code : (coder : CoderState) (xs : List ℤ) → HasTaken coder xs → AddsHeldCode (state_with_fill coder (fill_count coder)) (complete_samples coder.setting xs) xs
-filled_segment_adds_code coder xs h = adds_held_code (state_with_fill coder (fill_count coder)) (complete_samples coder.setting xs) xs h.coded h.held (complete_are_coded coder xs h) h.parts (filled_part coder xs h)
+pub filled_segment_adds_code : (coder : CoderState) (xs : List ℤ) → HasTaken coder xs → AddsHeldCode (state_with_fill coder (fill_count coder.setting (length coder.residuals))) (complete_samples coder.setting xs) xs
+filled_segment_adds_code coder xs h = adds_held_code (state_with_fill coder (fill_count coder.setting (length coder.residuals))) (complete_samples coder.setting xs) xs h.coded h.held (complete_are_coded coder xs h) h.parts (filled_part coder xs h)
 
 -- as many as fill the last block of all samples
-pub fill_count_is : (coder : CoderState) (xs : List ℤ) → HasTaken coder xs → fill_count coder ≡ fill_samples coder.setting xs
+pub fill_count_is : (coder : CoderState) (xs : List ℤ) → HasTaken coder xs → fill_count coder.setting (length coder.residuals) ≡ fill_samples coder.setting xs
 fill_count_is coder xs h =
     let s = coder.setting in
     let count = held_count coder h.block h.coded h.held h.holds in
@@ -369,14 +369,14 @@ fill_count_is coder xs h =
     ap (λ v. (s.block - v) % s.block) (sym (same_rest s.block h.block (length coder.residuals) (length xs) all))
 
 -- What the end does, where `held` is what the coder holds with its last block filled.
-pub finish_sound : (coder held : CoderState) → held ≡ state_with_fill coder (fill_count coder) → IsCoder coder → HoldsSoundBlocks held
+pub finish_sound : (coder held : CoderState) → held ≡ state_with_fill coder (fill_count coder.setting (length coder.residuals)) → IsCoder coder → HoldsSoundBlocks held
 finish_sound coder held g k = subst HoldsSoundBlocks (sym g) (filled_sound coder k.samples k.taken)
 
-pub finish_adds : (coder value held : CoderState) (xs : List ℤ) (old new : List Bool) (n m0 m1 m2 : ℕ) → coder ≡ value → held ≡ state_with_fill coder (fill_count coder) → CodesHeld held old new n m1 m2 → m1 ≡ m0 + fill_count coder → HasTaken value xs →
+pub finish_adds : (coder value held : CoderState) (xs : List ℤ) (old new : List Bool) (n m0 m1 m2 : ℕ) → coder ≡ value → held ≡ state_with_fill coder (fill_count coder.setting (length coder.residuals)) → CodesHeld held old new n m1 m2 → m1 ≡ m0 + fill_count coder.setting (length coder.residuals) → HasTaken value xs →
     AddsCode value.setting (complete_samples value.setting xs) xs old new n (fill_samples value.setting xs) m0 m2
 finish_adds coder value held xs old new n m0 m1 m2 e g codes steps h =
     subst (λ (v : CoderState). HasTaken v xs → AddsCode v.setting (complete_samples v.setting xs) xs old new n (fill_samples v.setting xs) m0 m2) e (λ k.
-    (let full = state_with_fill coder (fill_count coder) in
+    (let full = state_with_fill coder (fill_count coder.setting (length coder.residuals)) in
     let coded : CodesHeld full old new n m1 m2 = subst (λ v. CodesHeld v old new n m1 m2) g codes in
     let count = fill_count_is coder xs k in
     adds_code full (complete_samples coder.setting xs) xs old new n (fill_samples coder.setting xs) m0 m1 m2 (filled_segment_adds_code coder xs k) coded (omega (arith, count, steps)))) h

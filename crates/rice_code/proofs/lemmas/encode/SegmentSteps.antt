@@ -15,7 +15,8 @@ use Rattle.rice_code.specs.code.Blocks.{BlockData, is_zero_block}
 use Rattle.rice_code.specs.code.CodedDataSets.{bits_of_set, cost, reference_bits, bits_of_sets}
 use Rattle.rice_code.specs.code.Code.{data_sets}
 use Rattle.rice_code.specs.code.Choice.{shortest, best_split}
-use Rattle.rice_code.specs.encode.HeldBlocks.{run_of_blocks, zeros_of_run, pending_zeros, pending_run, held_blocks, reference_at}
+use Rattle.rice_code.specs.code.Runs.{run_of_blocks}
+use Rattle.rice_code.specs.encode.HeldBlocks.{zeros_of_run, pending_zeros, pending_run, held_blocks, reference_at}
 use Rattle.rice_code.specs.code.SoundBlocks.{block_with, IsSoundData, AreSoundBlocks, IsSoundBlock}
 use Rattle.rice_code.specs.Steps.{least_looks, most_looks}
 use Rattle.rice_code.proofs.lemmas.meaning.Covers.{bool_cases, zero_block_is}

@@ -8,7 +8,7 @@ pub add-requires-clause-value : goal.add-requires-clause-value
 add-requires-clause-value c =
     let w = c.args.width in
     let e : w + w ≡ 2 * w = omega arith in
-    subst (λ n. c.joined.result < 2 ^ n) e (joined_fits w w c.low_digits-first.result c.low_digits-second.result c.joined.result c.low_digits-first.ensures.fits c.low_digits-second.ensures.fits c.joined.ensures)
+    subst (λ n. c.join.result < 2 ^ n) e (joined_fits w w c.low_digits-first.result c.low_digits-second.result c.join.result c.low_digits-first.ensures.fits c.low_digits-second.ensures.fits c.join.ensures)
 
 pub returns-then-width-le28 : goal.returns-then-width-le28
 returns-then-width-le28 c =
@@ -16,7 +16,7 @@ returns-then-width-le28 c =
     let e : 2 * w ≡ w + w = omega arith in
     let first = low_word w c.args.pair.0 _ c.low_digits-first.ensures.value in
     let second = low_word w c.args.pair.1 _ c.low_digits-second.ensures.value in
-    let words = ap (λ n. word n c.joined.result) e ∙ joined_words w w c.low_digits-first.result c.low_digits-second.result c.joined.result _ _ c.low_digits-second.ensures.fits first second c.joined.ensures in
+    let words = ap (λ n. word n c.join.result) e ∙ joined_words w w c.low_digits-first.result c.low_digits-second.result c.join.result _ _ c.low_digits-second.ensures.fits first second c.join.ensures in
     let none = ap length c.put.ensures.empty in
     record {
       bits = first_field c.put.new.sink _ _ _ c.put.ensures.empty c.add.ensures.bits ∙ (λ i. c.put.ensures.bits i ++ words i);

@@ -1,6 +1,6 @@
 use Rattle.std.proofs.Common.{arith}
 use Rattle.rice_code.proofs.lemmas.encode.SegmentSteps.{waiting_len}
-use Rattle.rice_code.proofs.encode.blocks.put_waiting.Goals as goal
+use Rattle.rice_code.proofs.encode.blocks.put_pending.Goals as goal
 
 pub put_run-requires-clause-room : goal.put_run-requires-clause-room
 put_run-requires-clause-room c =

@@ -1,7 +1,7 @@
 use Rattle.std.proofs.Common.{◌++◌, ◌∙◌, ap}
 use Rattle.rice_bits.proofs.lemmas.bits.Words.{word-fs}
 use Rattle.rice_code.proofs.lemmas.encode.JoinedWords.{one_fits}
-use Rattle.rice_code.proofs.encode.bit_buffer.Gathered.add_fs.Goals as goal
+use Rattle.rice_code.proofs.encode.bit_buffer.BitBuffer.add_fs.Goals as goal
 
 pub add-requires-clause-value : goal.add-requires-clause-value
 add-requires-clause-value c = one_fits c.args.m
