@@ -3,6 +3,7 @@ pub mod HeldSamples
 pub mod JoinedWords
 pub mod OpenSegments
 pub mod OptionBits
+pub mod PartsWritten
 pub mod PendingRuns
 pub mod PushedCode
 pub mod SearchLemmas

@@ -1,6 +1,5 @@
 -- Bits that are gathered before they are put into a sink, and what a put does.
-use Rattle.std.specs.Prelude.{◌≡◌, ℕ, ◌+◌, ◌*◌, ◌^◌, ◌<◌, ◌≤◌, Bool, List, ◌++◌, length}
-use Rattle.rice_bits.specs.Bits.{word}
+use Rattle.std.specs.Prelude.{◌≡◌, ℕ, ◌+◌, ◌^◌, ◌<◌, ◌≤◌, Bool, List, ◌++◌, length}
 use Rattle.rice_samples.specs.Parameters.{Parameters}
 use Rattle.rice_code.specs.code.CodedDataSets.{CodedDataSet, bits_of_set, cost}
 
@@ -13,7 +12,7 @@ pub record IsShort (width value : ℕ) : Type 0 where
   pub most : width ≤ 56
   pub digits : value < 2 ^ width
 
--- beside so many bits there is room for `count` more, and the meter, at `meter`, has room for `ticks`
+-- after `bits` bits a sink has room for `count` more, and the meter for `ticks`
 pub record HasRoomFor (count ticks bits meter : ℕ) : Type 0 where
   pub room : bits + count ≤ sink_bits
   pub steps : meter + ticks < 2 ^ 62
@@ -25,11 +24,11 @@ pub record AddsFields (more : List Bool) (count ticks : ℕ) (sink_old fields_ol
   pub len : length sink_new + length fields_new ≡ length sink_old + length fields_old + count
   pub steps : meter_new + length fields_new ≡ meter_old + length fields_old + ticks
 
--- and a sink has it for a coded data set, with so many looks at residuals
+-- there is room for a coded data set, and for `looks` looks at residuals
 abbrev pub HasRoomForSet : Parameters → CodedDataSet → ℕ → List Bool → ℕ → Type 0
 HasRoomForSet s set looks sink meter = HasRoomFor (cost s set) (cost s set + looks) (length sink) meter
 
--- the coded data set is put, with at least and at most so many looks at residuals
+-- the coded data set is put, with `least` to `most` looks at residuals
 pub record PutsSet (s : Parameters) (set : CodedDataSet) (least most : ℕ) (old new : List Bool) (meter_old meter_new : ℕ) : Type 0 where
   pub bits : new ≡ old ++ bits_of_set s set
   pub len : length new ≡ length old + cost s set

@@ -64,7 +64,7 @@ pub record EndsRun (s : Parameters) (run : List Bool) (block : BlockData) (pendi
 abbrev pub code_of_blocks : Parameters → ℕ → List BlockData → List Bool
 code_of_blocks s start blocks = bits_of_sets s (data_sets s start false blocks)
 
--- a sink has room for it, and a meter for so many looks beside
+-- a sink has room for it, and a meter for it and `looks` looks at residuals
 abbrev pub HasRoomForBlocks : Parameters → ℕ → List BlockData → ℕ → List Bool → ℕ → Type 0
 HasRoomForBlocks s start blocks looks sink meter = HasRoomFor (length (code_of_blocks s start blocks)) (length (code_of_blocks s start blocks) + looks) (length sink) meter
 

@@ -19,7 +19,7 @@ pub record CoderState : Type 0 where
   pub previous : ℤ
   pub start : ℕ
 
--- what is so of what each coder holds, whose segment is whole with so many residuals
+-- the invariant of an open segment, which is whole with `end` residuals
 pub record IsOpen (coder : CoderState) (end : ℕ) : Type 0 where
   pub legal : IsLegal coder.setting
   pub place : place coder.setting coder.start ≡ coder.start
@@ -71,7 +71,7 @@ next_references coder (x ∷ xs) = next_reference coder x
 abbrev pub state_after_all : CoderState → List ℤ → CoderState
 state_after_all coder xs = record { setting = coder.setting; residuals = coder.residuals ++ next_residuals coder xs; reference = next_references coder xs; previous = last_of coder.previous xs; start = coder.start }
 
--- and when its last block is filled with so many samples
+-- and when its last block is filled with n samples
 abbrev pub state_with_fill : CoderState → ℕ → CoderState
 state_with_fill coder n = record { setting = coder.setting; residuals = coder.residuals ++ replicate n (next_residual coder coder.previous); reference = coder.reference; previous = coder.previous; start = coder.start }
 
@@ -97,11 +97,11 @@ contents_held coder = held_blocks coder.setting coder.reference (blocks_held cod
 abbrev pub sets_held : CoderState → List CodedDataSet
 sets_held coder = data_sets coder.setting coder.start false (contents_held coder)
 
--- as they lie after so many bits
+-- as they lie after `position` bits
 abbrev pub code_held : CoderState → ℕ → List Bool
 code_held coder position = layout coder.setting (coder.start + blocks_held coder) coder.start position (sets_held coder)
 
--- and these have so many bits, padding aside
+-- and the number of their bits, padding aside
 abbrev pub bits_held : CoderState → ℕ
 bits_held coder = sum_by (λ d. length (bits_of_set coder.setting d)) (sets_held coder)
 

@@ -1,5 +1,5 @@
 //! Writing the two parts of residuals that a split sends: fundamental sequences, and lowest digits.
-ghost use Rattle.std.specs.Prelude.{◌≡◌, ℕ, ◌+◌, ◌-◌, ◌*◌, ◌/◌, ◌%◌, ◌^◌, ◌<◌, ◌≤◌, ◌++◌, length, drop, sum_by, flat_map};
+ghost use Rattle.std.specs.Prelude.{◌≡◌, ℕ, ◌+◌, ◌-◌, ◌*◌, ◌/◌, ◌%◌, ◌^◌, ◌<◌, ◌≤◌, ◌++◌, length, drop, slice_range, sum_by, flat_map};
 ghost use Rattle.rice_bits.specs.Bits.{word, fundamental_sequence};
 ghost use Rattle.rice_code.specs.encode.BitBuffer.{HasRoomFor, AddsFields};
 ghost use Rattle.rice_code.specs.encode.Parts.{HasRoomForLow, AddsLow, HasRoomForHigh, AddsHigh};
@@ -31,7 +31,8 @@ pub fn put_low(
 )
     requires width { width ≤ 32 }
     requires from { from ≤ length block.now }
-    requires room { HasRoomForLow width (length block.now - from) (length sink.old + length fields.old) (meter.old + length fields.old) }
+    requires room { HasRoomForLow width (length block.now - from)
+        (length sink.old + length fields.old) (meter.old + length fields.old) }
     ensures { AddsLow width (length block.now - from) (drop from block.now)
         sink.old fields.old sink.new fields.new meter.old meter.new }
 {
@@ -59,10 +60,10 @@ fn put_each_low(
     requires width { width ≤ 32 }
     requires from { from ≤ to }
     requires to { to ≤ length block.now }
-    requires room { HasRoomForLow width (length block.now - from) (length sink.old + length fields.old) (meter.old + length fields.old) }
-    ensures bits { (sink.new ++ fields.new) ++ flat_map (word width) (drop to block.now) ≡ sink.old ++ fields.old ++ flat_map (word width) (drop from block.now) }
-    ensures len { length sink.new + length fields.new + (length block.now - to) * width ≡ length sink.old + length fields.old + (length block.now - from) * width }
-    ensures steps { meter.new + length fields.new + (length block.now - to) * (width + 1) ≡ meter.old + length fields.old + (length block.now - from) * (width + 1) }
+    requires room { HasRoomForLow width (to - from)
+        (length sink.old + length fields.old) (meter.old + length fields.old) }
+    ensures { AddsLow width (to - from) (slice_range block.now from to)
+        sink.old fields.old sink.new fields.new meter.old meter.new }
 {
     for i in from..to {
         let residual = block.at(i, meter);
@@ -83,7 +84,8 @@ fn put_four_low(
     requires width { width ≤ 14 }
     requires from { from ≤ length block.now }
     requires fours { (length block.now - from) % 4 ≡ 0 }
-    requires room { HasRoomForLow width (length block.now - from) (length sink.old + length fields.old) (meter.old + length fields.old) }
+    requires room { HasRoomForLow width (length block.now - from)
+        (length sink.old + length fields.old) (meter.old + length fields.old) }
     ensures { AddsLow width (length block.now - from) (drop from block.now)
         sink.old fields.old sink.new fields.new meter.old meter.new }
 {
@@ -106,7 +108,8 @@ fn put_four_wide(
     requires width { width ≤ 32 }
     requires from { from ≤ length block.now }
     requires fours { (length block.now - from) % 4 ≡ 0 }
-    requires room { HasRoomForLow width (length block.now - from) (length sink.old + length fields.old) (meter.old + length fields.old) }
+    requires room { HasRoomForLow width (length block.now - from)
+        (length sink.old + length fields.old) (meter.old + length fields.old) }
     ensures { AddsLow width (length block.now - from) (drop from block.now)
         sink.old fields.old sink.new fields.new meter.old meter.new }
 {
@@ -196,11 +199,10 @@ fn put_each_high(
     requires split { k ≤ 29 }
     requires from { from ≤ to }
     requires to { to ≤ length block.now }
-    requires room { HasRoomForHigh k (length block.now - from) (drop from block.now)
+    requires room { HasRoomForHigh k (to - from) (slice_range block.now from to)
         (length sink.old + length fields.old) (meter.old + length fields.old) }
-    ensures bits { (sink.new ++ fields.new) ++ flat_map (λ d. fundamental_sequence (d / 2 ^ k)) (drop to block.now) ≡ sink.old ++ fields.old ++ flat_map (λ d. fundamental_sequence (d / 2 ^ k)) (drop from block.now) }
-    ensures len { length sink.new + length fields.new + (length block.now - to) + sum_by (λ d. d / 2 ^ k) (drop to block.now) ≡ length sink.old + length fields.old + (length block.now - from) + sum_by (λ d. d / 2 ^ k) (drop from block.now) }
-    ensures steps { meter.new + length fields.new + 2 * (length block.now - to) + sum_by (λ d. d / 2 ^ k) (drop to block.now) ≡ meter.old + length fields.old + 2 * (length block.now - from) + sum_by (λ d. d / 2 ^ k) (drop from block.now) }
+    ensures { AddsHigh k (to - from) (slice_range block.now from to)
+        sink.old fields.old sink.new fields.new meter.old meter.new }
 {
     for i in from..to {
         let residual = block.at(i, meter);

@@ -39,7 +39,7 @@ segment_meter n i j bits k m len h e f =
     let b : n * (i + j * bits + j * (k + 5)) ≡ n * (i + j * bits) + n * (j * (k + 5)) = omega arith in
     omega (arith, a, b, p, e, f)
 
--- the fill stays in the segment
+-- the fill stays_open in the segment
 pub fill_inside : (n j left : ℕ) → 1 ≤ j → n < j * left → n + (j - n % j) % j ≤ j * left
 fill_inside n j left h k =
     let d = div-add-mod n j in
@@ -119,8 +119,8 @@ codes_held coder value count end old put new n m0 m1 same e h sound puts g len =
     })
 
 -- after a whole segment
-pub emptied_open : (coder : CoderState) (end next : ℕ) → IsOpen coder end → next ≡ coder.setting.block * blocks_left coder.setting (next_start coder) → IsOpen (state_after_segment coder) next
-emptied_open coder end next h e =
+pub next_is_open : (coder : CoderState) (end next : ℕ) → IsOpen coder end → next ≡ coder.setting.block * blocks_left coder.setting (next_start coder) → IsOpen (state_after_segment coder) next
+next_is_open coder end next h e =
     let s = coder.setting in
     let r = h.legal.interval_from in
     let b = coder.start + blocks_left s coder.start in
@@ -139,8 +139,8 @@ emptied_open coder end next h e =
     }
 
 -- a first segment
-pub empty_open : (s : Parameters) (end : ℕ) → IsLegal s → end ≡ s.block * blocks_left s 0 → IsOpen (empty_state s) end
-empty_open s end legal e =
+pub first_is_open : (s : Parameters) (end : ℕ) → IsLegal s → end ≡ s.block * blocks_left s 0 → IsOpen (empty_state s) end
+first_is_open s end legal e =
     let lt : 0 < s.interval = omega (arith, legal.interval_from) in
     let first : place s 0 ≡ 0 = mod-eq_of_lt lt in
     record {

@@ -38,10 +38,6 @@ four sink head ref high low = simp append_assoc
 pub three : (sink head ref body : List Bool) → sink ++ head ++ ref ++ body ≡ sink ++ (head ++ (ref ++ body))
 three sink head ref body = simp append_assoc
 
--- one fewer to go
-pub one_fewer : (n i w : ℕ) → i < n → (n - i) * w ≡ (n - (i + 1)) * w + w
-one_fewer n i w h = let e : n - i ≡ suc (n - (i + 1)) = omega arith in ap (λ k. k * w) e ∙ (omega arith)
-
 -- The residuals rs that are sent from number `from` on, in numbers: how many, their digits, and the parts above these.
 pub record SentResiduals (sent rs : List ℕ) (from w k : ℕ) : Type 0 where
   pub count : length sent ≡ length rs - from

@@ -108,9 +108,9 @@ replicate_push zero x xs = refl
 replicate_push (suc n) x xs = ap (λ l. x ∷ l) (replicate_push n x xs)
 
 -- one more zero block waits
-pub one_waits : (s : Parameters) (run : ℕ) (r q : Option ℕ) (c : BlockData) (cs : List BlockData) → c ≡ zero_block s q → (run ≡ 0 → q ≡ r) → (0 < run → q ≡ None) → pending_zeros s r run ++ c ∷ cs ≡ pending_zeros s r (run + 1) ++ cs
-one_waits s zero r q c cs e f g = ap (λ c. c ∷ cs) (e ∙ ap (zero_block s) (f refl))
-one_waits s (suc w) r q c cs e f g =
+pub zero_block_joins_run : (s : Parameters) (run : ℕ) (r q : Option ℕ) (c : BlockData) (cs : List BlockData) → c ≡ zero_block s q → (run ≡ 0 → q ≡ r) → (0 < run → q ≡ None) → pending_zeros s r run ++ c ∷ cs ≡ pending_zeros s r (run + 1) ++ cs
+zero_block_joins_run s zero r q c cs e f g = ap (λ c. c ∷ cs) (e ∙ ap (zero_block s) (f refl))
+zero_block_joins_run s (suc w) r q c cs e f g =
     let h : zero_block s r ∷ (replicate w (zero_block s None) ++ c ∷ cs) ≡ zero_block s r ∷ (zero_block s None ∷ (replicate w (zero_block s None) ++ cs)) =
     ap (λ c. zero_block s r ∷ (replicate w (zero_block s None) ++ c ∷ cs)) (e ∙ ap (zero_block s) (g (omega arith))) ∙ ap (λ l. zero_block s r ∷ l) (replicate_push w (zero_block s None) cs) in
     let n : suc (suc w) ≡ suc w + 1 = omega arith in

@@ -103,9 +103,9 @@ held_count : (coder : CoderState) (b : ℕ) (coded held : List ℤ) → HasCoded
 held_count coder b coded held h = ap length h.residuals ∙ length-residuals coder.setting (coder.setting.block * b) (last_of (pos 0) coded) held
 
 -- a sample that leaves the segment open
-pub stays : (coder : CoderState) (x : ℤ) (xs : List ℤ) → HasTaken coder xs → IsSample coder.setting x → length (state_after coder x).residuals < coder.setting.block * blocks_left coder.setting coder.start →
+pub stays_open : (coder : CoderState) (x : ℤ) (xs : List ℤ) → HasTaken coder xs → IsSample coder.setting x → length (state_after coder x).residuals < coder.setting.block * blocks_left coder.setting coder.start →
     HasTaken (state_after coder x) (xs ++ x ∷ [])
-stays coder x xs h legal less =
+stays_open coder x xs h legal less =
     let more = one_more coder h.block h.coded h.held x h.holds h.short legal in
     let count = held_count (state_after coder x) h.block h.coded (h.held ++ x ∷ []) more in
     let m = ap (λ n. coder.setting.block * n) (left_same coder h.block h.coded h.held h.holds) in
@@ -118,11 +118,11 @@ stays coder x xs h legal less =
       short = omega (arith, count, m, less);
     }
 
-pub open_completes_nothing : (coder : CoderState) (x : ℤ) (xs : List ℤ) → (h : HasTaken coder xs) → IsSample coder.setting x → length (state_after coder x).residuals < coder.setting.block * blocks_left coder.setting coder.start →
+pub stays_open_completes_none : (coder : CoderState) (x : ℤ) (xs : List ℤ) → (h : HasTaken coder xs) → IsSample coder.setting x → length (state_after coder x).residuals < coder.setting.block * blocks_left coder.setting coder.start →
     complete_samples coder.setting (xs ++ x ∷ []) ≡ complete_samples coder.setting xs
-unfolding stays
-open_completes_nothing coder x xs h legal less =
-    complete_are_coded (state_after coder x) (xs ++ x ∷ []) (stays coder x xs h legal less) ∙ sym (complete_are_coded coder xs h)
+unfolding stays_open
+stays_open_completes_none coder x xs h legal less =
+    complete_are_coded (state_after coder x) (xs ++ x ∷ []) (stays_open coder x xs h legal less) ∙ sym (complete_are_coded coder xs h)
 
 pub short_of : (coder : CoderState) (xs : List ℤ) → HasTaken coder xs → length coder.residuals < coder.setting.block * blocks_left coder.setting coder.start
 short_of coder xs h =
@@ -142,14 +142,14 @@ sound_same s a b (c ∷ cs) e k = (
   sound_same s (a + 1) (b + 1) cs (place_step s a b e) k.1,
 )
 
--- the blocks of samples behind whole blocks
+-- the blocks of samples after whole blocks
 pub blocks_go_on : (s : Parameters) (b q : ℕ) (p : ℤ) (xs ys : List ℤ) → 1 ≤ s.block → length xs ≡ s.block * q → blocks_of s b p (xs ++ ys) ≡ blocks_of s b p xs ++ blocks_of s (b + q) (last_of p xs) ys
 blocks_go_on s b q p xs ys j len =
     let parts = filled_behind s q p xs ys j len in
     (λ i. blocks_from s b p (parts.1 i) (parts.0 i))
     ∙ (blocks_append s b p q (block_count s (length ys)) xs (filled_samples s (last_of p xs) ys) len ∙ ap (λ v. v ++ blocks_of s (b + q) (last_of p xs) ys) (sym (own_blocks s b q p xs j len)))
 
--- what a coder holds is the code of the samples that it holds, filled to whole blocks, behind those that are coded
+-- what a coder holds is the code of the samples that it holds, filled to whole blocks, after those that are coded
 pub record IsPart (coder : CoderState) (coded held : List ℤ) : Type 0 where
   pub sound : AreSoundBlocks coder.setting coder.start (contents_held coder)
   pub blocks : length coder.residuals ≡ coder.setting.block * blocks_held coder
@@ -250,7 +250,7 @@ adds_nothing s xs ys sink more m0 m1 e steps =
       steps = record { least = omega (arith, least, steps); most = omega (arith, most, steps) };
     }
 
--- behind a whole segment the next begins
+-- after a whole segment the next begins
 pub next_begins : (coder : CoderState) (b : ℕ) (coded held : List ℤ) (start : ℕ) → HasCodedBefore coder b coded held → length held ≡ coder.setting.block * blocks_left coder.setting b → place coder.setting (b + blocks_left coder.setting b) ≡ start →
     HasTaken (record { setting = coder.setting; residuals = []; reference = None; previous = coder.previous; start = start }) (coded ++ held)
 next_begins coder b coded held start h len e =

@@ -12,23 +12,23 @@ use Rattle.rice_samples.proofs.lemmas.setting.PlaceLemmas.{some_left}
 use Rattle.rice_code.specs.encode.Coder.{HasTaken, IsCoder, PushesSamples, CompletesNone, CompletesAll, complete_samples}
 use Rattle.rice_code.specs.encode.OpenSegment.{CoderState, IsWhole, state_after, state_after_all, state_after_segment, next_residual, HoldsSoundBlocks, CodesHeld}
 use Rattle.rice_code.specs.Steps.{coding_steps, segment_steps}
-use Rattle.rice_code.proofs.lemmas.encode.PushedCode.{stays, open_completes_nothing, short_of, pending_are, whole_sound, ends, whole_segment_adds_code, AddsHeldCode, adds_code, adds_nothing, steps_of_segment}
-use Rattle.rice_code.proofs.lemmas.encode.SeveralHeld.{grown_none, grown_cons, grown_snoc, length-grown}
+use Rattle.rice_code.proofs.lemmas.encode.PushedCode.{stays_open, stays_open_completes_none, short_of, pending_are, whole_sound, ends, whole_segment_adds_code, AddsHeldCode, adds_code, adds_nothing, steps_of_segment}
+use Rattle.rice_code.proofs.lemmas.encode.SeveralHeld.{state_after_all-none, state_after_all-cons, state_after_all-snoc, length-state_after_all}
 
 -- samples that leave the segment open
-pub stay_by : (coder : CoderState) (ys xs : List ℤ) → HasTaken coder xs → AllByRecursion (IsSample coder.setting) ys → length coder.residuals + length ys < coder.setting.block * blocks_left coder.setting coder.start →
+pub several_stay_open : (coder : CoderState) (ys xs : List ℤ) → HasTaken coder xs → AllByRecursion (IsSample coder.setting) ys → length coder.residuals + length ys < coder.setting.block * blocks_left coder.setting coder.start →
     HasTaken (state_after_all coder ys) (xs ++ ys) × (complete_samples coder.setting (xs ++ ys) ≡ complete_samples coder.setting xs)
-stay_by coder [] xs h legal less = (
-  subst (λ v. HasTaken v (xs ++ [])) (sym (grown_none coder [] refl)) (subst (HasTaken coder) (sym (append-nil xs)) h),
+several_stay_open coder [] xs h legal less = (
+  subst (λ v. HasTaken v (xs ++ [])) (sym (state_after_all-none coder [] refl)) (subst (HasTaken coder) (sym (append-nil xs)) h),
   ap (complete_samples coder.setting) (append-nil xs),
 )
-stay_by coder (y ∷ ys) xs h legal less =
+several_stay_open coder (y ∷ ys) xs h legal less =
     let len = length-append coder.residuals (next_residual coder y ∷ []) in
     let short : length (state_after coder y).residuals < coder.setting.block * blocks_left coder.setting coder.start = omega (arith, len, less) in
-    let kept = open_completes_nothing coder y xs h legal.0 short in
-    let more = stay_by (state_after coder y) ys (xs ++ y ∷ []) (stays coder y xs h legal.0 short) legal.1 (omega (arith, len, less)) in
+    let kept = stays_open_completes_none coder y xs h legal.0 short in
+    let more = several_stay_open (state_after coder y) ys (xs ++ y ∷ []) (stays_open coder y xs h legal.0 short) legal.1 (omega (arith, len, less)) in
     let parts : (xs ++ y ∷ []) ++ ys ≡ xs ++ y ∷ ys = append_assoc xs (y ∷ []) ys in (
-      subst (λ v. HasTaken v (xs ++ y ∷ ys)) (grown_cons coder y ys) (subst (HasTaken (state_after_all (state_after coder y) ys)) parts more.0),
+      subst (λ v. HasTaken v (xs ++ y ∷ ys)) (state_after_all-cons coder y ys) (subst (HasTaken (state_after_all (state_after coder y) ys)) parts more.0),
       ap (complete_samples coder.setting) (sym parts) ∙ (more.1 ∙ kept),
     )
 
@@ -55,20 +55,20 @@ legal_parts P (y ∷ ys) x h = let r = legal_parts P ys x h.1 in ((h.0, r.0), r.
 whole_last : (coder : CoderState) (ys xs : List ℤ) → AllByRecursion (IsSample coder.setting) ys → IsWhole (state_after_all coder ys) → HasTaken coder xs → IsLast coder xs ys
 whole_last coder ys xs legal full h =
     let limit = coder.setting.block * blocks_left coder.setting coder.start in
-    let count = length-grown coder ys in
+    let count = length-state_after_all coder ys in
     let short = short_of coder xs h in
     let parts = last_part ys (omega (arith, full, count, short)) in
     let all = legal_parts (IsSample coder.setting) parts.0 parts.1 (subst (AllByRecursion (IsSample coder.setting)) parts.2 legal) in
     let len = ap length parts.2 in
     let one = length-append parts.0 (parts.1 ∷ []) in
-    let stay = stay_by coder parts.0 xs h all.0 (omega (arith, full, count, len, one)) in
+    let stay = several_stay_open coder parts.0 xs h all.0 (omega (arith, full, count, len, one)) in
     record {
       others = parts.0;
       x = parts.1;
       legal = all.1;
       taken = stay.0;
       completes_none = stay.1;
-      grows = ap (state_after_all coder) parts.2 ∙ grown_snoc coder parts.0 parts.1;
+      grows = ap (state_after_all coder) parts.2 ∙ state_after_all-snoc coder parts.0 parts.1;
       all = ap (λ v. xs ++ v) parts.2 ∙ sym (append_assoc xs parts.0 (parts.1 ∷ []));
     }
 
@@ -167,7 +167,7 @@ whole_completes_all value coder held ys h whole =
 -- Where they leave it open, nothing is appended.
 pub still_short : (value coder held : CoderState) (ys : List ℤ) → HoldsMore value coder held ys → (IsWhole held → ⊥) → length coder.residuals + length ys < coder.setting.block * blocks_left coder.setting coder.start
 still_short value coder held ys h not_whole =
-    let count = length-grown coder ys in
+    let count = length-state_after_all coder ys in
     elim (cases_lt (length coder.residuals + length ys) (coder.setting.block * blocks_left coder.setting coder.start)) [
       | inl lt ↦ lt
       | inr le ↦ absurd (let whole : IsWhole (state_after_all coder ys) = omega (arith, count, h.room, le) in not_whole (subst IsWhole (sym h.holds) whole))
@@ -178,8 +178,8 @@ open_pushes value coder held ys sink m0 m1 h not_whole steps =
     let short = still_short value coder held ys h not_whole in
     subst (λ v. PushesSamples v held ys sink sink 0 m0 m1) h.same (record {
       setting = ap (λ (v : CoderState). v.setting) h.holds;
-      taken = λ xs k. subst (λ v. HasTaken v (xs ++ ys)) (sym h.holds) (stay_by coder ys xs k h.legal short).0;
-      adds = λ xs k. adds_nothing coder.setting (complete_samples coder.setting xs) (complete_samples coder.setting (xs ++ ys)) sink (length ys) m0 m1 (stay_by coder ys xs k h.legal short).1 steps;
+      taken = λ xs k. subst (λ v. HasTaken v (xs ++ ys)) (sym h.holds) (several_stay_open coder ys xs k h.legal short).0;
+      adds = λ xs k. adds_nothing coder.setting (complete_samples coder.setting xs) (complete_samples coder.setting (xs ++ ys)) sink (length ys) m0 m1 (several_stay_open coder ys xs k h.legal short).1 steps;
     })
 
 -- Before the last of the first t samples none completes a segment.
@@ -188,7 +188,7 @@ none_before_last value coder xs t m e legal room few less =
     let all : All (IsSample coder.setting) xs = subst (λ (v : CoderState). All (IsSample v.setting) xs) (sym e) legal in
     let firsts = recursion_from_All (IsSample coder.setting) (take m xs) (All-take (IsSample coder.setting) m xs all) in
     let len : length (take m xs) ≡ m = length-take-le m xs (omega (arith, less, few)) in
-    subst (λ v. CompletesNone v (take m xs)) e (λ zs k. (stay_by coder (take m xs) zs k firsts (omega (arith, len, less, room))).1)
+    subst (λ v. CompletesNone v (take m xs)) e (λ zs k. (several_stay_open coder (take m xs) zs k firsts (omega (arith, len, less, room))).1)
 
 -- After the call the coder has taken some samples still.
 pub is_coder_after : (value coder held after : CoderState) (ys : List ℤ) (old new : List Bool) (n m0 m2 : ℕ) → HoldsMore value coder held ys → PushesSamples value after ys old new n m0 m2 → IsCoder after

@@ -1,4 +1,4 @@
-use Rattle.std.proofs.Common.{◌≡◌, ◌+◌, ◌-◌, ◌*◌, ◌^◌, ◌<◌, ◌≤◌, ◌++◌, ◌∙◌, min, true, false, length, drop, take, arith, ap, sym, subst, inl, inr}
+use Rattle.std.proofs.Common.{◌≡◌, ◌+◌, ◌-◌, ◌*◌, ◌≤◌, ◌++◌, ◌∙◌, min, true, false, length, drop, take, arith, ap, sym, subst, inl, inr}
 use Rattle.std.specs.Prelude.{sum_by, slice_range}
 use Rattle.std.proofs.lemmas.List.{take_all}
 use Rattle.rice_samples.specs.Parameters.{k_max}
