@@ -37,6 +37,12 @@ bits_to_byte n = (8 - n % 8) % 8
 abbrev pub padded_bits : List Bool → List Bool
 padded_bits bits = bits ++ replicate (bits_to_byte (length bits)) false
 
+-- `count` bits are appended, and each is a step
+pub record Puts (more : List Bool) (count : ℕ) (old new : List Bool) (meter_old meter_new : ℕ) : Type 0 where
+  pub bits : new ≡ old ++ more
+  pub len : length new ≡ length old + count
+  pub steps : meter_new ≡ meter_old + count
+
 -- So many bits are gathered within a capacity in bytes, and zeros stand behind them.
 pub record IsBitSink (capacity bits : ℕ) (bytes : List ℕ) : Type 0 where
   pub room : bits ≤ 8 * capacity

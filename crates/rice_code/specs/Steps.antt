@@ -29,3 +29,7 @@ most_steps s xs = code_bits s xs + most_looks_at s xs
 -- the most steps of coding a segment, its samples included
 abbrev pub segment_steps : Parameters → ℕ
 segment_steps s = 64 * (id_len s + s.block * (s.bits + k_max s + 6))
+
+-- and those for the samples aside
+abbrev pub coding_steps : Parameters → ℕ
+coding_steps s = 64 * (id_len s + s.block * (s.bits + k_max s + 5))

@@ -4,3 +4,4 @@ pub mod Chosen
 pub mod Coder
 pub mod HeldBlocks
 pub mod OpenSegment
+pub mod Parts

@@ -1,11 +1,18 @@
 //! The coder: from samples to bits. A coder fills a segment; the blocks of a whole segment are coded, each by the option
 //! that the search chose; an option is a sequence of fields, which go through a buffer of bits into the sink.
 
+use rice_bits::BitSink;
+
 mod bit_buffer;
 mod blocks;
 pub mod coder;
 mod cost;
 mod fields;
+mod held_block;
 mod open_segment;
 mod options;
 mod search;
+
+/// A sink with room for the code of a segment, of at most 64 blocks of 2,053 bits, and eight bytes beside it for the bits
+/// that it held before.
+pub type SegmentSink = BitSink<16432>;

@@ -11,4 +11,5 @@ pub mod laws;
 pub use bounds::{bit_bound, padded_bound, step_bound};
 pub use decode::decoder::Decoder;
 pub use decode::fault::{CodeFault, Step};
+pub use encode::SegmentSink;
 pub use encode::coder::{Coder, Pushed};

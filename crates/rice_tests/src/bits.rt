@@ -12,7 +12,9 @@ const PIECES: [usize; 4] = [1, 3, 7, 4096];
 fn put_and_pad(rt: HostRuntime) -> Result<(), Fail> {
     let mut sink = BitSink::<8>::new();
     let mut meter = Meter::new();
+    assert_eq!(rt; sink.is_empty(), true);
     sink.put(0, 4, &mut meter);
+    assert_eq!(rt; sink.is_empty(), false);
     sink.put(5, 8, &mut meter);
     sink.put_fs(0, &mut meter);
     assert_eq!(rt; sink.len(), 13);

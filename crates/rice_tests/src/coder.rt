@@ -16,7 +16,7 @@ struct Coded {
     steps: u64,
 }
 
-/// Pushes a sample, behind tests of all that a push asks for but the sink's room.
+/// Pushes a sample, after testing all that a push requires but the room of the sink.
 fn push(
     rt: &impl Abort,
     setting: &Setting,
@@ -36,7 +36,7 @@ fn push(
     Ok(())
 }
 
-/// Codes samples, and takes the whole bytes out of the sink behind each of them.
+/// Codes samples, and takes the whole bytes out of the sink after each of them.
 fn code(rt: &impl Abort, alloc: Global, setting: Setting, samples: &[i64]) -> Result<Coded, Fail> {
     let _block = setting.block();
     let mut coder = Coder::new(setting);
@@ -73,7 +73,7 @@ fn are_in_range(setting: &Setting, samples: &[i64]) -> bool
     true
 }
 
-/// Pushes as many samples as one call takes, behind tests of all that it asks for but the sink's room.
+/// Pushes as many samples as one call takes, after testing all that it requires but the room of the sink.
 fn push_some(
     rt: &impl Abort,
     setting: &Setting,

@@ -5,7 +5,7 @@ ghost use Rattle.std.specs.List.{slice_index};
 
 use std::simd::prelude::*;
 
-/// The first `count` bytes.
+/// Returns the first `count` bytes.
 #[inline]
 pub fn front(bytes: &[u8], count: usize) -> &[u8]
     requires { count ≤ length bytes.now }
@@ -26,7 +26,8 @@ fn store(bytes: &mut [u8], at: usize, word: u64)
         .copy_to_slice(&mut bytes[at..]);
 }
 
-/// The digits of `byte` in front of those of `word`, as the eight bytes that spell them, the first as the least significant.
+/// Returns the digits of `byte` and then those of `word`, as the eight bytes that spell them, the first
+/// as the least significant.
 #[inline]
 fn joined(byte: u8, word: u64) -> u64
     requires { byte * 2 ^ 56 + word < 2 ^ 64 }
@@ -76,7 +77,8 @@ pub fn join_one(bytes: &mut [u8], at: u64)
     bytes[(at / 8) as usize] |= 0x80_u8.rotate_right((at % 8) as u32);
 }
 
-/// Moves the byte at the place `at` to the front, or a zero where there is none, and writes zeros behind it, up to that place at least.
+/// Moves the byte at the place `at` to the front, or a zero where there is none, and writes zeros after
+/// it, up to that place at least.
 #[inline]
 pub fn keep_byte(bytes: &mut [u8], at: usize)
     requires { at ≤ length bytes.old }
@@ -101,7 +103,7 @@ fn store_front_zeros(bytes: &mut [u8], count: usize)
     }
 }
 
-/// The same for exactly so many.
+/// Writes zeros to exactly the first `count` bytes, or to all where there are fewer.
 #[inline(never)]
 fn store_many_zeros(bytes: &mut [u8], count: usize)
     ensures { bytes.new ≡ replicate (min count (length bytes.old)) 0 ++ drop (min count (length bytes.old)) bytes.old }
@@ -118,7 +120,7 @@ pub fn store_zeros(bytes: &mut [u8], at: usize, count: usize)
     bytes[at..at + count].fill(0);
 }
 
-/// The number that the eight bytes from the place `at` on spell, most significant first.
+/// Returns the number that the eight bytes from the place `at` on spell, most significant first.
 #[inline]
 pub fn load(bytes: &[u8], at: usize) -> u64
     requires { at + 8 ≤ length bytes.now }

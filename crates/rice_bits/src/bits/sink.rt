@@ -1,18 +1,20 @@
-//! Bits that are gathered into bytes.
-ghost use Rattle.std.specs.Prelude.{◌≡◌, ℕ, ◌+◌, ◌-◌, ◌*◌, ◌%◌, ◌^◌, ◌<◌, ◌≤◌, Bool, false, List, [], ◌++◌, length, drop, replicate};
-ghost use Rattle.rice_bits.specs.Bits.{fundamental_sequence, word, whole_bytes, bits_in_bytes, bits_to_byte};
+//! A list of bits that is gathered into bytes.
+ghost use Rattle.std.specs.Prelude.{◌≡◌, ℕ, ◌+◌, ◌-◌, ◌*◌, ◌%◌, ◌^◌, ◌<◌, ◌≤◌, ◌↔◌, IsTrue, Bool, false, List, [], ◌++◌, length, drop, replicate};
+ghost use Rattle.rice_bits.specs.Bits.{fundamental_sequence, word, whole_bytes, bits_in_bytes, bits_to_byte, Puts};
 
 use crate::Meter;
 use crate::bits::digits::to_front;
 use crate::bits::octets::{front, join_bytes, join_one, keep_byte};
 use std::marker::Model;
 
-/// A list of at most `8 * N` bits, gathered into bytes, most significant bit first. Clauses see the bits.
+/// A list of at most `8 * N` bits, gathered into bytes, most significant bit first.
+///
+/// In contracts its value is the list of the bits.
 #[derive(Drop)]
 pub struct BitSink<const N: usize> {
-    /// The bits, and zeros behind them.
+    /// The bits, and zeros after them.
     bytes: [u8; N],
-    /// How many bits there are.
+    /// The number of bits.
     bits: u64,
 }
 
@@ -28,7 +30,7 @@ impl<const N: usize> Model for BitSink<N> {
 }
 
 impl<const N: usize> BitSink<N> {
-    /// A sink with no bits.
+    /// Returns a sink with no bits.
     pub fn new() -> Self
         requires { N < 2 ^ 32 }
         ensures { result ≡ [] }
@@ -39,7 +41,7 @@ impl<const N: usize> BitSink<N> {
         }
     }
 
-    /// How many bits there are.
+    /// Returns the number of bits.
     #[inline]
     pub fn len(&self) -> u64
         ensures value { result ≡ length self.now }
@@ -48,7 +50,15 @@ impl<const N: usize> BitSink<N> {
         self.bits
     }
 
-    /// How many bits more there is room for.
+    /// Returns whether there are no bits.
+    #[inline]
+    pub fn is_empty(&self) -> bool
+        ensures { IsTrue result ↔ (length self.now ≡ 0) }
+    {
+        self.len() == 0
+    }
+
+    /// Returns the number of bits that there is still room for.
     #[inline]
     pub fn room(&self) -> u64
         ensures { result + length self.now ≡ 8 * N }
@@ -57,30 +67,28 @@ impl<const N: usize> BitSink<N> {
         8 * N as u64 - bits
     }
 
-    /// Appends the `width` binary digits of `value`, most significant first, and ticks one for each.
+    /// Appends the `width` binary digits of `value`, most significant first, and ticks once for each.
     #[inline]
     pub fn put(&mut self, value: u32, width: u32, meter: &mut Meter)
         requires width { width ≤ 32 }
         requires value { value < 2 ^ width }
         requires room { length self.old + width ≤ 8 * N }
         requires meter { meter.old + width < 2 ^ 62 }
-        ensures bits { self.new ≡ self.old ++ word width value }
-        ensures len { length self.new ≡ length self.old + width }
-        ensures steps { meter.new ≡ meter.old + width }
+        ensures { Puts (word width value) width self.old self.new meter.old meter.new }
     {
         self.put_long(value as u64, width, meter);
     }
 
-    /// Appends the `width` binary digits of `value`, at most 56, most significant first, and ticks one for each.
+    /// Appends the `width` binary digits of `value`, most significant first, and ticks once for each.
+    ///
+    /// They are at most 56, so that they fit eight bytes after the bits of a byte that is not whole.
     #[inline]
     pub fn put_long(&mut self, value: u64, width: u32, meter: &mut Meter)
         requires width { width ≤ 56 }
         requires value { value < 2 ^ width }
         requires room { length self.old + width ≤ 8 * N }
         requires meter { meter.old + width < 2 ^ 62 }
-        ensures bits { self.new ≡ self.old ++ word width value }
-        ensures len { length self.new ≡ length self.old + width }
-        ensures steps { meter.new ≡ meter.old + width }
+        ensures { Puts (word width value) width self.old self.new meter.old meter.new }
     {
         meter.tick(width as u64);
         let count = (self.bits % 8) as u32 + width;
@@ -92,14 +100,13 @@ impl<const N: usize> BitSink<N> {
         self.bits += width as u64;
     }
 
-    /// Appends the fundamental sequence of `m`, `m` zeros and a one, and ticks one for each bit (CCSDS 121.0-B-3, section 3, fundamental sequence).
+    /// Appends the fundamental sequence of `m`, `m` zeros and a one, and ticks once for each bit
+    /// (CCSDS 121.0-B-3, section 3, fundamental sequence).
     #[inline]
     pub fn put_fs(&mut self, m: u64, meter: &mut Meter)
         requires room { length self.old + m + 1 ≤ 8 * N }
         requires meter { meter.old + m + 1 < 2 ^ 62 }
-        ensures bits { self.new ≡ self.old ++ fundamental_sequence m }
-        ensures len { length self.new ≡ length self.old + m + 1 }
-        ensures steps { meter.new ≡ meter.old + m + 1 }
+        ensures { Puts (fundamental_sequence m) (m + 1) self.old self.new meter.old meter.new }
     {
         let count = m + 1;
         meter.tick(count);
@@ -107,7 +114,7 @@ impl<const N: usize> BitSink<N> {
         self.bits += count;
     }
 
-    /// The bytes that are whole.
+    /// Returns the completed bytes.
     #[inline]
     pub fn whole(&self) -> &[u8]
         ensures { result.now ≡ whole_bytes self.now }
@@ -115,7 +122,7 @@ impl<const N: usize> BitSink<N> {
         front(&self.bytes, (self.bits / 8) as usize)
     }
 
-    /// Removes the bytes that are whole, so that at most seven bits wait.
+    /// Removes the completed bytes, so that at most seven bits are left.
     #[inline]
     pub fn drop_whole(&mut self)
         ensures bits { self.new ≡ drop (bits_in_bytes (length self.old)) self.old }
@@ -125,7 +132,7 @@ impl<const N: usize> BitSink<N> {
         self.bits %= 8;
     }
 
-    /// Appends zeros up to a whole byte, and ticks nothing.
+    /// Appends zeros up to a whole byte, without a tick.
     pub fn pad(&mut self)
         ensures bits { self.new ≡ self.old ++ replicate (bits_to_byte (length self.old)) false }
         ensures len { length self.new ≡ length self.old + bits_to_byte (length self.old) }

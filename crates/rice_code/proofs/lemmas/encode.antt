@@ -3,9 +3,10 @@ pub mod HeldSamples
 pub mod JoinedWords
 pub mod OpenSegments
 pub mod OptionBits
+pub mod PartsWritten
 pub mod PendingRuns
 pub mod PushedCode
 pub mod SearchLemmas
 pub mod SegmentSteps
 pub mod SeveralHeld
-pub mod SeveralPushed
+pub mod PushedSamples

@@ -1,8 +1,7 @@
 -- Blocks that a coded data set can carry.
-use Rattle.std.specs.Prelude.{◌≡◌, ℕ, zero, suc, ◌+◌, ◌<◌, Bool, ◌&&◌, nat_le, if◌then◌else◌, List, [], ◌∷◌, length, take, drop, replicate, Option, None, IfSome}
+use Rattle.std.specs.Prelude.{◌≡◌, ℕ, ◌+◌, ◌<◌, List, [], ◌∷◌, length, Option, IfSome}
 use Rattle.rice_samples.specs.Parameters.{Parameters, value_count}
-use Rattle.rice_code.specs.code.Blocks.{BlockData, zero_block}
-use Rattle.rice_code.specs.code.CodedDataSets.{CodedDataSet, ZeroBlocks, RemainderOfSegment, run_number}
+use Rattle.rice_code.specs.code.Blocks.{BlockData}
 use Rattle.rice_code.specs.code.Forms.{IsBlock, IsZeroAtReference, AllFit}
 
 -- a block with this reference, if there is one, and these residuals

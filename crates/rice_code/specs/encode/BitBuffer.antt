@@ -1,7 +1,36 @@
--- Bits that wait to be put.
-use Rattle.std.specs.Prelude.{ℕ, ◌^◌, ◌<◌, ◌≤◌}
+-- Bits that are gathered before they are put into a sink, and what a put does.
+use Rattle.std.specs.Prelude.{◌≡◌, ℕ, ◌+◌, ◌^◌, ◌<◌, ◌≤◌, Bool, List, ◌++◌, length}
+use Rattle.rice_samples.specs.Parameters.{Parameters}
+use Rattle.rice_code.specs.code.CodedDataSets.{CodedDataSet, bits_of_set, cost}
+
+-- The bits of the sink of a coder: 64 blocks of at most 2,053 bits, and eight bytes beside them for the bits that it held before.
+abbrev pub sink_bits : ℕ
+sink_bits = 131456
 
 -- these are the digits of a number, at most 56
 pub record IsShort (width value : ℕ) : Type 0 where
   pub most : width ≤ 56
   pub digits : value < 2 ^ width
+
+-- after `bits` bits a sink has room for `count` more, and the meter for `ticks`
+pub record HasRoomFor (count ticks bits meter : ℕ) : Type 0 where
+  pub room : bits + count ≤ sink_bits
+  pub steps : meter + ticks < 2 ^ 62
+
+-- These bits, `count` of them, are added after those of the sink and those that are gathered. A bit that is gathered still counts as a
+-- step when it is put; `ticks` steps are counted in all.
+pub record AddsFields (more : List Bool) (count ticks : ℕ) (sink_old fields_old sink_new fields_new : List Bool) (meter_old meter_new : ℕ) : Type 0 where
+  pub bits : sink_new ++ fields_new ≡ sink_old ++ fields_old ++ more
+  pub len : length sink_new + length fields_new ≡ length sink_old + length fields_old + count
+  pub steps : meter_new + length fields_new ≡ meter_old + length fields_old + ticks
+
+-- there is room for a coded data set, and for `looks` looks at residuals
+abbrev pub HasRoomForSet : Parameters → CodedDataSet → ℕ → List Bool → ℕ → Type 0
+HasRoomForSet s set looks sink meter = HasRoomFor (cost s set) (cost s set + looks) (length sink) meter
+
+-- the coded data set is put, with `least` to `most` looks at residuals
+pub record PutsSet (s : Parameters) (set : CodedDataSet) (least most : ℕ) (old new : List Bool) (meter_old meter_new : ℕ) : Type 0 where
+  pub bits : new ≡ old ++ bits_of_set s set
+  pub len : length new ≡ length old + cost s set
+  pub steps_from : meter_old + cost s set + least ≤ meter_new
+  pub steps_to : meter_new ≤ meter_old + cost s set + most

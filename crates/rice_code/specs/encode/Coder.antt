@@ -1,15 +1,12 @@
--- What a coder holds, and which samples it stands for.
-use Rattle.std.specs.Prelude.{◌≡◌, ℕ, ◌+◌, ◌-◌, ◌*◌, ◌/◌, ◌%◌, ◌<◌, ◌≤◌, Bool, true, false, ◌&&◌, ◌==◌, if◌then◌else◌, List, [], ◌∷◌, ◌++◌, length, take, replicate, Option, Some, None, IfSome, ℤ, pos}
+-- Which samples a coder has taken, and the code that each call appends.
+use Rattle.std.specs.Prelude.{◌≡◌, ℕ, ◌+◌, ◌*◌, ◌%◌, ◌<◌, ◌≤◌, Bool, true, if◌then◌else◌, List, [], ◌∷◌, ◌++◌, length, take, Option, Some, None, ℤ, pos}
 use Rattle.std.specs.List.{AllByRecursion}
-use Rattle.rice_samples.specs.Parameters.{Parameters, IsLegal, IsSample, value_count}
+use Rattle.rice_samples.specs.Parameters.{Parameters, IsLegal, IsSample}
 use Rattle.rice_samples.specs.Places.{place, begins_segment, is_reference, blocks_left, cut}
-use Rattle.rice_samples.specs.predict.Residuals.{pattern, rank, residuals, last_of}
-use Rattle.rice_code.specs.code.Blocks.{BlockData}
-use Rattle.rice_code.specs.code.Code.{code, data_sets}
-use Rattle.rice_code.specs.code.CodedDataSets.{CodedDataSet}
-use Rattle.rice_code.specs.encode.HeldBlocks.{held_blocks}
-use Rattle.rice_code.specs.code.Layout.{layout}
-use Rattle.rice_code.specs.encode.OpenSegment.{CoderState}
+use Rattle.rice_samples.specs.predict.Residuals.{pattern, residuals, last_of}
+use Rattle.rice_code.specs.code.Code.{code, code_bits}
+use Rattle.rice_code.specs.Steps.{least_steps, most_steps}
+use Rattle.rice_code.specs.encode.OpenSegment.{CoderState, fill_count}
 
 -- the reference of block b, which has these samples
 abbrev pub reference_in : Parameters → ℕ → List ℤ → Option ℕ
@@ -28,7 +25,7 @@ pub record HasCodedBefore (coder : CoderState) (b : ℕ) (coded held : List ℤ)
   pub residuals : coder.residuals ≡ residuals coder.setting (coder.setting.block * b) (last_of (pos 0) coded) held
   pub reference : coder.reference ≡ reference_in coder.setting b held
 
--- the coder stands for these samples
+-- the coder has taken these samples
 pub record HasTaken (coder : CoderState) (samples : List ℤ) : Type 0 where
   pub block : ℕ
   pub coded : List ℤ
@@ -37,10 +34,10 @@ pub record HasTaken (coder : CoderState) (samples : List ℤ) : Type 0 where
   pub holds : HasCodedBefore coder block coded held
   pub short : length held < coder.setting.block * blocks_left coder.setting block
 
--- each coder stands for some samples
+-- each coder has taken some samples
 pub record IsCoder (coder : CoderState) : Type 0 where
   pub samples : List ℤ
-  pub stands : HasTaken coder samples
+  pub taken : HasTaken coder samples
 
 -- the samples of whole segments, and their code
 abbrev pub complete_samples : Parameters → List ℤ → List ℤ
@@ -49,22 +46,42 @@ complete_samples s xs = take (cut s (length xs)) xs
 abbrev pub complete_code : Parameters → List ℤ → List Bool
 complete_code s xs = code s (complete_samples s xs)
 
--- where intervals are padded, the sink has as many bits of a byte as the code of the samples so far
+-- where intervals are padded, the sink has as many bits of a byte as the code of these samples
 abbrev pub IsAlignedWith : Parameters → List ℤ → List Bool → Type 0
-IsAlignedWith s xs sink = s.pad ≡ true → length sink % 8 ≡ length (complete_code s xs) % 8
+IsAlignedWith s xs sink = s.pad ≡ true → length sink % 8 ≡ length (code s xs) % 8
 
--- so many bits complete the code of whole segments when the samples xs become ys
+-- the bits that are appended make the code of the samples xs that of ys
 pub record AppendsCode (s : Parameters) (xs ys : List ℤ) (old new : List Bool) : Type 0 where
   pub bits : List Bool
   pub appended : new ≡ old ++ bits
-  pub completes : complete_code s ys ≡ complete_code s xs ++ bits
+  pub completes : code s ys ≡ code s xs ++ bits
 
--- so many bits complete the code of all samples
-pub record AppendsRest (s : Parameters) (xs : List ℤ) (old new : List Bool) : Type 0 where
-  pub bits : List Bool
-  pub appended : new ≡ old ++ bits
-  pub completes : code s xs ≡ complete_code s xs ++ bits
+-- the steps grow from those of the samples xs to those of ys, and by `more` beside them
+pub record TakesSteps (s : Parameters) (xs ys : List ℤ) (more old new : ℕ) : Type 0 where
+  pub least : old + more + least_steps s ys ≤ new + least_steps s xs
+  pub most : new + most_steps s xs ≤ old + more + most_steps s ys
 
--- the samples that fill the last block
+-- the code of the samples xs becomes that of ys, which is `count` bits longer, padding aside
+pub record AddsCode (s : Parameters) (xs ys : List ℤ) (old new : List Bool) (count more meter_old meter_new : ℕ) : Type 0 where
+  pub code_is : IsAlignedWith s xs old → AppendsCode s xs ys old new
+  pub bits : code_bits s ys ≡ code_bits s xs + count
+  pub steps : TakesSteps s xs ys more meter_old meter_new
+
+-- a coder takes more samples, a step for each, and the code of the segments that they complete is appended
+pub record PushesSamples (old new : CoderState) (samples : List ℤ) (sink_old sink_new : List Bool) (count meter_old meter_new : ℕ) : Type 0 where
+  pub setting : new.setting ≡ old.setting
+  pub taken : (xs : List ℤ) → HasTaken old xs → HasTaken new (xs ++ samples)
+  pub adds : (xs : List ℤ) → HasTaken old xs →
+      AddsCode old.setting (complete_samples old.setting xs) (complete_samples old.setting (xs ++ samples)) sink_old sink_new count (length samples) meter_old meter_new
+
+-- these samples complete no segment, after those that the coder has taken
+abbrev pub CompletesNone : CoderState → List ℤ → Type 0
+CompletesNone coder ys = (xs : List ℤ) → HasTaken coder xs → complete_samples coder.setting (xs ++ ys) ≡ complete_samples coder.setting xs
+
+-- the last of them completes one
+abbrev pub CompletesAll : CoderState → List ℤ → Type 0
+CompletesAll coder ys = (xs : List ℤ) → HasTaken coder xs → complete_samples coder.setting (xs ++ ys) ≡ xs ++ ys
+
+-- the samples that fill the last block of all
 abbrev pub fill_samples : Parameters → List ℤ → ℕ
-fill_samples s xs = (s.block - length xs % s.block) % s.block
+fill_samples s xs = fill_count s (length xs)

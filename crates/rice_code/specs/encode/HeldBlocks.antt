@@ -1,12 +1,16 @@
 -- The blocks that a coder holds, and the runs of zeros among them.
-use Rattle.std.specs.Prelude.{◌≡◌, ℕ, zero, suc, ◌+◌, ◌<◌, Bool, ◌&&◌, nat_le, if◌then◌else◌, List, [], ◌∷◌, length, take, drop, replicate, Option, None, IfSome}
-use Rattle.rice_samples.specs.Parameters.{Parameters, value_count}
+use Rattle.std.specs.Prelude.{◌≡◌, ℕ, zero, suc, ◌+◌, ◌-◌, ◌*◌, ◌≤◌, min, Bool, false, ◌&&◌, nat_le, if◌then◌else◌, List, [], ◌∷◌, ◌++◌, length, take, drop, replicate, sum_by, Option, None}
+use Rattle.rice_samples.specs.Parameters.{Parameters, k_max}
 use Rattle.rice_code.specs.code.Blocks.{BlockData, zero_block}
-use Rattle.rice_code.specs.code.CodedDataSets.{CodedDataSet, ZeroBlocks, RemainderOfSegment, run_number}
-use Rattle.rice_code.specs.code.Forms.{IsBlock, IsZeroAtReference, AllFit}
+use Rattle.rice_code.specs.code.Choice.{shortest, best_split}
+use Rattle.rice_code.specs.code.Code.{data_sets}
+use Rattle.rice_code.specs.code.CodedDataSets.{CodedDataSet, run_number, cost, bits_of_set, bits_of_sets}
+use Rattle.rice_code.specs.code.Runs.{run_of_blocks}
 use Rattle.rice_code.specs.code.SoundBlocks.{block_with}
+use Rattle.rice_code.specs.encode.BitBuffer.{HasRoomFor, HasRoomForSet, PutsSet}
+use Rattle.rice_code.specs.Steps.{least_looks, most_looks}
 
--- the blocks that residuals make, so many, the first with this reference
+-- the first `count` blocks that residuals make, of which only the first has this reference
 abbrev pub held_blocks : Parameters → Option ℕ → ℕ → List ℕ → List BlockData
 held_blocks s reference zero ds = []
 held_blocks s reference (suc count) ds = block_with reference (take s.block ds) ∷ held_blocks s None count (drop s.block ds)
@@ -16,20 +20,56 @@ abbrev pub reference_at : Option ℕ → ℕ → Option ℕ
 reference_at reference zero = reference
 reference_at reference (suc i) = None
 
--- so many blocks of zeros that wait for the end of their run
+-- the zero blocks that are pending until their run ends
 abbrev pub pending_zeros : Parameters → Option ℕ → ℕ → List BlockData
 pending_zeros s reference zero = []
 pending_zeros s reference (suc more) = zero_block s reference ∷ replicate more (zero_block s None)
 
--- a run of z blocks, which reaches the end of the segment or the last block, or not
-abbrev pub run_of_blocks : Bool → Option ℕ → ℕ → CodedDataSet
-run_of_blocks to_end reference z = if nat_le 5 z && to_end then RemainderOfSegment reference else ZeroBlocks reference z
-
--- the zeros of its codeword
+-- the zeros of the codeword of a run
 abbrev pub zeros_of_run : Bool → ℕ → ℕ
 zeros_of_run to_end z = if nat_le 5 z && to_end then 4 else run_number z
 
--- the run of the blocks that wait, if there are any
+-- the run of the zero blocks that are pending, if there are any
 abbrev pub pending_run : Bool → Option ℕ → ℕ → List CodedDataSet
 pending_run to_end reference zero = []
 pending_run to_end reference (suc more) = run_of_blocks to_end reference (suc more) ∷ []
+
+abbrev pub pending_bits : Parameters → Bool → Option ℕ → ℕ → List Bool
+pending_bits s to_end reference run = bits_of_sets s (pending_run to_end reference run)
+
+-- A block that is not zero is coded in the shortest way, with the looks of the search for it,
+abbrev pub PutsShortest : Parameters → BlockData → List Bool → List Bool → ℕ → ℕ → Type 0
+PutsShortest s block sink_old sink_new meter_old meter_new =
+    PutsSet s (shortest s block) (s.block * (best_split s block + 3) - 1) (s.block * (min (best_split s block + 1) (k_max s) + 4)) sink_old sink_new meter_old meter_new
+
+-- for which there is room.
+abbrev pub HasRoomForShortest : Parameters → BlockData → List Bool → ℕ → Type 0
+HasRoomForShortest s block sink meter = HasRoomForSet s (shortest s block) (s.block * (k_max s + 4)) sink meter
+
+-- a block of zeros joins a run: nothing is put, and each of its residuals is looked at
+pub record JoinsRun (s : Parameters) (run joined : ℕ) (sink_old sink_new : List Bool) (meter_old meter_new : ℕ) : Type 0 where
+  pub run_is : joined ≡ run + 1
+  pub bits : sink_new ≡ sink_old
+  pub steps : meter_new ≡ meter_old + s.block
+
+-- another block ends the run, whose code is put, and then that of the block
+pub record EndsRun (s : Parameters) (run : List Bool) (block : BlockData) (pending : ℕ) (sink_old sink_new : List Bool) (meter_old meter_new : ℕ) : Type 0 where
+  pub run_is : pending ≡ 0
+  pub bits : sink_new ≡ sink_old ++ run ++ bits_of_set s (shortest s block)
+  pub len : length sink_new ≡ length sink_old + length run + cost s (shortest s block)
+  pub steps_from : meter_old + length run + cost s (shortest s block) + s.block * (best_split s block + 4) ≤ meter_new + 1
+  pub steps_to : meter_new ≤ meter_old + length run + cost s (shortest s block) + s.block * (min (best_split s block + 1) (k_max s) + 5)
+
+-- the code of blocks from the place `start` on, with which a segment begins
+abbrev pub code_of_blocks : Parameters → ℕ → List BlockData → List Bool
+code_of_blocks s start blocks = bits_of_sets s (data_sets s start false blocks)
+
+-- a sink has room for it, and a meter for it and `looks` looks at residuals
+abbrev pub HasRoomForBlocks : Parameters → ℕ → List BlockData → ℕ → List Bool → ℕ → Type 0
+HasRoomForBlocks s start blocks looks sink meter = HasRoomFor (length (code_of_blocks s start blocks)) (length (code_of_blocks s start blocks) + looks) (length sink) meter
+
+-- it is put, with the looks at residuals that its blocks take
+pub record PutsBlocks (s : Parameters) (start : ℕ) (blocks : List BlockData) (old new : List Bool) (meter_old meter_new : ℕ) : Type 0 where
+  pub bits : new ≡ old ++ code_of_blocks s start blocks
+  pub steps_from : meter_old + length (code_of_blocks s start blocks) + sum_by (least_looks s) blocks ≤ meter_new
+  pub steps_to : meter_new ≤ meter_old + length (code_of_blocks s start blocks) + sum_by (most_looks s) blocks

@@ -1,12 +1,13 @@
 -- What a coder holds of the segment that it fills: its residuals, and how each call changes it.
-use Rattle.std.specs.Prelude.{◌≡◌, ℕ, ◌+◌, ◌-◌, ◌*◌, ◌/◌, ◌%◌, ◌<◌, ◌≤◌, Bool, true, false, ◌&&◌, ◌==◌, if◌then◌else◌, List, [], ◌∷◌, ◌++◌, length, take, replicate, Option, Some, None, IfSome, ℤ, pos}
-use Rattle.std.specs.List.{AllByRecursion}
+use Rattle.std.specs.Prelude.{◌≡◌, ℕ, ◌+◌, ◌-◌, ◌*◌, ◌/◌, ◌%◌, ◌<◌, ◌≤◌, Bool, true, false, ◌&&◌, ◌==◌, if◌then◌else◌, List, [], ◌∷◌, ◌++◌, length, replicate, Option, Some, None, IfSome, sum_by, ℤ, pos}
 use Rattle.rice_samples.specs.Parameters.{Parameters, IsLegal, IsSample, value_count}
-use Rattle.rice_samples.specs.Places.{place, begins_segment, is_reference, blocks_left, cut}
-use Rattle.rice_samples.specs.predict.Residuals.{pattern, rank, residuals, last_of}
+use Rattle.rice_samples.specs.Places.{place, begins_segment, blocks_left}
+use Rattle.rice_samples.specs.predict.Residuals.{pattern, rank, last_of}
 use Rattle.rice_code.specs.code.Blocks.{BlockData}
-use Rattle.rice_code.specs.code.Code.{code, data_sets}
-use Rattle.rice_code.specs.code.CodedDataSets.{CodedDataSet}
+use Rattle.rice_code.specs.code.Code.{data_sets}
+use Rattle.rice_code.specs.code.CodedDataSets.{CodedDataSet, bits_of_set}
+use Rattle.rice_code.specs.code.SoundBlocks.{AreSoundBlocks}
+use Rattle.rice_code.specs.Steps.{least_looks, most_looks}
 use Rattle.rice_code.specs.encode.HeldBlocks.{held_blocks}
 use Rattle.rice_code.specs.code.Layout.{layout}
 
@@ -18,7 +19,7 @@ pub record CoderState : Type 0 where
   pub previous : ℤ
   pub start : ℕ
 
--- what is so of what each coder holds, whose segment is whole with so many residuals
+-- the invariant of an open segment, which is whole with `end` residuals
 pub record IsOpen (coder : CoderState) (end : ℕ) : Type 0 where
   pub legal : IsLegal coder.setting
   pub place : place coder.setting coder.start ≡ coder.start
@@ -70,14 +71,15 @@ next_references coder (x ∷ xs) = next_reference coder x
 abbrev pub state_after_all : CoderState → List ℤ → CoderState
 state_after_all coder xs = record { setting = coder.setting; residuals = coder.residuals ++ next_residuals coder xs; reference = next_references coder xs; previous = last_of coder.previous xs; start = coder.start }
 
--- and when its last block is filled with so many samples
+-- and when its last block is filled with n samples
 abbrev pub state_with_fill : CoderState → ℕ → CoderState
 state_with_fill coder n = record { setting = coder.setting; residuals = coder.residuals ++ replicate n (next_residual coder coder.previous); reference = coder.reference; previous = coder.previous; start = coder.start }
 
-abbrev pub fill_count : CoderState → ℕ
-fill_count coder = (coder.setting.block - length coder.residuals % coder.setting.block) % coder.setting.block
+-- the samples that fill the last block, after n samples
+abbrev pub fill_count : Parameters → ℕ → ℕ
+fill_count s n = (s.block - n % s.block) % s.block
 
--- what it holds behind a whole segment
+-- what it holds after a whole segment
 abbrev pub next_start : CoderState → ℕ
 next_start coder = let next = coder.start + blocks_left coder.setting coder.start in if next == coder.setting.interval then 0 else next
 
@@ -95,6 +97,22 @@ contents_held coder = held_blocks coder.setting coder.reference (blocks_held cod
 abbrev pub sets_held : CoderState → List CodedDataSet
 sets_held coder = data_sets coder.setting coder.start false (contents_held coder)
 
--- as they lie behind so many bits
+-- as they lie after `position` bits
 abbrev pub code_held : CoderState → ℕ → List Bool
 code_held coder position = layout coder.setting (coder.start + blocks_held coder) coder.start position (sets_held coder)
+
+-- and the number of their bits, padding aside
+abbrev pub bits_held : CoderState → ℕ
+bits_held coder = sum_by (λ d. length (bits_of_set coder.setting d)) (sets_held coder)
+
+-- whole blocks are held, and they are sound
+pub record HoldsSoundBlocks (coder : CoderState) : Type 0 where
+  pub sound : AreSoundBlocks coder.setting coder.start (contents_held coder)
+  pub whole : length coder.residuals ≡ coder.setting.block * blocks_held coder
+
+-- their code is appended, `count` bits and the padding of the interval that they end
+pub record CodesHeld (coder : CoderState) (old new : List Bool) (count meter_old meter_new : ℕ) : Type 0 where
+  pub code_is : new ≡ old ++ code_held coder (length old)
+  pub bits : count ≡ bits_held coder
+  pub least : meter_old + bits_held coder + sum_by (least_looks coder.setting) (contents_held coder) ≤ meter_new
+  pub most : meter_new ≤ meter_old + bits_held coder + sum_by (most_looks coder.setting) (contents_held coder)

@@ -1,20 +1,23 @@
-//! Fields that are gathered into one put.
+//! A buffer of bits, which puts several fields into a sink at once.
 ghost use Rattle.std.specs.Prelude.{◌≡◌, ℕ, ◌+◌, ◌*◌, ◌^◌, ◌<◌, ◌≤◌, ◌++◌, [], length};
 ghost use Rattle.rice_bits.specs.Bits.{word, fundamental_sequence};
+ghost use Rattle.rice_code.specs.encode.BitBuffer.{HasRoomFor, AddsFields};
 
-use rice_bits::{BitSink, Meter};
+use crate::encode::SegmentSink;
+use rice_bits::{Meter, join};
 use std::marker::Model;
 
-/// At most 56 bits that are still to be put into a sink. Clauses see the bits.
+/// Holds at most 56 bits that are still to be put into a sink.
 ///
-/// Its calls are always inlined, so that the bits stay in registers while a data set is written.
+/// In contracts its value is the list of these bits. Its calls are always inlined, so that the bits stay
+/// in registers while a coded data set is written.
 #[derive(Drop)]
-pub struct Gathered {
+pub struct BitBuffer {
     value: u64,
     width: u32,
 }
 
-impl Model for Gathered {
+impl Model for BitBuffer {
     ghost use Rattle.std.specs.Prelude.{Bool, List};
     ghost use Rattle.rice_bits.specs.Bits.{word};
     ghost use Rattle.rice_code.specs.encode.BitBuffer.{IsShort};
@@ -26,38 +29,35 @@ impl Model for Gathered {
     ghost invariant = { λ g. IsShort g.width g.value };
 }
 
-impl Gathered {
-    /// No bits.
+impl BitBuffer {
+    /// Returns a buffer with no bits.
     #[inline(always)]
     pub fn new() -> Self
         ensures bits { result ≡ [] }
         ensures len { length result ≡ 0 }
     {
-        Gathered { value: 0, width: 0 }
+        BitBuffer { value: 0, width: 0 }
     }
 
-    /// Adds the `width` binary digits of `value`. The bits before them are put where these have no room with them.
+    /// Adds the `width` binary digits of `value`, after putting the bits before them where both do not fit.
     #[inline(always)]
-    pub fn add(&mut self, value: u64, width: u32, sink: &mut BitSink<16432>, meter: &mut Meter)
+    pub fn add(&mut self, value: u64, width: u32, sink: &mut SegmentSink, meter: &mut Meter)
         requires width { width ≤ 56 }
         requires value { value < 2 ^ width }
-        requires room { length sink.old + length self.old ≤ 131456 }
-        requires meter { meter.old + length self.old < 2 ^ 62 }
-        ensures bits { sink.new ++ self.new ≡ sink.old ++ self.old ++ word width value }
-        ensures len { length sink.new + length self.new ≡ length sink.old + length self.old + width }
-        ensures steps { meter.new + length self.new ≡ meter.old + length self.old + width }
+        requires room { HasRoomFor 0 0 (length sink.old + length self.old) (meter.old + length self.old) }
+        ensures { AddsFields (word width value) width width
+            sink.old self.old sink.new self.new meter.old meter.new }
     {
         self.make_room(width, sink, meter);
-        self.value = joined(self.value, width, value);
+        self.value = join(self.value, width, value);
         self.width += width;
     }
 
-    /// Puts the bits where they have no room with `width` more.
+    /// Puts the bits where `width` more do not fit beside them.
     #[inline(always)]
-    fn make_room(&mut self, width: u32, sink: &mut BitSink<16432>, meter: &mut Meter)
+    fn make_room(&mut self, width: u32, sink: &mut SegmentSink, meter: &mut Meter)
         requires width { width ≤ 56 }
-        requires room { length sink.old + length self.old ≤ 131456 }
-        requires meter { meter.old + length self.old < 2 ^ 62 }
+        requires room { HasRoomFor 0 0 (length sink.old + length self.old) (meter.old + length self.old) }
         ensures fits { length self.new + width ≤ 56 }
         ensures bits { sink.new ++ self.new ≡ sink.old ++ self.old }
         ensures len { length sink.new + length self.new ≡ length sink.old + length self.old }
@@ -70,12 +70,10 @@ impl Gathered {
 
     /// Adds the fundamental sequence of `m`.
     #[inline(always)]
-    pub fn add_fs(&mut self, m: u32, sink: &mut BitSink<16432>, meter: &mut Meter)
-        requires room { length sink.old + length self.old + m + 1 ≤ 131456 }
-        requires meter { meter.old + length self.old + m + 1 < 2 ^ 62 }
-        ensures bits { sink.new ++ self.new ≡ sink.old ++ self.old ++ fundamental_sequence m }
-        ensures len { length sink.new + length self.new ≡ length sink.old + length self.old + m + 1 }
-        ensures steps { meter.new + length self.new ≡ meter.old + length self.old + m + 1 }
+    pub fn add_fs(&mut self, m: u32, sink: &mut SegmentSink, meter: &mut Meter)
+        requires { HasRoomFor (m + 1) (m + 1) (length sink.old + length self.old) (meter.old + length self.old) }
+        ensures { AddsFields (fundamental_sequence m) (m + 1) (m + 1)
+            sink.old self.old sink.new self.new meter.old meter.new }
     {
         if m < 56 {
             self.add(1, m + 1, sink, meter);
@@ -85,19 +83,20 @@ impl Gathered {
         sink.put_fs(m as u64, meter);
     }
 
-    /// Adds the fundamental sequences of four numbers.
+    /// Adds the fundamental sequences of four numbers, all at once where they are short.
     #[inline(always)]
     pub fn add_four_fs(
         &mut self,
         m: (u32, u32, u32, u32),
-        sink: &mut BitSink<16432>,
+        sink: &mut SegmentSink,
         meter: &mut Meter,
     )
-        requires room { length sink.old + length self.old + m.0 + m.1 + m.2 + m.3 + 4 ≤ 131456 }
-        requires meter { meter.old + length self.old + m.0 + m.1 + m.2 + m.3 + 4 < 2 ^ 62 }
-        ensures bits { sink.new ++ self.new ≡ sink.old ++ self.old ++ (fundamental_sequence m.0 ++ fundamental_sequence m.1 ++ fundamental_sequence m.2 ++ fundamental_sequence m.3) }
-        ensures len { length sink.new + length self.new ≡ length sink.old + length self.old + m.0 + m.1 + m.2 + m.3 + 4 }
-        ensures steps { meter.new + length self.new ≡ meter.old + length self.old + m.0 + m.1 + m.2 + m.3 + 4 }
+        requires { HasRoomFor (m.0 + m.1 + m.2 + m.3 + 4) (m.0 + m.1 + m.2 + m.3 + 4)
+            (length sink.old + length self.old) (meter.old + length self.old) }
+        ensures { AddsFields
+            (fundamental_sequence m.0 ++ fundamental_sequence m.1 ++ fundamental_sequence m.2 ++ fundamental_sequence m.3)
+            (m.0 + m.1 + m.2 + m.3 + 4) (m.0 + m.1 + m.2 + m.3 + 4)
+            sink.old self.old sink.new self.new meter.old meter.new }
     {
         let (a, b, c, d) = m;
         let sum = a as u64 + b as u64 + c as u64 + d as u64;
@@ -111,11 +110,10 @@ impl Gathered {
         self.add_fs(d, sink, meter);
     }
 
-    /// Puts the bits.
+    /// Puts the bits into the sink, and is empty then.
     #[inline(always)]
-    pub fn put(&mut self, sink: &mut BitSink<16432>, meter: &mut Meter)
-        requires room { length sink.old + length self.old ≤ 131456 }
-        requires meter { meter.old + length self.old < 2 ^ 62 }
+    pub fn put(&mut self, sink: &mut SegmentSink, meter: &mut Meter)
+        requires { HasRoomFor 0 0 (length sink.old + length self.old) (meter.old + length self.old) }
         ensures empty { self.new ≡ [] }
         ensures bits { sink.new ≡ sink.old ++ self.old }
         ensures len { length sink.new ≡ length sink.old + length self.old }
@@ -127,25 +125,16 @@ impl Gathered {
     }
 }
 
-/// The number whose digits are the fundamental sequences of four small numbers.
+/// Returns the number whose digits are the fundamental sequences of four small numbers.
 #[inline(always)]
 fn four_ones(a: u32, b: u32, c: u32, d: u32) -> u64
     requires { a + b + c + d ≤ 52 }
     ensures fits { result < 2 ^ (a + b + c + d + 4) }
-    ensures bits { word (a + b + c + d + 4) result ≡ fundamental_sequence a ++ fundamental_sequence b ++ fundamental_sequence c ++ fundamental_sequence d }
+    ensures bits { word (a + b + c + d + 4) result
+        ≡ fundamental_sequence a ++ fundamental_sequence b ++ fundamental_sequence c ++ fundamental_sequence d }
 {
     let _first = a;
-    let two = joined(1, b + 1, 1);
-    let three = joined(two, c + 1, 1);
-    joined(three, d + 1, 1)
-}
-
-/// A number with so many binary digits behind it.
-#[inline(always)]
-pub fn joined(high: u64, width: u32, low: u64) -> u64
-    requires width { width ≤ 56 }
-    requires fits { high * 2 ^ width + low < 2 ^ 64 }
-    ensures { result ≡ high * 2 ^ width + low }
-{
-    high * (1 << width) + low
+    let two = join(1, b + 1, 1);
+    let three = join(two, c + 1, 1);
+    join(three, d + 1, 1)
 }

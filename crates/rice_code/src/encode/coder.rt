@@ -1,27 +1,29 @@
-//! The coder.
+//! The coder, from samples to code.
 ghost use Rattle.std.specs.Prelude.{◌≡◌, ℕ, ◌+◌, ◌*◌, ◌^◌, ◌<◌, ◌≤◌, ◌++◌, [], ◌∷◌, length, take, All, List, ℤ};
 ghost use Rattle.rice_samples.specs.Parameters.{IsSample};
 ghost use Rattle.rice_samples.specs.Places.{cut};
-ghost use Rattle.rice_code.specs.code.Code.{code_bits};
-ghost use Rattle.rice_code.specs.Steps.{least_steps, most_steps, segment_steps};
+ghost use Rattle.rice_code.specs.Steps.{segment_steps};
 
+use crate::encode::SegmentSink;
 use crate::encode::open_segment::OpenSegment;
-use rice_bits::{BitSink, Meter};
+use rice_bits::Meter;
 use rice_samples::Setting;
 use std::marker::Model;
 
-/// What a coder has taken at once.
+/// What `Coder::push_some` has taken.
 #[derive(Clone, Copy, Debug, PartialEq, Eq)]
 pub struct Pushed {
-    /// How many samples it took.
+    /// The number of samples that were taken.
     pub samples: usize,
-    /// How many bits of code it appended, padding aside.
+    /// The number of bits of code that were appended, padding aside.
     pub bits: u64,
 }
 
-/// A coder: it takes samples one by one, and appends the code of each segment of 64 blocks, or
-/// fewer at the end of a reference interval, once it is whole. Clauses see what it holds, and which
-/// samples it stands for (CCSDS 121.0-B-3, sections 3 to 5).
+/// Takes samples, and appends the code of each segment of 64 blocks, or fewer at the end of a
+/// reference interval, once it is whole (CCSDS 121.0-B-3, sections 3 to 5).
+///
+/// In contracts its value is what it holds of the segment that it fills, and `HasTaken` tells which
+/// samples it has taken.
 #[derive(Drop)]
 pub struct Coder {
     segment: OpenSegment,
@@ -39,11 +41,11 @@ impl Model for Coder {
 }
 
 impl Coder {
-    ghost use Rattle.rice_code.specs.encode.Coder.{HasTaken, IsAlignedWith, AppendsCode, AppendsRest, fill_samples, complete_samples};
+    ghost use Rattle.rice_code.specs.encode.Coder.{HasTaken, AddsCode, PushesSamples, CompletesNone, CompletesAll, fill_samples, complete_samples};
 
-    /// A coder that stands for no samples.
+    /// Returns a coder that has taken no samples.
     pub fn new(setting: Setting) -> Self
-        ensures stands { HasTaken result [] }
+        ensures taken { HasTaken result [] }
         ensures setting { result.setting ≡ setting }
     {
         let _block = setting.block();
@@ -52,7 +54,7 @@ impl Coder {
         }
     }
 
-    /// How many samples wait for their segment to be whole: fewer than 64 blocks of them.
+    /// Returns the number of samples whose segment is not whole yet: fewer than 64 blocks of them.
     pub fn pending(&self) -> u32
         ensures value { (xs : List ℤ) → HasTaken self.now xs → result + cut self.now.setting (length xs) ≡ length xs }
         ensures limit { result < 64 * self.now.setting.block }
@@ -60,22 +62,17 @@ impl Coder {
         self.segment.len() as u32
     }
 
-    /// Takes the sample `x`. If it makes a segment whole, the code of the segment is appended, with the
-    /// padding of an interval that it ends where intervals are padded; else nothing is. Answers how many
-    /// bits were appended, padding aside.
+    /// Takes the sample `x`. Where it makes a segment whole, appends the code of the segment, with the
+    /// padding of an interval that it ends where intervals are padded. Returns the number of bits that
+    /// were appended, padding aside.
     ///
     /// A step is a sample, a bit put, padding aside, or a look at a residual.
     #[inline]
-    pub fn push(&mut self, x: i64, sink: &mut BitSink<16432>, meter: &mut Meter) -> u64
+    pub fn push(&mut self, x: i64, sink: &mut SegmentSink, meter: &mut Meter) -> u64
         requires sample { IsSample self.old.setting x }
         requires room { length sink.old ≤ 7 }
         requires meter { meter.old + segment_steps self.old.setting < 2 ^ 62 }
-        ensures setting { self.new.setting ≡ self.old.setting }
-        ensures stands { (xs : List ℤ) → HasTaken self.old xs → HasTaken self.new (xs ++ x ∷ []) }
-        ensures code { (xs : List ℤ) → HasTaken self.old xs → IsAlignedWith self.old.setting xs sink.old → AppendsCode self.old.setting xs (xs ++ x ∷ []) sink.old sink.new }
-        ensures bits { (xs : List ℤ) → HasTaken self.old xs → code_bits self.old.setting (complete_samples self.old.setting (xs ++ x ∷ [])) ≡ code_bits self.old.setting (complete_samples self.old.setting xs) + result }
-        ensures steps_from { (xs : List ℤ) → HasTaken self.old xs → meter.old + 1 + least_steps self.old.setting (complete_samples self.old.setting (xs ++ x ∷ [])) ≤ meter.new + least_steps self.old.setting (complete_samples self.old.setting xs) }
-        ensures steps_to { (xs : List ℤ) → HasTaken self.old xs → meter.new + most_steps self.old.setting (complete_samples self.old.setting xs) ≤ meter.old + 1 + most_steps self.old.setting (complete_samples self.old.setting (xs ++ x ∷ [])) }
+        ensures { PushesSamples self.old self.new (x ∷ []) sink.old sink.new result meter.old meter.new }
     {
         meter.tick(1);
         self.segment.hold(x);
@@ -88,14 +85,14 @@ impl Coder {
         }
     }
 
-    /// Takes samples from the front, up to and with the one that makes a segment whole, or all of them.
-    /// It does what `push` does with each of them in turn, so code is appended for the last of them alone.
+    /// Takes samples from the front, up to and including the one that makes a segment whole, or all of
+    /// them. Does what `push` does with each of them in turn, so only the last of them appends code.
     ///
     /// A step is a sample, a bit put, padding aside, or a look at a residual.
     pub fn push_some(
         &mut self,
         samples: &[i64],
-        sink: &mut BitSink<16432>,
+        sink: &mut SegmentSink,
         meter: &mut Meter,
     ) -> Pushed
         requires samples { All (IsSample self.old.setting) samples.now }
@@ -103,14 +100,10 @@ impl Coder {
         requires meter { meter.old + segment_steps self.old.setting < 2 ^ 62 }
         ensures taken { result.samples ≤ length samples.now }
         ensures some { 0 < length samples.now → 0 < result.samples }
-        ensures setting { self.new.setting ≡ self.old.setting }
-        ensures stands { (xs : List ℤ) → HasTaken self.old xs → HasTaken self.new (xs ++ take result.samples samples.now) }
-        ensures code { (xs : List ℤ) → HasTaken self.old xs → IsAlignedWith self.old.setting xs sink.old → AppendsCode self.old.setting xs (xs ++ take result.samples samples.now) sink.old sink.new }
-        ensures bits { (xs : List ℤ) → HasTaken self.old xs → code_bits self.old.setting (complete_samples self.old.setting (xs ++ take result.samples samples.now)) ≡ code_bits self.old.setting (complete_samples self.old.setting xs) + result.bits }
-        ensures before_last { (xs : List ℤ) → HasTaken self.old xs → (m : ℕ) → m < result.samples → complete_samples self.old.setting (xs ++ take m samples.now) ≡ complete_samples self.old.setting xs }
-        ensures stops { (xs : List ℤ) → HasTaken self.old xs → result.samples < length samples.now → complete_samples self.old.setting (xs ++ take result.samples samples.now) ≡ xs ++ take result.samples samples.now }
-        ensures steps_from { (xs : List ℤ) → HasTaken self.old xs → meter.old + result.samples + least_steps self.old.setting (complete_samples self.old.setting (xs ++ take result.samples samples.now)) ≤ meter.new + least_steps self.old.setting (complete_samples self.old.setting xs) }
-        ensures steps_to { (xs : List ℤ) → HasTaken self.old xs → meter.new + most_steps self.old.setting (complete_samples self.old.setting xs) ≤ meter.old + result.samples + most_steps self.old.setting (complete_samples self.old.setting (xs ++ take result.samples samples.now)) }
+        ensures pushes { PushesSamples self.old self.new (take result.samples samples.now)
+            sink.old sink.new result.bits meter.old meter.new }
+        ensures before_last { (m : ℕ) → m < result.samples → CompletesNone self.old (take m samples.now) }
+        ensures stops { result.samples < length samples.now → CompletesAll self.old (take result.samples samples.now) }
     {
         let taken = samples.len().min(self.segment.room());
         meter.tick(taken as u64);
@@ -131,15 +124,14 @@ impl Coder {
     }
 
     /// Fills the last block by repeating the last sample, a step for each, and appends the code of the
-    /// samples that wait. An interval that is left unfinished is not padded, nor is the end. Answers how
-    /// many bits were appended, padding aside.
-    pub fn finish(self, sink: &mut BitSink<16432>, meter: &mut Meter) -> u64
+    /// samples that are pending. Pads neither an interval that is left unfinished nor the end. Returns
+    /// the number of bits that were appended, padding aside.
+    pub fn finish(self, sink: &mut SegmentSink, meter: &mut Meter) -> u64
         requires room { length sink.old ≤ 7 }
         requires meter { meter.old + segment_steps self.setting < 2 ^ 62 }
-        ensures code { (xs : List ℤ) → HasTaken self xs → IsAlignedWith self.setting xs sink.old → AppendsRest self.setting xs sink.old sink.new }
-        ensures bits { (xs : List ℤ) → HasTaken self xs → code_bits self.setting xs ≡ code_bits self.setting (complete_samples self.setting xs) + result }
-        ensures steps_from { (xs : List ℤ) → HasTaken self xs → meter.old + fill_samples self.setting xs + least_steps self.setting xs ≤ meter.new + least_steps self.setting (complete_samples self.setting xs) }
-        ensures steps_to { (xs : List ℤ) → HasTaken self xs → meter.new + most_steps self.setting (complete_samples self.setting xs) ≤ meter.old + fill_samples self.setting xs + most_steps self.setting xs }
+        ensures { (xs : List ℤ) → HasTaken self xs →
+            AddsCode self.setting (complete_samples self.setting xs) xs
+            sink.old sink.new result (fill_samples self.setting xs) meter.old meter.new }
     {
         let Coder { mut segment } = self;
         segment.fill(meter);

@@ -1,13 +1,14 @@
-//! The lengths of the texts of a block.
+//! What a block costs by each option, in bits.
 ghost use Rattle.std.specs.Prelude.{◌≡◌, ℕ, ◌+◌, ◌*◌, ◌/◌, ◌^◌, ◌<◌, ◌≤◌, length, sum_by};
 ghost use Rattle.rice_samples.specs.Parameters.{id_len, k_max};
 ghost use Rattle.rice_code.specs.code.CodedDataSets.{NoCompression, SecondExtension, Split, sent_residuals, cost, reference_len};
-ghost use Rattle.rice_code.specs.code.SoundBlocks.{block_with, IsSoundData};
+ghost use Rattle.rice_code.specs.code.SoundBlocks.{IsSoundData};
 
+use crate::encode::held_block::HeldBlock;
 use rice_bits::Meter;
-use rice_samples::{Block, Setting};
+use rice_samples::Setting;
 
-/// The bits of the reference, if there is one.
+/// Returns the number of bits of the reference, if there is one.
 fn reference_len(setting: &Setting, reference: Option<u32>) -> u64
     ensures value { result ≡ reference_len setting.now reference }
     ensures limit { result ≤ 32 }
@@ -18,61 +19,51 @@ fn reference_len(setting: &Setting, reference: Option<u32>) -> u64
     }
 }
 
-/// The length of the text by no compression.
-pub fn no_compression_cost(setting: &Setting, reference: Option<u32>, block: &Block<'_>) -> u64
-    requires { IsSoundData setting.now (block_with reference block.now) }
-    ensures value { result ≡ cost setting.now (NoCompression (block_with reference block.now)) }
+/// Returns the cost of the block by no compression.
+pub fn no_compression_cost(setting: &Setting, block: &HeldBlock<'_>) -> u64
+    requires { IsSoundData setting.now block.now }
+    ensures value { result ≡ cost setting.now (NoCompression block.now) }
     ensures limit { result ≤ 2053 }
 {
     setting.id_len() as u64 + (setting.block() * setting.bits()) as u64
 }
 
-/// The length of the text by second extension.
-pub fn second_extension_cost(
-    setting: &Setting,
-    reference: Option<u32>,
-    block: &Block<'_>,
-    meter: &mut Meter,
-) -> u128
-    requires sound { IsSoundData setting.now (block_with reference block.now) }
-    requires meter { meter.old + length block.now < 2 ^ 62 }
-    ensures value { result ≡ cost setting.now (SecondExtension (block_with reference block.now)) }
+/// Returns the cost of the block by second extension.
+pub fn second_extension_cost(setting: &Setting, block: &HeldBlock<'_>, meter: &mut Meter) -> u128
+    requires sound { IsSoundData setting.now block.now }
+    requires meter { meter.old + length block.now.residuals < 2 ^ 62 }
+    ensures value { result ≡ cost setting.now (SecondExtension block.now) }
     ensures steps { meter.new ≡ meter.old + setting.now.block }
 {
     let _ = setting.block();
-    let head = setting.id_len() as u64 + 1 + reference_len(setting, reference);
-    head as u128 + block.pair_sum(meter)
+    let head = setting.id_len() as u64 + 1 + reference_len(setting, block.reference());
+    head as u128 + block.residuals().pair_sum(meter)
 }
 
-/// How many residuals a split sends: all but that at the reference place.
-pub fn coded_len(setting: &Setting, reference: Option<u32>, block: &Block<'_>) -> u32
-    requires { IsSoundData setting.now (block_with reference block.now) }
-    ensures value { result ≡ length (sent_residuals (block_with reference block.now)) }
+/// Returns the number of residuals that a split sends: all but that at the reference place.
+pub fn coded_len(setting: &Setting, block: &HeldBlock<'_>) -> u32
+    requires { IsSoundData setting.now block.now }
+    ensures value { result ≡ length (sent_residuals block.now) }
     ensures limit { result ≤ 64 }
 {
-    match reference {
+    match block.reference() {
         Some(_) => setting.block() - 1,
         None => setting.block(),
     }
 }
 
-/// The length of the text by split `k`, where `sum` is that of the residuals without their `k` lowest digits.
-pub fn split_cost(
-    setting: &Setting,
-    reference: Option<u32>,
-    block: &Block<'_>,
-    k: u32,
-    sum: u64,
-) -> u64
+/// Returns the cost of the block by split `k`, where `sum` is that of the residuals without their `k`
+/// lowest digits.
+pub fn split_cost(setting: &Setting, block: &HeldBlock<'_>, k: u32, sum: u64) -> u64
     requires split { k ≤ k_max setting.now }
-    requires sound { IsSoundData setting.now (block_with reference block.now) }
-    requires sum { sum ≡ sum_by (λ d. d / 2 ^ k) block.now }
+    requires sound { IsSoundData setting.now block.now }
+    requires sum { sum ≡ sum_by (λ d. d / 2 ^ k) block.now.residuals }
     requires few { sum ≤ 2 ^ 38 }
-    ensures value { result ≡ cost setting.now (Split k (block_with reference block.now)) }
+    ensures value { result ≡ cost setting.now (Split k block.now) }
     ensures limit { result < 2 ^ 40 }
 {
     let limit = setting.k_max();
     prove!(k <= limit);
-    let digits = coded_len(setting, reference, block) * (k + 1);
-    setting.id_len() as u64 + reference_len(setting, reference) + digits as u64 + sum
+    let digits = coded_len(setting, block) * (k + 1);
+    setting.id_len() as u64 + reference_len(setting, block.reference()) + digits as u64 + sum
 }

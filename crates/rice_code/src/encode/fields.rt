@@ -1,12 +1,15 @@
-//! The two parts of residuals that a split sends: fundamental sequences, and lowest digits.
-ghost use Rattle.std.specs.Prelude.{◌≡◌, ℕ, ◌+◌, ◌-◌, ◌*◌, ◌/◌, ◌%◌, ◌^◌, ◌<◌, ◌≤◌, ◌++◌, length, drop, sum_by, flat_map};
+//! Writing the two parts of residuals that a split sends: fundamental sequences, and lowest digits.
+ghost use Rattle.std.specs.Prelude.{◌≡◌, ℕ, ◌+◌, ◌-◌, ◌*◌, ◌/◌, ◌%◌, ◌^◌, ◌<◌, ◌≤◌, ◌++◌, length, drop, slice_range, sum_by, flat_map};
 ghost use Rattle.rice_bits.specs.Bits.{word, fundamental_sequence};
+ghost use Rattle.rice_code.specs.encode.BitBuffer.{HasRoomFor, AddsFields};
+ghost use Rattle.rice_code.specs.encode.Parts.{HasRoomForLow, AddsLow, HasRoomForHigh, AddsHigh};
 
-use crate::encode::bit_buffer::{Gathered, joined};
-use rice_bits::{BitSink, Meter};
+use crate::encode::SegmentSink;
+use crate::encode::bit_buffer::BitBuffer;
+use rice_bits::{Meter, join};
 use rice_samples::Block;
 
-/// The `width` lowest digits of a number.
+/// Returns the number of the `width` lowest digits of `value`.
 #[inline]
 fn low_digits(value: u32, width: u32) -> u64
     requires { width ≤ 32 }
@@ -16,23 +19,22 @@ fn low_digits(value: u32, width: u32) -> u64
     value as u64 % (1 << width)
 }
 
-/// The lowest digits of the residuals from number `from` on.
+/// Adds the `width` lowest digits of each residual from number `from` on.
 #[inline(always)]
 pub fn put_low(
     block: &Block<'_>,
     from: usize,
     width: u32,
-    fields: &mut Gathered,
-    sink: &mut BitSink<16432>,
+    fields: &mut BitBuffer,
+    sink: &mut SegmentSink,
     meter: &mut Meter,
 )
     requires width { width ≤ 32 }
     requires from { from ≤ length block.now }
-    requires room { length sink.old + length fields.old + (length block.now - from) * width ≤ 131456 }
-    requires meter { meter.old + length fields.old + (length block.now - from) * (width + 1) < 2 ^ 62 }
-    ensures bits { sink.new ++ fields.new ≡ sink.old ++ fields.old ++ flat_map (word width) (drop from block.now) }
-    ensures len { length sink.new + length fields.new ≡ length sink.old + length fields.old + (length block.now - from) * width }
-    ensures steps { meter.new + length fields.new ≡ meter.old + length fields.old + (length block.now - from) * (width + 1) }
+    requires room { HasRoomForLow width (length block.now - from)
+        (length sink.old + length fields.old) (meter.old + length fields.old) }
+    ensures { AddsLow width (length block.now - from) (drop from block.now)
+        sink.old fields.old sink.new fields.new meter.old meter.new }
 {
     let end = block.len();
     let fours = from + (end - from) % 4;
@@ -44,25 +46,24 @@ pub fn put_low(
     put_four_low(block, fours, width, fields, sink, meter);
 }
 
-/// The lowest digits of the residuals from number `from` up to number `to`.
+/// Adds those of residuals `from` to `to`, one at a time.
 #[inline(always)]
 fn put_each_low(
     block: &Block<'_>,
     from: usize,
     to: usize,
     width: u32,
-    fields: &mut Gathered,
-    sink: &mut BitSink<16432>,
+    fields: &mut BitBuffer,
+    sink: &mut SegmentSink,
     meter: &mut Meter,
 )
     requires width { width ≤ 32 }
     requires from { from ≤ to }
     requires to { to ≤ length block.now }
-    requires room { length sink.old + length fields.old + (length block.now - from) * width ≤ 131456 }
-    requires meter { meter.old + length fields.old + (length block.now - from) * (width + 1) < 2 ^ 62 }
-    ensures bits { (sink.new ++ fields.new) ++ flat_map (word width) (drop to block.now) ≡ sink.old ++ fields.old ++ flat_map (word width) (drop from block.now) }
-    ensures len { length sink.new + length fields.new + (length block.now - to) * width ≡ length sink.old + length fields.old + (length block.now - from) * width }
-    ensures steps { meter.new + length fields.new + (length block.now - to) * (width + 1) ≡ meter.old + length fields.old + (length block.now - from) * (width + 1) }
+    requires room { HasRoomForLow width (to - from)
+        (length sink.old + length fields.old) (meter.old + length fields.old) }
+    ensures { AddsLow width (to - from) (slice_range block.now from to)
+        sink.old fields.old sink.new fields.new meter.old meter.new }
 {
     for i in from..to {
         let residual = block.at(i, meter);
@@ -70,24 +71,23 @@ fn put_each_low(
     }
 }
 
-/// The lowest digits of the residuals from number `from` on, four at a time.
+/// Adds those of the residuals from number `from` on, four at a time.
 #[inline(always)]
 fn put_four_low(
     block: &Block<'_>,
     from: usize,
     width: u32,
-    fields: &mut Gathered,
-    sink: &mut BitSink<16432>,
+    fields: &mut BitBuffer,
+    sink: &mut SegmentSink,
     meter: &mut Meter,
 )
     requires width { width ≤ 14 }
     requires from { from ≤ length block.now }
     requires fours { (length block.now - from) % 4 ≡ 0 }
-    requires room { length sink.old + length fields.old + (length block.now - from) * width ≤ 131456 }
-    requires meter { meter.old + length fields.old + (length block.now - from) * (width + 1) < 2 ^ 62 }
-    ensures bits { sink.new ++ fields.new ≡ sink.old ++ fields.old ++ flat_map (word width) (drop from block.now) }
-    ensures len { length sink.new + length fields.new ≡ length sink.old + length fields.old + (length block.now - from) * width }
-    ensures steps { meter.new + length fields.new ≡ meter.old + length fields.old + (length block.now - from) * (width + 1) }
+    requires room { HasRoomForLow width (length block.now - from)
+        (length sink.old + length fields.old) (meter.old + length fields.old) }
+    ensures { AddsLow width (length block.now - from) (drop from block.now)
+        sink.old fields.old sink.new fields.new meter.old meter.new }
 {
     for i in 0..(block.len() - from) / 4 {
         let four = block.four_at(from + 4 * i, meter);
@@ -95,24 +95,23 @@ fn put_four_low(
     }
 }
 
-/// The lowest digits of the residuals from number `from` on, where four of them are more than a put takes.
+/// Adds those of the residuals from number `from` on, two at a time: four may be more than a buffer holds.
 #[inline(always)]
 fn put_four_wide(
     block: &Block<'_>,
     from: usize,
     width: u32,
-    fields: &mut Gathered,
-    sink: &mut BitSink<16432>,
+    fields: &mut BitBuffer,
+    sink: &mut SegmentSink,
     meter: &mut Meter,
 )
     requires width { width ≤ 32 }
     requires from { from ≤ length block.now }
     requires fours { (length block.now - from) % 4 ≡ 0 }
-    requires room { length sink.old + length fields.old + (length block.now - from) * width ≤ 131456 }
-    requires meter { meter.old + length fields.old + (length block.now - from) * (width + 1) < 2 ^ 62 }
-    ensures bits { sink.new ++ fields.new ≡ sink.old ++ fields.old ++ flat_map (word width) (drop from block.now) }
-    ensures len { length sink.new + length fields.new ≡ length sink.old + length fields.old + (length block.now - from) * width }
-    ensures steps { meter.new + length fields.new ≡ meter.old + length fields.old + (length block.now - from) * (width + 1) }
+    requires room { HasRoomForLow width (length block.now - from)
+        (length sink.old + length fields.old) (meter.old + length fields.old) }
+    ensures { AddsLow width (length block.now - from) (drop from block.now)
+        sink.old fields.old sink.new fields.new meter.old meter.new }
 {
     for i in 0..(block.len() - from) / 4 {
         let (a, b, c, d) = block.four_at(from + 4 * i, meter);
@@ -121,27 +120,25 @@ fn put_four_wide(
     }
 }
 
-/// Puts the bits that wait, and adds the lowest digits of two numbers.
+/// Puts the bits of the buffer, and adds the lowest digits of two numbers.
 #[inline(always)]
 fn put_wide_pair(
     pair: (u32, u32),
     width: u32,
-    fields: &mut Gathered,
-    sink: &mut BitSink<16432>,
+    fields: &mut BitBuffer,
+    sink: &mut SegmentSink,
     meter: &mut Meter,
 )
     requires width { width ≤ 32 }
-    requires room { length sink.old + length fields.old + 2 * width ≤ 131456 }
-    requires meter { meter.old + length fields.old + 2 * width < 2 ^ 62 }
-    ensures bits { sink.new ++ fields.new ≡ sink.old ++ fields.old ++ (word width pair.0 ++ word width pair.1) }
-    ensures len { length sink.new + length fields.new ≡ length sink.old + length fields.old + 2 * width }
-    ensures steps { meter.new + length fields.new ≡ meter.old + length fields.old + 2 * width }
+    requires room { HasRoomFor (2 * width) (2 * width) (length sink.old + length fields.old) (meter.old + length fields.old) }
+    ensures { AddsFields (word width pair.0 ++ word width pair.1) (2 * width) (2 * width)
+        sink.old fields.old sink.new fields.new meter.old meter.new }
 {
     let first = low_digits(pair.0, width);
     let second = low_digits(pair.1, width);
     fields.put(sink, meter);
     if width <= 28 {
-        fields.add(joined(first, width, second), 2 * width, sink, meter);
+        fields.add(join(first, width, second), 2 * width, sink, meter);
         return;
     }
     fields.add(first, width, sink, meter);
@@ -149,7 +146,7 @@ fn put_wide_pair(
     fields.add(second, width, sink, meter);
 }
 
-/// The lowest digits of four numbers, one behind the other.
+/// Returns the number whose digits are the lowest digits of four numbers, one after the other.
 #[inline(always)]
 fn four_low(four: (u32, u32, u32, u32), width: u32) -> u64
     requires { width ≤ 14 }
@@ -160,28 +157,27 @@ fn four_low(four: (u32, u32, u32, u32), width: u32) -> u64
     let second = low_digits(four.1, width);
     let third = low_digits(four.2, width);
     let last = low_digits(four.3, width);
-    let two = joined(first, width, second);
-    let three = joined(two, width, third);
-    joined(three, width, last)
+    let two = join(first, width, second);
+    let three = join(two, width, third);
+    join(three, width, last)
 }
 
-/// The fundamental sequences of the residuals from number `from` on, without their `k` lowest digits.
+/// Adds the fundamental sequences of the residuals from number `from` on, without their `k` lowest digits.
 #[inline(always)]
 pub fn put_high(
     block: &Block<'_>,
     from: usize,
     k: u32,
-    fields: &mut Gathered,
-    sink: &mut BitSink<16432>,
+    fields: &mut BitBuffer,
+    sink: &mut SegmentSink,
     meter: &mut Meter,
 )
     requires split { k ≤ 29 }
     requires from { from ≤ length block.now }
-    requires room { length sink.old + length fields.old + (length block.now - from) + sum_by (λ d. d / 2 ^ k) (drop from block.now) ≤ 131456 }
-    requires meter { meter.old + length fields.old + 2 * (length block.now - from) + sum_by (λ d. d / 2 ^ k) (drop from block.now) < 2 ^ 62 }
-    ensures bits { sink.new ++ fields.new ≡ sink.old ++ fields.old ++ flat_map (λ d. fundamental_sequence (d / 2 ^ k)) (drop from block.now) }
-    ensures len { length sink.new + length fields.new ≡ length sink.old + length fields.old + (length block.now - from) + sum_by (λ d. d / 2 ^ k) (drop from block.now) }
-    ensures steps { meter.new + length fields.new ≡ meter.old + length fields.old + 2 * (length block.now - from) + sum_by (λ d. d / 2 ^ k) (drop from block.now) }
+    requires room { HasRoomForHigh k (length block.now - from) (drop from block.now)
+        (length sink.old + length fields.old) (meter.old + length fields.old) }
+    ensures { AddsHigh k (length block.now - from) (drop from block.now)
+        sink.old fields.old sink.new fields.new meter.old meter.new }
 {
     let end = block.len();
     let fours = from + (end - from) % 4;
@@ -189,25 +185,24 @@ pub fn put_high(
     put_four_high(block, fours, k, fields, sink, meter);
 }
 
-/// The same of the residuals from number `from` up to number `to`.
+/// Adds those of residuals `from` to `to`, one at a time.
 #[inline(always)]
 fn put_each_high(
     block: &Block<'_>,
     from: usize,
     to: usize,
     k: u32,
-    fields: &mut Gathered,
-    sink: &mut BitSink<16432>,
+    fields: &mut BitBuffer,
+    sink: &mut SegmentSink,
     meter: &mut Meter,
 )
     requires split { k ≤ 29 }
     requires from { from ≤ to }
     requires to { to ≤ length block.now }
-    requires room { length sink.old + length fields.old + (length block.now - from) + sum_by (λ d. d / 2 ^ k) (drop from block.now) ≤ 131456 }
-    requires meter { meter.old + length fields.old + 2 * (length block.now - from) + sum_by (λ d. d / 2 ^ k) (drop from block.now) < 2 ^ 62 }
-    ensures bits { (sink.new ++ fields.new) ++ flat_map (λ d. fundamental_sequence (d / 2 ^ k)) (drop to block.now) ≡ sink.old ++ fields.old ++ flat_map (λ d. fundamental_sequence (d / 2 ^ k)) (drop from block.now) }
-    ensures len { length sink.new + length fields.new + (length block.now - to) + sum_by (λ d. d / 2 ^ k) (drop to block.now) ≡ length sink.old + length fields.old + (length block.now - from) + sum_by (λ d. d / 2 ^ k) (drop from block.now) }
-    ensures steps { meter.new + length fields.new + 2 * (length block.now - to) + sum_by (λ d. d / 2 ^ k) (drop to block.now) ≡ meter.old + length fields.old + 2 * (length block.now - from) + sum_by (λ d. d / 2 ^ k) (drop from block.now) }
+    requires room { HasRoomForHigh k (to - from) (slice_range block.now from to)
+        (length sink.old + length fields.old) (meter.old + length fields.old) }
+    ensures { AddsHigh k (to - from) (slice_range block.now from to)
+        sink.old fields.old sink.new fields.new meter.old meter.new }
 {
     for i in from..to {
         let residual = block.at(i, meter);
@@ -215,24 +210,23 @@ fn put_each_high(
     }
 }
 
-/// The same of the residuals from number `from` on, four at a time.
+/// Adds those of the residuals from number `from` on, four at a time.
 #[inline(always)]
 fn put_four_high(
     block: &Block<'_>,
     from: usize,
     k: u32,
-    fields: &mut Gathered,
-    sink: &mut BitSink<16432>,
+    fields: &mut BitBuffer,
+    sink: &mut SegmentSink,
     meter: &mut Meter,
 )
     requires split { k ≤ 29 }
     requires from { from ≤ length block.now }
     requires fours { (length block.now - from) % 4 ≡ 0 }
-    requires room { length sink.old + length fields.old + (length block.now - from) + sum_by (λ d. d / 2 ^ k) (drop from block.now) ≤ 131456 }
-    requires meter { meter.old + length fields.old + 2 * (length block.now - from) + sum_by (λ d. d / 2 ^ k) (drop from block.now) < 2 ^ 62 }
-    ensures bits { sink.new ++ fields.new ≡ sink.old ++ fields.old ++ flat_map (λ d. fundamental_sequence (d / 2 ^ k)) (drop from block.now) }
-    ensures len { length sink.new + length fields.new ≡ length sink.old + length fields.old + (length block.now - from) + sum_by (λ d. d / 2 ^ k) (drop from block.now) }
-    ensures steps { meter.new + length fields.new ≡ meter.old + length fields.old + 2 * (length block.now - from) + sum_by (λ d. d / 2 ^ k) (drop from block.now) }
+    requires room { HasRoomForHigh k (length block.now - from) (drop from block.now)
+        (length sink.old + length fields.old) (meter.old + length fields.old) }
+    ensures { AddsHigh k (length block.now - from) (drop from block.now)
+        sink.old fields.old sink.new fields.new meter.old meter.new }
 {
     for i in 0..(block.len() - from) / 4 {
         let (a, b, c, d) = block.four_at(from + 4 * i, meter);

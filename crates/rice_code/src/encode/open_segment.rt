@@ -1,20 +1,21 @@
 //! The segment that a coder fills.
 ghost use Rattle.std.specs.Prelude.{◌≡◌, ℕ, ◌+◌, ◌-◌, ◌*◌, ◌/◌, ◌^◌, ◌<◌, ◌≤◌, ◌↔◌, ◌++◌, List, [], length, replicate, sum_by, if◌then◌else◌, ◌==◌, ◌&&◌, Some, None, false, IsTrue, All};
 ghost use Rattle.rice_bits.specs.Bits.{bits_to_byte};
-ghost use Rattle.rice_samples.specs.Parameters.{IsLegal, IsSample, id_len, k_max};
+ghost use Rattle.rice_samples.specs.Parameters.{IsLegal, IsSample};
 ghost use Rattle.rice_samples.specs.Places.{blocks_left};
 ghost use Rattle.rice_samples.specs.predict.Residuals.{pattern, rank};
-ghost use Rattle.rice_code.specs.code.CodedDataSets.{bits_of_set};
-ghost use Rattle.rice_code.specs.code.SoundBlocks.{AreSoundBlocks};
-ghost use Rattle.rice_code.specs.Steps.{least_looks, most_looks};
-ghost use Rattle.rice_code.specs.encode.OpenSegment.{IsWhole, empty_state, state_after, state_after_all, later_residuals, state_with_fill, fill_count, state_after_segment, blocks_held, contents_held, sets_held, code_held, is_first};
+ghost use Rattle.rice_code.specs.Steps.{coding_steps};
+ghost use Rattle.rice_code.specs.encode.OpenSegment.{IsWhole, empty_state, state_after, state_after_all, later_residuals, state_with_fill, fill_count, state_after_segment, HoldsSoundBlocks, CodesHeld, is_first};
 
+use crate::encode::SegmentSink;
 use crate::encode::blocks::code_blocks;
-use rice_bits::{BitSink, Meter};
+use rice_bits::Meter;
 use rice_samples::{Segment, Setting, pattern, residual};
 use std::marker::Model;
 
-/// The residuals of a segment that is not coded yet, and what is known of it. Clauses see all of this.
+/// The residuals of a segment that is not coded yet, and what is known of it.
+///
+/// In contracts its value is all of this but the length at which the segment is whole.
 #[derive(Drop)]
 pub struct OpenSegment {
     setting: Setting,
@@ -25,7 +26,7 @@ pub struct OpenSegment {
     previous: i64,
     /// The place in its interval of its first block.
     start: u32,
-    /// How many residuals it has when it is whole.
+    /// The number of residuals that make it whole.
     end: usize,
 }
 
@@ -40,7 +41,7 @@ impl Model for OpenSegment {
 }
 
 impl OpenSegment {
-    /// The first segment, without residuals.
+    /// Returns the first segment, without residuals.
     pub fn new(setting: Setting) -> Self
         ensures { result ≡ empty_state setting }
     {
@@ -55,7 +56,7 @@ impl OpenSegment {
         }
     }
 
-    /// How many residuals there are.
+    /// Returns the number of residuals.
     #[inline]
     pub fn len(&self) -> usize
         ensures value { result ≡ length self.now.residuals }
@@ -64,7 +65,7 @@ impl OpenSegment {
         self.residuals.len()
     }
 
-    /// How many more residuals make the segment whole.
+    /// Returns the number of residuals that the segment still takes.
     #[inline]
     pub fn room(&self) -> usize
         ensures { result + length self.now.residuals ≡ self.now.setting.block * blocks_left self.now.setting self.now.start }
@@ -72,7 +73,7 @@ impl OpenSegment {
         self.end - self.residuals.len()
     }
 
-    /// Whether the residuals make the segment whole.
+    /// Returns whether the residuals make the segment whole.
     #[inline]
     pub fn is_whole(&self) -> bool
         ensures { IsTrue result ↔ IsWhole self.now }
@@ -80,7 +81,7 @@ impl OpenSegment {
         self.residuals.len() == self.end
     }
 
-    /// Whether there are no residuals, and a reference interval begins.
+    /// Returns whether there are no residuals, and a reference interval begins.
     #[inline]
     fn is_first(&self) -> bool
         ensures { result ≡ is_first self.now }
@@ -88,7 +89,7 @@ impl OpenSegment {
         self.residuals.len() == 0 && self.start == 0
     }
 
-    /// Whether the next sample is a reference sample.
+    /// Returns whether the next sample is a reference sample.
     #[inline]
     fn is_reference_next(&self) -> bool
         ensures { result ≡ (self.now.setting.preprocess && is_first self.now) }
@@ -110,7 +111,7 @@ impl OpenSegment {
         self.previous = x;
     }
 
-    /// Adds the residuals of the samples, which the segment has room for.
+    /// Adds the residuals of `samples`, for which the segment has room.
     pub fn hold_all(&mut self, samples: &[i64])
         requires samples { All (IsSample self.old.setting) samples.now }
         requires room { length self.old.residuals + length samples.now ≤ self.old.setting.block * blocks_left self.old.setting self.old.start }
@@ -144,8 +145,8 @@ impl OpenSegment {
     /// Fills the last block by repeating the last sample, a step for each.
     pub fn fill(&mut self, meter: &mut Meter)
         requires { meter.old + 64 < 2 ^ 62 }
-        ensures value { self.new ≡ state_with_fill self.old (fill_count self.old) }
-        ensures steps { meter.new ≡ meter.old + fill_count self.old }
+        ensures value { self.new ≡ state_with_fill self.old (fill_count self.old.setting (length self.old.residuals)) }
+        ensures steps { meter.new ≡ meter.old + fill_count self.old.setting (length self.old.residuals) }
     {
         let size = self.setting.block() as usize;
         let count = (size - self.residuals.len() % size) % size;
@@ -154,16 +155,13 @@ impl OpenSegment {
         push_copies(&mut self.residuals, residual, count, meter);
     }
 
-    /// Appends the code of its blocks, with the padding of the interval that they end. Answers how many bits that are, padding aside.
-    pub fn code(&self, sink: &mut BitSink<16432>, meter: &mut Meter) -> u64
-        requires sound { AreSoundBlocks self.now.setting self.now.start (contents_held self.now) }
-        requires blocks { length self.now.residuals ≡ self.now.setting.block * blocks_held self.now }
+    /// Appends the code of its blocks, with the padding of the interval that they end. Returns the
+    /// number of its bits, padding aside.
+    pub fn code(&self, sink: &mut SegmentSink, meter: &mut Meter) -> u64
+        requires blocks { HoldsSoundBlocks self.now }
         requires room { length sink.old ≤ 7 }
-        requires meter { meter.old + 64 * (id_len self.now.setting + self.now.setting.block * (self.now.setting.bits + k_max self.now.setting + 5)) < 2 ^ 62 }
-        ensures bits { sink.new ≡ sink.old ++ code_held self.now (length sink.old) }
-        ensures count { result ≡ sum_by (λ d. length (bits_of_set self.now.setting d)) (sets_held self.now) }
-        ensures steps_from { meter.old + sum_by (λ d. length (bits_of_set self.now.setting d)) (sets_held self.now) + sum_by (least_looks self.now.setting) (contents_held self.now) ≤ meter.new }
-        ensures steps_to { meter.new ≤ meter.old + sum_by (λ d. length (bits_of_set self.now.setting d)) (sets_held self.now) + sum_by (most_looks self.now.setting) (contents_held self.now) }
+        requires meter { meter.old + coding_steps self.now.setting < 2 ^ 62 }
+        ensures { CodesHeld self.now sink.old sink.new result meter.old meter.new }
     {
         let setting = &self.setting;
         let blocks = blocks_of(setting, self.residuals.len());
@@ -195,11 +193,12 @@ impl OpenSegment {
     }
 }
 
-/// How many whole blocks so many residuals make. Division by a size that the compiler knows is a shift.
+/// Returns the number of whole blocks that `len` residuals make.
 #[inline]
 fn blocks_of(setting: &Setting, len: usize) -> usize
     ensures { result ≡ len / setting.now.block }
 {
+    // Division by a size that the compiler knows is a shift.
     match setting.block() {
         8 => len / 8,
         16 => len / 16,
@@ -208,7 +207,7 @@ fn blocks_of(setting: &Setting, len: usize) -> usize
     }
 }
 
-/// The residuals of a segment from its block with this place in its interval on.
+/// Returns the number of residuals of a segment from its block at place `start` of the interval on.
 fn residuals_from(setting: &Setting, start: u32) -> usize
     ensures value { result ≡ setting.now.block * blocks_left setting.now start }
     ensures limit { result ≤ 4096 }
@@ -217,7 +216,7 @@ fn residuals_from(setting: &Setting, start: u32) -> usize
     (setting.block() * setting.blocks_left(start as u64)) as usize
 }
 
-/// The place of the block behind the segment of the block with this place.
+/// Returns the place of the first block after the segment that has a block at place `start`.
 fn next_start(setting: &Setting, start: u32) -> u32
     requires { start ≤ 4096 }
     ensures { result ≡ (if start + blocks_left setting.now start == setting.now.interval then 0 else start + blocks_left setting.now start) }
@@ -226,7 +225,7 @@ fn next_start(setting: &Setting, start: u32) -> u32
     if next == setting.interval() { 0 } else { next }
 }
 
-/// The residual of `x` behind `previous`: 0 for the first sample of an interval.
+/// Returns the residual of `x` after `previous`: 0 for the first sample of an interval.
 #[inline]
 fn next_residual(setting: &Setting, first: bool, previous: i64, x: i64) -> u32
     requires before { IsSample setting.now previous }
@@ -254,7 +253,7 @@ fn note_reference(setting: &Setting, first: bool, reference: &mut Option<u32>, x
     }
 }
 
-/// Adds the residuals of samples behind `previous` that are not the first of an interval.
+/// Adds the residuals of samples after `previous`, none of which is the first of an interval.
 fn push_later(setting: &Setting, previous: i64, samples: &[i64], segment: &mut Segment)
     requires before { IsSample setting.now previous }
     requires samples { All (IsSample setting.now) samples.now }
@@ -268,8 +267,8 @@ fn push_later(setting: &Setting, previous: i64, samples: &[i64], segment: &mut S
     }
 }
 
-/// Fills the last byte with zeros if an interval ends with so many blocks, and intervals are padded.
-fn pad_interval(setting: &Setting, blocks: usize, sink: &mut BitSink<16432>)
+/// Fills the last byte with zeros if an interval ends after `blocks` blocks, and intervals are padded.
+fn pad_interval(setting: &Setting, blocks: usize, sink: &mut SegmentSink)
     ensures { sink.new ≡ sink.old ++ replicate (if setting.now.pad && blocks == setting.now.interval then bits_to_byte (length sink.old) else 0) false }
 {
     if setting.pads() && blocks == setting.interval() as usize {
@@ -277,7 +276,7 @@ fn pad_interval(setting: &Setting, blocks: usize, sink: &mut BitSink<16432>)
     }
 }
 
-/// Adds one residual several times, a step for each.
+/// Adds `count` copies of a residual, a step for each.
 fn push_copies(segment: &mut Segment, residual: u32, count: usize, meter: &mut Meter)
     requires room { length segment.old + count ≤ 4096 }
     requires meter { meter.old + count < 2 ^ 62 }

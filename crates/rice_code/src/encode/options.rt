@@ -1,39 +1,45 @@
-//! The texts of blocks and runs.
+//! Writing coded data sets: a block by each option, and runs of zero blocks.
 ghost use Rattle.std.specs.Prelude.{◌≡◌, ℕ, ◌+◌, ◌-◌, ◌*◌, ◌/◌, ◌%◌, ◌^◌, ◌<◌, ◌≤◌, ◌++◌, List, length, drop, sum_by, flat_map, IfSome};
 ghost use Rattle.rice_bits.specs.Bits.{word, fundamental_sequence};
 ghost use Rattle.rice_samples.specs.Parameters.{k_max, value_count};
 ghost use Rattle.rice_samples.specs.blocks.Pairs.{pair_code, pair_codes};
-ghost use Rattle.rice_code.specs.code.CodedDataSets.{NoCompression, SecondExtension, Split, cost, bits_of_set, sent_from, reference_bits, reference_len};
-ghost use Rattle.rice_code.specs.encode.HeldBlocks.{run_of_blocks, zeros_of_run};
-ghost use Rattle.rice_code.specs.code.SoundBlocks.{block_with, IsSoundData};
+ghost use Rattle.rice_code.specs.code.CodedDataSets.{NoCompression, SecondExtension, Split, cost, bits_of_set, sent_residuals, reference_bits, reference_len};
+ghost use Rattle.rice_code.specs.encode.BitBuffer.{sink_bits, HasRoomFor, AddsFields, HasRoomForSet, PutsSet};
+ghost use Rattle.rice_code.specs.encode.Parts.{pairs_len};
+ghost use Rattle.rice_code.specs.code.Runs.{run_of_blocks};
+ghost use Rattle.rice_code.specs.encode.HeldBlocks.{zeros_of_run};
+ghost use Rattle.rice_code.specs.code.SoundBlocks.{IsSoundData};
 ghost use Rattle.rice_code.specs.encode.Chosen.{chosen_set, IsSplitWithin};
 
-use crate::encode::bit_buffer::Gathered;
+use crate::encode::SegmentSink;
+use crate::encode::bit_buffer::BitBuffer;
 use crate::encode::fields::{put_high, put_low};
+use crate::encode::held_block::HeldBlock;
 use crate::encode::search::Choice;
-use rice_bits::{BitSink, Meter};
+use rice_bits::Meter;
 use rice_samples::{Block, Setting};
 
-/// The `width` digits of an identifier, with the flag behind it where it has one, and the reference, if there is one.
+/// Begins a coded data set: returns a buffer after the `width` digits of its identifier, with the flag
+/// after it where there is one, and the reference, if there is one.
 #[inline(always)]
 fn begin(
     setting: &Setting,
     identifier: u32,
     width: u32,
     reference: Option<u32>,
-    sink: &mut BitSink<16432>,
+    sink: &mut SegmentSink,
     meter: &mut Meter,
-) -> Gathered
+) -> BitBuffer
     requires width { width ≤ 32 }
     requires identifier { identifier < 2 ^ width }
     requires fits { IfSome reference (λ v. v < value_count setting.now) }
-    requires room { length sink.old + width + reference_len setting.now reference ≤ 131456 }
-    requires meter { meter.old + width + reference_len setting.now reference < 2 ^ 62 }
+    requires room { HasRoomFor (width + reference_len setting.now reference)
+        (width + reference_len setting.now reference) (length sink.old) meter.old }
     ensures bits { sink.new ++ result ≡ sink.old ++ word width identifier ++ reference_bits setting.now reference }
     ensures len { length sink.new + length result ≡ length sink.old + width + reference_len setting.now reference }
     ensures steps { meter.new + length result ≡ meter.old + width + reference_len setting.now reference }
 {
-    let mut fields = Gathered::new();
+    let mut fields = BitBuffer::new();
     fields.add(identifier as u64, width, sink, meter);
     if let Some(v) = reference {
         fields.add(v as u64, setting.bits(), sink, meter);
@@ -42,25 +48,25 @@ fn begin(
     fields
 }
 
-/// The number that stands for a pair whose codeword fits a sink.
+/// Returns the number of the codeword of a pair, where the codeword fits a sink.
 #[inline]
 fn codeword_of(a: u32, b: u32) -> u32
-    requires { pair_code a b ≤ 131456 }
+    requires { pair_code a b ≤ sink_bits }
     ensures { result ≡ pair_code a b }
 {
     let sum = a as u64 + b as u64;
     (sum * (sum + 1) / 2) as u32 + b
 }
 
-/// The fundamental sequences of the pairs.
+/// Adds the codewords of the pairs.
 #[inline(always)]
-fn put_pairs(block: &Block<'_>, fields: &mut Gathered, sink: &mut BitSink<16432>, meter: &mut Meter)
+fn put_pairs(block: &Block<'_>, fields: &mut BitBuffer, sink: &mut SegmentSink, meter: &mut Meter)
     requires even { length block.now % 2 ≡ 0 }
-    requires room { length sink.old + length fields.old + sum_by (λ g. g + 1) (pair_codes block.now) ≤ 131456 }
-    requires meter { meter.old + length fields.old + length block.now + sum_by (λ g. g + 1) (pair_codes block.now) < 2 ^ 62 }
-    ensures bits { sink.new ++ fields.new ≡ sink.old ++ fields.old ++ flat_map fundamental_sequence (pair_codes block.now) }
-    ensures len { length sink.new + length fields.new ≡ length sink.old + length fields.old + sum_by (λ g. g + 1) (pair_codes block.now) }
-    ensures steps { meter.new + length fields.new ≡ meter.old + length fields.old + length block.now + sum_by (λ g. g + 1) (pair_codes block.now) }
+    requires room { HasRoomFor (pairs_len block.now) (length block.now + pairs_len block.now)
+        (length sink.old + length fields.old) (meter.old + length fields.old) }
+    ensures { AddsFields (flat_map fundamental_sequence (pair_codes block.now))
+        (pairs_len block.now) (length block.now + pairs_len block.now)
+        sink.old fields.old sink.new fields.new meter.old meter.new }
 {
     for i in 0..block.len() / 2 {
         let a = block.at(2 * i, meter);
@@ -69,138 +75,124 @@ fn put_pairs(block: &Block<'_>, fields: &mut Gathered, sink: &mut BitSink<16432>
     }
 }
 
-/// How many residuals are not coded: that at the reference place, where there is one.
-fn first_coded(reference: Option<u32>) -> usize
-    ensures coded { (ds : List ℕ) → sent_from reference ds ≡ drop result ds }
+/// Returns the number of residuals that are not sent: that at the reference place, where there is one.
+fn first_coded(block: &HeldBlock<'_>) -> usize
+    ensures coded { sent_residuals block.now ≡ drop result block.now.residuals }
     ensures limit { result ≤ 1 }
 {
-    match reference {
+    match block.reference() {
         Some(_) => 1,
         None => 0,
     }
 }
 
-/// The text by no compression.
+/// Appends the block, coded by no compression.
 fn put_no_compression(
     setting: &Setting,
-    reference: Option<u32>,
-    block: &Block<'_>,
-    sink: &mut BitSink<16432>,
+    block: &HeldBlock<'_>,
+    sink: &mut SegmentSink,
     meter: &mut Meter,
 )
-    requires sound { IsSoundData setting.now (block_with reference block.now) }
-    requires room { length sink.old + cost setting.now (NoCompression (block_with reference block.now)) ≤ 131456 }
-    requires meter { meter.old + cost setting.now (NoCompression (block_with reference block.now)) + 2 * setting.now.block < 2 ^ 62 }
-    ensures bits { sink.new ≡ sink.old ++ bits_of_set setting.now (NoCompression (block_with reference block.now)) }
-    ensures len { length sink.new ≡ length sink.old + cost setting.now (NoCompression (block_with reference block.now)) }
-    ensures steps_from { meter.old + cost setting.now (NoCompression (block_with reference block.now)) + setting.now.block ≤ meter.new + 1 }
-    ensures steps_to { meter.new ≤ meter.old + cost setting.now (NoCompression (block_with reference block.now)) + 2 * setting.now.block }
+    requires sound { IsSoundData setting.now block.now }
+    requires room { HasRoomForSet setting.now (NoCompression block.now) (2 * setting.now.block) sink.old meter.old }
+    ensures { PutsSet setting.now (NoCompression block.now) (setting.now.block - 1) (2 * setting.now.block)
+        sink.old sink.new meter.old meter.new }
 {
+    let residuals = block.residuals();
     let id = setting.id_len();
-    let from = first_coded(reference);
+    let from = first_coded(block);
     let bits = setting.bits();
     let _block = setting.block();
-    let mut fields = begin(setting, (1 << id) - 1, id, reference, sink, meter);
-    put_low(block, from, bits, &mut fields, sink, meter);
+    let mut fields = begin(setting, (1 << id) - 1, id, block.reference(), sink, meter);
+    put_low(residuals, from, bits, &mut fields, sink, meter);
     fields.put(sink, meter);
 }
 
-/// The text by second extension.
+/// Appends the block, coded by second extension.
 fn put_second_extension(
     setting: &Setting,
-    reference: Option<u32>,
-    block: &Block<'_>,
-    sink: &mut BitSink<16432>,
+    block: &HeldBlock<'_>,
+    sink: &mut SegmentSink,
     meter: &mut Meter,
 )
-    requires sound { IsSoundData setting.now (block_with reference block.now) }
-    requires room { length sink.old + cost setting.now (SecondExtension (block_with reference block.now)) ≤ 131456 }
-    requires meter { meter.old + cost setting.now (SecondExtension (block_with reference block.now)) + 2 * setting.now.block < 2 ^ 62 }
-    ensures bits { sink.new ≡ sink.old ++ bits_of_set setting.now (SecondExtension (block_with reference block.now)) }
-    ensures len { length sink.new ≡ length sink.old + cost setting.now (SecondExtension (block_with reference block.now)) }
-    ensures steps { meter.new ≡ meter.old + cost setting.now (SecondExtension (block_with reference block.now)) + setting.now.block }
+    requires sound { IsSoundData setting.now block.now }
+    requires room { HasRoomForSet setting.now (SecondExtension block.now) (2 * setting.now.block) sink.old meter.old }
+    ensures { PutsSet setting.now (SecondExtension block.now) setting.now.block setting.now.block
+        sink.old sink.new meter.old meter.new }
 {
+    let residuals = block.residuals();
     let id = setting.id_len();
     let _block = setting.block();
-    let mut fields = begin(setting, 1, id + 1, reference, sink, meter);
-    put_pairs(block, &mut fields, sink, meter);
+    let mut fields = begin(setting, 1, id + 1, block.reference(), sink, meter);
+    put_pairs(residuals, &mut fields, sink, meter);
     fields.put(sink, meter);
 }
 
-/// The text by split `k`.
+/// Appends the block, coded by split `k`.
 fn put_split(
     setting: &Setting,
     k: u32,
-    reference: Option<u32>,
-    block: &Block<'_>,
-    sink: &mut BitSink<16432>,
+    block: &HeldBlock<'_>,
+    sink: &mut SegmentSink,
     meter: &mut Meter,
 )
-    requires sound { IsSoundData setting.now (block_with reference block.now) }
+    requires sound { IsSoundData setting.now block.now }
     requires split { k ≤ k_max setting.now }
-    requires room { length sink.old + cost setting.now (Split k (block_with reference block.now)) ≤ 131456 }
-    requires meter { meter.old + cost setting.now (Split k (block_with reference block.now)) + 2 * setting.now.block < 2 ^ 62 }
-    ensures bits { sink.new ≡ sink.old ++ bits_of_set setting.now (Split k (block_with reference block.now)) }
-    ensures len { length sink.new ≡ length sink.old + cost setting.now (Split k (block_with reference block.now)) }
-    ensures steps_from { meter.old + cost setting.now (Split k (block_with reference block.now)) + setting.now.block ≤ meter.new + 1 }
-    ensures steps_to { meter.new ≤ meter.old + cost setting.now (Split k (block_with reference block.now)) + 2 * setting.now.block }
+    requires room { HasRoomForSet setting.now (Split k block.now) (2 * setting.now.block) sink.old meter.old }
+    ensures { PutsSet setting.now (Split k block.now) (setting.now.block - 1) (2 * setting.now.block)
+        sink.old sink.new meter.old meter.new }
 {
+    let residuals = block.residuals();
     let id = setting.id_len();
-    let from = first_coded(reference);
+    let from = first_coded(block);
     let _limit = setting.k_max();
     let _block = setting.block();
-    let mut fields = begin(setting, k + 1, id, reference, sink, meter);
-    put_high(block, from, k, &mut fields, sink, meter);
+    let mut fields = begin(setting, k + 1, id, block.reference(), sink, meter);
+    put_high(residuals, from, k, &mut fields, sink, meter);
     if k == 0 {
         fields.put(sink, meter);
         return;
     }
-    put_low(block, from, k, &mut fields, sink, meter);
+    put_low(residuals, from, k, &mut fields, sink, meter);
     fields.put(sink, meter);
 }
 
-/// The text of a block by an option.
+/// Appends the block, coded by `choice`.
 pub fn put_block(
     setting: &Setting,
     choice: Choice,
-    reference: Option<u32>,
-    block: &Block<'_>,
-    sink: &mut BitSink<16432>,
+    block: &HeldBlock<'_>,
+    sink: &mut SegmentSink,
     meter: &mut Meter,
 )
-    requires sound { IsSoundData setting.now (block_with reference block.now) }
+    requires sound { IsSoundData setting.now block.now }
     requires split { IsSplitWithin (k_max setting.now) choice }
-    requires room { length sink.old + cost setting.now (chosen_set choice (block_with reference block.now)) ≤ 131456 }
-    requires meter { meter.old + cost setting.now (chosen_set choice (block_with reference block.now)) + 2 * setting.now.block < 2 ^ 62 }
-    ensures bits { sink.new ≡ sink.old ++ bits_of_set setting.now (chosen_set choice (block_with reference block.now)) }
-    ensures len { length sink.new ≡ length sink.old + cost setting.now (chosen_set choice (block_with reference block.now)) }
-    ensures steps_from { meter.old + cost setting.now (chosen_set choice (block_with reference block.now)) + setting.now.block ≤ meter.new + 1 }
-    ensures steps_to { meter.new ≤ meter.old + cost setting.now (chosen_set choice (block_with reference block.now)) + 2 * setting.now.block }
+    requires room { HasRoomForSet setting.now (chosen_set choice block.now) (2 * setting.now.block) sink.old meter.old }
+    ensures { PutsSet setting.now (chosen_set choice block.now) (setting.now.block - 1) (2 * setting.now.block)
+        sink.old sink.new meter.old meter.new }
 {
     match choice {
-        Choice::NoCompression => put_no_compression(setting, reference, block, sink, meter),
-        Choice::SecondExtension => put_second_extension(setting, reference, block, sink, meter),
-        Choice::Split(k) => put_split(setting, k, reference, block, sink, meter),
+        Choice::NoCompression => put_no_compression(setting, block, sink, meter),
+        Choice::SecondExtension => put_second_extension(setting, block, sink, meter),
+        Choice::Split(k) => put_split(setting, k, block, sink, meter),
     }
 }
 
-/// The text of a run of zero blocks: of `z` blocks, or of all blocks that are left in the segment.
+/// Appends a run of `z` zero blocks, which reaches the end of the segment, or of the last segment, where
+/// `to_end` is true.
 pub fn put_run(
     setting: &Setting,
     reference: Option<u32>,
     z: u32,
     to_end: bool,
-    sink: &mut BitSink<16432>,
+    sink: &mut SegmentSink,
     meter: &mut Meter,
 )
     requires blocks { 1 ≤ z }
     requires few { z ≤ 64 }
     requires fits { IfSome reference (λ v. v < value_count setting.now) }
-    requires room { length sink.old + cost setting.now (run_of_blocks to_end reference z) ≤ 131456 }
-    requires meter { meter.old + cost setting.now (run_of_blocks to_end reference z) < 2 ^ 62 }
-    ensures bits { sink.new ≡ sink.old ++ bits_of_set setting.now (run_of_blocks to_end reference z) }
-    ensures len { length sink.new ≡ length sink.old + cost setting.now (run_of_blocks to_end reference z) }
-    ensures steps { meter.new ≡ meter.old + cost setting.now (run_of_blocks to_end reference z) }
+    requires room { HasRoomForSet setting.now (run_of_blocks to_end reference z) 0 sink.old meter.old }
+    ensures { PutsSet setting.now (run_of_blocks to_end reference z) 0 0 sink.old sink.new meter.old meter.new }
 {
     let id = setting.id_len();
     let mut fields = begin(setting, 0, id + 1, reference, sink, meter);
@@ -208,7 +200,7 @@ pub fn put_run(
     sink.put_fs(sent_zeros(z, to_end), meter);
 }
 
-/// The zeros of the codeword of a run.
+/// Returns the number of zeros of the codeword of a run.
 fn sent_zeros(z: u32, to_end: bool) -> u64
     requires { 1 ≤ z }
     ensures value { result ≡ zeros_of_run to_end z }

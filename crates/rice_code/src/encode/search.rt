@@ -1,16 +1,17 @@
-//! The search for the shortest text.
+//! The search for the option that codes a block in the fewest bits.
 ghost use Rattle.std.specs.Prelude.{◌≡◌, ℕ, ◌+◌, ◌*◌, ◌^◌, ◌<◌, ◌≤◌, min, length};
 ghost use Rattle.rice_samples.specs.Parameters.{k_max};
 ghost use Rattle.rice_code.specs.code.CodedDataSets.{Split, cost};
 ghost use Rattle.rice_code.specs.code.Choice.{shortest, IsBestSplit, best_split};
-ghost use Rattle.rice_code.specs.code.SoundBlocks.{block_with, IsSoundData};
+ghost use Rattle.rice_code.specs.code.SoundBlocks.{IsSoundData};
 ghost use Rattle.rice_code.specs.encode.Chosen.{chosen_set, IsSplitWithin};
 
 use crate::encode::cost::{coded_len, no_compression_cost, second_extension_cost, split_cost};
+use crate::encode::held_block::HeldBlock;
 use rice_bits::Meter;
-use rice_samples::{Block, Setting};
+use rice_samples::Setting;
 
-/// An option for a block.
+/// The option by which a block is coded.
 #[derive(Clone, Copy)]
 pub enum Choice {
     NoCompression,
@@ -18,43 +19,34 @@ pub enum Choice {
     Split(u32),
 }
 
-/// The smallest of the best splits, and its length.
-pub fn best_split(
-    setting: &Setting,
-    reference: Option<u32>,
-    block: &Block<'_>,
-    meter: &mut Meter,
-) -> (u32, u64)
-    requires sound { IsSoundData setting.now (block_with reference block.now) }
+/// Returns the smallest `k` of minimal cost, and that cost.
+pub fn best_split(setting: &Setting, block: &HeldBlock<'_>, meter: &mut Meter) -> (u32, u64)
+    requires sound { IsSoundData setting.now block.now }
     requires meter { meter.old + setting.now.block * (k_max setting.now + 1) < 2 ^ 62 }
-    ensures best { IsBestSplit setting.now (block_with reference block.now) result.0 }
-    ensures named { best_split setting.now (block_with reference block.now) ≡ result.0 }
-    ensures value { result.1 ≡ cost setting.now (Split result.0 (block_with reference block.now)) }
+    ensures best { IsBestSplit setting.now block.now result.0 }
+    ensures named { best_split setting.now block.now ≡ result.0 }
+    ensures value { result.1 ≡ cost setting.now (Split result.0 block.now) }
     ensures steps { meter.new ≡ meter.old + setting.now.block * (min (result.0 + 1) (k_max setting.now) + 1) }
 {
-    let coded = coded_len(setting, reference, block);
-    let (k, sum) = block.first_stop(setting.k_max(), coded as u64, meter);
-    (k, split_cost(setting, reference, block, k, sum))
+    let coded = coded_len(setting, block);
+    let residuals = block.residuals();
+    let (k, sum) = residuals.first_stop(setting.k_max(), coded as u64, meter);
+    (k, split_cost(setting, block, k, sum))
 }
 
-/// The option of least length.
-pub fn choose(
-    setting: &Setting,
-    reference: Option<u32>,
-    block: &Block<'_>,
-    meter: &mut Meter,
-) -> Choice
-    requires sound { IsSoundData setting.now (block_with reference block.now) }
+/// Returns the option of minimal cost.
+pub fn choose(setting: &Setting, block: &HeldBlock<'_>, meter: &mut Meter) -> Choice
+    requires sound { IsSoundData setting.now block.now }
     requires meter { meter.old + setting.now.block * (k_max setting.now + 2) < 2 ^ 62 }
-    ensures value { chosen_set result (block_with reference block.now) ≡ shortest setting.now (block_with reference block.now) }
-    ensures steps_from { meter.old + setting.now.block * (best_split setting.now (block_with reference block.now) + 2) ≤ meter.new }
-    ensures steps_to { meter.new ≤ meter.old + setting.now.block * (best_split setting.now (block_with reference block.now) + 3) }
+    ensures value { chosen_set result block.now ≡ shortest setting.now block.now }
+    ensures steps_from { meter.old + setting.now.block * (best_split setting.now block.now + 2) ≤ meter.new }
+    ensures steps_to { meter.new ≤ meter.old + setting.now.block * (best_split setting.now block.now + 3) }
     ensures steps_limit { meter.new ≤ meter.old + setting.now.block * (k_max setting.now + 2) }
     ensures split { IsSplitWithin (k_max setting.now) result }
 {
     let _block = setting.block();
-    let (k, split) = best_split(setting, reference, block, meter);
-    let no_compression = no_compression_cost(setting, reference, block);
+    let (k, split) = best_split(setting, block, meter);
+    let no_compression = no_compression_cost(setting, block);
     // Residuals that are worth a split are so large that second extension is longer.
     if 0 < k && k < setting.k_max() {
         if split < no_compression {
@@ -62,7 +54,7 @@ pub fn choose(
         }
         return Choice::NoCompression;
     }
-    let second_extension = second_extension_cost(setting, reference, block, meter);
+    let second_extension = second_extension_cost(setting, block, meter);
     let no_compression = no_compression as u128;
     let split = split as u128;
     if second_extension < no_compression {

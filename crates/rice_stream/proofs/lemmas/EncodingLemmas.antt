@@ -14,9 +14,8 @@ use Rattle.rice_samples.specs.Parameters.{Parameters, IsSample, width}
 use Rattle.rice_samples.specs.Places.{block_count, cut}
 use Rattle.rice_samples.specs.predict.Residuals.{filled_samples}
 use Rattle.rice_samples.specs.bytes.Spelling.{spellings}
-use Rattle.rice_code.specs.encode.Coder.{HasTaken, IsAlignedWith, AppendsCode, complete_samples, complete_code, fill_samples}
+use Rattle.rice_code.specs.encode.Coder.{HasTaken, IsAlignedWith, AddsCode, PushesSamples, CompletesNone, complete_samples, complete_code, fill_samples}
 use Rattle.rice_code.specs.encode.OpenSegment.{CoderState}
-use Rattle.rice_code.specs.encode.Coder.{AppendsRest as FinishesCode}
 use Rattle.rice_code.specs.code.Code.{code, code_bits, early_output}
 use Rattle.rice_code.specs.Steps.{least_looks, most_looks, least_looks_at, most_looks_at, least_steps, most_steps, segment_steps}
 use Rattle.rice_code.proofs.lemmas.encode.PushedCode.{segment_steps_few}
@@ -60,37 +59,33 @@ pub sink_short : (s : Parameters) (old now : Option (List ℕ)) (e : Encoding) (
 sink_short s old now e xs h = omega (arith, ap length h.sink, length-drop (bits_in_bytes (length (complete_code s xs))) (complete_code s xs))
 
 -- the sink stands at the place in a byte where the code does
-pub sink_place : (s : Parameters) (old now : Option (List ℕ)) (e : Encoding) (xs : List ℤ) → IsEncodingOf s old now e xs → IsAlignedWith e.coder.setting xs e.sink
-sink_place s old now e xs h =
-    let in_place : IsAlignedWith s xs e.sink = λ pads. (let n = ap length h.sink in let m = length-drop (bits_in_bytes (length (complete_code s xs))) (complete_code s xs) in omega arith) in
-    subst (λ (t : Parameters). IsAlignedWith t xs e.sink) (sym h.counts.setting) in_place
-
--- How bits and steps grow when the samples xs become ys, so many more.
-pub record Tally (s : Parameters) (xs ys : List ℤ) (more meter meter_new count count_new : ℕ) : Type 0 where
-  pub least : meter + more + least_steps s (complete_samples s ys) ≤ meter_new + least_steps s (complete_samples s xs)
-  pub most : meter_new + most_steps s (complete_samples s xs) ≤ meter + more + most_steps s (complete_samples s ys)
-  pub bits : count_new + code_bits s (complete_samples s xs) ≡ count + code_bits s (complete_samples s ys)
+pub sink_place : (s : Parameters) (old now : Option (List ℕ)) (e : Encoding) (xs : List ℤ) → IsEncodingOf s old now e xs → IsAlignedWith s (complete_samples s xs) e.sink
+sink_place s old now e xs h pads =
+    let n = ap length h.sink in
+    let m = length-drop (bits_in_bytes (length (complete_code s xs))) (complete_code s xs) in
+    omega arith
 
 -- samples are taken
-pub taken_on : (s : Parameters) (old now : Option (List ℕ)) (e f : Encoding) (xs ys : List ℤ) → IsEncodingOf s old now e xs →
-    f.coder.setting ≡ e.coder.setting → HasTaken f.coder (xs ++ ys) → AppendsCode e.coder.setting xs (xs ++ ys) e.sink f.sink → Tally e.coder.setting xs (xs ++ ys) (length ys) e.meter f.meter e.bits f.bits →
-    f.samples ≡ e.samples + length ys → ((m : ℕ) → m < length ys → complete_samples e.coder.setting (xs ++ take m ys) ≡ complete_samples e.coder.setting xs) → TakesSamples s f xs ys
-taken_on s old now e f xs ys h setting stands completes tally samples before =
-    let t = subst (λ (t : Parameters). Tally t xs (xs ++ ys) (length ys) e.meter f.meter e.bits f.bits) h.counts.setting tally in
-    let k = subst (λ (t : Parameters). AppendsCode t xs (xs ++ ys) e.sink f.sink) h.counts.setting completes in
+pub taken_on : (s : Parameters) (old now : Option (List ℕ)) (e f : Encoding) (xs ys : List ℤ) (n : ℕ) → IsEncodingOf s old now e xs →
+    PushesSamples e.coder f.coder ys e.sink f.sink n e.meter f.meter → f.bits ≡ e.bits + n → f.samples ≡ e.samples + length ys → ((m : ℕ) → m < length ys → CompletesNone e.coder (take m ys)) → TakesSamples s f xs ys
+taken_on s old now e f xs ys n h pushes bits samples before =
+    let stands = h.counts.stands in
+    let adds : AddsCode s (complete_samples s xs) (complete_samples s (xs ++ ys)) e.sink f.sink n (length ys) e.meter f.meter =
+    subst (λ (t : Parameters). AddsCode t (complete_samples t xs) (complete_samples t (xs ++ ys)) e.sink f.sink n (length ys) e.meter f.meter) h.counts.setting (pushes.adds xs stands) in
+    let k = adds.code_is (sink_place s old now e xs h) in
     let part = whole_part (complete_code s xs) in
     let c = length-append xs ys in
     record {
       counts = record {
-        setting = setting ∙ h.counts.setting;
-        stands = stands;
+        setting = pushes.setting ∙ h.counts.setting;
+        stands = pushes.taken xs stands;
         samples = omega (arith, samples, h.counts.samples, c);
-        bits = omega (arith, t.bits, h.counts.bits);
-        least = omega (arith, t.least, h.counts.least, c);
-        most = omega (arith, t.most, h.counts.most, c);
+        bits = omega (arith, bits, adds.bits, h.counts.bits);
+        least = omega (arith, adds.steps.least, h.counts.least, c);
+        most = omega (arith, adds.steps.most, h.counts.most, c);
       };
       code_is = k.completes ∙ ap (λ l. l ++ k.bits) (sym (joined s old now e xs h)) ∙ append_assoc part e.sink k.bits ∙ ap (λ l. part ++ l) (sym k.appended);
-      before_last = subst (λ (t : Parameters). (m : ℕ) → m < length ys → complete_samples t (xs ++ take m ys) ≡ complete_samples t xs) h.counts.setting before;
+      before_last = λ m lt. subst (λ (t : Parameters). complete_samples t (xs ++ take m ys) ≡ complete_samples t xs) h.counts.setting (before m lt xs stands);
     }
 
 -- nothing is whole
@@ -202,28 +197,22 @@ sets_nothing s j =
     let most : most_looks_at s [] ≡ 0 = ap (λ n. sum_by (most_looks s) (blocks_from s 0 (pos 0) n (filled_samples s (pos 0) []))) none in
     (bits, omega (arith, bits, least), omega (arith, bits, most))
 
--- How bits and steps grow at the end of the samples.
-pub record Total (s : Parameters) (xs : List ℤ) (meter meter_new count count_new : ℕ) : Type 0 where
-  pub least : meter + fill_samples s xs + least_steps s xs ≤ meter_new + least_steps s (complete_samples s xs)
-  pub most : meter_new + most_steps s (complete_samples s xs) ≤ meter + fill_samples s xs + most_steps s xs
-  pub bits : count_new + code_bits s (complete_samples s xs) ≡ count + code_bits s xs
-
 -- the end of the samples
-pub closed : (s : Parameters) (old now : Option (List ℕ)) (e : Encoding) (r : Report) (sink end : List Bool) (xs : List ℤ) → IsEncodingOf s old now e xs →
-    FinishesCode e.coder.setting xs e.sink sink → Total e.coder.setting xs e.meter r.steps e.bits r.bits → r.samples ≡ e.samples → end ≡ sink ++ replicate (bits_to_byte (length sink)) false →
+pub closed : (s : Parameters) (old now : Option (List ℕ)) (e : Encoding) (r : Report) (sink end : List Bool) (xs : List ℤ) (n : ℕ) → IsEncodingOf s old now e xs →
+    AddsCode e.coder.setting (complete_samples e.coder.setting xs) xs e.sink sink n (fill_samples e.coder.setting xs) e.meter r.steps → r.bits ≡ e.bits + n → r.samples ≡ e.samples → end ≡ sink ++ replicate (bits_to_byte (length sink)) false →
     ReportsAll s r xs × (padded_bits (code s xs) ≡ whole_part (complete_code s xs) ++ end)
-closed s old now e r sink end xs h finishes total samples fill =
-    let t = subst (λ (t : Parameters). Total t xs e.meter r.steps e.bits r.bits) h.counts.setting total in
-    let k = subst (λ (t : Parameters). FinishesCode t xs e.sink sink) h.counts.setting finishes in
+closed s old now e r sink end xs n h finishes bits samples fill =
+    let t : AddsCode s (complete_samples s xs) xs e.sink sink n (fill_samples s xs) e.meter r.steps = subst (λ (t : Parameters). AddsCode t (complete_samples t xs) xs e.sink sink n (fill_samples t xs) e.meter r.steps) h.counts.setting finishes in
+    let k = t.code_is (sink_place s old now e xs h) in
     let part = whole_part (complete_code s xs) in
     let all : part ++ sink ≡ code s xs = ap (λ l. part ++ l) k.appended ∙ sym (append_assoc part e.sink k.bits) ∙ ap (λ l. l ++ k.bits) (joined s old now e xs h) ∙ sym k.completes in
     let size : length (code s xs) ≡ length part + length sink = ap length (sym all) ∙ length-append part sink in
     let gap : bits_to_byte (length sink) ≡ bits_to_byte (length (code s xs)) = omega (arith, size, length-part (complete_code s xs)) in (
       record {
         samples = samples ∙ h.counts.samples;
-        bits = omega (arith, t.bits, h.counts.bits);
-        least = omega (arith, t.least, h.counts.least);
-        most = omega (arith, t.most, h.counts.most);
+        bits = omega (arith, bits, t.bits, h.counts.bits);
+        least = omega (arith, t.steps.least, h.counts.least);
+        most = omega (arith, t.steps.most, h.counts.most);
       },
       (λ i. sym all i ++ replicate (sym gap i) false) ∙ append_assoc part sink (replicate (bits_to_byte (length sink)) false) ∙ ap (λ l. part ++ l) (sym fill),
     )

@@ -21,7 +21,7 @@ use Rattle.rice_code.proofs.lemmas.meaning.Covers.{bool_cases, both}
 use Rattle.rice_code.proofs.lemmas.code.Filling.{last_append}
 use Rattle.rice_code.proofs.lemmas.code.SegmentPlaces.{place_inside}
 
--- the next residual and the reference behind it
+-- the next residual and the reference after it
 first_reference : (s : Parameters) (b : ℕ) → 1 ≤ s.block → is_reference_sample s (s.block * b + 0) ≡ is_reference s b
 first_reference s b j =
     let e : s.block * b + 0 ≡ s.block * b = omega arith in
@@ -157,7 +157,7 @@ none : (v : Bool) → (v && false) ≡ false
 none true = refl
 none false = refl
 
--- the reference behind it
+-- the reference after it
 the_reference : (coder : CoderState) (b : ℕ) (held : List ℤ) (p x : ℤ) → place coder.setting b ≡ coder.start → coder.residuals ≡ residuals coder.setting (coder.setting.block * b) p held →
     coder.reference ≡ reference_in coder.setting b held → next_reference coder x ≡ reference_in coder.setting b (held ++ x ∷ [])
 the_reference coder b [] p x e f g =

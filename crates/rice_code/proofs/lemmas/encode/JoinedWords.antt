@@ -7,8 +7,8 @@ use Rattle.rice_bits.proofs.lemmas.bits.EightBytes.{word-mod}
 use Rattle.rice_bits.proofs.lemmas.bits.Words.{length-word, word-cat, join_below}
 use Rattle.rice_code.specs.encode.BitBuffer.{IsShort}
 
-pub gathered_len : (width value : ℕ) (bits : List Bool) → word width value ≡ bits → length bits ≡ width
-gathered_len width value bits e = sym (ap length e) ∙ length-word width value
+pub length-word_is : (width value : ℕ) (bits : List Bool) → word width value ≡ bits → length bits ≡ width
+length-word_is width value bits e = sym (ap length e) ∙ length-word width value
 
 -- one field more
 pub more_fields : (width value more digits joined total : ℕ) → IsShort width value → digits < 2 ^ more → width + more ≤ 56 → joined ≡ value * 2 ^ more + digits → total ≡ width + more → IsShort total joined
@@ -29,12 +29,12 @@ one_fits m = let e : 2 ^ (m + 1) ≡ 2 ^ m * 2 = pow-add 2 m 1 in let some : 0 <
 pub low_word : (w d l : ℕ) → l ≡ d % 2 ^ w → word w l ≡ word w d
 low_word w d l e = ap (word w) e ∙ word-mod w w d (omega arith)
 
--- one number more behind a number
+-- one number more after a number
 pub joined_fits : (width more v l all : ℕ) → v < 2 ^ width → l < 2 ^ more → all ≡ v * 2 ^ more + l → all < 2 ^ (width + more)
 joined_fits width more v l all h k e = let b = join_below width more v l h k in omega (arith, b, e)
 
-pub joined_small : (width more v l : ℕ) → v < 2 ^ width → l < 2 ^ more → width + more ≤ 56 → v * 2 ^ more + l < 2 ^ 64
-joined_small width more v l h k few =
+pub high_small : (width more v l : ℕ) → v < 2 ^ width → l < 2 ^ more → width + more ≤ 56 → v * 2 ^ more < 2 ^ 64
+high_small width more v l h k few =
     let le : 2 ^ (width + more) ≤ 2 ^ 56 = pow-le-pow_right {n = 2} (omega arith) {i = width + more} {j = 56} few in
     omega (arith, le, join_below width more v l h k)
 

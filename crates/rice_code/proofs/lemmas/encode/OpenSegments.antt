@@ -1,5 +1,6 @@
 -- What an open segment holds, and the room that its code takes.
-use Rattle.std.proofs.Common.{◌≡◌, ℕ, suc, ◌+◌, ◌-◌, ◌*◌, ◌/◌, ◌%◌, ◌^◌, ◌<◌, ◌≤◌, ◌==◌, Bool, false, cond, ◌&&◌, List, ◌++◌, length, replicate, ap, arith, sym, ◌∙◌, inl, inr, append_assoc, length-append}
+use Rattle.std.proofs.Common.{◌≡◌, ℕ, suc, ◌+◌, ◌-◌, ◌*◌, ◌/◌, ◌%◌, ◌^◌, ◌<◌, ◌≤◌, ◌==◌, Bool, false, cond, ◌&&◌, List, ◌++◌, length, replicate, subst, ap, arith, sym, ◌∙◌, inl, inr, append_assoc, length-append}
+use Rattle.std.specs.Prelude.{sum_by}
 use Rattle.std.proofs.lemmas.Bool.{cases_lt}
 use Rattle.std.proofs.lemmas.Bool.Decides.{nat_tests}
 use Rattle.std.proofs.lemmas.List.Concat.{length-flat_map}
@@ -10,10 +11,11 @@ use Rattle.rice_samples.specs.Places.{place, blocks_left}
 use Rattle.rice_samples.proofs.lemmas.setting.Levels.{zero_is_sample}
 use Rattle.rice_samples.proofs.lemmas.setting.PlaceLemmas.{some_left}
 use Rattle.rice_code.specs.code.Code.{data_sets}
-use Rattle.rice_code.specs.encode.OpenSegment.{CoderState, IsOpen, empty_state, state_after_segment, next_start, blocks_held, contents_held, sets_held, code_held}
+use Rattle.rice_code.specs.encode.OpenSegment.{CoderState, IsOpen, empty_state, state_after_segment, next_start, blocks_held, contents_held, sets_held, code_held, HoldsSoundBlocks, CodesHeld}
 use Rattle.rice_code.specs.code.CodedDataSets.{bits_of_set, bits_of_sets}
-use Rattle.rice_code.specs.encode.HeldBlocks.{held_blocks}
+use Rattle.rice_code.specs.encode.HeldBlocks.{held_blocks, code_of_blocks, PutsBlocks}
 use Rattle.rice_code.specs.code.SoundBlocks.{AreSoundBlocks}
+use Rattle.rice_code.specs.Steps.{least_looks, most_looks}
 use Rattle.rice_code.proofs.lemmas.cost.BlockBounds.{bounded, block_bits}
 use Rattle.rice_code.proofs.lemmas.code.SegmentLayouts.{code_lies}
 use Rattle.rice_code.proofs.lemmas.code.SegmentPlaces.{begins_next, next_start_is}
@@ -37,7 +39,7 @@ segment_meter n i j bits k m len h e f =
     let b : n * (i + j * bits + j * (k + 5)) ≡ n * (i + j * bits) + n * (j * (k + 5)) = omega arith in
     omega (arith, a, b, p, e, f)
 
--- the fill stays in the segment
+-- the fill stays_open in the segment
 pub fill_inside : (n j left : ℕ) → 1 ≤ j → n < j * left → n + (j - n % j) % j ≤ j * left
 fill_inside n j left h k =
     let d = div-add-mod n j in
@@ -83,22 +85,42 @@ few_blocks coder end h whole =
     ]
 
 -- what is put is the code of what is held
-pub code_is_held : (coder : CoderState) (count end : ℕ) (old put new : List Bool) → count ≡ blocks_held coder → IsOpen coder end → AreSoundBlocks coder.setting coder.start (contents_held coder) → length coder.residuals ≡ coder.setting.block * blocks_held coder →
+pub code_is_held : (coder : CoderState) (count end : ℕ) (old put new : List Bool) → count ≡ blocks_held coder → IsOpen coder end → HoldsSoundBlocks coder →
     put ≡ old ++ bits_of_sets coder.setting (data_sets coder.setting coder.start false (held_blocks coder.setting coder.reference count coder.residuals)) →
     new ≡ put ++ replicate (cond (coder.setting.pad && coder.start + count == coder.setting.interval) (bits_to_byte (length put)) 0) false → new ≡ old ++ code_held coder (length old)
-code_is_held coder count end old put new e h sound whole f g =
+code_is_held coder count end old put new e h blocks f g =
     let s = coder.setting in
     let n = blocks_held coder in
     let texts = bits_of_sets s (sets_held coder) in
     let f' : put ≡ old ++ texts = f ∙ ap (λ m. old ++ bits_of_sets s (data_sets s coder.start false (held_blocks s coder.reference m coder.residuals))) e in
     let len : length put ≡ length old + length texts = ap length f' ∙ length-append old texts in
     let pad = λ (m bits : ℕ). replicate (cond (s.pad && coder.start + m == s.interval) (bits_to_byte bits) 0) false in
-    let lies = code_lies s coder.start (length old) n (contents_held coder) (held_len s coder.reference n coder.residuals) h.legal h.place sound (few_blocks coder end h whole).0 in
+    let lies = code_lies s coder.start (length old) n (contents_held coder) (held_len s coder.reference n coder.residuals) h.legal h.place blocks.sound (few_blocks coder end h blocks.whole).0 in
     g ∙ ((λ i. f' i ++ pad (e i) (len i)) ∙ (append_assoc old texts (pad n (length old + length texts)) ∙ ap (λ v. old ++ v) lies))
 
--- behind a whole segment
-pub emptied_open : (coder : CoderState) (end next : ℕ) → IsOpen coder end → next ≡ coder.setting.block * blocks_left coder.setting (next_start coder) → IsOpen (state_after_segment coder) next
-emptied_open coder end next h e =
+-- so this is what the call does
+pub codes_held : (coder value : CoderState) (count end : ℕ) (old put new : List Bool) (n m0 m1 : ℕ) → coder ≡ value → count ≡ blocks_held coder → IsOpen coder end → HoldsSoundBlocks value →
+    PutsBlocks coder.setting coder.start (held_blocks coder.setting coder.reference count coder.residuals) old put m0 m1 →
+    new ≡ put ++ replicate (cond (coder.setting.pad && coder.start + count == coder.setting.interval) (bits_to_byte (length put)) 0) false →
+    n ≡ length put - length old → CodesHeld value old new n m0 m1
+codes_held coder value count end old put new n m0 m1 same e h sound puts g len =
+    let s = coder.setting in
+    let blocks : HoldsSoundBlocks coder = subst HoldsSoundBlocks (sym same) sound in
+    let texts = ap (λ m. length (code_of_blocks s coder.start (held_blocks s coder.reference m coder.residuals))) e ∙ length-flat_map (bits_of_set s) (sets_held coder) in
+    let put_len = ap length puts.bits in
+    let both = length-append old (code_of_blocks s coder.start (held_blocks s coder.reference count coder.residuals)) in
+    let few = ap (λ m. sum_by (least_looks s) (held_blocks s coder.reference m coder.residuals)) e in
+    let many = ap (λ m. sum_by (most_looks s) (held_blocks s coder.reference m coder.residuals)) e in
+    subst (λ v. CodesHeld v old new n m0 m1) same (record {
+      code_is = code_is_held coder count end old put new e h blocks puts.bits g;
+      bits = omega (arith, len, put_len, both, texts);
+      least = omega (arith, texts, few, puts.steps_from);
+      most = omega (arith, texts, many, puts.steps_to);
+    })
+
+-- after a whole segment
+pub next_is_open : (coder : CoderState) (end next : ℕ) → IsOpen coder end → next ≡ coder.setting.block * blocks_left coder.setting (next_start coder) → IsOpen (state_after_segment coder) next
+next_is_open coder end next h e =
     let s = coder.setting in
     let r = h.legal.interval_from in
     let b = coder.start + blocks_left s coder.start in
@@ -117,8 +139,8 @@ emptied_open coder end next h e =
     }
 
 -- a first segment
-pub empty_open : (s : Parameters) (end : ℕ) → IsLegal s → end ≡ s.block * blocks_left s 0 → IsOpen (empty_state s) end
-empty_open s end legal e =
+pub first_is_open : (s : Parameters) (end : ℕ) → IsLegal s → end ≡ s.block * blocks_left s 0 → IsOpen (empty_state s) end
+first_is_open s end legal e =
     let lt : 0 < s.interval = omega (arith, legal.interval_from) in
     let first : place s 0 ≡ 0 = mod-eq_of_lt lt in
     record {

@@ -1,12 +1,13 @@
 -- The texts of blocks, piece by piece.
-use Rattle.std.proofs.Common.{◌≡◌, ℕ, zero, suc, ◌+◌, ◌-◌, ◌*◌, ◌<◌, Bool, true, false, cond, ◌&&◌, nat_le, List, [], ◌∷◌, ◌++◌, length, drop, get_or, refl, ap, arith, sym, ◌∙◌, append_assoc, append-nil, Option}
+use Rattle.std.proofs.Common.{◌≡◌, ℕ, zero, suc, ◌+◌, ◌-◌, ◌*◌, ◌/◌, ◌^◌, ◌<◌, Bool, true, false, cond, ◌&&◌, nat_le, List, [], ◌∷◌, ◌++◌, length, drop, get_or, refl, ap, arith, sym, ◌∙◌, append_assoc, append-nil, Option}
 use Rattle.std.specs.Prelude.{flat_map, sum_by}
 use Rattle.std.proofs.lemmas.List.{length-drop, drop_more}
 use Rattle.std.proofs.lemmas.List.Sums.{sum_by-cons}
 use Rattle.rice_samples.specs.Parameters.{Parameters, id_len}
 use Rattle.rice_samples.specs.blocks.Pairs.{pair_code, pair_codes}
 use Rattle.rice_code.specs.code.CodedDataSets.{bits_of_set, cost, reference_bits, reference_len, run_number, ZeroBlocks, RemainderOfSegment}
-use Rattle.rice_code.specs.encode.HeldBlocks.{run_of_blocks, zeros_of_run}
+use Rattle.rice_code.specs.code.Runs.{run_of_blocks}
+use Rattle.rice_code.specs.encode.HeldBlocks.{zeros_of_run}
 use Rattle.rice_bits.specs.Bits.{word, fundamental_sequence}
 use Rattle.rice_bits.proofs.lemmas.bits.Words.{word-fs, word-zero, word-cat, word-nil}
 
@@ -37,13 +38,22 @@ four sink head ref high low = simp append_assoc
 pub three : (sink head ref body : List Bool) → sink ++ head ++ ref ++ body ≡ sink ++ (head ++ (ref ++ body))
 three sink head ref body = simp append_assoc
 
--- one fewer to go
-pub one_fewer : (n i w : ℕ) → i < n → (n - i) * w ≡ (n - (i + 1)) * w + w
-one_fewer n i w h = let e : n - i ≡ suc (n - (i + 1)) = omega arith in ap (λ k. k * w) e ∙ (omega arith)
+-- The residuals rs that are sent from number `from` on, in numbers: how many, their digits, and the parts above these.
+pub record SentResiduals (sent rs : List ℕ) (from w k : ℕ) : Type 0 where
+  pub count : length sent ≡ length rs - from
+  pub digits : length sent * w ≡ (length rs - from) * w
+  pub parts : sum_by (λ d. d / 2 ^ k) sent ≡ sum_by (λ d. d / 2 ^ k) (drop from rs)
+  pub bits : (f : ℕ → List Bool) → flat_map f (drop from rs) ≡ flat_map f sent
 
--- the coded residuals, counted
-pub coded_len : (ds es : List ℕ) (from w : ℕ) → es ≡ drop from ds → length es * w ≡ (length ds - from) * w
-coded_len ds es from w e = ap (λ n. n * w) (ap length e ∙ length-drop from ds)
+pub sent_are : (sent ds rs : List ℕ) (from w k : ℕ) → sent ≡ drop from ds → rs ≡ ds → SentResiduals sent rs from w k
+sent_are sent ds rs from w k coded same =
+    let e : sent ≡ drop from rs = coded ∙ ap (drop from) (sym same) in
+    record {
+      count = ap length e ∙ length-drop from rs;
+      digits = ap (λ n. n * w) (ap length e ∙ length-drop from rs);
+      parts = ap (sum_by (λ d. d / 2 ^ k)) e;
+      bits = λ f. ap (flat_map f) (sym e);
+    }
 
 -- the text of a run, and its length
 pub run_text : (s : Parameters) (to_end : Bool) (r : Option ℕ) (z : ℕ) → bits_of_set s (run_of_blocks to_end r z) ≡ word (id_len s) 0 ++ false ∷ (reference_bits s r ++ fundamental_sequence (zeros_of_run to_end z))

@@ -11,7 +11,8 @@ use Rattle.rice_code.specs.code.CodedDataSets.{CodedDataSet, ZeroBlocks, Remaind
 use Rattle.rice_code.specs.code.Code.{data_sets}
 use Rattle.rice_code.specs.code.Runs.{zero_run, run_len}
 use Rattle.rice_code.specs.code.Choice.{shortest}
-use Rattle.rice_code.specs.encode.HeldBlocks.{run_of_blocks, pending_zeros, pending_run, held_blocks, reference_at}
+use Rattle.rice_code.specs.code.Runs.{run_of_blocks}
+use Rattle.rice_code.specs.encode.HeldBlocks.{pending_zeros, pending_run, held_blocks, reference_at}
 use Rattle.rice_code.specs.code.SoundBlocks.{block_with, AreSoundBlocks}
 use Rattle.rice_code.proofs.lemmas.meaning.Covers.{bool_cases, skipped, run_cons, skipped_go, skipped_plain, skipped_nil, skipped_stop, data_sets_inside, data_sets_start, data_sets_plain}
 
@@ -107,9 +108,9 @@ replicate_push zero x xs = refl
 replicate_push (suc n) x xs = ap (λ l. x ∷ l) (replicate_push n x xs)
 
 -- one more zero block waits
-pub one_waits : (s : Parameters) (run : ℕ) (r q : Option ℕ) (c : BlockData) (cs : List BlockData) → c ≡ zero_block s q → (run ≡ 0 → q ≡ r) → (0 < run → q ≡ None) → pending_zeros s r run ++ c ∷ cs ≡ pending_zeros s r (run + 1) ++ cs
-one_waits s zero r q c cs e f g = ap (λ c. c ∷ cs) (e ∙ ap (zero_block s) (f refl))
-one_waits s (suc w) r q c cs e f g =
+pub zero_block_joins_run : (s : Parameters) (run : ℕ) (r q : Option ℕ) (c : BlockData) (cs : List BlockData) → c ≡ zero_block s q → (run ≡ 0 → q ≡ r) → (0 < run → q ≡ None) → pending_zeros s r run ++ c ∷ cs ≡ pending_zeros s r (run + 1) ++ cs
+zero_block_joins_run s zero r q c cs e f g = ap (λ c. c ∷ cs) (e ∙ ap (zero_block s) (f refl))
+zero_block_joins_run s (suc w) r q c cs e f g =
     let h : zero_block s r ∷ (replicate w (zero_block s None) ++ c ∷ cs) ≡ zero_block s r ∷ (zero_block s None ∷ (replicate w (zero_block s None) ++ cs)) =
     ap (λ c. zero_block s r ∷ (replicate w (zero_block s None) ++ c ∷ cs)) (e ∙ ap (zero_block s) (g (omega arith))) ∙ ap (λ l. zero_block s r ∷ l) (replicate_push w (zero_block s None) cs) in
     let n : suc (suc w) ≡ suc w + 1 = omega arith in

@@ -1,5 +1,5 @@
--- What a coder stands for, and the code that a push or the end completes.
-use Rattle.std.proofs.Common.{◌≡◌, ℕ, suc, ◌+◌, ◌-◌, ◌*◌, ◌/◌, ◌%◌, ◌^◌, ◌<◌, ◌≤◌, ◌==◌, min, Bool, true, false, List, [], ◌∷◌, ◌++◌, length, take, replicate, refl, ap, arith, sym, ◌∙◌, inl, inr, subst, append_assoc, append-nil, length-append, None, ℤ, pos}
+-- The samples that a coder has taken, and the code that a push or the end completes.
+use Rattle.std.proofs.Common.{◌≡◌, ℕ, suc, ◌+◌, ◌-◌, ◌*◌, ◌/◌, ◌%◌, ◌<◌, ◌≤◌, ◌==◌, min, Bool, true, false, List, [], ◌∷◌, ◌++◌, length, take, replicate, refl, ap, arith, sym, ◌∙◌, inl, inr, subst, append_assoc, append-nil, length-append, None, ℤ, pos}
 use Rattle.std.specs.Prelude.{sum_by}
 use Rattle.std.specs.List.{AllByRecursion}
 use Rattle.std.specs.Int.{next_multiple_of}
@@ -17,13 +17,13 @@ use Rattle.rice_samples.proofs.lemmas.predict.ResidualLemmas.{length-residuals}
 use Rattle.rice_samples.proofs.lemmas.setting.Levels.{zero_is_sample}
 use Rattle.rice_code.specs.code.Blocks.{BlockData, blocks_from, blocks_of}
 use Rattle.rice_code.specs.code.Code.{code, code_bits, data_sets}
-use Rattle.rice_code.specs.encode.Coder.{HasCodedBefore, HasTaken, IsCoder, IsAlignedWith, AppendsCode, AppendsRest, complete_samples, complete_code, fill_samples}
-use Rattle.rice_code.specs.encode.OpenSegment.{CoderState, IsWhole, next_residual, empty_state, state_after, state_with_fill, fill_count, state_after_segment, next_start, blocks_held, contents_held, sets_held, code_held, is_empty}
+use Rattle.rice_code.specs.encode.Coder.{HasCodedBefore, HasTaken, IsCoder, AddsCode, complete_samples, fill_samples}
+use Rattle.rice_code.specs.encode.OpenSegment.{CoderState, IsWhole, empty_state, state_after, state_with_fill, fill_count, state_after_segment, next_start, blocks_held, contents_held, sets_held, code_held, bits_held, HoldsSoundBlocks, CodesHeld, is_empty}
 use Rattle.rice_code.specs.code.CodedDataSets.{CodedDataSet, bits_of_set}
 use Rattle.rice_code.specs.encode.HeldBlocks.{held_blocks}
 use Rattle.rice_code.specs.code.SoundBlocks.{AreSoundBlocks}
 use Rattle.rice_code.specs.code.Layout.{layout}
-use Rattle.rice_code.specs.Steps.{least_looks, most_looks, least_looks_at, most_looks_at, least_steps, most_steps, segment_steps}
+use Rattle.rice_code.specs.Steps.{least_looks, most_looks, least_looks_at, most_looks_at, least_steps, most_steps, coding_steps, segment_steps}
 use Rattle.rice_code.proofs.lemmas.meaning.Covers.{bool_cases}
 use Rattle.rice_code.proofs.lemmas.code.Filling.{last_append, blocks_append}
 use Rattle.rice_code.proofs.lemmas.code.GoingOn.{filled_behind, own_blocks, code_goes_on, bits_go_on}
@@ -80,7 +80,7 @@ pending_are coder xs h =
 
 pub few_pending : (coder : CoderState) → IsCoder coder → length coder.residuals < 64 * coder.setting.block
 few_pending coder k =
-    let h = k.stands in
+    let h = k.taken in
     let s = coder.setting in
     let left = some_left s h.block h.holds.legal.interval_from in
     let r = ap length h.holds.residuals ∙ length-residuals s (s.block * h.block) (last_of (pos 0) h.coded) h.held in
@@ -89,7 +89,7 @@ few_pending coder k =
 
 pub previous_legal : (coder : CoderState) → IsCoder coder → IsSample coder.setting coder.previous
 previous_legal coder k =
-    let h = k.stands.holds in
+    let h = k.taken.holds in
     subst (IsSample coder.setting) (sym h.previous) (last_legal coder.setting (pos 0) _ (zero_is_sample coder.setting h.legal.bits_from) h.samples)
 
 left_same : (coder : CoderState) (b : ℕ) (coded held : List ℤ) → HasCodedBefore coder b coded held → blocks_left coder.setting coder.start ≡ blocks_left coder.setting b
@@ -103,9 +103,9 @@ held_count : (coder : CoderState) (b : ℕ) (coded held : List ℤ) → HasCoded
 held_count coder b coded held h = ap length h.residuals ∙ length-residuals coder.setting (coder.setting.block * b) (last_of (pos 0) coded) held
 
 -- a sample that leaves the segment open
-pub stays : (coder : CoderState) (x : ℤ) (xs : List ℤ) → HasTaken coder xs → IsSample coder.setting x → length (state_after coder x).residuals < coder.setting.block * blocks_left coder.setting coder.start →
+pub stays_open : (coder : CoderState) (x : ℤ) (xs : List ℤ) → HasTaken coder xs → IsSample coder.setting x → length (state_after coder x).residuals < coder.setting.block * blocks_left coder.setting coder.start →
     HasTaken (state_after coder x) (xs ++ x ∷ [])
-stays coder x xs h legal less =
+stays_open coder x xs h legal less =
     let more = one_more coder h.block h.coded h.held x h.holds h.short legal in
     let count = held_count (state_after coder x) h.block h.coded (h.held ++ x ∷ []) more in
     let m = ap (λ n. coder.setting.block * n) (left_same coder h.block h.coded h.held h.holds) in
@@ -118,11 +118,11 @@ stays coder x xs h legal less =
       short = omega (arith, count, m, less);
     }
 
-pub open_completes_nothing : (coder : CoderState) (x : ℤ) (xs : List ℤ) → (h : HasTaken coder xs) → IsSample coder.setting x → length (state_after coder x).residuals < coder.setting.block * blocks_left coder.setting coder.start →
+pub stays_open_completes_none : (coder : CoderState) (x : ℤ) (xs : List ℤ) → (h : HasTaken coder xs) → IsSample coder.setting x → length (state_after coder x).residuals < coder.setting.block * blocks_left coder.setting coder.start →
     complete_samples coder.setting (xs ++ x ∷ []) ≡ complete_samples coder.setting xs
-unfolding stays
-open_completes_nothing coder x xs h legal less =
-    complete_are_coded (state_after coder x) (xs ++ x ∷ []) (stays coder x xs h legal less) ∙ sym (complete_are_coded coder xs h)
+unfolding stays_open
+stays_open_completes_none coder x xs h legal less =
+    complete_are_coded (state_after coder x) (xs ++ x ∷ []) (stays_open coder x xs h legal less) ∙ sym (complete_are_coded coder xs h)
 
 pub short_of : (coder : CoderState) (xs : List ℤ) → HasTaken coder xs → length coder.residuals < coder.setting.block * blocks_left coder.setting coder.start
 short_of coder xs h =
@@ -142,14 +142,14 @@ sound_same s a b (c ∷ cs) e k = (
   sound_same s (a + 1) (b + 1) cs (place_step s a b e) k.1,
 )
 
--- the blocks of samples behind whole blocks
+-- the blocks of samples after whole blocks
 pub blocks_go_on : (s : Parameters) (b q : ℕ) (p : ℤ) (xs ys : List ℤ) → 1 ≤ s.block → length xs ≡ s.block * q → blocks_of s b p (xs ++ ys) ≡ blocks_of s b p xs ++ blocks_of s (b + q) (last_of p xs) ys
 blocks_go_on s b q p xs ys j len =
     let parts = filled_behind s q p xs ys j len in
     (λ i. blocks_from s b p (parts.1 i) (parts.0 i))
     ∙ (blocks_append s b p q (block_count s (length ys)) xs (filled_samples s (last_of p xs) ys) len ∙ ap (λ v. v ++ blocks_of s (b + q) (last_of p xs) ys) (sym (own_blocks s b q p xs j len)))
 
--- what a coder holds is the code of the samples that it holds, filled to whole blocks, behind those that are coded
+-- what a coder holds is the code of the samples that it holds, filled to whole blocks, after those that are coded
 pub record IsPart (coder : CoderState) (coded held : List ℤ) : Type 0 where
   pub sound : AreSoundBlocks coder.setting coder.start (contents_held coder)
   pub blocks : length coder.residuals ≡ coder.setting.block * blocks_held coder
@@ -208,25 +208,49 @@ held_part coder b n coded held full h shape counted len =
     none : (n : ℕ) → n ≡ 0 + n
     none n = omega arith
 
--- the code of some samples is that of the settled ones, and then what the coder holds
+-- the code of the samples ys is that of the samples xs, and then that of what the coder holds
 pub record AddsHeldCode (coder : CoderState) (xs ys : List ℤ) : Type 0 where
-  pub code_is : (position : ℕ) → (coder.setting.pad ≡ true → position % 8 ≡ length (complete_code coder.setting xs) % 8) → code coder.setting ys ≡ complete_code coder.setting xs ++ code_held coder position
-  pub bits_are : code_bits coder.setting ys ≡ code_bits coder.setting (complete_samples coder.setting xs) + sum_by (λ d. length (bits_of_set coder.setting d)) (sets_held coder)
-  pub least : least_looks_at coder.setting ys ≡ least_looks_at coder.setting (complete_samples coder.setting xs) + sum_by (least_looks coder.setting) (contents_held coder)
-  pub most : most_looks_at coder.setting ys ≡ most_looks_at coder.setting (complete_samples coder.setting xs) + sum_by (most_looks coder.setting) (contents_held coder)
+  pub code_is : (position : ℕ) → (coder.setting.pad ≡ true → position % 8 ≡ length (code coder.setting xs) % 8) → code coder.setting ys ≡ code coder.setting xs ++ code_held coder position
+  pub bits_are : code_bits coder.setting ys ≡ code_bits coder.setting xs + bits_held coder
+  pub least : least_looks_at coder.setting ys ≡ least_looks_at coder.setting xs + sum_by (least_looks coder.setting) (contents_held coder)
+  pub most : most_looks_at coder.setting ys ≡ most_looks_at coder.setting xs + sum_by (most_looks coder.setting) (contents_held coder)
 
-adds_held_code : (coder : CoderState) (xs ys coded held : List ℤ) → complete_samples coder.setting xs ≡ coded → ys ≡ coded ++ held → IsPart coder coded held → AddsHeldCode coder xs ys
+adds_held_code : (coder : CoderState) (xs ys coded held : List ℤ) → xs ≡ coded → ys ≡ coded ++ held → IsPart coder coded held → AddsHeldCode coder xs ys
 adds_held_code coder xs ys coded held e f part =
     let s = coder.setting in
     let looks = λ (g : BlockData → ℕ). ap (λ v. sum_by g (blocks_of s 0 (pos 0) v)) f ∙ (ap (λ v. sum_by g v) part.blocks_are ∙ (sum_by-append g (blocks_of s 0 (pos 0) coded) (contents_held coder) ∙ ap (λ v. sum_by g (blocks_of s 0 (pos 0) v) + sum_by g (contents_held coder)) (sym e))) in
     record {
       code_is = λ position place. ap (λ v. code s v) f ∙ (part.code_is position (λ p. place p ∙ ap (λ v. length (code s v) % 8) e) ∙ ap (λ v. code s v ++ code_held coder position) (sym e));
-      bits_are = ap (λ v. code_bits s v) f ∙ (part.bits_are ∙ ap (λ v. code_bits s v + sum_by (λ d. length (bits_of_set s d)) (sets_held coder)) (sym e));
+      bits_are = ap (λ v. code_bits s v) f ∙ (part.bits_are ∙ ap (λ v. code_bits s v + bits_held coder) (sym e));
       least = looks (least_looks s);
       most = looks (most_looks s);
     }
 
--- behind a whole segment the next begins
+-- What a call that codes what is held adds, after it has taken `more` samples.
+pub adds_code : (coder : CoderState) (xs ys : List ℤ) (old new : List Bool) (count more m0 m1 m2 : ℕ) → AddsHeldCode coder xs ys → CodesHeld coder old new count m1 m2 → m1 ≡ m0 + more →
+    AddsCode coder.setting xs ys old new count more m0 m2
+adds_code coder xs ys old new count more m0 m1 m2 adds codes steps = record {
+  code_is = λ place. record { bits = code_held coder (length old); appended = codes.code_is; completes = adds.code_is (length old) place };
+  bits = omega (arith, adds.bits_are, codes.bits);
+  steps = record {
+    least = omega (arith, adds.bits_are, adds.least, codes.least, steps);
+    most = omega (arith, adds.bits_are, adds.most, codes.most, steps);
+  };
+}
+
+-- and one that codes nothing
+pub adds_nothing : (s : Parameters) (xs ys : List ℤ) (sink : List Bool) (more m0 m1 : ℕ) → ys ≡ xs → m1 ≡ m0 + more → AddsCode s xs ys sink sink 0 more m0 m1
+adds_nothing s xs ys sink more m0 m1 e steps =
+    let bits = ap (code_bits s) e in
+    let least = ap (least_steps s) e in
+    let most = ap (most_steps s) e in
+    record {
+      code_is = λ place. record { bits = []; appended = sym (append-nil sink); completes = ap (code s) e ∙ sym (append-nil (code s xs)) };
+      bits = omega (arith, bits);
+      steps = record { least = omega (arith, least, steps); most = omega (arith, most, steps) };
+    }
+
+-- after a whole segment the next begins
 pub next_begins : (coder : CoderState) (b : ℕ) (coded held : List ℤ) (start : ℕ) → HasCodedBefore coder b coded held → length held ≡ coder.setting.block * blocks_left coder.setting b → place coder.setting (b + blocks_left coder.setting b) ≡ start →
     HasTaken (record { setting = coder.setting; residuals = []; reference = None; previous = coder.previous; start = start }) (coded ++ held)
 next_begins coder b coded held start h len e =
@@ -265,11 +289,10 @@ whole_part coder x xs h legal e =
     let bare = not_filled s (blocks_left s coder.start) (last_of (pos 0) h.coded) full j len in
     held_part (state_after coder x) h.block (blocks_left s coder.start) h.coded full full more bare.0 bare.1 len
 
-pub whole_sound : (coder : CoderState) (x : ℤ) → IsCoder coder → IsSample coder.setting x → IsWhole (state_after coder x) →
-    AreSoundBlocks coder.setting coder.start (contents_held (state_after coder x)) × (length (state_after coder x).residuals ≡ coder.setting.block * blocks_held (state_after coder x))
-whole_sound coder x k legal e = let part = whole_part coder x k.samples k.stands legal e in (part.sound, part.blocks)
+pub whole_sound : (coder : CoderState) (x : ℤ) (xs : List ℤ) → HasTaken coder xs → IsSample coder.setting x → IsWhole (state_after coder x) → HoldsSoundBlocks (state_after coder x)
+whole_sound coder x xs h legal e = let part = whole_part coder x xs h legal e in record { sound = part.sound; whole = part.blocks }
 
--- then the coder stands for the samples with it
+-- then the coder has taken the samples with it
 pub ends : (coder : CoderState) (x : ℤ) (xs : List ℤ) → HasTaken coder xs → IsSample coder.setting x → IsWhole (state_after coder x) → HasTaken (state_after_segment (state_after coder x)) (xs ++ x ∷ [])
 ends coder x xs h legal e =
     let s = coder.setting in
@@ -282,10 +305,10 @@ ends coder x xs h legal e =
     subst (λ v. HasTaken (state_after_segment (state_after coder x)) v) (sym parts) next
 
 -- and this completes the code of the segment
-pub whole_segment_adds_code : (coder : CoderState) (x : ℤ) (xs : List ℤ) → HasTaken coder xs → IsSample coder.setting x → IsWhole (state_after coder x) → AddsHeldCode (state_after coder x) xs (complete_samples coder.setting (xs ++ x ∷ []))
+pub whole_segment_adds_code : (coder : CoderState) (x : ℤ) (xs : List ℤ) → HasTaken coder xs → IsSample coder.setting x → IsWhole (state_after coder x) → AddsHeldCode (state_after coder x) (complete_samples coder.setting xs) (complete_samples coder.setting (xs ++ x ∷ []))
 whole_segment_adds_code coder x xs h legal e =
     let next = ends coder x xs h legal e in
-    adds_held_code (state_after coder x) xs (complete_samples coder.setting (xs ++ x ∷ [])) h.coded (h.held ++ x ∷ []) (complete_are_coded coder xs h) (all_complete next) (whole_part coder x xs h legal e)
+    adds_held_code (state_after coder x) (complete_samples coder.setting xs) (complete_samples coder.setting (xs ++ x ∷ [])) h.coded (h.held ++ x ∷ []) (complete_are_coded coder xs h) (all_complete next) (whole_part coder x xs h legal e)
   where
     all_complete : HasTaken (state_after_segment (state_after coder x)) (xs ++ x ∷ []) → complete_samples coder.setting (xs ++ x ∷ []) ≡ h.coded ++ (h.held ++ x ∷ [])
     all_complete next =
@@ -311,17 +334,17 @@ same_rest : (j b n m : ℕ) → m ≡ j * b + n → m % j ≡ n % j
 same_rest j b n m e = ap (λ v. v % j) e ∙ mul-add-mod_self_left j b n
 
 -- the samples that are held, filled to whole blocks
-filled_part : (coder : CoderState) (xs : List ℤ) → (h : HasTaken coder xs) → IsPart (state_with_fill coder (fill_count coder)) h.coded h.held
+filled_part : (coder : CoderState) (xs : List ℤ) → (h : HasTaken coder xs) → IsPart (state_with_fill coder (fill_count coder.setting (length coder.residuals))) h.coded h.held
 filled_part coder xs h =
     let s = coder.setting in
     let j : 1 ≤ s.block = grind (arith, h.holds.legal.block) in
     let m = length coder.residuals in
-    let n = fill_count coder in
+    let n = fill_count coder.setting (length coder.residuals) in
     let x = coder.previous in
     let p = last_of (pos 0) h.coded in
     let count = held_count coder h.block h.coded h.held h.holds in
     let inside : length h.held + n ≤ s.block * blocks_left s h.block = let f = fill_inside m s.block (blocks_left s h.block) j (omega (arith, count, h.short)) in omega (arith, f, count) in
-    let legal = previous_legal coder (record { samples = xs; stands = h }) in
+    let legal = previous_legal coder (record { samples = xs; taken = h }) in
     let some : 0 < n → 0 < m = λ p. elim (cases_lt 0 m) [ inl lt ↦ lt | inr le ↦ absurd (let z = zero_fill s.block m j (omega arith) in omega (arith, z, p)) ] in
     let holds = fills coder h.block h.coded h.held n h.holds legal (λ p. not_first_of coder.residuals (some p)) inside in
     let full = h.held ++ replicate n x in
@@ -330,125 +353,35 @@ filled_part coder xs h =
     let shape : filled_samples s p h.held ≡ full = λ i. h.held ++ replicate (fill i) (last i) in
     held_part (state_with_fill coder n) h.block (block_count s (length h.held)) h.coded h.held full holds shape refl (sym (ap length shape) ∙ filled_len s p h.held j)
 
-pub filled_sound : (coder : CoderState) → IsCoder coder →
-    AreSoundBlocks coder.setting coder.start (contents_held (state_with_fill coder (fill_count coder))) × (length (state_with_fill coder (fill_count coder)).residuals ≡ coder.setting.block * blocks_held (state_with_fill coder (fill_count coder)))
-filled_sound coder k = let part = filled_part coder k.samples k.stands in (part.sound, part.blocks)
+pub filled_sound : (coder : CoderState) (xs : List ℤ) → HasTaken coder xs → HoldsSoundBlocks (state_with_fill coder (fill_count coder.setting (length coder.residuals)))
+filled_sound coder xs h = let part = filled_part coder xs h in record { sound = part.sound; whole = part.blocks }
 
 -- and this completes the code of all samples
-pub filled_segment_adds_code : (coder : CoderState) (xs : List ℤ) → HasTaken coder xs → AddsHeldCode (state_with_fill coder (fill_count coder)) xs xs
-filled_segment_adds_code coder xs h = adds_held_code (state_with_fill coder (fill_count coder)) xs xs h.coded h.held (complete_are_coded coder xs h) h.parts (filled_part coder xs h)
+pub filled_segment_adds_code : (coder : CoderState) (xs : List ℤ) → HasTaken coder xs → AddsHeldCode (state_with_fill coder (fill_count coder.setting (length coder.residuals))) (complete_samples coder.setting xs) xs
+filled_segment_adds_code coder xs h = adds_held_code (state_with_fill coder (fill_count coder.setting (length coder.residuals))) (complete_samples coder.setting xs) xs h.coded h.held (complete_are_coded coder xs h) h.parts (filled_part coder xs h)
 
 -- as many as fill the last block of all samples
-pub fill_count_is : (coder : CoderState) (xs : List ℤ) → HasTaken coder xs → fill_count coder ≡ fill_samples coder.setting xs
+pub fill_count_is : (coder : CoderState) (xs : List ℤ) → HasTaken coder xs → fill_count coder.setting (length coder.residuals) ≡ fill_samples coder.setting xs
 fill_count_is coder xs h =
     let s = coder.setting in
     let count = held_count coder h.block h.coded h.held h.holds in
     let all : length xs ≡ s.block * h.block + length coder.residuals = omega (arith, ap length h.parts, length-append h.coded h.held, h.holds.whole, count) in
     ap (λ v. (s.block - v) % s.block) (sym (same_rest s.block h.block (length coder.residuals) (length xs) all))
 
--- What a push does, where `held` is what the coder holds with the sample, and `old` and `new` are the sink's bits.
-push_as : (coder held : CoderState) (x : ℤ) (P : CoderState → Type 0) → held ≡ state_after coder x → P held → P (state_after coder x)
-push_as coder held x P g h = subst P g h
-
-pub push_sound : (coder held : CoderState) (x : ℤ) → held ≡ state_after coder x → IsCoder coder → IsSample coder.setting x → IsWhole held →
-    AreSoundBlocks held.setting held.start (contents_held held) × (length held.residuals ≡ held.setting.block * blocks_held held)
-push_sound coder held x g k legal whole =
-    subst (λ (v : CoderState). AreSoundBlocks v.setting v.start (contents_held v) × (length v.residuals ≡ v.setting.block * blocks_held v)) (sym g)
-    (whole_sound coder x k legal (push_as coder held x IsWhole g whole))
-
-pub push_ends : (coder held after : CoderState) (x : ℤ) (xs : List ℤ) → held ≡ state_after coder x → after ≡ state_after_segment held → IsSample coder.setting x → IsWhole held → HasTaken coder xs → HasTaken after (xs ++ x ∷ [])
-push_ends coder held after x xs g e legal whole h =
-    subst (λ (v : CoderState). HasTaken v (xs ++ x ∷ [])) (sym (e ∙ ap state_after_segment g)) (ends coder x xs h legal (push_as coder held x IsWhole g whole))
-
-pub push_completes : (coder held : CoderState) (x : ℤ) (xs : List ℤ) (old new : List Bool) → held ≡ state_after coder x → new ≡ old ++ code_held held (length old) → IsSample coder.setting x → IsWhole held → HasTaken coder xs → IsAlignedWith coder.setting xs old →
-    AppendsCode coder.setting xs (xs ++ x ∷ []) old new
-push_completes coder held x xs old new g e legal whole h place =
-    let next = whole_segment_adds_code coder x xs h legal (push_as coder held x IsWhole g whole) in
-    record { bits = code_held (state_after coder x) (length old); appended = e ∙ ap (λ v. old ++ code_held v (length old)) g; completes = next.code_is (length old) place }
-
-pub push_bits : (coder held : CoderState) (x : ℤ) (xs : List ℤ) (n : ℕ) → held ≡ state_after coder x → n ≡ sum_by (λ d. length (bits_of_set held.setting d)) (sets_held held) → IsSample coder.setting x → IsWhole held → HasTaken coder xs →
-    code_bits coder.setting (complete_samples coder.setting (xs ++ x ∷ [])) ≡ code_bits coder.setting (complete_samples coder.setting xs) + n
-push_bits coder held x xs n g count legal whole h =
-    let next = whole_segment_adds_code coder x xs h legal (push_as coder held x IsWhole g whole) in
-    let all : n ≡ sum_by (λ d. length (bits_of_set coder.setting d)) (sets_held (state_after coder x)) = push_as coder held x (λ v. n ≡ sum_by (λ d. length (bits_of_set v.setting d)) (sets_held v)) g count in
-    next.bits_are ∙ ap (λ m. code_bits coder.setting (complete_samples coder.setting xs) + m) (sym all)
-
-pub push_least : (coder held : CoderState) (x : ℤ) (xs : List ℤ) (m n : ℕ) → held ≡ state_after coder x → m + sum_by (λ d. length (bits_of_set held.setting d)) (sets_held held) + sum_by (least_looks held.setting) (contents_held held) ≤ n → IsSample coder.setting x → IsWhole held → HasTaken coder xs →
-    m + least_steps coder.setting (complete_samples coder.setting (xs ++ x ∷ [])) ≤ n + least_steps coder.setting (complete_samples coder.setting xs)
-push_least coder held x xs m n g steps legal whole h =
-    let next = whole_segment_adds_code coder x xs h legal (push_as coder held x IsWhole g whole) in
-    let all : m + sum_by (λ d. length (bits_of_set coder.setting d)) (sets_held (state_after coder x)) + sum_by (least_looks coder.setting) (contents_held (state_after coder x)) ≤ n =
-    push_as coder held x (λ v. m + sum_by (λ d. length (bits_of_set v.setting d)) (sets_held v) + sum_by (least_looks v.setting) (contents_held v) ≤ n) g steps in
-    omega (arith, next.bits_are, next.least, all)
-
-pub push_most : (coder held : CoderState) (x : ℤ) (xs : List ℤ) (m n : ℕ) → held ≡ state_after coder x → n ≤ m + sum_by (λ d. length (bits_of_set held.setting d)) (sets_held held) + sum_by (most_looks held.setting) (contents_held held) → IsSample coder.setting x → IsWhole held → HasTaken coder xs →
-    n + most_steps coder.setting (complete_samples coder.setting xs) ≤ m + most_steps coder.setting (complete_samples coder.setting (xs ++ x ∷ []))
-push_most coder held x xs m n g steps legal whole h =
-    let next = whole_segment_adds_code coder x xs h legal (push_as coder held x IsWhole g whole) in
-    let all : n ≤ m + sum_by (λ d. length (bits_of_set coder.setting d)) (sets_held (state_after coder x)) + sum_by (most_looks coder.setting) (contents_held (state_after coder x)) =
-    push_as coder held x (λ v. n ≤ m + sum_by (λ d. length (bits_of_set v.setting d)) (sets_held v) + sum_by (most_looks v.setting) (contents_held v)) g steps in
-    omega (arith, next.bits_are, next.most, all)
-
--- the segment stays open
-still_open : (coder : CoderState) (x : ℤ) (xs : List ℤ) → HasTaken coder xs → (IsWhole (state_after coder x) → ⊥) → length (state_after coder x).residuals < coder.setting.block * blocks_left coder.setting coder.start
-still_open coder x xs h not_whole =
-    let shape = short_of coder xs h in
-    let len : length (state_after coder x).residuals ≡ length coder.residuals + 1 = length-append coder.residuals (next_residual coder x ∷ []) in
-    elim (cases_lt (length (state_after coder x).residuals) (coder.setting.block * blocks_left coder.setting coder.start)) [
-      | inl lt ↦ lt
-      | inr le ↦ absurd (not_whole (omega (arith, shape, len, le)))
-    ]
-
-pub push_stays : (coder held : CoderState) (x : ℤ) (xs : List ℤ) → held ≡ state_after coder x → IsSample coder.setting x → (IsWhole held → ⊥) → HasTaken coder xs → HasTaken held (xs ++ x ∷ [])
-push_stays coder held x xs g legal not_whole h =
-    subst (λ (v : CoderState). HasTaken v (xs ++ x ∷ [])) (sym g) (stays coder x xs h legal (still_open coder x xs h (push_as coder held x (λ v. IsWhole v → ⊥) g not_whole)))
-
-pub push_completes_nothing : (coder held : CoderState) (x : ℤ) (xs : List ℤ) → held ≡ state_after coder x → IsSample coder.setting x → (IsWhole held → ⊥) → HasTaken coder xs → complete_samples coder.setting (xs ++ x ∷ []) ≡ complete_samples coder.setting xs
-push_completes_nothing coder held x xs g legal not_whole h = open_completes_nothing coder x xs h legal (still_open coder x xs h (push_as coder held x (λ v. IsWhole v → ⊥) g not_whole))
-
-pub push_nothing : (coder held : CoderState) (x : ℤ) (xs : List ℤ) (old : List Bool) → held ≡ state_after coder x → IsSample coder.setting x → (IsWhole held → ⊥) → HasTaken coder xs → AppendsCode coder.setting xs (xs ++ x ∷ []) old old
-push_nothing coder held x xs old g legal not_whole h = record {
-  bits = [];
-  appended = sym (append-nil old);
-  completes = ap (λ v. code coder.setting v) (push_completes_nothing coder held x xs g legal not_whole h) ∙ sym (append-nil (complete_code coder.setting xs));
-}
-
 -- What the end does, where `held` is what the coder holds with its last block filled.
-pub finish_sound : (coder held : CoderState) → held ≡ state_with_fill coder (fill_count coder) → IsCoder coder → AreSoundBlocks held.setting held.start (contents_held held) × (length held.residuals ≡ held.setting.block * blocks_held held)
-finish_sound coder held g k = subst (λ (v : CoderState). AreSoundBlocks v.setting v.start (contents_held v) × (length v.residuals ≡ v.setting.block * blocks_held v)) (sym g) (filled_sound coder k)
+pub finish_sound : (coder held : CoderState) → held ≡ state_with_fill coder (fill_count coder.setting (length coder.residuals)) → IsCoder coder → HoldsSoundBlocks held
+finish_sound coder held g k = subst HoldsSoundBlocks (sym g) (filled_sound coder k.samples k.taken)
 
-pub finish_completes : (coder held : CoderState) (xs : List ℤ) (old new : List Bool) → held ≡ state_with_fill coder (fill_count coder) → new ≡ old ++ code_held held (length old) → HasTaken coder xs → IsAlignedWith coder.setting xs old → AppendsRest coder.setting xs old new
-finish_completes coder held xs old new g e h place =
-    let next = filled_segment_adds_code coder xs h in
-    record { bits = code_held (state_with_fill coder (fill_count coder)) (length old); appended = e ∙ ap (λ v. old ++ code_held v (length old)) g; completes = next.code_is (length old) place }
+pub finish_adds : (coder value held : CoderState) (xs : List ℤ) (old new : List Bool) (n m0 m1 m2 : ℕ) → coder ≡ value → held ≡ state_with_fill coder (fill_count coder.setting (length coder.residuals)) → CodesHeld held old new n m1 m2 → m1 ≡ m0 + fill_count coder.setting (length coder.residuals) → HasTaken value xs →
+    AddsCode value.setting (complete_samples value.setting xs) xs old new n (fill_samples value.setting xs) m0 m2
+finish_adds coder value held xs old new n m0 m1 m2 e g codes steps h =
+    subst (λ (v : CoderState). HasTaken v xs → AddsCode v.setting (complete_samples v.setting xs) xs old new n (fill_samples v.setting xs) m0 m2) e (λ k.
+    (let full = state_with_fill coder (fill_count coder.setting (length coder.residuals)) in
+    let coded : CodesHeld full old new n m1 m2 = subst (λ v. CodesHeld v old new n m1 m2) g codes in
+    let count = fill_count_is coder xs k in
+    adds_code full (complete_samples coder.setting xs) xs old new n (fill_samples coder.setting xs) m0 m1 m2 (filled_segment_adds_code coder xs k) coded (omega (arith, count, steps)))) h
 
-pub finish_bits : (coder held : CoderState) (xs : List ℤ) (n : ℕ) → held ≡ state_with_fill coder (fill_count coder) → n ≡ sum_by (λ d. length (bits_of_set held.setting d)) (sets_held held) → HasTaken coder xs →
-    code_bits coder.setting xs ≡ code_bits coder.setting (complete_samples coder.setting xs) + n
-finish_bits coder held xs n g count h =
-    let all : n ≡ sum_by (λ d. length (bits_of_set coder.setting d)) (sets_held (state_with_fill coder (fill_count coder))) = subst (λ (v : CoderState). n ≡ sum_by (λ d. length (bits_of_set v.setting d)) (sets_held v)) g count in
-    (filled_segment_adds_code coder xs h).bits_are ∙ ap (λ m. code_bits coder.setting (complete_samples coder.setting xs) + m) (sym all)
-
-pub finish_least : (coder held : CoderState) (xs : List ℤ) (m n : ℕ) → held ≡ state_with_fill coder (fill_count coder) → m + fill_count coder + sum_by (λ d. length (bits_of_set held.setting d)) (sets_held held) + sum_by (least_looks held.setting) (contents_held held) ≤ n → HasTaken coder xs →
-    m + fill_samples coder.setting xs + least_steps coder.setting xs ≤ n + least_steps coder.setting (complete_samples coder.setting xs)
-finish_least coder held xs m n g steps h =
-    let next = filled_segment_adds_code coder xs h in
-    let all : m + fill_count coder + sum_by (λ d. length (bits_of_set coder.setting d)) (sets_held (state_with_fill coder (fill_count coder))) + sum_by (least_looks coder.setting) (contents_held (state_with_fill coder (fill_count coder))) ≤ n =
-    subst (λ (v : CoderState). m + fill_count coder + sum_by (λ d. length (bits_of_set v.setting d)) (sets_held v) + sum_by (least_looks v.setting) (contents_held v) ≤ n) g steps in
-    omega (arith, next.bits_are, next.least, all, fill_count_is coder xs h)
-
-pub finish_most : (coder held : CoderState) (xs : List ℤ) (m n : ℕ) → held ≡ state_with_fill coder (fill_count coder) → n ≤ m + fill_count coder + sum_by (λ d. length (bits_of_set held.setting d)) (sets_held held) + sum_by (most_looks held.setting) (contents_held held) → HasTaken coder xs →
-    n + most_steps coder.setting (complete_samples coder.setting xs) ≤ m + fill_samples coder.setting xs + most_steps coder.setting xs
-finish_most coder held xs m n g steps h =
-    let next = filled_segment_adds_code coder xs h in
-    let all : n ≤ m + fill_count coder + sum_by (λ d. length (bits_of_set coder.setting d)) (sets_held (state_with_fill coder (fill_count coder))) + sum_by (most_looks coder.setting) (contents_held (state_with_fill coder (fill_count coder))) =
-    subst (λ (v : CoderState). n ≤ m + fill_count coder + sum_by (λ d. length (bits_of_set v.setting d)) (sets_held v) + sum_by (most_looks v.setting) (contents_held v)) g steps in
-    omega (arith, next.bits_are, next.most, all, fill_count_is coder xs h)
-
--- the room in the meter
-pub meter_room : (i j k m : ℕ) → m + 64 * (i + j * (k + 6)) < 2 ^ 62 → 1 ≤ j → m + j + 64 * (i + j * (k + 5)) < 2 ^ 62
-meter_room i j k m h one = let e : i + j * (k + 6) ≡ i + j * (k + 5) + j = omega arith in omega (arith, e)
-
--- the steps of a segment are few
+-- The steps of a segment are few,
 pub segment_steps_few : (s : Parameters) → IsLegal s → segment_steps s ≤ 274752
 segment_steps_few s legal =
     let j : s.block ≤ 64 = grind (arith, legal.block) in
@@ -456,3 +389,7 @@ segment_steps_few s legal =
     let k : k_max s ≤ 29 = grind (arith, nat_tests) in
     let a : s.block * (s.bits + k_max s + 6) ≤ s.block * 67 = mul-le-mul_left s.block (omega (arith, legal.bits_to, k)) in
     omega (arith, a, i, j)
+
+-- and they count its samples
+pub steps_of_segment : (s : Parameters) → segment_steps s ≡ coding_steps s + s.block * 64
+steps_of_segment s = omega arith

@@ -1,4 +1,4 @@
--- The search for the best split, and the choice behind it.
+-- The search for the best split, and the choice after it.
 use Rattle.std.proofs.Common.{◌≡◌, ℕ, zero, suc, ◌<◌, ◌≤◌, Bool, true, false, cond, nat_lt, map, List, [], ◌∷◌, refl, ap, arith, sym, ◌∙◌}
 use Rattle.std.specs.List.{best_of, range_with_len}
 use Rattle.std.proofs.lemmas.Bool.Decides.{nat_tests}

@@ -15,19 +15,20 @@ use Rattle.rice_code.specs.code.Blocks.{BlockData, is_zero_block}
 use Rattle.rice_code.specs.code.CodedDataSets.{bits_of_set, cost, reference_bits, bits_of_sets}
 use Rattle.rice_code.specs.code.Code.{data_sets}
 use Rattle.rice_code.specs.code.Choice.{shortest, best_split}
-use Rattle.rice_code.specs.encode.HeldBlocks.{run_of_blocks, zeros_of_run, pending_zeros, pending_run, held_blocks, reference_at}
+use Rattle.rice_code.specs.code.Runs.{run_of_blocks}
+use Rattle.rice_code.specs.encode.HeldBlocks.{zeros_of_run, pending_zeros, pending_run, held_blocks, reference_at}
 use Rattle.rice_code.specs.code.SoundBlocks.{block_with, IsSoundData, AreSoundBlocks, IsSoundBlock}
 use Rattle.rice_code.specs.Steps.{least_looks, most_looks}
 use Rattle.rice_code.proofs.lemmas.meaning.Covers.{bool_cases, zero_block_is}
 use Rattle.rice_code.proofs.lemmas.cost.Costs.{cost_is_length, length_reference}
 use Rattle.rice_code.proofs.lemmas.cost.BlockBounds.{shortest_is_form}
 use Rattle.rice_code.proofs.lemmas.encode.OptionBits.{run_text, run_cost}
-use Rattle.rice_code.proofs.lemmas.encode.PendingRuns.{run_then_block, run_ends, one_waits, held_at, held_len, drop_sound}
+use Rattle.rice_code.proofs.lemmas.encode.PendingRuns.{run_then_block, run_ends, zero_block_joins_run, held_at, held_len, drop_sound}
 
 -- the text of a run is as long as it costs
-pub waiting_len : (s : Parameters) (to_end : Bool) (r : Option ℕ) (run : ℕ) → 0 < run → length (bits_of_sets s (pending_run to_end r run)) ≡ cost s (run_of_blocks to_end r run)
-waiting_len s to_end r zero h = absurd (omega arith)
-waiting_len s to_end r (suc w) h =
+pub length-pending_bits : (s : Parameters) (to_end : Bool) (r : Option ℕ) (run : ℕ) → 0 < run → length (bits_of_sets s (pending_run to_end r run)) ≡ cost s (run_of_blocks to_end r run)
+length-pending_bits s to_end r zero h = absurd (omega arith)
+length-pending_bits s to_end r (suc w) h =
     let d = run_of_blocks to_end r (suc w) in
     let body = fundamental_sequence (zeros_of_run to_end (suc w)) in
     let a = length-append (bits_of_set s d) [] in
@@ -48,7 +49,7 @@ steps_least j k limit m0 m1 m2 n p q h =
       | inr le ↦ let e : min (k + 1) limit ≡ limit = omega arith in let f = ap (λ v. j * (v + 4)) e in omega (arith, f)
     ]
 
--- the blocks left, so many blocks on
+-- the blocks left, `i` blocks on
 pub left_inside : (s : Parameters) (b i : ℕ) → 1 ≤ s.interval → i < blocks_left s b → blocks_left s (b + i) + i ≡ blocks_left s b
 left_inside s b zero h k = let e : b + 0 ≡ b = omega arith in let f = ap (blocks_left s) e in omega (arith, f)
 left_inside s b (suc i) h k =
@@ -92,7 +93,7 @@ next_zero s start r n ds i run h k sound z =
     let c = held s r ds i in
     let rest = drop (i + 1) (held_blocks s r n ds) in
     let e = held_at s r n i ds k in
-    let f = one_waits s run (reference_at r (i - run)) (reference_at r i) c rest (zero_block_is s (start + i) c (held_sound s start r n ds i k sound).block z) (reference_first r i run) (reference_later r i run h) in
+    let f = zero_block_joins_run s run (reference_at r (i - run)) (reference_at r i) c rest (zero_block_is s (start + i) c (held_sound s start r n ds i k sound).block z) (reference_first r i run) (reference_later r i run h) in
     let g : i - run ≡ i + 1 - (run + 1) = omega arith in
     ap (λ cs. bits_of_sets s (data_sets s (start + (i - run)) false (pending_zeros s (reference_at r (i - run)) run ++ cs))) e
     ∙ (ap (λ cs. bits_of_sets s (data_sets s (start + (i - run)) false cs)) f

@@ -8,7 +8,7 @@ use Rattle.rice_samples.specs.predict.Residuals.{pattern, rank, ranks, last_of}
 use Rattle.rice_code.specs.encode.OpenSegment.{CoderState, IsOpen, is_empty, is_first, next_residual, next_residuals, next_references, later_residuals, state_after, state_after_all}
 use Rattle.rice_code.proofs.lemmas.code.SoundBlocks.{last_legal}
 
--- samples behind others, with preprocessing and without
+-- samples after others, with preprocessing and without
 pub later_ranks : (s : Parameters) (p : ℤ) (xs : List ℤ) → s.preprocess ≡ true → later_residuals s p xs ≡ ranks s p xs
 later_ranks s p [] e = refl
 later_ranks s p (x ∷ xs) e = let rest = later_ranks s x xs e in λ i. cond (e i) (rank s p x) (pattern s x) ∷ rest i
@@ -25,8 +25,8 @@ length-next : (coder : CoderState) (xs : List ℤ) → length (next_residuals co
 length-next coder [] = refl
 length-next coder (x ∷ xs) = ap (λ n. suc n) (length-later coder.setting x xs)
 
-pub length-grown : (coder : CoderState) (xs : List ℤ) → length (state_after_all coder xs).residuals ≡ length coder.residuals + length xs
-length-grown coder xs = length-append coder.residuals (next_residuals coder xs) ∙ ap (λ n. length coder.residuals + n) (length-next coder xs)
+pub length-state_after_all : (coder : CoderState) (xs : List ℤ) → length (state_after_all coder xs).residuals ≡ length coder.residuals + length xs
+length-state_after_all coder xs = length-append coder.residuals (next_residuals coder xs) ∙ ap (λ n. length coder.residuals + n) (length-next coder xs)
 
 -- where the next sample is no reference sample
 next_later : (coder : CoderState) (xs : List ℤ) → (coder.setting.preprocess && is_first coder) ≡ false → next_residuals coder xs ≡ later_residuals coder.setting coder.previous xs
@@ -42,17 +42,17 @@ next_none : (coder : CoderState) (xs : List ℤ) → (coder.setting.preprocess &
 next_none coder [] e = refl
 next_none coder (x ∷ xs) e = ap (λ v. cond v (Some (pattern coder.setting x)) coder.reference) e
 
-pub grown_later : (coder : CoderState) (xs : List ℤ) → (coder.setting.preprocess && is_first coder) ≡ false →
+pub state_after_all-later : (coder : CoderState) (xs : List ℤ) → (coder.setting.preprocess && is_first coder) ≡ false →
     state_after_all coder xs ≡ record { setting = coder.setting; residuals = coder.residuals ++ later_residuals coder.setting coder.previous xs; reference = coder.reference; previous = last_of coder.previous xs; start = coder.start }
-grown_later coder xs e =
+state_after_all-later coder xs e =
     let ds = next_later coder xs e in
     let r = next_none coder xs e in
     λ i. record { setting = coder.setting; residuals = coder.residuals ++ ds i; reference = r i; previous = last_of coder.previous xs; start = coder.start }
 
 -- no sample,
-pub grown_none : (coder : CoderState) (xs : List ℤ) → length xs ≡ 0 → state_after_all coder xs ≡ coder
-grown_none coder [] e = λ i. record { setting = coder.setting; residuals = append-nil coder.residuals i; reference = coder.reference; previous = coder.previous; start = coder.start }
-grown_none coder (x ∷ xs) e = absurd (omega arith)
+pub state_after_all-none : (coder : CoderState) (xs : List ℤ) → length xs ≡ 0 → state_after_all coder xs ≡ coder
+state_after_all-none coder [] e = λ i. record { setting = coder.setting; residuals = append-nil coder.residuals i; reference = coder.reference; previous = coder.previous; start = coder.start }
+state_after_all-none coder (x ∷ xs) e = absurd (omega arith)
 
 pub not_first : (coder : CoderState) (x : ℤ) → (coder.setting.preprocess && is_first (state_after coder x)) ≡ false
 not_first coder x = ap (λ v. coder.setting.preprocess && (v && coder.start == 0)) (some coder.residuals (next_residual coder x)) ∙ and-false coder.setting.preprocess
@@ -62,17 +62,17 @@ not_first coder x = ap (λ v. coder.setting.preprocess && (v && coder.start == 0
     some (e ∷ ds) d = refl
 
 -- one first,
-pub grown_cons : (coder : CoderState) (x : ℤ) (xs : List ℤ) → state_after_all (state_after coder x) xs ≡ state_after_all coder (x ∷ xs)
-grown_cons coder x xs =
+pub state_after_all-cons : (coder : CoderState) (x : ℤ) (xs : List ℤ) → state_after_all (state_after coder x) xs ≡ state_after_all coder (x ∷ xs)
+state_after_all-cons coder x xs =
     let d = next_residual coder x in
     let ds = append_assoc coder.residuals (d ∷ []) (next_residuals (state_after coder x) xs) ∙ ap (λ v. coder.residuals ++ d ∷ v) (next_later (state_after coder x) xs (not_first coder x)) in
     let r = next_none (state_after coder x) xs (not_first coder x) in
     λ i. record { setting = coder.setting; residuals = ds i; reference = r i; previous = last_of x xs; start = coder.start }
 
 -- and one last
-pub grown_snoc : (coder : CoderState) (xs : List ℤ) (x : ℤ) → state_after_all coder (xs ++ x ∷ []) ≡ state_after (state_after_all coder xs) x
-grown_snoc coder [] x = sym (ap (λ v. state_after v x) (grown_none coder [] refl))
-grown_snoc coder (y ∷ ys) x = sym (grown_cons coder y (ys ++ x ∷ [])) ∙ (grown_snoc (state_after coder y) ys x ∙ ap (λ v. state_after v x) (grown_cons coder y ys))
+pub state_after_all-snoc : (coder : CoderState) (xs : List ℤ) (x : ℤ) → state_after_all coder (xs ++ x ∷ []) ≡ state_after (state_after_all coder xs) x
+state_after_all-snoc coder [] x = sym (ap (λ v. state_after v x) (state_after_all-none coder [] refl))
+state_after_all-snoc coder (y ∷ ys) x = sym (state_after_all-cons coder y (ys ++ x ∷ [])) ∙ (state_after_all-snoc (state_after coder y) ys x ∙ ap (λ v. state_after v x) (state_after_all-cons coder y ys))
 
 pub last_at : (p d : ℤ) (xs : List ℤ) → 0 < length xs → last_of p xs ≡ slice_index_or xs (length xs - 1) d
 last_at p d [] h = absurd (omega arith)
@@ -81,7 +81,7 @@ last_at p d (x ∷ y ∷ ys) h =
     let e : suc (length (y ∷ ys) - 1) ≡ length (x ∷ y ∷ ys) - 1 = omega arith in
     last_at x d (y ∷ ys) (omega arith) ∙ ap (λ n. slice_index_or (x ∷ y ∷ ys) n d) e
 
--- the segment stays open
+-- the segment stays_open open
 pub open_later : (coder : CoderState) (end : ℕ) (ds : List ℕ) (xs : List ℤ) → IsOpen coder end → ds ≡ coder.residuals ++ later_residuals coder.setting coder.previous xs → All (IsSample coder.setting) xs →
     length coder.residuals + length xs ≤ coder.setting.block * blocks_left coder.setting coder.start →
     IsOpen (record { setting = coder.setting; residuals = ds; reference = coder.reference; previous = last_of coder.previous xs; start = coder.start }) end

@@ -1,4 +1,4 @@
-use Rattle.std.proofs.Common.{◌≡◌, ◌+◌, ◌-◌, ◌*◌, ◌^◌, ◌<◌, ◌≤◌, ◌++◌, ◌∙◌, min, true, false, length, drop, take, arith, ap, sym, subst, inl, inr}
+use Rattle.std.proofs.Common.{◌≡◌, ◌+◌, ◌-◌, ◌*◌, ◌≤◌, ◌++◌, ◌∙◌, min, true, false, length, drop, take, arith, ap, sym, subst, inl, inr}
 use Rattle.std.specs.Prelude.{sum_by, slice_range}
 use Rattle.std.proofs.lemmas.List.{take_all}
 use Rattle.rice_samples.specs.Parameters.{k_max}
@@ -6,7 +6,8 @@ use Rattle.rice_code.specs.code.Blocks.{BlockData, is_zero_block}
 use Rattle.rice_code.specs.code.CodedDataSets.{cost, bits_of_set, bits_of_sets}
 use Rattle.rice_code.specs.code.Code.{data_sets}
 use Rattle.rice_code.specs.code.Choice.{shortest, best_split}
-use Rattle.rice_code.specs.encode.HeldBlocks.{held_blocks, reference_at, pending_run}
+use Rattle.rice_code.specs.encode.HeldBlocks.{held_blocks, reference_at, pending_run, pending_bits}
+use Rattle.rice_code.specs.encode.BitBuffer.{HasRoomFor}
 use Rattle.rice_code.specs.code.SoundBlocks.{block_with, IsSoundData}
 use Rattle.rice_code.specs.Steps.{least_looks, most_looks}
 use Rattle.rice_code.proofs.lemmas.meaning.Covers.{bool_cases}
@@ -20,23 +21,9 @@ code_next-run-requires-clause-sound c =
     let ds = c.args.segment.now in
     let i = c.loop-i.i in
     let size = ap (λ m. slice_range ds (i * m) (i * m + m)) c.block-size.ensures.value in
-    let block = c.block-block.ensures.value ∙ (size ∙ held_range s ds i) in
-    let e : block_with c.reference_of.result c.block-block.result ≡ held s c.args.reference ds i = λ j. block_with (c.reference_of.ensures j) (block j) in
+    let block = c.block.ensures.value ∙ (size ∙ held_range s ds i) in
+    let e : c.new-block.result ≡ held s c.args.reference ds i = c.new-block.ensures ∙ (λ j. block_with (c.reference_of.ensures j) (block j)) in
     subst (IsSoundData s) (sym e) (sound_of s (c.args.start + i) _ (held_sound s c.args.start c.args.reference c.args.count ds i c.loop-i-test.true c.requires.sound))
-
-pub code_next-run-requires-clause-room : goal.code_next-run-requires-clause-room
-code_next-run-requires-clause-room c =
-    let s = c.args.setting.now in
-    let ds = c.args.segment.now in
-    let i = c.loop-i.i in
-    let size = ap (λ m. slice_range ds (i * m) (i * m + m)) c.block-size.ensures.value in
-    let block = c.block-block.ensures.value ∙ (size ∙ held_range s ds i) in
-    let e : block_with c.reference_of.result c.block-block.result ≡ held s c.args.reference ds i = λ j. block_with (c.reference_of.ensures j) (block j) in
-    let w = ap (λ f. length (bits_of_sets s (pending_run false f c.loop-i.run))) c.reference_of-first.ensures in
-    let legal = c.block-size.ensures.legal in
-    let one : 1 ≤ s.block = grind (arith, legal.block) in
-    let P : BlockData → Type 0 = λ b. is_zero_block b ≡ false → length c.loop-i.sink + length (bits_of_sets s (pending_run false c.reference_of-first.result c.loop-i.run)) + cost s (shortest s b) ≤ 131456 in
-    subst P (sym e) (λ z. let g = room_other s c.args.start c.args.reference c.args.count ds i c.loop-i.run c.loop-i.sink c.args.sink.now (bits_of_sets s (data_sets s c.args.start false (held_blocks s c.args.reference c.args.count ds))) legal.interval_from one c.requires.few c.loop-i.invariant.inside c.loop-i-test.true c.requires.sound z c.loop-i.invariant.same in omega (arith, g, w, c.requires.room))
 
 pub code_next-run-requires-clause-look : goal.code_next-run-requires-clause-look
 code_next-run-requires-clause-look c =
@@ -46,30 +33,30 @@ code_next-run-requires-clause-look c =
     let i = c.loop-i.i in
     let room = room_within c.loop-i.sink (to_come s c.args.start c.args.reference c.args.count c.args.segment.now i c.loop-i.run) c.args.sink.now all c.loop-i.invariant.same in
     let fits = meter_fits c.loop-i.meter c.args.meter.now (length c.loop-i.sink) (length c.args.sink.now) (length all) 0 (sum_by (most_looks s) (take i cs)) i c.args.count (s.block * (k_max s + 5))
-    c.loop-i.invariant.steps_to (most_of_all s i cs) c.loop-i-test.true (omega (arith, room)) c.requires.meter in
+    c.loop-i.invariant.steps_to (most_of_all s i cs) c.loop-i-test.true (omega (arith, room)) (omega (arith, c.requires.room.steps)) in
     let more = looks_more s.block (k_max s) in
     omega (arith, fits, more)
 
-pub code_next-run-requires-clause-meter : goal.code_next-run-requires-clause-meter
-code_next-run-requires-clause-meter c =
+pub code_next-run-requires-clause-room : goal.code_next-run-requires-clause-room
+code_next-run-requires-clause-room c =
     let s = c.args.setting.now in
     let ds = c.args.segment.now in
     let i = c.loop-i.i in
     let cs = held_blocks s c.args.reference c.args.count ds in
     let all = bits_of_sets s (data_sets s c.args.start false cs) in
     let size = ap (λ m. slice_range ds (i * m) (i * m + m)) c.block-size.ensures.value in
-    let block = c.block-block.ensures.value ∙ (size ∙ held_range s ds i) in
-    let e : block_with c.reference_of.result c.block-block.result ≡ held s c.args.reference ds i = λ j. block_with (c.reference_of.ensures j) (block j) in
+    let block = c.block.ensures.value ∙ (size ∙ held_range s ds i) in
+    let e : c.new-block.result ≡ held s c.args.reference ds i = c.new-block.ensures ∙ (λ j. block_with (c.reference_of.ensures j) (block j)) in
     let w = ap (λ f. length (bits_of_sets s (pending_run false f c.loop-i.run))) c.reference_of-first.ensures in
     let legal = c.block-size.ensures.legal in
     let one : 1 ≤ s.block = grind (arith, legal.block) in
-    let P : BlockData → Type 0 = λ b. is_zero_block b ≡ false → c.loop-i.meter + length (bits_of_sets s (pending_run false c.reference_of-first.result c.loop-i.run)) + cost s (shortest s b) + s.block * (k_max s + 5) < 2 ^ 62 in
+    let P : BlockData → Type 0 = λ b. is_zero_block b ≡ false → HasRoomFor (length (pending_bits s false c.reference_of-first.result c.loop-i.run) + cost s (shortest s b)) (length (pending_bits s false c.reference_of-first.result c.loop-i.run) + cost s (shortest s b) + s.block * (k_max s + 5)) (length c.loop-i.sink) c.loop-i.meter in
     subst P (sym e) (λ z.
     let put = length (bits_of_sets s (pending_run false (reference_at c.args.reference (i - c.loop-i.run)) c.loop-i.run)) + cost s (shortest s (held s c.args.reference ds i)) in
     let g = room_other s c.args.start c.args.reference c.args.count ds i c.loop-i.run c.loop-i.sink c.args.sink.now all legal.interval_from one c.requires.few c.loop-i.invariant.inside c.loop-i-test.true c.requires.sound z c.loop-i.invariant.same in
     let fits = meter_fits c.loop-i.meter c.args.meter.now (length c.loop-i.sink) (length c.args.sink.now) (length all) put (sum_by (most_looks s) (take i cs)) i c.args.count (s.block * (k_max s + 5))
-    c.loop-i.invariant.steps_to (most_of_all s i cs) c.loop-i-test.true (omega (arith, g)) c.requires.meter in
-    omega (arith, fits, w))
+    c.loop-i.invariant.steps_to (most_of_all s i cs) c.loop-i-test.true (omega (arith, g)) (omega (arith, c.requires.room.steps)) in
+    record { room = omega (arith, g, w, c.requires.room.room); steps = omega (arith, fits, w) })
 
 pub loop-i-preserved : goal.loop-i-preserved
 loop-i-preserved c =
@@ -83,9 +70,9 @@ loop-i-preserved c =
     let cs = held_blocks s r n ds in
     let all = bits_of_sets s (data_sets s start false cs) in
     let size = ap (λ m. slice_range ds (i * m) (i * m + m)) c.block-size.ensures.value in
-    let block = c.block-block.ensures.value ∙ (size ∙ held_range s ds i) in
-    let raw = block_with c.reference_of.result c.block-block.result in
-    let e : raw ≡ held s r ds i = λ j. block_with (c.reference_of.ensures j) (block j) in
+    let block = c.block.ensures.value ∙ (size ∙ held_range s ds i) in
+    let raw = c.new-block.result in
+    let e : raw ≡ held s r ds i = c.new-block.ensures ∙ (λ j. block_with (c.reference_of.ensures j) (block j)) in
     let legal = c.block-size.ensures.legal in
     let one : 1 ≤ s.block = grind (arith, legal.block) in
     let inv = c.loop-i.invariant in
@@ -97,52 +84,39 @@ loop-i-preserved c =
       | inl z ↦
           let zh = sym (ap is_zero_block e) ∙ z in
           let looks = looks_zero s (held s r ds i) zh in
-          let len = ap length (after.bits_zero z) in
-          let steps = after.steps_zero z in
+          let joins = after.joins z in
+          let len = ap length joins.bits in
           record {
-            inside = omega (arith, after.run_zero z);
-            same = (λ j. after.bits_zero z j ++ to_come s start r n ds (i + 1) (after.run_zero z j)) ∙ (ap (λ v. c.loop-i.sink ++ v) (sym (next_zero s start r n ds i run inv.inside c.loop-i-test.true c.requires.sound zh)) ∙ inv.same);
-            steps_from = omega (arith, low, looks.0, len, steps, inv.steps_from);
-            steps_to = omega (arith, high, looks.1, len, steps, inv.steps_to);
+            inside = omega (arith, joins.run_is);
+            same = (λ j. joins.bits j ++ to_come s start r n ds (i + 1) (joins.run_is j)) ∙ (ap (λ v. c.loop-i.sink ++ v) (sym (next_zero s start r n ds i run inv.inside c.loop-i-test.true c.requires.sound zh)) ∙ inv.same);
+            steps_from = omega (arith, low, looks.0, len, joins.steps, inv.steps_from);
+            steps_to = omega (arith, high, looks.1, len, joins.steps, inv.steps_to);
           }
       | inr z ↦
           let zh = sym (ap is_zero_block e) ∙ z in
           let looks = looks_other s (held s r ds i) zh in
-          let len = after.len z in
+          let ends = after.ends z in
+          let len = ends.len in
           let k = ap (best_split s) e in
           let put = length (bits_of_sets s (pending_run false c.reference_of-first.result run)) + cost s (shortest s raw) in
           let more = next_other s start r n ds i run legal.interval_from c.requires.few inv.inside c.loop-i-test.true zh in
           let more' : to_come s start r n ds i run ≡ bits_of_sets s (pending_run false c.reference_of-first.result run) ++ (bits_of_set s (shortest s raw) ++ to_come s start r n ds (i + 1) 0) =
           more ∙ (λ j. bits_of_sets s (pending_run false (sym c.reference_of-first.ensures j) run) ++ (bits_of_set s (shortest s (sym e j)) ++ to_come s start r n ds (i + 1) 0)) in
           record {
-            inside = omega (arith, after.run z);
-            same = ap (λ v. c.code_next-run.new.sink ++ to_come s start r n ds (i + 1) v) (after.run z)
-                ∙ other_same c.loop-i.sink c.code_next-run.new.sink (bits_of_sets s (pending_run false c.reference_of-first.result run)) (bits_of_set s (shortest s raw)) (to_come s start r n ds (i + 1) 0) (c.args.sink.now ++ all) (after.bits z)
+            inside = omega (arith, ends.run_is);
+            same = ap (λ v. c.code_next-run.new.sink ++ to_come s start r n ds (i + 1) v) ends.run_is
+                ∙ other_same c.loop-i.sink c.code_next-run.new.sink (bits_of_sets s (pending_run false c.reference_of-first.result run)) (bits_of_set s (shortest s raw)) (to_come s start r n ds (i + 1) 0) (c.args.sink.now ++ all) ends.bits
                 (sym (ap (λ v. c.loop-i.sink ++ v) more') ∙ inv.same);
             steps_from = rw low (least_more s.block (best_split s raw) (least_looks s (held s r ds i)) c.args.meter.now c.loop-i.meter c.code_next-run.new.meter (length c.loop-i.sink) (length c.code_next-run.new.sink) (length c.args.sink.now) put (sum_by (least_looks s) (take i cs))
-                one inv.steps_from (omega (arith, after.steps_from z)) (omega (arith, len)) (looks.0 ∙ ap (λ k. s.block * (k + 3) - 1) (sym k)));
+                one inv.steps_from (omega (arith, ends.steps_from)) (omega (arith, len)) (looks.0 ∙ ap (λ k. s.block * (k + 3) - 1) (sym k)));
             steps_to = rw high (most_more (most_looks s (held s r ds i)) c.args.meter.now c.loop-i.meter c.code_next-run.new.meter (length c.loop-i.sink) (length c.code_next-run.new.sink) (length c.args.sink.now) put (sum_by (most_looks s) (take i cs)) (s.block * (min (best_split s raw + 1) (k_max s) + 5))
-                inv.steps_to (omega (arith, after.steps_to z)) (omega (arith, len)) (looks.1 ∙ ap (λ k. s.block * (min (k + 1) (k_max s) + 5)) (sym k)));
+                inv.steps_to (omega (arith, ends.steps_to)) (omega (arith, len)) (looks.1 ∙ ap (λ k. s.block * (min (k + 1) (k_max s) + 5)) (sym k)));
           }
     ]
 
 -- the invariant at the end
-pub put_waiting-requires-clause-room : goal.put_waiting-requires-clause-room
-put_waiting-requires-clause-room c =
-    let s = c.args.setting.now in
-    let n = c.args.count in
-    let ds = c.args.segment.now in
-    let all = bits_of_sets s (data_sets s c.args.start false (held_blocks s c.args.reference n ds)) in
-    let i : c.loop-i.i ≡ n = omega arith in
-    let run = c.loop-i.run in
-    let same = sym (ap (λ i. c.loop-i.sink ++ to_come s c.args.start c.args.reference n ds i run) i) ∙ c.loop-i.invariant.same in
-    let ends = ap (λ v. c.loop-i.sink ++ v) (at_end s c.args.start c.args.reference n ds run c.block-size.ensures.legal.interval_from c.requires.few (omega arith)) in
-    let room = room_within c.loop-i.sink (bits_of_sets s (pending_run true (reference_at c.args.reference (n - run)) run)) c.args.sink.now all (sym ends ∙ same) in
-    let w = ap (λ f. length (bits_of_sets s (pending_run true f run))) c.reference_of-first-2.ensures in
-    omega (arith, room, w, c.requires.room)
-
-pub put_waiting-requires-clause-meter : goal.put_waiting-requires-clause-meter
-put_waiting-requires-clause-meter c =
+pub put_pending-requires-clause-room : goal.put_pending-requires-clause-room
+put_pending-requires-clause-room c =
     let s = c.args.setting.now in
     let n = c.args.count in
     let ds = c.args.segment.now in
@@ -156,36 +130,27 @@ put_waiting-requires-clause-meter c =
     let room = room_within c.loop-i.sink (bits_of_sets s (pending_run true (reference_at c.args.reference (n - run)) run)) c.args.sink.now all (sym ends ∙ same) in
     let w = ap (λ f. length (bits_of_sets s (pending_run true f run))) c.reference_of-first-2.ensures in
     let fits = meter_ends c.loop-i.meter c.args.meter.now (length c.loop-i.sink) (length c.args.sink.now) (length all) put (sum_by (most_looks s) (take c.loop-i.i cs)) c.loop-i.i n (s.block * (k_max s + 5))
-    c.loop-i.invariant.steps_to (most_of_all s c.loop-i.i cs) (omega arith) (omega (arith, room)) c.requires.meter in
-    omega (arith, fits, w)
+    c.loop-i.invariant.steps_to (most_of_all s c.loop-i.i cs) (omega arith) (omega (arith, room)) (omega (arith, c.requires.room.steps)) in
+    record { room = omega (arith, room, w, c.requires.room.room); steps = omega (arith, fits, w) }
 
-pub returns-clause-bits : goal.returns-clause-bits
-returns-clause-bits c =
+pub returns : goal.returns
+returns c =
     let s = c.args.setting.now in
     let n = c.args.count in
     let ds = c.args.segment.now in
+    let cs = held_blocks s c.args.reference n ds in
+    let all = bits_of_sets s (data_sets s c.args.start false cs) in
     let i : c.loop-i.i ≡ n = omega arith in
     let run = c.loop-i.run in
     let same = sym (ap (λ i. c.loop-i.sink ++ to_come s c.args.start c.args.reference n ds i run) i) ∙ c.loop-i.invariant.same in
     let ends = ap (λ v. c.loop-i.sink ++ v) (at_end s c.args.start c.args.reference n ds run c.block-size.ensures.legal.interval_from c.requires.few (omega arith)) in
-    c.put_waiting.ensures.bits ∙ (ap (λ f. c.loop-i.sink ++ bits_of_sets s (pending_run true f run)) c.reference_of-first-2.ensures ∙ (sym ends ∙ same))
-
-pub returns-clause-steps_from : goal.returns-clause-steps_from
-returns-clause-steps_from c =
-    let s = c.args.setting.now in
-    let cs = held_blocks s c.args.reference c.args.count c.args.segment.now in
-    let all = bits_of_sets s (data_sets s c.args.start false cs) in
-    let len = held_len s c.args.reference c.args.count c.args.segment.now in
-    let whole = ap (sum_by (least_looks s)) (take_all c.loop-i.i cs (omega (arith, len))) in
-    let a = length_both c.put_waiting.new.sink c.args.sink.now all (returns-clause-bits c) in
-    omega (arith, whole, a, c.put_waiting.ensures.len, c.put_waiting.ensures.steps, c.loop-i.invariant.steps_from)
-
-pub returns-clause-steps_to : goal.returns-clause-steps_to
-returns-clause-steps_to c =
-    let s = c.args.setting.now in
-    let cs = held_blocks s c.args.reference c.args.count c.args.segment.now in
-    let all = bits_of_sets s (data_sets s c.args.start false cs) in
-    let len = held_len s c.args.reference c.args.count c.args.segment.now in
-    let whole = ap (sum_by (most_looks s)) (take_all c.loop-i.i cs (omega (arith, len))) in
-    let a = length_both c.put_waiting.new.sink c.args.sink.now all (returns-clause-bits c) in
-    omega (arith, whole, a, c.put_waiting.ensures.len, c.put_waiting.ensures.steps, c.loop-i.invariant.steps_to)
+    let put : c.put_pending.new.sink ≡ c.args.sink.now ++ all = c.put_pending.ensures.bits ∙ (ap (λ f. c.loop-i.sink ++ bits_of_sets s (pending_run true f run)) c.reference_of-first-2.ensures ∙ (sym ends ∙ same)) in
+    let len = held_len s c.args.reference n ds in
+    let least = ap (sum_by (least_looks s)) (take_all c.loop-i.i cs (omega (arith, len))) in
+    let most = ap (sum_by (most_looks s)) (take_all c.loop-i.i cs (omega (arith, len))) in
+    let a = length_both c.put_pending.new.sink c.args.sink.now all put in
+    record {
+      bits = put;
+      steps_from = omega (arith, least, a, c.put_pending.ensures.len, c.put_pending.ensures.steps, c.loop-i.invariant.steps_from);
+      steps_to = omega (arith, most, a, c.put_pending.ensures.len, c.put_pending.ensures.steps, c.loop-i.invariant.steps_to);
+    }

@@ -1,35 +1,35 @@
 use Rattle.std.proofs.Common.{arith, ◌+◌, ◌*◌}
-use Rattle.rice_code.proofs.lemmas.encode.JoinedWords.{joined_fits, joined_small, low_word, four_words}
+use Rattle.rice_code.proofs.lemmas.encode.JoinedWords.{joined_fits, high_small, low_word, four_words}
 use Rattle.rice_code.proofs.encode.fields.four_low.Goals as goal
 
 pub returns-clause-fits : goal.returns-clause-fits
 returns-clause-fits c =
     let w = c.args.width in
-    (four_words w w w w (4 * w) c.low_digits-first.result c.low_digits-second.result c.low_digits-third.result c.low_digits-last.result c.joined-two.result c.joined-three.result c.joined.result _ _ _ _
-    c.low_digits-first.ensures.fits c.low_digits-second.ensures.fits c.low_digits-third.ensures.fits c.low_digits-last.ensures.fits c.joined-two.ensures c.joined-three.ensures c.joined.ensures
+    (four_words w w w w (4 * w) c.low_digits-first.result c.low_digits-second.result c.low_digits-third.result c.low_digits-last.result c.join-two.result c.join-three.result c.join.result _ _ _ _
+    c.low_digits-first.ensures.fits c.low_digits-second.ensures.fits c.low_digits-third.ensures.fits c.low_digits-last.ensures.fits c.join-two.ensures c.join-three.ensures c.join.ensures
     (low_word w c.args.four.0 _ c.low_digits-first.ensures.value) (low_word w c.args.four.1 _ c.low_digits-second.ensures.value) (low_word w c.args.four.2 _ c.low_digits-third.ensures.value) (low_word w c.args.four.3 _ c.low_digits-last.ensures.value) (omega arith)).0
 
 pub returns-clause-bits : goal.returns-clause-bits
 returns-clause-bits c =
     let w = c.args.width in
-    (four_words w w w w (4 * w) c.low_digits-first.result c.low_digits-second.result c.low_digits-third.result c.low_digits-last.result c.joined-two.result c.joined-three.result c.joined.result _ _ _ _
-    c.low_digits-first.ensures.fits c.low_digits-second.ensures.fits c.low_digits-third.ensures.fits c.low_digits-last.ensures.fits c.joined-two.ensures c.joined-three.ensures c.joined.ensures
+    (four_words w w w w (4 * w) c.low_digits-first.result c.low_digits-second.result c.low_digits-third.result c.low_digits-last.result c.join-two.result c.join-three.result c.join.result _ _ _ _
+    c.low_digits-first.ensures.fits c.low_digits-second.ensures.fits c.low_digits-third.ensures.fits c.low_digits-last.ensures.fits c.join-two.ensures c.join-three.ensures c.join.ensures
     (low_word w c.args.four.0 _ c.low_digits-first.ensures.value) (low_word w c.args.four.1 _ c.low_digits-second.ensures.value) (low_word w c.args.four.2 _ c.low_digits-third.ensures.value) (low_word w c.args.four.3 _ c.low_digits-last.ensures.value) (omega arith)).1
 
-pub joined-two-requires-clause-fits : goal.joined-two-requires-clause-fits
-joined-two-requires-clause-fits c =
+pub join-two-requires-clause-high : goal.join-two-requires-clause-high
+join-two-requires-clause-high c =
     let w = c.args.width in
-    joined_small w w c.low_digits-first.result c.low_digits-second.result c.low_digits-first.ensures.fits c.low_digits-second.ensures.fits (omega (arith, c.requires))
+    high_small w w c.low_digits-first.result c.low_digits-second.result c.low_digits-first.ensures.fits c.low_digits-second.ensures.fits (omega (arith, c.requires))
 
-pub joined-three-requires-clause-fits : goal.joined-three-requires-clause-fits
-joined-three-requires-clause-fits c =
+pub join-three-requires-clause-high : goal.join-three-requires-clause-high
+join-three-requires-clause-high c =
     let w = c.args.width in
-    let two = joined_fits w w c.low_digits-first.result c.low_digits-second.result c.joined-two.result c.low_digits-first.ensures.fits c.low_digits-second.ensures.fits c.joined-two.ensures in
-    joined_small (w + w) w c.joined-two.result c.low_digits-third.result two c.low_digits-third.ensures.fits (omega (arith, c.requires))
+    let two = joined_fits w w c.low_digits-first.result c.low_digits-second.result c.join-two.result c.low_digits-first.ensures.fits c.low_digits-second.ensures.fits c.join-two.ensures in
+    high_small (w + w) w c.join-two.result c.low_digits-third.result two c.low_digits-third.ensures.fits (omega (arith, c.requires))
 
-pub joined-requires-clause-fits : goal.joined-requires-clause-fits
-joined-requires-clause-fits c =
+pub join-requires-clause-high : goal.join-requires-clause-high
+join-requires-clause-high c =
     let w = c.args.width in
-    let two = joined_fits w w c.low_digits-first.result c.low_digits-second.result c.joined-two.result c.low_digits-first.ensures.fits c.low_digits-second.ensures.fits c.joined-two.ensures in
-    let three = joined_fits (w + w) w c.joined-two.result c.low_digits-third.result c.joined-three.result two c.low_digits-third.ensures.fits c.joined-three.ensures in
-    joined_small (w + w + w) w c.joined-three.result c.low_digits-last.result three c.low_digits-last.ensures.fits (omega (arith, c.requires))
+    let two = joined_fits w w c.low_digits-first.result c.low_digits-second.result c.join-two.result c.low_digits-first.ensures.fits c.low_digits-second.ensures.fits c.join-two.ensures in
+    let three = joined_fits (w + w) w c.join-two.result c.low_digits-third.result c.join-three.result two c.low_digits-third.ensures.fits c.join-three.ensures in
+    high_small (w + w + w) w c.join-three.result c.low_digits-last.result three c.low_digits-last.ensures.fits (omega (arith, c.requires))

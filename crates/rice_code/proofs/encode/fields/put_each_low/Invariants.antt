@@ -1,11 +1,10 @@
-use Rattle.std.proofs.Common.{◌≡◌, ◌+◌, ◌-◌, ◌*◌, ◌++◌, length, drop}
-use Rattle.std.specs.Prelude.{flat_map}
-use Rattle.rice_bits.specs.Bits.{word}
+use Rattle.std.proofs.Common.{◌-◌, ◌≤◌}
+use Rattle.std.specs.Prelude.{slice_range}
+use Rattle.rice_code.specs.encode.Parts.{AddsLow}
 use Rattle.rice_code.proofs.encode.fields.put_each_low.Given as goal
 
 abbrev pub invariant-loop-i : goal.invariant-loop-i
 invariant-loop-i l = record {
-  same : (l.sink ++ l.fields) ++ flat_map (word l.width) (drop l.i l.block) ≡ l.fn.sink ++ l.fn.fields ++ flat_map (word l.width) (drop l.from l.block);
-  len : length l.sink + length l.fields + (length l.block - l.i) * l.width ≡ length l.fn.sink + length l.fn.fields + (length l.block - l.from) * l.width;
-  steps : l.meter + length l.fields + (length l.block - l.i) * (l.width + 1) ≡ l.fn.meter + length l.fn.fields + (length l.block - l.from) * (l.width + 1);
+  after : l.from ≤ l.i;
+  adds : AddsLow l.width (l.i - l.from) (slice_range l.block l.from l.i) l.fn.sink l.fn.fields l.sink l.fields l.fn.meter l.meter;
 }

@@ -1,13 +1,13 @@
-use Rattle.std.proofs.Common.{◌+◌, ◌++◌, ◌∙◌, ap, sym, false}
+use Rattle.std.proofs.Common.{◌+◌, ◌++◌, ◌∙◌, ap, arith, sym, false}
 use Rattle.rice_bits.specs.Bits.{word, fundamental_sequence}
 use Rattle.rice_samples.specs.Parameters.{id_len}
 use Rattle.rice_code.specs.code.CodedDataSets.{reference_bits}
 use Rattle.rice_code.specs.encode.HeldBlocks.{zeros_of_run}
-use Rattle.rice_code.proofs.lemmas.encode.OptionBits.{word_flag_zero, flagged, run_text}
+use Rattle.rice_code.proofs.lemmas.encode.OptionBits.{word_flag_zero, flagged, run_text, run_cost}
 use Rattle.rice_code.proofs.encode.options.put_run.Goals as goal
 
-pub returns-clause-bits : goal.returns-clause-bits
-returns-clause-bits c =
+pub returns : goal.returns
+returns c =
     let s = c.args.setting.now in
     let ref = reference_bits s c.args.reference in
     let body = fundamental_sequence (zeros_of_run c.args.to_end c.args.z) in
@@ -15,4 +15,10 @@ returns-clause-bits c =
     let one = ap (λ z. c.args.sink.now ++ z) head in
     let two = c.put.ensures.bits ∙ (c.begin-fields.ensures.bits ∙ ap (λ z. z ++ ref) one) in
     let three = c.put_fs.ensures.bits ∙ (λ i. two i ++ fundamental_sequence (c.sent_zeros.ensures.value i)) in
-    three ∙ (flagged c.args.sink.now (word (id_len s) 0) ref body false ∙ ap (λ z. c.args.sink.now ++ z) (sym (run_text s c.args.to_end c.args.reference c.args.z)))
+    let cost = run_cost s c.args.to_end c.args.reference c.args.z in
+    record {
+      bits = three ∙ (flagged c.args.sink.now (word (id_len s) 0) ref body false ∙ ap (λ z. c.args.sink.now ++ z) (sym (run_text s c.args.to_end c.args.reference c.args.z)));
+      len = omega (arith, cost);
+      steps_from = omega (arith, cost);
+      steps_to = omega (arith, cost);
+    }

@@ -1,90 +1,83 @@
-use Rattle.std.proofs.Common.{◌≡◌, ℕ, ◌+◌, ◌/◌, ◌^◌, ◌++◌, ◌∙◌, List, ap, sym, arith, append-nil}
-use Rattle.std.specs.Prelude.{flat_map, sum_by}
+use Rattle.std.proofs.Common.{◌≡◌, ◌+◌, ◌*◌, ◌/◌, ◌^◌, ◌++◌, ◌∙◌, ap, sym, arith, append-nil, length}
+use Rattle.std.specs.Prelude.{flat_map}
 use Rattle.rice_bits.specs.Bits.{word, fundamental_sequence}
 use Rattle.rice_samples.specs.Parameters.{id_len}
-use Rattle.rice_code.specs.code.CodedDataSets.{reference_bits, sent_from}
-use Rattle.rice_code.proofs.lemmas.encode.OptionBits.{four, no_digits, coded_len}
+use Rattle.rice_code.specs.code.CodedDataSets.{reference_bits, reference_len, sent_residuals}
+use Rattle.rice_code.proofs.lemmas.encode.OptionBits.{four, no_digits, sent_are}
 use Rattle.rice_code.proofs.encode.options.put_split.Goals as goal
 
 pub put_low-requires-clause-room : goal.put_low-requires-clause-room
 put_low-requires-clause-room c =
-    let s = c.args.setting.now in
-    let ds = c.args.block.now in
-    let f = coded_len ds (sent_from c.args.reference ds) c.first_coded-from.result c.args.k (c.first_coded-from.ensures.coded ds) in
-    let g = coded_len ds (sent_from c.args.reference ds) c.first_coded-from.result 1 (c.first_coded-from.ensures.coded ds) in
-    let h = ap (sum_by (λ d. d / 2 ^ c.args.k)) (c.first_coded-from.ensures.coded ds) in
-    omega (arith, f, g, h)
+    let sent = sent_are (sent_residuals c.args.block.now) c.args.block.now.residuals c.residuals-residuals.result.now c.first_coded-from.result c.args.k c.args.k c.first_coded-from.ensures.coded c.residuals-residuals.ensures in
+    let len = ap length c.residuals-residuals.ensures in
+    let ref = ap (reference_len c.args.setting.now) c.reference.ensures in
+    record {
+      room = omega (arith, sent.count, sent.digits, sent.parts, len, ref, c.requires.sound.len);
+      steps = omega (arith, sent.count, sent.digits, sent.parts, len, ref, c.requires.sound.len);
+    }
 
-pub put_low-requires-clause-meter : goal.put_low-requires-clause-meter
-put_low-requires-clause-meter c =
-    let s = c.args.setting.now in
-    let ds = c.args.block.now in
-    let f = coded_len ds (sent_from c.args.reference ds) c.first_coded-from.result c.args.k (c.first_coded-from.ensures.coded ds) in
-    let g = coded_len ds (sent_from c.args.reference ds) c.first_coded-from.result 1 (c.first_coded-from.ensures.coded ds) in
-    let h = ap (sum_by (λ d. d / 2 ^ c.args.k)) (c.first_coded-from.ensures.coded ds) in
-    omega (arith, f, g, h, c.requires.sound.len)
+pub put-requires : goal.put-requires
+put-requires c =
+    let sent = sent_are (sent_residuals c.args.block.now) c.args.block.now.residuals c.residuals-residuals.result.now c.first_coded-from.result c.args.k c.args.k c.first_coded-from.ensures.coded c.residuals-residuals.ensures in
+    let len = ap length c.residuals-residuals.ensures in
+    let ref = ap (reference_len c.args.setting.now) c.reference.ensures in
+    record {
+      room = omega (arith, sent.count, sent.digits, sent.parts, len, ref, c.requires.sound.len);
+      steps = omega (arith, sent.count, sent.digits, sent.parts, len, ref, c.requires.sound.len);
+    }
 
-pub returns-clause-bits : goal.returns-clause-bits
-returns-clause-bits c =
+pub put-requires-2 : goal.put-requires-2
+put-requires-2 c =
+    let sent = sent_are (sent_residuals c.args.block.now) c.args.block.now.residuals c.residuals-residuals.result.now c.first_coded-from.result c.args.k c.args.k c.first_coded-from.ensures.coded c.residuals-residuals.ensures in
+    let len = ap length c.residuals-residuals.ensures in
+    let ref = ap (reference_len c.args.setting.now) c.reference.ensures in
+    record {
+      room = omega (arith, sent.count, sent.digits, sent.parts, len, ref, c.requires.sound.len);
+      steps = omega (arith, sent.count, sent.digits, sent.parts, len, ref, c.requires.sound.len);
+    }
+
+pub returns : goal.returns
+returns c =
+    let sent = sent_are (sent_residuals c.args.block.now) c.args.block.now.residuals c.residuals-residuals.result.now c.first_coded-from.result c.args.k c.args.k c.first_coded-from.ensures.coded c.residuals-residuals.ensures in
     let s = c.args.setting.now in
-    let ref = reference_bits s c.args.reference in
-    let e = sym (c.first_coded-from.ensures.coded c.args.block.now) in
-    let high = λ (ds : List ℕ). flat_map (λ d. fundamental_sequence (d / 2 ^ c.args.k)) ds in
-    let low = λ (ds : List ℕ). flat_map (word c.args.k) ds in
-    let ds = sent_from c.args.reference c.args.block.now in
+    let b = c.args.block.now in
+    let ref = reference_bits s b.reference in
+    let high = flat_map (λ d. fundamental_sequence (d / 2 ^ c.args.k)) (sent_residuals b) in
+    let low = flat_map (word c.args.k) (sent_residuals b) in
     let one = ap (λ n. c.args.sink.now ++ word n (c.args.k + 1)) c.id_len-id.ensures.value in
-    let two = c.begin-fields.ensures.bits ∙ ap (λ z. z ++ ref) one in
-    let three = c.put_high.ensures.bits ∙ (λ i. two i ++ high (e i)) in
-    let all = c.put-2.ensures.bits ∙ (c.put_low.ensures.bits ∙ (λ i. three i ++ low (e i))) in
-    all ∙ four c.args.sink.now (word (id_len s) (c.args.k + 1)) ref (high ds) (low ds)
+    let two = c.begin-fields.ensures.bits ∙ (λ i. one i ++ reference_bits s (c.reference.ensures i)) in
+    let three = c.put_high.ensures.bits ∙ (λ i. two i ++ sent.bits (λ d. fundamental_sequence (d / 2 ^ c.args.k)) i) in
+    let all = c.put-2.ensures.bits ∙ (c.put_low.ensures.bits ∙ (λ i. three i ++ sent.bits (word c.args.k) i)) in
+    let len = ap length c.residuals-residuals.ensures in
+    let len_ref = ap (reference_len s) c.reference.ensures in
+    record {
+      bits = all ∙ four c.args.sink.now (word (id_len s) (c.args.k + 1)) ref high low;
+      len = omega (arith, sent.count, sent.digits, sent.parts, len, len_ref, c.requires.sound.len);
+      steps_from = omega (arith, sent.count, sent.digits, sent.parts, len, len_ref, c.requires.sound.len);
+      steps_to = omega (arith, sent.count, sent.digits, sent.parts, len, len_ref, c.requires.sound.len);
+    }
 
-pub returns-then-k-eq0-clause-bits : goal.returns-then-k-eq0-clause-bits
-returns-then-k-eq0-clause-bits c =
+pub returns-then-k-eq0 : goal.returns-then-k-eq0
+returns-then-k-eq0 c =
+    let sent = sent_are (sent_residuals c.args.block.now) c.args.block.now.residuals c.residuals-residuals.result.now c.first_coded-from.result c.args.k c.args.k c.first_coded-from.ensures.coded c.residuals-residuals.ensures in
     let s = c.args.setting.now in
-    let ref = reference_bits s c.args.reference in
-    let e = sym (c.first_coded-from.ensures.coded c.args.block.now) in
-    let high = λ (ds : List ℕ). flat_map (λ d. fundamental_sequence (d / 2 ^ c.args.k)) ds in
-    let ds = sent_from c.args.reference c.args.block.now in
+    let b = c.args.block.now in
+    let ref = reference_bits s b.reference in
+    let high = flat_map (λ d. fundamental_sequence (d / 2 ^ c.args.k)) (sent_residuals b) in
+    let low = flat_map (word c.args.k) (sent_residuals b) in
     let one = ap (λ n. c.args.sink.now ++ word n (c.args.k + 1)) c.id_len-id.ensures.value in
-    let two = c.begin-fields.ensures.bits ∙ ap (λ z. z ++ ref) one in
-    let three = c.put_high.ensures.bits ∙ (λ i. two i ++ high (e i)) in
+    let two = c.begin-fields.ensures.bits ∙ (λ i. one i ++ reference_bits s (c.reference.ensures i)) in
+    let three = c.put_high.ensures.bits ∙ (λ i. two i ++ sent.bits (λ d. fundamental_sequence (d / 2 ^ c.args.k)) i) in
     let zero : 0 ≡ c.args.k = omega arith in
-    let none = sym (no_digits ds) ∙ ap (λ k. flat_map (word k) ds) zero in
-    ((c.put.ensures.bits ∙ three) ∙ sym (append-nil _)) ∙ (ap (λ z. c.args.sink.now ++ word (id_len s) (c.args.k + 1) ++ ref ++ high ds ++ z) none
-    ∙ four c.args.sink.now (word (id_len s) (c.args.k + 1)) ref (high ds) (flat_map (word c.args.k) ds))
-
-pub put-requires-clause-room : goal.put-requires-clause-room
-put-requires-clause-room c =
-    let s = c.args.setting.now in
-    let ds = c.args.block.now in
-    let f = coded_len ds (sent_from c.args.reference ds) c.first_coded-from.result c.args.k (c.first_coded-from.ensures.coded ds) in
-    let g = coded_len ds (sent_from c.args.reference ds) c.first_coded-from.result 1 (c.first_coded-from.ensures.coded ds) in
-    let h = ap (sum_by (λ d. d / 2 ^ c.args.k)) (c.first_coded-from.ensures.coded ds) in
-    omega (arith, f, g, h)
-
-pub put-requires-clause-meter : goal.put-requires-clause-meter
-put-requires-clause-meter c =
-    let s = c.args.setting.now in
-    let ds = c.args.block.now in
-    let f = coded_len ds (sent_from c.args.reference ds) c.first_coded-from.result c.args.k (c.first_coded-from.ensures.coded ds) in
-    let g = coded_len ds (sent_from c.args.reference ds) c.first_coded-from.result 1 (c.first_coded-from.ensures.coded ds) in
-    let h = ap (sum_by (λ d. d / 2 ^ c.args.k)) (c.first_coded-from.ensures.coded ds) in
-    omega (arith, f, g, h, c.requires.sound.len)
-
-pub put-requires-2-clause-room : goal.put-requires-2-clause-room
-put-requires-2-clause-room c =
-    let s = c.args.setting.now in
-    let ds = c.args.block.now in
-    let f = coded_len ds (sent_from c.args.reference ds) c.first_coded-from.result c.args.k (c.first_coded-from.ensures.coded ds) in
-    let g = coded_len ds (sent_from c.args.reference ds) c.first_coded-from.result 1 (c.first_coded-from.ensures.coded ds) in
-    let h = ap (sum_by (λ d. d / 2 ^ c.args.k)) (c.first_coded-from.ensures.coded ds) in
-    omega (arith, f, g, h)
-
-pub put-requires-2-clause-meter : goal.put-requires-2-clause-meter
-put-requires-2-clause-meter c =
-    let s = c.args.setting.now in
-    let ds = c.args.block.now in
-    let f = coded_len ds (sent_from c.args.reference ds) c.first_coded-from.result c.args.k (c.first_coded-from.ensures.coded ds) in
-    let g = coded_len ds (sent_from c.args.reference ds) c.first_coded-from.result 1 (c.first_coded-from.ensures.coded ds) in
-    let h = ap (sum_by (λ d. d / 2 ^ c.args.k)) (c.first_coded-from.ensures.coded ds) in
-    omega (arith, f, g, h, c.requires.sound.len)
+    let few : length (sent_residuals b) * (c.args.k + 1) ≡ length (sent_residuals b) * 1 = ap (λ k. length (sent_residuals b) * (k + 1)) (sym zero) in
+    let none = sym (no_digits (sent_residuals b)) ∙ ap (λ k. flat_map (word k) (sent_residuals b)) zero in
+    let all = (c.put.ensures.bits ∙ three) ∙ sym (append-nil _) in
+    let last = ap (λ z. c.args.sink.now ++ word (id_len s) (c.args.k + 1) ++ ref ++ high ++ z) none in
+    let len = ap length c.residuals-residuals.ensures in
+    let len_ref = ap (reference_len s) c.reference.ensures in
+    record {
+      bits = all ∙ (last ∙ four c.args.sink.now (word (id_len s) (c.args.k + 1)) ref high low);
+      len = omega (arith, few, sent.count, sent.digits, sent.parts, len, len_ref, c.requires.sound.len);
+      steps_from = omega (arith, few, sent.count, sent.digits, sent.parts, len, len_ref, c.requires.sound.len);
+      steps_to = omega (arith, few, sent.count, sent.digits, sent.parts, len, len_ref, c.requires.sound.len);
+    }

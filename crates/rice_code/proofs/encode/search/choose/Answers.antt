@@ -1,30 +1,29 @@
 use Rattle.std.proofs.Common.{arith, ◌≡◌, ◌*◌, ◌/◌, ◌∙◌}
-use Rattle.rice_code.specs.code.SoundBlocks.{block_with}
 use Rattle.rice_code.proofs.lemmas.cost.PairCosts.{pairs_are_longer}
 use Rattle.rice_code.proofs.lemmas.encode.SearchLemmas.{takes_no_compression, takes_second_extension, takes_split}
 use Rattle.rice_code.proofs.encode.search.choose.Goals as goal
 
 pub returns-then-split-second_extension-clause-value : goal.returns-then-split-second_extension-clause-value
 returns-then-split-second_extension-clause-value c =
-    takes_split c.args.setting.now (block_with c.args.reference c.args.block.now) c.best_split-k.result.0 c.best_split-k.ensures.best
+    takes_split c.args.setting.now c.args.block.now c.best_split-k.result.0 c.best_split-k.ensures.best
     (omega (arith, c.best_split-k.ensures.value, c.second_extension_cost-second_extension.ensures.value, c.no_compression_cost-no_compression.ensures.value))
     (omega (arith, c.best_split-k.ensures.value, c.second_extension_cost-second_extension.ensures.value, c.no_compression_cost-no_compression.ensures.value))
 
 pub returns-else-split-second_extension-clause-value : goal.returns-else-split-second_extension-clause-value
 returns-else-split-second_extension-clause-value c =
-    takes_second_extension c.args.setting.now (block_with c.args.reference c.args.block.now) c.best_split-k.result.0 c.best_split-k.ensures.best
+    takes_second_extension c.args.setting.now c.args.block.now c.best_split-k.result.0 c.best_split-k.ensures.best
     (omega (arith, c.best_split-k.ensures.value, c.second_extension_cost-second_extension.ensures.value, c.no_compression_cost-no_compression.ensures.value))
     (omega (arith, c.best_split-k.ensures.value, c.second_extension_cost-second_extension.ensures.value, c.no_compression_cost-no_compression.ensures.value))
 
 pub returns-then-split-no_compression-2-clause-value : goal.returns-then-split-no_compression-2-clause-value
 returns-then-split-no_compression-2-clause-value c =
-    takes_split c.args.setting.now (block_with c.args.reference c.args.block.now) c.best_split-k.result.0 c.best_split-k.ensures.best
+    takes_split c.args.setting.now c.args.block.now c.best_split-k.result.0 c.best_split-k.ensures.best
     (omega (arith, c.best_split-k.ensures.value, c.second_extension_cost-second_extension.ensures.value, c.no_compression_cost-no_compression.ensures.value))
     (omega (arith, c.best_split-k.ensures.value, c.second_extension_cost-second_extension.ensures.value, c.no_compression_cost-no_compression.ensures.value))
 
 pub returns-else-split-no_compression-2-clause-value : goal.returns-else-split-no_compression-2-clause-value
 returns-else-split-no_compression-2-clause-value c =
-    takes_no_compression c.args.setting.now (block_with c.args.reference c.args.block.now) c.best_split-k.result.0 c.best_split-k.ensures.best
+    takes_no_compression c.args.setting.now c.args.block.now c.best_split-k.result.0 c.best_split-k.ensures.best
     (omega (arith, c.best_split-k.ensures.value, c.second_extension_cost-second_extension.ensures.value, c.no_compression_cost-no_compression.ensures.value))
     (omega (arith, c.best_split-k.ensures.value, c.second_extension_cost-second_extension.ensures.value, c.no_compression_cost-no_compression.ensures.value))
 
@@ -32,15 +31,15 @@ pub returns-then-split-no_compression-clause-value : goal.returns-then-split-no_
 returns-then-split-no_compression-clause-value c =
     let s = c.args.setting.now in
     let n : s.block ≡ 2 * (s.block / 2) = grind (arith, c.block-block.ensures.legal.block) in
-    takes_split s (block_with c.args.reference c.args.block.now) c.best_split-k.result.0 c.best_split-k.ensures.best
+    takes_split s c.args.block.now c.best_split-k.result.0 c.best_split-k.ensures.best
     (omega (arith, c.best_split-k.ensures.value, c.no_compression_cost-no_compression.ensures.value))
-    (pairs_are_longer s (block_with c.args.reference c.args.block.now) c.best_split-k.result.0 (s.block / 2) c.best_split-k.ensures.best (omega arith) (c.requires.sound.len ∙ n))
+    (pairs_are_longer s c.args.block.now c.best_split-k.result.0 (s.block / 2) c.best_split-k.ensures.best (omega arith) (c.requires.sound.len ∙ n))
 
 pub returns-then-k-k_max-clause-value : goal.returns-then-k-k_max-clause-value
 returns-then-k-k_max-clause-value c =
     let s = c.args.setting.now in
     let n : s.block ≡ 2 * (s.block / 2) = grind (arith, c.block-block.ensures.legal.block) in
-    let long = pairs_are_longer s (block_with c.args.reference c.args.block.now) c.best_split-k.result.0 (s.block / 2) c.best_split-k.ensures.best (omega arith) (c.requires.sound.len ∙ n) in
-    takes_no_compression s (block_with c.args.reference c.args.block.now) c.best_split-k.result.0 c.best_split-k.ensures.best
+    let long = pairs_are_longer s c.args.block.now c.best_split-k.result.0 (s.block / 2) c.best_split-k.ensures.best (omega arith) (c.requires.sound.len ∙ n) in
+    takes_no_compression s c.args.block.now c.best_split-k.result.0 c.best_split-k.ensures.best
     (omega (arith, long, c.best_split-k.ensures.value, c.no_compression_cost-no_compression.ensures.value))
     (omega (arith, c.best_split-k.ensures.value, c.no_compression_cost-no_compression.ensures.value))

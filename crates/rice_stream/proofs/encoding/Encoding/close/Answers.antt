@@ -1,9 +1,9 @@
-use Rattle.std.proofs.Common.{arith, ◌≡◌, ◌+◌, refl, subst}
+use Rattle.std.proofs.Common.{arith, ◌≡◌, ◌+◌, refl, sym, subst}
 use Rattle.rice_samples.specs.Parameters.{Parameters}
 use Rattle.rice_code.specs.code.Code.{code_bits}
-use Rattle.rice_code.specs.encode.Coder.{complete_samples}
+use Rattle.rice_code.specs.encode.Coder.{AddsCode, complete_samples, fill_samples}
 use Rattle.rice_stream.specs.declared.outcome.Report.{Report}
-use Rattle.rice_stream.proofs.lemmas.EncodingLemmas.{Total, all_small, counts_small, sink_short, sink_place, closed}
+use Rattle.rice_stream.proofs.lemmas.EncodingLemmas.{all_small, counts_small, sink_short, closed}
 use Rattle.rice_stream.proofs.encoding.Encoding.close.Goals as goal
 
 pub finish-bits-requires-clause-room : goal.finish-bits-requires-clause-room
@@ -17,17 +17,15 @@ overflow_add-report c =
     let s = c.requires.0 in
     let xs = c.requires.3 in
     let k = c.requires.4.counts in
-    let same = subst (λ (t : Parameters). code_bits t xs ≡ code_bits t (complete_samples t xs) + c.finish-bits.result) k.setting (c.finish-bits.ensures.bits xs k.stands) in
+    let adds = c.finish-bits.ensures xs k.stands in
+    let same = subst (λ (t : Parameters). code_bits t xs ≡ code_bits t (complete_samples t xs) + c.finish-bits.result) k.setting adds.bits in
     omega (arith, all_small s c.args.self.coder xs k.setting k.stands, same, k.bits, c.requires.5)
 
 pub returns : goal.returns
 returns c s old now xs h =
+    let e = c.args.self in
     let f = c.finish-bits in
-    let r : Report = record { samples = c.args.self.samples; bits = c.args.self.bits + f.result; steps = c.steps.result } in
-    let stands = h.counts.stands in
-    let total : Total c.args.self.coder.setting xs c.args.self.meter c.steps.result c.args.self.bits (c.args.self.bits + f.result) = record {
-      least = omega (arith, c.steps.ensures.value, f.ensures.steps_from xs stands);
-      most = omega (arith, c.steps.ensures.value, f.ensures.steps_to xs stands);
-      bits = omega (arith, f.ensures.bits xs stands);
-    } in
-    closed s old now c.args.self r f.new.sink c.pad.new.self xs h (f.ensures.code xs stands (sink_place s old now c.args.self xs h)) total refl c.pad.ensures.bits
+    let r : Report = record { samples = e.samples; bits = e.bits + f.result; steps = c.steps.result } in
+    let adds : AddsCode e.coder.setting (complete_samples e.coder.setting xs) xs e.sink f.new.sink f.result (fill_samples e.coder.setting xs) e.meter c.steps.result =
+    subst (AddsCode e.coder.setting (complete_samples e.coder.setting xs) xs e.sink f.new.sink f.result (fill_samples e.coder.setting xs) e.meter) (sym c.steps.ensures.value) (f.ensures xs h.counts.stands) in
+    closed s old now e r f.new.sink c.pad.new.self xs f.result h adds refl refl c.pad.ensures.bits

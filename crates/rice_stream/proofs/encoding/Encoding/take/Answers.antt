@@ -1,10 +1,10 @@
-use Rattle.std.proofs.Common.{arith, ◌≡◌, ◌<◌, ◌∙◌, ◌+◌, ◌++◌, length, length-append, take, ap, sym, subst, ℕ}
+use Rattle.std.proofs.Common.{arith, ◌≡◌, ◌<◌, ◌∙◌, ◌+◌, ◌++◌, length, length-append, take, refl, ap, sym, subst, ℕ}
 use Rattle.std.specs.Prelude.{All}
 use Rattle.std.proofs.lemmas.List.{length-take-le, take-take}
 use Rattle.rice_samples.specs.Parameters.{Parameters, IsSample}
 use Rattle.rice_code.specs.code.Code.{code_bits}
-use Rattle.rice_code.specs.encode.Coder.{complete_samples}
-use Rattle.rice_stream.proofs.lemmas.EncodingLemmas.{Tally, counts_small, early_small, sink_short, sink_place, taken_on}
+use Rattle.rice_code.specs.encode.Coder.{CompletesNone, complete_samples}
+use Rattle.rice_stream.proofs.lemmas.EncodingLemmas.{counts_small, early_small, sink_short, taken_on}
 use Rattle.rice_stream.proofs.encoding.Encoding.take.Goals as goal
 
 pub push_some-pushed-requires-clause-samples : goal.push_some-pushed-requires-clause-samples
@@ -29,10 +29,9 @@ overflow_add-self-2 c =
     let p = c.push_some-pushed in
     let xs = can.before in
     let zs = take p.result.samples c.args.samples.now in
-    let ys = xs ++ zs in
-    let t = c.args.self.now.coder.setting in
-    let same = subst (λ (t : Parameters). code_bits t (complete_samples t ys) ≡ code_bits t (complete_samples t xs) + p.result.bits) k.setting (p.ensures.bits xs k.stands) in
-    let small = early_small can.setting p.new.self ys (p.ensures.setting ∙ k.setting) (p.ensures.stands xs k.stands) in
+    let pushes = p.ensures.pushes in
+    let same = subst (λ (t : Parameters). code_bits t (complete_samples t (xs ++ zs)) ≡ code_bits t (complete_samples t xs) + p.result.bits) k.setting (pushes.adds xs k.stands).bits in
+    let small = early_small can.setting p.new.self (xs ++ zs) (pushes.setting ∙ k.setting) (pushes.taken xs k.stands) in
     let len = length-take-le p.result.samples c.args.samples.now p.ensures.taken in
     omega (arith, small, same, k.bits, can.few, length-append xs zs, len, p.ensures.taken)
 
@@ -40,16 +39,9 @@ pub returns-clause-took : goal.returns-clause-took
 returns-clause-took c s old now xs h =
     let e = c.args.self.now in
     let p = c.push_some-pushed in
-    let stands = h.counts.stands in
     let samples = c.args.samples.now in
     let n = p.result.samples in
-    let zs = take n samples in
-    let len : length zs ≡ n = length-take-le n samples p.ensures.taken in
-    let tally : Tally e.coder.setting xs (xs ++ zs) (length zs) e.meter p.new.meter e.bits (e.bits + p.result.bits) = record {
-      least = omega (arith, p.ensures.steps_from xs stands, len);
-      most = omega (arith, p.ensures.steps_to xs stands, len);
-      bits = omega (arith, p.ensures.bits xs stands);
-    } in
-    let before : (m : ℕ) → m < length zs → complete_samples e.coder.setting (xs ++ take m zs) ≡ complete_samples e.coder.setting xs =
-    λ m lt. ap (λ l. complete_samples e.coder.setting (xs ++ l)) (take-take m n samples (omega (arith, lt, len))) ∙ p.ensures.before_last xs stands m (omega (arith, lt, len)) in
-    taken_on s old now e _ xs zs h p.ensures.setting (p.ensures.stands xs stands) (p.ensures.code xs stands (sink_place s old now e xs h)) tally (ap (λ m. e.samples + m) (sym len)) before
+    let len : length (take n samples) ≡ n = length-take-le n samples p.ensures.taken in
+    let before : (m : ℕ) → m < length (take n samples) → CompletesNone e.coder (take m (take n samples)) =
+    λ m lt. subst (CompletesNone e.coder) (sym (take-take m n samples (omega (arith, lt, len)))) (p.ensures.before_last m (omega (arith, lt, len))) in
+    taken_on s old now e _ xs (take n samples) p.result.bits h p.ensures.pushes refl (ap (λ m. e.samples + m) (sym len)) before

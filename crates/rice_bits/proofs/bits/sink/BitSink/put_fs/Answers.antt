@@ -1,4 +1,4 @@
-use Rattle.std.proofs.Common.{◌≡◌, ◌+◌, ◌-◌, ◌*◌, ◌∙◌, false, ap, sym, arith, length, length-append, drop, replicate}
+use Rattle.std.proofs.Common.{◌≡◌, ◌+◌, ◌-◌, ◌*◌, ◌++◌, ◌∙◌, false, ap, sym, arith, length, length-append, drop, take, replicate}
 use Rattle.rice_bits.specs.Bits.{bits_of, fundamental_sequence}
 use Rattle.rice_bits.proofs.lemmas.bits.Words.{length-fundamental_sequence}
 use Rattle.rice_bits.proofs.lemmas.bits.SinkBytes.{gathered-one, length_viewed}
@@ -21,14 +21,15 @@ invariant_of-self g c =
       small = c.self.invariant.small;
     }
 
-pub returns-clause-bits : goal.returns-clause-bits
-returns-clause-bits g c =
+pub returns : goal.returns
+returns g c =
     let before : length c.args.self.now ≡ c.self.inside.bits = length_viewed _ _ _ _ c.self.invariant c.self.told c.self.view_is in
     let zeros : drop c.self.inside.bits (bits_of c.self.inside.bytes) ≡ replicate (8 * length c.self.inside.bytes - c.self.inside.bits) false =
     c.self.invariant.zeros ∙ ap (λ n. replicate (8 * n - c.self.inside.bits) false) (sym c.self.told) in
-    rw (← c.self.view_is)
-    (gathered-one c.self.inside.bytes c.join_one.new.bytes c.self.inside.bits c.args.m (omega (arith, before, c.requires.room, c.self.told)) zeros c.join_one.ensures).0
-
-pub returns-clause-len : goal.returns-clause-len
-returns-clause-len g c =
-    omega (arith, ap length (returns-clause-bits g c), length-append c.args.self.now (fundamental_sequence c.args.m), length-fundamental_sequence c.args.m)
+    let put : take (c.self.inside.bits + (c.args.m + 1)) (bits_of c.join_one.new.bytes) ≡ c.args.self.now ++ fundamental_sequence c.args.m = rw (← c.self.view_is)
+    (gathered-one c.self.inside.bytes c.join_one.new.bytes c.self.inside.bits c.args.m (omega (arith, before, c.requires.room, c.self.told)) zeros c.join_one.ensures).0 in
+    record {
+      bits = put;
+      len = omega (arith, ap length put, length-append c.args.self.now (fundamental_sequence c.args.m), length-fundamental_sequence c.args.m);
+      steps = omega arith;
+    }

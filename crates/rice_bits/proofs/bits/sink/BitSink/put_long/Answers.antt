@@ -1,4 +1,4 @@
-use Rattle.std.proofs.Common.{◌≡◌, ◌+◌, ◌-◌, ◌/◌, ◌<◌, ◌*◌, ◌%◌, ◌∙◌, false, ap, sym, arith, length, length-append, drop, replicate, rules}
+use Rattle.std.proofs.Common.{◌≡◌, ◌+◌, ◌-◌, ◌/◌, ◌<◌, ◌*◌, ◌++◌, ◌%◌, ◌∙◌, false, ap, sym, arith, length, length-append, drop, take, replicate, rules}
 use Rattle.std.specs.List.{slice_index}
 use Rattle.std.proofs.Math.Nat.{pow-le-pow_right}
 use Rattle.rice_bits.specs.Bits.{bits_of, word}
@@ -29,16 +29,16 @@ invariant_of-self g c =
       small = c.self.invariant.small;
     }
 
-pub returns-clause-bits : goal.returns-clause-bits
-returns-clause-bits g c =
+pub returns : goal.returns
+returns g c =
     let before : length c.args.self.now ≡ c.self.inside.bits = length_viewed _ _ _ _ c.self.invariant c.self.told c.self.view_is in
     let zeros : drop c.self.inside.bits (bits_of c.self.inside.bytes) ≡ replicate (8 * length c.self.inside.bytes - c.self.inside.bits) false =
     c.self.invariant.zeros ∙ ap (λ n. replicate (8 * n - c.self.inside.bits) false) (sym c.self.told) in
-    rw (← c.self.view_is)
+    let put : take (c.self.inside.bits + c.args.width) (bits_of c.join_bytes.new.bytes) ≡ c.args.self.now ++ word c.args.width c.args.value = rw (← c.self.view_is)
     (gathered-put c.self.inside.bytes c.join_bytes.new.bytes c.self.inside.bits c.args.width c.args.value (omega (arith, before, c.requires.room, c.self.told)) c.requires.width c.requires.value zeros
-    (rw c.to_front.ensures at c.join_bytes.ensures)).0
-
-pub returns-clause-len : goal.returns-clause-len
-returns-clause-len g c =
-    ap length (returns-clause-bits g c)
-    ∙ (length-append c.args.self.now (word c.args.width c.args.value) ∙ ap (λ n. length c.args.self.now + n) (length-word c.args.width c.args.value))
+    (rw c.to_front.ensures at c.join_bytes.ensures)).0 in
+    record {
+      bits = put;
+      len = omega (arith, ap length put, length-append c.args.self.now (word c.args.width c.args.value), length-word c.args.width c.args.value);
+      steps = omega arith;
+    }

@@ -5,7 +5,7 @@ use Rattle.rice_samples.specs.Parameters.{IsSample}
 use Rattle.rice_samples.specs.Places.{blocks_left}
 use Rattle.rice_samples.specs.predict.Residuals.{last_of}
 use Rattle.rice_code.specs.encode.OpenSegment.{CoderState, IsOpen, is_first, later_residuals, state_after_all}
-use Rattle.rice_code.proofs.lemmas.encode.SeveralHeld.{grown_later, last_at, open_later}
+use Rattle.rice_code.proofs.lemmas.encode.SeveralHeld.{state_after_all-later, last_at, open_later}
 use Rattle.rice_code.proofs.encode.open_segment.OpenSegment.hold_later.Goals as goal
 
 pub invariant_of-self : goal.invariant_of-self
@@ -37,5 +37,5 @@ returns c =
     let ds = c.push_later.ensures ∙ ap (λ v. i.residuals ++ later_residuals i.setting v xs) (to_z-of_z w64 i.previous before) in
     let last : to_z w64 (of_z w64 d) ≡ last_of i.previous xs = to_z-of_z w64 d r ∙ sym (last_at i.previous (pos 0) xs some) in
     let same : List ℕ → ℤ → CoderState = λ residuals previous. record { setting = i.setting; residuals = residuals; reference = i.reference; previous = previous; start = i.start } in
-    let new : same c.push_later.new.segment (to_z w64 (of_z w64 d)) ≡ state_after_all st xs = (λ j. same (ds j) (last j)) ∙ sym (grown_later st xs later) in
+    let new : same c.push_later.new.segment (to_z w64 (of_z w64 d)) ≡ state_after_all st xs = (λ j. same (ds j) (last j)) ∙ sym (state_after_all-later st xs later) in
     new ∙ ap (λ v. state_after_all v xs) c.self.view_is

@@ -1,9 +1,0 @@
-use Rattle.std.proofs.Common.{arith}
-use Rattle.rice_code.proofs.lemmas.encode.SegmentSteps.{waiting_len}
-use Rattle.rice_code.proofs.encode.blocks.put_waiting.Goals as goal
-
-pub put_run-requires-clause-room : goal.put_run-requires-clause-room
-put_run-requires-clause-room c = let e = waiting_len c.args.setting.now c.args.to_end c.args.reference c.args.run (omega arith) in omega (arith, e)
-
-pub put_run-requires-clause-meter : goal.put_run-requires-clause-meter
-put_run-requires-clause-meter c = let e = waiting_len c.args.setting.now c.args.to_end c.args.reference c.args.run (omega arith) in omega (arith, e)

@@ -1,0 +1,25 @@
+-- The two parts of residuals that are sent: fundamental sequences, and lowest digits.
+use Rattle.std.specs.Prelude.{ℕ, ◌+◌, ◌*◌, ◌/◌, ◌^◌, Bool, List, flat_map, sum_by}
+use Rattle.rice_bits.specs.Bits.{word, fundamental_sequence}
+use Rattle.rice_samples.specs.blocks.Pairs.{pair_codes}
+use Rattle.rice_code.specs.encode.BitBuffer.{HasRoomFor, AddsFields}
+
+-- `width` lowest digits of each of n residuals, and a look at each
+abbrev pub HasRoomForLow : ℕ → ℕ → ℕ → ℕ → Type 0
+HasRoomForLow width n bits meter = HasRoomFor (n * width) (n * (width + 1)) bits meter
+
+abbrev pub AddsLow : ℕ → ℕ → List ℕ → List Bool → List Bool → List Bool → List Bool → ℕ → ℕ → Type 0
+AddsLow width n ds sink_old fields_old sink_new fields_new meter_old meter_new =
+    AddsFields (flat_map (word width) ds) (n * width) (n * (width + 1)) sink_old fields_old sink_new fields_new meter_old meter_new
+
+-- the fundamental sequences of n residuals without their k lowest digits, and a look at each
+abbrev pub HasRoomForHigh : ℕ → ℕ → List ℕ → ℕ → ℕ → Type 0
+HasRoomForHigh k n ds bits meter = HasRoomFor (n + sum_by (λ d. d / 2 ^ k) ds) (2 * n + sum_by (λ d. d / 2 ^ k) ds) bits meter
+
+abbrev pub AddsHigh : ℕ → ℕ → List ℕ → List Bool → List Bool → List Bool → List Bool → ℕ → ℕ → Type 0
+AddsHigh k n ds sink_old fields_old sink_new fields_new meter_old meter_new =
+    AddsFields (flat_map (λ d. fundamental_sequence (d / 2 ^ k)) ds) (n + sum_by (λ d. d / 2 ^ k) ds) (2 * n + sum_by (λ d. d / 2 ^ k) ds) sink_old fields_old sink_new fields_new meter_old meter_new
+
+-- the bits of the codewords that second extension sends for the pairs
+abbrev pub pairs_len : List ℕ → ℕ
+pairs_len ds = sum_by (λ g. g + 1) (pair_codes ds)
