@@ -60,6 +60,12 @@ pub record DecodesWithin (asked : Option ℕ) (r : Report) : Type 0 where
   pub at_least : r.bits + r.samples ≤ r.steps
   pub at_most : r.steps ≤ decoder_step_bound r.bits r.samples
 
+-- the report tells so many samples, bits and steps
+pub record Tells (r : Report) (samples bits steps : ℕ) : Type 0 where
+  pub samples_are : r.samples ≡ samples
+  pub bits_are : r.bits ≡ bits
+  pub steps_are : r.steps ≡ steps
+
 -- how many samples of a block are wanted behind so many
 abbrev pub wanted_of : Option ℕ → ℕ → ℕ → ℕ
 wanted_of None written block = block

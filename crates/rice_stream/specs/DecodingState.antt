@@ -1,5 +1,5 @@
 -- A decoder at work: how far it has come, and what is written of its samples.
-use Rattle.std.specs.Prelude.{◌≡◌, ℕ, ◌+◌, ◌*◌, ◌<◌, ◌≤◌, Bool, List, ◌++◌, length, replicate, All, Option, None, IfSome, ℤ, pos}
+use Rattle.std.specs.Prelude.{◌≡◌, ℕ, ◌+◌, ◌*◌, ◌<◌, ◌≤◌, Bool, List, ◌++◌, length, replicate, All, Option, None, Some, IfSome, ℤ, pos}
 use Rattle.std.specs.Io.KnownBytes.{Appends, Consumes}
 use Rattle.rice_bits.specs.Bits.{bits_of}
 use Rattle.rice_bits.specs.read.Reader.{Reader, Draws}
@@ -29,19 +29,19 @@ pub record DecodedSoFar (s : Parameters) (front : List Bool) (begun blocks run :
       DecodedFrom s (blocks + run) (length front) (last_of (pos 0) (given ++ more)) rest wanted ys ending used → Decoded s (front ++ rest) wanted (cut_to s wanted 0 (given ++ more) ++ ys) ending (length front + used)
 
 -- One block more was given, for which these bits were taken.
-pub record Gains {I : Type 0} (left : I → Option (List ℕ)) (failed : I → ℕ) (s : Parameters) (old new : Reader I) (front : List Bool) (blocks run : ℕ) (given samples : List ℤ) : Type 0 where
+pub record Gains {I : Type 0} (s : Parameters) (old new : Reader I) (front : List Bool) (blocks run : ℕ) (given samples : List ℤ) : Type 0 where
   pub bits : List Bool
-  pub draws : Draws (left old.intake) (left new.intake) old.waiting new.waiting bits
+  pub draws : Draws old.left new.left old.waiting new.waiting bits
   pub taken : new.taken ≡ old.taken + length bits
   pub going : new.refusal ≡ None
-  pub failures : failed new.intake ≡ failed old.intake
+  pub failures : new.failed ≡ old.failed
   pub len : length samples ≡ s.block
   pub begun : ℕ
   pub before : begun ≤ blocks + 1
   pub behind : DecodedSoFar s (front ++ bits) begun (blocks + 1) run (given ++ samples)
 
 -- Blocks were given so far, and their samples are written, cut to those that were asked for.
-pub record DecodingProgress {I : Type 0} (left : I → Option (List ℕ)) (failed : I → ℕ) (s : Parameters) (asked : Option ℕ) (start : I) (out_old out : Option (List ℕ)) (p : DecoderState) (r : Reader I) (steps written : ℕ) : Type 0 where
+pub record DecodingProgress {I : Type 0} (s : Parameters) (asked : Option ℕ) (start : Reader I) (out_old out : Option (List ℕ)) (p : DecoderState) (r : Reader I) (steps written : ℕ) : Type 0 where
   pub blocks : ℕ
   pub bytes : List ℕ
   pub front : List Bool
@@ -51,7 +51,7 @@ pub record DecodingProgress {I : Type 0} (left : I → Option (List ℕ)) (faile
   pub previous : p.before ≡ last_of (pos 0) given
   pub going : p.stopped ≡ None
   pub reader_going : r.refusal ≡ None
-  pub gave : Consumes (left start) (left r.intake) bytes
+  pub gave : Consumes start.left r.left bytes
   pub bits : bits_of bytes ≡ front ++ r.waiting
   pub taken : r.taken ≡ length front
   pub limit : r.taken ≤ 4503599627370496
@@ -64,5 +64,6 @@ pub record DecodingProgress {I : Type 0} (left : I → Option (List ℕ)) (faile
   pub asked_for : IfSome asked (λ n. written ≤ n)
   pub least : r.taken + written ≤ steps
   pub most : steps ≤ 2 * r.taken + written
-  pub reads : failed r.intake ≡ failed start
+  pub reads : r.failed ≡ start.failed
+  pub idle : asked ≡ Some 0 → r ≡ start
   pub put : Appends out_old out (spellings s (cut_to s asked 0 given))

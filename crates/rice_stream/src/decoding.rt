@@ -1,7 +1,8 @@
 //! From the code to its samples.
-ghost use Rattle.std.specs.Prelude.{◌≡◌, ℕ, ◌+◌, ◌-◌, ◌*◌, ◌^◌, ◌<◌, ◌≤◌, length, Option};
+ghost use Rattle.std.specs.Prelude.{◌≡◌, ℕ, ◌+◌, ◌-◌, ◌*◌, ◌^◌, ◌<◌, ◌≤◌, length, Option, Some};
+ghost use Rattle.rice_bits.specs.read.Window.{most_waiting};
 ghost use Rattle.rice_stream.specs.Calls.{Call, Happens, Fails};
-ghost use Rattle.rice_stream.specs.Decodes.{Decodes, DecodesWithin, wanted_of, ended_fault, refusal_fault};
+ghost use Rattle.rice_stream.specs.Decodes.{Decodes, DecodesWithin, Tells, wanted_of, ended_fault, refusal_fault};
 
 use crate::outcome::{Fault, Outcome, Report};
 use crate::write::write_samples;
@@ -56,12 +57,13 @@ fn ended<I: Intake>(
     reader: BitReader<I>,
     meter: &Meter,
 ) -> (Outcome, I)
-    ensures samples { result.0.report.samples ≡ samples }
-    ensures bits { result.0.report.bits ≡ reader.taken }
-    ensures steps { result.0.report.steps ≡ meter.now }
+    ensures tells { Tells result.0.report samples reader.taken meter.now }
     ensures fault { result.0.fault ≡ fault }
     ensures intake { result.1 ≡ reader.intake }
-    ensures ahead { length reader.waiting ≤ 32768 }
+    ensures left { I.left result.1 ≡ reader.left }
+    ensures failed { I.failed result.1 ≡ reader.failed }
+    ensures ahead { length reader.waiting ≤ most_waiting }
+    ensures limit { reader.taken + length reader.waiting ≤ 2 ^ 52 }
 {
     let report = Report {
         samples,
@@ -85,6 +87,8 @@ pub fn decode<I: Intake, O: Outlet>(
         Decodes setting.now asked c result.0.report result.0.fault }
     ensures failures { Fails result.0.fault (I.failed intake) (I.failed result.1) (O.failed outlet.old) (O.failed outlet.new) }
     ensures bounds { DecodesWithin asked result.0.report }
+    // With a count of 0 the intake is not called.
+    ensures idle { asked ≡ Some 0 → result.1 ≡ intake }
 {
     let block = setting.block();
     let mut decoder = Decoder::new(*setting);

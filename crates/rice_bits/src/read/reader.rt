@@ -2,7 +2,7 @@
 ghost use Rattle.std.specs.Prelude.{◌≡◌, ℕ, ◌+◌, ◌-◌, ◌*◌, ◌%◌, ◌^◌, ◌<◌, ◌≤◌, ◌&&◌, Bool, true, false, List, [], ◌++◌, length, replicate, All, drop, flat_map, take, IfOk, IfErr, OnOk, IfSome, IfNone, IsSome, Option, None};
 ghost use Rattle.std.specs.Io.KnownBytes.{Consumes};
 ghost use Rattle.rice_bits.specs.Bits.{fundamental_sequence, bits_to_byte, word};
-ghost use Rattle.rice_bits.specs.read.Reader.{Draws, Refuses, is_blank};
+ghost use Rattle.rice_bits.specs.read.Reader.{Supplies, Refuses, is_blank, new_reader};
 ghost use Rattle.rice_bits.specs.read.Window.{IsWindow, window_bits, window_passed, window_taken};
 
 use crate::bits::digits::join;
@@ -37,7 +37,7 @@ impl<I: Intake> Model for BitReader<I> {
 
     ghost Value = { Reader I };
 
-    ghost view = { λ s. record { waiting = window_bits s.window; taken = window_taken s.window; blank = s.blank_before && is_blank (window_passed s.window); refusal = s.refusal; intake = s.intake } };
+    ghost view = { λ s. record { waiting = window_bits s.window; taken = window_taken s.window; blank = s.blank_before && is_blank (window_passed s.window); refusal = s.refusal; intake = s.intake; left = I.left s.intake; failed = I.failed s.intake } };
 
     ghost invariant = { λ s. IsReader (I.failed s.intake) s.window s.refusal };
 }
@@ -85,7 +85,7 @@ fn draw<I: Intake>(
     requires countable { I.failed intake.old + 1 < 2 ^ 64 }
     ensures window { IsWindow window.new }
     ensures some { OnOk result (0 < length (window_bits window.new)) }
-    ensures ok { OnOk result (Draws (I.left intake.old) (I.left intake.new) (window_bits window.old) (window_bits window.new) []) }
+    ensures ok { OnOk result (Supplies (I.left intake.old) (I.left intake.new) (window_bits window.old) (window_bits window.new)) }
     ensures blank { (blank_before.new && is_blank (window_passed window.new)) ≡ (blank_before.old && is_blank (window_passed window.old)) }
     ensures taken { window_taken window.new ≡ window_taken window.old }
     ensures failures { OnOk result (I.failed intake.new ≡ I.failed intake.old) }
@@ -117,7 +117,7 @@ fn supply<I: Intake>(
     requires countable { I.failed intake.old + 1 < 2 ^ 64 }
     ensures window { IsWindow window.new }
     ensures some { OnOk result (0 < length (window_bits window.new)) }
-    ensures ok { OnOk result (Draws (I.left intake.old) (I.left intake.new) (window_bits window.old) (window_bits window.new) []) }
+    ensures ok { OnOk result (Supplies (I.left intake.old) (I.left intake.new) (window_bits window.old) (window_bits window.new)) }
     ensures blank { (blank_before.new && is_blank (window_passed window.new)) ≡ (blank_before.old && is_blank (window_passed window.old)) }
     ensures taken { window_taken window.new ≡ window_taken window.old }
     ensures failures { OnOk result (I.failed intake.new ≡ I.failed intake.old) }
@@ -137,7 +137,7 @@ impl<I: Intake> BitReader<I> {
     /// A reader that has taken no bit, and is as just after [`mark`](Self::mark).
     pub fn new(intake: I) -> Self
         requires { I.failed intake + 1 < 2 ^ 64 }
-        ensures { result ≡ record { waiting = []; taken = 0; blank = true; refusal = None; intake = intake } }
+        ensures { result ≡ new_reader intake (I.left intake) (I.failed intake) }
     {
         BitReader {
             intake,
@@ -149,7 +149,9 @@ impl<I: Intake> BitReader<I> {
 
     /// The intake, as the last call of its `fill` left it. Bits that wait are lost.
     pub fn into_inner(self) -> I
-        ensures { result ≡ self.intake }
+        ensures value { result ≡ self.intake }
+        ensures left { I.left result ≡ self.left }
+        ensures failed { I.failed result ≡ self.failed }
     {
         let BitReader {
             intake,
@@ -191,10 +193,10 @@ impl<I: Intake> BitReader<I> {
     pub fn take(&mut self, width: u32, meter: &mut Meter) -> Result<u32, BitFault>
         requires width { width ≤ 32 }
         requires meter { meter.old + width < 2 ^ 62 }
-        ensures ok { IfOk result (λ v. (v < 2 ^ width) × Takes I.left I.failed self.old self.new (word width v)) }
+        ensures ok { IfOk result (λ v. (v < 2 ^ width) × Takes self.old self.new (word width v)) }
         // A first refusal took all bits that were left, which were too few.
         ensures err { self.old.refusal ≡ None → IfErr result (λ f.
-            (bits : List Bool) × (length bits < width) × Stops I.left I.failed self.old self.new bits f) }
+            (bits : List Bool) × (length bits < width) × Stops self.old self.new bits f) }
         // A reader that has refused answers the same, and takes nothing.
         ensures stopped { IfSome self.old.refusal (λ f. (result ≡ Err f) × (self.new ≡ self.old)) }
         ensures taken { OnOk result (self.new.taken ≡ self.old.taken + width) }
@@ -219,7 +221,7 @@ impl<I: Intake> BitReader<I> {
     fn take_ready(&mut self, width: u32, meter: &mut Meter) -> Option<u32>
         requires width { width ≤ 32 }
         requires meter { meter.old + width < 2 ^ 62 }
-        ensures some { IfSome result (λ v. (v < 2 ^ width) × Takes I.left I.failed self.old self.new (word width v)) }
+        ensures some { IfSome result (λ v. (v < 2 ^ width) × Takes self.old self.new (word width v)) }
         ensures going { IsSome result → self.old.refusal ≡ None }
         ensures idle { self.new.intake ≡ self.old.intake }
         ensures none { IfNone result ((self.new ≡ self.old) × (meter.new ≡ meter.old)) }
@@ -236,10 +238,10 @@ impl<I: Intake> BitReader<I> {
     fn take_across(&mut self, width: u32, meter: &mut Meter) -> u32
         requires width { width ≤ 32 }
         requires meter { meter.old + width < 2 ^ 62 }
-        ensures ok { self.new.refusal ≡ None → (result < 2 ^ width) × Takes I.left I.failed self.old self.new (word width result) }
+        ensures ok { self.new.refusal ≡ None → (result < 2 ^ width) × Takes self.old self.new (word width result) }
         // A first refusal took all bits that were left, which were too few.
         ensures err { self.old.refusal ≡ None → IfSome self.new.refusal (λ f.
-            (bits : List Bool) × (length bits < width) × Stops I.left I.failed self.old self.new bits f) }
+            (bits : List Bool) × (length bits < width) × Stops self.old self.new bits f) }
         // A reader that has refused takes nothing.
         ensures stopped { IsSome self.old.refusal → self.new ≡ self.old }
         ensures taken { self.new.refusal ≡ None → self.new.taken ≡ self.old.taken + width }
@@ -273,10 +275,10 @@ impl<I: Intake> BitReader<I> {
     #[inline]
     pub fn take_fs(&mut self, meter: &mut Meter) -> Result<u64, BitFault>
         requires meter { meter.old + (2 ^ 52 - self.old.taken) < 2 ^ 62 }
-        ensures ok { IfOk result (λ m. Takes I.left I.failed self.old self.new (fundamental_sequence m)) }
+        ensures ok { IfOk result (λ m. Takes self.old self.new (fundamental_sequence m)) }
         // A first refusal took all bits that were left, which were zeros.
         ensures err { self.old.refusal ≡ None → IfErr result (λ f.
-            (m : ℕ) × Stops I.left I.failed self.old self.new (replicate m false) f) }
+            (m : ℕ) × Stops self.old self.new (replicate m false) f) }
         // A reader that has refused answers the same, and takes nothing.
         ensures stopped { IfSome self.old.refusal (λ f. (result ≡ Err f) × (self.new ≡ self.old)) }
         ensures taken { IfOk result (λ m. self.new.taken ≡ self.old.taken + m + 1) }
@@ -299,7 +301,7 @@ impl<I: Intake> BitReader<I> {
     #[inline]
     fn take_fs_ready(&mut self, meter: &mut Meter) -> Option<u64>
         requires meter { meter.old + (2 ^ 52 - self.old.taken) < 2 ^ 62 }
-        ensures some { IfSome result (λ m. Takes I.left I.failed self.old self.new (fundamental_sequence m)) }
+        ensures some { IfSome result (λ m. Takes self.old self.new (fundamental_sequence m)) }
         ensures going { IsSome result → self.old.refusal ≡ None }
         ensures idle { self.new.intake ≡ self.old.intake }
         ensures none { IfNone result ((self.new ≡ self.old) × (meter.new ≡ meter.old)) }
@@ -317,10 +319,10 @@ impl<I: Intake> BitReader<I> {
     #[inline(never)]
     fn take_fs_across(&mut self, meter: &mut Meter) -> u64
         requires meter { meter.old + (2 ^ 52 - self.old.taken) < 2 ^ 62 }
-        ensures ok { self.new.refusal ≡ None → Takes I.left I.failed self.old self.new (fundamental_sequence result) }
+        ensures ok { self.new.refusal ≡ None → Takes self.old self.new (fundamental_sequence result) }
         // A first refusal took all bits that were left, which were zeros.
         ensures err { self.old.refusal ≡ None → IfSome self.new.refusal (λ f.
-            (m : ℕ) × Stops I.left I.failed self.old self.new (replicate m false) f) }
+            (m : ℕ) × Stops self.old self.new (replicate m false) f) }
         // A reader that has refused takes nothing.
         ensures stopped { IsSome self.old.refusal → self.new ≡ self.old }
         ensures taken { self.new.refusal ≡ None → self.new.taken ≡ self.old.taken + result + 1 }
@@ -346,9 +348,9 @@ impl<I: Intake> BitReader<I> {
     fn take_run(&mut self, meter: &mut Meter) -> Result<(u64, bool), BitFault>
         requires going { self.old.refusal ≡ None }
         requires meter { meter.old + (2 ^ 52 - self.old.taken) < 2 ^ 62 }
-        ensures one { IfOk result (λ r. r.1 ≡ true → Takes I.left I.failed self.old self.new (fundamental_sequence r.0)) }
-        ensures zeros { IfOk result (λ r. r.1 ≡ false → (0 < r.0) × Takes I.left I.failed self.old self.new (replicate r.0 false)) }
-        ensures err { IfErr result (Stops I.left I.failed self.old self.new []) }
+        ensures one { IfOk result (λ r. r.1 ≡ true → Takes self.old self.new (fundamental_sequence r.0)) }
+        ensures zeros { IfOk result (λ r. r.1 ≡ false → (0 < r.0) × Takes self.old self.new (replicate r.0 false)) }
+        ensures err { IfErr result (Stops self.old self.new []) }
         ensures idle { 0 < length self.old.waiting → self.new.intake ≡ self.old.intake }
         ensures steps { meter.new + self.old.taken ≡ meter.old + self.new.taken }
         ensures limit { self.new.taken ≤ 2 ^ 52 }
@@ -380,7 +382,7 @@ impl<I: Intake> BitReader<I> {
         ensures within { result ≤ length words.new }
         ensures fit { All (λ v. v < 2 ^ width) (take result words.new) }
         ensures rest { drop result words.new ≡ drop result words.old }
-        ensures takes { Takes I.left I.failed self.old self.new (flat_map (word width) (take result words.new)) }
+        ensures takes { Takes self.old self.new (flat_map (word width) (take result words.new)) }
         ensures idle { self.new.intake ≡ self.old.intake }
         ensures steps { meter.new + self.old.taken ≡ meter.old + self.new.taken }
         ensures limit { self.new.taken ≤ 2 ^ 52 }
@@ -403,7 +405,7 @@ impl<I: Intake> BitReader<I> {
         ensures within { result ≤ length zeros.new }
         ensures fit { All (λ m. m < 64) (take result zeros.new) }
         ensures rest { drop result zeros.new ≡ drop result zeros.old }
-        ensures takes { Takes I.left I.failed self.old self.new (flat_map fundamental_sequence (take result zeros.new)) }
+        ensures takes { Takes self.old self.new (flat_map fundamental_sequence (take result zeros.new)) }
         ensures idle { self.new.intake ≡ self.old.intake }
         ensures steps { meter.new + self.old.taken ≡ meter.old + self.new.taken }
         ensures limit { self.new.taken ≤ 2 ^ 52 }
@@ -437,8 +439,8 @@ impl<I: Intake> BitReader<I> {
         requires width { most ≤ 32 }
         requires meter { meter.old + most < 2 ^ 62 }
         ensures count { IfOk result (λ r. (0 < r.1) × (r.1 ≤ most) × (r.0 < 2 ^ r.1)) }
-        ensures ok { IfOk result (λ r. Takes I.left I.failed self.old self.new (word r.1 r.0)) }
-        ensures err { IfErr result (Stops I.left I.failed self.old self.new []) }
+        ensures ok { IfOk result (λ r. Takes self.old self.new (word r.1 r.0)) }
+        ensures err { IfErr result (Stops self.old self.new []) }
         ensures idle { 0 < length self.old.waiting → self.new.intake ≡ self.old.intake }
         ensures steps { meter.new + self.old.taken ≡ meter.old + self.new.taken }
         ensures limit { self.new.taken ≤ 2 ^ 52 }

@@ -21,21 +21,21 @@ reference_place None = []
 reference_place (Some v) = 0 ∷ []
 
 -- A reader took what follows the identifier of one block by this option. Its residuals are told where they are sound.
-pub record BlockRead {I : Type 0} (left : I → Option (List ℕ)) (failed : I → ℕ) (old new : Reader I) (old_steps new_steps : ℕ)
+pub record BlockRead {I : Type 0} (old new : Reader I) (old_steps new_steps : ℕ)
     (s : Parameters) (b : ℕ) (option : BlockData → CodedDataSet) (spell : BlockData → List Bool) (reference : Option ℕ) (sound : Bool) (residuals : List ℕ) : Type 0 where
   pub contents : BlockData
   pub form : IsForm s b (option contents)
   pub reference_is : contents.reference ≡ reference
-  pub takes : Takes left failed old new (spell contents)
+  pub takes : Takes old new (spell contents)
   pub told : sound ≡ true → ResidualsAreSound s (option contents) × AllFit s contents × (contents.residuals ≡ residuals)
   pub refused : sound ≡ false → ResidualsAreSound s (option contents) → ⊥
   pub steps : new_steps + old.taken ≡ old_steps + new.taken + turns (option contents)
 
 -- A reader took all that was left and refused, and no block by this option begins with it.
-pub record BlockCut {I : Type 0} (left : I → Option (List ℕ)) (failed : I → ℕ) (old new : Reader I)
+pub record BlockCut {I : Type 0} (old new : Reader I)
     (s : Parameters) (b : ℕ) (option : BlockData → CodedDataSet) (spell : BlockData → List Bool) (fault : BitFault) : Type 0 where
   pub bits : List Bool
-  pub stops : Stops left failed old new bits fault
+  pub stops : Stops old new bits fault
   pub none : (c : BlockData) (more : List Bool) → IsForm s b (option c) → bits ≡ spell c ++ more → ⊥
 
 -- A data set of one block has these residuals where they are sound.
@@ -54,18 +54,18 @@ DescribesSet s b (Residuals reference sound) residuals set = DescribesBlock s b 
 DescribesSet s b (Zeros reference zeros) residuals set = set ≡ run_with_zeros reference zeros
 
 -- A reader took a data set, sound or not.
-pub record SetRead {I : Type 0} (left : I → Option (List ℕ)) (failed : I → ℕ) (old new : Reader I) (old_steps new_steps : ℕ) (s : Parameters) (b : ℕ) (taken : SetHead) (residuals : List ℕ) : Type 0 where
+pub record SetRead {I : Type 0} (old new : Reader I) (old_steps new_steps : ℕ) (s : Parameters) (b : ℕ) (taken : SetHead) (residuals : List ℕ) : Type 0 where
   pub set : CodedDataSet
   pub form : IsForm s b set
-  pub takes : Takes left failed old new (bits_of_set s set)
+  pub takes : Takes old new (bits_of_set s set)
   pub tells : DescribesSet s b taken residuals set
   -- each bit and each turn of the search is a step
   pub steps : new_steps + old.taken ≡ old_steps + new.taken + turns set
 
 -- A reader took all that was left and refused, and no data set begins with it.
-pub record SetCut {I : Type 0} (left : I → Option (List ℕ)) (failed : I → ℕ) (old new : Reader I) (s : Parameters) (b : ℕ) (fault : BitFault) : Type 0 where
+pub record SetCut {I : Type 0} (old new : Reader I) (s : Parameters) (b : ℕ) (fault : BitFault) : Type 0 where
   pub bits : List Bool
-  pub stops : Stops left failed old new bits fault
+  pub stops : Stops old new bits fault
   pub none : (d : CodedDataSet) (more : List Bool) → IsForm s b d → bits ≡ bits_of_set s d ++ more → ⊥
 
 -- the data sets whose identifier is 0, behind it
@@ -84,15 +84,15 @@ IsLow (Split k c) = ⊥
 IsLow (ZeroBlocks reference z) = ⊤
 IsLow (RemainderOfSegment reference) = ⊤
 
-pub record LowRead {I : Type 0} (left : I → Option (List ℕ)) (failed : I → ℕ) (old new : Reader I) (old_steps new_steps : ℕ) (s : Parameters) (b : ℕ) (taken : SetHead) (residuals : List ℕ) : Type 0 where
+pub record LowRead {I : Type 0} (old new : Reader I) (old_steps new_steps : ℕ) (s : Parameters) (b : ℕ) (taken : SetHead) (residuals : List ℕ) : Type 0 where
   pub set : CodedDataSet
   pub low : IsLow set
   pub form : IsForm s b set
-  pub takes : Takes left failed old new (low_tail s set)
+  pub takes : Takes old new (low_tail s set)
   pub tells : DescribesSet s b taken residuals set
   pub steps : new_steps + old.taken ≡ old_steps + new.taken + turns set
 
-pub record LowCut {I : Type 0} (left : I → Option (List ℕ)) (failed : I → ℕ) (old new : Reader I) (s : Parameters) (b : ℕ) (fault : BitFault) : Type 0 where
+pub record LowCut {I : Type 0} (old new : Reader I) (s : Parameters) (b : ℕ) (fault : BitFault) : Type 0 where
   pub bits : List Bool
-  pub stops : Stops left failed old new bits fault
+  pub stops : Stops old new bits fault
   pub none : (d : CodedDataSet) (more : List Bool) → IsForm s b d → IsLow d → bits ≡ low_tail s d ++ more → ⊥

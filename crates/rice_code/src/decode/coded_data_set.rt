@@ -22,8 +22,8 @@ fn read_low<I: Intake>(
     requires going { reader.old.refusal ≡ None }
     requires room { HasRoom meter.old reader.old.taken }
     requires size { length residuals.old ≡ setting.now.block }
-    ensures ok { IfOk result (λ t. LowRead I.left I.failed reader.old reader.new meter.old meter.new setting.now block t residuals.new) }
-    ensures err { IfErr result (LowCut I.left I.failed reader.old reader.new setting.now block) }
+    ensures ok { IfOk result (λ t. LowRead reader.old reader.new meter.old meter.new setting.now block t residuals.new) }
+    ensures err { IfErr result (LowCut reader.old reader.new setting.now block) }
     ensures steps { AreCounted meter.old meter.new reader.old.taken reader.new.taken }
 {
     let bit = match reader.take(1, meter) {
@@ -58,8 +58,8 @@ pub fn read_set<I: Intake>(
     requires room { HasRoom meter.old reader.old.taken }
     requires size { length residuals.old ≡ setting.now.block }
     requires highs { length highs.old ≡ 64 }
-    ensures ok { IfOk result (λ t. SetRead I.left I.failed reader.old reader.new meter.old meter.new setting.now block t residuals.new) }
-    ensures err { IfErr result (SetCut I.left I.failed reader.old reader.new setting.now block) }
+    ensures ok { IfOk result (λ t. SetRead reader.old reader.new meter.old meter.new setting.now block t residuals.new) }
+    ensures err { IfErr result (SetCut reader.old reader.new setting.now block) }
     ensures steps { AreCounted meter.old meter.new reader.old.taken reader.new.taken }
 {
     let width = setting.id_len();

@@ -63,9 +63,9 @@ fn decode_set<I: Intake>(
     requires p { IsSample setting.now p }
     requires marked { reader.old.blank ≡ true }
     requires scratch { length scratch.old ≡ 128 }
-    ensures ok { IfOk result (λ r. TakesSet I.left I.failed reader.old reader.new meter.old meter.new setting.now block p samples.new.items r.1) }
+    ensures ok { IfOk result (λ r. TakesSet reader.old reader.new meter.old meter.new setting.now block p samples.new.items r.1) }
     ensures last { IfOk result (λ r. (r.0 ≡ last_of p samples.new.items) × IsSample setting.now r.0 × (0 < r.1 → r.1 + 1 ≤ blocks_left setting.now block)) }
-    ensures err { IfErr result (StopsBy I.left I.failed reader.old reader.new setting.now block) }
+    ensures err { IfErr result (StopsBy reader.old reader.new setting.now block) }
     ensures steps { AreCounted meter.old meter.new reader.old.taken reader.new.taken }
 {
     let (residuals, highs) = scratch.split_at_mut(64);
@@ -183,7 +183,7 @@ impl Decoder {
         ensures in_run { self.old.stopped ≡ None → 0 < self.old.run →
             (result ≡ Ok Block) × GivesFromRun self.old self.new samples.new.items × (reader.new ≡ reader.old) × (meter.new ≡ meter.old) }
         ensures reads { self.old.stopped ≡ None → self.old.run ≡ 0 →
-            Answers I.left I.failed (with_mark reader.old) reader.new meter.old meter.new self.old self.new samples.new.items result }
+            Answers (with_mark reader.old) reader.new meter.old meter.new self.old self.new samples.new.items result }
         // Only a decoder that has stopped may not be called again with this reader.
         ensures going { self.new.stopped ≡ None → reader.new.refusal ≡ None }
         ensures block { result ≡ Ok Block → self.new.stopped ≡ None }

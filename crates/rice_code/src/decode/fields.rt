@@ -19,8 +19,8 @@ fn read_each_word<I: Intake>(
     requires going { reader.old.refusal ≡ None }
     requires room { HasRoom meter.old reader.old.taken }
     requires width { width ≤ 32 }
-    ensures ok { OnOk result (Row I.left I.failed (word width) (λ v. v < 2 ^ width) reader.old reader.new (length words.old) [] words.new) }
-    ensures err { IfErr result (λ f. (bits : List Bool) × (length bits < length words.old * width) × Stops I.left I.failed reader.old reader.new bits f) }
+    ensures ok { OnOk result (Row (word width) (λ v. v < 2 ^ width) reader.old reader.new (length words.old) [] words.new) }
+    ensures err { IfErr result (λ f. (bits : List Bool) × (length bits < length words.old * width) × Stops reader.old reader.new bits f) }
     ensures steps { meter.new + reader.old.taken ≡ meter.old + reader.new.taken }
     ensures limit { reader.new.taken ≤ 2 ^ 52 }
 {
@@ -44,8 +44,8 @@ pub fn read_words<I: Intake>(
     requires going { reader.old.refusal ≡ None }
     requires room { HasRoom meter.old reader.old.taken }
     requires width { width ≤ 32 }
-    ensures ok { OnOk result (Row I.left I.failed (word width) (λ v. v < 2 ^ width) reader.old reader.new (length words.old) [] words.new) }
-    ensures err { IfErr result (λ f. (bits : List Bool) × (length bits < length words.old * width) × Stops I.left I.failed reader.old reader.new bits f) }
+    ensures ok { OnOk result (Row (word width) (λ v. v < 2 ^ width) reader.old reader.new (length words.old) [] words.new) }
+    ensures err { IfErr result (λ f. (bits : List Bool) × (length bits < length words.old * width) × Stops reader.old reader.new bits f) }
     ensures steps { meter.new + reader.old.taken ≡ meter.old + reader.new.taken }
     ensures limit { reader.new.taken ≤ 2 ^ 52 }
 {
@@ -73,8 +73,8 @@ fn read_some_counts<I: Intake>(
     requires most { most < 2 ^ 32 }
     requires some { 0 < length counts.old }
     ensures some { IfOk result (λ r. (0 < r.0) × (r.0 ≤ length counts.new)) }
-    ensures ok { IfOk result (λ r. CountsRead I.left I.failed reader.old reader.new most r.1 r.0 (take r.0 counts.new)) }
-    ensures err { IfErr result (λ f. (m : ℕ) × Stops I.left I.failed reader.old reader.new (replicate m false) f) }
+    ensures ok { IfOk result (λ r. CountsRead reader.old reader.new most r.1 r.0 (take r.0 counts.new)) }
+    ensures err { IfErr result (λ f. (m : ℕ) × Stops reader.old reader.new (replicate m false) f) }
     ensures steps { meter.new + reader.old.taken ≡ meter.old + reader.new.taken }
     ensures limit { reader.new.taken ≤ 2 ^ 52 }
 {
@@ -102,8 +102,8 @@ fn read_each_count<I: Intake>(
     requires going { reader.old.refusal ≡ None }
     requires room { HasRoom meter.old reader.old.taken }
     requires most { most < 2 ^ 32 }
-    ensures ok { IfOk result (λ small. CountsRead I.left I.failed reader.old reader.new most small (length counts.old) counts.new) }
-    ensures err { IfErr result (λ f. (bits : List Bool) × (ones bits < length counts.old) × Stops I.left I.failed reader.old reader.new bits f) }
+    ensures ok { IfOk result (λ small. CountsRead reader.old reader.new most small (length counts.old) counts.new) }
+    ensures err { IfErr result (λ f. (bits : List Bool) × (ones bits < length counts.old) × Stops reader.old reader.new bits f) }
     ensures steps { meter.new + reader.old.taken ≡ meter.old + reader.new.taken }
     ensures limit { reader.new.taken ≤ 2 ^ 52 }
 {
@@ -132,8 +132,8 @@ pub fn read_counts<I: Intake>(
     requires going { reader.old.refusal ≡ None }
     requires room { HasRoom meter.old reader.old.taken }
     requires most { most < 2 ^ 32 }
-    ensures ok { IfOk result (λ small. CountRow I.left I.failed reader.old reader.new most small (length counts.old) counts.new) }
-    ensures err { IfErr result (λ f. (bits : List Bool) × (ones bits < length counts.old) × Stops I.left I.failed reader.old reader.new bits f) }
+    ensures ok { IfOk result (λ small. CountRow reader.old reader.new most small (length counts.old) counts.new) }
+    ensures err { IfErr result (λ f. (bits : List Bool) × (ones bits < length counts.old) × Stops reader.old reader.new bits f) }
     ensures steps { meter.new + reader.old.taken ≡ meter.old + reader.new.taken }
     ensures limit { reader.new.taken ≤ 2 ^ 52 }
 {
@@ -152,8 +152,8 @@ pub fn read_pairs<I: Intake>(
     requires going { reader.old.refusal ≡ None }
     requires room { HasRoom meter.old reader.old.taken }
     requires even { length out.old / 2 + length out.old / 2 ≡ length out.old }
-    ensures ok { OnOk result (PairRow I.left I.failed reader.old reader.new (length out.old / 2) out.new meter.old meter.new) }
-    ensures err { IfErr result (λ f. (bits : List Bool) × (ones bits < length out.old / 2) × Stops I.left I.failed reader.old reader.new bits f) }
+    ensures ok { OnOk result (PairRow reader.old reader.new (length out.old / 2) out.new meter.old meter.new) }
+    ensures err { IfErr result (λ f. (bits : List Bool) × (ones bits < length out.old / 2) × Stops reader.old reader.new bits f) }
     ensures steps { AreCounted meter.old meter.new reader.old.taken reader.new.taken }
 {
     for done in 0..out.len() / 2 {

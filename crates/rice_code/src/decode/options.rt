@@ -38,8 +38,8 @@ pub fn read_reference<I: Intake>(
     requires going { reader.old.refusal ≡ None }
     requires room { HasRoom meter.old reader.old.taken }
     ensures reference { IfOk result (λ r. IsReference setting.now block r) }
-    ensures ok { IfOk result (λ r. Takes I.left I.failed reader.old reader.new (reference_bits setting.now r)) }
-    ensures err { IfErr result (λ f. (bits : List Bool) × (is_reference setting.now block ≡ true) × (length bits < setting.now.bits) × Stops I.left I.failed reader.old reader.new bits f) }
+    ensures ok { IfOk result (λ r. Takes reader.old reader.new (reference_bits setting.now r)) }
+    ensures err { IfErr result (λ f. (bits : List Bool) × (is_reference setting.now block ≡ true) × (length bits < setting.now.bits) × Stops reader.old reader.new bits f) }
     ensures steps { meter.new + reader.old.taken ≡ meter.old + reader.new.taken }
     ensures limit { reader.new.taken ≤ 2 ^ 52 }
 {
@@ -76,8 +76,8 @@ pub fn read_run<I: Intake>(
     requires going { reader.old.refusal ≡ None }
     requires room { HasRoom meter.old reader.old.taken }
     ensures reference { IfOk result (λ r. IsReference setting.now block r.0) }
-    ensures ok { IfOk result (λ r. Takes I.left I.failed reader.old reader.new (run_tail setting.now r.0 r.1)) }
-    ensures err { IfErr result (λ f. (bits : List Bool) × Stops I.left I.failed reader.old reader.new bits f
+    ensures ok { IfOk result (λ r. Takes reader.old reader.new (run_tail setting.now r.0 r.1)) }
+    ensures err { IfErr result (λ f. (bits : List Bool) × Stops reader.old reader.new bits f
         × ((r : Option ℕ) (m : ℕ) (more : List Bool) → IsReference setting.now block r → bits ≡ run_tail setting.now r m ++ more → ⊥)) }
     ensures steps { meter.new + reader.old.taken ≡ meter.old + reader.new.taken }
     ensures limit { reader.new.taken ≤ 2 ^ 52 }
@@ -103,8 +103,8 @@ pub fn read_no_compression<I: Intake>(
     requires going { reader.old.refusal ≡ None }
     requires room { HasRoom meter.old reader.old.taken }
     requires size { length residuals.old ≡ setting.now.block }
-    ensures ok { IfOk result (λ h. BlockRead I.left I.failed reader.old reader.new meter.old meter.new setting.now block NoCompression (no_compression_tail setting.now) h.reference h.sound residuals.new) }
-    ensures err { IfErr result (BlockCut I.left I.failed reader.old reader.new setting.now block NoCompression (no_compression_tail setting.now)) }
+    ensures ok { IfOk result (λ h. BlockRead reader.old reader.new meter.old meter.new setting.now block NoCompression (no_compression_tail setting.now) h.reference h.sound residuals.new) }
+    ensures err { IfErr result (BlockCut reader.old reader.new setting.now block NoCompression (no_compression_tail setting.now)) }
     ensures steps { AreCounted meter.old meter.new reader.old.taken reader.new.taken }
 {
     let reference = match read_reference(setting, block, reader, meter) {
@@ -133,8 +133,8 @@ pub fn read_second_extension<I: Intake>(
     requires going { reader.old.refusal ≡ None }
     requires room { HasRoom meter.old reader.old.taken }
     requires size { length residuals.old ≡ setting.now.block }
-    ensures ok { IfOk result (λ h. BlockRead I.left I.failed reader.old reader.new meter.old meter.new setting.now block SecondExtension (second_extension_tail setting.now) h.reference h.sound residuals.new) }
-    ensures err { IfErr result (BlockCut I.left I.failed reader.old reader.new setting.now block SecondExtension (second_extension_tail setting.now)) }
+    ensures ok { IfOk result (λ h. BlockRead reader.old reader.new meter.old meter.new setting.now block SecondExtension (second_extension_tail setting.now) h.reference h.sound residuals.new) }
+    ensures err { IfErr result (BlockCut reader.old reader.new setting.now block SecondExtension (second_extension_tail setting.now)) }
     ensures steps { AreCounted meter.old meter.new reader.old.taken reader.new.taken }
 {
     let reference = match read_reference(setting, block, reader, meter) {
@@ -167,8 +167,8 @@ pub fn read_split<I: Intake>(
     requires limit { k ≤ 29 }
     requires size { length residuals.old ≡ setting.now.block }
     requires highs { length highs.old ≡ 64 }
-    ensures ok { IfOk result (λ h. BlockRead I.left I.failed reader.old reader.new meter.old meter.new setting.now block (Split k) (split_tail setting.now k) h.reference h.sound residuals.new) }
-    ensures err { IfErr result (BlockCut I.left I.failed reader.old reader.new setting.now block (Split k) (split_tail setting.now k)) }
+    ensures ok { IfOk result (λ h. BlockRead reader.old reader.new meter.old meter.new setting.now block (Split k) (split_tail setting.now k) h.reference h.sound residuals.new) }
+    ensures err { IfErr result (BlockCut reader.old reader.new setting.now block (Split k) (split_tail setting.now k)) }
     ensures steps { AreCounted meter.old meter.new reader.old.taken reader.new.taken }
 {
     let reference = match read_reference(setting, block, reader, meter) {

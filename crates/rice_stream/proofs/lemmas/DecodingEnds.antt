@@ -10,7 +10,7 @@ use Rattle.std.proofs.Math.Seq.{take-length, take-append_seam}
 use Rattle.std.proofs.lemmas.List.{length-take-le, length-take}
 use Rattle.rice_stream.proofs.lemmas.EncodingLemmas.{part_between}
 use Rattle.rice_bits.specs.Bits.{bits_of}
-use Rattle.rice_bits.specs.read.Reader.{Reader, Stops, is_blank}
+use Rattle.rice_bits.specs.read.Reader.{Reader, Stops, is_blank, new_reader}
 use Rattle.rice_bits.specs.declared.read.fault.BitFault.{BitFault}
 use Rattle.rice_bits.specs.declared.read.fault.BitFault.TheVariants as bit_faults
 use Rattle.rice_bits.proofs.lemmas.bits.Bytes.{bits_of-nil, bits_of-append, length-bits_of}
@@ -29,7 +29,7 @@ use Rattle.rice_code.specs.decode.ReadSets.{SetCut}
 use Rattle.rice_code.specs.declared.decode.fault.CodeFault.{CodeFault}
 use Rattle.rice_code.specs.declared.decode.fault.CodeFault.TheVariants as faults
 use Rattle.rice_stream.specs.Calls.{Call, Happens, Fails, StopsBetween, PassesLimit}
-use Rattle.rice_stream.specs.Decodes.{Decodes, EndsDecoding, DecodesBytes, RunsOut, FailsInBlock, at_most, wanted_of, ended_fault, refusal_fault}
+use Rattle.rice_stream.specs.Decodes.{Decodes, Tells, EndsDecoding, DecodesBytes, RunsOut, FailsInBlock, at_most, wanted_of, ended_fault, refusal_fault}
 use Rattle.rice_stream.specs.DecodingState.{DecodedSoFar, Gains, DecodingProgress}
 use Rattle.rice_stream.specs.Writes.{TakesPart}
 use Rattle.rice_stream.specs.declared.outcome.Report.{Report}
@@ -78,6 +78,10 @@ pub most_wanted : (asked : Option ℕ) (written block : ℕ) → wanted_of asked
 most_wanted None written block = omega arith
 most_wanted (Some n) written block = omega arith
 
+-- with a count of 0 no sample is wanted
+nothing_wanted : (written block : ℕ) → wanted_of (Some 0) written block ≡ 0
+nothing_wanted written block = omega arith
+
 -- how the numbers of a decoding grow with a block
 pub record Grows (old_steps new_steps old_taken new_taken written wanted run run_new block : ℕ) : Type 0 where
   pub limit : new_taken ≤ 4503599627370496
@@ -87,11 +91,11 @@ pub record Grows (old_steps new_steps old_taken new_taken written wanted run run
   pub few : block + run_new * block ≤ run * block + 456 * (new_taken - old_taken)
 
 -- a block more is written
-pub runs_more : {I : Type 0} (left : I → Option (List ℕ)) (failed : I → ℕ) (s : Parameters) (asked : Option ℕ) (start : I) (out_old out out_new : Option (List ℕ)) (p q : DecoderState) (r new : Reader I) (steps written steps_new : ℕ) (xs : List ℤ) → IsLegal s →
-    (runs : DecodingProgress left failed s asked start out_old out p r steps written) → wanted_of asked written s.block ≢ 0 → Gains left failed s r new runs.front runs.blocks q.run runs.given xs → q ≡ state_after_block p xs q.run →
+pub runs_more : {I : Type 0} (s : Parameters) (asked : Option ℕ) (start : Reader I) (out_old out out_new : Option (List ℕ)) (p q : DecoderState) (r new : Reader I) (steps written steps_new : ℕ) (xs : List ℤ) → IsLegal s →
+    (runs : DecodingProgress s asked start out_old out p r steps written) → wanted_of asked written s.block ≢ 0 → Gains s r new runs.front runs.blocks q.run runs.given xs → q ≡ state_after_block p xs q.run →
     Grows steps steps_new r.taken new.taken written (wanted_of asked written s.block) p.run q.run s.block → Appends out out_new (spellings s (take (wanted_of asked written s.block) xs)) →
-    DecodingProgress left failed s asked start out_old out_new q new steps_new (written + wanted_of asked written s.block)
-runs_more left failed s asked start out_old out out_new p q r new steps written steps_new xs legal runs some gains moves grows put =
+    DecodingProgress s asked start out_old out_new q new steps_new (written + wanted_of asked written s.block)
+runs_more s asked start out_old out out_new p q r new steps written steps_new xs legal runs some gains moves grows put =
     let b = runs.blocks in
     let goes = goes_on s asked b written runs.given runs.behind.len runs.count some in
     let so_far = all_written s asked b written runs.given runs.behind.len runs.count goes in
@@ -109,7 +113,7 @@ runs_more left failed s asked start out_old out out_new p q r new steps written 
       previous = ap (λ p. p.before) moves ∙ ap (λ z. last_of z xs) runs.previous ∙ sym (last_append (pos 0) runs.given xs);
       going = ap (λ p. p.stopped) moves ∙ runs.going;
       reader_going = gains.going;
-      gave = Consumes-trans (left start) (left r.intake) (left new.intake) runs.bytes draws.given runs.gave draws.consumed;
+      gave = Consumes-trans start.left r.left new.left runs.bytes draws.given runs.gave draws.consumed;
       bits = bits_of-append runs.bytes draws.given ∙ ap (λ l. l ++ bits_of draws.given) runs.bits ∙ append_assoc runs.front r.waiting (bits_of draws.given) ∙ ap (λ l. runs.front ++ l) draws.split ∙ sym (append_assoc runs.front gains.bits new.waiting);
       taken = gains.taken ∙ ap (λ n. n + length gains.bits) runs.taken ∙ sym (length-append runs.front gains.bits);
       limit = grows.limit;
@@ -123,6 +127,7 @@ runs_more left failed s asked start out_old out out_new p q r new steps written 
       least = omega (arith, grows.least, runs.least);
       most = omega (arith, grows.most, runs.most);
       reads = gains.failures ∙ runs.reads;
+      idle = λ none. absurd (some (ap (λ asked. wanted_of asked written s.block) none ∙ nothing_wanted written s.block));
       put = subst (λ (l : List ℕ). Appends out_old out_new l) (ap (λ l. spellings s (cut_to s asked 0 runs.given) ++ spellings s l) part ∙ sym (spellings-append s (cut_to s asked 0 runs.given) (cut_to s asked b xs)) ∙ ap (spellings s) (sym cut))
           (Appends-trans out_old out out_new (spellings s (cut_to s asked 0 runs.given)) (spellings s (take (wanted_of asked written s.block) xs)) runs.put put);
     }
@@ -134,12 +139,6 @@ runs_more left failed s asked start out_old out out_new p q r new steps written 
     so_many : (w : ℕ) → w ≤ length xs → length (cut_to s asked runs.blocks xs) ≡ length (take w xs) → cut_to s asked 0 (runs.given ++ xs) ≡ cut_to s asked 0 runs.given ++ cut_to s asked runs.blocks xs → written + w ≡ length (cut_to s asked 0 (runs.given ++ xs))
     so_many w le part cut = omega (arith, runs.count, ap length cut, length-append (cut_to s asked 0 runs.given) (cut_to s asked runs.blocks xs), part, length-take-le w xs le)
 
--- what a report tells of a decoding
-pub record Tells (r : Report) (samples bits steps : ℕ) : Type 0 where
-  pub samples_are : r.samples ≡ samples
-  pub bits_are : r.bits ≡ bits
-  pub steps_are : r.steps ≡ steps
-
 -- the call and what it says
 abbrev pub Ends : Parameters → Option ℕ → Option (List ℕ) → Option (List ℕ) → Option (List ℕ) → Option (List ℕ) → Report → Option Fault → Type 0
 Ends s asked left_old left_new out_old out r fault = (c : Call) × Happens left_old left_new out_old out c × Decodes s asked c r fault
@@ -149,25 +148,25 @@ ahead : (bytes : List ℕ) (front waiting : List Bool) (bits : ℕ) → bits_of 
 ahead bytes front waiting bits e few n = let a = length-bits_of bytes in let b = ap length e in let c = length-append front waiting in omega arith
 
 -- the coded data sets so far are wanted
-begun_wanted : {I : Type 0} (left : I → Option (List ℕ)) (failed : I → ℕ) (s : Parameters) (asked : Option ℕ) (start : I) (out_old out : Option (List ℕ)) (p : DecoderState) (r : Reader I) (steps written : ℕ) → (runs : DecodingProgress left failed s asked start out_old out p r steps written) → (i : ℕ) → i < runs.begun → IsWanted s asked i
-begun_wanted left failed s asked start out_old out p r steps written runs i lt = runs.wanted i (omega (arith, lt, runs.before))
+begun_wanted : {I : Type 0} (s : Parameters) (asked : Option ℕ) (start : Reader I) (out_old out : Option (List ℕ)) (p : DecoderState) (r : Reader I) (steps written : ℕ) → (runs : DecodingProgress s asked start out_old out p r steps written) → (i : ℕ) → i < runs.begun → IsWanted s asked i
+begun_wanted s asked start out_old out p r steps written runs i lt = runs.wanted i (omega (arith, lt, runs.before))
 
 -- no run goes on
-pub at_set : {I : Type 0} (left : I → Option (List ℕ)) (failed : I → ℕ) (s : Parameters) (asked : Option ℕ) (start : I) (out_old out : Option (List ℕ)) (p : DecoderState) (r : Reader I) (steps written : ℕ) → (runs : DecodingProgress left failed s asked start out_old out p r steps written) → p.run ≡ 0 → DecodedSoFar s runs.front runs.begun runs.blocks 0 runs.given
-at_set left failed s asked start out_old out p r steps written runs none = subst (λ (n : ℕ). DecodedSoFar s runs.front runs.begun runs.blocks n runs.given) none runs.behind
+pub at_set : {I : Type 0} (s : Parameters) (asked : Option ℕ) (start : Reader I) (out_old out : Option (List ℕ)) (p : DecoderState) (r : Reader I) (steps written : ℕ) → (runs : DecodingProgress s asked start out_old out p r steps written) → p.run ≡ 0 → DecodedSoFar s runs.front runs.begun runs.blocks 0 runs.given
+at_set s asked start out_old out p r steps written runs none = subst (λ (n : ℕ). DecodedSoFar s runs.front runs.begun runs.blocks n runs.given) none runs.behind
 
 -- the samples that were asked for are reached
-pub reached_ends : {I : Type 0} (left : I → Option (List ℕ)) (failed : I → ℕ) (s : Parameters) (asked : Option ℕ) (start : I) (out_old out : Option (List ℕ)) (p : DecoderState) (r : Reader I) (steps written : ℕ) (rep : Report) (f : Option Fault) → IsLegal s →
-    (runs : DecodingProgress left failed s asked start out_old out p r steps written) → wanted_of asked written s.block ≡ 0 → Tells rep written r.taken steps → length r.waiting ≤ 32768 → f ≡ None → Ends s asked (left start) (left r.intake) out_old out rep f
-reached_ends left failed s None start out_old out p r steps written rep f legal runs none tells few is = absurd (let j : 8 ≤ s.block = grind (arith, legal.block) in omega arith)
-reached_ends left failed s (Some n) start out_old out p r steps written rep f legal runs none tells few is =
+pub reached_ends : {I : Type 0} (s : Parameters) (asked : Option ℕ) (start : Reader I) (out_old out : Option (List ℕ)) (p : DecoderState) (r : Reader I) (steps written : ℕ) (rep : Report) (f : Option Fault) → IsLegal s →
+    (runs : DecodingProgress s asked start out_old out p r steps written) → wanted_of asked written s.block ≡ 0 → Tells rep written r.taken steps → length r.waiting ≤ 32768 → f ≡ None → Ends s asked start.left r.left out_old out rep f
+reached_ends s None start out_old out p r steps written rep f legal runs none tells few is = absurd (let j : 8 ≤ s.block = grind (arith, legal.block) in omega arith)
+reached_ends s (Some n) start out_old out p r steps written rep f legal runs none tells few is =
     let j : 8 ≤ s.block = grind (arith, legal.block) in
     let asked = Some n in
     let ys = cut_to s asked 0 runs.given in
-    let c : Call = record { given = runs.bytes; left = left r.intake; written = spellings s ys } in
+    let c : Call = record { given = runs.bytes; left = r.left; written = spellings s ys } in
     let k = length-take (n - s.block * 0) runs.given in
     let enough : n ≤ s.block * runs.blocks = omega (arith, none, runs.count, k, runs.behind.len) in
-    let decoded = ends_reached s runs.front r.waiting runs.begun runs.blocks p.run runs.given n legal runs.behind (begun_wanted left failed s asked start out_old out p r steps written runs) enough in
+    let decoded = ends_reached s runs.front r.waiting runs.begun runs.blocks p.run runs.given n legal runs.behind (begun_wanted s asked start out_old out p r steps written runs) enough in
     let used : length runs.front + 0 ≡ r.taken = omega (arith, runs.taken) in
     let all : Decoded s (bits_of runs.bytes) asked ys Reached (length runs.front + 0) = subst (λ (l : List Bool). Decoded s l asked ys Reached (length runs.front + 0)) (sym runs.bits) decoded in
     let ends : EndsDecoding s asked None c rep ys Reached = ((length runs.front + 0, all, record { written = refl; samples = tells.samples_are ∙ runs.count; bits = tells.bits_are ∙ sym used }), inl refl) in (
@@ -177,18 +176,18 @@ reached_ends left failed s (Some n) start out_old out p r steps written rep f le
     )
 
 -- All that the intake gave was taken.
-record Drained {I : Type 0} (left : I → Option (List ℕ)) (start new : I) (middle : Option (List ℕ)) (front bits : List Bool) : Type 0 where
+record Drained {I : Type 0} (start : Reader I) (middle : Option (List ℕ)) (front bits : List Bool) : Type 0 where
   pub total : List ℕ
-  pub gave : Consumes (left start) middle total
+  pub gave : Consumes start.left middle total
   pub bits_are : bits_of total ≡ front ++ bits
 
-drained : {I : Type 0} (left : I → Option (List ℕ)) (failed : I → ℕ) (s : Parameters) (asked : Option ℕ) (start : I) (out_old out : Option (List ℕ)) (p : DecoderState) (r new : Reader I) (steps written : ℕ) (bits : List Bool) (fault : BitFault) →
-    (runs : DecodingProgress left failed s asked start out_old out p r steps written) → (stops : Stops left failed (with_mark r) new bits fault) → Drained left start new.intake stops.middle runs.front bits
-drained left failed s asked start out_old out p r new steps written bits fault runs stops =
+drained : {I : Type 0} (s : Parameters) (asked : Option ℕ) (start : Reader I) (out_old out : Option (List ℕ)) (p : DecoderState) (r new : Reader I) (steps written : ℕ) (bits : List Bool) (fault : BitFault) →
+    (runs : DecodingProgress s asked start out_old out p r steps written) → (stops : Stops (with_mark r) new bits fault) → Drained start stops.middle runs.front bits
+drained s asked start out_old out p r new steps written bits fault runs stops =
     let given = stops.draws.given in
     record {
       total = runs.bytes ++ given;
-      gave = Consumes-trans (left start) (left r.intake) stops.middle runs.bytes given runs.gave stops.draws.consumed;
+      gave = Consumes-trans start.left r.left stops.middle runs.bytes given runs.gave stops.draws.consumed;
       bits_are = bits_of-append runs.bytes given ∙ ap (λ l. l ++ bits_of given) runs.bits ∙ append_assoc runs.front r.waiting (bits_of given) ∙ ap (λ l. runs.front ++ l) (stops.draws.split ∙ append-nil bits);
     }
 
@@ -224,25 +223,25 @@ fault_at_end asked true written = ended_fault asked written
 fault_at_end asked false written = Some (CodeEnds written)
 
 -- no 1 is left, or no data set begins with what is left, where the intake has ended
-pub ended_ends : {I : Type 0} (left : I → Option (List ℕ)) (failed : I → ℕ) (s : Parameters) (asked : Option ℕ) (start : I) (out_old out : Option (List ℕ)) (p : DecoderState) (r new : Reader I) (steps written steps_new : ℕ) (blank : Bool) (rep : Report) (f : Option Fault) →
-    (runs : DecodingProgress left failed s asked start out_old out p r steps written) → wanted_of asked written s.block ≢ 0 → p.run ≡ 0 → SetEnds left failed (with_mark r) new s runs.blocks blank → Tells rep written new.taken steps_new → f ≡ fault_at_end asked blank written →
-    Ends s asked (left start) (left new.intake) out_old out rep f
+pub ended_ends : {I : Type 0} (s : Parameters) (asked : Option ℕ) (start : Reader I) (out_old out : Option (List ℕ)) (p : DecoderState) (r new : Reader I) (steps written steps_new : ℕ) (blank : Bool) (rep : Report) (f : Option Fault) →
+    (runs : DecodingProgress s asked start out_old out p r steps written) → wanted_of asked written s.block ≢ 0 → p.run ≡ 0 → SetEnds (with_mark r) new s runs.blocks blank → Tells rep written new.taken steps_new → f ≡ fault_at_end asked blank written →
+    Ends s asked start.left new.left out_old out rep f
 unfolding ending_of
-ended_ends left failed s asked start out_old out p r new steps written steps_new blank rep f runs some none ends tells is =
+ended_ends s asked start out_old out p r new steps written steps_new blank rep f runs some none ends tells is =
     let bits = ends.cut.bits in
     let stops = ends.cut.stops in
-    let all = drained left failed s asked start out_old out p r new steps written bits (bit_faults.End blank) runs stops in
+    let all = drained s asked start out_old out p r new steps written bits (bit_faults.End blank) runs stops in
     let ys = cut_to s asked 0 runs.given in
-    let c : Call = record { given = all.total; left = left new.intake; written = spellings s ys } in
+    let c : Call = record { given = all.total; left = new.left; written = spellings s ys } in
     let goes = goes_on s asked runs.blocks written runs.given runs.behind.len runs.count some in
-    let out_of = ends_here s runs.front bits runs.begun runs.blocks runs.given asked (ending_of blank) (length bits) (at_set left failed s asked start out_old out p r steps written runs none) (begun_wanted left failed s asked start out_old out p r steps written runs) (ends_out s asked runs.blocks bits blank goes ends.told ends.cut.none) in
+    let out_of = ends_here s runs.front bits runs.begun runs.blocks runs.given asked (ending_of blank) (length bits) (at_set s asked start out_old out p r steps written runs none) (begun_wanted s asked start out_old out p r steps written runs) (ends_out s asked runs.blocks bits blank goes ends.told ends.cut.none) in
     let used : length runs.front + length bits ≡ new.taken = omega (arith, runs.taken, stops.taken) in
     let decodes : DecodesBytes s asked c rep all.total ys (ending_of blank) = (
       length runs.front + length bits,
       subst (λ (l : List Bool). Decoded s l asked ys (ending_of blank) (length runs.front + length bits)) (sym all.bits_are) out_of,
       record { written = refl; samples = tells.samples_are ∙ runs.count; bits = tells.bits_are ∙ sym used },
     ) in
-    let gave = subst (λ (l : List ℕ). Consumes (left start) (left new.intake) l) (append-nil all.total) (Consumes-trans (left start) stops.middle (left new.intake) all.total [] all.gave stops.refuses.0) in
+    let gave = subst (λ (l : List ℕ). Consumes start.left new.left l) (append-nil all.total) (Consumes-trans start.left stops.middle new.left all.total [] all.gave stops.refuses.0) in
     let front = runs.front ++ bits in
     let few : length {A = Bool} [] ≤ 32768 = omega arith in
     let whole : bits_of all.total ≡ front ++ [] = all.bits_are ∙ sym (append-nil front) in
@@ -258,25 +257,25 @@ ended_ends left failed s asked start out_old out p r new steps written steps_new
     by_fault false asked d end n = (d, inl refl, end, n)
 
 -- the intake failed
-pub read_ends : {I : Type 0} (left : I → Option (List ℕ)) (failed : I → ℕ) (s : Parameters) (asked : Option ℕ) (start : I) (out_old out : Option (List ℕ)) (p : DecoderState) (r new : Reader I) (steps written steps_new : ℕ) (rep : Report) (f : Option Fault) →
-    (runs : DecodingProgress left failed s asked start out_old out p r steps written) → wanted_of asked written s.block ≢ 0 → p.run ≡ 0 → SetCut left failed (with_mark r) new s runs.blocks bit_faults.Read → Tells rep written new.taken steps_new → f ≡ Some Read →
-    Ends s asked (left start) (left new.intake) out_old out rep f
-read_ends left failed s asked start out_old out p r new steps written steps_new rep f runs some none cut tells is =
+pub read_ends : {I : Type 0} (s : Parameters) (asked : Option ℕ) (start : Reader I) (out_old out : Option (List ℕ)) (p : DecoderState) (r new : Reader I) (steps written steps_new : ℕ) (rep : Report) (f : Option Fault) →
+    (runs : DecodingProgress s asked start out_old out p r steps written) → wanted_of asked written s.block ≢ 0 → p.run ≡ 0 → SetCut (with_mark r) new s runs.blocks bit_faults.Read → Tells rep written new.taken steps_new → f ≡ Some Read →
+    Ends s asked start.left new.left out_old out rep f
+read_ends s asked start out_old out p r new steps written steps_new rep f runs some none cut tells is =
     let bits = cut.bits in
     let stops = cut.stops in
     let ending = ending_of (is_blank bits) in
-    let all = drained left failed s asked start out_old out p r new steps written bits bit_faults.Read runs stops in
+    let all = drained s asked start out_old out p r new steps written bits bit_faults.Read runs stops in
     let ys = cut_to s asked 0 runs.given in
-    let c : Call = record { given = all.total; left = left new.intake; written = spellings s ys } in
+    let c : Call = record { given = all.total; left = new.left; written = spellings s ys } in
     let goes = goes_on s asked runs.blocks written runs.given runs.behind.len runs.count some in
-    let out_of = ends_here s runs.front bits runs.begun runs.blocks runs.given asked ending (length bits) (at_set left failed s asked start out_old out p r steps written runs none) (begun_wanted left failed s asked start out_old out p r steps written runs) (ends_out s asked runs.blocks bits (is_blank bits) goes refl cut.none) in
+    let out_of = ends_here s runs.front bits runs.begun runs.blocks runs.given asked ending (length bits) (at_set s asked start out_old out p r steps written runs none) (begun_wanted s asked start out_old out p r steps written runs) (ends_out s asked runs.blocks bits (is_blank bits) goes refl cut.none) in
     let used : length runs.front + length bits ≡ new.taken = omega (arith, runs.taken, stops.taken) in
     let decodes : DecodesBytes s asked c rep all.total ys ending = (
       length runs.front + length bits,
       subst (λ (l : List Bool). Decoded s l asked ys ending (length runs.front + length bits)) (sym all.bits_are) out_of,
       record { written = refl; samples = tells.samples_are ∙ runs.count; bits = tells.bits_are ∙ sym used },
     ) in
-    let gave = subst (λ (l : List ℕ). Consumes (left start) (left new.intake) l) (append-nil all.total) (Consumes-trans (left start) stops.middle (left new.intake) all.total [] all.gave stops.refuses.0) in
+    let gave = subst (λ (l : List ℕ). Consumes start.left new.left l) (append-nil all.total) (Consumes-trans start.left stops.middle new.left all.total [] all.gave stops.refuses.0) in
     let front = runs.front ++ bits in
     let few : length {A = Bool} [] ≤ 32768 = omega arith in
     let whole : bits_of all.total ≡ front ++ [] = all.bits_are ∙ sym (append-nil front) in
@@ -288,26 +287,26 @@ read_ends left failed s asked start out_old out p r new steps written steps_new 
     )
 
 -- the byte past the limit was given
-pub long_ends : {I : Type 0} (left : I → Option (List ℕ)) (failed : I → ℕ) (s : Parameters) (asked : Option ℕ) (start : I) (out_old out : Option (List ℕ)) (p : DecoderState) (r new : Reader I) (steps written steps_new : ℕ) (rep : Report) (f : Option Fault) →
-    (runs : DecodingProgress left failed s asked start out_old out p r steps written) → wanted_of asked written s.block ≢ 0 → p.run ≡ 0 → SetCut left failed (with_mark r) new s runs.blocks bit_faults.TooLong → Tells rep written new.taken steps_new → f ≡ Some TooLong →
-    Ends s asked (left start) (left new.intake) out_old out rep f
-long_ends left failed s asked start out_old out p r new steps written steps_new rep f runs some none cut tells is =
+pub long_ends : {I : Type 0} (s : Parameters) (asked : Option ℕ) (start : Reader I) (out_old out : Option (List ℕ)) (p : DecoderState) (r new : Reader I) (steps written steps_new : ℕ) (rep : Report) (f : Option Fault) →
+    (runs : DecodingProgress s asked start out_old out p r steps written) → wanted_of asked written s.block ≢ 0 → p.run ≡ 0 → SetCut (with_mark r) new s runs.blocks bit_faults.TooLong → Tells rep written new.taken steps_new → f ≡ Some TooLong →
+    Ends s asked start.left new.left out_old out rep f
+long_ends s asked start out_old out p r new steps written steps_new rep f runs some none cut tells is =
     let bits = cut.bits in
     let stops = cut.stops in
     let ending = ending_of (is_blank bits) in
-    let all = drained left failed s asked start out_old out p r new steps written bits bit_faults.TooLong runs stops in
+    let all = drained s asked start out_old out p r new steps written bits bit_faults.TooLong runs stops in
     let last = stops.refuses.0.0 in
     let ys = cut_to s asked 0 runs.given in
-    let c : Call = record { given = all.total ++ last ∷ []; left = left new.intake; written = spellings s ys } in
+    let c : Call = record { given = all.total ++ last ∷ []; left = new.left; written = spellings s ys } in
     let goes = goes_on s asked runs.blocks written runs.given runs.behind.len runs.count some in
-    let out_of = ends_here s runs.front bits runs.begun runs.blocks runs.given asked ending (length bits) (at_set left failed s asked start out_old out p r steps written runs none) (begun_wanted left failed s asked start out_old out p r steps written runs) (ends_out s asked runs.blocks bits (is_blank bits) goes refl cut.none) in
+    let out_of = ends_here s runs.front bits runs.begun runs.blocks runs.given asked ending (length bits) (at_set s asked start out_old out p r steps written runs none) (begun_wanted s asked start out_old out p r steps written runs) (ends_out s asked runs.blocks bits (is_blank bits) goes refl cut.none) in
     let used : length runs.front + length bits ≡ new.taken = omega (arith, runs.taken, stops.taken) in
     let decodes : DecodesBytes s asked c rep all.total ys ending = (
       length runs.front + length bits,
       subst (λ (l : List Bool). Decoded s l asked ys ending (length runs.front + length bits)) (sym all.bits_are) out_of,
       record { written = refl; samples = tells.samples_are ∙ runs.count; bits = tells.bits_are ∙ sym used },
     ) in
-    let gave = Consumes-trans (left start) stops.middle (left new.intake) all.total (last ∷ []) all.gave stops.refuses.0.1 in
+    let gave = Consumes-trans start.left stops.middle new.left all.total (last ∷ []) all.gave stops.refuses.0.1 in
     let full : length all.total ≡ 562949953421312 = full_is all.total runs.front bits new.taken all.bits_are used stops.refuses.2 in
     let passes : PassesLimit 562949953421312 (all.total ++ last ∷ []) all.total = record { last = last; split = refl; full = full } in
     let ends : EndsDecoding s asked (Some TooLong) c rep ys ending = ((all.total, passes, decodes), run_out (is_blank bits)) in (
@@ -323,19 +322,19 @@ long_ends left failed s asked start out_old out p r new steps written steps_new 
     past e h k = omega arith
 
 -- What a call has done that refuses a coded data set.
-record Refusal {I : Type 0} (left : I → Option (List ℕ)) (s : Parameters) (asked : Option ℕ) (start new : I) (out_old out : Option (List ℕ)) (rep : Report) (written : ℕ) (ending : Ending) : Type 0 where
+record Refusal {I : Type 0} (s : Parameters) (asked : Option ℕ) (start new : Reader I) (out_old out : Option (List ℕ)) (rep : Report) (written : ℕ) (ending : Ending) : Type 0 where
   pub call : Call
-  pub happens : Happens (left start) (left new) out_old out call
+  pub happens : Happens start.left new.left out_old out call
   pub samples : List ℤ
   pub decodes : DecodesBytes s asked call rep call.given samples ending
   pub count : length samples ≡ s.block * (written / s.block)
   pub ahead_of : length call.given ≤ rep.bits / 8 + 4096
 
-refusal : {I : Type 0} (left : I → Option (List ℕ)) (failed : I → ℕ) (s : Parameters) (asked : Option ℕ) (start : I) (out_old out : Option (List ℕ)) (p : DecoderState) (r new : Reader I) (steps written steps_new : ℕ) (rep : Report) (P : CodedDataSet → Type 0) (ending : Ending) → IsLegal s →
-    (runs : DecodingProgress left failed s asked start out_old out p r steps written) → wanted_of asked written s.block ≢ 0 → p.run ≡ 0 → SetRefused left failed (with_mark r) new s runs.blocks P →
+refusal : {I : Type 0} (s : Parameters) (asked : Option ℕ) (start : Reader I) (out_old out : Option (List ℕ)) (p : DecoderState) (r new : Reader I) (steps written steps_new : ℕ) (rep : Report) (P : CodedDataSet → Type 0) (ending : Ending) → IsLegal s →
+    (runs : DecodingProgress s asked start out_old out p r steps written) → wanted_of asked written s.block ≢ 0 → p.run ≡ 0 → SetRefused (with_mark r) new s runs.blocks P →
     ((rest : List Bool) (used : ℕ) → IsWanted s asked runs.blocks → BeginsUnsound s runs.blocks rest used P → EndsWith s asked runs.blocks rest ending used) → Tells rep written new.taken steps_new → length new.waiting ≤ 32768 →
-    Refusal left s asked start new.intake out_old out rep written ending
-refusal left failed s asked start out_old out p r new steps written steps_new rep P ending legal runs some none refused by_rule tells few =
+    Refusal s asked start new out_old out rep written ending
+refusal s asked start out_old out p r new steps written steps_new rep P ending legal runs some none refused by_rule tells few =
     let b = runs.blocks in
     let j : 1 ≤ s.block = let k : 8 ≤ s.block = grind (arith, legal.block) in omega arith in
     let set = bits_of_set s refused.set in
@@ -347,13 +346,13 @@ refusal left failed s asked start out_old out p r new steps written steps_new re
     let so_far = all_written s asked b written runs.given runs.behind.len runs.count goes in
     let ys = cut_to s asked 0 runs.given in
     let refuses : BeginsUnsound s b rest (length set) P = record { refused = refused.set; more = new.waiting; form = refused.form; unsound = refused.unsound; begins = refl; bits = refl } in
-    let here = ends_here s runs.front rest runs.begun b runs.given asked ending (length set) (at_set left failed s asked start out_old out p r steps written runs none) (begun_wanted left failed s asked start out_old out p r steps written runs) (by_rule rest (length set) goes refuses) in
+    let here = ends_here s runs.front rest runs.begun b runs.given asked ending (length set) (at_set s asked start out_old out p r steps written runs none) (begun_wanted s asked start out_old out p r steps written runs) (by_rule rest (length set) goes refuses) in
     let used : length runs.front + length set ≡ rep.bits = sym (tells.bits_are ∙ refused.takes.taken ∙ ap (λ n. n + length set) runs.taken) in
     let whole : bits_of total ≡ (runs.front ++ set) ++ new.waiting = bits_are ∙ sym (append_assoc runs.front set new.waiting) in
     let number : written / s.block ≡ b = ap (λ n. n / s.block) so_far.0 ∙ mul-div_cancel_left b j in
     record {
-      call = record { given = total; left = left new.intake; written = spellings s ys };
-      happens = record { gave = Consumes-trans (left start) (left r.intake) (left new.intake) runs.bytes draws.given runs.gave draws.consumed; left = refl; took = runs.put };
+      call = record { given = total; left = new.left; written = spellings s ys };
+      happens = record { gave = Consumes-trans start.left r.left new.left runs.bytes draws.given runs.gave draws.consumed; left = refl; took = runs.put };
       samples = ys;
       decodes = (
         length runs.front + length set,
@@ -365,20 +364,20 @@ refusal left failed s asked start out_old out p r new steps written steps_new re
     }
 
 -- a run passes its segment
-pub past_ends : {I : Type 0} (left : I → Option (List ℕ)) (failed : I → ℕ) (s : Parameters) (asked : Option ℕ) (start : I) (out_old out : Option (List ℕ)) (p : DecoderState) (r new : Reader I) (steps written steps_new : ℕ) (rep : Report) (f : Option Fault) → IsLegal s →
-    (runs : DecodingProgress left failed s asked start out_old out p r steps written) → wanted_of asked written s.block ≢ 0 → p.run ≡ 0 → SetRefused left failed (with_mark r) new s runs.blocks (RunIsSound s runs.blocks) → Tells rep written new.taken steps_new → length new.waiting ≤ 32768 → f ≡ Some (RunPastSegment (written / s.block)) →
-    Ends s asked (left start) (left new.intake) out_old out rep f
-past_ends left failed s asked start out_old out p r new steps written steps_new rep f legal runs some none refused tells few is =
-    let k = refusal left failed s asked start out_old out p r new steps written steps_new rep (RunIsSound s runs.blocks) Past legal runs some none refused (λ rest used goes h. (goes, h)) tells few in
+pub past_ends : {I : Type 0} (s : Parameters) (asked : Option ℕ) (start : Reader I) (out_old out : Option (List ℕ)) (p : DecoderState) (r new : Reader I) (steps written steps_new : ℕ) (rep : Report) (f : Option Fault) → IsLegal s →
+    (runs : DecodingProgress s asked start out_old out p r steps written) → wanted_of asked written s.block ≢ 0 → p.run ≡ 0 → SetRefused (with_mark r) new s runs.blocks (RunIsSound s runs.blocks) → Tells rep written new.taken steps_new → length new.waiting ≤ 32768 → f ≡ Some (RunPastSegment (written / s.block)) →
+    Ends s asked start.left new.left out_old out rep f
+past_ends s asked start out_old out p r new steps written steps_new rep f legal runs some none refused tells few is =
+    let k = refusal s asked start out_old out p r new steps written steps_new rep (RunIsSound s runs.blocks) Past legal runs some none refused (λ rest used goes h. (goes, h)) tells few in
     let ends : EndsDecoding s asked (Some (RunPastSegment (written / s.block))) k.call rep k.samples Past = (k.decodes, refl, k.count) in
     (k.call, k.happens, record { samples = k.samples; ending = Past; ends = subst (λ (f : Option Fault). EndsDecoding s asked f k.call rep k.samples Past) (sym is) ends; ahead = k.ahead_of })
 
 -- a residual is too large
-pub large_ends : {I : Type 0} (left : I → Option (List ℕ)) (failed : I → ℕ) (s : Parameters) (asked : Option ℕ) (start : I) (out_old out : Option (List ℕ)) (p : DecoderState) (r new : Reader I) (steps written steps_new : ℕ) (rep : Report) (f : Option Fault) → IsLegal s →
-    (runs : DecodingProgress left failed s asked start out_old out p r steps written) → wanted_of asked written s.block ≢ 0 → p.run ≡ 0 → SetRefused left failed (with_mark r) new s runs.blocks (ResidualsAreSound s) → Tells rep written new.taken steps_new → length new.waiting ≤ 32768 → f ≡ Some (ResidualTooLarge (written / s.block)) →
-    Ends s asked (left start) (left new.intake) out_old out rep f
-large_ends left failed s asked start out_old out p r new steps written steps_new rep f legal runs some none refused tells few is =
-    let k = refusal left failed s asked start out_old out p r new steps written steps_new rep (ResidualsAreSound s) Large legal runs some none refused (λ rest used goes h. (goes, h)) tells few in
+pub large_ends : {I : Type 0} (s : Parameters) (asked : Option ℕ) (start : Reader I) (out_old out : Option (List ℕ)) (p : DecoderState) (r new : Reader I) (steps written steps_new : ℕ) (rep : Report) (f : Option Fault) → IsLegal s →
+    (runs : DecodingProgress s asked start out_old out p r steps written) → wanted_of asked written s.block ≢ 0 → p.run ≡ 0 → SetRefused (with_mark r) new s runs.blocks (ResidualsAreSound s) → Tells rep written new.taken steps_new → length new.waiting ≤ 32768 → f ≡ Some (ResidualTooLarge (written / s.block)) →
+    Ends s asked start.left new.left out_old out rep f
+large_ends s asked start out_old out p r new steps written steps_new rep f legal runs some none refused tells few is =
+    let k = refusal s asked start out_old out p r new steps written steps_new rep (ResidualsAreSound s) Large legal runs some none refused (λ rest used goes h. (goes, h)) tells few in
     let ends : EndsDecoding s asked (Some (ResidualTooLarge (written / s.block))) k.call rep k.samples Large = (k.decodes, refl, k.count) in
     (k.call, k.happens, record { samples = k.samples; ending = Large; ends = subst (λ (f : Option Fault). EndsDecoding s asked f k.call rep k.samples Large) (sym is) ends; ahead = k.ahead_of })
 
@@ -389,10 +388,10 @@ take_same (suc n) [] = refl
 take_same (suc n) (x ∷ xs) = ap (λ l. x ∷ l) (take_same n xs)
 
 -- the outlet failed in a block
-pub write_ends : {I : Type 0} (left : I → Option (List ℕ)) (failed : I → ℕ) (s : Parameters) (asked : Option ℕ) (start : I) (out_old out out_new : Option (List ℕ)) (p q : DecoderState) (r new : Reader I) (steps written steps_new : ℕ) (xs : List ℤ) (rep : Report) (f : Option Fault) → IsLegal s →
-    (runs : DecodingProgress left failed s asked start out_old out p r steps written) → wanted_of asked written s.block ≢ 0 → Gains left failed s r new runs.front runs.blocks q.run runs.given xs → TakesPart out out_new (spellings s (take (wanted_of asked written s.block) xs)) →
-    Tells rep written new.taken steps_new → length new.waiting ≤ 32768 → f ≡ Some Write → Ends s asked (left start) (left new.intake) out_old out_new rep f
-write_ends left failed s asked start out_old out out_new p q r new steps written steps_new xs rep f legal runs some gives part tells few is =
+pub write_ends : {I : Type 0} (s : Parameters) (asked : Option ℕ) (start : Reader I) (out_old out out_new : Option (List ℕ)) (p q : DecoderState) (r new : Reader I) (steps written steps_new : ℕ) (xs : List ℤ) (rep : Report) (f : Option Fault) → IsLegal s →
+    (runs : DecodingProgress s asked start out_old out p r steps written) → wanted_of asked written s.block ≢ 0 → Gains s r new runs.front runs.blocks q.run runs.given xs → TakesPart out out_new (spellings s (take (wanted_of asked written s.block) xs)) →
+    Tells rep written new.taken steps_new → length new.waiting ≤ 32768 → f ≡ Some Write → Ends s asked start.left new.left out_old out_new rep f
+write_ends s asked start out_old out out_new p q r new steps written steps_new xs rep f legal runs some gives part tells few is =
     let b = runs.blocks in
     let goes = goes_on s asked b written runs.given runs.behind.len runs.count some in
     let so_far = all_written s asked b written runs.given runs.behind.len runs.count goes in
@@ -418,7 +417,7 @@ write_ends left failed s asked start out_old out out_new p q r new steps written
     let between = part_between out_old out out_new (spellings s (cut_to s asked 0 runs.given)) (spellings s (take w xs)) (spellings s ys) runs.put part all_of in
     let n : rep.samples ≡ length (cut_to s asked 0 runs.given) = tells.samples_are ∙ runs.count in
     let before : take rep.samples ys ≡ cut_to s asked 0 runs.given = (λ i. take (n i) (cut i)) ∙ take-append_seam (cut_to s asked 0 runs.given) (cut_to s asked b xs) in
-    let c : Call = record { given = total; left = left new.intake; written = between.written } in
+    let c : Call = record { given = total; left = new.left; written = between.written } in
     let fails : FailsInBlock s asked c rep ys = record {
       block = b;
       samples = tells.samples_are ∙ so_far.0;
@@ -428,7 +427,7 @@ write_ends left failed s asked start out_old out out_new p q r new steps written
     } in
     let ends : EndsDecoding s asked (Some Write) c rep ys Reached = (fails, refl) in (
       c,
-      record { gave = Consumes-trans (left start) (left r.intake) (left new.intake) runs.bytes draws.given runs.gave draws.consumed; left = refl; took = between.took },
+      record { gave = Consumes-trans start.left r.left new.left runs.bytes draws.given runs.gave draws.consumed; left = refl; took = between.took },
       record { samples = ys; ending = Reached; ends = subst (λ (f : Option Fault). EndsDecoding s asked f c rep ys Reached) (sym is) ends; ahead = ahead total front new.waiting rep.bits bits_are few taken },
     )
   where
@@ -449,45 +448,45 @@ write_ends left failed s asked start out_old out out_new p q r new steps written
     exactly None = let n : length (runs.given ++ xs) - s.block * 0 ≡ length (runs.given ++ xs) = omega arith in ap (λ m. take m (runs.given ++ xs)) n ∙ take-length (runs.given ++ xs)
     exactly (Some m) = let zs = runs.given ++ xs in let n : length (take (m - s.block * 0) zs) - s.block * 0 ≡ length (take (m - s.block * 0) zs) = omega arith in ap (λ m. take m zs) n ∙ take_same (m - s.block * 0) zs
 
-pub refusal_ends : {I : Type 0} (left : I → Option (List ℕ)) (failed : I → ℕ) (s : Parameters) (asked : Option ℕ) (start : I) (out_old out : Option (List ℕ)) (p : DecoderState) (r new : Reader I) (steps written steps_new : ℕ) (rep : Report) (f : Option Fault) (fault : CodeFault) → IsLegal s →
-    (runs : DecodingProgress left failed s asked start out_old out p r steps written) → wanted_of asked written s.block ≢ 0 → p.run ≡ 0 → StopsBy left failed (with_mark r) new s runs.blocks (Err fault) → Tells rep written new.taken steps_new → length new.waiting ≤ 32768 → f ≡ Some (refusal_fault fault written s.block) →
-    Ends s asked (left start) (left new.intake) out_old out rep f
-refusal_ends left failed s asked start out_old out p r new steps written steps_new rep f faults.CodeEnds legal runs some none stops tells few is = ended_ends left failed s asked start out_old out p r new steps written steps_new false rep f runs some none stops tells is
-refusal_ends left failed s asked start out_old out p r new steps written steps_new rep f faults.RunPastSegment legal runs some none stops tells few is = past_ends left failed s asked start out_old out p r new steps written steps_new rep f legal runs some none stops tells few is
-refusal_ends left failed s asked start out_old out p r new steps written steps_new rep f faults.ResidualTooLarge legal runs some none stops tells few is = large_ends left failed s asked start out_old out p r new steps written steps_new rep f legal runs some none stops tells few is
-refusal_ends left failed s asked start out_old out p r new steps written steps_new rep f faults.Read legal runs some none stops tells few is = read_ends left failed s asked start out_old out p r new steps written steps_new rep f runs some none stops tells is
-refusal_ends left failed s asked start out_old out p r new steps written steps_new rep f faults.TooLong legal runs some none stops tells few is = long_ends left failed s asked start out_old out p r new steps written steps_new rep f runs some none stops tells is
+pub refusal_ends : {I : Type 0} (s : Parameters) (asked : Option ℕ) (start : Reader I) (out_old out : Option (List ℕ)) (p : DecoderState) (r new : Reader I) (steps written steps_new : ℕ) (rep : Report) (f : Option Fault) (fault : CodeFault) → IsLegal s →
+    (runs : DecodingProgress s asked start out_old out p r steps written) → wanted_of asked written s.block ≢ 0 → p.run ≡ 0 → StopsBy (with_mark r) new s runs.blocks (Err fault) → Tells rep written new.taken steps_new → length new.waiting ≤ 32768 → f ≡ Some (refusal_fault fault written s.block) →
+    Ends s asked start.left new.left out_old out rep f
+refusal_ends s asked start out_old out p r new steps written steps_new rep f faults.CodeEnds legal runs some none stops tells few is = ended_ends s asked start out_old out p r new steps written steps_new false rep f runs some none stops tells is
+refusal_ends s asked start out_old out p r new steps written steps_new rep f faults.RunPastSegment legal runs some none stops tells few is = past_ends s asked start out_old out p r new steps written steps_new rep f legal runs some none stops tells few is
+refusal_ends s asked start out_old out p r new steps written steps_new rep f faults.ResidualTooLarge legal runs some none stops tells few is = large_ends s asked start out_old out p r new steps written steps_new rep f legal runs some none stops tells few is
+refusal_ends s asked start out_old out p r new steps written steps_new rep f faults.Read legal runs some none stops tells few is = read_ends s asked start out_old out p r new steps written steps_new rep f runs some none stops tells is
+refusal_ends s asked start out_old out p r new steps written steps_new rep f faults.TooLong legal runs some none stops tells few is = long_ends s asked start out_old out p r new steps written steps_new rep f runs some none stops tells is
 
-stops_fail : {I : Type 0} (left : I → Option (List ℕ)) (failed : I → ℕ) (s : Parameters) (b : ℕ) (r new : Reader I) (n written block writes : ℕ) (fault : CodeFault) → StopsBy left failed (with_mark r) new s b (Err fault) → failed r.intake ≡ n → Fails (Some (refusal_fault fault written block)) n (failed new.intake) writes writes
-stops_fail left failed s b r new n written block writes faults.CodeEnds stops e = (stops.cut.stops.refuses.2 ∙ e, refl)
-stops_fail left failed s b r new n written block writes faults.RunPastSegment stops e = (stops.takes.failures ∙ e, refl)
-stops_fail left failed s b r new n written block writes faults.ResidualTooLarge stops e = (stops.takes.failures ∙ e, refl)
-stops_fail left failed s b r new n written block writes faults.Read stops e = (stops.stops.refuses.1 ∙ ap (λ m. m + 1) e, refl)
-stops_fail left failed s b r new n written block writes faults.TooLong stops e = (stops.stops.refuses.1 ∙ e, refl)
+stops_fail : {I : Type 0} (s : Parameters) (b : ℕ) (r new : Reader I) (n written block writes : ℕ) (fault : CodeFault) → StopsBy (with_mark r) new s b (Err fault) → r.failed ≡ n → Fails (Some (refusal_fault fault written block)) n new.failed writes writes
+stops_fail s b r new n written block writes faults.CodeEnds stops e = (stops.cut.stops.refuses.2 ∙ e, refl)
+stops_fail s b r new n written block writes faults.RunPastSegment stops e = (stops.takes.failures ∙ e, refl)
+stops_fail s b r new n written block writes faults.ResidualTooLarge stops e = (stops.takes.failures ∙ e, refl)
+stops_fail s b r new n written block writes faults.Read stops e = (stops.stops.refuses.1 ∙ ap (λ m. m + 1) e, refl)
+stops_fail s b r new n written block writes faults.TooLong stops e = (stops.stops.refuses.1 ∙ e, refl)
 
-pub refusal_fails : {I : Type 0} (left : I → Option (List ℕ)) (failed : I → ℕ) (s : Parameters) (b : ℕ) (r new : Reader I) (reads written writes writes_new : ℕ) (f : Option Fault) (fault : CodeFault) →
-    failed r.intake ≡ reads → StopsBy left failed (with_mark r) new s b (Err fault) → writes_new ≡ writes → f ≡ Some (refusal_fault fault written s.block) → Fails f reads (failed new.intake) writes writes_new
-refusal_fails left failed s b r new reads written writes writes_new f fault e stops same is =
-    subst (λ (f : Option Fault). Fails f reads (failed new.intake) writes writes_new) (sym is)
-    (subst (λ (w : ℕ). Fails (Some (refusal_fault fault written s.block)) reads (failed new.intake) writes w) (sym same)
-    (stops_fail left failed s b r new reads written s.block writes fault stops e))
+pub refusal_fails : {I : Type 0} (s : Parameters) (b : ℕ) (r new : Reader I) (reads written writes writes_new : ℕ) (f : Option Fault) (fault : CodeFault) →
+    r.failed ≡ reads → StopsBy (with_mark r) new s b (Err fault) → writes_new ≡ writes → f ≡ Some (refusal_fault fault written s.block) → Fails f reads new.failed writes writes_new
+refusal_fails s b r new reads written writes writes_new f fault e stops same is =
+    subst (λ (f : Option Fault). Fails f reads new.failed writes writes_new) (sym is)
+    (subst (λ (w : ℕ). Fails (Some (refusal_fault fault written s.block)) reads new.failed writes w) (sym same)
+    (stops_fail s b r new reads written s.block writes fault stops e))
 
-pub done_fails : {I : Type 0} (left : I → Option (List ℕ)) (failed : I → ℕ) (s : Parameters) (b : ℕ) (asked : Option ℕ) (r new : Reader I) (reads written writes writes_new : ℕ) (f : Option Fault) →
-    failed r.intake ≡ reads → SetEnds left failed (with_mark r) new s b true → writes_new ≡ writes → f ≡ ended_fault asked written → Fails f reads (failed new.intake) writes writes_new
-done_fails left failed s b asked r new reads written writes writes_new f e ends same is =
-    subst (λ (f : Option Fault). Fails f reads (failed new.intake) writes writes_new) (sym is) (by_count asked (ends.cut.stops.refuses.2 ∙ e) same)
+pub done_fails : {I : Type 0} (s : Parameters) (b : ℕ) (asked : Option ℕ) (r new : Reader I) (reads written writes writes_new : ℕ) (f : Option Fault) →
+    r.failed ≡ reads → SetEnds (with_mark r) new s b true → writes_new ≡ writes → f ≡ ended_fault asked written → Fails f reads new.failed writes writes_new
+done_fails s b asked r new reads written writes writes_new f e ends same is =
+    subst (λ (f : Option Fault). Fails f reads new.failed writes writes_new) (sym is) (by_count asked (ends.cut.stops.refuses.2 ∙ e) same)
   where
-    by_count : (asked : Option ℕ) → failed new.intake ≡ reads → writes_new ≡ writes → Fails (ended_fault asked written) reads (failed new.intake) writes writes_new
+    by_count : (asked : Option ℕ) → new.failed ≡ reads → writes_new ≡ writes → Fails (ended_fault asked written) reads new.failed writes writes_new
     by_count None e h = (e, h)
     by_count (Some n) e h = (e, h)
 
 -- nothing is decoded yet
-pub runs_first : {I : Type 0} (left : I → Option (List ℕ)) (failed : I → ℕ) (s : Parameters) (asked : Option ℕ) (start : I) (out : Option (List ℕ)) (p : DecoderState) (r : Reader I) (steps : ℕ) → IsLegal s →
-    p ≡ record { setting = s; block = 0; before = pos 0; run = 0; stopped = None } → r ≡ record { waiting = []; taken = 0; blank = true; refusal = None; intake = start } → steps ≡ 0 → DecodingProgress left failed s asked start out out p r steps 0
-runs_first {I = I} left failed s asked start out p r steps legal ep er es =
-    let taken = ap (λ r. r.taken) er in
+pub runs_first : {I : Type 0} (s : Parameters) (asked : Option ℕ) (intake : I) (left : Option (List ℕ)) (failed : ℕ) (out : Option (List ℕ)) (p : DecoderState) (r : Reader I) (steps : ℕ) → IsLegal s →
+    p ≡ record { setting = s; block = 0; before = pos 0; run = 0; stopped = None } → r ≡ new_reader intake left failed → steps ≡ 0 → DecodingProgress s asked (new_reader intake left failed) out out p r steps 0
+runs_first {I = I} s asked intake left failed out p r steps legal ep er es =
     let run = ap (λ p. p.run) ep in
-    record {
+    let start = new_reader intake left failed in
+    subst (λ (r : Reader I). DecodingProgress s asked start out out p r steps 0) (sym er) record {
       blocks = 0;
       bytes = [];
       front = [];
@@ -496,11 +495,11 @@ runs_first {I = I} left failed s asked start out p r steps legal ep er es =
       here = mod-eq_of_lt legal.interval_from ∙ sym (ap (λ p. p.block) ep);
       previous = ap (λ p. p.before) ep;
       going = ap (λ p. p.stopped) ep;
-      reader_going = ap (λ r. r.refusal) er;
-      gave = subst (λ (i : I). Consumes (left start) (left i) []) (sym (ap (λ r. r.intake) er)) (Consumes-nil (left start));
-      bits = bits_of-nil ∙ sym (ap (λ r. r.waiting) er);
-      taken = taken;
-      limit = omega (arith, taken);
+      reader_going = refl;
+      gave = Consumes-nil left;
+      bits = bits_of-nil;
+      taken = refl;
+      limit = omega arith;
       begun = 0;
       before = omega arith;
       behind = subst (λ (n : ℕ). DecodedSoFar s [] 0 0 n []) (sym run) (behind_nothing s);
@@ -508,9 +507,10 @@ runs_first {I = I} left failed s asked start out p r steps legal ep er es =
       count = sym (ap length (cut_nothing s asked 0));
       few = omega (arith, ap (λ n. n * s.block) run);
       asked_for = from_none asked;
-      least = omega (arith, taken, es);
-      most = omega (arith, taken, es);
-      reads = ap failed (ap (λ r. r.intake) er);
+      least = omega (arith, es);
+      most = omega (arith, es);
+      reads = refl;
+      idle = λ none. refl;
       put = subst (λ (l : List ℤ). Appends out out (spellings s l)) (sym (cut_nothing s asked 0)) (Appends-nil out);
     }
   where

@@ -37,9 +37,9 @@ pub record Inside {I : Type 0} (old new : Reader I) (p q : DecoderState) (xs : L
   pub gives : GivesFromRun p q xs
   pub same : new ≡ old
 
-pub record Outside {I : Type 0} (left : I → Option (List ℕ)) (failed : I → ℕ) (old new : Reader I) (steps steps_new : ℕ) (p q : DecoderState) (xs : List ℤ) : Type 0 where
+pub record Outside {I : Type 0} (old new : Reader I) (steps steps_new : ℕ) (p q : DecoderState) (xs : List ℤ) : Type 0 where
   pub none : p.run ≡ 0
-  pub gives : GivesSet left failed (with_mark old) new steps steps_new p.setting p.block p.before xs q.run
+  pub gives : GivesSet (with_mark old) new steps steps_new p.setting p.block p.before xs q.run
   pub moves : q ≡ state_after_block p xs q.run
 
 -- what a decoder answers
@@ -51,22 +51,22 @@ runs_or_not : (p : DecoderState) → (0 < p.run) ⊎ (p.run ≡ 0)
 runs_or_not p = elim (cases_lt 0 p.run) [ inl lt ↦ inl lt | inr le ↦ inr (omega arith) ]
 
 -- a block was given
-pub took : {I : Type 0} (left : I → Option (List ℕ)) (failed : I → ℕ) (old new : Reader I) (steps steps_new : ℕ) (p q : DecoderState) (xs : List ℤ) (step : Step) → step ≡ Block → p.stopped ≡ None →
+pub took : {I : Type 0} (old new : Reader I) (steps steps_new : ℕ) (p q : DecoderState) (xs : List ℤ) (step : Step) → step ≡ Block → p.stopped ≡ None →
     (p.stopped ≡ None → 0 < p.run → (answer step ≡ Ok Block) × GivesFromRun p q xs × (new ≡ old) × (steps_new ≡ steps)) →
-    (p.stopped ≡ None → p.run ≡ 0 → Answers left failed (with_mark old) new steps steps_new p q xs (Ok step)) → Inside old new p q xs ⊎ Outside left failed old new steps steps_new p q xs
-took left failed old new steps steps_new p q xs step is going in_run reads =
+    (p.stopped ≡ None → p.run ≡ 0 → Answers (with_mark old) new steps steps_new p q xs (Ok step)) → Inside old new p q xs ⊎ Outside old new steps steps_new p q xs
+took old new steps steps_new p q xs step is going in_run reads =
     elim (runs_or_not p) [
       | inl lt ↦ let k = in_run going lt in inl (record { run = lt; gives = k.1; same = k.2 })
-      | inr none ↦ let a = subst (λ (st : Step). Answers left failed (with_mark old) new steps steps_new p q xs (Ok st)) is (reads going none) in inr (record { none = none; gives = a.0; moves = a.1 })
+      | inr none ↦ let a = subst (λ (st : Step). Answers (with_mark old) new steps steps_new p q xs (Ok st)) is (reads going none) in inr (record { none = none; gives = a.0; moves = a.1 })
     ]
 
-pub moves_of : {I : Type 0} (left : I → Option (List ℕ)) (failed : I → ℕ) (old new : Reader I) (steps steps_new : ℕ) (p q : DecoderState) (xs : List ℤ) → Inside old new p q xs ⊎ Outside left failed old new steps steps_new p q xs → q ≡ state_after_block p xs q.run
-moves_of left failed old new steps steps_new p q xs (inl k) = k.gives.moves
-moves_of left failed old new steps steps_new p q xs (inr k) = k.moves
+pub moves_of : {I : Type 0} (old new : Reader I) (steps steps_new : ℕ) (p q : DecoderState) (xs : List ℤ) → Inside old new p q xs ⊎ Outside old new steps steps_new p q xs → q ≡ state_after_block p xs q.run
+moves_of old new steps steps_new p q xs (inl k) = k.gives.moves
+moves_of old new steps steps_new p q xs (inr k) = k.moves
 
-pub legal_of_block : {I : Type 0} (left : I → Option (List ℕ)) (failed : I → ℕ) (old new : Reader I) (steps steps_new : ℕ) (p q : DecoderState) (xs : List ℤ) → Inside old new p q xs ⊎ Outside left failed old new steps steps_new p q xs → (length xs ≡ p.setting.block) × All (IsSample p.setting) xs
-legal_of_block left failed old new steps steps_new p q xs (inl k) = (k.gives.gives.len, k.gives.gives.legal)
-legal_of_block left failed old new steps steps_new p q xs (inr k) = (k.gives.set.gives.len, k.gives.set.gives.legal)
+pub legal_of_block : {I : Type 0} (old new : Reader I) (steps steps_new : ℕ) (p q : DecoderState) (xs : List ℤ) → Inside old new p q xs ⊎ Outside old new steps steps_new p q xs → (length xs ≡ p.setting.block) × All (IsSample p.setting) xs
+legal_of_block old new steps steps_new p q xs (inl k) = (k.gives.gives.len, k.gives.gives.legal)
+legal_of_block old new steps steps_new p q xs (inr k) = (k.gives.set.gives.len, k.gives.set.gives.legal)
 
 -- the place that a decoder holds is that of a block
 pub same_place : (s : Parameters) (b c : ℕ) → 1 ≤ s.interval → place s b ≡ c → place s c ≡ place s b
@@ -87,9 +87,9 @@ run_gives_there s b c run left p xs j e g = record {
 }
 
 -- a block of a coded data set
-gains_set : {I : Type 0} (left : I → Option (List ℕ)) (failed : I → ℕ) (s : Parameters) (r new : Reader I) (steps steps_new b c begun run : ℕ) (p : ℤ) (front : List Bool) (given xs : List ℤ) → IsLegal s → place s b ≡ c → p ≡ last_of (pos 0) given → r.taken ≡ length front → begun ≤ b → DecodedSoFar s front begun b 0 given →
-    GivesSet left failed (with_mark r) new steps steps_new s c p xs run → Gains left failed s r new front b run given xs
-gains_set {I = I} left failed s r new steps steps_new b c begun run p front given xs legal here previous taken before behind gives =
+gains_set : {I : Type 0} (s : Parameters) (r new : Reader I) (steps steps_new b c begun run : ℕ) (p : ℤ) (front : List Bool) (given xs : List ℤ) → IsLegal s → place s b ≡ c → p ≡ last_of (pos 0) given → r.taken ≡ length front → begun ≤ b → DecodedSoFar s front begun b 0 given →
+    GivesSet (with_mark r) new steps steps_new s c p xs run → Gains s r new front b run given xs
+gains_set {I = I} s r new steps steps_new b c begun run p front given xs legal here previous taken before behind gives =
     let j : 1 ≤ s.block = let k : 8 ≤ s.block = grind (arith, legal.block) in omega arith in
     let e = same_place s b c legal.interval_from here in
     let set = gives.set in
@@ -102,18 +102,18 @@ gains_set {I = I} left failed s r new steps steps_new b c begun run p front give
     let pads : length skips.bits ≡ padding s (block_after s b d) (length front + length t) =
     skips.len ∙ ap (λ n. padding s (block_after s c d) n) position ∙ ap (λ v. cond (s.pad && v == 0) (bits_to_byte (length front + length t)) 0) (next_place s c b d e) in
     let block = gives_there s b c run p xs d j e set.gives in
-    let intake : new.intake ≡ middle.intake = ap (λ (v : Reader I). v.intake) skips.same in
     let bits = t ++ skips.bits in
     record {
       bits = bits;
       draws = record {
         given = draws.given;
-        consumed = subst (λ (i : I). Consumes (left r.intake) (left i) draws.given) (sym intake) draws.consumed;
+        consumed = subst (λ (l : Option (List ℕ)). Consumes r.left l draws.given) (sym (ap (λ (v : Reader I). v.left) skips.same)) draws.consumed;
+        needed = λ given. omega (arith, draws.needed given, length-append t skips.bits);
         split = draws.split ∙ ap (λ l. t ++ l) skips.split ∙ sym (append_assoc t skips.bits new.waiting);
       };
       taken = ap (λ (v : Reader I). v.taken) skips.same ∙ sums r.taken (length t) _ _ _ set.takes.taken skips.len (length-append t skips.bits);
       going = ap (λ (v : Reader I). v.refusal) skips.same ∙ set.takes.going;
-      failures = ap failed intake ∙ set.takes.failures;
+      failures = ap (λ (v : Reader I). v.failed) skips.same ∙ set.takes.failures;
       len = block.len;
       begun = b + 1;
       before = omega arith;
@@ -125,9 +125,9 @@ gains_set {I = I} left failed s r new steps steps_new b c begun run p front give
     sums n t m k all e f g = omega arith
 
 -- a block of a run
-gains_run : {I : Type 0} (left : I → Option (List ℕ)) (failed : I → ℕ) (s : Parameters) (r new : Reader I) (b c begun run run_new : ℕ) (p : ℤ) (front : List Bool) (given xs : List ℤ) → IsLegal s → place s b ≡ c → p ≡ last_of (pos 0) given → r.refusal ≡ None → begun ≤ b → DecodedSoFar s front begun b run given → new ≡ r →
-    GivesBlock s c p xs run_new (replicate run (zero_block s None)) → Gains left failed s r new front b run_new given xs
-gains_run {I = I} left failed s r new b c begun run run_new p front given xs legal here previous going before behind same gives =
+gains_run : {I : Type 0} (s : Parameters) (r new : Reader I) (b c begun run run_new : ℕ) (p : ℤ) (front : List Bool) (given xs : List ℤ) → IsLegal s → place s b ≡ c → p ≡ last_of (pos 0) given → r.refusal ≡ None → begun ≤ b → DecodedSoFar s front begun b run given → new ≡ r →
+    GivesBlock s c p xs run_new (replicate run (zero_block s None)) → Gains s r new front b run_new given xs
+gains_run {I = I} s r new b c begun run run_new p front given xs legal here previous going before behind same gives =
     let j : 1 ≤ s.block = let k : 8 ≤ s.block = grind (arith, legal.block) in omega arith in
     let block = run_gives_there s b c run run_new p xs j (same_place s b c legal.interval_from here) gives in
     let all = behind_run s front begun b run run_new given xs behind (subst (λ (q : ℤ). GivesBlock s b q xs run_new (replicate run (zero_block s None))) previous block) in
@@ -136,67 +136,68 @@ gains_run {I = I} left failed s r new b c begun run run_new p front given xs leg
       bits = [];
       draws = record {
         given = [];
-        consumed = subst (λ (v : Reader I). Consumes (left r.intake) (left v.intake) []) (sym same) (Consumes-nil (left r.intake));
+        consumed = subst (λ (v : Reader I). Consumes r.left v.left []) (sym same) (Consumes-nil r.left);
+        needed = λ given. absurd (omega arith);
         split = ap (λ l. r.waiting ++ l) bits_of-nil ∙ append-nil r.waiting ∙ ap (λ (v : Reader I). v.waiting) (sym same);
       };
       taken = ap (λ (v : Reader I). v.taken) same ∙ nothing;
       going = ap (λ (v : Reader I). v.refusal) same ∙ going;
-      failures = ap (λ (v : Reader I). failed v.intake) same;
+      failures = ap (λ (v : Reader I). v.failed) same;
       len = block.len;
       begun = begun;
       before = omega arith;
       behind = subst (λ (l : List Bool). DecodedSoFar s l begun (b + 1) run_new (given ++ xs)) (sym (append-nil front)) all;
     }
 
-pub gains : {I : Type 0} (left : I → Option (List ℕ)) (failed : I → ℕ) (s : Parameters) (asked : Option ℕ) (start : I) (out_old out : Option (List ℕ)) (p q : DecoderState) (r new : Reader I) (steps steps_new written : ℕ) (xs : List ℤ) → IsLegal s →
-    (runs : DecodingProgress left failed s asked start out_old out p r steps written) → Inside r new p q xs ⊎ Outside left failed r new steps steps_new p q xs → Gains left failed s r new runs.front runs.blocks q.run runs.given xs
-gains left failed s asked start out_old out p q r new steps steps_new written xs legal runs (inl k) =
+pub gains : {I : Type 0} (s : Parameters) (asked : Option ℕ) (start : Reader I) (out_old out : Option (List ℕ)) (p q : DecoderState) (r new : Reader I) (steps steps_new written : ℕ) (xs : List ℤ) → IsLegal s →
+    (runs : DecodingProgress s asked start out_old out p r steps written) → Inside r new p q xs ⊎ Outside r new steps steps_new p q xs → Gains s r new runs.front runs.blocks q.run runs.given xs
+gains s asked start out_old out p q r new steps steps_new written xs legal runs (inl k) =
     let block = subst (λ (t : Parameters). GivesBlock t p.block p.before xs q.run (replicate p.run (zero_block t None))) runs.setting k.gives.gives in
-    gains_run left failed s r new runs.blocks p.block runs.begun p.run q.run p.before runs.front runs.given xs legal runs.here runs.previous runs.reader_going runs.before runs.behind k.same block
-gains left failed s asked start out_old out p q r new steps steps_new written xs legal runs (inr k) =
-    let set = subst (λ (t : Parameters). GivesSet left failed (with_mark r) new steps steps_new t p.block p.before xs q.run) runs.setting k.gives in
+    gains_run s r new runs.blocks p.block runs.begun p.run q.run p.before runs.front runs.given xs legal runs.here runs.previous runs.reader_going runs.before runs.behind k.same block
+gains s asked start out_old out p q r new steps steps_new written xs legal runs (inr k) =
+    let set = subst (λ (t : Parameters). GivesSet (with_mark r) new steps steps_new t p.block p.before xs q.run) runs.setting k.gives in
     let behind = subst (λ (n : ℕ). DecodedSoFar s runs.front runs.begun runs.blocks n runs.given) k.none runs.behind in
-    gains_set left failed s r new steps steps_new runs.blocks p.block runs.begun q.run p.before runs.front runs.given xs legal runs.here runs.previous runs.taken runs.before behind set
+    gains_set s r new steps steps_new runs.blocks p.block runs.begun q.run p.before runs.front runs.given xs legal runs.here runs.previous runs.taken runs.before behind set
 
 -- where the decoder stops no run goes on
-pub stopped : {I : Type 0} (left : I → Option (List ℕ)) (failed : I → ℕ) (old new : Reader I) (steps steps_new : ℕ) (p q : DecoderState) (xs : List ℤ) (fault : CodeFault) → p.stopped ≡ None →
+pub stopped : {I : Type 0} (old new : Reader I) (steps steps_new : ℕ) (p q : DecoderState) (xs : List ℤ) (fault : CodeFault) → p.stopped ≡ None →
     (p.stopped ≡ None → 0 < p.run → (Err fault ≡ Ok Block) × GivesFromRun p q xs × (new ≡ old) × (steps_new ≡ steps)) →
-    (p.stopped ≡ None → p.run ≡ 0 → Answers left failed (with_mark old) new steps steps_new p q xs (Err fault)) → (p.run ≡ 0) × StopsBy left failed (with_mark old) new p.setting p.block (Err fault)
-stopped left failed old new steps steps_new p q xs fault going in_run reads =
+    (p.stopped ≡ None → p.run ≡ 0 → Answers (with_mark old) new steps steps_new p q xs (Err fault)) → (p.run ≡ 0) × StopsBy (with_mark old) new p.setting p.block (Err fault)
+stopped old new steps steps_new p q xs fault going in_run reads =
     elim (runs_or_not p) [
       | inl lt ↦ absurd (let e = (in_run going lt).0 in cc)
       | inr none ↦ (none, (reads going none).0)
     ]
 
-pub done : {I : Type 0} (left : I → Option (List ℕ)) (failed : I → ℕ) (old new : Reader I) (steps steps_new : ℕ) (p q : DecoderState) (xs : List ℤ) (step : Step) → step ≡ Done → p.stopped ≡ None →
+pub done : {I : Type 0} (old new : Reader I) (steps steps_new : ℕ) (p q : DecoderState) (xs : List ℤ) (step : Step) → step ≡ Done → p.stopped ≡ None →
     (p.stopped ≡ None → 0 < p.run → (answer step ≡ Ok Block) × GivesFromRun p q xs × (new ≡ old) × (steps_new ≡ steps)) →
-    (p.stopped ≡ None → p.run ≡ 0 → Answers left failed (with_mark old) new steps steps_new p q xs (Ok step)) → (p.run ≡ 0) × SetEnds left failed (with_mark old) new p.setting p.block true
-done left failed old new steps steps_new p q xs step is going in_run reads =
+    (p.stopped ≡ None → p.run ≡ 0 → Answers (with_mark old) new steps steps_new p q xs (Ok step)) → (p.run ≡ 0) × SetEnds (with_mark old) new p.setting p.block true
+done old new steps steps_new p q xs step is going in_run reads =
     elim (runs_or_not p) [
       | inl lt ↦ absurd (let e = (in_run going lt).0 in cc)
-      | inr none ↦ let a = subst (λ (st : Step). Answers left failed (with_mark old) new steps steps_new p q xs (Ok st)) is (reads going none) in (none, a.0)
+      | inr none ↦ let a = subst (λ (st : Step). Answers (with_mark old) new steps steps_new p q xs (Ok st)) is (reads going none) in (none, a.0)
     ]
 
 -- of the block only its place matters where the decoder stops
-pub cut_there : {I : Type 0} (left : I → Option (List ℕ)) (failed : I → ℕ) (old new : Reader I) (s : Parameters) (b c : ℕ) (fault : BitFault) → place s c ≡ place s b → SetCut left failed old new s c fault → SetCut left failed old new s b fault
-cut_there left failed old new s b c fault e cut = record { bits = cut.bits; stops = cut.stops; none = λ d more f g. cut.none d more (form_there s b c d (sym e) f) g }
+pub cut_there : {I : Type 0} (old new : Reader I) (s : Parameters) (b c : ℕ) (fault : BitFault) → place s c ≡ place s b → SetCut old new s c fault → SetCut old new s b fault
+cut_there old new s b c fault e cut = record { bits = cut.bits; stops = cut.stops; none = λ d more f g. cut.none d more (form_there s b c d (sym e) f) g }
 
-pub ends_there : {I : Type 0} (left : I → Option (List ℕ)) (failed : I → ℕ) (old new : Reader I) (s : Parameters) (b c : ℕ) (blank : Bool) → place s c ≡ place s b → SetEnds left failed old new s c blank → SetEnds left failed old new s b blank
+pub ends_there : {I : Type 0} (old new : Reader I) (s : Parameters) (b c : ℕ) (blank : Bool) → place s c ≡ place s b → SetEnds old new s c blank → SetEnds old new s b blank
 unfolding cut_there
-ends_there left failed old new s b c blank e ends = record { cut = cut_there left failed old new s b c _ e ends.cut; told = ends.told }
+ends_there old new s b c blank e ends = record { cut = cut_there old new s b c _ e ends.cut; told = ends.told }
 
-stops_there : {I : Type 0} (left : I → Option (List ℕ)) (failed : I → ℕ) (old new : Reader I) (s : Parameters) (b c : ℕ) (fault : CodeFault) → place s c ≡ place s b → StopsBy left failed old new s c (Err fault) → StopsBy left failed old new s b (Err fault)
-stops_there left failed old new s b c faults.CodeEnds e h = ends_there left failed old new s b c false e h
-stops_there left failed old new s b c faults.RunPastSegment e h = record { set = h.set; form = form_there s c b h.set e h.form; takes = h.takes; unsound = λ g. h.unsound (run_there s b c h.set (sym e) g) }
-stops_there left failed old new s b c faults.ResidualTooLarge e h = record { set = h.set; form = form_there s c b h.set e h.form; takes = h.takes; unsound = h.unsound }
-stops_there left failed old new s b c faults.Read e h = cut_there left failed old new s b c _ e h
-stops_there left failed old new s b c faults.TooLong e h = cut_there left failed old new s b c _ e h
+stops_there : {I : Type 0} (old new : Reader I) (s : Parameters) (b c : ℕ) (fault : CodeFault) → place s c ≡ place s b → StopsBy old new s c (Err fault) → StopsBy old new s b (Err fault)
+stops_there old new s b c faults.CodeEnds e h = ends_there old new s b c false e h
+stops_there old new s b c faults.RunPastSegment e h = record { set = h.set; form = form_there s c b h.set e h.form; takes = h.takes; unsound = λ g. h.unsound (run_there s b c h.set (sym e) g) }
+stops_there old new s b c faults.ResidualTooLarge e h = record { set = h.set; form = form_there s c b h.set e h.form; takes = h.takes; unsound = h.unsound }
+stops_there old new s b c faults.Read e h = cut_there old new s b c _ e h
+stops_there old new s b c faults.TooLong e h = cut_there old new s b c _ e h
 
-pub stops_here : {I : Type 0} (left : I → Option (List ℕ)) (failed : I → ℕ) (old new : Reader I) (s t : Parameters) (b c : ℕ) (fault : CodeFault) → 1 ≤ s.interval → t ≡ s → place s b ≡ c → StopsBy left failed old new t c (Err fault) → StopsBy left failed old new s b (Err fault)
-stops_here left failed old new s t b c fault some setting here h = stops_there left failed old new s b c fault (same_place s b c some here) (subst (λ (t : Parameters). StopsBy left failed old new t c (Err fault)) setting h)
+pub stops_here : {I : Type 0} (old new : Reader I) (s t : Parameters) (b c : ℕ) (fault : CodeFault) → 1 ≤ s.interval → t ≡ s → place s b ≡ c → StopsBy old new t c (Err fault) → StopsBy old new s b (Err fault)
+stops_here old new s t b c fault some setting here h = stops_there old new s b c fault (same_place s b c some here) (subst (λ (t : Parameters). StopsBy old new t c (Err fault)) setting h)
 
-pub ends_at : {I : Type 0} (left : I → Option (List ℕ)) (failed : I → ℕ) (old new : Reader I) (s t : Parameters) (b c : ℕ) (blank : Bool) → 1 ≤ s.interval → t ≡ s → place s b ≡ c → SetEnds left failed old new t c blank → SetEnds left failed old new s b blank
-ends_at left failed old new s t b c blank some setting here h = ends_there left failed old new s b c blank (same_place s b c some here) (subst (λ (t : Parameters). SetEnds left failed old new t c blank) setting h)
+pub ends_at : {I : Type 0} (old new : Reader I) (s t : Parameters) (b c : ℕ) (blank : Bool) → 1 ≤ s.interval → t ≡ s → place s b ≡ c → SetEnds old new t c blank → SetEnds old new s b blank
+ends_at old new s t b c blank some setting here h = ends_there old new s b c blank (same_place s b c some here) (subst (λ (t : Parameters). SetEnds old new t c blank) setting h)
 
 -- no more samples than were asked for
 pub still_asked : (asked : Option ℕ) (written block : ℕ) → IfSome asked (λ n. written ≤ n) → IfSome asked (λ n. written + wanted_of asked written block ≤ n)

@@ -17,6 +17,10 @@ returns-in-Ok-clause-ok g c = record {
   given = take c.in-Ok.count c.ask.new.buffer;
   consumed = c.in-Ok.ensures.ok.3;
   split = ap (λ z. z ++ bits_of (take c.in-Ok.count c.ask.new.buffer)) (window_empty _ c.requires.empty) ∙ sym c.hold.ensures.bits;
+  at_once =
+      (let len = length-take-le c.in-Ok.count c.ask.new.buffer (omega (arith, c.in-Ok.ensures.ok.1, c.ask.auto.buffer, c.requires.window.size)) in
+      omega (arith, len, c.in-Ok.ensures.ok.1));
+  needed = λ some. window_empty _ c.requires.empty;
 }
 
 pub returns-in-Err-clause-err : goal.returns-in-Err-clause-err
