@@ -1,5 +1,5 @@
 //! The engine that a plan asks for.
-ghost use Rattle.std.specs.Prelude.{◌≡◌, ◌+◌, ◌^◌, ◌<◌, true, false};
+ghost use Rattle.std.specs.Prelude.{◌≡◌, ◌+◌, ◌^◌, ◌<◌, true, false, Some};
 ghost use Rattle.rice_stream.specs.Calls.{Call, Happens, Fails};
 ghost use Rattle.rice_stream.specs.Decodes.{Decodes, DecodesWithin};
 ghost use Rattle.rice_stream.specs.Encodes.{Encodes, EncodesWithin};
@@ -19,6 +19,8 @@ pub fn run<I: Intake, O: Outlet>(plan: &Plan<'_>, intake: I, outlet: &mut O) -> 
         Decodes plan.now.setting plan.now.samples c result.0.report result.0.fault }
     ensures failures { Fails result.0.fault (I.failed intake) (I.failed result.1) (O.failed outlet.old) (O.failed outlet.new) }
     ensures decodes_within { plan.now.decode ≡ true → DecodesWithin plan.now.samples result.0.report }
+    // With a count of 0 the intake is not called.
+    ensures idle { plan.now.decode ≡ true → plan.now.samples ≡ Some 0 → result.1 ≡ intake }
 {
     if plan.decode {
         return decode(&plan.setting, plan.samples, intake, outlet);

@@ -1,8 +1,7 @@
 //! From the code to its samples.
 ghost use Rattle.std.specs.Prelude.{◌≡◌, ℕ, ◌+◌, ◌-◌, ◌*◌, ◌^◌, ◌<◌, ◌≤◌, length, Option, Some};
-ghost use Rattle.rice_bits.specs.read.Window.{most_waiting};
 ghost use Rattle.rice_stream.specs.Calls.{Call, Happens, Fails};
-ghost use Rattle.rice_stream.specs.Decodes.{Decodes, DecodesWithin, Tells, wanted_of, ended_fault, refusal_fault};
+ghost use Rattle.rice_stream.specs.Decodes.{Decodes, DecodesWithin, Reports, wanted_of, ended_fault, refusal_fault};
 
 use crate::outcome::{Fault, Outcome, Report};
 use crate::write::write_samples;
@@ -57,13 +56,9 @@ fn ended<I: Intake>(
     reader: BitReader<I>,
     meter: &Meter,
 ) -> (Outcome, I)
-    ensures tells { Tells result.0.report samples reader.taken meter.now }
-    ensures fault { result.0.fault ≡ fault }
+    ensures reports { Reports result.0.report result.0.fault (I.left result.1) (I.failed result.1)
+        reader samples meter.now fault }
     ensures intake { result.1 ≡ reader.intake }
-    ensures left { I.left result.1 ≡ reader.left }
-    ensures failed { I.failed result.1 ≡ reader.failed }
-    ensures ahead { length reader.waiting ≤ most_waiting }
-    ensures limit { reader.taken + length reader.waiting ≤ 2 ^ 52 }
 {
     let report = Report {
         samples,
