@@ -1,14 +1,15 @@
 //! The decoder.
-ghost use Rattle.std.specs.Prelude.{◌≡◌, ℕ, ◌+◌, ◌-◌, ◌*◌, ◌/◌, ◌^◌, ◌<◌, ◌≤◌, Bool, true, false, if◌then◌else◌, nat_lt, List, All, [], length, replicate, None, Some, IfOk, IfErr, IfSome, IfNone, Ok, ℤ, pos};
+ghost use Rattle.std.specs.Prelude.{◌≡◌, ℕ, ◌+◌, ◌-◌, ◌*◌, ◌/◌, ◌^◌, ◌<◌, ◌≤◌, Bool, true, false, List, All, [], length, replicate, None, Option, Some, IfOk, IfErr, IfSome, IfNone, Ok, ℤ, pos};
 ghost use Rattle.rice_samples.specs.Parameters.{IsLegal, IsSample};
 ghost use Rattle.rice_samples.specs.Places.{blocks_left};
 ghost use Rattle.rice_samples.specs.predict.Residuals.{last_of};
 ghost use Rattle.rice_code.specs.code.Blocks.{BlockData, block_data, zero_block};
-ghost use Rattle.rice_code.specs.code.Forms.{IsReference};
+ghost use Rattle.rice_code.specs.code.Forms.{IsReference, RunIsSound, blocks_in, zero_blocks};
 ghost use Rattle.rice_code.specs.decode.Fields.{HasRoom, AreCounted};
 ghost use Rattle.rice_code.specs.decode.Decoder.{TakesSet, StopsBy, Skips, answer_to};
 ghost use Rattle.rice_code.specs.decode.DecoderState.{next_block_place};
 ghost use Rattle.rice_code.specs.code.Layout.{padding};
+ghost use Rattle.rice_code.specs.code.CodedDataSets.{run_with_zeros};
 
 use crate::decode::coded_data_set::read_set;
 use crate::decode::fault::{CodeFault, Step};
@@ -19,12 +20,18 @@ use rice_bits::{BitFault, BitReader, Intake, Meter};
 use rice_samples::Setting;
 use std::marker::Model;
 
-/// The blocks of a run with so many zeros in its codeword, where it is sound.
-fn run_blocks(zeros: u64, left: u32) -> Option<u32>
-    requires { 1 ≤ left }
-    ensures some { IfSome result (λ z. (1 ≤ z) × (z ≤ left) × (zeros ≡ 4 → z ≡ left) × (¬ (zeros ≡ 4) → (z ≡ (if nat_lt zeros 4 then zeros + 1 else zeros)) × (z ≤ 63))) }
-    ensures none { IfNone result (¬ (zeros ≡ 4) × ((if nat_lt zeros 4 then zeros + 1 else zeros) ≤ left → (if nat_lt zeros 4 then zeros + 1 else zeros) ≤ 63 → ⊥)) }
+/// Returns the number of blocks of the run whose codeword has `zeros` zeros, or `None` if that run is not sound.
+fn run_blocks(setting: &Setting, block: u64, zeros: u64) -> Option<u32>
+    ensures within { IfSome result (λ z. (1 ≤ z) × (z ≤ blocks_left setting.now block)) }
+    // All this holds whatever reference the run has.
+    ensures sound { IfSome result (λ z. (reference : Option ℕ) →
+        RunIsSound setting.now block (run_with_zeros reference zeros)) }
+    ensures blocks { IfSome result (λ z. (reference : Option ℕ) →
+        blocks_in setting.now block (run_with_zeros reference zeros) ≡ zero_blocks setting.now reference z) }
+    ensures unsound { IfNone result ((reference : Option ℕ) →
+        RunIsSound setting.now block (run_with_zeros reference zeros) → ⊥) }
 {
+    let left = setting.blocks_left(block);
     if zeros == 4 {
         return Some(left);
     }
@@ -79,7 +86,7 @@ fn decode_set<I: Intake>(
             Ok((last, 0))
         }
         Ok(SetHead::Zeros { reference, zeros }) => {
-            match run_blocks(zeros, setting.blocks_left(block)) {
+            match run_blocks(setting, block, zeros) {
                 Some(count) => {
                     let last = restore_zeros(setting, block, p, reference, samples);
                     Ok((last, count - 1))

@@ -103,8 +103,8 @@ pub fn read_no_compression<I: Intake>(
     requires going { reader.old.refusal ≡ None }
     requires room { HasRoom meter.old reader.old.taken }
     requires size { length residuals.old ≡ setting.now.block }
-    ensures ok { IfOk result (λ h. BlockRead reader.old reader.new meter.old meter.new setting.now block NoCompression (no_compression_tail setting.now) h.reference h.sound residuals.new) }
-    ensures err { IfErr result (BlockCut reader.old reader.new setting.now block NoCompression (no_compression_tail setting.now)) }
+    ensures ok { IfOk result (λ h. BlockRead reader.old reader.new meter.old meter.new setting.now block NoCompression h residuals.new) }
+    ensures err { IfErr result (BlockCut reader.old reader.new setting.now block NoCompression) }
     ensures steps { AreCounted meter.old meter.new reader.old.taken reader.new.taken }
 {
     let reference = match read_reference(setting, block, reader, meter) {
@@ -133,8 +133,8 @@ pub fn read_second_extension<I: Intake>(
     requires going { reader.old.refusal ≡ None }
     requires room { HasRoom meter.old reader.old.taken }
     requires size { length residuals.old ≡ setting.now.block }
-    ensures ok { IfOk result (λ h. BlockRead reader.old reader.new meter.old meter.new setting.now block SecondExtension (second_extension_tail setting.now) h.reference h.sound residuals.new) }
-    ensures err { IfErr result (BlockCut reader.old reader.new setting.now block SecondExtension (second_extension_tail setting.now)) }
+    ensures ok { IfOk result (λ h. BlockRead reader.old reader.new meter.old meter.new setting.now block SecondExtension h residuals.new) }
+    ensures err { IfErr result (BlockCut reader.old reader.new setting.now block SecondExtension) }
     ensures steps { AreCounted meter.old meter.new reader.old.taken reader.new.taken }
 {
     let reference = match read_reference(setting, block, reader, meter) {
@@ -167,8 +167,8 @@ pub fn read_split<I: Intake>(
     requires limit { k ≤ 29 }
     requires size { length residuals.old ≡ setting.now.block }
     requires highs { length highs.old ≡ 64 }
-    ensures ok { IfOk result (λ h. BlockRead reader.old reader.new meter.old meter.new setting.now block (Split k) (split_tail setting.now k) h.reference h.sound residuals.new) }
-    ensures err { IfErr result (BlockCut reader.old reader.new setting.now block (Split k) (split_tail setting.now k)) }
+    ensures ok { IfOk result (λ h. BlockRead reader.old reader.new meter.old meter.new setting.now block (Split k) h residuals.new) }
+    ensures err { IfErr result (BlockCut reader.old reader.new setting.now block (Split k)) }
     ensures steps { AreCounted meter.old meter.new reader.old.taken reader.new.taken }
 {
     let reference = match read_reference(setting, block, reader, meter) {

@@ -63,11 +63,11 @@ cut_behind old mid new s b id bits f lt t stops none = record {
 }
 
 pub plain_set_cut : {I : Type 0} (old mid new : Reader I) (s : Parameters) (b id : ℕ) (f : BitFault)
-    → id < 2 ^ id_len s → id ≡ 2 ^ id_len s - 1 → Takes old mid (word (id_len s) id) → BlockCut mid new s b NoCompression (no_compression_tail s) f → SetCut old new s b f
+    → id < 2 ^ id_len s → id ≡ 2 ^ id_len s - 1 → Takes old mid (word (id_len s) id) → BlockCut mid new s b NoCompression f → SetCut old new s b f
 plain_set_cut old mid new s b id f lt e t cut = cut_behind old mid new s b id cut.bits f lt t cut.stops (cut_plain s b id cut.bits e cut.none)
 
 pub split_set_cut : {I : Type 0} (old mid new : Reader I) (s : Parameters) (b id k : ℕ) (f : BitFault)
-    → id < 2 ^ id_len s - 1 → id ≡ k + 1 → Takes old mid (word (id_len s) id) → BlockCut mid new s b (Split k) (split_tail s k) f → SetCut old new s b f
+    → id < 2 ^ id_len s - 1 → id ≡ k + 1 → Takes old mid (word (id_len s) id) → BlockCut mid new s b (Split k) f → SetCut old new s b f
 split_set_cut old mid new s b id k f lt e t cut = cut_behind old mid new s b id cut.bits f (omega arith) t cut.stops (cut_split s b id k cut.bits e lt cut.none)
 
 pub low_set_cut : {I : Type 0} (old mid new : Reader I) (s : Parameters) (b id : ℕ) (f : BitFault)
@@ -77,7 +77,7 @@ low_set_cut old mid new s b id f lt e t cut = cut_behind old mid new s b id cut.
 -- what a block by no compression says
 pub plain_set : {I : Type 0} (old mid new : Reader I) (first second last : ℕ) (s : Parameters) (b id : ℕ) (r : Option ℕ) (sound : Bool) (items : List ℕ)
     → id ≡ 2 ^ id_len s - 1 → Takes old mid (word (id_len s) id) → second + old.taken ≡ first + mid.taken
-    → BlockRead mid new second last s b NoCompression (no_compression_tail s) r sound items → SetRead old new first last s b (Residuals r sound) items
+    → BlockRead mid new second last s b NoCompression (record { reference = r; sound = sound }) items → SetRead old new first last s b (Residuals r sound) items
 plain_set old mid new first second last s b id r sound items e t steps read = record {
   set = NoCompression read.contents;
   form = read.form;
@@ -96,7 +96,7 @@ plain_set old mid new first second last s b id r sound items e t steps read = re
 
 pub split_set : {I : Type 0} (old mid new : Reader I) (first second last : ℕ) (s : Parameters) (b id k : ℕ) (r : Option ℕ) (sound : Bool) (items : List ℕ)
     → id ≡ k + 1 → Takes old mid (word (id_len s) id) → second + old.taken ≡ first + mid.taken
-    → BlockRead mid new second last s b (Split k) (split_tail s k) r sound items → SetRead old new first last s b (Residuals r sound) items
+    → BlockRead mid new second last s b (Split k) (record { reference = r; sound = sound }) items → SetRead old new first last s b (Residuals r sound) items
 split_set old mid new first second last s b id k r sound items e t steps read = record {
   set = Split k read.contents;
   form = read.form;
@@ -159,7 +159,7 @@ low_bit_cut old new s b bits f lt stops = record { bits = bits; stops = stops; n
     none bits lt (RemainderOfSegment r) more form low e = omega (arith, ap length e)
 
 pub second_low_cut : {I : Type 0} (old mid new : Reader I) (s : Parameters) (b v : ℕ) (f : BitFault)
-    → v < 2 → 0 < v → Takes old mid (word 1 v) → BlockCut mid new s b SecondExtension (second_extension_tail s) f → LowCut old new s b f
+    → v < 2 → 0 < v → Takes old mid (word 1 v) → BlockCut mid new s b SecondExtension f → LowCut old new s b f
 second_low_cut old mid new s b v f lt pos t cut = record {
   bits = true ∷ cut.bits;
   stops = stops-append old mid new (true ∷ []) cut.bits f (rw (one_bit v lt pos) at t) cut.stops;
@@ -190,7 +190,7 @@ run_low_cut old mid new s b bits f t stops cut = record {
 
 pub second_low : {I : Type 0} (old mid new : Reader I) (first second last : ℕ) (s : Parameters) (b v : ℕ) (r : Option ℕ) (sound : Bool) (items : List ℕ)
     → v < 2 → 0 < v → Takes old mid (word 1 v) → second + old.taken ≡ first + mid.taken
-    → BlockRead mid new second last s b SecondExtension (second_extension_tail s) r sound items → LowRead old new first last s b (Residuals r sound) items
+    → BlockRead mid new second last s b SecondExtension (record { reference = r; sound = sound }) items → LowRead old new first last s b (Residuals r sound) items
 second_low old mid new first second last s b v r sound items lt pos t steps read = record {
   set = SecondExtension read.contents;
   low = tt;

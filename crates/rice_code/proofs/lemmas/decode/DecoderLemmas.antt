@@ -13,7 +13,7 @@ use Rattle.rice_samples.specs.Parameters.{Parameters, IsSample, IsLegal, id_len}
 use Rattle.rice_samples.specs.Places.{blocks_left, begins_segment, is_reference, place}
 use Rattle.rice_samples.proofs.lemmas.setting.PlaceLemmas.{some_left, one_less_left, last_of_segment, reference_begins, next_place}
 use Rattle.rice_code.specs.code.Blocks.{BlockData, block_data, zero_block}
-use Rattle.rice_code.specs.code.CodedDataSets.{CodedDataSet, NoCompression, SecondExtension, Split, ZeroBlocks, RemainderOfSegment, bits_of_set, turns, run_number, run_tail, no_compression_tail, second_extension_tail, split_tail, reference_bits}
+use Rattle.rice_code.specs.code.CodedDataSets.{CodedDataSet, NoCompression, SecondExtension, Split, ZeroBlocks, RemainderOfSegment, bits_of_set, turns, run_number, run_tail, run_with_zeros, no_compression_tail, second_extension_tail, split_tail, reference_bits}
 use Rattle.rice_code.specs.code.Forms.{IsForm, IsReference, RunIsSound, ResidualsAreSound, blocks_in, zero_blocks}
 use Rattle.rice_code.specs.decode.ReadSets.{SetRead, SetCut}
 use Rattle.rice_code.specs.declared.decode.options.SetHead.TheVariants.{Zeros}
@@ -27,47 +27,32 @@ use Rattle.rice_code.specs.declared.decode.fault.Step.{Step}
 use Rattle.rice_code.specs.declared.decode.fault.Step.TheVariants.{Block}
 use Rattle.rice_code.specs.declared.decode.fault.CodeFault.{CodeFault}
 
--- a run's blocks
-given_run : {I : Type 0} (old new : Reader I) (first last : ℕ) (s : Parameters) (b : ℕ) (p : ℤ) (r : Option ℕ) (z : ℕ) (samples : List ℤ) (set d : CodedDataSet)
-    → set ≡ d → IsForm s b set → Takes old new (bits_of_set s set) → last + old.taken ≡ first + new.taken + turns set
-    → RunIsSound s b d → ResidualsAreSound s d → zero_blocks s r z ≡ blocks_in s b d
+-- a run says no residuals
+run_residuals : (s : Parameters) (reference : Option ℕ) (zeros : ℕ) → ResidualsAreSound s (run_with_zeros reference zeros)
+run_residuals s reference zeros = by_four (zeros == 4)
+  where
+    by_four : (c : Bool) → ResidualsAreSound s (if c then RemainderOfSegment reference else ZeroBlocks reference (if nat_lt zeros 4 then zeros + 1 else zeros))
+    by_four true = tt
+    by_four false = tt
+
+-- a sound run was taken, and the samples of its first block are given
+pub run_given : {I : Type 0} (old new : Reader I) (first last : ℕ) (s : Parameters) (b : ℕ) (p : ℤ) (r : Option ℕ) (zeros z : ℕ) (samples : List ℤ) (items : List ℕ)
+    → SetRead old new first last s b (Zeros r zeros) items → RunIsSound s b (run_with_zeros r zeros) → blocks_in s b (run_with_zeros r zeros) ≡ zero_blocks s r z
     → length samples ≡ s.block → All (IsSample s) samples → block_data s b p samples ≡ zero_block s r
     → TakesSet old new first last s b p samples (z - 1)
-given_run old new first last s b p r z samples set d e form takes steps run sound blocks len legal says = record {
-  set = d;
-  form = subst (λ x. IsForm s b x) e form;
+run_given old new first last s b p r zeros z samples items read run blocks len legal says = record {
+  set = run_with_zeros r zeros;
+  form = subst (λ x. IsForm s b x) read.tells read.form;
   run_sound = run;
-  residuals_sound = sound;
-  takes = subst (λ x. Takes old new (bits_of_set s x)) e takes;
+  residuals_sound = run_residuals s r zeros;
+  takes = subst (λ x. Takes old new (bits_of_set s x)) read.tells read.takes;
   gives = record {
     len = len;
     legal = legal;
-    blocks_are = ap (λ c. c ∷ replicate (z - 1) (zero_block s None)) says ∙ blocks;
+    blocks_are = ap (λ c. c ∷ replicate (z - 1) (zero_block s None)) says ∙ sym blocks;
   };
-  steps = subst (λ x. last + old.taken ≡ first + new.taken + turns x) e steps;
+  steps = subst (λ x. last + old.taken ≡ first + new.taken + turns x) read.tells read.steps;
 }
-
-pub run_given : {I : Type 0} (old new : Reader I) (first last : ℕ) (s : Parameters) (b : ℕ) (p : ℤ) (r : Option ℕ) (zeros_read z : ℕ) (samples : List ℤ) (items : List ℕ)
-    → SetRead old new first last s b (Zeros r zeros_read) items → z ≤ blocks_left s b → (zeros_read ≡ 4 → z ≡ blocks_left s b)
-    → ((zeros_read ≡ 4 → ⊥) → (z ≡ (if nat_lt zeros_read 4 then zeros_read + 1 else zeros_read)) × (z ≤ 63))
-    → length samples ≡ s.block → All (IsSample s) samples → block_data s b p samples ≡ zero_block s r
-    → TakesSet old new first last s b p samples (z - 1)
-run_given old new first last s b p r m z samples items read le four other len legal says = by_zeros (m == 4) refl
-  where
-    is_four : (m == 4) ≡ true → m ≡ 4
-    is_four e = grind (arith, nat_tests)
-
-    not_four : (m == 4) ≡ false → m ≡ 4 → ⊥
-    not_four e f = absurd (grind (arith, nat_tests))
-
-    by_zeros : (t : Bool) → (m == 4) ≡ t → TakesSet old new first last s b p samples (z - 1)
-    by_zeros true e =
-        let d : read.set ≡ RemainderOfSegment r = read.tells ∙ ap (λ c. cond c (RemainderOfSegment r) (ZeroBlocks r (if nat_lt m 4 then m + 1 else m))) e in
-        given_run old new first last s b p r z samples read.set (RemainderOfSegment r) d read.form read.takes read.steps tt tt (ap (λ n. zero_blocks s r n) (four (is_four e))) len legal says
-    by_zeros false e =
-        let n = other (not_four e) in
-        let d : read.set ≡ ZeroBlocks r z = read.tells ∙ (ap (λ c. cond c (RemainderOfSegment r) (ZeroBlocks r (if nat_lt m 4 then m + 1 else m))) e ∙ ap (λ k. ZeroBlocks r k) (sym n.0)) in
-        given_run old new first last s b p r z samples read.set (ZeroBlocks r z) d read.form read.takes read.steps (le, n.1) tt refl len legal says
 
 -- no block of a run but its first has a reference
 pub no_reference : (s : Parameters) (b : ℕ) → begins_segment s b ≡ false → IsReference s b None

@@ -15,7 +15,7 @@ use Rattle.rice_samples.specs.blocks.Pairs.{pair_codes}
 use Rattle.rice_code.specs.code.CodedDataSets.{CodedDataSet, NoCompression, SecondExtension, Split, sent_residuals, sent_from, reference_bits, no_compression_tail, second_extension_tail, split_tail, run_tail}
 use Rattle.rice_code.specs.code.Forms.{IsForm, IsReference, IsBlock}
 use Rattle.rice_code.specs.decode.Fields.{Row, CountRow, PairRow, ones}
-use Rattle.rice_code.specs.decode.ReadSets.{BlockRead, BlockCut, reference_place, joined_parts}
+use Rattle.rice_code.specs.decode.ReadSets.{BlockRead, BlockCut, reference_place, joined_parts, set_tail}
 use Rattle.rice_samples.proofs.lemmas.blocks.PairLemmas.{count_pairs}
 use Rattle.rice_bits.proofs.lemmas.read.WindowLemmas.{length-words}
 use Rattle.rice_code.proofs.lemmas.decode.FieldLemmas.{put_rest, ones-append, ones-zeros, ones-sequence, ones-sequences}
@@ -87,7 +87,7 @@ placed_row piece P old new count before alone after row e = record {
 pub plain_read : {I : Type 0} (old mid new : Reader I) (first last : ℕ) (s : Parameters) (b : ℕ) (r : Option ℕ) (count : ℕ) (items : List ℕ)
     → IsReference s b r → count + length (reference_place r) ≡ s.block → 0 < value_count s → Takes old mid (reference_bits s r)
     → Row (word s.bits) (λ v. v < 2 ^ s.bits) mid new count (reference_place r) items → last + old.taken ≡ first + new.taken
-    → BlockRead old new first last s b NoCompression (no_compression_tail s) r true items
+    → BlockRead old new first last s b NoCompression (record { reference = r; sound = true }) items
 plain_read old mid new first last s b r count items h n z t row steps =
     let len : length (reference_place r ++ row.values) ≡ s.block = omega (arith, length-append (reference_place r) row.values, row.len) in
     let fit = all-placed (λ d. d < value_count s) r row.values z row.each in
@@ -103,7 +103,7 @@ plain_read old mid new first last s b r count items h n z t row steps =
 
 pub plain_cut : {I : Type 0} (old mid new : Reader I) (s : Parameters) (b : ℕ) (r : Option ℕ) (count : ℕ) (bits : List Bool) (f : BitFault)
     → IsReference s b r → count + length (reference_place r) ≡ s.block → Takes old mid (reference_bits s r)
-    → length bits < count * s.bits → Stops mid new bits f → BlockCut old new s b NoCompression (no_compression_tail s) f
+    → length bits < count * s.bits → Stops mid new bits f → BlockCut old new s b NoCompression f
 plain_cut old mid new s b r count bits f h n t short stops = record {
   bits = reference_bits s r ++ bits;
   stops = stops-append old mid new _ bits f t stops;
@@ -114,12 +114,13 @@ plain_cut old mid new s b r count bits f h n t short stops = record {
 
 -- a block is cut off inside its reference
 pub cut_at_reference : {I : Type 0} (old new : Reader I) (s : Parameters) (b : ℕ) (option : BlockData → CodedDataSet) (rest : BlockData → List Bool) (bits : List Bool) (f : BitFault)
+    → ((c : BlockData) → set_tail s (option c) ≡ reference_bits s c.reference ++ rest c)
     → ((c : BlockData) → IsForm s b (option c) → IsReference s b c.reference) → is_reference s b ≡ true → length bits < s.bits → Stops old new bits f
-    → BlockCut old new s b option (λ c. reference_bits s c.reference ++ rest c) f
-cut_at_reference old new s b option rest bits f refs k short stops = record {
+    → BlockCut old new s b option f
+cut_at_reference old new s b option rest bits f tail refs k short stops = record {
   bits = bits;
   stops = stops;
-  none = λ c more form e. short_reference s b c.reference bits (rest c) more (refs c form) k short e;
+  none = λ c more form e. short_reference s b c.reference bits (rest c) more (refs c form) k short (e ∙ ap (λ z. z ++ more) (tail c));
 }
 
 pub run_cut_at_reference : (s : Parameters) (b : ℕ) (bits : List Bool) → is_reference s b ≡ true → length bits < s.bits
@@ -137,7 +138,7 @@ pub second_read : {I : Type 0} (old mid new : Reader I) (first second last : ℕ
     → PairRow mid new half items second last → second + old.taken ≡ first + mid.taken
     → (sound ≡ true → OnSome r (slice_index items 0 ≡ 0) × All (λ d. d < value_count s) items)
     → (sound ≡ false → OnSome r (slice_index items 0 ≡ 0) × All (λ d. d < value_count s) items → ⊥)
-    → BlockRead old new first last s b SecondExtension (second_extension_tail s) r sound items
+    → BlockRead old new first last s b SecondExtension (record { reference = r; sound = sound }) items
 second_read old mid new first second last s b r half items sound h n t row steps told refused = record {
   contents = record { reference = r; residuals = items };
   form = record { reference = h; len = row.len ∙ n };
@@ -150,7 +151,7 @@ second_read old mid new first second last s b r half items sound h n t row steps
 
 pub second_cut : {I : Type 0} (old mid new : Reader I) (s : Parameters) (b : ℕ) (r : Option ℕ) (half : ℕ) (bits : List Bool) (f : BitFault)
     → IsReference s b r → half + half ≡ s.block → Takes old mid (reference_bits s r)
-    → ones bits < half → Stops mid new bits f → BlockCut old new s b SecondExtension (second_extension_tail s) f
+    → ones bits < half → Stops mid new bits f → BlockCut old new s b SecondExtension f
 second_cut old mid new s b r half bits f h n t short stops = record {
   bits = reference_bits s r ++ bits;
   stops = stops-append old mid new _ bits f t stops;
@@ -168,7 +169,7 @@ pub split_read : {I : Type 0} (old mid next new : Reader I) (first last : ℕ) (
     → Row fundamental_sequence P mid next count [] highs → Row (word k) (λ v. v < 2 ^ k) next new count [] lows → last + old.taken ≡ first + new.taken
     → (sound ≡ true → All (λ d. d < value_count s) (joined_parts k highs lows)) → (sound ≡ true → items ≡ reference_place r ++ joined_parts k highs lows)
     → (sound ≡ false → All (λ d. d < value_count s) (joined_parts k highs lows) → ⊥)
-    → BlockRead old new first last s b (Split k) (split_tail s k) r sound items
+    → BlockRead old new first last s b (Split k) (record { reference = r; sound = sound }) items
 split_read old mid next new first last s b k r count P highs lows items sound h le n t high low steps fit same refused =
     let ds = joined_parts k highs lows in
     let nh : length highs ≡ count = ap length high.appended ∙ high.len in
@@ -196,7 +197,7 @@ count_row old new most small many count told e row = record { values = row.value
 pub split_large : {I : Type 0} (old mid next new : Reader I) (first last : ℕ) (s : Parameters) (b k : ℕ) (r : Option ℕ) (many count : ℕ) (told lows items : List ℕ) (small : Bool)
     → IsReference s b r → k ≤ k_max s → count + length (reference_place r) ≡ s.block → many ≡ count → Takes old mid (reference_bits s r)
     → CountRow mid next ((value_count s - 1) / 2 ^ k) small many told → small ≡ false → Row (word k) (λ v. v < 2 ^ k) next new count [] lows → last + old.taken ≡ first + new.taken
-    → BlockRead old new first last s b (Split k) (split_tail s k) r false items
+    → BlockRead old new first last s b (Split k) (record { reference = r; sound = false }) items
 split_large old mid next new first last s b k r many count told lows items small h le n m t high e low steps =
     let nl : length lows ≡ count = ap length low.appended ∙ low.len in
     split_read old mid next new first last s b k r count (λ _. Unit {0}) high.values lows items false h le n t
@@ -209,7 +210,7 @@ pub split_joined : {I : Type 0} (old mid next new : Reader I) (first last : ℕ)
     → CountRow mid next ((value_count s - 1) / 2 ^ k) small many told → small ≡ true → Row (word k) (λ v. v < 2 ^ k) next new count [] lows → last + old.taken ≡ first + new.taken
     → items ≡ reference_place r ++ joined_parts k told lows
     → (sound ≡ true → All (λ d. d < value_count s) (joined_parts k told lows)) → (sound ≡ false → All (λ d. d < value_count s) (joined_parts k told lows) → ⊥)
-    → BlockRead old new first last s b (Split k) (split_tail s k) r sound items
+    → BlockRead old new first last s b (Split k) (record { reference = r; sound = sound }) items
 split_joined old mid next new first last s b k r many count told lows items small sound h le n m t high e low steps joined below above =
     let is : joined_parts k told lows ≡ joined_parts k high.values lows = ap (λ xs. joined_parts k xs lows) (high.told_are e).0 in
     split_read old mid next new first last s b k r count (λ _. Unit {0}) high.values lows items sound h le n t
@@ -224,7 +225,7 @@ ones-high k (d ∷ ds) = omega (arith, ones-append (fundamental_sequence (d / 2 
 
 pub split_cut_high : {I : Type 0} (old mid new : Reader I) (s : Parameters) (b k : ℕ) (r : Option ℕ) (count : ℕ) (bits : List Bool) (f : BitFault)
     → IsReference s b r → count + length (reference_place r) ≡ s.block → Takes old mid (reference_bits s r)
-    → ones bits < count → Stops mid new bits f → BlockCut old new s b (Split k) (split_tail s k) f
+    → ones bits < count → Stops mid new bits f → BlockCut old new s b (Split k) f
 split_cut_high old mid new s b k r count bits f h n t short stops = record {
   bits = reference_bits s r ++ bits;
   stops = stops-append old mid new _ bits f t stops;
@@ -252,7 +253,7 @@ after_sequences k (m ∷ ms) (d ∷ ds) x y n e =
 pub split_cut_low : {I : Type 0} (old mid next new : Reader I) (s : Parameters) (b k : ℕ) (r : Option ℕ) (count : ℕ) (P : ℕ → Type 0) (highs : List ℕ) (bits : List Bool) (f : BitFault)
     → IsReference s b r → count + length (reference_place r) ≡ s.block → Takes old mid (reference_bits s r)
     → Row fundamental_sequence P mid next count [] highs
-    → length bits < count * k → Stops next new bits f → BlockCut old new s b (Split k) (split_tail s k) f
+    → length bits < count * k → Stops next new bits f → BlockCut old new s b (Split k) f
 split_cut_low old mid next new s b k r count P highs bits f h n t high short stops = record {
   bits = reference_bits s r ++ (flat_map fundamental_sequence high.values ++ bits);
   stops = stops-append old mid new _ _ f t (stops-append mid next new _ bits f high.takes stops);

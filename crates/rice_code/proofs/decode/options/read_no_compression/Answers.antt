@@ -1,4 +1,4 @@
-use Rattle.std.proofs.Common.{arith, ◌^◌, ◌<◌, ◌∙◌}
+use Rattle.std.proofs.Common.{arith, ◌^◌, ◌<◌, ◌∙◌, refl}
 use Rattle.rice_code.specs.decode.ReadSets.{reference_place}
 use Rattle.std.specs.Prelude.{flat_map}
 use Rattle.std.proofs.lemmas.Nat.{pow_pos}
@@ -12,7 +12,7 @@ returns-in-Err-clause-err g c =
     let s = c.args.setting.now in
     let e = c.in-Err.ensures.err in
     cut_at_reference c.args.reader.now c.read_reference.new.reader s c.args.block NoCompression (λ x. flat_map (word s.bits) (sent_residuals x)) e.0 c.in-Err.fault
-    (λ x form. form.0.reference) e.1 e.2 e.3
+    (λ x. refl) (λ x form. form.0.reference) e.1 e.2 e.3
 
 pub returns-clause-ok : goal.returns-clause-ok
 returns-clause-ok g c =

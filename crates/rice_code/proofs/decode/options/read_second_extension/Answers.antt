@@ -1,4 +1,4 @@
-use Rattle.std.proofs.Common.{◌+◌, ◌/◌, ◌∙◌, ap, length}
+use Rattle.std.proofs.Common.{◌+◌, ◌/◌, ◌∙◌, ap, length, refl}
 use Rattle.std.specs.Prelude.{flat_map}
 use Rattle.rice_bits.specs.Bits.{fundamental_sequence}
 use Rattle.rice_samples.specs.blocks.Pairs.{pair_codes}
@@ -10,7 +10,7 @@ pub returns-in-Err-clause-err : goal.returns-in-Err-clause-err
 returns-in-Err-clause-err g c =
     let e = c.in-Err.ensures.err in
     cut_at_reference c.args.reader.now c.read_reference.new.reader c.args.setting.now c.args.block SecondExtension (λ x. flat_map fundamental_sequence (pair_codes x.residuals)) e.0 c.in-Err.fault
-    (λ x form. form.reference) e.1 e.2 e.3
+    (λ x. refl) (λ x form. form.reference) e.1 e.2 e.3
 
 pub returns-in-Err-read_pairs-clause-err : goal.returns-in-Err-read_pairs-clause-err
 returns-in-Err-read_pairs-clause-err g c =

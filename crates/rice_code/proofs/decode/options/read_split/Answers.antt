@@ -1,4 +1,4 @@
-use Rattle.std.proofs.Common.{arith, drop, ◌∙◌, ap, ◌-◌, ◌/◌, ◌^◌, ◌++◌, length}
+use Rattle.std.proofs.Common.{arith, drop, ◌∙◌, ap, ◌-◌, ◌/◌, ◌^◌, ◌++◌, length, refl}
 use Rattle.std.specs.Prelude.{flat_map}
 use Rattle.rice_bits.specs.Bits.{word, fundamental_sequence}
 use Rattle.rice_code.specs.code.CodedDataSets.{Split, sent_residuals}
@@ -11,7 +11,7 @@ returns-in-Err-clause-err g c =
     let e = c.in-Err.ensures.err in
     cut_at_reference c.args.reader.now c.read_reference.new.reader c.args.setting.now c.args.block (Split c.args.k)
     (λ x. flat_map (λ d. fundamental_sequence (d / 2 ^ c.args.k)) (sent_residuals x) ++ flat_map (word c.args.k) (sent_residuals x)) e.0 c.in-Err.fault
-    (λ x form. form.0.reference) e.1 e.2 e.3
+    (λ x. refl) (λ x form. form.0.reference) e.1 e.2 e.3
 
 pub returns-in-Err-read_counts-clause-err : goal.returns-in-Err-read_counts-clause-err
 returns-in-Err-read_counts-clause-err g c =
