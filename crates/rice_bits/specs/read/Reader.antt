@@ -76,7 +76,7 @@ pub record Stops {I : Type 0} (old new : Reader I) (bits : List Bool) (fault : B
   pub waiting : new.waiting ≡ []
   pub refusal : new.refusal ≡ Some fault
 
--- what is so of each reader's fields
+-- what holds of the fields of each reader
 pub record IsReader (failed : ℕ) (bits : Window) (refusal : Option BitFault) : Type 0 where
   pub window : IsWindow bits
   pub going : refusal ≡ None → failed + 1 < 2 ^ 64
