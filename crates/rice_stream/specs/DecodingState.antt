@@ -21,6 +21,13 @@ pub record AreOfRun (s : Parameters) (block : ℕ) (p : ℤ) (run : ℕ) (sample
   pub legal : All (IsSample s) samples
   pub blocks : blocks_from s block p run samples ≡ replicate run (zero_block s None)
 
+-- What may follow `position` bits, whose coded data sets begin before block `begun` and say so many blocks with these samples:
+-- the samples of a run that is still to come, and bits that decode to `ys` after them.
+pub record MayFollow (s : Parameters) (position begun blocks run : ℕ) (given : List ℤ) (wanted : Option ℕ) (more : List ℤ) (rest : List Bool) (ys : List ℤ) (ending : Ending) (used : ℕ) : Type 0 where
+  pub begun_wanted : (i : ℕ) → i < begun → IsWanted s wanted i
+  pub of_run : AreOfRun s blocks (last_of (pos 0) given) run more
+  pub next : DecodedFrom s (blocks + run) position (last_of (pos 0) (given ++ more)) rest wanted ys ending used
+
 -- The bits so far are coded data sets that begin before block `begun`. The samples of so many blocks were given, and so
 -- many blocks of a run are still to come: whatever follows these bits, and however many samples are wanted, decoding
 -- gives these samples first, then those of the run, and then goes on.
@@ -28,8 +35,8 @@ pub record DecodedSoFar (s : Parameters) (front : List Bool) (begun blocks run :
   pub len : length given ≡ s.block * blocks
   pub legal : All (IsSample s) given
   pub sound : AreSoundBlocks s blocks (replicate run (zero_block s None))
-  pub goes_on : (wanted : Option ℕ) (more : List ℤ) (rest : List Bool) (ys : List ℤ) (ending : Ending) (used : ℕ) → ((i : ℕ) → i < begun → IsWanted s wanted i) → AreOfRun s blocks (last_of (pos 0) given) run more →
-      DecodedFrom s (blocks + run) (length front) (last_of (pos 0) (given ++ more)) rest wanted ys ending used → Decoded s (front ++ rest) wanted (cut_to s wanted 0 (given ++ more) ++ ys) ending (length front + used)
+  pub goes_on : (wanted : Option ℕ) (more : List ℤ) (rest : List Bool) (ys : List ℤ) (ending : Ending) (used : ℕ) → MayFollow s (length front) begun blocks run given wanted more rest ys ending used →
+      Decoded s (front ++ rest) wanted (cut_to s wanted 0 (given ++ more) ++ ys) ending (length front + used)
 
 -- The decoder goes on at this block, after these samples.
 pub record IsAtBlock (s : Parameters) (p : DecoderState) (blocks : ℕ) (given : List ℤ) : Type 0 where

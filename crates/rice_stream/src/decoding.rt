@@ -78,9 +78,11 @@ pub fn decode<I: Intake, O: Outlet>(
 ) -> (Outcome, I)
     requires reads { I.failed intake + 1 < 2 ^ 64 }
     requires writes { O.failed outlet.old + 1 < 2 ^ 64 }
-    ensures call { (c : Call) × Happens (I.left intake) (I.left result.1) (O.taken outlet.old) (O.taken outlet.new) c ×
+    ensures call { (c : Call) ×
+        Happens (I.left intake) (I.left result.1) (O.taken outlet.old) (O.taken outlet.new) c ×
         Decodes setting.now asked c result.0.report result.0.fault }
-    ensures failures { Fails result.0.fault (I.failed intake) (I.failed result.1) (O.failed outlet.old) (O.failed outlet.new) }
+    ensures failures { Fails result.0.fault (I.failed intake) (I.failed result.1)
+        (O.failed outlet.old) (O.failed outlet.new) }
     ensures bounds { DecodesWithin asked result.0.report }
     // With a count of 0 the intake is not called.
     ensures idle { asked ≡ Some 0 → result.1 ≡ intake }

@@ -444,12 +444,7 @@ impl<I: Intake> BitReader<I> {
         requires meter { meter.old + bits_to_byte self.old.taken < 2 ^ 62 }
         ensures bits { (bits : List Bool) × (length bits ≡ bits_to_byte self.old.taken) ×
             (self.old.waiting ≡ bits ++ self.new.waiting) }
-        ensures rest { self.new
-            ≡ record self.old {
-              waiting = self.new.waiting;
-              taken = self.old.taken
-                  + bits_to_byte self.old.taken;
-            } }
+        ensures rest { self.new ≡ record self.old { waiting = self.new.waiting; taken = self.old.taken + bits_to_byte self.old.taken } }
         ensures steps { meter.new ≡ meter.old + bits_to_byte self.old.taken }
     {
         // The bits of the gap do not count: those before it are looked at now, and the mark passes it.

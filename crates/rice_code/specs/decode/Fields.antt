@@ -1,6 +1,6 @@
 -- What the pieces of a coded data set are read by.
 use Rattle.std.specs.Prelude.{◌≡◌, ℕ, suc, All, Option, length, flat_map, sum, ◌+◌, ◌-◌, ◌*◌, ◌^◌, ◌<◌, ◌≤◌, Bool, true, false, List, [], ◌∷◌, ◌++◌}
-use Rattle.rice_bits.specs.Bits.{fundamental_sequence}
+use Rattle.rice_bits.specs.Bits.{fundamental_sequence, word}
 use Rattle.rice_bits.specs.read.Reader.{Reader, Takes}
 use Rattle.rice_samples.specs.blocks.Pairs.{pair_codes}
 
@@ -29,6 +29,10 @@ pub record Row {I : Type 0} (piece : ℕ → List Bool) (P : ℕ → Type 0) (ol
   pub each : All P values
   pub appended : after ≡ before ++ values
   pub takes : Takes old new (flat_map piece values)
+
+-- A reader took words of this width, which spell these numbers.
+abbrev pub WordRow : {I : Type 0} → ℕ → Reader I → Reader I → ℕ → List ℕ → Type 0
+WordRow width old new count numbers = Row (word width) (λ v. v < 2 ^ width) old new count [] numbers
 
 -- A reader took fundamental sequences, one for each of so many numbers. The numbers are told where none was found above `most`.
 pub record CountsRead {I : Type 0} (old new : Reader I) (most : ℕ) (small : Bool) (count : ℕ) (told : List ℕ) : Type 0 where

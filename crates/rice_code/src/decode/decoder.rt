@@ -1,4 +1,4 @@
-//! The decoder.
+//! Decodes coded data sets, a block a call.
 ghost use Rattle.std.specs.Prelude.{◌≡◌, ℕ, ◌+◌, ◌-◌, ◌*◌, ◌/◌, ◌^◌, ◌<◌, ◌≤◌, Bool, true, false, List, All, [], length, replicate, None, Option, Some, IfOk, IfErr, IfSome, IfNone, Ok, ℤ, pos};
 ghost use Rattle.rice_samples.specs.Parameters.{IsLegal, IsSample};
 ghost use Rattle.rice_samples.specs.Places.{blocks_left};
@@ -42,7 +42,7 @@ fn run_blocks(setting: &Setting, block: u64, zeros: u64) -> Option<u32>
     if blocks <= left { Some(blocks) } else { None }
 }
 
-/// What a decoder answers where its reader refuses.
+/// Returns what a decoder answers when its reader refuses.
 fn answer_of(fault: BitFault) -> Result<Step, CodeFault>
     ensures { result ≡ answer_to fault }
 {
@@ -54,8 +54,8 @@ fn answer_of(fault: BitFault) -> Result<Step, CodeFault>
     }
 }
 
-/// Reads a data set, and gives the samples of its first block; answers the last of them and how many zero blocks follow. `scratch` is room
-/// for residuals.
+/// Reads a coded data set and restores the samples of its first block. Returns the last of them, and the number of
+/// zero blocks that follow. `scratch` is scratch space.
 fn decode_set<I: Intake>(
     setting: &Setting,
     block: u64,
@@ -70,8 +70,11 @@ fn decode_set<I: Intake>(
     requires p { IsSample setting.now p }
     requires marked { reader.old.blank ≡ true }
     requires scratch { length scratch.old ≡ 128 }
-    ensures ok { IfOk result (λ r. TakesSet reader.old reader.new meter.old meter.new setting.now block p samples.new.items r.1) }
-    ensures last { IfOk result (λ r. (r.0 ≡ last_of p samples.new.items) × IsSample setting.now r.0 × (0 < r.1 → r.1 + 1 ≤ blocks_left setting.now block)) }
+    ensures ok { IfOk result (λ r. TakesSet reader.old reader.new meter.old meter.new
+        setting.now block p samples.new.items r.1) }
+    ensures last { IfOk result (λ r. (r.0 ≡ last_of p samples.new.items) ×
+        IsSample setting.now r.0 ×
+        (0 < r.1 → r.1 + 1 ≤ blocks_left setting.now block)) }
     ensures err { IfErr result (StopsBy reader.old reader.new setting.now block) }
     ensures steps { AreCounted meter.old meter.new reader.old.taken reader.new.taken }
 {
@@ -98,7 +101,7 @@ fn decode_set<I: Intake>(
     }
 }
 
-/// The place of the next block in its reference interval.
+/// Returns the place of the next block in its reference interval.
 fn next_place(setting: &Setting, block: u64) -> u64
     requires { block < setting.now.interval }
     ensures { result ≡ next_block_place setting.now block }
@@ -108,7 +111,7 @@ fn next_place(setting: &Setting, block: u64) -> u64
     if next == interval { 0 } else { next }
 }
 
-/// Skips what fills the byte before block `next` of the interval, if that is where the next one begins and intervals are padded.
+/// Skips the padding before block `next`, if intervals are padded and the next one begins there.
 fn skip_padding<I: Intake>(
     setting: &Setting,
     next: u64,
@@ -127,7 +130,10 @@ fn skip_padding<I: Intake>(
     }
 }
 
-/// Decodes a code, a block a call. Clauses see its place: the block that comes next, the sample before it, and how much of a run is still to come.
+/// Decodes coded data sets, a block a call.
+///
+/// In contracts its value is its state: the setting, the place of the next block, the sample before it, the zero blocks
+/// of a run that are still to come, and what it answers once it has stopped.
 #[derive(Drop)]
 pub struct Decoder {
     setting: Setting,
@@ -135,7 +141,7 @@ pub struct Decoder {
     before: i64,
     run: u32,
     stopped: Option<Result<Step, CodeFault>>,
-    /// Room for a block's residuals, and for their high parts. What one block leaves there says nothing to the next.
+    /// Scratch space for the residuals of a block and for their high parts.
     scratch: [u32; 128],
 }
 
@@ -153,9 +159,10 @@ impl Decoder {
     ghost use Rattle.rice_code.specs.decode.Decoder.{Answers, GivesFromRun, with_mark};
     ghost use Rattle.rice_code.specs.declared.decode.fault.Step.TheVariants.{Block};
 
-    /// A decoder at the beginning of a code.
+    /// Returns a decoder at the beginning of a code.
     pub fn new(setting: Setting) -> Self
-        ensures { result ≡ record { setting = setting; block = 0; before = pos 0; run = 0; stopped = None } }
+        ensures { result
+            ≡ record { setting = setting; block = 0; before = pos 0; run = 0; stopped = None } }
     {
         let _bits = setting.bits();
         Decoder {
@@ -168,14 +175,16 @@ impl Decoder {
         }
     }
 
-    /// The samples of a run that are still to come.
+    /// Returns the number of samples of a run that are still to come.
     pub fn waiting(&self) -> u64
         ensures { result ≡ self.now.run * self.now.setting.block }
     {
         self.run as u64 * self.setting.block() as u64
     }
 
-    /// Gives the next block of samples.
+    /// Restores the samples of the next block.
+    ///
+    /// A decoder that has found the end or has refused returns the same again at each later call.
     pub fn next_block<I: Intake>(
         &mut self,
         reader: &mut BitReader<I>,
@@ -184,21 +193,25 @@ impl Decoder {
     ) -> Result<Step, CodeFault>
         requires going { self.old.stopped ≡ None → reader.old.refusal ≡ None }
         requires room { meter.old + 2 * (2 ^ 52 - reader.old.taken) + 64 < 2 ^ 62 }
-        // A decoder that is done or has refused answers the same for good.
-        ensures stopped { IfSome self.old.stopped (λ a. (result ≡ a) × (self.new ≡ self.old) × (reader.new ≡ reader.old) × (meter.new ≡ meter.old) × (samples.new.items ≡ [])) }
+        // A decoder that has stopped answers the same from then on.
+        ensures stopped { IfSome self.old.stopped (λ a. (result ≡ a) × (samples.new.items ≡ []) ×
+            (self.new ≡ self.old) × (reader.new ≡ reader.old) × (meter.new ≡ meter.old)) }
         // Inside a run no bit is taken.
         ensures in_run { self.old.stopped ≡ None → 0 < self.old.run →
-            (result ≡ Ok Block) × GivesFromRun self.old self.new samples.new.items × (reader.new ≡ reader.old) × (meter.new ≡ meter.old) }
+            (result ≡ Ok Block) × GivesFromRun self.old self.new samples.new.items ×
+            (reader.new ≡ reader.old) × (meter.new ≡ meter.old) }
         ensures reads { self.old.stopped ≡ None → self.old.run ≡ 0 →
-            Answers (with_mark reader.old) reader.new meter.old meter.new self.old self.new samples.new.items result }
-        // Only a decoder that has stopped may not be called again with this reader.
+            Answers (with_mark reader.old) reader.new meter.old meter.new
+            self.old self.new samples.new.items result }
+        // A decoder that has not stopped may be called again with this reader.
         ensures going { self.new.stopped ≡ None → reader.new.refusal ≡ None }
         ensures block { result ≡ Ok Block → self.new.stopped ≡ None }
         ensures setting { self.new.setting ≡ self.old.setting }
         // Steps are at least the bits taken, and at most twice as many.
         ensures steps { AreCounted meter.old meter.new reader.old.taken reader.new.taken }
         // The samples that are given and those that then wait are bounded by the bits.
-        ensures waiting { length samples.new.items + self.new.run * self.new.setting.block ≤ self.old.run * self.old.setting.block + 456 * (reader.new.taken - reader.old.taken) }
+        ensures waiting { length samples.new.items + self.new.run * self.new.setting.block
+            ≤ self.old.run * self.old.setting.block + 456 * (reader.new.taken - reader.old.taken) }
     {
         let _taken = reader.taken();
         if let Some(answer) = self.stopped {
