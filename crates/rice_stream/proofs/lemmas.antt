@@ -7,5 +7,6 @@ pub mod DecodingLemmas
 pub mod EncodingEnds
 pub mod EncodingLemmas
 pub mod ReturnedBytes
+pub mod SetsRead
 pub mod SpellingLengths
 pub mod WholeBytes

@@ -1,11 +1,16 @@
 -- What decoding does: each way in which it ends.
-use Rattle.std.specs.Prelude.{◌≡◌, ℕ, ◌+◌, ◌-◌, ◌*◌, ◌/◌, ◌^◌, ◌≤◌, ◌⊎◌, List, length, take, min, Option, Some, None, IfSome, IsSome, ℤ}
+use Rattle.std.specs.Prelude.{◌≡◌, ◌≢◌, ℕ, ◌+◌, ◌-◌, ◌*◌, ◌/◌, ◌^◌, ◌≤◌, ◌⊎◌, Bool, List, [], ◌++◌, length, sum_by, take, min, Option, Some, None, IfSome, IsSome, ℤ}
 use Rattle.std.specs.Io.KnownBytes.{IsAtEnd}
 use Rattle.rice_bits.specs.Bits.{bits_of}
+use Rattle.rice_bits.specs.read.Window.{most_at_once, most_waiting}
+use Rattle.rice_bits.specs.read.Reader.{Reader}
 use Rattle.rice_samples.specs.Parameters.{Parameters}
 use Rattle.rice_samples.specs.bytes.Spelling.{spellings}
 use Rattle.rice_code.specs.Bounds.{decoder_step_bound}
-use Rattle.rice_code.specs.code.Decoded.{Decoded, Ending, Reached, Ended, CutOff, Past, Large}
+use Rattle.rice_code.specs.code.Decoded.{Decoded, AreTaken, EndsWith, Ending, Reached, Ended, CutOff, Past, Large}
+use Rattle.rice_code.specs.code.CodedDataSets.{CodedDataSet, turns}
+use Rattle.rice_code.specs.code.Forms.{blocks_in_all}
+use Rattle.rice_code.specs.code.Layout.{Lies}
 use Rattle.rice_stream.specs.Calls.{Call, Leaves, StopsBetween, PassesLimit}
 use Rattle.rice_stream.specs.declared.outcome.Report.{Report}
 use Rattle.rice_stream.specs.declared.outcome.Fault.{Fault}
@@ -47,18 +52,51 @@ EndsDecoding s asked (Some TooLong) c r ys ending = ((front : List ℕ) × Passe
 EndsDecoding s asked (Some Write) c r ys ending = FailsInBlock s asked c r ys × (ending ≡ Reached)
 EndsDecoding s asked (Some _) c r ys ending = ⊥
 
+-- The bits that were taken are sound coded data sets with their padding, and then `last`, by which decoding ends.
+-- Each bit, each turn of the pair searches of these coded data sets and each sample is a step, and so are some turns in `last`.
+pub record CountsSteps (s : Parameters) (bits : List Bool) (r : Report) : Type 0 where
+  pub sets : List CodedDataSet
+  pub front : List Bool
+  pub last : List Bool
+  pub rest : List Bool
+  pub parts : bits ≡ (front ++ last) ++ rest
+  pub lie : Lies s 0 0 sets front
+  pub sound : AreTaken s None 0 sets
+  pub ending : Ending
+  pub ends : (last ≡ []) ⊎ EndsWith s None (length (blocks_in_all s 0 sets)) last ending (length last)
+  pub bits_taken : r.bits ≡ length (front ++ last)
+  pub turns_in_last : ℕ
+  pub few : turns_in_last ≤ length last
+  pub steps : r.steps ≡ r.bits + r.samples + sum_by turns sets + turns_in_last
+
 -- what the call did, for each outcome
 pub record Decodes (s : Parameters) (asked : Option ℕ) (c : Call) (r : Report) (fault : Option Fault) : Type 0 where
   pub samples : List ℤ
   pub ending : Ending
   pub ends : EndsDecoding s asked fault c r samples ending
-  pub ahead : length c.given ≤ r.bits / 8 + 4096
+  pub ahead : length c.given ≤ r.bits / 8 + most_at_once
+  -- only the outcome `TooLong` is of more bytes
+  pub limit : fault ≢ Some TooLong → length c.given ≤ 2 ^ 49
+  pub steps : CountsSteps s (bits_of c.given) r
 
 -- the report's bounds, at every exit
 pub record DecodesWithin (asked : Option ℕ) (r : Report) : Type 0 where
   pub asked_for : IfSome asked (λ n. r.samples ≤ n)
+  -- a bit brings at most so many samples
+  pub by_bits : r.samples ≤ 456 * r.bits
   pub at_least : r.bits + r.samples ≤ r.steps
   pub at_most : r.steps ≤ decoder_step_bound r.bits r.samples
+
+-- What is reported where decoding ends with this reader: its bits, and what its intake tells.
+pub record Reports {I : Type 0} (r : Report) (f : Option Fault) (left : Option (List ℕ)) (failed : ℕ) (reader : Reader I) (samples steps : ℕ) (fault : Option Fault) : Type 0 where
+  pub samples_are : r.samples ≡ samples
+  pub bits_are : r.bits ≡ reader.taken
+  pub steps_are : r.steps ≡ steps
+  pub fault_is : f ≡ fault
+  pub left_is : left ≡ reader.left
+  pub failed_is : failed ≡ reader.failed
+  pub ahead : length reader.waiting ≤ most_waiting
+  pub limit : reader.taken + length reader.waiting ≤ 2 ^ 52
 
 -- how many samples of a block are wanted behind so many
 abbrev pub wanted_of : Option ℕ → ℕ → ℕ → ℕ

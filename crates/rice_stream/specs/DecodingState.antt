@@ -1,5 +1,5 @@
 -- A decoder at work: how far it has come, and what is written of its samples.
-use Rattle.std.specs.Prelude.{◌≡◌, ℕ, ◌+◌, ◌*◌, ◌<◌, ◌≤◌, Bool, List, ◌++◌, length, replicate, All, Option, None, IfSome, ℤ, pos}
+use Rattle.std.specs.Prelude.{◌≡◌, ℕ, ◌+◌, ◌*◌, ◌<◌, ◌≤◌, ◌^◌, Bool, List, ◌++◌, length, sum_by, replicate, All, Option, None, Some, IfSome, ℤ, pos}
 use Rattle.std.specs.Io.KnownBytes.{Appends, Consumes}
 use Rattle.rice_bits.specs.Bits.{bits_of}
 use Rattle.rice_bits.specs.read.Reader.{Reader, Draws}
@@ -8,7 +8,10 @@ use Rattle.rice_samples.specs.Places.{place}
 use Rattle.rice_samples.specs.predict.Residuals.{last_of}
 use Rattle.rice_samples.specs.bytes.Spelling.{spellings}
 use Rattle.rice_code.specs.code.Blocks.{blocks_from, zero_block}
-use Rattle.rice_code.specs.code.Decoded.{Decoded, DecodedFrom, Ending, IsWanted, cut_to}
+use Rattle.rice_code.specs.code.Decoded.{AreTaken, Decoded, DecodedFrom, Ending, IsWanted, cut_to}
+use Rattle.rice_code.specs.code.CodedDataSets.{CodedDataSet, turns}
+use Rattle.rice_code.specs.code.Forms.{blocks_in_all}
+use Rattle.rice_code.specs.code.Layout.{Lies}
 use Rattle.rice_code.specs.decode.DecoderState.{DecoderState}
 use Rattle.rice_code.specs.code.SoundBlocks.{AreSoundBlocks}
 
@@ -18,6 +21,13 @@ pub record AreOfRun (s : Parameters) (block : ℕ) (p : ℤ) (run : ℕ) (sample
   pub legal : All (IsSample s) samples
   pub blocks : blocks_from s block p run samples ≡ replicate run (zero_block s None)
 
+-- What may follow `position` bits, whose coded data sets begin before block `begun` and say so many blocks with these samples:
+-- the samples of a run that is still to come, and bits that decode to `ys` after them.
+pub record MayFollow (s : Parameters) (position begun blocks run : ℕ) (given : List ℤ) (wanted : Option ℕ) (more : List ℤ) (rest : List Bool) (ys : List ℤ) (ending : Ending) (used : ℕ) : Type 0 where
+  pub begun_wanted : (i : ℕ) → i < begun → IsWanted s wanted i
+  pub of_run : AreOfRun s blocks (last_of (pos 0) given) run more
+  pub next : DecodedFrom s (blocks + run) position (last_of (pos 0) (given ++ more)) rest wanted ys ending used
+
 -- The bits so far are coded data sets that begin before block `begun`. The samples of so many blocks were given, and so
 -- many blocks of a run are still to come: whatever follows these bits, and however many samples are wanted, decoding
 -- gives these samples first, then those of the run, and then goes on.
@@ -25,44 +35,72 @@ pub record DecodedSoFar (s : Parameters) (front : List Bool) (begun blocks run :
   pub len : length given ≡ s.block * blocks
   pub legal : All (IsSample s) given
   pub sound : AreSoundBlocks s blocks (replicate run (zero_block s None))
-  pub goes_on : (wanted : Option ℕ) (more : List ℤ) (rest : List Bool) (ys : List ℤ) (ending : Ending) (used : ℕ) → ((i : ℕ) → i < begun → IsWanted s wanted i) → AreOfRun s blocks (last_of (pos 0) given) run more →
-      DecodedFrom s (blocks + run) (length front) (last_of (pos 0) (given ++ more)) rest wanted ys ending used → Decoded s (front ++ rest) wanted (cut_to s wanted 0 (given ++ more) ++ ys) ending (length front + used)
+  pub goes_on : (wanted : Option ℕ) (more : List ℤ) (rest : List Bool) (ys : List ℤ) (ending : Ending) (used : ℕ) → MayFollow s (length front) begun blocks run given wanted more rest ys ending used →
+      Decoded s (front ++ rest) wanted (cut_to s wanted 0 (given ++ more) ++ ys) ending (length front + used)
 
--- One block more was given, for which these bits were taken.
-pub record Gains {I : Type 0} (left : I → Option (List ℕ)) (failed : I → ℕ) (s : Parameters) (old new : Reader I) (front : List Bool) (blocks run : ℕ) (given samples : List ℤ) : Type 0 where
-  pub bits : List Bool
-  pub draws : Draws (left old.intake) (left new.intake) old.waiting new.waiting bits
-  pub taken : new.taken ≡ old.taken + length bits
-  pub going : new.refusal ≡ None
-  pub failures : failed new.intake ≡ failed old.intake
-  pub len : length samples ≡ s.block
-  pub begun : ℕ
-  pub before : begun ≤ blocks + 1
-  pub behind : DecodedSoFar s (front ++ bits) begun (blocks + 1) run (given ++ samples)
-
--- Blocks were given so far, and their samples are written, cut to those that were asked for.
-pub record DecodingProgress {I : Type 0} (left : I → Option (List ℕ)) (failed : I → ℕ) (s : Parameters) (asked : Option ℕ) (start : I) (out_old out : Option (List ℕ)) (p : DecoderState) (r : Reader I) (steps written : ℕ) : Type 0 where
-  pub blocks : ℕ
-  pub bytes : List ℕ
-  pub front : List Bool
-  pub given : List ℤ
+-- The decoder goes on at this block, after these samples.
+pub record IsAtBlock (s : Parameters) (p : DecoderState) (blocks : ℕ) (given : List ℤ) : Type 0 where
   pub setting : p.setting ≡ s
   pub here : place s blocks ≡ p.block
   pub previous : p.before ≡ last_of (pos 0) given
   pub going : p.stopped ≡ None
-  pub reader_going : r.refusal ≡ None
-  pub gave : Consumes (left start) (left r.intake) bytes
-  pub bits : bits_of bytes ≡ front ++ r.waiting
-  pub taken : r.taken ≡ length front
-  pub limit : r.taken ≤ 4503599627370496
-  pub begun : ℕ
-  pub before : begun ≤ blocks
-  pub behind : DecodedSoFar s front begun blocks p.run given
+
+-- These bits were taken of the bytes that the intake has given since it had `start` left, and these bits wait.
+pub record HasRead (start left : Option (List ℕ)) (waiting : List Bool) (taken : ℕ) (front : List Bool) : Type 0 where
+  pub bytes : List ℕ
+  pub gave : Consumes start left bytes
+  pub bits : bits_of bytes ≡ front ++ waiting
+  pub count : taken ≡ length front
+
+-- These bits are sound coded data sets with their padding, which say so many blocks.
+pub record HasSets (s : Parameters) (sets : List CodedDataSet) (front : List Bool) (blocks : ℕ) : Type 0 where
+  pub lie : Lies s 0 0 sets front
+  pub sound : AreTaken s None 0 sets
+  pub end : length (blocks_in_all s 0 sets) ≡ blocks
+
+-- So many samples of the blocks that were given are written: those that were asked for.
+pub record HasWritten (s : Parameters) (asked : Option ℕ) (out_old out : Option (List ℕ)) (blocks : ℕ) (given : List ℤ) (written : ℕ) : Type 0 where
   pub wanted : (i : ℕ) → i < blocks → IsWanted s asked i
   pub count : written ≡ length (cut_to s asked 0 given)
-  pub few : written + p.run * s.block ≤ 456 * r.taken
   pub asked_for : IfSome asked (λ n. written ≤ n)
-  pub least : r.taken + written ≤ steps
-  pub most : steps ≤ 2 * r.taken + written
-  pub reads : failed r.intake ≡ failed start
   pub put : Appends out_old out (spellings s (cut_to s asked 0 given))
+
+-- The steps of a decoder that has taken so many bits, has written so many samples and has so many in a run to come.
+pub record HasSteps (steps taken written in_run turns : ℕ) : Type 0 where
+  pub count : steps ≡ taken + written + turns
+  pub most : steps ≤ 2 * taken + written
+  pub by_bits : written + in_run ≤ 456 * taken
+
+-- One block more was given, for which these bits were taken.
+pub record Gains {I : Type 0} (s : Parameters) (old new : Reader I) (steps steps_new : ℕ) (front : List Bool) (sets : List CodedDataSet) (blocks run : ℕ) (given samples : List ℤ) : Type 0 where
+  pub bits : List Bool
+  pub draws : Draws old.left new.left old.waiting new.waiting bits
+  pub taken : new.taken ≡ old.taken + length bits
+  pub going : new.refusal ≡ None
+  pub failures : new.failed ≡ old.failed
+  pub len : length samples ≡ s.block
+  pub begun : ℕ
+  pub before : begun ≤ blocks + 1
+  pub decoded : DecodedSoFar s (front ++ bits) begun (blocks + 1) run (given ++ samples)
+  pub more_sets : List CodedDataSet
+  pub has_sets : HasSets s more_sets (front ++ bits) (blocks + 1 + run)
+  pub counted : steps_new + old.taken + sum_by turns sets ≡ steps + new.taken + sum_by turns more_sets
+
+-- Blocks were given so far, and their samples are written, cut to those that were asked for.
+pub record DecodingProgress {I : Type 0} (s : Parameters) (asked : Option ℕ) (start : Reader I) (out_old out : Option (List ℕ)) (p : DecoderState) (r : Reader I) (steps written : ℕ) : Type 0 where
+  pub blocks : ℕ
+  pub front : List Bool
+  pub given : List ℤ
+  pub sets : List CodedDataSet
+  pub begun : ℕ
+  pub at_block : IsAtBlock s p blocks given
+  pub going : r.refusal ≡ None
+  pub reads : r.failed ≡ start.failed
+  pub idle : asked ≡ Some 0 → r ≡ start
+  pub limit : r.taken ≤ 2 ^ 52
+  pub has_read : HasRead start.left r.left r.waiting r.taken front
+  pub has_sets : HasSets s sets front (blocks + p.run)
+  pub before : begun ≤ blocks
+  pub decoded : DecodedSoFar s front begun blocks p.run given
+  pub has_written : HasWritten s asked out_old out blocks given written
+  pub has_steps : HasSteps steps r.taken written (p.run * s.block) (sum_by turns sets)

@@ -1,7 +1,7 @@
 //! From the code to its samples.
-ghost use Rattle.std.specs.Prelude.{◌≡◌, ℕ, ◌+◌, ◌-◌, ◌*◌, ◌^◌, ◌<◌, ◌≤◌, length, Option};
+ghost use Rattle.std.specs.Prelude.{◌≡◌, ℕ, ◌+◌, ◌-◌, ◌*◌, ◌^◌, ◌<◌, ◌≤◌, length, Option, Some};
 ghost use Rattle.rice_stream.specs.Calls.{Call, Happens, Fails};
-ghost use Rattle.rice_stream.specs.Decodes.{Decodes, DecodesWithin, wanted_of, ended_fault, refusal_fault};
+ghost use Rattle.rice_stream.specs.Decodes.{Decodes, DecodesWithin, Reports, wanted_of, ended_fault, refusal_fault};
 
 use crate::outcome::{Fault, Outcome, Report};
 use crate::write::write_samples;
@@ -10,7 +10,7 @@ use rice_bits::{BitReader, Intake, Meter, Outlet};
 use rice_code::{CodeFault, Decoder, Step};
 use rice_samples::Setting;
 
-/// How many samples of the next block are wanted, behind those that are written.
+/// Returns the number of samples of the next block that are wanted, with `written` samples written so far.
 fn wanted(asked: Option<u64>, written: u64, block: u32) -> usize
     ensures value { result ≡ wanted_of asked written block }
     ensures most { result ≤ block }
@@ -21,7 +21,7 @@ fn wanted(asked: Option<u64>, written: u64, block: u32) -> usize
     }
 }
 
-/// Why decoding stops where no 1 is left: only where more samples were asked for.
+/// Returns the fault where no 1 is left: there is one only if more samples were asked for.
 fn end_of(asked: Option<u64>, samples: u64) -> Option<Fault>
     ensures { result ≡ ended_fault asked samples }
 {
@@ -31,7 +31,7 @@ fn end_of(asked: Option<u64>, samples: u64) -> Option<Fault>
     }
 }
 
-/// Why decoding stops where the decoder refuses so, behind so many samples.
+/// Returns the fault where the decoder refuses after `samples` samples.
 fn fault_of(fault: CodeFault, samples: u64, block: u32) -> Fault
     requires { 0 < block }
     ensures { result ≡ refusal_fault fault samples block }
@@ -49,19 +49,16 @@ fn fault_of(fault: CodeFault, samples: u64, block: u32) -> Fault
     }
 }
 
-/// What was done, and the intake.
+/// Returns what was done, and the intake.
 fn ended<I: Intake>(
     fault: Option<Fault>,
     samples: u64,
     reader: BitReader<I>,
     meter: &Meter,
 ) -> (Outcome, I)
-    ensures samples { result.0.report.samples ≡ samples }
-    ensures bits { result.0.report.bits ≡ reader.taken }
-    ensures steps { result.0.report.steps ≡ meter.now }
-    ensures fault { result.0.fault ≡ fault }
+    ensures reports { Reports result.0.report result.0.fault (I.left result.1) (I.failed result.1)
+        reader samples meter.now fault }
     ensures intake { result.1 ≡ reader.intake }
-    ensures ahead { length reader.waiting ≤ 32768 }
 {
     let report = Report {
         samples,
@@ -81,17 +78,21 @@ pub fn decode<I: Intake, O: Outlet>(
 ) -> (Outcome, I)
     requires reads { I.failed intake + 1 < 2 ^ 64 }
     requires writes { O.failed outlet.old + 1 < 2 ^ 64 }
-    ensures call { (c : Call) × Happens (I.left intake) (I.left result.1) (O.taken outlet.old) (O.taken outlet.new) c ×
+    ensures call { (c : Call) ×
+        Happens (I.left intake) (I.left result.1) (O.taken outlet.old) (O.taken outlet.new) c ×
         Decodes setting.now asked c result.0.report result.0.fault }
-    ensures failures { Fails result.0.fault (I.failed intake) (I.failed result.1) (O.failed outlet.old) (O.failed outlet.new) }
+    ensures failures { Fails result.0.fault (I.failed intake) (I.failed result.1)
+        (O.failed outlet.old) (O.failed outlet.new) }
     ensures bounds { DecodesWithin asked result.0.report }
+    // With a count of 0 the intake is not called.
+    ensures idle { asked ≡ Some 0 → result.1 ≡ intake }
 {
     let block = setting.block();
     let mut decoder = Decoder::new(*setting);
     let mut reader = BitReader::new(intake);
     let mut meter = Meter::new();
     let mut samples = ArrayVec::new();
-    // Here, and not where it is filled, it need not be cleared for each block.
+    // It is made here, and not where it is filled, so that it is not cleared for each block.
     let mut bytes = [0; 256];
     let mut written = 0u64;
     'decode_all: loop {

@@ -1,9 +1,9 @@
 -- What a contract sees of a reader of bits.
-use Rattle.std.specs.Prelude.{◌≡◌, ℕ, ◌+◌, ◌^◌, ◌<◌, Bool, not, ◌&&◌, List, [], ◌∷◌, ◌++◌, length, Option, Some, None, IsSome}
+use Rattle.std.specs.Prelude.{◌≡◌, ℕ, ◌+◌, ◌-◌, ◌*◌, ◌^◌, ◌<◌, ◌≤◌, Bool, true, not, ◌&&◌, List, [], ◌∷◌, ◌++◌, length, Option, Some, None, IsSome}
 use Rattle.std.specs.List.{list_all}
 use Rattle.std.specs.Io.KnownBytes.{Consumes, IsAtEnd}
 use Rattle.rice_bits.specs.Bits.{bits_of}
-use Rattle.rice_bits.specs.read.Window.{IsWindow, window_bits}
+use Rattle.rice_bits.specs.read.Window.{IsWindow, most_at_once, window_bits}
 use Rattle.rice_bits.specs.declared.read.fault.BitFault.{BitFault}
 use Rattle.rice_bits.specs.declared.read.fault.BitFault.TheVariants.{End, Read, TooLong}
 use Rattle.rice_bits.specs.declared.read.window.Window.{Window}
@@ -19,16 +19,34 @@ pub record Reader (I : Type 0) : Type 0 where
   -- what the reader has refused
   pub refusal : Option BitFault
   pub intake : I
+  -- the bytes that are still to come, where the intake tells them
+  pub left : Option (List ℕ)
+  -- how many calls of the intake have failed
+  pub failed : ℕ
+
+-- a reader that has taken nothing of an intake that tells so much
+abbrev pub new_reader : {I : Type 0} → I → Option (List ℕ) → ℕ → Reader I
+new_reader intake left failed = record { waiting = []; taken = 0; blank = true; refusal = None; intake = intake; left = left; failed = failed }
 
 -- no bit is a 1
 abbrev pub is_blank : List Bool → Bool
 is_blank bits = list_all not bits
+
+-- Bytes were drawn from an intake in one call, of at most 4,096 bytes, where no bit waited; or none were drawn.
+pub record Supplies (old_left new_left : Option (List ℕ)) (old new : List Bool) : Type 0 where
+  pub given : List ℕ
+  pub consumed : Consumes old_left new_left given
+  pub split : old ++ bits_of given ≡ new
+  pub at_once : length given ≤ most_at_once
+  pub needed : 0 < length given → old ≡ []
 
 -- Bytes were drawn from an intake, and these bits taken of the bits that waited and those of the bytes.
 pub record Draws (old_left new_left : Option (List ℕ)) (old new bits : List Bool) : Type 0 where
   pub given : List ℕ
   pub consumed : Consumes old_left new_left given
   pub split : old ++ bits_of given ≡ bits ++ new
+  -- the last call gave at most 4,096 bytes, and without them the bits were too few
+  pub needed : 0 < length given → length old + 8 * (length given - most_at_once) < length bits
 
 -- What an intake did where a reader refuses: it ended, it failed, or it gave the byte past the limit.
 abbrev pub Refuses : BitFault → Option (List ℕ) → Option (List ℕ) → ℕ → ℕ → ℕ → Bool → Type 0
@@ -40,24 +58,25 @@ Refuses TooLong old_left new_left old_failed new_failed taken blank =
     ((byte : ℕ) × Consumes old_left new_left (byte ∷ [])) × (new_failed ≡ old_failed) × (taken ≡ 2 ^ 52)
 
 -- A reader took these bits.
-pub record Takes {I : Type 0} (left : I → Option (List ℕ)) (failed : I → ℕ) (old new : Reader I) (bits : List Bool) : Type 0 where
-  pub draws : Draws (left old.intake) (left new.intake) old.waiting new.waiting bits
+pub record Takes {I : Type 0} (old new : Reader I) (bits : List Bool) : Type 0 where
+  pub draws : Draws old.left new.left old.waiting new.waiting bits
   pub taken : new.taken ≡ old.taken + length bits
   pub blank : new.blank ≡ (old.blank && is_blank bits)
   pub going : new.refusal ≡ None
-  pub failures : failed new.intake ≡ failed old.intake
+  pub failures : new.failed ≡ old.failed
 
 -- A reader took these bits, which were all, and refused.
-pub record Stops {I : Type 0} (left : I → Option (List ℕ)) (failed : I → ℕ) (old new : Reader I) (bits : List Bool) (fault : BitFault) : Type 0 where
+pub record Stops {I : Type 0} (old new : Reader I) (bits : List Bool) (fault : BitFault) : Type 0 where
+  -- what was still to come before the call of the intake that is refused
   pub middle : Option (List ℕ)
-  pub draws : Draws (left old.intake) middle old.waiting [] bits
-  pub refuses : Refuses fault middle (left new.intake) (failed old.intake) (failed new.intake) new.taken new.blank
+  pub draws : Draws old.left middle old.waiting [] bits
+  pub refuses : Refuses fault middle new.left old.failed new.failed new.taken new.blank
   pub taken : new.taken ≡ old.taken + length bits
   pub blank : new.blank ≡ (old.blank && is_blank bits)
   pub waiting : new.waiting ≡ []
   pub refusal : new.refusal ≡ Some fault
 
--- what is so of each reader's fields
+-- what holds of the fields of each reader
 pub record IsReader (failed : ℕ) (bits : Window) (refusal : Option BitFault) : Type 0 where
   pub window : IsWindow bits
   pub going : refusal ≡ None → failed + 1 < 2 ^ 64

@@ -3,6 +3,18 @@ use Rattle.std.specs.Prelude.{◌≡◌, ◌+◌, ◌-◌, ◌*◌, ◌/◌, ◌
 use Rattle.rice_bits.specs.Bits.{word, fundamental_sequence, bits_of}
 use Rattle.rice_bits.specs.declared.read.window.Window.{Window}
 
+-- the most bytes that are asked for at a time
+abbrev pub most_at_once : ℕ
+most_at_once = 4096
+
+-- the bits of the most bytes that are asked for at a time
+abbrev pub most_waiting : ℕ
+most_waiting = 8 * most_at_once
+
+-- the bytes of a window's buffer: eight more than are asked for, so that eight can be loaded from each byte on
+abbrev pub buffer_len : ℕ
+buffer_len = most_at_once + 8
+
 -- the bits of the bytes from `at` to `end`
 unfoldable pub window_bits : Window → List Bool
 window_bits w = slice_range (bits_of w.buffer) w.at w.end
@@ -20,14 +32,14 @@ abbrev pub bits_near : Window → ℕ
 bits_near w = min (64 - w.at % 8) (length (window_bits w))
 
 pub record IsWindow (w : Window) : Type 0 where
-  pub size : length w.buffer ≡ 4104
+  pub size : length w.buffer ≡ buffer_len
   pub marked : w.marked ≤ w.at
   pub ordered : w.at ≤ w.end
-  pub fits : w.end ≤ 32768
+  pub fits : w.end ≤ most_waiting
   pub whole : w.end % 8 ≡ 0
   pub held : w.end - w.at ≤ 8 * w.given
   pub limit : w.given ≤ 2 ^ 49
-  -- behind the bytes stand eight zeros
+  -- eight zeros follow the bytes
   pub behind : take 8 (drop (w.end / 8) w.buffer) ≡ replicate 8 0
 
 -- Bits were taken from the front of those that wait.

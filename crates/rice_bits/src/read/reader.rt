@@ -1,9 +1,9 @@
-//! A reader of bits.
+//! Reads the bits of what an intake gives.
 ghost use Rattle.std.specs.Prelude.{◌≡◌, ℕ, ◌+◌, ◌-◌, ◌*◌, ◌%◌, ◌^◌, ◌<◌, ◌≤◌, ◌&&◌, Bool, true, false, List, [], ◌++◌, length, replicate, All, drop, flat_map, take, IfOk, IfErr, OnOk, IfSome, IfNone, IsSome, Option, None};
 ghost use Rattle.std.specs.Io.KnownBytes.{Consumes};
 ghost use Rattle.rice_bits.specs.Bits.{fundamental_sequence, bits_to_byte, word};
-ghost use Rattle.rice_bits.specs.read.Reader.{Draws, Refuses, is_blank};
-ghost use Rattle.rice_bits.specs.read.Window.{IsWindow, window_bits, window_passed, window_taken};
+ghost use Rattle.rice_bits.specs.read.Reader.{Supplies, Refuses, is_blank, new_reader};
+ghost use Rattle.rice_bits.specs.read.Window.{IsWindow, buffer_len, most_at_once, most_waiting, window_bits, window_passed, window_taken};
 
 use crate::bits::digits::join;
 use crate::device::Intake;
@@ -15,17 +15,19 @@ use std::marker::Model;
 /// The most bytes that a reader takes from its intake.
 const LIMIT: u64 = 1 << 49;
 
-/// Reads the bits of the bytes that an intake gives, most significant first. Clauses see the bits that were given and wait, how many
-/// were taken, whether all since the mark were 0, what was refused, and the intake.
+/// Reads the bits of the bytes that an intake gives, most significant first.
 ///
-/// The intake is called only when a bit is asked for and none waits: for at most 4,096 bytes, never past 2^49 bytes in all, and
-/// after 2^49 bytes once for one byte (own rule). A call that is refused has taken all bits that were left, and each later `take` or
-/// `take_fs` answers the same refusal and takes nothing.
+/// In contracts its value is a record of the bits that were given and wait, the number of bits taken, whether all
+/// since the mark were 0, the refusal, the intake, and what the intake tells of its bytes and failures.
+///
+/// The intake is called only when a bit is asked for and none waits: for at most 4,096 bytes at a time, and never
+/// past 2^49 bytes in all. After 2^49 bytes it is called once, for one byte (own rule). A call that is refused has
+/// taken all bits that were left; each later `take` or `take_fs` returns the same refusal and takes nothing.
 #[derive(Drop)]
 pub struct BitReader<I: Intake> {
     intake: I,
     window: Window,
-    /// Whether all bits that were taken since the mark were 0, those aside that the window still has.
+    /// Whether all bits taken since the mark were 0, except for those that the window still has.
     blank_before: bool,
     refusal: Option<BitFault>,
 }
@@ -37,24 +39,29 @@ impl<I: Intake> Model for BitReader<I> {
 
     ghost Value = { Reader I };
 
-    ghost view = { λ s. record { waiting = window_bits s.window; taken = window_taken s.window; blank = s.blank_before && is_blank (window_passed s.window); refusal = s.refusal; intake = s.intake } };
+    ghost view = { λ s. record { waiting = window_bits s.window; taken = window_taken s.window; blank = s.blank_before && is_blank (window_passed s.window); refusal = s.refusal; intake = s.intake; left = I.left s.intake; failed = I.failed s.intake } };
 
     ghost invariant = { λ s. IsReader (I.failed s.intake) s.window s.refusal };
 }
 
-/// Asks the intake for the bytes behind those `given`, and answers how many it put at the front of the buffer.
+/// Asks the intake for the bytes after the first `given`, and returns how many it put at the front of `buffer`.
 fn ask<I: Intake>(
     intake: &mut I,
     buffer: &mut [u8],
     given: u64,
     blank: bool,
 ) -> Result<usize, BitFault>
-    requires room { 4096 ≤ length buffer.old }
+    requires room { length buffer.old ≡ buffer_len }
     requires given { given ≤ 2 ^ 49 }
     requires countable { I.failed intake.old + 1 < 2 ^ 64 }
-    ensures ok { IfOk result (λ n. (0 < n) × (n ≤ 4096) × (given + n ≤ 2 ^ 49) × Consumes (I.left intake.old) (I.left intake.new) (take n buffer.new)) }
+    ensures some { IfOk result (λ n. (0 < n) × (n ≤ most_at_once)) }
+    ensures limit { IfOk result (λ n. given + n ≤ 2 ^ 49) }
+    ensures gave { IfOk result (λ n.
+        Consumes (I.left intake.old) (I.left intake.new) (take n buffer.new)) }
     ensures failures { OnOk result (I.failed intake.new ≡ I.failed intake.old) }
-    ensures err { IfErr result (λ f. Refuses f (I.left intake.old) (I.left intake.new) (I.failed intake.old) (I.failed intake.new) (8 * given) blank) }
+    ensures err { IfErr result (λ f.
+        Refuses f (I.left intake.old) (I.left intake.new) (I.failed intake.old)
+        (I.failed intake.new) (8 * given) blank) }
 {
     let most = if given < LIMIT {
         (LIMIT - given).min(PIECE as u64) as usize
@@ -74,7 +81,7 @@ fn ask<I: Intake>(
     Ok(count)
 }
 
-/// Draws bytes from the intake, where no bit waits.
+/// Draws bytes from the intake when no bit waits.
 fn draw<I: Intake>(
     intake: &mut I,
     window: &mut Window,
@@ -85,8 +92,10 @@ fn draw<I: Intake>(
     requires countable { I.failed intake.old + 1 < 2 ^ 64 }
     ensures window { IsWindow window.new }
     ensures some { OnOk result (0 < length (window_bits window.new)) }
-    ensures ok { OnOk result (Draws (I.left intake.old) (I.left intake.new) (window_bits window.old) (window_bits window.new) []) }
-    ensures blank { (blank_before.new && is_blank (window_passed window.new)) ≡ (blank_before.old && is_blank (window_passed window.old)) }
+    ensures ok { OnOk result (Supplies (I.left intake.old) (I.left intake.new)
+        (window_bits window.old) (window_bits window.new)) }
+    ensures blank { (blank_before.new && is_blank (window_passed window.new))
+        ≡ (blank_before.old && is_blank (window_passed window.old)) }
     ensures taken { window_taken window.new ≡ window_taken window.old }
     ensures failures { OnOk result (I.failed intake.new ≡ I.failed intake.old) }
     ensures err { IfErr result (λ f. (window_bits window.old ≡ []) × (window_bits window.new ≡ []) ×
@@ -107,7 +116,7 @@ fn draw<I: Intake>(
     }
 }
 
-/// Makes sure that a bit waits.
+/// Draws bytes from the intake if no bit waits.
 fn supply<I: Intake>(
     intake: &mut I,
     window: &mut Window,
@@ -117,8 +126,10 @@ fn supply<I: Intake>(
     requires countable { I.failed intake.old + 1 < 2 ^ 64 }
     ensures window { IsWindow window.new }
     ensures some { OnOk result (0 < length (window_bits window.new)) }
-    ensures ok { OnOk result (Draws (I.left intake.old) (I.left intake.new) (window_bits window.old) (window_bits window.new) []) }
-    ensures blank { (blank_before.new && is_blank (window_passed window.new)) ≡ (blank_before.old && is_blank (window_passed window.old)) }
+    ensures ok { OnOk result (Supplies (I.left intake.old) (I.left intake.new)
+        (window_bits window.old) (window_bits window.new)) }
+    ensures blank { (blank_before.new && is_blank (window_passed window.new))
+        ≡ (blank_before.old && is_blank (window_passed window.old)) }
     ensures taken { window_taken window.new ≡ window_taken window.old }
     ensures failures { OnOk result (I.failed intake.new ≡ I.failed intake.old) }
     ensures idle { 0 < length (window_bits window.old) → intake.new ≡ intake.old }
@@ -134,10 +145,10 @@ fn supply<I: Intake>(
 impl<I: Intake> BitReader<I> {
     ghost use Rattle.rice_bits.specs.read.Reader.{Takes, Stops};
 
-    /// A reader that has taken no bit, and is as just after [`mark`](Self::mark).
+    /// Returns a reader that has taken no bit, as if just after [`mark`](Self::mark).
     pub fn new(intake: I) -> Self
         requires { I.failed intake + 1 < 2 ^ 64 }
-        ensures { result ≡ record { waiting = []; taken = 0; blank = true; refusal = None; intake = intake } }
+        ensures { result ≡ new_reader intake (I.left intake) (I.failed intake) }
     {
         BitReader {
             intake,
@@ -147,9 +158,11 @@ impl<I: Intake> BitReader<I> {
         }
     }
 
-    /// The intake, as the last call of its `fill` left it. Bits that wait are lost.
+    /// Returns the intake, as the last call of its `fill` left it. Bits that wait are lost.
     pub fn into_inner(self) -> I
-        ensures { result ≡ self.intake }
+        ensures value { result ≡ self.intake }
+        ensures left { I.left result ≡ self.left }
+        ensures failed { I.failed result ≡ self.failed }
     {
         let BitReader {
             intake,
@@ -160,19 +173,19 @@ impl<I: Intake> BitReader<I> {
         intake
     }
 
-    /// How many bits were taken, at most 2^52.
+    /// Returns the number of bits taken, at most 2^52.
     #[inline]
     pub fn taken(&self) -> u64
         ensures value { result ≡ self.now.taken }
         ensures limit { result + length self.now.waiting ≤ 2 ^ 52 }
         // At most 4,096 bytes are asked for at a time.
-        ensures waiting { length self.now.waiting ≤ 32768 }
+        ensures waiting { length self.now.waiting ≤ most_waiting }
         ensures aligned { (result + length self.now.waiting) % 8 ≡ 0 }
     {
         self.window.taken()
     }
 
-    /// From here on no 1 has been taken. After a refusal it changes nothing.
+    /// Forgets each 1 that was taken so far. After a refusal it changes nothing.
     #[inline]
     pub fn mark(&mut self)
         ensures going { self.old.refusal ≡ None → self.new ≡ record self.old { blank = true } }
@@ -184,17 +197,18 @@ impl<I: Intake> BitReader<I> {
         }
     }
 
-    /// Takes the number that the next `width` bits spell, most significant first, and ticks one for each bit taken.
+    /// Takes the next `width` bits and returns the number that they spell, most significant first. It ticks once
+    /// for each bit taken.
     ///
-    /// A refusal says why the bits were not there: [`BitFault`] tells each case.
+    /// An error says why the bits were not there: [`BitFault`] has each case.
     #[inline]
     pub fn take(&mut self, width: u32, meter: &mut Meter) -> Result<u32, BitFault>
         requires width { width ≤ 32 }
         requires meter { meter.old + width < 2 ^ 62 }
-        ensures ok { IfOk result (λ v. (v < 2 ^ width) × Takes I.left I.failed self.old self.new (word width v)) }
+        ensures ok { IfOk result (λ v. (v < 2 ^ width) × Takes self.old self.new (word width v)) }
         // A first refusal took all bits that were left, which were too few.
         ensures err { self.old.refusal ≡ None → IfErr result (λ f.
-            (bits : List Bool) × (length bits < width) × Stops I.left I.failed self.old self.new bits f) }
+            (bits : List Bool) × (length bits < width) × Stops self.old self.new bits f) }
         // A reader that has refused answers the same, and takes nothing.
         ensures stopped { IfSome self.old.refusal (λ f. (result ≡ Err f) × (self.new ≡ self.old)) }
         ensures taken { OnOk result (self.new.taken ≡ self.old.taken + width) }
@@ -214,12 +228,13 @@ impl<I: Intake> BitReader<I> {
         }
     }
 
-    /// Takes the next `width` bits, where more wait.
+    /// Takes the next `width` bits if more wait.
     #[inline]
     fn take_ready(&mut self, width: u32, meter: &mut Meter) -> Option<u32>
         requires width { width ≤ 32 }
         requires meter { meter.old + width < 2 ^ 62 }
-        ensures some { IfSome result (λ v. (v < 2 ^ width) × Takes I.left I.failed self.old self.new (word width v)) }
+        ensures some { IfSome result (λ v. (v < 2 ^ width) ×
+            Takes self.old self.new (word width v)) }
         ensures going { IsSome result → self.old.refusal ≡ None }
         ensures idle { self.new.intake ≡ self.old.intake }
         ensures none { IfNone result ((self.new ≡ self.old) × (meter.new ≡ meter.old)) }
@@ -231,15 +246,17 @@ impl<I: Intake> BitReader<I> {
         Some(number as u32)
     }
 
-    /// Takes the next `width` bits, and calls the intake where too few wait. Where that leaves a refusal, the answer says nothing.
+    /// Takes the next `width` bits, and calls the intake when too few wait. If it leaves a refusal, the result means
+    /// nothing.
     #[inline(never)]
     fn take_across(&mut self, width: u32, meter: &mut Meter) -> u32
         requires width { width ≤ 32 }
         requires meter { meter.old + width < 2 ^ 62 }
-        ensures ok { self.new.refusal ≡ None → (result < 2 ^ width) × Takes I.left I.failed self.old self.new (word width result) }
+        ensures ok { self.new.refusal ≡ None → (result < 2 ^ width) ×
+            Takes self.old self.new (word width result) }
         // A first refusal took all bits that were left, which were too few.
         ensures err { self.old.refusal ≡ None → IfSome self.new.refusal (λ f.
-            (bits : List Bool) × (length bits < width) × Stops I.left I.failed self.old self.new bits f) }
+            (bits : List Bool) × (length bits < width) × Stops self.old self.new bits f) }
         // A reader that has refused takes nothing.
         ensures stopped { IsSome self.old.refusal → self.new ≡ self.old }
         ensures taken { self.new.refusal ≡ None → self.new.taken ≡ self.old.taken + width }
@@ -266,17 +283,18 @@ impl<I: Intake> BitReader<I> {
         value as u32
     }
 
-    /// Takes zeros up to and with the next 1, and answers how many zeros they were: the number of a fundamental sequence
-    /// (CCSDS 121.0-B-3, section 3, fundamental sequence). It ticks one for each bit taken.
+    /// Takes the bits up to and including the next 1, and returns the number of zeros before it: the number that a
+    /// fundamental sequence spells (CCSDS 121.0-B-3, section 3, fundamental sequence). It ticks once for each bit
+    /// taken.
     ///
-    /// A refusal says why no 1 was there: [`BitFault`] tells each case.
+    /// An error says why there was no 1: [`BitFault`] has each case.
     #[inline]
     pub fn take_fs(&mut self, meter: &mut Meter) -> Result<u64, BitFault>
         requires meter { meter.old + (2 ^ 52 - self.old.taken) < 2 ^ 62 }
-        ensures ok { IfOk result (λ m. Takes I.left I.failed self.old self.new (fundamental_sequence m)) }
+        ensures ok { IfOk result (λ m. Takes self.old self.new (fundamental_sequence m)) }
         // A first refusal took all bits that were left, which were zeros.
         ensures err { self.old.refusal ≡ None → IfErr result (λ f.
-            (m : ℕ) × Stops I.left I.failed self.old self.new (replicate m false) f) }
+            (m : ℕ) × Stops self.old self.new (replicate m false) f) }
         // A reader that has refused answers the same, and takes nothing.
         ensures stopped { IfSome self.old.refusal (λ f. (result ≡ Err f) × (self.new ≡ self.old)) }
         ensures taken { IfOk result (λ m. self.new.taken ≡ self.old.taken + m + 1) }
@@ -295,11 +313,11 @@ impl<I: Intake> BitReader<I> {
         }
     }
 
-    /// Takes a fundamental sequence, where its 1 comes soon.
+    /// Takes a fundamental sequence if its 1 comes soon.
     #[inline]
     fn take_fs_ready(&mut self, meter: &mut Meter) -> Option<u64>
         requires meter { meter.old + (2 ^ 52 - self.old.taken) < 2 ^ 62 }
-        ensures some { IfSome result (λ m. Takes I.left I.failed self.old self.new (fundamental_sequence m)) }
+        ensures some { IfSome result (λ m. Takes self.old self.new (fundamental_sequence m)) }
         ensures going { IsSome result → self.old.refusal ≡ None }
         ensures idle { self.new.intake ≡ self.old.intake }
         ensures none { IfNone result ((self.new ≡ self.old) × (meter.new ≡ meter.old)) }
@@ -307,20 +325,22 @@ impl<I: Intake> BitReader<I> {
         ensures limit { self.new.taken ≤ 2 ^ 52 }
     {
         let count = self.window.sequence_ahead()?;
-        // The meter first: behind its store the place is moved by one addition in memory.
+        // The meter first: after its store the place is moved by one addition in memory.
         meter.tick(count);
         self.window.pass(count);
         Some(count - 1)
     }
 
-    /// Takes a fundamental sequence, and calls the intake where no 1 waits. Where that leaves a refusal, the answer says nothing.
+    /// Takes a fundamental sequence, and calls the intake when no 1 waits. If it leaves a refusal, the result means
+    /// nothing.
     #[inline(never)]
     fn take_fs_across(&mut self, meter: &mut Meter) -> u64
         requires meter { meter.old + (2 ^ 52 - self.old.taken) < 2 ^ 62 }
-        ensures ok { self.new.refusal ≡ None → Takes I.left I.failed self.old self.new (fundamental_sequence result) }
+        ensures ok { self.new.refusal ≡ None →
+            Takes self.old self.new (fundamental_sequence result) }
         // A first refusal took all bits that were left, which were zeros.
         ensures err { self.old.refusal ≡ None → IfSome self.new.refusal (λ f.
-            (m : ℕ) × Stops I.left I.failed self.old self.new (replicate m false) f) }
+            (m : ℕ) × Stops self.old self.new (replicate m false) f) }
         // A reader that has refused takes nothing.
         ensures stopped { IsSome self.old.refusal → self.new ≡ self.old }
         ensures taken { self.new.refusal ≡ None → self.new.taken ≡ self.old.taken + result + 1 }
@@ -342,13 +362,15 @@ impl<I: Intake> BitReader<I> {
         }
     }
 
-    /// Takes some zeros, or zeros and a 1, and answers the zeros' number and whether there was a 1.
+    /// Takes some zeros, or zeros and a 1. Returns the number of zeros, and whether there was a 1.
     fn take_run(&mut self, meter: &mut Meter) -> Result<(u64, bool), BitFault>
         requires going { self.old.refusal ≡ None }
         requires meter { meter.old + (2 ^ 52 - self.old.taken) < 2 ^ 62 }
-        ensures one { IfOk result (λ r. r.1 ≡ true → Takes I.left I.failed self.old self.new (fundamental_sequence r.0)) }
-        ensures zeros { IfOk result (λ r. r.1 ≡ false → (0 < r.0) × Takes I.left I.failed self.old self.new (replicate r.0 false)) }
-        ensures err { IfErr result (Stops I.left I.failed self.old self.new []) }
+        ensures one { IfOk result (λ r. r.1 ≡ true →
+            Takes self.old self.new (fundamental_sequence r.0)) }
+        ensures zeros { IfOk result (λ r. r.1 ≡ false → (0 < r.0) ×
+            Takes self.old self.new (replicate r.0 false)) }
+        ensures err { IfErr result (Stops self.old self.new []) }
         ensures idle { 0 < length self.old.waiting → self.new.intake ≡ self.old.intake }
         ensures steps { meter.new + self.old.taken ≡ meter.old + self.new.taken }
         ensures limit { self.new.taken ≤ 2 ^ 52 }
@@ -368,10 +390,10 @@ impl<I: Intake> BitReader<I> {
         Ok((zeros, false))
     }
 
-    /// Takes words of `width` digits that wait together, at most one for each place of `words`, and writes them there. It answers how
-    /// many, which may be none, and ticks one for each bit. Places behind them stay.
+    /// Takes words of `width` digits that wait together, at most one for each place of `words`, and writes them
+    /// there. Returns the number of words, which may be 0, and ticks once for each bit. Later places are unchanged.
     ///
-    /// It never calls the intake, and so never refuses: where it takes none, [`take`](Self::take) takes the next.
+    /// It never calls the intake, so it never fails. If it takes none, [`take`](Self::take) takes the next word.
     #[inline]
     pub fn take_waiting(&mut self, width: u32, words: &mut [u32], meter: &mut Meter) -> usize
         requires going { self.old.refusal ≡ None }
@@ -380,7 +402,7 @@ impl<I: Intake> BitReader<I> {
         ensures within { result ≤ length words.new }
         ensures fit { All (λ v. v < 2 ^ width) (take result words.new) }
         ensures rest { drop result words.new ≡ drop result words.old }
-        ensures takes { Takes I.left I.failed self.old self.new (flat_map (word width) (take result words.new)) }
+        ensures takes { Takes self.old self.new (flat_map (word width) (take result words.new)) }
         ensures idle { self.new.intake ≡ self.old.intake }
         ensures steps { meter.new + self.old.taken ≡ meter.old + self.new.taken }
         ensures limit { self.new.taken ≤ 2 ^ 52 }
@@ -392,10 +414,11 @@ impl<I: Intake> BitReader<I> {
         taken
     }
 
-    /// Takes fundamental sequences that wait together, at most one for each place of `zeros`, and writes the numbers of their zeros
-    /// there. It answers how many, which may be none, and ticks one for each bit. Places behind them stay.
+    /// Takes fundamental sequences that wait together, at most one for each place of `zeros`, and writes the numbers
+    /// of their zeros there. Returns the number of sequences, which may be 0, and ticks once for each bit. Later
+    /// places are unchanged.
     ///
-    /// It never calls the intake, and so never refuses: where it takes none, [`take_fs`](Self::take_fs) takes the next.
+    /// It never calls the intake, so it never fails. If it takes none, [`take_fs`](Self::take_fs) takes the next one.
     #[inline]
     pub fn take_waiting_fs(&mut self, zeros: &mut [u32], meter: &mut Meter) -> usize
         requires going { self.old.refusal ≡ None }
@@ -403,7 +426,8 @@ impl<I: Intake> BitReader<I> {
         ensures within { result ≤ length zeros.new }
         ensures fit { All (λ m. m < 64) (take result zeros.new) }
         ensures rest { drop result zeros.new ≡ drop result zeros.old }
-        ensures takes { Takes I.left I.failed self.old self.new (flat_map fundamental_sequence (take result zeros.new)) }
+        ensures takes { Takes self.old self.new
+            (flat_map fundamental_sequence (take result zeros.new)) }
         ensures idle { self.new.intake ≡ self.old.intake }
         ensures steps { meter.new + self.old.taken ≡ meter.old + self.new.taken }
         ensures limit { self.new.taken ≤ 2 ^ 52 }
@@ -414,11 +438,12 @@ impl<I: Intake> BitReader<I> {
         taken
     }
 
-    /// Takes the 0 to 7 bits up to the next multiple of 8 of [`taken`](Self::taken), whatever they are, and ticks one for each. These
-    /// are always there, and do not count towards `blank`.
+    /// Takes the 0 to 7 bits up to the next multiple of 8 of [`taken`](Self::taken), whatever they are, and ticks
+    /// once for each. These bits are always there. A 1 among them counts as no 1 since the mark.
     pub fn align(&mut self, meter: &mut Meter)
         requires meter { meter.old + bits_to_byte self.old.taken < 2 ^ 62 }
-        ensures bits { (bits : List Bool) × (length bits ≡ bits_to_byte self.old.taken) × (self.old.waiting ≡ bits ++ self.new.waiting) }
+        ensures bits { (bits : List Bool) × (length bits ≡ bits_to_byte self.old.taken) ×
+            (self.old.waiting ≡ bits ++ self.new.waiting) }
         ensures rest { self.new ≡ record self.old { waiting = self.new.waiting; taken = self.old.taken + bits_to_byte self.old.taken } }
         ensures steps { meter.new ≡ meter.old + bits_to_byte self.old.taken }
     {
@@ -430,15 +455,15 @@ impl<I: Intake> BitReader<I> {
         meter.tick(gap);
     }
 
-    /// Takes up to `most` digits, at least one, and answers them with their count.
+    /// Takes up to `most` digits, at least one. Returns the number that they spell, and their count.
     fn take_some(&mut self, most: u32, meter: &mut Meter) -> Result<(u64, u32), BitFault>
         requires going { self.old.refusal ≡ None }
         requires some { 0 < most }
         requires width { most ≤ 32 }
         requires meter { meter.old + most < 2 ^ 62 }
         ensures count { IfOk result (λ r. (0 < r.1) × (r.1 ≤ most) × (r.0 < 2 ^ r.1)) }
-        ensures ok { IfOk result (λ r. Takes I.left I.failed self.old self.new (word r.1 r.0)) }
-        ensures err { IfErr result (Stops I.left I.failed self.old self.new []) }
+        ensures ok { IfOk result (λ r. Takes self.old self.new (word r.1 r.0)) }
+        ensures err { IfErr result (Stops self.old self.new []) }
         ensures idle { 0 < length self.old.waiting → self.new.intake ≡ self.old.intake }
         ensures steps { meter.new + self.old.taken ≡ meter.old + self.new.taken }
         ensures limit { self.new.taken ≤ 2 ^ 52 }

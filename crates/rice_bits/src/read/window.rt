@@ -1,43 +1,43 @@
-//! The bytes that were given last, and a place among their bits.
+//! The bytes that an intake gave last, and a place among their bits.
 ghost use Rattle.std.specs.Prelude.{◌≡◌, ℕ, ◌+◌, ◌-◌, ◌*◌, ◌/◌, ◌%◌, ◌^◌, ◌<◌, ◌≤◌, ◌&&◌, false, [], ◌++◌, min, replicate, flat_map, length, take, drop, All, IfSome, IfNone};
 ghost use Rattle.rice_bits.specs.Bits.{bits_of, fundamental_sequence, word};
 ghost use Rattle.rice_bits.specs.read.Reader.{is_blank};
-ghost use Rattle.rice_bits.specs.read.Window.{AreParted};
+ghost use Rattle.rice_bits.specs.read.Window.{AreParted, buffer_len, most_at_once, most_waiting};
 
 use crate::bits::digits::{behind_front, digits_behind, four_words, front_digits};
 use crate::bits::octets::{load, store_zeros};
 
-/// How many bytes are asked for at a time.
+/// The most bytes that are asked for at a time.
 pub const PIECE: usize = 4096;
 
-/// Eight bytes more, so that eight can be loaded from each of them on.
+/// The size of the buffer: eight bytes more, so that eight can be loaded from each byte on.
 const ROOM: usize = PIECE + 8;
 
-/// So many bits are in the eight bytes from any bit on.
+/// The number of bits that are surely in the eight bytes that any bit is in, from that bit on.
 pub const AHEAD: usize = 57;
 
-/// At most so many words are taken together.
+/// The most words that are taken together.
 const WORDS: usize = 64;
 
-/// The bytes that were given last, and a place among their bits.
+/// The bytes that an intake gave last, and a place among their bits.
 #[derive(Drop)]
 pub struct Window {
-    /// The bytes, and eight zeros behind them.
+    /// The bytes, followed by eight zeros.
     pub buffer: [u8; ROOM],
     /// The bits from here to `at` were taken since the mark, or since the bytes were given.
     pub marked: usize,
-    /// How many bits of the bytes were taken.
+    /// The number of bits of these bytes that were taken.
     pub at: usize,
-    /// How many bits the bytes have.
+    /// The number of bits of these bytes.
     pub end: usize,
-    /// How many bytes were given in all.
+    /// The number of bytes that were given in all.
     pub given: u64,
 }
 
 impl Window {
     ghost use Rattle.rice_bits.specs.read.Window.{IsWindow, Passes, bits_near, window_bits, window_passed, window_taken};
 
-    /// A window with no bits, of which none was taken.
+    /// Returns a window with no bits, of which none was taken.
     pub fn new() -> Self
         ensures window { IsWindow result }
         ensures bits { window_bits result ≡ [] }
@@ -53,10 +53,10 @@ impl Window {
         }
     }
 
-    /// The first `count` bytes of the buffer wait from here on, and nothing else. Those that were taken are forgotten.
+    /// Makes the first `count` bytes of the buffer the ones that wait, and forgets all others.
     pub fn hold(&mut self, count: usize)
-        requires size { length self.old.buffer ≡ 4104 }
-        requires count { count ≤ 4096 }
+        requires size { length self.old.buffer ≡ buffer_len }
+        requires count { count ≤ most_at_once }
         requires limit { self.old.given + count ≤ 2 ^ 49 }
         ensures window { IsWindow self.new }
         ensures bits { window_bits self.new ≡ bits_of (take count self.old.buffer) }
@@ -70,17 +70,17 @@ impl Window {
         store_zeros(&mut self.buffer, count, 8);
     }
 
-    /// How many bits wait.
+    /// Returns the number of bits that wait.
     #[inline]
     pub fn len(&self) -> usize
         requires { IsWindow self.now }
         ensures value { result ≡ length (window_bits self.now) }
-        ensures piece { result ≤ 32768 }
+        ensures piece { result ≤ most_waiting }
     {
         self.end - self.at
     }
 
-    /// How many bits were taken.
+    /// Returns the number of bits taken.
     #[inline]
     pub fn taken(&self) -> u64
         requires { IsWindow self.now }
@@ -89,7 +89,7 @@ impl Window {
         8 * self.given - (self.end - self.at) as u64
     }
 
-    /// From here on no bit has been taken.
+    /// Forgets which bits were taken.
     #[inline]
     pub fn mark(&mut self)
         requires window { IsWindow self.old }
@@ -101,7 +101,7 @@ impl Window {
         self.marked = self.at;
     }
 
-    /// Whether `before` is so, and no bit that was taken since the mark is a 1.
+    /// Returns whether `before` holds and no bit taken since the mark is a 1.
     #[inline]
     pub fn is_blank(&self, before: bool) -> bool
         requires { IsWindow self.now }
@@ -110,7 +110,7 @@ impl Window {
         before && self.has_passed_zeros()
     }
 
-    /// Whether no bit that was taken since the mark is a 1.
+    /// Returns whether no bit taken since the mark is a 1.
     fn has_passed_zeros(&self) -> bool
         requires { IsWindow self.now }
         ensures { result ≡ is_blank (window_passed self.now) }
@@ -126,22 +126,25 @@ impl Window {
         true
     }
 
-    /// The next bits at the front of a word, at least 57 of them if there are so many, and zeros behind them.
+    /// Returns the next bits at the front of a word, followed by zeros: all that wait, or at least 57 of them.
     #[inline]
     fn ahead(&self) -> u64
         requires { IsWindow self.now }
-        ensures { word 64 result ≡ take (bits_near self.now) (window_bits self.now) ++ replicate (64 - bits_near self.now) false }
+        ensures { word 64 result
+            ≡ take (bits_near self.now) (window_bits self.now)
+            ++ replicate (64 - bits_near self.now) false }
     {
         bits_from(&self.buffer, self.at)
     }
 
-    /// Takes the first `width` bits, where more wait.
+    /// Takes the first `width` bits if more wait.
     #[inline]
     pub fn take_of_more(&mut self, width: u32) -> Option<u64>
         requires window { IsWindow self.old }
         requires width { width ≤ 32 }
         ensures window { IsWindow self.new }
-        ensures some { IfSome result (λ v. (v < 2 ^ width) × Passes self.old self.new (word width v) × (0 < length (window_bits self.old))) }
+        ensures some { IfSome result (λ v. (v < 2 ^ width) ×
+            Passes self.old self.new (word width v) × (0 < length (window_bits self.old))) }
         ensures none { IfNone result (self.new ≡ self.old) }
     {
         let next = self.at + width as usize;
@@ -168,14 +171,17 @@ impl Window {
         number
     }
 
-    /// How many bits there are up to and with the first 1, where it comes soon.
+    /// Returns the number of bits up to and including the first 1, if it comes soon.
     #[inline]
     pub fn sequence_ahead(&self) -> Option<u64>
         requires { IsWindow self.now }
-        ensures some { IfSome result (λ n. (0 < n) × (n ≤ length (window_bits self.now)) × (take n (window_bits self.now) ≡ fundamental_sequence (n - 1))) }
-        ensures none { IfNone result (take (min 57 (length (window_bits self.now))) (window_bits self.now) ≡ replicate (min 57 (length (window_bits self.now))) false) }
+        ensures some { IfSome result (λ n. (0 < n) × (n ≤ length (window_bits self.now)) ×
+            (take n (window_bits self.now) ≡ fundamental_sequence (n - 1))) }
+        ensures none { IfNone result
+            (take (min 57 (length (window_bits self.now))) (window_bits self.now)
+            ≡ replicate (min 57 (length (window_bits self.now))) false) }
     {
-        // Behind one zero more, the zeros up to the 1 are as many as the bits up to and with it.
+        // After one zero more, the zeros before the 1 are as many as the bits up to and including it.
         let behind_zero = self.ahead() >> 1;
         if behind_zero == 0 {
             return None;
@@ -194,8 +200,8 @@ impl Window {
         self.at += count as usize;
     }
 
-    /// Takes words of `width` bits, one for each place of `words`, or none where fewer wait or there are more than 64 places, and answers
-    /// how many.
+    /// Takes words of `width` bits, one for each place of `words`, and returns their number. It takes none if fewer
+    /// wait, or if there are more than 64 places.
     #[inline]
     pub fn take_words(&mut self, width: u32, words: &mut [u32]) -> usize
         requires window { IsWindow self.old }
@@ -214,7 +220,8 @@ impl Window {
         words.len()
     }
 
-    /// Takes fundamental sequences, as many as are in the bits ahead and `zeros` has places for, and answers how many.
+    /// Takes the fundamental sequences in the bits ahead, at most one for each place of `zeros`, and returns their
+    /// number.
     #[inline]
     pub fn take_sequences(&mut self, zeros: &mut [u32]) -> usize
         requires window { IsWindow self.old }
@@ -222,7 +229,8 @@ impl Window {
         ensures within { result ≤ length zeros.new }
         ensures fit { All (λ m. m < 64) (take result zeros.new) }
         ensures rest { drop result zeros.new ≡ drop result zeros.old }
-        ensures passes { Passes self.old self.new (flat_map fundamental_sequence (take result zeros.new)) }
+        ensures passes { Passes self.old self.new
+            (flat_map fundamental_sequence (take result zeros.new)) }
     {
         let parted = part_sequences(self.ahead(), zeros);
         self.at += parted.zeros as usize + parted.taken;
@@ -230,16 +238,17 @@ impl Window {
     }
 }
 
-/// The bits from number `at` on at the front of a word, 57 to 64 of them.
+/// Returns the 57 to 64 bits from bit `at` on, at the front of a word.
 #[inline]
 fn bits_from(bytes: &[u8], at: usize) -> u64
     requires { at / 8 + 8 ≤ length bytes.now }
-    ensures { word 64 result ≡ take (64 - at % 8) (drop at (bits_of bytes.now)) ++ replicate (at % 8) false }
+    ensures { word 64 result
+        ≡ take (64 - at % 8) (drop at (bits_of bytes.now)) ++ replicate (at % 8) false }
 {
     load(bytes, at / 8) << (at % 8)
 }
 
-/// The number that the `width` bits from number `at` on spell.
+/// Returns the number that the `width` bits from bit `at` on spell.
 #[inline]
 fn number_from(bytes: &[u8], at: usize, width: u32) -> u64
     requires width { width ≤ 32 }
@@ -250,15 +259,16 @@ fn number_from(bytes: &[u8], at: usize, width: u32) -> u64
     digits_behind(load(bytes, at / 8), (at % 8) as u32, width)
 }
 
-/// Writes the words of `width` bits from bit `at` on to all places of `words`.
+/// Fills `words` with the words of `width` bits from bit `at` on.
 #[inline]
 fn words_from(bytes: &[u8], at: usize, width: u32, words: &mut [u32])
     requires width { width ≤ 32 }
     requires few { length words.old ≤ 64 }
-    requires within { at + length words.old * width ≤ 32768 }
-    requires room { 4104 ≤ length bytes.now }
+    requires within { at + length words.old * width ≤ most_waiting }
+    requires room { buffer_len ≤ length bytes.now }
     ensures fit { All (λ v. v < 2 ^ width) words.new }
-    ensures bits { flat_map (word width) words.new ≡ take (length words.new * width) (drop at (bits_of bytes.now)) }
+    ensures bits { flat_map (word width) words.new
+        ≡ take (length words.new * width) (drop at (bits_of bytes.now)) }
 {
     if width < 1 || width > 8 {
         return each_from(bytes, at, width, words);
@@ -269,16 +279,17 @@ fn words_from(bytes: &[u8], at: usize, width: u32, words: &mut [u32])
     each_from(bytes, at + count * width as usize, width, rest);
 }
 
-/// The same, four words at a time.
+/// As `words_from`, four words at a time.
 #[inline]
 fn fours_from(bytes: &[u8], at: usize, width: u32, words: &mut [u32])
     requires width { (1 ≤ width) × (width ≤ 8) }
     requires fours { length words.old % 4 ≡ 0 }
     requires few { length words.old ≤ 64 }
-    requires within { at + length words.old * width ≤ 32768 }
-    requires room { 4104 ≤ length bytes.now }
+    requires within { at + length words.old * width ≤ most_waiting }
+    requires room { buffer_len ≤ length bytes.now }
     ensures fit { All (λ v. v < 2 ^ width) words.new }
-    ensures bits { flat_map (word width) words.new ≡ take (length words.new * width) (drop at (bits_of bytes.now)) }
+    ensures bits { flat_map (word width) words.new
+        ≡ take (length words.new * width) (drop at (bits_of bytes.now)) }
 {
     let mut at = at;
     for i in 0..words.len() / 4 {
@@ -289,15 +300,16 @@ fn fours_from(bytes: &[u8], at: usize, width: u32, words: &mut [u32])
     }
 }
 
-/// The same, one word at a time.
+/// As `words_from`, one word at a time.
 #[inline]
 fn each_from(bytes: &[u8], at: usize, width: u32, words: &mut [u32])
     requires width { width ≤ 32 }
     requires few { length words.old ≤ 64 }
-    requires within { at + length words.old * width ≤ 32768 }
-    requires room { 4104 ≤ length bytes.now }
+    requires within { at + length words.old * width ≤ most_waiting }
+    requires room { buffer_len ≤ length bytes.now }
     ensures fit { All (λ v. v < 2 ^ width) words.new }
-    ensures bits { flat_map (word width) words.new ≡ take (length words.new * width) (drop at (bits_of bytes.now)) }
+    ensures bits { flat_map (word width) words.new
+        ≡ take (length words.new * width) (drop at (bits_of bytes.now)) }
 {
     let mut at = at;
     for i in 0..words.len() {
@@ -307,17 +319,19 @@ fn each_from(bytes: &[u8], at: usize, width: u32, words: &mut [u32])
     }
 }
 
-/// How many fundamental sequences were taken from the front of a number, and how many zeros they have.
+/// The number of fundamental sequences taken from the front of a word, and the number of their zeros.
 #[derive(Clone, Copy)]
 struct Parted {
     taken: usize,
     zeros: u32,
 }
 
-/// Takes fundamental sequences from the front of a word, and writes the numbers of their zeros to the first places of `zeros`.
+/// Takes fundamental sequences from the front of a word, and writes the numbers of their zeros to the first places
+/// of `zeros`.
 #[inline]
 fn part_sequences(front: u64, zeros: &mut [u32]) -> Parted
-    ensures { (left : ℕ) × AreParted front zeros.old zeros.new left (result.zeros + result.taken) result.taken }
+    ensures { (left : ℕ) ×
+        AreParted front zeros.old zeros.new left (result.zeros + result.taken) result.taken }
 {
     let mut rest = front;
     let mut passed = 0;

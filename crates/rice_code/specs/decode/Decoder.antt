@@ -24,12 +24,12 @@ pub record GivesBlock (s : Parameters) (b : ℕ) (p : ℤ) (samples : List ℤ) 
   pub blocks_are : block_data s b p samples ∷ replicate run (zero_block s None) ≡ blocks
 
 -- A reader took a sound data set, and these are the samples of its first block.
-pub record TakesSet {I : Type 0} (left : I → Option (List ℕ)) (failed : I → ℕ) (old new : Reader I) (old_steps new_steps : ℕ) (s : Parameters) (b : ℕ) (p : ℤ) (samples : List ℤ) (run : ℕ) : Type 0 where
+pub record TakesSet {I : Type 0} (old new : Reader I) (old_steps new_steps : ℕ) (s : Parameters) (b : ℕ) (p : ℤ) (samples : List ℤ) (run : ℕ) : Type 0 where
   pub set : CodedDataSet
   pub form : IsForm s b set
   pub run_sound : RunIsSound s b set
   pub residuals_sound : ResidualsAreSound s set
-  pub takes : Takes left failed old new (bits_of_set s set)
+  pub takes : Takes old new (bits_of_set s set)
   pub gives : GivesBlock s b p samples run (blocks_in s b set)
   -- each bit and each turn of the search is a step
   pub steps : new_steps + old.taken ≡ old_steps + new.taken + turns set
@@ -42,48 +42,48 @@ pub record Skips {I : Type 0} (old new : Reader I) (count : ℕ) : Type 0 where
   pub same : new ≡ record old { waiting = new.waiting; taken = old.taken + count }
 
 -- A reader took a sound data set and the padding behind it, and these are the samples of its first block.
-pub record GivesSet {I : Type 0} (left : I → Option (List ℕ)) (failed : I → ℕ) (old new : Reader I) (old_steps new_steps : ℕ) (s : Parameters) (b : ℕ) (p : ℤ) (samples : List ℤ) (run : ℕ) : Type 0 where
+pub record GivesSet {I : Type 0} (old new : Reader I) (old_steps new_steps : ℕ) (s : Parameters) (b : ℕ) (p : ℤ) (samples : List ℤ) (run : ℕ) : Type 0 where
   pub middle : Reader I
   pub middle_steps : ℕ
-  pub set : TakesSet left failed old middle old_steps middle_steps s b p samples run
+  pub set : TakesSet old middle old_steps middle_steps s b p samples run
   pub skips : Skips middle new (padding s (block_after s b set.set) middle.taken)
   -- each bit that is skipped is a step
   pub steps : new_steps + middle.taken ≡ middle_steps + new.taken
 
 -- A reader took a data set that is not sound.
-pub record SetRefused {I : Type 0} (left : I → Option (List ℕ)) (failed : I → ℕ) (old new : Reader I) (s : Parameters) (b : ℕ) (P : CodedDataSet → Type 0) : Type 0 where
+pub record SetRefused {I : Type 0} (old new : Reader I) (s : Parameters) (b : ℕ) (P : CodedDataSet → Type 0) : Type 0 where
   pub set : CodedDataSet
   pub form : IsForm s b set
-  pub takes : Takes left failed old new (bits_of_set s set)
+  pub takes : Takes old new (bits_of_set s set)
   pub unsound : P set → ⊥
 
 -- A reader took all that was left, where the intake has ended, and no data set begins with it. `blank`: no bit of it was a 1.
-pub record SetEnds {I : Type 0} (left : I → Option (List ℕ)) (failed : I → ℕ) (old new : Reader I) (s : Parameters) (b : ℕ) (blank : Bool) : Type 0 where
-  pub cut : SetCut left failed old new s b (bit_faults.End blank)
+pub record SetEnds {I : Type 0} (old new : Reader I) (s : Parameters) (b : ℕ) (blank : Bool) : Type 0 where
+  pub cut : SetCut old new s b (bit_faults.End blank)
   pub told : is_blank cut.bits ≡ blank
 
 -- why a decoder at block b stops, whatever the intake is
-abbrev pub StopsBy : {I : Type 0} → (I → Option (List ℕ)) → (I → ℕ) → Reader I → Reader I → Parameters → ℕ → Result Step CodeFault → Type 0
-StopsBy left failed old new s b (Ok Block) = ⊥
+abbrev pub StopsBy : {I : Type 0} → Reader I → Reader I → Parameters → ℕ → Result Step CodeFault → Type 0
+StopsBy old new s b (Ok Block) = ⊥
 -- no 1 was left
-StopsBy left failed old new s b (Ok Done) = SetEnds left failed old new s b true
+StopsBy old new s b (Ok Done) = SetEnds old new s b true
 -- a 1 was left, and no data set begins with what was left
-StopsBy left failed old new s b (Err faults.CodeEnds) = SetEnds left failed old new s b false
-StopsBy left failed old new s b (Err faults.RunPastSegment) = SetRefused left failed old new s b (RunIsSound s b)
-StopsBy left failed old new s b (Err faults.ResidualTooLarge) = SetRefused left failed old new s b (ResidualsAreSound s)
-StopsBy left failed old new s b (Err faults.Read) = SetCut left failed old new s b bit_faults.Read
-StopsBy left failed old new s b (Err faults.TooLong) = SetCut left failed old new s b bit_faults.TooLong
+StopsBy old new s b (Err faults.CodeEnds) = SetEnds old new s b false
+StopsBy old new s b (Err faults.RunPastSegment) = SetRefused old new s b (RunIsSound s b)
+StopsBy old new s b (Err faults.ResidualTooLarge) = SetRefused old new s b (ResidualsAreSound s)
+StopsBy old new s b (Err faults.Read) = SetCut old new s b bit_faults.Read
+StopsBy old new s b (Err faults.TooLong) = SetCut old new s b bit_faults.TooLong
 
 -- a reader from whose place on no 1 was taken
 abbrev pub with_mark : {I : Type 0} → Reader I → Reader I
 with_mark r = record r { blank = true }
 
 -- What a call says that reads a data set.
-abbrev pub Answers : {I : Type 0} → (I → Option (List ℕ)) → (I → ℕ) → Reader I → Reader I → ℕ → ℕ → DecoderState → DecoderState → List ℤ → Result Step CodeFault → Type 0
-Answers left failed old new old_steps new_steps p q samples (Ok Block) =
-    GivesSet left failed old new old_steps new_steps p.setting p.block p.before samples q.run × (q ≡ state_after_block p samples q.run)
-Answers left failed old new old_steps new_steps p q samples (Ok Done) = StopsBy left failed old new p.setting p.block (Ok Done) × (q ≡ record p { stopped = Some (Ok Done) }) × (samples ≡ [])
-Answers left failed old new old_steps new_steps p q samples (Err f) = StopsBy left failed old new p.setting p.block (Err f) × (q ≡ record p { stopped = Some (Err f) }) × (samples ≡ [])
+abbrev pub Answers : {I : Type 0} → Reader I → Reader I → ℕ → ℕ → DecoderState → DecoderState → List ℤ → Result Step CodeFault → Type 0
+Answers old new old_steps new_steps p q samples (Ok Block) =
+    GivesSet old new old_steps new_steps p.setting p.block p.before samples q.run × (q ≡ state_after_block p samples q.run)
+Answers old new old_steps new_steps p q samples (Ok Done) = StopsBy old new p.setting p.block (Ok Done) × (q ≡ record p { stopped = Some (Ok Done) }) × (samples ≡ [])
+Answers old new old_steps new_steps p q samples (Err f) = StopsBy old new p.setting p.block (Err f) × (q ≡ record p { stopped = Some (Err f) }) × (samples ≡ [])
 
 -- What a call says inside a run.
 pub record GivesFromRun (p q : DecoderState) (samples : List ℤ) : Type 0 where

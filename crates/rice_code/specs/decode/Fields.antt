@@ -1,6 +1,6 @@
 -- What the pieces of a coded data set are read by.
 use Rattle.std.specs.Prelude.{◌≡◌, ℕ, suc, All, Option, length, flat_map, sum, ◌+◌, ◌-◌, ◌*◌, ◌^◌, ◌<◌, ◌≤◌, Bool, true, false, List, [], ◌∷◌, ◌++◌}
-use Rattle.rice_bits.specs.Bits.{fundamental_sequence}
+use Rattle.rice_bits.specs.Bits.{fundamental_sequence, word}
 use Rattle.rice_bits.specs.read.Reader.{Reader, Takes}
 use Rattle.rice_samples.specs.blocks.Pairs.{pair_codes}
 
@@ -23,33 +23,37 @@ pub record AreCounted (old_steps new_steps old_taken new_taken : ℕ) : Type 0 w
   pub most : new_steps + 2 * old_taken ≤ old_steps + 2 * new_taken
 
 -- A reader took pieces, one for each of so many numbers, which were appended to others.
-pub record Row {I : Type 0} (left : I → Option (List ℕ)) (failed : I → ℕ) (piece : ℕ → List Bool) (P : ℕ → Type 0) (old new : Reader I) (count : ℕ) (before after : List ℕ) : Type 0 where
+pub record Row {I : Type 0} (piece : ℕ → List Bool) (P : ℕ → Type 0) (old new : Reader I) (count : ℕ) (before after : List ℕ) : Type 0 where
   pub values : List ℕ
   pub len : length values ≡ count
   pub each : All P values
   pub appended : after ≡ before ++ values
-  pub takes : Takes left failed old new (flat_map piece values)
+  pub takes : Takes old new (flat_map piece values)
+
+-- A reader took words of this width, which spell these numbers.
+abbrev pub WordRow : {I : Type 0} → ℕ → Reader I → Reader I → ℕ → List ℕ → Type 0
+WordRow width old new count numbers = Row (word width) (λ v. v < 2 ^ width) old new count [] numbers
 
 -- A reader took fundamental sequences, one for each of so many numbers. The numbers are told where none was found above `most`.
-pub record CountsRead {I : Type 0} (left : I → Option (List ℕ)) (failed : I → ℕ) (old new : Reader I) (most : ℕ) (small : Bool) (count : ℕ) (told : List ℕ) : Type 0 where
+pub record CountsRead {I : Type 0} (old new : Reader I) (most : ℕ) (small : Bool) (count : ℕ) (told : List ℕ) : Type 0 where
   pub values : List ℕ
   pub len : length values ≡ count
   pub told_are : small ≡ true → told ≡ values
   pub refused : small ≡ false → All (λ m. m ≤ most) values → ⊥
-  pub takes : Takes left failed old new (flat_map fundamental_sequence values)
+  pub takes : Takes old new (flat_map fundamental_sequence values)
 
 -- A reader took fundamental sequences, one for each of so many numbers. The numbers are told where all are at most `most`.
-pub record CountRow {I : Type 0} (left : I → Option (List ℕ)) (failed : I → ℕ) (old new : Reader I) (most : ℕ) (small : Bool) (count : ℕ) (told : List ℕ) : Type 0 where
+pub record CountRow {I : Type 0} (old new : Reader I) (most : ℕ) (small : Bool) (count : ℕ) (told : List ℕ) : Type 0 where
   pub values : List ℕ
   pub len : length values ≡ count
   pub told_are : small ≡ true → (told ≡ values) × All (λ m. m ≤ most) values
   pub refused : small ≡ false → All (λ m. m ≤ most) values → ⊥
-  pub takes : Takes left failed old new (flat_map fundamental_sequence values)
+  pub takes : Takes old new (flat_map fundamental_sequence values)
 
 -- A reader took the codewords of so many pairs, whose numbers are these.
-pub record PairRow {I : Type 0} (left : I → Option (List ℕ)) (failed : I → ℕ) (old new : Reader I) (count : ℕ) (values : List ℕ) (old_steps new_steps : ℕ) : Type 0 where
+pub record PairRow {I : Type 0} (old new : Reader I) (count : ℕ) (values : List ℕ) (old_steps new_steps : ℕ) : Type 0 where
   pub len : length values ≡ count + count
-  pub takes : Takes left failed old new (flat_map fundamental_sequence (pair_codes values))
+  pub takes : Takes old new (flat_map fundamental_sequence (pair_codes values))
   -- each bit and each turn of the search is a step
   pub steps : new_steps + old.taken ≡ old_steps + new.taken + sum values
   pub turns : sum values ≤ length (flat_map fundamental_sequence (pair_codes values))

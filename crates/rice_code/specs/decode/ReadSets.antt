@@ -4,7 +4,8 @@ use Rattle.rice_bits.specs.read.Reader.{Reader, Takes, Stops}
 use Rattle.rice_bits.specs.declared.read.fault.BitFault.{BitFault}
 use Rattle.rice_samples.specs.Parameters.{Parameters}
 use Rattle.rice_code.specs.code.Blocks.{BlockData}
-use Rattle.rice_code.specs.code.CodedDataSets.{CodedDataSet, NoCompression, SecondExtension, Split, ZeroBlocks, RemainderOfSegment, bits_of_set, turns, run_with_zeros, run_number, second_extension_tail, run_tail}
+use Rattle.rice_code.specs.code.CodedDataSets.{CodedDataSet, NoCompression, SecondExtension, Split, ZeroBlocks, RemainderOfSegment, bits_of_set, turns, run_with_zeros, run_number, no_compression_tail, second_extension_tail, split_tail, run_tail}
+use Rattle.rice_code.specs.declared.decode.options.BlockHead.{BlockHead}
 use Rattle.rice_code.specs.declared.decode.options.SetHead.{SetHead}
 use Rattle.rice_code.specs.declared.decode.options.SetHead.TheVariants.{Residuals, Zeros}
 use Rattle.rice_code.specs.code.Forms.{IsForm, IsBlock, IsZeroAtReference, RunIsSound, ResidualsAreSound, AllFit, blocks_in}
@@ -20,23 +21,31 @@ abbrev pub reference_place : Option ℕ → List ℕ
 reference_place None = []
 reference_place (Some v) = 0 ∷ []
 
--- A reader took what follows the identifier of one block by this option. Its residuals are told where they are sound.
-pub record BlockRead {I : Type 0} (left : I → Option (List ℕ)) (failed : I → ℕ) (old new : Reader I) (old_steps new_steps : ℕ)
-    (s : Parameters) (b : ℕ) (option : BlockData → CodedDataSet) (spell : BlockData → List Bool) (reference : Option ℕ) (sound : Bool) (residuals : List ℕ) : Type 0 where
+-- what follows the identifier of a coded data set, and the bit of second extension or a run
+abbrev pub set_tail : Parameters → CodedDataSet → List Bool
+set_tail s (NoCompression c) = no_compression_tail s c
+set_tail s (SecondExtension c) = second_extension_tail s c
+set_tail s (Split k c) = split_tail s k c
+set_tail s (ZeroBlocks reference z) = run_tail s reference (run_number z)
+set_tail s (RemainderOfSegment reference) = run_tail s reference 4
+
+-- A reader took what follows the identifier of a block that this option codes.
+-- `head` has the reference, and says whether the residuals are sound: then they are these.
+pub record BlockRead {I : Type 0} (old new : Reader I) (old_steps new_steps : ℕ)
+    (s : Parameters) (b : ℕ) (option : BlockData → CodedDataSet) (head : BlockHead) (residuals : List ℕ) : Type 0 where
   pub contents : BlockData
   pub form : IsForm s b (option contents)
-  pub reference_is : contents.reference ≡ reference
-  pub takes : Takes left failed old new (spell contents)
-  pub told : sound ≡ true → ResidualsAreSound s (option contents) × AllFit s contents × (contents.residuals ≡ residuals)
-  pub refused : sound ≡ false → ResidualsAreSound s (option contents) → ⊥
+  pub reference_is : contents.reference ≡ head.reference
+  pub takes : Takes old new (set_tail s (option contents))
+  pub told : head.sound ≡ true → ResidualsAreSound s (option contents) × AllFit s contents × (contents.residuals ≡ residuals)
+  pub refused : head.sound ≡ false → ResidualsAreSound s (option contents) → ⊥
   pub steps : new_steps + old.taken ≡ old_steps + new.taken + turns (option contents)
 
--- A reader took all that was left and refused, and no block by this option begins with it.
-pub record BlockCut {I : Type 0} (left : I → Option (List ℕ)) (failed : I → ℕ) (old new : Reader I)
-    (s : Parameters) (b : ℕ) (option : BlockData → CodedDataSet) (spell : BlockData → List Bool) (fault : BitFault) : Type 0 where
+-- A reader took all that was left and refused, and no block that this option codes begins with it.
+pub record BlockCut {I : Type 0} (old new : Reader I) (s : Parameters) (b : ℕ) (option : BlockData → CodedDataSet) (fault : BitFault) : Type 0 where
   pub bits : List Bool
-  pub stops : Stops left failed old new bits fault
-  pub none : (c : BlockData) (more : List Bool) → IsForm s b (option c) → bits ≡ spell c ++ more → ⊥
+  pub stops : Stops old new bits fault
+  pub none : (c : BlockData) (more : List Bool) → IsForm s b (option c) → bits ≡ set_tail s (option c) ++ more → ⊥
 
 -- A data set of one block has these residuals where they are sound.
 pub record DescribesBlock (s : Parameters) (b : ℕ) (reference : Option ℕ) (sound : Bool) (residuals : List ℕ) (set : CodedDataSet) : Type 0 where
@@ -54,21 +63,21 @@ DescribesSet s b (Residuals reference sound) residuals set = DescribesBlock s b 
 DescribesSet s b (Zeros reference zeros) residuals set = set ≡ run_with_zeros reference zeros
 
 -- A reader took a data set, sound or not.
-pub record SetRead {I : Type 0} (left : I → Option (List ℕ)) (failed : I → ℕ) (old new : Reader I) (old_steps new_steps : ℕ) (s : Parameters) (b : ℕ) (taken : SetHead) (residuals : List ℕ) : Type 0 where
+pub record SetRead {I : Type 0} (old new : Reader I) (old_steps new_steps : ℕ) (s : Parameters) (b : ℕ) (taken : SetHead) (residuals : List ℕ) : Type 0 where
   pub set : CodedDataSet
   pub form : IsForm s b set
-  pub takes : Takes left failed old new (bits_of_set s set)
+  pub takes : Takes old new (bits_of_set s set)
   pub tells : DescribesSet s b taken residuals set
   -- each bit and each turn of the search is a step
   pub steps : new_steps + old.taken ≡ old_steps + new.taken + turns set
 
 -- A reader took all that was left and refused, and no data set begins with it.
-pub record SetCut {I : Type 0} (left : I → Option (List ℕ)) (failed : I → ℕ) (old new : Reader I) (s : Parameters) (b : ℕ) (fault : BitFault) : Type 0 where
+pub record SetCut {I : Type 0} (old new : Reader I) (s : Parameters) (b : ℕ) (fault : BitFault) : Type 0 where
   pub bits : List Bool
-  pub stops : Stops left failed old new bits fault
+  pub stops : Stops old new bits fault
   pub none : (d : CodedDataSet) (more : List Bool) → IsForm s b d → bits ≡ bits_of_set s d ++ more → ⊥
 
--- the data sets whose identifier is 0, behind it
+-- what follows an identifier of 0, as each coded data set that has one spells it
 abbrev pub low_tail : Parameters → CodedDataSet → List Bool
 low_tail s (NoCompression c) = []
 low_tail s (SecondExtension c) = true ∷ second_extension_tail s c
@@ -76,7 +85,7 @@ low_tail s (Split k c) = []
 low_tail s (ZeroBlocks reference z) = false ∷ run_tail s reference (run_number z)
 low_tail s (RemainderOfSegment reference) = false ∷ run_tail s reference 4
 
--- its identifier is 0
+-- the identifier of the coded data set is 0
 abbrev pub IsLow : CodedDataSet → Type 0
 IsLow (NoCompression c) = ⊥
 IsLow (SecondExtension c) = ⊤
@@ -84,15 +93,15 @@ IsLow (Split k c) = ⊥
 IsLow (ZeroBlocks reference z) = ⊤
 IsLow (RemainderOfSegment reference) = ⊤
 
-pub record LowRead {I : Type 0} (left : I → Option (List ℕ)) (failed : I → ℕ) (old new : Reader I) (old_steps new_steps : ℕ) (s : Parameters) (b : ℕ) (taken : SetHead) (residuals : List ℕ) : Type 0 where
+pub record LowRead {I : Type 0} (old new : Reader I) (old_steps new_steps : ℕ) (s : Parameters) (b : ℕ) (taken : SetHead) (residuals : List ℕ) : Type 0 where
   pub set : CodedDataSet
   pub low : IsLow set
   pub form : IsForm s b set
-  pub takes : Takes left failed old new (low_tail s set)
+  pub takes : Takes old new (low_tail s set)
   pub tells : DescribesSet s b taken residuals set
   pub steps : new_steps + old.taken ≡ old_steps + new.taken + turns set
 
-pub record LowCut {I : Type 0} (left : I → Option (List ℕ)) (failed : I → ℕ) (old new : Reader I) (s : Parameters) (b : ℕ) (fault : BitFault) : Type 0 where
+pub record LowCut {I : Type 0} (old new : Reader I) (s : Parameters) (b : ℕ) (fault : BitFault) : Type 0 where
   pub bits : List Bool
-  pub stops : Stops left failed old new bits fault
+  pub stops : Stops old new bits fault
   pub none : (d : CodedDataSet) (more : List Bool) → IsForm s b d → IsLow d → bits ≡ low_tail s d ++ more → ⊥

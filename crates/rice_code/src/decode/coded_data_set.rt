@@ -1,4 +1,4 @@
-//! One coded data set.
+//! Reads one coded data set.
 ghost use Rattle.std.specs.Prelude.{◌≡◌, ℕ, ◌+◌, ◌-◌, ◌*◌, ◌/◌, ◌^◌, ◌<◌, ◌≤◌, Bool, true, false, List, ◌++◌, ◌∷◌, length, None, IfOk, IfErr};
 ghost use Rattle.rice_bits.specs.read.Reader.{Takes, Stops};
 ghost use Rattle.rice_samples.specs.Parameters.{id_len};
@@ -11,7 +11,7 @@ use crate::decode::options::{
 use rice_bits::{BitFault, BitReader, Intake, Meter};
 use rice_samples::Setting;
 
-/// Reads what follows an identifier of zeros: a bit, and then second extension or a run.
+/// Reads what follows an identifier of zeros: a bit, and then a block by second extension or a run of zero blocks.
 fn read_low<I: Intake>(
     setting: &Setting,
     block: u64,
@@ -22,8 +22,9 @@ fn read_low<I: Intake>(
     requires going { reader.old.refusal ≡ None }
     requires room { HasRoom meter.old reader.old.taken }
     requires size { length residuals.old ≡ setting.now.block }
-    ensures ok { IfOk result (λ t. LowRead I.left I.failed reader.old reader.new meter.old meter.new setting.now block t residuals.new) }
-    ensures err { IfErr result (LowCut I.left I.failed reader.old reader.new setting.now block) }
+    ensures ok { IfOk result (λ t.
+        LowRead reader.old reader.new meter.old meter.new setting.now block t residuals.new) }
+    ensures err { IfErr result (LowCut reader.old reader.new setting.now block) }
     ensures steps { AreCounted meter.old meter.new reader.old.taken reader.new.taken }
 {
     let bit = match reader.take(1, meter) {
@@ -45,7 +46,7 @@ fn read_low<I: Intake>(
     }
 }
 
-/// Reads one coded data set, all its bits, and judges nothing. `highs` is room for high parts.
+/// Reads all bits of one coded data set, and refuses none that has its form. `highs` is scratch space.
 pub fn read_set<I: Intake>(
     setting: &Setting,
     block: u64,
@@ -58,8 +59,9 @@ pub fn read_set<I: Intake>(
     requires room { HasRoom meter.old reader.old.taken }
     requires size { length residuals.old ≡ setting.now.block }
     requires highs { length highs.old ≡ 64 }
-    ensures ok { IfOk result (λ t. SetRead I.left I.failed reader.old reader.new meter.old meter.new setting.now block t residuals.new) }
-    ensures err { IfErr result (SetCut I.left I.failed reader.old reader.new setting.now block) }
+    ensures ok { IfOk result (λ t.
+        SetRead reader.old reader.new meter.old meter.new setting.now block t residuals.new) }
+    ensures err { IfErr result (SetCut reader.old reader.new setting.now block) }
     ensures steps { AreCounted meter.old meter.new reader.old.taken reader.new.taken }
 {
     let width = setting.id_len();

@@ -1,14 +1,15 @@
-//! The decoder.
-ghost use Rattle.std.specs.Prelude.{◌≡◌, ℕ, ◌+◌, ◌-◌, ◌*◌, ◌/◌, ◌^◌, ◌<◌, ◌≤◌, Bool, true, false, if◌then◌else◌, nat_lt, List, All, [], length, replicate, None, Some, IfOk, IfErr, IfSome, IfNone, Ok, ℤ, pos};
+//! Decodes coded data sets, a block a call.
+ghost use Rattle.std.specs.Prelude.{◌≡◌, ℕ, ◌+◌, ◌-◌, ◌*◌, ◌/◌, ◌^◌, ◌<◌, ◌≤◌, Bool, true, false, List, All, [], length, replicate, None, Option, Some, IfOk, IfErr, IfSome, IfNone, Ok, ℤ, pos};
 ghost use Rattle.rice_samples.specs.Parameters.{IsLegal, IsSample};
 ghost use Rattle.rice_samples.specs.Places.{blocks_left};
 ghost use Rattle.rice_samples.specs.predict.Residuals.{last_of};
 ghost use Rattle.rice_code.specs.code.Blocks.{BlockData, block_data, zero_block};
-ghost use Rattle.rice_code.specs.code.Forms.{IsReference};
+ghost use Rattle.rice_code.specs.code.Forms.{IsReference, RunIsSound, blocks_in, zero_blocks};
 ghost use Rattle.rice_code.specs.decode.Fields.{HasRoom, AreCounted};
 ghost use Rattle.rice_code.specs.decode.Decoder.{TakesSet, StopsBy, Skips, answer_to};
 ghost use Rattle.rice_code.specs.decode.DecoderState.{next_block_place};
 ghost use Rattle.rice_code.specs.code.Layout.{padding};
+ghost use Rattle.rice_code.specs.code.CodedDataSets.{run_with_zeros};
 
 use crate::decode::coded_data_set::read_set;
 use crate::decode::fault::{CodeFault, Step};
@@ -19,12 +20,18 @@ use rice_bits::{BitFault, BitReader, Intake, Meter};
 use rice_samples::Setting;
 use std::marker::Model;
 
-/// The blocks of a run with so many zeros in its codeword, where it is sound.
-fn run_blocks(zeros: u64, left: u32) -> Option<u32>
-    requires { 1 ≤ left }
-    ensures some { IfSome result (λ z. (1 ≤ z) × (z ≤ left) × (zeros ≡ 4 → z ≡ left) × (¬ (zeros ≡ 4) → (z ≡ (if nat_lt zeros 4 then zeros + 1 else zeros)) × (z ≤ 63))) }
-    ensures none { IfNone result (¬ (zeros ≡ 4) × ((if nat_lt zeros 4 then zeros + 1 else zeros) ≤ left → (if nat_lt zeros 4 then zeros + 1 else zeros) ≤ 63 → ⊥)) }
+/// Returns the number of blocks of the run whose codeword has `zeros` zeros, or `None` if that run is not sound.
+fn run_blocks(setting: &Setting, block: u64, zeros: u64) -> Option<u32>
+    ensures within { IfSome result (λ z. (1 ≤ z) × (z ≤ blocks_left setting.now block)) }
+    // All this holds whatever reference the run has.
+    ensures sound { IfSome result (λ z. (reference : Option ℕ) →
+        RunIsSound setting.now block (run_with_zeros reference zeros)) }
+    ensures blocks { IfSome result (λ z. (reference : Option ℕ) →
+        blocks_in setting.now block (run_with_zeros reference zeros) ≡ zero_blocks setting.now reference z) }
+    ensures unsound { IfNone result ((reference : Option ℕ) →
+        RunIsSound setting.now block (run_with_zeros reference zeros) → ⊥) }
 {
+    let left = setting.blocks_left(block);
     if zeros == 4 {
         return Some(left);
     }
@@ -35,7 +42,7 @@ fn run_blocks(zeros: u64, left: u32) -> Option<u32>
     if blocks <= left { Some(blocks) } else { None }
 }
 
-/// What a decoder answers where its reader refuses.
+/// Returns what a decoder answers when its reader refuses.
 fn answer_of(fault: BitFault) -> Result<Step, CodeFault>
     ensures { result ≡ answer_to fault }
 {
@@ -47,8 +54,8 @@ fn answer_of(fault: BitFault) -> Result<Step, CodeFault>
     }
 }
 
-/// Reads a data set, and gives the samples of its first block; answers the last of them and how many zero blocks follow. `scratch` is room
-/// for residuals.
+/// Reads a coded data set and restores the samples of its first block. Returns the last of them, and the number of
+/// zero blocks that follow. `scratch` is scratch space.
 fn decode_set<I: Intake>(
     setting: &Setting,
     block: u64,
@@ -63,9 +70,12 @@ fn decode_set<I: Intake>(
     requires p { IsSample setting.now p }
     requires marked { reader.old.blank ≡ true }
     requires scratch { length scratch.old ≡ 128 }
-    ensures ok { IfOk result (λ r. TakesSet I.left I.failed reader.old reader.new meter.old meter.new setting.now block p samples.new.items r.1) }
-    ensures last { IfOk result (λ r. (r.0 ≡ last_of p samples.new.items) × IsSample setting.now r.0 × (0 < r.1 → r.1 + 1 ≤ blocks_left setting.now block)) }
-    ensures err { IfErr result (StopsBy I.left I.failed reader.old reader.new setting.now block) }
+    ensures ok { IfOk result (λ r. TakesSet reader.old reader.new meter.old meter.new
+        setting.now block p samples.new.items r.1) }
+    ensures last { IfOk result (λ r. (r.0 ≡ last_of p samples.new.items) ×
+        IsSample setting.now r.0 ×
+        (0 < r.1 → r.1 + 1 ≤ blocks_left setting.now block)) }
+    ensures err { IfErr result (StopsBy reader.old reader.new setting.now block) }
     ensures steps { AreCounted meter.old meter.new reader.old.taken reader.new.taken }
 {
     let (residuals, highs) = scratch.split_at_mut(64);
@@ -79,7 +89,7 @@ fn decode_set<I: Intake>(
             Ok((last, 0))
         }
         Ok(SetHead::Zeros { reference, zeros }) => {
-            match run_blocks(zeros, setting.blocks_left(block)) {
+            match run_blocks(setting, block, zeros) {
                 Some(count) => {
                     let last = restore_zeros(setting, block, p, reference, samples);
                     Ok((last, count - 1))
@@ -91,7 +101,7 @@ fn decode_set<I: Intake>(
     }
 }
 
-/// The place of the next block in its reference interval.
+/// Returns the place of the next block in its reference interval.
 fn next_place(setting: &Setting, block: u64) -> u64
     requires { block < setting.now.interval }
     ensures { result ≡ next_block_place setting.now block }
@@ -101,7 +111,7 @@ fn next_place(setting: &Setting, block: u64) -> u64
     if next == interval { 0 } else { next }
 }
 
-/// Skips what fills the byte before block `next` of the interval, if that is where the next one begins and intervals are padded.
+/// Skips the padding before block `next`, if intervals are padded and the next one begins there.
 fn skip_padding<I: Intake>(
     setting: &Setting,
     next: u64,
@@ -120,7 +130,10 @@ fn skip_padding<I: Intake>(
     }
 }
 
-/// Decodes a code, a block a call. Clauses see its place: the block that comes next, the sample before it, and how much of a run is still to come.
+/// Decodes coded data sets, a block a call.
+///
+/// In contracts its value is its state: the setting, the place of the next block, the sample before it, the zero blocks
+/// of a run that are still to come, and what it answers once it has stopped.
 #[derive(Drop)]
 pub struct Decoder {
     setting: Setting,
@@ -128,7 +141,7 @@ pub struct Decoder {
     before: i64,
     run: u32,
     stopped: Option<Result<Step, CodeFault>>,
-    /// Room for a block's residuals, and for their high parts. What one block leaves there says nothing to the next.
+    /// Scratch space for the residuals of a block and for their high parts.
     scratch: [u32; 128],
 }
 
@@ -146,9 +159,10 @@ impl Decoder {
     ghost use Rattle.rice_code.specs.decode.Decoder.{Answers, GivesFromRun, with_mark};
     ghost use Rattle.rice_code.specs.declared.decode.fault.Step.TheVariants.{Block};
 
-    /// A decoder at the beginning of a code.
+    /// Returns a decoder at the beginning of a code.
     pub fn new(setting: Setting) -> Self
-        ensures { result ≡ record { setting = setting; block = 0; before = pos 0; run = 0; stopped = None } }
+        ensures { result
+            ≡ record { setting = setting; block = 0; before = pos 0; run = 0; stopped = None } }
     {
         let _bits = setting.bits();
         Decoder {
@@ -161,14 +175,16 @@ impl Decoder {
         }
     }
 
-    /// The samples of a run that are still to come.
+    /// Returns the number of samples of a run that are still to come.
     pub fn waiting(&self) -> u64
         ensures { result ≡ self.now.run * self.now.setting.block }
     {
         self.run as u64 * self.setting.block() as u64
     }
 
-    /// Gives the next block of samples.
+    /// Restores the samples of the next block.
+    ///
+    /// A decoder that has found the end or has refused returns the same again at each later call.
     pub fn next_block<I: Intake>(
         &mut self,
         reader: &mut BitReader<I>,
@@ -177,21 +193,25 @@ impl Decoder {
     ) -> Result<Step, CodeFault>
         requires going { self.old.stopped ≡ None → reader.old.refusal ≡ None }
         requires room { meter.old + 2 * (2 ^ 52 - reader.old.taken) + 64 < 2 ^ 62 }
-        // A decoder that is done or has refused answers the same for good.
-        ensures stopped { IfSome self.old.stopped (λ a. (result ≡ a) × (self.new ≡ self.old) × (reader.new ≡ reader.old) × (meter.new ≡ meter.old) × (samples.new.items ≡ [])) }
+        // A decoder that has stopped answers the same from then on.
+        ensures stopped { IfSome self.old.stopped (λ a. (result ≡ a) × (samples.new.items ≡ []) ×
+            (self.new ≡ self.old) × (reader.new ≡ reader.old) × (meter.new ≡ meter.old)) }
         // Inside a run no bit is taken.
         ensures in_run { self.old.stopped ≡ None → 0 < self.old.run →
-            (result ≡ Ok Block) × GivesFromRun self.old self.new samples.new.items × (reader.new ≡ reader.old) × (meter.new ≡ meter.old) }
+            (result ≡ Ok Block) × GivesFromRun self.old self.new samples.new.items ×
+            (reader.new ≡ reader.old) × (meter.new ≡ meter.old) }
         ensures reads { self.old.stopped ≡ None → self.old.run ≡ 0 →
-            Answers I.left I.failed (with_mark reader.old) reader.new meter.old meter.new self.old self.new samples.new.items result }
-        // Only a decoder that has stopped may not be called again with this reader.
+            Answers (with_mark reader.old) reader.new meter.old meter.new
+            self.old self.new samples.new.items result }
+        // A decoder that has not stopped may be called again with this reader.
         ensures going { self.new.stopped ≡ None → reader.new.refusal ≡ None }
         ensures block { result ≡ Ok Block → self.new.stopped ≡ None }
         ensures setting { self.new.setting ≡ self.old.setting }
         // Steps are at least the bits taken, and at most twice as many.
         ensures steps { AreCounted meter.old meter.new reader.old.taken reader.new.taken }
         // The samples that are given and those that then wait are bounded by the bits.
-        ensures waiting { length samples.new.items + self.new.run * self.new.setting.block ≤ self.old.run * self.old.setting.block + 456 * (reader.new.taken - reader.old.taken) }
+        ensures waiting { length samples.new.items + self.new.run * self.new.setting.block
+            ≤ self.old.run * self.old.setting.block + 456 * (reader.new.taken - reader.old.taken) }
     {
         let _taken = reader.taken();
         if let Some(answer) = self.stopped {

@@ -1,14 +1,14 @@
-//! Words and fundamental sequences, several in a row.
+//! Reads rows of words and of fundamental sequences.
 ghost use Rattle.std.specs.Prelude.{◌≡◌, ℕ, ◌+◌, ◌-◌, ◌*◌, ◌/◌, ◌^◌, ◌<◌, ◌≤◌, Bool, false, List, [], ◌++◌, length, replicate, take, None, IfOk, IfErr, OnOk};
 ghost use Rattle.rice_bits.specs.Bits.{word, fundamental_sequence};
 ghost use Rattle.rice_bits.specs.read.Reader.{Stops};
-ghost use Rattle.rice_code.specs.decode.Fields.{HasRoom, AreCounted, Row, CountRow, CountsRead, PairRow, ones};
+ghost use Rattle.rice_code.specs.decode.Fields.{HasRoom, AreCounted, WordRow, CountRow, CountsRead, PairRow, ones};
 
 use crate::decode::pair::pair_of;
 use crate::decode::residuals::are_below;
 use rice_bits::{BitFault, BitReader, Intake, Meter};
 
-/// Reads as many words as `words` has places, one by one.
+/// Reads a word of `width` bits for each place of `words`, one after another.
 #[inline(never)]
 fn read_each_word<I: Intake>(
     reader: &mut BitReader<I>,
@@ -19,8 +19,9 @@ fn read_each_word<I: Intake>(
     requires going { reader.old.refusal ≡ None }
     requires room { HasRoom meter.old reader.old.taken }
     requires width { width ≤ 32 }
-    ensures ok { OnOk result (Row I.left I.failed (word width) (λ v. v < 2 ^ width) reader.old reader.new (length words.old) [] words.new) }
-    ensures err { IfErr result (λ f. (bits : List Bool) × (length bits < length words.old * width) × Stops I.left I.failed reader.old reader.new bits f) }
+    ensures ok { OnOk result (WordRow width reader.old reader.new (length words.old) words.new) }
+    ensures err { IfErr result (λ f. (bits : List Bool) × (length bits < length words.old * width) ×
+        Stops reader.old reader.new bits f) }
     ensures steps { meter.new + reader.old.taken ≡ meter.old + reader.new.taken }
     ensures limit { reader.new.taken ≤ 2 ^ 52 }
 {
@@ -33,7 +34,7 @@ fn read_each_word<I: Intake>(
     Ok(())
 }
 
-/// Reads as many words as `words` has places.
+/// Reads a word of `width` bits for each place of `words`.
 #[inline]
 pub fn read_words<I: Intake>(
     reader: &mut BitReader<I>,
@@ -44,8 +45,9 @@ pub fn read_words<I: Intake>(
     requires going { reader.old.refusal ≡ None }
     requires room { HasRoom meter.old reader.old.taken }
     requires width { width ≤ 32 }
-    ensures ok { OnOk result (Row I.left I.failed (word width) (λ v. v < 2 ^ width) reader.old reader.new (length words.old) [] words.new) }
-    ensures err { IfErr result (λ f. (bits : List Bool) × (length bits < length words.old * width) × Stops I.left I.failed reader.old reader.new bits f) }
+    ensures ok { OnOk result (WordRow width reader.old reader.new (length words.old) words.new) }
+    ensures err { IfErr result (λ f. (bits : List Bool) × (length bits < length words.old * width) ×
+        Stops reader.old reader.new bits f) }
     ensures steps { meter.new + reader.old.taken ≡ meter.old + reader.new.taken }
     ensures limit { reader.new.taken ≤ 2 ^ 52 }
 {
@@ -59,8 +61,8 @@ pub fn read_words<I: Intake>(
     Ok(())
 }
 
-/// Reads some fundamental sequences, one at least, and writes the numbers of their zeros to the first places. It answers how many, and
-/// false where one that is above `most` could not be written.
+/// Reads at least one fundamental sequence, and writes the numbers of their zeros to the first places of `counts`.
+/// Returns how many it read, and `false` if a number above `most` could not be written.
 #[inline]
 fn read_some_counts<I: Intake>(
     reader: &mut BitReader<I>,
@@ -73,8 +75,9 @@ fn read_some_counts<I: Intake>(
     requires most { most < 2 ^ 32 }
     requires some { 0 < length counts.old }
     ensures some { IfOk result (λ r. (0 < r.0) × (r.0 ≤ length counts.new)) }
-    ensures ok { IfOk result (λ r. CountsRead I.left I.failed reader.old reader.new most r.1 r.0 (take r.0 counts.new)) }
-    ensures err { IfErr result (λ f. (m : ℕ) × Stops I.left I.failed reader.old reader.new (replicate m false) f) }
+    ensures ok { IfOk result (λ r.
+        CountsRead reader.old reader.new most r.1 r.0 (take r.0 counts.new)) }
+    ensures err { IfErr result (λ f. (m : ℕ) × Stops reader.old reader.new (replicate m false) f) }
     ensures steps { meter.new + reader.old.taken ≡ meter.old + reader.new.taken }
     ensures limit { reader.new.taken ≤ 2 ^ 52 }
 {
@@ -91,8 +94,8 @@ fn read_some_counts<I: Intake>(
     }
 }
 
-/// Reads as many fundamental sequences as `counts` has places, and writes the numbers of their zeros. It answers false where one that is
-/// above `most` could not be written.
+/// Reads a fundamental sequence for each place of `counts`, and writes the number of its zeros there. Returns `false`
+/// if a number above `most` could not be written.
 fn read_each_count<I: Intake>(
     reader: &mut BitReader<I>,
     meter: &mut Meter,
@@ -102,8 +105,10 @@ fn read_each_count<I: Intake>(
     requires going { reader.old.refusal ≡ None }
     requires room { HasRoom meter.old reader.old.taken }
     requires most { most < 2 ^ 32 }
-    ensures ok { IfOk result (λ small. CountsRead I.left I.failed reader.old reader.new most small (length counts.old) counts.new) }
-    ensures err { IfErr result (λ f. (bits : List Bool) × (ones bits < length counts.old) × Stops I.left I.failed reader.old reader.new bits f) }
+    ensures ok { IfOk result (λ small.
+        CountsRead reader.old reader.new most small (length counts.old) counts.new) }
+    ensures err { IfErr result (λ f. (bits : List Bool) × (ones bits < length counts.old) ×
+        Stops reader.old reader.new bits f) }
     ensures steps { meter.new + reader.old.taken ≡ meter.old + reader.new.taken }
     ensures limit { reader.new.taken ≤ 2 ^ 52 }
 {
@@ -121,8 +126,8 @@ fn read_each_count<I: Intake>(
     Ok(small)
 }
 
-/// Reads as many fundamental sequences as `counts` has places, and writes the numbers of their zeros. It answers whether all are at most
-/// `most`: where one is larger, what is written says nothing.
+/// Reads a fundamental sequence for each place of `counts`, and writes the number of its zeros there. Returns whether
+/// all numbers are at most `most`; if one is larger, the contents of `counts` are unspecified.
 pub fn read_counts<I: Intake>(
     reader: &mut BitReader<I>,
     meter: &mut Meter,
@@ -132,8 +137,10 @@ pub fn read_counts<I: Intake>(
     requires going { reader.old.refusal ≡ None }
     requires room { HasRoom meter.old reader.old.taken }
     requires most { most < 2 ^ 32 }
-    ensures ok { IfOk result (λ small. CountRow I.left I.failed reader.old reader.new most small (length counts.old) counts.new) }
-    ensures err { IfErr result (λ f. (bits : List Bool) × (ones bits < length counts.old) × Stops I.left I.failed reader.old reader.new bits f) }
+    ensures ok { IfOk result (λ small.
+        CountRow reader.old reader.new most small (length counts.old) counts.new) }
+    ensures err { IfErr result (λ f. (bits : List Bool) × (ones bits < length counts.old) ×
+        Stops reader.old reader.new bits f) }
     ensures steps { meter.new + reader.old.taken ≡ meter.old + reader.new.taken }
     ensures limit { reader.new.taken ≤ 2 ^ 52 }
 {
@@ -143,7 +150,7 @@ pub fn read_counts<I: Intake>(
     }
 }
 
-/// Reads the codewords of as many pairs as `out` has places for, and writes the pairs.
+/// Reads a codeword for each pair of places of `out`, and writes the pair that it stands for.
 pub fn read_pairs<I: Intake>(
     reader: &mut BitReader<I>,
     meter: &mut Meter,
@@ -152,8 +159,10 @@ pub fn read_pairs<I: Intake>(
     requires going { reader.old.refusal ≡ None }
     requires room { HasRoom meter.old reader.old.taken }
     requires even { length out.old / 2 + length out.old / 2 ≡ length out.old }
-    ensures ok { OnOk result (PairRow I.left I.failed reader.old reader.new (length out.old / 2) out.new meter.old meter.new) }
-    ensures err { IfErr result (λ f. (bits : List Bool) × (ones bits < length out.old / 2) × Stops I.left I.failed reader.old reader.new bits f) }
+    ensures ok { OnOk result
+        (PairRow reader.old reader.new (length out.old / 2) out.new meter.old meter.new) }
+    ensures err { IfErr result (λ f. (bits : List Bool) × (ones bits < length out.old / 2) ×
+        Stops reader.old reader.new bits f) }
     ensures steps { AreCounted meter.old meter.new reader.old.taken reader.new.taken }
 {
     for done in 0..out.len() / 2 {

@@ -1,4 +1,4 @@
-//! Blocks by each option, and runs, behind their identifiers.
+//! Reads what follows an identifier: a block by each option, or a run.
 ghost use Rattle.std.specs.Prelude.{◌≡◌, ℕ, ◌+◌, ◌-◌, ◌*◌, ◌/◌, ◌^◌, ◌<◌, ◌≤◌, Bool, true, false, List, [], ◌++◌, length, take, Option, None, IfOk, IfErr};
 ghost use Rattle.rice_bits.specs.read.Reader.{Takes, Stops};
 ghost use Rattle.rice_samples.specs.Parameters.{Parameters, IsLegal, k_max};
@@ -14,21 +14,21 @@ use crate::decode::residuals::{are_sound, join_all};
 use rice_bits::{BitFault, BitReader, Intake, Meter};
 use rice_samples::Setting;
 
-/// What was read of a data set, besides residuals.
+/// What was read of a coded data set, besides residuals.
 #[derive(Clone, Copy)]
 pub enum SetHead {
     Residuals { reference: Option<u32>, sound: bool },
     Zeros { reference: Option<u32>, zeros: u64 },
 }
 
-/// What was read of a block besides its residuals.
+/// What was read of a block, besides its residuals: the reference sample, and whether the residuals are sound.
 #[derive(Clone, Copy)]
 pub struct BlockHead {
     pub reference: Option<u32>,
     pub sound: bool,
 }
 
-/// Reads the reference sample of a block, where it has one.
+/// Reads the reference sample of a block, if it has one.
 pub fn read_reference<I: Intake>(
     setting: &Setting,
     block: u64,
@@ -38,8 +38,9 @@ pub fn read_reference<I: Intake>(
     requires going { reader.old.refusal ≡ None }
     requires room { HasRoom meter.old reader.old.taken }
     ensures reference { IfOk result (λ r. IsReference setting.now block r) }
-    ensures ok { IfOk result (λ r. Takes I.left I.failed reader.old reader.new (reference_bits setting.now r)) }
-    ensures err { IfErr result (λ f. (bits : List Bool) × (is_reference setting.now block ≡ true) × (length bits < setting.now.bits) × Stops I.left I.failed reader.old reader.new bits f) }
+    ensures ok { IfOk result (λ r. Takes reader.old reader.new (reference_bits setting.now r)) }
+    ensures err { IfErr result (λ f. (bits : List Bool) × (is_reference setting.now block ≡ true) ×
+        (length bits < setting.now.bits) × Stops reader.old reader.new bits f) }
     ensures steps { meter.new + reader.old.taken ≡ meter.old + reader.new.taken }
     ensures limit { reader.new.taken ≤ 2 ^ 52 }
 {
@@ -52,7 +53,7 @@ pub fn read_reference<I: Intake>(
     }
 }
 
-/// Begins a block's residuals: 0 at the reference place, if there is one. It answers where the coded residuals begin.
+/// Writes a 0 at the place of the reference sample, if there is one. Returns where the residuals that are sent begin.
 pub fn begin_residuals(reference: Option<u32>, residuals: &mut [u32]) -> usize
     requires { 0 < length residuals.old }
     ensures first { result ≡ length (reference_place reference) }
@@ -66,7 +67,7 @@ pub fn begin_residuals(reference: Option<u32>, residuals: &mut [u32]) -> usize
     }
 }
 
-/// Reads a run's reference and the number of its codeword.
+/// Reads the reference sample of a run and the number of zeros of its codeword.
 pub fn read_run<I: Intake>(
     setting: &Setting,
     block: u64,
@@ -76,8 +77,8 @@ pub fn read_run<I: Intake>(
     requires going { reader.old.refusal ≡ None }
     requires room { HasRoom meter.old reader.old.taken }
     ensures reference { IfOk result (λ r. IsReference setting.now block r.0) }
-    ensures ok { IfOk result (λ r. Takes I.left I.failed reader.old reader.new (run_tail setting.now r.0 r.1)) }
-    ensures err { IfErr result (λ f. (bits : List Bool) × Stops I.left I.failed reader.old reader.new bits f
+    ensures ok { IfOk result (λ r. Takes reader.old reader.new (run_tail setting.now r.0 r.1)) }
+    ensures err { IfErr result (λ f. (bits : List Bool) × Stops reader.old reader.new bits f
         × ((r : Option ℕ) (m : ℕ) (more : List Bool) → IsReference setting.now block r → bits ≡ run_tail setting.now r m ++ more → ⊥)) }
     ensures steps { meter.new + reader.old.taken ≡ meter.old + reader.new.taken }
     ensures limit { reader.new.taken ≤ 2 ^ 52 }
@@ -92,7 +93,7 @@ pub fn read_run<I: Intake>(
     }
 }
 
-/// Reads a block by no compression.
+/// Reads a block that is not compressed.
 pub fn read_no_compression<I: Intake>(
     setting: &Setting,
     block: u64,
@@ -103,8 +104,9 @@ pub fn read_no_compression<I: Intake>(
     requires going { reader.old.refusal ≡ None }
     requires room { HasRoom meter.old reader.old.taken }
     requires size { length residuals.old ≡ setting.now.block }
-    ensures ok { IfOk result (λ h. BlockRead I.left I.failed reader.old reader.new meter.old meter.new setting.now block NoCompression (no_compression_tail setting.now) h.reference h.sound residuals.new) }
-    ensures err { IfErr result (BlockCut I.left I.failed reader.old reader.new setting.now block NoCompression (no_compression_tail setting.now)) }
+    ensures ok { IfOk result (λ h. BlockRead reader.old reader.new meter.old meter.new
+        setting.now block NoCompression h residuals.new) }
+    ensures err { IfErr result (BlockCut reader.old reader.new setting.now block NoCompression) }
     ensures steps { AreCounted meter.old meter.new reader.old.taken reader.new.taken }
 {
     let reference = match read_reference(setting, block, reader, meter) {
@@ -122,7 +124,7 @@ pub fn read_no_compression<I: Intake>(
     })
 }
 
-/// Reads a block by second extension.
+/// Reads a block that is coded by second extension.
 pub fn read_second_extension<I: Intake>(
     setting: &Setting,
     block: u64,
@@ -133,8 +135,9 @@ pub fn read_second_extension<I: Intake>(
     requires going { reader.old.refusal ≡ None }
     requires room { HasRoom meter.old reader.old.taken }
     requires size { length residuals.old ≡ setting.now.block }
-    ensures ok { IfOk result (λ h. BlockRead I.left I.failed reader.old reader.new meter.old meter.new setting.now block SecondExtension (second_extension_tail setting.now) h.reference h.sound residuals.new) }
-    ensures err { IfErr result (BlockCut I.left I.failed reader.old reader.new setting.now block SecondExtension (second_extension_tail setting.now)) }
+    ensures ok { IfOk result (λ h. BlockRead reader.old reader.new meter.old meter.new
+        setting.now block SecondExtension h residuals.new) }
+    ensures err { IfErr result (BlockCut reader.old reader.new setting.now block SecondExtension) }
     ensures steps { AreCounted meter.old meter.new reader.old.taken reader.new.taken }
 {
     let reference = match read_reference(setting, block, reader, meter) {
@@ -151,7 +154,7 @@ pub fn read_second_extension<I: Intake>(
     }
 }
 
-/// Reads a block by a split option, with `highs` as room for the high parts.
+/// Reads a block that is coded by split sample option `k`. `highs` is scratch space for the high parts.
 pub fn read_split<I: Intake>(
     setting: &Setting,
     block: u64,
@@ -167,8 +170,9 @@ pub fn read_split<I: Intake>(
     requires limit { k ≤ 29 }
     requires size { length residuals.old ≡ setting.now.block }
     requires highs { length highs.old ≡ 64 }
-    ensures ok { IfOk result (λ h. BlockRead I.left I.failed reader.old reader.new meter.old meter.new setting.now block (Split k) (split_tail setting.now k) h.reference h.sound residuals.new) }
-    ensures err { IfErr result (BlockCut I.left I.failed reader.old reader.new setting.now block (Split k) (split_tail setting.now k)) }
+    ensures ok { IfOk result (λ h. BlockRead reader.old reader.new meter.old meter.new
+        setting.now block (Split k) h residuals.new) }
+    ensures err { IfErr result (BlockCut reader.old reader.new setting.now block (Split k)) }
     ensures steps { AreCounted meter.old meter.new reader.old.taken reader.new.taken }
 {
     let reference = match read_reference(setting, block, reader, meter) {

@@ -4,7 +4,8 @@ ghost use Rattle.rice_samples.specs.blocks.Pairs.{pair_code};
 
 use rice_bits::Meter;
 
-/// The pair that g stands for. It counts the sum of the two up from 0, and ticks each turn.
+/// Returns the pair that the number `g` stands for. It counts the sum of the two up from 0, and ticks once for each
+/// turn.
 pub fn pair_of(g: u64, meter: &mut Meter) -> (u32, u32)
     requires g { g ≤ 2 ^ 52 }
     requires meter { meter.old + g < 2 ^ 62 }

@@ -1,8 +1,9 @@
-//! Residuals from their high and low parts, and whether they are sound.
+//! Joins the parts of residuals, and says whether residuals are sound.
 ghost use Rattle.std.specs.Prelude.{◌≡◌, ℕ, ◌+◌, ◌-◌, ◌*◌, ◌/◌, ◌^◌, ◌<◌, ◌≤◌, true, false, List, length, slice_index, OnSome, All};
 ghost use Rattle.rice_code.specs.decode.ReadSets.{joined_parts};
 
-/// Puts high parts before low parts of k bits, and says whether all residuals that they make are below `count`.
+/// Joins each high part with the low part of k bits at its place, and writes the residual there. Returns whether all
+/// residuals are below `count`.
 #[inline(always)]
 pub fn join_all(highs: &[u32], k: u32, count: u64, lows: &mut [u32]) -> bool
     requires same { length lows.old ≡ length highs.now }
@@ -12,7 +13,8 @@ pub fn join_all(highs: &[u32], k: u32, count: u64, lows: &mut [u32]) -> bool
     requires lows { All (λ l. l < 2 ^ k) lows.old }
     ensures joined { lows.new ≡ joined_parts k highs.now lows.old }
     ensures below { result ≡ true → All (λ d. d < count) (joined_parts k highs.now lows.old) }
-    ensures not_below { result ≡ false → All (λ d. d < count) (joined_parts k highs.now lows.old) → ⊥ }
+    ensures not_below { result ≡ false →
+        All (λ d. d < count) (joined_parts k highs.now lows.old) → ⊥ }
 {
     // The loop is laid out for blocks of 8, with a reference and without.
     match highs.len() {
@@ -22,7 +24,7 @@ pub fn join_all(highs: &[u32], k: u32, count: u64, lows: &mut [u32]) -> bool
     }
 }
 
-/// The same, with a loop over parts of any number.
+/// As `join_all`, with a loop over parts of any number.
 #[inline(always)]
 fn join_each(highs: &[u32], k: u32, count: u64, lows: &mut [u32]) -> bool
     requires same { length lows.old ≡ length highs.now }
@@ -32,7 +34,8 @@ fn join_each(highs: &[u32], k: u32, count: u64, lows: &mut [u32]) -> bool
     requires lows { All (λ l. l < 2 ^ k) lows.old }
     ensures joined { lows.new ≡ joined_parts k highs.now lows.old }
     ensures below { result ≡ true → All (λ d. d < count) (joined_parts k highs.now lows.old) }
-    ensures not_below { result ≡ false → All (λ d. d < count) (joined_parts k highs.now lows.old) → ⊥ }
+    ensures not_below { result ≡ false →
+        All (λ d. d < count) (joined_parts k highs.now lows.old) → ⊥ }
 {
     let greatest = (count - 1) as u32;
     let mut all = true;
@@ -44,13 +47,13 @@ fn join_each(highs: &[u32], k: u32, count: u64, lows: &mut [u32]) -> bool
     all
 }
 
-/// Whether all residuals are below `count`.
+/// Returns whether all residuals are below `count`.
 pub fn are_below(residuals: &[u32], count: u64) -> bool
     requires { (0 < count) × (count ≤ 2 ^ 32) }
     ensures below { result ≡ true → All (λ d. d < count) residuals.now }
     ensures not_below { result ≡ false → All (λ d. d < count) residuals.now → ⊥ }
 {
-    // As above.
+    // The loop is laid out for blocks of 8, with a reference and without.
     match residuals.len() {
         7 => each_is_below(&residuals[..7], count),
         8 => each_is_below(&residuals[..8], count),
@@ -58,7 +61,7 @@ pub fn are_below(residuals: &[u32], count: u64) -> bool
     }
 }
 
-/// The same, with a loop over residuals of any number.
+/// As `are_below`, with a loop over residuals of any number.
 #[inline(always)]
 fn each_is_below(residuals: &[u32], count: u64) -> bool
     requires { (0 < count) × (count ≤ 2 ^ 32) }
@@ -73,12 +76,15 @@ fn each_is_below(residuals: &[u32], count: u64) -> bool
     all
 }
 
-/// Whether the residuals of second extension are sound.
+/// Returns whether the residuals of a block by second extension are sound: all are below `count`, and the first is 0
+/// where the block has a reference sample.
 pub fn are_sound(reference: Option<u32>, residuals: &[u32], count: u64) -> bool
     requires some { 0 < length residuals.now }
     requires count { (0 < count) × (count ≤ 2 ^ 32) }
-    ensures sound { result ≡ true → OnSome reference (slice_index residuals.now 0 ≡ 0) × All (λ d. d < count) residuals.now }
-    ensures unsound { result ≡ false → OnSome reference (slice_index residuals.now 0 ≡ 0) × All (λ d. d < count) residuals.now → ⊥ }
+    ensures sound { result ≡ true → OnSome reference (slice_index residuals.now 0 ≡ 0) ×
+        All (λ d. d < count) residuals.now }
+    ensures unsound { result ≡ false → OnSome reference (slice_index residuals.now 0 ≡ 0) ×
+        All (λ d. d < count) residuals.now → ⊥ }
 {
     if reference.is_some() && residuals[0] != 0 {
         return false;

@@ -1,15 +1,16 @@
-//! The samples of a block.
+//! Restores the samples of a block.
 ghost use Rattle.std.specs.Prelude.{◌≡◌, ℕ, ◌+◌, ◌-◌, ◌*◌, ◌/◌, ◌^◌, ◌<◌, ◌≤◌, ◌==◌, Bool, true, false, List, length, replicate, All, ℤ, IfSome, is_some};
 ghost use Rattle.rice_samples.specs.Parameters.{IsLegal, IsSample, value_count};
 ghost use Rattle.rice_samples.specs.predict.Residuals.{pattern, last_of};
 ghost use Rattle.rice_code.specs.code.Blocks.{BlockData, block_data, zero_block};
+ghost use Rattle.rice_code.specs.code.SoundBlocks.{block_with};
 ghost use Rattle.rice_code.specs.code.Forms.{IsReference, IsBlock, IsZeroAtReference, AllFit};
 ghost use Rattle.rice_code.specs.decode.Restored.{residual_at};
 
 use arrayvec::ArrayVec;
 use rice_samples::{Setting, from_pattern, from_patterns, restore_all};
 
-/// Gives a vector so many items, whichever these are: the last block's where it had as many.
+/// Sets the length to `len`; the contents are unspecified.
 #[inline]
 fn set_len(samples: &mut ArrayVec<i64, 64>, len: usize)
     requires { len ≤ 64 }
@@ -24,7 +25,7 @@ fn set_len(samples: &mut ArrayVec<i64, 64>, len: usize)
     }
 }
 
-/// Writes the samples of a block that says this, behind p.
+/// Writes the samples of the block with this reference sample and these residuals, after sample `p`.
 fn write_block(
     setting: &Setting,
     block: u64,
@@ -35,13 +36,14 @@ fn write_block(
 )
     requires p { IsSample setting.now p }
     requires legal { IsLegal setting.now }
-    requires form { IsBlock setting.now block (record { reference = reference; residuals = residuals.now }) }
-    requires zero { IsZeroAtReference (record { reference = reference; residuals = residuals.now }) }
-    requires fit { AllFit setting.now (record { reference = reference; residuals = residuals.now }) }
+    requires form { IsBlock setting.now block (block_with reference residuals.now) }
+    requires zero { IsZeroAtReference (block_with reference residuals.now) }
+    requires fit { AllFit setting.now (block_with reference residuals.now) }
     requires len { length samples.old ≡ setting.now.block }
     ensures len { length samples.new ≡ setting.now.block }
     ensures legal { All (IsSample setting.now) samples.new }
-    ensures contents { block_data setting.now block p samples.new ≡ record { reference = reference; residuals = residuals.now } }
+    ensures contents { block_data setting.now block p samples.new
+        ≡ block_with reference residuals.now }
 {
     match reference {
         Some(value) => {
@@ -54,7 +56,8 @@ fn write_block(
     }
 }
 
-/// The samples of a block that says this, behind p.
+/// Restores the samples of the block with this reference sample and these residuals, after sample `p`. Returns the last
+/// of them.
 pub fn restore_block(
     setting: &Setting,
     block: u64,
@@ -64,12 +67,13 @@ pub fn restore_block(
     samples: &mut ArrayVec<i64, 64>,
 ) -> i64
     requires p { IsSample setting.now p }
-    requires form { IsBlock setting.now block (record { reference = reference; residuals = residuals.now }) }
-    requires zero { IsZeroAtReference (record { reference = reference; residuals = residuals.now }) }
-    requires fit { AllFit setting.now (record { reference = reference; residuals = residuals.now }) }
+    requires form { IsBlock setting.now block (block_with reference residuals.now) }
+    requires zero { IsZeroAtReference (block_with reference residuals.now) }
+    requires fit { AllFit setting.now (block_with reference residuals.now) }
     ensures len { length samples.new.items ≡ setting.now.block }
     ensures legal { All (IsSample setting.now) samples.new.items }
-    ensures contents { block_data setting.now block p samples.new.items ≡ record { reference = reference; residuals = residuals.now } }
+    ensures contents { block_data setting.now block p samples.new.items
+        ≡ block_with reference residuals.now }
     ensures last { result ≡ last_of p samples.new.items }
     ensures sample { IsSample setting.now result }
 {
@@ -86,7 +90,7 @@ pub fn restore_block(
     samples.as_slice()[size - 1]
 }
 
-/// The sample that a block of zeros behind p begins with.
+/// Returns the first sample of a zero block after sample `p`.
 fn sample_of_zero(setting: &Setting, reference: Option<u32>, p: i64) -> i64
     requires p { IsSample setting.now p }
     requires reference { IfSome reference (λ v. v < value_count setting.now) }
@@ -102,7 +106,7 @@ fn sample_of_zero(setting: &Setting, reference: Option<u32>, p: i64) -> i64
     }
 }
 
-/// Writes a sample to all places.
+/// Writes `value` to all places.
 #[inline]
 fn fill_all(samples: &mut [i64], value: i64)
     ensures { samples.new ≡ replicate (length samples.old) value }
@@ -114,7 +118,8 @@ fn fill_all(samples: &mut [i64], value: i64)
     }
 }
 
-/// The samples of a block of zeros, behind p: the reference where there is one, or p, again and again.
+/// Restores the samples of a zero block after sample `p`: each is the reference sample, or `p` if there is none. Returns
+/// the last of them.
 pub fn restore_zeros(
     setting: &Setting,
     block: u64,
@@ -126,7 +131,8 @@ pub fn restore_zeros(
     requires reference { IsReference setting.now block reference }
     ensures len { length samples.new.items ≡ setting.now.block }
     ensures legal { All (IsSample setting.now) samples.new.items }
-    ensures contents { block_data setting.now block p samples.new.items ≡ zero_block setting.now reference }
+    ensures contents { block_data setting.now block p samples.new.items
+        ≡ zero_block setting.now reference }
     ensures last { result ≡ last_of p samples.new.items }
     ensures sample { IsSample setting.now result }
 {

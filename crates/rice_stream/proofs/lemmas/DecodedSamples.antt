@@ -52,7 +52,7 @@ behind_nothing s = record {
   len = omega arith;
   legal = λ k d lt. absurd (omega arith);
   sound = tt;
-  goes_on = λ (wanted : Option ℕ) (more : List ℤ) (rest : List Bool) (ys : List ℤ) (ending : Ending) (used : ℕ) goes run d. at wanted more rest ys ending used (no_samples more (s.block * 0) run.len (omega arith)) d;
+  goes_on = λ (wanted : Option ℕ) (more : List ℤ) (rest : List Bool) (ys : List ℤ) (ending : Ending) (used : ℕ) follows. at wanted more rest ys ending used (no_samples more (s.block * 0) follows.of_run.len (omega arith)) follows.next;
 }
   where
     at : (wanted : Option ℕ) (more : List ℤ) (rest : List Bool) (ys : List ℤ) (ending : Ending) (used : ℕ) → more ≡ [] → DecodedFrom s (0 + 0) 0 (last_of (pos 0) more) rest wanted ys ending used →
@@ -94,8 +94,8 @@ behind_set s front skipped begun b run all xs d legal behind before form sound r
       len = length-append all xs ∙ (λ i. behind.len i + gives.len i) ∙ more_one;
       legal = All-append (IsSample s) all xs behind.legal gives.legal;
       sound = all_sound.1;
-      goes_on = λ (wanted : Option ℕ) (more : List ℤ) (rest : List Bool) (ys : List ℤ) (ending : Ending) (used : ℕ) (goes : (i : ℕ) → i < b + 1 → IsWanted s wanted i) (run_of : AreOfRun s (b + 1) (last_of (pos 0) (all ++ xs)) run more) next.
-          on wanted more rest ys ending used goes (subst (λ (q : ℤ). AreOfRun s (b + 1) q run more) (last_append (pos 0) all xs) run_of) next;
+      goes_on = λ (wanted : Option ℕ) (more : List ℤ) (rest : List Bool) (ys : List ℤ) (ending : Ending) (used : ℕ) follows.
+          on wanted more rest ys ending used follows.begun_wanted (subst (λ (q : ℤ). AreOfRun s (b + 1) q run more) (last_append (pos 0) all xs) follows.of_run) follows.next;
     }
   where
     t : List Bool
@@ -123,7 +123,7 @@ behind_set s front skipped begun b run all xs d legal behind before form sound r
         let back : DecodedFrom s (b + 0) (length front) (last_of (pos 0) (all ++ [])) (t ++ (skipped ++ rest)) wanted (cut_to s wanted b zs ++ ys) ending (length set + used) =
         subst (λ (l : List ℤ). DecodedFrom s (b + 0) (length front) (last_of (pos 0) l) (t ++ (skipped ++ rest)) wanted (cut_to s wanted b zs ++ ys) ending (length set + used)) (sym again)
         (subst (λ (n : ℕ). DecodedFrom s n (length front) p (t ++ (skipped ++ rest)) wanted (cut_to s wanted b zs ++ ys) ending (length set + used)) at here) in
-        let all_of = behind.goes_on wanted [] (t ++ (skipped ++ rest)) (cut_to s wanted b zs ++ ys) ending (length set + used) (λ i lt. goes i (omega arith)) none back in
+        let all_of = behind.goes_on wanted [] (t ++ (skipped ++ rest)) (cut_to s wanted b zs ++ ys) ending (length set + used) (record { begun_wanted = λ i lt. goes i (omega arith); of_run = none; next = back }) in
         let samples : cut_to s wanted 0 (all ++ []) ++ (cut_to s wanted b zs ++ ys) ≡ cut_to s wanted 0 ((all ++ xs) ++ more) ++ ys =
         ap (λ l. cut_to s wanted 0 l ++ (cut_to s wanted b zs ++ ys)) again ∙ sym (append_assoc (cut_to s wanted 0 all) (cut_to s wanted b zs) ys)
         ∙ ap (λ l. l ++ ys) (sym (cut_more s wanted b all zs behind.len) ∙ ap (cut_to s wanted 0) (sym (append_assoc all xs more))) in
@@ -143,8 +143,8 @@ behind_run s front begun b run left all xs behind gives =
       len = length-append all xs ∙ (λ i. behind.len i + gives.len i) ∙ more_one;
       legal = All-append (IsSample s) all xs behind.legal gives.legal;
       sound = all_sound.1;
-      goes_on = λ (wanted : Option ℕ) (more : List ℤ) (rest : List Bool) (ys : List ℤ) (ending : Ending) (used : ℕ) (goes : (i : ℕ) → i < begun → IsWanted s wanted i) (run_of : AreOfRun s (b + 1) (last_of (pos 0) (all ++ xs)) left more) next.
-          on wanted more rest ys ending used goes (subst (λ (q : ℤ). AreOfRun s (b + 1) q left more) (last_append (pos 0) all xs) run_of) next;
+      goes_on = λ (wanted : Option ℕ) (more : List ℤ) (rest : List Bool) (ys : List ℤ) (ending : Ending) (used : ℕ) follows.
+          on wanted more rest ys ending used follows.begun_wanted (subst (λ (q : ℤ). AreOfRun s (b + 1) q left more) (last_append (pos 0) all xs) follows.of_run) follows.next;
     }
   where
     zero_blocks : List BlockData
@@ -166,7 +166,7 @@ behind_run s front begun b run left all xs behind gives =
         let there : DecodedFrom s (b + run) (length front) (last_of (pos 0) (all ++ zs)) rest wanted ys ending used =
         subst (λ (m : ℕ). DecodedFrom s m (length front) (last_of (pos 0) (all ++ zs)) rest wanted ys ending used) place
         (subst (λ (l : List ℤ). DecodedFrom s (b + 1 + left) (length front) (last_of (pos 0) l) rest wanted ys ending used) both next) in
-        subst (λ (l : List ℤ). Decoded s (front ++ rest) wanted (cut_to s wanted 0 l ++ ys) ending (length front + used)) (sym both) (behind.goes_on wanted zs rest ys ending used goes of_run there)
+        subst (λ (l : List ℤ). Decoded s (front ++ rest) wanted (cut_to s wanted 0 l ++ ys) ending (length front + used)) (sym both) (behind.goes_on wanted zs rest ys ending used (record { begun_wanted = goes; of_run = of_run; next = there }))
 
 -- what the bits end with is all
 at_end : (s : Parameters) (b position : ℕ) (p : ℤ) (rest : List Bool) (wanted : Option ℕ) (ending : Ending) (used : ℕ) → EndsWith s wanted b rest ending used → DecodedFrom s b position p rest wanted [] ending used
@@ -194,7 +194,11 @@ ends_behind : (s : Parameters) (front rest : List Bool) (begun b run : ℕ) (all
     EndsWith s wanted (b + run) rest ending used → Decoded s (front ++ rest) wanted (cut_to s wanted 0 (all ++ more)) ending (length front + used)
 ends_behind s front rest begun b run all more wanted ending used behind goes of_run ends =
     subst (λ (l : List ℤ). Decoded s (front ++ rest) wanted l ending (length front + used)) (append-nil (cut_to s wanted 0 (all ++ more)))
-    (behind.goes_on wanted more rest [] ending used goes of_run (at_end s (b + run) (length front) (last_of (pos 0) (all ++ more)) rest wanted ending used ends))
+    (behind.goes_on wanted more rest [] ending used (record {
+      begun_wanted = goes;
+      of_run = of_run;
+      next = at_end s (b + run) (length front) (last_of (pos 0) (all ++ more)) rest wanted ending used ends;
+    }))
 
 -- it ends where no run goes on
 pub ends_here : (s : Parameters) (front rest : List Bool) (begun b : ℕ) (all : List ℤ) (wanted : Option ℕ) (ending : Ending) (used : ℕ) → DecodedSoFar s front begun b 0 all → ((i : ℕ) → i < begun → IsWanted s wanted i) → EndsWith s wanted b rest ending used →

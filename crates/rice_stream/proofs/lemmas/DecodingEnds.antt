@@ -1,6 +1,6 @@
 -- How decoding ends.
 use Rattle.std.proofs.Common.{◌≡◌, ◌≢◌, ℕ, zero, suc, ◌+◌, ◌-◌, ◌*◌, ◌/◌, ◌%◌, ◌<◌, ◌≤◌, ◌==◌, ◌⊎◌, cond, min, Bool, true, false, List, [], ◌∷◌, ◌++◌, length, take, refl, ap, arith, sym, ◌∙◌, subst, append_assoc, append-nil, length-append, Option, Some, None, ℤ, pos, inl, inr}
-use Rattle.std.specs.Prelude.{Err, All, Contains, IfSome}
+use Rattle.std.specs.Prelude.{◌^◌, Err, sum_by, All, Contains, IfSome}
 use Rattle.std.specs.Io.KnownBytes.{Appends, Consumes, IsAtEnd}
 use Rattle.std.proofs.KnownBytes.{Appends-nil, Appends-trans, Consumes-nil, Consumes-trans}
 use Rattle.std.proofs.Math.Nat.{mod-lt, mod-eq_of_lt, mod_self, mul-div_cancel_left, mul-le-mul_left}
@@ -10,7 +10,8 @@ use Rattle.std.proofs.Math.Seq.{take-length, take-append_seam}
 use Rattle.std.proofs.lemmas.List.{length-take-le, length-take}
 use Rattle.rice_stream.proofs.lemmas.EncodingLemmas.{part_between}
 use Rattle.rice_bits.specs.Bits.{bits_of}
-use Rattle.rice_bits.specs.read.Reader.{Reader, Stops, is_blank}
+use Rattle.rice_bits.specs.read.Reader.{Reader, Draws, is_blank, new_reader}
+use Rattle.rice_bits.specs.read.Window.{most_at_once, most_waiting}
 use Rattle.rice_bits.specs.declared.read.fault.BitFault.{BitFault}
 use Rattle.rice_bits.specs.declared.read.fault.BitFault.TheVariants as bit_faults
 use Rattle.rice_bits.proofs.lemmas.bits.Bytes.{bits_of-nil, bits_of-append, length-bits_of}
@@ -21,7 +22,7 @@ use Rattle.rice_samples.specs.bytes.Spelling.{spellings}
 use Rattle.rice_code.specs.code.Decoded.{Decoded, Ending, EndsWith, Reached, Ended, CutOff, Past, Large, BeginsUnsound, IsWanted, cut_to}
 use Rattle.rice_code.proofs.lemmas.code.Filling.{last_append}
 use Rattle.rice_code.proofs.lemmas.code.BlockPlaces.{place_step}
-use Rattle.rice_code.specs.code.CodedDataSets.{CodedDataSet, bits_of_set}
+use Rattle.rice_code.specs.code.CodedDataSets.{CodedDataSet, bits_of_set, turns}
 use Rattle.rice_code.specs.decode.Decoder.{StopsBy, SetEnds, SetRefused, with_mark}
 use Rattle.rice_code.specs.decode.DecoderState.{DecoderState, state_after_block, next_block_place}
 use Rattle.rice_code.specs.code.Forms.{IsForm, RunIsSound, ResidualsAreSound}
@@ -29,14 +30,16 @@ use Rattle.rice_code.specs.decode.ReadSets.{SetCut}
 use Rattle.rice_code.specs.declared.decode.fault.CodeFault.{CodeFault}
 use Rattle.rice_code.specs.declared.decode.fault.CodeFault.TheVariants as faults
 use Rattle.rice_stream.specs.Calls.{Call, Happens, Fails, StopsBetween, PassesLimit}
-use Rattle.rice_stream.specs.Decodes.{Decodes, EndsDecoding, DecodesBytes, RunsOut, FailsInBlock, at_most, wanted_of, ended_fault, refusal_fault}
-use Rattle.rice_stream.specs.DecodingState.{DecodedSoFar, Gains, DecodingProgress}
+use Rattle.rice_stream.specs.Decodes.{CountsSteps, Decodes, Reports, EndsDecoding, DecodesBytes, RunsOut, FailsInBlock, at_most, wanted_of, ended_fault, refusal_fault}
+use Rattle.rice_stream.specs.DecodingState.{DecodedSoFar, Gains, DecodingProgress, HasRead, HasSets}
 use Rattle.rice_stream.specs.Writes.{TakesPart}
 use Rattle.rice_stream.specs.declared.outcome.Report.{Report}
 use Rattle.rice_stream.specs.declared.outcome.Fault.{Fault}
 use Rattle.rice_stream.specs.declared.outcome.Fault.TheVariants.{Read, Write, TooLong, CodeEnds, RunPastSegment, ResidualTooLarge}
 use Rattle.rice_stream.proofs.lemmas.DecodedSamples.{behind_nothing, ends_here, ends_reached, cut_nothing, cut_more, cut_none}
 use Rattle.rice_stream.proofs.lemmas.DecodingLemmas.{still_asked}
+use Rattle.rice_stream.proofs.lemmas.SetsRead.{sets-none}
+use Rattle.rice_code.specs.decode.Fields.{AreCounted}
 use Rattle.rice_stream.proofs.lemmas.SpellingLengths.{spellings-append}
 
 -- more samples are wanted than are written
@@ -78,119 +81,196 @@ pub most_wanted : (asked : Option ℕ) (written block : ℕ) → wanted_of asked
 most_wanted None written block = omega arith
 most_wanted (Some n) written block = omega arith
 
+-- with a count of 0 no sample is wanted
+nothing_wanted : (written block : ℕ) → wanted_of (Some 0) written block ≡ 0
+nothing_wanted written block = omega arith
+
+-- the fault that is reported, in another form
+pub reports_as : {I : Type 0} {rep : Report} {f fault known : Option Fault} {left : Option (List ℕ)} {failed : ℕ} {reader : Reader I} {samples steps : ℕ} → fault ≡ known → Reports rep f left failed reader samples steps fault → Reports rep f left failed reader samples steps known
+reports_as {rep = rep} {f = f} {left = left} {failed = failed} {reader = reader} {samples = samples} {steps = steps} is r = subst (λ (k : Option Fault). Reports rep f left failed reader samples steps k) is r
+
+-- a block's samples are wanted
+pub wants : (asked : Option ℕ) (written : ℕ) {size count block : ℕ} → count ≡ wanted_of asked written size → size ≡ block → count ≢ 0 → wanted_of asked written block ≢ 0
+wants asked written e f some none = some (e ∙ ap (wanted_of asked written) f ∙ none)
+
+-- more bits were taken
+has_read-append : {start left left_new : Option (List ℕ)} {waiting waiting_new front bits : List Bool} {taken taken_new : ℕ} → HasRead start left waiting taken front → Draws left left_new waiting waiting_new bits → taken_new ≡ taken + length bits
+    → HasRead start left_new waiting_new taken_new (front ++ bits)
+has_read-append {start = start} {left = left} {left_new = left_new} {waiting = waiting} {waiting_new = waiting_new} {front = front} {bits = bits} r d e = record {
+  bytes = r.bytes ++ d.given;
+  gave = Consumes-trans start left left_new r.bytes d.given r.gave d.consumed;
+  bits = bits_of-append r.bytes d.given ∙ ap (λ l. l ++ bits_of d.given) r.bits ∙ append_assoc front waiting (bits_of d.given) ∙ ap (λ l. front ++ l) d.split ∙ sym (append_assoc front bits waiting_new);
+  count = e ∙ ap (λ n. n + length bits) r.count ∙ sym (length-append front bits);
+}
+
 -- how the numbers of a decoding grow with a block
-pub record Grows (old_steps new_steps old_taken new_taken written wanted run run_new block : ℕ) : Type 0 where
-  pub limit : new_taken ≤ 4503599627370496
-  pub forward : old_taken ≤ new_taken
-  pub least : old_steps + new_taken + wanted ≤ new_steps + old_taken
-  pub most : new_steps + 2 * old_taken ≤ old_steps + 2 * new_taken + wanted
-  pub few : block + run_new * block ≤ run * block + 456 * (new_taken - old_taken)
+pub record Grows (steps tick old_taken new_taken wanted run run_new size : ℕ) : Type 0 where
+  pub counted : AreCounted steps tick old_taken new_taken
+  pub few : size + run_new * size ≤ run * size + 456 * (new_taken - old_taken)
 
 -- a block more is written
-pub runs_more : {I : Type 0} (left : I → Option (List ℕ)) (failed : I → ℕ) (s : Parameters) (asked : Option ℕ) (start : I) (out_old out out_new : Option (List ℕ)) (p q : DecoderState) (r new : Reader I) (steps written steps_new : ℕ) (xs : List ℤ) → IsLegal s →
-    (runs : DecodingProgress left failed s asked start out_old out p r steps written) → wanted_of asked written s.block ≢ 0 → Gains left failed s r new runs.front runs.blocks q.run runs.given xs → q ≡ state_after_block p xs q.run →
-    Grows steps steps_new r.taken new.taken written (wanted_of asked written s.block) p.run q.run s.block → Appends out out_new (spellings s (take (wanted_of asked written s.block) xs)) →
-    DecodingProgress left failed s asked start out_old out_new q new steps_new (written + wanted_of asked written s.block)
-runs_more left failed s asked start out_old out out_new p q r new steps written steps_new xs legal runs some gains moves grows put =
+pub runs_more : {I : Type 0} {s : Parameters} {asked : Option ℕ} {start : Reader I} {out_old out out_new : Option (List ℕ)} {p q : DecoderState} {r new : Reader I} {steps steps_new written : ℕ} {xs : List ℤ} (count steps_next : ℕ) → IsLegal s
+    → (runs : DecodingProgress s asked start out_old out p r steps written) → count ≡ wanted_of asked written s.block → wanted_of asked written s.block ≢ 0
+    → Gains s r new steps steps_new runs.front runs.sets runs.blocks q.run runs.given xs → q ≡ state_after_block p xs q.run
+    → Grows steps steps_new r.taken new.taken count p.run q.run s.block → steps_next ≡ steps_new + count
+    → Appends out out_new (spellings s (take count xs))
+    → DecodingProgress s asked start out_old out_new q new steps_next (written + count)
+runs_more {s = s} {asked = asked} {start = start} {out_old = out_old} {out = out} {out_new = out_new} {p = p} {q = q} {r = r} {new = new} {steps = steps} {steps_new = steps_new} {written = written} {xs = xs} count steps_next legal runs is some gained moves grows ticked put =
     let b = runs.blocks in
-    let goes = goes_on s asked b written runs.given runs.behind.len runs.count some in
-    let so_far = all_written s asked b written runs.given runs.behind.len runs.count goes in
-    let draws = gains.draws in
-    let part = wanted_part s asked b written xs so_far.0 gains.len in
-    let cut = cut_more s asked b runs.given xs runs.behind.len in
-    let most = most_wanted asked written s.block in
+    let at = runs.at_block in
+    let so = runs.has_written in
+    let w = wanted_of asked written s.block in
+    let goes = goes_on s asked b written runs.given runs.decoded.len so.count some in
+    let so_far = all_written s asked b written runs.given runs.decoded.len so.count goes in
+    let part : take count xs ≡ cut_to s asked b xs = ap (λ n. take n xs) is ∙ wanted_part s asked b written xs so_far.0 gained.len in
+    let cut = cut_more s asked b runs.given xs runs.decoded.len in
+    let most : count ≤ s.block = omega (arith, is, most_wanted asked written s.block) in
+    let end : b + 1 + q.run ≡ b + 1 + q.run = refl in
     record {
       blocks = b + 1;
-      bytes = runs.bytes ++ draws.given;
-      front = runs.front ++ gains.bits;
+      front = runs.front ++ gained.bits;
       given = runs.given ++ xs;
-      setting = ap (λ p. p.setting) moves ∙ runs.setting;
-      here = next_here s b p.block legal runs.here ∙ ap (λ t. next_block_place t p.block) (sym runs.setting) ∙ sym (ap (λ p. p.block) moves);
-      previous = ap (λ p. p.before) moves ∙ ap (λ z. last_of z xs) runs.previous ∙ sym (last_append (pos 0) runs.given xs);
-      going = ap (λ p. p.stopped) moves ∙ runs.going;
-      reader_going = gains.going;
-      gave = Consumes-trans (left start) (left r.intake) (left new.intake) runs.bytes draws.given runs.gave draws.consumed;
-      bits = bits_of-append runs.bytes draws.given ∙ ap (λ l. l ++ bits_of draws.given) runs.bits ∙ append_assoc runs.front r.waiting (bits_of draws.given) ∙ ap (λ l. runs.front ++ l) draws.split ∙ sym (append_assoc runs.front gains.bits new.waiting);
-      taken = gains.taken ∙ ap (λ n. n + length gains.bits) runs.taken ∙ sym (length-append runs.front gains.bits);
-      limit = grows.limit;
-      begun = gains.begun;
-      before = gains.before;
-      behind = gains.behind;
-      wanted = λ i lt. one_more_wanted s asked b i runs.wanted goes lt;
-      count = so_many (wanted_of asked written s.block) (omega (arith, most, gains.len)) (ap length (sym part)) cut;
-      few = omega (arith, runs.few, grows.few, grows.forward, most);
-      asked_for = still_asked asked written s.block runs.asked_for;
-      least = omega (arith, grows.least, runs.least);
-      most = omega (arith, grows.most, runs.most);
-      reads = gains.failures ∙ runs.reads;
-      put = subst (λ (l : List ℕ). Appends out_old out_new l) (ap (λ l. spellings s (cut_to s asked 0 runs.given) ++ spellings s l) part ∙ sym (spellings-append s (cut_to s asked 0 runs.given) (cut_to s asked b xs)) ∙ ap (spellings s) (sym cut))
-          (Appends-trans out_old out out_new (spellings s (cut_to s asked 0 runs.given)) (spellings s (take (wanted_of asked written s.block) xs)) runs.put put);
+      sets = gained.more_sets;
+      begun = gained.begun;
+      at_block = record {
+        setting = ap (λ p. p.setting) moves ∙ at.setting;
+        here = next_here s b p.block legal at.here ∙ ap (λ t. next_block_place t p.block) (sym at.setting) ∙ sym (ap (λ p. p.block) moves);
+        previous = ap (λ p. p.before) moves ∙ ap (λ z. last_of z xs) at.previous ∙ sym (last_append (pos 0) runs.given xs);
+        going = ap (λ p. p.stopped) moves ∙ at.going;
+      };
+      going = gained.going;
+      reads = gained.failures ∙ runs.reads;
+      idle = λ none. absurd (some (ap (λ asked. wanted_of asked written s.block) none ∙ nothing_wanted written s.block));
+      limit = grows.counted.limit;
+      has_read = has_read-append runs.has_read gained.draws gained.taken;
+      has_sets = gained.has_sets;
+      before = gained.before;
+      decoded = gained.decoded;
+      has_written = record {
+        wanted = λ i lt. one_more_wanted asked b i so.wanted goes lt;
+        count = so_many count (omega (arith, most, gained.len)) (ap length (sym part)) cut;
+        asked_for = subst (λ (n : ℕ). IfSome asked (λ m. written + n ≤ m)) (sym is) (still_asked asked written s.block so.asked_for);
+        put = subst (λ (l : List ℕ). Appends out_old out_new l) (ap (λ l. spellings s (cut_to s asked 0 runs.given) ++ spellings s l) part ∙ sym (spellings-append s (cut_to s asked 0 runs.given) (cut_to s asked b xs)) ∙ ap (spellings s) (sym cut))
+            (Appends-trans out_old out out_new (spellings s (cut_to s asked 0 runs.given)) (spellings s (take count xs)) so.put put);
+      };
+      has_steps = record {
+        count = omega (arith, runs.has_steps.count, gained.counted, ticked);
+        most = omega (arith, runs.has_steps.most, grows.counted.most, ticked);
+        by_bits = omega (arith, runs.has_steps.by_bits, grows.few, grows.counted.forward, most);
+      };
     }
   where
-    one_more_wanted : (s : Parameters) (asked : Option ℕ) (b i : ℕ) → ((i : ℕ) → i < b → IsWanted s asked i) → IsWanted s asked b → i < b + 1 → IsWanted s asked i
-    one_more_wanted s None b i h k lt = tt
-    one_more_wanted s (Some n) b i h k lt = let le : s.block * i ≤ s.block * b = mul-le-mul_left s.block (omega arith) in let k' : s.block * b < n = k in omega arith
+    one_more_wanted : (asked : Option ℕ) (b i : ℕ) → ((i : ℕ) → i < b → IsWanted s asked i) → IsWanted s asked b → i < b + 1 → IsWanted s asked i
+    one_more_wanted None b i h k lt = tt
+    one_more_wanted (Some n) b i h k lt = let le : s.block * i ≤ s.block * b = mul-le-mul_left s.block (omega arith) in let k' : s.block * b < n = k in omega arith
 
     so_many : (w : ℕ) → w ≤ length xs → length (cut_to s asked runs.blocks xs) ≡ length (take w xs) → cut_to s asked 0 (runs.given ++ xs) ≡ cut_to s asked 0 runs.given ++ cut_to s asked runs.blocks xs → written + w ≡ length (cut_to s asked 0 (runs.given ++ xs))
-    so_many w le part cut = omega (arith, runs.count, ap length cut, length-append (cut_to s asked 0 runs.given) (cut_to s asked runs.blocks xs), part, length-take-le w xs le)
-
--- what a report tells of a decoding
-pub record Tells (r : Report) (samples bits steps : ℕ) : Type 0 where
-  pub samples_are : r.samples ≡ samples
-  pub bits_are : r.bits ≡ bits
-  pub steps_are : r.steps ≡ steps
+    so_many w le part cut = omega (arith, runs.has_written.count, ap length cut, length-append (cut_to s asked 0 runs.given) (cut_to s asked runs.blocks xs), part, length-take-le w xs le)
 
 -- the call and what it says
 abbrev pub Ends : Parameters → Option ℕ → Option (List ℕ) → Option (List ℕ) → Option (List ℕ) → Option (List ℕ) → Report → Option Fault → Type 0
 Ends s asked left_old left_new out_old out r fault = (c : Call) × Happens left_old left_new out_old out c × Decodes s asked c r fault
 
--- at most 4,096 bytes are given ahead
-ahead : (bytes : List ℕ) (front waiting : List Bool) (bits : ℕ) → bits_of bytes ≡ front ++ waiting → length waiting ≤ 32768 → bits ≡ length front → length bytes ≤ bits / 8 + 4096
-ahead bytes front waiting bits e few n = let a = length-bits_of bytes in let b = ap length e in let c = length-append front waiting in omega arith
+-- What is known of a call where it ends, whatever its fault: what the intake gave, the samples, the numbers and the steps.
+record Exits (s : Parameters) (asked : Option ℕ) (start left out_old out : Option (List ℕ)) (rep : Report) (bytes written : List ℕ) : Type 0 where
+  pub gave : Consumes start left bytes
+  pub took : Appends out_old out written
+  pub ahead : length bytes ≤ rep.bits / 8 + most_at_once
+  pub steps : CountsSteps s (bits_of bytes) rep
+
+-- the call ends so
+exit : {s : Parameters} {asked : Option ℕ} {start left out_old out : Option (List ℕ)} {rep : Report} {f : Option Fault} {bytes written : List ℕ} (left_new : Option (List ℕ)) (ys : List ℤ) (ending : Ending) (fault : Option Fault)
+    → Exits s asked start left out_old out rep bytes written → left_new ≡ left → f ≡ fault → (fault ≢ Some TooLong → length bytes ≤ 2 ^ 49)
+    → EndsDecoding s asked fault (record { given = bytes; left = left; written = written }) rep ys ending → Ends s asked start left_new out_old out rep f
+exit {s = s} {asked = asked} {start = start} {left = left} {out_old = out_old} {out = out} {rep = rep} {f = f} {bytes = bytes} {written = written} left_new ys ending fault e there is limit ends =
+    subst (λ (l : Option (List ℕ)). Ends s asked start l out_old out rep f) (sym there)
+    (subst (λ (f : Option Fault). Ends s asked start left out_old out rep f) (sym is) (
+      record { given = bytes; left = left; written = written },
+      record { gave = e.gave; left = refl; took = e.took },
+      record { samples = ys; ending = ending; ends = ends; ahead = e.ahead; limit = limit; steps = e.steps },
+    ))
+
+-- what is given ahead of the bits that were taken is limited
+within : {start left : Option (List ℕ)} {waiting front : List Bool} {taken : ℕ} → (read : HasRead start left waiting taken front) → length waiting ≤ most_waiting → taken + length waiting ≤ 2 ^ 52
+    → (length read.bytes ≤ taken / 8 + most_at_once) × (length read.bytes ≤ 2 ^ 49)
+within {waiting = waiting} {front = front} read few limit =
+    let a = length-bits_of read.bytes in
+    let b = ap length read.bits in
+    let c = length-append front waiting in
+    (omega (arith, read.count), omega (arith, read.count))
 
 -- the coded data sets so far are wanted
-begun_wanted : {I : Type 0} (left : I → Option (List ℕ)) (failed : I → ℕ) (s : Parameters) (asked : Option ℕ) (start : I) (out_old out : Option (List ℕ)) (p : DecoderState) (r : Reader I) (steps written : ℕ) → (runs : DecodingProgress left failed s asked start out_old out p r steps written) → (i : ℕ) → i < runs.begun → IsWanted s asked i
-begun_wanted left failed s asked start out_old out p r steps written runs i lt = runs.wanted i (omega (arith, lt, runs.before))
+begun_wanted : {I : Type 0} {s : Parameters} {asked : Option ℕ} {start : Reader I} {out_old out : Option (List ℕ)} {p : DecoderState} {r : Reader I} {steps written : ℕ} → (runs : DecodingProgress s asked start out_old out p r steps written) → (i : ℕ) → i < runs.begun → IsWanted s asked i
+begun_wanted runs i lt = runs.has_written.wanted i (omega (arith, lt, runs.before))
 
 -- no run goes on
-pub at_set : {I : Type 0} (left : I → Option (List ℕ)) (failed : I → ℕ) (s : Parameters) (asked : Option ℕ) (start : I) (out_old out : Option (List ℕ)) (p : DecoderState) (r : Reader I) (steps written : ℕ) → (runs : DecodingProgress left failed s asked start out_old out p r steps written) → p.run ≡ 0 → DecodedSoFar s runs.front runs.begun runs.blocks 0 runs.given
-at_set left failed s asked start out_old out p r steps written runs none = subst (λ (n : ℕ). DecodedSoFar s runs.front runs.begun runs.blocks n runs.given) none runs.behind
+at_set : {I : Type 0} {s : Parameters} {asked : Option ℕ} {start : Reader I} {out_old out : Option (List ℕ)} {p : DecoderState} {r : Reader I} {steps written : ℕ} → (runs : DecodingProgress s asked start out_old out p r steps written) → p.run ≡ 0 → DecodedSoFar s runs.front runs.begun runs.blocks 0 runs.given
+at_set {s = s} runs none = subst (λ (n : ℕ). DecodedSoFar s runs.front runs.begun runs.blocks n runs.given) none runs.decoded
+
+-- the steps where decoding ends with a whole coded data set
+whole_steps : {s : Parameters} {rep : Report} {sets : List CodedDataSet} {front : List Bool} {blocks : ℕ} (waiting : List Bool) (bytes : List ℕ) → HasSets s sets front blocks → bits_of bytes ≡ front ++ waiting → rep.bits ≡ length front
+    → rep.steps ≡ rep.bits + rep.samples + sum_by turns sets → CountsSteps s (bits_of bytes) rep
+whole_steps {sets = sets} {front = front} waiting bytes has bits count steps =
+    let whole = append-nil front in
+    record {
+      sets = sets;
+      front = front;
+      last = [];
+      rest = waiting;
+      parts = bits ∙ ap (λ l. l ++ waiting) (sym whole);
+      lie = has.lie;
+      sound = has.sound;
+      ending = Reached;
+      ends = inl refl;
+      bits_taken = count ∙ ap length (sym whole);
+      turns_in_last = 0;
+      few = omega arith;
+      steps = omega (arith, steps);
+    }
+
+-- the steps where it ends with bits that are no sound coded data set
+last_steps : {s : Parameters} {rep : Report} {sets : List CodedDataSet} {front : List Bool} {blocks : ℕ} (last waiting : List Bool) (bytes : List ℕ) (ending : Ending) (steps new_steps taken new_taken written : ℕ) → HasSets s sets front blocks → bits_of bytes ≡ (front ++ last) ++ waiting
+    → EndsWith s None blocks last ending (length last) → AreCounted steps new_steps taken new_taken → steps ≡ taken + written + sum_by turns sets → new_taken ≡ taken + length last → new_taken ≡ length (front ++ last)
+    → rep.bits ≡ new_taken → rep.samples ≡ written → rep.steps ≡ new_steps → CountsSteps s (bits_of bytes) rep
+last_steps {s = s} {sets = sets} {front = front} last waiting bytes ending steps new_steps taken new_taken written has bits ends counted before more count bits_are samples_are steps_are =
+    record {
+      sets = sets;
+      front = front;
+      last = last;
+      rest = waiting;
+      parts = bits;
+      lie = has.lie;
+      sound = has.sound;
+      ending = ending;
+      ends = inr (subst (λ (n : ℕ). EndsWith s None n last ending (length last)) (sym has.end) ends);
+      bits_taken = bits_are ∙ count;
+      turns_in_last = new_steps - steps - length last;
+      few = omega (arith, counted.most, more);
+      steps = omega (arith, counted.least, more, before, bits_are, samples_are, steps_are);
+    }
 
 -- the samples that were asked for are reached
-pub reached_ends : {I : Type 0} (left : I → Option (List ℕ)) (failed : I → ℕ) (s : Parameters) (asked : Option ℕ) (start : I) (out_old out : Option (List ℕ)) (p : DecoderState) (r : Reader I) (steps written : ℕ) (rep : Report) (f : Option Fault) → IsLegal s →
-    (runs : DecodingProgress left failed s asked start out_old out p r steps written) → wanted_of asked written s.block ≡ 0 → Tells rep written r.taken steps → length r.waiting ≤ 32768 → f ≡ None → Ends s asked (left start) (left r.intake) out_old out rep f
-reached_ends left failed s None start out_old out p r steps written rep f legal runs none tells few is = absurd (let j : 8 ≤ s.block = grind (arith, legal.block) in omega arith)
-reached_ends left failed s (Some n) start out_old out p r steps written rep f legal runs none tells few is =
+pub reached_ends : {I : Type 0} {s : Parameters} {asked : Option ℕ} {start : Reader I} {out_old out : Option (List ℕ)} {p : DecoderState} {r : Reader I} {steps written : ℕ} {rep : Report} {f : Option Fault} {left : Option (List ℕ)} {failed : ℕ} → IsLegal s
+    → (runs : DecodingProgress s asked start out_old out p r steps written) → wanted_of asked written s.block ≡ 0 → Reports rep f left failed r written steps None → Ends s asked start.left left out_old out rep f
+reached_ends {s = s} {asked = None} legal runs none tells = absurd (let j : 8 ≤ s.block = grind (arith, legal.block) in omega arith)
+reached_ends {s = s} {asked = Some n} {p = p} {r = r} {rep = rep} {left = left} legal runs none tells =
     let j : 8 ≤ s.block = grind (arith, legal.block) in
-    let asked = Some n in
-    let ys = cut_to s asked 0 runs.given in
-    let c : Call = record { given = runs.bytes; left = left r.intake; written = spellings s ys } in
+    let so = runs.has_written in
+    let read = runs.has_read in
+    let ys = cut_to s (Some n) 0 runs.given in
     let k = length-take (n - s.block * 0) runs.given in
-    let enough : n ≤ s.block * runs.blocks = omega (arith, none, runs.count, k, runs.behind.len) in
-    let decoded = ends_reached s runs.front r.waiting runs.begun runs.blocks p.run runs.given n legal runs.behind (begun_wanted left failed s asked start out_old out p r steps written runs) enough in
-    let used : length runs.front + 0 ≡ r.taken = omega (arith, runs.taken) in
-    let all : Decoded s (bits_of runs.bytes) asked ys Reached (length runs.front + 0) = subst (λ (l : List Bool). Decoded s l asked ys Reached (length runs.front + 0)) (sym runs.bits) decoded in
-    let ends : EndsDecoding s asked None c rep ys Reached = ((length runs.front + 0, all, record { written = refl; samples = tells.samples_are ∙ runs.count; bits = tells.bits_are ∙ sym used }), inl refl) in (
-      c,
-      record { gave = runs.gave; left = refl; took = runs.put },
-      record { samples = ys; ending = Reached; ends = subst (λ (f : Option Fault). EndsDecoding s asked f c rep ys Reached) (sym is) ends; ahead = ahead runs.bytes runs.front r.waiting rep.bits runs.bits few (tells.bits_are ∙ runs.taken) },
-    )
-
--- All that the intake gave was taken.
-record Drained {I : Type 0} (left : I → Option (List ℕ)) (start new : I) (middle : Option (List ℕ)) (front bits : List Bool) : Type 0 where
-  pub total : List ℕ
-  pub gave : Consumes (left start) middle total
-  pub bits_are : bits_of total ≡ front ++ bits
-
-drained : {I : Type 0} (left : I → Option (List ℕ)) (failed : I → ℕ) (s : Parameters) (asked : Option ℕ) (start : I) (out_old out : Option (List ℕ)) (p : DecoderState) (r new : Reader I) (steps written : ℕ) (bits : List Bool) (fault : BitFault) →
-    (runs : DecodingProgress left failed s asked start out_old out p r steps written) → (stops : Stops left failed (with_mark r) new bits fault) → Drained left start new.intake stops.middle runs.front bits
-drained left failed s asked start out_old out p r new steps written bits fault runs stops =
-    let given = stops.draws.given in
-    record {
-      total = runs.bytes ++ given;
-      gave = Consumes-trans (left start) (left r.intake) stops.middle runs.bytes given runs.gave stops.draws.consumed;
-      bits_are = bits_of-append runs.bytes given ∙ ap (λ l. l ++ bits_of given) runs.bits ∙ append_assoc runs.front r.waiting (bits_of given) ∙ ap (λ l. runs.front ++ l) (stops.draws.split ∙ append-nil bits);
-    }
+    let enough : n ≤ s.block * runs.blocks = omega (arith, none, so.count, k, runs.decoded.len) in
+    let decoded = ends_reached s runs.front r.waiting runs.begun runs.blocks p.run runs.given n legal runs.decoded (begun_wanted runs) enough in
+    let used : length runs.front + 0 ≡ r.taken = omega (arith, read.count) in
+    let all : Decoded s (bits_of read.bytes) (Some n) ys Reached (length runs.front + 0) = subst (λ (l : List Bool). Decoded s l (Some n) ys Reached (length runs.front + 0)) (sym read.bits) decoded in
+    let few = within read tells.ahead tells.limit in
+    exit left ys Reached None record {
+      gave = read.gave;
+      took = so.put;
+      ahead = omega (arith, few.0, tells.bits_are);
+      steps = whole_steps r.waiting read.bytes runs.has_sets read.bits (tells.bits_are ∙ read.count) (omega (arith, runs.has_steps.count, tells.steps_are, tells.bits_are, tells.samples_are));
+    } tells.left_is tells.fault_is (λ _. few.1)
+    ((length runs.front + 0, all, record { written = refl; samples = tells.samples_are ∙ so.count; bits = tells.bits_are ∙ sym used }), inl refl)
 
 blank_all : (bits : List Bool) → is_blank bits ≡ true → All (λ bit. bit ≡ false) bits
 blank_all [] e k d lt = absurd (omega arith)
@@ -223,34 +303,67 @@ abbrev pub fault_at_end : Option ℕ → Bool → ℕ → Option Fault
 fault_at_end asked true written = ended_fault asked written
 fault_at_end asked false written = Some (CodeEnds written)
 
--- no 1 is left, or no data set begins with what is left, where the intake has ended
-pub ended_ends : {I : Type 0} (left : I → Option (List ℕ)) (failed : I → ℕ) (s : Parameters) (asked : Option ℕ) (start : I) (out_old out : Option (List ℕ)) (p : DecoderState) (r new : Reader I) (steps written steps_new : ℕ) (blank : Bool) (rep : Report) (f : Option Fault) →
-    (runs : DecodingProgress left failed s asked start out_old out p r steps written) → wanted_of asked written s.block ≢ 0 → p.run ≡ 0 → SetEnds left failed (with_mark r) new s runs.blocks blank → Tells rep written new.taken steps_new → f ≡ fault_at_end asked blank written →
-    Ends s asked (left start) (left new.intake) out_old out rep f
-unfolding ending_of
-ended_ends left failed s asked start out_old out p r new steps written steps_new blank rep f runs some none ends tells is =
-    let bits = ends.cut.bits in
-    let stops = ends.cut.stops in
-    let all = drained left failed s asked start out_old out p r new steps written bits (bit_faults.End blank) runs stops in
-    let ys = cut_to s asked 0 runs.given in
-    let c : Call = record { given = all.total; left = left new.intake; written = spellings s ys } in
-    let goes = goes_on s asked runs.blocks written runs.given runs.behind.len runs.count some in
-    let out_of = ends_here s runs.front bits runs.begun runs.blocks runs.given asked (ending_of blank) (length bits) (at_set left failed s asked start out_old out p r steps written runs none) (begun_wanted left failed s asked start out_old out p r steps written runs) (ends_out s asked runs.blocks bits blank goes ends.told ends.cut.none) in
-    let used : length runs.front + length bits ≡ new.taken = omega (arith, runs.taken, stops.taken) in
-    let decodes : DecodesBytes s asked c rep all.total ys (ending_of blank) = (
-      length runs.front + length bits,
-      subst (λ (l : List Bool). Decoded s l asked ys (ending_of blank) (length runs.front + length bits)) (sym all.bits_are) out_of,
-      record { written = refl; samples = tells.samples_are ∙ runs.count; bits = tells.bits_are ∙ sym used },
-    ) in
-    let gave = subst (λ (l : List ℕ). Consumes (left start) (left new.intake) l) (append-nil all.total) (Consumes-trans (left start) stops.middle (left new.intake) all.total [] all.gave stops.refuses.0) in
+-- All that was given is taken, and no coded data set begins with the last of it.
+record RunsDry {I : Type 0} (s : Parameters) (asked : Option ℕ) (start : Reader I) (middle : Option (List ℕ)) (new : Reader I) (rep : Report) (ys : List ℤ) (written : ℕ) (blank : Bool) : Type 0 where
+  pub front : List Bool
+  pub read : HasRead start.left middle [] new.taken front
+  pub few : length read.bytes ≤ rep.bits / 8
+  pub limit : length read.bytes ≤ 2 ^ 49
+  pub used : ℕ
+  pub decoded : Decoded s (bits_of read.bytes) asked ys (ending_of blank) used
+  pub bits : rep.bits ≡ used
+  pub samples : rep.samples ≡ length ys
+  pub count : written ≡ length ys
+  pub sets : (more : List ℕ) → CountsSteps s (bits_of (read.bytes ++ more)) rep
+
+runs_dry : {I : Type 0} {s : Parameters} {asked : Option ℕ} {start : Reader I} {out_old out : Option (List ℕ)} {p : DecoderState} {r new : Reader I} {steps steps_new written : ℕ} {rep : Report} {f fault : Option Fault} {left : Option (List ℕ)} {failed : ℕ} {why : BitFault} (blank : Bool)
+    → (runs : DecodingProgress s asked start out_old out p r steps written) → wanted_of asked written s.block ≢ 0 → p.run ≡ 0 → (cut : SetCut (with_mark r) new s runs.blocks why) → is_blank cut.bits ≡ blank
+    → AreCounted steps steps_new r.taken new.taken → Reports rep f left failed new written steps_new fault → RunsDry s asked start cut.stops.middle new rep (cut_to s asked 0 runs.given) written blank
+runs_dry {s = s} {asked = asked} {p = p} {r = r} {new = new} {steps = steps} {steps_new = steps_new} {written = written} {rep = rep} blank runs some none cut told counted tells =
+    let bits = cut.bits in
     let front = runs.front ++ bits in
-    let few : length {A = Bool} [] ≤ 32768 = omega arith in
-    let whole : bits_of all.total ≡ front ++ [] = all.bits_are ∙ sym (append-nil front) in
-    let bits_count : rep.bits ≡ length front = tells.bits_are ∙ sym used ∙ sym (length-append runs.front bits) in (
-      c,
-      record { gave = gave; left = refl; took = runs.put },
-      record { samples = ys; ending = ending_of blank; ends = subst (λ (f : Option Fault). EndsDecoding s asked f c rep ys (ending_of blank)) (sym is) (by_fault blank asked decodes stops.refuses.1 runs.count); ahead = ahead all.total front [] rep.bits whole few bits_count },
-    )
+    let so = runs.has_written in
+    let read = has_read-append runs.has_read cut.stops.draws cut.stops.taken in
+    let ys = cut_to s asked 0 runs.given in
+    let goes = goes_on s asked runs.blocks written runs.given runs.decoded.len so.count some in
+    let out_of = ends_here s runs.front bits runs.begun runs.blocks runs.given asked (ending_of blank) (length bits) (at_set runs none) (begun_wanted runs) (ends_out s asked runs.blocks bits blank goes told cut.none) in
+    let whole : bits_of read.bytes ≡ front = read.bits ∙ append-nil front in
+    let used : length runs.front + length bits ≡ new.taken = sym (read.count ∙ length-append runs.front bits) in
+    let size = length-bits_of read.bytes in
+    let here : runs.blocks + p.run ≡ runs.blocks = omega (arith, none) in
+    let has = subst (λ (n : ℕ). HasSets s runs.sets runs.front n) here runs.has_sets in
+    record {
+      front = front;
+      read = read;
+      few = omega (arith, ap length whole, read.count, tells.bits_are);
+      limit = omega (arith, ap length whole, read.count, counted.limit);
+      used = length runs.front + length bits;
+      decoded = subst (λ (l : List Bool). Decoded s l asked ys (ending_of blank) (length runs.front + length bits)) (sym whole) out_of;
+      bits = tells.bits_are ∙ sym used;
+      samples = tells.samples_are ∙ so.count;
+      count = so.count;
+      sets = λ more. last_steps bits (bits_of more) (read.bytes ++ more) (ending_of blank) steps steps_new r.taken new.taken written has (bits_of-append read.bytes more ∙ ap (λ l. l ++ bits_of more) whole)
+          (ends_out s None runs.blocks bits blank tt told cut.none) counted runs.has_steps.count cut.stops.taken read.count tells.bits_are tells.samples_are tells.steps_are;
+    }
+
+-- no 1 is left, or no data set begins with what is left, where the intake has ended
+pub ended_ends : {I : Type 0} {s : Parameters} {asked : Option ℕ} {start : Reader I} {out_old out : Option (List ℕ)} {p : DecoderState} {r new : Reader I} {steps steps_new written : ℕ} {rep : Report} {f : Option Fault} {left : Option (List ℕ)} {failed : ℕ} (blank : Bool)
+    → (runs : DecodingProgress s asked start out_old out p r steps written) → wanted_of asked written s.block ≢ 0 → p.run ≡ 0 → SetEnds (with_mark r) new s runs.blocks blank
+    → AreCounted steps steps_new r.taken new.taken → Reports rep f left failed new written steps_new (fault_at_end asked blank written) → Ends s asked start.left left out_old out rep f
+unfolding ending_of
+ended_ends {s = s} {asked = asked} {start = start} {new = new} {written = written} {rep = rep} {left = left} blank runs some none ends counted tells =
+    let stops = ends.cut.stops in
+    let dry = runs_dry blank runs some none ends.cut ends.told counted tells in
+    let read = dry.read in
+    let ys = cut_to s asked 0 runs.given in
+    let gave = subst (λ (l : List ℕ). Consumes start.left new.left l) (append-nil read.bytes) (Consumes-trans start.left stops.middle new.left read.bytes [] read.gave stops.refuses.0) in
+    exit left ys (ending_of blank) (fault_at_end asked blank written) record {
+      gave = gave;
+      took = runs.has_written.put;
+      ahead = omega (arith, dry.few);
+      steps = subst (λ (l : List ℕ). CountsSteps s (bits_of l) rep) (append-nil read.bytes) (dry.sets []);
+    } tells.left_is tells.fault_is (λ _. dry.limit)
+    (by_fault blank asked (dry.used, dry.decoded, record { written = refl; samples = dry.samples; bits = dry.bits }) stops.refuses.1 dry.count)
   where
     by_fault : {c : Call} {ys : List ℤ} (blank : Bool) (asked : Option ℕ) → DecodesBytes s asked c rep c.given ys (ending_of blank) → IsAtEnd c.left → written ≡ length ys → EndsDecoding s asked (fault_at_end asked blank written) c rep ys (ending_of blank)
     by_fault true None d end n = (d, inr (refl, refl, end))
@@ -258,129 +371,75 @@ ended_ends left failed s asked start out_old out p r new steps written steps_new
     by_fault false asked d end n = (d, inl refl, end, n)
 
 -- the intake failed
-pub read_ends : {I : Type 0} (left : I → Option (List ℕ)) (failed : I → ℕ) (s : Parameters) (asked : Option ℕ) (start : I) (out_old out : Option (List ℕ)) (p : DecoderState) (r new : Reader I) (steps written steps_new : ℕ) (rep : Report) (f : Option Fault) →
-    (runs : DecodingProgress left failed s asked start out_old out p r steps written) → wanted_of asked written s.block ≢ 0 → p.run ≡ 0 → SetCut left failed (with_mark r) new s runs.blocks bit_faults.Read → Tells rep written new.taken steps_new → f ≡ Some Read →
-    Ends s asked (left start) (left new.intake) out_old out rep f
-read_ends left failed s asked start out_old out p r new steps written steps_new rep f runs some none cut tells is =
-    let bits = cut.bits in
-    let stops = cut.stops in
-    let ending = ending_of (is_blank bits) in
-    let all = drained left failed s asked start out_old out p r new steps written bits bit_faults.Read runs stops in
-    let ys = cut_to s asked 0 runs.given in
-    let c : Call = record { given = all.total; left = left new.intake; written = spellings s ys } in
-    let goes = goes_on s asked runs.blocks written runs.given runs.behind.len runs.count some in
-    let out_of = ends_here s runs.front bits runs.begun runs.blocks runs.given asked ending (length bits) (at_set left failed s asked start out_old out p r steps written runs none) (begun_wanted left failed s asked start out_old out p r steps written runs) (ends_out s asked runs.blocks bits (is_blank bits) goes refl cut.none) in
-    let used : length runs.front + length bits ≡ new.taken = omega (arith, runs.taken, stops.taken) in
-    let decodes : DecodesBytes s asked c rep all.total ys ending = (
-      length runs.front + length bits,
-      subst (λ (l : List Bool). Decoded s l asked ys ending (length runs.front + length bits)) (sym all.bits_are) out_of,
-      record { written = refl; samples = tells.samples_are ∙ runs.count; bits = tells.bits_are ∙ sym used },
-    ) in
-    let gave = subst (λ (l : List ℕ). Consumes (left start) (left new.intake) l) (append-nil all.total) (Consumes-trans (left start) stops.middle (left new.intake) all.total [] all.gave stops.refuses.0) in
-    let front = runs.front ++ bits in
-    let few : length {A = Bool} [] ≤ 32768 = omega arith in
-    let whole : bits_of all.total ≡ front ++ [] = all.bits_are ∙ sym (append-nil front) in
-    let bits_count : rep.bits ≡ length front = tells.bits_are ∙ sym used ∙ sym (length-append runs.front bits) in
-    let ends : EndsDecoding s asked (Some Read) c rep ys ending = (decodes, run_out (is_blank bits)) in (
-      c,
-      record { gave = gave; left = refl; took = runs.put },
-      record { samples = ys; ending = ending; ends = subst (λ (f : Option Fault). EndsDecoding s asked f c rep ys ending) (sym is) ends; ahead = ahead all.total front [] rep.bits whole few bits_count },
-    )
+read_ends : {I : Type 0} {s : Parameters} {asked : Option ℕ} {start : Reader I} {out_old out : Option (List ℕ)} {p : DecoderState} {r new : Reader I} {steps steps_new written : ℕ} {rep : Report} {f : Option Fault} {left : Option (List ℕ)} {failed : ℕ}
+    → (runs : DecodingProgress s asked start out_old out p r steps written) → wanted_of asked written s.block ≢ 0 → p.run ≡ 0 → SetCut (with_mark r) new s runs.blocks bit_faults.Read
+    → AreCounted steps steps_new r.taken new.taken → Reports rep f left failed new written steps_new (Some Read) → Ends s asked start.left left out_old out rep f
+read_ends {s = s} {asked = asked} {start = start} {new = new} {rep = rep} {left = left} runs some none cut counted tells =
+    let blank = is_blank cut.bits in
+    let dry = runs_dry blank runs some none cut refl counted tells in
+    let read = dry.read in
+    let gave = subst (λ (l : List ℕ). Consumes start.left new.left l) (append-nil read.bytes) (Consumes-trans start.left cut.stops.middle new.left read.bytes [] read.gave cut.stops.refuses.0) in
+    exit left (cut_to s asked 0 runs.given) (ending_of blank) (Some Read) record {
+      gave = gave;
+      took = runs.has_written.put;
+      ahead = omega (arith, dry.few);
+      steps = subst (λ (l : List ℕ). CountsSteps s (bits_of l) rep) (append-nil read.bytes) (dry.sets []);
+    } tells.left_is tells.fault_is (λ _. dry.limit)
+    ((dry.used, dry.decoded, record { written = refl; samples = dry.samples; bits = dry.bits }), run_out blank)
 
 -- the byte past the limit was given
-pub long_ends : {I : Type 0} (left : I → Option (List ℕ)) (failed : I → ℕ) (s : Parameters) (asked : Option ℕ) (start : I) (out_old out : Option (List ℕ)) (p : DecoderState) (r new : Reader I) (steps written steps_new : ℕ) (rep : Report) (f : Option Fault) →
-    (runs : DecodingProgress left failed s asked start out_old out p r steps written) → wanted_of asked written s.block ≢ 0 → p.run ≡ 0 → SetCut left failed (with_mark r) new s runs.blocks bit_faults.TooLong → Tells rep written new.taken steps_new → f ≡ Some TooLong →
-    Ends s asked (left start) (left new.intake) out_old out rep f
-long_ends left failed s asked start out_old out p r new steps written steps_new rep f runs some none cut tells is =
-    let bits = cut.bits in
-    let stops = cut.stops in
-    let ending = ending_of (is_blank bits) in
-    let all = drained left failed s asked start out_old out p r new steps written bits bit_faults.TooLong runs stops in
-    let last = stops.refuses.0.0 in
-    let ys = cut_to s asked 0 runs.given in
-    let c : Call = record { given = all.total ++ last ∷ []; left = left new.intake; written = spellings s ys } in
-    let goes = goes_on s asked runs.blocks written runs.given runs.behind.len runs.count some in
-    let out_of = ends_here s runs.front bits runs.begun runs.blocks runs.given asked ending (length bits) (at_set left failed s asked start out_old out p r steps written runs none) (begun_wanted left failed s asked start out_old out p r steps written runs) (ends_out s asked runs.blocks bits (is_blank bits) goes refl cut.none) in
-    let used : length runs.front + length bits ≡ new.taken = omega (arith, runs.taken, stops.taken) in
-    let decodes : DecodesBytes s asked c rep all.total ys ending = (
-      length runs.front + length bits,
-      subst (λ (l : List Bool). Decoded s l asked ys ending (length runs.front + length bits)) (sym all.bits_are) out_of,
-      record { written = refl; samples = tells.samples_are ∙ runs.count; bits = tells.bits_are ∙ sym used },
-    ) in
-    let gave = Consumes-trans (left start) stops.middle (left new.intake) all.total (last ∷ []) all.gave stops.refuses.0.1 in
-    let full : length all.total ≡ 562949953421312 = full_is all.total runs.front bits new.taken all.bits_are used stops.refuses.2 in
-    let passes : PassesLimit 562949953421312 (all.total ++ last ∷ []) all.total = record { last = last; split = refl; full = full } in
-    let ends : EndsDecoding s asked (Some TooLong) c rep ys ending = ((all.total, passes, decodes), run_out (is_blank bits)) in (
-      c,
-      record { gave = gave; left = refl; took = runs.put },
-      record { samples = ys; ending = ending; ends = subst (λ (f : Option Fault). EndsDecoding s asked f c rep ys ending) (sym is) ends; ahead = past (length-append all.total (last ∷ [])) full (tells.bits_are ∙ stops.refuses.2) },
-    )
-  where
-    full_is : (total : List ℕ) (front bits : List Bool) (n : ℕ) → bits_of total ≡ front ++ bits → length front + length bits ≡ n → n ≡ 4503599627370496 → length total ≡ 562949953421312
-    full_is total front bits n e h k = let a = length-bits_of total in let b = ap length e in let c = length-append front bits in omega arith
+long_ends : {I : Type 0} {s : Parameters} {asked : Option ℕ} {start : Reader I} {out_old out : Option (List ℕ)} {p : DecoderState} {r new : Reader I} {steps steps_new written : ℕ} {rep : Report} {f : Option Fault} {left : Option (List ℕ)} {failed : ℕ}
+    → (runs : DecodingProgress s asked start out_old out p r steps written) → wanted_of asked written s.block ≢ 0 → p.run ≡ 0 → SetCut (with_mark r) new s runs.blocks bit_faults.TooLong
+    → AreCounted steps steps_new r.taken new.taken → Reports rep f left failed new written steps_new (Some TooLong) → Ends s asked start.left left out_old out rep f
+long_ends {s = s} {asked = asked} {start = start} {new = new} {rep = rep} {left = left} runs some none cut counted tells =
+    let blank = is_blank cut.bits in
+    let dry = runs_dry blank runs some none cut refl counted tells in
+    let read = dry.read in
+    let refuses = cut.stops.refuses in
+    let byte = refuses.0.0 in
+    let full : length read.bytes ≡ 562949953421312 = omega (arith, length-bits_of read.bytes, ap length (read.bits ∙ append-nil dry.front), read.count, refuses.2) in
+    exit left (cut_to s asked 0 runs.given) (ending_of blank) (Some TooLong) record {
+      gave = Consumes-trans start.left cut.stops.middle new.left read.bytes (byte ∷ []) read.gave refuses.0.1;
+      took = runs.has_written.put;
+      ahead = omega (arith, dry.few, length-append read.bytes (byte ∷ []));
+      steps = dry.sets (byte ∷ []);
+    } tells.left_is tells.fault_is (λ other. absurd (other refl))
+    ((read.bytes, record { last = byte; split = refl; full = full }, (dry.used, dry.decoded, record { written = refl; samples = dry.samples; bits = dry.bits })), run_out blank)
 
-    past : {n m b : ℕ} → n ≡ m + 1 → m ≡ 562949953421312 → b ≡ 4503599627370496 → n ≤ b / 8 + 4096
-    past e h k = omega arith
-
--- What a call has done that refuses a coded data set.
-record Refusal {I : Type 0} (left : I → Option (List ℕ)) (s : Parameters) (asked : Option ℕ) (start new : I) (out_old out : Option (List ℕ)) (rep : Report) (written : ℕ) (ending : Ending) : Type 0 where
-  pub call : Call
-  pub happens : Happens (left start) (left new) out_old out call
-  pub samples : List ℤ
-  pub decodes : DecodesBytes s asked call rep call.given samples ending
-  pub count : length samples ≡ s.block * (written / s.block)
-  pub ahead_of : length call.given ≤ rep.bits / 8 + 4096
-
-refusal : {I : Type 0} (left : I → Option (List ℕ)) (failed : I → ℕ) (s : Parameters) (asked : Option ℕ) (start : I) (out_old out : Option (List ℕ)) (p : DecoderState) (r new : Reader I) (steps written steps_new : ℕ) (rep : Report) (P : CodedDataSet → Type 0) (ending : Ending) → IsLegal s →
-    (runs : DecodingProgress left failed s asked start out_old out p r steps written) → wanted_of asked written s.block ≢ 0 → p.run ≡ 0 → SetRefused left failed (with_mark r) new s runs.blocks P →
-    ((rest : List Bool) (used : ℕ) → IsWanted s asked runs.blocks → BeginsUnsound s runs.blocks rest used P → EndsWith s asked runs.blocks rest ending used) → Tells rep written new.taken steps_new → length new.waiting ≤ 32768 →
-    Refusal left s asked start new.intake out_old out rep written ending
-refusal left failed s asked start out_old out p r new steps written steps_new rep P ending legal runs some none refused by_rule tells few =
+-- a coded data set was refused
+refused_ends : {I : Type 0} {s : Parameters} {asked : Option ℕ} {start : Reader I} {out_old out : Option (List ℕ)} {p : DecoderState} {r new : Reader I} {steps steps_new written : ℕ} {rep : Report} {f : Option Fault} {left : Option (List ℕ)} {failed : ℕ} (P : CodedDataSet → Type 0) (ending : Ending) (fault : Option Fault)
+    → fault ≢ Some TooLong → IsLegal s → (runs : DecodingProgress s asked start out_old out p r steps written) → wanted_of asked written s.block ≢ 0 → p.run ≡ 0 → SetRefused (with_mark r) new s runs.blocks P
+    → ((asked : Option ℕ) (rest : List Bool) (used : ℕ) → IsWanted s asked runs.blocks → BeginsUnsound s runs.blocks rest used P → EndsWith s asked runs.blocks rest ending used)
+    → AreCounted steps steps_new r.taken new.taken → Reports rep f left failed new written steps_new fault
+    → ((c : Call) (ys : List ℤ) → DecodesBytes s asked c rep c.given ys ending → length ys ≡ s.block * (written / s.block) → EndsDecoding s asked fault c rep ys ending) → Ends s asked start.left left out_old out rep f
+refused_ends {s = s} {asked = asked} {start = start} {p = p} {r = r} {new = new} {steps = steps} {steps_new = steps_new} {written = written} {rep = rep} {left = left} P ending fault other legal runs some none refused by_rule counted tells ends =
     let b = runs.blocks in
+    let so = runs.has_written in
     let j : 1 ≤ s.block = let k : 8 ≤ s.block = grind (arith, legal.block) in omega arith in
     let set = bits_of_set s refused.set in
-    let draws = refused.takes.draws in
-    let total = runs.bytes ++ draws.given in
     let rest = set ++ new.waiting in
-    let bits_are : bits_of total ≡ runs.front ++ rest = bits_of-append runs.bytes draws.given ∙ ap (λ l. l ++ bits_of draws.given) runs.bits ∙ append_assoc runs.front r.waiting (bits_of draws.given) ∙ ap (λ l. runs.front ++ l) draws.split in
-    let goes = goes_on s asked b written runs.given runs.behind.len runs.count some in
-    let so_far = all_written s asked b written runs.given runs.behind.len runs.count goes in
+    let read = has_read-append runs.has_read refused.takes.draws refused.takes.taken in
+    let whole : bits_of read.bytes ≡ runs.front ++ rest = read.bits ∙ append_assoc runs.front set new.waiting in
+    let goes = goes_on s asked b written runs.given runs.decoded.len so.count some in
+    let so_far = all_written s asked b written runs.given runs.decoded.len so.count goes in
     let ys = cut_to s asked 0 runs.given in
     let refuses : BeginsUnsound s b rest (length set) P = record { refused = refused.set; more = new.waiting; form = refused.form; unsound = refused.unsound; begins = refl; bits = refl } in
-    let here = ends_here s runs.front rest runs.begun b runs.given asked ending (length set) (at_set left failed s asked start out_old out p r steps written runs none) (begun_wanted left failed s asked start out_old out p r steps written runs) (by_rule rest (length set) goes refuses) in
-    let used : length runs.front + length set ≡ rep.bits = sym (tells.bits_are ∙ refused.takes.taken ∙ ap (λ n. n + length set) runs.taken) in
-    let whole : bits_of total ≡ (runs.front ++ set) ++ new.waiting = bits_are ∙ sym (append_assoc runs.front set new.waiting) in
+    let alone : BeginsUnsound s b set (length set) P = record { refused = refused.set; more = []; form = refused.form; unsound = refused.unsound; begins = sym (append-nil set); bits = refl } in
+    let here = ends_here s runs.front rest runs.begun b runs.given asked ending (length set) (at_set runs none) (begun_wanted runs) (by_rule asked rest (length set) goes refuses) in
+    let used : length runs.front + length set ≡ rep.bits = sym (tells.bits_are ∙ read.count ∙ length-append runs.front set) in
     let number : written / s.block ≡ b = ap (λ n. n / s.block) so_far.0 ∙ mul-div_cancel_left b j in
-    record {
-      call = record { given = total; left = left new.intake; written = spellings s ys };
-      happens = record { gave = Consumes-trans (left start) (left r.intake) (left new.intake) runs.bytes draws.given runs.gave draws.consumed; left = refl; took = runs.put };
-      samples = ys;
-      decodes = (
-        length runs.front + length set,
-        subst (λ (l : List Bool). Decoded s l asked ys ending (length runs.front + length set)) (sym bits_are) here,
-        record { written = refl; samples = tells.samples_are ∙ runs.count; bits = sym used },
-      );
-      count = sym runs.count ∙ so_far.0 ∙ ap (λ n. s.block * n) (sym number);
-      ahead_of = ahead total (runs.front ++ set) new.waiting rep.bits whole few (sym used ∙ sym (length-append runs.front set));
-    }
-
--- a run passes its segment
-pub past_ends : {I : Type 0} (left : I → Option (List ℕ)) (failed : I → ℕ) (s : Parameters) (asked : Option ℕ) (start : I) (out_old out : Option (List ℕ)) (p : DecoderState) (r new : Reader I) (steps written steps_new : ℕ) (rep : Report) (f : Option Fault) → IsLegal s →
-    (runs : DecodingProgress left failed s asked start out_old out p r steps written) → wanted_of asked written s.block ≢ 0 → p.run ≡ 0 → SetRefused left failed (with_mark r) new s runs.blocks (RunIsSound s runs.blocks) → Tells rep written new.taken steps_new → length new.waiting ≤ 32768 → f ≡ Some (RunPastSegment (written / s.block)) →
-    Ends s asked (left start) (left new.intake) out_old out rep f
-past_ends left failed s asked start out_old out p r new steps written steps_new rep f legal runs some none refused tells few is =
-    let k = refusal left failed s asked start out_old out p r new steps written steps_new rep (RunIsSound s runs.blocks) Past legal runs some none refused (λ rest used goes h. (goes, h)) tells few in
-    let ends : EndsDecoding s asked (Some (RunPastSegment (written / s.block))) k.call rep k.samples Past = (k.decodes, refl, k.count) in
-    (k.call, k.happens, record { samples = k.samples; ending = Past; ends = subst (λ (f : Option Fault). EndsDecoding s asked f k.call rep k.samples Past) (sym is) ends; ahead = k.ahead_of })
-
--- a residual is too large
-pub large_ends : {I : Type 0} (left : I → Option (List ℕ)) (failed : I → ℕ) (s : Parameters) (asked : Option ℕ) (start : I) (out_old out : Option (List ℕ)) (p : DecoderState) (r new : Reader I) (steps written steps_new : ℕ) (rep : Report) (f : Option Fault) → IsLegal s →
-    (runs : DecodingProgress left failed s asked start out_old out p r steps written) → wanted_of asked written s.block ≢ 0 → p.run ≡ 0 → SetRefused left failed (with_mark r) new s runs.blocks (ResidualsAreSound s) → Tells rep written new.taken steps_new → length new.waiting ≤ 32768 → f ≡ Some (ResidualTooLarge (written / s.block)) →
-    Ends s asked (left start) (left new.intake) out_old out rep f
-large_ends left failed s asked start out_old out p r new steps written steps_new rep f legal runs some none refused tells few is =
-    let k = refusal left failed s asked start out_old out p r new steps written steps_new rep (ResidualsAreSound s) Large legal runs some none refused (λ rest used goes h. (goes, h)) tells few in
-    let ends : EndsDecoding s asked (Some (ResidualTooLarge (written / s.block))) k.call rep k.samples Large = (k.decodes, refl, k.count) in
-    (k.call, k.happens, record { samples = k.samples; ending = Large; ends = subst (λ (f : Option Fault). EndsDecoding s asked f k.call rep k.samples Large) (sym is) ends; ahead = k.ahead_of })
+    let few = within read tells.ahead tells.limit in
+    let end : b + p.run ≡ b = omega (arith, none) in
+    let has = subst (λ (n : ℕ). HasSets s runs.sets runs.front n) end runs.has_sets in
+    let decodes = subst (λ (l : List Bool). Decoded s l asked ys ending (length runs.front + length set)) (sym whole) here in
+    exit left ys ending fault record {
+      gave = read.gave;
+      took = so.put;
+      ahead = omega (arith, few.0, tells.bits_are);
+      steps = last_steps set new.waiting read.bytes ending steps steps_new r.taken new.taken written has read.bits (by_rule None set (length set) tt alone) counted runs.has_steps.count refused.takes.taken read.count tells.bits_are tells.samples_are tells.steps_are;
+    } tells.left_is tells.fault_is (λ _. few.1)
+    (ends _ ys (length runs.front + length set, decodes, record { written = refl; samples = tells.samples_are ∙ so.count; bits = sym used })
+    (sym so.count ∙ so_far.0 ∙ ap (λ n. s.block * n) (sym number)))
 
 -- the first of some elements, as many as the first of them are
 take_same : (n : ℕ) (xs : List ℤ) → take (length (take n xs)) xs ≡ take n xs
@@ -389,51 +448,53 @@ take_same (suc n) [] = refl
 take_same (suc n) (x ∷ xs) = ap (λ l. x ∷ l) (take_same n xs)
 
 -- the outlet failed in a block
-pub write_ends : {I : Type 0} (left : I → Option (List ℕ)) (failed : I → ℕ) (s : Parameters) (asked : Option ℕ) (start : I) (out_old out out_new : Option (List ℕ)) (p q : DecoderState) (r new : Reader I) (steps written steps_new : ℕ) (xs : List ℤ) (rep : Report) (f : Option Fault) → IsLegal s →
-    (runs : DecodingProgress left failed s asked start out_old out p r steps written) → wanted_of asked written s.block ≢ 0 → Gains left failed s r new runs.front runs.blocks q.run runs.given xs → TakesPart out out_new (spellings s (take (wanted_of asked written s.block) xs)) →
-    Tells rep written new.taken steps_new → length new.waiting ≤ 32768 → f ≡ Some Write → Ends s asked (left start) (left new.intake) out_old out_new rep f
-write_ends left failed s asked start out_old out out_new p q r new steps written steps_new xs rep f legal runs some gives part tells few is =
+pub write_ends : {I : Type 0} {s : Parameters} {asked : Option ℕ} {start : Reader I} {out_old out out_new : Option (List ℕ)} {p : DecoderState} {r new : Reader I} {steps steps_new written : ℕ} {xs : List ℤ} {rep : Report} {f : Option Fault} {left : Option (List ℕ)} {failed : ℕ} (count : ℕ) (q : DecoderState) → IsLegal s
+    → (runs : DecodingProgress s asked start out_old out p r steps written) → count ≡ wanted_of asked written s.block → wanted_of asked written s.block ≢ 0
+    → Gains s r new steps steps_new runs.front runs.sets runs.blocks q.run runs.given xs → TakesPart out out_new (spellings s (take count xs))
+    → Reports rep f left failed new written steps_new (Some Write) → Ends s asked start.left left out_old out_new rep f
+write_ends {s = s} {asked = asked} {out_old = out_old} {out = out} {out_new = out_new} {r = r} {new = new} {written = written} {xs = xs} {rep = rep} {left = left} count q legal runs is some gives part tells =
     let b = runs.blocks in
-    let goes = goes_on s asked b written runs.given runs.behind.len runs.count some in
-    let so_far = all_written s asked b written runs.given runs.behind.len runs.count goes in
+    let so = runs.has_written in
+    let goes = goes_on s asked b written runs.given runs.decoded.len so.count some in
+    let so_far = all_written s asked b written runs.given runs.decoded.len so.count goes in
     let front = runs.front ++ gives.bits in
-    let draws = gives.draws in
-    let total = runs.bytes ++ draws.given in
-    let bits_are : bits_of total ≡ front ++ new.waiting = bits_of-append runs.bytes draws.given ∙ ap (λ l. l ++ bits_of draws.given) runs.bits ∙ append_assoc runs.front r.waiting (bits_of draws.given) ∙ ap (λ l. runs.front ++ l) draws.split ∙ sym (append_assoc runs.front gives.bits new.waiting) in
-    let taken : rep.bits ≡ length front = tells.bits_are ∙ gives.taken ∙ ap (λ n. n + length gives.bits) runs.taken ∙ sym (length-append runs.front gives.bits) in
-    let w = wanted_of asked written s.block in
-    let most = most_wanted asked written s.block in
-    let piece = wanted_part s asked b written xs so_far.0 gives.len in
+    let read = has_read-append runs.has_read gives.draws gives.taken in
+    let taken : rep.bits ≡ length front = tells.bits_are ∙ read.count in
+    let most : count ≤ s.block = omega (arith, is, most_wanted asked written s.block) in
+    let piece : take count xs ≡ cut_to s asked b xs = ap (λ n. take n xs) is ∙ wanted_part s asked b written xs so_far.0 gives.len in
     let ys = cut_to s asked 0 (runs.given ++ xs) in
-    let cut : ys ≡ cut_to s asked 0 runs.given ++ cut_to s asked b xs = cut_more s asked b runs.given xs runs.behind.len in
-    let size : length ys ≡ written + w = counted w (omega (arith, most, gives.len)) (ap length (sym piece)) cut in
-    let wanted : (i : ℕ) → i < gives.begun → IsWanted s (Some (length ys)) i = λ i lt. below s.block i b (length ys) written w size so_far.0 some (omega (arith, lt, gives.before)) in
-    let bound : length ys ≤ s.block * (b + 1) = up_to s.block b (length ys) written w size so_far.0 most in
-    let here = ends_reached s front new.waiting gives.begun (b + 1) q.run (runs.given ++ xs) (length ys) legal gives.behind wanted bound in
+    let cut : ys ≡ cut_to s asked 0 runs.given ++ cut_to s asked b xs = cut_more s asked b runs.given xs runs.decoded.len in
+    let size : length ys ≡ written + count = counted count (omega (arith, most, gives.len)) (ap length (sym piece)) cut in
+    let wanted : (i : ℕ) → i < gives.begun → IsWanted s (Some (length ys)) i = λ i lt. below s.block i b (length ys) written count size so_far.0 (λ none. some (sym is ∙ none)) (omega (arith, lt, gives.before)) in
+    let bound : length ys ≤ s.block * (b + 1) = up_to s.block b (length ys) written count size so_far.0 most in
+    let here = ends_reached s front new.waiting gives.begun (b + 1) q.run (runs.given ++ xs) (length ys) legal gives.decoded wanted bound in
     let exact : cut_to s (Some (length ys)) 0 (runs.given ++ xs) ≡ ys = exactly asked in
     let used : length front + 0 ≡ rep.bits = omega (arith, taken) in
-    let decoded : Decoded s (bits_of total) (Some (length ys)) ys Reached rep.bits = subst (λ (n : ℕ). Decoded s (bits_of total) (Some (length ys)) ys Reached n) used (subst (λ (l : List ℤ). Decoded s (bits_of total) (Some (length ys)) l Reached (length front + 0)) exact
-    (subst (λ (l : List Bool). Decoded s l (Some (length ys)) (cut_to s (Some (length ys)) 0 (runs.given ++ xs)) Reached (length front + 0)) (sym bits_are) here)) in
-    let all_of : spellings s ys ≡ spellings s (cut_to s asked 0 runs.given) ++ spellings s (take w xs) = ap (spellings s) cut ∙ spellings-append s (cut_to s asked 0 runs.given) (cut_to s asked b xs) ∙ ap (λ l. spellings s (cut_to s asked 0 runs.given) ++ spellings s l) (sym piece) in
-    let between = part_between out_old out out_new (spellings s (cut_to s asked 0 runs.given)) (spellings s (take w xs)) (spellings s ys) runs.put part all_of in
-    let n : rep.samples ≡ length (cut_to s asked 0 runs.given) = tells.samples_are ∙ runs.count in
+    let decoded : Decoded s (bits_of read.bytes) (Some (length ys)) ys Reached rep.bits = subst (λ (n : ℕ). Decoded s (bits_of read.bytes) (Some (length ys)) ys Reached n) used (subst (λ (l : List ℤ). Decoded s (bits_of read.bytes) (Some (length ys)) l Reached (length front + 0)) exact
+    (subst (λ (l : List Bool). Decoded s l (Some (length ys)) (cut_to s (Some (length ys)) 0 (runs.given ++ xs)) Reached (length front + 0)) (sym read.bits) here)) in
+    let all_of : spellings s ys ≡ spellings s (cut_to s asked 0 runs.given) ++ spellings s (take count xs) = ap (spellings s) cut ∙ spellings-append s (cut_to s asked 0 runs.given) (cut_to s asked b xs) ∙ ap (λ l. spellings s (cut_to s asked 0 runs.given) ++ spellings s l) (sym piece) in
+    let between = part_between out_old out out_new (spellings s (cut_to s asked 0 runs.given)) (spellings s (take count xs)) (spellings s ys) so.put part all_of in
+    let n : rep.samples ≡ length (cut_to s asked 0 runs.given) = tells.samples_are ∙ so.count in
     let before : take rep.samples ys ≡ cut_to s asked 0 runs.given = (λ i. take (n i) (cut i)) ∙ take-append_seam (cut_to s asked 0 runs.given) (cut_to s asked b xs) in
-    let c : Call = record { given = total; left = left new.intake; written = between.written } in
-    let fails : FailsInBlock s asked c rep ys = record {
-      block = b;
-      samples = tells.samples_are ∙ so_far.0;
-      count = size ∙ as_many asked written s.block some ∙ ap (λ m. at_most asked (m + s.block)) (sym tells.samples_are);
-      decoded = decoded;
-      stops = subst (λ (l : List ℤ). StopsBetween (spellings s l) (spellings s ys) between.written) (sym before) between.stops;
-    } in
-    let ends : EndsDecoding s asked (Some Write) c rep ys Reached = (fails, refl) in (
-      c,
-      record { gave = Consumes-trans (left start) (left r.intake) (left new.intake) runs.bytes draws.given runs.gave draws.consumed; left = refl; took = between.took },
-      record { samples = ys; ending = Reached; ends = subst (λ (f : Option Fault). EndsDecoding s asked f c rep ys Reached) (sym is) ends; ahead = ahead total front new.waiting rep.bits bits_are few taken },
+    let few = within read tells.ahead tells.limit in
+    exit left ys Reached (Some Write) record {
+      gave = read.gave;
+      took = between.took;
+      ahead = omega (arith, few.0, tells.bits_are);
+      steps = whole_steps new.waiting read.bytes gives.has_sets read.bits taken (omega (arith, runs.has_steps.count, gives.counted, tells.steps_are, tells.bits_are, tells.samples_are));
+    } tells.left_is tells.fault_is (λ _. few.1) (
+      record {
+        block = b;
+        samples = tells.samples_are ∙ so_far.0;
+        count = size ∙ (ap (λ n. written + n) is ∙ as_many asked written s.block some) ∙ ap (λ m. at_most asked (m + s.block)) (sym tells.samples_are);
+        decoded = decoded;
+        stops = subst (λ (l : List ℤ). StopsBetween (spellings s l) (spellings s ys) between.written) (sym before) between.stops;
+      },
+      refl,
     )
   where
     counted : (w : ℕ) → w ≤ length xs → length (cut_to s asked runs.blocks xs) ≡ length (take w xs) → cut_to s asked 0 (runs.given ++ xs) ≡ cut_to s asked 0 runs.given ++ cut_to s asked runs.blocks xs → length (cut_to s asked 0 (runs.given ++ xs)) ≡ written + w
-    counted w le part cut = omega (arith, runs.count, ap length cut, length-append (cut_to s asked 0 runs.given) (cut_to s asked runs.blocks xs), part, length-take-le w xs le)
+    counted w le part cut = omega (arith, runs.has_written.count, ap length cut, length-append (cut_to s asked 0 runs.given) (cut_to s asked runs.blocks xs), part, length-take-le w xs le)
 
     below : (m i b n k w : ℕ) → n ≡ k + w → k ≡ m * b → w ≢ 0 → i < b + 1 → m * i < n
     below m i b n k w e h some lt = let le : m * i ≤ m * b = mul-le-mul_left m (omega arith) in omega arith
@@ -449,69 +510,81 @@ write_ends left failed s asked start out_old out out_new p q r new steps written
     exactly None = let n : length (runs.given ++ xs) - s.block * 0 ≡ length (runs.given ++ xs) = omega arith in ap (λ m. take m (runs.given ++ xs)) n ∙ take-length (runs.given ++ xs)
     exactly (Some m) = let zs = runs.given ++ xs in let n : length (take (m - s.block * 0) zs) - s.block * 0 ≡ length (take (m - s.block * 0) zs) = omega arith in ap (λ m. take m zs) n ∙ take_same (m - s.block * 0) zs
 
-pub refusal_ends : {I : Type 0} (left : I → Option (List ℕ)) (failed : I → ℕ) (s : Parameters) (asked : Option ℕ) (start : I) (out_old out : Option (List ℕ)) (p : DecoderState) (r new : Reader I) (steps written steps_new : ℕ) (rep : Report) (f : Option Fault) (fault : CodeFault) → IsLegal s →
-    (runs : DecodingProgress left failed s asked start out_old out p r steps written) → wanted_of asked written s.block ≢ 0 → p.run ≡ 0 → StopsBy left failed (with_mark r) new s runs.blocks (Err fault) → Tells rep written new.taken steps_new → length new.waiting ≤ 32768 → f ≡ Some (refusal_fault fault written s.block) →
-    Ends s asked (left start) (left new.intake) out_old out rep f
-refusal_ends left failed s asked start out_old out p r new steps written steps_new rep f faults.CodeEnds legal runs some none stops tells few is = ended_ends left failed s asked start out_old out p r new steps written steps_new false rep f runs some none stops tells is
-refusal_ends left failed s asked start out_old out p r new steps written steps_new rep f faults.RunPastSegment legal runs some none stops tells few is = past_ends left failed s asked start out_old out p r new steps written steps_new rep f legal runs some none stops tells few is
-refusal_ends left failed s asked start out_old out p r new steps written steps_new rep f faults.ResidualTooLarge legal runs some none stops tells few is = large_ends left failed s asked start out_old out p r new steps written steps_new rep f legal runs some none stops tells few is
-refusal_ends left failed s asked start out_old out p r new steps written steps_new rep f faults.Read legal runs some none stops tells few is = read_ends left failed s asked start out_old out p r new steps written steps_new rep f runs some none stops tells is
-refusal_ends left failed s asked start out_old out p r new steps written steps_new rep f faults.TooLong legal runs some none stops tells few is = long_ends left failed s asked start out_old out p r new steps written steps_new rep f runs some none stops tells is
+-- the decoder refuses
+pub refusal_ends : {I : Type 0} {s : Parameters} {asked : Option ℕ} {start : Reader I} {out_old out : Option (List ℕ)} {p : DecoderState} {r new : Reader I} {steps steps_new written : ℕ} {rep : Report} {f : Option Fault} {left : Option (List ℕ)} {failed : ℕ} (fault : CodeFault) → IsLegal s
+    → (runs : DecodingProgress s asked start out_old out p r steps written) → wanted_of asked written s.block ≢ 0 → (p.run ≡ 0) × StopsBy (with_mark r) new s runs.blocks (Err fault)
+    → AreCounted steps steps_new r.taken new.taken → Reports rep f left failed new written steps_new (Some (refusal_fault fault written s.block)) → Ends s asked start.left left out_old out rep f
+refusal_ends faults.CodeEnds legal runs some stops counted tells = ended_ends false runs some stops.0 stops.1 counted tells
+refusal_ends {s = s} faults.RunPastSegment legal runs some stops counted tells =
+    refused_ends (RunIsSound s runs.blocks) Past _ (λ e. cc) legal runs some stops.0 stops.1 (λ asked rest used goes h. (goes, h)) counted tells (λ c ys d n. (d, refl, n))
+refusal_ends {s = s} faults.ResidualTooLarge legal runs some stops counted tells =
+    refused_ends (ResidualsAreSound s) Large _ (λ e. cc) legal runs some stops.0 stops.1 (λ asked rest used goes h. (goes, h)) counted tells (λ c ys d n. (d, refl, n))
+refusal_ends faults.Read legal runs some stops counted tells = read_ends runs some stops.0 stops.1 counted tells
+refusal_ends faults.TooLong legal runs some stops counted tells = long_ends runs some stops.0 stops.1 counted tells
 
-stops_fail : {I : Type 0} (left : I → Option (List ℕ)) (failed : I → ℕ) (s : Parameters) (b : ℕ) (r new : Reader I) (n written block writes : ℕ) (fault : CodeFault) → StopsBy left failed (with_mark r) new s b (Err fault) → failed r.intake ≡ n → Fails (Some (refusal_fault fault written block)) n (failed new.intake) writes writes
-stops_fail left failed s b r new n written block writes faults.CodeEnds stops e = (stops.cut.stops.refuses.2 ∙ e, refl)
-stops_fail left failed s b r new n written block writes faults.RunPastSegment stops e = (stops.takes.failures ∙ e, refl)
-stops_fail left failed s b r new n written block writes faults.ResidualTooLarge stops e = (stops.takes.failures ∙ e, refl)
-stops_fail left failed s b r new n written block writes faults.Read stops e = (stops.stops.refuses.1 ∙ ap (λ m. m + 1) e, refl)
-stops_fail left failed s b r new n written block writes faults.TooLong stops e = (stops.stops.refuses.1 ∙ e, refl)
+-- a fault of the intake is its one failure
+stops_fail : {I : Type 0} (s : Parameters) (b : ℕ) (r new : Reader I) (n written block writes : ℕ) (fault : CodeFault) → StopsBy (with_mark r) new s b (Err fault) → r.failed ≡ n → Fails (Some (refusal_fault fault written block)) n new.failed writes writes
+stops_fail s b r new n written block writes faults.CodeEnds stops e = (stops.cut.stops.refuses.2 ∙ e, refl)
+stops_fail s b r new n written block writes faults.RunPastSegment stops e = (stops.takes.failures ∙ e, refl)
+stops_fail s b r new n written block writes faults.ResidualTooLarge stops e = (stops.takes.failures ∙ e, refl)
+stops_fail s b r new n written block writes faults.Read stops e = (stops.stops.refuses.1 ∙ ap (λ m. m + 1) e, refl)
+stops_fail s b r new n written block writes faults.TooLong stops e = (stops.stops.refuses.1 ∙ e, refl)
 
-pub refusal_fails : {I : Type 0} (left : I → Option (List ℕ)) (failed : I → ℕ) (s : Parameters) (b : ℕ) (r new : Reader I) (reads written writes writes_new : ℕ) (f : Option Fault) (fault : CodeFault) →
-    failed r.intake ≡ reads → StopsBy left failed (with_mark r) new s b (Err fault) → writes_new ≡ writes → f ≡ Some (refusal_fault fault written s.block) → Fails f reads (failed new.intake) writes writes_new
-refusal_fails left failed s b r new reads written writes writes_new f fault e stops same is =
-    subst (λ (f : Option Fault). Fails f reads (failed new.intake) writes writes_new) (sym is)
-    (subst (λ (w : ℕ). Fails (Some (refusal_fault fault written s.block)) reads (failed new.intake) writes w) (sym same)
-    (stops_fail left failed s b r new reads written s.block writes fault stops e))
+-- the failures where decoding ends with this fault
+reported_fails : {f fault : Option Fault} {reads_now failed writes writes_new : ℕ} (reads : ℕ) → f ≡ fault → failed ≡ reads_now → writes_new ≡ writes → Fails fault reads reads_now writes writes → Fails f reads failed writes writes_new
+reported_fails {f = f} {fault = fault} {reads_now = reads_now} {failed = failed} {writes = writes} {writes_new = writes_new} reads is there same fails =
+    subst (λ (f : Option Fault). Fails f reads failed writes writes_new) (sym is)
+    (subst (λ (n : ℕ). Fails fault reads n writes writes_new) (sym there) (subst (λ (n : ℕ). Fails fault reads reads_now writes n) (sym same) fails))
 
-pub done_fails : {I : Type 0} (left : I → Option (List ℕ)) (failed : I → ℕ) (s : Parameters) (b : ℕ) (asked : Option ℕ) (r new : Reader I) (reads written writes writes_new : ℕ) (f : Option Fault) →
-    failed r.intake ≡ reads → SetEnds left failed (with_mark r) new s b true → writes_new ≡ writes → f ≡ ended_fault asked written → Fails f reads (failed new.intake) writes writes_new
-done_fails left failed s b asked r new reads written writes writes_new f e ends same is =
-    subst (λ (f : Option Fault). Fails f reads (failed new.intake) writes writes_new) (sym is) (by_count asked (ends.cut.stops.refuses.2 ∙ e) same)
+pub refusal_fails : {I : Type 0} {s : Parameters} {asked : Option ℕ} {start : Reader I} {out_old out : Option (List ℕ)} {p : DecoderState} {r new : Reader I} {steps steps_new written writes writes_new : ℕ} {rep : Report} {f : Option Fault} {left : Option (List ℕ)} {failed : ℕ} (fault : CodeFault)
+    → (runs : DecodingProgress s asked start out_old out p r steps written) → (p.run ≡ 0) × StopsBy (with_mark r) new s runs.blocks (Err fault) → writes_new ≡ writes
+    → Reports rep f left failed new written steps_new (Some (refusal_fault fault written s.block)) → Fails f start.failed failed writes writes_new
+refusal_fails {s = s} {r = r} {new = new} {written = written} {writes = writes} fault runs stops same tells =
+    reported_fails _ tells.fault_is tells.failed_is same (stops_fail s runs.blocks r new _ written s.block writes fault stops.1 runs.reads)
+
+pub done_fails : {I : Type 0} {s : Parameters} {asked : Option ℕ} {start : Reader I} {out_old out : Option (List ℕ)} {p : DecoderState} {r new : Reader I} {steps steps_new written writes writes_new : ℕ} {rep : Report} {f : Option Fault} {left : Option (List ℕ)} {failed : ℕ}
+    → (runs : DecodingProgress s asked start out_old out p r steps written) → (p.run ≡ 0) × SetEnds (with_mark r) new s runs.blocks true → writes_new ≡ writes
+    → Reports rep f left failed new written steps_new (ended_fault asked written) → Fails f start.failed failed writes writes_new
+done_fails {asked = asked} {start = start} {new = new} {written = written} {writes = writes} runs ends same tells =
+    reported_fails _ tells.fault_is tells.failed_is same (by_count asked (ends.1.cut.stops.refuses.2 ∙ runs.reads))
   where
-    by_count : (asked : Option ℕ) → failed new.intake ≡ reads → writes_new ≡ writes → Fails (ended_fault asked written) reads (failed new.intake) writes writes_new
-    by_count None e h = (e, h)
-    by_count (Some n) e h = (e, h)
+    by_count : (asked : Option ℕ) → new.failed ≡ start.failed → Fails (ended_fault asked written) start.failed new.failed writes writes
+    by_count None e = (e, refl)
+    by_count (Some n) e = (e, refl)
 
 -- nothing is decoded yet
-pub runs_first : {I : Type 0} (left : I → Option (List ℕ)) (failed : I → ℕ) (s : Parameters) (asked : Option ℕ) (start : I) (out : Option (List ℕ)) (p : DecoderState) (r : Reader I) (steps : ℕ) → IsLegal s →
-    p ≡ record { setting = s; block = 0; before = pos 0; run = 0; stopped = None } → r ≡ record { waiting = []; taken = 0; blank = true; refusal = None; intake = start } → steps ≡ 0 → DecodingProgress left failed s asked start out out p r steps 0
-runs_first {I = I} left failed s asked start out p r steps legal ep er es =
-    let taken = ap (λ r. r.taken) er in
+pub runs_first : {I : Type 0} {s : Parameters} {intake : I} {left : Option (List ℕ)} {failed : ℕ} {p : DecoderState} {r : Reader I} {steps : ℕ} (asked : Option ℕ) (out : Option (List ℕ)) → IsLegal s
+    → p ≡ record { setting = s; block = 0; before = pos 0; run = 0; stopped = None } → r ≡ new_reader intake left failed → steps ≡ 0 → DecodingProgress s asked (new_reader intake left failed) out out p r steps 0
+runs_first {I = I} {s = s} {intake = intake} {left = left} {failed = failed} {p = p} {steps = steps} asked out legal ep er es =
     let run = ap (λ p. p.run) ep in
-    record {
+    let start = new_reader intake left failed in
+    subst (λ (r : Reader I). DecodingProgress s asked start out out p r steps 0) (sym er) record {
       blocks = 0;
-      bytes = [];
       front = [];
       given = [];
-      setting = ap (λ p. p.setting) ep;
-      here = mod-eq_of_lt legal.interval_from ∙ sym (ap (λ p. p.block) ep);
-      previous = ap (λ p. p.before) ep;
-      going = ap (λ p. p.stopped) ep;
-      reader_going = ap (λ r. r.refusal) er;
-      gave = subst (λ (i : I). Consumes (left start) (left i) []) (sym (ap (λ r. r.intake) er)) (Consumes-nil (left start));
-      bits = bits_of-nil ∙ sym (ap (λ r. r.waiting) er);
-      taken = taken;
-      limit = omega (arith, taken);
+      sets = [];
       begun = 0;
+      at_block = record {
+        setting = ap (λ p. p.setting) ep;
+        here = mod-eq_of_lt legal.interval_from ∙ sym (ap (λ p. p.block) ep);
+        previous = ap (λ p. p.before) ep;
+        going = ap (λ p. p.stopped) ep;
+      };
+      going = refl;
+      reads = refl;
+      idle = λ none. refl;
+      limit = omega arith;
+      has_read = record { bytes = []; gave = Consumes-nil left; bits = bits_of-nil; count = refl };
+      has_sets = subst (λ (n : ℕ). HasSets s [] [] (0 + n)) (sym run) (sets-none s);
       before = omega arith;
-      behind = subst (λ (n : ℕ). DecodedSoFar s [] 0 0 n []) (sym run) (behind_nothing s);
-      wanted = λ i lt. absurd (omega arith);
-      count = sym (ap length (cut_nothing s asked 0));
-      few = omega (arith, ap (λ n. n * s.block) run);
-      asked_for = from_none asked;
-      least = omega (arith, taken, es);
-      most = omega (arith, taken, es);
-      reads = ap failed (ap (λ r. r.intake) er);
-      put = subst (λ (l : List ℤ). Appends out out (spellings s l)) (sym (cut_nothing s asked 0)) (Appends-nil out);
+      decoded = subst (λ (n : ℕ). DecodedSoFar s [] 0 0 n []) (sym run) (behind_nothing s);
+      has_written = record {
+        wanted = λ i lt. absurd (omega arith);
+        count = sym (ap length (cut_nothing s asked 0));
+        asked_for = from_none asked;
+        put = subst (λ (l : List ℤ). Appends out out (spellings s l)) (sym (cut_nothing s asked 0)) (Appends-nil out);
+      };
+      has_steps = record { count = omega (arith, es); most = omega (arith, es); by_bits = omega (arith, ap (λ n. n * s.block) run) };
     }
   where
     from_none : (asked : Option ℕ) → IfSome asked (λ n. 0 ≤ n)

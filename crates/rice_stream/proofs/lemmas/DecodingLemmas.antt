@@ -1,5 +1,5 @@
 -- What a call of the decoder does to a decoding.
-use Rattle.std.proofs.Common.{◌≡◌, ℕ, ◌+◌, ◌<◌, ◌≤◌, ◌==◌, ◌&&◌, cond, Bool, true, false, List, [], ◌∷◌, ◌++◌, length, take, replicate, ap, arith, sym, ◌∙◌, ◌⊎◌, inl, inr, subst, append_assoc, append-nil, length-append, Option, Some, None, ℤ, pos}
+use Rattle.std.proofs.Common.{◌≡◌, ℕ, ◌+◌, ◌<◌, ◌≤◌, ◌==◌, ◌&&◌, cond, Bool, true, false, List, [], ◌∷◌, ◌++◌, length, take, replicate, ap, arith, sym, ◌∙◌, ◌⊎◌, suc, inl, inr, subst, append_assoc, append-nil, length-append, Option, Some, None, ℤ, pos}
 use Rattle.std.specs.Prelude.{All, IfSome, Result, Ok, Err}
 use Rattle.std.specs.Io.KnownBytes.{Consumes}
 use Rattle.std.proofs.KnownBytes.{Consumes-nil}
@@ -13,7 +13,7 @@ use Rattle.rice_samples.specs.Parameters.{Parameters, IsLegal, IsSample}
 use Rattle.rice_samples.specs.Places.{place}
 use Rattle.rice_samples.specs.predict.Residuals.{last_of}
 use Rattle.rice_code.specs.code.Blocks.{zero_block}
-use Rattle.rice_code.specs.code.CodedDataSets.{CodedDataSet, bits_of_set}
+use Rattle.rice_code.specs.code.CodedDataSets.{CodedDataSet, bits_of_set, turns}
 use Rattle.rice_code.specs.decode.Decoder.{Answers, GivesBlock, GivesSet, GivesFromRun, StopsBy, SetEnds, with_mark}
 use Rattle.rice_code.specs.decode.DecoderState.{DecoderState, state_after_block}
 use Rattle.rice_code.specs.code.Forms.{blocks_in}
@@ -28,45 +28,62 @@ use Rattle.rice_code.proofs.lemmas.code.BlockPlaces.{same_blocks_in, same_conten
 use Rattle.rice_code.proofs.lemmas.code.SoundBlocks.{all_take}
 use Rattle.rice_bits.specs.declared.read.fault.BitFault.{BitFault}
 use Rattle.rice_stream.specs.Decodes.{wanted_of}
-use Rattle.rice_stream.specs.DecodingState.{DecodedSoFar, Gains, DecodingProgress}
+use Rattle.std.proofs.lemmas.List.{length-replicate}
+use Rattle.std.proofs.lemmas.List.Sums.{sum_by_push}
+use Rattle.rice_stream.specs.DecodingState.{DecodedSoFar, Gains, DecodingProgress, HasSets}
+use Rattle.rice_stream.proofs.lemmas.SetsRead.{sets-push}
 use Rattle.rice_stream.proofs.lemmas.DecodedSamples.{behind_set, behind_run}
 
+-- what `next_block` says to a decoder that goes on, inside a run and elsewhere
+pub record Advances {I : Type 0} (old new : Reader I) (steps steps_new : ℕ) (p q : DecoderState) (samples : List ℤ) (answer : Result Step CodeFault) : Type 0 where
+  pub in_run : p.stopped ≡ None → 0 < p.run → (answer ≡ Ok Block) × GivesFromRun p q samples × (new ≡ old) × (steps_new ≡ steps)
+  pub reads : p.stopped ≡ None → p.run ≡ 0 → Answers (with_mark old) new steps steps_new p q samples answer
+
+pub advances : {I : Type 0} (old new : Reader I) (steps steps_new : ℕ) (p q : DecoderState) (samples : List ℤ) {answer known : Result Step CodeFault} → answer ≡ known
+    → (p.stopped ≡ None → 0 < p.run → (answer ≡ Ok Block) × GivesFromRun p q samples × (new ≡ old) × (steps_new ≡ steps))
+    → (p.stopped ≡ None → p.run ≡ 0 → Answers (with_mark old) new steps steps_new p q samples answer) → Advances old new steps steps_new p q samples known
+advances old new steps steps_new p q samples is in_run reads =
+    subst (λ (a : Result Step CodeFault). Advances old new steps steps_new p q samples a) is record { in_run = in_run; reads = reads }
+
 -- what the decoder says where it gives a block, inside a run and elsewhere
-pub record Inside {I : Type 0} (old new : Reader I) (p q : DecoderState) (xs : List ℤ) : Type 0 where
+record Inside {I : Type 0} (old new : Reader I) (steps steps_new : ℕ) (p q : DecoderState) (samples : List ℤ) : Type 0 where
   pub run : 0 < p.run
-  pub gives : GivesFromRun p q xs
+  pub gives : GivesFromRun p q samples
   pub same : new ≡ old
+  pub steps_are : steps_new ≡ steps
 
-pub record Outside {I : Type 0} (left : I → Option (List ℕ)) (failed : I → ℕ) (old new : Reader I) (steps steps_new : ℕ) (p q : DecoderState) (xs : List ℤ) : Type 0 where
+record Outside {I : Type 0} (old new : Reader I) (steps steps_new : ℕ) (p q : DecoderState) (samples : List ℤ) : Type 0 where
   pub none : p.run ≡ 0
-  pub gives : GivesSet left failed (with_mark old) new steps steps_new p.setting p.block p.before xs q.run
-  pub moves : q ≡ state_after_block p xs q.run
-
--- what a decoder answers
-abbrev pub answer : Step → Result Step CodeFault
-answer step = Ok step
+  pub gives : GivesSet (with_mark old) new steps steps_new p.setting p.block p.before samples q.run
+  pub moves : q ≡ state_after_block p samples q.run
 
 -- a run goes on, or it doesn't
 runs_or_not : (p : DecoderState) → (0 < p.run) ⊎ (p.run ≡ 0)
 runs_or_not p = elim (cases_lt 0 p.run) [ inl lt ↦ inl lt | inr le ↦ inr (omega arith) ]
 
 -- a block was given
-pub took : {I : Type 0} (left : I → Option (List ℕ)) (failed : I → ℕ) (old new : Reader I) (steps steps_new : ℕ) (p q : DecoderState) (xs : List ℤ) (step : Step) → step ≡ Block → p.stopped ≡ None →
-    (p.stopped ≡ None → 0 < p.run → (answer step ≡ Ok Block) × GivesFromRun p q xs × (new ≡ old) × (steps_new ≡ steps)) →
-    (p.stopped ≡ None → p.run ≡ 0 → Answers left failed (with_mark old) new steps steps_new p q xs (Ok step)) → Inside old new p q xs ⊎ Outside left failed old new steps steps_new p q xs
-took left failed old new steps steps_new p q xs step is going in_run reads =
+took : {I : Type 0} {old new : Reader I} {steps steps_new : ℕ} {p q : DecoderState} {samples : List ℤ} → p.stopped ≡ None → Advances old new steps steps_new p q samples (Ok Block)
+    → Inside old new steps steps_new p q samples ⊎ Outside old new steps steps_new p q samples
+took {p = p} going a =
     elim (runs_or_not p) [
-      | inl lt ↦ let k = in_run going lt in inl (record { run = lt; gives = k.1; same = k.2 })
-      | inr none ↦ let a = subst (λ (st : Step). Answers left failed (with_mark old) new steps steps_new p q xs (Ok st)) is (reads going none) in inr (record { none = none; gives = a.0; moves = a.1 })
+      | inl lt ↦ let k = a.in_run going lt in inl (record { run = lt; gives = k.1; same = k.2; steps_are = k.3 })
+      | inr none ↦ let k = a.reads going none in inr (record { none = none; gives = k.0; moves = k.1 })
     ]
 
-pub moves_of : {I : Type 0} (left : I → Option (List ℕ)) (failed : I → ℕ) (old new : Reader I) (steps steps_new : ℕ) (p q : DecoderState) (xs : List ℤ) → Inside old new p q xs ⊎ Outside left failed old new steps steps_new p q xs → q ≡ state_after_block p xs q.run
-moves_of left failed old new steps steps_new p q xs (inl k) = k.gives.moves
-moves_of left failed old new steps steps_new p q xs (inr k) = k.moves
+pub moves_of : {I : Type 0} {old new : Reader I} {steps steps_new : ℕ} {p q : DecoderState} {samples : List ℤ} → p.stopped ≡ None → Advances old new steps steps_new p q samples (Ok Block)
+    → q ≡ state_after_block p samples q.run
+moves_of going a = elim (took going a) [ inl k ↦ k.gives.moves | inr k ↦ k.moves ]
 
-pub legal_of_block : {I : Type 0} (left : I → Option (List ℕ)) (failed : I → ℕ) (old new : Reader I) (steps steps_new : ℕ) (p q : DecoderState) (xs : List ℤ) → Inside old new p q xs ⊎ Outside left failed old new steps steps_new p q xs → (length xs ≡ p.setting.block) × All (IsSample p.setting) xs
-legal_of_block left failed old new steps steps_new p q xs (inl k) = (k.gives.gives.len, k.gives.gives.legal)
-legal_of_block left failed old new steps steps_new p q xs (inr k) = (k.gives.set.gives.len, k.gives.set.gives.legal)
+-- the samples of a block
+pub record AreOfBlock (s : Parameters) (samples : List ℤ) : Type 0 where
+  pub len : length samples ≡ s.block
+  pub legal : All (IsSample s) samples
+
+pub samples_of_block : {I : Type 0} {old new : Reader I} {steps steps_new : ℕ} {p q : DecoderState} {samples : List ℤ} (s : Parameters) → p.setting ≡ s → p.stopped ≡ None → Advances old new steps steps_new p q samples (Ok Block)
+    → AreOfBlock s samples
+samples_of_block {samples = samples} s setting going a =
+    subst (λ (t : Parameters). AreOfBlock t samples) setting
+    (elim (took going a) [ inl k ↦ record { len = k.gives.gives.len; legal = k.gives.gives.legal } | inr k ↦ record { len = k.gives.set.gives.len; legal = k.gives.set.gives.legal } ])
 
 -- the place that a decoder holds is that of a block
 pub same_place : (s : Parameters) (b c : ℕ) → 1 ≤ s.interval → place s b ≡ c → place s c ≡ place s b
@@ -87,9 +104,10 @@ run_gives_there s b c run left p xs j e g = record {
 }
 
 -- a block of a coded data set
-gains_set : {I : Type 0} (left : I → Option (List ℕ)) (failed : I → ℕ) (s : Parameters) (r new : Reader I) (steps steps_new b c begun run : ℕ) (p : ℤ) (front : List Bool) (given xs : List ℤ) → IsLegal s → place s b ≡ c → p ≡ last_of (pos 0) given → r.taken ≡ length front → begun ≤ b → DecodedSoFar s front begun b 0 given →
-    GivesSet left failed (with_mark r) new steps steps_new s c p xs run → Gains left failed s r new front b run given xs
-gains_set {I = I} left failed s r new steps steps_new b c begun run p front given xs legal here previous taken before behind gives =
+gains_set : {I : Type 0} (s : Parameters) (r new : Reader I) (steps steps_new b c begun run : ℕ) (p : ℤ) (front : List Bool) (sets : List CodedDataSet) (given xs : List ℤ)
+    → IsLegal s → place s b ≡ c → p ≡ last_of (pos 0) given → r.taken ≡ length front → begun ≤ b → HasSets s sets front b → DecodedSoFar s front begun b 0 given
+    → GivesSet (with_mark r) new steps steps_new s c p xs run → Gains s r new steps steps_new front sets b run given xs
+gains_set {I = I} s r new steps steps_new b c begun run p front sets given xs legal here previous taken before has behind gives =
     let j : 1 ≤ s.block = let k : 8 ≤ s.block = grind (arith, legal.block) in omega arith in
     let e = same_place s b c legal.interval_from here in
     let set = gives.set in
@@ -102,101 +120,123 @@ gains_set {I = I} left failed s r new steps steps_new b c begun run p front give
     let pads : length skips.bits ≡ padding s (block_after s b d) (length front + length t) =
     skips.len ∙ ap (λ n. padding s (block_after s c d) n) position ∙ ap (λ v. cond (s.pad && v == 0) (bits_to_byte (length front + length t)) 0) (next_place s c b d e) in
     let block = gives_there s b c run p xs d j e set.gives in
-    let intake : new.intake ≡ middle.intake = ap (λ (v : Reader I). v.intake) skips.same in
+    let form = form_there s c b d e set.form in
+    let run_sound = run_there s c b d e set.run_sound in
     let bits = t ++ skips.bits in
+    let new_taken : new.taken ≡ r.taken + length bits = ap (λ (v : Reader I). v.taken) skips.same ∙ sums r.taken (length t) _ _ _ set.takes.taken skips.len (length-append t skips.bits) in
+    let count : suc (length (replicate run (zero_block s None))) ≡ length (blocks_in s b d) = ap length block.blocks_are in
+    let after : b + 1 + run ≡ b + length (blocks_in s b d) = omega (arith, count, length-replicate run (zero_block s None)) in
     record {
       bits = bits;
       draws = record {
         given = draws.given;
-        consumed = subst (λ (i : I). Consumes (left r.intake) (left i) draws.given) (sym intake) draws.consumed;
+        consumed = subst (λ (l : Option (List ℕ)). Consumes r.left l draws.given) (sym (ap (λ (v : Reader I). v.left) skips.same)) draws.consumed;
+        needed = λ given. omega (arith, draws.needed given, length-append t skips.bits);
         split = draws.split ∙ ap (λ l. t ++ l) skips.split ∙ sym (append_assoc t skips.bits new.waiting);
       };
-      taken = ap (λ (v : Reader I). v.taken) skips.same ∙ sums r.taken (length t) _ _ _ set.takes.taken skips.len (length-append t skips.bits);
+      taken = new_taken;
       going = ap (λ (v : Reader I). v.refusal) skips.same ∙ set.takes.going;
-      failures = ap failed intake ∙ set.takes.failures;
+      failures = ap (λ (v : Reader I). v.failed) skips.same ∙ set.takes.failures;
       len = block.len;
       begun = b + 1;
       before = omega arith;
-      behind = behind_set s front skips.bits begun b run given xs d legal behind before (form_there s c b d e set.form) (run_there s c b d e set.run_sound) set.residuals_sound pads
+      decoded = behind_set s front skips.bits begun b run given xs d legal behind before form run_sound set.residuals_sound pads
           (subst (λ (q : ℤ). GivesBlock s b q xs run (blocks_in s b d)) previous block);
+      more_sets = sets ++ d ∷ [];
+      has_sets = sets-push s sets front skips.bits b (b + 1 + run) d has form run_sound set.residuals_sound pads after;
+      counted = omega (arith, set.steps, gives.steps, sum_by_push turns sets d);
     }
   where
     sums : (n t m k all : ℕ) → m ≡ n + t → {len : ℕ} → len ≡ k → all ≡ t + len → m + k ≡ n + all
     sums n t m k all e f g = omega arith
 
 -- a block of a run
-gains_run : {I : Type 0} (left : I → Option (List ℕ)) (failed : I → ℕ) (s : Parameters) (r new : Reader I) (b c begun run run_new : ℕ) (p : ℤ) (front : List Bool) (given xs : List ℤ) → IsLegal s → place s b ≡ c → p ≡ last_of (pos 0) given → r.refusal ≡ None → begun ≤ b → DecodedSoFar s front begun b run given → new ≡ r →
-    GivesBlock s c p xs run_new (replicate run (zero_block s None)) → Gains left failed s r new front b run_new given xs
-gains_run {I = I} left failed s r new b c begun run run_new p front given xs legal here previous going before behind same gives =
+gains_run : {I : Type 0} (s : Parameters) (r new : Reader I) (steps steps_new b c begun run run_new : ℕ) (p : ℤ) (front : List Bool) (sets : List CodedDataSet) (given xs : List ℤ)
+    → IsLegal s → place s b ≡ c → p ≡ last_of (pos 0) given → r.refusal ≡ None → begun ≤ b → HasSets s sets front (b + run) → DecodedSoFar s front begun b run given → new ≡ r → steps_new ≡ steps
+    → GivesBlock s c p xs run_new (replicate run (zero_block s None)) → Gains s r new steps steps_new front sets b run_new given xs
+gains_run {I = I} s r new steps steps_new b c begun run run_new p front sets given xs legal here previous going before has behind same same_steps gives =
     let j : 1 ≤ s.block = let k : 8 ≤ s.block = grind (arith, legal.block) in omega arith in
     let block = run_gives_there s b c run run_new p xs j (same_place s b c legal.interval_from here) gives in
     let all = behind_run s front begun b run run_new given xs behind (subst (λ (q : ℤ). GivesBlock s b q xs run_new (replicate run (zero_block s None))) previous block) in
     let nothing : r.taken ≡ r.taken + 0 = omega arith in
+    let count : suc (length (replicate run_new (zero_block s None))) ≡ length (replicate run (zero_block s None)) = ap length block.blocks_are in
+    let after : b + run ≡ b + 1 + run_new = omega (arith, count, length-replicate run (zero_block s None), length-replicate run_new (zero_block s None)) in
     record {
       bits = [];
       draws = record {
         given = [];
-        consumed = subst (λ (v : Reader I). Consumes (left r.intake) (left v.intake) []) (sym same) (Consumes-nil (left r.intake));
+        consumed = subst (λ (v : Reader I). Consumes r.left v.left []) (sym same) (Consumes-nil r.left);
+        needed = λ given. absurd (omega arith);
         split = ap (λ l. r.waiting ++ l) bits_of-nil ∙ append-nil r.waiting ∙ ap (λ (v : Reader I). v.waiting) (sym same);
       };
       taken = ap (λ (v : Reader I). v.taken) same ∙ nothing;
       going = ap (λ (v : Reader I). v.refusal) same ∙ going;
-      failures = ap (λ (v : Reader I). failed v.intake) same;
+      failures = ap (λ (v : Reader I). v.failed) same;
       len = block.len;
       begun = begun;
       before = omega arith;
-      behind = subst (λ (l : List Bool). DecodedSoFar s l begun (b + 1) run_new (given ++ xs)) (sym (append-nil front)) all;
+      decoded = subst (λ (l : List Bool). DecodedSoFar s l begun (b + 1) run_new (given ++ xs)) (sym (append-nil front)) all;
+      more_sets = sets;
+      has_sets = subst (λ (l : List Bool). HasSets s sets l (b + 1 + run_new)) (sym (append-nil front)) (subst (λ (n : ℕ). HasSets s sets front n) after has);
+      counted = omega (arith, same_steps, ap (λ (v : Reader I). v.taken) same);
     }
 
-pub gains : {I : Type 0} (left : I → Option (List ℕ)) (failed : I → ℕ) (s : Parameters) (asked : Option ℕ) (start : I) (out_old out : Option (List ℕ)) (p q : DecoderState) (r new : Reader I) (steps steps_new written : ℕ) (xs : List ℤ) → IsLegal s →
-    (runs : DecodingProgress left failed s asked start out_old out p r steps written) → Inside r new p q xs ⊎ Outside left failed r new steps steps_new p q xs → Gains left failed s r new runs.front runs.blocks q.run runs.given xs
-gains left failed s asked start out_old out p q r new steps steps_new written xs legal runs (inl k) =
-    let block = subst (λ (t : Parameters). GivesBlock t p.block p.before xs q.run (replicate p.run (zero_block t None))) runs.setting k.gives.gives in
-    gains_run left failed s r new runs.blocks p.block runs.begun p.run q.run p.before runs.front runs.given xs legal runs.here runs.previous runs.reader_going runs.before runs.behind k.same block
-gains left failed s asked start out_old out p q r new steps steps_new written xs legal runs (inr k) =
-    let set = subst (λ (t : Parameters). GivesSet left failed (with_mark r) new steps steps_new t p.block p.before xs q.run) runs.setting k.gives in
-    let behind = subst (λ (n : ℕ). DecodedSoFar s runs.front runs.begun runs.blocks n runs.given) k.none runs.behind in
-    gains_set left failed s r new steps steps_new runs.blocks p.block runs.begun q.run p.before runs.front runs.given xs legal runs.here runs.previous runs.taken runs.before behind set
-
--- where the decoder stops no run goes on
-pub stopped : {I : Type 0} (left : I → Option (List ℕ)) (failed : I → ℕ) (old new : Reader I) (steps steps_new : ℕ) (p q : DecoderState) (xs : List ℤ) (fault : CodeFault) → p.stopped ≡ None →
-    (p.stopped ≡ None → 0 < p.run → (Err fault ≡ Ok Block) × GivesFromRun p q xs × (new ≡ old) × (steps_new ≡ steps)) →
-    (p.stopped ≡ None → p.run ≡ 0 → Answers left failed (with_mark old) new steps steps_new p q xs (Err fault)) → (p.run ≡ 0) × StopsBy left failed (with_mark old) new p.setting p.block (Err fault)
-stopped left failed old new steps steps_new p q xs fault going in_run reads =
-    elim (runs_or_not p) [
-      | inl lt ↦ absurd (let e = (in_run going lt).0 in cc)
-      | inr none ↦ (none, (reads going none).0)
-    ]
-
-pub done : {I : Type 0} (left : I → Option (List ℕ)) (failed : I → ℕ) (old new : Reader I) (steps steps_new : ℕ) (p q : DecoderState) (xs : List ℤ) (step : Step) → step ≡ Done → p.stopped ≡ None →
-    (p.stopped ≡ None → 0 < p.run → (answer step ≡ Ok Block) × GivesFromRun p q xs × (new ≡ old) × (steps_new ≡ steps)) →
-    (p.stopped ≡ None → p.run ≡ 0 → Answers left failed (with_mark old) new steps steps_new p q xs (Ok step)) → (p.run ≡ 0) × SetEnds left failed (with_mark old) new p.setting p.block true
-done left failed old new steps steps_new p q xs step is going in_run reads =
-    elim (runs_or_not p) [
-      | inl lt ↦ absurd (let e = (in_run going lt).0 in cc)
-      | inr none ↦ let a = subst (λ (st : Step). Answers left failed (with_mark old) new steps steps_new p q xs (Ok st)) is (reads going none) in (none, a.0)
+pub gains : {I : Type 0} {s : Parameters} {asked : Option ℕ} {start : Reader I} {out_old out : Option (List ℕ)} {p q : DecoderState} {r new : Reader I} {steps steps_new written : ℕ} {xs : List ℤ} → IsLegal s
+    → (runs : DecodingProgress s asked start out_old out p r steps written) → Advances r new steps steps_new p q xs (Ok Block)
+    → Gains s r new steps steps_new runs.front runs.sets runs.blocks q.run runs.given xs
+gains {s = s} {p = p} {q = q} {r = r} {new = new} {steps = steps} {steps_new = steps_new} {xs = xs} legal runs a =
+    let at = runs.at_block in
+    elim (took at.going a) [
+      | inl k ↦ let block = subst (λ (t : Parameters). GivesBlock t p.block p.before xs q.run (replicate p.run (zero_block t None))) at.setting k.gives.gives in
+          gains_run s r new steps steps_new runs.blocks p.block runs.begun p.run q.run p.before runs.front runs.sets runs.given xs legal at.here at.previous runs.going runs.before runs.has_sets runs.decoded k.same k.steps_are block
+      | inr k ↦ let set = subst (λ (t : Parameters). GivesSet (with_mark r) new steps steps_new t p.block p.before xs q.run) at.setting k.gives in
+          let end : runs.blocks + p.run ≡ runs.blocks = omega (arith, k.none) in
+          let has = subst (λ (n : ℕ). HasSets s runs.sets runs.front n) end runs.has_sets in
+          let behind = subst (λ (n : ℕ). DecodedSoFar s runs.front runs.begun runs.blocks n runs.given) k.none runs.decoded in
+          gains_set s r new steps steps_new runs.blocks p.block runs.begun q.run p.before runs.front runs.sets runs.given xs legal at.here at.previous runs.has_read.count runs.before has behind set
     ]
 
 -- of the block only its place matters where the decoder stops
-pub cut_there : {I : Type 0} (left : I → Option (List ℕ)) (failed : I → ℕ) (old new : Reader I) (s : Parameters) (b c : ℕ) (fault : BitFault) → place s c ≡ place s b → SetCut left failed old new s c fault → SetCut left failed old new s b fault
-cut_there left failed old new s b c fault e cut = record { bits = cut.bits; stops = cut.stops; none = λ d more f g. cut.none d more (form_there s b c d (sym e) f) g }
+pub cut_there : {I : Type 0} (old new : Reader I) (s : Parameters) (b c : ℕ) (fault : BitFault) → place s c ≡ place s b → SetCut old new s c fault → SetCut old new s b fault
+cut_there old new s b c fault e cut = record { bits = cut.bits; stops = cut.stops; none = λ d more f g. cut.none d more (form_there s b c d (sym e) f) g }
 
-pub ends_there : {I : Type 0} (left : I → Option (List ℕ)) (failed : I → ℕ) (old new : Reader I) (s : Parameters) (b c : ℕ) (blank : Bool) → place s c ≡ place s b → SetEnds left failed old new s c blank → SetEnds left failed old new s b blank
+pub ends_there : {I : Type 0} (old new : Reader I) (s : Parameters) (b c : ℕ) (blank : Bool) → place s c ≡ place s b → SetEnds old new s c blank → SetEnds old new s b blank
 unfolding cut_there
-ends_there left failed old new s b c blank e ends = record { cut = cut_there left failed old new s b c _ e ends.cut; told = ends.told }
+ends_there old new s b c blank e ends = record { cut = cut_there old new s b c _ e ends.cut; told = ends.told }
 
-stops_there : {I : Type 0} (left : I → Option (List ℕ)) (failed : I → ℕ) (old new : Reader I) (s : Parameters) (b c : ℕ) (fault : CodeFault) → place s c ≡ place s b → StopsBy left failed old new s c (Err fault) → StopsBy left failed old new s b (Err fault)
-stops_there left failed old new s b c faults.CodeEnds e h = ends_there left failed old new s b c false e h
-stops_there left failed old new s b c faults.RunPastSegment e h = record { set = h.set; form = form_there s c b h.set e h.form; takes = h.takes; unsound = λ g. h.unsound (run_there s b c h.set (sym e) g) }
-stops_there left failed old new s b c faults.ResidualTooLarge e h = record { set = h.set; form = form_there s c b h.set e h.form; takes = h.takes; unsound = h.unsound }
-stops_there left failed old new s b c faults.Read e h = cut_there left failed old new s b c _ e h
-stops_there left failed old new s b c faults.TooLong e h = cut_there left failed old new s b c _ e h
+stops_there : {I : Type 0} (old new : Reader I) (s : Parameters) (b c : ℕ) (fault : CodeFault) → place s c ≡ place s b → StopsBy old new s c (Err fault) → StopsBy old new s b (Err fault)
+stops_there old new s b c faults.CodeEnds e h = ends_there old new s b c false e h
+stops_there old new s b c faults.RunPastSegment e h = record { set = h.set; form = form_there s c b h.set e h.form; takes = h.takes; unsound = λ g. h.unsound (run_there s b c h.set (sym e) g) }
+stops_there old new s b c faults.ResidualTooLarge e h = record { set = h.set; form = form_there s c b h.set e h.form; takes = h.takes; unsound = h.unsound }
+stops_there old new s b c faults.Read e h = cut_there old new s b c _ e h
+stops_there old new s b c faults.TooLong e h = cut_there old new s b c _ e h
 
-pub stops_here : {I : Type 0} (left : I → Option (List ℕ)) (failed : I → ℕ) (old new : Reader I) (s t : Parameters) (b c : ℕ) (fault : CodeFault) → 1 ≤ s.interval → t ≡ s → place s b ≡ c → StopsBy left failed old new t c (Err fault) → StopsBy left failed old new s b (Err fault)
-stops_here left failed old new s t b c fault some setting here h = stops_there left failed old new s b c fault (same_place s b c some here) (subst (λ (t : Parameters). StopsBy left failed old new t c (Err fault)) setting h)
+stops_here : {I : Type 0} (old new : Reader I) (s t : Parameters) (b c : ℕ) (fault : CodeFault) → 1 ≤ s.interval → t ≡ s → place s b ≡ c → StopsBy old new t c (Err fault) → StopsBy old new s b (Err fault)
+stops_here old new s t b c fault some setting here h = stops_there old new s b c fault (same_place s b c some here) (subst (λ (t : Parameters). StopsBy old new t c (Err fault)) setting h)
 
-pub ends_at : {I : Type 0} (left : I → Option (List ℕ)) (failed : I → ℕ) (old new : Reader I) (s t : Parameters) (b c : ℕ) (blank : Bool) → 1 ≤ s.interval → t ≡ s → place s b ≡ c → SetEnds left failed old new t c blank → SetEnds left failed old new s b blank
-ends_at left failed old new s t b c blank some setting here h = ends_there left failed old new s b c blank (same_place s b c some here) (subst (λ (t : Parameters). SetEnds left failed old new t c blank) setting h)
+ends_at : {I : Type 0} (old new : Reader I) (s t : Parameters) (b c : ℕ) (blank : Bool) → 1 ≤ s.interval → t ≡ s → place s b ≡ c → SetEnds old new t c blank → SetEnds old new s b blank
+ends_at old new s t b c blank some setting here h = ends_there old new s b c blank (same_place s b c some here) (subst (λ (t : Parameters). SetEnds old new t c blank) setting h)
+
+-- where the decoder stops, it is in no run
+pub stopped : {I : Type 0} {s : Parameters} {asked : Option ℕ} {start : Reader I} {out_old out : Option (List ℕ)} {p q : DecoderState} {r new : Reader I} {steps steps_new written : ℕ} {xs : List ℤ} {fault : CodeFault} → IsLegal s
+    → (runs : DecodingProgress s asked start out_old out p r steps written) → Advances r new steps steps_new p q xs (Err fault)
+    → (p.run ≡ 0) × StopsBy (with_mark r) new s runs.blocks (Err fault)
+stopped {s = s} {p = p} {r = r} {new = new} {fault = fault} legal runs a =
+    let at = runs.at_block in
+    elim (runs_or_not p) [
+      | inl lt ↦ absurd (let e = (a.in_run at.going lt).0 in cc)
+      | inr none ↦ (none, stops_here (with_mark r) new s p.setting runs.blocks p.block fault legal.interval_from at.setting at.here (a.reads at.going none).0)
+    ]
+
+pub done : {I : Type 0} {s : Parameters} {asked : Option ℕ} {start : Reader I} {out_old out : Option (List ℕ)} {p q : DecoderState} {r new : Reader I} {steps steps_new written : ℕ} {xs : List ℤ} → IsLegal s
+    → (runs : DecodingProgress s asked start out_old out p r steps written) → Advances r new steps steps_new p q xs (Ok Done)
+    → (p.run ≡ 0) × SetEnds (with_mark r) new s runs.blocks true
+done {s = s} {p = p} {r = r} {new = new} legal runs a =
+    let at = runs.at_block in
+    elim (runs_or_not p) [
+      | inl lt ↦ absurd (let e = (a.in_run at.going lt).0 in cc)
+      | inr none ↦ (none, ends_at (with_mark r) new s p.setting runs.blocks p.block true legal.interval_from at.setting at.here (a.reads at.going none).0)
+    ]
 
 -- no more samples than were asked for
 pub still_asked : (asked : Option ℕ) (written block : ℕ) → IfSome asked (λ n. written ≤ n) → IfSome asked (λ n. written + wanted_of asked written block ≤ n)

@@ -9,16 +9,16 @@ use Rattle.rice_bits.specs.read.Reader.{Draws, Takes, Stops, Refuses, Reader, is
 use Rattle.rice_bits.specs.read.Window.{Passes, window_bits, window_passed, window_taken}
 use Rattle.rice_bits.specs.declared.read.window.Window.{Window}
 use Rattle.rice_bits.proofs.lemmas.read.Blank.{and-assoc, and-true, blank-append, blank_joined, one_behind_zeros}
-use Rattle.rice_bits.proofs.lemmas.read.Drawing.{draws-append, draws-same, draws-take}
+use Rattle.rice_bits.proofs.lemmas.read.Drawing.{draws-append, draws-waiting}
 
 -- bits are taken of those that a window has
-pub takes_passed : {I : Type 0} (left : I → Option (List ℕ)) (failed : I → ℕ) (old : Reader I) (intake : I) (mid new : Window) (before : Bool) (refusal : Option BitFault) (bits : List Bool)
-    → Draws (left old.intake) (left intake) old.waiting (window_bits mid) [] → window_taken mid ≡ old.taken
-    → (before && is_blank (window_passed mid)) ≡ old.blank → refusal ≡ None → failed intake ≡ failed old.intake → Passes mid new bits
-    → Takes left failed old
-    (record { waiting = window_bits new; taken = window_taken new; blank = before && is_blank (window_passed new); refusal = refusal; intake = intake }) bits
-takes_passed left failed old intake mid new before refusal bits draws taken blank going same passes = record {
-  draws = draws-take (left old.intake) (left intake) old.waiting (window_bits mid) (window_bits new) bits draws passes.split;
+pub takes_passed : {I : Type 0} (old : Reader I) (intake : I) (left : Option (List ℕ)) (failed : ℕ) (mid new : Window) (before : Bool) (refusal : Option BitFault) (bits : List Bool)
+    → Draws old.left left old.waiting (window_bits new) bits → window_taken mid ≡ old.taken
+    → (before && is_blank (window_passed mid)) ≡ old.blank → refusal ≡ None → failed ≡ old.failed → Passes mid new bits
+    → Takes old
+    (record { waiting = window_bits new; taken = window_taken new; blank = before && is_blank (window_passed new); refusal = refusal; intake = intake; left = left; failed = failed }) bits
+takes_passed old intake left failed mid new before refusal bits draws taken blank going same passes = record {
+  draws = draws;
   taken = passes.taken ∙ ap (λ n. n + length bits) taken;
   blank =
       ap (λ passed. before && is_blank passed) passes.passed ∙ (ap (λ b. before && b) (blank-append (window_passed mid) bits)
@@ -27,31 +27,31 @@ takes_passed left failed old intake mid new before refusal bits draws taken blan
   failures = same;
 }
 
-pub takes-none : {I : Type 0} (left : I → Option (List ℕ)) (failed : I → ℕ) (r : Reader I) → r.refusal ≡ None → Takes left failed r r []
-takes-none left failed r h = record {
-  draws = draws-same (left r.intake) r.waiting;
+pub takes-none : {I : Type 0} (r : Reader I) → r.refusal ≡ None → Takes r r []
+takes-none r h = record {
+  draws = draws-waiting r.left r.waiting r.waiting [] refl;
   taken = omega arith;
   blank = sym (and-true r.blank);
   going = h;
   failures = refl;
 }
 
-pub takes-append : {I : Type 0} (left : I → Option (List ℕ)) (failed : I → ℕ) (old mid new : Reader I) (xs ys : List Bool)
-    → Takes left failed old mid xs → Takes left failed mid new ys → Takes left failed old new (xs ++ ys)
-takes-append left failed old mid new xs ys p q = record {
-  draws = draws-append (left old.intake) (left mid.intake) (left new.intake) old.waiting mid.waiting new.waiting xs ys p.draws q.draws;
+pub takes-append : {I : Type 0} (old mid new : Reader I) (xs ys : List Bool)
+    → Takes old mid xs → Takes mid new ys → Takes old new (xs ++ ys)
+takes-append old mid new xs ys p q = record {
+  draws = draws-append old.left mid.left new.left old.waiting mid.waiting new.waiting xs ys p.draws q.draws;
   taken = omega (arith, p.taken, q.taken, length-append xs ys);
   blank = blank_joined old.blank mid.blank new.blank xs ys p.blank q.blank;
   going = q.going;
   failures = q.failures ∙ p.failures;
 }
 
-pub stops-append : {I : Type 0} (left : I → Option (List ℕ)) (failed : I → ℕ) (old mid new : Reader I) (xs ys : List Bool) (f : BitFault)
-    → Takes left failed old mid xs → Stops left failed mid new ys f → Stops left failed old new (xs ++ ys) f
-stops-append left failed old mid new xs ys f p q = record {
+pub stops-append : {I : Type 0} (old mid new : Reader I) (xs ys : List Bool) (f : BitFault)
+    → Takes old mid xs → Stops mid new ys f → Stops old new (xs ++ ys) f
+stops-append old mid new xs ys f p q = record {
   middle = q.middle;
-  draws = draws-append (left old.intake) (left mid.intake) q.middle old.waiting mid.waiting [] xs ys p.draws q.draws;
-  refuses = subst (λ n. Refuses f q.middle (left new.intake) n (failed new.intake) new.taken new.blank) p.failures q.refuses;
+  draws = draws-append old.left mid.left q.middle old.waiting mid.waiting [] xs ys p.draws q.draws;
+  refuses = subst (λ n. Refuses f q.middle new.left n new.failed new.taken new.blank) p.failures q.refuses;
   taken = omega (arith, p.taken, q.taken, length-append xs ys);
   blank = blank_joined old.blank mid.blank new.blank xs ys p.blank q.blank;
   waiting = q.waiting;
@@ -59,18 +59,18 @@ stops-append left failed old mid new xs ys f p q = record {
 }
 
 -- where enough bits wait, enough wait after some were taken
-pub still_wait : {I : Type 0} (left : I → Option (List ℕ)) (failed : I → ℕ) (old new : Reader I) (xs : List Bool)
-    → Takes left failed old new xs → length old.waiting ≤ length xs + length new.waiting
-still_wait left failed old new xs p =
+pub still_wait : {I : Type 0} (old new : Reader I) (xs : List Bool)
+    → Takes old new xs → length old.waiting ≤ length xs + length new.waiting
+still_wait old new xs p =
     omega (arith, ap length p.draws.split, length-append old.waiting (bits_of p.draws.given), length-append xs new.waiting)
 
 pub zeros-fs : (a b : ℕ) → replicate a false ++ fundamental_sequence b ≡ fundamental_sequence (a + b)
 zeros-fs a b = sym (append_assoc (replicate a false) (replicate b false) (true ∷ [])) ∙ ap (λ z. z ++ true ∷ []) (replicate-append-replicate a b false)
 
 -- where a 1 waits, some bit waits after zeros were taken
-pub one_waits : {I : Type 0} (left : I → Option (List ℕ)) (failed : I → ℕ) (old new : Reader I) (n : ℕ)
-    → Takes left failed old new (replicate n false) → is_blank old.waiting ≡ false → 0 < length new.waiting
-one_waits left failed old new n taken some = one_behind_zeros old.waiting (bits_of taken.draws.given) new.waiting n some taken.draws.split
+pub one_waits : {I : Type 0} (old new : Reader I) (n : ℕ)
+    → Takes old new (replicate n false) → is_blank old.waiting ≡ false → 0 < length new.waiting
+one_waits old new n taken some = one_behind_zeros old.waiting (bits_of taken.draws.given) new.waiting n some taken.draws.split
 
 pub no_refusal : (refusal : Option BitFault) → is_some refusal ≡ false → refusal ≡ None
 no_refusal None e = refl

@@ -2,4 +2,5 @@ use Rattle.rice_code.proofs.laws.decoding_goes_on.Goals as goal
 use Rattle.rice_code.proofs.lemmas.meaning.DecodingGoesOn as decoding
 
 pub returns : goal.returns
-returns c = decoding.decoding_goes_on
+returns c s legal b position p d skipped rest asked xs ys ending used set made pads next =
+    decoding.decoding_goes_on s legal b position p d skipped rest asked xs ys ending used set.wanted set.form set.run set.residuals pads made.legal made.len made.blocks next

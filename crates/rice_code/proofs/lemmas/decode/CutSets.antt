@@ -53,35 +53,35 @@ cut_low s b id bits e none (ZeroBlocks r z) more form i t = none (ZeroBlocks r z
 cut_low s b id bits e none (RemainderOfSegment r) more form i t = none (RemainderOfSegment r) more form tt t
 
 -- a data set is cut off behind its identifier
-cut_behind : {I : Type 0} (left : I → Option (List ℕ)) (failed : I → ℕ) (old mid new : Reader I) (s : Parameters) (b id : ℕ) (bits : List Bool) (f : BitFault)
-    → id < 2 ^ id_len s → Takes left failed old mid (word (id_len s) id) → Stops left failed mid new bits f
-    → ((d : CodedDataSet) (more : List Bool) → IsForm s b d → id ≡ identifier s d → bits ≡ tail s d ++ more → ⊥) → SetCut left failed old new s b f
-cut_behind left failed old mid new s b id bits f lt t stops none = record {
+cut_behind : {I : Type 0} (old mid new : Reader I) (s : Parameters) (b id : ℕ) (bits : List Bool) (f : BitFault)
+    → id < 2 ^ id_len s → Takes old mid (word (id_len s) id) → Stops mid new bits f
+    → ((d : CodedDataSet) (more : List Bool) → IsForm s b d → id ≡ identifier s d → bits ≡ tail s d ++ more → ⊥) → SetCut old new s b f
+cut_behind old mid new s b id bits f lt t stops none = record {
   bits = word (id_len s) id ++ bits;
-  stops = stops-append left failed old mid new _ bits f t stops;
+  stops = stops-append old mid new _ bits f t stops;
   none = λ d more form e. (let a = head_reads s b id d bits more lt form e in none d more form a.0 a.1);
 }
 
-pub plain_set_cut : {I : Type 0} (left : I → Option (List ℕ)) (failed : I → ℕ) (old mid new : Reader I) (s : Parameters) (b id : ℕ) (f : BitFault)
-    → id < 2 ^ id_len s → id ≡ 2 ^ id_len s - 1 → Takes left failed old mid (word (id_len s) id) → BlockCut left failed mid new s b NoCompression (no_compression_tail s) f → SetCut left failed old new s b f
-plain_set_cut left failed old mid new s b id f lt e t cut = cut_behind left failed old mid new s b id cut.bits f lt t cut.stops (cut_plain s b id cut.bits e cut.none)
+pub plain_set_cut : {I : Type 0} (old mid new : Reader I) (s : Parameters) (b id : ℕ) (f : BitFault)
+    → id < 2 ^ id_len s → id ≡ 2 ^ id_len s - 1 → Takes old mid (word (id_len s) id) → BlockCut mid new s b NoCompression f → SetCut old new s b f
+plain_set_cut old mid new s b id f lt e t cut = cut_behind old mid new s b id cut.bits f lt t cut.stops (cut_plain s b id cut.bits e cut.none)
 
-pub split_set_cut : {I : Type 0} (left : I → Option (List ℕ)) (failed : I → ℕ) (old mid new : Reader I) (s : Parameters) (b id k : ℕ) (f : BitFault)
-    → id < 2 ^ id_len s - 1 → id ≡ k + 1 → Takes left failed old mid (word (id_len s) id) → BlockCut left failed mid new s b (Split k) (split_tail s k) f → SetCut left failed old new s b f
-split_set_cut left failed old mid new s b id k f lt e t cut = cut_behind left failed old mid new s b id cut.bits f (omega arith) t cut.stops (cut_split s b id k cut.bits e lt cut.none)
+pub split_set_cut : {I : Type 0} (old mid new : Reader I) (s : Parameters) (b id k : ℕ) (f : BitFault)
+    → id < 2 ^ id_len s - 1 → id ≡ k + 1 → Takes old mid (word (id_len s) id) → BlockCut mid new s b (Split k) f → SetCut old new s b f
+split_set_cut old mid new s b id k f lt e t cut = cut_behind old mid new s b id cut.bits f (omega arith) t cut.stops (cut_split s b id k cut.bits e lt cut.none)
 
-pub low_set_cut : {I : Type 0} (left : I → Option (List ℕ)) (failed : I → ℕ) (old mid new : Reader I) (s : Parameters) (b id : ℕ) (f : BitFault)
-    → id < 2 ^ id_len s → id ≡ 0 → Takes left failed old mid (word (id_len s) id) → LowCut left failed mid new s b f → SetCut left failed old new s b f
-low_set_cut left failed old mid new s b id f lt e t cut = cut_behind left failed old mid new s b id cut.bits f lt t cut.stops (cut_low s b id cut.bits e cut.none)
+pub low_set_cut : {I : Type 0} (old mid new : Reader I) (s : Parameters) (b id : ℕ) (f : BitFault)
+    → id < 2 ^ id_len s → id ≡ 0 → Takes old mid (word (id_len s) id) → LowCut mid new s b f → SetCut old new s b f
+low_set_cut old mid new s b id f lt e t cut = cut_behind old mid new s b id cut.bits f lt t cut.stops (cut_low s b id cut.bits e cut.none)
 
 -- what a block by no compression says
-pub plain_set : {I : Type 0} (left : I → Option (List ℕ)) (failed : I → ℕ) (old mid new : Reader I) (first second last : ℕ) (s : Parameters) (b id : ℕ) (r : Option ℕ) (sound : Bool) (items : List ℕ)
-    → id ≡ 2 ^ id_len s - 1 → Takes left failed old mid (word (id_len s) id) → second + old.taken ≡ first + mid.taken
-    → BlockRead left failed mid new second last s b NoCompression (no_compression_tail s) r sound items → SetRead left failed old new first last s b (Residuals r sound) items
-plain_set left failed old mid new first second last s b id r sound items e t steps read = record {
+pub plain_set : {I : Type 0} (old mid new : Reader I) (first second last : ℕ) (s : Parameters) (b id : ℕ) (r : Option ℕ) (sound : Bool) (items : List ℕ)
+    → id ≡ 2 ^ id_len s - 1 → Takes old mid (word (id_len s) id) → second + old.taken ≡ first + mid.taken
+    → BlockRead mid new second last s b NoCompression (record { reference = r; sound = sound }) items → SetRead old new first last s b (Residuals r sound) items
+plain_set old mid new first second last s b id r sound items e t steps read = record {
   set = NoCompression read.contents;
   form = read.form;
-  takes = rw (← e) (takes-append left failed old mid new _ _ t read.takes);
+  takes = rw (← e) (takes-append old mid new _ _ t read.takes);
   tells = record {
     contents = read.contents;
     blocks = refl;
@@ -94,13 +94,13 @@ plain_set left failed old mid new first second last s b id r sound items e t ste
   steps = omega (arith, read.steps);
 }
 
-pub split_set : {I : Type 0} (left : I → Option (List ℕ)) (failed : I → ℕ) (old mid new : Reader I) (first second last : ℕ) (s : Parameters) (b id k : ℕ) (r : Option ℕ) (sound : Bool) (items : List ℕ)
-    → id ≡ k + 1 → Takes left failed old mid (word (id_len s) id) → second + old.taken ≡ first + mid.taken
-    → BlockRead left failed mid new second last s b (Split k) (split_tail s k) r sound items → SetRead left failed old new first last s b (Residuals r sound) items
-split_set left failed old mid new first second last s b id k r sound items e t steps read = record {
+pub split_set : {I : Type 0} (old mid new : Reader I) (first second last : ℕ) (s : Parameters) (b id k : ℕ) (r : Option ℕ) (sound : Bool) (items : List ℕ)
+    → id ≡ k + 1 → Takes old mid (word (id_len s) id) → second + old.taken ≡ first + mid.taken
+    → BlockRead mid new second last s b (Split k) (record { reference = r; sound = sound }) items → SetRead old new first last s b (Residuals r sound) items
+split_set old mid new first second last s b id k r sound items e t steps read = record {
   set = Split k read.contents;
   form = read.form;
-  takes = rw (← e) (takes-append left failed old mid new _ _ t read.takes);
+  takes = rw (← e) (takes-append old mid new _ _ t read.takes);
   tells = record {
     contents = read.contents;
     blocks = refl;
@@ -114,13 +114,13 @@ split_set left failed old mid new first second last s b id k r sound items e t s
 }
 
 -- low data sets are data sets
-pub low_set : {I : Type 0} (left : I → Option (List ℕ)) (failed : I → ℕ) (old mid new : Reader I) (first second last : ℕ) (s : Parameters) (b id : ℕ) (taken : Rattle.rice_code.specs.declared.decode.options.SetHead.SetHead) (items : List ℕ)
-    → id ≡ 0 → Takes left failed old mid (word (id_len s) id) → second + old.taken ≡ first + mid.taken
-    → LowRead left failed mid new second last s b taken items → SetRead left failed old new first last s b taken items
-low_set left failed old mid new first second last s b id taken items e t steps read = record {
+pub low_set : {I : Type 0} (old mid new : Reader I) (first second last : ℕ) (s : Parameters) (b id : ℕ) (taken : Rattle.rice_code.specs.declared.decode.options.SetHead.SetHead) (items : List ℕ)
+    → id ≡ 0 → Takes old mid (word (id_len s) id) → second + old.taken ≡ first + mid.taken
+    → LowRead mid new second last s b taken items → SetRead old new first last s b taken items
+low_set old mid new first second last s b id taken items e t steps read = record {
   set = read.set;
   form = read.form;
-  takes = subst (λ xs. Takes left failed old new xs) (low_text read.set read.low) (rw e at (takes-append left failed old mid new _ _ t read.takes));
+  takes = subst (λ xs. Takes old new xs) (low_text read.set read.low) (rw e at (takes-append old mid new _ _ t read.takes));
   tells = read.tells;
   steps = omega (arith, read.steps);
 }
@@ -147,9 +147,9 @@ one_bit zero h k = absurd (omega arith)
 one_bit (suc zero) h k = bit_word 1 (omega arith)
 one_bit (suc (suc v)) h k = absurd (omega arith)
 
-pub low_bit_cut : {I : Type 0} (left : I → Option (List ℕ)) (failed : I → ℕ) (old new : Reader I) (s : Parameters) (b : ℕ) (bits : List Bool) (f : BitFault)
-    → length bits < 1 → Stops left failed old new bits f → LowCut left failed old new s b f
-low_bit_cut left failed old new s b bits f lt stops = record { bits = bits; stops = stops; none = none bits lt }
+pub low_bit_cut : {I : Type 0} (old new : Reader I) (s : Parameters) (b : ℕ) (bits : List Bool) (f : BitFault)
+    → length bits < 1 → Stops old new bits f → LowCut old new s b f
+low_bit_cut old new s b bits f lt stops = record { bits = bits; stops = stops; none = none bits lt }
   where
     none : (bits : List Bool) → length bits < 1 → (d : CodedDataSet) (more : List Bool) → IsForm s b d → IsLow d → bits ≡ low_tail s d ++ more → ⊥
     none bits lt (NoCompression c) more form low e = low
@@ -158,11 +158,11 @@ low_bit_cut left failed old new s b bits f lt stops = record { bits = bits; stop
     none bits lt (ZeroBlocks r z) more form low e = omega (arith, ap length e)
     none bits lt (RemainderOfSegment r) more form low e = omega (arith, ap length e)
 
-pub second_low_cut : {I : Type 0} (left : I → Option (List ℕ)) (failed : I → ℕ) (old mid new : Reader I) (s : Parameters) (b v : ℕ) (f : BitFault)
-    → v < 2 → 0 < v → Takes left failed old mid (word 1 v) → BlockCut left failed mid new s b SecondExtension (second_extension_tail s) f → LowCut left failed old new s b f
-second_low_cut left failed old mid new s b v f lt pos t cut = record {
+pub second_low_cut : {I : Type 0} (old mid new : Reader I) (s : Parameters) (b v : ℕ) (f : BitFault)
+    → v < 2 → 0 < v → Takes old mid (word 1 v) → BlockCut mid new s b SecondExtension f → LowCut old new s b f
+second_low_cut old mid new s b v f lt pos t cut = record {
   bits = true ∷ cut.bits;
-  stops = stops-append left failed old mid new (true ∷ []) cut.bits f (rw (one_bit v lt pos) at t) cut.stops;
+  stops = stops-append old mid new (true ∷ []) cut.bits f (rw (one_bit v lt pos) at t) cut.stops;
   none = none cut.bits cut.none;
 }
   where
@@ -173,11 +173,11 @@ second_low_cut left failed old mid new s b v f lt pos t cut = record {
     none bits h (ZeroBlocks r z) more form low e = absurd cc
     none bits h (RemainderOfSegment r) more form low e = absurd cc
 
-pub run_low_cut : {I : Type 0} (left : I → Option (List ℕ)) (failed : I → ℕ) (old mid new : Reader I) (s : Parameters) (b : ℕ) (bits : List Bool) (f : BitFault)
-    → Takes left failed old mid (word 1 0) → Stops left failed mid new bits f → ((r : Option ℕ) (m : ℕ) (more : List Bool) → IsReference s b r → bits ≡ run_tail s r m ++ more → ⊥) → LowCut left failed old new s b f
-run_low_cut left failed old mid new s b bits f t stops cut = record {
+pub run_low_cut : {I : Type 0} (old mid new : Reader I) (s : Parameters) (b : ℕ) (bits : List Bool) (f : BitFault)
+    → Takes old mid (word 1 0) → Stops mid new bits f → ((r : Option ℕ) (m : ℕ) (more : List Bool) → IsReference s b r → bits ≡ run_tail s r m ++ more → ⊥) → LowCut old new s b f
+run_low_cut old mid new s b bits f t stops cut = record {
   bits = false ∷ bits;
-  stops = stops-append left failed old mid new (false ∷ []) bits f (rw zero_bit at t) stops;
+  stops = stops-append old mid new (false ∷ []) bits f (rw zero_bit at t) stops;
   none = none bits cut;
 }
   where
@@ -188,14 +188,14 @@ run_low_cut left failed old mid new s b bits f t stops cut = record {
     none bits h (ZeroBlocks r z) more form low e = h r (run_number z) more form.0 cc
     none bits h (RemainderOfSegment r) more form low e = h r 4 more form cc
 
-pub second_low : {I : Type 0} (left : I → Option (List ℕ)) (failed : I → ℕ) (old mid new : Reader I) (first second last : ℕ) (s : Parameters) (b v : ℕ) (r : Option ℕ) (sound : Bool) (items : List ℕ)
-    → v < 2 → 0 < v → Takes left failed old mid (word 1 v) → second + old.taken ≡ first + mid.taken
-    → BlockRead left failed mid new second last s b SecondExtension (second_extension_tail s) r sound items → LowRead left failed old new first last s b (Residuals r sound) items
-second_low left failed old mid new first second last s b v r sound items lt pos t steps read = record {
+pub second_low : {I : Type 0} (old mid new : Reader I) (first second last : ℕ) (s : Parameters) (b v : ℕ) (r : Option ℕ) (sound : Bool) (items : List ℕ)
+    → v < 2 → 0 < v → Takes old mid (word 1 v) → second + old.taken ≡ first + mid.taken
+    → BlockRead mid new second last s b SecondExtension (record { reference = r; sound = sound }) items → LowRead old new first last s b (Residuals r sound) items
+second_low old mid new first second last s b v r sound items lt pos t steps read = record {
   set = SecondExtension read.contents;
   low = tt;
   form = read.form;
-  takes = takes-append left failed old mid new (true ∷ []) _ (rw (one_bit v lt pos) at t) read.takes;
+  takes = takes-append old mid new (true ∷ []) _ (rw (one_bit v lt pos) at t) read.takes;
   tells = record {
     contents = read.contents;
     blocks = refl;
@@ -208,24 +208,24 @@ second_low left failed old mid new first second last s b v r sound items lt pos 
   steps = omega (arith, read.steps);
 }
 
-pub run_low : {I : Type 0} (left : I → Option (List ℕ)) (failed : I → ℕ) (old mid new : Reader I) (first second last : ℕ) (s : Parameters) (b : ℕ) (r : Option ℕ) (zeros : ℕ) (items : List ℕ)
-    → Takes left failed old mid (word 1 0) → second + old.taken ≡ first + mid.taken
-    → IsReference s b r → Takes left failed mid new (run_tail s r zeros) → last + mid.taken ≡ second + new.taken → LowRead left failed old new first last s b (Zeros r zeros) items
-run_low left failed old mid new first second last s b r zeros items t steps h u more =
+pub run_low : {I : Type 0} (old mid new : Reader I) (first second last : ℕ) (s : Parameters) (b : ℕ) (r : Option ℕ) (zeros : ℕ) (items : List ℕ)
+    → Takes old mid (word 1 0) → second + old.taken ≡ first + mid.taken
+    → IsReference s b r → Takes mid new (run_tail s r zeros) → last + mid.taken ≡ second + new.taken → LowRead old new first last s b (Zeros r zeros) items
+run_low old mid new first second last s b r zeros items t steps h u more =
     by_zeros (zeros == 4) refl
   where
     run_is : (m : ℕ) → (m == 4) ≡ false → (1 ≤ (if nat_lt m 4 then m + 1 else m)) × (run_number (if nat_lt m 4 then m + 1 else m) ≡ m)
     run_is m e = (grind (arith, nat_tests), grind (arith, nat_tests))
 
-    whole : Takes left failed old new (false ∷ run_tail s r zeros)
-    whole = takes-append left failed old mid new (false ∷ []) _ (rw zero_bit at t) u
+    whole : Takes old new (false ∷ run_tail s r zeros)
+    whole = takes-append old mid new (false ∷ []) _ (rw zero_bit at t) u
 
-    by_zeros : (b' : Bool) → (zeros == 4) ≡ b' → LowRead left failed old new first last s b (Zeros r zeros) items
+    by_zeros : (b' : Bool) → (zeros == 4) ≡ b' → LowRead old new first last s b (Zeros r zeros) items
     by_zeros true e = record {
       set = RemainderOfSegment r;
       low = tt;
       form = h;
-      takes = (let z : zeros ≡ 4 = grind (arith, nat_tests) in subst (λ m. Takes left failed old new (false ∷ run_tail s r m)) z whole);
+      takes = (let z : zeros ≡ 4 = grind (arith, nat_tests) in subst (λ m. Takes old new (false ∷ run_tail s r m)) z whole);
       tells = sym (ap (λ c. cond c (RemainderOfSegment r) (ZeroBlocks r (if nat_lt zeros 4 then zeros + 1 else zeros))) e);
       steps = omega arith;
     }
@@ -233,7 +233,7 @@ run_low left failed old mid new first second last s b r zeros items t steps h u 
       set = ZeroBlocks r (if nat_lt zeros 4 then zeros + 1 else zeros);
       low = tt;
       form = (h, (run_is zeros e).0);
-      takes = subst (λ m. Takes left failed old new (false ∷ run_tail s r m)) (sym (run_is zeros e).1) whole;
+      takes = subst (λ m. Takes old new (false ∷ run_tail s r m)) (sym (run_is zeros e).1) whole;
       tells = sym (ap (λ c. cond c (RemainderOfSegment r) (ZeroBlocks r (if nat_lt zeros 4 then zeros + 1 else zeros))) e);
       steps = omega arith;
     }

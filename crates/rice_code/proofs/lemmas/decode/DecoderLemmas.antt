@@ -13,7 +13,7 @@ use Rattle.rice_samples.specs.Parameters.{Parameters, IsSample, IsLegal, id_len}
 use Rattle.rice_samples.specs.Places.{blocks_left, begins_segment, is_reference, place}
 use Rattle.rice_samples.proofs.lemmas.setting.PlaceLemmas.{some_left, one_less_left, last_of_segment, reference_begins, next_place}
 use Rattle.rice_code.specs.code.Blocks.{BlockData, block_data, zero_block}
-use Rattle.rice_code.specs.code.CodedDataSets.{CodedDataSet, NoCompression, SecondExtension, Split, ZeroBlocks, RemainderOfSegment, bits_of_set, turns, run_number, run_tail, no_compression_tail, second_extension_tail, split_tail, reference_bits}
+use Rattle.rice_code.specs.code.CodedDataSets.{CodedDataSet, NoCompression, SecondExtension, Split, ZeroBlocks, RemainderOfSegment, bits_of_set, turns, run_number, run_tail, run_with_zeros, no_compression_tail, second_extension_tail, split_tail, reference_bits}
 use Rattle.rice_code.specs.code.Forms.{IsForm, IsReference, RunIsSound, ResidualsAreSound, blocks_in, zero_blocks}
 use Rattle.rice_code.specs.decode.ReadSets.{SetRead, SetCut}
 use Rattle.rice_code.specs.declared.decode.options.SetHead.TheVariants.{Zeros}
@@ -27,47 +27,32 @@ use Rattle.rice_code.specs.declared.decode.fault.Step.{Step}
 use Rattle.rice_code.specs.declared.decode.fault.Step.TheVariants.{Block}
 use Rattle.rice_code.specs.declared.decode.fault.CodeFault.{CodeFault}
 
--- a run's blocks
-given_run : {I : Type 0} (left : I → Option (List ℕ)) (failed : I → ℕ) (old new : Reader I) (first last : ℕ) (s : Parameters) (b : ℕ) (p : ℤ) (r : Option ℕ) (z : ℕ) (samples : List ℤ) (set d : CodedDataSet)
-    → set ≡ d → IsForm s b set → Takes left failed old new (bits_of_set s set) → last + old.taken ≡ first + new.taken + turns set
-    → RunIsSound s b d → ResidualsAreSound s d → zero_blocks s r z ≡ blocks_in s b d
+-- a run says no residuals
+run_residuals : (s : Parameters) (reference : Option ℕ) (zeros : ℕ) → ResidualsAreSound s (run_with_zeros reference zeros)
+run_residuals s reference zeros = by_four (zeros == 4)
+  where
+    by_four : (c : Bool) → ResidualsAreSound s (if c then RemainderOfSegment reference else ZeroBlocks reference (if nat_lt zeros 4 then zeros + 1 else zeros))
+    by_four true = tt
+    by_four false = tt
+
+-- a sound run was taken, and the samples of its first block are given
+pub run_given : {I : Type 0} (old new : Reader I) (first last : ℕ) (s : Parameters) (b : ℕ) (p : ℤ) (r : Option ℕ) (zeros z : ℕ) (samples : List ℤ) (items : List ℕ)
+    → SetRead old new first last s b (Zeros r zeros) items → RunIsSound s b (run_with_zeros r zeros) → blocks_in s b (run_with_zeros r zeros) ≡ zero_blocks s r z
     → length samples ≡ s.block → All (IsSample s) samples → block_data s b p samples ≡ zero_block s r
-    → TakesSet left failed old new first last s b p samples (z - 1)
-given_run left failed old new first last s b p r z samples set d e form takes steps run sound blocks len legal says = record {
-  set = d;
-  form = subst (λ x. IsForm s b x) e form;
+    → TakesSet old new first last s b p samples (z - 1)
+run_given old new first last s b p r zeros z samples items read run blocks len legal says = record {
+  set = run_with_zeros r zeros;
+  form = subst (λ x. IsForm s b x) read.tells read.form;
   run_sound = run;
-  residuals_sound = sound;
-  takes = subst (λ x. Takes left failed old new (bits_of_set s x)) e takes;
+  residuals_sound = run_residuals s r zeros;
+  takes = subst (λ x. Takes old new (bits_of_set s x)) read.tells read.takes;
   gives = record {
     len = len;
     legal = legal;
-    blocks_are = ap (λ c. c ∷ replicate (z - 1) (zero_block s None)) says ∙ blocks;
+    blocks_are = ap (λ c. c ∷ replicate (z - 1) (zero_block s None)) says ∙ sym blocks;
   };
-  steps = subst (λ x. last + old.taken ≡ first + new.taken + turns x) e steps;
+  steps = subst (λ x. last + old.taken ≡ first + new.taken + turns x) read.tells read.steps;
 }
-
-pub run_given : {I : Type 0} (left : I → Option (List ℕ)) (failed : I → ℕ) (old new : Reader I) (first last : ℕ) (s : Parameters) (b : ℕ) (p : ℤ) (r : Option ℕ) (zeros_read z : ℕ) (samples : List ℤ) (items : List ℕ)
-    → SetRead left failed old new first last s b (Zeros r zeros_read) items → z ≤ blocks_left s b → (zeros_read ≡ 4 → z ≡ blocks_left s b)
-    → ((zeros_read ≡ 4 → ⊥) → (z ≡ (if nat_lt zeros_read 4 then zeros_read + 1 else zeros_read)) × (z ≤ 63))
-    → length samples ≡ s.block → All (IsSample s) samples → block_data s b p samples ≡ zero_block s r
-    → TakesSet left failed old new first last s b p samples (z - 1)
-run_given left failed old new first last s b p r m z samples items read le four other len legal says = by_zeros (m == 4) refl
-  where
-    is_four : (m == 4) ≡ true → m ≡ 4
-    is_four e = grind (arith, nat_tests)
-
-    not_four : (m == 4) ≡ false → m ≡ 4 → ⊥
-    not_four e f = absurd (grind (arith, nat_tests))
-
-    by_zeros : (t : Bool) → (m == 4) ≡ t → TakesSet left failed old new first last s b p samples (z - 1)
-    by_zeros true e =
-        let d : read.set ≡ RemainderOfSegment r = read.tells ∙ ap (λ c. cond c (RemainderOfSegment r) (ZeroBlocks r (if nat_lt m 4 then m + 1 else m))) e in
-        given_run left failed old new first last s b p r z samples read.set (RemainderOfSegment r) d read.form read.takes read.steps tt tt (ap (λ n. zero_blocks s r n) (four (is_four e))) len legal says
-    by_zeros false e =
-        let n = other (not_four e) in
-        let d : read.set ≡ ZeroBlocks r z = read.tells ∙ (ap (λ c. cond c (RemainderOfSegment r) (ZeroBlocks r (if nat_lt m 4 then m + 1 else m))) e ∙ ap (λ k. ZeroBlocks r k) (sym n.0)) in
-        given_run left failed old new first last s b p r z samples read.set (ZeroBlocks r z) d read.form read.takes read.steps (le, n.1) tt refl len legal says
 
 -- no block of a run but its first has a reference
 pub no_reference : (s : Parameters) (b : ℕ) → begins_segment s b ≡ false → IsReference s b None
@@ -148,9 +133,9 @@ few_blocks s b (RemainderOfSegment r) legal form run =
     omega (arith, run_bits s r 4, n, left.0, left.1)
 
 -- the samples that are given and wait are bounded by the bits
-pub samples_by_bits : {I : Type 0} (left : I → Option (List ℕ)) (failed : I → ℕ) (old new : Reader I) (first last : ℕ) (s : Parameters) (b : ℕ) (p : ℤ) (samples : List ℤ) (run : ℕ)
-    → IsLegal s → TakesSet left failed old new first last s b p samples run → length samples + run * s.block ≤ 456 * (new.taken - old.taken)
-samples_by_bits left failed old new first last s b p samples run legal given =
+pub samples_by_bits : {I : Type 0} (old new : Reader I) (first last : ℕ) (s : Parameters) (b : ℕ) (p : ℤ) (samples : List ℤ) (run : ℕ)
+    → IsLegal s → TakesSet old new first last s b p samples run → length samples + run * s.block ≤ 456 * (new.taken - old.taken)
+samples_by_bits old new first last s b p samples run legal given =
     let n : suc (length (replicate run (zero_block s None))) ≡ length (blocks_in s b given.set) = ap length given.gives.blocks_are in
     let m : length (replicate run (zero_block s None)) ≡ run = length-replicate run (zero_block s None) in
     let t : new.taken - old.taken ≡ length (bits_of_set s given.set) = omega (arith, given.takes.taken) in
@@ -158,18 +143,18 @@ samples_by_bits left failed old new first last s b p samples run legal given =
     let k : (1 + run) * s.block ≡ length (blocks_in s b given.set) * s.block = ap (λ j. j * s.block) (omega arith) in
     omega (arith, given.gives.len)
 
-ends : {I : Type 0} (left : I → Option (List ℕ)) (failed : I → ℕ) (old new : Reader I) (s : Parameters) (b : ℕ) (blank : Bool) → old.blank ≡ true → SetCut left failed old new s b (bit_faults.End blank) → SetEnds left failed old new s b blank
-ends left failed old new s b blank h cut = record {
+ends : {I : Type 0} (old new : Reader I) (s : Parameters) (b : ℕ) (blank : Bool) → old.blank ≡ true → SetCut old new s b (bit_faults.End blank) → SetEnds old new s b blank
+ends old new s b blank h cut = record {
   cut = cut;
   told = ap (λ t. t && is_blank cut.bits) (sym h) ∙ (sym cut.stops.blank ∙ sym cut.stops.refuses.3);
 }
 
 -- where the reader refuses, the decoder stops so
-pub stops_by : {I : Type 0} (left : I → Option (List ℕ)) (failed : I → ℕ) (old new : Reader I) (s : Parameters) (b : ℕ) (fault : BitFault) → old.blank ≡ true → SetCut left failed old new s b fault → StopsBy left failed old new s b (answer_to fault)
-stops_by left failed old new s b (bit_faults.End true) h cut = ends left failed old new s b true h cut
-stops_by left failed old new s b (bit_faults.End false) h cut = ends left failed old new s b false h cut
-stops_by left failed old new s b bit_faults.Read h cut = cut
-stops_by left failed old new s b bit_faults.TooLong h cut = cut
+pub stops_by : {I : Type 0} (old new : Reader I) (s : Parameters) (b : ℕ) (fault : BitFault) → old.blank ≡ true → SetCut old new s b fault → StopsBy old new s b (answer_to fault)
+stops_by old new s b (bit_faults.End true) h cut = ends old new s b true h cut
+stops_by old new s b (bit_faults.End false) h cut = ends old new s b false h cut
+stops_by old new s b bit_faults.Read h cut = cut
+stops_by old new s b bit_faults.TooLong h cut = cut
 
 -- a run that stays in its segment stays in its interval
 pub within_interval : (s : Parameters) (b run : ℕ) → b < s.interval → (0 < run → run + 1 ≤ blocks_left s b) → b + 1 + run ≤ s.interval
@@ -180,10 +165,10 @@ within_interval s b (suc run) h more =
     omega arith
 
 -- a coded data set that was taken, and the padding behind it
-pub set_given : {I : Type 0} (left : I → Option (List ℕ)) (failed : I → ℕ) (old middle new : Reader I) (first steps last : ℕ) (s : Parameters) (b : ℕ) (p : ℤ) (samples : List ℤ) (run : ℕ)
-    → TakesSet left failed old middle first steps s b p samples run → Skips middle new (padding s (b + 1 + run) middle.taken) → last + middle.taken ≡ steps + new.taken
-    → GivesSet left failed old new first last s b p samples run
-set_given left failed old middle new first steps last s b p samples run set skips counted =
+pub set_given : {I : Type 0} (old middle new : Reader I) (first steps last : ℕ) (s : Parameters) (b : ℕ) (p : ℤ) (samples : List ℤ) (run : ℕ)
+    → TakesSet old middle first steps s b p samples run → Skips middle new (padding s (b + 1 + run) middle.taken) → last + middle.taken ≡ steps + new.taken
+    → GivesSet old new first last s b p samples run
+set_given old middle new first steps last s b p samples run set skips counted =
     let n : suc (length (replicate run (zero_block s None))) ≡ length (blocks_in s b set.set) = ap length set.gives.blocks_are in
     let m : length (replicate run (zero_block s None)) ≡ run = length-replicate run (zero_block s None) in
     let behind : b + 1 + run ≡ block_after s b set.set = omega arith in

@@ -21,38 +21,38 @@ use Rattle.rice_samples.proofs.lemmas.bytes.ReadSamples.{flat_map-push}
 use Rattle.rice_code.proofs.lemmas.meaning.Covers.{both}
 use Rattle.rice_code.specs.decode.Fields.{Row, CountRow, CountsRead, PairRow, ones}
 
-pub row-none : {I : Type 0} (left : I → Option (List ℕ)) (failed : I → ℕ) (f : ℕ → List Bool) (P : ℕ → Type 0) (r : Reader I) (before : List ℕ)
-    → r.refusal ≡ None → Row left failed f P r r 0 before before
-row-none left failed f P r before h = record {
+pub row-none : {I : Type 0} (f : ℕ → List Bool) (P : ℕ → Type 0) (r : Reader I) (before : List ℕ)
+    → r.refusal ≡ None → Row f P r r 0 before before
+row-none f P r before h = record {
   values = [];
   len = refl;
   each = λ i d lt. absurd (omega arith);
   appended = sym (append-nil before);
-  takes = takes-none left failed r h;
+  takes = takes-none r h;
 }
 
-pub counts-none : {I : Type 0} (left : I → Option (List ℕ)) (failed : I → ℕ) (r : Reader I) (most : ℕ) (told : List ℕ)
-    → told ≡ [] → r.refusal ≡ None → CountsRead left failed r r most true 0 told
-counts-none left failed r most told e h = record {
+pub counts-none : {I : Type 0} (r : Reader I) (most : ℕ) (told : List ℕ)
+    → told ≡ [] → r.refusal ≡ None → CountsRead r r most true 0 told
+counts-none r most told e h = record {
   values = [];
   len = refl;
   told_are = λ _. e;
   refused = λ f. absurd cc;
-  takes = takes-none left failed r h;
+  takes = takes-none r h;
 }
 
 -- a single one, for which v was written, behind none
-pub counts-one : {I : Type 0} (left : I → Option (List ℕ)) (failed : I → ℕ) (old mid new : Reader I) (most : ℕ) (fits : Bool) (counts none : List ℕ) (m v : ℕ)
-    → 0 < length counts → none ≡ [] → Takes left failed old mid (flat_map fundamental_sequence none) → Takes left failed mid new (fundamental_sequence m)
-    → (fits ≡ true → v ≡ m) → (fits ≡ false → most < m) → CountsRead left failed old new most fits 1 (take 1 (set counts 0 v))
-counts-one left failed old mid new most fits counts none m v some e before t good bad =
+pub counts-one : {I : Type 0} (old mid new : Reader I) (most : ℕ) (fits : Bool) (counts none : List ℕ) (m v : ℕ)
+    → 0 < length counts → none ≡ [] → Takes old mid (flat_map fundamental_sequence none) → Takes mid new (fundamental_sequence m)
+    → (fits ≡ true → v ≡ m) → (fits ≡ false → most < m) → CountsRead old new most fits 1 (take 1 (set counts 0 v))
+counts-one old mid new most fits counts none m v some e before t good bad =
     let nothing : flat_map fundamental_sequence none ≡ [] = ap (flat_map fundamental_sequence) e in
     record {
       values = m ∷ [];
       len = refl;
       told_are = λ f. take_more_set counts 0 v some ∙ ap (λ x. x ∷ []) (good f);
       refused = λ f h. omega (arith, bad f, h 0 0 (omega arith));
-      takes = subst (λ bits. Takes left failed old new bits) (sym (append-nil (fundamental_sequence m))) (takes-append left failed old mid new [] (fundamental_sequence m) (subst (λ bits. Takes left failed old mid bits) nothing before) t);
+      takes = subst (λ bits. Takes old new bits) (sym (append-nil (fundamental_sequence m))) (takes-append old mid new [] (fundamental_sequence m) (subst (λ bits. Takes old mid bits) nothing before) t);
     }
 
 all_front : (P : ℕ → Type 0) (xs ys : List ℕ) → All P (xs ++ ys) → All P xs
@@ -62,17 +62,17 @@ all_back : (P : ℕ → Type 0) (xs ys : List ℕ) → All P (xs ++ ys) → All 
 all_back P xs ys h = λ i d lt. subst P (get_or-append-add xs ys i d) (h (length xs + i) d (omega (arith, length-append xs ys, lt)))
 
 -- more of them
-pub counts-append : {I : Type 0} (left : I → Option (List ℕ)) (failed : I → ℕ) (old mid new : Reader I) (most done some : ℕ) (small fits : Bool) (front part after : List ℕ)
-    → CountsRead left failed old mid most small done front → CountsRead left failed mid new most fits some part → after ≡ front ++ part
-    → CountsRead left failed old new most (small && fits) (done + some) after
-counts-append left failed old mid new most done some small fits front part after r q e =
+pub counts-append : {I : Type 0} (old mid new : Reader I) (most done some : ℕ) (small fits : Bool) (front part after : List ℕ)
+    → CountsRead old mid most small done front → CountsRead mid new most fits some part → after ≡ front ++ part
+    → CountsRead old new most (small && fits) (done + some) after
+counts-append old mid new most done some small fits front part after r q e =
     let P : ℕ → Type 0 = λ x. x ≤ most in
     record {
       values = r.values ++ q.values;
       len = omega (arith, length-append r.values q.values, r.len, q.len);
       told_are = λ f. (let b = both small fits f in e ∙ (λ i. r.told_are b.0 i ++ q.told_are b.1 i));
       refused = not_told small fits (λ f h. r.refused f (all_front P r.values q.values h)) (λ f h. q.refused f (all_back P r.values q.values h));
-      takes = rw (flat_map-append fundamental_sequence r.values q.values) (takes-append left failed old mid new _ _ r.takes q.takes);
+      takes = rw (flat_map-append fundamental_sequence r.values q.values) (takes-append old mid new _ _ r.takes q.takes);
     }
   where
     not_told : {Q : Type 0} (a b : Bool) → (a ≡ false → Q → ⊥) → (b ≡ false → Q → ⊥) → (a && b) ≡ false → Q → ⊥
@@ -81,10 +81,10 @@ counts-append left failed old mid new most done some small fits front part after
     not_told false b f g e q = f refl q
 
 -- those that were written, judged
-pub counts-judged : {I : Type 0} (left : I → Option (List ℕ)) (failed : I → ℕ) (old new : Reader I) (most count : ℕ) (small below : Bool) (told : List ℕ)
-    → CountsRead left failed old new most small count told → (below ≡ true → All (λ m. m < most + 1) told) → (below ≡ false → All (λ m. m < most + 1) told → ⊥)
-    → CountRow left failed old new most (small && below) count told
-counts-judged left failed old new most count small below told r good bad = record {
+pub counts-judged : {I : Type 0} (old new : Reader I) (most count : ℕ) (small below : Bool) (told : List ℕ)
+    → CountsRead old new most small count told → (below ≡ true → All (λ m. m < most + 1) told) → (below ≡ false → All (λ m. m < most + 1) told → ⊥)
+    → CountRow old new most (small && below) count told
+counts-judged old new most count small below told r good bad = record {
   values = r.values;
   len = r.len;
   told_are = λ e. (let b = both small below e in (r.told_are b.0, λ i d lt. omega (arith, subst (λ xs. All (λ m. m < most + 1) xs) (r.told_are b.0) (good b.1) i d lt)));
@@ -111,78 +111,78 @@ put_rest a xs ys h =
     ap (λ z. take a xs ++ (ys ++ z)) rest ∙ ap (λ z. take a xs ++ z) (append-nil ys)
 
 -- some pieces, and then others
-pub row-append : {I : Type 0} (left : I → Option (List ℕ)) (failed : I → ℕ) (f : ℕ → List Bool) (P : ℕ → Type 0) (old mid new : Reader I) (m n : ℕ) (before between after : List ℕ)
-    → Row left failed f P old mid m before between → Row left failed f P mid new n between after → Row left failed f P old new (m + n) before after
-row-append left failed f P old mid new m n before between after r q = record {
+pub row-append : {I : Type 0} (f : ℕ → List Bool) (P : ℕ → Type 0) (old mid new : Reader I) (m n : ℕ) (before between after : List ℕ)
+    → Row f P old mid m before between → Row f P mid new n between after → Row f P old new (m + n) before after
+row-append f P old mid new m n before between after r q = record {
   values = r.values ++ q.values;
   len = omega (arith, length-append r.values q.values, r.len, q.len);
   each = All-append P r.values q.values r.each q.each;
   appended = q.appended ∙ (ap (λ z. z ++ q.values) r.appended ∙ append_assoc before r.values q.values);
-  takes = rw (flat_map-append f r.values q.values) (takes-append left failed old mid new _ _ r.takes q.takes);
+  takes = rw (flat_map-append f r.values q.values) (takes-append old mid new _ _ r.takes q.takes);
 }
 
 pub part_within : (n : ℕ) (xs part : List ℕ) → length part ≡ length (take n xs) → length part ≤ n
 part_within n xs part e = omega (arith, e, length-take n xs)
 
 -- pieces for all places
-pub row-whole : {I : Type 0} (left : I → Option (List ℕ)) (failed : I → ℕ) (f : ℕ → List Bool) (P : ℕ → Type 0) (old new : Reader I) (done count : ℕ) (before xs : List ℕ)
-    → Row left failed f P old new done before (take done xs) → done ≡ count → length xs ≡ count → Row left failed f P old new count before xs
-row-whole left failed f P old new done count before xs r e n =
+pub row-whole : {I : Type 0} (f : ℕ → List Bool) (P : ℕ → Type 0) (old new : Reader I) (done count : ℕ) (before xs : List ℕ)
+    → Row f P old new done before (take done xs) → done ≡ count → length xs ≡ count → Row f P old new count before xs
+row-whole f P old new done count before xs r e n =
     record { values = r.values; len = r.len ∙ e; each = r.each; appended = sym (take_all done xs (omega (arith, e, n))) ∙ r.appended; takes = r.takes }
 
-pub counts-whole : {I : Type 0} (left : I → Option (List ℕ)) (failed : I → ℕ) (old new : Reader I) (most : ℕ) (small : Bool) (done count : ℕ) (xs : List ℕ)
-    → CountsRead left failed old new most small done (take done xs) → done ≡ count → length xs ≡ count → CountsRead left failed old new most small count xs
-counts-whole left failed old new most small done count xs r e n =
+pub counts-whole : {I : Type 0} (old new : Reader I) (most : ℕ) (small : Bool) (done count : ℕ) (xs : List ℕ)
+    → CountsRead old new most small done (take done xs) → done ≡ count → length xs ≡ count → CountsRead old new most small count xs
+counts-whole old new most small done count xs r e n =
     record { values = r.values; len = r.len ∙ e; told_are = λ f. sym (take_all done xs (omega (arith, e, n))) ∙ r.told_are f; refused = r.refused; takes = r.takes }
 
 -- pieces were cut off behind none
-pub stops-first : {I : Type 0} (left : I → Option (List ℕ)) (failed : I → ℕ) (piece : ℕ → List Bool) (old mid new : Reader I) (none : List ℕ) (bits : List Bool) (f : BitFault)
-    → none ≡ [] → Takes left failed old mid (flat_map piece none) → Stops left failed mid new bits f → Stops left failed old new bits f
-stops-first left failed piece old mid new none bits f e t s =
-    stops-append left failed old mid new [] bits f (subst (λ xs. Takes left failed old mid (flat_map piece xs)) e t) s
+pub stops-first : {I : Type 0} (piece : ℕ → List Bool) (old mid new : Reader I) (none : List ℕ) (bits : List Bool) (f : BitFault)
+    → none ≡ [] → Takes old mid (flat_map piece none) → Stops mid new bits f → Stops old new bits f
+stops-first piece old mid new none bits f e t s =
+    stops-append old mid new [] bits f (subst (λ xs. Takes old mid (flat_map piece xs)) e t) s
 
 -- one word more
-pub row-word : {I : Type 0} (left : I → Option (List ℕ)) (failed : I → ℕ) (old mid new : Reader I) (width done v : ℕ) (words : List ℕ) → done < length words
-    → Row left failed (word width) (λ v. v < 2 ^ width) old mid done [] (take done words) → v < 2 ^ width → Takes left failed mid new (word width v)
-    → Row left failed (word width) (λ v. v < 2 ^ width) old new (done + 1) [] (take (done + 1) (set words done v))
-row-word left failed old mid new width done v words lt r fits t =
-    row-append left failed (word width) (λ v. v < 2 ^ width) old mid new done 1 [] (take done words) (take (done + 1) (set words done v)) r
+pub row-word : {I : Type 0} (old mid new : Reader I) (width done v : ℕ) (words : List ℕ) → done < length words
+    → Row (word width) (λ v. v < 2 ^ width) old mid done [] (take done words) → v < 2 ^ width → Takes mid new (word width v)
+    → Row (word width) (λ v. v < 2 ^ width) old new (done + 1) [] (take (done + 1) (set words done v))
+row-word old mid new width done v words lt r fits t =
+    row-append (word width) (λ v. v < 2 ^ width) old mid new done 1 [] (take done words) (take (done + 1) (set words done v)) r
     (record {
       values = v ∷ [];
       len = refl;
       each = λ i d below. subst (λ x. x < 2 ^ width) (sym (get_or_head v [] i d (omega arith))) fits;
       appended = take_more_set words done v lt;
-      takes = subst (λ bits. Takes left failed mid new bits) (sym (append-nil (word width v))) t;
+      takes = subst (λ bits. Takes mid new bits) (sym (append-nil (word width v))) t;
     })
 
 -- words that waited together, and those behind them
-pub row-waiting : {I : Type 0} (left : I → Option (List ℕ)) (failed : I → ℕ) (old new : Reader I) (width some : ℕ) (words : List ℕ) → some ≤ length words
-    → All (λ v. v < 2 ^ width) (take some words) → Takes left failed old new (flat_map (word width) (take some words))
-    → Row left failed (word width) (λ v. v < 2 ^ width) old new some [] (take some words)
-row-waiting left failed old new width some words within each t =
+pub row-waiting : {I : Type 0} (old new : Reader I) (width some : ℕ) (words : List ℕ) → some ≤ length words
+    → All (λ v. v < 2 ^ width) (take some words) → Takes old new (flat_map (word width) (take some words))
+    → Row (word width) (λ v. v < 2 ^ width) old new some [] (take some words)
+row-waiting old new width some words within each t =
     record { values = take some words; len = length-take-le some words within; each = each; appended = refl; takes = t }
 
-pub row-both : {I : Type 0} (left : I → Option (List ℕ)) (failed : I → ℕ) (old mid new : Reader I) (width m n count : ℕ) (front rest after : List ℕ) → m + n ≡ count → after ≡ front ++ rest
-    → Row left failed (word width) (λ v. v < 2 ^ width) old mid m [] front → Row left failed (word width) (λ v. v < 2 ^ width) mid new n [] rest
-    → Row left failed (word width) (λ v. v < 2 ^ width) old new count [] after
-row-both left failed old mid new width m n count front rest after e whole r q =
-    let both = row-append left failed (word width) (λ v. v < 2 ^ width) old mid new m n [] front after r
+pub row-both : {I : Type 0} (old mid new : Reader I) (width m n count : ℕ) (front rest after : List ℕ) → m + n ≡ count → after ≡ front ++ rest
+    → Row (word width) (λ v. v < 2 ^ width) old mid m [] front → Row (word width) (λ v. v < 2 ^ width) mid new n [] rest
+    → Row (word width) (λ v. v < 2 ^ width) old new count [] after
+row-both old mid new width m n count front rest after e whole r q =
+    let both = row-append (word width) (λ v. v < 2 ^ width) old mid new m n [] front after r
     (record { values = q.values; len = q.len; each = q.each; appended = whole ∙ ap (λ z. front ++ z) q.appended; takes = q.takes }) in
-    subst (λ k. Row left failed (word width) (λ v. v < 2 ^ width) old new k [] after) e both
+    subst (λ k. Row (word width) (λ v. v < 2 ^ width) old new k [] after) e both
 
 few : (done some count width short : ℕ) → done + some ≤ count → short < some * width → done * width + short < count * width
 few done some count width short h k =
     let m : (done + some) * width ≤ count * width = mul-le-mul_right width h in omega arith
 
 -- some words, of those that follow, were cut off
-pub words-stop : {I : Type 0} (left : I → Option (List ℕ)) (failed : I → ℕ) (width : ℕ) (P : ℕ → Type 0) (old mid new : Reader I) (done some count : ℕ) (before after : List ℕ) (bits : List Bool) (f : BitFault)
-    → Row left failed (word width) P old mid done before after → Stops left failed mid new bits f → length bits < some * width → done + some ≤ count
-    → (all : List Bool) × (length all < count * width) × Stops left failed old new all f
-words-stop left failed width P old mid new done some count before after bits f r s short h = (
+pub words-stop : {I : Type 0} (width : ℕ) (P : ℕ → Type 0) (old mid new : Reader I) (done some count : ℕ) (before after : List ℕ) (bits : List Bool) (f : BitFault)
+    → Row (word width) P old mid done before after → Stops mid new bits f → length bits < some * width → done + some ≤ count
+    → (all : List Bool) × (length all < count * width) × Stops old new all f
+words-stop width P old mid new done some count before after bits f r s short h = (
   flat_map (word width) r.values ++ bits,
   (let e : length (flat_map (word width) r.values) ≡ done * width = length-words width r.values ∙ ap (λ n. n * width) r.len in
       omega (arith, e, length-append (flat_map (word width) r.values) bits, few done some count width (length bits) h short)),
-  stops-append left failed old mid new _ bits f r.takes s,
+  stops-append old mid new _ bits f r.takes s,
 )
 
 pub ones-append : (xs ys : List Bool) → ones (xs ++ ys) ≡ ones xs + ones ys
@@ -202,13 +202,13 @@ ones-sequences [] = refl
 ones-sequences (m ∷ ms) = omega (arith, ones-append (fundamental_sequence m) (flat_map fundamental_sequence ms), ones-sequence m, ones-sequences ms)
 
 -- a fundamental sequence was cut off
-pub sequences-stop : {I : Type 0} (left : I → Option (List ℕ)) (failed : I → ℕ) (old mid new : Reader I) (ms : List ℕ) (count m : ℕ) (f : BitFault)
-    → Takes left failed old mid (flat_map fundamental_sequence ms) → length ms < count → Stops left failed mid new (replicate m false) f
-    → (all : List Bool) × (ones all < count) × Stops left failed old new all f
-sequences-stop left failed old mid new ms count m f t h s = (
+pub sequences-stop : {I : Type 0} (old mid new : Reader I) (ms : List ℕ) (count m : ℕ) (f : BitFault)
+    → Takes old mid (flat_map fundamental_sequence ms) → length ms < count → Stops mid new (replicate m false) f
+    → (all : List Bool) × (ones all < count) × Stops old new all f
+sequences-stop old mid new ms count m f t h s = (
   flat_map fundamental_sequence ms ++ replicate m false,
   omega (arith, ones-append (flat_map fundamental_sequence ms) (replicate m false), ones-sequences ms, ones-zeros m),
-  stops-append left failed old mid new _ _ f t s,
+  stops-append old mid new _ _ f t s,
 )
 
 -- one pair more
@@ -222,26 +222,26 @@ pair_codes-push (suc half) (d ∷ e ∷ ds) a b h = ap (λ z. pair_code d e ∷ 
 sum-push2 : (xs : List ℕ) (a b : ℕ) → sum ((xs ++ a ∷ []) ++ b ∷ []) ≡ sum xs + (a + b)
 sum-push2 xs a b = omega (arith, sum_by-append (λ (x : ℕ). x) (xs ++ a ∷ []) (b ∷ []), sum_by-append (λ (x : ℕ). x) xs (a ∷ []))
 
-pub pairs-none : {I : Type 0} (left : I → Option (List ℕ)) (failed : I → ℕ) (r : Reader I) (steps : ℕ)
-    → r.refusal ≡ None → PairRow left failed r r 0 [] steps steps
-pairs-none left failed r steps h = record {
+pub pairs-none : {I : Type 0} (r : Reader I) (steps : ℕ)
+    → r.refusal ≡ None → PairRow r r 0 [] steps steps
+pairs-none r steps h = record {
   len = refl;
-  takes = takes-none left failed r h;
+  takes = takes-none r h;
   steps = omega arith;
   turns = omega arith;
 }
 
-pub pairs-more : {I : Type 0} (left : I → Option (List ℕ)) (failed : I → ℕ) (old mid new : Reader I) (count : ℕ) (front after : List ℕ) (g a b first second third fourth : ℕ)
-    → PairRow left failed old mid count front first second → Takes left failed mid new (fundamental_sequence g) → pair_code a b ≡ g → a + b ≤ g
+pub pairs-more : {I : Type 0} (old mid new : Reader I) (count : ℕ) (front after : List ℕ) (g a b first second third fourth : ℕ)
+    → PairRow old mid count front first second → Takes mid new (fundamental_sequence g) → pair_code a b ≡ g → a + b ≤ g
     → third + mid.taken ≡ second + new.taken → fourth ≡ third + (a + b) → after ≡ (front ++ a ∷ []) ++ b ∷ []
-    → PairRow left failed old new (count + 1) after first fourth
-pairs-more left failed old mid new count front after g a b first second third fourth r t e le steps turns is =
-    subst (λ xs. PairRow left failed old new (count + 1) xs first fourth) (sym is)
+    → PairRow old new (count + 1) after first fourth
+pairs-more old mid new count front after g a b first second third fourth r t e le steps turns is =
+    subst (λ xs. PairRow old new (count + 1) xs first fourth) (sym is)
     (let codes : flat_map fundamental_sequence (pair_codes ((front ++ a ∷ []) ++ b ∷ [])) ≡ flat_map fundamental_sequence (pair_codes front) ++ fundamental_sequence g =
     ap (flat_map fundamental_sequence) (pair_codes-push count front a b r.len ∙ ap (λ c. pair_codes front ++ c ∷ []) e) ∙ flat_map-push fundamental_sequence (pair_codes front) g in
     record {
       len = omega (arith, length-append (front ++ a ∷ []) (b ∷ []), length-append front (a ∷ []), r.len);
-      takes = rw codes (takes-append left failed old mid new _ _ r.takes t);
+      takes = rw codes (takes-append old mid new _ _ r.takes t);
       steps = omega (arith, sum-push2 front a b, r.steps);
       turns = omega (arith, sum-push2 front a b, r.turns, ap length codes, length-append (flat_map fundamental_sequence (pair_codes front)) (fundamental_sequence g), length-fundamental_sequence g);
     })

@@ -15,7 +15,7 @@ use Rattle.rice_samples.specs.blocks.Pairs.{pair_codes}
 use Rattle.rice_code.specs.code.CodedDataSets.{CodedDataSet, NoCompression, SecondExtension, Split, sent_residuals, sent_from, reference_bits, no_compression_tail, second_extension_tail, split_tail, run_tail}
 use Rattle.rice_code.specs.code.Forms.{IsForm, IsReference, IsBlock}
 use Rattle.rice_code.specs.decode.Fields.{Row, CountRow, PairRow, ones}
-use Rattle.rice_code.specs.decode.ReadSets.{BlockRead, BlockCut, reference_place, joined_parts}
+use Rattle.rice_code.specs.decode.ReadSets.{BlockRead, BlockCut, reference_place, joined_parts, set_tail}
 use Rattle.rice_samples.proofs.lemmas.blocks.PairLemmas.{count_pairs}
 use Rattle.rice_bits.proofs.lemmas.read.WindowLemmas.{length-words}
 use Rattle.rice_code.proofs.lemmas.decode.FieldLemmas.{put_rest, ones-append, ones-zeros, ones-sequence, ones-sequences}
@@ -74,9 +74,9 @@ short_words width count vs bits more n lt e =
     omega (arith, ap length e, length-append (flat_map (word width) vs) more, length-words width vs)
 
 -- what was read alone stands behind others
-pub placed_row : {I : Type 0} (left : I → Option (List ℕ)) (failed : I → ℕ) (piece : ℕ → List Bool) (P : ℕ → Type 0) (old new : Reader I) (count : ℕ) (before alone after : List ℕ)
-    → Row left failed piece P old new count [] alone → after ≡ before ++ alone → Row left failed piece P old new count before after
-placed_row left failed piece P old new count before alone after row e = record {
+pub placed_row : {I : Type 0} (piece : ℕ → List Bool) (P : ℕ → Type 0) (old new : Reader I) (count : ℕ) (before alone after : List ℕ)
+    → Row piece P old new count [] alone → after ≡ before ++ alone → Row piece P old new count before after
+placed_row piece P old new count before alone after row e = record {
   values = row.values;
   len = row.len;
   each = row.each;
@@ -84,42 +84,43 @@ placed_row left failed piece P old new count before alone after row e = record {
   takes = row.takes;
 }
 
-pub plain_read : {I : Type 0} (left : I → Option (List ℕ)) (failed : I → ℕ) (old mid new : Reader I) (first last : ℕ) (s : Parameters) (b : ℕ) (r : Option ℕ) (count : ℕ) (items : List ℕ)
-    → IsReference s b r → count + length (reference_place r) ≡ s.block → 0 < value_count s → Takes left failed old mid (reference_bits s r)
-    → Row left failed (word s.bits) (λ v. v < 2 ^ s.bits) mid new count (reference_place r) items → last + old.taken ≡ first + new.taken
-    → BlockRead left failed old new first last s b NoCompression (no_compression_tail s) r true items
-plain_read left failed old mid new first last s b r count items h n z t row steps =
+pub plain_read : {I : Type 0} (old mid new : Reader I) (first last : ℕ) (s : Parameters) (b : ℕ) (r : Option ℕ) (count : ℕ) (items : List ℕ)
+    → IsReference s b r → count + length (reference_place r) ≡ s.block → 0 < value_count s → Takes old mid (reference_bits s r)
+    → Row (word s.bits) (λ v. v < 2 ^ s.bits) mid new count (reference_place r) items → last + old.taken ≡ first + new.taken
+    → BlockRead old new first last s b NoCompression (record { reference = r; sound = true }) items
+plain_read old mid new first last s b r count items h n z t row steps =
     let len : length (reference_place r ++ row.values) ≡ s.block = omega (arith, length-append (reference_place r) row.values, row.len) in
     let fit = all-placed (λ d. d < value_count s) r row.values z row.each in
     record {
       contents = record { reference = r; residuals = reference_place r ++ row.values };
       form = (record { reference = h; len = len }, zero-placed r row.values, fit);
       reference_is = refl;
-      takes = rw (coded-placed r row.values) (takes-append left failed old mid new _ _ t row.takes);
+      takes = rw (coded-placed r row.values) (takes-append old mid new _ _ t row.takes);
       told = λ _. (tt, fit, sym row.appended);
       refused = λ e. absurd cc;
       steps = omega arith;
     }
 
-pub plain_cut : {I : Type 0} (left : I → Option (List ℕ)) (failed : I → ℕ) (old mid new : Reader I) (s : Parameters) (b : ℕ) (r : Option ℕ) (count : ℕ) (bits : List Bool) (f : BitFault)
-    → IsReference s b r → count + length (reference_place r) ≡ s.block → Takes left failed old mid (reference_bits s r)
-    → length bits < count * s.bits → Stops left failed mid new bits f → BlockCut left failed old new s b NoCompression (no_compression_tail s) f
-plain_cut left failed old mid new s b r count bits f h n t short stops = record {
+pub plain_cut : {I : Type 0} (old mid new : Reader I) (s : Parameters) (b : ℕ) (r : Option ℕ) (count : ℕ) (bits : List Bool) (f : BitFault)
+    → IsReference s b r → count + length (reference_place r) ≡ s.block → Takes old mid (reference_bits s r)
+    → length bits < count * s.bits → Stops mid new bits f → BlockCut old new s b NoCompression f
+plain_cut old mid new s b r count bits f h n t short stops = record {
   bits = reference_bits s r ++ bits;
-  stops = stops-append left failed old mid new _ bits f t stops;
+  stops = stops-append old mid new _ bits f t stops;
   none = λ c more form e.
       (let a = behind_reference s b r c.reference bits (flat_map (word s.bits) (sent_residuals c)) more h form.0.reference e in
       short_words s.bits count (sent_residuals c) bits more (length-coded_at s b c r count form.0 h n) short a.1);
 }
 
 -- a block is cut off inside its reference
-pub cut_at_reference : {I : Type 0} (left : I → Option (List ℕ)) (failed : I → ℕ) (old new : Reader I) (s : Parameters) (b : ℕ) (option : BlockData → CodedDataSet) (rest : BlockData → List Bool) (bits : List Bool) (f : BitFault)
-    → ((c : BlockData) → IsForm s b (option c) → IsReference s b c.reference) → is_reference s b ≡ true → length bits < s.bits → Stops left failed old new bits f
-    → BlockCut left failed old new s b option (λ c. reference_bits s c.reference ++ rest c) f
-cut_at_reference left failed old new s b option rest bits f refs k short stops = record {
+pub cut_at_reference : {I : Type 0} (old new : Reader I) (s : Parameters) (b : ℕ) (option : BlockData → CodedDataSet) (rest : BlockData → List Bool) (bits : List Bool) (f : BitFault)
+    → ((c : BlockData) → set_tail s (option c) ≡ reference_bits s c.reference ++ rest c)
+    → ((c : BlockData) → IsForm s b (option c) → IsReference s b c.reference) → is_reference s b ≡ true → length bits < s.bits → Stops old new bits f
+    → BlockCut old new s b option f
+cut_at_reference old new s b option rest bits f tail refs k short stops = record {
   bits = bits;
   stops = stops;
-  none = λ c more form e. short_reference s b c.reference bits (rest c) more (refs c form) k short e;
+  none = λ c more form e. short_reference s b c.reference bits (rest c) more (refs c form) k short (e ∙ ap (λ z. z ++ more) (tail c));
 }
 
 pub run_cut_at_reference : (s : Parameters) (b : ℕ) (bits : List Bool) → is_reference s b ≡ true → length bits < s.bits
@@ -132,28 +133,28 @@ run_cut s b r zeros h q m more k e =
     let a = behind_reference s b r q (replicate zeros false) (fundamental_sequence m) more h k e in
     omega (arith, ap ones a.1, ones-zeros zeros, ones-append (fundamental_sequence m) more, ones-sequence m)
 
-pub second_read : {I : Type 0} (left : I → Option (List ℕ)) (failed : I → ℕ) (old mid new : Reader I) (first second last : ℕ) (s : Parameters) (b : ℕ) (r : Option ℕ) (half : ℕ) (items : List ℕ) (sound : Bool)
-    → IsReference s b r → half + half ≡ s.block → Takes left failed old mid (reference_bits s r)
-    → PairRow left failed mid new half items second last → second + old.taken ≡ first + mid.taken
+pub second_read : {I : Type 0} (old mid new : Reader I) (first second last : ℕ) (s : Parameters) (b : ℕ) (r : Option ℕ) (half : ℕ) (items : List ℕ) (sound : Bool)
+    → IsReference s b r → half + half ≡ s.block → Takes old mid (reference_bits s r)
+    → PairRow mid new half items second last → second + old.taken ≡ first + mid.taken
     → (sound ≡ true → OnSome r (slice_index items 0 ≡ 0) × All (λ d. d < value_count s) items)
     → (sound ≡ false → OnSome r (slice_index items 0 ≡ 0) × All (λ d. d < value_count s) items → ⊥)
-    → BlockRead left failed old new first last s b SecondExtension (second_extension_tail s) r sound items
-second_read left failed old mid new first second last s b r half items sound h n t row steps told refused = record {
+    → BlockRead old new first last s b SecondExtension (record { reference = r; sound = sound }) items
+second_read old mid new first second last s b r half items sound h n t row steps told refused = record {
   contents = record { reference = r; residuals = items };
   form = record { reference = h; len = row.len ∙ n };
   reference_is = refl;
-  takes = takes-append left failed old mid new _ _ t row.takes;
+  takes = takes-append old mid new _ _ t row.takes;
   told = λ e. (told e, (told e).1, refl);
   refused = refused;
   steps = omega (arith, row.steps);
 }
 
-pub second_cut : {I : Type 0} (left : I → Option (List ℕ)) (failed : I → ℕ) (old mid new : Reader I) (s : Parameters) (b : ℕ) (r : Option ℕ) (half : ℕ) (bits : List Bool) (f : BitFault)
-    → IsReference s b r → half + half ≡ s.block → Takes left failed old mid (reference_bits s r)
-    → ones bits < half → Stops left failed mid new bits f → BlockCut left failed old new s b SecondExtension (second_extension_tail s) f
-second_cut left failed old mid new s b r half bits f h n t short stops = record {
+pub second_cut : {I : Type 0} (old mid new : Reader I) (s : Parameters) (b : ℕ) (r : Option ℕ) (half : ℕ) (bits : List Bool) (f : BitFault)
+    → IsReference s b r → half + half ≡ s.block → Takes old mid (reference_bits s r)
+    → ones bits < half → Stops mid new bits f → BlockCut old new s b SecondExtension f
+second_cut old mid new s b r half bits f h n t short stops = record {
   bits = reference_bits s r ++ bits;
-  stops = stops-append left failed old mid new _ bits f t stops;
+  stops = stops-append old mid new _ bits f t stops;
   none = λ c more form e.
       (let a = behind_reference s b r c.reference bits (flat_map fundamental_sequence (pair_codes c.residuals)) more h form.reference e in
       omega (arith, ap ones a.1, ones-append (flat_map fundamental_sequence (pair_codes c.residuals)) more, ones-sequences (pair_codes c.residuals), count_pairs half c.residuals (form.len ∙ sym n)));
@@ -163,13 +164,13 @@ all-suffix : (P : ℕ → Type 0) (r : Option ℕ) (vs : List ℕ) → All P (re
 all-suffix P None vs h = h
 all-suffix P (Some v) vs h = λ i d lt. h (suc i) d (omega arith)
 
-pub split_read : {I : Type 0} (left : I → Option (List ℕ)) (failed : I → ℕ) (old mid next new : Reader I) (first last : ℕ) (s : Parameters) (b k : ℕ) (r : Option ℕ) (count : ℕ) (P : ℕ → Type 0) (highs lows items : List ℕ) (sound : Bool)
-    → IsReference s b r → k ≤ k_max s → count + length (reference_place r) ≡ s.block → Takes left failed old mid (reference_bits s r)
-    → Row left failed fundamental_sequence P mid next count [] highs → Row left failed (word k) (λ v. v < 2 ^ k) next new count [] lows → last + old.taken ≡ first + new.taken
+pub split_read : {I : Type 0} (old mid next new : Reader I) (first last : ℕ) (s : Parameters) (b k : ℕ) (r : Option ℕ) (count : ℕ) (P : ℕ → Type 0) (highs lows items : List ℕ) (sound : Bool)
+    → IsReference s b r → k ≤ k_max s → count + length (reference_place r) ≡ s.block → Takes old mid (reference_bits s r)
+    → Row fundamental_sequence P mid next count [] highs → Row (word k) (λ v. v < 2 ^ k) next new count [] lows → last + old.taken ≡ first + new.taken
     → (sound ≡ true → All (λ d. d < value_count s) (joined_parts k highs lows)) → (sound ≡ true → items ≡ reference_place r ++ joined_parts k highs lows)
     → (sound ≡ false → All (λ d. d < value_count s) (joined_parts k highs lows) → ⊥)
-    → BlockRead left failed old new first last s b (Split k) (split_tail s k) r sound items
-split_read left failed old mid next new first last s b k r count P highs lows items sound h le n t high low steps fit same refused =
+    → BlockRead old new first last s b (Split k) (record { reference = r; sound = sound }) items
+split_read old mid next new first last s b k r count P highs lows items sound h le n t high low steps fit same refused =
     let ds = joined_parts k highs lows in
     let nh : length highs ≡ count = ap length high.appended ∙ high.len in
     let nl : length lows ≡ count = ap length low.appended ∙ low.len in
@@ -181,39 +182,39 @@ split_read left failed old mid next new first last s b k r count P highs lows it
       contents = record { reference = r; residuals = reference_place r ++ ds };
       form = (record { reference = h; len = omega (arith, length-append (reference_place r) ds) }, zero-placed r ds, le);
       reference_is = refl;
-      takes = rw (coded-placed r ds, hp, lp) (takes-append left failed old mid new _ _ t (takes-append left failed mid next new _ _ high.takes low.takes));
+      takes = rw (coded-placed r ds, hp, lp) (takes-append old mid new _ _ t (takes-append mid next new _ _ high.takes low.takes));
       told = λ e. (let q = all-placed (λ d. d < value_count s) r ds (pow_pos s.bits) (fit e) in (q, q, sym (same e)));
       refused = λ e q. refused e (all-suffix (λ d. d < value_count s) r ds q);
       steps = omega arith;
     }
 
 -- those of a row of counts, whatever is told
-pub count_row : {I : Type 0} (left : I → Option (List ℕ)) (failed : I → ℕ) (old new : Reader I) (most : ℕ) (small : Bool) (many count : ℕ) (told : List ℕ)
-    → many ≡ count → (row : CountRow left failed old new most small many told) → Row left failed fundamental_sequence (λ _. Unit {0}) old new count [] row.values
-count_row left failed old new most small many count told e row = record { values = row.values; len = row.len ∙ e; each = λ i d lt. tt; appended = refl; takes = row.takes }
+pub count_row : {I : Type 0} (old new : Reader I) (most : ℕ) (small : Bool) (many count : ℕ) (told : List ℕ)
+    → many ≡ count → (row : CountRow old new most small many told) → Row fundamental_sequence (λ _. Unit {0}) old new count [] row.values
+count_row old new most small many count told e row = record { values = row.values; len = row.len ∙ e; each = λ i d lt. tt; appended = refl; takes = row.takes }
 
 -- a high part is too large
-pub split_large : {I : Type 0} (left : I → Option (List ℕ)) (failed : I → ℕ) (old mid next new : Reader I) (first last : ℕ) (s : Parameters) (b k : ℕ) (r : Option ℕ) (many count : ℕ) (told lows items : List ℕ) (small : Bool)
-    → IsReference s b r → k ≤ k_max s → count + length (reference_place r) ≡ s.block → many ≡ count → Takes left failed old mid (reference_bits s r)
-    → CountRow left failed mid next ((value_count s - 1) / 2 ^ k) small many told → small ≡ false → Row left failed (word k) (λ v. v < 2 ^ k) next new count [] lows → last + old.taken ≡ first + new.taken
-    → BlockRead left failed old new first last s b (Split k) (split_tail s k) r false items
-split_large left failed old mid next new first last s b k r many count told lows items small h le n m t high e low steps =
+pub split_large : {I : Type 0} (old mid next new : Reader I) (first last : ℕ) (s : Parameters) (b k : ℕ) (r : Option ℕ) (many count : ℕ) (told lows items : List ℕ) (small : Bool)
+    → IsReference s b r → k ≤ k_max s → count + length (reference_place r) ≡ s.block → many ≡ count → Takes old mid (reference_bits s r)
+    → CountRow mid next ((value_count s - 1) / 2 ^ k) small many told → small ≡ false → Row (word k) (λ v. v < 2 ^ k) next new count [] lows → last + old.taken ≡ first + new.taken
+    → BlockRead old new first last s b (Split k) (record { reference = r; sound = false }) items
+split_large old mid next new first last s b k r many count told lows items small h le n m t high e low steps =
     let nl : length lows ≡ count = ap length low.appended ∙ low.len in
-    split_read left failed old mid next new first last s b k r count (λ _. Unit {0}) high.values lows items false h le n t
-    (count_row left failed mid next _ small many count told m high) low steps (λ f. absurd cc) (λ f. absurd cc)
+    split_read old mid next new first last s b k r count (λ _. Unit {0}) high.values lows items false h le n t
+    (count_row mid next _ small many count told m high) low steps (λ f. absurd cc) (λ f. absurd cc)
     (λ f all. high.refused e (highs_small k (value_count s) high.values lows (nl ∙ sym (high.len ∙ m)) (pow_pos s.bits) all))
 
 -- high parts stand in their places
-pub split_joined : {I : Type 0} (left : I → Option (List ℕ)) (failed : I → ℕ) (old mid next new : Reader I) (first last : ℕ) (s : Parameters) (b k : ℕ) (r : Option ℕ) (many count : ℕ) (told lows items : List ℕ) (small sound : Bool)
-    → IsReference s b r → k ≤ k_max s → count + length (reference_place r) ≡ s.block → many ≡ count → Takes left failed old mid (reference_bits s r)
-    → CountRow left failed mid next ((value_count s - 1) / 2 ^ k) small many told → small ≡ true → Row left failed (word k) (λ v. v < 2 ^ k) next new count [] lows → last + old.taken ≡ first + new.taken
+pub split_joined : {I : Type 0} (old mid next new : Reader I) (first last : ℕ) (s : Parameters) (b k : ℕ) (r : Option ℕ) (many count : ℕ) (told lows items : List ℕ) (small sound : Bool)
+    → IsReference s b r → k ≤ k_max s → count + length (reference_place r) ≡ s.block → many ≡ count → Takes old mid (reference_bits s r)
+    → CountRow mid next ((value_count s - 1) / 2 ^ k) small many told → small ≡ true → Row (word k) (λ v. v < 2 ^ k) next new count [] lows → last + old.taken ≡ first + new.taken
     → items ≡ reference_place r ++ joined_parts k told lows
     → (sound ≡ true → All (λ d. d < value_count s) (joined_parts k told lows)) → (sound ≡ false → All (λ d. d < value_count s) (joined_parts k told lows) → ⊥)
-    → BlockRead left failed old new first last s b (Split k) (split_tail s k) r sound items
-split_joined left failed old mid next new first last s b k r many count told lows items small sound h le n m t high e low steps joined below above =
+    → BlockRead old new first last s b (Split k) (record { reference = r; sound = sound }) items
+split_joined old mid next new first last s b k r many count told lows items small sound h le n m t high e low steps joined below above =
     let is : joined_parts k told lows ≡ joined_parts k high.values lows = ap (λ xs. joined_parts k xs lows) (high.told_are e).0 in
-    split_read left failed old mid next new first last s b k r count (λ _. Unit {0}) high.values lows items sound h le n t
-    (count_row left failed mid next _ small many count told m high) low steps
+    split_read old mid next new first last s b k r count (λ _. Unit {0}) high.values lows items sound h le n t
+    (count_row mid next _ small many count told m high) low steps
     (λ f. subst (λ xs. All (λ d. d < value_count s) xs) is (below f))
     (λ f. joined ∙ ap (λ xs. reference_place r ++ xs) is)
     (λ f all. above f (subst (λ xs. All (λ d. d < value_count s) xs) (sym is) all))
@@ -222,12 +223,12 @@ ones-high : (k : ℕ) (ds : List ℕ) → ones (flat_map (λ d. fundamental_sequ
 ones-high k [] = refl
 ones-high k (d ∷ ds) = omega (arith, ones-append (fundamental_sequence (d / 2 ^ k)) (flat_map (λ d. fundamental_sequence (d / 2 ^ k)) ds), ones-sequence (d / 2 ^ k), ones-high k ds)
 
-pub split_cut_high : {I : Type 0} (left : I → Option (List ℕ)) (failed : I → ℕ) (old mid new : Reader I) (s : Parameters) (b k : ℕ) (r : Option ℕ) (count : ℕ) (bits : List Bool) (f : BitFault)
-    → IsReference s b r → count + length (reference_place r) ≡ s.block → Takes left failed old mid (reference_bits s r)
-    → ones bits < count → Stops left failed mid new bits f → BlockCut left failed old new s b (Split k) (split_tail s k) f
-split_cut_high left failed old mid new s b k r count bits f h n t short stops = record {
+pub split_cut_high : {I : Type 0} (old mid new : Reader I) (s : Parameters) (b k : ℕ) (r : Option ℕ) (count : ℕ) (bits : List Bool) (f : BitFault)
+    → IsReference s b r → count + length (reference_place r) ≡ s.block → Takes old mid (reference_bits s r)
+    → ones bits < count → Stops mid new bits f → BlockCut old new s b (Split k) f
+split_cut_high old mid new s b k r count bits f h n t short stops = record {
   bits = reference_bits s r ++ bits;
-  stops = stops-append left failed old mid new _ bits f t stops;
+  stops = stops-append old mid new _ bits f t stops;
   none = λ c more form e.
       (let a = behind_reference s b r c.reference bits (flat_map (λ d. fundamental_sequence (d / 2 ^ k)) (sent_residuals c) ++ flat_map (word k) (sent_residuals c)) more h form.0.reference e in
       omega (
@@ -249,13 +250,13 @@ after_sequences k (m ∷ ms) (d ∷ ds) x y n e =
     (sym (append_assoc (fundamental_sequence m) (flat_map fundamental_sequence ms) x) ∙ (e ∙ append_assoc (fundamental_sequence (d / 2 ^ k)) (flat_map (λ d. fundamental_sequence (d / 2 ^ k)) ds) y)) in
     after_sequences k ms ds x y (omega arith) a.1
 
-pub split_cut_low : {I : Type 0} (left : I → Option (List ℕ)) (failed : I → ℕ) (old mid next new : Reader I) (s : Parameters) (b k : ℕ) (r : Option ℕ) (count : ℕ) (P : ℕ → Type 0) (highs : List ℕ) (bits : List Bool) (f : BitFault)
-    → IsReference s b r → count + length (reference_place r) ≡ s.block → Takes left failed old mid (reference_bits s r)
-    → Row left failed fundamental_sequence P mid next count [] highs
-    → length bits < count * k → Stops left failed next new bits f → BlockCut left failed old new s b (Split k) (split_tail s k) f
-split_cut_low left failed old mid next new s b k r count P highs bits f h n t high short stops = record {
+pub split_cut_low : {I : Type 0} (old mid next new : Reader I) (s : Parameters) (b k : ℕ) (r : Option ℕ) (count : ℕ) (P : ℕ → Type 0) (highs : List ℕ) (bits : List Bool) (f : BitFault)
+    → IsReference s b r → count + length (reference_place r) ≡ s.block → Takes old mid (reference_bits s r)
+    → Row fundamental_sequence P mid next count [] highs
+    → length bits < count * k → Stops next new bits f → BlockCut old new s b (Split k) f
+split_cut_low old mid next new s b k r count P highs bits f h n t high short stops = record {
   bits = reference_bits s r ++ (flat_map fundamental_sequence high.values ++ bits);
-  stops = stops-append left failed old mid new _ _ f t (stops-append left failed mid next new _ bits f high.takes stops);
+  stops = stops-append old mid new _ _ f t (stops-append mid next new _ bits f high.takes stops);
   none = λ c more form e.
       (let a = behind_reference s b r c.reference (flat_map fundamental_sequence high.values ++ bits) (flat_map (λ d. fundamental_sequence (d / 2 ^ k)) (sent_residuals c) ++ flat_map (word k) (sent_residuals c)) more h form.0.reference e in
       let len = length-coded_at s b c r count form.0 h n in

@@ -9,14 +9,18 @@ use Rattle.rice_bits.proofs.read.reader.draw.Goals as goal
 pub returns-in-Ok-clause-some : goal.returns-in-Ok-clause-some
 returns-in-Ok-clause-some g c =
     let given = take c.in-Ok.count c.ask.new.buffer in
-    let len = length-take-le c.in-Ok.count c.ask.new.buffer (omega (arith, c.in-Ok.ensures.ok.1, c.ask.auto.buffer, c.requires.window.size)) in
-    omega (arith, ap length c.hold.ensures.bits, length-bits_of given, len, c.in-Ok.ensures.ok.0)
+    let len = length-take-le c.in-Ok.count c.ask.new.buffer (omega (arith, c.in-Ok.ensures.some.1, c.ask.auto.buffer, c.requires.window.size)) in
+    omega (arith, ap length c.hold.ensures.bits, length-bits_of given, len, c.in-Ok.ensures.some.0)
 
 pub returns-in-Ok-clause-ok : goal.returns-in-Ok-clause-ok
 returns-in-Ok-clause-ok g c = record {
   given = take c.in-Ok.count c.ask.new.buffer;
-  consumed = c.in-Ok.ensures.ok.3;
+  consumed = c.in-Ok.ensures.gave;
   split = ap (λ z. z ++ bits_of (take c.in-Ok.count c.ask.new.buffer)) (window_empty _ c.requires.empty) ∙ sym c.hold.ensures.bits;
+  at_once =
+      (let len = length-take-le c.in-Ok.count c.ask.new.buffer (omega (arith, c.in-Ok.ensures.some.1, c.ask.auto.buffer, c.requires.window.size)) in
+      omega (arith, len, c.in-Ok.ensures.some.1));
+  needed = λ some. window_empty _ c.requires.empty;
 }
 
 pub returns-in-Err-clause-err : goal.returns-in-Err-clause-err

@@ -1,10 +1,10 @@
 use Rattle.std.proofs.Common.{arith}
 use Rattle.rice_bits.proofs.lemmas.read.WindowLemmas.{length-window}
-use Rattle.rice_bits.proofs.lemmas.read.Drawing.{draws-same}
+use Rattle.rice_bits.proofs.lemmas.read.Drawing.{supplies-none}
 use Rattle.rice_bits.proofs.read.reader.supply.Goals as goal
 
 pub returns-then-len-gt0-clause-ok : goal.returns-then-len-gt0-clause-ok
-returns-then-len-gt0-clause-ok g c = draws-same _ _
+returns-then-len-gt0-clause-ok g c = supplies-none _ _
 
 pub draw-requires-clause-empty : goal.draw-requires-clause-empty
 draw-requires-clause-empty g c = omega (arith, c.len.ensures.value, length-window c.args.window.now c.requires.window, c.requires.window.ordered)

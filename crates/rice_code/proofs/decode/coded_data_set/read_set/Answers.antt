@@ -10,33 +10,33 @@ returns-in-Err-clause-err g c =
 pub returns-in-Ok-read_low-clause-ok : goal.returns-in-Ok-read_low-clause-ok
 returns-in-Ok-read_low-clause-ok g c =
     let t = rw c.id_len-width.ensures.value at c.in-Ok.ensures.ok in
-    low_set g.I.Intake.left g.I.Intake.failed c.args.reader.now c.take.new.self c.read_low.new.reader c.args.meter.now c.take.new.meter c.read_low.new.meter c.args.setting.now c.args.block c.in-Ok.id c.in-Ok-read_low.taken c.read_low.new.residuals
+    low_set c.args.reader.now c.take.new.self c.read_low.new.reader c.args.meter.now c.take.new.meter c.read_low.new.meter c.args.setting.now c.args.block c.in-Ok.id c.in-Ok-read_low.taken c.read_low.new.residuals
     c.if-id-eq0.true t.1 c.in-Ok.ensures.steps c.in-Ok-read_low.ensures.ok
 
 pub returns-in-Err-read_low-clause-err : goal.returns-in-Err-read_low-clause-err
 returns-in-Err-read_low-clause-err g c =
     let t = rw c.id_len-width.ensures.value at c.in-Ok.ensures.ok in
-    low_set_cut g.I.Intake.left g.I.Intake.failed c.args.reader.now c.take.new.self c.read_low.new.reader c.args.setting.now c.args.block c.in-Ok.id c.in-Err-read_low.fault
+    low_set_cut c.args.reader.now c.take.new.self c.read_low.new.reader c.args.setting.now c.args.block c.in-Ok.id c.in-Err-read_low.fault
     t.0 c.if-id-eq0.true t.1 c.in-Err-read_low.ensures.err
 
 pub returns-in-Ok-read_no_compression-clause-ok : goal.returns-in-Ok-read_no_compression-clause-ok
 returns-in-Ok-read_no_compression-clause-ok g c =
     let t = rw c.id_len-width.ensures.value at c.in-Ok.ensures.ok in
     let e = rw c.id_len-width.ensures.value at c.if-id-width.true in
-    plain_set g.I.Intake.left g.I.Intake.failed c.args.reader.now c.take.new.self c.read_no_compression.new.reader c.args.meter.now c.take.new.meter c.read_no_compression.new.meter c.args.setting.now c.args.block c.in-Ok.id c.in-Ok-read_no_compression.head.reference c.in-Ok-read_no_compression.head.sound c.read_no_compression.new.residuals
+    plain_set c.args.reader.now c.take.new.self c.read_no_compression.new.reader c.args.meter.now c.take.new.meter c.read_no_compression.new.meter c.args.setting.now c.args.block c.in-Ok.id c.in-Ok-read_no_compression.head.reference c.in-Ok-read_no_compression.head.sound c.read_no_compression.new.residuals
     (e ∙ ones_id c.args.setting.now) t.1 c.in-Ok.ensures.steps c.in-Ok-read_no_compression.ensures.ok
 
 pub returns-in-Err-read_no_compression-clause-err : goal.returns-in-Err-read_no_compression-clause-err
 returns-in-Err-read_no_compression-clause-err g c =
     let t = rw c.id_len-width.ensures.value at c.in-Ok.ensures.ok in
     let e = rw c.id_len-width.ensures.value at c.if-id-width.true in
-    plain_set_cut g.I.Intake.left g.I.Intake.failed c.args.reader.now c.take.new.self c.read_no_compression.new.reader c.args.setting.now c.args.block c.in-Ok.id c.in-Err-read_no_compression.fault
+    plain_set_cut c.args.reader.now c.take.new.self c.read_no_compression.new.reader c.args.setting.now c.args.block c.in-Ok.id c.in-Err-read_no_compression.fault
     t.0 (e ∙ ones_id c.args.setting.now) t.1 c.in-Err-read_no_compression.ensures.err
 
 pub returns-in-Ok-read_split-clause-ok : goal.returns-in-Ok-read_split-clause-ok
 returns-in-Ok-read_split-clause-ok g c =
     let t = rw c.id_len-width.ensures.value at c.in-Ok.ensures.ok in
-    split_set g.I.Intake.left g.I.Intake.failed c.args.reader.now c.take.new.self c.read_split.new.reader c.args.meter.now c.take.new.meter c.read_split.new.meter c.args.setting.now c.args.block c.in-Ok.id (c.in-Ok.id - 1) c.in-Ok-read_split.head.reference c.in-Ok-read_split.head.sound c.read_split.new.residuals
+    split_set c.args.reader.now c.take.new.self c.read_split.new.reader c.args.meter.now c.take.new.meter c.read_split.new.meter c.args.setting.now c.args.block c.in-Ok.id (c.in-Ok.id - 1) c.in-Ok-read_split.head.reference c.in-Ok-read_split.head.sound c.read_split.new.residuals
     (omega arith) t.1 c.in-Ok.ensures.steps c.in-Ok-read_split.ensures.ok
 
 pub returns-in-Err-read_split-clause-err : goal.returns-in-Err-read_split-clause-err
@@ -44,5 +44,5 @@ returns-in-Err-read_split-clause-err g c =
     let t = rw c.id_len-width.ensures.value at c.in-Ok.ensures.ok in
     let e = rw c.id_len-width.ensures.value at c.if-id-width.false in
     let i = ones_id c.args.setting.now in
-    split_set_cut g.I.Intake.left g.I.Intake.failed c.args.reader.now c.take.new.self c.read_split.new.reader c.args.setting.now c.args.block c.in-Ok.id (c.in-Ok.id - 1) c.in-Err-read_split.fault
+    split_set_cut c.args.reader.now c.take.new.self c.read_split.new.reader c.args.setting.now c.args.block c.in-Ok.id (c.in-Ok.id - 1) c.in-Err-read_split.fault
     (omega (arith, t.0, e, i)) (omega arith) t.1 c.in-Err-read_split.ensures.err

@@ -13,9 +13,9 @@ returns-else-not-sound-clause-last g c =
 pub returns-in-Some-clause-ok : goal.returns-in-Some-clause-ok
 returns-in-Some-clause-ok g c =
     let p : SFits w64 c.args.p = c.ranges.p in
-    let e = c.in-Some.ensures.some in
-    run_given g.I.Intake.left g.I.Intake.failed c.args.reader.now c.read_set.new.reader c.args.meter.now c.read_set.new.meter c.args.setting.now c.args.block c.args.p c.in-Ok-Zeros.reference c.in-Ok-Zeros.zeros c.in-Some.count c.restore_zeros-last.new.samples.items c.read_set.new.residuals
-    (rw c.in-Ok-Zeros.field-0-is at c.in-Ok-Zeros.ensures.ok) (omega (arith, e.1, c.blocks_left.ensures.value)) (λ f. e.2 f ∙ c.blocks_left.ensures.value) e.3 c.restore_zeros-last.ensures.len c.restore_zeros-last.ensures.legal (rw (to_z-of_z w64 c.args.p p) at c.restore_zeros-last.ensures.contents)
+    let run = c.in-Some.ensures in
+    run_given c.args.reader.now c.read_set.new.reader c.args.meter.now c.read_set.new.meter c.args.setting.now c.args.block c.args.p c.in-Ok-Zeros.reference c.in-Ok-Zeros.zeros c.in-Some.count c.restore_zeros-last.new.samples.items c.read_set.new.residuals
+    (rw c.in-Ok-Zeros.field-0-is at c.in-Ok-Zeros.ensures.ok) (run.sound c.in-Ok-Zeros.reference) (run.blocks c.in-Ok-Zeros.reference) c.restore_zeros-last.ensures.len c.restore_zeros-last.ensures.legal (rw (to_z-of_z w64 c.args.p p) at c.restore_zeros-last.ensures.contents)
 
 pub returns-in-Err-clause-err : goal.returns-in-Err-clause-err
-returns-in-Err-clause-err g c = rw c.answer_of.ensures (stops_by g.I.Intake.left g.I.Intake.failed c.args.reader.now c.read_set.new.reader c.args.setting.now c.args.block c.in-Err.fault c.requires.marked c.in-Err.ensures.err)
+returns-in-Err-clause-err g c = rw c.answer_of.ensures (stops_by c.args.reader.now c.read_set.new.reader c.args.setting.now c.args.block c.in-Err.fault c.requires.marked c.in-Err.ensures.err)

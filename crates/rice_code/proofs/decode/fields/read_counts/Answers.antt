@@ -4,4 +4,4 @@ use Rattle.rice_code.proofs.decode.fields.read_counts.Goals as goal
 
 pub returns-in-Ok-clause-ok : goal.returns-in-Ok-clause-ok
 returns-in-Ok-clause-ok g c =
-    counts-judged g.I.Intake.left g.I.Intake.failed c.args.reader.now c.read_each_count.new.reader c.args.most (length c.args.counts.now) c.in-Ok.small _ _ c.in-Ok.ensures.ok c.are_below.ensures.below c.are_below.ensures.not_below
+    counts-judged c.args.reader.now c.read_each_count.new.reader c.args.most (length c.args.counts.now) c.in-Ok.small _ _ c.in-Ok.ensures.ok c.are_below.ensures.below c.are_below.ensures.not_below

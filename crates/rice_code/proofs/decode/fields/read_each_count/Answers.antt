@@ -4,7 +4,7 @@ use Rattle.rice_code.proofs.decode.fields.read_each_count.Goals as goal
 
 pub loop-done-init : goal.loop-done-init
 loop-done-init g c = record {
-  row = counts-none g.I.Intake.left g.I.Intake.failed c.args.reader.now c.args.most (take 0 c.args.counts.now) refl c.requires.going;
+  row = counts-none c.args.reader.now c.args.most (take 0 c.args.counts.now) refl c.requires.going;
   steps = refl;
   limit = c.requires.room.limit;
   within = omega arith;
@@ -14,17 +14,17 @@ pub returns-in-Err-clause-err : goal.returns-in-Err-clause-err
 returns-in-Err-clause-err g c =
     let r = c.loop-done.invariant.row in
     let e = c.in-Err.ensures.err in
-    sequences-stop g.I.Intake.left g.I.Intake.failed c.args.reader.now c.loop-done.reader c.read_some_counts.new.reader r.values (length c.args.counts.now)
+    sequences-stop c.args.reader.now c.loop-done.reader c.read_some_counts.new.reader r.values (length c.args.counts.now)
     e.0 c.in-Err.fault r.takes (omega (arith, r.len, c.loop-done-test.true, c.loop-done.auto.counts)) e.1
 
 pub returns-clause-ok : goal.returns-clause-ok
 returns-clause-ok g c =
-    counts-whole g.I.Intake.left g.I.Intake.failed c.args.reader.now c.loop-done.reader c.args.most c.loop-done.small c.loop-done.done (length c.args.counts.now) c.loop-done.counts
+    counts-whole c.args.reader.now c.loop-done.reader c.args.most c.loop-done.small c.loop-done.done (length c.args.counts.now) c.loop-done.counts
     c.loop-done.invariant.row (omega (arith, c.loop-done.invariant.within, c.loop-done-test.false, c.loop-done.auto.counts)) c.loop-done.auto.counts
 
 pub loop-done-preserved : goal.loop-done-preserved
 loop-done-preserved g c = record {
-  row = counts-append g.I.Intake.left g.I.Intake.failed c.args.reader.now c.loop-done.reader c.read_some_counts.new.reader c.args.most c.loop-done.done c.in-Ok.some c.loop-done.small c.in-Ok.fit (take c.loop-done.done c.loop-done.counts) (take c.in-Ok.some c.read_some_counts.new.counts) _
+  row = counts-append c.args.reader.now c.loop-done.reader c.read_some_counts.new.reader c.args.most c.loop-done.done c.in-Ok.some c.loop-done.small c.in-Ok.fit (take c.loop-done.done c.loop-done.counts) (take c.in-Ok.some c.read_some_counts.new.counts) _
       c.loop-done.invariant.row c.in-Ok.ensures.ok
       (put_front c.loop-done.done _ c.in-Ok.some c.loop-done.counts c.read_some_counts.new.counts (search rules) c.in-Ok.ensures.some.1);
   steps = omega (arith, c.in-Ok.ensures.steps, c.loop-done.invariant.steps);

@@ -4,7 +4,7 @@ use Rattle.rice_code.proofs.decode.fields.read_each_count.Given as goal
 
 abbrev pub invariant-loop-done : goal.invariant-loop-done
 invariant-loop-done g l = record {
-  row : CountsRead g.I.Intake.left g.I.Intake.failed l.fn.reader l.reader l.most l.small l.done (take l.done l.counts);
+  row : CountsRead l.fn.reader l.reader l.most l.small l.done (take l.done l.counts);
   steps : l.meter + l.fn.reader.taken ≡ l.fn.meter + l.reader.taken;
   limit : l.reader.taken ≤ 2 ^ 52;
   within : l.done ≤ length l.fn.counts;

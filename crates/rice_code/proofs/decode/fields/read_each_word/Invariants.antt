@@ -5,7 +5,7 @@ use Rattle.rice_code.proofs.decode.fields.read_each_word.Given as goal
 
 abbrev pub invariant-loop-done : goal.invariant-loop-done
 invariant-loop-done g l = record {
-  row : Row g.I.Intake.left g.I.Intake.failed (word l.width) (λ v. v < 2 ^ l.width) l.fn.reader l.reader l.done [] (take l.done l.words);
+  row : Row (word l.width) (λ v. v < 2 ^ l.width) l.fn.reader l.reader l.done [] (take l.done l.words);
   steps : l.meter + l.fn.reader.taken ≡ l.fn.meter + l.reader.taken;
   limit : l.reader.taken ≤ 2 ^ 52;
 }

@@ -4,6 +4,6 @@ use Rattle.rice_code.proofs.decode.fields.read_pairs.Given as goal
 
 abbrev pub invariant-loop-done : goal.invariant-loop-done
 invariant-loop-done g l = record {
-  row : PairRow g.I.Intake.left g.I.Intake.failed l.fn.reader l.reader l.done (take (l.done + l.done) l.out) l.fn.meter l.meter;
+  row : PairRow l.fn.reader l.reader l.done (take (l.done + l.done) l.out) l.fn.meter l.meter;
   limit : l.reader.taken ≤ 2 ^ 52;
 }

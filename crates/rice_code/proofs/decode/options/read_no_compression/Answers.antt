@@ -1,4 +1,4 @@
-use Rattle.std.proofs.Common.{arith, ◌^◌, ◌<◌, ◌∙◌}
+use Rattle.std.proofs.Common.{arith, ◌^◌, ◌<◌, ◌∙◌, refl}
 use Rattle.rice_code.specs.decode.ReadSets.{reference_place}
 use Rattle.std.specs.Prelude.{flat_map}
 use Rattle.std.proofs.lemmas.Nat.{pow_pos}
@@ -11,8 +11,8 @@ pub returns-in-Err-clause-err : goal.returns-in-Err-clause-err
 returns-in-Err-clause-err g c =
     let s = c.args.setting.now in
     let e = c.in-Err.ensures.err in
-    cut_at_reference g.I.Intake.left g.I.Intake.failed c.args.reader.now c.read_reference.new.reader s c.args.block NoCompression (λ x. flat_map (word s.bits) (sent_residuals x)) e.0 c.in-Err.fault
-    (λ x form. form.0.reference) e.1 e.2 e.3
+    cut_at_reference c.args.reader.now c.read_reference.new.reader s c.args.block NoCompression (λ x. flat_map (word s.bits) (sent_residuals x)) e.0 c.in-Err.fault
+    (λ x. refl) (λ x form. form.0.reference) e.1 e.2 e.3
 
 pub returns-clause-ok : goal.returns-clause-ok
 returns-clause-ok g c =
@@ -20,9 +20,9 @@ returns-clause-ok g c =
     let first = c.begin_residuals-first in
     let part = coded_part s c.in-Ok.reference first.result first.new.residuals c.bits-width.ensures.legal first.ensures.first (first.auto.residuals ∙ c.requires.size) in
     let row = (rw c.bits-width.ensures.value at c.in_default.ensures.ok) in
-    plain_read g.I.Intake.left g.I.Intake.failed c.args.reader.now c.read_reference.new.reader c.read_words.new.reader c.args.meter.now c.read_words.new.meter s c.args.block c.in-Ok.reference _ _
+    plain_read c.args.reader.now c.read_reference.new.reader c.read_words.new.reader c.args.meter.now c.read_words.new.meter s c.args.block c.in-Ok.reference _ _
     c.in-Ok.ensures.reference part.1 (pow_pos s.bits) c.in-Ok.ensures.ok
-    (placed_row g.I.Intake.left g.I.Intake.failed (word s.bits) (λ v. v < 2 ^ s.bits) c.read_reference.new.reader c.read_words.new.reader _ (reference_place c.in-Ok.reference) c.read_words.new.words _ row
+    (placed_row (word s.bits) (λ v. v < 2 ^ s.bits) c.read_reference.new.reader c.read_words.new.reader _ (reference_place c.in-Ok.reference) c.read_words.new.words _ row
     (placed first.result c.in-Ok.reference first.new.residuals c.read_words.new.words first.ensures.place part.0))
     (omega (arith, c.in-Ok.ensures.steps, c.in_default.ensures.steps))
 
@@ -32,5 +32,5 @@ returns-in-Err-read_words-clause-err g c =
     let first = c.begin_residuals-first in
     let part = coded_part s c.in-Ok.reference first.result first.new.residuals c.bits-width.ensures.legal first.ensures.first (first.auto.residuals ∙ c.requires.size) in
     let e = rw c.bits-width.ensures.value at c.in-Err-read_words.ensures.err in
-    plain_cut g.I.Intake.left g.I.Intake.failed c.args.reader.now c.read_reference.new.reader c.read_words.new.reader s c.args.block c.in-Ok.reference _ e.0 c.in-Err-read_words.fault
+    plain_cut c.args.reader.now c.read_reference.new.reader c.read_words.new.reader s c.args.block c.in-Ok.reference _ e.0 c.in-Err-read_words.fault
     c.in-Ok.ensures.reference part.1 c.in-Ok.ensures.ok e.1 e.2

@@ -11,12 +11,12 @@ returns-in-Err-clause-err g c =
 
 pub returns-in-Ok-take_fs-clause-ok : goal.returns-in-Ok-take_fs-clause-ok
 returns-in-Ok-take_fs-clause-ok g c =
-    takes-append g.I.Intake.left g.I.Intake.failed c.args.reader.now c.read_reference.new.reader c.take_fs.new.self _ _ c.in-Ok.ensures.ok c.in-Ok-take_fs.ensures.ok
+    takes-append c.args.reader.now c.read_reference.new.reader c.take_fs.new.self _ _ c.in-Ok.ensures.ok c.in-Ok-take_fs.ensures.ok
 
 pub returns-in-Err-take_fs-clause-err : goal.returns-in-Err-take_fs-clause-err
 returns-in-Err-take_fs-clause-err g c =
     let e = c.in-Err-take_fs.ensures.err c.in-Ok.ensures.ok.going in (
       reference_bits c.args.setting.now c.in-Ok.reference ++ replicate e.0 false,
-      stops-append g.I.Intake.left g.I.Intake.failed c.args.reader.now c.read_reference.new.reader c.take_fs.new.self _ _ c.in-Err-take_fs.fault c.in-Ok.ensures.ok e.1,
+      stops-append c.args.reader.now c.read_reference.new.reader c.take_fs.new.self _ _ c.in-Err-take_fs.fault c.in-Ok.ensures.ok e.1,
       run_cut c.args.setting.now c.args.block c.in-Ok.reference e.0 c.in-Ok.ensures.reference,
     )

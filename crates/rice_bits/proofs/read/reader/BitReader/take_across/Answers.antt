@@ -12,7 +12,7 @@ loop-left-init g c =
     record {
       within = omega arith;
       below = pow_pos _;
-      takes = rw (e, word-nil 0) (takes-none _ _ _ none);
+      takes = rw (e, word-nil 0) (takes-none _ none);
       idle = λ _. refl;
       limit = (let window = c.self.invariant.window in let taken = ap (λ r. r.taken) c.self.view_is in omega (arith, taken, window.limit));
       steps = refl;
@@ -27,13 +27,13 @@ loop-left-preserved g c =
     let k : (c.args.width - c.loop-left.left) + c.in-Ok.count ≡ c.args.width - (c.loop-left.left - c.in-Ok.count) = omega (arith, c.in-Ok.ensures.count) in
     let w = word-cat (c.args.width - c.loop-left.left) c.in-Ok.count c.loop-left.value c.in-Ok.digits c.in-Ok.ensures.count.2 in
     let b = join_below (c.args.width - c.loop-left.left) c.in-Ok.count c.loop-left.value c.in-Ok.digits c.loop-left.invariant.below c.in-Ok.ensures.count.2 in
-    let t = takes-append g.I.Intake.left g.I.Intake.failed c.args.self.now c.loop-left.self c.take_some.new.self _ _ c.loop-left.invariant.takes c.in-Ok.ensures.ok in
+    let t = takes-append c.args.self.now c.loop-left.self c.take_some.new.self _ _ c.loop-left.invariant.takes c.in-Ok.ensures.ok in
     record {
       within = omega arith;
       below = rw (← k, c.join-value.ensures) b;
       takes = rw (← k, c.join-value.ensures, w) t;
       idle = λ h.
-          (let n = still_wait g.I.Intake.left g.I.Intake.failed c.args.self.now c.loop-left.self _ c.loop-left.invariant.takes in
+          (let n = still_wait c.args.self.now c.loop-left.self _ c.loop-left.invariant.takes in
           let m = length-word (c.args.width - c.loop-left.left) c.loop-left.value in
           c.in-Ok.ensures.idle (omega (arith, h, n, m, c.loop-left-test.true)) ∙ c.loop-left.invariant.idle h);
       limit = c.take_some.ensures.limit;
@@ -44,12 +44,12 @@ pub returns-in-Err-clause-err : goal.returns-in-Err-clause-err
 returns-in-Err-clause-err g c none = refused _ _ _ c.in-Err.ensures.err.refusal (
   word (c.args.width - c.loop-left.left) c.loop-left.value ++ [],
   omega (arith, length-append (word (c.args.width - c.loop-left.left) c.loop-left.value) [], length-word (c.args.width - c.loop-left.left) c.loop-left.value, c.loop-left.invariant.within, c.loop-left-test.true),
-  stops-append _ _ c.args.self.now c.loop-left.self c.take_some.new.self _ _ _ c.loop-left.invariant.takes c.in-Err.ensures.err,
+  stops-append c.args.self.now c.loop-left.self c.take_some.new.self _ _ _ c.loop-left.invariant.takes c.in-Err.ensures.err,
 )
 
 pub returns-in-Err-clause-idle : goal.returns-in-Err-clause-idle
 returns-in-Err-clause-idle g c h =
-    let n = still_wait g.I.Intake.left g.I.Intake.failed c.args.self.now c.loop-left.self _ c.loop-left.invariant.takes in
+    let n = still_wait c.args.self.now c.loop-left.self _ c.loop-left.invariant.takes in
     let m = length-word (c.args.width - c.loop-left.left) c.loop-left.value in
     c.in-Err.ensures.idle (omega (arith, h, n, m, c.loop-left-test.true)) ∙ c.loop-left.invariant.idle h
 

@@ -7,7 +7,7 @@ abbrev pub invariant-loop-left : goal.invariant-loop-left
 invariant-loop-left g l = record {
   within : l.left ≤ l.width;
   below : l.value < 2 ^ (l.width - l.left);
-  takes : Takes g.I.Intake.left g.I.Intake.failed l.fn.self l.self (word (l.width - l.left) l.value);
+  takes : Takes l.fn.self l.self (word (l.width - l.left) l.value);
   idle : l.width ≤ length l.fn.self.waiting → l.self.intake ≡ l.fn.self.intake;
   limit : l.self.taken ≤ 2 ^ 52;
   steps : l.meter + l.fn.self.taken ≡ l.fn.meter + l.self.taken;

@@ -4,7 +4,7 @@ use Rattle.rice_bits.proofs.read.reader.BitReader.take_fs_across.Given as goal
 
 abbrev pub invariant-loop-count : goal.invariant-loop-count
 invariant-loop-count g l = record {
-  takes : Takes g.I.Intake.left g.I.Intake.failed l.fn.self l.self (replicate l.zeros false);
+  takes : Takes l.fn.self l.self (replicate l.zeros false);
   idle : is_blank l.fn.self.waiting ≡ false → l.self.intake ≡ l.fn.self.intake;
   limit : l.self.taken ≤ 2 ^ 52;
   steps : l.meter + l.fn.self.taken ≡ l.fn.meter + l.self.taken;

@@ -1,6 +1,6 @@
 use Rattle.std.proofs.Common.{◌≡◌, ◌<◌, ap, refl, None, length, arith}
 use Rattle.rice_bits.specs.read.Window.{window_bits}
-use Rattle.rice_bits.proofs.lemmas.read.Drawing.{draws-same}
+use Rattle.rice_bits.proofs.lemmas.read.Drawing.{draws-waiting}
 use Rattle.rice_bits.proofs.lemmas.read.ReaderLemmas.{not_refused, takes_passed}
 use Rattle.rice_bits.proofs.lemmas.read.WindowLemmas.{length-window}
 use Rattle.rice_bits.proofs.read.reader.BitReader.take_fs_ready.Goals as goal
@@ -13,4 +13,5 @@ pub returns-clause-some : goal.returns-clause-some
 returns-clause-some g c =
     let some : 0 < length (window_bits c.self.inside.window) = omega (arith, c.in_ok-count.ensures.some.0, c.in_ok-count.ensures.some.1) in
     let none : c.self.inside.refusal ≡ None = not_refused _ _ some c.self.invariant.stopped in
-    rw (← c.self.view_is) (takes_passed _ _ _ _ c.self.inside.window _ _ _ _ (draws-same _ _) refl refl none refl (rw c.in_ok-count.ensures.some.2 at c.pass.ensures.passes))
+    let passes = rw c.in_ok-count.ensures.some.2 at c.pass.ensures.passes in
+    rw (← c.self.view_is) (takes_passed _ _ _ _ c.self.inside.window _ _ _ _ (draws-waiting _ _ _ _ passes.split) refl refl none refl passes)

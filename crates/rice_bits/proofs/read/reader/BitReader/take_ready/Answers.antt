@@ -1,6 +1,6 @@
 use Rattle.std.proofs.Common.{ap, sym, ◌∙◌, refl, arith}
 use Rattle.rice_bits.proofs.lemmas.bits.Words.{length-word}
-use Rattle.rice_bits.proofs.lemmas.read.Drawing.{draws-same}
+use Rattle.rice_bits.proofs.lemmas.read.Drawing.{draws-waiting}
 use Rattle.rice_bits.proofs.lemmas.read.ReaderLemmas.{not_refused, takes_passed}
 use Rattle.rice_bits.proofs.read.reader.BitReader.take_ready.Goals as goal
 
@@ -9,7 +9,7 @@ returns-clause-some g c =
     let some = c.in_ok-number.ensures.some in
     let none = not_refused _ _ some.2 c.self.invariant.stopped in (
       some.0,
-      rw (← c.self.view_is) (takes_passed _ _ _ _ c.self.inside.window _ _ _ _ (draws-same _ _) refl refl none refl some.1),
+      rw (← c.self.view_is) (takes_passed _ _ _ _ c.self.inside.window _ _ _ _ (draws-waiting _ _ _ _ some.1.split) refl refl none refl some.1),
     )
 
 pub returns-clause-going : goal.returns-clause-going

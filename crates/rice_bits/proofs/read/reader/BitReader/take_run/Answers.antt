@@ -1,7 +1,10 @@
-use Rattle.std.proofs.Common.{arith, ap, sym, ◌∙◌, refl}
-use Rattle.rice_bits.proofs.lemmas.read.Drawing.{draws_nothing}
+use Rattle.std.proofs.Common.{arith, ap, sym, ◌∙◌, refl, ◌≡◌, ◌<◌, None, false, length, take, replicate, subst, min}
+use Rattle.rice_bits.proofs.lemmas.read.Drawing.{draws_nothing, draws-supplied}
 use Rattle.rice_bits.proofs.lemmas.read.Blank.{and-true}
 use Rattle.rice_bits.proofs.lemmas.read.WindowLemmas.{length-window}
+use Rattle.std.proofs.lemmas.List.{length-replicate}
+use Rattle.rice_bits.specs.read.Window.{Passes, window_bits}
+use Rattle.rice_bits.proofs.lemmas.read.ReaderLemmas.{takes_passed}
 use Rattle.rice_bits.proofs.read.reader.BitReader.take_run.Goals as goal
 
 pub returns-in-Err-clause-err : goal.returns-in-Err-clause-err
@@ -22,3 +25,16 @@ tick-requires g c =
 pub tick-requires-2 : goal.tick-requires-2
 tick-requires-2 g c =
     omega (arith, c.requires.meter, c.min-zeros.ensures, c.len.ensures.value, length-window _ c.supply.ensures.window, c.supply.ensures.window.limit, c.supply.ensures.window.held, c.supply.ensures.taken, ap (λ r. r.taken) c.self.view_is)
+
+pub returns-clause-zeros : goal.returns-clause-zeros
+returns-clause-zeros g c _ =
+    let supply = c.in_default.ensures in
+    let some : 0 < c.min-zeros.result = omega (arith, c.min-zeros.ensures, c.len.ensures.value, supply.some) in
+    let few : c.min-zeros.result ≡ min 57 (length (window_bits c.supply.new.window)) = c.min-zeros.ensures ∙ ap (min 57) c.len.ensures.value in
+    let zeros : take c.min-zeros.result (window_bits c.supply.new.window) ≡ replicate c.min-zeros.result false = rw few c.in_default-sequence_ahead.ensures.none in
+    let passes = subst (λ bits. Passes c.supply.new.window c.pass-2.new.self bits) zeros c.pass-2.ensures.passes in
+    let none : c.self.inside.refusal ≡ None = ap (λ r. r.refusal) c.self.view_is ∙ c.requires.going in (
+      some,
+      rw (← c.self.view_is) (takes_passed _ _ _ _ c.supply.new.window _ _ _ _
+          (draws-supplied _ _ _ _ _ _ (omega (arith, some, length-replicate c.min-zeros.result false)) supply.ok passes.split) supply.taken supply.blank none supply.failures passes),
+    )

@@ -1,6 +1,7 @@
-use Rattle.std.proofs.Common.{arith, ◌≡◌, ap, sym, ◌∙◌, refl, None}
+use Rattle.std.proofs.Common.{◌<◌, length, arith, ◌≡◌, ap, sym, ◌∙◌, refl, None}
+use Rattle.rice_bits.specs.Bits.{word}
 use Rattle.rice_bits.proofs.lemmas.bits.Words.{length-word}
-use Rattle.rice_bits.proofs.lemmas.read.Drawing.{draws_nothing}
+use Rattle.rice_bits.proofs.lemmas.read.Drawing.{draws_nothing, draws-supplied}
 use Rattle.rice_bits.proofs.lemmas.read.Blank.{and-true}
 use Rattle.rice_bits.proofs.lemmas.read.ReaderLemmas.{takes_passed}
 use Rattle.rice_bits.proofs.read.reader.BitReader.take_some.Goals as goal
@@ -19,8 +20,10 @@ returns-in-Err-clause-err g c = rw (← c.self.view_is) record {
 pub returns-clause-ok : goal.returns-clause-ok
 returns-clause-ok g c =
     let none : c.self.inside.refusal ≡ None = ap (λ r. r.refusal) c.self.view_is ∙ c.requires.going in
-    rw (← c.self.view_is) (takes_passed _ _ _ _ c.supply.new.window _ _ _ _ c.in_default.ensures.ok c.in_default.ensures.taken c.in_default.ensures.blank none
-    c.in_default.ensures.failures c.take_first-digits.ensures.passes)
+    let passes = c.take_first-digits.ensures.passes in
+    let some : 0 < length (word c.min-count.result c.take_first-digits.result) = omega (arith, length-word c.min-count.result c.take_first-digits.result, c.min-count.ensures, c.len.ensures.value, c.in_default.ensures.some, c.requires.some) in
+    rw (← c.self.view_is) (takes_passed _ _ _ _ c.supply.new.window _ _ _ _ (draws-supplied _ _ _ _ _ _ some c.in_default.ensures.ok passes.split) c.in_default.ensures.taken c.in_default.ensures.blank none
+    c.in_default.ensures.failures passes)
 
 pub returns-clause-steps : goal.returns-clause-steps
 returns-clause-steps g c =

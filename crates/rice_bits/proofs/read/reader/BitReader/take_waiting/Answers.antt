@@ -2,14 +2,15 @@ use Rattle.std.proofs.Common.{◌≡◌, ap, ◌∙◌, refl, None, arith, take,
 use Rattle.std.specs.Prelude.{flat_map}
 use Rattle.rice_bits.specs.Bits.{word}
 use Rattle.rice_bits.specs.read.Window.{window_bits}
-use Rattle.rice_bits.proofs.lemmas.read.Drawing.{draws-same}
+use Rattle.rice_bits.proofs.lemmas.read.Drawing.{draws-waiting}
 use Rattle.rice_bits.proofs.lemmas.read.ReaderLemmas.{takes_passed}
 use Rattle.rice_bits.proofs.read.reader.BitReader.take_waiting.Goals as goal
 
 pub returns-clause-takes : goal.returns-clause-takes
 returns-clause-takes g c =
     let none : c.self.inside.refusal ≡ None = ap (λ r. r.refusal) c.self.view_is ∙ c.requires.going in
-    rw (← c.self.view_is) (takes_passed _ _ _ _ c.self.inside.window _ _ _ _ (draws-same _ _) refl refl none refl c.take_words-taken.ensures.passes)
+    let passes = c.take_words-taken.ensures.passes in
+    rw (← c.self.view_is) (takes_passed _ _ _ _ c.self.inside.window _ _ _ _ (draws-waiting _ _ _ _ passes.split) refl refl none refl passes)
 
 pub returns-clause-steps : goal.returns-clause-steps
 returns-clause-steps g c =

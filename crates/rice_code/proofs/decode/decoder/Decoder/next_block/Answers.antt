@@ -37,7 +37,7 @@ pub returns-in-Ok-clause-waiting : goal.returns-in-Ok-clause-waiting
 returns-in-Ok-clause-waiting g c =
     let none : c.args.self.now.stopped ≡ None = ap (λ v. v.stopped) (sym c.self.view_is) ∙ c.in_default.is in
     let same : c.mark.new.self.taken ≡ c.args.reader.now.taken = ap (λ r. r.taken) (c.mark.ensures.going (c.requires.going none)) in
-    let bound = samples_by_bits g.I.Intake.left g.I.Intake.failed c.mark.new.self c.decode_set.new.reader c.args.meter.now c.decode_set.new.meter c.self.inside.setting c.self.inside.block (to_z w64 (of_z w64 c.self.inside.before)) c.decode_set.new.samples.items c.in-Ok.run'
+    let bound = samples_by_bits c.mark.new.self c.decode_set.new.reader c.args.meter.now c.decode_set.new.meter c.self.inside.setting c.self.inside.block (to_z w64 (of_z w64 c.self.inside.before)) c.decode_set.new.samples.items c.in-Ok.run'
     c.self.invariant.legal c.in-Ok.ensures.ok in
     omega (arith, bound, same)
 
@@ -52,8 +52,8 @@ returns-in-Ok-clause-reads g c none zero =
     let set = rw (to_z-of_z w64 st.before b) at c.in-Ok.ensures.ok in
     let last = rw (to_z-of_z w64 st.before b) at c.in-Ok.ensures.last.0 in
     let marks = c.mark.ensures.going (c.requires.going none) in
-    let given = set_given g.I.Intake.left g.I.Intake.failed c.mark.new.self c.decode_set.new.reader c.skip_padding.new.reader c.args.meter.now c.decode_set.new.meter c.skip_padding.new.meter st.setting st.block st.before c.decode_set.new.samples.items c.in-Ok.run' set c.skip_padding.ensures.skips c.skip_padding.ensures.steps in
+    let given = set_given c.mark.new.self c.decode_set.new.reader c.skip_padding.new.reader c.args.meter.now c.decode_set.new.meter c.skip_padding.new.meter st.setting st.block st.before c.decode_set.new.samples.items c.in-Ok.run' set c.skip_padding.ensures.skips c.skip_padding.ensures.steps in
     rw (← c.self.view_is, to_z-of_z w64 c.in-Ok.last f) (
-      subst (λ r. GivesSet g.I.Intake.left g.I.Intake.failed r c.skip_padding.new.reader c.args.meter.now c.skip_padding.new.meter st.setting st.block st.before c.decode_set.new.samples.items c.in-Ok.run') marks given,
+      subst (λ r. GivesSet r c.skip_padding.new.reader c.args.meter.now c.skip_padding.new.meter st.setting st.block st.before c.decode_set.new.samples.items c.in-Ok.run') marks given,
       λ i. record { setting = st.setting; block = c.next_place-self-inside-in-Ok.ensures i; before = last i; run = c.in-Ok.run'; stopped = st.stopped },
     )
