@@ -37,6 +37,10 @@ bits_to_byte n = (8 - n % 8) % 8
 abbrev pub padded_bits : List Bool → List Bool
 padded_bits bits = bits ++ replicate (bits_to_byte (length bits)) false
 
+-- The most bits that one put takes: with up to seven bits of a byte before them they fit eight bytes.
+abbrev pub put_width : ℕ
+put_width = 56
+
 -- `count` bits are appended, and each is a step
 pub record Puts (more : List Bool) (count : ℕ) (old new : List Bool) (meter_old meter_new : ℕ) : Type 0 where
   pub bits : new ≡ old ++ more

@@ -1,6 +1,6 @@
 //! A list of bits that is gathered into bytes.
 ghost use Rattle.std.specs.Prelude.{◌≡◌, ℕ, ◌+◌, ◌-◌, ◌*◌, ◌%◌, ◌^◌, ◌<◌, ◌≤◌, ◌↔◌, IsTrue, Bool, false, List, [], ◌++◌, length, drop, replicate};
-ghost use Rattle.rice_bits.specs.Bits.{fundamental_sequence, word, whole_bytes, bits_in_bytes, bits_to_byte, Puts};
+ghost use Rattle.rice_bits.specs.Bits.{fundamental_sequence, word, whole_bytes, bits_in_bytes, bits_to_byte, put_width, Puts};
 
 use crate::Meter;
 use crate::bits::digits::to_front;
@@ -84,7 +84,7 @@ impl<const N: usize> BitSink<N> {
     /// They are at most 56, so that they fit eight bytes after the bits of a byte that is not whole.
     #[inline]
     pub fn put_long(&mut self, value: u64, width: u32, meter: &mut Meter)
-        requires width { width ≤ 56 }
+        requires width { width ≤ put_width }
         requires value { value < 2 ^ width }
         requires room { length self.old + width ≤ 8 * N }
         requires meter { meter.old + width < 2 ^ 62 }

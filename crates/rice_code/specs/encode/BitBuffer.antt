@@ -1,5 +1,6 @@
 -- Bits that are gathered before they are put into a sink, and what a put does.
 use Rattle.std.specs.Prelude.{◌≡◌, ℕ, ◌+◌, ◌^◌, ◌<◌, ◌≤◌, Bool, List, ◌++◌, length}
+use Rattle.rice_bits.specs.Bits.{put_width}
 use Rattle.rice_samples.specs.Parameters.{Parameters}
 use Rattle.rice_code.specs.code.CodedDataSets.{CodedDataSet, bits_of_set, cost}
 
@@ -7,9 +8,9 @@ use Rattle.rice_code.specs.code.CodedDataSets.{CodedDataSet, bits_of_set, cost}
 abbrev pub sink_bits : ℕ
 sink_bits = 131456
 
--- these are the digits of a number, at most 56
+-- these are the digits of a number, as many as one put takes at most
 pub record IsShort (width value : ℕ) : Type 0 where
-  pub most : width ≤ 56
+  pub most : width ≤ put_width
   pub digits : value < 2 ^ width
 
 -- after `bits` bits a sink has room for `count` more, and the meter for `ticks`

@@ -1,6 +1,6 @@
 //! A buffer of bits, which puts several fields into a sink at once.
 ghost use Rattle.std.specs.Prelude.{◌≡◌, ℕ, ◌+◌, ◌*◌, ◌^◌, ◌<◌, ◌≤◌, ◌++◌, [], length};
-ghost use Rattle.rice_bits.specs.Bits.{word, fundamental_sequence};
+ghost use Rattle.rice_bits.specs.Bits.{word, fundamental_sequence, put_width};
 ghost use Rattle.rice_code.specs.encode.BitBuffer.{HasRoomFor, AddsFields};
 
 use crate::encode::SegmentSink;
@@ -42,7 +42,7 @@ impl BitBuffer {
     /// Adds the `width` binary digits of `value`, after putting the bits before them where both do not fit.
     #[inline(always)]
     pub fn add(&mut self, value: u64, width: u32, sink: &mut SegmentSink, meter: &mut Meter)
-        requires width { width ≤ 56 }
+        requires width { width ≤ put_width }
         requires value { value < 2 ^ width }
         requires room { HasRoomFor 0 0 (length sink.old + length self.old) (meter.old + length self.old) }
         ensures { AddsFields (word width value) width width
@@ -56,9 +56,9 @@ impl BitBuffer {
     /// Puts the bits where `width` more do not fit beside them.
     #[inline(always)]
     fn make_room(&mut self, width: u32, sink: &mut SegmentSink, meter: &mut Meter)
-        requires width { width ≤ 56 }
+        requires width { width ≤ put_width }
         requires room { HasRoomFor 0 0 (length sink.old + length self.old) (meter.old + length self.old) }
-        ensures fits { length self.new + width ≤ 56 }
+        ensures fits { length self.new + width ≤ put_width }
         ensures bits { sink.new ++ self.new ≡ sink.old ++ self.old }
         ensures len { length sink.new + length self.new ≡ length sink.old + length self.old }
         ensures steps { meter.new + length self.new ≡ meter.old + length self.old }

@@ -56,7 +56,7 @@ less m n h = grind (arith, nat_tests)
 pub not_less : (m n : ℕ) → n ≤ m → nat_lt m n ≡ false
 not_less m n h = grind (arith, nat_tests)
 
--- no option behind is shorter, so the first stays_open
+-- no option behind is shorter, so the first stays
 pub kept : {A : Type 0} (f : A → ℕ) (g : ℕ → A) (a : A) (from n : ℕ) → ((j : ℕ) → from ≤ j → j < from + n → f a ≤ f (g j)) → best_of (λ x y. nat_lt (f x) (f y)) a (map g (range_with_len from n)) ≡ a
 kept f g a from zero h = refl
 kept f g a from (suc n) h =

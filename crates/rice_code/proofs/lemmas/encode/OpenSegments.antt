@@ -39,7 +39,7 @@ segment_meter n i j bits k m len h e f =
     let b : n * (i + j * bits + j * (k + 5)) ≡ n * (i + j * bits) + n * (j * (k + 5)) = omega arith in
     omega (arith, a, b, p, e, f)
 
--- the fill stays_open in the segment
+-- the fill stays in the segment
 pub fill_inside : (n j left : ℕ) → 1 ≤ j → n < j * left → n + (j - n % j) % j ≤ j * left
 fill_inside n j left h k =
     let d = div-add-mod n j in

@@ -81,7 +81,7 @@ last_at p d (x ∷ y ∷ ys) h =
     let e : suc (length (y ∷ ys) - 1) ≡ length (x ∷ y ∷ ys) - 1 = omega arith in
     last_at x d (y ∷ ys) (omega arith) ∙ ap (λ n. slice_index_or (x ∷ y ∷ ys) n d) e
 
--- the segment stays_open open
+-- the segment stays open
 pub open_later : (coder : CoderState) (end : ℕ) (ds : List ℕ) (xs : List ℤ) → IsOpen coder end → ds ≡ coder.residuals ++ later_residuals coder.setting coder.previous xs → All (IsSample coder.setting) xs →
     length coder.residuals + length xs ≤ coder.setting.block * blocks_left coder.setting coder.start →
     IsOpen (record { setting = coder.setting; residuals = ds; reference = coder.reference; previous = last_of coder.previous xs; start = coder.start }) end
