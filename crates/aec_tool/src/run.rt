@@ -15,13 +15,15 @@ pub fn run<I: Intake, O: Outlet>(plan: &Plan<'_>, intake: I, outlet: &mut O) -> 
     ensures encodes { plan.now.decode ≡ false → (c : Call) ×
         Happens (I.left intake) (I.left result.1) (O.taken outlet.old) (O.taken outlet.new) c ×
         Encodes plan.now.setting c result.0.report result.0.fault }
-    ensures encodes_within { plan.now.decode ≡ false → EncodesWithin plan.now.setting result.0.report }
+    ensures encodes_within { plan.now.decode ≡ false →
+        EncodesWithin plan.now.setting result.0.report }
     ensures decodes { plan.now.decode ≡ true → (c : Call) ×
         Happens (I.left intake) (I.left result.1) (O.taken outlet.old) (O.taken outlet.new) c ×
         Decodes plan.now.setting plan.now.samples c result.0.report result.0.fault }
     ensures failures { Fails result.0.fault (I.failed intake) (I.failed result.1)
         (O.failed outlet.old) (O.failed outlet.new) }
-    ensures decodes_within { plan.now.decode ≡ true → DecodesWithin plan.now.samples result.0.report }
+    ensures decodes_within { plan.now.decode ≡ true →
+        DecodesWithin plan.now.samples result.0.report }
     // With a count of 0 the intake is not called.
     ensures idle { plan.now.decode ≡ true → plan.now.samples ≡ Some 0 → result.1 ≡ intake }
 {

@@ -12,14 +12,17 @@ pub fn decodes_no_bytes()
 
 /// A run of one block. Where eight samples are asked for, the zeros after it are not read.
 pub fn decodes_a_run()
-    ensures all { Decoded defaults (bits_of (0x00 ∷ 0x58 ∷ [])) None (replicate 8 (pos 5)) Ended 16 }
-    ensures asked { Decoded defaults (bits_of (0x00 ∷ 0x58 ∷ [])) (Some 8) (replicate 8 (pos 5)) Reached 13 }
+    ensures all { Decoded defaults (bits_of (0x00 ∷ 0x58 ∷
+        [])) None (replicate 8 (pos 5)) Ended 16 }
+    ensures asked { Decoded defaults (bits_of (0x00 ∷ 0x58 ∷
+        [])) (Some 8) (replicate 8 (pos 5)) Reached 13 }
     ensures one { Decoded defaults (bits_of (0x00 ∷ 0x58 ∷ [])) (Some 1) (pos 5 ∷ []) Reached 13 }
 {}
 
 /// Zeros after the code are a clean end, however many there are.
 pub fn decodes_zeros_behind_the_code()
-    ensures { Decoded defaults (bits_of (0x00 ∷ 0x58 ∷ 0x00 ∷ 0x00 ∷ [])) None (replicate 8 (pos 5)) Ended 32 }
+    ensures { Decoded defaults (bits_of (0x00 ∷ 0x58 ∷ 0x00 ∷ 0x00 ∷
+        [])) None (replicate 8 (pos 5)) Ended 32 }
 {}
 
 /// Where no sample is asked for, nothing is read.
@@ -29,18 +32,22 @@ pub fn decodes_nothing_that_is_not_asked_for()
 
 /// Another split than the coder takes.
 pub fn decodes_another_split()
-    ensures { Decoded defaults (bits_of (0x40 ∷ 0x15 ∷ 0x55 ∷ 0x80 ∷ [])) None (numbers_from 0 8) Ended 32 }
+    ensures { Decoded defaults (bits_of (0x40 ∷ 0x15 ∷ 0x55 ∷ 0x80 ∷
+        [])) None (numbers_from 0 8) Ended 32 }
 {}
 
 /// The greatest split, of samples that have fewer bits.
 pub fn decodes_the_greatest_split()
-    ensures { Decoded one_bit_defaults (bits_of (0xCF ∷ 0xE1 ∷ 0x00 ∷ 0x00 ∷ 0x00 ∷ 0x00 ∷ [])) None (pos 0 ∷ replicate 7 (pos 1)) Ended 48 }
+    ensures { Decoded one_bit_defaults (bits_of (0xCF ∷ 0xE1 ∷ 0x00 ∷ 0x00 ∷ 0x00 ∷ 0x00 ∷
+        [])) None (pos 0 ∷ replicate 7 (pos 1)) Ended 48 }
 {}
 
 /// A residual that is greater than all of the samples: 2 where they have one bit, and 16 where they have four.
 pub fn refuses_a_residual_too_large()
-    ensures low { Decoded one_bit_defaults (bits_of (0xCF ∷ 0xE2 ∷ 0x00 ∷ 0x00 ∷ 0x00 ∷ 0x00 ∷ [])) None [] Large 46 }
-    ensures high { Decoded (record defaults { bits = 4 }) (bits_of (0x20 ∷ 0x00 ∷ 0x01 ∷ 0xFC ∷ [])) None [] Large 30 }
+    ensures low { Decoded one_bit_defaults (bits_of (0xCF ∷ 0xE2 ∷ 0x00 ∷ 0x00 ∷ 0x00 ∷ 0x00 ∷
+        [])) None [] Large 46 }
+    ensures high { Decoded (record defaults { bits = 4 }) (bits_of (0x20 ∷ 0x00 ∷ 0x01 ∷ 0xFC ∷
+        [])) None [] Large 30 }
 {}
 
 /// In second extension the value at the reference place has to be 0.
@@ -50,18 +57,22 @@ pub fn refuses_a_value_at_the_reference_place()
 
 /// The remainder of a segment of which only two blocks are left.
 pub fn decodes_a_remainder_of_two()
-    ensures { Decoded defaults (bits_of (0x00 ∷ 0x00 ∷ 0x80 ∷ [])) None (replicate 16 (pos 0)) Ended 24 }
+    ensures { Decoded defaults (bits_of (0x00 ∷ 0x00 ∷ 0x80 ∷
+        [])) None (replicate 16 (pos 0)) Ended 24 }
 {}
 
 /// A numbered run that ends its segment.
 pub fn decodes_a_numbered_run_to_the_end()
-    ensures { Decoded (record defaults { interval = 5 }) (bits_of (0x00 ∷ 0x00 ∷ 0x40 ∷ [])) None (replicate 40 (pos 0)) Ended 24 }
+    ensures { Decoded (record defaults { interval = 5 }) (bits_of (0x00 ∷ 0x00 ∷ 0x40 ∷
+        [])) None (replicate 40 (pos 0)) Ended 24 }
 {}
 
 /// The longest run, and a codeword of 64 zeros, which is invalid.
 pub fn decodes_the_longest_run()
-    ensures longest { Decoded (record defaults { interval = 64 }) (bits_of (replicate 9 0x00 ++ 0x10 ∷ [])) None (replicate 504 (pos 0)) Ended 80 }
-    ensures longer { Decoded (record defaults { interval = 64 }) (bits_of (replicate 9 0x00 ++ 0x08 ∷ [])) None [] Past 77 }
+    ensures longest { Decoded (record defaults { interval = 64 }) (bits_of (replicate 9 0x00 ++
+        0x10 ∷ [])) None (replicate 504 (pos 0)) Ended 80 }
+    ensures longer { Decoded (record defaults { interval = 64 }) (bits_of (replicate 9 0x00 ++
+        0x08 ∷ [])) None [] Past 77 }
 {}
 
 /// A run of three blocks in a segment of two is refused, also where its first block would be enough.
@@ -77,18 +88,24 @@ pub fn finds_a_cut_code()
 
 /// Two blocks, each with a reference.
 pub fn decodes_two_references()
-    ensures all { Decoded (record defaults { interval = 1 }) (bits_of (0x00 ∷ 0x58 ∷ 0x02 ∷ 0xC0 ∷ [])) None (replicate 16 (pos 5)) Ended 32 }
-    ensures asked { Decoded (record defaults { interval = 1 }) (bits_of (0x00 ∷ 0x58 ∷ 0x02 ∷ 0xC0 ∷ [])) (Some 16) (replicate 16 (pos 5)) Reached 26 }
+    ensures all { Decoded (record defaults { interval = 1 }) (bits_of (0x00 ∷ 0x58 ∷ 0x02 ∷ 0xC0 ∷
+        [])) None (replicate 16 (pos 5)) Ended 32 }
+    ensures asked { Decoded (record defaults { interval = 1 }) (bits_of (0x00 ∷ 0x58 ∷ 0x02 ∷ 0xC0 ∷
+        [])) (Some 16) (replicate 16 (pos 5)) Reached 26 }
 {}
 
 /// 4096 samples from nine bits. Where ten are asked for, these are all that is given.
 pub fn decodes_the_most_samples_of_a_bit()
-    ensures all { Decoded (record unprocessed_defaults { block = 64; interval = 64 }) (bits_of (0x00 ∷ 0x80 ∷ [])) None (replicate 4096 (pos 0)) Ended 16 }
-    ensures asked { Decoded (record unprocessed_defaults { block = 64; interval = 64 }) (bits_of (0x00 ∷ 0x80 ∷ [])) (Some 10) (replicate 10 (pos 0)) Reached 9 }
+    ensures all { Decoded (record unprocessed_defaults { block = 64; interval = 64 }) (bits_of (0x00 ∷
+        0x80 ∷ [])) None (replicate 4096 (pos 0)) Ended 16 }
+    ensures asked { Decoded (record unprocessed_defaults { block = 64; interval = 64 }) (bits_of (0x00 ∷
+        0x80 ∷ [])) (Some 10) (replicate 10 (pos 0)) Reached 9 }
 {}
 
 /// Padding is skipped whatever its bits are. It counts as used, also after the last sample that is asked for.
 pub fn skips_padding()
-    ensures all { Decoded (record defaults { interval = 1; pad = true }) (bits_of (0x00 ∷ 0x5F ∷ 0x00 ∷ 0x58 ∷ [])) None (replicate 16 (pos 5)) Ended 32 }
-    ensures asked { Decoded (record defaults { interval = 1; pad = true }) (bits_of (0x00 ∷ 0x5F ∷ 0x00 ∷ 0x58 ∷ [])) (Some 8) (replicate 8 (pos 5)) Reached 16 }
+    ensures all { Decoded (record defaults { interval = 1; pad = true }) (bits_of (0x00 ∷ 0x5F ∷
+        0x00 ∷ 0x58 ∷ [])) None (replicate 16 (pos 5)) Ended 32 }
+    ensures asked { Decoded (record defaults { interval = 1; pad = true }) (bits_of (0x00 ∷ 0x5F ∷
+        0x00 ∷ 0x58 ∷ [])) (Some 8) (replicate 8 (pos 5)) Reached 16 }
 {}

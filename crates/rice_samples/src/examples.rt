@@ -33,21 +33,31 @@ pub fn widths()
 /// Samples are spelled in their width, the least significant byte first or last, with the sign in all unused bits.
 pub fn spellings_of_samples()
     ensures ten { spelling (record defaults { bits = 10 }) (pos 1023) ≡ 0xFF ∷ 0x03 ∷ [] }
-    ensures ten_signed { spelling (record signed_defaults { bits = 10 }) (pos 511) ≡ 0xFF ∷ 0x01 ∷ [] }
-    ensures ten_negative { spelling (record signed_defaults { bits = 10 }) (negsuc 511) ≡ 0x00 ∷ 0xFE ∷ [] }
-    ensures three_bytes { spelling (record signed_defaults { bits = 24; three = true; msb = true }) (negsuc 8388607) ≡ 0x80 ∷ 0x00 ∷ 0x00 ∷ [] }
-    ensures thirty_two { spelling (record defaults { bits = 32 }) (pos 4294967295) ≡ 0xFF ∷ 0xFF ∷ 0xFF ∷ 0xFF ∷ [] }
-    ensures thirty_two_signed { spelling (record signed_defaults { bits = 32 }) (negsuc 0) ≡ 0xFF ∷ 0xFF ∷ 0xFF ∷ 0xFF ∷ [] }
+    ensures ten_signed { spelling (record signed_defaults { bits = 10 }) (pos 511) ≡
+        0xFF ∷ 0x01 ∷ [] }
+    ensures ten_negative { spelling (record signed_defaults { bits = 10 }) (negsuc 511) ≡
+        0x00 ∷ 0xFE ∷ [] }
+    ensures three_bytes { spelling (record signed_defaults { bits = 24; three = true; msb = true }) (negsuc 8388607) ≡
+        0x80 ∷ 0x00 ∷ 0x00 ∷ [] }
+    ensures thirty_two { spelling (record defaults { bits = 32 }) (pos 4294967295) ≡
+        0xFF ∷ 0xFF ∷ 0xFF ∷ 0xFF ∷ [] }
+    ensures thirty_two_signed { spelling (record signed_defaults { bits = 32 }) (negsuc 0) ≡
+        0xFF ∷ 0xFF ∷ 0xFF ∷ 0xFF ∷ [] }
     ensures one_signed { spelling (record signed_defaults { bits = 1 }) (negsuc 0) ≡ 0xFF ∷ [] }
 {}
 
 /// No sample is spelled by bytes whose unused bits are others.
 pub fn bytes_of_no_sample()
-    ensures ten { (x : ℤ) → IsSample (record defaults { bits = 10 }) x → spelling (record defaults { bits = 10 }) x ≢ 0x00 ∷ 0x04 ∷ [] }
-    ensures ten_above { (x : ℤ) → IsSample (record signed_defaults { bits = 10 }) x → spelling (record signed_defaults { bits = 10 }) x ≢ 0x00 ∷ 0x02 ∷ [] }
-    ensures ten_below { (x : ℤ) → IsSample (record signed_defaults { bits = 10 }) x → spelling (record signed_defaults { bits = 10 }) x ≢ 0xFF ∷ 0xFD ∷ [] }
-    ensures twenty_four { (x : ℤ) → IsSample (record defaults { bits = 24 }) x → spelling (record defaults { bits = 24 }) x ≢ 0x00 ∷ 0x00 ∷ 0x00 ∷ 0x01 ∷ [] }
-    ensures one_signed { (x : ℤ) → IsSample (record signed_defaults { bits = 1 }) x → spelling (record signed_defaults { bits = 1 }) x ≢ 0x01 ∷ [] }
+    ensures ten { (x : ℤ) → IsSample (record defaults { bits = 10 }) x →
+        spelling (record defaults { bits = 10 }) x ≢ 0x00 ∷ 0x04 ∷ [] }
+    ensures ten_above { (x : ℤ) → IsSample (record signed_defaults { bits = 10 }) x →
+        spelling (record signed_defaults { bits = 10 }) x ≢ 0x00 ∷ 0x02 ∷ [] }
+    ensures ten_below { (x : ℤ) → IsSample (record signed_defaults { bits = 10 }) x →
+        spelling (record signed_defaults { bits = 10 }) x ≢ 0xFF ∷ 0xFD ∷ [] }
+    ensures twenty_four { (x : ℤ) → IsSample (record defaults { bits = 24 }) x →
+        spelling (record defaults { bits = 24 }) x ≢ 0x00 ∷ 0x00 ∷ 0x00 ∷ 0x01 ∷ [] }
+    ensures one_signed { (x : ℤ) → IsSample (record signed_defaults { bits = 1 }) x →
+        spelling (record signed_defaults { bits = 1 }) x ≢ 0x01 ∷ [] }
 {}
 
 /// Residuals near and far, and at the ends of the range.
@@ -78,7 +88,8 @@ pub fn patterns_of_samples()
 
 /// Nine samples: a residual of 0 at the reference place, those of the others, and the last sample again and again up to a whole block.
 pub fn residuals_of_blocks()
-    ensures { residual_list (record defaults { interval = 1 }) (pos 5 ∷ pos 4 ∷ pos 4 ∷ pos 6 ∷ pos 6 ∷ pos 6 ∷ pos 6 ∷ pos 6 ∷ pos 9 ∷ []) ≡
+    ensures { residual_list (record defaults { interval = 1 }) (pos 5 ∷ pos 4 ∷ pos 4 ∷ pos 6 ∷
+        pos 6 ∷ pos 6 ∷ pos 6 ∷ pos 6 ∷ pos 9 ∷ []) ≡
         0 ∷ 1 ∷ 0 ∷ 4 ∷ 0 ∷ 0 ∷ 0 ∷ 0 ∷ 0 ∷ 0 ∷ 0 ∷ 0 ∷ 0 ∷ 0 ∷ 0 ∷ 0 ∷ [] }
 {}
 

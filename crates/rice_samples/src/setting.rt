@@ -77,8 +77,10 @@ impl Setting {
         preprocess: bool,
         pad: bool,
     ) -> Result<Setting, SettingFault>
-        ensures answer { result ≡ setting_of (parameters bits block interval signed msb three preprocess pad) }
-        ensures legal { IsOk result ↔ IsLegal (parameters bits block interval signed msb three preprocess pad) }
+        ensures answer { result ≡
+            setting_of (parameters bits block interval signed msb three preprocess pad) }
+        ensures legal { IsOk result ↔
+            IsLegal (parameters bits block interval signed msb three preprocess pad) }
         ensures refused { IfErr result (IsRefused (parameters bits block interval signed msb three preprocess pad)) }
     {
         if bits < 1 || bits > 32 {

@@ -31,7 +31,7 @@ abbrev pub at_most : Option ℕ → ℕ → ℕ
 at_most None n = n
 at_most (Some m) n = min m n
 
--- The outlet failed in the block behind `r.samples` samples: all before it is written, and not all of it.
+-- The outlet failed in the block after the first `r.samples` samples: all before it is written, and not all of it.
 -- The bits are those of the coded data sets up to the one that holds the block.
 pub record FailsInBlock (s : Parameters) (asked : Option ℕ) (c : Call) (r : Report) (ys : List ℤ) : Type 0 where
   pub block : ℕ
@@ -40,7 +40,7 @@ pub record FailsInBlock (s : Parameters) (asked : Option ℕ) (c : Call) (r : Re
   pub decoded : Decoded s (bits_of c.given) (Some (length ys)) ys Reached r.bits
   pub stops : StopsBetween (spellings s (take r.samples ys)) (spellings s ys) c.written
 
--- The samples, and how decoding ends. A coded data set that is refused begins with the block behind the samples.
+-- The samples, and how decoding ends. A coded data set that is refused begins with the block after these samples.
 abbrev pub EndsDecoding : Parameters → Option ℕ → Option Fault → Call → Report → List ℤ → Ending → Type 0
 EndsDecoding s asked None c r ys ending = DecodesBytes s asked c r c.given ys ending × ((ending ≡ Reached) ⊎ ((ending ≡ Ended) × (asked ≡ None) × IsAtEnd c.left))
 EndsDecoding s asked (Some (CodeEnds samples)) c r ys ending =
@@ -82,7 +82,7 @@ pub record Decodes (s : Parameters) (asked : Option ℕ) (c : Call) (r : Report)
 -- the report's bounds, at every exit
 pub record DecodesWithin (asked : Option ℕ) (r : Report) : Type 0 where
   pub asked_for : IfSome asked (λ n. r.samples ≤ n)
-  -- a bit brings at most so many samples
+  -- a bit brings at most 456 samples
   pub by_bits : r.samples ≤ 456 * r.bits
   pub at_least : r.bits + r.samples ≤ r.steps
   pub at_most : r.steps ≤ decoder_step_bound r.bits r.samples
@@ -98,7 +98,7 @@ pub record Reports {I : Type 0} (r : Report) (f : Option Fault) (left : Option (
   pub ahead : length reader.waiting ≤ most_waiting
   pub limit : reader.taken + length reader.waiting ≤ 2 ^ 52
 
--- how many samples of a block are wanted behind so many
+-- how many samples of a block are wanted after the first `written`
 abbrev pub wanted_of : Option ℕ → ℕ → ℕ → ℕ
 wanted_of None written block = block
 wanted_of (Some n) written block = min (n - written) block

@@ -15,21 +15,21 @@ use Rattle.rice_code.specs.code.Layout.{Lies}
 use Rattle.rice_code.specs.decode.DecoderState.{DecoderState}
 use Rattle.rice_code.specs.code.SoundBlocks.{AreSoundBlocks}
 
--- samples of so many blocks of zeros, from this block on, behind p
+-- The samples of `run` zero blocks from this block on, after sample p.
 pub record AreOfRun (s : Parameters) (block : ℕ) (p : ℤ) (run : ℕ) (samples : List ℤ) : Type 0 where
   pub len : length samples ≡ s.block * run
   pub legal : All (IsSample s) samples
   pub blocks : blocks_from s block p run samples ≡ replicate run (zero_block s None)
 
--- What may follow `position` bits, whose coded data sets begin before block `begun` and say so many blocks with these samples:
+-- What may follow `position` bits, whose coded data sets begin before block `begun` and say `blocks` blocks with these samples:
 -- the samples of a run that is still to come, and bits that decode to `ys` after them.
 pub record MayFollow (s : Parameters) (position begun blocks run : ℕ) (given : List ℤ) (wanted : Option ℕ) (more : List ℤ) (rest : List Bool) (ys : List ℤ) (ending : Ending) (used : ℕ) : Type 0 where
   pub begun_wanted : (i : ℕ) → i < begun → IsWanted s wanted i
   pub of_run : AreOfRun s blocks (last_of (pos 0) given) run more
   pub next : DecodedFrom s (blocks + run) position (last_of (pos 0) (given ++ more)) rest wanted ys ending used
 
--- The bits so far are coded data sets that begin before block `begun`. The samples of so many blocks were given, and so
--- many blocks of a run are still to come: whatever follows these bits, and however many samples are wanted, decoding
+-- The bits so far are coded data sets that begin before block `begun`. The samples of `blocks` blocks were given, and
+-- `run` blocks of a run are still to come: whatever follows these bits, and however many samples are wanted, decoding
 -- gives these samples first, then those of the run, and then goes on.
 pub record DecodedSoFar (s : Parameters) (front : List Bool) (begun blocks run : ℕ) (given : List ℤ) : Type 0 where
   pub len : length given ≡ s.block * blocks
@@ -52,20 +52,20 @@ pub record HasRead (start left : Option (List ℕ)) (waiting : List Bool) (taken
   pub bits : bits_of bytes ≡ front ++ waiting
   pub count : taken ≡ length front
 
--- These bits are sound coded data sets with their padding, which say so many blocks.
+-- These bits are sound coded data sets with their padding, which have `blocks` blocks.
 pub record HasSets (s : Parameters) (sets : List CodedDataSet) (front : List Bool) (blocks : ℕ) : Type 0 where
   pub lie : Lies s 0 0 sets front
   pub sound : AreTaken s None 0 sets
   pub end : length (blocks_in_all s 0 sets) ≡ blocks
 
--- So many samples of the blocks that were given are written: those that were asked for.
+-- Of the blocks that were given, `written` samples are written: those that were asked for.
 pub record HasWritten (s : Parameters) (asked : Option ℕ) (out_old out : Option (List ℕ)) (blocks : ℕ) (given : List ℤ) (written : ℕ) : Type 0 where
   pub wanted : (i : ℕ) → i < blocks → IsWanted s asked i
   pub count : written ≡ length (cut_to s asked 0 given)
   pub asked_for : IfSome asked (λ n. written ≤ n)
   pub put : Appends out_old out (spellings s (cut_to s asked 0 given))
 
--- The steps of a decoder that has taken so many bits, has written so many samples and has so many in a run to come.
+-- The steps of a decoder that has taken `taken` bits and written `written` samples, with `in_run` samples of a run still to come.
 pub record HasSteps (steps taken written in_run turns : ℕ) : Type 0 where
   pub count : steps ≡ taken + written + turns
   pub most : steps ≤ 2 * taken + written

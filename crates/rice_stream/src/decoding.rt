@@ -1,5 +1,5 @@
-//! From the code to its samples.
-ghost use Rattle.std.specs.Prelude.{◌≡◌, ℕ, ◌+◌, ◌-◌, ◌*◌, ◌^◌, ◌<◌, ◌≤◌, length, Option, Some};
+//! Decodes a code to its samples.
+ghost use Rattle.std.specs.Prelude.{ℕ, length, ◌≡◌, ◌+◌, ◌-◌, ◌*◌, ◌^◌, ◌<◌, ◌≤◌, Option, Some};
 ghost use Rattle.rice_stream.specs.Calls.{Call, Happens, Fails};
 ghost use Rattle.rice_stream.specs.Decodes.{Decodes, DecodesWithin, Reports, wanted_of, ended_fault, refusal_fault};
 
@@ -10,7 +10,7 @@ use rice_bits::{BitReader, Intake, Meter, Outlet};
 use rice_code::{CodeFault, Decoder, Step};
 use rice_samples::Setting;
 
-/// Returns the number of samples of the next block that are wanted, with `written` samples written so far.
+/// Returns how many samples of the next block are wanted after the first `written`.
 fn wanted(asked: Option<u64>, written: u64, block: u32) -> usize
     ensures value { result ≡ wanted_of asked written block }
     ensures most { result ≤ block }
@@ -21,7 +21,7 @@ fn wanted(asked: Option<u64>, written: u64, block: u32) -> usize
     }
 }
 
-/// Returns the fault where no 1 is left: there is one only if more samples were asked for.
+/// Returns the fault of a code of which no 1 is left: none, unless more samples were asked for.
 fn end_of(asked: Option<u64>, samples: u64) -> Option<Fault>
     ensures { result ≡ ended_fault asked samples }
 {
@@ -31,7 +31,7 @@ fn end_of(asked: Option<u64>, samples: u64) -> Option<Fault>
     }
 }
 
-/// Returns the fault where the decoder refuses after `samples` samples.
+/// Returns the fault of decoding that stops after `samples` samples because the decoder refuses with `fault`.
 fn fault_of(fault: CodeFault, samples: u64, block: u32) -> Fault
     requires { 0 < block }
     ensures { result ≡ refusal_fault fault samples block }
@@ -49,7 +49,7 @@ fn fault_of(fault: CodeFault, samples: u64, block: u32) -> Fault
     }
 }
 
-/// Returns what was done, and the intake.
+/// Returns the report of decoding that ends here, and the intake.
 fn ended<I: Intake>(
     fault: Option<Fault>,
     samples: u64,
@@ -68,8 +68,10 @@ fn ended<I: Intake>(
     (Outcome { report, fault }, reader.into_inner())
 }
 
-/// Decodes the code that the intake gives, up to the samples asked for, and writes them to the outlet.
-/// Each block is written before the next is read. With a count of 0 nothing is read.
+/// Decodes the code that `intake` gives, and writes its samples to `outlet`: as many as are asked for, or all.
+///
+/// Each block is written before the next is read. With a count of 0 the intake is not called. Returns what was done,
+/// and the intake.
 pub fn decode<I: Intake, O: Outlet>(
     setting: &Setting,
     asked: Option<u64>,
@@ -92,7 +94,7 @@ pub fn decode<I: Intake, O: Outlet>(
     let mut reader = BitReader::new(intake);
     let mut meter = Meter::new();
     let mut samples = ArrayVec::new();
-    // It is made here, and not where it is filled, so that it is not cleared for each block.
+    // Declared here, and not where it is filled, so that it is not cleared for each block.
     let mut bytes = [0; 256];
     let mut written = 0u64;
     'decode_all: loop {

@@ -52,7 +52,9 @@ impl Encoding {
         requires ready { (now : Option (List ℕ)) × CanTake now self.old samples.now }
         ensures count { result ≤ length samples.now }
         ensures some { 0 < length samples.now → 0 < result }
-        ensures took { (s : Parameters) (old now : Option (List ℕ)) (xs : List ℤ) → IsEncodingOf s old now self.old xs → TakesSamples s self.new xs (take result samples.now) }
+        ensures took { (s : Parameters) (old now : Option (List ℕ)) (xs : List ℤ) →
+            IsEncodingOf s old now self.old xs →
+            TakesSamples s self.new xs (take result samples.now) }
     {
         let pushed = self
             .coder
@@ -68,10 +70,12 @@ impl Encoding {
         requires some { 0 < length samples.now }
         requires writes { O.failed outlet.old + 1 < 2 ^ 64 }
         ensures count { IfOk result (λ n. (0 < n) × (n ≤ length samples.now)) }
-        ensures ok { IfOk result (λ n. (s : Parameters) (old : Option (List ℕ)) (xs : List ℤ) → IsEncodingOf s old (O.taken outlet.old) self.old xs →
+        ensures ok { IfOk result (λ n. (s : Parameters) (old : Option (List ℕ)) (xs : List ℤ) →
+            IsEncodingOf s old (O.taken outlet.old) self.old xs →
             IsEncodingOf s old (O.taken outlet.new) self.new (xs ++ take n samples.now)) }
         ensures calm { OnOk result (O.failed outlet.new ≡ O.failed outlet.old) }
-        ensures err { OnErr result ((s : Parameters) (old : Option (List ℕ)) (xs : List ℤ) → IsEncodingOf s old (O.taken outlet.old) self.old xs →
+        ensures err { OnErr result ((s : Parameters) (old : Option (List ℕ)) (xs : List ℤ) →
+            IsEncodingOf s old (O.taken outlet.old) self.old xs →
             FailsIn s old (O.taken outlet.new) self.new xs samples.now) }
         ensures raised { OnErr result (O.failed outlet.new ≡ O.failed outlet.old + 1) }
     {
@@ -89,10 +93,12 @@ impl Encoding {
     fn push_each<O: Outlet>(&mut self, samples: &[i64], outlet: &mut O) -> Result<(), WriteFault>
         requires ready { CanTake (O.taken outlet.old) self.old samples.now }
         requires writes { O.failed outlet.old + 1 < 2 ^ 64 }
-        ensures ok { OnOk result ((s : Parameters) (old : Option (List ℕ)) (xs : List ℤ) → IsEncodingOf s old (O.taken outlet.old) self.old xs →
+        ensures ok { OnOk result ((s : Parameters) (old : Option (List ℕ)) (xs : List ℤ) →
+            IsEncodingOf s old (O.taken outlet.old) self.old xs →
             IsEncodingOf s old (O.taken outlet.new) self.new (xs ++ samples.now)) }
         ensures calm { OnOk result (O.failed outlet.new ≡ O.failed outlet.old) }
-        ensures err { OnErr result ((s : Parameters) (old : Option (List ℕ)) (xs : List ℤ) → IsEncodingOf s old (O.taken outlet.old) self.old xs →
+        ensures err { OnErr result ((s : Parameters) (old : Option (List ℕ)) (xs : List ℤ) →
+            IsEncodingOf s old (O.taken outlet.old) self.old xs →
             FailsIn s old (O.taken outlet.new) self.new xs samples.now) }
         ensures raised { OnErr result (O.failed outlet.new ≡ O.failed outlet.old + 1) }
     {
@@ -115,10 +121,13 @@ impl Encoding {
         samples: &mut [i64],
         outlet: &mut O,
     ) -> Result<(), Fault>
-        requires ready { (old : Option (List ℕ)) × (xs : List ℤ) × IsEncodingOf setting.now old (O.taken outlet.old) self.old xs × (length xs + length bytes.now ≤ 2 ^ 48) }
+        requires ready { (old : Option (List ℕ)) × (xs : List ℤ) ×
+            IsEncodingOf setting.now old (O.taken outlet.old) self.old xs ×
+            (length xs + length bytes.now ≤ 2 ^ 48) }
         requires room { length bytes.now ≤ length samples.old }
         requires writes { O.failed outlet.old + 1 < 2 ^ 64 }
-        ensures did { (old : Option (List ℕ)) (xs : List ℤ) → IsEncodingOf setting.now old (O.taken outlet.old) self.old xs →
+        ensures did { (old : Option (List ℕ)) (xs : List ℤ) →
+            IsEncodingOf setting.now old (O.taken outlet.old) self.old xs →
             Pushes setting.now old (O.taken outlet.new) self.new xs bytes.now result }
         ensures failures { PushFails (O.failed outlet.old) (O.failed outlet.new) result }
         ensures room { length samples.new ≡ length samples.old }
@@ -140,9 +149,12 @@ impl Encoding {
 
     /// Codes the samples that wait, fills the last byte, and returns the report with the rest of the code.
     fn close(mut self) -> (Report, BitSink<16432>)
-        requires { (s : Parameters) × (old : Option (List ℕ)) × (now : Option (List ℕ)) × (xs : List ℤ) × IsEncodingOf s old now self xs × (length xs ≤ 2 ^ 48) }
-        ensures { (s : Parameters) (old now : Option (List ℕ)) (xs : List ℤ) → IsEncodingOf s old now self xs →
-            ReportsAll s result.0 xs × (padded_bits (code s xs) ≡ whole_part (complete_code s xs) ++ result.1) }
+        requires { (s : Parameters) × (old : Option (List ℕ)) × (now : Option (List ℕ)) ×
+            (xs : List ℤ) × IsEncodingOf s old now self xs × (length xs ≤ 2 ^ 48) }
+        ensures { (s : Parameters) (old now : Option (List ℕ)) (xs : List ℤ) →
+            IsEncodingOf s old now self xs →
+            ReportsAll s result.0 xs × (padded_bits (code s xs) ≡ whole_part (complete_code s xs) ++
+            result.1) }
     {
         let bits = self.coder.finish(&mut self.sink, &mut self.meter);
         let report = Report {
@@ -156,9 +168,11 @@ impl Encoding {
 
     /// Codes the samples that wait, fills the last byte, and writes the rest of the code.
     fn finish<O: Outlet>(self, outlet: &mut O) -> Outcome
-        requires ready { (s : Parameters) × (old : Option (List ℕ)) × (xs : List ℤ) × IsEncodingOf s old (O.taken outlet.old) self xs × (length xs ≤ 2 ^ 48) }
+        requires ready { (s : Parameters) × (old : Option (List ℕ)) × (xs : List ℤ) ×
+            IsEncodingOf s old (O.taken outlet.old) self xs × (length xs ≤ 2 ^ 48) }
         requires writes { O.failed outlet.old + 1 < 2 ^ 64 }
-        ensures did { (s : Parameters) (old : Option (List ℕ)) (xs : List ℤ) → IsEncodingOf s old (O.taken outlet.old) self xs →
+        ensures did { (s : Parameters) (old : Option (List ℕ)) (xs : List ℤ) →
+            IsEncodingOf s old (O.taken outlet.old) self xs →
             ReportsAll s result.report xs × WritesRest s old (O.taken outlet.new) xs result.fault }
         ensures failures { Fails result.fault 0 0 (O.failed outlet.old) (O.failed outlet.new) }
     {
@@ -172,7 +186,8 @@ impl Encoding {
 
     /// Returns what was done up to a fault.
     fn stopped(&self, fault: Fault) -> Outcome
-        ensures told { (s : Parameters) (xs : List ℤ) → CountsSamples s self.now xs → ReportsTaken s result.report xs }
+        ensures told { (s : Parameters) (xs : List ℤ) → CountsSamples s self.now xs →
+            ReportsTaken s result.report xs }
         ensures fault { result.fault ≡ Some fault }
     {
         let report = Report {
@@ -242,7 +257,8 @@ fn carry(buffer: &mut [u8], filled: usize, waiting: usize)
 pub fn encode<I: Intake, O: Outlet>(setting: &Setting, intake: &mut I, outlet: &mut O) -> Outcome
     requires reads { I.failed intake.old + 1 < 2 ^ 64 }
     requires writes { O.failed outlet.old + 1 < 2 ^ 64 }
-    ensures call { (c : Call) × Happens (I.left intake.old) (I.left intake.new) (O.taken outlet.old) (O.taken outlet.new) c ×
+    ensures call { (c : Call) ×
+        Happens (I.left intake.old) (I.left intake.new) (O.taken outlet.old) (O.taken outlet.new) c ×
         Encodes setting.now c result.report result.fault }
     ensures failures { Fails result.fault (I.failed intake.old) (I.failed intake.new) (O.failed outlet.old) (O.failed outlet.new) }
     ensures bounds { EncodesWithin setting.now result.report }

@@ -12,8 +12,10 @@ use rice_samples::{Setting, write_spellings};
 /// Writes all of the bytes. `WriteFault` only if the outlet fails, which has then taken a part of them, and not all.
 pub fn write_all<O: Outlet>(outlet: &mut O, bytes: &[u8]) -> Result<(), WriteFault>
     requires { O.failed outlet.old + 1 < 2 ^ 64 }
-    ensures ok { OnOk result (Appends (O.taken outlet.old) (O.taken outlet.new) bytes.now × (O.failed outlet.new ≡ O.failed outlet.old)) }
-    ensures err { OnErr result (TakesPart (O.taken outlet.old) (O.taken outlet.new) bytes.now × (O.failed outlet.new ≡ O.failed outlet.old + 1)) }
+    ensures ok { OnOk result (Appends (O.taken outlet.old) (O.taken outlet.new) bytes.now ×
+        (O.failed outlet.new ≡ O.failed outlet.old)) }
+    ensures err { OnErr result (TakesPart (O.taken outlet.old) (O.taken outlet.new) bytes.now ×
+        (O.failed outlet.new ≡ O.failed outlet.old + 1)) }
 {
     let mut done = 0;
     while done < bytes.len() {
@@ -32,9 +34,11 @@ pub fn write_whole<const N: usize, O: Outlet>(
     outlet: &mut O,
 ) -> Result<(), WriteFault>
     requires { O.failed outlet.old + 1 < 2 ^ 64 }
-    ensures ok { OnOk result (Appends (O.taken outlet.old) (O.taken outlet.new) (whole_bytes sink.old) × (O.failed outlet.new ≡ O.failed outlet.old)
+    ensures ok { OnOk result (Appends (O.taken outlet.old) (O.taken outlet.new) (whole_bytes sink.old) ×
+        (O.failed outlet.new ≡ O.failed outlet.old)
         × (sink.new ≡ drop (bits_in_bytes (length sink.old)) sink.old)) }
-    ensures err { OnErr result (TakesPart (O.taken outlet.old) (O.taken outlet.new) (whole_bytes sink.old) × (O.failed outlet.new ≡ O.failed outlet.old + 1)) }
+    ensures err { OnErr result (TakesPart (O.taken outlet.old) (O.taken outlet.new) (whole_bytes sink.old) ×
+        (O.failed outlet.new ≡ O.failed outlet.old + 1)) }
 {
     match write_all(outlet, sink.whole()) {
         Ok(()) => {
@@ -56,8 +60,10 @@ pub fn write_samples<O: Outlet>(
     requires legal { All (IsSample setting.now) samples.now }
     requires few { length samples.now ≤ 64 }
     requires counted { O.failed outlet.old + 1 < 2 ^ 64 }
-    ensures ok { OnOk result (Appends (O.taken outlet.old) (O.taken outlet.new) (spellings setting.now samples.now) × (O.failed outlet.new ≡ O.failed outlet.old)) }
-    ensures err { OnErr result (TakesPart (O.taken outlet.old) (O.taken outlet.new) (spellings setting.now samples.now) × (O.failed outlet.new ≡ O.failed outlet.old + 1)) }
+    ensures ok { OnOk result (Appends (O.taken outlet.old) (O.taken outlet.new) (spellings setting.now samples.now) ×
+        (O.failed outlet.new ≡ O.failed outlet.old)) }
+    ensures err { OnErr result (TakesPart (O.taken outlet.old) (O.taken outlet.new) (spellings setting.now samples.now) ×
+        (O.failed outlet.new ≡ O.failed outlet.old + 1)) }
 {
     let spelled = &mut bytes[..setting.width() as usize * samples.len()];
     write_spellings(setting, samples, spelled);

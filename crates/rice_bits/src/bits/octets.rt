@@ -42,7 +42,8 @@ fn joined(byte: u8, word: u64) -> u64
 pub fn join_bytes(bytes: &mut [u8], at: usize, word: u64)
     requires at { at ≤ length bytes.old }
     requires digits { slice_index bytes.old at * 2 ^ 56 + word < 2 ^ 64 }
-    ensures { bytes.new ≡ take (length bytes.old) (take at bytes.old ++ (to_be_bytes w64 (slice_index bytes.old at * 2 ^ 56 + word) ++ drop (at + 8) bytes.old)) }
+    ensures { bytes.new ≡ take (length bytes.old) (take at bytes.old ++
+        (to_be_bytes w64 (slice_index bytes.old at * 2 ^ 56 + word) ++ drop (at + 8) bytes.old)) }
 {
     if 8 <= bytes.len() && at <= bytes.len() - 8 {
         let eight = joined(bytes[at], word);
@@ -59,7 +60,8 @@ fn join_last_bytes(bytes: &mut [u8], at: usize, word: u64)
     requires at { at < length bytes.old }
     requires few { length bytes.old ≤ at + 8 }
     requires digits { slice_index bytes.old at * 2 ^ 56 + word < 2 ^ 64 }
-    ensures { bytes.new ≡ take (length bytes.old) (take at bytes.old ++ to_be_bytes w64 (slice_index bytes.old at * 2 ^ 56 + word)) }
+    ensures { bytes.new ≡ take (length bytes.old) (take at bytes.old ++
+        to_be_bytes w64 (slice_index bytes.old at * 2 ^ 56 + word)) }
 {
     let mut eight = [0; 8];
     store(&mut eight, 0, joined(bytes[at], word));
@@ -82,7 +84,9 @@ pub fn join_one(bytes: &mut [u8], at: u64)
 #[inline]
 pub fn keep_byte(bytes: &mut [u8], at: usize)
     requires { at ≤ length bytes.old }
-    ensures { (count : ℕ) × (at ≤ count) × (bytes.new ≡ take (length bytes.old) (slice_index bytes.old at ∷ replicate count 0 ++ drop (count + 1) bytes.old)) }
+    ensures { (count : ℕ) × (at ≤ count) × (bytes.new ≡
+        take (length bytes.old) (slice_index bytes.old at ∷ replicate count 0 ++
+        drop (count + 1) bytes.old)) }
 {
     let kept = if at < bytes.len() { bytes[at] } else { 0 };
     store_front_zeros(bytes, at + 1);
@@ -94,7 +98,8 @@ pub fn keep_byte(bytes: &mut [u8], at: usize)
 /// Writes zeros to the first bytes, to `count` of them at least, or to all where there are fewer.
 #[inline]
 fn store_front_zeros(bytes: &mut [u8], count: usize)
-    ensures { (some : ℕ) × (min count (length bytes.old) ≤ some) × (some ≤ length bytes.old) × (bytes.new ≡ replicate some 0 ++ drop some bytes.old) }
+    ensures { (some : ℕ) × (min count (length bytes.old) ≤ some) × (some ≤ length bytes.old) ×
+        (bytes.new ≡ replicate some 0 ++ drop some bytes.old) }
 {
     if count <= 64 && 64 <= bytes.len() {
         u8x64::splat(0).copy_to_slice(bytes);
@@ -106,7 +111,8 @@ fn store_front_zeros(bytes: &mut [u8], count: usize)
 /// Writes zeros to exactly the first `count` bytes, or to all where there are fewer.
 #[inline(never)]
 fn store_many_zeros(bytes: &mut [u8], count: usize)
-    ensures { bytes.new ≡ replicate (min count (length bytes.old)) 0 ++ drop (min count (length bytes.old)) bytes.old }
+    ensures { bytes.new ≡ replicate (min count (length bytes.old)) 0 ++
+        drop (min count (length bytes.old)) bytes.old }
 {
     let end = bytes.len().min(count);
     bytes[..end].fill(0);

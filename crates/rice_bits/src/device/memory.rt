@@ -55,8 +55,10 @@ impl Intake for MemoryIn<'_> {
         // It fails at the place of failure, and nowhere else.
         ensures fails { IsErr result ↔ (memory_before_failure self.old ≡ Some 0) }
         ensures exact { IfOk result (λ m. m ≡ memory_gives self.old (length buf.old)) }
-        ensures place { IfOk result (λ m. memory_before_failure self.new ≡ limit_after (memory_before_failure self.old) m) }
-        ensures place_kept { OnErr result (memory_before_failure self.new ≡ memory_before_failure self.old) }
+        ensures place { IfOk result (λ m. memory_before_failure self.new ≡
+            limit_after (memory_before_failure self.old) m) }
+        ensures place_kept { OnErr result (memory_before_failure self.new ≡
+            memory_before_failure self.old) }
         ensures piece { memory_in_piece self.new ≡ memory_in_piece self.old }
         ensures behind { IfOk result (λ m. drop m buf.new ≡ drop m buf.old) }
     {
@@ -193,7 +195,8 @@ impl Intake for ZeroIn {
         requires room { 0 < length buf.old }
         ensures count { IfOk result (λ m. m ≤ length buf.new) }
         ensures bytes { IfOk result (λ m. Consumes (Some (replicate (zeros_left self.old) 0)) (Some (replicate (zeros_left self.new) 0)) (take m buf.new)) }
-        ensures end { IfOk result (λ m. m ≡ 0 → IsAtEnd (Some (replicate (zeros_left self.new) 0))) }
+        ensures end { IfOk result (λ m. m ≡ 0 →
+            IsAtEnd (Some (replicate (zeros_left self.new) 0))) }
         ensures never_fails { IsOk result }
         ensures exact { IfOk result (λ m. m ≡ min (length buf.old) (zeros_left self.old)) }
         ensures rest { IfOk result (λ m. zeros_left self.new + m ≡ zeros_left self.old) }

@@ -209,7 +209,7 @@ impl<I: Intake> BitReader<I> {
         // A first refusal took all bits that were left, which were too few.
         ensures err { self.old.refusal ≡ None → IfErr result (λ f.
             (bits : List Bool) × (length bits < width) × Stops self.old self.new bits f) }
-        // A reader that has refused answers the same, and takes nothing.
+        // A reader that has refused returns the same refusal, and takes nothing.
         ensures stopped { IfSome self.old.refusal (λ f. (result ≡ Err f) × (self.new ≡ self.old)) }
         ensures taken { OnOk result (self.new.taken ≡ self.old.taken + width) }
         ensures most { self.new.taken ≤ self.old.taken + width }
@@ -295,7 +295,7 @@ impl<I: Intake> BitReader<I> {
         // A first refusal took all bits that were left, which were zeros.
         ensures err { self.old.refusal ≡ None → IfErr result (λ f.
             (m : ℕ) × Stops self.old self.new (replicate m false) f) }
-        // A reader that has refused answers the same, and takes nothing.
+        // A reader that has refused returns the same refusal, and takes nothing.
         ensures stopped { IfSome self.old.refusal (λ f. (result ≡ Err f) × (self.new ≡ self.old)) }
         ensures taken { IfOk result (λ m. self.new.taken ≡ self.old.taken + m + 1) }
         ensures most { self.new.taken ≤ 2 ^ 52 }
@@ -444,7 +444,12 @@ impl<I: Intake> BitReader<I> {
         requires meter { meter.old + bits_to_byte self.old.taken < 2 ^ 62 }
         ensures bits { (bits : List Bool) × (length bits ≡ bits_to_byte self.old.taken) ×
             (self.old.waiting ≡ bits ++ self.new.waiting) }
-        ensures rest { self.new ≡ record self.old { waiting = self.new.waiting; taken = self.old.taken + bits_to_byte self.old.taken } }
+        ensures rest { self.new ≡
+            record self.old {
+              waiting = self.new.waiting;
+              taken = self.old.taken +
+                  bits_to_byte self.old.taken;
+            } }
         ensures steps { meter.new ≡ meter.old + bits_to_byte self.old.taken }
     {
         // The bits of the gap do not count: those before it are looked at now, and the mark passes it.

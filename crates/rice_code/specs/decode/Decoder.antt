@@ -1,11 +1,9 @@
 -- What a contract sees of a decoder, and what a call of it says.
-use Rattle.std.specs.Prelude.{◌≡◌, ◌≢◌, ℕ, ◌+◌, ◌<◌, ◌≤◌, ◌==◌, if◌then◌else◌, Bool, true, false, List, [], ◌∷◌, ◌++◌, length, replicate, All, Option, Some, None, Result, Ok, Err, ℤ}
+use Rattle.std.specs.Prelude.{◌≡◌, ◌≢◌, ℕ, ◌+◌, ◌<◌, ◌≤◌, ◌==◌, if◌then◌else◌, Bool, true, false, List, [], ◌∷◌, ◌++◌, length, replicate, All, Some, None, Result, Ok, Err, ℤ}
 use Rattle.rice_bits.specs.read.Reader.{Reader, Takes, is_blank}
 use Rattle.rice_bits.specs.declared.read.fault.BitFault.{BitFault}
 use Rattle.rice_bits.specs.declared.read.fault.BitFault.TheVariants as bit_faults
-use Rattle.rice_samples.specs.Parameters.{Parameters, IsLegal, IsSample}
-use Rattle.rice_samples.specs.Places.{blocks_left, begins_segment}
-use Rattle.rice_samples.specs.predict.Residuals.{last_of}
+use Rattle.rice_samples.specs.Parameters.{Parameters, IsSample}
 use Rattle.rice_code.specs.code.Blocks.{BlockData, block_data, zero_block}
 use Rattle.rice_code.specs.code.CodedDataSets.{CodedDataSet, bits_of_set, turns}
 use Rattle.rice_code.specs.code.Forms.{IsForm, RunIsSound, ResidualsAreSound, blocks_in}
@@ -17,7 +15,7 @@ use Rattle.rice_code.specs.declared.decode.fault.CodeFault.{CodeFault}
 use Rattle.rice_code.specs.declared.decode.fault.CodeFault.TheVariants as faults
 use Rattle.rice_code.specs.decode.DecoderState.{DecoderState, state_after_block}
 
--- These are the samples of the first of some blocks from block b on, behind p, and so many zero blocks follow it.
+-- These are the samples, after sample p, of the first of these blocks, which begin at block b; `run` zero blocks follow it.
 pub record GivesBlock (s : Parameters) (b : ℕ) (p : ℤ) (samples : List ℤ) (run : ℕ) (blocks : List BlockData) : Type 0 where
   pub len : length samples ≡ s.block
   pub legal : All (IsSample s) samples
@@ -34,14 +32,14 @@ pub record TakesSet {I : Type 0} (old new : Reader I) (old_steps new_steps : ℕ
   -- each bit and each turn of the search is a step
   pub steps : new_steps + old.taken ≡ old_steps + new.taken + turns set
 
--- A reader skipped so many bits, whatever they are.
+-- A reader skipped `count` bits, whatever they are.
 pub record Skips {I : Type 0} (old new : Reader I) (count : ℕ) : Type 0 where
   pub bits : List Bool
   pub len : length bits ≡ count
   pub split : old.waiting ≡ bits ++ new.waiting
   pub same : new ≡ record old { waiting = new.waiting; taken = old.taken + count }
 
--- A reader took a sound data set and the padding behind it, and these are the samples of its first block.
+-- A reader took a sound coded data set and its padding, and these are the samples of its first block.
 pub record GivesSet {I : Type 0} (old new : Reader I) (old_steps new_steps : ℕ) (s : Parameters) (b : ℕ) (p : ℤ) (samples : List ℤ) (run : ℕ) : Type 0 where
   pub middle : Reader I
   pub middle_steps : ℕ
@@ -90,7 +88,7 @@ pub record GivesFromRun (p q : DecoderState) (samples : List ℤ) : Type 0 where
   pub gives : GivesBlock p.setting p.block p.before samples q.run (replicate p.run (zero_block p.setting None))
   pub moves : q ≡ state_after_block p samples q.run
 
--- what a decoder answers where its reader refuses
+-- what a decoder returns when its reader refuses
 abbrev pub answer_to : BitFault → Result Step CodeFault
 answer_to (bit_faults.End true) = Ok Done
 answer_to (bit_faults.End false) = Err faults.CodeEnds

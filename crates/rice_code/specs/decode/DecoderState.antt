@@ -1,22 +1,15 @@
 -- The state of a decoder: the place of the next block, the sample before it, and the run that it is in.
-use Rattle.std.specs.Prelude.{◌≡◌, ◌≢◌, ℕ, ◌+◌, ◌<◌, ◌≤◌, ◌==◌, if◌then◌else◌, Bool, true, false, List, [], ◌∷◌, ◌++◌, length, replicate, All, Option, Some, None, Result, Ok, Err, ℤ}
-use Rattle.rice_bits.specs.read.Reader.{Reader, Takes, is_blank}
-use Rattle.rice_bits.specs.declared.read.fault.BitFault.{BitFault}
+use Rattle.std.specs.Prelude.{◌≡◌, ◌≢◌, ℕ, ◌+◌, ◌<◌, ◌≤◌, ◌==◌, if◌then◌else◌, false, List, [], ◌∷◌, ◌++◌, Option, Some, Result, Ok, ℤ}
 use Rattle.rice_bits.specs.declared.read.fault.BitFault.TheVariants as bit_faults
 use Rattle.rice_samples.specs.Parameters.{Parameters, IsLegal, IsSample}
 use Rattle.rice_samples.specs.Places.{blocks_left, begins_segment}
 use Rattle.rice_samples.specs.predict.Residuals.{last_of}
-use Rattle.rice_code.specs.code.Blocks.{BlockData, block_data, zero_block}
-use Rattle.rice_code.specs.code.CodedDataSets.{CodedDataSet, bits_of_set, turns}
-use Rattle.rice_code.specs.code.Forms.{IsForm, RunIsSound, ResidualsAreSound, blocks_in}
-use Rattle.rice_code.specs.code.Layout.{block_after, padding}
-use Rattle.rice_code.specs.decode.ReadSets.{SetCut}
 use Rattle.rice_code.specs.declared.decode.fault.Step.{Step}
-use Rattle.rice_code.specs.declared.decode.fault.Step.TheVariants.{Block, Done}
+use Rattle.rice_code.specs.declared.decode.fault.Step.TheVariants.{Block}
 use Rattle.rice_code.specs.declared.decode.fault.CodeFault.{CodeFault}
 use Rattle.rice_code.specs.declared.decode.fault.CodeFault.TheVariants as faults
 
--- The place of a decoder.
+-- The state of a decoder.
 pub record DecoderState : Type 0 where
   pub setting : Parameters
   -- the block that comes next, by its place in its reference interval
@@ -25,10 +18,10 @@ pub record DecoderState : Type 0 where
   pub before : ℤ
   -- the zero blocks of a run that are still to come
   pub run : ℕ
-  -- what the decoder answers from now on
+  -- what the decoder returns from now on
   pub stopped : Option (Result Step CodeFault)
 
--- what is so of each decoder's fields
+-- what holds of the fields of each decoder
 pub record IsDecoderState (s : Parameters) (block : ℕ) (before : ℤ) (run : ℕ) (stopped : Option (Result Step CodeFault)) : Type 0 where
   pub legal : IsLegal s
   pub within : block < s.interval
@@ -41,6 +34,6 @@ pub record IsDecoderState (s : Parameters) (block : ℕ) (before : ℤ) (run : �
 abbrev pub next_block_place : Parameters → ℕ → ℕ
 next_block_place s b = if b + 1 == s.interval then 0 else b + 1
 
--- the place behind a block with these samples, where so many zero blocks follow
+-- the state after a block with these samples, which `run` zero blocks follow
 abbrev pub state_after_block : DecoderState → List ℤ → ℕ → DecoderState
 state_after_block p samples run = record p { block = next_block_place p.setting p.block; before = last_of p.before samples; run = run }

@@ -1,5 +1,5 @@
 -- What the pieces of a coded data set are read by.
-use Rattle.std.specs.Prelude.{◌≡◌, ℕ, suc, All, Option, length, flat_map, sum, ◌+◌, ◌-◌, ◌*◌, ◌^◌, ◌<◌, ◌≤◌, Bool, true, false, List, [], ◌∷◌, ◌++◌}
+use Rattle.std.specs.Prelude.{◌≡◌, ℕ, suc, All, length, flat_map, sum, ◌+◌, ◌-◌, ◌*◌, ◌^◌, ◌<◌, ◌≤◌, Bool, true, false, List, [], ◌∷◌, ◌++◌}
 use Rattle.rice_bits.specs.Bits.{fundamental_sequence, word}
 use Rattle.rice_bits.specs.read.Reader.{Reader, Takes}
 use Rattle.rice_samples.specs.blocks.Pairs.{pair_codes}
@@ -10,7 +10,7 @@ ones [] = 0
 ones (true ∷ bits) = suc (ones bits)
 ones (false ∷ bits) = ones bits
 
--- a reader that took so many bits is within its limit, and a meter has room for all that may follow
+-- A reader that took `taken` bits is within its limit, and a meter has room for the steps of all that may follow.
 pub record HasRoom (steps taken : ℕ) : Type 0 where
   pub limit : taken ≤ 2 ^ 52
   pub room : steps + 2 * (2 ^ 52 - taken) + 64 < 2 ^ 62
@@ -22,7 +22,7 @@ pub record AreCounted (old_steps new_steps old_taken new_taken : ℕ) : Type 0 w
   pub least : old_steps + new_taken ≤ new_steps + old_taken
   pub most : new_steps + 2 * old_taken ≤ old_steps + 2 * new_taken
 
--- A reader took pieces, one for each of so many numbers, which were appended to others.
+-- A reader took a piece for each of `count` numbers, which were appended to those before.
 pub record Row {I : Type 0} (piece : ℕ → List Bool) (P : ℕ → Type 0) (old new : Reader I) (count : ℕ) (before after : List ℕ) : Type 0 where
   pub values : List ℕ
   pub len : length values ≡ count
@@ -34,7 +34,7 @@ pub record Row {I : Type 0} (piece : ℕ → List Bool) (P : ℕ → Type 0) (ol
 abbrev pub WordRow : {I : Type 0} → ℕ → Reader I → Reader I → ℕ → List ℕ → Type 0
 WordRow width old new count numbers = Row (word width) (λ v. v < 2 ^ width) old new count [] numbers
 
--- A reader took fundamental sequences, one for each of so many numbers. The numbers are told where none was found above `most`.
+-- A reader took a fundamental sequence for each of `count` numbers. If `small`, they are known; else one is above `most`.
 pub record CountsRead {I : Type 0} (old new : Reader I) (most : ℕ) (small : Bool) (count : ℕ) (told : List ℕ) : Type 0 where
   pub values : List ℕ
   pub len : length values ≡ count
@@ -42,7 +42,7 @@ pub record CountsRead {I : Type 0} (old new : Reader I) (most : ℕ) (small : Bo
   pub refused : small ≡ false → All (λ m. m ≤ most) values → ⊥
   pub takes : Takes old new (flat_map fundamental_sequence values)
 
--- A reader took fundamental sequences, one for each of so many numbers. The numbers are told where all are at most `most`.
+-- A reader took a fundamental sequence for each of `count` numbers. If `small`, all are at most `most` and known.
 pub record CountRow {I : Type 0} (old new : Reader I) (most : ℕ) (small : Bool) (count : ℕ) (told : List ℕ) : Type 0 where
   pub values : List ℕ
   pub len : length values ≡ count
@@ -50,7 +50,7 @@ pub record CountRow {I : Type 0} (old new : Reader I) (most : ℕ) (small : Bool
   pub refused : small ≡ false → All (λ m. m ≤ most) values → ⊥
   pub takes : Takes old new (flat_map fundamental_sequence values)
 
--- A reader took the codewords of so many pairs, whose numbers are these.
+-- A reader took the codewords of `count` pairs, which have these numbers.
 pub record PairRow {I : Type 0} (old new : Reader I) (count : ℕ) (values : List ℕ) (old_steps new_steps : ℕ) : Type 0 where
   pub len : length values ≡ count + count
   pub takes : Takes old new (flat_map fundamental_sequence (pair_codes values))

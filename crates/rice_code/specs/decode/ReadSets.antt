@@ -1,4 +1,4 @@
--- What a reader took of a coded data set, behind its identifier.
+-- What a reader took of a coded data set.
 use Rattle.std.specs.Prelude.{◌≡◌, ℕ, ◌+◌, ◌*◌, ◌^◌, Bool, true, false, List, [], ◌∷◌, ◌++◌, Option, Some, None, ⊤}
 use Rattle.rice_bits.specs.read.Reader.{Reader, Takes, Stops}
 use Rattle.rice_bits.specs.declared.read.fault.BitFault.{BitFault}
@@ -16,7 +16,7 @@ joined_parts k [] lows = []
 joined_parts k (m ∷ ms) [] = []
 joined_parts k (m ∷ ms) (l ∷ ls) = (m * 2 ^ k + l) ∷ joined_parts k ms ls
 
--- what stands at the reference place
+-- the residual at the place of the reference sample, if there is one
 abbrev pub reference_place : Option ℕ → List ℕ
 reference_place None = []
 reference_place (Some v) = 0 ∷ []
@@ -57,7 +57,7 @@ pub record DescribesBlock (s : Parameters) (b : ℕ) (reference : Option ℕ) (s
   pub told : sound ≡ true → ResidualsAreSound s set × IsZeroAtReference contents × AllFit s contents × (contents.residuals ≡ residuals)
   pub refused : sound ≡ false → ResidualsAreSound s set → ⊥
 
--- what is told of a data set
+-- what is known of a coded data set by its head and residuals
 abbrev pub DescribesSet : Parameters → ℕ → SetHead → List ℕ → CodedDataSet → Type 0
 DescribesSet s b (Residuals reference sound) residuals set = DescribesBlock s b reference sound residuals set
 DescribesSet s b (Zeros reference zeros) residuals set = set ≡ run_with_zeros reference zeros

@@ -27,7 +27,8 @@ fn run_blocks(setting: &Setting, block: u64, zeros: u64) -> Option<u32>
     ensures sound { IfSome result (λ z. (reference : Option ℕ) →
         RunIsSound setting.now block (run_with_zeros reference zeros)) }
     ensures blocks { IfSome result (λ z. (reference : Option ℕ) →
-        blocks_in setting.now block (run_with_zeros reference zeros) ≡ zero_blocks setting.now reference z) }
+        blocks_in setting.now block (run_with_zeros reference zeros) ≡
+        zero_blocks setting.now reference z) }
     ensures unsound { IfNone result ((reference : Option ℕ) →
         RunIsSound setting.now block (run_with_zeros reference zeros) → ⊥) }
 {

@@ -79,7 +79,8 @@ pub fn read_run<I: Intake>(
     ensures reference { IfOk result (λ r. IsReference setting.now block r.0) }
     ensures ok { IfOk result (λ r. Takes reader.old reader.new (run_tail setting.now r.0 r.1)) }
     ensures err { IfErr result (λ f. (bits : List Bool) × Stops reader.old reader.new bits f
-        × ((r : Option ℕ) (m : ℕ) (more : List Bool) → IsReference setting.now block r → bits ≡ run_tail setting.now r m ++ more → ⊥)) }
+        × ((r : Option ℕ) (m : ℕ) (more : List Bool) → IsReference setting.now block r →
+        bits ≡ run_tail setting.now r m ++ more → ⊥)) }
     ensures steps { meter.new + reader.old.taken ≡ meter.old + reader.new.taken }
     ensures limit { reader.new.taken ≤ 2 ^ 52 }
 {

@@ -44,7 +44,8 @@ impl BitBuffer {
     pub fn add(&mut self, value: u64, width: u32, sink: &mut SegmentSink, meter: &mut Meter)
         requires width { width ≤ put_width }
         requires value { value < 2 ^ width }
-        requires room { HasRoomFor 0 0 (length sink.old + length self.old) (meter.old + length self.old) }
+        requires room { HasRoomFor 0 0 (length sink.old + length self.old) (meter.old +
+            length self.old) }
         ensures { AddsFields (word width value) width width
             sink.old self.old sink.new self.new meter.old meter.new }
     {
@@ -57,7 +58,8 @@ impl BitBuffer {
     #[inline(always)]
     fn make_room(&mut self, width: u32, sink: &mut SegmentSink, meter: &mut Meter)
         requires width { width ≤ put_width }
-        requires room { HasRoomFor 0 0 (length sink.old + length self.old) (meter.old + length self.old) }
+        requires room { HasRoomFor 0 0 (length sink.old + length self.old) (meter.old +
+            length self.old) }
         ensures fits { length self.new + width ≤ put_width }
         ensures bits { sink.new ++ self.new ≡ sink.old ++ self.old }
         ensures len { length sink.new + length self.new ≡ length sink.old + length self.old }
@@ -71,7 +73,8 @@ impl BitBuffer {
     /// Adds the fundamental sequence of `m`.
     #[inline(always)]
     pub fn add_fs(&mut self, m: u32, sink: &mut SegmentSink, meter: &mut Meter)
-        requires { HasRoomFor (m + 1) (m + 1) (length sink.old + length self.old) (meter.old + length self.old) }
+        requires { HasRoomFor (m + 1) (m + 1) (length sink.old + length self.old) (meter.old +
+            length self.old) }
         ensures { AddsFields (fundamental_sequence m) (m + 1) (m + 1)
             sink.old self.old sink.new self.new meter.old meter.new }
     {
@@ -94,7 +97,8 @@ impl BitBuffer {
         requires { HasRoomFor (m.0 + m.1 + m.2 + m.3 + 4) (m.0 + m.1 + m.2 + m.3 + 4)
             (length sink.old + length self.old) (meter.old + length self.old) }
         ensures { AddsFields
-            (fundamental_sequence m.0 ++ fundamental_sequence m.1 ++ fundamental_sequence m.2 ++ fundamental_sequence m.3)
+            (fundamental_sequence m.0 ++ fundamental_sequence m.1 ++ fundamental_sequence m.2 ++
+            fundamental_sequence m.3)
             (m.0 + m.1 + m.2 + m.3 + 4) (m.0 + m.1 + m.2 + m.3 + 4)
             sink.old self.old sink.new self.new meter.old meter.new }
     {
@@ -113,7 +117,8 @@ impl BitBuffer {
     /// Puts the bits into the sink, and is empty then.
     #[inline(always)]
     pub fn put(&mut self, sink: &mut SegmentSink, meter: &mut Meter)
-        requires { HasRoomFor 0 0 (length sink.old + length self.old) (meter.old + length self.old) }
+        requires { HasRoomFor 0 0 (length sink.old + length self.old) (meter.old +
+            length self.old) }
         ensures empty { self.new ≡ [] }
         ensures bits { sink.new ≡ sink.old ++ self.old }
         ensures len { length sink.new ≡ length sink.old + length self.old }
@@ -131,7 +136,8 @@ fn four_ones(a: u32, b: u32, c: u32, d: u32) -> u64
     requires { a + b + c + d ≤ 52 }
     ensures fits { result < 2 ^ (a + b + c + d + 4) }
     ensures bits { word (a + b + c + d + 4) result
-        ≡ fundamental_sequence a ++ fundamental_sequence b ++ fundamental_sequence c ++ fundamental_sequence d }
+        ≡ fundamental_sequence a ++ fundamental_sequence b ++ fundamental_sequence c ++
+        fundamental_sequence d }
 {
     let _first = a;
     let two = join(1, b + 1, 1);

@@ -59,7 +59,8 @@ fn put_pending(
     requires room { HasRoomFor (length (pending_bits setting.now to_end reference run))
         (length (pending_bits setting.now to_end reference run)) (length sink.old) meter.old }
     ensures bits { sink.new ≡ sink.old ++ pending_bits setting.now to_end reference run }
-    ensures len { length sink.new ≡ length sink.old + length (pending_bits setting.now to_end reference run) }
+    ensures len { length sink.new ≡ length sink.old +
+        length (pending_bits setting.now to_end reference run) }
     ensures steps { meter.new ≡ meter.old + length (pending_bits setting.now to_end reference run) }
 {
     if run > 0 {
@@ -82,8 +83,10 @@ fn code_next(
     requires sound { IsSoundData setting.now block }
     requires look { meter.old + setting.now.block < 2 ^ 62 }
     requires room { is_zero_block block ≡ false →
-        HasRoomFor (length (pending_bits setting.now false first run) + cost setting.now (shortest setting.now block))
-        (length (pending_bits setting.now false first run) + cost setting.now (shortest setting.now block)
+        HasRoomFor (length (pending_bits setting.now false first run) +
+        cost setting.now (shortest setting.now block))
+        (length (pending_bits setting.now false first run) +
+        cost setting.now (shortest setting.now block)
         + setting.now.block * (k_max setting.now + 5)) (length sink.old) meter.old }
     ensures joins { is_zero_block block.entry ≡ true →
         JoinsRun setting.now run result sink.old sink.new meter.old meter.new }

@@ -56,7 +56,8 @@ impl Coder {
 
     /// Returns the number of samples whose segment is not whole yet: fewer than 64 blocks of them.
     pub fn pending(&self) -> u32
-        ensures value { (xs : List ℤ) → HasTaken self.now xs → result + cut self.now.setting (length xs) ≡ length xs }
+        ensures value { (xs : List ℤ) → HasTaken self.now xs →
+            result + cut self.now.setting (length xs) ≡ length xs }
         ensures limit { result < 64 * self.now.setting.block }
     {
         self.segment.len() as u32
@@ -72,7 +73,8 @@ impl Coder {
         requires sample { IsSample self.old.setting x }
         requires room { length sink.old ≤ 7 }
         requires meter { meter.old + segment_steps self.old.setting < 2 ^ 62 }
-        ensures { PushesSamples self.old self.new (x ∷ []) sink.old sink.new result meter.old meter.new }
+        ensures { PushesSamples self.old self.new (x ∷
+            []) sink.old sink.new result meter.old meter.new }
     {
         meter.tick(1);
         self.segment.hold(x);
@@ -102,8 +104,10 @@ impl Coder {
         ensures some { 0 < length samples.now → 0 < result.samples }
         ensures pushes { PushesSamples self.old self.new (take result.samples samples.now)
             sink.old sink.new result.bits meter.old meter.new }
-        ensures before_last { (m : ℕ) → m < result.samples → CompletesNone self.old (take m samples.now) }
-        ensures stops { result.samples < length samples.now → CompletesAll self.old (take result.samples samples.now) }
+        ensures before_last { (m : ℕ) → m < result.samples →
+            CompletesNone self.old (take m samples.now) }
+        ensures stops { result.samples < length samples.now →
+            CompletesAll self.old (take result.samples samples.now) }
     {
         let taken = samples.len().min(self.segment.room());
         meter.tick(taken as u64);

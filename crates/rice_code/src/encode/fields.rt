@@ -130,7 +130,8 @@ fn put_wide_pair(
     meter: &mut Meter,
 )
     requires width { width ≤ 32 }
-    requires room { HasRoomFor (2 * width) (2 * width) (length sink.old + length fields.old) (meter.old + length fields.old) }
+    requires room { HasRoomFor (2 * width) (2 * width) (length sink.old +
+        length fields.old) (meter.old + length fields.old) }
     ensures { AddsFields (word width pair.0 ++ word width pair.1) (2 * width) (2 * width)
         sink.old fields.old sink.new fields.new meter.old meter.new }
 {
@@ -151,7 +152,8 @@ fn put_wide_pair(
 fn four_low(four: (u32, u32, u32, u32), width: u32) -> u64
     requires { width ≤ 14 }
     ensures fits { result < 2 ^ (4 * width) }
-    ensures bits { word (4 * width) result ≡ word width four.0 ++ word width four.1 ++ word width four.2 ++ word width four.3 }
+    ensures bits { word (4 * width) result ≡
+        word width four.0 ++ word width four.1 ++ word width four.2 ++ word width four.3 }
 {
     let first = low_digits(four.0, width);
     let second = low_digits(four.1, width);

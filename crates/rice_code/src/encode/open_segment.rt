@@ -68,7 +68,8 @@ impl OpenSegment {
     /// Returns the number of residuals that the segment still takes.
     #[inline]
     pub fn room(&self) -> usize
-        ensures { result + length self.now.residuals ≡ self.now.setting.block * blocks_left self.now.setting self.now.start }
+        ensures { result + length self.now.residuals ≡
+            self.now.setting.block * blocks_left self.now.setting self.now.start }
     {
         self.end - self.residuals.len()
     }
@@ -101,7 +102,8 @@ impl OpenSegment {
     #[inline]
     pub fn hold(&mut self, x: i64)
         requires sample { IsSample self.old.setting x }
-        requires open { length self.old.residuals < self.old.setting.block * blocks_left self.old.setting self.old.start }
+        requires open { length self.old.residuals <
+            self.old.setting.block * blocks_left self.old.setting self.old.start }
         ensures { self.new ≡ state_after self.old x }
     {
         let first = self.is_first();
@@ -114,7 +116,8 @@ impl OpenSegment {
     /// Adds the residuals of `samples`, for which the segment has room.
     pub fn hold_all(&mut self, samples: &[i64])
         requires samples { All (IsSample self.old.setting) samples.now }
-        requires room { length self.old.residuals + length samples.now ≤ self.old.setting.block * blocks_left self.old.setting self.old.start }
+        requires room { length self.old.residuals + length samples.now ≤
+            self.old.setting.block * blocks_left self.old.setting self.old.start }
         ensures { self.new ≡ state_after_all self.old samples.now }
     {
         if samples.is_empty() {
@@ -132,7 +135,8 @@ impl OpenSegment {
     fn hold_later(&mut self, samples: &[i64])
         requires later { (self.old.setting.preprocess && is_first self.old) ≡ false }
         requires samples { All (IsSample self.old.setting) samples.now }
-        requires room { length self.old.residuals + length samples.now ≤ self.old.setting.block * blocks_left self.old.setting self.old.start }
+        requires room { length self.old.residuals + length samples.now ≤
+            self.old.setting.block * blocks_left self.old.setting self.old.start }
         ensures { self.new ≡ state_after_all self.old samples.now }
     {
         if samples.is_empty() {
@@ -145,8 +149,10 @@ impl OpenSegment {
     /// Fills the last block by repeating the last sample, a step for each.
     pub fn fill(&mut self, meter: &mut Meter)
         requires { meter.old + 64 < 2 ^ 62 }
-        ensures value { self.new ≡ state_with_fill self.old (fill_count self.old.setting (length self.old.residuals)) }
-        ensures steps { meter.new ≡ meter.old + fill_count self.old.setting (length self.old.residuals) }
+        ensures value { self.new ≡
+            state_with_fill self.old (fill_count self.old.setting (length self.old.residuals)) }
+        ensures steps { meter.new ≡ meter.old +
+            fill_count self.old.setting (length self.old.residuals) }
     {
         let size = self.setting.block() as usize;
         let count = (size - self.residuals.len() % size) % size;
@@ -219,7 +225,9 @@ fn residuals_from(setting: &Setting, start: u32) -> usize
 /// Returns the place of the first block after the segment that has a block at place `start`.
 fn next_start(setting: &Setting, start: u32) -> u32
     requires { start ≤ 4096 }
-    ensures { result ≡ (if start + blocks_left setting.now start == setting.now.interval then 0 else start + blocks_left setting.now start) }
+    ensures { result ≡ (if start +
+        blocks_left setting.now start == setting.now.interval then 0 else start +
+        blocks_left setting.now start) }
 {
     let next = start + setting.blocks_left(start as u64);
     if next == setting.interval() { 0 } else { next }
@@ -269,7 +277,8 @@ fn push_later(setting: &Setting, previous: i64, samples: &[i64], segment: &mut S
 
 /// Fills the last byte with zeros if an interval ends after `blocks` blocks, and intervals are padded.
 fn pad_interval(setting: &Setting, blocks: usize, sink: &mut SegmentSink)
-    ensures { sink.new ≡ sink.old ++ replicate (if setting.now.pad && blocks == setting.now.interval then bits_to_byte (length sink.old) else 0) false }
+    ensures { sink.new ≡ sink.old ++
+        replicate (if setting.now.pad && blocks == setting.now.interval then bits_to_byte (length sink.old) else 0) false }
 {
     if setting.pads() && blocks == setting.interval() as usize {
         sink.pad();

@@ -35,9 +35,12 @@ fn begin(
     requires fits { IfSome reference (λ v. v < value_count setting.now) }
     requires room { HasRoomFor (width + reference_len setting.now reference)
         (width + reference_len setting.now reference) (length sink.old) meter.old }
-    ensures bits { sink.new ++ result ≡ sink.old ++ word width identifier ++ reference_bits setting.now reference }
-    ensures len { length sink.new + length result ≡ length sink.old + width + reference_len setting.now reference }
-    ensures steps { meter.new + length result ≡ meter.old + width + reference_len setting.now reference }
+    ensures bits { sink.new ++ result ≡ sink.old ++ word width identifier ++
+        reference_bits setting.now reference }
+    ensures len { length sink.new + length result ≡
+        length sink.old + width + reference_len setting.now reference }
+    ensures steps { meter.new + length result ≡
+        meter.old + width + reference_len setting.now reference }
 {
     let mut fields = BitBuffer::new();
     fields.add(identifier as u64, width, sink, meter);

@@ -26,7 +26,8 @@ pub fn best_split(setting: &Setting, block: &HeldBlock<'_>, meter: &mut Meter) -
     ensures best { IsBestSplit setting.now block.now result.0 }
     ensures named { best_split setting.now block.now ≡ result.0 }
     ensures value { result.1 ≡ cost setting.now (Split result.0 block.now) }
-    ensures steps { meter.new ≡ meter.old + setting.now.block * (min (result.0 + 1) (k_max setting.now) + 1) }
+    ensures steps { meter.new ≡ meter.old +
+        setting.now.block * (min (result.0 + 1) (k_max setting.now) + 1) }
 {
     let coded = coded_len(setting, block);
     let residuals = block.residuals();
@@ -39,8 +40,10 @@ pub fn choose(setting: &Setting, block: &HeldBlock<'_>, meter: &mut Meter) -> Ch
     requires sound { IsSoundData setting.now block.now }
     requires meter { meter.old + setting.now.block * (k_max setting.now + 2) < 2 ^ 62 }
     ensures value { chosen_set result block.now ≡ shortest setting.now block.now }
-    ensures steps_from { meter.old + setting.now.block * (best_split setting.now block.now + 2) ≤ meter.new }
-    ensures steps_to { meter.new ≤ meter.old + setting.now.block * (best_split setting.now block.now + 3) }
+    ensures steps_from { meter.old + setting.now.block * (best_split setting.now block.now + 2) ≤
+        meter.new }
+    ensures steps_to { meter.new ≤ meter.old +
+        setting.now.block * (best_split setting.now block.now + 3) }
     ensures steps_limit { meter.new ≤ meter.old + setting.now.block * (k_max setting.now + 2) }
     ensures split { IsSplitWithin (k_max setting.now) result }
 {

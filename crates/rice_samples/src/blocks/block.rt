@@ -87,8 +87,10 @@ impl Block<'_> {
         ensures limit { result.0 ≤ limit }
         ensures value { result.1 ≡ sum_by (λ d. d / 2 ^ result.0) self.now }
         ensures size { result.1 ≤ 2 ^ 38 }
-        ensures falls { (j : ℕ) → j < result.0 → sum_by (λ d. d / 2 ^ (j + 1)) self.now + price < sum_by (λ d. d / 2 ^ j) self.now }
-        ensures stops { result.0 < limit → sum_by (λ d. d / 2 ^ result.0) self.now ≤ sum_by (λ d. d / 2 ^ (result.0 + 1)) self.now + price }
+        ensures falls { (j : ℕ) → j < result.0 →
+            sum_by (λ d. d / 2 ^ (j + 1)) self.now + price < sum_by (λ d. d / 2 ^ j) self.now }
+        ensures stops { result.0 < limit → sum_by (λ d. d / 2 ^ result.0) self.now ≤
+            sum_by (λ d. d / 2 ^ (result.0 + 1)) self.now + price }
         ensures steps { meter.new ≡ meter.old + length self.now * (min (result.0 + 1) limit + 1) }
     {
         let items = self.items;

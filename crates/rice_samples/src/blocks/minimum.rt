@@ -14,8 +14,10 @@ pub(crate) fn first_stop(items: &[u32], limit: u32, price: u64) -> (u32, u64)
     ensures limit { result.0 ≤ limit }
     ensures value { result.1 ≡ sum_by (λ d. d / 2 ^ result.0) items.now }
     ensures size { result.1 ≤ 2 ^ 38 }
-    ensures falls { (j : ℕ) → j < result.0 → sum_by (λ d. d / 2 ^ (j + 1)) items.now + price < sum_by (λ d. d / 2 ^ j) items.now }
-    ensures stops { result.0 < limit → sum_by (λ d. d / 2 ^ result.0) items.now ≤ sum_by (λ d. d / 2 ^ (result.0 + 1)) items.now + price }
+    ensures falls { (j : ℕ) → j < result.0 →
+        sum_by (λ d. d / 2 ^ (j + 1)) items.now + price < sum_by (λ d. d / 2 ^ j) items.now }
+    ensures stops { result.0 < limit → sum_by (λ d. d / 2 ^ result.0) items.now ≤
+        sum_by (λ d. d / 2 ^ (result.0 + 1)) items.now + price }
 {
     // The loops unroll where the length is known.
     match items.len() {
@@ -35,8 +37,10 @@ fn stop_of(items: &[u32], limit: u32, price: u64) -> (u32, u64)
     ensures limit { result.0 ≤ limit }
     ensures value { result.1 ≡ sum_by (λ d. d / 2 ^ result.0) items.now }
     ensures size { result.1 ≤ 2 ^ 38 }
-    ensures falls { (j : ℕ) → j < result.0 → sum_by (λ d. d / 2 ^ (j + 1)) items.now + price < sum_by (λ d. d / 2 ^ j) items.now }
-    ensures stops { result.0 < limit → sum_by (λ d. d / 2 ^ result.0) items.now ≤ sum_by (λ d. d / 2 ^ (result.0 + 1)) items.now + price }
+    ensures falls { (j : ℕ) → j < result.0 →
+        sum_by (λ d. d / 2 ^ (j + 1)) items.now + price < sum_by (λ d. d / 2 ^ j) items.now }
+    ensures stops { result.0 < limit → sum_by (λ d. d / 2 ^ result.0) items.now ≤
+        sum_by (λ d. d / 2 ^ (result.0 + 1)) items.now + price }
 {
     let whole = sum_shifted(items, 0);
     let mut k = sure_digits(whole, items.len(), price).min(limit);

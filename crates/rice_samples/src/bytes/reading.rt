@@ -67,7 +67,8 @@ fn read_values(bytes: &[u8], width: usize, msb: bool, signed: bool, samples: &mu
     requires len { length bytes.now ≡ width * length samples.old }
     ensures len { length samples.new ≡ length samples.old }
     ensures legal { All (IsValue (8 * width) signed) samples.new }
-    ensures spelled { bytes.now ≡ flat_map (λ x. ordered_bytes msb width (twos_complement (8 * width) x)) samples.new }
+    ensures spelled { bytes.now ≡
+        flat_map (λ x. ordered_bytes msb width (twos_complement (8 * width) x)) samples.new }
 {
     for i in 0..samples.len() {
         let word = word_of(&bytes[width * i..width * i + width], msb);

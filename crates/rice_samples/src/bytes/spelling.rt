@@ -12,8 +12,10 @@ use arrayvec::ArrayVec;
 #[inline]
 pub fn sample_of(setting: &Setting, bytes: &[u8]) -> Option<i64>
     requires { length bytes.now ≡ width setting.now }
-    ensures none { IfNone result ((x : ℤ) → IsSample setting.now x → bytes.now ≢ spelling setting.now x) }
-    ensures value { IfSome result (λ x. IsSample setting.now x × (bytes.now ≡ spelling setting.now x)) }
+    ensures none { IfNone result ((x : ℤ) → IsSample setting.now x →
+        bytes.now ≢ spelling setting.now x) }
+    ensures value { IfSome result (λ x. IsSample setting.now x ×
+        (bytes.now ≡ spelling setting.now x)) }
 {
     let word = word_of(bytes, setting.msb());
     let level = (word as u64 + setting.offset()) % (1 << (8 * setting.width()));

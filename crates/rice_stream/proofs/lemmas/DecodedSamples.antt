@@ -47,8 +47,8 @@ no_samples : (more : List ℤ) (n : ℕ) → length more ≡ n → n ≡ 0 → m
 no_samples [] n e h = refl
 no_samples (x ∷ more) n e h = absurd (omega arith)
 
-pub behind_nothing : (s : Parameters) → DecodedSoFar s [] 0 0 0 []
-behind_nothing s = record {
+pub decoded_nothing : (s : Parameters) → DecodedSoFar s [] 0 0 0 []
+decoded_nothing s = record {
   len = omega arith;
   legal = λ k d lt. absurd (omega arith);
   sound = tt;
@@ -64,7 +64,7 @@ behind_nothing s = record {
         let e : ys ≡ cut_to s wanted 0 [] ++ ys = ap (λ l. l ++ ys) (sym (cut_nothing s wanted 0)) in
         subst (λ (m : ℕ). Decoded s rest wanted (cut_to s wanted 0 [] ++ ys) ending m) n (subst (λ (l : List ℤ). Decoded s rest wanted l ending used) e (subst (λ (b : ℕ). DecodedFrom s b 0 (pos 0) rest wanted ys ending used) b d))
 
--- the blocks of some samples and of a run behind them
+-- the blocks of some samples and of a run after them
 run_blocks : (s : Parameters) (b run : ℕ) (p : ℤ) (xs more : List ℤ) (cs : List BlockData) → GivesBlock s b p xs run cs → AreOfRun s (b + 1) (last_of p xs) run more → (length cs ≡ 1 + run) × (length (xs ++ more) ≡ s.block * length cs) × (blocks_from s b p (length cs) (xs ++ more) ≡ cs)
 run_blocks s b run p xs more cs gives of_run =
     let n : length cs ≡ 1 + run = omega (arith, ap length gives.blocks_are, length-replicate run (zero_block s None)) in
@@ -79,14 +79,14 @@ run_blocks s b run p xs more cs gives of_run =
     sizes : (j run n m : ℕ) → n ≡ j → m ≡ j * run → n + m ≡ j * (1 + run)
     sizes j run n m e f = omega arith
 
--- the last sample behind three parts
+-- the last sample after three parts
 last_both : (p : ℤ) (all xs more : List ℤ) → last_of p ((all ++ xs) ++ more) ≡ last_of (last_of p all) (xs ++ more)
 last_both p all xs more = ap (last_of p) (append_assoc all xs more) ∙ last_append p all (xs ++ more)
 
 -- a coded data set was taken, and its first block given
-pub behind_set : (s : Parameters) (front skipped : List Bool) (begun b run : ℕ) (all xs : List ℤ) (d : CodedDataSet) → IsLegal s → DecodedSoFar s front begun b 0 all → begun ≤ b → IsForm s b d → RunIsSound s b d → ResidualsAreSound s d →
+pub decoded_with_set : (s : Parameters) (front skipped : List Bool) (begun b run : ℕ) (all xs : List ℤ) (d : CodedDataSet) → IsLegal s → DecodedSoFar s front begun b 0 all → begun ≤ b → IsForm s b d → RunIsSound s b d → ResidualsAreSound s d →
     length skipped ≡ padding s (block_after s b d) (length front + length (bits_of_set s d)) → GivesBlock s b (last_of (pos 0) all) xs run (blocks_in s b d) → DecodedSoFar s (front ++ (bits_of_set s d ++ skipped)) (b + 1) (b + 1) run (all ++ xs)
-behind_set s front skipped begun b run all xs d legal behind before form sound residuals skips gives =
+decoded_with_set s front skipped begun b run all xs d legal behind before form sound residuals skips gives =
     let p = last_of (pos 0) all in
     let more_one : s.block * b + s.block ≡ s.block * (b + 1) = omega arith in
     let all_sound = subst (AreSoundBlocks s b) (sym gives.blocks_are) (blocks_are_sound s b d legal (form, sound, residuals)) in
@@ -134,8 +134,8 @@ behind_set s front skipped begun b run all xs d legal behind before form sound r
         (subst (λ (n : ℕ). Decoded s (front ++ (t ++ (skipped ++ rest))) wanted (cut_to s wanted 0 (all ++ []) ++ (cut_to s wanted b zs ++ ys)) ending n) count all_of))
 
 -- a block of a run was given
-pub behind_run : (s : Parameters) (front : List Bool) (begun b run left : ℕ) (all xs : List ℤ) → DecodedSoFar s front begun b run all → GivesBlock s b (last_of (pos 0) all) xs left (replicate run (zero_block s None)) → DecodedSoFar s front begun (b + 1) left (all ++ xs)
-behind_run s front begun b run left all xs behind gives =
+pub decoded_with_run_block : (s : Parameters) (front : List Bool) (begun b run left : ℕ) (all xs : List ℤ) → DecodedSoFar s front begun b run all → GivesBlock s b (last_of (pos 0) all) xs left (replicate run (zero_block s None)) → DecodedSoFar s front begun (b + 1) left (all ++ xs)
+decoded_with_run_block s front begun b run left all xs behind gives =
     let more_one : s.block * b + s.block ≡ s.block * (b + 1) = omega arith in
     let some : run ≡ suc left = count in
     let all_sound = subst (λ (n : ℕ). AreSoundBlocks s b (replicate n (zero_block s None))) some behind.sound in
@@ -189,10 +189,10 @@ at_end s b position p rest wanted ending used ends =
       bits_used = omega arith;
     }
 
--- decoding ends behind the blocks of the run
-ends_behind : (s : Parameters) (front rest : List Bool) (begun b run : ℕ) (all more : List ℤ) (wanted : Option ℕ) (ending : Ending) (used : ℕ) → DecodedSoFar s front begun b run all → ((i : ℕ) → i < begun → IsWanted s wanted i) → AreOfRun s b (last_of (pos 0) all) run more →
+-- decoding ends after the blocks of the run
+ends_after_run : (s : Parameters) (front rest : List Bool) (begun b run : ℕ) (all more : List ℤ) (wanted : Option ℕ) (ending : Ending) (used : ℕ) → DecodedSoFar s front begun b run all → ((i : ℕ) → i < begun → IsWanted s wanted i) → AreOfRun s b (last_of (pos 0) all) run more →
     EndsWith s wanted (b + run) rest ending used → Decoded s (front ++ rest) wanted (cut_to s wanted 0 (all ++ more)) ending (length front + used)
-ends_behind s front rest begun b run all more wanted ending used behind goes of_run ends =
+ends_after_run s front rest begun b run all more wanted ending used behind goes of_run ends =
     subst (λ (l : List ℤ). Decoded s (front ++ rest) wanted l ending (length front + used)) (append-nil (cut_to s wanted 0 (all ++ more)))
     (behind.goes_on wanted more rest [] ending used (record {
       begun_wanted = goes;
@@ -207,7 +207,7 @@ ends_here s front rest begun b all wanted ending used behind goes ends =
     let none : AreOfRun s b (last_of (pos 0) all) 0 [] = record { len = omega arith; legal = λ k d lt. absurd (omega arith); blocks = refl } in
     let at : b ≡ b + 0 = omega arith in
     subst (λ (l : List ℤ). Decoded s (front ++ rest) wanted (cut_to s wanted 0 l) ending (length front + used)) (append-nil all)
-    (ends_behind s front rest begun b 0 all [] wanted ending used behind goes none (subst (λ (n : ℕ). EndsWith s wanted n rest ending used) at ends))
+    (ends_after_run s front rest begun b 0 all [] wanted ending used behind goes none (subst (λ (n : ℕ). EndsWith s wanted n rest ending used) at ends))
 
 -- it ends with the samples that were asked for, all of which were given
 pub ends_reached : (s : Parameters) (front rest : List Bool) (begun b run : ℕ) (all : List ℤ) (n : ℕ) → IsLegal s → DecodedSoFar s front begun b run all → ((i : ℕ) → i < begun → IsWanted s (Some n) i) → n ≤ s.block * b →
@@ -222,4 +222,4 @@ ends_reached s front rest begun b run all n legal behind goes enough =
     let far : s.block * b ≤ s.block * (b + run) = mul-le-mul_left s.block (omega arith) in
     let ends : EndsWith s (Some n) (b + run) rest Reached 0 = (omega arith, refl) in
     let cut : take (n - s.block * 0) (all ++ made.0) ≡ take (n - s.block * 0) all = take-append-le (n - s.block * 0) all made.0 (omega (arith, behind.len)) in
-    subst (λ (l : List ℤ). Decoded s (front ++ rest) (Some n) l Reached (length front + 0)) cut (ends_behind s front rest begun b run all made.0 (Some n) Reached 0 behind goes of_run ends)
+    subst (λ (l : List ℤ). Decoded s (front ++ rest) (Some n) l Reached (length front + 0)) cut (ends_after_run s front rest begun b run all made.0 (Some n) Reached 0 behind goes of_run ends)

@@ -29,14 +29,14 @@ use Rattle.rice_code.specs.code.Forms.{IsForm, RunIsSound, ResidualsAreSound}
 use Rattle.rice_code.specs.decode.ReadSets.{SetCut}
 use Rattle.rice_code.specs.declared.decode.fault.CodeFault.{CodeFault}
 use Rattle.rice_code.specs.declared.decode.fault.CodeFault.TheVariants as faults
-use Rattle.rice_stream.specs.Calls.{Call, Happens, Fails, StopsBetween, PassesLimit}
-use Rattle.rice_stream.specs.Decodes.{CountsSteps, Decodes, Reports, EndsDecoding, DecodesBytes, RunsOut, FailsInBlock, at_most, wanted_of, ended_fault, refusal_fault}
+use Rattle.rice_stream.specs.Calls.{Call, Happens, Fails, StopsBetween}
+use Rattle.rice_stream.specs.Decodes.{CountsSteps, Decodes, Reports, EndsDecoding, DecodesBytes, RunsOut, at_most, wanted_of, ended_fault, refusal_fault}
 use Rattle.rice_stream.specs.DecodingState.{DecodedSoFar, Gains, DecodingProgress, HasRead, HasSets}
 use Rattle.rice_stream.specs.Writes.{TakesPart}
 use Rattle.rice_stream.specs.declared.outcome.Report.{Report}
 use Rattle.rice_stream.specs.declared.outcome.Fault.{Fault}
 use Rattle.rice_stream.specs.declared.outcome.Fault.TheVariants.{Read, Write, TooLong, CodeEnds, RunPastSegment, ResidualTooLarge}
-use Rattle.rice_stream.proofs.lemmas.DecodedSamples.{behind_nothing, ends_here, ends_reached, cut_nothing, cut_more, cut_none}
+use Rattle.rice_stream.proofs.lemmas.DecodedSamples.{decoded_nothing, ends_here, ends_reached, cut_nothing, cut_more, cut_none}
 use Rattle.rice_stream.proofs.lemmas.DecodingLemmas.{still_asked}
 use Rattle.rice_stream.proofs.lemmas.SetsRead.{sets-none}
 use Rattle.rice_code.specs.decode.Fields.{AreCounted}
@@ -66,7 +66,7 @@ wanted_part s (Some m) blocks written xs e n = ap (λ k. take (min (m - k) s.blo
     by_min (suc a) zero (x ∷ xs) e = absurd (omega arith)
     by_min (suc a) (suc j) (x ∷ xs) e = let z : min (suc a) (suc j) ≡ suc (min a j) = omega arith in ap (λ m. take m (x ∷ xs)) z ∙ ap (λ l. x ∷ l) (by_min a j xs (omega arith))
 
--- the place behind a block
+-- the place after a block
 next_here : (s : Parameters) (b c : ℕ) → IsLegal s → place s b ≡ c → place s (b + 1) ≡ next_block_place s c
 next_here s b c legal e =
     let lt : c < s.interval = omega (arith, e, mod-lt b legal.interval_from) in
@@ -109,13 +109,13 @@ pub record Grows (steps tick old_taken new_taken wanted run run_new size : ℕ) 
   pub few : size + run_new * size ≤ run * size + 456 * (new_taken - old_taken)
 
 -- a block more is written
-pub runs_more : {I : Type 0} {s : Parameters} {asked : Option ℕ} {start : Reader I} {out_old out out_new : Option (List ℕ)} {p q : DecoderState} {r new : Reader I} {steps steps_new written : ℕ} {xs : List ℤ} (count steps_next : ℕ) → IsLegal s
+pub progress_with_block : {I : Type 0} {s : Parameters} {asked : Option ℕ} {start : Reader I} {out_old out out_new : Option (List ℕ)} {p q : DecoderState} {r new : Reader I} {steps steps_new written : ℕ} {xs : List ℤ} (count steps_next : ℕ) → IsLegal s
     → (runs : DecodingProgress s asked start out_old out p r steps written) → count ≡ wanted_of asked written s.block → wanted_of asked written s.block ≢ 0
     → Gains s r new steps steps_new runs.front runs.sets runs.blocks q.run runs.given xs → q ≡ state_after_block p xs q.run
     → Grows steps steps_new r.taken new.taken count p.run q.run s.block → steps_next ≡ steps_new + count
     → Appends out out_new (spellings s (take count xs))
     → DecodingProgress s asked start out_old out_new q new steps_next (written + count)
-runs_more {s = s} {asked = asked} {start = start} {out_old = out_old} {out = out} {out_new = out_new} {p = p} {q = q} {r = r} {new = new} {steps = steps} {steps_new = steps_new} {written = written} {xs = xs} count steps_next legal runs is some gained moves grows ticked put =
+progress_with_block {s = s} {asked = asked} {start = start} {out_old = out_old} {out = out} {out_new = out_new} {p = p} {q = q} {r = r} {new = new} {steps = steps} {steps_new = steps_new} {written = written} {xs = xs} count steps_next legal runs is some gained moves grows ticked put =
     let b = runs.blocks in
     let at = runs.at_block in
     let so = runs.has_written in
@@ -553,9 +553,9 @@ done_fails {asked = asked} {start = start} {new = new} {written = written} {writ
     by_count (Some n) e = (e, refl)
 
 -- nothing is decoded yet
-pub runs_first : {I : Type 0} {s : Parameters} {intake : I} {left : Option (List ℕ)} {failed : ℕ} {p : DecoderState} {r : Reader I} {steps : ℕ} (asked : Option ℕ) (out : Option (List ℕ)) → IsLegal s
+pub progress_at_start : {I : Type 0} {s : Parameters} {intake : I} {left : Option (List ℕ)} {failed : ℕ} {p : DecoderState} {r : Reader I} {steps : ℕ} (asked : Option ℕ) (out : Option (List ℕ)) → IsLegal s
     → p ≡ record { setting = s; block = 0; before = pos 0; run = 0; stopped = None } → r ≡ new_reader intake left failed → steps ≡ 0 → DecodingProgress s asked (new_reader intake left failed) out out p r steps 0
-runs_first {I = I} {s = s} {intake = intake} {left = left} {failed = failed} {p = p} {steps = steps} asked out legal ep er es =
+progress_at_start {I = I} {s = s} {intake = intake} {left = left} {failed = failed} {p = p} {steps = steps} asked out legal ep er es =
     let run = ap (λ p. p.run) ep in
     let start = new_reader intake left failed in
     subst (λ (r : Reader I). DecodingProgress s asked start out out p r steps 0) (sym er) record {
@@ -577,7 +577,7 @@ runs_first {I = I} {s = s} {intake = intake} {left = left} {failed = failed} {p 
       has_read = record { bytes = []; gave = Consumes-nil left; bits = bits_of-nil; count = refl };
       has_sets = subst (λ (n : ℕ). HasSets s [] [] (0 + n)) (sym run) (sets-none s);
       before = omega arith;
-      decoded = subst (λ (n : ℕ). DecodedSoFar s [] 0 0 n []) (sym run) (behind_nothing s);
+      decoded = subst (λ (n : ℕ). DecodedSoFar s [] 0 0 n []) (sym run) (decoded_nothing s);
       has_written = record {
         wanted = λ i lt. absurd (omega arith);
         count = sym (ap length (cut_nothing s asked 0));

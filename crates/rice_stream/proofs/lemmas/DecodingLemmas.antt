@@ -32,7 +32,7 @@ use Rattle.std.proofs.lemmas.List.{length-replicate}
 use Rattle.std.proofs.lemmas.List.Sums.{sum_by_push}
 use Rattle.rice_stream.specs.DecodingState.{DecodedSoFar, Gains, DecodingProgress, HasSets}
 use Rattle.rice_stream.proofs.lemmas.SetsRead.{sets-push}
-use Rattle.rice_stream.proofs.lemmas.DecodedSamples.{behind_set, behind_run}
+use Rattle.rice_stream.proofs.lemmas.DecodedSamples.{decoded_with_set, decoded_with_run_block}
 
 -- what `next_block` says to a decoder that goes on, inside a run and elsewhere
 pub record Advances {I : Type 0} (old new : Reader I) (steps steps_new : ℕ) (p q : DecoderState) (samples : List ℤ) (answer : Result Step CodeFault) : Type 0 where
@@ -140,7 +140,7 @@ gains_set {I = I} s r new steps steps_new b c begun run p front sets given xs le
       len = block.len;
       begun = b + 1;
       before = omega arith;
-      decoded = behind_set s front skips.bits begun b run given xs d legal behind before form run_sound set.residuals_sound pads
+      decoded = decoded_with_set s front skips.bits begun b run given xs d legal behind before form run_sound set.residuals_sound pads
           (subst (λ (q : ℤ). GivesBlock s b q xs run (blocks_in s b d)) previous block);
       more_sets = sets ++ d ∷ [];
       has_sets = sets-push s sets front skips.bits b (b + 1 + run) d has form run_sound set.residuals_sound pads after;
@@ -157,7 +157,7 @@ gains_run : {I : Type 0} (s : Parameters) (r new : Reader I) (steps steps_new b 
 gains_run {I = I} s r new steps steps_new b c begun run run_new p front sets given xs legal here previous going before has behind same same_steps gives =
     let j : 1 ≤ s.block = let k : 8 ≤ s.block = grind (arith, legal.block) in omega arith in
     let block = run_gives_there s b c run run_new p xs j (same_place s b c legal.interval_from here) gives in
-    let all = behind_run s front begun b run run_new given xs behind (subst (λ (q : ℤ). GivesBlock s b q xs run_new (replicate run (zero_block s None))) previous block) in
+    let all = decoded_with_run_block s front begun b run run_new given xs behind (subst (λ (q : ℤ). GivesBlock s b q xs run_new (replicate run (zero_block s None))) previous block) in
     let nothing : r.taken ≡ r.taken + 0 = omega arith in
     let count : suc (length (replicate run_new (zero_block s None))) ≡ length (replicate run (zero_block s None)) = ap length block.blocks_are in
     let after : b + run ≡ b + 1 + run_new = omega (arith, count, length-replicate run (zero_block s None), length-replicate run_new (zero_block s None)) in

@@ -7,7 +7,7 @@ use Rattle.rice_code.specs.code.Forms.{IsForm, RunIsSound, ResidualsAreSound, bl
 use Rattle.rice_code.specs.code.Layout.{Lies, block_after, padding}
 use Rattle.rice_stream.specs.DecodingState.{HasSets}
 
--- one more coded data set stands after others
+-- one more coded data set lies after others
 lies-push : (s : Parameters) (b at position place : ℕ) (ds : List CodedDataSet) (bits : List Bool) (d : CodedDataSet) (skipped : List Bool)
     → at ≡ b + length (blocks_in_all s b ds) → place ≡ position + length bits → Lies s b position ds bits
     → length skipped ≡ padding s (block_after s at d) (place + length (bits_of_set s d))

@@ -1,5 +1,5 @@
 -- Bytes that are drawn from an intake, and the bits taken of them.
-use Rattle.std.proofs.Common.{◌+◌, ◌-◌, ◌*◌, inl, inr, ◌≡◌, ℕ, ◌<◌, ◌≤◌, length-append, Bool, List, [], ◌∷◌, ◌++◌, length, take, get_or, refl, sym, ◌∙◌, ap, subst, arith, append_assoc, Option, Some, None}
+use Rattle.std.proofs.Common.{◌+◌, ◌-◌, ◌*◌, inl, inr, ◌≡◌, ℕ, ◌<◌, ◌≤◌, length-append, Bool, List, [], ◌∷◌, ◌++◌, length, take, get_or, refl, sym, ◌∙◌, ap, arith, append_assoc, Option, Some, None}
 use Rattle.std.specs.Io.KnownBytes.{Consumes, Keeps}
 use Rattle.std.proofs.lemmas.List.{append-nil}
 use Rattle.rice_bits.specs.Bits.{bits_of}

@@ -85,7 +85,7 @@ zeros_moved c d rest narrow some h e =
 spread : (q p r s m : ℕ) → p * s ≡ m → (q * p + r) * s ≡ q * m + r * s
 spread q p r s m e = rw (← e) (grind arith)
 
--- digits behind the first ones, at the front of 64
+-- digits after the first ones, at the front of 64
 pub moved_up : (a d : ℕ) → a < 64 → d * 2 ^ (64 - a) % 2 ^ 64 ≡ d % 2 ^ a * 2 ^ (64 - a)
 moved_up a d h =
     let s = 64 - a in

@@ -55,7 +55,7 @@ window_filled w n a e h =
     let m : 8 * n - 0 ≡ 8 * n = omega arith in
     rw (a, e, m) (take-bits_of n w.buffer h)
 
--- bytes with zeros written behind them
+-- bytes with zeros written after them
 pub zeros-behind : (old new : List ℕ) (n k : ℕ) → n ≤ length old → take (n + k) new ≡ take n old ++ replicate k 0
     → (take n new ≡ take n old) × (take k (drop n new) ≡ replicate k 0)
 zeros-behind old new n k h e =
@@ -144,14 +144,14 @@ bits-ahead bytes at v h eight =
     ∙ (ap (λ k. drop s (take k behind)) (sym size) ∙ (drop-take s (64 - s) behind ∙ ap (take (64 - s)) (drop-drop s (8 * q) (bits_of bytes) ∙ ap (λ k. drop k (bits_of bytes)) place)))) in
     word-moved 64 s v (omega arith) ∙ ap (λ z. z ++ replicate s false) rest
 
--- the first of the bits that stand at the front of a word, with zeros behind them
+-- the first of the bits at the front of a word, with zeros after them
 pub first-ahead : (bits : List Bool) (n m k r : ℕ) → n ≤ m → m + k ≡ 64 → word 64 r ≡ take m bits ++ replicate k false → word n (r / 2 ^ (64 - n)) ≡ take n bits
 first-ahead bits n m k r h all e =
     let len : length (take m bits) ≡ m = omega (arith, all, ap length e, length-word 64 r, length-append (take m bits) (replicate k false), length-replicate k false) in
     sym (take-front 64 n r (omega (arith, h, all)))
     ∙ (ap (take n) e ∙ (take-append-le n (take m bits) (replicate k false) (omega (arith, h, len)) ∙ take-take n m bits h))
 
--- all bits that wait, and zeros behind them
+-- all bits that wait, and zeros after them
 pub near-ahead : (w : Window) (r : ℕ) → IsWindow w → word 64 r ≡ take (64 - w.at % 8) (drop w.at (bits_of w.buffer)) ++ replicate (w.at % 8) false
     → word 64 r ≡ take (bits_near w) (window_bits w) ++ replicate (64 - bits_near w) false
 unfolding window_bits
@@ -189,7 +189,7 @@ pub length-words : (width : ℕ) (xs : List ℕ) → length (flat_map (word widt
 length-words width [] = omega arith
 length-words width (x ∷ xs) = omega (arith, length-append (word width x) (flat_map (word width) xs), length-word width x, length-words width xs)
 
--- words, and those behind them
+-- words, and those after them
 pub words-joined : (width : ℕ) (bits : List Bool) (from at m k : ℕ) (xs ys : List ℕ) → at ≡ from + m * width
     → flat_map (word width) xs ≡ take (m * width) (drop from bits) → flat_map (word width) ys ≡ take (k * width) (drop at bits)
     → flat_map (word width) (xs ++ ys) ≡ take ((m + k) * width) (drop from bits)
@@ -199,7 +199,7 @@ words-joined width bits from at m k xs ys place first second =
     second ∙ ap (take (k * width)) (ap (λ a. drop a bits) place ∙ sym (drop-drop (m * width) from bits)) in
     flat_map-append (word width) xs ys ∙ ((λ j. first j ++ rest j) ∙ (sym (take-add (m * width) (k * width) (drop from bits)) ∙ ap (λ a. take a (drop from bits)) n))
 
--- one more word, from the place behind those before it
+-- one more word, from the place after the others
 pub words-more : (width : ℕ) (bits : List Bool) (from at : ℕ) (now : List ℕ) (done v : ℕ) → at ≡ from + done * width → done < length now
     → flat_map (word width) (take done now) ≡ take (done * width) (drop from bits) → word width v ≡ take width (drop at bits)
     → flat_map (word width) (take (done + 1) (set now done v)) ≡ take ((done + 1) * width) (drop from bits)
@@ -213,7 +213,7 @@ pub front-waits : (w : Window) (n : ℕ) → n ≤ w.end - w.at → take n (wind
 unfolding window_bits
 front-waits w n h = take-take n (w.end - w.at) (drop w.at (bits_of w.buffer)) h
 
--- a word behind the first digits of 32
+-- a word after the first digits of 32
 word-behind : (w s x : ℕ) → s + w ≤ 32 → word w (x * 2 ^ s % 2 ^ 32 / 2 ^ (32 - w)) ≡ take w (drop s (word 32 x))
 word-behind w s x h =
     let front = word s (x / 2 ^ (32 - s)) in
@@ -282,7 +282,7 @@ pub four-ahead : (width s r : ℕ) (bits : List Bool) (four : List ℕ) → widt
 four-ahead width s r bits four h few ahead e =
     e ∙ (ap (take (4 * width)) (first-ahead bits 32 (64 - s) s r (omega arith) (omega arith) ahead) ∙ take-take (4 * width) 32 bits (omega arith))
 
--- a sequence at the front of bits with zeros behind them is one of those bits
+-- a sequence at the front of bits with zeros after them is one of those bits
 pub run-within : (m k : ℕ) (rest xs : List Bool) → fundamental_sequence m ++ rest ≡ xs ++ replicate k false → m + 1 ≤ length xs
 run-within m k rest [] e = absurd (no-run m k rest e)
   where

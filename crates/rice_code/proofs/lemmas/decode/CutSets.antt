@@ -52,33 +52,33 @@ cut_low s b id bits e none (Split k c) more form i t = omega arith
 cut_low s b id bits e none (ZeroBlocks r z) more form i t = none (ZeroBlocks r z) more form tt t
 cut_low s b id bits e none (RemainderOfSegment r) more form i t = none (RemainderOfSegment r) more form tt t
 
--- a data set is cut off behind its identifier
-cut_behind : {I : Type 0} (old mid new : Reader I) (s : Parameters) (b id : ℕ) (bits : List Bool) (f : BitFault)
+-- a coded data set is cut off after its identifier
+cut_after_id : {I : Type 0} (old mid new : Reader I) (s : Parameters) (b id : ℕ) (bits : List Bool) (f : BitFault)
     → id < 2 ^ id_len s → Takes old mid (word (id_len s) id) → Stops mid new bits f
     → ((d : CodedDataSet) (more : List Bool) → IsForm s b d → id ≡ identifier s d → bits ≡ tail s d ++ more → ⊥) → SetCut old new s b f
-cut_behind old mid new s b id bits f lt t stops none = record {
+cut_after_id old mid new s b id bits f lt t stops none = record {
   bits = word (id_len s) id ++ bits;
   stops = stops-append old mid new _ bits f t stops;
   none = λ d more form e. (let a = head_reads s b id d bits more lt form e in none d more form a.0 a.1);
 }
 
-pub plain_set_cut : {I : Type 0} (old mid new : Reader I) (s : Parameters) (b id : ℕ) (f : BitFault)
+pub no_compression_set_cut : {I : Type 0} (old mid new : Reader I) (s : Parameters) (b id : ℕ) (f : BitFault)
     → id < 2 ^ id_len s → id ≡ 2 ^ id_len s - 1 → Takes old mid (word (id_len s) id) → BlockCut mid new s b NoCompression f → SetCut old new s b f
-plain_set_cut old mid new s b id f lt e t cut = cut_behind old mid new s b id cut.bits f lt t cut.stops (cut_plain s b id cut.bits e cut.none)
+no_compression_set_cut old mid new s b id f lt e t cut = cut_after_id old mid new s b id cut.bits f lt t cut.stops (cut_plain s b id cut.bits e cut.none)
 
 pub split_set_cut : {I : Type 0} (old mid new : Reader I) (s : Parameters) (b id k : ℕ) (f : BitFault)
     → id < 2 ^ id_len s - 1 → id ≡ k + 1 → Takes old mid (word (id_len s) id) → BlockCut mid new s b (Split k) f → SetCut old new s b f
-split_set_cut old mid new s b id k f lt e t cut = cut_behind old mid new s b id cut.bits f (omega arith) t cut.stops (cut_split s b id k cut.bits e lt cut.none)
+split_set_cut old mid new s b id k f lt e t cut = cut_after_id old mid new s b id cut.bits f (omega arith) t cut.stops (cut_split s b id k cut.bits e lt cut.none)
 
 pub low_set_cut : {I : Type 0} (old mid new : Reader I) (s : Parameters) (b id : ℕ) (f : BitFault)
     → id < 2 ^ id_len s → id ≡ 0 → Takes old mid (word (id_len s) id) → LowCut mid new s b f → SetCut old new s b f
-low_set_cut old mid new s b id f lt e t cut = cut_behind old mid new s b id cut.bits f lt t cut.stops (cut_low s b id cut.bits e cut.none)
+low_set_cut old mid new s b id f lt e t cut = cut_after_id old mid new s b id cut.bits f lt t cut.stops (cut_low s b id cut.bits e cut.none)
 
 -- what a block by no compression says
-pub plain_set : {I : Type 0} (old mid new : Reader I) (first second last : ℕ) (s : Parameters) (b id : ℕ) (r : Option ℕ) (sound : Bool) (items : List ℕ)
+pub no_compression_set : {I : Type 0} (old mid new : Reader I) (first second last : ℕ) (s : Parameters) (b id : ℕ) (r : Option ℕ) (sound : Bool) (items : List ℕ)
     → id ≡ 2 ^ id_len s - 1 → Takes old mid (word (id_len s) id) → second + old.taken ≡ first + mid.taken
     → BlockRead mid new second last s b NoCompression (record { reference = r; sound = sound }) items → SetRead old new first last s b (Residuals r sound) items
-plain_set old mid new first second last s b id r sound items e t steps read = record {
+no_compression_set old mid new first second last s b id r sound items e t steps read = record {
   set = NoCompression read.contents;
   form = read.form;
   takes = rw (← e) (takes-append old mid new _ _ t read.takes);

@@ -1,5 +1,5 @@
 -- What a decoder gives.
-use Rattle.std.proofs.Common.{◌≡◌, ℕ, zero, suc, ◌+◌, ◌-◌, ◌*◌, ◌/◌, ◌^◌, ◌<◌, ◌≤◌, ◌==◌, Bool, true, false, cond, List, ◌∷◌, ◌++◌, length, replicate, refl, sym, ◌∙◌, ap, subst, arith, Option, None, ℤ, inl, inr, length-append}
+use Rattle.std.proofs.Common.{◌≡◌, ℕ, zero, suc, ◌+◌, ◌-◌, ◌*◌, ◌/◌, ◌^◌, ◌<◌, ◌≤◌, ◌==◌, Bool, true, false, List, ◌∷◌, ◌++◌, length, replicate, refl, sym, ◌∙◌, ap, subst, arith, Option, None, ℤ, inl, inr, length-append}
 use Rattle.std.specs.Prelude.{◌≢◌, All, nat_lt, if◌then◌else◌, ◌&&◌, Some, Result, Ok}
 use Rattle.std.proofs.lemmas.Bool.Decides.{nat_tests}
 use Rattle.std.proofs.Math.Nat.{mod-eq_of_lt}
@@ -109,7 +109,7 @@ goes_on s b next run p last stopped samples pos e f len legal says = record {
 block_limit : (s : Parameters) → IsLegal s → s.block ≤ 64
 block_limit s legal = grind (arith, legal.block)
 
--- so many blocks for so many bits
+-- samples are bounded by bits where blocks are
 few_samples : (blocks size bits : ℕ) → size ≤ 64 → 64 * blocks ≤ 456 * bits → blocks * size ≤ 456 * bits
 few_samples blocks size bits h k = let m : blocks * size ≤ blocks * 64 = mul-le-mul_left blocks h in omega arith
 
@@ -164,7 +164,7 @@ within_interval s b (suc run) h more =
     let few = more (omega arith) in
     omega arith
 
--- a coded data set that was taken, and the padding behind it
+-- a coded data set was taken, and its padding skipped
 pub set_given : {I : Type 0} (old middle new : Reader I) (first steps last : ℕ) (s : Parameters) (b : ℕ) (p : ℤ) (samples : List ℤ) (run : ℕ)
     → TakesSet old middle first steps s b p samples run → Skips middle new (padding s (b + 1 + run) middle.taken) → last + middle.taken ≡ steps + new.taken
     → GivesSet old new first last s b p samples run

@@ -1,5 +1,5 @@
 -- Pieces that a reader takes one after another.
-use Rattle.std.proofs.Common.{◌≡◌, ℕ, zero, suc, ◌+◌, ◌-◌, ◌*◌, ◌/◌, ◌<◌, ◌≤◌, Bool, true, false, List, [], ◌∷◌, ◌++◌, length, replicate, set, take, drop, refl, sym, ◌∙◌, ap, arith, append_assoc, length-append, Option, None, sum, ◌^◌, subst}
+use Rattle.std.proofs.Common.{◌≡◌, ℕ, zero, suc, ◌+◌, ◌-◌, ◌*◌, ◌/◌, ◌<◌, ◌≤◌, Bool, true, false, List, [], ◌∷◌, ◌++◌, length, replicate, set, take, drop, refl, sym, ◌∙◌, ap, arith, append_assoc, length-append, None, sum, ◌^◌, subst}
 use Rattle.std.specs.Prelude.{All, flat_map, ◌&&◌}
 use Rattle.std.proofs.lemmas.List.{append-nil, drop_all, length-drop, get_or_append_left, get_or-append-add, length-set, length-take, length-take-le, take-take, take_all, take_more_set}
 use Rattle.std.proofs.lemmas.Grind.{get_or_head}
@@ -41,7 +41,7 @@ counts-none r most told e h = record {
   takes = takes-none r h;
 }
 
--- a single one, for which v was written, behind none
+-- a single sequence was read, for which v was written
 pub counts-one : {I : Type 0} (old mid new : Reader I) (most : ℕ) (fits : Bool) (counts none : List ℕ) (m v : ℕ)
     → 0 < length counts → none ≡ [] → Takes old mid (flat_map fundamental_sequence none) → Takes mid new (fundamental_sequence m)
     → (fits ≡ true → v ≡ m) → (fits ≡ false → most < m) → CountsRead old new most fits 1 (take 1 (set counts 0 v))
@@ -135,7 +135,7 @@ pub counts-whole : {I : Type 0} (old new : Reader I) (most : ℕ) (small : Bool)
 counts-whole old new most small done count xs r e n =
     record { values = r.values; len = r.len ∙ e; told_are = λ f. sym (take_all done xs (omega (arith, e, n))) ∙ r.told_are f; refused = r.refused; takes = r.takes }
 
--- pieces were cut off behind none
+-- pieces were cut off before the first
 pub stops-first : {I : Type 0} (piece : ℕ → List Bool) (old mid new : Reader I) (none : List ℕ) (bits : List Bool) (f : BitFault)
     → none ≡ [] → Takes old mid (flat_map piece none) → Stops mid new bits f → Stops old new bits f
 stops-first piece old mid new none bits f e t s =
@@ -155,7 +155,7 @@ row-word old mid new width done v words lt r fits t =
       takes = subst (λ bits. Takes mid new bits) (sym (append-nil (word width v))) t;
     })
 
--- words that waited together, and those behind them
+-- words that waited together, and those after them
 pub row-waiting : {I : Type 0} (old new : Reader I) (width some : ℕ) (words : List ℕ) → some ≤ length words
     → All (λ v. v < 2 ^ width) (take some words) → Takes old new (flat_map (word width) (take some words))
     → Row (word width) (λ v. v < 2 ^ width) old new some [] (take some words)

@@ -1,6 +1,6 @@
--- What is read of a block behind its identifier.
+-- What is read of a block after its identifier.
 use Rattle.std.proofs.Common.{◌≡◌, ℕ, zero, suc, ◌+◌, ◌-◌, ◌*◌, ◌/◌, ◌%◌, ◌^◌, ◌<◌, ◌≤◌, Bool, true, false, List, [], ◌∷◌, ◌++◌, length, refl, sym, ◌∙◌, ap, subst, arith, append_assoc, length-append, replicate, take, drop, length-drop, Option, Some, None, ◌⊎◌}
-use Rattle.std.specs.Prelude.{All, flat_map, is_some, slice_index, OnSome, sum}
+use Rattle.std.specs.Prelude.{All, flat_map, is_some, slice_index, OnSome}
 use Rattle.std.proofs.lemmas.List.{append-nil, length-take, length-take-le}
 use Rattle.rice_bits.specs.Bits.{word, fundamental_sequence}
 use Rattle.rice_bits.specs.read.Reader.{Reader, Takes, Stops}
@@ -12,7 +12,7 @@ use Rattle.rice_samples.specs.Parameters.{Parameters, IsLegal, value_count, k_ma
 use Rattle.rice_samples.specs.Places.{is_reference}
 use Rattle.rice_code.specs.code.Blocks.{BlockData}
 use Rattle.rice_samples.specs.blocks.Pairs.{pair_codes}
-use Rattle.rice_code.specs.code.CodedDataSets.{CodedDataSet, NoCompression, SecondExtension, Split, sent_residuals, sent_from, reference_bits, no_compression_tail, second_extension_tail, split_tail, run_tail}
+use Rattle.rice_code.specs.code.CodedDataSets.{CodedDataSet, NoCompression, SecondExtension, Split, sent_residuals, sent_from, reference_bits, run_tail}
 use Rattle.rice_code.specs.code.Forms.{IsForm, IsReference, IsBlock}
 use Rattle.rice_code.specs.decode.Fields.{Row, CountRow, PairRow, ones}
 use Rattle.rice_code.specs.decode.ReadSets.{BlockRead, BlockCut, reference_place, joined_parts, set_tail}
@@ -61,7 +61,7 @@ pub short_reference : (s : Parameters) (b : ℕ) (r : Option ℕ) (bits rest mor
 short_reference s b r bits rest more h k lt e =
     omega (arith, ap length e, length-append (reference_bits s r ++ rest) more, length-append (reference_bits s r) rest, length-reference s b r h k)
 
--- behind a reference stands one and what follows it
+-- a reference sample is the first of what follows the identifier
 pub behind_reference : (s : Parameters) (b : ℕ) (r q : Option ℕ) (bits rest more : List Bool) → IsReference s b r → IsReference s b q →
     reference_bits s r ++ bits ≡ (reference_bits s q ++ rest) ++ more → (r ≡ q) × (bits ≡ rest ++ more)
 behind_reference s b r q bits rest more h k e =
@@ -73,10 +73,10 @@ short_words width count vs bits more n lt e =
     let k : length vs * width ≡ count * width = ap (λ m. m * width) n in
     omega (arith, ap length e, length-append (flat_map (word width) vs) more, length-words width vs)
 
--- what was read alone stands behind others
-pub placed_row : {I : Type 0} (piece : ℕ → List Bool) (P : ℕ → Type 0) (old new : Reader I) (count : ℕ) (before alone after : List ℕ)
+-- a row that was read alone follows other numbers
+pub row_after_others : {I : Type 0} (piece : ℕ → List Bool) (P : ℕ → Type 0) (old new : Reader I) (count : ℕ) (before alone after : List ℕ)
     → Row piece P old new count [] alone → after ≡ before ++ alone → Row piece P old new count before after
-placed_row piece P old new count before alone after row e = record {
+row_after_others piece P old new count before alone after row e = record {
   values = row.values;
   len = row.len;
   each = row.each;
@@ -84,11 +84,11 @@ placed_row piece P old new count before alone after row e = record {
   takes = row.takes;
 }
 
-pub plain_read : {I : Type 0} (old mid new : Reader I) (first last : ℕ) (s : Parameters) (b : ℕ) (r : Option ℕ) (count : ℕ) (items : List ℕ)
+pub no_compression_read : {I : Type 0} (old mid new : Reader I) (first last : ℕ) (s : Parameters) (b : ℕ) (r : Option ℕ) (count : ℕ) (items : List ℕ)
     → IsReference s b r → count + length (reference_place r) ≡ s.block → 0 < value_count s → Takes old mid (reference_bits s r)
     → Row (word s.bits) (λ v. v < 2 ^ s.bits) mid new count (reference_place r) items → last + old.taken ≡ first + new.taken
     → BlockRead old new first last s b NoCompression (record { reference = r; sound = true }) items
-plain_read old mid new first last s b r count items h n z t row steps =
+no_compression_read old mid new first last s b r count items h n z t row steps =
     let len : length (reference_place r ++ row.values) ≡ s.block = omega (arith, length-append (reference_place r) row.values, row.len) in
     let fit = all-placed (λ d. d < value_count s) r row.values z row.each in
     record {
@@ -101,10 +101,10 @@ plain_read old mid new first last s b r count items h n z t row steps =
       steps = omega arith;
     }
 
-pub plain_cut : {I : Type 0} (old mid new : Reader I) (s : Parameters) (b : ℕ) (r : Option ℕ) (count : ℕ) (bits : List Bool) (f : BitFault)
+pub no_compression_cut : {I : Type 0} (old mid new : Reader I) (s : Parameters) (b : ℕ) (r : Option ℕ) (count : ℕ) (bits : List Bool) (f : BitFault)
     → IsReference s b r → count + length (reference_place r) ≡ s.block → Takes old mid (reference_bits s r)
     → length bits < count * s.bits → Stops mid new bits f → BlockCut old new s b NoCompression f
-plain_cut old mid new s b r count bits f h n t short stops = record {
+no_compression_cut old mid new s b r count bits f h n t short stops = record {
   bits = reference_bits s r ++ bits;
   stops = stops-append old mid new _ bits f t stops;
   none = λ c more form e.
@@ -133,13 +133,13 @@ run_cut s b r zeros h q m more k e =
     let a = behind_reference s b r q (replicate zeros false) (fundamental_sequence m) more h k e in
     omega (arith, ap ones a.1, ones-zeros zeros, ones-append (fundamental_sequence m) more, ones-sequence m)
 
-pub second_read : {I : Type 0} (old mid new : Reader I) (first second last : ℕ) (s : Parameters) (b : ℕ) (r : Option ℕ) (half : ℕ) (items : List ℕ) (sound : Bool)
+pub second_extension_read : {I : Type 0} (old mid new : Reader I) (first second last : ℕ) (s : Parameters) (b : ℕ) (r : Option ℕ) (half : ℕ) (items : List ℕ) (sound : Bool)
     → IsReference s b r → half + half ≡ s.block → Takes old mid (reference_bits s r)
     → PairRow mid new half items second last → second + old.taken ≡ first + mid.taken
     → (sound ≡ true → OnSome r (slice_index items 0 ≡ 0) × All (λ d. d < value_count s) items)
     → (sound ≡ false → OnSome r (slice_index items 0 ≡ 0) × All (λ d. d < value_count s) items → ⊥)
     → BlockRead old new first last s b SecondExtension (record { reference = r; sound = sound }) items
-second_read old mid new first second last s b r half items sound h n t row steps told refused = record {
+second_extension_read old mid new first second last s b r half items sound h n t row steps told refused = record {
   contents = record { reference = r; residuals = items };
   form = record { reference = h; len = row.len ∙ n };
   reference_is = refl;
@@ -149,10 +149,10 @@ second_read old mid new first second last s b r half items sound h n t row steps
   steps = omega (arith, row.steps);
 }
 
-pub second_cut : {I : Type 0} (old mid new : Reader I) (s : Parameters) (b : ℕ) (r : Option ℕ) (half : ℕ) (bits : List Bool) (f : BitFault)
+pub second_extension_cut : {I : Type 0} (old mid new : Reader I) (s : Parameters) (b : ℕ) (r : Option ℕ) (half : ℕ) (bits : List Bool) (f : BitFault)
     → IsReference s b r → half + half ≡ s.block → Takes old mid (reference_bits s r)
     → ones bits < half → Stops mid new bits f → BlockCut old new s b SecondExtension f
-second_cut old mid new s b r half bits f h n t short stops = record {
+second_extension_cut old mid new s b r half bits f h n t short stops = record {
   bits = reference_bits s r ++ bits;
   stops = stops-append old mid new _ bits f t stops;
   none = λ c more form e.
@@ -289,7 +289,7 @@ coded_part s r first xs legal e n =
 pub as_many : (n : ℕ) (xs zs : List ℕ) → length zs ≡ 64 → n ≤ 64 → length (take (length (take n xs)) zs) ≡ length (take n xs)
 as_many n xs zs e h = length-take-le (length (take n xs)) zs (omega (arith, e, length-take n xs))
 
--- coded residuals that are written behind the reference place
+-- residuals that are written after the place of the reference sample
 pub placed : (first : ℕ) (r : Option ℕ) (xs ys : List ℕ) → take first xs ≡ reference_place r → first ≤ length xs → put_mid first (length xs - first) xs ys ≡ reference_place r ++ ys
 placed first r xs ys e h = put_rest first xs ys h ∙ ap (λ z. z ++ ys) e
 

@@ -74,7 +74,7 @@ preprocesses s b v h = at s.preprocess (place s b == 0) h.there
     at true first e = refl
     at false first e = absurd (let f : true ≡ false = e in cc)
 
--- the samples behind a reference
+-- the samples after a reference sample
 pub contents_behind : (s : Parameters) (b : ℕ) (p x : ℤ) (v : ℕ) (ds : List ℕ) (ys : List ℤ) → IsReference s b (Some v) → length ds ≡ s.block → length ds ≡ suc (length ys) → slice_index ds 0 ≡ 0 → ranks s x ys ≡ drop 1 ds → pattern s x ≡ v
     → block_data s b p (x ∷ ys) ≡ record { reference = Some v; residuals = ds }
 contents_behind s b p x v [] ys h n len first r pat = absurd (omega arith)
@@ -85,7 +85,7 @@ contents_behind s b p x v (d ∷ ds) ys h n len first r pat =
     let rest : residuals s (s.block * b + 1) x ys ≡ ds = ranks_within s b 1 (Some v) x ys h e refl (omega (arith, n, len)) ∙ r in
     contents_are s b p (Some v) (d ∷ ds) (x ∷ ys) h (λ i. one i ∷ rest i) pat
 
--- one sample, and others behind it, in places that are as many
+-- one sample and those after it, in as many places
 pub put_behind : (xs ys : List ℤ) (x : ℤ) → length xs ≡ suc (length ys) → put_mid 1 (length (slice_set xs 0 x) - 1) (slice_set xs 0 x) ys ≡ x ∷ ys
 put_behind [] ys x e = absurd (omega arith)
 put_behind (z ∷ xs) ys x e = ap (λ v. x ∷ v) (ap (λ v. ys ++ v) (drop_all (length (x ∷ xs) - 1) xs (omega arith)) ∙ append-nil ys)

@@ -5,12 +5,12 @@ use Rattle.rice_samples.specs.bytes.Spelling.{spellings}
 use Rattle.rice_stream.specs.Decodes.{wanted_of, refusal_fault}
 use Rattle.rice_stream.specs.Writes.{TakesPart}
 use Rattle.rice_stream.proofs.lemmas.DecodingLemmas.{advances, done, few_legal, gains, moves_of, samples_of_block, stopped}
-use Rattle.rice_stream.proofs.lemmas.DecodingEnds.{reports_as, wants, runs_first, refusal_ends, refusal_fails, ended_ends, done_fails, write_ends, reached_ends, runs_more}
+use Rattle.rice_stream.proofs.lemmas.DecodingEnds.{reports_as, wants, progress_at_start, refusal_ends, refusal_fails, ended_ends, done_fails, write_ends, reached_ends, progress_with_block}
 use Rattle.rice_stream.proofs.decoding.decode.Goals as goal
 
 pub decode_all-init : goal.decode_all-init
 decode_all-init g c = record {
-  runs = runs_first c.args.asked (g.O.Outlet.taken c.args.outlet.now) c.block-block.ensures.legal c.new-decoder.ensures c.new-reader.ensures c.new-meter.ensures;
+  runs = progress_at_start c.args.asked (g.O.Outlet.taken c.args.outlet.now) c.block-block.ensures.legal c.new-decoder.ensures c.new-reader.ensures c.new-meter.ensures;
   writes = refl;
 }
 
@@ -107,7 +107,7 @@ decode_all-preserved g c =
     let few : s.block + new.self.run * s.block ≤ old.decoder.run * s.block + 456 * (new.reader.taken - old.reader.taken) = omega (arith, block.len, c.in-Ok.ensures.waiting, old_run, new_run) in
     let put = subst (λ (l : List ℕ). Appends (g.O.Outlet.taken old.outlet) (g.O.Outlet.taken c.write_samples.new.outlet) l) (ap (λ xs. spellings c.args.setting.now (take c.wanted-count.result xs)) c.as_slice.ensures.value) c.in-Ok-write_samples.ensures.ok.0 in
     record {
-      runs = runs_more c.wanted-count.result c.tick.new.self legal i.runs is some (gains legal i.runs a) (moves_of at.going a) (record { counted = c.in-Ok.ensures.steps; few = few }) c.tick.ensures put;
+      runs = progress_with_block c.wanted-count.result c.tick.new.self legal i.runs is some (gains legal i.runs a) (moves_of at.going a) (record { counted = c.in-Ok.ensures.steps; few = few }) c.tick.ensures put;
       writes = c.in-Ok-write_samples.ensures.ok.1 ∙ i.writes;
     }
 

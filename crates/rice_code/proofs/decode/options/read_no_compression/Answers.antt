@@ -4,7 +4,7 @@ use Rattle.std.specs.Prelude.{flat_map}
 use Rattle.std.proofs.lemmas.Nat.{pow_pos}
 use Rattle.rice_bits.specs.Bits.{word}
 use Rattle.rice_code.specs.code.CodedDataSets.{NoCompression, sent_residuals}
-use Rattle.rice_code.proofs.lemmas.decode.ReadLemmas.{plain_read, placed, placed_row, coded_part, plain_cut, cut_at_reference}
+use Rattle.rice_code.proofs.lemmas.decode.ReadLemmas.{no_compression_read, placed, row_after_others, coded_part, no_compression_cut, cut_at_reference}
 use Rattle.rice_code.proofs.decode.options.read_no_compression.Goals as goal
 
 pub returns-in-Err-clause-err : goal.returns-in-Err-clause-err
@@ -20,9 +20,9 @@ returns-clause-ok g c =
     let first = c.begin_residuals-first in
     let part = coded_part s c.in-Ok.reference first.result first.new.residuals c.bits-width.ensures.legal first.ensures.first (first.auto.residuals ∙ c.requires.size) in
     let row = (rw c.bits-width.ensures.value at c.in_default.ensures.ok) in
-    plain_read c.args.reader.now c.read_reference.new.reader c.read_words.new.reader c.args.meter.now c.read_words.new.meter s c.args.block c.in-Ok.reference _ _
+    no_compression_read c.args.reader.now c.read_reference.new.reader c.read_words.new.reader c.args.meter.now c.read_words.new.meter s c.args.block c.in-Ok.reference _ _
     c.in-Ok.ensures.reference part.1 (pow_pos s.bits) c.in-Ok.ensures.ok
-    (placed_row (word s.bits) (λ v. v < 2 ^ s.bits) c.read_reference.new.reader c.read_words.new.reader _ (reference_place c.in-Ok.reference) c.read_words.new.words _ row
+    (row_after_others (word s.bits) (λ v. v < 2 ^ s.bits) c.read_reference.new.reader c.read_words.new.reader _ (reference_place c.in-Ok.reference) c.read_words.new.words _ row
     (placed first.result c.in-Ok.reference first.new.residuals c.read_words.new.words first.ensures.place part.0))
     (omega (arith, c.in-Ok.ensures.steps, c.in_default.ensures.steps))
 
@@ -32,5 +32,5 @@ returns-in-Err-read_words-clause-err g c =
     let first = c.begin_residuals-first in
     let part = coded_part s c.in-Ok.reference first.result first.new.residuals c.bits-width.ensures.legal first.ensures.first (first.auto.residuals ∙ c.requires.size) in
     let e = rw c.bits-width.ensures.value at c.in-Err-read_words.ensures.err in
-    plain_cut c.args.reader.now c.read_reference.new.reader c.read_words.new.reader s c.args.block c.in-Ok.reference _ e.0 c.in-Err-read_words.fault
+    no_compression_cut c.args.reader.now c.read_reference.new.reader c.read_words.new.reader s c.args.block c.in-Ok.reference _ e.0 c.in-Err-read_words.fault
     c.in-Ok.ensures.reference part.1 c.in-Ok.ensures.ok e.1 e.2
