@@ -1,12 +1,18 @@
 use rice_bits::{
     BitFault, BitReader, BitSink, FromReader, FromWriter, Intake, MemoryIn, MemoryOut, Meter,
-    Outlet, ReadFault, WriteFault, ZeroIn,
+    Outlet, ReadFault, WriteFault, ZeroIn, join,
 };
 use std::io::{self, ErrorKind, Read, Write};
 use std::test::Fail;
 
 /// The sizes of pieces that each reading is tried with.
 const PIECES: [usize; 4] = [1, 3, 7, 4096];
+
+#[test]
+fn digits_are_joined(rt: HostRuntime) {
+    assert_eq!(rt; join(0b101, 4, 0b0011), 0b101_0011);
+    assert_eq!(rt; join(0, 8, 7), 7);
+}
 
 #[test]
 fn put_and_pad(rt: HostRuntime) -> Result<(), Fail> {
