@@ -1,5 +1,5 @@
 -- Which settings there are, and which of their parameters is refused first.
-use Rattle.std.specs.Prelude.{ℕ, Bool, ◌≡◌, ◌⊎◌, ◌≤◌, if◌then◌else◌, nat_le, ◌&&◌, ◌||◌, ◌==◌, Result, Ok, Err}
+use Rattle.std.specs.Prelude.{ℕ, Bool, ◌≤◌, if◌then◌else◌, nat_le, ◌&&◌, ◌||◌, ◌==◌, Result, Ok, Err}
 use Rattle.rice_samples.specs.Parameters.{Parameters, IsBlockSize}
 use Rattle.rice_samples.specs.declared.setting.SettingFault.{SettingFault}
 use Rattle.rice_samples.specs.declared.setting.SettingFault.TheVariants.{BadBits, BadBlock, BadInterval}

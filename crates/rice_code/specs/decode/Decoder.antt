@@ -1,5 +1,5 @@
 -- What a contract sees of a decoder, and what a call of it says.
-use Rattle.std.specs.Prelude.{◌≡◌, ◌≢◌, ℕ, ◌+◌, ◌<◌, ◌≤◌, ◌==◌, if◌then◌else◌, Bool, true, false, List, [], ◌∷◌, ◌++◌, length, replicate, All, Some, None, Result, Ok, Err, ℤ}
+use Rattle.std.specs.Prelude.{◌≡◌, ℕ, ◌+◌, Bool, true, false, List, [], ◌∷◌, ◌++◌, length, replicate, All, Some, None, Result, Ok, Err, ℤ}
 use Rattle.rice_bits.specs.read.Reader.{Reader, Takes, is_blank}
 use Rattle.rice_bits.specs.declared.read.fault.BitFault.{BitFault}
 use Rattle.rice_bits.specs.declared.read.fault.BitFault.TheVariants as bit_faults

@@ -1,13 +1,11 @@
 -- The state of a decoder: the place of the next block, the sample before it, and the run that it is in.
-use Rattle.std.specs.Prelude.{◌≡◌, ◌≢◌, ℕ, ◌+◌, ◌<◌, ◌≤◌, ◌==◌, if◌then◌else◌, false, List, [], ◌∷◌, ◌++◌, Option, Some, Result, Ok, ℤ}
-use Rattle.rice_bits.specs.declared.read.fault.BitFault.TheVariants as bit_faults
+use Rattle.std.specs.Prelude.{◌≡◌, ◌≢◌, ℕ, ◌+◌, ◌<◌, ◌≤◌, ◌==◌, if◌then◌else◌, false, List, Option, Some, Result, Ok, ℤ}
 use Rattle.rice_samples.specs.Parameters.{Parameters, IsLegal, IsSample}
 use Rattle.rice_samples.specs.Places.{blocks_left, begins_segment}
 use Rattle.rice_samples.specs.predict.Residuals.{last_of}
 use Rattle.rice_code.specs.declared.decode.fault.Step.{Step}
 use Rattle.rice_code.specs.declared.decode.fault.Step.TheVariants.{Block}
 use Rattle.rice_code.specs.declared.decode.fault.CodeFault.{CodeFault}
-use Rattle.rice_code.specs.declared.decode.fault.CodeFault.TheVariants as faults
 
 -- The state of a decoder.
 pub record DecoderState : Type 0 where

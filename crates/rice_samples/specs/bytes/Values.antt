@@ -1,5 +1,5 @@
 -- The values that have a pattern of so many bits.
-use Rattle.std.specs.Prelude.{ℕ, ◌-◌, ◌^◌, ◌<◌, Bool, if◌then◌else◌, List, ℤ, pos, neg_ℤ, ◌≤ℤ◌}
+use Rattle.std.specs.Prelude.{ℕ, ◌-◌, ◌^◌, ◌<◌, Bool, if◌then◌else◌, List, ℤ, ◌≤ℤ◌}
 use Rattle.std.specs.Int.{int_gap, bytes_high_first, bytes_low_first}
 use Rattle.rice_samples.specs.Parameters.{Parameters, least_value}
 

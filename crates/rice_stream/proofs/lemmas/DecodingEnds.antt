@@ -35,7 +35,7 @@ use Rattle.rice_stream.specs.DecodingState.{DecodedSoFar, Gains, DecodingProgres
 use Rattle.rice_stream.specs.Writes.{TakesPart}
 use Rattle.rice_stream.specs.declared.outcome.Report.{Report}
 use Rattle.rice_stream.specs.declared.outcome.Fault.{Fault}
-use Rattle.rice_stream.specs.declared.outcome.Fault.TheVariants.{Read, Write, TooLong, CodeEnds, RunPastSegment, ResidualTooLarge}
+use Rattle.rice_stream.specs.declared.outcome.Fault.TheVariants.{Read, Write, TooLong, CodeEnds}
 use Rattle.rice_stream.proofs.lemmas.DecodedSamples.{decoded_nothing, ends_here, ends_reached, cut_nothing, cut_more, cut_none}
 use Rattle.rice_stream.proofs.lemmas.DecodingLemmas.{still_asked}
 use Rattle.rice_stream.proofs.lemmas.SetsRead.{sets-none}

@@ -8,7 +8,7 @@ use Rattle.std.proofs.lemmas.List.{length-take-le}
 use Rattle.std.proofs.KnownBytes.{Consumes-trans, Consumes-kept}
 use Rattle.std.proofs.lemmas.List.Elements.{All-append}
 use Rattle.rice_samples.specs.Parameters.{Parameters, IsSample, width}
-use Rattle.rice_samples.specs.bytes.Spelling.{Spells, spellings, SpellingEnd, AtEnd, NoSpelling, TooFew}
+use Rattle.rice_samples.specs.bytes.Spelling.{Spells, spellings, AtEnd, NoSpelling, TooFew}
 use Rattle.rice_stream.specs.Calls.{Call, Happens, Fails, PassesLimit, StopsBetween}
 use Rattle.rice_stream.specs.EncodingState.{CountsSamples, WritesRest, Reads, EncodingProgress, TakesAll, MeetsNoSpelling, MeetsFailure, Pushes, PushFails, Refills}
 use Rattle.rice_stream.specs.Encodes.{Encodes, EndsEncoding, EncodesWithin, ReportsTaken, ReportsAll, LeavesEarly, SpellsSoFar}
