@@ -1,6 +1,7 @@
 -- What passes between an engine and its devices in one call, and what the engine says of it.
 use Rattle.std.specs.Prelude.{◌≡◌, ◌≢◌, ℕ, ◌+◌, ◌≤◌, List, [], ◌∷◌, ◌++◌, length, Option, Some, ⊤}
-use Rattle.std.specs.Io.KnownBytes.{Appends, Consumes}
+use Rattle.std.specs.Io.KnownBytes.{Consumes}
+use Rattle.rice_bits.specs.device.Outlet.{Room, Appends}
 use Rattle.rice_stream.specs.declared.outcome.Report.{Report}
 use Rattle.rice_stream.specs.declared.outcome.Fault.{Fault}
 use Rattle.rice_stream.specs.declared.outcome.Fault.TheVariants.{Read, Write, TooLong}
@@ -12,7 +13,7 @@ pub record Call : Type 0 where
   pub written : List ℕ
 
 -- The call was so. A device that tells its bytes says which they were.
-pub record Happens (intake_old intake_new outlet_old outlet_new : Option (List ℕ)) (c : Call) : Type 0 where
+pub record Happens (intake_old intake_new : Option (List ℕ)) (outlet_old outlet_new : Option Room) (c : Call) : Type 0 where
   pub gave : Consumes intake_old intake_new c.given
   pub left : intake_new ≡ c.left
   pub took : Appends outlet_old outlet_new c.written

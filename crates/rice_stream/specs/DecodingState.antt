@@ -1,6 +1,7 @@
 -- A decoder at work: how far it has come, and what is written of its samples.
 use Rattle.std.specs.Prelude.{◌≡◌, ℕ, ◌+◌, ◌*◌, ◌<◌, ◌≤◌, ◌^◌, Bool, List, ◌++◌, length, sum_by, replicate, All, Option, None, Some, IfSome, ℤ, pos}
-use Rattle.std.specs.Io.KnownBytes.{Appends, Consumes}
+use Rattle.std.specs.Io.KnownBytes.{Consumes}
+use Rattle.rice_bits.specs.device.Outlet.{Room, Appends}
 use Rattle.rice_bits.specs.Bits.{bits_of}
 use Rattle.rice_bits.specs.read.Reader.{Reader, Draws}
 use Rattle.rice_samples.specs.Parameters.{Parameters, IsSample}
@@ -59,7 +60,7 @@ pub record HasSets (s : Parameters) (sets : List CodedDataSet) (front : List Boo
   pub end : length (blocks_in_all s 0 sets) ≡ blocks
 
 -- Of the blocks that were given, `written` samples are written: those that were asked for.
-pub record HasWritten (s : Parameters) (asked : Option ℕ) (out_old out : Option (List ℕ)) (blocks : ℕ) (given : List ℤ) (written : ℕ) : Type 0 where
+pub record HasWritten (s : Parameters) (asked : Option ℕ) (out_old out : Option Room) (blocks : ℕ) (given : List ℤ) (written : ℕ) : Type 0 where
   pub wanted : (i : ℕ) → i < blocks → IsWanted s asked i
   pub count : written ≡ length (cut_to s asked 0 given)
   pub asked_for : IfSome asked (λ n. written ≤ n)
@@ -87,7 +88,7 @@ pub record Gains {I : Type 0} (s : Parameters) (old new : Reader I) (steps steps
   pub counted : steps_new + old.taken + sum_by turns sets ≡ steps + new.taken + sum_by turns more_sets
 
 -- Blocks were given so far, and their samples are written, cut to those that were asked for.
-pub record DecodingProgress {I : Type 0} (s : Parameters) (asked : Option ℕ) (start : Reader I) (out_old out : Option (List ℕ)) (p : DecoderState) (r : Reader I) (steps written : ℕ) : Type 0 where
+pub record DecodingProgress {I : Type 0} (s : Parameters) (asked : Option ℕ) (start : Reader I) (out_old out : Option Room) (p : DecoderState) (r : Reader I) (steps written : ℕ) : Type 0 where
   pub blocks : ℕ
   pub front : List Bool
   pub given : List ℤ

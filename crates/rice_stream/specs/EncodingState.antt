@@ -1,6 +1,7 @@
 -- A coder at work: which samples it has taken, and what is written of their code.
 use Rattle.std.specs.Prelude.{◌≡◌, ℕ, ◌+◌, ◌^◌, ◌<◌, ◌≤◌, Bool, List, [], ◌∷◌, ◌++◌, length, take, drop, All, Option, Some, None, Result, Ok, Err, ℤ}
-use Rattle.std.specs.Io.KnownBytes.{Appends, Consumes}
+use Rattle.std.specs.Io.KnownBytes.{Consumes}
+use Rattle.rice_bits.specs.device.Outlet.{Room, Appends}
 use Rattle.rice_bits.specs.Bits.{bits_in_bytes}
 use Rattle.rice_samples.specs.Parameters.{Parameters, IsSample, width}
 use Rattle.rice_samples.specs.bytes.Spelling.{spellings, EndsSpelling, NoSpelling}
@@ -26,15 +27,15 @@ pub record CountsSamples (s : Parameters) (e : Encoding) (xs : List ℤ) : Type 
   pub most : e.meter ≤ length xs + most_steps s (complete_samples s xs)
 
 -- and an outlet has taken the whole bytes of what is coded since its state was `old`
-pub record IsEncodingOf (s : Parameters) (old new : Option (List ℕ)) (e : Encoding) (xs : List ℤ) : Type 0 where
+pub record IsEncodingOf (s : Parameters) (old new : Option Room) (e : Encoding) (xs : List ℤ) : Type 0 where
   pub counts : CountsSamples s e xs
   pub sink : e.sink ≡ drop (bits_in_bytes (length (complete_code s xs))) (complete_code s xs)
   pub took : Appends old new (early_output s xs)
 
 -- an encoding whose code an outlet has taken so far can take these samples too
-pub record CanTake (taken : Option (List ℕ)) (e : Encoding) (samples : List ℤ) : Type 0 where
+pub record CanTake (taken : Option Room) (e : Encoding) (samples : List ℤ) : Type 0 where
   pub setting : Parameters
-  pub start : Option (List ℕ)
+  pub start : Option Room
   pub before : List ℤ
   pub holds : IsEncodingOf setting start taken e before
   pub legal : All (IsSample setting) samples
@@ -47,18 +48,18 @@ pub record TakesSamples (s : Parameters) (e : Encoding) (xs more : List ℤ) : T
   pub before_last : (m : ℕ) → m < length more → complete_samples s (xs ++ take m more) ≡ complete_samples s xs
 
 -- an outlet has taken bytes up to a place between the ends of two texts
-pub record TakesBetween (old new : Option (List ℕ)) (from to : List ℕ) : Type 0 where
+pub record TakesBetween (old new : Option Room) (from to : List ℕ) : Type 0 where
   pub written : List ℕ
   pub stops : StopsBetween from to written
   pub took : Appends old new written
 
 -- an encoding has taken the samples and one more, and an outlet not all that it completes
-pub record FailsAt (s : Parameters) (old new : Option (List ℕ)) (e : Encoding) (xs : List ℤ) (x : ℤ) : Type 0 where
+pub record FailsAt (s : Parameters) (old new : Option Room) (e : Encoding) (xs : List ℤ) (x : ℤ) : Type 0 where
   pub counts : CountsSamples s e (xs ++ x ∷ [])
   pub takes : TakesBetween old new (early_output s xs) (early_output s (xs ++ x ∷ []))
 
 -- the outlet failed behind one of some samples
-pub record FailsIn (s : Parameters) (old new : Option (List ℕ)) (e : Encoding) (xs samples : List ℤ) : Type 0 where
+pub record FailsIn (s : Parameters) (old new : Option Room) (e : Encoding) (xs samples : List ℤ) : Type 0 where
   pub before : List ℤ
   pub last : ℤ
   pub behind : List ℤ
@@ -66,7 +67,7 @@ pub record FailsIn (s : Parameters) (old new : Option (List ℕ)) (e : Encoding)
   pub fails : FailsAt s old new e (xs ++ before) last
 
 -- an outlet has taken the code of all samples, or not all of it
-abbrev pub WritesRest : Parameters → Option (List ℕ) → Option (List ℕ) → List ℤ → Option Fault → Type 0
+abbrev pub WritesRest : Parameters → Option Room → Option Room → List ℤ → Option Fault → Type 0
 WritesRest s old new xs None = Appends old new (output s xs)
 WritesRest s old new xs (Some Write) = TakesBetween old new (early_output s xs) (output s xs)
 WritesRest s old new xs (Some _) = ⊥
@@ -77,7 +78,7 @@ pub record Reads (s : Parameters) (bytes : List ℕ) (samples : List ℤ) (rest 
   pub legal : All (IsSample s) samples
 
 -- an encoding that held xs takes what the bytes spell
-pub record TakesAll (s : Parameters) (old new : Option (List ℕ)) (e : Encoding) (xs : List ℤ) (bytes : List ℕ) : Type 0 where
+pub record TakesAll (s : Parameters) (old new : Option Room) (e : Encoding) (xs : List ℤ) (bytes : List ℕ) : Type 0 where
   pub more : List ℤ
   pub rest : List ℕ
   pub reads : Reads s bytes more rest
@@ -85,7 +86,7 @@ pub record TakesAll (s : Parameters) (old new : Option (List ℕ)) (e : Encoding
   pub holds : IsEncodingOf s old new e (xs ++ more)
 
 -- it meets bytes that spell no sample
-pub record MeetsNoSpelling (s : Parameters) (old new : Option (List ℕ)) (e : Encoding) (xs : List ℤ) (bytes : List ℕ) : Type 0 where
+pub record MeetsNoSpelling (s : Parameters) (old new : Option Room) (e : Encoding) (xs : List ℤ) (bytes : List ℕ) : Type 0 where
   pub more : List ℤ
   pub rest : List ℕ
   pub reads : Reads s bytes more rest
@@ -93,7 +94,7 @@ pub record MeetsNoSpelling (s : Parameters) (old new : Option (List ℕ)) (e : E
   pub holds : IsEncodingOf s old new e (xs ++ more)
 
 -- the outlet fails behind one of the samples
-pub record MeetsFailure (s : Parameters) (old new : Option (List ℕ)) (e : Encoding) (xs : List ℤ) (bytes : List ℕ) : Type 0 where
+pub record MeetsFailure (s : Parameters) (old new : Option Room) (e : Encoding) (xs : List ℤ) (bytes : List ℕ) : Type 0 where
   pub more : List ℤ
   pub last : ℤ
   pub rest : List ℕ
@@ -101,7 +102,7 @@ pub record MeetsFailure (s : Parameters) (old new : Option (List ℕ)) (e : Enco
   pub fails : FailsAt s old new e (xs ++ more) last
 
 -- what becomes of the samples of some bytes, and of the outlet's failures
-abbrev pub Pushes : {T : Type 0} → Parameters → Option (List ℕ) → Option (List ℕ) → Encoding → List ℤ → List ℕ → Result T Fault → Type 0
+abbrev pub Pushes : {T : Type 0} → Parameters → Option Room → Option Room → Encoding → List ℤ → List ℕ → Result T Fault → Type 0
 Pushes s old new e xs bytes (Ok _) = TakesAll s old new e xs bytes
 Pushes s old new e xs bytes (Err (SampleOutOfRange index)) = MeetsNoSpelling s old new e xs bytes × (index ≡ e.samples)
 Pushes s old new e xs bytes (Err Write) = MeetsFailure s old new e xs bytes
@@ -113,7 +114,7 @@ PushFails old new (Err Write) = new ≡ old + 1
 PushFails old new (Err _) = new ≡ old
 
 -- Bytes were given so far: those of samples, whose code is written as far as it is whole, and the first bytes of one more.
-pub record EncodingProgress (s : Parameters) (left_old left taken_old taken : Option (List ℕ)) (e : Encoding) (given waiting : ℕ) (buffer : List ℕ) : Type 0 where
+pub record EncodingProgress (s : Parameters) (left_old left : Option (List ℕ)) (taken_old taken : Option Room) (e : Encoding) (given waiting : ℕ) (buffer : List ℕ) : Type 0 where
   pub bytes : List ℕ
   pub samples : List ℤ
   pub reads : Reads s bytes samples (take waiting buffer)

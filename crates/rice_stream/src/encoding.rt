@@ -1,7 +1,8 @@
 //! From samples to their code.
 ghost use Rattle.std.specs.Prelude.{◌≡◌, ℕ, ◌+◌, ◌-◌, ◌*◌, ◌%◌, ◌^◌, ◌<◌, ◌≤◌, List, [], ◌++◌, length, take, drop, All, Option, Some, OnOk, OnErr, IfOk, ℤ};
-ghost use Rattle.std.specs.Io.KnownBytes.{Appends, IsAtEnd, Keeps};
+ghost use Rattle.std.specs.Io.KnownBytes.{IsAtEnd, Keeps};
 ghost use Rattle.rice_bits.specs.device.Device.{CountsFailure};
+ghost use Rattle.rice_bits.specs.device.Outlet.{Room, Appends};
 ghost use Rattle.rice_bits.specs.Bits.{bits_in_bytes, padded_bits};
 ghost use Rattle.rice_samples.specs.Parameters.{Parameters, IsSample, width};
 ghost use Rattle.rice_stream.specs.Calls.{Call, Happens, Fails};
@@ -35,7 +36,7 @@ pub struct Encoding {
 impl Encoding {
     /// Returns an encoding that has taken no sample.
     fn new(setting: Setting) -> Self
-        ensures { (now : Option (List ℕ)) → IsEncodingOf setting now now result [] }
+        ensures { (now : Option Room) → IsEncodingOf setting now now result [] }
     {
         Encoding {
             coder: Coder::new(setting),
@@ -49,10 +50,10 @@ impl Encoding {
     /// Takes samples up to the one that completes a segment, or all of them, and returns their number.
     #[inline]
     fn take(&mut self, samples: &[i64]) -> usize
-        requires ready { (now : Option (List ℕ)) × CanTake now self.old samples.now }
+        requires ready { (now : Option Room) × CanTake now self.old samples.now }
         ensures count { result ≤ length samples.now }
         ensures some { 0 < length samples.now → 0 < result }
-        ensures took { (s : Parameters) (old now : Option (List ℕ)) (xs : List ℤ) →
+        ensures took { (s : Parameters) (old now : Option Room) (xs : List ℤ) →
             IsEncodingOf s old now self.old xs →
             TakesSamples s self.new xs (take result samples.now) }
     {
@@ -70,11 +71,11 @@ impl Encoding {
         requires some { 0 < length samples.now }
         requires writes { O.failed outlet.old + 1 < 2 ^ 64 }
         ensures count { IfOk result (λ n. (0 < n) × (n ≤ length samples.now)) }
-        ensures ok { IfOk result (λ n. (s : Parameters) (old : Option (List ℕ)) (xs : List ℤ) →
+        ensures ok { IfOk result (λ n. (s : Parameters) (old : Option Room) (xs : List ℤ) →
             IsEncodingOf s old (O.taken outlet.old) self.old xs →
             IsEncodingOf s old (O.taken outlet.new) self.new (xs ++ take n samples.now)) }
         ensures calm { OnOk result (O.failed outlet.new ≡ O.failed outlet.old) }
-        ensures err { OnErr result ((s : Parameters) (old : Option (List ℕ)) (xs : List ℤ) →
+        ensures err { OnErr result ((s : Parameters) (old : Option Room) (xs : List ℤ) →
             IsEncodingOf s old (O.taken outlet.old) self.old xs →
             FailsIn s old (O.taken outlet.new) self.new xs samples.now) }
         ensures raised { OnErr result (O.failed outlet.new ≡ O.failed outlet.old + 1) }
@@ -93,11 +94,11 @@ impl Encoding {
     fn push_each<O: Outlet>(&mut self, samples: &[i64], outlet: &mut O) -> Result<(), WriteFault>
         requires ready { CanTake (O.taken outlet.old) self.old samples.now }
         requires writes { O.failed outlet.old + 1 < 2 ^ 64 }
-        ensures ok { OnOk result ((s : Parameters) (old : Option (List ℕ)) (xs : List ℤ) →
+        ensures ok { OnOk result ((s : Parameters) (old : Option Room) (xs : List ℤ) →
             IsEncodingOf s old (O.taken outlet.old) self.old xs →
             IsEncodingOf s old (O.taken outlet.new) self.new (xs ++ samples.now)) }
         ensures calm { OnOk result (O.failed outlet.new ≡ O.failed outlet.old) }
-        ensures err { OnErr result ((s : Parameters) (old : Option (List ℕ)) (xs : List ℤ) →
+        ensures err { OnErr result ((s : Parameters) (old : Option Room) (xs : List ℤ) →
             IsEncodingOf s old (O.taken outlet.old) self.old xs →
             FailsIn s old (O.taken outlet.new) self.new xs samples.now) }
         ensures raised { OnErr result (O.failed outlet.new ≡ O.failed outlet.old + 1) }
@@ -121,12 +122,12 @@ impl Encoding {
         samples: &mut [i64],
         outlet: &mut O,
     ) -> Result<(), Fault>
-        requires ready { (old : Option (List ℕ)) × (xs : List ℤ) ×
+        requires ready { (old : Option Room) × (xs : List ℤ) ×
             IsEncodingOf setting.now old (O.taken outlet.old) self.old xs ×
             (length xs + length bytes.now ≤ 2 ^ 48) }
         requires room { length bytes.now ≤ length samples.old }
         requires writes { O.failed outlet.old + 1 < 2 ^ 64 }
-        ensures did { (old : Option (List ℕ)) (xs : List ℤ) →
+        ensures did { (old : Option Room) (xs : List ℤ) →
             IsEncodingOf setting.now old (O.taken outlet.old) self.old xs →
             Pushes setting.now old (O.taken outlet.new) self.new xs bytes.now result }
         ensures failures { PushFails (O.failed outlet.old) (O.failed outlet.new) result }
@@ -149,9 +150,9 @@ impl Encoding {
 
     /// Codes the samples that wait, fills the last byte, and returns the report with the rest of the code.
     fn close(mut self) -> (Report, BitSink<16432>)
-        requires { (s : Parameters) × (old : Option (List ℕ)) × (now : Option (List ℕ)) ×
+        requires { (s : Parameters) × (old : Option Room) × (now : Option Room) ×
             (xs : List ℤ) × IsEncodingOf s old now self xs × (length xs ≤ 2 ^ 48) }
-        ensures { (s : Parameters) (old now : Option (List ℕ)) (xs : List ℤ) →
+        ensures { (s : Parameters) (old now : Option Room) (xs : List ℤ) →
             IsEncodingOf s old now self xs →
             ReportsAll s result.0 xs × (padded_bits (code s xs) ≡ whole_part (complete_code s xs) ++
             result.1) }
@@ -168,10 +169,10 @@ impl Encoding {
 
     /// Codes the samples that wait, fills the last byte, and writes the rest of the code.
     fn finish<O: Outlet>(self, outlet: &mut O) -> Outcome
-        requires ready { (s : Parameters) × (old : Option (List ℕ)) × (xs : List ℤ) ×
+        requires ready { (s : Parameters) × (old : Option Room) × (xs : List ℤ) ×
             IsEncodingOf s old (O.taken outlet.old) self xs × (length xs ≤ 2 ^ 48) }
         requires writes { O.failed outlet.old + 1 < 2 ^ 64 }
-        ensures did { (s : Parameters) (old : Option (List ℕ)) (xs : List ℤ) →
+        ensures did { (s : Parameters) (old : Option Room) (xs : List ℤ) →
             IsEncodingOf s old (O.taken outlet.old) self xs →
             ReportsAll s result.report xs × WritesRest s old (O.taken outlet.new) xs result.fault }
         ensures failures { Fails result.fault 0 0 (O.failed outlet.old) (O.failed outlet.new) }

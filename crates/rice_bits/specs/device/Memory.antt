@@ -1,5 +1,6 @@
 -- What a contract sees of the devices over memory.
-use Rattle.std.specs.Prelude.{ℕ, ◌-◌, min, length, List, take, Option, None, Some}
+use Rattle.std.specs.Prelude.{ℕ, ◌-◌, min, length, List, take, drop, Option, None, Some}
+use Rattle.rice_bits.specs.device.Outlet.{Room}
 use Rattle.rice_bits.specs.declared.device.memory.MemoryIn.{MemoryIn}
 use Rattle.rice_bits.specs.declared.device.memory.ZeroIn.{ZeroIn}
 use Rattle.rice_bits.specs.declared.device.memory.MemoryOut.{MemoryOut}
@@ -36,6 +37,10 @@ memory_in_failures s = s.failures
 -- the bytes taken so far
 abbrev pub memory_taken : MemoryOut → List ℕ
 memory_taken s = take s.at s.room.now
+
+-- the room that the outlet fills, with the bytes taken so far in front
+abbrev pub memory_state : MemoryOut → Room
+memory_state s = record { borrow = s.room.ghost_name; bytes = take s.at s.room.now; rest = drop s.at s.room.now }
 
 -- the most bytes that a call takes
 abbrev pub memory_out_piece : MemoryOut → ℕ

@@ -1,7 +1,8 @@
 //! Devices over memory. Those over slices can be made to work in small pieces, and to fail at a place.
 ghost use Rattle.std.specs.Prelude.{◌≡◌, ◌+◌, ◌-◌, ◌^◌, ◌<◌, ◌≤◌, ◌↔◌, length, drop, take, min, [], Some, IsErr, IsOk, IfOk, OnErr};
-ghost use Rattle.std.specs.Io.KnownBytes.{Appends, Consumes, IsAtEnd, Keeps};
+ghost use Rattle.std.specs.Io.KnownBytes.{Consumes, IsAtEnd, Keeps};
 ghost use Rattle.rice_bits.specs.device.Device.{CountsFailure};
+ghost use Rattle.rice_bits.specs.device.Outlet as outlet;
 
 use crate::device::{Intake, Outlet, ReadFault, WriteFault};
 
@@ -96,13 +97,14 @@ pub struct MemoryOut<'a> {
 }
 
 impl<'a> MemoryOut<'a> {
-    ghost use Rattle.rice_bits.specs.device.Memory.{memory_taken, memory_out_piece, memory_room, memory_out_failures, at_most};
+    ghost use Rattle.rice_bits.specs.device.Memory.{memory_taken, memory_state, memory_out_piece, memory_room, memory_out_failures, at_most};
 
     /// Returns an outlet that takes at most `piece` bytes a call. No call passes the place `fail_at` or the end of `room`, and each
     /// call that finds the outlet there fails.
     pub fn new(room: &'a mut [u8], piece: usize, fail_at: Option<usize>) -> Self
         requires { 0 < piece }
         ensures bytes { memory_taken result ≡ [] }
+        ensures state { memory_state result ≡ outlet.begun room.entry.ghost_name room.old }
         ensures piece { memory_out_piece result ≡ piece }
         ensures room { memory_room result ≡ at_most fail_at (length room.old) }
         ensures failures { memory_out_failures result ≡ 0 }
@@ -129,9 +131,9 @@ impl<'a> MemoryOut<'a> {
 }
 
 impl Outlet for MemoryOut<'_> {
-    ghost use Rattle.rice_bits.specs.device.Memory.{memory_taken, memory_out_piece, memory_room, memory_takes, memory_out_failures};
+    ghost use Rattle.rice_bits.specs.device.Memory.{memory_state, memory_out_piece, memory_room, memory_takes, memory_out_failures};
 
-    ghost taken = { λ s. Some (take s.at s.room.now) };
+    ghost taken = { λ s. Some (memory_state s) };
 
     ghost failed = { λ s. s.failures };
 
@@ -139,8 +141,8 @@ impl Outlet for MemoryOut<'_> {
         requires some { 0 < length bytes.now }
         requires countable { memory_out_failures self.old + 1 < 2 ^ 64 }
         ensures count { IfOk result (λ m. (0 < m) × (m ≤ length bytes.now)) }
-        ensures bytes { IfOk result (λ m. Appends (Some (memory_taken self.old)) (Some (memory_taken self.new)) (take m bytes.now)) }
-        ensures err { OnErr result (Keeps (Some (memory_taken self.old)) (Some (memory_taken self.new))) }
+        ensures bytes { IfOk result (λ m. outlet.Appends (Some (memory_state self.old)) (Some (memory_state self.new)) (take m bytes.now)) }
+        ensures err { OnErr result (outlet.Keeps (Some (memory_state self.old)) (Some (memory_state self.new))) }
         ensures failures { CountsFailure (memory_out_failures self.old) (memory_out_failures self.new) result }
 
         // It fails where no room is left, and nowhere else.

@@ -71,10 +71,13 @@ impl<W: Write> FromWriter<W> {
 }
 
 impl<W: Write> Outlet for FromWriter<W> {
-    ghost taken = { λ s. W.contents s.writer };
+    ghost use Rattle.rice_bits.specs.device.Outlet.{known};
+
+    ghost taken = { λ s. known (W.contents s.writer) };
 
     ghost failed = { λ s. s.failures };
 
+    #[tactic(auto, using(crate::proofs::lemmas::device::OutletLemmas::known_appends, crate::proofs::lemmas::device::OutletLemmas::known_keeps))]
     fn put(&mut self, bytes: &[u8]) -> Result<usize, WriteFault> {
         match self.writer.write(bytes) {
             Ok(count) if count > 0 => Ok(count),

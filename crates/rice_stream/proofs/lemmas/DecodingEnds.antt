@@ -1,8 +1,10 @@
 -- How decoding ends.
 use Rattle.std.proofs.Common.{◌≡◌, ◌≢◌, ℕ, zero, suc, ◌+◌, ◌-◌, ◌*◌, ◌/◌, ◌%◌, ◌<◌, ◌≤◌, ◌==◌, ◌⊎◌, cond, min, Bool, true, false, List, [], ◌∷◌, ◌++◌, length, take, refl, ap, arith, sym, ◌∙◌, subst, append_assoc, append-nil, length-append, Option, Some, None, ℤ, pos, inl, inr}
 use Rattle.std.specs.Prelude.{◌^◌, Err, sum_by, All, Contains, IfSome}
-use Rattle.std.specs.Io.KnownBytes.{Appends, Consumes, IsAtEnd}
-use Rattle.std.proofs.KnownBytes.{Appends-nil, Appends-trans, Consumes-nil, Consumes-trans}
+use Rattle.std.specs.Io.KnownBytes.{Consumes, IsAtEnd}
+use Rattle.rice_bits.specs.device.Outlet.{Room, Appends}
+use Rattle.std.proofs.KnownBytes.{Consumes-nil, Consumes-trans}
+use Rattle.rice_bits.proofs.lemmas.device.OutletLemmas.{Appends-nil, Appends-trans}
 use Rattle.std.proofs.Math.Nat.{mod-lt, mod-eq_of_lt, mod_self, mul-div_cancel_left, mul-le-mul_left}
 use Rattle.std.proofs.lemmas.Bool.{cases_lt}
 use Rattle.std.proofs.lemmas.Bool.Decides.{nat_tests}
@@ -109,7 +111,7 @@ pub record Grows (steps tick old_taken new_taken wanted run run_new size : ℕ) 
   pub few : size + run_new * size ≤ run * size + 456 * (new_taken - old_taken)
 
 -- a block more is written
-pub progress_with_block : {I : Type 0} {s : Parameters} {asked : Option ℕ} {start : Reader I} {out_old out out_new : Option (List ℕ)} {p q : DecoderState} {r new : Reader I} {steps steps_new written : ℕ} {xs : List ℤ} (count steps_next : ℕ) → IsLegal s
+pub progress_with_block : {I : Type 0} {s : Parameters} {asked : Option ℕ} {start : Reader I} {out_old out out_new : Option Room} {p q : DecoderState} {r new : Reader I} {steps steps_new written : ℕ} {xs : List ℤ} (count steps_next : ℕ) → IsLegal s
     → (runs : DecodingProgress s asked start out_old out p r steps written) → count ≡ wanted_of asked written s.block → wanted_of asked written s.block ≢ 0
     → Gains s r new steps steps_new runs.front runs.sets runs.blocks q.run runs.given xs → q ≡ state_after_block p xs q.run
     → Grows steps steps_new r.taken new.taken count p.run q.run s.block → steps_next ≡ steps_new + count
@@ -168,18 +170,18 @@ progress_with_block {s = s} {asked = asked} {start = start} {out_old = out_old} 
     so_many w le part cut = omega (arith, runs.has_written.count, ap length cut, length-append (cut_to s asked 0 runs.given) (cut_to s asked runs.blocks xs), part, length-take-le w xs le)
 
 -- the call and what it says
-abbrev pub Ends : Parameters → Option ℕ → Option (List ℕ) → Option (List ℕ) → Option (List ℕ) → Option (List ℕ) → Report → Option Fault → Type 0
+abbrev pub Ends : Parameters → Option ℕ → Option (List ℕ) → Option (List ℕ) → Option Room → Option Room → Report → Option Fault → Type 0
 Ends s asked left_old left_new out_old out r fault = (c : Call) × Happens left_old left_new out_old out c × Decodes s asked c r fault
 
 -- What is known of a call where it ends, whatever its fault: what the intake gave, the samples, the numbers and the steps.
-record Exits (s : Parameters) (asked : Option ℕ) (start left out_old out : Option (List ℕ)) (rep : Report) (bytes written : List ℕ) : Type 0 where
+record Exits (s : Parameters) (asked : Option ℕ) (start left : Option (List ℕ)) (out_old out : Option Room) (rep : Report) (bytes written : List ℕ) : Type 0 where
   pub gave : Consumes start left bytes
   pub took : Appends out_old out written
   pub ahead : length bytes ≤ rep.bits / 8 + most_at_once
   pub steps : CountsSteps s (bits_of bytes) rep
 
 -- the call ends so
-exit : {s : Parameters} {asked : Option ℕ} {start left out_old out : Option (List ℕ)} {rep : Report} {f : Option Fault} {bytes written : List ℕ} (left_new : Option (List ℕ)) (ys : List ℤ) (ending : Ending) (fault : Option Fault)
+exit : {s : Parameters} {asked : Option ℕ} {start left : Option (List ℕ)} {out_old out : Option Room} {rep : Report} {f : Option Fault} {bytes written : List ℕ} (left_new : Option (List ℕ)) (ys : List ℤ) (ending : Ending) (fault : Option Fault)
     → Exits s asked start left out_old out rep bytes written → left_new ≡ left → f ≡ fault → (fault ≢ Some TooLong → length bytes ≤ 2 ^ 49)
     → EndsDecoding s asked fault (record { given = bytes; left = left; written = written }) rep ys ending → Ends s asked start left_new out_old out rep f
 exit {s = s} {asked = asked} {start = start} {left = left} {out_old = out_old} {out = out} {rep = rep} {f = f} {bytes = bytes} {written = written} left_new ys ending fault e there is limit ends =
@@ -200,11 +202,11 @@ within {waiting = waiting} {front = front} read few limit =
     (omega (arith, read.count), omega (arith, read.count))
 
 -- the coded data sets so far are wanted
-begun_wanted : {I : Type 0} {s : Parameters} {asked : Option ℕ} {start : Reader I} {out_old out : Option (List ℕ)} {p : DecoderState} {r : Reader I} {steps written : ℕ} → (runs : DecodingProgress s asked start out_old out p r steps written) → (i : ℕ) → i < runs.begun → IsWanted s asked i
+begun_wanted : {I : Type 0} {s : Parameters} {asked : Option ℕ} {start : Reader I} {out_old out : Option Room} {p : DecoderState} {r : Reader I} {steps written : ℕ} → (runs : DecodingProgress s asked start out_old out p r steps written) → (i : ℕ) → i < runs.begun → IsWanted s asked i
 begun_wanted runs i lt = runs.has_written.wanted i (omega (arith, lt, runs.before))
 
 -- no run goes on
-at_set : {I : Type 0} {s : Parameters} {asked : Option ℕ} {start : Reader I} {out_old out : Option (List ℕ)} {p : DecoderState} {r : Reader I} {steps written : ℕ} → (runs : DecodingProgress s asked start out_old out p r steps written) → p.run ≡ 0 → DecodedSoFar s runs.front runs.begun runs.blocks 0 runs.given
+at_set : {I : Type 0} {s : Parameters} {asked : Option ℕ} {start : Reader I} {out_old out : Option Room} {p : DecoderState} {r : Reader I} {steps written : ℕ} → (runs : DecodingProgress s asked start out_old out p r steps written) → p.run ≡ 0 → DecodedSoFar s runs.front runs.begun runs.blocks 0 runs.given
 at_set {s = s} runs none = subst (λ (n : ℕ). DecodedSoFar s runs.front runs.begun runs.blocks n runs.given) none runs.decoded
 
 -- the steps where decoding ends with a whole coded data set
@@ -250,7 +252,7 @@ last_steps {s = s} {sets = sets} {front = front} last waiting bytes ending steps
     }
 
 -- the samples that were asked for are reached
-pub reached_ends : {I : Type 0} {s : Parameters} {asked : Option ℕ} {start : Reader I} {out_old out : Option (List ℕ)} {p : DecoderState} {r : Reader I} {steps written : ℕ} {rep : Report} {f : Option Fault} {left : Option (List ℕ)} {failed : ℕ} → IsLegal s
+pub reached_ends : {I : Type 0} {s : Parameters} {asked : Option ℕ} {start : Reader I} {out_old out : Option Room} {p : DecoderState} {r : Reader I} {steps written : ℕ} {rep : Report} {f : Option Fault} {left : Option (List ℕ)} {failed : ℕ} → IsLegal s
     → (runs : DecodingProgress s asked start out_old out p r steps written) → wanted_of asked written s.block ≡ 0 → Reports rep f left failed r written steps None → Ends s asked start.left left out_old out rep f
 reached_ends {s = s} {asked = None} legal runs none tells = absurd (let j : 8 ≤ s.block = grind (arith, legal.block) in omega arith)
 reached_ends {s = s} {asked = Some n} {p = p} {r = r} {rep = rep} {left = left} legal runs none tells =
@@ -316,7 +318,7 @@ record RunsDry {I : Type 0} (s : Parameters) (asked : Option ℕ) (start : Reade
   pub count : written ≡ length ys
   pub sets : (more : List ℕ) → CountsSteps s (bits_of (read.bytes ++ more)) rep
 
-runs_dry : {I : Type 0} {s : Parameters} {asked : Option ℕ} {start : Reader I} {out_old out : Option (List ℕ)} {p : DecoderState} {r new : Reader I} {steps steps_new written : ℕ} {rep : Report} {f fault : Option Fault} {left : Option (List ℕ)} {failed : ℕ} {why : BitFault} (blank : Bool)
+runs_dry : {I : Type 0} {s : Parameters} {asked : Option ℕ} {start : Reader I} {out_old out : Option Room} {p : DecoderState} {r new : Reader I} {steps steps_new written : ℕ} {rep : Report} {f fault : Option Fault} {left : Option (List ℕ)} {failed : ℕ} {why : BitFault} (blank : Bool)
     → (runs : DecodingProgress s asked start out_old out p r steps written) → wanted_of asked written s.block ≢ 0 → p.run ≡ 0 → (cut : SetCut (with_mark r) new s runs.blocks why) → is_blank cut.bits ≡ blank
     → AreCounted steps steps_new r.taken new.taken → Reports rep f left failed new written steps_new fault → RunsDry s asked start cut.stops.middle new rep (cut_to s asked 0 runs.given) written blank
 runs_dry {s = s} {asked = asked} {p = p} {r = r} {new = new} {steps = steps} {steps_new = steps_new} {written = written} {rep = rep} blank runs some none cut told counted tells =
@@ -347,7 +349,7 @@ runs_dry {s = s} {asked = asked} {p = p} {r = r} {new = new} {steps = steps} {st
     }
 
 -- no 1 is left, or no data set begins with what is left, where the intake has ended
-pub ended_ends : {I : Type 0} {s : Parameters} {asked : Option ℕ} {start : Reader I} {out_old out : Option (List ℕ)} {p : DecoderState} {r new : Reader I} {steps steps_new written : ℕ} {rep : Report} {f : Option Fault} {left : Option (List ℕ)} {failed : ℕ} (blank : Bool)
+pub ended_ends : {I : Type 0} {s : Parameters} {asked : Option ℕ} {start : Reader I} {out_old out : Option Room} {p : DecoderState} {r new : Reader I} {steps steps_new written : ℕ} {rep : Report} {f : Option Fault} {left : Option (List ℕ)} {failed : ℕ} (blank : Bool)
     → (runs : DecodingProgress s asked start out_old out p r steps written) → wanted_of asked written s.block ≢ 0 → p.run ≡ 0 → SetEnds (with_mark r) new s runs.blocks blank
     → AreCounted steps steps_new r.taken new.taken → Reports rep f left failed new written steps_new (fault_at_end asked blank written) → Ends s asked start.left left out_old out rep f
 unfolding ending_of
@@ -371,7 +373,7 @@ ended_ends {s = s} {asked = asked} {start = start} {new = new} {written = writte
     by_fault false asked d end n = (d, inl refl, end, n)
 
 -- the intake failed
-read_ends : {I : Type 0} {s : Parameters} {asked : Option ℕ} {start : Reader I} {out_old out : Option (List ℕ)} {p : DecoderState} {r new : Reader I} {steps steps_new written : ℕ} {rep : Report} {f : Option Fault} {left : Option (List ℕ)} {failed : ℕ}
+read_ends : {I : Type 0} {s : Parameters} {asked : Option ℕ} {start : Reader I} {out_old out : Option Room} {p : DecoderState} {r new : Reader I} {steps steps_new written : ℕ} {rep : Report} {f : Option Fault} {left : Option (List ℕ)} {failed : ℕ}
     → (runs : DecodingProgress s asked start out_old out p r steps written) → wanted_of asked written s.block ≢ 0 → p.run ≡ 0 → SetCut (with_mark r) new s runs.blocks bit_faults.Read
     → AreCounted steps steps_new r.taken new.taken → Reports rep f left failed new written steps_new (Some Read) → Ends s asked start.left left out_old out rep f
 read_ends {s = s} {asked = asked} {start = start} {new = new} {rep = rep} {left = left} runs some none cut counted tells =
@@ -388,7 +390,7 @@ read_ends {s = s} {asked = asked} {start = start} {new = new} {rep = rep} {left 
     ((dry.used, dry.decoded, record { written = refl; samples = dry.samples; bits = dry.bits }), run_out blank)
 
 -- the byte past the limit was given
-long_ends : {I : Type 0} {s : Parameters} {asked : Option ℕ} {start : Reader I} {out_old out : Option (List ℕ)} {p : DecoderState} {r new : Reader I} {steps steps_new written : ℕ} {rep : Report} {f : Option Fault} {left : Option (List ℕ)} {failed : ℕ}
+long_ends : {I : Type 0} {s : Parameters} {asked : Option ℕ} {start : Reader I} {out_old out : Option Room} {p : DecoderState} {r new : Reader I} {steps steps_new written : ℕ} {rep : Report} {f : Option Fault} {left : Option (List ℕ)} {failed : ℕ}
     → (runs : DecodingProgress s asked start out_old out p r steps written) → wanted_of asked written s.block ≢ 0 → p.run ≡ 0 → SetCut (with_mark r) new s runs.blocks bit_faults.TooLong
     → AreCounted steps steps_new r.taken new.taken → Reports rep f left failed new written steps_new (Some TooLong) → Ends s asked start.left left out_old out rep f
 long_ends {s = s} {asked = asked} {start = start} {new = new} {rep = rep} {left = left} runs some none cut counted tells =
@@ -407,7 +409,7 @@ long_ends {s = s} {asked = asked} {start = start} {new = new} {rep = rep} {left 
     ((read.bytes, record { last = byte; split = refl; full = full }, (dry.used, dry.decoded, record { written = refl; samples = dry.samples; bits = dry.bits })), run_out blank)
 
 -- a coded data set was refused
-refused_ends : {I : Type 0} {s : Parameters} {asked : Option ℕ} {start : Reader I} {out_old out : Option (List ℕ)} {p : DecoderState} {r new : Reader I} {steps steps_new written : ℕ} {rep : Report} {f : Option Fault} {left : Option (List ℕ)} {failed : ℕ} (P : CodedDataSet → Type 0) (ending : Ending) (fault : Option Fault)
+refused_ends : {I : Type 0} {s : Parameters} {asked : Option ℕ} {start : Reader I} {out_old out : Option Room} {p : DecoderState} {r new : Reader I} {steps steps_new written : ℕ} {rep : Report} {f : Option Fault} {left : Option (List ℕ)} {failed : ℕ} (P : CodedDataSet → Type 0) (ending : Ending) (fault : Option Fault)
     → fault ≢ Some TooLong → IsLegal s → (runs : DecodingProgress s asked start out_old out p r steps written) → wanted_of asked written s.block ≢ 0 → p.run ≡ 0 → SetRefused (with_mark r) new s runs.blocks P
     → ((asked : Option ℕ) (rest : List Bool) (used : ℕ) → IsWanted s asked runs.blocks → BeginsUnsound s runs.blocks rest used P → EndsWith s asked runs.blocks rest ending used)
     → AreCounted steps steps_new r.taken new.taken → Reports rep f left failed new written steps_new fault
@@ -448,7 +450,7 @@ take_same (suc n) [] = refl
 take_same (suc n) (x ∷ xs) = ap (λ l. x ∷ l) (take_same n xs)
 
 -- the outlet failed in a block
-pub write_ends : {I : Type 0} {s : Parameters} {asked : Option ℕ} {start : Reader I} {out_old out out_new : Option (List ℕ)} {p : DecoderState} {r new : Reader I} {steps steps_new written : ℕ} {xs : List ℤ} {rep : Report} {f : Option Fault} {left : Option (List ℕ)} {failed : ℕ} (count : ℕ) (q : DecoderState) → IsLegal s
+pub write_ends : {I : Type 0} {s : Parameters} {asked : Option ℕ} {start : Reader I} {out_old out out_new : Option Room} {p : DecoderState} {r new : Reader I} {steps steps_new written : ℕ} {xs : List ℤ} {rep : Report} {f : Option Fault} {left : Option (List ℕ)} {failed : ℕ} (count : ℕ) (q : DecoderState) → IsLegal s
     → (runs : DecodingProgress s asked start out_old out p r steps written) → count ≡ wanted_of asked written s.block → wanted_of asked written s.block ≢ 0
     → Gains s r new steps steps_new runs.front runs.sets runs.blocks q.run runs.given xs → TakesPart out out_new (spellings s (take count xs))
     → Reports rep f left failed new written steps_new (Some Write) → Ends s asked start.left left out_old out_new rep f
@@ -511,7 +513,7 @@ write_ends {s = s} {asked = asked} {out_old = out_old} {out = out} {out_new = ou
     exactly (Some m) = let zs = runs.given ++ xs in let n : length (take (m - s.block * 0) zs) - s.block * 0 ≡ length (take (m - s.block * 0) zs) = omega arith in ap (λ m. take m zs) n ∙ take_same (m - s.block * 0) zs
 
 -- the decoder refuses
-pub refusal_ends : {I : Type 0} {s : Parameters} {asked : Option ℕ} {start : Reader I} {out_old out : Option (List ℕ)} {p : DecoderState} {r new : Reader I} {steps steps_new written : ℕ} {rep : Report} {f : Option Fault} {left : Option (List ℕ)} {failed : ℕ} (fault : CodeFault) → IsLegal s
+pub refusal_ends : {I : Type 0} {s : Parameters} {asked : Option ℕ} {start : Reader I} {out_old out : Option Room} {p : DecoderState} {r new : Reader I} {steps steps_new written : ℕ} {rep : Report} {f : Option Fault} {left : Option (List ℕ)} {failed : ℕ} (fault : CodeFault) → IsLegal s
     → (runs : DecodingProgress s asked start out_old out p r steps written) → wanted_of asked written s.block ≢ 0 → (p.run ≡ 0) × StopsBy (with_mark r) new s runs.blocks (Err fault)
     → AreCounted steps steps_new r.taken new.taken → Reports rep f left failed new written steps_new (Some (refusal_fault fault written s.block)) → Ends s asked start.left left out_old out rep f
 refusal_ends faults.CodeEnds legal runs some stops counted tells = ended_ends false runs some stops.0 stops.1 counted tells
@@ -536,13 +538,13 @@ reported_fails {f = f} {fault = fault} {reads_now = reads_now} {failed = failed}
     subst (λ (f : Option Fault). Fails f reads failed writes writes_new) (sym is)
     (subst (λ (n : ℕ). Fails fault reads n writes writes_new) (sym there) (subst (λ (n : ℕ). Fails fault reads reads_now writes n) (sym same) fails))
 
-pub refusal_fails : {I : Type 0} {s : Parameters} {asked : Option ℕ} {start : Reader I} {out_old out : Option (List ℕ)} {p : DecoderState} {r new : Reader I} {steps steps_new written writes writes_new : ℕ} {rep : Report} {f : Option Fault} {left : Option (List ℕ)} {failed : ℕ} (fault : CodeFault)
+pub refusal_fails : {I : Type 0} {s : Parameters} {asked : Option ℕ} {start : Reader I} {out_old out : Option Room} {p : DecoderState} {r new : Reader I} {steps steps_new written writes writes_new : ℕ} {rep : Report} {f : Option Fault} {left : Option (List ℕ)} {failed : ℕ} (fault : CodeFault)
     → (runs : DecodingProgress s asked start out_old out p r steps written) → (p.run ≡ 0) × StopsBy (with_mark r) new s runs.blocks (Err fault) → writes_new ≡ writes
     → Reports rep f left failed new written steps_new (Some (refusal_fault fault written s.block)) → Fails f start.failed failed writes writes_new
 refusal_fails {s = s} {r = r} {new = new} {written = written} {writes = writes} fault runs stops same tells =
     reported_fails _ tells.fault_is tells.failed_is same (stops_fail s runs.blocks r new _ written s.block writes fault stops.1 runs.reads)
 
-pub done_fails : {I : Type 0} {s : Parameters} {asked : Option ℕ} {start : Reader I} {out_old out : Option (List ℕ)} {p : DecoderState} {r new : Reader I} {steps steps_new written writes writes_new : ℕ} {rep : Report} {f : Option Fault} {left : Option (List ℕ)} {failed : ℕ}
+pub done_fails : {I : Type 0} {s : Parameters} {asked : Option ℕ} {start : Reader I} {out_old out : Option Room} {p : DecoderState} {r new : Reader I} {steps steps_new written writes writes_new : ℕ} {rep : Report} {f : Option Fault} {left : Option (List ℕ)} {failed : ℕ}
     → (runs : DecodingProgress s asked start out_old out p r steps written) → (p.run ≡ 0) × SetEnds (with_mark r) new s runs.blocks true → writes_new ≡ writes
     → Reports rep f left failed new written steps_new (ended_fault asked written) → Fails f start.failed failed writes writes_new
 done_fails {asked = asked} {start = start} {new = new} {written = written} {writes = writes} runs ends same tells =
@@ -553,7 +555,7 @@ done_fails {asked = asked} {start = start} {new = new} {written = written} {writ
     by_count (Some n) e = (e, refl)
 
 -- nothing is decoded yet
-pub progress_at_start : {I : Type 0} {s : Parameters} {intake : I} {left : Option (List ℕ)} {failed : ℕ} {p : DecoderState} {r : Reader I} {steps : ℕ} (asked : Option ℕ) (out : Option (List ℕ)) → IsLegal s
+pub progress_at_start : {I : Type 0} {s : Parameters} {intake : I} {left : Option (List ℕ)} {failed : ℕ} {p : DecoderState} {r : Reader I} {steps : ℕ} (asked : Option ℕ) (out : Option Room) → IsLegal s
     → p ≡ record { setting = s; block = 0; before = pos 0; run = 0; stopped = None } → r ≡ new_reader intake left failed → steps ≡ 0 → DecodingProgress s asked (new_reader intake left failed) out out p r steps 0
 progress_at_start {I = I} {s = s} {intake = intake} {left = left} {failed = failed} {p = p} {steps = steps} asked out legal ep er es =
     let run = ap (λ p. p.run) ep in

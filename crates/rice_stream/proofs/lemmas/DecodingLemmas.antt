@@ -30,6 +30,7 @@ use Rattle.rice_bits.specs.declared.read.fault.BitFault.{BitFault}
 use Rattle.rice_stream.specs.Decodes.{wanted_of}
 use Rattle.std.proofs.lemmas.List.{length-replicate}
 use Rattle.std.proofs.lemmas.List.Sums.{sum_by_push}
+use Rattle.rice_bits.specs.device.Outlet.{Room}
 use Rattle.rice_stream.specs.DecodingState.{DecodedSoFar, Gains, DecodingProgress, HasSets}
 use Rattle.rice_stream.proofs.lemmas.SetsRead.{sets-push}
 use Rattle.rice_stream.proofs.lemmas.DecodedSamples.{decoded_with_set, decoded_with_run_block}
@@ -181,7 +182,7 @@ gains_run {I = I} s r new steps steps_new b c begun run run_new p front sets giv
       counted = omega (arith, same_steps, ap (λ (v : Reader I). v.taken) same);
     }
 
-pub gains : {I : Type 0} {s : Parameters} {asked : Option ℕ} {start : Reader I} {out_old out : Option (List ℕ)} {p q : DecoderState} {r new : Reader I} {steps steps_new written : ℕ} {xs : List ℤ} → IsLegal s
+pub gains : {I : Type 0} {s : Parameters} {asked : Option ℕ} {start : Reader I} {out_old out : Option Room} {p q : DecoderState} {r new : Reader I} {steps steps_new written : ℕ} {xs : List ℤ} → IsLegal s
     → (runs : DecodingProgress s asked start out_old out p r steps written) → Advances r new steps steps_new p q xs (Ok Block)
     → Gains s r new steps steps_new runs.front runs.sets runs.blocks q.run runs.given xs
 gains {s = s} {p = p} {q = q} {r = r} {new = new} {steps = steps} {steps_new = steps_new} {xs = xs} legal runs a =
@@ -218,7 +219,7 @@ ends_at : {I : Type 0} (old new : Reader I) (s t : Parameters) (b c : ℕ) (blan
 ends_at old new s t b c blank some setting here h = ends_there old new s b c blank (same_place s b c some here) (subst (λ (t : Parameters). SetEnds old new t c blank) setting h)
 
 -- where the decoder stops, it is in no run
-pub stopped : {I : Type 0} {s : Parameters} {asked : Option ℕ} {start : Reader I} {out_old out : Option (List ℕ)} {p q : DecoderState} {r new : Reader I} {steps steps_new written : ℕ} {xs : List ℤ} {fault : CodeFault} → IsLegal s
+pub stopped : {I : Type 0} {s : Parameters} {asked : Option ℕ} {start : Reader I} {out_old out : Option Room} {p q : DecoderState} {r new : Reader I} {steps steps_new written : ℕ} {xs : List ℤ} {fault : CodeFault} → IsLegal s
     → (runs : DecodingProgress s asked start out_old out p r steps written) → Advances r new steps steps_new p q xs (Err fault)
     → (p.run ≡ 0) × StopsBy (with_mark r) new s runs.blocks (Err fault)
 stopped {s = s} {p = p} {r = r} {new = new} {fault = fault} legal runs a =
@@ -228,7 +229,7 @@ stopped {s = s} {p = p} {r = r} {new = new} {fault = fault} legal runs a =
       | inr none ↦ (none, stops_here (with_mark r) new s p.setting runs.blocks p.block fault legal.interval_from at.setting at.here (a.reads at.going none).0)
     ]
 
-pub done : {I : Type 0} {s : Parameters} {asked : Option ℕ} {start : Reader I} {out_old out : Option (List ℕ)} {p q : DecoderState} {r new : Reader I} {steps steps_new written : ℕ} {xs : List ℤ} → IsLegal s
+pub done : {I : Type 0} {s : Parameters} {asked : Option ℕ} {start : Reader I} {out_old out : Option Room} {p q : DecoderState} {r new : Reader I} {steps steps_new written : ℕ} {xs : List ℤ} → IsLegal s
     → (runs : DecodingProgress s asked start out_old out p r steps written) → Advances r new steps steps_new p q xs (Ok Done)
     → (p.run ≡ 0) × SetEnds (with_mark r) new s runs.blocks true
 done {s = s} {p = p} {r = r} {new = new} legal runs a =

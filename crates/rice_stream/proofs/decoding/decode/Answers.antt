@@ -1,6 +1,6 @@
 use Rattle.std.proofs.Common.{arith, ◌≡◌, ◌+◌, ◌-◌, ◌*◌, ◌≤◌, List, ℕ, take, ap, refl, sym, ◌∙◌, subst, true, Some}
 use Rattle.std.specs.Prelude.{Ok}
-use Rattle.std.specs.Io.KnownBytes.{Appends}
+use Rattle.rice_bits.specs.device.Outlet.{Appends}
 use Rattle.rice_samples.specs.bytes.Spelling.{spellings}
 use Rattle.rice_stream.specs.Decodes.{wanted_of, refusal_fault}
 use Rattle.rice_stream.specs.Writes.{TakesPart}

@@ -1,7 +1,7 @@
 use Rattle.std.proofs.Common.{arith, ◌≡◌, ◌+◌, ap, sym, ◌∙◌, subst, length, take, drop, take-append-drop, length-drop, ◌-◌}
 use Rattle.std.proofs.Math.Seq.{take-length, take-add}
-use Rattle.std.specs.Io.KnownBytes.{Appends}
-use Rattle.std.proofs.KnownBytes.{Appends-trans, Appends-kept}
+use Rattle.rice_bits.specs.device.Outlet.{Appends}
+use Rattle.rice_bits.proofs.lemmas.device.OutletLemmas.{Appends-trans, Appends-kept}
 use Rattle.rice_stream.proofs.write.write_all.Goals as goal
 
 pub loop-done-preserved : goal.loop-done-preserved

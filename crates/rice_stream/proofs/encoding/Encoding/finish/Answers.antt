@@ -1,6 +1,6 @@
 use Rattle.std.proofs.Common.{subst, sym, List, ℕ}
-use Rattle.std.specs.Io.KnownBytes.{Appends}
-use Rattle.std.proofs.KnownBytes.{Appends-trans}
+use Rattle.rice_bits.specs.device.Outlet.{Appends}
+use Rattle.rice_bits.proofs.lemmas.device.OutletLemmas.{Appends-trans}
 use Rattle.rice_bits.specs.Bits.{padded_bits, whole_bytes}
 use Rattle.rice_code.specs.code.Code.{code, output, early_output}
 use Rattle.rice_code.specs.encode.Coder.{complete_code}

@@ -1,6 +1,6 @@
 use Rattle.std.proofs.Common.{arith, ◌≡◌, ◌≤◌, ◌∙◌, refl, ap, sym, subst, drop, length, List, [], ℕ}
-use Rattle.std.specs.Io.KnownBytes.{Appends}
-use Rattle.std.proofs.KnownBytes.{Appends-nil}
+use Rattle.rice_bits.specs.device.Outlet.{Appends}
+use Rattle.rice_bits.proofs.lemmas.device.OutletLemmas.{Appends-nil}
 use Rattle.rice_bits.specs.Bits.{bits_in_bytes, whole_bytes}
 use Rattle.rice_samples.specs.Parameters.{IsLegal}
 use Rattle.rice_code.specs.code.Code.{code, code_bits}

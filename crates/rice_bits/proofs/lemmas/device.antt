@@ -1,0 +1,2 @@
+-- What outlets have taken.
+pub mod OutletLemmas

@@ -1,0 +1,50 @@
+-- What outlets have taken: nothing, one thing after another, and nothing more.
+use Rattle.std.proofs.Common.{◌≡◌, ℕ, ◌+◌, List, [], ◌++◌, length, drop, take, Option, Some, None, refl, sym, ◌∙◌, ap, subst, arith, ◌≤◌}
+use Rattle.std.proofs.lemmas.List.{append-nil, append_assoc, length-append, drop-drop, length-take-le}
+use Rattle.std.proofs.Math.Seq.{drop-nil}
+use Rattle.std.proofs.lemmas.Slice.{take-put_mid, drop-put_mid}
+use borrow.Rule.Slice.PartMut.{put_mid}
+use Rattle.std.specs.Io.KnownBytes as bytes
+use Rattle.rice_bits.specs.device.Outlet.{Room, known, Fills, Appends, Keeps}
+
+pub Appends-nil : (a : Option Room) → Appends a a []
+Appends-nil None = tt
+Appends-nil (Some x) = record { borrow = refl; bytes = sym (append-nil x.bytes); rest = refl }
+
+pub Appends-trans : (a b c : Option Room) (bs cs : List ℕ) → Appends a b bs → Appends b c cs → Appends a c (bs ++ cs)
+Appends-trans None b c bs cs p q = tt
+Appends-trans (Some x) None c bs cs p q = absurd p
+Appends-trans (Some x) (Some y) None bs cs p q = absurd q
+Appends-trans (Some x) (Some y) (Some z) bs cs p q = record {
+  borrow = q.borrow ∙ p.borrow;
+  bytes = q.bytes ∙ ap (λ l. l ++ cs) p.bytes ∙ append_assoc x.bytes bs cs;
+  rest = q.rest ∙ ap (λ l. drop (length cs) l) p.rest ∙ drop-drop (length cs) (length bs) x.rest ∙ ap (λ n. drop n x.rest) (sym (length-append bs cs));
+}
+
+pub Appends-kept : (a b c : Option Room) (bs : List ℕ) → Appends a b bs → Keeps b c → Appends a c bs
+Appends-kept None b c bs p q = tt
+Appends-kept (Some x) None c bs p q = absurd p
+Appends-kept (Some x) (Some y) None bs p q = absurd q
+Appends-kept (Some x) (Some y) (Some z) bs p q = subst (λ r. Fills x r bs) (sym q) p
+
+-- what a writer that tells its bytes appends, the outlet over it has taken
+pub known_appends : (a b : Option (List ℕ)) (bs : List ℕ) → bytes.Appends a b bs → Appends (known a) (known b) bs
+known_appends None b bs p = tt
+known_appends (Some x) None bs p = absurd p
+known_appends (Some x) (Some y) bs p = record { borrow = refl; bytes = p; rest = sym (drop-nil (length bs)) }
+
+pub known_keeps : (a b : Option (List ℕ)) → bytes.Keeps a b → Keeps (known a) (known b)
+known_keeps None b p = tt
+known_keeps (Some x) None p = absurd p
+known_keeps (Some x) (Some y) p = ap (λ l. record { borrow = 0; bytes = l; rest = [] }) p
+
+-- The front of some bytes, put over as many bytes of a memory at a place, is taken by an outlet that stands there.
+pub put_fills : (borrow at m k : ℕ) (memory new bytes : List ℕ) → at ≤ length memory → new ≡ take m bytes → m ≤ length bytes → k ≡ m →
+    Fills (record { borrow = borrow; bytes = take at memory; rest = drop at memory }) (record { borrow = borrow; bytes = take (at + m) (put_mid at k memory new); rest = drop (at + m) (put_mid at k memory new) }) (take m bytes)
+put_fills borrow at m k memory new bytes fits is few same =
+    let len : length new ≡ m = ap length is ∙ length-take-le m bytes few in
+    record {
+      borrow = refl;
+      bytes = take-put_mid at k memory new (at + m) (omega (arith, len)) fits ∙ ap (λ l. take at memory ++ l) is;
+      rest = drop-put_mid at k memory new (at + m) (omega (arith, same)) fits (len ∙ sym same) ∙ sym (drop-drop m at memory) ∙ ap (λ n. drop n (drop at memory)) (sym (length-take-le m bytes few));
+    }
