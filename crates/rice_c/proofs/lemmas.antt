@@ -1,0 +1,4 @@
+-- The lemmas of the proofs, by what they speak of.
+pub mod Passing
+pub mod Returning
+pub mod Room

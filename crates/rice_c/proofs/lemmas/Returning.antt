@@ -1,0 +1,53 @@
+-- What was encoded comes back, and room suffices.
+use Rattle.std.proofs.Common.{◌≡◌, ◌≢◌, ℕ, ◌*◌, ◌/◌, ◌≤◌, List, [], ◌++◌, length, take, drop, Option, Some, None, inl, inr, ◌⊎◌, sym, ◌∙◌, ap, subst, arith, append-nil}
+use Rattle.std.specs.Io.KnownBytes.{Consumes, IsAtEnd}
+use Rattle.std.proofs.Math.Seq.{take-append_seam}
+use Rattle.rice_samples.specs.Parameters.{Parameters, IsLegal, width}
+use Rattle.rice_samples.specs.bytes.Spelling.{spellings}
+use Rattle.rice_stream.proofs.lemmas.SpellingLengths.{length-spellings}
+use Rattle.rice_stream.proofs.lemmas.ReturnedBytes as stream
+use Rattle.rice_stream.specs.Encodes.{Encodes}
+use Rattle.rice_stream.specs.Decodes.{Decodes}
+use Rattle.rice_stream.specs.declared.outcome.Fault.{Fault}
+use Rattle.rice_stream.specs.declared.outcome.Fault.TheVariants.{Read, Write}
+use Rattle.rice_c.specs.declared.report.RiceReport.{RiceReport}
+use Rattle.rice_c.specs.Calls.{EncodesInto, DecodesInto, StandsInFront}
+use Rattle.rice_c.specs.Laws.{ReturnsBytes, RoomSuffices}
+use Rattle.rice_c.specs.Reports.{report_of}
+use Rattle.rice_c.specs.Rooms.{code_room}
+use Rattle.rice_c.specs.Statuses.{number_of, fault_status}
+use Rattle.rice_c.proofs.lemmas.Room.{encode_wants, decode_wants, write_of, none_of}
+
+pub encode_suffices : (s : Parameters) (input old new : List ℕ) (r : RiceReport) (status : ℕ) → IsLegal s → EncodesInto s input old new r status → code_room s (length input / width s) ≤ length old → status ≢ 9
+encode_suffices s input old new r status legal e room full =
+    let write : e.fault ≡ Some Write = write_of e.fault (sym e.tells.status ∙ full) in
+    let wants = encode_wants s e.call (report_of r) input e.passes.left legal e.passes.gave (subst (λ (f : Option Fault). Encodes s e.call (report_of r) f) write e.encodes) in
+    omega (arith, wants, e.passes.full write, room)
+
+pub decode_suffices : (s : Parameters) (count : ℕ) (input old new : List ℕ) (r : RiceReport) (status : ℕ) → DecodesInto s (Some count) input old new r status → count * width s ≤ length old → status ≢ 9
+decode_suffices s count input old new r status d room full =
+    let write : d.fault ≡ Some Write = write_of d.fault (sym d.tells.status ∙ full) in
+    let wants = decode_wants s count d.call (report_of r) (subst (λ (f : Option Fault). Decodes s (Some count) d.call (report_of r) f) write d.decodes) in
+    omega (arith, wants, d.passes.full write, room)
+
+pub room_suffices : RoomSuffices
+room_suffices s legal input old new r status = (encode_suffices s input old new r status legal, λ count. decode_suffices s count input old new r status)
+
+pub returns_bytes : ReturnsBytes
+returns_bytes s legal samples code_old code old new encoded decoded status e d room =
+    let none : e.fault ≡ None = none_of e.fault (sym e.tells.status) e.passes.reads in
+    let all = subst (λ (f : Option Fault). Encodes s e.call (report_of encoded) f) none e.encodes in
+    let at_end : e.passes.left ≡ [] = subst (λ (l : Option (List ℕ)). IsAtEnd l) e.passes.left_is all.ends.1 in
+    let given : samples ≡ e.call.given = e.passes.gave ∙ ap (λ l. e.call.given ++ l) at_end ∙ append-nil e.call.given in
+    let spelled : e.call.given ≡ spellings s all.samples = all.ends.0.whole ∙ ap (λ l. spellings s all.samples ++ l) all.ends.0.stops ∙ append-nil (spellings s all.samples) in
+    let size : length samples ≡ encoded.samples * width s = omega (arith, ap length given, ap length spelled, length-spellings s all.samples, ap (λ n. width s * n) all.ends.2.reports.samples) in
+    let front : take encoded.written code ≡ e.call.written = ap (λ n. take n code) e.tells.written ∙ ap (take (length e.call.written)) e.passes.front ∙ take-append_seam e.call.written (drop (length e.call.written) code_old) in
+    let gave : Consumes (Some e.call.written) d.call.left d.call.given = subst (λ (l : Option (List ℕ)). Consumes (Some e.call.written) l d.call.given) (sym d.passes.left_is) (sym front ∙ d.passes.gave) in
+    by_end none given size (stream.returns_bytes s legal e.call d.call (report_of encoded) (report_of decoded) d.fault all gave d.decodes)
+  where
+    by_end : e.fault ≡ None → samples ≡ e.call.given → length samples ≡ encoded.samples * width s → ((d.fault ≡ None) × (d.call.written ≡ e.call.given)) ⊎ ((d.fault ≡ Some Read) ⊎ (d.fault ≡ Some Write)) →
+        (status ≡ 0) × StandsInFront samples old new
+    by_end none given size (inl h) = (d.tells.status ∙ ap (λ (f : Option Fault). number_of (fault_status f)) h.0, d.passes.front ∙ ap (λ l. l ++ drop (length l) old) (h.1 ∙ sym given))
+    by_end none given size (inr (inl h)) = absurd (d.passes.reads h)
+    by_end none given size (inr (inr h)) =
+        absurd (let wants = decode_wants s encoded.samples d.call (report_of decoded) (subst (λ (f : Option Fault). Decodes s (Some encoded.samples) d.call (report_of decoded) f) h d.decodes) in omega (arith, wants, d.passes.full h, room, size))

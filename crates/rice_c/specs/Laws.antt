@@ -1,0 +1,21 @@
+-- What joins the calls that encode and decode.
+use Rattle.std.specs.Prelude.{◌≡◌, ◌≢◌, ℕ, ◌*◌, ◌/◌, ◌≤◌, List, length, take, Some}
+use Rattle.rice_samples.specs.Parameters.{Parameters, IsLegal, width}
+use Rattle.rice_c.specs.declared.report.RiceReport.{RiceReport}
+use Rattle.rice_c.specs.declared.status.Status.TheVariants.{Done, NoRoom}
+use Rattle.rice_c.specs.Calls.{EncodesInto, DecodesInto, StandsInFront}
+use Rattle.rice_c.specs.Rooms.{code_room}
+use Rattle.rice_c.specs.Statuses.{number_of}
+
+-- A call that decodes is given what a call that encoded all has written, the number of its samples, and room for their bytes.
+-- Then it writes these bytes, and all is done.
+abbrev pub ReturnsBytes : Type 0
+ReturnsBytes = (s : Parameters) → IsLegal s → (samples code_old code old new : List ℕ) (encoded decoded : RiceReport) (status : ℕ) →
+    EncodesInto s samples code_old code encoded (number_of Done) → DecodesInto s (Some encoded.samples) (take encoded.written code) old new decoded status → length samples ≤ length old →
+    (status ≡ number_of Done) × StandsInFront samples old new
+
+-- With room for as much as the samples can take a call does not want for it.
+abbrev pub RoomSuffices : Type 0
+RoomSuffices = (s : Parameters) → IsLegal s → (input old new : List ℕ) (r : RiceReport) (status : ℕ) →
+    (EncodesInto s input old new r status → code_room s (length input / width s) ≤ length old → status ≢ number_of NoRoom)
+    × ((count : ℕ) → DecodesInto s (Some count) input old new r status → count * width s ≤ length old → status ≢ number_of NoRoom)

@@ -1,0 +1,6 @@
+pub mod Asked
+pub mod Calls
+pub mod Laws
+pub mod Reports
+pub mod Rooms
+pub mod Statuses

@@ -1,0 +1,133 @@
+//! Encoding and decoding, from memory to memory.
+ghost use Rattle.std.specs.Prelude.{◌≡◌, ◌≢◌, ℕ, ◌*◌, ◌/◌, ◌^◌, ◌<◌, ◌≤◌, length, IfOk, IfErr, Option, Some, None};
+ghost use Rattle.rice_bits.specs.device.Slice.{slice_left, slice_state, slice_failures};
+ghost use Rattle.rice_samples.specs.Parameters.{width};
+ghost use Rattle.rice_samples.specs.Settings.{setting_of};
+ghost use Rattle.rice_stream.specs.Calls.{Call, Happens, Fails};
+ghost use Rattle.rice_stream.specs.Encodes.{Encodes, EncodesWithin};
+ghost use Rattle.rice_stream.specs.Decodes.{Decodes, DecodesWithin};
+ghost use Rattle.rice_c.specs.declared.status.Status.TheVariants.{NoRoom};
+ghost use Rattle.rice_c.specs.Asked.{asked};
+ghost use Rattle.rice_c.specs.Calls.{EncodesInto, DecodesInto, Refuses};
+ghost use Rattle.rice_c.specs.Rooms.{code_room};
+ghost use Rattle.rice_c.specs.Statuses.{number_of};
+
+use crate::report::RiceReport;
+use crate::setting::RiceSetting;
+use rice_bits::{SliceIn, SliceOut};
+use rice_samples::Setting;
+use rice_stream::{Outcome, decode, encode};
+
+/// Encodes the samples that the bytes of `samples` spell, and writes their code to the front of `code`.
+#[unsafe(no_mangle)]
+pub extern "C" fn rice_encode(
+    setting: &RiceSetting,
+    samples: &[u8],
+    code: &mut [u8],
+    report: &mut RiceReport,
+) -> u32
+    ensures ok { IfOk (setting_of (asked setting.now)) (λ s. EncodesInto s samples.now code.old code.new report.new result) }
+    ensures refused { IfErr (setting_of (asked setting.now)) (λ fault. Refuses fault code.old code.new report.new result) }
+    ensures room { IfOk (setting_of (asked setting.now)) (λ s. code_room s (length samples.now / width s) ≤ length code.old →
+        result ≢ number_of NoRoom) }
+{
+    match setting.legal() {
+        Ok(setting) => encode_into(&setting, samples, code, report),
+        Err(fault) => report.refuse(fault),
+    }
+}
+
+/// Encodes from memory to memory.
+fn encode_into(setting: &Setting, samples: &[u8], code: &mut [u8], report: &mut RiceReport) -> u32
+    ensures { EncodesInto setting.now samples.now code.old code.new report.new result }
+{
+    let mut intake = SliceIn::new(samples);
+    let mut outlet = SliceOut::new(code);
+    let outcome = encode_slice(setting, &mut intake, &mut outlet);
+    let written = outlet.taken();
+    report.tell(&outcome, written)
+}
+
+/// Encodes from a slice to a slice.
+fn encode_slice(setting: &Setting, intake: &mut SliceIn<'_>, outlet: &mut SliceOut<'_>) -> Outcome
+    requires { slice_failures outlet.old ≡ 0 }
+    ensures borrow { (slice_state outlet.new).borrow ≡ (slice_state outlet.old).borrow }
+    ensures call { (c : Call) ×
+        Happens (Some (slice_left intake.old)) (Some (slice_left intake.new)) (Some (slice_state outlet.old)) (Some (slice_state outlet.new)) c ×
+        Encodes setting.now c result.report result.fault }
+    ensures failures { Fails result.fault 0 0 0 (slice_failures outlet.new) }
+    ensures within { EncodesWithin setting.now result.report }
+{
+    encode(setting, intake, outlet)
+}
+
+/// Decodes the first `count` samples of the code `code`, and writes their bytes to the front of `samples`.
+#[unsafe(no_mangle)]
+pub extern "C" fn rice_decode(
+    setting: &RiceSetting,
+    count: u64,
+    code: &[u8],
+    samples: &mut [u8],
+    report: &mut RiceReport,
+) -> u32
+    ensures ok { IfOk (setting_of (asked setting.now)) (λ s. DecodesInto s (Some count) code.now samples.old samples.new report.new result) }
+    ensures refused { IfErr (setting_of (asked setting.now)) (λ fault. Refuses fault samples.old samples.new report.new result) }
+    ensures room { IfOk (setting_of (asked setting.now)) (λ s. count * width s ≤ length samples.old → result ≢ number_of NoRoom) }
+{
+    match setting.legal() {
+        Ok(setting) => decode_into(&setting, Some(count), code, samples, report),
+        Err(fault) => report.refuse(fault),
+    }
+}
+
+/// Decodes all samples of the code `code`, and writes their bytes to the front of `samples`.
+#[unsafe(no_mangle)]
+pub extern "C" fn rice_decode_all(
+    setting: &RiceSetting,
+    code: &[u8],
+    samples: &mut [u8],
+    report: &mut RiceReport,
+) -> u32
+    ensures ok { IfOk (setting_of (asked setting.now)) (λ s. DecodesInto s None code.now samples.old samples.new report.new result) }
+    ensures refused { IfErr (setting_of (asked setting.now)) (λ fault. Refuses fault samples.old samples.new report.new result) }
+{
+    match setting.legal() {
+        Ok(setting) => decode_into(&setting, None, code, samples, report),
+        Err(fault) => report.refuse(fault),
+    }
+}
+
+/// Decodes from memory to memory: as many samples as are asked for, or all.
+fn decode_into(
+    setting: &Setting,
+    asked: Option<u64>,
+    code: &[u8],
+    samples: &mut [u8],
+    report: &mut RiceReport,
+) -> u32
+    ensures { DecodesInto setting.now asked code.now samples.old samples.new report.new result }
+{
+    let intake = SliceIn::new(code);
+    let mut outlet = SliceOut::new(samples);
+    let (outcome, _) = decode_slice(setting, asked, intake, &mut outlet);
+    let written = outlet.taken();
+    report.tell(&outcome, written)
+}
+
+/// Decodes from a slice to a slice.
+fn decode_slice<'a>(
+    setting: &Setting,
+    asked: Option<u64>,
+    intake: SliceIn<'a>,
+    outlet: &mut SliceOut<'_>,
+) -> (Outcome, SliceIn<'a>)
+    requires { slice_failures outlet.old ≡ 0 }
+    ensures borrow { (slice_state outlet.new).borrow ≡ (slice_state outlet.old).borrow }
+    ensures call { (c : Call) ×
+        Happens (Some (slice_left intake.entry)) (Some (slice_left result.1)) (Some (slice_state outlet.old)) (Some (slice_state outlet.new)) c ×
+        Decodes setting.now asked c result.0.report result.0.fault }
+    ensures failures { Fails result.0.fault 0 0 0 (slice_failures outlet.new) }
+    ensures within { DecodesWithin asked result.0.report }
+{
+    decode(setting, asked, intake, outlet)
+}

@@ -1,0 +1,10 @@
+//! `encode` and `decode` for C, over memory of the caller's own: `include/rice.h` declares what is here, and says it in words.
+//!
+//! Nothing here allocates, and nothing is kept from call to call.
+#![tactic(auto)]
+
+pub mod coding;
+pub mod laws;
+pub mod report;
+pub mod setting;
+pub mod status;

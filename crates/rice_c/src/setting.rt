@@ -1,0 +1,95 @@
+//! The setting as C gives it, and what follows from it alone.
+ghost use Rattle.std.specs.Prelude.{◌≡◌, ℕ, ◌^◌, ◌<◌, ◌≤◌, IsOk, IfOk, IfErr};
+ghost use Rattle.rice_samples.specs.Settings.{setting_of};
+ghost use Rattle.rice_samples.specs.Parameters.{IsLegal, width};
+ghost use Rattle.rice_c.specs.Rooms.{code_room};
+ghost use Rattle.rice_c.specs.Statuses.{number_of, check_of, refusal_status};
+
+use crate::status::{Status, refusal_status};
+use rice_code::padded_bound;
+use rice_samples::{Setting, SettingFault};
+
+/// What a coder and a decoder are set to, in C's own layout. Any numbers may stand in it.
+#[repr(C)]
+#[derive(Clone, Copy)]
+pub struct RiceSetting {
+    /// The bits of a sample, 1 to 32.
+    pub bits: u32,
+    /// The samples of a block: 8, 16, 32 or 64.
+    pub block: u32,
+    /// The blocks of a reference interval, 1 to 4,096.
+    pub interval: u32,
+    /// Whether samples are signed.
+    pub is_signed: bool,
+    /// Whether the most significant byte of a sample comes first.
+    pub msb: bool,
+    /// Whether samples of 17 to 24 bits take three bytes in place of four.
+    pub three: bool,
+    /// Whether samples are predicted, and their residuals coded.
+    pub preprocess: bool,
+    /// Whether the code of each interval is filled to a byte.
+    pub pad: bool,
+}
+
+impl RiceSetting {
+    ghost use Rattle.rice_c.specs.Asked.{asked};
+
+    /// Returns the setting that is asked for, or why it is refused.
+    pub fn legal(&self) -> Result<Setting, SettingFault>
+        ensures answer { result ≡ setting_of (asked self.now) }
+        ensures legal { IfOk result IsLegal }
+    {
+        Setting::new(
+            self.bits,
+            self.block,
+            self.interval,
+            self.is_signed,
+            self.msb,
+            self.three,
+            self.preprocess,
+            self.pad,
+        )
+    }
+}
+
+ghost use Rattle.rice_c.specs.Asked.{asked};
+
+/// Returns the number of the status of this setting: that of `Status::Done` if it is legal.
+#[unsafe(no_mangle)]
+pub extern "C" fn rice_check(setting: &RiceSetting) -> u32
+    ensures { result ≡ number_of (check_of (asked setting.now)) }
+{
+    match setting.legal() {
+        Ok(_) => Status::Done.number(),
+        Err(fault) => refusal_status(fault).number(),
+    }
+}
+
+/// Returns the number of bytes of a sample, 1 to 4, or 0 if the setting is not legal.
+#[unsafe(no_mangle)]
+pub extern "C" fn rice_sample_width(setting: &RiceSetting) -> u32
+    ensures ok { IfOk (setting_of (asked setting.now)) (λ s. result ≡ width s) }
+    ensures refused { IfErr (setting_of (asked setting.now)) (λ fault. result ≡ 0) }
+{
+    match setting.legal() {
+        Ok(setting) => setting.width(),
+        Err(_) => 0,
+    }
+}
+
+/// Returns a number of bytes that the code of `samples` samples never passes, with all padding, or 0 if the setting is
+/// not legal, or if there are more than 2^48 samples, which no call encodes.
+#[unsafe(no_mangle)]
+pub extern "C" fn rice_code_room(setting: &RiceSetting, samples: u64) -> u64
+    ensures ok { IfOk (setting_of (asked setting.now)) (λ s. samples ≤ 2 ^ 48 → result ≡ code_room s samples) }
+    ensures many { 2 ^ 48 < samples → result ≡ 0 }
+    ensures refused { IfErr (setting_of (asked setting.now)) (λ fault. result ≡ 0) }
+{
+    if samples > 1 << 48 {
+        return 0;
+    }
+    match setting.legal() {
+        Ok(setting) => padded_bound(&setting, samples).div_ceil(8),
+        Err(_) => 0,
+    }
+}

@@ -1,0 +1,100 @@
+//! How a call ended, as C sees it.
+ghost use Rattle.std.specs.Prelude.{◌≡◌, ◌≢◌, ℕ, Some, Option};
+ghost use Rattle.rice_stream.specs.declared.outcome.Fault.TheVariants.{Read};
+ghost use Rattle.rice_c.specs.Statuses.{refusal_status as refusal_status_of, fault_status as fault_status_of, fault_place as fault_place_of};
+
+use rice_samples::SettingFault;
+use rice_stream::Fault;
+
+/// How a call ended. C sees its number.
+#[derive(Clone, Copy, Debug, PartialEq, Eq)]
+pub enum Status {
+    /// All was done.
+    Done,
+    /// The bits per sample are not 1 to 32.
+    BadBits,
+    /// The block size is none of the four.
+    BadBlock,
+    /// The reference interval is not 1 to 4,096 blocks.
+    BadInterval,
+    /// The bytes of a sample spell no sample.
+    SampleOutOfRange,
+    /// The input ends inside a sample.
+    InputCut,
+    /// The code ends inside a coded data set, or before all samples that were asked for.
+    CodeEnds,
+    /// A run passes the end of its segment.
+    RunPastSegment,
+    /// A residual does not fit, or the value at a reference place is not 0.
+    ResidualTooLarge,
+    /// The output is full.
+    NoRoom,
+    /// The input is longer than a call takes.
+    TooLong,
+}
+
+impl Status {
+    ghost use Rattle.rice_c.specs.Statuses.{number_of};
+
+    /// Returns the number that C sees.
+    pub fn number(self) -> u32
+        ensures { result ≡ number_of self }
+    {
+        match self {
+            Status::Done => 0,
+            Status::BadBits => 1,
+            Status::BadBlock => 2,
+            Status::BadInterval => 3,
+            Status::SampleOutOfRange => 4,
+            Status::InputCut => 5,
+            Status::CodeEnds => 6,
+            Status::RunPastSegment => 7,
+            Status::ResidualTooLarge => 8,
+            Status::NoRoom => 9,
+            Status::TooLong => 10,
+        }
+    }
+}
+
+/// Returns the status of a setting that is refused.
+pub fn refusal_status(fault: SettingFault) -> Status
+    ensures { result ≡ refusal_status_of fault }
+{
+    match fault {
+        SettingFault::BadBits => Status::BadBits,
+        SettingFault::BadBlock => Status::BadBlock,
+        SettingFault::BadInterval => Status::BadInterval,
+    }
+}
+
+/// Returns the status of a call that stopped with this fault, or with none. A slice is read without faults.
+pub fn fault_status(fault: Option<Fault>) -> Status
+    requires { fault ≢ Some Read }
+    ensures { result ≡ fault_status_of fault }
+{
+    match fault {
+        None => Status::Done,
+        Some(Fault::Read) => unreachable!(),
+        Some(Fault::Write) => Status::NoRoom,
+        Some(Fault::TooLong) => Status::TooLong,
+        Some(Fault::SampleOutOfRange { .. }) => Status::SampleOutOfRange,
+        Some(Fault::SampleCut { .. }) => Status::InputCut,
+        Some(Fault::CodeEnds { .. }) => Status::CodeEnds,
+        Some(Fault::RunPastSegment { .. }) => Status::RunPastSegment,
+        Some(Fault::ResidualTooLarge { .. }) => Status::ResidualTooLarge,
+    }
+}
+
+/// Returns the number that the fault names: of a sample, a block, or all samples; 0 where it names none.
+pub fn fault_place(fault: Option<Fault>) -> u64
+    ensures { result ≡ fault_place_of fault }
+{
+    match fault {
+        Some(Fault::SampleOutOfRange { index }) => index,
+        Some(Fault::SampleCut { index }) => index,
+        Some(Fault::CodeEnds { samples }) => samples,
+        Some(Fault::RunPastSegment { block }) => block,
+        Some(Fault::ResidualTooLarge { block }) => block,
+        _ => 0,
+    }
+}
