@@ -1,34 +1,61 @@
 PREFIX ?= /usr/local
 RANDOM_INPUTS ?= 100000
+LIBRARY_CODES ?= 1000000
 
 .DEFAULT_GOAL := help
-.PHONY: help aec install uninstall test rows hostile interop refused-memory installed recipes documents bench
+.PHONY: help aec library install install-command install-library uninstall test rows hostile interop refused-memory installed recipes documents bench examples stack hostile-library bench-library
 
 help:
 	@echo 'make aec                    prove and build the program, as ./aec'
-	@echo 'make install PREFIX=DIR     install it as DIR/bin/aec (/usr/local), with its manual page and completions'
-	@echo 'make uninstall PREFIX=DIR   remove what that installed'
+	@echo 'make library                prove and build the library for C, as ./librice.a and ./librice.so'
+	@echo 'make install PREFIX=DIR     install both in DIR (/usr/local), with manual page, completions, header and rice.pc'
+	@echo 'make install-command, make install-library   install one of them'
+	@echo 'make uninstall PREFIX=DIR   remove what these installed'
 	@echo 'make test                   prove everything from nothing, and run all tests'
 	@echo 'make rows                   run the cases of scripts/rows.txt with ./aec'
 	@echo 'make hostile                run ./aec on damaged and random codes, and on files and streams that fail'
 	@echo "make interop                exchange codes between ./aec and Debian's aec (libaec-tools)"
 	@echo 'make refused-memory         refuse each request for memory of ./aec in turn'
-	@echo 'make installed              install ./aec into a folder, and try its manual page and completions there'
+	@echo 'make installed              install ./aec and the library into a folder, and try them there'
 	@echo 'make recipes                run the recipes of docs/COOKBOOK.md with ./aec'
 	@echo 'make documents              try the links, commands, options and messages of the documents with ./aec'
 	@echo "make bench                  compare the speed of ./aec and Debian's aec"
+	@echo 'make examples               build and run examples/c and examples/python, with sanitizers and under valgrind'
+	@echo 'make stack                  measure the stack that a call of the library takes'
+	@echo 'make hostile-library        give the library damaged and random codes, and too little room'
+	@echo "make bench-library          compare the speed of the library and Debian's libaec (libaec-dev)"
 
 aec:
 	cd crates/aec_tool && rt run -- --help > /dev/null
 	cp crates/aec_tool/out/aec_tool aec
 
-install: aec
+# The object needs nothing but memcpy, memmove and memset, so the shared library is the static one.
+library:
+	cd crates/rice_c && rt lib > /dev/null
+	cp crates/rice_c/out/librice_c.a librice.a
+	$(CC) -shared -Wl,-soname,librice.so.0 -Wl,--whole-archive librice.a -Wl,--no-whole-archive -o librice.so
+
+install: install-command install-library
+
+install-command: aec
 	install -D -m 755 aec $(DESTDIR)$(PREFIX)/bin/aec
 	install -D -m 644 man/aec.1 $(DESTDIR)$(PREFIX)/share/man/man1/aec.1
 	install -D -m 644 completions/aec.bash $(DESTDIR)$(PREFIX)/share/bash-completion/completions/aec
 	install -D -m 644 completions/_aec $(DESTDIR)$(PREFIX)/share/zsh/site-functions/_aec
 
+install-library: library
+	install -D -m 644 librice.a $(DESTDIR)$(PREFIX)/lib/librice.a
+	install -D -m 755 librice.so $(DESTDIR)$(PREFIX)/lib/librice.so.0
+	ln -sf librice.so.0 $(DESTDIR)$(PREFIX)/lib/librice.so
+	install -D -m 644 include/rice.h $(DESTDIR)$(PREFIX)/include/rice.h
+	install -d $(DESTDIR)$(PREFIX)/lib/pkgconfig
+	sed 's|@PREFIX@|$(PREFIX)|' include/rice.pc.in > $(DESTDIR)$(PREFIX)/lib/pkgconfig/rice.pc
+
 uninstall:
+	rm -f $(DESTDIR)$(PREFIX)/lib/librice.a
+	rm -f $(DESTDIR)$(PREFIX)/lib/librice.so $(DESTDIR)$(PREFIX)/lib/librice.so.0
+	rm -f $(DESTDIR)$(PREFIX)/include/rice.h
+	rm -f $(DESTDIR)$(PREFIX)/lib/pkgconfig/rice.pc
 	rm -f $(DESTDIR)$(PREFIX)/bin/aec
 	rm -f $(DESTDIR)$(PREFIX)/share/man/man1/aec.1
 	rm -f $(DESTDIR)$(PREFIX)/share/bash-completion/completions/aec
@@ -50,8 +77,8 @@ interop: aec
 refused-memory: aec
 	scripts/refused_memory ./aec
 
-installed: aec
-	scripts/installed ./aec
+installed: aec library
+	scripts/installed ./aec librice.a
 
 recipes: aec
 	scripts/recipes.py ./aec
@@ -61,3 +88,15 @@ documents: aec
 
 bench: aec
 	scripts/bench
+
+examples: library
+	scripts/examples librice.a librice.so
+
+stack: library
+	scripts/stack librice.a
+
+hostile-library: library aec
+	scripts/hostile_library librice.a ./aec $(LIBRARY_CODES)
+
+bench-library: library
+	scripts/bench_library librice.a

@@ -149,6 +149,7 @@ impl Encoding {
     }
 
     /// Codes the samples that wait, fills the last byte, and returns the report with the rest of the code.
+    #[inline]
     fn close(mut self) -> (Report, BitSink<16432>)
         requires { (s : Parameters) × (old : Option Room) × (now : Option Room) ×
             (xs : List ℤ) × IsEncodingOf s old now self xs × (length xs ≤ 2 ^ 48) }
@@ -168,6 +169,7 @@ impl Encoding {
     }
 
     /// Codes the samples that wait, fills the last byte, and writes the rest of the code.
+    #[inline]
     fn finish<O: Outlet>(self, outlet: &mut O) -> Outcome
         requires ready { (s : Parameters) × (old : Option Room) × (xs : List ℤ) ×
             IsEncodingOf s old (O.taken outlet.old) self xs × (length xs ≤ 2 ^ 48) }

@@ -1,0 +1,122 @@
+/*
+ * rice.h - lossless compression of samples by the adaptive Rice coder of CCSDS 121.0-B-3.
+ *
+ * The library encodes and decodes from memory to memory. It allocates nothing, keeps nothing between calls, calls nothing
+ * but memcpy, memmove and memset, and writes nowhere but in the memory that it is given, whatever the bytes are.
+ * Calls may run in several threads at once, each over memory of its own.
+ *
+ * What a caller has to keep, and nothing checks:
+ *   - a pointer to a setting or a report points to one, and each bool of a setting is true or false;
+ *   - a pointer to bytes and its length name memory that is there, at most PTRDIFF_MAX bytes, and holds values: before a call
+ *     the output has been written once, by memset for example. With the length 0 the pointer may be anything but NULL
+ *     or dangling past its object's end; NULL with the length 0 is allowed;
+ *   - the output, the report, the input and the setting don't overlap;
+ *   - the stack has the room stated below.
+ */
+#ifndef RICE_H
+#define RICE_H
+
+#include <stdbool.h>
+#include <stddef.h>
+#include <stdint.h>
+
+#ifdef __cplusplus
+extern "C" {
+#endif
+
+/* What coder and decoder are set to. The code doesn't say it: decode with the setting that encoded. */
+struct rice_setting {
+    uint32_t bits;     /* the bits of a sample, 1 to 32 */
+    uint32_t block;    /* the samples of a block: 8, 16, 32 or 64 */
+    uint32_t interval; /* the blocks of a reference interval, 1 to 4096 */
+    bool is_signed;    /* samples are signed */
+    bool msb;          /* the most significant byte of a sample comes first */
+    bool three;        /* samples of 17 to 24 bits take three bytes, not four */
+    bool preprocess;   /* samples are predicted; set it unless they were predicted before */
+    bool pad;          /* the code of each reference interval is filled to a byte */
+};
+
+/* How a call ended. Where one is named by a number, the number stands in `place` of the report, and counts from 0. */
+enum rice_status {
+    RICE_DONE = 0,               /* all was done */
+    RICE_BAD_BITS = 1,           /* the bits of a sample are not 1 to 32 */
+    RICE_BAD_BLOCK = 2,          /* the block size is not 8, 16, 32 or 64 */
+    RICE_BAD_INTERVAL = 3,       /* the interval is not 1 to 4096 */
+    RICE_SAMPLE_OUT_OF_RANGE = 4, /* the bytes of sample `place` are no sample: unused high bits must be 0, or equal its sign */
+    RICE_INPUT_CUT = 5,          /* the input ends inside sample `place` */
+    RICE_CODE_ENDS = 6,          /* the code ends after `place` samples, inside a block or before all that were asked for */
+    RICE_RUN_PAST_SEGMENT = 7,   /* the code is damaged: the run of zeros at block `place` is too long */
+    RICE_RESIDUAL_TOO_LARGE = 8, /* the code is damaged: a value of block `place` doesn't fit */
+    RICE_NO_ROOM = 9,            /* the output is full, and all of it is written */
+    RICE_TOO_LONG = 10           /* the input has more than 2^48 bytes of samples, or 2^49 of code */
+};
+
+/* What a call has done. */
+struct rice_report {
+    uint64_t samples; /* the samples that were encoded, or decoded and written */
+    uint64_t bits;    /* the bits of their code, without padding */
+    uint64_t steps;   /* the work: a step is a bit, a sample, or a look at a residual */
+    uint64_t written; /* the bytes written, which are the first of the output; those behind them are as they were */
+    uint64_t place;   /* the number that the status names, or 0 */
+};
+
+/* RICE_DONE if the setting is legal, or else what is wrong with it: RICE_BAD_BITS, RICE_BAD_BLOCK or RICE_BAD_INTERVAL. */
+uint32_t rice_check(const struct rice_setting *setting);
+
+/* The bytes of a sample, 1 to 4, or 0 if the setting is not legal: up to 8 bits take one byte, up to 16 two, up to 24 three if
+ * `three` is set, and more four. */
+uint32_t rice_sample_width(const struct rice_setting *setting);
+
+/* So many bytes are always enough for the code of so many samples, whatever they are. 0 if the setting is not legal, or
+ * there are more than 2^48 samples. */
+uint64_t rice_code_room(const struct rice_setting *setting, uint64_t samples);
+
+/* Encodes the samples at `samples`, which has `samples_len` bytes, to `code`, which has `code_room` bytes. Returns a
+ * status of enum rice_status:
+ *   RICE_DONE                 the code of all samples is written: `report->written` bytes.
+ *   RICE_SAMPLE_OUT_OF_RANGE, RICE_INPUT_CUT, RICE_TOO_LONG
+ *                             the whole bytes of the code of the complete segments (64 blocks, or the rest of an interval)
+ *                             among the samples before that place are written.
+ *   RICE_NO_ROOM              the code doesn't fit. Never with rice_code_room(setting, samples_len / width) bytes.
+ *   RICE_BAD_...              nothing is written, and the report is all zeros. */
+uint32_t rice_encode(const struct rice_setting *setting, const uint8_t *samples, size_t samples_len, uint8_t *code,
+                     size_t code_room, struct rice_report *report);
+
+/* Decodes the first `count` samples of the code at `code`, which has `code_len` bytes, to `samples`, which has
+ * `samples_room` bytes. What follows their code is not looked at. Returns a status of enum rice_status:
+ *   RICE_DONE                 all `count` samples are written.
+ *   RICE_CODE_ENDS, RICE_RUN_PAST_SEGMENT, RICE_RESIDUAL_TOO_LARGE
+ *                             all samples before that place are written.
+ *   RICE_NO_ROOM              the samples don't fit. Never with count times rice_sample_width(setting) bytes.
+ *   RICE_BAD_...              nothing is written, and the report is all zeros. */
+uint32_t rice_decode(const struct rice_setting *setting, uint64_t count, const uint8_t *code, size_t code_len,
+                     uint8_t *samples, size_t samples_room, struct rice_report *report);
+
+/* Decodes all of a code whose number of samples isn't known. It also gives the samples that filled the last block, or the
+ * last run of blocks: fewer than a segment. RICE_DONE where no 1 is left in the code. */
+uint32_t rice_decode_all(const struct rice_setting *setting, const uint8_t *code, size_t code_len, uint8_t *samples,
+                         size_t samples_room, struct rice_report *report);
+
+/* Returns what a status means, in words. */
+static inline const char *rice_status_text(uint32_t status) {
+    switch ((enum rice_status)status) {
+    case RICE_DONE: return "done";
+    case RICE_BAD_BITS: return "bits per sample must be 1 to 32";
+    case RICE_BAD_BLOCK: return "block size must be 8, 16, 32 or 64";
+    case RICE_BAD_INTERVAL: return "interval must be 1 to 4096";
+    case RICE_SAMPLE_OUT_OF_RANGE: return "a sample is out of range";
+    case RICE_INPUT_CUT: return "input ends inside a sample";
+    case RICE_CODE_ENDS: return "code ends too early";
+    case RICE_RUN_PAST_SEGMENT: return "a run passes its segment";
+    case RICE_RESIDUAL_TOO_LARGE: return "a residual is too large";
+    case RICE_NO_ROOM: return "no room in the output";
+    case RICE_TOO_LONG: return "input is too long";
+    }
+    return "no status";
+}
+
+#ifdef __cplusplus
+}
+#endif
+
+#endif

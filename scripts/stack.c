@@ -1,0 +1,109 @@
+/* How much stack a call takes: it runs on a stack of its own, painted before, with a page behind it that can't be touched.
+ * Prints the most that any call took, and then runs all calls again on stacks of the stated sizes. */
+#define _GNU_SOURCE
+#include "rice.h"
+#include <stdio.h>
+#include <stdlib.h>
+#include <string.h>
+#include <sys/mman.h>
+#include <ucontext.h>
+
+enum { MOST = 1 << 20, PAGE = 4096, PAINT = 0x5c };
+
+static struct rice_setting setting;
+static uint8_t *samples, *code, *back;
+static size_t count, room, size;
+static struct rice_report report;
+static ucontext_t caller, callee;
+
+static void encode(void) {
+    if (rice_encode(&setting, samples, size, code, room, &report) != RICE_DONE) abort();
+}
+
+static void decode(void) {
+    if (rice_decode(&setting, count, code, room, back, size, &report) != RICE_DONE) abort();
+}
+
+static void decode_all(void) {
+    rice_decode_all(&setting, code, room, back, size, &report);
+}
+
+static void nothing(void) {
+}
+
+/* Runs a call on a stack of so many bytes, and returns how many it has touched. */
+static size_t touched(void (*call)(void), size_t bytes) {
+    size_t whole = (bytes + PAGE - 1) / PAGE * PAGE;
+    uint8_t *area = mmap(NULL, whole + PAGE, PROT_READ | PROT_WRITE, MAP_PRIVATE | MAP_ANONYMOUS, -1, 0);
+    if (area == MAP_FAILED || mprotect(area, PAGE, PROT_NONE)) abort();
+    uint8_t *stack = area + PAGE;
+    memset(stack, PAINT, whole);
+    getcontext(&callee);
+    callee.uc_stack.ss_sp = stack;
+    callee.uc_stack.ss_size = bytes;
+    callee.uc_link = &caller;
+    makecontext(&callee, call, 0);
+    if (swapcontext(&caller, &callee)) abort();
+    size_t i = 0;
+    while (i < bytes && stack[i] == PAINT) i++;
+    munmap(area, whole + PAGE);
+    return bytes - i;
+}
+
+static uint32_t seed = 1;
+static uint32_t next(void) {
+    seed ^= seed << 13;
+    seed ^= seed >> 17;
+    seed ^= seed << 5;
+    return seed;
+}
+
+/* Samples of one kind: random ones, a ramp with noise, or zeros with a few others. */
+static uint32_t sample(int kind, uint32_t i, uint32_t mask) {
+    if (kind == 0) return next() & mask;
+    if (kind == 1) return (i + next() % 5) & mask;
+    return next() % 500 ? 0 : next() & mask;
+}
+
+static void fill(int kind) {
+    uint32_t width = rice_sample_width(&setting), mask = 0xffffffffu >> (32 - setting.bits);
+    for (uint32_t i = 0; i < count; i++) {
+        uint32_t x = sample(kind, i, mask);
+        for (uint32_t b = 0; b < width; b++) samples[i * width + b] = (uint8_t)(x >> (8 * b));
+    }
+    size = count * width;
+    memset(back, 0, size);
+}
+
+/* Runs all calls for all settings and kinds of samples, each on a stack of that size. Returns the most that one touched. */
+static void most(size_t limits[3], size_t found[3]) {
+    static const uint32_t blocks[] = {8, 16, 32, 64}, widths[] = {1, 8, 10, 16, 24, 32}, intervals[] = {1, 64, 4096};
+    void (*calls[])(void) = {encode, decode, decode_all};
+    for (int b = 0; b < 4; b++) for (int w = 0; w < 6; w++) for (int r = 0; r < 3; r++) for (int flags = 0; flags < 8; flags++) {
+        setting = (struct rice_setting){widths[w], blocks[b], intervals[r], false, false, flags & 4, flags & 1, flags & 2};
+        count = 3 * 4096 + 77;
+        room = rice_code_room(&setting, count);
+        for (int kind = 0; kind < 3; kind++) {
+            fill(kind);
+            memset(code, 0, room);
+            for (int c = 0; c < 3; c++) {
+                size_t t = touched(calls[c], limits[c]);
+                if (t > found[c]) found[c] = t;
+            }
+        }
+    }
+}
+
+int main(int argc, char **argv) {
+    samples = malloc(1 << 20), code = malloc(1 << 20), back = malloc(1 << 20);
+    if (!samples || !code || !back) return 2;
+    size_t limits[3] = {MOST, MOST, MOST}, found[3] = {0, 0, 0}, base = touched(nothing, MOST);
+    most(limits, found);
+    size_t decoding = found[1] > found[2] ? found[1] : found[2];
+    printf("encode %zu, decode %zu, of these %zu for a call that does nothing\n", found[0], decoding, base);
+    if (argc < 3) return 0;
+    size_t stated[3] = {strtoul(argv[1], NULL, 0), strtoul(argv[2], NULL, 0), strtoul(argv[2], NULL, 0)};
+    most(stated, found);
+    printf("all calls run on stacks of %zu and %zu bytes\n", stated[0], stated[1]);
+    return 0;
+}
