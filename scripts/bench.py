@@ -125,5 +125,6 @@ def main():
             compare(title + ", decode", decode, size, COUNTED, folder)
 
 
-OURS, THEIRS = sys.argv[1:3]
-main()
+if __name__ == "__main__":
+    OURS, THEIRS = sys.argv[1:3]
+    main()

@@ -148,15 +148,14 @@ impl Encoding {
         Ok(())
     }
 
-    /// Codes the samples that wait, fills the last byte, and returns the report with the rest of the code.
-    #[inline]
-    fn close(mut self) -> (Report, BitSink<16432>)
+    /// Codes the samples that wait, fills the last byte, and returns the report. The sink then holds the rest of the code.
+    fn close(&mut self) -> Report
         requires { (s : Parameters) × (old : Option Room) × (now : Option Room) ×
-            (xs : List ℤ) × IsEncodingOf s old now self xs × (length xs ≤ 2 ^ 48) }
+            (xs : List ℤ) × IsEncodingOf s old now self.old xs × (length xs ≤ 2 ^ 48) }
         ensures { (s : Parameters) (old now : Option Room) (xs : List ℤ) →
-            IsEncodingOf s old now self xs →
-            ReportsAll s result.0 xs × (padded_bits (code s xs) ≡ whole_part (complete_code s xs) ++
-            result.1) }
+            IsEncodingOf s old now self.old xs →
+            ReportsAll s result xs × (padded_bits (code s xs) ≡ whole_part (complete_code s xs) ++
+            self.new.sink) }
     {
         let bits = self.coder.finish(&mut self.sink, &mut self.meter);
         let report = Report {
@@ -165,22 +164,21 @@ impl Encoding {
             steps: self.meter.steps(),
         };
         self.sink.pad();
-        (report, self.sink)
+        report
     }
 
     /// Codes the samples that wait, fills the last byte, and writes the rest of the code.
-    #[inline]
-    fn finish<O: Outlet>(self, outlet: &mut O) -> Outcome
+    fn finish<O: Outlet>(&mut self, outlet: &mut O) -> Outcome
         requires ready { (s : Parameters) × (old : Option Room) × (xs : List ℤ) ×
-            IsEncodingOf s old (O.taken outlet.old) self xs × (length xs ≤ 2 ^ 48) }
+            IsEncodingOf s old (O.taken outlet.old) self.old xs × (length xs ≤ 2 ^ 48) }
         requires writes { O.failed outlet.old + 1 < 2 ^ 64 }
         ensures did { (s : Parameters) (old : Option Room) (xs : List ℤ) →
-            IsEncodingOf s old (O.taken outlet.old) self xs →
+            IsEncodingOf s old (O.taken outlet.old) self.old xs →
             ReportsAll s result.report xs × WritesRest s old (O.taken outlet.new) xs result.fault }
         ensures failures { Fails result.fault 0 0 (O.failed outlet.old) (O.failed outlet.new) }
     {
-        let (report, mut sink) = self.close();
-        let fault = match write_whole(&mut sink, outlet) {
+        let report = self.close();
+        let fault = match write_whole(&mut self.sink, outlet) {
             Ok(()) => None,
             Err(_) => Some(Fault::Write),
         };

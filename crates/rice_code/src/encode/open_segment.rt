@@ -197,6 +197,17 @@ impl OpenSegment {
         self.end = residuals_from(&self.setting, start);
         self.start = start;
     }
+
+    /// Goes back to the first segment, without residuals.
+    pub fn restart(&mut self)
+        ensures { self.new ≡ empty_state self.old.setting }
+    {
+        self.residuals.clear();
+        self.reference = None;
+        self.previous = 0;
+        self.start = 0;
+        self.end = residuals_from(&self.setting, 0);
+    }
 }
 
 /// Returns the number of whole blocks that `len` residuals make.

@@ -1,8 +1,21 @@
-use Rattle.rice_code.proofs.lemmas.encode.PushedCode.{finish_sound, finish_adds}
+use Rattle.std.proofs.Common.{◌∙◌, [], ap, subst, sym}
+use Rattle.rice_code.specs.encode.Coder.{IsCoder, HasTaken}
+use Rattle.rice_code.specs.encode.OpenSegment.{CoderState, empty_state}
+use Rattle.rice_code.proofs.lemmas.encode.PushedCode.{finish_sound, finish_adds, none_taken}
 use Rattle.rice_code.proofs.encode.coder.Coder.finish.Goals as goal
 
-pub code-requires-clause-blocks : goal.code-requires-clause-blocks
-code-requires-clause-blocks c = finish_sound c.self.inside.segment c.fill.new.self c.fill.ensures.value c.self.invariant
+pub code-bits-requires-clause-blocks : goal.code-bits-requires-clause-blocks
+code-bits-requires-clause-blocks c = finish_sound c.self.inside.segment c.fill.new.self c.fill.ensures.value c.self.invariant
 
-pub returns : goal.returns
-returns c xs h = finish_adds c.self.inside.segment _ c.fill.new.self xs _ _ _ _ _ _ c.self.view_is c.fill.ensures.value c.code.ensures c.fill.ensures.steps h
+pub invariant_of-self : goal.invariant_of-self
+invariant_of-self c =
+    let legal = c.self.invariant.taken.holds.legal in
+    subst IsCoder (sym (c.restart.ensures ∙ ap (λ (v : CoderState). empty_state v.setting) c.fill.ensures.value)) (record { samples = []; taken = none_taken c.self.inside.segment.setting legal })
+
+pub returns-clause-adds : goal.returns-clause-adds
+returns-clause-adds c xs h = finish_adds c.self.inside.segment _ c.fill.new.self xs _ _ _ _ _ _ c.self.view_is c.fill.ensures.value c.code-bits.ensures c.fill.ensures.steps h
+
+pub returns-clause-taken : goal.returns-clause-taken
+returns-clause-taken c =
+    let legal = c.self.invariant.taken.holds.legal in
+    subst (λ (v : CoderState). HasTaken v []) (sym (c.restart.ensures ∙ ap (λ (v : CoderState). empty_state v.setting) c.fill.ensures.value)) (none_taken c.self.inside.segment.setting legal)
