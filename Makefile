@@ -90,7 +90,7 @@ bench: aec
 	scripts/bench
 
 examples: library
-	scripts/examples librice.a librice.so
+	scripts/examples librice.a
 
 stack: library
 	scripts/stack librice.a

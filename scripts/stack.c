@@ -1,5 +1,5 @@
 /* How much stack a call takes: it runs on a stack of its own, painted before, with a page behind it that can't be touched.
- * Prints the most that any call took, and then runs all calls again on stacks of the stated sizes. */
+ * Prints the most that any call took, and then runs all calls again on stacks of the sizes that rice.h states. */
 #define _GNU_SOURCE
 #include "rice.h"
 #include <stdio.h>
@@ -94,15 +94,14 @@ static void most(size_t limits[3], size_t found[3]) {
     }
 }
 
-int main(int argc, char **argv) {
+int main(void) {
     samples = malloc(1 << 20), code = malloc(1 << 20), back = malloc(1 << 20);
     if (!samples || !code || !back) return 2;
     size_t limits[3] = {MOST, MOST, MOST}, found[3] = {0, 0, 0}, base = touched(nothing, MOST);
     most(limits, found);
     size_t decoding = found[1] > found[2] ? found[1] : found[2];
     printf("encode %zu, decode %zu, of these %zu for a call that does nothing\n", found[0], decoding, base);
-    if (argc < 3) return 0;
-    size_t stated[3] = {strtoul(argv[1], NULL, 0), strtoul(argv[2], NULL, 0), strtoul(argv[2], NULL, 0)};
+    size_t stated[3] = {RICE_ENCODE_STACK, RICE_DECODE_STACK, RICE_DECODE_STACK};
     most(stated, found);
     printf("all calls run on stacks of %zu and %zu bytes\n", stated[0], stated[1]);
     return 0;

@@ -8,3 +8,7 @@ pub mod laws;
 pub mod report;
 pub mod setting;
 pub mod status;
+
+// The structs of the header, in bytes.
+const _: () = prove!(size_of::<setting::RiceSetting>() == 20);
+const _: () = prove!(size_of::<report::RiceReport>() == 40);

@@ -2,11 +2,12 @@
 ghost use Rattle.std.specs.Prelude.{◌≡◌, ℕ, ◌^◌, ◌<◌, ◌≤◌, IsOk, IfOk, IfErr};
 ghost use Rattle.rice_samples.specs.Settings.{setting_of};
 ghost use Rattle.rice_samples.specs.Parameters.{IsLegal, width};
+ghost use Rattle.rice_code.specs.Bounds.{step_bound};
 ghost use Rattle.rice_c.specs.Rooms.{code_room};
 ghost use Rattle.rice_c.specs.Statuses.{number_of, check_of, refusal_status};
 
 use crate::status::{Status, refusal_status};
-use rice_code::padded_bound;
+use rice_code::{padded_bound, step_bound};
 use rice_samples::{Setting, SettingFault};
 
 /// What a coder and a decoder are set to, in C's own layout. Any numbers may stand in it.
@@ -90,6 +91,23 @@ pub extern "C" fn rice_code_room(setting: &RiceSetting, samples: u64) -> u64
     }
     match setting.legal() {
         Ok(setting) => padded_bound(&setting, samples).div_ceil(8),
+        Err(_) => 0,
+    }
+}
+
+/// Returns a number of steps that encoding `samples` samples never passes, or 0 if the setting is not legal, or if there
+/// are more than 2^48 samples, which no call encodes.
+#[unsafe(no_mangle)]
+pub extern "C" fn rice_step_bound(setting: &RiceSetting, samples: u64) -> u64
+    ensures ok { IfOk (setting_of (asked setting.now)) (λ s. samples ≤ 2 ^ 48 → result ≡ step_bound s samples) }
+    ensures many { 2 ^ 48 < samples → result ≡ 0 }
+    ensures refused { IfErr (setting_of (asked setting.now)) (λ fault. result ≡ 0) }
+{
+    if samples > 1 << 48 {
+        return 0;
+    }
+    match setting.legal() {
+        Ok(setting) => step_bound(&setting, samples),
         Err(_) => 0,
     }
 }

@@ -18,3 +18,6 @@ pub use bytes::writing::write_spellings;
 pub use predict::preprocessor::{from_pattern, pattern, residual, restore};
 pub use predict::samples::{from_patterns, restore_all};
 pub use setting::{Setting, SettingFault};
+
+// What it holds, in bytes, on a machine with pointers of eight.
+const _: () = prove!(size_of::<Segment>() == 16392);
