@@ -27,7 +27,7 @@
 extern "C" {
 #endif
 
-enum { RICE_ENCODE_STACK = 80 * 1024, RICE_DECODE_STACK = 12 * 1024 };
+enum { RICE_ENCODE_STACK = 48 * 1024, RICE_DECODE_STACK = 12 * 1024 };
 
 /* What coder and decoder are set to. The code doesn't say it: decode with the setting that encoded. */
 struct rice_setting {

@@ -23,6 +23,9 @@ const LIMIT: u64 = 1 << 48;
 /// The size of a read, in bytes.
 const PIECE: usize = 4096;
 
+/// The number of samples that are taken from bytes at a time.
+const SAMPLES: usize = 512;
+
 /// A coder with its sink, its meter, and what it has counted for the report.
 #[derive(Drop)]
 pub struct Encoding {
@@ -113,9 +116,8 @@ impl Encoding {
         Ok(())
     }
 
-    /// Takes the samples that the bytes spell, and writes the bytes that they complete. A last sample that is cut is left.
-    /// `samples` is scratch space.
-    fn push_all<O: Outlet>(
+    /// Takes the samples that a part of the bytes spells, for which `samples` has room, as `push_all` does.
+    fn push_part<O: Outlet>(
         &mut self,
         setting: &Setting,
         bytes: &[u8],
@@ -125,7 +127,7 @@ impl Encoding {
         requires ready { (old : Option Room) × (xs : List ℤ) ×
             IsEncodingOf setting.now old (O.taken outlet.old) self.old xs ×
             (length xs + length bytes.now ≤ 2 ^ 48) }
-        requires room { length bytes.now ≤ length samples.old }
+        requires room { length bytes.now ≤ width setting.now * length samples.old }
         requires writes { O.failed outlet.old + 1 < 2 ^ 64 }
         ensures did { (old : Option Room) (xs : List ℤ) →
             IsEncodingOf setting.now old (O.taken outlet.old) self.old xs →
@@ -144,6 +146,38 @@ impl Encoding {
             return Err(Fault::SampleOutOfRange {
                 index: self.samples,
             });
+        }
+        Ok(())
+    }
+
+    /// Takes the samples that the bytes spell, some at a time, and writes the bytes that they complete. A last sample that is
+    /// cut is left. `samples` is scratch space.
+    fn push_all<O: Outlet>(
+        &mut self,
+        setting: &Setting,
+        bytes: &[u8],
+        samples: &mut [i64],
+        outlet: &mut O,
+    ) -> Result<(), Fault>
+        requires ready { (old : Option Room) × (xs : List ℤ) ×
+            IsEncodingOf setting.now old (O.taken outlet.old) self.old xs ×
+            (length xs + length bytes.now ≤ 2 ^ 48) }
+        requires some { (0 < length samples.old) × (length samples.old ≤ 2 ^ 48) }
+        requires writes { O.failed outlet.old + 1 < 2 ^ 64 }
+        ensures did { (old : Option Room) (xs : List ℤ) →
+            IsEncodingOf setting.now old (O.taken outlet.old) self.old xs →
+            Pushes setting.now old (O.taken outlet.new) self.new xs bytes.now result }
+        ensures failures { PushFails (O.failed outlet.old) (O.failed outlet.new) result }
+        ensures room { length samples.new ≡ length samples.old }
+    {
+        let most = setting.width() as usize * samples.len();
+        let mut at = 0;
+        while at < bytes.len() {
+            let count = most.min(bytes.len() - at);
+            match self.push_part(setting, &bytes[at..at + count], samples, outlet) {
+                Ok(()) => at += count,
+                Err(why) => return Err(why),
+            }
         }
         Ok(())
     }
@@ -267,7 +301,7 @@ pub fn encode<I: Intake, O: Outlet>(setting: &Setting, intake: &mut I, outlet: &
     let width = setting.width() as usize;
     let mut encoding = Encoding::new(*setting);
     let mut buffer = [0u8; PIECE];
-    let mut samples = [0i64; PIECE];
+    let mut samples = [0i64; SAMPLES];
     let mut waiting = 0;
     let mut given = 0u64;
     'fill_all: loop {

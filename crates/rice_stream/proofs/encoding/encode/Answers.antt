@@ -124,9 +124,6 @@ push_all-requires-clause-ready g c =
     let limit = c.piece.ensures.limit (omega (arith, c.if-given-ge-LIMIT.false)) in
     (g.O.Outlet.taken c.args.outlet.now, i.runs.samples, i.runs.holds, omega (arith, n, limit, c.in-Ok.ensures.count, length-take (c.fill_all.waiting + c.in-Ok.count) c.refill.new.buffer))
 
-pub push_all-requires-clause-room : goal.push_all-requires-clause-room
-push_all-requires-clause-room g c = omega (arith, c.fill_all.invariant.room, c.in-Ok.ensures.count, c.piece.ensures.most, length-take (c.fill_all.waiting + c.in-Ok.count) c.refill.new.buffer)
-
 pub returns-in-Err-push_all-clause-call : goal.returns-in-Err-push_all-clause-call
 returns-in-Err-push_all-clause-call g c =
     let s = c.args.setting.now in

@@ -1,101 +1,94 @@
-use Rattle.std.proofs.Common.{arith, ◌≡◌, ◌+◌, ◌*◌, ◌/◌, ◌<◌, ◌≤◌, ◌++◌, length, take, drop, refl, ap, sym, ◌∙◌, subst, length-drop, ℕ, List, ℤ}
-use Rattle.std.specs.Prelude.{All}
-use Rattle.std.proofs.Math.Nat.{div-add-mod, mod-lt, mul-le-mul_left}
-use Rattle.std.proofs.lemmas.List.{length-take, take-append-le}
-use Rattle.rice_samples.specs.Parameters.{IsSample, width}
+use Rattle.std.proofs.Common.{arith, ◌≡◌, ◌+◌, ◌-◌, ◌*◌, ◌<◌, ◌≤◌, ◌++◌, [], length, take, drop, refl, ap, sym, ◌∙◌, subst, append-nil, length-append, length-drop, take-append-drop, List, ℕ, ℤ, Err}
+use Rattle.std.proofs.Math.Seq.{take-add, take-length}
+use Rattle.std.proofs.lemmas.List.{length-take, length-take-le}
+use Rattle.rice_samples.specs.Parameters.{Parameters, width}
 use Rattle.rice_samples.specs.bytes.Spelling.{spellings}
-use Rattle.rice_stream.specs.EncodingState.{IsEncodingOf, FailsIn}
-use Rattle.rice_stream.proofs.lemmas.EncodingLemmas.{first_of, behind_them, fails_among}
+use Rattle.rice_stream.specs.EncodingState.{IsEncodingOf, TakesAll, Pushes, Reads}
+use Rattle.rice_stream.proofs.lemmas.PartLemmas.{takes_on, stops_on, none_left, few_more}
 use Rattle.rice_stream.proofs.encoding.Encoding.push_all.Goals as goal
 
--- the bytes of whole samples, and their number
-whole_samples : (m w v : ℕ) → w ≡ v → 1 ≤ w → (v * (m / w) ≤ m) × (m / w ≤ m) × (m < v * (m / w) + v) × (m / w * w ≡ v * (m / w))
-whole_samples m w v e some =
-    let parts = div-add-mod m w in
-    let rest = mod-lt m some in
-    let q = m / w in
-    let p : q * 1 ≤ q * w = mul-le-mul_left q some in
-    let same : q * w ≡ v * q = ap (λ n. q * n) e ∙ (omega arith) in
-    (omega (arith, parts, same), omega (arith, parts, p), omega (arith, parts, same, rest, e), same)
+-- the bytes so far are those of whole samples
+spelled_so_far : (s : Parameters) (at : ℕ) (bytes rest : List ℕ) (more : List ℤ) (k : ℕ) → Reads s (take at bytes) more rest → length rest < width s → at ≤ length bytes → at ≡ width s * k → take at bytes ≡ spellings s more
+spelled_so_far s at bytes rest more k r few within whole = none_left s more (take at bytes) rest k r few (length-take-le at bytes within ∙ whole)
 
-pub push_each-requires-clause-ready : goal.push_each-requires-clause-ready
-push_each-requires-clause-ready g c =
+-- and the next part of them
+next_part : (at count : ℕ) (bytes : List ℕ) → take (at + count) bytes ≡ take at bytes ++ take (at + count - at) (drop at bytes)
+next_part at count bytes =
+    let n : count ≡ at + count - at = omega arith in
+    take-add at count bytes ∙ ap (λ m. take at bytes ++ take m (drop at bytes)) n
+
+pub loop-at-init : goal.loop-at-init
+loop-at-init g c = record {
+  within = omega arith;
+  whole = λ lt. (0, omega arith);
+  part = λ old xs h. record {
+    more = [];
+    rest = [];
+    reads = record { split = refl; legal = λ k d lt. absurd (omega arith) };
+    few = omega (arith, c.width.ensures.value, c.width.ensures.range);
+    holds = subst (λ (l : List ℤ). IsEncodingOf c.args.setting.now old (g.O.Outlet.taken c.args.outlet.now) c.args.self.now l) (sym (append-nil xs)) h;
+  };
+  failures = refl;
+  room = refl;
+}
+
+pub push_part-requires-clause-ready : goal.push_part-requires-clause-ready
+push_part-requires-clause-ready g c =
     let s = c.args.setting.now in
-    let f = c.samples_of-found in
-    let zs = f.new.samples in
-    let count = length c.args.bytes.now / c.width-width.result in
-    let slice : take f.result (zs ++ drop count c.args.samples.now) ≡ take f.result zs = take-append-le f.result zs (drop count c.args.samples.now) f.ensures.count in
-    let whole = whole_samples (length c.args.bytes.now) c.width-width.result (width s) c.width-width.ensures.value (omega (arith, c.width-width.ensures.range)) in
+    let bytes = c.args.bytes.now in
     let r = c.requires.ready in
+    let i = c.loop-at.invariant in
+    let at = c.loop-at.at in
+    let count = c.min-count.result in
+    let h = i.part r.0 r.1 r.2 in
+    let few = few_more s h.more (take at bytes) h.rest h.reads (omega (arith, c.width.ensures.value, c.width.ensures.range)) in
+    let all = length-take-le at bytes i.within in
+    let part = length-take (at + count - at) (drop at bytes) in
+    (r.0, r.1 ++ h.more, h.holds, omega (arith, length-append r.1 h.more, few, all, part, length-drop at bytes, r.3, i.within))
+
+pub loop-at-preserved : goal.loop-at-preserved
+loop-at-preserved g c =
+    let s = c.args.setting.now in
+    let bytes = c.args.bytes.now in
+    let i = c.loop-at.invariant in
+    let at = c.loop-at.at in
+    let count = c.min-count.result in
+    let new = g.O.Outlet.taken c.push_part.new.outlet in
+    let k = i.whole c.loop-at-test.true in
+    let n = length c.args.samples.now in
+    let most : c.width.result * n ≡ width s * n = ap (λ v. v * n) c.width.ensures.value in
     record {
-      setting = s;
-      start = r.0;
-      before = r.1;
-      holds = r.2;
-      legal = subst (All (IsSample s)) (sym slice) f.ensures.reads.legal;
-      few = omega (arith, r.3, ap length slice, length-take f.result zs, f.ensures.count, f.ensures.len, length-take count c.args.samples.now, whole.1);
+      within = omega (arith, c.min-count.ensures, i.within);
+      whole = λ lt. (let full : count ≡ width s * n = omega (arith, c.min-count.ensures, most, lt) in
+          (k.0 + n, ap (λ m. m + count) k.1 ∙ ap (λ m. width s * k.0 + m) full ∙ (let e : width s * k.0 + width s * n ≡ width s * (k.0 + n) = omega arith in e)));
+      part = λ old xs h. (let p = i.part old xs h in
+          let spelled = spelled_so_far s at bytes p.rest p.more k.0 p.reads p.few i.within k.1 in
+          subst (λ (l : List ℕ). TakesAll s old new c.push_part.new.self xs l) (sym (next_part at count bytes))
+          (takes_on s old new c.push_part.new.self xs p.more (take at bytes) (take (at + count - at) (drop at bytes)) spelled p.reads.legal (c.in-Ok.ensures.did old (xs ++ p.more) p.holds)));
+      failures = c.in-Ok.ensures.failures ∙ i.failures;
+      room = c.in-Ok.ensures.room ∙ i.room;
     }
 
 pub returns-in-Err-clause-did : goal.returns-in-Err-clause-did
 returns-in-Err-clause-did g c old xs h =
     let s = c.args.setting.now in
     let bytes = c.args.bytes.now in
-    let f = c.samples_of-found in
-    let zs = f.new.samples in
-    let count = length bytes / c.width-width.result in
-    let slice : take f.result (zs ++ drop count c.args.samples.now) ≡ take f.result zs = take-append-le f.result zs (drop count c.args.samples.now) f.ensures.count in
-    let whole = whole_samples (length bytes) c.width-width.result (width s) c.width-width.ensures.value (omega (arith, c.width-width.ensures.range)) in
-    let few : f.result ≤ count = omega (arith, f.ensures.count, f.ensures.len, length-take count c.args.samples.now) in
-    let spelled : take (width s * f.result) (take (width s * count) bytes) ≡ spellings s (take f.result zs) = ap (λ n. take (width s * f.result) (take n bytes)) (sym whole.3) ∙ f.ensures.reads.spelled in
-    let reads = first_of s bytes count f.result (take f.result zs) few spelled f.ensures.reads.legal in
-    let new = g.O.Outlet.taken c.push_each.new.outlet in
-    fails_among s old new c.push_each.new.self xs (take f.result zs) bytes (drop (width s * f.result) bytes) reads (subst (λ (l : List ℤ). FailsIn s old new c.push_each.new.self xs l) slice (c.in-Err.ensures.err s old xs h))
-
-pub returns-then-found-count-clause-did : goal.returns-then-found-count-clause-did
-returns-then-found-count-clause-did g c old xs h =
-    let s = c.args.setting.now in
-    let bytes = c.args.bytes.now in
-    let f = c.samples_of-found in
-    let zs = f.new.samples in
-    let count = length bytes / c.width-width.result in
-    let slice : take f.result (zs ++ drop count c.args.samples.now) ≡ take f.result zs = take-append-le f.result zs (drop count c.args.samples.now) f.ensures.count in
-    let whole = whole_samples (length bytes) c.width-width.result (width s) c.width-width.ensures.value (omega (arith, c.width-width.ensures.range)) in
-    let len : length zs ≡ count = omega (arith, f.ensures.len, length-take count c.args.samples.now, whole.1, c.requires.room) in
-    let few : f.result < count = c.if-found-count.true in
-    let spelled : take (width s * f.result) (take (width s * count) bytes) ≡ spellings s (take f.result zs) = ap (λ n. take (width s * f.result) (take n bytes)) (sym whole.3) ∙ f.ensures.reads.spelled in
-    let behind = behind_them s bytes count f.result few whole.0 in
-    let new = g.O.Outlet.taken c.push_each.new.outlet in
-    let none = f.ensures.reads.stop (omega (arith, len, few)) in
-    let there : take (width s) (drop (width s * f.result) (take (count * c.width-width.result) bytes)) ≡ take (width s) (drop (width s * f.result) bytes) =
-    ap (λ n. take (width s) (drop (width s * f.result) (take n bytes))) whole.3 ∙ behind.1 in (
-      record {
-        more = take f.result zs;
-        rest = drop (width s * f.result) bytes;
-        reads = first_of s bytes count f.result (take f.result zs) (omega (arith, few)) spelled f.ensures.reads.legal;
-        none = (behind.0, λ x k e. none x k (there ∙ e));
-        holds = subst (λ (l : List ℤ). IsEncodingOf s old new c.push_each.new.self (xs ++ l)) slice (c.in-Ok.ensures.ok s old xs h);
-      },
-      refl,
-    )
+    let i = c.loop-at.invariant in
+    let at = c.loop-at.at in
+    let count = c.min-count.result in
+    let new = g.O.Outlet.taken c.push_part.new.outlet in
+    let k = i.whole c.loop-at-test.true in
+    let p = i.part old xs h in
+    let spelled = spelled_so_far s at bytes p.rest p.more k.0 p.reads p.few i.within k.1 in
+    let behind = drop (at + count) bytes in
+    let whole : (take at bytes ++ take (at + count - at) (drop at bytes)) ++ behind ≡ bytes = ap (λ l. l ++ behind) (sym (next_part at count bytes)) ∙ take-append-drop (at + count) bytes in
+    subst (λ (l : List ℕ). Pushes {T = Unit {0}} s old new c.push_part.new.self xs l (Err c.in-Err.why)) whole
+    (stops_on s old new c.push_part.new.self xs p.more (take at bytes) (take (at + count - at) (drop at bytes)) spelled p.reads.legal behind c.in-Err.why (c.in-Err.ensures.did old (xs ++ p.more) p.holds))
 
 pub returns-clause-did : goal.returns-clause-did
 returns-clause-did g c old xs h =
-    let s = c.args.setting.now in
     let bytes = c.args.bytes.now in
-    let f = c.samples_of-found in
-    let zs = f.new.samples in
-    let count = length bytes / c.width-width.result in
-    let slice : take f.result (zs ++ drop count c.args.samples.now) ≡ take f.result zs = take-append-le f.result zs (drop count c.args.samples.now) f.ensures.count in
-    let whole = whole_samples (length bytes) c.width-width.result (width s) c.width-width.ensures.value (omega (arith, c.width-width.ensures.range)) in
-    let few : f.result ≤ count = omega (arith, f.ensures.count, f.ensures.len, length-take count c.args.samples.now) in
-    let all : f.result ≡ count = omega (arith, few, c.if-found-count.false) in
-    let spelled : take (width s * f.result) (take (width s * count) bytes) ≡ spellings s (take f.result zs) = ap (λ n. take (width s * f.result) (take n bytes)) (sym whole.3) ∙ f.ensures.reads.spelled in
-    let new = g.O.Outlet.taken c.push_each.new.outlet in
-    let size : width s * f.result ≡ width s * count = ap (λ n. width s * n) all in
-    record {
-      more = take f.result zs;
-      rest = drop (width s * f.result) bytes;
-      reads = first_of s bytes count f.result (take f.result zs) few spelled f.ensures.reads.legal;
-      few = omega (arith, length-drop (width s * f.result) bytes, size, whole.2);
-      holds = subst (λ (l : List ℤ). IsEncodingOf s old new c.push_each.new.self (xs ++ l)) slice (c.in-Ok.ensures.ok s old xs h);
-    }
+    let i = c.loop-at.invariant in
+    let at = c.loop-at.at in
+    let all : at ≡ length bytes = omega (arith, i.within, c.loop-at-test.false) in
+    subst (λ (l : List ℕ). TakesAll c.args.setting.now old (g.O.Outlet.taken c.loop-at.outlet) c.loop-at.self xs l) (ap (λ n. take n bytes) all ∙ take-length bytes) (i.part old xs h)

@@ -1,0 +1,109 @@
+use Rattle.std.proofs.Common.{arith, inl, inr, ◌≡◌, ◌+◌, ◌*◌, ◌/◌, ◌<◌, ◌≤◌, ◌++◌, length, take, drop, refl, ap, sym, ◌∙◌, subst, length-drop, ℕ, List, ℤ}
+use Rattle.std.specs.Prelude.{All}
+use Rattle.std.proofs.Math.Nat.{div-add-mod, mod-lt, mul-le-mul_left}
+use Rattle.std.proofs.lemmas.Bool.{cases_lt}
+use Rattle.std.proofs.lemmas.List.{length-take, take-append-le}
+use Rattle.rice_samples.specs.Parameters.{IsSample, width}
+use Rattle.rice_samples.specs.bytes.Spelling.{spellings}
+use Rattle.rice_stream.specs.EncodingState.{IsEncodingOf, FailsIn}
+use Rattle.rice_stream.proofs.lemmas.EncodingLemmas.{first_of, behind_them, fails_among}
+use Rattle.rice_stream.proofs.encoding.Encoding.push_part.Goals as goal
+
+-- the bytes of whole samples, and their number
+whole_samples : (m w v : ℕ) → w ≡ v → 1 ≤ w → (v * (m / w) ≤ m) × (m / w ≤ m) × (m < v * (m / w) + v) × (m / w * w ≡ v * (m / w))
+whole_samples m w v e some =
+    let parts = div-add-mod m w in
+    let rest = mod-lt m some in
+    let q = m / w in
+    let p : q * 1 ≤ q * w = mul-le-mul_left q some in
+    let same : q * w ≡ v * q = ap (λ n. q * n) e ∙ (omega arith) in
+    (omega (arith, parts, same), omega (arith, parts, p), omega (arith, parts, same, rest, e), same)
+
+-- they have room where the bytes do
+whole_fit : (m w v n : ℕ) → w ≡ v → 1 ≤ w → v * (m / w) ≤ m → m ≤ v * n → m / w ≤ n
+whole_fit m w v n e some most room = elim (cases_lt n (m / w)) [
+  | inl lt ↦ absurd (let p : v * (n + 1) ≤ v * (m / w) = mul-le-mul_left v (omega arith) in omega (arith, p, e))
+  | inr le ↦ le
+]
+
+pub push_each-requires-clause-ready : goal.push_each-requires-clause-ready
+push_each-requires-clause-ready g c =
+    let s = c.args.setting.now in
+    let f = c.samples_of-found in
+    let zs = f.new.samples in
+    let count = length c.args.bytes.now / c.width-width.result in
+    let slice : take f.result (zs ++ drop count c.args.samples.now) ≡ take f.result zs = take-append-le f.result zs (drop count c.args.samples.now) f.ensures.count in
+    let whole = whole_samples (length c.args.bytes.now) c.width-width.result (width s) c.width-width.ensures.value (omega (arith, c.width-width.ensures.range)) in
+    let r = c.requires.ready in
+    record {
+      setting = s;
+      start = r.0;
+      before = r.1;
+      holds = r.2;
+      legal = subst (All (IsSample s)) (sym slice) f.ensures.reads.legal;
+      few = omega (arith, r.3, ap length slice, length-take f.result zs, f.ensures.count, f.ensures.len, length-take count c.args.samples.now, whole.1);
+    }
+
+pub returns-in-Err-clause-did : goal.returns-in-Err-clause-did
+returns-in-Err-clause-did g c old xs h =
+    let s = c.args.setting.now in
+    let bytes = c.args.bytes.now in
+    let f = c.samples_of-found in
+    let zs = f.new.samples in
+    let count = length bytes / c.width-width.result in
+    let slice : take f.result (zs ++ drop count c.args.samples.now) ≡ take f.result zs = take-append-le f.result zs (drop count c.args.samples.now) f.ensures.count in
+    let whole = whole_samples (length bytes) c.width-width.result (width s) c.width-width.ensures.value (omega (arith, c.width-width.ensures.range)) in
+    let few : f.result ≤ count = omega (arith, f.ensures.count, f.ensures.len, length-take count c.args.samples.now) in
+    let spelled : take (width s * f.result) (take (width s * count) bytes) ≡ spellings s (take f.result zs) = ap (λ n. take (width s * f.result) (take n bytes)) (sym whole.3) ∙ f.ensures.reads.spelled in
+    let reads = first_of s bytes count f.result (take f.result zs) few spelled f.ensures.reads.legal in
+    let new = g.O.Outlet.taken c.push_each.new.outlet in
+    fails_among s old new c.push_each.new.self xs (take f.result zs) bytes (drop (width s * f.result) bytes) reads (subst (λ (l : List ℤ). FailsIn s old new c.push_each.new.self xs l) slice (c.in-Err.ensures.err s old xs h))
+
+pub returns-then-found-count-clause-did : goal.returns-then-found-count-clause-did
+returns-then-found-count-clause-did g c old xs h =
+    let s = c.args.setting.now in
+    let bytes = c.args.bytes.now in
+    let f = c.samples_of-found in
+    let zs = f.new.samples in
+    let count = length bytes / c.width-width.result in
+    let slice : take f.result (zs ++ drop count c.args.samples.now) ≡ take f.result zs = take-append-le f.result zs (drop count c.args.samples.now) f.ensures.count in
+    let whole = whole_samples (length bytes) c.width-width.result (width s) c.width-width.ensures.value (omega (arith, c.width-width.ensures.range)) in
+    let len : length zs ≡ count = omega (arith, f.ensures.len, length-take count c.args.samples.now, whole_fit (length bytes) c.width-width.result (width s) (length c.args.samples.now) c.width-width.ensures.value (omega (arith, c.width-width.ensures.range)) whole.0 c.requires.room) in
+    let few : f.result < count = c.if-found-count.true in
+    let spelled : take (width s * f.result) (take (width s * count) bytes) ≡ spellings s (take f.result zs) = ap (λ n. take (width s * f.result) (take n bytes)) (sym whole.3) ∙ f.ensures.reads.spelled in
+    let behind = behind_them s bytes count f.result few whole.0 in
+    let new = g.O.Outlet.taken c.push_each.new.outlet in
+    let none = f.ensures.reads.stop (omega (arith, len, few)) in
+    let there : take (width s) (drop (width s * f.result) (take (count * c.width-width.result) bytes)) ≡ take (width s) (drop (width s * f.result) bytes) =
+    ap (λ n. take (width s) (drop (width s * f.result) (take n bytes))) whole.3 ∙ behind.1 in (
+      record {
+        more = take f.result zs;
+        rest = drop (width s * f.result) bytes;
+        reads = first_of s bytes count f.result (take f.result zs) (omega (arith, few)) spelled f.ensures.reads.legal;
+        none = (behind.0, λ x k e. none x k (there ∙ e));
+        holds = subst (λ (l : List ℤ). IsEncodingOf s old new c.push_each.new.self (xs ++ l)) slice (c.in-Ok.ensures.ok s old xs h);
+      },
+      refl,
+    )
+
+pub returns-clause-did : goal.returns-clause-did
+returns-clause-did g c old xs h =
+    let s = c.args.setting.now in
+    let bytes = c.args.bytes.now in
+    let f = c.samples_of-found in
+    let zs = f.new.samples in
+    let count = length bytes / c.width-width.result in
+    let slice : take f.result (zs ++ drop count c.args.samples.now) ≡ take f.result zs = take-append-le f.result zs (drop count c.args.samples.now) f.ensures.count in
+    let whole = whole_samples (length bytes) c.width-width.result (width s) c.width-width.ensures.value (omega (arith, c.width-width.ensures.range)) in
+    let few : f.result ≤ count = omega (arith, f.ensures.count, f.ensures.len, length-take count c.args.samples.now) in
+    let all : f.result ≡ count = omega (arith, few, c.if-found-count.false) in
+    let spelled : take (width s * f.result) (take (width s * count) bytes) ≡ spellings s (take f.result zs) = ap (λ n. take (width s * f.result) (take n bytes)) (sym whole.3) ∙ f.ensures.reads.spelled in
+    let new = g.O.Outlet.taken c.push_each.new.outlet in
+    let size : width s * f.result ≡ width s * count = ap (λ n. width s * n) all in
+    record {
+      more = take f.result zs;
+      rest = drop (width s * f.result) bytes;
+      reads = first_of s bytes count f.result (take f.result zs) few spelled f.ensures.reads.legal;
+      few = omega (arith, length-drop (width s * f.result) bytes, size, whole.2);
+      holds = subst (λ (l : List ℤ). IsEncodingOf s old new c.push_each.new.self (xs ++ l)) slice (c.in-Ok.ensures.ok s old xs h);
+    }
