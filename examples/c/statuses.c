@@ -4,6 +4,9 @@
 #include <stdio.h>
 #include <string.h>
 
+/* What docs/EMBEDDING.md states, and the library has checked. */
+_Static_assert(sizeof(struct rice_setting) == 20 && sizeof(struct rice_report) == 40, "sizes");
+
 static int wrong;
 
 /* Prints a status, and notes whether it, its place and the bytes written are the ones that are awaited. */
