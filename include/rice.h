@@ -3,14 +3,14 @@
  *
  * The library encodes and decodes from memory to memory. It allocates nothing, keeps nothing between calls, calls nothing
  * but memcpy, memmove and memset, and writes nowhere but in the memory that it is given, whatever the bytes are.
- * Calls may run in several threads at once, each over memory of its own.
+ * Calls may run in several threads at once, each with an output and a report of its own.
  *
  * What a caller has to keep, and nothing checks:
  *   - a pointer to a setting or a report points to one, and each bool of a setting is true or false;
- *   - a pointer to bytes and its length name memory that is there, at most PTRDIFF_MAX bytes, and holds values: before a call
- *     the output has been written once, by memset for example. With the length 0 the pointer may be anything but NULL
- *     or dangling past its object's end; NULL with the length 0 is allowed;
- *   - the output, the report, the input and the setting don't overlap;
+ *   - a pointer to bytes and its length name memory that is there, at most PTRDIFF_MAX bytes, and every byte of it has a value,
+ *     that of the output too: write it once before, by calloc or memset for example. The pointer is not NULL, not even with the
+ *     length 0, where it may point to any byte;
+ *   - the output and the report overlap with nothing else that the call is given, and nobody else touches them meanwhile;
  *   - the stack has the room stated below.
  *
  * What the library holds while a call runs is on the stack, and is the same whatever the input: RICE_ENCODE_STACK bytes are

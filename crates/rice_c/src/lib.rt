@@ -11,4 +11,5 @@ pub mod status;
 
 // The structs of the header, in bytes.
 const _: () = prove!(size_of::<setting::RiceSetting>() == 20);
+
 const _: () = prove!(size_of::<report::RiceReport>() == 40);

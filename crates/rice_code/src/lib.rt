@@ -16,4 +16,5 @@ pub use encode::coder::{Coder, Pushed};
 
 // What these hold, in bytes, on a machine with pointers of eight.
 const _: () = prove!(size_of::<Coder>() == 16448);
+
 const _: () = prove!(size_of::<Decoder>() == 560);
