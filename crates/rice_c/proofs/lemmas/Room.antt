@@ -101,9 +101,6 @@ few_samples s xs given rest input left legal split gave =
 pub encode_wants : (s : Parameters) (c : Call) (r : Report) (input left : List ℕ) → IsLegal s → Consumes (Some input) (Some left) c.given → Encodes s c r (Some Write) → length c.written < code_room s (length input / width s)
 encode_wants s c r input left legal gave e = by_end e.ends.1
   where
-    xs : List ℤ
-    xs = e.samples
-
     by_end : FailsBehind s c r e.samples ⊎ FailsAtEnd s c r e.samples → length c.written < code_room s (length input / width s)
     by_end (inl h) = omega (arith, stops_short _ _ c.written h.stops, early_fits s e.samples (length input / width s) legal h.given.legal (few_samples s e.samples c.given h.given.rest input left legal h.given.split gave))
     by_end (inr h) = omega (arith, stops_short _ _ c.written h.stops, output_fits s e.samples (length input / width s) legal h.given.legal (few_samples s e.samples c.given h.given.rest input left legal h.given.whole gave))
