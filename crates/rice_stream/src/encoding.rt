@@ -191,7 +191,7 @@ impl Encoding {
             ReportsAll s result xs × (padded_bits (code s xs) ≡ whole_part (complete_code s xs) ++
             self.new.sink) }
     {
-        let bits = self.coder.finish(&mut self.sink, &mut self.meter);
+        let bits = self.coder.finish_reset(&mut self.sink, &mut self.meter);
         let report = Report {
             samples: self.samples,
             bits: self.bits + bits,

@@ -129,9 +129,21 @@ impl Coder {
 
     /// Fills the last block by repeating the last sample, a step for each, and appends the code of the
     /// samples that are pending. Pads neither an interval that is left unfinished nor the end. Returns
-    /// the number of bits that were appended, padding aside. The coder then has taken no samples, as a
-    /// new one.
-    pub fn finish(&mut self, sink: &mut SegmentSink, meter: &mut Meter) -> u64
+    /// the number of bits that were appended, padding aside.
+    pub fn finish(self, sink: &mut SegmentSink, meter: &mut Meter) -> u64
+        requires room { length sink.old ≤ 7 }
+        requires meter { meter.old + segment_steps self.setting < 2 ^ 62 }
+        ensures { (xs : List ℤ) → HasTaken self xs →
+            AddsCode self.setting (complete_samples self.setting xs) xs
+            sink.old sink.new result (fill_samples self.setting xs) meter.old meter.new }
+    {
+        let mut coder = self;
+        coder.finish_reset(sink, meter)
+    }
+
+    /// As `finish`, and leaves the coder as a new one, which has taken no samples. A coder that is moved
+    /// is copied, residuals and all, and one that is borrowed is not.
+    pub fn finish_reset(&mut self, sink: &mut SegmentSink, meter: &mut Meter) -> u64
         requires room { length sink.old ≤ 7 }
         requires meter { meter.old + segment_steps self.old.setting < 2 ^ 62 }
         ensures adds { (xs : List ℤ) → HasTaken self.old xs →

@@ -6,25 +6,25 @@ use Rattle.rice_stream.specs.declared.outcome.Report.{Report}
 use Rattle.rice_stream.proofs.lemmas.EncodingLemmas.{all_small, counts_small, sink_short, closed}
 use Rattle.rice_stream.proofs.encoding.Encoding.close.Goals as goal
 
-pub finish-bits-requires-clause-room : goal.finish-bits-requires-clause-room
-finish-bits-requires-clause-room c = sink_short c.requires.0 c.requires.1 c.requires.2 c.args.self.now c.requires.3 c.requires.4
+pub finish_reset-bits-requires-clause-room : goal.finish_reset-bits-requires-clause-room
+finish_reset-bits-requires-clause-room c = sink_short c.requires.0 c.requires.1 c.requires.2 c.args.self.now c.requires.3 c.requires.4
 
-pub finish-bits-requires-clause-meter : goal.finish-bits-requires-clause-meter
-finish-bits-requires-clause-meter c = let small = counts_small c.requires.0 _ c.requires.3 c.requires.4.counts in omega (arith, small.1, small.2, c.requires.5)
+pub finish_reset-bits-requires-clause-meter : goal.finish_reset-bits-requires-clause-meter
+finish_reset-bits-requires-clause-meter c = let small = counts_small c.requires.0 _ c.requires.3 c.requires.4.counts in omega (arith, small.1, small.2, c.requires.5)
 
 pub overflow_add-report : goal.overflow_add-report
 overflow_add-report c =
     let s = c.requires.0 in
     let xs = c.requires.3 in
     let k = c.requires.4.counts in
-    let adds = c.finish-bits.ensures.adds xs k.stands in
-    let same = subst (λ (t : Parameters). code_bits t xs ≡ code_bits t (complete_samples t xs) + c.finish-bits.result) k.setting adds.bits in
+    let adds = c.finish_reset-bits.ensures.adds xs k.stands in
+    let same = subst (λ (t : Parameters). code_bits t xs ≡ code_bits t (complete_samples t xs) + c.finish_reset-bits.result) k.setting adds.bits in
     omega (arith, all_small s c.args.self.now.coder xs k.setting k.stands, same, k.bits, c.requires.5)
 
 pub returns : goal.returns
 returns c s old now xs h =
     let e = c.args.self.now in
-    let f = c.finish-bits in
+    let f = c.finish_reset-bits in
     let r : Report = record { samples = e.samples; bits = e.bits + f.result; steps = c.steps.result } in
     let adds : AddsCode e.coder.setting (complete_samples e.coder.setting xs) xs e.sink f.new.sink f.result (fill_samples e.coder.setting xs) e.meter c.steps.result =
     subst (AddsCode e.coder.setting (complete_samples e.coder.setting xs) xs e.sink f.new.sink f.result (fill_samples e.coder.setting xs) e.meter) (sym c.steps.ensures.value) (f.ensures.adds xs h.counts.stands) in

@@ -2,7 +2,7 @@ use Rattle.std.proofs.Common.{◌∙◌, [], ap, subst, sym}
 use Rattle.rice_code.specs.encode.Coder.{IsCoder, HasTaken}
 use Rattle.rice_code.specs.encode.OpenSegment.{CoderState, empty_state}
 use Rattle.rice_code.proofs.lemmas.encode.PushedCode.{finish_sound, finish_adds, none_taken}
-use Rattle.rice_code.proofs.encode.coder.Coder.finish.Goals as goal
+use Rattle.rice_code.proofs.encode.coder.Coder.finish_reset.Goals as goal
 
 pub code-bits-requires-clause-blocks : goal.code-bits-requires-clause-blocks
 code-bits-requires-clause-blocks c = finish_sound c.self.inside.segment c.fill.new.self c.fill.ensures.value c.self.invariant
