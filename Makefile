@@ -80,7 +80,7 @@ refused-memory: aec
 installed: aec library
 	scripts/installed ./aec librice.a
 
-recipes: aec
+recipes: aec library
 	scripts/recipes.py ./aec
 
 documents: aec

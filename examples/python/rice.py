@@ -55,10 +55,13 @@ class RiceError(Exception):
     }
 
     def __init__(self, status, report, written):
-        super().__init__(self.TEXTS[status].format(report.place))
+        super().__init__(status, report, written)
         self.status = status
         self.report = report
         self.written = written
+
+    def __str__(self):
+        return self.TEXTS[self.status].format(self.report.place)
 
 
 def _load():

@@ -1,0 +1,72 @@
+#!/usr/bin/python3
+"""Writes a field as a zarr array, each chunk a code of the library, and reads it on two worker processes.
+
+usage: zarr_field.py PROGRAM
+"""
+import logging
+import os
+import sys
+import tempfile
+import time
+
+import numpy
+
+ROOT = os.path.join(os.path.dirname(os.path.abspath(__file__)), "..")
+os.environ.setdefault("RICE_LIBRARY", os.path.realpath(os.path.join(ROOT, "librice.so")))
+os.environ["PYTHONPATH"] = os.path.realpath(os.path.join(ROOT, "examples/python"))
+sys.path.insert(0, os.environ["PYTHONPATH"])
+
+import dask.array
+import zarr
+from dask.distributed import Client, LocalCluster
+
+from rice_codec import Field, RiceCodec
+
+
+def field():
+    """Temperatures, say: smooth in space and time, with some noise, in steps of 1/100."""
+    days, rows, columns = numpy.ogrid[0:64, 0:180, 0:360]
+    noise = (days * 7919 + rows * 104729 + columns * 1299709) % 64
+    waves = 1500 * numpy.sin(rows / 40) + 400 * numpy.cos(columns / 25) + 90 * numpy.sin(days / 5)
+    return (27000 + waves + noise).astype("<u2")
+
+
+def written(values, name, compressor):
+    start = time.perf_counter()
+    array = zarr.open(name, mode="w", shape=values.shape, chunks=(16, 90, 180), dtype=values.dtype, compressor=compressor)
+    array[...] = values
+    middle = time.perf_counter()
+    same = numpy.array_equal(zarr.open(name, mode="r")[...], values)
+    print(f"{name}: {array.nbytes_stored} bytes, written in {middle - start:.2f} s, read in {time.perf_counter() - middle:.2f} s: {same}")
+
+
+def mean_over_time(name):
+    """The mean, of tasks that two processes share."""
+    array = Field(zarr.open(name, mode="r"))
+    values = dask.array.from_array(array, chunks=array.array.chunks)
+    return values.mean(axis=0).compute()
+
+
+def main():
+    values = field()
+    print(f"{values.nbytes} bytes of samples")
+    written(values, "rice.zarr", RiceCodec("<u2"))
+    written(values, "default.zarr", "default")
+    written(values, "none.zarr", None)
+    cluster = LocalCluster(n_workers=2, threads_per_worker=1, processes=True, host="127.0.0.1", dashboard_address=None,
+                           silence_logs=logging.CRITICAL)
+    with cluster, Client(cluster) as client:
+        print("workers:", len(client.scheduler_info()["workers"]))
+        print("their mean over time is that of numpy:", numpy.allclose(mean_over_time("rice.zarr"), values.mean(axis=0)))
+        with open("rice.zarr/2.1.0", "r+b") as chunk:
+            chunk.truncate(5000)
+        try:
+            mean_over_time("rice.zarr")
+        except ValueError as error:
+            print("a chunk that was cut:", error)
+
+
+if __name__ == "__main__":
+    with tempfile.TemporaryDirectory() as folder:
+        os.chdir(folder)
+        main()
