@@ -1,9 +1,10 @@
 ghost use Rattle.std.specs.Prelude.{◌≡◌, ℕ, ◌≤◌, true, All, length};
 ghost use Rattle.rice_samples.specs.Parameters.{IsSample};
 
+use crate::table::{Columns, bytes_of, number_of, samples_of, setting_of};
 use rice_bits::{BitSink, Meter};
 use rice_code::{Coder, bit_bound, padded_bound, step_bound};
-use rice_samples::{Setting, SettingFault};
+use rice_samples::Setting;
 use std::alloc::Global;
 use std::process::Abort;
 use std::test::Fail;
@@ -127,145 +128,61 @@ fn code_some(
     })
 }
 
-/// Samples, and the bytes and the number of bits of their code.
-#[derive(Drop)]
-struct Row<'a> {
-    setting: Setting,
-    samples: &'a [i64],
-    bytes: &'a [u8],
-    bits: u64,
-}
+/// The options, the samples, the bytes of their code, and its number of bits.
+const CODES: &str = "       | 0 1 2 3 4 5 6 7         | 20092492      | 31
+           | 0 255 0 255 0 255 0 255 | E0 1F FF*6 E0 | 67
+           | 5*15 4                  | 0058F2        | 23
+           | 5*11 4 4 3 3 2          | 0058C920      | 27
+    s      | 0 -1 -2 -3 -4 -5 -6 -7  | 200AAA80      | 25
+    n1     | 0 1 0 1 0 1 0 1         | EFE0          | 11
+    N      | 0*7 1                   | 1E40          | 10
+    N      | 0 0 0 1 0 1 0 1         | 1924          | 14
+    n4 s N | -1                      | FF*4 E0       | 35
+           |                         |               | 0
+           | 5*8                     | 0058          | 13
+           | 5                       | 0058          | 13
+           | 5*16                    | 0054          | 14
+    r64    | 0*40                    | 000080        | 17
+    r64    | 0*33                    | 000080        | 17
+    r64    | 0*32                    | 0001          | 16
+    r64    | 0*47 1                  | 00004790      | 28
+    r64    | 0*504 1                 | 00*9 1178     | 85
+    r128   | 0*520                   | 000084        | 22
+    r1     | 5*16                    | 005802C0      | 26
+    j16    | 5*16                    | 0058          | 13
+    n16    | 5*8                     | 00002C        | 22
+    n24    | 5*8                     | 00000016      | 31
+    n32    | 5*8                     | 0000000016    | 39
+    n4 s   | -8*8                    | 0880          | 9
+    p r1   | 5*16                    | 00580058      | 32
+    p      | 5*17                    | 00540058      | 29
+    p      | 5*15 4                  | 0058F2        | 24";
 
-fn codes<'a>(setting: Setting, samples: &'a [i64], bytes: &'a [u8], bits: u64) -> Row<'a> {
-    Row {
-        setting,
-        samples,
-        bytes,
-        bits,
-    }
-}
-
-fn check_rows(rt: &impl Abort, alloc: Global, rows: &[Row<'_>]) -> Result<(), Fail> {
-    for row in rows {
-        let coded = code(rt, alloc, row.setting, row.samples)?;
-        assert_eq!(rt; coded.bytes.as_slice(), row.bytes);
-        assert_eq!(rt; coded.bits, row.bits);
-        let at_once = code_some(rt, alloc, row.setting, row.samples)?;
-        assert_eq!(rt; at_once.bytes.as_slice(), row.bytes);
-        assert_eq!(rt; (at_once.bits, at_once.steps), (row.bits, coded.steps));
+#[test]
+fn samples_are_coded(rt: HostRuntime) -> Result<(), Fail> {
+    for line in CODES.lines() {
+        let mut columns = Columns::of(line);
+        let setting = setting_of(columns.next())?;
+        let samples = samples_of(columns.next(), rt.alloc())?;
+        let bytes = bytes_of(columns.next(), rt.alloc())?;
+        let bits = number_of(columns.next())?;
+        let coded = code(&rt, rt.alloc(), setting, samples.as_slice())?;
+        assert_eq!(rt; coded.bytes.as_slice(), bytes.as_slice(), "{line}");
+        assert_eq!(rt; Some(coded.bits), bits, "{line}");
+        let at_once = code_some(&rt, rt.alloc(), setting, samples.as_slice())?;
+        assert_eq!(rt; at_once.bytes.as_slice(), bytes.as_slice(), "{line}");
+        assert_eq!(rt;
+            (at_once.bits, at_once.steps),
+            (coded.bits, coded.steps),
+            "{line}"
+        );
     }
     Ok(())
 }
 
-fn setting(bits: u32, block: u32, interval: u32) -> Result<Setting, SettingFault> {
-    Setting::new(bits, block, interval, false, false, false, true, false)
-}
-
-fn signed(bits: u32) -> Result<Setting, SettingFault> {
-    Setting::new(bits, 8, 2, true, false, false, true, false)
-}
-
-fn unprocessed(bits: u32, block: u32, signed: bool) -> Result<Setting, SettingFault> {
-    Setting::new(bits, block, 2, signed, false, false, false, false)
-}
-
-fn padded(interval: u32) -> Result<Setting, SettingFault> {
-    Setting::new(8, 8, interval, false, false, false, true, true)
-}
-
-#[test]
-fn options(rt: HostRuntime) -> Result<(), Fail> {
-    let defaults = setting(8, 8, 2)?;
-    let rising = [0, 1, 2, 3, 4, 5, 6, 7];
-    let far = [0, 255, 0, 255, 0, 255, 0, 255];
-    let incompressible = [0xE0, 0x1F, 0xFF, 0xFF, 0xFF, 0xFF, 0xFF, 0xFF, 0xE0];
-    let pairs = [5, 5, 5, 5, 5, 5, 5, 5, 5, 5, 5, 5, 5, 5, 5, 4];
-    let tie = [5, 5, 5, 5, 5, 5, 5, 5, 5, 5, 5, 4, 4, 3, 3, 2];
-    let falling = [0, -1, -2, -3, -4, -5, -6, -7];
-    let bits = [0, 1, 0, 1, 0, 1, 0, 1];
-    check_rows(
-        &rt,
-        rt.alloc(),
-        &[
-            codes(defaults, &rising, &[0x20, 0x09, 0x24, 0x92], 31),
-            codes(defaults, &far, &incompressible, 67),
-            codes(defaults, &pairs, &[0x00, 0x58, 0xF2], 23),
-            codes(defaults, &tie, &[0x00, 0x58, 0xC9, 0x20], 27),
-            codes(signed(8)?, &falling, &[0x20, 0x0A, 0xAA, 0x80], 25),
-            codes(setting(1, 8, 2)?, &bits, &[0xEF, 0xE0], 11),
-        ],
-    )
-}
-
-#[test]
-fn without_preprocessing(rt: HostRuntime) -> Result<(), Fail> {
-    let eight = unprocessed(8, 8, false)?;
-    let last = [0, 0, 0, 0, 0, 0, 0, 1];
-    let tie = [0, 0, 0, 1, 0, 1, 0, 1];
-    let minus_one = [-1];
-    let ones = [0xFF, 0xFF, 0xFF, 0xFF, 0xE0];
-    check_rows(
-        &rt,
-        rt.alloc(),
-        &[
-            codes(eight, &last, &[0x1E, 0x40], 10),
-            codes(eight, &tie, &[0x19, 0x24], 14),
-            codes(unprocessed(4, 8, true)?, &minus_one, &ones, 35),
-        ],
-    )
-}
-
-#[test]
-fn runs(rt: HostRuntime) -> Result<(), Fail> {
-    let defaults = setting(8, 8, 2)?;
-    let long = setting(8, 8, 64)?;
-    let mut five = [0; 48];
-    five[47] = 1;
-    let mut longest = [0; 505];
-    longest[504] = 1;
-    let run_of_63 = [0, 0, 0, 0, 0, 0, 0, 0, 0, 0x11, 0x78];
-    check_rows(
-        &rt,
-        rt.alloc(),
-        &[
-            codes(defaults, &[], &[], 0),
-            codes(defaults, &[5; 8], &[0x00, 0x58], 13),
-            codes(defaults, &[5], &[0x00, 0x58], 13),
-            codes(defaults, &[5; 16], &[0x00, 0x54], 14),
-            codes(long, &[0; 40], &[0x00, 0x00, 0x80], 17),
-            codes(long, &[0; 33], &[0x00, 0x00, 0x80], 17),
-            codes(long, &[0; 32], &[0x00, 0x01], 16),
-            codes(long, &five, &[0x00, 0x00, 0x47, 0x90], 28),
-            codes(long, &longest, &run_of_63, 85),
-            codes(setting(8, 8, 128)?, &[0; 520], &[0x00, 0x00, 0x84], 22),
-            codes(setting(8, 8, 1)?, &[5; 16], &[0x00, 0x58, 0x02, 0xC0], 26),
-            codes(setting(8, 16, 2)?, &[5; 16], &[0x00, 0x58], 13),
-            codes(setting(16, 8, 2)?, &[5; 8], &[0x00, 0x00, 0x2C], 22),
-            codes(setting(24, 8, 2)?, &[5; 8], &[0, 0, 0, 0x16], 31),
-            codes(setting(32, 8, 2)?, &[5; 8], &[0, 0, 0, 0, 0x16], 39),
-            codes(signed(4)?, &[-8; 8], &[0x08, 0x80], 9),
-        ],
-    )
-}
-
-#[test]
-fn padded_intervals(rt: HostRuntime) -> Result<(), Fail> {
-    let pairs = [5, 5, 5, 5, 5, 5, 5, 5, 5, 5, 5, 5, 5, 5, 5, 4];
-    check_rows(
-        &rt,
-        rt.alloc(),
-        &[
-            codes(padded(1)?, &[5; 16], &[0x00, 0x58, 0x00, 0x58], 32),
-            // The second interval is left unfinished.
-            codes(padded(2)?, &[5; 17], &[0x00, 0x54, 0x00, 0x58], 29),
-            codes(padded(2)?, &pairs, &[0x00, 0x58, 0xF2], 24),
-        ],
-    )
-}
-
 #[test]
 fn pending_samples(rt: HostRuntime) -> Result<(), Fail> {
-    let setting = setting(8, 8, 2)?;
+    let setting = setting_of("")?;
     let mut coder = Coder::new(setting);
     let mut sink = BitSink::new();
     let mut meter = Meter::new();
@@ -281,7 +198,7 @@ fn pending_samples(rt: HostRuntime) -> Result<(), Fail> {
 fn steps(rt: HostRuntime) -> Result<(), Fail> {
     let mut late = [0; 64];
     late[63] = 1;
-    let coded = code(&rt, rt.alloc(), unprocessed(32, 64, false)?, &late)?;
+    let coded = code(&rt, rt.alloc(), setting_of("n32 j64 N")?, &late)?;
     assert_eq!(rt;
         coded.bytes.as_slice(),
         [0x07, 0xFF, 0xFF, 0xFF, 0xF9].as_slice()
@@ -294,7 +211,7 @@ fn steps(rt: HostRuntime) -> Result<(), Fail> {
     for i in 0..2048usize {
         far[2 * i + 1] = 4294967295;
     }
-    let widest = setting(32, 64, 64)?;
+    let widest = setting_of("n32 j64 r64")?;
     let coded = code(&rt, rt.alloc(), widest, &far)?;
     assert_eq!(rt; coded.bits, 131392);
     assert!(rt; 266496 <= coded.steps && coded.steps <= 274752);
@@ -304,7 +221,7 @@ fn steps(rt: HostRuntime) -> Result<(), Fail> {
 
 #[test]
 fn bounds(rt: HostRuntime) -> Result<(), Fail> {
-    let small = setting(8, 8, 1)?;
+    let small = setting_of("r1")?;
     assert_eq!(rt; (bit_bound(&small, 0), step_bound(&small, 0)), (0, 0));
     assert_eq!(rt; (bit_bound(&small, 8), step_bound(&small, 8)), (67, 155));
     assert_eq!(rt; (bit_bound(&small, 9), step_bound(&small, 9)), (134, 310));
@@ -312,8 +229,8 @@ fn bounds(rt: HostRuntime) -> Result<(), Fail> {
         (bit_bound(&small, 16), padded_bound(&small, 16)),
         (134, 134)
     );
-    assert_eq!(rt; padded_bound(&padded(1)?, 16), 148);
-    let wide = setting(32, 64, 2)?;
+    assert_eq!(rt; padded_bound(&setting_of("p r1")?, 16), 148);
+    let wide = setting_of("n32 j64")?;
     assert_eq!(rt; (bit_bound(&wide, 64), step_bound(&wide, 64)), (2053, 4293));
     Ok(())
 }

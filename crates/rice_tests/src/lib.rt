@@ -13,3 +13,5 @@ mod decoder;
 mod samples;
 #[cfg(test)]
 mod stream;
+#[cfg(test)]
+mod table;

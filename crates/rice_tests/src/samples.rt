@@ -1,10 +1,11 @@
 ghost use Rattle.std.specs.Prelude.{◌≡◌, ◌<◌, true, All};
 ghost use Rattle.rice_samples.specs.Parameters.{IsSample};
 
+use crate::table::{self, Columns, answer_to, bytes_of, setting_of};
 use rice_bits::Meter;
 use rice_samples::{
-    Segment, Setting, SettingFault, bytes_of, from_pattern, from_patterns, pattern, residual,
-    restore, restore_all, sample_of, samples_of, write_spellings,
+    Segment, Setting, SettingFault, bytes_of as bytes_of_sample, from_pattern, from_patterns,
+    pattern, residual, restore, restore_all, sample_of, samples_of, write_spellings,
 };
 use std::test::Fail;
 
@@ -13,67 +14,50 @@ fn of_bits(bits: u32, signed: bool) -> Result<Setting, SettingFault> {
     Setting::new(bits, 8, 2, signed, false, false, true, false)
 }
 
-#[test]
-fn refusals_in_order(rt: HostRuntime) {
-    let table = [
-        (0, 8, 2, SettingFault::BadBits),
-        (33, 7, 2, SettingFault::BadBits),
-        (8, 12, 2, SettingFault::BadBlock),
-        (8, 8, 4097, SettingFault::BadInterval),
-        (0, 7, 0, SettingFault::BadBits),
-        (8, 128, 0, SettingFault::BadBlock),
-        (32, 64, 0, SettingFault::BadInterval),
-    ];
-    for (bits, block, interval, fault) in table {
-        let answer = Setting::new(bits, block, interval, false, false, false, true, false);
-        assert_eq!(rt;
-            answer.err(),
-            Some(fault),
-            "at -n {bits} -j {block} -r {interval}"
-        );
-    }
-}
+const REFUSED: &str = "n0         | bits per sample must be 1 to 32
+    n33 j7     | bits per sample must be 1 to 32
+    j12        | block size must be 8, 16, 32 or 64
+    r4097      | interval must be 1 to 4096
+    n0 j7 r0   | bits per sample must be 1 to 32
+    j128 r0    | block size must be 8, 16, 32 or 64
+    n32 j64 r0 | interval must be 1 to 4096";
 
 #[test]
-fn texts_of_refusals(rt: HostRuntime) -> Result<(), Fail> {
-    let table = [
-        (SettingFault::BadBits, "bits per sample must be 1 to 32"),
-        (SettingFault::BadBlock, "block size must be 8, 16, 32 or 64"),
-        (SettingFault::BadInterval, "interval must be 1 to 4096"),
-    ];
-    for (fault, text) in table {
+fn settings_are_refused_in_order(rt: HostRuntime) -> Result<(), Fail> {
+    for line in REFUSED.lines() {
+        let mut columns = Columns::of(line);
+        let fault = answer_to(columns.next())?.expect_err(&rt, "a refusal");
         let printed = format!(in rt.alloc(); "{fault}")?;
-        assert_eq!(rt; printed.as_str(), text);
+        assert_eq!(rt; printed.as_str(), columns.next());
     }
     Ok(())
 }
 
+/// The bits of a sample, the length of an identifier, the greatest k, and the width of a sample.
+const GETTERS: &str = "1  | 3 | 5  | 1
+    8  | 3 | 5  | 1
+    9  | 4 | 13 | 2
+    16 | 4 | 13 | 2
+    17 | 5 | 29 | 4
+    24 | 5 | 29 | 4
+    25 | 5 | 29 | 4
+    32 | 5 | 29 | 4";
+
 #[test]
-fn getters(rt: HostRuntime) {
-    let table = [
-        (1, 3, 5, 1),
-        (8, 3, 5, 1),
-        (9, 4, 13, 2),
-        (16, 4, 13, 2),
-        (17, 5, 29, 4),
-        (24, 5, 29, 4),
-        (25, 5, 29, 4),
-        (32, 5, 29, 4),
-    ];
-    for (bits, id_len, k_max, width) in table {
-        let setting = Setting::new(bits, 16, 130, true, true, false, true, true).expect(
-            &rt,
-            "a legal setting",
-        );
+fn getters(rt: HostRuntime) -> Result<(), Fail> {
+    for line in GETTERS.lines() {
+        let mut columns = Columns::of(line);
+        let bits = columns.next().parse::<u32>()?;
+        let setting = Setting::new(bits, 16, 130, true, true, false, true, true)?;
         assert_eq!(rt; setting.bits(), bits);
         assert_eq!(rt; setting.block(), 16);
         assert_eq!(rt; setting.interval(), 130);
-        assert_eq!(rt; setting.id_len(), id_len, "at {bits}");
-        assert_eq!(rt; setting.k_max(), k_max, "at {bits}");
-        assert_eq!(rt; setting.width(), width, "at {bits}");
-        assert!(rt; setting.preprocess());
-        assert!(rt; setting.pads());
+        assert_eq!(rt; setting.id_len(), columns.next().parse::<u32>()?, "{line}");
+        assert_eq!(rt; setting.k_max(), columns.next().parse::<u32>()?, "{line}");
+        assert_eq!(rt; setting.width(), columns.next().parse::<u32>()?, "{line}");
+        assert!(rt; setting.preprocess() && setting.pads());
     }
+    Ok(())
 }
 
 #[test]
@@ -104,113 +88,122 @@ fn places(rt: HostRuntime) {
     assert!(rt; !plain.pads());
 }
 
+/// The options, the bytes of a sample, and the sample, where there is one.
+const SPELLINGS: &str = "n10       | FF03     | 1023
+    n10       | 0004     |
+    n10 s     | FF01     | 511
+    n10 s     | 00FE     | -512
+    n10 s     | 0002     |
+    n10 s     | FFFD     |
+    n24 s m 3 | 800000   | -8388608
+    n24       | 00000001 |
+    n32       | FFFFFFFF | 4294967295
+    n32 s     | FFFFFFFF | -1
+    n1 s      | FF       | -1
+    n1 s      | 01       |
+    n4        | 10       |
+    n4 s      | F8       | -8
+    n16 m     | 0005     | 5
+    n24 3     | 010203   | 197121";
+
 #[test]
-fn spellings(rt: HostRuntime) {
-    let table: [(u32, bool, bool, bool, &[u8], Option<i64>); 16] = [
-        (10, false, false, false, &[0xFF, 0x03], Some(1023)),
-        (10, false, false, false, &[0x00, 0x04], None),
-        (10, true, false, false, &[0xFF, 0x01], Some(511)),
-        (10, true, false, false, &[0x00, 0xFE], Some(-512)),
-        (10, true, false, false, &[0x00, 0x02], None),
-        (10, true, false, false, &[0xFF, 0xFD], None),
-        (24, true, true, true, &[0x80, 0x00, 0x00], Some(-8388608)),
-        (24, false, false, false, &[0x00, 0x00, 0x00, 0x01], None),
-        (
-            32,
-            false,
-            false,
-            false,
-            &[0xFF, 0xFF, 0xFF, 0xFF],
-            Some(4294967295),
-        ),
-        (32, true, false, false, &[0xFF, 0xFF, 0xFF, 0xFF], Some(-1)),
-        (1, true, false, false, &[0xFF], Some(-1)),
-        (1, true, false, false, &[0x01], None),
-        (4, false, false, false, &[0x10], None),
-        (4, true, false, false, &[0xF8], Some(-8)),
-        (16, false, true, false, &[0x00, 0x05], Some(5)),
-        (24, false, false, true, &[0x01, 0x02, 0x03], Some(0x030201)),
-    ];
-    for (bits, signed, msb, three, bytes, sample) in table {
-        let setting = Setting::new(bits, 8, 2, signed, msb, three, true, false).expect(
-            &rt,
-            "a legal setting",
-        );
-        assert_eq!(rt; bytes.len(), setting.width() as usize);
+fn samples_are_spelled(rt: HostRuntime) -> Result<(), Fail> {
+    for line in SPELLINGS.lines() {
+        let mut columns = Columns::of(line);
+        let setting = setting_of(columns.next())?;
+        let bytes = bytes_of(columns.next(), rt.alloc())?;
+        let bytes = bytes.as_slice();
+        let sample = sample_in(columns.next())?;
+        assert_eq!(rt; bytes.len(), setting.width() as usize, "{line}");
         if bytes.len() == setting.width() as usize {
-            assert_eq!(rt; sample_of(&setting, bytes), sample, "at {bytes:?}");
+            assert_eq!(rt; sample_of(&setting, bytes), sample, "{line}");
         }
         if let Some(x) = sample {
             assert!(rt; setting.in_range(x));
             if setting.in_range(x) {
-                assert_eq!(rt; bytes_of(&setting, x).as_slice(), bytes);
+                assert_eq!(rt; bytes_of_sample(&setting, x).as_slice(), bytes);
             }
         }
     }
+    Ok(())
 }
 
+/// Returns the sample of a column, or `None` where it is empty.
+fn sample_in(text: &str) -> Result<Option<i64>, Fail> {
+    if text.is_empty() {
+        return Ok(None);
+    }
+    Ok(Some(text.parse::<i64>()?))
+}
+
+/// The options, a sample, and its pattern as a number.
+const PATTERNS: &str = "n10 s | -512        | 512
+    n10 s | -1          | 1023
+    n10 s | 511         | 511
+    n10   | 1023        | 1023
+    n1 s  | -1          | 1
+    n1    | 1           | 1
+    n32 s | -2147483648 | 2147483648
+    n32   | 4294967295  | 4294967295";
+
 #[test]
-fn patterns(rt: HostRuntime) {
-    let table = [
-        (10, true, -512, 512),
-        (10, true, -1, 1023),
-        (10, true, 511, 511),
-        (10, false, 1023, 1023),
-        (1, true, -1, 1),
-        (1, false, 1, 1),
-        (32, true, -2147483648, 2147483648),
-        (32, false, 4294967295, 4294967295),
-    ];
-    for (bits, signed, x, word) in table {
-        let setting = of_bits(bits, signed).expect(&rt, "a legal setting");
+fn patterns(rt: HostRuntime) -> Result<(), Fail> {
+    for line in PATTERNS.lines() {
+        let mut columns = Columns::of(line);
+        let setting = setting_of(columns.next())?;
+        let x = columns.next().parse::<i64>()?;
+        let word = columns.next().parse::<u32>()?;
         assert!(rt; setting.in_range(x));
-        if setting.in_range(x) {
-            let digits = pattern(&setting, x);
-            assert_eq!(rt; digits, word, "at {x}");
-            assert_eq!(rt; from_pattern(&setting, digits), x);
-        }
+        let digits = pattern(&setting, x);
+        assert_eq!(rt; digits, word, "{line}");
+        assert_eq!(rt; from_pattern(&setting, digits), x);
     }
+    Ok(())
 }
 
+/// The options, the sample before, a sample, and its residual.
+const RESIDUALS: &str = "      | 5           | 5           | 0
+          | 5           | 4           | 1
+          | 5           | 6           | 2
+          | 5           | 0           | 9
+          | 5           | 10          | 10
+          | 5           | 11          | 11
+          | 250         | 255         | 10
+          | 250         | 244         | 11
+          | 0           | 255         | 255
+          | 255         | 0           | 255
+    s     | 0           | -1          | 1
+    s     | 0           | 127         | 254
+    s     | 0           | -128        | 255
+    n1    | 0           | 1           | 1
+    n1    | 1           | 0           | 1
+    n1 s  | 0           | -1          | 1
+    n1 s  | -1          | 0           | 1
+    n32   | 0           | 4294967295  | 4294967295
+    n32   | 4294967295  | 0           | 4294967295
+    n32   | 4294967295  | 4294967294  | 1
+    n32 s | -2147483648 | 2147483647  | 4294967295
+    n32 s | 2147483647  | -2147483648 | 4294967295
+    n32 s | 0           | -1          | 1
+    n32 s | 0           | 2147483647  | 4294967294
+    n32 s | 0           | -2147483648 | 4294967295
+    n32 s | -2147483648 | -2147483648 | 0";
+
 #[test]
-fn residuals(rt: HostRuntime) {
-    let table: [(u32, bool, i64, i64, u32); 26] = [
-        (8, false, 5, 5, 0),
-        (8, false, 5, 4, 1),
-        (8, false, 5, 6, 2),
-        (8, false, 5, 0, 9),
-        (8, false, 5, 10, 10),
-        (8, false, 5, 11, 11),
-        (8, false, 250, 255, 10),
-        (8, false, 250, 244, 11),
-        (8, false, 0, 255, 255),
-        (8, false, 255, 0, 255),
-        (8, true, 0, -1, 1),
-        (8, true, 0, 127, 254),
-        (8, true, 0, -128, 255),
-        (1, false, 0, 1, 1),
-        (1, false, 1, 0, 1),
-        (1, true, 0, -1, 1),
-        (1, true, -1, 0, 1),
-        (32, false, 0, 4294967295, 4294967295),
-        (32, false, 4294967295, 0, 4294967295),
-        (32, false, 4294967295, 4294967294, 1),
-        (32, true, -2147483648, 2147483647, 4294967295),
-        (32, true, 2147483647, -2147483648, 4294967295),
-        (32, true, 0, -1, 1),
-        (32, true, 0, 2147483647, 4294967294),
-        (32, true, 0, -2147483648, 4294967295),
-        (32, true, -2147483648, -2147483648, 0),
-    ];
-    for (bits, signed, p, x, expected) in table {
-        let setting = of_bits(bits, signed).expect(&rt, "a legal setting");
-        assert!(rt; setting.in_range(p) && setting.in_range(x));
-        if setting.in_range(p) && setting.in_range(x) {
-            let d = residual(&setting, p, x);
-            assert_eq!(rt; d, expected, "at {p}, {x}");
-            assert_eq!(rt; restore(&setting, p, d), x, "at {p}, {d}");
-        }
+fn residuals(rt: HostRuntime) -> Result<(), Fail> {
+    for line in RESIDUALS.lines() {
+        let mut columns = Columns::of(line);
+        let setting = setting_of(columns.next())?;
+        let p = columns.next().parse::<i64>()?;
+        let x = columns.next().parse::<i64>()?;
+        let expected = columns.next().parse::<u32>()?;
+        assert!(rt; setting.in_range(p));
+        assert!(rt; setting.in_range(x));
+        let d = residual(&setting, p, x);
+        assert_eq!(rt; d, expected, "{line}");
+        assert_eq!(rt; restore(&setting, p, d), x, "{line}");
     }
+    Ok(())
 }
 
 /// Both ways between samples and residuals, and the patterns of 8 bits stand for all residuals.
@@ -235,86 +228,85 @@ fn all_pairs(rt: HostRuntime) {
     }
 }
 
-#[test]
-fn sums_of_blocks(rt: HostRuntime) {
-    let table: [(usize, u32, u32, u64); 6] = [
-        (8, 255, 5, 56),
-        (8, 255, 29, 0),
-        (64, 4294967295, 0, 274877906880),
-        (64, 4294967295, 29, 448),
-        (16, 4294967295, 1, 34359738352),
-        (32, 4294967295, 2, 34359738336),
-    ];
-    for (size, value, k, sum) in table {
-        let mut segment = Segment::new();
-        for _ in 0..size {
-            if segment.len() < 64 {
-                segment.push(value);
-            }
-        }
-        assert_eq!(rt; segment.len(), size);
-        if segment.len() == size
-            && (size == 8 || size == 16 || size == 32 || size == 64)
-            && k <= 29
-        {
-            let mut meter = Meter::new();
-            let block = segment.block(0, size);
-            assert_eq!(rt; block.len(), size);
-            assert_eq!(rt; block.sum_shifted(k, &mut meter), sum, "at {size}, {k}");
-            assert_eq!(rt; meter.steps(), size as u64);
+/// Returns a segment of up to 64 residuals of one value.
+fn segment_of(size: usize, value: u32) -> Segment {
+    let mut segment = Segment::new();
+    for _ in 0..size {
+        if segment.len() < 64 {
+            segment.push(value);
         }
     }
+    segment
 }
 
-/// Blocks of one value, with small and large sums, that stop at the limit or before it.
+/// The length of a block, the value of its residuals, k, and the sum without the k lowest digits.
+const SUMS: &str = "8  | 255        | 5  | 56
+    8  | 255        | 29 | 0
+    64 | 4294967295 | 0  | 274877906880
+    64 | 4294967295 | 29 | 448
+    16 | 4294967295 | 1  | 34359738352
+    32 | 4294967295 | 2  | 34359738336";
+
 #[test]
-fn stops(rt: HostRuntime) {
-    let table: [(usize, u32, u32, u32, u64, u64); 5] = [
-        (8, 255, 5, 5, 56, 48),
-        (8, 255, 29, 7, 8, 72),
-        (64, 4294967295, 29, 29, 448, 1920),
-        (32, 0, 29, 0, 0, 64),
-        (16, 3, 0, 0, 48, 16),
-    ];
-    for (size, value, limit, k, sum, steps) in table {
-        let mut segment = Segment::new();
-        for _ in 0..size {
-            if segment.len() < 64 {
-                segment.push(value);
-            }
-        }
-        assert_eq!(rt; segment.len(), size);
-        assert!(rt; !segment.is_empty());
-        if segment.len() == size
-            && (size == 8 || size == 16 || size == 32 || size == 64)
-            && limit <= 29
-        {
-            let mut meter = Meter::new();
-            let stop = segment
-                .block(0, size)
-                .first_stop(limit, size as u64, &mut meter);
-            assert_eq!(rt; stop, (k, sum), "at {size}, {limit}");
-            assert_eq!(rt; meter.steps(), steps);
-        }
+fn sums_of_blocks(rt: HostRuntime) -> Result<(), Fail> {
+    for line in SUMS.lines() {
+        let mut columns = Columns::of(line);
+        let size = columns.next().parse::<usize>()?;
+        let value = columns.next().parse::<u32>()?;
+        let k = columns.next().parse::<u32>()?;
+        let sum = columns.next().parse::<u64>()?;
+        let segment = segment_of(size, value);
+        assert!(rt; segment.len() == size && k <= 29);
+        assert!(rt; size == 8 || size == 16 || size == 32 || size == 64);
+        let mut meter = Meter::new();
+        let block = segment.block(0, size);
+        assert_eq!(rt; block.len(), size);
+        assert_eq!(rt; block.sum_shifted(k, &mut meter), sum, "{line}");
+        assert_eq!(rt; meter.steps(), size as u64);
     }
+    Ok(())
+}
+
+/// Blocks of one value that stop at the limit or before it: their length, the value, the limit, k and the sum where the
+/// search stops, and its steps.
+const STOPS: &str = "8  | 255        | 5  | 5  | 56  | 48
+    8  | 255        | 29 | 7  | 8   | 72
+    64 | 4294967295 | 29 | 29 | 448 | 1920
+    32 | 0          | 29 | 0  | 0   | 64
+    16 | 3          | 0  | 0  | 48  | 16";
+
+#[test]
+fn stops(rt: HostRuntime) -> Result<(), Fail> {
+    for line in STOPS.lines() {
+        let mut columns = Columns::of(line);
+        let size = columns.next().parse::<usize>()?;
+        let value = columns.next().parse::<u32>()?;
+        let limit = columns.next().parse::<u32>()?;
+        let k = columns.next().parse::<u32>()?;
+        let sum = columns.next().parse::<u64>()?;
+        let steps = columns.next().parse::<u64>()?;
+        let segment = segment_of(size, value);
+        assert!(rt; !segment.is_empty());
+        assert!(rt; segment.len() == size && limit <= 29);
+        assert!(rt; size == 8 || size == 16 || size == 32 || size == 64);
+        let mut meter = Meter::new();
+        let stop = segment
+            .block(0, size)
+            .first_stop(limit, size as u64, &mut meter);
+        assert_eq!(rt; stop, (k, sum), "{line}");
+        assert_eq!(rt; meter.steps(), steps, "{line}");
+    }
+    Ok(())
 }
 
 #[test]
 fn pair_sums(rt: HostRuntime) {
-    let table: [(u32, u128); 3] = [(4294967295, (1 << 67) - (1 << 35) + 4), (0, 4), (1, 20)];
-    for (value, sum) in table {
-        let mut segment = Segment::new();
-        for _ in 0..8 {
-            if segment.len() < 8 {
-                segment.push(value);
-            }
-        }
-        assert_eq!(rt; segment.len(), 8);
-        if segment.len() == 8 {
-            let mut meter = Meter::new();
-            assert_eq!(rt; segment.block(0, 8).pair_sum(&mut meter), sum, "at {value}");
-            assert_eq!(rt; meter.steps(), 8);
-        }
+    for (value, sum) in [(4294967295, (1u128 << 67) - (1 << 35) + 4), (0, 4), (1, 20)] {
+        let mut meter = Meter::new();
+        let segment = segment_of(8, value);
+        assert!(rt; segment.len() == 8);
+        assert_eq!(rt; segment.block(0, 8).pair_sum(&mut meter), sum, "at {value}");
+        assert_eq!(rt; meter.steps(), 8);
     }
 }
 
@@ -448,43 +440,35 @@ fn spelled(bits: u32, signed: bool, msb: bool) -> Result<Setting, SettingFault> 
     Setting::new(bits, 8, 2, signed, msb, true, true, false)
 }
 
+/// The options, the number of samples that are wanted, and those that the bytes spell.
+const ROWS: &str = "3         | 4 | 1 2 255 254
+    s m 3     | 4 | 1 2 -1 -2
+    n16 3     | 4 | 513 65279 32768 258
+    n16 s m 3 | 4 | 258 -2 128 513
+    n24 s 3   | 4 | -65023 -8388354 196866 262144
+    n10 3     | 4 | 513
+    n32 m 3   | 3 | 16973822 8389121 50331652";
+
 #[test]
 fn samples_of_bytes(rt: HostRuntime) -> Result<(), Fail> {
-    let bytes = [
-        0x01, 0x02, 0xFF, 0xFE, 0x00, 0x80, 0x02, 0x01, 0x03, 0x00, 0x00, 0x04,
-    ];
-    let table: [(Setting, usize, usize, [i64; 4]); 7] = [
-        (spelled(8, false, false)?, 4, 4, [1, 2, 255, 254]),
-        (spelled(8, true, true)?, 4, 4, [1, 2, -1, -2]),
-        (spelled(16, false, false)?, 4, 4, [513, 65279, 32768, 258]),
-        (spelled(16, true, true)?, 4, 4, [258, -2, 128, 513]),
-        (
-            spelled(24, true, false)?,
-            4,
-            4,
-            [-65023, -8388354, 196866, 262144],
-        ),
-        (spelled(10, false, false)?, 4, 1, [513, 0, 0, 0]),
-        (
-            spelled(32, false, true)?,
-            3,
-            3,
-            [16973822, 8389121, 50331652, 0],
-        ),
-    ];
-    for (setting, len, count, samples) in table {
-        let mut read = [0; 4];
+    let bytes = bytes_of("0102FFFE0080020103000004", rt.alloc())?;
+    let bytes = bytes.as_slice();
+    for line in ROWS.lines() {
+        let mut columns = Columns::of(line);
+        let setting = setting_of(columns.next())?;
+        let len = columns.next().parse::<usize>()?;
+        let expected = table::samples_of(columns.next(), rt.alloc())?;
+        let expected = expected.as_slice();
         let width = setting.width() as usize;
-        assert!(rt; len <= 4 && width * len <= 12);
+        let mut read = [0; 4];
+        assert!(rt; len <= 4 && width * len <= bytes.len());
         let taken = samples_of(&setting, &bytes[..width * len], &mut read[..len]);
-        assert_eq!(rt; taken, count);
-        assert_eq!(rt; read[..count.min(4)], samples[..count.min(4)]);
-        let spelled = &samples[..count.min(4)];
-        let end = width * spelled.len();
-        assert!(rt; end <= 12 && are_in_range(&setting, spelled));
+        assert_eq!(rt; read[..taken], *expected, "{line}");
+        let end = width * expected.len();
+        assert!(rt; end <= 12 && end <= bytes.len() && are_in_range(&setting, expected));
         let mut back = [0; 12];
-        write_spellings(&setting, spelled, &mut back[..end]);
-        assert_eq!(rt; back[..end], bytes[..end]);
+        write_spellings(&setting, expected, &mut back[..end]);
+        assert_eq!(rt; back[..end], bytes[..end], "{line}");
     }
     Ok(())
 }

@@ -3,4 +3,3 @@ mod decoding_cases;
 mod device_cases;
 mod encoding_cases;
 mod round_trips;
-mod table;

@@ -1,5 +1,5 @@
 //! Codes of any coder, whole and cut, and what they decode to.
-use crate::stream::table::{Columns, bytes_of, fault_of, number_of, setting_of};
+use crate::table::{Columns, bytes_of, fault_of, number_of, setting_of};
 use rice_bits::{MemoryIn, MemoryOut, ZeroIn};
 use rice_samples::Setting;
 use rice_stream::{Fault, decode};
@@ -29,61 +29,41 @@ fn decodes(rt: &impl Abort, alloc: Global, table: &str) -> Result<(), Fail> {
     Ok(())
 }
 
-const BLOCKS: &str = " |             |   |                  |
-    | 0058        |   | 05*8             |
-    | 0058        | 1 | 05               |
-    | 00580000    |   | 05*8             |
-    | FF*2        | 0 |                  |
-    | 40155580    |   | 0001020304050607 |";
+const CODES: &str = "          |                    |    |                  |
+              | 0058               |    | 05*8             |
+              | 0058               | 1  | 05               |
+              | 00580000           |    | 05*8             |
+              | FF*2               | 0  |                  |
+              | 40155580           |    | 0001020304050607 |
+              | 000080             |    | 00*16            |
+    r64       | 000080             |    | 00*512           |
+    r64       | 000080             | 40 | 00*40            |
+    r5        | 000040             |    | 00*40            |
+    r64       | 00*9 10            |    | 00*504           |
+    N j64 r64 | 0080               |    | 00*4096          |
+    n1        | CFE100000000       |    | 0001010101010101 |
+    r1 p      | 0058*2             |    | 05*16            |
+    r1 p      | 005F0058           |    | 05*16            |
+    N         | FE1E3E5E7E9EBEDEE0 | 9  | F0F1F2F3F4F5F6F7 | ends 8
+              | 2009               |    |                  | ends 0
+              |                    | 1  |                  | ends 0
+              | 0058               | 9  | 05*8             | ends 8
+    N         | FE1E               |    |                  | ends 0
+    r1        | 0058*2             |    | 05*8 00*8        | ends 16
+              | 0002               |    |                  | run 0
+              | 0002               | 8  |                  | run 0
+    r64       | 00*9 08            |    |                  | run 0
+    n4        | 200001FC           |    |                  | residual 0
+              | 105780             |    |                  | residual 0
+    n1        | CFE200000000       |    |                  | residual 0
+    r1        | 00                 |    |                  |
+    r1        | 0058               |    | 05*8             |
+    r1        | 005802             |    | 05*8             | ends 8
+    r1        | 005802C0           |    | 05*16            |";
 
 #[test]
-fn blocks_are_decoded(rt: HostRuntime) -> Result<(), Fail> {
-    decodes(&rt, rt.alloc(), BLOCKS)
-}
-
-const RUNS: &str = "  | 000080  |    | 00*16   |
-    r64       | 000080  |    | 00*512  |
-    r64       | 000080  | 40 | 00*40   |
-    r5        | 000040  |    | 00*40   |
-    r64       | 00*9 10 |    | 00*504  |
-    N j64 r64 | 0080    |    | 00*4096 |";
-
-#[test]
-fn runs_are_decoded(rt: HostRuntime) -> Result<(), Fail> {
-    decodes(&rt, rt.alloc(), RUNS)
-}
-
-const OTHERS: &str = "n1 | CFE100000000 | | 0001010101010101 |
-    r1 p | 0058*2   | | 05*16 |
-    r1 p | 005F0058 | | 05*16 |";
-
-#[test]
-fn other_splits_and_padding_are_decoded(rt: HostRuntime) -> Result<(), Fail> {
-    decodes(&rt, rt.alloc(), OTHERS)
-}
-
-const ENDS_EARLY: &str = "N | FE1E3E5E7E9EBEDEE0 | 9 | F0F1F2F3F4F5F6F7 | ends 8
-       | 2009   |   |           | ends 0
-       |        | 1 |           | ends 0
-       | 0058   | 9 | 05*8      | ends 8
-    N  | FE1E   |   |           | ends 0
-    r1 | 0058*2 |   | 05*8 00*8 | ends 16";
-
-#[test]
-fn a_code_that_ends_early_is_told(rt: HostRuntime) -> Result<(), Fail> {
-    decodes(&rt, rt.alloc(), ENDS_EARLY)
-}
-
-const UNSOUND: &str = " | 0002 |   | | run 0
-        | 0002         | 8 | | run 0
-    r64 | 00*9 08      |   | | run 0
-    n4  | 200001FC     |   | | residual 0
-        | 105780       |   | | residual 0
-    n1  | CFE200000000 |   | | residual 0";
-
-#[test]
-fn what_is_not_sound_is_refused(rt: HostRuntime) -> Result<(), Fail> {
-    decodes(&rt, rt.alloc(), UNSOUND)
+fn codes_are_decoded(rt: HostRuntime) -> Result<(), Fail> {
+    decodes(&rt, rt.alloc(), CODES)
 }
 
 // The options, the code, the number of samples asked for, the bits, the least and the most steps.
@@ -146,16 +126,6 @@ fn a_code_that_is_cut_is_told(rt: HostRuntime) -> Result<(), Fail> {
         assert_eq!(&rt; outlet.written().len(), 0);
     }
     Ok(())
-}
-
-const CUT_BETWEEN: &str = "r1 | 00 | | |
-    r1 | 0058     | | 05*8  |
-    r1 | 005802   | | 05*8  | ends 8
-    r1 | 005802C0 | | 05*16 |";
-
-#[test]
-fn a_code_that_is_cut_between_data_sets_is_whole(rt: HostRuntime) -> Result<(), Fail> {
-    decodes(&rt, rt.alloc(), CUT_BETWEEN)
 }
 
 #[test]

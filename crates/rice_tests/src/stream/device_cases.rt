@@ -1,5 +1,5 @@
 //! Devices that fail, and samples that are none.
-use crate::stream::table::{Columns, bytes_of, fault_of, number_of, setting_of};
+use crate::table::{Columns, bytes_of, fault_of, number_of, setting_of};
 use rice_bits::{MemoryIn, MemoryOut};
 use rice_stream::{Fault, decode, encode};
 use std::alloc::Global;
@@ -41,53 +41,41 @@ fn place_of(text: &str) -> Result<Option<usize>, Fail> {
     }
 }
 
-const NO_SAMPLES: &str = "n4 | 10 | | | | range 0 | 0 | 0
-    n10     | 050005     | | |      | inside 1 | 1 | 0
-    n10     | 0500000405 | | |      | range 1  | 1 | 0
-    n4 r1   | 05*8 10    | | | 05   | range 8  | 8 | 9
-    n4 r1 p | 05*8 10    | | | 0580 | range 8  | 8 | 9";
+// Bytes that spell no sample, an intake that fails at each place of sixteen samples, and an outlet that fails at each place of
+// their code.
+const STOPS: &str = "n4      | 10         |    |   |          | range 0  | 0  | 0
+    n10     | 050005     |    |   |          | inside 1 | 1  | 0
+    n10     | 0500000405 |    |   |          | range 1  | 1  | 0
+    n4 r1   | 05*8 10    |    |   | 05       | range 8  | 8  | 9
+    n4 r1 p | 05*8 10    |    |   | 0580     | range 8  | 8  | 9
+    r1      | 05*16      | 0  |   |          | read     | 0  | 0
+    r1      | 05*16      | 1  |   |          | read     | 1  | 0
+    r1      | 05*16      | 2  |   |          | read     | 2  | 0
+    r1      | 05*16      | 3  |   |          | read     | 3  | 0
+    r1      | 05*16      | 4  |   |          | read     | 4  | 0
+    r1      | 05*16      | 5  |   |          | read     | 5  | 0
+    r1      | 05*16      | 6  |   |          | read     | 6  | 0
+    r1      | 05*16      | 7  |   |          | read     | 7  | 0
+    r1      | 05*16      | 8  |   | 00       | read     | 8  | 13
+    r1      | 05*16      | 9  |   | 00       | read     | 9  | 13
+    r1      | 05*16      | 10 |   | 00       | read     | 10 | 13
+    r1      | 05*16      | 11 |   | 00       | read     | 11 | 13
+    r1      | 05*16      | 12 |   | 00       | read     | 12 | 13
+    r1      | 05*16      | 13 |   | 00       | read     | 13 | 13
+    r1      | 05*16      | 14 |   | 00       | read     | 14 | 13
+    r1      | 05*16      | 15 |   | 00       | read     | 15 | 13
+    r1      | 05*16      | 16 |   | 005802   | read     | 16 | 26
+    r1 p    | 05*16      | 8  |   | 0058     | read     | 8  | 13
+    r1      | 05*16      |    | 0 |          | write    | 8  | 13
+    r1      | 05*16      |    | 1 | 00       | write    | 16 | 26
+    r1      | 05*16      |    | 2 | 0058     | write    | 16 | 26
+    r1      | 05*16      |    | 3 | 005802   | write    | 16 | 26
+    r1      | 05*16      |    | 4 | 005802C0 |          | 16 | 26
+    r1 p    | 05*16      |    | 1 | 00       | write    | 8  | 13";
 
 #[test]
-fn what_is_no_sample_stops_encoding(rt: HostRuntime) -> Result<(), Fail> {
-    stops(&rt, rt.alloc(), NO_SAMPLES)
-}
-
-// An intake that fails at each place of sixteen samples.
-const READS: &str = "r1 | 05*16 | 0 | | | read | 0 | 0
-    r1   | 05*16 | 1  | |        | read | 1  | 0
-    r1   | 05*16 | 2  | |        | read | 2  | 0
-    r1   | 05*16 | 3  | |        | read | 3  | 0
-    r1   | 05*16 | 4  | |        | read | 4  | 0
-    r1   | 05*16 | 5  | |        | read | 5  | 0
-    r1   | 05*16 | 6  | |        | read | 6  | 0
-    r1   | 05*16 | 7  | |        | read | 7  | 0
-    r1   | 05*16 | 8  | | 00     | read | 8  | 13
-    r1   | 05*16 | 9  | | 00     | read | 9  | 13
-    r1   | 05*16 | 10 | | 00     | read | 10 | 13
-    r1   | 05*16 | 11 | | 00     | read | 11 | 13
-    r1   | 05*16 | 12 | | 00     | read | 12 | 13
-    r1   | 05*16 | 13 | | 00     | read | 13 | 13
-    r1   | 05*16 | 14 | | 00     | read | 14 | 13
-    r1   | 05*16 | 15 | | 00     | read | 15 | 13
-    r1   | 05*16 | 16 | | 005802 | read | 16 | 26
-    r1 p | 05*16 | 8  | | 0058   | read | 8  | 13";
-
-#[test]
-fn an_intake_that_fails_stops_encoding(rt: HostRuntime) -> Result<(), Fail> {
-    stops(&rt, rt.alloc(), READS)
-}
-
-// An outlet that fails at each place of the code.
-const WRITES: &str = "r1 | 05*16 | | 0 | | write | 8 | 13
-    r1   | 05*16 | | 1 | 00     | write | 16 | 26
-    r1   | 05*16 | | 2 | 0058   | write | 16 | 26
-    r1   | 05*16 | | 3 | 005802 | write | 16 | 26
-    r1   | 05*16 | | 4 | 005802C0 |     | 16 | 26
-    r1 p | 05*16 | | 1 | 00     | write | 8  | 13";
-
-#[test]
-fn an_outlet_that_fails_stops_encoding(rt: HostRuntime) -> Result<(), Fail> {
-    stops(&rt, rt.alloc(), WRITES)
+fn encoding_stops(rt: HostRuntime) -> Result<(), Fail> {
+    stops(&rt, rt.alloc(), STOPS)
 }
 
 #[test]

@@ -1,7 +1,7 @@
 //! Samples and their codes.
 ghost use Rattle.std.specs.Prelude.{◌<◌};
 
-use crate::stream::table::{Columns, bytes_of, number_of, setting_of};
+use crate::table::{Columns, bytes_of, number_of, setting_of};
 use rice_bits::{MemoryIn, MemoryOut};
 use rice_samples::Setting;
 use rice_stream::{decode, encode};
@@ -66,89 +66,47 @@ fn encodes_to(
     Ok(outcome.report.samples)
 }
 
-const BLOCKS: &str = " |                    |                    | 0
-    N |                    |                    | 0
-      | 05                 | 0058               |
-      | 0001020304050607   | 20092492           | 31
-      | 00FF*4             | E0 1F FF*6 E0      | 67
-      | 05*15 04           | 0058F2             | 23
-      | 05*11 0404030302   | 0058C920           | 27";
+const CODES: &str = "          |                  |                    | 0
+    N         |                  |                    | 0
+              | 05               | 0058               |
+              | 0001020304050607 | 20092492           | 31
+              | 00FF*4           | E0 1F FF*6 E0      | 67
+              | 05*15 04         | 0058F2             | 23
+              | 05*11 0404030302 | 0058C920           | 27
+    N         | 00*7 01          | 1E40               |
+    N         | F0F1F2F3F4F5F6F7 | FE1E3E5E7E9EBEDEE0 | 67
+    N         | F0               | FE 1E*7 00         | 67
+    N         | 00*3 0100010001  | 1924               | 14
+    n1        | 0001*4           | EFE0               | 11
+              | 05*8             | 0058               | 13
+              | 05*16            | 0054               | 14
+    r1        | 05*16            | 005802C0           | 26
+    j16       | 05*16            | 0058               |
+    r64       | 00*40            | 000080             |
+    r64       | 00*33            | 000080             |
+    r64       | 00*32            | 0001               | 16
+    r64       | 00*47 01         | 00004790           |
+    r128      | 00*520           | 000084             |
+    r64       | 00*504 01        | 00*9 1178          | 85
+    r1 p      | 05*16            | 00580058           | 26
+    p         | 05*17            | 00540058           | 27
+    p         | 05*15 04         | 0058F2             |
+    s         | 00FFFEFDFCFBFAF9 | 200AAA80           | 25
+    s         | 807F*4           | F0 1F FF*6 E0      | 67
+    n4 s      | F8*8             | 0880               |
+    n4 s N    | FF               | FFFFFFFFE0         |
+    n9 m N    | 01FF*8           | FF*9 F0            | 76
+    n9 N      | FF01*8           | FF*9 F0            | 76
+    n16 m     | 0005*8           | 00002C             |
+    n24 3 m   | 000005*8         | 00000016           |
+    n24 3     | 050000*8         | 00000016           |
+    n24 m     | 00000005*8       | 00000016           |
+    n32       | 05000000*8       | 0000000016         |
+    n32 j64 N | 00*252 01000000  | 07FFFFFFF9         | 40";
 
 #[test]
-fn blocks_encode(rt: HostRuntime) -> Result<(), Fail> {
-    encodes(&rt, rt.alloc(), BLOCKS)
-}
-
-const NOT_PREPROCESSED: &str = "N | 00*7 01 | 1E40 |
-    N  | F0F1F2F3F4F5F6F7 | FE1E3E5E7E9EBEDEE0 | 67
-    N  | F0               | FE 1E*7 00         | 67
-    N  | 00*3 0100010001  | 1924               | 14
-    n1 | 0001*4           | EFE0               | 11";
-
-#[test]
-fn blocks_without_preprocessing_encode(rt: HostRuntime) -> Result<(), Fail> {
-    encodes(&rt, rt.alloc(), NOT_PREPROCESSED)
-}
-
-const RUNS: &str = " | 05*8 | 0058 | 13
-        | 05*16 | 0054     | 14
-    r1  | 05*16 | 005802C0 | 26
-    j16 | 05*16 | 0058     |";
-
-#[test]
-fn runs_encode(rt: HostRuntime) -> Result<(), Fail> {
-    encodes(&rt, rt.alloc(), RUNS)
-}
-
-const SEGMENTS: &str = "r64 | 00*40 | 000080 |
-    r64  | 00*33     | 000080    |
-    r64  | 00*32     | 0001      | 16
-    r64  | 00*47 01  | 00004790  |
-    r128 | 00*520    | 000084    |
-    r64  | 00*504 01 | 00*9 1178 | 85";
-
-#[test]
-fn runs_of_a_segment_encode(rt: HostRuntime) -> Result<(), Fail> {
-    encodes(&rt, rt.alloc(), SEGMENTS)
-}
-
-const PADDED: &str = "r1 p | 05*16 | 00580058 | 26
-    p | 05*17    | 00540058 | 27
-    p | 05*15 04 | 0058F2   |";
-
-#[test]
-fn intervals_are_padded(rt: HostRuntime) -> Result<(), Fail> {
-    encodes(&rt, rt.alloc(), PADDED)
-}
-
-const SIGNED: &str = "s | 00FFFEFDFCFBFAF9 | 200AAA80 | 25
-    s      | 807F*4 | F0 1F FF*6 E0 | 67
-    n4 s   | F8*8   | 0880          |
-    n4 s N | FF     | FFFFFFFFE0    |";
-
-#[test]
-fn signed_samples_encode(rt: HostRuntime) -> Result<(), Fail> {
-    encodes(&rt, rt.alloc(), SIGNED)
-}
-
-const NINE_BITS: &str = "n9 m N | 01FF*8 | FF*9 F0 | 76
-    n9 N | FF01*8 | FF*9 F0 | 76";
-
-#[test]
-fn samples_of_nine_bits_encode(rt: HostRuntime) -> Result<(), Fail> {
-    encodes(&rt, rt.alloc(), NINE_BITS)
-}
-
-const SEVERAL_BYTES: &str = "n16 m | 0005*8 | 00002C |
-    n24 3 m   | 000005*8       | 00000016   |
-    n24 3     | 050000*8       | 00000016   |
-    n24 m     | 00000005*8     | 00000016   |
-    n32       | 05000000*8     | 0000000016 |
-    n32 j64 N | 00*252 01000000 | 07FFFFFFF9 | 40";
-
-#[test]
-fn samples_of_several_bytes_encode(rt: HostRuntime) -> Result<(), Fail> {
-    encodes(&rt, rt.alloc(), SEVERAL_BYTES)
+fn samples_are_encoded(rt: HostRuntime) -> Result<(), Fail> {
+    encodes(&rt, rt.alloc(), CODES)
 }
 
 #[test]

@@ -28,6 +28,7 @@ use Rattle.rice_code.proofs.lemmas.code.SoundBlocks.{all_append, last_legal}
 use Rattle.rice_code.proofs.lemmas.meaning.SentSets.{IsSound}
 use Rattle.rice_code.proofs.lemmas.code.Ones.{forms_have_a_one}
 use Rattle.rice_code.proofs.lemmas.meaning.Parsing.{form_piece}
+use Rattle.rice_code.proofs.lemmas.meaning.Witnesses.{decoded_from_none}
 use Rattle.rice_code.proofs.lemmas.meaning.DecodingGoesOn.{decoding_goes_on}
 
 -- what can be decided
@@ -193,29 +194,7 @@ abbrev Comes : Parameters → ℕ → ℕ → ℤ → List Bool → Option ℕ �
 Comes s b position p bits asked = (xs : List ℤ) × (e : Ending) × (n : ℕ) × DecodedFrom s b position p bits asked xs e n
 
 stop : (s : Parameters) (b position : ℕ) (p : ℤ) (bits : List Bool) (asked : Option ℕ) (ending : Ending) (last : ℕ) → EndsWith s asked b bits ending last → Comes s b position p bits asked
-stop s b position p bits asked ending last h =
-    let P : ℕ → Type 0 = λ n. EndsWith s asked n bits ending last in
-    let here : b ≡ b + 0 = omega arith in (
-      cut_to s asked b [],
-      ending,
-      0 + last,
-      record {
-        sets = [];
-        front = [];
-        rest = bits;
-        parts = refl;
-        lie = refl;
-        taken = tt;
-        all = [];
-        legal = All-from_recursion (IsSample s) [] tt;
-        len = omega arith;
-        blocks = refl;
-        asked_for = refl;
-        last = last;
-        ends = subst P here h;
-        bits_used = refl;
-      },
-    )
+stop s b position p bits asked ending last h = (cut_to s asked b [], ending, last, decoded_from_none s b position p bits asked ending last h)
 
 -- in whole bytes there is room for the padding
 room : (position t more total : ℕ) (pads : Bool) → total ≡ t + more → (position + total) % 8 ≡ 0 → cond pads (bits_to_byte (position + t)) 0 ≤ more

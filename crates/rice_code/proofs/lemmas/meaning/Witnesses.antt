@@ -8,7 +8,7 @@ use Rattle.std.proofs.lemmas.List.Elements.{All-from_recursion, All-replicate}
 use Rattle.rice_samples.specs.Parameters.{Parameters, IsSample, value_count}
 use Rattle.rice_code.specs.code.Blocks.{blocks_from}
 use Rattle.rice_code.specs.code.CodedDataSets.{CodedDataSet, bits_of_set}
-use Rattle.rice_code.specs.code.Decoded.{Decoded, Ending, Ended, IsWanted, EndsWith, cut_to}
+use Rattle.rice_code.specs.code.Decoded.{Decoded, DecodedFrom, Ending, Ended, IsWanted, EndsWith, cut_to}
 use Rattle.rice_code.specs.code.Forms.{IsForm, RunIsSound, ResidualsAreSound, blocks_in}
 use Rattle.rice_code.specs.code.Layout.{block_after, padding}
 use Rattle.rice_code.proofs.lemmas.meaning.Covers.{both}
@@ -75,20 +75,27 @@ decoded_by_one s d xs g skipped rest bits padded e asked goes ending last ends =
     }
 
 -- no coded data set is taken
+pub decoded_from_none : (s : Parameters) (b position : ℕ) (p : ℤ) (bits : List Bool) (asked : Option ℕ) (ending : Ending) (used : ℕ) → EndsWith s asked b bits ending used →
+    DecodedFrom s b position p bits asked (cut_to s asked b []) ending used
+decoded_from_none s b position p bits asked ending used ends =
+    let EndsAt : ℕ → Type 0 = λ n. EndsWith s asked n bits ending used in
+    let here : b ≡ b + 0 = omega arith in
+    record {
+      sets = [];
+      front = [];
+      rest = bits;
+      parts = refl;
+      lie = refl;
+      taken = tt;
+      all = [];
+      legal = All-from_recursion (IsSample s) [] tt;
+      len = omega arith;
+      blocks = refl;
+      asked_for = refl;
+      last = used;
+      ends = subst EndsAt here ends;
+      bits_used = omega arith;
+    }
+
 pub decoded_by_none : (s : Parameters) (bits : List Bool) (asked : Option ℕ) (ending : Ending) (used : ℕ) → EndsWith s asked 0 bits ending used → Decoded s bits asked (cut_to s asked 0 []) ending used
-decoded_by_none s bits asked ending used ends = record {
-  sets = [];
-  front = [];
-  rest = bits;
-  parts = refl;
-  lie = refl;
-  taken = tt;
-  all = [];
-  legal = All-from_recursion (IsSample s) [] tt;
-  len = omega arith;
-  blocks = refl;
-  asked_for = refl;
-  last = used;
-  ends = ends;
-  bits_used = omega arith;
-}
+decoded_by_none s bits asked ending used ends = decoded_from_none s 0 0 (pos 0) bits asked ending used ends

@@ -1,5 +1,5 @@
 //! Tables of cases as texts: a line for each case, with `|` between its columns.
-use rice_samples::Setting;
+use rice_samples::{Setting, SettingFault};
 use rice_stream::Fault;
 use std::alloc::Global;
 use std::test::Fail;
@@ -35,6 +35,11 @@ impl<'a> Columns<'a> {
 /// Returns the setting of options such as `n16 j32 r64 s`, those of the command line without dashes: `s` signed, `m` most
 /// significant byte first, `3` three bytes, `N` not preprocessed, `p` padded.
 pub fn setting_of(options: &str) -> Result<Setting, Fail> {
+    Ok(answer_to(options)??)
+}
+
+/// Returns what `Setting::new` answers to options such as those of `setting_of`.
+pub fn answer_to(options: &str) -> Result<Result<Setting, SettingFault>, Fail> {
     let mut bits = 8;
     let mut block = 8;
     let mut interval = 2;
@@ -63,7 +68,7 @@ pub fn setting_of(options: &str) -> Result<Setting, Fail> {
             }
         }
     }
-    Ok(Setting::new(bits, block, interval, signed, msb, three, preprocess, pad)?)
+    Ok(Setting::new(bits, block, interval, signed, msb, three, preprocess, pad))
 }
 
 /// Returns the number of a column, or `None` where it is empty.
@@ -78,16 +83,25 @@ pub fn number_of(text: &str) -> Result<Option<u64>, Fail> {
 pub fn bytes_of(text: &str, alloc: Global) -> Result<Vec<u8>, Fail> {
     let mut bytes = Vec::new(alloc);
     for word in text.split_whitespace() {
-        match word.split_once('*') {
-            Some((digits, times)) => {
-                for _ in 0..times.parse::<u32>()? {
-                    push_word(digits, &mut bytes)?;
-                }
-            }
-            None => push_word(word, &mut bytes)?,
+        let (digits, times) = word.split_once('*').unwrap_or((word, "1"));
+        for _ in 0..times.parse::<u32>()? {
+            push_word(digits, &mut bytes)?;
         }
     }
     Ok(bytes)
+}
+
+/// Returns the samples of words such as `-3`, and `5*8`, which is eight times `5`.
+pub fn samples_of(text: &str, alloc: Global) -> Result<Vec<i64>, Fail> {
+    let mut samples = Vec::new(alloc);
+    for word in text.split_whitespace() {
+        let (number, times) = word.split_once('*').unwrap_or((word, "1"));
+        let sample = number.parse::<i64>()?;
+        for _ in 0..times.parse::<u32>()? {
+            samples.push(sample)?;
+        }
+    }
+    Ok(samples)
 }
 
 /// Adds the bytes of hexadecimal digits.
