@@ -103,7 +103,7 @@ def photons(size, width, generator):
     """Few photons at each place, counted in 16 bits."""
     samples = bytearray()
     for i in range(size // width):
-        samples += poisson(0.6 + 0.4 * math.sin(i / 900), generator).to_bytes(width, "little")
+        samples += poisson(0.25 + 0.15 * math.sin(i / 900), generator).to_bytes(width, "little")
     return bytes(samples)
 
 
@@ -111,7 +111,7 @@ def sparse(size, width, generator):
     """Zeros with a few events."""
     samples = bytearray(size)
     at = 0
-    while (at := at + int(generator.expovariate(1 / 60)) + 1) < size:
+    while (at := at + int(generator.expovariate(1 / 500)) + 1) < size:
         samples[at] = min(255, 1 + int(generator.expovariate(1 / 6)))
     return bytes(samples)
 
