@@ -5,7 +5,7 @@ ghost use Rattle.rice_samples.specs.Parameters.{IsLegal, IsSample};
 ghost use Rattle.rice_samples.specs.Places.{blocks_left};
 ghost use Rattle.rice_samples.specs.predict.Residuals.{pattern, rank};
 ghost use Rattle.rice_code.specs.Steps.{coding_steps};
-ghost use Rattle.rice_code.specs.encode.OpenSegment.{IsWhole, empty_state, state_after, state_after_all, later_residuals, state_with_fill, fill_count, state_after_segment, HoldsSoundBlocks, CodesHeld, is_first};
+ghost use Rattle.rice_code.specs.encode.OpenSegment.{IsWhole, empty_state, state_after, state_after_all, state_with_later, later_residuals, state_with_fill, fill_count, state_after_segment, HoldsSoundBlocks, CodesHeld, is_first};
 
 use crate::encode::SegmentSink;
 use crate::encode::blocks::code_blocks;
@@ -123,26 +123,26 @@ impl OpenSegment {
         if samples.is_empty() {
             return;
         }
+        // The residual of a sample after itself is 0, as it is at a reference place.
         if self.is_reference_next() {
-            self.hold(samples[0]);
-            self.hold_later(&samples[1..]);
+            let first = samples[0];
+            self.reference = Some(pattern(&self.setting, first));
+            self.hold_after(first, samples);
         } else {
-            self.hold_later(samples);
+            self.hold_after(self.previous, samples);
         }
     }
 
-    /// Adds the residuals of samples of which none is a reference sample.
-    fn hold_later(&mut self, samples: &[i64])
-        requires later { (self.old.setting.preprocess && is_first self.old) ≡ false }
+    /// Adds the residuals of samples: of the first one after the sample `before`, and of each other after the one before it.
+    fn hold_after(&mut self, before: i64, samples: &[i64])
+        requires some { 0 < length samples.now }
+        requires before { IsSample self.old.setting before }
         requires samples { All (IsSample self.old.setting) samples.now }
         requires room { length self.old.residuals + length samples.now ≤
             self.old.setting.block * blocks_left self.old.setting self.old.start }
-        ensures { self.new ≡ state_after_all self.old samples.now }
+        ensures { self.new ≡ state_with_later self.old before samples.now }
     {
-        if samples.is_empty() {
-            return;
-        }
-        push_later(&self.setting, self.previous, samples, &mut self.residuals);
+        push_later(&self.setting, before, samples, &mut self.residuals);
         self.previous = samples[samples.len() - 1];
     }
 

@@ -47,7 +47,7 @@ blocks_append s b p (suc m) n xs ys e =
 abbrev pub Repeats : Parameters → ℤ → Type 0
 Repeats s p = (s.preprocess ≡ true) ⊎ (pattern s p ≡ 0)
 
-same_rank : (count p : ℕ) → rank_below count p p ≡ 0
+pub same_rank : (count p : ℕ) → rank_below count p p ≡ 0
 same_rank count p = grind (arith, nat_tests)
 
 repeated : (s : Parameters) (i : ℕ) (p : ℤ) → Repeats s p → residual s i p p ≡ 0

@@ -2,10 +2,11 @@
 use Rattle.std.proofs.Common.{◌≡◌, ℕ, suc, ◌+◌, ◌-◌, ◌*◌, ◌<◌, ◌≤◌, ◌==◌, Bool, true, false, cond, ◌&&◌, List, [], ◌∷◌, ◌++◌, length, map, All, refl, ap, arith, sym, ◌∙◌, append_assoc, append-nil, length-append, slice_index_or, Some, ℤ}
 use Rattle.std.proofs.Math.Bool.{and-false}
 use Rattle.std.proofs.lemmas.List.Elements.{recursion_from_All}
-use Rattle.rice_samples.specs.Parameters.{Parameters, IsSample}
+use Rattle.rice_samples.specs.Parameters.{Parameters, IsSample, level, value_count}
 use Rattle.rice_samples.specs.Places.{blocks_left}
 use Rattle.rice_samples.specs.predict.Residuals.{pattern, rank, ranks, last_of}
-use Rattle.rice_code.specs.encode.OpenSegment.{CoderState, IsOpen, is_empty, is_first, next_residual, next_residuals, next_references, later_residuals, state_after, state_after_all}
+use Rattle.rice_code.specs.encode.OpenSegment.{CoderState, IsOpen, is_empty, is_first, next_residual, next_residuals, next_references, later_residuals, state_after, state_after_all, state_with_later}
+use Rattle.rice_code.proofs.lemmas.code.Filling.{same_rank}
 use Rattle.rice_code.proofs.lemmas.code.SoundBlocks.{last_legal}
 
 -- samples after others, with preprocessing and without
@@ -82,15 +83,27 @@ last_at p d (x ∷ y ∷ ys) h =
     last_at x d (y ∷ ys) (omega arith) ∙ ap (λ n. slice_index_or (x ∷ y ∷ ys) n d) e
 
 -- the segment stays open
-pub open_later : (coder : CoderState) (end : ℕ) (ds : List ℕ) (xs : List ℤ) → IsOpen coder end → ds ≡ coder.residuals ++ later_residuals coder.setting coder.previous xs → All (IsSample coder.setting) xs →
+pub open_later : (coder : CoderState) (end : ℕ) (p : ℤ) (ds : List ℕ) (xs : List ℤ) → IsOpen coder end → IsSample coder.setting p → ds ≡ coder.residuals ++ later_residuals coder.setting p xs → All (IsSample coder.setting) xs →
     length coder.residuals + length xs ≤ coder.setting.block * blocks_left coder.setting coder.start →
-    IsOpen (record { setting = coder.setting; residuals = ds; reference = coder.reference; previous = last_of coder.previous xs; start = coder.start }) end
-open_later coder end ds xs h e legal room = record {
+    IsOpen (record { setting = coder.setting; residuals = ds; reference = coder.reference; previous = last_of p xs; start = coder.start }) end
+open_later coder end p ds xs h sample e legal room = record {
   legal = h.legal;
   place = h.place;
   begins = h.begins;
-  few = let l = ap length e ∙ length-append coder.residuals (later_residuals coder.setting coder.previous xs) in let m = length-later coder.setting coder.previous xs in omega (arith, l, m, room);
-  previous = last_legal coder.setting coder.previous xs h.previous (recursion_from_All (IsSample coder.setting) xs legal);
+  few = let l = ap length e ∙ length-append coder.residuals (later_residuals coder.setting p xs) in let m = length-later coder.setting p xs in omega (arith, l, m, room);
+  previous = last_legal coder.setting p xs sample (recursion_from_All (IsSample coder.setting) xs legal);
   reference = h.reference;
   ends = h.ends;
 }
+
+-- After a reference the samples are held as after that sample itself.
+pub state_after_all-first : (coder : CoderState) (x : ℤ) (xs : List ℤ) → (coder.setting.preprocess && is_first coder) ≡ true →
+    state_with_later (record { setting = coder.setting; residuals = coder.residuals; reference = Some (pattern coder.setting x); previous = coder.previous; start = coder.start }) x (x ∷ xs) ≡ state_after_all coder (x ∷ xs)
+state_after_all-first coder x xs e =
+    let d = by_way coder.setting.preprocess (is_first coder) e in
+    λ i. record { setting = coder.setting; residuals = coder.residuals ++ d i ∷ later_residuals coder.setting x xs; reference = cond (sym e i) (Some (pattern coder.setting x)) coder.reference; previous = last_of x xs; start = coder.start }
+  where
+    by_way : (a b : Bool) → (a && b) ≡ true → cond a (rank coder.setting x x) (pattern coder.setting x) ≡ cond a (cond b 0 (rank coder.setting coder.previous x)) (pattern coder.setting x)
+    by_way false b e = absurd (let f : false ≡ true = e in cc)
+    by_way true false e = absurd (let f : false ≡ true = e in cc)
+    by_way true true e = same_rank (value_count coder.setting) (level coder.setting x)
