@@ -12,6 +12,7 @@ mod held_block;
 mod open_segment;
 mod options;
 mod search;
+mod short_digits;
 
 /// A sink with room for the code of a segment, of at most 64 blocks of 2,053 bits, and eight bytes beside it for the bits
 /// that it held before.

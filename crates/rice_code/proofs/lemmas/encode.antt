@@ -9,4 +9,5 @@ pub mod PushedCode
 pub mod SearchLemmas
 pub mod SegmentSteps
 pub mod SeveralHeld
+pub mod ShortDigits
 pub mod PushedSamples

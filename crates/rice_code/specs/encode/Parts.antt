@@ -1,5 +1,5 @@
 -- The two parts of residuals that are sent: fundamental sequences, and lowest digits.
-use Rattle.std.specs.Prelude.{ℕ, ◌+◌, ◌*◌, ◌/◌, ◌^◌, Bool, List, flat_map, sum_by}
+use Rattle.std.specs.Prelude.{ℕ, ◌+◌, ◌-◌, ◌*◌, ◌/◌, ◌^◌, Bool, List, length, drop, flat_map, sum_by}
 use Rattle.rice_bits.specs.Bits.{word, fundamental_sequence}
 use Rattle.rice_samples.specs.blocks.Pairs.{pair_codes}
 use Rattle.rice_code.specs.encode.BitBuffer.{HasRoomFor, AddsFields}
@@ -11,6 +11,14 @@ HasRoomForLow width n bits meter = HasRoomFor (n * width) (n * (width + 1)) bits
 abbrev pub AddsLow : ℕ → ℕ → List ℕ → List Bool → List Bool → List Bool → List Bool → ℕ → ℕ → Type 0
 AddsLow width n ds sink_old fields_old sink_new fields_new meter_old meter_new =
     AddsFields (flat_map (word width) ds) (n * width) (n * (width + 1)) sink_old fields_old sink_new fields_new meter_old meter_new
+
+-- the same of all residuals but the first `from`, with a look at all
+abbrev pub HasRoomForEights : ℕ → ℕ → ℕ → ℕ → ℕ → Type 0
+HasRoomForEights width count from bits meter = HasRoomFor ((count - from) * width) (count + (count - from) * width) bits meter
+
+abbrev pub AddsEights : ℕ → ℕ → List ℕ → List Bool → List Bool → List Bool → List Bool → ℕ → ℕ → Type 0
+AddsEights width from ds sink_old fields_old sink_new fields_new meter_old meter_new =
+    AddsFields (flat_map (word width) (drop from ds)) ((length ds - from) * width) (length ds + (length ds - from) * width) sink_old fields_old sink_new fields_new meter_old meter_new
 
 -- the fundamental sequences of n residuals without their k lowest digits, and a look at each
 abbrev pub HasRoomForHigh : ℕ → ℕ → List ℕ → ℕ → ℕ → Type 0

@@ -16,6 +16,7 @@ use crate::encode::bit_buffer::BitBuffer;
 use crate::encode::fields::{put_high, put_low};
 use crate::encode::held_block::HeldBlock;
 use crate::encode::search::Choice;
+use crate::encode::short_digits::put_short_low;
 use rice_bits::Meter;
 use rice_samples::{Block, Setting};
 
@@ -153,6 +154,11 @@ fn put_split(
     let mut fields = begin(setting, k + 1, id, block.reference(), sink, meter);
     put_high(residuals, from, k, &mut fields, sink, meter);
     if k == 0 {
+        fields.put(sink, meter);
+        return;
+    }
+    if k <= 7 {
+        put_short_low(residuals, from, k, &mut fields, sink, meter);
         fields.put(sink, meter);
         return;
     }
