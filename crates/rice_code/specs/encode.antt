@@ -3,5 +3,6 @@ pub mod BitBuffer
 pub mod Chosen
 pub mod Coder
 pub mod HeldBlocks
+pub mod Ones
 pub mod OpenSegment
 pub mod Parts

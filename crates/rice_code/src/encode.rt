@@ -9,10 +9,12 @@ pub mod coder;
 mod cost;
 mod fields;
 mod held_block;
+mod ones;
 mod open_segment;
 mod options;
 mod search;
 mod short_digits;
+mod short_sequences;
 
 /// A sink with room for the code of a segment, of at most 64 blocks of 2,053 bits, and eight bytes beside it for the bits
 /// that it held before.

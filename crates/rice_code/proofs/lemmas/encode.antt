@@ -1,4 +1,5 @@
 -- The coder. `PushedCode` joins what a push does with the code; begin there.
+pub mod GatheredOnes
 pub mod HeldSamples
 pub mod JoinedWords
 pub mod OpenSegments
@@ -10,4 +11,5 @@ pub mod SearchLemmas
 pub mod SegmentSteps
 pub mod SeveralHeld
 pub mod ShortDigits
+pub mod ShortSequences
 pub mod PushedSamples

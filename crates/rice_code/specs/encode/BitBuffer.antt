@@ -25,6 +25,13 @@ pub record AddsFields (more : List Bool) (count ticks : ℕ) (sink_old fields_ol
   pub len : length sink_new + length fields_new ≡ length sink_old + length fields_old + count
   pub steps : meter_new + length fields_new ≡ meter_old + length fields_old + ticks
 
+-- the same where nothing is counted beside the bits
+abbrev pub HasRoomForBits : List Bool → ℕ → ℕ → Type 0
+HasRoomForBits more bits meter = HasRoomFor (length more) (length more) bits meter
+
+abbrev pub AddsBits : List Bool → List Bool → List Bool → List Bool → List Bool → ℕ → ℕ → Type 0
+AddsBits more sink_old fields_old sink_new fields_new meter_old meter_new = AddsFields more (length more) (length more) sink_old fields_old sink_new fields_new meter_old meter_new
+
 -- there is room for a coded data set, and for `looks` looks at residuals
 abbrev pub HasRoomForSet : Parameters → CodedDataSet → ℕ → List Bool → ℕ → Type 0
 HasRoomForSet s set looks sink meter = HasRoomFor (cost s set) (cost s set + looks) (length sink) meter

@@ -20,13 +20,13 @@ abbrev pub AddsEights : ℕ → ℕ → List ℕ → List Bool → List Bool →
 AddsEights width from ds sink_old fields_old sink_new fields_new meter_old meter_new =
     AddsFields (flat_map (word width) (drop from ds)) ((length ds - from) * width) (length ds + (length ds - from) * width) sink_old fields_old sink_new fields_new meter_old meter_new
 
--- the fundamental sequences of n residuals without their k lowest digits, and a look at each
-abbrev pub HasRoomForHigh : ℕ → ℕ → List ℕ → ℕ → ℕ → Type 0
-HasRoomForHigh k n ds bits meter = HasRoomFor (n + sum_by (λ d. d / 2 ^ k) ds) (2 * n + sum_by (λ d. d / 2 ^ k) ds) bits meter
+-- the fundamental sequences of n residuals without their k lowest digits, and so many looks
+abbrev pub HasRoomForOnes : ℕ → ℕ → ℕ → List ℕ → ℕ → ℕ → Type 0
+HasRoomForOnes k looks n ds bits meter = HasRoomFor (n + sum_by (λ d. d / 2 ^ k) ds) (looks + (n + sum_by (λ d. d / 2 ^ k) ds)) bits meter
 
-abbrev pub AddsHigh : ℕ → ℕ → List ℕ → List Bool → List Bool → List Bool → List Bool → ℕ → ℕ → Type 0
-AddsHigh k n ds sink_old fields_old sink_new fields_new meter_old meter_new =
-    AddsFields (flat_map (λ d. fundamental_sequence (d / 2 ^ k)) ds) (n + sum_by (λ d. d / 2 ^ k) ds) (2 * n + sum_by (λ d. d / 2 ^ k) ds) sink_old fields_old sink_new fields_new meter_old meter_new
+abbrev pub AddsOnes : ℕ → ℕ → ℕ → List ℕ → List Bool → List Bool → List Bool → List Bool → ℕ → ℕ → Type 0
+AddsOnes k looks n ds sink_old fields_old sink_new fields_new meter_old meter_new =
+    AddsFields (flat_map (λ d. fundamental_sequence (d / 2 ^ k)) ds) (n + sum_by (λ d. d / 2 ^ k) ds) (looks + (n + sum_by (λ d. d / 2 ^ k) ds)) sink_old fields_old sink_new fields_new meter_old meter_new
 
 -- the bits of the codewords that second extension sends for the pairs
 abbrev pub pairs_len : List ℕ → ℕ

@@ -1,8 +1,8 @@
-//! Writing the two parts of residuals that a split sends: fundamental sequences, and lowest digits.
-ghost use Rattle.std.specs.Prelude.{◌≡◌, ℕ, ◌+◌, ◌-◌, ◌*◌, ◌/◌, ◌%◌, ◌^◌, ◌<◌, ◌≤◌, ◌++◌, length, drop, slice_range, sum_by, flat_map};
-ghost use Rattle.rice_bits.specs.Bits.{word, fundamental_sequence};
+//! Writing the lowest digits of residuals.
+ghost use Rattle.std.specs.Prelude.{◌≡◌, ℕ, ◌+◌, ◌-◌, ◌*◌, ◌%◌, ◌^◌, ◌<◌, ◌≤◌, ◌++◌, length, drop, slice_range, flat_map};
+ghost use Rattle.rice_bits.specs.Bits.{word};
 ghost use Rattle.rice_code.specs.encode.BitBuffer.{HasRoomFor, AddsFields};
-ghost use Rattle.rice_code.specs.encode.Parts.{HasRoomForLow, AddsLow, HasRoomForHigh, AddsHigh};
+ghost use Rattle.rice_code.specs.encode.Parts.{HasRoomForLow, AddsLow};
 
 use crate::encode::SegmentSink;
 use crate::encode::bit_buffer::BitBuffer;
@@ -162,76 +162,4 @@ fn four_low(four: (u32, u32, u32, u32), width: u32) -> u64
     let two = join(first, width, second);
     let three = join(two, width, third);
     join(three, width, last)
-}
-
-/// Adds the fundamental sequences of the residuals from number `from` on, without their `k` lowest digits.
-#[inline(always)]
-pub fn put_high(
-    block: &Block<'_>,
-    from: usize,
-    k: u32,
-    fields: &mut BitBuffer,
-    sink: &mut SegmentSink,
-    meter: &mut Meter,
-)
-    requires split { k ≤ 29 }
-    requires from { from ≤ length block.now }
-    requires room { HasRoomForHigh k (length block.now - from) (drop from block.now)
-        (length sink.old + length fields.old) (meter.old + length fields.old) }
-    ensures { AddsHigh k (length block.now - from) (drop from block.now)
-        sink.old fields.old sink.new fields.new meter.old meter.new }
-{
-    let end = block.len();
-    let fours = from + (end - from) % 4;
-    put_each_high(block, from, fours, k, fields, sink, meter);
-    put_four_high(block, fours, k, fields, sink, meter);
-}
-
-/// Adds those of residuals `from` to `to`, one at a time.
-#[inline(always)]
-fn put_each_high(
-    block: &Block<'_>,
-    from: usize,
-    to: usize,
-    k: u32,
-    fields: &mut BitBuffer,
-    sink: &mut SegmentSink,
-    meter: &mut Meter,
-)
-    requires split { k ≤ 29 }
-    requires from { from ≤ to }
-    requires to { to ≤ length block.now }
-    requires room { HasRoomForHigh k (to - from) (slice_range block.now from to)
-        (length sink.old + length fields.old) (meter.old + length fields.old) }
-    ensures { AddsHigh k (to - from) (slice_range block.now from to)
-        sink.old fields.old sink.new fields.new meter.old meter.new }
-{
-    for i in from..to {
-        let residual = block.at(i, meter);
-        fields.add_fs(residual >> k, sink, meter);
-    }
-}
-
-/// Adds those of the residuals from number `from` on, four at a time.
-#[inline(always)]
-fn put_four_high(
-    block: &Block<'_>,
-    from: usize,
-    k: u32,
-    fields: &mut BitBuffer,
-    sink: &mut SegmentSink,
-    meter: &mut Meter,
-)
-    requires split { k ≤ 29 }
-    requires from { from ≤ length block.now }
-    requires fours { (length block.now - from) % 4 ≡ 0 }
-    requires room { HasRoomForHigh k (length block.now - from) (drop from block.now)
-        (length sink.old + length fields.old) (meter.old + length fields.old) }
-    ensures { AddsHigh k (length block.now - from) (drop from block.now)
-        sink.old fields.old sink.new fields.new meter.old meter.new }
-{
-    for i in 0..(block.len() - from) / 4 {
-        let (a, b, c, d) = block.four_at(from + 4 * i, meter);
-        fields.add_four_fs((a >> k, b >> k, c >> k, d >> k), sink, meter);
-    }
 }

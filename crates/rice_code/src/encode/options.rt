@@ -13,10 +13,11 @@ ghost use Rattle.rice_code.specs.encode.Chosen.{chosen_set, IsSplitWithin};
 
 use crate::encode::SegmentSink;
 use crate::encode::bit_buffer::BitBuffer;
-use crate::encode::fields::{put_high, put_low};
+use crate::encode::fields::put_low;
 use crate::encode::held_block::HeldBlock;
 use crate::encode::search::Choice;
 use crate::encode::short_digits::put_short_low;
+use crate::encode::short_sequences::put_short_high;
 use rice_bits::Meter;
 use rice_samples::{Block, Setting};
 
@@ -152,7 +153,7 @@ fn put_split(
     let _limit = setting.k_max();
     let _block = setting.block();
     let mut fields = begin(setting, k + 1, id, block.reference(), sink, meter);
-    put_high(residuals, from, k, &mut fields, sink, meter);
+    put_short_high(residuals, from, k, &mut fields, sink, meter);
     if k == 0 {
         fields.put(sink, meter);
         return;

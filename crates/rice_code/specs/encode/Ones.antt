@@ -1,0 +1,22 @@
+-- Fundamental sequences that are gathered at the front of a word.
+use Rattle.std.specs.Prelude.{◌≡◌, ℕ, ◌+◌, ◌-◌, ◌*◌, ◌^◌, ◌<◌, ◌≤◌, ◌==◌, if◌then◌else◌, Bool, List, [], ◌++◌, length}
+use Rattle.rice_bits.specs.Bits.{word, number_of, fundamental_sequence}
+
+-- The word begins with these bits, if there are at most 64, and has zeros behind them. What is left counts down from 2^40 by their number, however many they are.
+pub record Gathers (word left : ℕ) (bits : List Bool) : Type 0 where
+  pub count : left + length bits ≡ 2 ^ 40
+  pub front : length bits ≤ 64 → word ≡ number_of bits * 2 ^ (64 - length bits)
+
+-- the fundamental sequences of four numbers
+abbrev pub four_sequences : ℕ → ℕ → ℕ → ℕ → List Bool
+four_sequences a b c d = fundamental_sequence a ++ fundamental_sequence b ++ fundamental_sequence c ++ fundamental_sequence d
+
+-- the same from number `from` on, which is 0 or 1
+abbrev pub sequences_from : ℕ → ℕ → ℕ → ℕ → ℕ → List Bool
+sequences_from from a b c d = (if from == 0 then fundamental_sequence a else []) ++ fundamental_sequence b ++ fundamental_sequence c ++ fundamental_sequence d
+
+-- the digits of a number are these bits
+pub record Spells (bits : List Bool) (value width : ℕ) : Type 0 where
+  pub len : length bits ≡ width
+  pub fits : value < 2 ^ width
+  pub digits : word width value ≡ bits
