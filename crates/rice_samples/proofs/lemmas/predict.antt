@@ -1,6 +1,7 @@
 -- Residuals and patterns, and back.
 pub mod Folding
 pub mod InverseLemmas
+pub mod LaneRanks
 pub mod Patterns
 pub mod RankLaws
 pub mod Ranks

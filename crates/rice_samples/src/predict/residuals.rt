@@ -2,13 +2,44 @@
 ghost use Rattle.std.specs.Prelude.{◌≡◌, ℕ, ◌+◌, ◌^◌, ◌<◌, ◌≤◌, All, length, map, ℤ, pos, neg_ℤ, ◌≤ℤ◌};
 ghost use Rattle.std.specs.Int.{int_gap};
 ghost use Rattle.rice_samples.specs.Parameters.{IsSample, level};
-ghost use Rattle.rice_samples.specs.predict.Residuals.{pattern as pattern_of, ranks, ranks_below};
+ghost use Rattle.rice_samples.specs.predict.Residuals.{pattern as pattern_of, ranks, ranks_below, last_of};
 
 use crate::Setting;
+use crate::predict::lanes::write_eights;
 use crate::predict::preprocessor::{pattern, rank_of};
 
 /// Writes the residuals of the samples: of the first one after the sample `p`, and of each other after the one before it.
 pub(crate) fn write_residuals(setting: &Setting, p: i64, samples: &[i64], residuals: &mut [u32])
+    requires before { IsSample setting.now p }
+    requires samples { All (IsSample setting.now) samples.now }
+    requires len { length residuals.old ≡ length samples.now }
+    ensures { residuals.new ≡ ranks setting.now p samples.now }
+{
+    if setting.bits() > 16 {
+        write_wide(setting, p, samples, residuals);
+        return;
+    }
+    write_eights(setting, p, samples, residuals);
+    let end = 8 * (samples.len() / 8);
+    if end < samples.len() {
+        let last = last_sample(p, &samples[..end]);
+        write_wide(setting, last, &samples[end..], &mut residuals[end..]);
+    }
+}
+
+/// Returns the last of the samples, or `p` where there are none.
+#[inline]
+fn last_sample(p: i64, samples: &[i64]) -> i64
+    ensures { result ≡ last_of p samples.now }
+{
+    if samples.is_empty() {
+        return p;
+    }
+    samples[samples.len() - 1]
+}
+
+/// Writes the residuals of samples of any number of bits.
+fn write_wide(setting: &Setting, p: i64, samples: &[i64], residuals: &mut [u32])
     requires before { IsSample setting.now p }
     requires samples { All (IsSample setting.now) samples.now }
     requires len { length residuals.old ≡ length samples.now }

@@ -2,6 +2,7 @@
 use Rattle.std.proofs.Common.{◌≡◌, ℕ, suc, ◌+◌, ◌-◌, ◌*◌, ◌<◌, ◌≤◌, ◌==◌, Bool, true, false, cond, ◌&&◌, List, [], ◌∷◌, ◌++◌, length, map, All, refl, ap, arith, sym, ◌∙◌, append_assoc, append-nil, length-append, slice_index_or, Some, ℤ}
 use Rattle.std.proofs.Math.Bool.{and-false}
 use Rattle.std.proofs.lemmas.List.Elements.{recursion_from_All}
+pub use Rattle.rice_samples.proofs.lemmas.predict.Folding.{last_at}
 use Rattle.rice_samples.specs.Parameters.{Parameters, IsSample, level, value_count}
 use Rattle.rice_samples.specs.Places.{blocks_left}
 use Rattle.rice_samples.specs.predict.Residuals.{pattern, rank, ranks, last_of}
@@ -74,13 +75,6 @@ state_after_all-cons coder x xs =
 pub state_after_all-snoc : (coder : CoderState) (xs : List ℤ) (x : ℤ) → state_after_all coder (xs ++ x ∷ []) ≡ state_after (state_after_all coder xs) x
 state_after_all-snoc coder [] x = sym (ap (λ v. state_after v x) (state_after_all-none coder [] refl))
 state_after_all-snoc coder (y ∷ ys) x = sym (state_after_all-cons coder y (ys ++ x ∷ [])) ∙ (state_after_all-snoc (state_after coder y) ys x ∙ ap (λ v. state_after v x) (state_after_all-cons coder y ys))
-
-pub last_at : (p d : ℤ) (xs : List ℤ) → 0 < length xs → last_of p xs ≡ slice_index_or xs (length xs - 1) d
-last_at p d [] h = absurd (omega arith)
-last_at p d (x ∷ []) h = refl
-last_at p d (x ∷ y ∷ ys) h =
-    let e : suc (length (y ∷ ys) - 1) ≡ length (x ∷ y ∷ ys) - 1 = omega arith in
-    last_at x d (y ∷ ys) (omega arith) ∙ ap (λ n. slice_index_or (x ∷ y ∷ ys) n d) e
 
 -- the segment stays open
 pub open_later : (coder : CoderState) (end : ℕ) (p : ℤ) (ds : List ℕ) (xs : List ℤ) → IsOpen coder end → IsSample coder.setting p → ds ≡ coder.residuals ++ later_residuals coder.setting p xs → All (IsSample coder.setting) xs →

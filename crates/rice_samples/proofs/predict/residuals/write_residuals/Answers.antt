@@ -1,16 +1,26 @@
-use Rattle.std.proofs.Common.{arith, ◌≡◌, ◌+◌, ◌-◌, ◌∙◌, ap, sym, w64}
+use Rattle.std.proofs.Common.{arith, rules, ◌≡◌, ◌*◌, ◌/◌, ◌∙◌, ap, length, take, w64, to_z, of_z}
 use Rattle.std.proofs.lemmas.Int.{to_z-of_z}
-use Rattle.rice_samples.specs.Parameters.{level, value_count}
-use Rattle.rice_samples.specs.predict.Residuals.{ranks_below}
-use Rattle.rice_samples.proofs.lemmas.predict.Folding.{levels_fit, ranks_are}
+use mir.Val.{SFits}
+use Rattle.rice_samples.specs.predict.Residuals.{ranks, last_of}
+use Rattle.rice_samples.proofs.lemmas.predict.Folding.{legal_taken, ranks_of_rest}
 use Rattle.rice_samples.proofs.predict.residuals.write_residuals.Goals as goal
 
-pub fold-requires-clause-numbers : goal.fold-requires-clause-numbers
-fold-requires-clause-numbers c = rw c.write_levels.ensures (levels_fit c.args.setting.now (c.values.result - 1) c.args.samples.now (omega arith) c.requires.samples)
-
-pub returns : goal.returns
-returns c =
+pub write_wide-requires-then-end-samples-clause-before : goal.write_wide-requires-then-end-samples-clause-before
+write_wide-requires-then-end-samples-clause-before c =
     let s = c.args.setting.now in
-    let count : c.values.result - 1 + 1 ≡ value_count s = omega arith in
-    let before : c.level-before.result ≡ level s c.args.p = c.level-before.ensures.value ∙ ap (level s) (to_z-of_z w64 c.args.p c.ranges.p) in
-    c.fold.ensures ∙ ((λ i. ranks_below (count i) (before i) (c.write_levels.ensures i)) ∙ sym (ranks_are s c.args.p c.args.samples.now))
+    let xs = c.args.samples.now in
+    let q = c.last_sample-last.result in
+    let fits : SFits w64 q = search rules in
+    let same : q ≡ last_of c.args.p (take (8 * (length xs / 8)) xs) = c.last_sample-last.ensures ∙ ap (λ p. last_of p (take (8 * (length xs / 8)) xs)) (to_z-of_z w64 c.args.p c.ranges.p) in
+    rw (to_z-of_z w64 q fits, same) (legal_taken s c.args.p (8 * (length xs / 8)) xs c.requires.before c.requires.samples)
+
+pub returns-then-end-samples : goal.returns-then-end-samples
+returns-then-end-samples c =
+    let s = c.args.setting.now in
+    let xs = c.args.samples.now in
+    let q = c.last_sample-last.result in
+    let fits : SFits w64 q = search rules in
+    let n = 8 * (length xs / 8) in
+    let same : to_z w64 (of_z w64 q) ≡ last_of c.args.p (take n xs) = to_z-of_z w64 q fits ∙ (c.last_sample-last.ensures ∙ ap (λ p. last_of p (take n xs)) (to_z-of_z w64 c.args.p c.ranges.p)) in
+    ranks_of_rest s c.args.p (to_z w64 (of_z w64 q)) n xs c.write_eights.new.residuals c.write_wide-then-end-samples.new.residuals c.write_eights.ensures.len (omega arith)
+    (c.write_eights.ensures.value ∙ ap (λ v. ranks s v (take n xs)) (to_z-of_z w64 c.args.p c.ranges.p)) same c.write_wide-then-end-samples.ensures

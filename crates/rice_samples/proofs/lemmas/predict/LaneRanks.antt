@@ -1,0 +1,121 @@
+-- Ranks in the lanes of vectors.
+use Rattle.std.proofs.Common.{◌≡◌, ℕ, zero, suc, ◌+◌, ◌-◌, ◌*◌, ◌%◌, ◌<◌, ◌≤◌, cond, nat_lt, List, [], ◌∷◌, ◌++◌, get_or, take, drop, length, map, min, ℤ, pos, refl, ap, arith, sym, ◌∙◌, Fits, w16}
+use Rattle.std.specs.Prelude.{replicate, slice_range}
+use Rattle.std.specs.Simd.Lanes.{zip2, Each1, sel_l}
+use Rattle.std.proofs.lemmas.Bool.Decides.{nat_tests}
+use Rattle.std.proofs.lemmas.List.{length-drop, length-take-le}
+use Rattle.std.proofs.Math.Seq.{take-add}
+use Rattle.rice_samples.specs.Parameters.{Parameters, level, value_count}
+use Rattle.rice_samples.specs.predict.Residuals.{rank_below, ranks, last_of}
+
+one_least : (x y : ℕ) → cond (nat_lt x y) x y ≡ min x y
+one_least x y = grind (arith, nat_tests)
+
+pub lanes_least : (xs ys : List ℕ) → sel_l (zip2 nat_lt xs ys) xs ys ≡ zip2 min xs ys
+lanes_least [] ys = refl
+lanes_least (x ∷ xs) [] = refl
+lanes_least (x ∷ xs) (y ∷ ys) = λ i. one_least x y i ∷ lanes_least xs ys i
+
+-- a difference that wraps
+abbrev pub wrapped_sub : ℕ → ℕ → ℕ
+wrapped_sub a b = (a + (65536 - b)) % 65536
+
+abbrev pub wrapped_add : ℕ → ℕ → ℕ
+wrapped_add a b = (a + b) % 65536
+
+one_excess : (x y : ℕ) → x < 65536 → y < 65536 → wrapped_sub (cond (nat_lt x y) y x) y ≡ x - y
+one_excess x y h k = grind (arith, nat_tests)
+
+pub lanes_excess : (xs ys : List ℕ) → Each1 (Fits w16) xs → Each1 (Fits w16) ys → zip2 wrapped_sub (sel_l (zip2 nat_lt xs ys) ys xs) ys ≡ zip2 (λ x y. x - y) xs ys
+lanes_excess [] ys h k = refl
+lanes_excess (x ∷ xs) [] h k = refl
+lanes_excess (x ∷ xs) (y ∷ ys) h k = λ i. one_excess x y h.0.fits k.0.fits i ∷ lanes_excess xs ys h.1 k.1 i
+
+one_rank : (g p x : ℕ) → g < 65536 → p ≤ g → x ≤ g →
+    wrapped_add (wrapped_add (p - x) (x - p)) (min (wrapped_sub (wrapped_add (p - x) (x - p)) (min (p - x) 1)) (min p (wrapped_sub g p))) ≡ rank_below (g + 1) p x
+one_rank g p x h hp hx = grind (arith, nat_tests)
+
+pub lanes_ranked : (g n : ℕ) (ps xs : List ℕ) → g < 65536 → length ps ≡ n → length xs ≡ n → Each1 (λ p. p ≤ g) ps → Each1 (λ x. x ≤ g) xs →
+    let down = zip2 (λ x y. x - y) ps xs in
+    let distance = zip2 wrapped_add down (zip2 (λ x y. x - y) xs ps) in
+    zip2 wrapped_add distance (zip2 min (zip2 wrapped_sub distance (zip2 min down (replicate n 1))) (zip2 min ps (zip2 wrapped_sub (replicate n g) ps))) ≡ zip2 (rank_below (g + 1)) ps xs
+lanes_ranked g zero [] xs h e f hp hx = refl
+lanes_ranked g zero (p ∷ ps) xs h e f hp hx = absurd (omega arith)
+lanes_ranked g (suc n) [] xs h e f hp hx = absurd (omega arith)
+lanes_ranked g (suc n) (p ∷ ps) [] h e f hp hx = absurd (omega arith)
+lanes_ranked g (suc n) (p ∷ ps) (x ∷ xs) h e f hp hx = λ i. one_rank g p x h hp.0 hx.0 i ∷ lanes_ranked g n ps xs h (omega arith) (omega arith) hp.1 hx.1 i
+
+-- eight samples and their levels
+pub eight_of : {A : Type 0} (xs : List A) (d : A) → length xs ≡ 8 →
+    xs ≡ get_or xs 0 d ∷ get_or xs 1 d ∷ get_or xs 2 d ∷ get_or xs 3 d ∷ get_or xs 4 d ∷ get_or xs 5 d ∷ get_or xs 6 d ∷ get_or xs 7 d ∷ []
+eight_of (a ∷ b ∷ c ∷ d ∷ e ∷ f ∷ g ∷ h ∷ []) o e' = refl
+eight_of [] o e = absurd (omega arith)
+eight_of (a ∷ []) o e = absurd (omega arith)
+eight_of (a ∷ b ∷ []) o e = absurd (omega arith)
+eight_of (a ∷ b ∷ c ∷ []) o e = absurd (omega arith)
+eight_of (a ∷ b ∷ c ∷ d ∷ []) o e = absurd (omega arith)
+eight_of (a ∷ b ∷ c ∷ d ∷ f ∷ []) o e = absurd (omega arith)
+eight_of (a ∷ b ∷ c ∷ d ∷ f ∷ g ∷ []) o e = absurd (omega arith)
+eight_of (a ∷ b ∷ c ∷ d ∷ f ∷ g ∷ h ∷ []) o e = absurd (omega arith)
+eight_of (a ∷ b ∷ c ∷ d ∷ f ∷ g ∷ h ∷ i ∷ j ∷ xs) o e = absurd (omega arith)
+
+each_get : (n k : ℕ) (xs : List ℕ) → Each1 (λ x. x < n) xs → k < length xs → get_or xs k 0 < n
+each_get n k [] h lt = absurd (omega arith)
+each_get n zero (x ∷ xs) h lt = h.0
+each_get n (suc k) (x ∷ xs) h lt = each_get n k xs h.1 (omega arith)
+
+each_taken : (n k : ℕ) (xs : List ℕ) → Each1 (λ x. x < n) xs → Each1 (λ x. x < n) (take k xs)
+each_taken n zero xs h = tt
+each_taken n (suc k) [] h = tt
+each_taken n (suc k) (x ∷ xs) h = (h.0, each_taken n k xs h.1)
+
+pub each_below : (n g : ℕ) (xs : List ℕ) → g + 1 ≡ n → Each1 (λ x. x < n) xs → Each1 (λ x. x ≤ g) xs
+each_below n g [] e h = tt
+each_below n g (x ∷ xs) e h = (omega (arith, h.0), each_below n g xs e h.1)
+
+pub shifted_below : (n g : ℕ) (before levels : List ℕ) → g + 1 ≡ n → length before ≡ 8 → Each1 (λ x. x < n) before → Each1 (λ x. x < n) levels → Each1 (λ x. x ≤ g) (get_or before 7 0 ∷ take 7 levels)
+shifted_below n g before levels e len h k = let b = each_get n 7 before h (omega arith) in (omega (arith, b), each_below n g (take 7 levels) e (each_taken n 7 levels k))
+
+-- as many of the first list as the second has
+zip2_taken : (f : ℕ → ℕ → ℕ) (n : ℕ) (xs ys : List ℕ) → length ys ≡ n → zip2 f (take n xs) ys ≡ zip2 f xs ys
+zip2_taken f zero xs [] e = by_list xs
+  where
+    by_list : (xs : List ℕ) → zip2 f (take 0 xs) [] ≡ zip2 f xs []
+    by_list [] = refl
+    by_list (x ∷ xs) = refl
+zip2_taken f zero xs (y ∷ ys) e = absurd (omega arith)
+zip2_taken f (suc n) xs [] e = absurd (omega arith)
+zip2_taken f (suc n) [] (y ∷ ys) e = refl
+zip2_taken f (suc n) (x ∷ xs) (y ∷ ys) e = ap (λ v. f x y ∷ v) (zip2_taken f n xs ys (omega arith))
+
+ranked_each : (s : Parameters) (q : ℤ) (b : ℕ) (xs : List ℤ) → b ≡ level s q → zip2 (rank_below (value_count s)) (b ∷ map (level s) xs) (map (level s) xs) ≡ ranks s q xs
+ranked_each s q b [] e = refl
+ranked_each s q b (x ∷ xs) e = λ i. rank_below (value_count s) (e i) (level s x) ∷ ranked_each s x (level s x) xs refl i
+
+pub length-levels : (s : Parameters) (xs : List ℤ) → length (map (level s) xs) ≡ length xs
+length-levels s [] = refl
+length-levels s (x ∷ xs) = ap (λ n. suc n) (length-levels s xs)
+
+pub ranked_eight : (s : Parameters) (q : ℤ) (b : ℕ) (xs : List ℤ) → length xs ≡ 8 → b ≡ level s q → zip2 (rank_below (value_count s)) (b ∷ take 7 (map (level s) xs)) (map (level s) xs) ≡ ranks s q xs
+ranked_eight s q b xs len e = zip2_taken (rank_below (value_count s)) 8 (b ∷ map (level s) xs) (map (level s) xs) (length-levels s xs ∙ len) ∙ ranked_each s q b xs e
+
+last-append : (p : ℤ) (xs ys : List ℤ) → last_of p (xs ++ ys) ≡ last_of (last_of p xs) ys
+last-append p [] ys = refl
+last-append p (x ∷ xs) ys = last-append x xs ys
+
+-- the samples up to the next eight
+pub next_eight : (i n : ℕ) (xs : List ℤ) → n ≡ 8 * i + 8 → take (8 * (i + 1)) xs ≡ take (8 * i) xs ++ slice_range xs (8 * i) n
+next_eight i n xs e =
+    let more : 8 * (i + 1) ≡ 8 * i + 8 = omega arith in
+    let count : 8 ≡ n - 8 * i = omega (arith, e) in
+    ap (λ k. take k xs) more ∙ (take-add (8 * i) 8 xs ∙ ap (λ k. take (8 * i) xs ++ take k (drop (8 * i) xs)) count)
+
+pub last_level : (s : Parameters) (p : ℤ) (xs ys : List ℤ) → length ys ≡ 8 → get_or (map (level s) ys) 7 0 ≡ level s (last_of p (xs ++ ys))
+last_level s p xs ys len = ap (λ v. get_or (map (level s) v) 7 0) (eight_of ys (pos 0) len) ∙ sym (ap (level s) (last-append p xs ys ∙ ap (last_of (last_of p xs)) (eight_of ys (pos 0) len)))
+
+pub eight_long : (xs : List ℤ) (i n : ℕ) → n ≡ 8 * i + 8 → n ≤ length xs → length (slice_range xs (8 * i) n) ≡ 8
+eight_long xs i n e le = length-take-le (n - 8 * i) (drop (8 * i) xs) (omega (arith, length-drop (8 * i) xs)) ∙ (omega (arith, e))
+
+pub length-ranks : (s : Parameters) (p : ℤ) (xs : List ℤ) → length (ranks s p xs) ≡ length xs
+length-ranks s p [] = refl
+length-ranks s p (x ∷ xs) = ap (λ n. suc n) (length-ranks s x xs)
