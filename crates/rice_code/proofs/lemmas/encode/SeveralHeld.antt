@@ -1,5 +1,5 @@
 -- What a coder holds when it takes several samples.
-use Rattle.std.proofs.Common.{◌≡◌, ℕ, suc, ◌+◌, ◌-◌, ◌*◌, ◌<◌, ◌≤◌, ◌==◌, Bool, true, false, cond, ◌&&◌, List, [], ◌∷◌, ◌++◌, length, map, All, refl, ap, arith, sym, ◌∙◌, append_assoc, append-nil, length-append, slice_index_or, Some, ℤ}
+use Rattle.std.proofs.Common.{◌≡◌, ℕ, suc, ◌+◌, ◌*◌, ◌≤◌, ◌==◌, Bool, true, false, cond, ◌&&◌, List, [], ◌∷◌, ◌++◌, length, map, All, refl, ap, arith, sym, ◌∙◌, append_assoc, append-nil, length-append, Some, ℤ}
 use Rattle.std.proofs.Math.Bool.{and-false}
 use Rattle.std.proofs.lemmas.List.Elements.{recursion_from_All}
 pub use Rattle.rice_samples.proofs.lemmas.predict.Folding.{last_at}
