@@ -1,2 +1,3 @@
 -- The preprocessor.
+pub mod Near
 pub mod Residuals

@@ -1,6 +1,7 @@
 //! The preprocessor: from samples to residuals and back.
 
-pub(crate) mod lanes;
+mod near_lanes;
 pub mod preprocessor;
+pub(crate) mod rank_lanes;
 pub(crate) mod residuals;
 pub mod samples;

@@ -1,5 +1,5 @@
 //! Restores the samples of a block.
-ghost use Rattle.std.specs.Prelude.{◌≡◌, ℕ, ◌+◌, ◌-◌, ◌*◌, ◌/◌, ◌^◌, ◌<◌, ◌≤◌, ◌==◌, Bool, true, false, List, length, replicate, All, ℤ, IfSome, is_some};
+ghost use Rattle.std.specs.Prelude.{◌≡◌, ℕ, ◌+◌, ◌-◌, ◌*◌, ◌/◌, ◌^◌, ◌<◌, ◌≤◌, ◌==◌, Bool, true, false, List, length, replicate, All, ℤ, IfSome, IfNone, is_some};
 ghost use Rattle.rice_samples.specs.Parameters.{IsLegal, IsSample, value_count};
 ghost use Rattle.rice_samples.specs.predict.Residuals.{pattern, last_of};
 ghost use Rattle.rice_code.specs.code.Blocks.{BlockData, block_data, zero_block};
@@ -45,14 +45,27 @@ fn write_block(
     ensures contents { block_data setting.now block p samples.new
         ≡ block_with reference residuals.now }
 {
+    if !setting.preprocess() {
+        from_patterns(setting, residuals, samples);
+        return;
+    }
+    // A residual of 0 stands at the place of the reference sample, and so it is restored as the sample before it.
+    let before = reference_or(setting, reference, p);
+    restore_all(setting, before, residuals, samples);
+}
+
+/// Returns the reference sample, or `p` if there is none.
+#[inline]
+fn reference_or(setting: &Setting, reference: Option<u32>, p: i64) -> i64
+    requires p { IsSample setting.now p }
+    requires reference { IfSome reference (λ v. v < value_count setting.now) }
+    ensures sample { IsSample setting.now result }
+    ensures some { IfSome reference (λ v. pattern setting.now result ≡ v) }
+    ensures none { IfNone reference (result ≡ p) }
+{
     match reference {
-        Some(value) => {
-            let first = from_pattern(setting, value);
-            samples[0] = first;
-            restore_all(setting, first, &residuals[1..], &mut samples[1..]);
-        }
-        None if setting.preprocess() => restore_all(setting, p, residuals, samples),
-        None => from_patterns(setting, residuals, samples),
+        Some(value) => from_pattern(setting, value),
+        None => p,
     }
 }
 
@@ -99,11 +112,10 @@ fn sample_of_zero(setting: &Setting, reference: Option<u32>, p: i64) -> i64
     ensures residual { residual_at setting.now reference true p result ≡ 0 }
     ensures reference { IfSome reference (λ v. pattern setting.now result ≡ v) }
 {
-    match reference {
-        Some(value) => from_pattern(setting, value),
-        None if setting.preprocess() => p,
-        None => from_pattern(setting, 0),
+    if !setting.preprocess() {
+        return from_pattern(setting, 0);
     }
+    reference_or(setting, reference, p)
 }
 
 /// Writes `value` to all places.

@@ -81,11 +81,8 @@ pub(crate) fn number_with(greatest: u32, p: u32, d: u32) -> u32
     ensures rank { rank_below (greatest + 1) p result ≡ d }
 {
     let reach = p.min(greatest - p);
-    if d > 2 * reach {
-        if p == reach { d } else { greatest - d }
-    } else if d % 2 == 0 {
-        p + d / 2
-    } else {
-        p - d / 2 - 1
-    }
+    // Both are computed, so that the machine selects one and does not branch.
+    let near = p.wrapping_add((d >> 1) ^ 0u32.wrapping_sub(d & 1));
+    let far = if p == reach { d } else { greatest - d };
+    if d > 2 * reach { far } else { near }
 }

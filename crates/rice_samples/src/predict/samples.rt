@@ -1,10 +1,12 @@
 //! Samples in a row, from their residuals or their patterns.
-ghost use Rattle.std.specs.Prelude.{◌≡◌, ℕ, ◌+◌, ◌^◌, ◌<◌, ◌≤◌, All, length, map, ℤ};
-ghost use Rattle.rice_samples.specs.Parameters.{IsSample, value_count};
+ghost use Rattle.std.specs.Prelude.{◌≡◌, ℕ, ◌+◌, ◌%◌, ◌^◌, ◌<◌, ◌≤◌, All, length, map, ℤ};
+ghost use Rattle.rice_samples.specs.Parameters.{IsSample, level as level_of, value_count};
 ghost use Rattle.rice_samples.specs.predict.Residuals.{pattern as pattern_of, ranks};
 
 use crate::Setting;
+use crate::predict::near_lanes::{are_near, near_numbers};
 use crate::predict::preprocessor::{from_pattern, number_with};
+use std::simd::prelude::*;
 
 /// Writes the samples with these residuals: the first after the sample `p`, and each other after the one before it.
 #[inline(always)]
@@ -15,16 +17,69 @@ pub fn restore_all(setting: &Setting, p: i64, residuals: &[u32], samples: &mut [
     ensures legal { All (IsSample setting.now) samples.new }
     ensures ranks { ranks setting.now p samples.new ≡ residuals.now }
 {
-    // The loop is laid out for blocks of 8, with a reference and without.
-    match samples.len() {
-        7 => restore_each(setting, p, residuals, &mut samples[..7]),
-        8 => restore_each(setting, p, residuals, &mut samples[..8]),
-        _ => restore_each(setting, p, residuals, samples),
+    if samples.len() % 8 == 0 {
+        restore_eights(setting, p, residuals, samples);
+    } else {
+        restore_each(setting, p, residuals, samples);
     }
 }
 
-/// Writes the samples, whatever their number.
+/// Writes the samples, eight at a time.
 #[inline(always)]
+fn restore_eights(setting: &Setting, p: i64, residuals: &[u32], samples: &mut [i64])
+    requires before { IsSample setting.now p }
+    requires residuals { All (λ d. d < value_count setting.now) residuals.now }
+    requires len { length samples.old ≡ length residuals.now }
+    requires eights { length residuals.now % 8 ≡ 0 }
+    ensures legal { All (IsSample setting.now) samples.new }
+    ensures ranks { ranks setting.now p samples.new ≡ residuals.now }
+{
+    let setting = *setting;
+    let mut before = p;
+    for i in 0..samples.len() / 8 {
+        let ranks = &residuals[8 * i..8 * i + 8];
+        restore_eight(&setting, before, ranks, &mut samples[8 * i..8 * i + 8]);
+        before = samples[8 * i + 7];
+    }
+}
+
+/// Writes eight samples.
+#[inline(always)]
+fn restore_eight(setting: &Setting, p: i64, residuals: &[u32], samples: &mut [i64])
+    requires before { IsSample setting.now p }
+    requires residuals { All (λ d. d < value_count setting.now) residuals.now }
+    requires len { length samples.old ≡ length residuals.now }
+    requires eight { length residuals.now ≡ 8 }
+    ensures legal { All (IsSample setting.now) samples.new }
+    ensures ranks { ranks setting.now p samples.new ≡ residuals.now }
+{
+    let greatest = (setting.values() - 1) as u32;
+    let level = setting.level(p) as u32;
+    let ranks = u32x8::from_slice(residuals);
+    let levels = near_numbers(level, ranks);
+    if are_near(greatest, level, ranks, levels) {
+        write_at_levels(setting, &levels.to_array(), samples);
+    } else {
+        restore_each(setting, p, residuals, samples);
+    }
+}
+
+/// Writes the samples with these levels.
+#[inline(always)]
+fn write_at_levels(setting: &Setting, levels: &[u32], samples: &mut [i64])
+    requires levels { All (λ l. l < value_count setting.now) levels.now }
+    requires len { length samples.old ≡ length levels.now }
+    ensures legal { All (IsSample setting.now) samples.new }
+    ensures levels { map (level_of setting.now) samples.new ≡ levels.now }
+{
+    let setting = *setting;
+    for i in 0..samples.len() {
+        samples[i] = setting.value_at(levels[i] as u64);
+    }
+}
+
+/// Writes the samples one at a time, whatever their number.
+#[inline(never)]
 fn restore_each(setting: &Setting, p: i64, residuals: &[u32], samples: &mut [i64])
     requires before { IsSample setting.now p }
     requires residuals { All (λ d. d < value_count setting.now) residuals.now }

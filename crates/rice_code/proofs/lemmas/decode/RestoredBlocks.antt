@@ -1,21 +1,23 @@
 -- Samples of a block, restored.
 use Rattle.std.proofs.Common.{◌≡◌, ℕ, suc, ◌+◌, ◌*◌, ◌/◌, ◌%◌, ◌<◌, ◌==◌, Bool, true, false, cond, List, [], ◌∷◌, ◌++◌, length, map, take, drop, slice_set, append-nil, refl, sym, ◌∙◌, ap, arith, Option, Some, None, ℤ, zero, ◌-◌, subst, ◌≤◌, inl, inr, replicate}
 use Rattle.std.specs.List.{refill}
-use Rattle.std.specs.Prelude.{IfSome, is_some, slice_index, slice_index_or, ◌&&◌}
+use Rattle.std.specs.Prelude.{All, IfSome, IfNone, OnSome, is_some, slice_index, slice_index_or, ◌&&◌}
 use Rattle.std.proofs.lemmas.Nat.{div-mul-add}
 use Rattle.std.proofs.Math.Nat.{mul_comm}
 use Rattle.std.proofs.lemmas.Nat.{mod-mul-add}
 use Rattle.std.proofs.lemmas.List.{drop_all, take_all}
 use Rattle.std.proofs.Math.Dec.{eqb-suc-zero}
 use borrow.Rule.Slice.PartMut.{put_mid}
-use Rattle.rice_samples.specs.Parameters.{Parameters}
+use Rattle.rice_samples.specs.Parameters.{Parameters, IsSample, level, value_count}
+use Rattle.rice_samples.proofs.lemmas.setting.Levels.{same_level}
+use Rattle.rice_samples.proofs.lemmas.predict.Ranks.{rank_injective}
 use Rattle.rice_samples.specs.Places.{is_reference, is_reference_sample, place}
 use Rattle.rice_samples.specs.predict.Residuals.{residual, residuals, rank, ranks, pattern}
 use Rattle.rice_code.specs.code.Blocks.{block_data, zero_block}
 use Rattle.rice_code.specs.code.Forms.{IsReference}
 use Rattle.rice_code.specs.decode.Restored.{residual_at}
 use Rattle.rice_code.proofs.lemmas.meaning.Covers.{bool_cases}
-use Rattle.rice_code.proofs.lemmas.code.Filling.{Repeats, repeated_all}
+use Rattle.rice_code.proofs.lemmas.code.Filling.{Repeats, repeated_all, same_rank}
 
 -- of a block's samples only the first is a reference, if the block has one
 pub reference_within : (s : Parameters) (b j : ℕ) → j < s.block → is_reference_sample s (s.block * b + j) ≡ (is_reference s b && j == 0)
@@ -121,3 +123,25 @@ zeros_restored s b p x r h j res ref = contents_are s b p r (replicate s.block 0
         let one = ap (λ i. residual s i p x) here ∙ (residual_within s b 0 r p x j h ∙ res) in
         let rest = repeated_all s (s.block * b + 1) n x repeats in
         λ i. one i ∷ rest i
+
+-- the sample at the place of the reference is the one that it is restored behind
+same_first : (s : Parameters) (x y : ℤ) → IsSample s x → IsSample s y → rank s x y ≡ 0 → y ≡ x
+same_first s x y h k e = same_level s y x k h (rank_injective (value_count s) (level s x) (level s y) (level s x) h.1 k.1 h.1 (e ∙ sym (same_rank (value_count s) (level s x))))
+
+-- samples restored from all residuals of a block, behind its reference sample or the sample before it
+pub contents_restored : (s : Parameters) (b : ℕ) (p x : ℤ) (r : Option ℕ) (ds : List ℕ) (xs : List ℤ) → IsReference s b r → s.preprocess ≡ true → length ds ≡ s.block → OnSome r (slice_index ds 0 ≡ 0) → 1 ≤ s.block
+    → IsSample s x → IfSome r (λ v. pattern s x ≡ v) → IfNone r (x ≡ p) → All (IsSample s) xs → length xs ≡ s.block → ranks s x xs ≡ ds → block_data s b p xs ≡ record { reference = r; residuals = ds }
+contents_restored s b p x None ds xs h pre n none some hx pat same all len e = contents_of_ranks s b p ds xs h pre len (ap (λ q. ranks s q xs) (sym same) ∙ e)
+contents_restored s b p x (Some v) ds [] h pre n none some hx pat same all len e = absurd (omega arith)
+contents_restored s b p x (Some v) [] (y ∷ ys) h pre n none some hx pat same all len e = absurd (omega arith)
+contents_restored s b p x (Some v) (d ∷ ds) (y ∷ ys) h pre n none some hx pat same all len e =
+    let first : rank s x y ≡ d = cc in
+    let rest : ranks s y ys ≡ ds = cc in
+    let at : y ≡ x = same_first s x y hx (all 0 x (omega arith)) (first ∙ none) in
+    let rest_behind : ranks s x ys ≡ ds = ap (λ q. ranks s q ys) (sym at) ∙ rest in
+    ap (λ q. block_data s b p (q ∷ ys)) at ∙ contents_behind s b p x v (d ∷ ds) ys h n (omega arith) none rest_behind pat
+
+-- without preprocessing a block has no reference
+pub contents_plain : (s : Parameters) (b : ℕ) (p : ℤ) (r : Option ℕ) (ds : List ℕ) (xs : List ℤ) → IsReference s b r → s.preprocess ≡ false → map (pattern s) xs ≡ ds → block_data s b p xs ≡ record { reference = r; residuals = ds }
+contents_plain s b p None ds xs h e m = contents_of_patterns s b p ds xs h e m
+contents_plain s b p (Some v) ds xs h e m = absurd (let f : true ≡ false = sym (preprocesses s b v h) ∙ e in cc)

@@ -7,7 +7,7 @@ use Rattle.rice_samples.specs.predict.Residuals.{rank_below, ranks, last_of}
 use Rattle.rice_samples.proofs.lemmas.blocks.LaneLemmas.{map_same}
 use Rattle.rice_samples.proofs.lemmas.predict.Folding.{ranks-append}
 use Rattle.rice_samples.proofs.lemmas.predict.LaneRanks.{each_below, shifted_below, ranked_eight, next_eight, last_level, eight_long, length-ranks, length-levels}
-use Rattle.rice_samples.proofs.predict.lanes.write_eights.Goals as goal
+use Rattle.rice_samples.proofs.predict.rank_lanes.write_eights.Goals as goal
 
 pub eight_ranks-requires-clause-before : goal.eight_ranks-requires-clause-before
 eight_ranks-requires-clause-before c =

@@ -2,7 +2,7 @@ use Rattle.std.proofs.Common.{◌∙◌, arith, min}
 use Rattle.std.specs.Prelude.{replicate}
 use Rattle.std.specs.Simd.Lanes.{zip2}
 use Rattle.rice_samples.proofs.lemmas.predict.LaneRanks.{lanes_ranked, wrapped_sub, wrapped_add}
-use Rattle.rice_samples.proofs.predict.lanes.eight_ranks.Goals as goal
+use Rattle.rice_samples.proofs.predict.rank_lanes.eight_ranks.Goals as goal
 
 pub returns : goal.returns
 returns c =

@@ -2,7 +2,7 @@ use Rattle.std.proofs.Common.{◌≡◌, ◌*◌, ◌<◌, take, get_or, length}
 use Rattle.std.specs.Simd.Lanes.{Each1}
 use Rattle.rice_samples.specs.Parameters.{level, value_count}
 use Rattle.rice_samples.specs.predict.Residuals.{ranks, last_of}
-use Rattle.rice_samples.proofs.predict.lanes.write_eights.Given as goal
+use Rattle.rice_samples.proofs.predict.rank_lanes.write_eights.Given as goal
 
 abbrev pub invariant-loop-i : goal.invariant-loop-i
 invariant-loop-i l = record {

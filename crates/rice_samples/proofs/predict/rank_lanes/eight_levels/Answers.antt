@@ -3,7 +3,7 @@ use Rattle.std.proofs.lemmas.Int.{to_z-of_z}
 use mir.Val.{SFits}
 use Rattle.rice_samples.specs.Parameters.{level}
 use Rattle.rice_samples.proofs.lemmas.predict.LaneRanks.{eight_of}
-use Rattle.rice_samples.proofs.predict.lanes.eight_levels.Goals as goal
+use Rattle.rice_samples.proofs.predict.rank_lanes.eight_levels.Goals as goal
 
 pub returns-clause-levels : goal.returns-clause-levels
 returns-clause-levels c =
