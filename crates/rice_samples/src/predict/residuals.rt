@@ -5,8 +5,8 @@ ghost use Rattle.rice_samples.specs.Parameters.{IsSample, level};
 ghost use Rattle.rice_samples.specs.predict.Residuals.{pattern as pattern_of, ranks, ranks_below, last_of};
 
 use crate::Setting;
-use crate::predict::rank_lanes::write_eights;
 use crate::predict::preprocessor::{pattern, rank_of};
+use crate::predict::rank_lanes::write_eights;
 
 /// Writes the residuals of the samples: of the first one after the sample `p`, and of each other after the one before it.
 pub(crate) fn write_residuals(setting: &Setting, p: i64, samples: &[i64], residuals: &mut [u32])
