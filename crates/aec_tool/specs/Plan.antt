@@ -50,7 +50,7 @@ plan_view p = record {
   dest = p.dest.now;
 }
 
--- the same of an answer
+-- what the answer says, with its plan as what the plan says
 abbrev pub answer_view : Result Plan PlanFault → Result PlanView PlanFault
 answer_view (Ok p) = Ok (plan_view p)
 answer_view (Err e) = Err e

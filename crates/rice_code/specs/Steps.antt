@@ -12,7 +12,7 @@ least_looks s c = if is_zero_block c then s.block else s.block * (best_split s c
 abbrev pub most_looks : Parameters → BlockData → ℕ
 most_looks s c = if is_zero_block c then s.block else s.block * (min (best_split s c + 1) (k_max s) + 5)
 
--- the same of all blocks of samples
+-- the least and the most looks that coding all blocks of samples takes
 abbrev pub least_looks_at : Parameters → List ℤ → ℕ
 least_looks_at s xs = sum_by (least_looks s) (blocks_of s 0 (pos 0) xs)
 

@@ -1,6 +1,6 @@
 use rice_bits::{
     BitFault, BitReader, BitSink, FromReader, FromWriter, Intake, MemoryIn, MemoryOut, Meter,
-    Outlet, ReadFault, WriteFault, ZeroIn, join,
+    Outlet, ReadFault, SliceIn, SliceOut, WriteFault, ZeroIn, join,
 };
 use std::io::{self, ErrorKind, Read, Write};
 use std::test::Fail;
@@ -209,6 +209,29 @@ fn devices_over_memory(rt: HostRuntime) -> Result<(), Fail> {
     assert_eq!(rt; outlet.put(&[10]), Err(WriteFault));
     assert_eq!(rt; outlet.failures(), 1);
     assert_eq!(rt; outlet.written(), [7, 8, 9].as_slice());
+    Ok(())
+}
+
+#[test]
+fn devices_over_slices(rt: HostRuntime) -> Result<(), Fail> {
+    let mut buffer = [0xAA; 4];
+    let mut intake = SliceIn::new(&[1, 2, 3, 4, 5, 6]);
+    assert_eq!(rt; intake.fill(&mut buffer), Ok(4));
+    assert_eq!(rt; buffer, [1, 2, 3, 4]);
+    assert_eq!(rt; intake.fill(&mut buffer), Ok(2));
+    assert_eq!(rt; buffer, [5, 6, 3, 4]);
+    assert_eq!(rt; intake.fill(&mut buffer), Ok(0));
+    assert_eq!(rt; intake.failures(), 0);
+
+    let mut room = [0; 4];
+    let mut outlet = SliceOut::new(&mut room);
+    assert_eq!(rt; outlet.put(&[7, 8, 9]), Ok(3));
+    assert_eq!(rt; outlet.put(&[10, 11]), Ok(1));
+    assert_eq!(rt; outlet.put(&[11]), Err(WriteFault));
+    assert_eq!(rt; outlet.taken(), 4);
+    assert_eq!(rt; outlet.failures(), 1);
+    drop(outlet);
+    assert_eq!(rt; room, [7, 8, 9, 10]);
     Ok(())
 }
 

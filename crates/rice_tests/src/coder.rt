@@ -115,7 +115,8 @@ fn code_some(
     }
     assert_eq!(rt; taken, samples.len());
     assert!(rt; meter.steps() < 1 << 61);
-    coder.finish(&mut sink, &mut meter);
+    coder.finish_reset(&mut sink, &mut meter);
+    assert_eq!(rt; coder.pending(), 0);
     let bits = (bytes.len() as u64)
         .saturating_mul(8)
         .saturating_add(sink.len());

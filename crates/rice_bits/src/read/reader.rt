@@ -17,7 +17,7 @@ const LIMIT: u64 = 1 << 49;
 
 /// Reads the bits of the bytes that an intake gives, most significant first.
 ///
-/// In contracts its value is a record of the bits that were given and wait, the number of bits taken, whether all
+/// Over a slice it takes 4,160 bytes of memory. In contracts its value is a record of the bits that were given and wait, the number of bits taken, whether all
 /// since the mark were 0, the refusal, the intake, and what the intake tells of its bytes and failures.
 ///
 /// The intake is called only when a bit is asked for and none waits: for at most 4,096 bytes at a time, and never

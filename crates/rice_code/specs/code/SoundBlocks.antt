@@ -15,7 +15,7 @@ pub record IsSoundData (s : Parameters) (c : BlockData) : Type 0 where
   pub reference : IfSome c.reference (λ v. v < value_count s)
   pub zero : IsZeroAtReference c
 
--- the same of block b, which has a reference just where it must
+-- sound data of block b, which has a reference just where it must
 pub record IsSoundBlock (s : Parameters) (b : ℕ) (c : BlockData) : Type 0 where
   pub block : IsBlock s b c
   pub at_reference : IsZeroAtReference c

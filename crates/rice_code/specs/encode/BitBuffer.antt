@@ -25,7 +25,7 @@ pub record AddsFields (more : List Bool) (count ticks : ℕ) (sink_old fields_ol
   pub len : length sink_new + length fields_new ≡ length sink_old + length fields_old + count
   pub steps : meter_new + length fields_new ≡ meter_old + length fields_old + ticks
 
--- the same where nothing is counted beside the bits
+-- as `HasRoomFor` and `AddsFields` for a list of bits, where nothing is counted beside them
 abbrev pub HasRoomForBits : List Bool → ℕ → ℕ → Type 0
 HasRoomForBits more bits meter = HasRoomFor (length more) (length more) bits meter
 

@@ -11,7 +11,7 @@ pub record Gathers (word left : ℕ) (bits : List Bool) : Type 0 where
 abbrev pub four_sequences : ℕ → ℕ → ℕ → ℕ → List Bool
 four_sequences a b c d = fundamental_sequence a ++ fundamental_sequence b ++ fundamental_sequence c ++ fundamental_sequence d
 
--- the same from number `from` on, which is 0 or 1
+-- those of four numbers from number `from` on, which is 0 or 1
 abbrev pub sequences_from : ℕ → ℕ → ℕ → ℕ → ℕ → List Bool
 sequences_from from a b c d = (if from == 0 then fundamental_sequence a else []) ++ fundamental_sequence b ++ fundamental_sequence c ++ fundamental_sequence d
 

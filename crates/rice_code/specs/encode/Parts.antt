@@ -12,7 +12,7 @@ abbrev pub AddsLow : ℕ → ℕ → List ℕ → List Bool → List Bool → Li
 AddsLow width n ds sink_old fields_old sink_new fields_new meter_old meter_new =
     AddsFields (flat_map (word width) ds) (n * width) (n * (width + 1)) sink_old fields_old sink_new fields_new meter_old meter_new
 
--- the same of all residuals but the first `from`, with a look at all
+-- `width` lowest digits of each of n residuals but the first `from`, and a look at each of the n
 abbrev pub HasRoomForEights : ℕ → ℕ → ℕ → ℕ → ℕ → Type 0
 HasRoomForEights width count from bits meter = HasRoomFor ((count - from) * width) (count + (count - from) * width) bits meter
 

@@ -22,8 +22,8 @@ pub struct Pushed {
 /// Takes samples, and appends the code of each segment of 64 blocks, or fewer at the end of a
 /// reference interval, once it is whole (CCSDS 121.0-B-3, sections 3 to 5).
 ///
-/// In contracts its value is what it holds of the segment that it fills, and `HasTaken` tells which
-/// samples it has taken.
+/// It takes 16,448 bytes of memory. In contracts its value is what it holds of the segment that it fills,
+/// and `HasTaken` tells which samples it has taken.
 #[derive(Drop)]
 pub struct Coder {
     segment: OpenSegment,

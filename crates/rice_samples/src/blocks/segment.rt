@@ -11,7 +11,8 @@ use std::marker::Model;
 /// The most residuals of a segment: 64 blocks of 64.
 const CAPACITY: usize = 4096;
 
-/// The residuals of a segment, at most 4,096. Contracts see their list. They can be read only through blocks.
+/// The residuals of a segment, at most 4,096. Contracts see their list. They can be read only through blocks. It takes
+/// 16,392 bytes of memory.
 #[derive(Drop)]
 pub struct Segment {
     items: [u32; CAPACITY],
