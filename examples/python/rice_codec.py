@@ -70,18 +70,18 @@ class Field:
         try:
             return self.array[selection]
         except ValueError as error:
-            raise ValueError(f"chunk {self.damaged() or 'unknown'}: {error}") from error
+            name = self.damaged()
+            if name is None:
+                raise
+            raise ValueError(f"chunk {name}: {error}") from error
 
     def damaged(self):
-        """The first chunk that can't be decoded."""
+        """The name of the first chunk that can't be decoded, or None where all can."""
         for place in itertools.product(*map(range, self.array.cdata_shape)):
-            name = ".".join(map(str, place))
             try:
-                self.array.compressor.decode(self.array.chunk_store[self.array.path + name])
+                self.array[tuple(slice(at * size, (at + 1) * size) for at, size in zip(place, self.array.chunks))]
             except ValueError:
-                return name
-            except KeyError:
-                pass
+                return ".".join(map(str, place))
         return None
 
 

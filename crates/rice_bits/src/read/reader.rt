@@ -17,8 +17,9 @@ const LIMIT: u64 = 1 << 49;
 
 /// Reads the bits of the bytes that an intake gives, most significant first.
 ///
-/// Over a slice it takes 4,160 bytes of memory. In contracts its value is a record of the bits that were given and wait, the number of bits taken, whether all
-/// since the mark were 0, the refusal, the intake, and what the intake tells of its bytes and failures.
+/// Over a slice it takes 4,160 bytes of memory. In contracts its value is a record of the bits that were given and wait,
+/// the number of bits taken, whether all since the mark were 0, the refusal, the intake, and what the intake tells of
+/// its bytes and failures.
 ///
 /// The intake is called only when a bit is asked for and none waits: for at most 4,096 bytes at a time, and never
 /// past 2^49 bytes in all. After 2^49 bytes it is called once, for one byte (own rule). A call that is refused has
