@@ -1,5 +1,5 @@
 //! Samples from the bytes of several.
-ghost use Rattle.std.specs.Prelude.{◌≡◌, ◌≢◌, ℕ, ◌*◌, ◌<◌, ◌≤◌, All, length, take, drop, flat_map, ℤ};
+ghost use Rattle.std.specs.Prelude.{◌≡◌, ◌≢◌, true, ℕ, ◌*◌, ◌<◌, ◌≤◌, All, length, take, drop, flat_map, ℤ};
 ghost use Rattle.rice_samples.specs.Parameters.{IsSample, width as width_of};
 ghost use Rattle.rice_samples.specs.predict.Residuals.{twos_complement};
 ghost use Rattle.rice_samples.specs.bytes.Spelling.{ReadsSamples, spellings};
@@ -17,11 +17,24 @@ pub fn samples_of(setting: &Setting, bytes: &[u8], samples: &mut [i64]) -> usize
     ensures len { length samples.new ≡ length samples.old }
     ensures reads { ReadsSamples setting.now bytes.now samples.new result }
 {
-    if setting.bits() == 8 * setting.width() {
-        read_words(setting, bytes, samples);
+    read_values_of(setting, bytes, samples);
+    // Where samples have all bits of their bytes, any bytes spell samples.
+    if setting.bits() == 8 * setting.width() || are_samples(setting, samples) {
         return samples.len();
     }
     read_each(setting, bytes, samples)
+}
+
+/// Returns whether all of these are values that a sample can have.
+fn are_samples(setting: &Setting, values: &[i64]) -> bool
+    ensures { result ≡ true → All (IsSample setting.now) values.now }
+{
+    let setting = *setting;
+    let mut all = true;
+    for i in 0..values.len() {
+        all = all & setting.in_range(values[i]);
+    }
+    all
 }
 
 /// Reads the samples one by one, as `samples_of` does.
@@ -42,12 +55,11 @@ fn read_each(setting: &Setting, bytes: &[u8], samples: &mut [i64]) -> usize
     samples.len()
 }
 
-/// Reads all samples where they have all bits of their bytes, so that any bytes spell samples.
-fn read_words(setting: &Setting, bytes: &[u8], samples: &mut [i64])
+/// Reads the values that `width()` bytes each spell, of which not all need be samples.
+fn read_values_of(setting: &Setting, bytes: &[u8], samples: &mut [i64])
     requires len { length bytes.now ≡ width_of setting.now * length samples.old }
-    requires bits { setting.now.bits ≡ 8 * width_of setting.now }
     ensures len { length samples.new ≡ length samples.old }
-    ensures legal { All (IsSample setting.now) samples.new }
+    ensures values { All (IsValue (8 * width_of setting.now) setting.now.signed) samples.new }
     ensures spelled { bytes.now ≡ spellings setting.now samples.new }
 {
     // The loop is laid out for each of these: with a known width and order it reads a sample at one stroke.
