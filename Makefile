@@ -6,12 +6,12 @@ LIBRARY_CODES ?= 1000000
 .PHONY: help aec library install install-command install-library uninstall test rows hostile interop refused-memory installed recipes documents bench examples stack hostile-library bench-library
 
 help:
-	@echo 'make aec                    prove and build the program, as ./aec'
-	@echo 'make library                prove and build the library for C, as ./librice.a and ./librice.so'
+	@echo 'make aec                    prove and build the program, as ./aec (ten minutes the first time)'
+	@echo 'make library                prove and build the library for C, as ./librice.a and ./librice.so (as long)'
 	@echo 'make install PREFIX=DIR     install both in DIR (/usr/local), with manual page, completions, header and rice.pc'
 	@echo 'make install-command, make install-library   install one of them'
 	@echo 'make uninstall PREFIX=DIR   remove what these installed'
-	@echo 'make test                   prove everything from nothing, and run all tests'
+	@echo 'make test                   prove everything from nothing, and run all tests (an hour)'
 	@echo 'make rows                   run the cases of scripts/rows.txt with ./aec'
 	@echo 'make hostile                run ./aec on damaged and random codes, and on files and streams that fail'
 	@echo "make interop                exchange codes between ./aec and Debian's aec (libaec-tools)"
