@@ -49,10 +49,9 @@ pub record Passes (old new : Window) (bits : List Bool) : Type 0 where
   pub taken : window_taken new ≡ window_taken old + length bits
 
 -- Fundamental sequences were taken from the front of a word, one for each of the numbers that were written to the first places of a list.
-pub record AreParted (front : ℕ) (old new : List ℕ) (left used taken : ℕ) : Type 0 where
+pub record AreParted (front : ℕ) (old new : List ℕ) (used taken : ℕ) : Type 0 where
   pub within : taken ≤ length new
   pub each : All (λ m. m < 64) (take taken new)
   pub rest : drop taken new ≡ drop taken old
   pub few : used ≤ 64
-  pub below : left < 2 ^ (64 - used)
-  pub bits : word 64 front ≡ flat_map fundamental_sequence (take taken new) ++ word (64 - used) left
+  pub bits : flat_map fundamental_sequence (take taken new) ≡ take used (word 64 front)

@@ -4,8 +4,9 @@ ghost use Rattle.rice_bits.specs.Bits.{bits_of, fundamental_sequence, word};
 ghost use Rattle.rice_bits.specs.read.Reader.{is_blank};
 ghost use Rattle.rice_bits.specs.read.Window.{AreParted, buffer_len, most_at_once, most_waiting};
 
-use crate::bits::digits::{behind_front, digits_behind, four_words, front_digits};
+use crate::bits::digits::{digits_behind, four_words, front_digits};
 use crate::bits::octets::{load, store_zeros};
+use crate::read::ones::{find_ends, write_gaps};
 
 /// The most bytes that are asked for at a time.
 pub const PIECE: usize = 4096;
@@ -233,7 +234,7 @@ impl Window {
             (flat_map fundamental_sequence (take result zeros.new)) }
     {
         let parted = part_sequences(self.ahead(), zeros);
-        self.at += parted.zeros as usize + parted.taken;
+        self.at += parted.used;
         parted.taken
     }
 }
@@ -319,36 +320,25 @@ fn each_from(bytes: &[u8], at: usize, width: u32, words: &mut [u32])
     }
 }
 
-/// The number of fundamental sequences taken from the front of a word, and the number of their zeros.
+/// The number of fundamental sequences taken from the front of a word, and the number of their bits.
 #[derive(Clone, Copy)]
 struct Parted {
     taken: usize,
-    zeros: u32,
+    used: usize,
 }
 
 /// Takes fundamental sequences from the front of a word, and writes the numbers of their zeros to the first places
 /// of `zeros`.
 #[inline]
 fn part_sequences(front: u64, zeros: &mut [u32]) -> Parted
-    ensures { (left : ℕ) ×
-        AreParted front zeros.old zeros.new left (result.zeros + result.taken) result.taken }
+    ensures { AreParted front zeros.old zeros.new result.used result.taken }
 {
-    let mut rest = front;
-    let mut passed = 0;
-    for taken in 0..zeros.len() {
-        if rest == 0 {
-            return Parted {
-                taken,
-                zeros: passed,
-            };
-        }
-        let run = rest.leading_zeros();
-        zeros[taken] = run;
-        rest = behind_front(rest, run);
-        passed += run;
-    }
+    let mut ends = [0; 64];
+    let found = find_ends(front, zeros.len(), &mut ends);
+    let taken = found.min(zeros.len());
+    write_gaps(&ends, &mut zeros[..taken]);
     Parted {
-        taken: zeros.len(),
-        zeros: passed,
+        taken,
+        used: ends[taken] as usize,
     }
 }

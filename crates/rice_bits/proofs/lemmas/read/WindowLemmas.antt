@@ -26,10 +26,10 @@ between-join xs a s e p q =
     let j : take ((s - a) + (e - s)) (drop a xs) ≡ take (s - a) (drop a xs) ++ take (e - s) (drop (s - a) (drop a xs)) = take-add (s - a) (e - s) (drop a xs) in
     ap (λ k. take (s - a) (drop a xs) ++ take (e - s) k) (sym d) ∙ sym j ∙ ap (λ k. take k (drop a xs)) n
 
-drop-seam : {A : Type 0} (xs ys : List A) (n : ℕ) → length xs ≡ n → drop n (xs ++ ys) ≡ ys
+pub drop-seam : {A : Type 0} (xs ys : List A) (n : ℕ) → length xs ≡ n → drop n (xs ++ ys) ≡ ys
 drop-seam xs ys n e = ap (λ k. drop k (xs ++ ys)) (sym e) ∙ drop-append_seam xs ys
 
-take-bits_of : (n : ℕ) (xs : List ℕ) → n ≤ length xs → take (8 * n) (bits_of xs) ≡ bits_of (take n xs)
+pub take-bits_of : (n : ℕ) (xs : List ℕ) → n ≤ length xs → take (8 * n) (bits_of xs) ≡ bits_of (take n xs)
 take-bits_of n xs h =
     let front = bits_of (take n xs) in
     let len : length front ≡ 8 * n = length-bits_of (take n xs) ∙ ap (λ k. 8 * k) (length-take-le n xs h) in
