@@ -1,5 +1,5 @@
 -- The bits that were given and not yet taken.
-use Rattle.std.specs.Prelude.{◌≡◌, ◌+◌, ◌-◌, ◌*◌, ◌/◌, ◌%◌, ◌^◌, ◌<◌, ◌≤◌, ℕ, All, Bool, List, ◌++◌, length, drop, flat_map, min, replicate, take, slice_range}
+use Rattle.std.specs.Prelude.{◌≡◌, ◌+◌, ◌-◌, ◌*◌, ◌/◌, ◌%◌, ◌^◌, ◌<◌, ◌≤◌, ℕ, All, Bool, List, [], ◌∷◌, ◌++◌, length, drop, flat_map, min, replicate, take, slice_range}
 use Rattle.rice_bits.specs.Bits.{word, fundamental_sequence, bits_of}
 use Rattle.rice_bits.specs.declared.read.window.Window.{Window}
 
@@ -30,6 +30,10 @@ window_taken w = 8 * w.given - (w.end - w.at)
 -- how many of the bits that wait are in the eight bytes that the next of them is in
 abbrev pub bits_near : Window → ℕ
 bits_near w = min (64 - w.at % 8) (length (window_bits w))
+
+-- the powers of 2 that move each of four words of `width` digits to the front
+abbrev pub four_powers : ℕ → List ℕ
+four_powers width = 1 ∷ 2 ^ width ∷ 2 ^ (2 * width) ∷ 2 ^ (3 * width) ∷ []
 
 pub record IsWindow (w : Window) : Type 0 where
   pub size : length w.buffer ≡ buffer_len

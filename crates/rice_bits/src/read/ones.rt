@@ -345,9 +345,29 @@ fn eight_gaps(ends: &[u8], at: usize) -> u32x8
     excess(excess(next, here), u8x8::splat(1)).cast::<u32>()
 }
 
+/// Returns how many bits stand between an end and the next, for each of four ends from the place `at` on.
+#[inline]
+fn four_gaps(ends: &[u8], at: usize) -> u32x4
+    requires { at + 5 ≤ length ends.now }
+    ensures len { length result ≡ 4 }
+    ensures value { result ≡ take 4 (drop at (gaps ends.now)) }
+{
+    let here = u8x4::from_slice(&ends[at..]);
+    let next = u8x4::from_slice(&ends[at + 1..]);
+    excess_of_four(excess_of_four(next, here), u8x4::splat(1)).cast::<u32>()
+}
+
 /// Returns by how much a number is above the other, or 0, in each lane.
 #[inline(always)]
 fn excess(a: u8x8, b: u8x8) -> u8x8
+    ensures { result ≡ zip2 (λ x y. x - y) a b }
+{
+    a.saturating_sub(b)
+}
+
+/// As `excess`, in four lanes.
+#[inline(always)]
+fn excess_of_four(a: u8x4, b: u8x4) -> u8x4
     ensures { result ≡ zip2 (λ x y. x - y) a b }
 {
     a.saturating_sub(b)
@@ -368,6 +388,18 @@ fn write_eights(ends: &[u8], zeros: &mut [u32])
     eight_gaps(ends, last).copy_to_slice(&mut zeros[last..]);
 }
 
+/// As `write_gaps`, four and then the last four.
+#[inline]
+fn write_fours(ends: &[u8], zeros: &mut [u32])
+    requires some { (4 ≤ length zeros.old) × (length zeros.old ≤ 8) }
+    requires room { length zeros.old < length ends.now }
+    ensures { zeros.new ≡ take (length zeros.old) (gaps ends.now) }
+{
+    let last = zeros.len() - 4;
+    four_gaps(ends, 0).copy_to_slice(zeros);
+    four_gaps(ends, last).copy_to_slice(&mut zeros[last..]);
+}
+
 /// Writes how many bits stand between each of the first ends and the next, one number to each place of `zeros`.
 #[inline]
 pub fn write_gaps(ends: &[u8], zeros: &mut [u32])
@@ -376,6 +408,9 @@ pub fn write_gaps(ends: &[u8], zeros: &mut [u32])
 {
     if zeros.len() >= 8 {
         return write_eights(ends, zeros);
+    }
+    if zeros.len() >= 4 {
+        return write_fours(ends, zeros);
     }
     for i in 0..zeros.len() {
         zeros[i] = ends[i + 1].saturating_sub(ends[i]).saturating_sub(1) as u32;

@@ -6,10 +6,10 @@ use Rattle.std.specs.Simd.Lanes.{put_chunk, zip2, sel_l, Each1}
 use Rattle.std.specs.Int.{to_be_bytes, w64}
 use Rattle.std.specs.Int.Count.{ones}
 use Rattle.std.proofs.lemmas.Bool.Decides.{nat_tests}
-use Rattle.std.proofs.lemmas.List.{append-nil, drop-drop, get_or-take, length-drop, length-replicate, length-take-le, map-append, take_more, take_more_set}
+use Rattle.std.proofs.lemmas.List.{append-nil, drop-drop, get_or-take, length-drop, length-replicate, length-take-le, map-append, take_all, take_more, take_more_set}
 use Rattle.std.proofs.lemmas.List.Elements.{All-cons, All-nil}
 use Rattle.std.proofs.lemmas.List.FromFn.{get_or-map-range_with_len}
-use Rattle.std.proofs.lemmas.Simd.{take_more_put_chunk, zip2_splat}
+use Rattle.std.proofs.lemmas.Simd.{length-put_chunk, take_more_put_chunk, zip2_splat}
 use Rattle.std.proofs.Math.Seq.{take-add, take-append-add, take-append_seam}
 use Rattle.rice_bits.specs.Bits.{bits_of, fundamental_sequence, word}
 use Rattle.rice_bits.specs.declared.read.ones.TheConstants.{ENDS}
@@ -147,14 +147,14 @@ length-gaps [] h = absurd (omega arith)
 length-gaps (a ∷ []) h = refl
 length-gaps (a ∷ b ∷ told) h = omega (arith, length-gaps (b ∷ told) (omega arith))
 
--- eight gaps
-pub gaps-at : (told : List ℕ) (at : ℕ) → at + 9 ≤ length told
-    → zip2 (λ x y. x - y) (zip2 (λ x y. x - y) (take 8 (drop (at + 1) told)) (take 8 (drop at told))) (replicate 8 1) ≡ take 8 (drop at (gaps told))
-gaps-at told at h =
+-- some gaps in a row
+pub gaps-at : (n : ℕ) (told : List ℕ) (at : ℕ) → at + n < length told
+    → zip2 (λ x y. x - y) (zip2 (λ x y. x - y) (take n (drop (at + 1) told)) (take n (drop at told))) (replicate n 1) ≡ take n (drop at (gaps told))
+gaps-at n told at h =
     let behind : drop (at + 1) told ≡ drop 1 (drop at told) = sym (drop-drop 1 at told) in
-    let room : 8 < length (drop at told) = omega (arith, h, length-drop at told) in
-    ap (λ z. zip2 (λ x y. x - y) (zip2 (λ x y. x - y) (take 8 z) (take 8 (drop at told))) (replicate 8 1)) behind
-    ∙ (gaps-lanes 8 (drop at told) room ∙ ap (take 8) (sym (drop-gaps at told (omega (arith, h)))))
+    let room : n < length (drop at told) = omega (arith, h, length-drop at told) in
+    ap (λ z. zip2 (λ x y. x - y) (zip2 (λ x y. x - y) (take n z) (take n (drop at told))) (replicate n 1)) behind
+    ∙ (gaps-lanes n (drop at told) room ∙ ap (take n) (sym (drop-gaps at told (omega (arith, h)))))
 
 pub get_or-gaps : (told : List ℕ) (i : ℕ) → i + 1 < length told → get_or (gaps told) i 0 ≡ get_or told (i + 1) 0 - get_or told i 0 - 1
 get_or-gaps [] i h = absurd (omega arith)
@@ -165,11 +165,22 @@ get_or-gaps (a ∷ b ∷ told) (suc i) h =
     get_or-gaps (b ∷ told) i (omega (arith, h)) ∙ ap (λ k. get_or (a ∷ b ∷ told) k 0 - get_or (b ∷ told) i 0 - 1) n
 
 -- more numbers are written behind those before them
-pub chunk-more : (now all lanes : List ℕ) (from at : ℕ) → at ≤ from → at + 8 ≤ length now → length lanes ≡ 8 → lanes ≡ take 8 (drop at all)
-    → take from now ≡ take from all → take (at + 8) (put_chunk at now lanes) ≡ take (at + 8) all
-chunk-more now all lanes from at le room eight e before =
+pub chunk-more : (n : ℕ) (now all lanes : List ℕ) (from at : ℕ) → at ≤ from → at + n ≤ length now → length lanes ≡ n → lanes ≡ take n (drop at all)
+    → take from now ≡ take from all → take (at + n) (put_chunk at now lanes) ≡ take (at + n) all
+chunk-more n now all lanes from at le room long e before =
     let front : take at now ≡ take at all = sym (take-take at from now le) ∙ (ap (take at) before ∙ take-take at from all le) in
-    take_more_put_chunk at now lanes (at + 8) (omega (arith, eight)) room ∙ ((λ j. front j ++ e j) ∙ sym (take-add at 8 all))
+    take_more_put_chunk at now lanes (at + n) (omega (arith, long)) room ∙ ((λ j. front j ++ e j) ∙ sym (take-add at n all))
+
+-- the last of them, of which some may be written again
+pub chunk-last : (n : ℕ) (now all lanes : List ℕ) (from count : ℕ) → length now ≡ count → n ≤ count → count ≤ from + n → length lanes ≡ n
+    → lanes ≡ take n (drop (count - n) all) → take from now ≡ take from all → put_chunk (count - n) now lanes ≡ take count all
+chunk-last n now all lanes from count len few reach long e before =
+    let at = count - n in
+    let m : at + n ≡ count = omega (arith, few) in
+    let written = put_chunk at now lanes in
+    let whole : length written ≤ count = omega (arith, length-put_chunk at now lanes, len) in
+    sym (take_all count written whole) ∙ (ap (λ k. take k written) (sym m)
+    ∙ (chunk-more n now all lanes from at (omega (arith, reach)) (omega (arith, m, len)) long e before ∙ ap (λ k. take k all) m))
 
 pub gap-more : (now told : List ℕ) (i : ℕ) → i < length now → i + 1 < length told → take i now ≡ take i (gaps told)
     → take (i + 1) (set now i (get_or told (i + 1) 0 - get_or told i 0 - 1)) ≡ take (i + 1) (gaps told)

@@ -80,6 +80,34 @@ counts-append old mid new most done some small fits front part after r q e =
     not_told true false f g e q = g refl q
     not_told false b f g e q = f refl q
 
+-- those that waited together
+pub counts-waiting : {I : Type 0} (old new : Reader I) (most some : ℕ) (now : List ℕ)
+    → some ≤ length now → Takes old new (flat_map fundamental_sequence (take some now)) → CountsRead old new most true some (take some now)
+counts-waiting old new most some now h t = record {
+  values = take some now;
+  len = length-take-le some now h;
+  told_are = λ _. refl;
+  refused = λ f. absurd cc;
+  takes = t;
+}
+
+-- those that waited together, and then others
+pub counts-both : {I : Type 0} (old mid new : Reader I) (most some more count : ℕ) (small : Bool) (now rest after : List ℕ)
+    → some ≤ length now → Takes old mid (flat_map fundamental_sequence (take some now)) → CountsRead mid new most small more rest
+    → some + more ≡ count → after ≡ take some now ++ rest → CountsRead old new most small count after
+counts-both old mid new most some more count small now rest after h t r n e =
+    subst (λ k. CountsRead old new most small k after) n (counts-append old mid new most some more true small (take some now) rest after (counts-waiting old mid most some now h t) r e)
+
+pub counts-whole : {I : Type 0} (old new : Reader I) (most : ℕ) (small : Bool) (done count : ℕ) (xs : List ℕ)
+    → CountsRead old new most small done (take done xs) → done ≡ count → length xs ≡ count → CountsRead old new most small count xs
+counts-whole old new most small done count xs r e n =
+    record { values = r.values; len = r.len ∙ e; told_are = λ f. sym (take_all done xs (omega (arith, e, n))) ∙ r.told_are f; refused = r.refused; takes = r.takes }
+
+-- those that waited together, which were all
+pub counts-all : {I : Type 0} (old new : Reader I) (most some count : ℕ) (now : List ℕ)
+    → some ≤ length now → Takes old new (flat_map fundamental_sequence (take some now)) → some ≡ count → length now ≡ count → CountsRead old new most true count now
+counts-all old new most some count now h t n len = counts-whole old new most true some count now (counts-waiting old new most some now h t) n len
+
 -- those that were written, judged
 pub counts-judged : {I : Type 0} (old new : Reader I) (most count : ℕ) (small below : Bool) (told : List ℕ)
     → CountsRead old new most small count told → (below ≡ true → All (λ m. m < most + 1) told) → (below ≡ false → All (λ m. m < most + 1) told → ⊥)
@@ -129,11 +157,6 @@ pub row-whole : {I : Type 0} (f : ℕ → List Bool) (P : ℕ → Type 0) (old n
     → Row f P old new done before (take done xs) → done ≡ count → length xs ≡ count → Row f P old new count before xs
 row-whole f P old new done count before xs r e n =
     record { values = r.values; len = r.len ∙ e; each = r.each; appended = sym (take_all done xs (omega (arith, e, n))) ∙ r.appended; takes = r.takes }
-
-pub counts-whole : {I : Type 0} (old new : Reader I) (most : ℕ) (small : Bool) (done count : ℕ) (xs : List ℕ)
-    → CountsRead old new most small done (take done xs) → done ≡ count → length xs ≡ count → CountsRead old new most small count xs
-counts-whole old new most small done count xs r e n =
-    record { values = r.values; len = r.len ∙ e; told_are = λ f. sym (take_all done xs (omega (arith, e, n))) ∙ r.told_are f; refused = r.refused; takes = r.takes }
 
 -- pieces were cut off before the first
 pub stops-first : {I : Type 0} (piece : ℕ → List Bool) (old mid new : Reader I) (none : List ℕ) (bits : List Bool) (f : BitFault)
