@@ -98,16 +98,6 @@ pub counts-both : {I : Type 0} (old mid new : Reader I) (most some more count : 
 counts-both old mid new most some more count small now rest after h t r n e =
     subst (λ k. CountsRead old new most small k after) n (counts-append old mid new most some more true small (take some now) rest after (counts-waiting old mid most some now h t) r e)
 
-pub counts-whole : {I : Type 0} (old new : Reader I) (most : ℕ) (small : Bool) (done count : ℕ) (xs : List ℕ)
-    → CountsRead old new most small done (take done xs) → done ≡ count → length xs ≡ count → CountsRead old new most small count xs
-counts-whole old new most small done count xs r e n =
-    record { values = r.values; len = r.len ∙ e; told_are = λ f. sym (take_all done xs (omega (arith, e, n))) ∙ r.told_are f; refused = r.refused; takes = r.takes }
-
--- those that waited together, which were all
-pub counts-all : {I : Type 0} (old new : Reader I) (most some count : ℕ) (now : List ℕ)
-    → some ≤ length now → Takes old new (flat_map fundamental_sequence (take some now)) → some ≡ count → length now ≡ count → CountsRead old new most true count now
-counts-all old new most some count now h t n len = counts-whole old new most true some count now (counts-waiting old new most some now h t) n len
-
 -- those that were written, judged
 pub counts-judged : {I : Type 0} (old new : Reader I) (most count : ℕ) (small below : Bool) (told : List ℕ)
     → CountsRead old new most small count told → (below ≡ true → All (λ m. m < most + 1) told) → (below ≡ false → All (λ m. m < most + 1) told → ⊥)
@@ -157,6 +147,11 @@ pub row-whole : {I : Type 0} (f : ℕ → List Bool) (P : ℕ → Type 0) (old n
     → Row f P old new done before (take done xs) → done ≡ count → length xs ≡ count → Row f P old new count before xs
 row-whole f P old new done count before xs r e n =
     record { values = r.values; len = r.len ∙ e; each = r.each; appended = sym (take_all done xs (omega (arith, e, n))) ∙ r.appended; takes = r.takes }
+
+pub counts-whole : {I : Type 0} (old new : Reader I) (most : ℕ) (small : Bool) (done count : ℕ) (xs : List ℕ)
+    → CountsRead old new most small done (take done xs) → done ≡ count → length xs ≡ count → CountsRead old new most small count xs
+counts-whole old new most small done count xs r e n =
+    record { values = r.values; len = r.len ∙ e; told_are = λ f. sym (take_all done xs (omega (arith, e, n))) ∙ r.told_are f; refused = r.refused; takes = r.takes }
 
 -- pieces were cut off before the first
 pub stops-first : {I : Type 0} (piece : ℕ → List Bool) (old mid new : Reader I) (none : List ℕ) (bits : List Bool) (f : BitFault)
@@ -232,6 +227,16 @@ sequences-stop old mid new ms count m f t h s = (
   flat_map fundamental_sequence ms ++ replicate m false,
   omega (arith, ones-append (flat_map fundamental_sequence ms) (replicate m false), ones-sequences ms, ones-zeros m),
   stops-append old mid new _ _ f t s,
+)
+
+-- and cut off among those behind sequences that waited together
+pub sequences-stop_behind : {I : Type 0} (old mid new : Reader I) (ms : List ℕ) (more count : ℕ) (f : BitFault)
+    → Takes old mid (flat_map fundamental_sequence ms) → length ms + more ≡ count → (bits : List Bool) × (ones bits < more) × Stops mid new bits f
+    → (all : List Bool) × (ones all < count) × Stops old new all f
+sequences-stop_behind old mid new ms more count f t n s = (
+  flat_map fundamental_sequence ms ++ s.0,
+  omega (arith, ones-append (flat_map fundamental_sequence ms) s.0, ones-sequences ms, s.1, n),
+  stops-append old mid new _ _ f t s.2,
 )
 
 -- one pair more
