@@ -2,5 +2,6 @@
 pub mod Blank
 pub mod Drawing
 pub mod Parting
+pub mod OnesLemmas
 pub mod ReaderLemmas
 pub mod WindowLemmas

@@ -1,5 +1,5 @@
 -- The bits that were given and not yet taken.
-use Rattle.std.specs.Prelude.{◌≡◌, ◌+◌, ◌-◌, ◌*◌, ◌/◌, ◌%◌, ◌^◌, ◌<◌, ◌≤◌, ℕ, All, Bool, List, ◌++◌, length, drop, flat_map, min, replicate, take, slice_range}
+use Rattle.std.specs.Prelude.{◌≡◌, ◌+◌, ◌-◌, ◌*◌, ◌/◌, ◌%◌, ◌^◌, ◌<◌, ◌≤◌, ℕ, All, Bool, List, [], ◌∷◌, ◌++◌, length, drop, flat_map, min, replicate, take, slice_range}
 use Rattle.rice_bits.specs.Bits.{word, fundamental_sequence, bits_of}
 use Rattle.rice_bits.specs.declared.read.window.Window.{Window}
 
@@ -31,6 +31,10 @@ window_taken w = 8 * w.given - (w.end - w.at)
 abbrev pub bits_near : Window → ℕ
 bits_near w = min (64 - w.at % 8) (length (window_bits w))
 
+-- the powers of 2 that move each of four words of `width` digits to the front
+abbrev pub four_powers : ℕ → List ℕ
+four_powers width = 1 ∷ 2 ^ width ∷ 2 ^ (2 * width) ∷ 2 ^ (3 * width) ∷ []
+
 pub record IsWindow (w : Window) : Type 0 where
   pub size : length w.buffer ≡ buffer_len
   pub marked : w.marked ≤ w.at
@@ -49,10 +53,9 @@ pub record Passes (old new : Window) (bits : List Bool) : Type 0 where
   pub taken : window_taken new ≡ window_taken old + length bits
 
 -- Fundamental sequences were taken from the front of a word, one for each of the numbers that were written to the first places of a list.
-pub record AreParted (front : ℕ) (old new : List ℕ) (left used taken : ℕ) : Type 0 where
+pub record AreParted (front : ℕ) (old new : List ℕ) (used taken : ℕ) : Type 0 where
   pub within : taken ≤ length new
   pub each : All (λ m. m < 64) (take taken new)
   pub rest : drop taken new ≡ drop taken old
   pub few : used ≤ 64
-  pub below : left < 2 ^ (64 - used)
-  pub bits : word 64 front ≡ flat_map fundamental_sequence (take taken new) ++ word (64 - used) left
+  pub bits : flat_map fundamental_sequence (take taken new) ≡ take used (word 64 front)

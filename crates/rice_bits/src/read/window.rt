@@ -2,10 +2,12 @@
 ghost use Rattle.std.specs.Prelude.{◌≡◌, ℕ, ◌+◌, ◌-◌, ◌*◌, ◌/◌, ◌%◌, ◌^◌, ◌<◌, ◌≤◌, ◌&&◌, false, [], ◌++◌, min, replicate, flat_map, length, take, drop, All, IfSome, IfNone};
 ghost use Rattle.rice_bits.specs.Bits.{bits_of, fundamental_sequence, word};
 ghost use Rattle.rice_bits.specs.read.Reader.{is_blank};
-ghost use Rattle.rice_bits.specs.read.Window.{AreParted, buffer_len, most_at_once, most_waiting};
+ghost use Rattle.rice_bits.specs.read.Window.{AreParted, four_powers, buffer_len, most_at_once, most_waiting};
 
-use crate::bits::digits::{behind_front, digits_behind, four_words, front_digits};
+use crate::bits::digits::{digits_behind, four_words, front_digits, powers_of};
 use crate::bits::octets::{load, store_zeros};
+use crate::read::ones::{find_ends, write_gaps};
+use std::simd::prelude::*;
 
 /// The most bytes that are asked for at a time.
 pub const PIECE: usize = 4096;
@@ -233,7 +235,7 @@ impl Window {
             (flat_map fundamental_sequence (take result zeros.new)) }
     {
         let parted = part_sequences(self.ahead(), zeros);
-        self.at += parted.zeros as usize + parted.taken;
+        self.at += parted.used;
         parted.taken
     }
 }
@@ -270,20 +272,17 @@ fn words_from(bytes: &[u8], at: usize, width: u32, words: &mut [u32])
     ensures bits { flat_map (word width) words.new
         ≡ take (length words.new * width) (drop at (bits_of bytes.now)) }
 {
-    if width < 1 || width > 8 {
+    if width < 1 || width > 8 || words.len() < 4 {
         return each_from(bytes, at, width, words);
     }
-    let count = words.len() / 4 * 4;
-    let (fours, rest) = words.split_at_mut(count);
-    fours_from(bytes, at, width, fours);
-    each_from(bytes, at + count * width as usize, width, rest);
+    fours_from(bytes, at, width, words);
 }
 
 /// As `words_from`, four words at a time.
 #[inline]
 fn fours_from(bytes: &[u8], at: usize, width: u32, words: &mut [u32])
     requires width { (1 ≤ width) × (width ≤ 8) }
-    requires fours { length words.old % 4 ≡ 0 }
+    requires some { 4 ≤ length words.old }
     requires few { length words.old ≤ 64 }
     requires within { at + length words.old * width ≤ most_waiting }
     requires room { buffer_len ≤ length bytes.now }
@@ -291,13 +290,29 @@ fn fours_from(bytes: &[u8], at: usize, width: u32, words: &mut [u32])
     ensures bits { flat_map (word width) words.new
         ≡ take (length words.new * width) (drop at (bits_of bytes.now)) }
 {
-    let mut at = at;
-    for i in 0..words.len() / 4 {
-        let front = bits_from(bytes, at);
-        let four = four_words(front_digits(front, 32) as u32, width);
+    let powers = powers_of(width);
+    let last = words.len() - 4;
+    for i in 0..(last + 3) / 4 {
+        let four = four_from(bytes, at + 4 * i * width as usize, powers, width);
         four.copy_to_slice(&mut words[4 * i..]);
-        at += 4 * width as usize;
     }
+    // The last four may begin among those before them.
+    let four = four_from(bytes, at + last * width as usize, powers, width);
+    four.copy_to_slice(&mut words[last..]);
+}
+
+/// Returns the four words of `width` bits from bit `at` on.
+#[inline]
+fn four_from(bytes: &[u8], at: usize, powers: u32x4, width: u32) -> u32x4
+    requires width { (1 ≤ width) × (width ≤ 8) }
+    requires powers { powers ≡ four_powers width }
+    requires room { at / 8 + 8 ≤ length bytes.now }
+    ensures len { length result ≡ 4 }
+    ensures fit { All (λ v. v < 2 ^ width) result }
+    ensures bits { flat_map (word width) result ≡ take (4 * width) (drop at (bits_of bytes.now)) }
+{
+    let front = bits_from(bytes, at);
+    four_words(front_digits(front, 32) as u32, powers, width)
 }
 
 /// As `words_from`, one word at a time.
@@ -319,36 +334,25 @@ fn each_from(bytes: &[u8], at: usize, width: u32, words: &mut [u32])
     }
 }
 
-/// The number of fundamental sequences taken from the front of a word, and the number of their zeros.
+/// The number of fundamental sequences taken from the front of a word, and the number of their bits.
 #[derive(Clone, Copy)]
 struct Parted {
     taken: usize,
-    zeros: u32,
+    used: usize,
 }
 
 /// Takes fundamental sequences from the front of a word, and writes the numbers of their zeros to the first places
 /// of `zeros`.
 #[inline]
 fn part_sequences(front: u64, zeros: &mut [u32]) -> Parted
-    ensures { (left : ℕ) ×
-        AreParted front zeros.old zeros.new left (result.zeros + result.taken) result.taken }
+    ensures { AreParted front zeros.old zeros.new result.used result.taken }
 {
-    let mut rest = front;
-    let mut passed = 0;
-    for taken in 0..zeros.len() {
-        if rest == 0 {
-            return Parted {
-                taken,
-                zeros: passed,
-            };
-        }
-        let run = rest.leading_zeros();
-        zeros[taken] = run;
-        rest = behind_front(rest, run);
-        passed += run;
-    }
+    let mut ends = [0; 64];
+    let found = find_ends(front, zeros.len(), &mut ends);
+    let taken = found.min(zeros.len());
+    write_gaps(&ends, &mut zeros[..taken]);
     Parted {
-        taken: zeros.len(),
-        zeros: passed,
+        taken,
+        used: ends[taken] as usize,
     }
 }

@@ -96,6 +96,7 @@ fn read_some_counts<I: Intake>(
 
 /// Reads a fundamental sequence for each place of `counts`, and writes the number of its zeros there. Returns `false`
 /// if a number above `most` could not be written.
+#[inline(never)]
 fn read_each_count<I: Intake>(
     reader: &mut BitReader<I>,
     meter: &mut Meter,
@@ -128,6 +129,7 @@ fn read_each_count<I: Intake>(
 
 /// Reads a fundamental sequence for each place of `counts`, and writes the number of its zeros there. Returns whether
 /// all numbers are at most `most`; if one is larger, the contents of `counts` are unspecified.
+#[inline]
 pub fn read_counts<I: Intake>(
     reader: &mut BitReader<I>,
     meter: &mut Meter,
@@ -144,10 +146,18 @@ pub fn read_counts<I: Intake>(
     ensures steps { meter.new + reader.old.taken ≡ meter.old + reader.new.taken }
     ensures limit { reader.new.taken ≤ 2 ^ 52 }
 {
-    match read_each_count(reader, meter, most, counts) {
-        Ok(small) => Ok(small & are_below(counts, most + 1)),
-        Err(fault) => Err(fault),
+    let some = reader.take_waiting_fs(counts, meter);
+    if some < counts.len() {
+        return match read_each_count(reader, meter, most, &mut counts[some..]) {
+            Ok(small) => Ok(small & are_below(counts, most + 1)),
+            Err(fault) => Err(fault),
+        };
     }
+    // Numbers that wait together are below 64.
+    if most >= 63 {
+        return Ok(true);
+    }
+    Ok(are_below(counts, most + 1))
 }
 
 /// Reads a codeword for each pair of places of `out`, and writes the pair that it stands for.

@@ -5,10 +5,13 @@ use Rattle.std.proofs.lemmas.Grind.{flat_map-append}
 use Rattle.rice_bits.specs.read.Reader.{is_blank}
 use Rattle.rice_bits.proofs.lemmas.read.Blank.{blank-append, blank-word}
 use Rattle.std.specs.Int.{to_be_bytes, w64}
+use Rattle.std.proofs.Math.Nat.{mul-le-mul_right}
+use Rattle.std.specs.Simd.Lanes.{put_chunk}
+use Rattle.std.proofs.lemmas.Simd.{length-put_chunk, take_more_put_chunk}
 use Rattle.std.proofs.Math.Seq.{drop-append_seam, take-add, take-append_seam}
 use Rattle.std.proofs.lemmas.Bool.{cases_lt}
 use Rattle.std.proofs.lemmas.Bool.Decides.{nat_tests}
-use Rattle.std.proofs.lemmas.List.{append-nil, drop-append-le, drop-drop, drop-take, length-drop, length-replicate, length-take-le, replicate-append-replicate, take-append-drop, take-append-le, take-replicate, take_more_set}
+use Rattle.std.proofs.lemmas.List.{append-nil, drop-append-le, drop-drop, drop-take, length-drop, length-replicate, length-take-le, replicate-append-replicate, take-append-drop, take-append-le, take-replicate, take_all, take_at, take_more_set}
 use Rattle.rice_bits.specs.Bits.{fundamental_sequence, word, bits_of}
 use Rattle.rice_bits.specs.read.Window.{IsWindow, Passes, bits_near, window_bits, window_passed}
 use Rattle.rice_bits.specs.declared.read.window.Window.{Window}
@@ -26,10 +29,10 @@ between-join xs a s e p q =
     let j : take ((s - a) + (e - s)) (drop a xs) ≡ take (s - a) (drop a xs) ++ take (e - s) (drop (s - a) (drop a xs)) = take-add (s - a) (e - s) (drop a xs) in
     ap (λ k. take (s - a) (drop a xs) ++ take (e - s) k) (sym d) ∙ sym j ∙ ap (λ k. take k (drop a xs)) n
 
-drop-seam : {A : Type 0} (xs ys : List A) (n : ℕ) → length xs ≡ n → drop n (xs ++ ys) ≡ ys
+pub drop-seam : {A : Type 0} (xs ys : List A) (n : ℕ) → length xs ≡ n → drop n (xs ++ ys) ≡ ys
 drop-seam xs ys n e = ap (λ k. drop k (xs ++ ys)) (sym e) ∙ drop-append_seam xs ys
 
-take-bits_of : (n : ℕ) (xs : List ℕ) → n ≤ length xs → take (8 * n) (bits_of xs) ≡ bits_of (take n xs)
+pub take-bits_of : (n : ℕ) (xs : List ℕ) → n ≤ length xs → take (8 * n) (bits_of xs) ≡ bits_of (take n xs)
 take-bits_of n xs h =
     let front = bits_of (take n xs) in
     let len : length front ≡ 8 * n = length-bits_of (take n xs) ∙ ap (λ k. 8 * k) (length-take-le n xs h) in
@@ -198,6 +201,33 @@ words-joined width bits from at m k xs ys place first second =
     let rest : flat_map (word width) ys ≡ take (k * width) (drop (m * width) (drop from bits)) =
     second ∙ ap (take (k * width)) (ap (λ a. drop a bits) place ∙ sym (drop-drop (m * width) from bits)) in
     flat_map-append (word width) xs ys ∙ ((λ j. first j ++ rest j) ∙ (sym (take-add (m * width) (k * width) (drop from bits)) ∙ ap (λ a. take a (drop from bits)) n))
+
+words-front : (width n : ℕ) (xs : List ℕ) → n ≤ length xs → flat_map (word width) (take n xs) ≡ take (n * width) (flat_map (word width) xs)
+words-front width n xs h =
+    let front = flat_map (word width) (take n xs) in
+    let len : length front ≡ n * width = length-words width (take n xs) ∙ ap (λ k. k * width) (length-take-le n xs h) in
+    let both : flat_map (word width) xs ≡ front ++ flat_map (word width) (drop n xs) = ap (flat_map (word width)) (sym (take-append-drop n xs)) ∙ flat_map-append (word width) (take n xs) (drop n xs) in
+    sym (ap (take (n * width)) both ∙ take_at front (flat_map (word width) (drop n xs)) (n * width) len)
+
+-- the last four words, of which some may be written again
+pub fours-last : (count : ℕ) (now four : List ℕ) → length now ≡ count → length four ≡ 4 → 4 ≤ count → put_chunk (count - 4) now four ≡ take (count - 4) now ++ four
+fours-last count now four len e h =
+    let written = put_chunk (count - 4) now four in
+    sym (take_all count written (omega (arith, len, length-put_chunk (count - 4) now four))) ∙ take_more_put_chunk (count - 4) now four count (omega (arith, e, h)) (omega (arith, len))
+
+pub words-last : (width : ℕ) (bits : List Bool) (from m count : ℕ) (now four : List ℕ) → length now ≡ count → length four ≡ 4 → 4 ≤ count → m ≤ count → count ≤ m + 4
+    → flat_map (word width) (take m now) ≡ take (m * width) (drop from bits)
+    → flat_map (word width) four ≡ take (4 * width) (drop (from + (count - 4) * width) bits)
+    → flat_map (word width) (put_chunk (count - 4) now four) ≡ take (length (put_chunk (count - 4) now four) * width) (drop from bits)
+words-last width bits from m count now four len e h within reach before behind =
+    let last = count - 4 in
+    let part : last ≤ m = omega (arith, reach) in
+    let n : last + 4 ≡ length (put_chunk last now four) = omega (arith, h, len, length-put_chunk last now four) in
+    let front : flat_map (word width) (take last now) ≡ take (last * width) (drop from bits) =
+    ap (flat_map (word width)) (sym (take-take last m now part)) ∙ (words-front width last (take m now) (omega (arith, part, length-take-le m now (omega (arith, within, len))))
+    ∙ (ap (take (last * width)) before ∙ take-take (last * width) (m * width) (drop from bits) (mul-le-mul_right width part))) in
+    ap (flat_map (word width)) (fours-last count now four len e h)
+    ∙ (words-joined width bits from (from + last * width) last 4 (take last now) four refl front behind ∙ ap (λ k. take (k * width) (drop from bits)) n)
 
 -- one more word, from the place after the others
 pub words-more : (width : ℕ) (bits : List Bool) (from at : ℕ) (now : List ℕ) (done v : ℕ) → at ≡ from + done * width → done < length now

@@ -80,6 +80,24 @@ counts-append old mid new most done some small fits front part after r q e =
     not_told true false f g e q = g refl q
     not_told false b f g e q = f refl q
 
+-- those that waited together
+pub counts-waiting : {I : Type 0} (old new : Reader I) (most some : ℕ) (now : List ℕ)
+    → some ≤ length now → Takes old new (flat_map fundamental_sequence (take some now)) → CountsRead old new most true some (take some now)
+counts-waiting old new most some now h t = record {
+  values = take some now;
+  len = length-take-le some now h;
+  told_are = λ _. refl;
+  refused = λ f. absurd cc;
+  takes = t;
+}
+
+-- those that waited together, and then others
+pub counts-both : {I : Type 0} (old mid new : Reader I) (most some more count : ℕ) (small : Bool) (now rest after : List ℕ)
+    → some ≤ length now → Takes old mid (flat_map fundamental_sequence (take some now)) → CountsRead mid new most small more rest
+    → some + more ≡ count → after ≡ take some now ++ rest → CountsRead old new most small count after
+counts-both old mid new most some more count small now rest after h t r n e =
+    subst (λ k. CountsRead old new most small k after) n (counts-append old mid new most some more true small (take some now) rest after (counts-waiting old mid most some now h t) r e)
+
 -- those that were written, judged
 pub counts-judged : {I : Type 0} (old new : Reader I) (most count : ℕ) (small below : Bool) (told : List ℕ)
     → CountsRead old new most small count told → (below ≡ true → All (λ m. m < most + 1) told) → (below ≡ false → All (λ m. m < most + 1) told → ⊥)
@@ -209,6 +227,16 @@ sequences-stop old mid new ms count m f t h s = (
   flat_map fundamental_sequence ms ++ replicate m false,
   omega (arith, ones-append (flat_map fundamental_sequence ms) (replicate m false), ones-sequences ms, ones-zeros m),
   stops-append old mid new _ _ f t s,
+)
+
+-- and cut off among those behind sequences that waited together
+pub sequences-stop_behind : {I : Type 0} (old mid new : Reader I) (ms : List ℕ) (more count : ℕ) (f : BitFault)
+    → Takes old mid (flat_map fundamental_sequence ms) → length ms + more ≡ count → (bits : List Bool) × (ones bits < more) × Stops mid new bits f
+    → (all : List Bool) × (ones all < count) × Stops old new all f
+sequences-stop_behind old mid new ms more count f t n s = (
+  flat_map fundamental_sequence ms ++ s.0,
+  omega (arith, ones-append (flat_map fundamental_sequence ms) s.0, ones-sequences ms, s.1, n),
+  stops-append old mid new _ _ f t s.2,
 )
 
 -- one pair more

@@ -1,30 +1,40 @@
-use Rattle.std.proofs.Common.{◌≡◌, ℕ, ◌%◌, ◌+◌, ◌*◌, ◌^◌, ◌<◌, ◌∙◌, arith, ap, sym, subst, take, drop}
+use Rattle.std.proofs.Common.{◌≡◌, ◌+◌, ◌*◌, ◌-◌, ◌^◌, ◌<◌, ◌≤◌, ◌∙◌, arith, ap, refl, sym, subst, take, take-take, drop, length}
 use Rattle.std.specs.Prelude.{All, flat_map}
-use Rattle.std.proofs.lemmas.List.Elements.{All-append}
-use Rattle.std.proofs.lemmas.Simd.{take_more_put_chunk}
+use Rattle.std.proofs.lemmas.List.Elements.{All-append, All-take}
+use Rattle.std.proofs.lemmas.Simd.{length-put_chunk, take_more_put_chunk}
 use Rattle.rice_bits.specs.Bits.{word, bits_of}
-use Rattle.rice_bits.proofs.lemmas.read.WindowLemmas.{four-ahead, words-joined}
+use Rattle.rice_bits.proofs.lemmas.read.WindowLemmas.{fours-last, words-joined, words-last}
 use Rattle.rice_bits.proofs.read.window.fours_from.Goals as goal
-
-moved : (at from i w : ℕ) → at ≡ from + 4 * i * w → at + 4 * w ≡ from + 4 * (i + 1) * w
-moved at from i w e = rw e (grind arith)
 
 pub loop-i-preserved : goal.loop-i-preserved
 loop-i-preserved c =
     let w = c.args.width in
     let bits = bits_of c.args.bytes.now in
     let l = c.loop-i in
-    let r = c.bits_from-front.result in
     let before = take (4 * l.i) l.words in
-    let four = c.four_words-four.result in
-    let written = take_more_put_chunk (4 * l.i) l.words four (4 * (l.i + 1)) (omega (arith, c.four_words-four.ensures.len)) (omega (arith, c.loop-i-test.true, l.auto.words)) in
-    let ahead = c.bits_from-front.ensures in
-    let digits : flat_map (word w) four ≡ take (4 * w) (drop l.at bits) =
-    four-ahead w (l.at % 8) r (drop l.at bits) four c.requires.width.1 (omega arith) ahead (c.four_words-four.ensures.bits ∙ ap (λ d. take (4 * w) (word 32 d)) c.front_digits.ensures) in
+    let four = c.four_from-four.result in
+    let written = take_more_put_chunk (4 * l.i) l.words four (4 * (l.i + 1)) (omega (arith, c.four_from-four.ensures.len)) (omega (arith, c.loop-i-test.true, l.invariant.len, c.requires.some)) in
     let more : 4 * l.i + 4 ≡ 4 * (l.i + 1) = omega arith in
     record {
-      place = moved l.at c.args.at l.i w l.invariant.place;
-      fit = subst (All (λ d. d < 2 ^ w)) (sym written) (All-append (λ d. d < 2 ^ w) before four l.invariant.fit c.four_words-four.ensures.fit);
-      bits = ap (flat_map (word w)) written ∙ (words-joined w bits c.args.at l.at (4 * l.i) 4 before four l.invariant.place l.invariant.bits digits
+      len = length-put_chunk (4 * l.i) l.words four ∙ l.invariant.len;
+      fit = subst (All (λ d. d < 2 ^ w)) (sym written) (All-append (λ d. d < 2 ^ w) before four l.invariant.fit c.four_from-four.ensures.fit);
+      bits = ap (flat_map (word w)) written ∙ (words-joined w bits c.args.at (c.args.at + 4 * l.i * w) (4 * l.i) 4 before four refl l.invariant.bits c.four_from-four.ensures.bits
           ∙ ap (λ n. take (n * w) (drop c.args.at bits)) more);
     }
+
+pub returns-clause-fit : goal.returns-clause-fit
+returns-clause-fit c =
+    let l = c.loop-i in
+    let w = c.args.width in
+    let four = c.four_from-four-2.result in
+    let count = length c.args.words.now in
+    let part : count - 4 ≤ 4 * l.i = omega (arith, c.loop-i-test.false) in
+    let front : All (λ d. d < 2 ^ w) (take (count - 4) l.words) =
+    subst (All (λ d. d < 2 ^ w)) (take-take (count - 4) (4 * l.i) l.words part) (All-take (λ d. d < 2 ^ w) (count - 4) (take (4 * l.i) l.words) l.invariant.fit) in
+    subst (All (λ d. d < 2 ^ w)) (sym (fours-last count l.words four l.invariant.len c.four_from-four-2.ensures.len c.requires.some)) (All-append (λ d. d < 2 ^ w) (take (count - 4) l.words) four front c.four_from-four-2.ensures.fit)
+
+pub returns-clause-bits : goal.returns-clause-bits
+returns-clause-bits c =
+    let l = c.loop-i in
+    words-last c.args.width (bits_of c.args.bytes.now) c.args.at (4 * l.i) (length c.args.words.now) l.words c.four_from-four-2.result l.invariant.len c.four_from-four-2.ensures.len c.requires.some
+    (omega (arith, l.auto, c.requires.some)) (omega (arith, c.loop-i-test.false)) l.invariant.bits c.four_from-four-2.ensures.bits

@@ -1,0 +1,25 @@
+-- The places of the ones among bits.
+use Rattle.std.specs.Prelude.{◌≡◌, ℕ, ◌+◌, ◌-◌, ◌≤◌, Bool, true, false, List, [], ◌∷◌, ◌++◌, length, replicate, take}
+use Rattle.rice_bits.specs.Bits.{word}
+
+-- for each 1 among the bits, how many bits stand up to and including it, together with those before all
+abbrev pub ends_after : ℕ → List Bool → List ℕ
+ends_after before [] = []
+ends_after before (true ∷ bits) = (before + 1) ∷ ends_after (before + 1) bits
+ends_after before (false ∷ bits) = ends_after (before + 1) bits
+
+-- the ends of the ones of a byte, and zeros up to eight numbers
+abbrev pub end_row : ℕ → List ℕ
+end_row byte = ends_after 0 (word 8 byte) ++ replicate (8 - length (ends_after 0 (word 8 byte))) 0
+
+-- how many numbers stand between each of the numbers and the next
+abbrev pub gaps : List ℕ → List ℕ
+gaps (a ∷ b ∷ ends) = (b - a - 1) ∷ gaps (b ∷ ends)
+gaps _ = []
+
+-- A 0 stands at the first place, and the ends of the ones among some first bits of a word follow.
+pub record IsSearched (front : ℕ) (told : List ℕ) (found : ℕ) : Type 0 where
+  pub seen : ℕ
+  pub few : seen ≤ 56
+  pub count : found ≡ length (ends_after 0 (take seen (word 64 front)))
+  pub ends : take (found + 1) told ≡ 0 ∷ ends_after 0 (take seen (word 64 front))
