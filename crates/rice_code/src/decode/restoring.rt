@@ -26,6 +26,7 @@ fn set_len(samples: &mut ArrayVec<i64, 64>, len: usize)
 }
 
 /// Writes the samples of the block with this reference sample and these residuals, after sample `p`.
+#[inline(always)]
 fn write_block(
     setting: &Setting,
     block: u64,
@@ -71,6 +72,7 @@ fn reference_or(setting: &Setting, reference: Option<u32>, p: i64) -> i64
 
 /// Restores the samples of the block with this reference sample and these residuals, after sample `p`. Returns the last
 /// of them.
+#[inline(always)]
 pub fn restore_block(
     setting: &Setting,
     block: u64,

@@ -4,6 +4,7 @@ ghost use Rattle.rice_samples.specs.Parameters.{IsSample, level as level_of, val
 ghost use Rattle.rice_samples.specs.predict.Residuals.{pattern as pattern_of, ranks};
 
 use crate::Setting;
+use crate::predict::narrow_near_lanes;
 use crate::predict::near_lanes::{are_near, near_numbers};
 use crate::predict::preprocessor::{from_pattern, number_with};
 use std::simd::prelude::*;
@@ -17,10 +18,11 @@ pub fn restore_all(setting: &Setting, p: i64, residuals: &[u32], samples: &mut [
     ensures legal { All (IsSample setting.now) samples.new }
     ensures ranks { ranks setting.now p samples.new ≡ residuals.now }
 {
-    if samples.len() % 8 == 0 {
-        restore_eights(setting, p, residuals, samples);
-    } else {
-        restore_each(setting, p, residuals, samples);
+    // It is laid out for blocks of 8.
+    match samples.len() {
+        8 => restore_eight(setting, p, residuals, samples),
+        len if len % 8 == 0 => restore_eights(setting, p, residuals, samples),
+        _ => restore_each(setting, p, residuals, samples),
     }
 }
 
@@ -46,6 +48,46 @@ fn restore_eights(setting: &Setting, p: i64, residuals: &[u32], samples: &mut [i
 /// Writes eight samples.
 #[inline(always)]
 fn restore_eight(setting: &Setting, p: i64, residuals: &[u32], samples: &mut [i64])
+    requires before { IsSample setting.now p }
+    requires residuals { All (λ d. d < value_count setting.now) residuals.now }
+    requires len { length samples.old ≡ length residuals.now }
+    requires eight { length residuals.now ≡ 8 }
+    ensures legal { All (IsSample setting.now) samples.new }
+    ensures ranks { ranks setting.now p samples.new ≡ residuals.now }
+{
+    if setting.bits() <= 16 {
+        restore_narrow(setting, p, residuals, samples);
+    } else {
+        restore_wide(setting, p, residuals, samples);
+    }
+}
+
+/// Writes eight samples of at most 16 bits.
+#[inline(always)]
+fn restore_narrow(setting: &Setting, p: i64, residuals: &[u32], samples: &mut [i64])
+    requires narrow { setting.now.bits ≤ 16 }
+    requires before { IsSample setting.now p }
+    requires residuals { All (λ d. d < value_count setting.now) residuals.now }
+    requires len { length samples.old ≡ length residuals.now }
+    requires eight { length residuals.now ≡ 8 }
+    ensures legal { All (IsSample setting.now) samples.new }
+    ensures ranks { ranks setting.now p samples.new ≡ residuals.now }
+{
+    let greatest = (setting.values() - 1) as u16;
+    let level = setting.level(p) as u16;
+    let ranks = u32x8::from_slice(residuals).cast::<u16>();
+    let levels = narrow_near_lanes::near_numbers(level, ranks);
+    if narrow_near_lanes::are_near(greatest, level, ranks, levels) {
+        let levels = levels.cast::<u32>();
+        write_at_levels(setting, &levels.to_array(), samples);
+    } else {
+        restore_each(setting, p, residuals, samples);
+    }
+}
+
+/// Writes eight samples of any number of bits.
+#[inline(always)]
+fn restore_wide(setting: &Setting, p: i64, residuals: &[u32], samples: &mut [i64])
     requires before { IsSample setting.now p }
     requires residuals { All (λ d. d < value_count setting.now) residuals.now }
     requires len { length samples.old ≡ length residuals.now }
