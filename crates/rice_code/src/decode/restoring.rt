@@ -125,9 +125,10 @@ fn sample_of_zero(setting: &Setting, reference: Option<u32>, p: i64) -> i64
 fn fill_all(samples: &mut [i64], value: i64)
     ensures { samples.new ≡ replicate (length samples.old) value }
 {
-    // The loop is laid out for blocks of 8.
+    // The loop is laid out for blocks of 8 and of 16.
     match samples.len() {
         8 => samples[..8].fill(value),
+        16 => samples[..16].fill(value),
         _ => samples.fill(value),
     }
 }

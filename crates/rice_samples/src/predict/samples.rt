@@ -5,8 +5,8 @@ ghost use Rattle.rice_samples.specs.predict.Residuals.{pattern as pattern_of, ra
 
 use crate::Setting;
 use crate::predict::narrow_near_lanes;
-use crate::predict::near_lanes::{are_near, near_numbers};
-use crate::predict::preprocessor::{from_pattern, number_with};
+use crate::predict::near_lanes::{are_near, near_numbers, ways};
+use crate::predict::preprocessor::{from_pattern, number_along, number_with};
 use std::simd::prelude::*;
 
 /// Writes the samples with these residuals: the first after the sample `p`, and each other after the one before it.
@@ -81,7 +81,7 @@ fn restore_narrow(setting: &Setting, p: i64, residuals: &[u32], samples: &mut [i
         let levels = levels.cast::<u32>();
         write_at_levels(setting, &levels.to_array(), samples);
     } else {
-        restore_each(setting, p, residuals, samples);
+        restore_far(setting, p, residuals, samples);
     }
 }
 
@@ -102,7 +102,7 @@ fn restore_wide(setting: &Setting, p: i64, residuals: &[u32], samples: &mut [i64
     if are_near(greatest, level, ranks, levels) {
         write_at_levels(setting, &levels.to_array(), samples);
     } else {
-        restore_each(setting, p, residuals, samples);
+        restore_far(setting, p, residuals, samples);
     }
 }
 
@@ -117,6 +117,26 @@ fn write_at_levels(setting: &Setting, levels: &[u32], samples: &mut [i64])
     let setting = *setting;
     for i in 0..samples.len() {
         samples[i] = setting.value_at(levels[i] as u64);
+    }
+}
+
+/// Writes eight samples one at a time.
+#[inline(never)]
+fn restore_far(setting: &Setting, p: i64, residuals: &[u32], samples: &mut [i64])
+    requires before { IsSample setting.now p }
+    requires residuals { All (λ d. d < value_count setting.now) residuals.now }
+    requires len { length samples.old ≡ length residuals.now }
+    requires eight { length residuals.now ≡ 8 }
+    ensures legal { All (IsSample setting.now) samples.new }
+    ensures ranks { ranks setting.now p samples.new ≡ residuals.now }
+{
+    let setting = *setting;
+    let greatest = (setting.values() - 1) as u32;
+    let ways = ways(u32x8::from_slice(residuals)).to_array();
+    let mut level = setting.level(p) as u32;
+    for i in 0..8 {
+        level = number_along(greatest, level, residuals[i], ways[i]);
+        samples[i] = setting.value_at(level as u64);
     }
 }
 
