@@ -1,5 +1,6 @@
 //! The preprocessor: from samples to residuals and back.
 
+mod narrow_near_lanes;
 mod near_lanes;
 pub mod preprocessor;
 pub(crate) mod rank_lanes;

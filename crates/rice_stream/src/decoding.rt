@@ -89,6 +89,32 @@ pub fn decode<I: Intake, O: Outlet>(
     // With a count of 0 the intake is not called.
     ensures idle { asked ≡ Some 0 → result.1 ≡ intake }
 {
+    // The loop is laid out for decoding to the end.
+    match asked {
+        None => decode_blocks(setting, None, intake, outlet),
+        Some(count) => decode_blocks(setting, Some(count), intake, outlet),
+    }
+}
+
+/// Decodes, whatever is asked for.
+#[inline(always)]
+fn decode_blocks<I: Intake, O: Outlet>(
+    setting: &Setting,
+    asked: Option<u64>,
+    intake: I,
+    outlet: &mut O,
+) -> (Outcome, I)
+    requires reads { I.failed intake + 1 < 2 ^ 64 }
+    requires writes { O.failed outlet.old + 1 < 2 ^ 64 }
+    ensures call { (c : Call) ×
+        Happens (I.left intake) (I.left result.1) (O.taken outlet.old) (O.taken outlet.new) c ×
+        Decodes setting.now asked c result.0.report result.0.fault }
+    ensures failures { Fails result.0.fault (I.failed intake) (I.failed result.1)
+        (O.failed outlet.old) (O.failed outlet.new) }
+    ensures bounds { DecodesWithin asked result.0.report }
+    // With a count of 0 the intake is not called.
+    ensures idle { asked ≡ Some 0 → result.1 ≡ intake }
+{
     let block = setting.block();
     let mut decoder = Decoder::new(*setting);
     let mut reader = BitReader::new(intake);

@@ -186,6 +186,7 @@ impl Decoder {
     /// Restores the samples of the next block.
     ///
     /// A decoder that has found the end or has refused returns the same again at each later call.
+    #[inline]
     pub fn next_block<I: Intake>(
         &mut self,
         reader: &mut BitReader<I>,
@@ -226,6 +227,31 @@ impl Decoder {
             self.block = next_place(&self.setting, self.block);
             return Ok(Step::Block);
         }
+        self.read_block(reader, meter, samples)
+    }
+
+    /// Reads a coded data set, and restores the samples of its first block.
+    #[inline(never)]
+    fn read_block<I: Intake>(
+        &mut self,
+        reader: &mut BitReader<I>,
+        meter: &mut Meter,
+        samples: &mut ArrayVec<i64, 64>,
+    ) -> Result<Step, CodeFault>
+        requires stopped { self.old.stopped ≡ None }
+        requires run { self.old.run ≡ 0 }
+        requires going { reader.old.refusal ≡ None }
+        requires room { meter.old + 2 * (2 ^ 52 - reader.old.taken) + 64 < 2 ^ 62 }
+        ensures reads { Answers (with_mark reader.old) reader.new meter.old meter.new
+            self.old self.new samples.new.items result }
+        ensures going { self.new.stopped ≡ None → reader.new.refusal ≡ None }
+        ensures block { result ≡ Ok Block → self.new.stopped ≡ None }
+        ensures setting { self.new.setting ≡ self.old.setting }
+        ensures steps { AreCounted meter.old meter.new reader.old.taken reader.new.taken }
+        ensures waiting { length samples.new.items + self.new.run * self.new.setting.block
+            ≤ 456 * (reader.new.taken - reader.old.taken) }
+    {
+        let _taken = reader.taken();
         reader.mark();
         // A copy, since `scratch` is lent beside it.
         let setting = self.setting;

@@ -26,6 +26,7 @@ fn set_len(samples: &mut ArrayVec<i64, 64>, len: usize)
 }
 
 /// Writes the samples of the block with this reference sample and these residuals, after sample `p`.
+#[inline(always)]
 fn write_block(
     setting: &Setting,
     block: u64,
@@ -71,6 +72,7 @@ fn reference_or(setting: &Setting, reference: Option<u32>, p: i64) -> i64
 
 /// Restores the samples of the block with this reference sample and these residuals, after sample `p`. Returns the last
 /// of them.
+#[inline(always)]
 pub fn restore_block(
     setting: &Setting,
     block: u64,
@@ -123,9 +125,10 @@ fn sample_of_zero(setting: &Setting, reference: Option<u32>, p: i64) -> i64
 fn fill_all(samples: &mut [i64], value: i64)
     ensures { samples.new ≡ replicate (length samples.old) value }
 {
-    // The loop is laid out for blocks of 8.
+    // The loop is laid out for blocks of 8 and of 16.
     match samples.len() {
         8 => samples[..8].fill(value),
+        16 => samples[..16].fill(value),
         _ => samples.fill(value),
     }
 }

@@ -2,6 +2,7 @@
 pub mod Folding
 pub mod InverseLemmas
 pub mod LaneRanks
+pub mod NarrowLanes
 pub mod NearLanes
 pub mod Patterns
 pub mod RankLaws

@@ -9,6 +9,7 @@ use crate::Setting;
 use crate::digits::{digits_of, store_word};
 
 /// Writes the spellings of the samples, `width()` bytes each, one after another.
+#[inline]
 pub fn write_spellings(setting: &Setting, samples: &[i64], bytes: &mut [u8])
     requires legal { All (IsSample setting.now) samples.now }
     requires len { length bytes.old ≡ width_of setting.now * length samples.now }
@@ -18,6 +19,8 @@ pub fn write_spellings(setting: &Setting, samples: &[i64], bytes: &mut [u8])
     // a block.
     match (setting.width(), setting.msb(), samples.len()) {
         (1, msb, 8) => write_words(setting, &samples[..8], 1, msb, bytes),
+        (1, msb, 16) => write_words(setting, &samples[..16], 1, msb, bytes),
+        (2, false, 16) => write_words(setting, &samples[..16], 2, false, bytes),
         (1, msb, _) => write_words(setting, samples, 1, msb, bytes),
         (2, false, _) => write_words(setting, samples, 2, false, bytes),
         (2, true, _) => write_words(setting, samples, 2, true, bytes),

@@ -2,6 +2,7 @@
 ghost use Rattle.std.specs.Prelude.{◌≡◌, ℕ, ◌+◌, ◌^◌, ◌<◌, ◌≤◌, ℤ};
 ghost use Rattle.rice_samples.specs.Parameters.{IsSample, value_count};
 ghost use Rattle.rice_samples.specs.predict.Residuals.{pattern as pattern_of, rank, rank_below};
+ghost use Rattle.rice_samples.specs.predict.Near.{way as way_of};
 
 use crate::Setting;
 use crate::digits::{digits_of, value_with};
@@ -80,9 +81,29 @@ pub(crate) fn number_with(greatest: u32, p: u32, d: u32) -> u32
     ensures fits { result ≤ greatest }
     ensures rank { rank_below (greatest + 1) p result ≡ d }
 {
+    number_along(greatest, p, d, way(d))
+}
+
+/// Returns the way to the number with rank `d`, if it is near. The way wraps.
+#[inline]
+fn way(d: u32) -> u32
+    ensures { result ≡ way_of (2 ^ 32) d }
+{
+    (d >> 1) ^ 0u32.wrapping_sub(d & 1)
+}
+
+/// Returns the number up to `greatest` with rank `d` from `p`. It is `way` away from `p` if it is near.
+#[inline(always)]
+pub(crate) fn number_along(greatest: u32, p: u32, d: u32, way: u32) -> u32
+    requires before { p ≤ greatest }
+    requires residual { d ≤ greatest }
+    requires way { way ≡ way_of (2 ^ 32) d }
+    ensures fits { result ≤ greatest }
+    ensures rank { rank_below (greatest + 1) p result ≡ d }
+{
     let reach = p.min(greatest - p);
     // Both are computed, so that the machine selects one and does not branch.
-    let near = p.wrapping_add((d >> 1) ^ 0u32.wrapping_sub(d & 1));
+    let near = p.wrapping_add(way);
     let far = if p == reach { d } else { greatest - d };
     if d > 2 * reach { far } else { near }
 }

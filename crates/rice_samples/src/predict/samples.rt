@@ -4,8 +4,9 @@ ghost use Rattle.rice_samples.specs.Parameters.{IsSample, level as level_of, val
 ghost use Rattle.rice_samples.specs.predict.Residuals.{pattern as pattern_of, ranks};
 
 use crate::Setting;
-use crate::predict::near_lanes::{are_near, near_numbers};
-use crate::predict::preprocessor::{from_pattern, number_with};
+use crate::predict::narrow_near_lanes;
+use crate::predict::near_lanes::{are_near, near_numbers, ways};
+use crate::predict::preprocessor::{from_pattern, number_along, number_with};
 use std::simd::prelude::*;
 
 /// Writes the samples with these residuals: the first after the sample `p`, and each other after the one before it.
@@ -17,10 +18,11 @@ pub fn restore_all(setting: &Setting, p: i64, residuals: &[u32], samples: &mut [
     ensures legal { All (IsSample setting.now) samples.new }
     ensures ranks { ranks setting.now p samples.new ≡ residuals.now }
 {
-    if samples.len() % 8 == 0 {
-        restore_eights(setting, p, residuals, samples);
-    } else {
-        restore_each(setting, p, residuals, samples);
+    // It is laid out for blocks of 8.
+    match samples.len() {
+        8 => restore_eight(setting, p, residuals, samples),
+        len if len % 8 == 0 => restore_eights(setting, p, residuals, samples),
+        _ => restore_each(setting, p, residuals, samples),
     }
 }
 
@@ -53,6 +55,46 @@ fn restore_eight(setting: &Setting, p: i64, residuals: &[u32], samples: &mut [i6
     ensures legal { All (IsSample setting.now) samples.new }
     ensures ranks { ranks setting.now p samples.new ≡ residuals.now }
 {
+    if setting.bits() <= 16 {
+        restore_narrow(setting, p, residuals, samples);
+    } else {
+        restore_wide(setting, p, residuals, samples);
+    }
+}
+
+/// Writes eight samples of at most 16 bits.
+#[inline(always)]
+fn restore_narrow(setting: &Setting, p: i64, residuals: &[u32], samples: &mut [i64])
+    requires narrow { setting.now.bits ≤ 16 }
+    requires before { IsSample setting.now p }
+    requires residuals { All (λ d. d < value_count setting.now) residuals.now }
+    requires len { length samples.old ≡ length residuals.now }
+    requires eight { length residuals.now ≡ 8 }
+    ensures legal { All (IsSample setting.now) samples.new }
+    ensures ranks { ranks setting.now p samples.new ≡ residuals.now }
+{
+    let greatest = (setting.values() - 1) as u16;
+    let level = setting.level(p) as u16;
+    let ranks = u32x8::from_slice(residuals).cast::<u16>();
+    let levels = narrow_near_lanes::near_numbers(level, ranks);
+    if narrow_near_lanes::are_near(greatest, level, ranks, levels) {
+        let levels = levels.cast::<u32>();
+        write_at_levels(setting, &levels.to_array(), samples);
+    } else {
+        restore_far(setting, p, residuals, samples);
+    }
+}
+
+/// Writes eight samples of any number of bits.
+#[inline(always)]
+fn restore_wide(setting: &Setting, p: i64, residuals: &[u32], samples: &mut [i64])
+    requires before { IsSample setting.now p }
+    requires residuals { All (λ d. d < value_count setting.now) residuals.now }
+    requires len { length samples.old ≡ length residuals.now }
+    requires eight { length residuals.now ≡ 8 }
+    ensures legal { All (IsSample setting.now) samples.new }
+    ensures ranks { ranks setting.now p samples.new ≡ residuals.now }
+{
     let greatest = (setting.values() - 1) as u32;
     let level = setting.level(p) as u32;
     let ranks = u32x8::from_slice(residuals);
@@ -60,7 +102,7 @@ fn restore_eight(setting: &Setting, p: i64, residuals: &[u32], samples: &mut [i6
     if are_near(greatest, level, ranks, levels) {
         write_at_levels(setting, &levels.to_array(), samples);
     } else {
-        restore_each(setting, p, residuals, samples);
+        restore_far(setting, p, residuals, samples);
     }
 }
 
@@ -75,6 +117,26 @@ fn write_at_levels(setting: &Setting, levels: &[u32], samples: &mut [i64])
     let setting = *setting;
     for i in 0..samples.len() {
         samples[i] = setting.value_at(levels[i] as u64);
+    }
+}
+
+/// Writes eight samples one at a time.
+#[inline(never)]
+fn restore_far(setting: &Setting, p: i64, residuals: &[u32], samples: &mut [i64])
+    requires before { IsSample setting.now p }
+    requires residuals { All (λ d. d < value_count setting.now) residuals.now }
+    requires len { length samples.old ≡ length residuals.now }
+    requires eight { length residuals.now ≡ 8 }
+    ensures legal { All (IsSample setting.now) samples.new }
+    ensures ranks { ranks setting.now p samples.new ≡ residuals.now }
+{
+    let setting = *setting;
+    let greatest = (setting.values() - 1) as u32;
+    let ways = ways(u32x8::from_slice(residuals)).to_array();
+    let mut level = setting.level(p) as u32;
+    for i in 0..8 {
+        level = number_along(greatest, level, residuals[i], ways[i]);
+        samples[i] = setting.value_at(level as u64);
     }
 }
 

@@ -31,7 +31,7 @@ eight P each (a ∷ b ∷ c ∷ d ∷ e ∷ f ∷ g ∷ h ∷ i ∷ xs) n = absu
 
 -- ways
 
-way_lane : (k d : ℕ) → d < 2 ^ k → bit_xor (d / 2) ((0 + (2 ^ k - bit_and d 1)) % 2 ^ k) ≡ way (2 ^ k) d
+pub way_lane : (k d : ℕ) → d < 2 ^ k → bit_xor (d / 2) ((0 + (2 ^ k - bit_and d 1)) % 2 ^ k) ≡ way (2 ^ k) d
 way_lane k d h =
     let odd : bit_and d 1 ≡ d % 2 = and_mask d 1 in
     rw odd (by_digit (d % 2) (omega arith) refl)
@@ -200,8 +200,8 @@ near_one m g p d h k t = by_digit (d % 2) (omega arith) refl
         subst Near (sym x) (omega arith, omega arith)
     by_digit (suc (suc r)) lt e = absurd (omega arith)
 
-pub near_number : (g p d : ℕ) → p ≤ g → g < 2 ^ 32 → d < 2 ^ 32 → d ≤ 2 * min p (g - p) → rank_below (g + 1) p ((p + bit_xor (d / 2) ((0 + (2 ^ 32 - bit_and d 1)) % 2 ^ 32)) % 2 ^ 32) ≡ d
-near_number g p d h k small near = ap (λ w. rank_below (g + 1) p ((p + w) % 2 ^ 32)) (way_lane 32 d small) ∙ (near_one (2 ^ 32) g p d h k (let b = bound_is (2 ^ 32) g p h k in omega (arith, b, near))).1
+pub near_number : (g p d : ℕ) → p ≤ g → g < 2 ^ 32 → d ≤ 2 * min p (g - p) → ((p + way (2 ^ 32) d) % 2 ^ 32 ≤ g) × (rank_below (g + 1) p ((p + way (2 ^ 32) d) % 2 ^ 32) ≡ d)
+near_number g p d h k near = near_one (2 ^ 32) g p d h k (let b = bound_is (2 ^ 32) g p h k in omega (arith, b, near))
 
 pub near_ranks : (m g p : ℕ) (ds : List ℕ) → p ≤ g → g < m → Each2 (λ d b. d ≤ b) ds (map (bound m g) (take (length ds) (p ∷ near_numbers m p ds)))
     → Each1 (λ x. x ≤ g) (near_numbers m p ds) × (ranks_below (g + 1) p (near_numbers m p ds) ≡ ds)

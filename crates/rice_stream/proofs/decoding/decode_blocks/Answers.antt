@@ -6,7 +6,7 @@ use Rattle.rice_stream.specs.Decodes.{wanted_of, refusal_fault}
 use Rattle.rice_stream.specs.Writes.{TakesPart}
 use Rattle.rice_stream.proofs.lemmas.DecodingLemmas.{advances, done, few_legal, gains, moves_of, samples_of_block, stopped}
 use Rattle.rice_stream.proofs.lemmas.DecodingEnds.{reports_as, wants, progress_at_start, refusal_ends, refusal_fails, ended_ends, done_fails, write_ends, reached_ends, progress_with_block}
-use Rattle.rice_stream.proofs.decoding.decode.Goals as goal
+use Rattle.rice_stream.proofs.decoding.decode_blocks.Goals as goal
 
 pub decode_all-init : goal.decode_all-init
 decode_all-init g c = record {

@@ -4,7 +4,7 @@ use Rattle.std.proofs.lemmas.List.{take_all}
 use Rattle.rice_samples.specs.Parameters.{level, value_count}
 use Rattle.rice_samples.specs.predict.Residuals.{ranks_below}
 use Rattle.rice_samples.proofs.lemmas.predict.Folding.{ranks_are}
-use Rattle.rice_samples.proofs.predict.samples.restore_eight.Goals as goal
+use Rattle.rice_samples.proofs.predict.samples.restore_wide.Goals as goal
 
 pub returns-then-are_near-clause-ranks : goal.returns-then-are_near-clause-ranks
 returns-then-are_near-clause-ranks c =

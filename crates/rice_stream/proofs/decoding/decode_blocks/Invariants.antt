@@ -1,7 +1,7 @@
 use Rattle.std.proofs.Common.{◌≡◌, ◌+◌, ◌-◌, ◌*◌}
 use Rattle.rice_bits.specs.read.Reader.{new_reader}
 use Rattle.rice_stream.specs.DecodingState.{DecodingProgress}
-use Rattle.rice_stream.proofs.decoding.decode.Given as goal
+use Rattle.rice_stream.proofs.decoding.decode_blocks.Given as goal
 
 abbrev pub invariant-decode_all : goal.invariant-decode_all
 invariant-decode_all g l = record {
