@@ -41,6 +41,7 @@ fn read_low<I: Intake>(
         Ok(head) => Ok(SetHead::Residuals {
             reference: head.reference,
             sound: head.sound,
+            near: true,
         }),
         Err(fault) => Err(fault),
     }
@@ -80,6 +81,7 @@ pub fn read_set<I: Intake>(
             Ok(head) => Ok(SetHead::Residuals {
                 reference: head.reference,
                 sound: head.sound,
+                near: false,
             }),
             Err(fault) => Err(fault),
         };
@@ -88,6 +90,7 @@ pub fn read_set<I: Intake>(
         Ok(head) => Ok(SetHead::Residuals {
             reference: head.reference,
             sound: head.sound,
+            near: true,
         }),
         Err(fault) => Err(fault),
     }

@@ -82,11 +82,17 @@ fn decode_set<I: Intake>(
     let (residuals, highs) = scratch.split_at_mut(64);
     let residuals = &mut residuals[..setting.block() as usize];
     match read_set(setting, block, reader, meter, residuals, highs) {
-        Ok(SetHead::Residuals { reference, sound }) => {
+        Ok(
+            SetHead::Residuals {
+                reference,
+                sound,
+                near,
+            },
+        ) => {
             if !sound {
                 return Err(Err(CodeFault::ResidualTooLarge));
             }
-            let last = restore_block(setting, block, p, reference, residuals, samples);
+            let last = restore_block(setting, block, p, reference, residuals, near, samples);
             Ok((last, 0))
         }
         Ok(SetHead::Zeros { reference, zeros }) => {

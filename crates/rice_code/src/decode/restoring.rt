@@ -8,7 +8,7 @@ ghost use Rattle.rice_code.specs.code.Forms.{IsReference, IsBlock, IsZeroAtRefer
 ghost use Rattle.rice_code.specs.decode.Restored.{residual_at};
 
 use arrayvec::ArrayVec;
-use rice_samples::{Setting, from_pattern, from_patterns, restore_all};
+use rice_samples::{Setting, from_pattern, from_patterns, restore_all, restore_spread};
 
 /// Sets the length to `len`; the contents are unspecified.
 #[inline]
@@ -33,6 +33,7 @@ fn write_block(
     p: i64,
     reference: Option<u32>,
     residuals: &[u32],
+    near: bool,
     samples: &mut [i64],
 )
     requires p { IsSample setting.now p }
@@ -52,7 +53,11 @@ fn write_block(
     }
     // A residual of 0 stands at the place of the reference sample, and so it is restored as the sample before it.
     let before = reference_or(setting, reference, p);
-    restore_all(setting, before, residuals, samples);
+    if near {
+        restore_all(setting, before, residuals, samples);
+    } else {
+        restore_spread(setting, before, residuals, samples);
+    }
 }
 
 /// Returns the reference sample, or `p` if there is none.
@@ -79,6 +84,7 @@ pub fn restore_block(
     p: i64,
     reference: Option<u32>,
     residuals: &[u32],
+    near: bool,
     samples: &mut ArrayVec<i64, 64>,
 ) -> i64
     requires p { IsSample setting.now p }
@@ -100,6 +106,7 @@ pub fn restore_block(
         p,
         reference,
         residuals,
+        near,
         samples.as_mut_slice(),
     );
     samples.as_slice()[size - 1]

@@ -24,6 +24,7 @@ pub fn write_spellings(setting: &Setting, samples: &[i64], bytes: &mut [u8])
         (1, msb, _) => write_words(setting, samples, 1, msb, bytes),
         (2, false, _) => write_words(setting, samples, 2, false, bytes),
         (2, true, _) => write_words(setting, samples, 2, true, bytes),
+        (3, false, _) => write_words(setting, samples, 3, false, bytes),
         (4, false, _) => write_words(setting, samples, 4, false, bytes),
         (width, msb, _) => write_words(setting, samples, width as usize, msb, bytes),
     }

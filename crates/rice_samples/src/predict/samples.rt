@@ -18,17 +18,41 @@ pub fn restore_all(setting: &Setting, p: i64, residuals: &[u32], samples: &mut [
     ensures legal { All (IsSample setting.now) samples.new }
     ensures ranks { ranks setting.now p samples.new ≡ residuals.now }
 {
+    restore_as(setting, p, residuals, true, samples);
+}
+
+/// Writes the samples with these residuals, as `restore_all` does. It is made for samples that are far from those before.
+#[inline(never)]
+pub fn restore_spread(setting: &Setting, p: i64, residuals: &[u32], samples: &mut [i64])
+    requires before { IsSample setting.now p }
+    requires residuals { All (λ d. d < value_count setting.now) residuals.now }
+    requires len { length samples.old ≡ length residuals.now }
+    ensures legal { All (IsSample setting.now) samples.new }
+    ensures ranks { ranks setting.now p samples.new ≡ residuals.now }
+{
+    restore_as(setting, p, residuals, false, samples);
+}
+
+/// Writes the samples. `near` says whether to try first whether all are near.
+#[inline(always)]
+fn restore_as(setting: &Setting, p: i64, residuals: &[u32], near: bool, samples: &mut [i64])
+    requires before { IsSample setting.now p }
+    requires residuals { All (λ d. d < value_count setting.now) residuals.now }
+    requires len { length samples.old ≡ length residuals.now }
+    ensures legal { All (IsSample setting.now) samples.new }
+    ensures ranks { ranks setting.now p samples.new ≡ residuals.now }
+{
     // It is laid out for blocks of 8.
     match samples.len() {
-        8 => restore_eight(setting, p, residuals, samples),
-        len if len % 8 == 0 => restore_eights(setting, p, residuals, samples),
+        8 => restore_eight(setting, p, residuals, near, samples),
+        len if len % 8 == 0 => restore_eights(setting, p, residuals, near, samples),
         _ => restore_each(setting, p, residuals, samples),
     }
 }
 
 /// Writes the samples, eight at a time.
 #[inline(always)]
-fn restore_eights(setting: &Setting, p: i64, residuals: &[u32], samples: &mut [i64])
+fn restore_eights(setting: &Setting, p: i64, residuals: &[u32], near: bool, samples: &mut [i64])
     requires before { IsSample setting.now p }
     requires residuals { All (λ d. d < value_count setting.now) residuals.now }
     requires len { length samples.old ≡ length residuals.now }
@@ -40,14 +64,20 @@ fn restore_eights(setting: &Setting, p: i64, residuals: &[u32], samples: &mut [i
     let mut before = p;
     for i in 0..samples.len() / 8 {
         let ranks = &residuals[8 * i..8 * i + 8];
-        restore_eight(&setting, before, ranks, &mut samples[8 * i..8 * i + 8]);
+        restore_eight(
+            &setting,
+            before,
+            ranks,
+            near,
+            &mut samples[8 * i..8 * i + 8],
+        );
         before = samples[8 * i + 7];
     }
 }
 
 /// Writes eight samples.
 #[inline(always)]
-fn restore_eight(setting: &Setting, p: i64, residuals: &[u32], samples: &mut [i64])
+fn restore_eight(setting: &Setting, p: i64, residuals: &[u32], near: bool, samples: &mut [i64])
     requires before { IsSample setting.now p }
     requires residuals { All (λ d. d < value_count setting.now) residuals.now }
     requires len { length samples.old ≡ length residuals.now }
@@ -55,7 +85,9 @@ fn restore_eight(setting: &Setting, p: i64, residuals: &[u32], samples: &mut [i6
     ensures legal { All (IsSample setting.now) samples.new }
     ensures ranks { ranks setting.now p samples.new ≡ residuals.now }
 {
-    if setting.bits() <= 16 {
+    if !near {
+        restore_far(setting, p, residuals, samples);
+    } else if setting.bits() <= 16 {
         restore_narrow(setting, p, residuals, samples);
     } else {
         restore_wide(setting, p, residuals, samples);

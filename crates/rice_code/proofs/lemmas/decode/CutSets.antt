@@ -75,10 +75,10 @@ pub low_set_cut : {I : Type 0} (old mid new : Reader I) (s : Parameters) (b id :
 low_set_cut old mid new s b id f lt e t cut = cut_after_id old mid new s b id cut.bits f lt t cut.stops (cut_low s b id cut.bits e cut.none)
 
 -- what a block by no compression says
-pub no_compression_set : {I : Type 0} (old mid new : Reader I) (first second last : ℕ) (s : Parameters) (b id : ℕ) (r : Option ℕ) (sound : Bool) (items : List ℕ)
+pub no_compression_set : {I : Type 0} (old mid new : Reader I) (first second last : ℕ) (s : Parameters) (b id : ℕ) (r : Option ℕ) (sound near : Bool) (items : List ℕ)
     → id ≡ 2 ^ id_len s - 1 → Takes old mid (word (id_len s) id) → second + old.taken ≡ first + mid.taken
-    → BlockRead mid new second last s b NoCompression (record { reference = r; sound = sound }) items → SetRead old new first last s b (Residuals r sound) items
-no_compression_set old mid new first second last s b id r sound items e t steps read = record {
+    → BlockRead mid new second last s b NoCompression (record { reference = r; sound = sound }) items → SetRead old new first last s b (Residuals r sound near) items
+no_compression_set old mid new first second last s b id r sound near items e t steps read = record {
   set = NoCompression read.contents;
   form = read.form;
   takes = rw (← e) (takes-append old mid new _ _ t read.takes);
@@ -94,10 +94,10 @@ no_compression_set old mid new first second last s b id r sound items e t steps 
   steps = omega (arith, read.steps);
 }
 
-pub split_set : {I : Type 0} (old mid new : Reader I) (first second last : ℕ) (s : Parameters) (b id k : ℕ) (r : Option ℕ) (sound : Bool) (items : List ℕ)
+pub split_set : {I : Type 0} (old mid new : Reader I) (first second last : ℕ) (s : Parameters) (b id k : ℕ) (r : Option ℕ) (sound near : Bool) (items : List ℕ)
     → id ≡ k + 1 → Takes old mid (word (id_len s) id) → second + old.taken ≡ first + mid.taken
-    → BlockRead mid new second last s b (Split k) (record { reference = r; sound = sound }) items → SetRead old new first last s b (Residuals r sound) items
-split_set old mid new first second last s b id k r sound items e t steps read = record {
+    → BlockRead mid new second last s b (Split k) (record { reference = r; sound = sound }) items → SetRead old new first last s b (Residuals r sound near) items
+split_set old mid new first second last s b id k r sound near items e t steps read = record {
   set = Split k read.contents;
   form = read.form;
   takes = rw (← e) (takes-append old mid new _ _ t read.takes);
@@ -188,10 +188,10 @@ run_low_cut old mid new s b bits f t stops cut = record {
     none bits h (ZeroBlocks r z) more form low e = h r (run_number z) more form.0 cc
     none bits h (RemainderOfSegment r) more form low e = h r 4 more form cc
 
-pub second_low : {I : Type 0} (old mid new : Reader I) (first second last : ℕ) (s : Parameters) (b v : ℕ) (r : Option ℕ) (sound : Bool) (items : List ℕ)
+pub second_low : {I : Type 0} (old mid new : Reader I) (first second last : ℕ) (s : Parameters) (b v : ℕ) (r : Option ℕ) (sound near : Bool) (items : List ℕ)
     → v < 2 → 0 < v → Takes old mid (word 1 v) → second + old.taken ≡ first + mid.taken
-    → BlockRead mid new second last s b SecondExtension (record { reference = r; sound = sound }) items → LowRead old new first last s b (Residuals r sound) items
-second_low old mid new first second last s b v r sound items lt pos t steps read = record {
+    → BlockRead mid new second last s b SecondExtension (record { reference = r; sound = sound }) items → LowRead old new first last s b (Residuals r sound near) items
+second_low old mid new first second last s b v r sound near items lt pos t steps read = record {
   set = SecondExtension read.contents;
   low = tt;
   form = read.form;

@@ -1,4 +1,4 @@
-use Rattle.std.proofs.Common.{arith}
+use Rattle.std.proofs.Common.{arith, true}
 use Rattle.rice_code.proofs.lemmas.decode.CutSets.{low_bit_cut, second_low_cut, run_low_cut, second_low, run_low}
 use Rattle.rice_code.proofs.decode.coded_data_set.read_low.Goals as goal
 
@@ -20,7 +20,7 @@ returns-in-Err-read_run-clause-err g c =
 
 pub returns-in-Ok-read_second_extension-clause-ok : goal.returns-in-Ok-read_second_extension-clause-ok
 returns-in-Ok-read_second_extension-clause-ok g c =
-    second_low c.args.reader.now c.take.new.self c.read_second_extension.new.reader c.args.meter.now c.take.new.meter c.read_second_extension.new.meter c.args.setting.now c.args.block c.in-Ok.bit c.in-Ok-read_second_extension.head.reference c.in-Ok-read_second_extension.head.sound c.read_second_extension.new.residuals
+    second_low c.args.reader.now c.take.new.self c.read_second_extension.new.reader c.args.meter.now c.take.new.meter c.read_second_extension.new.meter c.args.setting.now c.args.block c.in-Ok.bit c.in-Ok-read_second_extension.head.reference c.in-Ok-read_second_extension.head.sound true c.read_second_extension.new.residuals
     c.in-Ok.ensures.ok.0 (omega arith) c.in-Ok.ensures.ok.1 c.in-Ok.ensures.steps c.in-Ok-read_second_extension.ensures.ok
 
 pub returns-in-Err-read_second_extension-clause-err : goal.returns-in-Err-read_second_extension-clause-err

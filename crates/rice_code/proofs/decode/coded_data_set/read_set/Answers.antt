@@ -1,4 +1,4 @@
-use Rattle.std.proofs.Common.{arith, ◌-◌, ◌∙◌}
+use Rattle.std.proofs.Common.{arith, ◌-◌, ◌∙◌, true, false}
 use Rattle.rice_code.proofs.lemmas.decode.CutSets.{cut_identifier, low_set, low_set_cut, no_compression_set, no_compression_set_cut, split_set, split_set_cut, ones_id}
 use Rattle.rice_code.proofs.decode.coded_data_set.read_set.Goals as goal
 
@@ -23,7 +23,7 @@ pub returns-in-Ok-read_no_compression-clause-ok : goal.returns-in-Ok-read_no_com
 returns-in-Ok-read_no_compression-clause-ok g c =
     let t = rw c.id_len-width.ensures.value at c.in-Ok.ensures.ok in
     let e = rw c.id_len-width.ensures.value at c.if-id-width.true in
-    no_compression_set c.args.reader.now c.take.new.self c.read_no_compression.new.reader c.args.meter.now c.take.new.meter c.read_no_compression.new.meter c.args.setting.now c.args.block c.in-Ok.id c.in-Ok-read_no_compression.head.reference c.in-Ok-read_no_compression.head.sound c.read_no_compression.new.residuals
+    no_compression_set c.args.reader.now c.take.new.self c.read_no_compression.new.reader c.args.meter.now c.take.new.meter c.read_no_compression.new.meter c.args.setting.now c.args.block c.in-Ok.id c.in-Ok-read_no_compression.head.reference c.in-Ok-read_no_compression.head.sound false c.read_no_compression.new.residuals
     (e ∙ ones_id c.args.setting.now) t.1 c.in-Ok.ensures.steps c.in-Ok-read_no_compression.ensures.ok
 
 pub returns-in-Err-read_no_compression-clause-err : goal.returns-in-Err-read_no_compression-clause-err
@@ -36,7 +36,7 @@ returns-in-Err-read_no_compression-clause-err g c =
 pub returns-in-Ok-read_split-clause-ok : goal.returns-in-Ok-read_split-clause-ok
 returns-in-Ok-read_split-clause-ok g c =
     let t = rw c.id_len-width.ensures.value at c.in-Ok.ensures.ok in
-    split_set c.args.reader.now c.take.new.self c.read_split.new.reader c.args.meter.now c.take.new.meter c.read_split.new.meter c.args.setting.now c.args.block c.in-Ok.id (c.in-Ok.id - 1) c.in-Ok-read_split.head.reference c.in-Ok-read_split.head.sound c.read_split.new.residuals
+    split_set c.args.reader.now c.take.new.self c.read_split.new.reader c.args.meter.now c.take.new.meter c.read_split.new.meter c.args.setting.now c.args.block c.in-Ok.id (c.in-Ok.id - 1) c.in-Ok-read_split.head.reference c.in-Ok-read_split.head.sound true c.read_split.new.residuals
     (omega arith) t.1 c.in-Ok.ensures.steps c.in-Ok-read_split.ensures.ok
 
 pub returns-in-Err-read_split-clause-err : goal.returns-in-Err-read_split-clause-err
