@@ -7,7 +7,7 @@ ghost use Rattle.rice_bits.specs.Bits.{bits_in_bytes, padded_bits};
 ghost use Rattle.rice_samples.specs.Parameters.{Parameters, IsSample, width};
 ghost use Rattle.rice_stream.specs.Calls.{Call, Happens, Fails};
 ghost use Rattle.rice_stream.specs.Encodes.{Encodes, EncodesWithin, ReportsTaken, ReportsAll};
-ghost use Rattle.rice_stream.specs.EncodingState.{whole_part, CanTake, Refills, TakesSamples, CountsSamples, IsEncodingOf, FailsIn, WritesRest, Pushes, PushFails};
+ghost use Rattle.rice_stream.specs.EncodingState.{Beginning, afresh, whole_part, CanTake, Refills, TakesSamples, CountsSamples, IsEncodingOf, FailsIn, WritesRest, Pushes, PushFails};
 ghost use Rattle.rice_code.specs.code.Code.{code};
 ghost use Rattle.rice_code.specs.encode.Coder.{complete_code};
 
@@ -39,7 +39,7 @@ pub struct Encoding {
 impl Encoding {
     /// Returns an encoding that has taken no sample.
     fn new(setting: Setting) -> Self
-        ensures { (now : Option Room) → IsEncodingOf setting now now result [] }
+        ensures { (now : Option Room) → IsEncodingOf setting (afresh now) now result [] }
     {
         Encoding {
             coder: Coder::new(setting),
@@ -56,7 +56,7 @@ impl Encoding {
         requires ready { (now : Option Room) × CanTake now self.old samples.now }
         ensures count { result ≤ length samples.now }
         ensures some { 0 < length samples.now → 0 < result }
-        ensures took { (s : Parameters) (old now : Option Room) (xs : List ℤ) →
+        ensures took { (s : Parameters) (old : Beginning) (now : Option Room) (xs : List ℤ) →
             IsEncodingOf s old now self.old xs →
             TakesSamples s self.new xs (take result samples.now) }
     {
@@ -74,11 +74,11 @@ impl Encoding {
         requires some { 0 < length samples.now }
         requires writes { O.failed outlet.old + 1 < 2 ^ 64 }
         ensures count { IfOk result (λ n. (0 < n) × (n ≤ length samples.now)) }
-        ensures ok { IfOk result (λ n. (s : Parameters) (old : Option Room) (xs : List ℤ) →
+        ensures ok { IfOk result (λ n. (s : Parameters) (old : Beginning) (xs : List ℤ) →
             IsEncodingOf s old (O.taken outlet.old) self.old xs →
             IsEncodingOf s old (O.taken outlet.new) self.new (xs ++ take n samples.now)) }
         ensures calm { OnOk result (O.failed outlet.new ≡ O.failed outlet.old) }
-        ensures err { OnErr result ((s : Parameters) (old : Option Room) (xs : List ℤ) →
+        ensures err { OnErr result ((s : Parameters) (old : Beginning) (xs : List ℤ) →
             IsEncodingOf s old (O.taken outlet.old) self.old xs →
             FailsIn s old (O.taken outlet.new) self.new xs samples.now) }
         ensures raised { OnErr result (O.failed outlet.new ≡ O.failed outlet.old + 1) }
@@ -97,11 +97,11 @@ impl Encoding {
     fn push_each<O: Outlet>(&mut self, samples: &[i64], outlet: &mut O) -> Result<(), WriteFault>
         requires ready { CanTake (O.taken outlet.old) self.old samples.now }
         requires writes { O.failed outlet.old + 1 < 2 ^ 64 }
-        ensures ok { OnOk result ((s : Parameters) (old : Option Room) (xs : List ℤ) →
+        ensures ok { OnOk result ((s : Parameters) (old : Beginning) (xs : List ℤ) →
             IsEncodingOf s old (O.taken outlet.old) self.old xs →
             IsEncodingOf s old (O.taken outlet.new) self.new (xs ++ samples.now)) }
         ensures calm { OnOk result (O.failed outlet.new ≡ O.failed outlet.old) }
-        ensures err { OnErr result ((s : Parameters) (old : Option Room) (xs : List ℤ) →
+        ensures err { OnErr result ((s : Parameters) (old : Beginning) (xs : List ℤ) →
             IsEncodingOf s old (O.taken outlet.old) self.old xs →
             FailsIn s old (O.taken outlet.new) self.new xs samples.now) }
         ensures raised { OnErr result (O.failed outlet.new ≡ O.failed outlet.old + 1) }
@@ -124,12 +124,12 @@ impl Encoding {
         samples: &mut [i64],
         outlet: &mut O,
     ) -> Result<(), Fault>
-        requires ready { (old : Option Room) × (xs : List ℤ) ×
+        requires ready { (old : Beginning) × (xs : List ℤ) ×
             IsEncodingOf setting.now old (O.taken outlet.old) self.old xs ×
             (length xs + length bytes.now ≤ 2 ^ 48) }
         requires room { length bytes.now ≤ width setting.now * length samples.old }
         requires writes { O.failed outlet.old + 1 < 2 ^ 64 }
-        ensures did { (old : Option Room) (xs : List ℤ) →
+        ensures did { (old : Beginning) (xs : List ℤ) →
             IsEncodingOf setting.now old (O.taken outlet.old) self.old xs →
             Pushes setting.now old (O.taken outlet.new) self.new xs bytes.now result }
         ensures failures { PushFails (O.failed outlet.old) (O.failed outlet.new) result }
@@ -159,12 +159,12 @@ impl Encoding {
         samples: &mut [i64],
         outlet: &mut O,
     ) -> Result<(), Fault>
-        requires ready { (old : Option Room) × (xs : List ℤ) ×
+        requires ready { (old : Beginning) × (xs : List ℤ) ×
             IsEncodingOf setting.now old (O.taken outlet.old) self.old xs ×
             (length xs + length bytes.now ≤ 2 ^ 48) }
         requires some { (0 < length samples.old) × (length samples.old ≤ 2 ^ 48) }
         requires writes { O.failed outlet.old + 1 < 2 ^ 64 }
-        ensures did { (old : Option Room) (xs : List ℤ) →
+        ensures did { (old : Beginning) (xs : List ℤ) →
             IsEncodingOf setting.now old (O.taken outlet.old) self.old xs →
             Pushes setting.now old (O.taken outlet.new) self.new xs bytes.now result }
         ensures failures { PushFails (O.failed outlet.old) (O.failed outlet.new) result }
@@ -184,9 +184,9 @@ impl Encoding {
 
     /// Codes the samples that wait, fills the last byte, and returns the report. The sink then holds the rest of the code.
     fn close(&mut self) -> Report
-        requires { (s : Parameters) × (old : Option Room) × (now : Option Room) ×
+        requires { (s : Parameters) × (old : Beginning) × (now : Option Room) ×
             (xs : List ℤ) × IsEncodingOf s old now self.old xs × (length xs ≤ 2 ^ 48) }
-        ensures { (s : Parameters) (old now : Option Room) (xs : List ℤ) →
+        ensures { (s : Parameters) (old : Beginning) (now : Option Room) (xs : List ℤ) →
             IsEncodingOf s old now self.old xs →
             ReportsAll s result xs × (padded_bits (code s xs) ≡ whole_part (complete_code s xs) ++
             self.new.sink) }
@@ -203,10 +203,10 @@ impl Encoding {
 
     /// Codes the samples that wait, fills the last byte, and writes the rest of the code.
     fn finish<O: Outlet>(&mut self, outlet: &mut O) -> Outcome
-        requires ready { (s : Parameters) × (old : Option Room) × (xs : List ℤ) ×
+        requires ready { (s : Parameters) × (old : Beginning) × (xs : List ℤ) ×
             IsEncodingOf s old (O.taken outlet.old) self.old xs × (length xs ≤ 2 ^ 48) }
         requires writes { O.failed outlet.old + 1 < 2 ^ 64 }
-        ensures did { (s : Parameters) (old : Option Room) (xs : List ℤ) →
+        ensures did { (s : Parameters) (old : Beginning) (xs : List ℤ) →
             IsEncodingOf s old (O.taken outlet.old) self.old xs →
             ReportsAll s result.report xs × WritesRest s old (O.taken outlet.new) xs result.fault }
         ensures failures { Fails result.fault 0 0 (O.failed outlet.old) (O.failed outlet.new) }
