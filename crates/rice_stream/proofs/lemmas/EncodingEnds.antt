@@ -11,7 +11,7 @@ use Rattle.rice_bits.specs.device.Outlet.{Room}
 use Rattle.rice_samples.specs.Parameters.{Parameters, IsSample, width}
 use Rattle.rice_samples.specs.bytes.Spelling.{Spells, spellings, AtEnd, NoSpelling, TooFew}
 use Rattle.rice_stream.specs.Calls.{Call, Happens, Fails, PassesLimit, StopsBetween}
-use Rattle.rice_stream.specs.EncodingState.{afresh, CountsSamples, WritesRest, Reads, EncodingProgress, TakesAll, MeetsNoSpelling, MeetsFailure, Pushes, PushFails, Refills}
+use Rattle.rice_stream.specs.EncodingState.{Beginning, afresh, CountsSamples, WritesRest, Reads, EncodingProgress, TakesAll, MeetsNoSpelling, MeetsFailure, Pushes, PushFails, Refills}
 use Rattle.rice_stream.specs.Encodes.{Encodes, EndsEncoding, EncodesWithin, ReportsTaken, ReportsAll, LeavesEarly, SpellsSoFar}
 use Rattle.rice_code.specs.code.Code.{code_bits, output, early_output}
 use Rattle.rice_code.specs.encode.Coder.{complete_samples}
@@ -259,13 +259,13 @@ push_ends s left_old left taken_old taken e r f g xs given bytes split legal gav
     by_fault (ResidualTooLarge block) bad = absurd bad
 
 -- and the failures then
-pub push_fails : (s : Parameters) (taken_old taken : Option Room) (e : Encoding) (xs : List ℤ) (bytes : List ℕ) (f : Fault) (g : Option Fault) (reads reads_new writes mid writes_new : ℕ) → reads_new ≡ reads → mid ≡ writes →
-    Pushes {T = Unit {0}} s (afresh taken_old) taken e xs bytes (Err f) → PushFails {T = Unit {0}} mid writes_new (Err f) → g ≡ Some f → Fails g reads reads_new writes writes_new
-push_fails s taken_old taken e xs bytes f g reads reads_new writes mid writes_new same before pushes fails is =
+pub push_fails : (s : Parameters) (old : Beginning) (taken : Option Room) (e : Encoding) (xs : List ℤ) (bytes : List ℕ) (f : Fault) (g : Option Fault) (reads reads_new writes mid writes_new : ℕ) → reads_new ≡ reads → mid ≡ writes →
+    Pushes {T = Unit {0}} s old taken e xs bytes (Err f) → PushFails {T = Unit {0}} mid writes_new (Err f) → g ≡ Some f → Fails g reads reads_new writes writes_new
+push_fails s old taken e xs bytes f g reads reads_new writes mid writes_new same before pushes fails is =
     let result = by_fault f pushes fails in
     subst (λ (g : Option Fault). Fails g reads reads_new writes writes_new) (sym is) result
   where
-    by_fault : (f : Fault) → Pushes {T = Unit {0}} s (afresh taken_old) taken e xs bytes (Err f) → PushFails {T = Unit {0}} mid writes_new (Err f) → Fails (Some f) reads reads_new writes writes_new
+    by_fault : (f : Fault) → Pushes {T = Unit {0}} s old taken e xs bytes (Err f) → PushFails {T = Unit {0}} mid writes_new (Err f) → Fails (Some f) reads reads_new writes writes_new
     by_fault (SampleOutOfRange index) m k = (same, k ∙ before)
     by_fault Write m k = (same, k ∙ ap (λ n. n + 1) before)
     by_fault Read bad k = absurd bad

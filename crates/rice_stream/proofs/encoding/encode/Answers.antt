@@ -148,7 +148,7 @@ returns-in-Err-push_all-clause-failures g c =
     let s = c.args.setting.now in
     let i = c.fill_all.invariant in
     let start = g.O.Outlet.taken c.args.outlet.now in
-    push_fails s start (g.O.Outlet.taken c.push_all.new.outlet) c.push_all.new.self i.runs.samples (take (c.fill_all.waiting + c.in-Ok.count) c.refill.new.buffer) c.in-Err-push_all.fault c.stopped-in-Err-push_all.result.fault
+    push_fails s (afresh start) (g.O.Outlet.taken c.push_all.new.outlet) c.push_all.new.self i.runs.samples (take (c.fill_all.waiting + c.in-Ok.count) c.refill.new.buffer) c.in-Err-push_all.fault c.stopped-in-Err-push_all.result.fault
     (g.I.Intake.failed c.args.intake.now) (g.I.Intake.failed c.refill.new.intake) (g.O.Outlet.failed c.args.outlet.now) (g.O.Outlet.failed c.fill_all.outlet) (g.O.Outlet.failed c.push_all.new.outlet)
     (c.in-Ok.ensures.failures ∙ i.reads) i.writes (c.in-Err-push_all.ensures.did (afresh start) i.runs.samples i.runs.holds) c.in-Err-push_all.ensures.failures c.stopped-in-Err-push_all.ensures.fault
 
