@@ -4,6 +4,7 @@
 #![tactic(auto)]
 
 pub mod coding;
+pub mod feed;
 pub mod laws;
 pub mod report;
 pub mod setting;
@@ -13,3 +14,5 @@ pub mod status;
 const _: () = prove!(size_of::<setting::RiceSetting>() == 20);
 
 const _: () = prove!(size_of::<report::RiceReport>() == 40);
+
+const _: () = prove!(size_of::<feed::RiceFeed>() == 72);

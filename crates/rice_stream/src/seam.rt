@@ -1,8 +1,9 @@
 //! Where the code of whole segments ends, and that of the next segment begins.
-ghost use Rattle.std.specs.Prelude.{◌≡◌, ℕ, ◌+◌, ◌-◌, ◌*◌, ◌/◌, ◌^◌, ◌<◌, ◌≤◌, length, pos};
+ghost use Rattle.std.specs.Prelude.{◌≡◌, ℕ, ◌+◌, ◌-◌, ◌*◌, ◌/◌, ◌^◌, ◌<◌, ◌≤◌, [], length};
 ghost use Rattle.rice_bits.specs.Bits.{word};
 
 use rice_bits::BitSink;
+use rice_samples::Setting;
 
 /// Where the code of whole segments ends: all that is kept of them. In plain numbers, in C's own layout.
 ///
@@ -27,10 +28,13 @@ pub struct Seam {
 }
 
 impl Seam {
+    ghost use Rattle.rice_stream.specs.Feeding.{IsSeam};
+
     /// Returns the place before all samples.
-    pub fn new() -> Self
-        ensures { result ≡ record { samples = 0; bits = 0; steps = 0; previous = pos 0; start = 0; waiting = 0; waiting_bits = 0 } }
+    pub fn new(setting: &Setting) -> Self
+        ensures { IsSeam setting.now result [] }
     {
+        let _block = setting.block();
         Seam {
             samples: 0,
             bits: 0,
