@@ -19,6 +19,7 @@ inner None room = room
 inner (Some room) other = room
 
 unused : (a b : Room) → Some b ≡ Some a → Fills a b []
+unfolding inner
 unused a b e = let same : b ≡ a = ap (λ o. inner o a) e in record { borrow = ap (λ r. r.borrow) same; bytes = ap (λ r. r.bytes) same ∙ sym (append-nil a.bytes); rest = ap (λ r. r.rest) same }
 
 module _ (s : Parameters) (xs : List ℤ) (input : List ℕ) (a b : Room) where
