@@ -1,6 +1,6 @@
 //! `encode` and `decode` for C, over memory of the caller's own: `include/rice.h` declares what is here, and says it in words.
 //!
-//! Nothing here allocates, and nothing is kept from call to call.
+//! Nothing here allocates, and nothing is kept from call to call but what a caller's feed holds.
 #![tactic(auto)]
 
 pub mod coding;

@@ -1,5 +1,5 @@
 -- What a piece that is fed writes to its caller's memory.
-use Rattle.std.proofs.Common.{◌≡◌, ◌≢◌, ℕ, ◌+◌, ◌<◌, ◌≤◌, List, [], ◌++◌, length, drop, Option, Some, None, Result, Ok, Err, refl, sym, ◌∙◌, ap, subst, arith, inl, inr, append-nil, length-append, ℤ}
+use Rattle.std.proofs.Common.{◌≡◌, ◌≢◌, ℕ, ◌+◌, ◌<◌, List, [], ◌++◌, length, drop, Option, Some, None, Result, Ok, Err, refl, sym, ◌∙◌, ap, subst, arith, inl, inr, append-nil, length-append, ℤ}
 use Rattle.rice_bits.specs.device.Outlet.{Room, begun, Fills}
 use Rattle.rice_samples.specs.Parameters.{Parameters}
 use Rattle.rice_stream.specs.Calls.{Fails}

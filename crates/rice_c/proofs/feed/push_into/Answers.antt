@@ -1,7 +1,6 @@
-use Rattle.std.proofs.Common.{◌∙◌, ◌≡◌, List, ℕ, Some, None, Option, Result, Ok, Err, sym, subst, ap, length, refl, take-append-drop}
+use Rattle.std.proofs.Common.{◌∙◌, Some, None, Option, Result, Ok, Err, sym, subst, ap, refl, take-append-drop}
 use Rattle.rice_bits.specs.device.Outlet.{Room, begun}
 use Rattle.rice_bits.specs.device.Slice.{slice_state}
-use Rattle.rice_stream.specs.EncodingState.{PushFails}
 use Rattle.rice_stream.specs.Feeding.{EncodesMore}
 use Rattle.rice_stream.specs.declared.outcome.Fault.{Fault}
 use Rattle.rice_stream.specs.declared.seam.Seam.{Seam}

@@ -1,4 +1,3 @@
-use Rattle.std.proofs.Common.{sym}
 use Rattle.rice_bits.specs.device.Slice.{slice_state}
 use Rattle.rice_c.proofs.lemmas.Feeding.{more_fills}
 use Rattle.rice_c.proofs.feed.push_slice.Goals as goal

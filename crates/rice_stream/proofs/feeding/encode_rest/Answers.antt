@@ -1,7 +1,6 @@
-use Rattle.std.proofs.Common.{arith, refl, ◌≡◌, ◌+◌, ◌*◌, ◌≤◌, ◌%◌, ◌++◌, ◌∙◌, ap, sym, subst, length, Some, Option}
+use Rattle.std.proofs.Common.{arith, refl, ◌≡◌, ◌+◌, ◌*◌, ◌≤◌, ◌%◌, ◌++◌, ap, sym, subst, length}
 use Rattle.rice_samples.specs.Parameters.{width}
 use Rattle.rice_stream.specs.Feeding.{behind, EncodesRest}
-use Rattle.rice_stream.specs.declared.outcome.Fault.{Fault}
 use Rattle.rice_stream.proofs.lemmas.EncodingEnds.{push_fails}
 use Rattle.rice_stream.proofs.lemmas.Seams.{within_limit, few_all, some_width, rest_stops, rest_cut, rest_all, takes_few}
 use Rattle.rice_stream.proofs.feeding.encode_rest.Goals as goal

@@ -1,6 +1,4 @@
-use Rattle.std.proofs.Common.{rules, arith, ◌≡◌, ◌<◌, ◌≤◌, ◌∙◌, length, [], refl, ap, sym, slice_index_or, subst, List, Bool}
-use Rattle.rice_bits.specs.Bits.{word}
-use Rattle.rice_bits.proofs.lemmas.bits.Words.{word-nil}
+use Rattle.std.proofs.Common.{rules, arith, ◌<◌, slice_index_or}
 use Rattle.rice_stream.proofs.lemmas.Seams.{no_bits, one_byte, byte_digits, byte_fits}
 use Rattle.rice_stream.proofs.seam.waiting_number.Goals as goal
 

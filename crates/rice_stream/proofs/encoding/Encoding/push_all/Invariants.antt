@@ -1,5 +1,4 @@
-use Rattle.std.proofs.Common.{ℕ, List, ℤ, Option, length, take, ◌-◌, ◌*◌, ◌≡◌, ◌≤◌, ◌<◌}
-use Rattle.rice_bits.specs.device.Outlet.{Room}
+use Rattle.std.proofs.Common.{ℕ, List, ℤ, length, take, ◌-◌, ◌*◌, ◌≡◌, ◌≤◌, ◌<◌}
 use Rattle.rice_samples.specs.Parameters.{width}
 use Rattle.rice_stream.specs.EncodingState.{Beginning, IsEncodingOf, TakesAll}
 use Rattle.rice_stream.proofs.encoding.Encoding.push_all.Given as goal

@@ -1,5 +1,4 @@
-use Rattle.std.proofs.Common.{◌≡◌, ◌≤◌, ◌-◌, ◌++◌, List, length, take, Option, ℤ}
-use Rattle.rice_bits.specs.device.Outlet.{Room}
+use Rattle.std.proofs.Common.{◌≡◌, ◌≤◌, ◌-◌, ◌++◌, List, length, take, ℤ}
 use Rattle.rice_samples.specs.Parameters.{Parameters}
 use Rattle.rice_stream.specs.EncodingState.{Beginning, IsEncodingOf}
 use Rattle.rice_stream.proofs.encoding.Encoding.push_each.Given as goal

@@ -1,4 +1,4 @@
-use Rattle.std.proofs.Common.{rules, w64, FitsSigned, ◌∙◌, ◌≡◌, refl, to_z, of_z}
+use Rattle.std.proofs.Common.{rules, w64, FitsSigned, ◌∙◌, refl, to_z, of_z}
 use Rattle.std.proofs.lemmas.Int.{to_z-of_z}
 use Rattle.rice_stream.specs.declared.seam.Seam.{Seam}
 use Rattle.rice_stream.proofs.lemmas.Seams.{seam_of}
