@@ -2,6 +2,7 @@
 use Rattle.std.specs.Prelude.{◌≡◌, ◌≢◌, ℕ, ◌≤◌, List, [], length, Option, Some, None, Result, Ok, Err, ℤ}
 use Rattle.rice_bits.specs.device.Outlet.{Room, begun}
 use Rattle.rice_samples.specs.Parameters.{Parameters}
+use Rattle.rice_stream.specs.Encodes.{EncodesWithin}
 use Rattle.rice_stream.specs.Feeding.{IsSeam, EncodesMore, EncodesRest}
 use Rattle.rice_stream.specs.declared.outcome.Fault.{Fault}
 use Rattle.rice_stream.specs.declared.outcome.Fault.TheVariants.{Read, Write}
@@ -61,4 +62,5 @@ pub record FinishesInto (s : Parameters) (xs : List ℤ) (input old new : List �
   pub name : ℕ
   pub room : Room
   pub encodes : EncodesRest s xs input (Some (begun name old)) (Some room) (report_of r) fault
+  pub within : EncodesWithin s (report_of r)
   pub writes : WritesFront old new room.bytes fault r status

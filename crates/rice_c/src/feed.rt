@@ -3,6 +3,7 @@ ghost use Rattle.std.specs.Prelude.{◌≡◌, ℕ, List, [], Some, IfOk, IfErr,
 ghost use Rattle.rice_bits.specs.device.Slice.{slice_state, slice_failures};
 ghost use Rattle.rice_samples.specs.Settings.{setting_of};
 ghost use Rattle.rice_stream.specs.Calls.{Fails};
+ghost use Rattle.rice_stream.specs.Encodes.{EncodesWithin};
 ghost use Rattle.rice_stream.specs.EncodingState.{PushFails};
 ghost use Rattle.rice_stream.specs.Feeding.{IsSeam, EncodesMore, EncodesRest};
 ghost use Rattle.rice_stream.specs.declared.outcome.Fault.TheVariants.{Read};
@@ -157,6 +158,7 @@ fn finish_slice(
     ensures did { (xs : List ℤ) → IsSeam setting.now seam.now xs →
         EncodesRest setting.now xs samples.now (Some (slice_state outlet.old)) (Some (slice_state outlet.new)) result.report result.fault }
     ensures failures { Fails result.fault 0 0 0 (slice_failures outlet.new) }
+    ensures within { EncodesWithin setting.now result.report }
 {
     encode_rest(setting, seam, samples, outlet)
 }

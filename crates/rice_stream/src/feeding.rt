@@ -2,6 +2,7 @@
 ghost use Rattle.std.specs.Prelude.{◌≡◌, ℕ, ◌+◌, ◌*◌, ◌^◌, ◌<◌, ◌≤◌, ◌↔◌, IsTrue, List, length, ℤ};
 ghost use Rattle.rice_samples.specs.Places.{cut};
 ghost use Rattle.rice_stream.specs.Calls.{Fails};
+ghost use Rattle.rice_stream.specs.Encodes.{EncodesWithin};
 ghost use Rattle.rice_stream.specs.EncodingState.{PushFails};
 ghost use Rattle.rice_stream.specs.Feeding.{IsSeam, EncodesMore, EncodesRest};
 
@@ -54,6 +55,7 @@ pub fn encode_rest<O: Outlet>(
     ensures did { (xs : List ℤ) → IsSeam setting.now seam.now xs →
         EncodesRest setting.now xs bytes.now (O.taken outlet.old) (O.taken outlet.new) result.report result.fault }
     ensures failures { Fails result.fault 0 0 (O.failed outlet.old) (O.failed outlet.new) }
+    ensures bounds { EncodesWithin setting.now result.report }
 {
     let width = setting.width() as usize;
     let mut encoding = Encoding::resume(*setting, seam);

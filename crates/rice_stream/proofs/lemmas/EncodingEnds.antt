@@ -319,12 +319,12 @@ runs_count s left_old left taken_old taken e given waiting buffer runs some with
     at w n k m e h = let p = mul-le-mul_right n h in omega arith
 
 -- the report's bounds where taking the bytes in hand stops
-pub push_within : (s : Parameters) (taken_old taken : Option Room) (e : Encoding) (r : Report) (f : Fault) (xs : List ℤ) (bytes : List ℕ) → ((ys : List ℤ) → CountsSamples s e ys → ReportsTaken s r ys) → Pushes {T = Unit {0}} s (afresh taken_old) taken e xs bytes (Err f) → EncodesWithin s r
-push_within s taken_old taken e r (SampleOutOfRange index) xs bytes told m = let k = m.0.holds.counts in within_early s r (xs ++ m.0.more) (settled_by s e (xs ++ m.0.more) k) (told (xs ++ m.0.more) k)
-push_within s taken_old taken e r Write xs bytes told m = let ys = (xs ++ m.more) ++ m.last ∷ [] in let k = m.fails.counts in within_early s r ys (settled_by s e ys k) (told ys k)
-push_within s taken_old taken e r Read xs bytes told bad = absurd bad
-push_within s taken_old taken e r TooLong xs bytes told bad = absurd bad
-push_within s taken_old taken e r (SampleCut index) xs bytes told bad = absurd bad
-push_within s taken_old taken e r (CodeEnds samples) xs bytes told bad = absurd bad
-push_within s taken_old taken e r (RunPastSegment block) xs bytes told bad = absurd bad
-push_within s taken_old taken e r (ResidualTooLarge block) xs bytes told bad = absurd bad
+pub push_within : (s : Parameters) (old : Beginning) (taken : Option Room) (e : Encoding) (r : Report) (f : Fault) (xs : List ℤ) (bytes : List ℕ) → ((ys : List ℤ) → CountsSamples s e ys → ReportsTaken s r ys) → Pushes {T = Unit {0}} s old taken e xs bytes (Err f) → EncodesWithin s r
+push_within s old taken e r (SampleOutOfRange index) xs bytes told m = let k = m.0.holds.counts in within_early s r (xs ++ m.0.more) (settled_by s e (xs ++ m.0.more) k) (told (xs ++ m.0.more) k)
+push_within s old taken e r Write xs bytes told m = let ys = (xs ++ m.more) ++ m.last ∷ [] in let k = m.fails.counts in within_early s r ys (settled_by s e ys k) (told ys k)
+push_within s old taken e r Read xs bytes told bad = absurd bad
+push_within s old taken e r TooLong xs bytes told bad = absurd bad
+push_within s old taken e r (SampleCut index) xs bytes told bad = absurd bad
+push_within s old taken e r (CodeEnds samples) xs bytes told bad = absurd bad
+push_within s old taken e r (RunPastSegment block) xs bytes told bad = absurd bad
+push_within s old taken e r (ResidualTooLarge block) xs bytes told bad = absurd bad

@@ -158,7 +158,7 @@ returns-in-Err-push_all-clause-bounds g c =
     let i = c.fill_all.invariant in
     let o = c.stopped-in-Err-push_all in
     let start = g.O.Outlet.taken c.args.outlet.now in
-    push_within s start (g.O.Outlet.taken c.push_all.new.outlet) c.push_all.new.self o.result.report c.in-Err-push_all.fault i.runs.samples (take (c.fill_all.waiting + c.in-Ok.count) c.refill.new.buffer) (λ xs h. o.ensures.told s xs h) (c.in-Err-push_all.ensures.did (afresh start) i.runs.samples i.runs.holds)
+    push_within s (afresh start) (g.O.Outlet.taken c.push_all.new.outlet) c.push_all.new.self o.result.report c.in-Err-push_all.fault i.runs.samples (take (c.fill_all.waiting + c.in-Ok.count) c.refill.new.buffer) (λ xs h. o.ensures.told s xs h) (c.in-Err-push_all.ensures.did (afresh start) i.runs.samples i.runs.holds)
 
 pub fill_all-preserved : goal.fill_all-preserved
 fill_all-preserved g c =

@@ -1,7 +1,8 @@
 use Rattle.std.proofs.Common.{arith, refl, ◌≡◌, ◌+◌, ◌*◌, ◌≤◌, ◌%◌, ◌++◌, ap, sym, subst, length}
 use Rattle.rice_samples.specs.Parameters.{width}
 use Rattle.rice_stream.specs.Feeding.{behind, EncodesRest}
-use Rattle.rice_stream.proofs.lemmas.EncodingEnds.{push_fails}
+use Rattle.rice_stream.proofs.lemmas.EncodingEnds.{push_fails, push_within, within_early, within_all}
+use Rattle.rice_stream.proofs.lemmas.EncodingLemmas.{settled_by}
 use Rattle.rice_stream.proofs.lemmas.Seams.{within_limit, few_all, some_width, rest_stops, rest_cut, rest_all, takes_few}
 use Rattle.rice_stream.proofs.feeding.encode_rest.Goals as goal
 
@@ -76,3 +77,38 @@ returns-clause-did g c xs h =
     let same : length bytes % c.width-width.result ≡ length bytes % width s = ap (λ w. length bytes % w) c.width-width.ensures.value in
     let did = c.finish.ensures.did s (behind s xs now) (xs ++ t.more) t.holds in
     rest_all s now mid c.push_all.new.self c.finish.result.report xs bytes c.finish.result.fault t new (omega (arith, same, c.if-bytes-width-gt0.false)) did.0 did.1
+
+pub returns-then-is_too_long-clause-bounds : goal.returns-then-is_too_long-clause-bounds
+returns-then-is_too_long-clause-bounds g c =
+    let now = g.O.Outlet.taken c.args.outlet.now in
+    let s = c.args.setting.now in
+    let xs = c.requires.seam.0 in
+    let k = (c.resume-encoding.ensures now xs c.requires.seam.1).counts in
+    within_early s c.stopped.result.report xs (settled_by s c.resume-encoding.result xs k) (c.stopped.ensures.told s xs k)
+
+pub returns-in-Err-clause-bounds : goal.returns-in-Err-clause-bounds
+returns-in-Err-clause-bounds g c =
+    let now = g.O.Outlet.taken c.args.outlet.now in
+    let new = g.O.Outlet.taken c.push_all.new.outlet in
+    let s = c.args.setting.now in
+    let xs = c.requires.seam.0 in
+    push_within s (behind s xs now) new c.push_all.new.self c.stopped-in-Err.result.report c.in-Err.fault xs c.args.bytes.now (λ ys k. c.stopped-in-Err.ensures.told s ys k)
+    (c.in-Err.ensures.did (behind s xs now) xs (c.resume-encoding.ensures now xs c.requires.seam.1))
+
+pub returns-then-bytes-width-gt0-clause-bounds : goal.returns-then-bytes-width-gt0-clause-bounds
+returns-then-bytes-width-gt0-clause-bounds g c =
+    let now = g.O.Outlet.taken c.args.outlet.now in
+    let s = c.args.setting.now in
+    let xs = c.requires.seam.0 in
+    let t = c.in-Ok.ensures.did (behind s xs now) xs (c.resume-encoding.ensures now xs c.requires.seam.1) in
+    let k = t.holds.counts in
+    within_early s c.stopped-then-bytes-width-gt0.result.report (xs ++ t.more) (settled_by s c.push_all.new.self (xs ++ t.more) k) (c.stopped-then-bytes-width-gt0.ensures.told s (xs ++ t.more) k)
+
+pub returns-clause-bounds : goal.returns-clause-bounds
+returns-clause-bounds g c =
+    let now = g.O.Outlet.taken c.args.outlet.now in
+    let s = c.args.setting.now in
+    let xs = c.requires.seam.0 in
+    let t = c.in-Ok.ensures.did (behind s xs now) xs (c.resume-encoding.ensures now xs c.requires.seam.1) in
+    let did = c.finish.ensures.did s (behind s xs now) (xs ++ t.more) t.holds in
+    within_all s c.finish.result.report (xs ++ t.more) (settled_by s c.push_all.new.self (xs ++ t.more) t.holds.counts) did.0
