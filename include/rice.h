@@ -80,8 +80,8 @@ uint32_t rice_sample_width(const struct rice_setting *setting);
  * there are more than 2^48 samples. */
 uint64_t rice_code_room(const struct rice_setting *setting, uint64_t samples);
 
-/* The report of rice_encode, or of rice_finish, never has more steps for so many samples. 0 as above. A report of decoding never has more
- * than 2 * bits + samples. */
+/* The report of rice_encode, or of rice_finish, never has more steps for so many samples. 0 as above. A report of decoding
+ * never has more than 2 * bits + samples. */
 uint64_t rice_step_bound(const struct rice_setting *setting, uint64_t samples);
 
 /* Encodes the samples at `samples`, which has `samples_len` bytes, to `code`, which has `code_room` bytes. Returns a
