@@ -1,16 +1,20 @@
 /*
  * rice.h - lossless compression of samples by the adaptive Rice coder of CCSDS 121.0-B-3.
  *
- * The library encodes and decodes from memory to memory. It allocates nothing, keeps nothing between calls, calls nothing
- * but memcpy, memmove and memset, and writes nowhere but in the memory that it is given, whatever the bytes are.
+ * The library encodes and decodes from memory to memory. It allocates nothing, keeps nothing between calls but what a feed
+ * of the caller's holds, calls nothing but memcpy, memmove and memset, and writes nowhere but in the memory that it is
+ * given, whatever the bytes are.
  * Calls may run in several threads at once, each with an output and a report of its own.
  *
  * What a caller has to keep, and nothing checks:
- *   - a pointer to a setting or a report points to one, and each bool of a setting is true or false;
+ *   - a pointer to a setting, a feed or a report points to one, and each bool of a setting is true or false;
+ *   - a feed is zeros, or another feed, before rice_begin; rice_push and rice_finish are given one that is as rice_begin or
+ *     the last rice_push left it, or a copy of such a one;
  *   - a pointer to bytes and its length name memory that is there, at most PTRDIFF_MAX bytes, and every byte of it has a value,
  *     that of the output too: write it once before, by calloc or memset for example. The pointer is not NULL, not even with the
  *     length 0, where it may point to any byte;
- *   - the output and the report overlap with nothing else that the call is given, and nobody else touches them meanwhile;
+ *   - the output, the report, and the feed where a call changes it, overlap with nothing else that the call is given, and
+ *     nobody else touches them meanwhile;
  *   - the stack has the room stated below.
  *
  * What the library holds while a call runs is on the stack, and is the same whatever the input: RICE_ENCODE_STACK bytes are
@@ -27,7 +31,7 @@
 extern "C" {
 #endif
 
-enum { RICE_ENCODE_STACK = 48 * 1024, RICE_DECODE_STACK = 12 * 1024 };
+enum { RICE_ENCODE_STACK = 48 * 1024, RICE_DECODE_STACK = 12 * 1024, RICE_FEED_SIZE = 72 };
 
 /* What coder and decoder are set to. The code doesn't say it: decode with the setting that encoded. */
 struct rice_setting {
@@ -76,8 +80,8 @@ uint32_t rice_sample_width(const struct rice_setting *setting);
  * there are more than 2^48 samples. */
 uint64_t rice_code_room(const struct rice_setting *setting, uint64_t samples);
 
-/* The report of rice_encode never has more steps for so many samples. 0 as above. A report of decoding never has more
- * than 2 * bits + samples. */
+/* The report of rice_encode, or of rice_finish, never has more steps for so many samples. 0 as above. A report of decoding
+ * never has more than 2 * bits + samples. */
 uint64_t rice_step_bound(const struct rice_setting *setting, uint64_t samples);
 
 /* Encodes the samples at `samples`, which has `samples_len` bytes, to `code`, which has `code_room` bytes. Returns a
@@ -105,6 +109,44 @@ uint32_t rice_decode(const struct rice_setting *setting, uint64_t count, const u
  * last run of blocks: fewer than a segment. RICE_DONE where no 1 is left in the code. */
 uint32_t rice_decode_all(const struct rice_setting *setting, const uint8_t *code, size_t code_len, uint8_t *samples,
                          size_t samples_room, struct rice_report *report);
+
+/* A coder that is fed piece by piece, in memory of the caller's own, RICE_FEED_SIZE bytes: its setting, and where its code ends.
+ * It keeps no samples: those of a segment that is not whole yet stay with the caller. It may be copied and kept, to go on
+ * from there again. Read its numbers, and write none. */
+struct rice_feed {
+    struct rice_setting setting;
+    uint64_t samples;      /* the samples taken so far, which make whole segments */
+    uint64_t bits;         /* the bits of their code, without padding */
+    uint64_t steps;        /* the work so far */
+    int64_t previous;      /* the last sample, or 0 */
+    uint32_t start;        /* the place in its interval of the block that comes next */
+    uint32_t waiting;      /* the bits of the byte of code that is not whole, as a number */
+    uint32_t waiting_bits; /* how many these are, 0 to 7 */
+};
+
+/* Begins a code of no samples. Returns RICE_DONE; or RICE_BAD_..., and the feed is as it was. */
+uint32_t rice_begin(const struct rice_setting *setting, struct rice_feed *feed);
+
+/* Gives the feed the samples at `samples`, which has `samples_len` bytes: those that come behind the `feed->samples` samples
+ * taken so far. It takes all that make whole segments (64 blocks, or the rest of an interval), counts them in
+ * `feed->samples`, and writes to `code` the bytes that their code completes. It takes none of the others, fewer than a
+ * segment: give them again, with more behind them. What it takes depends on the number of samples alone. `report` counts all samples since rice_begin,
+ * but for `written`, which counts the bytes of this call. Returns a status of enum rice_status:
+ *   RICE_DONE                 all of that is done. The bytes written by all calls are the front of what rice_encode writes.
+ *   RICE_SAMPLE_OUT_OF_RANGE  of a sample among those to take; `place` counts from rice_begin on.
+ *   RICE_NO_ROOM              the bytes don't fit.
+ *   RICE_TOO_LONG             more than 2^48 bytes of samples since rice_begin.
+ *   RICE_BAD_...              the feed has no legal setting.
+ * Unless RICE_DONE is returned the feed is as it was: forget what this call wrote, and give the samples again. */
+uint32_t rice_push(struct rice_feed *feed, const uint8_t *samples, size_t samples_len, uint8_t *code, size_t code_room,
+                   struct rice_report *report);
+
+/* Encodes the last samples, whether they make whole segments or not, and writes the rest of the code to `code`: with it the
+ * bytes written by all calls are those that rice_encode writes for all samples. `report` counts all samples since rice_begin,
+ * but for `written`. The feed stays as it is: finish a copy of the code, and go on feeding. Returns what rice_push returns, or
+ * RICE_INPUT_CUT. */
+uint32_t rice_finish(const struct rice_feed *feed, const uint8_t *samples, size_t samples_len, uint8_t *code,
+                     size_t code_room, struct rice_report *report);
 
 /* Returns what a status means, in words. */
 static inline const char *rice_status_text(uint32_t status) {

@@ -28,6 +28,16 @@ static void decode_all(void) {
     rice_decode_all(&setting, code, room, back, size, &report);
 }
 
+/* Two pieces: each has about half of the samples. */
+static void feed(void) {
+    struct rice_feed feed;
+    size_t half = size / 2 / rice_sample_width(&setting) * rice_sample_width(&setting);
+    if (rice_begin(&setting, &feed) != RICE_DONE) abort();
+    if (rice_push(&feed, samples, half, code, room, &report) != RICE_DONE) abort();
+    size_t taken = feed.samples * rice_sample_width(&setting);
+    if (rice_finish(&feed, samples + taken, size - taken, code, room, &report) != RICE_DONE) abort();
+}
+
 static void nothing(void) {
 }
 
@@ -76,9 +86,9 @@ static void fill(int kind) {
 }
 
 /* Runs all calls for all settings and kinds of samples, each on a stack of that size. Returns the most that one touched. */
-static void most(size_t limits[3], size_t found[3]) {
+static void most(size_t limits[4], size_t found[4]) {
     static const uint32_t blocks[] = {8, 16, 32, 64}, widths[] = {1, 8, 10, 16, 24, 32}, intervals[] = {1, 64, 4096};
-    void (*calls[])(void) = {encode, decode, decode_all};
+    void (*calls[])(void) = {feed, encode, decode, decode_all};
     for (int b = 0; b < 4; b++) for (int w = 0; w < 6; w++) for (int r = 0; r < 3; r++) for (int flags = 0; flags < 8; flags++) {
         setting = (struct rice_setting){widths[w], blocks[b], intervals[r], false, false, flags & 4, flags & 1, flags & 2};
         count = 3 * 4096 + 77;
@@ -86,7 +96,7 @@ static void most(size_t limits[3], size_t found[3]) {
         for (int kind = 0; kind < 3; kind++) {
             fill(kind);
             memset(code, 0, room);
-            for (int c = 0; c < 3; c++) {
+            for (int c = 0; c < 4; c++) {
                 size_t t = touched(calls[c], limits[c]);
                 if (t > found[c]) found[c] = t;
             }
@@ -97,12 +107,12 @@ static void most(size_t limits[3], size_t found[3]) {
 int main(void) {
     samples = malloc(1 << 20), code = malloc(1 << 20), back = malloc(1 << 20);
     if (!samples || !code || !back) return 2;
-    size_t limits[3] = {MOST, MOST, MOST}, found[3] = {0, 0, 0}, base = touched(nothing, MOST);
+    size_t limits[4] = {MOST, MOST, MOST, MOST}, found[4] = {0, 0, 0, 0}, base = touched(nothing, MOST);
     most(limits, found);
-    size_t decoding = found[1] > found[2] ? found[1] : found[2];
-    printf("encode %zu, decode %zu, of these %zu for a call that does nothing\n", found[0], decoding, base);
-    size_t stated[3] = {RICE_ENCODE_STACK, RICE_DECODE_STACK, RICE_DECODE_STACK};
+    size_t decoding = found[2] > found[3] ? found[2] : found[3];
+    printf("feed %zu, encode %zu, decode %zu, of these %zu for a call that does nothing\n", found[0], found[1], decoding, base);
+    size_t stated[4] = {RICE_ENCODE_STACK, RICE_ENCODE_STACK, RICE_DECODE_STACK, RICE_DECODE_STACK};
     most(stated, found);
-    printf("all calls run on stacks of %zu and %zu bytes\n", stated[0], stated[1]);
+    printf("all calls run on stacks of %zu and %zu bytes\n", stated[0], stated[2]);
     return 0;
 }

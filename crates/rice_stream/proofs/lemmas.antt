@@ -8,6 +8,7 @@ pub mod EncodingEnds
 pub mod EncodingLemmas
 pub mod PartLemmas
 pub mod ReturnedBytes
+pub mod Seams
 pub mod SetsRead
 pub mod SpellingLengths
 pub mod WholeBytes

@@ -17,6 +17,21 @@ use Rattle.rice_stream.specs.declared.outcome.Fault.TheVariants.{Write, SampleOu
 abbrev pub whole_part : List Bool → List Bool
 whole_part bits = take (bits_in_bytes (length bits)) bits
 
+-- The state of an outlet when it began, and the bytes of the same code that were written before.
+pub record Beginning : Type 0 where
+  pub before : List ℕ
+  pub state : Option Room
+
+-- nothing was written before
+abbrev pub afresh : Option Room → Beginning
+afresh state = record { before = []; state = state }
+
+-- these bytes are written: those that were before, and the others by the outlet
+pub record Follows (old : Beginning) (new : Option Room) (bytes : List ℕ) : Type 0 where
+  pub more : List ℕ
+  pub split : bytes ≡ old.before ++ more
+  pub took : Appends old.state new more
+
 -- an encoding has taken the samples, and counts them
 pub record CountsSamples (s : Parameters) (e : Encoding) (xs : List ℤ) : Type 0 where
   pub setting : e.coder.setting ≡ s
@@ -27,15 +42,15 @@ pub record CountsSamples (s : Parameters) (e : Encoding) (xs : List ℤ) : Type 
   pub most : e.meter ≤ length xs + most_steps s (complete_samples s xs)
 
 -- and an outlet has taken the whole bytes of what is coded since its state was `old`
-pub record IsEncodingOf (s : Parameters) (old new : Option Room) (e : Encoding) (xs : List ℤ) : Type 0 where
+pub record IsEncodingOf (s : Parameters) (old : Beginning) (new : Option Room) (e : Encoding) (xs : List ℤ) : Type 0 where
   pub counts : CountsSamples s e xs
   pub sink : e.sink ≡ drop (bits_in_bytes (length (complete_code s xs))) (complete_code s xs)
-  pub took : Appends old new (early_output s xs)
+  pub took : Follows old new (early_output s xs)
 
 -- an encoding whose code an outlet has taken so far can take these samples too
 pub record CanTake (taken : Option Room) (e : Encoding) (samples : List ℤ) : Type 0 where
   pub setting : Parameters
-  pub start : Option Room
+  pub start : Beginning
   pub before : List ℤ
   pub holds : IsEncodingOf setting start taken e before
   pub legal : All (IsSample setting) samples
@@ -53,13 +68,19 @@ pub record TakesBetween (old new : Option Room) (from to : List ℕ) : Type 0 wh
   pub stops : StopsBetween from to written
   pub took : Appends old new written
 
+-- the same where some were written before
+pub record FollowsBetween (old : Beginning) (new : Option Room) (from to : List ℕ) : Type 0 where
+  pub written : List ℕ
+  pub stops : StopsBetween from to written
+  pub took : Follows old new written
+
 -- an encoding has taken the samples and one more, and an outlet not all that it completes
-pub record FailsAt (s : Parameters) (old new : Option Room) (e : Encoding) (xs : List ℤ) (x : ℤ) : Type 0 where
+pub record FailsAt (s : Parameters) (old : Beginning) (new : Option Room) (e : Encoding) (xs : List ℤ) (x : ℤ) : Type 0 where
   pub counts : CountsSamples s e (xs ++ x ∷ [])
-  pub takes : TakesBetween old new (early_output s xs) (early_output s (xs ++ x ∷ []))
+  pub takes : FollowsBetween old new (early_output s xs) (early_output s (xs ++ x ∷ []))
 
 -- the outlet failed behind one of some samples
-pub record FailsIn (s : Parameters) (old new : Option Room) (e : Encoding) (xs samples : List ℤ) : Type 0 where
+pub record FailsIn (s : Parameters) (old : Beginning) (new : Option Room) (e : Encoding) (xs samples : List ℤ) : Type 0 where
   pub before : List ℤ
   pub last : ℤ
   pub behind : List ℤ
@@ -67,9 +88,9 @@ pub record FailsIn (s : Parameters) (old new : Option Room) (e : Encoding) (xs s
   pub fails : FailsAt s old new e (xs ++ before) last
 
 -- an outlet has taken the code of all samples, or not all of it
-abbrev pub WritesRest : Parameters → Option Room → Option Room → List ℤ → Option Fault → Type 0
-WritesRest s old new xs None = Appends old new (output s xs)
-WritesRest s old new xs (Some Write) = TakesBetween old new (early_output s xs) (output s xs)
+abbrev pub WritesRest : Parameters → Beginning → Option Room → List ℤ → Option Fault → Type 0
+WritesRest s old new xs None = Follows old new (output s xs)
+WritesRest s old new xs (Some Write) = FollowsBetween old new (early_output s xs) (output s xs)
 WritesRest s old new xs (Some _) = ⊥
 
 -- bytes that spell samples, and what is behind them
@@ -78,7 +99,7 @@ pub record Reads (s : Parameters) (bytes : List ℕ) (samples : List ℤ) (rest 
   pub legal : All (IsSample s) samples
 
 -- an encoding that held xs takes what the bytes spell
-pub record TakesAll (s : Parameters) (old new : Option Room) (e : Encoding) (xs : List ℤ) (bytes : List ℕ) : Type 0 where
+pub record TakesAll (s : Parameters) (old : Beginning) (new : Option Room) (e : Encoding) (xs : List ℤ) (bytes : List ℕ) : Type 0 where
   pub more : List ℤ
   pub rest : List ℕ
   pub reads : Reads s bytes more rest
@@ -86,7 +107,7 @@ pub record TakesAll (s : Parameters) (old new : Option Room) (e : Encoding) (xs 
   pub holds : IsEncodingOf s old new e (xs ++ more)
 
 -- it meets bytes that spell no sample
-pub record MeetsNoSpelling (s : Parameters) (old new : Option Room) (e : Encoding) (xs : List ℤ) (bytes : List ℕ) : Type 0 where
+pub record MeetsNoSpelling (s : Parameters) (old : Beginning) (new : Option Room) (e : Encoding) (xs : List ℤ) (bytes : List ℕ) : Type 0 where
   pub more : List ℤ
   pub rest : List ℕ
   pub reads : Reads s bytes more rest
@@ -94,7 +115,7 @@ pub record MeetsNoSpelling (s : Parameters) (old new : Option Room) (e : Encodin
   pub holds : IsEncodingOf s old new e (xs ++ more)
 
 -- the outlet fails behind one of the samples
-pub record MeetsFailure (s : Parameters) (old new : Option Room) (e : Encoding) (xs : List ℤ) (bytes : List ℕ) : Type 0 where
+pub record MeetsFailure (s : Parameters) (old : Beginning) (new : Option Room) (e : Encoding) (xs : List ℤ) (bytes : List ℕ) : Type 0 where
   pub more : List ℤ
   pub last : ℤ
   pub rest : List ℕ
@@ -102,7 +123,7 @@ pub record MeetsFailure (s : Parameters) (old new : Option Room) (e : Encoding) 
   pub fails : FailsAt s old new e (xs ++ more) last
 
 -- what becomes of the samples of some bytes, and of the outlet's failures
-abbrev pub Pushes : {T : Type 0} → Parameters → Option Room → Option Room → Encoding → List ℤ → List ℕ → Result T Fault → Type 0
+abbrev pub Pushes : {T : Type 0} → Parameters → Beginning → Option Room → Encoding → List ℤ → List ℕ → Result T Fault → Type 0
 Pushes s old new e xs bytes (Ok _) = TakesAll s old new e xs bytes
 Pushes s old new e xs bytes (Err (SampleOutOfRange index)) = MeetsNoSpelling s old new e xs bytes × (index ≡ e.samples)
 Pushes s old new e xs bytes (Err Write) = MeetsFailure s old new e xs bytes
@@ -122,7 +143,7 @@ pub record EncodingProgress (s : Parameters) (left_old left : Option (List ℕ))
   pub limit : given ≤ 2 ^ 48
   pub few : waiting < width s
   pub gave : Consumes left_old left bytes
-  pub holds : IsEncodingOf s taken_old taken e samples
+  pub holds : IsEncodingOf s (afresh taken_old) taken e samples
 
 -- Bytes were put behind those that wait in a buffer.
 pub record Refills (left_old left_new : Option (List ℕ)) (old new : List ℕ) (waiting count : ℕ) : Type 0 where

@@ -3,5 +3,6 @@ pub mod Decodes
 pub mod DecodingState
 pub mod Encodes
 pub mod EncodingState
+pub mod Feeding
 pub mod Laws
 pub mod Writes

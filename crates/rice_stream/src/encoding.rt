@@ -7,24 +7,27 @@ ghost use Rattle.rice_bits.specs.Bits.{bits_in_bytes, padded_bits};
 ghost use Rattle.rice_samples.specs.Parameters.{Parameters, IsSample, width};
 ghost use Rattle.rice_stream.specs.Calls.{Call, Happens, Fails};
 ghost use Rattle.rice_stream.specs.Encodes.{Encodes, EncodesWithin, ReportsTaken, ReportsAll};
-ghost use Rattle.rice_stream.specs.EncodingState.{whole_part, CanTake, Refills, TakesSamples, CountsSamples, IsEncodingOf, FailsIn, WritesRest, Pushes, PushFails};
+ghost use Rattle.rice_stream.specs.EncodingState.{Beginning, afresh, whole_part, CanTake, Refills, TakesSamples, CountsSamples, IsEncodingOf, FailsIn, WritesRest, Pushes, PushFails};
+ghost use Rattle.rice_samples.specs.Places.{cut};
+ghost use Rattle.rice_stream.specs.Feeding.{IsSeam, behind};
 ghost use Rattle.rice_code.specs.code.Code.{code};
 ghost use Rattle.rice_code.specs.encode.Coder.{complete_code};
 
 use crate::outcome::{Fault, Outcome, Report};
+use crate::seam::{Seam, waiting_number};
 use crate::write::write_whole;
 use rice_bits::{BitSink, Intake, Meter, Outlet, ReadFault, WriteFault};
 use rice_code::Coder;
 use rice_samples::{Setting, samples_of};
 
 /// The limit of the input, in bytes.
-const LIMIT: u64 = 1 << 48;
+pub(crate) const LIMIT: u64 = 1 << 48;
 
 /// The size of a read, in bytes.
 const PIECE: usize = 4096;
 
 /// The number of samples that are taken from bytes at a time.
-const SAMPLES: usize = 512;
+pub(crate) const SAMPLES: usize = 512;
 
 /// A coder with its sink, its meter, and what it has counted for the report.
 #[derive(Drop)]
@@ -39,7 +42,7 @@ pub struct Encoding {
 impl Encoding {
     /// Returns an encoding that has taken no sample.
     fn new(setting: Setting) -> Self
-        ensures { (now : Option Room) → IsEncodingOf setting now now result [] }
+        ensures { (now : Option Room) → IsEncodingOf setting (afresh now) now result [] }
     {
         Encoding {
             coder: Coder::new(setting),
@@ -50,13 +53,60 @@ impl Encoding {
         }
     }
 
+    /// Returns an encoding that goes on behind the code of whole segments.
+    pub(crate) fn resume(setting: Setting, seam: &Seam) -> Self
+        requires { (xs : List ℤ) × IsSeam setting seam.now xs }
+        ensures { (now : Option Room) (xs : List ℤ) → IsSeam setting seam.now xs →
+            IsEncodingOf setting (behind setting xs now) now result xs }
+    {
+        let mut sink = BitSink::new();
+        let mut aside = Meter::new();
+        sink.put(seam.waiting, seam.waiting_bits, &mut aside);
+        let mut meter = Meter::new();
+        meter.tick(seam.steps);
+        Encoding {
+            coder: Coder::resume(setting, seam.start, seam.previous),
+            sink,
+            meter,
+            samples: seam.samples,
+            bits: seam.bits,
+        }
+    }
+
+    /// Returns where the code ends, if the samples so far make whole segments. The bits that wait are then in the seam alone.
+    pub(crate) fn seam(&mut self) -> Seam
+        requires { length self.old.sink < 8 }
+        ensures { (s : Parameters) (old : Beginning) (now : Option Room) (xs : List ℤ) →
+            IsEncodingOf s old now self.old xs → cut s (length xs) ≡ length xs →
+            width s * length xs ≤ 2 ^ 48 → IsSeam s result xs }
+    {
+        let waiting_bits = self.sink.len() as u32;
+        let waiting = waiting_number(&mut self.sink);
+        Seam {
+            samples: self.samples,
+            bits: self.bits,
+            steps: self.meter.steps(),
+            previous: self.coder.previous(),
+            start: self.coder.start(),
+            waiting,
+            waiting_bits,
+        }
+    }
+
+    /// Returns the number of samples taken so far.
+    pub(crate) fn taken(&self) -> u64
+        ensures { result ≡ self.now.samples }
+    {
+        self.samples
+    }
+
     /// Takes samples up to the one that completes a segment, or all of them, and returns their number.
     #[inline]
     fn take(&mut self, samples: &[i64]) -> usize
         requires ready { (now : Option Room) × CanTake now self.old samples.now }
         ensures count { result ≤ length samples.now }
         ensures some { 0 < length samples.now → 0 < result }
-        ensures took { (s : Parameters) (old now : Option Room) (xs : List ℤ) →
+        ensures took { (s : Parameters) (old : Beginning) (now : Option Room) (xs : List ℤ) →
             IsEncodingOf s old now self.old xs →
             TakesSamples s self.new xs (take result samples.now) }
     {
@@ -74,11 +124,11 @@ impl Encoding {
         requires some { 0 < length samples.now }
         requires writes { O.failed outlet.old + 1 < 2 ^ 64 }
         ensures count { IfOk result (λ n. (0 < n) × (n ≤ length samples.now)) }
-        ensures ok { IfOk result (λ n. (s : Parameters) (old : Option Room) (xs : List ℤ) →
+        ensures ok { IfOk result (λ n. (s : Parameters) (old : Beginning) (xs : List ℤ) →
             IsEncodingOf s old (O.taken outlet.old) self.old xs →
             IsEncodingOf s old (O.taken outlet.new) self.new (xs ++ take n samples.now)) }
         ensures calm { OnOk result (O.failed outlet.new ≡ O.failed outlet.old) }
-        ensures err { OnErr result ((s : Parameters) (old : Option Room) (xs : List ℤ) →
+        ensures err { OnErr result ((s : Parameters) (old : Beginning) (xs : List ℤ) →
             IsEncodingOf s old (O.taken outlet.old) self.old xs →
             FailsIn s old (O.taken outlet.new) self.new xs samples.now) }
         ensures raised { OnErr result (O.failed outlet.new ≡ O.failed outlet.old + 1) }
@@ -97,11 +147,11 @@ impl Encoding {
     fn push_each<O: Outlet>(&mut self, samples: &[i64], outlet: &mut O) -> Result<(), WriteFault>
         requires ready { CanTake (O.taken outlet.old) self.old samples.now }
         requires writes { O.failed outlet.old + 1 < 2 ^ 64 }
-        ensures ok { OnOk result ((s : Parameters) (old : Option Room) (xs : List ℤ) →
+        ensures ok { OnOk result ((s : Parameters) (old : Beginning) (xs : List ℤ) →
             IsEncodingOf s old (O.taken outlet.old) self.old xs →
             IsEncodingOf s old (O.taken outlet.new) self.new (xs ++ samples.now)) }
         ensures calm { OnOk result (O.failed outlet.new ≡ O.failed outlet.old) }
-        ensures err { OnErr result ((s : Parameters) (old : Option Room) (xs : List ℤ) →
+        ensures err { OnErr result ((s : Parameters) (old : Beginning) (xs : List ℤ) →
             IsEncodingOf s old (O.taken outlet.old) self.old xs →
             FailsIn s old (O.taken outlet.new) self.new xs samples.now) }
         ensures raised { OnErr result (O.failed outlet.new ≡ O.failed outlet.old + 1) }
@@ -124,12 +174,12 @@ impl Encoding {
         samples: &mut [i64],
         outlet: &mut O,
     ) -> Result<(), Fault>
-        requires ready { (old : Option Room) × (xs : List ℤ) ×
+        requires ready { (old : Beginning) × (xs : List ℤ) ×
             IsEncodingOf setting.now old (O.taken outlet.old) self.old xs ×
             (length xs + length bytes.now ≤ 2 ^ 48) }
         requires room { length bytes.now ≤ width setting.now * length samples.old }
         requires writes { O.failed outlet.old + 1 < 2 ^ 64 }
-        ensures did { (old : Option Room) (xs : List ℤ) →
+        ensures did { (old : Beginning) (xs : List ℤ) →
             IsEncodingOf setting.now old (O.taken outlet.old) self.old xs →
             Pushes setting.now old (O.taken outlet.new) self.new xs bytes.now result }
         ensures failures { PushFails (O.failed outlet.old) (O.failed outlet.new) result }
@@ -152,19 +202,19 @@ impl Encoding {
 
     /// Takes the samples that the bytes spell, some at a time, and writes the bytes that they complete. A last sample that is
     /// cut is left. `samples` is scratch space.
-    fn push_all<O: Outlet>(
+    pub(crate) fn push_all<O: Outlet>(
         &mut self,
         setting: &Setting,
         bytes: &[u8],
         samples: &mut [i64],
         outlet: &mut O,
     ) -> Result<(), Fault>
-        requires ready { (old : Option Room) × (xs : List ℤ) ×
+        requires ready { (old : Beginning) × (xs : List ℤ) ×
             IsEncodingOf setting.now old (O.taken outlet.old) self.old xs ×
             (length xs + length bytes.now ≤ 2 ^ 48) }
         requires some { (0 < length samples.old) × (length samples.old ≤ 2 ^ 48) }
         requires writes { O.failed outlet.old + 1 < 2 ^ 64 }
-        ensures did { (old : Option Room) (xs : List ℤ) →
+        ensures did { (old : Beginning) (xs : List ℤ) →
             IsEncodingOf setting.now old (O.taken outlet.old) self.old xs →
             Pushes setting.now old (O.taken outlet.new) self.new xs bytes.now result }
         ensures failures { PushFails (O.failed outlet.old) (O.failed outlet.new) result }
@@ -184,9 +234,9 @@ impl Encoding {
 
     /// Codes the samples that wait, fills the last byte, and returns the report. The sink then holds the rest of the code.
     fn close(&mut self) -> Report
-        requires { (s : Parameters) × (old : Option Room) × (now : Option Room) ×
+        requires { (s : Parameters) × (old : Beginning) × (now : Option Room) ×
             (xs : List ℤ) × IsEncodingOf s old now self.old xs × (length xs ≤ 2 ^ 48) }
-        ensures { (s : Parameters) (old now : Option Room) (xs : List ℤ) →
+        ensures { (s : Parameters) (old : Beginning) (now : Option Room) (xs : List ℤ) →
             IsEncodingOf s old now self.old xs →
             ReportsAll s result xs × (padded_bits (code s xs) ≡ whole_part (complete_code s xs) ++
             self.new.sink) }
@@ -202,11 +252,11 @@ impl Encoding {
     }
 
     /// Codes the samples that wait, fills the last byte, and writes the rest of the code.
-    fn finish<O: Outlet>(&mut self, outlet: &mut O) -> Outcome
-        requires ready { (s : Parameters) × (old : Option Room) × (xs : List ℤ) ×
+    pub(crate) fn finish<O: Outlet>(&mut self, outlet: &mut O) -> Outcome
+        requires ready { (s : Parameters) × (old : Beginning) × (xs : List ℤ) ×
             IsEncodingOf s old (O.taken outlet.old) self.old xs × (length xs ≤ 2 ^ 48) }
         requires writes { O.failed outlet.old + 1 < 2 ^ 64 }
-        ensures did { (s : Parameters) (old : Option Room) (xs : List ℤ) →
+        ensures did { (s : Parameters) (old : Beginning) (xs : List ℤ) →
             IsEncodingOf s old (O.taken outlet.old) self.old xs →
             ReportsAll s result.report xs × WritesRest s old (O.taken outlet.new) xs result.fault }
         ensures failures { Fails result.fault 0 0 (O.failed outlet.old) (O.failed outlet.new) }
@@ -220,7 +270,7 @@ impl Encoding {
     }
 
     /// Returns what was done up to a fault.
-    fn stopped(&self, fault: Fault) -> Outcome
+    pub(crate) fn stopped(&self, fault: Fault) -> Outcome
         ensures told { (s : Parameters) (xs : List ℤ) → CountsSamples s self.now xs →
             ReportsTaken s result.report xs }
         ensures fault { result.fault ≡ Some fault }

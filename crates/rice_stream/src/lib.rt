@@ -4,10 +4,14 @@
 
 pub mod decoding;
 pub mod encoding;
+pub mod feeding;
 pub mod laws;
 pub mod outcome;
+pub mod seam;
 mod write;
 
 pub use decoding::decode;
 pub use encoding::encode;
+pub use feeding::{encode_more, encode_rest};
 pub use outcome::{Fault, Outcome, Report};
+pub use seam::Seam;

@@ -41,6 +41,10 @@ is_empty (d ∷ ds) = false
 abbrev pub empty_state : Parameters → CoderState
 empty_state s = record { setting = s; residuals = []; reference = None; previous = pos 0; start = 0 }
 
+-- one that holds nothing where the next segment begins at the place `start`, behind the sample p
+abbrev pub state_between : Parameters → ℕ → ℤ → CoderState
+state_between s start p = record { setting = s; residuals = []; reference = None; previous = p; start = start }
+
 -- no sample is held, and an interval begins
 abbrev pub is_first : CoderState → Bool
 is_first coder = is_empty coder.residuals && coder.start == 0

@@ -41,6 +41,7 @@ impl Model for Coder {
 }
 
 impl Coder {
+    ghost use Rattle.rice_code.specs.encode.OpenSegment.{state_between};
     ghost use Rattle.rice_code.specs.encode.Coder.{HasTaken, AddsCode, PushesSamples, CompletesNone, CompletesAll, fill_samples, complete_samples};
 
     /// Returns a coder that has taken no samples.
@@ -52,6 +53,31 @@ impl Coder {
         Coder {
             segment: OpenSegment::new(setting),
         }
+    }
+
+    /// Returns a coder that goes on behind whole segments: its next segment begins at the place `start` of
+    /// its interval, and the last sample before it is `previous`.
+    pub fn resume(setting: Setting, start: u32, previous: i64) -> Self
+        requires { (xs : List ℤ) × HasTaken (state_between setting start previous) xs }
+        ensures { result ≡ state_between setting start previous }
+    {
+        Coder {
+            segment: OpenSegment::resume(setting, start, previous),
+        }
+    }
+
+    /// Returns the place in its interval at which the segment begins that is not whole yet.
+    pub fn start(&self) -> u32
+        ensures { result ≡ self.now.start }
+    {
+        self.segment.start()
+    }
+
+    /// Returns the last sample that it has taken, or 0.
+    pub fn previous(&self) -> i64
+        ensures { result ≡ self.now.previous }
+    {
+        self.segment.previous()
     }
 
     /// Returns the number of samples whose segment is not whole yet: fewer than 64 blocks of them.

@@ -5,7 +5,7 @@ ghost use Rattle.rice_samples.specs.Parameters.{IsLegal, IsSample};
 ghost use Rattle.rice_samples.specs.Places.{blocks_left};
 ghost use Rattle.rice_samples.specs.predict.Residuals.{pattern, rank};
 ghost use Rattle.rice_code.specs.Steps.{coding_steps};
-ghost use Rattle.rice_code.specs.encode.OpenSegment.{IsWhole, empty_state, state_after, state_after_all, state_with_later, later_residuals, state_with_fill, fill_count, state_after_segment, HoldsSoundBlocks, CodesHeld, is_first};
+ghost use Rattle.rice_code.specs.encode.OpenSegment.{IsOpen, IsWhole, empty_state, state_between, state_after, state_after_all, state_with_later, later_residuals, state_with_fill, fill_count, state_after_segment, HoldsSoundBlocks, CodesHeld, is_first};
 
 use crate::encode::SegmentSink;
 use crate::encode::blocks::code_blocks;
@@ -54,6 +54,39 @@ impl OpenSegment {
             start: 0,
             end,
         }
+    }
+
+    /// Returns the segment that begins at the place `start` of its interval, behind the sample `previous`, without residuals.
+    pub fn resume(setting: Setting, start: u32, previous: i64) -> Self
+        requires { IsOpen (state_between setting start previous) (setting.block *
+            blocks_left setting start) }
+        ensures { result ≡ state_between setting start previous }
+    {
+        let end = residuals_from(&setting, start);
+        OpenSegment {
+            setting,
+            residuals: Segment::new(),
+            reference: None,
+            previous,
+            start,
+            end,
+        }
+    }
+
+    /// Returns the place in its interval of its first block.
+    #[inline]
+    pub fn start(&self) -> u32
+        ensures { result ≡ self.now.start }
+    {
+        self.start
+    }
+
+    /// Returns the sample before the next.
+    #[inline]
+    pub fn previous(&self) -> i64
+        ensures { result ≡ self.now.previous }
+    {
+        self.previous
     }
 
     /// Returns the number of residuals.

@@ -11,7 +11,7 @@ use Rattle.rice_bits.specs.device.Outlet.{Room}
 use Rattle.rice_samples.specs.Parameters.{Parameters, IsSample, width}
 use Rattle.rice_samples.specs.bytes.Spelling.{Spells, spellings, AtEnd, NoSpelling, TooFew}
 use Rattle.rice_stream.specs.Calls.{Call, Happens, Fails, PassesLimit, StopsBetween}
-use Rattle.rice_stream.specs.EncodingState.{CountsSamples, WritesRest, Reads, EncodingProgress, TakesAll, MeetsNoSpelling, MeetsFailure, Pushes, PushFails, Refills}
+use Rattle.rice_stream.specs.EncodingState.{Beginning, afresh, CountsSamples, WritesRest, Reads, EncodingProgress, TakesAll, MeetsNoSpelling, MeetsFailure, Pushes, PushFails, Refills}
 use Rattle.rice_stream.specs.Encodes.{Encodes, EndsEncoding, EncodesWithin, ReportsTaken, ReportsAll, LeavesEarly, SpellsSoFar}
 use Rattle.rice_code.specs.code.Code.{code_bits, output, early_output}
 use Rattle.rice_code.specs.encode.Coder.{complete_samples}
@@ -20,7 +20,7 @@ use Rattle.rice_stream.specs.declared.outcome.Report.{Report}
 use Rattle.rice_stream.specs.declared.outcome.Fault.{Fault}
 use Rattle.rice_stream.specs.declared.outcome.Fault.TheVariants.{Read, Write, TooLong, SampleOutOfRange, SampleCut, CodeEnds, RunPastSegment, ResidualTooLarge}
 use Rattle.rice_stream.proofs.lemmas.BoundLemmas.{Settles, early_bounded, all_bounded}
-use Rattle.rice_stream.proofs.lemmas.EncodingLemmas.{settled_by}
+use Rattle.rice_stream.proofs.lemmas.EncodingLemmas.{Follows-all, settled_by}
 use Rattle.rice_stream.proofs.lemmas.SpellingLengths.{length-spellings, spellings-append}
 
 pub within_early : (s : Parameters) (r : Report) (xs : List ℤ) → Settles s xs → ReportsTaken s r xs → EncodesWithin s r
@@ -73,7 +73,7 @@ read_ends s left_old left mid taken_old taken e given waiting buffer r f runs ke
     let t = told xs runs.holds.counts in
     let ends : EndsEncoding s (Some Read) c r xs = (spelled_so_far s runs.bytes xs (take waiting buffer) runs.reads few, leaves s r xs runs.bytes left t) in (
       c,
-      record { gave = Consumes-kept left_old mid left runs.bytes runs.gave keeps; left = refl; took = runs.holds.took },
+      record { gave = Consumes-kept left_old mid left runs.bytes runs.gave keeps; left = refl; took = Follows-all taken_old taken _ runs.holds.took },
       subst (λ (f : Option Fault). Encodes s c r f) (sym is) (record {
         samples = xs;
         ends = ends;
@@ -93,7 +93,7 @@ cut_ends s left_old left mid taken_old taken e given waiting buffer r f runs gav
     let ends : EndsEncoding s (Some (SampleCut e.samples)) c r xs = (spells, end, runs.holds.counts.samples, leaves s r xs runs.bytes left t) in
     let all = Consumes-trans left_old mid left runs.bytes [] runs.gave gave in (
       c,
-      record { gave = subst (λ (l : List ℕ). Consumes left_old left l) (append-nil runs.bytes) all; left = refl; took = runs.holds.took },
+      record { gave = subst (λ (l : List ℕ). Consumes left_old left l) (append-nil runs.bytes) all; left = refl; took = Follows-all taken_old taken _ runs.holds.took },
       subst (λ (f : Option Fault). Encodes s c r f) (sym is) (record {
         samples = xs;
         ends = ends;
@@ -114,7 +114,7 @@ long_ends s left_old left mid taken_old taken e given waiting buffer r f more ru
     let passes : PassesLimit 281474976710656 (runs.bytes ++ more) runs.bytes = record { last = last.0; split = ap (λ l. runs.bytes ++ l) last.1; full = omega (arith, runs.count, runs.limit, full) } in
     let ends : EndsEncoding s (Some TooLong) c r xs = ((runs.bytes, passes, so_far), leaves s r xs (runs.bytes ++ more) left t) in (
       c,
-      record { gave = Consumes-trans left_old mid left runs.bytes more runs.gave gave; left = refl; took = runs.holds.took },
+      record { gave = Consumes-trans left_old mid left runs.bytes more runs.gave gave; left = refl; took = Follows-all taken_old taken _ runs.holds.took },
       subst (λ (f : Option Fault). Encodes s c r f) (sym is) (record {
         samples = xs;
         ends = ends;
@@ -131,7 +131,7 @@ long_ends s left_old left mid taken_old taken e given waiting buffer r f more ru
 
 -- all samples were given, and their code is written or not
 pub finish_ends : (s : Parameters) (left_old left mid : Option (List ℕ)) (taken_old taken new : Option Room) (e : Encoding) (given waiting : ℕ) (buffer : List ℕ) (r : Report) (f : Option Fault) → (runs : EncodingProgress s left_old mid taken_old taken e given waiting buffer) →
-    Consumes mid left [] → IsAtEnd left → 1 ≤ width s → take waiting buffer ≡ [] → ReportsAll s r runs.samples → WritesRest s taken_old new runs.samples f →
+    Consumes mid left [] → IsAtEnd left → 1 ≤ width s → take waiting buffer ≡ [] → ReportsAll s r runs.samples → WritesRest s (afresh taken_old) new runs.samples f →
     (c : Call) × Happens left_old left taken_old new c × Encodes s c r f
 finish_ends s left_old left mid taken_old taken new e given waiting buffer r f runs gave end some none closes finishes = by_fault f finishes
   where
@@ -153,10 +153,10 @@ finish_ends s left_old left mid taken_old taken new e given waiting buffer r f r
     no_more : length runs.bytes ≤ r.samples * width s + 4096
     no_more = given_ahead s runs.bytes (take waiting buffer) xs r.samples runs.reads.split (omega (arith, ap length none)) closes.samples
 
-    by_fault : (f : Option Fault) → WritesRest s taken_old new xs f → (c : Call) × Happens left_old left taken_old new c × Encodes s c r f
+    by_fault : (f : Option Fault) → WritesRest s (afresh taken_old) new xs f → (c : Call) × Happens left_old left taken_old new c × Encodes s c r f
     by_fault None took = (
       record { given = runs.bytes; left = left; written = output s xs },
-      record { gave = all; left = refl; took = took },
+      record { gave = all; left = refl; took = Follows-all taken_old new _ took },
       record {
         samples = xs;
         ends = (spells, end, record { written = refl; reports = closes });
@@ -166,7 +166,7 @@ finish_ends s left_old left mid taken_old taken new e given waiting buffer r f r
     )
     by_fault (Some Write) part = (
       record { given = runs.bytes; left = left; written = part.written },
-      record { gave = all; left = refl; took = part.took },
+      record { gave = all; left = refl; took = Follows-all taken_old new _ part.took },
       record {
         samples = xs;
         ends = (ahead (width s) (length xs) (length runs.bytes) r.samples count closes.samples, inr (record { given = spells; end = end; reports = closes; stops = part.stops }));
@@ -184,7 +184,7 @@ finish_ends s left_old left mid taken_old taken new e given waiting buffer r f r
 
 -- the samples of the bytes in hand are taken, as far as that goes
 pub push_ends : (s : Parameters) (left_old left : Option (List ℕ)) (taken_old taken : Option Room) (e : Encoding) (r : Report) (f : Fault) (g : Option Fault) (xs : List ℤ) (given bytes : List ℕ) → given ≡ spellings s xs ++ bytes → All (IsSample s) xs →
-    Consumes left_old left given → length given ≤ 281474976710656 → length bytes ≤ 4096 → 1 ≤ width s → ((ys : List ℤ) → CountsSamples s e ys → ReportsTaken s r ys) → g ≡ Some f → Pushes {T = Unit {0}} s taken_old taken e xs bytes (Err f) →
+    Consumes left_old left given → length given ≤ 281474976710656 → length bytes ≤ 4096 → 1 ≤ width s → ((ys : List ℤ) → CountsSamples s e ys → ReportsTaken s r ys) → g ≡ Some f → Pushes {T = Unit {0}} s (afresh taken_old) taken e xs bytes (Err f) →
     (c : Call) × Happens left_old left taken_old taken c × Encodes s c r g
 push_ends s left_old left taken_old taken e r f g xs given bytes split legal gave limit few some told is pushes =
     let result = by_fault f pushes in
@@ -197,13 +197,13 @@ push_ends s left_old left taken_old taken e r f g xs given bytes split legal gav
     joined more rest e =
         split ∙ ap (λ l. spellings s xs ++ l) e ∙ sym (append_assoc (spellings s xs) (spellings s more) rest) ∙ ap (λ l. l ++ rest) (sym (spellings-append s xs more))
 
-    out_of_range : (index : ℕ) → MeetsNoSpelling s taken_old taken e xs bytes → index ≡ e.samples → Ends (SampleOutOfRange index)
+    out_of_range : (index : ℕ) → MeetsNoSpelling s (afresh taken_old) taken e xs bytes → index ≡ e.samples → Ends (SampleOutOfRange index)
     out_of_range index m same =
         let ys = xs ++ m.more in
         let t = told ys m.holds.counts in
         let spells : Spells s given ys NoSpelling = record { rest = m.rest; whole = joined m.more m.rest m.reads.split; legal = All-append (IsSample s) xs m.more legal m.reads.legal; stops = m.none } in (
           record { given = given; left = left; written = early_output s ys },
-          record { gave = gave; left = refl; took = m.holds.took },
+          record { gave = gave; left = refl; took = Follows-all taken_old taken _ m.holds.took },
           record {
             samples = ys;
             ends = (spells, same ∙ m.holds.counts.samples, leaves s r ys given left t);
@@ -212,7 +212,7 @@ push_ends s left_old left taken_old taken e r f g xs given bytes split legal gav
           },
         )
 
-    fails : MeetsFailure s taken_old taken e xs bytes → Ends Write
+    fails : MeetsFailure s (afresh taken_old) taken e xs bytes → Ends Write
     fails m =
         let before = xs ++ m.more in
         let ys = before ++ m.last ∷ [] in
@@ -224,7 +224,7 @@ push_ends s left_old left taken_old taken e r f g xs given bytes split legal gav
         let size : length given ≡ width s * length xs + length bytes = ap length split ∙ length-append (spellings s xs) bytes ∙ ap (λ n. n + length bytes) (length-spellings s xs) in
         let fewer = ahead (width s) (length xs) (length bytes) (length given) r.samples size few some (omega (arith, t.samples, n, k)) in (
           record { given = given; left = left; written = m.fails.takes.written },
-          record { gave = gave; left = refl; took = m.fails.takes.took },
+          record { gave = gave; left = refl; took = Follows-all taken_old taken _ m.fails.takes.took },
           record {
             samples = ys;
             ends = (
@@ -248,7 +248,7 @@ push_ends s left_old left taken_old taken e r f g xs given bytes split legal gav
         ahead : (w n b g k : ℕ) → g ≡ w * n + b → b ≤ 4096 → 1 ≤ w → n < k → g < k * w + 4096
         ahead w n b g k e few some lt = let p = mul-le-mul_right w lt in omega arith
 
-    by_fault : (f : Fault) → Pushes {T = Unit {0}} s taken_old taken e xs bytes (Err f) → Ends f
+    by_fault : (f : Fault) → Pushes {T = Unit {0}} s (afresh taken_old) taken e xs bytes (Err f) → Ends f
     by_fault (SampleOutOfRange index) m = out_of_range index m.0 m.1
     by_fault Write m = fails m
     by_fault Read bad = absurd bad
@@ -259,13 +259,13 @@ push_ends s left_old left taken_old taken e r f g xs given bytes split legal gav
     by_fault (ResidualTooLarge block) bad = absurd bad
 
 -- and the failures then
-pub push_fails : (s : Parameters) (taken_old taken : Option Room) (e : Encoding) (xs : List ℤ) (bytes : List ℕ) (f : Fault) (g : Option Fault) (reads reads_new writes mid writes_new : ℕ) → reads_new ≡ reads → mid ≡ writes →
-    Pushes {T = Unit {0}} s taken_old taken e xs bytes (Err f) → PushFails {T = Unit {0}} mid writes_new (Err f) → g ≡ Some f → Fails g reads reads_new writes writes_new
-push_fails s taken_old taken e xs bytes f g reads reads_new writes mid writes_new same before pushes fails is =
+pub push_fails : (s : Parameters) (old : Beginning) (taken : Option Room) (e : Encoding) (xs : List ℤ) (bytes : List ℕ) (f : Fault) (g : Option Fault) (reads reads_new writes mid writes_new : ℕ) → reads_new ≡ reads → mid ≡ writes →
+    Pushes {T = Unit {0}} s old taken e xs bytes (Err f) → PushFails {T = Unit {0}} mid writes_new (Err f) → g ≡ Some f → Fails g reads reads_new writes writes_new
+push_fails s old taken e xs bytes f g reads reads_new writes mid writes_new same before pushes fails is =
     let result = by_fault f pushes fails in
     subst (λ (g : Option Fault). Fails g reads reads_new writes writes_new) (sym is) result
   where
-    by_fault : (f : Fault) → Pushes {T = Unit {0}} s taken_old taken e xs bytes (Err f) → PushFails {T = Unit {0}} mid writes_new (Err f) → Fails (Some f) reads reads_new writes writes_new
+    by_fault : (f : Fault) → Pushes {T = Unit {0}} s old taken e xs bytes (Err f) → PushFails {T = Unit {0}} mid writes_new (Err f) → Fails (Some f) reads reads_new writes writes_new
     by_fault (SampleOutOfRange index) m k = (same, k ∙ before)
     by_fault Write m k = (same, k ∙ ap (λ n. n + 1) before)
     by_fault Read bad k = absurd bad
@@ -282,7 +282,7 @@ in_hand s left_old left mid taken_old taken e given waiting count buffer full ru
     ap (λ l. l ++ more.given) runs.reads.split ∙ append_assoc (spellings s runs.samples) (take waiting buffer) more.given ∙ ap (λ l. spellings s runs.samples ++ l) (sym more.front)
 
 pub runs_on : (s : Parameters) (left_old left mid : Option (List ℕ)) (taken_old taken new : Option Room) (e f : Encoding) (given waiting count w rest : ℕ) (buffer full last : List ℕ) → (runs : EncodingProgress s left_old mid taken_old taken e given waiting buffer) → Refills mid left buffer full waiting count →
-    TakesAll s taken_old new f runs.samples (take (waiting + count) full) → w ≡ width s → waiting ≤ length buffer → rest ≡ (waiting + count) % w → take rest last ≡ drop (waiting + count - rest) (take (waiting + count) full) → given + count ≤ 281474976710656 →
+    TakesAll s (afresh taken_old) new f runs.samples (take (waiting + count) full) → w ≡ width s → waiting ≤ length buffer → rest ≡ (waiting + count) % w → take rest last ≡ drop (waiting + count - rest) (take (waiting + count) full) → given + count ≤ 281474976710656 →
     EncodingProgress s left_old left taken_old new f (given + count) rest last
 runs_on s left_old left mid taken_old taken new e f given waiting count w rest buffer full last runs more t ew within er el limit =
     let hand = take (waiting + count) full in
@@ -319,12 +319,12 @@ runs_count s left_old left taken_old taken e given waiting buffer runs some with
     at w n k m e h = let p = mul-le-mul_right n h in omega arith
 
 -- the report's bounds where taking the bytes in hand stops
-pub push_within : (s : Parameters) (taken_old taken : Option Room) (e : Encoding) (r : Report) (f : Fault) (xs : List ℤ) (bytes : List ℕ) → ((ys : List ℤ) → CountsSamples s e ys → ReportsTaken s r ys) → Pushes {T = Unit {0}} s taken_old taken e xs bytes (Err f) → EncodesWithin s r
-push_within s taken_old taken e r (SampleOutOfRange index) xs bytes told m = let k = m.0.holds.counts in within_early s r (xs ++ m.0.more) (settled_by s e (xs ++ m.0.more) k) (told (xs ++ m.0.more) k)
-push_within s taken_old taken e r Write xs bytes told m = let ys = (xs ++ m.more) ++ m.last ∷ [] in let k = m.fails.counts in within_early s r ys (settled_by s e ys k) (told ys k)
-push_within s taken_old taken e r Read xs bytes told bad = absurd bad
-push_within s taken_old taken e r TooLong xs bytes told bad = absurd bad
-push_within s taken_old taken e r (SampleCut index) xs bytes told bad = absurd bad
-push_within s taken_old taken e r (CodeEnds samples) xs bytes told bad = absurd bad
-push_within s taken_old taken e r (RunPastSegment block) xs bytes told bad = absurd bad
-push_within s taken_old taken e r (ResidualTooLarge block) xs bytes told bad = absurd bad
+pub push_within : (s : Parameters) (old : Beginning) (taken : Option Room) (e : Encoding) (r : Report) (f : Fault) (xs : List ℤ) (bytes : List ℕ) → ((ys : List ℤ) → CountsSamples s e ys → ReportsTaken s r ys) → Pushes {T = Unit {0}} s old taken e xs bytes (Err f) → EncodesWithin s r
+push_within s old taken e r (SampleOutOfRange index) xs bytes told m = let k = m.0.holds.counts in within_early s r (xs ++ m.0.more) (settled_by s e (xs ++ m.0.more) k) (told (xs ++ m.0.more) k)
+push_within s old taken e r Write xs bytes told m = let ys = (xs ++ m.more) ++ m.last ∷ [] in let k = m.fails.counts in within_early s r ys (settled_by s e ys k) (told ys k)
+push_within s old taken e r Read xs bytes told bad = absurd bad
+push_within s old taken e r TooLong xs bytes told bad = absurd bad
+push_within s old taken e r (SampleCut index) xs bytes told bad = absurd bad
+push_within s old taken e r (CodeEnds samples) xs bytes told bad = absurd bad
+push_within s old taken e r (RunPastSegment block) xs bytes told bad = absurd bad
+push_within s old taken e r (ResidualTooLarge block) xs bytes told bad = absurd bad

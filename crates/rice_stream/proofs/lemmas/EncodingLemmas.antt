@@ -7,7 +7,7 @@ use Rattle.rice_code.specs.code.Blocks.{blocks_from}
 use Rattle.rice_code.specs.code.Code.{data_sets}
 use Rattle.rice_code.specs.code.Layout.{layout}
 use Rattle.rice_bits.specs.device.Outlet.{Room, Appends}
-use Rattle.rice_bits.proofs.lemmas.device.OutletLemmas.{Appends-trans}
+use Rattle.rice_bits.proofs.lemmas.device.OutletLemmas.{Appends-nil, Appends-trans}
 use Rattle.rice_bits.proofs.lemmas.bits.Bytes.{whole_short}
 use Rattle.rice_bits.specs.Bits.{bits_in_bytes, bits_to_byte, padded_bits, whole_bytes}
 use Rattle.rice_samples.specs.Parameters.{Parameters, IsSample, width}
@@ -19,7 +19,8 @@ use Rattle.rice_code.specs.encode.OpenSegment.{CoderState}
 use Rattle.rice_code.specs.code.Code.{code, code_bits, early_output}
 use Rattle.rice_code.specs.Steps.{least_looks, most_looks, least_looks_at, most_looks_at, least_steps, most_steps, segment_steps}
 use Rattle.rice_code.proofs.lemmas.encode.PushedCode.{segment_steps_few}
-use Rattle.rice_stream.specs.EncodingState.{CountsSamples, IsEncodingOf, TakesSamples, TakesBetween, FailsAt, FailsIn, MeetsFailure, Reads, whole_part}
+use Rattle.rice_stream.specs.EncodingState.{Beginning, afresh, Follows, CountsSamples, IsEncodingOf, TakesSamples, TakesBetween, FollowsBetween, FailsAt, FailsIn, MeetsFailure, Reads, whole_part}
+use Rattle.rice_stream.specs.Calls.{StopsBetween}
 use Rattle.rice_stream.specs.Encodes.{ReportsAll}
 use Rattle.rice_stream.specs.Writes.{TakesPart}
 use Rattle.rice_stream.specs.declared.encoding.Encoding.{Encoding}
@@ -31,6 +32,20 @@ use Rattle.std.proofs.lemmas.List.Elements.{All-take}
 use Rattle.std.proofs.Math.Nat.{mul-le-mul_left}
 use Rattle.rice_stream.proofs.lemmas.BoundLemmas.{Settles, settles, early_bounded, all_bounded, few_steps, few_bits}
 use Rattle.rice_stream.proofs.lemmas.WholeBytes.{length-part, more_bytes, more_rest}
+
+-- nothing follows what was written, what follows it goes on, and where nothing was written before it is all
+pub Follows-nil : (now : Option Room) → Follows (afresh now) now []
+Follows-nil now = record { more = []; split = refl; took = Appends-nil now }
+
+pub Follows-trans : (old : Beginning) (now new : Option Room) (bytes more : List ℕ) → Follows old now bytes → Appends now new more → Follows old new (bytes ++ more)
+Follows-trans old now new bytes more f a = record {
+  more = f.more ++ more;
+  split = ap (λ l. l ++ more) f.split ∙ append_assoc old.before f.more more;
+  took = Appends-trans old.state now new f.more more f.took a;
+}
+
+pub Follows-all : (old new : Option Room) (bytes : List ℕ) → Follows (afresh old) new bytes → Appends old new bytes
+Follows-all old new bytes f = subst (λ (l : List ℕ). Appends old new l) (sym f.split) f.took
 
 pub settled_by : (s : Parameters) (e : Encoding) (xs : List ℤ) → CountsSamples s e xs → Settles s xs
 settled_by s e xs c = settles s e.coder xs c.setting c.stands
@@ -52,21 +67,21 @@ pub all_small : (s : Parameters) (coder : CoderState) (xs : List ℤ) → coder.
 all_small s coder xs e h = let k = settles s coder xs e h in few_bits s (length xs) _ _ k.setting (all_bounded s xs k) (omega arith)
 
 -- what the sink holds goes on from the bytes that are whole
-pub joined : (s : Parameters) (old now : Option Room) (e : Encoding) (xs : List ℤ) → IsEncodingOf s old now e xs → whole_part (complete_code s xs) ++ e.sink ≡ complete_code s xs
+pub joined : (s : Parameters) (old : Beginning) (now : Option Room) (e : Encoding) (xs : List ℤ) → IsEncodingOf s old now e xs → whole_part (complete_code s xs) ++ e.sink ≡ complete_code s xs
 joined s old now e xs h = ap (λ l. whole_part (complete_code s xs) ++ l) h.sink ∙ take-append-drop (bits_in_bytes (length (complete_code s xs))) (complete_code s xs)
 
-pub sink_short : (s : Parameters) (old now : Option Room) (e : Encoding) (xs : List ℤ) → IsEncodingOf s old now e xs → length e.sink ≤ 7
+pub sink_short : (s : Parameters) (old : Beginning) (now : Option Room) (e : Encoding) (xs : List ℤ) → IsEncodingOf s old now e xs → length e.sink ≤ 7
 sink_short s old now e xs h = omega (arith, ap length h.sink, length-drop (bits_in_bytes (length (complete_code s xs))) (complete_code s xs))
 
 -- the sink stands at the place in a byte where the code does
-pub sink_place : (s : Parameters) (old now : Option Room) (e : Encoding) (xs : List ℤ) → IsEncodingOf s old now e xs → IsAlignedWith s (complete_samples s xs) e.sink
+pub sink_place : (s : Parameters) (old : Beginning) (now : Option Room) (e : Encoding) (xs : List ℤ) → IsEncodingOf s old now e xs → IsAlignedWith s (complete_samples s xs) e.sink
 sink_place s old now e xs h pads =
     let n = ap length h.sink in
     let m = length-drop (bits_in_bytes (length (complete_code s xs))) (complete_code s xs) in
     omega arith
 
 -- samples are taken
-pub taken_on : (s : Parameters) (old now : Option Room) (e f : Encoding) (xs ys : List ℤ) (n : ℕ) → IsEncodingOf s old now e xs →
+pub taken_on : (s : Parameters) (old : Beginning) (now : Option Room) (e f : Encoding) (xs ys : List ℤ) (n : ℕ) → IsEncodingOf s old now e xs →
     PushesSamples e.coder f.coder ys e.sink f.sink n e.meter f.meter → f.bits ≡ e.bits + n → f.samples ≡ e.samples + length ys → ((m : ℕ) → m < length ys → CompletesNone e.coder (take m ys)) → TakesSamples s f xs ys
 taken_on s old now e f xs ys n h pushes bits samples before =
     let stands = h.counts.stands in
@@ -89,7 +104,7 @@ taken_on s old now e f xs ys n h pushes bits samples before =
     }
 
 -- nothing is whole
-pub none_whole : (s : Parameters) (old now : Option Room) (e f : Encoding) (xs ys : List ℤ) → IsEncodingOf s old now e xs → CountsSamples s f (xs ++ ys) → complete_code s (xs ++ ys) ≡ whole_part (complete_code s xs) ++ f.sink →
+pub none_whole : (s : Parameters) (old : Beginning) (now : Option Room) (e f : Encoding) (xs ys : List ℤ) → IsEncodingOf s old now e xs → CountsSamples s f (xs ++ ys) → complete_code s (xs ++ ys) ≡ whole_part (complete_code s xs) ++ f.sink →
     length f.sink < 8 → IsEncodingOf s old now f (xs ++ ys)
 none_whole s old now e f xs ys h c same few =
     let a = complete_code s xs in
@@ -99,11 +114,11 @@ none_whole s old now e f xs ys h c same few =
     record {
       counts = c;
       sink = ap (λ n. drop n f.sink) (sym z) ∙ more_rest a b f.sink (sym same);
-      took = subst (λ (l : List ℕ). Appends old now l) (sym bytes) h.took;
+      took = subst (λ (l : List ℕ). Follows old now l) (sym bytes) h.took;
     }
 
 -- the whole bytes are written
-pub all_written : (s : Parameters) (old now new : Option Room) (e f g : Encoding) (xs ys : List ℤ) → IsEncodingOf s old now e xs → CountsSamples s f (xs ++ ys) → complete_code s (xs ++ ys) ≡ whole_part (complete_code s xs) ++ f.sink →
+pub all_written : (s : Parameters) (old : Beginning) (now new : Option Room) (e f g : Encoding) (xs ys : List ℤ) → IsEncodingOf s old now e xs → CountsSamples s f (xs ++ ys) → complete_code s (xs ++ ys) ≡ whole_part (complete_code s xs) ++ f.sink →
     Appends now new (whole_bytes f.sink) → g.sink ≡ drop (bits_in_bytes (length f.sink)) f.sink → CountsSamples s g (xs ++ ys) → IsEncodingOf s old new g (xs ++ ys)
 all_written s old now new e f g xs ys h c same took rest d =
     let a = complete_code s xs in
@@ -111,21 +126,32 @@ all_written s old now new e f g xs ys h c same took rest d =
     record {
       counts = d;
       sink = rest ∙ more_rest a b f.sink (sym same);
-      took = subst (λ (l : List ℕ). Appends old new l) (sym (more_bytes a b f.sink (sym same))) (Appends-trans old now new (early_output s xs) (whole_bytes f.sink) h.took took);
+      took = subst (λ (l : List ℕ). Follows old new l) (sym (more_bytes a b f.sink (sym same))) (Follows-trans old now new (early_output s xs) (whole_bytes f.sink) h.took took);
     }
 
 -- what is taken of more bytes lies between
-pub part_between : (old now new : Option Room) (from more to : List ℕ) → Appends old now from → TakesPart now new more → to ≡ from ++ more → TakesBetween old new from to
-part_between old now new from more to took part e = record {
-  written = from ++ part.front;
-  stops = record {
+module _ (from more to : List ℕ) (e : to ≡ from ++ more) where
+  stops_between : (old new : Option Room) (part : TakesPart old new more) → StopsBetween from to (from ++ part.front)
+  stops_between old new part = record {
     more = part.front;
     missing = part.missing;
     begins = refl;
     stops = e ∙ ap (λ l. from ++ l) part.split ∙ sym (append_assoc from part.front part.missing);
     short = part.short;
-  };
+  }
+
+pub part_between : (old now new : Option Room) (from more to : List ℕ) → Appends old now from → TakesPart now new more → to ≡ from ++ more → TakesBetween old new from to
+part_between old now new from more to took part e = record {
+  written = from ++ part.front;
+  stops = stops_between from more to e now new part;
   took = Appends-trans old now new from part.front took part.took;
+}
+
+pub part_follows : (old : Beginning) (now new : Option Room) (from more to : List ℕ) → Follows old now from → TakesPart now new more → to ≡ from ++ more → FollowsBetween old new from to
+part_follows old now new from more to took part e = record {
+  written = from ++ part.front;
+  stops = stops_between from more to e now new part;
+  took = Follows-trans old now new from part.front took part.took;
 }
 
 -- some samples have a last one
@@ -140,7 +166,7 @@ parts_of (y ∷ []) h = record { before = []; last = y; split = refl }
 parts_of (y ∷ z ∷ ys) h = let p = parts_of (z ∷ ys) (omega arith) in record { before = y ∷ p.before; last = p.last; split = ap (λ l. y ∷ l) p.split }
 
 -- not all that the samples complete was written
-pub fails_in : (s : Parameters) (old now new : Option Room) (e f g : Encoding) (xs samples : List ℤ) (n : ℕ) → IsEncodingOf s old now e xs → TakesSamples s f xs (take n samples) → 0 < n → n ≤ length samples → TakesPart now new (whole_bytes f.sink) → CountsSamples s g (xs ++ take n samples) → FailsIn s old new g xs samples
+pub fails_in : (s : Parameters) (old : Beginning) (now new : Option Room) (e f g : Encoding) (xs samples : List ℤ) (n : ℕ) → IsEncodingOf s old now e xs → TakesSamples s f xs (take n samples) → 0 < n → n ≤ length samples → TakesPart now new (whole_bytes f.sink) → CountsSamples s g (xs ++ take n samples) → FailsIn s old new g xs samples
 fails_in s old now new e f g xs samples n h takes some within part counts =
     let ys = take n samples in
     let len = length-take-le n samples within in
@@ -150,7 +176,7 @@ fails_in s old now new e f g xs samples n h takes some within part counts =
     let all : xs ++ ys ≡ (xs ++ p.before) ++ p.last ∷ [] = ap (λ l. xs ++ l) p.split ∙ sym (append_assoc xs p.before (p.last ∷ [])) in
     let before : early_output s (xs ++ p.before) ≡ early_output s xs =
     ap (λ l. early_output s (xs ++ l)) (sym front) ∙ ap (λ l. whole_bytes (code s l)) (takes.before_last (length p.before) (omega (arith, size))) in
-    let between = part_between old now new (early_output s xs) (whole_bytes f.sink) (early_output s (xs ++ ys)) h.took part (more_bytes (complete_code s xs) (complete_code s (xs ++ ys)) f.sink (sym takes.code_is)) in
+    let between = part_follows old now new (early_output s xs) (whole_bytes f.sink) (early_output s (xs ++ ys)) h.took part (more_bytes (complete_code s xs) (complete_code s (xs ++ ys)) f.sink (sym takes.code_is)) in
     record {
       before = p.before;
       last = p.last;
@@ -158,12 +184,12 @@ fails_in s old now new e f g xs samples n h takes some within part counts =
       split = sym (take-append-drop n samples) ∙ ap (λ l. l ++ drop n samples) p.split ∙ append_assoc p.before (p.last ∷ []) (drop n samples);
       fails = record {
         counts = subst (CountsSamples s g) all counts;
-        takes = subst (λ (l : List ℕ). TakesBetween old new l (early_output s ((xs ++ p.before) ++ p.last ∷ []))) (sym before) (subst (λ (l : List ℤ). TakesBetween old new (early_output s xs) (early_output s l)) all between);
+        takes = subst (λ (l : List ℕ). FollowsBetween old new l (early_output s ((xs ++ p.before) ++ p.last ∷ []))) (sym before) (subst (λ (l : List ℤ). FollowsBetween old new (early_output s xs) (early_output s l)) all between);
       };
     }
 
 -- the samples before some others were taken
-pub fails_later : (s : Parameters) (old new : Option Room) (e : Encoding) (xs samples : List ℤ) (at : ℕ) → FailsIn s old new e (xs ++ take at samples) (drop at samples) → FailsIn s old new e xs samples
+pub fails_later : (s : Parameters) (old : Beginning) (new : Option Room) (e : Encoding) (xs samples : List ℤ) (at : ℕ) → FailsIn s old new e (xs ++ take at samples) (drop at samples) → FailsIn s old new e xs samples
 fails_later s old new e xs samples at f = record {
   before = take at samples ++ f.before;
   last = f.last;
@@ -198,7 +224,7 @@ sets_nothing s j =
     (bits, omega (arith, bits, least), omega (arith, bits, most))
 
 -- the end of the samples
-pub closed : (s : Parameters) (old now : Option Room) (e : Encoding) (r : Report) (sink end : List Bool) (xs : List ℤ) (n : ℕ) → IsEncodingOf s old now e xs →
+pub closed : (s : Parameters) (old : Beginning) (now : Option Room) (e : Encoding) (r : Report) (sink end : List Bool) (xs : List ℤ) (n : ℕ) → IsEncodingOf s old now e xs →
     AddsCode e.coder.setting (complete_samples e.coder.setting xs) xs e.sink sink n (fill_samples e.coder.setting xs) e.meter r.steps → r.bits ≡ e.bits + n → r.samples ≡ e.samples → end ≡ sink ++ replicate (bits_to_byte (length sink)) false →
     ReportsAll s r xs × (padded_bits (code s xs) ≡ whole_part (complete_code s xs) ++ end)
 closed s old now e r sink end xs n h finishes bits samples fill =
@@ -240,7 +266,7 @@ All-front : {X : Type 0} (P : X → Type 0) (xs ys : List X) → All P (xs ++ ys
 All-front P xs ys h = subst (All P) (take-append_seam xs ys) (All-take P (length xs) (xs ++ ys) h)
 
 -- of samples that the bytes spell one is the last that was taken
-pub fails_among : (s : Parameters) (old new : Option Room) (e : Encoding) (xs ys : List ℤ) (bytes rest : List ℕ) → Reads s bytes ys rest → FailsIn s old new e xs ys → MeetsFailure s old new e xs bytes
+pub fails_among : (s : Parameters) (old : Beginning) (new : Option Room) (e : Encoding) (xs ys : List ℤ) (bytes rest : List ℕ) → Reads s bytes ys rest → FailsIn s old new e xs ys → MeetsFailure s old new e xs bytes
 fails_among s old new e xs ys bytes rest reads f =
     let parts : ys ≡ (f.before ++ f.last ∷ []) ++ f.behind = f.split ∙ sym (append_assoc f.before (f.last ∷ []) f.behind) in
     record {

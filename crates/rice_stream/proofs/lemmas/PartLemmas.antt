@@ -8,7 +8,7 @@ use Rattle.std.proofs.lemmas.List.Elements.{All-append}
 use Rattle.rice_bits.specs.device.Outlet.{Room}
 use Rattle.rice_samples.specs.Parameters.{Parameters, IsSample, width}
 use Rattle.rice_samples.specs.bytes.Spelling.{spellings, EndsSpelling, NoSpelling}
-use Rattle.rice_stream.specs.EncodingState.{IsEncodingOf, FailsAt, Reads, TakesAll, Pushes}
+use Rattle.rice_stream.specs.EncodingState.{Beginning, IsEncodingOf, FailsAt, Reads, TakesAll, Pushes}
 use Rattle.rice_stream.specs.declared.encoding.Encoding.{Encoding}
 use Rattle.rice_stream.specs.declared.outcome.Fault.{Fault}
 use Rattle.rice_stream.specs.declared.outcome.Fault.TheVariants.{Read, Write, TooLong, SampleOutOfRange, SampleCut, CodeEnds, RunPastSegment, ResidualTooLarge}
@@ -31,7 +31,7 @@ reads_before s xs bytes rest behind r = record {
 no_spelling_before : (s : Parameters) (rest behind : List ℕ) → EndsSpelling s rest NoSpelling → EndsSpelling s (rest ++ behind) NoSpelling
 no_spelling_before s rest behind h = (omega (arith, h.0, length-append rest behind), λ x k e. h.1 x k (sym (take-append-le (width s) rest behind h.0) ∙ e))
 
-module _ (s : Parameters) (old new : Option Room) (e : Encoding) (xs more : List ℤ) (front part : List ℕ) (spelled : front ≡ spellings s more) (legal : All (IsSample s) more) where
+module _ (s : Parameters) (old : Beginning) (new : Option Room) (e : Encoding) (xs more : List ℤ) (front part : List ℕ) (spelled : front ≡ spellings s more) (legal : All (IsSample s) more) where
   pub takes_on : TakesAll s old new e (xs ++ more) part → TakesAll s old new e xs (front ++ part)
   takes_on h = record {
     more = more ++ h.more;

@@ -17,8 +17,8 @@ use Rattle.rice_samples.proofs.lemmas.predict.ResidualLemmas.{length-residuals}
 use Rattle.rice_samples.proofs.lemmas.setting.Levels.{zero_is_sample}
 use Rattle.rice_code.specs.code.Blocks.{BlockData, blocks_from, blocks_of}
 use Rattle.rice_code.specs.code.Code.{code, code_bits, data_sets}
-use Rattle.rice_code.specs.encode.Coder.{HasCodedBefore, HasTaken, IsCoder, AddsCode, complete_samples, fill_samples}
-use Rattle.rice_code.specs.encode.OpenSegment.{CoderState, IsWhole, empty_state, state_after, state_with_fill, fill_count, state_after_segment, next_start, blocks_held, contents_held, sets_held, code_held, bits_held, HoldsSoundBlocks, CodesHeld, is_empty}
+use Rattle.rice_code.specs.encode.Coder.{reference_in, HasCodedBefore, HasTaken, IsCoder, AddsCode, complete_samples, fill_samples}
+use Rattle.rice_code.specs.encode.OpenSegment.{CoderState, IsOpen, IsWhole, state_between, empty_state, state_after, state_with_fill, fill_count, state_after_segment, next_start, blocks_held, contents_held, sets_held, code_held, bits_held, HoldsSoundBlocks, CodesHeld, is_empty}
 use Rattle.rice_code.specs.code.CodedDataSets.{CodedDataSet, bits_of_set}
 use Rattle.rice_code.specs.encode.HeldBlocks.{held_blocks}
 use Rattle.rice_code.specs.code.SoundBlocks.{AreSoundBlocks}
@@ -141,6 +141,39 @@ sound_same s a b (c ∷ cs) e k = (
   },
   sound_same s (a + 1) (b + 1) cs (place_step s a b e) k.1,
 )
+
+-- a coder between two segments, and the room of the next
+pub open_between : (s : Parameters) (start : ℕ) (p : ℤ) (xs : List ℤ) → HasTaken (state_between s start p) xs → IsOpen (state_between s start p) (s.block * blocks_left s start)
+open_between s start p xs k =
+    let h = k.holds in
+    let lt : start < s.interval = omega (arith, h.place, mod-lt k.block h.legal.interval_from) in
+    let at : place s start ≡ start = mod-eq_of_lt lt in
+    record {
+      legal = h.legal;
+      place = at;
+      begins = ap (λ p. p == 64 * (p / 64)) (at ∙ sym h.place) ∙ h.begins;
+      few = omega arith;
+      previous = previous_legal (state_between s start p) (record { samples = xs; taken = k });
+      reference = tt;
+      ends = refl;
+    }
+
+-- a coder whose samples all make whole segments holds nothing
+no_items : {X : Type 0} (xs : List X) → length xs ≡ 0 → xs ≡ []
+no_items [] e = refl
+no_items (x ∷ xs) e = absurd (omega arith)
+
+pub holds_nothing : (coder : CoderState) (xs : List ℤ) → HasTaken coder xs → cut coder.setting (length xs) ≡ length xs → coder ≡ state_between coder.setting coder.start coder.previous
+holds_nothing coder xs k all =
+    let none : length coder.residuals ≡ 0 = omega (arith, pending_are coder xs k, all) in
+    let residuals : coder.residuals ≡ [] = no_items coder.residuals none in
+    let held : k.held ≡ [] = no_items k.held (omega (arith, held_count coder k.block k.coded k.held k.holds, none)) in
+    let reference : coder.reference ≡ None = k.holds.reference ∙ ap (reference_in coder.setting k.block) held in
+    λ i. record { setting = coder.setting; residuals = residuals i; reference = reference i; previous = coder.previous; start = coder.start }
+
+-- and its samples are those of whole segments
+pub between_all : (s : Parameters) (start : ℕ) (p : ℤ) (xs : List ℤ) → HasTaken (state_between s start p) xs → cut s (length xs) ≡ length xs
+between_all s start p xs k = omega (arith, pending_are (state_between s start p) xs k)
 
 -- the blocks of samples after whole blocks
 pub blocks_go_on : (s : Parameters) (b q : ℕ) (p : ℤ) (xs ys : List ℤ) → 1 ≤ s.block → length xs ≡ s.block * q → blocks_of s b p (xs ++ ys) ≡ blocks_of s b p xs ++ blocks_of s (b + q) (last_of p xs) ys

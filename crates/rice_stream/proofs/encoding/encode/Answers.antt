@@ -3,6 +3,7 @@ use Rattle.std.proofs.lemmas.List.{length-take, length-take-le}
 use Rattle.std.specs.Io.KnownBytes.{Consumes}
 use Rattle.std.proofs.KnownBytes.{Consumes-nil, Consumes-trans}
 use Rattle.rice_samples.specs.Parameters.{width}
+use Rattle.rice_stream.specs.EncodingState.{afresh}
 use Rattle.rice_stream.proofs.lemmas.EncodingLemmas.{settled_by}
 use Rattle.rice_stream.proofs.lemmas.EncodingEnds.{within_early, within_all, read_ends, cut_ends, long_ends, finish_ends, push_ends, push_fails, push_within, in_hand, runs_on, runs_count}
 use Rattle.rice_stream.proofs.encoding.encode.Goals as goal
@@ -72,7 +73,7 @@ finish-requires-clause-ready g c =
     let i = c.fill_all.invariant in
     let n = runs_count s (g.I.Intake.left c.args.intake.now) (g.I.Intake.left c.fill_all.intake) (g.O.Outlet.taken c.args.outlet.now) (g.O.Outlet.taken c.fill_all.outlet) c.fill_all.encoding c.fill_all.given c.fill_all.waiting c.fill_all.buffer i.runs
     (omega (arith, c.width-width.ensures.value, c.width-width.ensures.range)) (omega (arith, i.size, i.runs.few, c.width-width.ensures.value, c.width-width.ensures.range)) in
-    (s, g.O.Outlet.taken c.args.outlet.now, i.runs.samples, i.runs.holds, omega (arith, n, i.runs.limit))
+    (s, afresh (g.O.Outlet.taken c.args.outlet.now), i.runs.samples, i.runs.holds, omega (arith, n, i.runs.limit))
 
 pub returns-then-count-eq0-clause-call : goal.returns-then-count-eq0-clause-call
 returns-then-count-eq0-clause-call g c =
@@ -82,7 +83,7 @@ returns-then-count-eq0-clause-call g c =
     let none : more.given ≡ [] = nothing more.given (omega (arith, more.length_is, c.if-count-eq0.true)) in
     let zero : c.fill_all.waiting ≡ 0 = omega (arith, c.if-waiting-gt0.false) in
     let start = g.O.Outlet.taken c.args.outlet.now in
-    let did = c.finish.ensures.did s start i.runs.samples i.runs.holds in
+    let did = c.finish.ensures.did s (afresh start) i.runs.samples i.runs.holds in
     finish_ends s (g.I.Intake.left c.args.intake.now) (g.I.Intake.left c.refill.new.intake) (g.I.Intake.left c.fill_all.intake) start (g.O.Outlet.taken c.fill_all.outlet) (g.O.Outlet.taken c.finish.new.outlet)
     c.fill_all.encoding c.fill_all.given c.fill_all.waiting c.fill_all.buffer c.finish.result.report c.finish.result.fault i.runs
     (subst (λ (l : List ℕ). Consumes (g.I.Intake.left c.fill_all.intake) (g.I.Intake.left c.refill.new.intake) l) none more.gave) (c.in-Ok.ensures.end c.if-count-eq0.true)
@@ -92,7 +93,7 @@ pub returns-then-count-eq0-clause-bounds : goal.returns-then-count-eq0-clause-bo
 returns-then-count-eq0-clause-bounds g c =
     let s = c.args.setting.now in
     let i = c.fill_all.invariant in
-    let did = c.finish.ensures.did s (g.O.Outlet.taken c.args.outlet.now) i.runs.samples i.runs.holds in
+    let did = c.finish.ensures.did s (afresh (g.O.Outlet.taken c.args.outlet.now)) i.runs.samples i.runs.holds in
     within_all s c.finish.result.report i.runs.samples (settled_by s c.fill_all.encoding i.runs.samples i.runs.holds.counts) did.0
 
 pub returns-then-given-ge-LIMIT-clause-call : goal.returns-then-given-ge-LIMIT-clause-call
@@ -122,7 +123,7 @@ push_all-requires-clause-ready g c =
     (omega (arith, c.width-width.ensures.value, c.width-width.ensures.range)) most in
     let more = c.in-Ok.ensures.bytes in
     let limit = c.piece.ensures.limit (omega (arith, c.if-given-ge-LIMIT.false)) in
-    (g.O.Outlet.taken c.args.outlet.now, i.runs.samples, i.runs.holds, omega (arith, n, limit, c.in-Ok.ensures.count, length-take (c.fill_all.waiting + c.in-Ok.count) c.refill.new.buffer))
+    (afresh (g.O.Outlet.taken c.args.outlet.now), i.runs.samples, i.runs.holds, omega (arith, n, limit, c.in-Ok.ensures.count, length-take (c.fill_all.waiting + c.in-Ok.count) c.refill.new.buffer))
 
 pub returns-in-Err-push_all-clause-call : goal.returns-in-Err-push_all-clause-call
 returns-in-Err-push_all-clause-call g c =
@@ -140,16 +141,16 @@ returns-in-Err-push_all-clause-call g c =
     (in_hand s left_old left mid start (g.O.Outlet.taken c.fill_all.outlet) c.fill_all.encoding c.fill_all.given c.fill_all.waiting c.in-Ok.count c.fill_all.buffer c.refill.new.buffer i.runs more)
     i.runs.reads.legal (Consumes-trans left_old mid left i.runs.bytes more.given i.runs.gave more.gave)
     (omega (arith, length-append i.runs.bytes more.given, more.length_is, i.runs.count, c.in-Ok.ensures.count, c.piece.ensures.limit (omega (arith, c.if-given-ge-LIMIT.false)))) (omega (arith, c.in-Ok.ensures.count, c.piece.ensures.most, length-take filled c.refill.new.buffer)) (omega (arith, c.width-width.ensures.value, c.width-width.ensures.range))
-    (λ xs h. o.ensures.told s xs h) o.ensures.fault (c.in-Err-push_all.ensures.did start i.runs.samples i.runs.holds)
+    (λ xs h. o.ensures.told s xs h) o.ensures.fault (c.in-Err-push_all.ensures.did (afresh start) i.runs.samples i.runs.holds)
 
 pub returns-in-Err-push_all-clause-failures : goal.returns-in-Err-push_all-clause-failures
 returns-in-Err-push_all-clause-failures g c =
     let s = c.args.setting.now in
     let i = c.fill_all.invariant in
     let start = g.O.Outlet.taken c.args.outlet.now in
-    push_fails s start (g.O.Outlet.taken c.push_all.new.outlet) c.push_all.new.self i.runs.samples (take (c.fill_all.waiting + c.in-Ok.count) c.refill.new.buffer) c.in-Err-push_all.fault c.stopped-in-Err-push_all.result.fault
+    push_fails s (afresh start) (g.O.Outlet.taken c.push_all.new.outlet) c.push_all.new.self i.runs.samples (take (c.fill_all.waiting + c.in-Ok.count) c.refill.new.buffer) c.in-Err-push_all.fault c.stopped-in-Err-push_all.result.fault
     (g.I.Intake.failed c.args.intake.now) (g.I.Intake.failed c.refill.new.intake) (g.O.Outlet.failed c.args.outlet.now) (g.O.Outlet.failed c.fill_all.outlet) (g.O.Outlet.failed c.push_all.new.outlet)
-    (c.in-Ok.ensures.failures ∙ i.reads) i.writes (c.in-Err-push_all.ensures.did start i.runs.samples i.runs.holds) c.in-Err-push_all.ensures.failures c.stopped-in-Err-push_all.ensures.fault
+    (c.in-Ok.ensures.failures ∙ i.reads) i.writes (c.in-Err-push_all.ensures.did (afresh start) i.runs.samples i.runs.holds) c.in-Err-push_all.ensures.failures c.stopped-in-Err-push_all.ensures.fault
 
 pub returns-in-Err-push_all-clause-bounds : goal.returns-in-Err-push_all-clause-bounds
 returns-in-Err-push_all-clause-bounds g c =
@@ -157,7 +158,7 @@ returns-in-Err-push_all-clause-bounds g c =
     let i = c.fill_all.invariant in
     let o = c.stopped-in-Err-push_all in
     let start = g.O.Outlet.taken c.args.outlet.now in
-    push_within s start (g.O.Outlet.taken c.push_all.new.outlet) c.push_all.new.self o.result.report c.in-Err-push_all.fault i.runs.samples (take (c.fill_all.waiting + c.in-Ok.count) c.refill.new.buffer) (λ xs h. o.ensures.told s xs h) (c.in-Err-push_all.ensures.did start i.runs.samples i.runs.holds)
+    push_within s (afresh start) (g.O.Outlet.taken c.push_all.new.outlet) c.push_all.new.self o.result.report c.in-Err-push_all.fault i.runs.samples (take (c.fill_all.waiting + c.in-Ok.count) c.refill.new.buffer) (λ xs h. o.ensures.told s xs h) (c.in-Err-push_all.ensures.did (afresh start) i.runs.samples i.runs.holds)
 
 pub fill_all-preserved : goal.fill_all-preserved
 fill_all-preserved g c =
@@ -171,7 +172,7 @@ fill_all-preserved g c =
     record {
       runs = runs_on s (g.I.Intake.left c.args.intake.now) (g.I.Intake.left c.refill.new.intake) (g.I.Intake.left c.fill_all.intake) start (g.O.Outlet.taken c.fill_all.outlet) (g.O.Outlet.taken c.push_all.new.outlet)
           c.fill_all.encoding c.push_all.new.self c.fill_all.given c.fill_all.waiting c.in-Ok.count c.width-width.result _ c.fill_all.buffer c.refill.new.buffer c.carry.new.buffer i.runs more
-          (c.in-Ok-push_all.ensures.did start i.runs.samples i.runs.holds) c.width-width.ensures.value most refl c.carry.ensures.front limit;
+          (c.in-Ok-push_all.ensures.did (afresh start) i.runs.samples i.runs.holds) c.width-width.ensures.value most refl c.carry.ensures.front limit;
       size = c.carry.ensures.len ∙ c.refill.auto.buffer ∙ i.size;
       room = c.in-Ok-push_all.ensures.room ∙ i.room;
       reads = c.in-Ok.ensures.failures ∙ i.reads;

@@ -1,11 +1,10 @@
 use Rattle.std.proofs.Common.{subst, sym, List, ℕ}
-use Rattle.rice_bits.specs.device.Outlet.{Appends}
-use Rattle.rice_bits.proofs.lemmas.device.OutletLemmas.{Appends-trans}
+use Rattle.rice_stream.specs.EncodingState.{Follows}
 use Rattle.rice_bits.specs.Bits.{padded_bits, whole_bytes}
 use Rattle.rice_code.specs.code.Code.{code, output, early_output}
 use Rattle.rice_code.specs.encode.Coder.{complete_code}
 use Rattle.rice_stream.proofs.lemmas.WholeBytes.{more_bytes}
-use Rattle.rice_stream.proofs.lemmas.EncodingLemmas.{part_between}
+use Rattle.rice_stream.proofs.lemmas.EncodingLemmas.{Follows-trans, part_follows}
 use Rattle.rice_stream.proofs.encoding.Encoding.finish.Goals as goal
 
 pub returns-in-Ok-clause-did : goal.returns-in-Ok-clause-did
@@ -15,7 +14,7 @@ returns-in-Ok-clause-did g c s old xs h =
     let r = c.close-report.ensures s old now xs h in
     let sink = c.close-report.new.self.sink in
     let more = more_bytes (complete_code s xs) (padded_bits (code s xs)) sink (sym r.1) in
-    (r.0, subst (λ (l : List ℕ). Appends old new l) (sym more) (Appends-trans old now new (early_output s xs) (whole_bytes sink) h.took c.in-Ok.ensures.ok.0))
+    (r.0, subst (λ (l : List ℕ). Follows old new l) (sym more) (Follows-trans old now new (early_output s xs) (whole_bytes sink) h.took c.in-Ok.ensures.ok.0))
 
 pub returns-in-Err-clause-did : goal.returns-in-Err-clause-did
 returns-in-Err-clause-did g c s old xs h =
@@ -23,4 +22,4 @@ returns-in-Err-clause-did g c s old xs h =
     let new = g.O.Outlet.taken c.write_whole.new.outlet in
     let r = c.close-report.ensures s old now xs h in
     let sink = c.close-report.new.self.sink in
-    (r.0, part_between old now new (early_output s xs) (whole_bytes sink) (output s xs) h.took c.in-Err.ensures.err.0 (more_bytes (complete_code s xs) (padded_bits (code s xs)) sink (sym r.1)))
+    (r.0, part_follows old now new (early_output s xs) (whole_bytes sink) (output s xs) h.took c.in-Err.ensures.err.0 (more_bytes (complete_code s xs) (padded_bits (code s xs)) sink (sym r.1)))

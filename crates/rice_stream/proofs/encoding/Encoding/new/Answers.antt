@@ -1,12 +1,11 @@
 use Rattle.std.proofs.Common.{arith, ◌≡◌, ◌≤◌, ◌∙◌, refl, ap, sym, subst, drop, length, List, [], ℕ}
-use Rattle.rice_bits.specs.device.Outlet.{Appends}
-use Rattle.rice_bits.proofs.lemmas.device.OutletLemmas.{Appends-nil}
+use Rattle.rice_stream.specs.EncodingState.{Follows, afresh}
 use Rattle.rice_bits.specs.Bits.{bits_in_bytes, whole_bytes}
 use Rattle.rice_samples.specs.Parameters.{IsLegal}
 use Rattle.rice_code.specs.code.Code.{code, code_bits}
 use Rattle.rice_code.specs.encode.Coder.{complete_samples}
 use Rattle.rice_code.specs.Steps.{least_steps, most_steps}
-use Rattle.rice_stream.proofs.lemmas.EncodingLemmas.{settled_nothing, code_nothing, sets_nothing}
+use Rattle.rice_stream.proofs.lemmas.EncodingLemmas.{Follows-nil, settled_nothing, code_nothing, sets_nothing}
 use Rattle.rice_stream.proofs.encoding.Encoding.new.Goals as goal
 
 pub returns : goal.returns
@@ -23,5 +22,5 @@ returns c now =
     record {
       counts = record { setting = c.new.ensures.setting; stands = c.new.ensures.taken; samples = refl; bits = sym bits; least = omega (arith, c.new-3.ensures, least); most = omega (arith, c.new-3.ensures, most) };
       sink = c.new-2.ensures ∙ ap (λ l. drop (bits_in_bytes (length l)) l) (sym none);
-      took = subst (λ (l : List ℕ). Appends now now l) (ap whole_bytes (sym none)) (Appends-nil now);
+      took = subst (λ (l : List ℕ). Follows (afresh now) now l) (ap whole_bytes (sym none)) (Follows-nil now);
     }

@@ -1,13 +1,12 @@
-use Rattle.std.proofs.Common.{◌≡◌, ◌≤◌, ◌-◌, ◌++◌, List, length, take, Option, ℤ}
-use Rattle.rice_bits.specs.device.Outlet.{Room}
+use Rattle.std.proofs.Common.{◌≡◌, ◌≤◌, ◌-◌, ◌++◌, List, length, take, ℤ}
 use Rattle.rice_samples.specs.Parameters.{Parameters}
-use Rattle.rice_stream.specs.EncodingState.{IsEncodingOf}
+use Rattle.rice_stream.specs.EncodingState.{Beginning, IsEncodingOf}
 use Rattle.rice_stream.proofs.encoding.Encoding.push_each.Given as goal
 
 abbrev pub invariant-loop-at : goal.invariant-loop-at
 invariant-loop-at g l = record {
   within : l.at ≤ length l.samples;
-  holds : (s : Parameters) (old : Option Room) (xs : List ℤ) → IsEncodingOf s old (g.O.Outlet.taken l.fn.outlet) l.fn.self xs → IsEncodingOf s old (g.O.Outlet.taken l.outlet) l.self (xs ++ take l.at l.samples);
+  holds : (s : Parameters) (old : Beginning) (xs : List ℤ) → IsEncodingOf s old (g.O.Outlet.taken l.fn.outlet) l.fn.self xs → IsEncodingOf s old (g.O.Outlet.taken l.outlet) l.self (xs ++ take l.at l.samples);
   failures : g.O.Outlet.failed l.outlet ≡ g.O.Outlet.failed l.fn.outlet;
 }
 

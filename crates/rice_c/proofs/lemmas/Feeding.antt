@@ -1,0 +1,79 @@
+-- What a piece that is fed writes to its caller's memory.
+use Rattle.std.proofs.Common.{◌≡◌, ◌≢◌, ℕ, ◌+◌, ◌<◌, List, [], ◌++◌, length, drop, Option, Some, None, Result, Ok, Err, refl, sym, ◌∙◌, ap, subst, arith, inl, inr, append-nil, length-append, ℤ}
+use Rattle.rice_bits.specs.device.Outlet.{Room, begun, Fills}
+use Rattle.rice_samples.specs.Parameters.{Parameters}
+use Rattle.rice_stream.specs.Calls.{Fails}
+use Rattle.rice_stream.specs.EncodingState.{PushFails}
+use Rattle.rice_stream.specs.Feeding.{EncodesMore, EncodesRest}
+use Rattle.rice_stream.specs.declared.outcome.Fault.{Fault}
+use Rattle.rice_stream.specs.declared.outcome.Fault.TheVariants.{Read, Write, TooLong, SampleOutOfRange, SampleCut, CodeEnds, RunPastSegment, ResidualTooLarge}
+use Rattle.rice_stream.specs.declared.outcome.Report.{Report}
+use Rattle.rice_stream.specs.declared.seam.Seam.{Seam}
+use Rattle.rice_c.specs.declared.report.RiceReport.{RiceReport}
+use Rattle.rice_c.specs.Feeds.{WritesFront, fault_of}
+use Rattle.rice_c.specs.Statuses.{number_of, fault_status, fault_place}
+
+-- the room of an outlet that was not used
+inner : Option Room → Room → Room
+inner None room = room
+inner (Some room) other = room
+
+unused : (a b : Room) → Some b ≡ Some a → Fills a b []
+unfolding inner
+unused a b e = let same : b ≡ a = ap (λ o. inner o a) e in record { borrow = ap (λ r. r.borrow) same; bytes = ap (λ r. r.bytes) same ∙ sym (append-nil a.bytes); rest = ap (λ r. r.rest) same }
+
+module _ (s : Parameters) (xs : List ℤ) (input : List ℕ) (a b : Room) where
+  pub more_fills : (r : Result Seam Fault) → EncodesMore s xs input (Some a) (Some b) r → (more : List ℕ) × Fills a b more
+  more_fills (Ok seam) h = (h.writes.more, h.writes.took)
+  more_fills (Err (SampleOutOfRange index)) h = (h.1.writes.more, h.1.writes.took)
+  more_fills (Err Write) h = (h.2.writes.took.more, h.2.writes.took.took)
+  more_fills (Err TooLong) h = ([], unused a b h.untouched)
+  more_fills (Err Read) h = absurd h
+  more_fills (Err (SampleCut index)) h = absurd h
+  more_fills (Err (CodeEnds samples)) h = absurd h
+  more_fills (Err (RunPastSegment block)) h = absurd h
+  more_fills (Err (ResidualTooLarge block)) h = absurd h
+
+  pub more_fails : (r : Result Seam Fault) (n : ℕ) → EncodesMore s xs input (Some a) (Some b) r → PushFails 0 n r → Fails (fault_of r) 0 0 0 n
+  more_fails (Ok seam) n h f = (refl, f)
+  more_fails (Err (SampleOutOfRange index)) n h f = (refl, f)
+  more_fails (Err Write) n h f = (refl, f)
+  more_fails (Err TooLong) n h f = (refl, f)
+  more_fails (Err Read) n h f = absurd h
+  more_fails (Err (SampleCut index)) n h f = absurd h
+  more_fails (Err (CodeEnds samples)) n h f = absurd h
+  more_fails (Err (RunPastSegment block)) n h f = absurd h
+  more_fails (Err (ResidualTooLarge block)) n h f = absurd h
+
+  pub rest_fills : (r : Report) (fault : Option Fault) → EncodesRest s xs input (Some a) (Some b) r fault → (more : List ℕ) × Fills a b more
+  rest_fills r None h = (h.3.more, h.3.took)
+  rest_fills r (Some (SampleOutOfRange index)) h = (h.1.writes.more, h.1.writes.took)
+  rest_fills r (Some (SampleCut index)) h = (h.1.writes.more, h.1.writes.took)
+  rest_fills r (Some Write) (inl h) = (h.2.writes.took.more, h.2.writes.took.took)
+  rest_fills r (Some Write) (inr h) = (h.3.took.more, h.3.took.took)
+  rest_fills r (Some TooLong) h = ([], unused a b h.0.untouched)
+  rest_fills r (Some Read) h = absurd h
+  rest_fills r (Some (CodeEnds samples)) h = absurd h
+  rest_fills r (Some (RunPastSegment block)) h = absurd h
+  rest_fills r (Some (ResidualTooLarge block)) h = absurd h
+
+pub not_read : (fault : Option Fault) (n : ℕ) → Fails fault 0 0 0 n → fault ≢ Some Read
+not_read fault n fails e = let f : Fails (Some Read) 0 0 0 n = subst (λ (f : Option Fault). Fails f 0 0 0 n) e fails in omega (arith, f.0)
+
+-- the room of an outlet that began with a slice, and what became of the slice
+pub writes_front : (old new : List ℕ) (name failures : ℕ) (room : Room) (fault : Option Fault) (r : RiceReport) (status : ℕ) (wrote : (more : List ℕ) × Fills (begun name old) room more) → new ≡ room.bytes ++ room.rest → length new ≡ length old →
+    Fails fault 0 0 0 failures → (0 < failures → room.rest ≡ []) → status ≡ number_of (fault_status fault) → r.written ≡ length room.bytes → r.place ≡ fault_place fault → WritesFront old new room.bytes fault r status
+writes_front old new name failures room fault r status wrote whole len fails full is written place =
+    let fills = wrote.1 in
+    let both : length new ≡ length room.bytes + length room.rest = ap length whole ∙ length-append room.bytes room.rest in
+    record {
+      front = whole ∙ ap (λ l. room.bytes ++ l) (fills.rest ∙ ap (λ l. drop (length l) old) (sym fills.bytes));
+      fits = omega (arith, both, len);
+      reads = not_read fault failures fails;
+      full = λ e. (let f : Fails (Some Write) 0 0 0 failures = subst (λ (f : Option Fault). Fails f 0 0 0 failures) e fails in
+          let none : length room.rest ≡ 0 = ap length (full (omega (arith, f.1))) in
+          omega (arith, both, len, none));
+      status_is = is;
+      written = written;
+      place = place;
+    }

@@ -1,0 +1,114 @@
+use Rattle.std.proofs.Common.{arith, refl, ◌≡◌, ◌+◌, ◌*◌, ◌≤◌, ◌%◌, ◌++◌, ap, sym, subst, length}
+use Rattle.rice_samples.specs.Parameters.{width}
+use Rattle.rice_stream.specs.Feeding.{behind, EncodesRest}
+use Rattle.rice_stream.proofs.lemmas.EncodingEnds.{push_fails, push_within, within_early, within_all}
+use Rattle.rice_stream.proofs.lemmas.EncodingLemmas.{settled_by}
+use Rattle.rice_stream.proofs.lemmas.Seams.{within_limit, few_all, some_width, rest_stops, rest_cut, rest_all, takes_few}
+use Rattle.rice_stream.proofs.feeding.encode_rest.Goals as goal
+
+pub returns-then-is_too_long-clause-did : goal.returns-then-is_too_long-clause-did
+returns-then-is_too_long-clause-did g c xs h =
+    let now = g.O.Outlet.taken c.args.outlet.now in
+    let s = c.args.setting.now in
+    let size : c.width-width.result * c.args.seam.now.samples ≡ width s * length xs = (λ i. c.width-width.ensures.value i * h.samples i) in
+    subst (EncodesRest s xs c.args.bytes.now now now c.stopped.result.report) (sym c.stopped.ensures.fault)
+    (record { passes = omega (arith, c.is_too_long.ensures.0 c.if-is_too_long.true, size); untouched = refl }, c.stopped.ensures.told s xs (c.resume-encoding.ensures now xs h).counts)
+
+pub push_all-requires-clause-ready : goal.push_all-requires-clause-ready
+push_all-requires-clause-ready g c =
+    let now = g.O.Outlet.taken c.args.outlet.now in
+    let s = c.args.setting.now in
+    let xs = c.requires.seam.0 in
+    let h = c.requires.seam.1 in
+    let size : c.width-width.result * c.args.seam.now.samples ≡ width s * length xs = (λ i. c.width-width.ensures.value i * h.samples i) in
+    let limit : width s * length xs + length c.args.bytes.now ≤ 281474976710656 = omega (arith, size, within_limit (c.width-width.result * c.args.seam.now.samples + length c.args.bytes.now) c.if-is_too_long.ensures.1) in
+    (behind s xs now, xs, c.resume-encoding.ensures now xs h, few_all (width s) (length xs) (length c.args.bytes.now) (some_width s) limit)
+
+pub returns-in-Err-clause-did : goal.returns-in-Err-clause-did
+returns-in-Err-clause-did g c xs h =
+    let now = g.O.Outlet.taken c.args.outlet.now in
+    let new = g.O.Outlet.taken c.push_all.new.outlet in
+    let s = c.args.setting.now in
+    let o = c.stopped-in-Err in
+    rest_stops s now new c.push_all.new.self o.result.report xs c.args.bytes.now c.in-Err.fault o.result.fault o.ensures.fault (λ ys k. o.ensures.told s ys k)
+    (c.in-Err.ensures.did (behind s xs now) xs (c.resume-encoding.ensures now xs h))
+
+pub returns-in-Err-clause-failures : goal.returns-in-Err-clause-failures
+returns-in-Err-clause-failures g c =
+    let now = g.O.Outlet.taken c.args.outlet.now in
+    let new = g.O.Outlet.taken c.push_all.new.outlet in
+    let s = c.args.setting.now in
+    let xs = c.requires.seam.0 in
+    let h = c.requires.seam.1 in
+    push_fails s (behind s xs now) new c.push_all.new.self xs c.args.bytes.now c.in-Err.fault c.stopped-in-Err.result.fault 0 0 (g.O.Outlet.failed c.args.outlet.now) (g.O.Outlet.failed c.args.outlet.now) (g.O.Outlet.failed c.push_all.new.outlet)
+    refl refl (c.in-Err.ensures.did (behind s xs now) xs (c.resume-encoding.ensures now xs h)) c.in-Err.ensures.failures c.stopped-in-Err.ensures.fault
+
+pub returns-then-bytes-width-gt0-clause-did : goal.returns-then-bytes-width-gt0-clause-did
+returns-then-bytes-width-gt0-clause-did g c xs h =
+    let now = g.O.Outlet.taken c.args.outlet.now in
+    let new = g.O.Outlet.taken c.push_all.new.outlet in
+    let s = c.args.setting.now in
+    let o = c.stopped-then-bytes-width-gt0 in
+    let bytes = c.args.bytes.now in
+    let same : length bytes % c.width-width.result ≡ length bytes % width s = ap (λ w. length bytes % w) c.width-width.ensures.value in
+    rest_cut s now new c.push_all.new.self o.result.report xs bytes c.taken-index.result o.result.fault o.ensures.fault c.taken-index.ensures (λ ys k. o.ensures.told s ys k)
+    (c.in-Ok.ensures.did (behind s xs now) xs (c.resume-encoding.ensures now xs h)) (omega (arith, same, c.if-bytes-width-gt0.true))
+
+pub finish-requires-clause-ready : goal.finish-requires-clause-ready
+finish-requires-clause-ready g c =
+    let now = g.O.Outlet.taken c.args.outlet.now in
+    let new = g.O.Outlet.taken c.push_all.new.outlet in
+    let s = c.args.setting.now in
+    let xs = c.requires.seam.0 in
+    let h = c.requires.seam.1 in
+    let t = c.in-Ok.ensures.did (behind s xs now) xs (c.resume-encoding.ensures now xs h) in
+    let size : c.width-width.result * c.args.seam.now.samples ≡ width s * length xs = (λ i. c.width-width.ensures.value i * h.samples i) in
+    let limit : width s * length xs + length c.args.bytes.now ≤ 281474976710656 = omega (arith, size, within_limit (c.width-width.result * c.args.seam.now.samples + length c.args.bytes.now) c.if-is_too_long.ensures.1) in
+    (s, behind s xs now, xs ++ t.more, t.holds, takes_few s (behind s xs now) new c.push_all.new.self xs c.args.bytes.now limit t)
+
+pub returns-clause-did : goal.returns-clause-did
+returns-clause-did g c xs h =
+    let now = g.O.Outlet.taken c.args.outlet.now in
+    let mid = g.O.Outlet.taken c.push_all.new.outlet in
+    let new = g.O.Outlet.taken c.finish.new.outlet in
+    let s = c.args.setting.now in
+    let bytes = c.args.bytes.now in
+    let t = c.in-Ok.ensures.did (behind s xs now) xs (c.resume-encoding.ensures now xs h) in
+    let same : length bytes % c.width-width.result ≡ length bytes % width s = ap (λ w. length bytes % w) c.width-width.ensures.value in
+    let did = c.finish.ensures.did s (behind s xs now) (xs ++ t.more) t.holds in
+    rest_all s now mid c.push_all.new.self c.finish.result.report xs bytes c.finish.result.fault t new (omega (arith, same, c.if-bytes-width-gt0.false)) did.0 did.1
+
+pub returns-then-is_too_long-clause-bounds : goal.returns-then-is_too_long-clause-bounds
+returns-then-is_too_long-clause-bounds g c =
+    let now = g.O.Outlet.taken c.args.outlet.now in
+    let s = c.args.setting.now in
+    let xs = c.requires.seam.0 in
+    let k = (c.resume-encoding.ensures now xs c.requires.seam.1).counts in
+    within_early s c.stopped.result.report xs (settled_by s c.resume-encoding.result xs k) (c.stopped.ensures.told s xs k)
+
+pub returns-in-Err-clause-bounds : goal.returns-in-Err-clause-bounds
+returns-in-Err-clause-bounds g c =
+    let now = g.O.Outlet.taken c.args.outlet.now in
+    let new = g.O.Outlet.taken c.push_all.new.outlet in
+    let s = c.args.setting.now in
+    let xs = c.requires.seam.0 in
+    push_within s (behind s xs now) new c.push_all.new.self c.stopped-in-Err.result.report c.in-Err.fault xs c.args.bytes.now (λ ys k. c.stopped-in-Err.ensures.told s ys k)
+    (c.in-Err.ensures.did (behind s xs now) xs (c.resume-encoding.ensures now xs c.requires.seam.1))
+
+pub returns-then-bytes-width-gt0-clause-bounds : goal.returns-then-bytes-width-gt0-clause-bounds
+returns-then-bytes-width-gt0-clause-bounds g c =
+    let now = g.O.Outlet.taken c.args.outlet.now in
+    let s = c.args.setting.now in
+    let xs = c.requires.seam.0 in
+    let t = c.in-Ok.ensures.did (behind s xs now) xs (c.resume-encoding.ensures now xs c.requires.seam.1) in
+    let k = t.holds.counts in
+    within_early s c.stopped-then-bytes-width-gt0.result.report (xs ++ t.more) (settled_by s c.push_all.new.self (xs ++ t.more) k) (c.stopped-then-bytes-width-gt0.ensures.told s (xs ++ t.more) k)
+
+pub returns-clause-bounds : goal.returns-clause-bounds
+returns-clause-bounds g c =
+    let now = g.O.Outlet.taken c.args.outlet.now in
+    let s = c.args.setting.now in
+    let xs = c.requires.seam.0 in
+    let t = c.in-Ok.ensures.did (behind s xs now) xs (c.resume-encoding.ensures now xs c.requires.seam.1) in
+    let did = c.finish.ensures.did s (behind s xs now) (xs ++ t.more) t.holds in
+    within_all s c.finish.result.report (xs ++ t.more) (settled_by s c.push_all.new.self (xs ++ t.more) t.holds.counts) did.0

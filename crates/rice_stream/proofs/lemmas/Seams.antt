@@ -1,0 +1,242 @@
+-- The code between two segments: what is kept of it, and how it goes on.
+use Rattle.std.proofs.Common.{◌≡◌, ℕ, ◌+◌, ◌-◌, ◌*◌, ◌/◌, ◌%◌, ◌^◌, ◌<◌, ◌≤◌, ◌++◌, Bool, false, true, List, [], ◌∷◌, length, take, drop, replicate, slice_index_or, Option, Some, None, Err, refl, ap, sym, ◌∙◌, subst, arith, inl, inr, append-nil, length-append, take-append-drop, ℤ}
+use Rattle.std.specs.Prelude.{IsTrue}
+use Rattle.std.proofs.lemmas.Bool.{cases_lt}
+use Rattle.std.proofs.lemmas.Bool.Decides.{nat_tests}
+use Rattle.std.proofs.lemmas.List.{take_at, length-take-le, length-replicate}
+use Rattle.std.proofs.lemmas.Nat.{shr_below}
+use Rattle.std.proofs.Math.Nat.{mul-le-mul_left, mul-mod_right, div-add-mod}
+use Rattle.rice_bits.specs.device.Outlet.{Room}
+use Rattle.rice_bits.proofs.lemmas.device.OutletLemmas.{Appends-nil}
+use Rattle.rice_bits.specs.Bits.{bits_of, bits_to_byte, padded_bits, whole_bytes, word}
+use Rattle.rice_bits.proofs.lemmas.bits.Bytes.{bits_of-padded, length-bits_of}
+use Rattle.rice_bits.proofs.lemmas.bits.Words.{length-word, word-nil, word-split}
+use Rattle.rice_samples.specs.Parameters.{Parameters, IsLegal, width}
+use Rattle.rice_samples.specs.Places.{cut}
+use Rattle.rice_samples.specs.bytes.Spelling.{spellings}
+use Rattle.rice_samples.proofs.lemmas.setting.CutLemmas.{cut_is_start, cut_is_greatest}
+use Rattle.rice_code.specs.code.Code.{early_output}
+use Rattle.rice_code.specs.encode.Coder.{HasTaken}
+use Rattle.rice_code.specs.encode.OpenSegment.{state_between}
+use Rattle.rice_code.proofs.lemmas.encode.PushedCode.{holds_nothing, between_all}
+use Rattle.rice_stream.specs.Encodes.{ReportsTaken, ReportsAll}
+use Rattle.rice_stream.specs.EncodingState.{Beginning, CountsSamples, IsEncodingOf, TakesAll, Pushes, WritesRest}
+use Rattle.rice_stream.specs.Feeding.{IsSeam, behind, GoesOn, EncodesMore, AreAll, EncodesRest}
+use Rattle.rice_stream.specs.declared.encoding.Encoding.{Encoding}
+use Rattle.rice_stream.specs.declared.outcome.Fault.{Fault}
+use Rattle.rice_stream.specs.declared.outcome.Fault.TheVariants.{Read, Write, TooLong, SampleOutOfRange, SampleCut, CodeEnds, RunPastSegment, ResidualTooLarge}
+use Rattle.rice_stream.specs.declared.outcome.Report.{Report}
+use Rattle.rice_stream.specs.declared.seam.Seam.{Seam}
+use Rattle.rice_stream.proofs.lemmas.EncodingLemmas.{counts_small}
+use Rattle.rice_stream.proofs.lemmas.PartLemmas.{stops_on, none_left, few_more}
+use Rattle.rice_stream.proofs.lemmas.SpellingLengths.{length-spellings}
+
+pub no_bits : (bits : List Bool) → length bits ≡ 0 → word (length bits) 0 ≡ bits
+no_bits [] e = word-nil 0
+no_bits (x ∷ bits) e = absurd (omega arith)
+
+spelled_by : (bits full : List Bool) (bytes : List ℕ) → full ≡ padded_bits bits → bytes ≡ whole_bytes full → bits_of bytes ≡ padded_bits bits
+spelled_by bits full bytes f e = ap bits_of (e ∙ ap whole_bytes f) ∙ bits_of-padded bits
+
+one_long : (bits full : List Bool) (bytes : List ℕ) → full ≡ padded_bits bits → bytes ≡ whole_bytes full → 0 < length bits → length bits < 8 → length bytes ≡ 1
+one_long bits full bytes f e some few =
+    omega (arith, length-bits_of bytes, ap length (spelled_by bits full bytes f e), length-append bits (replicate (bits_to_byte (length bits)) false), length-replicate (bits_to_byte (length bits)) false)
+
+pub one_byte : (bits full : List Bool) (bytes : List ℕ) → full ≡ padded_bits bits → bytes ≡ whole_bytes full → 0 < length bits → length bits < 8 → 0 < length bytes
+one_byte bits full bytes f e some few = omega (arith, one_long bits full bytes f e some few)
+
+one : (x : ℕ) → word 8 x ++ [] ≡ bits_of (x ∷ [])
+unfolding bits_of
+one x = refl
+
+pub byte_digits : (bits full : List Bool) (bytes : List ℕ) (k : ℕ) → full ≡ padded_bits bits → bytes ≡ whole_bytes full → 0 < length bits → length bits < 8 → k ≡ length bits → word (length bits) (slice_index_or bytes 0 0 / 2 ^ (8 - k)) ≡ bits
+byte_digits bits full [] k f e some few is = absurd (omega (arith, one_long bits full [] f e some few))
+byte_digits bits full (x ∷ y ∷ l) k f e some few is = absurd (omega (arith, one_long bits full (x ∷ y ∷ l) f e some few))
+byte_digits bits full (x ∷ []) k f e some few is =
+    let n = length bits in
+    let eight : n + (8 - k) ≡ 8 = omega arith in
+    let high = word n (x / 2 ^ (8 - k)) in
+    let split = word-split n (8 - k) x in
+    let whole = ap (λ m. word m x) eight in
+    sym (take_at high _ n (length-word n (x / 2 ^ (8 - k)))) ∙ ap (take n) (sym split ∙ whole ∙ sym (append-nil (word 8 x)) ∙ one x ∙ spelled_by bits full (x ∷ []) f e) ∙ take_at bits (replicate (bits_to_byte n) false) n refl
+
+pub byte_fits : (x n k : ℕ) → x < 256 → n < 8 → k ≡ n → x / 2 ^ (8 - k) < 2 ^ n
+byte_fits x n k byte few is = shr_below x n (8 - k) (let e : n + (8 - k) ≡ 8 = omega arith in subst (λ m. x < 2 ^ m) (sym e) byte)
+
+-- ---- where the code goes on
+
+pub some_width : (s : Parameters) → 1 ≤ width s
+some_width s = grind (arith, nat_tests)
+
+abbrev pub encoding_at : Parameters → Seam → Encoding
+encoding_at s seam = record { coder = state_between s seam.start seam.previous; sink = word seam.waiting_bits seam.waiting; meter = seam.steps; samples = seam.samples; bits = seam.bits }
+
+pub resumed : (s : Parameters) (seam : Seam) (xs : List ℤ) (now : Option Room) → IsSeam s seam xs → IsEncodingOf s (behind s xs now) now (encoding_at s seam) xs
+resumed s seam xs now h = record {
+  counts = record { setting = refl; stands = h.taken; samples = h.samples; bits = h.bits; least = h.least; most = h.most };
+  sink = h.waiting;
+  took = record { more = []; split = sym (append-nil (early_output s xs)); took = Appends-nil now };
+}
+
+-- so many samples stand in at least as many bytes
+pub few_all : (w n m : ℕ) → 1 ≤ w → w * n + m ≤ 281474976710656 → n + m ≤ 281474976710656
+few_all w n m some le = let p : n * 1 ≤ n * w = mul-le-mul_left n some in omega (arith, p, le)
+
+pub within_limit : (n : ℕ) → (281474976710656 < n → IsTrue false) → n ≤ 281474976710656
+within_limit n h = elim (cases_lt 281474976710656 n) [
+  | inl lt ↦ let e : false ≡ true = h lt in grind (arith, nat_tests)
+  | inr le ↦ le
+]
+
+-- whole samples fit the bytes that they are taken from
+pub fit_in : (w n k : ℕ) → k ≤ n / w → w * k ≤ n
+fit_in w n k le = let p : w * k ≤ w * (n / w) = mul-le-mul_left w le in omega (arith, p, div-add-mod n w)
+
+pub few_steps_so_far : (s : Parameters) (seam : Seam) (xs : List ℤ) → IsSeam s seam xs → seam.steps < 4611686018427387904
+few_steps_so_far s seam xs h =
+    let small = (counts_small s (encoding_at s seam) xs (resumed s seam xs None h).counts).1 in
+    omega (arith, small, few_all (width s) (length xs) 0 (some_width s) (omega (arith, h.limit)))
+
+-- where the samples make whole segments, the encoding's place is a seam
+pub seam_of : (s : Parameters) (old : Beginning) (now : Option Room) (e : Encoding) (seam : Seam) (xs : List ℤ) → IsEncodingOf s old now e xs → cut s (length xs) ≡ length xs → width s * length xs ≤ 281474976710656 →
+    seam.samples ≡ e.samples → seam.bits ≡ e.bits → seam.steps ≡ e.meter → seam.previous ≡ e.coder.previous → seam.start ≡ e.coder.start → seam.waiting_bits ≡ length e.sink → word (length e.sink) seam.waiting ≡ e.sink → seam.waiting < 2 ^ length e.sink → length e.sink < 8 → IsSeam s seam xs
+seam_of s old now e seam xs h all limit samples bits steps previous start count digits fits few =
+    let nothing : e.coder ≡ state_between e.coder.setting e.coder.start e.coder.previous = holds_nothing e.coder xs h.counts.stands (ap (λ t. cut t (length xs)) h.counts.setting ∙ all) in
+    let same : e.coder ≡ state_between s seam.start seam.previous = nothing ∙ (λ i. state_between (h.counts.setting i) (sym start i) (sym previous i)) in
+    record {
+      taken = subst (λ c. HasTaken c xs) same h.counts.stands;
+      samples = samples ∙ h.counts.samples;
+      bits = bits ∙ h.counts.bits;
+      least = omega (arith, steps, h.counts.least);
+      most = omega (arith, steps, h.counts.most);
+      waiting = ap (λ n. word n seam.waiting) count ∙ digits ∙ h.sink;
+      few = omega (arith, count, few);
+      fits = subst (λ n. seam.waiting < 2 ^ n) (sym count) fits;
+      limit = limit;
+    }
+
+-- ---- what a piece gives
+
+same_count : (w n m : ℕ) → 1 ≤ w → w * n ≡ w * m → n ≡ m
+same_count w n m some e = elim (cases_lt n m) [
+  | inl lt ↦ absurd (let p : w * (n + 1) ≤ w * m = mul-le-mul_left w (omega arith) in omega (arith, p, e, some))
+  | inr le ↦ elim (cases_lt m n) [
+    | inl lt ↦ absurd (let p : w * (m + 1) ≤ w * n = mul-le-mul_left w (omega arith) in omega (arith, p, e, some))
+    | inr ge ↦ omega (arith, le, ge)
+  ]
+]
+
+-- a cut is its own
+pub cut_again : (s : Parameters) (m : ℕ) → IsLegal s → cut s (cut s m) ≡ cut s m
+cut_again s m legal =
+    let k = cut_is_start s legal m in
+    let low = cut_is_greatest s legal (cut s m) k.0 k.2 (omega (arith, k.1)) in
+    let high = (cut_is_start s legal (cut s m)).3 in
+    omega (arith, low, high, k.1)
+
+-- more samples make no fewer whole segments
+pub cut_grows : (s : Parameters) (seam : Seam) (xs : List ℤ) (n : ℕ) → IsSeam s seam xs → length xs ≤ n → length xs ≤ cut s n
+cut_grows s seam xs n h le =
+    let legal = h.taken.holds.legal in
+    let k = cut_is_start s legal (length xs) in
+    let all = between_all s seam.start seam.previous xs h.taken in
+    let up = cut_is_greatest s legal n k.0 k.2 (omega (arith, k.1, all, le)) in
+    omega (arith, up, k.1, all)
+
+pub goes_on : (s : Parameters) (old new : Option Room) (e : Encoding) (at seam : Seam) (xs : List ℤ) (bytes : List ℕ) (count : ℕ) → IsSeam s at xs → TakesAll s (behind s xs old) new e xs (take (width s * count) bytes) →
+    length xs + count ≡ cut s (length xs + length bytes / width s) → width s * count ≤ length bytes → width s * length xs + length bytes ≤ 281474976710656 →
+    ((ys : List ℤ) → IsEncodingOf s (behind s xs old) new e ys → cut s (length ys) ≡ length ys → width s * length ys ≤ 281474976710656 → IsSeam s seam ys) → GoesOn s xs bytes old new seam
+goes_on s old new e at seam xs bytes count h t is within limit stands =
+    let w = width s in
+    let len = length-take-le (w * count) bytes within in
+    let spelled = none_left s t.more (take (w * count) bytes) t.rest count t.reads t.few len in
+    let n : length t.more ≡ count = same_count w (length t.more) count (some_width s) (omega (arith, ap length spelled, length-spellings s t.more, len)) in
+    let size = length-append xs t.more in
+    let all : length (xs ++ t.more) ≡ cut s (length xs + length bytes / w) = omega (arith, size, n, is) in
+    let whole : cut s (length (xs ++ t.more)) ≡ length (xs ++ t.more) = ap (cut s) all ∙ cut_again s (length xs + length bytes / w) h.taken.holds.legal ∙ sym all in
+    let part : w * length (xs ++ t.more) ≡ w * length xs + w * length t.more = parts w _ _ _ size in
+    let same : w * length t.more ≡ w * count = ap (λ m. w * m) n in
+    record {
+      more = t.more;
+      rest = drop (w * count) bytes;
+      reads = record { split = sym (take-append-drop (w * count) bytes) ∙ ap (λ l. l ++ drop (w * count) bytes) spelled; legal = t.reads.legal };
+      all = all;
+      stands = stands (xs ++ t.more) t.holds whole (omega (arith, part, same, within, limit));
+      writes = t.holds.took;
+    }
+  where
+    parts : (w m n k : ℕ) → m ≡ n + k → w * m ≡ w * n + w * k
+    parts w m n k e = ap (λ v. w * v) e ∙ (let p : w * (n + k) ≡ w * n + w * k = omega arith in p)
+
+-- what stops it inside the bytes, with others behind them
+pub stopped_in : (s : Parameters) (old : Beginning) (new : Option Room) (e : Encoding) (xs : List ℤ) (bytes : List ℕ) (k : ℕ) (f : Fault) → Pushes {T = Unit {0}} s old new e xs (take k bytes) (Err f) → Pushes {T = Unit {0}} s old new e xs bytes (Err f)
+stopped_in s old new e xs bytes k f h =
+    subst (λ (l : List ℕ). Pushes {T = Unit {0}} s old new e xs l (Err f)) (take-append-drop k bytes)
+    (stops_on s old new e xs [] [] (take k bytes) refl (λ k d lt. absurd (omega arith)) (drop k bytes) f (subst (λ (l : List ℤ). Pushes {T = Unit {0}} s old new e l (take k bytes) (Err f)) (sym (append-nil xs)) h))
+
+pub more_stops : (s : Parameters) (old new : Option Room) (e : Encoding) (xs : List ℤ) (bytes : List ℕ) (f : Fault) → Pushes {T = Unit {0}} s (behind s xs old) new e xs bytes (Err f) → EncodesMore s xs bytes old new (Err f)
+more_stops s old new e xs bytes (SampleOutOfRange index) m = (m.0.more, record { rest = m.0.rest; reads = m.0.reads; none = m.0.none; index_is = m.1 ∙ m.0.holds.counts.samples; writes = m.0.holds.took })
+more_stops s old new e xs bytes Write m = (m.more, m.last, record { rest = m.rest; reads = m.reads; writes = m.fails.takes })
+more_stops s old new e xs bytes Read bad = absurd bad
+more_stops s old new e xs bytes TooLong bad = absurd bad
+more_stops s old new e xs bytes (SampleCut index) bad = absurd bad
+more_stops s old new e xs bytes (CodeEnds samples) bad = absurd bad
+more_stops s old new e xs bytes (RunPastSegment block) bad = absurd bad
+more_stops s old new e xs bytes (ResidualTooLarge block) bad = absurd bad
+
+-- ---- what the last piece gives
+
+module _ (s : Parameters) (old new : Option Room) (e : Encoding) (r : Report) (xs : List ℤ) (bytes : List ℕ) where
+  rest_stops_at : (f : Fault) → ((ys : List ℤ) → CountsSamples s e ys → ReportsTaken s r ys) → Pushes {T = Unit {0}} s (behind s xs old) new e xs bytes (Err f) → EncodesRest s xs bytes old new r (Some f)
+  rest_stops_at (SampleOutOfRange index) told m =
+      (m.0.more, record { rest = m.0.rest; reads = m.0.reads; none = m.0.none; index_is = m.1 ∙ m.0.holds.counts.samples; writes = m.0.holds.took }, told (xs ++ m.0.more) m.0.holds.counts)
+  rest_stops_at Write told m = inl (m.more, m.last, record { rest = m.rest; reads = m.reads; writes = m.fails.takes }, told ((xs ++ m.more) ++ m.last ∷ []) m.fails.counts)
+  rest_stops_at Read told bad = absurd bad
+  rest_stops_at TooLong told bad = absurd bad
+  rest_stops_at (SampleCut index) told bad = absurd bad
+  rest_stops_at (CodeEnds samples) told bad = absurd bad
+  rest_stops_at (RunPastSegment block) told bad = absurd bad
+  rest_stops_at (ResidualTooLarge block) told bad = absurd bad
+
+  pub rest_stops : (f : Fault) (g : Option Fault) → g ≡ Some f → ((ys : List ℤ) → CountsSamples s e ys → ReportsTaken s r ys) → Pushes {T = Unit {0}} s (behind s xs old) new e xs bytes (Err f) → EncodesRest s xs bytes old new r g
+  rest_stops f g is told m = subst (EncodesRest s xs bytes old new r) (sym is) (rest_stops_at f told m)
+
+  -- a sample is cut off
+  pub rest_cut : (index : ℕ) (g : Option Fault) → g ≡ Some (SampleCut index) → index ≡ e.samples → ((ys : List ℤ) → CountsSamples s e ys → ReportsTaken s r ys) → TakesAll s (behind s xs old) new e xs bytes → 0 < length bytes % width s → EncodesRest s xs bytes old new r g
+  rest_cut index g is same told t cut_off = subst (EncodesRest s xs bytes old new r) (sym is) (
+    t.more,
+    record {
+      rest = t.rest;
+      reads = t.reads;
+      cut_off = (λ none. absurd (omega (arith, whole none, cut_off)), t.few);
+      index_is = same ∙ t.holds.counts.samples;
+      writes = t.holds.took;
+    },
+    told (xs ++ t.more) t.holds.counts,
+  )
+    where
+      whole : t.rest ≡ [] → length bytes % width s ≡ 0
+      whole none = ap (λ n. n % width s) (ap length t.reads.split ∙ ap (λ l. length (spellings s t.more ++ l)) none ∙ ap length (append-nil (spellings s t.more)) ∙ length-spellings s t.more) ∙ mul-mod_right (width s) (length t.more)
+
+  -- all are coded
+  pub rest_all : (f : Option Fault) (t : TakesAll s (behind s xs old) new e xs bytes) (last : Option Room) → length bytes % width s ≡ 0 → ReportsAll s r (xs ++ t.more) → WritesRest s (behind s xs old) last (xs ++ t.more) f → EncodesRest s xs bytes old last r f
+  rest_all None t last whole told wrote = (t.more, are_all, told, wrote)
+    where
+      are_all : AreAll s xs bytes old last t.more
+      are_all = record { spelled = none_left s t.more bytes t.rest (length bytes / width s) t.reads t.few (omega (arith, div-add-mod (length bytes) (width s), whole)); legal = t.reads.legal }
+  rest_all (Some Write) t last whole told wrote = inr (t.more, are_all, told, wrote)
+    where
+      are_all : AreAll s xs bytes old last t.more
+      are_all = record { spelled = none_left s t.more bytes t.rest (length bytes / width s) t.reads t.few (omega (arith, div-add-mod (length bytes) (width s), whole)); legal = t.reads.legal }
+  rest_all (Some Read) t last whole told bad = absurd bad
+  rest_all (Some TooLong) t last whole told bad = absurd bad
+  rest_all (Some (SampleOutOfRange index)) t last whole told bad = absurd bad
+  rest_all (Some (SampleCut index)) t last whole told bad = absurd bad
+  rest_all (Some (CodeEnds samples)) t last whole told bad = absurd bad
+  rest_all (Some (RunPastSegment block)) t last whole told bad = absurd bad
+  rest_all (Some (ResidualTooLarge block)) t last whole told bad = absurd bad
+
+-- so few samples that all their steps are counted
+pub takes_few : (s : Parameters) (old : Beginning) (new : Option Room) (e : Encoding) (xs : List ℤ) (bytes : List ℕ) → width s * length xs + length bytes ≤ 281474976710656 → (t : TakesAll s old new e xs bytes) → length (xs ++ t.more) ≤ 281474976710656
+takes_few s old new e xs bytes limit t =
+    omega (arith, few_all (width s) (length xs) (length bytes) (some_width s) limit, length-append xs t.more, few_more s t.more bytes t.rest t.reads (some_width s))

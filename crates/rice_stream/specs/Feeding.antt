@@ -1,0 +1,94 @@
+-- Encoding piece by piece: where the code stands between two calls, and what each call writes.
+use Rattle.std.specs.Prelude.{◌≡◌, ℕ, ◌+◌, ◌*◌, ◌/◌, ◌^◌, ◌<◌, ◌≤◌, ◌⊎◌, List, [], ◌∷◌, ◌++◌, length, drop, All, Option, Some, None, Result, Ok, Err, ℤ}
+use Rattle.rice_bits.specs.device.Outlet.{Room}
+use Rattle.rice_bits.specs.Bits.{bits_in_bytes, word}
+use Rattle.rice_samples.specs.Parameters.{Parameters, IsSample, width}
+use Rattle.rice_samples.specs.Places.{cut}
+use Rattle.rice_samples.specs.bytes.Spelling.{spellings, EndsSpelling, NoSpelling, TooFew}
+use Rattle.rice_code.specs.code.Code.{code_bits, output, early_output}
+use Rattle.rice_code.specs.encode.Coder.{HasTaken, complete_samples, complete_code}
+use Rattle.rice_code.specs.encode.OpenSegment.{state_between}
+use Rattle.rice_code.specs.Steps.{least_steps, most_steps}
+use Rattle.rice_stream.specs.Encodes.{ReportsTaken, ReportsAll}
+use Rattle.rice_stream.specs.EncodingState.{Beginning, Follows, FollowsBetween, Reads}
+use Rattle.rice_stream.specs.declared.outcome.Fault.{Fault}
+use Rattle.rice_stream.specs.declared.outcome.Fault.TheVariants.{Write, TooLong, SampleOutOfRange, SampleCut}
+use Rattle.rice_stream.specs.declared.outcome.Report.{Report}
+use Rattle.rice_stream.specs.declared.seam.Seam.{Seam}
+
+-- The samples make whole segments, and the seam stands behind their code: it counts them, and holds the bits of the byte that is not whole.
+pub record IsSeam (s : Parameters) (seam : Seam) (xs : List ℤ) : Type 0 where
+  pub taken : HasTaken (state_between s seam.start seam.previous) xs
+  pub samples : seam.samples ≡ length xs
+  pub bits : seam.bits ≡ code_bits s (complete_samples s xs)
+  pub least : length xs + least_steps s (complete_samples s xs) ≤ seam.steps
+  pub most : seam.steps ≤ length xs + most_steps s (complete_samples s xs)
+  pub waiting : word seam.waiting_bits seam.waiting ≡ drop (bits_in_bytes (length (complete_code s xs))) (complete_code s xs)
+  pub few : seam.waiting_bits < 8
+  pub fits : seam.waiting < 2 ^ seam.waiting_bits
+  pub limit : width s * length xs ≤ 2 ^ 48
+
+-- an outlet takes what follows the whole bytes of the code of these samples
+abbrev pub behind : Parameters → List ℤ → Option Room → Beginning
+behind s xs now = record { before = early_output s xs; state = now }
+
+module _ (s : Parameters) (xs : List ℤ) (bytes : List ℕ) (old new : Option Room) where
+  -- Of the samples that the bytes spell those of the complete segments are taken, and the whole bytes of their code are written.
+  pub record GoesOn (seam : Seam) : Type 0 where
+    pub more : List ℤ
+    pub rest : List ℕ
+    pub reads : Reads s bytes more rest
+    pub all : length (xs ++ more) ≡ cut s (length xs + length bytes / width s)
+    pub stands : IsSeam s seam (xs ++ more)
+    pub writes : Follows (behind s xs old) new (early_output s (xs ++ more))
+
+  -- the bytes spell these samples, and then none; the code of the complete segments is written
+  pub record MeetsNone (more : List ℤ) (index : ℕ) : Type 0 where
+    pub rest : List ℕ
+    pub reads : Reads s bytes more rest
+    pub none : EndsSpelling s rest NoSpelling
+    pub index_is : index ≡ length (xs ++ more)
+    pub writes : Follows (behind s xs old) new (early_output s (xs ++ more))
+
+  -- the last of these samples completes a segment, and the outlet fails before all of its code is written
+  pub record WantsRoom (more : List ℤ) (last : ℤ) : Type 0 where
+    pub rest : List ℕ
+    pub reads : Reads s bytes (more ++ last ∷ []) rest
+    pub writes : FollowsBetween (behind s xs old) new (early_output s (xs ++ more)) (early_output s ((xs ++ more) ++ last ∷ []))
+
+  -- the samples so far and these bytes pass the limit, and nothing is done
+  pub record PassesAll : Type 0 where
+    pub passes : 2 ^ 48 < width s * length xs + length bytes
+    pub untouched : new ≡ old
+
+  -- what becomes of a piece of the samples
+  abbrev pub EncodesMore : Result Seam Fault → Type 0
+  EncodesMore (Ok seam) = GoesOn seam
+  EncodesMore (Err (SampleOutOfRange index)) = (more : List ℤ) × MeetsNone more index
+  EncodesMore (Err Write) = (more : List ℤ) × (last : ℤ) × WantsRoom more last
+  EncodesMore (Err TooLong) = PassesAll
+  EncodesMore (Err _) = ⊥
+
+  -- the bytes spell these samples and no others
+  pub record AreAll (more : List ℤ) : Type 0 where
+    pub spelled : bytes ≡ spellings s more
+    pub legal : All (IsSample s) more
+
+  -- these samples are cut off
+  pub record MeetsCut (more : List ℤ) (index : ℕ) : Type 0 where
+    pub rest : List ℕ
+    pub reads : Reads s bytes more rest
+    pub cut_off : EndsSpelling s rest TooFew
+    pub index_is : index ≡ length (xs ++ more)
+    pub writes : Follows (behind s xs old) new (early_output s (xs ++ more))
+
+  -- what becomes of the last piece
+  abbrev pub EncodesRest : Report → Option Fault → Type 0
+  EncodesRest r None = (more : List ℤ) × AreAll more × ReportsAll s r (xs ++ more) × Follows (behind s xs old) new (output s (xs ++ more))
+  EncodesRest r (Some (SampleOutOfRange index)) = (more : List ℤ) × MeetsNone more index × ReportsTaken s r (xs ++ more)
+  EncodesRest r (Some (SampleCut index)) = (more : List ℤ) × MeetsCut more index × ReportsTaken s r (xs ++ more)
+  EncodesRest r (Some Write) =
+      ((more : List ℤ) × (last : ℤ) × WantsRoom more last × ReportsTaken s r ((xs ++ more) ++ last ∷ []))
+      ⊎ ((more : List ℤ) × AreAll more × ReportsAll s r (xs ++ more) × FollowsBetween (behind s xs old) new (early_output s (xs ++ more)) (output s (xs ++ more)))
+  EncodesRest r (Some TooLong) = PassesAll × ReportsTaken s r xs
+  EncodesRest r (Some _) = ⊥

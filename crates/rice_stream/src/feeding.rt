@@ -1,0 +1,94 @@
+//! From samples to their code, piece by piece.
+ghost use Rattle.std.specs.Prelude.{◌≡◌, ℕ, ◌+◌, ◌*◌, ◌^◌, ◌<◌, ◌≤◌, ◌↔◌, IsTrue, List, length, ℤ};
+ghost use Rattle.rice_samples.specs.Places.{cut};
+ghost use Rattle.rice_stream.specs.Calls.{Fails};
+ghost use Rattle.rice_stream.specs.Encodes.{EncodesWithin};
+ghost use Rattle.rice_stream.specs.EncodingState.{PushFails};
+ghost use Rattle.rice_stream.specs.Feeding.{IsSeam, EncodesMore, EncodesRest};
+
+use crate::encoding::{Encoding, LIMIT, SAMPLES};
+use crate::outcome::{Fault, Outcome};
+use crate::seam::Seam;
+use rice_bits::Outlet;
+use rice_samples::Setting;
+
+/// Encodes the next samples, which the bytes spell, and returns where their code ends.
+///
+/// It takes the samples of all segments that are whole then, and writes what their code completes. The others,
+/// fewer than a segment, are left to the caller, and come again at the front of the next piece.
+pub fn encode_more<O: Outlet>(
+    setting: &Setting,
+    seam: &Seam,
+    bytes: &[u8],
+    outlet: &mut O,
+) -> Result<Seam, Fault>
+    requires seam { (xs : List ℤ) × IsSeam setting.now seam.now xs }
+    requires writes { O.failed outlet.old + 1 < 2 ^ 64 }
+    ensures did { (xs : List ℤ) → IsSeam setting.now seam.now xs →
+        EncodesMore setting.now xs bytes.now (O.taken outlet.old) (O.taken outlet.new) result }
+    ensures failures { PushFails (O.failed outlet.old) (O.failed outlet.new) result }
+{
+    let width = setting.width() as usize;
+    if is_too_long(width, seam.samples, bytes.len()) {
+        return Err(Fault::TooLong);
+    }
+    let all = seam.samples + (bytes.len() / width) as u64;
+    let count = in_whole_segments(setting, all) - seam.samples;
+    let part = &bytes[..width * count as usize];
+    let mut encoding = Encoding::resume(*setting, seam);
+    let mut samples = [0i64; SAMPLES];
+    match encoding.push_all(setting, part, &mut samples, outlet) {
+        Ok(()) => Ok(encoding.seam()),
+        Err(fault) => Err(fault),
+    }
+}
+
+/// Encodes the last samples, which the bytes spell, and writes the rest of the code. The report is that of all samples.
+pub fn encode_rest<O: Outlet>(
+    setting: &Setting,
+    seam: &Seam,
+    bytes: &[u8],
+    outlet: &mut O,
+) -> Outcome
+    requires seam { (xs : List ℤ) × IsSeam setting.now seam.now xs }
+    requires writes { O.failed outlet.old + 1 < 2 ^ 64 }
+    ensures did { (xs : List ℤ) → IsSeam setting.now seam.now xs →
+        EncodesRest setting.now xs bytes.now (O.taken outlet.old) (O.taken outlet.new) result.report result.fault }
+    ensures failures { Fails result.fault 0 0 (O.failed outlet.old) (O.failed outlet.new) }
+    ensures bounds { EncodesWithin setting.now result.report }
+{
+    let width = setting.width() as usize;
+    let mut encoding = Encoding::resume(*setting, seam);
+    if is_too_long(width, seam.samples, bytes.len()) {
+        return encoding.stopped(Fault::TooLong);
+    }
+    let mut samples = [0i64; SAMPLES];
+    match encoding.push_all(setting, bytes, &mut samples, outlet) {
+        Ok(()) => {}
+        Err(fault) => return encoding.stopped(fault),
+    }
+    if bytes.len() % width > 0 {
+        let index = encoding.taken();
+        return encoding.stopped(Fault::SampleCut { index });
+    }
+    encoding.finish(outlet)
+}
+
+/// Returns whether samples of `width` bytes and so many bytes behind them pass the limit of a code.
+fn is_too_long(width: usize, samples: u64, bytes: usize) -> bool
+    requires width { width ≤ 4 }
+    requires samples { width * samples ≤ 2 ^ 48 }
+    ensures { IsTrue result ↔ (2 ^ 48 < width * samples + bytes) }
+{
+    bytes as u64 > LIMIT - width as u64 * samples
+}
+
+/// Returns how many of so many samples make whole segments.
+fn in_whole_segments(setting: &Setting, samples: u64) -> u64
+    ensures value { result ≡ cut setting.now samples }
+    ensures limit { result ≤ samples }
+{
+    let size = setting.block() as u64;
+    let blocks = samples / size;
+    size * (blocks - blocks % setting.interval() as u64 % 64)
+}
