@@ -130,8 +130,9 @@ uint32_t rice_begin(const struct rice_setting *setting, struct rice_feed *feed);
 /* Gives the feed the samples at `samples`, which has `samples_len` bytes: those that come behind the `feed->samples` samples
  * taken so far. It takes all that make whole segments (64 blocks, or the rest of an interval), counts them in
  * `feed->samples`, and writes to `code` the bytes that their code completes. It takes none of the others, fewer than a
- * segment: give them again, with more behind them. What it takes depends on the number of samples alone. `report` counts all samples since rice_begin,
- * but for `written`, which counts the bytes of this call. Returns a status of enum rice_status:
+ * segment: give them again, with more behind them. What it takes depends on the number of samples alone. `report` counts
+ * all samples since rice_begin, but for `written`, which counts the bytes of this call. Returns a status of enum
+ * rice_status:
  *   RICE_DONE                 all of that is done. The bytes written by all calls are the front of what rice_encode writes.
  *   RICE_SAMPLE_OUT_OF_RANGE  of a sample among those to take; `place` counts from rice_begin on.
  *   RICE_NO_ROOM              the bytes don't fit.
