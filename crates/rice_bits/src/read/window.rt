@@ -4,7 +4,7 @@ ghost use Rattle.rice_bits.specs.Bits.{bits_of, fundamental_sequence, word};
 ghost use Rattle.rice_bits.specs.read.Reader.{is_blank};
 ghost use Rattle.rice_bits.specs.read.Window.{AreParted, four_powers, buffer_len, most_at_once, most_waiting};
 
-use crate::bits::digits::{behind_front, digits_behind, four_words, front_digits, powers_of};
+use crate::bits::digits::{digits_behind, four_words, front_digits, powers_of};
 use crate::bits::octets::{load, store_zeros};
 use crate::read::ones::{find_ends, write_gaps};
 use std::simd::prelude::*;
@@ -275,34 +275,7 @@ fn words_from(bytes: &[u8], at: usize, width: u32, words: &mut [u32])
     if width < 1 || width > 8 || words.len() < 4 {
         return each_from(bytes, at, width, words);
     }
-    if width <= 7 && words.len() % 8 == 0 {
-        return eights_from(bytes, at, width, words);
-    }
     fours_from(bytes, at, width, words);
-}
-
-/// As `words_from`, eight words at a time.
-#[inline]
-fn eights_from(bytes: &[u8], at: usize, width: u32, words: &mut [u32])
-    requires width { (1 ≤ width) × (width ≤ 7) }
-    requires eights { length words.old % 8 ≡ 0 }
-    requires few { length words.old ≤ 64 }
-    requires within { at + length words.old * width ≤ most_waiting }
-    requires room { buffer_len ≤ length bytes.now }
-    ensures fit { All (λ v. v < 2 ^ width) words.new }
-    ensures bits { flat_map (word width) words.new
-        ≡ take (length words.new * width) (drop at (bits_of bytes.now)) }
-{
-    let powers = powers_of(width);
-    for i in 0..words.len() / 8 {
-        // Eight words are in the 57 bits that one load surely has.
-        let front = bits_from(bytes, at + 8 * i * width as usize);
-        let first = four_words(front_digits(front, 32) as u32, powers, width);
-        first.copy_to_slice(&mut words[8 * i..]);
-        let behind = behind_front(front, 4 * width);
-        let second = four_words(front_digits(behind, 32) as u32, powers, width);
-        second.copy_to_slice(&mut words[8 * i + 4..]);
-    }
 }
 
 /// As `words_from`, four words at a time.

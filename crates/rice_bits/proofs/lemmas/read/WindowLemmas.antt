@@ -312,25 +312,6 @@ pub four-ahead : (width s r : ℕ) (bits : List Bool) (four : List ℕ) → widt
 four-ahead width s r bits four h few ahead e =
     e ∙ (ap (take (4 * width)) (first-ahead bits 32 (64 - s) s r (omega arith) (omega arith) ahead) ∙ take-take (4 * width) 32 bits (omega arith))
 
--- and the four behind them
-pub four-after : (width s r : ℕ) (bits : List Bool) (four : List ℕ) → width ≤ 7 → s < 8 → word 64 r ≡ take (64 - s) bits ++ replicate s false
-    → flat_map (word width) four ≡ take (4 * width) (word 32 (r * 2 ^ (4 * width) % 2 ^ 64 / 2 ^ 32)) → flat_map (word width) four ≡ take (4 * width) (drop (4 * width) bits)
-four-after width s r bits four h few ahead e =
-    let t = 4 * width in
-    let moved = r * 2 ^ t % 2 ^ 64 in
-    let near = take (64 - s) bits in
-    let zeros : List Bool = replicate s false in
-    let len : length near ≡ 64 - s = omega (arith, few, ap length ahead, length-word 64 r, length-append near zeros, length-replicate s false) in
-    let rest : word (64 - t) r ≡ drop t (word 64 r) =
-    sym (ap (drop t) (word-parts 64 t r (omega (arith, h))) ∙ drop-seam (word t (r / 2 ^ (64 - t))) (word (64 - t) r) t (length-word t (r / 2 ^ (64 - t)))) in
-    let behind : drop t (word 64 r) ≡ drop t near ++ zeros = ap (drop t) ahead ∙ drop-append-le t near zeros (omega (arith, h, few, len)) in
-    let all : word 64 moved ≡ (drop t near ++ zeros) ++ replicate t false = word-moved 64 t r (omega (arith, h)) ∙ ap (λ z. z ++ replicate t false) (rest ∙ behind) in
-    let front : take t (word 32 (moved / 2 ^ 32)) ≡ take t (word 64 moved) = ap (take t) (sym (take-front 64 32 moved (omega arith))) ∙ take-take t 32 (word 64 moved) (omega (arith, h)) in
-    let room : t ≤ length (drop t near) = omega (arith, h, few, len, length-drop t near) in
-    let both : t ≤ length (drop t near ++ zeros) = omega (arith, room, length-append (drop t near) zeros) in
-    e ∙ (front ∙ (ap (take t) all ∙ (take-append-le t (drop t near ++ zeros) (replicate t false) both ∙ (take-append-le t (drop t near) zeros room
-    ∙ (sym (drop-take t t near) ∙ (ap (drop t) (take-take (t + t) (64 - s) bits (omega (arith, h, few))) ∙ drop-take t t bits))))))
-
 -- a sequence at the front of bits with zeros after them is one of those bits
 pub run-within : (m k : ℕ) (rest xs : List Bool) → fundamental_sequence m ++ rest ≡ xs ++ replicate k false → m + 1 ≤ length xs
 run-within m k rest [] e = absurd (no-run m k rest e)
