@@ -65,7 +65,7 @@ struct rice_report {
     uint64_t samples; /* the samples that were encoded, or decoded and written */
     uint64_t bits;    /* the bits of their code, without padding */
     uint64_t steps;   /* the work: a step is a bit, a sample, or a look at a residual */
-    uint64_t written; /* the bytes written, which are the first of the output; those behind them are as they were */
+    uint64_t written; /* the bytes written, which are the first of the output; those after them are as they were */
     uint64_t place;   /* the number that the status names, or 0 */
 };
 
@@ -76,11 +76,11 @@ uint32_t rice_check(const struct rice_setting *setting);
  * `three` is set, and more four. */
 uint32_t rice_sample_width(const struct rice_setting *setting);
 
-/* So many bytes are always enough for the code of so many samples, whatever they are. 0 if the setting is not legal, or
+/* A number of bytes that is always enough for the code of `samples` samples, whatever they are. 0 if the setting is not legal, or
  * there are more than 2^48 samples. */
 uint64_t rice_code_room(const struct rice_setting *setting, uint64_t samples);
 
-/* The report of rice_encode, or of rice_finish, never has more steps for so many samples. 0 as above. A report of decoding
+/* The report of rice_encode, or of rice_finish, never has more steps for `samples` samples. 0 as above. A report of decoding
  * never has more than 2 * bits + samples. */
 uint64_t rice_step_bound(const struct rice_setting *setting, uint64_t samples);
 
@@ -127,10 +127,10 @@ struct rice_feed {
 /* Begins a code of no samples. Returns RICE_DONE; or RICE_BAD_..., and the feed is as it was. */
 uint32_t rice_begin(const struct rice_setting *setting, struct rice_feed *feed);
 
-/* Gives the feed the samples at `samples`, which has `samples_len` bytes: those that come behind the `feed->samples` samples
+/* Gives the feed the samples at `samples`, which has `samples_len` bytes: those that come after the `feed->samples` samples
  * taken so far. It takes all that make whole segments (64 blocks, or the rest of an interval), counts them in
  * `feed->samples`, and writes to `code` the bytes that their code completes. It takes none of the others, fewer than a
- * segment: give them again, with more behind them. What it takes depends on the number of samples alone. `report` counts
+ * segment: give them again, with more after them. What it takes depends on the number of samples alone. `report` counts
  * all samples since rice_begin, but for `written`, which counts the bytes of this call. Returns a status of enum
  * rice_status:
  *   RICE_DONE                 all of that is done. The bytes written by all calls are the front of what rice_encode writes.

@@ -46,7 +46,7 @@ abbrev pub fed : RiceFeed → Result Seam Fault → RiceFeed
 fed feed (Ok seam) = record { setting = feed.setting; seam = seam }
 fed feed (Err fault) = feed
 
--- A call that encodes more samples behind the samples xs. Its report counts all samples of the feed.
+-- A call that encodes more samples after the samples xs. Its report counts all samples of the feed.
 pub record PushesInto (s : Parameters) (xs : List ℤ) (input old new : List ℕ) (feed_old feed_new : RiceFeed) (r : RiceReport) (status : ℕ) : Type 0 where
   pub outcome : Result Seam Fault
   pub name : ℕ

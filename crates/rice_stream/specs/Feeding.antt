@@ -16,7 +16,7 @@ use Rattle.rice_stream.specs.declared.outcome.Fault.TheVariants.{Write, TooLong,
 use Rattle.rice_stream.specs.declared.outcome.Report.{Report}
 use Rattle.rice_stream.specs.declared.seam.Seam.{Seam}
 
--- The samples make whole segments, and the seam stands behind their code: it counts them, and holds the bits of the byte that is not whole.
+-- The samples make whole segments, and the seam stands after their code: it counts them, and holds the bits of the byte that is not whole.
 pub record IsSeam (s : Parameters) (seam : Seam) (xs : List ℤ) : Type 0 where
   pub taken : HasTaken (state_between s seam.start seam.previous) xs
   pub samples : seam.samples ≡ length xs

@@ -74,7 +74,7 @@ pub fn encode_rest<O: Outlet>(
     encoding.finish(outlet)
 }
 
-/// Returns whether samples of `width` bytes and so many bytes behind them pass the limit of a code.
+/// Returns whether `samples` samples of `width` bytes and `bytes` bytes after them pass the limit of a code.
 fn is_too_long(width: usize, samples: u64, bytes: usize) -> bool
     requires width { width ≤ 4 }
     requires samples { width * samples ≤ 2 ^ 48 }
@@ -83,7 +83,7 @@ fn is_too_long(width: usize, samples: u64, bytes: usize) -> bool
     bytes as u64 > LIMIT - width as u64 * samples
 }
 
-/// Returns how many of so many samples make whole segments.
+/// Returns how many of `samples` samples make whole segments.
 fn in_whole_segments(setting: &Setting, samples: u64) -> u64
     ensures value { result ≡ cut setting.now samples }
     ensures limit { result ≤ samples }

@@ -283,7 +283,7 @@ fn ones_of(byte: u8) -> usize
     byte.count_ones() as usize
 }
 
-/// Writes the ends of the ones of `byte`, which stands behind `before` bits, after the first `found` + 1 places.
+/// Writes the ends of the ones of `byte`, which stands after `before` bits, after the first `found` + 1 places.
 /// Returns the number of ends found with these.
 #[inline]
 fn write_ends(byte: u8, before: u8, found: usize, ends: &mut [u8]) -> usize
@@ -299,7 +299,7 @@ fn write_ends(byte: u8, before: u8, found: usize, ends: &mut [u8]) -> usize
     found + ones_of(byte)
 }
 
-/// Writes the ends of the ones of `bytes`, which stand behind `before` bits, after the first `found` + 1 places.
+/// Writes the ends of the ones of `bytes`, which stand after `before` bits, after the first `found` + 1 places.
 /// Returns the number of ends found with these.
 #[inline]
 fn write_all_ends(bytes: &[u8], before: u8, found: usize, ends: &mut [u8]) -> usize

@@ -55,7 +55,7 @@ impl Coder {
         }
     }
 
-    /// Returns a coder that goes on behind whole segments: its next segment begins at the place `start` of
+    /// Returns a coder that goes on after whole segments: its next segment begins at the place `start` of
     /// its interval, and the last sample before it is `previous`.
     pub fn resume(setting: Setting, start: u32, previous: i64) -> Self
         requires { (xs : List ℤ) × HasTaken (state_between setting start previous) xs }

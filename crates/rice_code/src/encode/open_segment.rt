@@ -56,7 +56,7 @@ impl OpenSegment {
         }
     }
 
-    /// Returns the segment that begins at the place `start` of its interval, behind the sample `previous`, without residuals.
+    /// Returns the segment that begins at the place `start` of its interval, after the sample `previous`, without residuals.
     pub fn resume(setting: Setting, start: u32, previous: i64) -> Self
         requires { IsOpen (state_between setting start previous) (setting.block *
             blocks_left setting start) }
