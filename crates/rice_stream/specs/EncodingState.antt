@@ -68,7 +68,7 @@ pub record TakesBetween (old new : Option Room) (from to : List ℕ) : Type 0 wh
   pub stops : StopsBetween from to written
   pub took : Appends old new written
 
--- the same where some were written before
+-- what an outlet takes that stops between two lists of bytes, of which some were written before
 pub record FollowsBetween (old : Beginning) (new : Option Room) (from to : List ℕ) : Type 0 where
   pub written : List ℕ
   pub stops : StopsBetween from to written

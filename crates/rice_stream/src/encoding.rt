@@ -53,7 +53,7 @@ impl Encoding {
         }
     }
 
-    /// Returns an encoding that goes on behind the code of whole segments.
+    /// Returns an encoding that goes on after the code of whole segments.
     pub(crate) fn resume(setting: Setting, seam: &Seam) -> Self
         requires { (xs : List ℤ) × IsSeam setting seam.now xs }
         ensures { (now : Option Room) (xs : List ℤ) → IsSeam setting seam.now xs →
