@@ -1,6 +1,6 @@
 /* Encodes and decodes a file of samples by the library and by libaec, in turn, and prints the least CPU times of some runs in
  * seconds: encoding here and there, decoding here and there.
- * usage: bench_library BITS BLOCK INTERVAL PREPROCESS FILE */
+ * usage: bench_library BITS BLOCK INTERVAL PREPROCESS SIGNED THREE FILE */
 #define _POSIX_C_SOURCE 200809L
 #include <libaec.h>
 #include <rice.h>
@@ -58,10 +58,10 @@ static double timed(void (*call)(void)) {
 }
 
 int main(int argc, char **argv) {
-    if (argc != 6) return 2;
-    setting = (struct rice_setting){.bits = atoi(argv[1]), .block = atoi(argv[2]), .interval = atoi(argv[3]), .preprocess = atoi(argv[4])};
-    stream = (struct aec_stream){.bits_per_sample = setting.bits, .block_size = setting.block, .rsi = setting.interval, .flags = setting.preprocess ? AEC_DATA_PREPROCESS : 0};
-    FILE *file = fopen(argv[5], "rb");
+    if (argc != 8) return 2;
+    setting = (struct rice_setting){.bits = atoi(argv[1]), .block = atoi(argv[2]), .interval = atoi(argv[3]), .preprocess = atoi(argv[4]), .is_signed = atoi(argv[5]), .three = atoi(argv[6])};
+    stream = (struct aec_stream){.bits_per_sample = setting.bits, .block_size = setting.block, .rsi = setting.interval, .flags = (setting.preprocess ? AEC_DATA_PREPROCESS : 0) | (setting.is_signed ? AEC_DATA_SIGNED : 0) | (setting.three ? AEC_DATA_3BYTE : 0)};
+    FILE *file = fopen(argv[7], "rb");
     if (!file || fseek(file, 0, SEEK_END)) return 2;
     size = (size_t)ftell(file);
     rewind(file);

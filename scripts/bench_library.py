@@ -12,9 +12,9 @@ from bench import ROWS
 
 
 def numbers(options):
-    """Bits, block size, interval and whether to preprocess, of some options of the command."""
+    """Bits, block size, interval, and whether to preprocess, of signed samples, in three bytes: of some options of the command."""
     value = lambda flag, default: options[options.index(flag) + 1] if flag in options else default
-    return [value("-n", "8"), value("-j", "8"), value("-r", "2"), "0" if "-N" in options else "1"]
+    return [value("-n", "8"), value("-j", "8"), value("-r", "2"), *(str(int(word)) for word in ("-N" not in options, "-s" in options, "-3" in options))]
 
 
 def main():
@@ -23,7 +23,7 @@ def main():
     print("|---|---|---|---|---|---|---|")
     for name, make, width, options in ROWS:
         with tempfile.NamedTemporaryFile() as file:
-            file.write(make(size, width, random.Random(1)))
+            file.write(make(size // width * width, width, random.Random(1)))
             file.flush()
             run = subprocess.run([sys.argv[1], *numbers(options), file.name], check=True, capture_output=True, text=True)
         times = [float(word) for word in run.stdout.split()[:4]]
