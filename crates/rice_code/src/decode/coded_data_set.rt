@@ -11,17 +11,20 @@ use crate::decode::options::{
 use rice_bits::{BitFault, BitReader, Intake, Meter};
 use rice_samples::Setting;
 
-/// Reads what follows an identifier of zeros: a bit, and then a block by second extension or a run of zero blocks.
+/// Reads what follows an identifier of zeros: a bit, and then a block by second extension or a run of zero blocks. `codes` is
+/// scratch space.
 fn read_low<I: Intake>(
     setting: &Setting,
     block: u64,
     reader: &mut BitReader<I>,
     meter: &mut Meter,
     residuals: &mut [u32],
+    codes: &mut [u32],
 ) -> Result<SetHead, BitFault>
     requires going { reader.old.refusal ≡ None }
     requires room { HasRoom meter.old reader.old.taken }
     requires size { length residuals.old ≡ setting.now.block }
+    requires codes { length codes.old ≡ 64 }
     ensures ok { IfOk result (λ t.
         LowRead reader.old reader.new meter.old meter.new setting.now block t residuals.new) }
     ensures err { IfErr result (LowCut reader.old reader.new setting.now block) }
@@ -37,7 +40,7 @@ fn read_low<I: Intake>(
             Err(fault) => Err(fault),
         };
     }
-    match read_second_extension(setting, block, reader, meter, residuals) {
+    match read_second_extension(setting, block, reader, meter, residuals, codes) {
         Ok(head) => Ok(SetHead::Residuals {
             reference: head.reference,
             sound: head.sound,
@@ -71,7 +74,7 @@ pub fn read_set<I: Intake>(
         Err(fault) => return Err(fault),
     };
     if id == 0 {
-        return match read_low(setting, block, reader, meter, residuals) {
+        return match read_low(setting, block, reader, meter, residuals, highs) {
             Ok(taken) => Ok(taken),
             Err(fault) => Err(fault),
         };

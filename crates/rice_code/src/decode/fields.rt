@@ -1,10 +1,11 @@
 //! Reads rows of words and of fundamental sequences.
-ghost use Rattle.std.specs.Prelude.{◌≡◌, ℕ, ◌+◌, ◌-◌, ◌*◌, ◌/◌, ◌^◌, ◌<◌, ◌≤◌, Bool, false, List, [], ◌++◌, length, replicate, take, None, IfOk, IfErr, OnOk};
+ghost use Rattle.std.specs.Prelude.{◌≡◌, ℕ, ◌+◌, ◌-◌, ◌*◌, ◌/◌, ◌^◌, ◌<◌, ◌≤◌, Bool, false, List, [], ◌++◌, length, replicate, take, sum, All, None, IfOk, IfErr, OnOk};
 ghost use Rattle.rice_bits.specs.Bits.{word, fundamental_sequence};
 ghost use Rattle.rice_bits.specs.read.Reader.{Stops};
+ghost use Rattle.rice_samples.specs.blocks.Pairs.{pair_codes};
 ghost use Rattle.rice_code.specs.decode.Fields.{HasRoom, AreCounted, WordRow, CountRow, CountsRead, PairRow, ones};
 
-use crate::decode::pair::pair_of;
+use crate::decode::pair::{pair_of, pair_of_few};
 use crate::decode::residuals::are_below;
 use rice_bits::{BitFault, BitReader, Intake, Meter};
 
@@ -160,8 +161,9 @@ pub fn read_counts<I: Intake>(
     Ok(are_below(counts, most + 1))
 }
 
-/// Reads a codeword for each pair of places of `out`, and writes the pair that it stands for.
-pub fn read_pairs<I: Intake>(
+/// Reads a codeword for each pair of places of `out`, one after another, and writes the pair that it stands for.
+#[inline(never)]
+fn read_each_pair<I: Intake>(
     reader: &mut BitReader<I>,
     meter: &mut Meter,
     out: &mut [u32],
@@ -184,6 +186,58 @@ pub fn read_pairs<I: Intake>(
             }
             Err(fault) => return Err(fault),
         }
+    }
+    Ok(())
+}
+
+/// Writes the pair that each number of `codes` stands for to the first places of `out`. Returns the sum of all that it
+/// wrote.
+#[inline]
+fn write_pairs(codes: &[u32], out: &mut [u32]) -> u32
+    requires codes { All (λ g. g < 64) codes.now }
+    requires count { length codes.now ≤ 64 }
+    requires room { length codes.now ≤ length out.old / 2 }
+    ensures pairs { pair_codes (take (length codes.now + length codes.now) out.new) ≡ codes.now }
+    ensures sum { result ≡ sum (take (length codes.now + length codes.now) out.new) }
+{
+    let mut total = 0;
+    for i in 0..codes.len() {
+        let (a, b) = pair_of_few(codes[i]);
+        out[2 * i] = a;
+        out[2 * i + 1] = b;
+        total += a + b;
+    }
+    total
+}
+
+/// Reads a codeword for each pair of places of `out`, and writes the pair that it stands for. `codes` is scratch space.
+#[inline]
+pub fn read_pairs<I: Intake>(
+    reader: &mut BitReader<I>,
+    meter: &mut Meter,
+    codes: &mut [u32],
+    out: &mut [u32],
+) -> Result<(), BitFault>
+    requires going { reader.old.refusal ≡ None }
+    requires room { HasRoom meter.old reader.old.taken }
+    requires codes { length codes.old ≡ 64 }
+    requires few { length out.old ≤ 64 }
+    requires even { length out.old / 2 + length out.old / 2 ≡ length out.old }
+    ensures ok { OnOk result
+        (PairRow reader.old reader.new (length out.old / 2) out.new meter.old meter.new) }
+    ensures err { IfErr result (λ f. (bits : List Bool) × (ones bits < length out.old / 2) ×
+        Stops reader.old reader.new bits f) }
+    ensures steps { AreCounted meter.old meter.new reader.old.taken reader.new.taken }
+{
+    let codes = &mut codes[..out.len() / 2];
+    let some = reader.take_waiting_fs(codes, meter);
+    let turns = write_pairs(&codes[..some], out);
+    meter.tick(turns as u64);
+    if some == codes.len() {
+        return Ok(());
+    }
+    if let Err(fault) = read_each_pair(reader, meter, &mut out[2 * some..]) {
+        return Err(fault);
     }
     Ok(())
 }

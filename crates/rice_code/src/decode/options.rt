@@ -133,17 +133,19 @@ pub fn read_no_compression<I: Intake>(
     })
 }
 
-/// Reads a block that is coded by second extension.
+/// Reads a block that is coded by second extension. `codes` is scratch space.
 pub fn read_second_extension<I: Intake>(
     setting: &Setting,
     block: u64,
     reader: &mut BitReader<I>,
     meter: &mut Meter,
     residuals: &mut [u32],
+    codes: &mut [u32],
 ) -> Result<BlockHead, BitFault>
     requires going { reader.old.refusal ≡ None }
     requires room { HasRoom meter.old reader.old.taken }
     requires size { length residuals.old ≡ setting.now.block }
+    requires codes { length codes.old ≡ 64 }
     ensures ok { IfOk result (λ h. BlockRead reader.old reader.new meter.old meter.new
         setting.now block SecondExtension h residuals.new) }
     ensures err { IfErr result (BlockCut reader.old reader.new setting.now block SecondExtension) }
@@ -154,7 +156,7 @@ pub fn read_second_extension<I: Intake>(
         Err(fault) => return Err(fault),
     };
     let values = setting.values();
-    match read_pairs(reader, meter, residuals) {
+    match read_pairs(reader, meter, codes, residuals) {
         Ok(()) => {
             let sound = are_sound(reference, residuals, values);
             Ok(BlockHead { reference, sound })

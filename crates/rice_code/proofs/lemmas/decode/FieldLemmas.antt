@@ -19,7 +19,7 @@ use Rattle.rice_bits.specs.declared.read.fault.BitFault.{BitFault}
 use Rattle.rice_samples.specs.blocks.Pairs.{pair_code, pair_codes}
 use Rattle.rice_samples.proofs.lemmas.bytes.ReadSamples.{flat_map-push}
 use Rattle.rice_code.proofs.lemmas.meaning.Covers.{both}
-use Rattle.rice_code.specs.decode.Fields.{Row, CountRow, CountsRead, PairRow, ones}
+use Rattle.rice_code.specs.decode.Fields.{AreCounted, HasRoom, Row, CountRow, CountsRead, PairRow, ones}
 
 pub row-none : {I : Type 0} (f : ℕ → List Bool) (P : ℕ → Type 0) (r : Reader I) (before : List ℕ)
     → r.refusal ≡ None → Row f P r r 0 before before
@@ -247,7 +247,7 @@ pair_codes-push (suc half) [] a b h = absurd (omega arith)
 pair_codes-push (suc half) (d ∷ []) a b h = absurd (omega arith)
 pair_codes-push (suc half) (d ∷ e ∷ ds) a b h = ap (λ z. pair_code d e ∷ z) (pair_codes-push half ds a b (omega arith))
 
-sum-push2 : (xs : List ℕ) (a b : ℕ) → sum ((xs ++ a ∷ []) ++ b ∷ []) ≡ sum xs + (a + b)
+pub sum-push2 : (xs : List ℕ) (a b : ℕ) → sum ((xs ++ a ∷ []) ++ b ∷ []) ≡ sum xs + (a + b)
 sum-push2 xs a b = omega (arith, sum_by-append (λ (x : ℕ). x) (xs ++ a ∷ []) (b ∷ []), sum_by-append (λ (x : ℕ). x) xs (a ∷ []))
 
 pub pairs-none : {I : Type 0} (r : Reader I) (steps : ℕ)
@@ -282,3 +282,91 @@ two_more done xs a b h =
     ap (λ i. take i (set (set xs (2 * done) a) (2 * done + 1) b)) n
     ∙ (take_more_set (set xs (2 * done) a) (2 * done + 1) b (omega (arith, h, length-set xs (2 * done) a))
     ∙ ap (λ z. z ++ b ∷ []) (take_more_set xs (2 * done) a (omega (arith, h)) ∙ ap (λ i. take i xs ++ a ∷ []) m))
+
+-- the codes of whole pairs, and then of others
+pub pair_codes-append : (half : ℕ) (ds es : List ℕ) → length ds ≡ half + half → pair_codes (ds ++ es) ≡ pair_codes ds ++ pair_codes es
+pair_codes-append zero [] es h = refl
+pair_codes-append zero (d ∷ ds) es h = absurd (omega arith)
+pair_codes-append (suc half) [] es h = absurd (omega arith)
+pair_codes-append (suc half) (d ∷ []) es h = absurd (omega arith)
+pair_codes-append (suc half) (d ∷ c ∷ ds) es h = ap (λ z. pair_code d c ∷ z) (pair_codes-append half ds es (omega arith))
+
+-- a pair's sum is at most its code
+pub sum_within : (a b : ℕ) → a + b ≤ pair_code a b
+sum_within a b = grows (a + b) b
+  where
+    grows : (s b : ℕ) → s ≤ s * (s + 1) / 2 + b
+    grows zero b = omega arith
+    grows (suc s) b = omega arith
+
+-- the sum of whole pairs is at most the bits of their codewords
+pub sum_of_pairs : (half : ℕ) (ds : List ℕ) → length ds ≡ half + half → sum ds ≤ length (flat_map fundamental_sequence (pair_codes ds))
+sum_of_pairs zero [] h = omega arith
+sum_of_pairs zero (d ∷ ds) h = absurd (omega arith)
+sum_of_pairs (suc half) [] h = absurd (omega arith)
+sum_of_pairs (suc half) (d ∷ []) h = absurd (omega arith)
+sum_of_pairs (suc half) (d ∷ c ∷ ds) h =
+    let rest = flat_map fundamental_sequence (pair_codes ds) in
+    let both : sum (d ∷ c ∷ ds) ≡ sum (d ∷ c ∷ []) + sum ds = sum_by-append (λ (x : ℕ). x) (d ∷ c ∷ []) ds in
+    let two : sum (d ∷ c ∷ []) ≡ 0 + d + c = refl in
+    let bits : length (flat_map fundamental_sequence (pair_codes (d ∷ c ∷ ds))) ≡ pair_code d c + 1 + length rest =
+    length-append (fundamental_sequence (pair_code d c)) rest ∙ ap (λ n. n + length rest) (length-fundamental_sequence (pair_code d c)) in
+    omega (arith, both, two, bits, sum_of_pairs half ds (omega arith), sum_within d c)
+
+-- pairs whose codewords waited together
+pub pairs-waiting : {I : Type 0} (old new : Reader I) (codes out : List ℕ) (total first second third : ℕ)
+    → length codes ≤ length out / 2 → pair_codes (take (length codes + length codes) out) ≡ codes → total ≡ sum (take (length codes + length codes) out)
+    → Takes old new (flat_map fundamental_sequence codes) → second + old.taken ≡ first + new.taken → third ≡ second + total
+    → PairRow old new (length codes) (take (length codes + length codes) out) first third
+pairs-waiting old new codes out total first second third room e is t steps more =
+    let len : length (take (length codes + length codes) out) ≡ length codes + length codes = length-take-le (length codes + length codes) out (omega (arith, room)) in
+    record {
+      len = len;
+      takes = subst (λ ms. Takes old new (flat_map fundamental_sequence ms)) (sym e) t;
+      steps = omega (arith, is, steps, more);
+      turns = sum_of_pairs (length codes) (take (length codes + length codes) out) len;
+    }
+
+-- pairs for all places
+pub pairs-whole : {I : Type 0} (old new : Reader I) (some count : ℕ) (out : List ℕ) (first second : ℕ)
+    → PairRow old new some (take (some + some) out) first second → some ≡ count → length out ≡ count + count → PairRow old new count out first second
+pairs-whole old new some count out first second r e n =
+    subst (λ xs. PairRow old new count xs first second) (take_all (some + some) out (omega (arith, e, n)))
+    (subst (λ k. PairRow old new k (take (some + some) out) first second) e r)
+
+-- and then others
+pub pairs-both : {I : Type 0} (old mid new : Reader I) (some more count : ℕ) (front rest after : List ℕ) (first second third : ℕ)
+    → PairRow old mid some front first second → PairRow mid new more rest second third → some + more ≡ count → after ≡ front ++ rest
+    → PairRow old new count after first third
+pairs-both old mid new some more count front rest after first second third r q n is =
+    subst (λ xs. PairRow old new count xs first third) (sym is)
+    (let codes : flat_map fundamental_sequence (pair_codes (front ++ rest)) ≡ flat_map fundamental_sequence (pair_codes front) ++ flat_map fundamental_sequence (pair_codes rest) =
+    ap (flat_map fundamental_sequence) (pair_codes-append some front rest r.len) ∙ flat_map-append fundamental_sequence (pair_codes front) (pair_codes rest) in
+    let total = sum_by-append (λ (x : ℕ). x) front rest in
+    record {
+      len = omega (arith, length-append front rest, r.len, q.len, n);
+      takes = rw codes (takes-append old mid new _ _ r.takes q.takes);
+      steps = omega (arith, total, r.steps, q.steps);
+      turns = omega (arith, total, r.turns, q.turns, ap length codes, length-append (flat_map fundamental_sequence (pair_codes front)) (flat_map fundamental_sequence (pair_codes rest)));
+    })
+
+-- the steps of some pairs are counted, and a meter has room for more
+pub pairs-room : {I : Type 0} (old new : Reader I) (some : ℕ) (values : List ℕ) (first second : ℕ)
+    → PairRow old new some values first second → HasRoom first old.taken → new.taken ≤ 2 ^ 52 → AreCounted first second old.taken new.taken × HasRoom second new.taken
+pairs-room old new some values first second r room limit = (
+  record {
+    forward = omega (arith, r.takes.taken);
+    limit = limit;
+    least = omega (arith, r.steps);
+    most = omega (arith, r.steps, r.turns, r.takes.taken);
+  },
+  record { limit = limit; room = omega (arith, r.steps, r.turns, r.takes.taken, room.room) },
+)
+
+pub counted-both : (a b c p q r : ℕ) → AreCounted a b p q → AreCounted b c q r → AreCounted a c p r
+counted-both a b c p q r h k = record {
+  forward = omega (arith, h.forward, k.forward);
+  limit = k.limit;
+  least = omega (arith, h.least, k.least);
+  most = omega (arith, h.most, k.most);
+}

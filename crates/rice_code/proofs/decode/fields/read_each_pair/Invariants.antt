@@ -1,6 +1,6 @@
 use Rattle.std.proofs.Common.{◌+◌, ◌^◌, ◌≤◌, take}
 use Rattle.rice_code.specs.decode.Fields.{PairRow}
-use Rattle.rice_code.proofs.decode.fields.read_pairs.Given as goal
+use Rattle.rice_code.proofs.decode.fields.read_each_pair.Given as goal
 
 abbrev pub invariant-loop-done : goal.invariant-loop-done
 invariant-loop-done g l = record {
