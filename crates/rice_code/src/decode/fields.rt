@@ -1,5 +1,5 @@
 //! Reads rows of words and of fundamental sequences.
-ghost use Rattle.std.specs.Prelude.{◌≡◌, ℕ, ◌+◌, ◌-◌, ◌*◌, ◌/◌, ◌^◌, ◌<◌, ◌≤◌, Bool, false, List, [], ◌++◌, length, replicate, take, sum, All, None, IfOk, IfErr, OnOk};
+ghost use Rattle.std.specs.Prelude.{◌≡◌, ℕ, ◌+◌, ◌-◌, ◌*◌, ◌/◌, ◌^◌, ◌<◌, ◌≤◌, Bool, true, false, List, [], ◌++◌, length, replicate, take, sum, All, None, IfOk, IfErr, OnOk};
 ghost use Rattle.rice_bits.specs.Bits.{word, fundamental_sequence};
 ghost use Rattle.rice_bits.specs.read.Reader.{Stops};
 ghost use Rattle.rice_samples.specs.blocks.Pairs.{pair_codes};
@@ -8,6 +8,9 @@ ghost use Rattle.rice_code.specs.decode.Fields.{HasRoom, AreCounted, WordRow, Co
 use crate::decode::pair::{pair_of, pair_of_few};
 use crate::decode::residuals::are_below;
 use rice_bits::{BitFault, BitReader, Intake, Meter};
+
+/// What the second of two numbers of 32 bits counts for where they stand side by side.
+const SECOND: u64 = 1 << 32;
 
 /// Reads a word of `width` bits for each place of `words`, one after another.
 #[inline(never)]
@@ -193,31 +196,34 @@ fn read_each_pair<I: Intake>(
 /// Writes the pair that each number of `codes` stands for to the first places of `out`. Returns the sum of all that it
 /// wrote.
 #[inline]
-fn write_pairs(codes: &[u32], out: &mut [u32]) -> u32
+fn write_pairs(codes: &[u32], out: &mut [u32]) -> u64
     requires codes { All (λ g. g < 64) codes.now }
     requires count { length codes.now ≤ 64 }
     requires room { length codes.now ≤ length out.old / 2 }
     ensures pairs { pair_codes (take (length codes.now + length codes.now) out.new) ≡ codes.now }
     ensures sum { result ≡ sum (take (length codes.now + length codes.now) out.new) }
+    ensures few { All (λ d. d < 64) (take (length codes.now + length codes.now) out.new) }
 {
-    let mut total = 0;
+    // The sums of the first parts and of the second, side by side.
+    let mut sums = 0u64;
     for i in 0..codes.len() {
         let (a, b) = pair_of_few(codes[i]);
         out[2 * i] = a;
         out[2 * i + 1] = b;
-        total += a + b;
+        sums += a as u64 + b as u64 * SECOND;
     }
-    total
+    sums % SECOND + sums / SECOND
 }
 
-/// Reads a codeword for each pair of places of `out`, and writes the pair that it stands for. `codes` is scratch space.
+/// Reads a codeword for each pair of places of `out`, and writes the pair that it stands for. Returns whether
+/// all that it wrote are known to be below 64. `codes` is scratch space.
 #[inline]
 pub fn read_pairs<I: Intake>(
     reader: &mut BitReader<I>,
     meter: &mut Meter,
     codes: &mut [u32],
     out: &mut [u32],
-) -> Result<(), BitFault>
+) -> Result<bool, BitFault>
     requires going { reader.old.refusal ≡ None }
     requires room { HasRoom meter.old reader.old.taken }
     requires codes { length codes.old ≡ 64 }
@@ -225,6 +231,7 @@ pub fn read_pairs<I: Intake>(
     requires even { length out.old / 2 + length out.old / 2 ≡ length out.old }
     ensures ok { OnOk result
         (PairRow reader.old reader.new (length out.old / 2) out.new meter.old meter.new) }
+    ensures few { IfOk result (λ few. few ≡ true → All (λ d. d < 64) out.new) }
     ensures err { IfErr result (λ f. (bits : List Bool) × (ones bits < length out.old / 2) ×
         Stops reader.old reader.new bits f) }
     ensures steps { AreCounted meter.old meter.new reader.old.taken reader.new.taken }
@@ -232,12 +239,12 @@ pub fn read_pairs<I: Intake>(
     let codes = &mut codes[..out.len() / 2];
     let some = reader.take_waiting_fs(codes, meter);
     let turns = write_pairs(&codes[..some], out);
-    meter.tick(turns as u64);
+    meter.tick(turns);
     if some == codes.len() {
-        return Ok(());
+        return Ok(true);
     }
     if let Err(fault) = read_each_pair(reader, meter, &mut out[2 * some..]) {
         return Err(fault);
     }
-    Ok(())
+    Ok(false)
 }

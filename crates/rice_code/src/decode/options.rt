@@ -157,8 +157,8 @@ pub fn read_second_extension<I: Intake>(
     };
     let values = setting.values();
     match read_pairs(reader, meter, codes, residuals) {
-        Ok(()) => {
-            let sound = are_sound(reference, residuals, values);
+        Ok(few) => {
+            let sound = are_sound(reference, few, residuals, values);
             Ok(BlockHead { reference, sound })
         }
         Err(fault) => Err(fault),

@@ -77,9 +77,11 @@ fn each_is_below(residuals: &[u32], count: u64) -> bool
 }
 
 /// Returns whether the residuals of a block by second extension are sound: all are below `count`, and the first is 0
-/// where the block has a reference sample.
-pub fn are_sound(reference: Option<u32>, residuals: &[u32], count: u64) -> bool
+/// where the block has a reference sample. `few` says that all are known to be below 64.
+#[inline]
+pub fn are_sound(reference: Option<u32>, few: bool, residuals: &[u32], count: u64) -> bool
     requires some { 0 < length residuals.now }
+    requires few { few ≡ true → All (λ d. d < 64) residuals.now }
     requires count { (0 < count) × (count ≤ 2 ^ 32) }
     ensures sound { result ≡ true → OnSome reference (slice_index residuals.now 0 ≡ 0) ×
         All (λ d. d < count) residuals.now }
@@ -88,6 +90,9 @@ pub fn are_sound(reference: Option<u32>, residuals: &[u32], count: u64) -> bool
 {
     if reference.is_some() && residuals[0] != 0 {
         return false;
+    }
+    if few && count >= 64 {
+        return true;
     }
     are_below(residuals, count)
 }

@@ -1,5 +1,6 @@
-use Rattle.std.proofs.Common.{◌≡◌, ◌+◌, ◌*◌, ◌/◌, ◌++◌, ◌∙◌, ap, arith, length, refl, take}
-use Rattle.std.proofs.lemmas.List.{length-take-le}
+use Rattle.std.specs.Prelude.{All}
+use Rattle.std.proofs.Common.{◌≡◌, ◌+◌, ◌*◌, ◌/◌, ◌++◌, ◌∙◌, ap, arith, length, refl, subst, take, ◌<◌}
+use Rattle.std.proofs.lemmas.List.{length-take-le, take_all}
 use Rattle.rice_code.proofs.lemmas.decode.FieldLemmas.{counted-both, pairs-both, pairs-room, pairs-waiting, pairs-whole, put_rest, sequences-stop_behind}
 use Rattle.rice_code.proofs.decode.fields.read_pairs.Goals as goal
 
@@ -27,6 +28,15 @@ returns-then-some-codes-clause-ok g c =
     (omega (arith, len, half, waiting.ensures.within, written.auto.out)) written.ensures.pairs written.ensures.sum waiting.ensures.takes waiting.ensures.steps c.tick.ensures in
     pairs-whole c.args.reader.now waiting.new.self (length codes) (length c.args.out.now / 2) written.new.out c.args.meter.now c.tick.new.self row
     (omega (arith, len, half, c.if-some-codes.true)) (omega (arith, written.auto.out, c.requires.even))
+
+pub returns-then-some-codes-clause-few : goal.returns-then-some-codes-clause-few
+returns-then-some-codes-clause-few g c =
+    let waiting = c.take_waiting_fs-some in
+    let written = c.write_pairs-turns in
+    let codes = take waiting.result waiting.new.zeros in
+    let len : length codes ≡ waiting.result = length-take-le waiting.result waiting.new.zeros waiting.ensures.within in
+    let half : length waiting.new.zeros ≡ length c.args.out.now / 2 = waiting.auto.zeros ∙ length-take-le (length c.args.out.now / 2) c.args.codes.now (omega (arith, c.requires.few, c.requires.codes)) in
+    λ _. subst (λ xs. All (λ d. d < 64) xs) (take_all (length codes + length codes) written.new.out (omega (arith, len, half, c.if-some-codes.true, written.auto.out, c.requires.even))) written.ensures.few
 
 pub returns-then-some-codes-clause-steps : goal.returns-then-some-codes-clause-steps
 returns-then-some-codes-clause-steps g c =
