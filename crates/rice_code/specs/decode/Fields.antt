@@ -57,3 +57,10 @@ pub record PairRow {I : Type 0} (old new : Reader I) (count : ℕ) (values : Lis
   -- each bit and each turn of the search is a step
   pub steps : new_steps + old.taken ≡ old_steps + new.taken + sum values
   pub turns : sum values ≤ length (flat_map fundamental_sequence (pair_codes values))
+
+-- A reader took the codewords of `count` pairs that waited together, which have these numbers.
+pub record PairsTaken {I : Type 0} (old new : Reader I) (count : ℕ) (values : List ℕ) (old_steps new_steps : ℕ) : Type 0 where
+  pub row : PairRow old new count values old_steps new_steps
+  pub few : All (λ d. d < 64) values
+  pub counted : AreCounted old_steps new_steps old.taken new.taken
+  pub room : HasRoom new_steps new.taken

@@ -3,7 +3,7 @@ ghost use Rattle.std.specs.Prelude.{◌≡◌, ℕ, ◌+◌, ◌-◌, ◌*◌, �
 ghost use Rattle.rice_bits.specs.Bits.{word, fundamental_sequence};
 ghost use Rattle.rice_bits.specs.read.Reader.{Stops};
 ghost use Rattle.rice_samples.specs.blocks.Pairs.{pair_codes};
-ghost use Rattle.rice_code.specs.decode.Fields.{HasRoom, AreCounted, WordRow, CountRow, CountsRead, PairRow, ones};
+ghost use Rattle.rice_code.specs.decode.Fields.{HasRoom, AreCounted, WordRow, CountRow, CountsRead, PairRow, PairsTaken, ones};
 
 use crate::decode::pair::{pair_of, pair_of_few};
 use crate::decode::residuals::are_below;
@@ -215,6 +215,29 @@ fn write_pairs(codes: &[u32], out: &mut [u32]) -> u64
     sums % SECOND + sums / SECOND
 }
 
+/// Takes codewords that wait together, at most one for each place of `codes`, and writes the pairs that they stand for to the
+/// first places of `out`. Returns the number of pairs. `codes` is scratch space.
+#[inline]
+fn take_waiting_pairs<I: Intake>(
+    reader: &mut BitReader<I>,
+    meter: &mut Meter,
+    codes: &mut [u32],
+    out: &mut [u32],
+) -> usize
+    requires going { reader.old.refusal ≡ None }
+    requires room { HasRoom meter.old reader.old.taken }
+    requires codes { length codes.old ≡ length out.old / 2 }
+    requires few { length codes.old ≤ 64 }
+    ensures within { result ≤ length out.new / 2 }
+    ensures taken { PairsTaken reader.old reader.new result (take (result + result) out.new)
+        meter.old meter.new }
+{
+    let some = reader.take_waiting_fs(codes, meter);
+    let turns = write_pairs(&codes[..some], out);
+    meter.tick(turns);
+    some
+}
+
 /// Reads a codeword for each pair of places of `out`, and writes the pair that it stands for. Returns whether
 /// all that it wrote are known to be below 64. `codes` is scratch space.
 #[inline]
@@ -236,11 +259,9 @@ pub fn read_pairs<I: Intake>(
         Stops reader.old reader.new bits f) }
     ensures steps { AreCounted meter.old meter.new reader.old.taken reader.new.taken }
 {
-    let codes = &mut codes[..out.len() / 2];
-    let some = reader.take_waiting_fs(codes, meter);
-    let turns = write_pairs(&codes[..some], out);
-    meter.tick(turns);
-    if some == codes.len() {
+    let count = out.len() / 2;
+    let some = take_waiting_pairs(reader, meter, &mut codes[..count], out);
+    if some == count {
         return Ok(true);
     }
     if let Err(fault) = read_each_pair(reader, meter, &mut out[2 * some..]) {

@@ -19,7 +19,7 @@ use Rattle.rice_bits.specs.declared.read.fault.BitFault.{BitFault}
 use Rattle.rice_samples.specs.blocks.Pairs.{pair_code, pair_codes}
 use Rattle.rice_samples.proofs.lemmas.bytes.ReadSamples.{flat_map-push}
 use Rattle.rice_code.proofs.lemmas.meaning.Covers.{both}
-use Rattle.rice_code.specs.decode.Fields.{AreCounted, HasRoom, Row, CountRow, CountsRead, PairRow, ones}
+use Rattle.rice_code.specs.decode.Fields.{PairsTaken, AreCounted, HasRoom, Row, CountRow, CountsRead, PairRow, ones}
 
 pub row-none : {I : Type 0} (f : ℕ → List Bool) (P : ℕ → Type 0) (r : Reader I) (before : List ℕ)
     → r.refusal ≡ None → Row f P r r 0 before before
@@ -362,6 +362,20 @@ pairs-room old new some values first second r room limit = (
   },
   record { limit = limit; room = omega (arith, r.steps, r.turns, r.takes.taken, room.room) },
 )
+
+pub pairs-taken : {I : Type 0} (old new : Reader I) (some : ℕ) (read out : List ℕ) (total first second third : ℕ)
+    → some ≤ length read → length read ≤ length out / 2
+    → pair_codes (take (length (take some read) + length (take some read)) out) ≡ take some read
+    → total ≡ sum (take (length (take some read) + length (take some read)) out)
+    → All (λ d. d < 64) (take (length (take some read) + length (take some read)) out)
+    → Takes old new (flat_map fundamental_sequence (take some read)) → second + old.taken ≡ first + new.taken → third ≡ second + total
+    → HasRoom first old.taken → new.taken ≤ 2 ^ 52 → PairsTaken old new some (take (some + some) out) first third
+pairs-taken old new some read out total first second third within half pairs is few t steps more room limit =
+    let codes = take some read in
+    let len : length codes ≡ some = length-take-le some read within in
+    let row = pairs-waiting old new codes out total first second third (omega (arith, len, within, half)) pairs is t steps more in
+    let here = pairs-room old new (length codes) (take (length codes + length codes) out) first third row room limit in
+    subst (λ k. PairsTaken old new k (take (k + k) out) first third) len (record { row = row; few = few; counted = here.0; room = here.1 })
 
 pub counted-both : (a b c p q r : ℕ) → AreCounted a b p q → AreCounted b c q r → AreCounted a c p r
 counted-both a b c p q r h k = record {
