@@ -6,3 +6,4 @@ pub mod HeldBlocks
 pub mod Ones
 pub mod OpenSegment
 pub mod Parts
+pub mod ShortDigits

@@ -3,7 +3,7 @@ use Rattle.std.proofs.Common.{◌≡◌, ℕ, zero, suc, ◌+◌, ◌-◌, ◌*�
 use Rattle.std.specs.Prelude.{flat_map, slice_range, bit_and}
 use Rattle.std.proofs.Math.Seq.{drop-append_seam}
 use Rattle.std.proofs.Math.Nat.{mul-le-mul_right}
-use Rattle.std.proofs.lemmas.Nat.{and_mask, mod_below, pow_pos, one_shl}
+use Rattle.std.proofs.lemmas.Nat.{and_mask, mod_below, pow_pos}
 use Rattle.std.proofs.lemmas.Grind.{flat_map-append}
 use Rattle.std.proofs.lemmas.List.Folds.{drop_split}
 use Rattle.rice_bits.specs.Bits.{word}
@@ -12,9 +12,9 @@ use Rattle.rice_bits.proofs.lemmas.bits.EightBytes.{word-mod}
 use Rattle.rice_code.proofs.lemmas.encode.JoinedWords.{four_words, low_word}
 use Rattle.rice_code.proofs.lemmas.encode.OptionBits.{four_more}
 
--- four products in lanes of 32 bits, and their sum
+-- four products in lanes of 32 bits, and the sum of the sums of neighbours
 abbrev pub lanes_joined : ℕ → ℕ → ℕ → ℕ → ℕ → ℕ
-lanes_joined w a b c d = ((((0 + a * (1 * 2 ^ (3 * w) % 4294967296) % 4294967296) % 4294967296 + b * (1 * 2 ^ (2 * w) % 4294967296) % 4294967296) % 4294967296 + c * (1 * 2 ^ w % 4294967296) % 4294967296) % 4294967296 + d * 1 % 4294967296) % 4294967296
+lanes_joined w a b c d = ((a * 2 ^ (3 * w) % 4294967296 + b * 2 ^ (2 * w) % 4294967296) % 4294967296 + (c * 2 ^ w % 4294967296 + d * 1 % 4294967296) % 4294967296) % 4294967296
 
 joined_value : (w a b c d : ℕ) → w ≤ 7 → a < 2 ^ w → b < 2 ^ w → c < 2 ^ w → d < 2 ^ w → lanes_joined w a b c d ≡ ((a * 2 ^ w + b) * 2 ^ w + c) * 2 ^ w + d
 joined_value zero a b c d le h i j k = omega arith
@@ -27,18 +27,14 @@ joined_value (suc (suc (suc (suc (suc (suc zero)))))) a b c d le h i j k = omega
 joined_value (suc (suc (suc (suc (suc (suc (suc zero))))))) a b c d le h i j k = omega arith
 joined_value (suc (suc (suc (suc (suc (suc (suc (suc w)))))))) a b c d le h i j k = absurd (omega arith)
 
-masked : (w a : ℕ) → w ≤ 7 → bit_and a (1 * 2 ^ w % 4294967296 - 1) ≡ a % 2 ^ w
-masked w a le = ap (λ m. bit_and a (m - 1)) (one_shl w 32 (omega arith)) ∙ and_mask a w
-
 pub joined_lanes : (w a b c d : ℕ) → w ≤ 7 →
-    let m = 1 * 2 ^ w % 4294967296 - 1 in
+    let m = 2 ^ w - 1 in
     let all = lanes_joined w (bit_and a m) (bit_and b m) (bit_and c m) (bit_and d m) in
     (all < 2 ^ (4 * w)) × (word (4 * w) all ≡ word w a ++ word w b ++ word w c ++ word w d)
 joined_lanes w a b c d le =
-    let m = 1 * 2 ^ w % 4294967296 - 1 in
     let below = λ (x : ℕ). mod_below x (2 ^ w) (pow_pos w) in
-    let same : lanes_joined w (bit_and a m) (bit_and b m) (bit_and c m) (bit_and d m) ≡ ((a % 2 ^ w * 2 ^ w + b % 2 ^ w) * 2 ^ w + c % 2 ^ w) * 2 ^ w + d % 2 ^ w =
-    (λ i. lanes_joined w (masked w a le i) (masked w b le i) (masked w c le i) (masked w d le i)) ∙ joined_value w (a % 2 ^ w) (b % 2 ^ w) (c % 2 ^ w) (d % 2 ^ w) le (below a) (below b) (below c) (below d) in
+    let same : lanes_joined w (bit_and a (2 ^ w - 1)) (bit_and b (2 ^ w - 1)) (bit_and c (2 ^ w - 1)) (bit_and d (2 ^ w - 1)) ≡ ((a % 2 ^ w * 2 ^ w + b % 2 ^ w) * 2 ^ w + c % 2 ^ w) * 2 ^ w + d % 2 ^ w =
+    (λ i. lanes_joined w (and_mask a w i) (and_mask b w i) (and_mask c w i) (and_mask d w i)) ∙ joined_value w (a % 2 ^ w) (b % 2 ^ w) (c % 2 ^ w) (d % 2 ^ w) le (below a) (below b) (below c) (below d) in
     four_words w w w w (4 * w) (a % 2 ^ w) (b % 2 ^ w) (c % 2 ^ w) (d % 2 ^ w) (a % 2 ^ w * 2 ^ w + b % 2 ^ w) ((a % 2 ^ w * 2 ^ w + b % 2 ^ w) * 2 ^ w + c % 2 ^ w) _ _ _ _ _
     (below a) (below b) (below c) (below d) refl refl same
     (low_word w a _ refl) (low_word w b _ refl) (low_word w c _ refl) (low_word w d _ refl) (omega arith)
