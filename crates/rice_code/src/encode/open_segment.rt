@@ -224,9 +224,13 @@ impl OpenSegment {
         requires { IsWhole self.old }
         ensures { self.new ≡ state_after_segment self.old }
     {
-        let start = next_start(&self.setting, self.start);
         self.residuals.clear();
         self.reference = None;
+        // A segment that is the whole interval begins at place 0, and the next is as long.
+        if self.setting.interval() <= 64 {
+            return;
+        }
+        let start = next_start(&self.setting, self.start);
         self.end = residuals_from(&self.setting, start);
         self.start = start;
     }
