@@ -1,7 +1,8 @@
 -- The option that the code names.
-use Rattle.std.specs.Prelude.{ℕ, ◌≤◌, ⊤}
+use Rattle.std.specs.Prelude.{ℕ, ◌+◌, ◌≤◌, ⊤}
+use Rattle.rice_samples.specs.Parameters.{Parameters, id_len}
 use Rattle.rice_code.specs.code.Blocks.{BlockData}
-use Rattle.rice_code.specs.code.CodedDataSets.{CodedDataSet, NoCompression as no_compression, SecondExtension as second_extension, Split as split}
+use Rattle.rice_code.specs.code.CodedDataSets.{CodedDataSet, reference_len, NoCompression as no_compression, SecondExtension as second_extension, Split as split}
 use Rattle.rice_code.specs.declared.encode.search.Choice.{Choice}
 use Rattle.rice_code.specs.declared.encode.search.Choice.TheVariants.{NoCompression, SecondExtension, Split}
 
@@ -15,3 +16,7 @@ abbrev pub IsSplitWithin : ℕ → Choice → Type 0
 IsSplitWithin limit NoCompression = ⊤
 IsSplitWithin limit SecondExtension = ⊤
 IsSplitWithin limit (Split k) = k ≤ limit
+
+-- the bits that a block costs by each option: its identifier, and the reference, where there is one
+abbrev pub head_len : Parameters → BlockData → ℕ
+head_len s c = id_len s + reference_len s c.reference

@@ -1,43 +1,36 @@
-//! What a block costs by each option, in bits.
+//! What a block costs by each option, in bits, without its head: the identifier and the reference, which are as long by
+//! each option.
 ghost use Rattle.std.specs.Prelude.{◌≡◌, ℕ, ◌+◌, ◌*◌, ◌/◌, ◌^◌, ◌<◌, ◌≤◌, length, sum_by};
-ghost use Rattle.rice_samples.specs.Parameters.{id_len, k_max};
-ghost use Rattle.rice_code.specs.code.CodedDataSets.{NoCompression, SecondExtension, Split, sent_residuals, cost, reference_len};
+ghost use Rattle.rice_samples.specs.Parameters.{k_max};
+ghost use Rattle.rice_code.specs.code.CodedDataSets.{NoCompression, SecondExtension, Split, sent_residuals, cost};
 ghost use Rattle.rice_code.specs.code.SoundBlocks.{IsSoundData};
+ghost use Rattle.rice_code.specs.encode.Chosen.{head_len};
 
 use crate::encode::held_block::HeldBlock;
 use rice_bits::Meter;
 use rice_samples::Setting;
 
-/// Returns the number of bits of the reference, if there is one.
-fn reference_len(setting: &Setting, reference: Option<u32>) -> u64
-    ensures value { result ≡ reference_len setting.now reference }
-    ensures limit { result ≤ 32 }
-{
-    match reference {
-        Some(_) => setting.bits() as u64,
-        None => 0,
-    }
-}
-
-/// Returns the cost of the block by no compression.
+/// Returns the cost of the block by no compression, without its head.
 pub fn no_compression_cost(setting: &Setting, block: &HeldBlock<'_>) -> u64
     requires { IsSoundData setting.now block.now }
-    ensures value { result ≡ cost setting.now (NoCompression block.now) }
-    ensures limit { result ≤ 2053 }
+    ensures value { result + head_len setting.now block.now ≡
+        cost setting.now (NoCompression block.now) }
+    ensures limit { result ≤ 2048 }
 {
-    setting.id_len() as u64 + (setting.block() * setting.bits()) as u64
+    let bits = setting.bits();
+    (coded_len(setting, block) * bits) as u64
 }
 
-/// Returns the cost of the block by second extension.
+/// Returns the cost of the block by second extension, without its head.
 pub fn second_extension_cost(setting: &Setting, block: &HeldBlock<'_>, meter: &mut Meter) -> u128
     requires sound { IsSoundData setting.now block.now }
     requires meter { meter.old + length block.now.residuals < 2 ^ 62 }
-    ensures value { result ≡ cost setting.now (SecondExtension block.now) }
+    ensures value { result + head_len setting.now block.now ≡
+        cost setting.now (SecondExtension block.now) }
     ensures steps { meter.new ≡ meter.old + setting.now.block }
 {
     let _ = setting.block();
-    let head = setting.id_len() as u64 + 1 + reference_len(setting, block.reference());
-    head as u128 + block.residuals().pair_sum(meter)
+    1 + block.residuals().pair_sum(meter)
 }
 
 /// Returns the number of residuals that a split sends: all but that at the reference place.
@@ -52,18 +45,18 @@ pub fn coded_len(setting: &Setting, block: &HeldBlock<'_>) -> u32
     }
 }
 
-/// Returns the cost of the block by split `k`, where `sum` is that of the residuals without their `k`
+/// Returns the cost of the block by split `k`, without its head, where `sum` is that of the residuals without their `k`
 /// lowest digits.
 pub fn split_cost(setting: &Setting, block: &HeldBlock<'_>, k: u32, sum: u64) -> u64
     requires split { k ≤ k_max setting.now }
     requires sound { IsSoundData setting.now block.now }
     requires sum { sum ≡ sum_by (λ d. d / 2 ^ k) block.now.residuals }
     requires few { sum ≤ 2 ^ 38 }
-    ensures value { result ≡ cost setting.now (Split k block.now) }
+    ensures value { result + head_len setting.now block.now ≡ cost setting.now (Split k block.now) }
     ensures limit { result < 2 ^ 40 }
 {
     let limit = setting.k_max();
     prove!(k <= limit);
     let digits = coded_len(setting, block) * (k + 1);
-    setting.id_len() as u64 + reference_len(setting, block.reference()) + digits as u64 + sum
+    digits as u64 + sum
 }

@@ -4,7 +4,7 @@ ghost use Rattle.rice_samples.specs.Parameters.{k_max};
 ghost use Rattle.rice_code.specs.code.CodedDataSets.{Split, cost};
 ghost use Rattle.rice_code.specs.code.Choice.{shortest, IsBestSplit, best_split};
 ghost use Rattle.rice_code.specs.code.SoundBlocks.{IsSoundData};
-ghost use Rattle.rice_code.specs.encode.Chosen.{chosen_set, IsSplitWithin};
+ghost use Rattle.rice_code.specs.encode.Chosen.{chosen_set, head_len, IsSplitWithin};
 
 use crate::encode::cost::{coded_len, no_compression_cost, second_extension_cost, split_cost};
 use crate::encode::held_block::HeldBlock;
@@ -19,13 +19,14 @@ pub enum Choice {
     Split(u32),
 }
 
-/// Returns the smallest `k` of minimal cost, and that cost.
+/// Returns the smallest `k` of minimal cost, and that cost without the head.
 pub fn best_split(setting: &Setting, block: &HeldBlock<'_>, meter: &mut Meter) -> (u32, u64)
     requires sound { IsSoundData setting.now block.now }
     requires meter { meter.old + setting.now.block * (k_max setting.now + 1) < 2 ^ 62 }
     ensures best { IsBestSplit setting.now block.now result.0 }
     ensures named { best_split setting.now block.now ≡ result.0 }
-    ensures value { result.1 ≡ cost setting.now (Split result.0 block.now) }
+    ensures value { result.1 + head_len setting.now block.now ≡
+        cost setting.now (Split result.0 block.now) }
     ensures steps { meter.new ≡ meter.old +
         setting.now.block * (min (result.0 + 1) (k_max setting.now) + 1) }
 {

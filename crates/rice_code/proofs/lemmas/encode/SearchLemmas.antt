@@ -1,11 +1,12 @@
 -- The search for the best split, and the choice after it.
-use Rattle.std.proofs.Common.{◌≡◌, ℕ, zero, suc, ◌<◌, ◌≤◌, Bool, true, false, cond, nat_lt, map, List, [], ◌∷◌, refl, ap, arith, sym, ◌∙◌}
+use Rattle.std.proofs.Common.{◌≡◌, ℕ, zero, suc, ◌+◌, ◌*◌, ◌<◌, ◌≤◌, Bool, true, false, cond, nat_lt, map, List, [], ◌∷◌, length, refl, ap, arith, sym, ◌∙◌}
+use Rattle.std.specs.Prelude.{Option, None, Some}
 use Rattle.std.specs.List.{best_of, range_with_len}
 use Rattle.std.proofs.lemmas.Bool.Decides.{nat_tests}
 use Rattle.rice_samples.specs.Parameters.{Parameters, k_max}
 use Rattle.rice_code.specs.code.Blocks.{BlockData}
 use Rattle.rice_code.specs.code.Choice.{shortest, IsBestSplit, best_split}
-use Rattle.rice_code.specs.code.CodedDataSets.{NoCompression, SecondExtension, Split, cost}
+use Rattle.rice_code.specs.code.CodedDataSets.{NoCompression, SecondExtension, Split, cost, reference_len, sent_from}
 use Rattle.rice_code.proofs.lemmas.cost.Savings.{kept, less, not_less, best_numbered, shortest_is}
 
 map_same : (xs : List ℕ) → map (λ k. k) xs ≡ xs
@@ -49,3 +50,9 @@ takes_split s c k h p q =
     let below : (v : Bool) → cost s (Split k c) < cost s (first v) = λ v. elim v as (λ v. cost s (Split k c) < cost s (first v)) [ true ↦ q | false ↦ p ] in
     let v = nat_lt (cost s (SecondExtension c)) (cost s (NoCompression c)) in
     sym (shortest_is s c k h ∙ ap (λ w. cond w (Split k c) (first v)) (less (cost s (Split k c)) (cost s (first v)) (below v)))
+
+-- by no compression all residuals are sent but that at the reference place, in whose place the reference is sent
+pub all_sent : (s : Parameters) (reference : Option ℕ) (ds : List ℕ) → 1 ≤ length ds → length (sent_from reference ds) * s.bits + reference_len s reference ≡ length ds * s.bits
+all_sent s None ds h = omega arith
+all_sent s (Some v) [] h = absurd (omega arith)
+all_sent s (Some v) (d ∷ ds) h = omega arith
