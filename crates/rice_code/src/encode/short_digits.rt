@@ -55,12 +55,30 @@ pub fn put_short_low(
 {
     let eights = block.len() / 8;
     let first = eight_low(block, 0, width, meter);
-    let count = (8 - from as u32) * width;
-    fields.add(first % (1 << count), count, sink, meter);
+    let (digits, count) = digits_from(first, from, width);
+    fields.add(digits, count, sink, meter);
     for i in 1..eights {
         let eight = eight_low(block, 8 * i, width, meter);
         fields.add(eight, 8 * width, sink, meter);
     }
+}
+
+/// Returns the number of the digits of eight words of `width` digits from number `from` on, which is one of the first two, and
+/// the number of these digits.
+#[inline(always)]
+fn digits_from(eight: u64, from: usize, width: u32) -> (u64, u32)
+    requires width { width ≤ 7 }
+    requires from { from ≤ 1 }
+    requires eight { eight < 2 ^ (8 * width) }
+    ensures count { result.1 ≡ (8 - from) * width }
+    ensures limit { result.1 ≤ 56 }
+    ensures value { result.0 ≡ eight % 2 ^ ((8 - from) * width) }
+    ensures fits { result.0 < 2 ^ result.1 }
+{
+    if from == 0 {
+        return (eight, 8 * width);
+    }
+    (eight % (1 << (7 * width)), 7 * width)
 }
 
 /// Returns the number whose digits are the lowest digits of the eight residuals from number `at` on, one after the other.

@@ -2,7 +2,6 @@
 use Rattle.std.proofs.Common.{◌≡◌, ℕ, zero, suc, ◌+◌, ◌-◌, ◌*◌, ◌/◌, ◌%◌, ◌^◌, ◌<◌, ◌≤◌, Bool, List, [], ◌∷◌, ◌++◌, length, drop, take, get_or, refl, ap, arith, sym, ◌∙◌, append_assoc, append-nil}
 use Rattle.std.specs.Prelude.{flat_map, slice_range, bit_and}
 use Rattle.std.proofs.Math.Seq.{drop-append_seam}
-use Rattle.std.proofs.Math.Nat.{mul-le-mul_right}
 use Rattle.std.proofs.lemmas.Nat.{and_mask, mod_below, pow_pos}
 use Rattle.std.proofs.lemmas.Grind.{flat_map-append}
 use Rattle.std.proofs.lemmas.List.Folds.{drop_split}
@@ -85,9 +84,3 @@ eight_fewer n i m w h e = let f : n - i ≡ n - m + 8 = omega arith in ap (λ k.
 
 pub first_eight_fewer : (n from w : ℕ) → from ≤ 1 → 8 ≤ n → (n - from) * w ≡ (n - 8) * w + (8 - from) * w
 first_eight_fewer n from w h e = let f : n - from ≡ (n - 8) + (8 - from) = omega arith in ap (λ k. k * w) f ∙ (omega arith)
-
-pub few_digits : (from w : ℕ) → w ≤ 7 → (8 - from) * w < 64
-few_digits from w h = at_most (8 - from) w (omega arith) h
-  where
-    at_most : (n w : ℕ) → n ≤ 8 → w ≤ 7 → n * w < 64
-    at_most n w h k = let le : n * w ≤ 8 * w = mul-le-mul_right w h in omega (arith, le)

@@ -1,8 +1,7 @@
 use Rattle.std.specs.Prelude.{flat_map, slice_range}
-use Rattle.std.proofs.Common.{arith, sym, ◌≡◌, ◌+◌, ◌-◌, ◌*◌, ◌%◌, ◌<◌, ◌++◌, ◌∙◌, ap, length, refl}
-use Rattle.std.proofs.lemmas.Nat.{one_shl}
+use Rattle.std.proofs.Common.{arith, sym, ◌≡◌, ◌+◌, ◌*◌, ◌++◌, ◌∙◌, ap, length, refl}
 use Rattle.rice_bits.specs.Bits.{word}
-use Rattle.rice_code.proofs.lemmas.encode.ShortDigits.{tail_of_eight, eight_added, eight_fewer, first_eight_fewer, few_digits}
+use Rattle.rice_code.proofs.lemmas.encode.ShortDigits.{tail_of_eight, eight_added, eight_fewer, first_eight_fewer}
 use Rattle.rice_code.proofs.encode.short_digits.put_short_low.Goals as goal
 
 pub loop-i-init : goal.loop-i-init
@@ -11,10 +10,8 @@ loop-i-init c =
     let from = c.args.from in
     let xs = c.args.block.now in
     let first = c.eight_low-first.result in
-    let count = (8 - from) * w in
     let all = c.args.sink.now ++ c.args.fields.now in
-    let few : count < 64 = few_digits from w c.requires.width in
-    let words = ap (λ m. word count (first % m)) (one_shl count 64 few) ∙ tail_of_eight w from first xs c.requires.from (omega (arith, c.len-eights.ensures.range.0, c.len-eights.ensures.value)) c.eight_low-first.ensures.bits in
+    let words = (λ j. word (c.digits_from-digits.ensures.count j) (c.digits_from-digits.ensures.value j)) ∙ tail_of_eight w from first xs c.requires.from (omega (arith, c.len-eights.ensures.range.0, c.len-eights.ensures.value)) c.eight_low-first.ensures.bits in
     let less = first_eight_fewer (length xs) from w c.requires.from (omega (arith, c.len-eights.ensures.range.0, c.len-eights.ensures.value)) in
     record {
       after = omega arith;
