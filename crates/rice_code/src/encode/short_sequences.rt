@@ -127,7 +127,8 @@ fn put_eight(
         add_ones(ones, fields, sink, meter);
         return;
     }
-    put_four_from(a, from, fields, sink, meter);
+    let held = std::mem::replace(fields, BitBuffer::new());
+    *fields = put_four_from(a, from, held, sink, meter);
     fields.add_four_fs(b, sink, meter);
 }
 
@@ -157,8 +158,9 @@ fn put_sixteen(
         add_ones(ones, fields, sink, meter);
         return;
     }
-    put_four_from(a, from, fields, sink, meter);
-    put_twelve(b, c, d, fields, sink, meter);
+    let held = std::mem::replace(fields, BitBuffer::new());
+    let held = put_four_from(a, from, held, sink, meter);
+    *fields = put_twelve(b, c, d, held, sink, meter);
 }
 
 /// Adds the sequences that are gathered.
@@ -175,50 +177,53 @@ fn add_ones(ones: Ones, fields: &mut BitBuffer, sink: &mut SegmentSink, meter: &
     fields.add(value, width, sink, meter);
 }
 
-/// Adds the fundamental sequences of four numbers, from number `from` on.
+/// Adds the fundamental sequences of four numbers, from number `from` on, and returns the buffer. It takes no reference to
+/// it, so that the bits stay in registers elsewhere.
 #[cold]
 #[inline(never)]
 fn put_four_from(
     four: (u32, u32, u32, u32),
     from: usize,
-    fields: &mut BitBuffer,
+    mut fields: BitBuffer,
     sink: &mut SegmentSink,
     meter: &mut Meter,
-)
+) -> BitBuffer
     requires from { from ≤ 1 }
     requires room { HasRoomForBits (sequences_from from four.0 four.1 four.2 four.3)
-        (length sink.old + length fields.old) (meter.old + length fields.old) }
+        (length sink.old + length fields) (meter.old + length fields) }
     ensures { AddsBits (sequences_from from four.0 four.1 four.2 four.3)
-        sink.old fields.old sink.new fields.new meter.old meter.new }
+        sink.old fields sink.new result meter.old meter.new }
 {
     if from == 0 {
         fields.add_four_fs(four, sink, meter);
-        return;
+        return fields;
     }
     fields.add_fs(four.1, sink, meter);
     fields.add_fs(four.2, sink, meter);
     fields.add_fs(four.3, sink, meter);
+    fields
 }
 
-/// Adds the fundamental sequences of twelve numbers.
+/// Adds the fundamental sequences of twelve numbers, and returns the buffer.
 #[cold]
 #[inline(never)]
 fn put_twelve(
     b: (u32, u32, u32, u32),
     c: (u32, u32, u32, u32),
     d: (u32, u32, u32, u32),
-    fields: &mut BitBuffer,
+    mut fields: BitBuffer,
     sink: &mut SegmentSink,
     meter: &mut Meter,
-)
+) -> BitBuffer
     requires { HasRoomForBits (four_sequences b.0 b.1 b.2 b.3 ++ four_sequences c.0 c.1 c.2 c.3 ++
         four_sequences d.0 d.1 d.2 d.3)
-        (length sink.old + length fields.old) (meter.old + length fields.old) }
+        (length sink.old + length fields) (meter.old + length fields) }
     ensures { AddsBits (four_sequences b.0 b.1 b.2 b.3 ++ four_sequences c.0 c.1 c.2 c.3 ++
         four_sequences d.0 d.1 d.2 d.3)
-        sink.old fields.old sink.new fields.new meter.old meter.new }
+        sink.old fields sink.new result meter.old meter.new }
 {
     fields.add_four_fs(b, sink, meter);
     fields.add_four_fs(c, sink, meter);
     fields.add_four_fs(d, sink, meter);
+    fields
 }

@@ -28,6 +28,12 @@ length-three_parts a b c = length-append (a ++ b) c ∙ ap (λ n. n + length c) 
 pub three_behind : (all a b c : List Bool) → all ++ a ++ b ++ c ≡ all ++ (a ++ b ++ c)
 three_behind all a b c = simp append_assoc
 
+pub length-first_part : (a b c d : List Bool) → length (a ++ b ++ c ++ d) ≡ length a + length (b ++ c ++ d)
+length-first_part a b c d = ap length (three_behind a b c d) ∙ length-append a (b ++ c ++ d)
+
+pub four_behind : (all a b c d : List Bool) → all ++ a ++ (b ++ c ++ d) ≡ all ++ (a ++ b ++ c ++ d)
+four_behind all a b c d = simp append_assoc
+
 -- 8 and 16 residuals from number i on
 eight_more : (xs : List ℕ) (i n : ℕ) → i + 7 < length xs → n ≡ i + 8 →
     drop i xs ≡ get_or xs i 0 ∷ get_or xs (i + 1) 0 ∷ get_or xs (i + 2) 0 ∷ get_or xs (i + 3) 0 ∷ get_or xs (i + 4) 0 ∷ get_or xs (i + 4 + 1) 0 ∷ get_or xs (i + 4 + 2) 0 ∷ get_or xs (i + 4 + 3) 0 ∷ drop n xs

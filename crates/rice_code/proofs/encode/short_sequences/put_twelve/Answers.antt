@@ -35,7 +35,7 @@ returns c =
     let e = length-four c.args.d.0 c.args.d.1 c.args.d.2 c.args.d.3 in
     let two = c.add_four_fs-2.ensures.bits ∙ ap (λ v. v ++ y) c.add_four_fs.ensures.bits in
     record {
-      bits = c.add_four_fs-3.ensures.bits ∙ (ap (λ v. v ++ z) two ∙ three_behind (c.args.sink.now ++ c.args.fields.now) x y z);
+      bits = c.add_four_fs-3.ensures.bits ∙ (ap (λ v. v ++ z) two ∙ three_behind (c.args.sink.now ++ c.args.fields) x y z);
       len = omega (arith, whole, b, d, e, c.add_four_fs.ensures.len, c.add_four_fs-2.ensures.len, c.add_four_fs-3.ensures.len);
       steps = omega (arith, whole, b, d, e, c.add_four_fs.ensures.steps, c.add_four_fs-2.ensures.steps, c.add_four_fs-3.ensures.steps);
     }
