@@ -1,4 +1,4 @@
-use Rattle.std.proofs.Common.{◌≡◌, ◌+◌, ◌*◌, ◌≤◌, ap, arith, length}
+use Rattle.std.proofs.Common.{◌*◌, ◌≤◌, ap, arith, length}
 use Rattle.rice_code.proofs.lemmas.encode.SearchLemmas.{all_sent}
 use Rattle.rice_code.proofs.encode.cost.no_compression_cost.Goals as goal
 

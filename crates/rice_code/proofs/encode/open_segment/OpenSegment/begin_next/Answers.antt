@@ -1,6 +1,6 @@
-use Rattle.std.proofs.Common.{ℕ, List, ◌≡◌, ◌≤◌, ◌∙◌, ◌*◌, ap, sym, subst, arith, None}
+use Rattle.std.proofs.Common.{ℕ, List, ◌≤◌, ◌∙◌, ◌*◌, ap, sym, subst, arith, None}
 use Rattle.rice_samples.specs.Places.{blocks_left}
-use Rattle.rice_code.specs.encode.OpenSegment.{CoderState, IsOpen, state_after_segment}
+use Rattle.rice_code.specs.encode.OpenSegment.{CoderState, IsOpen}
 use Rattle.rice_code.proofs.lemmas.encode.OpenSegments.{next_is_open, next_of_whole}
 use Rattle.rice_code.proofs.encode.open_segment.OpenSegment.begin_next.Goals as goal
 
