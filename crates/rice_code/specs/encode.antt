@@ -6,4 +6,5 @@ pub mod HeldBlocks
 pub mod Ones
 pub mod OpenSegment
 pub mod Parts
+pub mod Prepared
 pub mod ShortDigits

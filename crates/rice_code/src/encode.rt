@@ -12,6 +12,7 @@ mod held_block;
 mod ones;
 mod open_segment;
 mod options;
+mod prepared;
 mod search;
 mod short_digits;
 mod short_sequences;

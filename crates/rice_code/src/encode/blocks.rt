@@ -14,9 +14,10 @@ ghost use Rattle.rice_code.specs.Steps.{least_looks, most_looks};
 use crate::encode::SegmentSink;
 use crate::encode::held_block::HeldBlock;
 use crate::encode::options::{put_block, put_run};
+use crate::encode::prepared::PreparedSetting;
 use crate::encode::search::choose;
 use rice_bits::Meter;
-use rice_samples::{Block, Segment, Setting};
+use rice_samples::{Block, Segment};
 
 /// Appends the shortest code of a block that is not zero.
 ///
@@ -24,7 +25,7 @@ use rice_samples::{Block, Segment, Setting};
 /// which are passed in registers.
 #[inline(never)]
 fn code_block(
-    setting: &Setting,
+    setting: &PreparedSetting,
     reference: Option<u32>,
     residuals: Block<'_>,
     sink: &mut SegmentSink,
@@ -47,7 +48,7 @@ fn code_block(
 /// Appends the code of the run of `run` zero blocks that are pending, if there are any.
 #[inline(always)]
 fn put_pending(
-    setting: &Setting,
+    setting: &PreparedSetting,
     reference: Option<u32>,
     run: u32,
     to_end: bool,
@@ -71,7 +72,7 @@ fn put_pending(
 /// Takes the block after `run` zero blocks that are pending: a zero block joins them, another ends the run.
 /// Returns the number of blocks that are pending then.
 fn code_next(
-    setting: &Setting,
+    setting: &PreparedSetting,
     first: Option<u32>,
     run: u32,
     block: HeldBlock<'_>,
@@ -115,7 +116,7 @@ fn reference_of(reference: Option<u32>, i: usize) -> Option<u32>
 
 /// Appends the code of the first `count` blocks of a segment that begins at place `start`.
 pub fn code_blocks(
-    setting: &Setting,
+    setting: &PreparedSetting,
     start: u32,
     reference: Option<u32>,
     count: usize,

@@ -7,11 +7,11 @@ ghost use Rattle.rice_code.specs.code.SoundBlocks.{IsSoundData};
 ghost use Rattle.rice_code.specs.encode.Chosen.{head_len};
 
 use crate::encode::held_block::HeldBlock;
+use crate::encode::prepared::PreparedSetting;
 use rice_bits::Meter;
-use rice_samples::Setting;
 
 /// Returns the cost of the block by no compression, without its head.
-pub fn no_compression_cost(setting: &Setting, block: &HeldBlock<'_>) -> u64
+pub fn no_compression_cost(setting: &PreparedSetting, block: &HeldBlock<'_>) -> u64
     requires { IsSoundData setting.now block.now }
     ensures value { result + head_len setting.now block.now ≡
         cost setting.now (NoCompression block.now) }
@@ -22,7 +22,11 @@ pub fn no_compression_cost(setting: &Setting, block: &HeldBlock<'_>) -> u64
 }
 
 /// Returns the cost of the block by second extension, without its head.
-pub fn second_extension_cost(setting: &Setting, block: &HeldBlock<'_>, meter: &mut Meter) -> u128
+pub fn second_extension_cost(
+    setting: &PreparedSetting,
+    block: &HeldBlock<'_>,
+    meter: &mut Meter,
+) -> u128
     requires sound { IsSoundData setting.now block.now }
     requires meter { meter.old + length block.now.residuals < 2 ^ 62 }
     ensures value { result + head_len setting.now block.now ≡
@@ -34,7 +38,7 @@ pub fn second_extension_cost(setting: &Setting, block: &HeldBlock<'_>, meter: &m
 }
 
 /// Returns the number of residuals that a split sends: all but that at the reference place.
-pub fn coded_len(setting: &Setting, block: &HeldBlock<'_>) -> u32
+pub fn coded_len(setting: &PreparedSetting, block: &HeldBlock<'_>) -> u32
     requires { IsSoundData setting.now block.now }
     ensures value { result ≡ length (sent_residuals block.now) }
     ensures limit { result ≤ 64 }
@@ -47,7 +51,7 @@ pub fn coded_len(setting: &Setting, block: &HeldBlock<'_>) -> u32
 
 /// Returns the cost of the block by split `k`, without its head, where `sum` is that of the residuals without their `k`
 /// lowest digits.
-pub fn split_cost(setting: &Setting, block: &HeldBlock<'_>, k: u32, sum: u64) -> u64
+pub fn split_cost(setting: &PreparedSetting, block: &HeldBlock<'_>, k: u32, sum: u64) -> u64
     requires split { k ≤ k_max setting.now }
     requires sound { IsSoundData setting.now block.now }
     requires sum { sum ≡ sum_by (λ d. d / 2 ^ k) block.now.residuals }

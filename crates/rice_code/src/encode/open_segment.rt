@@ -9,6 +9,7 @@ ghost use Rattle.rice_code.specs.encode.OpenSegment.{IsOpen, IsWhole, empty_stat
 
 use crate::encode::SegmentSink;
 use crate::encode::blocks::code_blocks;
+use crate::encode::prepared::PreparedSetting;
 use rice_bits::Meter;
 use rice_samples::{Segment, Setting, pattern, residual};
 use std::marker::Model;
@@ -205,8 +206,9 @@ impl OpenSegment {
         let setting = &self.setting;
         let blocks = blocks_of(setting, self.residuals.len());
         let before = sink.len();
+        let prepared = PreparedSetting::new(*setting);
         code_blocks(
-            setting,
+            &prepared,
             self.start,
             self.reference,
             blocks,

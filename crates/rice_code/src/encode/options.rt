@@ -15,17 +15,18 @@ use crate::encode::SegmentSink;
 use crate::encode::bit_buffer::BitBuffer;
 use crate::encode::fields::put_low;
 use crate::encode::held_block::HeldBlock;
+use crate::encode::prepared::PreparedSetting;
 use crate::encode::search::Choice;
 use crate::encode::short_digits::put_short_low;
 use crate::encode::short_sequences::put_short_high;
 use rice_bits::Meter;
-use rice_samples::{Block, Setting};
+use rice_samples::Block;
 
 /// Begins a coded data set: returns a buffer after the `width` digits of its identifier, with the flag
 /// after it where there is one, and the reference, if there is one.
 #[inline(always)]
 fn begin(
-    setting: &Setting,
+    setting: &PreparedSetting,
     identifier: u32,
     width: u32,
     reference: Option<u32>,
@@ -93,7 +94,7 @@ fn first_coded(block: &HeldBlock<'_>) -> usize
 
 /// Appends the block, coded by no compression.
 fn put_no_compression(
-    setting: &Setting,
+    setting: &PreparedSetting,
     block: &HeldBlock<'_>,
     sink: &mut SegmentSink,
     meter: &mut Meter,
@@ -115,7 +116,7 @@ fn put_no_compression(
 
 /// Appends the block, coded by second extension.
 fn put_second_extension(
-    setting: &Setting,
+    setting: &PreparedSetting,
     block: &HeldBlock<'_>,
     sink: &mut SegmentSink,
     meter: &mut Meter,
@@ -135,7 +136,7 @@ fn put_second_extension(
 
 /// Appends the block, coded by split `k`.
 fn put_split(
-    setting: &Setting,
+    setting: &PreparedSetting,
     k: u32,
     block: &HeldBlock<'_>,
     sink: &mut SegmentSink,
@@ -169,7 +170,7 @@ fn put_split(
 
 /// Appends the block, coded by `choice`.
 pub fn put_block(
-    setting: &Setting,
+    setting: &PreparedSetting,
     choice: Choice,
     block: &HeldBlock<'_>,
     sink: &mut SegmentSink,
@@ -191,7 +192,7 @@ pub fn put_block(
 /// Appends a run of `z` zero blocks, which reaches the end of the segment, or of the last segment, where
 /// `to_end` is true.
 pub fn put_run(
-    setting: &Setting,
+    setting: &PreparedSetting,
     reference: Option<u32>,
     z: u32,
     to_end: bool,

@@ -8,8 +8,8 @@ ghost use Rattle.rice_code.specs.encode.Chosen.{chosen_set, head_len, IsSplitWit
 
 use crate::encode::cost::{coded_len, no_compression_cost, second_extension_cost, split_cost};
 use crate::encode::held_block::HeldBlock;
+use crate::encode::prepared::PreparedSetting;
 use rice_bits::Meter;
-use rice_samples::Setting;
 
 /// The option by which a block is coded.
 #[derive(Clone, Copy)]
@@ -20,7 +20,7 @@ pub enum Choice {
 }
 
 /// Returns the smallest `k` of minimal cost, and that cost without the head.
-pub fn best_split(setting: &Setting, block: &HeldBlock<'_>, meter: &mut Meter) -> (u32, u64)
+pub fn best_split(setting: &PreparedSetting, block: &HeldBlock<'_>, meter: &mut Meter) -> (u32, u64)
     requires sound { IsSoundData setting.now block.now }
     requires meter { meter.old + setting.now.block * (k_max setting.now + 1) < 2 ^ 62 }
     ensures best { IsBestSplit setting.now block.now result.0 }
@@ -37,7 +37,7 @@ pub fn best_split(setting: &Setting, block: &HeldBlock<'_>, meter: &mut Meter) -
 }
 
 /// Returns the option of minimal cost.
-pub fn choose(setting: &Setting, block: &HeldBlock<'_>, meter: &mut Meter) -> Choice
+pub fn choose(setting: &PreparedSetting, block: &HeldBlock<'_>, meter: &mut Meter) -> Choice
     requires sound { IsSoundData setting.now block.now }
     requires meter { meter.old + setting.now.block * (k_max setting.now + 2) < 2 ^ 62 }
     ensures value { chosen_set result block.now ≡ shortest setting.now block.now }
