@@ -52,3 +52,7 @@ pub record IsBitSink (capacity bits : ℕ) (bytes : List ℕ) : Type 0 where
   pub room : bits ≤ 8 * capacity
   pub zeros : drop bits (bits_of bytes) ≡ replicate (8 * capacity - bits) false
   pub small : capacity < 2 ^ 32
+
+-- the powers of 2 that move each of four words of `width` digits to the front
+abbrev pub four_powers : ℕ → List ℕ
+four_powers width = 1 ∷ 2 ^ width ∷ 2 ^ (2 * width) ∷ 2 ^ (3 * width) ∷ []

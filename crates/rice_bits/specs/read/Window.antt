@@ -31,10 +31,6 @@ window_taken w = 8 * w.given - (w.end - w.at)
 abbrev pub bits_near : Window → ℕ
 bits_near w = min (64 - w.at % 8) (length (window_bits w))
 
--- the powers of 2 that move each of four words of `width` digits to the front
-abbrev pub four_powers : ℕ → List ℕ
-four_powers width = 1 ∷ 2 ^ width ∷ 2 ^ (2 * width) ∷ 2 ^ (3 * width) ∷ []
-
 pub record IsWindow (w : Window) : Type 0 where
   pub size : length w.buffer ≡ buffer_len
   pub marked : w.marked ≤ w.at

@@ -1,8 +1,8 @@
 //! The bytes that an intake gave last, and a place among their bits.
 ghost use Rattle.std.specs.Prelude.{◌≡◌, ℕ, ◌+◌, ◌-◌, ◌*◌, ◌/◌, ◌%◌, ◌^◌, ◌<◌, ◌≤◌, ◌&&◌, false, [], ◌++◌, min, replicate, flat_map, length, take, drop, All, IfSome, IfNone};
-ghost use Rattle.rice_bits.specs.Bits.{bits_of, fundamental_sequence, word};
+ghost use Rattle.rice_bits.specs.Bits.{bits_of, four_powers, fundamental_sequence, word};
 ghost use Rattle.rice_bits.specs.read.Reader.{is_blank};
-ghost use Rattle.rice_bits.specs.read.Window.{AreParted, four_powers, buffer_len, most_at_once, most_waiting};
+ghost use Rattle.rice_bits.specs.read.Window.{AreParted, buffer_len, most_at_once, most_waiting};
 
 use crate::bits::digits::{digits_behind, four_words, front_digits, powers_of};
 use crate::bits::octets::{load, store_zeros};

@@ -12,7 +12,7 @@ use Rattle.std.proofs.lemmas.List.FromFn.{get_or-map-range_with_len}
 use Rattle.std.proofs.lemmas.Simd.{length-put_chunk, take_more_put_chunk, zip2_splat}
 use Rattle.std.proofs.Math.Seq.{take-add, take-append-add, take-append_seam}
 use Rattle.rice_bits.specs.Bits.{bits_of, fundamental_sequence, word}
-use Rattle.rice_bits.specs.declared.read.ones.TheConstants.{ENDS}
+use Rattle.rice_bits.specs.declared.read.ends.TheConstants.{ENDS}
 use Rattle.rice_bits.specs.read.Ones.{IsSearched, end_row, ends_after, gaps}
 use Rattle.rice_bits.specs.read.Window.{AreParted}
 use Rattle.rice_bits.proofs.lemmas.bits.EightBytes.{bits_of-eight}

@@ -2,7 +2,7 @@ use Rattle.std.proofs.Common.{◌≡◌, [], ◌∙◌, ap, sym, arith, get_or, 
 use Rattle.std.specs.List.{range_with_len}
 use Rattle.std.proofs.lemmas.List.FromFn.{get_or-map-range_with_len}
 use Rattle.rice_bits.specs.declared.bits.digits.TheConstants.{POWERS}
-use Rattle.rice_bits.specs.read.Window.{four_powers}
+use Rattle.rice_bits.specs.Bits.{four_powers}
 use Rattle.rice_bits.proofs.bits.digits.powers_of.Goals as goal
 
 pub returns : goal.returns
