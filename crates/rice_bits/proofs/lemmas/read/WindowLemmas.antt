@@ -18,7 +18,7 @@ use Rattle.rice_bits.specs.declared.read.window.Window.{Window}
 use Rattle.rice_bits.proofs.lemmas.bits.Bytes.{bits_of-append, bits_of-zeros, length-bits_of}
 use Rattle.rice_bits.proofs.lemmas.bits.EightBytes.{bits_of-eight}
 use Rattle.rice_bits.proofs.lemmas.bits.FirstOnes.{front_below, take-front, word-moved, word-parts}
-use Rattle.rice_bits.proofs.lemmas.bits.Words.{length-fundamental_sequence, length-word, word-split}
+use Rattle.rice_bits.proofs.lemmas.bits.Words.{length-fundamental_sequence, length-word, word-nil, word-split}
 
 -- a part of a list is its two parts
 between-join : {A : Type 0} (xs : List A) (a s e : ℕ) → a ≤ s → s ≤ e → slice_range xs a s ++ slice_range xs s e ≡ slice_range xs a e
@@ -237,6 +237,16 @@ words-more width bits from at now done v place lt before step =
     let n : width ≡ 1 * width = omega arith in
     let one : flat_map (word width) (v ∷ []) ≡ take (1 * width) (drop at bits) = append-nil (word width v) ∙ (step ∙ ap (λ k. take k (drop at bits)) n) in
     ap (flat_map (word width)) (take_more_set now done v lt) ∙ words-joined width bits from at done 1 (take done now) (v ∷ []) place before one
+
+-- words of no digits have no bits
+pub words-none : (width : ℕ) (words : List ℕ) (bits : List Bool) → width ≡ 0 → flat_map (word width) words ≡ take (length words * width) bits
+words-none width words bits e =
+    let none : length words * width ≡ 0 = ap (λ n. length words * n) e ∙ omega arith in
+    ap (λ n. flat_map (word n) words) e ∙ (no_bits words ∙ ap (λ n. take n bits) (sym none))
+  where
+    no_bits : (xs : List ℕ) → flat_map (word 0) xs ≡ []
+    no_bits [] = refl
+    no_bits (x ∷ xs) = ap (λ bs. bs ++ flat_map (word 0) xs) (word-nil x) ∙ no_bits xs
 
 -- the first bits that wait
 pub front-waits : (w : Window) (n : ℕ) → n ≤ w.end - w.at → take n (window_bits w) ≡ take n (drop w.at (bits_of w.buffer))
