@@ -1,11 +1,12 @@
 -- Samples that are restored one behind the other.
-use Rattle.std.proofs.Common.{◌≡◌, ℕ, ◌+◌, ◌-◌, ◌*◌, ◌<◌, ◌≤◌, arith, drop, zero, suc, length-append, List, [], ◌∷◌, ◌++◌, length, take, map, refl, ap, sym, ◌∙◌, get_or, slice_set, ℤ}
+use Rattle.std.proofs.Common.{◌≡◌, ℕ, ◌+◌, ◌-◌, ◌*◌, ◌<◌, ◌≤◌, arith, drop, zero, suc, length-append, List, [], ◌∷◌, ◌++◌, length, take, map, refl, ap, sym, ◌∙◌, get_or, slice_set, ℤ, All}
 use Rattle.std.proofs.lemmas.List.{length-take-le, map-append, take_more, take_more_set}
 use Rattle.std.proofs.lemmas.Slice.{take-put_mid}
 use Rattle.std.proofs.Math.Seq.{take-add}
 use borrow.Rule.Slice.PartMut.{put_mid}
-use Rattle.rice_samples.specs.Parameters.{Parameters}
-use Rattle.rice_samples.specs.predict.Residuals.{rank, ranks, pattern, last_of}
+use Rattle.rice_samples.specs.Parameters.{Parameters, IsSample, level, value_count}
+use Rattle.rice_samples.specs.predict.Residuals.{rank, rank_below, ranks, pattern, last_of}
+use Rattle.rice_samples.proofs.lemmas.bytes.ReadSamples.{one_legal}
 
 last_of-push : (p : ℤ) (xs : List ℤ) (x : ℤ) → last_of p (xs ++ x ∷ []) ≡ x
 last_of-push p [] x = refl
@@ -21,6 +22,28 @@ one_restored s p x i xs ds h k e r = ap (ranks s p) (take_more_set xs i x h) ∙
 
 pub last_restored : (p x : ℤ) (i : ℕ) (xs : List ℤ) → i < length xs → last_of p (take (i + 1) (slice_set xs i x)) ≡ x
 last_restored p x i xs h = ap (last_of p) (take_more_set xs i x h) ∙ last_of-push p (take i xs) x
+
+-- The first `i` samples have the first residuals, and the last of them has the level `reached`.
+pub record AreRestored (s : Parameters) (p : ℤ) (i reached greatest : ℕ) (xs : List ℤ) (ds : List ℕ) : Type 0 where
+  pub legal : All (IsSample s) (take i xs)
+  pub ranked : ranks s p (take i xs) ≡ take i ds
+  pub level_is : reached ≡ level s (last_of p (take i xs))
+  pub within : reached ≤ greatest
+
+pub restored-more : (s : Parameters) (p x : ℤ) (i reached next greatest : ℕ) (xs : List ℤ) (ds : List ℕ) → i < length xs → i < length ds → greatest + 1 ≡ value_count s
+    → AreRestored s p i reached greatest xs ds → IsSample s x → level s x ≡ next → next ≤ greatest → rank_below (greatest + 1) reached next ≡ get_or ds i 0
+    → AreRestored s p (i + 1) next greatest (slice_set xs i x) ds
+restored-more s p x i reached next greatest xs ds h k count so_far sample here within ranked =
+    let before = last_of p (take i xs) in
+    let above = sym count in
+    let from = sym so_far.level_is in
+    let same : rank s before x ≡ rank_below (greatest + 1) reached next = (λ j. rank_below (above j) (from j) (here j)) in
+    record {
+      legal = one_legal (IsSample s) i xs x h so_far.legal sample;
+      ranked = one_restored s p x i xs ds h k so_far.ranked (same ∙ ranked);
+      level_is = sym here ∙ ap (level s) (sym (last_restored p x i xs h));
+      within = within;
+    }
 
 -- one more by its pattern
 pub one_of_pattern : (s : Parameters) (x : ℤ) (i : ℕ) (xs : List ℤ) (vs : List ℕ) → i < length xs → i < length vs → map (pattern s) (take i xs) ≡ take i vs → pattern s x ≡ get_or vs i 0 → map (pattern s) (take (i + 1) (slice_set xs i x)) ≡ take (i + 1) vs
