@@ -1,7 +1,7 @@
 //! Reading bits: the bits of the bytes that an intake gives, taken one word or one fundamental sequence at a time.
 
-pub mod fault;
 mod ends;
+pub mod fault;
 mod ones;
 pub mod reader;
 mod window;

@@ -1,5 +1,5 @@
 -- The bits that were given and not yet taken.
-use Rattle.std.specs.Prelude.{◌≡◌, ◌+◌, ◌-◌, ◌*◌, ◌/◌, ◌%◌, ◌^◌, ◌<◌, ◌≤◌, ℕ, All, Bool, List, [], ◌∷◌, ◌++◌, length, drop, flat_map, min, replicate, take, slice_range}
+use Rattle.std.specs.Prelude.{◌≡◌, ◌+◌, ◌-◌, ◌*◌, ◌/◌, ◌%◌, ◌^◌, ◌<◌, ◌≤◌, ℕ, All, Bool, List, ◌++◌, length, drop, flat_map, min, replicate, take, slice_range}
 use Rattle.rice_bits.specs.Bits.{word, fundamental_sequence, bits_of}
 use Rattle.rice_bits.specs.declared.read.window.Window.{Window}
 

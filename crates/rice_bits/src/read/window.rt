@@ -204,7 +204,7 @@ impl Window {
 
     /// Takes words of `width` bits, one for each place of `words`, and returns their number. It takes none if fewer
     /// wait, or if there are more than 64 places.
-    #[inline(never)]
+    #[inline]
     pub fn take_words(&mut self, width: u32, words: &mut [u32]) -> usize
         requires window { IsWindow self.old }
         requires width { width ≤ 32 }
@@ -278,17 +278,11 @@ fn words_from(bytes: &[u8], at: usize, width: u32, words: &mut [u32])
     if width > 8 || words.len() < 4 {
         return each_from(bytes, at, width, words);
     }
-    // The loop is laid out for blocks of 8, with a reference and without, and of 16.
-    match words.len() {
-        7 => fours_from(bytes, at, width, &mut words[..7]),
-        8 => fours_from(bytes, at, width, &mut words[..8]),
-        16 => fours_from(bytes, at, width, &mut words[..16]),
-        _ => fours_from(bytes, at, width, words),
-    }
+    fours_from(bytes, at, width, words);
 }
 
 /// As `words_from`, four words at a time.
-#[inline(always)]
+#[inline]
 fn fours_from(bytes: &[u8], at: usize, width: u32, words: &mut [u32])
     requires width { (1 ≤ width) × (width ≤ 8) }
     requires some { 4 ≤ length words.old }
@@ -311,7 +305,7 @@ fn fours_from(bytes: &[u8], at: usize, width: u32, words: &mut [u32])
 }
 
 /// Returns the four words of `width` bits from bit `at` on.
-#[inline(always)]
+#[inline]
 fn four_from(bytes: &[u8], at: usize, powers: u32x4, width: u32) -> u32x4
     requires width { (1 ≤ width) × (width ≤ 8) }
     requires powers { powers ≡ four_powers width }
