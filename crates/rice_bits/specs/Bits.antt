@@ -47,7 +47,7 @@ pub record Puts (more : List Bool) (count : ℕ) (old new : List Bool) (meter_ol
   pub len : length new ≡ length old + count
   pub steps : meter_new ≡ meter_old + count
 
--- So many bits are gathered within a capacity in bytes, and zeros stand behind them.
+-- So many bits are gathered within a capacity in bytes, and zeros stand after them.
 pub record IsBitSink (capacity bits : ℕ) (bytes : List ℕ) : Type 0 where
   pub room : bits ≤ 8 * capacity
   pub zeros : drop bits (bits_of bytes) ≡ replicate (8 * capacity - bits) false

@@ -2,11 +2,11 @@
 use Rattle.std.specs.Prelude.{◌≡◌, ℕ, ◌^◌, ◌<◌, All, Bool, List, ◌++◌, length, drop}
 use Rattle.rice_bits.specs.Bits.{fundamental_sequence, word, number_of, bits_of, whole_bytes, bits_in_bytes}
 
--- The whole bytes of bits, and the bits behind them, are the bits again.
+-- The whole bytes of bits, and the bits after them, are the bits again.
 abbrev pub BytesKeepBits : Type 0
 BytesKeepBits = (bits : List Bool) → bits_of (whole_bytes bits) ++ drop (bits_in_bytes (length bits)) bits ≡ bits
 
--- The bits of bytes, and fewer than eight behind them, have just these bytes.
+-- The bits of bytes, and fewer than eight after them, have just these bytes.
 abbrev pub BitsKeepBytes : Type 0
 BitsKeepBytes = (bytes : List ℕ) (rest : List Bool) → All (λ b. b < 256) bytes → length rest < 8 → whole_bytes (bits_of bytes ++ rest) ≡ bytes
 

@@ -12,7 +12,7 @@ use Rattle.rice_c.specs.declared.report.RiceReport.{RiceReport}
 use Rattle.rice_c.specs.Reports.{report_of, empty_report}
 use Rattle.rice_c.specs.Statuses.{number_of, refusal_status, fault_status, fault_place}
 
--- These bytes stand at the front of a memory, and those behind them are as they were.
+-- These bytes stand at the front of a memory, and those after them are as they were.
 abbrev pub StandsInFront : List ℕ → List ℕ → List ℕ → Type 0
 StandsInFront bytes old new = new ≡ bytes ++ drop (length bytes) old
 

@@ -70,7 +70,8 @@ pub extern "C" fn rice_decode(
     samples: &mut [u8],
     report: &mut RiceReport,
 ) -> u32
-    ensures ok { IfOk (setting_of (asked setting.now)) (λ s. DecodesInto s (Some count) code.now samples.old samples.new report.new result) }
+    ensures ok { IfOk (setting_of (asked setting.now)) (λ s.
+        DecodesInto s (Some count) code.now samples.old samples.new report.new result) }
     ensures refused { IfErr (setting_of (asked setting.now)) (λ fault. Refuses fault samples.old samples.new report.new result) }
     ensures room { IfOk (setting_of (asked setting.now)) (λ s. count * width s ≤ length samples.old → result ≢ number_of NoRoom) }
 {

@@ -31,7 +31,8 @@ pub struct RiceFeed {
 #[unsafe(no_mangle)]
 pub extern "C" fn rice_begin(setting: &RiceSetting, feed: &mut RiceFeed) -> u32
     ensures ok { IfOk (setting_of (asked setting.now)) (λ s. Begins s setting.now feed.new result) }
-    ensures refused { IfErr (setting_of (asked setting.now)) (λ fault. (result ≡ number_of (refusal_status_of fault)) × (feed.new ≡ feed.old)) }
+    ensures refused { IfErr (setting_of (asked setting.now)) (λ fault.
+        (result ≡ number_of (refusal_status_of fault)) × (feed.new ≡ feed.old)) }
 {
     match setting.legal() {
         Ok(legal) => {
@@ -57,7 +58,8 @@ pub extern "C" fn rice_push(
     requires { IfOk (setting_of (asked feed.old.setting)) (λ s. (xs : List ℤ) × IsSeam s feed.old.seam xs) }
     ensures ok { IfOk (setting_of (asked feed.old.setting)) (λ s. (xs : List ℤ) → IsSeam s feed.old.seam xs →
         PushesInto s xs samples.now code.old code.new feed.old feed.new report.new result) }
-    ensures refused { IfErr (setting_of (asked feed.old.setting)) (λ fault. Refuses fault code.old code.new report.new result × (feed.new ≡ feed.old)) }
+    ensures refused { IfErr (setting_of (asked feed.old.setting)) (λ fault.
+        Refuses fault code.old code.new report.new result × (feed.new ≡ feed.old)) }
 {
     match feed.setting.legal() {
         Ok(setting) => push_into(&setting, feed, samples, code, report),

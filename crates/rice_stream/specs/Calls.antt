@@ -38,7 +38,7 @@ pub record StopsBetween (from to text : List ℕ) : Type 0 where
   pub stops : to ≡ text ++ missing
   pub short : missing ≢ []
 
--- One byte more than the limit was given, behind these.
+-- One byte more than the limit was given, after these.
 pub record PassesLimit (limit : ℕ) (given front : List ℕ) : Type 0 where
   pub last : ℕ
   pub split : given ≡ front ++ last ∷ []

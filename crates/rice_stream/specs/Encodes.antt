@@ -43,7 +43,7 @@ module _ (s : Parameters) where
     pub written : c.written ≡ early_output s xs
     pub reports : ReportsTaken s r xs
 
-  -- The outlet failed behind the last of these samples: all before it is written, and not all that it completes.
+  -- The outlet failed after the last of these samples: all before it is written, and not all that it completes.
   pub record FailsBehind (c : Call) (r : Report) (xs : List ℤ) : Type 0 where
     pub given : BeginsWith s c.given xs
     pub some : 1 ≤ length xs

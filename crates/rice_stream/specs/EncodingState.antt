@@ -79,7 +79,7 @@ pub record FailsAt (s : Parameters) (old : Beginning) (new : Option Room) (e : E
   pub counts : CountsSamples s e (xs ++ x ∷ [])
   pub takes : FollowsBetween old new (early_output s xs) (early_output s (xs ++ x ∷ []))
 
--- the outlet failed behind one of some samples
+-- the outlet failed after one of some samples
 pub record FailsIn (s : Parameters) (old : Beginning) (new : Option Room) (e : Encoding) (xs samples : List ℤ) : Type 0 where
   pub before : List ℤ
   pub last : ℤ
@@ -93,7 +93,7 @@ WritesRest s old new xs None = Follows old new (output s xs)
 WritesRest s old new xs (Some Write) = FollowsBetween old new (early_output s xs) (output s xs)
 WritesRest s old new xs (Some _) = ⊥
 
--- bytes that spell samples, and what is behind them
+-- bytes that spell samples, and what is after them
 pub record Reads (s : Parameters) (bytes : List ℕ) (samples : List ℤ) (rest : List ℕ) : Type 0 where
   pub split : bytes ≡ spellings s samples ++ rest
   pub legal : All (IsSample s) samples
@@ -114,7 +114,7 @@ pub record MeetsNoSpelling (s : Parameters) (old : Beginning) (new : Option Room
   pub none : EndsSpelling s rest NoSpelling
   pub holds : IsEncodingOf s old new e (xs ++ more)
 
--- the outlet fails behind one of the samples
+-- the outlet fails after one of the samples
 pub record MeetsFailure (s : Parameters) (old : Beginning) (new : Option Room) (e : Encoding) (xs : List ℤ) (bytes : List ℕ) : Type 0 where
   pub more : List ℤ
   pub last : ℤ
@@ -145,7 +145,7 @@ pub record EncodingProgress (s : Parameters) (left_old left : Option (List ℕ))
   pub gave : Consumes left_old left bytes
   pub holds : IsEncodingOf s (afresh taken_old) taken e samples
 
--- Bytes were put behind those that wait in a buffer.
+-- Bytes were put after those that wait in a buffer.
 pub record Refills (left_old left_new : Option (List ℕ)) (old new : List ℕ) (waiting count : ℕ) : Type 0 where
   pub given : List ℕ
   pub length_is : length given ≡ count

@@ -2,7 +2,7 @@
 use Rattle.std.specs.Prelude.{◌≡◌, ℕ, List, [], ◌++◌, length, drop, Option, Some, None, ⊤}
 
 -- The room that an outlet fills: the name of the borrow that it writes through, the bytes that it took, and the bytes
--- of the memory behind them. An outlet that writes into no memory has no bytes behind.
+-- of the memory after them. An outlet that writes into no memory has no bytes after.
 pub record Room : Type 0 where
   pub borrow : ℕ
   pub bytes : List ℕ
@@ -17,7 +17,7 @@ abbrev pub known : Option (List ℕ) → Option Room
 known None = None
 known (Some bytes) = Some (record { borrow = 0; bytes = bytes; rest = [] })
 
--- These bytes came behind those that were taken, in place of as many bytes of the memory, through the same borrow.
+-- These bytes came after those that were taken, in place of as many bytes of the memory, through the same borrow.
 pub record Fills (old new : Room) (more : List ℕ) : Type 0 where
   pub borrow : new.borrow ≡ old.borrow
   pub bytes : new.bytes ≡ old.bytes ++ more

@@ -196,7 +196,8 @@ impl Intake for ZeroIn {
     fn fill(&mut self, buf: &mut [u8]) -> Result<usize, ReadFault>
         requires room { 0 < length buf.old }
         ensures count { IfOk result (λ m. m ≤ length buf.new) }
-        ensures bytes { IfOk result (λ m. Consumes (Some (replicate (zeros_left self.old) 0)) (Some (replicate (zeros_left self.new) 0)) (take m buf.new)) }
+        ensures bytes { IfOk result (λ m. Consumes (Some (replicate (zeros_left self.old) 0))
+            (Some (replicate (zeros_left self.new) 0)) (take m buf.new)) }
         ensures end { IfOk result (λ m. m ≡ 0 →
             IsAtEnd (Some (replicate (zeros_left self.new) 0))) }
         ensures never_fails { IsOk result }

@@ -10,19 +10,19 @@ pub record BlockData : Type 0 where
   pub reference : Option ℕ
   pub residuals : List ℕ
 
--- what block b says where it has these samples, behind p
+-- what block b says where it has these samples, after p
 abbrev pub block_data : Parameters → ℕ → ℤ → List ℤ → BlockData
 block_data s b p xs = record {
   reference = if is_reference s b then Some (pattern s (slice_index_or xs 0 p)) else None;
   residuals = residuals s (s.block * b) p xs;
 }
 
--- the blocks that samples make, so many from block b on, behind p
+-- the blocks that samples make, so many from block b on, after p
 abbrev pub blocks_from : Parameters → ℕ → ℤ → ℕ → List ℤ → List BlockData
 blocks_from s b p zero xs = []
 blocks_from s b p (suc count) xs = block_data s b p (take s.block xs) ∷ blocks_from s (b + 1) (last_of p (take s.block xs)) count (drop s.block xs)
 
--- the blocks of all these samples, from block b on, behind p
+-- the blocks of all these samples, from block b on, after p
 abbrev pub blocks_of : Parameters → ℕ → ℤ → List ℤ → List BlockData
 blocks_of s b p xs = blocks_from s b p (block_count s (length xs)) (filled_samples s p xs)
 

@@ -5,7 +5,7 @@ use Rattle.rice_samples.specs.Parameters.{Parameters, k_max}
 use Rattle.rice_code.specs.code.Blocks.{BlockData}
 use Rattle.rice_code.specs.code.CodedDataSets.{CodedDataSet, NoCompression, SecondExtension, Split, cost}
 
--- the options behind no compression, in the order in which ties go (own rule)
+-- the options after no compression, in the order in which ties go (own rule)
 abbrev pub other_options : Parameters → BlockData → List CodedDataSet
 other_options s c = SecondExtension c ∷ map (λ k. Split k c) (range_with_len 0 (k_max s + 1))
 

@@ -20,11 +20,11 @@ abbrev pub data_sets : Parameters → ℕ → Bool → List BlockData → List C
 data_sets s b behind_zero [] = []
 data_sets s b behind_zero (c ∷ cs) = data_set_at s b behind_zero c cs ++ data_sets s (b + 1) (is_zero_block c) cs
 
--- the coded data sets of samples, from block b on, which begins a segment, behind the sample p
+-- the coded data sets of samples, from block b on, which begins a segment, after the sample p
 abbrev pub sets_from : Parameters → ℕ → ℤ → List ℤ → List CodedDataSet
 sets_from s b p xs = data_sets s b false (blocks_of s b p xs)
 
--- their code, behind `position` bits
+-- their code, after `position` bits
 abbrev pub code_from : Parameters → ℕ → ℕ → ℤ → List ℤ → List Bool
 code_from s b position p xs = layout s (b + block_count s (length xs)) b position (sets_from s b p xs)
 

@@ -79,6 +79,6 @@ turns (RemainderOfSegment reference) = 0
 abbrev pub run_with_zeros : Option ℕ → ℕ → CodedDataSet
 run_with_zeros reference zeros = if zeros == 4 then RemainderOfSegment reference else ZeroBlocks reference (if nat_lt zeros 4 then zeros + 1 else zeros)
 
--- the texts of coded data sets, one behind the other
+-- the texts of coded data sets, one after the other
 abbrev pub bits_of_sets : Parameters → List CodedDataSet → List Bool
 bits_of_sets s ds = flat_map (bits_of_set s) ds

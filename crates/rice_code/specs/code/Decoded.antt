@@ -46,7 +46,7 @@ abbrev pub cut_to : Parameters → Option ℕ → ℕ → List ℤ → List ℤ
 cut_to s None b xs = xs
 cut_to s (Some n) b xs = take (n - s.block * b) xs
 
--- The bits, decoded from block b on, behind `position` bits and the sample p:
+-- The bits, decoded from block b on, after `position` bits and the sample p:
 -- sound coded data sets with their padding as far as they go, and what the rest is.
 -- The samples are those that make the blocks of these coded data sets.
 pub record DecodedFrom (s : Parameters) (b position : ℕ) (p : ℤ) (bits : List Bool) (asked : Option ℕ) (samples : List ℤ) (ending : Ending) (used : ℕ) : Type 0 where

@@ -57,7 +57,7 @@ blocks_in s b (Split k c) = c ∷ []
 blocks_in s b (ZeroBlocks reference z) = zero_blocks s reference z
 blocks_in s b (RemainderOfSegment reference) = zero_blocks s reference (blocks_left s b)
 
--- those of several, one behind the other
+-- those of several, one after the other
 abbrev pub blocks_in_all : Parameters → ℕ → List CodedDataSet → List BlockData
 blocks_in_all s b [] = []
 blocks_in_all s b (d ∷ ds) = blocks_in s b d ++ blocks_in_all s (b + length (blocks_in s b d)) ds

@@ -1,4 +1,4 @@
--- How coded data sets lie in the bits: one behind the other, and each interval filled to a byte where intervals are padded (own rule).
+-- How coded data sets lie in the bits: one after the other, and each interval filled to a byte where intervals are padded (own rule).
 use Rattle.std.specs.Prelude.{◌≡◌, ℕ, ◌+◌, Bool, false, if◌then◌else◌, List, [], ◌∷◌, ◌++◌, length, replicate, min}
 use Rattle.rice_bits.specs.Bits.{bits_to_byte}
 use Rattle.rice_samples.specs.Parameters.{Parameters}
@@ -6,19 +6,19 @@ use Rattle.rice_samples.specs.Places.{is_padded}
 use Rattle.rice_code.specs.code.CodedDataSets.{CodedDataSet, bits_of_set}
 use Rattle.rice_code.specs.code.Forms.{blocks_in}
 
--- the block behind a coded data set at block b
+-- the block after a coded data set at block b
 abbrev pub block_after : Parameters → ℕ → CodedDataSet → ℕ
 block_after s b d = b + length (blocks_in s b d)
 
--- how many bits stand behind so many to fill the byte, if an interval begins with block `next` and intervals are padded
+-- how many bits stand after so many to fill the byte, if an interval begins with block `next` and intervals are padded
 abbrev pub padding : Parameters → ℕ → ℕ → ℕ
 padding s next bits = if is_padded s next then bits_to_byte bits else 0
 
--- the text of a coded data set behind `position` bits, with the padding before block `next`, which is zeros
+-- the text of a coded data set after `position` bits, with the padding before block `next`, which is zeros
 abbrev pub bits_with_padding : Parameters → ℕ → ℕ → CodedDataSet → List Bool
 bits_with_padding s next position d = bits_of_set s d ++ replicate (padding s next (position + length (bits_of_set s d))) false
 
--- Coded data sets from block b on, behind `position` bits, as they are sent where the blocks end before block `end`.
+-- Coded data sets from block b on, after `position` bits, as they are sent where the blocks end before block `end`.
 -- A run that stands for more blocks than there are ends with them, so an interval that is left unfinished is not padded.
 abbrev pub layout : Parameters → ℕ → ℕ → ℕ → List CodedDataSet → List Bool
 layout s end b position [] = []

@@ -41,7 +41,7 @@ is_empty (d ∷ ds) = false
 abbrev pub empty_state : Parameters → CoderState
 empty_state s = record { setting = s; residuals = []; reference = None; previous = pos 0; start = 0 }
 
--- one that holds nothing where the next segment begins at the place `start`, behind the sample p
+-- one that holds nothing where the next segment begins at the place `start`, after the sample p
 abbrev pub state_between : Parameters → ℕ → ℤ → CoderState
 state_between s start p = record { setting = s; residuals = []; reference = None; previous = p; start = start }
 

@@ -251,7 +251,7 @@ first_of s bytes count n ys le front legal =
     let first = take-take (w * n) (w * count) bytes more in
     record { split = sym (take-append-drop (w * n) bytes) ∙ ap (λ l. l ++ drop (w * n) bytes) (sym first ∙ front); legal = legal }
 
--- what stands behind them
+-- what stands after them
 pub behind_them : (s : Parameters) (bytes : List ℕ) (count n : ℕ) → n < count → width s * count ≤ length bytes → (width s ≤ length (drop (width s * n) bytes)) × (take (width s) (drop (width s * n) (take (width s * count) bytes)) ≡ take (width s) (drop (width s * n) bytes))
 behind_them s bytes count n lt within =
     let w = width s in

@@ -21,7 +21,7 @@ reads_on s xs ys front part rest spelled legal r = record {
   legal = All-append (IsSample s) xs ys legal r.legal;
 }
 
--- bytes behind them change nothing
+-- bytes after them change nothing
 reads_before : (s : Parameters) (xs : List ℤ) (bytes rest behind : List ℕ) → Reads s bytes xs rest → Reads s (bytes ++ behind) xs (rest ++ behind)
 reads_before s xs bytes rest behind r = record {
   split = ap (λ l. l ++ behind) r.split ∙ append_assoc (spellings s xs) rest behind;

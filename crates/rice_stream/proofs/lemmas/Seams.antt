@@ -168,7 +168,7 @@ goes_on s old new e at seam xs bytes count h t is within limit stands =
     parts : (w m n k : ℕ) → m ≡ n + k → w * m ≡ w * n + w * k
     parts w m n k e = ap (λ v. w * v) e ∙ (let p : w * (n + k) ≡ w * n + w * k = omega arith in p)
 
--- what stops it inside the bytes, with others behind them
+-- what stops it inside the bytes, with others after them
 pub stopped_in : (s : Parameters) (old : Beginning) (new : Option Room) (e : Encoding) (xs : List ℤ) (bytes : List ℕ) (k : ℕ) (f : Fault) → Pushes {T = Unit {0}} s old new e xs (take k bytes) (Err f) → Pushes {T = Unit {0}} s old new e xs bytes (Err f)
 stopped_in s old new e xs bytes k f h =
     subst (λ (l : List ℕ). Pushes {T = Unit {0}} s old new e xs l (Err f)) (take-append-drop k bytes)

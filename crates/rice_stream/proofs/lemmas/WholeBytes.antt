@@ -36,7 +36,7 @@ pub more_bytes : (a b sink : List Bool) → whole_part a ++ sink ≡ b → whole
 more_bytes a b sink e =
     ap whole_bytes (sym e) ∙ whole-append (length a / 8) (whole_part a) sink (length-part a) ∙ ap (λ l. l ++ whole_bytes sink) (part_bytes a)
 
--- and the bits behind them
+-- and the bits after them
 pub more_rest : (a b sink : List Bool) → whole_part a ++ sink ≡ b → drop (bits_in_bytes (length sink)) sink ≡ drop (bits_in_bytes (length b)) b
 more_rest a b sink e =
     let p = whole_part a in

@@ -24,7 +24,7 @@ one_within w v p h q =
       | inr l ↦ absurd (omega (arith, t.2, pow-le-pow_right {n = 2} (omega arith) {i = w} {j = t.0} l))
     ]
 
--- a number whose first 1 has j digits behind it
+-- a number whose first 1 has j digits after it
 run_at : (z j v : ℕ) → 2 ^ j ≤ v → v < 2 ^ suc j → word (z + suc j) v ≡ fundamental_sequence z ++ word j (v % 2 ^ j)
 run_at z j v low high =
     let below : v - 2 ^ j < 2 ^ j = omega (arith, pow-suc 2 j) in
@@ -46,7 +46,7 @@ run-digits w v rest p h q =
     let e : (w - 1 - t.0) + suc t.0 ≡ w = omega arith in
     rw j (rw (ap (λ k. word k v) (sym e) ∙ run_at (w - 1 - t.0) t.0 v t.2 t.3) (append_assoc (fundamental_sequence (w - 1 - t.0)) (word t.0 (v % 2 ^ t.0)) rest))
 
--- what stands before the digits behind the first 1 is that 1
+-- what stands before the digits after the first 1 is that 1
 pub one_high : (v : ℕ) → 0 < v → v < 2 ^ 64 → 1 ≡ v / 2 ^ (63 - count_leading_zeros 64 v)
 one_high v p h =
     let t = leading_top 64 v p h in

@@ -81,7 +81,7 @@ pieces {X = X} f P one tells (suc n) bits =
         let rest = tells p.piece x p.more (flat_map f xs ++ more) p.fits h.1.0 (sym p.begins ∙ (e ∙ append_assoc (f x) (flat_map f xs) more)) in
         miss xs more (omega (arith, h.0), h.1.1) rest
 
--- a piece and one behind it
+-- a piece and one after it
 pub two_pieces : {X Y : Type 0} (f : X → List Bool) (P : X → Type 0) (g : X → Y → List Bool) (Q : X → Y → Type 0) (bits : List Bool) → Search f P bits →
     ((x y : X) (a b : List Bool) → P x → P y → f x ++ a ≡ f y ++ b → (x ≡ y) × (a ≡ b)) → ((x : X) (rest : List Bool) → P x → Search (g x) (Q x) rest) →
     Search (λ (p : X × Y). f p.0 ++ g p.0 p.1) (λ p. P p.0 × Q p.0 p.1) bits

@@ -1,4 +1,4 @@
--- Bits that are gathered in bytes, with zeros behind them.
+-- Bits that are gathered in bytes, with zeros after them.
 use Rattle.std.proofs.Common.{◌≡◌, ℕ, suc, ◌+◌, ◌-◌, ◌*◌, ◌/◌, ◌%◌, ◌^◌, ◌<◌, ◌≤◌, Bool, true, false, List, [], ◌∷◌, ◌++◌, length, drop, take, replicate, refl, sym, ◌∙◌, ap, inl, inr, arith, append_assoc, length-append, get_or, mod-eq_of_lt, bit_or, set}
 use Rattle.std.specs.Int.{to_be_bytes, w64}
 use Rattle.std.specs.List.{slice_index}
@@ -45,7 +45,7 @@ length_before : (bytes : List ℕ) (at g v : ℕ) → at ≤ length bytes → le
 length_before bytes at g v h =
     omega (arith, length-append (bits_of (take at bytes)) (word g v), length-front at bytes h, length-word g v)
 
--- the bits are those of the whole bytes, and the digits that stand behind these
+-- the bits are those of the whole bytes, and the digits that stand after these
 viewed : (bytes : List ℕ) (n : ℕ) → n ≤ 8 * length bytes
     → take n (bits_of bytes) ≡ bits_of (take (n / 8) bytes) ++ word (n % 8) (slice_index bytes (n / 8) / 2 ^ (8 - n % 8))
 viewed bytes n h = elim (cases_lt (n / 8) (length bytes)) [
@@ -73,14 +73,14 @@ low_zeros w b z rest e =
     ap (λ k. replicate k false) (sym more) ∙ (sym (replicate-append-replicate w (z - w) false) ∙ ap (λ d. d ++ replicate (z - w) false) (sym (word-zero w))) in
     zero_low b (2 ^ w) (pow_pos w) (word_reads w (b % 2 ^ w) 0 rest (replicate (z - w) false) (e ∙ zeros)).0
 
--- zeros behind bits
+-- zeros after bits
 behind : (bits xs : List Bool) (n z : ℕ) → bits ≡ xs ++ replicate z false → length xs ≡ n → (take n bits ≡ xs) × (drop n bits ≡ replicate z false)
 behind bits xs n z e size = (
   ap (take n) e ∙ take_at xs (replicate z false) n size,
   ap (drop n) e ∙ drop_at xs (replicate z false) n size,
 )
 
--- more of the zeros behind bits
+-- more of the zeros after bits
 pub passed : (bits : List Bool) (n m size : ℕ) → length bits ≡ size → n ≤ m → m ≤ size → drop n bits ≡ replicate (size - n) false
     → (take m bits ≡ take n bits ++ replicate (m - n) false) × (drop m bits ≡ replicate (size - m) false)
 passed bits n m size e h i zeros =
@@ -97,7 +97,7 @@ passed bits n m size e h i zeros =
           ∙ (ap (drop (m - n)) zeros ∙ (drop-replicate (m - n) (size - n) false ∙ ap (λ k. replicate k false) left))),
     )
 
--- the byte in which bits end has zeros behind them
+-- the byte in which bits end has zeros after them
 pub last_zeros : (bytes : List ℕ) (n : ℕ) → n ≤ 8 * length bytes → drop n (bits_of bytes) ≡ replicate (8 * length bytes - n) false
     → slice_index bytes (n / 8) % 2 ^ (8 - n % 8) ≡ 0
 last_zeros bytes n h zeros =
@@ -113,14 +113,14 @@ last_zeros bytes n h zeros =
       | inr i ↦ ap (λ d. d % 2 ^ (8 - g)) (get_or_past bytes at 0 i) ∙ mod-eq_of_lt (pow_pos (8 - g))
     ]
 
--- the digits of the byte in which bits end, and the zeros behind them
+-- the digits of the byte in which bits end, and the zeros after them
 last_byte : (bytes : List ℕ) (n : ℕ) → n ≤ 8 * length bytes → drop n (bits_of bytes) ≡ replicate (8 * length bytes - n) false
     → word 8 (slice_index bytes (n / 8)) ≡ word (n % 8) (slice_index bytes (n / 8) / 2 ^ (8 - n % 8)) ++ replicate (8 - n % 8) false
 last_byte bytes n h zeros =
     byte_parts (n % 8) (slice_index bytes (n / 8)) (omega arith)
     ∙ ap (λ d. word (n % 8) (slice_index bytes (n / 8) / 2 ^ (8 - n % 8)) ++ d) (ap (word (8 - n % 8)) (last_zeros bytes n h zeros) ∙ word-zero (8 - n % 8))
 
--- bytes behind the bits
+-- bytes after the bits
 bytes_behind : (bytes : List ℕ) (n q : ℕ) → n ≤ 8 * length bytes → n ≤ 8 * q → drop n (bits_of bytes) ≡ replicate (8 * length bytes - n) false
     → bits_of (drop q bytes) ≡ replicate (8 * length bytes - 8 * q) false
 bytes_behind bytes n q h place zeros = elim (cases_lt q (length bytes)) [
@@ -136,7 +136,7 @@ bytes_behind bytes n q h place zeros = elim (cases_lt q (length bytes)) [
 fs-parts : (m : ℕ) (bits : List Bool) → (bits ++ replicate m false) ++ word 1 1 ≡ bits ++ fundamental_sequence m
 fs-parts m bits = ap (λ d. (bits ++ replicate m false) ++ d) (word-fs 0) ∙ append_assoc bits (replicate m false) (true ∷ [])
 
--- the zeros behind bits, as far as there is room
+-- the zeros after bits, as far as there is room
 cut : (bytes : List ℕ) (xs : List Bool) (z room : ℕ) → bits_of bytes ≡ xs ++ replicate z false → length xs ≤ 8 * room → 8 * room ≤ length xs + z
     → bits_of (take room bytes) ≡ xs ++ replicate (8 * room - length xs) false
 cut bytes xs z room e h i =
@@ -151,7 +151,7 @@ cut bytes xs z room e h i =
 product : (h p q v : ℕ) → h * (p * q) + v * q ≡ (h * p + v) * q
 product h p q v = omega arith
 
--- digits that are moved to the front, with zeros behind them
+-- digits that are moved to the front, with zeros after them
 top-word : (size c j : ℕ) → c ≤ size → word size (j * 2 ^ (size - c)) ≡ word c j ++ replicate (size - c) false
 top-word size c j h =
     let all : c + (size - c) ≡ size = omega arith in
@@ -163,7 +163,7 @@ regroup : (a b c d e : List Bool) → a ++ (((b ++ c) ++ d) ++ e) ≡ ((a ++ b) 
 regroup a b c d e =
     ap (λ z. a ++ z) (append_assoc (b ++ c) d e ∙ append_assoc b c (d ++ e)) ∙ (sym (append_assoc a b (c ++ (d ++ e))) ∙ sym (append_assoc (a ++ b) c (d ++ e)))
 
--- digits that are written in the byte in which bits end, and zeros behind them
+-- digits that are written in the byte in which bits end, and zeros after them
 written : (old : List ℕ) (n count s : ℕ) (digits piece : List Bool) → n ≤ 8 * length old → n ≤ 8 * (n / 8 + count) → drop n (bits_of old) ≡ replicate (8 * length old - n) false
     → piece ≡ (word (n % 8) (slice_index old (n / 8) / 2 ^ (8 - n % 8)) ++ digits) ++ replicate s false
     → bits_of (take (n / 8) old) ++ (piece ++ bits_of (drop (n / 8 + count) old))
@@ -205,7 +205,7 @@ joined_below b g width value byte zeros short narrow below =
     rw (joined_to_byte b g width value zeros short narrow)
     (shift_fits (g + width) (64 - (g + width)) (b / 2 ^ (8 - g) * 2 ^ width + value) (join_below g width (b / 2 ^ (8 - g)) value h below) (omega arith))
 
--- digits that come behind the bits
+-- digits that come after the bits
 pub gathered-put : (old new : List ℕ) (n width value : ℕ) → n + width ≤ 8 * length old → width ≤ 56 → value < 2 ^ width → drop n (bits_of old) ≡ replicate (8 * length old - n) false
     → new ≡ take (length old) (take (n / 8) old ++ (to_be_bytes w64 (slice_index old (n / 8) * 2 ^ 56 + value * 2 ^ (64 - (n % 8 + width))) ++ drop (n / 8 + 8) old))
     → (take (n + width) (bits_of new) ≡ take n (bits_of old) ++ word width value) × (drop (n + width) (bits_of new) ≡ replicate (8 * length old - (n + width)) false)
@@ -258,7 +258,7 @@ set_apart bytes i b h =
     (ap bits_of (drop_more (set bytes i b) i 0 (omega (arith, length-set bytes i b)))
     ∙ (bits_of-first (get_or (set bytes i b) i 0) (drop (i + 1) (set bytes i b)) ∙ ap (λ d. word 8 d ++ bits_of (drop (i + 1) (set bytes i b))) (get_or-set_same bytes i b 0 h) ∙ ap (λ d. word 8 b ++ bits_of d) back)))
 
--- a 1 that comes behind the bits and some zeros
+-- a 1 that comes after the bits and some zeros
 pub gathered-one : (old new : List ℕ) (n m : ℕ) → n + m < 8 * length old → drop n (bits_of old) ≡ replicate (8 * length old - n) false
     → new ≡ set old ((n + m) / 8) (bit_or (slice_index old ((n + m) / 8)) (2 ^ (7 - (n + m) % 8)))
     → (take (n + (m + 1)) (bits_of new) ≡ take n (bits_of old) ++ fundamental_sequence m) × (drop (n + (m + 1)) (bits_of new) ≡ replicate (8 * length old - (n + (m + 1))) false)

@@ -105,7 +105,7 @@ word_one = refl
 pub word-fs : (m : ℕ) → word (m + 1) 1 ≡ fundamental_sequence m
 word-fs m = word-wide m 1 1 (omega arith) ∙ ap (λ z. replicate m false ++ z) word_one
 
--- a number with more digits behind it
+-- a number with more digits after it
 unfoldable pub followed_by : ℕ → List Bool → ℕ
 followed_by v digits = v * 2 ^ length digits + number_of digits
 

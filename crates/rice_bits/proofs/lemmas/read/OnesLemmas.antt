@@ -65,7 +65,7 @@ length-row byte =
     let zs : List ℕ = replicate (8 - length es) 0 in
     omega (arith, length-word 8 byte, few-ends 0 bits, length-append es zs, length-replicate {A = ℕ} (8 - length es) 0)
 
--- the ends of the ones of a byte behind others, in lanes
+-- the ends of the ones of a byte after others, in lanes
 pub ends-lanes : (byte before : ℕ) → before ≤ 56
     → take (length (ends_after before (word 8 byte))) (zip2 added (end_row byte) (replicate 8 before)) ≡ ends_after before (word 8 byte)
 ends-lanes byte before h =
@@ -79,7 +79,7 @@ ends-lanes byte before h =
     ap (take (length (ends_after before bits))) (zip2_splat added (es ++ zs) 8 before (length-row byte) ∙ (map-append f es zs ∙ ap (λ z. z ++ map f zs) moved))
     ∙ take-append_seam (ends_after before bits) (map f zs)
 
--- some lanes are written behind those before them
+-- some lanes are written after those before them
 pub lanes-behind : (told lanes : List ℕ) (found k : ℕ) → length lanes ≡ 8 → k ≤ 8 → found + 9 ≤ length told
     → take (found + k + 1) (put_chunk (found + 1) told lanes) ≡ take (found + 1) told ++ take k lanes
 lanes-behind told lanes found k eight few room =
@@ -164,7 +164,7 @@ get_or-gaps (a ∷ b ∷ told) (suc i) h =
     let n : suc (i + 1) ≡ suc i + 1 = omega arith in
     get_or-gaps (b ∷ told) i (omega (arith, h)) ∙ ap (λ k. get_or (a ∷ b ∷ told) k 0 - get_or (b ∷ told) i 0 - 1) n
 
--- more numbers are written behind those before them
+-- more numbers are written after those before them
 pub chunk-more : (n : ℕ) (now all lanes : List ℕ) (from at : ℕ) → at ≤ from → at + n ≤ length now → length lanes ≡ n → lanes ≡ take n (drop at all)
     → take from now ≡ take from all → take (at + n) (put_chunk at now lanes) ≡ take (at + n) all
 chunk-more n now all lanes from at le room long e before =

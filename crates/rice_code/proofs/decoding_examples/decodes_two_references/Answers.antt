@@ -5,7 +5,7 @@ use Rattle.rice_code.specs.code.CodedDataSets.{CodedDataSet, ZeroBlocks, bits_of
 use Rattle.rice_code.proofs.lemmas.meaning.Witnesses.{unsigned_samples, zeros_end}
 use Rattle.rice_code.proofs.decoding_examples.decodes_two_references.Goals as goal
 
--- eight samples 5 behind a reference
+-- eight samples 5 after a reference
 abbrev run : CodedDataSet
 run = ZeroBlocks (Some 5) 1
 

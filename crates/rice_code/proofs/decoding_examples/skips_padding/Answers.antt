@@ -6,7 +6,7 @@ use Rattle.rice_code.specs.code.Decoded.{Reached}
 use Rattle.rice_code.proofs.lemmas.meaning.Witnesses.{Gives, unsigned_samples, zeros_end, decoded_by_one}
 use Rattle.rice_code.proofs.decoding_examples.skips_padding.Goals as goal
 
--- eight samples 5 behind a reference
+-- eight samples 5 after a reference
 abbrev run : CodedDataSet
 run = ZeroBlocks (Some 5) 1
 

@@ -24,7 +24,7 @@ last_replicate p (suc n) = last_replicate p n
 last_behind : (p : ℤ) (n : ℕ) (xs : List ℤ) → last_of (last_of p (take n xs)) (drop n xs) ≡ last_of p xs
 last_behind p n xs = sym (last_append p (take n xs) (drop n xs)) ∙ ap (λ v. last_of p v) (take-append-drop n xs)
 
--- the blocks of the first samples, and those behind them
+-- the blocks of the first samples, and those after them
 pub blocks_append : (s : Parameters) (b : ℕ) (p : ℤ) (m n : ℕ) (xs ys : List ℤ) → length xs ≡ s.block * m →
     blocks_from s b p (m + n) (xs ++ ys) ≡ blocks_from s b p m xs ++ blocks_from s (b + m) (last_of p xs) n ys
 blocks_append s b p zero n [] ys e = let k : b + 0 ≡ b = omega arith in let z : 0 + n ≡ n = omega arith in λ i. blocks_from s (sym k i) p (z i) ys

@@ -25,7 +25,7 @@ use Rattle.rice_code.proofs.lemmas.code.Segments.{segments}
 use Rattle.rice_code.proofs.lemmas.code.Filling.{last_append, blocks_append}
 use Rattle.rice_code.proofs.lemmas.code.WholeBlocks.{not_filled}
 
--- samples behind whole blocks are filled as if they stood alone
+-- samples after whole blocks are filled as if they stood alone
 fill_behind : (j q m n : ℕ) → 1 ≤ j → n ≡ j * q + m → (next_multiple_of n j - n ≡ next_multiple_of m j - m) × (n / j + min 1 (n % j) ≡ q + (m / j + min 1 (m % j)))
 fill_behind j q m n h e =
     let r : n % j ≡ m % j = ap (λ v. v % j) e ∙ mul-add-mod_self_left j q m in

@@ -65,7 +65,7 @@ lies_inside s end b position (d ∷ ds) h =
     (zeros, rest, length-replicate n false ∙ ap (λ v. padding s v bits) e, append_assoc (bits_of_set s d) zeros rest, lies_inside s end next (position + length (sent_first s end b position d)) ds (omega arith))
 
 -- What is laid is taken with some zeros more, no more than fill the last byte.
--- They are skipped behind a run that stands for more blocks than there are.
+-- They are skipped after a run that stands for more blocks than there are.
 pub lies_laid : (s : Parameters) (end b position : ℕ) (ds : List CodedDataSet) → is_padded s end ≡ false → BeginBefore s end b ds →
     (n : ℕ) × (n ≤ bits_to_byte (position + length (layout s end b position ds))) × Lies s b position ds (layout s end b position ds ++ replicate n false)
 lies_laid s end b position [] e h = (0, omega arith, refl)
@@ -121,7 +121,7 @@ lies_laid s end b position (d ∷ c ∷ ds) e h =
       ),
     )
 
--- what is laid behind other coded data sets
+-- what is laid after other coded data sets
 pub laid_append : (s : Parameters) (end b position : ℕ) (ds es : List CodedDataSet) →
     layout s end b position (ds ++ es) ≡ layout s end b position ds ++ layout s end (b + length (blocks_in_all s b ds)) (position + length (layout s end b position ds)) es
 laid_append s end b position [] es = let e : b ≡ b + 0 = omega arith in let f : position ≡ position + 0 = omega arith in λ i. layout s end (e i) (f i) es

@@ -1,4 +1,4 @@
--- The places of the blocks of a segment, and of the segment behind it.
+-- The places of the blocks of a segment, and of the segment after it.
 use Rattle.std.proofs.Common.{◌≡◌, ℕ, zero, suc, ◌+◌, ◌-◌, ◌*◌, ◌/◌, ◌%◌, ◌<◌, ◌≤◌, ◌==◌, min, true, false, cond, ap, arith, sym, ◌∙◌, inl, inr}
 use Rattle.std.proofs.lemmas.Bool.{cases_lt}
 use Rattle.std.proofs.lemmas.Bool.Decides.{nat_tests}
@@ -21,7 +21,7 @@ place_inside s b (suc q) h k =
       | inr p ↦ absurd (omega (arith, ih, p.1, k))
     ]
 
--- a segment begins behind a whole one
+-- a segment begins after a whole one
 pub begins_next : (s : Parameters) (b : ℕ) → 1 ≤ s.interval → begins_segment s b ≡ true → begins_segment s (b + blocks_left s b) ≡ true
 begins_next s b h e =
     let x = place s b in
@@ -93,7 +93,7 @@ none_padded s b q h some k =
     same : (m : ℕ) → (m == 0) ≡ true → m ≡ 0
     same m e = grind (arith, nat_tests)
 
--- the place behind a segment
+-- the place after a segment
 pub next_start_is : (s : Parameters) (b start : ℕ) → 1 ≤ s.interval → place s b ≡ start →
     place s (b + blocks_left s b) ≡ (let next = start + blocks_left s start in cond (next == s.interval) 0 next)
 next_start_is s b start r e =

@@ -1,4 +1,4 @@
--- Segments are coded one by one: what stands behind a segment's end changes nothing before it.
+-- Segments are coded one by one: what stands after a segment's end changes nothing before it.
 use Rattle.std.proofs.Common.{◌≡◌, ℕ, zero, suc, ◌+◌, ◌≤◌, ◌==◌, Bool, true, false, cond, not, ◌&&◌, ◌||◌, nat_le, List, [], ◌∷◌, ◌++◌, length, refl, ap, arith, sym, ◌∙◌, inl, inr, append_assoc, length-append, Option}
 use Rattle.std.specs.List.{prefix_len}
 use Rattle.std.proofs.lemmas.Bool.Decides.{nat_tests}
@@ -26,7 +26,7 @@ ends_before s b (suc n) h e =
           omega arith
     ]
 
--- which of the two runs does not depend on whether the list ends behind the segment
+-- which of the two runs does not depend on whether the list ends after the segment
 same_kind : (z left len len' : ℕ) → z ≤ left → left ≤ len → left ≤ len' → (z == left || z == len) ≡ (z == left || z == len')
 same_kind z left len len' h k l =
     elim (cases_lt z left) [ inl lt ↦ grind (arith, nat_tests) | inr le ↦ grind (arith, nat_tests) ]

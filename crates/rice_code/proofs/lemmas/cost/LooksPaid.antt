@@ -198,7 +198,7 @@ looks_are_few s (c ∷ cs) =
     let one = sum_by-cons (most_looks s) c cs in
     omega (arith, one, looks_are_few s cs, most_of_one s c)
 
--- what coding some samples behind whole segments takes
+-- what coding some samples after whole segments takes
 behind_whole : (s : Parameters) → IsLegal s → (blocks : ℕ) (xs ys : List ℤ) → length xs ≡ s.block * blocks → begins_segment s blocks ≡ true →
     (code_bits s (xs ++ ys) ≡ code_bits s xs + bits_from s blocks (last_of (pos 0) xs) ys) ×
     (most_looks_at s (xs ++ ys) ≡ most_looks_at s xs + sum_by (most_looks s) (blocks_of s blocks (last_of (pos 0) xs) ys))

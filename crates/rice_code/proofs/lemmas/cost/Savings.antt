@@ -31,7 +31,7 @@ sum_falls ds k (suc m) =
     let f = ap (cut_sum ds) e in
     omega (arith, f, sum_falls ds k m, sum_halves ds (k + m))
 
--- where the next is no shorter, none behind it is
+-- where the next is no shorter, none after it is
 pub stops : (ds : List ℕ) (l k m : ℕ) → l * (k + 1) + cut_sum ds k ≤ l * (k + 1 + 1) + cut_sum ds (k + 1) → l * (k + 1) + cut_sum ds k ≤ l * (k + m + 1) + cut_sum ds (k + m)
 stops ds l k zero h = let e : k + 0 ≡ k = omega arith in let f = ap (λ n. l * (n + 1) + cut_sum ds n) e in omega arith
 stops ds l k (suc m) h =
@@ -56,7 +56,7 @@ less m n h = grind (arith, nat_tests)
 pub not_less : (m n : ℕ) → n ≤ m → nat_lt m n ≡ false
 not_less m n h = grind (arith, nat_tests)
 
--- no option behind is shorter, so the first stays
+-- no option after is shorter, so the first stays
 pub kept : {A : Type 0} (f : A → ℕ) (g : ℕ → A) (a : A) (from n : ℕ) → ((j : ℕ) → from ≤ j → j < from + n → f a ≤ f (g j)) → best_of (λ x y. nat_lt (f x) (f y)) a (map g (range_with_len from n)) ≡ a
 kept f g a from zero h = refl
 kept f g a from (suc n) h =
@@ -124,7 +124,7 @@ best_where_it_stops s c k h first stop = record {
   first = first;
 }
 
--- or where there is none behind
+-- or where there is none after
 pub best_where_it_ends : (s : Parameters) (c : BlockData) (k : ℕ) → k ≡ k_max s → ((j : ℕ) → j < k → cost s (Split k c) < cost s (Split j c)) → IsBestSplit s c k
 best_where_it_ends s c k h first = record {
   at_most = omega arith;

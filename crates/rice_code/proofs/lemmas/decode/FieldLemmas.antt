@@ -229,7 +229,7 @@ sequences-stop old mid new ms count m f t h s = (
   stops-append old mid new _ _ f t s,
 )
 
--- and cut off among those behind sequences that waited together
+-- and cut off among those after sequences that waited together
 pub sequences-stop_behind : {I : Type 0} (old mid new : Reader I) (ms : List ℕ) (more count : ℕ) (f : BitFault)
     → Takes old mid (flat_map fundamental_sequence ms) → length ms + more ≡ count → (bits : List Bool) × (ones bits < more) × Stops mid new bits f
     → (all : List Bool) × (ones all < count) × Stops old new all f

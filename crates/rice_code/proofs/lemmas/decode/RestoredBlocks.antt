@@ -124,11 +124,11 @@ zeros_restored s b p x r h j res ref = contents_are s b p r (replicate s.block 0
         let rest = repeated_all s (s.block * b + 1) n x repeats in
         λ i. one i ∷ rest i
 
--- the sample at the place of the reference is the one that it is restored behind
+-- the sample at the place of the reference is the one that it is restored after
 same_first : (s : Parameters) (x y : ℤ) → IsSample s x → IsSample s y → rank s x y ≡ 0 → y ≡ x
 same_first s x y h k e = same_level s y x k h (rank_injective (value_count s) (level s x) (level s y) (level s x) h.1 k.1 h.1 (e ∙ sym (same_rank (value_count s) (level s x))))
 
--- samples restored from all residuals of a block, behind its reference sample or the sample before it
+-- samples restored from all residuals of a block, after its reference sample or the sample before it
 pub contents_restored : (s : Parameters) (b : ℕ) (p x : ℤ) (r : Option ℕ) (ds : List ℕ) (xs : List ℤ) → IsReference s b r → s.preprocess ≡ true → length ds ≡ s.block → OnSome r (slice_index ds 0 ≡ 0) → 1 ≤ s.block
     → IsSample s x → IfSome r (λ v. pattern s x ≡ v) → IfNone r (x ≡ p) → All (IsSample s) xs → length xs ≡ s.block → ranks s x xs ≡ ds → block_data s b p xs ≡ record { reference = r; residuals = ds }
 contents_restored s b p x None ds xs h pre n none some hx pat same all len e = contents_of_ranks s b p ds xs h pre len (ap (λ q. ranks s q xs) (sym same) ∙ e)

@@ -274,7 +274,7 @@ all_skipped s b c (d ∷ cs) h z e =
       ]
     ]
 
--- The blocks of the coded data sets are the blocks, behind those that are skipped,
+-- The blocks of the coded data sets are the blocks, after those that are skipped,
 -- and perhaps zero blocks to the end of the segment of the last block, which is then one of zeros too.
 pub record Covering (s : Parameters) (b : ℕ) (behind : Bool) (cs : List BlockData) : Type 0 where
   pub fill : ℕ

@@ -259,7 +259,7 @@ from_split s b k (Split n c) le h =
 from_split s b k (ZeroBlocks r z) le h = absurd (omega (arith, h.1))
 from_split s b k (RemainderOfSegment r) le h = absurd (omega (arith, h.1))
 
--- behind the identifier 0 a bit tells second extension from runs
+-- after the identifier 0 a bit tells second extension from runs
 to_second : (s : Parameters) (b : ℕ) (bits : List Bool) → IsLegal s → Piece (SecondBody s) (IsSecond s b) bits → Piece (tail s) (IsTail s b 0) (true ∷ bits)
 unfolding tail identifier
 to_second s b bits legal p =

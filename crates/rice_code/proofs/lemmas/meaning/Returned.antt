@@ -40,7 +40,7 @@ pub record Returned (s : Parameters) (xs : List ℤ) : Type 0 where
   pub decoded : (asked : Option ℕ) (samples : List ℤ) (ending : Ending) (last : ℕ) → ((i : ℕ) → i < block_count s (length xs) → IsWanted s asked i) →
       samples ≡ cut_to s asked 0 (xs ++ more) → EndsWith s asked count rest ending last → Decoded s (bits_of (output s xs)) asked samples ending (size + last)
 
--- zeros behind bits, in two parts
+-- zeros after bits, in two parts
 two_fills : (bits : List Bool) (m n : ℕ) → m ≤ n → bits ++ replicate n false ≡ (bits ++ replicate m false) ++ replicate (n - m) false
 two_fills bits m n h =
     let sum : n ≡ m + (n - m) = omega arith in

@@ -55,7 +55,7 @@ zero_run_is_sound s b w r cs h k e =
 count_zeros : (s : Parameters) (r : Option ℕ) (z w : ℕ) → z ≡ suc w → length (zero_blocks s r z) ≡ suc w
 count_zeros s r z w e = omega (arith, length-replicate (z - 1) (zero_block s None))
 
--- one more coded data set, and those behind it
+-- one more coded data set, and those after it
 take_one : (s : Parameters) (asked : Option ℕ) (b n : ℕ) (d : CodedDataSet) (ds : List CodedDataSet) → IsWanted s asked b → IsSound s b d → length (blocks_in s b d) ≡ suc n → AreTaken s asked (b + 1 + n) ds → AreTaken s asked b (d ∷ ds)
 take_one s asked b n d ds go sound e h =
     let P : ℕ → Type 0 = λ m. AreTaken s asked m ds in

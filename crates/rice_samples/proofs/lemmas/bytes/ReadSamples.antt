@@ -1,4 +1,4 @@
--- Samples that are read, and written, one behind the other.
+-- Samples that are read, and written, one after the other.
 use Rattle.std.proofs.Common.{◌≡◌, ℕ, ◌+◌, ◌-◌, ◌*◌, ◌<◌, ◌≤◌, List, [], ◌∷◌, ◌++◌, length, take, drop, All, ap, sym, subst, arith, ◌∙◌, append-nil, length-drop, slice_set, get_or, ℤ, pos}
 use Rattle.std.specs.Prelude.{flat_map}
 use Rattle.std.proofs.lemmas.Grind.{flat_map-append}

@@ -1,4 +1,4 @@
--- Samples that are restored one behind the other.
+-- Samples that are restored one after the other.
 use Rattle.std.proofs.Common.{◌≡◌, ℕ, ◌+◌, ◌-◌, ◌*◌, ◌<◌, ◌≤◌, arith, drop, zero, suc, length-append, List, [], ◌∷◌, ◌++◌, length, take, map, refl, ap, sym, ◌∙◌, get_or, slice_set, ℤ, All}
 use Rattle.std.proofs.lemmas.List.{length-take-le, map-append, take_more, take_more_set}
 use Rattle.std.proofs.lemmas.Slice.{take-put_mid}

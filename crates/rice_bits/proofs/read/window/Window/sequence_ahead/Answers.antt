@@ -24,7 +24,7 @@ returns-then-behind_zero-eq0-clause-none c =
     sym (take-take few 63 (word 64 r) (omega arith)) ∙ (ap (take few) zeros ∙ take-replicate few 63 false (omega arith)) in
     sym (take-take few n (window_bits w) (omega arith)) ∙ (sym (take-append-le few near (replicate (64 - n) false) (omega (arith, len))) ∙ (ap (take few) (sym c.ahead-behind_zero.ensures) ∙ front))
 
--- a fundamental sequence stands at the front of a word that is not 0, and has as many bits as zeros stand there behind one zero more
+-- a fundamental sequence stands at the front of a word that is not 0, and has as many bits as zeros stand there after one zero more
 begins : (r : ℕ) → 0 < r / 2 → r < 2 ^ 64
     → (count_leading_zeros 64 (r / 2) ≡ count_leading_zeros 64 r + 1) × (count_leading_zeros 64 r < 64)
     × (word 64 r ≡ fundamental_sequence (count_leading_zeros 64 r) ++ word (64 - (count_leading_zeros 64 r + 1)) r)
