@@ -278,7 +278,33 @@ fn words_from(bytes: &[u8], at: usize, width: u32, words: &mut [u32])
     if width > 8 || words.len() < 4 {
         return each_from(bytes, at, width, words);
     }
+    if words.len() % 8 == 0 {
+        return eights_from(bytes, at, width, words);
+    }
     fours_from(bytes, at, width, words);
+}
+
+/// As `words_from`, eight words at a time.
+#[inline]
+fn eights_from(bytes: &[u8], at: usize, width: u32, words: &mut [u32])
+    requires width { (1 ≤ width) × (width ≤ 8) }
+    requires eights { length words.old % 8 ≡ 0 }
+    requires few { length words.old ≤ 64 }
+    requires within { at + length words.old * width ≤ most_waiting }
+    requires room { buffer_len ≤ length bytes.now }
+    ensures fit { All (λ v. v < 2 ^ width) words.new }
+    ensures bits { flat_map (word width) words.new
+        ≡ take (length words.new * width) (drop at (bits_of bytes.now)) }
+{
+    let powers = powers_of(width);
+    let mut at = at;
+    for i in 0..words.len() / 8 {
+        let first = four_from(bytes, at, powers, width);
+        first.copy_to_slice(&mut words[8 * i..]);
+        let second = four_from(bytes, at + 4 * width as usize, powers, width);
+        second.copy_to_slice(&mut words[8 * i + 4..]);
+        at += 8 * width as usize;
+    }
 }
 
 /// As `words_from`, four words at a time.

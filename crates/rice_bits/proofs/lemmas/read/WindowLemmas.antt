@@ -1,6 +1,6 @@
 -- The bits that were given and not yet taken.
-use Rattle.std.proofs.Common.{◌≡◌, ℕ, zero, suc, inl, inr, ◌+◌, ◌-◌, ◌*◌, ◌/◌, ◌%◌, ◌^◌, ◌<◌, ◌≤◌, ◌≢◌, Bool, true, false, List, [], ◌∷◌, ◌++◌, length, take, drop, set, replicate, length-append, refl, sym, ◌∙◌, ap, arith, take-take, append_assoc}
-use Rattle.std.specs.Prelude.{flat_map, slice_range, ◌==◌, ◌&&◌}
+use Rattle.std.proofs.Common.{◌≡◌, ℕ, zero, suc, inl, inr, ◌+◌, ◌-◌, ◌*◌, ◌/◌, ◌%◌, ◌^◌, ◌<◌, ◌≤◌, ◌≢◌, Bool, true, false, List, [], ◌∷◌, ◌++◌, length, take, drop, set, replicate, length-append, refl, sym, ◌∙◌, ap, arith, subst, take-take, append_assoc}
+use Rattle.std.specs.Prelude.{All, flat_map, slice_range, ◌==◌, ◌&&◌}
 use Rattle.std.proofs.lemmas.Grind.{flat_map-append}
 use Rattle.rice_bits.specs.read.Reader.{is_blank}
 use Rattle.rice_bits.proofs.lemmas.read.Blank.{blank-append, blank-word}
@@ -11,6 +11,7 @@ use Rattle.std.proofs.lemmas.Simd.{length-put_chunk, take_more_put_chunk}
 use Rattle.std.proofs.Math.Seq.{drop-append_seam, take-add, take-append_seam}
 use Rattle.std.proofs.lemmas.Bool.{cases_lt}
 use Rattle.std.proofs.lemmas.Bool.Decides.{nat_tests}
+use Rattle.std.proofs.lemmas.List.Elements.{All-append}
 use Rattle.std.proofs.lemmas.List.{append-nil, drop-append-le, drop-drop, drop-take, length-drop, length-replicate, length-take-le, replicate-append-replicate, take-append-drop, take-append-le, take-replicate, take_all, take_at, take_more_set}
 use Rattle.rice_bits.specs.Bits.{fundamental_sequence, word, bits_of}
 use Rattle.rice_bits.specs.read.Window.{IsWindow, Passes, bits_near, window_bits, window_passed}
@@ -201,6 +202,19 @@ words-joined width bits from at m k xs ys place first second =
     let rest : flat_map (word width) ys ≡ take (k * width) (drop (m * width) (drop from bits)) =
     second ∙ ap (take (k * width)) (ap (λ a. drop a bits) place ∙ sym (drop-drop (m * width) from bits)) in
     flat_map-append (word width) xs ys ∙ ((λ j. first j ++ rest j) ∙ (sym (take-add (m * width) (k * width) (drop from bits)) ∙ ap (λ a. take a (drop from bits)) n))
+
+-- four words more, which are written after the first `m`
+pub four-more : (width : ℕ) (bits : List Bool) (from at m : ℕ) (now four : List ℕ) → at ≡ from + m * width → length four ≡ 4 → m + 4 ≤ length now
+    → flat_map (word width) (take m now) ≡ take (m * width) (drop from bits)
+    → flat_map (word width) four ≡ take (4 * width) (drop at bits)
+    → flat_map (word width) (take (m + 4) (put_chunk m now four)) ≡ take ((m + 4) * width) (drop from bits)
+four-more width bits from at m now four place len room before next =
+    ap (flat_map (word width)) (take_more_put_chunk m now four (m + 4) (omega (arith, len)) room) ∙ words-joined width bits from at m 4 (take m now) four place before next
+
+pub four-more-all : (P : ℕ → Type 0) (m : ℕ) (now four : List ℕ) → length four ≡ 4 → m + 4 ≤ length now
+    → All P (take m now) → All P four → All P (take (m + 4) (put_chunk m now four))
+four-more-all P m now four len room before next =
+    subst (All P) (sym (take_more_put_chunk m now four (m + 4) (omega (arith, len)) room)) (All-append P (take m now) four before next)
 
 words-front : (width n : ℕ) (xs : List ℕ) → n ≤ length xs → flat_map (word width) (take n xs) ≡ take (n * width) (flat_map (word width) xs)
 words-front width n xs h =

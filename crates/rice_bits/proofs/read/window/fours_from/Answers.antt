@@ -1,9 +1,10 @@
 use Rattle.std.proofs.Common.{◌≡◌, ◌+◌, ◌*◌, ◌-◌, ◌^◌, ◌<◌, ◌≤◌, ◌∙◌, arith, ap, refl, sym, subst, take, take-take, drop, length}
 use Rattle.std.specs.Prelude.{All, flat_map}
 use Rattle.std.proofs.lemmas.List.Elements.{All-append, All-take}
-use Rattle.std.proofs.lemmas.Simd.{length-put_chunk, take_more_put_chunk}
+use Rattle.std.specs.Simd.Lanes.{put_chunk}
+use Rattle.std.proofs.lemmas.Simd.{length-put_chunk}
 use Rattle.rice_bits.specs.Bits.{word, bits_of}
-use Rattle.rice_bits.proofs.lemmas.read.WindowLemmas.{fours-last, words-joined, words-last}
+use Rattle.rice_bits.proofs.lemmas.read.WindowLemmas.{four-more, four-more-all, fours-last, words-last}
 use Rattle.rice_bits.proofs.read.window.fours_from.Goals as goal
 
 pub loop-i-preserved : goal.loop-i-preserved
@@ -11,15 +12,16 @@ loop-i-preserved c =
     let w = c.args.width in
     let bits = bits_of c.args.bytes.now in
     let l = c.loop-i in
-    let before = take (4 * l.i) l.words in
+    let at = 4 * l.i in
     let four = c.four_from-four.result in
-    let written = take_more_put_chunk (4 * l.i) l.words four (4 * (l.i + 1)) (omega (arith, c.four_from-four.ensures.len)) (omega (arith, c.loop-i-test.true, l.invariant.len, c.requires.some)) in
-    let more : 4 * l.i + 4 ≡ 4 * (l.i + 1) = omega arith in
+    let room : at + 4 ≤ length l.words = omega (arith, c.loop-i-test.true, l.invariant.len, c.requires.some) in
+    let n : at + 4 ≡ 4 * (l.i + 1) = omega arith in
     record {
-      len = length-put_chunk (4 * l.i) l.words four ∙ l.invariant.len;
-      fit = subst (All (λ d. d < 2 ^ w)) (sym written) (All-append (λ d. d < 2 ^ w) before four l.invariant.fit c.four_from-four.ensures.fit);
-      bits = ap (flat_map (word w)) written ∙ (words-joined w bits c.args.at (c.args.at + 4 * l.i * w) (4 * l.i) 4 before four refl l.invariant.bits c.four_from-four.ensures.bits
-          ∙ ap (λ n. take (n * w) (drop c.args.at bits)) more);
+      len = length-put_chunk at l.words four ∙ l.invariant.len;
+      fit = subst (λ m. All (λ d. d < 2 ^ w) (take m (put_chunk at l.words four))) n
+          (four-more-all (λ d. d < 2 ^ w) at l.words four c.four_from-four.ensures.len room l.invariant.fit c.four_from-four.ensures.fit);
+      bits = subst (λ m. flat_map (word w) (take m (put_chunk at l.words four)) ≡ take (m * w) (drop c.args.at bits)) n
+          (four-more w bits c.args.at (c.args.at + at * w) at l.words four refl c.four_from-four.ensures.len room l.invariant.bits c.four_from-four.ensures.bits);
     }
 
 pub returns-clause-fit : goal.returns-clause-fit
