@@ -10,7 +10,7 @@ ghost use Rattle.rice_code.specs.decode.Fields.{HasRoom, AreCounted};
 ghost use Rattle.rice_code.specs.decode.ReadSets.{BlockRead, BlockCut, reference_place};
 
 use crate::decode::fields::{read_counts, read_pairs, read_words};
-use crate::decode::residuals::{are_sound, join_all};
+use crate::decode::residuals::{are_sound, join_all, joined_are_below};
 use rice_bits::{BitFault, BitReader, Intake, Meter};
 use rice_samples::Setting;
 
@@ -207,6 +207,7 @@ pub fn read_split<I: Intake>(
             sound: false,
         });
     }
-    let sound = join_all(highs, k, values, coded);
+    join_all(highs, k, coded);
+    let sound = joined_are_below(setting.bits(), k, coded);
     Ok(BlockHead { reference, sound })
 }

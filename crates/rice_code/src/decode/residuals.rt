@@ -2,49 +2,51 @@
 ghost use Rattle.std.specs.Prelude.{◌≡◌, ℕ, ◌+◌, ◌-◌, ◌*◌, ◌/◌, ◌^◌, ◌<◌, ◌≤◌, true, false, List, length, slice_index, OnSome, All};
 ghost use Rattle.rice_code.specs.decode.ReadSets.{joined_parts};
 
-/// Joins each high part with the low part of k bits at its place, and writes the residual there. Returns whether all
-/// residuals are below `count`.
+/// Joins each high part with the low part of k bits at its place, and writes the residual there.
 #[inline(always)]
-pub fn join_all(highs: &[u32], k: u32, count: u64, lows: &mut [u32]) -> bool
+pub fn join_all(highs: &[u32], k: u32, lows: &mut [u32])
     requires same { length lows.old ≡ length highs.now }
     requires k { k ≤ 29 }
-    requires count { (0 < count) × (count ≤ 2 ^ 32) }
     requires highs { All (λ h. h ≤ (2 ^ 32 - 1) / 2 ^ k) highs.now }
     requires lows { All (λ l. l < 2 ^ k) lows.old }
-    ensures joined { lows.new ≡ joined_parts k highs.now lows.old }
-    ensures below { result ≡ true → All (λ d. d < count) (joined_parts k highs.now lows.old) }
-    ensures not_below { result ≡ false →
-        All (λ d. d < count) (joined_parts k highs.now lows.old) → ⊥ }
+    ensures { lows.new ≡ joined_parts k highs.now lows.old }
 {
     // The loop is laid out for blocks of 8, with a reference and without.
     match highs.len() {
-        7 => join_each(&highs[..7], k, count, lows),
-        8 => join_each(&highs[..8], k, count, lows),
-        _ => join_each(highs, k, count, lows),
+        7 => join_each(&highs[..7], k, lows),
+        8 => join_each(&highs[..8], k, lows),
+        _ => join_each(highs, k, lows),
     }
 }
 
 /// As `join_all`, with a loop over parts of any number.
 #[inline(always)]
-fn join_each(highs: &[u32], k: u32, count: u64, lows: &mut [u32]) -> bool
+fn join_each(highs: &[u32], k: u32, lows: &mut [u32])
     requires same { length lows.old ≡ length highs.now }
     requires k { k ≤ 29 }
-    requires count { (0 < count) × (count ≤ 2 ^ 32) }
     requires highs { All (λ h. h ≤ (2 ^ 32 - 1) / 2 ^ k) highs.now }
     requires lows { All (λ l. l < 2 ^ k) lows.old }
-    ensures joined { lows.new ≡ joined_parts k highs.now lows.old }
-    ensures below { result ≡ true → All (λ d. d < count) (joined_parts k highs.now lows.old) }
-    ensures not_below { result ≡ false →
-        All (λ d. d < count) (joined_parts k highs.now lows.old) → ⊥ }
+    ensures { lows.new ≡ joined_parts k highs.now lows.old }
 {
-    let greatest = (count - 1) as u32;
-    let mut all = true;
     for i in 0..highs.len() {
-        let residual = lows[i] + (highs[i] << k);
-        lows[i] = residual;
-        all = all & (residual <= greatest);
+        lows[i] += highs[i] << k;
     }
-    all
+}
+
+/// Returns whether all residuals are below 2^`bits`, of which the high parts, without `k` digits, are as small as those of such
+/// numbers.
+#[inline(always)]
+pub fn joined_are_below(bits: u32, k: u32, residuals: &[u32]) -> bool
+    requires bits { (1 ≤ bits) × (bits ≤ 32) }
+    requires highs { All (λ d. d / 2 ^ k ≤ (2 ^ bits - 1) / 2 ^ k) residuals.now }
+    ensures below { result ≡ true → All (λ d. d < 2 ^ bits) residuals.now }
+    ensures not_below { result ≡ false → All (λ d. d < 2 ^ bits) residuals.now → ⊥ }
+{
+    // A high part that is small enough makes a residual that is, unless more digits are split off than a sample has.
+    if k <= bits {
+        return true;
+    }
+    are_below(residuals, 1 << bits)
 }
 
 /// Returns whether all residuals are below `count`.

@@ -27,6 +27,23 @@ joined-at k (m ∷ ms) (l ∷ ls) (suc i) h e = joined-at k ms ls i (omega arith
 pub fit_more : (count : ℕ) (xs : List ℕ) (i : ℕ) → i < length xs → All (λ d. d < count) (take i xs) → get_or xs i 0 < count → All (λ d. d < count) (take (i + 1) xs)
 fit_more count xs i h f k = rw (take_more xs i 0 h) (All-push (λ d. d < count) (take i xs) (get_or xs i 0) f k)
 
+-- the high parts of joined parts
+pub joined_highs : (k most : ℕ) (ms ls : List ℕ) → length ls ≡ length ms → All (λ l. l < 2 ^ k) ls → All (λ m. m ≤ most) ms → All (λ d. d / 2 ^ k ≤ most) (joined_parts k ms ls)
+joined_highs k most ms ls same lows highs = λ i d lt.
+    let n : length (joined_parts k ms ls) ≡ length ms = length-joined k ms ls same in
+    let high : (get_or ms i 0 * 2 ^ k + get_or ls i 0) / 2 ^ k ≡ get_or ms i 0 = div-mul-add (get_or ms i 0) (2 ^ k) (get_or ls i 0) (lows i 0 (omega (arith, same, n, lt))) in
+    let small : get_or (joined_parts k ms ls) i 0 / 2 ^ k ≤ most = omega (arith, ap (λ x. x / 2 ^ k) (joined-at k ms ls i (omega (arith, n, lt)) same), high, highs i 0 (omega (arith, n, lt))) in
+    subst (λ x. x / 2 ^ k ≤ most) (sym (get_or_default_zero (joined_parts k ms ls) i d lt)) small
+
+-- a number of at most as many digits as its high part lets it have
+pub below_by_high : (bits k d : ℕ) → k ≤ bits → d / 2 ^ k ≤ (2 ^ bits - 1) / 2 ^ k → d < 2 ^ bits
+below_by_high bits k d h le =
+    let n : bits - k + k ≡ bits = omega (arith, h) in
+    let whole : 2 ^ (bits - k) * 2 ^ k ≡ 2 ^ bits = sym (pow-add 2 (bits - k) k) ∙ ap (λ m. 2 ^ m) n in
+    let small : (2 ^ bits - 1) / 2 ^ k < 2 ^ (bits - k) = (div-lt_iff_lt-mul {k = 2 ^ k} {x = 2 ^ bits - 1} {y = 2 ^ (bits - k)} (pow_pos k)).1 (omega (arith, whole, pow_pos bits)) in
+    let below : d < 2 ^ (bits - k) * 2 ^ k = (div-lt_iff_lt-mul {k = 2 ^ k} {x = d} {y = 2 ^ (bits - k)} (pow_pos k)).0 (omega (arith, le, small)) in
+    omega (arith, whole, below)
+
 -- the pieces of joined parts
 pub high_pieces : (k : ℕ) (ms ls : List ℕ) → length ls ≡ length ms → All (λ l. l < 2 ^ k) ls →
     flat_map (λ d. fundamental_sequence (d / 2 ^ k)) (joined_parts k ms ls) ≡ flat_map fundamental_sequence ms

@@ -7,6 +7,4 @@ abbrev pub invariant-loop-i : goal.invariant-loop-i
 invariant-loop-i l = record {
   done : take l.i l.lows ≡ take l.i (joined_parts l.k l.highs l.fn.lows);
   rest : drop l.i l.lows ≡ drop l.i l.fn.lows;
-  below : l.all ≡ true → All (λ d. d < l.count) (take l.i (joined_parts l.k l.highs l.fn.lows));
-  not_below : l.all ≡ false → All (λ d. d < l.count) (joined_parts l.k l.highs l.fn.lows) → ⊥;
 }
