@@ -308,7 +308,7 @@ fn eights_from(bytes: &[u8], at: usize, width: u32, words: &mut [u32])
 }
 
 /// As `words_from`, four words at a time.
-#[inline]
+#[inline(never)]
 fn fours_from(bytes: &[u8], at: usize, width: u32, words: &mut [u32])
     requires width { (1 ≤ width) × (width ≤ 8) }
     requires some { 4 ≤ length words.old }

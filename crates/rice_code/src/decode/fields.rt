@@ -39,7 +39,7 @@ fn read_each_word<I: Intake>(
 }
 
 /// Reads a word of `width` bits for each place of `words`.
-#[inline]
+#[inline(always)]
 pub fn read_words<I: Intake>(
     reader: &mut BitReader<I>,
     meter: &mut Meter,
