@@ -101,9 +101,14 @@ pub(crate) fn number_along(greatest: u32, p: u32, d: u32, way: u32) -> u32
     ensures fits { result ≤ greatest }
     ensures rank { rank_below (greatest + 1) p result ≡ d }
 {
-    let reach = p.min(greatest - p);
-    // Both are computed, so that the machine selects one and does not branch.
+    // All are computed, so that the machine selects one and does not branch.
+    let twice = 2 * p as u64;
     let near = p.wrapping_add(way);
-    let far = if p == reach { d } else { greatest - d };
-    if d > 2 * reach { far } else { near }
+    let high = greatest - d;
+    let below = if twice < d as u64 { d } else { near };
+    if greatest as u64 + (high as u64) < twice {
+        high
+    } else {
+        below
+    }
 }

@@ -86,7 +86,7 @@ fn restore_eight(setting: &Setting, p: i64, residuals: &[u32], near: bool, sampl
     ensures ranks { ranks setting.now p samples.new ≡ residuals.now }
 {
     if !near {
-        restore_far(setting, p, residuals, samples);
+        restore_in_turn(setting, p, residuals, samples);
     } else if setting.bits() <= 16 {
         restore_narrow(setting, p, residuals, samples);
     } else {
@@ -152,9 +152,22 @@ fn write_at_levels(setting: &Setting, levels: &[u32], samples: &mut [i64])
     }
 }
 
-/// Writes eight samples one at a time.
+/// Writes eight samples one at a time, as one copy for all that find some of them far.
 #[inline(never)]
 fn restore_far(setting: &Setting, p: i64, residuals: &[u32], samples: &mut [i64])
+    requires before { IsSample setting.now p }
+    requires residuals { All (λ d. d < value_count setting.now) residuals.now }
+    requires len { length samples.old ≡ length residuals.now }
+    requires eight { length residuals.now ≡ 8 }
+    ensures legal { All (IsSample setting.now) samples.new }
+    ensures ranks { ranks setting.now p samples.new ≡ residuals.now }
+{
+    restore_in_turn(setting, p, residuals, samples);
+}
+
+/// Writes eight samples one at a time.
+#[inline(always)]
+fn restore_in_turn(setting: &Setting, p: i64, residuals: &[u32], samples: &mut [i64])
     requires before { IsSample setting.now p }
     requires residuals { All (λ d. d < value_count setting.now) residuals.now }
     requires len { length samples.old ≡ length residuals.now }

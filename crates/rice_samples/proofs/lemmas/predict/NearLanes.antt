@@ -200,9 +200,6 @@ near_one m g p d h k t = by_digit (d % 2) (omega arith) refl
         subst Near (sym x) (omega arith, omega arith)
     by_digit (suc (suc r)) lt e = absurd (omega arith)
 
-pub near_number : (g p d : ℕ) → p ≤ g → g < 2 ^ 32 → d ≤ 2 * min p (g - p) → ((p + way (2 ^ 32) d) % 2 ^ 32 ≤ g) × (rank_below (g + 1) p ((p + way (2 ^ 32) d) % 2 ^ 32) ≡ d)
-near_number g p d h k near = near_one (2 ^ 32) g p d h k (let b = bound_is (2 ^ 32) g p h k in omega (arith, b, near))
-
 pub near_ranks : (m g p : ℕ) (ds : List ℕ) → p ≤ g → g < m → Each2 (λ d b. d ≤ b) ds (map (bound m g) (take (length ds) (p ∷ near_numbers m p ds)))
     → Each1 (λ x. x ≤ g) (near_numbers m p ds) × (ranks_below (g + 1) p (near_numbers m p ds) ≡ ds)
 near_ranks m g p [] h k t = (tt, refl)

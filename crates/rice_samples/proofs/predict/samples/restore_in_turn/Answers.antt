@@ -3,7 +3,7 @@ use Rattle.std.proofs.lemmas.Int.{to_z-of_z}
 use Rattle.std.proofs.lemmas.List.{take_all}
 use Rattle.rice_samples.specs.predict.Residuals.{ranks}
 use Rattle.rice_samples.proofs.lemmas.predict.RestoredSamples.{restored-more}
-use Rattle.rice_samples.proofs.predict.samples.restore_far.Goals as goal
+use Rattle.rice_samples.proofs.predict.samples.restore_in_turn.Goals as goal
 
 pub loop-i-init : goal.loop-i-init
 loop-i-init c = record {
