@@ -25,12 +25,12 @@ pub(crate) fn value_with(digits: u32, bits: u32, signed: bool) -> i64
     ensures value { IsValue bits signed result }
     ensures digits { twos_complement bits result ≡ digits }
 {
-    let count = 1i64 << bits;
-    let digits = digits as i64;
-    if signed && count <= 2 * digits {
-        digits - count
+    if signed {
+        // With no case for a negative value, a loop widens signed bytes in lanes.
+        let half = 1u64 << (bits - 1);
+        ((digits as u64 + half) % (2 * half)) as i64 - half as i64
     } else {
-        digits
+        digits as i64
     }
 }
 

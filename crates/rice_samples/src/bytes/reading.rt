@@ -68,6 +68,7 @@ fn read_values_of(setting: &Setting, bytes: &[u8], samples: &mut [i64])
         (2, false, false) => read_values(bytes, 2, false, false, samples),
         (2, true, false) => read_values(bytes, 2, true, false, samples),
         (2, msb, signed) => read_values(bytes, 2, msb, signed, samples),
+        (3, false, signed) => read_values(bytes, 3, false, signed, samples),
         (width, msb, signed) => read_values(bytes, width as usize, msb, signed, samples),
     }
 }

@@ -1,5 +1,5 @@
 -- Values, their patterns, and the bytes that spell these.
-use Rattle.std.proofs.Common.{◌≡◌, ℕ, zero, suc, ◌+◌, ◌-◌, ◌*◌, ◌/◌, ◌%◌, ◌^◌, ◌<◌, ◌≤◌, ◌⊎◌, inl, inr, cond, mod-eq_of_lt, Bool, true, false, ap, arith, sym, ◌∙◌, subst, List, length, ℤ, pos, negsuc, neg_ℤ, ◌≤ℤ◌, ◌<ℤ◌, ◌-ℤ◌}
+use Rattle.std.proofs.Common.{◌≡◌, ℕ, zero, suc, ◌+◌, ◌-◌, ◌*◌, ◌/◌, ◌%◌, ◌^◌, ◌<◌, ◌≤◌, ◌⊎◌, inl, inr, cond, mod-eq_of_lt, Bool, true, false, ap, arith, sym, ◌∙◌, subst, refl, List, length, ℤ, pos, negsuc, neg_ℤ, ◌≤ℤ◌, ◌<ℤ◌, ◌-ℤ◌}
 use Rattle.std.specs.Int.{int_gap, bytes_low_first, bytes_high_first}
 use Rattle.std.proofs.lemmas.Int.{ints}
 use Rattle.std.proofs.lemmas.Bool.{cases_lt}
@@ -12,16 +12,31 @@ use Rattle.rice_samples.specs.bytes.Spelling.{spelling}
 use Rattle.rice_samples.specs.bytes.Values.{offset, IsValue, ordered_bytes}
 use Rattle.rice_samples.proofs.lemmas.setting.Levels.{half_pow, pattern_fits}
 
--- a pattern in the upper half stands for a negative value
-pub high_value : (signed : Bool) (bits d : ℕ) → signed ≡ true → 1 ≤ bits → d < 2 ^ bits → 2 ^ bits ≤ 2 * d → IsValue bits signed (pos d -ℤ pos (2 ^ bits))
-high_value false bits d e h lt high = absurd (let f : false ≡ true = e in cc)
-high_value true bits d e h lt high = halves (2 ^ (bits - 1)) (2 ^ bits) d (half_pow bits h) (pow_pos (bits - 1)) lt high
+not_below : (a b c : ℕ) → a ≡ c + b → pos a -ℤ pos b ≡ pos c
+not_below a b c e = omega (arith, ints)
+
+below : (a b c : ℕ) → suc (a + c) ≡ b → pos a -ℤ pos b ≡ negsuc c
+below a b c e = omega (arith, ints)
+
+-- the value of a pattern in two's complement has that pattern
+pub signed_digits : (bits d : ℕ) → 1 ≤ bits → d < 2 ^ bits → twos_complement bits (pos ((d + 2 ^ (bits - 1)) % (2 * 2 ^ (bits - 1))) -ℤ pos (2 ^ (bits - 1))) ≡ d
+signed_digits bits d h lt = halves (2 ^ (bits - 1)) (half_pow bits h) (pow_pos (bits - 1))
   where
-    halves : (half count d : ℕ) → count ≡ half + half → 0 < half → d < count → count ≤ 2 * d → (neg_ℤ (pos half) ≤ℤ (pos d -ℤ pos count)) × (int_gap (neg_ℤ (pos half)) (pos d -ℤ pos count) < count)
-    halves zero count d e some lt high = absurd (omega arith)
-    halves (suc half) count d e some lt high =
-        let v : pos d -ℤ pos count ≡ negsuc (count - suc d) = omega (arith, ints) in
-        rw v (omega (arith, ints), omega (arith, ints))
+    halves : (half : ℕ) → 2 ^ bits ≡ half + half → 0 < half → twos_complement bits (pos ((d + half) % (2 * half)) -ℤ pos half) ≡ d
+    halves zero e some = absurd (omega arith)
+    halves (suc half) e some =
+        elim (cases_lt d (suc half)) [
+          | inl low ↦
+              let m : (d + suc half) % (2 * suc half) ≡ d + suc half = mod-eq_of_lt (omega arith) in
+              let v : pos ((d + suc half) % (2 * suc half)) -ℤ pos (suc half) ≡ pos d = ap (λ k. pos k -ℤ pos (suc half)) m ∙ not_below (d + suc half) (suc half) d refl in
+              rw v refl
+          | inr high ↦
+              let n : d + suc half ≡ 2 * suc half * 1 + (d - suc half) = omega arith in
+              let l : (d - suc half) % (2 * suc half) ≡ d - suc half = mod-eq_of_lt (omega (arith, lt, e)) in
+              let m : (d + suc half) % (2 * suc half) ≡ d - suc half = ap (λ k. k % (2 * suc half)) n ∙ (mul-add-mod_self_left (2 * suc half) 1 (d - suc half) ∙ l) in
+              let v : pos ((d + suc half) % (2 * suc half)) -ℤ pos (suc half) ≡ negsuc (2 ^ bits - suc d) = ap (λ k. pos k -ℤ pos (suc half)) m ∙ below (d - suc half) (suc half) (2 ^ bits - suc d) (omega (arith, lt, e, high)) in
+              rw v (omega (arith, lt))
+        ]
 
 -- a value of so many bits is one of more bits too
 pub wider_value : (bits more : ℕ) (signed : Bool) (x : ℤ) → 1 ≤ bits → bits ≤ more → IsValue bits signed x → IsValue more signed x
