@@ -152,7 +152,7 @@ fn write_at_levels(setting: &Setting, levels: &[u32], samples: &mut [i64])
     }
 }
 
-/// Writes eight samples one at a time, as one copy for all that find some of them far.
+/// As `restore_in_turn`, but never inlined: for samples of which not all are near.
 #[inline(never)]
 fn restore_far(setting: &Setting, p: i64, residuals: &[u32], samples: &mut [i64])
     requires before { IsSample setting.now p }
