@@ -192,7 +192,7 @@ impl Decoder {
     /// Restores the samples of the next block.
     ///
     /// A decoder that has found the end or has refused returns the same again at each later call.
-    #[inline]
+    #[inline(always)]
     pub fn next_block<I: Intake>(
         &mut self,
         reader: &mut BitReader<I>,

@@ -142,6 +142,7 @@ fn fill_all(samples: &mut [i64], value: i64)
 
 /// Restores the samples of a zero block after sample `p`: each is the reference sample, or `p` if there is none. Returns
 /// the last of them.
+#[inline(always)]
 pub fn restore_zeros(
     setting: &Setting,
     block: u64,
