@@ -7,5 +7,6 @@ pub mod fault;
 mod fields;
 mod options;
 mod pair;
+mod parts;
 mod residuals;
 mod restoring;

@@ -52,7 +52,7 @@ fn write_all_ends(bytes: &[u8], before: u8, found: usize, ends: &mut [u8]) -> us
 
 /// Writes the ends of the first ones of `front`, at least `wanted` of them if they are among its first 56 bits, after
 /// the first place. Returns their number.
-#[inline]
+#[inline(always)]
 pub fn find_ends(front: u64, wanted: usize, ends: &mut [u8]) -> usize
     requires room { length ends.old ≡ 64 }
     requires first { take 1 ends.old ≡ 0 ∷ [] }

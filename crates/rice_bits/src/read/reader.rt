@@ -420,7 +420,7 @@ impl<I: Intake> BitReader<I> {
     /// places are unchanged.
     ///
     /// It never calls the intake, so it never fails. If it takes none, [`take_fs`](Self::take_fs) takes the next one.
-    #[inline]
+    #[inline(always)]
     pub fn take_waiting_fs(&mut self, zeros: &mut [u32], meter: &mut Meter) -> usize
         requires going { self.old.refusal ≡ None }
         requires meter { meter.old + (2 ^ 52 - self.old.taken) < 2 ^ 62 }

@@ -224,7 +224,7 @@ impl Window {
 
     /// Takes the fundamental sequences in the bits ahead, at most one for each place of `zeros`, and returns their
     /// number.
-    #[inline]
+    #[inline(always)]
     pub fn take_sequences(&mut self, zeros: &mut [u32]) -> usize
         requires window { IsWindow self.old }
         ensures window { IsWindow self.new }
@@ -372,16 +372,23 @@ struct Parted {
 
 /// Takes fundamental sequences from the front of a word, and writes the numbers of their zeros to the first places
 /// of `zeros`.
-#[inline]
+#[inline(always)]
 fn part_sequences(front: u64, zeros: &mut [u32]) -> Parted
     ensures { AreParted front zeros.old zeros.new result.used result.taken }
 {
     let mut ends = [0; 64];
     let found = find_ends(front, zeros.len(), &mut ends);
-    let taken = found.min(zeros.len());
-    write_gaps(&ends, &mut zeros[..taken]);
+    // It is laid out for all places, of which the number may be known.
+    if found >= zeros.len() {
+        write_gaps(&ends, zeros);
+        return Parted {
+            taken: zeros.len(),
+            used: ends[zeros.len()] as usize,
+        };
+    }
+    write_gaps(&ends, &mut zeros[..found]);
     Parted {
-        taken,
-        used: ends[taken] as usize,
+        taken: found,
+        used: ends[found] as usize,
     }
 }

@@ -1,5 +1,6 @@
 -- What a reader took of a coded data set.
-use Rattle.std.specs.Prelude.{◌≡◌, ℕ, ◌+◌, ◌*◌, ◌^◌, Bool, true, false, List, [], ◌∷◌, ◌++◌, Option, Some, None, ⊤}
+use Rattle.std.specs.Prelude.{◌≡◌, ℕ, ◌+◌, ◌*◌, ◌/◌, ◌^◌, ◌<◌, ◌≤◌, Bool, true, false, List, [], ◌∷◌, ◌++◌, All, length, flat_map, Option, Some, None, ⊤}
+use Rattle.rice_bits.specs.Bits.{word, fundamental_sequence}
 use Rattle.rice_bits.specs.read.Reader.{Reader, Takes, Stops}
 use Rattle.rice_bits.specs.declared.read.fault.BitFault.{BitFault}
 use Rattle.rice_samples.specs.Parameters.{Parameters}
@@ -15,6 +16,25 @@ abbrev pub joined_parts : ℕ → List ℕ → List ℕ → List ℕ
 joined_parts k [] lows = []
 joined_parts k (m ∷ ms) [] = []
 joined_parts k (m ∷ ms) (l ∷ ls) = (m * 2 ^ k + l) ∷ joined_parts k ms ls
+
+-- A reader took the fundamental sequences of the high parts of `count` residuals, and then their low parts, words of k bits.
+-- `small` says that no high part is above `most`: then the residuals are these.
+pub record PartsRead {I : Type 0} (old new : Reader I) (most k : ℕ) (small : Bool) (count : ℕ) (residuals : List ℕ) : Type 0 where
+  pub highs : List ℕ
+  pub lows : List ℕ
+  pub as_many_highs : length highs ≡ count
+  pub as_many_lows : length lows ≡ count
+  pub low : All (λ v. v < 2 ^ k) lows
+  pub takes : Takes old new (flat_map fundamental_sequence highs ++ flat_map (word k) lows)
+  pub told : small ≡ true → All (λ m. m ≤ most) highs × (residuals ≡ joined_parts k highs lows)
+  pub refused : small ≡ false → All (λ m. m ≤ most) highs → ⊥
+
+-- A reader took all that was left and refused, and the parts of no `count` residuals begin with it.
+pub record PartsCut {I : Type 0} (old new : Reader I) (k count : ℕ) (fault : BitFault) : Type 0 where
+  pub bits : List Bool
+  pub stops : Stops old new bits fault
+  pub none : (ds : List ℕ) (more : List Bool) → length ds ≡ count
+      → bits ≡ (flat_map (λ d. fundamental_sequence (d / 2 ^ k)) ds ++ flat_map (word k) ds) ++ more → ⊥
 
 -- the residual at the place of the reference sample, if there is one
 abbrev pub reference_place : Option ℕ → List ℕ

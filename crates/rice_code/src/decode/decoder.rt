@@ -57,6 +57,7 @@ fn answer_of(fault: BitFault) -> Result<Step, CodeFault>
 
 /// Reads a coded data set and restores the samples of its first block. Returns the last of them, and the number of
 /// zero blocks that follow. `scratch` is scratch space.
+#[inline(always)]
 fn decode_set<I: Intake>(
     setting: &Setting,
     block: u64,

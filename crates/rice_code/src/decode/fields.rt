@@ -133,7 +133,7 @@ fn read_each_count<I: Intake>(
 
 /// Reads a fundamental sequence for each place of `counts`, and writes the number of its zeros there. Returns whether
 /// all numbers are at most `most`; if one is larger, the contents of `counts` are unspecified.
-#[inline]
+#[inline(always)]
 pub fn read_counts<I: Intake>(
     reader: &mut BitReader<I>,
     meter: &mut Meter,

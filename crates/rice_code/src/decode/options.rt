@@ -9,8 +9,9 @@ ghost use Rattle.rice_code.specs.code.Forms.{IsReference};
 ghost use Rattle.rice_code.specs.decode.Fields.{HasRoom, AreCounted};
 ghost use Rattle.rice_code.specs.decode.ReadSets.{BlockRead, BlockCut, reference_place};
 
-use crate::decode::fields::{read_counts, read_pairs, read_words};
-use crate::decode::residuals::{are_sound, join_all, joined_are_below};
+use crate::decode::fields::{read_pairs, read_words};
+use crate::decode::parts::read_parts;
+use crate::decode::residuals::{are_sound, joined_are_below};
 use rice_bits::{BitFault, BitReader, Intake, Meter};
 use rice_samples::Setting;
 
@@ -166,6 +167,7 @@ pub fn read_second_extension<I: Intake>(
 }
 
 /// Reads a block that is coded by split sample option `k`. `highs` is scratch space for the high parts.
+#[inline(always)]
 pub fn read_split<I: Intake>(
     setting: &Setting,
     block: u64,
@@ -194,20 +196,16 @@ pub fn read_split<I: Intake>(
     let first = begin_residuals(reference, residuals);
     let coded = &mut residuals[first..];
     let highs = &mut highs[..coded.len()];
-    let small = match read_counts(reader, meter, (values - 1) >> k, highs) {
-        Ok(small) => small,
+    match read_parts(reader, meter, (values - 1) >> k, k, highs, coded) {
+        Ok(true) => {}
+        Ok(false) => {
+            return Ok(BlockHead {
+                reference,
+                sound: false,
+            });
+        }
         Err(fault) => return Err(fault),
-    };
-    if let Err(fault) = read_words(reader, meter, k, coded) {
-        return Err(fault);
     }
-    if !small {
-        return Ok(BlockHead {
-            reference,
-            sound: false,
-        });
-    }
-    join_all(highs, k, coded);
     let sound = joined_are_below(setting.bits(), k, coded);
     Ok(BlockHead { reference, sound })
 }

@@ -11,23 +11,6 @@ pub fn join_all(highs: &[u32], k: u32, lows: &mut [u32])
     requires lows { All (λ l. l < 2 ^ k) lows.old }
     ensures { lows.new ≡ joined_parts k highs.now lows.old }
 {
-    // The loop is laid out for blocks of 8, with a reference and without.
-    match highs.len() {
-        7 => join_each(&highs[..7], k, lows),
-        8 => join_each(&highs[..8], k, lows),
-        _ => join_each(highs, k, lows),
-    }
-}
-
-/// As `join_all`, with a loop over parts of any number.
-#[inline(always)]
-fn join_each(highs: &[u32], k: u32, lows: &mut [u32])
-    requires same { length lows.old ≡ length highs.now }
-    requires k { k ≤ 29 }
-    requires highs { All (λ h. h ≤ (2 ^ 32 - 1) / 2 ^ k) highs.now }
-    requires lows { All (λ l. l < 2 ^ k) lows.old }
-    ensures { lows.new ≡ joined_parts k highs.now lows.old }
-{
     for i in 0..highs.len() {
         lows[i] += highs[i] << k;
     }

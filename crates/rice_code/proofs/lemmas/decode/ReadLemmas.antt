@@ -14,12 +14,12 @@ use Rattle.rice_code.specs.code.Blocks.{BlockData}
 use Rattle.rice_samples.specs.blocks.Pairs.{pair_codes}
 use Rattle.rice_code.specs.code.CodedDataSets.{CodedDataSet, NoCompression, SecondExtension, Split, sent_residuals, sent_from, reference_bits, run_tail}
 use Rattle.rice_code.specs.code.Forms.{IsForm, IsReference, IsBlock}
-use Rattle.rice_code.specs.decode.Fields.{Row, CountRow, PairRow, ones}
-use Rattle.rice_code.specs.decode.ReadSets.{BlockRead, BlockCut, reference_place, joined_parts, set_tail}
+use Rattle.rice_code.specs.decode.Fields.{Row, CountRow, WordRow, PairRow, ones}
+use Rattle.rice_code.specs.decode.ReadSets.{BlockRead, BlockCut, PartsRead, PartsCut, reference_place, joined_parts, set_tail}
 use Rattle.rice_samples.proofs.lemmas.blocks.PairLemmas.{count_pairs}
 use Rattle.rice_bits.proofs.lemmas.read.WindowLemmas.{length-words}
 use Rattle.rice_code.proofs.lemmas.decode.FieldLemmas.{put_rest, ones-append, ones-zeros, ones-sequence, ones-sequences}
-use Rattle.rice_code.proofs.lemmas.decode.JoinedParts.{length-joined, high_pieces, low_pieces, highs_small}
+use Rattle.rice_code.proofs.lemmas.decode.JoinedParts.{length-joined, high_pieces, low_pieces, highs_small, joined_highs}
 use Rattle.std.proofs.lemmas.Nat.{pow_pos}
 use borrow.Rule.Slice.PartMut.{put_mid}
 use Rattle.rice_code.proofs.lemmas.code.ReadInOneWay.{after_reference}
@@ -164,81 +164,89 @@ all-suffix : (P : ℕ → Type 0) (r : Option ℕ) (vs : List ℕ) → All P (re
 all-suffix P None vs h = h
 all-suffix P (Some v) vs h = λ i d lt. h (suc i) d (omega arith)
 
-pub split_read : {I : Type 0} (old mid next new : Reader I) (first last : ℕ) (s : Parameters) (b k : ℕ) (r : Option ℕ) (count : ℕ) (P : ℕ → Type 0) (highs lows items : List ℕ) (sound : Bool)
+pub split_read : {I : Type 0} (old mid new : Reader I) (first last : ℕ) (s : Parameters) (b k : ℕ) (r : Option ℕ) (count most : ℕ) (small : Bool) (told items : List ℕ) (sound : Bool)
     → IsReference s b r → k ≤ k_max s → count + length (reference_place r) ≡ s.block → Takes old mid (reference_bits s r)
-    → Row fundamental_sequence P mid next count [] highs → Row (word k) (λ v. v < 2 ^ k) next new count [] lows → last + old.taken ≡ first + new.taken
-    → (sound ≡ true → All (λ d. d < value_count s) (joined_parts k highs lows)) → (sound ≡ true → items ≡ reference_place r ++ joined_parts k highs lows)
-    → (sound ≡ false → All (λ d. d < value_count s) (joined_parts k highs lows) → ⊥)
+    → (p : PartsRead mid new most k small count told) → last + old.taken ≡ first + new.taken
+    → (sound ≡ true → All (λ d. d < value_count s) (joined_parts k p.highs p.lows)) → (sound ≡ true → items ≡ reference_place r ++ joined_parts k p.highs p.lows)
+    → (sound ≡ false → All (λ d. d < value_count s) (joined_parts k p.highs p.lows) → ⊥)
     → BlockRead old new first last s b (Split k) (record { reference = r; sound = sound }) items
-split_read old mid next new first last s b k r count P highs lows items sound h le n t high low steps fit same refused =
-    let ds = joined_parts k highs lows in
-    let nh : length highs ≡ count = ap length high.appended ∙ high.len in
-    let nl : length lows ≡ count = ap length low.appended ∙ low.len in
-    let nd : length ds ≡ count = length-joined k highs lows (nl ∙ sym nh) ∙ nh in
-    let lows_fit : All (λ v. v < 2 ^ k) lows = subst (λ xs. All (λ v. v < 2 ^ k) xs) (sym low.appended) low.each in
-    let hp : flat_map (λ d. fundamental_sequence (d / 2 ^ k)) ds ≡ flat_map fundamental_sequence high.values = high_pieces k highs lows (nl ∙ sym nh) lows_fit ∙ ap (flat_map fundamental_sequence) high.appended in
-    let lp : flat_map (word k) ds ≡ flat_map (word k) low.values = low_pieces k highs lows (nl ∙ sym nh) ∙ ap (flat_map (word k)) low.appended in
+split_read old mid new first last s b k r count most small told items sound h le n t p steps fit same refused =
+    let ds = joined_parts k p.highs p.lows in
+    let same_len : length p.lows ≡ length p.highs = p.as_many_lows ∙ sym p.as_many_highs in
+    let nd : length ds ≡ count = length-joined k p.highs p.lows same_len ∙ p.as_many_highs in
+    let hp : flat_map (λ d. fundamental_sequence (d / 2 ^ k)) ds ≡ flat_map fundamental_sequence p.highs = high_pieces k p.highs p.lows same_len p.low in
+    let lp : flat_map (word k) ds ≡ flat_map (word k) p.lows = low_pieces k p.highs p.lows same_len in
     record {
       contents = record { reference = r; residuals = reference_place r ++ ds };
       form = (record { reference = h; len = omega (arith, length-append (reference_place r) ds) }, zero-placed r ds, le);
       reference_is = refl;
-      takes = rw (coded-placed r ds, hp, lp) (takes-append old mid new _ _ t (takes-append mid next new _ _ high.takes low.takes));
+      takes = rw (coded-placed r ds, hp, lp) (takes-append old mid new _ _ t p.takes);
       told = λ e. (let q = all-placed (λ d. d < value_count s) r ds (pow_pos s.bits) (fit e) in (q, q, sym (same e)));
       refused = λ e q. refused e (all-suffix (λ d. d < value_count s) r ds q);
       steps = omega arith;
     }
 
--- those of a row of counts, whatever is told
-pub count_row : {I : Type 0} (old new : Reader I) (most : ℕ) (small : Bool) (many count : ℕ) (told : List ℕ)
-    → many ≡ count → (row : CountRow old new most small many told) → Row fundamental_sequence (λ _. Unit {0}) old new count [] row.values
-count_row old new most small many count told e row = record { values = row.values; len = row.len ∙ e; each = λ i d lt. tt; appended = refl; takes = row.takes }
-
 -- a high part is too large
-pub split_large : {I : Type 0} (old mid next new : Reader I) (first last : ℕ) (s : Parameters) (b k : ℕ) (r : Option ℕ) (many count : ℕ) (told lows items : List ℕ) (small : Bool)
-    → IsReference s b r → k ≤ k_max s → count + length (reference_place r) ≡ s.block → many ≡ count → Takes old mid (reference_bits s r)
-    → CountRow mid next ((value_count s - 1) / 2 ^ k) small many told → small ≡ false → Row (word k) (λ v. v < 2 ^ k) next new count [] lows → last + old.taken ≡ first + new.taken
+pub split_large : {I : Type 0} (old mid new : Reader I) (first last : ℕ) (s : Parameters) (b k : ℕ) (r : Option ℕ) (count : ℕ) (small : Bool) (told items : List ℕ)
+    → IsReference s b r → k ≤ k_max s → count + length (reference_place r) ≡ s.block → Takes old mid (reference_bits s r)
+    → PartsRead mid new ((value_count s - 1) / 2 ^ k) k small count told → small ≡ false → last + old.taken ≡ first + new.taken
     → BlockRead old new first last s b (Split k) (record { reference = r; sound = false }) items
-split_large old mid next new first last s b k r many count told lows items small h le n m t high e low steps =
-    let nl : length lows ≡ count = ap length low.appended ∙ low.len in
-    split_read old mid next new first last s b k r count (λ _. Unit {0}) high.values lows items false h le n t
-    (count_row mid next _ small many count told m high) low steps (λ f. absurd cc) (λ f. absurd cc)
-    (λ f all. high.refused e (highs_small k (value_count s) high.values lows (nl ∙ sym (high.len ∙ m)) (pow_pos s.bits) all))
+split_large old mid new first last s b k r count small told items h le n t p e steps =
+    split_read old mid new first last s b k r count _ small told items false h le n t p steps (λ f. absurd cc) (λ f. absurd cc)
+    (λ f all. p.refused e (highs_small k (value_count s) p.highs p.lows (p.as_many_lows ∙ sym p.as_many_highs) (pow_pos s.bits) all))
 
 -- high parts stand in their places
-pub split_joined : {I : Type 0} (old mid next new : Reader I) (first last : ℕ) (s : Parameters) (b k : ℕ) (r : Option ℕ) (many count : ℕ) (told lows items : List ℕ) (small sound : Bool)
-    → IsReference s b r → k ≤ k_max s → count + length (reference_place r) ≡ s.block → many ≡ count → Takes old mid (reference_bits s r)
-    → CountRow mid next ((value_count s - 1) / 2 ^ k) small many told → small ≡ true → Row (word k) (λ v. v < 2 ^ k) next new count [] lows → last + old.taken ≡ first + new.taken
-    → items ≡ reference_place r ++ joined_parts k told lows
-    → (sound ≡ true → All (λ d. d < value_count s) (joined_parts k told lows)) → (sound ≡ false → All (λ d. d < value_count s) (joined_parts k told lows) → ⊥)
+pub split_joined : {I : Type 0} (old mid new : Reader I) (first last : ℕ) (s : Parameters) (b k : ℕ) (r : Option ℕ) (count : ℕ) (small : Bool) (told items : List ℕ) (sound : Bool)
+    → IsReference s b r → k ≤ k_max s → count + length (reference_place r) ≡ s.block → Takes old mid (reference_bits s r)
+    → PartsRead mid new ((value_count s - 1) / 2 ^ k) k small count told → small ≡ true → last + old.taken ≡ first + new.taken
+    → items ≡ reference_place r ++ told
+    → (sound ≡ true → All (λ d. d < value_count s) told) → (sound ≡ false → All (λ d. d < value_count s) told → ⊥)
     → BlockRead old new first last s b (Split k) (record { reference = r; sound = sound }) items
-split_joined old mid next new first last s b k r many count told lows items small sound h le n m t high e low steps joined below above =
-    let is : joined_parts k told lows ≡ joined_parts k high.values lows = ap (λ xs. joined_parts k xs lows) (high.told_are e).0 in
-    split_read old mid next new first last s b k r count (λ _. Unit {0}) high.values lows items sound h le n t
-    (count_row mid next _ small many count told m high) low steps
+split_joined old mid new first last s b k r count small told items sound h le n t p e steps placed_so below above =
+    let is : told ≡ joined_parts k p.highs p.lows = (p.told e).1 in
+    split_read old mid new first last s b k r count _ small told items sound h le n t p steps
     (λ f. subst (λ xs. All (λ d. d < value_count s) xs) is (below f))
-    (λ f. joined ∙ ap (λ xs. reference_place r ++ xs) is)
+    (λ f. placed_so ∙ ap (λ xs. reference_place r ++ xs) is)
     (λ f all. above f (subst (λ xs. All (λ d. d < value_count s) xs) (sym is) all))
+
+-- the high parts of what was joined
+pub parts_small : {I : Type 0} (old new : Reader I) (most k : ℕ) (small : Bool) (count : ℕ) (told : List ℕ)
+    → PartsRead old new most k small count told → small ≡ true → All (λ d. d / 2 ^ k ≤ most) told
+parts_small old new most k small count told p e =
+    subst (All (λ d. d / 2 ^ k ≤ most)) (sym (p.told e).1) (joined_highs k most p.highs p.lows (p.as_many_lows ∙ sym p.as_many_highs) p.low (p.told e).0)
+
+-- a row of high parts, and then one of low parts
+pub parts_read : {I : Type 0} (old mid new : Reader I) (most k : ℕ) (small : Bool) (count : ℕ) (told lows residuals : List ℕ)
+    → CountRow old mid most small count told → WordRow k mid new count lows → (small ≡ true → residuals ≡ joined_parts k told lows)
+    → PartsRead old new most k small count residuals
+parts_read old mid new most k small count told lows residuals high low joined = record {
+  highs = high.values;
+  lows = low.values;
+  as_many_highs = high.len;
+  as_many_lows = low.len;
+  low = low.each;
+  takes = takes-append old mid new _ _ high.takes low.takes;
+  told = λ e. ((high.told_are e).1, joined e ∙ (ap (λ xs. joined_parts k xs lows) (high.told_are e).0 ∙ ap (joined_parts k high.values) low.appended));
+  refused = high.refused;
+}
 
 ones-high : (k : ℕ) (ds : List ℕ) → ones (flat_map (λ d. fundamental_sequence (d / 2 ^ k)) ds) ≡ length ds
 ones-high k [] = refl
 ones-high k (d ∷ ds) = omega (arith, ones-append (fundamental_sequence (d / 2 ^ k)) (flat_map (λ d. fundamental_sequence (d / 2 ^ k)) ds), ones-sequence (d / 2 ^ k), ones-high k ds)
 
-pub split_cut_high : {I : Type 0} (old mid new : Reader I) (s : Parameters) (b k : ℕ) (r : Option ℕ) (count : ℕ) (bits : List Bool) (f : BitFault)
-    → IsReference s b r → count + length (reference_place r) ≡ s.block → Takes old mid (reference_bits s r)
-    → ones bits < count → Stops mid new bits f → BlockCut old new s b (Split k) f
-split_cut_high old mid new s b k r count bits f h n t short stops = record {
-  bits = reference_bits s r ++ bits;
-  stops = stops-append old mid new _ bits f t stops;
-  none = λ c more form e.
-      (let a = behind_reference s b r c.reference bits (flat_map (λ d. fundamental_sequence (d / 2 ^ k)) (sent_residuals c) ++ flat_map (word k) (sent_residuals c)) more h form.0.reference e in
+-- too few high parts
+pub parts_cut_high : {I : Type 0} (old new : Reader I) (k count : ℕ) (bits : List Bool) (f : BitFault) → ones bits < count → Stops old new bits f → PartsCut old new k count f
+parts_cut_high old new k count bits f short stops = record {
+  bits = bits;
+  stops = stops;
+  none = λ ds more n e.
       omega (
         arith,
-        ap ones a.1,
-        ones-append (flat_map (λ d. fundamental_sequence (d / 2 ^ k)) (sent_residuals c) ++ flat_map (word k) (sent_residuals c)) more,
-        ones-append (flat_map (λ d. fundamental_sequence (d / 2 ^ k)) (sent_residuals c)) (flat_map (word k) (sent_residuals c)),
-        ones-high k (sent_residuals c),
-        length-coded_at s b c r count form.0 h n,
-      ));
+        ap ones e,
+        ones-append (flat_map (λ d. fundamental_sequence (d / 2 ^ k)) ds ++ flat_map (word k) ds) more,
+        ones-append (flat_map (λ d. fundamental_sequence (d / 2 ^ k)) ds) (flat_map (word k) ds),
+        ones-high k ds,
+      );
 }
 
 after_sequences : (k : ℕ) (ms ds : List ℕ) (x y : List Bool) → length ms ≡ length ds → flat_map fundamental_sequence ms ++ x ≡ flat_map (λ d. fundamental_sequence (d / 2 ^ k)) ds ++ y → x ≡ y
@@ -250,19 +258,27 @@ after_sequences k (m ∷ ms) (d ∷ ds) x y n e =
     (sym (append_assoc (fundamental_sequence m) (flat_map fundamental_sequence ms) x) ∙ (e ∙ append_assoc (fundamental_sequence (d / 2 ^ k)) (flat_map (λ d. fundamental_sequence (d / 2 ^ k)) ds) y)) in
     after_sequences k ms ds x y (omega arith) a.1
 
-pub split_cut_low : {I : Type 0} (old mid next new : Reader I) (s : Parameters) (b k : ℕ) (r : Option ℕ) (count : ℕ) (P : ℕ → Type 0) (highs : List ℕ) (bits : List Bool) (f : BitFault)
+-- too few low parts
+pub parts_cut_low : {I : Type 0} (old mid new : Reader I) (most k : ℕ) (small : Bool) (count : ℕ) (told : List ℕ) (bits : List Bool) (f : BitFault)
+    → CountRow old mid most small count told → length bits < count * k → Stops mid new bits f → PartsCut old new k count f
+parts_cut_low old mid new most k small count told bits f high short stops = record {
+  bits = flat_map fundamental_sequence high.values ++ bits;
+  stops = stops-append old mid new _ bits f high.takes stops;
+  none = λ ds more n e.
+      (let low = after_sequences k high.values ds bits (flat_map (word k) ds ++ more) (high.len ∙ sym n)
+      (e ∙ append_assoc (flat_map (λ d. fundamental_sequence (d / 2 ^ k)) ds) (flat_map (word k) ds) more) in
+      short_words k count ds bits more n short low);
+}
+
+pub split_cut : {I : Type 0} (old mid new : Reader I) (s : Parameters) (b k : ℕ) (r : Option ℕ) (count : ℕ) (f : BitFault)
     → IsReference s b r → count + length (reference_place r) ≡ s.block → Takes old mid (reference_bits s r)
-    → Row fundamental_sequence P mid next count [] highs
-    → length bits < count * k → Stops next new bits f → BlockCut old new s b (Split k) f
-split_cut_low old mid next new s b k r count P highs bits f h n t high short stops = record {
-  bits = reference_bits s r ++ (flat_map fundamental_sequence high.values ++ bits);
-  stops = stops-append old mid new _ _ f t (stops-append mid next new _ bits f high.takes stops);
+    → PartsCut mid new k count f → BlockCut old new s b (Split k) f
+split_cut old mid new s b k r count f h n t cut = record {
+  bits = reference_bits s r ++ cut.bits;
+  stops = stops-append old mid new _ cut.bits f t cut.stops;
   none = λ c more form e.
-      (let a = behind_reference s b r c.reference (flat_map fundamental_sequence high.values ++ bits) (flat_map (λ d. fundamental_sequence (d / 2 ^ k)) (sent_residuals c) ++ flat_map (word k) (sent_residuals c)) more h form.0.reference e in
-      let len = length-coded_at s b c r count form.0 h n in
-      let low = after_sequences k high.values (sent_residuals c) bits (flat_map (word k) (sent_residuals c) ++ more) (high.len ∙ sym len)
-      (a.1 ∙ append_assoc (flat_map (λ d. fundamental_sequence (d / 2 ^ k)) (sent_residuals c)) (flat_map (word k) (sent_residuals c)) more) in
-      short_words k count (sent_residuals c) bits more len short low);
+      (let a = behind_reference s b r c.reference cut.bits (flat_map (λ d. fundamental_sequence (d / 2 ^ k)) (sent_residuals c) ++ flat_map (word k) (sent_residuals c)) more h form.0.reference e in
+      cut.none (sent_residuals c) more (length-coded_at s b c r count form.0 h n) a.1);
 }
 
 -- a block is two halves

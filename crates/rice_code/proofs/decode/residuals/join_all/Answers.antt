@@ -1,8 +1,8 @@
-use Rattle.std.proofs.Common.{◌≡◌, arith, length, sym, take, ◌∙◌}
+use Rattle.std.proofs.Common.{arith, sym, ◌∙◌}
 use Rattle.std.proofs.lemmas.List.{take_all}
 use Rattle.rice_code.specs.decode.ReadSets.{joined_parts}
 use Rattle.rice_code.proofs.lemmas.decode.JoinedParts.{join-more, length-joined}
-use Rattle.rice_code.proofs.decode.residuals.join_each.Goals as goal
+use Rattle.rice_code.proofs.decode.residuals.join_all.Goals as goal
 
 pub overflow_add-lows : goal.overflow_add-lows
 overflow_add-lows c =

@@ -1,7 +1,6 @@
-use Rattle.std.proofs.Common.{◌≡◌, ◌<◌, take, drop, true, false}
-use Rattle.std.specs.Prelude.{All}
+use Rattle.std.proofs.Common.{◌≡◌, take, drop}
 use Rattle.rice_code.specs.decode.ReadSets.{joined_parts}
-use Rattle.rice_code.proofs.decode.residuals.join_each.Given as goal
+use Rattle.rice_code.proofs.decode.residuals.join_all.Given as goal
 
 abbrev pub invariant-loop-i : goal.invariant-loop-i
 invariant-loop-i l = record {

@@ -1,0 +1,81 @@
+//! Reads the high and the low parts of residuals.
+ghost use Rattle.std.specs.Prelude.{◌≡◌, ℕ, ◌+◌, ◌-◌, ◌*◌, ◌/◌, ◌^◌, ◌<◌, ◌≤◌, Bool, true, false, List, [], ◌++◌, length, None, IfOk, IfErr};
+ghost use Rattle.rice_code.specs.decode.Fields.{HasRoom};
+ghost use Rattle.rice_code.specs.decode.ReadSets.{PartsRead, PartsCut};
+
+use crate::decode::fields::{read_counts, read_words};
+use crate::decode::residuals::join_all;
+use rice_bits::{BitFault, BitReader, Intake, Meter};
+
+/// Reads the fundamental sequences of the high parts of residuals and then their low parts, words of `k` bits, and joins
+/// them. Returns whether all high parts are at most `most`; if one is larger, the residuals are unspecified. `highs` is
+/// scratch space.
+#[inline(always)]
+pub fn read_parts<I: Intake>(
+    reader: &mut BitReader<I>,
+    meter: &mut Meter,
+    most: u64,
+    k: u32,
+    highs: &mut [u32],
+    residuals: &mut [u32],
+) -> Result<bool, BitFault>
+    requires going { reader.old.refusal ≡ None }
+    requires room { HasRoom meter.old reader.old.taken }
+    requires k { k ≤ 29 }
+    requires most { most ≤ (2 ^ 32 - 1) / 2 ^ k }
+    requires same { length highs.old ≡ length residuals.old }
+    ensures ok { IfOk result (λ small.
+        PartsRead reader.old reader.new most k small (length residuals.old) residuals.new) }
+    ensures err { IfErr result (PartsCut reader.old reader.new k (length residuals.old)) }
+    ensures steps { meter.new + reader.old.taken ≡ meter.old + reader.new.taken }
+    ensures limit { reader.new.taken ≤ 2 ^ 52 }
+{
+    // It is laid out for blocks of 8, with a reference and without, and of 16.
+    match residuals.len() {
+        7 => read_parts_of(reader, meter, most, k, &mut highs[..7], &mut residuals[..7]),
+        8 => read_parts_of(reader, meter, most, k, &mut highs[..8], &mut residuals[..8]),
+        16 => read_parts_of(
+            reader,
+            meter,
+            most,
+            k,
+            &mut highs[..16],
+            &mut residuals[..16],
+        ),
+        _ => read_parts_of(reader, meter, most, k, highs, residuals),
+    }
+}
+
+/// As `read_parts`, with the loops for any number of residuals.
+#[inline(always)]
+fn read_parts_of<I: Intake>(
+    reader: &mut BitReader<I>,
+    meter: &mut Meter,
+    most: u64,
+    k: u32,
+    highs: &mut [u32],
+    residuals: &mut [u32],
+) -> Result<bool, BitFault>
+    requires going { reader.old.refusal ≡ None }
+    requires room { HasRoom meter.old reader.old.taken }
+    requires k { k ≤ 29 }
+    requires most { most ≤ (2 ^ 32 - 1) / 2 ^ k }
+    requires same { length highs.old ≡ length residuals.old }
+    ensures ok { IfOk result (λ small.
+        PartsRead reader.old reader.new most k small (length residuals.old) residuals.new) }
+    ensures err { IfErr result (PartsCut reader.old reader.new k (length residuals.old)) }
+    ensures steps { meter.new + reader.old.taken ≡ meter.old + reader.new.taken }
+    ensures limit { reader.new.taken ≤ 2 ^ 52 }
+{
+    let small = match read_counts(reader, meter, most, highs) {
+        Ok(small) => small,
+        Err(fault) => return Err(fault),
+    };
+    if let Err(fault) = read_words(reader, meter, k, residuals) {
+        return Err(fault);
+    }
+    if small {
+        join_all(highs, k, residuals);
+    }
+    Ok(small)
+}
