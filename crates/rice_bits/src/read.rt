@@ -3,5 +3,7 @@
 mod ends;
 pub mod fault;
 mod ones;
+mod parts;
 pub mod reader;
+mod short_words;
 mod window;

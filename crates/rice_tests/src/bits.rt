@@ -172,6 +172,21 @@ fn take_what_waits(rt: HostRuntime) -> Result<(), Fail> {
 }
 
 #[test]
+fn take_parts_that_wait(rt: HostRuntime) -> Result<(), Fail> {
+    // After 1001, the sequences 1 01 1 001 1 1 01 1, and then words of three digits.
+    let bytes = [0x9B, 0x3B, 0xAB, 0x83, 0x9C];
+    let mut meter = Meter::new();
+    let mut reader = BitReader::new(MemoryIn::new(&bytes, 4096, None));
+    let mut numbers = [77; 8];
+    assert_eq!(rt; reader.take_waiting_parts(3, &mut numbers, &mut meter), false);
+    assert_eq!(rt; reader.take(4, &mut meter), Ok(9));
+    assert_eq!(rt; reader.take_waiting_parts(3, &mut numbers, &mut meter), true);
+    assert_eq!(rt; numbers, [5, 10, 7, 16, 1, 6, 11, 4]);
+    assert_eq!(rt; (reader.taken(), meter.steps()), (40, 40));
+    Ok(())
+}
+
+#[test]
 fn align_passes_ones(rt: HostRuntime) -> Result<(), Fail> {
     let mut meter = Meter::new();
     let mut reader = BitReader::new(MemoryIn::new(&[0x1F, 0], 4096, None));

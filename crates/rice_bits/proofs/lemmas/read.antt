@@ -3,5 +3,7 @@ pub mod Blank
 pub mod Drawing
 pub mod Parting
 pub mod OnesLemmas
+pub mod PartsLemmas
 pub mod ReaderLemmas
+pub mod ShortWordsLemmas
 pub mod WindowLemmas

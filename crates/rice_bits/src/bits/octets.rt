@@ -1,7 +1,8 @@
 //! Eight bytes at a time.
-ghost use Rattle.std.specs.Prelude.{All, ◌≡◌, ℕ, ◌+◌, ◌-◌, ◌*◌, ◌/◌, ◌%◌, ◌^◌, ◌<◌, ◌≤◌, ◌∷◌, ◌++◌, bit_or, drop, length, min, replicate, set, take};
+ghost use Rattle.std.specs.Prelude.{All, false, ◌≡◌, ℕ, ◌+◌, ◌-◌, ◌*◌, ◌/◌, ◌%◌, ◌^◌, ◌<◌, ◌≤◌, ◌∷◌, ◌++◌, bit_or, drop, length, min, replicate, set, take};
 ghost use Rattle.std.specs.Int.{to_be_bytes, to_le_bytes, w64};
 ghost use Rattle.std.specs.List.{slice_index};
+ghost use Rattle.rice_bits.specs.Bits.{bits_of, word};
 
 use std::simd::prelude::*;
 
@@ -142,4 +143,14 @@ pub fn load(bytes: &[u8], at: usize) -> u64
         bytes[at + 6],
         bytes[at + 7],
     ])
+}
+
+/// Returns the 57 to 64 bits from bit `at` on, at the front of a word.
+#[inline]
+pub fn bits_from(bytes: &[u8], at: usize) -> u64
+    requires { at / 8 + 8 ≤ length bytes.now }
+    ensures { word 64 result
+        ≡ take (64 - at % 8) (drop at (bits_of bytes.now)) ++ replicate (at % 8) false }
+{
+    load(bytes, at / 8) << (at % 8)
 }

@@ -1,5 +1,5 @@
 //! The ends of the fundamental sequences in a word, and the zeros between them.
-ghost use Rattle.std.specs.Prelude.{◌≡◌, ℕ, ◌+◌, ◌-◌, ◌*◌, ◌^◌, ◌<◌, ◌≤◌, [], ◌∷◌, ◌++◌, length, take, drop};
+ghost use Rattle.std.specs.Prelude.{◌≡◌, ℕ, ◌+◌, ◌-◌, ◌*◌, ◌^◌, ◌<◌, ◌≤◌, All, [], ◌∷◌, ◌++◌, length, take, drop};
 ghost use Rattle.std.specs.Simd.Lanes.{zip2};
 ghost use Rattle.rice_bits.specs.Bits.{bits_of, word};
 ghost use Rattle.rice_bits.specs.read.Ones.{IsSearched, ends_after, gaps};
@@ -34,7 +34,7 @@ fn write_ends(byte: u8, before: u8, found: usize, ends: &mut [u8]) -> usize
 
 /// Writes the ends of the ones of `bytes`, which stand after `before` bits, after the first `found` + 1 places.
 /// Returns the number of ends found with these.
-#[inline]
+#[inline(always)]
 fn write_all_ends(bytes: &[u8], before: u8, found: usize, ends: &mut [u8]) -> usize
     requires before { before + 8 * length bytes.now ≤ 64 }
     requires room { found + 8 * length bytes.now + 1 ≤ length ends.old }
@@ -67,15 +67,26 @@ pub fn find_ends(front: u64, wanted: usize, ends: &mut [u8]) -> usize
 }
 
 /// Returns how many bits stand between an end and the next, for each of eight ends from the place `at` on.
-#[inline]
+#[inline(always)]
+pub fn narrow_gaps(ends: &[u8], at: usize) -> u16x8
+    requires { at + 9 ≤ length ends.now }
+    ensures len { length result ≡ 8 }
+    ensures few { All (λ m. m < 256) result }
+    ensures value { result ≡ take 8 (drop at (gaps ends.now)) }
+{
+    let here = u8x8::from_slice(&ends[at..]);
+    let next = u8x8::from_slice(&ends[at + 1..]);
+    excess(excess(next, here), u8x8::splat(1)).cast::<u16>()
+}
+
+/// As `narrow_gaps`, in wider lanes.
+#[inline(always)]
 fn eight_gaps(ends: &[u8], at: usize) -> u32x8
     requires { at + 9 ≤ length ends.now }
     ensures len { length result ≡ 8 }
     ensures value { result ≡ take 8 (drop at (gaps ends.now)) }
 {
-    let here = u8x8::from_slice(&ends[at..]);
-    let next = u8x8::from_slice(&ends[at + 1..]);
-    excess(excess(next, here), u8x8::splat(1)).cast::<u32>()
+    narrow_gaps(ends, at).cast::<u32>()
 }
 
 /// Returns how many bits stand between an end and the next, for each of four ends from the place `at` on.

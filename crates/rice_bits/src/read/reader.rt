@@ -3,6 +3,7 @@ ghost use Rattle.std.specs.Prelude.{◌≡◌, ℕ, ◌+◌, ◌-◌, ◌*◌, �
 ghost use Rattle.std.specs.Io.KnownBytes.{Consumes};
 ghost use Rattle.rice_bits.specs.Bits.{fundamental_sequence, bits_to_byte, word};
 ghost use Rattle.rice_bits.specs.read.Reader.{Supplies, Refuses, is_blank, new_reader};
+ghost use Rattle.rice_bits.specs.read.Parts.{TakesParts};
 ghost use Rattle.rice_bits.specs.read.Window.{IsWindow, buffer_len, most_at_once, most_waiting, window_bits, window_passed, window_taken};
 
 use crate::bits::digits::join;
@@ -395,7 +396,7 @@ impl<I: Intake> BitReader<I> {
     /// there. Returns the number of words, which may be 0, and ticks once for each bit. Later places are unchanged.
     ///
     /// It never calls the intake, so it never fails. If it takes none, [`take`](Self::take) takes the next word.
-    #[inline]
+    #[inline(always)]
     pub fn take_waiting(&mut self, width: u32, words: &mut [u32], meter: &mut Meter) -> usize
         requires going { self.old.refusal ≡ None }
         requires width { width ≤ 32 }
@@ -435,6 +436,31 @@ impl<I: Intake> BitReader<I> {
     {
         let before = self.window.len();
         let taken = self.window.take_sequences(zeros);
+        meter.tick((before - self.window.len()) as u64);
+        taken
+    }
+
+    /// Takes a fundamental sequence for each place of `numbers`, and then a word of `width` digits for each, if all of them
+    /// wait together, and writes the numbers that have the zeros of the sequences as their high parts and the words as
+    /// their low parts. There are 7, 8, 15 or 16 places. Returns whether it took them, and ticks once for each bit. If it
+    /// took none, the contents of `numbers` are unspecified.
+    ///
+    /// It never calls the intake, so it never fails.
+    #[inline(always)]
+    pub fn take_waiting_parts(&mut self, width: u32, numbers: &mut [u32], meter: &mut Meter) -> bool
+        requires going { self.old.refusal ≡ None }
+        requires width { (1 ≤ width) × (width ≤ 7) }
+        requires count { (length numbers.old + 1) % 8 ≤ 1 }
+        requires few { length numbers.old ≤ 16 }
+        requires meter { meter.old + (2 ^ 52 - self.old.taken) < 2 ^ 62 }
+        ensures takes { result ≡ true → TakesParts self.old self.new width numbers.new }
+        ensures none { result ≡ false → (self.new ≡ self.old) × (meter.new ≡ meter.old) }
+        ensures idle { self.new.intake ≡ self.old.intake }
+        ensures steps { meter.new + self.old.taken ≡ meter.old + self.new.taken }
+        ensures limit { self.new.taken ≤ 2 ^ 52 }
+    {
+        let before = self.window.len();
+        let taken = self.window.take_parts(width, numbers);
         meter.tick((before - self.window.len()) as u64);
         taken
     }

@@ -1,12 +1,14 @@
 //! The bytes that an intake gave last, and a place among their bits.
-ghost use Rattle.std.specs.Prelude.{◌≡◌, ℕ, ◌+◌, ◌-◌, ◌*◌, ◌/◌, ◌%◌, ◌^◌, ◌<◌, ◌≤◌, ◌&&◌, false, [], ◌++◌, min, replicate, flat_map, length, take, drop, All, IfSome, IfNone};
+ghost use Rattle.std.specs.Prelude.{◌≡◌, ℕ, ◌+◌, ◌-◌, ◌*◌, ◌/◌, ◌%◌, ◌^◌, ◌<◌, ◌≤◌, ◌&&◌, false, [], ◌++◌, min, true, replicate, flat_map, length, take, drop, All, IfSome, IfNone};
 ghost use Rattle.rice_bits.specs.Bits.{bits_of, four_powers, fundamental_sequence, word};
 ghost use Rattle.rice_bits.specs.read.Reader.{is_blank};
 ghost use Rattle.rice_bits.specs.read.Window.{AreParted, buffer_len, most_at_once, most_waiting};
 
 use crate::bits::digits::{digits_behind, four_words, front_digits, powers_of};
-use crate::bits::octets::{load, store_zeros};
+use crate::bits::octets::{bits_from, load, store_zeros};
 use crate::read::ones::{find_ends, write_gaps};
+use crate::read::parts::write_parts;
+use crate::read::short_words::eight_from;
 use std::simd::prelude::*;
 
 /// The most bytes that are asked for at a time.
@@ -37,6 +39,7 @@ pub struct Window {
 }
 
 impl Window {
+    ghost use Rattle.rice_bits.specs.read.Parts.{PassesParts};
     ghost use Rattle.rice_bits.specs.read.Window.{IsWindow, Passes, bits_near, window_bits, window_passed, window_taken};
 
     /// Returns a window with no bits, of which none was taken.
@@ -204,7 +207,7 @@ impl Window {
 
     /// Takes words of `width` bits, one for each place of `words`, and returns their number. It takes none if fewer
     /// wait, or if there are more than 64 places.
-    #[inline]
+    #[inline(always)]
     pub fn take_words(&mut self, width: u32, words: &mut [u32]) -> usize
         requires window { IsWindow self.old }
         requires width { width ≤ 32 }
@@ -238,16 +241,34 @@ impl Window {
         self.at += parted.used;
         parted.taken
     }
-}
 
-/// Returns the 57 to 64 bits from bit `at` on, at the front of a word.
-#[inline]
-fn bits_from(bytes: &[u8], at: usize) -> u64
-    requires { at / 8 + 8 ≤ length bytes.now }
-    ensures { word 64 result
-        ≡ take (64 - at % 8) (drop at (bits_of bytes.now)) ++ replicate (at % 8) false }
-{
-    load(bytes, at / 8) << (at % 8)
+    /// Takes a fundamental sequence for each place of `numbers`, and then a word of `width` bits for each, if all of them
+    /// wait, and the sequences are among the bits ahead. Writes the numbers that have the zeros of the sequences as
+    /// their high parts, and the words as their low parts. Returns whether it took them.
+    #[inline(always)]
+    pub fn take_parts(&mut self, width: u32, numbers: &mut [u32]) -> bool
+        requires window { IsWindow self.old }
+        requires width { (1 ≤ width) × (width ≤ 7) }
+        requires count { (length numbers.old + 1) % 8 ≤ 1 }
+        requires few { length numbers.old ≤ 16 }
+        ensures window { IsWindow self.new }
+        ensures passes { result ≡ true → PassesParts self.old self.new width numbers.new }
+        ensures none { result ≡ false → self.new ≡ self.old }
+    {
+        let mut ends = [0; 64];
+        let found = find_ends(self.ahead(), numbers.len(), &mut ends);
+        if found < numbers.len() {
+            return false;
+        }
+        let words = self.at + ends[numbers.len()] as usize;
+        let next = words + numbers.len() * width as usize;
+        if next > self.end {
+            return false;
+        }
+        write_parts(&self.buffer, words, width, &ends, numbers);
+        self.at = next;
+        true
+    }
 }
 
 /// Returns the number that the `width` bits from bit `at` on spell.
@@ -262,7 +283,7 @@ fn number_from(bytes: &[u8], at: usize, width: u32) -> u64
 }
 
 /// Fills `words` with the words of `width` bits from bit `at` on.
-#[inline]
+#[inline(always)]
 fn words_from(bytes: &[u8], at: usize, width: u32, words: &mut [u32])
     requires width { width ≤ 32 }
     requires few { length words.old ≤ 64 }
@@ -278,16 +299,19 @@ fn words_from(bytes: &[u8], at: usize, width: u32, words: &mut [u32])
     if width > 8 || words.len() < 4 {
         return each_from(bytes, at, width, words);
     }
-    if words.len() % 8 == 0 {
+    if words.len() % 8 != 0 {
+        return fours_from(bytes, at, width, words);
+    }
+    if width < 8 {
         return eights_from(bytes, at, width, words);
     }
-    fours_from(bytes, at, width, words);
+    bytes_from(bytes, at, words);
 }
 
 /// As `words_from`, eight words at a time.
-#[inline]
+#[inline(always)]
 fn eights_from(bytes: &[u8], at: usize, width: u32, words: &mut [u32])
-    requires width { (1 ≤ width) × (width ≤ 8) }
+    requires width { (1 ≤ width) × (width ≤ 7) }
     requires eights { length words.old % 8 ≡ 0 }
     requires few { length words.old ≤ 64 }
     requires within { at + length words.old * width ≤ most_waiting }
@@ -296,14 +320,31 @@ fn eights_from(bytes: &[u8], at: usize, width: u32, words: &mut [u32])
     ensures bits { flat_map (word width) words.new
         ≡ take (length words.new * width) (drop at (bits_of bytes.now)) }
 {
-    let powers = powers_of(width);
     let mut at = at;
     for i in 0..words.len() / 8 {
-        let first = four_from(bytes, at, powers, width);
-        first.copy_to_slice(&mut words[8 * i..]);
-        let second = four_from(bytes, at + 4 * width as usize, powers, width);
-        second.copy_to_slice(&mut words[8 * i + 4..]);
+        let eight = eight_from(bytes, at, width).cast::<u32>();
+        eight.copy_to_slice(&mut words[8 * i..]);
         at += 8 * width as usize;
+    }
+}
+
+/// As `words_from`, for words of eight bits, four at a time.
+#[inline(always)]
+fn bytes_from(bytes: &[u8], at: usize, words: &mut [u32])
+    requires fours { length words.old % 4 ≡ 0 }
+    requires few { length words.old ≤ 64 }
+    requires within { at + length words.old * 8 ≤ most_waiting }
+    requires room { buffer_len ≤ length bytes.now }
+    ensures fit { All (λ v. v < 2 ^ 8) words.new }
+    ensures bits { flat_map (word 8) words.new
+        ≡ take (length words.new * 8) (drop at (bits_of bytes.now)) }
+{
+    let powers = powers_of(8);
+    let mut at = at;
+    for i in 0..words.len() / 4 {
+        let four = four_from(bytes, at, powers, 8);
+        four.copy_to_slice(&mut words[4 * i..]);
+        at += 32;
     }
 }
 

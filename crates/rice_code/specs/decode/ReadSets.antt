@@ -1,6 +1,7 @@
 -- What a reader took of a coded data set.
-use Rattle.std.specs.Prelude.{◌≡◌, ℕ, ◌+◌, ◌*◌, ◌/◌, ◌^◌, ◌<◌, ◌≤◌, Bool, true, false, List, [], ◌∷◌, ◌++◌, All, length, flat_map, Option, Some, None, ⊤}
+use Rattle.std.specs.Prelude.{◌≡◌, ℕ, ◌+◌, ◌/◌, ◌^◌, ◌<◌, ◌≤◌, Bool, true, false, List, [], ◌∷◌, ◌++◌, All, length, flat_map, Option, Some, None, ⊤}
 use Rattle.rice_bits.specs.Bits.{word, fundamental_sequence}
+use Rattle.rice_bits.specs.read.Parts.{joined_parts}
 use Rattle.rice_bits.specs.read.Reader.{Reader, Takes, Stops}
 use Rattle.rice_bits.specs.declared.read.fault.BitFault.{BitFault}
 use Rattle.rice_samples.specs.Parameters.{Parameters}
@@ -10,12 +11,6 @@ use Rattle.rice_code.specs.declared.decode.options.BlockHead.{BlockHead}
 use Rattle.rice_code.specs.declared.decode.options.SetHead.{SetHead}
 use Rattle.rice_code.specs.declared.decode.options.SetHead.TheVariants.{Residuals, Zeros}
 use Rattle.rice_code.specs.code.Forms.{IsForm, IsBlock, IsZeroAtReference, RunIsSound, ResidualsAreSound, AllFit, blocks_in}
-
--- high parts and low parts of k bits, joined
-abbrev pub joined_parts : ℕ → List ℕ → List ℕ → List ℕ
-joined_parts k [] lows = []
-joined_parts k (m ∷ ms) [] = []
-joined_parts k (m ∷ ms) (l ∷ ls) = (m * 2 ^ k + l) ∷ joined_parts k ms ls
 
 -- A reader took the fundamental sequences of the high parts of `count` residuals, and then their low parts, words of k bits.
 -- `small` says that no high part is above `most`: then the residuals are these.

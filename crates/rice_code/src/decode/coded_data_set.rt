@@ -51,6 +51,7 @@ fn read_low<I: Intake>(
 }
 
 /// Reads all bits of one coded data set, and refuses none that has its form. `highs` is scratch space.
+#[inline(always)]
 pub fn read_set<I: Intake>(
     setting: &Setting,
     block: u64,

@@ -80,8 +80,68 @@ fn decode_set<I: Intake>(
     ensures err { IfErr result (StopsBy reader.old reader.new setting.now block) }
     ensures steps { AreCounted meter.old meter.new reader.old.taken reader.new.taken }
 {
+    // It is laid out for blocks of 8 and of 16.
     let (residuals, highs) = scratch.split_at_mut(64);
-    let residuals = &mut residuals[..setting.block() as usize];
+    match setting.block() {
+        8 => decode_with(
+            setting,
+            block,
+            p,
+            &mut residuals[..8],
+            highs,
+            reader,
+            meter,
+            samples,
+        ),
+        16 => decode_with(
+            setting,
+            block,
+            p,
+            &mut residuals[..16],
+            highs,
+            reader,
+            meter,
+            samples,
+        ),
+        size => decode_with(
+            setting,
+            block,
+            p,
+            &mut residuals[..size as usize],
+            highs,
+            reader,
+            meter,
+            samples,
+        ),
+    }
+}
+
+/// As `decode_set`, with a place for each residual, and with places for high parts.
+#[inline(always)]
+fn decode_with<I: Intake>(
+    setting: &Setting,
+    block: u64,
+    p: i64,
+    residuals: &mut [u32],
+    highs: &mut [u32],
+    reader: &mut BitReader<I>,
+    meter: &mut Meter,
+    samples: &mut ArrayVec<i64, 64>,
+) -> Result<(i64, u32), Result<Step, CodeFault>>
+    requires going { reader.old.refusal ≡ None }
+    requires room { HasRoom meter.old reader.old.taken }
+    requires p { IsSample setting.now p }
+    requires marked { reader.old.blank ≡ true }
+    requires size { length residuals.old ≡ setting.now.block }
+    requires highs { length highs.old ≡ 64 }
+    ensures ok { IfOk result (λ r. TakesSet reader.old reader.new meter.old meter.new
+        setting.now block p samples.new.items r.1) }
+    ensures last { IfOk result (λ r. (r.0 ≡ last_of p samples.new.items) ×
+        IsSample setting.now r.0 ×
+        (0 < r.1 → r.1 + 1 ≤ blocks_left setting.now block)) }
+    ensures err { IfErr result (StopsBy reader.old reader.new setting.now block) }
+    ensures steps { AreCounted meter.old meter.new reader.old.taken reader.new.taken }
+{
     match read_set(setting, block, reader, meter, residuals, highs) {
         Ok(
             SetHead::Residuals {

@@ -38,6 +38,7 @@ pub struct BlockHead {
 }
 
 /// Reads the reference sample of a block, if it has one.
+#[inline(always)]
 pub fn read_reference<I: Intake>(
     setting: &Setting,
     block: u64,
@@ -63,6 +64,7 @@ pub fn read_reference<I: Intake>(
 }
 
 /// Writes a 0 at the place of the reference sample, if there is one. Returns where the residuals that are sent begin.
+#[inline(always)]
 pub fn begin_residuals(reference: Option<u32>, residuals: &mut [u32]) -> usize
     requires { 0 < length residuals.old }
     ensures first { result ≡ length (reference_place reference) }
@@ -104,6 +106,7 @@ pub fn read_run<I: Intake>(
 }
 
 /// Reads a block that is not compressed.
+#[inline(always)]
 pub fn read_no_compression<I: Intake>(
     setting: &Setting,
     block: u64,

@@ -1,6 +1,6 @@
 //! Joins the parts of residuals, and says whether residuals are sound.
 ghost use Rattle.std.specs.Prelude.{◌≡◌, ℕ, ◌+◌, ◌-◌, ◌*◌, ◌/◌, ◌^◌, ◌<◌, ◌≤◌, true, false, List, length, slice_index, OnSome, All};
-ghost use Rattle.rice_code.specs.decode.ReadSets.{joined_parts};
+ghost use Rattle.rice_bits.specs.read.Parts.{joined_parts};
 
 /// Joins each high part with the low part of k bits at its place, and writes the residual there.
 #[inline(always)]
@@ -48,7 +48,7 @@ pub fn are_below(residuals: &[u32], count: u64) -> bool
 
 /// As `are_below`, with a loop over residuals of any number.
 #[inline(always)]
-fn each_is_below(residuals: &[u32], count: u64) -> bool
+pub fn each_is_below(residuals: &[u32], count: u64) -> bool
     requires { (0 < count) × (count ≤ 2 ^ 32) }
     ensures below { result ≡ true → All (λ d. d < count) residuals.now }
     ensures not_below { result ≡ false → All (λ d. d < count) residuals.now → ⊥ }

@@ -11,7 +11,7 @@ use arrayvec::ArrayVec;
 use rice_samples::{Setting, from_pattern, from_patterns, restore_all, restore_spread};
 
 /// Sets the length to `len`; the contents are unspecified.
-#[inline]
+#[inline(always)]
 fn set_len(samples: &mut ArrayVec<i64, 64>, len: usize)
     requires { len ≤ 64 }
     ensures { length samples.new.items ≡ len }
@@ -98,7 +98,8 @@ pub fn restore_block(
     ensures last { result ≡ last_of p samples.new.items }
     ensures sample { IsSample setting.now result }
 {
-    let size = setting.block() as usize;
+    let _block = setting.block();
+    let size = residuals.len();
     set_len(samples, size);
     write_block(
         setting,

@@ -203,20 +203,20 @@ words-joined width bits from at m k xs ys place first second =
     second ∙ ap (take (k * width)) (ap (λ a. drop a bits) place ∙ sym (drop-drop (m * width) from bits)) in
     flat_map-append (word width) xs ys ∙ ((λ j. first j ++ rest j) ∙ (sym (take-add (m * width) (k * width) (drop from bits)) ∙ ap (λ a. take a (drop from bits)) n))
 
--- four words more, which are written after the first `m`
-pub four-more : (width : ℕ) (bits : List Bool) (from at m : ℕ) (now four : List ℕ) → at ≡ from + m * width → length four ≡ 4 → m + 4 ≤ length now
+-- some words more, which are written after the first `m`
+pub words-written : (k width : ℕ) (bits : List Bool) (from at m : ℕ) (now words : List ℕ) → at ≡ from + m * width → length words ≡ k → m + k ≤ length now
     → flat_map (word width) (take m now) ≡ take (m * width) (drop from bits)
-    → flat_map (word width) four ≡ take (4 * width) (drop at bits)
-    → flat_map (word width) (take (m + 4) (put_chunk m now four)) ≡ take ((m + 4) * width) (drop from bits)
-four-more width bits from at m now four place len room before next =
-    ap (flat_map (word width)) (take_more_put_chunk m now four (m + 4) (omega (arith, len)) room) ∙ words-joined width bits from at m 4 (take m now) four place before next
+    → flat_map (word width) words ≡ take (k * width) (drop at bits)
+    → flat_map (word width) (take (m + k) (put_chunk m now words)) ≡ take ((m + k) * width) (drop from bits)
+words-written k width bits from at m now words place len room before next =
+    ap (flat_map (word width)) (take_more_put_chunk m now words (m + k) (omega (arith, len)) room) ∙ words-joined width bits from at m k (take m now) words place before next
 
-pub four-more-all : (P : ℕ → Type 0) (m : ℕ) (now four : List ℕ) → length four ≡ 4 → m + 4 ≤ length now
-    → All P (take m now) → All P four → All P (take (m + 4) (put_chunk m now four))
-four-more-all P m now four len room before next =
-    subst (All P) (sym (take_more_put_chunk m now four (m + 4) (omega (arith, len)) room)) (All-append P (take m now) four before next)
+pub all-written : (P : ℕ → Type 0) (k m : ℕ) (now words : List ℕ) → length words ≡ k → m + k ≤ length now
+    → All P (take m now) → All P words → All P (take (m + k) (put_chunk m now words))
+all-written P k m now words len room before next =
+    subst (All P) (sym (take_more_put_chunk m now words (m + k) (omega (arith, len)) room)) (All-append P (take m now) words before next)
 
-words-front : (width n : ℕ) (xs : List ℕ) → n ≤ length xs → flat_map (word width) (take n xs) ≡ take (n * width) (flat_map (word width) xs)
+pub words-front : (width n : ℕ) (xs : List ℕ) → n ≤ length xs → flat_map (word width) (take n xs) ≡ take (n * width) (flat_map (word width) xs)
 words-front width n xs h =
     let front = flat_map (word width) (take n xs) in
     let len : length front ≡ n * width = length-words width (take n xs) ∙ ap (λ k. k * width) (length-take-le n xs h) in
@@ -378,3 +378,11 @@ window-front w at r xs rest h near e short place =
     let front : xs ≡ take n (window_bits w) =
     sym (take-append_seam xs rest) ∙ (ap (take n) (sym e ∙ near) ∙ (take-append-le n (take (bits_near w) (window_bits w)) _ short ∙ take-take n (bits_near w) (window_bits w) few)) in
     window-passes w at n xs h place (omega (arith, there)) (front ∙ front-waits w n (omega (arith, there)))
+
+-- bits are taken, and then others
+pub passes-append : (old mid new : Window) (xs ys : List Bool) → Passes old mid xs → Passes mid new ys → Passes old new (xs ++ ys)
+passes-append old mid new xs ys p q = record {
+  split = p.split ∙ (ap (λ z. xs ++ z) q.split ∙ sym (append_assoc xs ys (window_bits new)));
+  passed = q.passed ∙ (ap (λ z. z ++ ys) p.passed ∙ append_assoc (window_passed old) xs ys);
+  taken = omega (arith, p.taken, q.taken, length-append xs ys);
+}

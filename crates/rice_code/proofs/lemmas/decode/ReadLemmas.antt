@@ -1,5 +1,5 @@
 -- What is read of a block after its identifier.
-use Rattle.std.proofs.Common.{◌≡◌, ℕ, zero, suc, ◌+◌, ◌-◌, ◌*◌, ◌/◌, ◌%◌, ◌^◌, ◌<◌, ◌≤◌, Bool, true, false, List, [], ◌∷◌, ◌++◌, length, refl, sym, ◌∙◌, ap, subst, arith, append_assoc, length-append, replicate, take, drop, length-drop, Option, Some, None, ◌⊎◌}
+use Rattle.std.proofs.Common.{◌≡◌, ℕ, zero, suc, ◌+◌, ◌-◌, ◌*◌, ◌/◌, ◌%◌, ◌^◌, ◌<◌, ◌≤◌, Bool, true, false, List, [], ◌∷◌, ◌++◌, length, refl, sym, ◌∙◌, ap, subst, arith, append_assoc, length-append, replicate, take, drop, length-drop, Option, Some, None, ◌⊎◌, inl, inr}
 use Rattle.std.specs.Prelude.{All, flat_map, is_some, slice_index, OnSome}
 use Rattle.std.proofs.lemmas.List.{append-nil, length-take, length-take-le}
 use Rattle.rice_bits.specs.Bits.{word, fundamental_sequence}
@@ -15,11 +15,13 @@ use Rattle.rice_samples.specs.blocks.Pairs.{pair_codes}
 use Rattle.rice_code.specs.code.CodedDataSets.{CodedDataSet, NoCompression, SecondExtension, Split, sent_residuals, sent_from, reference_bits, run_tail}
 use Rattle.rice_code.specs.code.Forms.{IsForm, IsReference, IsBlock}
 use Rattle.rice_code.specs.decode.Fields.{Row, CountRow, WordRow, PairRow, ones}
-use Rattle.rice_code.specs.decode.ReadSets.{BlockRead, BlockCut, PartsRead, PartsCut, reference_place, joined_parts, set_tail}
+use Rattle.rice_code.specs.decode.ReadSets.{BlockRead, BlockCut, PartsRead, PartsCut, reference_place, set_tail}
+use Rattle.rice_bits.specs.read.Parts.{TakesParts, joined_parts}
 use Rattle.rice_samples.proofs.lemmas.blocks.PairLemmas.{count_pairs}
 use Rattle.rice_bits.proofs.lemmas.read.WindowLemmas.{length-words}
 use Rattle.rice_code.proofs.lemmas.decode.FieldLemmas.{put_rest, ones-append, ones-zeros, ones-sequence, ones-sequences}
-use Rattle.rice_code.proofs.lemmas.decode.JoinedParts.{length-joined, high_pieces, low_pieces, highs_small, joined_highs}
+use Rattle.rice_code.proofs.lemmas.decode.JoinedParts.{high_pieces, highs_of_joined, joined_below, low_pieces, highs_small, joined_highs}
+use Rattle.rice_bits.proofs.lemmas.read.PartsLemmas.{length-joined}
 use Rattle.std.proofs.lemmas.Nat.{pow_pos}
 use borrow.Rule.Slice.PartMut.{put_mid}
 use Rattle.rice_code.proofs.lemmas.code.ReadInOneWay.{after_reference}
@@ -229,6 +231,30 @@ parts_read old mid new most k small count told lows residuals high low joined = 
   told = λ e. ((high.told_are e).1, joined e ∙ (ap (λ xs. joined_parts k xs lows) (high.told_are e).0 ∙ ap (joined_parts k high.values) low.appended));
   refused = high.refused;
 }
+
+-- high and low parts that waited together
+pub parts_waited : {I : Type 0} (old new : Reader I) (most k : ℕ) (small : Bool) (residuals : List ℕ) → TakesParts old new k residuals
+    → (small ≡ true → (63 ≤ most) ⊎ All (λ d. d < (most + 1) * 2 ^ k) residuals) → (small ≡ false → All (λ d. d < (most + 1) * 2 ^ k) residuals → ⊥)
+    → PartsRead old new most k small (length residuals) residuals
+parts_waited old new most k small residuals t below not_below =
+    let p = t.parts in
+    let same : length t.lows ≡ length t.highs = p.as_many_lows ∙ sym p.as_many_highs in
+    record {
+      highs = t.highs;
+      lows = t.lows;
+      as_many_highs = p.as_many_highs;
+      as_many_lows = p.as_many_lows;
+      low = p.low;
+      takes = t.takes;
+      told = λ e. (
+        elim (below e) [
+          | inl many ↦ λ i d lt. omega (arith, many, p.few i d lt)
+          | inr all ↦ highs_of_joined k most t.highs t.lows same p.low (subst (All (λ d. d < (most + 1) * 2 ^ k)) p.joined all)
+        ],
+        p.joined,
+      );
+      refused = λ e highs. not_below e (subst (All (λ d. d < (most + 1) * 2 ^ k)) (sym p.joined) (joined_below k most t.highs t.lows same p.low highs));
+    }
 
 ones-high : (k : ℕ) (ds : List ℕ) → ones (flat_map (λ d. fundamental_sequence (d / 2 ^ k)) ds) ≡ length ds
 ones-high k [] = refl

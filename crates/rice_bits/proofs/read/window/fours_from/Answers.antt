@@ -4,7 +4,7 @@ use Rattle.std.proofs.lemmas.List.Elements.{All-append, All-take}
 use Rattle.std.specs.Simd.Lanes.{put_chunk}
 use Rattle.std.proofs.lemmas.Simd.{length-put_chunk}
 use Rattle.rice_bits.specs.Bits.{word, bits_of}
-use Rattle.rice_bits.proofs.lemmas.read.WindowLemmas.{four-more, four-more-all, fours-last, words-last}
+use Rattle.rice_bits.proofs.lemmas.read.WindowLemmas.{words-written, all-written, fours-last, words-last}
 use Rattle.rice_bits.proofs.read.window.fours_from.Goals as goal
 
 pub loop-i-preserved : goal.loop-i-preserved
@@ -19,9 +19,9 @@ loop-i-preserved c =
     record {
       len = length-put_chunk at l.words four ∙ l.invariant.len;
       fit = subst (λ m. All (λ d. d < 2 ^ w) (take m (put_chunk at l.words four))) n
-          (four-more-all (λ d. d < 2 ^ w) at l.words four c.four_from-four.ensures.len room l.invariant.fit c.four_from-four.ensures.fit);
+          (all-written (λ d. d < 2 ^ w) 4 at l.words four c.four_from-four.ensures.len room l.invariant.fit c.four_from-four.ensures.fit);
       bits = subst (λ m. flat_map (word w) (take m (put_chunk at l.words four)) ≡ take (m * w) (drop c.args.at bits)) n
-          (four-more w bits c.args.at (c.args.at + at * w) at l.words four refl c.four_from-four.ensures.len room l.invariant.bits c.four_from-four.ensures.bits);
+          (words-written 4 w bits c.args.at (c.args.at + at * w) at l.words four refl c.four_from-four.ensures.len room l.invariant.bits c.four_from-four.ensures.bits);
     }
 
 pub returns-clause-fit : goal.returns-clause-fit

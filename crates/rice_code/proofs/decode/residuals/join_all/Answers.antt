@@ -1,7 +1,8 @@
 use Rattle.std.proofs.Common.{arith, sym, ◌∙◌}
 use Rattle.std.proofs.lemmas.List.{take_all}
-use Rattle.rice_code.specs.decode.ReadSets.{joined_parts}
-use Rattle.rice_code.proofs.lemmas.decode.JoinedParts.{join-more, length-joined}
+use Rattle.rice_bits.specs.read.Parts.{joined_parts}
+use Rattle.rice_code.proofs.lemmas.decode.JoinedParts.{join-more}
+use Rattle.rice_bits.proofs.lemmas.read.PartsLemmas.{length-joined}
 use Rattle.rice_code.proofs.decode.residuals.join_all.Goals as goal
 
 pub overflow_add-lows : goal.overflow_add-lows

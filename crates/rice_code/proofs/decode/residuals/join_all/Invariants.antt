@@ -1,5 +1,5 @@
 use Rattle.std.proofs.Common.{◌≡◌, take, drop}
-use Rattle.rice_code.specs.decode.ReadSets.{joined_parts}
+use Rattle.rice_bits.specs.read.Parts.{joined_parts}
 use Rattle.rice_code.proofs.decode.residuals.join_all.Given as goal
 
 abbrev pub invariant-loop-i : goal.invariant-loop-i

@@ -1,7 +1,7 @@
 use Rattle.std.proofs.Common.{arith, ◌≡◌, ◌∙◌, length, subst, sym, true, false}
 use Rattle.rice_code.specs.decode.Fields.{CountRow}
 use Rattle.rice_code.proofs.lemmas.decode.ReadLemmas.{parts_read, parts_cut_high, parts_cut_low}
-use Rattle.rice_code.proofs.decode.parts.read_parts_of.Goals as goal
+use Rattle.rice_code.proofs.decode.parts.read_rows_of.Goals as goal
 
 pub returns-in-Err-clause-err : goal.returns-in-Err-clause-err
 returns-in-Err-clause-err g c =

@@ -2,7 +2,7 @@ use Rattle.std.proofs.Common.{arith, rules, w64}
 use Rattle.std.proofs.lemmas.Int.{to_z-of_z}
 use mir.Val.{SFits}
 use Rattle.rice_code.proofs.lemmas.decode.DecoderLemmas.{run_given, stops_by}
-use Rattle.rice_code.proofs.decode.decoder.decode_set.Goals as goal
+use Rattle.rice_code.proofs.decode.decoder.decode_with.Goals as goal
 
 pub returns-else-not-sound-clause-last : goal.returns-else-not-sound-clause-last
 returns-else-not-sound-clause-last g c =

@@ -1,0 +1,15 @@
+use Rattle.std.proofs.Common.{◌≡◌, ap, ◌∙◌, refl, None}
+use Rattle.rice_bits.proofs.lemmas.read.Drawing.{draws-waiting}
+use Rattle.rice_bits.proofs.lemmas.read.ReaderLemmas.{takes_passed}
+use Rattle.rice_bits.proofs.read.reader.BitReader.take_waiting_parts.Goals as goal
+
+pub returns-clause-takes : goal.returns-clause-takes
+returns-clause-takes g c e =
+    let none : c.self.inside.refusal ≡ None = ap (λ r. r.refusal) c.self.view_is ∙ c.requires.going in
+    let p = c.take_parts-taken.ensures.passes e in
+    record {
+      highs = p.highs;
+      lows = p.lows;
+      parts = p.parts;
+      takes = rw (← c.self.view_is) (takes_passed _ _ _ _ c.self.inside.window _ _ _ _ (draws-waiting _ _ _ _ p.passes.split) refl refl none refl p.passes);
+    }
