@@ -10,7 +10,7 @@ use crate::run::run;
 use crate::same_file::{FileId, known_id, names_source};
 use clap::error::ErrorKind;
 use clap::{ArgMatches, Error};
-use rice_bits::{FromReader, FromWriter};
+use rice_bits::{FromBufWriter, FromReader};
 use rice_stream::Fault;
 use std::alloc::AllocGlobal;
 use std::fmt::Display;
@@ -134,11 +134,11 @@ fn finish<R: Runtime + AllocGlobal, S: Read + Drop, W: Write + Drop>(
     rt: &R,
     plan: &Plan<'_>,
     source: S,
-    mut writer: BufWriter<W>,
+    writer: BufWriter<W>,
 ) -> u8 {
-    let mut outlet = FromWriter::new(&mut writer);
+    let mut outlet = FromBufWriter::new(writer);
     let (outcome, _) = run(plan, FromReader::new(source), &mut outlet);
-    let flushed = writer.flush();
+    let flushed = outlet.into_inner().flush();
     match outcome.fault {
         Some(fault) => complain(rt, fault, exit_status(&outcome)),
         None if flushed.is_err() => complain(rt, Fault::Write, FAILURE),

@@ -1,4 +1,5 @@
 -- What contracts see of the devices that give and take bytes.
+pub mod Buffered
 pub mod Device
 pub mod Memory
 pub mod Outlet

@@ -1,8 +1,8 @@
 use rice_bits::{
-    BitFault, BitReader, BitSink, FromReader, FromWriter, Intake, MemoryIn, MemoryOut, Meter,
-    Outlet, ReadFault, SliceIn, SliceOut, WriteFault, ZeroIn, join,
+    BitFault, BitReader, BitSink, FromBufWriter, FromReader, FromWriter, Intake, MemoryIn,
+    MemoryOut, Meter, Outlet, ReadFault, SliceIn, SliceOut, WriteFault, ZeroIn, join,
 };
-use std::io::{self, ErrorKind, Read, Write};
+use std::io::{self, BufWriter, ErrorKind, Read, Write};
 use std::test::Fail;
 
 /// The sizes of pieces that each reading is tried with.
@@ -329,6 +329,19 @@ fn devices_over_writers(rt: HostRuntime) -> Result<(), Fail> {
     assert_eq!(rt; outlet.failures(), 1);
     drop(outlet);
     assert_eq!(rt; room, [1, 2]);
+    Ok(())
+}
+
+#[test]
+fn devices_over_buffers(rt: HostRuntime) -> Result<(), Fail> {
+    let behind = FailingWriter { bytes_before: 2 };
+    let mut outlet = FromBufWriter::new(BufWriter::with_capacity(rt.alloc(), 4, behind)?);
+    assert_eq!(rt; outlet.put(&[1, 2]), Ok(2));
+    assert_eq!(rt; outlet.put(&[3, 4, 5]), Ok(3));
+    assert_eq!(rt; outlet.put(&[6]), Ok(1));
+    assert_eq!(rt; outlet.put(&[7]), Err(WriteFault));
+    assert_eq!(rt; outlet.failures(), 1);
+    assert_eq!(rt; outlet.into_inner().buffer(), &[3, 4, 5, 6]);
     Ok(())
 }
 
