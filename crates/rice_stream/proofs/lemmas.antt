@@ -6,6 +6,7 @@ pub mod DecodingEnds
 pub mod DecodingLemmas
 pub mod EncodingEnds
 pub mod EncodingLemmas
+pub mod HeldBlocks
 pub mod PartLemmas
 pub mod ReturnedBytes
 pub mod Seams

@@ -1,10 +1,13 @@
 //! Decodes a code to its samples.
-ghost use Rattle.std.specs.Prelude.{ℕ, length, ◌≡◌, ◌+◌, ◌-◌, ◌*◌, ◌^◌, ◌<◌, ◌≤◌, Option, Some};
+ghost use Rattle.std.specs.Prelude.{ℕ, length, ◌≡◌, ◌+◌, ◌-◌, ◌*◌, ◌^◌, ◌<◌, ◌≤◌, Option, None, Some, Ok, true};
+ghost use Rattle.rice_code.specs.decode.Decoder.{Answers, GivesFromRun, Repeats, RepeatsSamples, with_mark};
+ghost use Rattle.rice_code.specs.decode.Fields.{AreCounted};
+ghost use Rattle.rice_code.specs.declared.decode.fault.Step.TheVariants.{Block};
 ghost use Rattle.rice_stream.specs.Calls.{Call, Happens, Fails};
 ghost use Rattle.rice_stream.specs.Decodes.{Decodes, DecodesWithin, Reports, wanted_of, ended_fault, refusal_fault};
 
 use crate::outcome::{Fault, Outcome, Report};
-use crate::write::write_samples;
+use crate::write::write_block;
 use arrayvec::ArrayVec;
 use rice_bits::{BitReader, Intake, Meter, Outlet};
 use rice_code::{CodeFault, Decoder, Step};
@@ -96,6 +99,60 @@ pub fn decode<I: Intake, O: Outlet>(
     }
 }
 
+/// Returns whether all of the block that is held is wanted.
+fn is_whole(held: bool, count: usize, block: u32) -> bool
+    ensures { result ≡ true → (held ≡ true) × (count ≡ block) }
+{
+    held && count == block as usize
+}
+
+/// Restores the samples of the next block. They stand there already if `again` is set.
+#[inline(always)]
+fn next_block<I: Intake>(
+    decoder: &mut Decoder,
+    again: bool,
+    reader: &mut BitReader<I>,
+    meter: &mut Meter,
+    samples: &mut ArrayVec<i64, 64>,
+) -> Result<Step, CodeFault>
+    requires stopped { decoder.old.stopped ≡ None }
+    requires going { reader.old.refusal ≡ None }
+    requires room { meter.old + 2 * (2 ^ 52 - reader.old.taken) + 64 < 2 ^ 62 }
+    requires again { again ≡ true → RepeatsSamples decoder.old samples.old.items }
+    ensures in_run { decoder.old.stopped ≡ None → 0 < decoder.old.run →
+        (result ≡ Ok Block) × GivesFromRun decoder.old decoder.new samples.new.items ×
+        (reader.new ≡ reader.old) × (meter.new ≡ meter.old) }
+    ensures reads { decoder.old.stopped ≡ None → decoder.old.run ≡ 0 →
+        Answers (with_mark reader.old) reader.new meter.old meter.new
+        decoder.old decoder.new samples.new.items result }
+    ensures going { decoder.new.stopped ≡ None → reader.new.refusal ≡ None }
+    ensures block { result ≡ Ok Block → decoder.new.stopped ≡ None }
+    ensures setting { decoder.new.setting ≡ decoder.old.setting }
+    ensures steps { AreCounted meter.old meter.new reader.old.taken reader.new.taken }
+    ensures waiting { length samples.new.items + decoder.new.run * decoder.new.setting.block
+        ≤ decoder.old.run * decoder.old.setting.block + 456 * (reader.new.taken - reader.old.taken) }
+    ensures again { again ≡ true → (samples.new.items ≡ samples.old.items) ×
+        Repeats decoder.new samples.new.items }
+{
+    let _taken = reader.taken();
+    if again {
+        decoder.repeat_block();
+        return Ok(Step::Block);
+    }
+    decoder.next_block(reader, meter, samples)
+}
+
+/// Returns whether the next block has just these samples, of which `count` are written.
+fn stays(decoder: &Decoder, again: bool, samples: &[i64], count: usize) -> bool
+    requires again { again ≡ true → Repeats decoder.now samples.now × (count ≡ length samples.now) }
+    ensures { result ≡ true → RepeatsSamples decoder.now samples.now × (count ≡ length samples.now) }
+{
+    if again {
+        return decoder.waiting() > 0;
+    }
+    decoder.repeats(samples) && count == samples.len()
+}
+
 /// Decodes, whatever is asked for.
 #[inline(always)]
 fn decode_blocks<I: Intake, O: Outlet>(
@@ -123,12 +180,15 @@ fn decode_blocks<I: Intake, O: Outlet>(
     // Declared here, and not where it is filled, so that it is not cleared for each block.
     let mut bytes = [0; 256];
     let mut written = 0u64;
+    // Whether `samples` and `bytes` hold the block that comes next.
+    let mut held = false;
     'decode_all: loop {
         let count = wanted(asked, written, block);
         if count == 0 {
             return ended(None, written, reader, &meter);
         }
-        let step = match decoder.next_block(&mut reader, &mut meter, &mut samples) {
+        let again = is_whole(held, count, block);
+        let step = match next_block(&mut decoder, again, &mut reader, &mut meter, &mut samples) {
             Ok(step) => step,
             Err(fault) => {
                 let fault = fault_of(fault, written, block);
@@ -140,10 +200,11 @@ fn decode_blocks<I: Intake, O: Outlet>(
             Step::Done => return ended(end_of(asked, written), written, reader, &meter),
         }
         let block_samples = &samples.as_slice()[..count];
-        match write_samples(setting, block_samples, &mut bytes, outlet) {
+        match write_block(setting, again, block_samples, &mut bytes, outlet) {
             Ok(()) => {}
             Err(_) => return ended(Some(Fault::Write), written, reader, &meter),
         }
+        held = stays(&decoder, again, samples.as_slice(), count);
         written += count as u64;
         meter.tick(count as u64);
     }

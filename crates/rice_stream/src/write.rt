@@ -1,16 +1,36 @@
 //! Writing all bytes of a slice, of a sink, or of samples.
-ghost use Rattle.std.specs.Prelude.{◌≡◌, ℕ, ◌+◌, ◌*◌, ◌^◌, ◌<◌, ◌≤◌, All, length, drop, OnOk, OnErr};
+ghost use Rattle.std.specs.Prelude.{◌≡◌, ℕ, ◌+◌, ◌*◌, ◌^◌, ◌<◌, ◌≤◌, All, true, length, drop, OnOk, OnErr};
 ghost use Rattle.rice_bits.specs.device.Outlet.{Appends};
 ghost use Rattle.rice_bits.specs.Bits.{whole_bytes, bits_in_bytes};
 ghost use Rattle.rice_samples.specs.Parameters.{IsSample, width};
 ghost use Rattle.rice_samples.specs.bytes.Spelling.{spellings};
-ghost use Rattle.rice_stream.specs.Writes.{TakesPart};
+ghost use Rattle.rice_stream.specs.Writes.{TakesPart, Spells};
 
 use rice_bits::{BitSink, Outlet, WriteFault};
 use rice_samples::{Setting, write_spellings};
 
 /// Writes all of the bytes. `WriteFault` only if the outlet fails, which has then taken a part of them, and not all.
+#[inline(always)]
 pub fn write_all<O: Outlet>(outlet: &mut O, bytes: &[u8]) -> Result<(), WriteFault>
+    requires { O.failed outlet.old + 1 < 2 ^ 64 }
+    ensures ok { OnOk result (Appends (O.taken outlet.old) (O.taken outlet.new) bytes.now ×
+        (O.failed outlet.new ≡ O.failed outlet.old)) }
+    ensures err { OnErr result (TakesPart (O.taken outlet.old) (O.taken outlet.new) bytes.now ×
+        (O.failed outlet.new ≡ O.failed outlet.old + 1)) }
+{
+    if bytes.is_empty() {
+        return Ok(());
+    }
+    match outlet.put(bytes) {
+        Ok(count) if count == bytes.len() => Ok(()),
+        Ok(count) => write_rest(outlet, &bytes[count..]),
+        Err(fault) => Err(fault),
+    }
+}
+
+/// Writes all of the bytes, in as many calls as it takes.
+#[inline(never)]
+fn write_rest<O: Outlet>(outlet: &mut O, bytes: &[u8]) -> Result<(), WriteFault>
     requires { O.failed outlet.old + 1 < 2 ^ 64 }
     ensures ok { OnOk result (Appends (O.taken outlet.old) (O.taken outlet.new) bytes.now ×
         (O.failed outlet.new ≡ O.failed outlet.old)) }
@@ -49,9 +69,50 @@ pub fn write_whole<const N: usize, O: Outlet>(
     }
 }
 
-/// Writes the bytes of the samples of a block. `bytes` is scratch space.
-#[inline]
-pub fn write_samples<O: Outlet>(
+/// Writes the bytes of the samples of a block, and leaves them in `bytes`. They stand there already if `again` is set.
+#[inline(always)]
+pub fn write_block<O: Outlet>(
+    setting: &Setting,
+    again: bool,
+    samples: &[i64],
+    bytes: &mut [u8; 256],
+    outlet: &mut O,
+) -> Result<(), WriteFault>
+    requires legal { All (IsSample setting.now) samples.now }
+    requires few { length samples.now ≤ 64 }
+    requires counted { O.failed outlet.old + 1 < 2 ^ 64 }
+    requires again { again ≡ true → Spells setting.now samples.now bytes.old }
+    ensures ok { OnOk result (Appends (O.taken outlet.old) (O.taken outlet.new) (spellings setting.now samples.now) ×
+        (O.failed outlet.new ≡ O.failed outlet.old)) }
+    ensures err { OnErr result (TakesPart (O.taken outlet.old) (O.taken outlet.new) (spellings setting.now samples.now) ×
+        (O.failed outlet.new ≡ O.failed outlet.old + 1)) }
+    ensures spelled { Spells setting.now samples.now bytes.new }
+{
+    if again {
+        return write_front(&bytes[..setting.width() as usize * samples.len()], outlet);
+    }
+    write_samples(setting, samples, bytes, outlet)
+}
+
+/// Writes all of the bytes, which are those of a block.
+#[inline(always)]
+fn write_front<O: Outlet>(bytes: &[u8], outlet: &mut O) -> Result<(), WriteFault>
+    requires { O.failed outlet.old + 1 < 2 ^ 64 }
+    ensures ok { OnOk result (Appends (O.taken outlet.old) (O.taken outlet.new) bytes.now ×
+        (O.failed outlet.new ≡ O.failed outlet.old)) }
+    ensures err { OnErr result (TakesPart (O.taken outlet.old) (O.taken outlet.new) bytes.now ×
+        (O.failed outlet.new ≡ O.failed outlet.old + 1)) }
+{
+    match bytes.len() {
+        8 => write_all(outlet, &bytes[..8]),
+        16 => write_all(outlet, &bytes[..16]),
+        _ => write_all(outlet, bytes),
+    }
+}
+
+/// Writes the bytes of the samples, and leaves them in `bytes`.
+#[inline(always)]
+fn write_samples<O: Outlet>(
     setting: &Setting,
     samples: &[i64],
     bytes: &mut [u8; 256],
@@ -64,8 +125,73 @@ pub fn write_samples<O: Outlet>(
         (O.failed outlet.new ≡ O.failed outlet.old)) }
     ensures err { OnErr result (TakesPart (O.taken outlet.old) (O.taken outlet.new) (spellings setting.now samples.now) ×
         (O.failed outlet.new ≡ O.failed outlet.old + 1)) }
+    ensures spelled { Spells setting.now samples.now bytes.new }
 {
-    let spelled = &mut bytes[..setting.width() as usize * samples.len()];
-    write_spellings(setting, samples, spelled);
+    // Laid out for the blocks that are written most: a length that is known is copied at one stroke.
+    match (setting.width(), samples.len()) {
+        (1, 8) => write_sized(setting, samples, 8, 8, bytes, outlet),
+        (1, 16) => write_sized(setting, samples, 16, 16, bytes, outlet),
+        (2, 8) => write_sized(setting, samples, 8, 16, bytes, outlet),
+        (2, 16) => write_sized(setting, samples, 16, 32, bytes, outlet),
+        _ => write_other_samples(setting, samples, bytes, outlet),
+    }
+}
+
+/// Writes the bytes of the samples, apart from the blocks that are written most.
+#[inline(never)]
+fn write_other_samples<O: Outlet>(
+    setting: &Setting,
+    samples: &[i64],
+    bytes: &mut [u8; 256],
+    outlet: &mut O,
+) -> Result<(), WriteFault>
+    requires legal { All (IsSample setting.now) samples.now }
+    requires few { length samples.now ≤ 64 }
+    requires counted { O.failed outlet.old + 1 < 2 ^ 64 }
+    ensures ok { OnOk result (Appends (O.taken outlet.old) (O.taken outlet.new) (spellings setting.now samples.now) ×
+        (O.failed outlet.new ≡ O.failed outlet.old)) }
+    ensures err { OnErr result (TakesPart (O.taken outlet.old) (O.taken outlet.new) (spellings setting.now samples.now) ×
+        (O.failed outlet.new ≡ O.failed outlet.old + 1)) }
+    ensures spelled { Spells setting.now samples.now bytes.new }
+{
+    match (setting.width(), samples.len()) {
+        (1, 64) => write_sized(setting, samples, 64, 64, bytes, outlet),
+        (3, 8) => write_sized(setting, samples, 8, 24, bytes, outlet),
+        (width, count) => {
+            write_sized(
+                setting,
+                samples,
+                count,
+                width as usize * count,
+                bytes,
+                outlet,
+            )
+        }
+    }
+}
+
+/// Writes the bytes of the samples, and leaves them in `bytes`. There are `count` samples, which take `len` bytes.
+#[inline(always)]
+fn write_sized<O: Outlet>(
+    setting: &Setting,
+    samples: &[i64],
+    count: usize,
+    len: usize,
+    bytes: &mut [u8; 256],
+    outlet: &mut O,
+) -> Result<(), WriteFault>
+    requires legal { All (IsSample setting.now) samples.now }
+    requires count { length samples.now ≡ count }
+    requires len { width setting.now * length samples.now ≡ len }
+    requires few { len ≤ 256 }
+    requires counted { O.failed outlet.old + 1 < 2 ^ 64 }
+    ensures ok { OnOk result (Appends (O.taken outlet.old) (O.taken outlet.new) (spellings setting.now samples.now) ×
+        (O.failed outlet.new ≡ O.failed outlet.old)) }
+    ensures err { OnErr result (TakesPart (O.taken outlet.old) (O.taken outlet.new) (spellings setting.now samples.now) ×
+        (O.failed outlet.new ≡ O.failed outlet.old + 1)) }
+    ensures spelled { Spells setting.now samples.now bytes.new }
+{
+    let spelled = &mut bytes[..len];
+    write_spellings(setting, &samples[..count], spelled);
     write_all(outlet, spelled)
 }

@@ -163,6 +163,28 @@ fn waiting_samples(rt: HostRuntime) -> Result<(), Fail> {
     Ok(())
 }
 
+/// A run's next block is passed over where its samples are known.
+#[test]
+fn repeated_samples(rt: HostRuntime) -> Result<(), Fail> {
+    let mut reader = BitReader::new(MemoryIn::new(&[0x00, 0x00, 0x80], 4096, None));
+    let mut decoder = Decoder::new(setting_of("")?);
+    let mut meter = Meter::new();
+    let mut block = ArrayVec::new();
+    assert_eq!(rt; decoder.repeats(&[0; 8]), false);
+    assert_eq!(rt;
+        decoder.next_block(&mut reader, &mut meter, &mut block),
+        Ok(Step::Block)
+    );
+    assert_eq!(rt; decoder.repeats(&[0, 0, 0, 0, 0, 0, 0, 1]), false);
+    if decoder.repeats(block.as_slice()) {
+        decoder.repeat_block();
+    }
+    assert_eq!(rt; decoder.waiting(), 0);
+    assert_eq!(rt; decoder.repeats(block.as_slice()), false);
+    assert_eq!(rt; meter.steps(), 17);
+    Ok(())
+}
+
 /// Of the search for the sum of a pair each turn is a step.
 #[test]
 fn steps_of_second_extension(rt: HostRuntime) -> Result<(), Fail> {

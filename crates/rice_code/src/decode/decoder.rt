@@ -198,6 +198,18 @@ fn skip_padding<I: Intake>(
     }
 }
 
+/// Returns whether each of the samples is `value`.
+fn are_all(samples: &[i64], value: i64) -> bool
+    ensures { result ≡ true → samples.now ≡ replicate (length samples.now) value }
+{
+    for i in 0..samples.len() {
+        if samples[i] != value {
+            return false;
+        }
+    }
+    true
+}
+
 /// Decodes coded data sets, a block a call.
 ///
 /// It takes 560 bytes of memory. In contracts its value is its state: the setting, the place of the next block, the
@@ -224,7 +236,7 @@ impl Model for Decoder {
 }
 
 impl Decoder {
-    ghost use Rattle.rice_code.specs.decode.Decoder.{Answers, GivesFromRun, with_mark};
+    ghost use Rattle.rice_code.specs.decode.Decoder.{Answers, GivesFromRun, RepeatsSamples, with_mark};
     ghost use Rattle.rice_code.specs.declared.decode.fault.Step.TheVariants.{Block};
 
     /// Returns a decoder at the beginning of a code.
@@ -248,6 +260,33 @@ impl Decoder {
         ensures { result ≡ self.now.run * self.now.setting.block }
     {
         self.run as u64 * self.setting.block() as u64
+    }
+
+    /// Returns whether the next block is in a run, and is known to have just these samples. Without preprocessing none is known to.
+    pub fn repeats(&self, samples: &[i64]) -> bool
+        ensures { result ≡ true → RepeatsSamples self.now samples.now }
+    {
+        self.run > 0
+            && self.setting.preprocess()
+            && samples.len() == self.setting.block() as usize
+            && are_all(samples, self.before)
+    }
+
+    /// Goes past the next block of a run: each of its samples is the sample before it.
+    #[inline(always)]
+    pub fn repeat_block(&mut self)
+        requires run { 0 < self.old.run }
+        requires preprocess { self.old.setting.preprocess ≡ true }
+        ensures gives { GivesFromRun self.old self.new
+            (replicate self.old.setting.block self.old.before) }
+        ensures run { self.new.run + 1 ≡ self.old.run }
+        ensures before { self.new.before ≡ self.old.before }
+        ensures setting { self.new.setting ≡ self.old.setting }
+        ensures stopped { self.new.stopped ≡ self.old.stopped }
+    {
+        let next = next_place(&self.setting, self.block);
+        self.run -= 1;
+        self.block = next;
     }
 
     /// Restores the samples of the next block.

@@ -9,7 +9,7 @@ use crate::Setting;
 use crate::digits::{digits_of, store_word};
 
 /// Writes the spellings of the samples, `width()` bytes each, one after another.
-#[inline]
+#[inline(always)]
 pub fn write_spellings(setting: &Setting, samples: &[i64], bytes: &mut [u8])
     requires legal { All (IsSample setting.now) samples.now }
     requires len { length bytes.old ≡ width_of setting.now * length samples.now }

@@ -66,7 +66,7 @@ pub repeated_all : (s : Parameters) (i n : ℕ) (p : ℤ) → Repeats s p → re
 repeated_all s i zero p h = refl
 repeated_all s i (suc n) p h = let first = repeated s i p h in let rest = repeated_all s (i + 1) n p h in λ k. first k ∷ rest k
 
-repeated_block : (s : Parameters) (b : ℕ) (p : ℤ) → is_reference s b ≡ false → Repeats s p → block_data s b p (replicate s.block p) ≡ zero_block s None
+pub repeated_block : (s : Parameters) (b : ℕ) (p : ℤ) → is_reference s b ≡ false → Repeats s p → block_data s b p (replicate s.block p) ≡ zero_block s None
 repeated_block s b p e h =
     let r = ap (λ v. cond v (Some (pattern s (slice_index_or (replicate s.block p) 0 p))) None) e in
     let d = repeated_all s (s.block * b) s.block p h in

@@ -5,6 +5,8 @@ use Rattle.std.proofs.lemmas.Bool.Decides.{nat_tests}
 use Rattle.std.proofs.Math.Nat.{mod-eq_of_lt}
 use Rattle.std.proofs.Math.Nat.{mul-le-mul_left}
 use Rattle.std.proofs.lemmas.List.{length-replicate}
+use Rattle.std.proofs.lemmas.List.Elements.{All-replicate}
+use Rattle.rice_code.proofs.lemmas.code.Filling.{last_replicate, repeated_block}
 use Rattle.rice_bits.specs.Bits.{word, fundamental_sequence}
 use Rattle.rice_bits.proofs.lemmas.bits.Words.{length-word, length-fundamental_sequence}
 use Rattle.rice_code.proofs.lemmas.code.ReadInOneWay.{long_id}
@@ -105,6 +107,13 @@ goes_on s b next run p last stopped samples pos e f len legal says = record {
   gives = record { len = len; legal = legal; blocks_are = ap (λ c. c ∷ replicate (run - 1) (zero_block s None)) says ∙ replicate-first run (zero_block s None) pos };
   moves = λ i. record { setting = s; block = e i; before = f i; run = run - 1; stopped = stopped };
 }
+
+-- a block of a run repeats the sample before it
+pub repeats_on : (s : Parameters) (b next run : ℕ) (p : ℤ) (stopped : Option (Result Step CodeFault)) → IsDecoderState s b p run stopped → 0 < run → s.preprocess ≡ true → next ≡ next_block_place s b
+    → GivesFromRun (record { setting = s; block = b; before = p; run = run; stopped = stopped }) (record { setting = s; block = next; before = p; run = run - 1; stopped = stopped }) (replicate s.block p)
+repeats_on s b next run p stopped state pos ways e =
+    goes_on s b next run p p stopped (replicate s.block p) pos e (sym (last_replicate p s.block)) (length-replicate s.block p) (All-replicate (IsSample s) s.block p state.sample)
+    (repeated_block s b p (sym (no_reference s b (state.run_begun pos)).there) (inl ways))
 
 block_limit : (s : Parameters) → IsLegal s → s.block ≤ 64
 block_limit s legal = grind (arith, legal.block)

@@ -1,0 +1,19 @@
+use Rattle.std.proofs.Common.{arith, rules, ◌≡◌, ◌<◌, ◌-◌, ◌∙◌, ap, true}
+use Rattle.rice_code.proofs.lemmas.decode.DecoderLemmas.{place_moves, repeats_on}
+use Rattle.rice_code.proofs.decode.decoder.Decoder.repeat_block.Goals as goal
+
+pub invariant_of-self : goal.invariant_of-self
+invariant_of-self c =
+    let st = c.self.inside in
+    let i = c.self.invariant in
+    place_moves st.setting st.block c.next_place-next.result (st.run - 1) st.before st.stopped
+    i.legal i.within c.next_place-next.ensures i.sample (λ h. omega (arith, i.run_fits (omega arith))) i.no_block
+
+pub returns-clause-gives : goal.returns-clause-gives
+returns-clause-gives c =
+    let st = c.self.inside in
+    let run : st.run ≡ c.args.self.now.run = ap (λ p. p.run) c.self.view_is in
+    let pos : 0 < st.run = omega arith in
+    let preprocess : st.setting.preprocess ≡ true = ap (λ p. p.setting.preprocess) c.self.view_is ∙ c.requires.preprocess in
+    rw (← c.self.view_is)
+    (repeats_on st.setting st.block c.next_place-next.result st.run st.before st.stopped c.self.invariant pos preprocess c.next_place-next.ensures)
