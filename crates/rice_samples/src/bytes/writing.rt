@@ -24,6 +24,7 @@ pub fn write_spellings(setting: &Setting, samples: &[i64], bytes: &mut [u8])
         (1, msb, _) => write_words(setting, samples, 1, msb, bytes),
         (2, false, _) => write_words(setting, samples, 2, false, bytes),
         (2, true, _) => write_words(setting, samples, 2, true, bytes),
+        (3, false, _) => write_words(setting, samples, 3, false, bytes),
         (4, false, _) => write_words(setting, samples, 4, false, bytes),
         _ => write_others(setting, samples, bytes),
     }
@@ -36,10 +37,13 @@ fn write_others(setting: &Setting, samples: &[i64], bytes: &mut [u8])
     requires len { length bytes.old ≡ width_of setting.now * length samples.now }
     ensures { bytes.new ≡ spellings setting.now samples.now }
 {
-    match (setting.width(), setting.msb()) {
-        (3, false) => write_words(setting, samples, 3, false, bytes),
-        (width, msb) => write_words(setting, samples, width as usize, msb, bytes),
-    }
+    write_words(
+        setting,
+        samples,
+        setting.width() as usize,
+        setting.msb(),
+        bytes,
+    );
 }
 
 /// Writes the spellings with the bytes in the given order.
