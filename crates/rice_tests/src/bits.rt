@@ -341,7 +341,9 @@ fn devices_over_buffers(rt: HostRuntime) -> Result<(), Fail> {
     assert_eq!(rt; outlet.put(&[6]), Ok(1));
     assert_eq!(rt; outlet.put(&[7]), Err(WriteFault));
     assert_eq!(rt; outlet.failures(), 1);
-    assert_eq!(rt; outlet.into_inner().buffer(), &[3, 4, 5, 6]);
+    // The byte that failed is not in the buffer.
+    let waiting = outlet.into_inner();
+    assert_eq!(rt; waiting.buffer(), [3, 4, 5, 6].as_slice());
     Ok(())
 }
 
