@@ -52,7 +52,10 @@ pub fn choose(setting: &PreparedSetting, block: &HeldBlock<'_>, meter: &mut Mete
     let (k, split) = best_split(setting, block, meter);
     let no_compression = no_compression_cost(setting, block);
     // Residuals that are worth a split are so large that second extension is longer.
-    if 0 < k && k < setting.k_max() {
+    if 0 < k {
+        if k == setting.k_max() {
+            meter.tick(setting.block() as u64);
+        }
         if split < no_compression {
             return Choice::Split(k);
         }

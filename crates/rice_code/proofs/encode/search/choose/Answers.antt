@@ -35,8 +35,8 @@ returns-then-split-no_compression-clause-value c =
     (omega (arith, c.best_split-k.ensures.value, c.no_compression_cost-no_compression.ensures.value))
     (pairs_are_longer s c.args.block.now c.best_split-k.result.0 (s.block / 2) c.best_split-k.ensures.best (omega arith) (c.requires.sound.len ∙ n))
 
-pub returns-then-k-k_max-clause-value : goal.returns-then-k-k_max-clause-value
-returns-then-k-k_max-clause-value c =
+pub returns-then-k-gt0-clause-value : goal.returns-then-k-gt0-clause-value
+returns-then-k-gt0-clause-value c =
     let s = c.args.setting.now in
     let n : s.block ≡ 2 * (s.block / 2) = grind (arith, c.block-block.ensures.legal.block) in
     let long = pairs_are_longer s c.args.block.now c.best_split-k.result.0 (s.block / 2) c.best_split-k.ensures.best (omega arith) (c.requires.sound.len ∙ n) in
