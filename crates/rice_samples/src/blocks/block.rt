@@ -1,12 +1,12 @@
 //! Blocks of residuals, which are read only by calls that count their steps.
-ghost use Rattle.std.specs.Prelude.{◌≡◌, ℕ, ◌+◌, ◌*◌, ◌/◌, ◌^◌, ◌==◌, ◌<◌, ◌≤◌, min, length, slice_index, sum_by};
+ghost use Rattle.std.specs.Prelude.{◌≡◌, All, ℕ, ◌+◌, ◌*◌, ◌/◌, ◌^◌, ◌==◌, ◌<◌, ◌≤◌, min, length, slice_index, sum_by};
 ghost use Rattle.std.specs.List.{list_all};
 ghost use Rattle.rice_samples.specs.blocks.Pairs.{pair_codes};
 ghost use Rattle.rice_samples.specs.Parameters.{IsBlockSize};
 
-use crate::blocks::codewords::pair_sum;
-use crate::blocks::lanes::{all_zero, sum_shifted};
-use crate::blocks::minimum::first_stop;
+use crate::blocks::codewords::{pair_sum, tiny_pair_sum};
+use crate::blocks::lanes::{all_of, all_zero, sum_shifted};
+use crate::blocks::minimum::{first_small_stop, first_stop};
 use rice_bits::Meter;
 use std::marker::Model;
 
@@ -52,6 +52,16 @@ impl Block<'_> {
         self.items.len()
     }
 
+    /// Returns the same block, of a length that the compiler knows where it knows `size`.
+    #[inline(always)]
+    pub fn sized(&self, size: usize) -> Block<'_>
+        requires { length self.now ≡ size }
+        ensures { result ≡ self.now }
+    {
+        let items = self.items;
+        Block::of(all_of(items, size))
+    }
+
     /// Returns whether all residuals are 0.
     #[inline]
     pub fn is_zero(&self, meter: &mut Meter) -> bool
@@ -79,7 +89,7 @@ impl Block<'_> {
     ///
     /// A step here is a look of the definition, and bounds the looks taken: it ticks each residual once for each sum from
     /// `k = 0` up to the one after the result, if that is not above `limit`, though it may take fewer of these sums.
-    #[inline]
+    #[inline(always)]
     pub fn first_stop(&self, limit: u32, price: u64, meter: &mut Meter) -> (u32, u64)
         requires limit { limit ≤ 29 }
         requires price { price ≤ 64 }
@@ -95,9 +105,43 @@ impl Block<'_> {
     {
         let items = self.items;
         let (k, sum) = first_stop(items, limit, price);
-        let looks = (k + 1).min(limit) + 1;
-        meter.tick(items.len() as u64 * looks as u64);
+        self.tick_looks(k, limit, meter);
         (k, sum)
+    }
+
+    /// Does what `first_stop` does, for residuals that are so small that their sum is below 2^32.
+    #[inline(always)]
+    pub fn first_small_stop(&self, limit: u32, price: u64, meter: &mut Meter) -> (u32, u64)
+        requires small { All (λ d. d < 2 ^ 26) self.now }
+        requires limit { limit ≤ 29 }
+        requires price { price ≤ 64 }
+        requires meter { meter.old + length self.now * (limit + 1) < 2 ^ 62 }
+        ensures limit { result.0 ≤ limit }
+        ensures value { result.1 ≡ sum_by (λ d. d / 2 ^ result.0) self.now }
+        ensures size { result.1 < 2 ^ 32 }
+        ensures falls { (j : ℕ) → j < result.0 →
+            sum_by (λ d. d / 2 ^ (j + 1)) self.now + price < sum_by (λ d. d / 2 ^ j) self.now }
+        ensures stops { result.0 < limit → sum_by (λ d. d / 2 ^ result.0) self.now ≤
+            sum_by (λ d. d / 2 ^ (result.0 + 1)) self.now + price }
+        ensures steps { meter.new ≡ meter.old + length self.now * (min (result.0 + 1) limit + 1) }
+    {
+        let items = self.items;
+        let (k, sum) = first_small_stop(items, limit, price);
+        self.tick_looks(k, limit, meter);
+        (k, sum as u64)
+    }
+
+    /// Does what `pair_sum` does, for residuals that are all below 2^12.
+    #[inline(always)]
+    pub fn small_pair_sum(&self, meter: &mut Meter) -> u64
+        requires small { All (λ d. d < 2 ^ 12) self.now }
+        requires meter { meter.old + length self.now < 2 ^ 62 }
+        ensures value { result ≡ sum_by (λ g. g + 1) (pair_codes self.now) }
+        ensures limit { result ≤ 2 ^ 30 }
+        ensures steps { meter.new ≡ meter.old + length self.now }
+    {
+        let items = self.look(meter);
+        tiny_pair_sum(items) as u64
     }
 
     /// Returns the number of bits of the codewords that second extension sends for the pairs of residuals.
@@ -138,6 +182,19 @@ impl Block<'_> {
         let items = self.items;
         meter.tick(4);
         (items[i], items[i + 1], items[i + 2], items[i + 3])
+    }
+
+    /// Ticks the looks of a search up to `limit` that stopped at `k`.
+    #[inline(always)]
+    fn tick_looks(&self, k: u32, limit: u32, meter: &mut Meter)
+        requires limit { limit ≤ 29 }
+        requires stop { k ≤ limit }
+        requires meter { meter.old + length self.now * (limit + 1) < 2 ^ 62 }
+        ensures { meter.new ≡ meter.old + length self.now * (min (k + 1) limit + 1) }
+    {
+        let items = self.items;
+        let looks = (k + 1).min(limit) + 1;
+        meter.tick(items.len() as u64 * looks as u64);
     }
 
     /// All residuals, at a step each.

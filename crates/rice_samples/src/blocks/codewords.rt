@@ -36,8 +36,8 @@ fn narrowest_pair_sum(items: &[u32]) -> u128
     }
 }
 
-#[inline]
-fn tiny_pair_sum(items: &[u32]) -> u32
+#[inline(always)]
+pub(crate) fn tiny_pair_sum(items: &[u32]) -> u32
     requires size { IsBlockSize (length items.now) }
     requires tiny { All (λ d. d < 2 ^ 12) items.now }
     ensures value { result ≡ sum_by (λ g. g + 1) (pair_codes items.now) }

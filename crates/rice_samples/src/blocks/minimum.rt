@@ -1,12 +1,12 @@
 //! Where the sum of residuals stops falling, digit by digit.
-ghost use Rattle.std.specs.Prelude.{◌≡◌, ℕ, ◌+◌, ◌*◌, ◌/◌, ◌^◌, ◌<◌, ◌≤◌, length, sum_by};
+ghost use Rattle.std.specs.Prelude.{◌≡◌, All, ℕ, ◌+◌, ◌*◌, ◌/◌, ◌^◌, ◌<◌, ◌≤◌, length, sum_by};
 ghost use Rattle.rice_samples.specs.Parameters.{IsBlockSize};
 
 use crate::blocks::lanes::{all_of, small_sum, sum_shifted};
 
 /// The first `k`, up to `limit`, at which one digit more takes no more than `price` off the sum of the numbers without
 /// their `k` lowest digits, and this sum.
-#[inline]
+#[inline(always)]
 pub(crate) fn first_stop(items: &[u32], limit: u32, price: u64) -> (u32, u64)
     requires size { IsBlockSize (length items.now) }
     requires limit { limit ≤ 29 }
@@ -48,6 +48,57 @@ fn stop_of(items: &[u32], limit: u32, price: u64) -> (u32, u64)
     while k < limit {
         let next = sum_behind(items, k + 1, whole);
         if sum <= next + price {
+            return (k, sum);
+        }
+        k += 1;
+        sum = next;
+    }
+    (k, sum)
+}
+
+/// Does what `first_stop` does, for numbers that are so small that their sum is below 2^32.
+#[inline(always)]
+pub(crate) fn first_small_stop(items: &[u32], limit: u32, price: u64) -> (u32, u32)
+    requires size { IsBlockSize (length items.now) }
+    requires small { All (λ d. d < 2 ^ 26) items.now }
+    requires limit { limit ≤ 29 }
+    requires price { price ≤ 64 }
+    ensures limit { result.0 ≤ limit }
+    ensures value { result.1 ≡ sum_by (λ d. d / 2 ^ result.0) items.now }
+    ensures falls { (j : ℕ) → j < result.0 →
+        sum_by (λ d. d / 2 ^ (j + 1)) items.now + price < sum_by (λ d. d / 2 ^ j) items.now }
+    ensures stops { result.0 < limit → sum_by (λ d. d / 2 ^ result.0) items.now ≤
+        sum_by (λ d. d / 2 ^ (result.0 + 1)) items.now + price }
+{
+    // The loops unroll where the length is known.
+    match items.len() {
+        8 => small_stop_of(all_of(items, 8), limit, price),
+        16 => small_stop_of(all_of(items, 16), limit, price),
+        32 => small_stop_of(all_of(items, 32), limit, price),
+        _ => small_stop_of(items, limit, price),
+    }
+}
+
+/// Does what `stop_of` does, for these numbers.
+#[inline(always)]
+fn small_stop_of(items: &[u32], limit: u32, price: u64) -> (u32, u32)
+    requires size { IsBlockSize (length items.now) }
+    requires small { All (λ d. d < 2 ^ 26) items.now }
+    requires limit { limit ≤ 29 }
+    requires price { price ≤ 64 }
+    ensures limit { result.0 ≤ limit }
+    ensures value { result.1 ≡ sum_by (λ d. d / 2 ^ result.0) items.now }
+    ensures falls { (j : ℕ) → j < result.0 →
+        sum_by (λ d. d / 2 ^ (j + 1)) items.now + price < sum_by (λ d. d / 2 ^ j) items.now }
+    ensures stops { result.0 < limit → sum_by (λ d. d / 2 ^ result.0) items.now ≤
+        sum_by (λ d. d / 2 ^ (result.0 + 1)) items.now + price }
+{
+    let whole = small_sum(items, 0);
+    let mut k = sure_digits(whole as u64, items.len(), price).min(limit);
+    let mut sum = small_sum(items, k);
+    while k < limit {
+        let next = small_sum(items, k + 1);
+        if sum as u64 <= next as u64 + price {
             return (k, sum);
         }
         k += 1;

@@ -1,6 +1,7 @@
 -- How the sum of numbers without their lowest digits falls.
-use Rattle.std.proofs.Common.{◌≡◌, ℕ, suc, ◌+◌, ◌-◌, ◌*◌, ◌/◌, ◌^◌, ◌<◌, ◌≤◌, ◌∙◌, List, [], ◌∷◌, length, sum_by, ap, arith, sym, inl, inr}
+use Rattle.std.proofs.Common.{◌≡◌, ℕ, suc, ◌+◌, ◌-◌, ◌*◌, ◌/◌, ◌^◌, ◌<◌, ◌≤◌, ◌∙◌, List, [], ◌∷◌, length, sum_by, ap, All, arith, sym, inl, inr}
 use Rattle.std.proofs.lemmas.Bool.{cases_lt}
+use Rattle.std.proofs.lemmas.List.Elements.{All-head, All-tail}
 use Rattle.std.proofs.lemmas.List.Sums.{sum_by-cons, sum_by-le-sum_by}
 use Rattle.std.proofs.lemmas.Nat.{leading_length, pow-add, pow_pos}
 use Rattle.std.proofs.Math.Nat.{div-div-eq-div-mul, div-le_self, mod-add-div, mod-lt, mul-le-mul_right, pow-le-pow_right}
@@ -63,6 +64,17 @@ large_falls ds price k some large =
           let le2 : (cut_sum ds k + length ds) * 2 ^ k ≤ (length ds + 2 * price) * 2 ^ k = mul-le-mul_right (2 ^ k) (omega (arith, le)) in
           absurd (omega (arith, le2, large, some, sum_rest ds k))
     ]
+
+small_total : (ds : List ℕ) → All (λ d. d < 2 ^ 26) ds → cut_sum ds 0 ≤ length ds * (2 ^ 26 - 1)
+small_total [] h = omega arith
+small_total (d ∷ ds) h =
+    let first = All-head (λ d. d < 2 ^ 26) d ds h in
+    let rest = small_total ds (All-tail (λ d. d < 2 ^ 26) d ds h) in
+    omega (arith, first, rest, sum_by-cons (λ d. d / 2 ^ 0) d ds)
+
+-- sums of small numbers fit 32 bits
+pub small_sums : (ds : List ℕ) (k : ℕ) → length ds ≤ 64 → All (λ d. d < 2 ^ 26) ds → cut_sum ds k < 2 ^ 32
+small_sums ds k few h = omega (arith, few, small_total ds h, sum_within ds k)
 
 -- a number with more leading zeros than another is so much smaller
 pub zeros_below : (a b j : ℕ) → a < 2 ^ 64 → b < 2 ^ 64 → j < count_leading_zeros 64 a - count_leading_zeros 64 b → a * 2 ^ j ≤ b
