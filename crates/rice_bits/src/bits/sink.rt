@@ -82,7 +82,7 @@ impl<const N: usize> BitSink<N> {
     /// Appends the `width` binary digits of `value`, most significant first, and ticks once for each.
     ///
     /// They are at most 56, so that they fit eight bytes after the bits of a byte that is not whole.
-    #[inline]
+    #[inline(always)]
     pub fn put_long(&mut self, value: u64, width: u32, meter: &mut Meter)
         requires width { width ≤ put_width }
         requires value { value < 2 ^ width }

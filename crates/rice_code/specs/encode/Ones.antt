@@ -7,6 +7,10 @@ pub record Gathers (word left : ℕ) (bits : List Bool) : Type 0 where
   pub count : left + length bits ≡ 2 ^ 40
   pub front : length bits ≤ 64 → word ≡ number_of bits * 2 ^ (64 - length bits)
 
+-- A number begins with these bits, and `left` zeros follow them.
+pub record Fills (value left : ℕ) (bits : List Bool) : Type 0 where
+  pub digits : value ≡ number_of bits * 2 ^ left
+
 -- the fundamental sequences of four numbers
 abbrev pub four_sequences : ℕ → ℕ → ℕ → ℕ → List Bool
 four_sequences a b c d = fundamental_sequence a ++ fundamental_sequence b ++ fundamental_sequence c ++ fundamental_sequence d

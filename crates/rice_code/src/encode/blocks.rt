@@ -36,12 +36,54 @@ fn code_block(
     ensures { PutsShortest setting.now (block_with reference residuals.entry)
         sink.old sink.new meter.old meter.new }
 {
+    // The code is laid out for these lengths, with a reference and without.
+    match residuals.len() {
+        8 => code_short(setting, reference, residuals.sized(8), sink, meter),
+        16 => code_short(setting, reference, residuals.sized(16), sink, meter),
+        _ => code_laid_out(setting, reference, residuals, sink, meter),
+    }
+}
+
+/// Does what `code_block` does, and is laid out twice.
+#[inline(always)]
+fn code_short(
+    setting: &PreparedSetting,
+    reference: Option<u32>,
+    residuals: Block<'_>,
+    sink: &mut SegmentSink,
+    meter: &mut Meter,
+)
+    requires sound { IsSoundData setting.now (block_with reference residuals) }
+    requires room { HasRoomForShortest setting.now (block_with reference residuals) sink.old meter.old }
+    ensures { PutsShortest setting.now (block_with reference residuals.entry)
+        sink.old sink.new meter.old meter.new }
+{
+    match reference {
+        Some(v) => code_laid_out(setting, Some(v), residuals, sink, meter),
+        None => code_laid_out(setting, None, residuals, sink, meter),
+    }
+}
+
+/// Does what `code_block` does, where it is laid out for what is known of the arguments.
+#[inline(always)]
+fn code_laid_out(
+    setting: &PreparedSetting,
+    reference: Option<u32>,
+    residuals: Block<'_>,
+    sink: &mut SegmentSink,
+    meter: &mut Meter,
+)
+    requires sound { IsSoundData setting.now (block_with reference residuals) }
+    requires room { HasRoomForShortest setting.now (block_with reference residuals) sink.old meter.old }
+    ensures { PutsShortest setting.now (block_with reference residuals.entry)
+        sink.old sink.new meter.old meter.new }
+{
     // What a copy and a count of its own say stays in registers from step to step.
     let own = *setting;
     let block = HeldBlock::new(reference, residuals);
     let mut steps = Meter::new();
-    let choice = choose(&own, &block, &mut steps);
-    put_block(&own, choice, &block, sink, &mut steps);
+    let (choice, bits) = choose(&own, &block, &mut steps);
+    put_block(&own, choice, bits, &block, sink, &mut steps);
     meter.tick(steps.steps());
 }
 

@@ -1,16 +1,19 @@
 //! What a block costs by each option, in bits, without its head: the identifier and the reference, which are as long by
 //! each option.
-ghost use Rattle.std.specs.Prelude.{◌≡◌, ℕ, ◌+◌, ◌*◌, ◌/◌, ◌^◌, ◌<◌, ◌≤◌, length, sum_by};
+ghost use Rattle.std.specs.Prelude.{◌≡◌, All, ℕ, ◌+◌, ◌*◌, ◌/◌, ◌^◌, ◌<◌, ◌≤◌, length, sum_by};
 ghost use Rattle.rice_samples.specs.Parameters.{k_max};
 ghost use Rattle.rice_code.specs.code.CodedDataSets.{NoCompression, SecondExtension, Split, sent_residuals, cost};
 ghost use Rattle.rice_code.specs.code.SoundBlocks.{IsSoundData};
 ghost use Rattle.rice_code.specs.encode.Chosen.{head_len};
+ghost use Rattle.rice_code.specs.encode.Parts.{pairs_len};
 
 use crate::encode::held_block::HeldBlock;
 use crate::encode::prepared::PreparedSetting;
 use rice_bits::Meter;
+use rice_samples::Block;
 
 /// Returns the cost of the block by no compression, without its head.
+#[inline(always)]
 pub fn no_compression_cost(setting: &PreparedSetting, block: &HeldBlock<'_>) -> u64
     requires { IsSoundData setting.now block.now }
     ensures value { result + head_len setting.now block.now ≡
@@ -21,23 +24,42 @@ pub fn no_compression_cost(setting: &PreparedSetting, block: &HeldBlock<'_>) -> 
     (coded_len(setting, block) * bits) as u64
 }
 
-/// Returns the cost of the block by second extension, without its head.
+/// Returns the cost of the block by second extension, without its head, where its residuals are small.
+#[inline(always)]
 pub fn second_extension_cost(
     setting: &PreparedSetting,
     block: &HeldBlock<'_>,
     meter: &mut Meter,
-) -> u128
+) -> u64
     requires sound { IsSoundData setting.now block.now }
+    requires small { All (λ d. d < 2 ^ 12) block.now.residuals }
     requires meter { meter.old + length block.now.residuals < 2 ^ 62 }
     ensures value { result + head_len setting.now block.now ≡
         cost setting.now (SecondExtension block.now) }
     ensures steps { meter.new ≡ meter.old + setting.now.block }
 {
-    let _ = setting.block();
-    1 + block.residuals().pair_sum(meter)
+    let residuals = block.residuals();
+    let bits = pairs_bits(residuals.sized(residuals.len()));
+    meter.tick(setting.block() as u64);
+    1 + bits
+}
+
+/// Returns the number of bits of the codewords of the pairs, where all residuals are small. Counts no steps.
+///
+/// It is never inlined, so that none of it is done where no pairs are wanted.
+#[inline(never)]
+fn pairs_bits(residuals: Block<'_>) -> u64
+    requires { All (λ d. d < 2 ^ 12) residuals }
+    ensures value { result ≡ pairs_len residuals.entry }
+    ensures limit { result ≤ 2 ^ 30 }
+{
+    let _len = residuals.len();
+    let mut steps = Meter::new();
+    residuals.small_pair_sum(&mut steps)
 }
 
 /// Returns the number of residuals that a split sends: all but that at the reference place.
+#[inline(always)]
 pub fn coded_len(setting: &PreparedSetting, block: &HeldBlock<'_>) -> u32
     requires { IsSoundData setting.now block.now }
     ensures value { result ≡ length (sent_residuals block.now) }
@@ -51,6 +73,7 @@ pub fn coded_len(setting: &PreparedSetting, block: &HeldBlock<'_>) -> u32
 
 /// Returns the cost of the block by split `k`, without its head, where `sum` is that of the residuals without their `k`
 /// lowest digits.
+#[inline(always)]
 pub fn split_cost(setting: &PreparedSetting, block: &HeldBlock<'_>, k: u32, sum: u64) -> u64
     requires split { k ≤ k_max setting.now }
     requires sound { IsSoundData setting.now block.now }

@@ -3,18 +3,19 @@ ghost use Rattle.std.specs.Prelude.{◌≡◌, ℕ, ◌+◌, ◌-◌, ◌*◌, �
 ghost use Rattle.rice_bits.specs.Bits.{word, fundamental_sequence};
 ghost use Rattle.rice_samples.specs.Parameters.{k_max, value_count};
 ghost use Rattle.rice_samples.specs.blocks.Pairs.{pair_code, pair_codes};
-ghost use Rattle.rice_code.specs.code.CodedDataSets.{NoCompression, SecondExtension, Split, cost, bits_of_set, sent_residuals, reference_bits, reference_len};
+ghost use Rattle.rice_code.specs.code.CodedDataSets.{NoCompression, SecondExtension, Split, cost as cost_of, bits_of_set, sent_residuals, reference_bits, reference_len};
 ghost use Rattle.rice_code.specs.encode.BitBuffer.{sink_bits, HasRoomFor, AddsFields, HasRoomForSet, PutsSet};
 ghost use Rattle.rice_code.specs.encode.Parts.{pairs_len};
 ghost use Rattle.rice_code.specs.code.Runs.{run_of_blocks};
 ghost use Rattle.rice_code.specs.encode.HeldBlocks.{zeros_of_run};
 ghost use Rattle.rice_code.specs.code.SoundBlocks.{IsSoundData};
-ghost use Rattle.rice_code.specs.encode.Chosen.{chosen_set, IsSplitWithin};
+ghost use Rattle.rice_code.specs.encode.Chosen.{chosen_set, head_len, IsSplitWithin};
 
 use crate::encode::SegmentSink;
 use crate::encode::bit_buffer::BitBuffer;
 use crate::encode::fields::put_low;
 use crate::encode::held_block::HeldBlock;
+use crate::encode::ones::{no_sequences, with_sequence};
 use crate::encode::prepared::PreparedSetting;
 use crate::encode::search::Choice;
 use crate::encode::short_digits::put_short_low;
@@ -64,24 +65,85 @@ fn codeword_of(a: u32, b: u32) -> u32
     (sum * (sum + 1) / 2) as u32 + b
 }
 
-/// Adds the codewords of the pairs.
+/// Adds the codewords of the pairs, which are `total` bits.
 #[inline(always)]
-fn put_pairs(block: &Block<'_>, fields: &mut BitBuffer, sink: &mut SegmentSink, meter: &mut Meter)
+fn put_pairs(
+    block: &Block<'_>,
+    total: u64,
+    fields: &mut BitBuffer,
+    sink: &mut SegmentSink,
+    meter: &mut Meter,
+)
     requires even { length block.now % 2 ≡ 0 }
+    requires total { total ≡ pairs_len block.now }
     requires room { HasRoomFor (pairs_len block.now) (length block.now + pairs_len block.now)
         (length sink.old + length fields.old) (meter.old + length fields.old) }
     ensures { AddsFields (flat_map fundamental_sequence (pair_codes block.now))
         (pairs_len block.now) (length block.now + pairs_len block.now)
         sink.old fields.old sink.new fields.new meter.old meter.new }
 {
+    if total <= 56 {
+        put_short_pairs(block, total, fields, sink, meter);
+        return;
+    }
+    let held = std::mem::replace(fields, BitBuffer::new());
+    let mut steps = Meter::new();
+    *fields = put_long_pairs(block.sized(block.len()), held, sink, &mut steps);
+    meter.tick(steps.steps());
+}
+
+/// Adds the codewords of the pairs, where one put takes their `total` bits.
+#[inline(always)]
+fn put_short_pairs(
+    block: &Block<'_>,
+    total: u64,
+    fields: &mut BitBuffer,
+    sink: &mut SegmentSink,
+    meter: &mut Meter,
+)
+    requires even { length block.now % 2 ≡ 0 }
+    requires total { total ≡ pairs_len block.now }
+    requires short { total ≤ 56 }
+    requires room { HasRoomFor (pairs_len block.now) (length block.now + pairs_len block.now)
+        (length sink.old + length fields.old) (meter.old + length fields.old) }
+    ensures { AddsFields (flat_map fundamental_sequence (pair_codes block.now))
+        (pairs_len block.now) (length block.now + pairs_len block.now)
+        sink.old fields.old sink.new fields.new meter.old meter.new }
+{
+    let mut row = no_sequences(total);
+    for i in 0..block.len() / 2 {
+        let a = block.at(2 * i, meter);
+        let b = block.at(2 * i + 1, meter);
+        row = with_sequence(row, codeword_of(a, b));
+    }
+    fields.add(row.value, total as u32, sink, meter);
+}
+
+/// Adds the codewords of the pairs one by one, and returns the buffer.
+#[inline(never)]
+fn put_long_pairs(
+    block: Block<'_>,
+    mut fields: BitBuffer,
+    sink: &mut SegmentSink,
+    meter: &mut Meter,
+) -> BitBuffer
+    requires even { length block % 2 ≡ 0 }
+    requires room { HasRoomFor (pairs_len block) (length block + pairs_len block)
+        (length sink.old + length fields) (meter.old + length fields) }
+    ensures { AddsFields (flat_map fundamental_sequence (pair_codes block.entry))
+        (pairs_len block.entry) (length block.entry + pairs_len block.entry)
+        sink.old fields sink.new result meter.old meter.new }
+{
     for i in 0..block.len() / 2 {
         let a = block.at(2 * i, meter);
         let b = block.at(2 * i + 1, meter);
         fields.add_fs(codeword_of(a, b), sink, meter);
     }
+    fields
 }
 
 /// Returns the number of residuals that are not sent: that at the reference place, where there is one.
+#[inline(always)]
 fn first_coded(block: &HeldBlock<'_>) -> usize
     ensures coded { sent_residuals block.now ≡ drop result block.now.residuals }
     ensures limit { result ≤ 1 }
@@ -93,6 +155,7 @@ fn first_coded(block: &HeldBlock<'_>) -> usize
 }
 
 /// Appends the block, coded by no compression.
+#[inline(always)]
 fn put_no_compression(
     setting: &PreparedSetting,
     block: &HeldBlock<'_>,
@@ -114,14 +177,18 @@ fn put_no_compression(
     fields.put(sink, meter);
 }
 
-/// Appends the block, coded by second extension.
+/// Appends the block, coded by second extension, which takes `cost` bits without the head.
+#[inline(always)]
 fn put_second_extension(
     setting: &PreparedSetting,
+    cost: u64,
     block: &HeldBlock<'_>,
     sink: &mut SegmentSink,
     meter: &mut Meter,
 )
     requires sound { IsSoundData setting.now block.now }
+    requires cost { cost + head_len setting.now block.now ≡
+        cost_of setting.now (SecondExtension block.now) }
     requires room { HasRoomForSet setting.now (SecondExtension block.now) (2 * setting.now.block) sink.old meter.old }
     ensures { PutsSet setting.now (SecondExtension block.now) setting.now.block setting.now.block
         sink.old sink.new meter.old meter.new }
@@ -130,20 +197,23 @@ fn put_second_extension(
     let id = setting.id_len();
     let _block = setting.block();
     let mut fields = begin(setting, 1, id + 1, block.reference(), sink, meter);
-    put_pairs(residuals, &mut fields, sink, meter);
+    put_pairs(residuals, cost - 1, &mut fields, sink, meter);
     fields.put(sink, meter);
 }
 
-/// Appends the block, coded by split `k`.
+/// Appends the block, coded by split `k`, which takes `cost` bits without the head.
+#[inline(always)]
 fn put_split(
     setting: &PreparedSetting,
     k: u32,
+    cost: u64,
     block: &HeldBlock<'_>,
     sink: &mut SegmentSink,
     meter: &mut Meter,
 )
     requires sound { IsSoundData setting.now block.now }
     requires split { k ≤ k_max setting.now }
+    requires cost { cost + head_len setting.now block.now ≡ cost_of setting.now (Split k block.now) }
     requires room { HasRoomForSet setting.now (Split k block.now) (2 * setting.now.block) sink.old meter.old }
     ensures { PutsSet setting.now (Split k block.now) (setting.now.block - 1) (2 * setting.now.block)
         sink.old sink.new meter.old meter.new }
@@ -154,7 +224,8 @@ fn put_split(
     let _limit = setting.k_max();
     let _block = setting.block();
     let mut fields = begin(setting, k + 1, id, block.reference(), sink, meter);
-    put_short_high(residuals, from, k, &mut fields, sink, meter);
+    let digits = (residuals.len() - from) as u64 * k as u64;
+    put_short_high(residuals, from, k, cost - digits, &mut fields, sink, meter);
     if k == 0 {
         fields.put(sink, meter);
         return;
@@ -168,24 +239,28 @@ fn put_split(
     fields.put(sink, meter);
 }
 
-/// Appends the block, coded by `choice`.
+/// Appends the block, coded by `choice`, which takes `cost` bits without the head.
+#[inline(always)]
 pub fn put_block(
     setting: &PreparedSetting,
     choice: Choice,
+    cost: u64,
     block: &HeldBlock<'_>,
     sink: &mut SegmentSink,
     meter: &mut Meter,
 )
     requires sound { IsSoundData setting.now block.now }
     requires split { IsSplitWithin (k_max setting.now) choice }
+    requires cost { cost + head_len setting.now block.now ≡
+        cost_of setting.now (chosen_set choice block.now) }
     requires room { HasRoomForSet setting.now (chosen_set choice block.now) (2 * setting.now.block) sink.old meter.old }
     ensures { PutsSet setting.now (chosen_set choice block.now) (setting.now.block - 1) (2 * setting.now.block)
         sink.old sink.new meter.old meter.new }
 {
     match choice {
         Choice::NoCompression => put_no_compression(setting, block, sink, meter),
-        Choice::SecondExtension => put_second_extension(setting, block, sink, meter),
-        Choice::Split(k) => put_split(setting, k, block, sink, meter),
+        Choice::SecondExtension => put_second_extension(setting, cost, block, sink, meter),
+        Choice::Split(k) => put_split(setting, k, cost, block, sink, meter),
     }
 }
 

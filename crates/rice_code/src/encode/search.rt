@@ -1,5 +1,5 @@
 //! The search for the option that codes a block in the fewest bits.
-ghost use Rattle.std.specs.Prelude.{◌≡◌, ℕ, ◌+◌, ◌*◌, ◌^◌, ◌<◌, ◌≤◌, min, length};
+ghost use Rattle.std.specs.Prelude.{◌≡◌, All, ℕ, ◌+◌, ◌*◌, ◌/◌, ◌^◌, ◌<◌, ◌≤◌, min, length, sum_by};
 ghost use Rattle.rice_samples.specs.Parameters.{k_max};
 ghost use Rattle.rice_code.specs.code.CodedDataSets.{Split, cost};
 ghost use Rattle.rice_code.specs.code.Choice.{shortest, IsBestSplit, best_split};
@@ -20,6 +20,7 @@ pub enum Choice {
 }
 
 /// Returns the smallest `k` of minimal cost, and that cost without the head.
+#[inline(always)]
 pub fn best_split(setting: &PreparedSetting, block: &HeldBlock<'_>, meter: &mut Meter) -> (u32, u64)
     requires sound { IsSoundData setting.now block.now }
     requires meter { meter.old + setting.now.block * (k_max setting.now + 1) < 2 ^ 62 }
@@ -27,26 +28,61 @@ pub fn best_split(setting: &PreparedSetting, block: &HeldBlock<'_>, meter: &mut 
     ensures named { best_split setting.now block.now ≡ result.0 }
     ensures value { result.1 + head_len setting.now block.now ≡
         cost setting.now (Split result.0 block.now) }
+    ensures small { result.0 ≡ 0 → All (λ d. d < 2 ^ 12) block.now.residuals }
     ensures steps { meter.new ≡ meter.old +
         setting.now.block * (min (result.0 + 1) (k_max setting.now) + 1) }
 {
+    let _limit = setting.k_max();
     let coded = coded_len(setting, block);
-    let residuals = block.residuals();
-    let (k, sum) = residuals.first_stop(setting.k_max(), coded as u64, meter);
+    let (k, sum) = stop_of(setting, block, coded as u64, meter);
     (k, split_cost(setting, block, k, sum))
 }
 
-/// Returns the option of minimal cost.
-pub fn choose(setting: &PreparedSetting, block: &HeldBlock<'_>, meter: &mut Meter) -> Choice
+/// Returns the first split at which one digit more takes no more than `price` off the sum of the residuals without their
+/// lowest digits, and this sum.
+#[inline(always)]
+fn stop_of(
+    setting: &PreparedSetting,
+    block: &HeldBlock<'_>,
+    price: u64,
+    meter: &mut Meter,
+) -> (u32, u64)
+    requires sound { IsSoundData setting.now block.now }
+    requires price { price ≤ 64 }
+    requires meter { meter.old + setting.now.block * (k_max setting.now + 1) < 2 ^ 62 }
+    ensures limit { result.0 ≤ k_max setting.now }
+    ensures value { result.1 ≡ sum_by (λ d. d / 2 ^ result.0) block.now.residuals }
+    ensures size { result.1 ≤ 2 ^ 38 }
+    ensures falls { (j : ℕ) → j < result.0 →
+        sum_by (λ d. d / 2 ^ (j + 1)) block.now.residuals + price <
+        sum_by (λ d. d / 2 ^ j) block.now.residuals }
+    ensures stops { result.0 < k_max setting.now →
+        sum_by (λ d. d / 2 ^ result.0) block.now.residuals ≤
+        sum_by (λ d. d / 2 ^ (result.0 + 1)) block.now.residuals + price }
+    ensures steps { meter.new ≡ meter.old +
+        setting.now.block * (min (result.0 + 1) (k_max setting.now) + 1) }
+{
+    let residuals = block.residuals();
+    if setting.bits() <= 26 {
+        return residuals.first_small_stop(setting.k_max(), price, meter);
+    }
+    residuals.first_stop(setting.k_max(), price, meter)
+}
+
+/// Returns the option of minimal cost, and that cost without the head.
+#[inline(always)]
+pub fn choose(setting: &PreparedSetting, block: &HeldBlock<'_>, meter: &mut Meter) -> (Choice, u64)
     requires sound { IsSoundData setting.now block.now }
     requires meter { meter.old + setting.now.block * (k_max setting.now + 2) < 2 ^ 62 }
-    ensures value { chosen_set result block.now ≡ shortest setting.now block.now }
+    ensures value { chosen_set result.0 block.now ≡ shortest setting.now block.now }
+    ensures cost { result.1 + head_len setting.now block.now ≡
+        cost setting.now (chosen_set result.0 block.now) }
     ensures steps_from { meter.old + setting.now.block * (best_split setting.now block.now + 2) ≤
         meter.new }
     ensures steps_to { meter.new ≤ meter.old +
         setting.now.block * (best_split setting.now block.now + 3) }
     ensures steps_limit { meter.new ≤ meter.old + setting.now.block * (k_max setting.now + 2) }
-    ensures split { IsSplitWithin (k_max setting.now) result }
+    ensures split { IsSplitWithin (k_max setting.now) result.0 }
 {
     let _block = setting.block();
     let (k, split) = best_split(setting, block, meter);
@@ -57,22 +93,20 @@ pub fn choose(setting: &PreparedSetting, block: &HeldBlock<'_>, meter: &mut Mete
             meter.tick(setting.block() as u64);
         }
         if split < no_compression {
-            return Choice::Split(k);
+            return (Choice::Split(k), split);
         }
-        return Choice::NoCompression;
+        return (Choice::NoCompression, no_compression);
     }
     let second_extension = second_extension_cost(setting, block, meter);
-    let no_compression = no_compression as u128;
-    let split = split as u128;
     if second_extension < no_compression {
         if split < second_extension {
-            Choice::Split(k)
+            (Choice::Split(k), split)
         } else {
-            Choice::SecondExtension
+            (Choice::SecondExtension, second_extension)
         }
     } else if split < no_compression {
-        Choice::Split(k)
+        (Choice::Split(k), split)
     } else {
-        Choice::NoCompression
+        (Choice::NoCompression, no_compression)
     }
 }

@@ -6,23 +6,28 @@ ghost use Rattle.rice_code.specs.encode.Parts.{HasRoomForOnes, AddsOnes};
 
 use crate::encode::SegmentSink;
 use crate::encode::bit_buffer::BitBuffer;
-use crate::encode::ones::{Ones, are_short, first_ones, number_of_ones, with_four};
+use crate::encode::ones::{
+    Ones, are_short, first_ones, first_sequences, number_of_ones, with_four, with_four_sequences,
+};
 use rice_bits::Meter;
 use rice_samples::Block;
 
 /// Adds the fundamental sequences of the residuals from number `from` on, which is one of the first two, without their `k`
-/// lowest digits. Looks at all residuals.
+/// lowest digits: `total` bits. Looks at all residuals.
 #[inline(always)]
 pub fn put_short_high(
     block: &Block<'_>,
     from: usize,
     k: u32,
+    total: u64,
     fields: &mut BitBuffer,
     sink: &mut SegmentSink,
     meter: &mut Meter,
 )
     requires split { k ≤ 29 }
     requires from { from ≤ 1 }
+    requires total { total ≡ length block.now - from +
+        sum_by (λ d. d / 2 ^ k) (drop from block.now) }
     requires room { HasRoomForOnes k (length block.now) (length block.now - from) (drop from block.now)
         (length sink.old + length fields.old) (meter.old + length fields.old) }
     ensures { AddsOnes k (length block.now) (length block.now - from) (drop from block.now)
@@ -30,7 +35,11 @@ pub fn put_short_high(
 {
     let len = block.len();
     if len == 8 {
-        put_eight_high(block, from, k, fields, sink, meter);
+        put_eight_high(block, from, k, total, fields, sink, meter);
+        return;
+    }
+    if len == 16 {
+        put_all_sixteen(block, from, k, total, fields, sink, meter);
         return;
     }
     put_sixteen_high(block, 0, from, k, fields, sink, meter);
@@ -39,12 +48,13 @@ pub fn put_short_high(
     }
 }
 
-/// Adds those of the first eight residuals from number `from` on.
+/// Adds those of the first eight residuals from number `from` on: `total` bits.
 #[inline(always)]
 fn put_eight_high(
     block: &Block<'_>,
     from: usize,
     k: u32,
+    total: u64,
     fields: &mut BitBuffer,
     sink: &mut SegmentSink,
     meter: &mut Meter,
@@ -52,6 +62,7 @@ fn put_eight_high(
     requires split { k ≤ 29 }
     requires from { from ≤ 1 }
     requires eight { 8 ≤ length block.now }
+    requires total { total ≡ 8 - from + sum_by (λ d. d / 2 ^ k) (slice_range block.now from 8) }
     requires room { HasRoomForOnes k 8 (8 - from) (slice_range block.now from 8)
         (length sink.old + length fields.old) (meter.old + length fields.old) }
     ensures { AddsOnes k 8 (8 - from) (slice_range block.now from 8)
@@ -59,7 +70,34 @@ fn put_eight_high(
 {
     let a = high_four(block, 0, k, meter);
     let b = high_four(block, 4, k, meter);
-    put_eight(a, b, from, fields, sink, meter);
+    put_eight(a, b, from, total, fields, sink, meter);
+}
+
+/// Adds those of the first 16 residuals from number `from` on: `total` bits.
+#[inline(always)]
+fn put_all_sixteen(
+    block: &Block<'_>,
+    from: usize,
+    k: u32,
+    total: u64,
+    fields: &mut BitBuffer,
+    sink: &mut SegmentSink,
+    meter: &mut Meter,
+)
+    requires split { k ≤ 29 }
+    requires from { from ≤ 1 }
+    requires sixteen { 16 ≤ length block.now }
+    requires total { total ≡ 16 - from + sum_by (λ d. d / 2 ^ k) (slice_range block.now from 16) }
+    requires room { HasRoomForOnes k 16 (16 - from) (slice_range block.now from 16)
+        (length sink.old + length fields.old) (meter.old + length fields.old) }
+    ensures { AddsOnes k 16 (16 - from) (slice_range block.now from 16)
+        sink.old fields.old sink.new fields.new meter.old meter.new }
+{
+    let a = high_four(block, 0, k, meter);
+    let b = high_four(block, 4, k, meter);
+    let c = high_four(block, 8, k, meter);
+    let d = high_four(block, 12, k, meter);
+    put_whole_sixteen(a, b, c, d, from, total, fields, sink, meter);
 }
 
 /// Adds those of 16 residuals, of which the first is number `at`, from the one with number `from` among them on.
@@ -105,31 +143,74 @@ fn high_four(block: &Block<'_>, at: usize, k: u32, meter: &mut Meter) -> (u32, u
     (a >> k, b >> k, c >> k, d >> k)
 }
 
-/// Adds the fundamental sequences of eight numbers, from number `from` on.
+/// Adds the fundamental sequences of eight numbers, from number `from` on: `total` bits.
 #[inline(always)]
 fn put_eight(
     a: (u32, u32, u32, u32),
     b: (u32, u32, u32, u32),
     from: usize,
+    total: u64,
     fields: &mut BitBuffer,
     sink: &mut SegmentSink,
     meter: &mut Meter,
 )
     requires from { from ≤ 1 }
+    requires total { total ≡ length (sequences_from from a.0 a.1 a.2 a.3 ++
+        four_sequences b.0 b.1 b.2 b.3) }
     requires room { HasRoomForBits (sequences_from from a.0 a.1 a.2 a.3 ++
         four_sequences b.0 b.1 b.2 b.3)
         (length sink.old + length fields.old) (meter.old + length fields.old) }
     ensures { AddsBits (sequences_from from a.0 a.1 a.2 a.3 ++ four_sequences b.0 b.1 b.2 b.3)
         sink.old fields.old sink.new fields.new meter.old meter.new }
 {
-    let ones = with_four(first_ones(a, from), b);
-    if are_short(ones) {
-        add_ones(ones, fields, sink, meter);
+    if total <= 56 {
+        let row = with_four_sequences(first_sequences(a, from, total), b);
+        fields.add(row.value, total as u32, sink, meter);
         return;
     }
     let held = std::mem::replace(fields, BitBuffer::new());
-    *fields = put_four_from(a, from, held, sink, meter);
-    fields.add_four_fs(b, sink, meter);
+    let mut steps = Meter::new();
+    let held = put_four_from(a, from, held, sink, &mut steps);
+    *fields = put_four_from(b, 0, held, sink, &mut steps);
+    meter.tick(steps.steps());
+}
+
+/// Adds the fundamental sequences of 16 numbers, from number `from` on: `total` bits.
+#[inline(always)]
+fn put_whole_sixteen(
+    a: (u32, u32, u32, u32),
+    b: (u32, u32, u32, u32),
+    c: (u32, u32, u32, u32),
+    d: (u32, u32, u32, u32),
+    from: usize,
+    total: u64,
+    fields: &mut BitBuffer,
+    sink: &mut SegmentSink,
+    meter: &mut Meter,
+)
+    requires from { from ≤ 1 }
+    requires total { total ≡ length (sequences_from from a.0 a.1 a.2 a.3 ++
+        four_sequences b.0 b.1 b.2 b.3 ++ four_sequences c.0 c.1 c.2 c.3 ++
+        four_sequences d.0 d.1 d.2 d.3) }
+    requires room { HasRoomForBits (sequences_from from a.0 a.1 a.2 a.3 ++
+        four_sequences b.0 b.1 b.2 b.3 ++ four_sequences c.0 c.1 c.2 c.3 ++
+        four_sequences d.0 d.1 d.2 d.3)
+        (length sink.old + length fields.old) (meter.old + length fields.old) }
+    ensures { AddsBits (sequences_from from a.0 a.1 a.2 a.3 ++ four_sequences b.0 b.1 b.2 b.3 ++
+        four_sequences c.0 c.1 c.2 c.3 ++ four_sequences d.0 d.1 d.2 d.3)
+        sink.old fields.old sink.new fields.new meter.old meter.new }
+{
+    if total <= 56 {
+        let half = with_four_sequences(first_sequences(a, from, total), b);
+        let row = with_four_sequences(with_four_sequences(half, c), d);
+        fields.add(row.value, total as u32, sink, meter);
+        return;
+    }
+    let held = std::mem::replace(fields, BitBuffer::new());
+    let mut steps = Meter::new();
+    let held = put_four_from(a, from, held, sink, &mut steps);
+    *fields = put_twelve(b, c, d, held, sink, &mut steps);
+    meter.tick(steps.steps());
 }
 
 /// Adds the fundamental sequences of 16 numbers, from number `from` on.
@@ -159,8 +240,10 @@ fn put_sixteen(
         return;
     }
     let held = std::mem::replace(fields, BitBuffer::new());
-    let held = put_four_from(a, from, held, sink, meter);
-    *fields = put_twelve(b, c, d, held, sink, meter);
+    let mut steps = Meter::new();
+    let held = put_four_from(a, from, held, sink, &mut steps);
+    *fields = put_twelve(b, c, d, held, sink, &mut steps);
+    meter.tick(steps.steps());
 }
 
 /// Adds the sequences that are gathered.

@@ -5,7 +5,7 @@ use Rattle.std.proofs.lemmas.Nat.{pow-add, pow_pos, or_shifted, one_shl, div-mul
 use Rattle.std.proofs.Math.Nat.{pow-le-pow_right}
 use Rattle.rice_bits.specs.Bits.{word, number_of, fundamental_sequence}
 use Rattle.rice_bits.proofs.lemmas.bits.Words.{word-cat, word-fs, word-number_of, number_of-word, number_of-lt, join_below, length-fundamental_sequence}
-use Rattle.rice_code.specs.encode.Ones.{Gathers, Spells}
+use Rattle.rice_code.specs.encode.Ones.{Fills, Gathers, Spells}
 use Rattle.rice_code.proofs.lemmas.encode.JoinedWords.{one_fits}
 
 -- the number that is spelled with one sequence more
@@ -67,3 +67,34 @@ gathered_number value left width bits e some few h =
 
 pub four_behind : (bits a b c d : List Bool) → bits ++ a ++ b ++ c ++ d ≡ bits ++ (a ++ b ++ c ++ d)
 four_behind bits a b c d = simp append_assoc
+
+-- digits that are filled in, one sequence after another
+pub fills_none : (left : ℕ) → Fills 0 left []
+unfolding number_of
+fills_none left =
+    let e : number_of [] ≡ 0 = refl in
+    record { digits = omega (arith, ap (λ n. n * 2 ^ left) e) }
+
+pub fills_more : (value left m : ℕ) (bits : List Bool) → m < left → left ≤ 56 → Fills value left bits →
+    Fills (bit_or value (1 * 2 ^ (left - m - 1) % 2 ^ 64)) (left - m - 1) (bits ++ fundamental_sequence m)
+fills_more value left m bits lt few h =
+    let b = left - m - 1 in
+    let before : left ≡ m + 1 + b = omega (arith, lt) in
+    let one : 1 * 2 ^ b % 2 ^ 64 ≡ 2 ^ b = one_shl b 64 (omega (arith, few)) in
+    let old : value ≡ number_of bits * 2 ^ (m + 1 + b) = h.digits ∙ ap (λ n. number_of bits * 2 ^ n) before in
+    record {
+      digits = (λ i. bit_or (old i) (one i)) ∙ (one_set (number_of bits) (m + 1) b (omega arith) ∙ ap (λ v. v * 2 ^ b) (sym (number_more bits m)));
+    }
+
+-- all digits
+pub filled : (value left total : ℕ) (bits : List Bool) → left ≡ 0 → length bits ≡ total → Fills value left bits → Spells bits value total
+filled value left total bits none len h =
+    let same : value ≡ number_of bits = h.digits ∙ (ap (λ n. number_of bits * 2 ^ n) none ∙ once (number_of bits)) in
+    record {
+      len = len;
+      fits = subst (λ v. v < 2 ^ total) (sym same) (subst (λ n. number_of bits < 2 ^ n) len (number_of-lt bits));
+      digits = (λ i. word (sym len i) (same i)) ∙ word-number_of bits;
+    }
+  where
+    once : (v : ℕ) → v * 2 ^ 0 ≡ v
+    once v = omega arith

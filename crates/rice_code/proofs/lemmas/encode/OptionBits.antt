@@ -1,7 +1,7 @@
 -- The texts of blocks, piece by piece.
-use Rattle.std.proofs.Common.{◌≡◌, ℕ, zero, suc, ◌+◌, ◌-◌, ◌*◌, ◌/◌, ◌^◌, ◌<◌, Bool, true, false, cond, ◌&&◌, nat_le, List, [], ◌∷◌, ◌++◌, length, drop, get_or, refl, ap, arith, sym, ◌∙◌, append_assoc, append-nil, Option}
+use Rattle.std.proofs.Common.{◌≡◌, ℕ, zero, suc, ◌+◌, ◌-◌, ◌*◌, ◌/◌, ◌%◌, ◌^◌, ◌<◌, ◌≤◌, Bool, true, false, cond, ◌&&◌, nat_le, List, [], ◌∷◌, ◌++◌, length, drop, get_or, refl, ap, arith, sym, ◌∙◌, append_assoc, append-nil, Option}
 use Rattle.std.specs.Prelude.{flat_map, sum_by}
-use Rattle.std.proofs.lemmas.List.{length-drop, drop_more}
+use Rattle.std.proofs.lemmas.List.{length-drop, drop_all, drop_more}
 use Rattle.std.proofs.lemmas.List.Sums.{sum_by-cons}
 use Rattle.rice_samples.specs.Parameters.{Parameters, id_len}
 use Rattle.rice_samples.specs.blocks.Pairs.{pair_code, pair_codes}
@@ -9,7 +9,8 @@ use Rattle.rice_code.specs.code.CodedDataSets.{bits_of_set, cost, reference_bits
 use Rattle.rice_code.specs.code.Runs.{run_of_blocks}
 use Rattle.rice_code.specs.encode.HeldBlocks.{zeros_of_run}
 use Rattle.rice_bits.specs.Bits.{word, fundamental_sequence}
-use Rattle.rice_bits.proofs.lemmas.bits.Words.{word-fs, word-zero, word-cat, word-nil}
+use Rattle.rice_code.proofs.lemmas.cost.Costs.{length_pieces}
+use Rattle.rice_bits.proofs.lemmas.bits.Words.{length-fundamental_sequence, word-fs, word-zero, word-cat, word-nil}
 
 -- zeros and a one
 pub word_flag : (n : ℕ) → word (n + 1) 1 ≡ word n 0 ++ true ∷ []
@@ -83,6 +84,16 @@ pairs_left (suc i) (a ∷ b ∷ xs) h =
     let l : 2 * suc i + 1 ≡ suc (suc (2 * i + 1)) = omega arith in
     ap (λ n. pair_codes (drop n (a ∷ b ∷ xs))) k ∙ (ih
     ∙ (λ j. pair_code (get_or (a ∷ b ∷ xs) (sym k j) 0) (get_or (a ∷ b ∷ xs) (sym l j) 0) ∷ pair_codes (drop (sym e j) (a ∷ b ∷ xs))))
+
+pub pairs_left_sum : (i : ℕ) (xs : List ℕ) → 2 * i + 1 < length xs →
+    sum_by (λ g. g + 1) (pair_codes (drop (2 * i) xs)) ≡ pair_code (get_or xs (2 * i) 0) (get_or xs (2 * i + 1) 0) + 1 + sum_by (λ g. g + 1) (pair_codes (drop (2 * (i + 1)) xs))
+pairs_left_sum i xs h = ap (sum_by (λ g. g + 1)) (pairs_left i xs h) ∙ sum_by-cons (λ g. g + 1) (pair_code (get_or xs (2 * i) 0) (get_or xs (2 * i + 1) 0)) (pair_codes (drop (2 * (i + 1)) xs))
+
+pub no_pairs_left : (i : ℕ) (xs : List ℕ) → length xs % 2 ≡ 0 → length xs / 2 ≤ i → drop (2 * i) xs ≡ []
+no_pairs_left i xs even all = drop_all (2 * i) xs (omega (arith, even, all))
+
+pub length-pairs : (xs : List ℕ) → length (flat_map fundamental_sequence (pair_codes xs)) ≡ sum_by (λ g. g + 1) (pair_codes xs)
+length-pairs xs = length_pieces fundamental_sequence (λ g. g + 1) length-fundamental_sequence (pair_codes xs)
 
 -- four residuals more
 pub four_more : (xs : List ℕ) (i n : ℕ) → i + 3 < length xs → n ≡ i + 4 → drop i xs ≡ get_or xs i 0 ∷ get_or xs (i + 1) 0 ∷ get_or xs (i + 2) 0 ∷ get_or xs (i + 3) 0 ∷ drop n xs

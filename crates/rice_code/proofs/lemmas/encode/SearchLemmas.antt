@@ -1,9 +1,13 @@
 -- The search for the best split, and the choice after it.
-use Rattle.std.proofs.Common.{◌≡◌, ℕ, zero, suc, ◌+◌, ◌*◌, ◌<◌, ◌≤◌, Bool, true, false, cond, nat_lt, map, List, [], ◌∷◌, length, refl, ap, arith, sym, ◌∙◌}
-use Rattle.std.specs.Prelude.{Option, None, Some}
+use Rattle.std.proofs.Common.{◌≡◌, ℕ, zero, suc, ◌+◌, ◌*◌, ◌/◌, ◌^◌, ◌<◌, ◌≤◌, Bool, true, false, cond, nat_lt, map, List, [], ◌∷◌, length, refl, ap, arith, sym, ◌∙◌}
+use Rattle.std.specs.Prelude.{All, Option, None, Some}
 use Rattle.std.specs.List.{best_of, range_with_len}
 use Rattle.std.proofs.lemmas.Bool.Decides.{nat_tests}
-use Rattle.rice_samples.specs.Parameters.{Parameters, k_max}
+use Rattle.std.proofs.lemmas.List.Elements.{All-nil, All-cons, All-head, All-tail}
+use Rattle.std.proofs.lemmas.List.Sums.{sum_by-cons}
+use Rattle.std.proofs.Math.Nat.{pow-le-pow_right}
+use Rattle.rice_samples.specs.Parameters.{Parameters, k_max, value_count}
+use Rattle.rice_samples.proofs.lemmas.blocks.Halves.{cut_sum}
 use Rattle.rice_code.specs.code.Blocks.{BlockData}
 use Rattle.rice_code.specs.code.Choice.{shortest, IsBestSplit, best_split}
 use Rattle.rice_code.specs.code.CodedDataSets.{NoCompression, SecondExtension, Split, cost, reference_len, sent_from}
@@ -56,3 +60,18 @@ pub all_sent : (s : Parameters) (reference : Option ℕ) (ds : List ℕ) → 1 �
 all_sent s None ds h = omega arith
 all_sent s (Some v) [] h = absurd (omega arith)
 all_sent s (Some v) (d ∷ ds) h = omega arith
+
+-- residuals of few bits are small
+pub few_bits : (s : Parameters) (ds : List ℕ) → s.bits ≤ 26 → All (λ d. d < value_count s) ds → All (λ d. d < 2 ^ 26) ds
+few_bits s [] few h = All-nil (λ d. d < 2 ^ 26)
+few_bits s (d ∷ ds) few h =
+    let le : 2 ^ s.bits ≤ 2 ^ 26 = pow-le-pow_right {n = 2} (omega arith) {i = s.bits} {j = 26} few in
+    let first : d < value_count s = All-head (λ d. d < value_count s) d ds h in
+    All-cons (λ d. d < 2 ^ 26) d ds (omega (arith, first, le)) (few_bits s ds few (All-tail (λ d. d < value_count s) d ds h))
+
+-- residuals whose sum is small are small
+pub small_sum : (ds : List ℕ) → cut_sum ds 0 < 2 ^ 12 → All (λ d. d < 2 ^ 12) ds
+small_sum [] h = All-nil (λ d. d < 2 ^ 12)
+small_sum (d ∷ ds) h =
+    let e = sum_by-cons (λ d. d / 2 ^ 0) d ds in
+    All-cons (λ d. d < 2 ^ 12) d ds (omega (arith, e, h)) (small_sum ds (omega (arith, e, h)))

@@ -5,7 +5,7 @@ use Rattle.std.proofs.lemmas.List.{drop-drop, length-drop, length-take-le}
 use Rattle.std.proofs.lemmas.List.Sums.{sum_by-cons}
 use Rattle.rice_bits.specs.Bits.{fundamental_sequence}
 use Rattle.rice_bits.proofs.lemmas.bits.Words.{length-fundamental_sequence}
-use Rattle.rice_code.specs.encode.Ones.{four_sequences}
+use Rattle.rice_code.specs.encode.Ones.{four_sequences, sequences_from}
 use Rattle.rice_code.proofs.lemmas.encode.OptionBits.{four_more}
 
 pub length-high : (k : ℕ) (ds : List ℕ) → length (flat_map (λ d. fundamental_sequence (d / 2 ^ k)) ds) ≡ length ds + sum_by (λ d. d / 2 ^ k) ds
@@ -21,6 +21,17 @@ length-four a b c d =
     let two = length-append (f a ++ f b) (f c) in
     let three = length-append (f a ++ f b ++ f c) (f d) in
     omega (arith, one, two, three, length-fundamental_sequence a, length-fundamental_sequence b, length-fundamental_sequence c, length-fundamental_sequence d)
+
+-- those from the first of four, or from the second
+pub length-from_first : (from a b c d : ℕ) → from ≡ 0 → length (sequences_from from a b c d) ≡ a + b + c + d + 4
+length-from_first from a b c d e = ap (λ n. length (sequences_from n a b c d)) e ∙ length-four a b c d
+
+pub length-from_second : (from a b c d : ℕ) → from ≡ 1 → length (sequences_from from a b c d) ≡ b + c + d + 3
+length-from_second from a b c d e =
+    let f = fundamental_sequence in
+    let one = length-append (f b) (f c) in
+    let two = length-append (f b ++ f c) (f d) in
+    ap (λ n. length (sequences_from n a b c d)) e ∙ omega (arith, one, two, length-fundamental_sequence b, length-fundamental_sequence c, length-fundamental_sequence d)
 
 pub length-three_parts : (a b c : List Bool) → length (a ++ b ++ c) ≡ length a + length b + length c
 length-three_parts a b c = length-append (a ++ b) c ∙ ap (λ n. n + length c) (length-append a b)

@@ -11,7 +11,7 @@ put_twelve-requires c =
     let z = four_sequences c.args.d.0 c.args.d.1 c.args.d.2 c.args.d.3 in
     let whole = length-first_part w x y z in
     let held = ap length c.replace-held.ensures.value in
-    record { room = omega (arith, whole, held, c.requires.room.room, c.put_four_from-held.ensures.len); steps = omega (arith, whole, held, c.requires.room.steps, c.put_four_from-held.ensures.steps) }
+    record { room = omega (arith, whole, held, c.requires.room.room, c.put_four_from-held.ensures.len); steps = omega (arith, whole, held, c.requires.room.steps, c.new-steps.ensures, c.put_four_from-held.ensures.steps) }
 
 pub returns : goal.returns
 returns c =
@@ -25,5 +25,5 @@ returns c =
     record {
       bits = c.put_twelve.ensures.bits ∙ (ap (λ v. v ++ (x ++ y ++ z)) first ∙ four_behind (c.args.sink.now ++ c.args.fields.now) w x y z);
       len = omega (arith, whole, held, c.put_four_from-held.ensures.len, c.put_twelve.ensures.len);
-      steps = omega (arith, whole, held, c.put_four_from-held.ensures.steps, c.put_twelve.ensures.steps);
+      steps = omega (arith, whole, held, c.new-steps.ensures, c.put_four_from-held.ensures.steps, c.put_twelve.ensures.steps);
     }

@@ -2,7 +2,7 @@ use Rattle.std.proofs.Common.{◌≡◌, ◌+◌, ◌-◌, ◌*◌, ◌++◌, le
 use Rattle.std.specs.Prelude.{flat_map, sum_by}
 use Rattle.rice_bits.specs.Bits.{fundamental_sequence}
 use Rattle.rice_samples.specs.blocks.Pairs.{pair_codes}
-use Rattle.rice_code.proofs.encode.options.put_pairs.Given as goal
+use Rattle.rice_code.proofs.encode.options.put_long_pairs.Given as goal
 
 abbrev pub invariant-loop-i : goal.invariant-loop-i
 invariant-loop-i l = record {

@@ -5,7 +5,7 @@ use Rattle.rice_code.specs.code.Choice.{shortest, best_split}
 use Rattle.rice_code.specs.code.SoundBlocks.{block_with}
 use Rattle.rice_code.specs.encode.Chosen.{chosen_set}
 use Rattle.rice_code.proofs.lemmas.encode.SegmentSteps.{steps_least}
-use Rattle.rice_code.proofs.encode.blocks.code_block.Goals as goal
+use Rattle.rice_code.proofs.encode.blocks.code_laid_out.Goals as goal
 
 pub returns : goal.returns
 returns c =
@@ -14,7 +14,7 @@ returns c =
     let same : c.new-block.result ≡ b = c.new-block.ensures in
     let chosen = c.choose-choice.ensures in
     let put = c.put_block.ensures in
-    let value : chosen_set c.choose-choice.result c.new-block.result ≡ shortest s b = chosen.value ∙ ap (shortest s) same in
+    let value : chosen_set c.choose-choice.result.0 c.new-block.result ≡ shortest s b = chosen.value ∙ ap (shortest s) same in
     let price = ap (cost s) value in
     let best = ap (best_split s) same in
     let twice = ap (λ k. s.block * (k + 2)) best in
