@@ -39,6 +39,17 @@ impl BitBuffer {
         BitBuffer { value: 0, width: 0 }
     }
 
+    /// Returns a buffer of the `width` binary digits of `value`.
+    #[inline(always)]
+    pub fn of(value: u64, width: u32) -> Self
+        requires width { width ≤ put_width }
+        requires value { value < 2 ^ width }
+        ensures bits { result ≡ word width value }
+        ensures len { length result ≡ width }
+    {
+        BitBuffer { value, width }
+    }
+
     /// Adds the `width` binary digits of `value`, after putting the bits before them where both do not fit.
     #[inline(always)]
     pub fn add(&mut self, value: u64, width: u32, sink: &mut SegmentSink, meter: &mut Meter)

@@ -65,9 +65,11 @@ pub fn coded_len(setting: &PreparedSetting, block: &HeldBlock<'_>) -> u32
     ensures value { result ≡ length (sent_residuals block.now) }
     ensures limit { result ≤ 64 }
 {
+    // The compiler may know the length of the block, and not that of the setting's blocks.
+    let len = block.residuals().len() as u32;
     match block.reference() {
-        Some(_) => setting.block() - 1,
-        None => setting.block(),
+        Some(_) => len - 1,
+        None => len,
     }
 }
 

@@ -46,8 +46,7 @@ fn begin(
     ensures steps { meter.new + length result ≡
         meter.old + width + reference_len setting.now reference }
 {
-    let mut fields = BitBuffer::new();
-    fields.add(identifier as u64, width, sink, meter);
+    let mut fields = BitBuffer::of(identifier as u64, width);
     if let Some(v) = reference {
         fields.add(v as u64, setting.bits(), sink, meter);
         return fields;
