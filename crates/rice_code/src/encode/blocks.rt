@@ -111,38 +111,69 @@ fn put_pending(
     }
 }
 
-/// Takes the block after `run` zero blocks that are pending: a zero block joins them, another ends the run.
-/// Returns the number of blocks that are pending then.
+/// Appends the code of the run of `run` zero blocks that are pending before another block, if there are any. The first of
+/// them is block `first` of the segment, whose block 0 has the reference, if there is one.
+#[inline(always)]
+fn put_before(
+    setting: &PreparedSetting,
+    reference: Option<u32>,
+    first: usize,
+    run: u32,
+    sink: &mut SegmentSink,
+    meter: &mut Meter,
+)
+    requires few { run ≤ 64 }
+    requires fits { IfSome reference (λ v. v < value_count setting.now) }
+    requires room { HasRoomFor (length (pending_bits setting.now false (reference_at reference first) run))
+        (length (pending_bits setting.now false (reference_at reference first) run))
+        (length sink.old) meter.old }
+    ensures bits { sink.new ≡ sink.old ++
+        pending_bits setting.now false (reference_at reference first) run }
+    ensures len { length sink.new ≡ length sink.old +
+        length (pending_bits setting.now false (reference_at reference first) run) }
+    ensures steps { meter.new ≡ meter.old +
+        length (pending_bits setting.now false (reference_at reference first) run) }
+{
+    // Which reference it is, is asked only where a run is pending.
+    if run > 0 {
+        let head = reference_of(reference, first);
+        put_pending(setting, head, run, false, sink, meter);
+    }
+}
+
+/// Takes the block after `run` zero blocks that are pending, from block `first` on: a zero block joins them, another ends
+/// the run. Returns the number of blocks that are pending then.
 fn code_next(
     setting: &PreparedSetting,
-    first: Option<u32>,
+    reference: Option<u32>,
+    first: usize,
     run: u32,
     block: HeldBlock<'_>,
     sink: &mut SegmentSink,
     meter: &mut Meter,
 ) -> u32
     requires few { run < 64 }
-    requires fits { IfSome first (λ v. v < value_count setting.now) }
+    requires fits { IfSome reference (λ v. v < value_count setting.now) }
     requires sound { IsSoundData setting.now block }
     requires look { meter.old + setting.now.block < 2 ^ 62 }
     requires room { is_zero_block block ≡ false →
-        HasRoomFor (length (pending_bits setting.now false first run) +
+        HasRoomFor (length (pending_bits setting.now false (reference_at reference first) run) +
         cost setting.now (shortest setting.now block))
-        (length (pending_bits setting.now false first run) +
+        (length (pending_bits setting.now false (reference_at reference first) run) +
         cost setting.now (shortest setting.now block)
         + setting.now.block * (k_max setting.now + 5)) (length sink.old) meter.old }
     ensures joins { is_zero_block block.entry ≡ true →
         JoinsRun setting.now run result sink.old sink.new meter.old meter.new }
     ensures ends { is_zero_block block.entry ≡ false →
-        EndsRun setting.now (pending_bits setting.now false first run) block.entry result
+        EndsRun setting.now (pending_bits setting.now false (reference_at reference first) run) block.entry result
         sink.old sink.new meter.old meter.new }
 {
     if block.residuals().is_zero(meter) {
         return run + 1;
     }
-    put_pending(setting, first, run, false, sink, meter);
-    let (reference, residuals) = block.into_parts();
-    code_block(setting, reference, residuals, sink, meter);
+    put_before(setting, reference, first, run, sink, meter);
+    let (own, residuals) = block.into_parts();
+    code_block(setting, own, residuals, sink, meter);
     0
 }
 
@@ -183,8 +214,7 @@ pub fn code_blocks(
     let mut run: u32 = 0;
     for i in 0..count {
         let block = HeldBlock::new(reference_of(reference, i), segment.block(i, size));
-        let first = reference_of(reference, i - run as usize);
-        run = code_next(&own, first, run, block, sink, meter);
+        run = code_next(&own, reference, i - run as usize, run, block, sink, meter);
     }
     let first = reference_of(reference, count - run as usize);
     put_pending(&own, first, run, true, sink, meter);
