@@ -1,6 +1,6 @@
 use Rattle.std.proofs.Common.{arith, rules, ◌≡◌, ℕ, suc, ◌<◌, ◌∙◌, sym, ap, List, [], ◌∷◌, length, replicate, refl, ℤ, pos, w64, of_z, to_z, slice_index_or, FitsSigned}
 use Rattle.std.proofs.lemmas.Int.{to_z-of_z}
-use borrow.Author.Count.{below_none, below_more}
+use borrow.Author.Count.{below_more}
 use Rattle.rice_code.proofs.decode.decoder.are_all.Goals as goal
 
 all_equal : (v : ℤ) (xs : List ℤ) → ((k : ℕ) → k < length xs → slice_index_or xs k (pos 0) ≡ v) → xs ≡ replicate (length xs) v

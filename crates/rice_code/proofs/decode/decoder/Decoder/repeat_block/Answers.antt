@@ -1,4 +1,4 @@
-use Rattle.std.proofs.Common.{arith, rules, ◌≡◌, ◌<◌, ◌-◌, ◌∙◌, ap, true}
+use Rattle.std.proofs.Common.{arith, ◌≡◌, ◌<◌, ◌-◌, ◌∙◌, ap, true}
 use Rattle.rice_code.proofs.lemmas.decode.DecoderLemmas.{place_moves, repeats_on}
 use Rattle.rice_code.proofs.decode.decoder.Decoder.repeat_block.Goals as goal
 
