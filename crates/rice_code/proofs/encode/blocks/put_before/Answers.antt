@@ -1,4 +1,4 @@
-use Rattle.std.proofs.Common.{◌≡◌, ℕ, zero, suc, ◌+◌, ◌<◌, ◌++◌, ◌∙◌, length, false, arith, ap, sym, subst, append-nil}
+use Rattle.std.proofs.Common.{◌≡◌, ℕ, zero, suc, ◌<◌, ◌++◌, ◌∙◌, length, false, arith, ap, sym, subst, append-nil}
 use Rattle.std.specs.Prelude.{IfSome, Option}
 use Rattle.rice_samples.specs.Parameters.{value_count}
 use Rattle.rice_code.specs.encode.HeldBlocks.{pending_bits, reference_at}
