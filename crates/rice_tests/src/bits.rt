@@ -178,9 +178,15 @@ fn take_parts_that_wait(rt: HostRuntime) -> Result<(), Fail> {
     let mut meter = Meter::new();
     let mut reader = BitReader::new(MemoryIn::new(&bytes, 4096, None));
     let mut numbers = [77; 8];
-    assert_eq!(rt; reader.take_waiting_parts(3, &mut numbers, &mut meter), false);
+    assert_eq!(rt;
+        reader.take_waiting_parts(3, &mut numbers, &mut meter),
+        false
+    );
     assert_eq!(rt; reader.take(4, &mut meter), Ok(9));
-    assert_eq!(rt; reader.take_waiting_parts(3, &mut numbers, &mut meter), true);
+    assert_eq!(rt;
+        reader.take_waiting_parts(3, &mut numbers, &mut meter),
+        true
+    );
     assert_eq!(rt; numbers, [5, 10, 7, 16, 1, 6, 11, 4]);
     assert_eq!(rt; (reader.taken(), meter.steps()), (40, 40));
     Ok(())
