@@ -440,12 +440,12 @@ impl<I: Intake> BitReader<I> {
         taken
     }
 
-    /// Takes a fundamental sequence for each place of `numbers`, and then a word of `width` digits for each, if all of them
-    /// wait together, and writes the numbers that have the zeros of the sequences as their high parts and the words as
-    /// their low parts. There are 7, 8, 15 or 16 places. Returns whether it took them, and ticks once for each bit. If it
-    /// took none, the contents of `numbers` are unspecified.
+    /// Takes a fundamental sequence for each place of `numbers`, and then a word of `width` digits for each, if they wait
+    /// together, and writes the numbers that have the zeros of the sequences as their high parts and the words as their
+    /// low parts. There are 7, 8, 15 or 16 places. Returns whether it took them, and ticks once for each bit.
     ///
-    /// It never calls the intake, so it never fails.
+    /// It never calls the intake, so it never fails. It may take nothing even if all of them wait, and then the contents of
+    /// `numbers` are unspecified.
     #[inline(always)]
     pub fn take_waiting_parts(&mut self, width: u32, numbers: &mut [u32], meter: &mut Meter) -> bool
         requires going { self.old.refusal ≡ None }

@@ -200,7 +200,8 @@ fn skip_padding<I: Intake>(
 
 /// Returns whether each of the samples is `value`.
 fn are_all(samples: &[i64], value: i64) -> bool
-    ensures { result ≡ true → samples.now ≡ replicate (length samples.now) value }
+    ensures all { result ≡ true → samples.now ≡ replicate (length samples.now) value }
+    ensures not_all { result ≡ false → samples.now ≡ replicate (length samples.now) value → ⊥ }
 {
     for i in 0..samples.len() {
         if samples[i] != value {
@@ -264,7 +265,8 @@ impl Decoder {
 
     /// Returns whether the next block is in a run, and is known to have just these samples. Without preprocessing none is known to.
     pub fn repeats(&self, samples: &[i64]) -> bool
-        ensures { result ≡ true → RepeatsSamples self.now samples.now }
+        ensures repeats { result ≡ true → RepeatsSamples self.now samples.now }
+        ensures others { result ≡ false → RepeatsSamples self.now samples.now → ⊥ }
     {
         self.run > 0
             && self.setting.preprocess()

@@ -21,8 +21,8 @@ loop-i-preserved c =
     let here : x ≡ to_z w64 (of_z w64 v) = sym (to_z-of_z w64 x fits) ∙ ap (to_z w64) c.if-samples-i.false in
     below_more (λ (k : ℕ). slice_index_or c.args.samples.now k (pos 0) ≡ to_z w64 (of_z w64 v)) c.loop-i.i c.loop-i.invariant here
 
-pub returns : goal.returns
-returns c = λ yes.
+pub returns-clause-all : goal.returns-clause-all
+returns-clause-all c = λ yes.
     let v = c.args.value in
     let same : to_z w64 (of_z w64 v) ≡ v = to_z-of_z w64 v c.ranges.value in
     all_equal v c.args.samples.now (λ k lt. c.loop-i.invariant k (omega arith) ∙ same)
