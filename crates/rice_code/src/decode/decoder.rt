@@ -1,5 +1,5 @@
 //! Decodes coded data sets, a block a call.
-ghost use Rattle.std.specs.Prelude.{◌≡◌, ℕ, ◌+◌, ◌-◌, ◌*◌, ◌/◌, ◌^◌, ◌<◌, ◌≤◌, Bool, true, false, List, All, [], length, replicate, None, Option, Some, IfOk, IfErr, IfSome, IfNone, Ok, ℤ, pos};
+ghost use Rattle.std.specs.Prelude.{◌≡◌, ◌≢◌, ℕ, ◌+◌, ◌-◌, ◌*◌, ◌/◌, ◌^◌, ◌<◌, ◌≤◌, Bool, true, false, List, All, [], length, replicate, None, Option, Some, IfOk, IfErr, IfSome, IfNone, Ok, ℤ, pos};
 ghost use Rattle.rice_samples.specs.Parameters.{IsLegal, IsSample};
 ghost use Rattle.rice_samples.specs.Places.{blocks_left};
 ghost use Rattle.rice_samples.specs.predict.Residuals.{last_of};
@@ -52,120 +52,6 @@ fn answer_of(fault: BitFault) -> Result<Step, CodeFault>
         BitFault::End { blank: false } => Err(CodeFault::CodeEnds),
         BitFault::Read => Err(CodeFault::Read),
         BitFault::TooLong => Err(CodeFault::TooLong),
-    }
-}
-
-/// Reads a coded data set and restores the samples of its first block. Returns the last of them, and the number of
-/// zero blocks that follow. `scratch` is scratch space.
-#[inline(always)]
-fn decode_set<I: Intake>(
-    setting: &Setting,
-    block: u64,
-    p: i64,
-    scratch: &mut [u32],
-    reader: &mut BitReader<I>,
-    meter: &mut Meter,
-    samples: &mut ArrayVec<i64, 64>,
-) -> Result<(i64, u32), Result<Step, CodeFault>>
-    requires going { reader.old.refusal ≡ None }
-    requires room { HasRoom meter.old reader.old.taken }
-    requires p { IsSample setting.now p }
-    requires marked { reader.old.blank ≡ true }
-    requires scratch { length scratch.old ≡ 128 }
-    ensures ok { IfOk result (λ r. TakesSet reader.old reader.new meter.old meter.new
-        setting.now block p samples.new.items r.1) }
-    ensures last { IfOk result (λ r. (r.0 ≡ last_of p samples.new.items) ×
-        IsSample setting.now r.0 ×
-        (0 < r.1 → r.1 + 1 ≤ blocks_left setting.now block)) }
-    ensures err { IfErr result (StopsBy reader.old reader.new setting.now block) }
-    ensures steps { AreCounted meter.old meter.new reader.old.taken reader.new.taken }
-{
-    // It is laid out for blocks of 8 and of 16.
-    let (residuals, highs) = scratch.split_at_mut(64);
-    match setting.block() {
-        8 => decode_with(
-            setting,
-            block,
-            p,
-            &mut residuals[..8],
-            highs,
-            reader,
-            meter,
-            samples,
-        ),
-        16 => decode_with(
-            setting,
-            block,
-            p,
-            &mut residuals[..16],
-            highs,
-            reader,
-            meter,
-            samples,
-        ),
-        size => decode_with(
-            setting,
-            block,
-            p,
-            &mut residuals[..size as usize],
-            highs,
-            reader,
-            meter,
-            samples,
-        ),
-    }
-}
-
-/// As `decode_set`, with a place for each residual, and with places for high parts.
-#[inline(always)]
-fn decode_with<I: Intake>(
-    setting: &Setting,
-    block: u64,
-    p: i64,
-    residuals: &mut [u32],
-    highs: &mut [u32],
-    reader: &mut BitReader<I>,
-    meter: &mut Meter,
-    samples: &mut ArrayVec<i64, 64>,
-) -> Result<(i64, u32), Result<Step, CodeFault>>
-    requires going { reader.old.refusal ≡ None }
-    requires room { HasRoom meter.old reader.old.taken }
-    requires p { IsSample setting.now p }
-    requires marked { reader.old.blank ≡ true }
-    requires size { length residuals.old ≡ setting.now.block }
-    requires highs { length highs.old ≡ 64 }
-    ensures ok { IfOk result (λ r. TakesSet reader.old reader.new meter.old meter.new
-        setting.now block p samples.new.items r.1) }
-    ensures last { IfOk result (λ r. (r.0 ≡ last_of p samples.new.items) ×
-        IsSample setting.now r.0 ×
-        (0 < r.1 → r.1 + 1 ≤ blocks_left setting.now block)) }
-    ensures err { IfErr result (StopsBy reader.old reader.new setting.now block) }
-    ensures steps { AreCounted meter.old meter.new reader.old.taken reader.new.taken }
-{
-    match read_set(setting, block, reader, meter, residuals, highs) {
-        Ok(
-            SetHead::Residuals {
-                reference,
-                sound,
-                near,
-            },
-        ) => {
-            if !sound {
-                return Err(Err(CodeFault::ResidualTooLarge));
-            }
-            let last = restore_block(setting, block, p, reference, residuals, near, samples);
-            Ok((last, 0))
-        }
-        Ok(SetHead::Zeros { reference, zeros }) => {
-            match run_blocks(setting, block, zeros) {
-                Some(count) => {
-                    let last = restore_zeros(setting, block, p, reference, samples);
-                    Ok((last, count - 1))
-                }
-                None => Err(Err(CodeFault::RunPastSegment)),
-            }
-        }
-        Err(fault) => Err(answer_of(fault)),
     }
 }
 
@@ -339,7 +225,7 @@ impl Decoder {
     }
 
     /// Reads a coded data set, and restores the samples of its first block.
-    #[inline(never)]
+    #[inline(always)]
     fn read_block<I: Intake>(
         &mut self,
         reader: &mut BitReader<I>,
@@ -359,31 +245,131 @@ impl Decoder {
         ensures waiting { length samples.new.items + self.new.run * self.new.setting.block
             ≤ 456 * (reader.new.taken - reader.old.taken) }
     {
+        // It is laid out for each size of blocks.
+        match self.setting.block() {
+            8 => self.read_sized::<I, 8>(reader, meter, samples),
+            16 => self.read_sized::<I, 16>(reader, meter, samples),
+            32 => self.read_sized::<I, 32>(reader, meter, samples),
+            _ => self.read_sized::<I, 64>(reader, meter, samples),
+        }
+    }
+
+    /// As `read_block`, for blocks of `SIZE` samples.
+    #[inline(never)]
+    fn read_sized<I: Intake, const SIZE: usize>(
+        &mut self,
+        reader: &mut BitReader<I>,
+        meter: &mut Meter,
+        samples: &mut ArrayVec<i64, 64>,
+    ) -> Result<Step, CodeFault>
+        requires size { SIZE ≡ self.old.setting.block }
+        requires stopped { self.old.stopped ≡ None }
+        requires run { self.old.run ≡ 0 }
+        requires going { reader.old.refusal ≡ None }
+        requires room { meter.old + 2 * (2 ^ 52 - reader.old.taken) + 64 < 2 ^ 62 }
+        ensures reads { Answers (with_mark reader.old) reader.new meter.old meter.new
+            self.old self.new samples.new.items result }
+        ensures going { self.new.stopped ≡ None → reader.new.refusal ≡ None }
+        ensures block { result ≡ Ok Block → self.new.stopped ≡ None }
+        ensures setting { self.new.setting ≡ self.old.setting }
+        ensures steps { AreCounted meter.old meter.new reader.old.taken reader.new.taken }
+        ensures waiting { length samples.new.items + self.new.run * self.new.setting.block
+            ≤ 456 * (reader.new.taken - reader.old.taken) }
+    {
         let _taken = reader.taken();
         reader.mark();
         // A copy, since `scratch` is lent beside it.
         let setting = self.setting;
-        match decode_set(
-            &setting,
-            self.block,
-            self.before,
-            &mut self.scratch,
-            reader,
-            meter,
-            samples,
-        ) {
-            Ok((last, run)) => {
-                skip_padding(&self.setting, self.block + 1 + run as u64, reader, meter);
-                self.run = run;
-                self.before = last;
-                self.block = next_place(&self.setting, self.block);
-                Ok(Step::Block)
+        let (residuals, highs) = self.scratch.split_at_mut(64);
+        let residuals = &mut residuals[..SIZE];
+        match read_set(&setting, self.block, reader, meter, residuals, highs) {
+            Ok(
+                SetHead::Residuals {
+                    reference,
+                    sound,
+                    near,
+                },
+            ) => {
+                if !sound {
+                    return self.stop(Err(CodeFault::ResidualTooLarge), samples);
+                }
+                let last = restore_block(
+                    &setting,
+                    self.block,
+                    self.before,
+                    reference,
+                    residuals,
+                    near,
+                    samples,
+                );
+                self.go_on(last, 0, reader, meter)
             }
-            Err(answer) => {
-                samples.clear();
-                self.stopped = Some(answer);
-                answer
+            Ok(SetHead::Zeros { reference, zeros }) => {
+                match run_blocks(&setting, self.block, zeros) {
+                    Some(count) => {
+                        let last = restore_zeros(
+                            &setting,
+                            self.block,
+                            self.before,
+                            reference,
+                            samples,
+                        );
+                        self.go_on(last, count - 1, reader, meter)
+                    }
+                    None => self.stop(Err(CodeFault::RunPastSegment), samples),
+                }
             }
+            Err(fault) => self.stop(answer_of(fault), samples),
         }
+    }
+
+    /// Goes to the next block, after a data set of which `last` is the last sample of the first block, and which `run` zero
+    /// blocks follow.
+    #[inline(always)]
+    fn go_on<I: Intake>(
+        &mut self,
+        last: i64,
+        run: u32,
+        reader: &mut BitReader<I>,
+        meter: &mut Meter,
+    ) -> Result<Step, CodeFault>
+        requires last { IsSample self.old.setting last }
+        requires run { 0 < run → run + 1 ≤ blocks_left self.old.setting self.old.block }
+        requires taken { reader.old.taken ≤ 2 ^ 52 }
+        requires meter { meter.old + 7 < 2 ^ 62 }
+        ensures block { result ≡ Ok Block }
+        ensures moves { self.new ≡ record self.old {
+          block = next_block_place self.old.setting self.old.block;
+          before = last;
+          run = run;
+        } }
+        ensures skips { Skips reader.old reader.new
+            (padding self.old.setting (self.old.block + 1 + run) reader.old.taken) }
+        ensures steps { meter.new + reader.old.taken ≡ meter.old + reader.new.taken }
+        ensures few { reader.new.taken ≡ reader.old.taken +
+            padding self.old.setting (self.old.block + 1 + run) reader.old.taken }
+        ensures limit { reader.new.taken ≤ 2 ^ 52 }
+    {
+        skip_padding(&self.setting, self.block + 1 + run as u64, reader, meter);
+        self.run = run;
+        self.before = last;
+        self.block = next_place(&self.setting, self.block);
+        Ok(Step::Block)
+    }
+
+    /// Returns this answer from now on.
+    fn stop(
+        &mut self,
+        answer: Result<Step, CodeFault>,
+        samples: &mut ArrayVec<i64, 64>,
+    ) -> Result<Step, CodeFault>
+        requires { answer ≢ Ok Block }
+        ensures answer { result ≡ answer }
+        ensures stops { self.new ≡ record self.old { stopped = Some answer } }
+        ensures samples { samples.new.items ≡ [] }
+    {
+        samples.clear();
+        self.stopped = Some(answer);
+        answer
     }
 }

@@ -1,5 +1,5 @@
 //! Reads what follows an identifier: a block by each option, or a run.
-ghost use Rattle.std.specs.Prelude.{◌≡◌, ℕ, ◌+◌, ◌-◌, ◌*◌, ◌/◌, ◌^◌, ◌<◌, ◌≤◌, Bool, true, false, List, [], ◌++◌, length, take, Option, None, IfOk, IfErr};
+ghost use Rattle.std.specs.Prelude.{◌≡◌, ℕ, ◌+◌, ◌-◌, ◌*◌, ◌/◌, ◌^◌, ◌<◌, ◌≤◌, Bool, true, false, List, [], ◌++◌, length, take, drop, Option, None, IfOk, IfErr};
 ghost use Rattle.rice_bits.specs.read.Reader.{Takes, Stops};
 ghost use Rattle.rice_samples.specs.Parameters.{Parameters, IsLegal, k_max};
 ghost use Rattle.rice_samples.specs.Places.{is_reference};
@@ -7,7 +7,7 @@ ghost use Rattle.rice_code.specs.code.Blocks.{BlockData};
 ghost use Rattle.rice_code.specs.code.CodedDataSets.{NoCompression, SecondExtension, Split, reference_bits, no_compression_tail, second_extension_tail, split_tail, run_tail};
 ghost use Rattle.rice_code.specs.code.Forms.{IsReference};
 ghost use Rattle.rice_code.specs.decode.Fields.{HasRoom, AreCounted};
-ghost use Rattle.rice_code.specs.decode.ReadSets.{BlockRead, BlockCut, reference_place};
+ghost use Rattle.rice_code.specs.decode.ReadSets.{BlockRead, BlockCut, PartsRead, PartsCut, reference_place};
 
 use crate::decode::fields::{read_pairs, read_words};
 use crate::decode::parts::read_parts;
@@ -196,10 +196,9 @@ pub fn read_split<I: Intake>(
         Err(fault) => return Err(fault),
     };
     let values = setting.values();
+    let most = (values - 1) >> k;
     let first = begin_residuals(reference, residuals);
-    let coded = &mut residuals[first..];
-    let highs = &mut highs[..coded.len()];
-    match read_parts(reader, meter, (values - 1) >> k, k, highs, coded) {
+    match read_sent(reader, meter, most, k, first, highs, residuals) {
         Ok(true) => {}
         Ok(false) => {
             return Ok(BlockHead {
@@ -209,6 +208,47 @@ pub fn read_split<I: Intake>(
         }
         Err(fault) => return Err(fault),
     }
-    let sound = joined_are_below(setting.bits(), k, coded);
+    let sound = joined_are_below(setting.bits(), k, &residuals[first..]);
     Ok(BlockHead { reference, sound })
+}
+
+/// Reads the parts of the residuals after the first `first`, which is 0 or 1, as `read_parts` does. `highs` is scratch space.
+#[inline(always)]
+fn read_sent<I: Intake>(
+    reader: &mut BitReader<I>,
+    meter: &mut Meter,
+    most: u64,
+    k: u32,
+    first: usize,
+    highs: &mut [u32],
+    residuals: &mut [u32],
+) -> Result<bool, BitFault>
+    requires going { reader.old.refusal ≡ None }
+    requires room { HasRoom meter.old reader.old.taken }
+    requires k { k ≤ 29 }
+    requires most { most ≤ (2 ^ 32 - 1) / 2 ^ k }
+    requires first { first ≤ 1 }
+    requires some { 0 < length residuals.old }
+    requires few { length residuals.old ≤ 64 }
+    requires highs { length highs.old ≡ 64 }
+    ensures ok { IfOk result (λ small. PartsRead reader.old reader.new most k small
+        (length residuals.old - first) (drop first residuals.new)) }
+    ensures stay { take first residuals.new ≡ take first residuals.old }
+    ensures err { IfErr result (PartsCut reader.old reader.new k (length residuals.old - first)) }
+    ensures steps { meter.new + reader.old.taken ≡ meter.old + reader.new.taken }
+    ensures limit { reader.new.taken ≤ 2 ^ 52 }
+{
+    // It is laid out for blocks with a reference and without.
+    let size = residuals.len();
+    match first {
+        0 => read_parts(reader, meter, most, k, &mut highs[..size], residuals),
+        _ => read_parts(
+            reader,
+            meter,
+            most,
+            k,
+            &mut highs[..size - 1],
+            &mut residuals[1..],
+        ),
+    }
 }

@@ -47,7 +47,7 @@ fn limit_of(most: u64, k: u32) -> u64
 }
 
 /// As `read_parts`, all sequences and then all words.
-#[inline(always)]
+#[inline(never)]
 fn read_rows<I: Intake>(
     reader: &mut BitReader<I>,
     meter: &mut Meter,
@@ -102,16 +102,11 @@ fn take_parts<I: Intake>(
     ensures steps { meter.new + reader.old.taken ≡ meter.old + reader.new.taken }
     ensures limit { reader.new.taken ≤ 2 ^ 52 }
 {
-    if k < 1 || k > 7 {
+    let count = residuals.len();
+    if k < 1 || k > 7 || count > 16 || (count + 1) % 8 > 1 {
         return None;
     }
-    match residuals.len() {
-        7 => take_parts_of(reader, meter, most, k, &mut residuals[..7]),
-        8 => take_parts_of(reader, meter, most, k, &mut residuals[..8]),
-        15 => take_parts_of(reader, meter, most, k, &mut residuals[..15]),
-        16 => take_parts_of(reader, meter, most, k, &mut residuals[..16]),
-        _ => None,
-    }
+    take_parts_of(reader, meter, most, k, residuals)
 }
 
 /// As `take_parts`, for these residuals.

@@ -1,6 +1,6 @@
 -- What a decoder gives.
-use Rattle.std.proofs.Common.{◌≡◌, ℕ, zero, suc, ◌+◌, ◌-◌, ◌*◌, ◌/◌, ◌^◌, ◌<◌, ◌≤◌, ◌==◌, Bool, true, false, List, ◌∷◌, ◌++◌, length, replicate, refl, sym, ◌∙◌, ap, subst, arith, Option, None, ℤ, inl, inr, length-append}
-use Rattle.std.specs.Prelude.{◌≢◌, All, nat_lt, if◌then◌else◌, ◌&&◌, Some, Result, Ok}
+use Rattle.std.proofs.Common.{◌≡◌, ℕ, zero, suc, ◌+◌, ◌-◌, ◌*◌, ◌/◌, ◌^◌, ◌<◌, ◌≤◌, ◌==◌, Bool, true, false, List, [], ◌∷◌, ◌++◌, length, replicate, refl, sym, ◌∙◌, ap, subst, arith, Option, None, ℤ, inl, inr, length-append}
+use Rattle.std.specs.Prelude.{◌≢◌, All, nat_lt, if◌then◌else◌, ◌&&◌, Some, Result, Ok, Err}
 use Rattle.std.proofs.lemmas.Bool.Decides.{nat_tests}
 use Rattle.std.proofs.Math.Nat.{mod-eq_of_lt}
 use Rattle.std.proofs.Math.Nat.{mul-le-mul_left}
@@ -18,15 +18,16 @@ use Rattle.rice_code.specs.code.Blocks.{BlockData, block_data, zero_block}
 use Rattle.rice_code.specs.code.CodedDataSets.{CodedDataSet, NoCompression, SecondExtension, Split, ZeroBlocks, RemainderOfSegment, bits_of_set, turns, run_number, run_tail, run_with_zeros, no_compression_tail, second_extension_tail, split_tail, reference_bits}
 use Rattle.rice_code.specs.code.Forms.{IsForm, IsReference, RunIsSound, ResidualsAreSound, blocks_in, zero_blocks}
 use Rattle.rice_code.specs.decode.ReadSets.{SetRead, SetCut}
-use Rattle.rice_code.specs.declared.decode.options.SetHead.TheVariants.{Zeros}
+use Rattle.rice_code.specs.declared.decode.options.SetHead.TheVariants.{Residuals, Zeros}
 use Rattle.rice_code.specs.code.Layout.{block_after, padding}
-use Rattle.rice_code.specs.decode.Decoder.{Skips, TakesSet, GivesSet, GivesFromRun, SetEnds, StopsBy, answer_to}
-use Rattle.rice_code.specs.decode.DecoderState.{IsDecoderState, next_block_place}
+use Rattle.rice_code.specs.code.SoundBlocks.{block_with}
+use Rattle.rice_code.specs.decode.Decoder.{Answers, Skips, TakesSet, GivesSet, GivesFromRun, SetEnds, StopsBy, answer_to, with_mark}
+use Rattle.rice_code.specs.decode.DecoderState.{DecoderState, IsDecoderState, next_block_place}
 use Rattle.rice_bits.specs.declared.read.fault.BitFault.{BitFault}
 use Rattle.rice_bits.specs.declared.read.fault.BitFault.TheVariants as bit_faults
 use Rattle.rice_samples.specs.predict.Residuals.{last_of}
 use Rattle.rice_code.specs.declared.decode.fault.Step.{Step}
-use Rattle.rice_code.specs.declared.decode.fault.Step.TheVariants.{Block}
+use Rattle.rice_code.specs.declared.decode.fault.Step.TheVariants.{Block, Done}
 use Rattle.rice_code.specs.declared.decode.fault.CodeFault.{CodeFault}
 
 -- a run says no residuals
@@ -55,6 +56,29 @@ run_given old new first last s b p r zeros z samples items read run blocks len l
   };
   steps = subst (λ x. last + old.taken ≡ first + new.taken + turns x) read.tells read.steps;
 }
+
+-- a sound block was taken, and its samples are given
+pub block_given : {I : Type 0} (old new : Reader I) (first last : ℕ) (s : Parameters) (b : ℕ) (p : ℤ) (r : Option ℕ) (near : Bool) (samples : List ℤ) (items : List ℕ)
+    → SetRead old new first last s b (Residuals r true near) items
+    → length samples ≡ s.block → All (IsSample s) samples → block_data s b p samples ≡ block_with r items
+    → TakesSet old new first last s b p samples 0
+block_given old new first last s b p r near samples items read len legal says =
+    let d = read.tells in
+    let told = d.told refl in
+    let same : block_with r items ≡ d.contents = (λ i. record { reference = sym d.reference_is i; residuals = sym told.3 i }) in
+    record {
+      set = read.set;
+      form = read.form;
+      run_sound = d.run;
+      residuals_sound = told.0;
+      takes = read.takes;
+      gives = record {
+        len = len;
+        legal = legal;
+        blocks_are = ap (λ c. c ∷ []) (says ∙ same) ∙ sym d.blocks;
+      };
+      steps = read.steps;
+    }
 
 -- no block of a run but its first has a reference
 pub no_reference : (s : Parameters) (b : ℕ) → begins_segment s b ≡ false → IsReference s b None
@@ -188,3 +212,23 @@ set_given old middle new first steps last s b p samples run set skips counted =
       skips = subst (λ next. Skips middle new (padding s next middle.taken)) behind skips;
       steps = counted;
     }
+
+-- a decoder that took a coded data set and skipped its padding goes on behind its first block
+pub answers_block : {I : Type 0} (start middle new : Reader I) (first steps last : ℕ) (p q : DecoderState) (samples : List ℤ) (run : ℕ) (before : ℤ)
+    → TakesSet (with_mark start) middle first steps p.setting p.block p.before samples run
+    → Skips middle new (padding p.setting (p.block + 1 + run) middle.taken) → last + middle.taken ≡ steps + new.taken
+    → before ≡ last_of p.before samples → q ≡ record p { block = next_block_place p.setting p.block; before = before; run = run }
+    → Answers (with_mark start) new first last p q samples (Ok Block)
+answers_block start middle new first steps last p q samples run before set skips counted sample moves =
+    let waits : q.run ≡ run = ap (λ x. x.run) moves in
+    let given = set_given (with_mark start) middle new first steps last p.setting p.block p.before samples run set skips counted in (
+      subst (λ n. GivesSet (with_mark start) new first last p.setting p.block p.before samples n) (sym waits) given,
+      moves ∙ (λ i. record { setting = p.setting; block = next_block_place p.setting p.block; before = sample i; run = sym waits i; stopped = p.stopped }),
+    )
+
+-- a decoder that stops answers so
+pub answers_stop : {I : Type 0} (old new : Reader I) (first last : ℕ) (p q : DecoderState) (samples : List ℤ) (a : Result Step CodeFault)
+    → StopsBy old new p.setting p.block a → q ≡ record p { stopped = Some a } → samples ≡ [] → Answers old new first last p q samples a
+answers_stop old new first last p q samples (Ok Block) stops moves none = absurd stops
+answers_stop old new first last p q samples (Ok Done) stops moves none = (stops, moves, none)
+answers_stop old new first last p q samples (Err f) stops moves none = (stops, moves, none)

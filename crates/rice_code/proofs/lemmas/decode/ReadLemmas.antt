@@ -1,7 +1,7 @@
 -- What is read of a block after its identifier.
 use Rattle.std.proofs.Common.{◌≡◌, ℕ, zero, suc, ◌+◌, ◌-◌, ◌*◌, ◌/◌, ◌%◌, ◌^◌, ◌<◌, ◌≤◌, Bool, true, false, List, [], ◌∷◌, ◌++◌, length, refl, sym, ◌∙◌, ap, subst, arith, append_assoc, length-append, replicate, take, drop, length-drop, Option, Some, None, ◌⊎◌, inl, inr}
 use Rattle.std.specs.Prelude.{All, flat_map, is_some, slice_index, OnSome}
-use Rattle.std.proofs.lemmas.List.{append-nil, length-take, length-take-le}
+use Rattle.std.proofs.lemmas.List.{append-nil, length-take-le, take-append-drop, take_all}
 use Rattle.rice_bits.specs.Bits.{word, fundamental_sequence}
 use Rattle.rice_bits.specs.read.Reader.{Reader, Takes, Stops}
 use Rattle.rice_bits.specs.declared.read.fault.BitFault.{BitFault}
@@ -311,6 +311,21 @@ split_cut old mid new s b k r count f h n t cut = record {
 pub two_halves : (n : ℕ) → (n ≡ 8) ⊎ (n ≡ 16) ⊎ (n ≡ 32) ⊎ (n ≡ 64) → n / 2 + n / 2 ≡ n
 two_halves n h = grind (arith, h)
 
+one_at_most : (r : Option ℕ) → length (reference_place r) ≤ 1
+one_at_most None = omega arith
+one_at_most (Some v) = omega arith
+
+sizes : (n : ℕ) → (n ≡ 8) ⊎ (n ≡ 16) ⊎ (n ≡ 32) ⊎ (n ≡ 64) → (1 ≤ n) × (n ≤ 64)
+sizes n h = (grind (arith, h), grind (arith, h))
+
+-- the residuals that are sent of a block
+pub sent_part : (s : Parameters) (r : Option ℕ) (first : ℕ) (xs : List ℕ) → IsLegal s → first ≡ length (reference_place r) → length xs ≡ s.block
+    → (first ≤ 1) × (length xs - first + length (reference_place r) ≡ s.block) × (0 < length xs) × (length xs ≤ 64)
+sent_part s r first xs legal e n =
+    let few : length (reference_place r) ≤ 1 = one_at_most r in
+    let size = sizes s.block legal.block in
+    (omega (arith, few, e), omega (arith, few, size.0, e, n), omega (arith, size.0, n), omega (arith, size.1, n))
+
 -- the coded residuals of a block: where they begin, and how many there are
 pub coded_part : (s : Parameters) (r : Option ℕ) (first : ℕ) (xs : List ℕ) → IsLegal s → first ≡ length (reference_place r) → length xs ≡ s.block
     → (first ≤ length xs) × (length (take (length xs - first) (drop first xs)) + length (reference_place r) ≡ s.block) × (length xs - first ≤ 64)
@@ -319,19 +334,15 @@ coded_part s r first xs legal e n =
     let size = sizes s.block legal.block in
     let len : length (take (length xs - first) (drop first xs)) ≡ length xs - first = length-take-le (length xs - first) (drop first xs) (omega (arith, length-drop first xs)) in
     (omega (arith, few, size.0, e, n), omega (arith, len, few, size.0, e, n), omega (arith, size.1, n))
-  where
-    one_at_most : (r : Option ℕ) → length (reference_place r) ≤ 1
-    one_at_most None = omega arith
-    one_at_most (Some v) = omega arith
 
-    sizes : (n : ℕ) → (n ≡ 8) ⊎ (n ≡ 16) ⊎ (n ≡ 32) ⊎ (n ≡ 64) → (1 ≤ n) × (n ≤ 64)
-    sizes n h = (grind (arith, h), grind (arith, h))
+-- a slice up to the end
+pub up_to_end : (first : ℕ) (xs : List ℕ) → take (length xs - first) (drop first xs) ≡ drop first xs
+up_to_end first xs = take_all (length xs - first) (drop first xs) (omega (arith, length-drop first xs))
 
--- as many of 64 places
-pub as_many : (n : ℕ) (xs zs : List ℕ) → length zs ≡ 64 → n ≤ 64 → length (take (length (take n xs)) zs) ≡ length (take n xs)
-as_many n xs zs e h = length-take-le (length (take n xs)) zs (omega (arith, e, length-take n xs))
+-- the residuals that are sent stand behind the place of the reference sample
+pub sent_placed : (first : ℕ) (r : Option ℕ) (xs ys : List ℕ) → take first xs ≡ reference_place r → take first ys ≡ take first xs → ys ≡ reference_place r ++ drop first ys
+sent_placed first r xs ys e h = sym (take-append-drop first ys) ∙ ap (λ z. z ++ drop first ys) (h ∙ e)
 
--- residuals that are written after the place of the reference sample
 pub placed : (first : ℕ) (r : Option ℕ) (xs ys : List ℕ) → take first xs ≡ reference_place r → first ≤ length xs → put_mid first (length xs - first) xs ys ≡ reference_place r ++ ys
 placed first r xs ys e h = put_rest first xs ys h ∙ ap (λ z. z ++ ys) e
 

@@ -1,9 +1,9 @@
-use Rattle.std.proofs.Common.{arith, ◌≡◌, ◌≤◌, ◌∙◌, ap, ◌-◌, ◌/◌, ◌^◌, ◌++◌, refl, subst, sym, false}
+use Rattle.std.proofs.Common.{arith, ◌≡◌, ◌≤◌, ◌∙◌, ap, ◌-◌, ◌/◌, ◌^◌, ◌++◌, drop, refl, subst, sym, false}
 use Rattle.std.specs.Prelude.{All, flat_map}
 use Rattle.rice_bits.specs.Bits.{word, fundamental_sequence}
 use Rattle.rice_samples.specs.Parameters.{value_count}
 use Rattle.rice_code.specs.code.CodedDataSets.{Split, sent_residuals}
-use Rattle.rice_code.proofs.lemmas.decode.ReadLemmas.{coded_part, placed, split_large, split_joined, split_cut, parts_small, cut_at_reference}
+use Rattle.rice_code.proofs.lemmas.decode.ReadLemmas.{sent_part, sent_placed, up_to_end, split_large, split_joined, split_cut, parts_small, cut_at_reference}
 use Rattle.rice_code.proofs.decode.options.read_split.Goals as goal
 
 pub returns-in-Err-clause-err : goal.returns-in-Err-clause-err
@@ -13,39 +13,37 @@ returns-in-Err-clause-err g c =
     (λ x. flat_map (λ d. fundamental_sequence (d / 2 ^ c.args.k)) (sent_residuals x) ++ flat_map (word c.args.k) (sent_residuals x)) e.0 c.in-Err.fault
     (λ x. refl) (λ x form. form.0.reference) e.1 e.2 e.3
 
-pub returns-in-Err-read_parts-clause-err : goal.returns-in-Err-read_parts-clause-err
-returns-in-Err-read_parts-clause-err g c =
+pub returns-in-Err-read_sent-clause-err : goal.returns-in-Err-read_sent-clause-err
+returns-in-Err-read_sent-clause-err g c =
     let first = c.begin_residuals-first in
-    let xs = first.new.residuals in
-    let part = coded_part c.args.setting.now c.in-Ok.reference first.result xs c.values-values.ensures.legal first.ensures.first (first.auto.residuals ∙ c.requires.size) in
-    split_cut c.args.reader.now c.read_reference.new.reader c.read_parts.new.reader c.args.setting.now c.args.block c.args.k c.in-Ok.reference _ c.in-Err-read_parts.fault
-    c.in-Ok.ensures.reference part.1 c.in-Ok.ensures.ok c.in-Err-read_parts.ensures.err
+    let part = sent_part c.args.setting.now c.in-Ok.reference first.result first.new.residuals c.values-values.ensures.legal first.ensures.first (first.auto.residuals ∙ c.requires.size) in
+    split_cut c.args.reader.now c.read_reference.new.reader c.read_sent.new.reader c.args.setting.now c.args.block c.args.k c.in-Ok.reference _ c.in-Err-read_sent.fault
+    c.in-Ok.ensures.reference part.1 c.in-Ok.ensures.ok c.in-Err-read_sent.ensures.err
 
 pub returns-in-Ok-false-clause-ok : goal.returns-in-Ok-false-clause-ok
 returns-in-Ok-false-clause-ok g c =
     let first = c.begin_residuals-first in
-    let xs = first.new.residuals in
-    let part = coded_part c.args.setting.now c.in-Ok.reference first.result xs c.values-values.ensures.legal first.ensures.first (first.auto.residuals ∙ c.requires.size) in
-    split_large c.args.reader.now c.read_reference.new.reader c.read_parts.new.reader c.args.meter.now c.read_parts.new.meter c.args.setting.now c.args.block c.args.k c.in-Ok.reference _ false
-    c.read_parts.new.residuals _
+    let part = sent_part c.args.setting.now c.in-Ok.reference first.result first.new.residuals c.values-values.ensures.legal first.ensures.first (first.auto.residuals ∙ c.requires.size) in
+    split_large c.args.reader.now c.read_reference.new.reader c.read_sent.new.reader c.args.meter.now c.read_sent.new.meter c.args.setting.now c.args.block c.args.k c.in-Ok.reference _ false
+    (drop first.result c.read_sent.new.residuals) _
     c.in-Ok.ensures.reference c.requires.k part.1 c.in-Ok.ensures.ok (rw (c.values-values.ensures.value, c.in-Ok-false.field-0-test) at c.in-Ok-false.ensures.ok) refl (omega (arith, c.in-Ok.ensures.steps, c.in-Ok-false.ensures.steps))
 
 pub joined_are_below-sound-requires-clause-highs : goal.joined_are_below-sound-requires-clause-highs
 joined_are_below-sound-requires-clause-highs g c =
     let k = c.args.k in
     let many = value_count c.args.setting.now in
+    let sent = drop c.begin_residuals-first.result c.read_sent.new.residuals in
     let same : many ≡ 2 ^ c.bits.result = ap (λ n. 2 ^ n) (sym c.bits.ensures.value) in
     let read = rw c.values-values.ensures.value at c.in-Ok-true.ensures.ok in
-    subst (λ n. All (λ d. d / 2 ^ k ≤ (n - 1) / 2 ^ k) c.read_parts.new.residuals) same (parts_small c.read_reference.new.reader c.read_parts.new.reader _ k c.in-Ok-true.field-0 _ c.read_parts.new.residuals read c.in-Ok-true.field-0-test)
+    subst (λ ds. All (λ d. d / 2 ^ k ≤ (2 ^ c.bits.result - 1) / 2 ^ k) ds) (sym (up_to_end c.begin_residuals-first.result c.read_sent.new.residuals)) (subst (λ n. All (λ d. d / 2 ^ k ≤ (n - 1) / 2 ^ k) sent) same (parts_small c.read_reference.new.reader c.read_sent.new.reader _ k c.in-Ok-true.field-0 _ sent read c.in-Ok-true.field-0-test))
 
 pub returns-clause-ok : goal.returns-clause-ok
 returns-clause-ok g c =
     let first = c.begin_residuals-first in
-    let xs = first.new.residuals in
-    let part = coded_part c.args.setting.now c.in-Ok.reference first.result xs c.values-values.ensures.legal first.ensures.first (first.auto.residuals ∙ c.requires.size) in
-    split_joined c.args.reader.now c.read_reference.new.reader c.read_parts.new.reader c.args.meter.now c.read_parts.new.meter c.args.setting.now c.args.block c.args.k c.in-Ok.reference _ c.in-Ok-true.field-0
-    c.read_parts.new.residuals _ c.joined_are_below-sound.result
+    let part = sent_part c.args.setting.now c.in-Ok.reference first.result first.new.residuals c.values-values.ensures.legal first.ensures.first (first.auto.residuals ∙ c.requires.size) in
+    split_joined c.args.reader.now c.read_reference.new.reader c.read_sent.new.reader c.args.meter.now c.read_sent.new.meter c.args.setting.now c.args.block c.args.k c.in-Ok.reference _ c.in-Ok-true.field-0
+    (drop first.result c.read_sent.new.residuals) _ c.joined_are_below-sound.result
     c.in-Ok.ensures.reference c.requires.k part.1 c.in-Ok.ensures.ok (rw c.values-values.ensures.value at c.in-Ok-true.ensures.ok) c.in-Ok-true.field-0-test (omega (arith, c.in-Ok.ensures.steps, c.in-Ok-true.ensures.steps))
-    (placed first.result c.in-Ok.reference xs c.read_parts.new.residuals first.ensures.place part.0)
-    (rw c.bits.ensures.value at c.joined_are_below-sound.ensures.below)
-    (rw c.bits.ensures.value at c.joined_are_below-sound.ensures.not_below)
+    (sent_placed first.result c.in-Ok.reference first.new.residuals c.read_sent.new.residuals first.ensures.place c.in-Ok-true.ensures.stay)
+    (rw (up_to_end first.result c.read_sent.new.residuals, c.bits.ensures.value) at c.joined_are_below-sound.ensures.below)
+    (rw (up_to_end first.result c.read_sent.new.residuals, c.bits.ensures.value) at c.joined_are_below-sound.ensures.not_below)
