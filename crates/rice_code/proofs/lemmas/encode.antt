@@ -1,4 +1,5 @@
 -- The coder. `PushedCode` joins what a push does with the code; begin there.
+pub mod ChosenSets
 pub mod GatheredOnes
 pub mod HeldSamples
 pub mod JoinedWords

@@ -1,5 +1,5 @@
 //! Coding the blocks of a segment, one by one.
-ghost use Rattle.std.specs.Prelude.{◌≡◌, ℕ, ◌+◌, ◌-◌, ◌*◌, ◌/◌, ◌^◌, ◌<◌, ◌≤◌, ◌++◌, [], ◌∷◌, min, true, false, length, sum_by, IfSome};
+ghost use Rattle.std.specs.Prelude.{◌≡◌, ℕ, ◌+◌, ◌-◌, ◌*◌, ◌/◌, ◌^◌, ◌<◌, ◌≤◌, ◌++◌, [], ◌∷◌, min, true, false, length, sum_by, Some, None, IfSome, if◌then◌else◌};
 ghost use Rattle.rice_samples.specs.Parameters.{k_max, value_count};
 ghost use Rattle.rice_samples.specs.Places.{begins_segment, blocks_left, place};
 ghost use Rattle.rice_code.specs.code.Blocks.{is_zero_block};
@@ -13,77 +13,43 @@ ghost use Rattle.rice_code.specs.Steps.{least_looks, most_looks};
 
 use crate::encode::SegmentSink;
 use crate::encode::held_block::HeldBlock;
-use crate::encode::options::{put_block, put_run};
+use crate::encode::options::{put_no_compression, put_run, put_second_extension, put_split};
 use crate::encode::prepared::PreparedSetting;
-use crate::encode::search::choose;
+use crate::encode::search::{Choice, choose};
 use rice_bits::Meter;
 use rice_samples::{Block, Segment};
 
-/// Appends the shortest code of a block that is not zero.
+/// Appends the shortest code of a block of `SIZE` residuals that is not zero. It has the reference `word`, where `REFERENCE`
+/// is true, and else none.
 ///
 /// It is never inlined, so that the loop over the blocks stays short, and takes the parts of the block,
 /// which are passed in registers.
 #[inline(never)]
-fn code_block(
+fn code_block<const SIZE: usize, const REFERENCE: bool>(
     setting: &PreparedSetting,
-    reference: Option<u32>,
+    word: u32,
     residuals: Block<'_>,
     sink: &mut SegmentSink,
     meter: &mut Meter,
 )
-    requires sound { IsSoundData setting.now (block_with reference residuals) }
-    requires room { HasRoomForShortest setting.now (block_with reference residuals) sink.old meter.old }
-    ensures { PutsShortest setting.now (block_with reference residuals.entry)
-        sink.old sink.new meter.old meter.new }
-{
-    // The code is laid out for these lengths, with a reference and without.
-    match residuals.len() {
-        8 => code_short(setting, reference, residuals.sized(8), sink, meter),
-        16 => code_short(setting, reference, residuals.sized(16), sink, meter),
-        _ => code_laid_out(setting, reference, residuals, sink, meter),
-    }
-}
-
-/// Does what `code_block` does, and is laid out twice.
-#[inline(always)]
-fn code_short(
-    setting: &PreparedSetting,
-    reference: Option<u32>,
-    residuals: Block<'_>,
-    sink: &mut SegmentSink,
-    meter: &mut Meter,
-)
-    requires sound { IsSoundData setting.now (block_with reference residuals) }
-    requires room { HasRoomForShortest setting.now (block_with reference residuals) sink.old meter.old }
-    ensures { PutsShortest setting.now (block_with reference residuals.entry)
-        sink.old sink.new meter.old meter.new }
-{
-    match reference {
-        Some(v) => code_laid_out(setting, Some(v), residuals, sink, meter),
-        None => code_laid_out(setting, None, residuals, sink, meter),
-    }
-}
-
-/// Does what `code_block` does, where it is laid out for what is known of the arguments.
-#[inline(always)]
-fn code_laid_out(
-    setting: &PreparedSetting,
-    reference: Option<u32>,
-    residuals: Block<'_>,
-    sink: &mut SegmentSink,
-    meter: &mut Meter,
-)
-    requires sound { IsSoundData setting.now (block_with reference residuals) }
-    requires room { HasRoomForShortest setting.now (block_with reference residuals) sink.old meter.old }
-    ensures { PutsShortest setting.now (block_with reference residuals.entry)
+    requires size { length residuals ≡ SIZE }
+    requires sound { IsSoundData setting.now (block_with (if REFERENCE then Some word else None) residuals) }
+    requires room { HasRoomForShortest setting.now (block_with (if REFERENCE then Some word else None) residuals)
+        sink.old meter.old }
+    ensures { PutsShortest setting.now (block_with (if REFERENCE then Some word else None) residuals.entry)
         sink.old sink.new meter.old meter.new }
 {
     // What a copy and a count of its own say stays in registers from step to step.
     let own = *setting;
-    let block = HeldBlock::new(reference, residuals);
+    let reference = if REFERENCE { Some(word) } else { None };
+    let block = HeldBlock::new(reference, residuals.sized(SIZE));
     let mut steps = Meter::new();
     let (choice, bits) = choose(&own, &block, &mut steps);
-    put_block(&own, choice, bits, &block, sink, &mut steps);
+    match choice {
+        Choice::NoCompression => put_no_compression(&own, &block, sink, &mut steps),
+        Choice::SecondExtension => put_second_extension(&own, bits, &block, sink, &mut steps),
+        Choice::Split(k) => put_split(&own, k, bits, &block, sink, &mut steps),
+    }
     meter.tick(steps.steps());
 }
 
@@ -143,7 +109,8 @@ fn put_before(
 
 /// Takes the block after `run` zero blocks that are pending, from block `first` on: a zero block joins them, another ends
 /// the run. Returns the number of blocks that are pending then.
-fn code_next(
+#[inline(always)]
+fn code_next<const SIZE: usize>(
     setting: &PreparedSetting,
     reference: Option<u32>,
     first: usize,
@@ -154,6 +121,7 @@ fn code_next(
 ) -> u32
     requires few { run < 64 }
     requires fits { IfSome reference (λ v. v < value_count setting.now) }
+    requires size { length block.residuals ≡ SIZE }
     requires sound { IsSoundData setting.now block }
     requires look { meter.old + setting.now.block < 2 ^ 62 }
     requires room { is_zero_block block ≡ false →
@@ -173,7 +141,10 @@ fn code_next(
     }
     put_before(setting, reference, first, run, sink, meter);
     let (own, residuals) = block.into_parts();
-    code_block(setting, own, residuals, sink, meter);
+    match own {
+        Some(word) => code_block::<SIZE, true>(setting, word, residuals, sink, meter),
+        None => code_block::<SIZE, false>(setting, 0, residuals, sink, meter),
+    }
     0
 }
 
@@ -208,13 +179,45 @@ pub fn code_blocks(
     ensures { PutsBlocks setting.now start (held_blocks setting.now reference count segment.now)
         sink.old sink.new meter.old meter.new }
 {
+    // The loop is laid out for each size of blocks.
+    match setting.block() {
+        8 => code_each::<8>(setting, start, reference, count, segment, sink, meter),
+        16 => code_each::<16>(setting, start, reference, count, segment, sink, meter),
+        32 => code_each::<32>(setting, start, reference, count, segment, sink, meter),
+        _ => code_each::<64>(setting, start, reference, count, segment, sink, meter),
+    }
+}
+
+/// Appends the code of the first `count` blocks, of `SIZE` samples each, of a segment that begins at place `start`.
+#[inline(always)]
+fn code_each<const SIZE: usize>(
+    setting: &PreparedSetting,
+    start: u32,
+    reference: Option<u32>,
+    count: usize,
+    segment: &Segment,
+    sink: &mut SegmentSink,
+    meter: &mut Meter,
+)
+    requires size { SIZE ≡ setting.now.block }
+    requires place { place setting.now start ≡ start }
+    requires begins { begins_segment setting.now start ≡ true }
+    requires few { count ≤ blocks_left setting.now start }
+    requires len { length segment.now ≡ setting.now.block * count }
+    requires fits { IfSome reference (λ v. v < value_count setting.now) }
+    requires sound { AreSoundBlocks setting.now start (held_blocks setting.now reference count segment.now) }
+    requires room { HasRoomForBlocks setting.now start (held_blocks setting.now reference count segment.now)
+        (count * (setting.now.block * (k_max setting.now + 5))) sink.old meter.old }
+    ensures { PutsBlocks setting.now start (held_blocks setting.now reference count segment.now)
+        sink.old sink.new meter.old meter.new }
+{
     // What a copy of its own says is read once, and not again after each tick.
     let own = *setting;
-    let size = own.block() as usize;
+    let _size = own.block();
     let mut run: u32 = 0;
     for i in 0..count {
-        let block = HeldBlock::new(reference_of(reference, i), segment.block(i, size));
-        run = code_next(&own, reference, i - run as usize, run, block, sink, meter);
+        let block = HeldBlock::new(reference_of(reference, i), segment.block(i, SIZE));
+        run = code_next::<SIZE>(&own, reference, i - run as usize, run, block, sink, meter);
     }
     let first = reference_of(reference, count - run as usize);
     put_pending(&own, first, run, true, sink, meter);

@@ -9,7 +9,7 @@ ghost use Rattle.rice_code.specs.encode.Parts.{pairs_len};
 ghost use Rattle.rice_code.specs.code.Runs.{run_of_blocks};
 ghost use Rattle.rice_code.specs.encode.HeldBlocks.{zeros_of_run};
 ghost use Rattle.rice_code.specs.code.SoundBlocks.{IsSoundData};
-ghost use Rattle.rice_code.specs.encode.Chosen.{chosen_set, head_len, IsSplitWithin};
+ghost use Rattle.rice_code.specs.encode.Chosen.{head_len};
 
 use crate::encode::SegmentSink;
 use crate::encode::bit_buffer::BitBuffer;
@@ -17,7 +17,6 @@ use crate::encode::fields::put_low;
 use crate::encode::held_block::HeldBlock;
 use crate::encode::ones::{no_sequences, with_sequence};
 use crate::encode::prepared::PreparedSetting;
-use crate::encode::search::Choice;
 use crate::encode::short_digits::put_short_low;
 use crate::encode::short_sequences::put_short_high;
 use rice_bits::Meter;
@@ -155,7 +154,7 @@ fn first_coded(block: &HeldBlock<'_>) -> usize
 
 /// Appends the block, coded by no compression.
 #[inline(always)]
-fn put_no_compression(
+pub fn put_no_compression(
     setting: &PreparedSetting,
     block: &HeldBlock<'_>,
     sink: &mut SegmentSink,
@@ -178,7 +177,7 @@ fn put_no_compression(
 
 /// Appends the block, coded by second extension, which takes `cost` bits without the head.
 #[inline(always)]
-fn put_second_extension(
+pub fn put_second_extension(
     setting: &PreparedSetting,
     cost: u64,
     block: &HeldBlock<'_>,
@@ -202,7 +201,7 @@ fn put_second_extension(
 
 /// Appends the block, coded by split `k`, which takes `cost` bits without the head.
 #[inline(always)]
-fn put_split(
+pub fn put_split(
     setting: &PreparedSetting,
     k: u32,
     cost: u64,
@@ -236,31 +235,6 @@ fn put_split(
     }
     put_low(residuals, from, k, &mut fields, sink, meter);
     fields.put(sink, meter);
-}
-
-/// Appends the block, coded by `choice`, which takes `cost` bits without the head.
-#[inline(always)]
-pub fn put_block(
-    setting: &PreparedSetting,
-    choice: Choice,
-    cost: u64,
-    block: &HeldBlock<'_>,
-    sink: &mut SegmentSink,
-    meter: &mut Meter,
-)
-    requires sound { IsSoundData setting.now block.now }
-    requires split { IsSplitWithin (k_max setting.now) choice }
-    requires cost { cost + head_len setting.now block.now ≡
-        cost_of setting.now (chosen_set choice block.now) }
-    requires room { HasRoomForSet setting.now (chosen_set choice block.now) (2 * setting.now.block) sink.old meter.old }
-    ensures { PutsSet setting.now (chosen_set choice block.now) (setting.now.block - 1) (2 * setting.now.block)
-        sink.old sink.new meter.old meter.new }
-{
-    match choice {
-        Choice::NoCompression => put_no_compression(setting, block, sink, meter),
-        Choice::SecondExtension => put_second_extension(setting, cost, block, sink, meter),
-        Choice::Split(k) => put_split(setting, k, cost, block, sink, meter),
-    }
 }
 
 /// Appends a run of `z` zero blocks, which reaches the end of the segment, or of the last segment, where

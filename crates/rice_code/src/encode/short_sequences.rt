@@ -42,10 +42,36 @@ pub fn put_short_high(
         put_all_sixteen(block, from, k, total, fields, sink, meter);
         return;
     }
-    put_sixteen_high(block, 0, from, k, fields, sink, meter);
+    let held = std::mem::replace(fields, BitBuffer::new());
+    let mut steps = Meter::new();
+    *fields = put_sixteens(block.sized(len), from, k, held, sink, &mut steps);
+    meter.tick(steps.steps());
+}
+
+/// Adds those of a block of several times 16 residuals, sixteen by sixteen, and returns the buffer.
+#[inline(never)]
+fn put_sixteens(
+    block: Block<'_>,
+    from: usize,
+    k: u32,
+    mut fields: BitBuffer,
+    sink: &mut SegmentSink,
+    meter: &mut Meter,
+) -> BitBuffer
+    requires split { k ≤ 29 }
+    requires from { from ≤ 1 }
+    requires sixteens { length block % 16 ≡ 0 }
+    requires room { HasRoomForOnes k (length block) (length block - from) (drop from block)
+        (length sink.old + length fields) (meter.old + length fields) }
+    ensures { AddsOnes k (length block.entry) (length block.entry - from) (drop from block.entry)
+        sink.old fields sink.new result meter.old meter.new }
+{
+    let len = block.len();
+    put_sixteen_high(&block, 0, from, k, &mut fields, sink, meter);
     for i in 1..len / 16 {
-        put_sixteen_high(block, 16 * i, 0, k, fields, sink, meter);
+        put_sixteen_high(&block, 16 * i, 0, k, &mut fields, sink, meter);
     }
+    fields
 }
 
 /// Adds those of the first eight residuals from number `from` on: `total` bits.

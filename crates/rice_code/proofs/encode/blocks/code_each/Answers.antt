@@ -13,20 +13,20 @@ use Rattle.rice_code.specs.Steps.{least_looks, most_looks}
 use Rattle.rice_code.proofs.lemmas.meaning.Covers.{bool_cases}
 use Rattle.rice_code.proofs.lemmas.encode.PendingRuns.{held_at, held_len}
 use Rattle.rice_code.proofs.lemmas.encode.SegmentSteps.{to_come, held, held_range, held_sound, sound_of, next_zero, next_other, at_end, sum_next, most_of_all, looks_zero, looks_other, room_other, room_within, meter_fits, meter_ends, length_both, looks_more, other_same, least_more, most_more}
-use Rattle.rice_code.proofs.encode.blocks.code_blocks.Goals as goal
+use Rattle.rice_code.proofs.encode.blocks.code_each.Goals as goal
 
 pub code_next-run-requires-clause-sound : goal.code_next-run-requires-clause-sound
-code_next-run-requires-clause-sound c =
+code_next-run-requires-clause-sound g c =
     let s = c.args.setting.now in
     let ds = c.args.segment.now in
     let i = c.loop-i.i in
-    let size = ap (λ m. slice_range ds (i * m) (i * m + m)) c.block-size.ensures.value in
+    let size = ap (λ m. slice_range ds (i * m) (i * m + m)) c.requires.size in
     let block = c.block.ensures.value ∙ (size ∙ held_range s ds i) in
     let e : c.new-block.result ≡ held s c.args.reference ds i = c.new-block.ensures ∙ (λ j. block_with (c.reference_of.ensures j) (block j)) in
     subst (IsSoundData s) (sym e) (sound_of s (c.args.start + i) _ (held_sound s c.args.start c.args.reference c.args.count ds i c.loop-i-test.true c.requires.sound))
 
 pub code_next-run-requires-clause-look : goal.code_next-run-requires-clause-look
-code_next-run-requires-clause-look c =
+code_next-run-requires-clause-look g c =
     let s = c.args.setting.now in
     let cs = held_blocks s c.args.reference c.args.count c.args.segment.now in
     let all = bits_of_sets s (data_sets s c.args.start false cs) in
@@ -38,13 +38,13 @@ code_next-run-requires-clause-look c =
     omega (arith, fits, more)
 
 pub code_next-run-requires-clause-room : goal.code_next-run-requires-clause-room
-code_next-run-requires-clause-room c =
+code_next-run-requires-clause-room g c =
     let s = c.args.setting.now in
     let ds = c.args.segment.now in
     let i = c.loop-i.i in
     let cs = held_blocks s c.args.reference c.args.count ds in
     let all = bits_of_sets s (data_sets s c.args.start false cs) in
-    let size = ap (λ m. slice_range ds (i * m) (i * m + m)) c.block-size.ensures.value in
+    let size = ap (λ m. slice_range ds (i * m) (i * m + m)) c.requires.size in
     let block = c.block.ensures.value ∙ (size ∙ held_range s ds i) in
     let e : c.new-block.result ≡ held s c.args.reference ds i = c.new-block.ensures ∙ (λ j. block_with (c.reference_of.ensures j) (block j)) in
     let legal = c.block-size.ensures.legal in
@@ -58,7 +58,7 @@ code_next-run-requires-clause-room c =
     record { room = omega (arith, g, c.requires.room.room); steps = omega (arith, fits) })
 
 pub loop-i-preserved : goal.loop-i-preserved
-loop-i-preserved c =
+loop-i-preserved g c =
     let s = c.args.setting.now in
     let start = c.args.start in
     let r = c.args.reference in
@@ -68,7 +68,7 @@ loop-i-preserved c =
     let run = c.loop-i.run in
     let cs = held_blocks s r n ds in
     let all = bits_of_sets s (data_sets s start false cs) in
-    let size = ap (λ m. slice_range ds (i * m) (i * m + m)) c.block-size.ensures.value in
+    let size = ap (λ m. slice_range ds (i * m) (i * m + m)) c.requires.size in
     let block = c.block.ensures.value ∙ (size ∙ held_range s ds i) in
     let raw = c.new-block.result in
     let e : raw ≡ held s r ds i = c.new-block.ensures ∙ (λ j. block_with (c.reference_of.ensures j) (block j)) in
@@ -115,7 +115,7 @@ loop-i-preserved c =
 
 -- the invariant at the end
 pub put_pending-requires-clause-room : goal.put_pending-requires-clause-room
-put_pending-requires-clause-room c =
+put_pending-requires-clause-room g c =
     let s = c.args.setting.now in
     let n = c.args.count in
     let ds = c.args.segment.now in
@@ -133,7 +133,7 @@ put_pending-requires-clause-room c =
     record { room = omega (arith, room, w, c.requires.room.room); steps = omega (arith, fits, w) }
 
 pub returns : goal.returns
-returns c =
+returns g c =
     let s = c.args.setting.now in
     let n = c.args.count in
     let ds = c.args.segment.now in

@@ -3,15 +3,15 @@ use Rattle.std.specs.Prelude.{flat_map, slice_range, sum_by}
 use Rattle.rice_bits.specs.Bits.{fundamental_sequence}
 use Rattle.rice_code.proofs.lemmas.encode.PartsWritten.{split_summed}
 use Rattle.rice_code.proofs.lemmas.encode.ShortDigits.{eight_added}
-use Rattle.rice_code.proofs.encode.short_sequences.put_short_high.Goals as goal
+use Rattle.rice_code.proofs.encode.short_sequences.put_sixteens.Goals as goal
 
 pub loop-i-init : goal.loop-i-init
 loop-i-init c =
-    let xs = c.args.block.now in
+    let xs = c.args.block in
     let from = c.args.from in
     let f = λ (d : ℕ). fundamental_sequence (d / 2 ^ c.args.k) in
     let start : 0 + from ≡ from = omega arith in
-    let all = c.args.sink.now ++ c.args.fields.now in
+    let all = c.args.sink.now ++ c.args.fields in
     let sums = split_summed (λ d. d / 2 ^ c.args.k) xs from 16 (omega (arith, c.requires.from)) in
     let row = ap (λ i. sum_by (λ d. d / 2 ^ c.args.k) (slice_range xs i 16)) start in
     record {
@@ -23,7 +23,7 @@ loop-i-init c =
 
 pub loop-i-preserved : goal.loop-i-preserved
 loop-i-preserved c =
-    let xs = c.args.block.now in
+    let xs = c.args.block in
     let f = λ (d : ℕ). fundamental_sequence (d / 2 ^ c.args.k) in
     let i = 16 * c.loop-i.i in
     let n = 16 * (c.loop-i.i + 1) in
