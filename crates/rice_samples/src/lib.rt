@@ -14,7 +14,7 @@ pub use blocks::block::Block;
 pub use blocks::segment::Segment;
 pub use bytes::reading::samples_of;
 pub use bytes::spelling::{bytes_of, sample_of};
-pub use bytes::writing::write_spellings;
+pub use bytes::writing::{write_spellings, write_spellings_as};
 pub use predict::preprocessor::{from_pattern, pattern, residual, restore};
 pub use predict::samples::{from_patterns, restore_all, restore_spread};
 pub use setting::{Setting, SettingFault};

@@ -285,8 +285,9 @@ impl Setting {
         self.signed
     }
 
+    /// Returns whether the most significant byte of a sample comes first.
     #[inline]
-    pub(crate) fn msb(&self) -> bool
+    pub fn msb(&self) -> bool
         ensures { result ≡ self.now.msb }
     {
         self.msb

@@ -2,12 +2,12 @@
 ghost use Rattle.std.specs.Prelude.{◌≡◌, ℕ, ◌+◌, ◌*◌, ◌^◌, ◌<◌, ◌≤◌, All, true, length, drop, OnOk, OnErr};
 ghost use Rattle.rice_bits.specs.device.Outlet.{Appends};
 ghost use Rattle.rice_bits.specs.Bits.{whole_bytes, bits_in_bytes};
-ghost use Rattle.rice_samples.specs.Parameters.{IsSample, width};
+ghost use Rattle.rice_samples.specs.Parameters.{IsSample, width as width_of};
 ghost use Rattle.rice_samples.specs.bytes.Spelling.{spellings};
 ghost use Rattle.rice_stream.specs.Writes.{TakesPart, Spells};
 
 use rice_bits::{BitSink, Outlet, WriteFault};
-use rice_samples::{Setting, write_spellings};
+use rice_samples::{Setting, write_spellings, write_spellings_as};
 
 /// Writes all of the bytes. `WriteFault` only if the outlet fails, which has then taken a part of them, and not all.
 #[inline(always)]
@@ -103,6 +103,7 @@ fn write_front<O: Outlet>(bytes: &[u8], outlet: &mut O) -> Result<(), WriteFault
     ensures err { OnErr result (TakesPart (O.taken outlet.old) (O.taken outlet.new) bytes.now ×
         (O.failed outlet.new ≡ O.failed outlet.old + 1)) }
 {
+    // A length that is known is copied at one stroke.
     match bytes.len() {
         8 => write_all(outlet, &bytes[..8]),
         16 => write_all(outlet, &bytes[..16]),
@@ -127,12 +128,12 @@ fn write_samples<O: Outlet>(
         (O.failed outlet.new ≡ O.failed outlet.old + 1)) }
     ensures spelled { Spells setting.now samples.now bytes.new }
 {
-    // Laid out for the blocks that are written most: a length that is known is copied at one stroke.
-    match (setting.width(), samples.len()) {
-        (1, 8) => write_sized(setting, samples, 8, 8, bytes, outlet),
-        (1, 16) => write_sized(setting, samples, 16, 16, bytes, outlet),
-        (2, 8) => write_sized(setting, samples, 8, 16, bytes, outlet),
-        (2, 16) => write_sized(setting, samples, 16, 32, bytes, outlet),
+    // Laid out for the blocks that are written most.
+    match (setting.width(), setting.msb(), samples.len()) {
+        (1, msb, 8) => write_sized(setting, 1, msb, 8, samples, bytes, outlet),
+        (1, msb, 16) => write_sized(setting, 1, msb, 16, samples, bytes, outlet),
+        (2, false, 8) => write_sized(setting, 2, false, 8, samples, bytes, outlet),
+        (2, false, 16) => write_sized(setting, 2, false, 16, samples, bytes, outlet),
         _ => write_other_samples(setting, samples, bytes, outlet),
     }
 }
@@ -154,36 +155,34 @@ fn write_other_samples<O: Outlet>(
         (O.failed outlet.new ≡ O.failed outlet.old + 1)) }
     ensures spelled { Spells setting.now samples.now bytes.new }
 {
-    match (setting.width(), samples.len()) {
-        (1, 64) => write_sized(setting, samples, 64, 64, bytes, outlet),
-        (3, 8) => write_sized(setting, samples, 8, 24, bytes, outlet),
-        (width, count) => {
-            write_sized(
-                setting,
-                samples,
-                count,
-                width as usize * count,
-                bytes,
-                outlet,
-            )
+    match (setting.width(), setting.msb(), samples.len()) {
+        (1, msb, 64) => write_sized(setting, 1, msb, 64, samples, bytes, outlet),
+        (3, false, 8) => write_sized(setting, 3, false, 8, samples, bytes, outlet),
+        (width, _, count) => {
+            let spelled = &mut bytes[..width as usize * count];
+            write_spellings(setting, samples, spelled);
+            write_all(outlet, spelled)
         }
     }
 }
 
-/// Writes the bytes of the samples, and leaves them in `bytes`. There are `count` samples, which take `len` bytes.
+/// Writes the bytes of `count` samples, and leaves them in `bytes`. It is laid out for what is known of the arguments, which
+/// are the width and the order of bytes of the setting.
 #[inline(always)]
 fn write_sized<O: Outlet>(
     setting: &Setting,
-    samples: &[i64],
+    width: usize,
+    msb: bool,
     count: usize,
-    len: usize,
+    samples: &[i64],
     bytes: &mut [u8; 256],
     outlet: &mut O,
 ) -> Result<(), WriteFault>
     requires legal { All (IsSample setting.now) samples.now }
+    requires width { width ≡ width_of setting.now }
+    requires order { msb ≡ setting.now.msb }
     requires count { length samples.now ≡ count }
-    requires len { width setting.now * length samples.now ≡ len }
-    requires few { len ≤ 256 }
+    requires few { count ≤ 64 }
     requires counted { O.failed outlet.old + 1 < 2 ^ 64 }
     ensures ok { OnOk result (Appends (O.taken outlet.old) (O.taken outlet.new) (spellings setting.now samples.now) ×
         (O.failed outlet.new ≡ O.failed outlet.old)) }
@@ -191,7 +190,7 @@ fn write_sized<O: Outlet>(
         (O.failed outlet.new ≡ O.failed outlet.old + 1)) }
     ensures spelled { Spells setting.now samples.now bytes.new }
 {
-    let spelled = &mut bytes[..len];
-    write_spellings(setting, &samples[..count], spelled);
+    let spelled = &mut bytes[..width * count];
+    write_spellings_as(setting, width, msb, &samples[..count], spelled);
     write_all(outlet, spelled)
 }

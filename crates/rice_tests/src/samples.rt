@@ -6,6 +6,7 @@ use rice_bits::Meter;
 use rice_samples::{
     Segment, Setting, SettingFault, bytes_of as bytes_of_sample, from_pattern, from_patterns,
     pattern, residual, restore, restore_all, sample_of, samples_of, write_spellings,
+    write_spellings_as,
 };
 use std::test::Fail;
 
@@ -465,9 +466,13 @@ fn samples_of_bytes(rt: HostRuntime) -> Result<(), Fail> {
         let taken = samples_of(&setting, &bytes[..width * len], &mut read[..len]);
         assert_eq!(rt; read[..taken], *expected, "{line}");
         let end = width * expected.len();
-        assert!(rt; end <= 12 && end <= bytes.len() && are_in_range(&setting, expected));
+        assert!(rt; end <= 12 && end <= bytes.len());
+        assert!(rt; are_in_range(&setting, expected));
         let mut back = [0; 12];
         write_spellings(&setting, expected, &mut back[..end]);
+        assert_eq!(rt; back[..end], bytes[..end], "{line}");
+        let mut back = [0; 12];
+        write_spellings_as(&setting, width, setting.msb(), expected, &mut back[..end]);
         assert_eq!(rt; back[..end], bytes[..end], "{line}");
     }
     Ok(())

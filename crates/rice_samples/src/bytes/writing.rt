@@ -1,9 +1,7 @@
 //! The bytes of several samples.
-ghost use Rattle.std.specs.Prelude.{◌≡◌, ℕ, ◌*◌, ◌≤◌, All, length, flat_map, ℤ};
+ghost use Rattle.std.specs.Prelude.{◌≡◌, ◌*◌, All, length};
 ghost use Rattle.rice_samples.specs.Parameters.{IsSample, width as width_of};
-ghost use Rattle.rice_samples.specs.predict.Residuals.{twos_complement};
 ghost use Rattle.rice_samples.specs.bytes.Spelling.{spellings};
-ghost use Rattle.rice_samples.specs.bytes.Values.{ordered_bytes};
 
 use crate::Setting;
 use crate::digits::{digits_of, store_word};
@@ -18,14 +16,14 @@ pub fn write_spellings(setting: &Setting, samples: &[i64], bytes: &mut [u8])
     // The loop is laid out for each of these: with a known width and order it writes a sample at one stroke, with a known length
     // a block.
     match (setting.width(), setting.msb(), samples.len()) {
-        (1, msb, 8) => write_words(setting, &samples[..8], 1, msb, bytes),
-        (1, msb, 16) => write_words(setting, &samples[..16], 1, msb, bytes),
-        (2, false, 16) => write_words(setting, &samples[..16], 2, false, bytes),
-        (1, msb, _) => write_words(setting, samples, 1, msb, bytes),
-        (2, false, _) => write_words(setting, samples, 2, false, bytes),
-        (2, true, _) => write_words(setting, samples, 2, true, bytes),
-        (3, false, _) => write_words(setting, samples, 3, false, bytes),
-        (4, false, _) => write_words(setting, samples, 4, false, bytes),
+        (1, msb, 8) => write_spellings_as(setting, 1, msb, &samples[..8], bytes),
+        (1, msb, 16) => write_spellings_as(setting, 1, msb, &samples[..16], bytes),
+        (2, false, 16) => write_spellings_as(setting, 2, false, &samples[..16], bytes),
+        (1, msb, _) => write_spellings_as(setting, 1, msb, samples, bytes),
+        (2, false, _) => write_spellings_as(setting, 2, false, samples, bytes),
+        (2, true, _) => write_spellings_as(setting, 2, true, samples, bytes),
+        (3, false, _) => write_spellings_as(setting, 3, false, samples, bytes),
+        (4, false, _) => write_spellings_as(setting, 4, false, samples, bytes),
         _ => write_others(setting, samples, bytes),
     }
 }
@@ -37,22 +35,25 @@ fn write_others(setting: &Setting, samples: &[i64], bytes: &mut [u8])
     requires len { length bytes.old ≡ width_of setting.now * length samples.now }
     ensures { bytes.new ≡ spellings setting.now samples.now }
 {
-    write_words(
-        setting,
-        samples,
-        setting.width() as usize,
-        setting.msb(),
-        bytes,
-    );
+    let width = setting.width() as usize;
+    write_spellings_as(setting, width, setting.msb(), samples, bytes);
 }
 
-/// Writes the spellings with the bytes in the given order.
+/// Writes the spellings of the samples, as `write_spellings` does. It is laid out for a width and an order of bytes that the
+/// compiler knows, which are those of the setting.
 #[inline(always)]
-fn write_words(setting: &Setting, samples: &[i64], width: usize, msb: bool, bytes: &mut [u8])
+pub fn write_spellings_as(
+    setting: &Setting,
+    width: usize,
+    msb: bool,
+    samples: &[i64],
+    bytes: &mut [u8],
+)
     requires legal { All (IsSample setting.now) samples.now }
     requires width { width ≡ width_of setting.now }
+    requires order { msb ≡ setting.now.msb }
     requires len { length bytes.old ≡ width * length samples.now }
-    ensures { bytes.new ≡ flat_map (λ x. ordered_bytes msb width (twos_complement (8 * width) x)) samples.now }
+    ensures { bytes.new ≡ spellings setting.now samples.now }
 {
     let _width = setting.width();
     for i in 0..samples.len() {
