@@ -211,14 +211,20 @@ fn code_each<const SIZE: usize>(
     ensures { PutsBlocks setting.now start (held_blocks setting.now reference count segment.now)
         sink.old sink.new meter.old meter.new }
 {
-    // What a copy of its own says is read once, and not again after each tick.
-    let own = *setting;
-    let _size = own.block();
+    let _size = setting.block();
     let mut run: u32 = 0;
     for i in 0..count {
         let block = HeldBlock::new(reference_of(reference, i), segment.block(i, SIZE));
-        run = code_next::<SIZE>(&own, reference, i - run as usize, run, block, sink, meter);
+        run = code_next::<SIZE>(
+            setting,
+            reference,
+            i - run as usize,
+            run,
+            block,
+            sink,
+            meter,
+        );
     }
     let first = reference_of(reference, count - run as usize);
-    put_pending(&own, first, run, true, sink, meter);
+    put_pending(setting, first, run, true, sink, meter);
 }

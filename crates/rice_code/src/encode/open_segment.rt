@@ -19,14 +19,14 @@ use std::marker::Model;
 /// In contracts its value is all of this but the length at which the segment is whole.
 #[derive(Drop)]
 pub struct OpenSegment {
-    setting: Setting,
+    setting: PreparedSetting,
+    /// The place in its interval of its first block.
+    start: u32,
     residuals: Segment,
     /// The reference of its first block.
     reference: Option<u32>,
     /// The sample before the next.
     previous: i64,
-    /// The place in its interval of its first block.
-    start: u32,
     /// The number of residuals that make it whole.
     end: usize,
 }
@@ -46,13 +46,14 @@ impl OpenSegment {
     pub fn new(setting: Setting) -> Self
         ensures { result ≡ empty_state setting }
     {
+        let setting = PreparedSetting::new(setting);
         let end = residuals_from(&setting, 0);
         OpenSegment {
             setting,
+            start: 0,
             residuals: Segment::new(),
             reference: None,
             previous: 0,
-            start: 0,
             end,
         }
     }
@@ -63,13 +64,14 @@ impl OpenSegment {
             blocks_left setting start) }
         ensures { result ≡ state_between setting start previous }
     {
+        let setting = PreparedSetting::new(setting);
         let end = residuals_from(&setting, start);
         OpenSegment {
             setting,
+            start,
             residuals: Segment::new(),
             reference: None,
             previous,
-            start,
             end,
         }
     }
@@ -160,7 +162,7 @@ impl OpenSegment {
         // The residual of a sample after itself is 0, as it is at a reference place.
         if self.is_reference_next() {
             let first = samples[0];
-            self.reference = Some(pattern(&self.setting, first));
+            self.reference = Some(pattern(self.setting.plain(), first));
             self.hold_after(first, samples);
         } else {
             self.hold_after(self.previous, samples);
@@ -206,9 +208,8 @@ impl OpenSegment {
         let setting = &self.setting;
         let blocks = blocks_of(setting, self.residuals.len());
         let before = sink.len();
-        let prepared = PreparedSetting::new(*setting);
         code_blocks(
-            &prepared,
+            setting,
             self.start,
             self.reference,
             blocks,
@@ -251,7 +252,7 @@ impl OpenSegment {
 
 /// Returns the number of whole blocks that `len` residuals make.
 #[inline]
-fn blocks_of(setting: &Setting, len: usize) -> usize
+fn blocks_of(setting: &PreparedSetting, len: usize) -> usize
     ensures { result ≡ len / setting.now.block }
 {
     // Division by a size that the compiler knows is a shift.
@@ -264,7 +265,7 @@ fn blocks_of(setting: &Setting, len: usize) -> usize
 }
 
 /// Returns the number of residuals of a segment from its block at place `start` of the interval on.
-fn residuals_from(setting: &Setting, start: u32) -> usize
+fn residuals_from(setting: &PreparedSetting, start: u32) -> usize
     ensures value { result ≡ setting.now.block * blocks_left setting.now start }
     ensures limit { result ≤ 4096 }
     ensures legal { IsLegal setting.now }
@@ -273,7 +274,7 @@ fn residuals_from(setting: &Setting, start: u32) -> usize
 }
 
 /// Returns the place of the first block after the segment that has a block at place `start`.
-fn next_start(setting: &Setting, start: u32) -> u32
+fn next_start(setting: &PreparedSetting, start: u32) -> u32
     requires { start ≤ 4096 }
     ensures { result ≡ (if start +
         blocks_left setting.now start == setting.now.interval then 0 else start +
@@ -285,48 +286,48 @@ fn next_start(setting: &Setting, start: u32) -> u32
 
 /// Returns the residual of `x` after `previous`: 0 for the first sample of an interval.
 #[inline]
-fn next_residual(setting: &Setting, first: bool, previous: i64, x: i64) -> u32
+fn next_residual(setting: &PreparedSetting, first: bool, previous: i64, x: i64) -> u32
     requires before { IsSample setting.now previous }
     requires sample { IsSample setting.now x }
     ensures { result ≡ (if setting.now.preprocess then (if first then 0 else rank setting.now previous x) else pattern setting.now x) }
 {
     if !setting.preprocess() {
-        return pattern(setting, x);
+        return pattern(setting.plain(), x);
     }
     if first {
         0
     } else {
-        residual(setting, previous, x)
+        residual(setting.plain(), previous, x)
     }
 }
 
 /// Notes the sample `x` as the segment's reference, if it is the first of an interval.
 #[inline]
-fn note_reference(setting: &Setting, first: bool, reference: &mut Option<u32>, x: i64)
+fn note_reference(setting: &PreparedSetting, first: bool, reference: &mut Option<u32>, x: i64)
     requires { IsSample setting.now x }
     ensures { reference.new ≡ (if setting.now.preprocess && first then Some (pattern setting.now x) else reference.old) }
 {
     if setting.preprocess() && first {
-        *reference = Some(pattern(setting, x));
+        *reference = Some(pattern(setting.plain(), x));
     }
 }
 
 /// Adds the residuals of samples after `previous`, none of which is the first of an interval.
-fn push_later(setting: &Setting, previous: i64, samples: &[i64], segment: &mut Segment)
+fn push_later(setting: &PreparedSetting, previous: i64, samples: &[i64], segment: &mut Segment)
     requires before { IsSample setting.now previous }
     requires samples { All (IsSample setting.now) samples.now }
     requires room { length segment.old + length samples.now ≤ 4096 }
     ensures { segment.new ≡ segment.old ++ later_residuals setting.now previous samples.now }
 {
     if setting.preprocess() {
-        segment.push_residuals(setting, previous, samples);
+        segment.push_residuals(setting.plain(), previous, samples);
     } else {
-        segment.push_patterns(setting, samples);
+        segment.push_patterns(setting.plain(), samples);
     }
 }
 
 /// Fills the last byte with zeros if an interval ends after `blocks` blocks, and intervals are padded.
-fn pad_interval(setting: &Setting, blocks: usize, sink: &mut SegmentSink)
+fn pad_interval(setting: &PreparedSetting, blocks: usize, sink: &mut SegmentSink)
     ensures { sink.new ≡ sink.old ++
         replicate (if setting.now.pad && blocks == setting.now.interval then bits_to_byte (length sink.old) else 0) false }
 {

@@ -1,6 +1,7 @@
 //! A setting, with what the code of each block asks for.
 ghost use Rattle.std.specs.Prelude.{◌≡◌, ℕ, ◌≤◌};
 ghost use Rattle.rice_samples.specs.Parameters.{IsLegal, IsBlockSize, id_len, k_max};
+ghost use Rattle.rice_samples.specs.Places.{blocks_left};
 
 use rice_samples::Setting;
 use std::marker::Model;
@@ -82,5 +83,47 @@ impl PreparedSetting {
         ensures range { (5 ≤ result) × (result ≤ 29) }
     {
         self.k_max
+    }
+
+    /// Returns the setting.
+    #[inline]
+    pub fn plain(&self) -> &Setting
+        ensures { result.now ≡ self.now }
+    {
+        &self.setting
+    }
+
+    /// Returns whether samples are predicted, and their residuals coded in place of their patterns.
+    #[inline]
+    pub fn preprocess(&self) -> bool
+        ensures { result ≡ self.now.preprocess }
+    {
+        self.setting.preprocess()
+    }
+
+    /// Returns whether the code of each interval is filled to a byte.
+    #[inline]
+    pub fn pads(&self) -> bool
+        ensures { result ≡ self.now.pad }
+    {
+        self.setting.pads()
+    }
+
+    /// Returns the number of blocks of a reference interval.
+    #[inline]
+    pub fn interval(&self) -> u32
+        ensures value { result ≡ self.now.interval }
+        ensures range { (1 ≤ result) × (result ≤ 4096) }
+    {
+        self.setting.interval()
+    }
+
+    /// Returns the number of blocks from block `b` to the end of its segment, `b` included.
+    #[inline]
+    pub fn blocks_left(&self, b: u64) -> u32
+        ensures value { result ≡ blocks_left self.now b }
+        ensures range { (1 ≤ result) × (result ≤ 64) }
+    {
+        self.setting.blocks_left(b)
     }
 }
