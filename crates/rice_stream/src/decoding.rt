@@ -148,7 +148,7 @@ fn stays(decoder: &Decoder, again: bool, samples: &[i64], count: usize) -> bool
     ensures { result ≡ true → RepeatsSamples decoder.now samples.now × (count ≡ length samples.now) }
 {
     if again {
-        return decoder.waiting() > 0;
+        return decoder.is_in_run();
     }
     decoder.repeats(samples) && count == samples.len()
 }

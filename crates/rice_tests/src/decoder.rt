@@ -154,11 +154,13 @@ fn waiting_samples(rt: HostRuntime) -> Result<(), Fail> {
         Ok(Step::Block)
     );
     assert_eq!(rt; decoder.waiting(), 8);
+    assert_eq!(rt; decoder.is_in_run(), true);
     assert_eq!(rt;
         decoder.next_block(&mut reader, &mut meter, &mut block),
         Ok(Step::Block)
     );
     assert_eq!(rt; decoder.waiting(), 0);
+    assert_eq!(rt; decoder.is_in_run(), false);
     assert_eq!(rt; meter.steps(), 17);
     Ok(())
 }

@@ -149,6 +149,15 @@ impl Decoder {
         self.run as u64 * self.setting.block() as u64
     }
 
+    /// Returns whether the next block is in a run.
+    #[inline]
+    pub fn is_in_run(&self) -> bool
+        ensures some { result ≡ true → 0 < self.now.run }
+        ensures none { result ≡ false → self.now.run ≡ 0 }
+    {
+        self.run != 0
+    }
+
     /// Returns whether the next block is in a run, and is known to have just these samples. Without preprocessing none is known to.
     pub fn repeats(&self, samples: &[i64]) -> bool
         ensures repeats { result ≡ true → RepeatsSamples self.now samples.now }

@@ -44,13 +44,6 @@ next_none : (coder : CoderState) (xs : List ℤ) → (coder.setting.preprocess &
 next_none coder [] e = refl
 next_none coder (x ∷ xs) e = ap (λ v. cond v (Some (pattern coder.setting x)) coder.reference) e
 
-pub state_after_all-later : (coder : CoderState) (xs : List ℤ) → (coder.setting.preprocess && is_first coder) ≡ false →
-    state_after_all coder xs ≡ record { setting = coder.setting; residuals = coder.residuals ++ later_residuals coder.setting coder.previous xs; reference = coder.reference; previous = last_of coder.previous xs; start = coder.start }
-state_after_all-later coder xs e =
-    let ds = next_later coder xs e in
-    let r = next_none coder xs e in
-    λ i. record { setting = coder.setting; residuals = coder.residuals ++ ds i; reference = r i; previous = last_of coder.previous xs; start = coder.start }
-
 -- no sample,
 pub state_after_all-none : (coder : CoderState) (xs : List ℤ) → length xs ≡ 0 → state_after_all coder xs ≡ coder
 state_after_all-none coder [] e = λ i. record { setting = coder.setting; residuals = append-nil coder.residuals i; reference = coder.reference; previous = coder.previous; start = coder.start }

@@ -1,4 +1,4 @@
-use Rattle.std.proofs.Common.{arith, rules, ◌≡◌, ◌-◌, ap, subst, w64}
+use Rattle.std.proofs.Common.{arith, rules, ◌≡◌, ◌-◌, ap, subst, w64, true}
 use Rattle.std.proofs.lemmas.Int.{to_z-of_z}
 use mir.Val.{SFits}
 use Rattle.rice_code.specs.decode.Decoder.{TakesSet, StopsBy, answer_to, with_mark}
@@ -89,7 +89,8 @@ pub returns-in-Err-clause-reads : goal.returns-in-Err-clause-reads
 returns-in-Err-clause-reads g c =
     let st = c.self.inside in
     let marks = c.mark.ensures.going c.requires.going in
-    let stops = stops_by c.mark.new.self c.read_set.new.reader st.setting st.block c.in-Err.fault (ap (λ r. r.blank) marks) c.in-Err.ensures.err in
+    let marked : c.mark.new.self.blank ≡ true = ap (λ r. r.blank) marks in
+    let stops = stops_by c.mark.new.self c.read_set.new.reader st.setting st.block c.in-Err.fault marked c.in-Err.ensures.err in
     rw (← c.self.view_is, c.stop-in-Err.ensures.answer, c.answer_of.ensures)
     (answers_stop (with_mark c.args.reader.now) c.read_set.new.reader c.args.meter.now c.read_set.new.meter (record { setting = st.setting; block = st.block; before = st.before; run = st.run; stopped = st.stopped }) c.stop-in-Err.new.self c.stop-in-Err.new.samples.items (answer_to c.in-Err.fault)
     (subst (λ r. StopsBy r c.read_set.new.reader st.setting st.block (answer_to c.in-Err.fault)) marks stops) (rw c.answer_of.ensures at c.stop-in-Err.ensures.stops) c.stop-in-Err.ensures.samples)
