@@ -54,6 +54,9 @@ impl Encoding {
     }
 
     /// Returns an encoding that goes on after the code of whole segments.
+    ///
+    /// It is inlined, so that it is made where it is kept, and not copied there.
+    #[inline(always)]
     pub(crate) fn resume(setting: Setting, seam: &Seam) -> Self
         requires { (xs : List ℤ) × IsSeam setting seam.now xs }
         ensures { (now : Option Room) (xs : List ℤ) → IsSeam setting seam.now xs →
