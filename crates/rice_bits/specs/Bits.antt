@@ -1,5 +1,5 @@
 -- Lists of bits, and the numbers and bytes that they spell.
-use Rattle.std.specs.Prelude.{◌≡◌, ℕ, zero, suc, ◌+◌, ◌-◌, ◌*◌, ◌/◌, ◌%◌, ◌^◌, ◌<◌, ◌≤◌, Bool, true, false, List, [], ◌∷◌, ◌++◌, drop, length, replicate, ◌==◌, if◌then◌else◌}
+use Rattle.std.specs.Prelude.{◌≡◌, ℕ, zero, suc, ◌+◌, ◌-◌, ◌*◌, ◌/◌, ◌%◌, ◌^◌, ◌<◌, ◌≤◌, Bool, true, false, List, [], ◌∷◌, ◌++◌, drop, length, replicate, take, ◌==◌, if◌then◌else◌}
 use Rattle.std.specs.List.{flat_map}
 
 -- the fundamental sequence of m: m zeros and a one
@@ -52,6 +52,13 @@ pub record IsBitSink (capacity bits : ℕ) (bytes : List ℕ) : Type 0 where
   pub room : bits ≤ 8 * capacity
   pub zeros : drop bits (bits_of bytes) ≡ replicate (8 * capacity - bits) false
   pub small : capacity < 2 ^ 32
+
+-- `more`, `count` bits, are joined to the first `bits` bits of the bytes, and are gathered with them.
+pub record Joins (more : List Bool) (count bits all : ℕ) (old new : List ℕ) : Type 0 where
+  pub all_bits : all ≡ bits + count
+  pub same_len : length new ≡ length old
+  pub gathered : IsBitSink (length new) all new
+  pub joined : take all (bits_of new) ≡ take bits (bits_of old) ++ more
 
 -- the powers of 2 that move each of four words of `width` digits to the front
 abbrev pub four_powers : ℕ → List ℕ

@@ -2,6 +2,7 @@
 pub mod Bytes
 pub mod EightBytes
 pub mod FirstOnes
+pub mod Joining
 pub mod OneWay
 pub mod Pieces
 pub mod Words

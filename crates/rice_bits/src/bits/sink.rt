@@ -1,9 +1,9 @@
 //! A list of bits that is gathered into bytes.
-ghost use Rattle.std.specs.Prelude.{◌≡◌, ℕ, ◌+◌, ◌-◌, ◌*◌, ◌%◌, ◌^◌, ◌<◌, ◌≤◌, ◌↔◌, IsTrue, Bool, false, List, [], ◌++◌, length, drop, replicate};
-ghost use Rattle.rice_bits.specs.Bits.{fundamental_sequence, word, whole_bytes, bits_in_bytes, bits_to_byte, put_width, Puts};
+ghost use Rattle.std.specs.Prelude.{◌≡◌, ℕ, ◌+◌, ◌-◌, ◌*◌, ◌%◌, ◌^◌, ◌<◌, ◌≤◌, ◌↔◌, IsTrue, Bool, false, List, [], ◌++◌, length, drop, flat_map, replicate};
+ghost use Rattle.rice_bits.specs.Bits.{fundamental_sequence, word, whole_bytes, bits_in_bytes, bits_to_byte, put_width, IsBitSink, Joins, Puts};
 
 use crate::Meter;
-use crate::bits::digits::to_front;
+use crate::bits::digits::{join, low_digits, to_front};
 use crate::bits::octets::{front, join_bytes, join_one, keep_byte};
 use std::marker::Model;
 
@@ -91,13 +91,19 @@ impl<const N: usize> BitSink<N> {
         ensures { Puts (word width value) width self.old self.new meter.old meter.new }
     {
         meter.tick(width as u64);
-        let count = (self.bits % 8) as u32 + width;
-        join_bytes(
-            &mut self.bytes,
-            (self.bits / 8) as usize,
-            to_front(value, count),
-        );
-        self.bits += width as u64;
+        self.bits = join_digits(&mut self.bytes, self.bits, value, width);
+    }
+
+    /// Appends the `width` lowest binary digits of each of the words, most significant first, and ticks once for each digit.
+    #[inline(always)]
+    pub fn put_words(&mut self, words: &[u32], width: u32, meter: &mut Meter)
+        requires width { width ≤ 32 }
+        requires room { length self.old + width * length words.now ≤ 8 * N }
+        requires meter { meter.old + width * length words.now < 2 ^ 62 }
+        ensures { Puts (flat_map (word width) words.now) (width * length words.now) self.old self.new meter.old meter.new }
+    {
+        meter.tick(width as u64 * words.len() as u64);
+        self.bits = join_words(&mut self.bytes, self.bits, words, width);
     }
 
     /// Appends the fundamental sequence of `m`, `m` zeros and a one, and ticks once for each bit
@@ -139,4 +145,69 @@ impl<const N: usize> BitSink<N> {
     {
         self.bits += (8 - self.bits % 8) % 8;
     }
+}
+
+/// Joins the `width` binary digits of `value` to the first `bits` bits, and returns how many bits there are then.
+#[inline(always)]
+fn join_digits(bytes: &mut [u8], bits: u64, value: u64, width: u32) -> u64
+    requires width { width ≤ put_width }
+    requires value { value < 2 ^ width }
+    requires bits { IsBitSink (length bytes.old) bits bytes.old }
+    requires room { bits + width ≤ 8 * length bytes.old }
+    ensures { Joins (word width value) width bits result bytes.old bytes.new }
+{
+    let count = (bits % 8) as u32 + width;
+    join_bytes(bytes, (bits / 8) as usize, to_front(value, count));
+    bits + width as u64
+}
+
+/// Joins the `width` lowest digits of each of the words to the first `bits` bits, and returns how many bits there are then.
+#[inline(always)]
+fn join_words(bytes: &mut [u8], bits: u64, words: &[u32], width: u32) -> u64
+    requires width { width ≤ 32 }
+    requires bits { IsBitSink (length bytes.old) bits bytes.old }
+    requires room { bits + width * length words.now ≤ 8 * length bytes.old }
+    ensures { Joins (flat_map (word width) words.now) (width * length words.now) bits result bytes.old bytes.new }
+{
+    if width <= 28 {
+        join_pairs(bytes, bits, words, width)
+    } else {
+        join_each(bytes, bits, words, width)
+    }
+}
+
+/// As `join_words`, one word at a time.
+#[inline(always)]
+fn join_each(bytes: &mut [u8], bits: u64, words: &[u32], width: u32) -> u64
+    requires width { width ≤ 32 }
+    requires bits { IsBitSink (length bytes.old) bits bytes.old }
+    requires room { bits + width * length words.now ≤ 8 * length bytes.old }
+    ensures { Joins (flat_map (word width) words.now) (width * length words.now) bits result bytes.old bytes.new }
+{
+    let mut bits = bits;
+    for i in 0..words.len() {
+        bits = join_digits(bytes, bits, low_digits(words[i], width), width);
+    }
+    bits
+}
+
+/// As `join_words`, two words at a time: the digits of two are at most 56.
+#[inline(always)]
+fn join_pairs(bytes: &mut [u8], bits: u64, words: &[u32], width: u32) -> u64
+    requires width { width ≤ 28 }
+    requires bits { IsBitSink (length bytes.old) bits bytes.old }
+    requires room { bits + width * length words.now ≤ 8 * length bytes.old }
+    ensures { Joins (flat_map (word width) words.now) (width * length words.now) bits result bytes.old bytes.new }
+{
+    let mut bits = bits;
+    let pairs = words.len() / 2;
+    for i in 0..pairs {
+        let pair = join(
+            low_digits(words[2 * i], width),
+            width,
+            low_digits(words[2 * i + 1], width),
+        );
+        bits = join_digits(bytes, bits, pair, 2 * width);
+    }
+    join_each(bytes, bits, &words[2 * pairs..], width)
 }

@@ -6,18 +6,8 @@ ghost use Rattle.rice_code.specs.encode.Parts.{HasRoomForLow, AddsLow};
 
 use crate::encode::SegmentSink;
 use crate::encode::bit_buffer::BitBuffer;
-use rice_bits::{Meter, join};
+use rice_bits::{Meter, join, low_digits};
 use rice_samples::Block;
-
-/// Returns the number of the `width` lowest digits of `value`.
-#[inline]
-fn low_digits(value: u32, width: u32) -> u64
-    requires { width ≤ 32 }
-    ensures value { result ≡ value % 2 ^ width }
-    ensures fits { result < 2 ^ width }
-{
-    value as u64 % (1 << width)
-}
 
 /// Adds the `width` lowest digits of each residual from number `from` on.
 #[inline(always)]
@@ -36,13 +26,13 @@ pub fn put_low(
     ensures { AddsLow width (length block.now - from) (drop from block.now)
         sink.old fields.old sink.new fields.new meter.old meter.new }
 {
+    if width > 14 {
+        put_wide(block, from, width, fields, sink, meter);
+        return;
+    }
     let end = block.len();
     let fours = from + (end - from) % 4;
     put_each_low(block, from, fours, width, fields, sink, meter);
-    if width > 14 {
-        put_four_wide(block, fours, width, fields, sink, meter);
-        return;
-    }
     put_four_low(block, fours, width, fields, sink, meter);
 }
 
@@ -95,9 +85,9 @@ fn put_four_low(
     }
 }
 
-/// Adds those of the residuals from number `from` on, two at a time: four may be more than a buffer holds.
+/// Puts the bits of the buffer, and then those of the residuals from number `from` on.
 #[inline(always)]
-fn put_four_wide(
+fn put_wide(
     block: &Block<'_>,
     from: usize,
     width: u32,
@@ -107,44 +97,13 @@ fn put_four_wide(
 )
     requires width { width ≤ 32 }
     requires from { from ≤ length block.now }
-    requires fours { (length block.now - from) % 4 ≡ 0 }
     requires room { HasRoomForLow width (length block.now - from)
         (length sink.old + length fields.old) (meter.old + length fields.old) }
     ensures { AddsLow width (length block.now - from) (drop from block.now)
         sink.old fields.old sink.new fields.new meter.old meter.new }
 {
-    for i in 0..(block.len() - from) / 4 {
-        let (a, b, c, d) = block.four_at(from + 4 * i, meter);
-        put_wide_pair((a, b), width, fields, sink, meter);
-        put_wide_pair((c, d), width, fields, sink, meter);
-    }
-}
-
-/// Puts the bits of the buffer, and adds the lowest digits of two numbers.
-#[inline(always)]
-fn put_wide_pair(
-    pair: (u32, u32),
-    width: u32,
-    fields: &mut BitBuffer,
-    sink: &mut SegmentSink,
-    meter: &mut Meter,
-)
-    requires width { width ≤ 32 }
-    requires room { HasRoomFor (2 * width) (2 * width) (length sink.old +
-        length fields.old) (meter.old + length fields.old) }
-    ensures { AddsFields (word width pair.0 ++ word width pair.1) (2 * width) (2 * width)
-        sink.old fields.old sink.new fields.new meter.old meter.new }
-{
-    let first = low_digits(pair.0, width);
-    let second = low_digits(pair.1, width);
     fields.put(sink, meter);
-    if width <= 28 {
-        fields.add(join(first, width, second), 2 * width, sink, meter);
-        return;
-    }
-    fields.add(first, width, sink, meter);
-    fields.put(sink, meter);
-    fields.add(second, width, sink, meter);
+    block.put_digits(from, width, sink, meter);
 }
 
 /// Returns the number whose digits are the lowest digits of four numbers, one after the other.

@@ -1,20 +1,21 @@
 //! Blocks of residuals, which are read only by calls that count their steps.
-ghost use Rattle.std.specs.Prelude.{◌≡◌, All, ℕ, ◌+◌, ◌*◌, ◌/◌, ◌^◌, ◌==◌, ◌<◌, ◌≤◌, min, length, slice_index, sum_by};
+ghost use Rattle.std.specs.Prelude.{◌≡◌, All, ℕ, ◌+◌, ◌-◌, ◌*◌, ◌/◌, ◌^◌, ◌==◌, ◌<◌, ◌≤◌, ◌++◌, drop, flat_map, min, length, slice_index, sum_by};
 ghost use Rattle.std.specs.List.{list_all};
+ghost use Rattle.rice_bits.specs.Bits.{word};
 ghost use Rattle.rice_samples.specs.blocks.Pairs.{pair_codes};
 ghost use Rattle.rice_samples.specs.Parameters.{IsBlockSize};
 
 use crate::blocks::codewords::{pair_sum, tiny_pair_sum};
 use crate::blocks::lanes::{all_of, all_zero, sum_shifted};
 use crate::blocks::minimum::{first_small_stop, first_stop};
-use rice_bits::Meter;
+use rice_bits::{BitSink, Meter};
 use std::marker::Model;
 
 /// The residuals of a block, 8, 16, 32 or 64 of them, lent by a segment. Contracts see their list.
 ///
 /// Each look at a residual is a step. The calls below tick one for each residual of the block, `at`
-/// ticks one, `four_at` four, and `first_stop` the looks of the definition. No other call reveals
-/// anything about the residuals. A block is never empty.
+/// ticks one, `four_at` four, `put_digits` one for each that it puts, and `first_stop` the looks of
+/// the definition. No other call reveals anything about the residuals. A block is never empty.
 #[derive(Drop)]
 pub struct Block<'a> {
     items: &'a [u32],
@@ -182,6 +183,30 @@ impl Block<'_> {
         let items = self.items;
         meter.tick(4);
         (items[i], items[i + 1], items[i + 2], items[i + 3])
+    }
+
+    /// Appends the `width` lowest binary digits of each residual from number `from` on to the sink, for a step each, and a step
+    /// for each digit.
+    #[inline(always)]
+    pub fn put_digits<const N: usize>(
+        &self,
+        from: usize,
+        width: u32,
+        sink: &mut BitSink<N>,
+        meter: &mut Meter,
+    )
+        requires width { width ≤ 32 }
+        requires from { from ≤ length self.now }
+        requires room { length sink.old + width * (length self.now - from) ≤ 8 * N }
+        requires meter { meter.old + (length self.now - from) + width * (length self.now - from) < 2 ^ 62 }
+        ensures bits { sink.new ≡ sink.old ++ flat_map (word width) (drop from self.now) }
+        ensures len { length sink.new ≡ length sink.old + width * (length self.now - from) }
+        ensures steps { meter.new ≡ meter.old + (length self.now - from) + width * (length self.now - from) }
+    {
+        let items = self.items;
+        let coded = &items[from..];
+        meter.tick(coded.len() as u64);
+        sink.put_words(coded, width, meter);
     }
 
     /// Ticks the looks of a search up to `limit` that stopped at `k`.

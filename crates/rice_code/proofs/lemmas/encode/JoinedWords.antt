@@ -1,9 +1,8 @@
 -- Words that are joined.
-use Rattle.std.proofs.Common.{◌≡◌, ℕ, ◌+◌, ◌*◌, ◌%◌, ◌^◌, ◌<◌, ◌≤◌, Bool, List, ◌++◌, length, ap, arith, sym, subst, ◌∙◌, append_assoc}
+use Rattle.std.proofs.Common.{◌≡◌, ℕ, ◌+◌, ◌*◌, ◌^◌, ◌<◌, ◌≤◌, Bool, List, ◌++◌, length, ap, arith, sym, subst, ◌∙◌, append_assoc}
 use Rattle.std.proofs.Math.Nat.{pow-le-pow_right}
 use Rattle.std.proofs.lemmas.Nat.{pow-add, pow_pos}
 use Rattle.rice_bits.specs.Bits.{word}
-use Rattle.rice_bits.proofs.lemmas.bits.EightBytes.{word-mod}
 use Rattle.rice_bits.proofs.lemmas.bits.Words.{length-word, word-cat, join_below}
 use Rattle.rice_code.specs.encode.BitBuffer.{IsShort}
 
@@ -24,10 +23,6 @@ joined_bits sink bits width value more digits joined total e lt f g =
 -- a one fits the width of its fundamental sequence
 pub one_fits : (m : ℕ) → 1 < 2 ^ (m + 1)
 one_fits m = let e : 2 ^ (m + 1) ≡ 2 ^ m * 2 = pow-add 2 m 1 in let some : 0 < 2 ^ m = pow_pos m in omega (arith, e, some)
-
--- the lowest digits of a number
-pub low_word : (w d l : ℕ) → l ≡ d % 2 ^ w → word w l ≡ word w d
-low_word w d l e = ap (word w) e ∙ word-mod w w d (omega arith)
 
 -- one number more after a number
 pub joined_fits : (width more v l all : ℕ) → v < 2 ^ width → l < 2 ^ more → all ≡ v * 2 ^ more + l → all < 2 ^ (width + more)

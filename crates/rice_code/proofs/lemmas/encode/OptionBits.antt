@@ -1,5 +1,5 @@
 -- The texts of blocks, piece by piece.
-use Rattle.std.proofs.Common.{◌≡◌, ℕ, zero, suc, ◌+◌, ◌-◌, ◌*◌, ◌/◌, ◌%◌, ◌^◌, ◌<◌, ◌≤◌, Bool, true, false, cond, ◌&&◌, nat_le, List, [], ◌∷◌, ◌++◌, length, drop, get_or, refl, ap, arith, sym, ◌∙◌, append_assoc, append-nil, Option}
+use Rattle.std.proofs.Common.{◌≡◌, ℕ, zero, suc, ◌+◌, ◌-◌, ◌*◌, ◌/◌, ◌%◌, ◌^◌, ◌<◌, ◌≤◌, Bool, true, false, cond, ◌&&◌, nat_le, List, [], ◌∷◌, ◌++◌, length, drop, get_or, refl, ap, arith, sym, ◌∙◌, append_assoc, Option}
 use Rattle.std.specs.Prelude.{flat_map, sum_by}
 use Rattle.std.proofs.lemmas.List.{length-drop, drop_all, drop_more}
 use Rattle.std.proofs.lemmas.List.Sums.{sum_by-cons}
@@ -19,10 +19,6 @@ word_flag n = word-fs n ∙ ap (λ z. z ++ true ∷ []) (sym (word-zero n))
 -- and one zero more
 pub word_flag_zero : (n : ℕ) → word (n + 1) 0 ≡ word n 0 ++ false ∷ []
 word_flag_zero n = word-cat n 1 0 0 (omega arith) ∙ ap (λ z. word n 0 ++ z) (word-zero 1)
-
--- the first of gathered fields
-pub first_field : (sink fields more both : List Bool) → fields ≡ [] → both ≡ sink ++ fields ++ more → both ≡ sink ++ more
-first_field sink fields more both e f = f ∙ ((λ i. sink ++ e i ++ more) ∙ ap (λ v. v ++ more) (append-nil sink))
 
 -- no digits
 pub no_digits : (xs : List ℕ) → flat_map (word 0) xs ≡ []
@@ -119,9 +115,6 @@ four_added f xs i n a b all h e added same =
   where
     nest : (a b c d e rest : List Bool) → (a ++ (b ++ c ++ d ++ e)) ++ rest ≡ a ++ (b ++ (c ++ (d ++ (e ++ rest))))
     nest a b c d e rest = simp append_assoc
-
-pub two_pairs : (all a b c d : List Bool) → (all ++ (a ++ b)) ++ (c ++ d) ≡ all ++ (a ++ b ++ c ++ d)
-two_pairs all a b c d = simp append_assoc
 
 pub four_fewer : (n i m w : ℕ) → i + 3 < n → m ≡ i + 4 → (n - i) * w ≡ (n - m) * w + 4 * w
 four_fewer n i m w h e = let f : n - i ≡ n - m + 4 = omega arith in ap (λ k. k * w) f ∙ (omega arith)

@@ -8,7 +8,8 @@ use Rattle.std.proofs.lemmas.List.Folds.{drop_split}
 use Rattle.rice_bits.specs.Bits.{word}
 use Rattle.rice_bits.proofs.lemmas.bits.Words.{length-word, word-split}
 use Rattle.rice_bits.proofs.lemmas.bits.EightBytes.{word-mod}
-use Rattle.rice_code.proofs.lemmas.encode.JoinedWords.{four_words, low_word}
+use Rattle.rice_bits.proofs.lemmas.bits.Joining.{low_word}
+use Rattle.rice_code.proofs.lemmas.encode.JoinedWords.{four_words}
 use Rattle.rice_code.proofs.lemmas.encode.OptionBits.{four_more}
 
 -- four products in lanes of 32 bits, and the sum of the sums of neighbours

@@ -1,5 +1,6 @@
 use Rattle.std.proofs.Common.{arith, ◌+◌, ◌*◌}
-use Rattle.rice_code.proofs.lemmas.encode.JoinedWords.{joined_fits, high_small, low_word, four_words}
+use Rattle.rice_bits.proofs.lemmas.bits.Joining.{low_word}
+use Rattle.rice_code.proofs.lemmas.encode.JoinedWords.{joined_fits, high_small, four_words}
 use Rattle.rice_code.proofs.encode.fields.four_low.Goals as goal
 
 pub returns-clause-fits : goal.returns-clause-fits
