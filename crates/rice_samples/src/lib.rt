@@ -16,7 +16,7 @@ pub use bytes::reading::samples_of;
 pub use bytes::spelling::{bytes_of, sample_of};
 pub use bytes::writing::{write_spellings, write_spellings_as};
 pub use predict::preprocessor::{from_pattern, pattern, residual, restore};
-pub use predict::samples::{from_patterns, restore_all, restore_spread};
+pub use predict::samples::{level_of_pattern, levels_of_patterns, restore_all, restore_spread};
 pub use setting::{Setting, SettingFault};
 
 // What it holds, in bytes, on a machine with pointers of eight.

@@ -1,6 +1,6 @@
 //! The setting of a coder and a decoder.
 ghost use Rattle.std.specs.Prelude.{◌≡◌, ◌⊎◌, ℕ, ◌+◌, ◌-◌, ◌*◌, ◌%◌, ◌^◌, ◌<◌, ◌≤◌, ◌↔◌, IsTrue, IsOk, IfErr, ℤ};
-ghost use Rattle.rice_samples.specs.Parameters.{Parameters, IsLegal, IsSample, id_len, k_max, width, value_count, least, level, level as level_of};
+ghost use Rattle.rice_samples.specs.Parameters.{Parameters, IsLegal, IsSample, id_len, k_max, width, value_at as value_at_level, value_count, least, level, level as level_of};
 ghost use Rattle.rice_samples.specs.Places.{segment_blocks, blocks_left, is_reference};
 ghost use Rattle.rice_samples.specs.Parameters.{IsBlockSize};
 ghost use Rattle.rice_samples.specs.Settings.{parameters, setting_of, IsRefused};
@@ -259,7 +259,7 @@ impl Setting {
 
     /// Returns the level of `x`: the number of legal values below it.
     #[inline]
-    pub(crate) fn level(&self, x: i64) -> u64
+    pub fn level(&self, x: i64) -> u64
         requires { IsSample self.now x }
         ensures value { result ≡ level self.now x }
         ensures below { result < value_count self.now }
@@ -270,8 +270,9 @@ impl Setting {
 
     /// Returns the value with the given level.
     #[inline]
-    pub(crate) fn value_at(&self, level: u64) -> i64
+    pub fn value_at(&self, level: u64) -> i64
         requires { level < value_count self.now }
+        ensures value { result ≡ value_at_level self.now level }
         ensures sample { IsSample self.now result }
         ensures level { level_of self.now result ≡ level }
     {

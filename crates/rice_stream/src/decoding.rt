@@ -1,6 +1,7 @@
 //! Decodes a code to its samples.
 ghost use Rattle.std.specs.Prelude.{ℕ, length, ◌≡◌, ◌+◌, ◌-◌, ◌*◌, ◌^◌, ◌<◌, ◌≤◌, Option, None, Some, Ok, true};
 ghost use Rattle.rice_code.specs.decode.Decoder.{Answers, GivesFromRun, Repeats, RepeatsSamples, with_mark};
+ghost use Rattle.rice_samples.specs.Parameters.{values_at};
 ghost use Rattle.rice_code.specs.decode.Fields.{AreCounted};
 ghost use Rattle.rice_code.specs.declared.decode.fault.Step.TheVariants.{Block};
 ghost use Rattle.rice_stream.specs.Calls.{Call, Happens, Fails};
@@ -106,51 +107,51 @@ fn is_whole(held: bool, count: usize, block: u32) -> bool
     held && count == block as usize
 }
 
-/// Restores the samples of the next block. They stand there already if `again` is set.
+/// Restores the samples of the next block, by their levels. These stand there already if `again` is set.
 #[inline(always)]
-fn next_block<I: Intake>(
+fn next_levels<I: Intake>(
     decoder: &mut Decoder,
     again: bool,
     reader: &mut BitReader<I>,
     meter: &mut Meter,
-    samples: &mut ArrayVec<i64, 64>,
+    levels: &mut ArrayVec<u32, 64>,
 ) -> Result<Step, CodeFault>
     requires stopped { decoder.old.stopped ≡ None }
     requires going { reader.old.refusal ≡ None }
     requires room { meter.old + 2 * (2 ^ 52 - reader.old.taken) + 64 < 2 ^ 62 }
-    requires again { again ≡ true → RepeatsSamples decoder.old samples.old.items }
+    requires again { again ≡ true → RepeatsSamples decoder.old (values_at decoder.old.setting levels.old.items) }
     ensures in_run { decoder.old.stopped ≡ None → 0 < decoder.old.run →
-        (result ≡ Ok Block) × GivesFromRun decoder.old decoder.new samples.new.items ×
+        (result ≡ Ok Block) × GivesFromRun decoder.old decoder.new (values_at decoder.old.setting levels.new.items) ×
         (reader.new ≡ reader.old) × (meter.new ≡ meter.old) }
     ensures reads { decoder.old.stopped ≡ None → decoder.old.run ≡ 0 →
         Answers (with_mark reader.old) reader.new meter.old meter.new
-        decoder.old decoder.new samples.new.items result }
+        decoder.old decoder.new (values_at decoder.old.setting levels.new.items) result }
     ensures going { decoder.new.stopped ≡ None → reader.new.refusal ≡ None }
     ensures block { result ≡ Ok Block → decoder.new.stopped ≡ None }
     ensures setting { decoder.new.setting ≡ decoder.old.setting }
     ensures steps { AreCounted meter.old meter.new reader.old.taken reader.new.taken }
-    ensures waiting { length samples.new.items + decoder.new.run * decoder.new.setting.block
+    ensures waiting { length levels.new.items + decoder.new.run * decoder.new.setting.block
         ≤ decoder.old.run * decoder.old.setting.block + 456 * (reader.new.taken - reader.old.taken) }
-    ensures again { again ≡ true → (samples.new.items ≡ samples.old.items) ×
-        Repeats decoder.new samples.new.items }
+    ensures again { again ≡ true → (levels.new.items ≡ levels.old.items) ×
+        Repeats decoder.new (values_at decoder.old.setting levels.new.items) }
 {
     let _taken = reader.taken();
     if again {
         decoder.repeat_block();
         return Ok(Step::Block);
     }
-    decoder.next_block(reader, meter, samples)
+    decoder.next_levels(reader, meter, levels)
 }
 
-/// Returns whether the next block has just these samples, of which `count` are written.
-fn stays(decoder: &Decoder, again: bool, samples: &[i64], count: usize) -> bool
-    requires again { again ≡ true → Repeats decoder.now samples.now × (count ≡ length samples.now) }
-    ensures { result ≡ true → RepeatsSamples decoder.now samples.now × (count ≡ length samples.now) }
+/// Returns whether the next block has just the samples with these levels, of which `count` are written.
+fn stays(decoder: &Decoder, again: bool, levels: &[u32], count: usize) -> bool
+    requires again { again ≡ true → Repeats decoder.now (values_at decoder.now.setting levels.now) × (count ≡ length levels.now) }
+    ensures { result ≡ true → RepeatsSamples decoder.now (values_at decoder.now.setting levels.now) × (count ≡ length levels.now) }
 {
     if again {
         return decoder.is_in_run();
     }
-    decoder.repeats(samples) && count == samples.len()
+    decoder.repeats(levels) && count == levels.len()
 }
 
 /// Decodes, whatever is asked for.
@@ -176,11 +177,11 @@ fn decode_blocks<I: Intake, O: Outlet>(
     let mut decoder = Decoder::new(*setting);
     let mut reader = BitReader::new(intake);
     let mut meter = Meter::new();
-    let mut samples = ArrayVec::new();
+    let mut levels = ArrayVec::new();
     // Declared here, and not where it is filled, so that it is not cleared for each block.
     let mut bytes = [0; 256];
     let mut written = 0u64;
-    // Whether `samples` and `bytes` hold the block that comes next.
+    // Whether `levels` and `bytes` hold the block that comes next.
     let mut held = false;
     'decode_all: loop {
         let count = wanted(asked, written, block);
@@ -188,7 +189,7 @@ fn decode_blocks<I: Intake, O: Outlet>(
             return ended(None, written, reader, &meter);
         }
         let again = is_whole(held, count, block);
-        let step = match next_block(&mut decoder, again, &mut reader, &mut meter, &mut samples) {
+        let step = match next_levels(&mut decoder, again, &mut reader, &mut meter, &mut levels) {
             Ok(step) => step,
             Err(fault) => {
                 let fault = fault_of(fault, written, block);
@@ -199,12 +200,12 @@ fn decode_blocks<I: Intake, O: Outlet>(
             Step::Block => {}
             Step::Done => return ended(end_of(asked, written), written, reader, &meter),
         }
-        let block_samples = &samples.as_slice()[..count];
-        match write_block(setting, again, block_samples, &mut bytes, outlet) {
+        let block_levels = &levels.as_slice()[..count];
+        match write_block(setting, again, block_levels, &mut bytes, outlet) {
             Ok(()) => {}
             Err(_) => return ended(Some(Fault::Write), written, reader, &meter),
         }
-        held = stays(&decoder, again, samples.as_slice(), count);
+        held = stays(&decoder, again, levels.as_slice(), count);
         written += count as u64;
         meter.tick(count as u64);
     }

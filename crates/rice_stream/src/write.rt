@@ -2,7 +2,7 @@
 ghost use Rattle.std.specs.Prelude.{◌≡◌, ℕ, ◌+◌, ◌*◌, ◌^◌, ◌<◌, ◌≤◌, All, true, length, drop, OnOk, OnErr};
 ghost use Rattle.rice_bits.specs.device.Outlet.{Appends};
 ghost use Rattle.rice_bits.specs.Bits.{whole_bytes, bits_in_bytes};
-ghost use Rattle.rice_samples.specs.Parameters.{IsSample, width as width_of};
+ghost use Rattle.rice_samples.specs.Parameters.{value_count, values_at, width as width_of};
 ghost use Rattle.rice_samples.specs.bytes.Spelling.{spellings};
 ghost use Rattle.rice_stream.specs.Writes.{TakesPart, Spells};
 
@@ -74,24 +74,24 @@ pub fn write_whole<const N: usize, O: Outlet>(
 pub fn write_block<O: Outlet>(
     setting: &Setting,
     again: bool,
-    samples: &[i64],
+    levels: &[u32],
     bytes: &mut [u8; 256],
     outlet: &mut O,
 ) -> Result<(), WriteFault>
-    requires legal { All (IsSample setting.now) samples.now }
-    requires few { length samples.now ≤ 64 }
+    requires legal { All (λ l. l < value_count setting.now) levels.now }
+    requires few { length levels.now ≤ 64 }
     requires counted { O.failed outlet.old + 1 < 2 ^ 64 }
-    requires again { again ≡ true → Spells setting.now samples.now bytes.old }
-    ensures ok { OnOk result (Appends (O.taken outlet.old) (O.taken outlet.new) (spellings setting.now samples.now) ×
+    requires again { again ≡ true → Spells setting.now (values_at setting.now levels.now) bytes.old }
+    ensures ok { OnOk result (Appends (O.taken outlet.old) (O.taken outlet.new) (spellings setting.now (values_at setting.now levels.now)) ×
         (O.failed outlet.new ≡ O.failed outlet.old)) }
-    ensures err { OnErr result (TakesPart (O.taken outlet.old) (O.taken outlet.new) (spellings setting.now samples.now) ×
+    ensures err { OnErr result (TakesPart (O.taken outlet.old) (O.taken outlet.new) (spellings setting.now (values_at setting.now levels.now)) ×
         (O.failed outlet.new ≡ O.failed outlet.old + 1)) }
-    ensures spelled { Spells setting.now samples.now bytes.new }
+    ensures spelled { Spells setting.now (values_at setting.now levels.now) bytes.new }
 {
     if again {
-        return write_front(&bytes[..setting.width() as usize * samples.len()], outlet);
+        return write_front(&bytes[..setting.width() as usize * levels.len()], outlet);
     }
-    write_samples(setting, samples, bytes, outlet)
+    write_samples(setting, levels, bytes, outlet)
 }
 
 /// Writes all of the bytes, which are those of a block.
@@ -115,26 +115,26 @@ fn write_front<O: Outlet>(bytes: &[u8], outlet: &mut O) -> Result<(), WriteFault
 #[inline(always)]
 fn write_samples<O: Outlet>(
     setting: &Setting,
-    samples: &[i64],
+    levels: &[u32],
     bytes: &mut [u8; 256],
     outlet: &mut O,
 ) -> Result<(), WriteFault>
-    requires legal { All (IsSample setting.now) samples.now }
-    requires few { length samples.now ≤ 64 }
+    requires legal { All (λ l. l < value_count setting.now) levels.now }
+    requires few { length levels.now ≤ 64 }
     requires counted { O.failed outlet.old + 1 < 2 ^ 64 }
-    ensures ok { OnOk result (Appends (O.taken outlet.old) (O.taken outlet.new) (spellings setting.now samples.now) ×
+    ensures ok { OnOk result (Appends (O.taken outlet.old) (O.taken outlet.new) (spellings setting.now (values_at setting.now levels.now)) ×
         (O.failed outlet.new ≡ O.failed outlet.old)) }
-    ensures err { OnErr result (TakesPart (O.taken outlet.old) (O.taken outlet.new) (spellings setting.now samples.now) ×
+    ensures err { OnErr result (TakesPart (O.taken outlet.old) (O.taken outlet.new) (spellings setting.now (values_at setting.now levels.now)) ×
         (O.failed outlet.new ≡ O.failed outlet.old + 1)) }
-    ensures spelled { Spells setting.now samples.now bytes.new }
+    ensures spelled { Spells setting.now (values_at setting.now levels.now) bytes.new }
 {
     // Laid out for the blocks that are written most.
-    match (setting.width(), setting.msb(), samples.len()) {
-        (1, msb, 8) => write_sized(setting, 1, msb, 8, samples, bytes, outlet),
-        (1, msb, 16) => write_sized(setting, 1, msb, 16, samples, bytes, outlet),
-        (2, false, 8) => write_sized(setting, 2, false, 8, samples, bytes, outlet),
-        (2, false, 16) => write_sized(setting, 2, false, 16, samples, bytes, outlet),
-        _ => write_other_samples(setting, samples, bytes, outlet),
+    match (setting.width(), setting.msb(), levels.len()) {
+        (1, msb, 8) => write_sized(setting, 1, msb, 8, levels, bytes, outlet),
+        (1, msb, 16) => write_sized(setting, 1, msb, 16, levels, bytes, outlet),
+        (2, false, 8) => write_sized(setting, 2, false, 8, levels, bytes, outlet),
+        (2, false, 16) => write_sized(setting, 2, false, 16, levels, bytes, outlet),
+        _ => write_other_samples(setting, levels, bytes, outlet),
     }
 }
 
@@ -142,25 +142,25 @@ fn write_samples<O: Outlet>(
 #[inline(never)]
 fn write_other_samples<O: Outlet>(
     setting: &Setting,
-    samples: &[i64],
+    levels: &[u32],
     bytes: &mut [u8; 256],
     outlet: &mut O,
 ) -> Result<(), WriteFault>
-    requires legal { All (IsSample setting.now) samples.now }
-    requires few { length samples.now ≤ 64 }
+    requires legal { All (λ l. l < value_count setting.now) levels.now }
+    requires few { length levels.now ≤ 64 }
     requires counted { O.failed outlet.old + 1 < 2 ^ 64 }
-    ensures ok { OnOk result (Appends (O.taken outlet.old) (O.taken outlet.new) (spellings setting.now samples.now) ×
+    ensures ok { OnOk result (Appends (O.taken outlet.old) (O.taken outlet.new) (spellings setting.now (values_at setting.now levels.now)) ×
         (O.failed outlet.new ≡ O.failed outlet.old)) }
-    ensures err { OnErr result (TakesPart (O.taken outlet.old) (O.taken outlet.new) (spellings setting.now samples.now) ×
+    ensures err { OnErr result (TakesPart (O.taken outlet.old) (O.taken outlet.new) (spellings setting.now (values_at setting.now levels.now)) ×
         (O.failed outlet.new ≡ O.failed outlet.old + 1)) }
-    ensures spelled { Spells setting.now samples.now bytes.new }
+    ensures spelled { Spells setting.now (values_at setting.now levels.now) bytes.new }
 {
-    match (setting.width(), setting.msb(), samples.len()) {
-        (1, msb, 64) => write_sized(setting, 1, msb, 64, samples, bytes, outlet),
-        (3, false, 8) => write_sized(setting, 3, false, 8, samples, bytes, outlet),
+    match (setting.width(), setting.msb(), levels.len()) {
+        (1, msb, 64) => write_sized(setting, 1, msb, 64, levels, bytes, outlet),
+        (3, false, 8) => write_sized(setting, 3, false, 8, levels, bytes, outlet),
         (width, _, count) => {
             let spelled = &mut bytes[..width as usize * count];
-            write_spellings(setting, samples, spelled);
+            write_spellings(setting, levels, spelled);
             write_all(outlet, spelled)
         }
     }
@@ -174,23 +174,23 @@ fn write_sized<O: Outlet>(
     width: usize,
     msb: bool,
     count: usize,
-    samples: &[i64],
+    levels: &[u32],
     bytes: &mut [u8; 256],
     outlet: &mut O,
 ) -> Result<(), WriteFault>
-    requires legal { All (IsSample setting.now) samples.now }
+    requires legal { All (λ l. l < value_count setting.now) levels.now }
     requires width { width ≡ width_of setting.now }
     requires order { msb ≡ setting.now.msb }
-    requires count { length samples.now ≡ count }
+    requires count { length levels.now ≡ count }
     requires few { count ≤ 64 }
     requires counted { O.failed outlet.old + 1 < 2 ^ 64 }
-    ensures ok { OnOk result (Appends (O.taken outlet.old) (O.taken outlet.new) (spellings setting.now samples.now) ×
+    ensures ok { OnOk result (Appends (O.taken outlet.old) (O.taken outlet.new) (spellings setting.now (values_at setting.now levels.now)) ×
         (O.failed outlet.new ≡ O.failed outlet.old)) }
-    ensures err { OnErr result (TakesPart (O.taken outlet.old) (O.taken outlet.new) (spellings setting.now samples.now) ×
+    ensures err { OnErr result (TakesPart (O.taken outlet.old) (O.taken outlet.new) (spellings setting.now (values_at setting.now levels.now)) ×
         (O.failed outlet.new ≡ O.failed outlet.old + 1)) }
-    ensures spelled { Spells setting.now samples.now bytes.new }
+    ensures spelled { Spells setting.now (values_at setting.now levels.now) bytes.new }
 {
     let spelled = &mut bytes[..width * count];
-    write_spellings_as(setting, width, msb, &samples[..count], spelled);
+    write_spellings_as(setting, width, msb, &levels[..count], spelled);
     write_all(outlet, spelled)
 }

@@ -1,6 +1,6 @@
 //! Decodes coded data sets, a block a call.
 ghost use Rattle.std.specs.Prelude.{◌≡◌, ◌≢◌, ℕ, ◌+◌, ◌-◌, ◌*◌, ◌/◌, ◌^◌, ◌<◌, ◌≤◌, Bool, true, false, List, All, [], length, replicate, None, Option, Some, IfOk, IfErr, IfSome, IfNone, Ok, ℤ, pos};
-ghost use Rattle.rice_samples.specs.Parameters.{IsLegal, IsSample};
+ghost use Rattle.rice_samples.specs.Parameters.{IsLegal, value_at, value_count, values_at};
 ghost use Rattle.rice_samples.specs.Places.{blocks_left};
 ghost use Rattle.rice_samples.specs.predict.Residuals.{last_of};
 ghost use Rattle.rice_code.specs.code.Blocks.{BlockData, block_data, zero_block};
@@ -84,17 +84,29 @@ fn skip_padding<I: Intake>(
     }
 }
 
-/// Returns whether each of the samples is `value`.
-fn are_all(samples: &[i64], value: i64) -> bool
-    ensures all { result ≡ true → samples.now ≡ replicate (length samples.now) value }
-    ensures not_all { result ≡ false → samples.now ≡ replicate (length samples.now) value → ⊥ }
+/// Returns whether each of the levels is `value`.
+fn are_all(levels: &[u32], value: u32) -> bool
+    ensures all { result ≡ true → levels.now ≡ replicate (length levels.now) value }
+    ensures not_all { result ≡ false → levels.now ≡ replicate (length levels.now) value → ⊥ }
 {
-    for i in 0..samples.len() {
-        if samples[i] != value {
+    for i in 0..levels.len() {
+        if levels[i] != value {
             return false;
         }
     }
     true
+}
+
+/// Makes these the values at these levels.
+fn write_values(setting: &Setting, levels: &[u32], values: &mut ArrayVec<i64, 64>)
+    requires legal { All (λ l. l < value_count setting.now) levels.now }
+    requires few { length levels.now ≤ 64 }
+    ensures { values.new.items ≡ values_at setting.now levels.now }
+{
+    values.clear();
+    for level in levels {
+        values.push(setting.value_at(*level as u64));
+    }
 }
 
 /// Decodes coded data sets, a block a call.
@@ -105,7 +117,8 @@ fn are_all(samples: &[i64], value: i64) -> bool
 pub struct Decoder {
     setting: Setting,
     block: u64,
-    before: i64,
+    /// The level of the sample before it.
+    before: u32,
     run: u32,
     stopped: Option<Result<Step, CodeFault>>,
     /// Scratch space for the residuals of a block and for their high parts.
@@ -117,9 +130,9 @@ impl Model for Decoder {
 
     ghost Value = { DecoderState };
 
-    ghost view = { λ d. record { setting = d.setting; block = d.block; before = d.before; run = d.run; stopped = d.stopped } };
+    ghost view = { λ d. record { setting = d.setting; block = d.block; before = value_at d.setting d.before; run = d.run; stopped = d.stopped } };
 
-    ghost invariant = { λ d. IsDecoderState d.setting d.block d.before d.run d.stopped };
+    ghost invariant = { λ d. (d.before < value_count d.setting) × IsDecoderState d.setting d.block (value_at d.setting d.before) d.run d.stopped };
 }
 
 impl Decoder {
@@ -131,11 +144,10 @@ impl Decoder {
         ensures { result
             ≡ record { setting = setting; block = 0; before = pos 0; run = 0; stopped = None } }
     {
-        let _bits = setting.bits();
         Decoder {
             setting,
             block: 0,
-            before: 0,
+            before: setting.level(0) as u32,
             run: 0,
             stopped: None,
             scratch: [0; 128],
@@ -158,15 +170,16 @@ impl Decoder {
         self.run != 0
     }
 
-    /// Returns whether the next block is in a run, and is known to have just these samples. Without preprocessing none is known to.
-    pub fn repeats(&self, samples: &[i64]) -> bool
-        ensures repeats { result ≡ true → RepeatsSamples self.now samples.now }
-        ensures others { result ≡ false → RepeatsSamples self.now samples.now → ⊥ }
+    /// Returns whether the next block is in a run, and is known to have just the samples with these levels. Without preprocessing
+    /// none is known to.
+    pub fn repeats(&self, levels: &[u32]) -> bool
+        ensures repeats { result ≡ true → RepeatsSamples self.now (values_at self.now.setting levels.now) }
+        ensures others { result ≡ false → RepeatsSamples self.now (values_at self.now.setting levels.now) → ⊥ }
     {
         self.run > 0
             && self.setting.preprocess()
-            && samples.len() == self.setting.block() as usize
-            && are_all(samples, self.before)
+            && levels.len() == self.setting.block() as usize
+            && are_all(levels, self.before)
     }
 
     /// Goes past the next block of a run: each of its samples is the sample before it.
@@ -218,58 +231,74 @@ impl Decoder {
         ensures waiting { length samples.new.items + self.new.run * self.new.setting.block
             ≤ self.old.run * self.old.setting.block + 456 * (reader.new.taken - reader.old.taken) }
     {
+        let mut levels = ArrayVec::new();
+        let answer = self.next_levels(reader, meter, &mut levels);
+        write_values(&self.setting, levels.as_slice(), samples);
+        answer
+    }
+
+    /// Restores the samples of the next block, as `next_block` does, by their levels: the level of a sample is the number of legal
+    /// values below it.
+    ///
+    /// A decoder that has found the end or has refused returns the same again at each later call.
+    #[inline(always)]
+    pub fn next_levels<I: Intake>(
+        &mut self,
+        reader: &mut BitReader<I>,
+        meter: &mut Meter,
+        levels: &mut ArrayVec<u32, 64>,
+    ) -> Result<Step, CodeFault>
+        requires going { self.old.stopped ≡ None → reader.old.refusal ≡ None }
+        requires room { meter.old + 2 * (2 ^ 52 - reader.old.taken) + 64 < 2 ^ 62 }
+        // A decoder that has stopped answers the same from then on.
+        ensures stopped { IfSome self.old.stopped (λ a. (result ≡ a) × (levels.new.items ≡ []) ×
+            (self.new ≡ self.old) × (reader.new ≡ reader.old) × (meter.new ≡ meter.old)) }
+        // Inside a run no bit is taken.
+        ensures in_run { self.old.stopped ≡ None → 0 < self.old.run →
+            (result ≡ Ok Block) × GivesFromRun self.old self.new (values_at self.old.setting levels.new.items) ×
+            (reader.new ≡ reader.old) × (meter.new ≡ meter.old) }
+        ensures reads { self.old.stopped ≡ None → self.old.run ≡ 0 →
+            Answers (with_mark reader.old) reader.new meter.old meter.new
+            self.old self.new (values_at self.old.setting levels.new.items) result }
+        ensures legal { All (λ l. l < value_count self.old.setting) levels.new.items }
+        // A decoder that has not stopped may be called again with this reader.
+        ensures going { self.new.stopped ≡ None → reader.new.refusal ≡ None }
+        ensures block { result ≡ Ok Block → self.new.stopped ≡ None }
+        ensures setting { self.new.setting ≡ self.old.setting }
+        // Steps are at least the bits taken, and at most twice as many.
+        ensures steps { AreCounted meter.old meter.new reader.old.taken reader.new.taken }
+        // The samples that are given and those that then wait are bounded by the bits.
+        ensures waiting { length levels.new.items + self.new.run * self.new.setting.block
+            ≤ self.old.run * self.old.setting.block + 456 * (reader.new.taken - reader.old.taken) }
+    {
         let _taken = reader.taken();
         if let Some(answer) = self.stopped {
-            samples.clear();
+            levels.clear();
             return answer;
         }
         if self.run > 0 {
-            let last = restore_zeros(&self.setting, self.block, self.before, None, samples);
+            let last = restore_zeros(&self.setting, self.block, self.before, None, levels);
             self.run -= 1;
             self.before = last;
             self.block = next_place(&self.setting, self.block);
             return Ok(Step::Block);
         }
-        self.read_block(reader, meter, samples)
-    }
-
-    /// Reads a coded data set, and restores the samples of its first block.
-    #[inline(always)]
-    fn read_block<I: Intake>(
-        &mut self,
-        reader: &mut BitReader<I>,
-        meter: &mut Meter,
-        samples: &mut ArrayVec<i64, 64>,
-    ) -> Result<Step, CodeFault>
-        requires stopped { self.old.stopped ≡ None }
-        requires run { self.old.run ≡ 0 }
-        requires going { reader.old.refusal ≡ None }
-        requires room { meter.old + 2 * (2 ^ 52 - reader.old.taken) + 64 < 2 ^ 62 }
-        ensures reads { Answers (with_mark reader.old) reader.new meter.old meter.new
-            self.old self.new samples.new.items result }
-        ensures going { self.new.stopped ≡ None → reader.new.refusal ≡ None }
-        ensures block { result ≡ Ok Block → self.new.stopped ≡ None }
-        ensures setting { self.new.setting ≡ self.old.setting }
-        ensures steps { AreCounted meter.old meter.new reader.old.taken reader.new.taken }
-        ensures waiting { length samples.new.items + self.new.run * self.new.setting.block
-            ≤ 456 * (reader.new.taken - reader.old.taken) }
-    {
         // It is laid out for each size of blocks.
         match self.setting.block() {
-            8 => self.read_sized::<I, 8>(reader, meter, samples),
-            16 => self.read_sized::<I, 16>(reader, meter, samples),
-            32 => self.read_sized::<I, 32>(reader, meter, samples),
-            _ => self.read_sized::<I, 64>(reader, meter, samples),
+            8 => self.read_sized::<I, 8>(reader, meter, levels),
+            16 => self.read_sized::<I, 16>(reader, meter, levels),
+            32 => self.read_sized::<I, 32>(reader, meter, levels),
+            _ => self.read_sized::<I, 64>(reader, meter, levels),
         }
     }
 
-    /// As `read_block`, for blocks of `SIZE` samples.
+    /// Reads a coded data set, and restores the samples of its first block, which are `SIZE`, by their levels.
     #[inline(never)]
     fn read_sized<I: Intake, const SIZE: usize>(
         &mut self,
         reader: &mut BitReader<I>,
         meter: &mut Meter,
-        samples: &mut ArrayVec<i64, 64>,
+        levels: &mut ArrayVec<u32, 64>,
     ) -> Result<Step, CodeFault>
         requires size { SIZE ≡ self.old.setting.block }
         requires stopped { self.old.stopped ≡ None }
@@ -277,21 +306,23 @@ impl Decoder {
         requires going { reader.old.refusal ≡ None }
         requires room { meter.old + 2 * (2 ^ 52 - reader.old.taken) + 64 < 2 ^ 62 }
         ensures reads { Answers (with_mark reader.old) reader.new meter.old meter.new
-            self.old self.new samples.new.items result }
+            self.old self.new (values_at self.old.setting levels.new.items) result }
+        ensures legal { All (λ l. l < value_count self.old.setting) levels.new.items }
         ensures going { self.new.stopped ≡ None → reader.new.refusal ≡ None }
         ensures block { result ≡ Ok Block → self.new.stopped ≡ None }
         ensures setting { self.new.setting ≡ self.old.setting }
         ensures steps { AreCounted meter.old meter.new reader.old.taken reader.new.taken }
-        ensures waiting { length samples.new.items + self.new.run * self.new.setting.block
+        ensures waiting { length levels.new.items + self.new.run * self.new.setting.block
             ≤ 456 * (reader.new.taken - reader.old.taken) }
     {
         let _taken = reader.taken();
         reader.mark();
-        // A copy, since `scratch` is lent beside it.
-        let setting = self.setting;
+        let setting = &self.setting;
+        let block = self.block;
+        let before = self.before;
         let (residuals, highs) = self.scratch.split_at_mut(64);
         let residuals = &mut residuals[..SIZE];
-        match read_set(&setting, self.block, reader, meter, residuals, highs) {
+        match read_set(setting, block, reader, meter, residuals, highs) {
             Ok(
                 SetHead::Residuals {
                     reference,
@@ -300,56 +331,42 @@ impl Decoder {
                 },
             ) => {
                 if !sound {
-                    return self.stop(Err(CodeFault::ResidualTooLarge), samples);
+                    return self.stop(Err(CodeFault::ResidualTooLarge), levels);
                 }
                 let last = restore_block(
-                    &setting,
-                    self.block,
-                    self.before,
-                    reference,
-                    residuals,
-                    near,
-                    samples,
+                    setting, block, before, reference, residuals, near, levels,
                 );
                 self.go_on(last, 0, reader, meter)
             }
-            Ok(SetHead::Zeros { reference, zeros }) => {
-                match run_blocks(&setting, self.block, zeros) {
-                    Some(count) => {
-                        let last = restore_zeros(
-                            &setting,
-                            self.block,
-                            self.before,
-                            reference,
-                            samples,
-                        );
-                        self.go_on(last, count - 1, reader, meter)
-                    }
-                    None => self.stop(Err(CodeFault::RunPastSegment), samples),
+            Ok(SetHead::Zeros { reference, zeros }) => match run_blocks(setting, block, zeros) {
+                Some(count) => {
+                    let last = restore_zeros(setting, block, before, reference, levels);
+                    self.go_on(last, count - 1, reader, meter)
                 }
-            }
-            Err(fault) => self.stop(answer_of(fault), samples),
+                None => self.stop(Err(CodeFault::RunPastSegment), levels),
+            },
+            Err(fault) => self.stop(answer_of(fault), levels),
         }
     }
 
-    /// Goes to the next block, after a data set of which `last` is the last sample of the first block, and which `run` zero
-    /// blocks follow.
+    /// Goes to the next block, after a data set of which `last` is the level of the last sample of the first block, and which `run`
+    /// zero blocks follow.
     #[inline(always)]
     fn go_on<I: Intake>(
         &mut self,
-        last: i64,
+        last: u32,
         run: u32,
         reader: &mut BitReader<I>,
         meter: &mut Meter,
     ) -> Result<Step, CodeFault>
-        requires last { IsSample self.old.setting last }
+        requires last { last < value_count self.old.setting }
         requires run { 0 < run → run + 1 ≤ blocks_left self.old.setting self.old.block }
         requires taken { reader.old.taken ≤ 2 ^ 52 }
         requires meter { meter.old + 7 < 2 ^ 62 }
         ensures block { result ≡ Ok Block }
         ensures moves { self.new ≡ record self.old {
           block = next_block_place self.old.setting self.old.block;
-          before = last;
+          before = value_at self.old.setting last;
           run = run;
         } }
         ensures skips { Skips reader.old reader.new
@@ -370,14 +387,14 @@ impl Decoder {
     fn stop(
         &mut self,
         answer: Result<Step, CodeFault>,
-        samples: &mut ArrayVec<i64, 64>,
+        levels: &mut ArrayVec<u32, 64>,
     ) -> Result<Step, CodeFault>
         requires { answer ≢ Ok Block }
         ensures answer { result ≡ answer }
         ensures stops { self.new ≡ record self.old { stopped = Some answer } }
-        ensures samples { samples.new.items ≡ [] }
+        ensures samples { levels.new.items ≡ [] }
     {
-        samples.clear();
+        levels.clear();
         self.stopped = Some(answer);
         answer
     }

@@ -1,6 +1,6 @@
-//! Restores the samples of a block.
-ghost use Rattle.std.specs.Prelude.{◌≡◌, ℕ, ◌+◌, ◌-◌, ◌*◌, ◌/◌, ◌^◌, ◌<◌, ◌≤◌, ◌==◌, Bool, true, false, List, length, replicate, All, ℤ, IfSome, IfNone, is_some};
-ghost use Rattle.rice_samples.specs.Parameters.{IsLegal, IsSample, value_count};
+//! Restores the samples of a block, by their levels.
+ghost use Rattle.std.specs.Prelude.{◌≡◌, ℕ, ◌+◌, ◌-◌, ◌*◌, ◌/◌, ◌^◌, ◌<◌, ◌≤◌, ◌==◌, Bool, true, false, List, length, replicate, All, IfSome, IfNone, is_some};
+ghost use Rattle.rice_samples.specs.Parameters.{IsLegal, value_at, value_count, values_at};
 ghost use Rattle.rice_samples.specs.predict.Residuals.{pattern, last_of};
 ghost use Rattle.rice_code.specs.code.Blocks.{BlockData, block_data, zero_block};
 ghost use Rattle.rice_code.specs.code.SoundBlocks.{block_with};
@@ -8,160 +8,160 @@ ghost use Rattle.rice_code.specs.code.Forms.{IsReference, IsBlock, IsZeroAtRefer
 ghost use Rattle.rice_code.specs.decode.Restored.{residual_at};
 
 use arrayvec::ArrayVec;
-use rice_samples::{Setting, from_pattern, from_patterns, restore_all, restore_spread};
+use rice_samples::{Setting, level_of_pattern, levels_of_patterns, restore_all, restore_spread};
 
 /// Sets the length to `len`; the contents are unspecified.
 #[inline(always)]
-fn set_len(samples: &mut ArrayVec<i64, 64>, len: usize)
+fn set_len(levels: &mut ArrayVec<u32, 64>, len: usize)
     requires { len ≤ 64 }
-    ensures { length samples.new.items ≡ len }
+    ensures { length levels.new.items ≡ len }
 {
-    if samples.len() == len {
+    if levels.len() == len {
         return;
     }
-    samples.clear();
+    levels.clear();
     for _ in 0..len {
-        samples.push(0);
+        levels.push(0);
     }
 }
 
-/// Writes the samples of the block with this reference sample and these residuals, after sample `p`.
+/// Writes the levels of the samples of the block with this reference sample and these residuals, after a sample at level `before`.
 #[inline(always)]
 fn write_block(
     setting: &Setting,
     block: u64,
-    p: i64,
+    before: u32,
     reference: Option<u32>,
     residuals: &[u32],
     near: bool,
-    samples: &mut [i64],
+    levels: &mut [u32],
 )
-    requires p { IsSample setting.now p }
+    requires before { before < value_count setting.now }
     requires legal { IsLegal setting.now }
     requires form { IsBlock setting.now block (block_with reference residuals.now) }
     requires zero { IsZeroAtReference (block_with reference residuals.now) }
     requires fit { AllFit setting.now (block_with reference residuals.now) }
-    requires len { length samples.old ≡ setting.now.block }
-    ensures len { length samples.new ≡ setting.now.block }
-    ensures legal { All (IsSample setting.now) samples.new }
-    ensures contents { block_data setting.now block p samples.new
+    requires len { length levels.old ≡ setting.now.block }
+    ensures len { length levels.new ≡ setting.now.block }
+    ensures legal { All (λ l. l < value_count setting.now) levels.new }
+    ensures contents { block_data setting.now block (value_at setting.now before) (values_at setting.now levels.new)
         ≡ block_with reference residuals.now }
 {
     if !setting.preprocess() {
-        from_patterns(setting, residuals, samples);
+        levels_of_patterns(setting, residuals, levels);
         return;
     }
     // A residual of 0 stands at the place of the reference sample, and so it is restored as the sample before it.
-    let before = reference_or(setting, reference, p);
+    let before = reference_or(setting, reference, before);
     if near {
-        restore_all(setting, before, residuals, samples);
+        restore_all(setting, before, residuals, levels);
     } else {
-        restore_spread(setting, before, residuals, samples);
+        restore_spread(setting, before, residuals, levels);
     }
 }
 
-/// Returns the reference sample, or `p` if there is none.
+/// Returns the level of the reference sample, or `before` if there is none.
 #[inline]
-fn reference_or(setting: &Setting, reference: Option<u32>, p: i64) -> i64
-    requires p { IsSample setting.now p }
+fn reference_or(setting: &Setting, reference: Option<u32>, before: u32) -> u32
+    requires before { before < value_count setting.now }
     requires reference { IfSome reference (λ v. v < value_count setting.now) }
-    ensures sample { IsSample setting.now result }
-    ensures some { IfSome reference (λ v. pattern setting.now result ≡ v) }
-    ensures none { IfNone reference (result ≡ p) }
+    ensures below { result < value_count setting.now }
+    ensures some { IfSome reference (λ v. pattern setting.now (value_at setting.now result) ≡ v) }
+    ensures none { IfNone reference (result ≡ before) }
 {
     match reference {
-        Some(value) => from_pattern(setting, value),
-        None => p,
+        Some(value) => level_of_pattern(setting, value),
+        None => before,
     }
 }
 
-/// Restores the samples of the block with this reference sample and these residuals, after sample `p`. Returns the last
-/// of them.
+/// Restores the samples of the block with this reference sample and these residuals, after a sample at level `before`. Returns
+/// the level of the last of them.
 #[inline(always)]
 pub fn restore_block(
     setting: &Setting,
     block: u64,
-    p: i64,
+    before: u32,
     reference: Option<u32>,
     residuals: &[u32],
     near: bool,
-    samples: &mut ArrayVec<i64, 64>,
-) -> i64
-    requires p { IsSample setting.now p }
+    levels: &mut ArrayVec<u32, 64>,
+) -> u32
+    requires before { before < value_count setting.now }
     requires form { IsBlock setting.now block (block_with reference residuals.now) }
     requires zero { IsZeroAtReference (block_with reference residuals.now) }
     requires fit { AllFit setting.now (block_with reference residuals.now) }
-    ensures len { length samples.new.items ≡ setting.now.block }
-    ensures legal { All (IsSample setting.now) samples.new.items }
-    ensures contents { block_data setting.now block p samples.new.items
+    ensures len { length levels.new.items ≡ setting.now.block }
+    ensures legal { All (λ l. l < value_count setting.now) levels.new.items }
+    ensures contents { block_data setting.now block (value_at setting.now before) (values_at setting.now levels.new.items)
         ≡ block_with reference residuals.now }
-    ensures last { result ≡ last_of p samples.new.items }
-    ensures sample { IsSample setting.now result }
+    ensures last { value_at setting.now result ≡ last_of (value_at setting.now before) (values_at setting.now levels.new.items) }
+    ensures below { result < value_count setting.now }
 {
     let _block = setting.block();
     let size = residuals.len();
-    set_len(samples, size);
+    set_len(levels, size);
     write_block(
         setting,
         block,
-        p,
+        before,
         reference,
         residuals,
         near,
-        samples.as_mut_slice(),
+        levels.as_mut_slice(),
     );
-    samples.as_slice()[size - 1]
+    levels.as_slice()[size - 1]
 }
 
-/// Returns the first sample of a zero block after sample `p`.
-fn sample_of_zero(setting: &Setting, reference: Option<u32>, p: i64) -> i64
-    requires p { IsSample setting.now p }
+/// Returns the level of the first sample of a zero block after a sample at level `before`.
+fn level_of_zero(setting: &Setting, reference: Option<u32>, before: u32) -> u32
+    requires before { before < value_count setting.now }
     requires reference { IfSome reference (λ v. v < value_count setting.now) }
     requires preprocess { is_some reference ≡ true → setting.now.preprocess ≡ true }
-    ensures sample { IsSample setting.now result }
-    ensures residual { residual_at setting.now reference true p result ≡ 0 }
-    ensures reference { IfSome reference (λ v. pattern setting.now result ≡ v) }
+    ensures below { result < value_count setting.now }
+    ensures residual { residual_at setting.now reference true (value_at setting.now before) (value_at setting.now result) ≡ 0 }
+    ensures reference { IfSome reference (λ v. pattern setting.now (value_at setting.now result) ≡ v) }
 {
     if !setting.preprocess() {
-        return from_pattern(setting, 0);
+        return level_of_pattern(setting, 0);
     }
-    reference_or(setting, reference, p)
+    reference_or(setting, reference, before)
 }
 
 /// Writes `value` to all places.
 #[inline]
-fn fill_all(samples: &mut [i64], value: i64)
-    ensures { samples.new ≡ replicate (length samples.old) value }
+fn fill_all(levels: &mut [u32], value: u32)
+    ensures { levels.new ≡ replicate (length levels.old) value }
 {
     // The loop is laid out for blocks of 8 and of 16.
-    match samples.len() {
-        8 => samples[..8].fill(value),
-        16 => samples[..16].fill(value),
-        _ => samples.fill(value),
+    match levels.len() {
+        8 => levels[..8].fill(value),
+        16 => levels[..16].fill(value),
+        _ => levels.fill(value),
     }
 }
 
-/// Restores the samples of a zero block after sample `p`: each is the reference sample, or `p` if there is none. Returns
-/// the last of them.
+/// Restores the samples of a zero block after a sample at level `before`: each is the reference sample, or the sample before if
+/// there is none. Returns the level of the last of them.
 #[inline(always)]
 pub fn restore_zeros(
     setting: &Setting,
     block: u64,
-    p: i64,
+    before: u32,
     reference: Option<u32>,
-    samples: &mut ArrayVec<i64, 64>,
-) -> i64
-    requires p { IsSample setting.now p }
+    levels: &mut ArrayVec<u32, 64>,
+) -> u32
+    requires before { before < value_count setting.now }
     requires reference { IsReference setting.now block reference }
-    ensures len { length samples.new.items ≡ setting.now.block }
-    ensures legal { All (IsSample setting.now) samples.new.items }
-    ensures contents { block_data setting.now block p samples.new.items
+    ensures len { length levels.new.items ≡ setting.now.block }
+    ensures legal { All (λ l. l < value_count setting.now) levels.new.items }
+    ensures contents { block_data setting.now block (value_at setting.now before) (values_at setting.now levels.new.items)
         ≡ zero_block setting.now reference }
-    ensures last { result ≡ last_of p samples.new.items }
-    ensures sample { IsSample setting.now result }
+    ensures last { value_at setting.now result ≡ last_of (value_at setting.now before) (values_at setting.now levels.new.items) }
+    ensures below { result < value_count setting.now }
 {
-    let first = sample_of_zero(setting, reference, p);
-    set_len(samples, setting.block() as usize);
-    fill_all(samples.as_mut_slice(), first);
+    let first = level_of_zero(setting, reference, before);
+    set_len(levels, setting.block() as usize);
+    fill_all(levels.as_mut_slice(), first);
     first
 }

@@ -1,63 +1,64 @@
 //! The bytes of several samples.
-ghost use Rattle.std.specs.Prelude.{◌≡◌, ◌*◌, All, length};
-ghost use Rattle.rice_samples.specs.Parameters.{IsSample, width as width_of};
+ghost use Rattle.std.specs.Prelude.{◌≡◌, ◌*◌, ◌<◌, All, length};
+ghost use Rattle.rice_samples.specs.Parameters.{value_count, values_at, width as width_of};
 ghost use Rattle.rice_samples.specs.bytes.Spelling.{spellings};
 
 use crate::Setting;
-use crate::digits::{digits_of, store_word};
+use crate::digits::store_word;
+use rice_bits::low_digits;
 
-/// Writes the spellings of the samples, `width()` bytes each, one after another.
+/// Writes the spellings of the samples with these levels, `width()` bytes each, one after another.
 #[inline(always)]
-pub fn write_spellings(setting: &Setting, samples: &[i64], bytes: &mut [u8])
-    requires legal { All (IsSample setting.now) samples.now }
-    requires len { length bytes.old ≡ width_of setting.now * length samples.now }
-    ensures { bytes.new ≡ spellings setting.now samples.now }
+pub fn write_spellings(setting: &Setting, levels: &[u32], bytes: &mut [u8])
+    requires legal { All (λ l. l < value_count setting.now) levels.now }
+    requires len { length bytes.old ≡ width_of setting.now * length levels.now }
+    ensures { bytes.new ≡ spellings setting.now (values_at setting.now levels.now) }
 {
     // The loop is laid out for each of these: with a known width and order it writes a sample at one stroke, with a known length
     // a block.
-    match (setting.width(), setting.msb(), samples.len()) {
-        (1, msb, 8) => write_spellings_as(setting, 1, msb, &samples[..8], bytes),
-        (1, msb, 16) => write_spellings_as(setting, 1, msb, &samples[..16], bytes),
-        (2, false, 16) => write_spellings_as(setting, 2, false, &samples[..16], bytes),
-        (1, msb, _) => write_spellings_as(setting, 1, msb, samples, bytes),
-        (2, false, _) => write_spellings_as(setting, 2, false, samples, bytes),
-        (2, true, _) => write_spellings_as(setting, 2, true, samples, bytes),
-        (3, false, _) => write_spellings_as(setting, 3, false, samples, bytes),
-        (4, false, _) => write_spellings_as(setting, 4, false, samples, bytes),
-        _ => write_others(setting, samples, bytes),
+    match (setting.width(), setting.msb(), levels.len()) {
+        (1, msb, 8) => write_spellings_as(setting, 1, msb, &levels[..8], bytes),
+        (1, msb, 16) => write_spellings_as(setting, 1, msb, &levels[..16], bytes),
+        (2, false, 16) => write_spellings_as(setting, 2, false, &levels[..16], bytes),
+        (1, msb, _) => write_spellings_as(setting, 1, msb, levels, bytes),
+        (2, false, _) => write_spellings_as(setting, 2, false, levels, bytes),
+        (2, true, _) => write_spellings_as(setting, 2, true, levels, bytes),
+        (3, false, _) => write_spellings_as(setting, 3, false, levels, bytes),
+        (4, false, _) => write_spellings_as(setting, 4, false, levels, bytes),
+        _ => write_others(setting, levels, bytes),
     }
 }
 
 /// Writes the spellings, apart from those that are written most.
 #[inline(never)]
-fn write_others(setting: &Setting, samples: &[i64], bytes: &mut [u8])
-    requires legal { All (IsSample setting.now) samples.now }
-    requires len { length bytes.old ≡ width_of setting.now * length samples.now }
-    ensures { bytes.new ≡ spellings setting.now samples.now }
+fn write_others(setting: &Setting, levels: &[u32], bytes: &mut [u8])
+    requires legal { All (λ l. l < value_count setting.now) levels.now }
+    requires len { length bytes.old ≡ width_of setting.now * length levels.now }
+    ensures { bytes.new ≡ spellings setting.now (values_at setting.now levels.now) }
 {
     let width = setting.width() as usize;
-    write_spellings_as(setting, width, setting.msb(), samples, bytes);
+    write_spellings_as(setting, width, setting.msb(), levels, bytes);
 }
 
-/// Writes the spellings of the samples, as `write_spellings` does. It is laid out for a width and an order of bytes that the
+/// Writes the spellings, as `write_spellings` does. It is laid out for a width and an order of bytes that the
 /// compiler knows, which are those of the setting.
 #[inline(always)]
 pub fn write_spellings_as(
     setting: &Setting,
     width: usize,
     msb: bool,
-    samples: &[i64],
+    levels: &[u32],
     bytes: &mut [u8],
 )
-    requires legal { All (IsSample setting.now) samples.now }
+    requires legal { All (λ l. l < value_count setting.now) levels.now }
     requires width { width ≡ width_of setting.now }
     requires order { msb ≡ setting.now.msb }
-    requires len { length bytes.old ≡ width * length samples.now }
-    ensures { bytes.new ≡ spellings setting.now samples.now }
+    requires len { length bytes.old ≡ width * length levels.now }
+    ensures { bytes.new ≡ spellings setting.now (values_at setting.now levels.now) }
 {
-    let _width = setting.width();
-    for i in 0..samples.len() {
-        let word = digits_of(samples[i], 8 * width as u32);
+    let offset = setting.offset() as u32;
+    for i in 0..levels.len() {
+        let word = low_digits(levels[i].wrapping_sub(offset), 8 * width as u32) as u32;
         store_word(word, msb, &mut bytes[width * i..width * i + width]);
     }
 }

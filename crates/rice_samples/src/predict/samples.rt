@@ -1,232 +1,255 @@
-//! Samples in a row, from their residuals or their patterns.
-ghost use Rattle.std.specs.Prelude.{◌≡◌, ℕ, ◌+◌, ◌%◌, ◌^◌, ◌<◌, ◌≤◌, All, length, map, ℤ};
-ghost use Rattle.rice_samples.specs.Parameters.{IsSample, level as level_of, value_count};
-ghost use Rattle.rice_samples.specs.predict.Residuals.{pattern as pattern_of, ranks};
+//! Levels of samples in a row, from their residuals or their patterns.
+ghost use Rattle.std.specs.Prelude.{◌≡◌, ℕ, ◌+◌, ◌*◌, ◌%◌, ◌^◌, ◌<◌, ◌≤◌, All, length, map, sum};
+ghost use Rattle.rice_samples.specs.Parameters.{value_count, values_at, value_at};
+ghost use Rattle.rice_samples.specs.predict.Residuals.{pattern as pattern_of, ranks_below};
 
 use crate::Setting;
 use crate::predict::narrow_near_lanes;
 use crate::predict::near_lanes::{are_near, near_numbers, ways};
-use crate::predict::preprocessor::{from_pattern, number_along, number_with};
+use crate::predict::preprocessor::{number_along, number_with};
 use std::simd::prelude::*;
 
-/// Writes the samples with these residuals: the first after the sample `p`, and each other after the one before it.
+/// Writes the levels of the samples with these residuals: the first after a sample at level `before`, and each other after the
+/// one before it.
 #[inline(always)]
-pub fn restore_all(setting: &Setting, p: i64, residuals: &[u32], samples: &mut [i64])
-    requires before { IsSample setting.now p }
+pub fn restore_all(setting: &Setting, before: u32, residuals: &[u32], levels: &mut [u32])
+    requires before { before < value_count setting.now }
     requires residuals { All (λ d. d < value_count setting.now) residuals.now }
-    requires len { length samples.old ≡ length residuals.now }
-    ensures legal { All (IsSample setting.now) samples.new }
-    ensures ranks { ranks setting.now p samples.new ≡ residuals.now }
+    requires len { length levels.old ≡ length residuals.now }
+    ensures legal { All (λ l. l < value_count setting.now) levels.new }
+    ensures ranks { ranks_below (value_count setting.now) before levels.new ≡ residuals.now }
 {
-    restore_as(setting, p, residuals, true, samples);
+    restore_as(setting, before, residuals, true, levels);
 }
 
-/// Writes the samples with these residuals, as `restore_all` does. It is made for samples that are far from those before.
+/// Writes the levels of the samples with these residuals, as `restore_all` does. It is made for samples that are far from those before.
 #[inline(never)]
-pub fn restore_spread(setting: &Setting, p: i64, residuals: &[u32], samples: &mut [i64])
-    requires before { IsSample setting.now p }
+pub fn restore_spread(setting: &Setting, before: u32, residuals: &[u32], levels: &mut [u32])
+    requires before { before < value_count setting.now }
     requires residuals { All (λ d. d < value_count setting.now) residuals.now }
-    requires len { length samples.old ≡ length residuals.now }
-    ensures legal { All (IsSample setting.now) samples.new }
-    ensures ranks { ranks setting.now p samples.new ≡ residuals.now }
+    requires len { length levels.old ≡ length residuals.now }
+    ensures legal { All (λ l. l < value_count setting.now) levels.new }
+    ensures ranks { ranks_below (value_count setting.now) before levels.new ≡ residuals.now }
 {
-    restore_as(setting, p, residuals, false, samples);
+    restore_as(setting, before, residuals, false, levels);
 }
 
-/// Writes the samples. `near` says whether to try first whether all are near.
+/// Writes the levels. `near` says whether to try first whether all are near.
 #[inline(always)]
-fn restore_as(setting: &Setting, p: i64, residuals: &[u32], near: bool, samples: &mut [i64])
-    requires before { IsSample setting.now p }
+fn restore_as(setting: &Setting, before: u32, residuals: &[u32], near: bool, levels: &mut [u32])
+    requires before { before < value_count setting.now }
     requires residuals { All (λ d. d < value_count setting.now) residuals.now }
-    requires len { length samples.old ≡ length residuals.now }
-    ensures legal { All (IsSample setting.now) samples.new }
-    ensures ranks { ranks setting.now p samples.new ≡ residuals.now }
+    requires len { length levels.old ≡ length residuals.now }
+    ensures legal { All (λ l. l < value_count setting.now) levels.new }
+    ensures ranks { ranks_below (value_count setting.now) before levels.new ≡ residuals.now }
 {
     // It is laid out for blocks of 8.
-    match samples.len() {
-        8 => restore_eight(setting, p, residuals, near, samples),
-        len if len % 8 == 0 => restore_eights(setting, p, residuals, near, samples),
-        _ => restore_each(setting, p, residuals, samples),
+    match levels.len() {
+        8 => restore_eight(setting, before, residuals, near, levels),
+        len if len % 8 == 0 => restore_eights(setting, before, residuals, near, levels),
+        _ => restore_each(setting, before, residuals, levels),
     }
 }
 
-/// Writes the samples, eight at a time.
+/// Writes the levels, eight at a time.
 #[inline(always)]
-fn restore_eights(setting: &Setting, p: i64, residuals: &[u32], near: bool, samples: &mut [i64])
-    requires before { IsSample setting.now p }
+fn restore_eights(setting: &Setting, before: u32, residuals: &[u32], near: bool, levels: &mut [u32])
+    requires before { before < value_count setting.now }
     requires residuals { All (λ d. d < value_count setting.now) residuals.now }
-    requires len { length samples.old ≡ length residuals.now }
+    requires len { length levels.old ≡ length residuals.now }
     requires eights { length residuals.now % 8 ≡ 0 }
-    ensures legal { All (IsSample setting.now) samples.new }
-    ensures ranks { ranks setting.now p samples.new ≡ residuals.now }
+    ensures legal { All (λ l. l < value_count setting.now) levels.new }
+    ensures ranks { ranks_below (value_count setting.now) before levels.new ≡ residuals.now }
 {
     let setting = *setting;
-    let mut before = p;
-    for i in 0..samples.len() / 8 {
+    let mut last = before;
+    for i in 0..levels.len() / 8 {
         let ranks = &residuals[8 * i..8 * i + 8];
-        restore_eight(
-            &setting,
-            before,
-            ranks,
-            near,
-            &mut samples[8 * i..8 * i + 8],
-        );
-        before = samples[8 * i + 7];
+        restore_eight(&setting, last, ranks, near, &mut levels[8 * i..8 * i + 8]);
+        last = levels[8 * i + 7];
     }
 }
 
-/// Writes eight samples.
+/// Writes eight levels.
 #[inline(always)]
-fn restore_eight(setting: &Setting, p: i64, residuals: &[u32], near: bool, samples: &mut [i64])
-    requires before { IsSample setting.now p }
+fn restore_eight(setting: &Setting, before: u32, residuals: &[u32], near: bool, levels: &mut [u32])
+    requires before { before < value_count setting.now }
     requires residuals { All (λ d. d < value_count setting.now) residuals.now }
-    requires len { length samples.old ≡ length residuals.now }
+    requires len { length levels.old ≡ length residuals.now }
     requires eight { length residuals.now ≡ 8 }
-    ensures legal { All (IsSample setting.now) samples.new }
-    ensures ranks { ranks setting.now p samples.new ≡ residuals.now }
+    ensures legal { All (λ l. l < value_count setting.now) levels.new }
+    ensures ranks { ranks_below (value_count setting.now) before levels.new ≡ residuals.now }
 {
     if !near {
-        restore_in_turn(setting, p, residuals, samples);
+        restore_in_turn(setting, before, residuals, levels);
     } else if setting.bits() <= 16 {
-        restore_narrow(setting, p, residuals, samples);
+        restore_narrow(setting, before, residuals, levels);
     } else {
-        restore_wide(setting, p, residuals, samples);
+        restore_wide(setting, before, residuals, levels);
     }
 }
 
-/// Writes eight samples of at most 16 bits.
+/// Writes the levels of eight samples of at most 16 bits.
 #[inline(always)]
-fn restore_narrow(setting: &Setting, p: i64, residuals: &[u32], samples: &mut [i64])
+fn restore_narrow(setting: &Setting, before: u32, residuals: &[u32], levels: &mut [u32])
     requires narrow { setting.now.bits ≤ 16 }
-    requires before { IsSample setting.now p }
+    requires before { before < value_count setting.now }
     requires residuals { All (λ d. d < value_count setting.now) residuals.now }
-    requires len { length samples.old ≡ length residuals.now }
+    requires len { length levels.old ≡ length residuals.now }
     requires eight { length residuals.now ≡ 8 }
-    ensures legal { All (IsSample setting.now) samples.new }
-    ensures ranks { ranks setting.now p samples.new ≡ residuals.now }
+    ensures legal { All (λ l. l < value_count setting.now) levels.new }
+    ensures ranks { ranks_below (value_count setting.now) before levels.new ≡ residuals.now }
 {
     let greatest = (setting.values() - 1) as u16;
-    let level = setting.level(p) as u16;
     let ranks = u32x8::from_slice(residuals).cast::<u16>();
-    let levels = narrow_near_lanes::near_numbers(level, ranks);
-    if narrow_near_lanes::are_near(greatest, level, ranks, levels) {
-        let levels = levels.cast::<u32>();
-        write_at_levels(setting, &levels.to_array(), samples);
+    let numbers = narrow_near_lanes::near_numbers(before as u16, ranks);
+    if narrow_near_lanes::are_near(greatest, before as u16, ranks, numbers) {
+        numbers.cast::<u32>().copy_to_slice(levels);
     } else {
-        restore_far(setting, p, residuals, samples);
+        restore_far(setting, before, residuals, levels);
     }
 }
 
-/// Writes eight samples of any number of bits.
+/// Writes the levels of eight samples of any number of bits.
 #[inline(always)]
-fn restore_wide(setting: &Setting, p: i64, residuals: &[u32], samples: &mut [i64])
-    requires before { IsSample setting.now p }
+fn restore_wide(setting: &Setting, before: u32, residuals: &[u32], levels: &mut [u32])
+    requires before { before < value_count setting.now }
     requires residuals { All (λ d. d < value_count setting.now) residuals.now }
-    requires len { length samples.old ≡ length residuals.now }
+    requires len { length levels.old ≡ length residuals.now }
     requires eight { length residuals.now ≡ 8 }
-    ensures legal { All (IsSample setting.now) samples.new }
-    ensures ranks { ranks setting.now p samples.new ≡ residuals.now }
+    ensures legal { All (λ l. l < value_count setting.now) levels.new }
+    ensures ranks { ranks_below (value_count setting.now) before levels.new ≡ residuals.now }
 {
     let greatest = (setting.values() - 1) as u32;
-    let level = setting.level(p) as u32;
     let ranks = u32x8::from_slice(residuals);
-    let levels = near_numbers(level, ranks);
-    if are_near(greatest, level, ranks, levels) {
-        write_at_levels(setting, &levels.to_array(), samples);
+    let numbers = near_numbers(before, ranks);
+    if are_near(greatest, before, ranks, numbers) {
+        numbers.copy_to_slice(levels);
     } else {
-        restore_far(setting, p, residuals, samples);
+        restore_far(setting, before, residuals, levels);
     }
 }
 
-/// Writes the samples with these levels.
-#[inline(always)]
-fn write_at_levels(setting: &Setting, levels: &[u32], samples: &mut [i64])
-    requires levels { All (λ l. l < value_count setting.now) levels.now }
-    requires len { length samples.old ≡ length levels.now }
-    ensures legal { All (IsSample setting.now) samples.new }
-    ensures levels { map (level_of setting.now) samples.new ≡ levels.now }
-{
-    let setting = *setting;
-    for i in 0..samples.len() {
-        samples[i] = setting.value_at(levels[i] as u64);
-    }
-}
-
-/// As `restore_in_turn`, but never inlined: for samples of which not all are near.
+/// Writes eight levels, of which not all are near.
 #[inline(never)]
-fn restore_far(setting: &Setting, p: i64, residuals: &[u32], samples: &mut [i64])
-    requires before { IsSample setting.now p }
+fn restore_far(setting: &Setting, before: u32, residuals: &[u32], levels: &mut [u32])
+    requires before { before < value_count setting.now }
     requires residuals { All (λ d. d < value_count setting.now) residuals.now }
-    requires len { length samples.old ≡ length residuals.now }
+    requires len { length levels.old ≡ length residuals.now }
     requires eight { length residuals.now ≡ 8 }
-    ensures legal { All (IsSample setting.now) samples.new }
-    ensures ranks { ranks setting.now p samples.new ≡ residuals.now }
+    ensures legal { All (λ l. l < value_count setting.now) levels.new }
+    ensures ranks { ranks_below (value_count setting.now) before levels.new ≡ residuals.now }
 {
-    restore_in_turn(setting, p, residuals, samples);
+    let greatest = (setting.values() - 1) as u32;
+    let all = u32x8::from_slice(residuals)
+        .cast::<u64>()
+        .strict_reduce_sum();
+    if before as u64 + all <= greatest as u64 / 2 {
+        return restore_low(setting, before, residuals, levels);
+    }
+    restore_in_turn(setting, before, residuals, levels);
 }
 
-/// Writes eight samples one at a time.
+/// Writes eight levels one at a time, where all stay in the lower half of the range. There a residual that is not near is the
+/// level itself.
 #[inline(always)]
-fn restore_in_turn(setting: &Setting, p: i64, residuals: &[u32], samples: &mut [i64])
-    requires before { IsSample setting.now p }
+fn restore_low(setting: &Setting, before: u32, residuals: &[u32], levels: &mut [u32])
+    requires low { 2 * (before + sum residuals.now) < value_count setting.now }
     requires residuals { All (λ d. d < value_count setting.now) residuals.now }
-    requires len { length samples.old ≡ length residuals.now }
+    requires len { length levels.old ≡ length residuals.now }
     requires eight { length residuals.now ≡ 8 }
-    ensures legal { All (IsSample setting.now) samples.new }
-    ensures ranks { ranks setting.now p samples.new ≡ residuals.now }
+    ensures legal { All (λ l. l < value_count setting.now) levels.new }
+    ensures ranks { ranks_below (value_count setting.now) before levels.new ≡ residuals.now }
 {
-    let setting = *setting;
+    let ways = ways(u32x8::from_slice(residuals)).to_array();
+    let mut level = before;
+    for i in 0..8 {
+        let near = level.wrapping_add(ways[i]);
+        level = if 2 * level < residuals[i] {
+            residuals[i]
+        } else {
+            near
+        };
+        levels[i] = level;
+    }
+}
+
+/// Writes eight levels one at a time.
+#[inline(always)]
+fn restore_in_turn(setting: &Setting, before: u32, residuals: &[u32], levels: &mut [u32])
+    requires before { before < value_count setting.now }
+    requires residuals { All (λ d. d < value_count setting.now) residuals.now }
+    requires len { length levels.old ≡ length residuals.now }
+    requires eight { length residuals.now ≡ 8 }
+    ensures legal { All (λ l. l < value_count setting.now) levels.new }
+    ensures ranks { ranks_below (value_count setting.now) before levels.new ≡ residuals.now }
+{
     let greatest = (setting.values() - 1) as u32;
     let ways = ways(u32x8::from_slice(residuals)).to_array();
-    let mut level = setting.level(p) as u32;
+    let mut level = before;
     for i in 0..8 {
         level = number_along(greatest, level, residuals[i], ways[i]);
-        samples[i] = setting.value_at(level as u64);
+        levels[i] = level;
     }
 }
 
-/// Writes the samples one at a time, whatever their number.
+/// Writes the levels one at a time, whatever their number.
 #[inline(never)]
-fn restore_each(setting: &Setting, p: i64, residuals: &[u32], samples: &mut [i64])
-    requires before { IsSample setting.now p }
+fn restore_each(setting: &Setting, before: u32, residuals: &[u32], levels: &mut [u32])
+    requires before { before < value_count setting.now }
     requires residuals { All (λ d. d < value_count setting.now) residuals.now }
-    requires len { length samples.old ≡ length residuals.now }
-    ensures legal { All (IsSample setting.now) samples.new }
-    ensures ranks { ranks setting.now p samples.new ≡ residuals.now }
+    requires len { length levels.old ≡ length residuals.now }
+    ensures legal { All (λ l. l < value_count setting.now) levels.new }
+    ensures ranks { ranks_below (value_count setting.now) before levels.new ≡ residuals.now }
 {
-    let setting = *setting;
     let greatest = (setting.values() - 1) as u32;
-    let mut level = setting.level(p) as u32;
-    for i in 0..samples.len() {
+    let mut level = before;
+    for i in 0..levels.len() {
         level = number_with(greatest, level, residuals[i]);
-        samples[i] = setting.value_at(level as u64);
+        levels[i] = level;
     }
 }
 
-/// Writes the samples with these n-bit patterns.
-pub fn from_patterns(setting: &Setting, patterns: &[u32], samples: &mut [i64])
+/// Writes the levels of the samples with these n-bit patterns.
+pub fn levels_of_patterns(setting: &Setting, patterns: &[u32], levels: &mut [u32])
     requires patterns { All (λ v. v < value_count setting.now) patterns.now }
-    requires len { length samples.old ≡ length patterns.now }
-    ensures legal { All (IsSample setting.now) samples.new }
-    ensures patterns { map (pattern_of setting.now) samples.new ≡ patterns.now }
+    requires len { length levels.old ≡ length patterns.now }
+    ensures legal { All (λ l. l < value_count setting.now) levels.new }
+    ensures patterns { map (pattern_of setting.now) (values_at setting.now levels.new) ≡ patterns.now }
 {
-    // The loop is laid out for blocks of 8.
-    match samples.len() {
-        8 => from_each_pattern(setting, patterns, &mut samples[..8]),
-        _ => from_each_pattern(setting, patterns, samples),
+    // The loop is laid out for blocks of 8 and of 16.
+    match levels.len() {
+        8 => levels_of_each(setting, &patterns[..8], &mut levels[..8]),
+        16 => levels_of_each(setting, &patterns[..16], &mut levels[..16]),
+        _ => levels_of_each(setting, patterns, levels),
     }
 }
 
-/// Writes the samples, whatever their number.
+/// Writes the levels, whatever their number.
 #[inline(always)]
-fn from_each_pattern(setting: &Setting, patterns: &[u32], samples: &mut [i64])
+fn levels_of_each(setting: &Setting, patterns: &[u32], levels: &mut [u32])
     requires patterns { All (λ v. v < value_count setting.now) patterns.now }
-    requires len { length samples.old ≡ length patterns.now }
-    ensures legal { All (IsSample setting.now) samples.new }
-    ensures patterns { map (pattern_of setting.now) samples.new ≡ patterns.now }
+    requires len { length levels.old ≡ length patterns.now }
+    ensures legal { All (λ l. l < value_count setting.now) levels.new }
+    ensures patterns { map (pattern_of setting.now) (values_at setting.now levels.new) ≡ patterns.now }
 {
     let setting = *setting;
-    for i in 0..samples.len() {
-        samples[i] = from_pattern(&setting, patterns[i]);
+    if !setting.signed() {
+        levels.copy_from_slice(patterns);
+        return;
     }
+    for i in 0..levels.len() {
+        levels[i] = level_of_pattern(&setting, patterns[i]);
+    }
+}
+
+/// Returns the level of the sample with the n-bit pattern `v`.
+#[inline(always)]
+pub fn level_of_pattern(setting: &Setting, v: u32) -> u32
+    requires { v < value_count setting.now }
+    ensures below { result < value_count setting.now }
+    ensures pattern { pattern_of setting.now (value_at setting.now result) ≡ v }
+{
+    let greatest = (setting.values() - 1) as u32;
+    v.wrapping_add(setting.offset() as u32) & greatest
 }
