@@ -104,8 +104,8 @@ fn write_values(setting: &Setting, levels: &[u32], values: &mut ArrayVec<i64, 64
     ensures { values.new.items ≡ values_at setting.now levels.now }
 {
     values.clear();
-    for level in levels {
-        values.push(setting.value_at(*level as u64));
+    for i in 0..levels.len() {
+        values.push(setting.value_at(levels[i] as u64));
     }
 }
 
@@ -126,6 +126,8 @@ pub struct Decoder {
 }
 
 impl Model for Decoder {
+    ghost use Rattle.std.specs.Prelude.{◌<◌};
+    ghost use Rattle.rice_samples.specs.Parameters.{value_at, value_count};
     ghost use Rattle.rice_code.specs.decode.DecoderState.{DecoderState, IsDecoderState};
 
     ghost Value = { DecoderState };
@@ -144,10 +146,12 @@ impl Decoder {
         ensures { result
             ≡ record { setting = setting; block = 0; before = pos 0; run = 0; stopped = None } }
     {
+        let _bits = setting.bits();
+        let before = setting.level(0) as u32;
         Decoder {
             setting,
             block: 0,
-            before: setting.level(0) as u32,
+            before,
             run: 0,
             stopped: None,
             scratch: [0; 128],
@@ -176,10 +180,10 @@ impl Decoder {
         ensures repeats { result ≡ true → RepeatsSamples self.now (values_at self.now.setting levels.now) }
         ensures others { result ≡ false → RepeatsSamples self.now (values_at self.now.setting levels.now) → ⊥ }
     {
-        self.run > 0
-            && self.setting.preprocess()
-            && levels.len() == self.setting.block() as usize
-            && are_all(levels, self.before)
+        if self.run == 0 || !self.setting.preprocess() {
+            return false;
+        }
+        levels.len() == self.setting.block() as usize && are_all(levels, self.before)
     }
 
     /// Goes past the next block of a run: each of its samples is the sample before it.
@@ -202,7 +206,6 @@ impl Decoder {
     /// Restores the samples of the next block.
     ///
     /// A decoder that has found the end or has refused returns the same again at each later call.
-    #[inline(always)]
     pub fn next_block<I: Intake>(
         &mut self,
         reader: &mut BitReader<I>,

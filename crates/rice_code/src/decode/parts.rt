@@ -106,30 +106,6 @@ fn take_parts<I: Intake>(
     if k < 1 || k > 7 || count > 16 || (count + 1) % 8 > 1 {
         return None;
     }
-    take_parts_of(reader, meter, most, k, residuals)
-}
-
-/// As `take_parts`, for these residuals.
-#[inline(always)]
-fn take_parts_of<I: Intake>(
-    reader: &mut BitReader<I>,
-    meter: &mut Meter,
-    most: u64,
-    k: u32,
-    residuals: &mut [u32],
-) -> Option<bool>
-    requires going { reader.old.refusal ≡ None }
-    requires room { HasRoom meter.old reader.old.taken }
-    requires k { (1 ≤ k) × (k ≤ 7) }
-    requires most { most ≤ (2 ^ 32 - 1) / 2 ^ k }
-    requires count { (length residuals.old + 1) % 8 ≤ 1 }
-    requires few { length residuals.old ≤ 16 }
-    ensures some { IfSome result (λ small.
-        PartsRead reader.old reader.new most k small (length residuals.old) residuals.new) }
-    ensures none { IfNone result ((reader.new ≡ reader.old) × (meter.new ≡ meter.old)) }
-    ensures steps { meter.new + reader.old.taken ≡ meter.old + reader.new.taken }
-    ensures limit { reader.new.taken ≤ 2 ^ 52 }
-{
     if !reader.take_waiting_parts(k, residuals, meter) {
         return None;
     }

@@ -4,3 +4,4 @@ pub mod CutLemmas
 pub mod Gaps
 pub mod Levels
 pub mod PlaceLemmas
+pub mod ValuesAt

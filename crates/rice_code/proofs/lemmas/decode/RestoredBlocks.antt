@@ -92,7 +92,7 @@ pub put_behind : (xs ys : List ℤ) (x : ℤ) → length xs ≡ suc (length ys) 
 put_behind [] ys x e = absurd (omega arith)
 put_behind (z ∷ xs) ys x e = ap (λ v. x ∷ v) (ap (λ v. ys ++ v) (drop_all (length (x ∷ xs) - 1) xs (omega arith)) ∙ append-nil ys)
 
-pub refill_all : (xs ys : List ℤ) → length ys ≡ length xs → refill (length xs) xs ys ≡ ys
+pub refill_all : {A : Type 0} (xs ys : List A) → length ys ≡ length xs → refill (length xs) xs ys ≡ ys
 refill_all xs ys e =
     ap (λ v. take (length xs) (ys ++ v)) (drop_all (length ys) xs (omega (arith, e)))
     ∙ (ap (take (length xs)) (append-nil ys) ∙ take_all (length xs) ys (omega (arith, e)))

@@ -1,26 +1,38 @@
-use Rattle.std.proofs.Common.{arith, rules, ◌-◌, refl, w64}
-use Rattle.std.proofs.lemmas.Int.{to_z-of_z}
-use mir.Val.{SFits}
-use Rattle.rice_code.proofs.lemmas.decode.DecoderLemmas.{place_moves, goes_on}
+use Rattle.std.proofs.Common.{◌≡◌, ◌∙◌, ap, length}
+use Rattle.std.proofs.lemmas.Option.{IfSome_then}
+use Rattle.rice_samples.specs.Parameters.{values_at}
+use Rattle.rice_samples.proofs.lemmas.setting.ValuesAt.{length-values}
 use Rattle.rice_code.proofs.decode.decoder.Decoder.next_block.Goals as goal
 
-pub invariant_of-self : goal.invariant_of-self
-invariant_of-self g c =
-    let f : SFits w64 c.restore_zeros-last.result = search rules in
-    rw (to_z-of_z w64 c.restore_zeros-last.result f)
-    (place_moves c.self.inside.setting c.self.inside.block c.next_place-self-inside.result (c.self.inside.run - 1) c.restore_zeros-last.result c.self.inside.stopped
-    c.self.invariant.legal c.self.invariant.within c.next_place-self-inside.ensures c.restore_zeros-last.ensures.sample
-    (λ h. omega (arith, c.self.invariant.run_fits c.if-self-gt0.true)) c.self.invariant.no_block)
+pub returns-clause-stopped : goal.returns-clause-stopped
+returns-clause-stopped g c =
+    let s = c.args.self.now.setting in
+    let levels = c.next_levels-answer in
+    let same : c.self.inside.setting ≡ s = ap (λ p. p.setting) c.self.view_is ∙ levels.ensures.setting in
+    let told : c.write_values.new.values.items ≡ values_at s levels.new.levels.items = c.write_values.ensures ∙ (λ j. values_at (same j) (c.as_slice.ensures.value j)) in
+    IfSome_then c.args.self.now.stopped levels.ensures.stopped (λ a h. (h.0, told ∙ ap (values_at s) h.1, h.2, h.3, h.4))
 
-pub returns-then-self-gt0-clause-in_run : goal.returns-then-self-gt0-clause-in_run
-returns-then-self-gt0-clause-in_run g c none pos =
-    let f : SFits w64 c.restore_zeros-last.result = search rules in
-    let b : SFits w64 c.self.inside.before = search rules in
-    rw (← c.self.view_is, to_z-of_z w64 c.restore_zeros-last.result f) (
-      refl,
-      goes_on c.self.inside.setting c.self.inside.block c.next_place-self-inside.result c.self.inside.run c.self.inside.before c.restore_zeros-last.result c.self.inside.stopped c.restore_zeros-last.new.samples.items
-          c.if-self-gt0.true c.next_place-self-inside.ensures (rw (to_z-of_z w64 c.self.inside.before b) at c.restore_zeros-last.ensures.last) c.restore_zeros-last.ensures.len c.restore_zeros-last.ensures.legal
-          (rw (to_z-of_z w64 c.self.inside.before b) at c.restore_zeros-last.ensures.contents),
-      refl,
-      refl,
-    )
+pub returns-clause-in_run : goal.returns-clause-in_run
+returns-clause-in_run g c none run =
+    let s = c.args.self.now.setting in
+    let levels = c.next_levels-answer in
+    let same : c.self.inside.setting ≡ s = ap (λ p. p.setting) c.self.view_is ∙ levels.ensures.setting in
+    let told : c.write_values.new.values.items ≡ values_at s levels.new.levels.items = c.write_values.ensures ∙ (λ j. values_at (same j) (c.as_slice.ensures.value j)) in
+    rw told (levels.ensures.in_run none run)
+
+pub returns-clause-reads : goal.returns-clause-reads
+returns-clause-reads g c none run =
+    let s = c.args.self.now.setting in
+    let levels = c.next_levels-answer in
+    let same : c.self.inside.setting ≡ s = ap (λ p. p.setting) c.self.view_is ∙ levels.ensures.setting in
+    let told : c.write_values.new.values.items ≡ values_at s levels.new.levels.items = c.write_values.ensures ∙ (λ j. values_at (same j) (c.as_slice.ensures.value j)) in
+    rw told (levels.ensures.reads none run)
+
+pub returns-clause-waiting : goal.returns-clause-waiting
+returns-clause-waiting g c =
+    let s = c.args.self.now.setting in
+    let levels = c.next_levels-answer in
+    let same : c.self.inside.setting ≡ s = ap (λ p. p.setting) c.self.view_is ∙ levels.ensures.setting in
+    let told : c.write_values.new.values.items ≡ values_at s levels.new.levels.items = c.write_values.ensures ∙ (λ j. values_at (same j) (c.as_slice.ensures.value j)) in
+    let count : length c.write_values.new.values.items ≡ length levels.new.levels.items = ap length told ∙ length-values s levels.new.levels.items in
+    rw count levels.ensures.waiting

@@ -1,6 +1,6 @@
-use Rattle.std.proofs.Common.{arith, rules, ◌≡◌, ◌-◌, ap, subst, w64, true}
-use Rattle.std.proofs.lemmas.Int.{to_z-of_z}
-use mir.Val.{SFits}
+use Rattle.std.proofs.Common.{arith, ◌≡◌, ◌-◌, ◌∙◌, ap, refl, subst, true, []}
+use Rattle.rice_samples.specs.Parameters.{value_at, values_at}
+use Rattle.rice_samples.proofs.lemmas.setting.ValuesAt.{legal_values, length-values}
 use Rattle.rice_code.specs.decode.Decoder.{TakesSet, StopsBy, answer_to, with_mark}
 use Rattle.rice_code.proofs.lemmas.decode.DecoderLemmas.{answers_block, answers_stop, block_given, run_given, samples_by_bits, stops_by}
 use Rattle.rice_code.proofs.decode.decoder.Decoder.read_sized.Goals as goal
@@ -9,16 +9,17 @@ pub returns-else-not-sound-clause-reads : goal.returns-else-not-sound-clause-rea
 returns-else-not-sound-clause-reads g c =
     let st = c.self.inside in
     let last = c.restore_block-last in
-    let f : SFits w64 last.result = search rules in
-    let b : SFits w64 st.before = search rules in
+    let s = st.setting in
+    let p = value_at s st.before in
+    let ls = last.new.levels.items in
     let marks = c.mark.ensures.going c.requires.going in
     let read = rw (c.in-Ok-Residuals.field-0-is, c.if-not-sound.false) at c.in-Ok-Residuals.ensures.ok in
-    let set = block_given c.mark.new.self c.read_set.new.reader c.args.meter.now c.read_set.new.meter st.setting st.block st.before c.in-Ok-Residuals.reference c.in-Ok-Residuals.near last.new.samples.items c.read_set.new.residuals
-    read last.ensures.len last.ensures.legal (rw (to_z-of_z w64 st.before b) at last.ensures.contents) in
+    let set = block_given c.mark.new.self c.read_set.new.reader c.args.meter.now c.read_set.new.meter s st.block p c.in-Ok-Residuals.reference c.in-Ok-Residuals.near (values_at s ls) c.read_set.new.residuals
+    read (length-values s ls ∙ last.ensures.len) (legal_values s ls last.ensures.legal) last.ensures.contents in
     rw (← c.self.view_is, c.go_on.ensures.block)
-    (answers_block c.args.reader.now c.read_set.new.reader c.go_on.new.reader c.args.meter.now c.read_set.new.meter c.go_on.new.meter (record { setting = st.setting; block = st.block; before = st.before; run = st.run; stopped = st.stopped }) c.go_on.new.self last.new.samples.items 0 last.result
-    (subst (λ r. TakesSet r c.read_set.new.reader c.args.meter.now c.read_set.new.meter st.setting st.block st.before last.new.samples.items 0) marks set) c.go_on.ensures.skips c.go_on.ensures.steps
-    (rw (to_z-of_z w64 st.before b) at last.ensures.last) (rw (to_z-of_z w64 last.result f) at c.go_on.ensures.moves))
+    (answers_block c.args.reader.now c.read_set.new.reader c.go_on.new.reader c.args.meter.now c.read_set.new.meter c.go_on.new.meter (record { setting = st.setting; block = st.block; before = value_at st.setting st.before; run = st.run; stopped = st.stopped }) c.go_on.new.self (values_at s ls) 0 (value_at s last.result)
+    (subst (λ r. TakesSet r c.read_set.new.reader c.args.meter.now c.read_set.new.meter s st.block p (values_at s ls) 0) marks set) c.go_on.ensures.skips c.go_on.ensures.steps
+    last.ensures.last c.go_on.ensures.moves)
 
 pub returns-else-not-sound-clause-steps : goal.returns-else-not-sound-clause-steps
 returns-else-not-sound-clause-steps g c =
@@ -35,12 +36,14 @@ pub returns-else-not-sound-clause-waiting : goal.returns-else-not-sound-clause-w
 returns-else-not-sound-clause-waiting g c =
     let st = c.self.inside in
     let last = c.restore_block-last in
-    let b : SFits w64 st.before = search rules in
+    let s = st.setting in
+    let p = value_at s st.before in
+    let ls = last.new.levels.items in
     let read = rw (c.in-Ok-Residuals.field-0-is, c.if-not-sound.false) at c.in-Ok-Residuals.ensures.ok in
-    let set = block_given c.mark.new.self c.read_set.new.reader c.args.meter.now c.read_set.new.meter st.setting st.block st.before c.in-Ok-Residuals.reference c.in-Ok-Residuals.near last.new.samples.items c.read_set.new.residuals
-    read last.ensures.len last.ensures.legal (rw (to_z-of_z w64 st.before b) at last.ensures.contents) in
+    let set = block_given c.mark.new.self c.read_set.new.reader c.args.meter.now c.read_set.new.meter s st.block p c.in-Ok-Residuals.reference c.in-Ok-Residuals.near (values_at s ls) c.read_set.new.residuals
+    read (length-values s ls ∙ last.ensures.len) (legal_values s ls last.ensures.legal) last.ensures.contents in
     let same : c.mark.new.self.taken ≡ c.args.reader.now.taken = ap (λ r. r.taken) (c.mark.ensures.going c.requires.going) in
-    let bound = samples_by_bits c.mark.new.self c.read_set.new.reader c.args.meter.now c.read_set.new.meter st.setting st.block st.before last.new.samples.items 0 c.self.invariant.legal set in
+    let bound = samples_by_bits c.mark.new.self c.read_set.new.reader c.args.meter.now c.read_set.new.meter s st.block p (values_at s ls) 0 c.self.invariant.1.legal set in
     let waits : c.go_on.new.self.run ≡ 0 = ap (λ r. r.run) c.go_on.ensures.moves in
     rw waits (omega (arith, bound, same, c.go_on.ensures.few))
 
@@ -48,16 +51,17 @@ pub returns-in-Some-clause-reads : goal.returns-in-Some-clause-reads
 returns-in-Some-clause-reads g c =
     let st = c.self.inside in
     let last = c.restore_zeros-last in
-    let f : SFits w64 last.result = search rules in
-    let b : SFits w64 st.before = search rules in
+    let s = st.setting in
+    let p = value_at s st.before in
+    let ls = last.new.levels.items in
     let marks = c.mark.ensures.going c.requires.going in
     let run = c.in-Some.ensures in
-    let set = run_given c.mark.new.self c.read_set.new.reader c.args.meter.now c.read_set.new.meter st.setting st.block st.before c.in-Ok-Zeros.reference c.in-Ok-Zeros.zeros c.in-Some.count last.new.samples.items c.read_set.new.residuals
-    (rw c.in-Ok-Zeros.field-0-is at c.in-Ok-Zeros.ensures.ok) (run.sound c.in-Ok-Zeros.reference) (run.blocks c.in-Ok-Zeros.reference) last.ensures.len last.ensures.legal (rw (to_z-of_z w64 st.before b) at last.ensures.contents) in
+    let set = run_given c.mark.new.self c.read_set.new.reader c.args.meter.now c.read_set.new.meter s st.block p c.in-Ok-Zeros.reference c.in-Ok-Zeros.zeros c.in-Some.count (values_at s ls) c.read_set.new.residuals
+    (rw c.in-Ok-Zeros.field-0-is at c.in-Ok-Zeros.ensures.ok) (run.sound c.in-Ok-Zeros.reference) (run.blocks c.in-Ok-Zeros.reference) (length-values s ls ∙ last.ensures.len) (legal_values s ls last.ensures.legal) last.ensures.contents in
     rw (← c.self.view_is, c.go_on-in-Some.ensures.block)
-    (answers_block c.args.reader.now c.read_set.new.reader c.go_on-in-Some.new.reader c.args.meter.now c.read_set.new.meter c.go_on-in-Some.new.meter (record { setting = st.setting; block = st.block; before = st.before; run = st.run; stopped = st.stopped }) c.go_on-in-Some.new.self last.new.samples.items (c.in-Some.count - 1) last.result
-    (subst (λ r. TakesSet r c.read_set.new.reader c.args.meter.now c.read_set.new.meter st.setting st.block st.before last.new.samples.items (c.in-Some.count - 1)) marks set) c.go_on-in-Some.ensures.skips c.go_on-in-Some.ensures.steps
-    (rw (to_z-of_z w64 st.before b) at last.ensures.last) (rw (to_z-of_z w64 last.result f) at c.go_on-in-Some.ensures.moves))
+    (answers_block c.args.reader.now c.read_set.new.reader c.go_on-in-Some.new.reader c.args.meter.now c.read_set.new.meter c.go_on-in-Some.new.meter (record { setting = st.setting; block = st.block; before = value_at st.setting st.before; run = st.run; stopped = st.stopped }) c.go_on-in-Some.new.self (values_at s ls) (c.in-Some.count - 1) (value_at s last.result)
+    (subst (λ r. TakesSet r c.read_set.new.reader c.args.meter.now c.read_set.new.meter s st.block p (values_at s ls) (c.in-Some.count - 1)) marks set) c.go_on-in-Some.ensures.skips c.go_on-in-Some.ensures.steps
+    last.ensures.last c.go_on-in-Some.ensures.moves)
 
 pub returns-in-Some-clause-steps : goal.returns-in-Some-clause-steps
 returns-in-Some-clause-steps g c =
@@ -74,12 +78,14 @@ pub returns-in-Some-clause-waiting : goal.returns-in-Some-clause-waiting
 returns-in-Some-clause-waiting g c =
     let st = c.self.inside in
     let last = c.restore_zeros-last in
-    let b : SFits w64 st.before = search rules in
+    let s = st.setting in
+    let p = value_at s st.before in
+    let ls = last.new.levels.items in
     let run = c.in-Some.ensures in
-    let set = run_given c.mark.new.self c.read_set.new.reader c.args.meter.now c.read_set.new.meter st.setting st.block st.before c.in-Ok-Zeros.reference c.in-Ok-Zeros.zeros c.in-Some.count last.new.samples.items c.read_set.new.residuals
-    (rw c.in-Ok-Zeros.field-0-is at c.in-Ok-Zeros.ensures.ok) (run.sound c.in-Ok-Zeros.reference) (run.blocks c.in-Ok-Zeros.reference) last.ensures.len last.ensures.legal (rw (to_z-of_z w64 st.before b) at last.ensures.contents) in
+    let set = run_given c.mark.new.self c.read_set.new.reader c.args.meter.now c.read_set.new.meter s st.block p c.in-Ok-Zeros.reference c.in-Ok-Zeros.zeros c.in-Some.count (values_at s ls) c.read_set.new.residuals
+    (rw c.in-Ok-Zeros.field-0-is at c.in-Ok-Zeros.ensures.ok) (run.sound c.in-Ok-Zeros.reference) (run.blocks c.in-Ok-Zeros.reference) (length-values s ls ∙ last.ensures.len) (legal_values s ls last.ensures.legal) last.ensures.contents in
     let same : c.mark.new.self.taken ≡ c.args.reader.now.taken = ap (λ r. r.taken) (c.mark.ensures.going c.requires.going) in
-    let bound = samples_by_bits c.mark.new.self c.read_set.new.reader c.args.meter.now c.read_set.new.meter st.setting st.block st.before last.new.samples.items (c.in-Some.count - 1) c.self.invariant.legal set in
+    let bound = samples_by_bits c.mark.new.self c.read_set.new.reader c.args.meter.now c.read_set.new.meter s st.block p (values_at s ls) (c.in-Some.count - 1) c.self.invariant.1.legal set in
     let moves = c.go_on-in-Some.ensures.moves in
     let waits : c.go_on-in-Some.new.self.run ≡ c.in-Some.count - 1 = ap (λ r. r.run) moves in
     let size : c.go_on-in-Some.new.self.setting.block ≡ st.setting.block = ap (λ r. r.setting.block) moves in
@@ -90,7 +96,8 @@ returns-in-Err-clause-reads g c =
     let st = c.self.inside in
     let marks = c.mark.ensures.going c.requires.going in
     let marked : c.mark.new.self.blank ≡ true = ap (λ r. r.blank) marks in
+    let none : values_at st.setting c.stop-in-Err.new.levels.items ≡ [] = rw c.stop-in-Err.ensures.samples refl in
     let stops = stops_by c.mark.new.self c.read_set.new.reader st.setting st.block c.in-Err.fault marked c.in-Err.ensures.err in
     rw (← c.self.view_is, c.stop-in-Err.ensures.answer, c.answer_of.ensures)
-    (answers_stop (with_mark c.args.reader.now) c.read_set.new.reader c.args.meter.now c.read_set.new.meter (record { setting = st.setting; block = st.block; before = st.before; run = st.run; stopped = st.stopped }) c.stop-in-Err.new.self c.stop-in-Err.new.samples.items (answer_to c.in-Err.fault)
-    (subst (λ r. StopsBy r c.read_set.new.reader st.setting st.block (answer_to c.in-Err.fault)) marks stops) (rw c.answer_of.ensures at c.stop-in-Err.ensures.stops) c.stop-in-Err.ensures.samples)
+    (answers_stop (with_mark c.args.reader.now) c.read_set.new.reader c.args.meter.now c.read_set.new.meter (record { setting = st.setting; block = st.block; before = value_at st.setting st.before; run = st.run; stopped = st.stopped }) c.stop-in-Err.new.self (values_at st.setting c.stop-in-Err.new.levels.items) (answer_to c.in-Err.fault)
+    (subst (λ r. StopsBy r c.read_set.new.reader st.setting st.block (answer_to c.in-Err.fault)) marks stops) (rw c.answer_of.ensures at c.stop-in-Err.ensures.stops) none)

@@ -1,7 +1,7 @@
 use Rattle.std.proofs.Common.{inl, inr, refl, subst, true}
 use Rattle.rice_code.specs.decode.ReadSets.{PartsRead}
 use Rattle.rice_code.proofs.lemmas.decode.ReadLemmas.{parts_waited}
-use Rattle.rice_code.proofs.decode.parts.take_parts_of.Goals as goal
+use Rattle.rice_code.proofs.decode.parts.take_parts.Goals as goal
 
 pub returns-then-most-ge63-clause-some : goal.returns-then-most-ge63-clause-some
 returns-then-most-ge63-clause-some g c =

@@ -1,0 +1,48 @@
+-- Values by their levels.
+use Rattle.std.proofs.Common.{◌≡◌, ℕ, zero, suc, ◌-◌, ◌<◌, List, [], ◌∷◌, length, map, replicate, All, refl, sym, ap, subst, arith, ◌∙◌, ℤ, pos, ◌+ℤ◌, slice_index_or}
+use Rattle.std.proofs.lemmas.List.{get_or-map, length-map}
+use Rattle.std.proofs.lemmas.List.Elements.{All-map}
+use Rattle.rice_samples.specs.Parameters.{Parameters, IsSample, least, level, value_at, value_count, values_at}
+use Rattle.rice_samples.specs.predict.Residuals.{rank_below, ranks, ranks_below, last_of}
+use Rattle.rice_samples.proofs.lemmas.setting.Gaps.{gap_above, sample_at}
+use Rattle.rice_samples.proofs.lemmas.setting.Levels.{same_level}
+use Rattle.rice_samples.proofs.lemmas.predict.Folding.{last_at}
+
+pub level_of_value : (s : Parameters) (l : ℕ) → level s (value_at s l) ≡ l
+level_of_value s l = gap_above (least s) l
+
+pub value_of_level : (s : Parameters) (x : ℤ) → IsSample s x → value_at s (level s x) ≡ x
+value_of_level s x h = same_level s (value_at s (level s x)) x (sample_at s (level s x) h.1) h (level_of_value s (level s x))
+
+pub legal_values : (s : Parameters) (ls : List ℕ) → All (λ l. l < value_count s) ls → All (IsSample s) (values_at s ls)
+legal_values s ls h = All-map (IsSample s) (value_at s) ls (λ k d lt. sample_at s (slice_index_or ls k d) (h k d lt))
+
+pub length-values : (s : Parameters) (ls : List ℕ) → length (values_at s ls) ≡ length ls
+length-values s ls = length-map ls (value_at s)
+
+pub ranks_of_values : (s : Parameters) (p : ℕ) (ls : List ℕ) → ranks s (value_at s p) (values_at s ls) ≡ ranks_below (value_count s) p ls
+ranks_of_values s p [] = refl
+ranks_of_values s p (l ∷ ls) = λ i. rank_below (value_count s) (level_of_value s p i) (level_of_value s l i) ∷ ranks_of_values s l ls i
+
+pub values_replicate : (s : Parameters) (n l : ℕ) → values_at s (replicate n l) ≡ replicate n (value_at s l)
+values_replicate s zero l = refl
+values_replicate s (suc n) l = ap (λ xs. value_at s l ∷ xs) (values_replicate s n l)
+
+-- the last of the values is the one at the last level
+pub last_value : (s : Parameters) (p : ℤ) (ls : List ℕ) → 0 < length ls → value_at s (slice_index_or ls (length ls - 1) 0) ≡ last_of p (values_at s ls)
+last_value s p ls h =
+    let len = length-values s ls in
+    let last : slice_index_or (values_at s ls) (length (values_at s ls) - 1) (pos 0) ≡ value_at s (slice_index_or ls (length ls - 1) 0) = ap (λ n. slice_index_or (values_at s ls) (n - 1) (pos 0)) len ∙ get_or-map (value_at s) ls (length ls - 1) 0 (pos 0) (omega arith) in
+    sym (last_at p (pos 0) (values_at s ls) (omega (arith, len)) ∙ last)
+
+-- different levels are of different values
+pub same_levels : (s : Parameters) (xs ys : List ℕ) → values_at s xs ≡ values_at s ys → xs ≡ ys
+same_levels s xs ys e = sym (levels_are s xs) ∙ (ap (map (level s)) e ∙ levels_are s ys)
+  where
+    levels_are : (s : Parameters) (ls : List ℕ) → map (level s) (values_at s ls) ≡ ls
+    levels_are s [] = refl
+    levels_are s (l ∷ ls) = λ i. level_of_value s l i ∷ levels_are s ls i
+
+-- levels of values that are all the same
+pub levels_repeat : (s : Parameters) (n l : ℕ) (ls : List ℕ) → values_at s ls ≡ replicate n (value_at s l) → ls ≡ replicate n l
+levels_repeat s n l ls e = same_levels s ls (replicate n l) (e ∙ sym (values_replicate s n l))
