@@ -4,9 +4,9 @@ ghost use Rattle.rice_samples.specs.Parameters.{IsSample};
 use crate::table::{self, Columns, answer_to, bytes_of, setting_of};
 use rice_bits::Meter;
 use rice_samples::{
-    Segment, Setting, SettingFault, bytes_of as bytes_of_sample, from_pattern, from_patterns,
-    pattern, residual, restore, restore_all, sample_of, samples_of, write_spellings,
-    write_spellings_as,
+    Segment, Setting, SettingFault, bytes_of as bytes_of_sample, from_pattern, level_of_pattern,
+    levels_of_patterns, pattern, residual, restore, restore_all, sample_of, samples_of,
+    write_spellings, write_spellings_as,
 };
 use std::test::Fail;
 
@@ -137,15 +137,15 @@ fn sample_in(text: &str) -> Result<Option<i64>, Fail> {
     Ok(Some(text.parse::<i64>()?))
 }
 
-/// The options, a sample, and its pattern as a number.
-const PATTERNS: &str = "n10 s | -512        | 512
-    n10 s | -1          | 1023
-    n10 s | 511         | 511
-    n10   | 1023        | 1023
-    n1 s  | -1          | 1
-    n1    | 1           | 1
-    n32 s | -2147483648 | 2147483648
-    n32   | 4294967295  | 4294967295";
+/// The options, a sample, its pattern as a number, and how many legal samples are below it.
+const PATTERNS: &str = "n10 s | -512        | 512        | 0
+    n10 s | -1          | 1023       | 511
+    n10 s | 511         | 511        | 1023
+    n10   | 1023        | 1023       | 1023
+    n1 s  | -1          | 1          | 0
+    n1    | 1           | 1          | 1
+    n32 s | -2147483648 | 2147483648 | 0
+    n32   | 4294967295  | 4294967295 | 4294967295";
 
 #[test]
 fn patterns(rt: HostRuntime) -> Result<(), Fail> {
@@ -154,10 +154,15 @@ fn patterns(rt: HostRuntime) -> Result<(), Fail> {
         let setting = setting_of(columns.next())?;
         let x = columns.next().parse::<i64>()?;
         let word = columns.next().parse::<u32>()?;
+        let level = columns.next().parse::<u32>()?;
         assert!(rt; setting.in_range(x));
         let digits = pattern(&setting, x);
         assert_eq!(rt; digits, word, "{line}");
         assert_eq!(rt; from_pattern(&setting, digits), x);
+        assert_eq!(rt; level_of_pattern(&setting, digits), level, "{line}");
+        assert_eq!(rt; setting.level(x), level as u64, "{line}");
+        assert!(rt; (level as u64) < setting.values());
+        assert_eq!(rt; setting.value_at(level as u64), x, "{line}");
     }
     Ok(())
 }
@@ -425,20 +430,29 @@ fn samples_restored_in_a_row(rt: HostRuntime) -> Result<(), Fail> {
     let signed = of_bits(8, true)?;
     let residuals = [2, 1, 0, 1, 7, 255, 255, 255];
     let patterns = [255, 128, 127, 0, 1, 2, 254, 129];
-    assert!(rt; setting.in_range(5));
+    assert!(rt; 5 < setting.values());
     assert!(rt; are_below(setting.values(), &residuals));
     assert!(rt; are_below(signed.values(), &patterns));
-    let mut samples = [0; 8];
-    restore_all(&setting, 5, &residuals, &mut samples);
-    assert_eq!(rt; samples, [6, 5, 5, 4, 0, 255, 0, 255]);
-    from_patterns(&signed, &patterns, &mut samples);
-    assert_eq!(rt; samples, [-1, -128, 127, 0, 1, 2, -2, -127]);
+    let mut levels = [0; 8];
+    restore_all(&setting, 5, &residuals, &mut levels);
+    assert_eq!(rt; levels, [6, 5, 5, 4, 0, 255, 0, 255]);
+    levels_of_patterns(&signed, &patterns, &mut levels);
+    assert_eq!(rt; levels, [127, 0, 255, 128, 129, 130, 126, 1]);
     Ok(())
 }
 
 /// A setting of predicted samples in three bytes where these are enough.
 fn spelled(bits: u32, signed: bool, msb: bool) -> Result<Setting, SettingFault> {
     Setting::new(bits, 8, 2, signed, msb, true, true, false)
+}
+
+/// Returns the level of `x`, or 0 where it is no legal sample.
+fn level_of(setting: &Setting, x: i64) -> u32 {
+    if setting.in_range(x) {
+        setting.level(x) as u32
+    } else {
+        0
+    }
 }
 
 /// The options, the number of samples that are wanted, and those that the bytes spell.
@@ -467,12 +481,19 @@ fn samples_of_bytes(rt: HostRuntime) -> Result<(), Fail> {
         assert_eq!(rt; read[..taken], *expected, "{line}");
         let end = width * expected.len();
         assert!(rt; end <= 12 && end <= bytes.len());
-        assert!(rt; are_in_range(&setting, expected));
+        assert!(rt; expected.len() <= 4);
+        let mut levels = [0; 4];
+        for i in 0..expected.len() {
+            assert!(rt; i < 4);
+            levels[i] = level_of(&setting, expected[i]);
+        }
+        let levels = &levels[..expected.len()];
+        assert!(rt; are_below(setting.values(), levels));
         let mut back = [0; 12];
-        write_spellings(&setting, expected, &mut back[..end]);
+        write_spellings(&setting, levels, &mut back[..end]);
         assert_eq!(rt; back[..end], bytes[..end], "{line}");
         let mut back = [0; 12];
-        write_spellings_as(&setting, width, setting.msb(), expected, &mut back[..end]);
+        write_spellings_as(&setting, width, setting.msb(), levels, &mut back[..end]);
         assert_eq!(rt; back[..end], bytes[..end], "{line}");
     }
     Ok(())

@@ -1,3 +1,4 @@
 -- Spelling, and reading samples from bytes.
+pub mod LevelPatterns
 pub mod ReadSamples
 pub mod SpellingLemmas

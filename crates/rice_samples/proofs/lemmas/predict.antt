@@ -8,4 +8,4 @@ pub mod Patterns
 pub mod RankLaws
 pub mod Ranks
 pub mod ResidualLemmas
-pub mod RestoredSamples
+pub mod RestoredLevels

@@ -56,6 +56,7 @@ pub fn write_spellings_as(
     requires len { length bytes.old ≡ width * length levels.now }
     ensures { bytes.new ≡ spellings setting.now (values_at setting.now levels.now) }
 {
+    let _width = setting.width();
     let offset = setting.offset() as u32;
     for i in 0..levels.len() {
         let word = low_digits(levels[i].wrapping_sub(offset), 8 * width as u32) as u32;

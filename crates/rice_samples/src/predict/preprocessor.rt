@@ -112,3 +112,16 @@ pub(crate) fn number_along(greatest: u32, p: u32, d: u32, way: u32) -> u32
         below
     }
 }
+
+/// Returns the number with rank `d` from `p`, where the range goes on to `d` above `p` and further. It is `way` away from `p`
+/// if it is near.
+#[inline(always)]
+pub(crate) fn low_number_along(p: u32, d: u32, way: u32) -> u32
+    requires low { p + d < 2 ^ 32 }
+    requires way { way ≡ way_of (2 ^ 32) d }
+    ensures reach { result ≤ p + d }
+    ensures rank { (count : ℕ) → p + d < count → rank_below count p result ≡ d }
+{
+    let near = p.wrapping_add(way);
+    if 2 * (p as u64) < d as u64 { d } else { near }
+}

@@ -1,12 +1,12 @@
 //! Levels of samples in a row, from their residuals or their patterns.
-ghost use Rattle.std.specs.Prelude.{◌≡◌, ℕ, ◌+◌, ◌*◌, ◌%◌, ◌^◌, ◌<◌, ◌≤◌, All, length, map, sum};
+ghost use Rattle.std.specs.Prelude.{◌≡◌, ℕ, ◌+◌, ◌%◌, ◌^◌, ◌<◌, ◌≤◌, All, length, map, sum};
 ghost use Rattle.rice_samples.specs.Parameters.{value_count, values_at, value_at};
 ghost use Rattle.rice_samples.specs.predict.Residuals.{pattern as pattern_of, ranks_below};
 
 use crate::Setting;
 use crate::predict::narrow_near_lanes;
 use crate::predict::near_lanes::{are_near, near_numbers, ways};
-use crate::predict::preprocessor::{number_along, number_with};
+use crate::predict::preprocessor::{low_number_along, number_along, number_with};
 use std::simd::prelude::*;
 
 /// Writes the levels of the samples with these residuals: the first after a sample at level `before`, and each other after the
@@ -22,7 +22,8 @@ pub fn restore_all(setting: &Setting, before: u32, residuals: &[u32], levels: &m
     restore_as(setting, before, residuals, true, levels);
 }
 
-/// Writes the levels of the samples with these residuals, as `restore_all` does. It is made for samples that are far from those before.
+/// Writes the levels of the samples with these residuals, as `restore_all` does. It is made for samples that are far from those
+/// before.
 #[inline(never)]
 pub fn restore_spread(setting: &Setting, before: u32, residuals: &[u32], levels: &mut [u32])
     requires before { before < value_count setting.now }
@@ -144,32 +145,27 @@ fn restore_far(setting: &Setting, before: u32, residuals: &[u32], levels: &mut [
     let all = u32x8::from_slice(residuals)
         .cast::<u64>()
         .strict_reduce_sum();
-    if before as u64 + all <= greatest as u64 / 2 {
+    if before as u64 + all <= greatest as u64 {
         return restore_low(setting, before, residuals, levels);
     }
     restore_in_turn(setting, before, residuals, levels);
 }
 
-/// Writes eight levels one at a time, where all stay in the lower half of the range. There a residual that is not near is the
-/// level itself.
+/// Writes eight levels one at a time, where the range goes on above `before` for the sum of the residuals. There a level that
+/// is not near is its residual.
 #[inline(always)]
 fn restore_low(setting: &Setting, before: u32, residuals: &[u32], levels: &mut [u32])
-    requires low { 2 * (before + sum residuals.now) < value_count setting.now }
-    requires residuals { All (λ d. d < value_count setting.now) residuals.now }
+    requires low { before + sum residuals.now < value_count setting.now }
     requires len { length levels.old ≡ length residuals.now }
     requires eight { length residuals.now ≡ 8 }
     ensures legal { All (λ l. l < value_count setting.now) levels.new }
     ensures ranks { ranks_below (value_count setting.now) before levels.new ≡ residuals.now }
 {
+    let _values = setting.values();
     let ways = ways(u32x8::from_slice(residuals)).to_array();
     let mut level = before;
     for i in 0..8 {
-        let near = level.wrapping_add(ways[i]);
-        level = if 2 * level < residuals[i] {
-            residuals[i]
-        } else {
-            near
-        };
+        level = low_number_along(level, residuals[i], ways[i]);
         levels[i] = level;
     }
 }

@@ -1,6 +1,6 @@
 -- Chunks of eight numbers in the lanes of a vector.
 use Rattle.std.proofs.Common.{◌≡◌, ◌≢◌, ℕ, zero, suc, ◌+◌, ◌-◌, ◌*◌, ◌/◌, ◌%◌, ◌^◌, ◌<◌, ◌≤◌, ◌==◌, Bool, true, false, ◌&&◌, List, [], ◌∷◌, ◌++◌, map, length, take, drop, get_or, sum_by, refl, sym, ◌∙◌, ap, subst, arith, inl, inr, Fits, w32}
-use Rattle.std.specs.Prelude.{All, bit_or, replicate}
+use Rattle.std.specs.Prelude.{All, bit_or, replicate, sum}
 use Rattle.std.specs.List.{list_all}
 use Rattle.std.specs.Simd.Lanes.{zip2, Each1, Each2, chunk, sum_l, fold_l}
 use Rattle.std.proofs.lemmas.Bool.Decides.{nat_tests}
@@ -54,6 +54,14 @@ next_sum k i xs total lanes room value =
 pub map_same : (xs : List ℕ) → map (λ d. d) xs ≡ xs
 map_same [] = refl
 map_same (x ∷ xs) = ap (λ ys. x ∷ ys) (map_same xs)
+
+-- the sum of eight numbers
+pub sum_of_eight : (ds : List ℕ) → length ds ≡ 8 → fold_l (λ s x. s + x) 0 (map (λ d. d) (take 8 ds)) ≡ sum ds
+sum_of_eight ds n =
+    let whole : take (8 * 1) ds ≡ ds = take_all 1 ds (omega arith) (omega arith) in
+    let lanes = map (λ d. d) (take 8 ds) in
+    let same : 0 + sum_l lanes ≡ sum_l lanes = omega arith in
+    fold-sum 0 lanes ∙ (same ∙ (sum_map (λ d. d) (take 8 ds) ∙ ap sum whole))
 
 -- digits
 

@@ -1,8 +1,8 @@
 -- Samples that are read, and written, one after the other.
-use Rattle.std.proofs.Common.{◌≡◌, ℕ, ◌+◌, ◌-◌, ◌*◌, ◌<◌, ◌≤◌, List, [], ◌∷◌, ◌++◌, length, take, drop, All, ap, sym, subst, arith, ◌∙◌, append-nil, length-drop, slice_set, get_or, ℤ, pos}
+use Rattle.std.proofs.Common.{◌≡◌, ℕ, ◌+◌, ◌-◌, ◌*◌, ◌<◌, ◌≤◌, List, [], ◌∷◌, ◌++◌, length, take, drop, All, ap, sym, subst, arith, ◌∙◌, append-nil, length-drop, slice_set, get_or, map, ℤ}
 use Rattle.std.specs.Prelude.{flat_map}
 use Rattle.std.proofs.lemmas.Grind.{flat_map-append}
-use Rattle.std.proofs.lemmas.List.{take_more, take_more_set, length-take-le}
+use Rattle.std.proofs.lemmas.List.{map_more, take_more_set, length-take-le}
 use Rattle.std.proofs.lemmas.Slice.{take-put_mid}
 use borrow.Rule.Slice.PartMut.{put_mid}
 use Rattle.std.proofs.Math.Nat.{mul-le-mul_left}
@@ -29,14 +29,14 @@ one_read f w i bytes xs x h e g =
     let all : flat_map f (take (i + 1) (slice_set xs i x)) ≡ flat_map f (take i xs) ++ f x = ap (flat_map f) (take_more_set xs i x h) ∙ flat_map-push f (take i xs) x in
     ap (λ v. take v bytes) n ∙ (take-add (w * i) w bytes ∙ ((λ j. e j ++ last j) ∙ sym all))
 
-pub one_legal : (P : ℤ → Type 0) (i : ℕ) (xs : List ℤ) (x : ℤ) → i < length xs → All P (take i xs) → P x → All P (take (i + 1) (slice_set xs i x))
+pub one_legal : {X : Type 0} (P : X → Type 0) (i : ℕ) (xs : List X) (x : X) → i < length xs → All P (take i xs) → P x → All P (take (i + 1) (slice_set xs i x))
 one_legal P i xs x h all p = subst (All P) (sym (take_more_set xs i x h)) (All-push P (take i xs) x all p)
 
--- one more is written
-pub one_written : (f : ℤ → List ℕ) (w i k : ℕ) (bytes ys : List ℕ) (xs : List ℤ) → i < length xs → length bytes ≡ w * length xs → length ys ≡ w → take (w * i) bytes ≡ flat_map f (take i xs) → ys ≡ f (get_or xs i (pos 0)) →
-    take (w * (i + 1)) (put_mid (w * i) k bytes ys) ≡ flat_map f (take (i + 1) xs)
-one_written f w i k bytes ys xs h len one e g =
+-- the bytes of one more value, by its level
+pub one_written : (f : ℤ → List ℕ) (value : ℕ → ℤ) (w i k : ℕ) (bytes ys levels : List ℕ) → i < length levels → length bytes ≡ w * length levels → length ys ≡ w → take (w * i) bytes ≡ flat_map f (map value (take i levels)) →
+    ys ≡ f (value (get_or levels i 0)) → take (w * (i + 1)) (put_mid (w * i) k bytes ys) ≡ flat_map f (map value (take (i + 1) levels))
+one_written f value w i k bytes ys levels h len one e g =
     let n : w * (i + 1) ≡ w * i + length ys = omega (arith, one) in
-    let more : w * i ≤ w * length xs = mul-le-mul_left w (omega arith) in
+    let more : w * i ≤ w * length levels = mul-le-mul_left w (omega arith) in
     take-put_mid (w * i) k bytes ys (w * (i + 1)) n (omega (arith, more, len))
-    ∙ ((λ j. e j ++ g j) ∙ sym (ap (flat_map f) (take_more xs i (pos 0) h) ∙ flat_map-push f (take i xs) (get_or xs i (pos 0))))
+    ∙ ((λ j. e j ++ g j) ∙ sym (ap (flat_map f) (map_more value levels i 0 h) ∙ flat_map-push f (map value (take i levels)) (value (get_or levels i 0))))

@@ -140,7 +140,7 @@ level_from_pattern s more y h le k = by_sign s.signed s.bits h le k.0 k.1
     by_sign false n h le k l = whole (2 ^ n) y (pow_mono le) k l
 
 -- and the pattern from the level
-same_offset : (v w h c : ℕ) → v < c → w < c → h ≤ c → (v + h) % c ≡ (w + h) % c → v ≡ w
+pub same_offset : (v w h c : ℕ) → v < c → w < c → h ≤ c → (v + h) % c ≡ (w + h) % c → v ≡ w
 same_offset v w h c hv hw le e =
     elim (mod_once (v + h) c (omega arith)) [
       | inl p ↦ elim (mod_once (w + h) c (omega arith)) [ inl q ↦ omega (arith, p.0, q.0) | inr q ↦ absurd (omega (arith, p.0, p.1, q.0, q.1)) ]

@@ -4,12 +4,12 @@ use Rattle.std.specs.Prelude.{All, bit_and, bit_or, replicate}
 use Rattle.std.specs.Int.{Width}
 use mir.Val.{bits, hbits}
 use Rattle.std.specs.Int.Bits.{bit_xor, xor_add_and, xor_zero_r}
-use Rattle.std.specs.Simd.Lanes.{zip2, Each1, Each2, fold_l, sel_l, top}
+use Rattle.std.specs.Simd.Lanes.{zip2, Each1, Each2, fold_l, put_chunk, sel_l, top}
 use Rattle.std.proofs.lemmas.Bool.Decides.{nat_tests}
 use Rattle.std.proofs.lemmas.Bool.{cases_lt}
 use Rattle.std.proofs.lemmas.Nat.{and_mask, mod_below, pow_pos}
-use Rattle.std.proofs.lemmas.List.{length-take-le}
-use Rattle.std.proofs.lemmas.Simd.{tops_compared, Each1-get_or, Each1-weaker}
+use Rattle.std.proofs.lemmas.List.{length-take-le, take_all}
+use Rattle.std.proofs.lemmas.Simd.{put_chunk_whole, tops_compared, Each1-get_or, Each1-weaker}
 use Rattle.std.proofs.Math.Nat.{mod-add-mod, add-mod-mod, mod-eq_of_lt, add-mod_right}
 use Rattle.rice_samples.specs.predict.Residuals.{rank_below, ranks_below}
 use Rattle.rice_samples.specs.predict.Near.{way, near_numbers, sums_behind, reach, bound}
@@ -228,3 +228,12 @@ all_near w g p ds bs xs before h k n fits numbers shifted bounds test =
     let each = within (2 ^ bits w) ds bs (Each1-weaker (Fits w) (λ d. d < 2 ^ bits w) (λ d f. f.fits) ds fits) below many zeros in
     let near = near_ranks (2 ^ bits w) g p ds h k (subst (λ (ys : List ℕ). Each2 (λ d b. d ≤ b) ds ys) all each) in
     subst (λ (ys : List ℕ). All (λ x. x ≤ g) ys × (ranks_below (g + 1) p ys ≡ ds)) (sym numbers) ((λ i d lt. Each1-get_or (λ x. x ≤ g) (near_numbers (2 ^ bits w) p ds) i d lt near.0), near.1)
+
+-- near numbers are restored
+pub near_restored : (count greatest m p : ℕ) (levels ds numbers : List ℕ) → length levels ≡ length ds → length ds ≡ 8 → greatest + 1 ≡ count → numbers ≡ near_numbers m p (take 8 ds) → All (λ x. x ≤ greatest) numbers
+    → ranks_below (greatest + 1) p numbers ≡ take 8 ds → All (λ l. l < count) (put_chunk 0 levels numbers) × (ranks_below count p (put_chunk 0 levels numbers) ≡ ds)
+near_restored count greatest m p levels ds numbers len n above near fit ranked =
+    let whole : take 8 ds ≡ ds = take_all 8 ds (omega arith) in
+    let many : length levels ≡ length numbers = len ∙ sym (ap length near ∙ (length-near_numbers m p (take 8 ds) ∙ ap length whole)) in
+    let stored = put_chunk_whole levels numbers many in
+    (subst (All (λ l. l < count)) (sym stored) (λ k d lt. let x = fit k d lt in omega (arith, x, above)), (λ j. ranks_below (sym above j) p (stored j)) ∙ (ranked ∙ whole))

@@ -1,12 +1,10 @@
-use Rattle.std.proofs.Common.{arith, ◌≡◌, ◌+◌, ◌-◌, ◌∙◌, ap, sym, take, w64}
-use Rattle.std.proofs.lemmas.Int.{to_z-of_z}
-use Rattle.std.proofs.lemmas.List.{take_all}
+use Rattle.std.proofs.Common.{arith, ◌≡◌, ◌+◌, ◌-◌, ◌^◌, ◌∙◌, ap, take}
 use Rattle.std.proofs.Math.Nat.{pow-le-pow_right}
-use Rattle.rice_samples.specs.Parameters.{level, value_count}
-use Rattle.rice_samples.specs.predict.Residuals.{ranks_below}
+use Rattle.rice_samples.specs.Parameters.{value_count}
+use Rattle.rice_samples.specs.predict.Near.{near_numbers}
 use Rattle.rice_samples.proofs.lemmas.blocks.LaneLemmas.{map_same}
-use Rattle.rice_samples.proofs.lemmas.predict.Folding.{ranks_are}
 use Rattle.rice_samples.proofs.lemmas.predict.NarrowLanes.{lanes_fit}
+use Rattle.rice_samples.proofs.lemmas.predict.NearLanes.{near_restored}
 use Rattle.rice_samples.proofs.predict.samples.restore_narrow.Goals as goal
 
 pub overflow_cast-ranks : goal.overflow_cast-ranks
@@ -14,17 +12,18 @@ overflow_cast-ranks c =
     let s = c.args.setting.now in
     lanes_fit (value_count s) c.args.residuals.now (pow-le-pow_right {n = 2} (omega arith) {i = s.bits} {j = 16} c.requires.narrow) c.requires.eight c.requires.residuals
 
-pub write_at_levels-requires-clause-levels : goal.write_at_levels-requires-clause-levels
-write_at_levels-requires-clause-levels c =
-    rw map_same (λ k d lt. let near = c.are_near.ensures.fit c.if-are_near.true k d lt in omega (arith, near, c.values.ensures.value, c.values.ensures.range.0))
-
-pub returns-then-are_near-clause-ranks : goal.returns-then-are_near-clause-ranks
-returns-then-are_near-clause-ranks c =
-    let s = c.args.setting.now in
+pub returns-then-are_near : goal.returns-then-are_near
+returns-then-are_near c =
+    let count = value_count c.args.setting.now in
     let ds = c.args.residuals.now in
-    let levels = c.near_numbers-levels.result in
-    let count : c.values.result - 1 + 1 ≡ value_count s = omega arith in
-    let before : c.level-level.result ≡ level s c.args.p = c.level-level.ensures.value ∙ ap (level s) (to_z-of_z w64 c.args.p c.ranges.p) in
-    let all : take 8 ds ≡ ds = take_all 8 ds (omega arith) in
-    ranks_are s c.args.p c.write_at_levels.new.samples
-    ∙ ((λ j. ranks_below (sym count j) (sym before j) ((c.write_at_levels.ensures.levels ∙ map_same levels) j)) ∙ (c.are_near.ensures.ranks c.if-are_near.true ∙ (map_same (take 8 ds) ∙ all)))
+    let above : c.values.result - 1 + 1 ≡ count = omega arith in
+    let near = c.if-are_near.true in
+    let same = map_same (take 8 ds) in
+    let numbers = c.near_numbers-numbers in
+    let restored = near_restored count (c.values.result - 1) (2 ^ 16) c.args.before c.args.levels.now ds numbers.result c.requires.len c.requires.eight above (numbers.ensures ∙ ap (near_numbers (2 ^ 16) c.args.before) same)
+    (c.are_near.ensures.fit near) (c.are_near.ensures.ranks near ∙ same)
+    in
+    record {
+      legal = rw map_same restored.0;
+      ranks = rw map_same restored.1;
+    }

@@ -1,0 +1,81 @@
+-- Levels, and the patterns and words of the values at these.
+use Rattle.std.proofs.Common.{◌≡◌, ℕ, ◌+◌, ◌-◌, ◌*◌, ◌%◌, ◌^◌, ◌<◌, ◌≤◌, Bool, true, false, cond, refl, ap, arith, sym, ◌∙◌, List, [], ◌∷◌, ◌++◌, length, take, map, get_or, slice_set, ℤ, pos, neg_ℤ, ◌+ℤ◌}
+use Rattle.std.specs.Prelude.{bit_and}
+use Rattle.std.proofs.lemmas.Int.{ints}
+use Rattle.std.proofs.lemmas.List.{map-append, take_more, take_more_set}
+use Rattle.std.proofs.lemmas.Nat.{and_mask, mod-mul-add, mod_below, pow-add, pow_pos}
+use Rattle.std.proofs.Math.Nat.{mod-add-mod, mul-le-mul_right}
+use Rattle.std.proofs.Math.Pow.{mod-mod-pow, pow_mono}
+use Rattle.rice_samples.specs.Parameters.{Parameters, IsSample, least, level, value_at, value_count, values_at}
+use Rattle.rice_samples.specs.predict.Residuals.{pattern, twos_complement}
+use Rattle.rice_samples.specs.bytes.Values.{offset, IsValue}
+use Rattle.rice_samples.proofs.lemmas.bytes.SpellingLemmas.{level_from_pattern, offset_limit, same_offset, wider_value}
+use Rattle.rice_samples.proofs.lemmas.predict.InverseLemmas.{has_pattern}
+use Rattle.rice_samples.proofs.lemmas.setting.Gaps.{gap_above, sample_at}
+use Rattle.rice_samples.proofs.lemmas.setting.Levels.{pattern_fits, same_level}
+
+value_of_level : (s : Parameters) (x : ℤ) → IsSample s x → value_at s (level s x) ≡ x
+value_of_level s x h = same_level s (value_at s (level s x)) x (sample_at s (level s x) h.1) h (gap_above (least s) (level s x))
+
+pattern_of_level : (s : Parameters) (v : ℕ) → 1 ≤ s.bits → v < value_count s → pattern s (value_at s ((v + offset s) % 2 ^ s.bits)) ≡ v
+pattern_of_level s v h lt =
+    let x = has_pattern s h v lt in
+    let l : (v + offset s) % 2 ^ s.bits ≡ level s x.0 = ap (λ w. (w + offset s) % 2 ^ s.bits) (sym x.2) ∙ level_from_pattern s s.bits x.0 h (omega arith) x.1 in
+    ap (λ w. pattern s (value_at s w)) l ∙ (ap (pattern s) (value_of_level s x.0 x.1) ∙ x.2)
+
+-- the lowest digits of a sum that wraps
+low_sum : (n a : ℕ) → n ≤ 32 → bit_and (a % 2 ^ 32) (2 ^ n - 1) ≡ a % 2 ^ n
+low_sum n a h =
+    let e : 32 ≡ 32 - n + n = omega arith in
+    and_mask (a % 2 ^ 32) n ∙ (ap (λ k. a % 2 ^ k % 2 ^ n) e ∙ mod-mod-pow a (32 - n) n)
+
+-- the level of the sample with a pattern
+pub level_of_pattern : (s : Parameters) (v o greatest : ℕ) → 1 ≤ s.bits → s.bits ≤ 32 → v < value_count s → o ≡ offset s → greatest ≡ value_count s - 1 → pattern s (value_at s (bit_and ((v + o) % 2 ^ 32) greatest)) ≡ v
+level_of_pattern s v o greatest h k lt e g =
+    let l : bit_and ((v + o) % 2 ^ 32) greatest ≡ (v + offset s) % 2 ^ s.bits = ap (λ m. bit_and ((v + o) % 2 ^ 32) m) g ∙ (low_sum s.bits (v + o) k ∙ ap (λ m. (v + m) % 2 ^ s.bits) e) in
+    ap (λ m. pattern s (value_at s m)) l ∙ pattern_of_level s v h lt
+
+-- where samples are unsigned, levels are patterns
+pub unsigned_patterns : (s : Parameters) (levels : List ℕ) → s.signed ≡ false → map (pattern s) (values_at s levels) ≡ levels
+unsigned_patterns s [] e = refl
+unsigned_patterns s (l ∷ levels) e = λ j. one s.signed e j ∷ unsigned_patterns s levels e j
+  where
+    one : (signed : Bool) → signed ≡ false → twos_complement s.bits (cond signed (neg_ℤ (pos (2 ^ (s.bits - 1)))) (pos 0) +ℤ pos l) ≡ l
+    one true e = absurd (let f : true ≡ false = e in cc)
+    one false e = ap (twos_complement s.bits) (let z : pos 0 +ℤ pos l ≡ pos l = omega (arith, ints) in z)
+
+-- one more by its pattern
+pub one_of_pattern : (s : Parameters) (l i : ℕ) (levels vs : List ℕ) → i < length levels → i < length vs → map (pattern s) (values_at s (take i levels)) ≡ take i vs → pattern s (value_at s l) ≡ get_or vs i 0 →
+    map (pattern s) (values_at s (take (i + 1) (slice_set levels i l))) ≡ take (i + 1) vs
+one_of_pattern s l i levels vs h k e r =
+    let values : values_at s (take (i + 1) (slice_set levels i l)) ≡ values_at s (take i levels) ++ value_at s l ∷ [] = ap (values_at s) (take_more_set levels i l h) ∙ map-append (value_at s) (take i levels) (l ∷ []) in
+    ap (map (pattern s)) values ∙ (map-append (pattern s) (values_at s (take i levels)) (value_at s l ∷ []) ∙ ((λ j. e j ++ r j ∷ []) ∙ sym (take_more vs i 0 k)))
+
+-- back to a level
+level_again : (l o more : ℕ) → more ≤ 32 → l < 2 ^ more → o ≤ 2 ^ more → ((l + (2 ^ 32 - o)) % 2 ^ 32 % 2 ^ more + o) % 2 ^ more ≡ l
+level_again l o more h lt le =
+    let e : 32 ≡ 32 - more + more = omega arith in
+    let parts = pow-add 2 (32 - more) more in
+    let whole : 2 ^ 32 ≡ 2 ^ (32 - more) * 2 ^ more = ap (λ k. 2 ^ k) e ∙ parts in
+    let some = pow_pos (32 - more) in
+    let low : (l + (2 ^ 32 - o)) % 2 ^ 32 % 2 ^ more ≡ (l + (2 ^ 32 - o)) % 2 ^ more = ap (λ k. (l + (2 ^ 32 - o)) % 2 ^ k % 2 ^ more) e ∙ mod-mod-pow (l + (2 ^ 32 - o)) (32 - more) more in
+    ap (λ m. (m + o) % 2 ^ more) low ∙ (mod-add-mod (l + (2 ^ 32 - o)) (2 ^ more) o ∙ wraps (2 ^ (32 - more)) (2 ^ more) whole some lt le)
+  where
+    wraps : (parts c : ℕ) → 2 ^ 32 ≡ parts * c → 0 < parts → l < c → o ≤ c → (l + (2 ^ 32 - o) + o) % c ≡ l
+    wraps parts c e some lt le =
+        let inside : o ≤ 2 ^ 32 = let m : 1 * c ≤ parts * c = mul-le-mul_right c some in omega arith in
+        let f : l + (2 ^ 32 - o) + o ≡ parts * c + l = omega arith in
+        rw f (mod-mul-add parts c l lt)
+
+-- the word in which the value at a level is spelled
+pub word_of_level : (s : Parameters) (more l o : ℕ) → 1 ≤ s.bits → s.bits ≤ more → more ≤ 32 → o ≡ offset s → l < value_count s → (l + (2 ^ 32 - o)) % 2 ^ 32 % 2 ^ more ≡ twos_complement more (value_at s l)
+word_of_level s more l o h le few e lt =
+    let x = value_at s l in
+    let sample = sample_at s l lt in
+    let wide : Parameters = record s { bits = more } in
+    let value : IsValue more s.signed x = wider_value s.bits more s.signed x h le sample in
+    let limit : o ≤ 2 ^ more = rw e (offset_limit s more h le) in
+    let small : l < 2 ^ more = let m = pow_mono le in omega arith in
+    let word = (l + (2 ^ 32 - o)) % 2 ^ 32 % 2 ^ more in
+    same_offset word (twos_complement more x) (offset s) (2 ^ more) (mod_below ((l + (2 ^ 32 - o)) % 2 ^ 32) (2 ^ more) (pow_pos more)) (pattern_fits wide x (omega arith) value) (offset_limit s more h le)
+    (ap (λ m. (word + m) % 2 ^ more) (sym e) ∙ (level_again l o more few small limit ∙ sym (level_from_pattern s more x h le sample ∙ gap_above (least s) l)))
