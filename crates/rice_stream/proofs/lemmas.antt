@@ -7,6 +7,7 @@ pub mod DecodingLemmas
 pub mod EncodingEnds
 pub mod EncodingLemmas
 pub mod HeldBlocks
+pub mod LevelLemmas
 pub mod PartLemmas
 pub mod ReturnedBytes
 pub mod Seams

@@ -5,11 +5,10 @@ use Rattle.std.specs.Io.KnownBytes.{Consumes}
 use Rattle.std.proofs.KnownBytes.{Consumes-nil}
 use Rattle.std.proofs.Math.Nat.{mod-lt, mod-eq_of_lt}
 use Rattle.std.proofs.lemmas.Bool.{cases_lt}
-use Rattle.std.proofs.lemmas.List.Elements.{All-from_recursion, recursion_from_All}
 use Rattle.rice_bits.specs.Bits.{bits_to_byte}
 use Rattle.rice_bits.specs.read.Reader.{Reader}
 use Rattle.rice_bits.proofs.lemmas.bits.Bytes.{bits_of-nil}
-use Rattle.rice_samples.specs.Parameters.{Parameters, IsLegal, IsSample}
+use Rattle.rice_samples.specs.Parameters.{Parameters, IsLegal, IsSample, values_at}
 use Rattle.rice_samples.specs.Places.{place}
 use Rattle.rice_samples.specs.predict.Residuals.{last_of}
 use Rattle.rice_code.specs.code.Blocks.{zero_block}
@@ -25,7 +24,6 @@ use Rattle.rice_code.specs.declared.decode.fault.CodeFault.{CodeFault}
 use Rattle.rice_code.specs.declared.decode.fault.CodeFault.TheVariants as faults
 use Rattle.rice_code.proofs.lemmas.meaning.DecodingPlaces.{next_place, form_there, run_there}
 use Rattle.rice_code.proofs.lemmas.code.BlockPlaces.{same_blocks_in, same_contents}
-use Rattle.rice_code.proofs.lemmas.code.SoundBlocks.{all_take}
 use Rattle.rice_bits.specs.declared.read.fault.BitFault.{BitFault}
 use Rattle.rice_stream.specs.Decodes.{wanted_of}
 use Rattle.std.proofs.lemmas.List.{length-replicate}
@@ -35,16 +33,17 @@ use Rattle.rice_stream.specs.DecodingState.{DecodedSoFar, Gains, DecodingProgres
 use Rattle.rice_stream.proofs.lemmas.SetsRead.{sets-push}
 use Rattle.rice_stream.proofs.lemmas.DecodedSamples.{decoded_with_set, decoded_with_run_block}
 
--- what `next_block` says to a decoder that goes on, inside a run and elsewhere
+-- what `next_levels` says to a decoder that goes on, inside a run and elsewhere
 pub record Advances {I : Type 0} (old new : Reader I) (steps steps_new : ℕ) (p q : DecoderState) (samples : List ℤ) (answer : Result Step CodeFault) : Type 0 where
   pub in_run : p.stopped ≡ None → 0 < p.run → (answer ≡ Ok Block) × GivesFromRun p q samples × (new ≡ old) × (steps_new ≡ steps)
   pub reads : p.stopped ≡ None → p.run ≡ 0 → Answers (with_mark old) new steps steps_new p q samples answer
 
-pub advances : {I : Type 0} (old new : Reader I) (steps steps_new : ℕ) (p q : DecoderState) (samples : List ℤ) {answer known : Result Step CodeFault} → answer ≡ known
-    → (p.stopped ≡ None → 0 < p.run → (answer ≡ Ok Block) × GivesFromRun p q samples × (new ≡ old) × (steps_new ≡ steps))
-    → (p.stopped ≡ None → p.run ≡ 0 → Answers (with_mark old) new steps steps_new p q samples answer) → Advances old new steps steps_new p q samples known
-advances old new steps steps_new p q samples is in_run reads =
-    subst (λ (a : Result Step CodeFault). Advances old new steps steps_new p q samples a) is record { in_run = in_run; reads = reads }
+pub advances : {I : Type 0} (old new : Reader I) (steps steps_new : ℕ) (p q : DecoderState) (s : Parameters) (levels : List ℕ) {answer known : Result Step CodeFault} → p.setting ≡ s → answer ≡ known
+    → (p.stopped ≡ None → 0 < p.run → (answer ≡ Ok Block) × GivesFromRun p q (values_at p.setting levels) × (new ≡ old) × (steps_new ≡ steps))
+    → (p.stopped ≡ None → p.run ≡ 0 → Answers (with_mark old) new steps steps_new p q (values_at p.setting levels) answer) → Advances old new steps steps_new p q (values_at s levels) known
+advances old new steps steps_new p q s levels {answer} {known} setting is in_run reads =
+    subst (λ (t : Parameters). Advances old new steps steps_new p q (values_at t levels) known) setting
+    (subst (λ (a : Result Step CodeFault). Advances old new steps steps_new p q (values_at p.setting levels) a) is record { in_run = in_run; reads = reads })
 
 -- what the decoder says where it gives a block, inside a run and elsewhere
 record Inside {I : Type 0} (old new : Reader I) (steps steps_new : ℕ) (p q : DecoderState) (samples : List ℤ) : Type 0 where
@@ -243,6 +242,3 @@ done {s = s} {p = p} {r = r} {new = new} legal runs a =
 pub still_asked : (asked : Option ℕ) (written block : ℕ) → IfSome asked (λ n. written ≤ n) → IfSome asked (λ n. written + wanted_of asked written block ≤ n)
 still_asked None written block h = tt
 still_asked (Some n) written block h = let le : written ≤ n = h in omega arith
-
-pub few_legal : (s : Parameters) (n : ℕ) (xs ys : List ℤ) → ys ≡ xs → All (IsSample s) xs → All (IsSample s) (take n ys)
-few_legal s n xs ys e h = subst (λ (l : List ℤ). All (IsSample s) (take n l)) (sym e) (All-from_recursion (IsSample s) (take n xs) (all_take (IsSample s) n xs (recursion_from_All (IsSample s) xs h)))

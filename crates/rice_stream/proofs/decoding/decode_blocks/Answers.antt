@@ -1,13 +1,14 @@
-use Rattle.std.proofs.Common.{arith, ◌≡◌, ◌+◌, ◌-◌, ◌*◌, ◌≤◌, List, ℕ, take, ap, refl, sym, ◌∙◌, subst, false, true, length, Some, ℤ}
+use Rattle.std.proofs.Common.{arith, ◌≡◌, ◌+◌, ◌-◌, ◌*◌, ◌≤◌, List, ℕ, take, ap, refl, sym, ◌∙◌, subst, false, true, length, Some}
 use Rattle.std.specs.Prelude.{Ok}
 use Rattle.rice_bits.specs.device.Outlet.{Appends}
-use Rattle.rice_samples.specs.bytes.Spelling.{spellings}
+use Rattle.rice_samples.specs.Parameters.{values_at}
 use Rattle.rice_stream.specs.Decodes.{wanted_of, refusal_fault}
 use Rattle.rice_stream.specs.Writes.{TakesPart}
-use Rattle.rice_stream.proofs.lemmas.DecodingLemmas.{advances, done, few_legal, gains, moves_of, samples_of_block, stopped}
+use Rattle.rice_stream.proofs.lemmas.DecodingLemmas.{advances, done, gains, moves_of, samples_of_block, stopped}
 use Rattle.rice_stream.proofs.lemmas.DecodingEnds.{reports_as, wants, progress_at_start, refusal_ends, refusal_fails, ended_ends, done_fails, write_ends, reached_ends, progress_with_block}
 use Rattle.rice_code.specs.decode.Decoder.{RepeatsSamples}
 use Rattle.rice_stream.proofs.lemmas.HeldBlocks.{spells_all}
+use Rattle.rice_stream.proofs.lemmas.LevelLemmas.{few_legal, few_spelled, length-values}
 use Rattle.rice_stream.proofs.decoding.decode_blocks.Goals as goal
 
 pub decode_all-init : goal.decode_all-init
@@ -19,12 +20,13 @@ decode_all-init g c = record {
 
 pub write_block-requires-clause-legal : goal.write_block-requires-clause-legal
 write_block-requires-clause-legal g c =
+    let s = c.args.setting.now in
     let i = c.decode_all.invariant in
     let old = c.decode_all in
-    let new = c.next_block.new in
-    let a = advances old.reader new.reader old.meter new.meter old.decoder new.decoder new.samples.items (ap Ok c.in-Block.is) c.in-Ok.ensures.in_run c.in-Ok.ensures.reads in
-    let block = samples_of_block c.args.setting.now i.runs.at_block.setting i.runs.at_block.going a in
-    few_legal c.args.setting.now c.wanted-count.result new.samples.items _ c.as_slice.ensures.value block.legal
+    let new = c.next_levels.new in
+    let a = advances old.reader new.reader old.meter new.meter old.decoder new.decoder s new.levels.items i.runs.at_block.setting (ap Ok c.in-Block.is) c.in-Ok.ensures.in_run c.in-Ok.ensures.reads in
+    let block = samples_of_block s i.runs.at_block.setting i.runs.at_block.going a in
+    few_legal s c.wanted-count.result new.levels.items _ c.as_slice.ensures.value block.legal
 
 pub returns-then-count-eq0-clause-call : goal.returns-then-count-eq0-clause-call
 returns-then-count-eq0-clause-call g c =
@@ -33,10 +35,11 @@ returns-then-count-eq0-clause-call g c =
 
 pub returns-in-Err-clause-call : goal.returns-in-Err-clause-call
 returns-in-Err-clause-call g c =
+    let s = c.args.setting.now in
     let i = c.decode_all.invariant in
     let old = c.decode_all in
-    let new = c.next_block.new in
-    let a = advances old.reader new.reader old.meter new.meter old.decoder new.decoder new.samples.items refl c.in-Err.ensures.in_run c.in-Err.ensures.reads in
+    let new = c.next_levels.new in
+    let a = advances old.reader new.reader old.meter new.meter old.decoder new.decoder s new.levels.items i.runs.at_block.setting refl c.in-Err.ensures.in_run c.in-Err.ensures.reads in
     let some = wants c.args.asked old.written c.wanted-count.ensures.value c.block-block.ensures.value c.if-count-eq0.false in
     let tells = reports_as (ap Some (c.fault_of-fault.ensures ∙ ap (refusal_fault c.in-Err.fault old.written) c.block-block.ensures.value)) c.ended-in-Err.ensures.reports in
     let legal = c.block-block.ensures.legal in
@@ -44,19 +47,21 @@ returns-in-Err-clause-call g c =
 
 pub returns-in-Err-clause-failures : goal.returns-in-Err-clause-failures
 returns-in-Err-clause-failures g c =
+    let s = c.args.setting.now in
     let i = c.decode_all.invariant in
     let old = c.decode_all in
-    let new = c.next_block.new in
-    let a = advances old.reader new.reader old.meter new.meter old.decoder new.decoder new.samples.items refl c.in-Err.ensures.in_run c.in-Err.ensures.reads in
+    let new = c.next_levels.new in
+    let a = advances old.reader new.reader old.meter new.meter old.decoder new.decoder s new.levels.items i.runs.at_block.setting refl c.in-Err.ensures.in_run c.in-Err.ensures.reads in
     let tells = reports_as (ap Some (c.fault_of-fault.ensures ∙ ap (refusal_fault c.in-Err.fault old.written) c.block-block.ensures.value)) c.ended-in-Err.ensures.reports in
     refusal_fails c.in-Err.fault i.runs (stopped c.block-block.ensures.legal i.runs a) i.writes tells
 
 pub returns-in-Done-clause-call : goal.returns-in-Done-clause-call
 returns-in-Done-clause-call g c =
+    let s = c.args.setting.now in
     let i = c.decode_all.invariant in
     let old = c.decode_all in
-    let new = c.next_block.new in
-    let a = advances old.reader new.reader old.meter new.meter old.decoder new.decoder new.samples.items (ap Ok c.in-Done.is) c.in-Ok.ensures.in_run c.in-Ok.ensures.reads in
+    let new = c.next_levels.new in
+    let a = advances old.reader new.reader old.meter new.meter old.decoder new.decoder s new.levels.items i.runs.at_block.setting (ap Ok c.in-Done.is) c.in-Ok.ensures.in_run c.in-Ok.ensures.reads in
     let some = wants c.args.asked old.written c.wanted-count.ensures.value c.block-block.ensures.value c.if-count-eq0.false in
     let tells = reports_as c.end_of.ensures c.ended-in-Done.ensures.reports in
     let ends = done c.block-block.ensures.legal i.runs a in
@@ -64,51 +69,54 @@ returns-in-Done-clause-call g c =
 
 pub returns-in-Done-clause-failures : goal.returns-in-Done-clause-failures
 returns-in-Done-clause-failures g c =
+    let s = c.args.setting.now in
     let i = c.decode_all.invariant in
     let old = c.decode_all in
-    let new = c.next_block.new in
-    let a = advances old.reader new.reader old.meter new.meter old.decoder new.decoder new.samples.items (ap Ok c.in-Done.is) c.in-Ok.ensures.in_run c.in-Ok.ensures.reads in
+    let new = c.next_levels.new in
+    let a = advances old.reader new.reader old.meter new.meter old.decoder new.decoder s new.levels.items i.runs.at_block.setting (ap Ok c.in-Done.is) c.in-Ok.ensures.in_run c.in-Ok.ensures.reads in
     let tells = reports_as c.end_of.ensures c.ended-in-Done.ensures.reports in
     done_fails i.runs (done c.block-block.ensures.legal i.runs a) i.writes tells
 
 pub returns-in-Err-write_block-clause-call : goal.returns-in-Err-write_block-clause-call
 returns-in-Err-write_block-clause-call g c =
+    let s = c.args.setting.now in
     let i = c.decode_all.invariant in
     let old = c.decode_all in
-    let new = c.next_block.new in
-    let a = advances old.reader new.reader old.meter new.meter old.decoder new.decoder new.samples.items (ap Ok c.in-Block.is) c.in-Ok.ensures.in_run c.in-Ok.ensures.reads in
+    let new = c.next_levels.new in
+    let a = advances old.reader new.reader old.meter new.meter old.decoder new.decoder s new.levels.items i.runs.at_block.setting (ap Ok c.in-Block.is) c.in-Ok.ensures.in_run c.in-Ok.ensures.reads in
     let some = wants c.args.asked old.written c.wanted-count.ensures.value c.block-block.ensures.value c.if-count-eq0.false in
     let is = c.wanted-count.ensures.value ∙ ap (wanted_of c.args.asked old.written) c.block-block.ensures.value in
     let legal = c.block-block.ensures.legal in
-    let part = subst (λ (l : List ℕ). TakesPart (g.O.Outlet.taken old.outlet) (g.O.Outlet.taken c.write_block.new.outlet) l) (ap (λ xs. spellings c.args.setting.now (take c.wanted-count.result xs)) c.as_slice.ensures.value) c.in-Err-write_block.ensures.err.0 in
+    let part = subst (λ (l : List ℕ). TakesPart (g.O.Outlet.taken old.outlet) (g.O.Outlet.taken c.write_block.new.outlet) l) (few_spelled s c.wanted-count.result new.levels.items _ c.as_slice.ensures.value) c.in-Err-write_block.ensures.err.0 in
     write_ends c.wanted-count.result new.decoder legal i.runs is some (gains legal i.runs a) part c.ended-in-Err-write_block.ensures.reports
 
 pub decode_all-smaller : goal.decode_all-smaller
 decode_all-smaller g c =
+    let s = c.args.setting.now in
     let i = c.decode_all.invariant in
     let old = c.decode_all in
-    let new = c.next_block.new in
-    let a = advances old.reader new.reader old.meter new.meter old.decoder new.decoder new.samples.items (ap Ok c.in-Block.is) c.in-Ok.ensures.in_run c.in-Ok.ensures.reads in
-    let block = samples_of_block c.args.setting.now i.runs.at_block.setting i.runs.at_block.going a in
+    let new = c.next_levels.new in
+    let a = advances old.reader new.reader old.meter new.meter old.decoder new.decoder s new.levels.items i.runs.at_block.setting (ap Ok c.in-Block.is) c.in-Ok.ensures.in_run c.in-Ok.ensures.reads in
+    let block = samples_of_block s i.runs.at_block.setting i.runs.at_block.going a in
     let counted = c.in-Ok.ensures.steps in
-    omega (arith, block.len, c.in-Ok.ensures.waiting, counted.forward, counted.limit, c.block-block.ensures.range)
+    omega (arith, block.len, length-values s new.levels.items, c.in-Ok.ensures.waiting, counted.forward, counted.limit, c.block-block.ensures.range)
 
 pub decode_all-preserved : goal.decode_all-preserved
 decode_all-preserved g c =
+    let s = c.args.setting.now in
     let i = c.decode_all.invariant in
     let old = c.decode_all in
-    let new = c.next_block.new in
-    let a = advances old.reader new.reader old.meter new.meter old.decoder new.decoder new.samples.items (ap Ok c.in-Block.is) c.in-Ok.ensures.in_run c.in-Ok.ensures.reads in
+    let new = c.next_levels.new in
+    let a = advances old.reader new.reader old.meter new.meter old.decoder new.decoder s new.levels.items i.runs.at_block.setting (ap Ok c.in-Block.is) c.in-Ok.ensures.in_run c.in-Ok.ensures.reads in
     let some = wants c.args.asked old.written c.wanted-count.ensures.value c.block-block.ensures.value c.if-count-eq0.false in
     let is = c.wanted-count.ensures.value ∙ ap (wanted_of c.args.asked old.written) c.block-block.ensures.value in
-    let s = c.args.setting.now in
     let legal = c.block-block.ensures.legal in
     let at = i.runs.at_block in
     let block = samples_of_block s at.setting at.going a in
     let old_run : old.decoder.run * old.decoder.setting.block ≡ old.decoder.run * s.block = ap (λ t. old.decoder.run * t.block) at.setting in
     let new_run : new.decoder.run * new.decoder.setting.block ≡ new.decoder.run * s.block = ap (λ t. new.decoder.run * t.block) (c.in-Ok.ensures.setting ∙ at.setting) in
-    let few : s.block + new.decoder.run * s.block ≤ old.decoder.run * s.block + 456 * (new.reader.taken - old.reader.taken) = omega (arith, block.len, c.in-Ok.ensures.waiting, old_run, new_run) in
-    let put = subst (λ (l : List ℕ). Appends (g.O.Outlet.taken old.outlet) (g.O.Outlet.taken c.write_block.new.outlet) l) (ap (λ xs. spellings c.args.setting.now (take c.wanted-count.result xs)) c.as_slice.ensures.value) c.in-Ok-write_block.ensures.ok.0 in
+    let few : s.block + new.decoder.run * s.block ≤ old.decoder.run * s.block + 456 * (new.reader.taken - old.reader.taken) = omega (arith, block.len, length-values s new.levels.items, c.in-Ok.ensures.waiting, old_run, new_run) in
+    let put = subst (λ (l : List ℕ). Appends (g.O.Outlet.taken old.outlet) (g.O.Outlet.taken c.write_block.new.outlet) l) (few_spelled s c.wanted-count.result new.levels.items _ c.as_slice.ensures.value) c.in-Ok-write_block.ensures.ok.0 in
     record {
       runs = progress_with_block c.wanted-count.result c.tick.new.self legal i.runs is some (gains legal i.runs a) (moves_of at.going a) (record { counted = c.in-Ok.ensures.steps; few = few }) c.tick.ensures put;
       writes = c.in-Ok-write_block.ensures.ok.1 ∙ i.writes;
@@ -117,8 +125,8 @@ decode_all-preserved g c =
           let same = c.as_slice-in-decode_all.ensures.value in
           let count = c.wanted-count.result in
           record {
-            repeats = subst (λ (xs : List ℤ). RepeatsSamples new.decoder xs) same h.0;
-            spelled = spells_all s count new.samples.items (take count c.as_slice.result.now) c.write_block.new.bytes (h.1 ∙ ap length same) (ap (take count) c.as_slice.ensures.value) c.write_block.ensures.spelled;
+            repeats = subst (λ (ls : List ℕ). RepeatsSamples new.decoder (values_at new.decoder.setting ls)) same h.0;
+            spelled = spells_all s count new.levels.items (take count c.as_slice.result.now) c.write_block.new.bytes (h.1 ∙ ap length same) (ap (take count) c.as_slice.ensures.value) c.write_block.ensures.spelled;
           };
     }
 

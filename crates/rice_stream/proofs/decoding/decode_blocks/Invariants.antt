@@ -8,7 +8,7 @@ abbrev pub invariant-decode_all : goal.invariant-decode_all
 invariant-decode_all g l = record {
   runs : DecodingProgress l.setting l.asked (new_reader l.fn.intake (g.I.Intake.left l.fn.intake) (g.I.Intake.failed l.fn.intake)) (g.O.Outlet.taken l.fn.outlet) (g.O.Outlet.taken l.outlet) l.decoder l.reader l.meter l.written;
   writes : g.O.Outlet.failed l.outlet ≡ g.O.Outlet.failed l.fn.outlet;
-  holds : l.held ≡ true → Holds l.setting l.decoder l.samples.items l.bytes;
+  holds : l.held ≡ true → Holds l.setting l.decoder l.levels.items l.bytes;
 }
 
 -- The samples of a run that are still to come are fewer with each block, and each bit brings at most so many.
