@@ -1,6 +1,7 @@
+use crate::table::{Columns, bytes_of};
 use rice_bits::{
     BitFault, BitReader, BitSink, FromBufWriter, FromReader, FromWriter, Intake, MemoryIn,
-    MemoryOut, Meter, Outlet, ReadFault, SliceIn, SliceOut, WriteFault, ZeroIn, join,
+    MemoryOut, Meter, Outlet, ReadFault, SliceIn, SliceOut, WriteFault, ZeroIn, join, low_digits,
 };
 use std::io::{self, BufWriter, ErrorKind, Read, Write};
 use std::test::Fail;
@@ -12,6 +13,13 @@ const PIECES: [usize; 4] = [1, 3, 7, 4096];
 fn digits_are_joined(rt: HostRuntime) {
     assert_eq!(rt; join(0b101, 4, 0b0011), 0b101_0011);
     assert_eq!(rt; join(0, 8, 7), 7);
+}
+
+#[test]
+fn digits_are_taken(rt: HostRuntime) {
+    assert_eq!(rt; low_digits(0b1011_0110, 5), 0b1_0110);
+    assert_eq!(rt; low_digits(0xFFFF_FFFF, 32), 0xFFFF_FFFF);
+    assert_eq!(rt; low_digits(7, 0), 0);
 }
 
 #[test]
@@ -54,6 +62,33 @@ fn put_long_words(rt: HostRuntime) -> Result<(), Fail> {
     sink.pad();
     let expected = [0xAB, 0, 0, 0, 0, 0, 0, 2];
     assert_eq!(rt; sink.whole(), expected.as_slice());
+    Ok(())
+}
+
+/// How many of the lowest digits of three words are put after 1010, and the bytes of all.
+const WORDS: &str = "0  | A0
+    3  | A1F8
+    8  | A78EF0F0
+    28 | A23456789ABCDEFF0F0F0F
+    32 | A1234567889ABCDEF0F0F0F0F0";
+
+#[test]
+fn put_all_words(rt: HostRuntime) -> Result<(), Fail> {
+    let words = [0x1234_5678, 0x89AB_CDEF, 0x0F0F_0F0F];
+    for line in WORDS.lines() {
+        let mut columns = Columns::of(line);
+        let width = columns.next().parse::<u32>()?;
+        let expected = bytes_of(columns.next(), rt.alloc())?;
+        assert!(rt; width <= 32);
+        let mut sink = BitSink::<16>::new();
+        let mut meter = Meter::new();
+        sink.put(0b1010, 4, &mut meter);
+        sink.put_words(&words, width, &mut meter);
+        assert_eq!(rt; sink.len(), 4 + 3 * width as u64, "{line}");
+        assert_eq!(rt; meter.steps(), 4 + 3 * width as u64, "{line}");
+        sink.pad();
+        assert_eq!(rt; sink.whole(), expected.as_slice(), "{line}");
+    }
     Ok(())
 }
 

@@ -2,7 +2,7 @@ ghost use Rattle.std.specs.Prelude.{◌≡◌, ◌<◌, true, All};
 ghost use Rattle.rice_samples.specs.Parameters.{IsSample};
 
 use crate::table::{self, Columns, answer_to, bytes_of, setting_of};
-use rice_bits::Meter;
+use rice_bits::{BitSink, Meter};
 use rice_samples::{
     Segment, Setting, SettingFault, bytes_of as bytes_of_sample, from_pattern, level_of_pattern,
     levels_of_patterns, pattern, residual, restore, restore_all, sample_of, samples_of,
@@ -368,6 +368,34 @@ fn blocks_of_a_segment(rt: HostRuntime) {
     }
     segment.clear();
     assert_eq!(rt; segment.len(), 0);
+}
+
+#[test]
+fn digits_of_a_block(rt: HostRuntime) {
+    let mut segment = Segment::new();
+    for i in 0..16 {
+        if segment.len() < 16 {
+            segment.push(0x1234_5670 + i);
+        }
+    }
+    assert!(rt; segment.len() == 16);
+    let block = segment.block(1, 8);
+    let mut meter = Meter::new();
+    let mut sink = BitSink::<20>::new();
+    block.put_digits(0, 4, &mut sink, &mut meter);
+    assert_eq!(rt; meter.steps(), 40);
+    block.put_digits(6, 32, &mut sink, &mut meter);
+    assert_eq!(rt; meter.steps(), 106);
+    block.put_digits(5, 20, &mut sink, &mut meter);
+    block.put_digits(8, 20, &mut sink, &mut meter);
+    assert_eq!(rt; meter.steps(), 169);
+    assert_eq!(rt; sink.len(), 156);
+    sink.pad();
+    let digits = [
+        0x89, 0xAB, 0xCD, 0xEF, 0x12, 0x34, 0x56, 0x7E, 0x12, 0x34, 0x56, 0x7F, 0x45, 0x67, 0xD4,
+        0x56, 0x7E, 0x45, 0x67, 0xF0,
+    ];
+    assert_eq!(rt; sink.whole(), digits.as_slice());
 }
 
 fn are_in_range(setting: &Setting, samples: &[i64]) -> bool

@@ -36,10 +36,10 @@ impl<W: Write + Drop> FromBufWriter<W> {
         self.writer
     }
 
-    /// Takes bytes that the buffer may have no room for.
-    #[inline(never)]
+    /// Writes once, and counts a failure where nothing was taken.
+    #[inline(always)]
     #[tactic(auto, using(crate::proofs::lemmas::device::OutletLemmas::known_appends, crate::proofs::lemmas::device::OutletLemmas::known_keeps))]
-    fn put_slowly(&mut self, bytes: &[u8]) -> Result<usize, WriteFault>
+    fn write_once(&mut self, bytes: &[u8]) -> Result<usize, WriteFault>
         requires some { 0 < length bytes.now }
         requires countable { buffered_failures self.old + 1 < 2 ^ 64 }
         ensures count { IfOk result (λ m. (0 < m) × (m ≤ length bytes.now)) }
@@ -57,6 +57,21 @@ impl<W: Write + Drop> FromBufWriter<W> {
             }
         }
     }
+
+    /// Takes bytes that the buffer may have no room for.
+    #[inline(never)]
+    fn put_slowly(&mut self, bytes: &[u8]) -> Result<usize, WriteFault>
+        requires some { 0 < length bytes.now }
+        requires countable { buffered_failures self.old + 1 < 2 ^ 64 }
+        ensures count { IfOk result (λ m. (0 < m) × (m ≤ length bytes.now)) }
+        ensures bytes { IfOk result (λ m. Appends (known (writer_contents W.contents (buffered_writer self.old)))
+            (known (writer_contents W.contents (buffered_writer self.new))) (take m bytes.now)) }
+        ensures err { OnErr result (Keeps (known (writer_contents W.contents (buffered_writer self.old)))
+            (known (writer_contents W.contents (buffered_writer self.new)))) }
+        ensures failures { CountsFailure (buffered_failures self.old) (buffered_failures self.new) result }
+    {
+        self.write_once(bytes)
+    }
 }
 
 impl<W: Write + Drop> Outlet for FromBufWriter<W> {
@@ -65,17 +80,10 @@ impl<W: Write + Drop> Outlet for FromBufWriter<W> {
     ghost failed = { λ s. s.failures };
 
     #[inline(always)]
-    #[tactic(auto, using(crate::proofs::lemmas::device::OutletLemmas::known_appends, crate::proofs::lemmas::device::OutletLemmas::known_keeps))]
     fn put(&mut self, bytes: &[u8]) -> Result<usize, WriteFault> {
-        // With this known, the write below is a copy, and nothing else.
+        // With this known, the write is a copy, and nothing else.
         if bytes.len() < self.writer.capacity() - self.writer.buffer().len() {
-            return match self.writer.write(bytes) {
-                Ok(count) if count > 0 => Ok(count),
-                _ => {
-                    self.failures += 1;
-                    Err(WriteFault)
-                }
-            };
+            return self.write_once(bytes);
         }
         self.put_slowly(bytes)
     }

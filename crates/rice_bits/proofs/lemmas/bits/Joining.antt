@@ -64,8 +64,8 @@ digits_before w m xs h =
     omega (arith, digits)
 
 -- a slice up to the end
-pub slice_to_end : (xs : List ℕ) (n : ℕ) → take (length xs - n) (drop n xs) ≡ drop n xs
-slice_to_end xs n = take_all (length xs - n) (drop n xs) (omega (arith, length-drop n xs))
+pub up_to_end : (first : ℕ) (xs : List ℕ) → take (length xs - first) (drop first xs) ≡ drop first xs
+up_to_end first xs = take_all (length xs - first) (drop first xs) (omega (arith, length-drop first xs))
 
 -- bits that are joined are put
 pub joined-puts : (count n all before after : ℕ) (more bits : List Bool) (old new : List ℕ) → take n (bits_of old) ≡ bits → Joins more count n all old new → length more ≡ count → after ≡ before + count

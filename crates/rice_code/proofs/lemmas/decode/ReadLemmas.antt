@@ -1,12 +1,13 @@
 -- What is read of a block after its identifier.
 use Rattle.std.proofs.Common.{◌≡◌, ℕ, zero, suc, ◌+◌, ◌-◌, ◌*◌, ◌/◌, ◌%◌, ◌^◌, ◌<◌, ◌≤◌, Bool, true, false, List, [], ◌∷◌, ◌++◌, length, refl, sym, ◌∙◌, ap, subst, arith, append_assoc, length-append, replicate, take, drop, length-drop, Option, Some, None, ◌⊎◌, inl, inr}
 use Rattle.std.specs.Prelude.{All, flat_map, is_some, slice_index, OnSome}
-use Rattle.std.proofs.lemmas.List.{append-nil, length-take-le, take-append-drop, take_all}
+use Rattle.std.proofs.lemmas.List.{append-nil, length-take-le, take-append-drop}
 use Rattle.rice_bits.specs.Bits.{word, fundamental_sequence}
 use Rattle.rice_bits.specs.read.Reader.{Reader, Takes, Stops}
 use Rattle.rice_bits.specs.declared.read.fault.BitFault.{BitFault}
 use Rattle.rice_bits.proofs.lemmas.bits.OneWay.{sequence_reads}
 use Rattle.rice_bits.proofs.lemmas.read.ReaderLemmas.{takes-append, stops-append}
+pub use Rattle.rice_bits.proofs.lemmas.bits.Joining.{up_to_end}
 use Rattle.rice_bits.proofs.lemmas.bits.Words.{length-word}
 use Rattle.rice_samples.specs.Parameters.{Parameters, IsLegal, value_count, k_max}
 use Rattle.rice_samples.specs.Places.{is_reference}
@@ -334,10 +335,6 @@ coded_part s r first xs legal e n =
     let size = sizes s.block legal.block in
     let len : length (take (length xs - first) (drop first xs)) ≡ length xs - first = length-take-le (length xs - first) (drop first xs) (omega (arith, length-drop first xs)) in
     (omega (arith, few, size.0, e, n), omega (arith, len, few, size.0, e, n), omega (arith, size.1, n))
-
--- a slice up to the end
-pub up_to_end : (first : ℕ) (xs : List ℕ) → take (length xs - first) (drop first xs) ≡ drop first xs
-up_to_end first xs = take_all (length xs - first) (drop first xs) (omega (arith, length-drop first xs))
 
 -- the residuals that are sent stand behind the place of the reference sample
 pub sent_placed : (first : ℕ) (r : Option ℕ) (xs ys : List ℕ) → take first xs ≡ reference_place r → take first ys ≡ take first xs → ys ≡ reference_place r ++ drop first ys

@@ -32,9 +32,6 @@ flagged sink head ref body b =
 pub four : (sink head ref high low : List Bool) → sink ++ head ++ ref ++ high ++ low ≡ sink ++ (head ++ (ref ++ (high ++ low)))
 four sink head ref high low = simp append_assoc
 
-pub three : (sink head ref body : List Bool) → sink ++ head ++ ref ++ body ≡ sink ++ (head ++ (ref ++ body))
-three sink head ref body = simp append_assoc
-
 -- The residuals rs that are sent from number `from` on, in numbers: how many, their digits, and the parts above these.
 pub record SentResiduals (sent rs : List ℕ) (from w k : ℕ) : Type 0 where
   pub count : length sent ≡ length rs - from
@@ -118,18 +115,3 @@ four_added f xs i n a b all h e added same =
 
 pub four_fewer : (n i m w : ℕ) → i + 3 < n → m ≡ i + 4 → (n - i) * w ≡ (n - m) * w + 4 * w
 four_fewer n i m w h e = let f : n - i ≡ n - m + 4 = omega arith in ap (λ k. k * w) f ∙ (omega arith)
-
-pub four_summed : (f : ℕ → ℕ) (xs : List ℕ) (i n : ℕ) → i + 3 < length xs → n ≡ i + 4 →
-    sum_by f (drop i xs) ≡ f (get_or xs i 0) + f (get_or xs (i + 1) 0) + f (get_or xs (i + 2) 0) + f (get_or xs (i + 3) 0) + sum_by f (drop n xs)
-four_summed f xs i n h e =
-    let a = get_or xs i 0 in
-    let b = get_or xs (i + 1) 0 in
-    let c = get_or xs (i + 2) 0 in
-    let d = get_or xs (i + 3) 0 in
-    let rest = drop n xs in
-    let p = ap (sum_by f) (four_more xs i n h e) in
-    let q = sum_by-cons f a (b ∷ c ∷ d ∷ rest) in
-    let r = sum_by-cons f b (c ∷ d ∷ rest) in
-    let s = sum_by-cons f c (d ∷ rest) in
-    let t = sum_by-cons f d rest in
-    omega (arith, p, q, r, s, t)

@@ -1,7 +1,7 @@
 use Rattle.std.proofs.Common.{◌≡◌, ◌*◌, ◌/◌, ◌++◌, ◌∙◌, ap, arith, length, sym, take}
 use Rattle.std.specs.Prelude.{flat_map}
 use Rattle.rice_bits.specs.Bits.{word}
-use Rattle.rice_bits.proofs.lemmas.bits.Joining.{digits_before, join-more, pair_fits, pair_word, room_for_two, slice_to_end, two_words_more, words_before}
+use Rattle.rice_bits.proofs.lemmas.bits.Joining.{digits_before, join-more, pair_fits, pair_word, room_for_two, two_words_more, up_to_end, words_before}
 use Rattle.rice_bits.proofs.bits.sink.join_pairs.Goals as goal
 
 pub join_digits-bits-requires-clause-value : goal.join_digits-bits-requires-clause-value
@@ -26,4 +26,4 @@ returns c =
     let ws = c.args.words.now in
     let first = 2 * c.loop-i.i in
     let pairs : c.loop-i.i ≡ length ws / 2 = omega (arith, c.loop-i-test.false, c.loop-i.auto) in
-    join-more _ _ _ _ _ _ _ _ _ _ _ _ c.loop-i.invariant (rw (← pairs, slice_to_end ws first) at c.join_each.ensures) (words_before (word w) ws first) (digits_before w first ws (omega (arith, pairs)))
+    join-more _ _ _ _ _ _ _ _ _ _ _ _ c.loop-i.invariant (rw (← pairs, up_to_end first ws) at c.join_each.ensures) (words_before (word w) ws first) (digits_before w first ws (omega (arith, pairs)))
