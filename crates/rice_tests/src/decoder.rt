@@ -171,18 +171,19 @@ fn repeated_samples(rt: HostRuntime) -> Result<(), Fail> {
     let mut reader = BitReader::new(MemoryIn::new(&[0x00, 0x00, 0x80], 4096, None));
     let mut decoder = Decoder::new(setting_of("")?);
     let mut meter = Meter::new();
-    let mut block = ArrayVec::new();
+    let mut levels = ArrayVec::new();
     assert_eq!(rt; decoder.repeats(&[0; 8]), false);
     assert_eq!(rt;
-        decoder.next_block(&mut reader, &mut meter, &mut block),
+        decoder.next_levels(&mut reader, &mut meter, &mut levels),
         Ok(Step::Block)
     );
+    assert_eq!(rt; levels.as_slice(), &[0; 8]);
     assert_eq!(rt; decoder.repeats(&[0, 0, 0, 0, 0, 0, 0, 1]), false);
-    if decoder.repeats(block.as_slice()) {
+    if decoder.repeats(levels.as_slice()) {
         decoder.repeat_block();
     }
     assert_eq!(rt; decoder.waiting(), 0);
-    assert_eq!(rt; decoder.repeats(block.as_slice()), false);
+    assert_eq!(rt; decoder.repeats(levels.as_slice()), false);
     assert_eq!(rt; meter.steps(), 17);
     Ok(())
 }
