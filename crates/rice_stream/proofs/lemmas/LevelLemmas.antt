@@ -1,9 +1,9 @@
 -- Samples that are given by their levels.
-use Rattle.std.proofs.Common.{◌≡◌, ℕ, ◌<◌, List, [], ◌∷◌, length, take, ap, sym, ◌∙◌, subst, ℤ}
+use Rattle.std.proofs.Common.{◌≡◌, ℕ, ◌<◌, List, [], ◌∷◌, length, take, ap, sym, ◌∙◌, subst}
 use Rattle.std.specs.Prelude.{All}
 use Rattle.std.proofs.lemmas.List.{length-map, take-map}
 use Rattle.std.proofs.lemmas.List.Elements.{All-cons, All-head, All-nil, All-tail, All-take}
-use Rattle.rice_samples.specs.Parameters.{Parameters, IsSample, least, level, value_at, value_count, values_at}
+use Rattle.rice_samples.specs.Parameters.{Parameters, IsSample, least, value_at, value_count, values_at}
 use Rattle.rice_samples.specs.bytes.Spelling.{spellings}
 use Rattle.rice_samples.proofs.lemmas.setting.Gaps.{gap_above}
 
