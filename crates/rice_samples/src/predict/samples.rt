@@ -207,23 +207,8 @@ fn restore_each(setting: &Setting, before: u32, residuals: &[u32], levels: &mut 
 }
 
 /// Writes the levels of the samples with these n-bit patterns.
-pub fn levels_of_patterns(setting: &Setting, patterns: &[u32], levels: &mut [u32])
-    requires patterns { All (λ v. v < value_count setting.now) patterns.now }
-    requires len { length levels.old ≡ length patterns.now }
-    ensures legal { All (λ l. l < value_count setting.now) levels.new }
-    ensures patterns { map (pattern_of setting.now) (values_at setting.now levels.new) ≡ patterns.now }
-{
-    // The loop is laid out for blocks of 8 and of 16.
-    match levels.len() {
-        8 => levels_of_each(setting, &patterns[..8], &mut levels[..8]),
-        16 => levels_of_each(setting, &patterns[..16], &mut levels[..16]),
-        _ => levels_of_each(setting, patterns, levels),
-    }
-}
-
-/// Writes the levels, whatever their number.
 #[inline(always)]
-fn levels_of_each(setting: &Setting, patterns: &[u32], levels: &mut [u32])
+pub fn levels_of_patterns(setting: &Setting, patterns: &[u32], levels: &mut [u32])
     requires patterns { All (λ v. v < value_count setting.now) patterns.now }
     requires len { length levels.old ≡ length patterns.now }
     ensures legal { All (λ l. l < value_count setting.now) levels.new }

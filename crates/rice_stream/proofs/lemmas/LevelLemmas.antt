@@ -1,17 +1,14 @@
 -- Samples that are given by their levels.
-use Rattle.std.proofs.Common.{◌≡◌, ℕ, ◌<◌, List, [], ◌∷◌, length, take, ap, sym, ◌∙◌, subst}
+use Rattle.std.proofs.Common.{◌≡◌, ℕ, ◌<◌, List, [], ◌∷◌, take, ap, sym, ◌∙◌, subst}
 use Rattle.std.specs.Prelude.{All}
-use Rattle.std.proofs.lemmas.List.{length-map, take-map}
+use Rattle.std.proofs.lemmas.List.{take-map}
 use Rattle.std.proofs.lemmas.List.Elements.{All-cons, All-head, All-nil, All-tail, All-take}
-use Rattle.rice_samples.specs.Parameters.{Parameters, IsSample, least, value_at, value_count, values_at}
+use Rattle.rice_samples.specs.Parameters.{Parameters, IsSample, value_at, value_count, values_at}
 use Rattle.rice_samples.specs.bytes.Spelling.{spellings}
-use Rattle.rice_samples.proofs.lemmas.setting.Gaps.{gap_above}
-
-pub length-values : (s : Parameters) (ls : List ℕ) → length (values_at s ls) ≡ length ls
-length-values s ls = length-map ls (value_at s)
+use Rattle.rice_samples.proofs.lemmas.setting.ValuesAt.{level_of_value}
 
 level_is_legal : (s : Parameters) (l : ℕ) → IsSample s (value_at s l) → l < value_count s
-level_is_legal s l h = subst (λ n. n < value_count s) (gap_above (least s) l) h.1
+level_is_legal s l h = subst (λ n. n < value_count s) (level_of_value s l) h.1
 
 levels_are_legal : (s : Parameters) (ls : List ℕ) → All (IsSample s) (values_at s ls) → All (λ l. l < value_count s) ls
 levels_are_legal s [] h = All-nil (λ l. l < value_count s)

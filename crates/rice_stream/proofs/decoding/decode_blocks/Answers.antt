@@ -8,7 +8,8 @@ use Rattle.rice_stream.proofs.lemmas.DecodingLemmas.{advances, done, gains, move
 use Rattle.rice_stream.proofs.lemmas.DecodingEnds.{reports_as, wants, progress_at_start, refusal_ends, refusal_fails, ended_ends, done_fails, write_ends, reached_ends, progress_with_block}
 use Rattle.rice_code.specs.decode.Decoder.{RepeatsSamples}
 use Rattle.rice_stream.proofs.lemmas.HeldBlocks.{spells_all}
-use Rattle.rice_stream.proofs.lemmas.LevelLemmas.{few_legal, few_spelled, length-values}
+use Rattle.rice_samples.proofs.lemmas.setting.ValuesAt.{length-values}
+use Rattle.rice_stream.proofs.lemmas.LevelLemmas.{few_legal, few_spelled}
 use Rattle.rice_stream.proofs.decoding.decode_blocks.Goals as goal
 
 pub decode_all-init : goal.decode_all-init

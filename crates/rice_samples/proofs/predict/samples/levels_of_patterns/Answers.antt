@@ -1,19 +1,22 @@
-use Rattle.std.proofs.Common.{arith, ◌≡◌, ◌≤◌, ◌++◌, ◌∙◌, [], ap, sym, append-nil, drop, length, map}
-use Rattle.std.proofs.lemmas.List.{length-take-le, take_all}
-use Rattle.std.proofs.Math.ListN.{drop_of_length-le}
-use Rattle.rice_samples.specs.Parameters.{values_at}
+use Rattle.std.proofs.Common.{arith, ◌<◌, ◌∙◌, ap, sym, map}
+use Rattle.rice_samples.specs.Parameters.{value_count, values_at}
 use Rattle.rice_samples.specs.predict.Residuals.{pattern}
+use Rattle.rice_samples.proofs.lemmas.bytes.LevelPatterns.{one_of_pattern, unsigned_patterns}
+use Rattle.rice_samples.proofs.lemmas.bytes.ReadSamples.{one_legal}
 use Rattle.rice_samples.proofs.predict.samples.levels_of_patterns.Goals as goal
 
-pub levels_of_each-requires-in-16-clause-len : goal.levels_of_each-requires-in-16-clause-len
-levels_of_each-requires-in-16-clause-len c =
-    length-take-le 16 c.args.levels.now (omega (arith, c.in-16.is)) ∙ sym (length-take-le 16 c.args.patterns.now (omega (arith, c.in-16.is, c.requires.len)))
-
-pub returns-in-16-clause-patterns : goal.returns-in-16-clause-patterns
-returns-in-16-clause-patterns c =
+pub returns-then-not-signed-clause-patterns : goal.returns-then-not-signed-clause-patterns
+returns-then-not-signed-clause-patterns c =
     let s = c.args.setting.now in
-    let new = c.levels_of_each-in-16.new.levels in
-    let short : length c.args.levels.now ≤ 16 = omega (arith, c.in-16.is) in
-    let rest : drop 16 c.args.levels.now ≡ [] = drop_of_length-le c.args.levels.now short in
-    let whole = ap (λ v. new ++ v) rest ∙ append-nil new in
-    ap (λ ls. map (pattern s) (values_at s ls)) whole ∙ (c.levels_of_each-in-16.ensures.patterns ∙ take_all 16 c.args.patterns.now (omega (arith, c.in-16.is, c.requires.len)))
+    ap (λ ls. map (pattern s) (values_at s ls)) c.copy_from_slice.ensures.after ∙ unsigned_patterns s c.args.patterns.now (sym c.signed.ensures ∙ c.if-not-signed.true)
+
+pub loop-i-preserved : goal.loop-i-preserved
+loop-i-preserved c =
+    let s = c.args.setting.now in
+    let l = c.level_of_pattern.result in
+    let i = c.loop-i.i in
+    let levels = c.loop-i.levels in
+    record {
+      legal = one_legal (λ v. v < value_count s) i levels l (omega arith) c.loop-i.invariant.legal c.level_of_pattern.ensures.below;
+      patterns = one_of_pattern s l i levels c.args.patterns.now (omega arith) (omega arith) c.loop-i.invariant.patterns c.level_of_pattern.ensures.pattern;
+    }

@@ -1,7 +1,7 @@
 use Rattle.std.proofs.Common.{◌≡◌, ◌<◌, take, map, All}
 use Rattle.rice_samples.specs.Parameters.{value_count, values_at}
 use Rattle.rice_samples.specs.predict.Residuals.{pattern}
-use Rattle.rice_samples.proofs.predict.samples.levels_of_each.Given as goal
+use Rattle.rice_samples.proofs.predict.samples.levels_of_patterns.Given as goal
 
 abbrev pub invariant-loop-i : goal.invariant-loop-i
 invariant-loop-i l = record {
