@@ -189,16 +189,8 @@ stops_by old new s b (bit_faults.End false) h cut = ends old new s b false h cut
 stops_by old new s b bit_faults.Read h cut = cut
 stops_by old new s b bit_faults.TooLong h cut = cut
 
--- a run that stays in its segment stays in its interval
-pub within_interval : (s : Parameters) (b run : ℕ) → b < s.interval → (0 < run → run + 1 ≤ blocks_left s b) → b + 1 + run ≤ s.interval
-within_interval s b zero h more = omega arith
-within_interval s b (suc run) h more =
-    let at : place s b ≡ b = mod-eq_of_lt h in
-    let few = more (omega arith) in
-    omega arith
-
 -- a coded data set was taken, and its padding skipped
-pub set_given : {I : Type 0} (old middle new : Reader I) (first steps last : ℕ) (s : Parameters) (b : ℕ) (p : ℤ) (samples : List ℤ) (run : ℕ)
+set_given : {I : Type 0} (old middle new : Reader I) (first steps last : ℕ) (s : Parameters) (b : ℕ) (p : ℤ) (samples : List ℤ) (run : ℕ)
     → TakesSet old middle first steps s b p samples run → Skips middle new (padding s (b + 1 + run) middle.taken) → last + middle.taken ≡ steps + new.taken
     → GivesSet old new first last s b p samples run
 set_given old middle new first steps last s b p samples run set skips counted =

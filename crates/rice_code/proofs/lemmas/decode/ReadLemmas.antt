@@ -329,17 +329,18 @@ sent_part s r first xs legal e n =
 
 -- the coded residuals of a block: where they begin, and how many there are
 pub coded_part : (s : Parameters) (r : Option ℕ) (first : ℕ) (xs : List ℕ) → IsLegal s → first ≡ length (reference_place r) → length xs ≡ s.block
-    → (first ≤ length xs) × (length (take (length xs - first) (drop first xs)) + length (reference_place r) ≡ s.block) × (length xs - first ≤ 64)
+    → (first ≤ length xs) × (length (take (length xs - first) (drop first xs)) + length (reference_place r) ≡ s.block)
 coded_part s r first xs legal e n =
     let few : length (reference_place r) ≤ 1 = one_at_most r in
     let size = sizes s.block legal.block in
     let len : length (take (length xs - first) (drop first xs)) ≡ length xs - first = length-take-le (length xs - first) (drop first xs) (omega (arith, length-drop first xs)) in
-    (omega (arith, few, size.0, e, n), omega (arith, len, few, size.0, e, n), omega (arith, size.1, n))
+    (omega (arith, few, size.0, e, n), omega (arith, len, few, size.0, e, n))
 
 -- the residuals that are sent stand behind the place of the reference sample
 pub sent_placed : (first : ℕ) (r : Option ℕ) (xs ys : List ℕ) → take first xs ≡ reference_place r → take first ys ≡ take first xs → ys ≡ reference_place r ++ drop first ys
 sent_placed first r xs ys e h = sym (take-append-drop first ys) ∙ ap (λ z. z ++ drop first ys) (h ∙ e)
 
+-- residuals that are written after the place of the reference sample
 pub placed : (first : ℕ) (r : Option ℕ) (xs ys : List ℕ) → take first xs ≡ reference_place r → first ≤ length xs → put_mid first (length xs - first) xs ys ≡ reference_place r ++ ys
 placed first r xs ys e h = put_rest first xs ys h ∙ ap (λ z. z ++ ys) e
 

@@ -1,5 +1,5 @@
 -- Samples of a block, restored.
-use Rattle.std.proofs.Common.{◌≡◌, ℕ, suc, ◌+◌, ◌*◌, ◌/◌, ◌%◌, ◌<◌, ◌==◌, Bool, true, false, cond, List, [], ◌∷◌, ◌++◌, length, map, take, drop, slice_set, append-nil, refl, sym, ◌∙◌, ap, arith, Option, Some, None, ℤ, zero, ◌-◌, subst, ◌≤◌, inl, inr, replicate}
+use Rattle.std.proofs.Common.{◌≡◌, ℕ, suc, ◌+◌, ◌*◌, ◌/◌, ◌%◌, ◌<◌, ◌==◌, Bool, true, false, cond, List, [], ◌∷◌, ◌++◌, length, map, take, drop, append-nil, refl, sym, ◌∙◌, ap, arith, Option, Some, None, ℤ, zero, subst, ◌≤◌, inl, inr, replicate}
 use Rattle.std.specs.List.{refill}
 use Rattle.std.specs.Prelude.{All, IfSome, IfNone, OnSome, is_some, slice_index, slice_index_or, ◌&&◌}
 use Rattle.std.proofs.lemmas.Nat.{div-mul-add}
@@ -7,7 +7,6 @@ use Rattle.std.proofs.Math.Nat.{mul_comm}
 use Rattle.std.proofs.lemmas.Nat.{mod-mul-add}
 use Rattle.std.proofs.lemmas.List.{drop_all, take_all}
 use Rattle.std.proofs.Math.Dec.{eqb-suc-zero}
-use borrow.Rule.Slice.PartMut.{put_mid}
 use Rattle.rice_samples.specs.Parameters.{Parameters, IsSample, level, value_count}
 use Rattle.rice_samples.proofs.lemmas.setting.Levels.{same_level}
 use Rattle.rice_samples.proofs.lemmas.predict.Ranks.{rank_injective}
@@ -86,11 +85,6 @@ contents_behind s b p x v (d ∷ ds) ys h n len first r pat =
     let one : residual s (s.block * b) p x ≡ d = ap (λ j. residual s j p x) at ∙ (residual_within s b 0 (Some v) p x (omega (arith, n)) h ∙ ((λ i. cond (e i) 0 (pattern s x)) ∙ sym first)) in
     let rest : residuals s (s.block * b + 1) x ys ≡ ds = ranks_within s b 1 (Some v) x ys h e refl (omega (arith, n, len)) ∙ r in
     contents_are s b p (Some v) (d ∷ ds) (x ∷ ys) h (λ i. one i ∷ rest i) pat
-
--- one sample and those after it, in as many places
-pub put_behind : (xs ys : List ℤ) (x : ℤ) → length xs ≡ suc (length ys) → put_mid 1 (length (slice_set xs 0 x) - 1) (slice_set xs 0 x) ys ≡ x ∷ ys
-put_behind [] ys x e = absurd (omega arith)
-put_behind (z ∷ xs) ys x e = ap (λ v. x ∷ v) (ap (λ v. ys ++ v) (drop_all (length (x ∷ xs) - 1) xs (omega arith)) ∙ append-nil ys)
 
 pub refill_all : {A : Type 0} (xs ys : List A) → length ys ≡ length xs → refill (length xs) xs ys ≡ ys
 refill_all xs ys e =

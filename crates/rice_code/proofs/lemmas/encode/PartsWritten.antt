@@ -1,11 +1,11 @@
 -- The parts of residuals are written one range after the other.
-use Rattle.std.proofs.Common.{◌≡◌, ℕ, zero, suc, ◌+◌, ◌-◌, ◌*◌, ◌<◌, ◌≤◌, Bool, List, [], ◌∷◌, ◌++◌, length, drop, take, get_or, ap, arith, sym, ◌∙◌, append_assoc, append-nil}
+use Rattle.std.proofs.Common.{◌≡◌, ℕ, suc, ◌+◌, ◌-◌, ◌*◌, ◌<◌, ◌≤◌, Bool, List, [], ◌∷◌, ◌++◌, length, drop, take, get_or, ap, arith, sym, ◌∙◌, append_assoc, append-nil}
 use Rattle.std.specs.Prelude.{flat_map, slice_range, sum_by}
 use Rattle.std.proofs.Math.Seq.{take-suc}
 use Rattle.std.proofs.lemmas.Grind.{flat_map-append}
 use Rattle.std.proofs.lemmas.List.{length-drop, get_or-drop}
 use Rattle.std.proofs.lemmas.List.Folds.{drop_split}
-use Rattle.std.proofs.lemmas.List.Sums.{sum_by-append, sum_by-cons}
+use Rattle.std.proofs.lemmas.List.Sums.{sum_by-append}
 
 -- no residuals
 slice_none : (ds : List ℕ) (from : ℕ) → slice_range ds from from ≡ []
@@ -30,27 +30,6 @@ one_written f ds from i all a b x le lt before put same =
     let d = get_or ds i 0 in
     put ∙ ((λ j. before j ++ same j) ∙ (append_assoc all (flat_map f xs) (f d) ∙ ap (λ v. all ++ v)
     (ap (λ v. flat_map f xs ++ v) (sym (append-nil (f d))) ∙ (sym (flat_map-append f xs (d ∷ [])) ∙ ap (flat_map f) (sym (slice_snoc ds from i le lt))))))
-
-pub none_summed : (g : ℕ → ℕ) (ds : List ℕ) (from : ℕ) → sum_by g (slice_range ds from from) ≡ 0
-none_summed g ds from = ap (sum_by g) (slice_none ds from)
-
-pub one_summed : (g : ℕ → ℕ) (ds : List ℕ) (from i : ℕ) → from ≤ i → i < length ds → sum_by g (slice_range ds from (i + 1)) ≡ sum_by g (slice_range ds from i) + g (get_or ds i 0)
-one_summed g ds from i le lt =
-    let one : sum_by g (get_or ds i 0 ∷ []) ≡ g (get_or ds i 0) = omega arith in
-    ap (sum_by g) (slice_snoc ds from i le lt) ∙ (sum_by-append g (slice_range ds from i) (get_or ds i 0 ∷ []) ∙ ap (λ n. sum_by g (slice_range ds from i) + n) one)
-
-pub within_summed : (g : ℕ → ℕ) (ds : List ℕ) (from i to : ℕ) → i ≤ to → sum_by g (slice_range ds from i) ≤ sum_by g (slice_range ds from to)
-within_summed g ds from i to le = fewer (i - from) (to - from) (drop from ds) (omega arith)
-  where
-    fewer : (m n : ℕ) (xs : List ℕ) → m ≤ n → sum_by g (take m xs) ≤ sum_by g (take n xs)
-    fewer zero n xs h = omega arith
-    fewer (suc m) zero xs h = absurd (omega arith)
-    fewer (suc m) (suc n) [] h = omega arith
-    fewer (suc m) (suc n) (x ∷ xs) h =
-        let ih = fewer m n xs (omega arith) in
-        let a = sum_by-cons g x (take m xs) in
-        let b = sum_by-cons g x (take n xs) in
-        omega (arith, ih, a, b)
 
 pub none_times : (from w : ℕ) → (from - from) * w ≡ 0
 none_times from w = let e : from - from ≡ 0 = omega arith in ap (λ k. k * w) e ∙ (omega arith)

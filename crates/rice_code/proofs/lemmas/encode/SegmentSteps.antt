@@ -165,10 +165,6 @@ looks_other s c e = (ap (λ v. cond v s.block (s.block * (best_split s c + 3) - 
 pub shortest_len : (s : Parameters) (b : ℕ) (c : BlockData) → 1 ≤ s.block → IsSoundBlock s b c → length (bits_of_set s (shortest s c)) ≡ cost s (shortest s c)
 shortest_len s b c j h = cost_is_length s b (shortest s c) j (shortest_is_form s b c h)
 
-pub no_reference : (r : Option ℕ) (i : ℕ) → 0 < i → reference_at r i ≡ None
-no_reference r zero h = absurd (omega arith)
-no_reference r (suc i) h = refl
-
 -- what is put has room
 pub room_other : (s : Parameters) (start : ℕ) (r : Option ℕ) (n : ℕ) (ds : List ℕ) (i run : ℕ) (sink before all : List Bool) → 1 ≤ s.interval → 1 ≤ s.block → n ≤ blocks_left s start → run ≤ i → i < n →
     AreSoundBlocks s start (held_blocks s r n ds) → is_zero_block (held s r ds i) ≡ false → sink ++ to_come s start r n ds i run ≡ before ++ all →

@@ -1,21 +1,19 @@
 -- Levels, and the patterns and words of the values at these.
-use Rattle.std.proofs.Common.{◌≡◌, ℕ, ◌+◌, ◌-◌, ◌*◌, ◌%◌, ◌^◌, ◌<◌, ◌≤◌, Bool, true, false, cond, refl, ap, arith, sym, ◌∙◌, List, [], ◌∷◌, ◌++◌, length, take, map, get_or, slice_set, ℤ, pos, neg_ℤ, ◌+ℤ◌}
+use Rattle.std.proofs.Common.{◌≡◌, ℕ, ◌+◌, ◌-◌, ◌*◌, ◌%◌, ◌^◌, ◌<◌, ◌≤◌, Bool, true, false, cond, refl, ap, arith, sym, ◌∙◌, List, [], ◌∷◌, ◌++◌, length, take, map, get_or, slice_set, pos, neg_ℤ, ◌+ℤ◌}
 use Rattle.std.specs.Prelude.{bit_and}
 use Rattle.std.proofs.lemmas.Int.{ints}
 use Rattle.std.proofs.lemmas.List.{map-append, take_more, take_more_set}
 use Rattle.std.proofs.lemmas.Nat.{and_mask, mod-mul-add, mod_below, pow-add, pow_pos}
 use Rattle.std.proofs.Math.Nat.{mod-add-mod, mul-le-mul_right}
 use Rattle.std.proofs.Math.Pow.{mod-mod-pow, pow_mono}
-use Rattle.rice_samples.specs.Parameters.{Parameters, IsSample, least, level, value_at, value_count, values_at}
+use Rattle.rice_samples.specs.Parameters.{Parameters, least, level, value_at, value_count, values_at}
 use Rattle.rice_samples.specs.predict.Residuals.{pattern, twos_complement}
 use Rattle.rice_samples.specs.bytes.Values.{offset, IsValue}
 use Rattle.rice_samples.proofs.lemmas.bytes.SpellingLemmas.{level_from_pattern, offset_limit, same_offset, wider_value}
 use Rattle.rice_samples.proofs.lemmas.predict.InverseLemmas.{has_pattern}
 use Rattle.rice_samples.proofs.lemmas.setting.Gaps.{gap_above, sample_at}
-use Rattle.rice_samples.proofs.lemmas.setting.Levels.{pattern_fits, same_level}
-
-value_of_level : (s : Parameters) (x : ℤ) → IsSample s x → value_at s (level s x) ≡ x
-value_of_level s x h = same_level s (value_at s (level s x)) x (sample_at s (level s x) h.1) h (gap_above (least s) (level s x))
+use Rattle.rice_samples.proofs.lemmas.setting.Levels.{pattern_fits}
+use Rattle.rice_samples.proofs.lemmas.setting.ValuesAt.{value_of_level}
 
 pattern_of_level : (s : Parameters) (v : ℕ) → 1 ≤ s.bits → v < value_count s → pattern s (value_at s ((v + offset s) % 2 ^ s.bits)) ≡ v
 pattern_of_level s v h lt =
