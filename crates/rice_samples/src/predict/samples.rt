@@ -170,8 +170,8 @@ fn restore_low(setting: &Setting, before: u32, residuals: &[u32], levels: &mut [
     }
 }
 
-/// Writes eight levels one at a time.
-#[inline(always)]
+/// Writes eight levels one at a time. It is never inlined: in a loop, branches would be made of its selections.
+#[inline(never)]
 fn restore_in_turn(setting: &Setting, before: u32, residuals: &[u32], levels: &mut [u32])
     requires before { before < value_count setting.now }
     requires residuals { All (λ d. d < value_count setting.now) residuals.now }
