@@ -177,7 +177,7 @@ fn repeated_samples(rt: HostRuntime) -> Result<(), Fail> {
         decoder.next_levels(&mut reader, &mut meter, &mut levels),
         Ok(Step::Block)
     );
-    assert_eq!(rt; levels.as_slice(), &[0; 8]);
+    assert_eq!(rt; levels.as_slice(), [0; 8].as_slice());
     assert_eq!(rt; decoder.repeats(&[0, 0, 0, 0, 0, 0, 0, 1]), false);
     if decoder.repeats(levels.as_slice()) {
         decoder.repeat_block();
