@@ -6,4 +6,5 @@ mod ones;
 mod parts;
 pub mod reader;
 mod short_words;
+mod wide_words;
 mod window;

@@ -3,7 +3,7 @@ use Rattle.std.specs.Prelude.{◌≡◌, ℕ, ◌+◌, ◌^◌, ◌<◌, ◌≤�
 use Rattle.std.specs.Io.KnownBytes.{Consumes}
 use Rattle.rice_bits.specs.device.Outlet.{Room, Appends}
 use Rattle.rice_bits.specs.Bits.{bits_in_bytes}
-use Rattle.rice_samples.specs.Parameters.{Parameters, IsSample, width}
+use Rattle.rice_samples.specs.Parameters.{Parameters, IsSample, value_count, width}
 use Rattle.rice_samples.specs.bytes.Spelling.{spellings, EndsSpelling, NoSpelling}
 use Rattle.rice_stream.specs.Calls.{StopsBetween}
 use Rattle.rice_code.specs.code.Code.{code_bits, output, early_output}
@@ -47,14 +47,14 @@ pub record IsEncodingOf (s : Parameters) (old : Beginning) (new : Option Room) (
   pub sink : e.sink ≡ drop (bits_in_bytes (length (complete_code s xs))) (complete_code s xs)
   pub took : Follows old new (early_output s xs)
 
--- an encoding whose code an outlet has taken so far can take these samples too
-pub record CanTake (taken : Option Room) (e : Encoding) (samples : List ℤ) : Type 0 where
+-- an encoding whose code an outlet has taken so far can take the samples with these levels too
+pub record CanTake (taken : Option Room) (e : Encoding) (levels : List ℕ) : Type 0 where
   pub setting : Parameters
   pub start : Beginning
   pub before : List ℤ
   pub holds : IsEncodingOf setting start taken e before
-  pub legal : All (IsSample setting) samples
-  pub few : length before + length samples ≤ 2 ^ 48
+  pub legal : All (λ l. l < value_count setting) levels
+  pub few : length before + length levels ≤ 2 ^ 48
 
 -- An encoding that held xs has taken these samples too. Only the last of them can have made a segment whole.
 pub record TakesSamples (s : Parameters) (e : Encoding) (xs more : List ℤ) : Type 0 where

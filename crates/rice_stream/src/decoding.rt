@@ -173,8 +173,11 @@ fn decode_blocks<I: Intake, O: Outlet>(
     // With a count of 0 the intake is not called.
     ensures idle { asked ≡ Some 0 → result.1 ≡ intake }
 {
-    let block = setting.block();
-    let mut decoder = Decoder::new(*setting);
+    // A copy stays in registers from block to block.
+    let own = *setting;
+    let block = own.block();
+    let width = own.width() as usize;
+    let mut decoder = Decoder::new(own);
     let mut reader = BitReader::new(intake);
     let mut meter = Meter::new();
     let mut levels = ArrayVec::new();
@@ -201,7 +204,7 @@ fn decode_blocks<I: Intake, O: Outlet>(
             Step::Done => return ended(end_of(asked, written), written, reader, &meter),
         }
         let block_levels = &levels.as_slice()[..count];
-        match write_block(setting, again, block_levels, &mut bytes, outlet) {
+        match write_block(&own, width, again, block_levels, &mut bytes, outlet) {
             Ok(()) => {}
             Err(_) => return ended(Some(Fault::Write), written, reader, &meter),
         }

@@ -4,7 +4,7 @@ ghost use Rattle.std.specs.Io.KnownBytes.{IsAtEnd, Keeps};
 ghost use Rattle.rice_bits.specs.device.Device.{CountsFailure};
 ghost use Rattle.rice_bits.specs.device.Outlet.{Room, Appends};
 ghost use Rattle.rice_bits.specs.Bits.{bits_in_bytes, padded_bits};
-ghost use Rattle.rice_samples.specs.Parameters.{Parameters, IsSample, width};
+ghost use Rattle.rice_samples.specs.Parameters.{Parameters, values_at, width};
 ghost use Rattle.rice_stream.specs.Calls.{Call, Happens, Fails};
 ghost use Rattle.rice_stream.specs.Encodes.{Encodes, EncodesWithin, ReportsTaken, ReportsAll};
 ghost use Rattle.rice_stream.specs.EncodingState.{Beginning, afresh, whole_part, CanTake, Refills, TakesSamples, CountsSamples, IsEncodingOf, FailsIn, WritesRest, Pushes, PushFails};
@@ -18,7 +18,7 @@ use crate::seam::{Seam, waiting_number};
 use crate::write::write_whole;
 use rice_bits::{BitSink, Intake, Meter, Outlet, ReadFault, WriteFault};
 use rice_code::Coder;
-use rice_samples::{Setting, samples_of};
+use rice_samples::{Setting, levels_of};
 
 /// The limit of the input, in bytes.
 pub(crate) const LIMIT: u64 = 1 << 48;
@@ -103,40 +103,40 @@ impl Encoding {
         self.samples
     }
 
-    /// Takes samples up to the one that completes a segment, or all of them, and returns their number.
+    /// Takes the samples with these levels up to the one that completes a segment, or all of them, and returns their number.
     #[inline]
-    fn take(&mut self, samples: &[i64]) -> usize
-        requires ready { (now : Option Room) × CanTake now self.old samples.now }
-        ensures count { result ≤ length samples.now }
-        ensures some { 0 < length samples.now → 0 < result }
+    fn take(&mut self, levels: &[u32]) -> usize
+        requires ready { (now : Option Room) × CanTake now self.old levels.now }
+        ensures count { result ≤ length levels.now }
+        ensures some { 0 < length levels.now → 0 < result }
         ensures took { (s : Parameters) (old : Beginning) (now : Option Room) (xs : List ℤ) →
             IsEncodingOf s old now self.old xs →
-            TakesSamples s self.new xs (take result samples.now) }
+            TakesSamples s self.new xs (take result (values_at s levels.now)) }
     {
         let pushed = self
             .coder
-            .push_some(samples, &mut self.sink, &mut self.meter);
+            .push_some(levels, &mut self.sink, &mut self.meter);
         self.samples += pushed.samples as u64;
         self.bits += pushed.bits;
         pushed.samples
     }
 
     /// Takes samples as `take` does, writes the bytes that they complete, and returns their number.
-    fn push<O: Outlet>(&mut self, samples: &[i64], outlet: &mut O) -> Result<usize, WriteFault>
-        requires ready { CanTake (O.taken outlet.old) self.old samples.now }
-        requires some { 0 < length samples.now }
+    fn push<O: Outlet>(&mut self, levels: &[u32], outlet: &mut O) -> Result<usize, WriteFault>
+        requires ready { CanTake (O.taken outlet.old) self.old levels.now }
+        requires some { 0 < length levels.now }
         requires writes { O.failed outlet.old + 1 < 2 ^ 64 }
-        ensures count { IfOk result (λ n. (0 < n) × (n ≤ length samples.now)) }
+        ensures count { IfOk result (λ n. (0 < n) × (n ≤ length levels.now)) }
         ensures ok { IfOk result (λ n. (s : Parameters) (old : Beginning) (xs : List ℤ) →
             IsEncodingOf s old (O.taken outlet.old) self.old xs →
-            IsEncodingOf s old (O.taken outlet.new) self.new (xs ++ take n samples.now)) }
+            IsEncodingOf s old (O.taken outlet.new) self.new (xs ++ take n (values_at s levels.now))) }
         ensures calm { OnOk result (O.failed outlet.new ≡ O.failed outlet.old) }
         ensures err { OnErr result ((s : Parameters) (old : Beginning) (xs : List ℤ) →
             IsEncodingOf s old (O.taken outlet.old) self.old xs →
-            FailsIn s old (O.taken outlet.new) self.new xs samples.now) }
+            FailsIn s old (O.taken outlet.new) self.new xs (values_at s levels.now)) }
         ensures raised { OnErr result (O.failed outlet.new ≡ O.failed outlet.old + 1) }
     {
-        let taken = self.take(samples);
+        let taken = self.take(levels);
         if self.sink.len() < 8 {
             return Ok(taken);
         }
@@ -147,21 +147,21 @@ impl Encoding {
     }
 
     /// Takes all samples, and writes the bytes that each segment completes before it takes the next sample.
-    fn push_each<O: Outlet>(&mut self, samples: &[i64], outlet: &mut O) -> Result<(), WriteFault>
-        requires ready { CanTake (O.taken outlet.old) self.old samples.now }
+    fn push_each<O: Outlet>(&mut self, levels: &[u32], outlet: &mut O) -> Result<(), WriteFault>
+        requires ready { CanTake (O.taken outlet.old) self.old levels.now }
         requires writes { O.failed outlet.old + 1 < 2 ^ 64 }
         ensures ok { OnOk result ((s : Parameters) (old : Beginning) (xs : List ℤ) →
             IsEncodingOf s old (O.taken outlet.old) self.old xs →
-            IsEncodingOf s old (O.taken outlet.new) self.new (xs ++ samples.now)) }
+            IsEncodingOf s old (O.taken outlet.new) self.new (xs ++ values_at s levels.now)) }
         ensures calm { OnOk result (O.failed outlet.new ≡ O.failed outlet.old) }
         ensures err { OnErr result ((s : Parameters) (old : Beginning) (xs : List ℤ) →
             IsEncodingOf s old (O.taken outlet.old) self.old xs →
-            FailsIn s old (O.taken outlet.new) self.new xs samples.now) }
+            FailsIn s old (O.taken outlet.new) self.new xs (values_at s levels.now)) }
         ensures raised { OnErr result (O.failed outlet.new ≡ O.failed outlet.old + 1) }
     {
         let mut at = 0;
-        while at < samples.len() {
-            match self.push(&samples[at..], outlet) {
+        while at < levels.len() {
+            match self.push(&levels[at..], outlet) {
                 Ok(taken) => at += taken,
                 Err(fault) => return Err(fault),
             }
@@ -169,29 +169,29 @@ impl Encoding {
         Ok(())
     }
 
-    /// Takes the samples that a part of the bytes spells, for which `samples` has room, as `push_all` does.
+    /// Takes the samples that a part of the bytes spells, for which `levels` has room, as `push_all` does.
     fn push_part<O: Outlet>(
         &mut self,
         setting: &Setting,
         bytes: &[u8],
-        samples: &mut [i64],
+        levels: &mut [u32],
         outlet: &mut O,
     ) -> Result<(), Fault>
         requires ready { (old : Beginning) × (xs : List ℤ) ×
             IsEncodingOf setting.now old (O.taken outlet.old) self.old xs ×
             (length xs + length bytes.now ≤ 2 ^ 48) }
-        requires room { length bytes.now ≤ width setting.now * length samples.old }
+        requires room { length bytes.now ≤ width setting.now * length levels.old }
         requires writes { O.failed outlet.old + 1 < 2 ^ 64 }
         ensures did { (old : Beginning) (xs : List ℤ) →
             IsEncodingOf setting.now old (O.taken outlet.old) self.old xs →
             Pushes setting.now old (O.taken outlet.new) self.new xs bytes.now result }
         ensures failures { PushFails (O.failed outlet.old) (O.failed outlet.new) result }
-        ensures room { length samples.new ≡ length samples.old }
+        ensures room { length levels.new ≡ length levels.old }
     {
         let width = setting.width() as usize;
         let count = bytes.len() / width;
-        let found = samples_of(setting, &bytes[..count * width], &mut samples[..count]);
-        match self.push_each(&samples[..found], outlet) {
+        let found = levels_of(setting, &bytes[..count * width], &mut levels[..count]);
+        match self.push_each(&levels[..found], outlet) {
             Ok(()) => {}
             Err(_) => return Err(Fault::Write),
         }
@@ -204,30 +204,30 @@ impl Encoding {
     }
 
     /// Takes the samples that the bytes spell, some at a time, and writes the bytes that they complete. A last sample that is
-    /// cut is left. `samples` is scratch space.
+    /// cut is left. `levels` is scratch space.
     pub(crate) fn push_all<O: Outlet>(
         &mut self,
         setting: &Setting,
         bytes: &[u8],
-        samples: &mut [i64],
+        levels: &mut [u32],
         outlet: &mut O,
     ) -> Result<(), Fault>
         requires ready { (old : Beginning) × (xs : List ℤ) ×
             IsEncodingOf setting.now old (O.taken outlet.old) self.old xs ×
             (length xs + length bytes.now ≤ 2 ^ 48) }
-        requires some { (0 < length samples.old) × (length samples.old ≤ 2 ^ 48) }
+        requires some { (0 < length levels.old) × (length levels.old ≤ 2 ^ 48) }
         requires writes { O.failed outlet.old + 1 < 2 ^ 64 }
         ensures did { (old : Beginning) (xs : List ℤ) →
             IsEncodingOf setting.now old (O.taken outlet.old) self.old xs →
             Pushes setting.now old (O.taken outlet.new) self.new xs bytes.now result }
         ensures failures { PushFails (O.failed outlet.old) (O.failed outlet.new) result }
-        ensures room { length samples.new ≡ length samples.old }
+        ensures room { length levels.new ≡ length levels.old }
     {
-        let most = setting.width() as usize * samples.len();
+        let most = setting.width() as usize * levels.len();
         let mut at = 0;
         while at < bytes.len() {
             let count = most.min(bytes.len() - at);
-            match self.push_part(setting, &bytes[at..at + count], samples, outlet) {
+            match self.push_part(setting, &bytes[at..at + count], levels, outlet) {
                 Ok(()) => at += count,
                 Err(why) => return Err(why),
             }
@@ -354,7 +354,7 @@ pub fn encode<I: Intake, O: Outlet>(setting: &Setting, intake: &mut I, outlet: &
     let width = setting.width() as usize;
     let mut encoding = Encoding::new(*setting);
     let mut buffer = [0u8; PIECE];
-    let mut samples = [0i64; SAMPLES];
+    let mut levels = [0u32; SAMPLES];
     let mut waiting = 0;
     let mut given = 0u64;
     'fill_all: loop {
@@ -374,7 +374,7 @@ pub fn encode<I: Intake, O: Outlet>(setting: &Setting, intake: &mut I, outlet: &
         }
         given += count as u64;
         let filled = waiting + count;
-        match encoding.push_all(setting, &buffer[..filled], &mut samples, outlet) {
+        match encoding.push_all(setting, &buffer[..filled], &mut levels, outlet) {
             Ok(()) => {}
             Err(fault) => return encoding.stopped(fault),
         }

@@ -36,8 +36,8 @@ pub fn encode_more<O: Outlet>(
     let count = in_whole_segments(setting, all) - seam.samples;
     let part = &bytes[..width * count as usize];
     let mut encoding = Encoding::resume(*setting, seam);
-    let mut samples = [0i64; SAMPLES];
-    match encoding.push_all(setting, part, &mut samples, outlet) {
+    let mut levels = [0u32; SAMPLES];
+    match encoding.push_all(setting, part, &mut levels, outlet) {
         Ok(()) => Ok(encoding.seam()),
         Err(fault) => Err(fault),
     }
@@ -62,8 +62,8 @@ pub fn encode_rest<O: Outlet>(
     if is_too_long(width, seam.samples, bytes.len()) {
         return encoding.stopped(Fault::TooLong);
     }
-    let mut samples = [0i64; SAMPLES];
-    match encoding.push_all(setting, bytes, &mut samples, outlet) {
+    let mut levels = [0u32; SAMPLES];
+    match encoding.push_all(setting, bytes, &mut levels, outlet) {
         Ok(()) => {}
         Err(fault) => return encoding.stopped(fault),
     }

@@ -69,10 +69,12 @@ pub fn write_whole<const N: usize, O: Outlet>(
     }
 }
 
-/// Writes the bytes of the samples of a block, and leaves them in `bytes`. They stand there already if `again` is set.
+/// Writes the bytes of the samples of a block, `width` for each, and leaves them in `bytes`. They stand there already if `again`
+/// is set.
 #[inline(always)]
 pub fn write_block<O: Outlet>(
     setting: &Setting,
+    width: usize,
     again: bool,
     levels: &[u32],
     bytes: &mut [u8; 256],
@@ -81,6 +83,7 @@ pub fn write_block<O: Outlet>(
     requires legal { All (λ l. l < value_count setting.now) levels.now }
     requires few { length levels.now ≤ 64 }
     requires counted { O.failed outlet.old + 1 < 2 ^ 64 }
+    requires width { width ≡ width_of setting.now }
     requires again { again ≡ true → Spells setting.now (values_at setting.now levels.now) bytes.old }
     ensures ok { OnOk result (Appends (O.taken outlet.old) (O.taken outlet.new) (spellings setting.now (values_at setting.now levels.now)) ×
         (O.failed outlet.new ≡ O.failed outlet.old)) }
@@ -89,7 +92,7 @@ pub fn write_block<O: Outlet>(
     ensures spelled { Spells setting.now (values_at setting.now levels.now) bytes.new }
 {
     if again {
-        return write_front(&bytes[..setting.width() as usize * levels.len()], outlet);
+        return write_front(&bytes[..width * levels.len()], outlet);
     }
     write_samples(setting, levels, bytes, outlet)
 }

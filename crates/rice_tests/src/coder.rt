@@ -1,5 +1,5 @@
-ghost use Rattle.std.specs.Prelude.{◌≡◌, ℕ, ◌≤◌, true, All, length};
-ghost use Rattle.rice_samples.specs.Parameters.{IsSample};
+ghost use Rattle.std.specs.Prelude.{◌≡◌, ℕ, ◌<◌, ◌≤◌, true, All, length};
+ghost use Rattle.rice_samples.specs.Parameters.{value_count};
 
 use crate::table::{Columns, bytes_of, number_of, samples_of, setting_of};
 use rice_bits::{BitSink, Meter};
@@ -63,23 +63,38 @@ fn code(rt: &impl Abort, alloc: Global, setting: Setting, samples: &[i64]) -> Re
     })
 }
 
-fn are_in_range(setting: &Setting, samples: &[i64]) -> bool
-    ensures { result ≡ true → All (IsSample setting.now) samples.now }
+fn are_legal(setting: &Setting, levels: &[u32]) -> bool
+    ensures { result ≡ true → All (λ l. l < value_count setting.now) levels.now }
 {
-    for i in 0..samples.len() {
-        if !setting.in_range(samples[i]) {
+    for i in 0..levels.len() {
+        if levels[i] as u64 >= setting.values() {
             return false;
         }
     }
     true
 }
 
-/// Pushes as many samples as one call takes, after testing all that it requires but the room of the sink.
+/// Returns the levels of samples.
+fn levels_in(
+    rt: &impl Abort,
+    alloc: Global,
+    setting: &Setting,
+    samples: &[i64],
+) -> Result<Vec<u32>, Fail> {
+    let mut levels = Vec::new(alloc);
+    for &x in samples {
+        assert!(rt; setting.in_range(x));
+        levels.push(setting.level(x) as u32)?;
+    }
+    Ok(levels)
+}
+
+/// Pushes as many of the samples with these levels as one call takes, after testing all that it requires but the room of the sink.
 fn push_some(
     rt: &impl Abort,
     setting: &Setting,
     coder: &mut Coder,
-    samples: &[i64],
+    levels: &[u32],
     sink: &mut BitSink<16432>,
     meter: &mut Meter,
 ) -> Result<usize, Fail>
@@ -88,9 +103,9 @@ fn push_some(
     ensures setting { coder.new.setting ≡ setting.now }
 {
     let _block = setting.block();
-    assert!(rt; are_in_range(setting, samples));
+    assert!(rt; are_legal(setting, levels));
     assert!(rt; meter.steps() < 1 << 61);
-    Ok(coder.push_some(samples, sink, meter).samples)
+    Ok(coder.push_some(levels, sink, meter).samples)
 }
 
 /// Codes samples as `code` does, several at a time.
@@ -101,19 +116,21 @@ fn code_some(
     samples: &[i64],
 ) -> Result<Coded, Fail> {
     let _block = setting.block();
+    let levels = levels_in(rt, alloc, &setting, samples)?;
+    let levels = levels.as_slice();
     let mut coder = Coder::new(setting);
     let mut sink = BitSink::new();
     let mut meter = Meter::new();
     let mut bytes = Vec::new(alloc);
     let mut taken: usize = 0;
-    for _ in 0..samples.len() {
-        let rest = &samples[taken.min(samples.len())..];
+    for _ in 0..levels.len() {
+        let rest = &levels[taken.min(levels.len())..];
         let more = push_some(rt, &setting, &mut coder, rest, &mut sink, &mut meter)?;
         taken = taken.saturating_add(more);
         bytes.extend_from_slice(sink.whole())?;
         sink.drop_whole();
     }
-    assert_eq!(rt; taken, samples.len());
+    assert_eq!(rt; taken, levels.len());
     assert!(rt; meter.steps() < 1 << 61);
     coder.finish_reset(&mut sink, &mut meter);
     assert_eq!(rt; coder.pending(), 0);

@@ -1,11 +1,10 @@
 ghost use Rattle.std.specs.Prelude.{◌≡◌, ◌<◌, true, All};
-ghost use Rattle.rice_samples.specs.Parameters.{IsSample};
 
 use crate::table::{self, Columns, answer_to, bytes_of, setting_of};
 use rice_bits::{BitSink, Meter};
 use rice_samples::{
     Segment, Setting, SettingFault, bytes_of as bytes_of_sample, from_pattern, level_of_pattern,
-    levels_of_patterns, pattern, residual, restore, restore_all, sample_of, samples_of,
+    levels_of, levels_of_patterns, pattern, pattern_at, residual, restore, restore_all, sample_of,
     write_spellings, write_spellings_as,
 };
 use std::test::Fail;
@@ -163,6 +162,7 @@ fn patterns(rt: HostRuntime) -> Result<(), Fail> {
         assert_eq!(rt; setting.level(x), level as u64, "{line}");
         assert!(rt; (level as u64) < setting.values());
         assert_eq!(rt; setting.value_at(level as u64), x, "{line}");
+        assert_eq!(rt; pattern_at(&setting, level), word, "{line}");
     }
     Ok(())
 }
@@ -398,17 +398,6 @@ fn digits_of_a_block(rt: HostRuntime) {
     assert_eq!(rt; sink.whole(), digits.as_slice());
 }
 
-fn are_in_range(setting: &Setting, samples: &[i64]) -> bool
-    ensures { result ≡ true → All (IsSample setting.now) samples.now }
-{
-    for i in 0..samples.len() {
-        if !setting.in_range(samples[i]) {
-            return false;
-        }
-    }
-    true
-}
-
 fn are_below(count: u64, items: &[u32]) -> bool
     ensures { result ≡ true → All (λ d. d < count) items.now }
 {
@@ -424,13 +413,14 @@ fn are_below(count: u64, items: &[u32]) -> bool
 fn samples_in_a_row(rt: HostRuntime) -> Result<(), Fail> {
     let setting = of_bits(8, false)?;
     let signed = of_bits(8, true)?;
-    let samples = [6, 5, 5, 4, 0, 255, 0, 255];
-    let negative = [-1, -128, 127, 0, 1, 2, -2, -127];
-    assert!(rt; setting.in_range(5));
-    assert!(rt; are_in_range(&setting, &samples));
-    assert!(rt; are_in_range(&signed, &negative));
+    let levels = [6, 5, 5, 4, 0, 255, 0, 255];
+    // Those of -1, -128, 127, 0, 1, 2, -2 and -127.
+    let negative = [127, 0, 255, 128, 129, 130, 126, 1];
+    assert!(rt; 5 < setting.values());
+    assert!(rt; are_below(setting.values(), &levels));
+    assert!(rt; are_below(signed.values(), &negative));
     let mut segment = Segment::new();
-    segment.push_residuals(&setting, 5, &samples);
+    segment.push_residuals(&setting, 5, &levels);
     segment.push_patterns(&signed, &negative);
     assert_eq!(rt; segment.len(), 16);
     let mut meter = Meter::new();
@@ -493,7 +483,7 @@ const ROWS: &str = "3         | 4 | 1 2 255 254
     n32 m 3   | 3 | 16973822 8389121 50331652";
 
 #[test]
-fn samples_of_bytes(rt: HostRuntime) -> Result<(), Fail> {
+fn levels_of_bytes(rt: HostRuntime) -> Result<(), Fail> {
     let bytes = bytes_of("0102FFFE0080020103000004", rt.alloc())?;
     let bytes = bytes.as_slice();
     for line in ROWS.lines() {
@@ -505,8 +495,7 @@ fn samples_of_bytes(rt: HostRuntime) -> Result<(), Fail> {
         let width = setting.width() as usize;
         let mut read = [0; 4];
         assert!(rt; len <= 4 && width * len <= bytes.len());
-        let taken = samples_of(&setting, &bytes[..width * len], &mut read[..len]);
-        assert_eq!(rt; read[..taken], *expected, "{line}");
+        let taken = levels_of(&setting, &bytes[..width * len], &mut read[..len]);
         let end = width * expected.len();
         assert!(rt; end <= 12 && end <= bytes.len());
         assert!(rt; expected.len() <= 4);
@@ -516,6 +505,7 @@ fn samples_of_bytes(rt: HostRuntime) -> Result<(), Fail> {
             levels[i] = level_of(&setting, expected[i]);
         }
         let levels = &levels[..expected.len()];
+        assert_eq!(rt; read[..taken], *levels, "{line}");
         assert!(rt; are_below(setting.values(), levels));
         let mut back = [0; 12];
         write_spellings(&setting, levels, &mut back[..end]);

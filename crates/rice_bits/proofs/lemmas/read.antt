@@ -6,4 +6,5 @@ pub mod OnesLemmas
 pub mod PartsLemmas
 pub mod ReaderLemmas
 pub mod ShortWordsLemmas
+pub mod WideWords
 pub mod WindowLemmas

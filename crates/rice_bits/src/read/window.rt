@@ -9,6 +9,7 @@ use crate::bits::octets::{bits_from, load, store_zeros};
 use crate::read::ones::{find_ends, write_gaps};
 use crate::read::parts::write_parts;
 use crate::read::short_words::eight_from;
+use crate::read::wide_words::wide_four_from;
 use std::simd::prelude::*;
 
 /// The most bytes that are asked for at a time.
@@ -296,8 +297,11 @@ fn words_from(bytes: &[u8], at: usize, width: u32, words: &mut [u32])
     if width == 0 {
         return words.fill(0);
     }
-    if width > 8 || words.len() < 4 {
+    if width > 28 || words.len() < 4 {
         return each_from(bytes, at, width, words);
+    }
+    if width > 8 {
+        return wide_from(bytes, at, width, words);
     }
     if words.len() % 8 != 0 {
         return fours_from(bytes, at, width, words);
@@ -368,6 +372,62 @@ fn fours_from(bytes: &[u8], at: usize, width: u32, words: &mut [u32])
     }
     // The last four may begin among those before them.
     let four = four_from(bytes, at + last * width as usize, powers, width);
+    four.copy_to_slice(&mut words[last..]);
+}
+
+/// As `words_from`, for wide words.
+#[inline(always)]
+fn wide_from(bytes: &[u8], at: usize, width: u32, words: &mut [u32])
+    requires width { (1 ≤ width) × (width ≤ 28) }
+    requires some { 4 ≤ length words.old }
+    requires few { length words.old ≤ 64 }
+    requires within { at + length words.old * width ≤ most_waiting }
+    requires room { buffer_len ≤ length bytes.now }
+    ensures fit { All (λ v. v < 2 ^ width) words.new }
+    ensures bits { flat_map (word width) words.new
+        ≡ take (length words.new * width) (drop at (bits_of bytes.now)) }
+{
+    // More of them are taken elsewhere, so that this takes no registers from its caller.
+    if words.len() > 8 {
+        return many_wide_from(bytes, at, width, words);
+    }
+    wide_fours_from(bytes, at, width, words);
+}
+
+/// As `wide_from`, and is never inlined.
+#[inline(never)]
+fn many_wide_from(bytes: &[u8], at: usize, width: u32, words: &mut [u32])
+    requires width { (1 ≤ width) × (width ≤ 28) }
+    requires some { 4 ≤ length words.old }
+    requires few { length words.old ≤ 64 }
+    requires within { at + length words.old * width ≤ most_waiting }
+    requires room { buffer_len ≤ length bytes.now }
+    ensures fit { All (λ v. v < 2 ^ width) words.new }
+    ensures bits { flat_map (word width) words.new
+        ≡ take (length words.new * width) (drop at (bits_of bytes.now)) }
+{
+    wide_fours_from(bytes, at, width, words);
+}
+
+/// As `wide_from`, four words at a time.
+#[inline(always)]
+fn wide_fours_from(bytes: &[u8], at: usize, width: u32, words: &mut [u32])
+    requires width { (1 ≤ width) × (width ≤ 28) }
+    requires some { 4 ≤ length words.old }
+    requires few { length words.old ≤ 64 }
+    requires within { at + length words.old * width ≤ most_waiting }
+    requires room { buffer_len ≤ length bytes.now }
+    ensures fit { All (λ v. v < 2 ^ width) words.new }
+    ensures bits { flat_map (word width) words.new
+        ≡ take (length words.new * width) (drop at (bits_of bytes.now)) }
+{
+    let last = words.len() - 4;
+    for i in 0..(last + 3) / 4 {
+        let four = wide_four_from(bytes, at + 4 * i * width as usize, width);
+        four.copy_to_slice(&mut words[4 * i..]);
+    }
+    // The last four may begin among those before them.
+    let four = wide_four_from(bytes, at + last * width as usize, width);
     four.copy_to_slice(&mut words[last..]);
 }
 

@@ -137,6 +137,9 @@ fn read_rows_of<I: Intake>(
     ensures steps { meter.new + reader.old.taken ≡ meter.old + reader.new.taken }
     ensures limit { reader.new.taken ≤ 2 ^ 52 }
 {
+    if k == 0 {
+        return read_counts(reader, meter, most, residuals);
+    }
     let small = match read_counts(reader, meter, most, highs) {
         Ok(small) => small,
         Err(fault) => return Err(fault),

@@ -1,6 +1,6 @@
 //! The coder, from samples to code.
 ghost use Rattle.std.specs.Prelude.{◌≡◌, ℕ, ◌+◌, ◌*◌, ◌^◌, ◌<◌, ◌≤◌, ◌++◌, [], ◌∷◌, length, take, All, List, ℤ};
-ghost use Rattle.rice_samples.specs.Parameters.{IsSample};
+ghost use Rattle.rice_samples.specs.Parameters.{IsSample, value_count, values_at};
 ghost use Rattle.rice_samples.specs.Places.{cut};
 ghost use Rattle.rice_code.specs.Steps.{segment_steps};
 
@@ -113,31 +113,26 @@ impl Coder {
         }
     }
 
-    /// Takes samples from the front, up to and including the one that makes a segment whole, or all of
+    /// Takes the samples with these levels from the front, up to and including the one that makes a segment whole, or all of
     /// them. Does what `push` does with each of them in turn, so only the last of them appends code.
     ///
     /// A step is a sample, a bit put, padding aside, or a look at a residual.
-    pub fn push_some(
-        &mut self,
-        samples: &[i64],
-        sink: &mut SegmentSink,
-        meter: &mut Meter,
-    ) -> Pushed
-        requires samples { All (IsSample self.old.setting) samples.now }
+    pub fn push_some(&mut self, levels: &[u32], sink: &mut SegmentSink, meter: &mut Meter) -> Pushed
+        requires legal { All (λ l. l < value_count self.old.setting) levels.now }
         requires room { length sink.old ≤ 7 }
         requires meter { meter.old + segment_steps self.old.setting < 2 ^ 62 }
-        ensures taken { result.samples ≤ length samples.now }
-        ensures some { 0 < length samples.now → 0 < result.samples }
-        ensures pushes { PushesSamples self.old self.new (take result.samples samples.now)
-            sink.old sink.new result.bits meter.old meter.new }
+        ensures taken { result.samples ≤ length levels.now }
+        ensures some { 0 < length levels.now → 0 < result.samples }
+        ensures pushes { PushesSamples self.old self.new
+            (take result.samples (values_at self.old.setting levels.now)) sink.old sink.new result.bits meter.old meter.new }
         ensures before_last { (m : ℕ) → m < result.samples →
-            CompletesNone self.old (take m samples.now) }
-        ensures stops { result.samples < length samples.now →
-            CompletesAll self.old (take result.samples samples.now) }
+            CompletesNone self.old (take m (values_at self.old.setting levels.now)) }
+        ensures stops { result.samples < length levels.now →
+            CompletesAll self.old (take result.samples (values_at self.old.setting levels.now)) }
     {
-        let taken = samples.len().min(self.segment.room());
+        let taken = levels.len().min(self.segment.room());
         meter.tick(taken as u64);
-        self.segment.hold_all(&samples[..taken]);
+        self.segment.hold_all(&levels[..taken]);
         if self.segment.is_whole() {
             let bits = self.segment.code(sink, meter);
             self.segment.begin_next();

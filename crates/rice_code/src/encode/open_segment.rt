@@ -1,7 +1,7 @@
 //! The segment that a coder fills.
 ghost use Rattle.std.specs.Prelude.{◌≡◌, ℕ, ◌+◌, ◌-◌, ◌*◌, ◌/◌, ◌^◌, ◌<◌, ◌≤◌, ◌↔◌, ◌++◌, List, [], length, replicate, sum_by, if◌then◌else◌, ◌==◌, ◌&&◌, Some, None, false, IsTrue, All};
 ghost use Rattle.rice_bits.specs.Bits.{bits_to_byte};
-ghost use Rattle.rice_samples.specs.Parameters.{IsLegal, IsSample};
+ghost use Rattle.rice_samples.specs.Parameters.{IsLegal, IsSample, value_at, value_count, values_at};
 ghost use Rattle.rice_samples.specs.Places.{blocks_left};
 ghost use Rattle.rice_samples.specs.predict.Residuals.{pattern, rank};
 ghost use Rattle.rice_code.specs.Steps.{coding_steps};
@@ -11,7 +11,7 @@ use crate::encode::SegmentSink;
 use crate::encode::blocks::code_blocks;
 use crate::encode::prepared::PreparedSetting;
 use rice_bits::Meter;
-use rice_samples::{Segment, Setting, pattern, residual};
+use rice_samples::{Segment, Setting, pattern, pattern_at, residual};
 use std::marker::Model;
 
 /// The residuals of a segment that is not coded yet, and what is known of it.
@@ -25,20 +25,22 @@ pub struct OpenSegment {
     residuals: Segment,
     /// The reference of its first block.
     reference: Option<u32>,
-    /// The sample before the next.
-    previous: i64,
+    /// The level of the sample before the next.
+    previous: u32,
     /// The number of residuals that make it whole.
     end: usize,
 }
 
 impl Model for OpenSegment {
+    ghost use Rattle.std.specs.Prelude.{◌<◌};
+    ghost use Rattle.rice_samples.specs.Parameters.{value_at, value_count};
     ghost use Rattle.rice_code.specs.encode.OpenSegment.{CoderState, IsOpen};
 
     ghost Value = { CoderState };
 
-    ghost view = { λ c. record { setting = c.setting; residuals = c.residuals; reference = c.reference; previous = c.previous; start = c.start } };
+    ghost view = { λ c. record { setting = c.setting; residuals = c.residuals; reference = c.reference; previous = value_at c.setting c.previous; start = c.start } };
 
-    ghost invariant = { λ c. IsOpen (record { setting = c.setting; residuals = c.residuals; reference = c.reference; previous = c.previous; start = c.start }) c.end };
+    ghost invariant = { λ c. (c.previous < value_count c.setting) × IsOpen (record { setting = c.setting; residuals = c.residuals; reference = c.reference; previous = value_at c.setting c.previous; start = c.start }) c.end };
 }
 
 impl OpenSegment {
@@ -53,7 +55,7 @@ impl OpenSegment {
             start: 0,
             residuals: Segment::new(),
             reference: None,
-            previous: 0,
+            previous: level_of(&setting, 0),
             end,
         }
     }
@@ -71,7 +73,7 @@ impl OpenSegment {
             start,
             residuals: Segment::new(),
             reference: None,
-            previous,
+            previous: level_of(&setting, previous),
             end,
         }
     }
@@ -89,7 +91,7 @@ impl OpenSegment {
     pub fn previous(&self) -> i64
         ensures { result ≡ self.now.previous }
     {
-        self.previous
+        self.setting.plain().value_at(self.previous as u64)
     }
 
     /// Returns the number of residuals.
@@ -143,43 +145,46 @@ impl OpenSegment {
         ensures { self.new ≡ state_after self.old x }
     {
         let first = self.is_first();
-        let residual = next_residual(&self.setting, first, self.previous, x);
+        let previous = self.previous();
+        let residual = next_residual(&self.setting, first, previous, x);
         note_reference(&self.setting, first, &mut self.reference, x);
         self.residuals.push(residual);
-        self.previous = x;
+        self.previous = level_of(&self.setting, x);
     }
 
-    /// Adds the residuals of `samples`, for which the segment has room.
-    pub fn hold_all(&mut self, samples: &[i64])
-        requires samples { All (IsSample self.old.setting) samples.now }
-        requires room { length self.old.residuals + length samples.now ≤
+    /// Adds the residuals of the samples with these levels, for which the segment has room.
+    pub fn hold_all(&mut self, levels: &[u32])
+        requires legal { All (λ l. l < value_count self.old.setting) levels.now }
+        requires room { length self.old.residuals + length levels.now ≤
             self.old.setting.block * blocks_left self.old.setting self.old.start }
-        ensures { self.new ≡ state_after_all self.old samples.now }
+        ensures { self.new ≡ state_after_all self.old (values_at self.old.setting levels.now) }
     {
-        if samples.is_empty() {
+        if levels.is_empty() {
             return;
         }
         // The residual of a sample after itself is 0, as it is at a reference place.
         if self.is_reference_next() {
-            let first = samples[0];
-            self.reference = Some(pattern(self.setting.plain(), first));
-            self.hold_after(first, samples);
+            let first = levels[0];
+            self.reference = Some(pattern_at(self.setting.plain(), first));
+            self.hold_after(first, levels);
         } else {
-            self.hold_after(self.previous, samples);
+            self.hold_after(self.previous, levels);
         }
     }
 
-    /// Adds the residuals of samples: of the first one after the sample `before`, and of each other after the one before it.
-    fn hold_after(&mut self, before: i64, samples: &[i64])
-        requires some { 0 < length samples.now }
-        requires before { IsSample self.old.setting before }
-        requires samples { All (IsSample self.old.setting) samples.now }
-        requires room { length self.old.residuals + length samples.now ≤
+    /// Adds the residuals of samples: of the first one after the sample at level `before`, and of each other after the one before
+    /// it.
+    fn hold_after(&mut self, before: u32, levels: &[u32])
+        requires some { 0 < length levels.now }
+        requires before { before < value_count self.old.setting }
+        requires legal { All (λ l. l < value_count self.old.setting) levels.now }
+        requires room { length self.old.residuals + length levels.now ≤
             self.old.setting.block * blocks_left self.old.setting self.old.start }
-        ensures { self.new ≡ state_with_later self.old before samples.now }
+        ensures { self.new ≡ state_with_later self.old (value_at self.old.setting before)
+            (values_at self.old.setting levels.now) }
     {
-        push_later(&self.setting, before, samples, &mut self.residuals);
-        self.previous = samples[samples.len() - 1];
+        push_later(&self.setting, before, levels, &mut self.residuals);
+        self.previous = levels[levels.len() - 1];
     }
 
     /// Fills the last block by repeating the last sample, a step for each.
@@ -193,7 +198,8 @@ impl OpenSegment {
         let size = self.setting.block() as usize;
         let count = (size - self.residuals.len() % size) % size;
         let first = self.is_first();
-        let residual = next_residual(&self.setting, first, self.previous, self.previous);
+        let previous = self.previous();
+        let residual = next_residual(&self.setting, first, previous, previous);
         push_copies(&mut self.residuals, residual, count, meter);
     }
 
@@ -244,10 +250,20 @@ impl OpenSegment {
     {
         self.residuals.clear();
         self.reference = None;
-        self.previous = 0;
+        self.previous = level_of(&self.setting, 0);
         self.start = 0;
         self.end = residuals_from(&self.setting, 0);
     }
+}
+
+/// Returns the level of the sample `x`.
+#[inline]
+fn level_of(setting: &PreparedSetting, x: i64) -> u32
+    requires { IsSample setting.now x }
+    ensures below { result < value_count setting.now }
+    ensures value { value_at setting.now result ≡ x }
+{
+    setting.plain().level(x) as u32
 }
 
 /// Returns the number of whole blocks that `len` residuals make.
@@ -312,17 +328,18 @@ fn note_reference(setting: &PreparedSetting, first: bool, reference: &mut Option
     }
 }
 
-/// Adds the residuals of samples after `previous`, none of which is the first of an interval.
-fn push_later(setting: &PreparedSetting, previous: i64, samples: &[i64], segment: &mut Segment)
-    requires before { IsSample setting.now previous }
-    requires samples { All (IsSample setting.now) samples.now }
-    requires room { length segment.old + length samples.now ≤ 4096 }
-    ensures { segment.new ≡ segment.old ++ later_residuals setting.now previous samples.now }
+/// Adds the residuals of samples after the one at level `previous`, none of which is the first of an interval.
+fn push_later(setting: &PreparedSetting, previous: u32, levels: &[u32], segment: &mut Segment)
+    requires before { previous < value_count setting.now }
+    requires legal { All (λ l. l < value_count setting.now) levels.now }
+    requires room { length segment.old + length levels.now ≤ 4096 }
+    ensures { segment.new ≡ segment.old ++
+        later_residuals setting.now (value_at setting.now previous) (values_at setting.now levels.now) }
 {
     if setting.preprocess() {
-        segment.push_residuals(setting.plain(), previous, samples);
+        segment.push_residuals(setting.plain(), previous, levels);
     } else {
-        segment.push_patterns(setting.plain(), samples);
+        segment.push_patterns(setting.plain(), levels);
     }
 }
 

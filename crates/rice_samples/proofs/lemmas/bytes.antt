@@ -1,4 +1,5 @@
 -- Spelling, and reading samples from bytes.
 pub mod LevelPatterns
+pub mod ReadLevels
 pub mod ReadSamples
 pub mod SpellingLemmas

@@ -6,6 +6,7 @@ pub mod NarrowLanes
 pub mod NearLanes
 pub mod Patterns
 pub mod RankLaws
+pub mod RankedLevels
 pub mod Ranks
 pub mod ResidualLemmas
 pub mod RestoredLevels

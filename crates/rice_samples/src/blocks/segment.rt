@@ -1,7 +1,7 @@
 //! The residuals of a segment.
-ghost use Rattle.std.specs.Prelude.{◌≡◌, ℕ, ◌+◌, ◌*◌, ◌<◌, ◌≤◌, ◌↔◌, IsTrue, [], ◌∷◌, ◌++◌, All, length, map, slice_range, ℤ};
-ghost use Rattle.rice_samples.specs.Parameters.{IsSample};
-ghost use Rattle.rice_samples.specs.predict.Residuals.{pattern, ranks};
+ghost use Rattle.std.specs.Prelude.{◌≡◌, ℕ, ◌+◌, ◌*◌, ◌<◌, ◌≤◌, ◌↔◌, IsTrue, [], ◌∷◌, ◌++◌, All, length, map, slice_range};
+ghost use Rattle.rice_samples.specs.Parameters.{value_count, values_at};
+ghost use Rattle.rice_samples.specs.predict.Residuals.{pattern, ranks_below};
 ghost use Rattle.rice_samples.specs.Parameters.{IsBlockSize};
 
 use crate::predict::residuals::{write_patterns, write_residuals};
@@ -78,30 +78,31 @@ impl Segment {
         self.len += 1;
     }
 
-    /// Adds the residuals of the samples: of the first one after the sample `p`, and of each other after the one before it.
+    /// Adds the residuals of the samples with these levels: of the first one after the sample at level `p`, and of each other after
+    /// the one before it.
     #[inline]
-    pub fn push_residuals(&mut self, setting: &Setting, p: i64, samples: &[i64])
-        requires before { IsSample setting.now p }
-        requires samples { All (IsSample setting.now) samples.now }
-        requires room { length self.old + length samples.now ≤ 4096 }
-        ensures value { self.new ≡ self.old ++ ranks setting.now p samples.now }
-        ensures len { length self.new ≡ length self.old + length samples.now }
+    pub fn push_residuals(&mut self, setting: &Setting, p: u32, levels: &[u32])
+        requires before { p < value_count setting.now }
+        requires legal { All (λ l. l < value_count setting.now) levels.now }
+        requires room { length self.old + length levels.now ≤ 4096 }
+        ensures value { self.new ≡ self.old ++ ranks_below (value_count setting.now) p levels.now }
+        ensures len { length self.new ≡ length self.old + length levels.now }
     {
-        let end = self.len + samples.len();
-        write_residuals(setting, p, samples, &mut self.items[self.len..end]);
+        let end = self.len + levels.len();
+        write_residuals(setting, p, levels, &mut self.items[self.len..end]);
         self.len = end;
     }
 
-    /// Adds the patterns of the samples.
+    /// Adds the patterns of the samples with these levels.
     #[inline]
-    pub fn push_patterns(&mut self, setting: &Setting, samples: &[i64])
-        requires samples { All (IsSample setting.now) samples.now }
-        requires room { length self.old + length samples.now ≤ 4096 }
-        ensures value { self.new ≡ self.old ++ map (pattern setting.now) samples.now }
-        ensures len { length self.new ≡ length self.old + length samples.now }
+    pub fn push_patterns(&mut self, setting: &Setting, levels: &[u32])
+        requires legal { All (λ l. l < value_count setting.now) levels.now }
+        requires room { length self.old + length levels.now ≤ 4096 }
+        ensures value { self.new ≡ self.old ++ map (pattern setting.now) (values_at setting.now levels.now) }
+        ensures len { length self.new ≡ length self.old + length levels.now }
     {
-        let end = self.len + samples.len();
-        write_patterns(setting, samples, &mut self.items[self.len..end]);
+        let end = self.len + levels.len();
+        write_patterns(setting, levels, &mut self.items[self.len..end]);
         self.len = end;
     }
 

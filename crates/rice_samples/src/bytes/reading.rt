@@ -1,90 +1,114 @@
-//! Samples from the bytes of several.
-ghost use Rattle.std.specs.Prelude.{◌≡◌, ◌≢◌, true, ℕ, ◌*◌, ◌<◌, ◌≤◌, All, length, take, drop, flat_map, ℤ};
-ghost use Rattle.rice_samples.specs.Parameters.{IsSample, width as width_of};
-ghost use Rattle.rice_samples.specs.predict.Residuals.{twos_complement};
+//! Levels of samples from the bytes of several.
+ghost use Rattle.std.specs.Prelude.{◌≡◌, true, ◌*◌, ◌^◌, ◌<◌, ◌≤◌, All, length, take};
+ghost use Rattle.rice_samples.specs.Parameters.{value_count, values_at, width as width_of};
 ghost use Rattle.rice_samples.specs.bytes.Spelling.{ReadsSamples, spellings};
-ghost use Rattle.rice_samples.specs.bytes.Values.{IsValue, ordered_bytes};
+ghost use Rattle.rice_samples.specs.bytes.Values.{offset};
 
 use crate::Setting;
 use crate::bytes::spelling::sample_of;
-use crate::digits::{value_with, word_of};
+use crate::digits::word_of;
+use rice_bits::low_digits;
 
-/// Reads the samples that the bytes spell, `width()` bytes each, up to the first bytes that spell no sample, and returns
-/// their number. What `samples` holds after them is unspecified.
-pub fn samples_of(setting: &Setting, bytes: &[u8], samples: &mut [i64]) -> usize
-    requires { length bytes.now ≡ width_of setting.now * length samples.old }
-    ensures count { result ≤ length samples.new }
-    ensures len { length samples.new ≡ length samples.old }
-    ensures reads { ReadsSamples setting.now bytes.now samples.new result }
+/// Reads the levels of the samples that the bytes spell, `width()` bytes each, up to the first bytes that spell no sample, and
+/// returns their number. What `levels` holds after them is unspecified.
+pub fn levels_of(setting: &Setting, bytes: &[u8], levels: &mut [u32]) -> usize
+    requires { length bytes.now ≡ width_of setting.now * length levels.old }
+    ensures count { result ≤ length levels.new }
+    ensures len { length levels.new ≡ length levels.old }
+    ensures legal { All (λ l. l < value_count setting.now) (take result levels.new) }
+    ensures reads { ReadsSamples setting.now bytes.now (values_at setting.now levels.new) result }
 {
-    read_values_of(setting, bytes, samples);
+    read_levels_of(setting, bytes, levels);
     // Where samples have all bits of their bytes, any bytes spell samples.
-    if setting.bits() == 8 * setting.width() || are_samples(setting, samples) {
-        return samples.len();
+    if setting.bits() == 8 * setting.width() || are_legal(setting, levels) {
+        return levels.len();
     }
-    read_each(setting, bytes, samples)
+    read_each(setting, bytes, levels)
 }
 
-/// Returns whether all of these are values that a sample can have.
-fn are_samples(setting: &Setting, values: &[i64]) -> bool
-    ensures { result ≡ true → All (IsSample setting.now) values.now }
+/// Returns whether all of these are levels of samples.
+fn are_legal(setting: &Setting, levels: &[u32]) -> bool
+    ensures { result ≡ true → All (λ l. l < value_count setting.now) levels.now }
 {
-    let setting = *setting;
+    let greatest = (setting.values() - 1) as u32;
     let mut all = true;
-    for i in 0..values.len() {
-        all = all & setting.in_range(values[i]);
+    for i in 0..levels.len() {
+        all = all & (levels[i] <= greatest);
     }
     all
 }
 
-/// Reads the samples one by one, as `samples_of` does.
-fn read_each(setting: &Setting, bytes: &[u8], samples: &mut [i64]) -> usize
-    requires { length bytes.now ≡ width_of setting.now * length samples.old }
-    ensures count { result ≤ length samples.new }
-    ensures len { length samples.new ≡ length samples.old }
-    ensures reads { ReadsSamples setting.now bytes.now samples.new result }
+/// Reads the levels one by one, as `levels_of` does.
+fn read_each(setting: &Setting, bytes: &[u8], levels: &mut [u32]) -> usize
+    requires { length bytes.now ≡ width_of setting.now * length levels.old }
+    ensures count { result ≤ length levels.new }
+    ensures len { length levels.new ≡ length levels.old }
+    ensures legal { All (λ l. l < value_count setting.now) (take result levels.new) }
+    ensures reads { ReadsSamples setting.now bytes.now (values_at setting.now levels.new) result }
 {
     let setting = *setting;
     let width = setting.width() as usize;
-    for i in 0..samples.len() {
+    for i in 0..levels.len() {
         match sample_of(&setting, &bytes[width * i..width * i + width]) {
-            Some(x) => samples[i] = x,
+            Some(x) => levels[i] = setting.level(x) as u32,
             None => return i,
         }
     }
-    samples.len()
+    levels.len()
 }
 
-/// Reads the values that `width()` bytes each spell, of which not all need be samples.
-fn read_values_of(setting: &Setting, bytes: &[u8], samples: &mut [i64])
-    requires len { length bytes.now ≡ width_of setting.now * length samples.old }
-    ensures len { length samples.new ≡ length samples.old }
-    ensures values { All (IsValue (8 * width_of setting.now) setting.now.signed) samples.new }
-    ensures spelled { bytes.now ≡ spellings setting.now samples.new }
+/// Reads the levels of the values that `width()` bytes each spell, of which not all need be samples.
+fn read_levels_of(setting: &Setting, bytes: &[u8], levels: &mut [u32])
+    requires len { length bytes.now ≡ width_of setting.now * length levels.old }
+    ensures len { length levels.new ≡ length levels.old }
+    ensures fit { All (λ l. l < 2 ^ (8 * width_of setting.now)) levels.new }
+    ensures spelled { bytes.now ≡ spellings setting.now (values_at setting.now levels.new) }
 {
     // The loop is laid out for each of these: with a known width and order it reads a sample at one stroke.
     match (setting.width(), setting.msb(), setting.signed()) {
-        (1, msb, signed) => read_values(bytes, 1, msb, signed, samples),
-        (2, false, false) => read_values(bytes, 2, false, false, samples),
-        (2, true, false) => read_values(bytes, 2, true, false, samples),
-        (2, msb, signed) => read_values(bytes, 2, msb, signed, samples),
-        (3, false, signed) => read_values(bytes, 3, false, signed, samples),
-        (width, msb, signed) => read_values(bytes, width as usize, msb, signed, samples),
+        (1, msb, false) => read_levels(setting, 1, msb, false, bytes, levels),
+        (1, msb, signed) => read_levels(setting, 1, msb, signed, bytes, levels),
+        (2, false, false) => read_levels(setting, 2, false, false, bytes, levels),
+        (2, true, false) => read_levels(setting, 2, true, false, bytes, levels),
+        (2, msb, signed) => read_levels(setting, 2, msb, signed, bytes, levels),
+        (3, false, signed) => read_levels(setting, 3, false, signed, bytes, levels),
+        (width, msb, signed) => read_levels(setting, width as usize, msb, signed, bytes, levels),
     }
 }
 
-/// Reads the values that `width` bytes each spell.
+/// Reads the levels, as `read_levels_of` does. It is laid out for a width, an order of bytes and a sign that the compiler knows,
+/// which are those of the setting.
 #[inline(always)]
-fn read_values(bytes: &[u8], width: usize, msb: bool, signed: bool, samples: &mut [i64])
-    requires width { (1 ≤ width) × (width ≤ 4) }
-    requires len { length bytes.now ≡ width * length samples.old }
-    ensures len { length samples.new ≡ length samples.old }
-    ensures legal { All (IsValue (8 * width) signed) samples.new }
-    ensures spelled { bytes.now ≡
-        flat_map (λ x. ordered_bytes msb width (twos_complement (8 * width) x)) samples.new }
+fn read_levels(
+    setting: &Setting,
+    width: usize,
+    msb: bool,
+    signed: bool,
+    bytes: &[u8],
+    levels: &mut [u32],
+)
+    requires width { width ≡ width_of setting.now }
+    requires order { msb ≡ setting.now.msb }
+    requires signed { signed ≡ setting.now.signed }
+    requires len { length bytes.now ≡ width * length levels.old }
+    ensures len { length levels.new ≡ length levels.old }
+    ensures fit { All (λ l. l < 2 ^ (8 * width)) levels.new }
+    ensures spelled { bytes.now ≡ spellings setting.now (values_at setting.now levels.new) }
 {
-    for i in 0..samples.len() {
+    let _width = setting.width();
+    let offset = offset_with(setting, signed);
+    for i in 0..levels.len() {
         let word = word_of(&bytes[width * i..width * i + width], msb);
-        samples[i] = value_with(word, 8 * width as u32, signed);
+        levels[i] = low_digits(word.wrapping_add(offset), 8 * width as u32) as u32;
     }
+}
+
+/// Returns the number of legal values below 0. It is laid out for a sign that the compiler knows, which is that of the setting.
+#[inline(always)]
+fn offset_with(setting: &Setting, signed: bool) -> u32
+    requires { signed ≡ setting.now.signed }
+    ensures value { result ≡ offset setting.now }
+    ensures range { result ≤ 2 ^ 31 }
+{
+    if signed { setting.offset() as u32 } else { 0 }
 }

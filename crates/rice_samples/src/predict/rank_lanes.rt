@@ -1,65 +1,42 @@
 //! Residuals of samples of at most 16 bits, eight at a time.
-ghost use Rattle.std.specs.Prelude.{◌≡◌, ℕ, ◌+◌, ◌-◌, ◌*◌, ◌/◌, ◌^◌, ◌<◌, ◌≤◌, ◌∷◌, All, get_or, min, length, map, take, drop, ℤ};
+ghost use Rattle.std.specs.Prelude.{◌≡◌, ◌+◌, ◌-◌, ◌*◌, ◌/◌, ◌^◌, ◌<◌, ◌≤◌, ◌∷◌, All, get_or, min, length, take};
 ghost use Rattle.std.specs.Simd.Lanes.{zip2, Each1};
-ghost use Rattle.rice_samples.specs.Parameters.{IsSample, level, value_count};
-ghost use Rattle.rice_samples.specs.predict.Residuals.{ranks, rank_below};
+ghost use Rattle.rice_samples.specs.Parameters.{value_count};
+ghost use Rattle.rice_samples.specs.predict.Residuals.{rank_below, ranks_below};
 
 use crate::Setting;
 use std::simd::prelude::*;
 
-/// Writes the residuals of the first samples, eight at a time, as long as there are eight: of the first one after the sample
-/// `p`, and of each other after the one before it.
-pub(crate) fn write_eights(setting: &Setting, p: i64, samples: &[i64], residuals: &mut [u32])
+/// Writes the residuals of the first samples, eight at a time, as long as there are eight: of the first one after the sample at
+/// level `p`, and of each other after the one before it.
+pub(crate) fn write_eights(setting: &Setting, p: u32, levels: &[u32], residuals: &mut [u32])
     requires narrow { setting.now.bits ≤ 16 }
-    requires before { IsSample setting.now p }
-    requires samples { All (IsSample setting.now) samples.now }
-    requires len { length residuals.old ≡ length samples.now }
-    ensures len { length residuals.new ≡ length samples.now }
-    ensures value { take (8 * (length samples.now / 8)) residuals.new ≡
-        ranks setting.now p (take (8 * (length samples.now / 8)) samples.now) }
+    requires before { p < value_count setting.now }
+    requires legal { All (λ l. l < value_count setting.now) levels.now }
+    requires len { length residuals.old ≡ length levels.now }
+    ensures len { length residuals.new ≡ length levels.now }
+    ensures value { take (8 * (length levels.now / 8)) residuals.new ≡
+        ranks_below (value_count setting.now) p (take (8 * (length levels.now / 8)) levels.now) }
 {
-    let setting = *setting;
     let greatest = (setting.values() - 1) as u16;
-    let mut before = u16x8::splat(setting.level(p) as u16);
-    for i in 0..samples.len() / 8 {
-        let levels = eight_levels(&setting, &samples[8 * i..8 * i + 8]);
-        eight_ranks(greatest, last_before(before, levels), levels)
+    let mut before = u16x8::splat(p as u16);
+    for i in 0..levels.len() / 8 {
+        let eight = eight_narrow(&levels[8 * i..8 * i + 8]);
+        eight_ranks(greatest, last_before(before, eight), eight)
             .cast::<u32>()
             .copy_to_slice(&mut residuals[8 * i..]);
-        before = levels;
+        before = eight;
     }
 }
 
-/// Returns the levels of eight samples.
+/// Returns eight numbers below 2^16 in narrow lanes.
 #[inline(always)]
-fn eight_levels(setting: &Setting, samples: &[i64]) -> u16x8
-    requires narrow { setting.now.bits ≤ 16 }
-    requires samples { All (IsSample setting.now) samples.now }
-    requires eight { length samples.now ≡ 8 }
-    ensures levels { result ≡ map (level setting.now) samples.now }
-    ensures fit { Each1 (λ l. l < value_count setting.now) result }
+fn eight_narrow(numbers: &[u32]) -> u16x8
+    requires narrow { All (λ x. x < 2 ^ 16) numbers.now }
+    requires eight { length numbers.now ≡ 8 }
+    ensures { result ≡ numbers.now }
 {
-    u16x8::from_array([
-        narrow_level(setting, samples[0]),
-        narrow_level(setting, samples[1]),
-        narrow_level(setting, samples[2]),
-        narrow_level(setting, samples[3]),
-        narrow_level(setting, samples[4]),
-        narrow_level(setting, samples[5]),
-        narrow_level(setting, samples[6]),
-        narrow_level(setting, samples[7]),
-    ])
-}
-
-/// Returns the level of a sample.
-#[inline(always)]
-fn narrow_level(setting: &Setting, x: i64) -> u16
-    requires narrow { setting.now.bits ≤ 16 }
-    requires sample { IsSample setting.now x }
-    ensures value { result ≡ level setting.now x }
-    ensures below { result < value_count setting.now }
-{
-    setting.level(x) as u16
+    u32x8::from_slice(numbers).cast::<u16>()
 }
 
 /// Returns the last of the numbers `before`, and all but the last of `numbers`.
@@ -77,11 +54,12 @@ fn eight_ranks(greatest: u16, before: u16x8, numbers: u16x8) -> u16x8
     requires numbers { Each1 (λ x. x ≤ greatest) numbers }
     ensures { result ≡ zip2 (rank_below (greatest + 1)) before numbers }
 {
+    // One of the two ways is 0.
     let down = excess(before, numbers);
-    let distance = down + excess(numbers, before);
-    let nearer = distance - least(down, u16x8::splat(1));
+    let up = excess(numbers, before);
+    let nearer = up + excess(down, u16x8::splat(1));
     let reach = least(before, u16x8::splat(greatest) - before);
-    distance + least(nearer, reach)
+    down + up + least(nearer, reach)
 }
 
 /// Returns the lesser of two numbers in each lane.

@@ -1,79 +1,53 @@
-//! The residuals of samples in a row.
-ghost use Rattle.std.specs.Prelude.{◌≡◌, ℕ, ◌+◌, ◌^◌, ◌<◌, ◌≤◌, All, length, map, ℤ, pos, neg_ℤ, ◌≤ℤ◌};
-ghost use Rattle.std.specs.Int.{int_gap};
-ghost use Rattle.rice_samples.specs.Parameters.{IsSample, level};
-ghost use Rattle.rice_samples.specs.predict.Residuals.{pattern as pattern_of, ranks, ranks_below, last_of};
+//! The residuals of samples in a row, from their levels.
+ghost use Rattle.std.specs.Prelude.{◌≡◌, ◌+◌, ◌<◌, ◌≤◌, All, length, map};
+ghost use Rattle.rice_samples.specs.Parameters.{value_at, value_count, values_at};
+ghost use Rattle.rice_samples.specs.predict.Residuals.{pattern as pattern_of, ranks_below, last_number};
 
 use crate::Setting;
-use crate::predict::preprocessor::{pattern, rank_of};
+use crate::predict::preprocessor::rank_of;
 use crate::predict::rank_lanes::write_eights;
 
-/// Writes the residuals of the samples: of the first one after the sample `p`, and of each other after the one before it.
-pub(crate) fn write_residuals(setting: &Setting, p: i64, samples: &[i64], residuals: &mut [u32])
-    requires before { IsSample setting.now p }
-    requires samples { All (IsSample setting.now) samples.now }
-    requires len { length residuals.old ≡ length samples.now }
-    ensures { residuals.new ≡ ranks setting.now p samples.now }
+/// Writes the residuals of the samples with these levels: of the first one after the sample at level `p`, and of each other
+/// after the one before it.
+pub(crate) fn write_residuals(setting: &Setting, p: u32, levels: &[u32], residuals: &mut [u32])
+    requires before { p < value_count setting.now }
+    requires legal { All (λ l. l < value_count setting.now) levels.now }
+    requires len { length residuals.old ≡ length levels.now }
+    ensures { residuals.new ≡ ranks_below (value_count setting.now) p levels.now }
 {
     if setting.bits() > 16 {
-        write_wide(setting, p, samples, residuals);
+        write_wide(setting, p, levels, residuals);
         return;
     }
-    write_eights(setting, p, samples, residuals);
-    let end = 8 * (samples.len() / 8);
-    if end < samples.len() {
-        let last = last_sample(p, &samples[..end]);
-        write_wide(setting, last, &samples[end..], &mut residuals[end..]);
+    write_eights(setting, p, levels, residuals);
+    let end = 8 * (levels.len() / 8);
+    if end < levels.len() {
+        let last = last_level(p, &levels[..end]);
+        write_wide(setting, last, &levels[end..], &mut residuals[end..]);
     }
 }
 
-/// Returns the last of the samples, or `p` where there are none.
+/// Returns the last of the levels, or `p` where there are none.
 #[inline]
-fn last_sample(p: i64, samples: &[i64]) -> i64
-    ensures { result ≡ last_of p samples.now }
+fn last_level(p: u32, levels: &[u32]) -> u32
+    ensures { result ≡ last_number p levels.now }
 {
-    if samples.is_empty() {
+    if levels.is_empty() {
         return p;
     }
-    samples[samples.len() - 1]
+    levels[levels.len() - 1]
 }
 
 /// Writes the residuals of samples of any number of bits.
-fn write_wide(setting: &Setting, p: i64, samples: &[i64], residuals: &mut [u32])
-    requires before { IsSample setting.now p }
-    requires samples { All (IsSample setting.now) samples.now }
-    requires len { length residuals.old ≡ length samples.now }
-    ensures { residuals.new ≡ ranks setting.now p samples.now }
+fn write_wide(setting: &Setting, p: u32, levels: &[u32], residuals: &mut [u32])
+    requires before { p < value_count setting.now }
+    requires legal { All (λ l. l < value_count setting.now) levels.now }
+    requires len { length residuals.old ≡ length levels.now }
+    ensures { residuals.new ≡ ranks_below (value_count setting.now) p levels.now }
 {
     let greatest = (setting.values() - 1) as u32;
-    let before = setting.level(p) as u32;
-    write_levels(setting, samples, residuals);
-    fold(greatest, before, residuals);
-}
-
-/// Writes the patterns of the samples.
-pub(crate) fn write_patterns(setting: &Setting, samples: &[i64], patterns: &mut [u32])
-    requires samples { All (IsSample setting.now) samples.now }
-    requires len { length patterns.old ≡ length samples.now }
-    ensures { patterns.new ≡ map (pattern_of setting.now) samples.now }
-{
-    let setting = *setting;
-    for i in 0..samples.len() {
-        patterns[i] = pattern(&setting, samples[i]);
-    }
-}
-
-/// Writes the level of each sample: the number of legal values below it.
-fn write_levels(setting: &Setting, samples: &[i64], levels: &mut [u32])
-    requires samples { All (IsSample setting.now) samples.now }
-    requires len { length levels.old ≡ length samples.now }
-    ensures { levels.new ≡ map (level setting.now) samples.now }
-{
-    // One loop with nothing but this difference works on several samples at a time, and so does the fold.
-    let setting = *setting;
-    for i in 0..samples.len() {
-        levels[i] = setting.level(samples[i]) as u32;
-    }
+    residuals.copy_from_slice(levels);
+    fold(greatest, p, residuals);
 }
 
 /// Replaces numbers up to `greatest` by their ranks: of the first from `p`, and of each other from the one before it.
@@ -82,10 +56,38 @@ fn fold(greatest: u32, p: u32, numbers: &mut [u32])
     requires numbers { All (λ x. x ≤ greatest) numbers.old }
     ensures { numbers.new ≡ ranks_below (greatest + 1) p numbers.old }
 {
+    // One loop with nothing but this, in place, works on several numbers at a time.
     let mut before = p;
     for i in 0..numbers.len() {
         let number = numbers[i];
         numbers[i] = rank_of(greatest, before, number);
         before = number;
     }
+}
+
+/// Writes the patterns of the samples with these levels.
+pub(crate) fn write_patterns(setting: &Setting, levels: &[u32], patterns: &mut [u32])
+    requires legal { All (λ l. l < value_count setting.now) levels.now }
+    requires len { length patterns.old ≡ length levels.now }
+    ensures { patterns.new ≡ map (pattern_of setting.now) (values_at setting.now levels.now) }
+{
+    let setting = *setting;
+    if !setting.signed() {
+        patterns.copy_from_slice(levels);
+        return;
+    }
+    for i in 0..levels.len() {
+        patterns[i] = pattern_at(&setting, levels[i]);
+    }
+}
+
+/// Returns the n-bit pattern of the sample at a level.
+#[inline(always)]
+pub fn pattern_at(setting: &Setting, level: u32) -> u32
+    requires { level < value_count setting.now }
+    ensures value { result ≡ pattern_of setting.now (value_at setting.now level) }
+    ensures fits { result < value_count setting.now }
+{
+    let greatest = (setting.values() - 1) as u32;
+    level.wrapping_sub(setting.offset() as u32) & greatest
 }

@@ -128,15 +128,3 @@ pub join_below : (a b h l : ℕ) → h < 2 ^ a → l < 2 ^ b → h * 2 ^ b + l <
 join_below a b h l p q =
     let e : 2 ^ (a + b) ≡ 2 ^ b * 2 ^ a = pow-add 2 a b ∙ mul_comm (2 ^ a) (2 ^ b) in
     rw e (mul-add-lt h (2 ^ b) l (2 ^ a) p q)
-
-twice : (n : ℕ) → n % 2 ^ 64 * 2 % 2 ^ 64 ≡ n * 2 % 2 ^ 64
-twice n = omega arith
-
-regroup : (v p q : ℕ) → q ≡ p * 2 → v * p * 2 ≡ v * q
-regroup v p q e = rw e (omega arith)
-
--- a shift by some places and one more
-pub shifted_twice : (v a b : ℕ) → a ≡ b + 1 → v * 2 ^ b % 2 ^ 64 * 2 % 2 ^ 64 ≡ v * 2 ^ a % 2 ^ 64
-shifted_twice v a b e =
-    let power : 2 ^ a ≡ 2 ^ b * 2 = ap (λ n. 2 ^ n) e ∙ pow-add 2 b 1 in
-    twice (v * 2 ^ b) ∙ ap (λ n. n % 2 ^ 64) (regroup v (2 ^ b) (2 ^ a) power)

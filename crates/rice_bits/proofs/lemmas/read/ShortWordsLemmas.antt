@@ -1,20 +1,20 @@
 -- Words of a few digits, found in two bytes each.
-use Rattle.std.proofs.Common.{◌≡◌, ℕ, zero, suc, ◌+◌, ◌-◌, ◌*◌, ◌/◌, ◌%◌, ◌^◌, ◌<◌, ◌≤◌, Bool, false, List, [], ◌∷◌, ◌++◌, length, take, drop, get_or, map, replicate, length-append, refl, sym, ◌∙◌, ap, arith, subst, take-take, w8}
+use Rattle.std.proofs.Common.{◌≡◌, ℕ, zero, suc, ◌+◌, ◌-◌, ◌*◌, ◌/◌, ◌%◌, ◌^◌, ◌<◌, ◌≤◌, Bool, false, List, [], ◌∷◌, ◌++◌, length, take, drop, get_or, map, replicate, refl, sym, ◌∙◌, ap, arith, subst, take-take, w8}
 use Rattle.std.specs.Prelude.{All, flat_map, slice_index}
 use Rattle.std.specs.Simd.Lanes.{Each1, digits_l, number_l}
 use Rattle.std.proofs.Math.Nat.{div-div-eq-div-mul, pow-suc}
 use Rattle.std.proofs.Math.Seq.{take-add}
 use Rattle.std.proofs.lemmas.Grind.{same_number_lists}
-use Rattle.std.proofs.lemmas.List.{length-replicate, drop-drop, drop-take, take-append-le}
+use Rattle.std.proofs.lemmas.List.{drop-drop, drop-take}
 use Rattle.std.proofs.lemmas.List.Elements.{All-cons, All-nil}
 use Rattle.std.proofs.lemmas.Nat.{pow_pos}
 use Rattle.std.proofs.lemmas.Simd.{get_or_narrower, get_or_wider, get_or-swz_l_below, SwzOk, SwzOk-from_below, swz_l}
 use Rattle.rice_bits.specs.Bits.{word}
 use Rattle.rice_bits.specs.read.ShortWords.{eight, word_places}
 use Rattle.rice_bits.proofs.lemmas.bits.EightBytes.{word-mod}
-use Rattle.rice_bits.proofs.lemmas.bits.FirstOnes.{front_below, take-front, word-moved, word-parts}
+use Rattle.rice_bits.proofs.lemmas.bits.FirstOnes.{front_below, take-front}
 use Rattle.rice_bits.proofs.lemmas.bits.Words.{length-word, word-split}
-use Rattle.rice_bits.proofs.lemmas.read.WindowLemmas.{drop-seam}
+use Rattle.rice_bits.proofs.lemmas.read.WindowLemmas.{drop-seam, front-ahead, word-behind}
 
 each-of : (P : ℕ → Type 0) (xs : List ℕ) → All P xs → Each1 P xs
 each-of P [] h = tt
@@ -104,18 +104,14 @@ lane-word x w q s few shift place =
     let bits = word 64 x in
     let y = x / 2 ^ (48 - 8 * q) in
     let m = y % 2 ^ 16 in
-    let z = m * 2 ^ s % 2 ^ 16 in
     let last : 48 - 8 * q ≡ 64 - (8 * q + 16) = omega (arith, place) in
     let both : word (8 * q + 16) y ≡ take (8 * q + 16) bits = ap (λ n. word (8 * q + 16) (x / 2 ^ n)) last ∙ sym (take-front 64 (8 * q + 16) x (omega (arith, place))) in
     let sixteen : word 16 y ≡ take 16 (drop (8 * q) bits) =
     sym (word-mod 16 16 y (omega arith)) ∙ (sym (drop-seam (word (8 * q) (y / 2 ^ 16)) (word 16 (y % 2 ^ 16)) (8 * q) (length-word (8 * q) (y / 2 ^ 16)))
     ∙ (ap (drop (8 * q)) (sym (word-split (8 * q) 16 y) ∙ both) ∙ drop-take (8 * q) 16 bits)) in
-    let rest : word (16 - s) m ≡ drop s (word 16 y) =
-    sym (drop-seam (word s (m / 2 ^ (16 - s))) (word (16 - s) m) s (length-word s (m / 2 ^ (16 - s)))) ∙ ap (drop s) (sym (word-parts 16 s m (omega (arith, shift))) ∙ word-mod 16 16 y (omega arith)) in
     let size : s + (16 - s) ≡ 16 = omega (arith, shift) in
-    let front : word w (z / 2 ^ (16 - w)) ≡ take w (word (16 - s) m) =
-    sym (take-front 16 w z (omega (arith, few))) ∙ (ap (take w) (word-moved 16 s m (omega (arith, shift))) ∙ take-append-le w (word (16 - s) m) _ (omega (arith, few, shift, length-word (16 - s) m))) in
-    front ∙ (ap (take w) (rest ∙ ap (drop s) (sixteen ∙ ap (λ n. take n (drop (8 * q) bits)) (sym size)))
+    word-behind 16 w s m (omega (arith, few, shift))
+    ∙ (ap (λ v. take w (drop s v)) (word-mod 16 16 y (omega arith) ∙ (sixteen ∙ ap (λ n. take n (drop (8 * q) bits)) (sym size)))
     ∙ (ap (take w) (drop-take s (16 - s) (drop (8 * q) bits) ∙ ap (take (16 - s)) (drop-drop s (8 * q) bits)) ∙ take-take w (16 - s) (drop (8 * q + s) bits) (omega (arith, few, shift))))
 
 -- words of `w` bits from a place on
@@ -163,7 +159,4 @@ lanes-fit x w few = all eight
 -- eight words at the front of a word
 pub eight-ahead : (width s r : ℕ) (bits : List Bool) (eight : List ℕ) → width ≤ 7 → s < 8 → word 64 r ≡ take (64 - s) bits ++ replicate s false
     → flat_map (word width) eight ≡ take (8 * width) (word 64 r) → flat_map (word width) eight ≡ take (8 * width) bits
-eight-ahead width s r bits eight h few ahead e =
-    let front = take (64 - s) bits in
-    let long : 8 * width ≤ length front = omega (arith, h, few, ap length ahead, length-word 64 r, length-append front (replicate s false), length-replicate s false) in
-    e ∙ (ap (take (8 * width)) ahead ∙ (take-append-le (8 * width) front (replicate s false) long ∙ take-take (8 * width) (64 - s) bits (omega (arith, h, few))))
+eight-ahead width s r bits eight h few ahead e = e ∙ front-ahead bits (8 * width) (64 - s) s r (omega (arith, h, few)) (omega (arith, few)) ahead

@@ -11,7 +11,7 @@ use Rattle.std.proofs.lemmas.Simd.{length-put_chunk, take_more_put_chunk}
 use Rattle.std.proofs.Math.Seq.{drop-append_seam, take-add, take-append_seam}
 use Rattle.std.proofs.lemmas.Bool.{cases_lt}
 use Rattle.std.proofs.lemmas.Bool.Decides.{nat_tests}
-use Rattle.std.proofs.lemmas.List.Elements.{All-append}
+use Rattle.std.proofs.lemmas.List.Elements.{All-append, All-take}
 use Rattle.std.proofs.lemmas.List.{append-nil, drop-append-le, drop-drop, drop-take, length-drop, length-replicate, length-take-le, replicate-append-replicate, take-append-drop, take-append-le, take-replicate, take_all, take_at, take_more_set}
 use Rattle.rice_bits.specs.Bits.{fundamental_sequence, word, bits_of}
 use Rattle.rice_bits.specs.read.Window.{IsWindow, Passes, bits_near, window_bits, window_passed}
@@ -149,11 +149,14 @@ bits-ahead bytes at v h eight =
     word-moved 64 s v (omega arith) ∙ ap (λ z. z ++ replicate s false) rest
 
 -- the first of the bits at the front of a word, with zeros after them
-pub first-ahead : (bits : List Bool) (n m k r : ℕ) → n ≤ m → m + k ≡ 64 → word 64 r ≡ take m bits ++ replicate k false → word n (r / 2 ^ (64 - n)) ≡ take n bits
-first-ahead bits n m k r h all e =
+pub front-ahead : (bits : List Bool) (n m k r : ℕ) → n ≤ m → m + k ≡ 64 → word 64 r ≡ take m bits ++ replicate k false → take n (word 64 r) ≡ take n bits
+front-ahead bits n m k r h all e =
     let len : length (take m bits) ≡ m = omega (arith, all, ap length e, length-word 64 r, length-append (take m bits) (replicate k false), length-replicate k false) in
-    sym (take-front 64 n r (omega (arith, h, all)))
-    ∙ (ap (take n) e ∙ (take-append-le n (take m bits) (replicate k false) (omega (arith, h, len)) ∙ take-take n m bits h))
+    ap (take n) e ∙ (take-append-le n (take m bits) (replicate k false) (omega (arith, h, len)) ∙ take-take n m bits h)
+
+-- the same, of the number that the first spell
+pub first-ahead : (bits : List Bool) (n m k r : ℕ) → n ≤ m → m + k ≡ 64 → word 64 r ≡ take m bits ++ replicate k false → word n (r / 2 ^ (64 - n)) ≡ take n bits
+first-ahead bits n m k r h all e = sym (take-front 64 n r (omega (arith, h, all))) ∙ front-ahead bits n m k r h all e
 
 -- all bits that wait, and zeros after them
 pub near-ahead : (w : Window) (r : ℕ) → IsWindow w → word 64 r ≡ take (64 - w.at % 8) (drop w.at (bits_of w.buffer)) ++ replicate (w.at % 8) false
@@ -224,10 +227,18 @@ words-front width n xs h =
     sym (ap (take (n * width)) both ∙ take_at front (flat_map (word width) (drop n xs)) (n * width) len)
 
 -- the last four words, of which some may be written again
-pub fours-last : (count : ℕ) (now four : List ℕ) → length now ≡ count → length four ≡ 4 → 4 ≤ count → put_chunk (count - 4) now four ≡ take (count - 4) now ++ four
+fours-last : (count : ℕ) (now four : List ℕ) → length now ≡ count → length four ≡ 4 → 4 ≤ count → put_chunk (count - 4) now four ≡ take (count - 4) now ++ four
 fours-last count now four len e h =
     let written = put_chunk (count - 4) now four in
     sym (take_all count written (omega (arith, len, length-put_chunk (count - 4) now four))) ∙ take_more_put_chunk (count - 4) now four count (omega (arith, e, h)) (omega (arith, len))
+
+-- what holds of each word before the last four and of these holds of all
+pub all-last : (P : ℕ → Type 0) (m count : ℕ) (now four : List ℕ) → length now ≡ count → length four ≡ 4 → 4 ≤ count → count ≤ m + 4
+    → All P (take m now) → All P four → All P (put_chunk (count - 4) now four)
+all-last P m count now four len e h reach before behind =
+    let part : count - 4 ≤ m = omega (arith, reach) in
+    let front : All P (take (count - 4) now) = subst (All P) (take-take (count - 4) m now part) (All-take P (count - 4) (take m now) before) in
+    subst (All P) (sym (fours-last count now four len e h)) (All-append P (take (count - 4) now) four front behind)
 
 pub words-last : (width : ℕ) (bits : List Bool) (from m count : ℕ) (now four : List ℕ) → length now ≡ count → length four ≡ 4 → 4 ≤ count → m ≤ count → count ≤ m + 4
     → flat_map (word width) (take m now) ≡ take (m * width) (drop from bits)
@@ -267,14 +278,22 @@ pub front-waits : (w : Window) (n : ℕ) → n ≤ w.end - w.at → take n (wind
 unfolding window_bits
 front-waits w n h = take-take n (w.end - w.at) (drop w.at (bits_of w.buffer)) h
 
--- a word after the first digits of 32
-word-behind : (w s x : ℕ) → s + w ≤ 32 → word w (x * 2 ^ s % 2 ^ 32 / 2 ^ (32 - w)) ≡ take w (drop s (word 32 x))
-word-behind w s x h =
-    let front = word s (x / 2 ^ (32 - s)) in
-    let rest : drop s (word 32 x) ≡ word (32 - s) x =
-    ap (drop s) (word-parts 32 s x (omega arith)) ∙ drop-seam front (word (32 - s) x) s (length-word s (x / 2 ^ (32 - s))) in
-    sym (take-front 32 w (x * 2 ^ s % 2 ^ 32) (omega arith)) ∙ (ap (take w) (word-moved 32 s x (omega arith))
-    ∙ (take-append-le w (word (32 - s) x) (replicate s false) (omega (arith, length-word (32 - s) x)) ∙ ap (take w) (sym rest)))
+-- a word after the first digits of a longer one
+pub word-behind : (size w s x : ℕ) → s + w ≤ size → word w (x * 2 ^ s % 2 ^ size / 2 ^ (size - w)) ≡ take w (drop s (word size x))
+word-behind size w s x h =
+    let front = word s (x / 2 ^ (size - s)) in
+    let rest : drop s (word size x) ≡ word (size - s) x =
+    ap (drop s) (word-parts size s x (omega arith)) ∙ drop-seam front (word (size - s) x) s (length-word s (x / 2 ^ (size - s))) in
+    sym (take-front size w (x * 2 ^ s % 2 ^ size) (omega arith)) ∙ (ap (take w) (word-moved size s x (omega arith))
+    ∙ (take-append-le w (word (size - s) x) (replicate s false) (omega (arith, length-word (size - s) x)) ∙ ap (take w) (sym rest)))
+
+-- what holds of each of four words
+pub all-four : (P : ℕ → Type 0) (a b c d : ℕ) → P a → P b → P c → P d → All P (a ∷ b ∷ c ∷ d ∷ [])
+all-four P a b c d p q r s zero o lt = p
+all-four P a b c d p q r s (suc zero) o lt = q
+all-four P a b c d p q r s (suc (suc zero)) o lt = r
+all-four P a b c d p q r s (suc (suc (suc zero))) o lt = s
+all-four P a b c d p q r s (suc (suc (suc (suc i)))) o lt = absurd (omega arith)
 
 -- four words in a row
 pub four-behind : (w x : ℕ) → w ≤ 8
@@ -285,10 +304,10 @@ four-behind w x h =
     let two : w + w ≡ 2 * w = omega arith in
     let three : 2 * w + w ≡ 3 * w = omega arith in
     let four : 3 * w + w ≡ 4 * w = omega arith in
-    let a = word-behind w 0 x (omega arith) in
-    let b = word-behind w w x (omega arith) in
-    let c = word-behind w (2 * w) x (omega arith) in
-    let d = word-behind w (3 * w) x (omega arith) in
+    let a = word-behind 32 w 0 x (omega arith) in
+    let b = word-behind 32 w w x (omega arith) in
+    let c = word-behind 32 w (2 * w) x (omega arith) in
+    let d = word-behind 32 w (3 * w) x (omega arith) in
     rw (a, b, c, d) (joined (take w bits) (take w (drop w bits)) (take w (drop (2 * w) bits)) (take w (drop (3 * w) bits))
     ∙ (ap (λ k. (k ++ take w (drop (2 * w) bits)) ++ take w (drop (3 * w) bits)) (sym (take-add w w bits) ∙ ap (λ n. take n bits) two)
     ∙ (ap (λ k. k ++ take w (drop (3 * w) bits)) (sym (take-add (2 * w) w bits) ∙ ap (λ n. take n bits) three)

@@ -1,14 +1,15 @@
 -- What is read of a block after its identifier.
 use Rattle.std.proofs.Common.{◌≡◌, ℕ, zero, suc, ◌+◌, ◌-◌, ◌*◌, ◌/◌, ◌%◌, ◌^◌, ◌<◌, ◌≤◌, Bool, true, false, List, [], ◌∷◌, ◌++◌, length, refl, sym, ◌∙◌, ap, subst, arith, append_assoc, length-append, replicate, take, drop, length-drop, Option, Some, None, ◌⊎◌, inl, inr}
 use Rattle.std.specs.Prelude.{All, flat_map, is_some, slice_index, OnSome}
-use Rattle.std.proofs.lemmas.List.{append-nil, length-take-le, take-append-drop}
+use Rattle.std.proofs.lemmas.List.{append-nil, length-replicate, length-take-le, take-append-drop}
+use Rattle.std.proofs.lemmas.List.Elements.{All-replicate}
 use Rattle.rice_bits.specs.Bits.{word, fundamental_sequence}
 use Rattle.rice_bits.specs.read.Reader.{Reader, Takes, Stops}
 use Rattle.rice_bits.specs.declared.read.fault.BitFault.{BitFault}
 use Rattle.rice_bits.proofs.lemmas.bits.OneWay.{sequence_reads}
 use Rattle.rice_bits.proofs.lemmas.read.ReaderLemmas.{takes-append, stops-append}
 pub use Rattle.rice_bits.proofs.lemmas.bits.Joining.{up_to_end}
-use Rattle.rice_bits.proofs.lemmas.bits.Words.{length-word}
+use Rattle.rice_bits.proofs.lemmas.bits.Words.{length-word, word-nil}
 use Rattle.rice_samples.specs.Parameters.{Parameters, IsLegal, value_count, k_max}
 use Rattle.rice_samples.specs.Places.{is_reference}
 use Rattle.rice_code.specs.code.Blocks.{BlockData}
@@ -232,6 +233,32 @@ parts_read old mid new most k small count told lows residuals high low joined = 
   told = λ e. ((high.told_are e).1, joined e ∙ (ap (λ xs. joined_parts k xs lows) (high.told_are e).0 ∙ ap (joined_parts k high.values) low.appended));
   refused = high.refused;
 }
+
+no_digits : (xs : List ℕ) → flat_map (word 0) xs ≡ []
+no_digits [] = refl
+no_digits (x ∷ xs) = ap (λ bits. bits ++ flat_map (word 0) xs) (word-nil x) ∙ no_digits xs
+
+alone : (ms : List ℕ) → joined_parts 0 ms (replicate (length ms) 0) ≡ ms
+alone [] = refl
+alone (m ∷ ms) =
+    let same : m * 2 ^ 0 + 0 ≡ m = omega arith in
+    λ i. same i ∷ alone ms i
+
+-- parts without low digits are the counts alone
+pub counts_read : {I : Type 0} (old new : Reader I) (most : ℕ) (small : Bool) (count : ℕ) (told : List ℕ) → CountRow old new most small count told → PartsRead old new most 0 small count told
+counts_read old new most small count told high =
+    let ms = high.values in
+    let lows : List ℕ = replicate (length ms) 0 in
+    record {
+      highs = ms;
+      lows = lows;
+      as_many_highs = high.len;
+      as_many_lows = length-replicate (length ms) 0 ∙ high.len;
+      low = All-replicate (λ v. v < 1) (length ms) 0 (omega arith);
+      takes = subst (λ bits. Takes old new bits) (sym (ap (λ bits. flat_map fundamental_sequence ms ++ bits) (no_digits lows) ∙ append-nil (flat_map fundamental_sequence ms))) high.takes;
+      told = λ e. ((high.told_are e).1, (high.told_are e).0 ∙ sym (alone ms));
+      refused = high.refused;
+    }
 
 -- high and low parts that waited together
 pub parts_waited : {I : Type 0} (old new : Reader I) (most k : ℕ) (small : Bool) (residuals : List ℕ) → TakesParts old new k residuals

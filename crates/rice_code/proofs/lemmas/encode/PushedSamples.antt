@@ -4,11 +4,12 @@ use Rattle.std.specs.List.{AllByRecursion}
 use Rattle.std.proofs.Math.Nat.{mul-le-mul_left}
 use Rattle.std.proofs.Math.Seq.{take-length}
 use Rattle.std.proofs.lemmas.Bool.{cases_lt}
-use Rattle.std.proofs.lemmas.List.{length-take-le}
+use Rattle.std.proofs.lemmas.List.{length-take-le, take-map}
 use Rattle.std.proofs.lemmas.List.Elements.{recursion_from_All, All-take}
-use Rattle.rice_samples.specs.Parameters.{IsSample}
+use Rattle.rice_samples.specs.Parameters.{Parameters, IsSample, value_at, value_count, values_at}
 use Rattle.rice_samples.specs.Places.{blocks_left, cut}
 use Rattle.rice_samples.proofs.lemmas.setting.PlaceLemmas.{some_left}
+use Rattle.rice_samples.proofs.lemmas.setting.ValuesAt.{legal_values, length-values}
 use Rattle.rice_code.specs.encode.Coder.{HasTaken, IsCoder, PushesSamples, CompletesNone, CompletesAll, complete_samples}
 use Rattle.rice_code.specs.encode.OpenSegment.{CoderState, IsWhole, state_after, state_after_all, state_after_segment, next_residual, HoldsSoundBlocks, CodesHeld}
 use Rattle.rice_code.specs.Steps.{coding_steps, segment_steps}
@@ -109,7 +110,7 @@ pub record HoldsMore (value coder held : CoderState) (ys : List ℤ) : Type 0 wh
   pub holds : held ≡ state_after_all coder ys
 
 -- the first t of several samples,
-pub holds_first : (value coder held : CoderState) (xs : List ℤ) (t : ℕ) → coder ≡ value → IsCoder coder → All (IsSample value.setting) xs → length coder.residuals + t ≤ coder.setting.block * blocks_left coder.setting coder.start → t ≤ length xs →
+holds_first : (value coder held : CoderState) (xs : List ℤ) (t : ℕ) → coder ≡ value → IsCoder coder → All (IsSample value.setting) xs → length coder.residuals + t ≤ coder.setting.block * blocks_left coder.setting coder.start → t ≤ length xs →
     held ≡ state_after_all coder (take t xs) → HoldsMore value coder held (take t xs)
 holds_first value coder held xs t e k legal room few g = record {
   same = e;
@@ -119,8 +120,19 @@ holds_first value coder held xs t e k legal room few g = record {
   holds = g;
 }
 
-pub steps_of_first : (xs : List ℤ) (t m0 m1 : ℕ) → t ≤ length xs → m1 ≡ m0 + t → m1 ≡ m0 + length (take t xs)
+steps_of_first : (xs : List ℤ) (t m0 m1 : ℕ) → t ≤ length xs → m1 ≡ m0 + t → m1 ≡ m0 + length (take t xs)
 steps_of_first xs t m0 m1 few steps = let len : length (take t xs) ≡ t = length-take-le t xs few in omega (arith, len, steps)
+
+-- which are given by their levels,
+pub holds_levels : (value coder held : CoderState) (levels : List ℕ) (t : ℕ) → coder ≡ value → IsCoder coder → All (λ l. l < value_count value.setting) levels → length coder.residuals + t ≤ coder.setting.block * blocks_left coder.setting coder.start → t ≤ length levels →
+    held ≡ state_after_all coder (values_at coder.setting (take t levels)) → HoldsMore value coder held (take t (values_at value.setting levels))
+holds_levels value coder held levels t e k legal room few g =
+    let s = value.setting in
+    let same : values_at coder.setting (take t levels) ≡ take t (values_at s levels) = ap (λ (v : CoderState). values_at v.setting (take t levels)) e ∙ sym (take-map (value_at s) t levels) in
+    holds_first value coder held (values_at s levels) t e k (legal_values s levels legal) room (omega (arith, few, length-values s levels)) (g ∙ ap (state_after_all coder) same)
+
+pub steps_of_levels : (s : Parameters) (levels : List ℕ) (t m0 m1 : ℕ) → t ≤ length levels → m1 ≡ m0 + t → m1 ≡ m0 + length (take t (values_at s levels))
+steps_of_levels s levels t m0 m1 few steps = steps_of_first (values_at s levels) t m0 m1 (omega (arith, few, length-values s levels)) steps
 
 -- or one
 pub holds_one : (value coder held : CoderState) (x y : ℤ) → coder ≡ value → IsCoder coder → IsSample value.setting x → y ≡ x → held ≡ state_after coder y → HoldsMore value coder held (x ∷ [])
@@ -183,12 +195,18 @@ open_pushes value coder held ys sink m0 m1 h not_whole steps =
     })
 
 -- Before the last of the first t samples none completes a segment.
-pub none_before_last : (value coder : CoderState) (xs : List ℤ) (t m : ℕ) → coder ≡ value → All (IsSample value.setting) xs → length coder.residuals + t ≤ coder.setting.block * blocks_left coder.setting coder.start → t ≤ length xs → m < t → CompletesNone value (take m xs)
+none_before_last : (value coder : CoderState) (xs : List ℤ) (t m : ℕ) → coder ≡ value → All (IsSample value.setting) xs → length coder.residuals + t ≤ coder.setting.block * blocks_left coder.setting coder.start → t ≤ length xs → m < t → CompletesNone value (take m xs)
 none_before_last value coder xs t m e legal room few less =
     let all : All (IsSample coder.setting) xs = subst (λ (v : CoderState). All (IsSample v.setting) xs) (sym e) legal in
     let firsts = recursion_from_All (IsSample coder.setting) (take m xs) (All-take (IsSample coder.setting) m xs all) in
     let len : length (take m xs) ≡ m = length-take-le m xs (omega (arith, less, few)) in
     subst (λ v. CompletesNone v (take m xs)) e (λ zs k. (several_stay_open coder (take m xs) zs k firsts (omega (arith, len, less, room))).1)
+
+pub none_before_level : (value coder : CoderState) (levels : List ℕ) (t m : ℕ) → coder ≡ value → All (λ l. l < value_count value.setting) levels → length coder.residuals + t ≤ coder.setting.block * blocks_left coder.setting coder.start → t ≤ length levels → m < t →
+    CompletesNone value (take m (values_at value.setting levels))
+none_before_level value coder levels t m e legal room few less =
+    let s = value.setting in
+    none_before_last value coder (values_at s levels) t m e (legal_values s levels legal) room (omega (arith, few, length-values s levels)) less
 
 -- After the call the coder has taken some samples still.
 pub is_coder_after : (value coder held after : CoderState) (ys : List ℤ) (old new : List Bool) (n m0 m2 : ℕ) → HoldsMore value coder held ys → PushesSamples value after ys old new n m0 m2 → IsCoder after

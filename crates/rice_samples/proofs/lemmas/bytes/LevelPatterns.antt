@@ -1,15 +1,15 @@
 -- Levels, and the patterns and words of the values at these.
-use Rattle.std.proofs.Common.{◌≡◌, ℕ, ◌+◌, ◌-◌, ◌*◌, ◌%◌, ◌^◌, ◌<◌, ◌≤◌, Bool, true, false, cond, refl, ap, arith, sym, ◌∙◌, List, [], ◌∷◌, ◌++◌, length, take, map, get_or, slice_set, pos, neg_ℤ, ◌+ℤ◌}
+use Rattle.std.proofs.Common.{◌≡◌, ℕ, ◌+◌, ◌-◌, ◌*◌, ◌%◌, ◌^◌, ◌<◌, ◌≤◌, zero, suc, inl, inr, mod-eq_of_lt, Bool, true, false, cond, refl, ap, arith, sym, ◌∙◌, List, [], ◌∷◌, ◌++◌, length, take, map, get_or, slice_set, pos, negsuc, neg_ℤ, ◌+ℤ◌}
 use Rattle.std.specs.Prelude.{bit_and}
 use Rattle.std.proofs.lemmas.Int.{ints}
-use Rattle.std.proofs.lemmas.List.{map-append, take_more, take_more_set}
+use Rattle.std.proofs.lemmas.List.{map-append, map_more, take_more, take_more_set}
 use Rattle.std.proofs.lemmas.Nat.{and_mask, mod-mul-add, mod_below, pow-add, pow_pos}
 use Rattle.std.proofs.Math.Nat.{mod-add-mod, mul-le-mul_right}
 use Rattle.std.proofs.Math.Pow.{mod-mod-pow, pow_mono}
 use Rattle.rice_samples.specs.Parameters.{Parameters, least, level, value_at, value_count, values_at}
 use Rattle.rice_samples.specs.predict.Residuals.{pattern, twos_complement}
 use Rattle.rice_samples.specs.bytes.Values.{offset, IsValue}
-use Rattle.rice_samples.proofs.lemmas.bytes.SpellingLemmas.{level_from_pattern, offset_limit, same_offset, wider_value}
+use Rattle.rice_samples.proofs.lemmas.bytes.SpellingLemmas.{level_from_pattern, mod_once, offset_limit, same_offset, wider_value}
 use Rattle.rice_samples.proofs.lemmas.predict.InverseLemmas.{has_pattern}
 use Rattle.rice_samples.proofs.lemmas.setting.Gaps.{gap_above, sample_at}
 use Rattle.rice_samples.proofs.lemmas.setting.Levels.{pattern_fits}
@@ -49,6 +49,13 @@ one_of_pattern s l i levels vs h k e r =
     let values : values_at s (take (i + 1) (slice_set levels i l)) ≡ values_at s (take i levels) ++ value_at s l ∷ [] = ap (values_at s) (take_more_set levels i l h) ∙ map-append (value_at s) (take i levels) (l ∷ []) in
     ap (map (pattern s)) values ∙ (map-append (pattern s) (values_at s (take i levels)) (value_at s l ∷ []) ∙ ((λ j. e j ++ r j ∷ []) ∙ sym (take_more vs i 0 k)))
 
+-- one more pattern
+pub one_pattern : (s : Parameters) (v i : ℕ) (now levels : List ℕ) → i < length now → i < length levels → take i now ≡ map (pattern s) (values_at s (take i levels)) → v ≡ pattern s (value_at s (get_or levels i 0)) →
+    take (i + 1) (slice_set now i v) ≡ map (pattern s) (values_at s (take (i + 1) levels))
+one_pattern s v i now levels h k e r =
+    let values : values_at s (take (i + 1) levels) ≡ values_at s (take i levels) ++ value_at s (get_or levels i 0) ∷ [] = map_more (value_at s) levels i 0 k in
+    take_more_set now i v h ∙ ((λ j. e j ++ r j ∷ []) ∙ sym (ap (map (pattern s)) values ∙ map-append (pattern s) (values_at s (take i levels)) (value_at s (get_or levels i 0) ∷ [])))
+
 -- back to a level
 level_again : (l o more : ℕ) → more ≤ 32 → l < 2 ^ more → o ≤ 2 ^ more → ((l + (2 ^ 32 - o)) % 2 ^ 32 % 2 ^ more + o) % 2 ^ more ≡ l
 level_again l o more h lt le =
@@ -77,3 +84,35 @@ word_of_level s more l o h le few e lt =
     let word = (l + (2 ^ 32 - o)) % 2 ^ 32 % 2 ^ more in
     same_offset word (twos_complement more x) (offset s) (2 ^ more) (mod_below ((l + (2 ^ 32 - o)) % 2 ^ 32) (2 ^ more) (pow_pos more)) (pattern_fits wide x (omega arith) value) (offset_limit s more h le)
     (ap (λ m. (word + m) % 2 ^ more) (sym e) ∙ (level_again l o more few small limit ∙ sym (level_from_pattern s more x h le sample ∙ gap_above (least s) l)))
+
+-- the pattern of the sample at a level
+pub pattern_at_level : (s : Parameters) (l o greatest : ℕ) → 1 ≤ s.bits → s.bits ≤ 32 → l < value_count s → o ≡ offset s → greatest ≡ value_count s - 1 → bit_and ((l + (2 ^ 32 - o)) % 2 ^ 32) greatest ≡ pattern s (value_at s l)
+pattern_at_level s l o greatest h k lt e g =
+    ap (λ m. bit_and ((l + (2 ^ 32 - o)) % 2 ^ 32) m) g ∙ (and_mask ((l + (2 ^ 32 - o)) % 2 ^ 32) s.bits ∙ word_of_level s s.bits l o h (omega arith) k e lt)
+
+-- the level that is read from a word tells the word, also where it is not legal
+pub level_of_word : (s : Parameters) (more word o : ℕ) → 1 ≤ s.bits → s.bits ≤ more → more ≤ 32 → o ≡ offset s → word < 2 ^ more → twos_complement more (value_at s ((word + o) % 2 ^ 32 % 2 ^ more)) ≡ word
+level_of_word s more word o h le few e lt =
+    let all : 32 ≡ 32 - more + more = omega arith in
+    let low : (word + o) % 2 ^ 32 % 2 ^ more ≡ (word + offset s) % 2 ^ more = ap (λ k. (word + o) % 2 ^ k % 2 ^ more) all ∙ (mod-mod-pow (word + o) (32 - more) more ∙ ap (λ m. (word + m) % 2 ^ more) e) in
+    ap (λ l. twos_complement more (value_at s l)) low ∙ by_sign s.signed
+  where
+    halves : (half count : ℕ) → count ≡ 2 ^ more → half ≤ count → 0 < half → word < count → twos_complement more (neg_ℤ (pos half) +ℤ pos ((word + half) % count)) ≡ word
+    halves zero count e le some lt = absurd (omega arith)
+    halves (suc half) count e le some lt =
+        elim (mod_once (word + suc half) count (omega arith)) [
+          | inl p ↦
+              let v : neg_ℤ (pos (suc half)) +ℤ pos ((word + suc half) % count) ≡ pos word = ap (λ m. neg_ℤ (pos (suc half)) +ℤ pos m) p.0 ∙ (omega (arith, ints)) in
+              ap (twos_complement more) v
+          | inr p ↦
+              let m : (word + suc half) % count ≡ word + suc half - count = omega (arith, p.0) in
+              let v : neg_ℤ (pos (suc half)) +ℤ pos ((word + suc half) % count) ≡ negsuc (count - 1 - word) = ap (λ m. neg_ℤ (pos (suc half)) +ℤ pos m) m ∙ (omega (arith, ints, p.1)) in
+              ap (twos_complement more) v ∙ omega (arith, e, lt)
+        ]
+
+    by_sign : (b : Bool) → twos_complement more (cond b (neg_ℤ (pos (2 ^ (s.bits - 1)))) (pos 0) +ℤ pos ((word + cond b (2 ^ (s.bits - 1)) 0) % 2 ^ more)) ≡ word
+    by_sign true = halves (2 ^ (s.bits - 1)) (2 ^ more) refl (pow_mono {i = s.bits - 1} {j = more} (omega arith)) (pow_pos (s.bits - 1)) lt
+    by_sign false =
+        let m : (word + 0) % 2 ^ more ≡ word = let same : word + 0 ≡ word = omega arith in ap (λ n. n % 2 ^ more) same ∙ mod-eq_of_lt lt in
+        let z : pos 0 +ℤ pos word ≡ pos word = omega (arith, ints) in
+        ap (λ n. twos_complement more (pos 0 +ℤ pos n)) m ∙ ap (twos_complement more) z

@@ -109,7 +109,7 @@ value_limits false bits more x h le k = unsigned (2 ^ bits) (2 ^ more) x (pow_mo
     unsigned count limit (pos v) le k l = (omega (arith, ints), omega (arith, ints))
     unsigned count limit (negsuc v) le k l = absurd (omega (arith, ints))
 
-mod_once : (n c : ℕ) → n < c + c → ((n % c ≡ n) × (n < c)) ⊎ ((n % c + c ≡ n) × (c ≤ n))
+pub mod_once : (n c : ℕ) → n < c + c → ((n % c ≡ n) × (n < c)) ⊎ ((n % c + c ≡ n) × (c ≤ n))
 mod_once n c h =
     elim (cases_lt n c) [
       | inl lt ↦ inl (mod-eq_of_lt lt, lt)

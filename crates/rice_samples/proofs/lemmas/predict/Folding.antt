@@ -1,16 +1,7 @@
--- The residuals of samples in a row, by ranks among numbers.
-use Rattle.std.proofs.Common.{◌≡◌, ℕ, zero, suc, ◌+◌, ◌-◌, ◌<◌, ◌≤◌, List, [], ◌∷◌, ◌++◌, length, take, drop, map, All, refl, ap, sym, arith, ◌∙◌, append_assoc, append-nil, slice_index_or, slice_set, ℤ}
-use Rattle.std.proofs.lemmas.List.Elements.{All-map}
-use borrow.Rule.Slice.PartMut.{put_mid}
-use Rattle.std.proofs.lemmas.List.{drop_more, take_more_set, drop-set-lt, take-append-drop, length-drop}
-use Rattle.std.proofs.Math.Seq.{take-length}
-use Rattle.std.proofs.Math.ListN.{drop_of_length-le}
-use Rattle.rice_samples.specs.Parameters.{Parameters, IsSample, level, value_count}
-use Rattle.rice_samples.specs.predict.Residuals.{rank, rank_below, ranks, ranks_below, last_of}
-
-pub ranks_are : (s : Parameters) (p : ℤ) (xs : List ℤ) → ranks s p xs ≡ ranks_below (value_count s) (level s p) (map (level s) xs)
-ranks_are s p [] = refl
-ranks_are s p (x ∷ xs) = ap (λ v. rank s p x ∷ v) (ranks_are s x xs)
+-- Numbers in a row, replaced by their ranks one by one.
+use Rattle.std.proofs.Common.{◌≡◌, ℕ, ◌+◌, ◌<◌, List, [], ◌∷◌, ◌++◌, length, take, drop, ap, sym, arith, ◌∙◌, append_assoc, slice_index_or, slice_set}
+use Rattle.std.proofs.lemmas.List.{drop_more, take_more_set, drop-set-lt}
+use Rattle.rice_samples.specs.predict.Residuals.{rank_below, ranks_below}
 
 -- one number more is replaced by its rank
 pub same_rest : (now xs : List ℕ) (i : ℕ) → i < length now → i < length xs → drop i now ≡ drop i xs → (slice_index_or now i 0 ≡ slice_index_or xs i 0) × (drop (i + 1) now ≡ drop (i + 1) xs)
@@ -33,32 +24,3 @@ one_rank count p before r i now xs h k folded rest e =
 
 pub rest_after : (now xs : List ℕ) (i r : ℕ) → i < length now → i < length xs → drop i now ≡ drop i xs → drop (i + 1) (slice_set now i r) ≡ drop (i + 1) xs
 rest_after now xs i r h k e = drop-set-lt (i + 1) now i r (omega arith) ∙ (same_rest now xs i h k e).1
-
-pub levels_fit : (s : Parameters) (greatest : ℕ) (xs : List ℤ) → greatest + 1 ≡ value_count s → All (IsSample s) xs → All (λ l. l ≤ greatest) (map (level s) xs)
-levels_fit s greatest xs e h = All-map (λ l. l ≤ greatest) (level s) xs (λ k d lt. let b = (h k d lt).1 in omega (arith, b, e))
-
--- the last of some samples
-pub last_at : (p d : ℤ) (xs : List ℤ) → 0 < length xs → last_of p xs ≡ slice_index_or xs (length xs - 1) d
-last_at p d [] h = absurd (omega arith)
-last_at p d (x ∷ []) h = refl
-last_at p d (x ∷ y ∷ ys) h =
-    let e : suc (length (y ∷ ys) - 1) ≡ length (x ∷ y ∷ ys) - 1 = omega arith in
-    last_at x d (y ∷ ys) (omega arith) ∙ ap (λ n. slice_index_or (x ∷ y ∷ ys) n d) e
-
-pub legal_taken : (s : Parameters) (p : ℤ) (n : ℕ) (xs : List ℤ) → IsSample s p → All (IsSample s) xs → IsSample s (last_of p (take n xs))
-legal_taken s p zero xs hp h = hp
-legal_taken s p (suc n) [] hp h = hp
-legal_taken s p (suc n) (x ∷ xs) hp h = legal_taken s x n xs (h 0 x (omega arith)) (λ k d lt. h (suc k) d (omega arith))
-
-pub ranks-append : (s : Parameters) (p : ℤ) (xs ys : List ℤ) → ranks s p (xs ++ ys) ≡ ranks s p xs ++ ranks s (last_of p xs) ys
-ranks-append s p [] ys = refl
-ranks-append s p (x ∷ xs) ys = ap (λ v. rank s p x ∷ v) (ranks-append s x xs ys)
-
--- ranks of the first samples, and of the rest
-pub ranks_of_rest : (s : Parameters) (p q : ℤ) (n : ℕ) (xs : List ℤ) (first rest : List ℕ) → length first ≡ length xs → n ≤ length xs → take n first ≡ ranks s p (take n xs) → q ≡ last_of p (take n xs) → rest ≡ ranks s q (take (length xs - n) (drop n xs)) →
-    put_mid n (length first - n) first rest ≡ ranks s p xs
-ranks_of_rest s p q n xs first rest len le begun last more =
-    let whole : take (length xs - n) (drop n xs) ≡ drop n xs = ap (λ k. take k (drop n xs)) (sym (length-drop n xs)) ∙ take-length (drop n xs) in
-    let end : drop (length first - n) (drop n first) ≡ [] = drop_of_length-le (drop n first) (omega (arith, length-drop n first)) in
-    ap (λ v. take n first ++ (rest ++ v)) end ∙ (ap (λ v. take n first ++ v) (append-nil rest)
-    ∙ ((λ i. begun i ++ (more ∙ (λ j. ranks s (last j) (whole j))) i) ∙ (sym (ranks-append s p (take n xs) (drop n xs)) ∙ ap (ranks s p) (take-append-drop n xs))))

@@ -1,12 +1,11 @@
 -- Ranks in the lanes of vectors.
-use Rattle.std.proofs.Common.{◌≡◌, ℕ, zero, suc, ◌+◌, ◌-◌, ◌*◌, ◌%◌, ◌<◌, ◌≤◌, cond, nat_lt, List, [], ◌∷◌, ◌++◌, get_or, take, drop, length, map, min, ℤ, pos, refl, ap, arith, sym, ◌∙◌, Fits, w16}
+use Rattle.std.proofs.Common.{◌≡◌, ℕ, zero, suc, ◌+◌, ◌-◌, ◌*◌, ◌%◌, ◌<◌, ◌≤◌, cond, nat_lt, List, [], ◌∷◌, ◌++◌, get_or, take, drop, length, min, refl, ap, arith, sym, ◌∙◌, Fits, w16}
 use Rattle.std.specs.Prelude.{replicate, slice_range}
 use Rattle.std.specs.Simd.Lanes.{zip2, Each1, sel_l}
 use Rattle.std.proofs.lemmas.Bool.Decides.{nat_tests}
 use Rattle.std.proofs.lemmas.List.{length-drop, length-take-le}
 use Rattle.std.proofs.Math.Seq.{take-add}
-use Rattle.rice_samples.specs.Parameters.{Parameters, level, value_count}
-use Rattle.rice_samples.specs.predict.Residuals.{rank_below, ranks, last_of}
+use Rattle.rice_samples.specs.predict.Residuals.{rank_below, ranks_below, last_number}
 
 one_least : (x y : ℕ) → cond (nat_lt x y) x y ≡ min x y
 one_least x y = grind (arith, nat_tests)
@@ -32,21 +31,21 @@ lanes_excess (x ∷ xs) [] h k = refl
 lanes_excess (x ∷ xs) (y ∷ ys) h k = λ i. one_excess x y h.0.fits k.0.fits i ∷ lanes_excess xs ys h.1 k.1 i
 
 one_rank : (g p x : ℕ) → g < 65536 → p ≤ g → x ≤ g →
-    wrapped_add (wrapped_add (p - x) (x - p)) (min (wrapped_sub (wrapped_add (p - x) (x - p)) (min (p - x) 1)) (min p (wrapped_sub g p))) ≡ rank_below (g + 1) p x
+    wrapped_add (wrapped_add (p - x) (x - p)) (min (wrapped_add (x - p) (p - x - 1)) (min p (wrapped_sub g p))) ≡ rank_below (g + 1) p x
 one_rank g p x h hp hx = grind (arith, nat_tests)
 
 pub lanes_ranked : (g n : ℕ) (ps xs : List ℕ) → g < 65536 → length ps ≡ n → length xs ≡ n → Each1 (λ p. p ≤ g) ps → Each1 (λ x. x ≤ g) xs →
     let down = zip2 (λ x y. x - y) ps xs in
-    let distance = zip2 wrapped_add down (zip2 (λ x y. x - y) xs ps) in
-    zip2 wrapped_add distance (zip2 min (zip2 wrapped_sub distance (zip2 min down (replicate n 1))) (zip2 min ps (zip2 wrapped_sub (replicate n g) ps))) ≡ zip2 (rank_below (g + 1)) ps xs
+    let up = zip2 (λ x y. x - y) xs ps in
+    zip2 wrapped_add (zip2 wrapped_add down up) (zip2 min (zip2 wrapped_add up (zip2 (λ x y. x - y) down (replicate n 1))) (zip2 min ps (zip2 wrapped_sub (replicate n g) ps))) ≡ zip2 (rank_below (g + 1)) ps xs
 lanes_ranked g zero [] xs h e f hp hx = refl
 lanes_ranked g zero (p ∷ ps) xs h e f hp hx = absurd (omega arith)
 lanes_ranked g (suc n) [] xs h e f hp hx = absurd (omega arith)
 lanes_ranked g (suc n) (p ∷ ps) [] h e f hp hx = absurd (omega arith)
 lanes_ranked g (suc n) (p ∷ ps) (x ∷ xs) h e f hp hx = λ i. one_rank g p x h hp.0 hx.0 i ∷ lanes_ranked g n ps xs h (omega arith) (omega arith) hp.1 hx.1 i
 
--- eight samples and their levels
-pub eight_of : {A : Type 0} (xs : List A) (d : A) → length xs ≡ 8 →
+-- a vector of eight lanes
+eight_of : {A : Type 0} (xs : List A) (d : A) → length xs ≡ 8 →
     xs ≡ get_or xs 0 d ∷ get_or xs 1 d ∷ get_or xs 2 d ∷ get_or xs 3 d ∷ get_or xs 4 d ∷ get_or xs 5 d ∷ get_or xs 6 d ∷ get_or xs 7 d ∷ []
 eight_of (a ∷ b ∷ c ∷ d ∷ e ∷ f ∷ g ∷ h ∷ []) o e' = refl
 eight_of [] o e = absurd (omega arith)
@@ -88,34 +87,30 @@ zip2_taken f (suc n) xs [] e = absurd (omega arith)
 zip2_taken f (suc n) [] (y ∷ ys) e = refl
 zip2_taken f (suc n) (x ∷ xs) (y ∷ ys) e = ap (λ v. f x y ∷ v) (zip2_taken f n xs ys (omega arith))
 
-ranked_each : (s : Parameters) (q : ℤ) (b : ℕ) (xs : List ℤ) → b ≡ level s q → zip2 (rank_below (value_count s)) (b ∷ map (level s) xs) (map (level s) xs) ≡ ranks s q xs
-ranked_each s q b [] e = refl
-ranked_each s q b (x ∷ xs) e = λ i. rank_below (value_count s) (e i) (level s x) ∷ ranked_each s x (level s x) xs refl i
+ranked_each : (n b : ℕ) (xs : List ℕ) → zip2 (rank_below n) (b ∷ xs) xs ≡ ranks_below n b xs
+ranked_each n b [] = refl
+ranked_each n b (x ∷ xs) = ap (λ v. rank_below n b x ∷ v) (ranked_each n x xs)
 
-pub length-levels : (s : Parameters) (xs : List ℤ) → length (map (level s) xs) ≡ length xs
-length-levels s [] = refl
-length-levels s (x ∷ xs) = ap (λ n. suc n) (length-levels s xs)
+pub ranked_eight : (n b : ℕ) (xs : List ℕ) → length xs ≡ 8 → zip2 (rank_below n) (b ∷ take 7 xs) xs ≡ ranks_below n b xs
+ranked_eight n b xs len = zip2_taken (rank_below n) 8 (b ∷ xs) xs len ∙ ranked_each n b xs
 
-pub ranked_eight : (s : Parameters) (q : ℤ) (b : ℕ) (xs : List ℤ) → length xs ≡ 8 → b ≡ level s q → zip2 (rank_below (value_count s)) (b ∷ take 7 (map (level s) xs)) (map (level s) xs) ≡ ranks s q xs
-ranked_eight s q b xs len e = zip2_taken (rank_below (value_count s)) 8 (b ∷ map (level s) xs) (map (level s) xs) (length-levels s xs ∙ len) ∙ ranked_each s q b xs e
-
-last-append : (p : ℤ) (xs ys : List ℤ) → last_of p (xs ++ ys) ≡ last_of (last_of p xs) ys
+last-append : (p : ℕ) (xs ys : List ℕ) → last_number p (xs ++ ys) ≡ last_number (last_number p xs) ys
 last-append p [] ys = refl
 last-append p (x ∷ xs) ys = last-append x xs ys
 
--- the samples up to the next eight
-pub next_eight : (i n : ℕ) (xs : List ℤ) → n ≡ 8 * i + 8 → take (8 * (i + 1)) xs ≡ take (8 * i) xs ++ slice_range xs (8 * i) n
+-- the levels up to the next eight
+pub next_eight : (i n : ℕ) (xs : List ℕ) → n ≡ 8 * i + 8 → take (8 * (i + 1)) xs ≡ take (8 * i) xs ++ slice_range xs (8 * i) n
 next_eight i n xs e =
     let more : 8 * (i + 1) ≡ 8 * i + 8 = omega arith in
     let count : 8 ≡ n - 8 * i = omega (arith, e) in
     ap (λ k. take k xs) more ∙ (take-add (8 * i) 8 xs ∙ ap (λ k. take (8 * i) xs ++ take k (drop (8 * i) xs)) count)
 
-pub last_level : (s : Parameters) (p : ℤ) (xs ys : List ℤ) → length ys ≡ 8 → get_or (map (level s) ys) 7 0 ≡ level s (last_of p (xs ++ ys))
-last_level s p xs ys len = ap (λ v. get_or (map (level s) v) 7 0) (eight_of ys (pos 0) len) ∙ sym (ap (level s) (last-append p xs ys ∙ ap (last_of (last_of p xs)) (eight_of ys (pos 0) len)))
+pub last_of_eight : (p : ℕ) (xs ys : List ℕ) → length ys ≡ 8 → get_or ys 7 0 ≡ last_number p (xs ++ ys)
+last_of_eight p xs ys len = ap (λ v. get_or v 7 0) (eight_of ys 0 len) ∙ sym (last-append p xs ys ∙ ap (last_number (last_number p xs)) (eight_of ys 0 len))
 
-pub eight_long : (xs : List ℤ) (i n : ℕ) → n ≡ 8 * i + 8 → n ≤ length xs → length (slice_range xs (8 * i) n) ≡ 8
+pub eight_long : (xs : List ℕ) (i n : ℕ) → n ≡ 8 * i + 8 → n ≤ length xs → length (slice_range xs (8 * i) n) ≡ 8
 eight_long xs i n e le = length-take-le (n - 8 * i) (drop (8 * i) xs) (omega (arith, length-drop (8 * i) xs)) ∙ (omega (arith, e))
 
-pub length-ranks : (s : Parameters) (p : ℤ) (xs : List ℤ) → length (ranks s p xs) ≡ length xs
-length-ranks s p [] = refl
-length-ranks s p (x ∷ xs) = ap (λ n. suc n) (length-ranks s x xs)
+pub length-ranks_below : (n p : ℕ) (xs : List ℕ) → length (ranks_below n p xs) ≡ length xs
+length-ranks_below n p [] = refl
+length-ranks_below n p (x ∷ xs) = ap (λ k. suc k) (length-ranks_below n x xs)

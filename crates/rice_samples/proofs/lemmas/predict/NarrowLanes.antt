@@ -4,7 +4,7 @@ use Rattle.std.specs.Prelude.{All}
 use Rattle.std.specs.Simd.Lanes.{Each1}
 use Rattle.std.proofs.lemmas.List.{take_all}
 
-each_of_all : (P : ℕ → Type 0) (xs : List ℕ) → All P xs → Each1 P xs
+pub each_of_all : (P : ℕ → Type 0) (xs : List ℕ) → All P xs → Each1 P xs
 each_of_all P [] all = tt
 each_of_all P (x ∷ xs) all = (all 0 0 (omega arith), each_of_all P xs (λ k d lt. all (suc k) d (omega arith)))
 

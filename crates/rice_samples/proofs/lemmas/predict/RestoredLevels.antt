@@ -5,19 +5,14 @@ use Rattle.std.proofs.lemmas.List.Elements.{All-append}
 use Rattle.std.proofs.lemmas.Slice.{take-put_mid}
 use Rattle.std.proofs.Math.Seq.{take-add}
 use borrow.Rule.Slice.PartMut.{put_mid}
-use Rattle.rice_samples.specs.predict.Residuals.{rank_below, ranks_below}
+use Rattle.rice_samples.specs.predict.Residuals.{rank_below, ranks_below, last_number}
 use Rattle.rice_samples.proofs.lemmas.bytes.ReadSamples.{one_legal}
-
--- the last of some numbers, or the one before them
-abbrev pub last_number : ℕ → List ℕ → ℕ
-last_number p [] = p
-last_number p (x ∷ xs) = last_number x xs
 
 last_number-push : (p : ℕ) (xs : List ℕ) (x : ℕ) → last_number p (xs ++ x ∷ []) ≡ x
 last_number-push p [] x = refl
 last_number-push p (y ∷ xs) x = last_number-push y xs x
 
-ranks_below-append : (count p : ℕ) (xs ys : List ℕ) → ranks_below count p (xs ++ ys) ≡ ranks_below count p xs ++ ranks_below count (last_number p xs) ys
+pub ranks_below-append : (count p : ℕ) (xs ys : List ℕ) → ranks_below count p (xs ++ ys) ≡ ranks_below count p xs ++ ranks_below count (last_number p xs) ys
 ranks_below-append count p [] ys = refl
 ranks_below-append count p (x ∷ xs) ys = ap (λ v. rank_below count p x ∷ v) (ranks_below-append count x xs ys)
 
@@ -58,7 +53,7 @@ long_enough {A = A} i xs e = omega (arith, e, all (8 * (i + 1)) xs)
     all (suc n) [] = omega arith
     all (suc n) (x ∷ xs) = omega (arith, all n xs)
 
-last_taken : (p n m : ℕ) (xs : List ℕ) (d : ℕ) → m ≡ n + 1 → n < length xs → get_or xs n d ≡ last_number p (take m xs)
+pub last_taken : (p n m : ℕ) (xs : List ℕ) (d : ℕ) → m ≡ n + 1 → n < length xs → get_or xs n d ≡ last_number p (take m xs)
 last_taken p n m xs d e h = sym (ap (λ k. last_number p (take k xs)) e ∙ (ap (last_number p) (take_more xs n d h) ∙ last_number-push p (take n xs) (get_or xs n d)))
 
 pub restored-eight : (count before i k reached : ℕ) (levels ys ds : List ℕ) → length ys ≡ 8 → 8 * i + 8 ≤ length levels → AreRestored count before (8 * i) reached levels ds → All (λ l. l < count) ys

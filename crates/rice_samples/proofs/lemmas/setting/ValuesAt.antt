@@ -6,7 +6,6 @@ use Rattle.rice_samples.specs.Parameters.{Parameters, IsSample, least, level, va
 use Rattle.rice_samples.specs.predict.Residuals.{rank_below, ranks, ranks_below, last_of}
 use Rattle.rice_samples.proofs.lemmas.setting.Gaps.{gap_above, sample_at}
 use Rattle.rice_samples.proofs.lemmas.setting.Levels.{same_level}
-use Rattle.rice_samples.proofs.lemmas.predict.Folding.{last_at}
 
 pub level_of_value : (s : Parameters) (l : ℕ) → level s (value_at s l) ≡ l
 level_of_value s l = gap_above (least s) l
@@ -27,6 +26,13 @@ ranks_of_values s p (l ∷ ls) = λ i. rank_below (value_count s) (level_of_valu
 pub values_replicate : (s : Parameters) (n l : ℕ) → values_at s (replicate n l) ≡ replicate n (value_at s l)
 values_replicate s zero l = refl
 values_replicate s (suc n) l = ap (λ xs. value_at s l ∷ xs) (values_replicate s n l)
+
+last_at : (p d : ℤ) (xs : List ℤ) → 0 < length xs → last_of p xs ≡ slice_index_or xs (length xs - 1) d
+last_at p d [] h = absurd (omega arith)
+last_at p d (x ∷ []) h = refl
+last_at p d (x ∷ y ∷ ys) h =
+    let e : suc (length (y ∷ ys) - 1) ≡ length (x ∷ y ∷ ys) - 1 = omega arith in
+    last_at x d (y ∷ ys) (omega arith) ∙ ap (λ n. slice_index_or (x ∷ y ∷ ys) n d) e
 
 -- the last of the values is the one at the last level
 pub last_value : (s : Parameters) (p : ℤ) (ls : List ℕ) → 0 < length ls → value_at s (slice_index_or ls (length ls - 1) 0) ≡ last_of p (values_at s ls)

@@ -1,16 +1,8 @@
-use Rattle.std.proofs.Common.{ℕ, zero, suc, ◌*◌, ◌/◌, ◌-◌, ◌%◌, ◌^◌, ◌<◌, [], ◌∷◌, arith}
-use Rattle.std.specs.Prelude.{All}
+use Rattle.std.proofs.Common.{ℕ, ◌*◌, ◌/◌, ◌-◌, ◌%◌, ◌^◌, ◌<◌, arith}
 use Rattle.std.proofs.lemmas.Nat.{mod_below, pow_pos}
 use Rattle.rice_bits.proofs.lemmas.bits.FirstOnes.{front_below}
-use Rattle.rice_bits.proofs.lemmas.read.WindowLemmas.{four-behind}
+use Rattle.rice_bits.proofs.lemmas.read.WindowLemmas.{all-four, four-behind}
 use Rattle.rice_bits.proofs.bits.digits.four_words.Goals as goal
-
-all-four : (P : ℕ → Type 0) (a b c d : ℕ) → P a → P b → P c → P d → All P (a ∷ b ∷ c ∷ d ∷ [])
-all-four P a b c d p q r s zero o lt = p
-all-four P a b c d p q r s (suc zero) o lt = q
-all-four P a b c d p q r s (suc (suc zero)) o lt = r
-all-four P a b c d p q r s (suc (suc (suc zero))) o lt = s
-all-four P a b c d p q r s (suc (suc (suc (suc i)))) o lt = absurd (omega arith)
 
 pub returns-clause-fit : goal.returns-clause-fit
 returns-clause-fit c =

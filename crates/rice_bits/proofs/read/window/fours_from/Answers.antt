@@ -1,10 +1,9 @@
-use Rattle.std.proofs.Common.{◌≡◌, ◌+◌, ◌*◌, ◌-◌, ◌^◌, ◌<◌, ◌≤◌, ◌∙◌, arith, refl, sym, subst, take, take-take, drop, length}
+use Rattle.std.proofs.Common.{◌≡◌, ◌+◌, ◌*◌, ◌^◌, ◌<◌, ◌≤◌, ◌∙◌, arith, refl, subst, take, drop, length}
 use Rattle.std.specs.Prelude.{All, flat_map}
-use Rattle.std.proofs.lemmas.List.Elements.{All-append, All-take}
 use Rattle.std.specs.Simd.Lanes.{put_chunk}
 use Rattle.std.proofs.lemmas.Simd.{length-put_chunk}
 use Rattle.rice_bits.specs.Bits.{word, bits_of}
-use Rattle.rice_bits.proofs.lemmas.read.WindowLemmas.{words-written, all-written, fours-last, words-last}
+use Rattle.rice_bits.proofs.lemmas.read.WindowLemmas.{words-written, all-written, all-last, words-last}
 use Rattle.rice_bits.proofs.read.window.fours_from.Goals as goal
 
 pub loop-i-preserved : goal.loop-i-preserved
@@ -27,13 +26,8 @@ loop-i-preserved c =
 pub returns-clause-fit : goal.returns-clause-fit
 returns-clause-fit c =
     let l = c.loop-i in
-    let w = c.args.width in
-    let four = c.four_from-four-2.result in
-    let count = length c.args.words.now in
-    let part : count - 4 ≤ 4 * l.i = omega (arith, c.loop-i-test.false) in
-    let front : All (λ d. d < 2 ^ w) (take (count - 4) l.words) =
-    subst (All (λ d. d < 2 ^ w)) (take-take (count - 4) (4 * l.i) l.words part) (All-take (λ d. d < 2 ^ w) (count - 4) (take (4 * l.i) l.words) l.invariant.fit) in
-    subst (All (λ d. d < 2 ^ w)) (sym (fours-last count l.words four l.invariant.len c.four_from-four-2.ensures.len c.requires.some)) (All-append (λ d. d < 2 ^ w) (take (count - 4) l.words) four front c.four_from-four-2.ensures.fit)
+    all-last (λ d. d < 2 ^ c.args.width) (4 * l.i) (length c.args.words.now) l.words c.four_from-four-2.result l.invariant.len c.four_from-four-2.ensures.len c.requires.some
+    (omega (arith, c.loop-i-test.false)) l.invariant.fit c.four_from-four-2.ensures.fit
 
 pub returns-clause-bits : goal.returns-clause-bits
 returns-clause-bits c =

@@ -55,7 +55,7 @@ loop-at-preserved g c =
     let count = c.min-count.result in
     let new = g.O.Outlet.taken c.push_part.new.outlet in
     let k = i.whole c.loop-at-test.true in
-    let n = length c.args.samples.now in
+    let n = length c.args.levels.now in
     let most : c.width.result * n ≡ width s * n = ap (λ v. v * n) c.width.ensures.value in
     record {
       within = omega (arith, c.min-count.ensures, i.within);

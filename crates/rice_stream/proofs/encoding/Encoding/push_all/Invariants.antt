@@ -9,7 +9,7 @@ invariant-loop-at g l = record {
   whole : l.at < length l.bytes → (k : ℕ) × (l.at ≡ width l.setting * k);
   part : (old : Beginning) (xs : List ℤ) → IsEncodingOf l.setting old (g.O.Outlet.taken l.fn.outlet) l.fn.self xs → TakesAll l.setting old (g.O.Outlet.taken l.outlet) l.self xs (take l.at l.bytes);
   failures : g.O.Outlet.failed l.outlet ≡ g.O.Outlet.failed l.fn.outlet;
-  room : length l.samples ≡ length l.fn.samples;
+  room : length l.levels ≡ length l.fn.levels;
 }
 
 abbrev pub decreases-loop-at : goal.decreases-loop-at

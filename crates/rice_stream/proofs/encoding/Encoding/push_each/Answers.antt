@@ -1,16 +1,20 @@
-use Rattle.std.proofs.Common.{arith, ◌≡◌, ◌+◌, ◌-◌, ◌++◌, length, take, drop, refl, ap, sym, ◌∙◌, subst, append_assoc, append-nil, length-append, length-drop, List, ℕ, ℤ}
+use Rattle.std.proofs.Common.{arith, ◌≡◌, ◌+◌, ◌-◌, ◌<◌, ◌++◌, length, take, drop, refl, ap, sym, ◌∙◌, subst, append_assoc, append-nil, length-append, length-drop, List, ℕ, ℤ}
 use Rattle.std.specs.Prelude.{All}
 use Rattle.std.proofs.Math.Seq.{take-add, take-length}
-use Rattle.std.proofs.lemmas.List.{length-take-le}
+use Rattle.std.proofs.lemmas.List.{drop-map, length-take-le}
 use Rattle.std.proofs.lemmas.List.Elements.{All-drop}
-use Rattle.rice_samples.specs.Parameters.{IsSample}
+use Rattle.rice_samples.specs.Parameters.{Parameters, value_at, value_count, values_at}
+use Rattle.rice_samples.proofs.lemmas.setting.ValuesAt.{length-values}
 use Rattle.rice_stream.specs.EncodingState.{IsEncodingOf, FailsIn}
 use Rattle.rice_stream.proofs.lemmas.EncodingLemmas.{fails_later}
 use Rattle.rice_stream.proofs.encoding.Encoding.push_each.Goals as goal
 
--- the samples from a place on
-from : (at : ℕ) (samples : List ℤ) → take (length samples - at) (drop at samples) ≡ drop at samples
-from at samples = ap (λ n. take n (drop at samples)) (sym (length-drop at samples)) ∙ take-length (drop at samples)
+-- the levels from a place on, and the samples
+from : (at : ℕ) (levels : List ℕ) → take (length levels - at) (drop at levels) ≡ drop at levels
+from at levels = ap (λ n. take n (drop at levels)) (sym (length-drop at levels)) ∙ take-length (drop at levels)
+
+samples_from : (s : Parameters) (at : ℕ) (levels : List ℕ) → values_at s (take (length levels - at) (drop at levels)) ≡ drop at (values_at s levels)
+samples_from s at levels = ap (values_at s) (from at levels) ∙ sym (drop-map (value_at s) at levels)
 
 pub loop-at-init : goal.loop-at-init
 loop-at-init g c = record {
@@ -22,35 +26,39 @@ loop-at-init g c = record {
 pub push-requires-clause-ready : goal.push-requires-clause-ready
 push-requires-clause-ready g c =
     let k = c.requires.ready in
-    let samples = c.args.samples.now in
+    let levels = c.args.levels.now in
+    let samples = values_at k.setting levels in
     let at = c.loop-at.at in
     let i = c.loop-at.invariant in
+    let len = length-values k.setting levels in
     record {
       setting = k.setting;
       start = k.start;
       before = k.before ++ take at samples;
       holds = i.holds k.setting k.start k.before k.holds;
-      legal = subst (All (IsSample k.setting)) (sym (from at samples)) (All-drop (IsSample k.setting) at samples k.legal);
-      few = omega (arith, k.few, length-append k.before (take at samples), length-take-le at samples i.within, ap length (from at samples), length-drop at samples, i.within);
+      legal = subst (All (λ l. l < value_count k.setting)) (sym (from at levels)) (All-drop (λ l. l < value_count k.setting) at levels k.legal);
+      few = omega (arith, k.few, length-append k.before (take at samples), length-take-le at samples (omega (arith, i.within, len)), ap length (from at levels), length-drop at levels, i.within);
     }
 
 pub returns-in-Err-clause-err : goal.returns-in-Err-clause-err
 returns-in-Err-clause-err g c s old xs h =
     let at = c.loop-at.at in
-    let samples = c.args.samples.now in
+    let levels = c.args.levels.now in
+    let samples = values_at s levels in
     let new = g.O.Outlet.taken c.push.new.outlet in
-    fails_later s old new c.push.new.self xs samples at (subst (λ (l : List ℤ). FailsIn s old new c.push.new.self (xs ++ take at samples) l) (from at samples) (c.in-Err.ensures.err s old (xs ++ take at samples) (c.loop-at.invariant.holds s old xs h)))
+    fails_later s old new c.push.new.self xs samples at (subst (λ (l : List ℤ). FailsIn s old new c.push.new.self (xs ++ take at samples) l) (samples_from s at levels) (c.in-Err.ensures.err s old (xs ++ take at samples) (c.loop-at.invariant.holds s old xs h)))
 
 pub loop-at-preserved : goal.loop-at-preserved
 loop-at-preserved g c =
     let at = c.loop-at.at in
-    let samples = c.args.samples.now in
+    let levels = c.args.levels.now in
     let i = c.loop-at.invariant in
     let n = c.in-Ok.taken in
     let new = g.O.Outlet.taken c.push.new.outlet in
     record {
-      within = omega (arith, i.within, c.in-Ok.ensures.count.1, ap length (from at samples), length-drop at samples);
-      holds = λ s old xs h. (let same : (xs ++ take at samples) ++ take n (take (length samples - at) (drop at samples)) ≡ xs ++ take (at + n) samples = ap (λ l. (xs ++ take at samples) ++ take n l) (from at samples) ∙ append_assoc xs (take at samples) (take n (drop at samples)) ∙ ap (λ l. xs ++ l) (sym (take-add at n samples)) in
+      within = omega (arith, i.within, c.in-Ok.ensures.count.1, ap length (from at levels), length-drop at levels);
+      holds = λ s old xs h. (let samples = values_at s levels in
+          let same : (xs ++ take at samples) ++ take n (values_at s (take (length levels - at) (drop at levels))) ≡ xs ++ take (at + n) samples = ap (λ l. (xs ++ take at samples) ++ take n l) (samples_from s at levels) ∙ append_assoc xs (take at samples) (take n (drop at samples)) ∙ ap (λ l. xs ++ l) (sym (take-add at n samples)) in
           subst (λ (l : List ℤ). IsEncodingOf s old new c.push.new.self l) same (c.in-Ok.ensures.ok s old (xs ++ take at samples) (i.holds s old xs h)));
       failures = c.in-Ok.ensures.calm ∙ i.failures;
     }
@@ -58,7 +66,8 @@ loop-at-preserved g c =
 pub returns-clause-ok : goal.returns-clause-ok
 returns-clause-ok g c s old xs h =
     let at = c.loop-at.at in
-    let samples = c.args.samples.now in
+    let levels = c.args.levels.now in
+    let samples = values_at s levels in
     let i = c.loop-at.invariant in
-    let all : at ≡ length samples = omega (arith, i.within, c.loop-at-test.false) in
+    let all : at ≡ length samples = omega (arith, i.within, c.loop-at-test.false, length-values s levels) in
     subst (λ (l : List ℤ). IsEncodingOf s old (g.O.Outlet.taken c.loop-at.outlet) c.loop-at.self (xs ++ l)) (ap (λ n. take n samples) all ∙ take-length samples) (i.holds s old xs h)

@@ -2,9 +2,10 @@ use Rattle.std.proofs.Common.{arith, inl, inr, ◌≡◌, ◌+◌, ◌*◌, ◌/
 use Rattle.std.specs.Prelude.{All}
 use Rattle.std.proofs.Math.Nat.{div-add-mod, mod-lt, mul-le-mul_left}
 use Rattle.std.proofs.lemmas.Bool.{cases_lt}
-use Rattle.std.proofs.lemmas.List.{length-take, take-append-le}
-use Rattle.rice_samples.specs.Parameters.{IsSample, width}
+use Rattle.std.proofs.lemmas.List.{length-take, length-take-le, take-append-le, take-map}
+use Rattle.rice_samples.specs.Parameters.{value_at, value_count, values_at, width}
 use Rattle.rice_samples.specs.bytes.Spelling.{spellings}
+use Rattle.rice_samples.proofs.lemmas.setting.ValuesAt.{length-values}
 use Rattle.rice_stream.specs.EncodingState.{IsEncodingOf, FailsIn}
 use Rattle.rice_stream.proofs.lemmas.EncodingLemmas.{first_of, behind_them, fails_among}
 use Rattle.rice_stream.proofs.encoding.Encoding.push_part.Goals as goal
@@ -26,13 +27,26 @@ whole_fit m w v n e some most room = elim (cases_lt n (m / w)) [
   | inr le ↦ le
 ]
 
+pub levels_of-found-requires : goal.levels_of-found-requires
+levels_of-found-requires g c =
+    let s = c.args.setting.now in
+    let bytes = c.args.bytes.now in
+    let levels = c.args.levels.now in
+    let w = c.width-width.result in
+    let count = length bytes / w in
+    let some : 1 ≤ w = omega (arith, c.width-width.ensures.range) in
+    let whole = whole_samples (length bytes) w (width s) c.width-width.ensures.value some in
+    let fit = whole_fit (length bytes) w (width s) (length levels) c.width-width.ensures.value some whole.0 c.requires.room in
+    let len : length (take count levels) ≡ count = length-take-le count levels fit in
+    length-take-le (count * w) bytes (omega (arith, whole.0, whole.3)) ∙ (whole.3 ∙ ap (λ n. width s * n) (sym len))
+
 pub push_each-requires-clause-ready : goal.push_each-requires-clause-ready
 push_each-requires-clause-ready g c =
     let s = c.args.setting.now in
-    let f = c.samples_of-found in
-    let zs = f.new.samples in
+    let f = c.levels_of-found in
+    let zs = f.new.levels in
     let count = length c.args.bytes.now / c.width-width.result in
-    let slice : take f.result (zs ++ drop count c.args.samples.now) ≡ take f.result zs = take-append-le f.result zs (drop count c.args.samples.now) f.ensures.count in
+    let slice : take f.result (zs ++ drop count c.args.levels.now) ≡ take f.result zs = take-append-le f.result zs (drop count c.args.levels.now) f.ensures.count in
     let whole = whole_samples (length c.args.bytes.now) c.width-width.result (width s) c.width-width.ensures.value (omega (arith, c.width-width.ensures.range)) in
     let r = c.requires.ready in
     record {
@@ -40,48 +54,52 @@ push_each-requires-clause-ready g c =
       start = r.0;
       before = r.1;
       holds = r.2;
-      legal = subst (All (IsSample s)) (sym slice) f.ensures.reads.legal;
-      few = omega (arith, r.3, ap length slice, length-take f.result zs, f.ensures.count, f.ensures.len, length-take count c.args.samples.now, whole.1);
+      legal = subst (All (λ l. l < value_count s)) (sym slice) f.ensures.legal;
+      few = omega (arith, r.3, ap length slice, length-take f.result zs, f.ensures.count, f.ensures.len, length-take count c.args.levels.now, whole.1);
     }
 
 pub returns-in-Err-clause-did : goal.returns-in-Err-clause-did
 returns-in-Err-clause-did g c old xs h =
     let s = c.args.setting.now in
     let bytes = c.args.bytes.now in
-    let f = c.samples_of-found in
-    let zs = f.new.samples in
+    let f = c.levels_of-found in
+    let zs = f.new.levels in
     let count = length bytes / c.width-width.result in
-    let slice : take f.result (zs ++ drop count c.args.samples.now) ≡ take f.result zs = take-append-le f.result zs (drop count c.args.samples.now) f.ensures.count in
+    let slice : take f.result (zs ++ drop count c.args.levels.now) ≡ take f.result zs = take-append-le f.result zs (drop count c.args.levels.now) f.ensures.count in
+    let ys = take f.result (values_at s zs) in
+    let taken : values_at s (take f.result (zs ++ drop count c.args.levels.now)) ≡ ys = ap (values_at s) slice ∙ sym (take-map (value_at s) f.result zs) in
     let whole = whole_samples (length bytes) c.width-width.result (width s) c.width-width.ensures.value (omega (arith, c.width-width.ensures.range)) in
-    let few : f.result ≤ count = omega (arith, f.ensures.count, f.ensures.len, length-take count c.args.samples.now) in
-    let spelled : take (width s * f.result) (take (width s * count) bytes) ≡ spellings s (take f.result zs) = ap (λ n. take (width s * f.result) (take n bytes)) (sym whole.3) ∙ f.ensures.reads.spelled in
-    let reads = first_of s bytes count f.result (take f.result zs) few spelled f.ensures.reads.legal in
+    let few : f.result ≤ count = omega (arith, f.ensures.count, f.ensures.len, length-take count c.args.levels.now) in
+    let spelled : take (width s * f.result) (take (width s * count) bytes) ≡ spellings s ys = ap (λ n. take (width s * f.result) (take n bytes)) (sym whole.3) ∙ f.ensures.reads.spelled in
+    let reads = first_of s bytes count f.result ys few spelled f.ensures.reads.legal in
     let new = g.O.Outlet.taken c.push_each.new.outlet in
-    fails_among s old new c.push_each.new.self xs (take f.result zs) bytes (drop (width s * f.result) bytes) reads (subst (λ (l : List ℤ). FailsIn s old new c.push_each.new.self xs l) slice (c.in-Err.ensures.err s old xs h))
+    fails_among s old new c.push_each.new.self xs ys bytes (drop (width s * f.result) bytes) reads (subst (λ (l : List ℤ). FailsIn s old new c.push_each.new.self xs l) taken (c.in-Err.ensures.err s old xs h))
 
 pub returns-then-found-count-clause-did : goal.returns-then-found-count-clause-did
 returns-then-found-count-clause-did g c old xs h =
     let s = c.args.setting.now in
     let bytes = c.args.bytes.now in
-    let f = c.samples_of-found in
-    let zs = f.new.samples in
+    let f = c.levels_of-found in
+    let zs = f.new.levels in
     let count = length bytes / c.width-width.result in
-    let slice : take f.result (zs ++ drop count c.args.samples.now) ≡ take f.result zs = take-append-le f.result zs (drop count c.args.samples.now) f.ensures.count in
+    let slice : take f.result (zs ++ drop count c.args.levels.now) ≡ take f.result zs = take-append-le f.result zs (drop count c.args.levels.now) f.ensures.count in
+    let ys = take f.result (values_at s zs) in
+    let taken : values_at s (take f.result (zs ++ drop count c.args.levels.now)) ≡ ys = ap (values_at s) slice ∙ sym (take-map (value_at s) f.result zs) in
     let whole = whole_samples (length bytes) c.width-width.result (width s) c.width-width.ensures.value (omega (arith, c.width-width.ensures.range)) in
-    let len : length zs ≡ count = omega (arith, f.ensures.len, length-take count c.args.samples.now, whole_fit (length bytes) c.width-width.result (width s) (length c.args.samples.now) c.width-width.ensures.value (omega (arith, c.width-width.ensures.range)) whole.0 c.requires.room) in
+    let len : length zs ≡ count = omega (arith, f.ensures.len, length-take count c.args.levels.now, whole_fit (length bytes) c.width-width.result (width s) (length c.args.levels.now) c.width-width.ensures.value (omega (arith, c.width-width.ensures.range)) whole.0 c.requires.room) in
     let few : f.result < count = c.if-found-count.true in
-    let spelled : take (width s * f.result) (take (width s * count) bytes) ≡ spellings s (take f.result zs) = ap (λ n. take (width s * f.result) (take n bytes)) (sym whole.3) ∙ f.ensures.reads.spelled in
+    let spelled : take (width s * f.result) (take (width s * count) bytes) ≡ spellings s ys = ap (λ n. take (width s * f.result) (take n bytes)) (sym whole.3) ∙ f.ensures.reads.spelled in
     let behind = behind_them s bytes count f.result few whole.0 in
     let new = g.O.Outlet.taken c.push_each.new.outlet in
-    let none = f.ensures.reads.stop (omega (arith, len, few)) in
+    let none = f.ensures.reads.stop (omega (arith, len, few, length-values s zs)) in
     let there : take (width s) (drop (width s * f.result) (take (count * c.width-width.result) bytes)) ≡ take (width s) (drop (width s * f.result) bytes) =
     ap (λ n. take (width s) (drop (width s * f.result) (take n bytes))) whole.3 ∙ behind.1 in (
       record {
-        more = take f.result zs;
+        more = ys;
         rest = drop (width s * f.result) bytes;
-        reads = first_of s bytes count f.result (take f.result zs) (omega (arith, few)) spelled f.ensures.reads.legal;
+        reads = first_of s bytes count f.result ys (omega (arith, few)) spelled f.ensures.reads.legal;
         none = (behind.0, λ x k e. none x k (there ∙ e));
-        holds = subst (λ (l : List ℤ). IsEncodingOf s old new c.push_each.new.self (xs ++ l)) slice (c.in-Ok.ensures.ok s old xs h);
+        holds = subst (λ (l : List ℤ). IsEncodingOf s old new c.push_each.new.self (xs ++ l)) taken (c.in-Ok.ensures.ok s old xs h);
       },
       refl,
     )
@@ -90,20 +108,22 @@ pub returns-clause-did : goal.returns-clause-did
 returns-clause-did g c old xs h =
     let s = c.args.setting.now in
     let bytes = c.args.bytes.now in
-    let f = c.samples_of-found in
-    let zs = f.new.samples in
+    let f = c.levels_of-found in
+    let zs = f.new.levels in
     let count = length bytes / c.width-width.result in
-    let slice : take f.result (zs ++ drop count c.args.samples.now) ≡ take f.result zs = take-append-le f.result zs (drop count c.args.samples.now) f.ensures.count in
+    let slice : take f.result (zs ++ drop count c.args.levels.now) ≡ take f.result zs = take-append-le f.result zs (drop count c.args.levels.now) f.ensures.count in
+    let ys = take f.result (values_at s zs) in
+    let taken : values_at s (take f.result (zs ++ drop count c.args.levels.now)) ≡ ys = ap (values_at s) slice ∙ sym (take-map (value_at s) f.result zs) in
     let whole = whole_samples (length bytes) c.width-width.result (width s) c.width-width.ensures.value (omega (arith, c.width-width.ensures.range)) in
-    let few : f.result ≤ count = omega (arith, f.ensures.count, f.ensures.len, length-take count c.args.samples.now) in
+    let few : f.result ≤ count = omega (arith, f.ensures.count, f.ensures.len, length-take count c.args.levels.now) in
     let all : f.result ≡ count = omega (arith, few, c.if-found-count.false) in
-    let spelled : take (width s * f.result) (take (width s * count) bytes) ≡ spellings s (take f.result zs) = ap (λ n. take (width s * f.result) (take n bytes)) (sym whole.3) ∙ f.ensures.reads.spelled in
+    let spelled : take (width s * f.result) (take (width s * count) bytes) ≡ spellings s ys = ap (λ n. take (width s * f.result) (take n bytes)) (sym whole.3) ∙ f.ensures.reads.spelled in
     let new = g.O.Outlet.taken c.push_each.new.outlet in
     let size : width s * f.result ≡ width s * count = ap (λ n. width s * n) all in
     record {
-      more = take f.result zs;
+      more = ys;
       rest = drop (width s * f.result) bytes;
-      reads = first_of s bytes count f.result (take f.result zs) few spelled f.ensures.reads.legal;
+      reads = first_of s bytes count f.result ys few spelled f.ensures.reads.legal;
       few = omega (arith, length-drop (width s * f.result) bytes, size, whole.2);
-      holds = subst (λ (l : List ℤ). IsEncodingOf s old new c.push_each.new.self (xs ++ l)) slice (c.in-Ok.ensures.ok s old xs h);
+      holds = subst (λ (l : List ℤ). IsEncodingOf s old new c.push_each.new.self (xs ++ l)) taken (c.in-Ok.ensures.ok s old xs h);
     }

@@ -1,14 +1,20 @@
-use Rattle.std.proofs.Common.{arith, ◌≡◌, ◌<◌, ◌∙◌, ◌+◌, ◌++◌, length, length-append, take, refl, ap, sym, subst, ℕ}
+use Rattle.std.proofs.Common.{arith, ◌≡◌, ◌<◌, ◌∙◌, ◌+◌, ◌++◌, length, length-append, take, refl, ap, sym, subst, ℕ, ℤ, List}
 use Rattle.std.specs.Prelude.{All}
 use Rattle.std.proofs.lemmas.List.{length-take-le, take-take}
-use Rattle.rice_samples.specs.Parameters.{Parameters, IsSample}
+use Rattle.rice_samples.specs.Parameters.{Parameters, value_count, values_at}
+use Rattle.rice_samples.proofs.lemmas.setting.ValuesAt.{length-values}
 use Rattle.rice_code.specs.code.Code.{code_bits}
 use Rattle.rice_code.specs.encode.Coder.{CompletesNone, complete_samples}
+use Rattle.rice_stream.specs.EncodingState.{TakesSamples}
+use Rattle.rice_stream.specs.declared.encoding.Encoding.{Encoding}
 use Rattle.rice_stream.proofs.lemmas.EncodingLemmas.{counts_small, early_small, sink_short, taken_on}
 use Rattle.rice_stream.proofs.encoding.Encoding.take.Goals as goal
 
-pub push_some-pushed-requires-clause-samples : goal.push_some-pushed-requires-clause-samples
-push_some-pushed-requires-clause-samples c = let can = c.requires.ready.1 in subst (λ (t : Parameters). All (IsSample t) c.args.samples.now) (sym can.holds.counts.setting) can.legal
+of_setting : (s own : Parameters) (e : Encoding) (xs : List ℤ) (levels : List ℕ) (n : ℕ) → own ≡ s → TakesSamples s e xs (take n (values_at own levels)) → TakesSamples s e xs (take n (values_at s levels))
+of_setting s own e xs levels n same h = subst (λ (t : Parameters). TakesSamples s e xs (take n (values_at t levels))) same h
+
+pub push_some-pushed-requires-clause-legal : goal.push_some-pushed-requires-clause-legal
+push_some-pushed-requires-clause-legal c = let can = c.requires.ready.1 in subst (λ (t : Parameters). All (λ l. l < value_count t) c.args.levels.now) (sym can.holds.counts.setting) can.legal
 
 pub push_some-pushed-requires-clause-room : goal.push_some-pushed-requires-clause-room
 push_some-pushed-requires-clause-room c = let can = c.requires.ready.1 in sink_short can.setting can.start c.requires.ready.0 _ can.before can.holds
@@ -28,20 +34,22 @@ overflow_add-self-2 c =
     let k = can.holds.counts in
     let p = c.push_some-pushed in
     let xs = can.before in
-    let zs = take p.result.samples c.args.samples.now in
+    let samples = values_at c.args.self.now.coder.setting c.args.levels.now in
+    let zs = take p.result.samples samples in
     let pushes = p.ensures.pushes in
     let same = subst (λ (t : Parameters). code_bits t (complete_samples t (xs ++ zs)) ≡ code_bits t (complete_samples t xs) + p.result.bits) k.setting (pushes.adds xs k.stands).bits in
     let small = early_small can.setting p.new.self (xs ++ zs) (pushes.setting ∙ k.setting) (pushes.taken xs k.stands) in
-    let len = length-take-le p.result.samples c.args.samples.now p.ensures.taken in
+    let len = length-take-le p.result.samples samples (omega (arith, p.ensures.taken, length-values c.args.self.now.coder.setting c.args.levels.now)) in
     omega (arith, small, same, k.bits, can.few, length-append xs zs, len, p.ensures.taken)
 
 pub returns-clause-took : goal.returns-clause-took
 returns-clause-took c s old now xs h =
     let e = c.args.self.now in
     let p = c.push_some-pushed in
-    let samples = c.args.samples.now in
+    let own = e.coder.setting in
+    let samples = values_at own c.args.levels.now in
     let n = p.result.samples in
-    let len : length (take n samples) ≡ n = length-take-le n samples p.ensures.taken in
+    let len : length (take n samples) ≡ n = length-take-le n samples (omega (arith, p.ensures.taken, length-values own c.args.levels.now)) in
     let before : (m : ℕ) → m < length (take n samples) → CompletesNone e.coder (take m (take n samples)) =
     λ m lt. subst (CompletesNone e.coder) (sym (take-take m n samples (omega (arith, lt, len)))) (p.ensures.before_last m (omega (arith, lt, len))) in
-    taken_on s old now e _ xs (take n samples) p.result.bits h p.ensures.pushes refl (ap (λ m. e.samples + m) (sym len)) before
+    of_setting s own _ xs c.args.levels.now n h.counts.setting (taken_on s old now e _ xs (take n samples) p.result.bits h p.ensures.pushes refl (ap (λ m. e.samples + m) (sym len)) before)

@@ -1,7 +1,7 @@
 use Rattle.std.proofs.Common.{◌≡◌, ◌+◌, ◌/◌, ◌^◌, ◌<◌, ◌∙◌, ap, arith, subst, sym}
 use Rattle.rice_code.specs.encode.OpenSegment.{CoderState, HoldsSoundBlocks, blocks_held}
 use Rattle.rice_code.specs.Steps.{coding_steps}
-use Rattle.rice_samples.specs.Parameters.{id_len, k_max}
+use Rattle.rice_samples.specs.Parameters.{id_len, k_max, value_at}
 use Rattle.rice_code.proofs.lemmas.encode.OpenSegments.{few_bits, few_blocks, codes_held, segment_room, segment_meter}
 use Rattle.rice_code.proofs.encode.open_segment.OpenSegment.code.Goals as goal
 
@@ -9,20 +9,20 @@ pub code_blocks-requires-clause-room : goal.code_blocks-requires-clause-room
 code_blocks-requires-clause-room c =
     let i = c.self.inside in
     let s = i.setting in
-    let st : CoderState = record { setting = i.setting; residuals = i.residuals; reference = i.reference; previous = i.previous; start = i.start } in
+    let st : CoderState = record { setting = i.setting; residuals = i.residuals; reference = i.reference; previous = value_at i.setting i.previous; start = i.start } in
     let n : c.blocks_of-blocks.result ≡ blocks_held st = c.blocks_of-blocks.ensures ∙ ap (λ l. l / i.setting.block) c.len.ensures.value in
     let blocks : HoldsSoundBlocks st = subst HoldsSoundBlocks (sym c.self.view_is) c.requires.blocks in
     let meter : c.args.meter.now + coding_steps s < 2 ^ 62 = subst (λ (v : CoderState). c.args.meter.now + coding_steps v.setting < 2 ^ 62) (sym c.self.view_is) c.requires.meter in
-    let bits = few_bits st (c.blocks_of-blocks.result) i.end n c.self.invariant blocks.sound in
-    let few = (few_blocks st i.end c.self.invariant blocks.whole).1 in
-    let room = segment_room s (c.blocks_of-blocks.result) c.self.invariant.legal (omega (arith, n, few)) in
+    let bits = few_bits st (c.blocks_of-blocks.result) i.end n c.self.invariant.1 blocks.sound in
+    let few = (few_blocks st i.end c.self.invariant.1 blocks.whole).1 in
+    let room = segment_room s (c.blocks_of-blocks.result) c.self.invariant.1.legal (omega (arith, n, few)) in
     let steps = segment_meter (c.blocks_of-blocks.result) (id_len s) s.block s.bits (k_max s) c.args.meter.now _ (omega (arith, n, few)) bits meter in
     record { room = omega (arith, bits, room, c.requires.room); steps = omega (arith, steps) }
 
 pub returns : goal.returns
 returns c =
     let i = c.self.inside in
-    let st : CoderState = record { setting = i.setting; residuals = i.residuals; reference = i.reference; previous = i.previous; start = i.start } in
+    let st : CoderState = record { setting = i.setting; residuals = i.residuals; reference = i.reference; previous = value_at i.setting i.previous; start = i.start } in
     let n : c.blocks_of-blocks.result ≡ blocks_held st = c.blocks_of-blocks.ensures ∙ ap (λ l. l / i.setting.block) c.len.ensures.value in
-    codes_held st _ _ i.end c.args.sink.now c.code_blocks.new.sink _ _ c.args.meter.now c.code_blocks.new.meter c.self.view_is n c.self.invariant c.requires.blocks c.code_blocks.ensures c.pad_interval.ensures
+    codes_held st _ _ i.end c.args.sink.now c.code_blocks.new.sink _ _ c.args.meter.now c.code_blocks.new.meter c.self.view_is n c.self.invariant.1 c.requires.blocks c.code_blocks.ensures c.pad_interval.ensures
     (omega (arith, c.len-2.ensures.value, c.len-before.ensures.value))
