@@ -59,7 +59,3 @@ pub record Joins (more : List Bool) (count bits all : ℕ) (old new : List ℕ) 
   pub same_len : length new ≡ length old
   pub gathered : IsBitSink (length new) all new
   pub joined : take all (bits_of new) ≡ take bits (bits_of old) ++ more
-
--- the powers of 2 that move each of four words of `width` digits to the front
-abbrev pub four_powers : ℕ → List ℕ
-four_powers width = 1 ∷ 2 ^ width ∷ 2 ^ (2 * width) ∷ 2 ^ (3 * width) ∷ []

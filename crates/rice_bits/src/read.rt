@@ -2,9 +2,9 @@
 
 mod ends;
 pub mod fault;
+mod four_words;
 mod ones;
 mod parts;
 pub mod reader;
 mod short_words;
-mod wide_words;
 mod window;

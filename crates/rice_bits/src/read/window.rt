@@ -1,15 +1,15 @@
 //! The bytes that an intake gave last, and a place among their bits.
 ghost use Rattle.std.specs.Prelude.{◌≡◌, ℕ, ◌+◌, ◌-◌, ◌*◌, ◌/◌, ◌%◌, ◌^◌, ◌<◌, ◌≤◌, ◌&&◌, false, [], ◌++◌, min, true, replicate, flat_map, length, take, drop, All, IfSome, IfNone};
-ghost use Rattle.rice_bits.specs.Bits.{bits_of, four_powers, fundamental_sequence, word};
+ghost use Rattle.rice_bits.specs.Bits.{bits_of, fundamental_sequence, word};
 ghost use Rattle.rice_bits.specs.read.Reader.{is_blank};
 ghost use Rattle.rice_bits.specs.read.Window.{AreParted, buffer_len, most_at_once, most_waiting};
 
-use crate::bits::digits::{digits_behind, four_words, front_digits, powers_of};
-use crate::bits::octets::{bits_from, load, store_zeros};
+use crate::bits::digits::{digits_behind, front_digits};
+use crate::bits::octets::{bits_from, eight_bytes_from, load, store_zeros};
+use crate::read::four_words::four_from;
 use crate::read::ones::{find_ends, write_gaps};
 use crate::read::parts::write_parts;
 use crate::read::short_words::eight_from;
-use crate::read::wide_words::wide_four_from;
 use std::simd::prelude::*;
 
 /// The most bytes that are asked for at a time.
@@ -300,10 +300,7 @@ fn words_from(bytes: &[u8], at: usize, width: u32, words: &mut [u32])
     if width > 28 || words.len() < 4 {
         return each_from(bytes, at, width, words);
     }
-    if width > 8 {
-        return wide_from(bytes, at, width, words);
-    }
-    if words.len() % 8 != 0 {
+    if width > 8 || words.len() % 8 != 0 {
         return fours_from(bytes, at, width, words);
     }
     if width < 8 {
@@ -332,10 +329,10 @@ fn eights_from(bytes: &[u8], at: usize, width: u32, words: &mut [u32])
     }
 }
 
-/// As `words_from`, for words of eight bits, four at a time.
+/// As `words_from`, for words of eight bits, eight at a time.
 #[inline(always)]
 fn bytes_from(bytes: &[u8], at: usize, words: &mut [u32])
-    requires fours { length words.old % 4 ≡ 0 }
+    requires eights { length words.old % 8 ≡ 0 }
     requires few { length words.old ≤ 64 }
     requires within { at + length words.old * 8 ≤ most_waiting }
     requires room { buffer_len ≤ length bytes.now }
@@ -343,41 +340,17 @@ fn bytes_from(bytes: &[u8], at: usize, words: &mut [u32])
     ensures bits { flat_map (word 8) words.new
         ≡ take (length words.new * 8) (drop at (bits_of bytes.now)) }
 {
-    let powers = powers_of(8);
     let mut at = at;
-    for i in 0..words.len() / 4 {
-        let four = four_from(bytes, at, powers, 8);
-        four.copy_to_slice(&mut words[4 * i..]);
-        at += 32;
+    for i in 0..words.len() / 8 {
+        let eight = eight_bytes_from(bytes, at).cast::<u32>();
+        eight.copy_to_slice(&mut words[8 * i..]);
+        at += 64;
     }
 }
 
 /// As `words_from`, four words at a time.
-#[inline(never)]
-fn fours_from(bytes: &[u8], at: usize, width: u32, words: &mut [u32])
-    requires width { (1 ≤ width) × (width ≤ 8) }
-    requires some { 4 ≤ length words.old }
-    requires few { length words.old ≤ 64 }
-    requires within { at + length words.old * width ≤ most_waiting }
-    requires room { buffer_len ≤ length bytes.now }
-    ensures fit { All (λ v. v < 2 ^ width) words.new }
-    ensures bits { flat_map (word width) words.new
-        ≡ take (length words.new * width) (drop at (bits_of bytes.now)) }
-{
-    let powers = powers_of(width);
-    let last = words.len() - 4;
-    for i in 0..(last + 3) / 4 {
-        let four = four_from(bytes, at + 4 * i * width as usize, powers, width);
-        four.copy_to_slice(&mut words[4 * i..]);
-    }
-    // The last four may begin among those before them.
-    let four = four_from(bytes, at + last * width as usize, powers, width);
-    four.copy_to_slice(&mut words[last..]);
-}
-
-/// As `words_from`, for wide words.
 #[inline(always)]
-fn wide_from(bytes: &[u8], at: usize, width: u32, words: &mut [u32])
+fn fours_from(bytes: &[u8], at: usize, width: u32, words: &mut [u32])
     requires width { (1 ≤ width) × (width ≤ 28) }
     requires some { 4 ≤ length words.old }
     requires few { length words.old ≤ 64 }
@@ -389,14 +362,14 @@ fn wide_from(bytes: &[u8], at: usize, width: u32, words: &mut [u32])
 {
     // More of them are taken elsewhere, so that this takes no registers from its caller.
     if words.len() > 8 {
-        return many_wide_from(bytes, at, width, words);
+        return many_fours_from(bytes, at, width, words);
     }
-    wide_fours_from(bytes, at, width, words);
+    each_four_from(bytes, at, width, words);
 }
 
-/// As `wide_from`, and is never inlined.
+/// As `fours_from`, and is never inlined.
 #[inline(never)]
-fn many_wide_from(bytes: &[u8], at: usize, width: u32, words: &mut [u32])
+fn many_fours_from(bytes: &[u8], at: usize, width: u32, words: &mut [u32])
     requires width { (1 ≤ width) × (width ≤ 28) }
     requires some { 4 ≤ length words.old }
     requires few { length words.old ≤ 64 }
@@ -406,12 +379,12 @@ fn many_wide_from(bytes: &[u8], at: usize, width: u32, words: &mut [u32])
     ensures bits { flat_map (word width) words.new
         ≡ take (length words.new * width) (drop at (bits_of bytes.now)) }
 {
-    wide_fours_from(bytes, at, width, words);
+    each_four_from(bytes, at, width, words);
 }
 
-/// As `wide_from`, four words at a time.
+/// As `fours_from`, and is always inlined.
 #[inline(always)]
-fn wide_fours_from(bytes: &[u8], at: usize, width: u32, words: &mut [u32])
+fn each_four_from(bytes: &[u8], at: usize, width: u32, words: &mut [u32])
     requires width { (1 ≤ width) × (width ≤ 28) }
     requires some { 4 ≤ length words.old }
     requires few { length words.old ≤ 64 }
@@ -423,26 +396,12 @@ fn wide_fours_from(bytes: &[u8], at: usize, width: u32, words: &mut [u32])
 {
     let last = words.len() - 4;
     for i in 0..(last + 3) / 4 {
-        let four = wide_four_from(bytes, at + 4 * i * width as usize, width);
+        let four = four_from(bytes, at + 4 * i * width as usize, width);
         four.copy_to_slice(&mut words[4 * i..]);
     }
     // The last four may begin among those before them.
-    let four = wide_four_from(bytes, at + last * width as usize, width);
+    let four = four_from(bytes, at + last * width as usize, width);
     four.copy_to_slice(&mut words[last..]);
-}
-
-/// Returns the four words of `width` bits from bit `at` on.
-#[inline]
-fn four_from(bytes: &[u8], at: usize, powers: u32x4, width: u32) -> u32x4
-    requires width { (1 ≤ width) × (width ≤ 8) }
-    requires powers { powers ≡ four_powers width }
-    requires room { at / 8 + 8 ≤ length bytes.now }
-    ensures len { length result ≡ 4 }
-    ensures fit { All (λ v. v < 2 ^ width) result }
-    ensures bits { flat_map (word width) result ≡ take (4 * width) (drop at (bits_of bytes.now)) }
-{
-    let front = bits_from(bytes, at);
-    four_words(front_digits(front, 32) as u32, powers, width)
 }
 
 /// As `words_from`, one word at a time.

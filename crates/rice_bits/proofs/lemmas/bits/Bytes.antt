@@ -12,6 +12,10 @@ pub bits_of-nil : bits_of [] ≡ []
 unfolding bits_of
 bits_of-nil = refl
 
+pub bits_of-first : (b : ℕ) (bytes : List ℕ) → bits_of (b ∷ bytes) ≡ word 8 b ++ bits_of bytes
+unfolding bits_of
+bits_of-first b bytes = refl
+
 pub bits_of-append : (xs ys : List ℕ) → bits_of (xs ++ ys) ≡ bits_of xs ++ bits_of ys
 unfolding bits_of
 bits_of-append [] ys = refl

@@ -1,12 +1,14 @@
 -- Eight bytes, and the digits of the number that they spell.
-use Rattle.std.proofs.Common.{◌≡◌, ℕ, zero, suc, ◌+◌, ◌*◌, ◌/◌, ◌%◌, ◌^◌, ◌≤◌, List, ◌++◌, length, drop, take, refl, sym, ◌∙◌, ap, arith}
-use Rattle.std.specs.Int.{to_be_bytes, byte_at, bytes_high_first, w64}
-use Rattle.std.proofs.lemmas.Nat.{shr_split, pow-add}
+use Rattle.std.proofs.Common.{◌≡◌, ℕ, zero, suc, ◌+◌, ◌*◌, ◌/◌, ◌%◌, ◌^◌, ◌<◌, ◌≤◌, List, ◌++◌, length, drop, take, reverse, refl, sym, ◌∙◌, ap, arith}
+use Rattle.std.specs.Prelude.{All}
+use Rattle.std.specs.Int.{to_be_bytes, to_le_bytes, swap_bytes, byte_at, bytes_high_first, bytes_low_first, w64}
+use Rattle.std.proofs.lemmas.Nat.{be_bytes_8, shr_split, pow-add}
 use Rattle.std.proofs.lemmas.List.{take-append-drop, length-take-le}
-use Rattle.std.proofs.Math.Nat.{pow-suc}
+use Rattle.std.proofs.lemmas.List.Elements.{All-cons, All-nil}
+use Rattle.std.proofs.Math.Nat.{mod-lt, pow-suc}
 use Rattle.rice_bits.specs.Bits.{word, bits_of}
 use Rattle.rice_bits.proofs.lemmas.bits.Words.{word-nil, word-low, word-split}
-use Rattle.rice_bits.proofs.lemmas.bits.Bytes.{bits_of-append, length-bits_of}
+use Rattle.rice_bits.proofs.lemmas.bits.Bytes.{bits_of-append, each_byte, length-bits_of}
 
 -- the lowest digits are those of the low part
 pub word-mod : (k b n : ℕ) → k ≤ b → word k (n % 2 ^ b) ≡ word k n
@@ -33,6 +35,21 @@ bits_of-high_first (suc k) n =
 
 pub bits_of-eight : (n : ℕ) → bits_of (to_be_bytes w64 n) ≡ word 64 n
 bits_of-eight n = bits_of-high_first 8 n
+
+byte_below : (k n : ℕ) → byte_at k n < 256
+byte_below zero n = mod-lt n (omega arith)
+byte_below (suc k) n = mod-lt (n / 256 ^ suc k) (omega arith)
+
+all_bytes : (j k n : ℕ) → All (λ b. b < 256) (bytes_low_first j k n)
+all_bytes j zero n = All-nil (λ b. b < 256)
+all_bytes j (suc k) n = All-cons (λ b. b < 256) (byte_at j n) (bytes_low_first (suc j) k n) (byte_below j n) (all_bytes (suc j) k n)
+
+pub eight-fit : (n : ℕ) → All (λ b. b < 256) (to_le_bytes w64 n)
+eight-fit n = all_bytes 0 8 n
+
+-- the bytes of a number whose bytes are swapped
+pub eight-swapped : (n r : ℕ) → r ≡ swap_bytes w64 n → to_le_bytes w64 r ≡ to_be_bytes w64 n
+eight-swapped n r e = ap reverse (be_bytes_8 (to_le_bytes w64 n) r refl (each_byte (to_le_bytes w64 n) (eight-fit n)) e)
 
 -- the bits of the first bytes, and those of the others
 pub split-bytes : (q : ℕ) (bytes : List ℕ) → bits_of (take q bytes) ++ bits_of (drop q bytes) ≡ bits_of bytes

@@ -8,7 +8,7 @@ use Rattle.std.proofs.lemmas.Nat.{or_shifted, pow-add, pow_pos, shr_below, shr_s
 use Rattle.std.proofs.lemmas.List.{append-nil, replicate-append-replicate, length-replicate, length-drop, length-set, length-take-le, take-append-drop, take-replicate, take_all, take_at, drop-drop, drop-replicate, drop-set-lt, drop_all, drop_at, drop_more, get_or_past, get_or-set_same, take-set}
 use Rattle.rice_bits.specs.Bits.{IsBitSink, bits_in_bytes, fundamental_sequence, word, bits_of, whole_bytes}
 use Rattle.rice_bits.proofs.lemmas.bits.Words.{length-word, word-nil, word-zero, word-cat, word-split, word-fs, length-fundamental_sequence, shift_fits, join_below}
-use Rattle.rice_bits.proofs.lemmas.bits.Bytes.{bits_of-nil, bits_of-append, bits_of-zeros, length-bits_of, whole-bits, rest-bits}
+use Rattle.rice_bits.proofs.lemmas.bits.Bytes.{bits_of-nil, bits_of-append, bits_of-first, bits_of-zeros, length-bits_of, whole-bits, rest-bits}
 use Rattle.rice_bits.proofs.lemmas.bits.EightBytes.{bits_of-eight, split-bytes, length-front}
 use Rattle.rice_bits.proofs.lemmas.bits.OneWay.{word_reads}
 
@@ -23,10 +23,6 @@ byte_parts : (g b : ℕ) → g < 8 → word 8 b ≡ word g (b / 2 ^ (8 - g)) ++ 
 byte_parts g b h =
     let size : g + (8 - g) ≡ 8 = omega arith in
     ap (λ w. word w b) (sym size) ∙ word-split g (8 - g) b
-
-bits_of-first : (b : ℕ) (bytes : List ℕ) → bits_of (b ∷ bytes) ≡ word 8 b ++ bits_of bytes
-unfolding bits_of
-bits_of-first b bytes = refl
 
 -- the bits before a place in a byte, and the others
 bits_at : (bytes : List ℕ) (at g : ℕ) → at < length bytes → g < 8

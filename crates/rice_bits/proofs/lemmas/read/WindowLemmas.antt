@@ -1,25 +1,26 @@
 -- The bits that were given and not yet taken.
 use Rattle.std.proofs.Common.{◌≡◌, ℕ, zero, suc, inl, inr, ◌+◌, ◌-◌, ◌*◌, ◌/◌, ◌%◌, ◌^◌, ◌<◌, ◌≤◌, ◌≢◌, Bool, true, false, List, [], ◌∷◌, ◌++◌, length, take, drop, set, replicate, length-append, refl, sym, ◌∙◌, ap, arith, subst, take-take, append_assoc}
-use Rattle.std.specs.Prelude.{All, flat_map, slice_range, ◌==◌, ◌&&◌}
+use Rattle.std.specs.Prelude.{All, bit_or, flat_map, slice_index, slice_range, ◌==◌, ◌&&◌}
 use Rattle.std.proofs.lemmas.Grind.{flat_map-append}
 use Rattle.rice_bits.specs.read.Reader.{is_blank}
 use Rattle.rice_bits.proofs.lemmas.read.Blank.{blank-append, blank-word}
 use Rattle.std.specs.Int.{to_be_bytes, w64}
 use Rattle.std.proofs.Math.Nat.{mul-le-mul_right}
+use Rattle.std.proofs.lemmas.Nat.{mod_below, or_shifted, pow_pos, shr_split}
 use Rattle.std.specs.Simd.Lanes.{put_chunk}
 use Rattle.std.proofs.lemmas.Simd.{length-put_chunk, take_more_put_chunk}
 use Rattle.std.proofs.Math.Seq.{drop-append_seam, take-add, take-append_seam}
 use Rattle.std.proofs.lemmas.Bool.{cases_lt}
 use Rattle.std.proofs.lemmas.Bool.Decides.{nat_tests}
 use Rattle.std.proofs.lemmas.List.Elements.{All-append, All-take}
-use Rattle.std.proofs.lemmas.List.{append-nil, drop-append-le, drop-drop, drop-take, length-drop, length-replicate, length-take-le, replicate-append-replicate, take-append-drop, take-append-le, take-replicate, take_all, take_at, take_more_set}
-use Rattle.rice_bits.specs.Bits.{fundamental_sequence, word, bits_of}
+use Rattle.std.proofs.lemmas.List.{append-nil, drop-append-le, drop-drop, drop-take, drop_more, length-drop, length-replicate, length-take-le, replicate-append-replicate, take-append-drop, take-append-le, take-replicate, take_all, take_at, take_more_set}
+use Rattle.rice_bits.specs.Bits.{fundamental_sequence, number_of, word, bits_of}
 use Rattle.rice_bits.specs.read.Window.{IsWindow, Passes, bits_near, window_bits, window_passed}
 use Rattle.rice_bits.specs.declared.read.window.Window.{Window}
-use Rattle.rice_bits.proofs.lemmas.bits.Bytes.{bits_of-append, bits_of-zeros, length-bits_of}
+use Rattle.rice_bits.proofs.lemmas.bits.Bytes.{bits_of-append, bits_of-first, bits_of-zeros, length-bits_of}
 use Rattle.rice_bits.proofs.lemmas.bits.EightBytes.{bits_of-eight}
 use Rattle.rice_bits.proofs.lemmas.bits.FirstOnes.{front_below, take-front, word-moved, word-parts}
-use Rattle.rice_bits.proofs.lemmas.bits.Words.{length-fundamental_sequence, length-word, word-nil, word-split}
+use Rattle.rice_bits.proofs.lemmas.bits.Words.{length-fundamental_sequence, length-word, number_of-word, word-cat, word-nil, word-split, word-zero}
 
 -- a part of a list is its two parts
 between-join : {A : Type 0} (xs : List A) (a s e : ℕ) → a ≤ s → s ≤ e → slice_range xs a s ++ slice_range xs s e ≡ slice_range xs a e
@@ -158,6 +159,51 @@ front-ahead bits n m k r h all e =
 pub first-ahead : (bits : List Bool) (n m k r : ℕ) → n ≤ m → m + k ≡ 64 → word 64 r ≡ take m bits ++ replicate k false → word n (r / 2 ^ (64 - n)) ≡ take n bits
 first-ahead bits n m k r h all e = sym (take-front 64 n r (omega (arith, h, all))) ∙ front-ahead bits n m k r h all e
 
+-- the last digits of a number are zeros
+low-zeros : (a s r : ℕ) (front : List Bool) → length front ≡ a → word (a + s) r ≡ front ++ replicate s false → r % 2 ^ s ≡ 0
+low-zeros a s r front len e =
+    let low = r % 2 ^ s in
+    let fits : low < 2 ^ s = mod_below r (2 ^ s) (pow_pos s) in
+    let zeros : word s low ≡ word s 0 =
+    sym (drop-seam (word a (r / 2 ^ s)) (word s low) a (length-word a (r / 2 ^ s)))
+    ∙ (ap (drop a) (sym (word-split a s r) ∙ e) ∙ (drop-seam front (replicate s false) a len ∙ sym (word-zero s))) in
+    sym (number_of-word s low fits) ∙ (ap number_of zeros ∙ number_of-word s 0 (pow_pos s))
+
+-- bits at the front of a word, and others in place of the zeros after them
+joined-ahead : (bits : List Bool) (a s r l : ℕ) → a + s ≡ 64 → l < 2 ^ s → word 64 r ≡ take a bits ++ replicate s false
+    → word s l ≡ take s (drop a bits) → word 64 (bit_or r l) ≡ take 64 bits
+joined-ahead bits a s r l all below ahead last =
+    let h = r / 2 ^ s in
+    let len : length (take a bits) ≡ a = omega (arith, all, ap length ahead, length-word 64 r, length-append (take a bits) (replicate s false), length-replicate s false) in
+    let split : word (a + s) r ≡ take a bits ++ replicate s false = ap (λ n. word n r) all ∙ ahead in
+    let zeros : r % 2 ^ s ≡ 0 = low-zeros a s r (take a bits) len split in
+    let whole : r ≡ h * 2 ^ s = omega (arith, zeros, shr_split r s) in
+    let away : 64 - a ≡ s = omega (arith, all) in
+    let first : word a h ≡ take a bits = ap (λ n. word a (r / 2 ^ n)) (sym away) ∙ first-ahead bits a a s r (omega arith) all ahead in
+    ap (word 64) (ap (λ n. bit_or n l) whole ∙ or_shifted h s l below)
+    ∙ (ap (λ n. word n (h * 2 ^ s + l)) (sym all) ∙ (word-cat a s h l below
+    ∙ ((λ j. first j ++ last j) ∙ (sym (take-add a s bits) ∙ ap (λ n. take n bits) all))))
+
+-- the first digits of a byte
+byte-front : (bytes : List ℕ) (i s b : ℕ) → i < length bytes → s ≤ 8 → b ≡ slice_index bytes i → word s (b / 2 ^ (8 - s)) ≡ take s (drop (8 * i) (bits_of bytes))
+byte-front bytes i s b h few e =
+    let rest = bits_of (drop (i + 1) bytes) in
+    let begins : drop (8 * i) (bits_of bytes) ≡ word 8 b ++ rest =
+    drop-bits_of i bytes (omega (arith, h)) ∙ (ap bits_of (drop_more bytes i 0 h) ∙ (bits_of-first (slice_index bytes i) (drop (i + 1) bytes) ∙ ap (λ n. word 8 n ++ rest) (sym e))) in
+    sym (take-front 8 s b few) ∙ (sym (take-append-le s (word 8 b) rest (omega (arith, few, length-word 8 b))) ∙ ap (take s) (sym begins))
+
+-- the bits from a place on, of which the last are in a ninth byte
+pub word-ahead : (bytes : List ℕ) (at r b : ℕ) → at / 8 + 9 ≤ length bytes → b < 256 → b ≡ slice_index bytes (at / 8 + 8)
+    → word 64 r ≡ take (64 - at % 8) (drop at (bits_of bytes)) ++ replicate (at % 8) false
+    → word 64 (bit_or r (b / 2 ^ (8 - at % 8))) ≡ take 64 (drop at (bits_of bytes))
+word-ahead bytes at r b room fits e ahead =
+    let s = at % 8 in
+    let bits = bits_of bytes in
+    let place : at + (64 - s) ≡ 8 * (at / 8 + 8) = omega arith in
+    let last : word s (b / 2 ^ (8 - s)) ≡ take s (drop (64 - s) (drop at bits)) =
+    byte-front bytes (at / 8 + 8) s b (omega (arith, room)) (omega arith) e ∙ ap (take s) (ap (λ n. drop n bits) (sym place) ∙ sym (drop-drop (64 - s) at bits)) in
+    joined-ahead (drop at bits) (64 - s) s r (b / 2 ^ (8 - s)) (omega arith) (front_below 8 s b (omega arith) fits) ahead last
+
 -- all bits that wait, and zeros after them
 pub near-ahead : (w : Window) (r : ℕ) → IsWindow w → word 64 r ≡ take (64 - w.at % 8) (drop w.at (bits_of w.buffer)) ++ replicate (w.at % 8) false
     → word 64 r ≡ take (bits_near w) (window_bits w) ++ replicate (64 - bits_near w) false
@@ -295,27 +341,6 @@ all-four P a b c d p q r s (suc (suc zero)) o lt = r
 all-four P a b c d p q r s (suc (suc (suc zero))) o lt = s
 all-four P a b c d p q r s (suc (suc (suc (suc i)))) o lt = absurd (omega arith)
 
--- four words in a row
-pub four-behind : (w x : ℕ) → w ≤ 8
-    → flat_map (word w) ((x * 2 ^ 0 % 2 ^ 32 / 2 ^ (32 - w)) ∷ (x * 2 ^ w % 2 ^ 32 / 2 ^ (32 - w)) ∷ (x * 2 ^ (2 * w) % 2 ^ 32 / 2 ^ (32 - w)) ∷ (x * 2 ^ (3 * w) % 2 ^ 32 / 2 ^ (32 - w)) ∷ [])
-    ≡ take (4 * w) (word 32 x)
-four-behind w x h =
-    let bits = word 32 x in
-    let two : w + w ≡ 2 * w = omega arith in
-    let three : 2 * w + w ≡ 3 * w = omega arith in
-    let four : 3 * w + w ≡ 4 * w = omega arith in
-    let a = word-behind 32 w 0 x (omega arith) in
-    let b = word-behind 32 w w x (omega arith) in
-    let c = word-behind 32 w (2 * w) x (omega arith) in
-    let d = word-behind 32 w (3 * w) x (omega arith) in
-    rw (a, b, c, d) (joined (take w bits) (take w (drop w bits)) (take w (drop (2 * w) bits)) (take w (drop (3 * w) bits))
-    ∙ (ap (λ k. (k ++ take w (drop (2 * w) bits)) ++ take w (drop (3 * w) bits)) (sym (take-add w w bits) ∙ ap (λ n. take n bits) two)
-    ∙ (ap (λ k. k ++ take w (drop (3 * w) bits)) (sym (take-add (2 * w) w bits) ∙ ap (λ n. take n bits) three)
-    ∙ (sym (take-add (3 * w) w bits) ∙ ap (λ n. take n bits) four))))
-  where
-    joined : (p q r t : List Bool) → p ++ (q ++ (r ++ (t ++ []))) ≡ ((p ++ q) ++ r) ++ t
-    joined p q r t = ap (λ z. p ++ (q ++ (r ++ z))) (append-nil t) ∙ (sym (append_assoc p q (r ++ t)) ∙ sym (append_assoc (p ++ q) r t))
-
 -- a part of bits has no 1 where neither of its two parts has
 blank-parts : (bits : List Bool) (a s e : ℕ) → a ≤ s → s ≤ e
     → is_blank (slice_range bits a e) ≡ (is_blank (slice_range bits a s) && is_blank (slice_range bits s e))
@@ -348,12 +373,6 @@ blank-not bits a s n r v end from few fits ahead e before some within =
     blank-parts bits a s end from (omega (arith, within))
     ∙ ((λ j. before j && blank-parts bits s (s + n) end (omega arith) within j)
     ∙ ap (λ b. b && is_blank (slice_range bits (s + n) end)) (blank-ahead bits s n r v few fits ahead e ∙ one))
-
--- four words at the front of a word
-pub four-ahead : (width s r : ℕ) (bits : List Bool) (four : List ℕ) → width ≤ 8 → s < 8 → word 64 r ≡ take (64 - s) bits ++ replicate s false
-    → flat_map (word width) four ≡ take (4 * width) (word 32 (r / 2 ^ 32)) → flat_map (word width) four ≡ take (4 * width) bits
-four-ahead width s r bits four h few ahead e =
-    e ∙ (ap (take (4 * width)) (first-ahead bits 32 (64 - s) s r (omega arith) (omega arith) ahead) ∙ take-take (4 * width) 32 bits (omega arith))
 
 -- a sequence at the front of bits with zeros after them is one of those bits
 pub run-within : (m k : ℕ) (rest xs : List Bool) → fundamental_sequence m ++ rest ≡ xs ++ replicate k false → m + 1 ≤ length xs

@@ -1,23 +1,8 @@
-use Rattle.std.proofs.Common.{◌≡◌, ℕ, zero, suc, ◌+◌, ◌*◌, ◌/◌, ◌%◌, ◌^◌, ◌<◌, List, [], ◌∷◌, reverse, refl, sym, ◌∙◌, ap, arith, get_or}
-use Rattle.std.specs.Int.{byte_at, bytes_low_first, swap_bytes, to_be_bytes, to_le_bytes, w64}
-use Rattle.std.proofs.Math.Nat.{mod-lt, add-mul-div_left, div-div-eq-div-mul}
-use Rattle.std.proofs.lemmas.Nat.{be_bytes_8}
+use Rattle.std.proofs.Common.{◌≡◌, ℕ, ◌+◌, ◌*◌, ◌/◌, ◌%◌, ◌^◌, ◌<◌, List, [], ◌∷◌, sym, ◌∙◌, ap, arith, get_or}
+use Rattle.std.specs.Int.{swap_bytes, to_be_bytes, to_le_bytes, w64}
+use Rattle.std.proofs.Math.Nat.{add-mul-div_left, div-div-eq-div-mul}
+use Rattle.rice_bits.proofs.lemmas.bits.EightBytes.{eight-swapped}
 use Rattle.rice_bits.proofs.bits.octets.joined.Goals as goal
-
-byte_below : (k n : ℕ) → byte_at k n < 256
-byte_below zero n = mod-lt n (omega arith)
-byte_below (suc k) n = mod-lt (n / 256 ^ suc k) (omega arith)
-
-bytes_below : (j k n i : ℕ) → get_or (bytes_low_first j k n) i 0 < 256
-bytes_below j zero n i = omega arith
-bytes_below j (suc k) n zero = byte_below j n
-bytes_below j (suc k) n (suc i) = bytes_below (suc j) k n i
-
--- the bytes of a number whose bytes are swapped
-swapped : (n r : ℕ) → r ≡ swap_bytes w64 n
-    → r % 256 ∷ r / 256 % 256 ∷ r / 65536 % 256 ∷ r / 16777216 % 256 ∷ r / 4294967296 % 256 ∷ r / 1099511627776 % 256 ∷ r / 281474976710656 % 256 ∷ r / 72057594037927936 % 256 ∷ []
-    ≡ to_be_bytes w64 n
-swapped n r e = ap reverse (be_bytes_8 (to_le_bytes w64 n) r refl (bytes_below 0 8 n) e)
 
 -- a sum of which only the lowest byte is another
 first_below : (s b : ℕ) → s % 256 + b < 256 → (s + b) % 256 ≡ s % 256 + b
@@ -56,7 +41,7 @@ add_first b (x ∷ xs) = (x + b) ∷ xs
 sum : (n s b : ℕ) → s ≡ swap_bytes w64 n → b * 2 ^ 56 + n < 2 ^ 64 → to_le_bytes w64 (s + b) ≡ to_be_bytes w64 (b * 2 ^ 56 + n)
 unfolding add_first
 sum n s b e h =
-    let bytes = swapped n s e in
+    let bytes = eight-swapped n s e in
     let first : s % 256 ≡ n / 2 ^ 56 % 256 = ap (λ xs. get_or xs 0 0) bytes in
     let below : s % 256 + b < 256 = omega (arith, first, top_below b n h) in
     rw (

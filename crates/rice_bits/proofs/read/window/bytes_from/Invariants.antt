@@ -6,7 +6,7 @@ use Rattle.rice_bits.proofs.read.window.bytes_from.Given as goal
 abbrev pub invariant-loop-i : goal.invariant-loop-i
 invariant-loop-i l = record {
   len : length l.words ≡ length l.fn.words;
-  place : l.at ≡ l.fn.at + 32 * l.i;
-  fit : All (λ v. v < 2 ^ 8) (take (4 * l.i) l.words);
-  bits : flat_map (word 8) (take (4 * l.i) l.words) ≡ take (4 * l.i * 8) (drop l.fn.at (bits_of l.bytes));
+  place : l.at ≡ l.fn.at + 64 * l.i;
+  fit : All (λ v. v < 2 ^ 8) (take (8 * l.i) l.words);
+  bits : flat_map (word 8) (take (8 * l.i) l.words) ≡ take (8 * l.i * 8) (drop l.fn.at (bits_of l.bytes));
 }

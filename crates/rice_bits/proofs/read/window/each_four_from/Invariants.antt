@@ -1,7 +1,7 @@
 use Rattle.std.proofs.Common.{◌≡◌, ◌*◌, ◌^◌, ◌<◌, length, take, drop}
 use Rattle.std.specs.Prelude.{All, flat_map}
 use Rattle.rice_bits.specs.Bits.{word, bits_of}
-use Rattle.rice_bits.proofs.read.window.fours_from.Given as goal
+use Rattle.rice_bits.proofs.read.window.each_four_from.Given as goal
 
 abbrev pub invariant-loop-i : goal.invariant-loop-i
 invariant-loop-i l = record {

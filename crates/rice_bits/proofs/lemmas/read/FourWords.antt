@@ -53,17 +53,17 @@ halves-apart e o w h p q =
     let most = pow-le-pow_right {n = 2} (omega arith) {i = w} {j = 28} h in
     omega (arith, p, q, most)
 
-wide-lanes : (x y w : ℕ) → w ≤ 28 → x < 2 ^ 64 → y < 2 ^ 64 → lanes (halves x w) (halves y w) ≡ even x w ∷ odd x w ∷ even y w ∷ odd y w ∷ []
-wide-lanes x y w h p q =
+words-lanes : (x y w : ℕ) → w ≤ 28 → x < 2 ^ 64 → y < 2 ^ 64 → lanes (halves x w) (halves y w) ≡ even x w ∷ odd x w ∷ even y w ∷ odd y w ∷ []
+words-lanes x y w h p q =
     let most = pow-le-pow_right {n = 2} (omega arith) {i = w} {j = 28} h in
     let first = halves-apart (even x w) (odd x w) w h (even-below x w h p) (odd-below x w h) in
     let second = halves-apart (even y w) (odd y w) w h (even-below y w h q) (odd-below y w h) in
     (λ j. lanes (first j) (second j)) ∙ four-lanes (even x w) (odd x w) (even y w) (odd y w)
     (omega (arith, most, even-below x w h p)) (omega (arith, most, odd-below x w h)) (omega (arith, most, even-below y w h q)) (omega (arith, most, odd-below y w h))
 
-pub wide-fit : (x y w : ℕ) → w ≤ 28 → x < 2 ^ 64 → y < 2 ^ 64 → All (λ v. v < 2 ^ w) (lanes (halves x w) (halves y w))
-wide-fit x y w h p q =
-    subst (All (λ v. v < 2 ^ w)) (sym (wide-lanes x y w h p q))
+pub four-fit : (x y w : ℕ) → w ≤ 28 → x < 2 ^ 64 → y < 2 ^ 64 → All (λ v. v < 2 ^ w) (lanes (halves x w) (halves y w))
+four-fit x y w h p q =
+    subst (All (λ v. v < 2 ^ w)) (sym (words-lanes x y w h p q))
     (all-four (λ v. v < 2 ^ w) (even x w) (odd x w) (even y w) (odd y w) (even-below x w h p) (odd-below x w h) (even-below y w h q) (odd-below y w h))
 
 -- the first two words of 64 digits
@@ -75,19 +75,19 @@ two-front x w h =
     let second : word w (odd x w) ++ [] ≡ take w (drop w bits) = append-nil (word w (odd x w)) ∙ word-behind 64 w w x (omega (arith, h)) in
     (λ j. first j ++ second j) ∙ (sym (take-add w w bits) ∙ ap (λ n. take n bits) two)
 
-pub wide-words : (x y w : ℕ) → w ≤ 28 → x < 2 ^ 64 → y < 2 ^ 64
+pub four-words : (x y w : ℕ) → w ≤ 28 → x < 2 ^ 64 → y < 2 ^ 64
     → flat_map (word w) (lanes (halves x w) (halves y w)) ≡ take (2 * w) (word 64 x) ++ take (2 * w) (word 64 y)
-wide-words x y w h p q =
+four-words x y w h p q =
     let first = two-front x w h in
     let second = two-front y w h in
-    ap (flat_map (word w)) (wide-lanes x y w h p q)
+    ap (flat_map (word w)) (words-lanes x y w h p q)
     ∙ (flat_map-append (word w) (even x w ∷ odd x w ∷ []) (even y w ∷ odd y w ∷ []) ∙ (λ j. first j ++ second j))
 
 -- four words, two from each of two places
-pub wide-ahead : (w at x y : ℕ) (bits : List Bool) (four : List ℕ) → w ≤ 28 → word 64 x ≡ take (64 - at % 8) (drop at bits) ++ replicate (at % 8) false
+pub four-ahead : (w at x y : ℕ) (bits : List Bool) (four : List ℕ) → w ≤ 28 → word 64 x ≡ take (64 - at % 8) (drop at bits) ++ replicate (at % 8) false
     → word 64 y ≡ take (64 - (at + 2 * w) % 8) (drop (at + 2 * w) bits) ++ replicate ((at + 2 * w) % 8) false
     → flat_map (word w) four ≡ take (2 * w) (word 64 x) ++ take (2 * w) (word 64 y) → flat_map (word w) four ≡ take (4 * w) (drop at bits)
-wide-ahead w at x y bits four h before behind e =
+four-ahead w at x y bits four h before behind e =
     let two = 2 * w in
     let all : two + two ≡ 4 * w = omega arith in
     let first : take two (word 64 x) ≡ take two (drop at bits) = front-ahead (drop at bits) two (64 - at % 8) (at % 8) x (omega (arith, h)) (omega arith) before in

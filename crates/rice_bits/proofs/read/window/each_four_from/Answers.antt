@@ -3,8 +3,14 @@ use Rattle.std.specs.Prelude.{All, flat_map}
 use Rattle.std.specs.Simd.Lanes.{put_chunk}
 use Rattle.std.proofs.lemmas.Simd.{length-put_chunk}
 use Rattle.rice_bits.specs.Bits.{word, bits_of}
+use Rattle.rice_bits.specs.read.Window.{most_waiting}
+use Rattle.rice_bits.proofs.lemmas.read.FourWords.{four-within}
 use Rattle.rice_bits.proofs.lemmas.read.WindowLemmas.{words-written, all-written, all-last, words-last}
-use Rattle.rice_bits.proofs.read.window.fours_from.Goals as goal
+use Rattle.rice_bits.proofs.read.window.each_four_from.Goals as goal
+
+pub four_from-four-requires-clause-within : goal.four_from-four-requires-clause-within
+four_from-four-requires-clause-within c =
+    four-within c.args.at c.args.width (4 * c.loop-i.i) (length c.args.words.now) most_waiting (omega (arith, c.loop-i-test.true, c.requires.some)) c.requires.within
 
 pub loop-i-preserved : goal.loop-i-preserved
 loop-i-preserved c =

@@ -1,8 +1,0 @@
-use Rattle.rice_bits.specs.Bits.{bits_of}
-use Rattle.rice_bits.proofs.lemmas.read.WideWords.{wide-ahead}
-use Rattle.rice_bits.proofs.read.wide_words.wide_four_from.Goals as goal
-
-pub returns-clause-bits : goal.returns-clause-bits
-returns-clause-bits c =
-    wide-ahead c.args.width c.args.at c.bits_from-first.result c.bits_from-second.result (bits_of c.args.bytes.now) c.wide_words.result c.requires.width.1
-    c.bits_from-first.ensures c.bits_from-second.ensures c.wide_words.ensures.bits
