@@ -77,7 +77,11 @@ pub(crate) fn store_word(word: u32, msb: bool, bytes: &mut [u8])
         2 if msb => bytes.copy_from_slice(&[b, a]),
         2 => bytes.copy_from_slice(&[a, b]),
         3 if msb => bytes.copy_from_slice(&[c, b, a]),
-        3 => bytes.copy_from_slice(&[a, b, c]),
+        3 => {
+            // Two at one stroke and one more.
+            bytes[..2].copy_from_slice(&[a, b]);
+            bytes[2] = c;
+        }
         _ if msb => bytes.copy_from_slice(&[d, c, b, a]),
         _ => bytes.copy_from_slice(&[a, b, c, d]),
     }

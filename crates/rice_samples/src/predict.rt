@@ -6,3 +6,4 @@ pub mod preprocessor;
 pub(crate) mod rank_lanes;
 pub(crate) mod residuals;
 pub mod samples;
+mod turns;

@@ -10,3 +10,4 @@ pub mod RankedLevels
 pub mod Ranks
 pub mod ResidualLemmas
 pub mod RestoredLevels
+pub mod TurnLanes

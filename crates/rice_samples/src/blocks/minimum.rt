@@ -116,7 +116,8 @@ fn sure_digits(sum: u64, len: usize, price: u64) -> u32
 {
     // A digit halves the sum at least, and rounding takes no more than `len` off.
     let least = len as u64 + 2 * price;
-    least.leading_zeros().saturating_sub(sum.leading_zeros())
+    // Together they are as long as the longer one, and never 0, which the machine would count apart.
+    least.leading_zeros() - (sum | least).leading_zeros()
 }
 
 /// Returns the sum of the numbers without their `k` lowest digits, where `whole` is their sum.

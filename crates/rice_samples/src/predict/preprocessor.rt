@@ -81,7 +81,15 @@ pub(crate) fn number_with(greatest: u32, p: u32, d: u32) -> u32
     ensures fits { result ≤ greatest }
     ensures rank { rank_below (greatest + 1) p result ≡ d }
 {
-    number_along(greatest, p, d, way(d))
+    let twice = 2 * p as u64;
+    if twice < d as u64 {
+        return d;
+    }
+    let high = greatest - d;
+    if greatest as u64 + (high as u64) < twice {
+        return high;
+    }
+    p.wrapping_add(way(d))
 }
 
 /// Returns the way to the number with rank `d`, if it is near. The way wraps.
@@ -90,27 +98,6 @@ fn way(d: u32) -> u32
     ensures { result ≡ way_of (2 ^ 32) d }
 {
     (d >> 1) ^ 0u32.wrapping_sub(d & 1)
-}
-
-/// Returns the number up to `greatest` with rank `d` from `p`. It is `way` away from `p` if it is near.
-#[inline(always)]
-pub(crate) fn number_along(greatest: u32, p: u32, d: u32, way: u32) -> u32
-    requires before { p ≤ greatest }
-    requires residual { d ≤ greatest }
-    requires way { way ≡ way_of (2 ^ 32) d }
-    ensures fits { result ≤ greatest }
-    ensures rank { rank_below (greatest + 1) p result ≡ d }
-{
-    // All are computed, so that the machine selects one and does not branch.
-    let twice = 2 * p as u64;
-    let near = p.wrapping_add(way);
-    let high = greatest - d;
-    let below = if twice < d as u64 { d } else { near };
-    if greatest as u64 + (high as u64) < twice {
-        high
-    } else {
-        below
-    }
 }
 
 /// Returns the number with rank `d` from `p`, where the range goes on to `d` above `p` and further. It is `way` away from `p`

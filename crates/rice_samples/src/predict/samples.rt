@@ -6,7 +6,8 @@ ghost use Rattle.rice_samples.specs.predict.Residuals.{pattern as pattern_of, ra
 use crate::Setting;
 use crate::predict::narrow_near_lanes;
 use crate::predict::near_lanes::{are_near, near_numbers, ways};
-use crate::predict::preprocessor::{low_number_along, number_along, number_with};
+use crate::predict::preprocessor::{low_number_along, number_with};
+use crate::predict::turns::write_in_turn;
 use std::simd::prelude::*;
 
 /// Writes the levels of the samples with these residuals: the first after a sample at level `before`, and each other after the
@@ -19,12 +20,17 @@ pub fn restore_all(setting: &Setting, before: u32, residuals: &[u32], levels: &m
     ensures legal { All (λ l. l < value_count setting.now) levels.new }
     ensures ranks { ranks_below (value_count setting.now) before levels.new ≡ residuals.now }
 {
-    restore_as(setting, before, residuals, true, levels);
+    // It is laid out for blocks of 8.
+    match levels.len() {
+        8 => restore_eight(setting, before, residuals, levels),
+        len if len % 8 == 0 => restore_eights(setting, before, residuals, levels),
+        _ => restore_each(setting, before, residuals, levels),
+    }
 }
 
 /// Writes the levels of the samples with these residuals, as `restore_all` does. It is made for samples that are far from those
 /// before.
-#[inline(never)]
+#[inline(always)]
 pub fn restore_spread(setting: &Setting, before: u32, residuals: &[u32], levels: &mut [u32])
     requires before { before < value_count setting.now }
     requires residuals { All (λ d. d < value_count setting.now) residuals.now }
@@ -32,29 +38,15 @@ pub fn restore_spread(setting: &Setting, before: u32, residuals: &[u32], levels:
     ensures legal { All (λ l. l < value_count setting.now) levels.new }
     ensures ranks { ranks_below (value_count setting.now) before levels.new ≡ residuals.now }
 {
-    restore_as(setting, before, residuals, false, levels);
-}
-
-/// Writes the levels. `near` says whether to try first whether all are near.
-#[inline(always)]
-fn restore_as(setting: &Setting, before: u32, residuals: &[u32], near: bool, levels: &mut [u32])
-    requires before { before < value_count setting.now }
-    requires residuals { All (λ d. d < value_count setting.now) residuals.now }
-    requires len { length levels.old ≡ length residuals.now }
-    ensures legal { All (λ l. l < value_count setting.now) levels.new }
-    ensures ranks { ranks_below (value_count setting.now) before levels.new ≡ residuals.now }
-{
-    // It is laid out for blocks of 8.
     match levels.len() {
-        8 => restore_eight(setting, before, residuals, near, levels),
-        len if len % 8 == 0 => restore_eights(setting, before, residuals, near, levels),
-        _ => restore_each(setting, before, residuals, levels),
+        16 => restore_sixteen_in_turn(setting, before, residuals, levels),
+        _ => restore_others_in_turn(setting, before, residuals, levels),
     }
 }
 
 /// Writes the levels, eight at a time.
 #[inline(always)]
-fn restore_eights(setting: &Setting, before: u32, residuals: &[u32], near: bool, levels: &mut [u32])
+fn restore_eights(setting: &Setting, before: u32, residuals: &[u32], levels: &mut [u32])
     requires before { before < value_count setting.now }
     requires residuals { All (λ d. d < value_count setting.now) residuals.now }
     requires len { length levels.old ≡ length residuals.now }
@@ -66,14 +58,14 @@ fn restore_eights(setting: &Setting, before: u32, residuals: &[u32], near: bool,
     let mut last = before;
     for i in 0..levels.len() / 8 {
         let ranks = &residuals[8 * i..8 * i + 8];
-        restore_eight(&setting, last, ranks, near, &mut levels[8 * i..8 * i + 8]);
+        restore_eight(&setting, last, ranks, &mut levels[8 * i..8 * i + 8]);
         last = levels[8 * i + 7];
     }
 }
 
 /// Writes eight levels.
 #[inline(always)]
-fn restore_eight(setting: &Setting, before: u32, residuals: &[u32], near: bool, levels: &mut [u32])
+fn restore_eight(setting: &Setting, before: u32, residuals: &[u32], levels: &mut [u32])
     requires before { before < value_count setting.now }
     requires residuals { All (λ d. d < value_count setting.now) residuals.now }
     requires len { length levels.old ≡ length residuals.now }
@@ -81,9 +73,7 @@ fn restore_eight(setting: &Setting, before: u32, residuals: &[u32], near: bool, 
     ensures legal { All (λ l. l < value_count setting.now) levels.new }
     ensures ranks { ranks_below (value_count setting.now) before levels.new ≡ residuals.now }
 {
-    if !near {
-        restore_in_turn(setting, before, residuals, levels);
-    } else if setting.bits() <= 16 {
+    if setting.bits() <= 16 {
         restore_narrow(setting, before, residuals, levels);
     } else {
         restore_wide(setting, before, residuals, levels);
@@ -170,6 +160,20 @@ fn restore_low(setting: &Setting, before: u32, residuals: &[u32], levels: &mut [
     }
 }
 
+/// Writes eight levels one at a time.
+#[inline(always)]
+fn restore_eight_in_turn(setting: &Setting, before: u32, residuals: &[u32], levels: &mut [u32])
+    requires before { before < value_count setting.now }
+    requires residuals { All (λ d. d < value_count setting.now) residuals.now }
+    requires len { length levels.old ≡ length residuals.now }
+    requires eight { length residuals.now ≡ 8 }
+    ensures legal { All (λ l. l < value_count setting.now) levels.new }
+    ensures ranks { ranks_below (value_count setting.now) before levels.new ≡ residuals.now }
+{
+    let greatest = (setting.values() - 1) as u32;
+    write_in_turn(greatest, before, residuals, levels);
+}
+
 /// Writes eight levels one at a time. It is never inlined: in a loop, branches would be made of its selections.
 #[inline(never)]
 fn restore_in_turn(setting: &Setting, before: u32, residuals: &[u32], levels: &mut [u32])
@@ -180,12 +184,56 @@ fn restore_in_turn(setting: &Setting, before: u32, residuals: &[u32], levels: &m
     ensures legal { All (λ l. l < value_count setting.now) levels.new }
     ensures ranks { ranks_below (value_count setting.now) before levels.new ≡ residuals.now }
 {
-    let greatest = (setting.values() - 1) as u32;
-    let ways = ways(u32x8::from_slice(residuals)).to_array();
-    let mut level = before;
-    for i in 0..8 {
-        level = number_along(greatest, level, residuals[i], ways[i]);
-        levels[i] = level;
+    restore_eight_in_turn(setting, before, residuals, levels);
+}
+
+/// Writes sixteen levels one at a time. It is never inlined, as `restore_in_turn`.
+#[inline(never)]
+fn restore_sixteen_in_turn(setting: &Setting, before: u32, residuals: &[u32], levels: &mut [u32])
+    requires before { before < value_count setting.now }
+    requires residuals { All (λ d. d < value_count setting.now) residuals.now }
+    requires len { length levels.old ≡ length residuals.now }
+    requires sixteen { length residuals.now ≡ 16 }
+    ensures legal { All (λ l. l < value_count setting.now) levels.new }
+    ensures ranks { ranks_below (value_count setting.now) before levels.new ≡ residuals.now }
+{
+    let setting = *setting;
+    let (first, second) = levels.split_at_mut(8);
+    restore_eight_in_turn(&setting, before, &residuals[..8], first);
+    restore_eight_in_turn(&setting, first[7], &residuals[8..], second);
+}
+
+/// Writes levels one at a time, sixteen in a row where their number is a multiple of sixteen.
+#[inline(never)]
+fn restore_others_in_turn(setting: &Setting, before: u32, residuals: &[u32], levels: &mut [u32])
+    requires before { before < value_count setting.now }
+    requires residuals { All (λ d. d < value_count setting.now) residuals.now }
+    requires len { length levels.old ≡ length residuals.now }
+    ensures legal { All (λ l. l < value_count setting.now) levels.new }
+    ensures ranks { ranks_below (value_count setting.now) before levels.new ≡ residuals.now }
+{
+    match levels.len() {
+        8 => restore_in_turn(setting, before, residuals, levels),
+        len if len % 16 == 0 => restore_sixteens_in_turn(setting, before, residuals, levels),
+        _ => restore_each(setting, before, residuals, levels),
+    }
+}
+
+/// Writes levels one at a time, sixteen in a row.
+fn restore_sixteens_in_turn(setting: &Setting, before: u32, residuals: &[u32], levels: &mut [u32])
+    requires before { before < value_count setting.now }
+    requires residuals { All (λ d. d < value_count setting.now) residuals.now }
+    requires len { length levels.old ≡ length residuals.now }
+    requires sixteens { length residuals.now % 16 ≡ 0 }
+    ensures legal { All (λ l. l < value_count setting.now) levels.new }
+    ensures ranks { ranks_below (value_count setting.now) before levels.new ≡ residuals.now }
+{
+    let setting = *setting;
+    let mut last = before;
+    for i in 0..levels.len() / 16 {
+        let ranks = &residuals[16 * i..16 * i + 16];
+        restore_sixteen_in_turn(&setting, last, ranks, &mut levels[16 * i..16 * i + 16]);
+        last = levels[16 * i + 15];
     }
 }
 

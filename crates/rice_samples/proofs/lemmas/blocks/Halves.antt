@@ -3,7 +3,8 @@ use Rattle.std.proofs.Common.{◌≡◌, ℕ, suc, ◌+◌, ◌-◌, ◌*◌, �
 use Rattle.std.proofs.lemmas.Bool.{cases_lt}
 use Rattle.std.proofs.lemmas.List.Elements.{All-head, All-tail}
 use Rattle.std.proofs.lemmas.List.Sums.{sum_by-cons, sum_by-le-sum_by}
-use Rattle.std.proofs.lemmas.Nat.{leading_length, pow-add, pow_pos}
+use Rattle.std.specs.Prelude.{bit_or}
+use Rattle.std.proofs.lemmas.Nat.{le_or_r, leading_length, or_lt, pow-add, pow_pos}
 use Rattle.std.proofs.Math.Nat.{div-div-eq-div-mul, div-le_self, mod-add-div, mod-lt, mul-le-mul_right, pow-le-pow_right}
 use lib.Count.{count_leading_zeros}
 
@@ -76,13 +77,31 @@ small_total (d ∷ ds) h =
 pub small_sums : (ds : List ℕ) (k : ℕ) → length ds ≤ 64 → All (λ d. d < 2 ^ 26) ds → cut_sum ds k < 2 ^ 32
 small_sums ds k few h = omega (arith, few, small_total ds h, sum_within ds k)
 
--- a number with more leading zeros than another is so much smaller
-pub zeros_below : (a b j : ℕ) → a < 2 ^ 64 → b < 2 ^ 64 → j < count_leading_zeros 64 a - count_leading_zeros 64 b → a * 2 ^ j ≤ b
+-- a number with more leading zeros than it has joined with another is so much smaller than that
+pub zeros_below : (a b j : ℕ) → a < 2 ^ 64 → b < 2 ^ 64 → j < count_leading_zeros 64 a - count_leading_zeros 64 (bit_or b a) → a * 2 ^ j ≤ b
 zeros_below a b j fits below h =
     let l = leading_length 64 a fits in
-    let t = leading_length 64 b below in
+    let t = leading_length 64 (bit_or b a) (or_lt 64 b a below fits) in
     let p : 2 ^ (l.0 + j) ≡ 2 ^ l.0 * 2 ^ j = pow-add 2 l.0 j in
     let q : 2 ^ (l.0 + j + 1) ≡ 2 ^ (l.0 + j) * 2 = pow-add 2 (l.0 + j) 1 in
     let up : 2 ^ (l.0 + j + 1) ≤ 2 ^ t.0 = pow-le-pow_right {n = 2} (omega arith) {i = l.0 + j + 1} {j = t.0} (omega (arith, h, l.1, t.1)) in
     let le : a * 2 ^ j ≤ 2 ^ l.0 * 2 ^ j = mul-le-mul_right (2 ^ j) (omega (arith, l.1)) in
-    omega (arith, le, up, q, p, t.1)
+    let wide : 2 ^ l.0 ≤ 2 ^ (l.0 + j) = pow-le-pow_right {n = 2} (omega arith) {i = l.0} {j = l.0 + j} (omega arith) in
+    elim (cases_lt b (2 ^ (l.0 + j))) [
+      | inl lt ↦ let both = or_lt (l.0 + j) b a lt (omega (arith, wide, l.1)) in absurd (omega (arith, both, up, q, t.1))
+      | inr ge ↦ omega (arith, le, p, ge)
+    ]
+
+-- joined with another, a number has no more leading zeros
+pub zeros_joined : (a b : ℕ) → a < 2 ^ 64 → b < 2 ^ 64 → count_leading_zeros 64 (bit_or b a) ≤ count_leading_zeros 64 a
+zeros_joined a b fits below =
+    let l = leading_length 64 a fits in
+    let t = leading_length 64 (bit_or b a) (or_lt 64 b a below fits) in
+    let within = le_or_r b a in
+    elim (cases_lt t.0 l.0) [
+      | inl lt ↦
+          let q : 2 ^ (t.0 + 1) ≡ 2 ^ t.0 * 2 = pow-add 2 t.0 1 in
+          let up : 2 ^ (t.0 + 1) ≤ 2 ^ l.0 = pow-le-pow_right {n = 2} (omega arith) {i = t.0 + 1} {j = l.0} (omega (arith, lt)) in
+          absurd (omega (arith, within, q, up, l.1, t.1))
+      | inr ge ↦ omega (arith, ge, l.1, t.1)
+    ]

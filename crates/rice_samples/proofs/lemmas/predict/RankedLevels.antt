@@ -1,10 +1,10 @@
 -- The ranks of levels in a row.
-use Rattle.std.proofs.Common.{◌≡◌, ℕ, zero, suc, ◌+◌, ◌-◌, ◌<◌, ◌≤◌, List, [], ◌∷◌, ◌++◌, length, take, drop, All, refl, ap, sym, arith, ◌∙◌, append-nil, get_or}
+use Rattle.std.proofs.Common.{◌≡◌, ℕ, zero, suc, ◌-◌, ◌<◌, ◌≤◌, List, [], ◌∷◌, ◌++◌, length, take, drop, All, refl, ap, sym, arith, ◌∙◌, append-nil, get_or}
 use Rattle.std.specs.Prelude.{slice_range}
 use Rattle.std.proofs.lemmas.List.{drop_all, length-drop, take-append-drop, take_all}
 use Rattle.std.proofs.lemmas.List.Elements.{All-drop, All-take}
 use borrow.Rule.Slice.PartMut.{put_mid}
-use Rattle.rice_samples.specs.predict.Residuals.{rank_below, ranks_below, last_number}
+use Rattle.rice_samples.specs.predict.Residuals.{ranks_below, last_number}
 use Rattle.rice_samples.proofs.lemmas.predict.RestoredLevels.{ranks_below-append}
 
 pub last_number_at : (p d : ℕ) (xs : List ℕ) → 0 < length xs → last_number p xs ≡ get_or xs (length xs - 1) d

@@ -1,5 +1,5 @@
 -- Levels that are restored one after the other.
-use Rattle.std.proofs.Common.{◌≡◌, ℕ, ◌+◌, ◌-◌, ◌*◌, ◌<◌, ◌≤◌, arith, drop, zero, suc, length-append, List, [], ◌∷◌, ◌++◌, length, take, refl, ap, sym, subst, ◌∙◌, get_or, slice_set, All}
+use Rattle.std.proofs.Common.{◌≡◌, ℕ, ◌+◌, ◌<◌, ◌≤◌, arith, drop, zero, suc, length-append, List, [], ◌∷◌, ◌++◌, length, take, refl, ap, sym, subst, ◌∙◌, get_or, slice_set, All}
 use Rattle.std.proofs.lemmas.List.{length-take-le, take_more, take_more_set, get_or-take}
 use Rattle.std.proofs.lemmas.List.Elements.{All-append}
 use Rattle.std.proofs.lemmas.Slice.{take-put_mid}
@@ -37,16 +37,16 @@ restored-more count before i reached next above levels ds h k so_far within same
       within = within;
     }
 
--- eight more
+-- a row more
 
-eight_taken : {A : Type 0} (i k : ℕ) (xs ys : List A) → length ys ≡ 8 → 8 * i + 8 ≤ length xs → take (8 * (i + 1)) (put_mid (8 * i) k xs ys) ≡ take (8 * i) xs ++ ys
-eight_taken i k xs ys n h = take-put_mid (8 * i) k xs ys (8 * (i + 1)) (omega arith) (omega arith)
+row_taken : {A : Type 0} (a k m : ℕ) (xs ys : List A) → length ys ≡ k → m ≡ a + k → m ≤ length xs → take m (put_mid a k xs ys) ≡ take a xs ++ ys
+row_taken a k m xs ys n e h = take-put_mid a k xs ys m (omega arith) (omega arith)
 
-eight_len : {A : Type 0} (i k : ℕ) (xs ys : List A) → length ys ≡ 8 → 8 * i + 8 ≤ length xs → length (take (8 * (i + 1)) (put_mid (8 * i) k xs ys)) ≡ 8 * i + 8
-eight_len i k xs ys n h = ap length (eight_taken i k xs ys n h) ∙ (length-append (take (8 * i) xs) ys ∙ (λ j. length-take-le (8 * i) xs (omega (arith, h)) j + n j))
+row_len : {A : Type 0} (a k m : ℕ) (xs ys : List A) → length ys ≡ k → m ≡ a + k → m ≤ length xs → length (take m (put_mid a k xs ys)) ≡ m
+row_len a k m xs ys n e h = ap length (row_taken a k m xs ys n e h) ∙ (length-append (take a xs) ys ∙ ((λ j. length-take-le a xs (omega (arith, e, h)) j + n j) ∙ sym e))
 
-long_enough : {A : Type 0} (i : ℕ) (xs : List A) → length (take (8 * (i + 1)) xs) ≡ 8 * i + 8 → 8 * i + 8 ≤ length xs
-long_enough {A = A} i xs e = omega (arith, e, all (8 * (i + 1)) xs)
+long_enough : {A : Type 0} (m : ℕ) (xs : List A) → length (take m xs) ≡ m → m ≤ length xs
+long_enough {A = A} m xs e = omega (arith, e, all m xs)
   where
     all : (n : ℕ) (xs : List A) → length (take n xs) ≤ length xs
     all zero xs = omega arith
@@ -56,24 +56,23 @@ long_enough {A = A} i xs e = omega (arith, e, all (8 * (i + 1)) xs)
 pub last_taken : (p n m : ℕ) (xs : List ℕ) (d : ℕ) → m ≡ n + 1 → n < length xs → get_or xs n d ≡ last_number p (take m xs)
 last_taken p n m xs d e h = sym (ap (λ k. last_number p (take k xs)) e ∙ (ap (last_number p) (take_more xs n d h) ∙ last_number-push p (take n xs) (get_or xs n d)))
 
-pub restored-eight : (count before i k reached : ℕ) (levels ys ds : List ℕ) → length ys ≡ 8 → 8 * i + 8 ≤ length levels → AreRestored count before (8 * i) reached levels ds → All (λ l. l < count) ys
-    → ranks_below count reached ys ≡ take (8 * i + 8 - 8 * i) (drop (8 * i) ds) → AreRestored count before (8 * (i + 1)) (get_or (put_mid (8 * i) k levels ys) (8 * i + 7) 0) (put_mid (8 * i) k levels ys) ds
-restored-eight count before i k reached levels ys ds n room so_far small ranked =
-    let now = put_mid (8 * i) k levels ys in
-    let taken = eight_taken i k levels ys n room in
-    let m : 8 * (i + 1) ≡ 8 * i + 8 = omega arith in
-    let few : 8 * i + 8 - 8 * i ≡ 8 = omega arith in
-    let first = take (8 * i) levels in
-    let more : ranks_below count (last_number before first) ys ≡ take 8 (drop (8 * i) ds) = ap (λ q. ranks_below count q ys) (sym so_far.last_is) ∙ (ranked ∙ ap (λ q. take q (drop (8 * i) ds)) few) in
-    let all : All (λ l. l < count) (take (8 * (i + 1)) now) = subst (All (λ l. l < count)) (sym taken) (All-append (λ l. l < count) first ys so_far.legal small) in
-    let len = eight_len i k levels ys n room in
-    let long : 8 * i + 8 ≤ length now = long_enough i now len in
-    let there : 8 * i + 7 < length (take (8 * (i + 1)) now) = omega (arith, len) in
-    let same = get_or-take (8 * (i + 1)) now (8 * i + 7) 0 (omega arith) in
+-- up to `m` from the place `a`, with `last` as the last one
+pub restored-row : (count before a k m last reached : ℕ) (levels ys ds : List ℕ) → length ys ≡ k → m ≡ a + k → m ≡ last + 1 → m ≤ length levels → AreRestored count before a reached levels ds → All (λ l. l < count) ys
+    → ranks_below count reached ys ≡ take k (drop a ds) → AreRestored count before m (get_or (put_mid a k levels ys) last 0) (put_mid a k levels ys) ds
+restored-row count before a k m last reached levels ys ds n e f room so_far small ranked =
+    let now = put_mid a k levels ys in
+    let taken = row_taken a k m levels ys n e room in
+    let first = take a levels in
+    let more : ranks_below count (last_number before first) ys ≡ take k (drop a ds) = ap (λ q. ranks_below count q ys) (sym so_far.last_is) ∙ ranked in
+    let all : All (λ l. l < count) (take m now) = subst (All (λ l. l < count)) (sym taken) (All-append (λ l. l < count) first ys so_far.legal small) in
+    let len = row_len a k m levels ys n e room in
+    let long : m ≤ length now = long_enough m now len in
+    let there : last < length (take m now) = omega (arith, len, f) in
+    let same = get_or-take m now last 0 (omega (arith, f)) in
     record {
       legal = all;
       ranked = ap (ranks_below count before) taken
-          ∙ (ranks_below-append count before first ys ∙ ((λ j. so_far.ranked j ++ more j) ∙ (sym (take-add (8 * i) 8 ds) ∙ ap (λ q. take q ds) (sym m))));
-      last_is = last_taken before (8 * i + 7) (8 * (i + 1)) now 0 (omega arith) (omega (arith, long));
-      within = subst (λ (l : ℕ). l < count) same (all (8 * i + 7) 0 there);
+          ∙ (ranks_below-append count before first ys ∙ ((λ j. so_far.ranked j ++ more j) ∙ (sym (take-add a k ds) ∙ ap (λ q. take q ds) (sym e))));
+      last_is = last_taken before last m now 0 f (omega (arith, long, f));
+      within = subst (λ (l : ℕ). l < count) same (all last 0 there);
     }
