@@ -165,7 +165,10 @@ ROWS = [
 
 
 def cpu_times(commands):
-    """The least CPU time of some runs of each command, in seconds. The commands run in turn, so that a busy machine slows all."""
+    """The least CPU time of some runs of each command, in seconds. The commands run in turn, so that a busy machine slows all, and
+    on one processor, so that none is moved to another."""
+    processors = os.sched_getaffinity(0)
+    os.sched_setaffinity(0, {max(processors)})
     best = [math.inf] * len(commands)
     for _ in range(RUNS):
         for i, command in enumerate(commands):
@@ -173,6 +176,7 @@ def cpu_times(commands):
             subprocess.run(command, check=True)
             after = resource.getrusage(resource.RUSAGE_CHILDREN)
             best[i] = min(best[i], after.ru_utime + after.ru_stime - before.ru_utime - before.ru_stime)
+    os.sched_setaffinity(0, processors)
     return best
 
 
