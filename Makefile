@@ -3,7 +3,7 @@ RANDOM_INPUTS ?= 100000
 LIBRARY_CODES ?= 1000000
 
 .DEFAULT_GOAL := help
-.PHONY: help aec library install install-command install-library uninstall test rows hostile interop refused-memory installed recipes documents bench examples stack hostile-library bench-library
+.PHONY: help library install install-command install-library uninstall test test-each rows hostile interop refused-memory installed recipes documents bench examples stack hostile-library bench-library
 
 help:
 	@echo 'make aec                    prove and build the program, as ./aec (ten minutes the first time)'
@@ -11,7 +11,8 @@ help:
 	@echo 'make install PREFIX=DIR     install both in DIR (/usr/local), with manual page, completions, header and rice.pc'
 	@echo 'make install-command, make install-library   install one of them'
 	@echo 'make uninstall PREFIX=DIR   remove what these installed'
-	@echo 'make test                   prove everything from nothing, and run all tests (an hour)'
+	@echo 'make test                   prove everything from nothing, try the edits that must fail, and run all tests (half an hour)'
+	@echo 'make test-each              the same by the toolchain alone, each edit by a check of its own (an hour)'
 	@echo 'make rows                   run the cases of scripts/rows.txt with ./aec'
 	@echo 'make hostile                run ./aec on damaged and random codes, and on files and streams that fail'
 	@echo "make interop                exchange codes between ./aec and Debian's aec (libaec-tools)"
@@ -25,15 +26,32 @@ help:
 	@echo 'make hostile-library        give the library damaged and random codes, and too little room'
 	@echo "make bench-library          compare the speed of the library and Debian's libaec (libaec-dev)"
 
-aec:
+LIBRARIES := rice_bits rice_samples rice_code rice_stream
+sources = $(shell find $(foreach crate,$(1),$(wildcard $(addprefix crates/$(crate)/,src specs proofs))) -type f) crates.txt
+PROVE_LIBRARIES = for crate in $(LIBRARIES); do (cd crates/$$crate && rt lib > /dev/null) || exit 1; done
+
+aec: crates/aec_tool/out/aec_tool
+	cp $< $@
+
+# The libraries first, one after the other: `rt run` alone would begin with a pass over all sources, which takes minutes.
+crates/aec_tool/out/aec_tool: $(call sources,$(LIBRARIES) aec_tool)
+	$(PROVE_LIBRARIES)
 	cd crates/aec_tool && rt run -- --help > /dev/null
-	cp crates/aec_tool/out/aec_tool aec
+	touch $@
+
+library: librice.a librice.so
+
+librice.a: crates/rice_c/out/librice_c.a
+	cp $< $@
 
 # The object needs nothing but memcpy, memmove and memset, so the shared library is the static one.
-library:
+librice.so: librice.a
+	$(CC) -shared -Wl,-soname,librice.so.0 -Wl,--whole-archive librice.a -Wl,--no-whole-archive -o $@
+
+crates/rice_c/out/librice_c.a: $(call sources,$(LIBRARIES) rice_c)
+	$(PROVE_LIBRARIES)
 	cd crates/rice_c && rt lib > /dev/null
-	cp crates/rice_c/out/librice_c.a librice.a
-	$(CC) -shared -Wl,-soname,librice.so.0 -Wl,--whole-archive librice.a -Wl,--no-whole-archive -o librice.so
+	touch $@
 
 install: install-command install-library
 
@@ -62,6 +80,9 @@ uninstall:
 	rm -f $(DESTDIR)$(PREFIX)/share/zsh/site-functions/_aec
 
 test:
+	scripts/gate.py
+
+test-each:
 	rt ci
 
 rows: aec

@@ -1,0 +1,87 @@
+"""Where an edit changes a crate: the function whose body it changes, or none."""
+import dataclasses
+import re
+
+HEAD = re.compile(r'( *)(?:pub(?:\([^)]*\))? )?(?:const |unsafe |extern "C" )*fn (\w+)')
+CLAUSE = re.compile(r" *(requires|ensures|ghost)\b")
+OWNER = re.compile(r"impl(?:<.*?>)? (?:(\w+)(?:<.*>)? for )?&?(?:'\w+ )?(?:mut )?(\w+)")
+
+
+@dataclasses.dataclass(frozen=True)
+class Function:
+    """A function of a source file in the layout of `rt fmt`: its name in a check's lines, and its places in the text."""
+
+    name: str
+    file: str
+    start: int
+    body: int
+    end: int
+    first: int
+    last: int
+
+
+def owner_of(lines, at):
+    """Returns the type of the impl around a line, with the trait's name behind it, or the trait's name."""
+    for line in reversed(lines[:at]):
+        if line.startswith("trait ") or line.startswith("pub trait "):
+            return re.match(r"(?:pub )?trait (\w+)", line)[1]
+        found = OWNER.match(line)
+        if found:
+            return found[2] + (found[1] or "")
+    return ""
+
+
+def body_of(lines, at, indent):
+    """Returns the line that opens the body of the function whose head is in a line, or None where it has none."""
+    has_clause = False
+    for number in range(at, len(lines)):
+        line = lines[number]
+        if line == indent + "{" or not has_clause and line.endswith(" {"):
+            return number
+        if line.endswith(";") and not has_clause or number > at and HEAD.match(line):
+            return None
+        has_clause = has_clause or bool(CLAUSE.match(line))
+    return None
+
+
+def item_at(lines, at):
+    """Returns the line where the item begins whose head is in a line: its documentation and attributes stand above."""
+    while at > 0 and lines[at - 1] and lines[at - 1][-1] not in "{};":
+        at -= 1
+    return at
+
+
+def functions_in(crate, file, text):
+    """Returns the functions with a body of a source file."""
+    module = [it for it in file[len("src/") : -len(".rt")].split("/") if it not in ("lib", "main")]
+    lines = text.split("\n")
+    starts = [0]
+    for line in lines:
+        starts.append(starts[-1] + len(line) + 1)
+    found = []
+    for at, line in enumerate(lines):
+        head = HEAD.match(line)
+        opens = body_of(lines, at, head[1]) if head else None
+        if opens is None:
+            continue
+        closes = next((it for it in range(opens, len(lines)) if lines[it] == head[1] + "}"), opens)
+        owner = [owner_of(lines, at)] if head[1] else []
+        name = "::".join([crate, *module, *owner, head[2]])
+        found.append(Function(name, file, starts[at], starts[opens + 1] - 1, starts[closes + 1],
+                              item_at(lines, at) + 1, closes + 1))
+    return found
+
+
+def changed(old, new):
+    """Returns the first and the last place of the old text that differ from the new, and the new text between them."""
+    most = min(len(old), len(new))
+    front = next((it for it in range(most) if old[it] != new[it]), most)
+    back = next((it for it in range(most - front) if old[len(old) - 1 - it] != new[len(new) - 1 - it]), most - front)
+    return front, len(old) - back, new[front : len(new) - back]
+
+
+def around(functions, first, last):
+    """Returns the function in whose body both places lie, or None."""
+    inside = [it for it in functions if it.body <= first and last < it.end]
+    return max(inside, key=lambda it: it.start, default=None)
+

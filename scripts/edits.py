@@ -1,0 +1,319 @@
+#!/usr/bin/env python3
+"""Tries the edits that must fail (crates/NAME/must-fail/*.edit), many in one check.
+
+What has to be shown of a function comes from its own body and from the contracts, types and constants that it names, never
+from another body. So edits of the bodies of different functions stand in one copy of the crate, and one check over the work
+that the crate's own check has kept tries them all. An edit is refused where a goal of its own function is open. That its
+function calls one that is not proved doesn't count: it is then tried in the next round. An edit that changes more than one
+body is tried alone.
+
+usage: edits [NAME ..]         the edits of these names, or of the crates of these names; all, if none is named
+       edits --since COMMIT    the edits of functions whose text, definitions or proofs that commit, or one after it, changed
+"""
+import collections
+import dataclasses
+import os
+import re
+import subprocess
+import sys
+import tempfile
+import typing
+
+import edit_places
+from toolchain import crates, keep_work, rt, rtlib, stop
+
+HEADER = re.compile(r"^(?:\./)?(\S+?):(\d+):\d+: (error|note|warning)\b|^note: (\S+?):(\d+):\d+: |^\S")
+PROOF_FILES = ("Answers.antt", "Invariants.antt", "Proof.antt")
+GONE = re.compile(r"is not in scope|has no field|has no `|is no name|was not admitted")
+
+
+@dataclasses.dataclass
+class Goal:
+    """A goal that is open, the function that it is of, and why it is."""
+
+    function: str
+    name: str
+    why: str
+
+
+@dataclasses.dataclass
+class Edit:
+    """An edit, the texts that it makes of files, why it can't be read, and the function whose body alone it changes."""
+
+    crate: typing.Any
+    path: str
+    texts: dict
+    why: str
+    function: edit_places.Function | None = None
+    change: tuple = ()
+
+    @property
+    def name(self):
+        return f"{self.crate.name}/{os.path.basename(self.path)[: -len('.edit')]}"
+
+
+@dataclasses.dataclass
+class Verdict:
+    """Whether an edit is refused, as it must be, and what is said of it."""
+
+    refused: bool
+    said: str
+
+
+def read(file):
+    with open(file, encoding="utf-8") as it:
+        return it.read()
+
+
+def edit_of(crate, path):
+    texts, why = rt.read_edit(path, crate.folder)
+    edit = Edit(crate, path, texts or {}, why or "")
+    if len(edit.texts) == 1:
+        (file, new), = edit.texts.items()
+        old = read(f"{crate.folder}/{file}")
+        first, last, text = edit_places.changed(old, new)
+        if file.startswith("src/"):
+            edit.function = edit_places.around(edit_places.functions_in(crate.name, file, old), first, last)
+            edit.change = (file, first, last, text)
+    return edit
+
+
+def texts_with(edits):
+    """Returns the texts of files with all of these edits, each of the body of another function."""
+    texts = {}
+    for file in {it.function.file for it in edits}:
+        texts[file] = read(f"{edits[0].crate.folder}/{file}")
+        changes = [it.change[1:] for it in edits if it.function.file == file]
+        for first, last, text in sorted(changes, reverse=True):
+            texts[file] = texts[file][:first] + text + texts[file][last:]
+    return texts
+
+
+def check(crate, texts):
+    """Returns the status of a check of a copy of the crate with these texts, over a copy of its kept work, and what it said."""
+    with tempfile.TemporaryDirectory(prefix="edits-", dir=f"{crate.folder}/out") as room:
+        os.mkdir(f"{room}/out")
+        for part in [*rtlib.PARTS, rtlib.KEPT[1]]:
+            if os.path.isdir(f"{crate.folder}/{part}"):
+                # (the toolchain writes no file twice, so links serve for copies)
+                how = "-al" if part == rtlib.KEPT[1] else "-a"
+                subprocess.run(["cp", how, f"{crate.folder}/{part}", f"{room}/{part}"], check=True)
+        for file, text in texts.items():
+            with open(f"{room}/{file}", "w", encoding="utf-8") as it:
+                it.write(text)
+        words = [*rtlib.guarded(), rtlib.RATTLE, "check", *crate.words(["--jobs", "1"], keeps=False)]
+        how = {"cwd": room, "stdin": subprocess.DEVNULL, "stdout": subprocess.PIPE, "stderr": subprocess.STDOUT}
+        ran = subprocess.run(words, errors="replace", **how)
+    return ran.returncode, ran.stdout
+
+
+def why_open(said):
+    """Returns what a check's lines on a goal say of why it is open."""
+    if re.search(r"values at which this goal is false|All of that holds, and the goal fails", said):
+        return "values make it false"
+    if re.search(r"gave up|its bounds|stopped at a bound", said):
+        return "the prover gave up"
+    if GONE.search(said):
+        return "a proof names what is gone"
+    return "its answer does not fit" if ": error" in said else "no proof was found"
+
+
+def goals_in(crate, texts, said):
+    """Returns the open goals that a check tells, each with the function whose it is."""
+    functions = [it for file, text in texts.items() if file.endswith(".rt")
+                 for it in edit_places.functions_in(crate.name, file, text)]
+    blocks = []
+    for line in said.split("\n"):
+        if HEADER.match(line) or not blocks:
+            blocks.append(line)
+        else:
+            blocks[-1] += "\n" + line
+    found = []
+    for block in blocks:
+        at = HEADER.match(block)
+        name = re.search(r"`([^`\s]+)`", block[at.end():] if at else "")
+        if at and at[1] and at[3] == "error" and at[1].startswith("proofs/"):
+            *folders, file = at[1].split("/")
+            owner = "::".join([crate.name, *folders[1:]]) if file in PROOF_FILES else at[1]
+            found.append(Goal(owner, name[1] if name else "its proof", why_open(block)))
+        elif at and at[4]:
+            name = re.search(r"\(`(\S+)`\)", block)
+            owner = [it for it in functions if it.file == at[4] and it.first <= int(at[5]) <= it.last]
+            if name and owner:
+                found.append(Goal(max(owner, key=lambda it: it.first).name, name[1], why_open(block)))
+    return found
+
+
+def lines_of_functions(said):
+    return dict(re.findall(r"(?m)^fn (\S+): (.*)", said))
+
+
+def has_verdict(said):
+    return re.search(r"(?m)^logic=(proved|not-proved)", said.rstrip().split("\n")[-1])
+
+
+def best(goals):
+    """Returns the goal that says most: one that values make false, before one that is open for another reason."""
+    order = ["values make it false", "its answer does not fit", "no proof was found", "the prover gave up"]
+    return min(goals, key=lambda it: order.index(it.why) if it.why in order else len(order))
+
+
+def told(goal):
+    return f"refused, as it must be: {goal.function}: `{goal.name}` is open: {goal.why}"
+
+
+def judged(edit, texts, said):
+    """Returns the verdict on an edit of one body, or None where its function was not judged for one that it calls."""
+    line = lines_of_functions(said).get(edit.function.name, "")
+    if line.startswith("proved"):
+        return Verdict(False, f"NOT REFUSED: {edit.function.name} is proved with this edit")
+    goals = [it for it in goals_in(edit.crate, texts, said) if it.function == edit.function.name]
+    if re.match(r"not proved|no proof", line) and goals:
+        goal = best(goals)
+        return Verdict(goal.why != "a proof names what is gone", told(goal))
+    if re.search(r"it calls|it passes|a call of", line):
+        return None
+    return Verdict(False, f"NOT JUDGED: {edit.function.name}: {line or 'the check has no line on it'}")
+
+
+def tried_alone(edit):
+    """Returns the verdict on an edit that a copy of the crate has alone."""
+    if edit.why:
+        return Verdict(False, f"BAD EDIT: {edit.why}")
+    status, said = check(edit.crate, edit.texts)
+    bad = next((it for it in said.split("\n") if rt.unread(it, edit.texts)), "")
+    if bad or not has_verdict(said) or rtlib.STALE.search(said):
+        return Verdict(False, f"BAD EDIT: it did not reach the prover: {bad or said.rstrip()[-300:]}")
+    if status == 0:
+        return Verdict(False, "NOT REFUSED: the crate is still proved with this edit")
+    goals = [it for it in goals_in(edit.crate, edit.texts, said) if it.why != "a proof names what is gone"]
+    if not goals:
+        return Verdict(False, "NOT JUDGED: no goal is open but for a name that is gone")
+    return Verdict(True, told(best(goals)))
+
+
+def tried_together(edits):
+    """Returns the verdicts that one check gives on edits of different functions' bodies."""
+    texts = texts_with(edits)
+    _, said = check(edits[0].crate, texts)
+    if has_verdict(said) and not any(rt.unread(it, texts) for it in said.split("\n")):
+        return {it.path: judged(it, texts, said) for it in edits}
+    if len(edits) == 1:
+        return {edits[0].path: tried_alone(edits[0])}
+    half = len(edits) // 2
+    return {**tried_together(edits[:half]), **tried_together(edits[half:])}
+
+
+def tried(edits):
+    """Returns the verdict on each edit of a crate that is proved, and has kept its work, by the edit's path."""
+    found = {it.path: tried_alone(it) for it in edits if it.why or not it.function}
+    left = [it for it in edits if it.path not in found]
+    while left:
+        now = list({it.function.name: it for it in reversed(left)}.values())
+        verdicts = tried_together(now)
+        found.update({path: it for path, it in verdicts.items() if it})
+        if not any(verdicts.values()):
+            found.update({it.path: tried_alone(it) for it in now})
+        left = [it for it in left if it.path not in found]
+    return found
+
+
+def edits_of(crate):
+    return [edit_of(crate, it) for it in rt.edits_of(crate)[0]]
+
+
+def is_proved(crate):
+    """Returns whether the crate is proved as it stands, over what it keeps, and keeps the work of that."""
+    kept = f"{crate.folder}/out/proved"
+    if os.path.isfile(kept) and read(kept) == crate.stamp():
+        return True
+    os.makedirs(f"{crate.folder}/out", exist_ok=True)
+    with open(f"{crate.folder}/out/check.log", "w", encoding="utf-8") as crate.out:
+        well = crate.needs_lower() and not crate.prove(["check", *crate.words(["--jobs", "2"], keeps=False)])
+    if well:
+        remember(crate)
+    return well
+
+
+def remember(crate):
+    """Keeps what tells that the crate is proved as it stands."""
+    with open(f"{crate.folder}/out/proved", "w", encoding="utf-8") as it:
+        it.write(crate.stamp())
+
+
+def git(*words):
+    ran = subprocess.run(["git", *words], capture_output=True, text=True)
+    return ran.stdout if ran.returncode == 0 else stop(ran.stderr.strip())
+
+
+def definitions_changed(commit):
+    """Returns the modules of definitions that differ from a commit, and those that use them."""
+    files = git("ls-files", "crates/*/specs/*.antt", "crates/*/specs/**/*.antt").split()
+    uses, found = {}, set()
+    for file in files:
+        crate, inside = re.match(r"crates/(\w+)/specs/(.*)\.antt", file).groups()
+        uses[f"Rattle.{crate}.specs.{inside.replace('/', '.')}"] = read(file)
+    for file in git("diff", "--name-only", commit, "--", "crates/*/specs").split():
+        crate, inside = re.match(r"crates/(\w+)/specs/(.*)\.antt", file).groups()
+        found.add(f"Rattle.{crate}.specs.{inside.replace('/', '.')}")
+    size = -1
+    while len(found) > size:
+        size = len(found)
+        found |= {it for it, text in uses.items() if any(names(text, changed) for changed in found)}
+    return found
+
+
+def names(text, module):
+    return re.search(rf"{re.escape(module)}\b(?!\.[a-z])", text)
+
+
+def is_touched(edit, commit, definitions):
+    """Returns whether the edit, its function, what its clauses name, or its proof differ from a commit."""
+    folder = os.path.relpath(edit.crate.folder, os.getcwd())
+    proof = edit.function and "/".join(edit.function.name.split("::")[1:])
+    paths = [os.path.relpath(edit.path), *([f"{folder}/proofs/{proof}"] if proof else [])]
+    if not edit.function or git("diff", "--name-only", commit, "--", *paths):
+        return True
+    old = subprocess.run(["git", "show", f"{commit}:{folder}/{edit.function.file}"], capture_output=True, text=True).stdout
+    new = read(f"{edit.crate.folder}/{edit.function.file}")
+    before = {it.name: old[it.start:it.end] for it in edit_places.functions_in(edit.crate.name, edit.function.file, old)}
+    is_same = before.get(edit.function.name) == new[edit.function.start:edit.function.end]
+    return not is_same or any(names(new, it) for it in definitions)
+
+
+def chosen(words):
+    """Returns the edits that the words ask for."""
+    every = {it.name: it for crate in crates(os.getcwd()).values() for it in edits_of(crate)}
+    if words[:1] == ["--since"] and len(words) == 2:
+        definitions = definitions_changed(words[1])
+        return [it for it in every.values() if is_touched(it, words[1], definitions)]
+    lost = [it for it in words if not any(it in (name, name.split("/")[1], name.split("/")[0]) for name in every)]
+    if lost:
+        stop(f"no edit or crate is named {', '.join(lost)}")
+    return [edit for name, edit in every.items() if not words or {name, *name.split("/")} & {*words}]
+
+
+def main(words):
+    os.chdir(os.path.join(os.path.dirname(os.path.realpath(__file__)), ".."))
+    if words[:1] in (["-h"], ["--help"]):
+        print(__doc__)
+        return 0
+    keep_work()
+    rtlib.guarded()
+    counts = collections.Counter()
+    by_crate = {}
+    for edit in chosen(words):
+        by_crate.setdefault(edit.crate.name, []).append(edit)
+    for edits in by_crate.values():
+        if not is_proved(edits[0].crate):
+            stop(f"{edits[0].crate.name} is not proved as it stands, so no edit of it can be judged: see its out/check.log")
+        verdicts = tried(edits)
+        for edit in edits:
+            print(f"{edit.name}: {verdicts[edit.path].said}", flush=True)
+            counts[verdicts[edit.path].refused] += 1
+    print(f"{counts[True]} passed, {counts[False]} failed")
+    return 1 if counts[False] else 0
+
+
+if __name__ == "__main__":
+    sys.exit(main(sys.argv[1:]))

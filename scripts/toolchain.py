@@ -1,0 +1,74 @@
+"""What the scripts that prove use of the toolchain: its command `rt` as a module, and crates whose work is kept.
+
+`rt` has no call for what these scripts need: checks of many edits at once, over the work of one proof. So they take the
+words of its commands, its reading of edits and its refusals from its own file. Where another version of the toolchain has
+not what they use, they stop, and `make test-each` is left, which asks nothing but `rt ci`.
+"""
+import importlib.machinery
+import os
+import re
+import shutil
+import sys
+import types
+
+USED = ["Crate", "ci", "in_lanes", "must_fail_all", "run", "edits_of", "read_edit", "unread"]
+USED_OF_LIBRARY = ["KEPT", "VERDICT", "PARTS", "RATTLE", "STALE", "TEST", "crates_below", "guarded"]
+
+
+def stop(why):
+    print(f"{os.path.basename(sys.argv[0])}: {why}", file=sys.stderr)
+    sys.exit(2)
+
+
+def load():
+    """Returns the toolchain's command as a module."""
+    path = shutil.which("rt") or stop("there is no command rt: this needs the Rattle toolchain")
+    module = types.ModuleType("rt")
+    module.__file__ = path
+    sys.dont_write_bytecode = True
+    importlib.machinery.SourceFileLoader("rt", path).exec_module(module)
+    lacks = [name for name in USED if not hasattr(module, name)]
+    lacks += [name for name in USED_OF_LIBRARY if not hasattr(module.rtlib, name)]
+    if lacks:
+        stop(f"this toolchain's rt lacks {', '.join(lacks)}: run make test-each")
+    return module
+
+
+rt = load()
+rtlib = rt.rtlib
+
+
+class KeptCrate(rt.Crate):
+    """A crate whose checks keep what they prove in its folder out/, and take from there what is up to date."""
+
+    def words(self, flags, tests=False, keeps=True, as_source=False):
+        return [*super().words(flags, tests, keeps, as_source), *rtlib.KEPT]
+
+    def ci(self, flags, tests):
+        """Proves the crate, or its tests, and builds what is run or installed, in one check for each where that can be."""
+        to, words = f"out/{self.name}", [*self.words(flags, keeps=False), "--toolchain", f"{rt.KIT}/toolchain"]
+        if tests or self.makes_rlib():
+            return super().ci(flags, tests)
+        made = f"out/lib{self.name}.a" if self.is_static else f"{to}.o"
+        status = self.prove(["build", *words, "--backend", "llvm", "-o", made])
+        if status or self.is_static:
+            return status
+        return self.link(made, to) or self.compile_by("rattle", words, to)
+
+    def needs_lower(self):
+        """Builds the libraries below, and returns whether all of them are proved."""
+        return not any(it.build_rlib(["--jobs", "1"], anew=False) for it in self.below())
+
+
+def keep_work():
+    """Has the toolchain's commands take crates that keep their work, and has a verdict name that work."""
+    if not rtlib.VERDICT.pattern.endswith(r"\n\Z"):
+        stop("this toolchain's last line of a check is not known: run make test-each")
+    rtlib.VERDICT = re.compile(rtlib.VERDICT.pattern[: -len(r"\n\Z")] + r"( incremental=trusted)?\n\Z", re.M)
+    rt.Crate = rtlib.Crate = KeptCrate
+
+
+def crates(root):
+    """Returns the repository's crates by name, lowest first."""
+    found = sorted(rtlib.crates_below(root), key=lambda it: len(it.below()))
+    return {it.name: it for it in found}
