@@ -20,11 +20,16 @@ import tempfile
 import typing
 
 import edit_places
-from toolchain import crates, keep_work, rt, rtlib, stop
+from kept_crates import crates, keep_work, rt, rtlib, stop
 
 HEADER = re.compile(r"^(?:\./)?(\S+?):(\d+):\d+: (error|note|warning)\b|^note: (\S+?):(\d+):\d+: |^\S")
 PROOF_FILES = ("Answers.antt", "Invariants.antt", "Proof.antt")
-GONE = re.compile(r"is not in scope|has no field|has no `|is no name|was not admitted")
+# Why a goal is open, first what says most of the edit.
+FALSE, OPEN, LIMIT, UNFIT, GONE = WHYS = [
+    "values make it false", "no proof was found", "the prover gave up", "its answer does not fit", "a proof names what is gone",
+]
+# The number of open goals that are told of an edit.
+MOST = 3
 
 
 @dataclasses.dataclass
@@ -110,12 +115,12 @@ def check(crate, texts):
 def why_open(said):
     """Returns what a check's lines on a goal say of why it is open."""
     if re.search(r"values at which this goal is false|All of that holds, and the goal fails", said):
-        return "values make it false"
+        return FALSE
     if re.search(r"gave up|its bounds|stopped at a bound", said):
-        return "the prover gave up"
-    if GONE.search(said):
-        return "a proof names what is gone"
-    return "its answer does not fit" if ": error" in said else "no proof was found"
+        return LIMIT
+    if re.search(r"is not in scope|has no field|has no `|is no name|was not admitted", said):
+        return GONE
+    return UNFIT if ": error" in said else OPEN
 
 
 def goals_in(crate, texts, said):
@@ -152,14 +157,11 @@ def has_verdict(said):
     return re.search(r"(?m)^logic=(proved|not-proved)", said.rstrip().split("\n")[-1])
 
 
-def best(goals):
-    """Returns the goal that says most: one that values make false, before one that is open for another reason."""
-    order = ["values make it false", "its answer does not fit", "no proof was found", "the prover gave up"]
-    return min(goals, key=lambda it: order.index(it.why) if it.why in order else len(order))
-
-
-def told(goal):
-    return f"refused, as it must be: {goal.function}: `{goal.name}` is open: {goal.why}"
+def told(goals):
+    """Returns what is said of an edit that is refused: its open goals, first those that say most."""
+    first = sorted(goals, key=lambda it: WHYS.index(it.why))
+    names = dict.fromkeys(f"`{it.name}` ({it.why})" for it in first if it.function == first[0].function)
+    return f"refused, as it must be: {first[0].function}: {', '.join([*names][:MOST])}"
 
 
 def judged(edit, texts, said):
@@ -169,8 +171,7 @@ def judged(edit, texts, said):
         return Verdict(False, f"NOT REFUSED: {edit.function.name} is proved with this edit")
     goals = [it for it in goals_in(edit.crate, texts, said) if it.function == edit.function.name]
     if re.match(r"not proved|no proof", line) and goals:
-        goal = best(goals)
-        return Verdict(goal.why != "a proof names what is gone", told(goal))
+        return Verdict(any(it.why != GONE for it in goals), told(goals))
     if re.search(r"it calls|it passes|a call of", line):
         return None
     return Verdict(False, f"NOT JUDGED: {edit.function.name}: {line or 'the check has no line on it'}")
@@ -186,10 +187,10 @@ def tried_alone(edit):
         return Verdict(False, f"BAD EDIT: it did not reach the prover: {bad or said.rstrip()[-300:]}")
     if status == 0:
         return Verdict(False, "NOT REFUSED: the crate is still proved with this edit")
-    goals = [it for it in goals_in(edit.crate, edit.texts, said) if it.why != "a proof names what is gone"]
+    goals = goals_in(edit.crate, edit.texts, said)
     if not goals:
-        return Verdict(False, "NOT JUDGED: no goal is open but for a name that is gone")
-    return Verdict(True, told(best(goals)))
+        return Verdict(False, "NOT JUDGED: no goal is told that is open")
+    return Verdict(any(it.why != GONE for it in goals), told(goals))
 
 
 def tried_together(edits):

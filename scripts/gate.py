@@ -12,7 +12,7 @@ import shutil
 import sys
 
 import edits
-from toolchain import keep_work, rt, rtlib
+from kept_crates import keep_work, rt, rtlib
 
 CONTROLS = "scripts/edit_controls"
 # The most that a check of a crate's edits has been seen to take, in bytes, and some more.
