@@ -25,6 +25,7 @@ help:
 	@echo 'make stack                  measure the stack that a call of the library takes'
 	@echo 'make hostile-library        give the library damaged and random codes, and too little room'
 	@echo "make bench-library          compare the speed of the library and Debian's libaec (libaec-dev)"
+	@scripts/toolchain
 
 LIBRARIES := rice_bits rice_samples rice_code rice_stream
 sources = $(shell find $(foreach crate,$(1),$(wildcard $(addprefix crates/$(crate)/,src specs proofs))) -type f) crates.txt

@@ -1,5 +1,6 @@
 #!/usr/bin/env python3
-"""Tries what the documents and the manual page say: links, paths, targets of make, commands, options, messages and edits.
+"""Tries what the documents and the manual page say: links, paths, targets of make, commands, options, messages, edits and
+toolchains.
 
 Commands that begin with `$` are run with the program, and what they print is compared; of others the first word is looked up.
 
@@ -137,6 +138,15 @@ def wrong_edits():
         yield f"docs/PROOFS.md: the edit {edit} is not named"
 
 
+def wrong_toolchains():
+    """The pages that name other versions of the toolchain than those that are known to pass."""
+    known = read("docs/toolchains.txt").split()
+    for page in ("README.md", "docs/PROOFS.md"):
+        named = sorted(set(re.findall(r"rattle-kit-\w+", read(page))))
+        if named != known:
+            yield f"{page}: names the toolchains {named}, where docs/toolchains.txt has {known}"
+
+
 def main():
     program = os.path.abspath(sys.argv[1])
     os.chdir(os.path.join(os.path.dirname(os.path.abspath(__file__)), ".."))
@@ -144,7 +154,7 @@ def main():
     targets = re.findall(r"(?m)^([a-z-]+):", read("Makefile"))
     help_text = subprocess.run([program, "--help"], capture_output=True, text=True, check=True).stdout
     wrong = [text for page in pages for text in (*wrong_links(page), *wrong_names(page, targets), *wrong_commands(page))]
-    wrong += [*wrong_options(help_text), *wrong_messages(), *wrong_edits()]
+    wrong += [*wrong_options(help_text), *wrong_messages(), *wrong_edits(), *wrong_toolchains()]
     with tempfile.TemporaryDirectory() as folder:
         os.symlink(program, os.path.join(folder, "aec"))
         os.environ["PATH"] = folder + ":" + os.environ["PATH"]
