@@ -4,13 +4,25 @@
     code = rice.encode(samples, rice.Setting(bits=16))
     samples = rice.decode(code, count, rice.Setting(bits=16))
 
+A number that can't be one of samples, or of a setting, is a ValueError, and so are bytes that don't stand one after another.
 Run as a program it codes some samples there and back, and tries the faults. RICE_LIBRARY names the shared library, if it isn't
 installed.
 """
 import array
 import ctypes
+import numbers
 import os
 import sys
+
+# A bit of a code gives at most so many samples: 64 blocks of 64 zeros take nine bits.
+SAMPLES_OF_A_BIT = 456
+
+
+def _whole(number, most, name):
+    """`number` as an int, where it is a whole one from 0 to `most`. True and False are none."""
+    if not isinstance(number, numbers.Integral) or isinstance(number, bool) or not 0 <= number <= most:
+        raise ValueError(f"{name}: {number!r} is no whole number from 0 to {most}")
+    return int(number)
 
 
 class Setting(ctypes.Structure):
@@ -30,6 +42,10 @@ class Setting(ctypes.Structure):
     def __init__(self, bits=8, block=16, interval=128, is_signed=False, msb=sys.byteorder == "big", three=False,
                  preprocess=True, pad=False):
         super().__init__(bits, block, interval, is_signed, msb, three, preprocess, pad)
+
+    def __setattr__(self, name, value):
+        # ctypes would take the lowest 32 bits of any number.
+        super().__setattr__(name, _whole(value, 2**32 - 1, name) if name in ("bits", "block", "interval") else value)
 
 
 class Report(ctypes.Structure):
@@ -85,11 +101,14 @@ _library = _load()
 
 def _memory(data):
     """The address and the length of the bytes of `data`, and an object that holds them there."""
-    view = memoryview(data).cast("B")
+    view = memoryview(data)
+    if not view.c_contiguous:
+        raise ValueError("the bytes do not stand one after another")
+    view = view.cast("B") if view.nbytes else memoryview(b"")
     if view.readonly:
         holder = ctypes.create_string_buffer(bytes(view), max(len(view), 1))
     else:
-        holder = (ctypes.c_char * len(view)).from_buffer(view) if len(view) else ctypes.create_string_buffer(1)
+        holder = (ctypes.c_char * len(view)).from_buffer(view)
     return ctypes.addressof(holder), len(view), holder
 
 
@@ -97,31 +116,78 @@ def _call(function, *arguments, room):
     """Calls a function with an output of `room` bytes, and returns the bytes that it wrote."""
     output, report = ctypes.create_string_buffer(max(room, 1)), Report()
     status = function(*arguments, output, room, report)
-    written = output.raw[: report.written]
+    written = output[: report.written]
     if status:
         raise RiceError(status, report, written)
     return written
 
 
-def _legal(setting):
+def sample_width(setting):
+    """Returns the bytes of a sample."""
+    if not isinstance(setting, Setting):
+        raise TypeError(f"{setting!r} is no Setting")
     status = _library.rice_check(setting)
     if status:
         raise RiceError(status, Report(), b"")
+    return _library.rice_sample_width(setting)
 
 
 def encode(samples, setting):
     """Returns the code of the samples."""
-    _legal(setting)
+    width = sample_width(setting)
     address, size, _holder = _memory(samples)
-    room = _library.rice_code_room(setting, size // _library.rice_sample_width(setting))
+    room = _library.rice_code_room(setting, size // width)
     return _call(_library.rice_encode, setting, address, size, room=room)
 
 
 def decode(code, count, setting):
-    """Returns the bytes of the first `count` samples of the code."""
-    _legal(setting)
+    """Returns the bytes of the first `count` samples of the code: a whole number, and no more than so many bits can give."""
+    width = sample_width(setting)
     address, size, _holder = _memory(code)
-    return _call(_library.rice_decode, setting, count, address, size, room=count * _library.rice_sample_width(setting))
+    count = _whole(count, 8 * SAMPLES_OF_A_BIT * size, "the number of samples")
+    return _call(_library.rice_decode, setting, count, address, size, room=count * width)
+
+
+def _is_refused(call, error=ValueError):
+    try:
+        call()
+    except error:
+        return True
+    return False
+
+
+def _try_refusals(code, setting):
+    """Tries what is refused before the library is called, and what is just not."""
+    for number in (-1, -(2**63), 2**63, None, True, 1.5, 10**12):
+        assert _is_refused(lambda: decode(code, number, setting)), number
+        assert _is_refused(lambda: decode(b"", number, setting)), number
+        for name in ("bits", "block", "interval"):
+            assert _is_refused(lambda: Setting(**{name: number})), (name, number)
+            assert _is_refused(lambda: setattr(Setting(), name, number)), (name, number)
+    assert _is_refused(lambda: Setting(bits=2**32 + 8))
+    assert _is_refused(lambda: decode(bytes(1), 8 * SAMPLES_OF_A_BIT + 1, Setting()))
+    assert _is_refused(lambda: encode(b"", None), TypeError) and _is_refused(lambda: decode(code, 1, None), TypeError)
+    for data in (bytes(8), bytearray(8)):
+        assert _is_refused(lambda: encode(memoryview(data)[::2], Setting()))
+        assert _is_refused(lambda: decode(memoryview(data)[::2], 1, Setting()))
+    print("rice.py: numbers that can't be, and bytes that don't stand one after another, are refused")
+
+
+def _try_numpy():
+    """Codes arrays of numpy there and back, with their numbers as its whole numbers."""
+    try:
+        import numpy
+    except ImportError:
+        return
+    setting = Setting(bits=8)
+    shades = (numpy.arange(4096, dtype=numpy.uint8) // 7).reshape(64, 64)
+    code = encode(shades, setting)
+    back = numpy.frombuffer(decode(code, numpy.int64(shades.size), setting), numpy.uint8)
+    assert numpy.array_equal(back.reshape(64, 64), shades)
+    assert encode(numpy.zeros((0, 3), numpy.uint8), setting) == b""
+    assert all(_is_refused(lambda: encode(array, setting)) for array in (shades[:, ::2], shades.T))
+    assert all(_is_refused(lambda: decode(code, number, setting)) for number in (numpy.True_, numpy.int64(-1), numpy.float64(5)))
+    print(f"rice.py: an array of numpy, {shades.nbytes} bytes, {len(code)} of code")
 
 
 def main():
@@ -140,6 +206,7 @@ def main():
         (4, lambda: encode(bytes([0, 0, 2]), Setting(bits=1))),
         (5, lambda: encode(bytes(3), setting)),
         (6, lambda: decode(code[:100], len(samples), setting)),
+        (6, lambda: decode(bytes(1), 8 * SAMPLES_OF_A_BIT, Setting())),
     ]
     for status, fault in faults:
         try:
@@ -149,14 +216,8 @@ def main():
             print(f"rice.py: {error}")
         else:
             raise AssertionError(status)
-    try:
-        import numpy
-    except ImportError:
-        return
-    shades = (numpy.arange(4096, dtype=numpy.uint8) // 7).reshape(64, 64)
-    code = encode(shades, Setting(bits=8))
-    assert numpy.array_equal(numpy.frombuffer(decode(code, shades.size, Setting(bits=8)), numpy.uint8).reshape(64, 64), shades)
-    print(f"rice.py: an array of numpy, {shades.nbytes} bytes, {len(code)} of code")
+    _try_refusals(code, setting)
+    _try_numpy()
 
 
 if __name__ == "__main__":
