@@ -35,6 +35,7 @@ def sections(message):
     places, at = {}, 16
     while message[at : at + 4] != b"7777":
         length = int.from_bytes(message[at : at + 4], "big")
+        assert 5 <= length <= len(message) - at
         places[message[at + 4]] = (at, at + length)
         at += length
     return places

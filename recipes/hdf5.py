@@ -3,6 +3,7 @@
 
 usage: hdf5.py PROGRAM
 """
+import math
 import os
 import subprocess
 import sys
@@ -32,6 +33,7 @@ def decoded(dataset, place):
     """The bytes of a chunk. Its first four are their number, the least significant first."""
     _, chunk = dataset.id.read_direct_chunk(place)
     length = int.from_bytes(chunk[:4], "little")
+    assert length == dataset.dtype.itemsize * math.prod(dataset.chunks)
     samples = length // dataset.dtype.itemsize
     return aec(["-d", *options_of(dataset), "--samples", str(samples)], chunk[4:])
 
