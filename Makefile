@@ -3,7 +3,7 @@ RANDOM_INPUTS ?= 100000
 LIBRARY_CODES ?= 1000000
 
 .DEFAULT_GOAL := help
-.PHONY: help library install install-command install-library uninstall test test-each rows hostile interop refused-memory installed recipes documents bench examples stack hostile-library bench-library
+.PHONY: help library install install-command install-library uninstall test test-each rows hostile interop exhaustive refused-memory installed recipes documents bench examples stack hostile-library bench-library
 
 help:
 	@echo 'make aec                    prove and build the program, as ./aec (ten minutes the first time)'
@@ -16,6 +16,7 @@ help:
 	@echo 'make rows                   run the cases of scripts/rows.txt with ./aec'
 	@echo 'make hostile                run ./aec on damaged and random codes, and on files and streams that fail'
 	@echo "make interop                exchange codes between ./aec and Debian's aec (libaec-tools)"
+	@echo "make exhaustive             give every short list and code to the library and to Debian's libaec (libaec-dev)"
 	@echo 'make refused-memory         refuse each request for memory of ./aec in turn'
 	@echo 'make installed              install ./aec and the library into a folder, and try them there'
 	@echo 'make recipes                run the recipes of docs/COOKBOOK.md with ./aec'
@@ -95,6 +96,9 @@ hostile: aec
 
 interop: aec
 	scripts/interop ./aec
+
+exhaustive: library aec
+	scripts/exhaustive librice.a ./aec
 
 refused-memory: aec
 	scripts/refused_memory ./aec
