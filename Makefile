@@ -3,7 +3,7 @@ RANDOM_INPUTS ?= 100000
 LIBRARY_CODES ?= 1000000
 
 .DEFAULT_GOAL := help
-.PHONY: help library install install-command install-library uninstall test test-each rows hostile interop exhaustive refused-memory installed recipes documents bench examples stack hostile-library bench-library
+.PHONY: help library install install-command install-library uninstall test test-each rows hostile interop exhaustive refused-memory installed recipes documents bench examples stack header hostile-library bench-library
 
 help:
 	@echo 'make aec                    prove and build the program, as ./aec (ten minutes the first time)'
@@ -24,6 +24,7 @@ help:
 	@echo "make bench                  compare the speed of ./aec and Debian's aec"
 	@echo 'make examples               build and run examples/c and examples/python, with sanitizers and under valgrind'
 	@echo 'make stack                  measure the stack that a call of the library takes'
+	@echo 'make header                 compare include/rice.h with the library and its crate'
 	@echo 'make hostile-library        give the library damaged and random codes, and too little room'
 	@echo "make bench-library          compare the speed of the library and Debian's libaec (libaec-dev)"
 	@scripts/toolchain
@@ -46,7 +47,7 @@ library: librice.a librice.so
 librice.a: crates/rice_c/out/librice_c.a
 	cp $< $@
 
-# The object needs nothing but memcpy, memmove and memset, so the shared library is the static one.
+# The object needs nothing but memcpy, memmove and memset (make header), so the shared library is the static one.
 librice.so: librice.a
 	$(CC) -shared -Wl,-soname,librice.so.0 -Wl,--whole-archive librice.a -Wl,--no-whole-archive -o $@
 
@@ -120,6 +121,9 @@ examples: library
 
 stack: library
 	scripts/stack librice.a
+
+header: library
+	scripts/header.py librice.a
 
 hostile-library: library aec
 	scripts/hostile_library librice.a ./aec $(LIBRARY_CODES)

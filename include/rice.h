@@ -4,7 +4,7 @@
  * The library encodes and decodes from memory to memory. It allocates nothing, keeps nothing between calls but what a feed
  * of the caller's holds, calls nothing but memcpy, memmove and memset, and writes nowhere but in the memory that it is
  * given, whatever the bytes are.
- * Calls may run in several threads at once, each with an output and a report of its own.
+ * Calls may run in several threads at once, each with an output, a report and a feed of its own.
  *
  * What a caller has to keep, and nothing checks:
  *   - a pointer to a setting, a feed or a report points to one, and each bool of a setting is true or false;
@@ -63,10 +63,10 @@ enum rice_status {
 /* What a call has done. */
 struct rice_report {
     uint64_t samples; /* the samples that were encoded, or decoded and written */
-    uint64_t bits;    /* the bits of their code, without padding */
-    uint64_t steps;   /* the work: a step is a bit, a sample, or a look at a residual */
+    uint64_t bits;    /* the bits of code: those that were put, without padding, or those that were taken, with it */
+    uint64_t steps;   /* the work: bits, samples, and looks at residuals or, decoding, turns of the search for a pair */
     uint64_t written; /* the bytes written, which are the first of the output; those after them are as they were */
-    uint64_t place;   /* the number that the status names, or 0 */
+    uint64_t place;   /* the number that the status names, or 0 where it names none */
 };
 
 /* RICE_DONE if the setting is legal, or else what is wrong with it: RICE_BAD_BITS, RICE_BAD_BLOCK or RICE_BAD_INTERVAL. */
@@ -76,8 +76,8 @@ uint32_t rice_check(const struct rice_setting *setting);
  * `three` is set, and more four. */
 uint32_t rice_sample_width(const struct rice_setting *setting);
 
-/* A number of bytes that is always enough for the code of `samples` samples, whatever they are. 0 if the setting is not legal, or
- * there are more than 2^48 samples. */
+/* A number of bytes that is always enough for the code of `samples` samples, whatever they are: for what rice_encode writes, and
+ * for what rice_push and rice_finish write together. 0 if the setting is not legal, or there are more than 2^48 samples. */
 uint64_t rice_code_room(const struct rice_setting *setting, uint64_t samples);
 
 /* The report of rice_encode, or of rice_finish, never has more steps for `samples` samples. 0 as above. A report of decoding
@@ -87,26 +87,30 @@ uint64_t rice_step_bound(const struct rice_setting *setting, uint64_t samples);
 /* Encodes the samples at `samples`, which has `samples_len` bytes, to `code`, which has `code_room` bytes. Returns a
  * status of enum rice_status:
  *   RICE_DONE                 the code of all samples is written: `report->written` bytes.
- *   RICE_SAMPLE_OUT_OF_RANGE, RICE_INPUT_CUT, RICE_TOO_LONG
+ *   RICE_SAMPLE_OUT_OF_RANGE, RICE_INPUT_CUT
  *                             the whole bytes of the code of the complete segments (64 blocks, or the rest of an interval)
  *                             among the samples before that place are written.
- *   RICE_NO_ROOM              the code doesn't fit. Never with rice_code_room(setting, samples_len / width) bytes.
+ *   RICE_TOO_LONG             the same for the samples in the first 2^48 bytes. `report->place` is 0.
+ *   RICE_NO_ROOM              the code doesn't fit. Never with rice_code_room(setting, samples_len / width) bytes, where that
+ *                             is not 0: for up to 2^48 samples.
  *   RICE_BAD_...              nothing is written, and the report is all zeros. */
 uint32_t rice_encode(const struct rice_setting *setting, const uint8_t *samples, size_t samples_len, uint8_t *code,
                      size_t code_room, struct rice_report *report);
 
 /* Decodes the first `count` samples of the code at `code`, which has `code_len` bytes, to `samples`, which has
- * `samples_room` bytes. What follows their code is not looked at. Returns a status of enum rice_status:
+ * `samples_room` bytes. What follows their code has no part in what it does. Returns a status of enum rice_status:
  *   RICE_DONE                 all `count` samples are written.
  *   RICE_CODE_ENDS, RICE_RUN_PAST_SEGMENT, RICE_RESIDUAL_TOO_LARGE
  *                             all samples before that place are written.
+ *   RICE_TOO_LONG             the first 2^49 bytes are not enough; the samples that they give are written. `report->place` is 0.
  *   RICE_NO_ROOM              the samples don't fit. Never with count times rice_sample_width(setting) bytes.
  *   RICE_BAD_...              nothing is written, and the report is all zeros. */
 uint32_t rice_decode(const struct rice_setting *setting, uint64_t count, const uint8_t *code, size_t code_len,
                      uint8_t *samples, size_t samples_room, struct rice_report *report);
 
 /* Decodes all of a code whose number of samples isn't known. It also gives the samples that filled the last block, or the
- * last run of blocks: fewer than a segment. RICE_DONE where no 1 is left in the code. */
+ * last run of blocks: of what rice_encode wrote, fewer than a segment. Returns RICE_DONE where no 1 is left in the code, and
+ * else what rice_decode returns. A bit of code gives at most 456 samples. */
 uint32_t rice_decode_all(const struct rice_setting *setting, const uint8_t *code, size_t code_len, uint8_t *samples,
                          size_t samples_room, struct rice_report *report);
 
@@ -145,9 +149,31 @@ uint32_t rice_push(struct rice_feed *feed, const uint8_t *samples, size_t sample
 /* Encodes the last samples, whether they make whole segments or not, and writes the rest of the code to `code`: with it the
  * bytes written by all calls are those that rice_encode writes for all samples. `report` counts all samples since rice_begin,
  * but for `written`. The feed stays as it is: finish a copy of the code, and go on feeding. Returns what rice_push returns, or
- * RICE_INPUT_CUT. */
+ * RICE_INPUT_CUT. Unless RICE_DONE is returned, forget what this call wrote. */
 uint32_t rice_finish(const struct rice_feed *feed, const uint8_t *samples, size_t samples_len, uint8_t *code,
                      size_t code_room, struct rice_report *report);
+
+/* The structs lie in memory as the library has them: on machines with pointers of eight bytes. */
+#if defined(__cplusplus) && __cplusplus >= 201103L
+#define RICE_LAYOUT(is_so) static_assert(is_so, "rice.h: not as the library has it")
+#elif defined(__STDC_VERSION__) && __STDC_VERSION__ >= 201112L
+#define RICE_LAYOUT(is_so) _Static_assert(is_so, "rice.h: not as the library has it")
+#else
+#define RICE_LAYOUT(is_so) struct rice_feed
+#endif
+RICE_LAYOUT(sizeof(struct rice_setting) == 20 && sizeof(struct rice_report) == 40 && sizeof(struct rice_feed) == RICE_FEED_SIZE);
+RICE_LAYOUT(offsetof(struct rice_setting, bits) == 0 && offsetof(struct rice_setting, block) == 4);
+RICE_LAYOUT(offsetof(struct rice_setting, interval) == 8 && offsetof(struct rice_setting, is_signed) == 12);
+RICE_LAYOUT(offsetof(struct rice_setting, msb) == 13 && offsetof(struct rice_setting, three) == 14);
+RICE_LAYOUT(offsetof(struct rice_setting, preprocess) == 15 && offsetof(struct rice_setting, pad) == 16);
+RICE_LAYOUT(offsetof(struct rice_report, samples) == 0 && offsetof(struct rice_report, bits) == 8);
+RICE_LAYOUT(offsetof(struct rice_report, steps) == 16 && offsetof(struct rice_report, written) == 24);
+RICE_LAYOUT(offsetof(struct rice_report, place) == 32);
+RICE_LAYOUT(offsetof(struct rice_feed, setting) == 0 && offsetof(struct rice_feed, samples) == 24);
+RICE_LAYOUT(offsetof(struct rice_feed, bits) == 32 && offsetof(struct rice_feed, steps) == 40);
+RICE_LAYOUT(offsetof(struct rice_feed, previous) == 48 && offsetof(struct rice_feed, start) == 56);
+RICE_LAYOUT(offsetof(struct rice_feed, waiting) == 60 && offsetof(struct rice_feed, waiting_bits) == 64);
+#undef RICE_LAYOUT
 
 /* Returns what a status means, in words. */
 static inline const char *rice_status_text(uint32_t status) {

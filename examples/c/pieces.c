@@ -4,8 +4,6 @@
 #include <stdlib.h>
 #include <string.h>
 
-_Static_assert(sizeof(struct rice_feed) == RICE_FEED_SIZE, "the size of a feed");
-
 enum { COUNT = 100000, SEGMENT = 64 * 64 * 4, ROOM = 20000 };
 
 static uint8_t samples[COUNT * 4], whole[COUNT * 5], pieces[COUNT * 5];

@@ -4,15 +4,22 @@
 #include <stdio.h>
 #include <string.h>
 
-/* What docs/EMBEDDING.md states, and the library has checked. */
-_Static_assert(sizeof(struct rice_setting) == 20 && sizeof(struct rice_report) == 40, "sizes");
-
 static int wrong;
 
 /* Prints a status, and notes whether it, its place and the bytes written are the ones that are awaited. */
 static void expect(const char *what, uint32_t status, const struct rice_report *report, uint32_t awaited, uint64_t place, uint64_t written) {
     printf("%-28s %2" PRIu32 " %-36s place %" PRIu64 ", %" PRIu64 " bytes written\n", what, status, rice_status_text(status), report->place, report->written);
     if (status != awaited || report->place != place || report->written != written) wrong = 1;
+}
+
+/* Each status has a text of its own, and other numbers have another. */
+static void try_texts(void) {
+    for (uint32_t status = RICE_DONE; status <= RICE_TOO_LONG + 1; status++) {
+        for (uint32_t other = 0; other < status; other++) {
+            if (strcmp(rice_status_text(status), rice_status_text(other)) == 0) wrong = 1;
+        }
+    }
+    if (strcmp(rice_status_text(RICE_TOO_LONG + 1), rice_status_text(UINT32_MAX)) != 0) wrong = 1;
 }
 
 int main(void) {
@@ -50,5 +57,6 @@ int main(void) {
     bad = setting;
     bad.interval = 0;
     expect("no interval", rice_decode_all(&bad, code, 3, back, sizeof back, &report), &report, RICE_BAD_INTERVAL, 0, 0);
+    try_texts();
     return wrong;
 }

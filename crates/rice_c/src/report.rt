@@ -13,7 +13,7 @@ use rice_stream::Outcome;
 pub struct RiceReport {
     /// The number of samples that were encoded, or decoded and written.
     pub samples: u64,
-    /// The number of bits of code, without padding.
+    /// The number of bits of code: those that were put, without padding, or those that were taken, with it.
     pub bits: u64,
     /// The number of steps.
     pub steps: u64,
