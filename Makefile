@@ -3,7 +3,7 @@ RANDOM_INPUTS ?= 100000
 LIBRARY_CODES ?= 1000000
 
 .DEFAULT_GOAL := help
-.PHONY: help library install install-command install-library uninstall test test-each rows hostile interop exhaustive refused-memory installed recipes documents bench examples stack header hostile-library bench-library
+.PHONY: help library install install-command install-library uninstall test test-each rows hostile interop exhaustive refused-memory installed recipes documents bench examples stack header axioms hostile-library bench-library
 
 help:
 	@echo 'make aec                    prove and build the program, as ./aec (ten minutes the first time)'
@@ -25,6 +25,7 @@ help:
 	@echo 'make examples               build and run examples/c and examples/python, with sanitizers and under valgrind'
 	@echo 'make stack                  measure the stack that a call of the library takes'
 	@echo 'make header                 compare include/rice.h with the library and its crate'
+	@echo 'make axioms                 compare docs/axioms.txt with the C functions that the proofs rest on'
 	@echo 'make hostile-library        give the library damaged and random codes, and too little room'
 	@echo "make bench-library          compare the speed of the library and Debian's libaec (libaec-dev)"
 	@scripts/toolchain
@@ -124,6 +125,9 @@ stack: library
 
 header: library
 	scripts/header.py librice.a
+
+axioms:
+	scripts/axioms
 
 hostile-library: library aec
 	scripts/hostile_library librice.a ./aec $(LIBRARY_CODES)
