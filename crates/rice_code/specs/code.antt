@@ -1,4 +1,5 @@
--- The code itself: a reader trusts these definitions, and nothing else in this crate.
+-- The code itself. A reader trusts these definitions; the contracts' numbers of bits, samples and steps rest on some of Bounds, Steps
+-- and encode.Coder besides.
 pub mod Blocks
 pub mod Choice
 pub mod Code
