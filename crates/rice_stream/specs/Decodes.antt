@@ -7,9 +7,9 @@ use Rattle.rice_bits.specs.read.Reader.{Reader}
 use Rattle.rice_samples.specs.Parameters.{Parameters}
 use Rattle.rice_samples.specs.bytes.Spelling.{spellings}
 use Rattle.rice_code.specs.Bounds.{decoder_step_bound}
-use Rattle.rice_code.specs.code.Decoded.{Decoded, AreTaken, EndsWith, Ending, Reached, Ended, CutOff, Past, Large}
+use Rattle.rice_code.specs.code.Decoded.{Decoded, AreTaken, BeginsUnsound, EndsWith, Ending, Reached, Ended, CutOff, Past, Large}
 use Rattle.rice_code.specs.code.CodedDataSets.{CodedDataSet, turns}
-use Rattle.rice_code.specs.code.Forms.{blocks_in_all}
+use Rattle.rice_code.specs.code.Forms.{RunIsSound, ResidualsAreSound, blocks_in_all}
 use Rattle.rice_code.specs.code.Layout.{Lies}
 use Rattle.rice_stream.specs.Calls.{Call, Leaves, StopsBetween, PassesLimit}
 use Rattle.rice_stream.specs.declared.outcome.Report.{Report}
@@ -52,9 +52,18 @@ EndsDecoding s asked (Some TooLong) c r ys ending = ((front : List ℕ) × Passe
 EndsDecoding s asked (Some Write) c r ys ending = FailsInBlock s asked c r ys × (ending ≡ Reached)
 EndsDecoding s asked (Some _) c r ys ending = ⊥
 
--- The bits that were taken are sound coded data sets with their padding, and then `last`, by which decoding ends.
--- Each bit, each turn of the pair searches of these coded data sets and each sample is a step, and so are some turns in `last`.
-pub record CountsSteps (s : Parameters) (bits : List Bool) (r : Report) : Type 0 where
+-- At block b decoding ends so, by these bits, and a search for pairs takes so many turns in them: none in zeros, and those of a
+-- coded data set that is refused. In one that is cut off they are at most its bits.
+abbrev pub EndsInTurns : Parameters → ℕ → List Bool → Ending → ℕ → Type 0
+EndsInTurns s b last Reached count = (last ≡ []) × (count ≡ 0)
+EndsInTurns s b last Ended count = EndsWith s None b last Ended (length last) × (count ≡ 0)
+EndsInTurns s b last CutOff count = EndsWith s None b last CutOff (length last) × (count ≤ length last)
+EndsInTurns s b last Past count = (unsound : BeginsUnsound s b last (length last) (RunIsSound s b)) × (count ≡ turns unsound.refused)
+EndsInTurns s b last Large count = (unsound : BeginsUnsound s b last (length last) (ResidualsAreSound s)) × (count ≡ turns unsound.refused)
+
+-- The bits that were taken are sound coded data sets with their padding, and then `last`, by which decoding ends so.
+-- Each bit, each sample and each turn of a search for pairs is a step, and nothing else is.
+pub record CountsSteps (s : Parameters) (bits : List Bool) (r : Report) (ending : Ending) : Type 0 where
   pub sets : List CodedDataSet
   pub front : List Bool
   pub last : List Bool
@@ -62,11 +71,9 @@ pub record CountsSteps (s : Parameters) (bits : List Bool) (r : Report) : Type 0
   pub parts : bits ≡ (front ++ last) ++ rest
   pub lie : Lies s 0 0 sets front
   pub sound : AreTaken s None 0 sets
-  pub ending : Ending
-  pub ends : (last ≡ []) ⊎ EndsWith s None (length (blocks_in_all s 0 sets)) last ending (length last)
-  pub bits_taken : r.bits ≡ length (front ++ last)
   pub turns_in_last : ℕ
-  pub few : turns_in_last ≤ length last
+  pub ends : EndsInTurns s (length (blocks_in_all s 0 sets)) last ending turns_in_last
+  pub bits_taken : r.bits ≡ length (front ++ last)
   pub steps : r.steps ≡ r.bits + r.samples + sum_by turns sets + turns_in_last
 
 -- what the call did, for each outcome
@@ -77,7 +84,7 @@ pub record Decodes (s : Parameters) (asked : Option ℕ) (c : Call) (r : Report)
   pub ahead : length c.given ≤ r.bits / 8 + most_at_once
   -- only the outcome `TooLong` is of more bytes
   pub limit : fault ≢ Some TooLong → length c.given ≤ 2 ^ 49
-  pub steps : CountsSteps s (bits_of c.given) r
+  pub steps : CountsSteps s (bits_of c.given) r ending
 
 -- the report's bounds, at every exit
 pub record DecodesWithin (asked : Option ℕ) (r : Report) : Type 0 where

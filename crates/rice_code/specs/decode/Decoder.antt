@@ -49,28 +49,30 @@ pub record GivesSet {I : Type 0} (old new : Reader I) (old_steps new_steps : ℕ
   pub steps : new_steps + middle.taken ≡ middle_steps + new.taken
 
 -- A reader took a data set that is not sound.
-pub record SetRefused {I : Type 0} (old new : Reader I) (s : Parameters) (b : ℕ) (P : CodedDataSet → Type 0) : Type 0 where
+pub record SetRefused {I : Type 0} (old new : Reader I) (old_steps new_steps : ℕ) (s : Parameters) (b : ℕ) (P : CodedDataSet → Type 0) : Type 0 where
   pub set : CodedDataSet
   pub form : IsForm s b set
   pub takes : Takes old new (bits_of_set s set)
   pub unsound : P set → ⊥
+  -- each bit and each turn of the search is a step
+  pub steps : new_steps + old.taken ≡ old_steps + new.taken + turns set
 
 -- A reader took all that was left, where the intake has ended, and no data set begins with it. `blank`: no bit of it was a 1.
-pub record SetEnds {I : Type 0} (old new : Reader I) (s : Parameters) (b : ℕ) (blank : Bool) : Type 0 where
-  pub cut : SetCut old new s b (bit_faults.End blank)
+pub record SetEnds {I : Type 0} (old new : Reader I) (old_steps new_steps : ℕ) (s : Parameters) (b : ℕ) (blank : Bool) : Type 0 where
+  pub cut : SetCut old new old_steps new_steps s b (bit_faults.End blank)
   pub told : is_blank cut.bits ≡ blank
 
 -- why a decoder at block b stops, whatever the intake is
-abbrev pub StopsBy : {I : Type 0} → Reader I → Reader I → Parameters → ℕ → Result Step CodeFault → Type 0
-StopsBy old new s b (Ok Block) = ⊥
+abbrev pub StopsBy : {I : Type 0} → Reader I → Reader I → ℕ → ℕ → Parameters → ℕ → Result Step CodeFault → Type 0
+StopsBy old new old_steps new_steps s b (Ok Block) = ⊥
 -- no 1 was left
-StopsBy old new s b (Ok Done) = SetEnds old new s b true
+StopsBy old new old_steps new_steps s b (Ok Done) = SetEnds old new old_steps new_steps s b true
 -- a 1 was left, and no data set begins with what was left
-StopsBy old new s b (Err faults.CodeEnds) = SetEnds old new s b false
-StopsBy old new s b (Err faults.RunPastSegment) = SetRefused old new s b (RunIsSound s b)
-StopsBy old new s b (Err faults.ResidualTooLarge) = SetRefused old new s b (ResidualsAreSound s)
-StopsBy old new s b (Err faults.Read) = SetCut old new s b bit_faults.Read
-StopsBy old new s b (Err faults.TooLong) = SetCut old new s b bit_faults.TooLong
+StopsBy old new old_steps new_steps s b (Err faults.CodeEnds) = SetEnds old new old_steps new_steps s b false
+StopsBy old new old_steps new_steps s b (Err faults.RunPastSegment) = SetRefused old new old_steps new_steps s b (RunIsSound s b)
+StopsBy old new old_steps new_steps s b (Err faults.ResidualTooLarge) = SetRefused old new old_steps new_steps s b (ResidualsAreSound s)
+StopsBy old new old_steps new_steps s b (Err faults.Read) = SetCut old new old_steps new_steps s b bit_faults.Read
+StopsBy old new old_steps new_steps s b (Err faults.TooLong) = SetCut old new old_steps new_steps s b bit_faults.TooLong
 
 -- a reader from whose place on no 1 was taken
 abbrev pub with_mark : {I : Type 0} → Reader I → Reader I
@@ -80,8 +82,8 @@ with_mark r = record r { blank = true }
 abbrev pub Answers : {I : Type 0} → Reader I → Reader I → ℕ → ℕ → DecoderState → DecoderState → List ℤ → Result Step CodeFault → Type 0
 Answers old new old_steps new_steps p q samples (Ok Block) =
     GivesSet old new old_steps new_steps p.setting p.block p.before samples q.run × (q ≡ state_after_block p samples q.run)
-Answers old new old_steps new_steps p q samples (Ok Done) = StopsBy old new p.setting p.block (Ok Done) × (q ≡ record p { stopped = Some (Ok Done) }) × (samples ≡ [])
-Answers old new old_steps new_steps p q samples (Err f) = StopsBy old new p.setting p.block (Err f) × (q ≡ record p { stopped = Some (Err f) }) × (samples ≡ [])
+Answers old new old_steps new_steps p q samples (Ok Done) = StopsBy old new old_steps new_steps p.setting p.block (Ok Done) × (q ≡ record p { stopped = Some (Ok Done) }) × (samples ≡ [])
+Answers old new old_steps new_steps p q samples (Err f) = StopsBy old new old_steps new_steps p.setting p.block (Err f) × (q ≡ record p { stopped = Some (Err f) }) × (samples ≡ [])
 
 -- What a call says inside a run.
 pub record GivesFromRun (p q : DecoderState) (samples : List ℤ) : Type 0 where

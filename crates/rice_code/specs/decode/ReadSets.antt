@@ -2,7 +2,7 @@
 use Rattle.std.specs.Prelude.{◌≡◌, ℕ, ◌+◌, ◌/◌, ◌^◌, ◌<◌, ◌≤◌, Bool, true, false, List, [], ◌∷◌, ◌++◌, All, length, flat_map, Option, Some, None, ⊤}
 use Rattle.rice_bits.specs.Bits.{word, fundamental_sequence}
 use Rattle.rice_bits.specs.read.Parts.{joined_parts}
-use Rattle.rice_bits.specs.read.Reader.{Reader, Takes, Stops}
+use Rattle.rice_bits.specs.read.Reader.{Reader, Takes, Stops, is_blank}
 use Rattle.rice_bits.specs.declared.read.fault.BitFault.{BitFault}
 use Rattle.rice_samples.specs.Parameters.{Parameters}
 use Rattle.rice_code.specs.code.Blocks.{BlockData}
@@ -87,10 +87,12 @@ pub record SetRead {I : Type 0} (old new : Reader I) (old_steps new_steps : ℕ)
   pub steps : new_steps + old.taken ≡ old_steps + new.taken + turns set
 
 -- A reader took all that was left and refused, and no data set begins with it.
-pub record SetCut {I : Type 0} (old new : Reader I) (s : Parameters) (b : ℕ) (fault : BitFault) : Type 0 where
+pub record SetCut {I : Type 0} (old new : Reader I) (old_steps new_steps : ℕ) (s : Parameters) (b : ℕ) (fault : BitFault) : Type 0 where
   pub bits : List Bool
   pub stops : Stops old new bits fault
   pub none : (d : CodedDataSet) (more : List Bool) → IsForm s b d → bits ≡ bits_of_set s d ++ more → ⊥
+  -- where no bit is a 1, each bit is a step, and nothing else is
+  pub steps : is_blank bits ≡ true → new_steps + old.taken ≡ old_steps + new.taken
 
 -- what follows an identifier of 0, as each coded data set that has one spells it
 abbrev pub low_tail : Parameters → CodedDataSet → List Bool
@@ -116,7 +118,8 @@ pub record LowRead {I : Type 0} (old new : Reader I) (old_steps new_steps : ℕ)
   pub tells : DescribesSet s b taken residuals set
   pub steps : new_steps + old.taken ≡ old_steps + new.taken + turns set
 
-pub record LowCut {I : Type 0} (old new : Reader I) (s : Parameters) (b : ℕ) (fault : BitFault) : Type 0 where
+pub record LowCut {I : Type 0} (old new : Reader I) (old_steps new_steps : ℕ) (s : Parameters) (b : ℕ) (fault : BitFault) : Type 0 where
   pub bits : List Bool
   pub stops : Stops old new bits fault
   pub none : (d : CodedDataSet) (more : List Bool) → IsForm s b d → IsLow d → bits ≡ low_tail s d ++ more → ⊥
+  pub steps : is_blank bits ≡ true → new_steps + old.taken ≡ old_steps + new.taken

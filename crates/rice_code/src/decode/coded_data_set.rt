@@ -27,7 +27,7 @@ fn read_low<I: Intake>(
     requires codes { length codes.old ≡ 64 }
     ensures ok { IfOk result (λ t.
         LowRead reader.old reader.new meter.old meter.new setting.now block t residuals.new) }
-    ensures err { IfErr result (LowCut reader.old reader.new setting.now block) }
+    ensures err { IfErr result (LowCut reader.old reader.new meter.old meter.new setting.now block) }
     ensures steps { AreCounted meter.old meter.new reader.old.taken reader.new.taken }
 {
     let bit = match reader.take(1, meter) {
@@ -66,7 +66,7 @@ pub fn read_set<I: Intake>(
     requires highs { length highs.old ≡ 64 }
     ensures ok { IfOk result (λ t.
         SetRead reader.old reader.new meter.old meter.new setting.now block t residuals.new) }
-    ensures err { IfErr result (SetCut reader.old reader.new setting.now block) }
+    ensures err { IfErr result (SetCut reader.old reader.new meter.old meter.new setting.now block) }
     ensures steps { AreCounted meter.old meter.new reader.old.taken reader.new.taken }
 {
     let width = setting.id_len();

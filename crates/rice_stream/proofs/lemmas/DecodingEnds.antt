@@ -32,7 +32,7 @@ use Rattle.rice_code.specs.decode.ReadSets.{SetCut}
 use Rattle.rice_code.specs.declared.decode.fault.CodeFault.{CodeFault}
 use Rattle.rice_code.specs.declared.decode.fault.CodeFault.TheVariants as faults
 use Rattle.rice_stream.specs.Calls.{Call, Happens, Fails, StopsBetween}
-use Rattle.rice_stream.specs.Decodes.{CountsSteps, Decodes, Reports, EndsDecoding, DecodesBytes, RunsOut, at_most, wanted_of, ended_fault, refusal_fault}
+use Rattle.rice_stream.specs.Decodes.{CountsSteps, Decodes, EndsInTurns, Reports, EndsDecoding, DecodesBytes, RunsOut, at_most, wanted_of, ended_fault, refusal_fault}
 use Rattle.rice_stream.specs.DecodingState.{DecodedSoFar, Gains, DecodingProgress, HasRead, HasSets}
 use Rattle.rice_stream.specs.Writes.{TakesPart}
 use Rattle.rice_stream.specs.declared.outcome.Report.{Report}
@@ -174,15 +174,15 @@ abbrev pub Ends : Parameters → Option ℕ → Option (List ℕ) → Option (Li
 Ends s asked left_old left_new out_old out r fault = (c : Call) × Happens left_old left_new out_old out c × Decodes s asked c r fault
 
 -- What is known of a call where it ends, whatever its fault: what the intake gave, the samples, the numbers and the steps.
-record Exits (s : Parameters) (asked : Option ℕ) (start left : Option (List ℕ)) (out_old out : Option Room) (rep : Report) (bytes written : List ℕ) : Type 0 where
+record Exits (s : Parameters) (asked : Option ℕ) (start left : Option (List ℕ)) (out_old out : Option Room) (rep : Report) (bytes written : List ℕ) (ending : Ending) : Type 0 where
   pub gave : Consumes start left bytes
   pub took : Appends out_old out written
   pub ahead : length bytes ≤ rep.bits / 8 + most_at_once
-  pub steps : CountsSteps s (bits_of bytes) rep
+  pub steps : CountsSteps s (bits_of bytes) rep ending
 
 -- the call ends so
 exit : {s : Parameters} {asked : Option ℕ} {start left : Option (List ℕ)} {out_old out : Option Room} {rep : Report} {f : Option Fault} {bytes written : List ℕ} (left_new : Option (List ℕ)) (ys : List ℤ) (ending : Ending) (fault : Option Fault)
-    → Exits s asked start left out_old out rep bytes written → left_new ≡ left → f ≡ fault → (fault ≢ Some TooLong → length bytes ≤ 2 ^ 49)
+    → Exits s asked start left out_old out rep bytes written ending → left_new ≡ left → f ≡ fault → (fault ≢ Some TooLong → length bytes ≤ 2 ^ 49)
     → EndsDecoding s asked fault (record { given = bytes; left = left; written = written }) rep ys ending → Ends s asked start left_new out_old out rep f
 exit {s = s} {asked = asked} {start = start} {left = left} {out_old = out_old} {out = out} {rep = rep} {f = f} {bytes = bytes} {written = written} left_new ys ending fault e there is limit ends =
     subst (λ (l : Option (List ℕ)). Ends s asked start l out_old out rep f) (sym there)
@@ -211,7 +211,7 @@ at_set {s = s} runs none = subst (λ (n : ℕ). DecodedSoFar s runs.front runs.b
 
 -- the steps where decoding ends with a whole coded data set
 whole_steps : {s : Parameters} {rep : Report} {sets : List CodedDataSet} {front : List Bool} {blocks : ℕ} (waiting : List Bool) (bytes : List ℕ) → HasSets s sets front blocks → bits_of bytes ≡ front ++ waiting → rep.bits ≡ length front
-    → rep.steps ≡ rep.bits + rep.samples + sum_by turns sets → CountsSteps s (bits_of bytes) rep
+    → rep.steps ≡ rep.bits + rep.samples + sum_by turns sets → CountsSteps s (bits_of bytes) rep Reached
 whole_steps {sets = sets} {front = front} waiting bytes has bits count steps =
     let whole = append-nil front in
     record {
@@ -222,19 +222,17 @@ whole_steps {sets = sets} {front = front} waiting bytes has bits count steps =
       parts = bits ∙ ap (λ l. l ++ waiting) (sym whole);
       lie = has.lie;
       sound = has.sound;
-      ending = Reached;
-      ends = inl refl;
-      bits_taken = count ∙ ap length (sym whole);
       turns_in_last = 0;
-      few = omega arith;
+      ends = (refl, refl);
+      bits_taken = count ∙ ap length (sym whole);
       steps = omega (arith, steps);
     }
 
 -- the steps where it ends with bits that are no sound coded data set
-last_steps : {s : Parameters} {rep : Report} {sets : List CodedDataSet} {front : List Bool} {blocks : ℕ} (last waiting : List Bool) (bytes : List ℕ) (ending : Ending) (steps new_steps taken new_taken written : ℕ) → HasSets s sets front blocks → bits_of bytes ≡ (front ++ last) ++ waiting
-    → EndsWith s None blocks last ending (length last) → AreCounted steps new_steps taken new_taken → steps ≡ taken + written + sum_by turns sets → new_taken ≡ taken + length last → new_taken ≡ length (front ++ last)
-    → rep.bits ≡ new_taken → rep.samples ≡ written → rep.steps ≡ new_steps → CountsSteps s (bits_of bytes) rep
-last_steps {s = s} {sets = sets} {front = front} last waiting bytes ending steps new_steps taken new_taken written has bits ends counted before more count bits_are samples_are steps_are =
+last_steps : {s : Parameters} {rep : Report} {sets : List CodedDataSet} {front : List Bool} {blocks : ℕ} (last waiting : List Bool) (bytes : List ℕ) (ending : Ending) (in_last steps new_steps taken new_taken written : ℕ) → HasSets s sets front blocks → bits_of bytes ≡ (front ++ last) ++ waiting
+    → EndsInTurns s blocks last ending in_last → new_steps + taken ≡ steps + new_taken + in_last → steps ≡ taken + written + sum_by turns sets → new_taken ≡ length (front ++ last)
+    → rep.bits ≡ new_taken → rep.samples ≡ written → rep.steps ≡ new_steps → CountsSteps s (bits_of bytes) rep ending
+last_steps {s = s} {sets = sets} {front = front} last waiting bytes ending in_last steps new_steps taken new_taken written has bits ends counted before count bits_are samples_are steps_are =
     record {
       sets = sets;
       front = front;
@@ -243,12 +241,10 @@ last_steps {s = s} {sets = sets} {front = front} last waiting bytes ending steps
       parts = bits;
       lie = has.lie;
       sound = has.sound;
-      ending = ending;
-      ends = inr (subst (λ (n : ℕ). EndsWith s None n last ending (length last)) (sym has.end) ends);
+      turns_in_last = in_last;
+      ends = subst (λ (n : ℕ). EndsInTurns s n last ending in_last) (sym has.end) ends;
       bits_taken = bits_are ∙ count;
-      turns_in_last = new_steps - steps - length last;
-      few = omega (arith, counted.most, more);
-      steps = omega (arith, counted.least, more, before, bits_are, samples_are, steps_are);
+      steps = omega (arith, counted, before, bits_are, samples_are, steps_are);
     }
 
 -- the samples that were asked for are reached
@@ -300,6 +296,12 @@ unfolding ending_of
 ends_out s asked b bits true goes e none = (goes, blank_all bits e, refl)
 ends_out s asked b bits false goes e none = (goes, some_one bits e, none, refl)
 
+-- The turns where all bits are taken and no data set begins with them: at most one for each bit, and none where no bit is a 1.
+turns_out : (s : Parameters) (b : ℕ) (bits : List Bool) (blank : Bool) (count : ℕ) → is_blank bits ≡ blank → ((d : CodedDataSet) (more : List Bool) → IsForm s b d → bits ≡ bits_of_set s d ++ more → ⊥) → count ≤ length bits → (is_blank bits ≡ true → count ≡ 0) → EndsInTurns s b bits (ending_of blank) count
+unfolding ending_of
+turns_out s b bits true count e none most blank = ((tt, blank_all bits e, refl), blank e)
+turns_out s b bits false count e none most blank = ((tt, some_one bits e, none, refl), most)
+
 -- the fault where all bits are taken and the intake has ended
 abbrev pub fault_at_end : Option ℕ → Bool → ℕ → Option Fault
 fault_at_end asked true written = ended_fault asked written
@@ -316,10 +318,10 @@ record RunsDry {I : Type 0} (s : Parameters) (asked : Option ℕ) (start : Reade
   pub bits : rep.bits ≡ used
   pub samples : rep.samples ≡ length ys
   pub count : written ≡ length ys
-  pub sets : (more : List ℕ) → CountsSteps s (bits_of (read.bytes ++ more)) rep
+  pub sets : (more : List ℕ) → CountsSteps s (bits_of (read.bytes ++ more)) rep (ending_of blank)
 
 runs_dry : {I : Type 0} {s : Parameters} {asked : Option ℕ} {start : Reader I} {out_old out : Option Room} {p : DecoderState} {r new : Reader I} {steps steps_new written : ℕ} {rep : Report} {f fault : Option Fault} {left : Option (List ℕ)} {failed : ℕ} {why : BitFault} (blank : Bool)
-    → (runs : DecodingProgress s asked start out_old out p r steps written) → wanted_of asked written s.block ≢ 0 → p.run ≡ 0 → (cut : SetCut (with_mark r) new s runs.blocks why) → is_blank cut.bits ≡ blank
+    → (runs : DecodingProgress s asked start out_old out p r steps written) → wanted_of asked written s.block ≢ 0 → p.run ≡ 0 → (cut : SetCut (with_mark r) new steps steps_new s runs.blocks why) → is_blank cut.bits ≡ blank
     → AreCounted steps steps_new r.taken new.taken → Reports rep f left failed new written steps_new fault → RunsDry s asked start cut.stops.middle new rep (cut_to s asked 0 runs.given) written blank
 runs_dry {s = s} {asked = asked} {p = p} {r = r} {new = new} {steps = steps} {steps_new = steps_new} {written = written} {rep = rep} blank runs some none cut told counted tells =
     let bits = cut.bits in
@@ -334,6 +336,7 @@ runs_dry {s = s} {asked = asked} {p = p} {r = r} {new = new} {steps = steps} {st
     let size = length-bits_of read.bytes in
     let here : runs.blocks + p.run ≡ runs.blocks = omega (arith, none) in
     let has = subst (λ (n : ℕ). HasSets s runs.sets runs.front n) here runs.has_sets in
+    let in_last = steps_new - steps - length bits in
     record {
       front = front;
       read = read;
@@ -344,13 +347,14 @@ runs_dry {s = s} {asked = asked} {p = p} {r = r} {new = new} {steps = steps} {st
       bits = tells.bits_are ∙ sym used;
       samples = tells.samples_are ∙ so.count;
       count = so.count;
-      sets = λ more. last_steps bits (bits_of more) (read.bytes ++ more) (ending_of blank) steps steps_new r.taken new.taken written has (bits_of-append read.bytes more ∙ ap (λ l. l ++ bits_of more) whole)
-          (ends_out s None runs.blocks bits blank tt told cut.none) counted runs.has_steps.count cut.stops.taken read.count tells.bits_are tells.samples_are tells.steps_are;
+      sets = λ more. last_steps bits (bits_of more) (read.bytes ++ more) (ending_of blank) in_last steps steps_new r.taken new.taken written has (bits_of-append read.bytes more ∙ ap (λ l. l ++ bits_of more) whole)
+          (turns_out s runs.blocks bits blank in_last told cut.none (omega (arith, counted.most, cut.stops.taken)) (λ zeros. omega (arith, cut.steps zeros, cut.stops.taken)))
+          (omega (arith, counted.least, cut.stops.taken)) runs.has_steps.count read.count tells.bits_are tells.samples_are tells.steps_are;
     }
 
 -- no 1 is left, or no data set begins with what is left, where the intake has ended
 pub ended_ends : {I : Type 0} {s : Parameters} {asked : Option ℕ} {start : Reader I} {out_old out : Option Room} {p : DecoderState} {r new : Reader I} {steps steps_new written : ℕ} {rep : Report} {f : Option Fault} {left : Option (List ℕ)} {failed : ℕ} (blank : Bool)
-    → (runs : DecodingProgress s asked start out_old out p r steps written) → wanted_of asked written s.block ≢ 0 → p.run ≡ 0 → SetEnds (with_mark r) new s runs.blocks blank
+    → (runs : DecodingProgress s asked start out_old out p r steps written) → wanted_of asked written s.block ≢ 0 → p.run ≡ 0 → SetEnds (with_mark r) new steps steps_new s runs.blocks blank
     → AreCounted steps steps_new r.taken new.taken → Reports rep f left failed new written steps_new (fault_at_end asked blank written) → Ends s asked start.left left out_old out rep f
 unfolding ending_of
 ended_ends {s = s} {asked = asked} {start = start} {new = new} {written = written} {rep = rep} {left = left} blank runs some none ends counted tells =
@@ -363,7 +367,7 @@ ended_ends {s = s} {asked = asked} {start = start} {new = new} {written = writte
       gave = gave;
       took = runs.has_written.put;
       ahead = omega (arith, dry.few);
-      steps = subst (λ (l : List ℕ). CountsSteps s (bits_of l) rep) (append-nil read.bytes) (dry.sets []);
+      steps = subst (λ (l : List ℕ). CountsSteps s (bits_of l) rep (ending_of blank)) (append-nil read.bytes) (dry.sets []);
     } tells.left_is tells.fault_is (λ _. dry.limit)
     (by_fault blank asked (dry.used, dry.decoded, record { written = refl; samples = dry.samples; bits = dry.bits }) stops.refuses.1 dry.count)
   where
@@ -374,7 +378,7 @@ ended_ends {s = s} {asked = asked} {start = start} {new = new} {written = writte
 
 -- the intake failed
 read_ends : {I : Type 0} {s : Parameters} {asked : Option ℕ} {start : Reader I} {out_old out : Option Room} {p : DecoderState} {r new : Reader I} {steps steps_new written : ℕ} {rep : Report} {f : Option Fault} {left : Option (List ℕ)} {failed : ℕ}
-    → (runs : DecodingProgress s asked start out_old out p r steps written) → wanted_of asked written s.block ≢ 0 → p.run ≡ 0 → SetCut (with_mark r) new s runs.blocks bit_faults.Read
+    → (runs : DecodingProgress s asked start out_old out p r steps written) → wanted_of asked written s.block ≢ 0 → p.run ≡ 0 → SetCut (with_mark r) new steps steps_new s runs.blocks bit_faults.Read
     → AreCounted steps steps_new r.taken new.taken → Reports rep f left failed new written steps_new (Some Read) → Ends s asked start.left left out_old out rep f
 read_ends {s = s} {asked = asked} {start = start} {new = new} {rep = rep} {left = left} runs some none cut counted tells =
     let blank = is_blank cut.bits in
@@ -385,13 +389,13 @@ read_ends {s = s} {asked = asked} {start = start} {new = new} {rep = rep} {left 
       gave = gave;
       took = runs.has_written.put;
       ahead = omega (arith, dry.few);
-      steps = subst (λ (l : List ℕ). CountsSteps s (bits_of l) rep) (append-nil read.bytes) (dry.sets []);
+      steps = subst (λ (l : List ℕ). CountsSteps s (bits_of l) rep (ending_of blank)) (append-nil read.bytes) (dry.sets []);
     } tells.left_is tells.fault_is (λ _. dry.limit)
     ((dry.used, dry.decoded, record { written = refl; samples = dry.samples; bits = dry.bits }), run_out blank)
 
 -- the byte past the limit was given
 long_ends : {I : Type 0} {s : Parameters} {asked : Option ℕ} {start : Reader I} {out_old out : Option Room} {p : DecoderState} {r new : Reader I} {steps steps_new written : ℕ} {rep : Report} {f : Option Fault} {left : Option (List ℕ)} {failed : ℕ}
-    → (runs : DecodingProgress s asked start out_old out p r steps written) → wanted_of asked written s.block ≢ 0 → p.run ≡ 0 → SetCut (with_mark r) new s runs.blocks bit_faults.TooLong
+    → (runs : DecodingProgress s asked start out_old out p r steps written) → wanted_of asked written s.block ≢ 0 → p.run ≡ 0 → SetCut (with_mark r) new steps steps_new s runs.blocks bit_faults.TooLong
     → AreCounted steps steps_new r.taken new.taken → Reports rep f left failed new written steps_new (Some TooLong) → Ends s asked start.left left out_old out rep f
 long_ends {s = s} {asked = asked} {start = start} {new = new} {rep = rep} {left = left} runs some none cut counted tells =
     let blank = is_blank cut.bits in
@@ -410,11 +414,12 @@ long_ends {s = s} {asked = asked} {start = start} {new = new} {rep = rep} {left 
 
 -- a coded data set was refused
 refused_ends : {I : Type 0} {s : Parameters} {asked : Option ℕ} {start : Reader I} {out_old out : Option Room} {p : DecoderState} {r new : Reader I} {steps steps_new written : ℕ} {rep : Report} {f : Option Fault} {left : Option (List ℕ)} {failed : ℕ} (P : CodedDataSet → Type 0) (ending : Ending) (fault : Option Fault)
-    → fault ≢ Some TooLong → IsLegal s → (runs : DecodingProgress s asked start out_old out p r steps written) → wanted_of asked written s.block ≢ 0 → p.run ≡ 0 → SetRefused (with_mark r) new s runs.blocks P
+    → fault ≢ Some TooLong → IsLegal s → (runs : DecodingProgress s asked start out_old out p r steps written) → wanted_of asked written s.block ≢ 0 → p.run ≡ 0 → SetRefused (with_mark r) new steps steps_new s runs.blocks P
     → ((asked : Option ℕ) (rest : List Bool) (used : ℕ) → IsWanted s asked runs.blocks → BeginsUnsound s runs.blocks rest used P → EndsWith s asked runs.blocks rest ending used)
+    → ((last : List Bool) (count : ℕ) (unsound : BeginsUnsound s runs.blocks last (length last) P) → count ≡ turns unsound.refused → EndsInTurns s runs.blocks last ending count)
     → AreCounted steps steps_new r.taken new.taken → Reports rep f left failed new written steps_new fault
     → ((c : Call) (ys : List ℤ) → DecodesBytes s asked c rep c.given ys ending → length ys ≡ s.block * (written / s.block) → EndsDecoding s asked fault c rep ys ending) → Ends s asked start.left left out_old out rep f
-refused_ends {s = s} {asked = asked} {start = start} {p = p} {r = r} {new = new} {steps = steps} {steps_new = steps_new} {written = written} {rep = rep} {left = left} P ending fault other legal runs some none refused by_rule counted tells ends =
+refused_ends {s = s} {asked = asked} {start = start} {p = p} {r = r} {new = new} {steps = steps} {steps_new = steps_new} {written = written} {rep = rep} {left = left} P ending fault other legal runs some none refused by_rule by_turns counted tells ends =
     let b = runs.blocks in
     let so = runs.has_written in
     let j : 1 ≤ s.block = let k : 8 ≤ s.block = grind (arith, legal.block) in omega arith in
@@ -438,7 +443,7 @@ refused_ends {s = s} {asked = asked} {start = start} {p = p} {r = r} {new = new}
       gave = read.gave;
       took = so.put;
       ahead = omega (arith, few.0, tells.bits_are);
-      steps = last_steps set new.waiting read.bytes ending steps steps_new r.taken new.taken written has read.bits (by_rule None set (length set) tt alone) counted runs.has_steps.count refused.takes.taken read.count tells.bits_are tells.samples_are tells.steps_are;
+      steps = last_steps set new.waiting read.bytes ending (turns refused.set) steps steps_new r.taken new.taken written has read.bits (by_turns set (turns refused.set) alone refl) refused.steps runs.has_steps.count read.count tells.bits_are tells.samples_are tells.steps_are;
     } tells.left_is tells.fault_is (λ _. few.1)
     (ends _ ys (length runs.front + length set, decodes, record { written = refl; samples = tells.samples_are ∙ so.count; bits = sym used })
     (sym so.count ∙ so_far.0 ∙ ap (λ n. s.block * n) (sym number)))
@@ -514,23 +519,23 @@ write_ends {s = s} {asked = asked} {out_old = out_old} {out = out} {out_new = ou
 
 -- the decoder refuses
 pub refusal_ends : {I : Type 0} {s : Parameters} {asked : Option ℕ} {start : Reader I} {out_old out : Option Room} {p : DecoderState} {r new : Reader I} {steps steps_new written : ℕ} {rep : Report} {f : Option Fault} {left : Option (List ℕ)} {failed : ℕ} (fault : CodeFault) → IsLegal s
-    → (runs : DecodingProgress s asked start out_old out p r steps written) → wanted_of asked written s.block ≢ 0 → (p.run ≡ 0) × StopsBy (with_mark r) new s runs.blocks (Err fault)
+    → (runs : DecodingProgress s asked start out_old out p r steps written) → wanted_of asked written s.block ≢ 0 → (p.run ≡ 0) × StopsBy (with_mark r) new steps steps_new s runs.blocks (Err fault)
     → AreCounted steps steps_new r.taken new.taken → Reports rep f left failed new written steps_new (Some (refusal_fault fault written s.block)) → Ends s asked start.left left out_old out rep f
 refusal_ends faults.CodeEnds legal runs some stops counted tells = ended_ends false runs some stops.0 stops.1 counted tells
 refusal_ends {s = s} faults.RunPastSegment legal runs some stops counted tells =
-    refused_ends (RunIsSound s runs.blocks) Past _ (λ e. cc) legal runs some stops.0 stops.1 (λ asked rest used goes h. (goes, h)) counted tells (λ c ys d n. (d, refl, n))
+    refused_ends (RunIsSound s runs.blocks) Past _ (λ e. cc) legal runs some stops.0 stops.1 (λ asked rest used goes h. (goes, h)) (λ last count h e. (h, e)) counted tells (λ c ys d n. (d, refl, n))
 refusal_ends {s = s} faults.ResidualTooLarge legal runs some stops counted tells =
-    refused_ends (ResidualsAreSound s) Large _ (λ e. cc) legal runs some stops.0 stops.1 (λ asked rest used goes h. (goes, h)) counted tells (λ c ys d n. (d, refl, n))
+    refused_ends (ResidualsAreSound s) Large _ (λ e. cc) legal runs some stops.0 stops.1 (λ asked rest used goes h. (goes, h)) (λ last count h e. (h, e)) counted tells (λ c ys d n. (d, refl, n))
 refusal_ends faults.Read legal runs some stops counted tells = read_ends runs some stops.0 stops.1 counted tells
 refusal_ends faults.TooLong legal runs some stops counted tells = long_ends runs some stops.0 stops.1 counted tells
 
 -- a fault of the intake is its one failure
-stops_fail : {I : Type 0} (s : Parameters) (b : ℕ) (r new : Reader I) (n written block writes : ℕ) (fault : CodeFault) → StopsBy (with_mark r) new s b (Err fault) → r.failed ≡ n → Fails (Some (refusal_fault fault written block)) n new.failed writes writes
-stops_fail s b r new n written block writes faults.CodeEnds stops e = (stops.cut.stops.refuses.2 ∙ e, refl)
-stops_fail s b r new n written block writes faults.RunPastSegment stops e = (stops.takes.failures ∙ e, refl)
-stops_fail s b r new n written block writes faults.ResidualTooLarge stops e = (stops.takes.failures ∙ e, refl)
-stops_fail s b r new n written block writes faults.Read stops e = (stops.stops.refuses.1 ∙ ap (λ m. m + 1) e, refl)
-stops_fail s b r new n written block writes faults.TooLong stops e = (stops.stops.refuses.1 ∙ e, refl)
+stops_fail : {I : Type 0} (s : Parameters) (b : ℕ) (r new : Reader I) (steps steps_new n written block writes : ℕ) (fault : CodeFault) → StopsBy (with_mark r) new steps steps_new s b (Err fault) → r.failed ≡ n → Fails (Some (refusal_fault fault written block)) n new.failed writes writes
+stops_fail s b r new steps steps_new n written block writes faults.CodeEnds stops e = (stops.cut.stops.refuses.2 ∙ e, refl)
+stops_fail s b r new steps steps_new n written block writes faults.RunPastSegment stops e = (stops.takes.failures ∙ e, refl)
+stops_fail s b r new steps steps_new n written block writes faults.ResidualTooLarge stops e = (stops.takes.failures ∙ e, refl)
+stops_fail s b r new steps steps_new n written block writes faults.Read stops e = (stops.stops.refuses.1 ∙ ap (λ m. m + 1) e, refl)
+stops_fail s b r new steps steps_new n written block writes faults.TooLong stops e = (stops.stops.refuses.1 ∙ e, refl)
 
 -- the failures where decoding ends with this fault
 reported_fails : {f fault : Option Fault} {reads_now failed writes writes_new : ℕ} (reads : ℕ) → f ≡ fault → failed ≡ reads_now → writes_new ≡ writes → Fails fault reads reads_now writes writes → Fails f reads failed writes writes_new
@@ -539,13 +544,13 @@ reported_fails {f = f} {fault = fault} {reads_now = reads_now} {failed = failed}
     (subst (λ (n : ℕ). Fails fault reads n writes writes_new) (sym there) (subst (λ (n : ℕ). Fails fault reads reads_now writes n) (sym same) fails))
 
 pub refusal_fails : {I : Type 0} {s : Parameters} {asked : Option ℕ} {start : Reader I} {out_old out : Option Room} {p : DecoderState} {r new : Reader I} {steps steps_new written writes writes_new : ℕ} {rep : Report} {f : Option Fault} {left : Option (List ℕ)} {failed : ℕ} (fault : CodeFault)
-    → (runs : DecodingProgress s asked start out_old out p r steps written) → (p.run ≡ 0) × StopsBy (with_mark r) new s runs.blocks (Err fault) → writes_new ≡ writes
+    → (runs : DecodingProgress s asked start out_old out p r steps written) → (p.run ≡ 0) × StopsBy (with_mark r) new steps steps_new s runs.blocks (Err fault) → writes_new ≡ writes
     → Reports rep f left failed new written steps_new (Some (refusal_fault fault written s.block)) → Fails f start.failed failed writes writes_new
 refusal_fails {s = s} {r = r} {new = new} {written = written} {writes = writes} fault runs stops same tells =
-    reported_fails _ tells.fault_is tells.failed_is same (stops_fail s runs.blocks r new _ written s.block writes fault stops.1 runs.reads)
+    reported_fails _ tells.fault_is tells.failed_is same (stops_fail s runs.blocks r new _ _ _ written s.block writes fault stops.1 runs.reads)
 
 pub done_fails : {I : Type 0} {s : Parameters} {asked : Option ℕ} {start : Reader I} {out_old out : Option Room} {p : DecoderState} {r new : Reader I} {steps steps_new written writes writes_new : ℕ} {rep : Report} {f : Option Fault} {left : Option (List ℕ)} {failed : ℕ}
-    → (runs : DecodingProgress s asked start out_old out p r steps written) → (p.run ≡ 0) × SetEnds (with_mark r) new s runs.blocks true → writes_new ≡ writes
+    → (runs : DecodingProgress s asked start out_old out p r steps written) → (p.run ≡ 0) × SetEnds (with_mark r) new steps steps_new s runs.blocks true → writes_new ≡ writes
     → Reports rep f left failed new written steps_new (ended_fault asked written) → Fails f start.failed failed writes writes_new
 done_fails {asked = asked} {start = start} {new = new} {written = written} {writes = writes} runs ends same tells =
     reported_fails _ tells.fault_is tells.failed_is same (by_count asked (ends.1.cut.stops.refuses.2 ∙ runs.reads))

@@ -197,45 +197,47 @@ gains {s = s} {p = p} {q = q} {r = r} {new = new} {steps = steps} {steps_new = s
     ]
 
 -- of the block only its place matters where the decoder stops
-pub cut_there : {I : Type 0} (old new : Reader I) (s : Parameters) (b c : ℕ) (fault : BitFault) → place s c ≡ place s b → SetCut old new s c fault → SetCut old new s b fault
-cut_there old new s b c fault e cut = record { bits = cut.bits; stops = cut.stops; none = λ d more f g. cut.none d more (form_there s b c d (sym e) f) g }
+pub cut_there : {I : Type 0} (old new : Reader I) (first last : ℕ) (s : Parameters) (b c : ℕ) (fault : BitFault) → place s c ≡ place s b → SetCut old new first last s c fault → SetCut old new first last s b fault
+cut_there old new first last s b c fault e cut = record { bits = cut.bits; stops = cut.stops; none = λ d more f g. cut.none d more (form_there s b c d (sym e) f) g; steps = cut.steps }
 
-pub ends_there : {I : Type 0} (old new : Reader I) (s : Parameters) (b c : ℕ) (blank : Bool) → place s c ≡ place s b → SetEnds old new s c blank → SetEnds old new s b blank
+pub ends_there : {I : Type 0} (old new : Reader I) (first last : ℕ) (s : Parameters) (b c : ℕ) (blank : Bool) → place s c ≡ place s b → SetEnds old new first last s c blank → SetEnds old new first last s b blank
 unfolding cut_there
-ends_there old new s b c blank e ends = record { cut = cut_there old new s b c _ e ends.cut; told = ends.told }
+ends_there old new first last s b c blank e ends = record { cut = cut_there old new first last s b c _ e ends.cut; told = ends.told }
 
-stops_there : {I : Type 0} (old new : Reader I) (s : Parameters) (b c : ℕ) (fault : CodeFault) → place s c ≡ place s b → StopsBy old new s c (Err fault) → StopsBy old new s b (Err fault)
-stops_there old new s b c faults.CodeEnds e h = ends_there old new s b c false e h
-stops_there old new s b c faults.RunPastSegment e h = record { set = h.set; form = form_there s c b h.set e h.form; takes = h.takes; unsound = λ g. h.unsound (run_there s b c h.set (sym e) g) }
-stops_there old new s b c faults.ResidualTooLarge e h = record { set = h.set; form = form_there s c b h.set e h.form; takes = h.takes; unsound = h.unsound }
-stops_there old new s b c faults.Read e h = cut_there old new s b c _ e h
-stops_there old new s b c faults.TooLong e h = cut_there old new s b c _ e h
+stops_there : {I : Type 0} (old new : Reader I) (first last : ℕ) (s : Parameters) (b c : ℕ) (fault : CodeFault) → place s c ≡ place s b → StopsBy old new first last s c (Err fault) → StopsBy old new first last s b (Err fault)
+stops_there old new first last s b c faults.CodeEnds e h = ends_there old new first last s b c false e h
+stops_there old new first last s b c faults.RunPastSegment e h = record { set = h.set; form = form_there s c b h.set e h.form; takes = h.takes; unsound = λ g. h.unsound (run_there s b c h.set (sym e) g); steps = h.steps }
+stops_there old new first last s b c faults.ResidualTooLarge e h = record { set = h.set; form = form_there s c b h.set e h.form; takes = h.takes; unsound = h.unsound; steps = h.steps }
+stops_there old new first last s b c faults.Read e h = cut_there old new first last s b c _ e h
+stops_there old new first last s b c faults.TooLong e h = cut_there old new first last s b c _ e h
 
-stops_here : {I : Type 0} (old new : Reader I) (s t : Parameters) (b c : ℕ) (fault : CodeFault) → 1 ≤ s.interval → t ≡ s → place s b ≡ c → StopsBy old new t c (Err fault) → StopsBy old new s b (Err fault)
-stops_here old new s t b c fault some setting here h = stops_there old new s b c fault (same_place s b c some here) (subst (λ (t : Parameters). StopsBy old new t c (Err fault)) setting h)
+stops_here : {I : Type 0} (old new : Reader I) (first last : ℕ) (s t : Parameters) (b c : ℕ) (fault : CodeFault) → 1 ≤ s.interval → t ≡ s → place s b ≡ c → StopsBy old new first last t c (Err fault) → StopsBy old new first last s b (Err fault)
+stops_here old new first last s t b c fault some setting here h =
+    stops_there old new first last s b c fault (same_place s b c some here) (subst (λ (t : Parameters). StopsBy old new first last t c (Err fault)) setting h)
 
-ends_at : {I : Type 0} (old new : Reader I) (s t : Parameters) (b c : ℕ) (blank : Bool) → 1 ≤ s.interval → t ≡ s → place s b ≡ c → SetEnds old new t c blank → SetEnds old new s b blank
-ends_at old new s t b c blank some setting here h = ends_there old new s b c blank (same_place s b c some here) (subst (λ (t : Parameters). SetEnds old new t c blank) setting h)
+ends_at : {I : Type 0} (old new : Reader I) (first last : ℕ) (s t : Parameters) (b c : ℕ) (blank : Bool) → 1 ≤ s.interval → t ≡ s → place s b ≡ c → SetEnds old new first last t c blank → SetEnds old new first last s b blank
+ends_at old new first last s t b c blank some setting here h =
+    ends_there old new first last s b c blank (same_place s b c some here) (subst (λ (t : Parameters). SetEnds old new first last t c blank) setting h)
 
 -- where the decoder stops, it is in no run
 pub stopped : {I : Type 0} {s : Parameters} {asked : Option ℕ} {start : Reader I} {out_old out : Option Room} {p q : DecoderState} {r new : Reader I} {steps steps_new written : ℕ} {xs : List ℤ} {fault : CodeFault} → IsLegal s
     → (runs : DecodingProgress s asked start out_old out p r steps written) → Advances r new steps steps_new p q xs (Err fault)
-    → (p.run ≡ 0) × StopsBy (with_mark r) new s runs.blocks (Err fault)
-stopped {s = s} {p = p} {r = r} {new = new} {fault = fault} legal runs a =
+    → (p.run ≡ 0) × StopsBy (with_mark r) new steps steps_new s runs.blocks (Err fault)
+stopped {s = s} {p = p} {r = r} {new = new} {steps = steps} {steps_new = steps_new} {fault = fault} legal runs a =
     let at = runs.at_block in
     elim (runs_or_not p) [
       | inl lt ↦ absurd (let e = (a.in_run at.going lt).0 in cc)
-      | inr none ↦ (none, stops_here (with_mark r) new s p.setting runs.blocks p.block fault legal.interval_from at.setting at.here (a.reads at.going none).0)
+      | inr none ↦ (none, stops_here (with_mark r) new steps steps_new s p.setting runs.blocks p.block fault legal.interval_from at.setting at.here (a.reads at.going none).0)
     ]
 
 pub done : {I : Type 0} {s : Parameters} {asked : Option ℕ} {start : Reader I} {out_old out : Option Room} {p q : DecoderState} {r new : Reader I} {steps steps_new written : ℕ} {xs : List ℤ} → IsLegal s
     → (runs : DecodingProgress s asked start out_old out p r steps written) → Advances r new steps steps_new p q xs (Ok Done)
-    → (p.run ≡ 0) × SetEnds (with_mark r) new s runs.blocks true
-done {s = s} {p = p} {r = r} {new = new} legal runs a =
+    → (p.run ≡ 0) × SetEnds (with_mark r) new steps steps_new s runs.blocks true
+done {s = s} {p = p} {r = r} {new = new} {steps = steps} {steps_new = steps_new} legal runs a =
     let at = runs.at_block in
     elim (runs_or_not p) [
       | inl lt ↦ absurd (let e = (a.in_run at.going lt).0 in cc)
-      | inr none ↦ (none, ends_at (with_mark r) new s p.setting runs.blocks p.block true legal.interval_from at.setting at.here (a.reads at.going none).0)
+      | inr none ↦ (none, ends_at (with_mark r) new steps steps_new s p.setting runs.blocks p.block true legal.interval_from at.setting at.here (a.reads at.going none).0)
     ]
 
 -- no more samples than were asked for

@@ -1,14 +1,15 @@
 -- What is read of a data set.
-use Rattle.std.proofs.Common.{◌≡◌, ℕ, zero, suc, ◌+◌, ◌-◌, ◌*◌, ◌%◌, ◌^◌, ◌<◌, ◌≤◌, Bool, true, false, List, [], ◌∷◌, ◌++◌, length, refl, sym, ap, subst, arith, length-append, Option, cond}
-use Rattle.std.specs.Prelude.{if◌then◌else◌, nat_lt, ◌==◌}
+use Rattle.std.proofs.Common.{◌≡◌, ℕ, zero, suc, ◌+◌, ◌-◌, ◌*◌, ◌%◌, ◌^◌, ◌<◌, ◌≤◌, ◌∙◌, Bool, true, false, List, [], ◌∷◌, ◌++◌, length, refl, sym, ap, subst, arith, length-append, Option, cond}
+use Rattle.std.specs.Prelude.{if◌then◌else◌, nat_lt, ◌==◌, ◌&&◌}
 use Rattle.std.proofs.lemmas.Bool.Decides.{nat_tests}
 use Rattle.std.proofs.Math.Nat.{mod-eq_of_lt}
 use Rattle.std.proofs.Math.Pow.{pow_mono}
 use Rattle.rice_bits.specs.Bits.{word}
-use Rattle.rice_bits.specs.read.Reader.{Reader, Takes, Stops}
+use Rattle.rice_bits.specs.read.Reader.{Reader, Takes, Stops, is_blank}
 use Rattle.rice_bits.specs.declared.read.fault.BitFault.{BitFault}
 use Rattle.rice_bits.proofs.lemmas.read.ReaderLemmas.{takes-append, stops-append}
 use Rattle.rice_bits.proofs.lemmas.bits.Words.{length-word}
+use Rattle.rice_bits.proofs.lemmas.read.Blank.{blank-append, blank-word_positive}
 use Rattle.rice_samples.specs.Parameters.{Parameters, id_len}
 use Rattle.rice_code.specs.code.Blocks.{BlockData}
 use Rattle.rice_code.specs.code.CodedDataSets.{CodedDataSet, NoCompression, SecondExtension, Split, ZeroBlocks, RemainderOfSegment, bits_of_set, run_number, no_compression_tail, second_extension_tail, split_tail, run_tail}
@@ -53,26 +54,41 @@ cut_low s b id bits e none (ZeroBlocks r z) more form i t = none (ZeroBlocks r z
 cut_low s b id bits e none (RemainderOfSegment r) more form i t = none (RemainderOfSegment r) more form tt t
 
 -- a coded data set is cut off after its identifier
-cut_after_id : {I : Type 0} (old mid new : Reader I) (s : Parameters) (b id : ℕ) (bits : List Bool) (f : BitFault)
+cut_after_id : {I : Type 0} (old mid new : Reader I) (first last : ℕ) (s : Parameters) (b id : ℕ) (bits : List Bool) (f : BitFault)
     → id < 2 ^ id_len s → Takes old mid (word (id_len s) id) → Stops mid new bits f
-    → ((d : CodedDataSet) (more : List Bool) → IsForm s b d → id ≡ identifier s d → bits ≡ tail s d ++ more → ⊥) → SetCut old new s b f
-cut_after_id old mid new s b id bits f lt t stops none = record {
+    → ((d : CodedDataSet) (more : List Bool) → IsForm s b d → id ≡ identifier s d → bits ≡ tail s d ++ more → ⊥)
+    → (is_blank (word (id_len s) id ++ bits) ≡ true → last + old.taken ≡ first + new.taken) → SetCut old new first last s b f
+cut_after_id old mid new first last s b id bits f lt t stops none steps = record {
   bits = word (id_len s) id ++ bits;
   stops = stops-append old mid new _ bits f t stops;
   none = λ d more form e. (let a = head_reads s b id d bits more lt form e in none d more form a.0 a.1);
+  steps = steps;
 }
 
-pub no_compression_set_cut : {I : Type 0} (old mid new : Reader I) (s : Parameters) (b id : ℕ) (f : BitFault)
-    → id < 2 ^ id_len s → id ≡ 2 ^ id_len s - 1 → Takes old mid (word (id_len s) id) → BlockCut mid new s b NoCompression f → SetCut old new s b f
-no_compression_set_cut old mid new s b id f lt e t cut = cut_after_id old mid new s b id cut.bits f lt t cut.stops (cut_plain s b id cut.bits e cut.none)
+-- an identifier that is not 0 has a 1
+not_blank : (w id : ℕ) (bits : List Bool) → 0 < id → id < 2 ^ w → is_blank (word w id ++ bits) ≡ true → ⊥
+not_blank w id bits some lt blank =
+    let none : false ≡ true = sym (ap (λ b. b && is_blank bits) (blank-word_positive w id some lt)) ∙ (sym (blank-append (word w id) bits) ∙ blank) in cc
 
-pub split_set_cut : {I : Type 0} (old mid new : Reader I) (s : Parameters) (b id k : ℕ) (f : BitFault)
-    → id < 2 ^ id_len s - 1 → id ≡ k + 1 → Takes old mid (word (id_len s) id) → BlockCut mid new s b (Split k) f → SetCut old new s b f
-split_set_cut old mid new s b id k f lt e t cut = cut_after_id old mid new s b id cut.bits f (omega arith) t cut.stops (cut_split s b id k cut.bits e lt cut.none)
+pub no_compression_set_cut : {I : Type 0} (old mid new : Reader I) (first last : ℕ) (s : Parameters) (b id : ℕ) (f : BitFault)
+    → id < 2 ^ id_len s → id ≡ 2 ^ id_len s - 1 → Takes old mid (word (id_len s) id) → BlockCut mid new s b NoCompression f → SetCut old new first last s b f
+no_compression_set_cut old mid new first last s b id f lt e t cut =
+    let wide = wide_id s in
+    cut_after_id old mid new first last s b id cut.bits f lt t cut.stops (cut_plain s b id cut.bits e cut.none) (λ blank. absurd (not_blank (id_len s) id cut.bits (omega arith) lt blank))
 
-pub low_set_cut : {I : Type 0} (old mid new : Reader I) (s : Parameters) (b id : ℕ) (f : BitFault)
-    → id < 2 ^ id_len s → id ≡ 0 → Takes old mid (word (id_len s) id) → LowCut mid new s b f → SetCut old new s b f
-low_set_cut old mid new s b id f lt e t cut = cut_after_id old mid new s b id cut.bits f lt t cut.stops (cut_low s b id cut.bits e cut.none)
+pub split_set_cut : {I : Type 0} (old mid new : Reader I) (first last : ℕ) (s : Parameters) (b id k : ℕ) (f : BitFault)
+    → id < 2 ^ id_len s - 1 → id ≡ k + 1 → Takes old mid (word (id_len s) id) → BlockCut mid new s b (Split k) f → SetCut old new first last s b f
+split_set_cut old mid new first last s b id k f lt e t cut =
+    cut_after_id old mid new first last s b id cut.bits f (omega arith) t cut.stops (cut_split s b id k cut.bits e lt cut.none) (λ blank. absurd (not_blank (id_len s) id cut.bits (omega arith) (omega arith) blank))
+
+pub low_set_cut : {I : Type 0} (old mid new : Reader I) (first second last : ℕ) (s : Parameters) (b id : ℕ) (f : BitFault)
+    → id < 2 ^ id_len s → id ≡ 0 → Takes old mid (word (id_len s) id) → second + old.taken ≡ first + mid.taken → LowCut mid new second last s b f → SetCut old new first last s b f
+low_set_cut old mid new first second last s b id f lt e t steps cut =
+    cut_after_id old mid new first last s b id cut.bits f lt t cut.stops (cut_low s b id cut.bits e cut.none) (λ blank. omega (arith, steps, cut.steps (behind (is_blank (word (id_len s) id)) (is_blank cut.bits) (sym (blank-append (word (id_len s) id) cut.bits) ∙ blank))))
+  where
+    behind : (x y : Bool) → (x && y) ≡ true → y ≡ true
+    behind true y h = h
+    behind false y h = absurd (let none : false ≡ true = h in cc)
 
 -- what a block by no compression says
 pub no_compression_set : {I : Type 0} (old mid new : Reader I) (first second last : ℕ) (s : Parameters) (b id : ℕ) (r : Option ℕ) (sound near : Bool) (items : List ℕ)
@@ -147,9 +163,9 @@ one_bit zero h k = absurd (omega arith)
 one_bit (suc zero) h k = bit_word 1 (omega arith)
 one_bit (suc (suc v)) h k = absurd (omega arith)
 
-pub low_bit_cut : {I : Type 0} (old new : Reader I) (s : Parameters) (b : ℕ) (bits : List Bool) (f : BitFault)
-    → length bits < 1 → Stops old new bits f → LowCut old new s b f
-low_bit_cut old new s b bits f lt stops = record { bits = bits; stops = stops; none = none bits lt }
+pub low_bit_cut : {I : Type 0} (old new : Reader I) (first last : ℕ) (s : Parameters) (b : ℕ) (bits : List Bool) (f : BitFault)
+    → length bits < 1 → Stops old new bits f → last + old.taken ≡ first + new.taken → LowCut old new first last s b f
+low_bit_cut old new first last s b bits f lt stops steps = record { bits = bits; stops = stops; none = none bits lt; steps = λ blank. steps }
   where
     none : (bits : List Bool) → length bits < 1 → (d : CodedDataSet) (more : List Bool) → IsForm s b d → IsLow d → bits ≡ low_tail s d ++ more → ⊥
     none bits lt (NoCompression c) more form low e = low
@@ -158,12 +174,13 @@ low_bit_cut old new s b bits f lt stops = record { bits = bits; stops = stops; n
     none bits lt (ZeroBlocks r z) more form low e = omega (arith, ap length e)
     none bits lt (RemainderOfSegment r) more form low e = omega (arith, ap length e)
 
-pub second_low_cut : {I : Type 0} (old mid new : Reader I) (s : Parameters) (b v : ℕ) (f : BitFault)
-    → v < 2 → 0 < v → Takes old mid (word 1 v) → BlockCut mid new s b SecondExtension f → LowCut old new s b f
-second_low_cut old mid new s b v f lt pos t cut = record {
+pub second_low_cut : {I : Type 0} (old mid new : Reader I) (first last : ℕ) (s : Parameters) (b v : ℕ) (f : BitFault)
+    → v < 2 → 0 < v → Takes old mid (word 1 v) → BlockCut mid new s b SecondExtension f → LowCut old new first last s b f
+second_low_cut old mid new first last s b v f lt pos t cut = record {
   bits = true ∷ cut.bits;
   stops = stops-append old mid new (true ∷ []) cut.bits f (rw (one_bit v lt pos) at t) cut.stops;
   none = none cut.bits cut.none;
+  steps = λ blank. absurd (let no : false ≡ true = blank in cc);
 }
   where
     none : (bits : List Bool) → ((c : BlockData) (more : List Bool) → IsForm s b (SecondExtension c) → bits ≡ second_extension_tail s c ++ more → ⊥) → (d : CodedDataSet) (more : List Bool) → IsForm s b d → IsLow d → true ∷ bits ≡ low_tail s d ++ more → ⊥
@@ -173,12 +190,14 @@ second_low_cut old mid new s b v f lt pos t cut = record {
     none bits h (ZeroBlocks r z) more form low e = absurd cc
     none bits h (RemainderOfSegment r) more form low e = absurd cc
 
-pub run_low_cut : {I : Type 0} (old mid new : Reader I) (s : Parameters) (b : ℕ) (bits : List Bool) (f : BitFault)
-    → Takes old mid (word 1 0) → Stops mid new bits f → ((r : Option ℕ) (m : ℕ) (more : List Bool) → IsReference s b r → bits ≡ run_tail s r m ++ more → ⊥) → LowCut old new s b f
-run_low_cut old mid new s b bits f t stops cut = record {
+pub run_low_cut : {I : Type 0} (old mid new : Reader I) (first second last : ℕ) (s : Parameters) (b : ℕ) (bits : List Bool) (f : BitFault)
+    → Takes old mid (word 1 0) → second + old.taken ≡ first + mid.taken → Stops mid new bits f → last + mid.taken ≡ second + new.taken
+    → ((r : Option ℕ) (m : ℕ) (more : List Bool) → IsReference s b r → bits ≡ run_tail s r m ++ more → ⊥) → LowCut old new first last s b f
+run_low_cut old mid new first second last s b bits f t before stops behind cut = record {
   bits = false ∷ bits;
   stops = stops-append old mid new (false ∷ []) bits f (rw zero_bit at t) stops;
   none = none bits cut;
+  steps = λ blank. omega (arith, before, behind);
 }
   where
     none : (bits : List Bool) → ((r : Option ℕ) (m : ℕ) (more : List Bool) → IsReference s b r → bits ≡ run_tail s r m ++ more → ⊥) → (d : CodedDataSet) (more : List Bool) → IsForm s b d → IsLow d → false ∷ bits ≡ low_tail s d ++ more → ⊥

@@ -176,18 +176,18 @@ samples_by_bits old new first last s b p samples run legal given =
     let k : (1 + run) * s.block ≡ length (blocks_in s b given.set) * s.block = ap (λ j. j * s.block) (omega arith) in
     omega (arith, given.gives.len)
 
-ends : {I : Type 0} (old new : Reader I) (s : Parameters) (b : ℕ) (blank : Bool) → old.blank ≡ true → SetCut old new s b (bit_faults.End blank) → SetEnds old new s b blank
-ends old new s b blank h cut = record {
+ends : {I : Type 0} (old new : Reader I) (first last : ℕ) (s : Parameters) (b : ℕ) (blank : Bool) → old.blank ≡ true → SetCut old new first last s b (bit_faults.End blank) → SetEnds old new first last s b blank
+ends old new first last s b blank h cut = record {
   cut = cut;
   told = ap (λ t. t && is_blank cut.bits) (sym h) ∙ (sym cut.stops.blank ∙ sym cut.stops.refuses.3);
 }
 
 -- where the reader refuses, the decoder stops so
-pub stops_by : {I : Type 0} (old new : Reader I) (s : Parameters) (b : ℕ) (fault : BitFault) → old.blank ≡ true → SetCut old new s b fault → StopsBy old new s b (answer_to fault)
-stops_by old new s b (bit_faults.End true) h cut = ends old new s b true h cut
-stops_by old new s b (bit_faults.End false) h cut = ends old new s b false h cut
-stops_by old new s b bit_faults.Read h cut = cut
-stops_by old new s b bit_faults.TooLong h cut = cut
+pub stops_by : {I : Type 0} (old new : Reader I) (first last : ℕ) (s : Parameters) (b : ℕ) (fault : BitFault) → old.blank ≡ true → SetCut old new first last s b fault → StopsBy old new first last s b (answer_to fault)
+stops_by old new first last s b (bit_faults.End true) h cut = ends old new first last s b true h cut
+stops_by old new first last s b (bit_faults.End false) h cut = ends old new first last s b false h cut
+stops_by old new first last s b bit_faults.Read h cut = cut
+stops_by old new first last s b bit_faults.TooLong h cut = cut
 
 -- a coded data set was taken, and its padding skipped
 set_given : {I : Type 0} (old middle new : Reader I) (first steps last : ℕ) (s : Parameters) (b : ℕ) (p : ℤ) (samples : List ℤ) (run : ℕ)
@@ -220,7 +220,7 @@ answers_block start middle new first steps last p q samples run before set skips
 
 -- a decoder that stops answers so
 pub answers_stop : {I : Type 0} (old new : Reader I) (first last : ℕ) (p q : DecoderState) (samples : List ℤ) (a : Result Step CodeFault)
-    → StopsBy old new p.setting p.block a → q ≡ record p { stopped = Some a } → samples ≡ [] → Answers old new first last p q samples a
+    → StopsBy old new first last p.setting p.block a → q ≡ record p { stopped = Some a } → samples ≡ [] → Answers old new first last p q samples a
 answers_stop old new first last p q samples (Ok Block) stops moves none = absurd stops
 answers_stop old new first last p q samples (Ok Done) stops moves none = (stops, moves, none)
 answers_stop old new first last p q samples (Err f) stops moves none = (stops, moves, none)

@@ -5,7 +5,7 @@ use Rattle.rice_code.proofs.decode.coded_data_set.read_set.Goals as goal
 pub returns-in-Err-clause-err : goal.returns-in-Err-clause-err
 returns-in-Err-clause-err g c =
     let e = rw c.id_len-width.ensures.value at (c.in-Err.ensures.err c.requires.going) in
-    record { bits = e.0; stops = e.2; none = cut_identifier c.args.setting.now c.args.block e.0 e.1 }
+    record { bits = e.0; stops = e.2; none = cut_identifier c.args.setting.now c.args.block e.0 e.1; steps = λ blank. c.in-Err.ensures.steps }
 
 pub returns-in-Ok-read_low-clause-ok : goal.returns-in-Ok-read_low-clause-ok
 returns-in-Ok-read_low-clause-ok g c =
@@ -16,8 +16,8 @@ returns-in-Ok-read_low-clause-ok g c =
 pub returns-in-Err-read_low-clause-err : goal.returns-in-Err-read_low-clause-err
 returns-in-Err-read_low-clause-err g c =
     let t = rw c.id_len-width.ensures.value at c.in-Ok.ensures.ok in
-    low_set_cut c.args.reader.now c.take.new.self c.read_low.new.reader c.args.setting.now c.args.block c.in-Ok.id c.in-Err-read_low.fault
-    t.0 c.if-id-eq0.true t.1 c.in-Err-read_low.ensures.err
+    low_set_cut c.args.reader.now c.take.new.self c.read_low.new.reader c.args.meter.now c.take.new.meter c.read_low.new.meter c.args.setting.now c.args.block c.in-Ok.id c.in-Err-read_low.fault
+    t.0 c.if-id-eq0.true t.1 c.in-Ok.ensures.steps c.in-Err-read_low.ensures.err
 
 pub returns-in-Ok-read_no_compression-clause-ok : goal.returns-in-Ok-read_no_compression-clause-ok
 returns-in-Ok-read_no_compression-clause-ok g c =
@@ -30,7 +30,7 @@ pub returns-in-Err-read_no_compression-clause-err : goal.returns-in-Err-read_no_
 returns-in-Err-read_no_compression-clause-err g c =
     let t = rw c.id_len-width.ensures.value at c.in-Ok.ensures.ok in
     let e = rw c.id_len-width.ensures.value at c.if-id-width.true in
-    no_compression_set_cut c.args.reader.now c.take.new.self c.read_no_compression.new.reader c.args.setting.now c.args.block c.in-Ok.id c.in-Err-read_no_compression.fault
+    no_compression_set_cut c.args.reader.now c.take.new.self c.read_no_compression.new.reader c.args.meter.now c.read_no_compression.new.meter c.args.setting.now c.args.block c.in-Ok.id c.in-Err-read_no_compression.fault
     t.0 (e ∙ ones_id c.args.setting.now) t.1 c.in-Err-read_no_compression.ensures.err
 
 pub returns-in-Ok-read_split-clause-ok : goal.returns-in-Ok-read_split-clause-ok
@@ -44,5 +44,5 @@ returns-in-Err-read_split-clause-err g c =
     let t = rw c.id_len-width.ensures.value at c.in-Ok.ensures.ok in
     let e = rw c.id_len-width.ensures.value at c.if-id-width.false in
     let i = ones_id c.args.setting.now in
-    split_set_cut c.args.reader.now c.take.new.self c.read_split.new.reader c.args.setting.now c.args.block c.in-Ok.id (c.in-Ok.id - 1) c.in-Err-read_split.fault
+    split_set_cut c.args.reader.now c.take.new.self c.read_split.new.reader c.args.meter.now c.read_split.new.meter c.args.setting.now c.args.block c.in-Ok.id (c.in-Ok.id - 1) c.in-Err-read_split.fault
     (omega (arith, t.0, e, i)) (omega arith) t.1 c.in-Err-read_split.ensures.err

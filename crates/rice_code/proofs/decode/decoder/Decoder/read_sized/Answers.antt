@@ -97,7 +97,7 @@ returns-in-Err-clause-reads g c =
     let marks = c.mark.ensures.going c.requires.going in
     let marked : c.mark.new.self.blank ≡ true = ap (λ r. r.blank) marks in
     let none : values_at st.setting c.stop-in-Err.new.levels.items ≡ [] = rw c.stop-in-Err.ensures.samples refl in
-    let stops = stops_by c.mark.new.self c.read_set.new.reader st.setting st.block c.in-Err.fault marked c.in-Err.ensures.err in
+    let stops = stops_by c.mark.new.self c.read_set.new.reader c.args.meter.now c.read_set.new.meter st.setting st.block c.in-Err.fault marked c.in-Err.ensures.err in
     rw (← c.self.view_is, c.stop-in-Err.ensures.answer, c.answer_of.ensures)
     (answers_stop (with_mark c.args.reader.now) c.read_set.new.reader c.args.meter.now c.read_set.new.meter (record { setting = st.setting; block = st.block; before = value_at st.setting st.before; run = st.run; stopped = st.stopped }) c.stop-in-Err.new.self (values_at st.setting c.stop-in-Err.new.levels.items) (answer_to c.in-Err.fault)
-    (subst (λ r. StopsBy r c.read_set.new.reader st.setting st.block (answer_to c.in-Err.fault)) marks stops) (rw c.answer_of.ensures at c.stop-in-Err.ensures.stops) none)
+    (subst (λ r. StopsBy r c.read_set.new.reader c.args.meter.now c.read_set.new.meter st.setting st.block (answer_to c.in-Err.fault)) marks stops) (rw c.answer_of.ensures at c.stop-in-Err.ensures.stops) none)
