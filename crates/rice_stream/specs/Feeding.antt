@@ -32,18 +32,29 @@ pub record IsSeam (s : Parameters) (seam : Seam) (xs : List ℤ) : Type 0 where
 abbrev pub behind : Parameters → List ℤ → Option Room → Beginning
 behind s xs now = record { before = early_output s xs; state = now }
 
+-- the bytes of these samples, and others after them
+abbrev pub bytes_in_all : Parameters → List ℤ → List ℕ → ℕ
+bytes_in_all s xs bytes = width s * length xs + length bytes
+
+-- the samples of the segments that are whole with those of these bytes, by their number
+abbrev pub samples_to_take : Parameters → List ℤ → List ℕ → ℕ
+samples_to_take s xs bytes = cut s (length xs + length bytes / width s)
+
+-- Unless a code is too long, the samples so far and these bytes are within its limit.
 module _ (s : Parameters) (xs : List ℤ) (bytes : List ℕ) (old new : Option Room) where
   -- Of the samples that the bytes spell those of the complete segments are taken, and the whole bytes of their code are written.
   pub record GoesOn (seam : Seam) : Type 0 where
+    pub limit : bytes_in_all s xs bytes ≤ 2 ^ 48
     pub more : List ℤ
     pub rest : List ℕ
     pub reads : Reads s bytes more rest
-    pub all : length (xs ++ more) ≡ cut s (length xs + length bytes / width s)
+    pub all : length (xs ++ more) ≡ samples_to_take s xs bytes
     pub stands : IsSeam s seam (xs ++ more)
     pub writes : Follows (behind s xs old) new (early_output s (xs ++ more))
 
   -- the bytes spell these samples, and then none; the code of the complete segments is written
   pub record MeetsNone (more : List ℤ) (index : ℕ) : Type 0 where
+    pub limit : bytes_in_all s xs bytes ≤ 2 ^ 48
     pub rest : List ℕ
     pub reads : Reads s bytes more rest
     pub none : EndsSpelling s rest NoSpelling
@@ -52,30 +63,33 @@ module _ (s : Parameters) (xs : List ℤ) (bytes : List ℕ) (old new : Option R
 
   -- the last of these samples completes a segment, and the outlet fails before all of its code is written
   pub record WantsRoom (more : List ℤ) (last : ℤ) : Type 0 where
+    pub limit : bytes_in_all s xs bytes ≤ 2 ^ 48
     pub rest : List ℕ
     pub reads : Reads s bytes (more ++ last ∷ []) rest
     pub writes : FollowsBetween (behind s xs old) new (early_output s (xs ++ more)) (early_output s ((xs ++ more) ++ last ∷ []))
 
   -- the samples so far and these bytes pass the limit, and nothing is done
   pub record PassesAll : Type 0 where
-    pub passes : 2 ^ 48 < width s * length xs + length bytes
+    pub passes : 2 ^ 48 < bytes_in_all s xs bytes
     pub untouched : new ≡ old
 
-  -- what becomes of a piece of the samples
+  -- What becomes of a piece of the samples. None but those to take is looked at.
   abbrev pub EncodesMore : Result Seam Fault → Type 0
   EncodesMore (Ok seam) = GoesOn seam
-  EncodesMore (Err (SampleOutOfRange index)) = (more : List ℤ) × MeetsNone more index
+  EncodesMore (Err (SampleOutOfRange index)) = (more : List ℤ) × MeetsNone more index × (index < samples_to_take s xs bytes)
   EncodesMore (Err Write) = (more : List ℤ) × (last : ℤ) × WantsRoom more last
   EncodesMore (Err TooLong) = PassesAll
   EncodesMore (Err _) = ⊥
 
   -- the bytes spell these samples and no others
   pub record AreAll (more : List ℤ) : Type 0 where
+    pub limit : bytes_in_all s xs bytes ≤ 2 ^ 48
     pub spelled : bytes ≡ spellings s more
     pub legal : All (IsSample s) more
 
   -- these samples are cut off
   pub record MeetsCut (more : List ℤ) (index : ℕ) : Type 0 where
+    pub limit : bytes_in_all s xs bytes ≤ 2 ^ 48
     pub rest : List ℕ
     pub reads : Reads s bytes more rest
     pub cut_off : EndsSpelling s rest TooFew

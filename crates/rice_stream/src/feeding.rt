@@ -1,5 +1,5 @@
 //! From samples to their code, piece by piece.
-ghost use Rattle.std.specs.Prelude.{◌≡◌, ℕ, ◌+◌, ◌*◌, ◌^◌, ◌<◌, ◌≤◌, ◌↔◌, IsTrue, List, length, ℤ};
+ghost use Rattle.std.specs.Prelude.{◌≡◌, ℕ, ◌+◌, ◌-◌, ◌*◌, ◌^◌, ◌<◌, ◌≤◌, List, length, ℤ};
 ghost use Rattle.rice_samples.specs.Places.{cut};
 ghost use Rattle.rice_stream.specs.Calls.{Fails};
 ghost use Rattle.rice_stream.specs.Encodes.{EncodesWithin};
@@ -29,7 +29,7 @@ pub fn encode_more<O: Outlet>(
     ensures failures { PushFails (O.failed outlet.old) (O.failed outlet.new) result }
 {
     let width = setting.width() as usize;
-    if is_too_long(width, seam.samples, bytes.len()) {
+    if bytes.len() as u64 > bytes_left(width, seam.samples) {
         return Err(Fault::TooLong);
     }
     let all = seam.samples + (bytes.len() / width) as u64;
@@ -38,9 +38,10 @@ pub fn encode_more<O: Outlet>(
     let mut encoding = Encoding::resume(*setting, seam);
     let mut levels = [0u32; SAMPLES];
     match encoding.push_all(setting, part, &mut levels, outlet) {
-        Ok(()) => Ok(encoding.seam()),
-        Err(fault) => Err(fault),
+        Ok(()) => {}
+        Err(fault) => return Err(fault),
     }
+    Ok(encoding.seam())
 }
 
 /// Encodes the last samples, which the bytes spell, and writes the rest of the code. The report is that of all samples.
@@ -59,7 +60,7 @@ pub fn encode_rest<O: Outlet>(
 {
     let width = setting.width() as usize;
     let mut encoding = Encoding::resume(*setting, seam);
-    if is_too_long(width, seam.samples, bytes.len()) {
+    if bytes.len() as u64 > bytes_left(width, encoding.taken()) {
         return encoding.stopped(Fault::TooLong);
     }
     let mut levels = [0u32; SAMPLES];
@@ -74,13 +75,14 @@ pub fn encode_rest<O: Outlet>(
     encoding.finish(outlet)
 }
 
-/// Returns whether `samples` samples of `width` bytes and `bytes` bytes after them pass the limit of a code.
-fn is_too_long(width: usize, samples: u64, bytes: usize) -> bool
+/// Returns how many bytes a code may still be given after `samples` samples of `width` bytes.
+fn bytes_left(width: usize, samples: u64) -> u64
     requires width { width ≤ 4 }
-    requires samples { width * samples ≤ 2 ^ 48 }
-    ensures { IsTrue result ↔ (2 ^ 48 < width * samples + bytes) }
+    requires samples { samples ≤ 2 ^ 48 }
+    ensures value { result ≡ 2 ^ 48 - width * samples }
+    ensures few { 0 < width → samples + result ≤ 2 ^ 48 }
 {
-    bytes as u64 > LIMIT - width as u64 * samples
+    LIMIT.saturating_sub(width as u64 * samples)
 }
 
 /// Returns how many of `samples` samples make whole segments.

@@ -20,8 +20,8 @@ use Rattle.rice_code.specs.encode.Coder.{HasTaken}
 use Rattle.rice_code.specs.encode.OpenSegment.{state_between}
 use Rattle.rice_code.proofs.lemmas.encode.PushedCode.{holds_nothing, between_all}
 use Rattle.rice_stream.specs.Encodes.{ReportsTaken, ReportsAll}
-use Rattle.rice_stream.specs.EncodingState.{Beginning, CountsSamples, IsEncodingOf, TakesAll, Pushes, WritesRest}
-use Rattle.rice_stream.specs.Feeding.{IsSeam, behind, GoesOn, EncodesMore, AreAll, EncodesRest}
+use Rattle.rice_stream.specs.EncodingState.{Beginning, CountsSamples, IsEncodingOf, Reads, TakesAll, Pushes, WritesRest}
+use Rattle.rice_stream.specs.Feeding.{IsSeam, behind, bytes_in_all, samples_to_take, GoesOn, EncodesMore, AreAll, EncodesRest}
 use Rattle.rice_stream.specs.declared.encoding.Encoding.{Encoding}
 use Rattle.rice_stream.specs.declared.outcome.Fault.{Fault}
 use Rattle.rice_stream.specs.declared.outcome.Fault.TheVariants.{Read, Write, TooLong, SampleOutOfRange, SampleCut, CodeEnds, RunPastSegment, ResidualTooLarge}
@@ -82,12 +82,6 @@ resumed s seam xs now h = record {
 pub few_all : (w n m : ℕ) → 1 ≤ w → w * n + m ≤ 281474976710656 → n + m ≤ 281474976710656
 few_all w n m some le = let p : n * 1 ≤ n * w = mul-le-mul_left n some in omega (arith, p, le)
 
-pub within_limit : (n : ℕ) → (281474976710656 < n → IsTrue false) → n ≤ 281474976710656
-within_limit n h = elim (cases_lt 281474976710656 n) [
-  | inl lt ↦ let e : false ≡ true = h lt in grind (arith, nat_tests)
-  | inr le ↦ le
-]
-
 -- whole samples fit the bytes that they are taken from
 pub fit_in : (w n k : ℕ) → k ≤ n / w → w * k ≤ n
 fit_in w n k le = let p : w * k ≤ w * (n / w) = mul-le-mul_left w le in omega (arith, p, div-add-mod n w)
@@ -144,7 +138,7 @@ cut_grows s seam xs n h le =
     omega (arith, up, k.1, all)
 
 pub goes_on : (s : Parameters) (old new : Option Room) (e : Encoding) (at seam : Seam) (xs : List ℤ) (bytes : List ℕ) (count : ℕ) → IsSeam s at xs → TakesAll s (behind s xs old) new e xs (take (width s * count) bytes) →
-    length xs + count ≡ cut s (length xs + length bytes / width s) → width s * count ≤ length bytes → width s * length xs + length bytes ≤ 281474976710656 →
+    length xs + count ≡ samples_to_take s xs bytes → width s * count ≤ length bytes → bytes_in_all s xs bytes ≤ 281474976710656 →
     ((ys : List ℤ) → IsEncodingOf s (behind s xs old) new e ys → cut s (length ys) ≡ length ys → width s * length ys ≤ 281474976710656 → IsSeam s seam ys) → GoesOn s xs bytes old new seam
 goes_on s old new e at seam xs bytes count h t is within limit stands =
     let w = width s in
@@ -152,11 +146,12 @@ goes_on s old new e at seam xs bytes count h t is within limit stands =
     let spelled = none_left s t.more (take (w * count) bytes) t.rest count t.reads t.few len in
     let n : length t.more ≡ count = same_count w (length t.more) count (some_width s) (omega (arith, ap length spelled, length-spellings s t.more, len)) in
     let size = length-append xs t.more in
-    let all : length (xs ++ t.more) ≡ cut s (length xs + length bytes / w) = omega (arith, size, n, is) in
+    let all : length (xs ++ t.more) ≡ samples_to_take s xs bytes = omega (arith, size, n, is) in
     let whole : cut s (length (xs ++ t.more)) ≡ length (xs ++ t.more) = ap (cut s) all ∙ cut_again s (length xs + length bytes / w) h.taken.holds.legal ∙ sym all in
     let part : w * length (xs ++ t.more) ≡ w * length xs + w * length t.more = parts w _ _ _ size in
     let same : w * length t.more ≡ w * count = ap (λ m. w * m) n in
     record {
+      limit = limit;
       more = t.more;
       rest = drop (w * count) bytes;
       reads = record { split = sym (take-append-drop (w * count) bytes) ∙ ap (λ l. l ++ drop (w * count) bytes) spelled; legal = t.reads.legal };
@@ -174,23 +169,45 @@ stopped_in s old new e xs bytes k f h =
     subst (λ (l : List ℕ). Pushes {T = Unit {0}} s old new e xs l (Err f)) (take-append-drop k bytes)
     (stops_on s old new e xs [] [] (take k bytes) refl (λ k d lt. absurd (omega arith)) (drop k bytes) f (subst (λ (l : List ℤ). Pushes {T = Unit {0}} s old new e l (take k bytes) (Err f)) (sym (append-nil xs)) h))
 
-pub more_stops : (s : Parameters) (old new : Option Room) (e : Encoding) (xs : List ℤ) (bytes : List ℕ) (f : Fault) → Pushes {T = Unit {0}} s (behind s xs old) new e xs bytes (Err f) → EncodesMore s xs bytes old new (Err f)
-more_stops s old new e xs bytes (SampleOutOfRange index) m = (m.0.more, record { rest = m.0.rest; reads = m.0.reads; none = m.0.none; index_is = m.1 ∙ m.0.holds.counts.samples; writes = m.0.holds.took })
-more_stops s old new e xs bytes Write m = (m.more, m.last, record { rest = m.rest; reads = m.reads; writes = m.fails.takes })
-more_stops s old new e xs bytes Read bad = absurd bad
-more_stops s old new e xs bytes TooLong bad = absurd bad
-more_stops s old new e xs bytes (SampleCut index) bad = absurd bad
-more_stops s old new e xs bytes (CodeEnds samples) bad = absurd bad
-more_stops s old new e xs bytes (RunPastSegment block) bad = absurd bad
-more_stops s old new e xs bytes (ResidualTooLarge block) bad = absurd bad
+-- a sample that is refused is one of those that these bytes are of
+refused_within : (s : Parameters) (more : List ℤ) (part rest : List ℕ) (count : ℕ) → Reads s part more rest → width s ≤ length rest → length part ≤ width s * count → length more < count
+refused_within s more part rest count r wide few =
+    by_size (width s) (length more) (length rest) count (some_width s) wide (omega (arith, few, ap length r.split, length-append (spellings s more) rest, length-spellings s more))
+  where
+    by_size : (w n m k : ℕ) → 1 ≤ w → w ≤ m → w * n + m ≤ w * k → n < k
+    by_size w n m k some wide few = elim (cases_lt n k) [
+      | inl lt ↦ lt
+      | inr le ↦ absurd (let p : w * k ≤ w * n = mul-le-mul_left w le in omega (arith, p, some, wide, few))
+    ]
+
+pub more_stops : (s : Parameters) (old new : Option Room) (e : Encoding) (xs : List ℤ) (bytes : List ℕ) (count : ℕ) (f : Fault) → bytes_in_all s xs bytes ≤ 281474976710656 → length xs + count ≡ samples_to_take s xs bytes → width s * count ≤ length bytes →
+    Pushes {T = Unit {0}} s (behind s xs old) new e xs (take (width s * count) bytes) (Err f) → EncodesMore s xs bytes old new (Err f)
+more_stops s old new e xs bytes count f limit is within h = by_fault f h (stopped_in s (behind s xs old) new e xs bytes (width s * count) f h)
+  where
+    by_fault : (f : Fault) → Pushes {T = Unit {0}} s (behind s xs old) new e xs (take (width s * count) bytes) (Err f) → Pushes {T = Unit {0}} s (behind s xs old) new e xs bytes (Err f) → EncodesMore s xs bytes old new (Err f)
+    by_fault (SampleOutOfRange index) h m =
+        let part = h.0 in
+        let len : length (take (width s * count) bytes) ≤ width s * count = omega (arith, length-take-le (width s * count) bytes within) in
+        let before = refused_within s part.more (take (width s * count) bytes) part.rest count part.reads part.none.0 len in (
+          m.0.more,
+          record { limit = limit; rest = m.0.rest; reads = m.0.reads; none = m.0.none; index_is = m.1 ∙ m.0.holds.counts.samples; writes = m.0.holds.took },
+          omega (arith, h.1, part.holds.counts.samples, length-append xs part.more, before, is),
+        )
+    by_fault Write h m = (m.more, m.last, record { limit = limit; rest = m.rest; reads = m.reads; writes = m.fails.takes })
+    by_fault Read h bad = absurd bad
+    by_fault TooLong h bad = absurd bad
+    by_fault (SampleCut index) h bad = absurd bad
+    by_fault (CodeEnds samples) h bad = absurd bad
+    by_fault (RunPastSegment block) h bad = absurd bad
+    by_fault (ResidualTooLarge block) h bad = absurd bad
 
 -- ---- what the last piece gives
 
-module _ (s : Parameters) (old new : Option Room) (e : Encoding) (r : Report) (xs : List ℤ) (bytes : List ℕ) where
+module _ (s : Parameters) (old new : Option Room) (e : Encoding) (r : Report) (xs : List ℤ) (bytes : List ℕ) (limit : bytes_in_all s xs bytes ≤ 281474976710656) where
   rest_stops_at : (f : Fault) → ((ys : List ℤ) → CountsSamples s e ys → ReportsTaken s r ys) → Pushes {T = Unit {0}} s (behind s xs old) new e xs bytes (Err f) → EncodesRest s xs bytes old new r (Some f)
   rest_stops_at (SampleOutOfRange index) told m =
-      (m.0.more, record { rest = m.0.rest; reads = m.0.reads; none = m.0.none; index_is = m.1 ∙ m.0.holds.counts.samples; writes = m.0.holds.took }, told (xs ++ m.0.more) m.0.holds.counts)
-  rest_stops_at Write told m = inl (m.more, m.last, record { rest = m.rest; reads = m.reads; writes = m.fails.takes }, told ((xs ++ m.more) ++ m.last ∷ []) m.fails.counts)
+      (m.0.more, record { limit = limit; rest = m.0.rest; reads = m.0.reads; none = m.0.none; index_is = m.1 ∙ m.0.holds.counts.samples; writes = m.0.holds.took }, told (xs ++ m.0.more) m.0.holds.counts)
+  rest_stops_at Write told m = inl (m.more, m.last, record { limit = limit; rest = m.rest; reads = m.reads; writes = m.fails.takes }, told ((xs ++ m.more) ++ m.last ∷ []) m.fails.counts)
   rest_stops_at Read told bad = absurd bad
   rest_stops_at TooLong told bad = absurd bad
   rest_stops_at (SampleCut index) told bad = absurd bad
@@ -206,6 +223,7 @@ module _ (s : Parameters) (old new : Option Room) (e : Encoding) (r : Report) (x
   rest_cut index g is same told t cut_off = subst (EncodesRest s xs bytes old new r) (sym is) (
     t.more,
     record {
+      limit = limit;
       rest = t.rest;
       reads = t.reads;
       cut_off = (λ none. absurd (omega (arith, whole none, cut_off)), t.few);
@@ -223,11 +241,11 @@ module _ (s : Parameters) (old new : Option Room) (e : Encoding) (r : Report) (x
   rest_all None t last whole told wrote = (t.more, are_all, told, wrote)
     where
       are_all : AreAll s xs bytes old last t.more
-      are_all = record { spelled = none_left s t.more bytes t.rest (length bytes / width s) t.reads t.few (omega (arith, div-add-mod (length bytes) (width s), whole)); legal = t.reads.legal }
+      are_all = record { limit = limit; spelled = none_left s t.more bytes t.rest (length bytes / width s) t.reads t.few (omega (arith, div-add-mod (length bytes) (width s), whole)); legal = t.reads.legal }
   rest_all (Some Write) t last whole told wrote = inr (t.more, are_all, told, wrote)
     where
       are_all : AreAll s xs bytes old last t.more
-      are_all = record { spelled = none_left s t.more bytes t.rest (length bytes / width s) t.reads t.few (omega (arith, div-add-mod (length bytes) (width s), whole)); legal = t.reads.legal }
+      are_all = record { limit = limit; spelled = none_left s t.more bytes t.rest (length bytes / width s) t.reads t.few (omega (arith, div-add-mod (length bytes) (width s), whole)); legal = t.reads.legal }
   rest_all (Some Read) t last whole told bad = absurd bad
   rest_all (Some TooLong) t last whole told bad = absurd bad
   rest_all (Some (SampleOutOfRange index)) t last whole told bad = absurd bad
@@ -237,6 +255,5 @@ module _ (s : Parameters) (old new : Option Room) (e : Encoding) (r : Report) (x
   rest_all (Some (ResidualTooLarge block)) t last whole told bad = absurd bad
 
 -- so few samples that all their steps are counted
-pub takes_few : (s : Parameters) (old : Beginning) (new : Option Room) (e : Encoding) (xs : List ℤ) (bytes : List ℕ) → width s * length xs + length bytes ≤ 281474976710656 → (t : TakesAll s old new e xs bytes) → length (xs ++ t.more) ≤ 281474976710656
-takes_few s old new e xs bytes limit t =
-    omega (arith, few_all (width s) (length xs) (length bytes) (some_width s) limit, length-append xs t.more, few_more s t.more bytes t.rest t.reads (some_width s))
+pub takes_few : (s : Parameters) (old : Beginning) (new : Option Room) (e : Encoding) (xs : List ℤ) (bytes : List ℕ) → length xs + length bytes ≤ 281474976710656 → (t : TakesAll s old new e xs bytes) → length (xs ++ t.more) ≤ 281474976710656
+takes_few s old new e xs bytes few t = omega (arith, few, length-append xs t.more, few_more s t.more bytes t.rest t.reads (some_width s))

@@ -1,11 +1,11 @@
-use Rattle.std.proofs.Common.{arith, ◌≡◌, ◌+◌, ◌-◌, ◌*◌, ◌/◌, ◌≤◌, length, take, subst, ℕ}
+use Rattle.std.proofs.Common.{arith, ◌≡◌, ◌+◌, ◌-◌, ◌*◌, ◌/◌, ◌≤◌, length, take, refl, subst, ℕ, Err}
 use Rattle.std.proofs.lemmas.List.{length-take}
 use Rattle.rice_samples.specs.Parameters.{width}
 use Rattle.rice_samples.specs.Places.{cut}
-use Rattle.rice_stream.specs.EncodingState.{TakesAll}
+use Rattle.rice_stream.specs.EncodingState.{TakesAll, Pushes}
 use Rattle.rice_stream.specs.Feeding.{behind}
 use Rattle.rice_stream.proofs.lemmas.EncodingLemmas.{sink_short}
-use Rattle.rice_stream.proofs.lemmas.Seams.{within_limit, fit_in, few_all, some_width, cut_grows, goes_on, stopped_in, more_stops}
+use Rattle.rice_stream.proofs.lemmas.Seams.{fit_in, few_all, some_width, cut_grows, goes_on, more_stops}
 use Rattle.rice_stream.proofs.feeding.encode_more.Goals as goal
 
 pub overflow_sub-count : goal.overflow_sub-count
@@ -15,17 +15,25 @@ overflow_sub-count g c =
     let n = seam.samples + length c.args.bytes.now / c.width-width.result in
     omega (arith, c.in_whole_segments.ensures.value, cut_grows c.args.setting.now seam c.requires.seam.0 n h (omega (arith, h.samples)), h.samples)
 
+pub bytes_left-requires-clause-samples : goal.bytes_left-requires-clause-samples
+bytes_left-requires-clause-samples g c =
+    let s = c.args.setting.now in
+    let h = c.requires.seam.1 in
+    omega (arith, h.samples, few_all (width s) (length c.requires.seam.0) 0 (some_width s) (omega (arith, h.limit)))
+
+pub returns-then-bytes-bytes_left-clause-did : goal.returns-then-bytes-bytes_left-clause-did
+returns-then-bytes-bytes_left-clause-did g c xs h =
+    let size : c.width-width.result * c.args.seam.now.samples ≡ width c.args.setting.now * length xs = (λ i. c.width-width.ensures.value i * h.samples i) in
+    record { passes = omega (arith, size, c.bytes_left.ensures.value, c.if-bytes-bytes_left.true); untouched = refl }
+
 pub push_all-requires-clause-ready : goal.push_all-requires-clause-ready
 push_all-requires-clause-ready g c =
     let now = g.O.Outlet.taken c.args.outlet.now in
-    let s = c.args.setting.now in
     let xs = c.requires.seam.0 in
     let h = c.requires.seam.1 in
     let bytes = c.args.bytes.now in
-    let size : c.width-width.result * c.args.seam.now.samples ≡ width s * length xs = (λ i. c.width-width.ensures.value i * h.samples i) in
-    let limit : width s * length xs + length bytes ≤ 281474976710656 = omega (arith, size, within_limit (c.width-width.result * c.args.seam.now.samples + length bytes) c.if-is_too_long.ensures.1) in
-    let few = few_all (width s) (length xs) (length bytes) (some_width s) limit in
-    (behind s xs now, xs, c.resume-encoding.ensures now xs h, omega (arith, few, length-take (c.width-width.result * (c.in_whole_segments.result - c.args.seam.now.samples)) bytes))
+    let few = c.bytes_left.ensures.few (omega (arith, c.width-width.ensures.range)) in
+    (behind c.args.setting.now xs now, xs, c.resume-encoding.ensures now xs h, omega (arith, few, c.if-bytes-bytes_left.false, h.samples, length-take (c.width-width.result * (c.in_whole_segments.result - c.args.seam.now.samples)) bytes))
 
 pub seam-requires : goal.seam-requires
 seam-requires g c =
@@ -35,8 +43,8 @@ seam-requires g c =
     let t = c.in-Ok.ensures.did (behind s xs now) xs (c.resume-encoding.ensures now xs c.requires.seam.1) in
     omega (arith, sink_short s (behind s xs now) _ _ _ t.holds)
 
-pub returns-in-Ok-clause-did : goal.returns-in-Ok-clause-did
-returns-in-Ok-clause-did g c xs h =
+pub returns-clause-did : goal.returns-clause-did
+returns-clause-did g c xs h =
     let now = g.O.Outlet.taken c.args.outlet.now in
     let new = g.O.Outlet.taken c.push_all.new.outlet in
     let s = c.args.setting.now in
@@ -48,7 +56,7 @@ returns-in-Ok-clause-did g c xs h =
     let count = all - seam.samples in
     let t = subst (λ (w : ℕ). TakesAll s (behind s xs now) new e xs (take (w * count) bytes)) c.width-width.ensures.value (c.in-Ok.ensures.did (behind s xs now) xs (c.resume-encoding.ensures now xs h)) in
     let size : w * seam.samples ≡ width s * length xs = (λ i. c.width-width.ensures.value i * h.samples i) in
-    let limit : width s * length xs + length bytes ≤ 281474976710656 = omega (arith, size, within_limit (w * seam.samples + length bytes) c.if-is_too_long.ensures.1) in
+    let limit : width s * length xs + length bytes ≤ 281474976710656 = omega (arith, size, h.limit, c.bytes_left.ensures.value, c.if-bytes-bytes_left.false) in
     let per : length bytes / w ≡ length bytes / width s = (λ i. length bytes / c.width-width.ensures.value i) in
     let total : cut s (seam.samples + length bytes / w) ≡ cut s (length xs + length bytes / width s) = (λ i. cut s (h.samples i + per i)) in
     let grows = cut_grows s seam xs (length xs + length bytes / width s) h (omega arith) in
@@ -60,6 +68,16 @@ returns-in-Err-clause-did g c xs h =
     let now = g.O.Outlet.taken c.args.outlet.now in
     let new = g.O.Outlet.taken c.push_all.new.outlet in
     let s = c.args.setting.now in
+    let seam = c.args.seam.now in
+    let bytes = c.args.bytes.now in
     let e = c.push_all.new.self in
-    let k = c.width-width.result * (c.in_whole_segments.result - c.args.seam.now.samples) in
-    more_stops s now new e xs c.args.bytes.now c.in-Err.fault (stopped_in s (behind s xs now) new e xs c.args.bytes.now k c.in-Err.fault (c.in-Err.ensures.did (behind s xs now) xs (c.resume-encoding.ensures now xs h)))
+    let w = c.width-width.result in
+    let count = c.in_whole_segments.result - seam.samples in
+    let fault = c.in-Err.fault in
+    let stops = subst (λ (w : ℕ). Pushes {T = Unit {0}} s (behind s xs now) new e xs (take (w * count) bytes) (Err fault)) c.width-width.ensures.value (c.in-Err.ensures.did (behind s xs now) xs (c.resume-encoding.ensures now xs h)) in
+    let size : w * seam.samples ≡ width s * length xs = (λ i. c.width-width.ensures.value i * h.samples i) in
+    let limit : width s * length xs + length bytes ≤ 281474976710656 = omega (arith, size, h.limit, c.bytes_left.ensures.value, c.if-bytes-bytes_left.false) in
+    let per : length bytes / w ≡ length bytes / width s = (λ i. length bytes / c.width-width.ensures.value i) in
+    let total : cut s (seam.samples + length bytes / w) ≡ cut s (length xs + length bytes / width s) = (λ i. cut s (h.samples i + per i)) in
+    let grows = cut_grows s seam xs (length xs + length bytes / width s) h (omega arith) in
+    more_stops s now new e xs bytes count fault limit (omega (arith, c.in_whole_segments.ensures.value, total, grows, h.samples)) (fit_in (width s) (length bytes) count (omega (arith, c.in_whole_segments.ensures.limit, per))) stops

@@ -1,28 +1,35 @@
-use Rattle.std.proofs.Common.{arith, refl, ◌≡◌, ◌+◌, ◌*◌, ◌≤◌, ◌%◌, ◌++◌, ap, sym, subst, length}
+use Rattle.std.proofs.Common.{arith, refl, ◌≡◌, ◌+◌, ◌*◌, ◌≤◌, ◌%◌, ◌++◌, ◌∙◌, ap, sym, subst, length}
 use Rattle.rice_samples.specs.Parameters.{width}
 use Rattle.rice_stream.specs.Feeding.{behind, EncodesRest}
 use Rattle.rice_stream.proofs.lemmas.EncodingEnds.{push_fails, push_within, within_early, within_all}
 use Rattle.rice_stream.proofs.lemmas.EncodingLemmas.{settled_by}
-use Rattle.rice_stream.proofs.lemmas.Seams.{within_limit, few_all, some_width, rest_stops, rest_cut, rest_all, takes_few}
+use Rattle.rice_stream.proofs.lemmas.Seams.{few_all, some_width, rest_stops, rest_cut, rest_all, takes_few}
 use Rattle.rice_stream.proofs.feeding.encode_rest.Goals as goal
 
-pub returns-then-is_too_long-clause-did : goal.returns-then-is_too_long-clause-did
-returns-then-is_too_long-clause-did g c xs h =
+pub bytes_left-requires-clause-samples : goal.bytes_left-requires-clause-samples
+bytes_left-requires-clause-samples g c =
+    let s = c.args.setting.now in
+    let xs = c.requires.seam.0 in
+    let h = c.requires.seam.1 in
+    let taken = (c.resume-encoding.ensures (g.O.Outlet.taken c.args.outlet.now) xs h).counts.samples in
+    omega (arith, c.taken.ensures, taken, few_all (width s) (length xs) 0 (some_width s) (omega (arith, h.limit)))
+
+pub returns-then-bytes-bytes_left-clause-did : goal.returns-then-bytes-bytes_left-clause-did
+returns-then-bytes-bytes_left-clause-did g c xs h =
     let now = g.O.Outlet.taken c.args.outlet.now in
     let s = c.args.setting.now in
-    let size : c.width-width.result * c.args.seam.now.samples ≡ width s * length xs = (λ i. c.width-width.ensures.value i * h.samples i) in
+    let size : c.width-width.result * c.taken.result ≡ width s * length xs = (λ i. c.width-width.ensures.value i * (c.taken.ensures ∙ (c.resume-encoding.ensures now xs h).counts.samples) i) in
     subst (EncodesRest s xs c.args.bytes.now now now c.stopped.result.report) (sym c.stopped.ensures.fault)
-    (record { passes = omega (arith, c.is_too_long.ensures.0 c.if-is_too_long.true, size); untouched = refl }, c.stopped.ensures.told s xs (c.resume-encoding.ensures now xs h).counts)
+    (record { passes = omega (arith, size, c.bytes_left.ensures.value, c.if-bytes-bytes_left.true); untouched = refl }, c.stopped.ensures.told s xs (c.resume-encoding.ensures now xs h).counts)
 
 pub push_all-requires-clause-ready : goal.push_all-requires-clause-ready
 push_all-requires-clause-ready g c =
     let now = g.O.Outlet.taken c.args.outlet.now in
-    let s = c.args.setting.now in
     let xs = c.requires.seam.0 in
     let h = c.requires.seam.1 in
-    let size : c.width-width.result * c.args.seam.now.samples ≡ width s * length xs = (λ i. c.width-width.ensures.value i * h.samples i) in
-    let limit : width s * length xs + length c.args.bytes.now ≤ 281474976710656 = omega (arith, size, within_limit (c.width-width.result * c.args.seam.now.samples + length c.args.bytes.now) c.if-is_too_long.ensures.1) in
-    (behind s xs now, xs, c.resume-encoding.ensures now xs h, few_all (width s) (length xs) (length c.args.bytes.now) (some_width s) limit)
+    let holds = c.resume-encoding.ensures now xs h in
+    let few = c.bytes_left.ensures.few (omega (arith, c.width-width.ensures.range)) in
+    (behind c.args.setting.now xs now, xs, holds, omega (arith, few, c.if-bytes-bytes_left.false, c.taken.ensures, holds.counts.samples))
 
 pub returns-in-Err-clause-did : goal.returns-in-Err-clause-did
 returns-in-Err-clause-did g c xs h =
@@ -30,7 +37,9 @@ returns-in-Err-clause-did g c xs h =
     let new = g.O.Outlet.taken c.push_all.new.outlet in
     let s = c.args.setting.now in
     let o = c.stopped-in-Err in
-    rest_stops s now new c.push_all.new.self o.result.report xs c.args.bytes.now c.in-Err.fault o.result.fault o.ensures.fault (λ ys k. o.ensures.told s ys k)
+    let size : c.width-width.result * c.taken.result ≡ width s * length xs = (λ i. c.width-width.ensures.value i * (c.taken.ensures ∙ (c.resume-encoding.ensures now xs h).counts.samples) i) in
+    let limit : width s * length xs + length c.args.bytes.now ≤ 281474976710656 = omega (arith, size, h.limit, c.bytes_left.ensures.value, c.if-bytes-bytes_left.false) in
+    rest_stops s now new c.push_all.new.self o.result.report xs c.args.bytes.now limit c.in-Err.fault o.result.fault o.ensures.fault (λ ys k. o.ensures.told s ys k)
     (c.in-Err.ensures.did (behind s xs now) xs (c.resume-encoding.ensures now xs h))
 
 pub returns-in-Err-clause-failures : goal.returns-in-Err-clause-failures
@@ -51,7 +60,9 @@ returns-then-bytes-width-gt0-clause-did g c xs h =
     let o = c.stopped-then-bytes-width-gt0 in
     let bytes = c.args.bytes.now in
     let same : length bytes % c.width-width.result ≡ length bytes % width s = ap (λ w. length bytes % w) c.width-width.ensures.value in
-    rest_cut s now new c.push_all.new.self o.result.report xs bytes c.taken-index.result o.result.fault o.ensures.fault c.taken-index.ensures (λ ys k. o.ensures.told s ys k)
+    let size : c.width-width.result * c.taken.result ≡ width s * length xs = (λ i. c.width-width.ensures.value i * (c.taken.ensures ∙ (c.resume-encoding.ensures now xs h).counts.samples) i) in
+    let limit : width s * length xs + length c.args.bytes.now ≤ 281474976710656 = omega (arith, size, h.limit, c.bytes_left.ensures.value, c.if-bytes-bytes_left.false) in
+    rest_cut s now new c.push_all.new.self o.result.report xs bytes limit c.taken-index.result o.result.fault o.ensures.fault c.taken-index.ensures (λ ys k. o.ensures.told s ys k)
     (c.in-Ok.ensures.did (behind s xs now) xs (c.resume-encoding.ensures now xs h)) (omega (arith, same, c.if-bytes-width-gt0.true))
 
 pub finish-requires-clause-ready : goal.finish-requires-clause-ready
@@ -61,10 +72,10 @@ finish-requires-clause-ready g c =
     let s = c.args.setting.now in
     let xs = c.requires.seam.0 in
     let h = c.requires.seam.1 in
-    let t = c.in-Ok.ensures.did (behind s xs now) xs (c.resume-encoding.ensures now xs h) in
-    let size : c.width-width.result * c.args.seam.now.samples ≡ width s * length xs = (λ i. c.width-width.ensures.value i * h.samples i) in
-    let limit : width s * length xs + length c.args.bytes.now ≤ 281474976710656 = omega (arith, size, within_limit (c.width-width.result * c.args.seam.now.samples + length c.args.bytes.now) c.if-is_too_long.ensures.1) in
-    (s, behind s xs now, xs ++ t.more, t.holds, takes_few s (behind s xs now) new c.push_all.new.self xs c.args.bytes.now limit t)
+    let holds = c.resume-encoding.ensures now xs h in
+    let t = c.in-Ok.ensures.did (behind s xs now) xs holds in
+    let few = c.bytes_left.ensures.few (omega (arith, c.width-width.ensures.range)) in
+    (s, behind s xs now, xs ++ t.more, t.holds, takes_few s (behind s xs now) new c.push_all.new.self xs c.args.bytes.now (omega (arith, few, c.if-bytes-bytes_left.false, c.taken.ensures, holds.counts.samples)) t)
 
 pub returns-clause-did : goal.returns-clause-did
 returns-clause-did g c xs h =
@@ -76,10 +87,12 @@ returns-clause-did g c xs h =
     let t = c.in-Ok.ensures.did (behind s xs now) xs (c.resume-encoding.ensures now xs h) in
     let same : length bytes % c.width-width.result ≡ length bytes % width s = ap (λ w. length bytes % w) c.width-width.ensures.value in
     let did = c.finish.ensures.did s (behind s xs now) (xs ++ t.more) t.holds in
-    rest_all s now mid c.push_all.new.self c.finish.result.report xs bytes c.finish.result.fault t new (omega (arith, same, c.if-bytes-width-gt0.false)) did.0 did.1
+    let size : c.width-width.result * c.taken.result ≡ width s * length xs = (λ i. c.width-width.ensures.value i * (c.taken.ensures ∙ (c.resume-encoding.ensures now xs h).counts.samples) i) in
+    let limit : width s * length xs + length c.args.bytes.now ≤ 281474976710656 = omega (arith, size, h.limit, c.bytes_left.ensures.value, c.if-bytes-bytes_left.false) in
+    rest_all s now mid c.push_all.new.self c.finish.result.report xs bytes limit c.finish.result.fault t new (omega (arith, same, c.if-bytes-width-gt0.false)) did.0 did.1
 
-pub returns-then-is_too_long-clause-bounds : goal.returns-then-is_too_long-clause-bounds
-returns-then-is_too_long-clause-bounds g c =
+pub returns-then-bytes-bytes_left-clause-bounds : goal.returns-then-bytes-bytes_left-clause-bounds
+returns-then-bytes-bytes_left-clause-bounds g c =
     let now = g.O.Outlet.taken c.args.outlet.now in
     let s = c.args.setting.now in
     let xs = c.requires.seam.0 in
