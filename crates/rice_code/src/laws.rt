@@ -1,5 +1,5 @@
 //! The laws of code and decoding, each the contract of a function that does nothing. Their statements are in `specs/Laws.antt`.
-ghost use Rattle.rice_code.specs.Laws.{ReturnsSamples, ReturnsSamplesAndFill, DecodedIsOne, AllBytesAreDecoded, FormsAreReadInOneWay, FormsHaveAOne, CodeGrows, CodeIsBounded, PaddedCodeIsBounded, CodeIsJoined, CostIsLength, ChoiceIsLeast, SavingNeverRises, FirstStopIsBest, ChoiceIsOfThree, CodeGoesOn, BitsGoOn, CodeStandsInIntervals, CodeStandsInBytes, DecodingGoesOn, DecodingStandsInPlaces, SplitIsPaid, RunIsNeverLonger, StepsAreBounded, StepsArePaid, AllStepsAreBounded};
+ghost use Rattle.rice_code.specs.Laws.{ReturnsSamples, ReturnsSamplesAndFill, DecodedIsOne, CodesDiffer, RefusedBytesAreNoOutput, OwnBytesAreRecognised, AllBytesAreDecoded, FormsAreReadInOneWay, FormsHaveAOne, CodeGrows, CodeIsBounded, PaddedCodeIsBounded, CodeIsJoined, CostIsLength, ChoiceIsLeast, SavingNeverRises, FirstStopIsBest, ChoiceIsOfThree, CodeGoesOn, BitsGoOn, CodeStandsInIntervals, CodeStandsInBytes, DecodingGoesOn, DecodingStandsInPlaces, SplitIsPaid, RunIsNeverLonger, StepsAreBounded, StepsArePaid, AllStepsAreBounded, IntervalsBeginAfresh, IntervalsAreJoined, PaddedIntervalsAreJoined, IntervalsAreDecodedAlone, DamageStaysInItsInterval};
 
 /// With the number of samples, the output decodes to exactly these samples.
 pub fn returns_samples()
@@ -14,6 +14,18 @@ pub fn returns_samples_and_fill()
 /// Decoding is deterministic: the samples, the ending, and the number of bits used.
 pub fn decoded_is_one()
     ensures { DecodedIsOne }
+{}
+
+/// Equal outputs of equally many samples are of equal samples, and bytes whose decoding does not reach so many samples are the output
+/// of no so many.
+pub fn codes_differ()
+    ensures equal { CodesDiffer }
+    ensures refused { RefusedBytesAreNoOutput }
+{}
+
+/// Bytes are the output of so many samples exactly when encoding what they decode to gives them back.
+pub fn own_bytes_are_recognised()
+    ensures { OwnBytesAreRecognised }
 {}
 
 /// Decoding is total: all bytes decode to something, with and without a number of samples.
@@ -113,4 +125,18 @@ pub fn splits_are_paid()
 /// A run of zero blocks is never longer than its blocks without compression.
 pub fn runs_are_never_longer()
     ensures { RunIsNeverLonger }
+{}
+
+/// The code of reference intervals depends on nothing before them but the bit where it begins, and is decoded by itself from there. The
+/// code of intervals and then of other samples is one after the other, and with padding so is the output.
+pub fn intervals_stand_alone()
+    ensures afresh { IntervalsBeginAfresh }
+    ensures joined { IntervalsAreJoined }
+    ensures padded { PaddedIntervalsAreJoined }
+    ensures decoded { IntervalsAreDecodedAlone }
+{}
+
+/// With padding, bytes that are damaged in one interval change no other.
+pub fn damage_stays_in_its_interval()
+    ensures { DamageStaysInItsInterval }
 {}

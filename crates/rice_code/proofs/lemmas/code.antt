@@ -10,3 +10,4 @@ pub mod SegmentPlaces
 pub mod Segments
 pub mod SoundBlocks
 pub mod WholeBlocks
+pub mod WholeBytes

@@ -3,7 +3,9 @@ pub mod AllBytes
 pub mod Covers
 pub mod DecodingGoesOn
 pub mod DecodingPlaces
+pub mod Intervals
 pub mod OneMeaning
+pub mod OwnBytes
 pub mod Parsing
 pub mod Returned
 pub mod SentSets

@@ -1,24 +1,11 @@
 -- The whole bytes of bits that go on.
-use Rattle.std.proofs.Common.{arith, ◌≡◌, ℕ, zero, suc, ◌+◌, ◌*◌, ◌/◌, ◌<◌, Bool, List, [], ◌∷◌, ◌++◌, length, drop, refl, ap, sym, ◌∙◌, append-nil, length-append, length-drop, take-append-drop}
+use Rattle.std.proofs.Common.{arith, ◌≡◌, ◌+◌, ◌*◌, ◌/◌, ◌<◌, Bool, List, ◌++◌, length, drop, ap, sym, ◌∙◌, append-nil, length-append, length-drop, take-append-drop}
 use Rattle.std.proofs.Math.Seq.{drop-append-add}
 use Rattle.std.proofs.lemmas.List.{length-take-le}
 use Rattle.rice_bits.proofs.lemmas.bits.Bytes.{whole_short}
-use Rattle.rice_bits.specs.Bits.{number_of, whole_bytes, bits_in_bytes}
+use Rattle.rice_bits.specs.Bits.{whole_bytes, bits_in_bytes}
+use Rattle.rice_code.proofs.lemmas.code.WholeBytes.{whole-append}
 use Rattle.rice_stream.specs.EncodingState.{whole_part}
-
-pub whole-append : (m : ℕ) (a b : List Bool) → length a ≡ 8 * m → whole_bytes (a ++ b) ≡ whole_bytes a ++ whole_bytes b
-unfolding whole_bytes
-whole-append m [] b h = refl
-whole-append zero (x ∷ a) b h = absurd (omega (arith, h))
-whole-append (suc m) (a ∷ []) x h = absurd (omega (arith, h))
-whole-append (suc m) (a ∷ b ∷ []) x h = absurd (omega (arith, h))
-whole-append (suc m) (a ∷ b ∷ c ∷ []) x h = absurd (omega (arith, h))
-whole-append (suc m) (a ∷ b ∷ c ∷ d ∷ []) x h = absurd (omega (arith, h))
-whole-append (suc m) (a ∷ b ∷ c ∷ d ∷ e ∷ []) x h = absurd (omega (arith, h))
-whole-append (suc m) (a ∷ b ∷ c ∷ d ∷ e ∷ f ∷ []) x h = absurd (omega (arith, h))
-whole-append (suc m) (a ∷ b ∷ c ∷ d ∷ e ∷ f ∷ g ∷ []) x h = absurd (omega (arith, h))
-whole-append (suc m) (a ∷ b ∷ c ∷ d ∷ e ∷ f ∷ g ∷ i ∷ rest) x h =
-    ap (λ l. number_of (a ∷ b ∷ c ∷ d ∷ e ∷ f ∷ g ∷ i ∷ []) ∷ l) (whole-append m rest x (omega (arith, h)))
 
 pub length-part : (a : List Bool) → length (whole_part a) ≡ 8 * (length a / 8)
 length-part a = length-take-le (bits_in_bytes (length a)) a (omega arith)

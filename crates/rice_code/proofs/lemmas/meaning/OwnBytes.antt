@@ -1,0 +1,49 @@
+-- Which bytes are an output, and of which samples.
+use Rattle.std.proofs.Common.{◌≡◌, ℕ, ◌-◌, ◌*◌, ◌≤◌, Bool, List, length, refl, take, ap, sym, ◌∙◌, subst, arith, Option, Some, ℤ, pos}
+use Rattle.std.specs.Prelude.{All}
+use Rattle.std.proofs.lemmas.List.{length-take-le}
+use Rattle.std.proofs.lemmas.List.Elements.{All-take}
+use Rattle.rice_bits.specs.Bits.{bits_of}
+use Rattle.rice_samples.specs.Parameters.{Parameters, IsLegal, IsSample}
+use Rattle.rice_samples.proofs.lemmas.setting.Levels.{zero_is_sample}
+use Rattle.rice_code.specs.Laws.{CodesDiffer, RefusedBytesAreNoOutput, IsOutputOf, OwnBytesAreRecognised}
+use Rattle.rice_code.specs.code.Code.{output}
+use Rattle.rice_code.specs.code.Decoded.{Decoded, Ending, Reached}
+use Rattle.rice_code.proofs.lemmas.meaning.OneMeaning.{decoded_is_one}
+use Rattle.rice_code.proofs.lemmas.meaning.Returned.{returns_samples}
+
+-- what the output of samples decodes to, by their number
+decodes_to : (s : Parameters) → IsLegal s → (bytes : List ℕ) (count : ℕ) (xs ys : List ℤ) (ending : Ending) (used : ℕ) → All (IsSample s) xs → length xs ≡ count → output s xs ≡ bytes
+    → Decoded s (bits_of bytes) (Some count) ys ending used → (ys ≡ xs) × (ending ≡ Reached)
+decodes_to s legal bytes count xs ys ending used k number is d =
+    let all = returns_samples s legal xs k in
+    let there = subst (λ (n : ℕ). Decoded s (bits_of bytes) (Some n) xs Reached all.0) number (subst (λ (l : List ℕ). Decoded s (bits_of l) (Some (length xs)) xs Reached all.0) is all.1) in
+    let one = decoded_is_one s legal 0 0 (pos 0) (zero_is_sample s legal.bits_from) (bits_of bytes) (Some count) ys xs ending Reached used all.0 d there in
+    (one.0, one.1)
+
+pub codes_differ : CodesDiffer
+codes_differ s legal xs ys kx ky same equal =
+    let all = returns_samples s legal ys ky in
+    sym (decodes_to s legal (output s ys) (length ys) xs ys Reached all.0 kx same equal all.1).0
+
+pub refused_bytes : RefusedBytesAreNoOutput
+refused_bytes s legal bytes xs ys ending used k d other is = other (decodes_to s legal bytes (length xs) xs ys ending used k refl is d).1
+
+-- as many samples as are asked for, where these are reached
+reached_samples : (s : Parameters) (bits : List Bool) (count : ℕ) (xs : List ℤ) (used : ℕ) → Decoded s bits (Some count) xs Reached used → All (IsSample s) xs × (length xs ≡ count)
+reached_samples s bits count xs used d =
+    let all : count - s.block * 0 ≡ count = omega arith in
+    let is : xs ≡ take count d.all = d.asked_for ∙ ap (λ n. take n d.all) all in
+    let enough : count ≤ length d.all = omega (arith, d.ends.0, d.len) in
+    (subst (All (IsSample s)) (sym is) (All-take (IsSample s) count d.all d.legal), ap length is ∙ length-take-le count d.all enough)
+
+pub own_bytes : OwnBytesAreRecognised
+own_bytes s legal bytes count xs ending used d = (own, again)
+  where
+    own : IsOutputOf s count bytes → (ending ≡ Reached) × (output s xs ≡ bytes)
+    own o = let one = decodes_to s legal bytes count o.samples xs ending used o.legal o.count_is o.is d in (one.1, ap (output s) one.0 ∙ o.is)
+
+    again : (ending ≡ Reached) × (output s xs ≡ bytes) → IsOutputOf s count bytes
+    again h =
+        let k = reached_samples s (bits_of bytes) count xs used (subst (λ (e : Ending). Decoded s (bits_of bytes) (Some count) xs e used) h.0 d) in
+        record { samples = xs; legal = k.0; count_is = k.1; is = h.1 }
