@@ -6,6 +6,7 @@ pub mod DecodingEnds
 pub mod DecodingLemmas
 pub mod EncodingEnds
 pub mod EncodingLemmas
+pub mod FedPieces
 pub mod HeldBlocks
 pub mod LevelLemmas
 pub mod PartLemmas

@@ -20,9 +20,10 @@ use Rattle.rice_code.proofs.lemmas.meaning.OneMeaning.{decoded_is_one}
 use Rattle.rice_code.proofs.lemmas.cost.PaddingBounds.{padding_is_bounded}
 use Rattle.rice_code.proofs.lemmas.meaning.Returned as returned
 use Rattle.rice_code.proofs.lemmas.code.SoundBlocks.{code_is_bounded}
-use Rattle.rice_stream.proofs.lemmas.SpellingLengths.{length-spellings}
+use Rattle.rice_stream.proofs.lemmas.SpellingLengths.{length-spellings, spellings-append}
+use Rattle.rice_stream.specs.Calls.{Call, PassesLimit}
 use Rattle.rice_stream.specs.Decodes.{DecodesBytes, EndsDecoding}
-use Rattle.rice_stream.specs.Laws.{ReturnsBytes}
+use Rattle.rice_stream.specs.Laws.{ReturnsBytes, ReturnsBytesAndFill}
 use Rattle.rice_stream.specs.declared.outcome.Fault.{Fault}
 use Rattle.rice_stream.specs.declared.outcome.Fault.TheVariants.{Read, Write, TooLong, SampleOutOfRange, SampleCut, CodeEnds, RunPastSegment, ResidualTooLarge}
 
@@ -62,13 +63,14 @@ decoded_before s asked bits more xs ending used early d = record {
   bits_used = d.bits_used;
 }
 
--- what the first bytes of the output decode to, where that ends before them
-from_front : (s : Parameters) → IsLegal s → (xs ys : List ℤ) (front left : List ℕ) (ending : Ending) (used all : ℕ) → output s xs ≡ front ++ left → EndsBefore ending → Decoded s (bits_of front) (Some (length xs)) ys ending used → Decoded s (bits_of (output s xs)) (Some (length xs)) xs Reached all → (ys ≡ xs) × (ending ≡ Reached)
-from_front s legal xs ys front left ending used all split early d whole =
-    let more = decoded_before s (Some (length xs)) (bits_of front) (bits_of left) ys ending used early d in
-    let bits : bits_of front ++ bits_of left ≡ bits_of (output s xs) = sym (bits_of-append front left) ∙ ap bits_of (sym split) in
-    let there = subst (λ (l : List Bool). Decoded s l (Some (length xs)) ys ending used) bits more in
-    let one = decoded_is_one s legal 0 0 (pos 0) (zero_is_sample s legal.bits_from) (bits_of (output s xs)) (Some (length xs)) ys xs ending Reached used all there whole in
+-- what the first of some bytes decode to, where that ends before them, all do
+from_front : (s : Parameters) → IsLegal s → (asked : Option ℕ) (bytes : List ℕ) (xs ys : List ℤ) (front left : List ℕ) (ending known : Ending) (used all : ℕ) → bytes ≡ front ++ left → EndsBefore ending
+    → Decoded s (bits_of front) asked ys ending used → Decoded s (bits_of bytes) asked xs known all → (ys ≡ xs) × (ending ≡ known)
+from_front s legal asked bytes xs ys front left ending known used all split early d whole =
+    let more = decoded_before s asked (bits_of front) (bits_of left) ys ending used early d in
+    let bits : bits_of front ++ bits_of left ≡ bits_of bytes = sym (bits_of-append front left) ∙ ap bits_of (sym split) in
+    let there = subst (λ (l : List Bool). Decoded s l asked ys ending used) bits more in
+    let one = decoded_is_one s legal 0 0 (pos 0) (zero_is_sample s legal.bits_from) (bits_of bytes) asked ys xs ending known used all there whole in
     (one.0, one.1)
 
 -- no output is longer than a decoder takes
@@ -123,8 +125,35 @@ output_short s legal xs k limit =
         let more : m * 1 ≤ m * w = mul-le-mul_left m some in
         sums b id (j * n) (b * j * w) w m bits bytes (omega arith) (omega (arith, same, each, eight)) (omega (arith, z, all)) (omega (arith, blocks, few, hi)) (omega arith) limit most whole
 
+-- What a call that decodes was given of the bytes that a call has written.
+given_of : (encoding decoding : Call) → Consumes (Some encoding.written) decoding.left decoding.given → (rest : List ℕ) × (encoding.written ≡ decoding.given ++ rest)
+given_of encoding decoding consumed = by_left decoding.left consumed
+  where
+    by_left : (left : Option (List ℕ)) → Consumes (Some encoding.written) left decoding.given → (rest : List ℕ) × (encoding.written ≡ decoding.given ++ rest)
+    by_left None c = absurd c
+    by_left (Some rest) c = (rest, c)
+
+-- where nothing is left of them, all were given
+all_given : (encoding decoding : Call) → Consumes (Some encoding.written) decoding.left decoding.given → IsAtEnd decoding.left → decoding.given ≡ encoding.written
+all_given encoding decoding consumed end = by_left decoding.left consumed end
+  where
+    by_left : (left : Option (List ℕ)) → Consumes (Some encoding.written) left decoding.given → IsAtEnd left → decoding.given ≡ encoding.written
+    by_left None c end = absurd c
+    by_left (Some rest) c end = sym (append-nil decoding.given) ∙ ap (λ l. decoding.given ++ l) (sym end) ∙ sym c
+
+-- an output does not pass the limit of a code
+not_too_long : (s : Parameters) (encoding decoding : Call) → IsLegal s → (xs : List ℤ) → All (IsSample s) xs → (front : List ℕ) → encoding.written ≡ output s xs → encoding.given ≡ spellings s xs → length encoding.given ≤ 281474976710656
+    → Consumes (Some encoding.written) decoding.left decoding.given → PassesLimit 562949953421312 decoding.given front → ⊥
+not_too_long s encoding decoding legal xs k front written bytes limit consumed passes =
+    let given = ap length passes.split ∙ length-append front (passes.last ∷ []) in
+    let parts = given_of encoding decoding consumed in
+    let whole = ap length (sym written ∙ parts.1) ∙ length-append decoding.given parts.0 in
+    let spelled = ap length bytes ∙ length-spellings s xs in
+    let short = output_short s legal xs k (omega (arith, spelled, limit)) in
+    omega (arith, given, passes.full, whole, short)
+
 pub returns_bytes : ReturnsBytes
-returns_bytes s legal enc dec encoded decoded fault encodes consumed decodes = by_fault fault dec.left refl decodes.ends
+returns_bytes s legal enc dec encoded decoded fault encodes consumed decodes = by_fault fault decodes.ends
   where
     xs : List ℤ
     xs = encodes.samples
@@ -141,46 +170,79 @@ returns_bytes s legal enc dec encoded decoded fault encodes consumed decodes = b
     bytes : enc.given ≡ spellings s xs
     bytes = encodes.ends.0.whole ∙ ap (λ l. spellings s xs ++ l) encodes.ends.0.stops ∙ append-nil (spellings s xs)
 
-    split : (left : Option (List ℕ)) → dec.left ≡ left → (rest : List ℕ) × (output s xs ≡ dec.given ++ rest)
-    split None e = absurd (subst (λ (l : Option (List ℕ)). Consumes (Some enc.written) l dec.given) e consumed)
-    split (Some rest) e = (rest, sym written ∙ subst (λ (l : Option (List ℕ)). Consumes (Some enc.written) l dec.given) e consumed)
-
     Ends : Option Fault → Type 0
     Ends fault = ((fault ≡ None) × (dec.written ≡ enc.given)) ⊎ ((fault ≡ Some Read) ⊎ (fault ≡ Some Write))
 
     all : (used : ℕ) × Decoded s (bits_of (output s xs)) (Some (length xs)) xs Reached used
     all = returned.returns_samples s legal xs encodes.ends.0.legal
 
-    at_front : (left : Option (List ℕ)) → dec.left ≡ left → DecodesBytes s (Some encoded.samples) dec decoded dec.given ys decodes.ending → EndsBefore decodes.ending → (ys ≡ xs) × (decodes.ending ≡ Reached)
-    at_front left e d early =
-        let parts = split left e in
-        from_front s legal xs ys dec.given parts.0 decodes.ending d.0 all.0 parts.1 early (subst (λ (m : ℕ). Decoded s (bits_of dec.given) (Some m) ys decodes.ending d.0) n d.1) all.1
+    at_front : DecodesBytes s (Some encoded.samples) dec decoded dec.given ys decodes.ending → EndsBefore decodes.ending → (ys ≡ xs) × (decodes.ending ≡ Reached)
+    at_front d early =
+        let parts = given_of enc dec consumed in
+        from_front s legal (Some (length xs)) (output s xs) xs ys dec.given parts.0 decodes.ending Reached d.0 all.0 (sym written ∙ parts.1) early (subst (λ (m : ℕ). Decoded s (bits_of dec.given) (Some m) ys decodes.ending d.0) n d.1) all.1
 
-    not_at_end : (left : Option (List ℕ)) → dec.left ≡ left → IsAtEnd dec.left → DecodesBytes s (Some encoded.samples) dec decoded dec.given ys decodes.ending → (decodes.ending ≡ CutOff) ⊎ ((decodes.ending ≡ Ended) × IsSome (Some encoded.samples)) → ⊥
-    not_at_end None e end d ends = absurd (subst (λ (l : Option (List ℕ)). Consumes (Some enc.written) l dec.given) e consumed)
-    not_at_end (Some rest) e end d ends =
-        let none : rest ≡ [] = subst (λ (l : Option (List ℕ)). IsAtEnd l) e end in
-        let parts = split (Some rest) e in
-        let whole : dec.given ≡ output s xs = sym (append-nil dec.given) ∙ ap (λ l. dec.given ++ l) (sym none) ∙ sym parts.1 in
+    not_at_end : IsAtEnd dec.left → DecodesBytes s (Some encoded.samples) dec decoded dec.given ys decodes.ending → (decodes.ending ≡ CutOff) ⊎ ((decodes.ending ≡ Ended) × IsSome (Some encoded.samples)) → ⊥
+    not_at_end end d ends =
+        let whole : dec.given ≡ output s xs = all_given enc dec consumed end ∙ written in
         let there = subst (λ (l : List ℕ). Decoded s (bits_of l) (Some (length xs)) ys decodes.ending d.0) whole (subst (λ (m : ℕ). Decoded s (bits_of dec.given) (Some m) ys decodes.ending d.0) n d.1) in
         let one = decoded_is_one s legal 0 0 (pos 0) (zero_is_sample s legal.bits_from) (bits_of (output s xs)) (Some (length xs)) ys xs decodes.ending Reached d.0 all.0 there all.1 in
         let reached = one.1 in
         elim ends [ inl e ↦ absurd cc | inr e ↦ absurd (let ended = e.0 in cc) ]
 
-    by_fault : (fault : Option Fault) (left : Option (List ℕ)) → dec.left ≡ left → EndsDecoding s (Some encoded.samples) fault dec decoded ys decodes.ending → Ends fault
-    by_fault None left e (d, inl reached) = inl (refl, d.2.written ∙ ap (spellings s) (at_front left e d (inl reached)).0 ∙ sym bytes)
-    by_fault None left e (d, inr (ended, none, end)) = absurd cc
-    by_fault (Some Read) left e h = inr (inl refl)
-    by_fault (Some Write) left e h = inr (inr refl)
-    by_fault (Some TooLong) left e h =
-        let passes = h.0.1 in
-        let given = ap length passes.split ∙ length-append h.0.0 (passes.last ∷ []) in
-        let parts = split left e in
-        let all = ap length parts.1 ∙ length-append dec.given parts.0 in
-        let spelled = ap length bytes ∙ length-spellings s xs in
-        absurd (let short = output_short s legal xs encodes.ends.0.legal (omega (arith, spelled, encodes.limit)) in omega (arith, given, passes.full, all, short))
-    by_fault (Some (CodeEnds samples)) left e (d, ends, end, count) = absurd (not_at_end left e end d ends)
-    by_fault (Some (RunPastSegment block)) left e (d, past, count) = absurd (let reached = (at_front left e d (inr (inl past))).1 in cc)
-    by_fault (Some (ResidualTooLarge block)) left e (d, large, count) = absurd (let reached = (at_front left e d (inr (inr large))).1 in cc)
-    by_fault (Some (SampleOutOfRange index)) left e h = absurd h
-    by_fault (Some (SampleCut index)) left e h = absurd h
+    by_fault : (fault : Option Fault) → EndsDecoding s (Some encoded.samples) fault dec decoded ys decodes.ending → Ends fault
+    by_fault None (d, inl reached) = inl (refl, d.2.written ∙ ap (spellings s) (at_front d (inl reached)).0 ∙ sym bytes)
+    by_fault None (d, inr (ended, none, end)) = absurd cc
+    by_fault (Some Read) h = inr (inl refl)
+    by_fault (Some Write) h = inr (inr refl)
+    by_fault (Some TooLong) h = absurd (not_too_long s enc dec legal xs encodes.ends.0.legal h.0.0 written bytes encodes.limit consumed h.0.1)
+    by_fault (Some (CodeEnds samples)) (d, ends, end, count) = absurd (not_at_end end d ends)
+    by_fault (Some (RunPastSegment block)) (d, past, count) = absurd (let reached = (at_front d (inr (inl past))).1 in cc)
+    by_fault (Some (ResidualTooLarge block)) (d, large, count) = absurd (let reached = (at_front d (inr (inr large))).1 in cc)
+    by_fault (Some (SampleOutOfRange index)) h = absurd h
+    by_fault (Some (SampleCut index)) h = absurd h
+
+pub returns_bytes_and_fill : ReturnsBytesAndFill
+returns_bytes_and_fill s legal enc dec encoded decoded fault encodes consumed decodes = by_fault fault decodes.ends
+  where
+    xs : List ℤ
+    xs = encodes.samples
+
+    ys : List ℤ
+    ys = decodes.samples
+
+    written : enc.written ≡ output s xs
+    written = encodes.ends.2.written
+
+    bytes : enc.given ≡ spellings s xs
+    bytes = encodes.ends.0.whole ∙ ap (λ l. spellings s xs ++ l) encodes.ends.0.stops ∙ append-nil (spellings s xs)
+
+    all : (fill : List ℤ) × (length fill < 64 * s.block) × Decoded s (bits_of (output s xs)) None (xs ++ fill) Ended (length (bits_of (output s xs)))
+    all = returned.returns_samples_and_fill s legal xs encodes.ends.0.legal
+
+    Ends : Option Fault → Type 0
+    Ends fault = ((fault ≡ None) × (fill : List ℤ) × (length fill < 64 * s.block) × (dec.written ≡ enc.given ++ spellings s fill)) ⊎ ((fault ≡ Some Read) ⊎ (fault ≡ Some Write))
+
+    at_front : DecodesBytes s None dec decoded dec.given ys decodes.ending → EndsBefore decodes.ending → decodes.ending ≡ Ended
+    at_front d early =
+        let parts = given_of enc dec consumed in
+        (from_front s legal None (output s xs) (xs ++ all.0) ys dec.given parts.0 decodes.ending Ended d.0 (length (bits_of (output s xs))) (sym written ∙ parts.1) early d.1 all.2).1
+
+    at_end : IsAtEnd dec.left → DecodesBytes s None dec decoded dec.given ys decodes.ending → (ys ≡ xs ++ all.0) × (decodes.ending ≡ Ended)
+    at_end end d =
+        let there = subst (λ (l : List ℕ). Decoded s (bits_of l) None ys decodes.ending d.0) (all_given enc dec consumed end ∙ written) d.1 in
+        let one = decoded_is_one s legal 0 0 (pos 0) (zero_is_sample s legal.bits_from) (bits_of (output s xs)) None ys (xs ++ all.0) decodes.ending Ended d.0 (length (bits_of (output s xs))) there all.2 in
+        (one.0, one.1)
+
+    by_fault : (fault : Option Fault) → EndsDecoding s None fault dec decoded ys decodes.ending → Ends fault
+    by_fault None (d, inl reached) = absurd (let ended = at_front d (inl reached) in cc)
+    by_fault None (d, inr (ended, none, end)) =
+        inl (refl, all.0, all.1, d.2.written ∙ ap (spellings s) (at_end end d).0 ∙ spellings-append s xs all.0 ∙ ap (λ l. l ++ spellings s all.0) (sym bytes))
+    by_fault (Some Read) h = inr (inl refl)
+    by_fault (Some Write) h = inr (inr refl)
+    by_fault (Some TooLong) h = absurd (not_too_long s enc dec legal xs encodes.ends.0.legal h.0.0 written bytes encodes.limit consumed h.0.1)
+    by_fault (Some (CodeEnds samples)) (d, inl cut, end, count) = absurd (let ended = (at_end end d).1 in cc)
+    by_fault (Some (CodeEnds samples)) (d, inr (ended, some), end, count) = absurd (let no : false ≡ true = some in cc)
+    by_fault (Some (RunPastSegment block)) (d, past, count) = absurd (let ended = at_front d (inr (inl past)) in cc)
+    by_fault (Some (ResidualTooLarge block)) (d, large, count) = absurd (let ended = at_front d (inr (inr large)) in cc)
+    by_fault (Some (SampleOutOfRange index)) h = absurd h
+    by_fault (Some (SampleCut index)) h = absurd h

@@ -1,6 +1,5 @@
 -- The code between two segments: what is kept of it, and how it goes on.
-use Rattle.std.proofs.Common.{◌≡◌, ℕ, ◌+◌, ◌-◌, ◌*◌, ◌/◌, ◌%◌, ◌^◌, ◌<◌, ◌≤◌, ◌++◌, Bool, false, true, List, [], ◌∷◌, length, take, drop, replicate, slice_index_or, Option, Some, None, Err, refl, ap, sym, ◌∙◌, subst, arith, inl, inr, append-nil, length-append, take-append-drop, ℤ}
-use Rattle.std.specs.Prelude.{IsTrue}
+use Rattle.std.proofs.Common.{◌≡◌, ℕ, ◌+◌, ◌-◌, ◌*◌, ◌/◌, ◌%◌, ◌^◌, ◌<◌, ◌≤◌, ◌++◌, Bool, false, List, [], ◌∷◌, length, take, drop, replicate, slice_index_or, Option, Some, None, Err, refl, ap, sym, ◌∙◌, subst, arith, inl, inr, append-nil, length-append, take-append-drop, ℤ}
 use Rattle.std.proofs.lemmas.Bool.{cases_lt}
 use Rattle.std.proofs.lemmas.Bool.Decides.{nat_tests}
 use Rattle.std.proofs.lemmas.List.{take_at, length-take-le, length-replicate}

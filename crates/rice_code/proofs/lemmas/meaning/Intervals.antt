@@ -1,6 +1,5 @@
 -- Intervals stand alone: their code begins afresh, ends with a byte where intervals are padded, and is decoded by itself.
-use Rattle.std.proofs.Common.{◌≡◌, ℕ, zero, suc, ◌+◌, ◌-◌, ◌*◌, ◌/◌, ◌%◌, ◌<◌, ◌≤◌, ◌==◌, min, Bool, true, false, cond, ◌&&◌, List, [], ◌∷◌, ◌++◌, length, take, drop, replicate, refl, ap, arith, sym, ◌∙◌, inl, inr, subst, append_assoc, append-nil, length-append, Option, Some, None, ℤ, pos}
-use Rattle.std.specs.Prelude.{All, slice_index_or}
+use Rattle.std.proofs.Common.{◌≡◌, ℕ, zero, suc, ◌+◌, ◌-◌, ◌*◌, ◌/◌, ◌%◌, ◌<◌, ◌≤◌, ◌==◌, min, Bool, true, false, cond, ◌&&◌, List, [], ◌∷◌, ◌++◌, length, take, drop, replicate, refl, ap, arith, sym, ◌∙◌, inl, inr, subst, append_assoc, append-nil, length-append, Some, None, ℤ, pos}
 use Rattle.std.specs.Int.{div_ceil}
 use Rattle.std.proofs.lemmas.List.{length-replicate, drop_at}
 use Rattle.std.proofs.lemmas.List.Elements.{recursion_from_All}
@@ -13,10 +12,10 @@ use Rattle.rice_samples.specs.Places.{place, is_padded, is_reference, is_referen
 use Rattle.rice_samples.specs.predict.Residuals.{rank, pattern, residual, residuals, last_of, filled_samples}
 use Rattle.rice_samples.proofs.lemmas.setting.Levels.{zero_is_sample}
 use Rattle.rice_code.specs.Laws.{AreIntervals, IntervalsBeginAfresh, IntervalsAreJoined, PaddedIntervalsAreJoined, IntervalsAreDecodedAlone, DamageStaysInItsInterval}
-use Rattle.rice_code.specs.code.Blocks.{BlockData, block_data, blocks_from, blocks_of, zero_block}
+use Rattle.rice_code.specs.code.Blocks.{block_data, blocks_from, blocks_of, zero_block}
 use Rattle.rice_code.specs.code.Code.{data_sets, sets_of, sets_from, code, code_from, output}
 use Rattle.rice_code.specs.code.CodedDataSets.{CodedDataSet, bits_of_set}
-use Rattle.rice_code.specs.code.Decoded.{Decoded, IsWanted, Reached}
+use Rattle.rice_code.specs.code.Decoded.{Decoded, Reached}
 use Rattle.rice_code.specs.code.Forms.{blocks_in_all}
 use Rattle.rice_code.specs.code.Layout.{block_after, padding, layout}
 use Rattle.rice_code.proofs.lemmas.code.BlockPlaces.{code_stands_in_intervals}
