@@ -3,7 +3,7 @@ RANDOM_INPUTS ?= 100000
 LIBRARY_CODES ?= 1000000
 
 .DEFAULT_GOAL := help
-.PHONY: help library install install-command install-library uninstall test test-each rows hostile interop exhaustive refused-memory installed recipes documents bench examples stack header axioms hostile-library bench-library
+.PHONY: help library install install-command install-library uninstall test test-each rows hostile interop exhaustive refused-memory installed recipes documents bench examples stack header axioms hostile-library bench-library wrappers
 
 help:
 	@echo 'make aec                    prove and build the program, as ./aec (ten minutes the first time)'
@@ -27,6 +27,7 @@ help:
 	@echo 'make header                 compare include/rice.h with the library and its crate'
 	@echo 'make axioms                 compare docs/axioms.txt with the C functions that the proofs rest on'
 	@echo 'make hostile-library        give the library damaged and random codes, and too little room'
+	@echo 'make wrappers               turn the wrappers of readers and writers into wrong ones, which the tests refuse'
 	@echo "make bench-library          compare the speed of the library and Debian's libaec (libaec-dev)"
 	@scripts/toolchain
 
@@ -134,3 +135,6 @@ hostile-library: library aec
 
 bench-library: library
 	scripts/bench_library librice.a
+
+wrappers:
+	scripts/wrappers.py
