@@ -20,16 +20,19 @@ MEMORY_OF_EDITS = 2_000_000_000
 
 
 def in_lanes(run_tasks):
-    """Has a crate's tests be proved after the crate, whose work they take, and its edits be planned with what they need."""
+    """Plans a crate's tests after the crate, whose work they take, its edits with the memory that they need, and its proof,
+    for which all that is above it waits, with nearly all processors, whatever runs beside it."""
     def run(tasks):
         # (the libraries' proofs are kept whole, so that later commands take them)
         rt.Crate.cuts_libraries = False
+        most = rt.processors() - 1
         for (name, kind), (waits, lines, memory, call) in tasks.items():
-            if kind == "tests":
-                waits = [*waits, (name, "proof")]
-            if kind == "edits":
-                memory = MEMORY_OF_EDITS
-            tasks[name, kind] = waits, lines, memory, call
+            if kind == "proof":
+                tasks[name, kind] = waits, lines, memory, lambda given, jobs, call=call: call(given, max(jobs, most))
+            elif kind == "tests":
+                tasks[name, kind] = [*waits, (name, "proof")], lines, memory, call
+            else:
+                tasks[name, kind] = waits, lines, MEMORY_OF_EDITS, call
         return run_tasks(tasks)
     return run
 

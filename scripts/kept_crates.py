@@ -11,7 +11,7 @@ import shutil
 import sys
 import types
 
-USED = ["Crate", "ci", "in_lanes", "must_fail_all", "run", "edits_of", "read_edit", "unread"]
+USED = ["Crate", "ci", "in_lanes", "processors", "must_fail_all", "run", "edits_of", "read_edit", "unread"]
 USED_OF_LIBRARY = ["KEPT", "VERDICT", "PARTS", "RATTLE", "STALE", "TEST", "crates_below", "guarded"]
 
 
