@@ -20,7 +20,7 @@ zeros_are_zero : (n : ℕ) → list_all (λ d. d == 0) (replicate n 0) ≡ true
 zeros_are_zero zero = refl
 zeros_are_zero (suc n) = zeros_are_zero n
 
-is_zero_zeros : (s : Parameters) (r : Option ℕ) → is_zero_block (zero_block s r) ≡ true
+pub is_zero_zeros : (s : Parameters) (r : Option ℕ) → is_zero_block (zero_block s r) ≡ true
 is_zero_zeros s r = zeros_are_zero s.block
 
 -- inside a segment nothing is sent for the zero blocks of a run
