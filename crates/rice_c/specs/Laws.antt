@@ -1,6 +1,7 @@
 -- What joins the calls that encode and decode.
-use Rattle.std.specs.Prelude.{◌≡◌, ◌≢◌, ℕ, ◌*◌, ◌/◌, ◌≤◌, List, length, take, Some}
+use Rattle.std.specs.Prelude.{◌≡◌, ◌≢◌, ◌⊎◌, ℕ, ◌*◌, ◌/◌, ◌<◌, ◌≤◌, List, ◌++◌, length, take, Some, None, ℤ}
 use Rattle.rice_samples.specs.Parameters.{Parameters, IsLegal, width}
+use Rattle.rice_samples.specs.bytes.Spelling.{spellings}
 use Rattle.rice_c.specs.declared.report.RiceReport.{RiceReport}
 use Rattle.rice_c.specs.declared.status.Status.TheVariants.{Done, NoRoom}
 use Rattle.rice_c.specs.Calls.{EncodesInto, DecodesInto, StandsInFront}
@@ -13,6 +14,13 @@ abbrev pub ReturnsBytes : Type 0
 ReturnsBytes = (s : Parameters) → IsLegal s → (samples code_old code old new : List ℕ) (encoded decoded : RiceReport) (status : ℕ) →
     EncodesInto s samples code_old code encoded (number_of Done) → DecodesInto s (Some encoded.samples) (take encoded.written code) old new decoded status → length samples ≤ length old →
     (status ≡ number_of Done) × StandsInFront samples old new
+
+-- Without the number of samples it writes these bytes and those of fewer than a segment of samples more, and all is done, or there is no
+-- room for them.
+abbrev pub ReturnsBytesAndFill : Type 0
+ReturnsBytesAndFill = (s : Parameters) → IsLegal s → (samples code_old code old new : List ℕ) (encoded decoded : RiceReport) (status : ℕ) →
+    EncodesInto s samples code_old code encoded (number_of Done) → DecodesInto s None (take encoded.written code) old new decoded status →
+    ((status ≡ number_of Done) × (fill : List ℤ) × (length fill < 64 * s.block) × StandsInFront (samples ++ spellings s fill) old new) ⊎ (status ≡ number_of NoRoom)
 
 -- With room for as much as the samples can take a call does not want for it.
 abbrev pub RoomSuffices : Type 0

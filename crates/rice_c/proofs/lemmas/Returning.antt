@@ -1,18 +1,20 @@
 -- What was encoded comes back, and room suffices.
-use Rattle.std.proofs.Common.{◌≡◌, ◌≢◌, ℕ, ◌*◌, ◌/◌, ◌≤◌, List, [], ◌++◌, length, take, drop, Option, Some, None, inl, inr, ◌⊎◌, sym, ◌∙◌, ap, subst, arith, append-nil}
+use Rattle.std.proofs.Common.{◌≡◌, ◌≢◌, ℕ, ◌*◌, ◌/◌, ◌<◌, ◌≤◌, List, [], ◌++◌, length, take, drop, Option, Some, None, inl, inr, ◌⊎◌, sym, ◌∙◌, ap, subst, arith, append-nil, ℤ}
 use Rattle.std.specs.Io.KnownBytes.{Consumes, IsAtEnd}
 use Rattle.std.proofs.Math.Seq.{take-append_seam}
 use Rattle.rice_samples.specs.Parameters.{Parameters, IsLegal, width}
 use Rattle.rice_samples.specs.bytes.Spelling.{spellings}
 use Rattle.rice_stream.proofs.lemmas.SpellingLengths.{length-spellings}
 use Rattle.rice_stream.proofs.lemmas.ReturnedBytes as stream
+use Rattle.rice_stream.specs.Calls.{Call}
 use Rattle.rice_stream.specs.Encodes.{Encodes}
 use Rattle.rice_stream.specs.Decodes.{Decodes}
 use Rattle.rice_stream.specs.declared.outcome.Fault.{Fault}
 use Rattle.rice_stream.specs.declared.outcome.Fault.TheVariants.{Read, Write}
 use Rattle.rice_c.specs.declared.report.RiceReport.{RiceReport}
+use Rattle.rice_c.specs.declared.status.Status.TheVariants.{Done, NoRoom}
 use Rattle.rice_c.specs.Calls.{EncodesInto, DecodesInto, StandsInFront}
-use Rattle.rice_c.specs.Laws.{ReturnsBytes, RoomSuffices}
+use Rattle.rice_c.specs.Laws.{ReturnsBytes, ReturnsBytesAndFill, RoomSuffices}
 use Rattle.rice_c.specs.Reports.{report_of}
 use Rattle.rice_c.specs.Rooms.{code_room}
 use Rattle.rice_c.specs.Statuses.{number_of, fault_status}
@@ -33,21 +35,50 @@ decode_suffices s count input old new r status d room full =
 pub room_suffices : RoomSuffices
 room_suffices s legal input old new r status = (encode_suffices s input old new r status legal, λ count. decode_suffices s count input old new r status)
 
-pub returns_bytes : ReturnsBytes
-returns_bytes s legal samples code_old code old new encoded decoded status e d room =
+-- What a call that encoded all has done, and that a call was given its code.
+record EncodedAll (s : Parameters) (samples : List ℕ) (encoded : RiceReport) (c : Call) (left : Option (List ℕ)) (given : List ℕ) : Type 0 where
+  pub encodes : Encodes s c (report_of encoded) None
+  pub all : samples ≡ c.given
+  pub gave : Consumes (Some c.written) left given
+
+encoded_all : (s : Parameters) (samples code_old code old new : List ℕ) (asked : Option ℕ) (encoded decoded : RiceReport) (status : ℕ) → (e : EncodesInto s samples code_old code encoded (number_of Done)) →
+    (d : DecodesInto s asked (take encoded.written code) old new decoded status) → EncodedAll s samples encoded e.call d.call.left d.call.given
+encoded_all s samples code_old code old new asked encoded decoded status e d =
     let none : e.fault ≡ None = none_of e.fault (sym e.tells.status) e.passes.reads in
     let all = subst (λ (f : Option Fault). Encodes s e.call (report_of encoded) f) none e.encodes in
     let at_end : e.passes.left ≡ [] = subst (λ (l : Option (List ℕ)). IsAtEnd l) e.passes.left_is all.ends.1 in
-    let given : samples ≡ e.call.given = e.passes.gave ∙ ap (λ l. e.call.given ++ l) at_end ∙ append-nil e.call.given in
-    let spelled : e.call.given ≡ spellings s all.samples = all.ends.0.whole ∙ ap (λ l. spellings s all.samples ++ l) all.ends.0.stops ∙ append-nil (spellings s all.samples) in
-    let size : length samples ≡ encoded.samples * width s = omega (arith, ap length given, ap length spelled, length-spellings s all.samples, ap (λ n. width s * n) all.ends.2.reports.samples) in
     let front : take encoded.written code ≡ e.call.written = ap (λ n. take n code) e.tells.written ∙ ap (take (length e.call.written)) e.passes.front ∙ take-append_seam e.call.written (drop (length e.call.written) code_old) in
-    let gave : Consumes (Some e.call.written) d.call.left d.call.given = subst (λ (l : Option (List ℕ)). Consumes (Some e.call.written) l d.call.given) (sym d.passes.left_is) (sym front ∙ d.passes.gave) in
-    by_end none given size (stream.returns_bytes s legal e.call d.call (report_of encoded) (report_of decoded) d.fault all gave d.decodes)
+    record {
+      encodes = all;
+      all = e.passes.gave ∙ ap (λ l. e.call.given ++ l) at_end ∙ append-nil e.call.given;
+      gave = subst (λ (l : Option (List ℕ)). Consumes (Some e.call.written) l d.call.given) (sym d.passes.left_is) (sym front ∙ d.passes.gave);
+    }
+
+pub returns_bytes : ReturnsBytes
+returns_bytes s legal samples code_old code old new encoded decoded status e d room =
+    let a = encoded_all s samples code_old code old new (Some encoded.samples) encoded decoded status e d in
+    let xs = a.encodes.samples in
+    let spelled : e.call.given ≡ spellings s xs = a.encodes.ends.0.whole ∙ ap (λ l. spellings s xs ++ l) a.encodes.ends.0.stops ∙ append-nil (spellings s xs) in
+    let size : length samples ≡ encoded.samples * width s = omega (arith, ap length a.all, ap length spelled, length-spellings s xs, ap (λ n. width s * n) a.encodes.ends.2.reports.samples) in
+    by_end a.all size (stream.returns_bytes s legal e.call d.call (report_of encoded) (report_of decoded) d.fault a.encodes a.gave d.decodes)
   where
-    by_end : e.fault ≡ None → samples ≡ e.call.given → length samples ≡ encoded.samples * width s → ((d.fault ≡ None) × (d.call.written ≡ e.call.given)) ⊎ ((d.fault ≡ Some Read) ⊎ (d.fault ≡ Some Write)) →
+    by_end : samples ≡ e.call.given → length samples ≡ encoded.samples * width s → ((d.fault ≡ None) × (d.call.written ≡ e.call.given)) ⊎ ((d.fault ≡ Some Read) ⊎ (d.fault ≡ Some Write)) →
         (status ≡ 0) × StandsInFront samples old new
-    by_end none given size (inl h) = (d.tells.status ∙ ap (λ (f : Option Fault). number_of (fault_status f)) h.0, d.passes.front ∙ ap (λ l. l ++ drop (length l) old) (h.1 ∙ sym given))
-    by_end none given size (inr (inl h)) = absurd (d.passes.reads h)
-    by_end none given size (inr (inr h)) =
+    by_end given size (inl h) = (d.tells.status ∙ ap (λ (f : Option Fault). number_of (fault_status f)) h.0, d.passes.front ∙ ap (λ l. l ++ drop (length l) old) (h.1 ∙ sym given))
+    by_end given size (inr (inl h)) = absurd (d.passes.reads h)
+    by_end given size (inr (inr h)) =
         absurd (let wants = decode_wants s encoded.samples d.call (report_of decoded) (subst (λ (f : Option Fault). Decodes s (Some encoded.samples) d.call (report_of decoded) f) h d.decodes) in omega (arith, wants, d.passes.full h, room, size))
+
+pub returns_bytes_and_fill : ReturnsBytesAndFill
+returns_bytes_and_fill s legal samples code_old code old new encoded decoded status e d =
+    let a = encoded_all s samples code_old code old new None encoded decoded status e d in
+    by_end a.all (stream.returns_bytes_and_fill s legal e.call d.call (report_of encoded) (report_of decoded) d.fault a.encodes a.gave d.decodes)
+  where
+    status_of : (f : Option Fault) → d.fault ≡ f → status ≡ number_of (fault_status f)
+    status_of f is = d.tells.status ∙ ap (λ (f : Option Fault). number_of (fault_status f)) is
+
+    by_end : samples ≡ e.call.given → ((d.fault ≡ None) × (fill : List ℤ) × (length fill < 64 * s.block) × (d.call.written ≡ e.call.given ++ spellings s fill)) ⊎ ((d.fault ≡ Some Read) ⊎ (d.fault ≡ Some Write)) →
+        ((status ≡ number_of Done) × (fill : List ℤ) × (length fill < 64 * s.block) × StandsInFront (samples ++ spellings s fill) old new) ⊎ (status ≡ number_of NoRoom)
+    by_end given (inl h) = inl (status_of None h.0, h.1, h.2, d.passes.front ∙ ap (λ l. l ++ drop (length l) old) (h.3 ∙ ap (λ l. l ++ spellings s h.1) (sym given)))
+    by_end given (inr (inl h)) = absurd (d.passes.reads h)
+    by_end given (inr (inr h)) = inr (status_of (Some Write) h)
