@@ -13,7 +13,7 @@ help:
 	@echo 'make uninstall PREFIX=DIR   remove what these installed'
 	@echo 'make test                   prove everything from nothing, try the edits that must fail, and run all tests (half an hour)'
 	@echo 'make test-each              the same by the toolchain alone, each edit by a check of its own (an hour)'
-	@echo 'make rows                   run the cases of scripts/rows.txt with ./aec'
+	@echo 'make rows                   run the cases of scripts/rows.txt with ./aec and the library'
 	@echo 'make hostile                run ./aec on damaged and random codes, and on files and streams that fail'
 	@echo "make interop                exchange codes between ./aec and Debian's aec (libaec-tools)"
 	@echo "make exhaustive             give every short list and code to the library and to Debian's libaec (libaec-dev)"
@@ -90,8 +90,8 @@ test:
 test-each:
 	rt ci
 
-rows: aec
-	scripts/rows.py ./aec scripts/rows.txt
+rows: aec library
+	scripts/rows.py ./aec scripts/rows.txt librice.so
 
 hostile: aec
 	scripts/devices ./aec
