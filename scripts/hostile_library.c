@@ -1,6 +1,7 @@
-/* Gives the library damaged, cut, spliced and random codes under settings of all kinds, and samples of random bytes with too
- * little room. Each buffer ends where a page begins that can't be touched, or begins behind one, and has guard bytes on its other
- * side. Writes every tenth answer of a decoding to a file, for the command to give it too.
+/* Gives the library samples under each setting, and sees that they come back; then damaged, cut, spliced and random codes under
+ * settings of all kinds, and samples of random bytes with too little room. Each buffer ends where a page begins that can't be
+ * touched, or begins behind one, and has guard bytes on its other side. Writes every tenth answer of a decoding to a file, for the
+ * command to give it too.
  * usage: hostile_library CALLS ANSWERS */
 #define _GNU_SOURCE
 #include <inttypes.h>
@@ -89,6 +90,15 @@ static uint32_t encode(uint64_t call, const struct rice_setting *s, const uint8_
     return status;
 }
 
+/* Whether a code of so many samples gives them back. */
+static bool comes_back(const struct rice_setting *s, const uint8_t *bytes, size_t written, const uint8_t *samples, uint32_t count) {
+    static uint8_t back[4 * MOST_SAMPLES];
+    struct rice_report report;
+    size_t size = count * rice_sample_width(s);
+    uint32_t status = rice_decode(s, count, bytes, written, back, size, &report);
+    return status == RICE_DONE && report.written == size && memcmp(back, samples, size) == 0;
+}
+
 /* Makes the code of some samples, and tries it with too little room. Returns the code's length. */
 static size_t good_code(uint64_t call, const struct rice_setting *s, uint32_t count, uint8_t *to) {
     static uint8_t samples[4 * MOST_SAMPLES];
@@ -98,12 +108,24 @@ static size_t good_code(uint64_t call, const struct rice_setting *s, uint32_t co
     any_samples(s, samples, count);
     if (encode(call, s, samples, size, room, &report, &bytes) != RICE_DONE) fail("samples are refused", call);
     size_t written = report.written;
+    if (!comes_back(s, bytes, written, samples, count)) fail("other samples come back", call);
     memcpy(to, bytes, written);
     if (written > 0) {
         size_t less = below((uint32_t)written);
         if (encode(call, s, samples, size, less, &report, &bytes) != RICE_NO_ROOM || memcmp(bytes, to, less)) fail("too little room", call);
     }
     return written;
+}
+
+/* Makes a code for each width, block size and choice. */
+static void every_setting(void) {
+    for (uint32_t bits = 1; bits <= 32; bits++) {
+        for (uint32_t i = 0; i < 4 * 32; i++) {
+            bool pad = i & 16;
+            struct rice_setting s = {bits, 8u << i / 32, pad ? 1 : 2, i & 1, i & 2, i & 4, i & 8, pad};
+            good_code(0, &s, 101, code);
+        }
+    }
 }
 
 /* Encodes random bytes into any room. */
@@ -163,6 +185,9 @@ static void decode(uint64_t call, FILE *answers) {
     if (status == RICE_NO_ROOM ? report.written != room : report.written != report.samples * width) fail("another number of bytes", call);
     if (status == RICE_NO_ROOM && counted && full) fail("there was room", call);
     if (counted && report.samples > count) fail("more samples than asked for", call);
+    if (status != RICE_DONE && (status < RICE_CODE_ENDS || status > RICE_NO_ROOM)) fail("another status", call);
+    if (report.bits > 8 * size) fail("more bits than there are", call);
+    if (report.steps < report.bits + report.samples) fail("fewer steps than bits and samples", call);
     if (report.steps > 2 * report.bits + report.samples) fail("more steps than bounded", call);
     statuses[1][status]++;
     if (call % 10 == 0 && status != RICE_NO_ROOM) keep(answers, &s, counted ? (int64_t)count : -1, size, status, &report, bytes);
@@ -174,6 +199,7 @@ int main(int argc, char **argv) {
     FILE *answers = fopen(argv[2], "wb");
     in = area(), out = area();
     if (!answers) return 2;
+    every_setting();
     for (uint64_t call = 0; call < calls; call++) {
         decode(call, answers);
         struct rice_setting s = any_setting();
