@@ -171,7 +171,7 @@ def judged(edit, texts, said):
         return Verdict(False, f"NOT REFUSED: {edit.function.name} is proved with this edit")
     goals = [it for it in goals_in(edit.crate, texts, said) if it.function == edit.function.name]
     if re.match(r"not proved|no proof", line) and goals:
-        return Verdict(any(it.why != GONE for it in goals), told(goals))
+        return Verdict(True, told(goals))
     if re.search(r"it calls|it passes|a call of", line):
         return None
     return Verdict(False, f"NOT JUDGED: {edit.function.name}: {line or 'the check has no line on it'}")
@@ -190,7 +190,7 @@ def tried_alone(edit):
     goals = goals_in(edit.crate, edit.texts, said)
     if not goals:
         return Verdict(False, "NOT JUDGED: no goal is told that is open")
-    return Verdict(any(it.why != GONE for it in goals), told(goals))
+    return Verdict(True, told(goals))
 
 
 def tried_together(edits):
