@@ -9,9 +9,12 @@ OWNER = re.compile(r"impl(?:<.*?>)? (?:(\w+)(?:<.*>)? for )?&?(?:'\w+ )?(?:mut )
 
 @dataclasses.dataclass(frozen=True)
 class Function:
-    """A function of a source file in the layout of `rt fmt`: its name in a check's lines, and its places in the text."""
+    """A function of a source file in the layout of `rt fmt`: its name in a check's lines, the type whose it is, the trait whose
+    it is, and its places in the text."""
 
     name: str
+    type: str
+    trait: str
     file: str
     start: int
     body: int
@@ -21,14 +24,14 @@ class Function:
 
 
 def owner_of(lines, at):
-    """Returns the type of the impl around a line, with the trait's name behind it, or the trait's name."""
+    """Returns the names of the type and of the trait of the impl around a line, or of a trait alone."""
     for line in reversed(lines[:at]):
         if line.startswith("trait ") or line.startswith("pub trait "):
-            return re.match(r"(?:pub )?trait (\w+)", line)[1]
+            return "", re.match(r"(?:pub )?trait (\w+)", line)[1]
         found = OWNER.match(line)
         if found:
-            return found[2] + (found[1] or "")
-    return ""
+            return found[2], found[1] or ""
+    return "", ""
 
 
 def body_of(lines, at, indent):
@@ -65,9 +68,10 @@ def functions_in(crate, file, text):
         if opens is None:
             continue
         closes = next((it for it in range(opens, len(lines)) if lines[it] == head[1] + "}"), opens)
-        owner = [owner_of(lines, at)] if head[1] else []
+        of_type, of_trait = owner_of(lines, at) if head[1] else ("", "")
+        owner = [of_type + of_trait] if head[1] else []
         name = "::".join([crate, *module, *owner, head[2]])
-        found.append(Function(name, file, starts[at], starts[opens + 1] - 1, starts[closes + 1],
+        found.append(Function(name, of_type, of_trait, file, starts[at], starts[opens + 1] - 1, starts[closes + 1],
                               item_at(lines, at) + 1, closes + 1))
     return found
 

@@ -5,7 +5,8 @@ What has to be shown of a function comes from its own body and from the contract
 from another body. So edits of the bodies of different functions stand in one copy of the crate, and one check over the work
 that the crate's own check has kept tries them all. An edit is refused where a goal of its own function is open. That its
 function calls one that is not proved doesn't count: it is then tried in the next round. An edit that changes more than one
-body is tried alone.
+body is tried alone. An edit names the clauses that it turns, in lines `clause: FUNCTION NAME ..`, which the toolchain passes
+over: a goal of each of them has to be open.
 
 usage: edits [NAME ..]         the edits of these names, or of the crates of these names; all, if none is named
        edits --since COMMIT    the edits of functions whose text, definitions or proofs that commit, or one after it, changed
@@ -20,9 +21,14 @@ import tempfile
 import typing
 
 import edit_places
-from kept_crates import crates, keep_work, rt, rtlib, stop
+
+try:
+    from kept_crates import crates, keep_work, rt, rtlib, stop
+except ImportError as why:
+    sys.exit(f"edits.py: {why}: rt must-fail tries the edits one by one")
 
 HEADER = re.compile(r"^(?:\./)?(\S+?):(\d+):\d+: (error|note|warning)\b|^note: (\S+?):(\d+):\d+: |^\S")
+NAMED = re.compile(r"(?m)^clause: (\S+) (.+)$")
 PROOF_FILES = ("Answers.antt", "Invariants.antt", "Proof.antt")
 # Why a goal is open, first what says most of the edit.
 FALSE, OPEN, LIMIT, UNFIT, GONE = WHYS = [
@@ -49,6 +55,7 @@ class Edit:
     path: str
     texts: dict
     why: str
+    clauses: list
     function: edit_places.Function | None = None
     change: tuple = ()
 
@@ -72,7 +79,8 @@ def read(file):
 
 def edit_of(crate, path):
     texts, why = rt.read_edit(path, crate.folder)
-    edit = Edit(crate, path, texts or {}, why or "")
+    clauses = [(function, it) for function, its in NAMED.findall(read(path)) for it in its.split()]
+    edit = Edit(crate, path, texts or {}, why or "", clauses)
     if len(edit.texts) == 1:
         (file, new), = edit.texts.items()
         old = read(f"{crate.folder}/{file}")
@@ -157,11 +165,15 @@ def has_verdict(said):
     return re.search(r"(?m)^logic=(proved|not-proved)", said.rstrip().split("\n")[-1])
 
 
-def told(goals):
-    """Returns what is said of an edit that is refused: its open goals, first those that say most."""
+def refused(edit, goals):
+    """Returns the verdict on an edit for which these goals are open: it tells them, first those that say most."""
+    is_open = {(it.function, re.split(r"[.#]", it.name)[0]) for it in goals}
+    lost = [f"{function} {clause}" for function, clause in edit.clauses if (function, clause) not in is_open]
+    if lost:
+        return Verdict(False, f"NOT REFUSED FOR WHAT IT NAMES: no goal is open of {', '.join(lost)}")
     first = sorted(goals, key=lambda it: WHYS.index(it.why))
     names = dict.fromkeys(f"`{it.name}` ({it.why})" for it in first if it.function == first[0].function)
-    return f"refused, as it must be: {first[0].function}: {', '.join([*names][:MOST])}"
+    return Verdict(True, f"refused, as it must be: {first[0].function}: {', '.join([*names][:MOST])}")
 
 
 def judged(edit, texts, said):
@@ -171,7 +183,7 @@ def judged(edit, texts, said):
         return Verdict(False, f"NOT REFUSED: {edit.function.name} is proved with this edit")
     goals = [it for it in goals_in(edit.crate, texts, said) if it.function == edit.function.name]
     if re.match(r"not proved|no proof", line) and goals:
-        return Verdict(True, told(goals))
+        return refused(edit, goals)
     if re.search(r"it calls|it passes|a call of", line):
         return None
     return Verdict(False, f"NOT JUDGED: {edit.function.name}: {line or 'the check has no line on it'}")
@@ -190,7 +202,7 @@ def tried_alone(edit):
     goals = goals_in(edit.crate, edit.texts, said)
     if not goals:
         return Verdict(False, "NOT JUDGED: no goal is told that is open")
-    return Verdict(True, told(goals))
+    return refused(edit, goals)
 
 
 def tried_together(edits):

@@ -2,7 +2,8 @@
 """Proves everything from nothing, once, tries the edits that must fail over that work, and runs the tests and the program.
 
 It is the toolchain's `rt ci`, with all that this refuses, but for two things: each check takes what this run has proved
-already, and keeps what it proves; and the edits are tried many in one check. The work is kept afterwards.
+already, and keeps what it proves; and the edits are tried many in one check. The work is kept afterwards. Where the toolchain
+is another one, whose `rt` can't have its parts replaced like this, it is `rt ci` itself.
 
 usage: gate
 """
@@ -10,9 +11,15 @@ import os
 import re
 import shutil
 import sys
+import time
 
+os.chdir(os.path.join(os.path.dirname(os.path.realpath(__file__)), ".."))
+try:
+    from kept_crates import keep_work, rt, rtlib
+except ImportError as why:
+    print(f"gate.py: {why}: so this is rt ci alone, which tries each edit by a check of its own", flush=True)
+    os.execvp("rt", ["rt", "ci"])
 import edits
-from kept_crates import keep_work, rt, rtlib
 
 CONTROLS = "scripts/edit_controls"
 # The most that a check of a crate's edits has been seen to take, in bytes, and some more.
@@ -20,38 +27,48 @@ MEMORY_OF_EDITS = 2_000_000_000
 
 
 def in_lanes(run_tasks):
-    """Plans a crate's tests after the crate, whose work they take, its edits with the memory that they need, and its proof,
-    for which all that is above it waits, with nearly all processors, whatever runs beside it."""
+    """Plans a crate's tests after the crate, whose work they take, and its proof, for which all that is above it waits, with
+    nearly all processors, whatever runs beside it."""
     def run(tasks):
         # (the libraries' proofs are kept whole, so that later commands take them)
         rt.Crate.cuts_libraries = False
         most = rt.processors() - 1
-        for (name, kind), (waits, lines, memory, call) in tasks.items():
-            if kind == "proof":
-                tasks[name, kind] = waits, lines, memory, lambda given, jobs, call=call: call(given, max(jobs, most))
-            elif kind == "tests":
-                tasks[name, kind] = [*waits, (name, "proof")], lines, memory, call
-            else:
-                tasks[name, kind] = waits, lines, MEMORY_OF_EDITS, call
+        for key, (waits, lines, memory, call) in tasks.items():
+            if key[1] == "proof":
+                tasks[key] = waits, lines, memory, lambda given, jobs, call=call: call(given, max(jobs, most))
+            elif key[1] == "tests":
+                tasks[key] = [*waits, (key[0], "proof")], lines, memory, call
         return run_tasks(tasks)
     return run
 
 
-def try_edits(crate, paths, _flags):
+def add_edits(tasks, crate, paths, _first, waits, is_well, *_):
+    """Adds the task that tries all edits of a crate, and returns what gives their results, and what gives those of earlier
+    runs: none."""
+    key = crate.name, "edits", 0
+    call = lambda given, _jobs: try_edits(crate, paths) if paths and is_well(given, len(paths)) else []
+    tasks[key] = waits, crate.count(rb"\n"), MEMORY_OF_EDITS, call
+    return lambda given: given[key], dict
+
+
+def try_edits(crate, paths):
     """Tries a crate's edits, and with them the controls: one that is right, and one whose text stands nowhere."""
     edits.remember(crate)
     controls = {f"{CONTROLS}/{crate.name}.edit": "NOT REFUSED", f"{CONTROLS}/stale.edit": "BAD EDIT"}
     verdicts = edits.tried([edits.edit_of(crate, it) for it in [*paths, *controls]])
     wrong = [f"; but {it}: {verdicts[it].said}" for it, said in controls.items() if not verdicts[it].said.startswith(said)]
+    wrong += [f"; but {os.path.relpath(it)} is no edit" for it in rt.edits_of(crate)[1]]
+    kind = lambda path: rt.REFUSED if verdicts[path].refused and not wrong else rt.MISSED
     label = lambda path: f"must-fail {crate.name}/{os.path.basename(path)}"
-    return [(verdicts[it].refused and not wrong, f"{label(it)}: {verdicts[it].said}{''.join(wrong)}") for it in paths]
+    return [(kind(it), f"{label(it)}: {verdicts[it].said}{''.join(wrong)}") for it in paths]
 
 
 class Counts:
-    """What has run, for the last line: `rt ci` counts crates and edits there, and what ran only where it failed."""
+    """What has run, for the last line: `rt ci` counts crates and edits there, and what ran only where it failed. Above that
+    line stands the time that all took."""
 
     def __init__(self, run):
-        self.run, self.passed = run, 0
+        self.run, self.passed, self.start = run, 0, time.monotonic()
 
     def __call__(self, crate, tests, *more):
         well = self.run(crate, tests, *more)
@@ -61,7 +78,11 @@ class Counts:
 
     def print(self, *words, **how):
         last = re.fullmatch(r"(\d+) passed, (\d+) failed", str(words[0])) if words else None
-        print(*([f"{int(last[1]) + self.passed} passed, {last[2]} failed"] if last else words), **how)
+        if last:
+            passed, processors = int(last[1]) + self.passed, sum(os.times()[:4])
+            print(f"gate: {(time.monotonic() - self.start) / 60:.1f} minutes, {processors / 60:.1f} of one processor")
+            words = [f"{passed} passed, {last[2]} failed"]
+        print(*words, **how)
 
 
 def number_of_tests(crate):
@@ -70,13 +91,14 @@ def number_of_tests(crate):
 
 
 def main():
-    os.chdir(os.path.join(os.path.dirname(os.path.realpath(__file__)), ".."))
     for crate in os.listdir("crates"):
         shutil.rmtree(f"crates/{crate}/out", ignore_errors=True)
     keep_work()
     counts = Counts(rt.run)
-    rt.in_lanes, rt.must_fail_all, rt.run, rt.print = in_lanes(rt.in_lanes), try_edits, counts, counts.print
-    return rt.ci()
+    rt.in_lanes, rt.add_edits, rt.run, rt.print = in_lanes(rt.in_lanes), add_edits, counts, counts.print
+    # (what is proved like this is no work of the toolchain's own gate, for later runs of that to take)
+    rt.Kept.keep = lambda *_: None
+    return rt.ci(anew=True)
 
 
 if __name__ == "__main__":

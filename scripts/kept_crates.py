@@ -1,17 +1,29 @@
 """What the scripts that prove use of the toolchain: its command `rt` as a module, and crates whose work is kept.
 
 `rt` has no call for what these scripts need: checks of many edits at once, over the work of one proof. So they take the
-words of its commands, its reading of edits and its refusals from its own file. Where another version of the toolchain has
-not what they use, they stop, and `make test-each` is left, which asks nothing but `rt ci`.
+words of its commands, its reading of edits and its refusals from its own file. Where another toolchain has not what they
+use, importing this fails with an ImportError that says so: `rt ci` asks for nothing of it.
 """
 import importlib.machinery
+import inspect
 import os
 import re
 import shutil
 import sys
 import types
 
-USED = ["Crate", "ci", "in_lanes", "processors", "must_fail_all", "run", "edits_of", "read_edit", "unread"]
+# What is used of `rt`, functions with the names of their first parameters, and of its library.
+CALLED = {
+    "add_edits": ["tasks", "crate", "edits", "first", "waits", "is_well", "kept"],
+    "ci": ["anew"],
+    "edits_of": ["crate"],
+    "in_lanes": ["tasks"],
+    "processors": [],
+    "read_edit": ["edit", "folder"],
+    "run": ["crate", "tests"],
+    "unread": ["line", "changed"],
+}
+USED = ["Crate", "Kept", "KIT", "REFUSED", "MISSED"]
 USED_OF_LIBRARY = ["KEPT", "VERDICT", "PARTS", "RATTLE", "STALE", "TEST", "crates_below", "guarded"]
 
 
@@ -22,16 +34,26 @@ def stop(why):
 
 def load():
     """Returns the toolchain's command as a module."""
-    path = shutil.which("rt") or stop("there is no command rt: this needs the Rattle toolchain")
+    path = shutil.which("rt")
+    if not path:
+        stop("there is no command rt: this needs the Rattle toolchain")
     module = types.ModuleType("rt")
     module.__file__ = path
     sys.dont_write_bytecode = True
     importlib.machinery.SourceFileLoader("rt", path).exec_module(module)
-    lacks = [name for name in USED if not hasattr(module, name)]
+    lacks = [name for name, first in CALLED.items() if not is_called_by(getattr(module, name, None), first)]
+    lacks += [name for name in USED if not hasattr(module, name)]
     lacks += [name for name in USED_OF_LIBRARY if not hasattr(module.rtlib, name)]
+    if not lacks and not module.rtlib.VERDICT.pattern.endswith(r"\n\Z"):
+        lacks = ["the known last line of a check"]
     if lacks:
-        stop(f"this toolchain's rt lacks {', '.join(lacks)}: run make test-each")
+        raise ImportError(f"this toolchain's rt lacks {', '.join(lacks)}, or has another form of it")
     return module
+
+
+def is_called_by(function, first):
+    """Returns whether this is a function whose first parameters have these names."""
+    return callable(function) and [*inspect.signature(function).parameters][: len(first)] == first
 
 
 rt = load()
@@ -62,8 +84,6 @@ class KeptCrate(rt.Crate):
 
 def keep_work():
     """Has the toolchain's commands take crates that keep their work, and has a verdict name that work."""
-    if not rtlib.VERDICT.pattern.endswith(r"\n\Z"):
-        stop("this toolchain's last line of a check is not known: run make test-each")
     rtlib.VERDICT = re.compile(rtlib.VERDICT.pattern[: -len(r"\n\Z")] + r"( incremental=trusted)?\n\Z", re.M)
     rt.Crate = rtlib.Crate = KeptCrate
 
