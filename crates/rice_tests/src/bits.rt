@@ -1,3 +1,4 @@
+use crate::cases::Cases;
 use crate::table::{Columns, bytes_of};
 use rice_bits::{
     BitFault, BitReader, BitSink, FromBufWriter, FromReader, FromWriter, Intake, MemoryIn,
@@ -11,49 +12,56 @@ const PIECES: [usize; 4] = [1, 3, 7, 4096];
 
 #[test]
 fn digits_are_joined(rt: HostRuntime) {
-    assert_eq!(rt; join(0b101, 4, 0b0011), 0b101_0011);
-    assert_eq!(rt; join(0, 8, 7), 7);
+    let mut cases = Cases::new();
+    cases.check(join(0b101, 4, 0b0011) == 0b101_0011);
+    cases.check(join(0, 8, 7) == 7);
+    cases.end(&rt);
 }
 
 #[test]
 fn digits_are_taken(rt: HostRuntime) {
-    assert_eq!(rt; low_digits(0b1011_0110, 5), 0b1_0110);
-    assert_eq!(rt; low_digits(0xFFFF_FFFF, 32), 0xFFFF_FFFF);
-    assert_eq!(rt; low_digits(7, 0), 0);
+    let mut cases = Cases::new();
+    cases.check(low_digits(0b1011_0110, 5) == 0b1_0110);
+    cases.check(low_digits(0xFFFF_FFFF, 32) == 0xFFFF_FFFF);
+    cases.check(low_digits(7, 0) == 0);
+    cases.end(&rt);
 }
 
 #[test]
 fn put_and_pad(rt: HostRuntime) -> Result<(), Fail> {
+    let mut cases = Cases::new();
     let mut sink = BitSink::<8>::new();
     let mut meter = Meter::new();
-    assert_eq!(rt; sink.is_empty(), true);
+    cases.check(sink.is_empty());
     sink.put(0, 4, &mut meter);
-    assert_eq!(rt; sink.is_empty(), false);
+    cases.check(!sink.is_empty());
     sink.put(5, 8, &mut meter);
     sink.put_fs(0, &mut meter);
-    assert_eq!(rt; sink.len(), 13);
-    assert_eq!(rt; sink.room(), 51);
-    assert_eq!(rt; sink.whole(), [0].as_slice());
-    assert_eq!(rt; meter.steps(), 13);
+    cases.check(sink.len() == 13);
+    cases.check(sink.room() == 51);
+    cases.check(sink.whole() == [0].as_slice());
+    cases.check(meter.steps() == 13);
     sink.pad();
-    assert_eq!(rt; sink.whole(), [0, 0x58].as_slice());
-    assert_eq!(rt; meter.steps(), 13);
+    cases.check(sink.whole() == [0, 0x58].as_slice());
+    cases.check(meter.steps() == 13);
     sink.drop_whole();
-    assert_eq!(rt; sink.len(), 0);
+    cases.check(sink.len() == 0);
+    cases.end(&rt);
     Ok(())
 }
 
 #[test]
 fn put_long_words(rt: HostRuntime) -> Result<(), Fail> {
+    let mut cases = Cases::new();
     let mut sink = BitSink::<8>::new();
     let mut meter = Meter::new();
     sink.put(0xA, 4, &mut meter);
     sink.put_long(0x12_3456_789A_BCDE, 56, &mut meter);
-    assert_eq!(rt; sink.len(), 60);
-    assert_eq!(rt; meter.steps(), 60);
+    cases.check(sink.len() == 60);
+    cases.check(meter.steps() == 60);
     sink.pad();
     let expected = [0xA1, 0x23, 0x45, 0x67, 0x89, 0xAB, 0xCD, 0xE0];
-    assert_eq!(rt; sink.whole(), expected.as_slice());
+    cases.check(sink.whole() == expected.as_slice());
 
     let mut sink = BitSink::<8>::new();
     let mut meter = Meter::new();
@@ -61,7 +69,8 @@ fn put_long_words(rt: HostRuntime) -> Result<(), Fail> {
     sink.put_long(0x80_0000_0000_0001, 56, &mut meter);
     sink.pad();
     let expected = [0xAB, 0, 0, 0, 0, 0, 0, 2];
-    assert_eq!(rt; sink.whole(), expected.as_slice());
+    cases.check(sink.whole() == expected.as_slice());
+    cases.end(&rt);
     Ok(())
 }
 
@@ -74,8 +83,10 @@ const WORDS: &str = "0  | A0
 
 #[test]
 fn put_all_words(rt: HostRuntime) -> Result<(), Fail> {
+    let mut cases = Cases::new();
     let words = [0x1234_5678, 0x89AB_CDEF, 0x0F0F_0F0F];
     for line in WORDS.lines() {
+        cases.of_line(line);
         let mut columns = Columns::of(line);
         let width = columns.next().parse::<u32>()?;
         let expected = bytes_of(columns.next(), rt.alloc())?;
@@ -84,23 +95,25 @@ fn put_all_words(rt: HostRuntime) -> Result<(), Fail> {
         let mut meter = Meter::new();
         sink.put(0b1010, 4, &mut meter);
         sink.put_words(&words, width, &mut meter);
-        assert_eq!(rt; sink.len(), 4 + 3 * width as u64, "{line}");
-        assert_eq!(rt; meter.steps(), 4 + 3 * width as u64, "{line}");
+        cases.check(sink.len() == 4 + 3 * width as u64);
+        cases.check(meter.steps() == 4 + 3 * width as u64);
         sink.pad();
-        assert_eq!(rt; sink.whole(), expected.as_slice(), "{line}");
+        cases.check(sink.whole() == expected.as_slice());
     }
+    cases.end(&rt);
     Ok(())
 }
 
 #[test]
 fn put_sequences(rt: HostRuntime) -> Result<(), Fail> {
+    let mut cases = Cases::new();
     let mut sink = BitSink::<2>::new();
     let mut meter = Meter::new();
     sink.put_fs(5, &mut meter);
     sink.put(42, 6, &mut meter);
     sink.pad();
-    assert_eq!(rt; sink.whole(), [0x06, 0xA0].as_slice());
-    assert_eq!(rt; meter.steps(), 12);
+    cases.check(sink.whole() == [0x06, 0xA0].as_slice());
+    cases.check(meter.steps() == 12);
 
     let mut sink = BitSink::<17>::new();
     let mut meter = Meter::new();
@@ -108,186 +121,180 @@ fn put_sequences(rt: HostRuntime) -> Result<(), Fail> {
     sink.pad();
     let mut expected = [0; 17];
     expected[16] = 0x20;
-    assert_eq!(rt; sink.whole(), expected.as_slice());
-    assert_eq!(rt; meter.steps(), 131);
+    cases.check(sink.whole() == expected.as_slice());
+    cases.check(meter.steps() == 131);
+    cases.end(&rt);
     Ok(())
 }
 
 #[test]
 fn read_words_and_sequences(rt: HostRuntime) -> Result<(), Fail> {
+    let mut cases = Cases::new();
     let long = [0, 0, 0, 0, 0, 0, 0, 1, 0xDE, 0xAD, 0xBE, 0xEF];
     for piece in PIECES.iter().copied().filter(|piece| *piece > 0) {
         let mut meter = Meter::new();
         let mut reader = BitReader::new(MemoryIn::new(&[0, 0x58], piece, None));
-        assert_eq!(rt; reader.take(4, &mut meter), Ok(0), "piece {piece}");
-        assert_eq!(rt; reader.take(8, &mut meter), Ok(5), "piece {piece}");
-        assert_eq!(rt; reader.take_fs(&mut meter), Ok(0), "piece {piece}");
+        cases.check(reader.take(4, &mut meter) == Ok(0));
+        cases.check(reader.take(8, &mut meter) == Ok(5));
+        cases.check(reader.take_fs(&mut meter) == Ok(0));
         let end = BitFault::End { blank: false };
-        assert_eq!(rt; reader.take_fs(&mut meter), Err(end), "piece {piece}");
-        assert_eq!(rt; reader.taken(), 16, "piece {piece}");
-        assert_eq!(rt; meter.steps(), 16, "piece {piece}");
+        cases.check(reader.take_fs(&mut meter) == Err(end));
+        cases.check(reader.taken() == 16);
+        cases.check(meter.steps() == 16);
         reader.mark();
-        assert_eq!(rt; reader.take(0, &mut meter), Err(end), "piece {piece}");
+        cases.check(reader.take(0, &mut meter) == Err(end));
 
         let mut meter = Meter::new();
         let mut reader = BitReader::new(MemoryIn::new(&long, piece, None));
-        assert_eq!(rt; reader.take_fs(&mut meter), Ok(63), "piece {piece}");
-        assert_eq!(rt;
-            reader.take(32, &mut meter),
-            Ok(3735928559),
-            "piece {piece}"
-        );
-        assert_eq!(rt; meter.steps(), 96, "piece {piece}");
+        cases.check(reader.take_fs(&mut meter) == Ok(63));
+        cases.check(reader.take(32, &mut meter) == Ok(3735928559));
+        cases.check(meter.steps() == 96);
     }
+    cases.end(&rt);
     Ok(())
 }
 
 #[test]
 fn read_to_the_end(rt: HostRuntime) -> Result<(), Fail> {
+    let mut cases = Cases::new();
     for piece in PIECES.iter().copied().filter(|piece| *piece > 0) {
         let mut meter = Meter::new();
         let mut reader = BitReader::new(MemoryIn::new(&[0, 0x58], piece, None));
-        assert_eq!(rt; reader.take(13, &mut meter), Ok(11), "piece {piece}");
+        cases.check(reader.take(13, &mut meter) == Ok(11));
         reader.mark();
         let blank = BitFault::End { blank: true };
-        assert_eq!(rt; reader.take_fs(&mut meter), Err(blank), "piece {piece}");
+        cases.check(reader.take_fs(&mut meter) == Err(blank));
 
         let mut reader = BitReader::new(MemoryIn::new(&[], piece, None));
-        assert_eq!(rt; reader.take(0, &mut meter), Ok(0), "piece {piece}");
-        assert_eq!(rt; reader.take(1, &mut meter), Err(blank), "piece {piece}");
+        cases.check(reader.take(0, &mut meter) == Ok(0));
+        cases.check(reader.take(1, &mut meter) == Err(blank));
 
         let mut reader = BitReader::new(MemoryIn::new(&[0xFF], piece, Some(0)));
-        assert_eq!(rt;
-            reader.take(1, &mut meter),
-            Err(BitFault::Read),
-            "piece {piece}"
-        );
-        assert_eq!(rt;
-            reader.take(1, &mut meter),
-            Err(BitFault::Read),
-            "piece {piece}"
-        );
-        assert_eq!(rt; reader.into_inner().failures(), 1, "piece {piece}");
+        cases.check(reader.take(1, &mut meter) == Err(BitFault::Read));
+        cases.check(reader.take(1, &mut meter) == Err(BitFault::Read));
+        cases.check(reader.into_inner().failures() == 1);
 
         let long = [0, 0, 0, 0, 0, 0, 0, 0, 0x80];
         let mut reader = BitReader::new(MemoryIn::new(&long, piece, None));
-        assert_eq!(rt; reader.take_fs(&mut meter), Ok(64), "piece {piece}");
+        cases.check(reader.take_fs(&mut meter) == Ok(64));
         reader.mark();
         reader.align(&mut meter);
-        assert_eq!(rt; reader.taken(), 72, "piece {piece}");
-        assert_eq!(rt; reader.take(1, &mut meter), Err(blank), "piece {piece}");
+        cases.check(reader.taken() == 72);
+        cases.check(reader.take(1, &mut meter) == Err(blank));
     }
+    cases.end(&rt);
     Ok(())
 }
 
 #[test]
 fn take_what_waits(rt: HostRuntime) -> Result<(), Fail> {
+    let mut cases = Cases::new();
     let bytes = [0x12, 0x34, 0x56, 0x78, 0x9A, 0xBC, 0xDE, 0xF0, 0x12, 0x34];
     let mut meter = Meter::new();
     let mut reader = BitReader::new(MemoryIn::new(&bytes, 4096, None));
     let mut words = [77; 3];
-    assert_eq!(rt; reader.take_waiting(4, &mut words, &mut meter), 0);
-    assert_eq!(rt; reader.take(8, &mut meter), Ok(0x12));
-    assert_eq!(rt; reader.take_waiting(4, &mut words, &mut meter), 3);
-    assert_eq!(rt; words, [3, 4, 5]);
-    assert_eq!(rt; (reader.taken(), meter.steps()), (20, 20));
+    cases.check(reader.take_waiting(4, &mut words, &mut meter) == 0);
+    cases.check(reader.take(8, &mut meter) == Ok(0x12));
+    cases.check(reader.take_waiting(4, &mut words, &mut meter) == 3);
+    cases.check(words == [3, 4, 5]);
+    cases.check((reader.taken(), meter.steps()) == (20, 20));
 
     // 0x18 is 00011, 000 and then zeros.
     let bytes = [0x80, 0x18, 0, 0, 0, 0, 0, 0, 0, 1];
     let mut meter = Meter::new();
     let mut reader = BitReader::new(MemoryIn::new(&bytes, 4096, None));
     let mut zeros = [77; 4];
-    assert_eq!(rt; reader.take_waiting_fs(&mut zeros, &mut meter), 0);
-    assert_eq!(rt; reader.take_fs(&mut meter), Ok(0));
-    assert_eq!(rt; reader.take_waiting_fs(&mut zeros, &mut meter), 2);
-    assert_eq!(rt; zeros, [10, 0, 77, 77]);
-    assert_eq!(rt; (reader.taken(), meter.steps()), (13, 13));
-    assert_eq!(rt; reader.take_fs(&mut meter), Ok(66));
+    cases.check(reader.take_waiting_fs(&mut zeros, &mut meter) == 0);
+    cases.check(reader.take_fs(&mut meter) == Ok(0));
+    cases.check(reader.take_waiting_fs(&mut zeros, &mut meter) == 2);
+    cases.check(zeros == [10, 0, 77, 77]);
+    cases.check((reader.taken(), meter.steps()) == (13, 13));
+    cases.check(reader.take_fs(&mut meter) == Ok(66));
+    cases.end(&rt);
     Ok(())
 }
 
 #[test]
 fn take_parts_that_wait(rt: HostRuntime) -> Result<(), Fail> {
+    let mut cases = Cases::new();
     // After 1001, the sequences 1 01 1 001 1 1 01 1, and then words of three digits.
     let bytes = [0x9B, 0x3B, 0xAB, 0x83, 0x9C];
     let mut meter = Meter::new();
     let mut reader = BitReader::new(MemoryIn::new(&bytes, 4096, None));
     let mut numbers = [77; 8];
-    assert_eq!(rt;
-        reader.take_waiting_parts(3, &mut numbers, &mut meter),
-        false
-    );
-    assert_eq!(rt; reader.take(4, &mut meter), Ok(9));
-    assert_eq!(rt;
-        reader.take_waiting_parts(3, &mut numbers, &mut meter),
-        true
-    );
-    assert_eq!(rt; numbers, [5, 10, 7, 16, 1, 6, 11, 4]);
-    assert_eq!(rt; (reader.taken(), meter.steps()), (40, 40));
+    cases.check(!reader.take_waiting_parts(3, &mut numbers, &mut meter));
+    cases.check(reader.take(4, &mut meter) == Ok(9));
+    cases.check(reader.take_waiting_parts(3, &mut numbers, &mut meter));
+    cases.check(numbers == [5, 10, 7, 16, 1, 6, 11, 4]);
+    cases.check((reader.taken(), meter.steps()) == (40, 40));
+    cases.end(&rt);
     Ok(())
 }
 
 #[test]
 fn align_passes_ones(rt: HostRuntime) -> Result<(), Fail> {
+    let mut cases = Cases::new();
     let mut meter = Meter::new();
     let mut reader = BitReader::new(MemoryIn::new(&[0x1F, 0], 4096, None));
-    assert_eq!(rt; reader.take(3, &mut meter), Ok(0));
+    cases.check(reader.take(3, &mut meter) == Ok(0));
     reader.align(&mut meter);
-    assert_eq!(rt; meter.steps(), 8);
-    assert_eq!(rt;
-        reader.take_fs(&mut meter),
-        Err(BitFault::End { blank: true })
-    );
+    cases.check(meter.steps() == 8);
+    cases.check(reader.take_fs(&mut meter) == Err(BitFault::End { blank: true }));
+    cases.end(&rt);
     Ok(())
 }
 
 #[test]
 fn devices_over_memory(rt: HostRuntime) -> Result<(), Fail> {
+    let mut cases = Cases::new();
     let mut buffer = [0xAA; 4];
     let mut intake = MemoryIn::new(&[1, 2, 3], 2, Some(3));
-    assert_eq!(rt; intake.fill(&mut buffer), Ok(2));
-    assert_eq!(rt; buffer, [1, 2, 0xAA, 0xAA]);
-    assert_eq!(rt; intake.fill(&mut buffer), Ok(1));
-    assert_eq!(rt; intake.fill(&mut buffer), Err(ReadFault));
-    assert_eq!(rt; intake.failures(), 1);
+    cases.check(intake.fill(&mut buffer) == Ok(2));
+    cases.check(buffer == [1, 2, 0xAA, 0xAA]);
+    cases.check(intake.fill(&mut buffer) == Ok(1));
+    cases.check(intake.fill(&mut buffer) == Err(ReadFault));
+    cases.check(intake.failures() == 1);
 
     let mut zeros = ZeroIn::new(5);
-    assert_eq!(rt; zeros.fill(&mut buffer), Ok(4));
-    assert_eq!(rt; buffer, [0, 0, 0, 0]);
-    assert_eq!(rt; zeros.fill(&mut buffer), Ok(1));
-    assert_eq!(rt; zeros.fill(&mut buffer), Ok(0));
-    assert_eq!(rt; zeros.failures(), 0);
+    cases.check(zeros.fill(&mut buffer) == Ok(4));
+    cases.check(buffer == [0, 0, 0, 0]);
+    cases.check(zeros.fill(&mut buffer) == Ok(1));
+    cases.check(zeros.fill(&mut buffer) == Ok(0));
+    cases.check(zeros.failures() == 0);
 
     let mut room = [0; 4];
     let mut outlet = MemoryOut::new(&mut room, 2, Some(3));
-    assert_eq!(rt; outlet.put(&[7, 8, 9]), Ok(2));
-    assert_eq!(rt; outlet.put(&[9, 10]), Ok(1));
-    assert_eq!(rt; outlet.put(&[10]), Err(WriteFault));
-    assert_eq!(rt; outlet.failures(), 1);
-    assert_eq!(rt; outlet.written(), [7, 8, 9].as_slice());
+    cases.check(outlet.put(&[7, 8, 9]) == Ok(2));
+    cases.check(outlet.put(&[9, 10]) == Ok(1));
+    cases.check(outlet.put(&[10]) == Err(WriteFault));
+    cases.check(outlet.failures() == 1);
+    cases.check(outlet.written() == [7, 8, 9].as_slice());
+    cases.end(&rt);
     Ok(())
 }
 
 #[test]
 fn devices_over_slices(rt: HostRuntime) -> Result<(), Fail> {
+    let mut cases = Cases::new();
     let mut buffer = [0xAA; 4];
     let mut intake = SliceIn::new(&[1, 2, 3, 4, 5, 6]);
-    assert_eq!(rt; intake.fill(&mut buffer), Ok(4));
-    assert_eq!(rt; buffer, [1, 2, 3, 4]);
-    assert_eq!(rt; intake.fill(&mut buffer), Ok(2));
-    assert_eq!(rt; buffer, [5, 6, 3, 4]);
-    assert_eq!(rt; intake.fill(&mut buffer), Ok(0));
-    assert_eq!(rt; intake.failures(), 0);
+    cases.check(intake.fill(&mut buffer) == Ok(4));
+    cases.check(buffer == [1, 2, 3, 4]);
+    cases.check(intake.fill(&mut buffer) == Ok(2));
+    cases.check(buffer == [5, 6, 3, 4]);
+    cases.check(intake.fill(&mut buffer) == Ok(0));
+    cases.check(intake.failures() == 0);
 
     let mut room = [0; 4];
     let mut outlet = SliceOut::new(&mut room);
-    assert_eq!(rt; outlet.put(&[7, 8, 9]), Ok(3));
-    assert_eq!(rt; outlet.put(&[10, 11]), Ok(1));
-    assert_eq!(rt; outlet.put(&[11]), Err(WriteFault));
-    assert_eq!(rt; outlet.taken(), 4);
-    assert_eq!(rt; outlet.failures(), 1);
+    cases.check(outlet.put(&[7, 8, 9]) == Ok(3));
+    cases.check(outlet.put(&[10, 11]) == Ok(1));
+    cases.check(outlet.put(&[11]) == Err(WriteFault));
+    cases.check(outlet.taken() == 4);
+    cases.check(outlet.failures() == 1);
     drop(outlet);
-    assert_eq!(rt; room, [7, 8, 9, 10]);
+    cases.check(room == [7, 8, 9, 10]);
+    cases.end(&rt);
     Ok(())
 }
 
@@ -335,71 +342,70 @@ impl Write for FailingWriter {
 
 #[test]
 fn devices_over_readers(rt: HostRuntime) -> Result<(), Fail> {
+    let mut cases = Cases::new();
     let bytes: &[u8] = &[0, 0x58];
     let mut meter = Meter::new();
     let mut reader = BitReader::new(FromReader::new(bytes));
-    assert_eq!(rt; reader.take(12, &mut meter), Ok(5));
-    assert_eq!(rt; reader.take_fs(&mut meter), Ok(0));
-    assert_eq!(rt;
-        reader.take_fs(&mut meter),
-        Err(BitFault::End { blank: false })
-    );
+    cases.check(reader.take(12, &mut meter) == Ok(5));
+    cases.check(reader.take_fs(&mut meter) == Ok(0));
+    cases.check(reader.take_fs(&mut meter) == Err(BitFault::End { blank: false }));
 
     let mut meter = Meter::new();
     let mut reader = BitReader::new(FromReader::new(FailingReader { bytes_before: 2 }));
-    assert_eq!(rt; reader.take(12, &mut meter), Ok(0xF0F));
-    assert_eq!(rt; reader.take(8, &mut meter), Err(BitFault::Read));
-    assert_eq!(rt; meter.steps(), 16);
-    assert_eq!(rt; reader.take_fs(&mut meter), Err(BitFault::Read));
-    assert_eq!(rt; reader.into_inner().failures(), 1);
+    cases.check(reader.take(12, &mut meter) == Ok(0xF0F));
+    cases.check(reader.take(8, &mut meter) == Err(BitFault::Read));
+    cases.check(meter.steps() == 16);
+    cases.check(reader.take_fs(&mut meter) == Err(BitFault::Read));
+    cases.check(reader.into_inner().failures() == 1);
+    cases.end(&rt);
     Ok(())
 }
 
 #[test]
 fn devices_over_writers(rt: HostRuntime) -> Result<(), Fail> {
+    let mut cases = Cases::new();
     let mut outlet = FromWriter::new(FailingWriter { bytes_before: 2 });
-    assert_eq!(rt; outlet.put(&[1, 2, 3]), Ok(1));
-    assert_eq!(rt; outlet.put(&[2, 3]), Ok(1));
-    assert_eq!(rt; outlet.put(&[3]), Err(WriteFault));
-    assert_eq!(rt; outlet.failures(), 1);
-    assert_eq!(rt; outlet.put(&[3]), Ok(1));
-    assert_eq!(rt; outlet.failures(), 1);
+    cases.check(outlet.put(&[1, 2, 3]) == Ok(1));
+    cases.check(outlet.put(&[2, 3]) == Ok(1));
+    cases.check(outlet.put(&[3]) == Err(WriteFault));
+    cases.check(outlet.failures() == 1);
+    cases.check(outlet.put(&[3]) == Ok(1));
+    cases.check(outlet.failures() == 1);
 
     // A slice that is full takes nothing, and says so by 0.
     let mut room = [0; 2];
     let mut outlet = FromWriter::new(&mut room[..]);
-    assert_eq!(rt; outlet.put(&[1, 2, 3]), Ok(2));
-    assert_eq!(rt; outlet.put(&[3]), Err(WriteFault));
-    assert_eq!(rt; outlet.failures(), 1);
+    cases.check(outlet.put(&[1, 2, 3]) == Ok(2));
+    cases.check(outlet.put(&[3]) == Err(WriteFault));
+    cases.check(outlet.failures() == 1);
     drop(outlet);
-    assert_eq!(rt; room, [1, 2]);
+    cases.check(room == [1, 2]);
+    cases.end(&rt);
     Ok(())
 }
 
 #[test]
 fn devices_over_buffers(rt: HostRuntime) -> Result<(), Fail> {
+    let mut cases = Cases::new();
     let behind = FailingWriter { bytes_before: 10 };
     let mut outlet = FromBufWriter::new(BufWriter::with_capacity(rt.alloc(), 4, behind)?);
-    assert_eq!(rt; outlet.put(&[1, 2]), Ok(2));
-    assert_eq!(rt; outlet.put(&[3, 4, 5]), Ok(3));
-    assert_eq!(rt; outlet.put(&[6]), Ok(1));
-    assert_eq!(rt; outlet.failures(), 0);
+    cases.check(outlet.put(&[1, 2]) == Ok(2));
+    cases.check(outlet.put(&[3, 4, 5]) == Ok(3));
+    cases.check(outlet.put(&[6]) == Ok(1));
+    cases.check(outlet.failures() == 0);
     let waiting = outlet.into_inner();
-    assert_eq!(rt; waiting.buffer(), [3, 4, 5, 6].as_slice());
+    cases.check(waiting.buffer() == [3, 4, 5, 6].as_slice());
+    cases.end(&rt);
     Ok(())
 }
 
 #[test]
 fn fault_texts(rt: HostRuntime) -> Result<(), Fail> {
-    assert_eq!(rt; ReadFault.to_string(rt.alloc())?.as_str(), "read failed");
-    assert_eq!(rt; WriteFault.to_string(rt.alloc())?.as_str(), "write failed");
-    assert_eq!(rt;
-        BitFault::Read.to_string(rt.alloc())?.as_str(),
-        "read failed"
-    );
-    assert_eq!(rt;
-        BitFault::TooLong.to_string(rt.alloc())?.as_str(),
-        "input is too long"
-    );
+    let mut cases = Cases::new();
+    cases.check(ReadFault.to_string(rt.alloc())?.as_str() == "read failed");
+    cases.check(WriteFault.to_string(rt.alloc())?.as_str() == "write failed");
+    cases.check(BitFault::Read.to_string(rt.alloc())?.as_str() == "read failed");
+    cases.check(BitFault::TooLong.to_string(rt.alloc())?.as_str() == "input is too long");
+    cases.end(&rt);
     Ok(())
 }

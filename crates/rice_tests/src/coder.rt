@@ -1,6 +1,7 @@
 ghost use Rattle.std.specs.Prelude.{◌≡◌, ℕ, ◌<◌, ◌≤◌, true, All, length};
 ghost use Rattle.rice_samples.specs.Parameters.{value_count};
 
+use crate::cases::Cases;
 use crate::table::{Columns, bytes_of, number_of, samples_of, setting_of};
 use rice_bits::{BitSink, Meter};
 use rice_code::{Coder, bit_bound, padded_bound, step_bound};
@@ -111,6 +112,7 @@ fn push_some(
 /// Codes samples as `code` does, several at a time.
 fn code_some(
     rt: &impl Abort,
+    cases: &mut Cases<'_>,
     alloc: Global,
     setting: Setting,
     samples: &[i64],
@@ -130,10 +132,10 @@ fn code_some(
         bytes.extend_from_slice(sink.whole())?;
         sink.drop_whole();
     }
-    assert_eq!(rt; taken, levels.len());
+    cases.check(taken == levels.len());
     assert!(rt; meter.steps() < 1 << 61);
     coder.finish_reset(&mut sink, &mut meter);
-    assert_eq!(rt; coder.pending(), 0);
+    cases.check(coder.pending() == 0);
     let bits = (bytes.len() as u64)
         .saturating_mul(8)
         .saturating_add(sink.len());
@@ -178,51 +180,50 @@ const CODES: &str = "       | 0 1 2 3 4 5 6 7         | 20092492      | 31
 
 #[test]
 fn samples_are_coded(rt: HostRuntime) -> Result<(), Fail> {
+    let mut cases = Cases::new();
     for line in CODES.lines() {
+        cases.of_line(line);
         let mut columns = Columns::of(line);
         let setting = setting_of(columns.next())?;
         let samples = samples_of(columns.next(), rt.alloc())?;
         let bytes = bytes_of(columns.next(), rt.alloc())?;
         let bits = number_of(columns.next())?;
         let coded = code(&rt, rt.alloc(), setting, samples.as_slice())?;
-        assert_eq!(rt; coded.bytes.as_slice(), bytes.as_slice(), "{line}");
-        assert_eq!(rt; Some(coded.bits), bits, "{line}");
-        let at_once = code_some(&rt, rt.alloc(), setting, samples.as_slice())?;
-        assert_eq!(rt; at_once.bytes.as_slice(), bytes.as_slice(), "{line}");
-        assert_eq!(rt;
-            (at_once.bits, at_once.steps),
-            (coded.bits, coded.steps),
-            "{line}"
-        );
+        cases.check(coded.bytes.as_slice() == bytes.as_slice());
+        cases.check(Some(coded.bits) == bits);
+        let at_once = code_some(&rt, &mut cases, rt.alloc(), setting, samples.as_slice())?;
+        cases.check(at_once.bytes.as_slice() == bytes.as_slice());
+        cases.check((at_once.bits, at_once.steps) == (coded.bits, coded.steps));
     }
+    cases.end(&rt);
     Ok(())
 }
 
 #[test]
 fn pending_samples(rt: HostRuntime) -> Result<(), Fail> {
+    let mut cases = Cases::new();
     let setting = setting_of("")?;
     let mut coder = Coder::new(setting);
     let mut sink = BitSink::new();
     let mut meter = Meter::new();
     for waiting in 0..16u32 {
-        assert_eq!(rt; (coder.pending(), sink.len()), (waiting, 0));
+        cases.check((coder.pending(), sink.len()) == (waiting, 0));
         push(&rt, &setting, &mut coder, 5, &mut sink, &mut meter)?;
     }
-    assert_eq!(rt; (coder.pending(), sink.len()), (0, 14));
+    cases.check((coder.pending(), sink.len()) == (0, 14));
+    cases.end(&rt);
     Ok(())
 }
 
 #[test]
 fn steps(rt: HostRuntime) -> Result<(), Fail> {
+    let mut cases = Cases::new();
     let mut late = [0; 64];
     late[63] = 1;
     let coded = code(&rt, rt.alloc(), setting_of("n32 j64 N")?, &late)?;
-    assert_eq!(rt;
-        coded.bytes.as_slice(),
-        [0x07, 0xFF, 0xFF, 0xFF, 0xF9].as_slice()
-    );
-    assert_eq!(rt; coded.bits, 40);
-    assert!(rt; 295 <= coded.steps && coded.steps <= 528);
+    cases.check(coded.bytes.as_slice() == [0x07, 0xFF, 0xFF, 0xFF, 0xF9].as_slice());
+    cases.check(coded.bits == 40);
+    cases.check(295 <= coded.steps && coded.steps <= 528);
 
     // 64 blocks of 2,053 bits each, the best split of which is the greatest
     let mut far = [0; 4096];
@@ -231,24 +232,24 @@ fn steps(rt: HostRuntime) -> Result<(), Fail> {
     }
     let widest = setting_of("n32 j64 r64")?;
     let coded = code(&rt, rt.alloc(), widest, &far)?;
-    assert_eq!(rt; coded.bits, 131392);
-    assert!(rt; 266496 <= coded.steps && coded.steps <= 274752);
-    assert_eq!(rt; step_bound(&widest, 4096), 274752);
+    cases.check(coded.bits == 131392);
+    cases.check(266496 <= coded.steps && coded.steps <= 274752);
+    cases.check(step_bound(&widest, 4096) == 274752);
+    cases.end(&rt);
     Ok(())
 }
 
 #[test]
 fn bounds(rt: HostRuntime) -> Result<(), Fail> {
+    let mut cases = Cases::new();
     let small = setting_of("r1")?;
-    assert_eq!(rt; (bit_bound(&small, 0), step_bound(&small, 0)), (0, 0));
-    assert_eq!(rt; (bit_bound(&small, 8), step_bound(&small, 8)), (67, 155));
-    assert_eq!(rt; (bit_bound(&small, 9), step_bound(&small, 9)), (134, 310));
-    assert_eq!(rt;
-        (bit_bound(&small, 16), padded_bound(&small, 16)),
-        (134, 134)
-    );
-    assert_eq!(rt; padded_bound(&setting_of("p r1")?, 16), 148);
+    cases.check((bit_bound(&small, 0), step_bound(&small, 0)) == (0, 0));
+    cases.check((bit_bound(&small, 8), step_bound(&small, 8)) == (67, 155));
+    cases.check((bit_bound(&small, 9), step_bound(&small, 9)) == (134, 310));
+    cases.check((bit_bound(&small, 16), padded_bound(&small, 16)) == (134, 134));
+    cases.check(padded_bound(&setting_of("p r1")?, 16) == 148);
     let wide = setting_of("n32 j64")?;
-    assert_eq!(rt; (bit_bound(&wide, 64), step_bound(&wide, 64)), (2053, 4293));
+    cases.check((bit_bound(&wide, 64), step_bound(&wide, 64)) == (2053, 4293));
+    cases.end(&rt);
     Ok(())
 }

@@ -1,12 +1,12 @@
 ghost use Rattle.std.specs.Prelude.{◌+◌, ◌^◌, ◌<◌};
 
+use crate::cases::Cases;
 use crate::table::{Columns, bytes_of, number_of, samples_of, setting_of};
 use arrayvec::ArrayVec;
 use rice_bits::{BitReader, Intake, MemoryIn, Meter};
 use rice_code::{CodeFault, Decoder, Step};
 use rice_samples::Setting;
 use std::alloc::Global;
-use std::process::Abort;
 use std::test::Fail;
 
 /// What a decoder gave until it stopped.
@@ -20,7 +20,7 @@ struct Seen {
 
 /// Decodes to the end, and asks once more, which changes nothing.
 fn decode<I: Intake + Drop>(
-    rt: &impl Abort,
+    cases: &mut Cases<'_>,
     alloc: Global,
     setting: Setting,
     intake: I,
@@ -35,19 +35,16 @@ fn decode<I: Intake + Drop>(
     for _ in 0..2000 {
         let answer = decoder.next_block(&mut reader, &mut meter, &mut block);
         if answer != Ok(Step::Block) {
-            assert!(rt; block.is_empty());
+            cases.check(block.is_empty());
             let seen = Seen {
                 samples,
                 answer,
                 bits: reader.taken(),
                 steps: meter.steps(),
             };
-            assert_eq!(rt;
-                decoder.next_block(&mut reader, &mut meter, &mut block),
-                answer
-            );
-            assert_eq!(rt; (reader.taken(), meter.steps()), (seen.bits, seen.steps));
-            assert!(rt; block.is_empty());
+            cases.check(decoder.next_block(&mut reader, &mut meter, &mut block) == answer);
+            cases.check((reader.taken(), meter.steps()) == (seen.bits, seen.steps));
+            cases.check(block.is_empty());
             return Ok(seen);
         }
         samples.extend_from_slice(block.as_slice())?;
@@ -57,7 +54,7 @@ fn decode<I: Intake + Drop>(
 
 /// Decodes the bytes of a line of the table, in pieces of several sizes: the options, the bytes, the samples, how that ends,
 /// and how many bits are taken.
-fn decodes_line(rt: &impl Abort, alloc: Global, line: &str) -> Result<(), Fail> {
+fn decodes_line(cases: &mut Cases<'_>, alloc: Global, line: &str) -> Result<(), Fail> {
     let mut columns = Columns::of(line);
     let setting = setting_of(columns.next())?;
     let bytes = bytes_of(columns.next(), alloc)?;
@@ -67,12 +64,11 @@ fn decodes_line(rt: &impl Abort, alloc: Global, line: &str) -> Result<(), Fail> 
     for piece in [1, 3, 4096] {
         if piece > 0 {
             let intake = MemoryIn::new(bytes.as_slice(), piece, None);
-            let seen = decode(rt, alloc, setting, intake)?;
-            assert_eq!(rt; seen.samples.as_slice(), samples.as_slice(), "{line}");
-            assert_eq!(rt; seen.answer, answer, "{line}");
-            assert_eq!(rt; Some(seen.bits), bits, "{line}");
-            assert!(rt; seen.bits <= seen.steps);
-            assert!(rt; seen.steps <= seen.bits.saturating_mul(2));
+            let seen = decode(cases, alloc, setting, intake)?;
+            cases.check(seen.samples.as_slice() == samples.as_slice());
+            cases.check(seen.answer == answer);
+            cases.check(Some(seen.bits) == bits);
+            cases.check(seen.bits <= seen.steps && seen.steps <= seen.bits.saturating_mul(2));
         }
     }
     Ok(())
@@ -135,71 +131,68 @@ const CODES: &str =
 
 #[test]
 fn codes_are_decoded(rt: HostRuntime) -> Result<(), Fail> {
+    let mut cases = Cases::new();
     for line in CODES.lines() {
-        decodes_line(&rt, rt.alloc(), line)?;
+        cases.of_line(line);
+        decodes_line(&mut cases, rt.alloc(), line)?;
     }
+    cases.end(&rt);
     Ok(())
 }
 
 /// A run is held as a number: the samples of it that are still to come.
 #[test]
 fn waiting_samples(rt: HostRuntime) -> Result<(), Fail> {
+    let mut cases = Cases::new();
     let mut reader = BitReader::new(MemoryIn::new(&[0x00, 0x00, 0x80], 4096, None));
     let mut decoder = Decoder::new(setting_of("")?);
     let mut meter = Meter::new();
     let mut block = ArrayVec::new();
-    assert_eq!(rt; decoder.waiting(), 0);
-    assert_eq!(rt;
-        decoder.next_block(&mut reader, &mut meter, &mut block),
-        Ok(Step::Block)
-    );
-    assert_eq!(rt; decoder.waiting(), 8);
-    assert_eq!(rt; decoder.is_in_run(), true);
-    assert_eq!(rt;
-        decoder.next_block(&mut reader, &mut meter, &mut block),
-        Ok(Step::Block)
-    );
-    assert_eq!(rt; decoder.waiting(), 0);
-    assert_eq!(rt; decoder.is_in_run(), false);
-    assert_eq!(rt; meter.steps(), 17);
+    cases.check(decoder.waiting() == 0);
+    cases.check(decoder.next_block(&mut reader, &mut meter, &mut block) == Ok(Step::Block));
+    cases.check(decoder.waiting() == 8);
+    cases.check(decoder.is_in_run());
+    cases.check(decoder.next_block(&mut reader, &mut meter, &mut block) == Ok(Step::Block));
+    cases.check(decoder.waiting() == 0);
+    cases.check(!decoder.is_in_run());
+    cases.check(meter.steps() == 17);
+    cases.end(&rt);
     Ok(())
 }
 
 /// A run's next block is passed over where its samples are known.
 #[test]
 fn repeated_samples(rt: HostRuntime) -> Result<(), Fail> {
+    let mut cases = Cases::new();
     let mut reader = BitReader::new(MemoryIn::new(&[0x00, 0x00, 0x80], 4096, None));
     let mut decoder = Decoder::new(setting_of("")?);
     let mut meter = Meter::new();
     let mut levels = ArrayVec::new();
-    assert_eq!(rt; decoder.repeats(&[0; 8]), false);
-    assert_eq!(rt;
-        decoder.next_levels(&mut reader, &mut meter, &mut levels),
-        Ok(Step::Block)
-    );
-    assert_eq!(rt; levels.as_slice(), [0; 8].as_slice());
-    assert_eq!(rt; decoder.repeats(&[0, 0, 0, 0, 0, 0, 0, 1]), false);
+    cases.check(!decoder.repeats(&[0; 8]));
+    cases.check(decoder.next_levels(&mut reader, &mut meter, &mut levels) == Ok(Step::Block));
+    cases.check(levels.as_slice() == [0; 8].as_slice());
+    cases.check(!decoder.repeats(&[0, 0, 0, 0, 0, 0, 0, 1]));
     if decoder.repeats(levels.as_slice()) {
         decoder.repeat_block();
     }
-    assert_eq!(rt; decoder.waiting(), 0);
-    assert_eq!(rt; decoder.repeats(levels.as_slice()), false);
-    assert_eq!(rt; meter.steps(), 17);
+    cases.check(decoder.waiting() == 0);
+    cases.check(!decoder.repeats(levels.as_slice()));
+    cases.check(meter.steps() == 17);
+    cases.end(&rt);
     Ok(())
 }
 
 /// Of the search for the sum of a pair each turn is a step.
 #[test]
 fn steps_of_second_extension(rt: HostRuntime) -> Result<(), Fail> {
+    let mut cases = Cases::new();
     let mut reader = BitReader::new(MemoryIn::new(&[0x1E, 0x40], 4096, None));
     let mut decoder = Decoder::new(setting_of("N")?);
     let mut meter = Meter::new();
     let mut block = ArrayVec::new();
-    assert_eq!(rt;
-        decoder.next_block(&mut reader, &mut meter, &mut block),
-        Ok(Step::Block)
-    );
-    assert_eq!(rt; reader.taken(), 10);
-    assert_eq!(rt; meter.steps(), 11);
+    cases.check(decoder.next_block(&mut reader, &mut meter, &mut block) == Ok(Step::Block));
+    cases.check(reader.taken() == 10);
+    cases.check(meter.steps() == 11);
+    cases.end(&rt);
     Ok(())
 }

@@ -6,12 +6,14 @@
 #[cfg(test)]
 mod bits;
 #[cfg(test)]
+mod cases;
+#[cfg(test)]
 mod coder;
 #[cfg(test)]
 mod decoder;
 #[cfg(test)]
-mod samples;
+mod failing_devices;
 #[cfg(test)]
-mod stream;
+mod samples;
 #[cfg(test)]
 mod table;

@@ -1,5 +1,6 @@
 ghost use Rattle.std.specs.Prelude.{◌≡◌, ◌<◌, true, All};
 
+use crate::cases::Cases;
 use crate::table::{self, Columns, answer_to, bytes_of, setting_of};
 use rice_bits::{BitSink, Meter};
 use rice_samples::{
@@ -24,12 +25,15 @@ const REFUSED: &str = "n0         | bits per sample must be 1 to 32
 
 #[test]
 fn settings_are_refused_in_order(rt: HostRuntime) -> Result<(), Fail> {
+    let mut cases = Cases::new();
     for line in REFUSED.lines() {
+        cases.of_line(line);
         let mut columns = Columns::of(line);
         let fault = answer_to(columns.next())?.expect_err(&rt, "a refusal");
         let printed = format!(in rt.alloc(); "{fault}")?;
-        assert_eq!(rt; printed.as_str(), columns.next());
+        cases.check(printed.as_str() == columns.next());
     }
+    cases.end(&rt);
     Ok(())
 }
 
@@ -45,23 +49,27 @@ const GETTERS: &str = "1  | 3 | 5  | 1
 
 #[test]
 fn getters(rt: HostRuntime) -> Result<(), Fail> {
+    let mut cases = Cases::new();
     for line in GETTERS.lines() {
+        cases.of_line(line);
         let mut columns = Columns::of(line);
         let bits = columns.next().parse::<u32>()?;
         let setting = Setting::new(bits, 16, 130, true, true, false, true, true)?;
-        assert_eq!(rt; setting.bits(), bits);
-        assert_eq!(rt; setting.block(), 16);
-        assert_eq!(rt; setting.interval(), 130);
-        assert_eq!(rt; setting.id_len(), columns.next().parse::<u32>()?, "{line}");
-        assert_eq!(rt; setting.k_max(), columns.next().parse::<u32>()?, "{line}");
-        assert_eq!(rt; setting.width(), columns.next().parse::<u32>()?, "{line}");
-        assert!(rt; setting.preprocess() && setting.pads());
+        cases.check(setting.bits() == bits);
+        cases.check(setting.block() == 16);
+        cases.check(setting.interval() == 130);
+        cases.check(setting.id_len() == columns.next().parse::<u32>()?);
+        cases.check(setting.k_max() == columns.next().parse::<u32>()?);
+        cases.check(setting.width() == columns.next().parse::<u32>()?);
+        cases.check(setting.preprocess() && setting.pads());
     }
+    cases.end(&rt);
     Ok(())
 }
 
 #[test]
 fn places(rt: HostRuntime) {
+    let mut cases = Cases::new();
     let setting = Setting::new(8, 8, 130, false, false, false, true, false).expect(
         &rt,
         "a legal setting",
@@ -75,17 +83,16 @@ fn places(rt: HostRuntime) {
         (130, 64, 64),
     ];
     for (block, blocks, left) in table {
-        assert_eq!(rt; setting.segment_blocks(block), blocks, "at {block}");
-        assert_eq!(rt; setting.blocks_left(block), left, "at {block}");
-        assert_eq!(rt; setting.is_reference(block), block % 130 == 0, "at {block}");
+        cases.check(setting.segment_blocks(block) == blocks);
+        cases.check(setting.blocks_left(block) == left);
+        cases.check(setting.is_reference(block) == (block % 130 == 0));
     }
     let plain = Setting::new(8, 8, 130, false, false, false, false, false).expect(
         &rt,
         "a legal setting",
     );
-    assert!(rt; !plain.is_reference(0));
-    assert!(rt; !plain.preprocess());
-    assert!(rt; !plain.pads());
+    cases.check(!plain.is_reference(0) && !plain.preprocess() && !plain.pads());
+    cases.end(&rt);
 }
 
 /// The options, the bytes of a sample, and the sample, where there is one.
@@ -108,23 +115,26 @@ const SPELLINGS: &str = "n10       | FF03     | 1023
 
 #[test]
 fn samples_are_spelled(rt: HostRuntime) -> Result<(), Fail> {
+    let mut cases = Cases::new();
     for line in SPELLINGS.lines() {
+        cases.of_line(line);
         let mut columns = Columns::of(line);
         let setting = setting_of(columns.next())?;
         let bytes = bytes_of(columns.next(), rt.alloc())?;
         let bytes = bytes.as_slice();
         let sample = sample_in(columns.next())?;
-        assert_eq!(rt; bytes.len(), setting.width() as usize, "{line}");
+        cases.check(bytes.len() == setting.width() as usize);
         if bytes.len() == setting.width() as usize {
-            assert_eq!(rt; sample_of(&setting, bytes), sample, "{line}");
+            cases.check(sample_of(&setting, bytes) == sample);
         }
         if let Some(x) = sample {
             assert!(rt; setting.in_range(x));
             if setting.in_range(x) {
-                assert_eq!(rt; bytes_of_sample(&setting, x).as_slice(), bytes);
+                cases.check(bytes_of_sample(&setting, x).as_slice() == bytes);
             }
         }
     }
+    cases.end(&rt);
     Ok(())
 }
 
@@ -148,7 +158,9 @@ const PATTERNS: &str = "n10 s | -512        | 512        | 0
 
 #[test]
 fn patterns(rt: HostRuntime) -> Result<(), Fail> {
+    let mut cases = Cases::new();
     for line in PATTERNS.lines() {
+        cases.of_line(line);
         let mut columns = Columns::of(line);
         let setting = setting_of(columns.next())?;
         let x = columns.next().parse::<i64>()?;
@@ -156,14 +168,15 @@ fn patterns(rt: HostRuntime) -> Result<(), Fail> {
         let level = columns.next().parse::<u32>()?;
         assert!(rt; setting.in_range(x));
         let digits = pattern(&setting, x);
-        assert_eq!(rt; digits, word, "{line}");
-        assert_eq!(rt; from_pattern(&setting, digits), x);
-        assert_eq!(rt; level_of_pattern(&setting, digits), level, "{line}");
-        assert_eq!(rt; setting.level(x), level as u64, "{line}");
+        cases.check(digits == word);
+        cases.check(from_pattern(&setting, digits) == x);
+        cases.check(level_of_pattern(&setting, digits) == level);
+        cases.check(setting.level(x) == level as u64);
         assert!(rt; (level as u64) < setting.values());
-        assert_eq!(rt; setting.value_at(level as u64), x, "{line}");
-        assert_eq!(rt; pattern_at(&setting, level), word, "{line}");
+        cases.check(setting.value_at(level as u64) == x);
+        cases.check(pattern_at(&setting, level) == word);
     }
+    cases.end(&rt);
     Ok(())
 }
 
@@ -197,7 +210,9 @@ const RESIDUALS: &str = "      | 5           | 5           | 0
 
 #[test]
 fn residuals(rt: HostRuntime) -> Result<(), Fail> {
+    let mut cases = Cases::new();
     for line in RESIDUALS.lines() {
+        cases.of_line(line);
         let mut columns = Columns::of(line);
         let setting = setting_of(columns.next())?;
         let p = columns.next().parse::<i64>()?;
@@ -206,15 +221,17 @@ fn residuals(rt: HostRuntime) -> Result<(), Fail> {
         assert!(rt; setting.in_range(p));
         assert!(rt; setting.in_range(x));
         let d = residual(&setting, p, x);
-        assert_eq!(rt; d, expected, "{line}");
-        assert_eq!(rt; restore(&setting, p, d), x, "{line}");
+        cases.check(d == expected);
+        cases.check(restore(&setting, p, d) == x);
     }
+    cases.end(&rt);
     Ok(())
 }
 
 /// Both ways between samples and residuals, and the patterns of 8 bits stand for all residuals.
 #[test]
 fn all_pairs(rt: HostRuntime) {
+    let mut cases = Cases::new();
     for signed in [false, true] {
         let setting = of_bits(8, signed).expect(&rt, "a legal setting");
         let mut pairs = 0u32;
@@ -223,15 +240,16 @@ fn all_pairs(rt: HostRuntime) {
                 if setting.in_range(p) && setting.in_range(x) {
                     pairs = pairs.wrapping_add(1);
                     let there = restore(&setting, p, residual(&setting, p, x));
-                    assert_eq!(rt; there, x, "at {p}");
+                    cases.check(there == x);
                     let d = pattern(&setting, x);
                     let back = residual(&setting, p, restore(&setting, p, d));
-                    assert_eq!(rt; back, d, "at {p}");
+                    cases.check(back == d);
                 }
             }
         }
-        assert_eq!(rt; pairs, 65536);
+        cases.check(pairs == 65536);
     }
+    cases.end(&rt);
 }
 
 /// Returns a segment of up to 64 residuals of one value.
@@ -255,7 +273,9 @@ const SUMS: &str = "8  | 255        | 5  | 56
 
 #[test]
 fn sums_of_blocks(rt: HostRuntime) -> Result<(), Fail> {
+    let mut cases = Cases::new();
     for line in SUMS.lines() {
+        cases.of_line(line);
         let mut columns = Columns::of(line);
         let size = columns.next().parse::<usize>()?;
         let value = columns.next().parse::<u32>()?;
@@ -266,10 +286,11 @@ fn sums_of_blocks(rt: HostRuntime) -> Result<(), Fail> {
         assert!(rt; size == 8 || size == 16 || size == 32 || size == 64);
         let mut meter = Meter::new();
         let block = segment.block(0, size);
-        assert_eq!(rt; block.len(), size);
-        assert_eq!(rt; block.sum_shifted(k, &mut meter), sum, "{line}");
-        assert_eq!(rt; meter.steps(), size as u64);
+        cases.check(block.len() == size);
+        cases.check(block.sum_shifted(k, &mut meter) == sum);
+        cases.check(meter.steps() == size as u64);
     }
+    cases.end(&rt);
     Ok(())
 }
 
@@ -283,7 +304,9 @@ const STOPS: &str = "8  | 255        | 5  | 5  | 56  | 48
 
 #[test]
 fn stops(rt: HostRuntime) -> Result<(), Fail> {
+    let mut cases = Cases::new();
     for line in STOPS.lines() {
+        cases.of_line(line);
         let mut columns = Columns::of(line);
         let size = columns.next().parse::<usize>()?;
         let value = columns.next().parse::<u32>()?;
@@ -299,26 +322,30 @@ fn stops(rt: HostRuntime) -> Result<(), Fail> {
         let stop = segment
             .block(0, size)
             .first_stop(limit, size as u64, &mut meter);
-        assert_eq!(rt; stop, (k, sum), "{line}");
-        assert_eq!(rt; meter.steps(), steps, "{line}");
+        cases.check(stop == (k, sum));
+        cases.check(meter.steps() == steps);
     }
+    cases.end(&rt);
     Ok(())
 }
 
 #[test]
 fn pair_sums(rt: HostRuntime) {
+    let mut cases = Cases::new();
     for (value, sum) in [(4294967295, (1u128 << 67) - (1 << 35) + 4), (0, 4), (1, 20)] {
         let mut meter = Meter::new();
         let segment = segment_of(8, value);
         assert!(rt; segment.len() == 8);
-        assert_eq!(rt; segment.block(0, 8).pair_sum(&mut meter), sum, "at {value}");
-        assert_eq!(rt; meter.steps(), 8);
+        cases.check(segment.block(0, 8).pair_sum(&mut meter) == sum);
+        cases.check(meter.steps() == 8);
     }
+    cases.end(&rt);
 }
 
 /// A single 1 at each place of each block, and none.
 #[test]
 fn zero_blocks(rt: HostRuntime) {
+    let mut cases = Cases::new();
     for size in [8usize, 16, 32, 64] {
         for place in 0..=size {
             let mut segment = Segment::new();
@@ -327,51 +354,48 @@ fn zero_blocks(rt: HostRuntime) {
                     segment.push((i == place) as u32);
                 }
             }
-            assert_eq!(rt; segment.len(), size);
+            cases.check(segment.len() == size);
             if segment.len() == size && (size == 8 || size == 16 || size == 32 || size == 64) {
                 let mut meter = Meter::new();
                 let block = segment.block(0, size);
-                assert_eq!(rt;
-                    block.is_zero(&mut meter),
-                    place == size,
-                    "at {place} of {size}"
-                );
-                assert_eq!(rt; meter.steps(), size as u64);
+                cases.check(block.is_zero(&mut meter) == (place == size));
+                cases.check(meter.steps() == size as u64);
                 if place < size && place < block.len() {
-                    assert_eq!(rt; block.at(place, &mut meter), 1);
-                    assert_eq!(rt; meter.steps(), size as u64 + 1);
+                    cases.check(block.at(place, &mut meter) == 1);
+                    cases.check(meter.steps() == size as u64 + 1);
                 }
             }
         }
     }
+    cases.end(&rt);
 }
 
 #[test]
 fn blocks_of_a_segment(rt: HostRuntime) {
+    let mut cases = Cases::new();
     let mut segment = Segment::new();
     for i in 0..24 {
         if segment.len() < 24 {
             segment.push(i);
         }
     }
-    assert_eq!(rt; segment.len(), 24);
+    cases.check(segment.len() == 24);
     if segment.len() == 24 {
         let mut meter = Meter::new();
-        assert_eq!(rt; segment.block(2, 8).at(0, &mut meter), 16);
-        assert_eq!(rt; segment.block(2, 8).at(7, &mut meter), 23);
-        assert_eq!(rt; meter.steps(), 2);
-        assert_eq!(rt;
-            segment.block(1, 8).four_at(4, &mut meter),
-            (12, 13, 14, 15)
-        );
-        assert_eq!(rt; meter.steps(), 6);
+        cases.check(segment.block(2, 8).at(0, &mut meter) == 16);
+        cases.check(segment.block(2, 8).at(7, &mut meter) == 23);
+        cases.check(meter.steps() == 2);
+        cases.check(segment.block(1, 8).four_at(4, &mut meter) == (12, 13, 14, 15));
+        cases.check(meter.steps() == 6);
     }
     segment.clear();
-    assert_eq!(rt; segment.len(), 0);
+    cases.check(segment.len() == 0);
+    cases.end(&rt);
 }
 
 #[test]
 fn digits_of_a_block(rt: HostRuntime) {
+    let mut cases = Cases::new();
     let mut segment = Segment::new();
     for i in 0..16 {
         if segment.len() < 16 {
@@ -383,19 +407,20 @@ fn digits_of_a_block(rt: HostRuntime) {
     let mut meter = Meter::new();
     let mut sink = BitSink::<20>::new();
     block.put_digits(0, 4, &mut sink, &mut meter);
-    assert_eq!(rt; meter.steps(), 40);
+    cases.check(meter.steps() == 40);
     block.put_digits(6, 32, &mut sink, &mut meter);
-    assert_eq!(rt; meter.steps(), 106);
+    cases.check(meter.steps() == 106);
     block.put_digits(5, 20, &mut sink, &mut meter);
     block.put_digits(8, 20, &mut sink, &mut meter);
-    assert_eq!(rt; meter.steps(), 169);
-    assert_eq!(rt; sink.len(), 156);
+    cases.check(meter.steps() == 169);
+    cases.check(sink.len() == 156);
     sink.pad();
     let digits = [
         0x89, 0xAB, 0xCD, 0xEF, 0x12, 0x34, 0x56, 0x7E, 0x12, 0x34, 0x56, 0x7F, 0x45, 0x67, 0xD4,
         0x56, 0x7E, 0x45, 0x67, 0xF0,
     ];
-    assert_eq!(rt; sink.whole(), digits.as_slice());
+    cases.check(sink.whole() == digits.as_slice());
+    cases.end(&rt);
 }
 
 fn are_below(count: u64, items: &[u32]) -> bool
@@ -411,6 +436,7 @@ fn are_below(count: u64, items: &[u32]) -> bool
 
 #[test]
 fn samples_in_a_row(rt: HostRuntime) -> Result<(), Fail> {
+    let mut cases = Cases::new();
     let setting = of_bits(8, false)?;
     let signed = of_bits(8, true)?;
     let levels = [6, 5, 5, 4, 0, 255, 0, 255];
@@ -422,28 +448,22 @@ fn samples_in_a_row(rt: HostRuntime) -> Result<(), Fail> {
     let mut segment = Segment::new();
     segment.push_residuals(&setting, 5, &levels);
     segment.push_patterns(&signed, &negative);
-    assert_eq!(rt; segment.len(), 16);
+    cases.check(segment.len() == 16);
     let mut meter = Meter::new();
     let residuals = [2, 1, 0, 1, 7, 255, 255, 255];
     let patterns = [255, 128, 127, 0, 1, 2, 254, 129];
     for i in 0..8usize {
         assert!(rt; meter.steps() < 16);
-        assert_eq!(rt;
-            segment.block(0, 8).at(i, &mut meter),
-            residuals[i],
-            "at {i}"
-        );
-        assert_eq!(rt;
-            segment.block(1, 8).at(i, &mut meter),
-            patterns[i],
-            "at {i}"
-        );
+        cases.check(segment.block(0, 8).at(i, &mut meter) == residuals[i]);
+        cases.check(segment.block(1, 8).at(i, &mut meter) == patterns[i]);
     }
+    cases.end(&rt);
     Ok(())
 }
 
 #[test]
 fn samples_restored_in_a_row(rt: HostRuntime) -> Result<(), Fail> {
+    let mut cases = Cases::new();
     let setting = of_bits(8, false)?;
     let signed = of_bits(8, true)?;
     let residuals = [2, 1, 0, 1, 7, 255, 255, 255];
@@ -453,9 +473,10 @@ fn samples_restored_in_a_row(rt: HostRuntime) -> Result<(), Fail> {
     assert!(rt; are_below(signed.values(), &patterns));
     let mut levels = [0; 8];
     restore_all(&setting, 5, &residuals, &mut levels);
-    assert_eq!(rt; levels, [6, 5, 5, 4, 0, 255, 0, 255]);
+    cases.check(levels == [6, 5, 5, 4, 0, 255, 0, 255]);
     levels_of_patterns(&signed, &patterns, &mut levels);
-    assert_eq!(rt; levels, [127, 0, 255, 128, 129, 130, 126, 1]);
+    cases.check(levels == [127, 0, 255, 128, 129, 130, 126, 1]);
+    cases.end(&rt);
     Ok(())
 }
 
@@ -484,9 +505,11 @@ const ROWS: &str = "3         | 4 | 1 2 255 254
 
 #[test]
 fn levels_of_bytes(rt: HostRuntime) -> Result<(), Fail> {
+    let mut cases = Cases::new();
     let bytes = bytes_of("0102FFFE0080020103000004", rt.alloc())?;
     let bytes = bytes.as_slice();
     for line in ROWS.lines() {
+        cases.of_line(line);
         let mut columns = Columns::of(line);
         let setting = setting_of(columns.next())?;
         let len = columns.next().parse::<usize>()?;
@@ -505,14 +528,15 @@ fn levels_of_bytes(rt: HostRuntime) -> Result<(), Fail> {
             levels[i] = level_of(&setting, expected[i]);
         }
         let levels = &levels[..expected.len()];
-        assert_eq!(rt; read[..taken], *levels, "{line}");
+        cases.check(&read[..taken] == levels);
         assert!(rt; are_below(setting.values(), levels));
         let mut back = [0; 12];
         write_spellings(&setting, levels, &mut back[..end]);
-        assert_eq!(rt; back[..end], bytes[..end], "{line}");
+        cases.check(&back[..end] == &bytes[..end]);
         let mut back = [0; 12];
         write_spellings_as(&setting, width, setting.msb(), levels, &mut back[..end]);
-        assert_eq!(rt; back[..end], bytes[..end], "{line}");
+        cases.check(&back[..end] == &bytes[..end]);
     }
+    cases.end(&rt);
     Ok(())
 }

@@ -1,15 +1,16 @@
 //! Devices that fail, and samples that are none.
+use crate::cases::Cases;
 use crate::table::{Columns, bytes_of, fault_of, number_of, setting_of};
 use rice_bits::{MemoryIn, MemoryOut};
 use rice_stream::{Fault, decode, encode};
 use std::alloc::Global;
-use std::process::Abort;
 use std::test::Fail;
 
 /// Tries each line of a table, in pieces of several sizes: the options, the bytes of the samples, the places where the intake and
 /// the outlet fail, what is written, the fault, and how many samples and bits are reported.
-fn stops(rt: &impl Abort, alloc: Global, table: &str) -> Result<(), Fail> {
+fn stops<'a>(cases: &mut Cases<'a>, alloc: Global, table: &'a str) -> Result<(), Fail> {
     for line in table.lines() {
+        cases.of_line(line);
         let mut columns = Columns::of(line);
         let setting = setting_of(columns.next())?;
         let samples = bytes_of(columns.next(), alloc)?;
@@ -24,10 +25,10 @@ fn stops(rt: &impl Abort, alloc: Global, table: &str) -> Result<(), Fail> {
             let mut outlet = MemoryOut::new(&mut room, piece, writes);
             let mut intake = MemoryIn::new(samples.as_slice(), piece, reads);
             let outcome = encode(&setting, &mut intake, &mut outlet);
-            assert_eq!(rt; outcome.fault, fault, "{line}");
-            assert_eq!(rt; outlet.written(), written.as_slice(), "{line}");
-            assert_eq!(rt; Some(outcome.report.samples), count, "{line}");
-            assert_eq!(rt; Some(outcome.report.bits), bits, "{line}");
+            cases.check(outcome.fault == fault);
+            cases.check(outlet.written() == written.as_slice());
+            cases.check(Some(outcome.report.samples) == count);
+            cases.check(Some(outcome.report.bits) == bits);
         }
     }
     Ok(())
@@ -75,11 +76,15 @@ const STOPS: &str = "n4      | 10         |    |   |          | range 0  | 0  | 
 
 #[test]
 fn encoding_stops(rt: HostRuntime) -> Result<(), Fail> {
-    stops(&rt, rt.alloc(), STOPS)
+    let mut cases = Cases::new();
+    stops(&mut cases, rt.alloc(), STOPS)?;
+    cases.end(&rt);
+    Ok(())
 }
 
 #[test]
 fn encoding_stops_where_its_end_is_not_written(rt: HostRuntime) -> Result<(), Fail> {
+    let mut cases = Cases::new();
     let setting = setting_of("r64")?;
     let input = bytes_of("00*47 01", rt.alloc())?;
     for place in [0, 1, 2, 3, 4] {
@@ -88,47 +93,49 @@ fn encoding_stops_where_its_end_is_not_written(rt: HostRuntime) -> Result<(), Fa
         let mut intake = MemoryIn::new(input.as_slice(), 4096, None);
         let outcome = encode(&setting, &mut intake, &mut outlet);
         let fault = if place < 4 { Some(Fault::Write) } else { None };
-        assert_eq!(&rt; outcome.fault, fault);
-        assert_eq!(&rt; outlet.written(), &[0x00, 0x00, 0x47, 0x90u8][..place]);
-        assert_eq!(&rt; (outcome.report.samples, outcome.report.bits), (48, 28));
+        cases.check(outcome.fault == fault);
+        cases.check(outlet.written() == &[0x00, 0x00, 0x47, 0x90u8][..place]);
+        cases.check((outcome.report.samples, outcome.report.bits) == (48, 28));
     }
+    cases.end(&rt);
     Ok(())
 }
 
 #[test]
 fn decoding_stops_where_its_intake_fails(rt: HostRuntime) -> Result<(), Fail> {
+    let mut cases = Cases::new();
     // Where it fails, and the samples and bits by then.
-    let cases = [(0, 0, 0), (1, 0, 8), (2, 8, 16), (3, 8, 24), (4, 16, 32)];
+    let places = [(0, 0, 0), (1, 0, 8), (2, 8, 16), (3, 8, 24), (4, 16, 32)];
     let setting = setting_of("r1")?;
     let code = [0x00, 0x58, 0x02, 0xC0];
-    for (place, samples, bits) in cases {
+    for (place, samples, bits) in places {
         let mut room = [0u8; 16];
         let mut outlet = MemoryOut::new(&mut room, 8, None);
         let intake = MemoryIn::new(&code, 1, Some(place));
         let (outcome, _) = decode(&setting, None, intake, &mut outlet);
-        assert_eq!(&rt; outcome.fault, Some(Fault::Read));
-        assert_eq!(&rt;
-            (outcome.report.samples, outcome.report.bits),
-            (samples, bits)
-        );
-        assert_eq!(&rt; outlet.written(), &[5u8; 16][..samples as usize]);
+        cases.check(outcome.fault == Some(Fault::Read));
+        cases.check((outcome.report.samples, outcome.report.bits) == (samples, bits));
+        cases.check(outlet.written() == &[5u8; 16][..samples as usize]);
     }
     let mut room = [0u8; 16];
     let mut outlet = MemoryOut::new(&mut room, 8, None);
     let intake = MemoryIn::new(&code, 1, Some(4));
     let (outcome, _) = decode(&setting, Some(16), intake, &mut outlet);
-    assert_eq!(&rt; (outcome.fault, outcome.report.bits), (None, 26));
+    cases.check((outcome.fault, outcome.report.bits) == (None, 26));
+    cases.end(&rt);
     Ok(())
 }
 
 #[test]
 fn decoding_stops_where_its_outlet_fails(rt: HostRuntime) -> Result<(), Fail> {
+    let mut cases = Cases::new();
     let mut room = [0u8; 16];
     let mut outlet = MemoryOut::new(&mut room, 8, Some(3));
     let intake = MemoryIn::new(&[0x00, 0x58], 8, None);
     let (outcome, _) = decode(&setting_of("")?, None, intake, &mut outlet);
-    assert_eq!(&rt; outcome.fault, Some(Fault::Write));
-    assert_eq!(&rt; outlet.written(), [5, 5, 5].as_slice());
-    assert_eq!(&rt; (outcome.report.samples, outcome.report.bits), (0, 13));
+    cases.check(outcome.fault == Some(Fault::Write));
+    cases.check(outlet.written() == [5, 5, 5].as_slice());
+    cases.check((outcome.report.samples, outcome.report.bits) == (0, 13));
+    cases.end(&rt);
     Ok(())
 }

@@ -1,0 +1,45 @@
+//! The cases of a test, of which the first that is wrong is told.
+use std::process::Abort;
+
+/// The number of cases that were tried, and the first that was wrong: its number, from 1, and the line of its table.
+#[derive(Drop)]
+pub struct Cases<'a> {
+    tried: u64,
+    line: &'a str,
+    wrong: u64,
+    wrong_line: &'a str,
+}
+
+impl<'a> Cases<'a> {
+    pub fn new() -> Self {
+        Cases {
+            tried: 0,
+            line: "",
+            wrong: 0,
+            wrong_line: "",
+        }
+    }
+
+    /// Names the line of the table that the next cases are of.
+    pub fn of_line(&mut self, line: &'a str) {
+        self.line = line;
+    }
+
+    /// Counts a case.
+    pub fn check(&mut self, is_right: bool) {
+        self.tried = self.tried.wrapping_add(1);
+        if !is_right && self.wrong == 0 {
+            self.wrong = self.tried;
+            self.wrong_line = self.line;
+        }
+    }
+
+    /// Stops the test where no case was tried, or one was wrong.
+    pub fn end(&self, rt: &impl Abort) {
+        let (tried, wrong, line) = (self.tried, self.wrong, self.wrong_line);
+        assert!(rt;
+            tried > 0 && wrong == 0,
+            "case {wrong} of {tried} is wrong: {line}"
+        );
+    }
+}
