@@ -1,8 +1,10 @@
 -- How many bits and looks the options take.
 pub mod BlockBounds
 pub mod Costs
-pub mod LeastOptions
+pub mod LeastCode
+pub mod LeastRuns
 pub mod LooksPaid
 pub mod PaddingBounds
 pub mod PairCosts
 pub mod Savings
+pub mod SmallerBlocks

@@ -59,7 +59,7 @@ run_cost i j n (suc w) number h k p m o =
     let r : suc w * 11 ≤ suc w * (i + j * n) = mul-le-mul_left (suc w) big in
     omega arith
 
-reference_bound : (s : Parameters) (r : Option ℕ) → reference_len s r ≤ s.bits
+pub reference_bound : (s : Parameters) (r : Option ℕ) → reference_len s r ≤ s.bits
 reference_bound s None = omega arith
 reference_bound s (Some v) = omega arith
 

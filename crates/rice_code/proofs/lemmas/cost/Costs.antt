@@ -44,6 +44,13 @@ low_entropy s flag r body =
     let g = length_reference s r in
     e ∙ (omega arith)
 
+-- the texts of runs are as long as they cost
+pub numbered_run_len : (s : Parameters) (r : Option ℕ) (z : ℕ) → length (bits_of_set s (ZeroBlocks r z)) ≡ cost s (ZeroBlocks r z)
+numbered_run_len s r z = low_entropy s false r (fundamental_sequence (run_number z)) ∙ (let p = length-fundamental_sequence (run_number z) in omega arith)
+
+pub remainder_len : (s : Parameters) (r : Option ℕ) → length (bits_of_set s (RemainderOfSegment r)) ≡ cost s (RemainderOfSegment r)
+remainder_len s r = low_entropy s false r (fundamental_sequence 4)
+
 pub cost_is_length : (s : Parameters) (b : ℕ) (d : CodedDataSet) → 1 ≤ s.block → IsForm s b d → length (bits_of_set s d) ≡ cost s d
 cost_is_length s b (NoCompression c) j h =
     let n = id_len s in
@@ -70,5 +77,5 @@ cost_is_length s b (Split k c) j h =
     let p = length_sequences k (sent_residuals c) in
     let q = length_words k (sent_residuals c) in
     e ∙ (omega arith)
-cost_is_length s b (ZeroBlocks r z) j h = low_entropy s false r (fundamental_sequence (run_number z)) ∙ (let p = length-fundamental_sequence (run_number z) in omega arith)
-cost_is_length s b (RemainderOfSegment r) j h = low_entropy s false r (fundamental_sequence 4)
+cost_is_length s b (ZeroBlocks r z) j h = numbered_run_len s r z
+cost_is_length s b (RemainderOfSegment r) j h = remainder_len s r

@@ -9,7 +9,7 @@ use Rattle.rice_code.specs.code.CodedDataSets.{bits_of_set, cost, reference_bits
 use Rattle.rice_code.specs.code.Runs.{run_of_blocks}
 use Rattle.rice_code.specs.encode.HeldBlocks.{zeros_of_run}
 use Rattle.rice_bits.specs.Bits.{word, fundamental_sequence}
-use Rattle.rice_code.proofs.lemmas.cost.Costs.{length_pieces}
+use Rattle.rice_code.proofs.lemmas.cost.Costs.{length_pieces, numbered_run_len, remainder_len}
 use Rattle.rice_bits.proofs.lemmas.bits.Words.{length-fundamental_sequence, word-fs, word-zero, word-cat, word-nil}
 
 -- zeros and a one
@@ -63,6 +63,13 @@ run_cost s to_end r z = by_test (nat_le 5 z && to_end)
     by_test : (v : Bool) → cost s (cond v (RemainderOfSegment r) (ZeroBlocks r z)) ≡ id_len s + 1 + reference_len s r + cond v 4 (run_number z) + 1
     by_test true = omega arith
     by_test false = refl
+
+pub run_text_len : (s : Parameters) (to_end : Bool) (r : Option ℕ) (z : ℕ) → length (bits_of_set s (run_of_blocks to_end r z)) ≡ cost s (run_of_blocks to_end r z)
+run_text_len s to_end r z = by_test (nat_le 5 z && to_end)
+  where
+    by_test : (v : Bool) → length (bits_of_set s (cond v (RemainderOfSegment r) (ZeroBlocks r z))) ≡ cost s (cond v (RemainderOfSegment r) (ZeroBlocks r z))
+    by_test true = remainder_len s r
+    by_test false = numbered_run_len s r z
 
 -- the codewords of the pairs from number i on
 pub pairs_left : (i : ℕ) (xs : List ℕ) → 2 * i + 1 < length xs →

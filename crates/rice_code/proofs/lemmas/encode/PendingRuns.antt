@@ -14,7 +14,7 @@ use Rattle.rice_code.specs.code.Choice.{shortest}
 use Rattle.rice_code.specs.code.Runs.{run_of_blocks}
 use Rattle.rice_code.specs.encode.HeldBlocks.{pending_zeros, pending_run, held_blocks, reference_at}
 use Rattle.rice_code.specs.code.SoundBlocks.{block_with, AreSoundBlocks}
-use Rattle.rice_code.proofs.lemmas.meaning.Covers.{bool_cases, skipped, run_cons, skipped_go, skipped_plain, skipped_nil, skipped_stop, data_sets_inside, data_sets_start, data_sets_plain}
+use Rattle.rice_code.proofs.lemmas.meaning.Covers.{bool_cases, skipped, run_cons, skipped_go, skipped_plain, skipped_nil, data_sets_inside, data_sets_start, data_sets_plain}
 
 zeros_are_zero : (n : ℕ) → list_all (λ d. d == 0) (replicate n 0) ≡ true
 zeros_are_zero zero = refl
@@ -24,7 +24,7 @@ pub is_zero_zeros : (s : Parameters) (r : Option ℕ) → is_zero_block (zero_bl
 is_zero_zeros s r = zeros_are_zero s.block
 
 -- inside a segment nothing is sent for the zero blocks of a run
-skip_zeros : (s : Parameters) (b w : ℕ) (rest : List BlockData) → 1 ≤ s.interval → suc w ≤ blocks_left s b →
+pub skip_zeros : (s : Parameters) (b w : ℕ) (rest : List BlockData) → 1 ≤ s.interval → suc w ≤ blocks_left s b →
     data_sets s (b + 1) true (replicate w (zero_block s None) ++ rest) ≡ data_sets s (b + 1 + w) true rest
 skip_zeros s b zero rest h k = let e : b + 1 ≡ b + 1 + 0 = omega arith in ap (λ n. data_sets s n true rest) e
 skip_zeros s b (suc w) rest h k =
@@ -38,26 +38,18 @@ skip_zeros s b (suc w) rest h k =
     ]
 
 -- and they are counted
-count_zeros : (s : Parameters) (b w : ℕ) (rest : List BlockData) → 1 ≤ s.interval → suc w ≤ blocks_left s b → (suc w < blocks_left s b → skipped s (b + 1 + w) true rest ≡ 0) → (suc w ≡ blocks_left s b → rest ≡ []) →
-    skipped s (b + 1) true (replicate w (zero_block s None) ++ rest) ≡ w
-count_zeros s b zero rest h k stop none =
-    let e : b + 1 + 0 ≡ b + 1 = omega arith in
-    elim (bool_cases (begins_segment s (b + 1))) [
-      | inl f ↦ skipped_stop s (b + 1) true rest (ap (λ v. true && not v) f)
-      | inr f ↦ let g = one_less_left s b h f in sym (ap (λ n. skipped s n true rest) e) ∙ at (blocks_left s (b + 1)) (omega arith) stop none
-    ]
-  where
-    at : (left : ℕ) → blocks_left s b ≡ suc left → (1 < blocks_left s b → skipped s (b + 1 + 0) true rest ≡ 0) → (1 ≡ blocks_left s b → rest ≡ []) → skipped s (b + 1 + 0) true rest ≡ 0
-    at zero e stop none = ap (λ l. skipped s (b + 1 + 0) true l) (none (sym e)) ∙ skipped_nil s (b + 1 + 0) true
-    at (suc left) e stop none = stop (omega arith)
-count_zeros s b (suc w) rest h k stop none =
+pub count_zeros : (s : Parameters) (b w : ℕ) (rest : List BlockData) → 1 ≤ s.interval → suc w ≤ blocks_left s b →
+    skipped s (b + 1) true (replicate w (zero_block s None) ++ rest) ≡ w + skipped s (b + 1 + w) true rest
+count_zeros s b zero rest h k = let e : b + 1 + 0 ≡ b + 1 = omega arith in omega (arith, ap (λ n. skipped s n true rest) e)
+count_zeros s b (suc w) rest h k =
     elim (bool_cases (begins_segment s (b + 1))) [
       | inl e ↦ absurd (let f = last_of_segment s b h e in omega arith)
       | inr e ↦
           let f = one_less_left s b h e in
-          let n : b + 1 + suc w ≡ b + 1 + 1 + w = omega arith in
-          skipped_go s (b + 1) true (zero_block s None) (replicate w (zero_block s None) ++ rest) h (is_zero_zeros s None) (ap (λ v. true && not v) e)
-          ∙ ap (λ v. suc v) (count_zeros s (b + 1) w rest h (omega arith) (λ p. subst (λ m. skipped s m true rest ≡ 0) n (stop (omega arith))) (λ p. none (omega arith)))
+          let ahead = replicate w (zero_block s None) ++ rest in
+          let n : b + 1 + 1 + w ≡ b + 1 + suc w = omega arith in
+          let more : skipped s (b + 1) true (replicate (suc w) (zero_block s None) ++ rest) ≡ suc (skipped s (b + 1 + 1) true ahead) = skipped_go s (b + 1) true (zero_block s None) ahead h (is_zero_zeros s None) (ap (λ v. true && not v) e) in
+          omega (arith, more, count_zeros s (b + 1) w rest h (omega arith), ap (λ n. skipped s n true rest) n)
     ]
 
 abbrev run_with : Option ℕ → ℕ → Bool → CodedDataSet
@@ -87,7 +79,8 @@ run_then_block s b zero r c cs h k z =
 run_then_block s b (suc w) r c cs h k z =
     let rest = replicate w (zero_block s None) ++ c ∷ cs in
     let len : length rest ≡ w + suc (length cs) = length-append (replicate w (zero_block s None)) (c ∷ cs) ∙ ap (λ n. n + suc (length cs)) (length-replicate w (zero_block s None)) in
-    let count = run_cons s b (zero_block s r) rest h (is_zero_zeros s r) ∙ ap (λ v. suc v) (count_zeros s b w (c ∷ cs) h (omega arith) (λ p. skipped_plain s (b + 1 + w) true c cs h z) (λ p. absurd (omega arith))) in
+    let counted : skipped s (b + 1) true rest ≡ w = omega (arith, count_zeros s b w (c ∷ cs) h (omega arith), skipped_plain s (b + 1 + w) true c cs h z) in
+    let count = run_cons s b (zero_block s r) rest h (is_zero_zeros s r) ∙ ap (λ v. suc v) counted in
     let n : b + 1 + w + 1 ≡ b + suc w + 1 = omega arith in
     data_sets_start s b false (zero_block s r) rest (is_zero_zeros s r) refl
     ∙ (λ i. run_before s b w r (zero_block s r ∷ rest) count k (omega arith) i ∷ (skip_zeros s b w (c ∷ cs) h (omega arith) ∙ (data_sets_plain s (b + 1 + w) true c cs z ∙ ap (λ m. shortest s c ∷ data_sets s m false cs) n)) i)
@@ -99,7 +92,8 @@ run_ends s b (suc w) r h k =
     let bare = replicate w (zero_block s None) in
     let same : bare ++ [] ≡ bare = append-nil bare in
     let len = length-replicate w (zero_block s None) in
-    let count = run_cons s b (zero_block s r) bare h (is_zero_zeros s r) ∙ ap (λ v. suc v) (sym (ap (λ l. skipped s (b + 1) true l) same) ∙ count_zeros s b w [] h (omega arith) (λ p. skipped_nil s (b + 1 + w) true) (λ p. refl)) in
+    let counted : skipped s (b + 1) true (bare ++ []) ≡ w = omega (arith, count_zeros s b w [] h (omega arith), skipped_nil s (b + 1 + w) true) in
+    let count = run_cons s b (zero_block s r) bare h (is_zero_zeros s r) ∙ ap (λ v. suc v) (sym (ap (λ l. skipped s (b + 1) true l) same) ∙ counted) in
     data_sets_start s b false (zero_block s r) bare (is_zero_zeros s r) refl
     ∙ (λ i. run_at_end s b w r (zero_block s r ∷ bare) count (omega arith) i ∷ (sym (ap (λ l. data_sets s (b + 1) true l) same) ∙ skip_zeros s b w [] h (omega arith)) i)
 

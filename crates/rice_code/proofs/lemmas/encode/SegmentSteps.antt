@@ -6,40 +6,27 @@ use Rattle.std.proofs.lemmas.List.{drop_all}
 use Rattle.std.proofs.lemmas.List.Sums.{sum_by-cons}
 use Rattle.std.proofs.lemmas.Grind.{flat_map-append}
 use Rattle.std.proofs.Math.Nat.{mul-le-mul_left, mul-le-mul_right}
-use Rattle.rice_bits.proofs.lemmas.bits.Words.{length-word, length-fundamental_sequence}
-use Rattle.rice_bits.specs.Bits.{word, fundamental_sequence}
-use Rattle.rice_samples.specs.Parameters.{Parameters, id_len, k_max}
+use Rattle.rice_samples.specs.Parameters.{Parameters, k_max}
 use Rattle.rice_samples.specs.Places.{begins_segment, blocks_left}
 use Rattle.rice_samples.proofs.lemmas.setting.PlaceLemmas.{one_less_left, last_of_segment}
 use Rattle.rice_code.specs.code.Blocks.{BlockData, is_zero_block}
-use Rattle.rice_code.specs.code.CodedDataSets.{bits_of_set, cost, reference_bits, bits_of_sets}
+use Rattle.rice_code.specs.code.CodedDataSets.{bits_of_set, cost, bits_of_sets}
 use Rattle.rice_code.specs.code.Code.{data_sets}
 use Rattle.rice_code.specs.code.Choice.{shortest, best_split}
 use Rattle.rice_code.specs.code.Runs.{run_of_blocks}
-use Rattle.rice_code.specs.encode.HeldBlocks.{zeros_of_run, pending_zeros, pending_run, held_blocks, reference_at}
+use Rattle.rice_code.specs.encode.HeldBlocks.{pending_zeros, pending_run, held_blocks, reference_at}
 use Rattle.rice_code.specs.code.SoundBlocks.{block_with, IsSoundData, AreSoundBlocks, IsSoundBlock}
 use Rattle.rice_code.specs.Steps.{least_looks, most_looks}
 use Rattle.rice_code.proofs.lemmas.meaning.Covers.{bool_cases, zero_block_is}
-use Rattle.rice_code.proofs.lemmas.cost.Costs.{cost_is_length, length_reference}
+use Rattle.rice_code.proofs.lemmas.cost.Costs.{cost_is_length}
 use Rattle.rice_code.proofs.lemmas.cost.BlockBounds.{shortest_is_form}
-use Rattle.rice_code.proofs.lemmas.encode.OptionBits.{run_text, run_cost}
+use Rattle.rice_code.proofs.lemmas.encode.OptionBits.{run_text_len}
 use Rattle.rice_code.proofs.lemmas.encode.PendingRuns.{run_then_block, run_ends, zero_block_joins_run, held_at, held_len, drop_sound}
 
 -- the text of a run is as long as it costs
 pub length-pending_bits : (s : Parameters) (to_end : Bool) (r : Option ℕ) (run : ℕ) → 0 < run → length (bits_of_sets s (pending_run to_end r run)) ≡ cost s (run_of_blocks to_end r run)
 length-pending_bits s to_end r zero h = absurd (omega arith)
-length-pending_bits s to_end r (suc w) h =
-    let d = run_of_blocks to_end r (suc w) in
-    let body = fundamental_sequence (zeros_of_run to_end (suc w)) in
-    let a = length-append (bits_of_set s d) [] in
-    let b = ap length (run_text s to_end r (suc w)) in
-    let e = length-append (word (id_len s) 0) (false ∷ (reference_bits s r ++ body)) in
-    let f = length-append (reference_bits s r) body in
-    let g = length_reference s r in
-    let k = length-fundamental_sequence (zeros_of_run to_end (suc w)) in
-    let l = length-word (id_len s) 0 in
-    let m = run_cost s to_end r (suc w) in
-    a ∙ (omega (arith, b, e, f, g, k, l, m))
+length-pending_bits s to_end r (suc w) h = omega (arith, length-append (bits_of_set s (run_of_blocks to_end r (suc w))) [], run_text_len s to_end r (suc w))
 
 -- the steps of coding a block
 pub steps_least : (j k limit m0 m1 m2 n : ℕ) → m1 ≤ m0 + j * (k + 3) → m1 ≤ m0 + j * (limit + 2) → m2 ≤ m1 + n + 2 * j → m2 ≤ m0 + n + j * (min (k + 1) limit + 4)
