@@ -36,6 +36,12 @@ pub fn decodes_another_split()
         [])) None (numbers_from 0 8) Ended 32 }
 {}
 
+/// A block of one sample without preprocessing, filled with zeros: nine bits fewer than the coder's, which repeats that sample.
+pub fn decodes_another_fill()
+    ensures { Decoded unprocessed_defaults (bits_of (0xC0 ∷ 0x3F ∷ 0xE0 ∷ replicate 5 0x00)) (Some 1) (pos 0xF0 ∷
+        []) Reached 58 }
+{}
+
 /// The greatest split, of samples that have fewer bits.
 pub fn decodes_the_greatest_split()
     ensures { Decoded one_bit_defaults (bits_of (0xCF ∷ 0xE1 ∷ 0x00 ∷ 0x00 ∷ 0x00 ∷ 0x00 ∷

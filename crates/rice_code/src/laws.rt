@@ -1,5 +1,5 @@
 //! The laws of code and decoding, each the contract of a function that does nothing. Their statements are in `specs/Laws.antt`.
-ghost use Rattle.rice_code.specs.Laws.{ReturnsSamples, ReturnsSamplesAndFill, DecodedIsOne, CodesDiffer, RefusedBytesAreNoOutput, OwnBytesAreRecognised, AllBytesAreDecoded, FormsAreReadInOneWay, FormsHaveAOne, CodeGrows, CodeIsBounded, PaddedCodeIsBounded, CodeIsJoined, CostIsLength, ChoiceIsLeast, NoSetsAreShorter, SavingNeverRises, FirstStopIsBest, ChoiceIsOfThree, CodeGoesOn, BitsGoOn, CodeStandsInIntervals, CodeStandsInBytes, DecodingGoesOn, DecodingStandsInPlaces, SplitIsPaid, RunIsNeverLonger, StepsAreBounded, StepsArePaid, AllStepsAreBounded, IntervalsBeginAfresh, IntervalsAreJoined, PaddedIntervalsAreJoined, IntervalsAreDecodedAlone, DamageStaysInItsInterval};
+ghost use Rattle.rice_code.specs.Laws.{ReturnsSamples, ReturnsSamplesAndFill, DecodedIsOne, CodesDiffer, RefusedBytesAreNoOutput, OwnBytesAreRecognised, AllBytesAreDecoded, FormsAreReadInOneWay, FormsHaveAOne, CodeGrows, CodeIsBounded, PaddedCodeIsBounded, CodeIsJoined, CostIsLength, ChoiceIsLeast, NoSetsAreShorter, NoCodeIsShorter, NoOutputIsShorter, SavingNeverRises, FirstStopIsBest, ChoiceIsOfThree, CodeGoesOn, BitsGoOn, CodeStandsInIntervals, CodeStandsInBytes, DecodingGoesOn, DecodingStandsInPlaces, SplitIsPaid, RunIsNeverLonger, StepsAreBounded, StepsArePaid, AllStepsAreBounded, IntervalsBeginAfresh, IntervalsAreJoined, PaddedIntervalsAreJoined, IntervalsAreDecodedAlone, DamageStaysInItsInterval};
 
 /// With the number of samples, the output decodes to exactly these samples.
 pub fn returns_samples()
@@ -76,6 +76,13 @@ pub fn choice_is_least()
 /// No coded data sets of the same blocks have fewer bits than the coder's.
 pub fn no_sets_are_shorter()
     ensures { NoSetsAreShorter }
+{}
+
+/// With preprocessing, or where samples fill their blocks, no bits that decode to them are fewer than their code, and no bytes fewer than
+/// their output.
+pub fn no_code_is_shorter()
+    ensures bits { NoCodeIsShorter }
+    ensures bytes { NoOutputIsShorter }
 {}
 
 /// The cost is convex in k: what a split saves against the one before never rises.

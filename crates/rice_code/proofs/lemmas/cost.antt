@@ -1,5 +1,6 @@
 -- How many bits and looks the options take.
 pub mod BlockBounds
+pub mod CodeEnds
 pub mod Costs
 pub mod LeastCode
 pub mod LeastRuns

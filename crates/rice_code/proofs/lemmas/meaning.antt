@@ -4,6 +4,7 @@ pub mod Covers
 pub mod DecodingGoesOn
 pub mod DecodingPlaces
 pub mod Intervals
+pub mod NoShorterCode
 pub mod OneMeaning
 pub mod OwnBytes
 pub mod Parsing

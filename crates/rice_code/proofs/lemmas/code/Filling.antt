@@ -21,7 +21,7 @@ last_replicate p zero = refl
 last_replicate p (suc n) = last_replicate p n
 
 -- the last sample is that of what follows the first block
-last_behind : (p : ℤ) (n : ℕ) (xs : List ℤ) → last_of (last_of p (take n xs)) (drop n xs) ≡ last_of p xs
+pub last_behind : (p : ℤ) (n : ℕ) (xs : List ℤ) → last_of (last_of p (take n xs)) (drop n xs) ≡ last_of p xs
 last_behind p n xs = sym (last_append p (take n xs) (drop n xs)) ∙ ap (λ v. last_of p v) (take-append-drop n xs)
 
 -- the blocks of the first samples, and those after them

@@ -1,0 +1,152 @@
+-- No bits that decode to samples are fewer than the code of these samples.
+use Rattle.std.proofs.Common.{◌≡◌, ℕ, zero, suc, ◌+◌, ◌-◌, ◌*◌, ◌%◌, ◌<◌, ◌≤◌, Bool, true, false, List, [], ◌∷◌, ◌++◌, length, take, drop, replicate, refl, ap, arith, sym, ◌∙◌, ◌⊎◌, inl, inr, append_assoc, length-append, length-drop, subst, Option, Some, None, ℤ, pos}
+use Rattle.std.specs.Int.{next_multiple_of}
+use Rattle.std.proofs.lemmas.List.{drop-append-le, length-replicate, length-take-le, take-append-drop, take-append-le}
+use Rattle.std.proofs.Math.Nat.{mod-lt, mod_self}
+use Rattle.std.proofs.Math.Seq.{take-append-add, take-length}
+use Rattle.rice_bits.specs.Bits.{bits_of, bits_to_byte}
+use Rattle.rice_bits.proofs.lemmas.bits.Bytes.{bits_of-padded, length-bits_of}
+use Rattle.rice_samples.specs.Parameters.{Parameters, IsLegal}
+use Rattle.rice_samples.specs.Places.{block_count}
+use Rattle.rice_samples.specs.predict.Residuals.{residuals, last_of, filled_samples}
+use Rattle.rice_samples.proofs.lemmas.predict.ResidualLemmas.{length-residuals}
+use Rattle.rice_code.specs.Laws.{NoCodeIsShorter, NoOutputIsShorter}
+use Rattle.rice_code.specs.code.Blocks.{block_data, blocks_from, blocks_of}
+use Rattle.rice_code.specs.code.Code.{code, output, sets_of}
+use Rattle.rice_code.specs.code.CodedDataSets.{CodedDataSet}
+use Rattle.rice_code.specs.code.Decoded.{AreTaken, Decoded, Ending, cut_to}
+use Rattle.rice_code.specs.code.Forms.{blocks_in_all}
+use Rattle.rice_code.specs.code.Layout.{block_after}
+use Rattle.rice_code.proofs.lemmas.code.Filling.{last_behind, repeated_all}
+use Rattle.rice_code.proofs.lemmas.code.SoundBlocks.{count_blocks, filled_len}
+use Rattle.rice_code.proofs.lemmas.cost.CodeEnds.{padded, padded_is, sent_padded, taken_padded}
+use Rattle.rice_code.proofs.lemmas.cost.LeastCode.{least}
+use Rattle.rice_code.proofs.lemmas.cost.SmallerBlocks.{AreAtMost, BeginAtMost, IsAtMost, at_most_itself}
+
+-- ---- samples that repeat the last one have the least residuals
+
+zeros_below : (n : ℕ) (ds : List ℕ) → length ds ≡ n → AreAtMost (replicate n 0) ds
+zeros_below zero [] e = tt
+zeros_below zero (d ∷ ds) e = absurd (omega arith)
+zeros_below (suc n) [] e = absurd (omega arith)
+zeros_below (suc n) (d ∷ ds) e = (omega arith, zeros_below n ds (omega arith))
+
+-- the last sample is predicted again, or no sample is filled
+abbrev FillsLeast : Parameters → ℕ → Type 0
+FillsLeast s k = (s.preprocess ≡ true) ⊎ (k ≡ 0)
+
+residuals_at_most : (s : Parameters) (i k : ℕ) (p : ℤ) (xs zs : List ℤ) → FillsLeast s k → length zs ≡ k → AreAtMost (residuals s i p (xs ++ replicate k (last_of p xs))) (residuals s i p (xs ++ zs))
+residuals_at_most s i k p [] zs way len =
+    elim way [
+      | inl on ↦ subst (λ (ds : List ℕ). AreAtMost ds (residuals s i p zs)) (sym (repeated_all s i k p (inl on))) (zeros_below k (residuals s i p zs) (length-residuals s i p zs ∙ len))
+      | inr none ↦ subst (λ (n : ℕ). AreAtMost (residuals s i p (replicate n p)) (residuals s i p zs)) (sym none) (empty zs (len ∙ none))
+    ]
+  where
+    empty : (zs : List ℤ) → length zs ≡ 0 → AreAtMost [] (residuals s i p zs)
+    empty [] e = tt
+    empty (z ∷ zs) e = absurd (omega arith)
+residuals_at_most s i k p (x ∷ xs) zs way len = (omega arith, residuals_at_most s (i + 1) k x xs zs way len)
+
+data_at_most : (s : Parameters) (b k : ℕ) (p : ℤ) (xs zs : List ℤ) → 1 ≤ length xs → FillsLeast s k → length zs ≡ k → IsAtMost (block_data s b p (xs ++ replicate k (last_of p xs))) (block_data s b p (xs ++ zs))
+data_at_most s b k p [] zs some way len = absurd (omega arith)
+data_at_most s b k p (x ∷ xs) zs some way len = record { reference = refl; residuals = residuals_at_most s (s.block * b) k p (x ∷ xs) zs way len }
+
+-- whole blocks first
+first_block : (s : Parameters) (b n : ℕ) (p : ℤ) (xs zs : List ℤ) → s.block ≤ length xs →
+    blocks_from s b p (suc n) (xs ++ zs) ≡ block_data s b p (take s.block xs) ∷ blocks_from s (b + 1) (last_of p (take s.block xs)) n (drop s.block xs ++ zs)
+first_block s b n p xs zs le =
+    let front = take-append-le s.block xs zs le in
+    let back = drop-append-le s.block xs zs le in
+    λ i. block_data s b p (front i) ∷ blocks_from s (b + 1) (last_of p (front i)) n (back i)
+
+-- the blocks of samples that are filled up are at most those of any samples that begin with them
+blocks_begin : (s : Parameters) (b m count k : ℕ) (p : ℤ) (xs ys : List ℤ) → 1 ≤ s.block → FillsLeast s k → k < s.block → length xs + k ≡ s.block * m → length xs + length ys ≡ s.block * count →
+    BeginAtMost (blocks_from s b p m (xs ++ replicate k (last_of p xs))) (blocks_from s b p count (xs ++ ys))
+blocks_begin s b zero count k p xs ys j way few len all = tt
+blocks_begin s b (suc m) zero k p xs ys j way few len all = absurd (omega (arith, few, len, all))
+blocks_begin s b (suc zero) (suc count) k p xs ys j way few len all =
+    let fill = replicate k (last_of p xs) in
+    let one : s.block ≡ length xs + k = omega (arith, len) in
+    let size : s.block ≡ length (xs ++ fill) = omega (arith, one, length-append xs fill, length-replicate k (last_of p xs)) in
+    let own : take s.block (xs ++ fill) ≡ xs ++ fill = ap (λ n. take n (xs ++ fill)) size ∙ take-length (xs ++ fill) in
+    let other : take s.block (xs ++ ys) ≡ xs ++ take k ys = ap (λ n. take n (xs ++ ys)) one ∙ take-append-add xs ys k in
+    let count : length (take k ys) ≡ k = length-take-le k ys (omega (arith, one, all)) in
+    let below = data_at_most s b k p xs (take k ys) (omega (arith, one, few)) way count in (
+      subst (λ (l : List ℤ). IsAtMost (block_data s b p l) (block_data s b p (take s.block (xs ++ ys)))) (sym own) (subst (λ (l : List ℤ). IsAtMost (block_data s b p (xs ++ fill)) (block_data s b p l)) (sym other) below),
+      tt,
+    )
+blocks_begin s b (suc (suc m)) (suc count) k p xs ys j way few len all =
+    let whole : s.block ≤ length xs = omega (arith, few, len) in
+    let next = last_of p (take s.block xs) in
+    let rest = drop s.block xs in
+    let last = last_behind p s.block xs in
+    let own = ap (λ v. blocks_from s b p (suc (suc m)) (xs ++ replicate k v)) (sym last) ∙ first_block s b (suc m) p xs (replicate k (last_of next rest)) whole in
+    let other = first_block s b count p xs ys whole in
+    let ih = blocks_begin s (b + 1) (suc m) count k next rest ys j way few (omega (arith, len, length-drop s.block xs, whole)) (omega (arith, all, length-drop s.block xs, whole)) in
+    let same : IsAtMost (block_data s b p (take s.block xs)) (block_data s b p (take s.block xs)) = record { reference = refl; residuals = at_most_itself (residuals s (s.block * b) p (take s.block xs)) } in
+    subst (λ l. BeginAtMost l (blocks_from s b p (suc count) (xs ++ ys))) (sym own) (subst (λ l. BeginAtMost (block_data s b p (take s.block xs) ∷ blocks_from s (b + 1) next (suc m) (rest ++ replicate k (last_of next rest))) l) (sym other) (same, ih))
+
+-- ---- and so has their code
+
+taken_at_will : (s : Parameters) (asked : Option ℕ) (b : ℕ) (ds : List CodedDataSet) → AreTaken s asked b ds → AreTaken s None b ds
+taken_at_will s asked b [] h = tt
+taken_at_will s asked b (d ∷ ds) h = (tt, h.1, h.2, h.3, taken_at_will s asked (block_after s b d) ds h.4)
+
+-- samples that decoding gives begin all those of the coded data sets
+all_begin : (s : Parameters) (asked : Option ℕ) (all xs more : List ℤ) → xs ++ more ≡ cut_to s asked 0 all → (ys : List ℤ) × (all ≡ xs ++ ys)
+all_begin s None all xs more e = (more, sym e)
+all_begin s (Some n) all xs more e =
+    let m = n - s.block * 0 in
+    (more ++ drop m all, sym (take-append-drop m all) ∙ (ap (λ l. l ++ drop m all) (sym e) ∙ append_assoc xs more (drop m all)))
+
+-- how many samples are filled
+fill_of : (n j k : ℕ) → 1 ≤ j → k ≡ next_multiple_of n j - n → (k < j) × (n % j ≡ 0 → k ≡ 0)
+fill_of n j k h e = (
+  omega (arith, mod-lt (j - n % j) h, e),
+  λ none. let same : j - 0 ≡ j = omega arith in let zero_more : (j - n % j) % j ≡ 0 = ap (λ v. (j - v) % j) none ∙ (ap (λ v. v % j) same ∙ mod_self j) in omega (arith, zero_more, e),
+)
+
+-- the bits of the coded data sets from which samples were decoded
+pub sets_are_no_shorter : (s : Parameters) → IsLegal s → (xs more : List ℤ) → (s.preprocess ≡ true) ⊎ (length xs % s.block ≡ 0) → (bits : List Bool) (asked : Option ℕ) (ending : Ending) (used : ℕ) →
+    (h : Decoded s bits asked (xs ++ more) ending used) → length (code s xs) ≤ length h.front
+sets_are_no_shorter s legal xs more way bits asked ending used h =
+    let j : 1 ≤ s.block = grind (arith, legal.block) in
+    let m = block_count s (length xs) in
+    let k = next_multiple_of (length xs) s.block - length xs in
+    let last = last_of (pos 0) xs in
+    let count = length (blocks_in_all s 0 h.sets) in
+    let parted = all_begin s asked h.all xs more h.asked_for in
+    let filled = fill_of (length xs) s.block k j refl in
+    let least_fill : FillsLeast s k = elim way [ inl on ↦ inl on | inr whole ↦ inr (filled.1 whole) ] in
+    let len : length xs + k ≡ s.block * m = omega (arith, filled_len s (pos 0) xs j, length-append xs (replicate k last), length-replicate k last) in
+    let all : length xs + length parted.0 ≡ s.block * count = omega (arith, h.len, ap length parted.1, length-append xs parted.0) in
+    let below = blocks_begin s 0 m count k (pos 0) xs parted.0 j least_fill filled.0 len all in
+    let theirs = ap (λ l. blocks_from s 0 (pos 0) count l) (sym parted.1) ∙ h.blocks in
+    let cs = blocks_of s 0 (pos 0) xs in
+    let end : 0 + m ≡ 0 + length cs = omega (arith, count_blocks s 0 (pos 0) m (filled_samples s (pos 0) xs)) in
+    omega (
+      arith,
+      least s (padded s) legal (padded_is s legal.interval_from) 0 (0 + m) 0 0 cs h.sets end (omega arith) (taken_at_will s asked 0 h.sets h.taken) (subst (λ l. BeginAtMost cs l) theirs below),
+      sent_padded s (0 + m) 0 0 (sets_of s xs),
+      taken_padded s 0 0 h.sets h.front h.lie,
+    )
+
+pub no_code_is_shorter : NoCodeIsShorter
+no_code_is_shorter s legal xs more way bits asked ending used h = omega (arith, sets_are_no_shorter s legal xs more way bits asked ending used h, h.bits_used)
+
+pub no_output_is_shorter : NoOutputIsShorter
+no_output_is_shorter s legal xs more way bytes asked ending used h =
+    let own = code s xs in
+    let own_bytes = output s xs in
+    let fill = bits_to_byte (length own) in
+    omega (
+      arith,
+      sets_are_no_shorter s legal xs more way (bits_of bytes) asked ending used h,
+      ap length h.parts,
+      length-append h.front h.rest,
+      length-bits_of bytes,
+      length-bits_of own_bytes,
+      ap length (bits_of-padded own),
+      length-append own (replicate fill false),
+      length-replicate fill false,
+    )
