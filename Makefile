@@ -3,7 +3,7 @@ RANDOM_INPUTS ?= 100000
 LIBRARY_CODES ?= 1000000
 
 .DEFAULT_GOAL := help
-.PHONY: help library install install-command install-library uninstall test test-each rows hostile interop exhaustive refused-memory installed recipes documents bench examples stack header axioms hostile-library bench-library wrappers
+.PHONY: help library install install-command install-library uninstall test test-each rows hostile interop exhaustive any-block refused-memory installed recipes documents bench examples stack header axioms hostile-library bench-library wrappers
 
 help:
 	@echo 'make aec                    prove and build the program, as ./aec (ten minutes the first time)'
@@ -17,6 +17,7 @@ help:
 	@echo 'make hostile                run ./aec on damaged and random codes, and on files and streams that fail'
 	@echo "make interop                exchange codes between ./aec and Debian's aec (libaec-tools)"
 	@echo "make exhaustive             give every short list and code to the library and to Debian's libaec (libaec-dev)"
+	@echo "make any-block              code blocks of every even size by the library and by Debian's libaec (libaec-dev)"
 	@echo 'make refused-memory         refuse each request for memory of ./aec in turn'
 	@echo 'make installed              install ./aec and the library into a folder, and try them there'
 	@echo 'make recipes                run the recipes of docs/COOKBOOK.md with ./aec'
@@ -102,6 +103,9 @@ interop: aec
 
 exhaustive: library aec
 	scripts/exhaustive librice.a ./aec
+
+any-block: library
+	scripts/any_block librice.a
 
 refused-memory: aec
 	scripts/refused_memory ./aec

@@ -36,20 +36,21 @@ enum { RICE_ENCODE_STACK = 48 * 1024, RICE_DECODE_STACK = 12 * 1024, RICE_FEED_S
 /* What coder and decoder are set to. The code doesn't say it: decode with the setting that encoded. */
 struct rice_setting {
     uint32_t bits;     /* the bits of a sample, 1 to 32 */
-    uint32_t block;    /* the samples of a block: 8, 16, 32 or 64 */
+    uint32_t block;    /* the samples of a block: 8, 16, 32 or 64, which are the standard's, unless any_block is set */
     uint32_t interval; /* the blocks of a reference interval, 1 to 4096 */
     bool is_signed;    /* samples are signed */
     bool msb;          /* the most significant byte of a sample comes first */
     bool three;        /* samples of 17 to 24 bits take three bytes, not four */
     bool preprocess;   /* samples are predicted; set it unless they were predicted before */
     bool pad;          /* the code of each reference interval is filled to a byte */
+    bool any_block;    /* any even number of samples from 2 to 64 makes a block */
 };
 
 /* How a call ended. Where one is named by a number, the number stands in `place` of the report, and counts from 0. */
 enum rice_status {
     RICE_DONE = 0,               /* all was done */
     RICE_BAD_BITS = 1,           /* the bits of a sample are not 1 to 32 */
-    RICE_BAD_BLOCK = 2,          /* the block size is not 8, 16, 32 or 64 */
+    RICE_BAD_BLOCK = 2,          /* the block size is not 8, 16, 32 or 64, or with any_block no even number from 2 to 64 */
     RICE_BAD_INTERVAL = 3,       /* the interval is not 1 to 4096 */
     RICE_SAMPLE_OUT_OF_RANGE = 4, /* the bytes of sample `place` are no sample: unused high bits must be 0, or equal its sign */
     RICE_INPUT_CUT = 5,          /* the input ends inside sample `place` */
@@ -166,6 +167,7 @@ RICE_LAYOUT(offsetof(struct rice_setting, bits) == 0 && offsetof(struct rice_set
 RICE_LAYOUT(offsetof(struct rice_setting, interval) == 8 && offsetof(struct rice_setting, is_signed) == 12);
 RICE_LAYOUT(offsetof(struct rice_setting, msb) == 13 && offsetof(struct rice_setting, three) == 14);
 RICE_LAYOUT(offsetof(struct rice_setting, preprocess) == 15 && offsetof(struct rice_setting, pad) == 16);
+RICE_LAYOUT(offsetof(struct rice_setting, any_block) == 17);
 RICE_LAYOUT(offsetof(struct rice_report, samples) == 0 && offsetof(struct rice_report, bits) == 8);
 RICE_LAYOUT(offsetof(struct rice_report, steps) == 16 && offsetof(struct rice_report, written) == 24);
 RICE_LAYOUT(offsetof(struct rice_report, place) == 32);
@@ -180,7 +182,7 @@ static inline const char *rice_status_text(uint32_t status) {
     switch ((enum rice_status)status) {
     case RICE_DONE: return "done";
     case RICE_BAD_BITS: return "bits per sample must be 1 to 32";
-    case RICE_BAD_BLOCK: return "block size must be 8, 16, 32 or 64";
+    case RICE_BAD_BLOCK: return "block size must be 8, 16, 32 or 64, or with any_block even, 2 to 64";
     case RICE_BAD_INTERVAL: return "interval must be 1 to 4096";
     case RICE_SAMPLE_OUT_OF_RANGE: return "a sample is out of range";
     case RICE_INPUT_CUT: return "input ends inside a sample";

@@ -37,11 +37,12 @@ class Setting(ctypes.Structure):
         ("three", ctypes.c_bool),
         ("preprocess", ctypes.c_bool),
         ("pad", ctypes.c_bool),
+        ("any_block", ctypes.c_bool),
     ]
 
     def __init__(self, bits=8, block=16, interval=128, is_signed=False, msb=sys.byteorder == "big", three=False,
-                 preprocess=True, pad=False):
-        super().__init__(bits, block, interval, is_signed, msb, three, preprocess, pad)
+                 preprocess=True, pad=False, any_block=False):
+        super().__init__(bits, block, interval, is_signed, msb, three, preprocess, pad, any_block)
 
     def __setattr__(self, name, value):
         # ctypes would take the lowest 32 bits of any number.
@@ -59,7 +60,7 @@ class RiceError(Exception):
 
     TEXTS = {
         1: "bits per sample must be 1 to 32",
-        2: "block size must be 8, 16, 32 or 64",
+        2: "block size must be 8, 16, 32 or 64, or with any_block even, 2 to 64",
         3: "interval must be 1 to 4096",
         4: "sample {} is out of range",
         5: "input ends inside sample {}",
@@ -173,6 +174,20 @@ def _try_refusals(code, setting):
     print("rice.py: numbers that can't be, and bytes that don't stand one after another, are refused")
 
 
+def _try_any_block(samples):
+    """Codes blocks of every even size there and back, and tries sizes that no block has."""
+    lengths = {}
+    for block in range(2, 65, 2):
+        setting = Setting(bits=16, block=block, any_block=True)
+        code = encode(samples, setting)
+        assert decode(code, len(samples), setting) == samples.tobytes(), block
+        lengths[block] = len(code)
+    for block in (0, 1, 7, 66):
+        assert _is_refused(lambda: encode(samples, Setting(bits=16, block=block, any_block=True)), RiceError), block
+    best = min(lengths, key=lengths.get)
+    print(f"rice.py: blocks of every even size come back; those of {best} samples have the shortest code, {lengths[best]} bytes")
+
+
 def _try_numpy():
     """Codes arrays of numpy there and back, with their numbers as its whole numbers."""
     try:
@@ -217,6 +232,7 @@ def main():
         else:
             raise AssertionError(status)
     _try_refusals(code, setting)
+    _try_any_block(samples)
     _try_numpy()
 
 

@@ -1,11 +1,12 @@
 -- The status of a call, and its number.
 use Rattle.std.specs.Prelude.{ℕ, Option, Some, None, Result, Ok, Err}
 use Rattle.rice_samples.specs.Parameters.{Parameters}
-use Rattle.rice_samples.specs.Settings.{setting_of}
 use Rattle.rice_samples.specs.declared.setting.SettingFault.{SettingFault}
 use Rattle.rice_samples.specs.declared.setting.SettingFault.TheVariants as settings
 use Rattle.rice_stream.specs.declared.outcome.Fault.{Fault}
 use Rattle.rice_stream.specs.declared.outcome.Fault.TheVariants as faults
+use Rattle.rice_c.specs.Asked.{setting_asked}
+use Rattle.rice_c.specs.declared.setting.RiceSetting.{RiceSetting}
 use Rattle.rice_c.specs.declared.status.Status.{Status}
 use Rattle.rice_c.specs.declared.status.Status.TheVariants.{Done, BadBits, BadBlock, BadInterval, SampleOutOfRange, InputCut, CodeEnds, RunPastSegment, ResidualTooLarge, NoRoom, TooLong}
 
@@ -27,6 +28,7 @@ number_of TooLong = 10
 abbrev pub refusal_status : SettingFault → Status
 refusal_status settings.BadBits = BadBits
 refusal_status settings.BadBlock = BadBlock
+refusal_status settings.BadAnyBlock = BadBlock
 refusal_status settings.BadInterval = BadInterval
 
 abbrev pub result_status : Result Parameters SettingFault → Status
@@ -34,8 +36,8 @@ result_status (Ok s) = Done
 result_status (Err fault) = refusal_status fault
 
 -- the status of a setting
-abbrev pub check_of : Parameters → Status
-check_of s = result_status (setting_of s)
+abbrev pub check_of : RiceSetting → Status
+check_of s = result_status (setting_asked s)
 
 -- the status of a call that stopped with this fault, or with none; memory is read without faults
 abbrev pub fault_status : Option Fault → Status

@@ -2,12 +2,11 @@
 ghost use Rattle.std.specs.Prelude.{◌≡◌, ◌≢◌, ℕ, ◌*◌, ◌/◌, ◌^◌, ◌<◌, ◌≤◌, length, IfOk, IfErr, Option, Some, None};
 ghost use Rattle.rice_bits.specs.device.Slice.{slice_left, slice_state, slice_failures};
 ghost use Rattle.rice_samples.specs.Parameters.{width};
-ghost use Rattle.rice_samples.specs.Settings.{setting_of};
 ghost use Rattle.rice_stream.specs.Calls.{Call, Happens, Fails};
 ghost use Rattle.rice_stream.specs.Encodes.{Encodes, EncodesWithin};
 ghost use Rattle.rice_stream.specs.Decodes.{Decodes, DecodesWithin};
 ghost use Rattle.rice_c.specs.declared.status.Status.TheVariants.{NoRoom};
-ghost use Rattle.rice_c.specs.Asked.{asked};
+ghost use Rattle.rice_c.specs.Asked.{setting_asked};
 ghost use Rattle.rice_c.specs.Calls.{EncodesInto, DecodesInto, Refuses};
 ghost use Rattle.rice_c.specs.Rooms.{code_room};
 ghost use Rattle.rice_c.specs.Statuses.{number_of};
@@ -26,9 +25,9 @@ pub extern "C" fn rice_encode(
     code: &mut [u8],
     report: &mut RiceReport,
 ) -> u32
-    ensures ok { IfOk (setting_of (asked setting.now)) (λ s. EncodesInto s samples.now code.old code.new report.new result) }
-    ensures refused { IfErr (setting_of (asked setting.now)) (λ fault. Refuses fault code.old code.new report.new result) }
-    ensures room { IfOk (setting_of (asked setting.now)) (λ s. code_room s (length samples.now / width s) ≤ length code.old →
+    ensures ok { IfOk (setting_asked setting.now) (λ s. EncodesInto s samples.now code.old code.new report.new result) }
+    ensures refused { IfErr (setting_asked setting.now) (λ fault. Refuses fault code.old code.new report.new result) }
+    ensures room { IfOk (setting_asked setting.now) (λ s. code_room s (length samples.now / width s) ≤ length code.old →
         result ≢ number_of NoRoom) }
 {
     match setting.legal() {
@@ -70,10 +69,10 @@ pub extern "C" fn rice_decode(
     samples: &mut [u8],
     report: &mut RiceReport,
 ) -> u32
-    ensures ok { IfOk (setting_of (asked setting.now)) (λ s.
+    ensures ok { IfOk (setting_asked setting.now) (λ s.
         DecodesInto s (Some count) code.now samples.old samples.new report.new result) }
-    ensures refused { IfErr (setting_of (asked setting.now)) (λ fault. Refuses fault samples.old samples.new report.new result) }
-    ensures room { IfOk (setting_of (asked setting.now)) (λ s. count * width s ≤ length samples.old → result ≢ number_of NoRoom) }
+    ensures refused { IfErr (setting_asked setting.now) (λ fault. Refuses fault samples.old samples.new report.new result) }
+    ensures room { IfOk (setting_asked setting.now) (λ s. count * width s ≤ length samples.old → result ≢ number_of NoRoom) }
 {
     match setting.legal() {
         Ok(setting) => decode_into(&setting, Some(count), code, samples, report),
@@ -89,8 +88,8 @@ pub extern "C" fn rice_decode_all(
     samples: &mut [u8],
     report: &mut RiceReport,
 ) -> u32
-    ensures ok { IfOk (setting_of (asked setting.now)) (λ s. DecodesInto s None code.now samples.old samples.new report.new result) }
-    ensures refused { IfErr (setting_of (asked setting.now)) (λ fault. Refuses fault samples.old samples.new report.new result) }
+    ensures ok { IfOk (setting_asked setting.now) (λ s. DecodesInto s None code.now samples.old samples.new report.new result) }
+    ensures refused { IfErr (setting_asked setting.now) (λ fault. Refuses fault samples.old samples.new report.new result) }
 {
     match setting.legal() {
         Ok(setting) => decode_into(&setting, None, code, samples, report),

@@ -1,13 +1,12 @@
 //! Encoding piece by piece, for a caller that has no room for all samples. All that is kept lies in the caller's memory.
 ghost use Rattle.std.specs.Prelude.{◌≡◌, ℕ, List, [], Some, IfOk, IfErr, ℤ};
 ghost use Rattle.rice_bits.specs.device.Slice.{slice_state, slice_failures};
-ghost use Rattle.rice_samples.specs.Settings.{setting_of};
 ghost use Rattle.rice_stream.specs.Calls.{Fails};
 ghost use Rattle.rice_stream.specs.Encodes.{EncodesWithin};
 ghost use Rattle.rice_stream.specs.EncodingState.{PushFails};
 ghost use Rattle.rice_stream.specs.Feeding.{IsSeam, EncodesMore, EncodesRest};
 ghost use Rattle.rice_stream.specs.declared.outcome.Fault.TheVariants.{Read};
-ghost use Rattle.rice_c.specs.Asked.{asked};
+ghost use Rattle.rice_c.specs.Asked.{setting_asked};
 ghost use Rattle.rice_c.specs.Calls.{Refuses};
 ghost use Rattle.rice_c.specs.Feeds.{Begins, PushesInto, FinishesInto, report_of_seam};
 ghost use Rattle.rice_c.specs.Statuses.{number_of, refusal_status as refusal_status_of};
@@ -30,8 +29,8 @@ pub struct RiceFeed {
 /// Begins a code of no samples, if the setting is legal. Returns the number of the status.
 #[unsafe(no_mangle)]
 pub extern "C" fn rice_begin(setting: &RiceSetting, feed: &mut RiceFeed) -> u32
-    ensures ok { IfOk (setting_of (asked setting.now)) (λ s. Begins s setting.now feed.new result) }
-    ensures refused { IfErr (setting_of (asked setting.now)) (λ fault.
+    ensures ok { IfOk (setting_asked setting.now) (λ s. Begins s setting.now feed.new result) }
+    ensures refused { IfErr (setting_asked setting.now) (λ fault.
         (result ≡ number_of (refusal_status_of fault)) × (feed.new ≡ feed.old)) }
 {
     match setting.legal() {
@@ -55,10 +54,10 @@ pub extern "C" fn rice_push(
     code: &mut [u8],
     report: &mut RiceReport,
 ) -> u32
-    requires { IfOk (setting_of (asked feed.old.setting)) (λ s. (xs : List ℤ) × IsSeam s feed.old.seam xs) }
-    ensures ok { IfOk (setting_of (asked feed.old.setting)) (λ s. (xs : List ℤ) → IsSeam s feed.old.seam xs →
+    requires { IfOk (setting_asked feed.old.setting) (λ s. (xs : List ℤ) × IsSeam s feed.old.seam xs) }
+    ensures ok { IfOk (setting_asked feed.old.setting) (λ s. (xs : List ℤ) → IsSeam s feed.old.seam xs →
         PushesInto s xs samples.now code.old code.new feed.old feed.new report.new result) }
-    ensures refused { IfErr (setting_of (asked feed.old.setting)) (λ fault.
+    ensures refused { IfErr (setting_asked feed.old.setting) (λ fault.
         Refuses fault code.old code.new report.new result × (feed.new ≡ feed.old)) }
 {
     match feed.setting.legal() {
@@ -75,10 +74,10 @@ pub extern "C" fn rice_finish(
     code: &mut [u8],
     report: &mut RiceReport,
 ) -> u32
-    requires { IfOk (setting_of (asked feed.now.setting)) (λ s. (xs : List ℤ) × IsSeam s feed.now.seam xs) }
-    ensures ok { IfOk (setting_of (asked feed.now.setting)) (λ s. (xs : List ℤ) → IsSeam s feed.now.seam xs →
+    requires { IfOk (setting_asked feed.now.setting) (λ s. (xs : List ℤ) × IsSeam s feed.now.seam xs) }
+    ensures ok { IfOk (setting_asked feed.now.setting) (λ s. (xs : List ℤ) → IsSeam s feed.now.seam xs →
         FinishesInto s xs samples.now code.old code.new report.new result) }
-    ensures refused { IfErr (setting_of (asked feed.now.setting)) (λ fault. Refuses fault code.old code.new report.new result) }
+    ensures refused { IfErr (setting_asked feed.now.setting) (λ fault. Refuses fault code.old code.new report.new result) }
 {
     match feed.setting.legal() {
         Ok(setting) => finish_into(&setting, &feed.seam, samples, code, report),

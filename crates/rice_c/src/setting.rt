@@ -1,8 +1,8 @@
 //! The setting as C gives it, and what follows from it alone.
 ghost use Rattle.std.specs.Prelude.{◌≡◌, ℕ, ◌^◌, ◌<◌, ◌≤◌, IsOk, IfOk, IfErr};
-ghost use Rattle.rice_samples.specs.Settings.{setting_of};
 ghost use Rattle.rice_samples.specs.Parameters.{IsLegal, width};
 ghost use Rattle.rice_code.specs.Bounds.{step_bound};
+ghost use Rattle.rice_c.specs.Asked.{setting_asked};
 ghost use Rattle.rice_c.specs.Rooms.{code_room};
 ghost use Rattle.rice_c.specs.Statuses.{number_of, check_of, refusal_status};
 
@@ -16,7 +16,7 @@ use rice_samples::{Setting, SettingFault};
 pub struct RiceSetting {
     /// The bits of a sample, 1 to 32.
     pub bits: u32,
-    /// The samples of a block: 8, 16, 32 or 64.
+    /// The samples of a block: 8, 16, 32 or 64, or with `any_block` an even number from 2 to 64.
     pub block: u32,
     /// The blocks of a reference interval, 1 to 4,096.
     pub interval: u32,
@@ -30,16 +30,30 @@ pub struct RiceSetting {
     pub preprocess: bool,
     /// Whether the code of each interval is filled to a byte.
     pub pad: bool,
+    /// Whether any even number of samples from 2 to 64 makes a block.
+    pub any_block: bool,
 }
 
 impl RiceSetting {
-    ghost use Rattle.rice_c.specs.Asked.{asked};
+    ghost use Rattle.rice_c.specs.Asked.{setting_asked};
 
     /// Returns the setting that is asked for, or why it is refused.
     pub fn legal(&self) -> Result<Setting, SettingFault>
-        ensures answer { result ≡ setting_of (asked self.now) }
+        ensures answer { result ≡ setting_asked self.now }
         ensures legal { IfOk result IsLegal }
     {
+        if self.any_block {
+            return Setting::with_any_block(
+                self.bits,
+                self.block,
+                self.interval,
+                self.is_signed,
+                self.msb,
+                self.three,
+                self.preprocess,
+                self.pad,
+            );
+        }
         Setting::new(
             self.bits,
             self.block,
@@ -53,12 +67,10 @@ impl RiceSetting {
     }
 }
 
-ghost use Rattle.rice_c.specs.Asked.{asked};
-
 /// Returns the number of the status of this setting: that of `Status::Done` if it is legal.
 #[unsafe(no_mangle)]
 pub extern "C" fn rice_check(setting: &RiceSetting) -> u32
-    ensures { result ≡ number_of (check_of (asked setting.now)) }
+    ensures { result ≡ number_of (check_of setting.now) }
 {
     match setting.legal() {
         Ok(_) => Status::Done.number(),
@@ -69,8 +81,8 @@ pub extern "C" fn rice_check(setting: &RiceSetting) -> u32
 /// Returns the number of bytes of a sample, 1 to 4, or 0 if the setting is not legal.
 #[unsafe(no_mangle)]
 pub extern "C" fn rice_sample_width(setting: &RiceSetting) -> u32
-    ensures ok { IfOk (setting_of (asked setting.now)) (λ s. result ≡ width s) }
-    ensures refused { IfErr (setting_of (asked setting.now)) (λ fault. result ≡ 0) }
+    ensures ok { IfOk (setting_asked setting.now) (λ s. result ≡ width s) }
+    ensures refused { IfErr (setting_asked setting.now) (λ fault. result ≡ 0) }
 {
     match setting.legal() {
         Ok(setting) => setting.width(),
@@ -82,9 +94,9 @@ pub extern "C" fn rice_sample_width(setting: &RiceSetting) -> u32
 /// not legal, or if there are more than 2^48 samples, which no call encodes.
 #[unsafe(no_mangle)]
 pub extern "C" fn rice_code_room(setting: &RiceSetting, samples: u64) -> u64
-    ensures ok { IfOk (setting_of (asked setting.now)) (λ s. samples ≤ 2 ^ 48 → result ≡ code_room s samples) }
+    ensures ok { IfOk (setting_asked setting.now) (λ s. samples ≤ 2 ^ 48 → result ≡ code_room s samples) }
     ensures many { 2 ^ 48 < samples → result ≡ 0 }
-    ensures refused { IfErr (setting_of (asked setting.now)) (λ fault. result ≡ 0) }
+    ensures refused { IfErr (setting_asked setting.now) (λ fault. result ≡ 0) }
 {
     if samples > 1 << 48 {
         return 0;
@@ -99,9 +111,9 @@ pub extern "C" fn rice_code_room(setting: &RiceSetting, samples: u64) -> u64
 /// are more than 2^48 samples, which no call encodes.
 #[unsafe(no_mangle)]
 pub extern "C" fn rice_step_bound(setting: &RiceSetting, samples: u64) -> u64
-    ensures ok { IfOk (setting_of (asked setting.now)) (λ s. samples ≤ 2 ^ 48 → result ≡ step_bound s samples) }
+    ensures ok { IfOk (setting_asked setting.now) (λ s. samples ≤ 2 ^ 48 → result ≡ step_bound s samples) }
     ensures many { 2 ^ 48 < samples → result ≡ 0 }
-    ensures refused { IfErr (setting_of (asked setting.now)) (λ fault. result ≡ 0) }
+    ensures refused { IfErr (setting_asked setting.now) (λ fault. result ≡ 0) }
 {
     if samples > 1 << 48 {
         return 0;

@@ -13,7 +13,7 @@ pub enum Status {
     Done,
     /// The bits per sample are not 1 to 32.
     BadBits,
-    /// The block size is none of the four.
+    /// The block size is none that is taken.
     BadBlock,
     /// The reference interval is not 1 to 4,096 blocks.
     BadInterval,
@@ -62,7 +62,7 @@ pub fn refusal_status(fault: SettingFault) -> Status
 {
     match fault {
         SettingFault::BadBits => Status::BadBits,
-        SettingFault::BadBlock => Status::BadBlock,
+        SettingFault::BadBlock | SettingFault::BadAnyBlock => Status::BadBlock,
         SettingFault::BadInterval => Status::BadInterval,
     }
 }

@@ -1,6 +1,7 @@
 -- What the coder looks at in order to code blocks. A look at a residual is a step.
 use Rattle.std.specs.Prelude.{ℕ, ◌+◌, ◌-◌, ◌*◌, min, if◌then◌else◌, List, sum_by, ℤ, pos}
-use Rattle.rice_samples.specs.Parameters.{Parameters, id_len, k_max}
+use Rattle.rice_samples.specs.Parameters.{Parameters, k_max}
+use Rattle.rice_code.specs.Bounds.{block_bound}
 use Rattle.rice_code.specs.code.Blocks.{BlockData, blocks_of, is_zero_block}
 use Rattle.rice_code.specs.code.Choice.{best_split}
 use Rattle.rice_code.specs.code.Code.{code_bits}
@@ -28,8 +29,8 @@ most_steps s xs = code_bits s xs + most_looks_at s xs
 
 -- the most steps of coding a segment, its samples included
 abbrev pub segment_steps : Parameters → ℕ
-segment_steps s = 64 * (id_len s + s.block * (s.bits + k_max s + 6))
+segment_steps s = 64 * (block_bound s + s.block * (k_max s + 6))
 
 -- and those for the samples aside
 abbrev pub coding_steps : Parameters → ℕ
-coding_steps s = 64 * (id_len s + s.block * (s.bits + k_max s + 5))
+coding_steps s = 64 * (block_bound s + s.block * (k_max s + 5))

@@ -1,8 +1,7 @@
 //! Bounds on the bits and steps of coding.
-ghost use Rattle.std.specs.Prelude.{◌≡◌, ℕ, ◌+◌, ◌*◌, ◌^◌, ◌≤◌};
-ghost use Rattle.rice_samples.specs.Parameters.{id_len};
+ghost use Rattle.std.specs.Prelude.{◌≡◌, ℕ, ◌^◌, ◌≤◌};
 ghost use Rattle.rice_samples.specs.Places.{block_count as blocks_of};
-ghost use Rattle.rice_code.specs.Bounds.{bit_bound as most_bits, padded_bound as most_padded_bits, step_bound as most_steps};
+ghost use Rattle.rice_code.specs.Bounds.{block_bound as most_of_block, bit_bound as most_bits, padded_bound as most_padded_bits, step_bound as most_steps};
 
 use rice_samples::Setting;
 
@@ -10,9 +9,9 @@ use rice_samples::Setting;
 pub fn bit_bound(setting: &Setting, samples: u64) -> u64
     requires { samples ≤ 2 ^ 48 }
     ensures value { result ≡ most_bits setting.now samples }
-    ensures limit { result ≤ 2 ^ 57 }
+    ensures limit { result ≤ 2 ^ 59 }
 {
-    block_count(setting, samples) * block_bits(setting)
+    block_count(setting, samples) * block_bound(setting)
 }
 
 /// Returns the most bits that the code of `samples` samples, at most 2^48, can have with the padding of
@@ -20,7 +19,7 @@ pub fn bit_bound(setting: &Setting, samples: u64) -> u64
 pub fn padded_bound(setting: &Setting, samples: u64) -> u64
     requires { samples ≤ 2 ^ 48 }
     ensures value { result ≡ most_padded_bits setting.now samples }
-    ensures limit { result ≤ 2 ^ 58 }
+    ensures limit { result ≤ 2 ^ 60 }
 {
     let bits = bit_bound(setting, samples);
     if !setting.pads() {
@@ -35,25 +34,26 @@ pub fn padded_bound(setting: &Setting, samples: u64) -> u64
 pub fn step_bound(setting: &Setting, samples: u64) -> u64
     requires { samples ≤ 2 ^ 48 }
     ensures value { result ≡ most_steps setting.now samples }
-    ensures limit { result ≤ 2 ^ 58 }
+    ensures limit { result ≤ 2 ^ 60 }
 {
-    let residual = (setting.bits() + setting.k_max() + 6) as u64;
-    block_count(setting, samples) * (setting.id_len() as u64 + setting.block() as u64 * residual)
+    let looks = setting.block() * (setting.k_max() + 6);
+    block_count(setting, samples) * (block_bound(setting) + looks as u64)
 }
 
 /// Returns the number of blocks of `samples` samples, with a short last one.
 fn block_count(setting: &Setting, samples: u64) -> u64
     requires { samples ≤ 2 ^ 48 }
     ensures value { result ≡ blocks_of setting.now samples }
-    ensures limit { result ≤ 2 ^ 45 }
+    ensures limit { result ≤ 2 ^ 47 }
 {
     samples.div_ceil(setting.block() as u64)
 }
 
-/// Returns the number of bits of a block without compression.
-fn block_bits(setting: &Setting) -> u64
-    ensures value { result ≡ id_len setting.now + setting.now.block * setting.now.bits }
+/// Returns the most bits of a block: those that it has without compression, or those of a run of one block.
+fn block_bound(setting: &Setting) -> u64
+    ensures value { result ≡ most_of_block setting.now }
     ensures limit { result ≤ 2053 }
 {
-    (setting.id_len() + setting.block() * setting.bits()) as u64
+    let plain = setting.block() * setting.bits();
+    (setting.id_len() + plain.max(setting.bits() + 2)) as u64
 }

@@ -7,6 +7,7 @@ pub mod decoding_examples;
 pub mod encode;
 pub mod examples;
 pub mod laws;
+mod sizes;
 
 pub use bounds::{bit_bound, padded_bound, step_bound};
 pub use decode::decoder::Decoder;

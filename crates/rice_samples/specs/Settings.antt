@@ -1,8 +1,8 @@
 -- Which settings there are, and which of their parameters is refused first.
-use Rattle.std.specs.Prelude.{ℕ, Bool, ◌≤◌, if◌then◌else◌, nat_le, ◌&&◌, ◌||◌, ◌==◌, Result, Ok, Err}
-use Rattle.rice_samples.specs.Parameters.{Parameters, IsBlockSize}
+use Rattle.std.specs.Prelude.{ℕ, Bool, ◌≤◌, ◌%◌, if◌then◌else◌, nat_le, ◌&&◌, ◌||◌, ◌==◌, Result, Ok, Err}
+use Rattle.rice_samples.specs.Parameters.{Parameters, IsBlockSize, IsStandardSize}
 use Rattle.rice_samples.specs.declared.setting.SettingFault.{SettingFault}
-use Rattle.rice_samples.specs.declared.setting.SettingFault.TheVariants.{BadBits, BadBlock, BadInterval}
+use Rattle.rice_samples.specs.declared.setting.SettingFault.TheVariants.{BadBits, BadBlock, BadAnyBlock, BadInterval}
 
 abbrev pub parameters : ℕ → ℕ → ℕ → Bool → Bool → Bool → Bool → Bool → Parameters
 parameters bits block interval signed msb three preprocess pad = record {
@@ -20,7 +20,10 @@ abbrev pub HasLegalBits : Parameters → Type 0
 HasLegalBits s = (1 ≤ s.bits) × (s.bits ≤ 32)
 
 abbrev pub HasLegalBlock : Parameters → Type 0
-HasLegalBlock s = IsBlockSize s.block
+HasLegalBlock s = IsStandardSize s.block
+
+abbrev pub HasAnyBlock : Parameters → Type 0
+HasAnyBlock s = IsBlockSize s.block
 
 abbrev pub HasLegalInterval : Parameters → Type 0
 HasLegalInterval s = (1 ≤ s.interval) × (s.interval ≤ 4096)
@@ -29,7 +32,15 @@ HasLegalInterval s = (1 ≤ s.interval) × (s.interval ≤ 4096)
 abbrev pub IsRefused : Parameters → SettingFault → Type 0
 IsRefused s BadBits = ¬ HasLegalBits s
 IsRefused s BadBlock = HasLegalBits s × ¬ HasLegalBlock s
+IsRefused s BadAnyBlock = ⊥
 IsRefused s BadInterval = HasLegalBits s × HasLegalBlock s × ¬ HasLegalInterval s
+
+-- and where any size that a block can have is taken
+abbrev pub IsRefusedOfAny : Parameters → SettingFault → Type 0
+IsRefusedOfAny s BadBits = ¬ HasLegalBits s
+IsRefusedOfAny s BadBlock = ⊥
+IsRefusedOfAny s BadAnyBlock = HasLegalBits s × ¬ HasAnyBlock s
+IsRefusedOfAny s BadInterval = HasLegalBits s × HasAnyBlock s × ¬ HasLegalInterval s
 
 -- the setting with these parameters where they are legal, else the fault of the first that is not
 abbrev pub setting_of : Parameters → Result Parameters SettingFault
@@ -38,4 +49,13 @@ setting_of s =
     (if s.block == 8 || s.block == 16 || s.block == 32 || s.block == 64 then
     (if nat_le 1 s.interval && nat_le s.interval 4096 then Ok s else Err BadInterval)
     else Err BadBlock)
+    else Err BadBits
+
+-- and where any size that a block can have is taken
+abbrev pub any_setting_of : Parameters → Result Parameters SettingFault
+any_setting_of s =
+    if nat_le 1 s.bits && nat_le s.bits 32 then
+    (if nat_le 2 s.block && nat_le s.block 64 && s.block % 2 == 0 then
+    (if nat_le 1 s.interval && nat_le s.interval 4096 then Ok s else Err BadInterval)
+    else Err BadAnyBlock)
     else Err BadBits

@@ -2,8 +2,8 @@
 ghost use Rattle.std.specs.Prelude.{◌≡◌, ◌⊎◌, ℕ, ◌+◌, ◌-◌, ◌*◌, ◌%◌, ◌^◌, ◌<◌, ◌≤◌, ◌↔◌, IsTrue, IsOk, IfErr, ℤ};
 ghost use Rattle.rice_samples.specs.Parameters.{Parameters, IsLegal, IsSample, id_len, k_max, width, value_at as value_at_level, value_count, least, level, level as level_of};
 ghost use Rattle.rice_samples.specs.Places.{segment_blocks, blocks_left, is_reference};
-ghost use Rattle.rice_samples.specs.Parameters.{IsBlockSize};
-ghost use Rattle.rice_samples.specs.Settings.{parameters, setting_of, IsRefused};
+ghost use Rattle.rice_samples.specs.Parameters.{IsBlockSize, IsStandardSize};
+ghost use Rattle.rice_samples.specs.Settings.{parameters, setting_of, any_setting_of, IsRefused, IsRefusedOfAny};
 ghost use Rattle.rice_samples.specs.bytes.Values.{offset};
 
 use std::marker::Model;
@@ -18,6 +18,9 @@ pub enum SettingFault {
     /// The block size is none of the four.
     #[error("block size must be 8, 16, 32 or 64")]
     BadBlock,
+    /// The block size is no even number from 2 to 64, where any of these is taken.
+    #[error("block size must be even, 2 to 64")]
+    BadAnyBlock,
     /// The reference interval is not 1 to 4,096 blocks.
     #[error("interval must be 1 to 4096")]
     BadInterval,
@@ -80,14 +83,42 @@ impl Setting {
         ensures answer { result ≡
             setting_of (parameters bits block interval signed msb three preprocess pad) }
         ensures legal { IsOk result ↔
-            IsLegal (parameters bits block interval signed msb three preprocess pad) }
+            IsLegal (parameters bits block interval signed msb three preprocess pad) × IsStandardSize block }
         ensures refused { IfErr result (IsRefused (parameters bits block interval signed msb three preprocess pad)) }
+    {
+        let is_standard = block == 8 || block == 16 || block == 32 || block == 64;
+        if 1 <= bits && bits <= 32 && !is_standard {
+            return Err(SettingFault::BadBlock);
+        }
+        Setting::with_any_block(bits, block, interval, signed, msb, three, preprocess, pad)
+    }
+
+    /// Returns the setting with these parameters, as `new` does, for blocks of any even number of samples from 2 to 64.
+    /// The standard has the sizes 8, 16, 32 and 64 alone; its code is the same for all.
+    ///
+    /// Refuses the first parameter that is not legal: `BadBits` unless `bits` is 1 to 32, then `BadAnyBlock` unless
+    /// `block` is such a number, then `BadInterval` unless `interval` is 1 to 4,096.
+    pub fn with_any_block(
+        bits: u32,
+        block: u32,
+        interval: u32,
+        signed: bool,
+        msb: bool,
+        three: bool,
+        preprocess: bool,
+        pad: bool,
+    ) -> Result<Setting, SettingFault>
+        ensures answer { result ≡
+            any_setting_of (parameters bits block interval signed msb three preprocess pad) }
+        ensures legal { IsOk result ↔
+            IsLegal (parameters bits block interval signed msb three preprocess pad) }
+        ensures refused { IfErr result (IsRefusedOfAny (parameters bits block interval signed msb three preprocess pad)) }
     {
         if bits < 1 || bits > 32 {
             return Err(SettingFault::BadBits);
         }
-        if block != 8 && block != 16 && block != 32 && block != 64 {
-            return Err(SettingFault::BadBlock);
+        if block < 2 || block > 64 || block % 2 != 0 {
+            return Err(SettingFault::BadAnyBlock);
         }
         if interval < 1 || interval > 4096 {
             return Err(SettingFault::BadInterval);
@@ -114,12 +145,12 @@ impl Setting {
         self.bits
     }
 
-    /// Returns the number of samples of a block, J: 8, 16, 32 or 64.
+    /// Returns the number of samples of a block, J: an even number from 2 to 64.
     #[inline]
     pub fn block(&self) -> u32
         ensures value { result ≡ self.now.block }
         ensures size { IsBlockSize result }
-        ensures range { (8 ≤ result) × (result ≤ 64) }
+        ensures range { (2 ≤ result) × (result ≤ 64) }
         ensures legal { IsLegal self.now }
     {
         self.block

@@ -11,10 +11,10 @@ use Rattle.std.proofs.lemmas.List.{length-replicate, length-take}
 use Rattle.std.proofs.lemmas.List.Elements.{All-take}
 use Rattle.rice_bits.specs.Bits.{bits_in_bytes, bits_to_byte, padded_bits, whole_bytes}
 use Rattle.rice_bits.proofs.lemmas.bits.Bytes.{bits_of-whole_bytes, length-bits_of}
-use Rattle.rice_samples.specs.Parameters.{Parameters, IsLegal, IsSample, id_len, width}
+use Rattle.rice_samples.specs.Parameters.{Parameters, IsLegal, IsSample, width}
 use Rattle.rice_samples.specs.Places.{block_count, interval_count, cut}
 use Rattle.rice_samples.specs.bytes.Spelling.{spellings}
-use Rattle.rice_code.specs.Bounds.{bit_bound, padding_bound, padded_bound}
+use Rattle.rice_code.specs.Bounds.{block_bound, bit_bound, padding_bound, padded_bound}
 use Rattle.rice_code.specs.code.Code.{code, output, early_output}
 use Rattle.rice_code.proofs.lemmas.cost.PaddingBounds.{padding_is_bounded}
 use Rattle.rice_code.proofs.lemmas.code.SoundBlocks.{code_is_bounded}
@@ -46,9 +46,9 @@ padding_le false a b le = omega arith
 
 bound_le : (s : Parameters) (m n : ℕ) → IsLegal s → m ≤ n → padded_bound s m ≤ padded_bound s n
 bound_le s m n legal le =
-    let j : 1 ≤ s.block = let k : 8 ≤ s.block = grind (arith, legal.block) in omega arith in
+    let j : 1 ≤ s.block = let k : 2 ≤ s.block = grind (arith, legal.block) in omega arith in
     let blocks : block_count s m ≤ block_count s n = div_ceil_le m n s.block j le in
-    let bits : bit_bound s m ≤ bit_bound s n = mul-le-mul_right (id_len s + s.block * s.bits) blocks in
+    let bits : bit_bound s m ≤ bit_bound s n = mul-le-mul_right (block_bound s) blocks in
     let pads : padding_bound s m ≤ padding_bound s n = padding_le s.pad (interval_count s m) (interval_count s n) (div_ceil_le (block_count s m) (block_count s n) s.interval legal.interval_from blocks) in
     omega arith
 

@@ -15,6 +15,7 @@ use crate::decode::coded_data_set::read_set;
 use crate::decode::fault::{CodeFault, Step};
 use crate::decode::options::SetHead;
 use crate::decode::restoring::{restore_block, restore_zeros};
+use crate::sizes::known_or;
 use arrayvec::ArrayVec;
 use rice_bits::{BitFault, BitReader, Intake, Meter};
 use rice_samples::Setting;
@@ -291,11 +292,12 @@ impl Decoder {
             8 => self.read_sized::<I, 8>(reader, meter, levels),
             16 => self.read_sized::<I, 16>(reader, meter, levels),
             32 => self.read_sized::<I, 32>(reader, meter, levels),
-            _ => self.read_sized::<I, 64>(reader, meter, levels),
+            64 => self.read_sized::<I, 64>(reader, meter, levels),
+            _ => self.read_sized::<I, 0>(reader, meter, levels),
         }
     }
 
-    /// Reads a coded data set, and restores the samples of its first block, which are `SIZE`, by their levels.
+    /// Reads a coded data set, and restores the samples of its first block, which are `SIZE` unless that is 0, by their levels.
     #[inline(never)]
     fn read_sized<I: Intake, const SIZE: usize>(
         &mut self,
@@ -303,7 +305,7 @@ impl Decoder {
         meter: &mut Meter,
         levels: &mut ArrayVec<u32, 64>,
     ) -> Result<Step, CodeFault>
-        requires size { SIZE ≡ self.old.setting.block }
+        requires size { 0 < SIZE → SIZE ≡ self.old.setting.block }
         requires stopped { self.old.stopped ≡ None }
         requires run { self.old.run ≡ 0 }
         requires going { reader.old.refusal ≡ None }
@@ -320,11 +322,12 @@ impl Decoder {
     {
         let _taken = reader.taken();
         reader.mark();
+        let size = known_or::<SIZE>(self.setting.block() as usize);
         let setting = &self.setting;
         let block = self.block;
         let before = self.before;
         let (residuals, highs) = self.scratch.split_at_mut(64);
-        let residuals = &mut residuals[..SIZE];
+        let residuals = &mut residuals[..size];
         match read_set(setting, block, reader, meter, residuals, highs) {
             Ok(
                 SetHead::Residuals {

@@ -16,10 +16,11 @@ use crate::encode::held_block::HeldBlock;
 use crate::encode::options::{put_no_compression, put_run, put_second_extension, put_split};
 use crate::encode::prepared::PreparedSetting;
 use crate::encode::search::{Choice, choose};
+use crate::sizes::known_or;
 use rice_bits::Meter;
 use rice_samples::{Block, Segment};
 
-/// Appends the shortest code of a block of `SIZE` residuals that is not zero. It has the reference `word`, where `REFERENCE`
+/// Appends the shortest code of a block that is not zero, of `SIZE` residuals, or of any number where `SIZE` is 0. It has the reference `word`, where `REFERENCE`
 /// is true, and else none.
 ///
 /// It is never inlined, so that the loop over the blocks stays short, and takes the parts of the block,
@@ -32,7 +33,7 @@ fn code_block<const SIZE: usize, const REFERENCE: bool>(
     sink: &mut SegmentSink,
     meter: &mut Meter,
 )
-    requires size { length residuals ≡ SIZE }
+    requires size { 0 < SIZE → SIZE ≡ length residuals }
     requires sound { IsSoundData setting.now (block_with (if REFERENCE then Some word else None) residuals) }
     requires room { HasRoomForShortest setting.now (block_with (if REFERENCE then Some word else None) residuals)
         sink.old meter.old }
@@ -42,7 +43,7 @@ fn code_block<const SIZE: usize, const REFERENCE: bool>(
     // What a copy and a count of its own say stays in registers from step to step.
     let own = *setting;
     let reference = if REFERENCE { Some(word) } else { None };
-    let block = HeldBlock::new(reference, residuals.sized(SIZE));
+    let block = HeldBlock::new(reference, residuals.sized(known_or::<SIZE>(residuals.len())));
     let mut steps = Meter::new();
     let (choice, bits) = choose(&own, &block, &mut steps);
     match choice {
@@ -121,7 +122,7 @@ fn code_next<const SIZE: usize>(
 ) -> u32
     requires few { run < 64 }
     requires fits { IfSome reference (λ v. v < value_count setting.now) }
-    requires size { length block.residuals ≡ SIZE }
+    requires size { 0 < SIZE → SIZE ≡ length block.residuals }
     requires sound { IsSoundData setting.now block }
     requires look { meter.old + setting.now.block < 2 ^ 62 }
     requires room { is_zero_block block ≡ false →
@@ -184,7 +185,8 @@ pub fn code_blocks(
         8 => code_each::<8>(setting, start, reference, count, segment, sink, meter),
         16 => code_each::<16>(setting, start, reference, count, segment, sink, meter),
         32 => code_each::<32>(setting, start, reference, count, segment, sink, meter),
-        _ => code_each::<64>(setting, start, reference, count, segment, sink, meter),
+        64 => code_each::<64>(setting, start, reference, count, segment, sink, meter),
+        _ => code_each::<0>(setting, start, reference, count, segment, sink, meter),
     }
 }
 
@@ -199,7 +201,7 @@ fn code_each<const SIZE: usize>(
     sink: &mut SegmentSink,
     meter: &mut Meter,
 )
-    requires size { SIZE ≡ setting.now.block }
+    requires size { 0 < SIZE → SIZE ≡ setting.now.block }
     requires place { place setting.now start ≡ start }
     requires begins { begins_segment setting.now start ≡ true }
     requires few { count ≤ blocks_left setting.now start }
@@ -211,10 +213,11 @@ fn code_each<const SIZE: usize>(
     ensures { PutsBlocks setting.now start (held_blocks setting.now reference count segment.now)
         sink.old sink.new meter.old meter.new }
 {
-    let _size = setting.block();
+    let size = setting.block();
+    let known = known_or::<SIZE>(size as usize);
     let mut run: u32 = 0;
     for i in 0..count {
-        let block = HeldBlock::new(reference_of(reference, i), segment.block(i, SIZE));
+        let block = HeldBlock::new(reference_of(reference, i), segment.block(i, known));
         run = code_next::<SIZE>(
             setting,
             reference,

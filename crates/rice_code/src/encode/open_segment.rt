@@ -276,7 +276,8 @@ fn blocks_of(setting: &PreparedSetting, len: usize) -> usize
         8 => len / 8,
         16 => len / 16,
         32 => len / 32,
-        _ => len / 64,
+        64 => len / 64,
+        size => len / size as usize,
     }
 }
 

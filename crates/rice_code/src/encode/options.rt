@@ -228,7 +228,7 @@ pub fn put_split(
         fields.put(sink, meter);
         return;
     }
-    if k <= 7 {
+    if k <= 7 && residuals.len() % 8 == 0 {
         put_short_low(residuals, from, k, &mut fields, sink, meter);
         fields.put(sink, meter);
         return;

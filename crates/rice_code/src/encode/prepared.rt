@@ -61,7 +61,7 @@ impl PreparedSetting {
     pub fn block(&self) -> u32
         ensures value { result ≡ self.now.block }
         ensures size { IsBlockSize result }
-        ensures range { (8 ≤ result) × (result ≤ 64) }
+        ensures range { (2 ≤ result) × (result ≤ 64) }
         ensures legal { IsLegal self.now }
     {
         self.setting.block()

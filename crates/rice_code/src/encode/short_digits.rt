@@ -48,6 +48,7 @@ pub fn put_short_low(
 )
     requires width { width ≤ 7 }
     requires from { from ≤ 1 }
+    requires eights { length block.now % 8 ≡ 0 }
     requires room { HasRoomForEights width (length block.now) from
         (length sink.old + length fields.old) (meter.old + length fields.old) }
     ensures { AddsEights width from block.now

@@ -44,8 +44,40 @@ pub fn put_short_high(
     }
     let held = std::mem::replace(fields, BitBuffer::new());
     let mut steps = Meter::new();
+    if len % 16 != 0 {
+        *fields = put_each_high(block.sized(len), from, k, held, sink, &mut steps);
+        meter.tick(steps.steps());
+        return;
+    }
     *fields = put_sixteens(block.sized(len), from, k, held, sink, &mut steps);
     meter.tick(steps.steps());
+}
+
+/// Adds those of a block of any number of residuals, one by one, and returns the buffer.
+#[inline(never)]
+fn put_each_high(
+    block: Block<'_>,
+    from: usize,
+    k: u32,
+    mut fields: BitBuffer,
+    sink: &mut SegmentSink,
+    meter: &mut Meter,
+) -> BitBuffer
+    requires split { k ≤ 29 }
+    requires from { from ≤ 1 }
+    requires room { HasRoomForOnes k (length block) (length block - from) (drop from block)
+        (length sink.old + length fields) (meter.old + length fields) }
+    ensures { AddsOnes k (length block.entry) (length block.entry - from) (drop from block.entry)
+        sink.old fields sink.new result meter.old meter.new }
+{
+    // The residual that is not sent is looked at too.
+    let len = block.len();
+    meter.tick(from as u64);
+    for i in from..len {
+        let residual = block.at(i, meter);
+        fields.add_fs(residual >> k, sink, meter);
+    }
+    fields
 }
 
 /// Adds those of a block of several times 16 residuals, sixteen by sixteen, and returns the buffer.

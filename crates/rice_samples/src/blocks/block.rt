@@ -11,7 +11,7 @@ use crate::blocks::minimum::{first_small_stop, first_stop};
 use rice_bits::{BitSink, Meter};
 use std::marker::Model;
 
-/// The residuals of a block, 8, 16, 32 or 64 of them, lent by a segment. Contracts see their list.
+/// The residuals of a block, an even number of them up to 64, lent by a segment. Contracts see their list.
 ///
 /// Each look at a residual is a step. The calls below tick one for each residual of the block, `at`
 /// ticks one, `four_at` four, `put_digits` one for each that it puts, and `first_stop` the looks of
@@ -43,12 +43,12 @@ impl<'a> Block<'a> {
 }
 
 impl Block<'_> {
-    /// Returns the number of residuals: 8, 16, 32 or 64.
+    /// Returns the number of residuals: an even number from 2 to 64.
     #[inline]
     pub fn len(&self) -> usize
         ensures value { result ≡ length self.now }
         ensures size { IsBlockSize result }
-        ensures range { (8 ≤ result) × (result ≤ 64) }
+        ensures range { (2 ≤ result) × (result ≤ 64) }
     {
         self.items.len()
     }

@@ -1,5 +1,5 @@
 //! The lengths of the codewords that second extension sends for pairs of residuals.
-ghost use Rattle.std.specs.Prelude.{◌≡◌, ℕ, ◌+◌, ◌^◌, ◌<◌, ◌≤◌, All, length, sum_by};
+ghost use Rattle.std.specs.Prelude.{◌≡◌, ℕ, ◌+◌, ◌%◌, ◌^◌, ◌<◌, ◌≤◌, All, length, sum_by};
 ghost use Rattle.rice_samples.specs.blocks.Pairs.{pair_code, pair_codes};
 ghost use Rattle.rice_samples.specs.Parameters.{IsBlockSize};
 
@@ -15,14 +15,16 @@ pub(crate) fn pair_sum(items: &[u32]) -> u128
     // The loops unroll where the length is known.
     match items.len() {
         8 => narrowest_pair_sum(all_of(items, 8)),
-        _ => narrowest_pair_sum(items),
+        len if len % 8 == 0 => narrowest_pair_sum(items),
+        _ => large_pair_sum(items),
     }
 }
 
 /// The same, counted in 32 or 64 bits where all residuals are so small.
 #[inline(always)]
 fn narrowest_pair_sum(items: &[u32]) -> u128
-    requires { IsBlockSize (length items.now) }
+    requires size { IsBlockSize (length items.now) }
+    requires eights { length items.now % 8 ≡ 0 }
     ensures value { result ≡ sum_by (λ g. g + 1) (pair_codes items.now) }
     ensures limit { result ≤ 2 ^ 72 }
 {

@@ -14,8 +14,21 @@ pub(crate) fn all_zero(items: &[u32]) -> bool
     // The loop unrolls where the length is known.
     match items.len() {
         8 => each_is_zero(all_of(items, 8)),
-        _ => each_is_zero(items),
+        len if len % 8 == 0 => each_is_zero(items),
+        _ => each_is_zero_in_turn(items),
     }
+}
+
+/// The same, one at a time.
+fn each_is_zero_in_turn(items: &[u32]) -> bool
+    ensures { result ≡ list_all (λ d. d == 0) items.now }
+{
+    for i in 0..items.len() {
+        if items[i] != 0 {
+            return false;
+        }
+    }
+    true
 }
 
 #[inline(always)]
@@ -59,9 +72,24 @@ pub(crate) fn sum_shifted(items: &[u32], k: u32) -> u64
         16 => wide_sum(all_of(items, 16), k),
         32 if 4 <= 1usize << k => narrow_sum(all_of(items, 32), k),
         32 => wide_sum(all_of(items, 32), k),
+        len if len % 8 != 0 => sum_in_turn(items, k),
         _ if 8 <= 1usize << k => narrow_sum(items, k),
         _ => wide_sum(items, k),
     }
+}
+
+/// The sum of the numbers without their `k` lowest digits, one at a time.
+fn sum_in_turn(items: &[u32], k: u32) -> u64
+    requires few { length items.now ≤ 64 }
+    requires shift { k < 32 }
+    ensures value { result ≡ sum_by (λ d. d / 2 ^ k) items.now }
+    ensures limit { result ≤ 2 ^ 38 }
+{
+    let mut total: u64 = 0;
+    for i in 0..items.len() {
+        total += (items[i] >> k) as u64;
+    }
+    total
 }
 
 /// All `len` numbers, with a length that the compiler knows where it knows `len`.
@@ -111,6 +139,20 @@ fn narrow_sum(items: &[u32], k: u32) -> u64
 /// The same where the sum is so small that nothing overflows 32 bits.
 #[inline(always)]
 pub(crate) fn small_sum(items: &[u32], k: u32) -> u32
+    requires few { length items.now ≤ 64 }
+    requires small { sum_by (λ d. d / 2 ^ k) items.now < 2 ^ 32 }
+    requires shift { k < 32 }
+    ensures { result ≡ sum_by (λ d. d / 2 ^ k) items.now }
+{
+    if items.len() % 8 != 0 {
+        return sum_in_turn(items, k) as u32;
+    }
+    small_sum_of_eights(items, k)
+}
+
+/// The same, eight at a time.
+#[inline(always)]
+fn small_sum_of_eights(items: &[u32], k: u32) -> u32
     requires chunks { length items.now % 8 ≡ 0 }
     requires small { sum_by (λ d. d / 2 ^ k) items.now < 2 ^ 32 }
     requires shift { k < 32 }

@@ -114,7 +114,8 @@ impl Segment {
         self.len = 0;
     }
 
-    /// Returns block `i`: the `size` residuals from number `i * size` on, where `size` is 8, 16, 32 or 64.
+    /// Returns block `i`: the `size` residuals from number `i * size` on, where `size` is an even number
+    /// from 2 to 64.
     #[inline]
     pub fn block(&self, i: usize, size: usize) -> Block<'_>
         requires size { IsBlockSize size }

@@ -12,7 +12,7 @@ use Rattle.rice_samples.specs.Parameters.{Parameters, IsLegal, IsSample, id_len,
 use Rattle.rice_samples.specs.Places.{block_count}
 use Rattle.rice_samples.specs.predict.Residuals.{last_of}
 use Rattle.rice_samples.proofs.lemmas.setting.Levels.{zero_is_sample}
-use Rattle.rice_code.specs.Bounds.{bit_bound, step_bound, amortised_step_bound}
+use Rattle.rice_code.specs.Bounds.{block_bound, bit_bound, step_bound, amortised_step_bound}
 use Rattle.rice_code.specs.code.Code.{code_bits}
 use Rattle.rice_code.specs.encode.Coder.{HasTaken, complete_samples, fill_samples}
 use Rattle.rice_code.specs.encode.OpenSegment.{CoderState}
@@ -57,18 +57,18 @@ count_le j n m c d one le few enough = elim (cases_lt d c) [
 pub early_bounded : (s : Parameters) (xs : List ℤ) → Settles s xs → Bounded s (length xs) (code_bits s (complete_samples s xs)) (length xs + most_steps s (complete_samples s xs))
 early_bounded s xs h =
     let zs = complete_samples s xs in
-    let j : 1 ≤ s.block = let k : 8 ≤ s.block = grind (arith, h.setting.block) in omega arith in
+    let j : 1 ≤ s.block = let k : 2 ≤ s.block = grind (arith, h.setting.block) in omega arith in
     let c = block_count s (length zs) in
     let d = block_count s (length xs) in
     let le : c ≤ d = count_le s.block (length zs) (length xs) c d j h.few (div_ceil_times (length zs) s.block j).1 (div_ceil_times (length xs) s.block j).0 in
     let bits = code_is_bounded s h.setting 0 (pos 0) zs (zero_is_sample s h.setting.bits_from) h.legal_settled in
     let steps = all_steps_are_bounded s h.setting zs h.legal_settled in
-    let each = mul-le-mul_right (id_len s + s.block * s.bits) le in
+    let each = mul-le-mul_right (block_bound s) le in
     let e : c + (d - c) ≡ d = omega arith in
-    let all = at s.block (length xs) c (d - c) (id_len s) (s.bits + k_max s) (most_steps s zs) (code_bits s zs) (subst (λ (v : ℕ). length xs ≤ v * s.block) (sym e) (div_ceil_times (length xs) s.block j).0) steps.0 steps.1 in
+    let all = at s.block (length xs) c (d - c) (block_bound s) (k_max s) (most_steps s zs) (code_bits s zs) (subst (λ (v : ℕ). length xs ≤ v * s.block) (sym e) (div_ceil_times (length xs) s.block j).0) steps.0 steps.1 in
     record {
       bits = omega (arith, bits, each);
-      steps = subst (λ (v : ℕ). length xs + most_steps s zs ≤ v * (id_len s + s.block * (s.bits + k_max s + 6))) e all.0;
+      steps = subst (λ (v : ℕ). length xs + most_steps s zs ≤ v * (block_bound s + s.block * (k_max s + 6))) e all.0;
       amortised = subst (λ (v : ℕ). length xs + most_steps s zs ≤ 2 * code_bits s zs + 7 * s.block * v) e all.1;
     }
   where
@@ -79,7 +79,7 @@ early_bounded s xs h =
 -- and of all
 pub all_bounded : (s : Parameters) (xs : List ℤ) → Settles s xs → Bounded s (length xs) (code_bits s xs) (length xs + fill_samples s xs + most_steps s xs)
 all_bounded s xs h =
-    let j : 1 ≤ s.block = let k : 8 ≤ s.block = grind (arith, h.setting.block) in omega arith in
+    let j : 1 ≤ s.block = let k : 2 ≤ s.block = grind (arith, h.setting.block) in omega arith in
     let steps = all_steps_are_bounded s h.setting xs h.legal in
     let full = filled_count s xs j in
     record {
@@ -96,21 +96,30 @@ all_bounded s xs h =
         let same : k ≡ fill_samples s xs = (let e : n + (s.block - n % s.block) % s.block - n ≡ (s.block - n % s.block) % s.block = omega arith in e) in
         ap (λ m. n + m) (sym same ∙ sym (length-replicate k x)) ∙ sym (length-append xs (replicate k x)) ∙ filled_len s (pos 0) xs j
 
+-- a block has at most a bit more than its samples as they are, and its identifier
+pub block_bound_le : (s : Parameters) → IsLegal s → block_bound s ≤ id_len s + 1 + s.block * s.bits
+block_bound_le s legal =
+    let two : 2 * s.bits ≤ s.block * s.bits = mul-le-mul_right s.bits legal.block.0 in
+    omega (arith, two, legal.bits_from)
+
 -- few samples take few steps
 pub few_steps : (s : Parameters) (n : ℕ) → IsLegal s → step_bound s n ≤ 73 * n + 4700
 few_steps s n legal =
-    let j : 8 ≤ s.block = grind (arith, legal.block) in
+    let j : 2 ≤ s.block = grind (arith, legal.block) in
     let most : s.block ≤ 64 = grind (arith, legal.block) in
     let i : id_len s ≤ 5 = grind (arith, nat_tests) in
     let k : k_max s ≤ 29 = grind (arith, nat_tests) in
-    at s.block n (block_count s n) (id_len s) (s.bits + k_max s) (omega arith) most i (omega (arith, legal.bits_to, k)) (div_ceil_times n s.block (omega arith)).1
+    let all = at s.block n (block_count s n) (id_len s + 1) (s.bits + k_max s) (omega arith) most (omega (arith, i)) (omega (arith, legal.bits_to, k)) (div_ceil_times n s.block (omega arith)).1 in
+    let each : block_bound s + s.block * (k_max s + 6) ≤ id_len s + 1 + s.block * (s.bits + k_max s + 6) = omega (arith, block_bound_le s legal) in
+    let less : step_bound s n ≤ block_count s n * (id_len s + 1 + s.block * (s.bits + k_max s + 6)) = mul-le-mul_left (block_count s n) each in
+    omega (arith, all, less)
   where
-    both : (c id x z n j : ℕ) → c * id ≤ 5 * c → c * x ≤ 67 * z → c ≤ z → j ≤ 64 → z < n + j → c * (id + x) ≤ 73 * n + 4700
+    both : (c id x z n j : ℕ) → c * id ≤ 6 * c → c * x ≤ 67 * z → c ≤ z → j ≤ 64 → z < n + j → c * (id + x) ≤ 73 * n + 4700
     both c id x z n j h f g few lt = omega arith
 
-    at : (j n c id k : ℕ) → 1 ≤ j → j ≤ 64 → id ≤ 5 → k ≤ 61 → c * j < n + j → c * (id + j * (k + 6)) ≤ 73 * n + 4700
+    at : (j n c id k : ℕ) → 1 ≤ j → j ≤ 64 → id ≤ 6 → k ≤ 61 → c * j < n + j → c * (id + j * (k + 6)) ≤ 73 * n + 4700
     at j n c id k one few h f lt =
-        let a : c * id ≤ c * 5 = mul-le-mul_left c h in
+        let a : c * id ≤ c * 6 = mul-le-mul_left c h in
         let b : c * (j * (k + 6)) ≤ c * (j * 67) = mul-le-mul_left c (mul-le-mul_left j (omega arith)) in
         let d : c * 1 ≤ c * j = mul-le-mul_left c one in
         let e : c * (j * 67) ≡ 67 * (c * j) = omega arith in

@@ -213,7 +213,7 @@ ends_here s front rest begun b all wanted ending used behind goes ends =
 pub ends_reached : (s : Parameters) (front rest : List Bool) (begun b run : ℕ) (all : List ℤ) (n : ℕ) → IsLegal s → DecodedSoFar s front begun b run all → ((i : ℕ) → i < begun → IsWanted s (Some n) i) → n ≤ s.block * b →
     Decoded s (front ++ rest) (Some n) (cut_to s (Some n) 0 all) Reached (length front + 0)
 ends_reached s front rest begun b run all n legal behind goes enough =
-    let j : 1 ≤ s.block = let k : 8 ≤ s.block = grind (arith, legal.block) in omega arith in
+    let j : 1 ≤ s.block = let k : 2 ≤ s.block = grind (arith, legal.block) in omega arith in
     let p = last_of (pos 0) all in
     let hp = last_legal s (pos 0) all (zero_is_sample s legal.bits_from) (recursion_from_All (IsSample s) all behind.legal) in
     let made = blocks_have_samples s b p (replicate run (zero_block s None)) legal j hp behind.sound in

@@ -250,9 +250,9 @@ last_steps {s = s} {sets = sets} {front = front} last waiting bytes ending in_la
 -- the samples that were asked for are reached
 pub reached_ends : {I : Type 0} {s : Parameters} {asked : Option ℕ} {start : Reader I} {out_old out : Option Room} {p : DecoderState} {r : Reader I} {steps written : ℕ} {rep : Report} {f : Option Fault} {left : Option (List ℕ)} {failed : ℕ} → IsLegal s
     → (runs : DecodingProgress s asked start out_old out p r steps written) → wanted_of asked written s.block ≡ 0 → Reports rep f left failed r written steps None → Ends s asked start.left left out_old out rep f
-reached_ends {s = s} {asked = None} legal runs none tells = absurd (let j : 8 ≤ s.block = grind (arith, legal.block) in omega arith)
+reached_ends {s = s} {asked = None} legal runs none tells = absurd (let j : 2 ≤ s.block = grind (arith, legal.block) in omega arith)
 reached_ends {s = s} {asked = Some n} {p = p} {r = r} {rep = rep} {left = left} legal runs none tells =
-    let j : 8 ≤ s.block = grind (arith, legal.block) in
+    let j : 2 ≤ s.block = grind (arith, legal.block) in
     let so = runs.has_written in
     let read = runs.has_read in
     let ys = cut_to s (Some n) 0 runs.given in
@@ -422,7 +422,7 @@ refused_ends : {I : Type 0} {s : Parameters} {asked : Option ℕ} {start : Reade
 refused_ends {s = s} {asked = asked} {start = start} {p = p} {r = r} {new = new} {steps = steps} {steps_new = steps_new} {written = written} {rep = rep} {left = left} P ending fault other legal runs some none refused by_rule by_turns counted tells ends =
     let b = runs.blocks in
     let so = runs.has_written in
-    let j : 1 ≤ s.block = let k : 8 ≤ s.block = grind (arith, legal.block) in omega arith in
+    let j : 1 ≤ s.block = let k : 2 ≤ s.block = grind (arith, legal.block) in omega arith in
     let set = bits_of_set s refused.set in
     let rest = set ++ new.waiting in
     let read = has_read-append runs.has_read refused.takes.draws refused.takes.taken in

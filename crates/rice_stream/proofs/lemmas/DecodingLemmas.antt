@@ -108,7 +108,7 @@ gains_set : {I : Type 0} (s : Parameters) (r new : Reader I) (steps steps_new b 
     → IsLegal s → place s b ≡ c → p ≡ last_of (pos 0) given → r.taken ≡ length front → begun ≤ b → HasSets s sets front b → DecodedSoFar s front begun b 0 given
     → GivesSet (with_mark r) new steps steps_new s c p xs run → Gains s r new steps steps_new front sets b run given xs
 gains_set {I = I} s r new steps steps_new b c begun run p front sets given xs legal here previous taken before has behind gives =
-    let j : 1 ≤ s.block = let k : 8 ≤ s.block = grind (arith, legal.block) in omega arith in
+    let j : 1 ≤ s.block = let k : 2 ≤ s.block = grind (arith, legal.block) in omega arith in
     let e = same_place s b c legal.interval_from here in
     let set = gives.set in
     let d = set.set in
@@ -155,7 +155,7 @@ gains_run : {I : Type 0} (s : Parameters) (r new : Reader I) (steps steps_new b 
     → IsLegal s → place s b ≡ c → p ≡ last_of (pos 0) given → r.refusal ≡ None → begun ≤ b → HasSets s sets front (b + run) → DecodedSoFar s front begun b run given → new ≡ r → steps_new ≡ steps
     → GivesBlock s c p xs run_new (replicate run (zero_block s None)) → Gains s r new steps steps_new front sets b run_new given xs
 gains_run {I = I} s r new steps steps_new b c begun run run_new p front sets given xs legal here previous going before has behind same same_steps gives =
-    let j : 1 ≤ s.block = let k : 8 ≤ s.block = grind (arith, legal.block) in omega arith in
+    let j : 1 ≤ s.block = let k : 2 ≤ s.block = grind (arith, legal.block) in omega arith in
     let block = run_gives_there s b c run run_new p xs j (same_place s b c legal.interval_from here) gives in
     let all = decoded_with_run_block s front begun b run run_new given xs behind (subst (λ (q : ℤ). GivesBlock s b q xs run_new (replicate run (zero_block s None))) previous block) in
     let nothing : r.taken ≡ r.taken + 0 = omega arith in

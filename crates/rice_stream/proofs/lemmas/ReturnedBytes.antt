@@ -20,6 +20,7 @@ use Rattle.rice_code.proofs.lemmas.meaning.OneMeaning.{decoded_is_one}
 use Rattle.rice_code.proofs.lemmas.cost.PaddingBounds.{padding_is_bounded}
 use Rattle.rice_code.proofs.lemmas.meaning.Returned as returned
 use Rattle.rice_code.proofs.lemmas.code.SoundBlocks.{code_is_bounded}
+use Rattle.rice_stream.proofs.lemmas.BoundLemmas.{block_bound_le}
 use Rattle.rice_stream.proofs.lemmas.SpellingLengths.{length-spellings, spellings-append}
 use Rattle.rice_stream.specs.Calls.{Call, PassesLimit}
 use Rattle.rice_stream.specs.Decodes.{DecodesBytes, EndsDecoding}
@@ -83,12 +84,13 @@ few_pads s b some = at b (div_ceil b s.interval) s.interval some (div_ceil_times
       | inr le ↦ le
     ]
 
-code_short : (s : Parameters) → IsLegal s → (xs : List ℤ) → All (IsSample s) xs → length (code s xs) ≤ block_count s (length xs) * (id_len s + s.block * s.bits) + 7 * block_count s (length xs)
+code_short : (s : Parameters) → IsLegal s → (xs : List ℤ) → All (IsSample s) xs → length (code s xs) ≤ block_count s (length xs) * (id_len s + 1 + s.block * s.bits) + 7 * block_count s (length xs)
 code_short s legal xs k =
     let bits = padding_is_bounded s legal xs k in
     let count = code_is_bounded s legal 0 (pos 0) xs (zero_is_sample s legal.bits_from) k in
     let pads = by_pad s.pad (interval_count s (length xs)) (block_count s (length xs)) (few_pads s (block_count s (length xs)) legal.interval_from) in
-    omega (arith, bits, count, pads)
+    let each = mul-le-mul_left (block_count s (length xs)) (block_bound_le s legal) in
+    omega (arith, bits, count, pads, each)
   where
     by_pad : (pad : Bool) (c b : ℕ) → c ≤ b → cond pad (7 * c) 0 ≤ 7 * b
     by_pad true c b h = omega arith
@@ -102,26 +104,26 @@ output_bits s xs =
 
 output_short : (s : Parameters) → IsLegal s → (xs : List ℤ) → All (IsSample s) xs → width s * length xs ≤ 281474976710656 → length (output s xs) ≤ 562949953421312
 output_short s legal xs k limit =
-    let j : 8 ≤ s.block = grind (arith, legal.block) in
+    let j : 2 ≤ s.block = grind (arith, legal.block) in
     let most : s.block ≤ 64 = grind (arith, legal.block) in
     let i : id_len s ≤ 5 = grind (arith, nat_tests) in
     let some : 1 ≤ width s = grind (arith, nat_tests) in
     let few : width s ≤ 4 = grind (arith, nat_tests) in
     let holds : s.bits ≤ 8 * width s = grind (arith, nat_tests, legal.bits_to) in
-    at s.block (length xs) (block_count s (length xs)) (id_len s) s.bits (width s) (length (code s xs)) (length (output s xs)) j most i some few holds limit (div_ceil_times (length xs) s.block (omega arith)).1 (code_short s legal xs k) (output_bits s xs)
+    at s.block (length xs) (block_count s (length xs)) (id_len s + 1) s.bits (width s) (length (code s xs)) (length (output s xs)) j most (omega (arith, i)) some few holds limit (div_ceil_times (length xs) s.block (omega arith)).1 (code_short s legal xs k) (output_bits s xs)
   where
-    sums : (b id x z w m bits bytes : ℕ) → b * id ≤ 5 * b → b * x ≤ 8 * z → z ≤ w * m + 256 → 8 * b ≤ m + 64 → m ≤ w * m → w * m ≤ 281474976710656 → bits ≤ b * (id + x) + 7 * b → 8 * bytes ≤ bits + 7 → bytes ≤ 562949953421312
+    sums : (b id x z w m bits bytes : ℕ) → b * id ≤ 6 * b → b * x ≤ 8 * z → z ≤ w * m + 256 → 2 * b ≤ m + 64 → m ≤ w * m → w * m ≤ 281474976710656 → bits ≤ b * (id + x) + 7 * b → 8 * bytes ≤ bits + 7 → bytes ≤ 562949953421312
     sums b id x z w m bits bytes h f g few some limit most whole = omega arith
 
-    at : (j m b id n w bits bytes : ℕ) → 8 ≤ j → j ≤ 64 → id ≤ 5 → 1 ≤ w → w ≤ 4 → n ≤ 8 * w → w * m ≤ 281474976710656 → b * j < m + j → bits ≤ b * (id + j * n) + 7 * b → 8 * bytes ≤ bits + 7 → bytes ≤ 562949953421312
+    at : (j m b id n w bits bytes : ℕ) → 2 ≤ j → j ≤ 64 → id ≤ 6 → 1 ≤ w → w ≤ 4 → n ≤ 8 * w → w * m ≤ 281474976710656 → b * j < m + j → bits ≤ b * (id + j * n) + 7 * b → 8 * bytes ≤ bits + 7 → bytes ≤ 562949953421312
     at j m b id n w bits bytes lo hi h some four holds limit few most whole =
-        let first : b * id ≤ b * 5 = mul-le-mul_left b h in
+        let first : b * id ≤ b * 6 = mul-le-mul_left b h in
         let each : b * j * n ≤ b * j * (8 * w) = mul-le-mul_left (b * j) holds in
         let same : b * (j * n) ≡ b * j * n = sym (mul_assoc b j n) in
         let eight : b * j * (8 * w) ≡ 8 * (b * j * w) = omega arith in
         let z : b * j * w ≤ (m + j) * w = mul-le-mul_right w (omega arith) in
         let all : (m + j) * w ≤ w * m + 256 = (let p : j * w ≤ 64 * w = mul-le-mul_right w hi in omega arith) in
-        let blocks : b * 8 ≤ b * j = mul-le-mul_left b lo in
+        let blocks : b * 2 ≤ b * j = mul-le-mul_left b lo in
         let more : m * 1 ≤ m * w = mul-le-mul_left m some in
         sums b id (j * n) (b * j * w) w m bits bytes (omega arith) (omega (arith, same, each, eight)) (omega (arith, z, all)) (omega (arith, blocks, few, hi)) (omega arith) limit most whole
 

@@ -1,4 +1,4 @@
-use Rattle.std.proofs.Common.{◌≡◌, ◌∷◌, [], ◌++◌, Bool, List, length, replicate, true, false, Some, None, refl, lit<, lit≤, ap, arith, sym, ◌∙◌, append_assoc, length-append, inl}
+use Rattle.std.proofs.Common.{◌≡◌, ◌∷◌, [], ◌++◌, Bool, List, length, replicate, true, false, Some, None, refl, lit<, lit≤, ap, arith, sym, ◌∙◌, append_assoc, length-append}
 use Rattle.std.specs.Prelude.{flat_map}
 use Rattle.std.specs.List.{range_with_len}
 use Rattle.rice_bits.specs.Bits.{word, bits_of}
@@ -16,7 +16,7 @@ abbrev block : BlockData
 block = record { reference = Some 0; residuals = 0 ∷ 1 ∷ replicate 6 2 }
 
 legal : IsLegal defaults
-legal = record { bits_from = lit≤ tt; bits_to = lit≤ tt; block = inl refl; interval_from = lit≤ tt; interval_to = lit≤ tt }
+legal = record { bits_from = lit≤ tt; bits_to = lit≤ tt; block = (lit≤ tt, lit≤ tt, refl); interval_from = lit≤ tt; interval_to = lit≤ tt }
 
 -- what is missing of the coded data set
 missing : List Bool

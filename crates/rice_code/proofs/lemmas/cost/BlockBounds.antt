@@ -4,7 +4,7 @@ use Rattle.std.specs.Prelude.{sum_by}
 use Rattle.std.specs.List.{best_of, range_with_len, AllByRecursion}
 use Rattle.std.proofs.lemmas.Bool.Decides.{nat_tests}
 use Rattle.std.proofs.lemmas.List.Sums.{sum_by-cons}
-use Rattle.std.proofs.Math.Nat.{mul-le-mul_left, mul-le-mul_right}
+use Rattle.std.proofs.Math.Nat.{mul-le-mul_left}
 use Rattle.rice_samples.specs.Parameters.{Parameters, IsLegal, id_len, k_max}
 use Rattle.rice_samples.specs.Places.{begins_segment}
 use Rattle.rice_code.specs.code.Blocks.{BlockData, is_zero_block}
@@ -13,6 +13,7 @@ use Rattle.rice_code.specs.code.Forms.{IsForm, IsReference}
 use Rattle.rice_code.specs.code.Choice.{shortest, other_options}
 use Rattle.rice_code.specs.code.SoundBlocks.{IsSoundBlock, AreSoundBlocks}
 use Rattle.rice_code.specs.code.Code.{data_sets}
+use Rattle.rice_code.specs.Bounds.{block_bound}
 use Rattle.rice_code.specs.Laws.{RunIsNeverLonger}
 use Rattle.rice_code.specs.code.Runs.{zero_run, run_len}
 use Rattle.rice_code.proofs.lemmas.meaning.Covers.{bool_cases, skipped, data_sets_plain, data_sets_start, data_sets_inside, skipped_nil, skipped_plain, skipped_go, skipped_stop, zero_run_is, best_keeps, run_cons}
@@ -39,11 +40,7 @@ shortest_is_form s b c h =
     splits from zero le = tt
     splits from (suc n) le = ((h.block, h.at_reference, omega arith), splits (from + 1) n (omega arith))
 
--- a block of J samples of n bits and an identifier
-abbrev pub block_bits : Parameters → ℕ
-block_bits s = id_len s + s.block * s.bits
-
-pub shortest_bound : (s : Parameters) (b : ℕ) (c : BlockData) → 1 ≤ s.block → IsSoundBlock s b c → length (bits_of_set s (shortest s c)) ≤ block_bits s
+pub shortest_bound : (s : Parameters) (b : ℕ) (c : BlockData) → 1 ≤ s.block → IsSoundBlock s b c → length (bits_of_set s (shortest s c)) ≤ block_bound s
 shortest_bound s b c j h =
     let e = cost_is_length s b (shortest s c) j (shortest_is_form s b c h) in
     let f = best_costs (cost s) (NoCompression c) (other_options s c) in
@@ -51,13 +48,11 @@ shortest_bound s b c j h =
     omega arith
 
 -- a run of z blocks costs at most as much as z blocks
-run_cost : (i j n w number : ℕ) → 8 ≤ j → 1 ≤ n → 3 ≤ i → number ≤ w + 5 → (w ≡ 0 → number ≡ 0) → i + 1 + n + number + 1 ≤ suc w * (i + j * n)
-run_cost i j n zero number h k p m o = let z = o refl in let q = mul-le-mul_right n h in omega arith
-run_cost i j n (suc w) number h k p m o =
-    let q : 8 * n ≤ j * n = mul-le-mul_right n h in
-    let big : 11 ≤ i + j * n = omega arith in
-    let r : suc w * 11 ≤ suc w * (i + j * n) = mul-le-mul_left (suc w) big in
-    omega arith
+run_cost : (i bound n w number : ℕ) → i + n + 2 ≤ bound → 1 ≤ n → 3 ≤ i → number ≤ w + 5 → (w ≡ 0 → number ≡ 0) → i + 1 + n + number + 1 ≤ suc w * bound
+run_cost i bound n zero number h k p m o = let z = o refl in omega (arith, h, z)
+run_cost i bound n (suc w) number h k p m o =
+    let r : suc w * 6 ≤ suc w * bound = mul-le-mul_left (suc w) (omega (arith, h, k, p)) in
+    omega (arith, r, h, m)
 
 pub reference_bound : (s : Parameters) (r : Option ℕ) → reference_len s r ≤ s.bits
 reference_bound s None = omega arith
@@ -67,30 +62,30 @@ reference_bound s (Some v) = omega arith
 number_bound : (w : ℕ) → (run_number (suc w) ≤ w + 5) × (w ≡ 0 → run_number (suc w) ≡ 0)
 number_bound w = (grind (arith, nat_tests), λ e. ap (λ v. run_number (suc v)) e)
 
-pub run_bound : (s : Parameters) (b w : ℕ) (r : Option ℕ) (cs : List BlockData) → IsLegal s → IsReference s b r → run_len s b cs ≡ suc w → length (bits_of_set s (zero_run s b r cs)) ≤ suc w * block_bits s
+pub run_bound : (s : Parameters) (b w : ℕ) (r : Option ℕ) (cs : List BlockData) → IsLegal s → IsReference s b r → run_len s b cs ≡ suc w → length (bits_of_set s (zero_run s b r cs)) ≤ suc w * block_bound s
 run_bound s b w r cs legal h e =
-    let j : 8 ≤ s.block = grind (arith, legal.block) in
+    let j : id_len s + s.bits + 2 ≤ block_bound s = omega arith in
     let i : 3 ≤ id_len s = grind (arith, nat_tests) in
     let ref = reference_bound s r in
-    let j' : 1 ≤ s.block = omega arith in
+    let j' : 1 ≤ s.block = omega (arith, legal.block) in
     elim (zero_run_is s b r cs) [
       | inl f ↦
           let number = number_bound w in
-          let c = run_cost (id_len s) s.block s.bits w (run_number (suc w)) j legal.bits_from i number.0 number.1 in
+          let c = run_cost (id_len s) (block_bound s) s.bits w (run_number (suc w)) j legal.bits_from i number.0 number.1 in
           let len = cost_is_length s b (ZeroBlocks r (suc w)) j' (h, omega arith) in
-          subst (λ (d : CodedDataSet). length (bits_of_set s d) ≤ suc w * block_bits s) (sym (f ∙ ap (λ z. ZeroBlocks r z) e)) (omega arith)
+          subst (λ (d : CodedDataSet). length (bits_of_set s d) ≤ suc w * block_bound s) (sym (f ∙ ap (λ z. ZeroBlocks r z) e)) (omega arith)
       | inr f ↦
           let z : 5 ≤ suc w = omega (arith, f.2) in
-          let c = run_cost (id_len s) s.block s.bits w 4 j legal.bits_from i (omega arith) (λ e. absurd (omega arith)) in
+          let c = run_cost (id_len s) (block_bound s) s.bits w 4 j legal.bits_from i (omega arith) (λ e. absurd (omega arith)) in
           let len = cost_is_length s b (RemainderOfSegment r) j' h in
-          subst (λ (d : CodedDataSet). length (bits_of_set s d) ≤ suc w * block_bits s) (sym f.0) (omega arith)
+          subst (λ (d : CodedDataSet). length (bits_of_set s d) ≤ suc w * block_bound s) (sym f.0) (omega arith)
     ]
 
 pub run_is_never_longer : RunIsNeverLonger
 run_is_never_longer s legal b reference blocks h some =
     let e : run_len s b blocks ≡ suc (run_len s b blocks - 1) = omega arith in
     let bound = run_bound s b (run_len s b blocks - 1) reference blocks legal h e in
-    let same = ap (λ n. n * block_bits s) e in
+    let same = ap (λ n. n * block_bound s) e in
     omega (arith, bound, same)
 
 -- the bits of coded data sets without padding
@@ -102,10 +97,10 @@ text_bits_cons s d ds = sum_by-cons (λ d. length (bits_of_set s d)) d ds
 
 -- the code of blocks, where those that are skipped have been paid for
 pub bounded : (s : Parameters) (b : ℕ) (behind : Bool) (cs : List BlockData) → IsLegal s → AreSoundBlocks s b cs →
-    text_bits s (data_sets s b behind cs) + skipped s b behind cs * block_bits s ≤ length cs * block_bits s
-bounded s b behind [] legal k = let e = skipped_nil s b behind in let f = ap (λ n. n * block_bits s) e in omega arith
+    text_bits s (data_sets s b behind cs) + skipped s b behind cs * block_bound s ≤ length cs * block_bound s
+bounded s b behind [] legal k = let e = skipped_nil s b behind in let f = ap (λ n. n * block_bound s) e in omega arith
 bounded s b behind (c ∷ cs) legal k =
-    let m = block_bits s in
+    let m = block_bound s in
     let at = λ (n : ℕ) (ds : List CodedDataSet) (e : skipped s b behind (c ∷ cs) ≡ n) (f : data_sets s b behind (c ∷ cs) ≡ ds) (g : text_bits s ds + n * m ≤ suc (length cs) * m).
     let p = ap (λ n. n * m) e in let q = ap (λ ds. text_bits s ds) f in goal_from _ _ _ _ _ p q g in
     let j : 1 ≤ s.block = grind (arith, legal.block) in

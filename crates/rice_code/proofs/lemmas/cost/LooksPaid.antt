@@ -12,7 +12,7 @@ use Rattle.rice_samples.specs.predict.Residuals.{last_of, filled_samples}
 use Rattle.rice_samples.proofs.lemmas.setting.Levels.{zero_is_sample}
 use Rattle.rice_samples.specs.blocks.Pairs.{pair_code, pair_codes}
 use Rattle.rice_code.specs.code.Blocks.{BlockData, blocks_of, is_zero_block}
-use Rattle.rice_code.specs.Bounds.{step_bound, amortised_step_bound}
+use Rattle.rice_code.specs.Bounds.{block_bound, step_bound, amortised_step_bound}
 use Rattle.rice_code.specs.code.CodedDataSets.{CodedDataSet, NoCompression, SecondExtension, Split, bits_of_set, cost, sent_residuals, sent_from, reference_len}
 use Rattle.rice_code.specs.code.Code.{data_sets, data_set_at, bits_from, code_bits}
 use Rattle.rice_code.specs.code.SoundBlocks.{IsSoundData, AreSoundBlocks}
@@ -212,7 +212,7 @@ behind_whole s legal q xs ys len begins =
     )
 
 pub steps_are_bounded : (s : Parameters) → IsLegal s → (blocks : ℕ) (xs ys : List ℤ) → All (IsSample s) xs → All (IsSample s) ys → length xs ≡ s.block * blocks → begins_segment s blocks ≡ true →
-    most_steps s (xs ++ ys) ≤ most_steps s xs + block_count s (length ys) * (id_len s + s.block * (s.bits + k_max s + 5))
+    most_steps s (xs ++ ys) ≤ most_steps s xs + block_count s (length ys) * (block_bound s + s.block * (k_max s + 5))
 steps_are_bounded s legal q xs ys h k len begins =
     let p = last_of (pos 0) xs in
     let sample = last_legal s (pos 0) xs (zero_is_sample s legal.bits_from) (recursion_from_All (IsSample s) xs h) in
@@ -221,15 +221,12 @@ steps_are_bounded s legal q xs ys h k len begins =
     let n = block_count s (length ys) in
     let count = count_blocks s q p n (filled_samples s p ys) in
     let looks = looks_are_few s (blocks_of s q p ys) in
-    sums n (id_len s) s.block s.bits (k_max s) _ _ _ _ _ _ _ parts.0 parts.1 bits looks count
+    sums n (block_bound s) (s.block * (k_max s + 5)) _ _ _ _ _ _ _ parts.0 parts.1 bits looks count
   where
-    sums : (n i j bits k b b' more l l' looks len : ℕ) → b' ≡ b + more → l' ≡ l + looks → more ≤ n * (i + j * bits) → looks ≤ len * (j * (k + 5)) → len ≡ n → b' + l' ≤ b + l + n * (i + j * (bits + k + 5))
-    sums n i j bits k b b' more l l' looks len e f h g c =
-        let m = ap (λ v. v * (j * (k + 5))) c in
-        let p : i + j * (bits + k + 5) ≡ i + j * bits + j * (k + 5) = omega arith in
-        let q : n * (i + j * bits + j * (k + 5)) ≡ n * (i + j * bits) + n * (j * (k + 5)) = omega arith in
-        let r = ap (λ v. n * v) p in
-        omega (arith, m, q, r)
+    sums : (n bound each b b' more l l' looks len : ℕ) → b' ≡ b + more → l' ≡ l + looks → more ≤ n * bound → looks ≤ len * each → len ≡ n → b' + l' ≤ b + l + n * (bound + each)
+    sums n bound each b b' more l l' looks len e f h g c =
+        let m = ap (λ v. v * each) c in
+        omega (arith, m)
 
 pub steps_are_paid : (s : Parameters) → IsLegal s → (blocks : ℕ) (xs ys : List ℤ) → All (IsSample s) xs → All (IsSample s) ys → length xs ≡ s.block * blocks → begins_segment s blocks ≡ true →
     most_steps s (xs ++ ys) + 2 * code_bits s xs ≤ most_steps s xs + 2 * code_bits s (xs ++ ys) + 6 * s.block * block_count s (length ys)
@@ -261,15 +258,13 @@ all_steps_are_bounded s legal xs k =
     let bits = code_is_bounded s legal 0 p xs zero k in
     let looks = looks_are_few s (blocks_of s 0 p xs) in
     let paid = looks_of_all_are_paid s 0 false (blocks_of s 0 p xs) legal (blocks_sound_behind s 0 p xs legal j zero (recursion_from_All (IsSample s) xs k)) in
-    (few n (id_len s) s.block s.bits (k_max s) _ _ _ bits looks count, by_bits n s.block _ _ _ paid count)
+    (few n (block_bound s) s.block (k_max s) _ _ _ bits looks count, by_bits n s.block _ _ _ paid count)
   where
-    few : (n i j bits k b looks len : ℕ) → b ≤ n * (i + j * bits) → looks ≤ len * (j * (k + 5)) → len ≡ n → j * n + (b + looks) ≤ n * (i + j * (bits + k + 6))
-    few n i j bits k b looks len h g c =
+    few : (n bound j k b looks len : ℕ) → b ≤ n * bound → looks ≤ len * (j * (k + 5)) → len ≡ n → j * n + (b + looks) ≤ n * (bound + j * (k + 6))
+    few n bound j k b looks len h g c =
         let m = ap (λ v. v * (j * (k + 5))) c in
-        let p : i + j * (bits + k + 6) ≡ i + j * bits + j * (k + 5) + j = omega arith in
-        let q : n * (i + j * bits + j * (k + 5) + j) ≡ n * (i + j * bits) + n * (j * (k + 5)) + j * n = omega arith in
-        let r = ap (λ v. n * v) p in
-        omega (arith, m, q, r)
+        let q : n * (bound + j * (k + 6)) ≡ n * bound + n * (j * (k + 5)) + j * n = omega arith in
+        omega (arith, m, q)
 
     by_bits : (n j b looks len : ℕ) → looks ≤ b + len * (6 * j) → len ≡ n → j * n + (b + looks) ≤ 2 * b + 7 * j * n
     by_bits n j b looks len g c =

@@ -10,7 +10,7 @@ use Rattle.rice_bits.proofs.lemmas.bits.OneWay.{sequence_reads}
 use Rattle.rice_bits.proofs.lemmas.read.ReaderLemmas.{takes-append, stops-append}
 pub use Rattle.rice_bits.proofs.lemmas.bits.Joining.{up_to_end}
 use Rattle.rice_bits.proofs.lemmas.bits.Words.{length-word, word-nil}
-use Rattle.rice_samples.specs.Parameters.{Parameters, IsLegal, value_count, k_max}
+use Rattle.rice_samples.specs.Parameters.{Parameters, IsBlockSize, IsLegal, value_count, k_max}
 use Rattle.rice_samples.specs.Places.{is_reference}
 use Rattle.rice_code.specs.code.Blocks.{BlockData}
 use Rattle.rice_samples.specs.blocks.Pairs.{pair_codes}
@@ -336,15 +336,15 @@ split_cut old mid new s b k r count f h n t cut = record {
 }
 
 -- a block is two halves
-pub two_halves : (n : ℕ) → (n ≡ 8) ⊎ (n ≡ 16) ⊎ (n ≡ 32) ⊎ (n ≡ 64) → n / 2 + n / 2 ≡ n
-two_halves n h = grind (arith, h)
+pub two_halves : (n : ℕ) → IsBlockSize n → n / 2 + n / 2 ≡ n
+two_halves n h = omega (arith, h.2)
 
 one_at_most : (r : Option ℕ) → length (reference_place r) ≤ 1
 one_at_most None = omega arith
 one_at_most (Some v) = omega arith
 
-sizes : (n : ℕ) → (n ≡ 8) ⊎ (n ≡ 16) ⊎ (n ≡ 32) ⊎ (n ≡ 64) → (1 ≤ n) × (n ≤ 64)
-sizes n h = (grind (arith, h), grind (arith, h))
+sizes : (n : ℕ) → IsBlockSize n → (1 ≤ n) × (n ≤ 64)
+sizes n h = (omega (arith, h.0), h.1)
 
 -- the residuals that are sent of a block
 pub sent_part : (s : Parameters) (r : Option ℕ) (first : ℕ) (xs : List ℕ) → IsLegal s → first ≡ length (reference_place r) → length xs ≡ s.block

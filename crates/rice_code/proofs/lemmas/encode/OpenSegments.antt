@@ -16,28 +16,27 @@ use Rattle.rice_code.specs.code.CodedDataSets.{bits_of_set, bits_of_sets}
 use Rattle.rice_code.specs.encode.HeldBlocks.{held_blocks, code_of_blocks, PutsBlocks}
 use Rattle.rice_code.specs.code.SoundBlocks.{AreSoundBlocks}
 use Rattle.rice_code.specs.Steps.{least_looks, most_looks}
-use Rattle.rice_code.proofs.lemmas.cost.BlockBounds.{bounded, block_bits}
+use Rattle.rice_code.specs.Bounds.{block_bound}
+use Rattle.rice_code.proofs.lemmas.cost.BlockBounds.{bounded}
 use Rattle.rice_code.proofs.lemmas.code.SegmentLayouts.{code_lies}
 use Rattle.rice_code.proofs.lemmas.code.SegmentPlaces.{begins_next, next_start_is}
 use Rattle.rice_code.proofs.lemmas.encode.PendingRuns.{held_len}
 
 -- the room that a segment takes
-pub segment_room : (s : Parameters) (n : ℕ) → IsLegal s → n ≤ 64 → n * block_bits s ≤ 131392
+pub segment_room : (s : Parameters) (n : ℕ) → IsLegal s → n ≤ 64 → n * block_bound s ≤ 131392
 segment_room s n h k =
     let j : s.block ≤ 64 = grind (arith, h.block) in
     let i : id_len s ≤ 5 = grind (arith, nat_tests) in
     let a : s.block * s.bits ≤ s.block * 32 = mul-le-mul_left s.block h.bits_to in
-    let b : block_bits s ≤ 2053 = omega (arith, a, i, j) in
-    let c : n * block_bits s ≤ n * 2053 = mul-le-mul_left n b in
+    let b : block_bound s ≤ 2053 = omega (arith, a, i, j) in
+    let c : n * block_bound s ≤ n * 2053 = mul-le-mul_left n b in
     omega (arith, c)
 
 -- and the steps
-pub segment_meter : (n i j bits k m len : ℕ) → n ≤ 64 → len ≤ n * (i + j * bits) → m + 64 * (i + j * (bits + k + 5)) < 2 ^ 62 → m + len + n * (j * (k + 5)) < 2 ^ 62
-segment_meter n i j bits k m len h e f =
-    let p : i + j * (bits + k + 5) ≡ i + j * bits + j * (k + 5) = omega arith in
-    let a : n * (i + j * bits + j * (k + 5)) ≤ 64 * (i + j * bits + j * (k + 5)) = mul-le-mul_right (i + j * bits + j * (k + 5)) h in
-    let b : n * (i + j * bits + j * (k + 5)) ≡ n * (i + j * bits) + n * (j * (k + 5)) = omega arith in
-    omega (arith, a, b, p, e, f)
+pub segment_meter : (n bound looks m len : ℕ) → n ≤ 64 → len ≤ n * bound → m + 64 * (bound + looks) < 2 ^ 62 → m + len + n * looks < 2 ^ 62
+segment_meter n bound looks m len h e f =
+    let a : n * (bound + looks) ≤ 64 * (bound + looks) = mul-le-mul_right (bound + looks) h in
+    omega (arith, a, e, f)
 
 -- the fill stays in the segment
 pub fill_inside : (n j left : ℕ) → 1 ≤ j → n < j * left → n + (j - n % j) % j ≤ j * left
@@ -58,9 +57,28 @@ fill_inside n j left h k =
           ]
     ]
 
+-- also where nothing is left
+pub fill_room : (n j left : ℕ) → 1 ≤ j → n ≤ j * left → n + (j - n % j) % j ≤ j * left
+fill_room n j left h k =
+    elim (cases_lt n (j * left)) [
+      | inl lt ↦ fill_inside n j left h lt
+      | inr le ↦
+          let d = div-add-mod n j in
+          let r = mod-lt n h in
+          elim (cases_lt (n / j) left) [
+            | inl lt ↦ absurd (let m : j * suc (n / j) ≤ j * left = mul-le-mul_left j lt in omega arith)
+            | inr back ↦
+                let m : j * left ≤ j * (n / j) = mul-le-mul_left j back in
+                let z : n % j ≡ 0 = omega arith in
+                let same : j - 0 ≡ j = omega arith in
+                let e : (j - n % j) % j ≡ 0 = ap (λ v. (j - v) % j) z ∙ (ap (λ v. v % j) same ∙ mod_self j) in
+                omega (arith, e, k)
+          ]
+    ]
+
 -- the bits of the blocks that are held
 pub few_bits : (coder : CoderState) (count end : ℕ) → count ≡ blocks_held coder → IsOpen coder end → AreSoundBlocks coder.setting coder.start (contents_held coder) →
-    length (bits_of_sets coder.setting (data_sets coder.setting coder.start false (held_blocks coder.setting coder.reference count coder.residuals))) ≤ count * block_bits coder.setting
+    length (bits_of_sets coder.setting (data_sets coder.setting coder.start false (held_blocks coder.setting coder.reference count coder.residuals))) ≤ count * block_bound coder.setting
 few_bits coder count end e h sound =
     let s = coder.setting in
     let bound = bounded s coder.start false (contents_held coder) h.legal sound in

@@ -23,6 +23,7 @@ use Rattle.rice_code.specs.code.CodedDataSets.{CodedDataSet, bits_of_set}
 use Rattle.rice_code.specs.encode.HeldBlocks.{held_blocks}
 use Rattle.rice_code.specs.code.SoundBlocks.{AreSoundBlocks}
 use Rattle.rice_code.specs.code.Layout.{layout}
+use Rattle.rice_code.specs.Bounds.{block_bound}
 use Rattle.rice_code.specs.Steps.{least_looks, most_looks, least_looks_at, most_looks_at, least_steps, most_steps, coding_steps, segment_steps}
 use Rattle.rice_code.proofs.lemmas.meaning.Covers.{bool_cases}
 use Rattle.rice_code.proofs.lemmas.code.Filling.{last_append, blocks_append}
@@ -420,9 +421,14 @@ segment_steps_few s legal =
     let j : s.block ≤ 64 = grind (arith, legal.block) in
     let i : id_len s ≤ 5 = grind (arith, nat_tests) in
     let k : k_max s ≤ 29 = grind (arith, nat_tests) in
-    let a : s.block * (s.bits + k_max s + 6) ≤ s.block * 67 = mul-le-mul_left s.block (omega (arith, legal.bits_to, k)) in
-    omega (arith, a, i, j)
+    let a : s.block * s.bits ≤ s.block * 32 = mul-le-mul_left s.block legal.bits_to in
+    let b : s.block * (k_max s + 6) ≤ s.block * 35 = mul-le-mul_left s.block (omega (arith, k)) in
+    let bound : block_bound s ≤ 2053 = omega (arith, a, i, j, legal.bits_to) in
+    omega (arith, bound, b, j)
 
 -- and they count its samples
 pub steps_of_segment : (s : Parameters) → segment_steps s ≡ coding_steps s + s.block * 64
-steps_of_segment s = omega arith
+steps_of_segment s = at (block_bound s) s.block (k_max s)
+  where
+    at : (bound j k : ℕ) → 64 * (bound + j * (k + 6)) ≡ 64 * (bound + j * (k + 5)) + j * 64
+    at bound j k = omega arith

@@ -1,4 +1,4 @@
-use Rattle.std.proofs.Common.{◌≡◌, ◌+◌, ◌*◌, ◌/◌, ◌^◌, ◌++◌, ◌∙◌, ap, sym, arith, append-nil, length}
+use Rattle.std.proofs.Common.{◌≡◌, ◌+◌, ◌-◌, ◌*◌, ◌/◌, ◌^◌, ◌++◌, ◌∙◌, ap, sym, arith, append-nil, length}
 use Rattle.std.specs.Prelude.{flat_map}
 use Rattle.rice_bits.specs.Bits.{word, fundamental_sequence}
 use Rattle.rice_samples.specs.Parameters.{id_len}
@@ -80,4 +80,23 @@ returns-then-k-eq0 c =
       len = omega (arith, few, sent.count, sent.digits, sent.parts, len, len_ref, c.requires.sound.len);
       steps_from = omega (arith, few, sent.count, sent.digits, sent.parts, len, len_ref, c.requires.sound.len);
       steps_to = omega (arith, few, sent.count, sent.digits, sent.parts, len, len_ref, c.requires.sound.len);
+    }
+
+pub put_short_high-requires-clause-total : goal.put_short_high-requires-clause-total
+put_short_high-requires-clause-total c =
+    let sent = sent_are (sent_residuals c.args.block.now) c.args.block.now.residuals c.residuals-residuals.result.now c.first_coded-from.result c.args.k c.args.k c.first_coded-from.ensures.coded c.residuals-residuals.ensures in
+    let len = ap length c.residuals-residuals.ensures in
+    let ref = ap (reference_len c.args.setting.now) c.reference.ensures in
+    let more : length (sent_residuals c.args.block.now) * (c.args.k + 1) ≡ length (sent_residuals c.args.block.now) * c.args.k + length (sent_residuals c.args.block.now) = omega arith in
+    let same = ap (λ n. (n - c.first_coded-from.result) * c.args.k) c.len.ensures.value in
+    omega (arith, more, same, sent.count, sent.digits, sent.parts, len, ref, c.requires.sound.len, c.requires.cost)
+
+pub put_short_low-requires-clause-room : goal.put_short_low-requires-clause-room
+put_short_low-requires-clause-room c =
+    let sent = sent_are (sent_residuals c.args.block.now) c.args.block.now.residuals c.residuals-residuals.result.now c.first_coded-from.result c.args.k c.args.k c.first_coded-from.ensures.coded c.residuals-residuals.ensures in
+    let len = ap length c.residuals-residuals.ensures in
+    let ref = ap (reference_len c.args.setting.now) c.reference.ensures in
+    record {
+      room = omega (arith, sent.count, sent.digits, sent.parts, len, ref, c.requires.sound.len);
+      steps = omega (arith, sent.count, sent.digits, sent.parts, len, ref, c.requires.sound.len);
     }

@@ -1,7 +1,14 @@
-use Rattle.std.proofs.Common.{arith, ◌≡◌, ◌*◌, ◌/◌, ◌∙◌}
+use Rattle.std.proofs.Common.{arith, ◌≡◌, ℕ, ◌+◌, ◌*◌, ◌/◌, ◌≤◌, ◌∙◌, ap, min}
+use Rattle.std.proofs.Math.Nat.{mul-le-mul_left}
+use Rattle.rice_samples.specs.Parameters.{k_max}
 use Rattle.rice_code.proofs.lemmas.cost.PairCosts.{pairs_are_longer}
 use Rattle.rice_code.proofs.lemmas.encode.SearchLemmas.{takes_no_compression, takes_second_extension, takes_split}
 use Rattle.rice_code.proofs.encode.search.choose.Goals as goal
+use Rattle.rice_code.proofs.encode.search.choose.Goals.{then-k-k_max, else-k-k_max}
+
+-- the looks of a search that stops at k
+looks_within : (j k m : ℕ) → (j * (min (k + 1) m + 1) ≤ j * (k + 2)) × (j * (min (k + 1) m + 1) ≤ j * (m + 1))
+looks_within j k m = (mul-le-mul_left j (omega arith), mul-le-mul_left j (omega arith))
 
 pub returns-then-split-second_extension-clause-value : goal.returns-then-split-second_extension-clause-value
 returns-then-split-second_extension-clause-value c =
@@ -43,3 +50,33 @@ returns-then-k-gt0-clause-value c =
     takes_no_compression s c.args.block.now c.best_split-k.result.0 c.best_split-k.ensures.best
     (omega (arith, long, c.best_split-k.ensures.value, c.no_compression_cost-no_compression.ensures.value))
     (omega (arith, c.best_split-k.ensures.value, c.no_compression_cost-no_compression.ensures.value))
+
+pub returns-then-split-no_compression-clause-steps_to : goal.returns-then-split-no_compression-clause-steps_to
+returns-then-split-no_compression-clause-steps_to c =
+    let s = c.args.setting.now in
+    let few = looks_within s.block c.best_split-k.result.0 (k_max s) in
+    let named = ap (λ k. s.block * (k + 3)) c.best_split-k.ensures.named in
+    elim c.if-k-k_max.branch [
+      | then-k-k_max w ↦ omega (arith, few.0, named, c.best_split-k.ensures.steps, w.tick.ensures, w.meter-is, w.block.ensures.value)
+      | else-k-k_max w ↦ omega (arith, few.0, named, c.best_split-k.ensures.steps, w.meter-is)
+    ]
+
+pub returns-then-split-no_compression-clause-steps_limit : goal.returns-then-split-no_compression-clause-steps_limit
+returns-then-split-no_compression-clause-steps_limit c =
+    let s = c.args.setting.now in
+    let few = looks_within s.block c.best_split-k.result.0 (k_max s) in
+    let named = ap (λ k. s.block * (k + 3)) c.best_split-k.ensures.named in
+    elim c.if-k-k_max.branch [
+      | then-k-k_max w ↦ omega (arith, few.1, named, c.best_split-k.ensures.steps, w.tick.ensures, w.meter-is, w.block.ensures.value)
+      | else-k-k_max w ↦ omega (arith, few.1, named, c.best_split-k.ensures.steps, w.meter-is)
+    ]
+
+pub returns-then-k-gt0-clause-steps_to : goal.returns-then-k-gt0-clause-steps_to
+returns-then-k-gt0-clause-steps_to c =
+    let s = c.args.setting.now in
+    let few = looks_within s.block c.best_split-k.result.0 (k_max s) in
+    let named = ap (λ k. s.block * (k + 3)) c.best_split-k.ensures.named in
+    elim c.if-k-k_max.branch [
+      | then-k-k_max w ↦ omega (arith, few.0, named, c.best_split-k.ensures.steps, w.tick.ensures, w.meter-is, w.block.ensures.value)
+      | else-k-k_max w ↦ omega (arith, few.0, named, c.best_split-k.ensures.steps, w.meter-is)
+    ]

@@ -1,4 +1,9 @@
-use Rattle.std.proofs.Common.{rules, arith, refl}
+use Rattle.std.proofs.Common.{rules, arith, refl, ap, ◌+◌, ◌*◌, ◌≤◌}
+use Rattle.std.proofs.Math.Nat.{mul-le-mul_left}
+use Rattle.rice_samples.specs.Parameters.{k_max}
+use Rattle.rice_samples.specs.Places.{blocks_left}
+use Rattle.rice_samples.proofs.lemmas.setting.PlaceLemmas.{some_left}
+use Rattle.rice_code.specs.Steps.{segment_steps}
 use Rattle.rice_code.proofs.lemmas.encode.PushedCode.{short_of}
 use Rattle.rice_code.proofs.lemmas.encode.PushedSamples.{holds_levels, steps_of_levels, whole_is_sound, whole_has_steps, whole_pushes, whole_completes_all, open_pushes, still_short, none_before_level, is_coder_after}
 use Rattle.rice_code.proofs.encode.coder.Coder.push_some.Goals as goal
@@ -62,3 +67,13 @@ returns-else-is_whole-clause-stops c less =
     let short = still_short _ _ _ _ more (search rules) in
     let len = steps_of_levels c.args.self.now.setting c.args.levels.now c.min-taken.result 0 _ (omega (arith, c.min-taken.ensures)) refl in
     absurd (omega (arith, short, len, less, c.room.ensures, c.min-taken.ensures))
+
+pub tick-requires : goal.tick-requires
+tick-requires c =
+    let seg = c.self.inside.segment in
+    let s = seg.setting in
+    let left = some_left s seg.start c.self.invariant.taken.holds.legal.interval_from in
+    let most : s.block * blocks_left s seg.start ≤ s.block * 64 = mul-le-mul_left s.block left.1 in
+    let each : s.block * 1 ≤ s.block * (k_max s + 6) = mul-le-mul_left s.block (omega arith) in
+    let same = ap (λ v. segment_steps v.setting) c.self.view_is in
+    omega (arith, c.room.ensures, c.min-taken.ensures, most, each, same, c.requires.meter)

@@ -1,7 +1,8 @@
-use Rattle.std.proofs.Common.{◌≡◌, ◌+◌, ◌/◌, ◌^◌, ◌<◌, ◌∙◌, ap, arith, subst, sym}
+use Rattle.std.proofs.Common.{◌≡◌, ◌+◌, ◌*◌, ◌/◌, ◌^◌, ◌<◌, ◌∙◌, ap, arith, subst, sym}
 use Rattle.rice_code.specs.encode.OpenSegment.{CoderState, HoldsSoundBlocks, blocks_held}
+use Rattle.rice_code.specs.Bounds.{block_bound}
 use Rattle.rice_code.specs.Steps.{coding_steps}
-use Rattle.rice_samples.specs.Parameters.{id_len, k_max, value_at}
+use Rattle.rice_samples.specs.Parameters.{k_max, value_at}
 use Rattle.rice_code.proofs.lemmas.encode.OpenSegments.{few_bits, few_blocks, codes_held, segment_room, segment_meter}
 use Rattle.rice_code.proofs.encode.open_segment.OpenSegment.code.Goals as goal
 
@@ -16,7 +17,7 @@ code_blocks-requires-clause-room c =
     let bits = few_bits st (c.blocks_of-blocks.result) i.end n c.self.invariant.1 blocks.sound in
     let few = (few_blocks st i.end c.self.invariant.1 blocks.whole).1 in
     let room = segment_room s (c.blocks_of-blocks.result) c.self.invariant.1.legal (omega (arith, n, few)) in
-    let steps = segment_meter (c.blocks_of-blocks.result) (id_len s) s.block s.bits (k_max s) c.args.meter.now _ (omega (arith, n, few)) bits meter in
+    let steps = segment_meter (c.blocks_of-blocks.result) (block_bound s) (s.block * (k_max s + 5)) c.args.meter.now _ (omega (arith, n, few)) bits meter in
     record { room = omega (arith, bits, room, c.requires.room); steps = omega (arith, steps) }
 
 pub returns : goal.returns

@@ -1,6 +1,6 @@
 use Rattle.std.proofs.Common.{◌≡◌, ◌*◌, ◌/◌, ◌^◌, take, length, sum_by}
 use Rattle.std.specs.Simd.Lanes.{sum_l}
-use Rattle.rice_samples.proofs.blocks.lanes.small_sum.Given as goal
+use Rattle.rice_samples.proofs.blocks.lanes.small_sum_of_eights.Given as goal
 
 abbrev pub invariant-loop-i : goal.invariant-loop-i
 invariant-loop-i l = record {
