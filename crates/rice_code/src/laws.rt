@@ -73,13 +73,13 @@ pub fn choice_is_least()
     ensures { ChoiceIsLeast }
 {}
 
-/// No coded data sets of the same blocks have fewer bits than the coder's.
+/// Where blocks have four samples or more, no coded data sets of the same blocks have fewer bits than the coder's.
 pub fn no_sets_are_shorter()
     ensures { NoSetsAreShorter }
 {}
 
-/// With preprocessing, or where samples fill their blocks, no bits that decode to them are fewer than their code, and no bytes fewer than
-/// their output.
+/// With preprocessing, or where samples fill their blocks, of four or more each, no bits that decode to them are fewer than their code,
+/// and no bytes fewer than their output.
 pub fn no_code_is_shorter()
     ensures bits { NoCodeIsShorter }
     ensures bytes { NoOutputIsShorter }

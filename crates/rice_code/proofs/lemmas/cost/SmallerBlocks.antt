@@ -126,12 +126,12 @@ sound_at_most s b c x h k = record {
 
 -- ---- no option is shorter than a run of one block
 
-pub no_compression_exceeds : (s : Parameters) (c : BlockData) → 8 ≤ length c.residuals → 1 ≤ s.bits → id_len s + 2 + reference_len s c.reference ≤ cost s (NoCompression c)
+pub no_compression_exceeds : (s : Parameters) (c : BlockData) → 4 ≤ length c.residuals → 1 ≤ s.bits → id_len s + 2 + reference_len s c.reference ≤ cost s (NoCompression c)
 no_compression_exceeds s c h k =
-    let words : 8 * s.bits ≤ length c.residuals * s.bits = mul-le-mul_right s.bits h in
+    let words : 4 * s.bits ≤ length c.residuals * s.bits = mul-le-mul_right s.bits h in
     omega (arith, words, reference_bound s c.reference, k)
 
-pub second_extension_exceeds : (s : Parameters) (c : BlockData) → 8 ≤ length c.residuals → id_len s + 2 + reference_len s c.reference ≤ cost s (SecondExtension c)
+pub second_extension_exceeds : (s : Parameters) (c : BlockData) → 4 ≤ length c.residuals → id_len s + 2 + reference_len s c.reference ≤ cost s (SecondExtension c)
 second_extension_exceeds s c h = omega (arith, some c.residuals (omega (arith, h)))
   where
     some : (ds : List ℕ) → 2 ≤ length ds → 1 ≤ sum_by (λ g. g + 1) (pair_codes ds)
@@ -139,12 +139,12 @@ second_extension_exceeds s c h = omega (arith, some c.residuals (omega (arith, h
     some (a ∷ []) h = absurd (omega arith)
     some (a ∷ b ∷ ds) h = omega (arith, sum_by-cons (λ g. g + 1) (pair_code a b) (pair_codes ds))
 
-pub split_exceeds : (s : Parameters) (k : ℕ) (c : BlockData) → 8 ≤ length c.residuals → id_len s + 2 + reference_len s c.reference ≤ cost s (Split k c)
+pub split_exceeds : (s : Parameters) (k : ℕ) (c : BlockData) → 4 ≤ length c.residuals → id_len s + 2 + reference_len s c.reference ≤ cost s (Split k c)
 split_exceeds s k c h =
-    let sequences : 7 * (k + 1) ≤ length (sent_residuals c) * (k + 1) = mul-le-mul_right (k + 1) (most_sent c.reference c.residuals h) in
+    let sequences : 3 * (k + 1) ≤ length (sent_residuals c) * (k + 1) = mul-le-mul_right (k + 1) (most_sent c.reference c.residuals h) in
     omega (arith, sequences)
   where
-    most_sent : (r : Option ℕ) (ds : List ℕ) → 8 ≤ length ds → 7 ≤ length (sent_from r ds)
+    most_sent : (r : Option ℕ) (ds : List ℕ) → 4 ≤ length ds → 3 ≤ length (sent_from r ds)
     most_sent None ds h = omega arith
     most_sent (Some v) [] h = absurd (omega arith)
     most_sent (Some v) (d ∷ ds) h = omega arith

@@ -107,9 +107,9 @@ fill_of n j k h e = (
 )
 
 -- the bits of the coded data sets from which samples were decoded
-pub sets_are_no_shorter : (s : Parameters) → IsLegal s → (xs more : List ℤ) → (s.preprocess ≡ true) ⊎ (length xs % s.block ≡ 0) → (bits : List Bool) (asked : Option ℕ) (ending : Ending) (used : ℕ) →
+pub sets_are_no_shorter : (s : Parameters) → IsLegal s → 4 ≤ s.block → (xs more : List ℤ) → (s.preprocess ≡ true) ⊎ (length xs % s.block ≡ 0) → (bits : List Bool) (asked : Option ℕ) (ending : Ending) (used : ℕ) →
     (h : Decoded s bits asked (xs ++ more) ending used) → length (code s xs) ≤ length h.front
-sets_are_no_shorter s legal xs more way bits asked ending used h =
+sets_are_no_shorter s legal size xs more way bits asked ending used h =
     let j : 1 ≤ s.block = grind (arith, legal.block) in
     let m = block_count s (length xs) in
     let k = next_multiple_of (length xs) s.block - length xs in
@@ -126,22 +126,22 @@ sets_are_no_shorter s legal xs more way bits asked ending used h =
     let end : 0 + m ≡ 0 + length cs = omega (arith, count_blocks s 0 (pos 0) m (filled_samples s (pos 0) xs)) in
     omega (
       arith,
-      least s (padded s) legal (padded_is s legal.interval_from) 0 (0 + m) 0 0 cs h.sets end (omega arith) (taken_at_will s asked 0 h.sets h.taken) (subst (λ l. BeginAtMost cs l) theirs below),
+      least s (padded s) legal size (padded_is s legal.interval_from) 0 (0 + m) 0 0 cs h.sets end (omega arith) (taken_at_will s asked 0 h.sets h.taken) (subst (λ l. BeginAtMost cs l) theirs below),
       sent_padded s (0 + m) 0 0 (sets_of s xs),
       taken_padded s 0 0 h.sets h.front h.lie,
     )
 
 pub no_code_is_shorter : NoCodeIsShorter
-no_code_is_shorter s legal xs more way bits asked ending used h = omega (arith, sets_are_no_shorter s legal xs more way bits asked ending used h, h.bits_used)
+no_code_is_shorter s legal size xs more way bits asked ending used h = omega (arith, sets_are_no_shorter s legal size xs more way bits asked ending used h, h.bits_used)
 
 pub no_output_is_shorter : NoOutputIsShorter
-no_output_is_shorter s legal xs more way bytes asked ending used h =
+no_output_is_shorter s legal size xs more way bytes asked ending used h =
     let own = code s xs in
     let own_bytes = output s xs in
     let fill = bits_to_byte (length own) in
     omega (
       arith,
-      sets_are_no_shorter s legal xs more way (bits_of bytes) asked ending used h,
+      sets_are_no_shorter s legal size xs more way (bits_of bytes) asked ending used h,
       ap length h.parts,
       length-append h.front h.rest,
       length-bits_of bytes,
