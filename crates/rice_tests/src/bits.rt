@@ -194,7 +194,7 @@ fn take_what_waits(rt: HostRuntime) -> Result<(), Fail> {
     let mut reader = BitReader::new(MemoryIn::new(&bytes, 4096, None));
     let mut words = [77; 3];
     cases.check(reader.take_waiting(4, &mut words, &mut meter) == 0);
-    cases.check(reader.take(8, &mut meter) == Ok(0x12));
+    assert_eq!(rt; reader.take(8, &mut meter), Ok(0x12));
     cases.check(reader.take_waiting(4, &mut words, &mut meter) == 3);
     cases.check(words == [3, 4, 5]);
     cases.check((reader.taken(), meter.steps()) == (20, 20));
@@ -205,7 +205,7 @@ fn take_what_waits(rt: HostRuntime) -> Result<(), Fail> {
     let mut reader = BitReader::new(MemoryIn::new(&bytes, 4096, None));
     let mut zeros = [77; 4];
     cases.check(reader.take_waiting_fs(&mut zeros, &mut meter) == 0);
-    cases.check(reader.take_fs(&mut meter) == Ok(0));
+    assert_eq!(rt; reader.take_fs(&mut meter), Ok(0));
     cases.check(reader.take_waiting_fs(&mut zeros, &mut meter) == 2);
     cases.check(zeros == [10, 0, 77, 77]);
     cases.check((reader.taken(), meter.steps()) == (13, 13));
@@ -223,7 +223,7 @@ fn take_parts_that_wait(rt: HostRuntime) -> Result<(), Fail> {
     let mut reader = BitReader::new(MemoryIn::new(&bytes, 4096, None));
     let mut numbers = [77; 8];
     cases.check(!reader.take_waiting_parts(3, &mut numbers, &mut meter));
-    cases.check(reader.take(4, &mut meter) == Ok(9));
+    assert_eq!(rt; reader.take(4, &mut meter), Ok(9));
     cases.check(reader.take_waiting_parts(3, &mut numbers, &mut meter));
     cases.check(numbers == [5, 10, 7, 16, 1, 6, 11, 4]);
     cases.check((reader.taken(), meter.steps()) == (40, 40));
