@@ -3,7 +3,7 @@ RANDOM_INPUTS ?= 100000
 LIBRARY_CODES ?= 1000000
 
 .DEFAULT_GOAL := help
-.PHONY: help library install install-command install-library uninstall test test-each rows hostile interop exhaustive any-block refused-memory installed recipes documents bench examples stack header axioms hostile-library bench-library wrappers
+.PHONY: help library install install-command install-library uninstall test test-each rows hostile interop exhaustive any-block refused-memory installed recipes documents bench examples stack header axioms hostile-library bench-library wrappers clauses plant
 
 help:
 	@echo 'make aec                    prove and build the program, as ./aec (ten minutes the first time)'
@@ -12,7 +12,7 @@ help:
 	@echo 'make install-command, make install-library   install one of them'
 	@echo 'make uninstall PREFIX=DIR   remove what these installed'
 	@echo 'make test                   prove everything from nothing, try the edits that must fail, and run all tests (half an hour)'
-	@echo 'make test-each              the same by the toolchain alone, each edit by a check of its own (an hour)'
+	@echo 'make test-each              the same by the toolchain alone, each edit by a check of its own'
 	@echo 'make rows                   run the cases of scripts/rows.txt with ./aec and the library'
 	@echo 'make hostile                run ./aec on damaged and random codes, and on files and streams that fail'
 	@echo "make interop                exchange codes between ./aec and Debian's aec (libaec-tools)"
@@ -29,12 +29,16 @@ help:
 	@echo 'make axioms                 compare docs/axioms.txt with the C functions that the proofs rest on'
 	@echo 'make hostile-library        give the library damaged and random codes, and too little room'
 	@echo 'make wrappers               turn the wrappers of readers and writers into wrong ones, which the tests refuse'
+	@echo 'make clauses                compare the clauses of public calls with the edits that must fail'
+	@echo 'make plant                  plant wrong bodies under all contracts, and compare what is proved with docs/PLANTS.md (hours)'
 	@echo "make bench-library          compare the speed of the library and Debian's libaec (libaec-dev)"
 	@scripts/toolchain
 
 LIBRARIES := rice_bits rice_samples rice_code rice_stream
 sources = $(shell find $(foreach crate,$(1),$(wildcard $(addprefix crates/$(crate)/,src specs proofs))) -type f) crates.txt
-PROVE_LIBRARIES = for crate in $(LIBRARIES); do (cd crates/$$crate && rt lib > /dev/null) || exit 1; done
+# The processes that share a check. Each takes a gigabyte or more.
+JOBS ?= $(shell n=$$(nproc); echo $$((n < 4 ? n : 4)))
+PROVE_LIBRARIES = for crate in $(LIBRARIES); do (cd crates/$$crate && rt lib --jobs $(JOBS) > /dev/null) || exit 1; done
 
 aec: crates/aec_tool/out/aec_tool
 	cp $< $@
@@ -42,7 +46,7 @@ aec: crates/aec_tool/out/aec_tool
 # The libraries first, one after the other: `rt run` alone would begin with a pass over all sources, which takes minutes.
 crates/aec_tool/out/aec_tool: $(call sources,$(LIBRARIES) aec_tool)
 	$(PROVE_LIBRARIES)
-	cd crates/aec_tool && rt run -- --help > /dev/null
+	cd crates/aec_tool && rt run --jobs $(JOBS) -- --help > /dev/null
 	touch $@
 
 library: librice.a librice.so
@@ -56,7 +60,7 @@ librice.so: librice.a
 
 crates/rice_c/out/librice_c.a: $(call sources,$(LIBRARIES) rice_c)
 	$(PROVE_LIBRARIES)
-	cd crates/rice_c && rt lib > /dev/null
+	cd crates/rice_c && rt lib --jobs $(JOBS) > /dev/null
 	touch $@
 
 install: install-command install-library
@@ -142,3 +146,9 @@ bench-library: library
 
 wrappers:
 	scripts/wrappers.py
+
+clauses:
+	scripts/clauses.py
+
+plant:
+	scripts/plant.py

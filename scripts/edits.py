@@ -5,8 +5,7 @@ What has to be shown of a function comes from its own body and from the contract
 from another body. So edits of the bodies of different functions stand in one copy of the crate, and one check over the work
 that the crate's own check has kept tries them all. An edit is refused where a goal of its own function is open. That its
 function calls one that is not proved doesn't count: it is then tried in the next round. An edit that changes more than one
-body is tried alone. An edit names the clauses that it turns, in lines `clause: FUNCTION NAME ..`, which the toolchain passes
-over: a goal of each of them has to be open.
+body is tried alone. Where the crate's must-fail/clauses.md names the clauses that an edit turns, a goal of each has to be open.
 
 usage: edits [NAME ..]         the edits of these names, or of the crates of these names; all, if none is named
        edits --since COMMIT    the edits of functions whose text, definitions or proofs that commit, or one after it, changed
@@ -20,6 +19,7 @@ import sys
 import tempfile
 import typing
 
+import clauses
 import edit_places
 
 try:
@@ -28,7 +28,6 @@ except ImportError as why:
     sys.exit(f"edits.py: {why}: rt must-fail tries the edits one by one")
 
 HEADER = re.compile(r"^(?:\./)?(\S+?):(\d+):\d+: (error|note|warning)\b|^note: (\S+?):(\d+):\d+: |^\S")
-NAMED = re.compile(r"(?m)^clause: (\S+) (.+)$")
 PROOF_FILES = ("Answers.antt", "Invariants.antt", "Proof.antt")
 # Why a goal is open, first what says most of the edit.
 FALSE, OPEN, LIMIT, UNFIT, GONE = WHYS = [
@@ -55,13 +54,16 @@ class Edit:
     path: str
     texts: dict
     why: str
-    clauses: list
     function: edit_places.Function | None = None
     change: tuple = ()
 
     @property
     def name(self):
         return f"{self.crate.name}/{os.path.basename(self.path)[: -len('.edit')]}"
+
+    @property
+    def clauses(self):
+        return clauses.turned(self.crate.name)[self.name.split("/")[1]]
 
 
 @dataclasses.dataclass
@@ -79,8 +81,7 @@ def read(file):
 
 def edit_of(crate, path):
     texts, why = rt.read_edit(path, crate.folder)
-    clauses = [(function, it) for function, its in NAMED.findall(read(path)) for it in its.split()]
-    edit = Edit(crate, path, texts or {}, why or "", clauses)
+    edit = Edit(crate, path, texts or {}, why or "")
     if len(edit.texts) == 1:
         (file, new), = edit.texts.items()
         old = read(f"{crate.folder}/{file}")
@@ -165,9 +166,15 @@ def has_verdict(said):
     return re.search(r"(?m)^logic=(proved|not-proved)", said.rstrip().split("\n")[-1])
 
 
+def clause_of(goal):
+    """Returns the name of the clause of its function that a goal is of, or None where it is of a callee or of a loop."""
+    found = re.fullmatch(r"returns\b(?:.*-clause-(\w+)|.*)", goal.name)
+    return found and (found[1] or "ensures")
+
+
 def refused(edit, goals):
     """Returns the verdict on an edit for which these goals are open: it tells them, first those that say most."""
-    is_open = {(it.function, re.split(r"[.#]", it.name)[0]) for it in goals}
+    is_open = {(it.function, clause_of(it)) for it in goals}
     lost = [f"{function} {clause}" for function, clause in edit.clauses if (function, clause) not in is_open]
     if lost:
         return Verdict(False, f"NOT REFUSED FOR WHAT IT NAMES: no goal is open of {', '.join(lost)}")

@@ -43,20 +43,37 @@ def in_lanes(run_tasks):
 
 
 def add_edits(tasks, crate, paths, _first, waits, is_well, *_):
-    """Adds the task that tries all edits of a crate, and returns what gives their results, and what gives those of earlier
-    runs: none."""
-    key = crate.name, "edits", 0
-    call = lambda given, _jobs: try_edits(crate, paths) if paths and is_well(given, len(paths)) else []
-    tasks[key] = waits, crate.count(rb"\n"), MEMORY_OF_EDITS, call
-    return lambda given: given[key], dict
+    """Adds the tasks that try a crate's edits, one for all that can be tried together and one for each other, and returns what
+    gives their results, and what gives those of earlier runs: none."""
+    alone = [it for it in paths if not edits.edit_of(crate, it).function]
+    parts = [[it for it in paths if it not in alone], *([it] for it in alone)] if paths else []
+    for number, part in enumerate(parts):
+        call = lambda given, _jobs, part=part, number=number: try_edits(crate, part, number) if is_well(given, len(paths)) else {}
+        tasks[crate.name, "edits", number] = waits, crate.count(rb"\n"), MEMORY_OF_EDITS, call
+
+    def results(given):
+        verdicts = {path: it for number in range(len(parts)) for path, it in given[crate.name, "edits", number].items()}
+        return told(crate, paths, verdicts)
+
+    return results, dict
 
 
-def try_edits(crate, paths):
-    """Tries a crate's edits, and with them the controls: one that is right, and one whose text stands nowhere."""
-    edits.remember(crate)
-    controls = {f"{CONTROLS}/{crate.name}.edit": "NOT REFUSED", f"{CONTROLS}/stale.edit": "BAD EDIT"}
-    verdicts = edits.tried([edits.edit_of(crate, it) for it in [*paths, *controls]])
-    wrong = [f"; but {it}: {verdicts[it].said}" for it, said in controls.items() if not verdicts[it].said.startswith(said)]
+def controls_of(crate):
+    """Returns a change that is right, and one whose text stands nowhere, each with what has to be said of it."""
+    return {f"{CONTROLS}/{crate.name}.edit": "NOT REFUSED", f"{CONTROLS}/stale.edit": "BAD EDIT"}
+
+
+def try_edits(crate, paths, number):
+    """Returns the verdicts on some of a crate's edits, with the first of which the controls are tried."""
+    if number == 0:
+        edits.remember(crate)
+        paths = [*paths, *controls_of(crate)]
+    return edits.tried([edits.edit_of(crate, it) for it in paths])
+
+
+def told(crate, paths, verdicts):
+    """Returns the kind of each edit's result and what is said of it: no edit is refused where a control is not told as it has to be."""
+    wrong = [f"; but {it}: {verdicts[it].said}" for it, said in controls_of(crate).items() if not verdicts[it].said.startswith(said)]
     wrong += [f"; but {os.path.relpath(it)} is no edit" for it in rt.edits_of(crate)[1]]
     kind = lambda path: rt.REFUSED if verdicts[path].refused and not wrong else rt.MISSED
     label = lambda path: f"must-fail {crate.name}/{os.path.basename(path)}"

@@ -2,8 +2,8 @@
 """Turns the wrappers of readers and writers into wrong ones, and has the tests refuse each.
 
 A contract sees of a reader or a writer of `std` the bytes that it tells, and not its failures. So a wrapper that never calls what it
-wraps, and says that it failed, meets all its clauses, and so does one that tries again: the tests alone say no. Each wrong body is put
-into a copy of the sources, and the tests are run there, with nothing proved.
+wraps, and says that it failed, meets all its clauses, and so does one that tries again: the tests alone say no. The wrong bodies
+are put into copies of the sources, where the tests are run, with nothing proved.
 
 usage: wrappers.py
 """
@@ -43,12 +43,14 @@ READ_TWICE = """\
 FAIL_READ = "        self.failures += 1;\n        Err(ReadFault)\n"
 FAIL_WRITE = "        self.failures += 1;\n        Err(WriteFault)\n"
 
-# What is wrong, the file, the body as it stands, the wrong one, and the test that refuses it.
+# What is tried in one copy: of each body what is wrong, the file, the body as it stands, the wrong one, and the test that refuses it.
 WRONG = [
-    ("FromReader never reads", "wrap.rt", READ, FAIL_READ, "bits::devices_over_readers"),
-    ("FromReader tries again", "wrap.rt", READ, READ_TWICE, "bits::devices_over_readers"),
-    ("FromWriter never writes", "wrap.rt", WRITE, FAIL_WRITE, "bits::devices_over_writers"),
-    ("FromBufWriter never writes", "buffered.rt", WRITE, FAIL_WRITE, "bits::devices_over_buffers"),
+    [
+        ("FromReader never reads", "wrap.rt", READ, FAIL_READ, "bits::devices_over_readers"),
+        ("FromWriter never writes", "wrap.rt", WRITE, FAIL_WRITE, "bits::devices_over_writers"),
+        ("FromBufWriter never writes", "buffered.rt", WRITE, FAIL_WRITE, "bits::devices_over_buffers"),
+    ],
+    [("FromReader tries again", "wrap.rt", READ, READ_TWICE, "bits::devices_over_readers")],
 ]
 
 
@@ -60,22 +62,29 @@ def failed_tests(folder):
     return re.findall(r"^test (\S+) \.\.\. FAILED", run.stdout, re.MULTILINE)
 
 
+def turn(folder, name, file, body, wrong):
+    """Puts a wrong body into the sources in a folder."""
+    source = folder / DEVICES / file
+    text = source.read_text()
+    if text.count(body) != 1:
+        sys.exit(f"wrappers: {name}: the body does not stand once in {file}")
+    source.write_text(text.replace(body, wrong))
+
+
 def main():
-    for name, file, body, wrong, test in WRONG:
+    for bodies in WRONG:
         with tempfile.TemporaryDirectory() as where:
             folder = pathlib.Path(where)
             shutil.copytree(ROOT / "crates", folder / "crates", ignore=shutil.ignore_patterns("out"))
             for top in ("crates.txt", "HANDLES"):
                 shutil.copy(ROOT / top, folder / top)
-            source = folder / DEVICES / file
-            text = source.read_text()
-            if text.count(body) != 1:
-                sys.exit(f"wrappers: {name}: the body does not stand once in {file}")
-            source.write_text(text.replace(body, wrong))
-            failed = failed_tests(folder)
-            if failed != [test]:
-                sys.exit(f"wrappers: {name}: {test} was to fail, and these did: {failed}")
-            print(f"wrappers: {name}: refused by {test}")
+            for name, file, body, wrong, _ in bodies:
+                turn(folder, name, file, body, wrong)
+            failed, wanted = failed_tests(folder), sorted(it[-1] for it in bodies)
+            if sorted(failed) != wanted:
+                sys.exit(f"wrappers: {', '.join(wanted)} were to fail, and these did: {failed}")
+            for name, *_, test in bodies:
+                print(f"wrappers: {name}: refused by {test}")
 
 
 main()
