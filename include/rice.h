@@ -11,8 +11,10 @@
  *   - a feed is zeros, or another feed, before rice_begin; rice_push and rice_finish are given one that is as rice_begin or
  *     the last rice_push left it, or a copy of such a one;
  *   - a pointer to bytes and its length name memory that is there, at most PTRDIFF_MAX bytes, and every byte of it has a value,
- *     that of the output too: write it once before, by calloc or memset for example. The pointer is not NULL, not even with the
- *     length 0, where it may point to any byte;
+ *     that of the output too: write it once before, by calloc or memset for example. In practice bytes of malloc do, since the
+ *     library reads no byte of an output that it hasn't written; but what is proved of it is said of memory with values, and
+ *     the bytes after those written are as they were only if they were something. With the length 0 the pointer may be
+ *     NULL, in C and C++ with this header; who calls the library by other means gives the address of any byte there;
  *   - the output, the report, and the feed where a call changes it, overlap with nothing else that the call is given, and
  *     nobody else touches them meanwhile;
  *   - the stack has the room stated below.
@@ -30,6 +32,13 @@
 #ifdef __cplusplus
 extern "C" {
 #endif
+
+/* The version of this header, which is that of the library that it was made for. */
+#define RICE_VERSION_MAJOR 1
+#define RICE_VERSION_MINOR 0
+#define RICE_VERSION_PATCH 0
+#define RICE_VERSION (RICE_VERSION_MAJOR * 10000 + RICE_VERSION_MINOR * 100 + RICE_VERSION_PATCH)
+#define RICE_VERSION_TEXT "1.0.0"
 
 enum { RICE_ENCODE_STACK = 48 * 1024, RICE_DECODE_STACK = 12 * 1024, RICE_FEED_SIZE = 72 };
 
@@ -64,11 +73,21 @@ enum rice_status {
 /* What a call has done. */
 struct rice_report {
     uint64_t samples; /* the samples that were encoded, or decoded and written */
-    uint64_t bits;    /* the bits of code: those that were put, without padding, or those that were taken, with it */
+    uint64_t bits;    /* the bits of code: those that were put, without padding, or those that were taken, with it (below) */
     uint64_t steps;   /* the work: bits, samples, and looks at residuals or, decoding, turns of the search for a pair */
     uint64_t written; /* the bytes written, which are the first of the output; those after them are as they were */
     uint64_t place;   /* the number that the status names, or 0 where it names none */
 };
+
+/* What `bits` counts. Encoding: the bits of all coded data sets, without the padding of intervals and the zeros that fill the
+ * last byte; so it isn't the place where the code ends, which is `written`. Decoding with RICE_DONE: the bits up to the end of
+ * the last coded data set that was asked for, with its padding, or of rice_decode_all those of the whole code. With
+ * RICE_CODE_ENDS and RICE_TOO_LONG: all bits of the code, so it does not tell where the last whole coded data set ended;
+ * rice_decode of the first `samples` samples of the same code does. With RICE_RUN_PAST_SEGMENT and RICE_RESIDUAL_TOO_LARGE the
+ * coded data set that is damaged is counted too, and with RICE_NO_ROOM that of the block that doesn't fit. */
+
+/* The version of the library, as RICE_VERSION has it. */
+uint32_t rice_version(void);
 
 /* RICE_DONE if the setting is legal, or else what is wrong with it: RICE_BAD_BITS, RICE_BAD_BLOCK or RICE_BAD_INTERVAL. */
 uint32_t rice_check(const struct rice_setting *setting);
@@ -80,6 +99,11 @@ uint32_t rice_sample_width(const struct rice_setting *setting);
 /* A number of bytes that is always enough for the code of `samples` samples, whatever they are: for what rice_encode writes, and
  * for what rice_push and rice_finish write together. 0 if the setting is not legal, or there are more than 2^48 samples. */
 uint64_t rice_code_room(const struct rice_setting *setting, uint64_t samples);
+
+/* A number of bytes that hold any coded data set which this library writes, wherever in a byte it begins, and the padding
+ * after it: who reads its code in parts, and has so many bytes from the byte on in which a block's code begins, has all of
+ * that code. At most 259. 0 if the setting is not legal. Other coders may write longer ones. */
+uint32_t rice_set_room(const struct rice_setting *setting);
 
 /* The report of rice_encode, or of rice_finish, never has more steps for `samples` samples. 0 as above. A report of decoding
  * never has more than 2 * bits + samples. */
@@ -132,6 +156,10 @@ struct rice_feed {
 /* Begins a code of no samples. Returns RICE_DONE; or RICE_BAD_..., and the feed is as it was. */
 uint32_t rice_begin(const struct rice_setting *setting, struct rice_feed *feed);
 
+/* A number of bytes that is always enough for one rice_push or rice_finish with this feed and up to `samples` samples, whatever
+ * they are. 0 if the feed has no legal setting, or there are more than 2^48 samples. */
+uint64_t rice_push_room(const struct rice_feed *feed, uint64_t samples);
+
 /* Gives the feed the samples at `samples`, which has `samples_len` bytes: those that come after the `feed->samples` samples
  * taken so far. It takes all that make whole segments (64 blocks, or the rest of an interval), counts them in
  * `feed->samples`, and writes to `code` the bytes that their code completes. It takes none of the others, fewer than a
@@ -140,7 +168,8 @@ uint32_t rice_begin(const struct rice_setting *setting, struct rice_feed *feed);
  * rice_status:
  *   RICE_DONE                 all of that is done. The bytes written by all calls are the front of what rice_encode writes.
  *   RICE_SAMPLE_OUT_OF_RANGE  of a sample among those to take; `place` counts from rice_begin on.
- *   RICE_NO_ROOM              the bytes don't fit.
+ *   RICE_NO_ROOM              the bytes don't fit. Never with rice_push_room(feed, samples_len / width) bytes, where that is
+ *                             not 0.
  *   RICE_TOO_LONG             more than 2^48 bytes of samples since rice_begin.
  *   RICE_BAD_...              the feed has no legal setting.
  * Unless RICE_DONE is returned the feed is as it was: forget what this call wrote, and give the samples again. */
@@ -153,6 +182,49 @@ uint32_t rice_push(struct rice_feed *feed, const uint8_t *samples, size_t sample
  * RICE_INPUT_CUT. Unless RICE_DONE is returned, forget what this call wrote. */
 uint32_t rice_finish(const struct rice_feed *feed, const uint8_t *samples, size_t samples_len, uint8_t *code,
                      size_t code_room, struct rice_report *report);
+
+/* The calls above with NULL where its length is 0: the library is given the address of a byte, which it doesn't touch. */
+static inline const uint8_t *rice_from(const uint8_t *bytes, size_t length) {
+    static const uint8_t none = 0;
+    return bytes || length ? bytes : &none;
+}
+
+static inline uint8_t *rice_into(uint8_t *bytes, size_t length) {
+    static uint8_t none;
+    return bytes || length ? bytes : &none;
+}
+
+static inline uint32_t rice_encode_here(const struct rice_setting *setting, const uint8_t *samples, size_t samples_len,
+                                        uint8_t *code, size_t code_room, struct rice_report *report) {
+    return rice_encode(setting, rice_from(samples, samples_len), samples_len, rice_into(code, code_room), code_room, report);
+}
+
+static inline uint32_t rice_decode_here(const struct rice_setting *setting, uint64_t count, const uint8_t *code, size_t code_len,
+                                        uint8_t *samples, size_t samples_room, struct rice_report *report) {
+    return rice_decode(setting, count, rice_from(code, code_len), code_len, rice_into(samples, samples_room), samples_room,
+                       report);
+}
+
+static inline uint32_t rice_decode_all_here(const struct rice_setting *setting, const uint8_t *code, size_t code_len,
+                                            uint8_t *samples, size_t samples_room, struct rice_report *report) {
+    return rice_decode_all(setting, rice_from(code, code_len), code_len, rice_into(samples, samples_room), samples_room, report);
+}
+
+static inline uint32_t rice_push_here(struct rice_feed *feed, const uint8_t *samples, size_t samples_len, uint8_t *code,
+                                      size_t code_room, struct rice_report *report) {
+    return rice_push(feed, rice_from(samples, samples_len), samples_len, rice_into(code, code_room), code_room, report);
+}
+
+static inline uint32_t rice_finish_here(const struct rice_feed *feed, const uint8_t *samples, size_t samples_len, uint8_t *code,
+                                        size_t code_room, struct rice_report *report) {
+    return rice_finish(feed, rice_from(samples, samples_len), samples_len, rice_into(code, code_room), code_room, report);
+}
+
+#define rice_encode rice_encode_here
+#define rice_decode rice_decode_here
+#define rice_decode_all rice_decode_all_here
+#define rice_push rice_push_here
+#define rice_finish rice_finish_here
 
 /* The structs lie in memory as the library has them: on machines with pointers of eight bytes. */
 #if defined(__cplusplus) && __cplusplus >= 201103L

@@ -59,7 +59,8 @@ def functions_of_header(header):
     """For each function the types of its parameters and of its result."""
     found = {}
     for result, name, parameters in re.findall(r"(?m)^(uint\d\d_t) (rice_\w+)\(([^)]*)\);", header):
-        found[name] = [re.sub(r"\w+$", "", " ".join(each.split())) for each in parameters.split(",")] + [result]
+        each_of = [" ".join(each.split()) for each in parameters.split(",") if each != "void"]
+        found[name] = [re.sub(r"\w+$", "", each) for each in each_of] + [result]
     return found
 
 
@@ -102,6 +103,17 @@ def wrong_declarations(header, texts):
         yield "the statuses have other numbers in the header than in the crate"
 
 
+def wrong_version(header, texts, package):
+    """The version of the header, and that of the library and of rice.pc."""
+    numbers = [int(number) for number in re.findall(r"(?m)^#define RICE_VERSION_(?:MAJOR|MINOR|PATCH) (\d+)$", header)]
+    text = ".".join(map(str, numbers))
+    library = re.search(r"fn rice_version\(\) -> u32\s+ensures \{ result ≡ (\d+) \}", texts)
+    if len(numbers) != 3 or not library or int(library[1]) != numbers[0] * 10000 + numbers[1] * 100 + numbers[2]:
+        yield "the library has another version than the header"
+    if f'#define RICE_VERSION_TEXT "{text}"\n' not in header or f"Version: {text}\n" not in package:
+        yield "the texts of the version are others"
+
+
 def wrong_languages():
     """The standards by which the header is refused, where there is a compiler."""
     for command, language, standard in LANGUAGES:
@@ -117,7 +129,12 @@ def main():
     os.chdir(os.path.join(os.path.dirname(os.path.abspath(__file__)), ".."))
     header = read("include/rice.h")
     texts = "".join(map(read, sorted(glob.glob("crates/rice_c/src/*.rt")))) + read("crates/rice_stream/src/seam.rt")
-    wrong = [*wrong_object(library, set(functions_of_header(header))), *wrong_declarations(header, texts), *wrong_languages()]
+    wrong = [
+        *wrong_object(library, set(functions_of_header(header))),
+        *wrong_declarations(header, texts),
+        *wrong_version(header, texts, read("include/rice.pc.in")),
+        *wrong_languages(),
+    ]
     for text in wrong:
         print(f"header: {text}")
     print(f"header: {len(functions_of_header(header))} functions, {len(STRUCTS)} structs, {len(LANGUAGES)} standards, {len(wrong)} wrong")

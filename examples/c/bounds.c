@@ -11,12 +11,12 @@ static const struct rice_setting settings[] = {
 };
 
 int main(void) {
-    printf("| bits, J | one sample | one block | one segment of 64 blocks | one interval of 128 blocks |\n");
-    printf("|---|---|---|---|---|\n");
+    printf("| bits, J | one coded data set | one sample | one block | one segment of 64 blocks | one interval of 128 blocks |\n");
+    printf("|---|---|---|---|---|---|\n");
     for (size_t i = 0; i < sizeof settings / sizeof *settings; i++) {
         const struct rice_setting *s = &settings[i];
         const uint64_t counts[] = {1, s->block, 64 * s->block, 128 * s->block};
-        printf("| %" PRIu32 ", %" PRIu32 " |", s->bits, s->block);
+        printf("| %" PRIu32 ", %" PRIu32 " | %" PRIu32 " bytes |", s->bits, s->block, rice_set_room(s));
         for (size_t c = 0; c < sizeof counts / sizeof *counts; c++) {
             printf(" %" PRIu64 " bytes, %" PRIu64 " steps |", rice_code_room(s, counts[c]), rice_step_bound(s, counts[c]));
         }

@@ -21,12 +21,19 @@ static void send(const uint8_t *code, size_t bytes) {
     size += bytes;
 }
 
+/* The most bytes that the samples that are kept can take. No more are given to a call. */
+static size_t room(void) {
+    uint64_t bytes = rice_push_room(&feed, kept / rice_sample_width(&feed.setting));
+    if (bytes > ROOM) abort();
+    return (size_t)bytes;
+}
+
 /* Gives all samples that are kept, and keeps those that were not taken. */
 static uint32_t push(void) {
     uint8_t code[ROOM] = {0};
     struct rice_report report;
     uint64_t before = feed.samples;
-    uint32_t status = rice_push(&feed, waiting, kept, code, sizeof code, &report);
+    uint32_t status = rice_push(&feed, waiting, kept, code, room(), &report);
     if (status != RICE_DONE) return status;
     send(code, report.written);
     size_t taken = (feed.samples - before) * rice_sample_width(&feed.setting);
@@ -50,7 +57,7 @@ static uint32_t encode(const struct rice_setting *setting, size_t bytes, size_t 
     if (status != RICE_DONE) return status;
     uint8_t code[ROOM] = {0};
     struct rice_report report;
-    status = rice_finish(&feed, waiting, kept, code, sizeof code, &report);
+    status = rice_finish(&feed, waiting, kept, code, room(), &report);
     if (status == RICE_DONE) send(code, report.written);
     return status;
 }

@@ -1,5 +1,5 @@
 //! Encoding piece by piece, for a caller that has no room for all samples. All that is kept lies in the caller's memory.
-ghost use Rattle.std.specs.Prelude.{◌≡◌, ℕ, List, [], Some, IfOk, IfErr, ℤ};
+ghost use Rattle.std.specs.Prelude.{◌≡◌, ◌≢◌, ℕ, ◌/◌, ◌^◌, ◌<◌, ◌≤◌, length, List, [], Some, IfOk, IfErr, ℤ};
 ghost use Rattle.rice_bits.specs.device.Slice.{slice_state, slice_failures};
 ghost use Rattle.rice_stream.specs.Calls.{Fails};
 ghost use Rattle.rice_stream.specs.Encodes.{EncodesWithin};
@@ -9,12 +9,16 @@ ghost use Rattle.rice_stream.specs.declared.outcome.Fault.TheVariants.{Read};
 ghost use Rattle.rice_c.specs.Asked.{setting_asked};
 ghost use Rattle.rice_c.specs.Calls.{Refuses};
 ghost use Rattle.rice_c.specs.Feeds.{Begins, PushesInto, FinishesInto, report_of_seam};
+ghost use Rattle.rice_samples.specs.Parameters.{width};
+ghost use Rattle.rice_c.specs.Rooms.{push_room};
+ghost use Rattle.rice_c.specs.declared.status.Status.TheVariants.{NoRoom};
 ghost use Rattle.rice_c.specs.Statuses.{number_of, refusal_status as refusal_status_of};
 
 use crate::report::RiceReport;
 use crate::setting::RiceSetting;
 use crate::status::{Status, refusal_status};
 use rice_bits::SliceOut;
+use rice_code::added_bound;
 use rice_samples::Setting;
 use rice_stream::{Fault, Outcome, Report, Seam, encode_more, encode_rest};
 
@@ -45,6 +49,26 @@ pub extern "C" fn rice_begin(setting: &RiceSetting, feed: &mut RiceFeed) -> u32
     }
 }
 
+/// Returns a number of bytes that `rice_push` or `rice_finish` of up to `samples` samples never passes, or 0 if the feed has no
+/// legal setting, or if there are more than 2^48 samples, which no call encodes.
+#[unsafe(no_mangle)]
+pub extern "C" fn rice_push_room(feed: &RiceFeed, samples: u64) -> u64
+    ensures ok { IfOk (setting_asked feed.now.setting) (λ s. samples ≤ 2 ^ 48 → result ≡ push_room s feed.now.seam.waiting_bits samples) }
+    ensures many { 2 ^ 48 < samples → result ≡ 0 }
+    ensures refused { IfErr (setting_asked feed.now.setting) (λ fault. result ≡ 0) }
+{
+    if samples > 1 << 48 {
+        return 0;
+    }
+    match feed.setting.legal() {
+        Ok(setting) => {
+            let bits = feed.seam.waiting_bits as u64 + added_bound(&setting, samples);
+            bits.div_ceil(8)
+        }
+        Err(_) => 0,
+    }
+}
+
 /// Encodes the samples of all segments that are whole with those at `samples`, and writes what their code completes to the
 /// front of `code`. The feed tells how many it has taken. Unless all was done the feed is as it was.
 #[unsafe(no_mangle)]
@@ -57,6 +81,8 @@ pub extern "C" fn rice_push(
     requires { IfOk (setting_asked feed.old.setting) (λ s. (xs : List ℤ) × IsSeam s feed.old.seam xs) }
     ensures ok { IfOk (setting_asked feed.old.setting) (λ s. (xs : List ℤ) → IsSeam s feed.old.seam xs →
         PushesInto s xs samples.now code.old code.new feed.old feed.new report.new result) }
+    ensures room { IfOk (setting_asked feed.old.setting) (λ s. push_room s feed.old.seam.waiting_bits (length samples.now / width s) ≤ length code.old →
+        result ≢ number_of NoRoom) }
     ensures refused { IfErr (setting_asked feed.old.setting) (λ fault.
         Refuses fault code.old code.new report.new result × (feed.new ≡ feed.old)) }
 {
@@ -77,6 +103,8 @@ pub extern "C" fn rice_finish(
     requires { IfOk (setting_asked feed.now.setting) (λ s. (xs : List ℤ) × IsSeam s feed.now.seam xs) }
     ensures ok { IfOk (setting_asked feed.now.setting) (λ s. (xs : List ℤ) → IsSeam s feed.now.seam xs →
         FinishesInto s xs samples.now code.old code.new report.new result) }
+    ensures room { IfOk (setting_asked feed.now.setting) (λ s. push_room s feed.now.seam.waiting_bits (length samples.now / width s) ≤ length code.old →
+        result ≢ number_of NoRoom) }
     ensures refused { IfErr (setting_asked feed.now.setting) (λ fault. Refuses fault code.old code.new report.new result) }
 {
     match feed.setting.legal() {

@@ -9,6 +9,7 @@ pub mod laws;
 pub mod report;
 pub mod setting;
 pub mod status;
+pub mod version;
 
 // The structs of the header, in bytes.
 const _: () = prove!(size_of::<setting::RiceSetting>() == 20);

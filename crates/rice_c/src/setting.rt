@@ -3,11 +3,11 @@ ghost use Rattle.std.specs.Prelude.{◌≡◌, ℕ, ◌^◌, ◌<◌, ◌≤◌,
 ghost use Rattle.rice_samples.specs.Parameters.{IsLegal, width};
 ghost use Rattle.rice_code.specs.Bounds.{step_bound};
 ghost use Rattle.rice_c.specs.Asked.{setting_asked};
-ghost use Rattle.rice_c.specs.Rooms.{code_room};
+ghost use Rattle.rice_c.specs.Rooms.{code_room, set_room};
 ghost use Rattle.rice_c.specs.Statuses.{number_of, check_of, refusal_status};
 
 use crate::status::{Status, refusal_status};
-use rice_code::{padded_bound, step_bound};
+use rice_code::{padded_bound, set_bound, step_bound};
 use rice_samples::{Setting, SettingFault};
 
 /// What a coder and a decoder are set to, in C's own layout. Any numbers may stand in it.
@@ -103,6 +103,19 @@ pub extern "C" fn rice_code_room(setting: &RiceSetting, samples: u64) -> u64
     }
     match setting.legal() {
         Ok(setting) => padded_bound(&setting, samples).div_ceil(8),
+        Err(_) => 0,
+    }
+}
+
+/// Returns a number of bytes that hold any coded data set which this library writes, wherever in a byte it begins, and the
+/// padding after it, or 0 if the setting is not legal.
+#[unsafe(no_mangle)]
+pub extern "C" fn rice_set_room(setting: &RiceSetting) -> u32
+    ensures ok { IfOk (setting_asked setting.now) (λ s. result ≡ set_room s) }
+    ensures refused { IfErr (setting_asked setting.now) (λ fault. result ≡ 0) }
+{
+    match setting.legal() {
+        Ok(setting) => (7 + set_bound(&setting) + 7).div_ceil(8),
         Err(_) => 0,
     }
 }

@@ -1,7 +1,7 @@
 //! Bounds on the bits and steps of coding.
 ghost use Rattle.std.specs.Prelude.{◌≡◌, ℕ, ◌^◌, ◌≤◌};
 ghost use Rattle.rice_samples.specs.Places.{block_count as blocks_of};
-ghost use Rattle.rice_code.specs.Bounds.{block_bound as most_of_block, bit_bound as most_bits, padded_bound as most_padded_bits, step_bound as most_steps};
+ghost use Rattle.rice_code.specs.Bounds.{block_bound as most_of_block, bit_bound as most_bits, padded_bound as most_padded_bits, added_bound as most_added_bits, set_bound as most_of_set, step_bound as most_steps};
 
 use rice_samples::Setting;
 
@@ -27,6 +27,26 @@ pub fn padded_bound(setting: &Setting, samples: u64) -> u64
     }
     let intervals = block_count(setting, samples).div_ceil(setting.interval() as u64);
     bits + 7 * intervals
+}
+
+/// Returns the most bits, with all padding, that `samples` samples, at most 2^48, add to the code of whole segments.
+pub fn added_bound(setting: &Setting, samples: u64) -> u64
+    requires { samples ≤ 2 ^ 48 }
+    ensures value { result ≡ most_added_bits setting.now samples }
+    ensures limit { result ≤ 2 ^ 61 }
+{
+    let bits = padded_bound(setting, samples);
+    // An interval that was begun before may end.
+    if setting.pads() { bits + 7 } else { bits }
+}
+
+/// Returns the most bits of one coded data set of a coder's, whatever its option.
+pub fn set_bound(setting: &Setting) -> u32
+    ensures value { result ≡ most_of_set setting.now }
+    ensures limit { result ≤ 2053 }
+{
+    let plain = setting.block() * setting.bits();
+    setting.id_len() + plain.max(setting.bits() + 65)
 }
 
 /// Returns the most steps that coding `samples` samples, at most 2^48, can take: one for each sample pushed

@@ -1,5 +1,5 @@
 //! The laws of code and decoding, each the contract of a function that does nothing. Their statements are in `specs/Laws.antt`.
-ghost use Rattle.rice_code.specs.Laws.{ReturnsSamples, ReturnsSamplesAndFill, DecodedIsOne, CodesDiffer, RefusedBytesAreNoOutput, OwnBytesAreRecognised, AllBytesAreDecoded, FormsAreReadInOneWay, FormsHaveAOne, CodeGrows, CodeIsBounded, PaddedCodeIsBounded, CodeIsJoined, CostIsLength, ChoiceIsLeast, NoSetsAreShorter, NoCodeIsShorter, NoOutputIsShorter, SavingNeverRises, FirstStopIsBest, ChoiceIsOfThree, CodeGoesOn, BitsGoOn, CodeStandsInIntervals, CodeStandsInBytes, DecodingGoesOn, DecodingStandsInPlaces, SplitIsPaid, RunIsNeverLonger, StepsAreBounded, StepsArePaid, AllStepsAreBounded, IntervalsBeginAfresh, IntervalsAreJoined, PaddedIntervalsAreJoined, IntervalsAreDecodedAlone, DamageStaysInItsInterval};
+ghost use Rattle.rice_code.specs.Laws.{ReturnsSamples, ReturnsSamplesAndFill, DecodedIsOne, CodesDiffer, RefusedBytesAreNoOutput, OwnBytesAreRecognised, AllBytesAreDecoded, FormsAreReadInOneWay, FormsHaveAOne, CodeGrows, CodeIsBounded, PaddedCodeIsBounded, AddedCodeIsBounded, SetsAreBounded, CodeIsJoined, CostIsLength, ChoiceIsLeast, NoSetsAreShorter, NoCodeIsShorter, NoOutputIsShorter, SavingNeverRises, FirstStopIsBest, ChoiceIsOfThree, CodeGoesOn, BitsGoOn, CodeStandsInIntervals, CodeStandsInBytes, DecodingGoesOn, DecodingStandsInPlaces, SplitIsPaid, RunIsNeverLonger, StepsAreBounded, StepsArePaid, AllStepsAreBounded, IntervalsBeginAfresh, IntervalsAreJoined, PaddedIntervalsAreJoined, IntervalsAreDecodedAlone, DamageStaysInItsInterval};
 
 /// With the number of samples, the output decodes to exactly these samples.
 pub fn returns_samples()
@@ -56,6 +56,16 @@ pub fn code_is_bounded()
 /// Padding adds at most seven bits for each interval begun.
 pub fn padded_code_is_bounded()
     ensures { PaddedCodeIsBounded }
+{}
+
+/// What samples add to the code of whole segments is bounded, with all padding.
+pub fn added_code_is_bounded()
+    ensures { AddedCodeIsBounded }
+{}
+
+/// The number of bits of each coded data set of the coder's is bounded.
+pub fn sets_are_bounded()
+    ensures { SetsAreBounded }
 {}
 
 /// Where intervals are not padded, the code is its coded data sets, one after another.

@@ -9,7 +9,7 @@ pub mod examples;
 pub mod laws;
 mod sizes;
 
-pub use bounds::{bit_bound, padded_bound, step_bound};
+pub use bounds::{added_bound, bit_bound, padded_bound, set_bound, step_bound};
 pub use decode::decoder::Decoder;
 pub use decode::fault::{CodeFault, Step};
 pub use encode::SegmentSink;

@@ -37,6 +37,27 @@ fn settings_are_refused_in_order(rt: HostRuntime) -> Result<(), Fail> {
     Ok(())
 }
 
+/// The size of a block, where any even one is taken, and the refusal.
+const REFUSED_BLOCKS: &str = "0  | block size must be even, 2 to 64
+    7  | block size must be even, 2 to 64
+    66 | block size must be even, 2 to 64";
+
+#[test]
+fn block_sizes_are_refused(rt: HostRuntime) -> Result<(), Fail> {
+    let mut cases = Cases::new();
+    for line in REFUSED_BLOCKS.lines() {
+        cases.of_line(line);
+        let mut columns = Columns::of(line);
+        let block = columns.next().parse::<u32>()?;
+        let answer = Setting::with_any_block(8, block, 2, false, false, false, true, false);
+        let fault = answer.expect_err(&rt, "a refusal");
+        let printed = format!(in rt.alloc(); "{fault}")?;
+        cases.check(printed.as_str() == columns.next());
+    }
+    cases.end(&rt);
+    Ok(())
+}
+
 /// The bits of a sample, the length of an identifier, the greatest k, and the width of a sample.
 const GETTERS: &str = "1  | 3 | 5  | 1
     8  | 3 | 5  | 1

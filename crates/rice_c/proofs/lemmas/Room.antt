@@ -44,7 +44,7 @@ padding_le : (pad : Bool) (a b : ℕ) → a ≤ b → cond pad (7 * a) 0 ≤ con
 padding_le true a b le = omega arith
 padding_le false a b le = omega arith
 
-bound_le : (s : Parameters) (m n : ℕ) → IsLegal s → m ≤ n → padded_bound s m ≤ padded_bound s n
+pub bound_le : (s : Parameters) (m n : ℕ) → IsLegal s → m ≤ n → padded_bound s m ≤ padded_bound s n
 bound_le s m n legal le =
     let j : 1 ≤ s.block = let k : 2 ≤ s.block = grind (arith, legal.block) in omega arith in
     let blocks : block_count s m ≤ block_count s n = div_ceil_le m n s.block j le in
@@ -54,7 +54,7 @@ bound_le s m n legal le =
 
 -- ---- code takes no more
 
-few_whole : (bits : List Bool) → 8 * length (whole_bytes bits) ≤ length bits
+pub few_whole : (bits : List Bool) → 8 * length (whole_bytes bits) ≤ length bits
 few_whole bits = omega (arith, length-bits_of (whole_bytes bits), ap length (bits_of-whole_bytes bits), length-take (bits_in_bytes (length bits)) bits)
 
 code_fits : (s : Parameters) (xs : List ℤ) → IsLegal s → All (IsSample s) xs → length (code s xs) ≤ padded_bound s (length xs)
@@ -77,7 +77,7 @@ early_fits s xs n legal samples le =
 
 -- ---- a call that wants for room
 
-stops_short : (from to text : List ℕ) → StopsBetween from to text → length text < length to
+pub stops_short : (from to text : List ℕ) → StopsBetween from to text → length text < length to
 stops_short from to text h = some h.missing h.short (ap length h.stops ∙ length-append text h.missing)
   where
     some : (l : List ℕ) → l ≢ [] → length to ≡ length text + length l → length text < length to

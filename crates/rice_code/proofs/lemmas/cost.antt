@@ -1,4 +1,5 @@
 -- How many bits and looks the options take.
+pub mod AddedBounds
 pub mod BlockBounds
 pub mod CodeEnds
 pub mod Costs

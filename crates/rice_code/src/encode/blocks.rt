@@ -43,7 +43,10 @@ fn code_block<const SIZE: usize, const REFERENCE: bool>(
     // What a copy and a count of its own say stays in registers from step to step.
     let own = *setting;
     let reference = if REFERENCE { Some(word) } else { None };
-    let block = HeldBlock::new(reference, residuals.sized(known_or::<SIZE>(residuals.len())));
+    let block = HeldBlock::new(
+        reference,
+        residuals.sized(known_or::<SIZE>(residuals.len())),
+    );
     let mut steps = Meter::new();
     let (choice, bits) = choose(&own, &block, &mut steps);
     match choice {

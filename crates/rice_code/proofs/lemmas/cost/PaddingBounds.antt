@@ -1,9 +1,10 @@
 -- The padding of the code of samples is bounded.
-use Rattle.std.proofs.Common.{◌≡◌, ℕ, zero, suc, ◌+◌, ◌*◌, ◌/◌, ◌%◌, ◌<◌, ◌≤◌, true, false, cond, List, [], ◌∷◌, length, replicate, ap, arith, sym, ◌∙◌, inl, inr, length-append, None, ℤ, pos, Some}
+use Rattle.std.proofs.Common.{◌≡◌, ℕ, zero, suc, ◌+◌, ◌*◌, ◌/◌, ◌%◌, ◌<◌, ◌≤◌, Bool, true, false, cond, List, [], ◌∷◌, length, replicate, ap, arith, subst, sym, ◌∙◌, inl, inr, length-append, None, ℤ, pos, Some}
 use Rattle.std.specs.Prelude.{All}
 use Rattle.std.specs.Int.{div_ceil}
 use Rattle.std.proofs.lemmas.Bool.Decides.{nat_tests}
 use Rattle.std.proofs.lemmas.Bool.{cases_lt}
+use Rattle.std.proofs.lemmas.Grind.{div_ceil_times}
 use Rattle.std.proofs.lemmas.List.{length-replicate}
 use Rattle.std.proofs.lemmas.List.Concat.{length-flat_map}
 use Rattle.std.proofs.lemmas.List.Elements.{recursion_from_All}
@@ -16,12 +17,13 @@ use Rattle.rice_samples.proofs.lemmas.setting.Levels.{zero_is_sample}
 use Rattle.rice_code.specs.code.Blocks.{BlockData, blocks_of, zero_block}
 use Rattle.rice_code.specs.code.CodedDataSets.{bits_of_set}
 use Rattle.rice_code.specs.code.Forms.{blocks_in_all}
-use Rattle.rice_code.specs.code.Code.{sets_of, code, code_bits}
+use Rattle.rice_code.specs.code.Code.{sets_from, code, code_from, code_bits, bits_from}
+use Rattle.rice_code.specs.code.Decoded.{AreTaken}
 use Rattle.rice_code.specs.Bounds.{padding_bound}
 use Rattle.rice_code.proofs.lemmas.meaning.Covers.{bool_cases, GoOn, AreBlocks, covers}
 use Rattle.rice_code.proofs.lemmas.code.Layouts.{BeginBefore, laid_plain, laid_bound}
 use Rattle.rice_code.proofs.lemmas.meaning.SentSets.{are_taken, begin_before}
-use Rattle.std.proofs.Math.Nat.{mul-le-mul_left}
+use Rattle.std.proofs.Math.Nat.{mul-le-mul_left, mul-le-mul_right}
 use Rattle.rice_code.specs.code.SoundBlocks.{AreSoundBlocks}
 use Rattle.rice_code.proofs.lemmas.code.SoundBlocks.{count_blocks, blocks_sound_behind}
 
@@ -65,41 +67,81 @@ inside_interval s b (suc n) h k =
         remainder r q h = mul-add-mod_self_left r q 0 ∙ mod-eq_of_lt h
 
 -- the coded data sets of samples begin before their blocks end
-pub sets_begin : (s : Parameters) (xs : List ℤ) → IsLegal s → All (IsSample s) xs → BeginBefore s (0 + block_count s (length xs)) 0 (sets_of s xs)
-sets_begin s xs legal k =
+pub sets_begin : (s : Parameters) (b : ℕ) (p : ℤ) (xs : List ℤ) → IsLegal s → IsSample s p → All (IsSample s) xs → BeginBefore s (b + block_count s (length xs)) b (sets_from s b p xs)
+sets_begin s b p xs legal h k =
     let j : 1 ≤ s.block = grind (arith, legal.block) in
     let n = block_count s (length xs) in
-    let cs = blocks_of s 0 (pos 0) xs in
-    let sound = blocks_sound_behind s 0 (pos 0) xs legal j (zero_is_sample s legal.bits_from) (recursion_from_All (IsSample s) xs k) in
-    let count : length cs ≡ n = count_blocks s 0 (pos 0) n (filled_samples s (pos 0) xs) in
-    begin_before s (0 + n) 0 (sets_of s xs)
-    (are_taken s (Some (s.block * (0 + n))) 0 false cs legal.interval_from sound (λ i lt. let m : s.block * suc i ≤ s.block * (0 + n) = mul-le-mul_left s.block (omega arith) in less s.block i _ j m))
+    let cs = blocks_of s b p xs in
+    let sound = blocks_sound_behind s b p xs legal j h (recursion_from_All (IsSample s) xs k) in
+    let count : length cs ≡ n = count_blocks s b p n (filled_samples s p xs) in
+    let here : b + 0 ≡ b = omega arith in
+    let taken = are_taken s (Some (s.block * (b + n))) b false cs legal.interval_from sound (λ i lt. let m : s.block * suc i ≤ s.block * (b + n) = mul-le-mul_left s.block (omega (arith, lt, count)) in less s.block i _ j m) in
+    begin_before s (b + n) b (sets_from s b p xs) (subst (λ (m : ℕ). AreTaken s (Some (s.block * (b + n))) m (sets_from s b p xs)) here taken)
   where
     less : (j i m : ℕ) → 1 ≤ j → j * suc i ≤ m → j * i < m
     less j i m h k = omega arith
 
-pub padding_is_bounded : (s : Parameters) → IsLegal s → (xs : List ℤ) → All (IsSample s) xs → length (code s xs) ≤ code_bits s xs + padding_bound s (length xs)
-padding_is_bounded s legal xs k =
+-- code from a block on has at most seven bits of padding for each end of an interval
+padding_from : (s : Parameters) → IsLegal s → (b position : ℕ) (p : ℤ) (xs : List ℤ) → IsSample s p → All (IsSample s) xs →
+    length (code_from s b position p xs) + cond s.pad (7 * (b / s.interval)) 0 ≤ bits_from s b p xs + cond s.pad (7 * div_ceil (b + block_count s (length xs)) s.interval) 0
+padding_from s legal b position p xs h k =
     let j : 1 ≤ s.block = grind (arith, legal.block) in
-    let cs = blocks_of s 0 (pos 0) xs in
-    let sound = blocks_sound_behind s 0 (pos 0) xs legal j (zero_is_sample s legal.bits_from) (recursion_from_All (IsSample s) xs k) in
-    let cover = covers s 0 false cs legal.interval_from (are_blocks s 0 cs sound) in
-    let n : length cs ≡ block_count s (length xs) = count_blocks s 0 (pos 0) (block_count s (length xs)) (filled_samples s (pos 0) xs) in
+    let count = block_count s (length xs) in
+    let cs = blocks_of s b p xs in
+    let sets = sets_from s b p xs in
+    let sound = blocks_sound_behind s b p xs legal j h (recursion_from_All (IsSample s) xs k) in
+    let cover = covers s b false cs legal.interval_from (are_blocks s b cs sound) in
+    let n : length cs ≡ count = count_blocks s b p count (filled_samples s p xs) in
     elim (bool_cases s.pad) [
-      | inr e ↦ let l = ap length (laid_plain s (0 + block_count s (length xs)) 0 0 (sets_of s xs) e) ∙ length-flat_map (bits_of_set s) (sets_of s xs) in omega arith
+      | inr e ↦
+          let l = ap length (laid_plain s (b + count) b position sets e) ∙ length-flat_map (bits_of_set s) sets in
+          let x = ap (λ v. cond v (7 * (b / s.interval)) 0) e in
+          let y = ap (λ v. cond v (7 * div_ceil (b + count) s.interval) 0) e in
+          omega (arith, l, x, y)
       | inl e ↦
-          let l = laid_bound s (0 + block_count s (length xs)) 0 0 (sets_of s xs) legal.interval_from (sets_begin s xs legal k) in
-          let all = ap length cover.blocks ∙ (length-append cs (replicate cover.fill (zero_block s None)) ∙ ap (λ m. length cs + m) (length-replicate cover.fill (zero_block s None))) in
-          let i = inside_interval s (0 + length cs) cover.fill legal.interval_from cover.inside in
-          let few : (0 + length (blocks_in_all s 0 (sets_of s xs))) / s.interval ≤ interval_count s (length xs) = ceil _ (length cs) cover.fill _ s.interval all n i in
-          let p : padding_bound s (length xs) ≡ 7 * interval_count s (length xs) = ap (λ v. cond v (7 * interval_count s (length xs)) 0) e in
-          omega arith
+          let l = laid_bound s (b + count) b position sets legal.interval_from (sets_begin s b p xs legal h k) in
+          let here : b + 0 ≡ b = omega arith in
+          let blocks = ap (λ m. blocks_in_all s m sets) (sym here) ∙ cover.blocks in
+          let all = ap length blocks ∙ (length-append cs (replicate cover.fill (zero_block s None)) ∙ ap (λ m. length cs + m) (length-replicate cover.fill (zero_block s None))) in
+          let i = inside_interval s (b + length cs) cover.fill legal.interval_from cover.inside in
+          let few = ceil _ b (length cs) cover.fill count s.interval all n i in
+          let x = ap (λ v. cond v (7 * (b / s.interval)) 0) e in
+          let y = ap (λ v. cond v (7 * div_ceil (b + count) s.interval) 0) e in
+          omega (arith, l, few, x, y)
     ]
   where
-    ceil : (x len fill count r : ℕ) → x ≡ len + fill → len ≡ count → (0 + len + fill) / r ≤ div_ceil (0 + len) r → (0 + x) / r ≤ div_ceil count r
-    ceil x len fill count r e f h =
-        let p : 0 + x ≡ 0 + len + fill = omega arith in
-        let q : 0 + len ≡ count = omega arith in
+    ceil : (x b len fill count r : ℕ) → x ≡ len + fill → len ≡ count → (b + len + fill) / r ≤ div_ceil (b + len) r → (b + x) / r ≤ div_ceil (b + count) r
+    ceil x b len fill count r e f h =
+        let p : b + x ≡ b + len + fill = omega arith in
+        let q : b + len ≡ b + count = omega arith in
         let p' = ap (λ n. n / r) p in
         let q' = ap (λ n. div_ceil n r) q in
         omega arith
+
+pub padding_is_bounded : (s : Parameters) → IsLegal s → (xs : List ℤ) → All (IsSample s) xs → length (code s xs) ≤ code_bits s xs + padding_bound s (length xs)
+padding_is_bounded s legal xs k =
+    let l = padding_from s legal 0 0 (pos 0) xs (zero_is_sample s legal.bits_from) k in
+    let count : 0 + block_count s (length xs) ≡ block_count s (length xs) = omega arith in
+    let same = ap (λ n. cond s.pad (7 * div_ceil n s.interval) 0) count in
+    omega (arith, l, same)
+
+-- after other blocks an interval may end that they have begun
+pub padding_behind_is_bounded : (s : Parameters) → IsLegal s → (b position : ℕ) (p : ℤ) (xs : List ℤ) → IsSample s p → All (IsSample s) xs →
+    length (code_from s b position p xs) ≤ bits_from s b p xs + padding_bound s (length xs) + cond s.pad 7 0
+padding_behind_is_bounded s legal b position p xs h k =
+    let count = block_count s (length xs) in
+    by_pad s.pad (length (code_from s b position p xs)) (bits_from s b p xs) (b / s.interval) (div_ceil (b + count) s.interval) (interval_count s (length xs))
+    (ends b count s.interval legal.interval_from) (padding_from s legal b position p xs h k)
+  where
+    by_pad : (pad : Bool) (len bits q c d : ℕ) → c ≤ q + d + 1 → len + cond pad (7 * q) 0 ≤ bits + cond pad (7 * c) 0 → len ≤ bits + cond pad (7 * d) 0 + cond pad 7 0
+    by_pad true len bits q c d few h = omega arith
+    by_pad false len bits q c d few h = omega arith
+
+    ends : (b l r : ℕ) → 1 ≤ r → div_ceil (b + l) r ≤ b / r + div_ceil l r + 1
+    ends b l r some = at (div_ceil (b + l) r) (b / r) (div_ceil l r) (b % r) (div-add-mod b r) (mod-lt b some) (div_ceil_times (b + l) r some).1 (div_ceil_times l r some).0
+      where
+        at : (c q d m : ℕ) → r * q + m ≡ b → m < r → c * r < b + l + r → l ≤ d * r → c ≤ q + d + 1
+        at c q d m e lt few enough = elim (cases_lt (q + d + 1) c) [
+          | inl over ↦ absurd (let p : (q + d + 2) * r ≤ c * r = mul-le-mul_right r (omega arith) in omega (arith, p, e, lt, few, enough))
+          | inr le ↦ le
+        ]

@@ -103,7 +103,7 @@ returned s legal xs k =
         elim (cases_lt 0 fill) [
           | inl some ↦
               let P : ℕ → Type 0 = λ m. GoOn s (0 + m) fill in
-              lies_laid s (0 + n) 0 0 sets (not_padded s (0 + n) fill some (subst P blocks cover.inside)) (sets_begin s xs legal k)
+              lies_laid s (0 + n) 0 0 sets (not_padded s (0 + n) fill some (subst P blocks cover.inside)) (sets_begin s 0 (pos 0) xs legal (zero_is_sample s legal.bits_from) k)
           | inr none ↦ (0, omega arith, with_none s sets (code s xs) (lies_inside s (0 + n) 0 0 sets (omega arith)))
         ] in
         let skipped = taken.0 in

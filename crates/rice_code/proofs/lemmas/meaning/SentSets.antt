@@ -40,7 +40,7 @@ numbered : (z left len : ℕ) → z ≤ left → left ≤ 64 → (nat_le 5 z && 
 numbered z left len h k e =
     elim (cases_lt z left) [ inl lt ↦ omega arith | inr le ↦ elim (cases_lt z 64) [ inl lt ↦ omega arith | inr ge ↦ absurd (grind (arith, nat_tests)) ] ]
 
-zero_run_is_sound : (s : Parameters) (b w : ℕ) (r : Option ℕ) (cs : List BlockData) → 1 ≤ s.interval → IsReference s b r → run_len s b cs ≡ suc w → IsSound s b (zero_run s b r cs)
+pub zero_run_is_sound : (s : Parameters) (b w : ℕ) (r : Option ℕ) (cs : List BlockData) → 1 ≤ s.interval → IsReference s b r → run_len s b cs ≡ suc w → IsSound s b (zero_run s b r cs)
 zero_run_is_sound s b w r cs h k e =
     let z = run_len s b cs in
     let left = blocks_left s b in

@@ -1,0 +1,5 @@
+use Rattle.rice_c.proofs.lemmas.FedRoom as fed
+use Rattle.rice_c.proofs.laws.push_room_suffices.Goals as goal
+
+pub returns : goal.returns
+returns c = fed.push_room_suffices

@@ -1,0 +1,79 @@
+-- What samples add to the code of whole segments is bounded, and so is what is sent at once.
+use Rattle.std.proofs.Common.{◌≡◌, ℕ, suc, ◌+◌, ◌≤◌, Bool, true, false, not, ◌&&◌, List, [], ◌∷◌, ◌++◌, length, length-append, ap, arith, sym, ◌∙◌, inl, inr, subst, Option, pos}
+use Rattle.std.specs.List.{AllByRecursion}
+use Rattle.std.proofs.lemmas.Bool.Decides.{nat_tests}
+use Rattle.std.proofs.lemmas.List.Elements.{All-from_recursion, recursion_from_All}
+use Rattle.rice_samples.specs.Parameters.{Parameters, IsLegal, IsSample}
+use Rattle.rice_samples.specs.Places.{begins_segment}
+use Rattle.rice_samples.specs.predict.Residuals.{last_of}
+use Rattle.rice_samples.proofs.lemmas.setting.CutLemmas.{cut_is_start}
+use Rattle.rice_samples.proofs.lemmas.setting.Levels.{zero_is_sample}
+use Rattle.rice_code.specs.Bounds.{set_bound}
+use Rattle.rice_code.specs.Laws.{AddedCodeIsBounded, SetsAreBounded}
+use Rattle.rice_code.specs.code.Blocks.{BlockData, is_zero_block}
+use Rattle.rice_code.specs.code.Code.{code, code_from, data_sets, sets_of}
+use Rattle.rice_code.specs.code.CodedDataSets.{CodedDataSet, bits_of_set, cost, run_number}
+use Rattle.rice_code.specs.code.Forms.{IsReference, RunIsSound}
+use Rattle.rice_code.specs.code.Runs.{zero_run, run_len}
+use Rattle.rice_code.specs.code.SoundBlocks.{AreSoundBlocks}
+use Rattle.rice_code.proofs.lemmas.code.GoingOn.{code_goes_on}
+use Rattle.rice_code.proofs.lemmas.code.SoundBlocks.{blocks_sound_behind, code_is_bounded, last_legal}
+use Rattle.rice_code.proofs.lemmas.cost.BlockBounds.{shortest_bound, reference_bound}
+use Rattle.rice_code.proofs.lemmas.cost.Costs.{cost_is_length}
+use Rattle.rice_code.proofs.lemmas.cost.PaddingBounds.{padding_behind_is_bounded}
+use Rattle.rice_code.proofs.lemmas.meaning.Covers.{bool_cases, skipped, data_sets_plain, data_sets_start, data_sets_inside, zero_run_is, run_cons}
+use Rattle.rice_code.proofs.lemmas.meaning.SentSets.{zero_run_is_sound}
+
+pub added_code_is_bounded : AddedCodeIsBounded
+added_code_is_bounded s legal xs ys h k whole =
+    let start = cut_is_start s legal (length xs) in
+    let b = start.0 in
+    let here : 0 + b ≡ b = omega arith in
+    let zero = zero_is_sample s legal.bits_from in
+    let goes = code_goes_on s legal 0 0 b (pos 0) xs ys zero h (sym whole ∙ start.1) (ap (λ i. begins_segment s i) here ∙ start.2) in
+    let p = last_of (pos 0) xs in
+    let sample = last_legal s (pos 0) xs zero (recursion_from_All (IsSample s) xs h) in
+    let more = code_from s (0 + b) (0 + length (code s xs)) p ys in
+    let size : length (code s (xs ++ ys)) ≡ length (code s xs) + length more = ap length goes ∙ length-append (code s xs) more in
+    omega (arith, size, padding_behind_is_bounded s legal (0 + b) (0 + length (code s xs)) p ys sample k, code_is_bounded s legal (0 + b) p ys sample k)
+
+-- the number of a run's codeword is at most that of its blocks
+few_zeros : (z : ℕ) → run_number z ≤ z
+few_zeros z = grind (arith, nat_tests)
+
+run_fits : (s : Parameters) (b w : ℕ) (r : Option ℕ) (cs : List BlockData) → IsLegal s → IsReference s b r → run_len s b cs ≡ suc w → length (bits_of_set s (zero_run s b r cs)) ≤ set_bound s
+run_fits s b w r cs legal h e =
+    let d = zero_run s b r cs in
+    let sound = zero_run_is_sound s b w r cs legal.interval_from h e in
+    let len = cost_is_length s b d (omega (arith, legal.block)) sound.0 in
+    let ref = reference_bound s r in
+    elim (zero_run_is s b r cs) [
+      | inl f ↦
+          let few = subst (RunIsSound s b) f sound.1 in
+          omega (arith, len, ap (cost s) f, few.1, few_zeros (run_len s b cs), ref)
+      | inr f ↦ omega (arith, len, ap (cost s) f.0, ref)
+    ]
+
+sets_fit : (s : Parameters) (b : ℕ) (behind : Bool) (cs : List BlockData) → IsLegal s → AreSoundBlocks s b cs → AllByRecursion (λ d. length (bits_of_set s d) ≤ set_bound s) (data_sets s b behind cs)
+sets_fit s b behind [] legal k = tt
+sets_fit s b behind (c ∷ cs) legal k =
+    let P : List CodedDataSet → Type 0 = AllByRecursion (λ d. length (bits_of_set s d) ≤ set_bound s) in
+    elim (bool_cases (is_zero_block c)) [
+      | inr z ↦
+          let one = shortest_bound s b c (omega (arith, legal.block)) k.0 in
+          subst P (sym (data_sets_plain s b behind c cs z)) (omega (arith, one), sets_fit s (b + 1) false cs legal k.1)
+      | inl z ↦
+          let rest = sets_fit s (b + 1) true cs legal k.1 in
+          elim (bool_cases (behind && not (begins_segment s b))) [
+            | inl go ↦ subst P (sym (data_sets_inside s b behind c cs z go)) rest
+            | inr stop ↦
+                let one = run_fits s b (skipped s (b + 1) true cs) c.reference (c ∷ cs) legal k.0.block.reference (run_cons s b c cs legal.interval_from z) in
+                subst P (sym (data_sets_start s b behind c cs z stop)) (one, rest)
+          ]
+    ]
+
+pub sets_are_bounded : SetsAreBounded
+sets_are_bounded s legal xs k =
+    let j : 1 ≤ s.block = omega (arith, legal.block) in
+    let sound = blocks_sound_behind s 0 (pos 0) xs legal j (zero_is_sample s legal.bits_from) (recursion_from_All (IsSample s) xs k) in
+    All-from_recursion (λ d. length (bits_of_set s d) ≤ set_bound s) (sets_of s xs) (sets_fit s 0 false _ legal sound)
