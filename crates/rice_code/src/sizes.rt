@@ -1,11 +1,12 @@
 //! Numbers that the compiler knows.
-ghost use Rattle.std.specs.Prelude.{◌≡◌, ◌<◌};
+ghost use Rattle.std.specs.Prelude.{◌≡◌, ◌<◌, ◌≤◌};
 
-/// Returns `len`, which the compiler knows where `SIZE` is not 0.
+/// Returns `len`, which the compiler knows where `SIZE` is not 0; where it is, the compiler knows the range.
 #[inline(always)]
 pub fn known_or<const SIZE: usize>(len: usize) -> usize
-    requires { 0 < SIZE → SIZE ≡ len }
+    requires known { 0 < SIZE → SIZE ≡ len }
+    requires range { (2 ≤ len) × (len ≤ 64) }
     ensures { result ≡ len }
 {
-    if SIZE == 0 { len } else { SIZE }
+    if SIZE == 0 { len.max(2).min(64) } else { SIZE }
 }

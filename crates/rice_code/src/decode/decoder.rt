@@ -292,8 +292,8 @@ impl Decoder {
             8 => self.read_sized::<I, 8>(reader, meter, levels),
             16 => self.read_sized::<I, 16>(reader, meter, levels),
             32 => self.read_sized::<I, 32>(reader, meter, levels),
-            64 => self.read_sized::<I, 64>(reader, meter, levels),
-            _ => self.read_sized::<I, 0>(reader, meter, levels),
+            size if size < 64 => self.read_sized::<I, 0>(reader, meter, levels),
+            _ => self.read_sized::<I, 64>(reader, meter, levels),
         }
     }
 

@@ -188,8 +188,8 @@ pub fn code_blocks(
         8 => code_each::<8>(setting, start, reference, count, segment, sink, meter),
         16 => code_each::<16>(setting, start, reference, count, segment, sink, meter),
         32 => code_each::<32>(setting, start, reference, count, segment, sink, meter),
-        64 => code_each::<64>(setting, start, reference, count, segment, sink, meter),
-        _ => code_each::<0>(setting, start, reference, count, segment, sink, meter),
+        size if size < 64 => code_each::<0>(setting, start, reference, count, segment, sink, meter),
+        _ => code_each::<64>(setting, start, reference, count, segment, sink, meter),
     }
 }
 

@@ -276,8 +276,8 @@ fn blocks_of(setting: &PreparedSetting, len: usize) -> usize
         8 => len / 8,
         16 => len / 16,
         32 => len / 32,
-        64 => len / 64,
-        size => len / size as usize,
+        size if size < 64 => len / size as usize,
+        _ => len / 64,
     }
 }
 
