@@ -1,1 +1,4 @@
+pub mod Outside
+pub mod Performs
 pub mod Plan
+pub mod Starts

@@ -35,11 +35,11 @@ is_flagged f id = option_map_or (λ t. bytes_eq t (codes "true")) (one_text f id
 
 -- what a plan says, with its names as texts
 pub record PlanView : Type 0 where
-  setting : Parameters
-  decode : Bool
-  samples : Option ℕ
-  source : List ℕ
-  dest : List ℕ
+  pub setting : Parameters
+  pub decode : Bool
+  pub samples : Option ℕ
+  pub source : List ℕ
+  pub dest : List ℕ
 
 abbrev pub plan_view : Plan → PlanView
 plan_view p = record {

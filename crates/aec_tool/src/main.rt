@@ -4,11 +4,16 @@
 mod command_line;
 mod entries;
 mod exit_status;
-mod late_file;
+mod host;
+mod message;
+mod perform;
 mod plan;
 mod run;
 mod same_file;
+mod sink;
 mod start_up;
+mod stream;
+mod system;
 #[cfg(test)]
 mod tests;
 

@@ -1,11 +1,11 @@
 //! Whether a name is that of the file that is read.
 ghost use Rattle.std.specs.Prelude.{◌≡◌, ◌↔◌, IsTrue};
 ghost use Rattle.std.specs.Fs.{IsFile, file_type};
+ghost use Rattle.aec_tool.specs.Outside.{AreOneFile};
 
 use std::fs::Metadata;
+use std::io;
 use std::os::unix::fs::MetadataExt;
-use std::rt::Files;
-use std::{fs, io};
 
 /// What tells a file from all others, its device and its number there, and whether it is a regular file.
 #[derive(Clone, Copy, Debug)]
@@ -44,9 +44,11 @@ fn is_one_file(source: FileId, dest: FileId) -> bool
         && dest.is_regular
 }
 
-/// Whether a name is that of the source. Where the system can't tell, it is not.
-pub fn names_source<F: Files>(files: &F, name: &str, source: Option<FileId>) -> bool {
-    match (source, known_id(fs::metadata(files, name))) {
+/// Whether both are known, and are one regular file.
+pub fn are_one_file(source: Option<FileId>, dest: Option<FileId>) -> bool
+    ensures { IsTrue result ↔ AreOneFile source dest }
+{
+    match (source, dest) {
         (Some(source), Some(dest)) => is_one_file(source, dest),
         _ => false,
     }

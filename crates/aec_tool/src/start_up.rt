@@ -1,171 +1,91 @@
 //! From the words of the command line to the exit status.
-ghost use Rattle.std.specs.Prelude.{◌≡◌};
+ghost use Rattle.std.specs.Prelude.{◌≡◌, Some};
+ghost use Rattle.clap.specs.Words.{kind_of};
+ghost use Rattle.aec_tool.specs.Outside.{Outside, IsFresh};
+ghost use Rattle.aec_tool.specs.Starts.{Starts, Explains};
 
 use crate::command_line::command;
 use crate::entries::plan_of;
-use crate::exit_status::exit_status;
-use crate::late_file::LateFile;
-use crate::plan::Plan;
-use crate::run::run;
-use crate::same_file::{FileId, known_id, names_source};
+use crate::exit_status::SUCCESS;
+use crate::host::Host;
+use crate::message::Message;
+use crate::perform::{fail, perform};
+use crate::system::System;
 use clap::error::ErrorKind;
 use clap::{ArgMatches, Error};
-use rice_bits::{FromBufWriter, FromReader};
-use rice_stream::Fault;
-use std::alloc::AllocGlobal;
-use std::fmt::Display;
-use std::fs::{File, OpenFile};
-use std::io::{BufWriter, Read, Write};
+use std::alloc::{AllocGlobal, Global};
 use std::rt::Runtime;
-use std::{env, fs, io};
-use thiserror::Error as ErrorText;
+use std::{env, io};
 
-/// Why the command gave up before it encoded or decoded.
-#[derive(Clone, Copy, Debug, ErrorText)]
-pub enum StartFault<'a> {
-    #[error("cannot open {name}")]
-    NoSource { name: &'a str },
-    #[error("cannot create {name}")]
-    NoDest { name: &'a str },
-    #[error("out of memory")]
-    NoMemory,
-}
-
-const SUCCESS: u8 = 0;
-
-const FAILURE: u8 = 1;
-
+/// The status of a command line that is refused.
 const USAGE: u8 = 2;
 
-/// The size of the buffer in front of the destination, in bytes.
-const BUFFER: usize = 1 << 16;
-
-/// The name of the file that standard input is.
-const STANDARD_INPUT: &str = "/dev/stdin";
-
-fn complain<R: Eprint, D: Display + Drop>(rt: &R, text: D, status: u8) -> u8
-    ensures { result ≡ status }
-{
-    let _ = eprintln!(rt; "aec: {text}");
-    status
-}
-
-fn matches_of<'a, R: Runtime + AllocGlobal>(
-    rt: &R,
-    words: &'a [&'a str],
-) -> Result<ArgMatches<'a>, Error> {
-    command(rt.alloc())?.try_get_matches_from(words)
+fn matches_of<'a>(alloc: Global, words: &'a [&'a str]) -> Result<ArgMatches<'a>, Error> {
+    command(alloc)?.try_get_matches_from(words)
 }
 
 /// Runs the command with the given words, and returns its exit status.
-pub fn start<'a, R: Runtime + AllocGlobal>(rt: &R, words: &'a [&'a str]) -> u8 {
-    let matches = match matches_of(rt, words) {
+pub fn start<'a, S: System<'a>>(system: &mut S, alloc: Global, words: &'a [&'a str]) -> u8
+    requires { (o : Outside) → S.told system.old ≡ Some o → IsFresh o }
+    ensures { (o : Outside) → S.told system.old ≡ Some o → (after : Outside) × (S.told system.new ≡ Some after)
+        × Starts S.Source.left S.Source.failed S.Dest.taken S.Dest.failed o after result }
+{
+    let matches = match matches_of(alloc, words) {
         Ok(matches) => matches,
-        Err(error) => return refuse(rt, &error),
+        Err(error) => return refuse(system, &error),
     };
     match plan_of(&matches) {
-        Ok(plan) => open(rt, &plan),
-        Err(fault) => complain(rt, fault, USAGE),
-    }
-}
-
-fn refuse<R: Runtime>(rt: &R, error: &Error) -> u8 {
-    if error.kind() == ErrorKind::OutOfMemory {
-        return complain(rt, StartFault::NoMemory, FAILURE);
-    }
-    let _ = error.print(rt);
-    if error.use_stderr() { USAGE } else { SUCCESS }
-}
-
-fn open<R: Runtime + AllocGlobal>(rt: &R, plan: &Plan<'_>) -> u8 {
-    if plan.source == "-" {
-        let found = known_id(fs::metadata(rt, STANDARD_INPUT));
-        return create(rt, plan, rt.reader(), found);
-    }
-    match File::open(rt, plan.source) {
-        Ok(file) => {
-            let found = known_id(file.metadata());
-            create(rt, plan, file, found)
+        Ok(plan) => perform(system, &plan),
+        Err(fault) => {
+            system.tell(Message::Refused(fault));
+            USAGE
         }
-        Err(_) => complain(rt, StartFault::NoSource { name: plan.source }, FAILURE),
     }
 }
 
-/// Creates the destination, unless that would empty the source.
-fn create<R: Runtime + AllocGlobal, S: Read + Drop>(
-    rt: &R,
-    plan: &Plan<'_>,
-    source: S,
-    found: Option<FileId>,
-) -> u8 {
-    if plan.dest == "-" {
-        return match BufWriter::with_capacity(rt.alloc(), BUFFER, io::writer(rt)) {
-            Ok(writer) => finish(rt, plan, source, writer),
-            Err(_) => complain(rt, StartFault::NoMemory, FAILURE),
-        };
-    }
-    if names_source(rt, plan.dest, found) {
-        return complain(rt, StartFault::NoDest { name: plan.dest }, FAILURE);
-    }
-    create_file(rt, plan, source)
-}
-
-/// Creates the file to write once there is a buffer for it: without one, the file that stands there is kept.
-fn create_file<R: Runtime + AllocGlobal, S: Read + Drop>(rt: &R, plan: &Plan<'_>, source: S) -> u8 {
-    // Where standard streams are closed, a new file takes their place, and messages would go into it. A directory, which is
-    // neither read nor written, stands in for each.
-    let _input = File::open(rt, "/");
-    let _output = File::open(rt, "/");
-    let _errors = File::open(rt, "/");
-    let Ok(mut writer) = BufWriter::with_capacity(rt.alloc(), BUFFER, LateFile::new()) else {
-        return complain(rt, StartFault::NoMemory, FAILURE);
-    };
-    match File::create(rt, plan.dest) {
-        Ok(file) => {
-            writer.get_mut().set(file);
-            finish(rt, plan, source, writer)
+/// Passes on what the parser has to say, and returns the exit status.
+fn refuse<'a, S: System<'a>>(system: &mut S, error: &Error) -> u8
+    requires { (o : Outside) → S.told system.old ≡ Some o → IsFresh o }
+    ensures { (o : Outside) → S.told system.old ≡ Some o → (after : Outside) × (S.told system.new ≡ Some after)
+        × Explains (kind_of error.now) o after result }
+{
+    match error.kind() {
+        ErrorKind::OutOfMemory => fail(system, Message::NoMemory),
+        ErrorKind::DisplayHelp | ErrorKind::DisplayVersion => {
+            system.show(error);
+            SUCCESS
         }
-        Err(_) => complain(rt, StartFault::NoDest { name: plan.dest }, FAILURE),
-    }
-}
-
-/// Encodes or decodes from one stream to the other, and flushes.
-fn finish<R: Runtime + AllocGlobal, S: Read + Drop, W: Write + Drop>(
-    rt: &R,
-    plan: &Plan<'_>,
-    source: S,
-    writer: BufWriter<W>,
-) -> u8 {
-    let mut outlet = FromBufWriter::new(writer);
-    let (outcome, _) = run(plan, FromReader::new(source), &mut outlet);
-    let flushed = outlet.into_inner().flush();
-    match outcome.fault {
-        Some(fault) => complain(rt, fault, exit_status(&outcome)),
-        None if flushed.is_err() => complain(rt, Fault::Write, FAILURE),
-        None => exit_status(&outcome),
+        _ => {
+            system.show(error);
+            USAGE
+        }
     }
 }
 
 /// Runs the command with the words of the process, and returns its exit status.
 pub fn start_with_arguments<R: Runtime + AllocGlobal>(rt: &R) -> u8 {
+    let mut host = Host::new(rt);
     let words = match env::args(rt) {
         Ok(words) => words,
         Err(error) if error.kind() == io::ErrorKind::OutOfMemory => {
-            return complain(rt, StartFault::NoMemory, FAILURE);
+            return fail(&mut host, Message::NoMemory);
         }
-        Err(_) => return complain(rt, "an argument is not UTF-8", USAGE),
+        Err(_) => {
+            host.tell(Message::NotUtf8);
+            return USAGE;
+        }
     };
     let mut all = Vec::new(rt.alloc());
     for word in words {
         if all.push(word).is_err() {
-            return complain(rt, StartFault::NoMemory, FAILURE);
+            return fail(&mut host, Message::NoMemory);
         }
     }
     let mut texts = Vec::new(rt.alloc());
     for word in &all {
         if texts.push(word.as_str()).is_err() {
-            return complain(rt, StartFault::NoMemory, FAILURE);
+            return fail(&mut host, Message::NoMemory);
         }
     }
-    start(rt, texts.as_slice())
+    start(&mut host, rt.alloc(), texts.as_slice())
 }

@@ -1,4 +1,5 @@
 //! `start` over a runtime in memory.
+use crate::host::Host;
 use crate::start_up::start;
 use crate::tests::memory::{Memory, Record, Told};
 use std::process::Abort;
@@ -19,7 +20,7 @@ fn told(rt: HostRuntime, words: &[&str], input: &[u8], room: usize) -> Result<(u
     for word in words {
         all.push(*word)?;
     }
-    let status = start(&memory, all.as_slice());
+    let status = start(&mut Host::new(&memory), rt.alloc(), all.as_slice());
     Ok((status, record.into_told()?))
 }
 

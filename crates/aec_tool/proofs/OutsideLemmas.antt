@@ -1,0 +1,96 @@
+-- What follows of what a system tells.
+use Rattle.std.proofs.Common.{◌≡◌, ◌∙◌, ℕ, Bool, true, false, List, [], ◌++◌, Option, Some, None, Result, Ok, Err, refl, ap, subst, sym}
+use Rattle.std.specs.Prelude.{is_ok}
+use Rattle.rice_bits.specs.declared.device.WriteFault.{WriteFault}
+use Rattle.rice_bits.specs.device.Outlet.{Room, Appends}
+use Rattle.rice_stream.specs.Calls.{Call, Happens, Fails}
+use Rattle.rice_stream.specs.Encodes.{Encodes}
+use Rattle.rice_stream.specs.Decodes.{Decodes}
+use Rattle.rice_stream.specs.declared.outcome.Outcome.{Outcome}
+use Rattle.aec_tool.specs.Plan.{PlanView}
+use Rattle.aec_tool.specs.Outside.{Outside, Said, Holds, HasTakenNothing, Finishes, begun, holding, source_bytes, place_of, is_creatable}
+use Rattle.aec_tool.specs.Performs.{EngineOf, Arrives, EmptiesSource, Runs, last_words, status_with}
+
+-- What holds of what a system tells after a call, where it told something before, holds of all that it tells.
+pub holds_after : (P : Outside → Type 0) (old new : Option Outside) → (old ≡ None → new ≡ None)
+    → ((o : Outside) → old ≡ Some o → (x : Outside) × (new ≡ Some x) × P x) → (o : Outside) → new ≡ Some o → P o
+holds_after P None new silent tells o e = let n : new ≡ None = silent refl in let bad : ⊥ = cc in absurd bad
+holds_after P (Some a) new silent tells o e =
+    let found = tells a refl in
+    let same : Some found.0 ≡ Some o = sym found.1 ∙ e in
+    let it : found.0 ≡ o = cc in
+    subst P it found.2
+
+-- an outlet that had taken nothing has taken what it took
+pub took_all : (old new : Option Room) → HasTakenNothing old → (bytes : List ℕ) → Appends old new bytes → (x : Room) × (new ≡ Some x) × (x.bytes ≡ bytes)
+took_all None new (room, e, empty) bytes h = let bad : ⊥ = cc in absurd bad
+took_all (Some a) None nothing bytes h = absurd h
+took_all (Some a) (Some b) (room, e, empty) bytes h =
+    let same : a ≡ room = cc in
+    let none : a.bytes ≡ [] = ap (λ r. r.bytes) same ∙ empty in
+    (b, refl, h.bytes ∙ ap (λ xs. xs ++ bytes) none)
+
+-- the engine that the plan asks for
+pub engine_of : (p : PlanView) (decode : Bool) (left left' : Option (List ℕ)) (taken taken' : Option Room) (done : Outcome)
+    → (decode ≡ false → (c : Call) × Happens left left' taken taken' c × Encodes p.setting c done.report done.fault)
+    → (decode ≡ true → (c : Call) × Happens left left' taken taken' c × Decodes p.setting p.samples c done.report done.fault)
+    → (c : Call) × Happens left left' taken taken' c × EngineOf decode p c done
+engine_of p true left left' taken taken' done encodes decodes = decodes refl
+engine_of p false left left' taken taken' done encodes decodes = encodes refl
+
+arrived : (bytes written : List ℕ) (o : Outside) (new : Option Outside) (kept : Result (Unit {0}) WriteFault) → bytes ≡ written
+    → Finishes bytes o new kept → (there : List ℕ) × Arrives (is_ok kept) written there × (new ≡ Some (holding o there))
+arrived bytes written o new (Ok _) e h = (bytes, e, h)
+arrived bytes written o new (Err _) e h = (h.0, (h.1, sym e ∙ h.2), h.3)
+
+-- what has arrived of what an outlet took
+pub arrives_of : (old new : Option Room) → HasTakenNothing old → (bytes : List ℕ) → Appends old new bytes
+    → (o : Outside) (told : Option Outside) (kept : Result (Unit {0}) WriteFault) → ((room : Room) → new ≡ Some room → Finishes room.bytes o told kept)
+    → (there : List ℕ) × Arrives (is_ok kept) bytes there × (told ≡ Some (holding o there))
+arrives_of old new nothing bytes took o told kept finishes =
+    let all = took_all old new nothing bytes took in
+    arrived all.0.bytes bytes o told kept all.2 (finishes all.0 all.1)
+
+-- The source was read, what the engine wrote has arrived, and then the last words came.
+pub runs_of : {Source Dest : Type 0} (left : Source → Option (List ℕ)) (reads : Source → ℕ) (taken : Dest → Option Room) (writes : Dest → ℕ)
+    (p : PlanView) (o : Outside) (status : ℕ) (given : List ℕ) (opened read : Source) (begins written : Dest) (done : Outcome)
+    (kept : Result (Unit {0}) WriteFault) (told new : Option Outside) (words : Option Said)
+    → source_bytes o p.source ≡ Some given → (EmptiesSource o p → ⊥) → is_creatable o p.dest ≡ true
+    → reads opened ≡ 0 → writes begins ≡ 0 → left opened ≡ Some given → HasTakenNothing (taken begins)
+    → ((c : Call) × Happens (left opened) (left read) (taken begins) (taken written) c × EngineOf p.decode p c done)
+    → Fails done.fault (reads opened) (reads read) (writes begins) (writes written)
+    → ((room : Room) → taken written ≡ Some room → Finishes room.bytes (begun o (place_of p.dest)) told kept)
+    → ((there : List ℕ) → told ≡ Some (record o { destination = Holds (place_of p.dest) there })
+    → new ≡ Some (record o { destination = Holds (place_of p.dest) there; said = words }))
+    → words ≡ last_words done.fault (is_ok kept) → status ≡ status_with words
+    → (after : Outside) × (new ≡ Some after) × Runs left reads taken writes p o after status
+runs_of left reads taken writes p o status given opened read begins written done kept told new words
+    source keeps creatable sound unwritten gives empty engine failures finishes says words_are status_is =
+    let got = arrives_of (taken begins) (taken written) empty engine.0.written engine.1.took (begun o (place_of p.dest)) told kept finishes in (
+      record o { destination = Holds (place_of p.dest) got.0; said = words },
+      says got.0 got.2,
+      record {
+        given = given;
+        source = source;
+        keeps_source = keeps;
+        creatable = creatable;
+        opened = opened;
+        read = read;
+        begun = begins;
+        written = written;
+        sound = sound;
+        unwritten = unwritten;
+        gives = gives;
+        empty = empty;
+        call = engine.0;
+        outcome = done;
+        happens = engine.1;
+        engine = engine.2;
+        failures = failures;
+        all = is_ok kept;
+        there = got.0;
+        arrives = got.1;
+        outside = ap (λ w. record o { destination = Holds (place_of p.dest) got.0; said = w }) words_are;
+        status_is = status_is ∙ ap status_with words_are;
+      },
+    )

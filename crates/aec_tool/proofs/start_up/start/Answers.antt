@@ -1,0 +1,16 @@
+use Rattle.std.proofs.Common.{inl, subst}
+use Rattle.aec_tool.specs.Starts.{Follows}
+use Rattle.aec_tool.proofs.start_up.start.Goals as goal
+
+-- the plan was performed that the matches ask for
+pub returns-in-Ok-plan_of : goal.returns-in-Ok-plan_of
+returns-in-Ok-plan_of g c = λ o told.
+    let did = c.perform.ensures o told in (
+      did.0,
+      did.1,
+      inl (
+        c.in-Ok.matches,
+        subst (λ answer. Follows g.S.Source.Intake.left g.S.Source.Intake.failed g.S.Dest.Outlet.taken g.S.Dest.Outlet.failed answer o did.0 c.perform.result)
+            c.in-Ok-plan_of.ensures did.2,
+      ),
+    )

@@ -1,0 +1,102 @@
+//! The system of a runtime.
+ghost use Rattle.std.specs.Prelude.{None};
+
+use crate::message::Message;
+use crate::same_file::{FileId, known_id};
+use crate::sink::Sink;
+use crate::stream::Stream;
+use crate::system::{CreateFault, OpenFault, System};
+use clap::Error;
+use rice_bits::{FromBufWriter, FromReader, WriteFault};
+use std::alloc::AllocGlobal;
+use std::fs::{File, OpenFile};
+use std::io::{BufWriter, Printer, Write};
+use std::rt::Runtime;
+use std::{fs, io};
+
+/// The size of the buffer in front of the destination, in bytes.
+const BUFFER: usize = 1 << 16;
+
+/// The name of the file that standard input is.
+const STANDARD_INPUT: &str = "/dev/stdin";
+
+/// The system that a runtime reaches. It tells nothing of its files: the runtime's own contracts don't.
+#[derive(Drop)]
+pub struct Host<'r, R> {
+    rt: &'r R,
+}
+
+impl<'r, R> Host<'r, R> {
+    /// Returns the system of a runtime.
+    pub fn new(rt: &'r R) -> Self {
+        Host { rt }
+    }
+}
+
+impl<'a, 'r, R: Runtime + AllocGlobal> System<'a> for Host<'r, R> {
+    type Source = FromReader<Stream<R::Reader, R::File>>;
+
+    type Dest = FromBufWriter<Sink<Printer<'r, R>, R::File>>;
+
+    ghost told = { λ _. None };
+
+    fn input(&self) -> (Self::Source, Option<FileId>) {
+        let id = known_id(fs::metadata(self.rt, STANDARD_INPUT));
+        (FromReader::new(Stream::Input(self.rt.reader())), id)
+    }
+
+    fn open(&self, name: &str) -> Result<(Self::Source, Option<FileId>), OpenFault> {
+        match File::open(self.rt, name) {
+            Ok(file) => {
+                let id = known_id(file.metadata());
+                Ok((FromReader::new(Stream::File(file)), id))
+            }
+            Err(_) => Err(OpenFault),
+        }
+    }
+
+    fn find(&self, name: &str) -> Option<FileId> {
+        known_id(fs::metadata(self.rt, name))
+    }
+
+    fn output(&mut self) -> Result<Self::Dest, CreateFault> {
+        let sink = Sink::Output(io::writer(self.rt));
+        match BufWriter::with_capacity(self.rt.alloc(), BUFFER, sink) {
+            Ok(writer) => Ok(FromBufWriter::new(writer)),
+            Err(_) => Err(CreateFault::NoMemory),
+        }
+    }
+
+    fn create(&mut self, name: &'a str) -> Result<Self::Dest, CreateFault> {
+        // Where standard streams are closed, a new file takes their place, and messages would go into it. A directory, which
+        // is neither read nor written, stands in for each.
+        let _input = File::open(self.rt, "/");
+        let _output = File::open(self.rt, "/");
+        let _errors = File::open(self.rt, "/");
+        let Ok(mut writer) = BufWriter::with_capacity(self.rt.alloc(), BUFFER, Sink::Pending) else {
+            return Err(CreateFault::NoMemory);
+        };
+        match File::create(self.rt, name) {
+            Ok(file) => {
+                writer.get_mut().set(file);
+                Ok(FromBufWriter::new(writer))
+            }
+            Err(_) => Err(CreateFault::Refused),
+        }
+    }
+
+    fn finish(&mut self, dest: Self::Dest) -> Result<(), WriteFault> {
+        match dest.into_inner().flush() {
+            Ok(()) => Ok(()),
+            Err(_) => Err(WriteFault),
+        }
+    }
+
+    fn tell(&mut self, message: Message<'a>) {
+        let _ = eprintln!(self.rt; "aec: {message}");
+    }
+
+    fn show(&mut self, error: &Error) {
+        let _ = error.print(self.rt);
+    }
+}

@@ -1,0 +1,121 @@
+//! From a plan to the exit status.
+ghost use Rattle.std.specs.Prelude.{◌≡◌, ℕ, ◌↔◌, true, false, List, Some, None, IfOk, IsTrue};
+ghost use Rattle.aec_tool.specs.Plan.{plan_view};
+ghost use Rattle.aec_tool.specs.Outside.{Outside, Untouched, IsFresh, GivesAll, HasTakenNothing, Opens, Creates, begun, saying, said_of, is_standard, source_bytes, source_id, place_of, is_creatable, AreOneFile};
+ghost use Rattle.aec_tool.specs.Performs.{Performs, Runs, EmptiesSource};
+
+use crate::exit_status::{FAILURE, exit_status};
+use crate::message::Message;
+use crate::plan::Plan;
+use crate::run::run;
+use crate::same_file::{FileId, are_one_file};
+use crate::system::{CreateFault, OpenFault, System};
+use rice_stream::Fault;
+
+/// The name of a standard stream.
+const STANDARD: &str = "-";
+
+/// Does what a plan asks, and returns the exit status.
+pub fn perform<'a, S: System<'a>>(system: &mut S, plan: &Plan<'a>) -> u8
+    requires { (o : Outside) → S.told system.old ≡ Some o → IsFresh o }
+    ensures { (o : Outside) → S.told system.old ≡ Some o → (after : Outside) × (S.told system.new ≡ Some after)
+        × Performs S.Source.left S.Source.failed S.Dest.taken S.Dest.failed (plan_view plan.now) o after result }
+{
+    match open(system, plan.source) {
+        Ok((source, id)) => write(system, plan, source, id),
+        Err(_) => fail(system, Message::NoSource { name: plan.source }),
+    }
+}
+
+/// Writes a message, and returns the status of a failure.
+pub fn fail<'a, S: System<'a>>(system: &mut S, message: Message<'a>) -> u8
+    requires { (o : Outside) → S.told system.old ≡ Some o → o.said ≡ None }
+    ensures says { (o : Outside) → S.told system.old ≡ Some o → S.told system.new ≡ Some (saying o (said_of message.entry)) }
+    ensures status { result ≡ 1 }
+{
+    system.tell(message);
+    FAILURE
+}
+
+/// Opens the source of a name, and returns it and which file it is.
+fn open<'a, S: System<'a>>(system: &S, name: &str) -> Result<(S::Source, Option<FileId>), OpenFault>
+    ensures sound { IfOk result (λ r. S.Source.failed r.0 ≡ 0) }
+    ensures opens { (o : Outside) → S.told system.now ≡ Some o → Opens S.Source.left (source_bytes o name.now) (source_id o name.now) result }
+{
+    if name == STANDARD {
+        return Ok(system.input());
+    }
+    system.open(name)
+}
+
+/// Returns whether creating the file of a name would empty the source.
+fn empties_source<'a, S: System<'a>>(system: &S, name: &str, source: Option<FileId>) -> bool
+    ensures { (o : Outside) → S.told system.now ≡ Some o →
+        (IsTrue result ↔ ((is_standard name.now ≡ false) × AreOneFile source (o.ids name.now))) }
+{
+    name != STANDARD && are_one_file(source, system.find(name))
+}
+
+/// Begins the destination of a name.
+fn create<'a, S: System<'a>>(system: &mut S, name: &'a str) -> Result<S::Dest, CreateFault>
+    requires { (o : Outside) → S.told system.old ≡ Some o → o.destination ≡ Untouched }
+    ensures sound { IfOk result (λ d. S.Dest.failed d ≡ 0) }
+    ensures silent { S.told system.old ≡ None → S.told system.new ≡ None }
+    ensures creates { (o : Outside) → S.told system.old ≡ Some o →
+        Creates S.Dest.taken (place_of name.entry.now) (is_creatable o name.entry.now) o (S.told system.new) result }
+{
+    if name == STANDARD {
+        return system.output();
+    }
+    system.create(name)
+}
+
+/// Creates the destination, unless that would empty the source, and writes to it.
+fn write<'a, S: System<'a>>(
+    system: &mut S,
+    plan: &Plan<'a>,
+    source: S::Source,
+    id: Option<FileId>,
+) -> u8
+    requires fresh { (o : Outside) → S.told system.old ≡ Some o → IsFresh o }
+    requires sound { S.Source.failed source ≡ 0 }
+    requires bytes { (o : Outside) → S.told system.old ≡ Some o → GivesAll (source_bytes o plan.now.source.now) (S.Source.left source) }
+    requires id { (o : Outside) → S.told system.old ≡ Some o → id ≡ source_id o plan.now.source.now }
+    ensures { (o : Outside) → S.told system.old ≡ Some o → (after : Outside) × (S.told system.new ≡ Some after)
+        × Performs S.Source.left S.Source.failed S.Dest.taken S.Dest.failed (plan_view plan.now) o after result }
+{
+    if empties_source(system, plan.dest, id) {
+        return fail(system, Message::NoDest { name: plan.dest });
+    }
+    match create(system, plan.dest) {
+        Ok(dest) => transfer(system, plan, source, dest),
+        Err(CreateFault::NoMemory) => fail(system, Message::NoMemory),
+        Err(CreateFault::Refused) => fail(system, Message::NoDest { name: plan.dest }),
+    }
+}
+
+/// Encodes or decodes from the source to the destination.
+fn transfer<'a, S: System<'a>>(
+    system: &mut S,
+    plan: &Plan<'a>,
+    source: S::Source,
+    dest: S::Dest,
+) -> u8
+    requires sound { S.Source.failed source ≡ 0 }
+    requires unwritten { S.Dest.failed dest ≡ 0 }
+    requires empty { (o : Outside) → S.told system.old ≡ Some o → HasTakenNothing (S.Dest.taken dest) }
+    requires unsaid { (o : Outside) → S.told system.old ≡ Some o → o.said ≡ None }
+    ensures { (o : Outside) (given : List ℕ) → S.told system.old ≡ Some (begun o (place_of plan.now.dest.now)) →
+        source_bytes o plan.now.source.now ≡ Some given → S.Source.left source ≡ Some given →
+        (EmptiesSource o (plan_view plan.now) → ⊥) → is_creatable o plan.now.dest.now ≡ true → (after : Outside) × (S.told system.new ≡ Some after)
+        × Runs S.Source.left S.Source.failed S.Dest.taken S.Dest.failed (plan_view plan.now) o after result }
+{
+    let mut dest = dest;
+    let (outcome, _) = run(plan, source, &mut dest);
+    let kept = system.finish(dest);
+    match outcome.fault {
+        Some(fault) => fail(system, Message::Stopped(fault)),
+        None if kept.is_err() => fail(system, Message::Stopped(Fault::Write)),
+        None => exit_status(&outcome),
+    }
+}

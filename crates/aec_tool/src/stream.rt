@@ -1,0 +1,19 @@
+//! What is read: standard input or a file.
+use std::io;
+use std::io::Read;
+
+/// Standard input, or a file.
+#[derive(Drop)]
+pub enum Stream<I, F> {
+    Input(I),
+    File(F),
+}
+
+impl<I: Read, F: Read> Read for Stream<I, F> {
+    fn read(&mut self, buf: &mut [u8]) -> io::Result<usize> {
+        match self {
+            Stream::Input(input) => input.read(buf),
+            Stream::File(file) => file.read(buf),
+        }
+    }
+}

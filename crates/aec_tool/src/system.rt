@@ -1,0 +1,82 @@
+//! What the command asks of the system that it runs on.
+ghost use Rattle.std.specs.Prelude.{◌≡◌, true, Option, Some, None, IfOk};
+ghost use Rattle.clap.specs.Words.{kind_of};
+ghost use Rattle.rice_bits.specs.device.Outlet.{Room};
+
+use crate::message::Message;
+use crate::same_file::FileId;
+use clap::Error;
+use rice_bits::{Intake, Outlet, WriteFault};
+
+/// A file can't be opened.
+#[derive(Clone, Copy, Debug)]
+pub struct OpenFault;
+
+/// Why there is no destination.
+#[derive(Clone, Copy, Debug)]
+pub enum CreateFault {
+    /// There is no memory for what stands before the destination. No file was touched.
+    NoMemory,
+    /// The file can't be created.
+    Refused,
+}
+
+/// The files and streams of a system. Contracts see them where the system tells them.
+pub trait System<'a> {
+    ghost use Rattle.aec_tool.specs.Outside.{Outside, StandardOutput, Named, Untouched, Opens, Creates, Finishes, saying, showing, said_of};
+
+    type Source: Intake + Drop;
+
+    type Dest: Outlet;
+
+    // The files and streams, where the system tells them. A system that tells nothing goes on telling nothing.
+    ghost told: { Self → Option Outside };
+
+    /// Returns standard input, and which file it is, where the system knows.
+    fn input(&self) -> (Self::Source, Option<FileId>)
+        ensures sound { Self.Source.failed result.0 ≡ 0 }
+        ensures bytes { (o : Outside) → told self.now ≡ Some o → Self.Source.left result.0 ≡ Some o.input }
+        ensures id { (o : Outside) → told self.now ≡ Some o → result.1 ≡ o.input_id };
+
+    /// Opens a file to read, and returns it and which file it is, where the system knows.
+    fn open(&self, name: &str) -> Result<(Self::Source, Option<FileId>), OpenFault>
+        ensures sound { IfOk result (λ r. Self.Source.failed r.0 ≡ 0) }
+        ensures opens { (o : Outside) → told self.now ≡ Some o → Opens Self.Source.left (o.files name.now) (o.ids name.now) result };
+
+    /// Returns which file has a name, where the system knows.
+    fn find(&self, name: &str) -> Option<FileId>
+        ensures { (o : Outside) → told self.now ≡ Some o → result ≡ o.ids name.now };
+
+    /// Begins to write to standard output, if there is memory.
+    fn output(&mut self) -> Result<Self::Dest, CreateFault>
+        requires { (o : Outside) → told self.old ≡ Some o → o.destination ≡ Untouched }
+        ensures sound { IfOk result (λ d. Self.Dest.failed d ≡ 0) }
+        ensures silent { told self.old ≡ None → told self.new ≡ None }
+        ensures creates { (o : Outside) → told self.old ≡ Some o → Creates Self.Dest.taken StandardOutput true o (told self.new) result };
+
+    /// Creates a file, or empties the one that has this name, to write to it. A file is touched only if there is memory.
+    fn create(&mut self, name: &'a str) -> Result<Self::Dest, CreateFault>
+        requires { (o : Outside) → told self.old ≡ Some o → o.destination ≡ Untouched }
+        ensures sound { IfOk result (λ d. Self.Dest.failed d ≡ 0) }
+        ensures silent { told self.old ≡ None → told self.new ≡ None }
+        ensures creates { (o : Outside) → told self.old ≡ Some o →
+            Creates Self.Dest.taken (Named name.entry.now) (o.creatable name.entry.now) o (told self.new) result };
+
+    /// Ends writing. `Err` if not all bytes that the destination took have arrived.
+    fn finish(&mut self, dest: Self::Dest) -> Result<(), WriteFault>
+        ensures silent { told self.old ≡ None → told self.new ≡ None }
+        ensures finishes { (o : Outside) (room : Room) → told self.old ≡ Some o → Self.Dest.taken dest ≡ Some room →
+            Finishes room.bytes o (told self.new) result };
+
+    /// Writes a message to standard error, as a line that begins with `aec: `. A failure is passed over.
+    fn tell(&mut self, message: Message<'a>)
+        requires { (o : Outside) → told self.old ≡ Some o → o.said ≡ None }
+        ensures silent { told self.old ≡ None → told self.new ≡ None }
+        ensures says { (o : Outside) → told self.old ≡ Some o → told self.new ≡ Some (saying o (said_of message.entry)) };
+
+    /// Writes what the parser of the command line has to say: help and version to standard output, mistakes to standard error.
+    fn show(&mut self, error: &Error)
+        requires { (o : Outside) → told self.old ≡ Some o → o.shown ≡ None }
+        ensures silent { told self.old ≡ None → told self.new ≡ None }
+        ensures shows { (o : Outside) → told self.old ≡ Some o → told self.new ≡ Some (showing o (kind_of error.now)) };
+}

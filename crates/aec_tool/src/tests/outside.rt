@@ -1,0 +1,39 @@
+//! `start` over a system that tells what it holds: its contract says what comes of each of these.
+use crate::message::Message;
+use crate::start_up::start;
+use crate::tests::told::Told;
+use std::test::Fail;
+
+// Eight samples, all 5, and their code.
+const SAMPLES: &[u8] = b"\x05\x05\x05\x05\x05\x05\x05\x05";
+
+const CODE: &[u8] = b"\0X";
+
+// The words, the place that was written, with no name where it is standard output, what stands there, and the status.
+type Case<'a> = (&'a [&'a str], Option<Option<&'a str>>, &'a [u8], u8);
+
+#[test]
+fn reads_the_source_and_writes_the_destination(rt: HostRuntime) -> Result<(), Fail> {
+    let cases: [Case<'_>; 5] = [
+        (&["aec", "in", "out"], Some(Some("out")), CODE, 0),
+        (&["aec", "in", "-"], Some(None), CODE, 0),
+        (&["aec", "-", "out"], Some(Some("out")), b"", 0),
+        (&["aec", "in", "in"], None, b"", 1),
+        (&["aec", "out", "in"], None, b"", 1),
+    ];
+    for (words, place, bytes, wanted) in cases {
+        let mut system = Told::new(rt.alloc(), b"", "in", SAMPLES, "locked");
+        let status = start(&mut system, rt.alloc(), words);
+        assert_eq!(rt; status, wanted);
+        assert_eq!(rt; system.place, place);
+        assert_eq!(rt;
+            system
+                .held
+                .as_ref()
+                .map_or(b"".as_slice(), |it| it.as_slice()),
+            bytes
+        );
+        assert_eq!(rt; system.said.is_some(), wanted == 1);
+    }
+    Ok(())
+}
