@@ -28,7 +28,7 @@ help:
 	@echo 'make header                 compare include/rice.h with the library and its crate'
 	@echo 'make axioms                 compare docs/axioms.txt with the C functions that the proofs rest on'
 	@echo 'make hostile-library        give the library damaged and random codes, and too little room'
-	@echo 'make wrappers               turn the wrappers of readers and writers into wrong ones, which the tests refuse'
+	@echo 'make wrappers               turn the wrappers of readers, writers and the runtime into wrong ones, which the tests refuse'
 	@echo 'make clauses                compare the clauses of public calls with the edits that must fail'
 	@echo 'make plant                  plant wrong bodies under all contracts, and compare what is proved with docs/PLANTS.md (hours)'
 	@echo "make bench-library          compare the speed of the library and Debian's libaec (libaec-dev)"
