@@ -24,7 +24,7 @@ CALLED = {
     "unread": ["line", "changed"],
 }
 USED = ["Crate", "Kept", "KIT", "REFUSED", "MISSED"]
-USED_OF_LIBRARY = ["KEPT", "VERDICT", "PARTS", "RATTLE", "STALE", "TEST", "crates_below", "guarded"]
+USED_OF_LIBRARY = ["KEPT", "VERDICT", "PARTS", "RATTLE", "STALE", "TEST", "crates_below", "guarded", "libraries_keep"]
 
 
 def stop(why):
@@ -63,8 +63,19 @@ rtlib = rt.rtlib
 class KeptCrate(rt.Crate):
     """A crate whose checks keep what they prove in its folder out/, and take from there what is up to date."""
 
+    # Whether the words of a check are still to be given those that keep.
+    lacks_kept = True
+
     def words(self, flags, tests=False, keeps=True, as_source=False):
-        return [*super().words(flags, tests, keeps, as_source), *rtlib.KEPT]
+        return [*super().words(flags, tests, keeps, as_source), *(rtlib.KEPT if self.lacks_kept else [])]
+
+    def build_rlib(self, flags, anew):
+        # (where it proves nothing anew, the toolchain gives them itself)
+        self.lacks_kept = anew or not rtlib.libraries_keep()
+        try:
+            return super().build_rlib(flags, anew)
+        finally:
+            self.lacks_kept = True
 
     def ci(self, flags, tests):
         """Proves the crate, or its tests, and builds what is run or installed, in one check for each where that can be."""
