@@ -34,9 +34,10 @@ def crates():
 
 
 def sources(crate):
-    """Returns the texts of a crate's files by their path in it."""
+    """Returns the texts of a crate's files, those of tests aside, by their path in it."""
     paths = [f"{at}/{it}" for at, _, names in os.walk(f"crates/{crate}/src") for it in names if it.endswith(".rt")]
-    return {os.path.relpath(it, f"crates/{crate}"): read(it) for it in sorted(paths)}
+    found = {os.path.relpath(it, f"crates/{crate}"): it for it in sorted(paths)}
+    return {it: read(path) for it, path in found.items() if not re.match(r"src/tests\b", it)}
 
 
 def visible(crate, texts):
