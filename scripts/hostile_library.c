@@ -56,7 +56,8 @@ static bool is_kept(const uint8_t *bytes, size_t size, size_t written, bool at_e
 
 static struct rice_setting any_setting(void) {
     static const uint32_t intervals[] = {1, 2, 3, 63, 64, 65, 128, 4096};
-    struct rice_setting s = {1 + below(32), 8u << below(4), intervals[below(8)], below(2), below(2), below(2), below(4), below(4) == 0};
+    struct rice_setting s = {1 + below(32), 8u << below(4), intervals[below(8)], below(2), below(2), below(2), below(4), below(4) == 0, below(4) == 0};
+    if (s.any_block) s.block = 2 + 2 * below(32);
     return s;
 }
 
@@ -122,7 +123,7 @@ static void every_setting(void) {
     for (uint32_t bits = 1; bits <= 32; bits++) {
         for (uint32_t i = 0; i < 4 * 32; i++) {
             bool pad = i & 16;
-            struct rice_setting s = {bits, 8u << i / 32, pad ? 1 : 2, i & 1, i & 2, i & 4, i & 8, pad};
+            struct rice_setting s = {bits, 8u << i / 32, pad ? 1 : 2, i & 1, i & 2, i & 4, i & 8, pad, false};
             good_code(0, &s, 101, code);
         }
     }
@@ -159,8 +160,10 @@ static size_t any_code(uint64_t call, const struct rice_setting *s, uint32_t cou
     return size;
 }
 
-/* Writes an answer down: the setting, the number asked for or -1, the status, and what was written. */
+/* Writes an answer down: the setting, the number asked for or -1, the status, and what was written. The command takes the
+ * standard's block sizes alone. */
 static void keep(FILE *answers, const struct rice_setting *s, int64_t asked, size_t size, uint32_t status, const struct rice_report *r, const uint8_t *bytes) {
+    if (s->any_block) return;
     fprintf(answers, "%u %u %u %d %d %d %d %d %" PRId64 " %u %" PRIu64 " %zu %" PRIu64 "\n", s->bits, s->block, s->interval, s->is_signed, s->msb, s->three, s->preprocess, s->pad, asked, status, r->place, size, r->written);
     fwrite(code, 1, size, answers);
     fwrite(bytes, 1, r->written, answers);

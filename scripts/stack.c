@@ -87,10 +87,10 @@ static void fill(int kind) {
 
 /* Runs all calls for all settings and kinds of samples, each on a stack of that size. Returns the most that one touched. */
 static void most(size_t limits[4], size_t found[4]) {
-    static const uint32_t blocks[] = {8, 16, 32, 64}, widths[] = {1, 8, 10, 16, 24, 32}, intervals[] = {1, 64, 4096};
+    static const uint32_t blocks[] = {2, 8, 16, 20, 32, 64}, widths[] = {1, 8, 10, 16, 24, 32}, intervals[] = {1, 64, 4096};
     void (*calls[])(void) = {feed, encode, decode, decode_all};
-    for (int b = 0; b < 4; b++) for (int w = 0; w < 6; w++) for (int r = 0; r < 3; r++) for (int flags = 0; flags < 8; flags++) {
-        setting = (struct rice_setting){widths[w], blocks[b], intervals[r], false, false, flags & 4, flags & 1, flags & 2};
+    for (int b = 0; b < 6; b++) for (int w = 0; w < 6; w++) for (int r = 0; r < 3; r++) for (int flags = 0; flags < 8; flags++) {
+        setting = (struct rice_setting){widths[w], blocks[b], intervals[r], false, false, flags & 4, flags & 1, flags & 2, true};
         count = 3 * 4096 + 77;
         room = rice_code_room(&setting, count);
         for (int kind = 0; kind < 3; kind++) {
