@@ -10,6 +10,9 @@ pub mod FedPieces
 pub mod HeldBlocks
 pub mod LevelLemmas
 pub mod PartLemmas
+pub mod PiecesPulled
+pub mod PulledPieces
+pub mod PullingLemmas
 pub mod ReturnedBytes
 pub mod Seams
 pub mod SetsRead

@@ -1,17 +1,23 @@
--- What joins encoding and decoding, and encoding with encoding piece by piece.
-use Rattle.std.specs.Prelude.{◌≡◌, ℕ, ◌*◌, ◌<◌, ◌⊎◌, List, [], ◌∷◌, ◌++◌, length, drop, Option, Some, None, Ok, ℤ, ⊤}
+-- What joins encoding and decoding, and each with the same piece by piece.
+use Rattle.std.specs.Prelude.{◌≡◌, ℕ, ◌+◌, ◌*◌, ◌/◌, ◌<◌, ◌≤◌, ◌⊎◌, Bool, List, [], ◌∷◌, ◌++◌, length, take, drop, Option, Some, None, Ok, ℤ, ⊤}
 use Rattle.std.specs.Io.KnownBytes.{Consumes}
+use Rattle.rice_bits.specs.Bits.{bits_of}
 use Rattle.rice_bits.specs.device.Outlet.{Room, Appends}
 use Rattle.rice_samples.specs.Parameters.{Parameters, IsLegal, width}
 use Rattle.rice_samples.specs.bytes.Spelling.{spellings}
+use Rattle.rice_code.specs.code.Decoded.{Decoded, Ending, Reached, Ended, CutOff, Past, Large}
 use Rattle.rice_stream.specs.Calls.{Call}
 use Rattle.rice_stream.specs.Encodes.{Encodes}
 use Rattle.rice_stream.specs.Decodes.{Decodes}
 use Rattle.rice_stream.specs.Feeding.{IsSeam, EncodesMore, EncodesRest}
+use Rattle.rice_stream.specs.Pulling.{Beginning, IsStand, DecodesMore, at_front}
 use Rattle.rice_stream.specs.declared.outcome.Report.{Report}
 use Rattle.rice_stream.specs.declared.outcome.Fault.{Fault}
 use Rattle.rice_stream.specs.declared.outcome.Fault.TheVariants.{Read, Write}
 use Rattle.rice_stream.specs.declared.seam.Seam.{Seam}
+use Rattle.rice_stream.specs.declared.stand.Pause.{Pause}
+use Rattle.rice_stream.specs.declared.stand.Pause.TheVariants as pauses
+use Rattle.rice_stream.specs.declared.stand.Stand.{Stand}
 
 -- A call that decodes is given what a call that encoded without a fault has written, and the number of its samples.
 -- Then it writes the bytes that were encoded, unless a device fails.
@@ -58,3 +64,56 @@ FeedingIsEncoding = (s : Parameters) → IsLegal s → (input : List ℕ) (seam 
     ((xs : List ℤ) → IsSeam s (last_seam seam pieces) xs → EncodesRest s xs (drop (width s * (last_seam seam pieces).samples) input) old new fed None) →
     Encodes s encoding encoded None → encoding.given ≡ input →
     ((front : List ℕ) × (last : List ℕ) × (encoding.written ≡ front ++ last) × TakeInParts pieces front × Appends old new last) × (fed.samples ≡ encoded.samples) × (fed.bits ≡ encoded.bits)
+
+-- A piece that was pulled: its bytes, where decoding stood then and why it ended there, and the caller's memory before and after.
+pub record Pull : Type 0 where
+  pub piece : List ℕ
+  pub stand : Stand
+  pub pause : Pause
+  pub old : List ℕ
+  pub new : List ℕ
+
+-- What a call of `decode_more` says of a piece that begins with the byte of the code in which the stand's next bit is.
+abbrev pub IsPulled : Parameters → List ℕ → Stand → Pull → List ℕ → Type 0
+IsPulled s code stand p behind =
+    (drop (stand.bits / 8) code ≡ p.piece ++ behind) ×
+    ((o : Beginning) (front : List Bool) (given : List ℤ) → IsStand s o stand front given → DecodesMore s o front given p.piece stand p.old p.new p.stand p.pause)
+
+-- Pieces of a code were pulled one after the other. Each ends anywhere, and has any room.
+abbrev pub ArePulled : Parameters → List ℕ → Stand → List Pull → Type 0
+ArePulled s code stand [] = ⊤
+ArePulled s code stand (p ∷ ps) = ((behind : List ℕ) × IsPulled s code stand p behind) × ArePulled s code p.stand ps
+
+-- where the last of them ended
+abbrev pub last_stand : Stand → List Pull → Stand
+last_stand stand [] = stand
+last_stand stand (p ∷ ps) = last_stand p.stand ps
+
+-- the calls wrote the bytes of these samples to the front of the caller's memory, a part each, and no byte behind them
+abbrev pub GiveInParts : Parameters → List Pull → List ℤ → Type 0
+GiveInParts s [] xs = xs ≡ []
+GiveInParts s (p ∷ ps) xs =
+    (part : List ℤ) × (rest : List ℤ) × (xs ≡ part ++ rest) × (p.new ≡ spellings s part ++ drop (width s * length part) p.old) × GiveInParts s ps rest
+
+-- how a code ends where the pull of a piece pauses that has these bytes behind it
+abbrev pub EndsCode : Pause → List ℕ → Ending → Type 0
+EndsCode pauses.Full behind ending = ⊥
+EndsCode pauses.Blank behind ending = (behind ≡ []) × (ending ≡ Ended)
+EndsCode pauses.Cut behind ending = (behind ≡ []) × (ending ≡ CutOff)
+EndsCode pauses.RunPastSegment behind ending = ending ≡ Past
+EndsCode pauses.ResidualTooLarge behind ending = ending ≡ Large
+EndsCode pauses.TooLong behind ending = ⊥
+
+-- Pieces were pulled from the front of a code, and the last of them to where the code ends. Then the samples of all calls, one after
+-- the other, are those that the code decodes to, and it ends so.
+abbrev pub PullsAreDecoding : Type 0
+PullsAreDecoding = (s : Parameters) (code : List ℕ) (first : Stand) (pulls : List Pull) (last : Pull) (behind : List ℕ) (ending : Ending) →
+    IsStand s at_front first [] [] → ArePulled s code first pulls → IsPulled s code (last_stand first pulls) last behind → EndsCode last.pause behind ending →
+    (xs : List ℤ) × (used : ℕ) × GiveInParts s (pulls ++ last ∷ []) xs × Decoded s (bits_of code) None xs ending used
+
+-- Pieces were pulled from the front of a code until there were n samples, and no block more. Then the first n are those that the code
+-- decodes to with the count n, which is reached.
+abbrev pub EnoughIsDecoding : Type 0
+EnoughIsDecoding = (s : Parameters) (code : List ℕ) (first : Stand) (pulls : List Pull) (n : ℕ) →
+    IsStand s at_front first [] [] → ArePulled s code first pulls → n ≤ (last_stand first pulls).samples → (last_stand first pulls).samples < n + s.block →
+    (xs : List ℤ) × GiveInParts s pulls xs × Decoded s (bits_of code) (Some n) (take n xs) Reached (last_stand first pulls).bits

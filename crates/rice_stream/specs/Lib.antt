@@ -5,4 +5,5 @@ pub mod Encodes
 pub mod EncodingState
 pub mod Feeding
 pub mod Laws
+pub mod Pulling
 pub mod Writes

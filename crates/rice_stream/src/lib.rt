@@ -7,11 +7,15 @@ pub mod encoding;
 pub mod feeding;
 pub mod laws;
 pub mod outcome;
+pub mod pulling;
 pub mod seam;
+pub mod stand;
 mod write;
 
 pub use decoding::decode;
 pub use encoding::encode;
 pub use feeding::{encode_more, encode_rest};
 pub use outcome::{Fault, Outcome, Report};
+pub use pulling::decode_more;
 pub use seam::Seam;
+pub use stand::{Pause, Stand};

@@ -139,6 +139,7 @@ impl Model for Decoder {
 }
 
 impl Decoder {
+    ghost use Rattle.rice_code.specs.decode.DecoderState.{IsDecoderState};
     ghost use Rattle.rice_code.specs.decode.Decoder.{Answers, GivesFromRun, RepeatsSamples, with_mark};
     ghost use Rattle.rice_code.specs.declared.decode.fault.Step.TheVariants.{Block};
 
@@ -157,6 +158,48 @@ impl Decoder {
             stopped: None,
             scratch: [0; 128],
         }
+    }
+
+    /// Returns a decoder that goes on at block `block` of its interval, after the sample `before`, where `run` zero blocks of a
+    /// run are still to come.
+    pub fn at(setting: Setting, block: u32, before: i64, run: u32) -> Self
+        requires { IsDecoderState setting block before run None }
+        ensures { result
+            ≡ record { setting = setting; block = block; before = before; run = run; stopped = None } }
+    {
+        let _bits = setting.bits();
+        let level = setting.level(before) as u32;
+        Decoder {
+            setting,
+            block: block as u64,
+            before: level,
+            run,
+            stopped: None,
+            scratch: [0; 128],
+        }
+    }
+
+    /// Returns the place of the next block in its interval.
+    pub fn block(&self) -> u32
+        ensures place { result ≡ self.now.block }
+        ensures state { IsDecoderState self.now.setting self.now.block self.now.before self.now.run self.now.stopped }
+    {
+        let _interval = self.setting.interval();
+        self.block as u32
+    }
+
+    /// Returns the sample before the next block.
+    pub fn before(&self) -> i64
+        ensures { result ≡ self.now.before }
+    {
+        self.setting.value_at(self.before as u64)
+    }
+
+    /// Returns the number of zero blocks of a run that are still to come.
+    pub fn run(&self) -> u32
+        ensures { result ≡ self.now.run }
+    {
+        self.run
     }
 
     /// Returns the number of samples of a run that are still to come.

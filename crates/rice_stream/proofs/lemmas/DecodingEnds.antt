@@ -69,7 +69,7 @@ wanted_part s (Some m) blocks written xs e n = ap (λ k. take (min (m - k) s.blo
     by_min (suc a) (suc j) (x ∷ xs) e = let z : min (suc a) (suc j) ≡ suc (min a j) = omega arith in ap (λ m. take m (x ∷ xs)) z ∙ ap (λ l. x ∷ l) (by_min a j xs (omega arith))
 
 -- the place after a block
-next_here : (s : Parameters) (b c : ℕ) → IsLegal s → place s b ≡ c → place s (b + 1) ≡ next_block_place s c
+pub next_here : (s : Parameters) (b c : ℕ) → IsLegal s → place s b ≡ c → place s (b + 1) ≡ next_block_place s c
 next_here s b c legal e =
     let lt : c < s.interval = omega (arith, e, mod-lt b legal.interval_from) in
     let same : place s b ≡ place s c = e ∙ sym (mod-eq_of_lt lt) in
@@ -270,13 +270,13 @@ reached_ends {s = s} {asked = Some n} {p = p} {r = r} {rep = rep} {left = left} 
     } tells.left_is tells.fault_is (λ _. few.1)
     ((length runs.front + 0, all, record { written = refl; samples = tells.samples_are ∙ so.count; bits = tells.bits_are ∙ sym used }), inl refl)
 
-blank_all : (bits : List Bool) → is_blank bits ≡ true → All (λ bit. bit ≡ false) bits
+pub blank_all : (bits : List Bool) → is_blank bits ≡ true → All (λ bit. bit ≡ false) bits
 blank_all [] e k d lt = absurd (omega arith)
 blank_all (true ∷ bits) e k d lt = absurd (let f : false ≡ true = e in cc)
 blank_all (false ∷ bits) e zero d lt = refl
 blank_all (false ∷ bits) e (suc k) d lt = blank_all bits e k d (omega arith)
 
-some_one : (bits : List Bool) → is_blank bits ≡ false → Contains bits true
+pub some_one : (bits : List Bool) → is_blank bits ≡ false → Contains bits true
 some_one [] e = absurd (let f : true ≡ false = e in cc)
 some_one (true ∷ bits) e = (0, omega arith, refl)
 some_one (false ∷ bits) e = let r = some_one bits e in (suc r.0, omega (arith, r.1), r.2)

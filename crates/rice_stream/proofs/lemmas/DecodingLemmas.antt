@@ -46,23 +46,23 @@ advances old new steps steps_new p q s levels {answer} {known} setting is in_run
     (subst (λ (a : Result Step CodeFault). Advances old new steps steps_new p q (values_at p.setting levels) a) is record { in_run = in_run; reads = reads })
 
 -- what the decoder says where it gives a block, inside a run and elsewhere
-record Inside {I : Type 0} (old new : Reader I) (steps steps_new : ℕ) (p q : DecoderState) (samples : List ℤ) : Type 0 where
+pub record Inside {I : Type 0} (old new : Reader I) (steps steps_new : ℕ) (p q : DecoderState) (samples : List ℤ) : Type 0 where
   pub run : 0 < p.run
   pub gives : GivesFromRun p q samples
   pub same : new ≡ old
   pub steps_are : steps_new ≡ steps
 
-record Outside {I : Type 0} (old new : Reader I) (steps steps_new : ℕ) (p q : DecoderState) (samples : List ℤ) : Type 0 where
+pub record Outside {I : Type 0} (old new : Reader I) (steps steps_new : ℕ) (p q : DecoderState) (samples : List ℤ) : Type 0 where
   pub none : p.run ≡ 0
   pub gives : GivesSet (with_mark old) new steps steps_new p.setting p.block p.before samples q.run
   pub moves : q ≡ state_after_block p samples q.run
 
 -- a run goes on, or it doesn't
-runs_or_not : (p : DecoderState) → (0 < p.run) ⊎ (p.run ≡ 0)
+pub runs_or_not : (p : DecoderState) → (0 < p.run) ⊎ (p.run ≡ 0)
 runs_or_not p = elim (cases_lt 0 p.run) [ inl lt ↦ inl lt | inr le ↦ inr (omega arith) ]
 
 -- a block was given
-took : {I : Type 0} {old new : Reader I} {steps steps_new : ℕ} {p q : DecoderState} {samples : List ℤ} → p.stopped ≡ None → Advances old new steps steps_new p q samples (Ok Block)
+pub took : {I : Type 0} {old new : Reader I} {steps steps_new : ℕ} {p q : DecoderState} {samples : List ℤ} → p.stopped ≡ None → Advances old new steps steps_new p q samples (Ok Block)
     → Inside old new steps steps_new p q samples ⊎ Outside old new steps steps_new p q samples
 took {p = p} going a =
     elim (runs_or_not p) [
@@ -103,9 +103,9 @@ run_gives_there s b c run left p xs j e g = record {
   blocks_are = ap (λ v. v ∷ replicate left (zero_block s None)) (sym (same_contents s c b p xs j e)) ∙ g.blocks_are;
 }
 
--- a block of a coded data set
-gains_set : {I : Type 0} (s : Parameters) (r new : Reader I) (steps steps_new b c begun run : ℕ) (p : ℤ) (front : List Bool) (sets : List CodedDataSet) (given xs : List ℤ)
-    → IsLegal s → place s b ≡ c → p ≡ last_of (pos 0) given → r.taken ≡ length front → begun ≤ b → HasSets s sets front b → DecodedSoFar s front begun b 0 given
+-- A block of a coded data set. The reader may have taken other numbers of bits, if the padding is the same.
+pub gains_set : {I : Type 0} (s : Parameters) (r new : Reader I) (steps steps_new b c begun run : ℕ) (p : ℤ) (front : List Bool) (sets : List CodedDataSet) (given xs : List ℤ)
+    → IsLegal s → place s b ≡ c → p ≡ last_of (pos 0) given → ((b n : ℕ) → padding s b (r.taken + n) ≡ padding s b (length front + n)) → begun ≤ b → HasSets s sets front b → DecodedSoFar s front begun b 0 given
     → GivesSet (with_mark r) new steps steps_new s c p xs run → Gains s r new steps steps_new front sets b run given xs
 gains_set {I = I} s r new steps steps_new b c begun run p front sets given xs legal here previous taken before has behind gives =
     let j : 1 ≤ s.block = let k : 2 ≤ s.block = grind (arith, legal.block) in omega arith in
@@ -113,12 +113,10 @@ gains_set {I = I} s r new steps steps_new b c begun run p front sets given xs le
     let set = gives.set in
     let d = set.set in
     let t = bits_of_set s d in
-    let middle = gives.middle in
     let skips = gives.skips in
     let draws = set.takes.draws in
-    let position : middle.taken ≡ length front + length t = set.takes.taken ∙ ap (λ n. n + length t) taken in
     let pads : length skips.bits ≡ padding s (block_after s b d) (length front + length t) =
-    skips.len ∙ ap (λ n. padding s (block_after s c d) n) position ∙ ap (λ v. cond (s.pad && v == 0) (bits_to_byte (length front + length t)) 0) (next_place s c b d e) in
+    skips.len ∙ ap (λ n. padding s (block_after s c d) n) set.takes.taken ∙ taken (block_after s c d) (length t) ∙ ap (λ v. cond (s.pad && v == 0) (bits_to_byte (length front + length t)) 0) (next_place s c b d e) in
     let block = gives_there s b c run p xs d j e set.gives in
     let form = form_there s c b d e set.form in
     let run_sound = run_there s c b d e set.run_sound in
@@ -151,7 +149,7 @@ gains_set {I = I} s r new steps steps_new b c begun run p front sets given xs le
     sums n t m k all e f g = omega arith
 
 -- a block of a run
-gains_run : {I : Type 0} (s : Parameters) (r new : Reader I) (steps steps_new b c begun run run_new : ℕ) (p : ℤ) (front : List Bool) (sets : List CodedDataSet) (given xs : List ℤ)
+pub gains_run : {I : Type 0} (s : Parameters) (r new : Reader I) (steps steps_new b c begun run run_new : ℕ) (p : ℤ) (front : List Bool) (sets : List CodedDataSet) (given xs : List ℤ)
     → IsLegal s → place s b ≡ c → p ≡ last_of (pos 0) given → r.refusal ≡ None → begun ≤ b → HasSets s sets front (b + run) → DecodedSoFar s front begun b run given → new ≡ r → steps_new ≡ steps
     → GivesBlock s c p xs run_new (replicate run (zero_block s None)) → Gains s r new steps steps_new front sets b run_new given xs
 gains_run {I = I} s r new steps steps_new b c begun run run_new p front sets given xs legal here previous going before has behind same same_steps gives =
@@ -193,7 +191,7 @@ gains {s = s} {p = p} {q = q} {r = r} {new = new} {steps = steps} {steps_new = s
           let end : runs.blocks + p.run ≡ runs.blocks = omega (arith, k.none) in
           let has = subst (λ (n : ℕ). HasSets s runs.sets runs.front n) end runs.has_sets in
           let behind = subst (λ (n : ℕ). DecodedSoFar s runs.front runs.begun runs.blocks n runs.given) k.none runs.decoded in
-          gains_set s r new steps steps_new runs.blocks p.block runs.begun q.run p.before runs.front runs.sets runs.given xs legal at.here at.previous runs.has_read.count runs.before has behind set
+          gains_set s r new steps steps_new runs.blocks p.block runs.begun q.run p.before runs.front runs.sets runs.given xs legal at.here at.previous (λ b n. ap (λ m. padding s b (m + n)) runs.has_read.count) runs.before has behind set
     ]
 
 -- of the block only its place matters where the decoder stops

@@ -48,7 +48,7 @@ taken_there : (s : Parameters) (b c : ℕ) (ds : List CodedDataSet) → place s 
 taken_there s b c [] e h = tt
 taken_there s b c (d ∷ ds) e h = (tt, form_there s b c d e h.1, run_there s b c d e h.2, h.3, taken_there s (block_after s b d) (block_after s c d) ds (next_place s b c d e) h.4)
 
-end_there : (s : Parameters) (b c : ℕ) (rest : List Bool) (ending : Ending) (used : ℕ) → place s b ≡ place s c → EndsWith s None b rest ending used → EndsWith s None c rest ending used
+pub end_there : (s : Parameters) (b c : ℕ) (rest : List Bool) (ending : Ending) (used : ℕ) → place s b ≡ place s c → EndsWith s None b rest ending used → EndsWith s None c rest ending used
 end_there s b c rest Reached used e h = absurd h.0
 end_there s b c rest Ended used e h = h
 end_there s b c rest CutOff used e h = (tt, h.1, (λ d more f g. h.2 d more (form_there s c b d (sym e) f) g), h.3)

@@ -1,0 +1,203 @@
+-- Decoding piece by piece: what the next block does to where decoding stands, and how a piece ends.
+use Rattle.std.proofs.Common.{◌≡◌, ℕ, ◌+◌, ◌-◌, ◌*◌, ◌%◌, ◌≤◌, ◌==◌, ◌&&◌, cond, Bool, true, false, List, [], ◌∷◌, ◌++◌, length, refl, ap, arith, sym, ◌∙◌, inl, inr, subst, append_assoc, append-nil, length-append, Option, Some, None, ℤ, pos}
+use Rattle.std.specs.Prelude.{IsSome, Ok, Err}
+use Rattle.std.specs.Io.KnownBytes.{Consumes, IsAtEnd}
+use Rattle.rice_bits.specs.Bits.{bits_of}
+use Rattle.rice_bits.specs.read.Reader.{Reader, Draws}
+use Rattle.rice_bits.specs.declared.read.fault.BitFault.TheVariants as bit_faults
+use Rattle.rice_bits.proofs.lemmas.bits.Bytes.{bits_of-nil, bits_of-append, length-bits_of}
+use Rattle.rice_samples.specs.Parameters.{Parameters}
+use Rattle.rice_samples.specs.Places.{place}
+use Rattle.rice_samples.specs.predict.Residuals.{last_of}
+use Rattle.rice_code.specs.code.CodedDataSets.{CodedDataSet, bits_of_set}
+use Rattle.rice_code.specs.code.Decoded.{BeginsUnsound, EndsWith, Ended, CutOff}
+use Rattle.rice_code.specs.code.Layout.{padding}
+use Rattle.rice_code.specs.decode.Decoder.{SetEnds, SetRefused, StopsBy, with_mark}
+use Rattle.rice_code.specs.decode.DecoderState.{DecoderState, IsDecoderState}
+use Rattle.rice_code.specs.decode.Fields.{AreCounted}
+use Rattle.rice_code.specs.decode.ReadSets.{SetCut}
+use Rattle.rice_code.specs.declared.decode.fault.CodeFault.{CodeFault}
+use Rattle.rice_code.specs.declared.decode.fault.CodeFault.TheVariants as faults
+use Rattle.rice_code.specs.declared.decode.fault.Step.TheVariants.{Block, Done}
+use Rattle.rice_code.proofs.lemmas.code.Filling.{last_append}
+use Rattle.rice_stream.specs.DecodingState.{DecodedSoFar, Gains, HasSets}
+use Rattle.rice_stream.specs.Pulling.{Beginning, IsStand, MayBegin, GivesNext, GoesOnAt, IsReadFrom, TakesNext, ahead, known, state_of}
+use Rattle.rice_stream.specs.declared.stand.Stand.{Stand}
+use Rattle.rice_stream.proofs.lemmas.DecodingEnds.{blank_all, next_here, some_one}
+use Rattle.rice_stream.proofs.lemmas.DecodingLemmas.{Advances, gains_run, gains_set, moves_of, runs_or_not, took}
+
+-- what is drawn of a piece
+pub draws_ahead : (old new : Option (List ℕ)) (waiting waiting_new bits : List Bool) → IsSome old → Draws old new waiting waiting_new bits
+    → IsSome new × (waiting ++ bits_of (known old) ≡ bits ++ (waiting_new ++ bits_of (known new)))
+draws_ahead None new waiting waiting_new bits told d = absurd (let e : false ≡ true = told in cc)
+draws_ahead (Some xs) None waiting waiting_new bits told d = absurd d.consumed
+draws_ahead (Some xs) (Some ys) waiting waiting_new bits told d = (
+  refl,
+  ap (λ l. waiting ++ bits_of l) d.consumed ∙ ap (λ l. waiting ++ l) (bits_of-append d.given ys) ∙ sym (append_assoc waiting (bits_of d.given) (bits_of ys))
+      ∙ ap (λ l. l ++ bits_of ys) d.split ∙ append_assoc bits waiting_new (bits_of ys),
+)
+
+-- nothing is left of a piece
+nothing_left : (mid new : Option (List ℕ)) → Consumes mid new [] → IsAtEnd new → known mid ≡ []
+nothing_left None new c e = refl
+nothing_left (Some xs) None c e = absurd c
+nothing_left (Some xs) (Some ys) c e = c ∙ e
+
+-- all of a piece was drawn
+pub all_drawn : (old mid new : Option (List ℕ)) (waiting bits : List Bool) → IsSome old → Draws old mid waiting [] bits → Consumes mid new [] → IsAtEnd new → waiting ++ bits_of (known old) ≡ bits
+all_drawn old mid new waiting bits told d c e =
+    (draws_ahead old mid waiting [] bits told d).1 ∙ ap (λ l. bits ++ bits_of l) (nothing_left mid new c e) ∙ ap (λ l. bits ++ l) bits_of-nil ∙ append-nil bits
+
+-- the padding is that of the same place in a byte
+pads_as : (s : Parameters) (o : Beginning) (taken bits len b n : ℕ) → MayBegin s o → taken % 8 ≡ bits % 8 → bits ≡ o.bits + len → padding s b (taken + n) ≡ padding s b (len + n)
+pads_as s o taken bits len b n begins e f = by_pad s.pad (place s b == 0) (λ pad. let g : o.bits % 8 ≡ 0 = begins pad in let same : (taken + n) % 8 ≡ (len + n) % 8 = omega arith in ap (λ v. (8 - v) % 8) same)
+  where
+    by_pad : (pad at : Bool) {x y : ℕ} → (pad ≡ true → x ≡ y) → cond (pad && at) x 0 ≡ cond (pad && at) y 0
+    by_pad true at h = ap (λ v. cond at v 0) (h refl)
+    by_pad false at h = refl
+
+module _ {I : Type 0} (s : Parameters) (o : Beginning) (stand next : Stand) (r new : Reader I) (steps steps_new : ℕ) (xs : List ℤ) where
+  -- what a call of the decoder has done that gave a block
+  pub record Steps : Type 0 where
+    pub state : IsDecoderState s next.block next.previous next.run None
+    pub advances : Advances r new steps steps_new (state_of s stand) (state_of s next) xs (Ok Block)
+    pub counted : AreCounted steps steps_new r.taken new.taken
+    pub few : length xs + next.run * s.block ≤ stand.run * s.block + 456 * (new.taken - r.taken)
+    pub reads : IsReadFrom stand r
+    pub aligned : stand.run ≡ 0 → r.taken % 8 ≡ stand.bits % 8
+    pub samples : next.samples ≡ stand.samples + s.block
+    pub bits : next.bits ≡ stand.bits + (new.taken - r.taken)
+    pub steps_old : steps ≡ stand.steps
+    pub steps_are : next.steps ≡ steps_new + s.block
+
+  gained : (front : List Bool) (given : List ℤ) → Steps → (h : IsStand s o stand front given) → Gains s r new steps steps_new front h.sets h.blocks next.run given xs
+  gained front given t h =
+      let legal = h.state.legal in
+      elim (took refl t.advances) [
+        | inl k ↦ gains_run s r new steps steps_new h.blocks stand.block h.begun stand.run next.run stand.previous front h.sets given xs legal h.here h.previous t.reads.going h.before h.has_sets h.decoded k.same k.steps_are k.gives.gives
+        | inr k ↦
+            let none : stand.run ≡ 0 = k.none in
+            let end : h.blocks + stand.run ≡ h.blocks = omega arith in
+            gains_set s r new steps steps_new h.blocks stand.block h.begun next.run stand.previous front h.sets given xs legal h.here h.previous
+            (λ b n. pads_as s o r.taken stand.bits (length front) b n h.begins (t.aligned none) h.bits) h.before
+            (subst (λ (n : ℕ). HasSets s h.sets front n) end h.has_sets) (subst (λ (n : ℕ). DecodedSoFar s front h.begun h.blocks n given) none h.decoded) k.gives
+      ]
+
+  pub gives_next : (front : List Bool) (given : List ℤ) → Steps → IsStand s o stand front given → GivesNext s o front given next r new xs
+  gives_next front given t h =
+      let g = gained front given t h in
+      let moves = moves_of refl t.advances in
+      let drawn = draws_ahead r.left new.left r.waiting new.waiting g.bits t.reads.told g.draws in
+      let size = length-append front g.bits in
+      let count = length-append given xs in
+      let bits_are : next.bits ≡ stand.bits + length g.bits = omega (arith, t.bits, g.taken) in
+      let whole : length (ahead r) ≡ length g.bits + length (ahead new) = ap length drawn.1 ∙ length-append g.bits (ahead new) in
+      record {
+        bits = g.bits;
+        split = drawn.1;
+        len = g.len;
+        stands = record {
+          state = t.state;
+          begins = h.begins;
+          early = h.early;
+          blocks = h.blocks + 1;
+          begun = g.begun;
+          before = g.before;
+          sets = g.more_sets;
+          has_sets = g.has_sets;
+          decoded = g.decoded;
+          here = next_here s h.blocks stand.block h.state.legal h.here ∙ sym (ap (λ (p : DecoderState). p.block) moves);
+          previous = ap (λ (p : DecoderState). p.before) moves ∙ ap (λ z. last_of z xs) h.previous ∙ sym (last_append (pos 0) given xs);
+          samples = omega (arith, t.samples, h.samples, count, g.len);
+          bits = omega (arith, bits_are, h.bits, size);
+          steps = record {
+            count = omega (arith, t.steps_are, t.steps_old, g.counted, g.taken, h.steps.count, size, count, g.len);
+            most = omega (arith, t.steps_are, t.steps_old, t.counted.most, g.taken, h.steps.most, size, count, g.len);
+            by_bits = omega (arith, h.steps.by_bits, t.few, t.counted.forward, g.taken, size, count, g.len);
+          };
+          limit = omega (arith, t.reads.limit, whole, bits_are);
+        };
+      }
+
+  pub goes_on_at : (front : List Bool) (given : List ℤ) (q : DecoderState) → q ≡ state_of s next → Steps → IsStand s o stand front given → GoesOnAt s stand next q r new
+  goes_on_at front given q same t h =
+      let g = gained front given t h in
+      let drawn = draws_ahead r.left new.left r.waiting new.waiting g.bits t.reads.told g.draws in
+      let bits_are : next.bits ≡ stand.bits + length g.bits = omega (arith, t.bits, g.taken) in
+      let whole : length (ahead r) ≡ length g.bits + length (ahead new) = ap length drawn.1 ∙ length-append g.bits (ahead new) in
+      record {
+        state = same;
+        reads = record {
+          going = g.going;
+          failed = g.failures ∙ t.reads.failed;
+          told = drawn.0;
+          taken = omega (arith, t.reads.taken, g.taken, bits_are);
+          limit = omega (arith, t.reads.limit, whole, bits_are);
+        };
+        aligned = λ e. omega (arith, e, g.taken, bits_are);
+      }
+
+-- no 1 is left
+pub ends_blank : {I : Type 0} (s : Parameters) (b first last : ℕ) (r new : Reader I) → IsSome r.left → SetEnds (with_mark r) new first last s b true → EndsWith s None b (ahead r) Ended (length (ahead r))
+ends_blank s b first last r new told ends =
+    let bits = ends.cut.bits in
+    let stops = ends.cut.stops in
+    let all = all_drawn r.left stops.middle new.left r.waiting bits told stops.draws stops.refuses.0 stops.refuses.1 in
+    subst (λ (l : List Bool). EndsWith s None b l Ended (length l)) (sym all) (tt, blank_all bits ends.told, refl)
+
+-- what is left begins with no coded data set
+pub ends_cut : {I : Type 0} (s : Parameters) (b first last : ℕ) (r new : Reader I) → IsSome r.left → SetEnds (with_mark r) new first last s b false → EndsWith s None b (ahead r) CutOff (length (ahead r))
+ends_cut s b first last r new told ends =
+    let bits = ends.cut.bits in
+    let stops = ends.cut.stops in
+    let all = all_drawn r.left stops.middle new.left r.waiting bits told stops.draws stops.refuses.0 stops.refuses.1 in
+    subst (λ (l : List Bool). EndsWith s None b l CutOff (length l)) (sym all) (tt, some_one bits ends.told, ends.cut.none, refl)
+
+-- what is left begins with a coded data set that is refused
+pub begins_unsound : {I : Type 0} (s : Parameters) (b first last : ℕ) (r new : Reader I) (P : CodedDataSet → Type 0) → IsSome r.left → SetRefused (with_mark r) new first last s b P → (used : ℕ) × BeginsUnsound s b (ahead r) used P
+begins_unsound s b first last r new P told refused =
+    let set = bits_of_set s refused.set in
+    let drawn = draws_ahead r.left new.left r.waiting new.waiting set told refused.takes.draws in
+    (length set, record { refused = refused.set; more = ahead new; form = refused.form; unsound = refused.unsound; begins = drawn.1; bits = refl })
+
+-- no byte is past the limit
+never_long : {I : Type 0} (s : Parameters) (b first last : ℕ) (stand : Stand) (r new : Reader I) → IsReadFrom stand r → SetCut (with_mark r) new first last s b bit_faults.TooLong → ⊥
+never_long s b first last stand r new reads cut =
+    let stops = cut.stops in
+    let drawn = draws_ahead r.left stops.middle r.waiting [] cut.bits reads.told stops.draws in
+    let some = one_left stops.middle new.left stops.refuses.0.0 drawn.0 stops.refuses.0.1 in
+    omega (arith, reads.limit, reads.taken, ap length drawn.1, length-append cut.bits (bits_of (known stops.middle)), length-bits_of (known stops.middle), some, stops.refuses.2, stops.taken)
+  where
+    one_left : (mid new : Option (List ℕ)) (byte : ℕ) → IsSome mid → Consumes mid new (byte ∷ []) → 1 ≤ length (known mid)
+    one_left None new byte told c = absurd (let e : false ≡ true = told in cc)
+    one_left (Some xs) None byte told c = absurd c
+    one_left (Some xs) (Some ys) byte told c = omega (arith, ap length c)
+
+-- the decoder refuses
+refuses_next : {I : Type 0} (s : Parameters) (o : Beginning) (stand : Stand) (r new : Reader I) (first last : ℕ) (front : List Bool) (given xs : List ℤ) (fault : CodeFault) → IsReadFrom stand r → stand.run ≡ 0
+    → StopsBy (with_mark r) new first last s stand.block (Err fault) → TakesNext s o front given stand r new xs (Err fault)
+refuses_next s o stand r new first last front given xs faults.CodeEnds reads none h = (none, ends_cut s stand.block first last r new reads.told h)
+refuses_next s o stand r new first last front given xs faults.RunPastSegment reads none h = let u = begins_unsound s stand.block first last r new _ reads.told h in (none, u.0, (tt, u.1))
+refuses_next s o stand r new first last front given xs faults.ResidualTooLarge reads none h = let u = begins_unsound s stand.block first last r new _ reads.told h in (none, u.0, (tt, u.1))
+refuses_next s o stand r new first last front given xs faults.Read reads none h = h.stops.refuses.1 ∙ ap (λ n. n + 1) reads.failed
+refuses_next s o stand r new first last front given xs faults.TooLong reads none h = never_long s stand.block first last stand r new reads h
+
+pub stops_next : {I : Type 0} (s : Parameters) (o : Beginning) (stand : Stand) (r new : Reader I) (steps steps_new : ℕ) (q : DecoderState) (front : List Bool) (given xs : List ℤ) (fault : CodeFault) → IsReadFrom stand r
+    → Advances r new steps steps_new (state_of s stand) q xs (Err fault) → TakesNext s o front given stand r new xs (Err fault)
+stops_next s o stand r new steps steps_new q front given xs fault reads a =
+    elim (runs_or_not (state_of s stand)) [
+      | inl lt ↦ absurd (let e = (a.in_run refl lt).0 in cc)
+      | inr none ↦ refuses_next s o stand r new steps steps_new front given xs fault reads none (a.reads refl none).0
+    ]
+
+pub done_next : {I : Type 0} (s : Parameters) (o : Beginning) (stand : Stand) (r new : Reader I) (steps steps_new : ℕ) (q : DecoderState) (front : List Bool) (given xs : List ℤ) → IsReadFrom stand r
+    → Advances r new steps steps_new (state_of s stand) q xs (Ok Done) → TakesNext s o front given stand r new xs (Ok None)
+done_next s o stand r new steps steps_new q front given xs reads a =
+    elim (runs_or_not (state_of s stand)) [
+      | inl lt ↦ absurd (let e = (a.in_run refl lt).0 in cc)
+      | inr none ↦ (none, ends_blank s stand.block steps steps_new r new reads.told (a.reads refl none).0)
+    ]
+
+-- a stand by its numbers
+abbrev pub stand_with : (samples bits steps : ℕ) (previous : ℤ) (block run : ℕ) → Stand
+stand_with samples bits steps previous block run = record { samples = samples; bits = bits; steps = steps; previous = previous; block = block; run = run }

@@ -1,0 +1,135 @@
+-- Decoding piece by piece: where decoding stands between two calls, and what each call gives.
+use Rattle.std.specs.Prelude.{◌≡◌, ℕ, ◌+◌, ◌*◌, ◌%◌, ◌^◌, ◌<◌, ◌≤◌, Bool, true, List, [], ◌++◌, length, drop, sum_by, Option, Some, None, IsSome, Result, Ok, Err, ℤ, pos}
+use Rattle.rice_bits.specs.Bits.{bits_of}
+use Rattle.rice_bits.specs.read.Reader.{Reader}
+use Rattle.rice_samples.specs.Parameters.{Parameters, width}
+use Rattle.rice_samples.specs.Places.{place}
+use Rattle.rice_samples.specs.predict.Residuals.{last_of}
+use Rattle.rice_samples.specs.bytes.Spelling.{spellings}
+use Rattle.rice_code.specs.code.CodedDataSets.{CodedDataSet, turns}
+use Rattle.rice_code.specs.code.Decoded.{Ended, CutOff, Past, Large, EndsWith}
+use Rattle.rice_code.specs.decode.DecoderState.{DecoderState, IsDecoderState}
+use Rattle.rice_code.specs.declared.decode.fault.CodeFault.{CodeFault}
+use Rattle.rice_code.specs.declared.decode.fault.CodeFault.TheVariants as faults
+use Rattle.rice_stream.specs.DecodingState.{DecodedSoFar, HasSets, HasSteps}
+use Rattle.rice_stream.specs.declared.stand.Pause.{Pause}
+use Rattle.rice_stream.specs.declared.stand.Pause.TheVariants as pauses
+use Rattle.rice_stream.specs.declared.stand.Stand.{Stand}
+
+-- Where decoding began: after so many bits of a code, and so many samples.
+pub record Beginning : Type 0 where
+  pub bits : ℕ
+  pub samples : ℕ
+
+-- the beginning of a code
+abbrev pub at_front : Beginning
+at_front = record { bits = 0; samples = 0 }
+
+-- an interval can begin there: on a byte, where intervals are padded
+abbrev pub MayBegin : Parameters → Beginning → Type 0
+MayBegin s o = s.pad ≡ true → o.bits % 8 ≡ 0
+
+-- These bits, from where decoding began, are whole coded data sets with their padding. Their samples are `given`, and `stand.run`
+-- blocks of zeros that are still to come. The stand counts from the beginning of the code.
+pub record IsStand (s : Parameters) (o : Beginning) (stand : Stand) (front : List Bool) (given : List ℤ) : Type 0 where
+  pub state : IsDecoderState s stand.block stand.previous stand.run None
+  pub begins : MayBegin s o
+  pub early : o.samples ≤ 2 ^ 62
+  pub blocks : ℕ
+  pub begun : ℕ
+  pub before : begun ≤ blocks
+  pub sets : List CodedDataSet
+  pub has_sets : HasSets s sets front (blocks + stand.run)
+  pub decoded : DecodedSoFar s front begun blocks stand.run given
+  pub here : place s blocks ≡ stand.block
+  pub previous : stand.previous ≡ last_of (pos 0) given
+  pub samples : stand.samples ≡ o.samples + length given
+  pub bits : stand.bits ≡ o.bits + length front
+  pub steps : HasSteps stand.steps (length front) (length given) (stand.run * s.block) (sum_by turns sets)
+  pub limit : stand.bits ≤ 2 ^ 52
+
+-- the bits of a piece, which begins with the byte that has the stand's next bit
+abbrev pub bits_ahead : Stand → List ℕ → List Bool
+bits_ahead stand piece = drop (stand.bits % 8) (bits_of piece)
+
+-- another block has room after so many samples
+abbrev pub HasRoom : Parameters → ℕ → ℕ → Type 0
+HasRoom s count room = width s * count + width s * s.block ≤ room
+
+-- The piece is not taken: it passes the limit of a code.
+pub record IsRefused (old new : Stand) (piece : List ℕ) (count : ℕ) : Type 0 where
+  pub passes : 2 ^ 52 < old.bits + 8 * length piece
+  pub stays : new ≡ old
+  pub none : count ≡ 0
+
+-- Where a call ends, and how: for want of room for another block, or as decoding of the bits that are left ends there. `count` samples
+-- were written to `room` bytes.
+abbrev pub PausesAt : Parameters → Stand → List ℕ → ℕ → Stand → List Bool → ℕ → Pause → Type 0
+PausesAt s old piece room new rest count pauses.Full = (width s * count ≤ room) × (room < width s * count + width s * s.block)
+PausesAt s old piece room new rest count pauses.Blank = HasRoom s count room × (new.run ≡ 0) × EndsWith s None new.block rest Ended (length rest)
+PausesAt s old piece room new rest count pauses.Cut = HasRoom s count room × (new.run ≡ 0) × EndsWith s None new.block rest CutOff (length rest)
+PausesAt s old piece room new rest count pauses.RunPastSegment = HasRoom s count room × (new.run ≡ 0) × (used : ℕ) × EndsWith s None new.block rest Past used
+PausesAt s old piece room new rest count pauses.ResidualTooLarge = HasRoom s count room × (new.run ≡ 0) × (used : ℕ) × EndsWith s None new.block rest Large used
+PausesAt s old piece room new rest count pauses.TooLong = IsRefused old new piece count
+
+-- Whole blocks were given, and the stand is behind the last coded data set that they take. The memory of the caller has their bytes in front.
+pub record DecodesMore (s : Parameters) (o : Beginning) (front : List Bool) (given : List ℤ) (piece : List ℕ) (old : Stand) (out_old out : List ℕ) (new : Stand) (pause : Pause) : Type 0 where
+  pub bits : List Bool
+  pub rest : List Bool
+  pub samples : List ℤ
+  pub parts : bits_ahead old piece ≡ bits ++ rest
+  pub stands : IsStand s o new (front ++ bits) (given ++ samples)
+  pub writes : out ≡ spellings s samples ++ drop (width s * length samples) out_old
+  pub pauses_at : PausesAt s old piece (length out_old) new rest (length samples) pause
+
+-- the state of a decoder that goes on there
+abbrev pub state_of : Parameters → Stand → DecoderState
+state_of s stand = record { setting = s; block = stand.block; before = stand.previous; run = stand.run; stopped = None }
+
+-- the bytes, if they are told
+abbrev pub known : Option (List ℕ) → List ℕ
+known None = []
+known (Some bytes) = bytes
+
+-- the bits that are still to come, of a reader that tells its bytes
+abbrev pub ahead : {I : Type 0} → Reader I → List Bool
+ahead r = r.waiting ++ bits_of (known r.left)
+
+-- a reader of a piece that has come to where decoding stands
+pub record IsReadFrom {I : Type 0} (stand : Stand) (r : Reader I) : Type 0 where
+  pub going : r.refusal ≡ None
+  pub failed : r.failed ≡ 0
+  pub told : IsSome r.left
+  pub taken : r.taken ≤ stand.bits
+  pub limit : stand.bits + length (ahead r) ≤ 2 ^ 52
+
+-- a block more was given
+pub record GivesNext {I : Type 0} (s : Parameters) (o : Beginning) (front : List Bool) (given : List ℤ) (next : Stand) (old new : Reader I) (samples : List ℤ) : Type 0 where
+  pub bits : List Bool
+  pub split : ahead old ≡ bits ++ ahead new
+  pub len : length samples ≡ s.block
+  pub stands : IsStand s o next (front ++ bits) (given ++ samples)
+
+-- what becomes of the next block
+abbrev pub TakesNext : {I : Type 0} → Parameters → Beginning → List Bool → List ℤ → Stand → Reader I → Reader I → List ℤ → Result (Option Stand) CodeFault → Type 0
+TakesNext s o front given stand old new samples (Ok (Some next)) = GivesNext s o front given next old new samples
+TakesNext s o front given stand old new samples (Ok None) = (stand.run ≡ 0) × EndsWith s None stand.block (ahead old) Ended (length (ahead old))
+TakesNext s o front given stand old new samples (Err faults.CodeEnds) = (stand.run ≡ 0) × EndsWith s None stand.block (ahead old) CutOff (length (ahead old))
+TakesNext s o front given stand old new samples (Err faults.RunPastSegment) = (stand.run ≡ 0) × (used : ℕ) × EndsWith s None stand.block (ahead old) Past used
+TakesNext s o front given stand old new samples (Err faults.ResidualTooLarge) = (stand.run ≡ 0) × (used : ℕ) × EndsWith s None stand.block (ahead old) Large used
+TakesNext s o front given stand old new samples (Err faults.Read) = new.failed ≡ 1
+TakesNext s o front given stand old new samples (Err faults.TooLong) = ⊥
+
+-- and of a reader and a decoder that gave it
+pub record GoesOnAt {I : Type 0} (s : Parameters) (stand next : Stand) (q : DecoderState) (old new : Reader I) : Type 0 where
+  pub state : q ≡ state_of s next
+  pub reads : IsReadFrom next new
+  pub aligned : old.taken % 8 ≡ stand.bits % 8 → new.taken % 8 ≡ next.bits % 8
+
+-- how decoding pauses where the decoder refuses
+abbrev pub pause_for : CodeFault → Pause
+pause_for faults.CodeEnds = pauses.Cut
+pause_for faults.RunPastSegment = pauses.RunPastSegment
+pause_for faults.ResidualTooLarge = pauses.ResidualTooLarge
+pause_for faults.Read = pauses.Cut
+pause_for faults.TooLong = pauses.Cut

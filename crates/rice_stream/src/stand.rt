@@ -1,0 +1,73 @@
+//! Where decoding stands between two calls.
+ghost use Rattle.std.specs.Prelude.{◌≡◌, ℕ, ◌+◌, ◌*◌, ◌%◌, ◌^◌, ◌≤◌, [], true};
+
+use rice_samples::Setting;
+
+/// How a call that decodes a piece of a code ended. `Blank`, `Cut`, `RunPastSegment` and `ResidualTooLarge` say how the code would end
+/// if no more of it came.
+#[derive(Clone, Copy, Debug, PartialEq, Eq)]
+pub enum Pause {
+    /// There is no room for the samples of another block.
+    Full,
+    /// No 1 is left in the piece.
+    Blank,
+    /// What is left of the piece has a 1, and begins with no whole coded data set.
+    Cut,
+    /// What is left begins with a run that passes its segment.
+    RunPastSegment,
+    /// What is left begins with a block of which a residual does not fit, or the value at the reference place is not 0.
+    ResidualTooLarge,
+    /// The code so far and this piece have more than 2^52 bits. Nothing was done.
+    TooLong,
+}
+
+/// Where decoding stands: behind whole coded data sets, of which the last may be a run that goes on. In plain numbers, in C's own
+/// layout.
+///
+/// Contracts say by `IsStand` which bits and samples it stands for.
+#[repr(C)]
+#[derive(Clone, Copy)]
+pub struct Stand {
+    /// The number of samples so far.
+    pub samples: u64,
+    /// The number of bits of their coded data sets, with their padding: the next piece begins with byte `bits / 8` of the code.
+    pub bits: u64,
+    /// The number of steps that these took.
+    pub steps: u64,
+    /// The last sample, or 0.
+    pub previous: i64,
+    /// The place in its interval of the block that comes next.
+    pub block: u32,
+    /// The zero blocks of a run that are still to come.
+    pub run: u32,
+}
+
+impl Stand {
+    ghost use Rattle.rice_stream.specs.Pulling.{Beginning, IsStand, at_front};
+
+    /// Returns the place before all of a code.
+    pub fn new(setting: &Setting) -> Self
+        ensures { IsStand setting.now at_front result [] [] }
+    {
+        Stand::at(setting, 0, 0)
+    }
+
+    /// Returns the place of an interval that begins after `samples` samples and `bits` bits of a code.
+    pub fn at(setting: &Setting, samples: u64, bits: u64) -> Self
+        requires samples { samples ≤ 2 ^ 62 }
+        requires limit { bits ≤ 2 ^ 52 }
+        requires padded { setting.now.pad ≡ true → bits % 8 ≡ 0 }
+        ensures { IsStand setting.now (record { bits = bits; samples = samples }) result [] [] }
+    {
+        let _block = setting.block();
+        let _bits = setting.bits();
+        Stand {
+            samples,
+            bits,
+            steps: 0,
+            previous: 0,
+            block: 0,
+            run: 0,
+        }
+    }
+}
