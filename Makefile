@@ -3,7 +3,7 @@ RANDOM_INPUTS ?= 100000
 LIBRARY_CODES ?= 1000000
 
 .DEFAULT_GOAL := help
-.PHONY: help library install install-command install-library uninstall test test-each rows hostile interop exhaustive any-block refused-memory installed recipes documents bench examples stack header axioms hostile-library bench-library wrappers clauses plant
+.PHONY: help library install install-command install-library uninstall test test-each rows hostile interop exhaustive any-block refused-memory installed recipes documents bench examples stack header axioms hostile-library hostile-pulls bench-library wrappers clauses plant
 
 help:
 	@echo 'make aec                    prove and build the program, as ./aec (ten minutes the first time)'
@@ -28,6 +28,7 @@ help:
 	@echo 'make header                 compare include/rice.h with the library and its crate'
 	@echo 'make axioms                 compare docs/axioms.txt with the C functions that the proofs rest on'
 	@echo 'make hostile-library        give the library damaged and random codes, and too little room'
+	@echo 'make hostile-pulls          give the library such codes in pieces, and compare with all at once'
 	@echo 'make wrappers               turn the wrappers of readers, writers and the runtime into wrong ones, which the tests refuse'
 	@echo 'make clauses                compare the clauses of public calls with the edits that must fail'
 	@echo 'make plant                  plant wrong bodies under all contracts, and compare what is proved with docs/PLANTS.md (hours)'
@@ -140,6 +141,9 @@ axioms:
 
 hostile-library: library aec
 	scripts/hostile_library librice.a ./aec $(LIBRARY_CODES)
+
+hostile-pulls: library
+	scripts/hostile_pulls librice.a 200000
 
 bench-library: library
 	scripts/bench_library librice.a

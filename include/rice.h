@@ -2,20 +2,22 @@
  * rice.h - lossless compression of samples by the adaptive Rice coder of CCSDS 121.0-B-3.
  *
  * The library encodes and decodes from memory to memory. It allocates nothing, keeps nothing between calls but what a feed
- * of the caller's holds, calls nothing but memcpy, memmove and memset, and writes nowhere but in the memory that it is
+ * or a drain of the caller's holds, calls nothing but memcpy, memmove and memset, and writes nowhere but in the memory that it is
  * given, whatever the bytes are.
  * Calls may run in several threads at once, each with an output, a report and a feed of its own.
  *
  * What a caller has to keep, and nothing checks:
- *   - a pointer to a setting, a feed or a report points to one, and each bool of a setting is true or false;
+ *   - a pointer to a setting, a feed, a drain or a report points to one, and each bool of a setting is true or false;
  *   - a feed is zeros, or another feed, before rice_begin; rice_push and rice_finish are given one that is as rice_begin or
  *     the last rice_push left it, or a copy of such a one;
+ *   - a drain is zeros, or another drain, before rice_open and rice_open_at; rice_pull is given one that is as these or the last
+ *     rice_pull left it, or a copy of such a one;
  *   - a pointer to bytes and its length name memory that is there, at most PTRDIFF_MAX bytes, and every byte of it has a value,
  *     that of the output too: write it once before, by calloc or memset for example. In practice bytes of malloc do, since the
  *     library reads no byte of an output that it hasn't written; but what is proved of it is said of memory with values, and
  *     the bytes after those written are as they were only if they were something. With the length 0 the pointer may be
  *     NULL, in C and C++ with this header; who calls the library by other means gives the address of any byte there;
- *   - the output, the report, and the feed where a call changes it, overlap with nothing else that the call is given, and
+ *   - the output, the report, and the feed or drain where a call changes it, overlap with nothing else that the call is given, and
  *     nobody else touches them meanwhile;
  *   - the stack has the room stated below.
  *
@@ -40,7 +42,7 @@ extern "C" {
 #define RICE_VERSION (RICE_VERSION_MAJOR * 10000 + RICE_VERSION_MINOR * 100 + RICE_VERSION_PATCH)
 #define RICE_VERSION_TEXT "1.0.0"
 
-enum { RICE_ENCODE_STACK = 48 * 1024, RICE_DECODE_STACK = 12 * 1024, RICE_FEED_SIZE = 72 };
+enum { RICE_ENCODE_STACK = 48 * 1024, RICE_DECODE_STACK = 12 * 1024, RICE_FEED_SIZE = 72, RICE_DRAIN_SIZE = 64 };
 
 /* What coder and decoder are set to. The code doesn't say it: decode with the setting that encoded. */
 struct rice_setting {
@@ -66,8 +68,11 @@ enum rice_status {
     RICE_CODE_ENDS = 6,          /* the code ends after `place` samples, inside a block or before all that were asked for */
     RICE_RUN_PAST_SEGMENT = 7,   /* the code is damaged: the run of zeros at block `place` is too long */
     RICE_RESIDUAL_TOO_LARGE = 8, /* the code is damaged: a value of block `place` doesn't fit */
-    RICE_NO_ROOM = 9,            /* the output is full, and all of it is written */
-    RICE_TOO_LONG = 10           /* the input has more than 2^48 bytes of samples, or 2^49 of code */
+    RICE_NO_ROOM = 9,            /* the output is full, and all of it is written; of rice_pull, no block more fits */
+    RICE_TOO_LONG = 10,          /* the input has more than 2^48 bytes of samples, or 2^49 of code */
+    RICE_ONLY_ZEROS = 11,        /* of rice_pull: no 1 is left in the piece */
+    RICE_MORE_CODE = 12,         /* of rice_pull: the rest of the piece has a 1, and no whole coded data set */
+    RICE_BAD_PLACE = 13          /* of rice_open_at: no interval can begin there */
 };
 
 /* What a call has done. */
@@ -183,6 +188,49 @@ uint32_t rice_push(struct rice_feed *feed, const uint8_t *samples, size_t sample
 uint32_t rice_finish(const struct rice_feed *feed, const uint8_t *samples, size_t samples_len, uint8_t *code,
                      size_t code_room, struct rice_report *report);
 
+/* A decoder that is fed piece by piece, in memory of the caller's own, RICE_DRAIN_SIZE bytes: its setting, and where it stands in
+ * its code. It keeps no code and no samples, so it may be copied and kept, to go on from there again. Read its numbers, and
+ * write none. */
+struct rice_drain {
+    struct rice_setting setting;
+    uint64_t samples;  /* the samples so far, counted from the beginning of the code */
+    uint64_t bits;     /* the bits of their code, with the padding of intervals: the next piece begins with byte bits / 8 */
+    uint64_t steps;    /* the work so far */
+    int64_t previous;  /* the last sample, or 0 */
+    uint32_t block;    /* the place in its interval of the block that comes next */
+    uint32_t run;      /* the blocks of a run of zeros that are still to come */
+};
+
+/* Opens a code at its front. Returns RICE_DONE; or RICE_BAD_..., and the drain is as it was. */
+uint32_t rice_open(const struct rice_setting *setting, struct rice_drain *drain);
+
+/* Opens a code where one of its intervals begins: after `samples` samples and `bits` bits. These two numbers are the caller's:
+ * a drain has them in `samples` and `bits` wherever its `block` and `run` are 0. While encoding, an interval begins wherever a
+ * feed's `start` is 0, after `samples` samples and 8 times the bytes written so far and `waiting_bits` bits. Returns RICE_DONE; RICE_BAD_PLACE, if
+ * `samples` is above 2^62 or `bits` above 2^52, or the place is in a byte and intervals are padded; or RICE_BAD_.... Unless
+ * RICE_DONE is returned the drain is as it was. */
+uint32_t rice_open_at(const struct rice_setting *setting, uint64_t samples, uint64_t bits, struct rice_drain *drain);
+
+/* Gives the drain a piece of its code at `code`, which has `code_len` bytes and begins with byte `drain->bits / 8` of the code, and
+ * may end anywhere. Decodes what is whole in it, and writes the samples to `samples`, which has `samples_room` bytes: whole blocks,
+ * as many as fit. The drain counts them, and says which byte comes first next time: those from that one on come again. `report` has the
+ * drain's numbers, `samples` and `bits` from the beginning of the code and `steps` since it was opened; `written` counts the bytes
+ * of this call.
+ * Returns a status of enum rice_status, which says why it ends there:
+ *   RICE_NO_ROOM              no block more fits: give room, and call again.
+ *   RICE_ONLY_ZEROS           no 1 is left in the piece: the code ends here, or give more of it.
+ *   RICE_MORE_CODE            a 1 is left, and no whole coded data set: give more of the code, or it is cut.
+ *   RICE_RUN_PAST_SEGMENT, RICE_RESIDUAL_TOO_LARGE
+ *                             the code is damaged at block `place`, counted from the beginning of the code. Called again, it
+ *                             says the same.
+ *   RICE_TOO_LONG             the code so far and this piece have more than 2^52 bits: nothing is done.
+ *   RICE_BAD_...              the drain has no legal setting: nothing is done, and the report is all zeros.
+ * With pieces of any lengths and any room for a block at least, the samples of all calls, one after the other, are those of
+ * rice_decode_all; and the first `count` of them those of rice_decode, if the last block is cut to that count. A piece that gives
+ * nothing has to be longer next time. */
+uint32_t rice_pull(struct rice_drain *drain, const uint8_t *code, size_t code_len, uint8_t *samples, size_t samples_room,
+                   struct rice_report *report);
+
 /* The calls above with NULL where its length is 0: the library is given the address of a byte, which it doesn't touch. */
 static inline const uint8_t *rice_from(const uint8_t *bytes, size_t length) {
     static const uint8_t none = 0;
@@ -220,11 +268,17 @@ static inline uint32_t rice_finish_here(const struct rice_feed *feed, const uint
     return rice_finish(feed, rice_from(samples, samples_len), samples_len, rice_into(code, code_room), code_room, report);
 }
 
+static inline uint32_t rice_pull_here(struct rice_drain *drain, const uint8_t *code, size_t code_len, uint8_t *samples,
+                                      size_t samples_room, struct rice_report *report) {
+    return rice_pull(drain, rice_from(code, code_len), code_len, rice_into(samples, samples_room), samples_room, report);
+}
+
 #define rice_encode rice_encode_here
 #define rice_decode rice_decode_here
 #define rice_decode_all rice_decode_all_here
 #define rice_push rice_push_here
 #define rice_finish rice_finish_here
+#define rice_pull rice_pull_here
 
 /* The structs lie in memory as the library has them: on machines with pointers of eight bytes. */
 #if defined(__cplusplus) && __cplusplus >= 201103L
@@ -247,6 +301,10 @@ RICE_LAYOUT(offsetof(struct rice_feed, setting) == 0 && offsetof(struct rice_fee
 RICE_LAYOUT(offsetof(struct rice_feed, bits) == 32 && offsetof(struct rice_feed, steps) == 40);
 RICE_LAYOUT(offsetof(struct rice_feed, previous) == 48 && offsetof(struct rice_feed, start) == 56);
 RICE_LAYOUT(offsetof(struct rice_feed, waiting) == 60 && offsetof(struct rice_feed, waiting_bits) == 64);
+RICE_LAYOUT(sizeof(struct rice_drain) == RICE_DRAIN_SIZE && offsetof(struct rice_drain, setting) == 0);
+RICE_LAYOUT(offsetof(struct rice_drain, samples) == 24 && offsetof(struct rice_drain, bits) == 32);
+RICE_LAYOUT(offsetof(struct rice_drain, steps) == 40 && offsetof(struct rice_drain, previous) == 48);
+RICE_LAYOUT(offsetof(struct rice_drain, block) == 56 && offsetof(struct rice_drain, run) == 60);
 #undef RICE_LAYOUT
 
 /* Returns what a status means, in words. */
@@ -263,6 +321,9 @@ static inline const char *rice_status_text(uint32_t status) {
     case RICE_RESIDUAL_TOO_LARGE: return "a residual is too large";
     case RICE_NO_ROOM: return "no room in the output";
     case RICE_TOO_LONG: return "input is too long";
+    case RICE_ONLY_ZEROS: return "only zeros are left of the piece";
+    case RICE_MORE_CODE: return "more of the code is needed";
+    case RICE_BAD_PLACE: return "no interval can begin there";
     }
     return "no status";
 }

@@ -14,7 +14,7 @@ import subprocess
 import sys
 
 CALLED = {"memcpy", "memmove", "memset"}
-STRUCTS = {"rice_setting": ["RiceSetting"], "rice_report": ["RiceReport"], "rice_feed": ["RiceFeed", "Seam"]}
+STRUCTS = {"rice_setting": ["RiceSetting"], "rice_report": ["RiceReport"], "rice_feed": ["RiceFeed", "Seam"], "rice_drain": ["RiceDrain", "Stand"]}
 LANGUAGES = [("cc", "c", standard) for standard in ("c99", "c11", "c17")] + [("c++", "c++", standard) for standard in ("c++98", "c++11", "c++17")]
 NUMBERS = {"u32": "uint32_t", "u64": "uint64_t", "i64": "int64_t", "bool": "bool"}
 
@@ -128,7 +128,7 @@ def main():
     library = os.path.abspath(sys.argv[1])
     os.chdir(os.path.join(os.path.dirname(os.path.abspath(__file__)), ".."))
     header = read("include/rice.h")
-    texts = "".join(map(read, sorted(glob.glob("crates/rice_c/src/*.rt")))) + read("crates/rice_stream/src/seam.rt")
+    texts = "".join(map(read, sorted(glob.glob("crates/rice_c/src/*.rt")))) + read("crates/rice_stream/src/seam.rt") + read("crates/rice_stream/src/stand.rt")
     wrong = [
         *wrong_object(library, set(functions_of_header(header))),
         *wrong_declarations(header, texts),

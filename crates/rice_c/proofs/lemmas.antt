@@ -1,4 +1,5 @@
 -- The lemmas of the proofs, by what they speak of.
+pub mod Draining
 pub mod FedRoom
 pub mod Feeding
 pub mod Passing

@@ -1,5 +1,6 @@
 pub mod Asked
 pub mod Calls
+pub mod Drains
 pub mod Feeds
 pub mod Laws
 pub mod Reports

@@ -5,10 +5,12 @@ use Rattle.rice_samples.specs.declared.setting.SettingFault.{SettingFault}
 use Rattle.rice_samples.specs.declared.setting.SettingFault.TheVariants as settings
 use Rattle.rice_stream.specs.declared.outcome.Fault.{Fault}
 use Rattle.rice_stream.specs.declared.outcome.Fault.TheVariants as faults
+use Rattle.rice_stream.specs.declared.stand.Pause.{Pause}
+use Rattle.rice_stream.specs.declared.stand.Pause.TheVariants as pauses
 use Rattle.rice_c.specs.Asked.{setting_asked}
 use Rattle.rice_c.specs.declared.setting.RiceSetting.{RiceSetting}
 use Rattle.rice_c.specs.declared.status.Status.{Status}
-use Rattle.rice_c.specs.declared.status.Status.TheVariants.{Done, BadBits, BadBlock, BadInterval, SampleOutOfRange, InputCut, CodeEnds, RunPastSegment, ResidualTooLarge, NoRoom, TooLong}
+use Rattle.rice_c.specs.declared.status.Status.TheVariants.{Done, BadBits, BadBlock, BadInterval, SampleOutOfRange, InputCut, CodeEnds, RunPastSegment, ResidualTooLarge, NoRoom, TooLong, OnlyZeros, MoreCode, BadPlace}
 
 -- the number that C sees
 abbrev pub number_of : Status → ℕ
@@ -23,6 +25,9 @@ number_of RunPastSegment = 7
 number_of ResidualTooLarge = 8
 number_of NoRoom = 9
 number_of TooLong = 10
+number_of OnlyZeros = 11
+number_of MoreCode = 12
+number_of BadPlace = 13
 
 -- the status of a setting that is refused
 abbrev pub refusal_status : SettingFault → Status
@@ -59,3 +64,18 @@ fault_place (Some (faults.CodeEnds samples)) = samples
 fault_place (Some (faults.RunPastSegment block)) = block
 fault_place (Some (faults.ResidualTooLarge block)) = block
 fault_place _ = 0
+
+-- the status of a pull that pauses so
+abbrev pub pause_status : Pause → Status
+pause_status pauses.Full = NoRoom
+pause_status pauses.Blank = OnlyZeros
+pause_status pauses.Cut = MoreCode
+pause_status pauses.RunPastSegment = RunPastSegment
+pause_status pauses.ResidualTooLarge = ResidualTooLarge
+pause_status pauses.TooLong = TooLong
+
+-- the number that it names, where `block` blocks were given
+abbrev pub pause_place : Pause → ℕ → ℕ
+pause_place pauses.RunPastSegment block = block
+pause_place pauses.ResidualTooLarge block = block
+pause_place _ block = 0

@@ -1,9 +1,10 @@
 //! `encode` and `decode` for C, over memory of the caller's own: `include/rice.h` declares what is here, and says it in words.
 //!
-//! Nothing here allocates, and nothing is kept from call to call but what a caller's feed holds.
+//! Nothing here allocates, and nothing is kept from call to call but what a caller's feed or drain holds.
 #![tactic(auto)]
 
 pub mod coding;
+pub mod drain;
 pub mod feed;
 pub mod laws;
 pub mod report;
@@ -17,3 +18,5 @@ const _: () = prove!(size_of::<setting::RiceSetting>() == 20);
 const _: () = prove!(size_of::<report::RiceReport>() == 40);
 
 const _: () = prove!(size_of::<feed::RiceFeed>() == 72);
+
+const _: () = prove!(size_of::<drain::RiceDrain>() == 64);

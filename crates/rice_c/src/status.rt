@@ -1,10 +1,10 @@
 //! How a call ended, as C sees it.
 ghost use Rattle.std.specs.Prelude.{◌≡◌, ◌≢◌, ℕ, Some, Option};
 ghost use Rattle.rice_stream.specs.declared.outcome.Fault.TheVariants.{Read};
-ghost use Rattle.rice_c.specs.Statuses.{refusal_status as refusal_status_of, fault_status as fault_status_of, fault_place as fault_place_of};
+ghost use Rattle.rice_c.specs.Statuses.{refusal_status as refusal_status_of, fault_status as fault_status_of, fault_place as fault_place_of, pause_status as pause_status_of, pause_place as pause_place_of};
 
 use rice_samples::SettingFault;
-use rice_stream::Fault;
+use rice_stream::{Fault, Pause};
 
 /// How a call ended. C sees its number.
 #[derive(Clone, Copy, Debug, PartialEq, Eq)]
@@ -31,6 +31,12 @@ pub enum Status {
     NoRoom,
     /// The input is longer than a call takes.
     TooLong,
+    /// No 1 is left in a piece of code.
+    OnlyZeros,
+    /// What is left of a piece of code begins with no whole coded data set.
+    MoreCode,
+    /// No interval can begin at a place.
+    BadPlace,
 }
 
 impl Status {
@@ -52,6 +58,9 @@ impl Status {
             Status::ResidualTooLarge => 8,
             Status::NoRoom => 9,
             Status::TooLong => 10,
+            Status::OnlyZeros => 11,
+            Status::MoreCode => 12,
+            Status::BadPlace => 13,
         }
     }
 }
@@ -95,6 +104,30 @@ pub fn fault_place(fault: Option<Fault>) -> u64
         Some(Fault::CodeEnds { samples }) => samples,
         Some(Fault::RunPastSegment { block }) => block,
         Some(Fault::ResidualTooLarge { block }) => block,
+        _ => 0,
+    }
+}
+
+/// Returns the status of a pull that pauses so.
+pub fn pause_status(pause: Pause) -> Status
+    ensures { result ≡ pause_status_of pause }
+{
+    match pause {
+        Pause::Full => Status::NoRoom,
+        Pause::Blank => Status::OnlyZeros,
+        Pause::Cut => Status::MoreCode,
+        Pause::RunPastSegment => Status::RunPastSegment,
+        Pause::ResidualTooLarge => Status::ResidualTooLarge,
+        Pause::TooLong => Status::TooLong,
+    }
+}
+
+/// Returns the number that a pause names: of the block that is refused, which is `block`, or 0 where it names none.
+pub fn pause_place(pause: Pause, block: u64) -> u64
+    ensures { result ≡ pause_place_of pause block }
+{
+    match pause {
+        Pause::RunPastSegment | Pause::ResidualTooLarge => block,
         _ => 0,
     }
 }
