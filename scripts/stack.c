@@ -38,6 +38,15 @@ static void feed(void) {
     if (rice_finish(&feed, samples + taken, size - taken, code, room, &report) != RICE_DONE) abort();
 }
 
+/* Two pieces of a code: the second begins where the first ends. */
+static void drain(void) {
+    struct rice_drain drain;
+    if (rice_open(&setting, &drain) != RICE_DONE) abort();
+    rice_pull(&drain, code, room / 2, back, size, &report);
+    size_t at = drain.bits / 8;
+    rice_pull(&drain, code + at, room - at, back, size, &report);
+}
+
 static void nothing(void) {
 }
 
@@ -86,9 +95,9 @@ static void fill(int kind) {
 }
 
 /* Runs all calls for all settings and kinds of samples, each on a stack of that size. Returns the most that one touched. */
-static void most(size_t limits[4], size_t found[4]) {
+static void most(size_t limits[5], size_t found[5]) {
     static const uint32_t blocks[] = {2, 8, 16, 20, 32, 64}, widths[] = {1, 8, 10, 16, 24, 32}, intervals[] = {1, 64, 4096};
-    void (*calls[])(void) = {feed, encode, decode, decode_all};
+    void (*calls[])(void) = {feed, encode, decode, decode_all, drain};
     for (int b = 0; b < 6; b++) for (int w = 0; w < 6; w++) for (int r = 0; r < 3; r++) for (int flags = 0; flags < 8; flags++) {
         setting = (struct rice_setting){widths[w], blocks[b], intervals[r], false, false, flags & 4, flags & 1, flags & 2, true};
         count = 3 * 4096 + 77;
@@ -96,7 +105,7 @@ static void most(size_t limits[4], size_t found[4]) {
         for (int kind = 0; kind < 3; kind++) {
             fill(kind);
             memset(code, 0, room);
-            for (int c = 0; c < 4; c++) {
+            for (int c = 0; c < 5; c++) {
                 size_t t = touched(calls[c], limits[c]);
                 if (t > found[c]) found[c] = t;
             }
@@ -107,11 +116,11 @@ static void most(size_t limits[4], size_t found[4]) {
 int main(void) {
     samples = malloc(1 << 20), code = malloc(1 << 20), back = malloc(1 << 20);
     if (!samples || !code || !back) return 2;
-    size_t limits[4] = {MOST, MOST, MOST, MOST}, found[4] = {0, 0, 0, 0}, base = touched(nothing, MOST);
+    size_t limits[5] = {MOST, MOST, MOST, MOST, MOST}, found[5] = {0, 0, 0, 0, 0}, base = touched(nothing, MOST);
     most(limits, found);
     size_t decoding = found[2] > found[3] ? found[2] : found[3];
-    printf("feed %zu, encode %zu, decode %zu, of these %zu for a call that does nothing\n", found[0], found[1], decoding, base);
-    size_t stated[4] = {RICE_ENCODE_STACK, RICE_ENCODE_STACK, RICE_DECODE_STACK, RICE_DECODE_STACK};
+    printf("feed %zu, encode %zu, decode %zu, drain %zu, of these %zu for a call that does nothing\n", found[0], found[1], decoding, found[4], base);
+    size_t stated[5] = {RICE_ENCODE_STACK, RICE_ENCODE_STACK, RICE_DECODE_STACK, RICE_DECODE_STACK, RICE_DECODE_STACK};
     most(stated, found);
     printf("all calls run on stacks of %zu and %zu bytes\n", stated[0], stated[2]);
     return 0;
