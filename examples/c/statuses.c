@@ -14,12 +14,12 @@ static void expect(const char *what, uint32_t status, const struct rice_report *
 
 /* Each status has a text of its own, and other numbers have another. */
 static void try_texts(void) {
-    for (uint32_t status = RICE_DONE; status <= RICE_TOO_LONG + 1; status++) {
+    for (uint32_t status = RICE_DONE; status <= RICE_BAD_PLACE + 1; status++) {
         for (uint32_t other = 0; other < status; other++) {
             if (strcmp(rice_status_text(status), rice_status_text(other)) == 0) wrong = 1;
         }
     }
-    if (strcmp(rice_status_text(RICE_TOO_LONG + 1), rice_status_text(UINT32_MAX)) != 0) wrong = 1;
+    if (strcmp(rice_status_text(RICE_BAD_PLACE + 1), rice_status_text(UINT32_MAX)) != 0) wrong = 1;
 }
 
 int main(void) {
@@ -57,6 +57,14 @@ int main(void) {
     bad = setting;
     bad.interval = 0;
     expect("no interval", rice_decode_all(&bad, code, 3, back, sizeof back, &report), &report, RICE_BAD_INTERVAL, 0, 0);
+
+    struct rice_drain drain = {0};
+    if (rice_open(&setting, &drain) != RICE_DONE) wrong = 1;
+    expect("a piece of zeros", rice_pull(&drain, (const uint8_t[]){0x00}, 1, back, sizeof back, &report), &report, RICE_ONLY_ZEROS, 0, 0);
+    expect("a piece that is cut", rice_pull(&drain, (const uint8_t[]){0x00, 0x40}, 2, back, sizeof back, &report), &report, RICE_MORE_CODE, 0, 0);
+    struct rice_setting padded = setting;
+    padded.pad = true;
+    expect("an interval inside a byte", rice_open_at(&padded, 16, 3, &drain), &report, RICE_BAD_PLACE, 0, 0);
     try_texts();
     return wrong;
 }

@@ -1,3 +1,4 @@
+pub mod CommandLine
 pub mod Outside
 pub mod Performs
 pub mod Plan

@@ -1,11 +1,12 @@
 -- What the command has done for the words of its command line, by what the system tells before and after.
 use Rattle.std.specs.Prelude.{◌≡◌, ◌≢◌, ℕ, List, Option, Result, Ok, Err, ◌⊎◌}
-use Rattle.clap.specs.Words.{found_of}
+use Rattle.clap.specs.Words.{Text, found_of}
 use Rattle.clap.specs.declared.parser.matches.ArgMatches.{ArgMatches}
 use Rattle.clap.specs.declared.error.kind.ErrorKind.{ErrorKind}
 use Rattle.clap.specs.declared.error.kind.ErrorKind.TheVariants as kind
 use Rattle.rice_bits.specs.device.Outlet.{Room}
 use Rattle.aec_tool.specs.declared.plan.PlanFault.{PlanFault}
+use Rattle.aec_tool.specs.CommandLine.{AreParsedTo, AreRefusedFor}
 use Rattle.aec_tool.specs.Outside.{Outside, LacksMemory, Refused, saying, showing}
 use Rattle.aec_tool.specs.Plan.{PlanView, plan_in}
 use Rattle.aec_tool.specs.Performs.{OnlySays, Performs}
@@ -30,6 +31,7 @@ module _ {Source Dest : Type 0} (left : Source → Option (List ℕ)) (reads : S
   Follows (Err fault) o after status = Refuses fault o after status
 
   -- The words were parsed, and their plan was followed; or they were not, and the parser said why.
-  abbrev pub Starts : Outside → Outside → ℕ → Type 0
-  Starts o after status =
-      ((m : ArgMatches) × Follows (plan_in (found_of m)) o after status) ⊎ ((k : ErrorKind) × Explains k o after status)
+  abbrev pub Starts : List Text → Outside → Outside → ℕ → Type 0
+  Starts words o after status =
+      ((m : ArgMatches) × AreParsedTo words m × Follows (plan_in (found_of m)) o after status)
+      ⊎ ((k : ErrorKind) × AreRefusedFor words k × Explains k o after status)

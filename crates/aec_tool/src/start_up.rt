@@ -1,6 +1,8 @@
 //! From the words of the command line to the exit status.
-ghost use Rattle.std.specs.Prelude.{◌≡◌, Some};
+ghost use Rattle.std.specs.Prelude.{◌≡◌, Some, IfOk, IfErr};
 ghost use Rattle.clap.specs.Words.{kind_of};
+ghost use Rattle.clap.specs.Walk.{texts};
+ghost use Rattle.aec_tool.specs.CommandLine.{AreParsedTo, AreRefusedFor};
 ghost use Rattle.aec_tool.specs.Outside.{Outside, IsFresh};
 ghost use Rattle.aec_tool.specs.Starts.{Starts, Explains};
 
@@ -20,7 +22,11 @@ use std::{env, io};
 /// The status of a command line that is refused.
 const USAGE: u8 = 2;
 
-fn matches_of<'a>(alloc: Global, words: &'a [&'a str]) -> Result<ArgMatches<'a>, Error> {
+/// Parses the words of the command line.
+fn matches_of<'a>(alloc: Global, words: &'a [&'a str]) -> Result<ArgMatches<'a>, Error>
+    ensures ok { IfOk result (AreParsedTo (texts words.entry.now)) }
+    ensures err { IfErr result (λ e. AreRefusedFor (texts words.entry.now) (kind_of e)) }
+{
     command(alloc)?.try_get_matches_from(words)
 }
 
@@ -28,7 +34,7 @@ fn matches_of<'a>(alloc: Global, words: &'a [&'a str]) -> Result<ArgMatches<'a>,
 pub fn start<'a, S: System<'a>>(system: &mut S, alloc: Global, words: &'a [&'a str]) -> u8
     requires { (o : Outside) → S.told system.old ≡ Some o → IsFresh o }
     ensures { (o : Outside) → S.told system.old ≡ Some o → (after : Outside) × (S.told system.new ≡ Some after)
-        × Starts S.Source.left S.Source.failed S.Dest.taken S.Dest.failed o after result }
+        × Starts S.Source.left S.Source.failed S.Dest.taken S.Dest.failed (texts words.entry.now) o after result }
 {
     let matches = match matches_of(alloc, words) {
         Ok(matches) => matches,

@@ -10,6 +10,7 @@ returns-in-Ok-plan_of g c = λ o told.
       did.1,
       inl (
         c.in-Ok.matches,
+        c.in-Ok.ensures.ok,
         subst (λ answer. Follows g.S.Source.Intake.left g.S.Source.Intake.failed g.S.Dest.Outlet.taken g.S.Dest.Outlet.failed answer o did.0 c.perform.result)
             c.in-Ok-plan_of.ensures did.2,
       ),
