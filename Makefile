@@ -6,7 +6,7 @@ LIBRARY_CODES ?= 1000000
 .PHONY: help library install install-command install-library uninstall test test-each rows hostile interop exhaustive any-block refused-memory installed recipes documents bench examples stack header axioms hostile-library hostile-pulls bench-library wrappers clauses plant
 
 help:
-	@echo 'make aec                    prove and build the program, as ./aec (ten minutes the first time)'
+	@echo 'make aec                    prove and build the program, as ./aec (ten to thirteen minutes the first time)'
 	@echo 'make library                prove and build the library for C, as ./librice.a and ./librice.so (as long)'
 	@echo 'make install PREFIX=DIR     install both in DIR (/usr/local), with manual page, completions, header and rice.pc'
 	@echo 'make install-command, make install-library   install one of them'

@@ -53,7 +53,7 @@ def add_edits(tasks, crate, paths, *_):
 
     def results(given):
         verdicts = {path: it for number in range(len(parts)) for path, it in given[crate.name, "edits", number].items()}
-        return told(crate, paths, verdicts)
+        return told(crate, paths, verdicts) if paths else []
 
     return results, dict
 
