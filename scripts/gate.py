@@ -42,14 +42,15 @@ def in_lanes(run_tasks):
     return run
 
 
-def add_edits(tasks, crate, paths, *_):
-    """Adds the tasks that try a crate's edits once it is proved, one for all that can be tried together and one for each other,
-    and returns what gives their results, and what gives those of earlier runs: none."""
+def add_edits(tasks, crate, paths, _first, waits, is_well, *_):
+    """Adds the tasks that try a crate's edits, one for all that can be tried together and one for each other, and returns what
+    gives their results, and what gives those of earlier runs: none."""
     alone = [it for it in paths if not edits.edit_of(crate, it).function]
     parts = [[it for it in paths if it not in alone], *([it] for it in alone)] if paths else []
     for number, part in enumerate(parts):
-        call = lambda given, _jobs, part=part, number=number: try_edits(crate, part, number) if given[crate.name, "proof"] else {}
-        tasks[crate.name, "edits", number] = [(crate.name, "proof")], crate.count(rb"\n"), MEMORY_OF_EDITS, call
+        call = lambda given, _jobs, part=part, number=number: try_edits(crate, part, number) if is_well(given, len(paths)) else {}
+        # (after the tests too, whose check writes into the work that is copied)
+        tasks[crate.name, "edits", number] = waits, crate.count(rb"\n"), MEMORY_OF_EDITS, call
 
     def results(given):
         verdicts = {path: it for number in range(len(parts)) for path, it in given[crate.name, "edits", number].items()}
