@@ -124,7 +124,9 @@ class Library:
             status = calls.rice_decode(setting, int(options["samples"]), *bytes_and_room)
         else:
             status = calls.rice_decode_all(setting, *bytes_and_room)
-        errors = f"aec: {self.rice.RiceError.TEXTS[status].format(report.place)}\n" if status else ""
+        # (of block sizes the library says more than the command, which has no option for others)
+        text = self.rice.RiceError.TEXTS[status].format(report.place).partition(", or with any_block")[0] if status else ""
+        errors = f"aec: {text}\n" if status else ""
         return Answer(code.raw[: report.written], None, errors, 0 if status == 0 else 2 if status <= 3 else 1), report
 
 
