@@ -22,7 +22,7 @@
  *   - the stack has the room stated below.
  *
  * What the library holds while a call runs is on the stack, and is the same whatever the input: RICE_ENCODE_STACK bytes are
- * enough to encode, and RICE_DECODE_STACK to decode (measured, and tried on stacks of just that size, on x86-64 Linux).
+ * enough to encode, and RICE_DECODE_STACK to decode (measured, and tried on stacks of just that size, on x86-64 and aarch64 Linux).
  */
 #ifndef RICE_H
 #define RICE_H
@@ -113,6 +113,11 @@ uint32_t rice_set_room(const struct rice_setting *setting);
 /* The report of rice_encode, or of rice_finish, never has more steps for `samples` samples. 0 as above. A report of decoding
  * never has more than 2 * bits + samples. */
 uint64_t rice_step_bound(const struct rice_setting *setting, uint64_t samples);
+
+/* Spells the samples at `samples`, which has `samples_len` bytes, as rice_encode wants them: their lowest `bits` bits stay, and the
+ * others, whatever they are, become 0 or, where samples are signed, copies of the sign. So no sample is out of range. Bytes at the end
+ * that are too few for a sample stay. Returns RICE_DONE; or RICE_BAD_..., and all is as it was. */
+uint32_t rice_spell(const struct rice_setting *setting, uint8_t *samples, size_t samples_len);
 
 /* Encodes the samples at `samples`, which has `samples_len` bytes, to `code`, which has `code_room` bytes. Returns a
  * status of enum rice_status:
@@ -206,9 +211,10 @@ uint32_t rice_open(const struct rice_setting *setting, struct rice_drain *drain)
 
 /* Opens a code where one of its intervals begins: after `samples` samples and `bits` bits. These two numbers are the caller's:
  * a drain has them in `samples` and `bits` wherever its `block` and `run` are 0. While encoding, an interval begins wherever a
- * feed's `start` is 0, after `samples` samples and 8 times the bytes written so far and `waiting_bits` bits. Returns RICE_DONE; RICE_BAD_PLACE, if
- * `samples` is above 2^62 or `bits` above 2^52, or the place is in a byte and intervals are padded; or RICE_BAD_.... Unless
- * RICE_DONE is returned the drain is as it was. */
+ * feed's `start` is 0, after `samples` samples and 8 times the bytes written so far and `waiting_bits` bits. What is pulled from
+ * there is what the whole code gives behind those samples. Returns RICE_DONE; RICE_BAD_PLACE, if `samples` is above 2^62 or `bits`
+ * above 2^52, or the place is in a byte and intervals are padded; or RICE_BAD_.... Unless RICE_DONE is returned the drain is as it
+ * was. */
 uint32_t rice_open_at(const struct rice_setting *setting, uint64_t samples, uint64_t bits, struct rice_drain *drain);
 
 /* Gives the drain a piece of its code at `code`, which has `code_len` bytes and begins with byte `drain->bits / 8` of the code, and
@@ -242,6 +248,10 @@ static inline uint8_t *rice_into(uint8_t *bytes, size_t length) {
     return bytes || length ? bytes : &none;
 }
 
+static inline uint32_t rice_spell_here(const struct rice_setting *setting, uint8_t *samples, size_t samples_len) {
+    return rice_spell(setting, rice_into(samples, samples_len), samples_len);
+}
+
 static inline uint32_t rice_encode_here(const struct rice_setting *setting, const uint8_t *samples, size_t samples_len,
                                         uint8_t *code, size_t code_room, struct rice_report *report) {
     return rice_encode(setting, rice_from(samples, samples_len), samples_len, rice_into(code, code_room), code_room, report);
@@ -273,6 +283,7 @@ static inline uint32_t rice_pull_here(struct rice_drain *drain, const uint8_t *c
     return rice_pull(drain, rice_from(code, code_len), code_len, rice_into(samples, samples_room), samples_room, report);
 }
 
+#define rice_spell rice_spell_here
 #define rice_encode rice_encode_here
 #define rice_decode rice_decode_here
 #define rice_decode_all rice_decode_all_here

@@ -15,7 +15,7 @@ import subprocess
 import sys
 import tempfile
 
-FOLDERS = "crates|scripts|docs|recipes|man|completions"
+FOLDERS = "crates|scripts|docs|recipes|man|completions|compat|python"
 MANUAL = "man/aec.1"
 
 
@@ -48,7 +48,7 @@ def wrong_names(page, targets):
     for name in re.findall(rf"(?<![\w/.$-])(?:(?:{FOLDERS})/|\.ci/)[\w./*-]*[\w*]", text):
         if not glob.glob(name) and not glob.glob(os.path.join(os.path.dirname(page), name)):
             yield f"{page}: no file {name}"
-    for target in re.findall(r"(?m)(?:`|^ {4}|\$ )make ([a-z-]+)", text):
+    for target in re.findall(r"(?m)(?:`|^ {4}|\$ )make ([a-z0-9-]+)", text):
         if target not in targets:
             yield f"{page}: no target {target} of make"
 
@@ -151,7 +151,7 @@ def main():
     program = os.path.abspath(sys.argv[1])
     os.chdir(os.path.join(os.path.dirname(os.path.abspath(__file__)), ".."))
     pages = ["README.md", *sorted(glob.glob("docs/*.md")), MANUAL]
-    targets = re.findall(r"(?m)^([a-z-]+):", read("Makefile"))
+    targets = re.findall(r"(?m)^([a-z0-9-]+):", read("Makefile"))
     help_text = subprocess.run([program, "--help"], capture_output=True, text=True, check=True).stdout
     wrong = [text for page in pages for text in (*wrong_links(page), *wrong_names(page, targets), *wrong_commands(page))]
     wrong += [*wrong_options(help_text), *wrong_messages(), *wrong_edits(), *wrong_toolchains()]

@@ -80,7 +80,7 @@ def fields_of_header(header, name):
 def fields_of_crate(texts, names):
     """The fields of structs that stand one in the other, as C has them."""
     for name in names:
-        body = re.search(rf"(?ms)^#\[repr\(C\)\]\n(?:#.*\n)*pub struct {name} \{{(.*?)^\}}", texts)[1]
+        body = re.search(rf"(?ms)^#\[repr\(C\)\]\n(?:#[^\n]*\n)*pub struct {name} \{{(.*?)^\}}", texts)[1]
         for field, kind in re.findall(r"(?m)^ +pub (\w+): (\w+),", body):
             if kind not in names:
                 yield NUMBERS.get(kind, f"struct {snake(kind)}"), field
@@ -103,14 +103,14 @@ def wrong_declarations(header, texts):
         yield "the statuses have other numbers in the header than in the crate"
 
 
-def wrong_version(header, texts, package):
-    """The version of the header, and that of the library and of rice.pc."""
+def wrong_version(header, texts, changelog):
+    """The version of the header, and that of the library and of the Debian packages. What is installed has the header's."""
     numbers = [int(number) for number in re.findall(r"(?m)^#define RICE_VERSION_(?:MAJOR|MINOR|PATCH) (\d+)$", header)]
     text = ".".join(map(str, numbers))
     library = re.search(r"fn rice_version\(\) -> u32\s+ensures \{ result ≡ (\d+) \}", texts)
     if len(numbers) != 3 or not library or int(library[1]) != numbers[0] * 10000 + numbers[1] * 100 + numbers[2]:
         yield "the library has another version than the header"
-    if f'#define RICE_VERSION_TEXT "{text}"\n' not in header or f"Version: {text}\n" not in package:
+    if f'#define RICE_VERSION_TEXT "{text}"\n' not in header or not changelog.startswith(f"rice-aec ({text}) "):
         yield "the texts of the version are others"
 
 
@@ -132,7 +132,7 @@ def main():
     wrong = [
         *wrong_object(library, set(functions_of_header(header))),
         *wrong_declarations(header, texts),
-        *wrong_version(header, texts, read("include/rice.pc.in")),
+        *wrong_version(header, texts, read("debian/changelog")),
         *wrong_languages(),
     ]
     for text in wrong:

@@ -14,7 +14,6 @@ import tempfile
 from typing import NamedTuple, Optional
 
 FIELDS = ("aec", "in", "out", "file", "prints", "says", "begins", "status", "bits", "steps")
-EXAMPLES = os.path.join(os.path.dirname(os.path.abspath(__file__)), "..", "examples", "python")
 ROOM = 1 << 16  # bytes that the library may write, more than any case has
 
 
@@ -99,23 +98,49 @@ def sample_width(options):
     return 1 if bits <= 8 else 2 if bits <= 16 else 4
 
 
+class Setting(ctypes.Structure):
+    """`struct rice_setting`."""
+
+    _fields_ = [(name, ctypes.c_uint32) for name in ("bits", "block", "interval")]
+    _fields_ += [(name, ctypes.c_bool) for name in ("is_signed", "msb", "three", "preprocess", "pad", "any_block")]
+
+
+class Report(ctypes.Structure):
+    """`struct rice_report`."""
+
+    _fields_ = [(name, ctypes.c_uint64) for name in ("samples", "bits", "steps", "written", "place")]
+
+
 class Library:
     """The library for C, which is given options as the command is."""
 
-    def __init__(self, path):
-        os.environ["RICE_LIBRARY"] = os.path.abspath(path)
-        sys.path.insert(0, EXAMPLES)
-        import rice
+    TEXTS = {
+        1: "bits per sample must be 1 to 32",
+        2: "block size must be 8, 16, 32 or 64",
+        3: "interval must be 1 to 4096",
+        4: "sample {} is out of range",
+        5: "input ends inside sample {}",
+        6: "code ends after {} samples",
+        7: "run at block {} passes its segment",
+        8: "residual too large in block {}",
+        9: "no room in the output",
+        10: "input is too long",
+    }
 
-        self.rice = rice
+    def __init__(self, path):
+        self.calls = ctypes.CDLL(os.path.abspath(path))
+        setting, memory, report = ctypes.POINTER(Setting), [ctypes.c_void_p, ctypes.c_size_t], ctypes.POINTER(Report)
+        self.calls.rice_encode.argtypes = [setting, *memory, *memory, report]
+        self.calls.rice_decode.argtypes = [setting, ctypes.c_uint64, *memory, *memory, report]
+        self.calls.rice_decode_all.argtypes = [setting, *memory, *memory, report]
 
     def setting(self, options):
         numbers = (int(options.get(name, default)) for name, default in (("n", 8), ("j", 8), ("r", 2)))
-        return self.rice.Setting(*numbers, "s" in options, "m" in options, "3" in options, "N" not in options, "p" in options)
+        return Setting(*numbers, "s" in options, "m" in options, "3" in options, "N" not in options, "p" in options, False)
 
     def call(self, options, given):
         """Returns what the command would answer, and the report."""
-        calls, setting, report = self.rice._library, self.setting(options), self.rice.Report()
+        calls, setting, report = self.calls, self.setting(options), Report()
         samples, code = ctypes.create_string_buffer(given, max(len(given), 1)), ctypes.create_string_buffer(ROOM)
         bytes_and_room = (samples, len(given), code, ROOM, report)
         if "d" not in options:
@@ -124,9 +149,7 @@ class Library:
             status = calls.rice_decode(setting, int(options["samples"]), *bytes_and_room)
         else:
             status = calls.rice_decode_all(setting, *bytes_and_room)
-        # (of block sizes the library says more than the command, which has no option for others)
-        text = self.rice.RiceError.TEXTS[status].format(report.place).partition(", or with any_block")[0] if status else ""
-        errors = f"aec: {text}\n" if status else ""
+        errors = f"aec: {self.TEXTS[status].format(report.place)}\n" if status else ""
         return Answer(code.raw[: report.written], None, errors, 0 if status == 0 else 2 if status <= 3 else 1), report
 
 

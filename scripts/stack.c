@@ -1,5 +1,6 @@
 /* How much stack a call takes: it runs on a stack of its own, painted before, with a page behind it that can't be touched.
- * Prints the most that any call took, and then runs all calls again on stacks of the sizes that rice.h states. */
+ * Prints the most that any call took, and then runs all calls again on stacks of the sizes that rice.h states.
+ * usage: stack [STEP], where only each STEPth setting is tried */
 #define _GNU_SOURCE
 #include "rice.h"
 #include <stdio.h>
@@ -14,6 +15,7 @@ static struct rice_setting setting;
 static uint8_t *samples, *code, *back;
 static size_t count, room, size;
 static struct rice_report report;
+static unsigned long step = 1;
 static ucontext_t caller, callee;
 
 static void encode(void) {
@@ -98,7 +100,9 @@ static void fill(int kind) {
 static void most(size_t limits[5], size_t found[5]) {
     static const uint32_t blocks[] = {2, 8, 16, 20, 32, 64}, widths[] = {1, 8, 10, 16, 24, 32}, intervals[] = {1, 64, 4096};
     void (*calls[])(void) = {feed, encode, decode, decode_all, drain};
+    unsigned long settings = 0;
     for (int b = 0; b < 6; b++) for (int w = 0; w < 6; w++) for (int r = 0; r < 3; r++) for (int flags = 0; flags < 8; flags++) {
+        if (settings++ % step) continue;
         setting = (struct rice_setting){widths[w], blocks[b], intervals[r], false, false, flags & 4, flags & 1, flags & 2, true};
         count = 3 * 4096 + 77;
         room = rice_code_room(&setting, count);
@@ -113,9 +117,10 @@ static void most(size_t limits[5], size_t found[5]) {
     }
 }
 
-int main(void) {
+int main(int argc, char **argv) {
+    if (argc > 1) step = strtoul(argv[1], NULL, 10);
     samples = malloc(1 << 20), code = malloc(1 << 20), back = malloc(1 << 20);
-    if (!samples || !code || !back) return 2;
+    if (!samples || !code || !back || step == 0) return 2;
     size_t limits[5] = {MOST, MOST, MOST, MOST, MOST}, found[5] = {0, 0, 0, 0, 0}, base = touched(nothing, MOST);
     most(limits, found);
     size_t decoding = found[2] > found[3] ? found[2] : found[3];

@@ -9,6 +9,7 @@ pub mod feed;
 pub mod laws;
 pub mod report;
 pub mod setting;
+pub mod spelling;
 pub mod status;
 pub mod version;
 

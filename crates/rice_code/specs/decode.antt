@@ -1,4 +1,5 @@
 -- What contracts see of the decoder, and what its parts say to each other.
+pub mod BlocksAhead
 pub mod Decoder
 pub mod DecoderState
 pub mod Fields

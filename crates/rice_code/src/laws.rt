@@ -1,5 +1,5 @@
 //! The laws of code and decoding, each the contract of a function that does nothing. Their statements are in `specs/Laws.antt`.
-ghost use Rattle.rice_code.specs.Laws.{ReturnsSamples, ReturnsSamplesAndFill, DecodedIsOne, CodesDiffer, RefusedBytesAreNoOutput, OwnBytesAreRecognised, AllBytesAreDecoded, FormsAreReadInOneWay, FormsHaveAOne, CodeGrows, CodeIsBounded, PaddedCodeIsBounded, AddedCodeIsBounded, SetsAreBounded, CodeIsJoined, CostIsLength, ChoiceIsLeast, NoSetsAreShorter, NoCodeIsShorter, NoOutputIsShorter, SavingNeverRises, FirstStopIsBest, ChoiceIsOfThree, CodeGoesOn, BitsGoOn, CodeStandsInIntervals, CodeStandsInBytes, DecodingGoesOn, DecodingStandsInPlaces, SplitIsPaid, RunIsNeverLonger, StepsAreBounded, StepsArePaid, AllStepsAreBounded, IntervalsBeginAfresh, IntervalsAreJoined, PaddedIntervalsAreJoined, IntervalsAreDecodedAlone, DamageStaysInItsInterval};
+ghost use Rattle.rice_code.specs.Laws.{ReturnsSamples, ReturnsSamplesAndFill, DecodedIsOne, CodesDiffer, RefusedBytesAreNoOutput, OwnBytesAreRecognised, AllBytesAreDecoded, FormsAreReadInOneWay, FormsHaveAOne, CodeGrows, CodeIsBounded, PaddedCodeIsBounded, AddedCodeIsBounded, SetsAreBounded, CodeIsJoined, CostIsLength, ChoiceIsLeast, NoSetsAreShorter, NoCodeIsShorter, NoOutputIsShorter, SavingNeverRises, FirstStopIsBest, ChoiceIsOfThree, CodeGoesOn, BitsGoOn, CodeStandsInIntervals, CodeStandsInBytes, DecodingGoesOn, DecodingStandsInPlaces, SplitIsPaid, RunIsNeverLonger, StepsAreBounded, StepsArePaid, AllStepsAreBounded, IntervalsBeginAfresh, IntervalsAreJoined, PaddedIntervalsAreJoined, IntervalsAreDecodedAlone, DecodingBeginsAfresh, DamageStaysInItsInterval};
 
 /// With the number of samples, the output decodes to exactly these samples.
 pub fn returns_samples()
@@ -156,6 +156,11 @@ pub fn intervals_stand_alone()
     ensures joined { IntervalsAreJoined }
     ensures padded { PaddedIntervalsAreJoined }
     ensures decoded { IntervalsAreDecodedAlone }
+{}
+
+/// Where an interval begins, what the bits from there on decode to by themselves follows the samples before it.
+pub fn decoding_begins_afresh()
+    ensures { DecodingBeginsAfresh }
 {}
 
 /// With padding, bytes that are damaged in one interval change no other.

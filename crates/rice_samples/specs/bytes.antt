@@ -1,3 +1,4 @@
 -- Samples in bytes.
+pub mod Patterns
 pub mod Spelling
 pub mod Values

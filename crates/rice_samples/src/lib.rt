@@ -12,9 +12,11 @@ pub mod setting;
 
 pub use blocks::block::Block;
 pub use blocks::segment::Segment;
+pub use bytes::patterns::spell_patterns;
 pub use bytes::reading::levels_of;
 pub use bytes::spelling::{bytes_of, sample_of};
 pub use bytes::writing::{write_spellings, write_spellings_as};
+pub use predict::byte_lanes::{LevelLanes, near_levels, spelled_bytes};
 pub use predict::preprocessor::{from_pattern, pattern, residual, restore};
 pub use predict::residuals::pattern_at;
 pub use predict::samples::{level_of_pattern, levels_of_patterns, restore_all, restore_spread};

@@ -1,5 +1,6 @@
 //! The preprocessor: from samples to residuals and back.
 
+pub mod byte_lanes;
 mod narrow_near_lanes;
 mod near_lanes;
 pub mod preprocessor;

@@ -9,6 +9,7 @@ pub mod EncodingLemmas
 pub mod FedPieces
 pub mod HeldBlocks
 pub mod LevelLemmas
+pub mod OneDecoding
 pub mod PartLemmas
 pub mod PiecesPulled
 pub mod PulledPieces
@@ -16,5 +17,6 @@ pub mod PullingLemmas
 pub mod ReturnedBytes
 pub mod Seams
 pub mod SetsRead
+pub mod SpelledBlocks
 pub mod SpellingLengths
 pub mod WholeBytes

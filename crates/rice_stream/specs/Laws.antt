@@ -5,6 +5,8 @@ use Rattle.rice_bits.specs.Bits.{bits_of}
 use Rattle.rice_bits.specs.device.Outlet.{Room, Appends}
 use Rattle.rice_samples.specs.Parameters.{Parameters, IsLegal, width}
 use Rattle.rice_samples.specs.bytes.Spelling.{spellings}
+use Rattle.rice_code.specs.Laws.{BeginsInterval}
+use Rattle.rice_code.specs.code.Code.{output}
 use Rattle.rice_code.specs.code.Decoded.{Decoded, Ending, Reached, Ended, CutOff, Past, Large}
 use Rattle.rice_stream.specs.Calls.{Call}
 use Rattle.rice_stream.specs.Encodes.{Encodes}
@@ -89,11 +91,13 @@ abbrev pub last_stand : Stand → List Pull → Stand
 last_stand stand [] = stand
 last_stand stand (p ∷ ps) = last_stand p.stand ps
 
--- the calls wrote the bytes of these samples to the front of the caller's memory, a part each, and no byte behind them
-abbrev pub GiveInParts : Parameters → List Pull → List ℤ → Type 0
-GiveInParts s [] xs = xs ≡ []
-GiveInParts s (p ∷ ps) xs =
-    (part : List ℤ) × (rest : List ℤ) × (xs ≡ part ++ rest) × (p.new ≡ spellings s part ++ drop (width s * length part) p.old) × GiveInParts s ps rest
+-- The calls wrote the bytes of these samples to the front of the caller's memory, a part each, by which the stand's count has grown, and no
+-- byte behind them.
+abbrev pub GiveInParts : Parameters → Stand → List Pull → List ℤ → Type 0
+GiveInParts s stand [] xs = xs ≡ []
+GiveInParts s stand (p ∷ ps) xs =
+    (part : List ℤ) × (rest : List ℤ) × (xs ≡ part ++ rest) × (p.stand.samples ≡ stand.samples + length part) × (p.new ≡ spellings s part ++ drop (width s * length part) p.old) ×
+    GiveInParts s p.stand ps rest
 
 -- how a code ends where the pull of a piece pauses that has these bytes behind it
 abbrev pub EndsCode : Pause → List ℕ → Ending → Type 0
@@ -109,11 +113,56 @@ EndsCode pauses.TooLong behind ending = ⊥
 abbrev pub PullsAreDecoding : Type 0
 PullsAreDecoding = (s : Parameters) (code : List ℕ) (first : Stand) (pulls : List Pull) (last : Pull) (behind : List ℕ) (ending : Ending) →
     IsStand s at_front first [] [] → ArePulled s code first pulls → IsPulled s code (last_stand first pulls) last behind → EndsCode last.pause behind ending →
-    (xs : List ℤ) × (used : ℕ) × GiveInParts s (pulls ++ last ∷ []) xs × Decoded s (bits_of code) None xs ending used
+    (xs : List ℤ) × (used : ℕ) × GiveInParts s first (pulls ++ last ∷ []) xs × Decoded s (bits_of code) None xs ending used
 
 -- Pieces were pulled from the front of a code until there were n samples, and no block more. Then the first n are those that the code
 -- decodes to with the count n, which is reached.
 abbrev pub EnoughIsDecoding : Type 0
 EnoughIsDecoding = (s : Parameters) (code : List ℕ) (first : Stand) (pulls : List Pull) (n : ℕ) →
     IsStand s at_front first [] [] → ArePulled s code first pulls → n ≤ (last_stand first pulls).samples → (last_stand first pulls).samples < n + s.block →
-    (xs : List ℤ) × GiveInParts s pulls xs × Decoded s (bits_of code) (Some n) (take n xs) Reached (last_stand first pulls).bits
+    (xs : List ℤ) × GiveInParts s first pulls xs × Decoded s (bits_of code) (Some n) (take n xs) Reached (last_stand first pulls).bits
+
+-- One of the intervals of a code begins there, after these samples.
+pub record IsPlace (s : Parameters) (code : List ℕ) (o : Beginning) (before : List ℤ) : Type 0 where
+  pub count : o.samples ≡ length before
+  pub begins : BeginsInterval s (bits_of code) before o.bits
+
+-- The front of a code is such a place.
+abbrev pub FrontIsPlace : Type 0
+FrontIsPlace = (s : Parameters) (code : List ℕ) → IsPlace s code at_front []
+
+-- Pieces were pulled from such a place, and the last of them to where the code ends. Then the samples of all calls are those that the
+-- whole code decodes to behind the samples before it, and it ends so.
+abbrev pub SeekingIsDecoding : Type 0
+SeekingIsDecoding = (s : Parameters) (code : List ℕ) (o : Beginning) (before : List ℤ) (first : Stand) (pulls : List Pull) (last : Pull) (behind : List ℕ) (ending : Ending) →
+    IsPlace s code o before → IsStand s o first [] [] → ArePulled s code first pulls → IsPulled s code (last_stand first pulls) last behind → EndsCode last.pause behind ending →
+    (xs : List ℤ) × (used : ℕ) × GiveInParts s first (pulls ++ last ∷ []) xs × Decoded s (bits_of code) None (before ++ xs) ending used
+
+-- Pieces were pulled from there until there were n samples, and no block more. Then the first n are those that the whole code decodes to
+-- behind the samples before them, with the count of all these, which is reached.
+abbrev pub EnoughBehindIsDecoding : Type 0
+EnoughBehindIsDecoding = (s : Parameters) (code : List ℕ) (o : Beginning) (before : List ℤ) (first : Stand) (pulls : List Pull) (n : ℕ) →
+    IsPlace s code o before → IsStand s o first [] [] → ArePulled s code first pulls → o.samples + n ≤ (last_stand first pulls).samples → (last_stand first pulls).samples < o.samples + n + s.block →
+    (xs : List ℤ) × GiveInParts s first pulls xs × Decoded s (bits_of code) (Some (o.samples + n)) (before ++ take n xs) Reached (last_stand first pulls).bits
+
+-- the place that a stand tells
+abbrev pub place_at : Stand → Beginning
+place_at stand = record { bits = stand.bits; samples = stand.samples }
+
+-- Where pieces were pulled up to the end of an interval, the stand tells the place at which the next begins.
+abbrev pub StandsTellPlaces : Type 0
+StandsTellPlaces = (s : Parameters) (code : List ℕ) (o : Beginning) (before : List ℤ) (first : Stand) (pulls : List Pull) →
+    IsPlace s code o before → IsStand s o first [] [] → ArePulled s code first pulls → (last_stand first pulls).block ≡ 0 → (last_stand first pulls).run ≡ 0 →
+    (xs : List ℤ) × GiveInParts s first pulls xs × IsPlace s code (place_at (last_stand first pulls)) (before ++ xs)
+
+-- the place that a seam tells, where so many bytes were written
+abbrev pub place_behind : Seam → ℕ → Beginning
+place_behind seam written = record { bits = 8 * written + seam.waiting_bits; samples = seam.samples }
+
+-- Where pieces of an input were fed up to the end of an interval, the seam tells, with the number of bytes written so far, the place at which
+-- the next begins in the code of all samples, whatever the others are.
+abbrev pub SeamsTellPlaces : Type 0
+SeamsTellPlaces = (s : Parameters) (input : List ℕ) (seam : Seam) (pieces : List Piece) →
+    IsSeam s seam [] → AreFed s input seam pieces → (last_seam seam pieces).start ≡ 0 →
+    (xs : List ℤ) × (bytes rest : List ℕ) × (input ≡ spellings s xs ++ rest) × TakeInParts pieces bytes ×
+    ((ys : List ℤ) → IsPlace s (output s (xs ++ ys)) (place_behind (last_seam seam pieces) (length bytes)) xs)

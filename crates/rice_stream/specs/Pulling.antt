@@ -1,5 +1,5 @@
 -- Decoding piece by piece: where decoding stands between two calls, and what each call gives.
-use Rattle.std.specs.Prelude.{◌≡◌, ℕ, ◌+◌, ◌*◌, ◌%◌, ◌^◌, ◌<◌, ◌≤◌, Bool, true, List, [], ◌++◌, length, drop, sum_by, Option, Some, None, IsSome, Result, Ok, Err, ℤ, pos}
+use Rattle.std.specs.Prelude.{◌≡◌, ◌≢◌, ℕ, ◌+◌, ◌*◌, ◌%◌, ◌^◌, ◌<◌, ◌≤◌, Bool, true, List, [], ◌++◌, length, drop, sum_by, Option, Some, None, IsSome, Result, Ok, Err, ℤ, pos}
 use Rattle.rice_bits.specs.Bits.{bits_of}
 use Rattle.rice_bits.specs.read.Reader.{Reader}
 use Rattle.rice_samples.specs.Parameters.{Parameters, width}
@@ -81,6 +81,7 @@ pub record DecodesMore (s : Parameters) (o : Beginning) (front : List Bool) (giv
   pub stands : IsStand s o new (front ++ bits) (given ++ samples)
   pub writes : out ≡ spellings s samples ++ drop (width s * length samples) out_old
   pub pauses_at : PausesAt s old piece (length out_old) new rest (length samples) pause
+  pub limit : pause ≢ pauses.TooLong → old.bits + 8 * length piece ≤ 2 ^ 52
 
 -- the state of a decoder that goes on there
 abbrev pub state_of : Parameters → Stand → DecoderState

@@ -1,14 +1,15 @@
 //! Decodes a code to its samples.
-ghost use Rattle.std.specs.Prelude.{ℕ, length, ◌≡◌, ◌+◌, ◌-◌, ◌*◌, ◌^◌, ◌<◌, ◌≤◌, Option, None, Some, Ok, true};
+ghost use Rattle.std.specs.Prelude.{ℕ, length, ◌≡◌, ◌+◌, ◌-◌, ◌*◌, ◌^◌, ◌<◌, ◌≤◌, Option, None, Some, Ok, true, false};
 ghost use Rattle.rice_code.specs.decode.Decoder.{Answers, GivesFromRun, Repeats, RepeatsSamples, with_mark};
 ghost use Rattle.rice_samples.specs.Parameters.{values_at};
+ghost use Rattle.rice_code.specs.decode.BlocksAhead.{GivesBytes};
 ghost use Rattle.rice_code.specs.decode.Fields.{AreCounted};
 ghost use Rattle.rice_code.specs.declared.decode.fault.Step.TheVariants.{Block};
 ghost use Rattle.rice_stream.specs.Calls.{Call, Happens, Fails};
 ghost use Rattle.rice_stream.specs.Decodes.{Decodes, DecodesWithin, Reports, wanted_of, ended_fault, refusal_fault};
 
 use crate::outcome::{Fault, Outcome, Report};
-use crate::write::write_block;
+use crate::write::{write_block, write_front};
 use arrayvec::ArrayVec;
 use rice_bits::{BitReader, Intake, Meter, Outlet};
 use rice_code::{CodeFault, Decoder, Step};
@@ -76,6 +77,7 @@ fn ended<I: Intake>(
 ///
 /// Each block is written before the next is read. With a count of 0 the intake is not called. Returns what was done,
 /// and the intake.
+#[inline(always)]
 pub fn decode<I: Intake, O: Outlet>(
     setting: &Setting,
     asked: Option<u64>,
@@ -93,11 +95,19 @@ pub fn decode<I: Intake, O: Outlet>(
     // With a count of 0 the intake is not called.
     ensures idle { asked ≡ Some 0 → result.1 ≡ intake }
 {
-    // The loop is laid out for decoding to the end.
-    match asked {
-        None => decode_blocks(setting, None, intake, outlet),
-        Some(count) => decode_blocks(setting, Some(count), intake, outlet),
+    // A loop for blocks in lanes is apart, so that the others have nothing of it, and one is laid out for decoding to the end.
+    if has_lanes(setting) {
+        return decode_blocks::<I, O, true>(setting, asked, intake, outlet);
     }
+    match asked {
+        None => decode_blocks::<I, O, false>(setting, None, intake, outlet),
+        Some(count) => decode_blocks::<I, O, false>(setting, Some(count), intake, outlet),
+    }
+}
+
+/// Returns whether blocks are such that the decoder may give their bytes at one stroke.
+fn has_lanes(setting: &Setting) -> bool {
+    setting.bits() <= 8 && setting.preprocess() && setting.block() <= 16
 }
 
 /// Returns whether all of the block that is held is wanted.
@@ -143,6 +153,42 @@ fn next_levels<I: Intake>(
     decoder.next_levels(reader, meter, levels)
 }
 
+/// Gives the bytes of the next block, if `whole` says that all of it is wanted, and it can be decoded at one stroke. Returns whether
+/// it was; otherwise nothing has happened.
+#[inline(always)]
+fn next_bytes<I: Intake>(
+    decoder: &mut Decoder,
+    whole: bool,
+    reader: &mut BitReader<I>,
+    meter: &mut Meter,
+    bytes: &mut [u8; 256],
+) -> bool
+    requires stopped { decoder.old.stopped ≡ None }
+    requires going { reader.old.refusal ≡ None }
+    requires room { meter.old + 2 * (2 ^ 52 - reader.old.taken) + 64 < 2 ^ 62 }
+    ensures some { result ≡ true → (whole ≡ true) × (decoder.old.run ≡ 0) ×
+        GivesBytes reader.old reader.new meter.old meter.new decoder.old decoder.new bytes.new }
+    ensures none { result ≡ false → (decoder.new ≡ decoder.old) × (reader.new ≡ reader.old) ×
+        (meter.new ≡ meter.old) × (bytes.new ≡ bytes.old) }
+    ensures going { reader.new.refusal ≡ None }
+    ensures stopped { decoder.new.stopped ≡ None }
+    ensures setting { decoder.new.setting ≡ decoder.old.setting }
+    ensures steps { AreCounted meter.old meter.new reader.old.taken reader.new.taken }
+{
+    let _taken = reader.taken();
+    if !whole {
+        return false;
+    }
+    decoder.next_bytes(reader, meter, bytes)
+}
+
+/// Returns whether blocks may be in lanes, and all of the next block is wanted, which is not the one that is held.
+fn is_new(lanes: bool, held: bool, count: usize, block: u32) -> bool
+    ensures { result ≡ true → count ≡ block }
+{
+    lanes && !held && count == block as usize
+}
+
 /// Returns whether the next block has just the samples with these levels, of which `count` are written.
 fn stays(decoder: &Decoder, again: bool, levels: &[u32], count: usize) -> bool
     requires again { again ≡ true → Repeats decoder.now (values_at decoder.now.setting levels.now) × (count ≡ length levels.now) }
@@ -154,9 +200,9 @@ fn stays(decoder: &Decoder, again: bool, levels: &[u32], count: usize) -> bool
     decoder.repeats(levels) && count == levels.len()
 }
 
-/// Decodes, whatever is asked for.
+/// Decodes, whatever is asked for. `LANES` says whether the decoder is asked for the bytes of blocks at one stroke.
 #[inline(always)]
-fn decode_blocks<I: Intake, O: Outlet>(
+fn decode_blocks<I: Intake, O: Outlet, const LANES: bool>(
     setting: &Setting,
     asked: Option<u64>,
     intake: I,
@@ -190,6 +236,18 @@ fn decode_blocks<I: Intake, O: Outlet>(
         let count = wanted(asked, written, block);
         if count == 0 {
             return ended(None, written, reader, &meter);
+        }
+        let new = is_new(LANES, held, count, block);
+        if next_bytes(&mut decoder, new, &mut reader, &mut meter, &mut bytes) {
+            match write_front(&bytes[..width * count], outlet) {
+                Ok(()) => {}
+                Err(_) => return ended(Some(Fault::Write), written, reader, &meter),
+            }
+            held = false;
+            let samples = count as u64;
+            written += samples;
+            meter.tick(samples);
+            continue 'decode_all;
         }
         let again = is_whole(held, count, block);
         let step = match next_levels(&mut decoder, again, &mut reader, &mut meter, &mut levels) {

@@ -1,5 +1,5 @@
 //! What joins encoding and decoding, and each with the same piece by piece.
-ghost use Rattle.rice_stream.specs.Laws.{ReturnsBytes, ReturnsBytesAndFill, FeedingIsEncoding, PullsAreDecoding, EnoughIsDecoding};
+ghost use Rattle.rice_stream.specs.Laws.{ReturnsBytes, ReturnsBytesAndFill, FeedingIsEncoding, PullsAreDecoding, EnoughIsDecoding, FrontIsPlace, SeekingIsDecoding, EnoughBehindIsDecoding, StandsTellPlaces, SeamsTellPlaces};
 
 /// With the number of samples, decoding what was encoded gives the bytes back.
 pub fn returns_bytes()
@@ -24,4 +24,18 @@ pub fn pulls_are_decoding()
 /// The first samples that are pulled, to a count, are those of decoding with that count.
 pub fn enough_is_decoding()
     ensures { EnoughIsDecoding }
+{}
+
+/// A code that is pulled piece by piece from where one of its intervals begins, to where it ends or to a count, gives the samples that the
+/// whole code decodes to from there on. The front of a code is such a place.
+pub fn seeking_is_decoding()
+    ensures front { FrontIsPlace }
+    ensures all { SeekingIsDecoding }
+    ensures enough { EnoughBehindIsDecoding }
+{}
+
+/// Where an interval ends, a stand and a seam tell the place at which the next begins.
+pub fn places_are_told()
+    ensures stands { StandsTellPlaces }
+    ensures seams { SeamsTellPlaces }
 {}

@@ -99,7 +99,7 @@ pub fn write_block<O: Outlet>(
 
 /// Writes all of the bytes, which are those of a block.
 #[inline(always)]
-fn write_front<O: Outlet>(bytes: &[u8], outlet: &mut O) -> Result<(), WriteFault>
+pub fn write_front<O: Outlet>(bytes: &[u8], outlet: &mut O) -> Result<(), WriteFault>
     requires { O.failed outlet.old + 1 < 2 ^ 64 }
     ensures ok { OnOk result (Appends (O.taken outlet.old) (O.taken outlet.new) bytes.now ×
         (O.failed outlet.new ≡ O.failed outlet.old)) }

@@ -182,6 +182,32 @@ fn repeated_samples(rt: HostRuntime) -> Result<(), Fail> {
     Ok(())
 }
 
+/// A block of which all bits wait is given as bytes.
+#[test]
+fn bytes_of_a_block(rt: HostRuntime) -> Result<(), Fail> {
+    let mut cases = Cases::new();
+    let code = [
+        0x20, 0x09, 0x24, 0x92, 0x49, 0x24, 0x92, 0x40, 0, 0, 0, 0, 0, 0, 0, 0, 0, 0, 0, 0, 0, 0,
+        0, 0, 0, 0, 0, 0, 0, 0, 0, 0,
+    ];
+    let mut reader = BitReader::new(MemoryIn::new(&code, 4096, None));
+    let mut decoder = Decoder::new(setting_of("")?);
+    let mut meter = Meter::new();
+    let mut levels = ArrayVec::new();
+    let mut bytes = [0; 16];
+    cases.check(!decoder.next_bytes(&mut reader, &mut meter, &mut bytes));
+    let first = decoder.next_levels(&mut reader, &mut meter, &mut levels);
+    cases.check(first == Ok(Step::Block));
+    if first == Ok(Step::Block) {
+        cases.check(decoder.next_bytes(&mut reader, &mut meter, &mut bytes));
+    }
+    cases.check(bytes[..8] == [8, 9, 10, 11, 12, 13, 14, 15]);
+    cases.check(reader.taken() == 58);
+    cases.check(meter.steps() == 58);
+    cases.end(&rt);
+    Ok(())
+}
+
 /// Of the search for the sum of a pair each turn is a step.
 #[test]
 fn steps_of_second_extension(rt: HostRuntime) -> Result<(), Fail> {

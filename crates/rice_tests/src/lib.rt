@@ -14,6 +14,8 @@ mod decoder;
 #[cfg(test)]
 mod failing_devices;
 #[cfg(test)]
+mod pulling;
+#[cfg(test)]
 mod samples;
 #[cfg(test)]
 mod table;

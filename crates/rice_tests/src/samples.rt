@@ -6,7 +6,7 @@ use rice_bits::{BitSink, Meter};
 use rice_samples::{
     Segment, Setting, SettingFault, bytes_of as bytes_of_sample, from_pattern, level_of_pattern,
     levels_of, levels_of_patterns, pattern, pattern_at, residual, restore, restore_all, sample_of,
-    write_spellings, write_spellings_as,
+    spell_patterns, write_spellings, write_spellings_as,
 };
 use std::test::Fail;
 
@@ -558,6 +558,19 @@ fn levels_of_bytes(rt: HostRuntime) -> Result<(), Fail> {
         write_spellings_as(&setting, width, setting.msb(), levels, &mut back[..end]);
         cases.check(&back[..end] == &bytes[..end]);
     }
+    cases.end(&rt);
+    Ok(())
+}
+
+/// Of words of 16 bits the lowest 12 stay, and the others become the sign; a byte at the end stays.
+#[test]
+fn unused_bits(rt: HostRuntime) -> Result<(), Fail> {
+    let mut cases = Cases::new();
+    let mut bytes = [0x23, 0xA1, 0xFF, 0x5F, 0x77];
+    spell_patterns(&setting_of("n12 s")?, &mut bytes);
+    cases.check(bytes == [0x23, 0x01, 0xFF, 0xFF, 0x77]);
+    spell_patterns(&setting_of("n12")?, &mut bytes);
+    cases.check(bytes == [0x23, 0x01, 0xFF, 0x0F, 0x77]);
     cases.end(&rt);
     Ok(())
 }

@@ -2,7 +2,6 @@
 use crate::host::Host;
 use crate::start_up::start;
 use crate::tests::memory::{Memory, Record, Told};
-use std::process::Abort;
 use std::test::Fail;
 
 // Eight samples of 7 bits, all 0, coded without compression.
@@ -33,6 +32,37 @@ fn told_of(rt: HostRuntime, line: &str, input: &[u8]) -> Result<(u8, Told), Fail
     told(rt, words.as_slice(), input, 100)
 }
 
+/// Fails, and tells what it was, unless a start wrote this to standard output and to standard error, and had this status and
+/// made so many files.
+fn expect(
+    answer: (u8, Told),
+    output: &str,
+    errors: &str,
+    wanted: (u8, usize),
+) -> Result<Told, Fail> {
+    let (status, told) = answer;
+    let is_said = told.output.as_str() == output && told.errors.as_str() == errors;
+    if is_said && (status, told.created) == wanted {
+        return Ok(told);
+    }
+    Err(Fail::new(format_args!(
+        "{status}, {} files, output {}, errors {}",
+        told.created, told.output, told.errors
+    )))
+}
+
+/// Fails, and tells what it was, unless a start wrote nothing to standard output, made no file, and had the status 2 and errors
+/// with this text at their front or, if `inside`, anywhere.
+fn expect_usage(answer: (u8, Told), text: &str, inside: bool) -> Result<(), Fail> {
+    let (status, told) = answer;
+    let errors = told.errors.as_str();
+    let is_said = errors.starts_with(text) || (inside && errors.contains(text));
+    if is_said && status == 2 && told.output.as_str().is_empty() && told.created == 0 {
+        return Ok(());
+    }
+    Err(Fail::new(format_args!("{text}: {status}, {errors}")))
+}
+
 /// Returns the two parts of a line, without the blanks around them.
 fn parts_of(line: &str) -> Result<(&str, &str), Fail> {
     match line.split_once('|') {
@@ -56,21 +86,22 @@ const REFUSED: &str = "-n 0 - -     | bits per sample must be 1 to 32
 fn refuses_settings_and_names(rt: HostRuntime) -> Result<(), Fail> {
     for line in REFUSED.lines() {
         let (words, text) = parts_of(line)?;
-        let (status, told) = told_of(rt, words, b"hello")?;
-        let message = told.errors.as_str().strip_prefix("aec: ");
-        assert_eq!(rt; message.and_then(|it| it.strip_suffix("\n")), Some(text));
-        assert_eq!(rt; told.output.as_str(), "");
-        let wanted = if text.starts_with("cannot") { 1 } else { 2 };
-        assert_eq!(rt; (status, told.created), (wanted, 0));
+        let errors = format!(in rt.alloc(); "aec: {text}\n")?;
+        let status = if text.starts_with("cannot") { 1 } else { 2 };
+        expect(
+            told_of(rt, words, b"hello")?,
+            "",
+            errors.as_str(),
+            (status, 0),
+        )?;
     }
     Ok(())
 }
 
 #[test]
 fn refuses_a_name_without_letters(rt: HostRuntime) -> Result<(), Fail> {
-    let (status, told) = told(rt, &["", "out.bin"], b"hello", 100)?;
-    assert_eq!(rt; told.errors.as_str(), "aec: cannot open \n");
-    assert_eq!(rt; (status, told.created), (1, 0));
+    let answer = told(rt, &["", "out.bin"], b"hello", 100)?;
+    expect(answer, "", "aec: cannot open \n", (1, 0))?;
     Ok(())
 }
 
@@ -92,26 +123,16 @@ const UNPARSED: &str = "-t - -      | error: unexpected argument '-t' found
 fn refuses_what_does_not_parse(rt: HostRuntime) -> Result<(), Fail> {
     for line in UNPARSED.lines() {
         let (words, text) = parts_of(line)?;
-        let (status, told) = told_of(rt, words, b"hello")?;
-        assert_eq!(rt; status, 2, "{text}");
-        assert_eq!(rt; told.output.as_str(), "");
-        assert!(rt; told.errors.as_str().starts_with(text), "{}", told.errors);
-        assert_eq!(rt; told.created, 0);
+        expect_usage(told_of(rt, words, b"hello")?, text, false)?;
     }
     Ok(())
 }
 
 #[test]
 fn names_each_argument_that_is_missing(rt: HostRuntime) -> Result<(), Fail> {
-    let (_, both) = told_of(rt, "", b"")?;
-    assert!(rt;
-        both.errors
-            .as_str()
-            .contains("provided:\n  <SOURCE>\n  <DEST>\n")
-    );
-    let (_, one) = told_of(rt, "-", b"")?;
-    assert!(rt; one.errors.as_str().contains("provided:\n  <DEST>\n"));
-    Ok(())
+    let both = "provided:\n  <SOURCE>\n  <DEST>\n";
+    expect_usage(told_of(rt, "", b"")?, both, true)?;
+    expect_usage(told_of(rt, "-", b"")?, "provided:\n  <DEST>\n", true)
 }
 
 const PLACES: &str = "-N -n 7 -d --samples 2 - -
@@ -126,10 +147,7 @@ const PLACES: &str = "-N -n 7 -d --samples 2 - -
 #[test]
 fn finds_options_in_all_places(rt: HostRuntime) -> Result<(), Fail> {
     for line in PLACES.lines() {
-        let (status, told) = told_of(rt, line, CODE)?;
-        assert_eq!(rt; told.errors.as_str(), "", "{line}");
-        assert_eq!(rt; told.output.as_str(), "\0\0", "{line}");
-        assert_eq!(rt; (status, told.created), (0, 0), "{line}");
+        expect(told_of(rt, line, CODE)?, "\0\0", "", (0, 0))?;
     }
     Ok(())
 }
@@ -137,13 +155,10 @@ fn finds_options_in_all_places(rt: HostRuntime) -> Result<(), Fail> {
 /// The words, the input, the room for output, the output, the errors, the status.
 type Case<'a> = (&'a [&'a str], &'a [u8], usize, &'a str, &'a str, u8);
 
-/// Whether each is answered so.
-fn says(rt: HostRuntime, abort: &impl Abort, cases: &[Case<'_>]) -> Result<(), Fail> {
-    for (words, input, room, output, errors, wanted) in cases {
-        let (status, told) = told(rt, words, input, *room)?;
-        assert_eq!(abort; told.output.as_str(), *output);
-        assert_eq!(abort; told.errors.as_str(), *errors);
-        assert_eq!(abort; (status, told.created), (*wanted, 0));
+/// Fails unless each is answered so.
+fn expect_each(rt: HostRuntime, cases: &[Case<'_>]) -> Result<(), Fail> {
+    for (words, input, room, output, errors, status) in cases {
+        expect(told(rt, words, input, *room)?, output, errors, (*status, 0))?;
     }
     Ok(())
 }
@@ -172,7 +187,7 @@ fn writes_what_the_engine_makes(rt: HostRuntime) -> Result<(), Fail> {
         (&["-", "-"], SIXTEEN, 100, "\0T", "", 0),
         (&["-r", "1", "-p", "-", "-"], SIXTEEN, 100, "\0X\0X", "", 0),
     ];
-    says(rt, &rt, &cases)
+    expect_each(rt, &cases)
 }
 
 #[test]
@@ -219,7 +234,7 @@ fn tells_why_the_engine_stopped(rt: HostRuntime) -> Result<(), Fail> {
             1,
         ),
     ];
-    says(rt, &rt, &cases)
+    expect_each(rt, &cases)
 }
 
 #[test]
@@ -232,7 +247,7 @@ fn tells_that_the_flush_failed(rt: HostRuntime) -> Result<(), Fail> {
         "aec: write failed\n",
         1,
     )];
-    says(rt, &rt, &cases)
+    expect_each(rt, &cases)
 }
 
 #[test]
@@ -245,7 +260,7 @@ fn tells_of_the_engine_before_the_flush(rt: HostRuntime) -> Result<(), Fail> {
         "aec: code ends after 8 samples\n",
         1,
     )];
-    says(rt, &rt, &cases)
+    expect_each(rt, &cases)
 }
 
 #[test]
@@ -278,12 +293,12 @@ fn reads_and_writes_files(rt: HostRuntime) -> Result<(), Fail> {
             0,
         ),
     ];
-    for (source, dest, output, file, room, errors, wanted, created) in cases {
-        let (status, told) = told(rt, &["-Ndn7", source, dest], CODE, room)?;
-        assert_eq!(rt; told.output.as_str(), output);
-        assert_eq!(rt; told.file.as_str(), file);
-        assert_eq!(rt; told.errors.as_str(), errors);
-        assert_eq!(rt; (status, told.created), (wanted, created));
+    for (source, dest, output, file, room, errors, status, created) in cases {
+        let answer = told(rt, &["-Ndn7", source, dest], CODE, room)?;
+        let told = expect(answer, output, errors, (status, created))?;
+        if told.file.as_str() != file {
+            return Err(Fail::new(format_args!("the file has {}", told.file)));
+        }
     }
     Ok(())
 }
@@ -297,11 +312,9 @@ fn empties_no_file_that_it_reads(rt: HostRuntime) -> Result<(), Fail> {
         ("/", "/", "aec: read failed\n", 1, 1),
         ("-", "in.bin", "", 0, 1),
     ];
-    for (source, dest, errors, wanted, created) in cases {
-        let (status, told) = told(rt, &[source, dest], SIXTEEN, 100)?;
-        assert_eq!(rt; told.errors.as_str(), errors);
-        assert_eq!(rt; told.output.as_str(), "");
-        assert_eq!(rt; (status, told.created), (wanted, created));
+    for (source, dest, errors, status, created) in cases {
+        let answer = told(rt, &[source, dest], SIXTEEN, 100)?;
+        expect(answer, "", errors, (status, created))?;
     }
     Ok(())
 }
@@ -310,10 +323,7 @@ fn empties_no_file_that_it_reads(rt: HostRuntime) -> Result<(), Fail> {
 fn shows_its_help(rt: HostRuntime) -> Result<(), Fail> {
     let cases: [&[&str]; 3] = [&["-h"], &["--help"], &["-n", "0", "--help", "-", "-"]];
     for words in cases {
-        let (status, told) = told(rt, words, b"", 4000)?;
-        assert_eq!(rt; told.output.as_str(), HELP);
-        assert_eq!(rt; told.errors.as_str(), "");
-        assert_eq!(rt; (status, told.created), (0, 0));
+        expect(told(rt, words, b"", 4000)?, HELP, "", (0, 0))?;
     }
     Ok(())
 }
@@ -322,10 +332,7 @@ fn shows_its_help(rt: HostRuntime) -> Result<(), Fail> {
 fn tells_its_version(rt: HostRuntime) -> Result<(), Fail> {
     let cases: [&[&str]; 3] = [&["-V"], &["--version"], &["-n", "0", "--version", "-", "-"]];
     for words in cases {
-        let (status, told) = told(rt, words, b"", 100)?;
-        assert_eq!(rt; told.output.as_str(), "aec 1.0.0\n");
-        assert_eq!(rt; told.errors.as_str(), "");
-        assert_eq!(rt; (status, told.created), (0, 0));
+        expect(told(rt, words, b"", 100)?, "aec 1.0.0\n", "", (0, 0))?;
     }
     Ok(())
 }

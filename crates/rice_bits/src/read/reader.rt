@@ -2,16 +2,19 @@
 ghost use Rattle.std.specs.Prelude.{◌≡◌, ℕ, ◌+◌, ◌-◌, ◌*◌, ◌%◌, ◌^◌, ◌<◌, ◌≤◌, ◌&&◌, Bool, true, false, List, [], ◌++◌, length, replicate, All, drop, flat_map, take, IfOk, IfErr, OnOk, IfSome, IfNone, IsSome, Option, None};
 ghost use Rattle.std.specs.Io.KnownBytes.{Consumes};
 ghost use Rattle.rice_bits.specs.Bits.{fundamental_sequence, bits_to_byte, word};
+ghost use Rattle.rice_bits.specs.lanes.Sequences.{BeginWithSequences};
 ghost use Rattle.rice_bits.specs.read.Reader.{Supplies, Refuses, is_blank, new_reader};
 ghost use Rattle.rice_bits.specs.read.Parts.{TakesParts};
 ghost use Rattle.rice_bits.specs.read.Window.{IsWindow, buffer_len, most_at_once, most_waiting, window_bits, window_passed, window_taken};
 
 use crate::bits::digits::join;
 use crate::device::Intake;
+use crate::lanes::sequences::Sequences;
 use crate::meter::Meter;
 use crate::read::fault::BitFault;
 use crate::read::window::{AHEAD, PIECE, Window};
 use std::marker::Model;
+use std::simd::prelude::*;
 
 /// The most bytes that a reader takes from its intake.
 const LIMIT: u64 = 1 << 49;
@@ -463,6 +466,65 @@ impl<I: Intake> BitReader<I> {
         let taken = self.window.take_parts(width, numbers);
         meter.tick((before - self.window.len()) as u64);
         taken
+    }
+
+    /// Returns the number of bits that wait: those that can be looked at, and taken without a call of the intake.
+    #[inline]
+    pub fn waiting(&self) -> u64
+        ensures { result ≡ length self.now.waiting }
+    {
+        self.window.len() as u64
+    }
+
+    /// Returns the number that `width` bits spell, most significant first, which wait behind the first `skip`. It takes none.
+    #[inline(always)]
+    pub fn number_ahead(&self, skip: usize, width: u32) -> u32
+        requires width { width ≤ 32 }
+        requires there { skip + width ≤ length self.now.waiting }
+        ensures below { result < 2 ^ width }
+        ensures bits { word width result ≡ take width (drop skip self.now.waiting) }
+    {
+        self.window.number_ahead(skip, width)
+    }
+
+    /// Returns the first `count` fundamental sequences that wait behind the first `skip` bits, if they end within so many bytes.
+    /// It takes none.
+    #[inline(always)]
+    pub fn sequences_ahead(&self, skip: usize, bytes: usize, count: usize) -> Option<Sequences>
+        requires bytes { (1 ≤ bytes) × (bytes ≤ 6) }
+        requires count { (1 ≤ count) × (count ≤ 16) }
+        requires there { skip + 64 ≤ length self.now.waiting }
+        ensures { IfSome result (λ s.
+            BeginWithSequences (drop skip self.now.waiting) count s.numbers s.len) }
+    {
+        self.window.sequences_ahead(skip, bytes, count)
+    }
+
+    /// Returns the sixteen words of `width` bits that wait behind the first `skip` bits. It takes none.
+    #[inline(always)]
+    pub fn words_ahead(&self, skip: usize, width: u32) -> u8x16
+        requires width { width ≤ 8 }
+        requires there { skip + 128 ≤ length self.now.waiting }
+        ensures len { length result ≡ 16 }
+        ensures fit { All (λ v. v < 2 ^ width) result }
+        ensures bits { flat_map (word width) result ≡ take (16 * width) (drop skip self.now.waiting) }
+    {
+        self.window.words_ahead(skip, width)
+    }
+
+    /// Takes the next `count` bits, which wait, and ticks once for each.
+    #[inline(always)]
+    pub fn pass(&mut self, count: usize, meter: &mut Meter)
+        requires going { self.old.refusal ≡ None }
+        requires there { count ≤ length self.old.waiting }
+        requires meter { meter.old + count < 2 ^ 62 }
+        ensures takes { Takes self.old self.new (take count self.old.waiting) }
+        ensures idle { self.new.intake ≡ self.old.intake }
+        ensures limit { self.new.taken ≤ 2 ^ 52 }
+        ensures steps { meter.new ≡ meter.old + count }
+    {
+        meter.tick(count as u64);
+        self.window.pass(count as u64);
     }
 
     /// Takes the 0 to 7 bits up to the next multiple of 8 of [`taken`](Self::taken), whatever they are, and ticks

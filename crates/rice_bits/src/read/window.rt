@@ -1,11 +1,14 @@
 //! The bytes that an intake gave last, and a place among their bits.
 ghost use Rattle.std.specs.Prelude.{◌≡◌, ℕ, ◌+◌, ◌-◌, ◌*◌, ◌/◌, ◌%◌, ◌^◌, ◌<◌, ◌≤◌, ◌&&◌, false, [], ◌++◌, min, true, replicate, flat_map, length, take, drop, All, IfSome, IfNone};
 ghost use Rattle.rice_bits.specs.Bits.{bits_of, fundamental_sequence, word};
+ghost use Rattle.rice_bits.specs.lanes.Sequences.{BeginWithSequences};
 ghost use Rattle.rice_bits.specs.read.Reader.{is_blank};
 ghost use Rattle.rice_bits.specs.read.Window.{AreParted, buffer_len, most_at_once, most_waiting};
 
 use crate::bits::digits::{digits_behind, front_digits};
 use crate::bits::octets::{bits_from, eight_bytes_from, load, store_zeros};
+use crate::lanes::sequences::{Sequences, first_sequences};
+use crate::lanes::words::sixteen_from;
 use crate::read::four_words::four_from;
 use crate::read::ones::{find_ends, write_gaps};
 use crate::read::parts::write_parts;
@@ -204,6 +207,45 @@ impl Window {
         ensures passes { Passes self.old self.new (take count (window_bits self.old)) }
     {
         self.at += count as usize;
+    }
+
+    /// Returns the number that `width` bits behind the first `skip` spell.
+    #[inline(always)]
+    pub fn number_ahead(&self, skip: usize, width: u32) -> u32
+        requires window { IsWindow self.now }
+        requires width { width ≤ 32 }
+        requires there { skip + width ≤ length (window_bits self.now) }
+        ensures below { result < 2 ^ width }
+        ensures bits { word width result ≡ take width (drop skip (window_bits self.now)) }
+    {
+        number_from(&self.buffer, self.at + skip, width) as u32
+    }
+
+    /// Returns the first `count` fundamental sequences behind the first `skip` bits, if they end within so many bytes.
+    #[inline(always)]
+    pub fn sequences_ahead(&self, skip: usize, bytes: usize, count: usize) -> Option<Sequences>
+        requires window { IsWindow self.now }
+        requires bytes { (1 ≤ bytes) × (bytes ≤ 6) }
+        requires count { (1 ≤ count) × (count ≤ 16) }
+        requires there { skip + 64 ≤ length (window_bits self.now) }
+        ensures { IfSome result (λ s.
+            BeginWithSequences (drop skip (window_bits self.now)) count s.numbers s.len) }
+    {
+        first_sequences(bits_from(&self.buffer, self.at + skip), bytes, count)
+    }
+
+    /// Returns the sixteen words of `width` bits behind the first `skip` bits.
+    #[inline(always)]
+    pub fn words_ahead(&self, skip: usize, width: u32) -> u8x16
+        requires window { IsWindow self.now }
+        requires width { width ≤ 8 }
+        requires there { skip + 128 ≤ length (window_bits self.now) }
+        ensures len { length result ≡ 16 }
+        ensures fit { All (λ v. v < 2 ^ width) result }
+        ensures bits { flat_map (word width) result
+            ≡ take (16 * width) (drop skip (window_bits self.now)) }
+    {
+        sixteen_from(&self.buffer, self.at + skip, width)
     }
 
     /// Takes words of `width` bits, one for each place of `words`, and returns their number. It takes none if fewer

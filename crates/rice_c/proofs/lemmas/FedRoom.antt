@@ -1,19 +1,16 @@
 -- How much room a piece that is fed takes.
-use Rattle.std.proofs.Common.{◌≡◌, ℕ, ◌+◌, ◌-◌, ◌*◌, ◌/◌, ◌<◌, ◌≤◌, false, List, [], ◌∷◌, ◌++◌, length, take, replicate, Option, Some, None, Result, Ok, Err, inl, inr, sym, ◌∙◌, ap, subst, arith, append_assoc, append-nil, length-append, length-drop, ℤ}
+use Rattle.std.proofs.Common.{◌≡◌, ℕ, ◌+◌, ◌-◌, ◌*◌, ◌/◌, ◌<◌, ◌≤◌, false, List, [], ◌∷◌, ◌++◌, length, take, replicate, Option, Some, None, Result, Ok, Err, inl, inr, sym, ◌∙◌, ap, subst, arith, append_assoc, append-nil, length-append, ℤ}
 use Rattle.std.specs.Prelude.{All}
-use Rattle.std.proofs.Math.Seq.{take-append-add, take-length}
+use Rattle.std.proofs.Math.Seq.{take-append-add}
 use Rattle.std.proofs.lemmas.Grind.{div_ceil_times}
 use Rattle.std.proofs.lemmas.List.{length-replicate, length-take}
 use Rattle.std.proofs.lemmas.List.Elements.{All-from_recursion, All-take}
-use Rattle.rice_bits.specs.Bits.{bits_in_bytes, bits_to_byte, padded_bits, whole_bytes}
+use Rattle.rice_bits.specs.Bits.{bits_to_byte, padded_bits}
 use Rattle.rice_bits.specs.device.Outlet.{Room, begun}
-use Rattle.rice_bits.proofs.lemmas.bits.Bytes.{bits_of-whole_bytes, length-bits_of}
-use Rattle.rice_bits.proofs.lemmas.bits.Words.{length-word}
 use Rattle.rice_samples.specs.Parameters.{Parameters, IsLegal, IsSample, width}
 use Rattle.rice_samples.specs.Places.{cut}
 use Rattle.rice_code.specs.Bounds.{added_bound}
 use Rattle.rice_code.specs.code.Code.{code, output, early_output}
-use Rattle.rice_code.specs.encode.Coder.{complete_code}
 use Rattle.rice_code.proofs.lemmas.cost.AddedBounds.{added_code_is_bounded}
 use Rattle.rice_code.proofs.lemmas.encode.PushedCode.{between_all}
 use Rattle.rice_stream.specs.EncodingState.{FollowsBetween}
@@ -22,6 +19,7 @@ use Rattle.rice_stream.specs.declared.outcome.Fault.{Fault}
 use Rattle.rice_stream.specs.declared.outcome.Fault.TheVariants.{Read, Write, TooLong, SampleOutOfRange, SampleCut, CodeEnds, RunPastSegment, ResidualTooLarge}
 use Rattle.rice_stream.specs.declared.outcome.Report.{Report}
 use Rattle.rice_stream.specs.declared.seam.Seam.{Seam}
+use Rattle.rice_stream.proofs.lemmas.FedPieces.{waits}
 use Rattle.rice_stream.proofs.lemmas.Seams.{cut_grows}
 use Rattle.rice_c.specs.Feeds.{fault_of}
 use Rattle.rice_c.specs.Laws.{PushRoomSuffices}
@@ -31,16 +29,6 @@ use Rattle.rice_c.proofs.lemmas.Room.{bound_le, few_samples, few_whole, stops_sh
 -- the samples of a feed are legal
 fed_legal : (s : Parameters) (seam : Seam) (xs : List ℤ) → IsSeam s seam xs → All (IsSample s) xs
 fed_legal s seam xs h = subst (All (IsSample s)) (sym h.taken.parts) (All-from_recursion (IsSample s) (h.taken.coded ++ h.taken.held) h.taken.holds.samples)
-
--- its code is what is written, and the bits that wait
-waits : (s : Parameters) (seam : Seam) (xs : List ℤ) → IsSeam s seam xs → length (code s xs) ≡ 8 * length (early_output s xs) + seam.waiting_bits
-waits s seam xs h =
-    let all = between_all s seam.start seam.previous xs h.taken in
-    let same : take (cut s (length xs)) xs ≡ xs = ap (λ n. take n xs) all ∙ take-length xs in
-    let bits = complete_code s xs in
-    let left : seam.waiting_bits ≡ length bits - bits_in_bytes (length bits) = sym (length-word seam.waiting_bits seam.waiting) ∙ ap length h.waiting ∙ length-drop (bits_in_bytes (length bits)) bits in
-    let whole : 8 * length (whole_bytes bits) ≡ 8 * (length bits / 8) = omega (arith, length-bits_of (whole_bytes bits), ap length (bits_of-whole_bytes bits), length-take (bits_in_bytes (length bits)) bits) in
-    omega (arith, left, ap (λ l. length (code s l)) same, whole)
 
 module _ (s : Parameters) (legal : IsLegal s) (seam : Seam) (xs : List ℤ) (h : IsSeam s seam xs) where
   -- the code of other samples adds to it

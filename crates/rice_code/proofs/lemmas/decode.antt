@@ -1,4 +1,5 @@
 -- The decoder.
+pub mod BlocksAhead
 pub mod CutSets
 pub mod DecoderLemmas
 pub mod FieldLemmas

@@ -1,4 +1,5 @@
 -- What bits stand for: one thing, always something, and the samples that were coded.
+pub mod Afresh
 pub mod AllBytes
 pub mod Covers
 pub mod DecodingGoesOn

@@ -1,16 +1,18 @@
 //! Decodes coded data sets, a block a call.
-ghost use Rattle.std.specs.Prelude.{◌≡◌, ◌≢◌, ℕ, ◌+◌, ◌-◌, ◌*◌, ◌/◌, ◌^◌, ◌<◌, ◌≤◌, Bool, true, false, List, All, [], length, replicate, None, Option, Some, IfOk, IfErr, IfSome, IfNone, Ok, ℤ, pos};
+ghost use Rattle.std.specs.Prelude.{◌≡◌, ◌≢◌, ◌⊎◌, ℕ, ◌+◌, ◌-◌, ◌*◌, ◌/◌, ◌^◌, ◌<◌, ◌≤◌, Bool, true, false, List, All, [], length, replicate, None, Option, Some, IfOk, IfErr, IfSome, IfNone, Ok, ℤ, pos};
 ghost use Rattle.rice_samples.specs.Parameters.{IsLegal, value_at, value_count, values_at};
 ghost use Rattle.rice_samples.specs.Places.{blocks_left};
 ghost use Rattle.rice_samples.specs.predict.Residuals.{last_of};
 ghost use Rattle.rice_code.specs.code.Blocks.{BlockData, block_data, zero_block};
 ghost use Rattle.rice_code.specs.code.Forms.{IsReference, RunIsSound, blocks_in, zero_blocks};
+ghost use Rattle.rice_code.specs.decode.BlocksAhead.{GivesBytes, HasLanes};
 ghost use Rattle.rice_code.specs.decode.Fields.{HasRoom, AreCounted};
 ghost use Rattle.rice_code.specs.decode.Decoder.{TakesSet, StopsBy, Skips, answer_to};
 ghost use Rattle.rice_code.specs.decode.DecoderState.{next_block_place};
 ghost use Rattle.rice_code.specs.code.Layout.{padding};
 ghost use Rattle.rice_code.specs.code.CodedDataSets.{run_with_zeros};
 
+use crate::decode::block_lanes::{block_ahead, take_ahead};
 use crate::decode::coded_data_set::read_set;
 use crate::decode::fault::{CodeFault, Step};
 use crate::decode::options::SetHead;
@@ -18,8 +20,9 @@ use crate::decode::restoring::{restore_block, restore_zeros};
 use crate::sizes::known_or;
 use arrayvec::ArrayVec;
 use rice_bits::{BitFault, BitReader, Intake, Meter};
-use rice_samples::Setting;
+use rice_samples::{Setting, spelled_bytes};
 use std::marker::Model;
+use std::simd::prelude::*;
 
 /// Returns the number of blocks of the run whose codeword has `zeros` zeros, or `None` if that run is not sound.
 fn run_blocks(setting: &Setting, block: u64, zeros: u64) -> Option<u32>
@@ -83,6 +86,14 @@ fn skip_padding<I: Intake>(
     if setting.pads() && next == setting.interval() as u64 {
         reader.align(meter);
     }
+}
+
+/// Returns whether samples have at most 8 bits, and are predicted.
+#[inline(always)]
+fn is_narrow(setting: &Setting) -> bool
+    ensures { result ≡ true → (setting.now.bits ≤ 8) × (setting.now.preprocess ≡ true) }
+{
+    setting.bits() <= 8 && setting.preprocess()
 }
 
 /// Returns whether each of the levels is `value`.
@@ -282,6 +293,78 @@ impl Decoder {
         let answer = self.next_levels(reader, meter, &mut levels);
         write_values(&self.setting, levels.as_slice(), samples);
         answer
+    }
+
+    /// Reads the next coded data set and writes the bytes of its block to the front of `bytes`, if the block has 8 or 16 samples
+    /// of at most 8 bits that are near to those before them, is coded by a split, and waits. Returns whether it did; otherwise
+    /// nothing has happened, and [`next_levels`](Self::next_levels) gives the block.
+    #[inline(always)]
+    pub fn next_bytes<I: Intake>(
+        &mut self,
+        reader: &mut BitReader<I>,
+        meter: &mut Meter,
+        bytes: &mut [u8],
+    ) -> bool
+        requires stopped { self.old.stopped ≡ None }
+        requires going { reader.old.refusal ≡ None }
+        requires room { meter.old + 2 * (2 ^ 52 - reader.old.taken) + 64 < 2 ^ 62 }
+        requires bytes { 16 ≤ length bytes.old }
+        ensures some { result ≡ true → (self.old.run ≡ 0) ×
+            GivesBytes reader.old reader.new meter.old meter.new self.old self.new bytes.new }
+        ensures none { result ≡ false → (self.new ≡ self.old) × (reader.new ≡ reader.old) ×
+            (meter.new ≡ meter.old) × (bytes.new ≡ bytes.old) }
+        // It may be called again with this reader.
+        ensures going { reader.new.refusal ≡ None }
+        ensures stopped { self.new.stopped ≡ None }
+        ensures setting { self.new.setting ≡ self.old.setting }
+        // Steps are at least the bits taken, and at most twice as many.
+        ensures steps { AreCounted meter.old meter.new reader.old.taken reader.new.taken }
+    {
+        let _taken = reader.taken();
+        if self.run > 0 || !is_narrow(&self.setting) {
+            return false;
+        }
+        match self.setting.block() {
+            8 => self.read_in_lanes::<I, 8>(reader, meter, bytes),
+            16 => self.read_in_lanes::<I, 16>(reader, meter, bytes),
+            _ => false,
+        }
+    }
+
+    /// As `next_bytes`, outside a run.
+    #[inline(never)]
+    fn read_in_lanes<I: Intake, const SIZE: usize>(
+        &mut self,
+        reader: &mut BitReader<I>,
+        meter: &mut Meter,
+        bytes: &mut [u8],
+    ) -> bool
+        requires size { (SIZE ≡ 8) ⊎ (SIZE ≡ 16) }
+        requires lanes { HasLanes self.old.setting SIZE }
+        requires stopped { self.old.stopped ≡ None }
+        requires run { self.old.run ≡ 0 }
+        requires going { reader.old.refusal ≡ None }
+        requires room { meter.old + 2 * (2 ^ 52 - reader.old.taken) + 64 < 2 ^ 62 }
+        requires bytes { 16 ≤ length bytes.old }
+        ensures some { result ≡ true →
+            GivesBytes reader.old reader.new meter.old meter.new self.old self.new bytes.new }
+        ensures none { result ≡ false → (self.new ≡ self.old) × (reader.new ≡ reader.old) ×
+            (meter.new ≡ meter.old) × (bytes.new ≡ bytes.old) }
+        ensures going { reader.new.refusal ≡ None }
+        ensures stopped { self.new.stopped ≡ None }
+        ensures setting { self.new.setting ≡ self.old.setting }
+        ensures steps { AreCounted meter.old meter.new reader.old.taken reader.new.taken }
+    {
+        let _taken = reader.taken();
+        let found = match block_ahead::<I, SIZE>(&self.setting, self.block, self.before, reader) {
+            Some(found) => found,
+            None => return false,
+        };
+        take_ahead(reader, found.len, meter);
+        spelled_bytes(&self.setting, found.levels).copy_to_slice(bytes);
+        let last = found.levels.to_array()[SIZE - 1] as u32;
+        let _answer = self.go_on(last, 0, reader, meter);
+        true
     }
 
     /// Restores the samples of the next block, as `next_block` does, by their levels: the level of a sample is the number of legal

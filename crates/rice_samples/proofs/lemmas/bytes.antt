@@ -1,5 +1,7 @@
 -- Spelling, and reading samples from bytes.
+pub mod ByteLanes
 pub mod LevelPatterns
 pub mod ReadLevels
 pub mod ReadSamples
+pub mod SpelledPatterns
 pub mod SpellingLemmas

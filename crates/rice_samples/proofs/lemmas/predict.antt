@@ -1,7 +1,10 @@
 -- Residuals and patterns, and back.
 pub mod Folding
 pub mod InverseLemmas
+pub mod LaneNear
+pub mod LaneParts
 pub mod LaneRanks
+pub mod LaneSums
 pub mod NarrowLanes
 pub mod NearLanes
 pub mod Patterns

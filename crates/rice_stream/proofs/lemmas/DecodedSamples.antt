@@ -169,7 +169,7 @@ decoded_with_run_block s front begun b run left all xs behind gives =
         subst (λ (l : List ℤ). Decoded s (front ++ rest) wanted (cut_to s wanted 0 l ++ ys) ending (length front + used)) (sym both) (behind.goes_on wanted zs rest ys ending used (record { begun_wanted = goes; of_run = of_run; next = there }))
 
 -- what the bits end with is all
-at_end : (s : Parameters) (b position : ℕ) (p : ℤ) (rest : List Bool) (wanted : Option ℕ) (ending : Ending) (used : ℕ) → EndsWith s wanted b rest ending used → DecodedFrom s b position p rest wanted [] ending used
+pub at_end : (s : Parameters) (b position : ℕ) (p : ℤ) (rest : List Bool) (wanted : Option ℕ) (ending : Ending) (used : ℕ) → EndsWith s wanted b rest ending used → DecodedFrom s b position p rest wanted [] ending used
 at_end s b position p rest wanted ending used ends =
     let none : b ≡ b + 0 = omega arith in
     record {

@@ -1,19 +1,30 @@
 -- What is fed piece by piece is encoded as a whole.
-use Rattle.std.proofs.Common.{◌≡◌, ℕ, ◌*◌, ◌^◌, ◌<◌, ◌≤◌, List, [], ◌∷◌, ◌++◌, length, drop, take, refl, ap, sym, ◌∙◌, subst, arith, append_assoc, append-nil, length-append, ℤ}
+use Rattle.std.proofs.Common.{◌≡◌, ℕ, ◌+◌, ◌-◌, ◌*◌, ◌/◌, ◌^◌, ◌<◌, ◌≤◌, Bool, false, List, [], ◌∷◌, ◌++◌, length, length-drop, drop, take, replicate, refl, ap, sym, ◌∙◌, subst, arith, append_assoc, append-nil, length-append, Some, ℤ}
 use Rattle.std.specs.Prelude.{All}
 use Rattle.std.proofs.lemmas.Bool.Decides.{nat_tests}
-use Rattle.std.proofs.lemmas.List.{take_at, drop_at}
-use Rattle.std.proofs.lemmas.List.Elements.{All-append, All-head, All-nil, All-tail}
-use Rattle.rice_bits.specs.Bits.{whole_bytes}
+use Rattle.std.specs.List.{AllByRecursion}
+use Rattle.std.proofs.Math.Seq.{take-length}
+use Rattle.std.proofs.lemmas.List.{take_at, drop_at, length-take}
+use Rattle.std.proofs.lemmas.List.Elements.{All-append, All-from_recursion, All-head, All-nil, All-tail}
+use Rattle.rice_bits.specs.Bits.{bits_in_bytes, bits_of, bits_to_byte, whole_bytes}
+use Rattle.rice_bits.proofs.lemmas.bits.Bytes.{bits_of-padded, bits_of-whole_bytes, length-bits_of}
+use Rattle.rice_bits.proofs.lemmas.bits.Words.{length-word}
 use Rattle.rice_samples.specs.Parameters.{Parameters, IsLegal, IsSample, width}
+use Rattle.rice_samples.specs.Places.{cut}
 use Rattle.rice_samples.specs.bytes.Spelling.{spelling, spellings}
 use Rattle.rice_samples.specs.bytes.Values.{IsValue, offset, ordered_bytes}
 use Rattle.rice_samples.specs.predict.Residuals.{twos_complement}
 use Rattle.rice_samples.proofs.lemmas.bytes.SpellingLemmas.{level_spelled, wider_value}
 use Rattle.rice_samples.proofs.lemmas.setting.Levels.{pattern_fits, same_level}
+use Rattle.rice_code.specs.Laws.{AreIntervals}
 use Rattle.rice_code.specs.code.Code.{code, code_bits, early_output, output}
+use Rattle.rice_code.specs.code.Decoded.{Decoded, Reached}
+use Rattle.rice_code.specs.encode.Coder.{complete_code}
+use Rattle.rice_code.specs.encode.OpenSegment.{state_between}
+use Rattle.rice_code.proofs.lemmas.encode.PushedCode.{between_all, complete_are_coded}
+use Rattle.rice_code.proofs.lemmas.meaning.Intervals.{intervals_are_decoded_alone, intervals_are_joined}
 use Rattle.rice_stream.specs.Feeding.{IsSeam}
-use Rattle.rice_stream.specs.Laws.{Piece, AreFed, TakeInParts, last_seam, FeedingIsEncoding}
+use Rattle.rice_stream.specs.Laws.{Piece, AreFed, TakeInParts, last_seam, place_behind, FeedingIsEncoding, IsPlace, SeamsTellPlaces}
 use Rattle.rice_stream.specs.declared.seam.Seam.{Seam}
 use Rattle.rice_stream.proofs.lemmas.EncodingLemmas.{code_nothing, settled_nothing}
 use Rattle.rice_stream.proofs.lemmas.SpellingLengths.{length-spelling, length-spellings, spellings-append}
@@ -91,7 +102,7 @@ feeds_on s input seam (p ∷ ps) h fed =
       taken = (part, on.bytes, refl, goes.writes.took, on.taken);
     }
 
-nothing_early : (s : Parameters) → IsLegal s → early_output s [] ≡ []
+pub nothing_early : (s : Parameters) → IsLegal s → early_output s [] ≡ []
 unfolding whole_bytes
 nothing_early s legal = let some : 1 ≤ s.block = grind (arith, legal.block) in ap whole_bytes (ap (code s) (settled_nothing s) ∙ code_nothing s some)
 
@@ -113,3 +124,54 @@ feeding_is_encoding s legal input seam pieces old new fed encoded encoding begin
       end.2.samples ∙ ap length same ∙ sym encodes.ends.2.reports.samples,
       end.2.bits ∙ ap (code_bits s) same ∙ sym encodes.ends.2.reports.bits,
     )
+
+-- ---- where an interval begins
+
+-- the code of a seam's samples is what is written, and the bits that wait
+pub waits : (s : Parameters) (seam : Seam) (xs : List ℤ) → IsSeam s seam xs → length (code s xs) ≡ 8 * length (early_output s xs) + seam.waiting_bits
+waits s seam xs h =
+    let all = between_all s seam.start seam.previous xs h.taken in
+    let same : take (cut s (length xs)) xs ≡ xs = ap (λ n. take n xs) all ∙ take-length xs in
+    let bits = complete_code s xs in
+    let left : seam.waiting_bits ≡ length bits - bits_in_bytes (length bits) = sym (length-word seam.waiting_bits seam.waiting) ∙ ap length h.waiting ∙ length-drop (bits_in_bytes (length bits)) bits in
+    let whole : 8 * length (whole_bytes bits) ≡ 8 * (length bits / 8) = omega (arith, length-bits_of (whole_bytes bits), ap length (bits_of-whole_bytes bits), length-take (bits_in_bytes (length bits)) bits) in
+    omega (arith, left, ap (λ l. length (code s l)) same, whole)
+
+-- the samples of a seam where an interval begins are those of whole intervals
+whole_intervals : (s : Parameters) (seam : Seam) (xs : List ℤ) → IsSeam s seam xs → seam.start ≡ 0 → (q : ℕ) × AreIntervals s q xs
+whole_intervals s seam xs h at_start =
+    let t = h.taken in
+    let legal = t.holds.legal in
+    let all = between_all s seam.start seam.previous xs t in
+    let coded : xs ≡ t.coded = sym (ap (λ n. take n xs) all ∙ take-length xs) ∙ complete_are_coded (state_between s seam.start seam.previous) xs t in
+    let some : 0 < s.interval = omega (arith, legal.interval_from) in
+    let blocks : t.block ≡ s.interval * (t.block / s.interval) = omega (arith, t.holds.place, at_start) in
+    let samples = subst (λ (l : List ℤ). AllByRecursion (IsSample s) l) (sym t.parts) t.holds.samples in
+    (t.block / s.interval, record { legal = All-from_recursion (IsSample s) xs samples; len = ap length coded ∙ t.holds.whole ∙ ap (λ n. s.block * n) blocks })
+
+-- where it begins in the code of these samples and others
+pub place_of_seam : (s : Parameters) (seam : Seam) (xs ys : List ℤ) (written : ℕ) → IsSeam s seam xs → seam.start ≡ 0 → written ≡ length (early_output s xs) → IsPlace s (output s (xs ++ ys)) (place_behind seam written) xs
+place_of_seam s seam xs ys written h at_start count =
+    let legal = h.taken.holds.legal in
+    let whole = whole_intervals s seam xs h at_start in
+    let place : length (code s xs) ≡ 8 * written + seam.waiting_bits = waits s seam xs h ∙ ap (λ n. 8 * n + seam.waiting_bits) (sym count) in
+    let zeros = replicate (bits_to_byte (length (code s (xs ++ ys)))) false in
+    let bits : bits_of (output s (xs ++ ys)) ≡ code s xs ++ (code s ys ++ zeros) =
+    bits_of-padded (code s (xs ++ ys)) ∙ ap (λ l. l ++ zeros) (intervals_are_joined s legal whole.0 xs ys whole.1) ∙ append_assoc (code s xs) (code s ys) zeros in
+    record {
+      count = h.samples;
+      begins = record {
+        intervals = whole.0;
+        len = whole.1.len;
+        decoded = subst (λ (m : ℕ). Decoded s (bits_of (output s (xs ++ ys))) (Some (length xs)) xs Reached m) place
+            (subst (λ (l : List Bool). Decoded s l (Some (length xs)) xs Reached (length (code s xs))) (sym bits) (intervals_are_decoded_alone s legal whole.0 xs (code s ys ++ zeros) whole.1));
+      };
+    }
+
+pub seams_tell_places : SeamsTellPlaces
+seams_tell_places s input seam pieces begins fed at_start =
+    let start : HasFed s input seam = record { samples = []; rest = input; split = refl; legal = All-nil (IsSample s); stands = begins } in
+    let on = feeds_on s input seam pieces start fed in
+    let h = on.fed in
+    let front : early_output s h.samples ≡ on.bytes = on.grows ∙ ap (λ l. l ++ on.bytes) (nothing_early s begins.taken.holds.legal) in
+    (h.samples, on.bytes, h.rest, h.split, on.taken, λ ys. place_of_seam s (last_seam seam pieces) h.samples ys (length on.bytes) h.stands at_start (ap length (sym front)))

@@ -62,8 +62,8 @@ more_so_far s o front given xs piece old here next out_old out out_new r new at 
 
 -- the call ends
 pub ends_so : {s : Parameters} {o : Beginning} {front : List Bool} {given : List ℤ} {piece : List ℕ} {old : Stand} {out_old out : List ℕ} {here : Stand} {rest : List Bool} {at : ℕ} (pause : Pause) → (so : PulledSoFar s o front given piece old out_old out here rest at)
-    → PausesAt s old piece (length out_old) here rest (length so.samples) pause → DecodesMore s o front given piece old out_old out here pause
-ends_so {s = s} {out_old = out_old} {rest = rest} pause so pauses_at = record {
+    → PausesAt s old piece (length out_old) here rest (length so.samples) pause → (pause ≢ pauses.TooLong → old.bits + 8 * length piece ≤ 2 ^ 52) → DecodesMore s o front given piece old out_old out here pause
+ends_so {s = s} {out_old = out_old} {rest = rest} pause so pauses_at limit = record {
   bits = so.bits;
   rest = rest;
   samples = so.samples;
@@ -71,13 +71,14 @@ ends_so {s = s} {out_old = out_old} {rest = rest} pause so pauses_at = record {
   stands = so.stands;
   writes = so.writes ∙ ap (λ n. spellings s so.samples ++ drop n out_old) so.count;
   pauses_at = pauses_at;
+  limit = limit;
 }
 
 -- the piece is too long
 pub refuses_piece : (s : Parameters) (o : Beginning) (front : List Bool) (given : List ℤ) (piece : List ℕ) (old : Stand) (out : List ℕ) → IsStand s o old front given → 2 ^ 52 < old.bits + 8 * length piece → DecodesMore s o front given piece old out out old pauses.TooLong
 unfolding none_so_far
 refuses_piece s o front given piece old out h passes =
-    ends_so pauses.TooLong (none_so_far s o front given piece old out (bits_ahead old piece) h refl) (record { passes = passes; stays = refl; none = refl })
+    ends_so pauses.TooLong (none_so_far s o front given piece old out (bits_ahead old piece) h refl) (record { passes = passes; stays = refl; none = refl }) (λ no. absurd (no refl))
 
 -- nothing is left of no bytes
 pub nothing_ahead : (s : Parameters) (old : Stand) (b : ℕ) (piece : List ℕ) (bits rest : List Bool) → length piece ≡ 0 → bits_ahead old piece ≡ bits ++ rest → EndsWith s None b rest Ended (length rest)
@@ -89,12 +90,12 @@ nothing_ahead s old b piece bits rest none parts = empty rest (omega (arith, ap 
 
 -- the decoder refuses
 pub refused_so : {I : Type 0} {s : Parameters} {o : Beginning} {front : List Bool} {given : List ℤ} {piece : List ℕ} {old : Stand} {out_old out : List ℕ} {here : Stand} {at : ℕ} (xs : List ℤ) (r new : Reader I) (fault : CodeFault) → (so : PulledSoFar s o front given piece old out_old out here (ahead r) at)
-    → HasRoom s (length so.samples) (length out_old) → TakesNext s o (front ++ so.bits) (given ++ so.samples) here r new xs (Err fault) → (fault ≡ faults.Read → ⊥) → DecodesMore s o front given piece old out_old out here (pause_for fault)
-refused_so xs r new faults.CodeEnds so room t read = ends_so pauses.Cut so (room, t.0, t.1)
-refused_so xs r new faults.RunPastSegment so room t read = ends_so pauses.RunPastSegment so (room, t.0, t.1, t.2)
-refused_so xs r new faults.ResidualTooLarge so room t read = ends_so pauses.ResidualTooLarge so (room, t.0, t.1, t.2)
-refused_so xs r new faults.Read so room t read = absurd (read refl)
-refused_so xs r new faults.TooLong so room t read = absurd t
+    → HasRoom s (length so.samples) (length out_old) → TakesNext s o (front ++ so.bits) (given ++ so.samples) here r new xs (Err fault) → (fault ≡ faults.Read → ⊥) → old.bits + 8 * length piece ≤ 2 ^ 52 → DecodesMore s o front given piece old out_old out here (pause_for fault)
+refused_so xs r new faults.CodeEnds so room t read limit = ends_so pauses.Cut so (room, t.0, t.1) (λ no. limit)
+refused_so xs r new faults.RunPastSegment so room t read limit = ends_so pauses.RunPastSegment so (room, t.0, t.1, t.2) (λ no. limit)
+refused_so xs r new faults.ResidualTooLarge so room t read limit = ends_so pauses.ResidualTooLarge so (room, t.0, t.1, t.2) (λ no. limit)
+refused_so xs r new faults.Read so room t read limit = absurd (read refl)
+refused_so xs r new faults.TooLong so room t read limit = absurd t
 
 -- there is room for another block
 pub has_room : (s : Parameters) (at len len_old k : ℕ) {w j : ℕ} → w ≡ width s → j ≡ s.block → w * j ≤ len - at → at ≤ len → at ≡ width s * k → len ≡ len_old → HasRoom s k len_old

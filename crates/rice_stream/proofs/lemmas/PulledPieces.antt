@@ -1,29 +1,34 @@
 -- Pieces that are pulled give what the code decodes to.
-use Rattle.std.proofs.Common.{◌≡◌, ℕ, zero, suc, ◌+◌, ◌-◌, ◌*◌, ◌/◌, ◌%◌, ◌<◌, ◌≤◌, Bool, List, [], ◌∷◌, ◌++◌, length, length-drop, take, drop, refl, ap, arith, sym, ◌∙◌, subst, append_assoc, append-nil, length-append, Some, None, ℤ}
+use Rattle.std.proofs.Common.{◌≡◌, ◌≢◌, ℕ, zero, suc, ◌+◌, ◌-◌, ◌*◌, ◌/◌, ◌%◌, ◌^◌, ◌<◌, ◌≤◌, Bool, List, [], ◌∷◌, ◌++◌, length, length-drop, take, drop, refl, ap, arith, sym, ◌∙◌, subst, append_assoc, append-nil, length-append, Some, None, ℤ, pos}
 use Rattle.std.proofs.Math.Nat.{mul-le-mul_left}
+use Rattle.std.proofs.Math.Seq.{drop-nil, take-length}
+use Rattle.std.proofs.lemmas.List.{drop-drop}
 use Rattle.rice_bits.specs.Bits.{bits_of}
 use Rattle.rice_bits.proofs.lemmas.bits.Bytes.{bits_of-append, bits_of-nil, length-bits_of}
 use Rattle.rice_samples.specs.Parameters.{Parameters, width}
+use Rattle.rice_samples.specs.Places.{place}
 use Rattle.rice_samples.specs.bytes.Spelling.{spellings}
-use Rattle.rice_code.specs.code.CodedDataSets.{CodedDataSet}
+use Rattle.rice_code.specs.code.CodedDataSets.{CodedDataSet, bits_of_set}
 use Rattle.rice_code.specs.code.Decoded.{BeginsUnsound, Decoded, Ending, Reached, Ended, CutOff, EndsWith, IsWanted}
+use Rattle.rice_code.proofs.lemmas.meaning.Afresh.{decoding_begins_afresh}
 use Rattle.rice_code.proofs.lemmas.meaning.DecodingPlaces.{end_there}
 use Rattle.rice_stream.specs.DecodingState.{DecodedSoFar}
-use Rattle.rice_stream.specs.Laws.{ArePulled, EndsCode, EnoughIsDecoding, GiveInParts, IsPulled, Pull, PullsAreDecoding, last_stand}
-use Rattle.rice_stream.specs.Pulling.{IsStand, PausesAt, at_front, bits_ahead}
+use Rattle.rice_stream.specs.Laws.{ArePulled, EndsCode, EnoughBehindIsDecoding, EnoughIsDecoding, FrontIsPlace, GiveInParts, IsPlace, IsPulled, Pull, PullsAreDecoding, SeekingIsDecoding, StandsTellPlaces, last_stand}
+use Rattle.rice_stream.specs.Pulling.{Beginning, IsStand, PausesAt, at_front, bits_ahead}
 use Rattle.rice_stream.specs.declared.stand.Pause.{Pause}
 use Rattle.rice_stream.specs.declared.stand.Pause.TheVariants as pauses
 use Rattle.rice_stream.specs.declared.stand.Stand.{Stand}
-use Rattle.rice_stream.proofs.lemmas.DecodedSamples.{ends_here, ends_reached}
+use Rattle.rice_stream.proofs.lemmas.DecodedSamples.{at_end, ends_here, ends_reached}
 use Rattle.rice_stream.proofs.lemmas.DecodingLemmas.{same_place}
 
--- The first bits of a code were pulled, and a stand is behind them.
-record HasPulled (s : Parameters) (code : List ℕ) (stand : Stand) : Type 0 where
+-- Bits of a code were pulled from where decoding began, and a stand is behind them.
+record HasPulled (s : Parameters) (code : List ℕ) (o : Beginning) (stand : Stand) : Type 0 where
   pub front : List Bool
   pub given : List ℤ
   pub rest : List Bool
-  pub split : bits_of code ≡ front ++ rest
-  pub stands : IsStand s at_front stand front given
+  pub inside : o.bits ≤ length (bits_of code)
+  pub split : drop o.bits (bits_of code) ≡ front ++ rest
+  pub stands : IsStand s o stand front given
 
 -- what is left of two lists behind some bits
 drop_both : (k : ℕ) (xs ys : List Bool) → drop k (xs ++ ys) ≡ drop k xs ++ drop (k - length xs) ys
@@ -56,76 +61,89 @@ drop_bits (suc n) k (x ∷ xs) le =
 others : (stand : Stand) (piece behind : List ℕ) → List Bool
 others stand piece behind = drop (stand.bits % 8 - length (bits_of piece)) (bits_of behind)
 
-behind_stand : (s : Parameters) (code : List ℕ) (stand : Stand) (piece behind : List ℕ) → (h : HasPulled s code stand) → drop (stand.bits / 8) code ≡ piece ++ behind → h.rest ≡ bits_ahead stand piece ++ others stand piece behind
+behind_stand : (s : Parameters) (code : List ℕ) (o : Beginning) (stand : Stand) (piece behind : List ℕ) → (h : HasPulled s code o stand) → drop (stand.bits / 8) code ≡ piece ++ behind → h.rest ≡ bits_ahead stand piece ++ others stand piece behind
 unfolding others
-behind_stand s code stand piece behind h e =
+behind_stand s code o stand piece behind h e =
     let n = stand.bits / 8 in
     let k = stand.bits % 8 in
-    let here : length h.front ≡ 8 * n + k = omega (arith, h.stands.bits) in
-    let most : n ≤ length code = omega (arith, here, ap length h.split, length-append h.front h.rest, length-bits_of code) in
-    sym (drop_front h.front h.rest) ∙ ap (drop (length h.front)) (sym h.split) ∙ ap (λ m. drop m (bits_of code)) here ∙ drop_bits n k code most ∙ ap (λ l. drop k (bits_of l)) e
+    let here : o.bits + length h.front ≡ 8 * n + k = omega (arith, h.stands.bits) in
+    let most : n ≤ length code = omega (arith, here, h.inside, length-drop o.bits (bits_of code), ap length h.split, length-append h.front h.rest, length-bits_of code) in
+    sym (drop_front h.front h.rest) ∙ ap (drop (length h.front)) (sym h.split) ∙ drop-drop (length h.front) o.bits (bits_of code) ∙ ap (λ m. drop m (bits_of code)) here ∙ drop_bits n k code most ∙ ap (λ l. drop k (bits_of l)) e
     ∙ ap (drop k) (bits_of-append piece behind) ∙ drop_both k (bits_of piece) (bits_of behind)
 
 -- a piece more was pulled
-record PullsOn (s : Parameters) (code : List ℕ) (stand : Stand) (p : Pull) (given : List ℤ) (behind : List ℕ) : Type 0 where
-  pub next : HasPulled s code p.stand
+record PullsOn (s : Parameters) (code : List ℕ) (o : Beginning) (stand : Stand) (p : Pull) (given : List ℤ) (behind : List ℕ) : Type 0 where
+  pub next : HasPulled s code o p.stand
   pub part : List ℤ
   pub more : next.given ≡ given ++ part
+  pub count : p.stand.samples ≡ stand.samples + length part
   pub writes : p.new ≡ spellings s part ++ drop (width s * length part) p.old
   pub left : List Bool
   pub rest_is : next.rest ≡ left ++ others stand p.piece behind
   pub pauses_at : PausesAt s stand p.piece (length p.old) p.stand left (length part) p.pause
+  pub limit : p.pause ≢ pauses.TooLong → p.stand.bits + length left ≤ 2 ^ 52
 
-pulls_on : (s : Parameters) (code : List ℕ) (stand : Stand) (p : Pull) (behind : List ℕ) → (h : HasPulled s code stand) → IsPulled s code stand p behind → PullsOn s code stand p h.given behind
-pulls_on s code stand p behind h pulled =
-    let d = pulled.1 at_front h.front h.given h.stands in
+pulls_on : (s : Parameters) (code : List ℕ) (o : Beginning) (stand : Stand) (p : Pull) (behind : List ℕ) → (h : HasPulled s code o stand) → IsPulled s code stand p behind → PullsOn s code o stand p h.given behind
+pulls_on s code o stand p behind h pulled =
+    let d = pulled.1 o h.front h.given h.stands in
     let far = others stand p.piece behind in
     record {
       next = record {
         front = h.front ++ d.bits;
         given = h.given ++ d.samples;
         rest = d.rest ++ far;
-        split = h.split ∙ ap (λ l. h.front ++ l) (behind_stand s code stand p.piece behind h pulled.0 ∙ ap (λ l. l ++ far) d.parts ∙ append_assoc d.bits d.rest far) ∙ sym (append_assoc h.front d.bits (d.rest ++ far));
+        inside = h.inside;
+        split = h.split ∙ ap (λ l. h.front ++ l) (behind_stand s code o stand p.piece behind h pulled.0 ∙ ap (λ l. l ++ far) d.parts ∙ append_assoc d.bits d.rest far) ∙ sym (append_assoc h.front d.bits (d.rest ++ far));
         stands = d.stands;
       };
       part = d.samples;
       more = refl;
+      count = omega (arith, h.stands.samples, d.stands.samples, length-append h.given d.samples);
       writes = d.writes;
       left = d.rest;
       rest_is = refl;
       pauses_at = d.pauses_at;
+      limit = λ no.
+          let most = d.limit no in
+          let ahead : length (bits_of p.piece) - stand.bits % 8 ≡ length d.bits + length d.rest = sym (length-drop (stand.bits % 8) (bits_of p.piece)) ∙ ap length d.parts ∙ length-append d.bits d.rest in
+          within stand.bits (length p.piece) (stand.bits % 8) (length d.bits) (length d.rest) p.stand.bits most (sym (length-bits_of p.piece)) ahead (omega (arith, h.stands.bits, d.stands.bits, length-append h.front d.bits)) d.stands.limit;
     }
+  where
+    within : (old n k bits rest new : ℕ) {m : ℕ} → old + 8 * n ≤ 2 ^ 52 → 8 * n ≡ m → m - k ≡ bits + rest → new ≡ old + bits → new ≤ 2 ^ 52 → new + rest ≤ 2 ^ 52
+    within old n k bits rest new most e f g few = omega arith
 
 -- pieces were pulled after these samples
-record PullAll (s : Parameters) (code : List ℕ) (stand : Stand) (pulls : List Pull) (given : List ℤ) : Type 0 where
-  pub next : HasPulled s code (last_stand stand pulls)
+record PullAll (s : Parameters) (code : List ℕ) (o : Beginning) (stand : Stand) (pulls : List Pull) (given : List ℤ) : Type 0 where
+  pub next : HasPulled s code o (last_stand stand pulls)
   pub more : List ℤ
   pub all : next.given ≡ given ++ more
-  pub parts : GiveInParts s pulls more
+  pub parts : GiveInParts s stand pulls more
 
-pull_all : (s : Parameters) (code : List ℕ) (stand : Stand) (pulls : List Pull) → (h : HasPulled s code stand) → ArePulled s code stand pulls → PullAll s code stand pulls h.given
-pull_all s code stand [] h pulled = record { next = h; more = []; all = sym (append-nil h.given); parts = refl }
-pull_all s code stand (p ∷ ps) h pulled =
-    let on = pulls_on s code stand p pulled.0.0 h pulled.0.1 in
-    let rest = pull_all s code p.stand ps on.next pulled.1 in
+pull_all : (s : Parameters) (code : List ℕ) (o : Beginning) (stand : Stand) (pulls : List Pull) → (h : HasPulled s code o stand) → ArePulled s code stand pulls → PullAll s code o stand pulls h.given
+pull_all s code o stand [] h pulled = record { next = h; more = []; all = sym (append-nil h.given); parts = refl }
+pull_all s code o stand (p ∷ ps) h pulled =
+    let on = pulls_on s code o stand p pulled.0.0 h pulled.0.1 in
+    let rest = pull_all s code o p.stand ps on.next pulled.1 in
     record {
       next = rest.next;
       more = on.part ++ rest.more;
       all = rest.all ∙ ap (λ l. l ++ rest.more) on.more ∙ append_assoc h.given on.part rest.more;
-      parts = (on.part, rest.more, refl, on.writes, rest.parts);
+      parts = (on.part, rest.more, refl, on.count, on.writes, rest.parts);
     }
 
 -- and one more
-parts-push : (s : Parameters) (pulls : List Pull) (last : Pull) (more part : List ℤ) → GiveInParts s pulls more → last.new ≡ spellings s part ++ drop (width s * length part) last.old → GiveInParts s (pulls ++ last ∷ []) (more ++ part)
-parts-push s [] last more part parts writes = (part, [], ap (λ l. l ++ part) parts ∙ sym (append-nil part), writes, refl)
-parts-push s (p ∷ ps) last more part parts writes =
-    (parts.0, parts.1 ++ part, ap (λ l. l ++ part) parts.2 ∙ append_assoc parts.0 parts.1 part, parts.3, parts-push s ps last parts.1 part parts.4 writes)
+parts-push : (s : Parameters) (first : Stand) (pulls : List Pull) (last : Pull) (more part : List ℤ) → GiveInParts s first pulls more → last.stand.samples ≡ (last_stand first pulls).samples + length part
+    → last.new ≡ spellings s part ++ drop (width s * length part) last.old → GiveInParts s first (pulls ++ last ∷ []) (more ++ part)
+parts-push s first [] last more part parts count writes = (part, [], ap (λ l. l ++ part) parts ∙ sym (append-nil part), count, writes, refl)
+parts-push s first (p ∷ ps) last more part parts count writes =
+    (parts.0, parts.1 ++ part, ap (λ l. l ++ part) parts.2 ∙ append_assoc parts.0 parts.1 part, parts.3, parts.4, parts-push s p.stand ps last parts.1 part parts.5 count writes)
 
--- how the bits behind the stand end
-record Finishes (s : Parameters) (stand : Stand) (rest : List Bool) (ending : Ending) : Type 0 where
+-- how the bits behind the stand end, of which so many are its piece's
+record Finishes (s : Parameters) (stand : Stand) (rest : List Bool) (ahead : ℕ) (ending : Ending) : Type 0 where
   pub none : stand.run ≡ 0
   pub used : ℕ
   pub ends : EndsWith s None stand.block rest ending used
+  pub few : used ≤ ahead
 
 unsound_on : (s : Parameters) (b used : ℕ) (left far : List Bool) (P : CodedDataSet → Type 0) → BeginsUnsound s b left used P → BeginsUnsound s b (left ++ far) used P
 unsound_on s b used left far P u = record {
@@ -137,68 +155,230 @@ unsound_on s b used left far P u = record {
   bits = u.bits;
 }
 
+unsound_in : (s : Parameters) (b used : ℕ) (left : List Bool) (P : CodedDataSet → Type 0) → BeginsUnsound s b left used P → used ≤ length left
+unsound_in s b used left P u = omega (arith, u.bits, ap length u.begins, length-append (bits_of_set s u.refused) u.more)
+
 nothing_far : (stand : Stand) (piece behind : List ℕ) → behind ≡ [] → others stand piece behind ≡ []
 unfolding others
-nothing_far stand piece behind e = let k = stand.bits % 8 - length (bits_of piece) in ap (λ l. drop k (bits_of l)) e ∙ ap (drop k) bits_of-nil ∙ nothing k
-  where
-    nothing : (k : ℕ) → drop {A = Bool} k [] ≡ []
-    nothing zero = refl
-    nothing (suc k) = refl
+nothing_far stand piece behind e = let k = stand.bits % 8 - length (bits_of piece) in ap (λ l. drop k (bits_of l)) e ∙ ap (drop k) bits_of-nil ∙ drop-nil k
 
-finishes : (s : Parameters) (old stand : Stand) (piece behind : List ℕ) (room count : ℕ) (left : List Bool) (pause : Pause) (ending : Ending) → PausesAt s old piece room stand left count pause → EndsCode pause behind ending → Finishes s stand (left ++ others old piece behind) ending
+finishes : (s : Parameters) (old stand : Stand) (piece behind : List ℕ) (room count : ℕ) (left : List Bool) (pause : Pause) (ending : Ending) → PausesAt s old piece room stand left count pause → EndsCode pause behind ending → Finishes s stand (left ++ others old piece behind) (length left) ending
 finishes s old stand piece behind room count left pauses.Full ending at e = absurd e
 finishes s old stand piece behind room count left pauses.TooLong ending at e = absurd e
 finishes s old stand piece behind room count left pauses.Blank ending at e =
     let whole : left ≡ left ++ others old piece behind = sym (append-nil left) ∙ ap (λ l. left ++ l) (sym (nothing_far old piece behind e.0)) in
-    record { none = at.1; used = length left; ends = subst (λ (v : Ending). EndsWith s None stand.block (left ++ others old piece behind) v (length left)) (sym e.1) (subst (λ (l : List Bool). EndsWith s None stand.block l Ended (length left)) whole at.2) }
+    record { none = at.1; used = length left; few = omega arith; ends = subst (λ (v : Ending). EndsWith s None stand.block (left ++ others old piece behind) v (length left)) (sym e.1) (subst (λ (l : List Bool). EndsWith s None stand.block l Ended (length left)) whole at.2) }
 finishes s old stand piece behind room count left pauses.Cut ending at e =
     let whole : left ≡ left ++ others old piece behind = sym (append-nil left) ∙ ap (λ l. left ++ l) (sym (nothing_far old piece behind e.0)) in
-    record { none = at.1; used = length left; ends = subst (λ (v : Ending). EndsWith s None stand.block (left ++ others old piece behind) v (length left)) (sym e.1) (subst (λ (l : List Bool). EndsWith s None stand.block l CutOff (length left)) whole at.2) }
+    record { none = at.1; used = length left; few = omega arith; ends = subst (λ (v : Ending). EndsWith s None stand.block (left ++ others old piece behind) v (length left)) (sym e.1) (subst (λ (l : List Bool). EndsWith s None stand.block l CutOff (length left)) whole at.2) }
 finishes s old stand piece behind room count left pauses.RunPastSegment ending at e =
-    record { none = at.1; used = at.2; ends = subst (λ (v : Ending). EndsWith s None stand.block (left ++ others old piece behind) v at.2) (sym e) (tt, unsound_on s stand.block at.2 left (others old piece behind) _ at.3.1) }
+    record { none = at.1; used = at.2; few = unsound_in s stand.block at.2 left _ at.3.1; ends = subst (λ (v : Ending). EndsWith s None stand.block (left ++ others old piece behind) v at.2) (sym e) (tt, unsound_on s stand.block at.2 left (others old piece behind) _ at.3.1) }
 finishes s old stand piece behind room count left pauses.ResidualTooLarge ending at e =
-    record { none = at.1; used = at.2; ends = subst (λ (v : Ending). EndsWith s None stand.block (left ++ others old piece behind) v at.2) (sym e) (tt, unsound_on s stand.block at.2 left (others old piece behind) _ at.3.1) }
+    record { none = at.1; used = at.2; few = unsound_in s stand.block at.2 left _ at.3.1; ends = subst (λ (v : Ending). EndsWith s None stand.block (left ++ others old piece behind) v at.2) (sym e) (tt, unsound_on s stand.block at.2 left (others old piece behind) _ at.3.1) }
+
+not_long : (pause : Pause) (behind : List ℕ) (ending : Ending) → EndsCode pause behind ending → pause ≢ pauses.TooLong
+not_long pauses.Full behind ending e = absurd e
+not_long pauses.TooLong behind ending e = absurd e
+not_long pauses.Blank behind ending e = λ same. absurd cc
+not_long pauses.Cut behind ending e = λ same. absurd cc
+not_long pauses.RunPastSegment behind ending e = λ same. absurd cc
+not_long pauses.ResidualTooLarge behind ending e = λ same. absurd cc
 
 -- nothing is pulled yet
-at_first : (s : Parameters) (code : List ℕ) (first : Stand) → IsStand s at_front first [] [] → HasPulled s code first
-at_first s code first h = record { front = []; given = []; rest = bits_of code; split = refl; stands = h }
+at_first : (s : Parameters) (code : List ℕ) (o : Beginning) (first : Stand) → o.bits ≤ length (bits_of code) → IsStand s o first [] [] → HasPulled s code o first
+at_first s code o first le h = record { front = []; given = []; rest = drop o.bits (bits_of code); inside = le; split = refl; stands = h }
 
--- what ends there is what the whole code decodes to
-decoded_all : (s : Parameters) (code : List ℕ) (stand : Stand) (rest : List Bool) (ending : Ending) → (h : HasPulled s code stand) → h.rest ≡ rest → (f : Finishes s stand rest ending) → Decoded s (bits_of code) None h.given ending (length h.front + f.used)
-decoded_all s code stand rest ending h e f =
+-- what ends there is what the code decodes to
+decoded_all : (s : Parameters) (code : List ℕ) (o : Beginning) (stand : Stand) (rest : List Bool) (ahead : ℕ) (ending : Ending) → (h : HasPulled s code o stand) → h.rest ≡ rest → (f : Finishes s stand rest ahead ending)
+    → Decoded s (drop o.bits (bits_of code)) None h.given ending (length h.front + f.used)
+decoded_all s code o stand rest ahead ending h e f =
     let st = h.stands in
     let ends = end_there s stand.block st.blocks rest ending f.used (same_place s st.blocks stand.block st.state.legal.interval_from st.here) f.ends in
     subst (λ (l : List Bool). Decoded s l None h.given ending (length h.front + f.used)) (ap (λ l. h.front ++ l) (sym e) ∙ sym h.split)
     (ends_here s h.front rest st.begun st.blocks h.given None ending f.used (subst (λ (n : ℕ). DecodedSoFar s h.front st.begun st.blocks n h.given) f.none st.decoded) (λ i lt. tt) ends)
 
-pub pulls_are_decoding : PullsAreDecoding
-unfolding at_first
-pulls_are_decoding s code first pulls last behind ending begins pulled last_pulled ends =
-    let all = pull_all s code first pulls (at_first s code first begins) pulled in
-    let on = pulls_on s code (last_stand first pulls) last behind all.next last_pulled in
-    let f = finishes s (last_stand first pulls) last.stand last.piece behind (length last.old) (length on.part) on.left last.pause ending on.pauses_at ends in
-    let xs = all.more ++ on.part in
-    let same : on.next.given ≡ xs = on.more ∙ ap (λ l. l ++ on.part) all.all in
-    (xs, length on.next.front + f.used, parts-push s pulls last all.more on.part all.parts on.writes, subst (λ (l : List ℤ). Decoded s (bits_of code) None l ending (length on.next.front + f.used)) same (decoded_all s code last.stand (on.left ++ others (last_stand first pulls) last.piece behind) ending on.next on.rest_is f))
+-- Pieces were pulled from where decoding began to where the code ends.
+record PulledAll (s : Parameters) (code : List ℕ) (o : Beginning) (first : Stand) (pulls : List Pull) (last : Stand) (ending : Ending) : Type 0 where
+  pub samples : List ℤ
+  pub used : ℕ
+  pub parts : GiveInParts s first pulls samples
+  pub decoded : Decoded s (drop o.bits (bits_of code)) None samples ending used
+  pub limit : o.bits + used ≤ 2 ^ 52
+  pub count : last.samples ≡ o.samples + length samples
 
-pub enough_is_decoding : EnoughIsDecoding
+pulled_all : (s : Parameters) (code : List ℕ) (o : Beginning) (first : Stand) (pulls : List Pull) (last : Pull) (behind : List ℕ) (ending : Ending) → o.bits ≤ length (bits_of code) → IsStand s o first [] [] → ArePulled s code first pulls
+    → IsPulled s code (last_stand first pulls) last behind → EndsCode last.pause behind ending → PulledAll s code o first (pulls ++ last ∷ []) last.stand ending
 unfolding at_first
-enough_is_decoding s code first pulls n begins pulled enough few =
-    let all = pull_all s code first pulls (at_first s code first begins) pulled in
+pulled_all s code o first pulls last behind ending inside begins pulled last_pulled ends =
+    let all = pull_all s code o first pulls (at_first s code o first inside begins) pulled in
+    let on = pulls_on s code o (last_stand first pulls) last behind all.next last_pulled in
+    let f = finishes s (last_stand first pulls) last.stand last.piece behind (length last.old) (length on.part) on.left last.pause ending on.pauses_at ends in
+    let same : on.next.given ≡ all.more ++ on.part = on.more ∙ ap (λ l. l ++ on.part) all.all in
+    record {
+      samples = all.more ++ on.part;
+      used = length on.next.front + f.used;
+      parts = parts-push s first pulls last all.more on.part all.parts on.count on.writes;
+      decoded = subst (λ (l : List ℤ). Decoded s (drop o.bits (bits_of code)) None l ending (length on.next.front + f.used)) same
+          (decoded_all s code o last.stand (on.left ++ others (last_stand first pulls) last.piece behind) (length on.left) ending on.next on.rest_is f);
+      limit = omega (arith, on.limit (not_long last.pause behind ending ends), on.next.stands.bits, f.few);
+      count = on.next.stands.samples ∙ ap (λ l. o.samples + length l) same;
+    }
+
+-- Pieces were pulled until there were n samples, and no block more.
+record PulledEnough (s : Parameters) (code : List ℕ) (o : Beginning) (first : Stand) (pulls : List Pull) (n : ℕ) (last : Stand) : Type 0 where
+  pub samples : List ℤ
+  pub used : ℕ
+  pub parts : GiveInParts s first pulls samples
+  pub decoded : Decoded s (drop o.bits (bits_of code)) (Some n) (take n samples) Reached used
+  pub bits : o.bits + used ≡ last.bits
+  pub limit : last.bits ≤ 2 ^ 52
+  pub count : last.samples ≡ o.samples + length samples
+  pub blocks : ℕ
+  pub size : length samples ≡ s.block * blocks
+  pub here : place s blocks ≡ last.block
+
+pulled_enough : (s : Parameters) (code : List ℕ) (o : Beginning) (first : Stand) (pulls : List Pull) (n : ℕ) → o.bits ≤ length (bits_of code) → IsStand s o first [] [] → ArePulled s code first pulls
+    → o.samples + n ≤ (last_stand first pulls).samples → (last_stand first pulls).samples < o.samples + n + s.block → PulledEnough s code o first pulls n (last_stand first pulls)
+unfolding at_first
+pulled_enough s code o first pulls n inside begins pulled enough few =
+    let all = pull_all s code o first pulls (at_first s code o first inside begins) pulled in
     let h = all.next in
     let st = h.stands in
     let count : length h.given ≡ s.block * st.blocks = st.decoded.len in
-    let here : (last_stand first pulls).samples ≡ length h.given = omega (arith, st.samples) in
+    let here : (last_stand first pulls).samples ≡ o.samples + length h.given = omega (arith, st.samples) in
     let wanted : (i : ℕ) → i < st.begun → IsWanted s (Some n) i = λ i lt. below s.block i st.blocks n (omega (arith, lt, st.before)) (omega (arith, few, here, count)) in
     let decoded = ends_reached s h.front h.rest st.begun st.blocks (last_stand first pulls).run h.given n st.state.legal st.decoded wanted (omega (arith, enough, here, count)) in
     let first_n : n - s.block * 0 ≡ n = omega arith in
-    let bits : length h.front + 0 ≡ (last_stand first pulls).bits = omega (arith, st.bits) in (
-      all.more,
-      all.parts,
-      subst (λ (l : List Bool). Decoded s l (Some n) (take n all.more) Reached (last_stand first pulls).bits) (sym h.split)
-          (subst (λ (m : ℕ). Decoded s (h.front ++ h.rest) (Some n) (take n all.more) Reached m) bits
-          (subst (λ (l : List ℤ). Decoded s (h.front ++ h.rest) (Some n) l Reached (length h.front + 0)) (λ i. take (first_n i) (all.all i)) decoded)),
-    )
+    record {
+      samples = all.more;
+      used = length h.front + 0;
+      parts = all.parts;
+      decoded = subst (λ (l : List Bool). Decoded s l (Some n) (take n all.more) Reached (length h.front + 0)) (sym h.split)
+          (subst (λ (l : List ℤ). Decoded s (h.front ++ h.rest) (Some n) l Reached (length h.front + 0)) (λ i. take (first_n i) (all.all i)) decoded);
+      bits = omega (arith, st.bits);
+      limit = st.limit;
+      count = st.samples ∙ ap (λ l. o.samples + length l) all.all;
+      blocks = st.blocks;
+      size = ap length (sym all.all) ∙ count;
+      here = st.here;
+    }
   where
     below : (j i b n : ℕ) → i < b → j * b < n + j → j * i < n
     below j i b n lt most = let le : j * (i + 1) ≤ j * b = mul-le-mul_left j (omega arith) in let e : j * (i + 1) ≡ j * i + j = omega arith in omega arith
+
+-- ---- from the front of a code, and from where an interval begins
+
+pub pulls_are_decoding : PullsAreDecoding
+pulls_are_decoding s code first pulls last behind ending begins pulled last_pulled ends =
+    let p = pulled_all s code at_front first pulls last behind ending (omega arith) begins pulled last_pulled ends in
+    (p.samples, p.used, p.parts, p.decoded)
+
+pub enough_is_decoding : EnoughIsDecoding
+enough_is_decoding s code first pulls n begins pulled enough few =
+    let p = pulled_enough s code at_front first pulls n (omega arith) begins pulled (omega (arith, enough)) (omega (arith, few)) in
+    let bits : p.used ≡ (last_stand first pulls).bits = omega (arith, p.bits) in
+    (p.samples, p.parts, subst (λ (m : ℕ). Decoded s (bits_of code) (Some n) (take n p.samples) Reached m) bits p.decoded)
+
+pub front_is_place : FrontIsPlace
+front_is_place s code =
+    let none : 0 ≡ s.block * (s.interval * 0) = omega arith in
+    record { count = refl; begins = record { intervals = 0; len = none; decoded = at_end s 0 0 (pos 0) (bits_of code) (Some 0) Reached 0 (omega arith, refl) } }
+
+-- the place is in the code
+inside_code : (s : Parameters) (code : List ℕ) (o : Beginning) (before : List ℤ) → IsPlace s code o before → o.bits ≤ length (bits_of code)
+inside_code s code o before place =
+    let h = place.begins.decoded in
+    omega (arith, ap length h.parts, length-append h.front h.rest, h.bits_used, h.ends.1)
+
+-- Pieces were pulled from a place of the code to where it ends: what all of it decodes to.
+pub record SeekAll (s : Parameters) (code : List ℕ) (before : List ℤ) (first : Stand) (pulls : List Pull) (last : Stand) (ending : Ending) : Type 0 where
+  pub samples : List ℤ
+  pub used : ℕ
+  pub parts : GiveInParts s first pulls samples
+  pub decoded : Decoded s (bits_of code) None (before ++ samples) ending used
+  pub limit : used ≤ 2 ^ 52
+  pub count : last.samples ≡ length (before ++ samples)
+
+pub seek_all : (s : Parameters) (code : List ℕ) (o : Beginning) (before : List ℤ) (first : Stand) (pulls : List Pull) (last : Pull) (behind : List ℕ) (ending : Ending) → IsPlace s code o before → IsStand s o first [] []
+    → ArePulled s code first pulls → IsPulled s code (last_stand first pulls) last behind → EndsCode last.pause behind ending → SeekAll s code before first (pulls ++ last ∷ []) last.stand ending
+seek_all s code o before first pulls last behind ending place begins pulled last_pulled ends =
+    let p = pulled_all s code o first pulls last behind ending (inside_code s code o before place) begins pulled last_pulled ends in
+    record {
+      samples = p.samples;
+      used = o.bits + p.used;
+      parts = p.parts;
+      decoded = decoding_begins_afresh s begins.state.legal (bits_of code) before p.samples None ending o.bits p.used place.begins p.decoded;
+      limit = p.limit;
+      count = omega (arith, p.count, place.count, length-append before p.samples);
+    }
+
+pub seeking_is_decoding : SeekingIsDecoding
+seeking_is_decoding s code o before first pulls last behind ending place begins pulled last_pulled ends =
+    let p = seek_all s code o before first pulls last behind ending place begins pulled last_pulled ends in
+    (p.samples, p.used, p.parts, p.decoded)
+
+-- Pieces were pulled from there until there were n samples, and no block more.
+pub record SeekEnough (s : Parameters) (code : List ℕ) (before : List ℤ) (first : Stand) (pulls : List Pull) (count n : ℕ) (last : Stand) : Type 0 where
+  pub samples : List ℤ
+  pub parts : GiveInParts s first pulls samples
+  pub decoded : Decoded s (bits_of code) (Some count) (before ++ take n samples) Reached last.bits
+  pub size : n ≤ length samples
+  pub limit : last.bits ≤ 2 ^ 52
+
+pub seek_enough : (s : Parameters) (code : List ℕ) (o : Beginning) (before : List ℤ) (first : Stand) (pulls : List Pull) (n : ℕ) → IsPlace s code o before → IsStand s o first [] [] → ArePulled s code first pulls
+    → o.samples + n ≤ (last_stand first pulls).samples → (last_stand first pulls).samples < o.samples + n + s.block → SeekEnough s code before first pulls (o.samples + n) n (last_stand first pulls)
+seek_enough s code o before first pulls n place begins pulled enough few =
+    let p = pulled_enough s code o first pulls n (inside_code s code o before place) begins pulled enough few in
+    let d = decoding_begins_afresh s begins.state.legal (bits_of code) before (take n p.samples) (Some n) Reached o.bits p.used place.begins p.decoded in
+    record {
+      samples = p.samples;
+      parts = p.parts;
+      decoded = subst (λ (m : ℕ). Decoded s (bits_of code) (Some (o.samples + n)) (before ++ take n p.samples) Reached m) p.bits
+          (subst (λ (m : ℕ). Decoded s (bits_of code) (Some (m + n)) (before ++ take n p.samples) Reached (o.bits + p.used)) (sym place.count) d);
+      size = omega (arith, p.count, enough);
+      limit = p.limit;
+    }
+
+pub enough_behind_is_decoding : EnoughBehindIsDecoding
+enough_behind_is_decoding s code o before first pulls n place begins pulled enough few =
+    let p = seek_enough s code o before first pulls n place begins pulled enough few in
+    (p.samples, p.parts, p.decoded)
+
+-- no pull goes back
+pulled_far : (s : Parameters) (code : List ℕ) (o : Beginning) (first : Stand) (pulls : List Pull) → o.bits ≤ length (bits_of code) → IsStand s o first [] [] → ArePulled s code first pulls → o.samples ≤ (last_stand first pulls).samples
+pulled_far s code o first pulls inside begins pulled = let all = pull_all s code o first pulls (at_first s code o first inside begins) pulled in omega (arith, all.next.stands.samples)
+
+pub stands_tell_places : StandsTellPlaces
+stands_tell_places s code o before first pulls place begins pulled at_start no_run =
+    let last = last_stand first pulls in
+    let legal = begins.state.legal in
+    let j : 1 ≤ s.block = grind (arith, legal.block) in
+    let n = last.samples - o.samples in
+    let far : o.samples ≤ last.samples = pulled_far s code o first pulls (inside_code s code o before place) begins pulled in
+    let p = pulled_enough s code o first pulls n (inside_code s code o before place) begins pulled (omega arith) (omega arith) in
+    let xs = p.samples in
+    let count : n ≡ length xs = omega (arith, p.count) in
+    let whole : take n xs ≡ xs = ap (λ m. take m xs) count ∙ take-length xs in
+    let d = decoding_begins_afresh s legal (bits_of code) before (take n xs) (Some n) Reached o.bits p.used place.begins p.decoded in
+    let some : 0 < s.interval = omega (arith, legal.interval_from) in
+    let q = p.blocks / s.interval in
+    let blocks : p.blocks ≡ s.interval * q = omega (arith, p.here, at_start) in
+    let k = place.begins.intervals in
+    let intervals : s.interval * (k + q) ≡ s.interval * k + p.blocks = omega (arith, blocks) in
+    let all : length before + n ≡ length (before ++ xs) = omega (arith, count, length-append before xs) in (
+      xs,
+      p.parts,
+      record {
+        count = omega (arith, p.count, place.count, length-append before xs);
+        begins = record {
+          intervals = k + q;
+          len = sizes s.block (s.interval * k) p.blocks (s.interval * (k + q)) (length before) (length xs) (length (before ++ xs)) place.begins.len p.size intervals (length-append before xs);
+          decoded = subst (λ (m : ℕ). Decoded s (bits_of code) (Some (length (before ++ xs))) (before ++ xs) Reached m) p.bits
+              (subst (λ (l : List ℤ). Decoded s (bits_of code) (Some (length (before ++ xs))) (before ++ l) Reached (o.bits + p.used)) whole
+              (subst (λ (m : ℕ). Decoded s (bits_of code) (Some m) (before ++ take n xs) Reached (o.bits + p.used)) all d));
+        };
+      },
+    )
+  where
+    sizes : (j a b c x y all : ℕ) → x ≡ j * a → y ≡ j * b → c ≡ a + b → all ≡ x + y → all ≡ j * c
+    sizes j a b c x y all e f g h = let k = ap (λ v. j * v) g in omega arith

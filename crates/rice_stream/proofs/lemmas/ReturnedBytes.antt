@@ -29,7 +29,7 @@ use Rattle.rice_stream.specs.declared.outcome.Fault.{Fault}
 use Rattle.rice_stream.specs.declared.outcome.Fault.TheVariants.{Read, Write, TooLong, SampleOutOfRange, SampleCut, CodeEnds, RunPastSegment, ResidualTooLarge}
 
 -- it does not end where the bits do
-abbrev EndsBefore : Ending → Type 0
+abbrev pub EndsBefore : Ending → Type 0
 EndsBefore ending = (ending ≡ Reached) ⊎ ((ending ≡ Past) ⊎ (ending ≡ Large))
 
 -- what follows the bits does not matter then
@@ -46,7 +46,7 @@ ends_before s asked b rest more CutOff used (inl e) h = absurd cc
 ends_before s asked b rest more CutOff used (inr (inl e)) h = absurd cc
 ends_before s asked b rest more CutOff used (inr (inr e)) h = absurd cc
 
-decoded_before : (s : Parameters) (asked : Option ℕ) (bits more : List Bool) (xs : List ℤ) (ending : Ending) (used : ℕ) → EndsBefore ending → Decoded s bits asked xs ending used → Decoded s (bits ++ more) asked xs ending used
+pub decoded_before : (s : Parameters) (asked : Option ℕ) (bits more : List Bool) (xs : List ℤ) (ending : Ending) (used : ℕ) → EndsBefore ending → Decoded s bits asked xs ending used → Decoded s (bits ++ more) asked xs ending used
 decoded_before s asked bits more xs ending used early d = record {
   sets = d.sets;
   front = d.front;

@@ -324,6 +324,17 @@ pub front-waits : (w : Window) (n : ℕ) → n ≤ w.end - w.at → take n (wind
 unfolding window_bits
 front-waits w n h = take-take n (w.end - w.at) (drop w.at (bits_of w.buffer)) h
 
+-- bits that wait behind others
+pub part-waits : (w : Window) (skip n : ℕ) → IsWindow w → skip + n ≤ length (window_bits w) → take n (drop skip (window_bits w)) ≡ take n (drop (w.at + skip) (bits_of w.buffer))
+unfolding window_bits
+part-waits w skip n h there =
+    let bits = bits_of w.buffer in
+    let all = w.end - w.at in
+    let len : length (take all (drop w.at bits)) ≡ all = length-window w h in
+    let room : skip + (all - skip) ≡ all = omega (arith, there, len) in
+    ap (λ k. take n (drop skip (take k (drop w.at bits)))) (sym room)
+    ∙ (ap (take n) (drop-take skip (all - skip) (drop w.at bits)) ∙ (take-take n (all - skip) (drop skip (drop w.at bits)) (omega (arith, there, len)) ∙ ap (take n) (drop-drop skip w.at bits)))
+
 -- a word after the first digits of a longer one
 pub word-behind : (size w s x : ℕ) → s + w ≤ size → word w (x * 2 ^ s % 2 ^ size / 2 ^ (size - w)) ≡ take w (drop s (word size x))
 word-behind size w s x h =

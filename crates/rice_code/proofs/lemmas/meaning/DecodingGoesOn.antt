@@ -20,7 +20,7 @@ take_parts n [] ys = let e : n - 0 ≡ n = omega arith in ap (λ m. take n (let 
 take_parts zero (x ∷ xs) ys = let e : 0 - suc (length xs) ≡ 0 = omega arith in ap (λ m. take m ys) e
 take_parts (suc n) (x ∷ xs) ys = let e : suc n - suc (length xs) ≡ n - length xs = omega arith in ap (λ m. x ∷ (take n xs ++ take m ys)) e ∙ ap (λ v. x ∷ v) (take_parts n xs ys)
 
-cut_parts : (s : Parameters) (asked : Option ℕ) (b n : ℕ) (xs ys : List ℤ) → length xs ≡ s.block * n → cut_to s asked b xs ++ cut_to s asked (b + n) ys ≡ cut_to s asked b (xs ++ ys)
+pub cut_parts : (s : Parameters) (asked : Option ℕ) (b n : ℕ) (xs ys : List ℤ) → length xs ≡ s.block * n → cut_to s asked b xs ++ cut_to s asked (b + n) ys ≡ cut_to s asked b (xs ++ ys)
 cut_parts s None b n xs ys e = refl
 cut_parts s (Some m) b n xs ys e = let f : m - s.block * (b + n) ≡ m - s.block * b - length xs = omega arith in ap (λ k. take (m - s.block * b) xs ++ take k ys) f ∙ take_parts (m - s.block * b) xs ys
 

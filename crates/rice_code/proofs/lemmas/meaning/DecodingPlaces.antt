@@ -1,5 +1,6 @@
 -- Where no number is asked for, decoding depends on the place in the interval and the place in the byte alone.
 use Rattle.std.proofs.Common.{◌≡◌, ℕ, ◌+◌, ◌*◌, ◌%◌, ◌≤◌, ◌==◌, Bool, cond, ◌&&◌, List, [], ◌∷◌, ◌++◌, length, refl, ap, arith, sym, ◌∙◌, subst, Option, None, ℤ}
+use Rattle.std.specs.Prelude.{IsSomeAnd}
 use Rattle.rice_bits.specs.Bits.{bits_to_byte}
 use Rattle.rice_samples.specs.Parameters.{Parameters, IsLegal}
 use Rattle.rice_samples.specs.Places.{place, blocks_left}
@@ -7,21 +8,21 @@ use Rattle.rice_code.specs.code.Blocks.{blocks_from}
 use Rattle.rice_code.specs.code.CodedDataSets.{CodedDataSet, NoCompression, SecondExtension, Split, ZeroBlocks, RemainderOfSegment, bits_of_set}
 use Rattle.rice_code.specs.code.Forms.{IsForm, IsReference, RunIsSound, blocks_in, blocks_in_all}
 use Rattle.rice_code.specs.code.Layout.{block_after, Lies}
-use Rattle.rice_code.specs.code.Decoded.{DecodedFrom, Ending, Reached, Ended, CutOff, Past, Large, AreTaken, EndsWith}
+use Rattle.rice_code.specs.code.Decoded.{DecodedFrom, Ending, Reached, Ended, CutOff, Past, Large, AreTaken, EndsWith, IsWanted}
 use Rattle.rice_code.proofs.lemmas.code.Layouts.{lies_at}
 use Rattle.rice_code.proofs.lemmas.code.BlockPlaces.{place_on, same_reference, same_left, same_blocks_in, same_blocks}
 
 pub next_place : (s : Parameters) (b c : ℕ) (d : CodedDataSet) → place s b ≡ place s c → place s (block_after s b d) ≡ place s (block_after s c d)
 next_place s b c d e = place_on s b c (length (blocks_in s b d)) e ∙ ap (λ v. place s (c + length v)) (same_blocks_in s b c d e)
 
-same_all_blocks : (s : Parameters) (b c : ℕ) (ds : List CodedDataSet) → place s b ≡ place s c → blocks_in_all s b ds ≡ blocks_in_all s c ds
+pub same_all_blocks : (s : Parameters) (b c : ℕ) (ds : List CodedDataSet) → place s b ≡ place s c → blocks_in_all s b ds ≡ blocks_in_all s c ds
 same_all_blocks s b c [] e = refl
 same_all_blocks s b c (d ∷ ds) e =
     let first = same_blocks_in s b c d e in
     let rest = same_all_blocks s (block_after s b d) (block_after s c d) ds (next_place s b c d e) in
     λ i. first i ++ rest i
 
-same_lie : (s : Parameters) (b c m : ℕ) (ds : List CodedDataSet) (bits : List Bool) → place s b ≡ place s c → Lies s b m ds bits → Lies s c m ds bits
+pub same_lie : (s : Parameters) (b c m : ℕ) (ds : List CodedDataSet) (bits : List Bool) → place s b ≡ place s c → Lies s b m ds bits → Lies s c m ds bits
 same_lie s b c m [] bits e h = h
 same_lie s b c m (d ∷ ds) bits e h =
     let pads = ap (λ v. cond (s.pad && v == 0) (bits_to_byte (m + length (bits_of_set s d))) 0) (next_place s b c d e) in
@@ -44,20 +45,39 @@ run_there s b c (Split k v) e h = tt
 run_there s b c (ZeroBlocks r z) e h = let l = same_left s b c e in let inside : z ≤ blocks_left s b = h.0 in (omega arith, h.1)
 run_there s b c (RemainderOfSegment r) e h = tt
 
-taken_there : (s : Parameters) (b c : ℕ) (ds : List CodedDataSet) → place s b ≡ place s c → AreTaken s None b ds → AreTaken s None c ds
-taken_there s b c [] e h = tt
-taken_there s b c (d ∷ ds) e h = (tt, form_there s b c d e h.1, run_there s b c d e h.2, h.3, taken_there s (block_after s b d) (block_after s c d) ds (next_place s b c d e) h.4)
+-- what is wanted at one block by one count is wanted at another by another
+pub taken_there : (s : Parameters) (asked there : Option ℕ) (b c : ℕ) (ds : List CodedDataSet) → place s b ≡ place s c → ((i : ℕ) → IsWanted s asked (b + i) → IsWanted s there (c + i)) → AreTaken s asked b ds → AreTaken s there c ds
+taken_there s asked there b c [] e w h = tt
+taken_there s asked there b c (d ∷ ds) e w h =
+    let n = length (blocks_in s b d) in
+    let same : n ≡ length (blocks_in s c d) = ap length (same_blocks_in s b c d e) in
+    let from : b ≡ b + 0 = omega arith in
+    let to : c + 0 ≡ c = omega arith in (
+      subst (λ (i : ℕ). IsWanted s there i) to (w 0 (subst (λ (i : ℕ). IsWanted s asked i) from h.0)),
+      form_there s b c d e h.1,
+      run_there s b c d e h.2,
+      h.3,
+      taken_there s asked there (block_after s b d) (block_after s c d) ds (next_place s b c d e)
+          (λ i k. let f : b + n + i ≡ b + (n + i) = omega arith in let g : c + (n + i) ≡ c + length (blocks_in s c d) + i = omega (arith, same) in
+          subst (λ (i : ℕ). IsWanted s there i) g (w (n + i) (subst (λ (i : ℕ). IsWanted s asked i) f k)))
+          h.4,
+    )
+
+-- and what ends decoding at one ends it at the other
+pub ends_there : (s : Parameters) (asked there : Option ℕ) (b c : ℕ) (rest : List Bool) (ending : Ending) (used : ℕ) → place s b ≡ place s c → (IsWanted s asked b → IsWanted s there c)
+    → (IsSomeAnd asked (λ n. n ≤ s.block * b) → IsSomeAnd there (λ n. n ≤ s.block * c)) → EndsWith s asked b rest ending used → EndsWith s there c rest ending used
+ends_there s asked there b c rest Reached used e w r h = (r h.0, h.1)
+ends_there s asked there b c rest Ended used e w r h = (w h.0, h.1, h.2)
+ends_there s asked there b c rest CutOff used e w r h = (w h.0, h.1, (λ d more f g. h.2 d more (form_there s c b d (sym e) f) g), h.3)
+ends_there s asked there b c rest Past used e w r h =
+    let u = h.1 in
+    (w h.0, record { refused = u.refused; more = u.more; form = form_there s b c u.refused e u.form; unsound = λ g. u.unsound (run_there s c b u.refused (sym e) g); begins = u.begins; bits = u.bits })
+ends_there s asked there b c rest Large used e w r h =
+    let u = h.1 in
+    (w h.0, record { refused = u.refused; more = u.more; form = form_there s b c u.refused e u.form; unsound = u.unsound; begins = u.begins; bits = u.bits })
 
 pub end_there : (s : Parameters) (b c : ℕ) (rest : List Bool) (ending : Ending) (used : ℕ) → place s b ≡ place s c → EndsWith s None b rest ending used → EndsWith s None c rest ending used
-end_there s b c rest Reached used e h = absurd h.0
-end_there s b c rest Ended used e h = h
-end_there s b c rest CutOff used e h = (tt, h.1, (λ d more f g. h.2 d more (form_there s c b d (sym e) f) g), h.3)
-end_there s b c rest Past used e h =
-    let r = h.1 in
-    (tt, record { refused = r.refused; more = r.more; form = form_there s b c r.refused e r.form; unsound = λ g. r.unsound (run_there s c b r.refused (sym e) g); begins = r.begins; bits = r.bits })
-end_there s b c rest Large used e h =
-    let r = h.1 in
-    (tt, record { refused = r.refused; more = r.more; form = form_there s b c r.refused e r.form; unsound = r.unsound; begins = r.begins; bits = r.bits })
+end_there s b c rest ending used e h = ends_there s None None b c rest ending used e (λ k. k) (λ k. absurd k) h
 
 pub decoding_stands : (s : Parameters) → IsLegal s → (b c m n : ℕ) (p : ℤ) (bits : List Bool) (xs : List ℤ) (ending : Ending) (used : ℕ) → place s b ≡ place s c → m % 8 ≡ n % 8 →
     DecodedFrom s b m p bits None xs ending used → DecodedFrom s c n p bits None xs ending used
@@ -73,7 +93,7 @@ decoding_stands s legal b c m n p bits xs ending used e f h =
       rest = h.rest;
       parts = h.parts;
       lie = lies_at s c m n h.sets h.front f (same_lie s b c m h.sets h.front e h.lie);
-      taken = taken_there s b c h.sets e h.taken;
+      taken = taken_there s None None b c h.sets e (λ i k. k) h.taken;
       all = h.all;
       legal = h.legal;
       len = h.len ∙ ap (λ k. s.block * k) count;

@@ -54,7 +54,7 @@ first_block s b p q x ys j e =
     let first = first_residual s b p q x j e in
     λ i. record { reference = cond (is_reference s b) (Some (pattern s x)) None; residuals = first i ∷ residuals s (s.block * b + 1) x ys }
 
-first_blocks : (s : Parameters) (b : ℕ) (p q : ℤ) (n : ℕ) (x : ℤ) (xs : List ℤ) → 1 ≤ s.block → place s b ≡ 0 → blocks_from s b p n (x ∷ xs) ≡ blocks_from s b q n (x ∷ xs)
+pub first_blocks : (s : Parameters) (b : ℕ) (p q : ℤ) (n : ℕ) (x : ℤ) (xs : List ℤ) → 1 ≤ s.block → place s b ≡ 0 → blocks_from s b p n (x ∷ xs) ≡ blocks_from s b q n (x ∷ xs)
 first_blocks s b p q zero x xs j e = refl
 first_blocks s b p q (suc n) x xs j e =
     let more : s.block ≡ suc (s.block - 1) = omega (arith, j) in
@@ -90,7 +90,7 @@ intervals_begin_afresh s legal b position p xs e =
 
 -- ---- and ends with a byte
 
-to_byte : (n : ℕ) → (n + bits_to_byte n) % 8 ≡ 0
+pub to_byte : (n : ℕ) → (n + bits_to_byte n) % 8 ≡ 0
 to_byte n = omega arith
 
 -- where the last coded data set ends an interval, the bits do with a byte

@@ -48,7 +48,7 @@ returns-then-here-eq0 c = λ o front given h.
       has_room c.args.setting.now c.decode_all.at (length c.decode_all.samples) (length c.args.samples.now) (length so.samples) c.width.ensures.value c.block.ensures.value c.decode_all-test.true i.within so.count i.len,
       c.if-here-eq0.true,
       nothing_ahead c.args.setting.now c.args.stand.now c.decode_all.here.block c.args.piece.now so.bits (ahead c.decode_all.reader) (let e : length c.args.piece.now ≡ 0 = search rules in e) so.parts,
-    )
+    ) (λ no. c.is_too_long.ensures.fits c.if-is_too_long.false)
 
 pub next_stand-requires-clause-stand : goal.next_stand-requires-clause-stand
 next_stand-requires-clause-stand c =
@@ -95,7 +95,7 @@ returns-in-None c = λ o front given h.
       has_room c.args.setting.now c.decode_all.at (length c.decode_all.samples) (length c.args.samples.now) (length so.samples) c.width.ensures.value c.block.ensures.value c.decode_all-test.true i.within so.count i.len,
       t.0,
       t.1,
-    )
+    ) (λ no. c.is_too_long.ensures.fits c.if-is_too_long.false)
 
 pub pause_of-requires-clause-read : goal.pause_of-requires-clause-read
 pause_of-requires-clause-read c = λ read.
@@ -116,10 +116,10 @@ returns-in-Err c = λ o front given h.
     let so = i.so_far o front given h in
     let room = has_room s c.decode_all.at (length c.decode_all.samples) (length c.args.samples.now) (length so.samples) c.width.ensures.value c.block.ensures.value c.decode_all-test.true i.within so.count i.len in
     subst (λ (p : Pause). DecodesMore s o front given c.args.piece.now c.args.stand.now c.args.samples.now c.decode_all.samples c.decode_all.here p) (sym c.pause_of.ensures.pause)
-    (refused_so (values_at s c.next_stand.new.levels.items) c.decode_all.reader c.next_stand.new.reader c.in-Err.fault so room (c.in-Err.ensures.takes o (front ++ so.bits) (given ++ so.samples) so.stands) c.pause_of.ensures.never)
+    (refused_so (values_at s c.next_stand.new.levels.items) c.decode_all.reader c.next_stand.new.reader c.in-Err.fault so room (c.in-Err.ensures.takes o (front ++ so.bits) (given ++ so.samples) so.stands) c.pause_of.ensures.never (c.is_too_long.ensures.fits c.if-is_too_long.false))
 
 pub returns : goal.returns
 returns c = λ o front given h.
     let i = c.decode_all.invariant in
     let so = i.so_far o front given h in
-    ends_so pauses.Full so (has_none c.args.setting.now c.decode_all.at (length c.decode_all.samples) (length c.args.samples.now) (length so.samples) c.width.ensures.value c.block.ensures.value c.decode_all-test.false i.within so.count i.len)
+    ends_so pauses.Full so (has_none c.args.setting.now c.decode_all.at (length c.decode_all.samples) (length c.args.samples.now) (length so.samples) c.width.ensures.value c.block.ensures.value c.decode_all-test.false i.within so.count i.len) (λ no. c.is_too_long.ensures.fits c.if-is_too_long.false)

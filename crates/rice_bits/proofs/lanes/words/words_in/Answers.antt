@@ -1,0 +1,9 @@
+use Rattle.rice_bits.proofs.lemmas.lanes.LaneWords.{lanes_below, lanes-small, lanes-words}
+use Rattle.rice_bits.proofs.lanes.words.words_in.Goals as goal
+
+pub returns-clause-fit : goal.returns-clause-fit
+returns-clause-fit c = rw (c.pairs_of.ensures, c.factors_of.ensures) (lanes-small c.args.bytes c.args.width c.args.before c.requires.width)
+
+pub returns-clause-bits : goal.returns-clause-bits
+returns-clause-bits c =
+    rw (c.pairs_of.ensures, c.factors_of.ensures) (lanes-words c.args.bytes c.args.width c.args.before c.requires.lanes (lanes_below c.args.bytes c.fits-bytes.1) c.requires.width c.requires.before)

@@ -1,0 +1,5 @@
+-- Lanes of ends, of numbers of zeros, and of words.
+pub mod LaneEnds
+pub mod LaneGaps
+pub mod LaneWords
+pub mod SequencesAhead

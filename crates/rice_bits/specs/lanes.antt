@@ -1,0 +1,4 @@
+-- Fundamental sequences and words in the lanes of a vector.
+pub mod Ends
+pub mod Sequences
+pub mod Words

@@ -1,0 +1,90 @@
+//! The ends of the fundamental sequences in a word, in lanes.
+ghost use Rattle.std.specs.Prelude.{◌≡◌, ℕ, ◌+◌, ◌-◌, ◌*◌, ◌<◌, ◌≤◌, ◌++◌, length, replicate, take, drop};
+ghost use Rattle.rice_bits.specs.Bits.{word};
+ghost use Rattle.rice_bits.specs.read.Ones.{ends_after};
+ghost use Rattle.rice_bits.specs.lanes.Ends.{in_lanes, places_behind as places_behind_of};
+
+use crate::lanes::rows::row_at;
+use std::simd::prelude::*;
+
+/// Places that no lane has, and then the places of all sixteen lanes.
+static SLIDE: [u8; 64] = [
+    128, 128, 128, 128, 128, 128, 128, 128, 128, 128, 128, 128, 128, 128, 128, 128, 128, 128, 128,
+    128, 128, 128, 128, 128, 128, 128, 128, 128, 128, 128, 128, 128, 128, 128, 128, 128, 128, 128,
+    128, 128, 128, 128, 128, 128, 128, 128, 128, 128, 0, 1, 2, 3, 4, 5, 6, 7, 8, 9, 10, 11, 12, 13,
+    14, 15,
+];
+
+/// Returns the places of the lanes that stand `count` lanes further on.
+#[inline(always)]
+fn places_behind(count: usize) -> u8x16
+    requires { count ≤ 48 }
+    ensures { result ≡ places_behind_of count }
+{
+    u8x16::from_slice(&SLIDE[48 - count..])
+}
+
+/// Moves lanes `count` places on, with zeros before them.
+#[inline(always)]
+fn moved(lanes: u8x16, count: usize) -> u8x16
+    requires count { count ≤ 48 }
+    requires lanes { length lanes ≡ 16 }
+    ensures { result ≡ take 16 (replicate count 0 ++ lanes) }
+{
+    lanes.swizzle_dyn(places_behind(count))
+}
+
+/// Returns the ends of the ones of `byte`, which stands at `place` of a word.
+#[inline(always)]
+fn ends_at(place: usize, byte: u8) -> u8x16
+    requires { place < 7 }
+    ensures { result ≡ in_lanes (ends_after (8 * place) (word 8 byte)) }
+{
+    u8x8::from_array(row_at(place, byte)).shuffle(
+        u8x8::splat(0),
+        [0, 1, 2, 3, 4, 5, 6, 7, 8, 9, 10, 11, 12, 13, 14, 15],
+    )
+}
+
+/// Returns the byte at `place` of a word.
+#[inline(always)]
+fn byte_at(front: u64, place: usize) -> u8
+    requires { place < 8 }
+    ensures { word 8 result ≡ take 8 (drop (8 * place) (word 64 front)) }
+{
+    front.to_be_bytes()[place]
+}
+
+/// Returns the number of ones in the first bytes of a word.
+#[inline(always)]
+pub fn ones_in(front: u64, bytes: usize) -> usize
+    requires { (1 ≤ bytes) × (bytes ≤ 8) }
+    ensures value { result ≡ length (ends_after 0 (take (8 * bytes) (word 64 front))) }
+    ensures most { result ≤ 8 * bytes }
+{
+    (front >> (64 - 8 * bytes)).count_ones() as usize
+}
+
+/// Adds the ends of the ones of the byte at `place` of a word to those of the bytes before it.
+#[inline(always)]
+fn with_byte(front: u64, place: usize, before: u8x16) -> u8x16
+    requires place { (1 ≤ place) × (place < 7) }
+    requires before { before ≡ in_lanes (ends_after 0 (take (8 * place) (word 64 front))) }
+    ensures { result ≡ in_lanes (ends_after 0 (take (8 * (place + 1)) (word 64 front))) }
+{
+    let more = ends_at(place, byte_at(front, place));
+    before | moved(more, ones_in(front, place))
+}
+
+/// Returns the ends of the ones of the first bytes of a word, as many as there are lanes for, and zeros behind them.
+#[inline(always)]
+pub fn first_ends(front: u64, bytes: usize) -> u8x16
+    requires { (1 ≤ bytes) × (bytes ≤ 7) }
+    ensures { result ≡ in_lanes (ends_after 0 (take (8 * bytes) (word 64 front))) }
+{
+    let mut ends = ends_at(0, byte_at(front, 0));
+    for place in 1..bytes {
+        ends = with_byte(front, place, ends);
+    }
+    ends
+}

@@ -1,0 +1,5 @@
+use Rattle.rice_c.proofs.lemmas.Pulled as pulled
+use Rattle.rice_c.proofs.laws.pulls_are_decoding.Goals as goal
+
+pub returns : goal.returns
+returns c = pulled.pulls_are_decoding

@@ -1,0 +1,27 @@
+//! Spells a caller's samples as the setting wants them.
+ghost use Rattle.std.specs.Prelude.{◌≡◌, IfOk, IfErr};
+ghost use Rattle.rice_samples.specs.bytes.Patterns.{SpellsPatterns};
+ghost use Rattle.rice_c.specs.Asked.{setting_asked};
+ghost use Rattle.rice_c.specs.Statuses.{number_of, refusal_status as refusal_status_of};
+ghost use Rattle.rice_c.specs.declared.status.Status.TheVariants.{Done};
+
+use crate::setting::RiceSetting;
+use crate::status::{Status, refusal_status};
+use rice_samples::spell_patterns;
+
+/// Gives the unused high bits of the samples at `samples` what they have in a spelling: 0 or, of a signed sample, its sign. Returns the
+/// number of the status.
+#[unsafe(no_mangle)]
+pub extern "C" fn rice_spell(setting: &RiceSetting, samples: &mut [u8]) -> u32
+    ensures ok { IfOk (setting_asked setting.now) (λ s. SpellsPatterns s samples.old samples.new × (result ≡ number_of Done)) }
+    ensures refused { IfErr (setting_asked setting.now) (λ fault.
+        (result ≡ number_of (refusal_status_of fault)) × (samples.new ≡ samples.old)) }
+{
+    match setting.legal() {
+        Ok(setting) => {
+            spell_patterns(&setting, samples);
+            Status::Done.number()
+        }
+        Err(fault) => refusal_status(fault).number(),
+    }
+}

@@ -1,0 +1,40 @@
+-- Blocks that wait, and are looked at before they are taken.
+use Rattle.std.specs.Prelude.{◌≡◌, ℕ, ◌+◌, ◌-◌, ◌*◌, ◌<◌, ◌≤◌, Bool, true, List, All, length, take, Ok, ℤ}
+use Rattle.rice_bits.specs.read.Reader.{Reader}
+use Rattle.rice_samples.specs.Parameters.{Parameters, value_count, values_at, width}
+use Rattle.rice_samples.specs.bytes.Spelling.{spellings}
+use Rattle.rice_code.specs.code.CodedDataSets.{CodedDataSet, bits_of_set, turns}
+use Rattle.rice_code.specs.code.Forms.{IsForm, RunIsSound, ResidualsAreSound, blocks_in}
+use Rattle.rice_code.specs.decode.Decoder.{Answers, GivesBlock, with_mark}
+use Rattle.rice_code.specs.decode.DecoderState.{DecoderState}
+use Rattle.rice_code.specs.declared.decode.fault.Step.TheVariants.{Block}
+
+-- Blocks of `size` samples that may be decoded in the lanes of a vector: of at most 8 bits, and predicted.
+pub record HasLanes (s : Parameters) (size : ℕ) : Type 0 where
+  pub narrow : s.bits ≤ 8
+  pub preprocess : s.preprocess ≡ true
+  pub size_is : s.block ≡ size
+  pub some : 1 ≤ size
+  pub most : size ≤ 16
+
+-- The first `len` bits are a sound coded data set at block b, and the levels of the samples of its one block, after sample p, stand
+-- in the first lanes.
+pub record BlockAhead (waiting : List Bool) (s : Parameters) (b : ℕ) (p : ℤ) (lanes : List ℕ) (len : ℕ) : Type 0 where
+  pub set : CodedDataSet
+  pub form : IsForm s b set
+  pub run_sound : RunIsSound s b set
+  pub residuals_sound : ResidualsAreSound s set
+  pub within : len ≤ length waiting
+  pub bits : take len waiting ≡ bits_of_set s set
+  pub no_turns : turns set ≡ 0
+  pub sixteen : length lanes ≡ 16
+  pub legal : All (λ l. l < value_count s) lanes
+  pub gives : GivesBlock s b p (values_at s (take s.block lanes)) 0 (blocks_in s b set)
+
+-- A call read a coded data set, and the bytes begin with the spellings of the samples of its first block.
+pub record GivesBytes {I : Type 0} (old new : Reader I) (old_steps new_steps : ℕ) (p q : DecoderState) (bytes : List ℕ) : Type 0 where
+  pub samples : List ℤ
+  pub answers : Answers (with_mark old) new old_steps new_steps p q samples (Ok Block)
+  pub spelled : take (width p.setting * length samples) bytes ≡ spellings p.setting samples
+  -- the samples that are given and those that then wait are bounded by the bits
+  pub by_bits : length samples + q.run * q.setting.block ≤ 456 * (new.taken - old.taken)
