@@ -1,8 +1,10 @@
 """Where an edit changes a crate: the function whose body it changes, or none."""
 import dataclasses
+import difflib
 import re
 
 HEAD = re.compile(r'( *)(?:pub(?:\([^)]*\))? )?(?:const |unsafe |extern "C" )*fn (\w+)')
+CONSTANT = re.compile(r"(?:pub(?:\([^)]*\))? )?(?:const|static) (\w+)")
 CLAUSE = re.compile(r" *(requires|ensures|ghost)\b")
 OWNER = re.compile(r"impl(?:<.*?>)? (?:(\w+)(?:<.*>)? for )?&?(?:'\w+ )?(?:mut )?(\w+)")
 
@@ -89,3 +91,21 @@ def around(functions, first, last):
     inside = [it for it in functions if it.body <= first and last < it.end]
     return max(inside, key=lambda it: it.start, default=None)
 
+
+def touched(functions, old, new):
+    """Returns those of an old text's functions that differ from the new text, or name a constant outside of all functions that
+    does."""
+    lines = old.split("\n")
+    found = set()
+    for kind, first, last, _, _ in difflib.SequenceMatcher(None, lines, new.split("\n"), autojunk=False).get_opcodes():
+        if kind == "equal":
+            continue
+        inside = [it for it in functions if it.first <= first + 1 and last <= it.last]
+        constant = next((name for name in map(CONSTANT.match, reversed(lines[: first + 1])) if name), None)
+        found |= {max(inside, key=lambda it: it.start)} if inside else set(naming(functions, old, constant))
+    return found
+
+
+def naming(functions, text, constant):
+    """Returns the functions whose text names a constant."""
+    return [it for it in functions if constant and re.search(rf"\b{constant[1]}\b", text[it.start : it.end])]

@@ -5,7 +5,7 @@ What has to be shown of a function comes from its own body and from the contract
 from another body. So edits of the bodies of different functions stand in one copy of the crate, and one check over the work
 that the crate's own check has kept tries them all. An edit is refused where a goal of its own function is open. That its
 function calls one that is not proved doesn't count: it is then tried in the next round. An edit that changes more than one
-body is tried alone. Where the crate's must-fail/clauses.md names the clauses that an edit turns, a goal of each has to be open.
+body, or a constant, is tried alone. A check is of the functions that have to be judged, and of those that they call. Where the crate's must-fail/clauses.md names the clauses that an edit turns, a goal of each has to be open.
 
 usage: edits [NAME ..]         the edits of these names, or of the crates of these names; all, if none is named
        edits --since COMMIT    the edits of functions whose text, definitions or proofs that commit, or one after it, changed
@@ -65,6 +65,18 @@ class Edit:
     def clauses(self):
         return clauses.turned(self.crate.name)[self.name.split("/")[1]]
 
+    @property
+    def judges(self):
+        """The functions of which a goal may be open: those of the clauses that the edit turns, or else those that it changes."""
+        named = {function for function, _ in self.clauses}
+        for file, new in self.texts.items():
+            if not named and not file.startswith("src/"):
+                return set()
+            old = read(f"{self.crate.folder}/{file}")
+            functions = edit_places.functions_in(self.crate.name, file, old)
+            named |= set() if self.clauses else {it.name for it in edit_places.touched(functions, old, new)}
+        return named
+
 
 @dataclasses.dataclass
 class Verdict:
@@ -103,8 +115,9 @@ def texts_with(edits):
     return texts
 
 
-def check(crate, texts):
-    """Returns the status of a check of a copy of the crate with these texts, over a copy of its kept work, and what it said."""
+def check(crate, texts, functions):
+    """Returns the status of a check of a copy of the crate with these texts, over a copy of its kept work, and what it said. Where
+    functions are named, it is of these and of those that they call alone."""
     with tempfile.TemporaryDirectory(prefix="edits-", dir=f"{crate.folder}/out") as room:
         os.mkdir(f"{room}/out")
         for part in [*rtlib.PARTS, rtlib.KEPT[1]]:
@@ -115,7 +128,8 @@ def check(crate, texts):
         for file, text in texts.items():
             with open(f"{room}/{file}", "w", encoding="utf-8") as it:
                 it.write(text)
-        words = [*rtlib.guarded(), rtlib.RATTLE, "check", *crate.words(["--jobs", "1"], keeps=False)]
+        only = [word for it in functions for word in ("--only", it.split("::", 1)[1])]
+        words = [*rtlib.guarded(), rtlib.RATTLE, "check", *crate.words(["--jobs", "1", *only], keeps=False)]
         how = {"cwd": room, "stdin": subprocess.DEVNULL, "stdout": subprocess.PIPE, "stderr": subprocess.STDOUT}
         ran = subprocess.run(words, errors="replace", **how)
     return ran.returncode, ran.stdout
@@ -163,7 +177,7 @@ def lines_of_functions(said):
 
 
 def has_verdict(said):
-    return re.search(r"(?m)^logic=(proved|not-proved)", said.rstrip().split("\n")[-1])
+    return re.match(r"logic=(proved|not-proved)|only=\d+ proved=\d+", said.rstrip().split("\n")[-1])
 
 
 def clause_of(goal):
@@ -200,12 +214,12 @@ def tried_alone(edit):
     """Returns the verdict on an edit that a copy of the crate has alone."""
     if edit.why:
         return Verdict(False, f"BAD EDIT: {edit.why}")
-    status, said = check(edit.crate, edit.texts)
+    status, said = check(edit.crate, edit.texts, edit.judges)
     bad = next((it for it in said.split("\n") if rt.unread(it, edit.texts)), "")
     if bad or not has_verdict(said) or rtlib.STALE.search(said):
         return Verdict(False, f"BAD EDIT: it did not reach the prover: {bad or said.rstrip()[-300:]}")
     if status == 0:
-        return Verdict(False, "NOT REFUSED: the crate is still proved with this edit")
+        return Verdict(False, "NOT REFUSED: all is still proved with this edit")
     goals = goals_in(edit.crate, edit.texts, said)
     if not goals:
         return Verdict(False, "NOT JUDGED: no goal is told that is open")
@@ -215,7 +229,7 @@ def tried_alone(edit):
 def tried_together(edits):
     """Returns the verdicts that one check gives on edits of different functions' bodies."""
     texts = texts_with(edits)
-    _, said = check(edits[0].crate, texts)
+    _, said = check(edits[0].crate, texts, {it.function.name for it in edits})
     if has_verdict(said) and not any(rt.unread(it, texts) for it in said.split("\n")):
         return {it.path: judged(it, texts, said) for it in edits}
     if len(edits) == 1:

@@ -7,31 +7,36 @@ is another one, whose `rt` can't have its parts replaced like this, it is `rt ci
 
 usage: gate
 """
+import collections
 import os
 import re
 import shutil
+import subprocess
 import sys
 import time
 
 os.chdir(os.path.join(os.path.dirname(os.path.realpath(__file__)), ".."))
 try:
-    from kept_crates import keep_work, rt, rtlib
+    from kept_crates import TRIES_EACH, crates, keep_work, rt, rtlib
 except ImportError as why:
     print(f"gate.py: {why}: so this is rt ci alone, which tries each edit by a check of its own", flush=True)
     os.execvp("rt", ["rt", "ci"])
 import edits
 
 CONTROLS = "scripts/edit_controls"
+# What the last run said, for scripts/release.
+RECORD = "out/gate.txt"
 # The most that a check of a crate's edits has been seen to take, in bytes, and some more.
 MEMORY_OF_EDITS = 2_000_000_000
 
 
-def in_lanes(run_tasks):
+def in_lanes(run_tasks, tried):
     """Plans a crate's tests after the crate, whose work they take, and its proof, for which all that is above it waits, with
     nearly all processors, whatever runs beside it."""
     def run(tasks):
         # (the libraries' proofs are kept whole, so that later commands take them)
         rt.Crate.cuts_libraries = False
+        tasks = tasks if TRIES_EACH else in_parts(tasks, tried)
         most = rt.processors() - 1
         for key, (waits, lines, memory, call) in tasks.items():
             if key[1] == "proof":
@@ -42,21 +47,54 @@ def in_lanes(run_tasks):
     return run
 
 
-def add_edits(tasks, crate, paths, _first, waits, is_well, *_):
-    """Adds the tasks that try a crate's edits, one for all that can be tried together and one for each other, and returns what
-    gives their results, and what gives those of earlier runs: none."""
-    alone = [it for it in paths if not edits.edit_of(crate, it).function]
-    parts = [[it for it in paths if it not in alone], *([it] for it in alone)] if paths else []
-    for number, part in enumerate(parts):
-        call = lambda given, _jobs, part=part, number=number: try_edits(crate, part, number) if is_well(given, len(paths)) else {}
+def parts_of(crate, paths):
+    """Returns a crate's edits in parts that can be tried side by side: each of those that are tried alone, and of the others those
+    that are the first of their function, the second, and so on."""
+    places, parts = collections.Counter(), {}
+    for path in paths:
+        function = edits.edit_of(crate, path).function
+        if function:
+            places[function.name] += 1
+        parts.setdefault(places[function.name] if function else path, []).append(path)
+    return [*parts.values()]
+
+
+def add_parts(tasks, crate, paths, waits, is_well):
+    """Adds the tasks that try a crate's edits, part by part, and returns their keys."""
+    keys = []
+    for number, part in enumerate(parts_of(crate, paths)):
+        call = lambda given, _jobs, part=part, number=number: try_edits(crate, part, number) if is_well(given) else {}
         # (after the tests too, whose check writes into the work that is copied)
-        tasks[crate.name, "edits", number] = waits, crate.count(rb"\n"), MEMORY_OF_EDITS, call
+        keys.append((crate.name, "edits", number))
+        tasks[keys[-1]] = waits, crate.count(rb"\n"), MEMORY_OF_EDITS, call
+    return keys
 
-    def results(given):
-        verdicts = {path: it for number in range(len(parts)) for path, it in given[crate.name, "edits", number].items()}
-        return told(crate, paths, verdicts) if paths else []
 
-    return results, dict
+def add_edits(tasks, crate, paths, _first, waits, is_well, *_):
+    """Adds the tasks that try a crate's edits, and returns what gives their results, and what gives those of earlier runs: none."""
+    keys = add_parts(tasks, crate, paths, waits, lambda given: is_well(given, len(paths)))
+    kind = lambda refused: rt.REFUSED if refused else rt.MISSED
+    return lambda given: [(kind(it), said) for it, said in told(crate, paths, verdicts_of(keys, given))], dict
+
+
+def in_parts(tasks, tried):
+    """Returns the tasks with the parts of each crate's edits before the one in which the toolchain would try them all, which takes
+    their verdicts from `tried`."""
+    by_name, found = crates(os.getcwd()), {}
+    for key, (waits, lines, memory, call) in tasks.items():
+        if key[1] == "edits":
+            crate = by_name[key[0]]
+            paths = rt.edits_of(crate)[0]
+            keys = add_parts(found, crate, paths, waits, lambda given, waits=waits: all(given[it] for it in waits))
+            take = lambda given, jobs, keys=keys, call=call: tried.update(verdicts_of(keys, given)) or call(given, jobs)
+            found[key] = [*waits, *keys], 0, 0, take
+        else:
+            found[key] = waits, lines, memory, call
+    return found
+
+
+def verdicts_of(keys, given):
+    return {path: it for key in keys for path, it in given[key].items()}
 
 
 def controls_of(crate):
@@ -73,12 +111,13 @@ def try_edits(crate, paths, number):
 
 
 def told(crate, paths, verdicts):
-    """Returns the kind of each edit's result and what is said of it: no edit is refused where a control is not told as it has to be."""
+    """Returns whether each edit is refused and what is said of it: no edit is refused where a control is not told as it has to be."""
+    if not paths:
+        return []
     wrong = [f"; but {it}: {verdicts[it].said}" for it, said in controls_of(crate).items() if not verdicts[it].said.startswith(said)]
     wrong += [f"; but {os.path.relpath(it)} is no edit" for it in rt.edits_of(crate)[1]]
-    kind = lambda path: rt.REFUSED if verdicts[path].refused and not wrong else rt.MISSED
     label = lambda path: f"must-fail {crate.name}/{os.path.basename(path)}"
-    return [(kind(it), f"{label(it)}: {verdicts[it].said}{''.join(wrong)}") for it in paths]
+    return [(verdicts[it].refused and not wrong, f"{label(it)}: {verdicts[it].said}{''.join(wrong)}") for it in paths]
 
 
 class Counts:
@@ -98,9 +137,21 @@ class Counts:
         last = re.fullmatch(r"(\d+) passed, (\d+) failed", str(words[0])) if words else None
         if last:
             passed, processors = int(last[1]) + self.passed, sum(os.times()[:4])
-            print(f"gate: {(time.monotonic() - self.start) / 60:.1f} minutes, {processors / 60:.1f} of one processor")
+            took = f"gate: {(time.monotonic() - self.start) / 60:.1f} minutes, {processors / 60:.1f} of one processor"
             words = [f"{passed} passed, {last[2]} failed"]
+            record(took, *words)
+            print(took)
         print(*words, **how)
+
+
+def record(*lines):
+    """Keeps the last lines with the commit and the toolchain that they are of, where no file differs from that commit."""
+    ask = lambda *words: subprocess.run(words, capture_output=True, text=True).stdout.strip()
+    commit = ask("git", "rev-parse", "HEAD")
+    if commit and not ask("git", "status", "--porcelain"):
+        os.makedirs("out", exist_ok=True)
+        with open(RECORD, "w", encoding="utf-8") as it:
+            it.write("\n".join([f"commit {commit}", f"toolchain: {ask('rt', 'version')}", *lines, ""]))
 
 
 def number_of_tests(crate):
@@ -109,11 +160,18 @@ def number_of_tests(crate):
 
 
 def main():
+    if os.path.exists(RECORD):
+        os.remove(RECORD)
     for crate in os.listdir("crates"):
         shutil.rmtree(f"crates/{crate}/out", ignore_errors=True)
     keep_work()
     counts = Counts(rt.run)
-    rt.in_lanes, rt.add_edits, rt.run, rt.print = in_lanes(rt.in_lanes), add_edits, counts, counts.print
+    tried = {}
+    rt.in_lanes, rt.run, rt.print = in_lanes(rt.in_lanes, tried), counts, counts.print
+    if not TRIES_EACH:
+        rt.must_fail_all = lambda crate, paths, _flags: told(crate, paths, tried)
+        return rt.ci()
+    rt.add_edits = add_edits
     # (what is proved like this is no work of the toolchain's own gate, for later runs of that to take)
     rt.Kept.keep = lambda *_: None
     return rt.ci(anew=True)

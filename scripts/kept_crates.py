@@ -14,8 +14,6 @@ import types
 
 # What is used of `rt`, functions with the names of their first parameters, and of its library.
 CALLED = {
-    "add_edits": ["tasks", "crate", "edits", "first", "waits", "is_well", "kept"],
-    "ci": ["anew"],
     "edits_of": ["crate"],
     "in_lanes": ["tasks"],
     "processors": [],
@@ -23,7 +21,11 @@ CALLED = {
     "run": ["crate", "tests"],
     "unread": ["line", "changed"],
 }
-USED = ["Crate", "Kept", "KIT", "REFUSED", "MISSED"]
+# How it tries edits: each in a task of its own, over work that is kept, or a crate's in one task.
+EACH = {"add_edits": ["tasks", "crate", "edits", "first", "waits", "is_well", "kept"], "ci": ["anew"]}
+ALL = {"must_fail_all": ["crate", "edits", "flags"], "ci": []}
+USED = ["Crate", "KIT"]
+USED_OF_EACH = ["Kept", "REFUSED", "MISSED"]
 USED_OF_LIBRARY = ["KEPT", "VERDICT", "PARTS", "RATTLE", "STALE", "TEST", "crates_below", "guarded", "libraries_keep"]
 
 
@@ -41,8 +43,10 @@ def load():
     module.__file__ = path
     sys.dont_write_bytecode = True
     importlib.machinery.SourceFileLoader("rt", path).exec_module(module)
-    lacks = [name for name, first in CALLED.items() if not is_called_by(getattr(module, name, None), first)]
-    lacks += [name for name in USED if not hasattr(module, name)]
+    tries_each = hasattr(module, "add_edits")
+    called = {**CALLED, **(EACH if tries_each else ALL)}
+    lacks = [name for name, first in called.items() if not is_called_by(getattr(module, name, None), first)]
+    lacks += [name for name in [*USED, *(USED_OF_EACH if tries_each else [])] if not hasattr(module, name)]
     lacks += [name for name in USED_OF_LIBRARY if not hasattr(module.rtlib, name)]
     if not lacks and not module.rtlib.VERDICT.pattern.endswith(r"\n\Z"):
         lacks = ["the known last line of a check"]
@@ -58,6 +62,7 @@ def is_called_by(function, first):
 
 rt = load()
 rtlib = rt.rtlib
+TRIES_EACH = hasattr(rt, "add_edits")
 
 
 class KeptCrate(rt.Crate):
