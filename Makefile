@@ -1,17 +1,38 @@
 PREFIX ?= /usr/local
+BINDIR ?= $(PREFIX)/bin
+LIBDIR ?= $(PREFIX)/lib
+INCLUDEDIR ?= $(PREFIX)/include
+DATADIR ?= $(PREFIX)/share
+MANDIR ?= $(DATADIR)/man
+# The name under which the program is installed: Debian's libaec-tools has an `aec` too.
+PROGRAM ?= aec
+# The one that builds the Python package: it has cffi, setuptools, wheel and pip.
+PYTHON ?= /usr/bin/python3
 RANDOM_INPUTS ?= 100000
+PYTHON_CODES ?= 1000000
 LIBRARY_CODES ?= 1000000
 
 .DEFAULT_GOAL := help
-.PHONY: help library install install-command install-library uninstall test test-each rows hostile interop exhaustive any-block refused-memory installed recipes documents bench examples stack header axioms hostile-library hostile-pulls bench-library wrappers clauses plant
+.PHONY: help library compat python install install-command install-library install-compat uninstall check clean dist release deb released two-builds test test-each rows hostile interop exhaustive any-block refused-memory installed recipes documents bench examples stack header axioms hostile-library hostile-pulls clients hostile-compat python-tests aarch64 bench-compat bench-library wrappers clauses plant
 
 help:
 	@echo 'make aec                    prove and build the program, as ./aec (ten to thirteen minutes the first time)'
 	@echo 'make library                prove and build the library for C, as ./librice.a and ./librice.so (as long)'
+	@echo 'make library TARGET=aarch64-unknown-linux-gnu   the same for another processor, in out/TARGET'
+	@echo 'make compat                 build the interfaces of libaec and szlib over the library, in ./compat/out'
+	@echo 'make python                 build the Python package over ./librice.a, as a wheel and unpacked, in ./out/python'
 	@echo 'make install PREFIX=DIR     install both in DIR (/usr/local), with manual page, completions, header and rice.pc'
 	@echo 'make install-command, make install-library   install one of them'
+	@echo 'make install-compat         install the interfaces of libaec and szlib in DIR/lib/rice-compat'
 	@echo 'make uninstall PREFIX=DIR   remove what these installed'
-	@echo 'make test                   prove everything from nothing, try the edits that must fail, and run all tests (half an hour)'
+	@echo 'make check                  run what is built through the cases of scripts/rows.txt and through damaged codes, without the toolchain'
+	@echo 'make release                pack what is built, with all that belongs to it, and the sources, into ./dist'
+	@echo 'make dist                   pack the sources alone'
+	@echo 'make deb                    make Debian packages of what is built, in ./dist'
+	@echo 'make released               try these in a clean Debian (as root, by debootstrap)'
+	@echo 'make two-builds             build and pack all once more in another folder, and compare'
+	@echo 'make clean                  remove what was built, and what was kept of proofs'
+	@echo 'make test                   prove everything from nothing, try the edits that must fail, and run all tests (40 minutes)'
 	@echo 'make test-each              the same by the toolchain alone, each edit by a check of its own'
 	@echo 'make rows                   run the cases of scripts/rows.txt with ./aec and the library'
 	@echo 'make hostile                run ./aec on damaged and random codes, and on files and streams that fail'
@@ -23,17 +44,35 @@ help:
 	@echo 'make recipes                run the recipes of docs/COOKBOOK.md with ./aec'
 	@echo 'make documents              try the links, commands, options and messages of the documents with ./aec'
 	@echo "make bench                  compare the speed of ./aec and Debian's aec"
-	@echo 'make examples               build and run examples/c and examples/python, with sanitizers and under valgrind'
+	@echo 'make examples               build and run examples/c and examples/cpp, with sanitizers and under valgrind'
+	@echo 'make python-tests           try the Python package against ./aec, and with damaged codes'
 	@echo 'make stack                  measure the stack that a call of the library takes'
 	@echo 'make header                 compare include/rice.h with the library and its crate'
 	@echo 'make axioms                 compare docs/axioms.txt with the C functions that the proofs rest on'
 	@echo 'make hostile-library        give the library damaged and random codes, and too little room'
 	@echo 'make hostile-pulls          give the library such codes in pieces, and compare with all at once'
+	@echo 'make clients                run programs that use libaec on ./compat/out and on Debian'"'"'s libaec'
+	@echo 'make hostile-compat         give the interfaces of libaec and szlib damaged codes in pieces'
+	@echo "make aarch64                build the library for aarch64, and run the examples on it (qemu-user, gcc-aarch64-linux-gnu)"
+	@echo 'make bench-compat           compare the speed of ./compat/out and of Debian'"'"'s libaec and szlib (libaec-dev)'
 	@echo 'make wrappers               turn the wrappers of readers, writers and the runtime into wrong ones, which the tests refuse'
 	@echo 'make clauses                compare the clauses of public calls with the edits that must fail'
 	@echo 'make plant                  plant wrong bodies under all contracts, and compare what is proved with docs/PLANTS.md (hours)'
 	@echo "make bench-library          compare the speed of the library and Debian's libaec (libaec-dev)"
 	@scripts/toolchain
+
+# Another processor than that of x86-64 Linux, as `rt lib --target` names it. What is built for it stands in a folder of its own.
+TARGET ?=
+LIBRARY := $(if $(TARGET),out/$(TARGET)/)
+ifneq ($(TARGET),)
+ifeq ($(origin CC),default)
+CC := $(subst -unknown,,$(TARGET))-gcc
+endif
+endif
+
+VERSION := $(shell sed -n 's/^.define RICE_VERSION_TEXT "\(.*\)"/\1/p' include/rice.h)
+# The number behind its name is that of its interface: it grows where a program that used the library has to be built anew.
+SHARED := librice.so.0
 
 LIBRARIES := rice_bits rice_samples rice_code rice_stream
 sources = $(shell find $(foreach crate,$(1),$(wildcard $(addprefix crates/$(crate)/,src specs proofs))) -type f) crates.txt
@@ -50,45 +89,139 @@ crates/aec_tool/out/aec_tool: $(call sources,$(LIBRARIES) aec_tool)
 	cd crates/aec_tool && rt run --jobs $(JOBS) -- --help > /dev/null
 	touch $@
 
-library: librice.a librice.so
+library: $(LIBRARY)librice.a $(LIBRARY)librice.so
 
 librice.a: crates/rice_c/out/librice_c.a
 	cp $< $@
 
 # The object needs nothing but memcpy, memmove and memset (make header), so the shared library is the static one.
-librice.so: librice.a
-	$(CC) -shared -Wl,-soname,librice.so.0 -Wl,--whole-archive librice.a -Wl,--no-whole-archive -o $@
+$(LIBRARY)librice.so: $(LIBRARY)librice.a
+	$(CC) $(LDFLAGS) -shared -Wl,-soname,$(SHARED) -Wl,-z,now,-z,relro -Wl,--whole-archive $< -Wl,--no-whole-archive -o $@
+
+# The interfaces of libaec and of its szlib, over the library. They export these calls alone, and libsz takes the libaec beside it.
+COMPAT := $(or $(LIBRARY:/=),compat)/out
+CFLAGS ?= -O2
+COMPAT_CC = $(CC) -std=c99 -Wall -Wextra -Wpedantic -Werror $(CPPFLAGS) $(CFLAGS) -fPIC -fvisibility=hidden -Iinclude -shared \
+	$(LDFLAGS) -Wl,-z,defs,-z,now,-z,relro
+
+compat: $(COMPAT)/libaec.so.0 $(COMPAT)/libsz.so.2
+
+$(COMPAT)/libaec.so.0: $(addprefix compat/,shared.c encode.c decode.c shared.h libaec.h) include/rice.h $(LIBRARY)librice.a
+	mkdir -p $(COMPAT)
+	$(COMPAT_CC) -Wl,-soname,libaec.so.0 -Wl,--exclude-libs,ALL $(filter %.c,$^) $(LIBRARY)librice.a -o $@
+	ln -sf libaec.so.0 $(COMPAT)/libaec.so
+
+$(COMPAT)/libsz.so.2: compat/szlib.c compat/szlib.h $(COMPAT)/libaec.so.0
+	$(COMPAT_CC) -Wl,-soname,libsz.so.2 -Wl,-rpath,'$$ORIGIN' compat/szlib.c $(COMPAT)/libaec.so.0 -o $@
+	ln -sf libsz.so.2 $(COMPAT)/libsz.so
 
 crates/rice_c/out/librice_c.a: $(call sources,$(LIBRARIES) rice_c)
 	$(PROVE_LIBRARIES)
 	cd crates/rice_c && rt lib --jobs $(JOBS) > /dev/null
 	touch $@
 
+# `rt lib` leaves the library where that for this machine is, which is put aside and back.
+ifneq ($(TARGET),)
+$(LIBRARY)librice.a: $(call sources,$(LIBRARIES) rice_c)
+	mkdir -p $(@D)
+	$(PROVE_LIBRARIES)
+	mv crates/rice_c/out/librice_c.a $(@D)/here.a || true
+	cd crates/rice_c && rt lib --jobs $(JOBS) --target $(TARGET) > /dev/null
+	mv crates/rice_c/out/librice_c.a $@
+	mv $(@D)/here.a crates/rice_c/out/librice_c.a || true
+	touch $@
+endif
+
+python: out/python/rice121
+
+out/python/rice121: librice.a include/rice.h scripts/wheel $(wildcard python/*.* python/rice121/*.*)
+	scripts/wheel $(PYTHON)
+
+# What stands here is installed, and nothing is proved or built for it.
+paths_are_whole = $(foreach it,PREFIX BINDIR LIBDIR INCLUDEDIR DATADIR MANDIR,$(if $(filter /%,$($(it))),,$(error $(it) has to begin with /, unlike $($(it)))))
+are_built = @for it in $(1); do [ -e $$it ] || { echo "there is no $$it: it is built by make $(2)" >&2; exit 1; }; done
+to_paths = sed -e 's|@PREFIX@|$(PREFIX)|' -e 's|@LIBDIR@|$(LIBDIR)|' -e 's|@INCLUDEDIR@|$(INCLUDEDIR)|' -e 's|@VERSION@|$(VERSION)|' -e 's|@SHARED@|$(SHARED)|'
+
 install: install-command install-library
 
-install-command: aec
-	install -D -m 755 aec $(DESTDIR)$(PREFIX)/bin/aec
-	install -D -m 644 man/aec.1 $(DESTDIR)$(PREFIX)/share/man/man1/aec.1
-	install -D -m 644 completions/aec.bash $(DESTDIR)$(PREFIX)/share/bash-completion/completions/aec
-	install -D -m 644 completions/_aec $(DESTDIR)$(PREFIX)/share/zsh/site-functions/_aec
+install-command:
+	$(paths_are_whole)
+	$(call are_built,aec,aec)
+	install -D -m 755 aec $(DESTDIR)$(BINDIR)/$(PROGRAM)
+	install -d $(addprefix $(DESTDIR),$(MANDIR)/man1 $(DATADIR)/bash-completion/completions $(DATADIR)/zsh/site-functions)
+	sed 's/^\.Nm aec$$/.Nm $(PROGRAM)/' man/aec.1 > $(DESTDIR)$(MANDIR)/man1/$(PROGRAM).1
+	sed 's/ aec$$/ $(PROGRAM)/' completions/aec.bash > $(DESTDIR)$(DATADIR)/bash-completion/completions/$(PROGRAM)
+	sed 's/^#compdef aec$$/#compdef $(PROGRAM)/' completions/_aec > $(DESTDIR)$(DATADIR)/zsh/site-functions/_$(PROGRAM)
 
-install-library: library
-	install -D -m 644 librice.a $(DESTDIR)$(PREFIX)/lib/librice.a
-	install -D -m 755 librice.so $(DESTDIR)$(PREFIX)/lib/librice.so.0
-	ln -sf librice.so.0 $(DESTDIR)$(PREFIX)/lib/librice.so
-	install -D -m 644 include/rice.h $(DESTDIR)$(PREFIX)/include/rice.h
-	install -d $(DESTDIR)$(PREFIX)/lib/pkgconfig
-	sed 's|@PREFIX@|$(PREFIX)|' include/rice.pc.in > $(DESTDIR)$(PREFIX)/lib/pkgconfig/rice.pc
+install-library:
+	$(paths_are_whole)
+	$(call are_built,$(addprefix $(LIBRARY),librice.a librice.so),library)
+	install -D -m 644 $(LIBRARY)librice.a $(DESTDIR)$(LIBDIR)/librice.a
+	install -D -m 644 $(LIBRARY)librice.so $(DESTDIR)$(LIBDIR)/$(SHARED).$(VERSION)
+	ln -sf $(SHARED).$(VERSION) $(DESTDIR)$(LIBDIR)/$(SHARED)
+	ln -sf $(SHARED) $(DESTDIR)$(LIBDIR)/librice.so
+	install -D -m 644 include/rice.h $(DESTDIR)$(INCLUDEDIR)/rice.h
+	install -d $(DESTDIR)$(LIBDIR)/pkgconfig $(DESTDIR)$(LIBDIR)/cmake/rice
+	$(to_paths) include/rice.pc.in > $(DESTDIR)$(LIBDIR)/pkgconfig/rice.pc
+	$(to_paths) include/rice-config.cmake.in > $(DESTDIR)$(LIBDIR)/cmake/rice/rice-config.cmake
+	$(to_paths) include/rice-config-version.cmake.in > $(DESTDIR)$(LIBDIR)/cmake/rice/rice-config-version.cmake
+
+# In a folder of their own, so that they stand in for libaec only where a program is told to look there.
+COMPAT_DIR = $(DESTDIR)$(LIBDIR)/rice-compat
+
+install-compat:
+	$(paths_are_whole)
+	$(call are_built,$(addprefix $(COMPAT)/,libaec.so.0 libsz.so.2),compat)
+	install -D -m 644 $(COMPAT)/libaec.so.0 $(COMPAT_DIR)/libaec.so.0
+	install -D -m 644 $(COMPAT)/libsz.so.2 $(COMPAT_DIR)/libsz.so.2
+	ln -sf libaec.so.0 $(COMPAT_DIR)/libaec.so
+	ln -sf libsz.so.2 $(COMPAT_DIR)/libsz.so
+	install -D -m 644 -t $(COMPAT_DIR)/include compat/libaec.h compat/szlib.h
+	install -d $(COMPAT_DIR)/pkgconfig
+	for name in libaec libsz; do $(to_paths) compat/$$name.pc.in > $(COMPAT_DIR)/pkgconfig/$$name.pc || exit 1; done
 
 uninstall:
-	rm -f $(DESTDIR)$(PREFIX)/lib/librice.a
-	rm -f $(DESTDIR)$(PREFIX)/lib/librice.so $(DESTDIR)$(PREFIX)/lib/librice.so.0
-	rm -f $(DESTDIR)$(PREFIX)/include/rice.h
-	rm -f $(DESTDIR)$(PREFIX)/lib/pkgconfig/rice.pc
-	rm -f $(DESTDIR)$(PREFIX)/bin/aec
-	rm -f $(DESTDIR)$(PREFIX)/share/man/man1/aec.1
-	rm -f $(DESTDIR)$(PREFIX)/share/bash-completion/completions/aec
-	rm -f $(DESTDIR)$(PREFIX)/share/zsh/site-functions/_aec
+	$(paths_are_whole)
+	rm -f $(addprefix $(COMPAT_DIR)/,libaec.so libaec.so.0 libsz.so libsz.so.2 include/libaec.h include/szlib.h)
+	rm -f $(addprefix $(COMPAT_DIR)/pkgconfig/,libaec.pc libsz.pc)
+	rm -f $(addprefix $(DESTDIR)$(LIBDIR)/,librice.a librice.so $(SHARED) $(SHARED).$(VERSION) pkgconfig/rice.pc)
+	rm -f $(addprefix $(DESTDIR)$(LIBDIR)/cmake/rice/,rice-config.cmake rice-config-version.cmake)
+	rm -f $(DESTDIR)$(INCLUDEDIR)/rice.h
+	rm -f $(DESTDIR)$(BINDIR)/$(PROGRAM)
+	rm -f $(DESTDIR)$(MANDIR)/man1/$(PROGRAM).1
+	rm -f $(DESTDIR)$(DATADIR)/bash-completion/completions/$(PROGRAM)
+	rm -f $(DESTDIR)$(DATADIR)/zsh/site-functions/_$(PROGRAM)
+
+# What is built is tried, without the toolchain.
+check:
+	$(call are_built,aec,aec)
+	$(call are_built,librice.a librice.so,library)
+	scripts/rows.py ./aec scripts/rows.txt librice.so
+	scripts/devices ./aec
+	scripts/hostile.py ./aec 1000
+
+dist:
+	scripts/release source
+
+all_are_built = $(call are_built,aec librice.a librice.so compat/out/libaec.so.0 compat/out/libsz.so.2,aec library compat)
+
+release:
+	$(all_are_built)
+	scripts/release all
+
+deb:
+	$(all_are_built)
+	$(call are_built,out/python/rice121,python)
+	scripts/packages
+
+released: release deb
+	scripts/released
+
+two-builds: release
+	scripts/two_builds
+
+clean:
+	rm -rf crates/*/out compat/out python/build python/*.egg-info out dist aec librice.a librice.so
 
 test:
 	scripts/gate.py
@@ -118,7 +251,7 @@ refused-memory: aec
 installed: aec library
 	scripts/installed ./aec librice.a
 
-recipes: aec library
+recipes: aec library compat python
 	scripts/recipes.py ./aec
 
 documents: aec
@@ -144,6 +277,22 @@ hostile-library: library aec
 
 hostile-pulls: library
 	scripts/hostile_pulls librice.a 200000
+
+clients: compat
+	scripts/clients $(COMPAT)
+
+hostile-compat: library
+	scripts/hostile_compat librice.a 200000
+
+python-tests: aec librice.a
+	scripts/python ./aec $(PYTHON_CODES)
+
+aarch64: library
+	$(MAKE) library compat TARGET=aarch64-unknown-linux-gnu CC=aarch64-linux-gnu-gcc
+	scripts/aarch64 out/aarch64-unknown-linux-gnu/librice.a librice.a
+
+bench-compat: compat
+	scripts/bench_compat $(COMPAT) $(LIBRARY)librice.a
 
 bench-library: library
 	scripts/bench_library librice.a

@@ -1,5 +1,5 @@
 #!/usr/bin/python3
-"""Codes an array of numpy in process, through the library, to the bytes that aec writes.
+"""Codes an array of numpy in process, through the Python package, to the bytes that aec writes.
 
 usage: in_process.py PROGRAM
 """
@@ -9,22 +9,23 @@ import sys
 
 import numpy
 
-ROOT = os.path.join(os.path.dirname(os.path.abspath(__file__)), "..")
-os.environ.setdefault("RICE_LIBRARY", os.path.join(ROOT, "librice.so"))
-sys.path.insert(0, os.path.join(ROOT, "examples/python"))
+sys.path.insert(0, os.environ.get("RICE_PYTHON", os.path.join(os.path.dirname(os.path.abspath(__file__)), "../out/python")))
 
-import rice
+import rice121
 
 steps = numpy.arange(131072)
 samples = (2000 + 900 * numpy.sin(steps / 500) + steps * 7919 % 13).astype("<u2")
-setting = rice.Setting(bits=12, block=32)
-code = rice.encode(samples, setting)
+code = rice121.encode(samples, bits=12, block=32)
 words = [sys.argv[1], "-n", "12", "-j", "32", "-r", "128", "-", "-"]
 print(f"{samples.nbytes} bytes of samples, {len(code)} of code")
 print("the code of aec:", code == subprocess.run(words, input=samples.tobytes(), capture_output=True, check=True).stdout)
-first = numpy.frombuffer(rice.decode(code, 1000, setting), "<u2")
+first = rice121.decode(code, 1000, "<u2", bits=12, block=32)
 print("the first 1000 samples come back:", numpy.array_equal(first, samples[:1000]))
+place = rice121.offsets(code, "<u2", bits=12, block=32)[20]
+with rice121.Decoder("<u2", at=place, bits=12, block=32) as decoder:
+    part = decoder.pull(code[place.bits // 8 :], 500)
+print(f"500 samples from byte {place.bits // 8} on:", numpy.array_equal(part, samples[place.samples : place.samples + 500]))
 try:
-    rice.decode(code[: len(code) // 2], len(samples), setting)
-except rice.RiceError as error:
+    rice121.decode(code[: len(code) // 2], samples.size, "<u2", bits=12, block=32)
+except rice121.RiceError as error:
     print("half of the code:", error)

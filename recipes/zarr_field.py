@@ -1,8 +1,9 @@
 #!/usr/bin/python3
-"""Writes a field as a zarr array, each chunk a code of the library, and reads it on two worker processes.
+"""Writes a field as a zarr array, each chunk a code, reads it on two worker processes, and writes it by xarray.
 
 usage: zarr_field.py PROGRAM
 """
+import itertools
 import logging
 import os
 import sys
@@ -11,16 +12,40 @@ import time
 
 import numpy
 
-ROOT = os.path.join(os.path.dirname(os.path.abspath(__file__)), "..")
-os.environ.setdefault("RICE_LIBRARY", os.path.realpath(os.path.join(ROOT, "librice.so")))
-os.environ["PYTHONPATH"] = os.path.realpath(os.path.join(ROOT, "examples/python"))
+PACKAGE = os.environ.get("RICE_PYTHON", os.path.join(os.path.dirname(os.path.abspath(__file__)), "../out/python"))
+os.environ["PYTHONPATH"] = os.path.realpath(PACKAGE)
 sys.path.insert(0, os.environ["PYTHONPATH"])
 
 import dask.array
+import xarray
 import zarr
 from dask.distributed import Client, LocalCluster
+from rice121.codec import RiceCodec
 
-from rice_codec import Field, RiceCodec
+
+class Field:
+    """A zarr array whose exceptions name the chunk that can't be decoded."""
+
+    def __init__(self, array):
+        self.array, self.shape, self.dtype, self.ndim = array, array.shape, array.dtype, array.ndim
+
+    def __getitem__(self, selection):
+        try:
+            return self.array[selection]
+        except ValueError as error:
+            name = self.damaged()
+            if name is None:
+                raise
+            raise ValueError(f"chunk {name}: {error}") from error
+
+    def damaged(self):
+        """The name of the first chunk that can't be decoded, or None where all can."""
+        for place in itertools.product(*map(range, self.array.cdata_shape)):
+            try:
+                self.array[tuple(slice(at * size, (at + 1) * size) for at, size in zip(place, self.array.chunks))]
+            except ValueError:
+                return ".".join(map(str, place))
+        return None
 
 
 def field():
@@ -47,12 +72,22 @@ def mean_over_time(name):
     return values.mean(axis=0).compute()
 
 
+def by_xarray(values):
+    """Kelvin, as xarray has them, and steps of 1/100 in the file."""
+    kelvin = xarray.Dataset({"temperature": (("day", "row", "column"), values / 100)})
+    coded = {"dtype": "uint16", "scale_factor": 0.01, "_FillValue": 65535, "compressor": RiceCodec("<u2"), "chunks": (16, 90, 180)}
+    kelvin.to_zarr("kelvin.zarr", encoding={"temperature": coded})
+    with xarray.open_zarr("kelvin.zarr") as back:
+        print("by xarray:", numpy.array_equal(numpy.rint(back.temperature * 100), values), back.temperature.encoding["compressor"])
+
+
 def main():
     values = field()
     print(f"{values.nbytes} bytes of samples")
     written(values, "rice.zarr", RiceCodec("<u2"))
     written(values, "default.zarr", "default")
     written(values, "none.zarr", None)
+    by_xarray(values)
     cluster = LocalCluster(n_workers=2, threads_per_worker=1, processes=True, host="127.0.0.1", dashboard_address=None,
                            silence_logs=logging.CRITICAL)
     with cluster, Client(cluster) as client:
