@@ -13,7 +13,7 @@ PYTHON_CODES ?= 1000000
 LIBRARY_CODES ?= 1000000
 
 .DEFAULT_GOAL := help
-.PHONY: help library compat python install install-command install-library install-compat uninstall check clean dist release deb released two-builds test test-each rows hostile interop exhaustive any-block refused-memory installed recipes documents bench examples stack header axioms hostile-library hostile-pulls clients hostile-compat python-tests aarch64 bench-compat bench-library wrappers clauses plant
+.PHONY: help library compat python install install-command install-library install-compat uninstall check clean dist release deb released two-builds test test-each rows hostile interop exhaustive any-block refused-memory installed recipes documents options bench examples stack header axioms hostile-library hostile-pulls clients hostile-compat python-tests aarch64 bench-compat bench-library wrappers clauses plant
 
 help:
 	@echo 'make aec                    prove and build the program, as ./aec (ten to thirteen minutes the first time)'
@@ -42,7 +42,8 @@ help:
 	@echo 'make refused-memory         refuse each request for memory of ./aec in turn'
 	@echo 'make installed              install ./aec and the library into a folder, and try them there'
 	@echo 'make recipes                run the recipes of docs/COOKBOOK.md with ./aec'
-	@echo 'make documents              try the links, commands, options and messages of the documents with ./aec'
+	@echo 'make documents              try the links, commands and messages of the documents with ./aec'
+	@echo 'make options                compare all lists of the options with scripts/options.txt'
 	@echo "make bench                  compare the speed of ./aec and Debian's aec"
 	@echo 'make examples               build and run examples/c and examples/cpp, with sanitizers and under valgrind'
 	@echo 'make python-tests           try the Python package against ./aec, and with damaged codes'
@@ -256,6 +257,9 @@ recipes: aec library compat python
 
 documents: aec
 	scripts/documents.py ./aec
+
+options: aec
+	scripts/options.py ./aec
 
 bench: aec
 	scripts/bench

@@ -1,6 +1,6 @@
 #!/usr/bin/env python3
-"""Tries what the documents and the manual page say: links, paths, targets of make, commands, options, messages, edits and
-toolchains.
+"""Tries what the documents and the manual page say: links, paths, targets of make, commands, messages, edits and
+toolchains. (Options: scripts/options.py.)
 
 Commands that begin with `$` are run with the program, and what they print is compared; of others the first word is looked up.
 
@@ -100,18 +100,6 @@ def wrong_examples(help_text):
         yield f"help: its examples fail with {done.stderr!r}"
 
 
-def wrong_options(help_text):
-    """The options that are not the same in the help, in README and in the manual."""
-    options_in = lambda text: set(re.findall(r"(?<![\w-])--?\w+", text))
-    wanted = options_in("\n".join(line.split("  ")[0] for line in re.findall(r"(?m)^ +(-.*)$", help_text)))
-    rows = options_in("\n".join(re.findall(r"(?m)^\| (`-.*?) \|", read("README.md"))))
-    items = re.findall(r"(?m)^\.It Fl (.*)$", read(MANUAL))
-    listed = options_in("\n".join(f"-{item}".replace(" , ", " -") for item in items))
-    for name, found in (("README.md", rows), (MANUAL, listed)):
-        for option in sorted(wanted ^ found):
-            yield f"{name}: the option {option} is not in the help, or only there"
-
-
 def wrong_messages():
     """The messages of README and of the sources that the manual does not explain."""
     numbered = lambda text: re.sub(r"\b\d+\b|\{\w+\}", "N", text.replace("{name}", "NAME"))
@@ -154,7 +142,7 @@ def main():
     targets = re.findall(r"(?m)^([a-z0-9-]+):", read("Makefile"))
     help_text = subprocess.run([program, "--help"], capture_output=True, text=True, check=True).stdout
     wrong = [text for page in pages for text in (*wrong_links(page), *wrong_names(page, targets), *wrong_commands(page))]
-    wrong += [*wrong_options(help_text), *wrong_messages(), *wrong_edits(), *wrong_toolchains()]
+    wrong += [*wrong_messages(), *wrong_edits(), *wrong_toolchains()]
     with tempfile.TemporaryDirectory() as folder:
         os.symlink(program, os.path.join(folder, "aec"))
         os.environ["PATH"] = folder + ":" + os.environ["PATH"]
