@@ -3,14 +3,12 @@
 
 usage: in_process.py PROGRAM
 """
-import os
 import subprocess
 import sys
 
 import numpy
 
-sys.path.insert(0, os.environ.get("RICE_PYTHON", os.path.join(os.path.dirname(os.path.abspath(__file__)), "../out/python")))
-
+import package
 import rice121
 
 steps = numpy.arange(131072)

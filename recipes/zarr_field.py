@@ -6,15 +6,12 @@ usage: zarr_field.py PROGRAM
 import itertools
 import logging
 import os
-import sys
 import tempfile
 import time
 
 import numpy
 
-PACKAGE = os.environ.get("RICE_PYTHON", os.path.join(os.path.dirname(os.path.abspath(__file__)), "../out/python"))
-os.environ["PYTHONPATH"] = os.path.realpath(PACKAGE)
-sys.path.insert(0, os.environ["PYTHONPATH"])
+import package
 
 import dask.array
 import xarray

@@ -59,6 +59,11 @@ class Decoder:
         """The samples before the next, counted from the beginning of the code."""
         return int(self._drain.samples) - len(self._ahead)
 
+    @property
+    def bits(self) -> int:
+        """The bits of code of the blocks so far, with the padding of intervals, counted from the beginning of the code."""
+        return int(self._drain.bits)
+
     def pull(self, code: Octets = b"", count: Optional[int] = None) -> Array:
         """Returns an array of the samples that are whole in the code so far, with more code behind it: the next `count`, or fewer
         where there aren't so many.

@@ -72,7 +72,7 @@ class Options:
 
     def setting(self) -> Any:
         """Returns the options as the library has them."""
-        return ffi.new("struct rice_setting *", dataclasses.asdict(self))
+        return ffi.new("struct rice_setting *", vars(self))
 
     @property
     def width(self) -> int:

@@ -76,6 +76,7 @@ class Pieces(unittest.TestCase):
                 parts.append(decoder.pull())
                 decoder.close()
                 self.assertEqual(decoder.samples, len(everything))
+                self.assertEqual(-(-decoder.bits // 8), len(code))
                 self.assertTrue(numpy.array_equal(numpy.concatenate(parts), everything))
                 self.assertRaises(ValueError, decoder.pull)
 
