@@ -1,103 +1,256 @@
 #!/usr/bin/python3
-"""The payload of a GRIB2 message with CCSDS packing, decompressed and compressed by aec; ecCodes reads the same values.
+"""GRIB2 messages with CCSDS packing: checked, decoded and encoded in process. All messages of a file are taken, with bit maps and constant
+fields; what isn't served is named.
 
-usage: grib.py PROGRAM
+usage: grib.py check FILE..         say of each field what it is, and whether its code is whole
+       grib.py decode FILE FOLDER   write the values of each field as FOLDER/N.npy, with NaN where the bit map has none
+       grib.py encode FILE OUT      give fields of simple packing CCSDS packing, with the very same numbers
 """
-import math
 import os
-import subprocess
 import sys
+from typing import NamedTuple
 
-import eccodes
 import numpy
 
-SIGNED, THREE_BYTES, MOST_SIGNIFICANT_FIRST, PREPROCESS = 1, 2, 4, 8
+from codes import Damage, Fault, Unserved, decoded, fault_of, unsigned, words_of
+
+import rice121
+
+SIMPLE, CCSDS = 0, 42
+SIGNED, THREE_BYTES, MOST_SIGNIFICANT_FIRST, PREPROCESS, RESTRICTED, PAD, NOT_ENFORCE = (1 << i for i in range(7))
+NO_BITMAP, LAST_BITMAP = 255, 254
 
 
-def message_of(values, bits):
-    """A message that ecCodes packs."""
-    handle = eccodes.codes_grib_new_from_samples("regular_ll_sfc_grib2")
-    eccodes.codes_set(handle, "Ni", values.shape[1])
-    eccodes.codes_set(handle, "Nj", values.shape[0])
-    eccodes.codes_set(handle, "packingType", "grid_ccsds")
-    eccodes.codes_set(handle, "bitsPerValue", bits)
-    eccodes.codes_set_values(handle, values.ravel())
-    return eccodes.codes_get_message(handle)
+class Field(NamedTuple):
+    """A field of a message: the sections that it has, as bytes, and where its code begins in the file."""
+
+    points: int  # of its grid, in section 3
+    packing: bytes  # section 5
+    bitmap: bytes  # what section 6 holds, or nothing
+    code: bytes  # of section 7
+    start: int
+
+    def number(self, first, last):
+        """A number of section 5, by its octets, which are counted from 1."""
+        return int.from_bytes(self.packing[first - 1 : last], "big")
+
+    @property
+    def count(self):
+        return self.number(6, 9)
+
+    @property
+    def template(self):
+        return self.number(10, 11)
+
+    @property
+    def bits(self):
+        return self.number(20, 20)
+
+    def scale(self, first):
+        """A scale factor, whose first bit is its sign."""
+        number = self.number(first, first + 1)
+        return -(number & 0x7FFF) if number & 0x8000 else number
+
+    def values(self, numbers):
+        """The values of whole numbers, by the reference value and the scale factors; not a number where the bit map has no bit."""
+        reference = numpy.frombuffer(self.packing[11:15], ">f4")[0].astype("f8")
+        found = (reference + numbers * 2.0 ** self.scale(16)) / 10.0 ** self.scale(18)
+        if not self.bitmap:
+            return found
+        places = numpy.unpackbits(numpy.frombuffer(self.bitmap, "u1"))[: self.points]
+        values = numpy.full(len(places), numpy.nan)
+        values[numpy.flatnonzero(places)[: len(found)]] = found
+        return values
 
 
-def values_of(message):
-    """The values that ecCodes reads."""
-    return eccodes.codes_get_values(eccodes.codes_new_from_message(message))
+def messages(data):
+    """Where each message of a file begins, and where it ends. What stands between them is passed over."""
+    at = data.find(b"GRIB")
+    while at >= 0:
+        if at + 16 > len(data):
+            raise Damage("the file ends inside a message")
+        if data[at + 7] != 2:
+            raise Unserved(f"edition {data[at + 7]} of GRIB")
+        end = at + int.from_bytes(data[at + 8 : at + 16], "big")
+        if end > len(data) or data[end - 4 : end] != b"7777":
+            raise Damage("a message has no end where its length says")
+        yield at, end
+        at = data.find(b"GRIB", end)
 
 
-def sections(message):
-    """The sections of a message by their numbers: where each begins, and where it ends."""
-    places, at = {}, 16
-    while message[at : at + 4] != b"7777":
-        length = int.from_bytes(message[at : at + 4], "big")
-        assert 5 <= length <= len(message) - at
-        places[message[at + 4]] = (at, at + length)
+def sections(data, start, end):
+    """The sections of a message: of each its number, where it begins and where it ends."""
+    at = start + 16
+    while at < end - 4:
+        length = int.from_bytes(data[at : at + 4], "big")
+        if not 5 <= length <= end - 4 - at:
+            raise Damage(f"a section at byte {at} has a length of {length}")
+        yield data[at + 4], at, at + length
         at += length
-    return places
 
 
-def options_of(packing):
-    """The options of aec, by section 5 of a message (template 42)."""
-    bits, flags, block, interval = packing[19], packing[21], packing[22], int.from_bytes(packing[23:25], "big")
-    assert int.from_bytes(packing[9:11], "big") == 42 and flags < 16
-    words = ["-n", str(bits), "-j", str(block), "-r", str(interval)]
-    letters = {"-m": MOST_SIGNIFICANT_FIRST, "-s": SIGNED, "-3": THREE_BYTES}
-    words += [letter for letter, flag in letters.items() if flags & flag]
-    return words + ([] if flags & PREPROCESS else ["-N"])
+def fields(data, start, end):
+    """The fields of a message. A message may have several, which share sections."""
+    points, packing, bitmap = 0, None, b""
+    for number, at, after in sections(data, start, end):
+        section = data[at:after]
+        if number == 3:
+            points = int.from_bytes(section[6:10], "big")
+        elif number == 5:
+            packing = section
+        elif number == 6 and section[5] == 0:
+            bitmap = section[6:]
+        elif number == 6 and section[5] == NO_BITMAP:
+            bitmap = b""
+        elif number == 6 and section[5] != LAST_BITMAP:
+            raise Unserved(f"the predefined bit map {section[5]}")
+        elif number == 7:
+            if packing is None or len(packing) < 21:
+                raise Damage("section 7 has no section 5 before it")
+            yield Field(points, packing, bitmap, section[5:], at + 5)
 
 
-def width_of(options):
-    """The bytes of a sample."""
-    bits = int(options[1])
-    return 1 if bits <= 8 else 2 if bits <= 16 else 3 if "-3" in options and bits <= 24 else 4
+def options_of(field):
+    """The options of a code, by section 5 (template 42)."""
+    bits, flags, block, interval = field.bits, field.number(22, 22), field.number(23, 23), field.number(24, 25)
+    if flags & RESTRICTED:
+        raise Unserved("the flag 16, restricted options")
+    if not (1 <= bits <= 32 and 1 <= interval <= 4096 and 2 <= block <= 64 and block % 2 == 0):
+        raise Damage(f"section 5 has {bits} bits, blocks of {block}, intervals of {interval}")
+    return {"bits": bits, "block": block, "interval": interval, "preprocess": bool(flags & PREPROCESS), "pad": bool(flags & PAD),
+            "any_block": block not in (8, 16, 32, 64)}
 
 
-def aec(words, data):
-    return subprocess.run([PROGRAM, *words, "-", "-"], input=data, capture_output=True, check=True).stdout
+def words(field):
+    """The options of the command. The flags 2 and 4 say how samples stand in bytes, which is nothing to the code."""
+    flags = field.number(22, 22)
+    return words_of(options_of(field), flags & MOST_SIGNIFICANT_FIRST, flags & SIGNED, flags & THREE_BYTES)
 
 
-def numbers_of(data, options):
-    """The whole numbers that samples write."""
-    width, order = width_of(options), "big" if "-m" in options else "little"
-    return [int.from_bytes(data[at : at + width], order) for at in range(0, len(data), width)]
+def numbers_of(field):
+    """The whole numbers of a field."""
+    if field.bits == 0:
+        return numpy.zeros(field.count, "u4")
+    if field.template == SIMPLE:
+        return unpacked(field)
+    if field.template != CCSDS:
+        raise Unserved(f"the packing of template {field.template}")
+    kind = unsigned(field.bits)
+    if field.number(22, 22) & SIGNED:
+        kind = numpy.dtype(kind.str.replace("u", "i"))
+    return decoded(field.code, field.count, kind, **options_of(field))
 
 
-def with_code(message, code):
-    """The message with another code in its section 7."""
-    start, end = sections(message)[7]
-    section = (len(code) + 5).to_bytes(4, "big") + b"\7" + code
-    length = len(message) - (end - start) + len(section)
-    return message[:8] + length.to_bytes(8, "big") + message[16:start] + section + message[end:]
+def unpacked(field):
+    """The whole numbers of simple packing: their bits one after the other."""
+    bits = numpy.unpackbits(numpy.frombuffer(field.code, "u1"))
+    if not 1 <= field.bits <= 32 or len(bits) < field.bits * field.count:
+        raise Damage(f"section 7 has no {field.count} numbers of {field.bits} bits")
+    weights = 1 << numpy.arange(field.bits - 1, -1, -1, dtype="u8")
+    return (bits[: field.bits * field.count].reshape(-1, field.bits) * weights).sum(axis=1).astype("u4")
 
 
-def show(values, bits):
-    message = message_of(values, bits)
-    places = sections(message)
-    packing = message[slice(*places[5])]
-    code = message[places[7][0] + 5 : places[7][1]]
-    count = int.from_bytes(packing[5:9], "big")
-    options = options_of(packing)
-    print(f"{bits} bits, {count} values, {len(code)} bytes of code: aec {' '.join(options)}")
-
-    samples = aec(["-d", *options, "--samples", str(count)], code)
-    numbers = numpy.array(numbers_of(samples, options))
-    handle = eccodes.codes_new_from_message(message)
-    reference, binary, decimal = (
-        eccodes.codes_get(handle, key) for key in ("referenceValue", "binaryScaleFactor", "decimalScaleFactor")
-    )
-    ours = (reference + numbers * 2.0**binary) / 10.0**decimal
-    print("  decompressed by aec, the values of ecCodes:", bool(numpy.allclose(ours, values_of(message), rtol=1e-12)))
-
-    back = with_code(message, aec(options, samples))
-    print("  compressed by aec, ecCodes reads the same:", bool((values_of(back) == values_of(message)).all()))
+def read(path):
+    with open(path, "rb") as file:
+        return file.read()
 
 
-PROGRAM = os.path.abspath(sys.argv[1])
-field = numpy.array([[280 + 20 * math.sin(y / 9) + 5 * math.cos(x / 7) for x in range(120)] for y in range(80)])
-for bits in (8, 12, 16, 24):
-    show(field, bits)
+def parts(data):
+    """All fields of a file, with their names, and at the end what is wrong with a message."""
+    number, start, name = 0, 0, "message 0"
+    try:
+        for number, (start, end) in enumerate(messages(data)):
+            name = f"message {number}"
+            for i, field in enumerate(fields(data, start, end)):
+                yield name if i == 0 else f"{name}, field {i}", field
+            name = f"behind message {number}"
+    except (Damage, Unserved) as error:
+        yield name, Fault(name, str(error), None, start)
+
+
+def faults(path):
+    """What is wrong with the codes of a file. Fields of other packings have none."""
+    for name, field in parts(read(path)):
+        if isinstance(field, Fault):
+            yield field
+        elif field.template == CCSDS and field.bits:
+            try:
+                numbers_of(field)
+            except ValueError as error:
+                yield fault_of(name, error, field.start)
+
+
+def check(paths):
+    """Says of each field what it is. Answers whether all are whole."""
+    is_whole = True
+    for path in paths:
+        found = {fault.part: fault for fault in faults(path)}
+        is_whole &= not found
+        for name, field in parts(read(path)):
+            if name in found:
+                print(f"{path}: {found[name]}")
+            elif field.bits == 0:
+                print(f"{path}: {name}: {field.count} values, all the same")
+            elif field.template == CCSDS:
+                print(f"{path}: {name}: {field.count} values, aec {words(field)}, {len(field.code)} bytes of code, whole")
+            else:
+                print(f"{path}: {name}: {field.count} values of {field.bits} bits, template {field.template}, which has no code")
+    return is_whole
+
+
+def decode(path, folder):
+    os.makedirs(folder, exist_ok=True)
+    for number, (name, field) in enumerate(parts(read(path))):
+        if isinstance(field, Fault):
+            raise SystemExit(f"{path}: {field}")
+        values = field.values(numbers_of(field))
+        numpy.save(os.path.join(folder, f"{number}.npy"), values)
+        print(f"{folder}/{number}.npy: {len(values)} values, from {numpy.nanmin(values):g} to {numpy.nanmax(values):g}")
+
+
+def packed(field):
+    """Sections 5 and 7 of a field with CCSDS packing, in blocks of 32 and intervals of 128."""
+    numbers = numbers_of(field).astype(unsigned(field.bits))
+    code = rice121.encode(numbers, bits=field.bits, block=32, interval=128)
+    flags = THREE_BYTES | MOST_SIGNIFICANT_FIRST | PREPROCESS
+    head = b"\5" + field.packing[5:9] + CCSDS.to_bytes(2, "big") + field.packing[11:21] + bytes([flags, 32]) + (128).to_bytes(2, "big")
+    return (len(head) + 4).to_bytes(4, "big") + head, (len(code) + 5).to_bytes(4, "big") + b"\7" + code
+
+
+def repacked(data, start, end):
+    """A message whose fields, all of simple packing, have CCSDS packing; or as it was."""
+    found, out, at_field = list(fields(data, start, end)), [], 0
+    if not all(field.template == SIMPLE and 1 <= field.bits <= 32 for field in found):
+        return data[start:end]
+    new = [packed(field) for field in found]
+    for number, at, after in sections(data, start, end):
+        out.append(new[at_field][number == 7] if number in (5, 7) else data[at:after])
+        at_field += number == 7
+    body = b"".join(out) + b"7777"
+    return data[start : start + 8] + (len(body) + 16).to_bytes(8, "big") + body
+
+
+def encode(path, out):
+    data = read(path)
+    with open(out, "wb") as file:
+        for number, (start, end) in enumerate(messages(data)):
+            message = repacked(data, start, end)
+            file.write(message)
+            is_same = message == data[start:end]
+            print(f"{out}: message {number}: {'as it was' if is_same else f'{end - start} bytes become {len(message)}'}")
+
+
+def main():
+    command, *paths = sys.argv[1:] or [""]
+    if command == "check" and paths:
+        sys.exit(not check(paths))
+    if command not in ("decode", "encode") or len(paths) != 2:
+        sys.exit(__doc__.partition("\n\n")[2])
+    try:
+        {"decode": decode, "encode": encode}[command](*paths)
+    except (Damage, Unserved) as error:
+        sys.exit(f"{paths[0]}: {error}")
+
+
+if __name__ == "__main__":
+    main()

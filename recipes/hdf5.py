@@ -1,71 +1,212 @@
 #!/usr/bin/python3
-"""Chunks of HDF5's SZIP filter, decompressed and compressed by aec; HDF5 reads the same values.
+"""Chunks of HDF5's SZIP filter, in files of HDF5 or netCDF 4: checked and decoded in process. All types of one, two, four and eight bytes
+are taken, pixels of 32 and 64 bits in planes of bytes, scanlines that are filled to whole blocks, every even block size; and beside SZIP
+the filters shuffle and fletcher32.
 
-usage: hdf5.py PROGRAM
+usage: hdf5.py check FILE [DATASET]..        say of each dataset whether the codes of its chunks are whole
+       hdf5.py decode FILE DATASET OUT.npy   write its values
 """
 import math
-import os
-import subprocess
 import sys
-import tempfile
+from typing import NamedTuple
 
 import h5py
 import numpy
 
+from codes import Damage, Fault, Unserved, decoded, fault_of, unsigned, words_of
+
 MOST_SIGNIFICANT_FIRST, NEAREST_NEIGHBOUR = 16, 32
+SHUFFLE, FLETCHER32, SZIP = h5py.h5z.FILTER_SHUFFLE, h5py.h5z.FILTER_FLETCHER32, h5py.h5z.FILTER_SZIP
+NAMES = {SHUFFLE: "shuffle", FLETCHER32: "fletcher32", SZIP: "SZIP", h5py.h5z.FILTER_DEFLATE: "deflate", h5py.h5z.FILTER_NBIT: "nbit",
+         h5py.h5z.FILTER_SCALEOFFSET: "scaleoffset"}
 
 
-def options_of(dataset):
-    """The options of aec, by the filter of a dataset."""
-    number, _, values, _ = dataset.id.get_create_plist().get_filter(0)
-    mask, block, bits, scanline = values
-    assert number == h5py.h5z.FILTER_SZIP and bits in (8, 16) and scanline % block == 0
-    words = ["-n", str(bits), "-j", str(block), "-r", str(scanline // block)]
-    words += ["-m"] if mask & MOST_SIGNIFICANT_FIRST else []
-    return words + ([] if mask & NEAREST_NEIGHBOUR else ["-N"])
+class Layout(NamedTuple):
+    """How pixels lie in a code, by the filter's four values."""
+
+    mask: int
+    block: int  # pixels
+    bits: int  # of a pixel
+    line: int  # pixels of a scanline
+
+    @property
+    def planes(self):
+        """Pixels of 32 and 64 bits lie in planes: the first bytes of all, then the second ones, and so on."""
+        return self.bits // 8 if self.bits in (32, 64) else 1
+
+    @property
+    def filled(self):
+        """The pixels of a scanline with those that fill its last block."""
+        return -(-self.line // self.block) * self.block
+
+    @property
+    def kind(self):
+        kind = unsigned(8 if self.planes > 1 else self.bits)
+        return kind.newbyteorder(">") if self.mask & MOST_SIGNIFICANT_FIRST else kind
+
+    def options(self):
+        if not (1 <= self.bits <= 32 or self.bits == 64) or not 2 <= self.block <= 64 or self.block % 2 or not 1 <= self.filled <= 4096 * self.block:
+            raise Unserved(f"pixels of {self.bits} bits, blocks of {self.block}, scanlines of {self.line}")
+        return {"bits": 8 if self.planes > 1 else self.bits, "block": self.block, "interval": self.filled // self.block,
+                "preprocess": bool(self.mask & NEAREST_NEIGHBOUR), "any_block": self.block not in (8, 16, 32, 64)}
+
+    def words(self):
+        """The options of the command, which takes the standard's block sizes alone."""
+        return words_of(self.options(), self.kind.byteorder == ">")
 
 
-def aec(words, data):
-    return subprocess.run([PROGRAM, *words, "-", "-"], input=data, capture_output=True, check=True).stdout
+def filters_of(dataset):
+    """The filters of a dataset, in the order in which they were applied, each with its values."""
+    properties = dataset.id.get_create_plist()
+    return [properties.get_filter(i)[:3:2] for i in range(properties.get_nfilters())]
 
 
-def decoded(dataset, place):
+def layout_of(dataset):
+    """The layout of a dataset's codes, or None where it has no SZIP filter."""
+    found = filters_of(dataset)
+    if SZIP not in [number for number, _ in found]:
+        return None
+    others = [NAMES.get(number, f"number {number}") for number, _ in found if number not in (SHUFFLE, FLETCHER32, SZIP)]
+    if others:
+        raise Unserved(f"the filter {others[0]}")
+    return Layout(*next(values for number, values in found if number == SZIP)[:4])
+
+
+def unzipped(layout, chunk):
     """The bytes of a chunk. Its first four are their number, the least significant first."""
-    _, chunk = dataset.id.read_direct_chunk(place)
-    length = int.from_bytes(chunk[:4], "little")
-    assert length == dataset.dtype.itemsize * math.prod(dataset.chunks)
-    samples = length // dataset.dtype.itemsize
-    return aec(["-d", *options_of(dataset), "--samples", str(samples)], chunk[4:])
+    size = int.from_bytes(chunk[:4], "little")
+    pixel = layout.kind.itemsize
+    count = size // pixel
+    if size % (pixel * layout.planes) or len(chunk) < 4:
+        raise Damage(f"{size} bytes are no whole pixels")
+    if size > 456 * 8 * 8 * len(chunk):
+        raise Damage(f"{len(chunk)} bytes of code have no {size} bytes of pixels")
+    lines = -(-count // layout.line)
+    needed = count + (lines - 1) * (layout.filled - layout.line) if count else 0
+    # (what fills the last scanline is written too)
+    samples = decoded(chunk[4:], lines * layout.filled if needed else 0, layout.kind, **layout.options())
+    pixels = samples.reshape(lines, layout.filled)[:, : layout.line].reshape(-1)[:count]
+    octets = numpy.ascontiguousarray(pixels).view("u1")
+    return octets.reshape(layout.planes, -1).T.tobytes() if layout.planes > 1 else octets.tobytes()
 
 
-def encoded(dataset, data):
-    """A chunk of these bytes."""
-    return len(data).to_bytes(4, "little") + aec(options_of(dataset), data)
+def fletcher32(data):
+    """HDF5's check sum."""
+    words = numpy.frombuffer(data + b"\0" * (len(data) % 2), ">u2").astype("u8")
+    sums = int(words.sum()), int((words * numpy.arange(len(words), 0, -1, dtype="u8")).sum())
+    first, second = ((each - 1) % 65535 + 1 if each else 0 for each in sums)
+    return second << 16 | first
 
 
-def show(kind, coding, block):
-    lines = numpy.add.outer(numpy.arange(128) * 3, numpy.arange(256) // 5)
-    values = (lines + (lines * 7919) % 4).astype(kind)
-    settings = {"shape": values.shape, "dtype": kind, "chunks": (64, 128), "compression": "szip", "compression_opts": (coding, block)}
-    with h5py.File("field.h5", "w") as file:
-        theirs, ours = (file.create_dataset(name, **settings) for name in ("theirs", "ours"))
-        theirs[...] = values
-        print(f"{kind}, {coding}, {theirs.id.get_num_chunks()} chunks: aec {' '.join(options_of(theirs))}")
-        same = True
-        for i in range(theirs.id.get_num_chunks()):
-            place = theirs.id.get_chunk_info(i).chunk_offset
-            part = numpy.ascontiguousarray(values[place[0] : place[0] + 64, place[1] : place[1] + 128])
-            same &= decoded(theirs, place) == part.tobytes()
-            ours.id.write_direct_chunk(place, encoded(ours, part.tobytes()))
-    with h5py.File("field.h5") as file:
-        print("  decompressed by aec, the values of HDF5:", same)
-        print("  compressed by aec, HDF5 reads the same:", bool((file["ours"][...] == values).all()))
+def chunk_bytes(dataset, layout, place):
+    """The bytes of a chunk, after its filters are undone. One that a chunk's mask names was not applied to it."""
+    mask, data = dataset.id.read_direct_chunk(place)
+    for i, (number, _) in reversed(list(enumerate(filters_of(dataset)))):
+        if mask >> i & 1:
+            continue
+        if number == FLETCHER32:
+            data, stored = data[:-4], int.from_bytes(data[-4:], "little")
+            if fletcher32(data) != stored:
+                raise Damage("the check sum of the chunk is another")
+        elif number == SZIP:
+            data = unzipped(layout, data)
+        elif number == SHUFFLE:
+            data = numpy.frombuffer(data, "u1").reshape(dataset.dtype.itemsize, -1).T.tobytes()
+    if len(data) != dataset.dtype.itemsize * math.prod(dataset.chunks):
+        raise Damage(f"a chunk of {len(data)} bytes, where the dataset has {dataset.dtype.itemsize * math.prod(dataset.chunks)}")
+    return data
 
 
-PROGRAM = os.path.abspath(sys.argv[1])
-with tempfile.TemporaryDirectory() as folder:
-    os.chdir(folder)
-    show("<u2", "nn", 16)
-    show(">u2", "nn", 32)
-    show("<u2", "ec", 8)
-    show("|u1", "nn", 8)
+def datasets(file, names=()):
+    """The datasets of a file, or those that are named."""
+    found = []
+    file.visititems(lambda name, it: found.append(it) if isinstance(it, h5py.Dataset) else None)
+    wanted = {"/" + name.strip("/") for name in names}
+    missing = wanted - {dataset.name for dataset in found}
+    if missing:
+        raise Damage(f"there is no dataset {', '.join(sorted(missing))}")
+    return [dataset for dataset in found if dataset.name in wanted or not names]
+
+
+def places(dataset):
+    """Where the chunks of a dataset are: in it, and in the file."""
+    for i in range(dataset.id.get_num_chunks()):
+        info = dataset.id.get_chunk_info(i)
+        yield info.chunk_offset, info.byte_offset
+
+
+def dataset_faults(dataset):
+    """What is wrong with the chunks of a dataset."""
+    try:
+        layout = layout_of(dataset)
+    except Unserved as error:
+        yield Fault(dataset.name, f"not served: {error}")
+        return
+    if layout is None:
+        return
+    for place, byte in places(dataset):
+        try:
+            chunk_bytes(dataset, layout, place)
+        except (ValueError, OSError) as error:
+            # (the code stands behind the number of bytes)
+            yield fault_of(f"{dataset.name} chunk {place}", error, byte + 4)
+
+
+def faults(path):
+    """What is wrong with the codes of a file. Datasets without them have nothing."""
+    try:
+        with h5py.File(path) as file:
+            for dataset in datasets(file):
+                yield from dataset_faults(dataset)
+    except (OSError, RuntimeError, KeyError, ValueError) as error:
+        yield Fault("the file", f"HDF5 says: {error}")
+
+
+def check(path, names):
+    """Says of each dataset what it is. Answers whether all are whole."""
+    is_whole = True
+    with h5py.File(path) as file:
+        for dataset in datasets(file, names):
+            found = list(dataset_faults(dataset))
+            is_whole &= not found
+            for fault in found:
+                print(f"{path}: {fault}")
+            if not found:
+                layout = layout_of(dataset)
+                what = "no SZIP filter" if layout is None else f"{dataset.id.get_num_chunks()} chunks, aec {layout.words()}, whole"
+                planes = f", {layout.planes} planes of bytes" if layout and layout.planes > 1 else ""
+                print(f"{path}: {dataset.name}: {dataset.dtype.str} {dataset.shape}: {what}{planes}")
+    return is_whole
+
+
+def decode(path, name, out):
+    """Writes the values of a dataset, without HDF5's filter."""
+    with h5py.File(path) as file:
+        (dataset,) = datasets(file, [name])
+        layout = layout_of(dataset)
+        if layout is None:
+            raise Unserved(f"{name} has no SZIP filter")
+        values = numpy.full(dataset.shape, dataset.fillvalue, dataset.dtype)
+        for place, _ in places(dataset):
+            part = numpy.frombuffer(chunk_bytes(dataset, layout, place), dataset.dtype).reshape(dataset.chunks)
+            there = tuple(slice(at, min(at + size, end)) for at, size, end in zip(place, dataset.chunks, dataset.shape))
+            values[there] = part[tuple(slice(0, each.stop - each.start) for each in there)]
+        is_same = numpy.array_equal(values.view("u1"), dataset[...].view("u1"))
+    numpy.save(out, values)
+    print(f"{out}: {values.dtype.str} {values.shape}, the values that HDF5 reads: {is_same}")
+
+
+def main():
+    command, *words = sys.argv[1:] or [""]
+    try:
+        if command == "check" and words:
+            sys.exit(not check(words[0], words[1:]))
+        if command == "decode" and len(words) == 3:
+            sys.exit(decode(*words))
+    except (Damage, Unserved, OSError) as error:
+        sys.exit(f"{words[0]}: {error}")
+    sys.exit(__doc__.partition("\n\n")[2])
+
+
+if __name__ == "__main__":
+    main()
