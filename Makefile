@@ -13,7 +13,7 @@ PYTHON_CODES ?= 1000000
 LIBRARY_CODES ?= 1000000
 
 .DEFAULT_GOAL := help
-.PHONY: help library compat python install install-command install-library install-compat uninstall check clean dist release deb released two-builds test test-each rows hostile interop exhaustive any-block refused-memory installed recipes documents options guesses bench examples stack header axioms hostile-library hostile-pulls clients hostile-compat python-tests aarch64 bench-compat bench-library wrappers clauses plant
+.PHONY: help library compat python install install-command install-library install-compat uninstall check clean dist release deb released two-builds test test-each rows hostile interop exhaustive any-block refused-memory installed recipes documents options guesses vectors bench examples stack header axioms hostile-library hostile-pulls clients hostile-compat python-tests aarch64 bench-compat bench-library wrappers clauses plant
 
 help:
 	@echo 'make aec                    prove and build the program, as ./aec (ten to thirteen minutes the first time)'
@@ -44,6 +44,7 @@ help:
 	@echo 'make recipes                run the recipes of docs/COOKBOOK.md with ./aec'
 	@echo 'make documents              try the links, commands and messages of the documents with ./aec'
 	@echo 'make options                compare all lists of the options with scripts/options.txt'
+	@echo "make vectors                try the files of vectors/ with ./aec and with Debian's aec"
 	@echo 'make guesses                have recipes/guess.py find the options of codes (minutes)'
 	@echo "make bench                  compare the speed of ./aec and Debian's aec"
 	@echo 'make examples               build and run examples/c and examples/cpp, with sanitizers and under valgrind'
@@ -261,6 +262,9 @@ documents: aec
 
 options: aec
 	scripts/options.py ./aec
+
+vectors: aec
+	scripts/vectors.py ./aec /usr/bin/aec
 
 guesses: aec python
 	scripts/guesses.py ./aec /usr/bin/aec

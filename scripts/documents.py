@@ -15,7 +15,7 @@ import subprocess
 import sys
 import tempfile
 
-FOLDERS = "crates|scripts|docs|recipes|man|completions|compat|python"
+FOLDERS = "crates|scripts|docs|recipes|man|completions|compat|python|vectors"
 MANUAL = "man/aec.1"
 
 
@@ -138,7 +138,7 @@ def wrong_toolchains():
 def main():
     program = os.path.abspath(sys.argv[1])
     os.chdir(os.path.join(os.path.dirname(os.path.abspath(__file__)), ".."))
-    pages = ["README.md", *sorted(glob.glob("docs/*.md")), MANUAL]
+    pages = ["README.md", "vectors/README.md", *sorted(glob.glob("docs/*.md")), MANUAL]
     targets = re.findall(r"(?m)^([a-z0-9-]+):", read("Makefile"))
     help_text = subprocess.run([program, "--help"], capture_output=True, text=True, check=True).stdout
     wrong = [text for page in pages for text in (*wrong_links(page), *wrong_names(page, targets), *wrong_commands(page))]

@@ -230,4 +230,5 @@ def main():
     sys.exit(rows.failures > 0)
 
 
-main()
+if __name__ == "__main__":
+    main()
