@@ -3,7 +3,7 @@
  *
  * Names, values and the layout of the struct are libaec's, so that a program that was built with libaec's own header runs on this
  * library, and one that was built with this header on libaec. The calls are those of libaec 1.1; those on offsets and ranges are
- * not in older ones. README.md says what differs from libaec.
+ * not in older ones. docs/COMPATIBILITY.md says what differs.
  */
 #ifndef LIBAEC_H
 #define LIBAEC_H

@@ -1,4 +1,4 @@
-#!/usr/bin/env python3
+#!/usr/bin/python3
 """Compresses a file with several block sizes, intervals and bits per sample, and compares sizes and speeds.
 
 Prints a table, the shortest code first, and draws a picture. Of the bits per sample it tries the fewest that take all
@@ -15,7 +15,6 @@ import tempfile
 
 BLOCKS = [8, 16, 32, 64]
 INTERVALS = [2, 128, 4096]
-COLORS = ["#1b9e77", "#d95f02", "#7570b3", "#e7298a"]
 RUNS = 9
 LEAST, MOST = {1: (1, 8), 2: (9, 16), 3: (17, 24), 4: (17, 32)}, {1: 8, 2: 16, 3: 24, 4: 32}
 
@@ -46,29 +45,33 @@ def trial(bits, block, interval, code):
     return words, block, os.path.getsize(code), forth, back
 
 
-def draw(trials):
-    """A picture: a dot for each trial, its size from left to right and its speed from below."""
-    sizes, speeds = [100 * each[2] / SIZE for each in trials], [each[3] / 1e6 for each in trials]
-    left, right, top = math.floor(min(sizes)), math.floor(max(sizes)) + 1, 100 * (int(max(speeds) / 100) + 1)
-    across = lambda size: 60 + 480 * (size - left) / (right - left)
-    up = lambda speed: 320 - 280 * speed / top
-    parts = ['<svg xmlns="http://www.w3.org/2000/svg" viewBox="0 0 640 370" font-family="sans-serif" font-size="12">']
-    parts += ['<rect width="640" height="370" fill="white"/>']
-    for size in range(left, right + 1, max(1, (right - left) // 8)):
-        parts.append(f'<path d="M{across(size):.1f} 40V320" stroke="#ddd"/>')
-        parts.append(f'<text x="{across(size):.1f}" y="338" text-anchor="middle">{size} %</text>')
-    for mark in range(0, top + 1, 100):
-        parts.append(f'<path d="M60 {up(mark):.1f}H540" stroke="#ddd"/>')
-        parts.append(f'<text x="52" y="{up(mark) + 4:.1f}" text-anchor="end">{mark}</text>')
-    parts.append('<text x="300" y="360" text-anchor="middle">size of the code, in percent of the samples</text>')
-    parts.append('<text x="20" y="24">compression, MB/s</text>')
-    for i, block in enumerate(BLOCKS):
-        parts.append(f'<circle cx="560" cy="{60 + 20 * i}" r="4" fill="{COLORS[i]}"/>')
-        parts.append(f'<text x="572" y="{64 + 20 * i}">-j {block}</text>')
-    for each, size, speed in zip(trials, sizes, speeds):
-        dot = f'cx="{across(size):.1f}" cy="{up(speed):.1f}" r="4" fill="{COLORS[BLOCKS.index(each[1])]}"'
-        parts.append(f'<circle {dot}><title>{" ".join(each[0])}: {size:.1f} %, {speed:.0f} MB/s</title></circle>')
-    return "\n".join(parts + ["</svg>", ""])
+def draw(trials, size, path):
+    """A picture: a panel for each interval, and in it a mark for each trial, its size from left to right and its speed from below. The shape
+    of a mark is the bits per sample, and the number beside it the block size."""
+    import matplotlib
+
+    matplotlib.use("svg")
+    from matplotlib import pyplot
+
+    pyplot.rcParams.update({"svg.fonttype": "none", "svg.hashsalt": "aec", "font.family": "sans-serif", "font.size": 9})
+    figure, panels = pyplot.subplots(1, len(INTERVALS), figsize=(9, 3.6), sharex=True, sharey=True, layout="constrained")
+    every = sorted({int(words[1]) for words, *_ in trials})
+    for panel, interval in zip(panels, INTERVALS):
+        for words, block, length, forth, _ in trials:
+            if words[5] == str(interval):
+                first = words[1] == str(every[0])
+                panel.plot(100 * length / size, forth / 1e6, "o" if first else "s", color="black", markerfacecolor="white" if first else "black")
+                panel.annotate(str(block), (100 * length / size, forth / 1e6), xytext=(6, 4), textcoords="offset points")
+        panel.set_title(f"-r {interval}")
+        panel.grid(color="#ddd")
+        panel.margins(0.12)
+    panels[0].set_ylabel("compression, MB/s")
+    panels[0].set_ylim(bottom=0)
+    panels[1].set_xlabel("size of the code, in percent of the samples")
+    marks = [pyplot.Line2D([], [], marker=mark, linestyle="", color="black", markerfacecolor=fill) for mark, fill in (("o", "white"), ("s", "black"))]
+    panels[0].legend(marks[: len(every)], [f"-n {bits}" for bits in every], loc="lower left", title="beside a mark: -j")
+    figure.savefig(path, format="svg", metadata={"Date": None, "Creator": None})
+    pyplot.close(figure)
 
 
 def main():
@@ -82,11 +85,11 @@ def main():
     for words, _, size, forth, back in trials:
         speeds = f"{forth / 1e6:7.0f} MB/s {back / 1e6:7.0f} MB/s"
         print(f"{' '.join(words):24} {size:9} {100 * size / SIZE:6.1f}% {speeds}")
-    with open(PICTURE, "w") as file:
-        file.write(draw(trials))
+    draw(trials, SIZE, PICTURE)
 
 
-PROGRAM, FILE, PICTURE = sys.argv[1:4]
-WIDTH, OPTIONS = int(sys.argv[4]), sys.argv[5:] + (["-3"] if sys.argv[4] == "3" else [])
-SIZE = os.path.getsize(FILE)
-main()
+if __name__ == "__main__":
+    PROGRAM, FILE, PICTURE = sys.argv[1:4]
+    WIDTH, OPTIONS = int(sys.argv[4]), sys.argv[5:] + (["-3"] if sys.argv[4] == "3" else [])
+    SIZE = os.path.getsize(FILE)
+    main()

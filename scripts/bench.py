@@ -5,7 +5,7 @@ Prints a table in Markdown: for each row the CPU time of each program (user and 
 where valgrind is there, the instructions for each byte of the samples. Under it stand the least and the geometric mean
 of the ratios of both programs.
 
-usage: bench.py [--svg FILE] [--mispredictions] [--only TEXT] OURS THEIRS [MEBIBYTES]
+usage: bench.py [--mispredictions] [--only TEXT] OURS THEIRS [MEBIBYTES]
 """
 import argparse
 import concurrent.futures
@@ -17,8 +17,6 @@ import shutil
 import subprocess
 import sys
 import tempfile
-
-from bench_picture import picture
 
 RUNS = 25
 COUNTED = 1 << 20  # bytes of samples that callgrind is given
@@ -257,22 +255,17 @@ def main():
             for direction, command_of in zip(DIRECTIONS, (encode, decode)):
                 times, counts = measured(command_of, size, folder)
                 print(line(f"{title}, {direction}", size, times, counts), flush=True)
-                rows.append((title.replace("`", ""), direction, times, counts))
+                rows.append((direction, times, counts))
     print("\nHow many times as fast as Debian's `aec`, and how many times fewer instructions:\n")
     for direction in DIRECTIONS:
-        chosen = [row for row in rows if row[1] == direction]
-        print("- " + summary(direction, [times[1] / times[0] for _, _, times, _ in chosen], "CPU time"))
-        if all(counts for _, _, _, counts in chosen):
-            print("- " + summary(direction, [counts[1][0] / counts[0][0] for _, _, _, counts in chosen], "instructions"))
-    if OPTIONS.svg:
-        speeds = [(title, direction, [size / seconds / 1e6 for seconds in times]) for title, direction, times, _ in rows]
-        with open(OPTIONS.svg, "w") as file:
-            file.write(picture(speeds))
+        chosen = [row for row in rows if row[0] == direction]
+        print("- " + summary(direction, [times[1] / times[0] for _, times, _ in chosen], "CPU time"))
+        if all(counts for _, _, counts in chosen):
+            print("- " + summary(direction, [counts[1][0] / counts[0][0] for _, _, counts in chosen], "instructions"))
 
 
 def options():
     parser = argparse.ArgumentParser(description="Compares two programs aec.")
-    parser.add_argument("--svg", metavar="FILE", help="write a picture of the speeds")
     parser.add_argument("--mispredictions", action="store_true", help="count the jumps that a simple predictor misses")
     parser.add_argument("--only", metavar="TEXT", default="", help="measure only the rows whose titles contain TEXT")
     parser.add_argument("ours")

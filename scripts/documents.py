@@ -78,6 +78,7 @@ def run(script):
     """Runs lines of a shell in a folder that has the files of the examples."""
     generator = random.Random(1)
     with tempfile.TemporaryDirectory() as folder:
+        os.symlink(shutil.which("aec"), os.path.join(folder, "aec"))
         for name, size in (("frame.raw", 131072), ("sensor.raw", 90000), ("samples.bin", 10000)):
             with open(os.path.join(folder, name), "wb") as file:
                 file.write(generator.randbytes(size))
@@ -101,10 +102,10 @@ def wrong_examples(help_text):
 
 
 def wrong_messages():
-    """The messages of README and of the sources that the manual does not explain."""
+    """The messages of docs/COMMAND.md and of the sources that the manual does not explain."""
     numbered = lambda text: re.sub(r"\b\d+\b|\{\w+\}", "N", text.replace("{name}", "NAME"))
     explained = {numbered(text) for text in re.findall(r'(?m)^\.It "(.*)"$', read(MANUAL))}
-    table = read("README.md").partition("| status | when |")[2].partition("\n\n")[0]
+    table = read("docs/COMMAND.md").partition("| status | when |")[2].partition("\n\n")[0]
     messages = {text for row in table.splitlines() for text in re.findall(r"`([^`]+)`", row.rpartition("|")[0].rpartition("|")[2])}
     for crate in ("aec_tool", "rice_stream"):
         for path in glob.glob(f"crates/{crate}/src/**/*.rt", recursive=True):

@@ -11,7 +11,7 @@
 
 enum { BLOCK = 8, MOST_SAMPLES = 17, ROOM = 1 << 15 };
 
-/* What may come of a case. README's table of compatibility has each difference. */
+/* What may come of a case. docs/COMPATIBILITY.md has each difference. */
 enum outcome { SAME_CODE, NO_SAMPLES, SAME_SAMPLES, ZEROS, CUT, DAMAGED, BOTH_REFUSE, OUTCOMES };
 
 static const char *const names[] = {
