@@ -60,15 +60,17 @@ def draw(trials, size, path):
         for words, block, length, forth, _ in trials:
             if words[5] == str(interval):
                 first = words[1] == str(every[0])
-                panel.plot(100 * length / size, forth / 1e6, "o" if first else "s", color="black", markerfacecolor="white" if first else "black")
-                panel.annotate(str(block), (100 * length / size, forth / 1e6), xytext=(6, 4), textcoords="offset points")
+                place, fill = (100 * length / size, forth / 1e6), "white" if first else "black"
+                panel.plot(*place, "o" if first else "s", color="black", markerfacecolor=fill)
+                panel.annotate(str(block), place, xytext=(6, 4), textcoords="offset points")
         panel.set_title(f"-r {interval}")
         panel.grid(color="#ddd")
         panel.margins(0.12)
     panels[0].set_ylabel("compression, MB/s")
     panels[0].set_ylim(bottom=0)
     panels[1].set_xlabel("size of the code, in percent of the samples")
-    marks = [pyplot.Line2D([], [], marker=mark, linestyle="", color="black", markerfacecolor=fill) for mark, fill in (("o", "white"), ("s", "black"))]
+    kinds = (("o", "white"), ("s", "black"))
+    marks = [pyplot.Line2D([], [], marker=mark, linestyle="", color="black", markerfacecolor=fill) for mark, fill in kinds]
     panels[0].legend(marks[: len(every)], [f"-n {bits}" for bits in every], loc="lower left", title="beside a mark: -j")
     figure.savefig(path, format="svg", metadata={"Date": None, "Creator": None})
     pyplot.close(figure)

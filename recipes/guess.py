@@ -10,7 +10,7 @@ to 24 bits take three bytes (-3).
 usage: guess.py CODE [--size BYTES | --count N] [--all]
   --size BYTES   the bytes of the samples
   --count N      the number of the samples
-  --all          try every interval, 1 to 4096, which takes a minute or two
+  --all          try every interval, 1 to 4096, which takes minutes
 """
 import argparse
 import itertools
@@ -26,7 +26,8 @@ BLOCKS = [8, 16, 32, 64]
 # The likely ones of them first.
 BITS = sorted(range(1, 33), key=[8, 16, 12, 24, 32, 10, 14, 20, *range(1, 33)].index)
 # The intervals that are tried unless all are: the likely ones first.
-USUAL = [128, 2, 64, 1, 4096, 256, 512, 1024, 2048, 32, 16, 8, 4, 65, 3, 5, 6, 10, 12, 20, 24, 25, 48, 50, 96, 100, 192, 200, 384, 400, 500, 768, 1000]
+USUAL = [128, 2, 64, 1, 4096, 256, 512, 1024, 2048, 32, 16, 8, 4, 65, 3, 5, 6, 10, 12, 20, 24, 25, 48, 50, 96, 100, 192, 200, 384, 400, 500,
+         768, 1000]
 # Fronts of the code that a setting has to pass before the whole is tried, and the samples that are taken of one.
 FRONTS = [1024, 32768]
 MOST = 1 << 26
@@ -152,23 +153,44 @@ def with_counts(found, size, count):
                 yield setting, size // setting.width
 
 
-def promising(trials):
-    """The settings that go on: those whose samples have no fewer bits when they are encoded again, and the best of the others."""
-    whole = sorted((trial for trial in trials if not trial.fault), key=lambda trial: trial.waste)
-    return [trial.setting for i, trial in enumerate(whole) if i < KEPT or trial.excess <= 64]
+class Search:
+    """The trials of the whole code that have no fault, and of the others the one that got furthest with a code that is none too long."""
 
+    def __init__(self, code, size, count):
+        self.code, self.size, self.count = code, size, count
+        self.whole, self.furthest = [], None
 
-def search(code, size, count, pads, intervals):
-    """Returns the trials of the whole code that have no fault, and the others that got far with a code that is none too long."""
-    found, faulty = settings(pads, intervals), []
-    for front in FRONTS:
-        if len(code) > front:
-            trials = [tried(setting, code[:front], MOST // 64, True) for setting in found]
-            faulty += [trial for trial in trials if trial.fault]
-            found = promising(trials)
-    trials = [tried(setting, code, its) for setting, its in with_counts(found, size, count)]
-    faulty += [trial for trial in trials if trial.fault and trial.bits]
-    return [trial for trial in trials if not trial.fault], [trial for trial in faulty if trial.excess <= 0 and tells(trial)]
+    def look_at(self, trial):
+        """Keeps a trial that has a fault, if it tells more than those before."""
+        if trial.excess <= 0 and tells(trial) and (self.furthest is None or trial.bits // 64 > self.furthest.bits // 64):
+            self.furthest = trial
+
+    def promising(self, found, front):
+        """The settings that go on behind a front: those whose samples have no fewer bits when they are encoded again, and the best of
+        the others."""
+        good = []
+        for setting in found:
+            trial = tried(setting, self.code[:front], MOST // 64, True)
+            if trial.fault:
+                self.look_at(trial)
+            else:
+                good.append((trial.waste, trial.excess, setting))
+        good.sort(key=lambda it: it[0])
+        return [setting for i, (_, excess, setting) in enumerate(good) if i < KEPT or excess <= 64]
+
+    def go(self, pads, intervals):
+        found = settings(pads, intervals)
+        for front in FRONTS:
+            if len(self.code) > front:
+                found = self.promising(found, front)
+        for setting, count in with_counts(found, self.size, self.count):
+            trial = tried(setting, self.code, count)
+            if trial.fault:
+                self.look_at(trial)
+            else:
+                # (those that give the same samples share them)
+                same = (other.samples for other in self.whole if numpy.array_equal(other.samples, trial.samples))
+                self.whole.append(trial._replace(samples=next(same, trial.samples)))
 
 
 def tells(trial):
@@ -206,27 +228,30 @@ def with_signs(trial, code, count):
 
 
 def grouped(trials, intervals):
-    """Trials that give the same samples, in groups; the likeliest setting first in each."""
+    """Trials that give the same samples by codes of the same length, in groups; the likeliest setting first in each."""
     groups = {}
     for trial in sorted(trials, key=lambda trial: (BITS.index(trial.setting.bits), intervals.index(trial.setting.interval))):
-        key = trial.setting.preprocess, trial.setting.three, trial.samples.astype("u4").tobytes()
+        setting = trial.setting
+        key = trial.is_same, trial.excess, setting.preprocess, setting.three, setting.is_signed, trial.samples.astype("u4").tobytes()
         groups.setdefault(key, []).append(trial)
     return groups.values()
 
 
 def guesses(code, size=None, count=None, intervals=USUAL):
     """Returns the guesses, the likeliest first, and the trial that got furthest before a fault, if any did."""
-    whole, faulty = [], []
+    search = Search(code, size, count)
     for pads in ((False,), (True,)):
-        if not any(trial.excess <= 0 for trial in whole):
-            found, others = search(code, size, count, pads, intervals)
-            whole, faulty = whole + found, faulty + others
-    furthest = max(faulty, key=lambda trial: (trial.bits // 64, not trial.setting.pad), default=None)
-    found = []
-    for first, *others in grouped(whole, intervals):
-        for trial in with_signs(first, code, None if size is None and count is None else len(first.samples)):
-            found.append(Guess(trial, [other.setting for other in others], misfits(trial)))
-    return sorted(found, key=lambda guess: (guess.trial.is_rough, not guess.trial.is_same, guess.trial.excess, guess.misfits // SURE)), furthest
+        if not any(trial.excess <= 0 for trial in search.whole):
+            search.go(pads, intervals)
+    is_counted = size is not None or count is not None
+    whole = [each for trial in search.whole for each in with_signs(trial, code, len(trial.samples) if is_counted else None)]
+    found = [Guess(first, [other.setting for other in others], misfits(first)) for first, *others in grouped(whole, intervals)]
+    return sorted(found, key=rank), search.furthest
+
+
+def rank(guess):
+    trial = guess.trial
+    return trial.excess > 0, trial.is_rough, not trial.is_same, trial.excess, guess.misfits // SURE
 
 
 def likeliest(found):
@@ -259,7 +284,7 @@ def show_all(found, is_counted):
         print("The code does not tell which of these it was: each has the very same code, of other samples.")
     less = [guess for guess in found if guess not in first and guess.trial.excess <= 0 and not guess.trial.is_rough]
     if less:
-        print("Less likely, since reference samples don't go on where the samples before them end:")
+        print("Less likely, by their reference samples, or by bytes that are others than those of their code:")
     for guess in less:
         show(guess, is_counted)
 
@@ -283,7 +308,8 @@ def main():
     else:
         print("no setting that was tried decodes it to its end")
         if furthest:
-            print(f"the furthest is {furthest.setting.words()}: {furthest.fault}; the {len(furthest.samples)} samples before have the same code")
+            before = f"the {len(furthest.samples)} samples before have the same code"
+            print(f"the furthest is {furthest.setting.words()}: {furthest.fault}; {before}")
     sys.exit(not found)
 
 
