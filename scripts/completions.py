@@ -1,4 +1,4 @@
-#!/usr/bin/env python3
+#!/usr/bin/python3
 """Types command lines with tabs into bash and zsh, and compares the words that they become.
 
 In each shell `aec` is a function that prints its words, after the completions of a prefix are loaded. What tabs offer is read
@@ -7,14 +7,13 @@ off the screen: it has to have each option of the program's help.
 usage: completions.py PROGRAM PREFIX
 """
 import os
-import pty
 import re
-import select
 import shutil
 import subprocess
 import sys
 import tempfile
-import time
+
+import pexpect
 
 PATIENCE = 20  # seconds
 READY = "ready-now"
@@ -49,28 +48,18 @@ class Shell:
     """A shell that works in a folder, with its keyboard and its screen."""
 
     def __init__(self, name, prefix, folder):
-        command, start = START[name]
-        self.shown = ""
-        self.child, self.screen = pty.fork()
-        if self.child == 0:
-            os.chdir(folder)
-            os.environ.update(TERM="dumb", PS1=PROMPT, HOME=folder)
-            os.execvp(command[0], command)
+        (program, *words), start = START[name]
+        environment = {**os.environ, "TERM": "dumb", "PS1": PROMPT, "HOME": folder}
+        self.child = pexpect.spawn(program, words, cwd=folder, env=environment, encoding="utf-8", codec_errors="replace", timeout=PATIENCE)
+        self.child.delaybeforesend = None
         self.wait_for(PROMPT)
-        self.type(f"{start.format(prefix=prefix)}; {PRINTS}; COLUMNS=200; echo {HIDDEN}\n")
+        self.child.send(f"{start.format(prefix=prefix)}; {PRINTS}; COLUMNS=200; echo {HIDDEN}\n")
         self.answer(READY)
-
-    def type(self, keys):
-        os.write(self.screen, keys.encode())
 
     def wait_for(self, text):
         """What the screen shows next, up to a text, or all of it where that does not come."""
-        end = time.monotonic() + PATIENCE
-        while text not in self.shown and time.monotonic() < end:
-            if select.select([self.screen], [], [], 0.1)[0]:
-                self.shown += os.read(self.screen, 4096).decode(errors="replace")
-        before, found, self.shown = self.shown.partition(text)
-        return before + found
+        self.child.expect_exact([text, pexpect.TIMEOUT])
+        return self.child.before + (self.child.after if self.child.after == text else "")
 
     def answer(self, text):
         """What the screen shows up to a text, once the shell waits again."""
@@ -80,19 +69,19 @@ class Shell:
 
     def words(self, keys):
         """The words that a command line becomes."""
-        self.type(f"aec {keys}\n")
+        self.child.send(f"aec {keys}\n")
         shown = re.findall(r"(?m)^(?:<[^<>\r\n]*>)+(?=\r)", self.answer(">\r\n"))
         return shown[-1] if shown else "nothing"
 
     def offers(self, keys):
         """What two tabs show after a command line that is then given up."""
-        self.type(f"aec {keys}\t\t\x15echo {HIDDEN}\n")
+        self.child.send(f"aec {keys}\t\t\x15echo {HIDDEN}\n")
         return self.answer(READY)
 
     def close(self):
-        self.type("exit\n")
-        os.waitpid(self.child, 0)
-        os.close(self.screen)
+        self.child.send("exit\n")
+        self.child.expect([pexpect.EOF, pexpect.TIMEOUT])
+        self.child.close()
 
 
 def options_of(program):
