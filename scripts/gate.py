@@ -48,15 +48,15 @@ def in_lanes(run_tasks, tried):
 
 
 def parts_of(crate, paths):
-    """Returns a crate's edits in parts that can be tried side by side: each of those that are tried alone, and of the others those
-    that are the first of their function, the second, and so on."""
+    """Returns a crate's edits in parts that can be tried side by side, the largest first: each of those that are tried alone, and of
+    the others those that are the first of their function, the second, and so on."""
     places, parts = collections.Counter(), {}
     for path in paths:
         function = edits.edit_of(crate, path).function
         if function:
             places[function.name] += 1
         parts.setdefault(places[function.name] if function else path, []).append(path)
-    return [*parts.values()]
+    return sorted(parts.values(), key=len, reverse=True)
 
 
 def add_parts(tasks, crate, paths, waits, is_well):
