@@ -15,6 +15,8 @@ from typing import NamedTuple, Optional
 
 FIELDS = ("aec", "in", "out", "file", "prints", "says", "begins", "status", "bits", "steps")
 ROOM = 1 << 16  # bytes that the library may write, more than any case has
+FLAGS = {"three-bytes": "3", "no-preprocess": "N", "decompress": "d", "big-endian": "m", "pad": "p", "signed": "s"}
+NUMBERS = {"block": "j", "bits": "n", "interval": "r"}
 
 
 class Answer(NamedTuple):
@@ -35,9 +37,12 @@ def parsed_bytes(text):
 
 
 def parsed_words(words):
-    """The options of a command line, by their letters or names."""
-    found, _ = getopt.gnu_getopt(words, "3Nb:dj:mn:pr:s", ["samples="])
-    return {name.lstrip("-"): value.lstrip("=") for name, value in found}
+    """The options of a command line, by their letters, or by names where they have none."""
+    long = ["samples=", *FLAGS, *(f"{name}=" for name in NUMBERS)]
+    found, _ = getopt.gnu_getopt(words, "3Nb:dj:mn:pr:s", long)
+    letters = {**FLAGS, **NUMBERS}
+    names = [(name.lstrip("-"), value.lstrip("=")) for name, value in found]
+    return {letters.get(name, name): value for name, value in names}
 
 
 class Case:

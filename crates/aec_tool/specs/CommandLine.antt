@@ -8,14 +8,14 @@ use Rattle.clap.specs.declared.error.kind.ErrorKind.{ErrorKind}
 use Rattle.clap.specs.declared.error.kind.ErrorKind.TheVariants as kind
 use Rattle.clap.specs.declared.parser.matches.ArgMatches.{ArgMatches}
 
--- a flag of one letter
-abbrev pub flag_rule : Text → ℕ → Rule
-flag_rule id letter = record (new_rule id) { short = Some letter; action = Some SetTrue }
+-- a flag of one letter and of a long name
+abbrev pub flag_rule : Text → ℕ → Text → Rule
+flag_rule id letter name = record (new_rule id) { short = Some letter; long = Some name; action = Some SetTrue }
 
--- an option of one letter, with a number of 32 bits and a default
-abbrev pub number_rule : Text → ℕ → Text → Rule
-number_rule id letter default =
-    record (new_rule id) { short = Some letter; value_names = 1; parser = Some (parser.Unsigned 0 4294967295); defaults = default ∷ [] }
+-- an option of one letter and of a long name, with a number of 32 bits and a default
+abbrev pub number_rule : Text → ℕ → Text → Text → Rule
+number_rule id letter name default =
+    record (new_rule id) { short = Some letter; long = Some name; value_names = 1; parser = Some (parser.Unsigned 0 4294967295); defaults = default ∷ [] }
 
 -- the size of a buffer, which has no effect
 abbrev pub buffer_rule : Rule
@@ -36,9 +36,11 @@ aec = record {
   top = record (new_shape (codes "aec")) {
     has_version = true;
     rules =
-        flag_rule (codes "3") 51 ∷ flag_rule (codes "N") 78 ∷ buffer_rule ∷ flag_rule (codes "d") 100
-        ∷ number_rule (codes "j") 106 (codes "8") ∷ flag_rule (codes "m") 109 ∷ number_rule (codes "n") 110 (codes "8")
-        ∷ flag_rule (codes "p") 112 ∷ number_rule (codes "r") 114 (codes "2") ∷ flag_rule (codes "s") 115 ∷ samples_rule
+        flag_rule (codes "3") 51 (codes "three-bytes") ∷ flag_rule (codes "N") 78 (codes "no-preprocess") ∷ buffer_rule
+        ∷ flag_rule (codes "d") 100 (codes "decompress") ∷ number_rule (codes "j") 106 (codes "block") (codes "8")
+        ∷ flag_rule (codes "m") 109 (codes "big-endian") ∷ number_rule (codes "n") 110 (codes "bits") (codes "8")
+        ∷ flag_rule (codes "p") 112 (codes "pad") ∷ number_rule (codes "r") 114 (codes "interval") (codes "2")
+        ∷ flag_rule (codes "s") 115 (codes "signed") ∷ samples_rule
         ∷ name_rule (codes "source") ∷ name_rule (codes "dest") ∷ [];
   };
   subs = [];

@@ -108,16 +108,16 @@ fn refuses_a_name_without_letters(rt: HostRuntime) -> Result<(), Fail> {
 // The words, and how the message begins.
 const UNPARSED: &str = "-t - -      | error: unexpected argument '-t' found
     --sample - -           | error: unexpected argument '--sample' found
-    -n x - -               | error: invalid value 'x' for '-n <BITS>'
-    -n 4294967296 - -      | error: invalid value '4294967296' for '-n <BITS>'
+    -n x - -               | error: invalid value 'x' for '--bits <BITS>'
+    -n 4294967296 - -      | error: invalid value '4294967296' for '--bits <BITS>'
     -n -1 - -              | error: unexpected argument '-1' found
     -b 0 - -               | error: invalid value '0' for '-b <BYTES>'
     -d --samples 18446744073709551616 - - | error: invalid value '18446744073709551616' for '--samples <N>'
     -                      | error: the following required arguments were not provided:
                            | error: the following required arguments were not provided:
     - - -                  | error: unexpected argument '-' found
-    -d -d - -              | error: the argument '-d' cannot be used multiple times
-    -n 7 -n 7 - -          | error: the argument '-n <BITS>' cannot be used multiple times";
+    -d -d - -              | error: the argument '--decompress' cannot be used multiple times
+    -n 7 -n 7 - -          | error: the argument '--bits <BITS>' cannot be used multiple times";
 
 #[test]
 fn refuses_what_does_not_parse(rt: HostRuntime) -> Result<(), Fail> {
@@ -338,4 +338,4 @@ fn tells_its_version(rt: HostRuntime) -> Result<(), Fail> {
 }
 
 const HELP: &str =
-    "Compresses samples without loss, by the adaptive Rice coder of CCSDS 121.0-B-3\n\nUsage: aec [OPTIONS] <SOURCE> <DEST>\n\nArguments:\n  <SOURCE>  File to read; - is standard input\n  <DEST>    File to write; - is standard output\n\nOptions:\n  -3                 Three bytes for each sample of 17 to 24 bits\n  -N                 No pre or post processing\n  -b <BYTES>         Size of a buffer, from 1 on; without effect\n  -d                 Decompress\n  -j <SAMPLES>       Block size: 8, 16, 32 or 64 [default: 8]\n  -m                 Most significant byte of a sample first\n  -n <BITS>          Bits per sample, 1 to 32 [default: 8]\n  -p                 Pad each interval to a byte\n  -r <BLOCKS>        Reference interval, 1 to 4096 [default: 2]\n  -s                 Signed samples\n      --samples <N>  Stop after N samples; with -d only\n  -h, --help         Print help\n  -V, --version      Print version\n\nDecompress with the options that compressed. A code does not tell how many samples\nit has: without --samples, those that fill its last block or run are written too.\n\nExamples:\n  aec -n 16 -r 128 samples.bin code.aec\n  aec -d -n 16 -r 128 --samples 5000 code.aec samples.bin\n";
+    "Compresses samples without loss, by the adaptive Rice coder of CCSDS 121.0-B-3\n\nUsage: aec [OPTIONS] <SOURCE> <DEST>\n\nArguments:\n  <SOURCE>  File to read; - is standard input\n  <DEST>    File to write; - is standard output\n\nOptions:\n  -3, --three-bytes        Three bytes for each sample of 17 to 24 bits\n  -N, --no-preprocess      No pre or post processing\n  -b <BYTES>               Size of a buffer, from 1 on; without effect\n  -d, --decompress         Decompress\n  -j, --block <SAMPLES>    Block size: 8, 16, 32 or 64 [default: 8]\n  -m, --big-endian         Most significant byte of a sample first\n  -n, --bits <BITS>        Bits per sample, 1 to 32 [default: 8]\n  -p, --pad                Pad each interval to a byte\n  -r, --interval <BLOCKS>  Reference interval, 1 to 4096 [default: 2]\n  -s, --signed             Signed samples\n      --samples <N>        Stop after N samples; with -d only\n  -h, --help               Print help\n  -V, --version            Print version\n\nDecompress with the options that compressed. A code does not tell how many samples\nit has: without --samples, those that fill its last block or run are written too.\n\nExamples:\n  aec -n 16 -r 128 samples.bin code.aec\n  aec -d -n 16 -r 128 --samples 5000 code.aec samples.bin\n";
