@@ -30,7 +30,10 @@ class Fault(NamedTuple):
 
 
 class Unserved(ValueError):
-    """What these recipes don't read."""
+    """What these recipes don't read, which is no damage."""
+
+    def __str__(self):
+        return f"not served: {super().__str__()}"
 
 
 def fault_of(part, error, start):

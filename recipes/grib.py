@@ -68,12 +68,12 @@ def messages(data):
     at = data.find(b"GRIB")
     while at >= 0:
         if at + 16 > len(data):
-            raise Damage("the file ends inside a message")
+            raise Damage("the file ends inside a message", None, 8 * at)
         if data[at + 7] != 2:
             raise Unserved(f"edition {data[at + 7]} of GRIB")
         end = at + int.from_bytes(data[at + 8 : at + 16], "big")
         if end > len(data) or data[end - 4 : end] != b"7777":
-            raise Damage("a message has no end where its length says")
+            raise Damage("a message has no end where its length says", None, 8 * at)
         yield at, end
         at = data.find(b"GRIB", end)
 
@@ -165,7 +165,8 @@ def parts(data):
                 yield name if i == 0 else f"{name}, field {i}", field
             name = f"behind message {number}"
     except (Damage, Unserved) as error:
-        yield name, Fault(name, str(error), None, start)
+        bit = getattr(error, "bit", None)
+        yield name, Fault(name, str(error), None, start if bit is None else bit // 8)
 
 
 def faults(path):

@@ -140,7 +140,7 @@ def dataset_faults(dataset):
     try:
         layout = layout_of(dataset)
     except Unserved as error:
-        yield Fault(dataset.name, f"not served: {error}")
+        yield Fault(dataset.name, str(error))
         return
     if layout is None:
         return
