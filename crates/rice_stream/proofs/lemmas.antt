@@ -7,7 +7,6 @@ pub mod DecodingLemmas
 pub mod EncodingEnds
 pub mod EncodingLemmas
 pub mod FedPieces
-pub mod HeldBlocks
 pub mod LevelLemmas
 pub mod OneDecoding
 pub mod PartLemmas
@@ -15,6 +14,7 @@ pub mod PiecesPulled
 pub mod PulledPieces
 pub mod PullingLemmas
 pub mod ReturnedBytes
+pub mod RunsWritten
 pub mod Seams
 pub mod SetsRead
 pub mod SpelledBlocks

@@ -6,4 +6,5 @@ pub mod EncodingState
 pub mod Feeding
 pub mod Laws
 pub mod Pulling
+pub mod Runs
 pub mod Writes

@@ -1,15 +1,14 @@
 //! Decodes a code to its samples.
-ghost use Rattle.std.specs.Prelude.{ℕ, length, ◌≡◌, ◌+◌, ◌-◌, ◌*◌, ◌^◌, ◌<◌, ◌≤◌, Option, None, Some, Ok, true, false};
-ghost use Rattle.rice_code.specs.decode.Decoder.{Answers, GivesFromRun, Repeats, RepeatsSamples, with_mark};
-ghost use Rattle.rice_samples.specs.Parameters.{values_at};
-ghost use Rattle.rice_code.specs.decode.BlocksAhead.{GivesBytes};
+ghost use Rattle.std.specs.Prelude.{◌≡◌, ◌⊎◌, ℕ, ◌+◌, ◌-◌, ◌*◌, ◌^◌, ◌<◌, ◌≤◌, Option, None, Some, true, false};
+ghost use Rattle.rice_code.specs.decode.BlocksAhead.{GivesBytes, HasLanes};
 ghost use Rattle.rice_code.specs.decode.Fields.{AreCounted};
-ghost use Rattle.rice_code.specs.declared.decode.fault.Step.TheVariants.{Block};
 ghost use Rattle.rice_stream.specs.Calls.{Call, Happens, Fails};
 ghost use Rattle.rice_stream.specs.Decodes.{Decodes, DecodesWithin, Reports, wanted_of, ended_fault, refusal_fault};
 
 use crate::outcome::{Fault, Outcome, Report};
-use crate::write::{write_block, write_front};
+use crate::patience::Patience;
+use crate::runs::write_run;
+use crate::write::{write_all, write_block};
 use arrayvec::ArrayVec;
 use rice_bits::{BitReader, Intake, Meter, Outlet};
 use rice_code::{CodeFault, Decoder, Step};
@@ -95,77 +94,111 @@ pub fn decode<I: Intake, O: Outlet>(
     // With a count of 0 the intake is not called.
     ensures idle { asked ≡ Some 0 → result.1 ≡ intake }
 {
-    // A loop for blocks in lanes is apart, so that the others have nothing of it, and one is laid out for decoding to the end.
-    if has_lanes(setting) {
-        return decode_blocks::<I, O, true>(setting, asked, intake, outlet);
+    // Each of these loops is laid out for what is known of its blocks. They are calls, so that only one of them takes room on the
+    // stack.
+    if has_lanes::<8, 1>(setting) {
+        return decode_in_lanes::<I, O, 8, 1>(setting, asked, intake, outlet);
+    }
+    if has_lanes::<16, 1>(setting) {
+        return decode_in_lanes::<I, O, 16, 1>(setting, asked, intake, outlet);
+    }
+    if has_lanes::<8, 2>(setting) {
+        return decode_in_lanes::<I, O, 8, 2>(setting, asked, intake, outlet);
+    }
+    if has_lanes::<16, 2>(setting) {
+        return decode_in_lanes::<I, O, 16, 2>(setting, asked, intake, outlet);
     }
     match asked {
-        None => decode_blocks::<I, O, false>(setting, None, intake, outlet),
-        Some(count) => decode_blocks::<I, O, false>(setting, Some(count), intake, outlet),
+        None => decode_all::<I, O>(setting, intake, outlet),
+        Some(count) => decode_counted::<I, O>(setting, count, intake, outlet),
     }
 }
 
-/// Returns whether blocks are such that the decoder may give their bytes at one stroke.
-fn has_lanes(setting: &Setting) -> bool {
-    setting.bits() <= 8 && setting.preprocess() && setting.block() <= 16
-}
-
-/// Returns whether all of the block that is held is wanted.
-fn is_whole(held: bool, count: usize, block: u32) -> bool
-    ensures { result ≡ true → (held ≡ true) × (count ≡ block) }
+/// Decodes blocks of any kind to the end.
+#[inline(never)]
+fn decode_all<I: Intake, O: Outlet>(setting: &Setting, intake: I, outlet: &mut O) -> (Outcome, I)
+    requires reads { I.failed intake + 1 < 2 ^ 64 }
+    requires writes { O.failed outlet.old + 1 < 2 ^ 64 }
+    ensures call { (c : Call) ×
+        Happens (I.left intake) (I.left result.1) (O.taken outlet.old) (O.taken outlet.new) c ×
+        Decodes setting.now None c result.0.report result.0.fault }
+    ensures failures { Fails result.0.fault (I.failed intake) (I.failed result.1)
+        (O.failed outlet.old) (O.failed outlet.new) }
+    ensures bounds { DecodesWithin None result.0.report }
 {
-    held && count == block as usize
+    decode_blocks::<I, O, 0, 0>(setting, None, intake, outlet)
 }
 
-/// Restores the samples of the next block, by their levels. These stand there already if `again` is set.
-#[inline(always)]
-fn next_levels<I: Intake>(
-    decoder: &mut Decoder,
-    again: bool,
-    reader: &mut BitReader<I>,
-    meter: &mut Meter,
-    levels: &mut ArrayVec<u32, 64>,
-) -> Result<Step, CodeFault>
-    requires stopped { decoder.old.stopped ≡ None }
-    requires going { reader.old.refusal ≡ None }
-    requires room { meter.old + 2 * (2 ^ 52 - reader.old.taken) + 64 < 2 ^ 62 }
-    requires again { again ≡ true → RepeatsSamples decoder.old (values_at decoder.old.setting levels.old.items) }
-    ensures in_run { decoder.old.stopped ≡ None → 0 < decoder.old.run →
-        (result ≡ Ok Block) × GivesFromRun decoder.old decoder.new (values_at decoder.old.setting levels.new.items) ×
-        (reader.new ≡ reader.old) × (meter.new ≡ meter.old) }
-    ensures reads { decoder.old.stopped ≡ None → decoder.old.run ≡ 0 →
-        Answers (with_mark reader.old) reader.new meter.old meter.new
-        decoder.old decoder.new (values_at decoder.old.setting levels.new.items) result }
-    ensures going { decoder.new.stopped ≡ None → reader.new.refusal ≡ None }
-    ensures block { result ≡ Ok Block → decoder.new.stopped ≡ None }
-    ensures setting { decoder.new.setting ≡ decoder.old.setting }
-    ensures steps { AreCounted meter.old meter.new reader.old.taken reader.new.taken }
-    ensures waiting { length levels.new.items + decoder.new.run * decoder.new.setting.block
-        ≤ decoder.old.run * decoder.old.setting.block + 456 * (reader.new.taken - reader.old.taken) }
-    ensures again { again ≡ true → (levels.new.items ≡ levels.old.items) ×
-        Repeats decoder.new (values_at decoder.old.setting levels.new.items) }
+/// Decodes blocks of any kind up to a count of samples.
+#[inline(never)]
+fn decode_counted<I: Intake, O: Outlet>(
+    setting: &Setting,
+    count: u64,
+    intake: I,
+    outlet: &mut O,
+) -> (Outcome, I)
+    requires reads { I.failed intake + 1 < 2 ^ 64 }
+    requires writes { O.failed outlet.old + 1 < 2 ^ 64 }
+    ensures call { (c : Call) ×
+        Happens (I.left intake) (I.left result.1) (O.taken outlet.old) (O.taken outlet.new) c ×
+        Decodes setting.now (Some count) c result.0.report result.0.fault }
+    ensures failures { Fails result.0.fault (I.failed intake) (I.failed result.1)
+        (O.failed outlet.old) (O.failed outlet.new) }
+    ensures bounds { DecodesWithin (Some count) result.0.report }
+    ensures idle { count ≡ 0 → result.1 ≡ intake }
 {
-    let _taken = reader.taken();
-    if again {
-        decoder.repeat_block();
-        return Ok(Step::Block);
-    }
-    decoder.next_levels(reader, meter, levels)
+    decode_blocks::<I, O, 0, 0>(setting, Some(count), intake, outlet)
 }
 
-/// Gives the bytes of the next block, if `whole` says that all of it is wanted, and it can be decoded at one stroke. Returns whether
-/// it was; otherwise nothing has happened.
+/// Returns whether blocks have `SIZE` samples of `WIDTH` bytes, and the decoder may give their bytes at one stroke.
+fn has_lanes<const SIZE: usize, const WIDTH: usize>(setting: &Setting) -> bool
+    requires sizes { (SIZE ≡ 8) ⊎ (SIZE ≡ 16) }
+    requires widths { (WIDTH ≡ 1) ⊎ (WIDTH ≡ 2) }
+    ensures { result ≡ true → HasLanes setting.now SIZE WIDTH }
+{
+    let bits = setting.bits() as usize;
+    let wide = 8 * (WIDTH - 1) < bits && bits <= 8 * WIDTH;
+    wide && setting.preprocess() && setting.block() as usize == SIZE
+}
+
+/// Decodes blocks of `SIZE` samples of `WIDTH` bytes that may be decoded at one stroke.
+#[inline(never)]
+fn decode_in_lanes<I: Intake, O: Outlet, const SIZE: usize, const WIDTH: usize>(
+    setting: &Setting,
+    asked: Option<u64>,
+    intake: I,
+    outlet: &mut O,
+) -> (Outcome, I)
+    requires lanes { HasLanes setting.now SIZE WIDTH }
+    requires reads { I.failed intake + 1 < 2 ^ 64 }
+    requires writes { O.failed outlet.old + 1 < 2 ^ 64 }
+    ensures call { (c : Call) ×
+        Happens (I.left intake) (I.left result.1) (O.taken outlet.old) (O.taken outlet.new) c ×
+        Decodes setting.now asked c result.0.report result.0.fault }
+    ensures failures { Fails result.0.fault (I.failed intake) (I.failed result.1)
+        (O.failed outlet.old) (O.failed outlet.new) }
+    ensures bounds { DecodesWithin asked result.0.report }
+    ensures idle { asked ≡ Some 0 → result.1 ≡ intake }
+{
+    decode_blocks::<I, O, SIZE, WIDTH>(setting, asked, intake, outlet)
+}
+
+/// Gives the bytes of the next block, if `whole` says that all of it is wanted, it is to be looked at, and it can be decoded at one
+/// stroke. Returns whether it was; otherwise nothing has happened to the decoder, the reader, the meter and the bytes.
 #[inline(always)]
-fn next_bytes<I: Intake>(
+fn next_bytes<I: Intake, const SIZE: usize, const WIDTH: usize>(
     decoder: &mut Decoder,
     whole: bool,
+    patience: &mut Patience,
     reader: &mut BitReader<I>,
     meter: &mut Meter,
-    bytes: &mut [u8; 256],
+    bytes: &mut [u8; 512],
 ) -> bool
+    requires lanes { 0 < SIZE → HasLanes decoder.old.setting SIZE WIDTH }
     requires stopped { decoder.old.stopped ≡ None }
     requires going { reader.old.refusal ≡ None }
     requires room { meter.old + 2 * (2 ^ 52 - reader.old.taken) + 64 < 2 ^ 62 }
+    ensures sized { result ≡ true → 0 < SIZE }
     ensures some { result ≡ true → (whole ≡ true) × (decoder.old.run ≡ 0) ×
         GivesBytes reader.old reader.new meter.old meter.new decoder.old decoder.new bytes.new }
     ensures none { result ≡ false → (decoder.new ≡ decoder.old) × (reader.new ≡ reader.old) ×
@@ -176,38 +209,38 @@ fn next_bytes<I: Intake>(
     ensures steps { AreCounted meter.old meter.new reader.old.taken reader.new.taken }
 {
     let _taken = reader.taken();
-    if !whole {
+    if SIZE == 0 || !whole || !patience.is_due() {
         return false;
     }
-    decoder.next_bytes(reader, meter, bytes)
+    let found = decoder.next_bytes::<I, SIZE, WIDTH>(reader, meter, bytes);
+    patience.note(found);
+    found
 }
 
-/// Returns whether blocks may be in lanes, and all of the next block is wanted, which is not the one that is held.
-fn is_new(lanes: bool, held: bool, count: usize, block: u32) -> bool
+/// Returns whether all of the next block is wanted, of `count` samples that are.
+fn is_whole(count: usize, block: u32) -> bool
     ensures { result ≡ true → count ≡ block }
 {
-    lanes && !held && count == block as usize
+    count == block as usize
 }
 
-/// Returns whether the next block has just the samples with these levels, of which `count` are written.
-fn stays(decoder: &Decoder, again: bool, levels: &[u32], count: usize) -> bool
-    requires again { again ≡ true → Repeats decoder.now (values_at decoder.now.setting levels.now) × (count ≡ length levels.now) }
-    ensures { result ≡ true → RepeatsSamples decoder.now (values_at decoder.now.setting levels.now) × (count ≡ length levels.now) }
+/// Returns whether all of the next block is wanted, and it is in a run that repeats the sample before.
+fn repeats(decoder: &Decoder, whole: bool) -> bool
+    ensures { result ≡ true → (whole ≡ true) × (0 < decoder.now.run) × (decoder.now.setting.preprocess ≡ true) }
 {
-    if again {
-        return decoder.is_in_run();
-    }
-    decoder.repeats(levels) && count == levels.len()
+    whole && decoder.repeats()
 }
 
-/// Decodes, whatever is asked for. `LANES` says whether the decoder is asked for the bytes of blocks at one stroke.
+/// Decodes, whatever is asked for. `SIZE`, if it is not 0, is the number of samples of a block whose bytes may be decoded at one
+/// stroke, and `WIDTH` that of the bytes of each.
 #[inline(always)]
-fn decode_blocks<I: Intake, O: Outlet, const LANES: bool>(
+fn decode_blocks<I: Intake, O: Outlet, const SIZE: usize, const WIDTH: usize>(
     setting: &Setting,
     asked: Option<u64>,
     intake: I,
     outlet: &mut O,
 ) -> (Outcome, I)
+    requires lanes { 0 < SIZE → HasLanes setting.now SIZE WIDTH }
     requires reads { I.failed intake + 1 < 2 ^ 64 }
     requires writes { O.failed outlet.old + 1 < 2 ^ 64 }
     ensures call { (c : Call) ×
@@ -222,35 +255,52 @@ fn decode_blocks<I: Intake, O: Outlet, const LANES: bool>(
     // A copy stays in registers from block to block.
     let own = *setting;
     let block = own.block();
-    let width = own.width() as usize;
     let mut decoder = Decoder::new(own);
     let mut reader = BitReader::new(intake);
     let mut meter = Meter::new();
     let mut levels = ArrayVec::new();
+    let mut patience = Patience::new();
     // Declared here, and not where it is filled, so that it is not cleared for each block.
-    let mut bytes = [0; 256];
+    let mut bytes = [0; 512];
     let mut written = 0u64;
-    // Whether `levels` and `bytes` hold the block that comes next.
-    let mut held = false;
     'decode_all: loop {
         let count = wanted(asked, written, block);
         if count == 0 {
             return ended(None, written, reader, &meter);
         }
-        let new = is_new(LANES, held, count, block);
-        if next_bytes(&mut decoder, new, &mut reader, &mut meter, &mut bytes) {
-            match write_front(&bytes[..width * count], outlet) {
+        let whole = is_whole(count, block);
+        if repeats(&decoder, whole) {
+            match write_run(&own, asked, written, &mut decoder, &mut bytes, outlet) {
+                Ok(samples) => {
+                    written += samples;
+                    meter.tick(samples);
+                    continue 'decode_all;
+                }
+                Err(samples) => {
+                    meter.tick(samples);
+                    let all = written + samples;
+                    return ended(Some(Fault::Write), all, reader, &meter);
+                }
+            }
+        }
+        if next_bytes::<I, SIZE, WIDTH>(
+            &mut decoder,
+            whole,
+            &mut patience,
+            &mut reader,
+            &mut meter,
+            &mut bytes,
+        ) {
+            match write_all(outlet, &bytes[..WIDTH * SIZE]) {
                 Ok(()) => {}
                 Err(_) => return ended(Some(Fault::Write), written, reader, &meter),
             }
-            held = false;
             let samples = count as u64;
             written += samples;
             meter.tick(samples);
             continue 'decode_all;
         }
-        let again = is_whole(held, count, block);
-        let step = match next_levels(&mut decoder, again, &mut reader, &mut meter, &mut levels) {
+        let step = match decoder.next_levels(&mut reader, &mut meter, &mut levels) {
             Ok(step) => step,
             Err(fault) => {
                 let fault = fault_of(fault, written, block);
@@ -262,11 +312,10 @@ fn decode_blocks<I: Intake, O: Outlet, const LANES: bool>(
             Step::Done => return ended(end_of(asked, written), written, reader, &meter),
         }
         let block_levels = &levels.as_slice()[..count];
-        match write_block(&own, width, again, block_levels, &mut bytes, outlet) {
+        match write_block(&own, block_levels, &mut bytes, outlet) {
             Ok(()) => {}
             Err(_) => return ended(Some(Fault::Write), written, reader, &meter),
         }
-        held = stays(&decoder, again, levels.as_slice(), count);
         written += count as u64;
         meter.tick(count as u64);
     }

@@ -1,10 +1,10 @@
 //! Writing all bytes of a slice, of a sink, or of samples.
-ghost use Rattle.std.specs.Prelude.{◌≡◌, ℕ, ◌+◌, ◌*◌, ◌^◌, ◌<◌, ◌≤◌, All, true, length, drop, OnOk, OnErr};
+ghost use Rattle.std.specs.Prelude.{◌≡◌, ℕ, ◌+◌, ◌*◌, ◌^◌, ◌<◌, ◌≤◌, All, length, drop, take, OnOk, OnErr, IfErr};
 ghost use Rattle.rice_bits.specs.device.Outlet.{Appends};
 ghost use Rattle.rice_bits.specs.Bits.{whole_bytes, bits_in_bytes};
 ghost use Rattle.rice_samples.specs.Parameters.{value_count, values_at, width as width_of};
 ghost use Rattle.rice_samples.specs.bytes.Spelling.{spellings};
-ghost use Rattle.rice_stream.specs.Writes.{TakesPart, Spells};
+ghost use Rattle.rice_stream.specs.Writes.{TakesPart};
 
 use rice_bits::{BitSink, Outlet, WriteFault};
 use rice_samples::{Setting, write_spellings, write_spellings_as};
@@ -37,11 +37,26 @@ fn write_rest<O: Outlet>(outlet: &mut O, bytes: &[u8]) -> Result<(), WriteFault>
     ensures err { OnErr result (TakesPart (O.taken outlet.old) (O.taken outlet.new) bytes.now ×
         (O.failed outlet.new ≡ O.failed outlet.old + 1)) }
 {
+    match write_counted(outlet, bytes) {
+        Ok(()) => Ok(()),
+        Err(_) => Err(WriteFault),
+    }
+}
+
+/// Writes all of the bytes, in as many calls as it takes. If the outlet fails, an error has the number of those that it took.
+pub fn write_counted<O: Outlet>(outlet: &mut O, bytes: &[u8]) -> Result<(), usize>
+    requires { O.failed outlet.old + 1 < 2 ^ 64 }
+    ensures ok { OnOk result (Appends (O.taken outlet.old) (O.taken outlet.new) bytes.now ×
+        (O.failed outlet.new ≡ O.failed outlet.old)) }
+    ensures err { IfErr result (λ n. (n < length bytes.now) ×
+        Appends (O.taken outlet.old) (O.taken outlet.new) (take n bytes.now) ×
+        (O.failed outlet.new ≡ O.failed outlet.old + 1)) }
+{
     let mut done = 0;
     while done < bytes.len() {
         match outlet.put(&bytes[done..]) {
             Ok(count) => done += count,
-            Err(fault) => return Err(fault),
+            Err(_) => return Err(done),
         }
     }
     Ok(())
@@ -69,57 +84,12 @@ pub fn write_whole<const N: usize, O: Outlet>(
     }
 }
 
-/// Writes the bytes of the samples of a block, `width` for each, and leaves them in `bytes`. They stand there already if `again`
-/// is set.
+/// Writes the bytes of the samples of a block, for which `bytes` has room.
 #[inline(always)]
 pub fn write_block<O: Outlet>(
     setting: &Setting,
-    width: usize,
-    again: bool,
     levels: &[u32],
-    bytes: &mut [u8; 256],
-    outlet: &mut O,
-) -> Result<(), WriteFault>
-    requires legal { All (λ l. l < value_count setting.now) levels.now }
-    requires few { length levels.now ≤ 64 }
-    requires counted { O.failed outlet.old + 1 < 2 ^ 64 }
-    requires width { width ≡ width_of setting.now }
-    requires again { again ≡ true → Spells setting.now (values_at setting.now levels.now) bytes.old }
-    ensures ok { OnOk result (Appends (O.taken outlet.old) (O.taken outlet.new) (spellings setting.now (values_at setting.now levels.now)) ×
-        (O.failed outlet.new ≡ O.failed outlet.old)) }
-    ensures err { OnErr result (TakesPart (O.taken outlet.old) (O.taken outlet.new) (spellings setting.now (values_at setting.now levels.now)) ×
-        (O.failed outlet.new ≡ O.failed outlet.old + 1)) }
-    ensures spelled { Spells setting.now (values_at setting.now levels.now) bytes.new }
-{
-    if again {
-        return write_front(&bytes[..width * levels.len()], outlet);
-    }
-    write_samples(setting, levels, bytes, outlet)
-}
-
-/// Writes all of the bytes, which are those of a block.
-#[inline(always)]
-pub fn write_front<O: Outlet>(bytes: &[u8], outlet: &mut O) -> Result<(), WriteFault>
-    requires { O.failed outlet.old + 1 < 2 ^ 64 }
-    ensures ok { OnOk result (Appends (O.taken outlet.old) (O.taken outlet.new) bytes.now ×
-        (O.failed outlet.new ≡ O.failed outlet.old)) }
-    ensures err { OnErr result (TakesPart (O.taken outlet.old) (O.taken outlet.new) bytes.now ×
-        (O.failed outlet.new ≡ O.failed outlet.old + 1)) }
-{
-    // A length that is known is copied at one stroke.
-    match bytes.len() {
-        8 => write_all(outlet, &bytes[..8]),
-        16 => write_all(outlet, &bytes[..16]),
-        _ => write_all(outlet, bytes),
-    }
-}
-
-/// Writes the bytes of the samples, and leaves them in `bytes`.
-#[inline(always)]
-fn write_samples<O: Outlet>(
-    setting: &Setting,
-    levels: &[u32],
-    bytes: &mut [u8; 256],
+    bytes: &mut [u8; 512],
     outlet: &mut O,
 ) -> Result<(), WriteFault>
     requires legal { All (λ l. l < value_count setting.now) levels.now }
@@ -129,7 +99,6 @@ fn write_samples<O: Outlet>(
         (O.failed outlet.new ≡ O.failed outlet.old)) }
     ensures err { OnErr result (TakesPart (O.taken outlet.old) (O.taken outlet.new) (spellings setting.now (values_at setting.now levels.now)) ×
         (O.failed outlet.new ≡ O.failed outlet.old + 1)) }
-    ensures spelled { Spells setting.now (values_at setting.now levels.now) bytes.new }
 {
     // Laid out for the blocks that are written most.
     match (setting.width(), setting.msb(), levels.len()) {
@@ -146,7 +115,7 @@ fn write_samples<O: Outlet>(
 fn write_other_samples<O: Outlet>(
     setting: &Setting,
     levels: &[u32],
-    bytes: &mut [u8; 256],
+    bytes: &mut [u8; 512],
     outlet: &mut O,
 ) -> Result<(), WriteFault>
     requires legal { All (λ l. l < value_count setting.now) levels.now }
@@ -156,7 +125,6 @@ fn write_other_samples<O: Outlet>(
         (O.failed outlet.new ≡ O.failed outlet.old)) }
     ensures err { OnErr result (TakesPart (O.taken outlet.old) (O.taken outlet.new) (spellings setting.now (values_at setting.now levels.now)) ×
         (O.failed outlet.new ≡ O.failed outlet.old + 1)) }
-    ensures spelled { Spells setting.now (values_at setting.now levels.now) bytes.new }
 {
     match (setting.width(), setting.msb(), levels.len()) {
         (1, msb, 64) => write_sized(setting, 1, msb, 64, levels, bytes, outlet),
@@ -169,7 +137,7 @@ fn write_other_samples<O: Outlet>(
     }
 }
 
-/// Writes the bytes of `count` samples, and leaves them in `bytes`. It is laid out for what is known of the arguments, which
+/// Writes the bytes of `count` samples. It is laid out for what is known of the arguments, which
 /// are the width and the order of bytes of the setting.
 #[inline(always)]
 fn write_sized<O: Outlet>(
@@ -178,7 +146,7 @@ fn write_sized<O: Outlet>(
     msb: bool,
     count: usize,
     levels: &[u32],
-    bytes: &mut [u8; 256],
+    bytes: &mut [u8; 512],
     outlet: &mut O,
 ) -> Result<(), WriteFault>
     requires legal { All (λ l. l < value_count setting.now) levels.now }
@@ -191,7 +159,6 @@ fn write_sized<O: Outlet>(
         (O.failed outlet.new ≡ O.failed outlet.old)) }
     ensures err { OnErr result (TakesPart (O.taken outlet.old) (O.taken outlet.new) (spellings setting.now (values_at setting.now levels.now)) ×
         (O.failed outlet.new ≡ O.failed outlet.old + 1)) }
-    ensures spelled { Spells setting.now (values_at setting.now levels.now) bytes.new }
 {
     let spelled = &mut bytes[..width * count];
     write_spellings_as(setting, width, msb, &levels[..count], spelled);

@@ -1,4 +1,5 @@
-ghost use Rattle.std.specs.Prelude.{◌+◌, ◌^◌, ◌<◌};
+ghost use Rattle.std.specs.Prelude.{◌≡◌, ◌+◌, ◌^◌, ◌<◌, true};
+ghost use Rattle.rice_code.specs.decode.BlocksAhead.{HasLanes};
 
 use crate::cases::Cases;
 use crate::table::{Columns, bytes_of, number_of, samples_of, setting_of};
@@ -168,18 +169,24 @@ fn repeated_samples(rt: HostRuntime) -> Result<(), Fail> {
     let mut decoder = Decoder::new(setting_of("")?);
     let mut meter = Meter::new();
     let mut levels = ArrayVec::new();
-    cases.check(!decoder.repeats(&[0; 8]));
+    cases.check(!decoder.repeats());
     cases.check(decoder.next_levels(&mut reader, &mut meter, &mut levels) == Ok(Step::Block));
     cases.check(levels.as_slice() == [0; 8].as_slice());
-    cases.check(!decoder.repeats(&[0, 0, 0, 0, 0, 0, 0, 1]));
-    if decoder.repeats(levels.as_slice()) {
-        decoder.repeat_block();
+    if decoder.repeats() {
+        decoder.repeat_blocks(1);
     }
     cases.check(decoder.waiting() == 0);
-    cases.check(!decoder.repeats(levels.as_slice()));
+    cases.check(!decoder.repeats());
     cases.check(meter.steps() == 17);
     cases.end(&rt);
     Ok(())
+}
+
+/// Returns whether blocks are of 8 samples that may be given as bytes.
+fn has_eights(setting: &Setting) -> bool
+    ensures { result ≡ true → HasLanes setting.now 8 1 }
+{
+    setting.bits() <= 8 && setting.preprocess() && setting.block() == 8
 }
 
 /// A block of which all bits wait is given as bytes.
@@ -191,15 +198,18 @@ fn bytes_of_a_block(rt: HostRuntime) -> Result<(), Fail> {
         0, 0, 0, 0, 0, 0, 0, 0, 0, 0,
     ];
     let mut reader = BitReader::new(MemoryIn::new(&code, 4096, None));
-    let mut decoder = Decoder::new(setting_of("")?);
+    let setting = setting_of("")?;
+    let mut decoder = Decoder::new(setting);
     let mut meter = Meter::new();
     let mut levels = ArrayVec::new();
-    let mut bytes = [0; 16];
-    cases.check(!decoder.next_bytes(&mut reader, &mut meter, &mut bytes));
-    let first = decoder.next_levels(&mut reader, &mut meter, &mut levels);
-    cases.check(first == Ok(Step::Block));
-    if first == Ok(Step::Block) {
-        cases.check(decoder.next_bytes(&mut reader, &mut meter, &mut bytes));
+    let mut bytes = [0; 32];
+    if has_eights(&setting) {
+        cases.check(!decoder.next_bytes::<_, 8, 1>(&mut reader, &mut meter, &mut bytes));
+        let first = decoder.next_levels(&mut reader, &mut meter, &mut levels);
+        cases.check(first == Ok(Step::Block));
+        if first == Ok(Step::Block) {
+            cases.check(decoder.next_bytes::<_, 8, 1>(&mut reader, &mut meter, &mut bytes));
+        }
     }
     cases.check(bytes[..8] == [8, 9, 10, 11, 12, 13, 14, 15]);
     cases.check(reader.taken() == 58);

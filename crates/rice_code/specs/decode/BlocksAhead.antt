@@ -1,21 +1,23 @@
 -- Blocks that wait, and are looked at before they are taken.
-use Rattle.std.specs.Prelude.{◌≡◌, ℕ, ◌+◌, ◌-◌, ◌*◌, ◌<◌, ◌≤◌, Bool, true, List, All, length, take, Ok, ℤ}
+use Rattle.std.specs.Prelude.{◌≡◌, ◌⊎◌, ℕ, ◌+◌, ◌-◌, ◌*◌, ◌^◌, ◌<◌, ◌≤◌, Bool, true, List, All, length, slice_index_or, take, Ok, ℤ}
 use Rattle.rice_bits.specs.read.Reader.{Reader}
-use Rattle.rice_samples.specs.Parameters.{Parameters, value_count, values_at, width}
+use Rattle.rice_samples.specs.Parameters.{Parameters, value_at, value_count, values_at, width}
 use Rattle.rice_samples.specs.bytes.Spelling.{spellings}
+use Rattle.rice_samples.specs.predict.Near.{AreNearLevels}
 use Rattle.rice_code.specs.code.CodedDataSets.{CodedDataSet, bits_of_set, turns}
 use Rattle.rice_code.specs.code.Forms.{IsForm, RunIsSound, ResidualsAreSound, blocks_in}
 use Rattle.rice_code.specs.decode.Decoder.{Answers, GivesBlock, with_mark}
 use Rattle.rice_code.specs.decode.DecoderState.{DecoderState}
 use Rattle.rice_code.specs.declared.decode.fault.Step.TheVariants.{Block}
 
--- Blocks of `size` samples that may be decoded in the lanes of a vector: of at most 8 bits, and predicted.
-pub record HasLanes (s : Parameters) (size : ℕ) : Type 0 where
-  pub narrow : s.bits ≤ 8
+-- Blocks of `size` samples of `width` bytes that may be decoded in the lanes of vectors: 8 or 16 of at most 16 bits, predicted.
+pub record HasLanes (s : Parameters) (size width : ℕ) : Type 0 where
   pub preprocess : s.preprocess ≡ true
   pub size_is : s.block ≡ size
-  pub some : 1 ≤ size
-  pub most : size ≤ 16
+  pub sizes : (size ≡ 8) ⊎ (size ≡ 16)
+  pub widths : (width ≡ 1) ⊎ (width ≡ 2)
+  pub narrow : width ≡ 1 → s.bits ≤ 8
+  pub wide : width ≡ 2 → (8 < s.bits) × (s.bits ≤ 16)
 
 -- The first `len` bits are a sound coded data set at block b, and the levels of the samples of its one block, after sample p, stand
 -- in the first lanes.
@@ -30,6 +32,22 @@ pub record BlockAhead (waiting : List Bool) (s : Parameters) (b : ℕ) (p : ℤ)
   pub sixteen : length lanes ≡ 16
   pub legal : All (λ l. l < value_count s) lanes
   pub gives : GivesBlock s b p (values_at s (take s.block lanes)) 0 (blocks_in s b set)
+
+-- High and low parts of a block that waits, and the level after which its first sample is restored. Levels that are near and have
+-- residuals with these parts are the block's.
+pub record PartsAhead (waiting : List Bool) (s : Parameters) (b before k from : ℕ) (highs lows : List ℕ) (len : ℕ) : Type 0 where
+  pub begins : from < value_count s
+  pub sixteen : (length highs ≡ 16) × (length lows ≡ 16)
+  pub low : All (λ l. l < 2 ^ k) lows
+  pub whole : (levels : List ℕ) → AreNearLevels s from k highs lows levels → BlockAhead waiting s b (value_at s before) levels len
+
+-- The bytes begin with the spellings of the near levels that have residuals with these parts, `size` of them, of which `last` is the
+-- last.
+pub record SpellsNear (s : Parameters) (from k size : ℕ) (highs lows : List ℕ) (last : ℕ) (bytes : List ℕ) : Type 0 where
+  pub levels : List ℕ
+  pub near : AreNearLevels s from k highs lows levels
+  pub last_is : last ≡ slice_index_or levels (size - 1) 0
+  pub spelled : take (width s * size) bytes ≡ spellings s (values_at s (take size levels))
 
 -- A call read a coded data set, and the bytes begin with the spellings of the samples of its first block.
 pub record GivesBytes {I : Type 0} (old new : Reader I) (old_steps new_steps : ℕ) (p q : DecoderState) (bytes : List ℕ) : Type 0 where

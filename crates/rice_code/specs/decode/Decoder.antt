@@ -1,5 +1,5 @@
 -- What a contract sees of a decoder, and what a call of it says.
-use Rattle.std.specs.Prelude.{◌≡◌, ℕ, ◌+◌, ◌<◌, Bool, true, false, List, [], ◌∷◌, ◌++◌, length, replicate, All, Some, None, Result, Ok, Err, ℤ}
+use Rattle.std.specs.Prelude.{◌≡◌, ℕ, zero, suc, ◌+◌, Bool, true, false, List, [], ◌∷◌, ◌++◌, length, replicate, All, Some, None, Result, Ok, Err, ℤ}
 use Rattle.rice_bits.specs.read.Reader.{Reader, Takes, is_blank}
 use Rattle.rice_bits.specs.declared.read.fault.BitFault.{BitFault}
 use Rattle.rice_bits.specs.declared.read.fault.BitFault.TheVariants as bit_faults
@@ -90,14 +90,10 @@ pub record GivesFromRun (p q : DecoderState) (samples : List ℤ) : Type 0 where
   pub gives : GivesBlock p.setting p.block p.before samples q.run (replicate p.run (zero_block p.setting None))
   pub moves : q ≡ state_after_block p samples q.run
 
--- These samples are the sample before the next block, again and again, and a block of a run has just these.
-pub record Repeats (p : DecoderState) (samples : List ℤ) : Type 0 where
-  pub preprocess : p.setting.preprocess ≡ true
-  pub samples_are : samples ≡ replicate p.setting.block p.before
-
--- The next block is in a run, and these are its samples.
-abbrev pub RepeatsSamples : DecoderState → List ℤ → Type 0
-RepeatsSamples p samples = (0 < p.run) × Repeats p samples
+-- A decoder went past `count` blocks of a run, of which each sample is the sample before them.
+abbrev pub RepeatsBlocks : ℕ → DecoderState → DecoderState → Type 0
+RepeatsBlocks zero p q = q ≡ p
+RepeatsBlocks (suc n) p q = (m : DecoderState) × GivesFromRun p m (replicate p.setting.block p.before) × RepeatsBlocks n m q
 
 -- what a decoder returns when its reader refuses
 abbrev pub answer_to : BitFault → Result Step CodeFault

@@ -32,6 +32,10 @@ pub record IsDecoderState (s : Parameters) (block : ℕ) (before : ℤ) (run : �
 abbrev pub next_block_place : Parameters → ℕ → ℕ
 next_block_place s b = if b + 1 == s.interval then 0 else b + 1
 
+-- the place of the block that stands `count` blocks further on in the interval, or begins the next one
+abbrev pub place_after : Parameters → ℕ → ℕ → ℕ
+place_after s b count = if b + count == s.interval then 0 else b + count
+
 -- the state after a block with these samples, which `run` zero blocks follow
 abbrev pub state_after_block : DecoderState → List ℤ → ℕ → DecoderState
 state_after_block p samples run = record p { block = next_block_place p.setting p.block; before = last_of p.before samples; run = run }

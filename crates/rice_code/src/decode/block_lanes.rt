@@ -1,23 +1,28 @@
-//! Blocks of 8 or 16 samples of at most 8 bits, by a split, in one pass from bits to levels.
-ghost use Rattle.std.specs.Prelude.{◌≡◌, ◌⊎◌, ℕ, ◌+◌, ◌-◌, ◌^◌, ◌<◌, ◌≤◌, ◌++◌, true, false, IfSome, None, length, replicate, take, drop};
+//! Blocks of 8 or 16 samples of at most 16 bits, by a split, in one pass from bits to bytes.
+ghost use Rattle.std.specs.Prelude.{◌≡◌, ◌⊎◌, ℕ, ◌+◌, ◌-◌, ◌^◌, ◌<◌, ◌≤◌, ◌++◌, ◌*◌, All, true, false, IfSome, IfNone, None, length, replicate, take};
 ghost use Rattle.rice_bits.specs.Bits.{word};
 ghost use Rattle.rice_bits.specs.read.Reader.{Takes};
-ghost use Rattle.rice_samples.specs.Parameters.{id_len, value_at, value_count};
+ghost use Rattle.rice_samples.specs.Parameters.{id_len, value_count};
 ghost use Rattle.rice_samples.specs.Places.{is_reference};
-ghost use Rattle.rice_code.specs.decode.BlocksAhead.{BlockAhead, HasLanes};
+ghost use Rattle.rice_code.specs.decode.BlocksAhead.{HasLanes, PartsAhead, SpellsNear};
 ghost use Rattle.rice_code.specs.decode.Decoder.{with_mark};
 
 use rice_bits::{BitReader, Intake, Meter, behind_zero};
-use rice_samples::{Setting, level_of_pattern, near_levels};
+use rice_samples::{
+    Setting, level_of_pattern, near_halves, near_levels, spelled_bytes, spelled_words,
+};
 use std::simd::prelude::*;
 
-/// The bits that are looked at for a block, at most: identifier, reference sample, eight bytes with sequences, and sixteen words.
-const LOOKS: u64 = 192;
+/// The bits that are looked at for a block, at most: identifier, reference sample, six bytes with sequences, and sixteen bytes.
+const LOOKS: u64 = 200;
 
-/// A block that waits: the levels of its samples in the first lanes, and the number of bits of its coded data set.
+/// The parts of the residuals of a block that waits, in the first lanes, the level after which its first sample is restored, and the
+/// number of bits of its coded data set.
 #[derive(Clone, Copy)]
-pub struct BlockLanes {
-    pub levels: u8x16,
+pub struct PartLanes {
+    pub from: u32,
+    pub highs: u8x16,
+    pub lows: u8x16,
     pub len: usize,
 }
 
@@ -55,83 +60,97 @@ fn first_half(numbers: u8x16) -> u8x16
     )
 }
 
-/// Returns the block of `SIZE` samples that waits, after a sample at level `before`, if it is by a split, with short fundamental
-/// sequences, and all samples are near to those before them. It takes nothing.
+/// Returns the split of the block that waits, if it is one that leaves few low bits, and so many bits wait that all of the block may
+/// be looked at. Its samples have `WIDTH` bytes.
 #[inline(always)]
-pub fn block_ahead<I: Intake, const SIZE: usize>(
+pub fn split_ahead<I: Intake, const SIZE: usize, const WIDTH: usize>(
     setting: &Setting,
-    block: u64,
-    before: u32,
     reader: &BitReader<I>,
-) -> Option<BlockLanes>
-    requires size { (SIZE ≡ 8) ⊎ (SIZE ≡ 16) }
-    requires lanes { HasLanes setting.now SIZE }
-    requires before { before < value_count setting.now }
-    ensures { IfSome result (λ l. BlockAhead reader.now.waiting setting.now block
-        (value_at setting.now before) l.levels l.len) }
+) -> Option<u32>
+    requires lanes { HasLanes setting.now SIZE WIDTH }
+    ensures { IfSome result (λ k. (k < 3 + 3 * WIDTH) × (200 ≤ length reader.now.waiting) ×
+        (word (id_len setting.now) (k + 1) ≡ take (id_len setting.now) reader.now.waiting)) }
 {
     if reader.waiting() < LOOKS {
         return None;
     }
-    let id = reader.number_ahead(0, setting.id_len());
-    if id < 1 || id > 6 {
+    let id = reader.number_ahead(0, WIDTH as u32 + 2);
+    if id < 1 || id > 3 + 3 * WIDTH as u32 {
         return None;
     }
-    if setting.is_reference(block) {
-        return block_behind_reference::<I, SIZE>(setting, block, before, id - 1, reader);
-    }
-    plain_block::<I, SIZE>(setting, block, before, id - 1, reader)
+    Some(id - 1)
 }
 
-/// As `block_ahead`, for a block by split `k` that has no reference sample.
+/// Returns the parts of the block of `SIZE` samples that waits, by split `k`, after a sample at level `before`, if its fundamental
+/// sequences are short. It takes nothing.
 #[inline(always)]
-fn plain_block<I: Intake, const SIZE: usize>(
+pub fn parts_ahead<I: Intake, const SIZE: usize, const WIDTH: usize>(
     setting: &Setting,
     block: u64,
     before: u32,
     k: u32,
     reader: &BitReader<I>,
-) -> Option<BlockLanes>
-    requires size { (SIZE ≡ 8) ⊎ (SIZE ≡ 16) }
-    requires lanes { HasLanes setting.now SIZE }
+) -> Option<PartLanes>
+    requires lanes { HasLanes setting.now SIZE WIDTH }
+    requires before { before < value_count setting.now }
+    requires there { 200 ≤ length reader.now.waiting }
+    requires split { k < 3 + 3 * WIDTH }
+    requires id { word (id_len setting.now) (k + 1) ≡ take (id_len setting.now) reader.now.waiting }
+    ensures { IfSome result (λ p. PartsAhead reader.now.waiting setting.now block before k
+        p.from p.highs p.lows p.len) }
+{
+    if setting.is_reference(block) {
+        return parts_behind_reference::<I, SIZE, WIDTH>(setting, block, before, k, reader);
+    }
+    plain_parts::<I, SIZE, WIDTH>(setting, block, before, k, reader)
+}
+
+/// As `parts_ahead`, for a block that has no reference sample.
+#[inline(always)]
+fn plain_parts<I: Intake, const SIZE: usize, const WIDTH: usize>(
+    setting: &Setting,
+    block: u64,
+    before: u32,
+    k: u32,
+    reader: &BitReader<I>,
+) -> Option<PartLanes>
+    requires lanes { HasLanes setting.now SIZE WIDTH }
     requires before { before < value_count setting.now }
     requires reference { is_reference setting.now block ≡ false }
-    requires there { 192 ≤ length reader.now.waiting }
-    requires split { k ≤ 5 }
+    requires there { 200 ≤ length reader.now.waiting }
+    requires split { k < 3 + 3 * WIDTH }
     requires id { word (id_len setting.now) (k + 1) ≡ take (id_len setting.now) reader.now.waiting }
-    ensures { IfSome result (λ l. BlockAhead reader.now.waiting setting.now block
-        (value_at setting.now before) l.levels l.len) }
+    ensures { IfSome result (λ p. PartsAhead reader.now.waiting setting.now block before k
+        p.from p.highs p.lows p.len) }
 {
-    let head = setting.id_len() as usize;
+    let head = WIDTH + 2;
     let sequences = reader.sequences_ahead(head, sequence_bytes(SIZE), SIZE)?;
     let words = head + sequences.len;
-    let highs = first_lanes::<SIZE>(sequences.numbers);
-    let lows = first_lanes::<SIZE>(reader.words_ahead(words, k));
-    let near = near_levels(setting, before, highs, lows, k)?;
-    Some(BlockLanes {
-        levels: near.levels,
+    Some(PartLanes {
+        from: before,
+        highs: first_lanes::<SIZE>(sequences.numbers),
+        lows: first_lanes::<SIZE>(reader.words_ahead(words, k)),
         len: words + SIZE * k as usize,
     })
 }
 
-/// As `block_ahead`, for a block by split `k` that has a reference sample.
+/// As `parts_ahead`, for a block that has a reference sample.
 #[inline(always)]
-fn block_behind_reference<I: Intake, const SIZE: usize>(
+fn parts_behind_reference<I: Intake, const SIZE: usize, const WIDTH: usize>(
     setting: &Setting,
     block: u64,
     before: u32,
     k: u32,
     reader: &BitReader<I>,
-) -> Option<BlockLanes>
-    requires size { (SIZE ≡ 8) ⊎ (SIZE ≡ 16) }
-    requires lanes { HasLanes setting.now SIZE }
+) -> Option<PartLanes>
+    requires lanes { HasLanes setting.now SIZE WIDTH }
     requires before { before < value_count setting.now }
     requires reference { is_reference setting.now block ≡ true }
-    requires there { 192 ≤ length reader.now.waiting }
-    requires split { k ≤ 5 }
+    requires there { 200 ≤ length reader.now.waiting }
+    requires split { k < 3 + 3 * WIDTH }
     requires id { word (id_len setting.now) (k + 1) ≡ take (id_len setting.now) reader.now.waiting }
-    ensures { IfSome result (λ l. BlockAhead reader.now.waiting setting.now block
-        (value_at setting.now before) l.levels l.len) }
+    ensures { IfSome result (λ p. PartsAhead reader.now.waiting setting.now block before k
+        p.from p.highs p.lows p.len) }
 {
     let id = setting.id_len() as usize;
     let bits = setting.bits();
@@ -140,13 +159,86 @@ fn block_behind_reference<I: Intake, const SIZE: usize>(
     let sequences = reader.sequences_ahead(head, sequence_bytes(SIZE), SIZE - 1)?;
     let words = head + sequences.len;
     // A residual of 0 stands at the place of the reference sample.
-    let highs = first_lanes::<SIZE>(behind_zero(sequences.numbers));
-    let lows = first_lanes::<SIZE>(behind_zero(reader.words_ahead(words, k)));
-    let near = near_levels(setting, first, highs, lows, k)?;
-    Some(BlockLanes {
-        levels: near.levels,
+    Some(PartLanes {
+        from: first,
+        highs: first_lanes::<SIZE>(behind_zero(sequences.numbers)),
+        lows: first_lanes::<SIZE>(behind_zero(reader.words_ahead(words, k))),
         len: words + (SIZE - 1) * k as usize,
     })
+}
+
+/// Writes the bytes of the block with these parts, of samples of `WIDTH` bytes, if all of them are near to those before them. Returns
+/// the level of its last sample. It may write more behind these bytes.
+#[inline(always)]
+pub fn spell_near<const SIZE: usize, const WIDTH: usize>(
+    setting: &Setting,
+    k: u32,
+    parts: PartLanes,
+    bytes: &mut [u8],
+) -> Option<u32>
+    requires lanes { HasLanes setting.now SIZE WIDTH }
+    requires split { k < 3 + 3 * WIDTH }
+    requires begins { parts.from < value_count setting.now }
+    requires sixteen { (length parts.highs ≡ 16) × (length parts.lows ≡ 16) }
+    requires low { All (λ l. l < 2 ^ k) parts.lows }
+    requires bytes { 32 ≤ length bytes.old }
+    ensures some { IfSome result (λ l. SpellsNear setting.now parts.from k SIZE parts.highs parts.lows l bytes.new) }
+    ensures none { IfNone result (bytes.new ≡ bytes.old) }
+{
+    if WIDTH == 1 {
+        spell_bytes::<SIZE>(setting, k, parts, bytes)
+    } else {
+        spell_words::<SIZE>(setting, k, parts, bytes)
+    }
+}
+
+/// As `spell_near`, of samples of one byte.
+#[inline(always)]
+fn spell_bytes<const SIZE: usize>(
+    setting: &Setting,
+    k: u32,
+    parts: PartLanes,
+    bytes: &mut [u8],
+) -> Option<u32>
+    requires lanes { HasLanes setting.now SIZE 1 }
+    requires split { k < 6 }
+    requires begins { parts.from < value_count setting.now }
+    requires sixteen { (length parts.highs ≡ 16) × (length parts.lows ≡ 16) }
+    requires low { All (λ l. l < 2 ^ k) parts.lows }
+    requires bytes { 32 ≤ length bytes.old }
+    ensures some { IfSome result (λ l. SpellsNear setting.now parts.from k SIZE parts.highs parts.lows l bytes.new) }
+    ensures none { IfNone result (bytes.new ≡ bytes.old) }
+{
+    let _bits = setting.bits();
+    let near = near_levels(setting, parts.from, parts.highs, parts.lows, k)?;
+    spelled_bytes(setting, near.levels).copy_to_slice(bytes);
+    Some(near.levels.to_array()[SIZE - 1] as u32)
+}
+
+/// As `spell_near`, of samples of two bytes.
+#[inline(always)]
+fn spell_words<const SIZE: usize>(
+    setting: &Setting,
+    k: u32,
+    parts: PartLanes,
+    bytes: &mut [u8],
+) -> Option<u32>
+    requires lanes { HasLanes setting.now SIZE 2 }
+    requires split { k < 9 }
+    requires begins { parts.from < value_count setting.now }
+    requires sixteen { (length parts.highs ≡ 16) × (length parts.lows ≡ 16) }
+    requires low { All (λ l. l < 2 ^ k) parts.lows }
+    requires bytes { 32 ≤ length bytes.old }
+    ensures some { IfSome result (λ l. SpellsNear setting.now parts.from k SIZE parts.highs parts.lows l bytes.new) }
+    ensures none { IfNone result (bytes.new ≡ bytes.old) }
+{
+    let near = near_halves(setting, parts.from, parts.highs, parts.lows, k)?;
+    spelled_words(setting, near.first).copy_to_slice(bytes);
+    if SIZE == 8 {
+        return Some(near.first.to_array()[7] as u32);
+    }
+    spelled_words(setting, near.second).copy_to_slice(&mut bytes[16..]);
+    Some(near.second.to_array()[7] as u32)
 }
 
 /// Takes the next `len` bits, which are a block that was looked at, as if after [`mark`](BitReader::mark).

@@ -1,18 +1,19 @@
 //! Decodes coded data sets, a block a call.
-ghost use Rattle.std.specs.Prelude.{◌≡◌, ◌≢◌, ◌⊎◌, ℕ, ◌+◌, ◌-◌, ◌*◌, ◌/◌, ◌^◌, ◌<◌, ◌≤◌, Bool, true, false, List, All, [], length, replicate, None, Option, Some, IfOk, IfErr, IfSome, IfNone, Ok, ℤ, pos};
-ghost use Rattle.rice_samples.specs.Parameters.{IsLegal, value_at, value_count, values_at};
+ghost use Rattle.std.specs.Prelude.{◌≡◌, ◌≢◌, ◌⊎◌, ℕ, ◌+◌, ◌-◌, ◌*◌, ◌/◌, ◌^◌, ◌<◌, ◌≤◌, Bool, true, false, List, All, [], length, replicate, take, None, Option, Some, IfOk, IfErr, IfSome, IfNone, Ok, ℤ, pos};
+ghost use Rattle.rice_samples.specs.Parameters.{IsLegal, id_len, value_at, value_count, values_at};
 ghost use Rattle.rice_samples.specs.Places.{blocks_left};
 ghost use Rattle.rice_samples.specs.predict.Residuals.{last_of};
+ghost use Rattle.rice_bits.specs.Bits.{word};
 ghost use Rattle.rice_code.specs.code.Blocks.{BlockData, block_data, zero_block};
 ghost use Rattle.rice_code.specs.code.Forms.{IsReference, RunIsSound, blocks_in, zero_blocks};
 ghost use Rattle.rice_code.specs.decode.BlocksAhead.{GivesBytes, HasLanes};
 ghost use Rattle.rice_code.specs.decode.Fields.{HasRoom, AreCounted};
 ghost use Rattle.rice_code.specs.decode.Decoder.{TakesSet, StopsBy, Skips, answer_to};
-ghost use Rattle.rice_code.specs.decode.DecoderState.{next_block_place};
+ghost use Rattle.rice_code.specs.decode.DecoderState.{next_block_place, place_after};
 ghost use Rattle.rice_code.specs.code.Layout.{padding};
 ghost use Rattle.rice_code.specs.code.CodedDataSets.{run_with_zeros};
 
-use crate::decode::block_lanes::{block_ahead, take_ahead};
+use crate::decode::block_lanes::{parts_ahead, spell_near, split_ahead, take_ahead};
 use crate::decode::coded_data_set::read_set;
 use crate::decode::fault::{CodeFault, Step};
 use crate::decode::options::SetHead;
@@ -20,9 +21,8 @@ use crate::decode::restoring::{restore_block, restore_zeros};
 use crate::sizes::known_or;
 use arrayvec::ArrayVec;
 use rice_bits::{BitFault, BitReader, Intake, Meter};
-use rice_samples::{Setting, spelled_bytes};
+use rice_samples::Setting;
 use std::marker::Model;
-use std::simd::prelude::*;
 
 /// Returns the number of blocks of the run whose codeword has `zeros` zeros, or `None` if that run is not sound.
 fn run_blocks(setting: &Setting, block: u64, zeros: u64) -> Option<u32>
@@ -69,6 +69,17 @@ fn next_place(setting: &Setting, block: u64) -> u64
     if next == interval { 0 } else { next }
 }
 
+/// Returns the place of the block that stands `count` blocks behind block `block`, if none between them begins an interval.
+fn place_behind(setting: &Setting, block: u64, count: u32) -> u64
+    requires block { block < setting.now.interval }
+    requires within { block + count ≤ setting.now.interval }
+    ensures { result ≡ place_after setting.now block count }
+{
+    let interval = setting.interval() as u64;
+    let next = block + count as u64;
+    if next == interval { 0 } else { next }
+}
+
 /// Skips the padding before block `next`, if intervals are padded and the next one begins there.
 fn skip_padding<I: Intake>(
     setting: &Setting,
@@ -86,27 +97,6 @@ fn skip_padding<I: Intake>(
     if setting.pads() && next == setting.interval() as u64 {
         reader.align(meter);
     }
-}
-
-/// Returns whether samples have at most 8 bits, and are predicted.
-#[inline(always)]
-fn is_narrow(setting: &Setting) -> bool
-    ensures { result ≡ true → (setting.now.bits ≤ 8) × (setting.now.preprocess ≡ true) }
-{
-    setting.bits() <= 8 && setting.preprocess()
-}
-
-/// Returns whether each of the levels is `value`.
-fn are_all(levels: &[u32], value: u32) -> bool
-    ensures all { result ≡ true → levels.now ≡ replicate (length levels.now) value }
-    ensures not_all { result ≡ false → levels.now ≡ replicate (length levels.now) value → ⊥ }
-{
-    for i in 0..levels.len() {
-        if levels[i] != value {
-            return false;
-        }
-    }
-    true
 }
 
 /// Makes these the values at these levels.
@@ -151,7 +141,7 @@ impl Model for Decoder {
 
 impl Decoder {
     ghost use Rattle.rice_code.specs.decode.DecoderState.{IsDecoderState};
-    ghost use Rattle.rice_code.specs.decode.Decoder.{Answers, GivesFromRun, RepeatsSamples, with_mark};
+    ghost use Rattle.rice_code.specs.decode.Decoder.{Answers, GivesFromRun, RepeatsBlocks, with_mark};
     ghost use Rattle.rice_code.specs.declared.decode.fault.Step.TheVariants.{Block};
 
     /// Returns a decoder at the beginning of a code.
@@ -229,32 +219,29 @@ impl Decoder {
         self.run != 0
     }
 
-    /// Returns whether the next block is in a run, and is known to have just the samples with these levels. Without preprocessing
-    /// none is known to.
-    pub fn repeats(&self, levels: &[u32]) -> bool
-        ensures repeats { result ≡ true → RepeatsSamples self.now (values_at self.now.setting levels.now) }
-        ensures others { result ≡ false → RepeatsSamples self.now (values_at self.now.setting levels.now) → ⊥ }
+    /// Returns whether the next block is in a run, and each of its samples is known to be the sample before it. Without preprocessing
+    /// none is known to be.
+    #[inline(always)]
+    pub fn repeats(&self) -> bool
+        ensures some { result ≡ true → (0 < self.now.run) × (self.now.setting.preprocess ≡ true) }
+        ensures none { result ≡ false → (self.now.run ≡ 0) ⊎ (self.now.setting.preprocess ≡ false) }
     {
-        if self.run == 0 || !self.setting.preprocess() {
-            return false;
-        }
-        levels.len() == self.setting.block() as usize && are_all(levels, self.before)
+        self.is_in_run() && self.setting.preprocess()
     }
 
-    /// Goes past the next block of a run: each of its samples is the sample before it.
+    /// Goes past the next `count` blocks of a run: each of their samples is the sample before them.
     #[inline(always)]
-    pub fn repeat_block(&mut self)
-        requires run { 0 < self.old.run }
+    pub fn repeat_blocks(&mut self, count: u32)
+        requires run { count ≤ self.old.run }
         requires preprocess { self.old.setting.preprocess ≡ true }
-        ensures gives { GivesFromRun self.old self.new
-            (replicate self.old.setting.block self.old.before) }
-        ensures run { self.new.run + 1 ≡ self.old.run }
+        ensures gives { RepeatsBlocks count self.old self.new }
+        ensures run { self.new.run + count ≡ self.old.run }
         ensures before { self.new.before ≡ self.old.before }
         ensures setting { self.new.setting ≡ self.old.setting }
         ensures stopped { self.new.stopped ≡ self.old.stopped }
     {
-        let next = next_place(&self.setting, self.block);
-        self.run -= 1;
+        let next = place_behind(&self.setting, self.block, count);
+        self.run -= count;
         self.block = next;
     }
 
@@ -295,20 +282,21 @@ impl Decoder {
         answer
     }
 
-    /// Reads the next coded data set and writes the bytes of its block to the front of `bytes`, if the block has 8 or 16 samples
-    /// of at most 8 bits that are near to those before them, is coded by a split, and waits. Returns whether it did; otherwise
-    /// nothing has happened, and [`next_levels`](Self::next_levels) gives the block.
+    /// Reads the next coded data set and writes the bytes of its block, of `SIZE` samples of `WIDTH` bytes, to the front of `bytes`, if
+    /// it is coded by a split, its samples are near to those before them, and it waits. Returns whether it did; otherwise nothing has
+    /// happened, and [`next_levels`](Self::next_levels) gives the block.
     #[inline(always)]
-    pub fn next_bytes<I: Intake>(
+    pub fn next_bytes<I: Intake, const SIZE: usize, const WIDTH: usize>(
         &mut self,
         reader: &mut BitReader<I>,
         meter: &mut Meter,
         bytes: &mut [u8],
     ) -> bool
+        requires lanes { HasLanes self.old.setting SIZE WIDTH }
         requires stopped { self.old.stopped ≡ None }
         requires going { reader.old.refusal ≡ None }
         requires room { meter.old + 2 * (2 ^ 52 - reader.old.taken) + 64 < 2 ^ 62 }
-        requires bytes { 16 ≤ length bytes.old }
+        requires bytes { 32 ≤ length bytes.old }
         ensures some { result ≡ true → (self.old.run ≡ 0) ×
             GivesBytes reader.old reader.new meter.old meter.new self.old self.new bytes.new }
         ensures none { result ≡ false → (self.new ≡ self.old) × (reader.new ≡ reader.old) ×
@@ -321,31 +309,34 @@ impl Decoder {
         ensures steps { AreCounted meter.old meter.new reader.old.taken reader.new.taken }
     {
         let _taken = reader.taken();
-        if self.run > 0 || !is_narrow(&self.setting) {
+        if self.run > 0 {
             return false;
         }
-        match self.setting.block() {
-            8 => self.read_in_lanes::<I, 8>(reader, meter, bytes),
-            16 => self.read_in_lanes::<I, 16>(reader, meter, bytes),
-            _ => false,
+        match split_ahead::<I, SIZE, WIDTH>(&self.setting, reader) {
+            Some(k) => self.read_in_lanes::<I, SIZE, WIDTH>(k, reader, meter, bytes),
+            None => false,
         }
     }
 
-    /// As `next_bytes`, outside a run.
+    /// As `next_bytes`, outside a run, of a block by split `k`.
     #[inline(never)]
-    fn read_in_lanes<I: Intake, const SIZE: usize>(
+    fn read_in_lanes<I: Intake, const SIZE: usize, const WIDTH: usize>(
         &mut self,
+        k: u32,
         reader: &mut BitReader<I>,
         meter: &mut Meter,
         bytes: &mut [u8],
     ) -> bool
-        requires size { (SIZE ≡ 8) ⊎ (SIZE ≡ 16) }
-        requires lanes { HasLanes self.old.setting SIZE }
+        requires lanes { HasLanes self.old.setting SIZE WIDTH }
         requires stopped { self.old.stopped ≡ None }
         requires run { self.old.run ≡ 0 }
+        requires there { 200 ≤ length reader.old.waiting }
+        requires split { k < 3 + 3 * WIDTH }
+        requires id { word (id_len self.old.setting) (k + 1)
+            ≡ take (id_len self.old.setting) reader.old.waiting }
         requires going { reader.old.refusal ≡ None }
         requires room { meter.old + 2 * (2 ^ 52 - reader.old.taken) + 64 < 2 ^ 62 }
-        requires bytes { 16 ≤ length bytes.old }
+        requires bytes { 32 ≤ length bytes.old }
         ensures some { result ≡ true →
             GivesBytes reader.old reader.new meter.old meter.new self.old self.new bytes.new }
         ensures none { result ≡ false → (self.new ≡ self.old) × (reader.new ≡ reader.old) ×
@@ -356,13 +347,22 @@ impl Decoder {
         ensures steps { AreCounted meter.old meter.new reader.old.taken reader.new.taken }
     {
         let _taken = reader.taken();
-        let found = match block_ahead::<I, SIZE>(&self.setting, self.block, self.before, reader) {
-            Some(found) => found,
+        let setting = &self.setting;
+        let parts = match parts_ahead::<I, SIZE, WIDTH>(
+            setting,
+            self.block,
+            self.before,
+            k,
+            reader,
+        ) {
+            Some(parts) => parts,
             None => return false,
         };
-        take_ahead(reader, found.len, meter);
-        spelled_bytes(&self.setting, found.levels).copy_to_slice(bytes);
-        let last = found.levels.to_array()[SIZE - 1] as u32;
+        let last = match spell_near::<SIZE, WIDTH>(setting, k, parts, bytes) {
+            Some(last) => last,
+            None => return false,
+        };
+        take_ahead(reader, parts.len, meter);
         let _answer = self.go_on(last, 0, reader, meter);
         true
     }

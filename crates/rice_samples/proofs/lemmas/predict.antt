@@ -1,5 +1,6 @@
 -- Residuals and patterns, and back.
 pub mod Folding
+pub mod HalfLanes
 pub mod InverseLemmas
 pub mod LaneNear
 pub mod LaneParts

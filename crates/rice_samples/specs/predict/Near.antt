@@ -1,5 +1,5 @@
 -- Numbers that are so near to the ones before them that the range reaches as far to both sides.
-use Rattle.std.specs.Prelude.{◌≡◌, ℕ, ◌+◌, ◌-◌, ◌/◌, ◌%◌, ◌^◌, ◌<◌, ◌≤◌, ◌==◌, min, if◌then◌else◌, List, [], ◌∷◌, ◌++◌, All, length, replicate}
+use Rattle.std.specs.Prelude.{◌≡◌, ℕ, ◌+◌, ◌-◌, ◌/◌, ◌%◌, ◌<◌, ◌==◌, min, if◌then◌else◌, List, [], ◌∷◌, ◌++◌, All, length, replicate}
 use Rattle.std.specs.Simd.Lanes.{zip2}
 use Rattle.rice_bits.specs.read.Parts.{joined_parts}
 use Rattle.rice_samples.specs.Parameters.{Parameters, value_count}
@@ -30,5 +30,9 @@ bound count greatest x = (reach count greatest x + reach count greatest x) % cou
 pub record AreNearLevels (s : Parameters) (p width : ℕ) (highs lows levels : List ℕ) : Type 0 where
   pub len : length levels ≡ 16
   pub legal : All (λ l. l < value_count s) levels
-  pub small : All (λ m. m ≤ 255 / 2 ^ width) highs
   pub ranked : ranks_below (value_count s) p levels ≡ joined_parts width highs lows
+
+-- the bytes of each pair in the other order
+abbrev pub swapped : List ℕ → List ℕ
+swapped (a ∷ b ∷ xs) = b ∷ a ∷ swapped xs
+swapped _ = []

@@ -1,5 +1,5 @@
 //! Eight numbers of at most 16 bits from their ranks at a time, in lanes of 16 bits.
-ghost use Rattle.std.specs.Prelude.{◌≡◌, ℕ, ◌+◌, ◌^◌, ◌<◌, ◌≤◌, ◌∷◌, All, length, map, true, take};
+ghost use Rattle.std.specs.Prelude.{◌≡◌, ℕ, ◌+◌, ◌^◌, ◌<◌, ◌≤◌, ◌∷◌, All, length, map, replicate, true, take};
 ghost use Rattle.rice_samples.specs.predict.Residuals.{ranks_below};
 ghost use Rattle.rice_samples.specs.predict.Near.{near_numbers as near_numbers_of, way, bound, sums_behind};
 
@@ -51,6 +51,20 @@ fn sums_of_eight(numbers: u16x8) -> u16x8
     numbers + u16x8::splat(0).shuffle(numbers, [4, 5, 6, 7, 8, 9, 10, 11])
 }
 
+/// Returns by how much each rank is above those that are near. Where none is, the numbers have these ranks.
+#[inline(always)]
+pub(crate) fn far(greatest: u16, p: u16, ranks: u16x8, numbers: u16x8) -> u16x8
+    requires lanes { length ranks ≡ 8 }
+    requires numbers { numbers ≡ near_numbers_of (2 ^ 16) p ranks }
+    ensures len { length result ≡ 8 }
+    ensures fit { p ≤ greatest → result ≡ replicate 8 0 → All (λ x. x ≤ greatest) numbers }
+    ensures ranks { p ≤ greatest → result ≡ replicate 8 0 →
+        ranks_below (greatest + 1) p numbers ≡ ranks }
+{
+    // The first number that is not near still has the true one before it, so it is seen here.
+    ranks.saturating_sub(bounds_from(greatest, all_before(p, numbers)))
+}
+
 /// Returns whether each number is so near to the one before it that the range up to `greatest` reaches as far to both
 /// sides. Then the numbers have these ranks.
 #[inline(always)]
@@ -61,9 +75,18 @@ pub(crate) fn are_near(greatest: u16, p: u16, ranks: u16x8, numbers: u16x8) -> b
     ensures fit { result ≡ true → All (λ x. x ≤ greatest) numbers }
     ensures ranks { result ≡ true → ranks_below (greatest + 1) p numbers ≡ ranks }
 {
-    // The first number that is not near still has the true one before it, so it is seen here.
-    let bounds = bounds_from(greatest, all_before(p, numbers));
-    ranks.saturating_sub(bounds).reduce_or() == 0
+    let far = far(greatest, p, ranks, numbers);
+    are_zeros(far, far)
+}
+
+/// Returns whether both vectors are all zeros.
+#[inline(always)]
+pub(crate) fn are_zeros(a: u16x8, b: u16x8) -> bool
+    requires { (length a ≡ 8) × (length b ≡ 8) }
+    ensures first { result ≡ true → a ≡ replicate 8 0 }
+    ensures second { result ≡ true → b ≡ replicate 8 0 }
+{
+    (a | b).reduce_or() == 0
 }
 
 /// Returns the number before each of these.

@@ -1,11 +1,13 @@
 -- Blocks whose bytes the decoder gives at one stroke.
-use Rattle.std.proofs.Common.{◌≡◌, ℕ, ◌*◌, ◌<◌, ◌∙◌, List, length, take, ap, arith, subst, sym, Option, ℤ}
+use Rattle.std.proofs.Common.{◌≡◌, ℕ, ◌*◌, ◌<◌, ◌∙◌, List, length, take, ap, arith, subst, sym, Option, ℤ, inl, inr}
 use Rattle.std.specs.Prelude.{Ok}
 use Rattle.std.proofs.lemmas.List.{take_all}
 use Rattle.rice_bits.specs.read.Reader.{Reader}
 use Rattle.rice_samples.specs.Parameters.{Parameters, width}
 use Rattle.rice_samples.specs.bytes.Spelling.{spellings}
-use Rattle.rice_code.specs.decode.BlocksAhead.{GivesBytes}
+use Rattle.rice_code.specs.decode.BlocksAhead.{GivesBytes, HasLanes}
+use Rattle.rice_samples.proofs.lemmas.bytes.ByteLanes.{one_byte}
+use Rattle.rice_samples.proofs.lemmas.predict.HalfLanes.{two_bytes}
 use Rattle.rice_code.specs.decode.DecoderState.{DecoderState}
 use Rattle.rice_code.specs.declared.decode.fault.Step.TheVariants.{Block}
 use Rattle.rice_bits.specs.device.Outlet.{Room}
@@ -27,9 +29,19 @@ advances_spelled {p = p} none g = record {
 }
 
 -- the bytes that are written of it
-pub spelled_front : (s t : Parameters) (w count : ℕ) (samples : List ℤ) (bytes : List ℕ) → t ≡ s → w ≡ width s → count ≡ s.block → length samples ≡ s.block → take (width t * length samples) bytes ≡ spellings t samples
+spelled_front : (s t : Parameters) (w count : ℕ) (samples : List ℤ) (bytes : List ℕ) → t ≡ s → w ≡ width s → count ≡ s.block → length samples ≡ s.block → take (width t * length samples) bytes ≡ spellings t samples
     → take (w * count) bytes ≡ spellings s (take count samples)
 spelled_front s t w count samples bytes same wide all len spelled =
     let many : count ≡ length samples = omega (arith, all, len) in
     let whole : take count samples ≡ samples = take_all count samples (omega (arith, many)) in
     (λ j. take (wide j * many j) bytes) ∙ (subst (λ (u : Parameters). take (width u * length samples) bytes ≡ spellings u samples) same spelled ∙ ap (spellings s) (sym whole))
+
+-- the width of samples whose blocks go in lanes
+width_is : (s : Parameters) (size bytes_of_one : ℕ) → HasLanes s size bytes_of_one → bytes_of_one ≡ width s
+width_is s size bytes_of_one has = elim has.widths [ inl e ↦ e ∙ sym (one_byte s (has.narrow e)) | inr e ↦ (let wide = has.wide e in e ∙ sym (two_bytes s wide.0 wide.1)) ]
+
+pub lanes_front : (s t : Parameters) (size bytes_of_one count : ℕ) (samples : List ℤ) (bytes : List ℕ) → HasLanes s size bytes_of_one → t ≡ s → count ≡ s.block → length samples ≡ s.block → take (width t * length samples) bytes ≡ spellings t samples
+    → take (bytes_of_one * size) bytes ≡ spellings s (take count samples)
+lanes_front s t size bytes_of_one count samples bytes has same all len spelled =
+    let many : size ≡ count = sym has.size_is ∙ sym all in
+    ap (λ n. take (bytes_of_one * n) bytes) many ∙ spelled_front s t bytes_of_one count samples bytes same (width_is s size bytes_of_one has) all len spelled

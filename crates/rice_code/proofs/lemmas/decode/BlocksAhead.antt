@@ -1,19 +1,22 @@
 -- A block by a split that waits, from its parts.
-use Rattle.std.proofs.Common.{◌≡◌, ℕ, zero, suc, ◌+◌, ◌-◌, ◌*◌, ◌/◌, ◌^◌, ◌<◌, ◌≤◌, Bool, true, false, List, [], ◌∷◌, ◌++◌, length, take, drop, refl, sym, ◌∙◌, ap, subst, arith, take-take, replicate, Option, Some, None}
-use Rattle.std.specs.Prelude.{All, flat_map, IfSome, IfNone, slice_index_or}
+use Rattle.std.proofs.Common.{◌≡◌, ℕ, zero, suc, ◌+◌, ◌-◌, ◌*◌, ◌/◌, ◌^◌, ◌<◌, ◌≤◌, Bool, true, false, List, [], ◌∷◌, ◌++◌, length, take, drop, refl, sym, ◌∙◌, ap, subst, arith, take-take, replicate, append_assoc, length-append, Option, Some, None, ℤ, inl, inr}
+use Rattle.std.specs.Prelude.{◌≢◌, All, flat_map, IfSome, IfNone, slice_index_or}
 use Rattle.std.specs.Simd.Lanes.{put_chunk}
-use Rattle.std.proofs.lemmas.Simd.{take_more_put_chunk}
+use Rattle.std.proofs.lemmas.Simd.{length-put_chunk, take_more_put_chunk}
 use Rattle.rice_bits.specs.read.Reader.{Reader, Takes}
-use Rattle.rice_samples.specs.bytes.Spelling.{spellings}
+use Rattle.rice_samples.specs.bytes.Spelling.{spelling, spellings}
 use Rattle.rice_samples.proofs.lemmas.bytes.ByteLanes.{bytes-front, one_byte}
 use Rattle.rice_code.specs.code.Layout.{padding}
 use Rattle.rice_code.specs.decode.Decoder.{Skips, TakesSet, with_mark}
 use Rattle.rice_code.specs.decode.DecoderState.{DecoderState, next_block_place}
 use Rattle.rice_code.proofs.lemmas.decode.DecoderLemmas.{answers_block, samples_by_bits}
-use Rattle.std.proofs.Math.Seq.{take-add}
+use Rattle.std.proofs.Math.ListN.{get_or-append}
+use Rattle.std.proofs.Math.Seq.{take-add, take-append_seam}
+use Rattle.std.proofs.lemmas.Bool.Decides.{nat_tests}
+use Rattle.rice_samples.proofs.lemmas.predict.HalfLanes.{two_bytes}
 use Rattle.std.proofs.Math.Nat.{mul-le-mul_right}
 use Rattle.std.proofs.lemmas.Nat.{pow_pos}
-use Rattle.std.proofs.lemmas.List.{drop-drop, get_or-take, length-take-le, take_at}
+use Rattle.std.proofs.lemmas.List.{drop-drop, get_or-take, length-replicate, length-take-le, get_or-append-add, take_all, take_at}
 use Rattle.std.proofs.lemmas.List.Elements.{All-append, All-cons, All-nil, All-replicate, All-take}
 use Rattle.rice_bits.specs.Bits.{word, fundamental_sequence}
 use Rattle.rice_bits.specs.lanes.Sequences.{BeginWithSequences}
@@ -30,7 +33,7 @@ use Rattle.rice_samples.proofs.lemmas.setting.ValuesAt.{last_value, legal_values
 use Rattle.rice_code.specs.code.Blocks.{BlockData}
 use Rattle.rice_code.specs.code.CodedDataSets.{Split, bits_of_set, reference_bits, sent_from}
 use Rattle.rice_code.specs.code.Forms.{IsReference}
-use Rattle.rice_code.specs.decode.BlocksAhead.{BlockAhead, GivesBytes, HasLanes}
+use Rattle.rice_code.specs.decode.BlocksAhead.{BlockAhead, GivesBytes, HasLanes, PartsAhead, SpellsNear}
 use Rattle.rice_code.specs.decode.ReadSets.{reference_place}
 use Rattle.rice_code.proofs.lemmas.code.ReadInOneWay.{wide_id}
 use Rattle.rice_code.proofs.lemmas.decode.JoinedParts.{high_pieces, low_pieces}
@@ -70,14 +73,14 @@ first_of size xs ys n h e = ap (take size) e ∙ take_at (take size xs) (replica
 
 -- the block of a split whose parts were found
 pub split_ahead : (waiting : List Bool) (s : Parameters) (b before from k : ℕ) (r : Option ℕ) (ms ls lanes : List ℕ) (a n m : ℕ)
-    → s.preprocess ≡ true → 1 ≤ s.block → s.block ≤ 16 → IsReference s b r → k ≤ 5
+    → s.preprocess ≡ true → 1 ≤ s.block → s.block ≤ 16 → IsReference s b r → k ≤ k_max s
     → word (id_len s) (k + 1) ≡ take (id_len s) waiting → reference_bits s r ≡ take a (drop (id_len s) waiting)
     → flat_map fundamental_sequence ms ≡ take n (drop (id_len s + a) waiting) → flat_map (word k) ls ≡ take m (drop (id_len s + a + n) waiting)
     → id_len s + a + n + m ≤ length waiting → length ls ≡ length ms → All (λ l. l < 2 ^ k) ls
     → from < value_count s → IfSome r (λ v. pattern s (value_at s from) ≡ v) → IfNone r (value_at s from ≡ value_at s before)
     → length lanes ≡ 16 → All (λ l. l < value_count s) lanes → ranks_below (value_count s) from (take s.block lanes) ≡ reference_place r ++ joined_parts k ms ls
     → BlockAhead waiting s b (value_at s before) lanes (id_len s + a + n + m)
-split_ahead waiting s b before from k r ms ls lanes a n m pre some most ref few id first second third there same low begins pat none sixteen legal ranked =
+split_ahead waiting s b before from k r ms ls lanes a n m pre some most ref split id first second third there same low begins pat none sixteen legal ranked =
     let levels = take s.block lanes in
     let small : All (λ l. l < value_count s) levels = All-take (λ l. l < value_count s) s.block lanes legal in
     let size : length levels ≡ s.block = length-take-le s.block lanes (omega (arith, sixteen, most)) in
@@ -86,7 +89,6 @@ split_ahead waiting s b before from k r ms ls lanes a n m pre some most ref few 
     let c : BlockData = record { reference = r; residuals = ds } in
     let len : length ds ≡ s.block = sym (ap length ranked) ∙ (length-ranks_below (value_count s) from levels ∙ size) in
     let zero = zero-placed r sent in
-    let split : k ≤ k_max s = let w = wide_id s in omega (arith, w, few) in
     let spelled : flat_map (λ d. fundamental_sequence (d / 2 ^ k)) (sent_from r ds) ++ flat_map (word k) (sent_from r ds) ≡ flat_map fundamental_sequence ms ++ flat_map (word k) ls =
     ap (λ xs. flat_map (λ d. fundamental_sequence (d / 2 ^ k)) xs ++ flat_map (word k) xs) (coded-placed r sent) ∙ (λ j. high_pieces k ms ls same low j ++ low_pieces k ms ls same j) in
     let samples = values_at s levels in
@@ -111,36 +113,37 @@ split_ahead waiting s b before from k r ms ls lanes a n m pre some most ref few 
       };
     }
 
--- a block with no reference sample
-pub plain_ahead : (waiting : List Bool) (s : Parameters) (b before k head n size : ℕ) (numbers words highs lows lanes : List ℕ) → HasLanes s size → is_reference s b ≡ false → k ≤ 5 → 192 ≤ length waiting
-    → word (id_len s) (k + 1) ≡ take (id_len s) waiting → before < value_count s → head ≡ id_len s → head ≤ 5 → BeginWithSequences (drop head waiting) size numbers n
-    → length words ≡ 16 → All (λ l. l < 2 ^ k) words → flat_map (word k) words ≡ take (16 * k) (drop (head + n) waiting)
-    → highs ≡ take size numbers ++ replicate (16 - size) 0 → lows ≡ take size words ++ replicate (16 - size) 0 → AreNearLevels s before k highs lows lanes
-    → BlockAhead waiting s b (value_at s before) lanes (head + n + size * k)
-plain_ahead waiting s b before k head n size numbers words highs lows lanes has none few there id begins head_is short found len low spelled_words high_is low_is near =
-    let most = has.most in
-    let ms = take size numbers in
-    let ls = take size words in
-    let place : head ≡ id_len s + 0 = omega (arith, head_is) in
-    let all : id_len s + 0 + n + size * k ≡ head + n + size * k = omega (arith, head_is) in
-    let part : size * k ≤ 16 * k = mul-le-mul_right k most in
-    let room : size * k ≤ 80 = let p : 16 * k ≤ 80 = omega (arith, few) in omega (arith, part, p) in
-    let spelled : flat_map fundamental_sequence ms ≡ take n (drop (id_len s + 0) waiting) = found.spelled ∙ ap (λ h. take n (drop h waiting)) place in
-    let lowest : flat_map (word k) ls ≡ take (size * k) (drop (id_len s + 0 + n) waiting) =
-    words-front k size words (omega (arith, len, most)) ∙ (ap (take (size * k)) spelled_words ∙ (take-take (size * k) (16 * k) (drop (head + n) waiting) part ∙ ap (λ h. take (size * k) (drop (h + n) waiting)) place)) in
-    let ranked : ranks_below (value_count s) before (take s.block lanes) ≡ joined_parts k ms ls =
-    ap (λ z. ranks_below (value_count s) before (take z lanes)) has.size_is ∙ (take-ranks size (value_count s) before lanes ∙ (ap (take size) near.ranked
-    ∙ (take-joined size k highs lows ∙ (λ j. joined_parts k (first_of size numbers highs found.lanes most high_is j) (first_of size words lows len most low_is j))))) in
-    let same : length ls ≡ length ms = length-take-le size words (omega (arith, len, most)) ∙ sym (length-take-le size numbers (omega (arith, found.lanes, most))) in
-    let n_few = found.few in
-    subst (BlockAhead waiting s b (value_at s before) lanes) all
-    (split_ahead waiting s b before before k None ms ls lanes 0 n (size * k) has.preprocess (omega (arith, has.some, has.size_is)) (omega (arith, most, has.size_is)) (record { there = sym none; fits = tt }) few id refl spelled lowest
-    (omega (arith, there, head_is, short, n_few, room)) same (All-take (λ l. l < 2 ^ k) size words low) begins tt refl near.len near.legal ranked)
+-- what is known of a setting whose blocks go in lanes
+pub record LanesKnown (s : Parameters) (size width : ℕ) : Type 0 where
+  pub some : 1 ≤ size
+  pub most : size ≤ 16
+  pub id_is : id_len s ≡ width + 2
+  pub short : width + 2 ≤ 4
+  pub few : s.bits ≤ 16
 
--- joined parts behind a 0
-zero-joined : (k : ℕ) (ms ls : List ℕ) → joined_parts k (0 ∷ ms) (0 ∷ ls) ≡ 0 ∷ joined_parts k ms ls
-zero-joined k ms ls = (let zero_is : 0 * 2 ^ k + 0 ≡ 0 = omega arith in ap (λ d. d ∷ joined_parts k ms ls) zero_is)
+pub lanes_known : (s : Parameters) (size width : ℕ) → HasLanes s size width → LanesKnown s size width
+lanes_known s size width has =
+    let sizes : (1 ≤ size) × (size ≤ 16) = elim has.sizes [ inl e ↦ (omega (arith, e), omega (arith, e)) | inr e ↦ (omega (arith, e), omega (arith, e)) ] in
+    let rest : (id_len s ≡ width + 2) × (width + 2 ≤ 4) × (s.bits ≤ 16) = elim has.widths [
+      | inl e ↦ (let few = has.narrow e in let id : id_len s ≡ 3 = grind (arith, nat_tests) in (omega (arith, id, e), omega (arith, e), omega (arith, few)))
+      | inr e ↦ (let few = has.wide e in let wide = few.0 in let most = few.1 in let id : id_len s ≡ 4 = grind (arith, nat_tests) in (omega (arith, id, e), omega (arith, e), most))
+    ] in
+    record { some = sizes.0; most = sizes.1; id_is = rest.0; short = rest.1; few = rest.2 }
 
+pub split_fits : (s : Parameters) (size width k : ℕ) → HasLanes s size width → k < 3 + 3 * width → (k ≤ k_max s) × (k ≤ 8)
+split_fits s size width k has lt =
+    let known = lanes_known s size width has in
+    elim has.widths [
+      | inl e ↦ (let w = wide_id s in (omega (arith, w, lt, e), omega (arith, lt, e)))
+      | inr e ↦ (let id : id_len s ≡ 4 = omega (arith, known.id_is, e) in let all : 2 ^ id_len s ≡ 16 = ap (λ n. 2 ^ n) id in (omega (arith, all, lt, e), omega (arith, lt, e)))
+    ]
+
+-- lanes with zeros behind the first
+pub lanes_sixteen : (size : ℕ) (xs ys : List ℕ) → length xs ≡ 16 → size ≤ 16 → ys ≡ take size xs ++ replicate (16 - size) 0 → length ys ≡ 16
+lanes_sixteen size xs ys n h e =
+    ap length e ∙ (length-append (take size xs) (replicate (16 - size) 0) ∙ (let a = length-take-le size xs (omega (arith, n, h)) in let b = length-replicate {A = ℕ} (16 - size) 0 in omega (arith, a, b, h)))
+
+-- low parts in the first lanes
 pub first-low : (k size : ℕ) (words lanes : List ℕ) → lanes ≡ take size words ++ replicate (16 - size) 0 → All (λ l. l < 2 ^ k) words → All (λ l. l < 2 ^ k) lanes
 first-low k size words lanes e low =
     subst (All (λ l. l < 2 ^ k)) (sym e) (All-append (λ l. l < 2 ^ k) (take size words) (replicate (16 - size) 0) (All-take (λ l. l < 2 ^ k) size words low) (All-replicate (λ l. l < 2 ^ k) (16 - size) 0 (pow_pos k)))
@@ -150,57 +153,139 @@ lanes-low k size words behind lanes e f low =
     let all : All (λ l. l < 2 ^ k) behind = subst (All (λ l. l < 2 ^ k)) (sym e) (All-cons (λ l. l < 2 ^ k) 0 (take 15 words) (pow_pos k) (All-take (λ l. l < 2 ^ k) 15 words low)) in
     first-low k size behind lanes f all
 
+-- a block with no reference sample
+pub plain_ahead : (waiting : List Bool) (s : Parameters) (b before k head n size width : ℕ) (numbers words highs lows : List ℕ) → HasLanes s size width → is_reference s b ≡ false → k < 3 + 3 * width → 200 ≤ length waiting
+    → word (id_len s) (k + 1) ≡ take (id_len s) waiting → before < value_count s → head ≡ width + 2 → BeginWithSequences (drop head waiting) size numbers n
+    → length words ≡ 16 → All (λ l. l < 2 ^ k) words → flat_map (word k) words ≡ take (16 * k) (drop (head + n) waiting)
+    → highs ≡ take size numbers ++ replicate (16 - size) 0 → lows ≡ take size words ++ replicate (16 - size) 0
+    → PartsAhead waiting s b before k before highs lows (head + n + size * k)
+plain_ahead waiting s b before k head n size width numbers words highs lows has none lt there id begins head_here found len low spelled_words high_is low_is =
+    let known = lanes_known s size width has in
+    let most = known.most in
+    let split = split_fits s size width k has lt in
+    let ms = take size numbers in
+    let ls = take size words in
+    let head_is : head ≡ id_len s = head_here ∙ sym known.id_is in
+    let place : head ≡ id_len s + 0 = omega (arith, head_is) in
+    let all : id_len s + 0 + n + size * k ≡ head + n + size * k = omega (arith, head_is) in
+    let part : size * k ≤ 16 * k = mul-le-mul_right k most in
+    let room : size * k ≤ 128 = let p : 16 * k ≤ 128 = omega (arith, split.1) in omega (arith, part, p) in
+    let spelled : flat_map fundamental_sequence ms ≡ take n (drop (id_len s + 0) waiting) = found.spelled ∙ ap (λ h. take n (drop h waiting)) place in
+    let lowest : flat_map (word k) ls ≡ take (size * k) (drop (id_len s + 0 + n) waiting) =
+    words-front k size words (omega (arith, len, most)) ∙ (ap (take (size * k)) spelled_words ∙ (take-take (size * k) (16 * k) (drop (head + n) waiting) part ∙ ap (λ h. take (size * k) (drop (h + n) waiting)) place)) in
+    let same : length ls ≡ length ms = length-take-le size words (omega (arith, len, most)) ∙ sym (length-take-le size numbers (omega (arith, found.lanes, most))) in
+    let n_few = found.few in
+    let short = known.short in
+    record {
+      begins = begins;
+      sixteen = (lanes_sixteen size numbers highs found.lanes most high_is, lanes_sixteen size words lows len most low_is);
+      low = first-low k size words lows low_is low;
+      whole = λ lanes near.
+          (let ranked : ranks_below (value_count s) before (take s.block lanes) ≡ joined_parts k ms ls =
+          ap (λ z. ranks_below (value_count s) before (take z lanes)) has.size_is ∙ (take-ranks size (value_count s) before lanes ∙ (ap (take size) near.ranked
+          ∙ (take-joined size k highs lows ∙ (λ j. joined_parts k (first_of size numbers highs found.lanes most high_is j) (first_of size words lows len most low_is j))))) in
+          subst (BlockAhead waiting s b (value_at s before) lanes) all
+          (split_ahead waiting s b before before k None ms ls lanes 0 n (size * k) has.preprocess (omega (arith, known.some, has.size_is)) (omega (arith, most, has.size_is)) (record { there = sym none; fits = tt }) split.0 id refl spelled lowest
+          (omega (arith, there, head_here, head_is, short, n_few, room)) same (All-take (λ l. l < 2 ^ k) size words low) begins tt refl near.len near.legal ranked));
+    }
+
+-- joined parts behind a 0
+zero-joined : (k : ℕ) (ms ls : List ℕ) → joined_parts k (0 ∷ ms) (0 ∷ ls) ≡ 0 ∷ joined_parts k ms ls
+zero-joined k ms ls = (let zero_is : 0 * 2 ^ k + 0 ≡ 0 = omega arith in ap (λ d. d ∷ joined_parts k ms ls) zero_is)
+
 -- the first of the numbers behind a 0
 first_behind : (size m : ℕ) (xs behind : List ℕ) → size ≡ suc m → m ≤ 15 → behind ≡ 0 ∷ take 15 xs → take size behind ≡ 0 ∷ take m xs
 first_behind size m xs behind e h is = (λ j. take (e j) (is j)) ∙ ap (λ z. 0 ∷ z) (take-take m 15 xs h)
 
 -- a block with a reference sample
-pub behind_reference_ahead : (waiting : List Bool) (s : Parameters) (b before from v k id bits n size : ℕ) (numbers words numbers_behind words_behind highs lows lanes : List ℕ) → HasLanes s size → is_reference s b ≡ true → k ≤ 5
-    → 192 ≤ length waiting → word (id_len s) (k + 1) ≡ take (id_len s) waiting → id ≡ id_len s → id ≤ 5 → bits ≡ s.bits → v < 2 ^ bits → word bits v ≡ take bits (drop id waiting)
+pub behind_reference_ahead : (waiting : List Bool) (s : Parameters) (b before from v k id bits n size width : ℕ) (numbers words numbers_behind words_behind highs lows : List ℕ) → HasLanes s size width → is_reference s b ≡ true → k < 3 + 3 * width
+    → 200 ≤ length waiting → word (id_len s) (k + 1) ≡ take (id_len s) waiting → id ≡ id_len s → bits ≡ s.bits → v < 2 ^ bits → word bits v ≡ take bits (drop id waiting)
     → from < value_count s → pattern s (value_at s from) ≡ v → BeginWithSequences (drop (id + bits) waiting) (size - 1) numbers n
     → length words ≡ 16 → All (λ l. l < 2 ^ k) words → flat_map (word k) words ≡ take (16 * k) (drop (id + bits + n) waiting)
     → numbers_behind ≡ 0 ∷ take 15 numbers → words_behind ≡ 0 ∷ take 15 words
-    → highs ≡ take size numbers_behind ++ replicate (16 - size) 0 → lows ≡ take size words_behind ++ replicate (16 - size) 0 → AreNearLevels s from k highs lows lanes
-    → BlockAhead waiting s b (value_at s before) lanes (id + bits + n + (size - 1) * k)
-behind_reference_ahead waiting s b before from v k id bits n size numbers words numbers_behind words_behind highs lows lanes has reference few there id_word id_is short bits_are fits value begins pat found len low spelled_words number_is word_is high_is low_is near =
-    let most = has.most in
-    let narrow = has.narrow in
+    → highs ≡ take size numbers_behind ++ replicate (16 - size) 0 → lows ≡ take size words_behind ++ replicate (16 - size) 0
+    → PartsAhead waiting s b before k from highs lows (id + bits + n + (size - 1) * k)
+behind_reference_ahead waiting s b before from v k id bits n size width numbers words numbers_behind words_behind highs lows has reference lt there id_word id_is bits_are fits value begins pat found len low spelled_words number_is word_is high_is low_is =
+    let known = lanes_known s size width has in
+    let most = known.most in
+    let narrow = known.few in
+    let split = split_fits s size width k has lt in
     let m = size - 1 in
-    let one : size ≡ suc m = omega (arith, has.some) in
+    let one : size ≡ suc m = omega (arith, known.some) in
     let less : m ≤ 15 = omega (arith, most) in
     let ms = take m numbers in
     let ls = take m words in
     let place : id + bits ≡ id_len s + s.bits = omega (arith, id_is, bits_are) in
     let all : id_len s + s.bits + n + m * k ≡ id + bits + n + m * k = omega (arith, id_is, bits_are) in
     let part : m * k ≤ 16 * k = mul-le-mul_right k (omega (arith, less)) in
-    let room : m * k ≤ 80 = let p : 16 * k ≤ 80 = omega (arith, few) in omega (arith, part, p) in
+    let room : m * k ≤ 128 = let p : 16 * k ≤ 128 = omega (arith, split.1) in omega (arith, part, p) in
     let lowest : flat_map (word k) ls ≡ take (m * k) (drop (id_len s + s.bits + n) waiting) =
     words-front k m words (omega (arith, len, less)) ∙ (ap (take (m * k)) spelled_words ∙ (take-take (m * k) (16 * k) (drop (id + bits + n) waiting) part ∙ ap (λ h. take (m * k) (drop (h + n) waiting)) place)) in
     let long_numbers : length numbers_behind ≡ 16 = let l : length (take 15 numbers) ≡ 15 = length-take-le 15 numbers (omega (arith, found.lanes)) in omega (arith, ap length number_is, l) in
     let long_words : length words_behind ≡ 16 = let l : length (take 15 words) ≡ 15 = length-take-le 15 words (omega (arith, len)) in omega (arith, ap length word_is, l) in
     let first_highs : take size highs ≡ 0 ∷ ms = first_of size numbers_behind highs long_numbers most high_is ∙ first_behind size m numbers numbers_behind one less number_is in
     let first_lows : take size lows ≡ 0 ∷ ls = first_of size words_behind lows long_words most low_is ∙ first_behind size m words words_behind one less word_is in
-    let ranked : ranks_below (value_count s) from (take s.block lanes) ≡ 0 ∷ joined_parts k ms ls =
-    ap (λ z. ranks_below (value_count s) from (take z lanes)) has.size_is ∙ (take-ranks size (value_count s) from lanes ∙ (ap (take size) near.ranked
-    ∙ (take-joined size k highs lows ∙ ((λ j. joined_parts k (first_highs j) (first_lows j)) ∙ zero-joined k ms ls)))) in
     let first : word s.bits v ≡ take s.bits (drop (id_len s) waiting) = (λ j. word (sym bits_are j) v) ∙ (value ∙ (λ j. take (bits_are j) (drop (id_is j) waiting))) in
     let same : length ls ≡ length ms = length-take-le m words (omega (arith, len, less)) ∙ sym (length-take-le m numbers (omega (arith, found.lanes, less))) in
     let n_few = found.few in
-    subst (BlockAhead waiting s b (value_at s before) lanes) all
-    (split_ahead waiting s b before from k (Some v) ms ls lanes s.bits n (m * k) has.preprocess (omega (arith, has.some, has.size_is)) (omega (arith, most, has.size_is)) (record { there = sym reference; fits = subst (λ w. v < 2 ^ w) bits_are fits }) few id_word
-    first (found.spelled ∙ ap (λ h. take n (drop h waiting)) place) lowest
-    (omega (arith, there, id_is, short, n_few, room, narrow)) same (All-take (λ l. l < 2 ^ k) m words low) begins pat tt near.len near.legal ranked)
+    let short = known.short in
+    let id_here = known.id_is in
+    record {
+      begins = begins;
+      sixteen = (lanes_sixteen size numbers_behind highs long_numbers most high_is, lanes_sixteen size words_behind lows long_words most low_is);
+      low = lanes-low k size words words_behind lows word_is low_is low;
+      whole = λ lanes near.
+          (let ranked : ranks_below (value_count s) from (take s.block lanes) ≡ 0 ∷ joined_parts k ms ls =
+          ap (λ z. ranks_below (value_count s) from (take z lanes)) has.size_is ∙ (take-ranks size (value_count s) from lanes ∙ (ap (take size) near.ranked
+          ∙ (take-joined size k highs lows ∙ ((λ j. joined_parts k (first_highs j) (first_lows j)) ∙ zero-joined k ms ls)))) in
+          subst (BlockAhead waiting s b (value_at s before) lanes) all
+          (split_ahead waiting s b before from k (Some v) ms ls lanes s.bits n (m * k) has.preprocess (omega (arith, known.some, has.size_is)) (omega (arith, most, has.size_is)) (record { there = sym reference; fits = subst (λ w. v < 2 ^ w) bits_are fits }) split.0 id_word
+          first (found.spelled ∙ ap (λ h. take n (drop h waiting)) place) lowest
+          (omega (arith, there, id_here, short, n_few, room, narrow)) same (All-take (λ l. l < 2 ^ k) m words low) begins pat tt near.len near.legal ranked));
+    }
+
+-- one byte of each sample
+pub bytes_near : (s : Parameters) (from k size : ℕ) (highs lows levels old spelled : List ℕ) → 1 ≤ s.bits → HasLanes s size 1 → AreNearLevels s from k highs lows levels → 32 ≤ length old → length spelled ≡ 16 → spelled ≡ spellings s (values_at s levels)
+    → SpellsNear s from k size highs lows (slice_index_or levels (size - 1) 0) (put_chunk 0 old spelled)
+bytes_near s from k size highs lows levels old spelled some has near room count is =
+    let most = (lanes_known s size 1 has).most in
+    let narrow = has.narrow refl in
+    let one : width s * size ≡ size = ap (λ w. w * size) (one_byte s narrow) ∙ omega arith in
+    let front : take size (put_chunk 0 old spelled) ≡ take size spelled = sym (take-take size 16 (put_chunk 0 old spelled) most) ∙ ap (take size) (take_more_put_chunk 0 old spelled 16 (omega (arith, count)) (omega (arith, room))) in
+    record {
+      levels = levels;
+      near = near;
+      last_is = refl;
+      spelled = ap (λ n. take n (put_chunk 0 old spelled)) one ∙ (front ∙ (ap (take size) is ∙ bytes-front s size levels some narrow near.legal));
+    }
+
+-- two bytes of each of eight samples, and of sixteen
+pub words_near : (s : Parameters) (from k size : ℕ) (highs lows first second old spelled : List ℕ) → size ≡ 8 → HasLanes s size 2 → AreNearLevels s from k highs lows (first ++ second) → length first ≡ 8 → 32 ≤ length old
+    → length spelled ≡ 16 → spelled ≡ spellings s (values_at s first) → SpellsNear s from k size highs lows (slice_index_or first 7 0) (put_chunk 0 old spelled)
+words_near s from k size highs lows first second old spelled eight has near len room count is =
+    let wide = has.wide refl in
+    let two : width s * size ≡ 16 = (λ j. two_bytes s wide.0 wide.1 j * eight j) in
+    let front : take 16 (put_chunk 0 old spelled) ≡ spelled = take_more_put_chunk 0 old spelled 16 (omega (arith, count)) (omega (arith, room)) in
+    let levels : take size (first ++ second) ≡ first = ap (λ n. take n (first ++ second)) (eight ∙ sym len) ∙ take-append_seam first second in
+    let last : slice_index_or first 7 0 ≡ slice_index_or (first ++ second) 7 0 = sym (get_or-append first second 0 7 (omega (arith, len))) in
+    record {
+      levels = first ++ second;
+      near = near;
+      last_is = last ∙ ap (λ n. slice_index_or (first ++ second) (n - 1) 0) (sym eight);
+      spelled = ap (λ n. take n (put_chunk 0 old spelled)) two ∙ (front ∙ (is ∙ ap (λ l. spellings s (values_at s l)) (sym levels)));
+    }
 
 -- the bytes of a block that was looked at, taken and spelled
-pub bytes_given : {I : Type 0} (start marked middle new : Reader I) (first steps last : ℕ) (p q : DecoderState) (lanes : List ℕ) (len l size : ℕ) (old spelled : List ℕ)
-    → IsLegal p.setting → HasLanes p.setting size → BlockAhead start.waiting p.setting p.block p.before lanes len → marked ≡ with_mark start → Takes marked middle (take len marked.waiting) → steps ≡ first + len
+pub bytes_given : {I : Type 0} (start marked middle new : Reader I) (first steps last : ℕ) (p q : DecoderState) (lanes : List ℕ) (len l size bytes_of_one : ℕ) (bytes : List ℕ)
+    → IsLegal p.setting → HasLanes p.setting size bytes_of_one → BlockAhead start.waiting p.setting p.block p.before lanes len → marked ≡ with_mark start → Takes marked middle (take len marked.waiting) → steps ≡ first + len
     → Skips middle new (padding p.setting (p.block + 1 + 0) middle.taken) → last + middle.taken ≡ steps + new.taken → middle.taken ≤ new.taken
     → l ≡ slice_index_or lanes (size - 1) 0 → q ≡ record p { block = next_block_place p.setting p.block; before = value_at p.setting l; run = 0 }
-    → 16 ≤ length old → length spelled ≡ 16 → spelled ≡ spellings p.setting (values_at p.setting lanes)
-    → GivesBytes start new first last p q (put_chunk 0 old spelled)
-bytes_given start marked middle new first steps last p q lanes len l size old spelled legal has ahead marks takes counted skips skipped forward last_is moves room count is =
+    → take (width p.setting * size) bytes ≡ spellings p.setting (values_at p.setting (take size lanes))
+    → GivesBytes start new first last p q bytes
+bytes_given start marked middle new first steps last p q lanes len l size bytes_of_one bytes legal has ahead marks takes counted skips skipped forward last_is moves spelled =
     let s = p.setting in
-    let most = has.most in
+    let known = lanes_known s size bytes_of_one has in
+    let most = known.most in
     let levels = take s.block lanes in
     let samples = values_at s levels in
     let long : length levels ≡ size = length-take-le s.block lanes (omega (arith, ahead.sixteen, most, has.size_is)) ∙ has.size_is in
@@ -220,16 +305,54 @@ bytes_given start marked middle new first steps last p q lanes len l size old sp
     } in
     let from_start : TakesSet (with_mark start) middle first steps s p.block p.before samples 0 = subst (λ r. TakesSet r middle first steps s p.block p.before samples 0) marks set in
     let end : length levels - 1 ≡ size - 1 = omega (arith, long) in
-    let inside : size - 1 < s.block = omega (arith, has.some, has.size_is) in
+    let inside : size - 1 < s.block = omega (arith, known.some, has.size_is) in
     let value : value_at s l ≡ last_of p.before samples =
-    ap (value_at s) (last_is ∙ (sym (get_or-take s.block lanes (size - 1) 0 inside) ∙ ap (λ n. slice_index_or levels n 0) (sym end))) ∙ last_value s p.before levels (omega (arith, long, has.some)) in
-    let one : width s * length samples ≡ size = (λ j. one_byte s has.narrow j * many j) ∙ omega arith in
+    ap (value_at s) (last_is ∙ (sym (get_or-take s.block lanes (size - 1) 0 inside) ∙ ap (λ n. slice_index_or levels n 0) (sym end))) ∙ last_value s p.before levels (omega (arith, long, known.some)) in
     let bound = samples_by_bits (with_mark start) middle first steps s p.block p.before samples 0 legal from_start in
     let none : q.run ≡ 0 = ap (λ r. r.run) moves in
-    let front : take size (put_chunk 0 old spelled) ≡ take size spelled = sym (take-take size 16 (put_chunk 0 old spelled) most) ∙ ap (take size) (take_more_put_chunk 0 old spelled 16 (omega (arith, count)) room) in
     record {
       samples = samples;
       answers = answers_block start middle new first steps last p q samples 0 (value_at s l) from_start skips skipped value moves;
-      spelled = ap (λ n. take n (put_chunk 0 old spelled)) one ∙ (front ∙ (ap (take size) is ∙ (bytes-front s size lanes legal.bits_from has.narrow ahead.legal ∙ ap (λ n. spellings s (values_at s (take n lanes))) (sym has.size_is))));
+      spelled = ap (λ n. take (width s * n) bytes) many ∙ (spelled ∙ ap (λ n. spellings s (values_at s (take n lanes))) (sym has.size_is));
       by_bits = rw none (omega (arith, bound, forward));
     }
+
+-- the second part of a list
+pub all_behind : (P : ℕ → Type 0) (xs ys : List ℕ) → All P (xs ++ ys) → All P ys
+all_behind P [] ys h = h
+all_behind P (x ∷ xs) ys h = all_behind P xs ys (λ i d lt. h (suc i) d (omega (arith, lt)))
+
+spelled_both : (s : Parameters) (xs ys : List ℕ) → spellings s (values_at s xs) ++ spellings s (values_at s ys) ≡ spellings s (values_at s (xs ++ ys))
+spelled_both s [] ys = refl
+spelled_both s (x ∷ xs) ys = append_assoc (spelling s (value_at s x)) (spellings s (values_at s xs)) (spellings s (values_at s ys)) ∙ ap (λ l. spelling s (value_at s x) ++ l) (spelled_both s xs ys)
+
+pub sixteen_words_near : (s : Parameters) (from k size : ℕ) (highs lows first second old spelled more : List ℕ) → HasLanes s size 2 → size ≢ 8 → AreNearLevels s from k highs lows (first ++ second) → length first ≡ 8 → length second ≡ 8 → 32 ≤ length old
+    → length spelled ≡ 16 → length more ≡ 16 → spelled ≡ spellings s (values_at s first) → more ≡ spellings s (values_at s second)
+    → SpellsNear s from k size highs lows (slice_index_or second 7 0) (put_chunk 16 (put_chunk 0 old spelled) more)
+sixteen_words_near s from k size highs lows first second old spelled more has other near len many room count counted is more_is =
+    let wide = has.wide refl in
+    let sixteen : size ≡ 16 = elim has.sizes [ inl e ↦ absurd (other e) | inr e ↦ e ] in
+    let two : width s * size ≡ 32 = (λ j. two_bytes s wide.0 wide.1 j * sixteen j) in
+    let long : length (put_chunk 0 old spelled) ≡ length old = length-put_chunk 0 old spelled in
+    let front : take 16 (put_chunk 0 old spelled) ≡ spelled = take_more_put_chunk 0 old spelled 16 (omega (arith, count)) (omega (arith, room)) in
+    let both : take 32 (put_chunk 16 (put_chunk 0 old spelled) more) ≡ spelled ++ more = take_more_put_chunk 16 (put_chunk 0 old spelled) more 32 (omega (arith, counted)) (omega (arith, room, long)) ∙ ap (λ l. l ++ more) front in
+    let whole : length (first ++ second) ≡ 16 = length-append first second ∙ omega (arith, len, many) in
+    let levels : take size (first ++ second) ≡ first ++ second = take_all size (first ++ second) (omega (arith, whole, sixteen)) in
+    let place : length first + 7 ≡ size - 1 = omega (arith, len, sixteen) in
+    record {
+      levels = first ++ second;
+      near = near;
+      last_is = sym (get_or-append-add first second 7 0) ∙ ap (λ n. slice_index_or (first ++ second) n 0) place;
+      spelled = ap (λ n. take n (put_chunk 16 (put_chunk 0 old spelled) more)) two ∙ (both ∙ ((λ j. is j ++ more_is j) ∙ (spelled_both s first second ∙ ap (λ l. spellings s (values_at s l)) (sym levels))));
+    }
+
+-- a block whose bytes are written
+pub record SpelledAhead (waiting : List Bool) (s : Parameters) (b : ℕ) (p : ℤ) (size l len : ℕ) (bytes : List ℕ) : Type 0 where
+  pub levels : List ℕ
+  pub ahead : BlockAhead waiting s b p levels len
+  pub last_is : l ≡ slice_index_or levels (size - 1) 0
+  pub spelled : take (width s * size) bytes ≡ spellings s (values_at s (take size levels))
+
+pub spelled_ahead : (waiting : List Bool) (s : Parameters) (b before k from size l len : ℕ) (highs lows bytes : List ℕ) → PartsAhead waiting s b before k from highs lows len → SpellsNear s from k size highs lows l bytes
+    → SpelledAhead waiting s b (value_at s before) size l len bytes
+spelled_ahead waiting s b before k from size l len highs lows bytes parts near = record { levels = near.levels; ahead = parts.whole near.levels near.near; last_is = near.last_is; spelled = near.spelled }

@@ -1,6 +1,7 @@
 -- What a decoder gives.
 use Rattle.std.proofs.Common.{◌≡◌, ℕ, zero, suc, ◌+◌, ◌-◌, ◌*◌, ◌/◌, ◌^◌, ◌<◌, ◌≤◌, ◌==◌, Bool, true, false, List, [], ◌∷◌, ◌++◌, length, replicate, refl, sym, ◌∙◌, ap, subst, arith, Option, None, ℤ, inl, inr, length-append}
 use Rattle.std.specs.Prelude.{◌≢◌, All, nat_lt, if◌then◌else◌, ◌&&◌, Some, Result, Ok, Err}
+use Rattle.std.proofs.lemmas.Bool.{cases_lt}
 use Rattle.std.proofs.lemmas.Bool.Decides.{nat_tests}
 use Rattle.std.proofs.Math.Nat.{mod-eq_of_lt}
 use Rattle.std.proofs.Math.Nat.{mul-le-mul_left}
@@ -21,8 +22,8 @@ use Rattle.rice_code.specs.decode.ReadSets.{SetRead, SetCut}
 use Rattle.rice_code.specs.declared.decode.options.SetHead.TheVariants.{Residuals, Zeros}
 use Rattle.rice_code.specs.code.Layout.{block_after, padding}
 use Rattle.rice_code.specs.code.SoundBlocks.{block_with}
-use Rattle.rice_code.specs.decode.Decoder.{Answers, Skips, TakesSet, GivesSet, GivesFromRun, SetEnds, StopsBy, answer_to, with_mark}
-use Rattle.rice_code.specs.decode.DecoderState.{DecoderState, IsDecoderState, next_block_place}
+use Rattle.rice_code.specs.decode.Decoder.{Answers, RepeatsBlocks, Skips, TakesSet, GivesSet, GivesFromRun, SetEnds, StopsBy, answer_to, with_mark}
+use Rattle.rice_code.specs.decode.DecoderState.{DecoderState, IsDecoderState, next_block_place, place_after}
 use Rattle.rice_bits.specs.declared.read.fault.BitFault.{BitFault}
 use Rattle.rice_bits.specs.declared.read.fault.BitFault.TheVariants as bit_faults
 use Rattle.rice_samples.specs.predict.Residuals.{last_of}
@@ -138,6 +139,60 @@ pub repeats_on : (s : Parameters) (b next run : ℕ) (p : ℤ) (stopped : Option
 repeats_on s b next run p stopped state pos ways e =
     goes_on s b next run p p stopped (replicate s.block p) pos e (sym (last_replicate p s.block)) (length-replicate s.block p) (All-replicate (IsSample s) s.block p state.sample)
     (repeated_block s b p (sym (no_reference s b (state.run_begun pos)).there) (inl ways))
+
+-- a run goes no further than its interval
+pub inside_interval : (s : Parameters) (b count run : ℕ) (p : ℤ) (stopped : Option (Result Step CodeFault)) → IsDecoderState s b p run stopped → count ≤ run → b + count ≤ s.interval
+inside_interval s b zero run p stopped state few = omega (arith, state.within)
+inside_interval s b (suc n) run p stopped state few =
+    let at : place s b ≡ b = mod-eq_of_lt state.within in
+    omega (arith, at, few, state.within, state.run_fits (omega (arith, few)))
+
+place_on : (s : Parameters) (b n : ℕ) → b < s.interval → b + suc n ≤ s.interval → place_after s b (suc n) ≡ place_after s (next_block_place s b) n
+place_on s b n h k = elim (cases_lt (b + 1) s.interval) [
+  | inl lt ↦ (
+      let same : next_block_place s b ≡ b + 1 = grind (arith, nat_tests) in
+      let all : b + suc n ≡ b + 1 + n = omega arith in
+      ap (λ m. if m == s.interval then 0 else m) all ∙ ap (λ m. place_after s m n) (sym same))
+  | inr le ↦ (
+      let zero_is : next_block_place s b ≡ 0 = grind (arith, nat_tests) in
+      let none : n ≡ 0 = omega (arith, le, h, k) in
+      let first : place_after s b (suc n) ≡ 0 = grind (arith, nat_tests) in
+      let second : place_after s 0 n ≡ 0 = grind (arith, nat_tests) in
+      first ∙ (sym second ∙ ap (λ m. place_after s m n) (sym zero_is)))
+]
+
+-- a decoder behind some blocks of a run
+pub record PassedBlocks (count : ℕ) (s : Parameters) (b next run : ℕ) (p : ℤ) (stopped : Option (Result Step CodeFault)) : Type 0 where
+  pub state : IsDecoderState s next p (run - count) stopped
+  pub passes : RepeatsBlocks count (record { setting = s; block = b; before = p; run = run; stopped = stopped }) (record { setting = s; block = next; before = p; run = run - count; stopped = stopped })
+
+-- blocks of a run repeat the sample before them
+pub passes_blocks : (count : ℕ) (s : Parameters) (b next run : ℕ) (p : ℤ) (stopped : Option (Result Step CodeFault)) → IsDecoderState s b p run stopped → count ≤ run → s.preprocess ≡ true → next ≡ place_after s b count → PassedBlocks count s b next run p stopped
+passes_blocks zero s b next run p stopped state few ways e =
+    let h = state.within in
+    let here : place_after s b 0 ≡ b = grind (arith, nat_tests) in
+    let same : next ≡ b = e ∙ here in
+    let all : run - 0 ≡ run = omega arith in
+    record {
+      state = subst (λ n. IsDecoderState s n p (run - 0) stopped) (sym same) (subst (λ n. IsDecoderState s b p n stopped) (sym all) state);
+      passes = λ i. record { setting = s; block = same i; before = p; run = all i; stopped = stopped };
+    }
+passes_blocks (suc n) s b next run p stopped state few ways e =
+    let some : 0 < run = omega (arith, few) in
+    let middle = next_block_place s b in
+    let there = place_moves s b middle (run - 1) p stopped state.legal state.within refl state.sample (λ h. omega (arith, state.run_fits some)) state.no_block in
+    let first = repeats_on s b middle run p stopped state some ways refl in
+    let on : next ≡ place_after s middle n = e ∙ place_on s b n state.within (inside_interval s b (suc n) run p stopped state few) in
+    let rest = passes_blocks n s middle next (run - 1) p stopped there (omega (arith, few)) ways on in
+    let left : run - 1 - n ≡ run - suc n = omega (arith, few) in
+    record {
+      state = subst (λ m. IsDecoderState s next p m stopped) left rest.state;
+      passes = (
+        record { setting = s; block = middle; before = p; run = run - 1; stopped = stopped },
+        first,
+        subst (λ m. RepeatsBlocks n (record { setting = s; block = middle; before = p; run = run - 1; stopped = stopped }) (record { setting = s; block = next; before = p; run = m; stopped = stopped })) left rest.passes,
+      );
+    }
 
 block_limit : (s : Parameters) → IsLegal s → s.block ≤ 64
 block_limit s legal = grind (arith, legal.block)

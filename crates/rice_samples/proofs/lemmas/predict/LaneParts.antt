@@ -10,11 +10,11 @@ abbrev paired : List ℕ → List ℕ
 paired (a ∷ b ∷ xs) = (a + 256 * b) ∷ paired xs
 paired _ = []
 
-abbrev parted : List ℕ → List ℕ
+abbrev pub parted : List ℕ → List ℕ
 parted [] = []
 parted (c ∷ ys) = c % 256 ∷ c / 256 ∷ parted ys
 
-abbrev twice : ℕ → ℕ
+abbrev pub twice : ℕ → ℕ
 twice zero = zero
 twice (suc n) = suc (suc (twice n))
 
@@ -30,7 +30,7 @@ pairs_of (suc n) (a ∷ b ∷ xs) e h =
     let same = ap (digits_l 65536 n) behind ∙ pairs_of n xs (omega arith) h.1.1 in
     λ j. first j ∷ same j
 
-bytes_of : (n : ℕ) (ys : List ℕ) → length ys ≡ n → Each1 (λ y. y < 65536) ys → digits_l 256 (twice n) (number_l 65536 ys) ≡ parted ys
+pub bytes_of : (n : ℕ) (ys : List ℕ) → length ys ≡ n → Each1 (λ y. y < 65536) ys → digits_l 256 (twice n) (number_l 65536 ys) ≡ parted ys
 bytes_of zero [] e h = refl
 bytes_of zero (c ∷ ys) e h = absurd (omega arith)
 bytes_of (suc n) [] e h = absurd (omega arith)

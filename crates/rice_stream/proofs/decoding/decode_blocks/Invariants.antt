@@ -1,14 +1,12 @@
-use Rattle.std.proofs.Common.{◌≡◌, ◌+◌, ◌-◌, ◌*◌, true}
+use Rattle.std.proofs.Common.{◌≡◌, ◌+◌, ◌-◌, ◌*◌}
 use Rattle.rice_bits.specs.read.Reader.{new_reader}
 use Rattle.rice_stream.specs.DecodingState.{DecodingProgress}
-use Rattle.rice_stream.proofs.lemmas.HeldBlocks.{Holds}
 use Rattle.rice_stream.proofs.decoding.decode_blocks.Given as goal
 
 abbrev pub invariant-decode_all : goal.invariant-decode_all
 invariant-decode_all g l = record {
   runs : DecodingProgress l.setting l.asked (new_reader l.fn.intake (g.I.Intake.left l.fn.intake) (g.I.Intake.failed l.fn.intake)) (g.O.Outlet.taken l.fn.outlet) (g.O.Outlet.taken l.outlet) l.decoder l.reader l.meter l.written;
   writes : g.O.Outlet.failed l.outlet ≡ g.O.Outlet.failed l.fn.outlet;
-  holds : l.held ≡ true → Holds l.setting l.decoder l.levels.items l.bytes;
 }
 
 -- The samples of a run that are still to come are fewer with each block, and each bit brings at most so many.

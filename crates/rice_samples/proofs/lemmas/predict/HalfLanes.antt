@@ -1,0 +1,152 @@
+-- Sixteen samples of at most 16 bits in two vectors of eight lanes.
+use Rattle.std.proofs.Common.{◌≡◌, ℕ, zero, suc, ◌+◌, ◌-◌, ◌*◌, ◌/◌, ◌%◌, ◌^◌, ◌<◌, ◌≤◌, true, false, cond, List, [], ◌∷◌, ◌++◌, get_or, length, replicate, take, drop, refl, sym, ◌∙◌, ap, arith, length-append}
+use Rattle.std.specs.Prelude.{All}
+use Rattle.std.specs.Int.{bytes_high_first, bytes_low_first}
+use Rattle.std.specs.Simd.Lanes.{Each1, digits_l, number_l, pick_l, zip2}
+use Rattle.std.proofs.lemmas.Bool.Decides.{nat_tests}
+use Rattle.std.proofs.lemmas.List.Elements.{All-append}
+use Rattle.std.proofs.lemmas.Simd.{length-zip2}
+use Rattle.rice_bits.specs.read.Parts.{joined_parts}
+use Rattle.rice_samples.specs.Parameters.{Parameters, value_at, value_count, values_at, width}
+use Rattle.rice_samples.specs.predict.Near.{AreNearLevels, swapped}
+use Rattle.rice_samples.specs.predict.Residuals.{last_number, ranks_below, twos_complement}
+use Rattle.rice_samples.specs.bytes.Spelling.{spelling, spellings}
+use Rattle.rice_samples.specs.bytes.Values.{offset}
+use Rattle.rice_samples.proofs.lemmas.bytes.LevelPatterns.{word_of_level}
+use Rattle.rice_samples.proofs.lemmas.bytes.SpellingLemmas.{offset_limit}
+use Rattle.rice_samples.proofs.lemmas.predict.LaneParts.{bytes_of, parted}
+use Rattle.rice_samples.proofs.lemmas.predict.LaneSums.{sixteen}
+use Rattle.rice_samples.proofs.lemmas.predict.RestoredLevels.{ranks_below-append}
+
+-- high and low parts
+
+one_word : (w m l : ℕ) → w ≤ 8 → m < 256 → l < 2 ^ w → (m * 2 ^ w % 65536 + l) % 65536 ≡ m * 2 ^ w + l
+one_word zero m l h k lt = omega (arith, k, lt)
+one_word (suc zero) m l h k lt = omega (arith, k, lt)
+one_word (suc (suc zero)) m l h k lt = omega (arith, k, lt)
+one_word (suc (suc (suc zero))) m l h k lt = omega (arith, k, lt)
+one_word (suc (suc (suc (suc zero)))) m l h k lt = omega (arith, k, lt)
+one_word (suc (suc (suc (suc (suc zero))))) m l h k lt = omega (arith, k, lt)
+one_word (suc (suc (suc (suc (suc (suc zero)))))) m l h k lt = omega (arith, k, lt)
+one_word (suc (suc (suc (suc (suc (suc (suc zero))))))) m l h k lt = omega (arith, k, lt)
+one_word (suc (suc (suc (suc (suc (suc (suc (suc zero)))))))) m l h k lt = omega (arith, k, lt)
+one_word (suc (suc (suc (suc (suc (suc (suc (suc (suc w))))))))) m l h k lt = absurd (omega (arith, h))
+
+pub words-joined : (w n : ℕ) (ms ls : List ℕ) → w ≤ 8 → length ms ≡ n → length ls ≡ n → All (λ m. m < 256) ms → All (λ l. l < 2 ^ w) ls
+    → zip2 (λ a b. (a + b) % 65536) (zip2 (λ c s. c * 2 ^ s % 65536) ms (replicate n w)) ls ≡ joined_parts w ms ls
+words-joined w n [] ls h e f small low = refl
+words-joined w zero (m ∷ ms) ls h e f small low = absurd (omega (arith, e))
+words-joined w (suc n) (m ∷ ms) [] h e f small low = absurd (omega (arith, f))
+words-joined w (suc n) (m ∷ ms) (l ∷ ls) h e f small low =
+    let one = one_word w m l h (small 0 0 (omega arith)) (low 0 0 (omega arith)) in
+    let rest = words-joined w n ms ls h (omega (arith, e)) (omega (arith, f)) (λ i d lt. small (suc i) d (omega (arith, lt))) (λ i d lt. low (suc i) d (omega (arith, lt))) in
+    λ j. one j ∷ rest j
+
+pub length-joined : (w : ℕ) (ms ls : List ℕ) → length ms ≡ length ls → length (joined_parts w ms ls) ≡ length ms
+length-joined w [] ls e = refl
+length-joined w (m ∷ ms) [] e = absurd (omega (arith, e))
+length-joined w (m ∷ ms) (l ∷ ls) e = ap suc (length-joined w ms ls (omega (arith, e)))
+
+joined-halves : (k n : ℕ) (ms ls : List ℕ) → length ms ≡ length ls → joined_parts k (take n ms) (take n ls) ++ joined_parts k (drop n ms) (drop n ls) ≡ joined_parts k ms ls
+joined-halves k zero ms ls e = refl
+joined-halves k (suc n) [] [] e = refl
+joined-halves k (suc n) [] (l ∷ ls) e = absurd (omega (arith, e))
+joined-halves k (suc n) (m ∷ ms) [] e = absurd (omega (arith, e))
+joined-halves k (suc n) (m ∷ ms) (l ∷ ls) e = ap (λ ds. (m * 2 ^ k + l) ∷ ds) (joined-halves k n ms ls (omega (arith, e)))
+
+last_is : (p n : ℕ) (xs : List ℕ) → length xs ≡ suc n → last_number p xs ≡ get_or xs n 0
+last_is p n [] e = absurd (omega (arith, e))
+last_is p zero (x ∷ []) e = refl
+last_is p zero (x ∷ y ∷ xs) e = absurd (omega (arith, e))
+last_is p (suc n) (x ∷ []) e = absurd (omega (arith, e))
+last_is p (suc n) (x ∷ y ∷ xs) e = last_is x n (y ∷ xs) (omega (arith, e))
+
+-- the levels of both halves
+pub halves_are : (s : Parameters) (before width greatest last : ℕ) (highs lows first second : List ℕ) → greatest + 1 ≡ value_count s → length highs ≡ 16 → length lows ≡ 16 → length first ≡ 8 → length second ≡ 8
+    → last ≡ get_or first 7 0 → All (λ x. x ≤ greatest) first → All (λ x. x ≤ greatest) second
+    → ranks_below (greatest + 1) before first ≡ joined_parts width (take 8 highs) (take 8 lows) → ranks_below (greatest + 1) last second ≡ joined_parts width (drop 8 highs) (drop 8 lows)
+    → AreNearLevels s before width highs lows (first ++ second)
+halves_are s before width greatest last highs lows first second count h l f g e small few ranked more = record {
+  len = length-append first second ∙ omega (arith, f, g);
+  legal = λ i d lt. let x = All-append (λ x. x ≤ greatest) first second small few i d lt in omega (arith, x, count);
+  ranked =
+      ap (λ n. ranks_below n before (first ++ second)) (sym count)
+      ∙ (ranks_below-append (greatest + 1) before first second
+      ∙ ((λ j. ranked j ++ (ap (λ p. ranks_below (greatest + 1) p second) (last_is before 7 first f ∙ sym e) ∙ more) j) ∙ joined-halves width 8 highs lows (h ∙ sym l)));
+}
+
+-- spellings
+
+pub two_bytes : (s : Parameters) → 8 < s.bits → s.bits ≤ 16 → width s ≡ 2
+two_bytes s h k = grind (arith, nat_tests)
+
+low_pair : (v : ℕ) → v < 65536 → bytes_low_first 0 2 v ≡ v % 256 ∷ v / 256 ∷ []
+low_pair v h =
+    let second : v / 256 % 256 ≡ v / 256 = omega (arith, h) in
+    ap (λ b. v % 256 ∷ b ∷ []) second
+
+high_pair : (v : ℕ) → v < 65536 → bytes_high_first 2 v ≡ v / 256 ∷ v % 256 ∷ []
+high_pair v h =
+    let second : v / 256 % 256 ≡ v / 256 = omega (arith, h) in
+    ap (λ b. b ∷ v % 256 ∷ []) second
+
+-- the word of a level
+word_is : (s : Parameters) (l o : ℕ) → 1 ≤ s.bits → 8 < s.bits → s.bits ≤ 16 → o ≡ offset s → l < value_count s → twos_complement (8 * width s) (value_at s l) ≡ (l + (65536 - o)) % 65536
+word_is s l o h wide few e lt =
+    let w : 8 * width s ≡ 16 = ap (λ k. 8 * k) (two_bytes s wide few) in
+    let v : (l + (2 ^ 32 - o)) % 2 ^ 32 % 2 ^ 16 ≡ twos_complement 16 (value_at s l) = word_of_level s 16 l o h few (omega arith) e lt in
+    let limit : o ≤ 2 ^ 16 = rw e (offset_limit s 16 h few) in
+    ap (λ k. twos_complement k (value_at s l)) w ∙ (sym v ∙ omega (arith, limit))
+
+low_spelling : (s : Parameters) (l o : ℕ) → 1 ≤ s.bits → 8 < s.bits → s.bits ≤ 16 → s.msb ≡ false → o ≡ offset s → l < value_count s
+    → spelling s (value_at s l) ≡ (l + (65536 - o)) % 65536 % 256 ∷ (l + (65536 - o)) % 65536 / 256 ∷ []
+low_spelling s l o h wide few order e lt =
+    let word = word_is s l o h wide few e lt in
+    let two = two_bytes s wide few in
+    (λ j. cond (order j) (bytes_high_first (two j) (word j)) (bytes_low_first 0 (two j) (word j))) ∙ low_pair ((l + (65536 - o)) % 65536) (omega arith)
+
+high_spelling : (s : Parameters) (l o : ℕ) → 1 ≤ s.bits → 8 < s.bits → s.bits ≤ 16 → s.msb ≡ true → o ≡ offset s → l < value_count s
+    → spelling s (value_at s l) ≡ (l + (65536 - o)) % 65536 / 256 ∷ (l + (65536 - o)) % 65536 % 256 ∷ []
+high_spelling s l o h wide few order e lt =
+    let word = word_is s l o h wide few e lt in
+    let two = two_bytes s wide few in
+    (λ j. cond (order j) (bytes_high_first (two j) (word j)) (bytes_low_first 0 (two j) (word j))) ∙ high_pair ((l + (65536 - o)) % 65536) (omega arith)
+
+pub low-spelled : (s : Parameters) (n o : ℕ) (levels : List ℕ) → 1 ≤ s.bits → 8 < s.bits → s.bits ≤ 16 → s.msb ≡ false → o ≡ offset s → length levels ≡ n → All (λ l. l < value_count s) levels
+    → parted (zip2 (λ a b. (a + (65536 - b)) % 65536) levels (replicate n o)) ≡ spellings s (values_at s levels)
+low-spelled s n o [] h wide few order e len legal = refl
+low-spelled s zero o (l ∷ levels) h wide few order e len legal = absurd (omega (arith, len))
+low-spelled s (suc n) o (l ∷ levels) h wide few order e len legal =
+    let one = low_spelling s l o h wide few order e (legal 0 0 (omega arith)) in
+    let rest = low-spelled s n o levels h wide few order e (omega (arith, len)) (λ i d lt. legal (suc i) d (omega (arith, lt))) in
+    λ j. sym one j ++ rest j
+
+pub high-spelled : (s : Parameters) (n o : ℕ) (levels : List ℕ) → 1 ≤ s.bits → 8 < s.bits → s.bits ≤ 16 → s.msb ≡ true → o ≡ offset s → length levels ≡ n → All (λ l. l < value_count s) levels
+    → swapped (parted (zip2 (λ a b. (a + (65536 - b)) % 65536) levels (replicate n o))) ≡ spellings s (values_at s levels)
+high-spelled s n o [] h wide few order e len legal = refl
+high-spelled s zero o (l ∷ levels) h wide few order e len legal = absurd (omega (arith, len))
+high-spelled s (suc n) o (l ∷ levels) h wide few order e len legal =
+    let one = high_spelling s l o h wide few order e (legal 0 0 (omega arith)) in
+    let rest = high-spelled s n o levels h wide few order e (omega (arith, len)) (λ i d lt. legal (suc i) d (omega (arith, lt))) in
+    λ j. sym one j ++ rest j
+
+-- pairs in a vector
+pub pairs_swapped : (xs : List ℕ) → length xs ≡ 16 → pick_l 0 (xs ++ xs) (1 ∷ 0 ∷ 3 ∷ 2 ∷ 5 ∷ 4 ∷ 7 ∷ 6 ∷ 9 ∷ 8 ∷ 11 ∷ 10 ∷ 13 ∷ 12 ∷ 15 ∷ 14 ∷ []) ≡ swapped xs
+pairs_swapped xs n = sixteen (λ xs. pick_l 0 (xs ++ xs) (1 ∷ 0 ∷ 3 ∷ 2 ∷ 5 ∷ 4 ∷ 7 ∷ 6 ∷ 9 ∷ 8 ∷ 11 ∷ 10 ∷ 13 ∷ 12 ∷ 15 ∷ 14 ∷ []) ≡ swapped xs) (λ a0 a1 a2 a3 a4 a5 a6 a7 a8 a9 a10 a11 a12 a13 a14 a15. refl) xs n
+
+pub first_eight : (xs : List ℕ) → length xs ≡ 16 → pick_l 0 (xs ++ xs) (0 ∷ 1 ∷ 2 ∷ 3 ∷ 4 ∷ 5 ∷ 6 ∷ 7 ∷ []) ≡ take 8 xs
+first_eight xs n = sixteen (λ xs. pick_l 0 (xs ++ xs) (0 ∷ 1 ∷ 2 ∷ 3 ∷ 4 ∷ 5 ∷ 6 ∷ 7 ∷ []) ≡ take 8 xs) (λ a0 a1 a2 a3 a4 a5 a6 a7 a8 a9 a10 a11 a12 a13 a14 a15. refl) xs n
+
+pub last_eight : (xs : List ℕ) → length xs ≡ 16 → pick_l 0 (xs ++ xs) (8 ∷ 9 ∷ 10 ∷ 11 ∷ 12 ∷ 13 ∷ 14 ∷ 15 ∷ []) ≡ drop 8 xs
+last_eight xs n = sixteen (λ xs. pick_l 0 (xs ++ xs) (8 ∷ 9 ∷ 10 ∷ 11 ∷ 12 ∷ 13 ∷ 14 ∷ 15 ∷ []) ≡ drop 8 xs) (λ a0 a1 a2 a3 a4 a5 a6 a7 a8 a9 a10 a11 a12 a13 a14 a15. refl) xs n
+
+-- the words of levels
+
+words_below : (n o : ℕ) (levels : List ℕ) → Each1 (λ y. y < 65536) (zip2 (λ a b. (a + (65536 - b)) % 65536) levels (replicate n o))
+words_below n o [] = tt
+words_below zero o (l ∷ levels) = tt
+words_below (suc n) o (l ∷ levels) = (omega arith, words_below n o levels)
+
+pub words_parted : (o : ℕ) (levels : List ℕ) → length levels ≡ 8
+    → digits_l 256 16 (number_l 65536 (zip2 (λ a b. (a + (65536 - b)) % 65536) levels (replicate 8 o))) ≡ parted (zip2 (λ a b. (a + (65536 - b)) % 65536) levels (replicate 8 o))
+words_parted o levels len = bytes_of 8 (zip2 (λ a b. (a + (65536 - b)) % 65536) levels (replicate 8 o)) (length-zip2 (λ a b. (a + (65536 - b)) % 65536) levels (replicate 8 o) len ∙ len) (words_below 8 o levels)
