@@ -6,7 +6,7 @@ import re
 HEAD = re.compile(r'( *)(?:pub(?:\([^)]*\))? )?(?:const |unsafe |extern "C" )*fn (\w+)')
 CONSTANT = re.compile(r"(?:pub(?:\([^)]*\))? )?(?:const|static) (\w+)")
 CLAUSE = re.compile(r" *(requires|ensures|ghost)\b")
-OWNER = re.compile(r"impl(?:<.*?>)? (?:(\w+)(?:<.*>)? for )?&?(?:'\w+ )?(?:mut )?(\w+)")
+OWNER = re.compile(r"impl(?:<.*?>)? (?:(\w+)(?:<.*>)? for )?&?(?:'\w+ )?(?:mut )?(\w+)(?:<(\d+)>)?")
 
 
 @dataclasses.dataclass(frozen=True)
@@ -26,14 +26,15 @@ class Function:
 
 
 def owner_of(lines, at):
-    """Returns the names of the type and of the trait of the impl around a line, or of a trait alone."""
+    """Returns the names of the type and of the trait of the impl around a line, or of a trait alone, and the type's argument where it
+    is a number: a check's lines name it too."""
     for line in reversed(lines[:at]):
         if line.startswith("trait ") or line.startswith("pub trait "):
-            return "", re.match(r"(?:pub )?trait (\w+)", line)[1]
+            return "", re.match(r"(?:pub )?trait (\w+)", line)[1], ""
         found = OWNER.match(line)
         if found:
-            return found[2], found[1] or ""
-    return "", ""
+            return found[2], found[1] or "", f"+{found[3]}" if found[3] else ""
+    return "", "", ""
 
 
 def body_of(lines, at, indent):
@@ -70,8 +71,8 @@ def functions_in(crate, file, text):
         if opens is None:
             continue
         closes = next((it for it in range(opens, len(lines)) if lines[it] == head[1] + "}"), opens)
-        of_type, of_trait = owner_of(lines, at) if head[1] else ("", "")
-        owner = [of_type + of_trait] if head[1] else []
+        of_type, of_trait, of_number = owner_of(lines, at) if head[1] else ("", "", "")
+        owner = [of_type + of_trait + of_number] if head[1] else []
         name = "::".join([crate, *module, *owner, head[2]])
         found.append(Function(name, of_type, of_trait, file, starts[at], starts[opens + 1] - 1, starts[closes + 1],
                               item_at(lines, at) + 1, closes + 1))

@@ -13,7 +13,7 @@ pub use bounds::{added_bound, bit_bound, padded_bound, set_bound, step_bound};
 pub use decode::decoder::Decoder;
 pub use decode::fault::{CodeFault, Step};
 pub use encode::SegmentSink;
-pub use encode::coder::{Coder, Pushed};
+pub use encode::coder::{Coder, Pushed, SizedCoder};
 
 // What these hold, in bytes, on a machine with pointers of eight.
 const _: () = prove!(size_of::<Coder>() == 16448);

@@ -11,7 +11,7 @@ pub mod predict;
 pub mod setting;
 
 pub use blocks::block::Block;
-pub use blocks::segment::Segment;
+pub use blocks::segment::{Residuals, Segment};
 pub use bytes::patterns::spell_patterns;
 pub use bytes::reading::levels_of;
 pub use bytes::spelling::{bytes_of, sample_of};

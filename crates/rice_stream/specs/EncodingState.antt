@@ -33,7 +33,7 @@ pub record Follows (old : Beginning) (new : Option Room) (bytes : List ℕ) : Ty
   pub took : Appends old.state new more
 
 -- an encoding has taken the samples, and counts them
-pub record CountsSamples (s : Parameters) (e : Encoding) (xs : List ℤ) : Type 0 where
+pub record CountsSamples {N : ℕ} (s : Parameters) (e : Encoding N) (xs : List ℤ) : Type 0 where
   pub setting : e.coder.setting ≡ s
   pub stands : HasTaken e.coder xs
   pub samples : e.samples ≡ length xs
@@ -42,13 +42,13 @@ pub record CountsSamples (s : Parameters) (e : Encoding) (xs : List ℤ) : Type 
   pub most : e.meter ≤ length xs + most_steps s (complete_samples s xs)
 
 -- and an outlet has taken the whole bytes of what is coded since its state was `old`
-pub record IsEncodingOf (s : Parameters) (old : Beginning) (new : Option Room) (e : Encoding) (xs : List ℤ) : Type 0 where
+pub record IsEncodingOf {N : ℕ} (s : Parameters) (old : Beginning) (new : Option Room) (e : Encoding N) (xs : List ℤ) : Type 0 where
   pub counts : CountsSamples s e xs
   pub sink : e.sink ≡ drop (bits_in_bytes (length (complete_code s xs))) (complete_code s xs)
   pub took : Follows old new (early_output s xs)
 
 -- an encoding whose code an outlet has taken so far can take the samples with these levels too
-pub record CanTake (taken : Option Room) (e : Encoding) (levels : List ℕ) : Type 0 where
+pub record CanTake {N : ℕ} (taken : Option Room) (e : Encoding N) (levels : List ℕ) : Type 0 where
   pub setting : Parameters
   pub start : Beginning
   pub before : List ℤ
@@ -57,7 +57,7 @@ pub record CanTake (taken : Option Room) (e : Encoding) (levels : List ℕ) : Ty
   pub few : length before + length levels ≤ 2 ^ 48
 
 -- An encoding that held xs has taken these samples too. Only the last of them can have made a segment whole.
-pub record TakesSamples (s : Parameters) (e : Encoding) (xs more : List ℤ) : Type 0 where
+pub record TakesSamples {N : ℕ} (s : Parameters) (e : Encoding N) (xs more : List ℤ) : Type 0 where
   pub counts : CountsSamples s e (xs ++ more)
   pub code_is : complete_code s (xs ++ more) ≡ whole_part (complete_code s xs) ++ e.sink
   pub before_last : (m : ℕ) → m < length more → complete_samples s (xs ++ take m more) ≡ complete_samples s xs
@@ -75,12 +75,12 @@ pub record FollowsBetween (old : Beginning) (new : Option Room) (from to : List 
   pub took : Follows old new written
 
 -- an encoding has taken the samples and one more, and an outlet not all that it completes
-pub record FailsAt (s : Parameters) (old : Beginning) (new : Option Room) (e : Encoding) (xs : List ℤ) (x : ℤ) : Type 0 where
+pub record FailsAt {N : ℕ} (s : Parameters) (old : Beginning) (new : Option Room) (e : Encoding N) (xs : List ℤ) (x : ℤ) : Type 0 where
   pub counts : CountsSamples s e (xs ++ x ∷ [])
   pub takes : FollowsBetween old new (early_output s xs) (early_output s (xs ++ x ∷ []))
 
 -- the outlet failed after one of some samples
-pub record FailsIn (s : Parameters) (old : Beginning) (new : Option Room) (e : Encoding) (xs samples : List ℤ) : Type 0 where
+pub record FailsIn {N : ℕ} (s : Parameters) (old : Beginning) (new : Option Room) (e : Encoding N) (xs samples : List ℤ) : Type 0 where
   pub before : List ℤ
   pub last : ℤ
   pub behind : List ℤ
@@ -99,7 +99,7 @@ pub record Reads (s : Parameters) (bytes : List ℕ) (samples : List ℤ) (rest 
   pub legal : All (IsSample s) samples
 
 -- an encoding that held xs takes what the bytes spell
-pub record TakesAll (s : Parameters) (old : Beginning) (new : Option Room) (e : Encoding) (xs : List ℤ) (bytes : List ℕ) : Type 0 where
+pub record TakesAll {N : ℕ} (s : Parameters) (old : Beginning) (new : Option Room) (e : Encoding N) (xs : List ℤ) (bytes : List ℕ) : Type 0 where
   pub more : List ℤ
   pub rest : List ℕ
   pub reads : Reads s bytes more rest
@@ -107,7 +107,7 @@ pub record TakesAll (s : Parameters) (old : Beginning) (new : Option Room) (e : 
   pub holds : IsEncodingOf s old new e (xs ++ more)
 
 -- it meets bytes that spell no sample
-pub record MeetsNoSpelling (s : Parameters) (old : Beginning) (new : Option Room) (e : Encoding) (xs : List ℤ) (bytes : List ℕ) : Type 0 where
+pub record MeetsNoSpelling {N : ℕ} (s : Parameters) (old : Beginning) (new : Option Room) (e : Encoding N) (xs : List ℤ) (bytes : List ℕ) : Type 0 where
   pub more : List ℤ
   pub rest : List ℕ
   pub reads : Reads s bytes more rest
@@ -115,7 +115,7 @@ pub record MeetsNoSpelling (s : Parameters) (old : Beginning) (new : Option Room
   pub holds : IsEncodingOf s old new e (xs ++ more)
 
 -- the outlet fails after one of the samples
-pub record MeetsFailure (s : Parameters) (old : Beginning) (new : Option Room) (e : Encoding) (xs : List ℤ) (bytes : List ℕ) : Type 0 where
+pub record MeetsFailure {N : ℕ} (s : Parameters) (old : Beginning) (new : Option Room) (e : Encoding N) (xs : List ℤ) (bytes : List ℕ) : Type 0 where
   pub more : List ℤ
   pub last : ℤ
   pub rest : List ℕ
@@ -123,7 +123,7 @@ pub record MeetsFailure (s : Parameters) (old : Beginning) (new : Option Room) (
   pub fails : FailsAt s old new e (xs ++ more) last
 
 -- what becomes of the samples of some bytes, and of the outlet's failures
-abbrev pub Pushes : {T : Type 0} → Parameters → Beginning → Option Room → Encoding → List ℤ → List ℕ → Result T Fault → Type 0
+abbrev pub Pushes : {T : Type 0} {N : ℕ} → Parameters → Beginning → Option Room → Encoding N → List ℤ → List ℕ → Result T Fault → Type 0
 Pushes s old new e xs bytes (Ok _) = TakesAll s old new e xs bytes
 Pushes s old new e xs bytes (Err (SampleOutOfRange index)) = MeetsNoSpelling s old new e xs bytes × (index ≡ e.samples)
 Pushes s old new e xs bytes (Err Write) = MeetsFailure s old new e xs bytes
@@ -135,7 +135,7 @@ PushFails old new (Err Write) = new ≡ old + 1
 PushFails old new (Err _) = new ≡ old
 
 -- Bytes were given so far: those of samples, whose code is written as far as it is whole, and the first bytes of one more.
-pub record EncodingProgress (s : Parameters) (left_old left : Option (List ℕ)) (taken_old taken : Option Room) (e : Encoding) (given waiting : ℕ) (buffer : List ℕ) : Type 0 where
+pub record EncodingProgress {N : ℕ} (s : Parameters) (left_old left : Option (List ℕ)) (taken_old taken : Option Room) (e : Encoding N) (given waiting : ℕ) (buffer : List ℕ) : Type 0 where
   pub bytes : List ℕ
   pub samples : List ℤ
   pub reads : Reads s bytes samples (take waiting buffer)

@@ -14,6 +14,7 @@ use Rattle.rice_stream.specs.EncodingState.{Beginning, Follows, FollowsBetween, 
 use Rattle.rice_stream.specs.declared.outcome.Fault.{Fault}
 use Rattle.rice_stream.specs.declared.outcome.Fault.TheVariants.{Write, TooLong, SampleOutOfRange, SampleCut}
 use Rattle.rice_stream.specs.declared.outcome.Report.{Report}
+use Rattle.rice_stream.specs.declared.encoding.Encoding.{Encoding}
 use Rattle.rice_stream.specs.declared.seam.Seam.{Seam}
 
 -- The samples make whole segments, and the seam stands after their code: it counts them, and holds the bits of the byte that is not whole.
@@ -27,6 +28,14 @@ pub record IsSeam (s : Parameters) (seam : Seam) (xs : List ℤ) : Type 0 where
   pub few : seam.waiting_bits < 8
   pub fits : seam.waiting < 2 ^ seam.waiting_bits
   pub limit : width s * length xs ≤ 2 ^ 48
+
+-- an encoding stands there, but for these bits
+pub record StandsAt {N : ℕ} (s : Parameters) (seam : Seam) (e : Encoding N) : Type 0 where
+  pub coder : e.coder ≡ state_between s seam.start seam.previous
+  pub sink : e.sink ≡ []
+  pub steps : e.meter ≡ seam.steps
+  pub samples : e.samples ≡ seam.samples
+  pub bits : e.bits ≡ seam.bits
 
 -- an outlet takes what follows the whole bytes of the code of these samples
 abbrev pub behind : Parameters → List ℤ → Option Room → Beginning

@@ -1,5 +1,5 @@
 //! From samples to their code.
-ghost use Rattle.std.specs.Prelude.{◌≡◌, ℕ, ◌+◌, ◌-◌, ◌*◌, ◌%◌, ◌^◌, ◌<◌, ◌≤◌, List, [], ◌++◌, length, take, drop, All, Option, Some, OnOk, OnErr, IfOk, ℤ};
+ghost use Rattle.std.specs.Prelude.{◌≡◌, ℕ, ◌+◌, ◌-◌, ◌*◌, ◌%◌, ◌^◌, ◌<◌, ◌≤◌, List, [], ◌++◌, length, take, drop, All, true, Option, Some, OnOk, OnErr, IfOk, ℤ};
 ghost use Rattle.std.specs.Io.KnownBytes.{IsAtEnd, Keeps};
 ghost use Rattle.rice_bits.specs.device.Device.{CountsFailure};
 ghost use Rattle.rice_bits.specs.device.Outlet.{Room, Appends};
@@ -9,15 +9,16 @@ ghost use Rattle.rice_stream.specs.Calls.{Call, Happens, Fails};
 ghost use Rattle.rice_stream.specs.Encodes.{Encodes, EncodesWithin, ReportsTaken, ReportsAll};
 ghost use Rattle.rice_stream.specs.EncodingState.{Beginning, afresh, whole_part, CanTake, Refills, TakesSamples, CountsSamples, IsEncodingOf, FailsIn, WritesRest, Pushes, PushFails};
 ghost use Rattle.rice_samples.specs.Places.{cut};
-ghost use Rattle.rice_stream.specs.Feeding.{IsSeam, behind};
+ghost use Rattle.rice_stream.specs.Feeding.{IsSeam, StandsAt, behind};
 ghost use Rattle.rice_code.specs.code.Code.{code};
 ghost use Rattle.rice_code.specs.encode.Coder.{complete_code};
+ghost use Rattle.rice_code.specs.encode.OpenSegment.{HoldsAnySegment};
 
 use crate::outcome::{Fault, Outcome, Report};
 use crate::seam::{Seam, waiting_number};
 use crate::write::write_whole;
 use rice_bits::{BitSink, Intake, Meter, Outlet, ReadFault, WriteFault};
-use rice_code::Coder;
+use rice_code::SizedCoder;
 use rice_samples::{Setting, levels_of};
 
 /// The limit of the input, in bytes.
@@ -29,23 +30,32 @@ const PIECE: usize = 4096;
 /// The number of samples that are taken from bytes at a time.
 pub(crate) const SAMPLES: usize = 512;
 
-/// A coder with its sink, its meter, and what it has counted for the report.
+/// The residuals of any segment.
+pub(crate) const LONGEST: usize = 4096;
+
+/// The most samples of an interval of which the residuals of a segment are held in a short row. To clear a long one takes longer
+/// than to code a few such intervals.
+pub(crate) const SHORT: usize = 128;
+
+/// A coder with room for `N` residuals, its sink, its meter, and what it has counted for the report.
 #[derive(Drop)]
-pub struct Encoding {
-    coder: Coder,
+pub struct Encoding<const N: usize> {
+    coder: SizedCoder<N>,
     sink: BitSink<16432>,
     meter: Meter,
     samples: u64,
     bits: u64,
 }
 
-impl Encoding {
+impl<const N: usize> Encoding<N> {
     /// Returns an encoding that has taken no sample.
     fn new(setting: Setting) -> Self
+        requires size { N ≤ 4096 }
+        requires room { HoldsAnySegment N setting }
         ensures { (now : Option Room) → IsEncodingOf setting (afresh now) now result [] }
     {
         Encoding {
-            coder: Coder::new(setting),
+            coder: SizedCoder::begin(setting),
             sink: BitSink::new(),
             meter: Meter::new(),
             samples: 0,
@@ -53,27 +63,35 @@ impl Encoding {
         }
     }
 
-    /// Returns an encoding that goes on after the code of whole segments.
+    /// Returns an encoding that goes on after the code of whole segments, but for the bits that wait.
     ///
-    /// It is inlined, so that it is made where it is kept, and not copied there.
-    #[inline(always)]
+    /// They are put by `put_waiting`, once it lies where it is kept: else it would be copied there, which takes longer than
+    /// short pieces.
     pub(crate) fn resume(setting: Setting, seam: &Seam) -> Self
-        requires { (xs : List ℤ) × IsSeam setting seam.now xs }
-        ensures { (now : Option Room) (xs : List ℤ) → IsSeam setting seam.now xs →
-            IsEncodingOf setting (behind setting xs now) now result xs }
+        requires size { N ≤ 4096 }
+        requires room { HoldsAnySegment N setting }
+        requires seam { (xs : List ℤ) × IsSeam setting seam.now xs }
+        ensures { StandsAt setting seam.now result }
     {
-        let mut sink = BitSink::new();
-        let mut aside = Meter::new();
-        sink.put(seam.waiting, seam.waiting_bits, &mut aside);
         let mut meter = Meter::new();
         meter.tick(seam.steps);
         Encoding {
-            coder: Coder::resume(setting, seam.start, seam.previous),
-            sink,
+            coder: SizedCoder::resume(setting, seam.start, seam.previous),
+            sink: BitSink::new(),
             meter,
             samples: seam.samples,
             bits: seam.bits,
         }
+    }
+
+    /// Puts the bits that wait.
+    pub(crate) fn put_waiting(&mut self, seam: &Seam)
+        requires { (s : Parameters) × (xs : List ℤ) × IsSeam s seam.now xs × StandsAt s seam.now self.old }
+        ensures { (s : Parameters) (now : Option Room) (xs : List ℤ) → StandsAt s seam.now self.old →
+            IsSeam s seam.now xs → IsEncodingOf s (behind s xs now) now self.new xs }
+    {
+        let mut aside = Meter::new();
+        self.sink.put(seam.waiting, seam.waiting_bits, &mut aside);
     }
 
     /// Returns where the code ends, if the samples so far make whole segments. The bits that wait are then in the seam alone.
@@ -351,8 +369,41 @@ pub fn encode<I: Intake, O: Outlet>(setting: &Setting, intake: &mut I, outlet: &
     ensures failures { Fails result.fault (I.failed intake.old) (I.failed intake.new) (O.failed outlet.old) (O.failed outlet.new) }
     ensures bounds { EncodesWithin setting.now result.report }
 {
+    if has_short_intervals(setting) {
+        return encode_in_row::<SHORT, I, O>(setting, intake, outlet);
+    }
+    encode_in_row::<LONGEST, I, O>(setting, intake, outlet)
+}
+
+/// Returns whether a short row holds the residuals of each segment.
+pub(crate) fn has_short_intervals(setting: &Setting) -> bool
+    ensures short { result ≡ true → HoldsAnySegment 128 setting.now }
+    ensures any { HoldsAnySegment 4096 setting.now }
+{
+    setting.block() * setting.interval() <= SHORT as u32
+}
+
+/// Encodes as `encode` does, where a row of `N` holds the residuals of each segment.
+///
+/// It is never inlined, so that a call takes the stack of one row.
+#[inline(never)]
+fn encode_in_row<const N: usize, I: Intake, O: Outlet>(
+    setting: &Setting,
+    intake: &mut I,
+    outlet: &mut O,
+) -> Outcome
+    requires size { N ≤ 4096 }
+    requires room { HoldsAnySegment N setting.now }
+    requires reads { I.failed intake.old + 1 < 2 ^ 64 }
+    requires writes { O.failed outlet.old + 1 < 2 ^ 64 }
+    ensures call { (c : Call) ×
+        Happens (I.left intake.old) (I.left intake.new) (O.taken outlet.old) (O.taken outlet.new) c ×
+        Encodes setting.now c result.report result.fault }
+    ensures failures { Fails result.fault (I.failed intake.old) (I.failed intake.new) (O.failed outlet.old) (O.failed outlet.new) }
+    ensures bounds { EncodesWithin setting.now result.report }
+{
     let width = setting.width() as usize;
-    let mut encoding = Encoding::new(*setting);
+    let mut encoding = Encoding::<N>::new(*setting);
     let mut buffer = [0u8; PIECE];
     let mut levels = [0u32; SAMPLES];
     let mut waiting = 0;

@@ -1,12 +1,13 @@
 //! From samples to their code, piece by piece.
 ghost use Rattle.std.specs.Prelude.{◌≡◌, ℕ, ◌+◌, ◌-◌, ◌*◌, ◌^◌, ◌<◌, ◌≤◌, List, length, ℤ};
 ghost use Rattle.rice_samples.specs.Places.{cut};
+ghost use Rattle.rice_code.specs.encode.OpenSegment.{HoldsAnySegment};
 ghost use Rattle.rice_stream.specs.Calls.{Fails};
 ghost use Rattle.rice_stream.specs.Encodes.{EncodesWithin};
 ghost use Rattle.rice_stream.specs.EncodingState.{PushFails};
 ghost use Rattle.rice_stream.specs.Feeding.{IsSeam, EncodesMore, EncodesRest};
 
-use crate::encoding::{Encoding, LIMIT, SAMPLES};
+use crate::encoding::{Encoding, LIMIT, LONGEST, SAMPLES, SHORT, has_short_intervals};
 use crate::outcome::{Fault, Outcome};
 use crate::seam::Seam;
 use rice_bits::Outlet;
@@ -28,6 +29,28 @@ pub fn encode_more<O: Outlet>(
         EncodesMore setting.now xs bytes.now (O.taken outlet.old) (O.taken outlet.new) result }
     ensures failures { PushFails (O.failed outlet.old) (O.failed outlet.new) result }
 {
+    if has_short_intervals(setting) {
+        return encode_more_in_row::<SHORT, O>(setting, seam, bytes, outlet);
+    }
+    encode_more_in_row::<LONGEST, O>(setting, seam, bytes, outlet)
+}
+
+/// Encodes as `encode_more` does, where a row of `N` holds the residuals of each segment.
+#[inline(never)]
+fn encode_more_in_row<const N: usize, O: Outlet>(
+    setting: &Setting,
+    seam: &Seam,
+    bytes: &[u8],
+    outlet: &mut O,
+) -> Result<Seam, Fault>
+    requires size { N ≤ 4096 }
+    requires room { HoldsAnySegment N setting.now }
+    requires seam { (xs : List ℤ) × IsSeam setting.now seam.now xs }
+    requires writes { O.failed outlet.old + 1 < 2 ^ 64 }
+    ensures did { (xs : List ℤ) → IsSeam setting.now seam.now xs →
+        EncodesMore setting.now xs bytes.now (O.taken outlet.old) (O.taken outlet.new) result }
+    ensures failures { PushFails (O.failed outlet.old) (O.failed outlet.new) result }
+{
     let width = setting.width() as usize;
     if bytes.len() as u64 > bytes_left(width, seam.samples) {
         return Err(Fault::TooLong);
@@ -35,7 +58,8 @@ pub fn encode_more<O: Outlet>(
     let all = seam.samples + (bytes.len() / width) as u64;
     let count = in_whole_segments(setting, all) - seam.samples;
     let part = &bytes[..width * count as usize];
-    let mut encoding = Encoding::resume(*setting, seam);
+    let mut encoding = Encoding::<N>::resume(*setting, seam);
+    encoding.put_waiting(seam);
     let mut levels = [0u32; SAMPLES];
     match encoding.push_all(setting, part, &mut levels, outlet) {
         Ok(()) => {}
@@ -58,8 +82,32 @@ pub fn encode_rest<O: Outlet>(
     ensures failures { Fails result.fault 0 0 (O.failed outlet.old) (O.failed outlet.new) }
     ensures bounds { EncodesWithin setting.now result.report }
 {
+    if has_short_intervals(setting) {
+        return encode_rest_in_row::<SHORT, O>(setting, seam, bytes, outlet);
+    }
+    encode_rest_in_row::<LONGEST, O>(setting, seam, bytes, outlet)
+}
+
+/// Encodes as `encode_rest` does, where a row of `N` holds the residuals of each segment.
+#[inline(never)]
+fn encode_rest_in_row<const N: usize, O: Outlet>(
+    setting: &Setting,
+    seam: &Seam,
+    bytes: &[u8],
+    outlet: &mut O,
+) -> Outcome
+    requires size { N ≤ 4096 }
+    requires room { HoldsAnySegment N setting.now }
+    requires seam { (xs : List ℤ) × IsSeam setting.now seam.now xs }
+    requires writes { O.failed outlet.old + 1 < 2 ^ 64 }
+    ensures did { (xs : List ℤ) → IsSeam setting.now seam.now xs →
+        EncodesRest setting.now xs bytes.now (O.taken outlet.old) (O.taken outlet.new) result.report result.fault }
+    ensures failures { Fails result.fault 0 0 (O.failed outlet.old) (O.failed outlet.new) }
+    ensures bounds { EncodesWithin setting.now result.report }
+{
     let width = setting.width() as usize;
-    let mut encoding = Encoding::resume(*setting, seam);
+    let mut encoding = Encoding::<N>::resume(*setting, seam);
+    encoding.put_waiting(seam);
     if bytes.len() as u64 > bytes_left(width, encoding.taken()) {
         return encoding.stopped(Fault::TooLong);
     }

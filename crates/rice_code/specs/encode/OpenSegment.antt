@@ -37,6 +37,10 @@ abbrev pub is_empty : List ℕ → Bool
 is_empty [] = true
 is_empty (d ∷ ds) = false
 
+-- so many residuals are as many as any segment has
+abbrev pub HoldsAnySegment : ℕ → Parameters → Type 0
+HoldsAnySegment size s = (b : ℕ) → s.block * blocks_left s b ≤ size
+
 -- a coder that holds nothing
 abbrev pub empty_state : Parameters → CoderState
 empty_state s = record { setting = s; residuals = []; reference = None; previous = pos 0; start = 0 }

@@ -18,7 +18,7 @@ use crate::encode::prepared::PreparedSetting;
 use crate::encode::search::{Choice, choose};
 use crate::sizes::known_or;
 use rice_bits::Meter;
-use rice_samples::{Block, Segment};
+use rice_samples::{Block, Residuals};
 
 /// Appends the shortest code of a block that is not zero, of `SIZE` residuals, or of any number where `SIZE` is 0. It has the reference `word`, where `REFERENCE`
 /// is true, and else none.
@@ -163,12 +163,12 @@ fn reference_of(reference: Option<u32>, i: usize) -> Option<u32>
 }
 
 /// Appends the code of the first `count` blocks of a segment that begins at place `start`.
-pub fn code_blocks(
+pub fn code_blocks<const N: usize>(
     setting: &PreparedSetting,
     start: u32,
     reference: Option<u32>,
     count: usize,
-    segment: &Segment,
+    segment: &Residuals<N>,
     sink: &mut SegmentSink,
     meter: &mut Meter,
 )
@@ -185,22 +185,24 @@ pub fn code_blocks(
 {
     // The loop is laid out for each size of blocks.
     match setting.block() {
-        8 => code_each::<8>(setting, start, reference, count, segment, sink, meter),
-        16 => code_each::<16>(setting, start, reference, count, segment, sink, meter),
-        32 => code_each::<32>(setting, start, reference, count, segment, sink, meter),
-        size if size < 64 => code_each::<0>(setting, start, reference, count, segment, sink, meter),
-        _ => code_each::<64>(setting, start, reference, count, segment, sink, meter),
+        8 => code_each::<8, N>(setting, start, reference, count, segment, sink, meter),
+        16 => code_each::<16, N>(setting, start, reference, count, segment, sink, meter),
+        32 => code_each::<32, N>(setting, start, reference, count, segment, sink, meter),
+        size if size < 64 => code_each::<0, N>(
+            setting, start, reference, count, segment, sink, meter,
+        ),
+        _ => code_each::<64, N>(setting, start, reference, count, segment, sink, meter),
     }
 }
 
 /// Appends the code of the first `count` blocks, of `SIZE` samples each, of a segment that begins at place `start`.
 #[inline(always)]
-fn code_each<const SIZE: usize>(
+fn code_each<const SIZE: usize, const N: usize>(
     setting: &PreparedSetting,
     start: u32,
     reference: Option<u32>,
     count: usize,
-    segment: &Segment,
+    segment: &Residuals<N>,
     sink: &mut SegmentSink,
     meter: &mut Meter,
 )

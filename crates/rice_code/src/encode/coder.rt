@@ -22,14 +22,17 @@ pub struct Pushed {
 /// Takes samples, and appends the code of each segment of 64 blocks, or fewer at the end of a
 /// reference interval, once it is whole (CCSDS 121.0-B-3, sections 3 to 5).
 ///
-/// It takes 16,448 bytes of memory. In contracts its value is what it holds of the segment that it fills,
-/// and `HasTaken` tells which samples it has taken.
+/// It has room for `N` residuals, as many as any segment of its setting has. In contracts its value is what it holds of the
+/// segment that it fills, and `HasTaken` tells which samples it has taken.
 #[derive(Drop)]
-pub struct Coder {
-    segment: OpenSegment,
+pub struct SizedCoder<const N: usize> {
+    segment: OpenSegment<N>,
 }
 
-impl Model for Coder {
+/// A coder for any setting. It takes 16,448 bytes of memory.
+pub type Coder = SizedCoder<4096>;
+
+impl<const N: usize> Model for SizedCoder<N> {
     ghost use Rattle.rice_code.specs.encode.Coder.{IsCoder};
     ghost use Rattle.rice_code.specs.encode.OpenSegment.{CoderState};
 
@@ -40,9 +43,8 @@ impl Model for Coder {
     ghost invariant = { λ c. IsCoder c.segment };
 }
 
-impl Coder {
-    ghost use Rattle.rice_code.specs.encode.OpenSegment.{state_between};
-    ghost use Rattle.rice_code.specs.encode.Coder.{HasTaken, AddsCode, PushesSamples, CompletesNone, CompletesAll, fill_samples, complete_samples};
+impl SizedCoder<4096> {
+    ghost use Rattle.rice_code.specs.encode.Coder.{HasTaken};
 
     /// Returns a coder that has taken no samples.
     pub fn new(setting: Setting) -> Self
@@ -50,7 +52,23 @@ impl Coder {
         ensures setting { result.setting ≡ setting }
     {
         let _block = setting.block();
-        Coder {
+        SizedCoder::begin(setting)
+    }
+}
+
+impl<const N: usize> SizedCoder<N> {
+    ghost use Rattle.rice_code.specs.encode.OpenSegment.{HoldsAnySegment, state_between};
+    ghost use Rattle.rice_code.specs.encode.Coder.{HasTaken, AddsCode, PushesSamples, CompletesNone, CompletesAll, fill_samples, complete_samples};
+
+    /// Returns a coder that has taken no samples, where there is room for each of its segments.
+    pub fn begin(setting: Setting) -> Self
+        requires size { N ≤ 4096 }
+        requires room { HoldsAnySegment N setting }
+        ensures taken { HasTaken result [] }
+        ensures setting { result.setting ≡ setting }
+    {
+        let _block = setting.block();
+        SizedCoder {
             segment: OpenSegment::new(setting),
         }
     }
@@ -58,10 +76,12 @@ impl Coder {
     /// Returns a coder that goes on after whole segments: its next segment begins at the place `start` of
     /// its interval, and the last sample before it is `previous`.
     pub fn resume(setting: Setting, start: u32, previous: i64) -> Self
-        requires { (xs : List ℤ) × HasTaken (state_between setting start previous) xs }
+        requires size { N ≤ 4096 }
+        requires room { HoldsAnySegment N setting }
+        requires taken { (xs : List ℤ) × HasTaken (state_between setting start previous) xs }
         ensures { result ≡ state_between setting start previous }
     {
-        Coder {
+        SizedCoder {
             segment: OpenSegment::resume(setting, start, previous),
         }
     }
@@ -154,9 +174,9 @@ impl Coder {
     pub fn finish(self, sink: &mut SegmentSink, meter: &mut Meter) -> u64
         requires room { length sink.old ≤ 7 }
         requires meter { meter.old + segment_steps self.setting < 2 ^ 62 }
-        ensures { (xs : List ℤ) → HasTaken self xs →
-            AddsCode self.setting (complete_samples self.setting xs) xs
-            sink.old sink.new result (fill_samples self.setting xs) meter.old meter.new }
+        ensures { (xs : List ℤ) → HasTaken self.entry xs →
+            AddsCode self.entry.setting (complete_samples self.entry.setting xs) xs
+            sink.old sink.new result (fill_samples self.entry.setting xs) meter.old meter.new }
     {
         let mut coder = self;
         coder.finish_reset(sink, meter)

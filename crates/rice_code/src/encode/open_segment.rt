@@ -5,24 +5,24 @@ ghost use Rattle.rice_samples.specs.Parameters.{IsLegal, IsSample, value_at, val
 ghost use Rattle.rice_samples.specs.Places.{blocks_left};
 ghost use Rattle.rice_samples.specs.predict.Residuals.{pattern, rank};
 ghost use Rattle.rice_code.specs.Steps.{coding_steps};
-ghost use Rattle.rice_code.specs.encode.OpenSegment.{IsOpen, IsWhole, empty_state, state_between, state_after, state_after_all, state_with_later, later_residuals, state_with_fill, fill_count, state_after_segment, HoldsSoundBlocks, CodesHeld, is_first};
+ghost use Rattle.rice_code.specs.encode.OpenSegment.{IsOpen, IsWhole, HoldsAnySegment, empty_state, state_between, state_after, state_after_all, state_with_later, later_residuals, state_with_fill, fill_count, state_after_segment, HoldsSoundBlocks, CodesHeld, is_first};
 
 use crate::encode::SegmentSink;
 use crate::encode::blocks::code_blocks;
 use crate::encode::prepared::PreparedSetting;
 use rice_bits::Meter;
-use rice_samples::{Segment, Setting, pattern, pattern_at, residual};
+use rice_samples::{Residuals, Setting, pattern, pattern_at, residual};
 use std::marker::Model;
 
-/// The residuals of a segment that is not coded yet, and what is known of it.
+/// The residuals of a segment that is not coded yet, at most `N`, and what is known of it.
 ///
 /// In contracts its value is all of this but the length at which the segment is whole.
 #[derive(Drop)]
-pub struct OpenSegment {
+pub struct OpenSegment<const N: usize> {
     setting: PreparedSetting,
     /// The place in its interval of its first block.
     start: u32,
-    residuals: Segment,
+    residuals: Residuals<N>,
     /// The reference of its first block.
     reference: Option<u32>,
     /// The level of the sample before the next.
@@ -31,21 +31,23 @@ pub struct OpenSegment {
     end: usize,
 }
 
-impl Model for OpenSegment {
+impl<const N: usize> Model for OpenSegment<N> {
     ghost use Rattle.std.specs.Prelude.{◌<◌};
     ghost use Rattle.rice_samples.specs.Parameters.{value_at, value_count};
-    ghost use Rattle.rice_code.specs.encode.OpenSegment.{CoderState, IsOpen};
+    ghost use Rattle.rice_code.specs.encode.OpenSegment.{CoderState, HoldsAnySegment, IsOpen};
 
     ghost Value = { CoderState };
 
     ghost view = { λ c. record { setting = c.setting; residuals = c.residuals; reference = c.reference; previous = value_at c.setting c.previous; start = c.start } };
 
-    ghost invariant = { λ c. (c.previous < value_count c.setting) × IsOpen (record { setting = c.setting; residuals = c.residuals; reference = c.reference; previous = value_at c.setting c.previous; start = c.start }) c.end };
+    ghost invariant = { λ c. (c.previous < value_count c.setting) × IsOpen (record { setting = c.setting; residuals = c.residuals; reference = c.reference; previous = value_at c.setting c.previous; start = c.start }) c.end × HoldsAnySegment N c.setting };
 }
 
-impl OpenSegment {
+impl<const N: usize> OpenSegment<N> {
     /// Returns the first segment, without residuals.
     pub fn new(setting: Setting) -> Self
+        requires size { N ≤ 4096 }
+        requires room { HoldsAnySegment N setting }
         ensures { result ≡ empty_state setting }
     {
         let setting = PreparedSetting::new(setting);
@@ -53,7 +55,7 @@ impl OpenSegment {
         OpenSegment {
             setting,
             start: 0,
-            residuals: Segment::new(),
+            residuals: Residuals::empty(),
             reference: None,
             previous: level_of(&setting, 0),
             end,
@@ -62,7 +64,9 @@ impl OpenSegment {
 
     /// Returns the segment that begins at the place `start` of its interval, after the sample `previous`, without residuals.
     pub fn resume(setting: Setting, start: u32, previous: i64) -> Self
-        requires { IsOpen (state_between setting start previous) (setting.block *
+        requires size { N ≤ 4096 }
+        requires room { HoldsAnySegment N setting }
+        requires open { IsOpen (state_between setting start previous) (setting.block *
             blocks_left setting start) }
         ensures { result ≡ state_between setting start previous }
     {
@@ -71,7 +75,7 @@ impl OpenSegment {
         OpenSegment {
             setting,
             start,
-            residuals: Segment::new(),
+            residuals: Residuals::empty(),
             reference: None,
             previous: level_of(&setting, previous),
             end,
@@ -330,10 +334,15 @@ fn note_reference(setting: &PreparedSetting, first: bool, reference: &mut Option
 }
 
 /// Adds the residuals of samples after the one at level `previous`, none of which is the first of an interval.
-fn push_later(setting: &PreparedSetting, previous: u32, levels: &[u32], segment: &mut Segment)
+fn push_later<const N: usize>(
+    setting: &PreparedSetting,
+    previous: u32,
+    levels: &[u32],
+    segment: &mut Residuals<N>,
+)
     requires before { previous < value_count setting.now }
     requires legal { All (λ l. l < value_count setting.now) levels.now }
-    requires room { length segment.old + length levels.now ≤ 4096 }
+    requires room { length segment.old + length levels.now ≤ N }
     ensures { segment.new ≡ segment.old ++
         later_residuals setting.now (value_at setting.now previous) (values_at setting.now levels.now) }
 {
@@ -355,8 +364,13 @@ fn pad_interval(setting: &PreparedSetting, blocks: usize, sink: &mut SegmentSink
 }
 
 /// Adds `count` copies of a residual, a step for each.
-fn push_copies(segment: &mut Segment, residual: u32, count: usize, meter: &mut Meter)
-    requires room { length segment.old + count ≤ 4096 }
+fn push_copies<const N: usize>(
+    segment: &mut Residuals<N>,
+    residual: u32,
+    count: usize,
+    meter: &mut Meter,
+)
+    requires room { length segment.old + count ≤ N }
     requires meter { meter.old + count < 2 ^ 62 }
     ensures items { segment.new ≡ segment.old ++ replicate count residual }
     ensures steps { meter.new ≡ meter.old + count }

@@ -11,32 +11,46 @@ use std::marker::Model;
 /// The most residuals of a segment: 64 blocks of 64.
 const CAPACITY: usize = 4096;
 
-/// The residuals of a segment, at most 4,096. Contracts see their list. They can be read only through blocks. It takes
-/// 16,392 bytes of memory.
+/// The residuals of a segment, at most `N`, which are at most 4,096. Contracts see their list. They can be read only through
+/// blocks.
 #[derive(Drop)]
-pub struct Segment {
-    items: [u32; CAPACITY],
+pub struct Residuals<const N: usize> {
+    items: [u32; N],
     len: usize,
 }
 
-impl Model for Segment {
+/// The residuals of any segment, at most 4,096. It takes 16,392 bytes of memory.
+pub type Segment = Residuals<CAPACITY>;
+
+impl<const N: usize> Model for Residuals<N> {
     ghost use Rattle.std.specs.Prelude.{ℕ, ◌≤◌, List, take};
 
     ghost Value = { List ℕ };
 
     ghost view = { λ s. take s.len s.items };
 
-    ghost invariant = { λ s. s.len ≤ 4096 };
+    ghost invariant = { λ s. (s.len ≤ N) × (N ≤ 4096) };
 }
 
-impl Segment {
+impl Residuals<4096> {
     /// Returns a segment without residuals.
     #[inline]
     pub fn new() -> Self
         ensures { result ≡ [] }
     {
-        Segment {
-            items: [0; CAPACITY],
+        Residuals::empty()
+    }
+}
+
+impl<const N: usize> Residuals<N> {
+    /// Returns a row without residuals, with room for `N`.
+    #[inline]
+    pub fn empty() -> Self
+        requires { N ≤ 4096 }
+        ensures { result ≡ [] }
+    {
+        Residuals {
+            items: [0; N],
             len: 0,
         }
     }
@@ -70,7 +84,7 @@ impl Segment {
     /// Adds a residual at the end.
     #[inline]
     pub fn push(&mut self, residual: u32)
-        requires { length self.old < 4096 }
+        requires { length self.old < N }
         ensures value { self.new ≡ self.old ++ residual ∷ [] }
         ensures len { length self.new ≡ length self.old + 1 }
     {
@@ -84,12 +98,14 @@ impl Segment {
     pub fn push_residuals(&mut self, setting: &Setting, p: u32, levels: &[u32])
         requires before { p < value_count setting.now }
         requires legal { All (λ l. l < value_count setting.now) levels.now }
-        requires room { length self.old + length levels.now ≤ 4096 }
+        requires room { length self.old + length levels.now ≤ N }
         ensures value { self.new ≡ self.old ++ ranks_below (value_count setting.now) p levels.now }
         ensures len { length self.new ≡ length self.old + length levels.now }
     {
-        let end = self.len + levels.len();
-        write_residuals(setting, p, levels, &mut self.items[self.len..end]);
+        let start = self.len;
+        let end = start + levels.len();
+        let items = &mut self.items[..];
+        write_residuals(setting, p, levels, &mut items[start..end]);
         self.len = end;
     }
 
@@ -97,12 +113,14 @@ impl Segment {
     #[inline]
     pub fn push_patterns(&mut self, setting: &Setting, levels: &[u32])
         requires legal { All (λ l. l < value_count setting.now) levels.now }
-        requires room { length self.old + length levels.now ≤ 4096 }
+        requires room { length self.old + length levels.now ≤ N }
         ensures value { self.new ≡ self.old ++ map (pattern setting.now) (values_at setting.now levels.now) }
         ensures len { length self.new ≡ length self.old + length levels.now }
     {
-        let end = self.len + levels.len();
-        write_patterns(setting, levels, &mut self.items[self.len..end]);
+        let start = self.len;
+        let end = start + levels.len();
+        let items = &mut self.items[..];
+        write_patterns(setting, levels, &mut items[start..end]);
         self.len = end;
     }
 

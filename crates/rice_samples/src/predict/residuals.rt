@@ -39,6 +39,9 @@ fn last_level(p: u32, levels: &[u32]) -> u32
 }
 
 /// Writes the residuals of samples of any number of bits.
+///
+/// It is never inlined, so that what calls it for few samples, or for none, saves no registers for it.
+#[inline(never)]
 fn write_wide(setting: &Setting, p: u32, levels: &[u32], residuals: &mut [u32])
     requires before { p < value_count setting.now }
     requires legal { All (λ l. l < value_count setting.now) levels.now }
@@ -65,7 +68,8 @@ fn fold(greatest: u32, p: u32, numbers: &mut [u32])
     }
 }
 
-/// Writes the patterns of the samples with these levels.
+/// Writes the patterns of the samples with these levels. It is never inlined either.
+#[inline(never)]
 pub(crate) fn write_patterns(setting: &Setting, levels: &[u32], patterns: &mut [u32])
     requires legal { All (λ l. l < value_count setting.now) levels.now }
     requires len { length patterns.old ≡ length levels.now }
@@ -88,6 +92,9 @@ pub fn pattern_at(setting: &Setting, level: u32) -> u32
     ensures value { result ≡ pattern_of setting.now (value_at setting.now level) }
     ensures fits { result < value_count setting.now }
 {
+    if !setting.signed() {
+        return level;
+    }
     let greatest = (setting.values() - 1) as u32;
     level.wrapping_sub(setting.offset() as u32) & greatest
 }

@@ -47,11 +47,11 @@ Follows-trans old now new bytes more f a = record {
 pub Follows-all : (old new : Option Room) (bytes : List ℕ) → Follows (afresh old) new bytes → Appends old new bytes
 Follows-all old new bytes f = subst (λ (l : List ℕ). Appends old new l) (sym f.split) f.took
 
-pub settled_by : (s : Parameters) (e : Encoding) (xs : List ℤ) → CountsSamples s e xs → Settles s xs
+pub settled_by : {N : ℕ} (s : Parameters) (e : Encoding N) (xs : List ℤ) → CountsSamples s e xs → Settles s xs
 settled_by s e xs c = settles s e.coder xs c.setting c.stands
 
 -- bits and steps are far below what a number holds
-pub counts_small : (s : Parameters) (e : Encoding) (xs : List ℤ) → CountsSamples s e xs → (e.bits ≤ 73 * length xs + 4700) × (e.meter ≤ 73 * length xs + 4700) × (segment_steps e.coder.setting ≤ 274752)
+pub counts_small : {N : ℕ} (s : Parameters) (e : Encoding N) (xs : List ℤ) → CountsSamples s e xs → (e.bits ≤ 73 * length xs + 4700) × (e.meter ≤ 73 * length xs + 4700) × (segment_steps e.coder.setting ≤ 274752)
 counts_small s e xs c =
     let h = settled_by s e xs c in
     let b = early_bounded s xs h in
@@ -67,21 +67,21 @@ pub all_small : (s : Parameters) (coder : CoderState) (xs : List ℤ) → coder.
 all_small s coder xs e h = let k = settles s coder xs e h in few_bits s (length xs) _ _ k.setting (all_bounded s xs k) (omega arith)
 
 -- what the sink holds goes on from the bytes that are whole
-pub joined : (s : Parameters) (old : Beginning) (now : Option Room) (e : Encoding) (xs : List ℤ) → IsEncodingOf s old now e xs → whole_part (complete_code s xs) ++ e.sink ≡ complete_code s xs
+pub joined : {N : ℕ} (s : Parameters) (old : Beginning) (now : Option Room) (e : Encoding N) (xs : List ℤ) → IsEncodingOf s old now e xs → whole_part (complete_code s xs) ++ e.sink ≡ complete_code s xs
 joined s old now e xs h = ap (λ l. whole_part (complete_code s xs) ++ l) h.sink ∙ take-append-drop (bits_in_bytes (length (complete_code s xs))) (complete_code s xs)
 
-pub sink_short : (s : Parameters) (old : Beginning) (now : Option Room) (e : Encoding) (xs : List ℤ) → IsEncodingOf s old now e xs → length e.sink ≤ 7
+pub sink_short : {N : ℕ} (s : Parameters) (old : Beginning) (now : Option Room) (e : Encoding N) (xs : List ℤ) → IsEncodingOf s old now e xs → length e.sink ≤ 7
 sink_short s old now e xs h = omega (arith, ap length h.sink, length-drop (bits_in_bytes (length (complete_code s xs))) (complete_code s xs))
 
 -- the sink stands at the place in a byte where the code does
-pub sink_place : (s : Parameters) (old : Beginning) (now : Option Room) (e : Encoding) (xs : List ℤ) → IsEncodingOf s old now e xs → IsAlignedWith s (complete_samples s xs) e.sink
+pub sink_place : {N : ℕ} (s : Parameters) (old : Beginning) (now : Option Room) (e : Encoding N) (xs : List ℤ) → IsEncodingOf s old now e xs → IsAlignedWith s (complete_samples s xs) e.sink
 sink_place s old now e xs h pads =
     let n = ap length h.sink in
     let m = length-drop (bits_in_bytes (length (complete_code s xs))) (complete_code s xs) in
     omega arith
 
 -- samples are taken
-pub taken_on : (s : Parameters) (old : Beginning) (now : Option Room) (e f : Encoding) (xs ys : List ℤ) (n : ℕ) → IsEncodingOf s old now e xs →
+pub taken_on : {N : ℕ} (s : Parameters) (old : Beginning) (now : Option Room) (e f : Encoding N) (xs ys : List ℤ) (n : ℕ) → IsEncodingOf s old now e xs →
     PushesSamples e.coder f.coder ys e.sink f.sink n e.meter f.meter → f.bits ≡ e.bits + n → f.samples ≡ e.samples + length ys → ((m : ℕ) → m < length ys → CompletesNone e.coder (take m ys)) → TakesSamples s f xs ys
 taken_on s old now e f xs ys n h pushes bits samples before =
     let stands = h.counts.stands in
@@ -104,7 +104,7 @@ taken_on s old now e f xs ys n h pushes bits samples before =
     }
 
 -- nothing is whole
-pub none_whole : (s : Parameters) (old : Beginning) (now : Option Room) (e f : Encoding) (xs ys : List ℤ) → IsEncodingOf s old now e xs → CountsSamples s f (xs ++ ys) → complete_code s (xs ++ ys) ≡ whole_part (complete_code s xs) ++ f.sink →
+pub none_whole : {N : ℕ} (s : Parameters) (old : Beginning) (now : Option Room) (e f : Encoding N) (xs ys : List ℤ) → IsEncodingOf s old now e xs → CountsSamples s f (xs ++ ys) → complete_code s (xs ++ ys) ≡ whole_part (complete_code s xs) ++ f.sink →
     length f.sink < 8 → IsEncodingOf s old now f (xs ++ ys)
 none_whole s old now e f xs ys h c same few =
     let a = complete_code s xs in
@@ -118,7 +118,7 @@ none_whole s old now e f xs ys h c same few =
     }
 
 -- the whole bytes are written
-pub all_written : (s : Parameters) (old : Beginning) (now new : Option Room) (e f g : Encoding) (xs ys : List ℤ) → IsEncodingOf s old now e xs → CountsSamples s f (xs ++ ys) → complete_code s (xs ++ ys) ≡ whole_part (complete_code s xs) ++ f.sink →
+pub all_written : {N : ℕ} (s : Parameters) (old : Beginning) (now new : Option Room) (e f g : Encoding N) (xs ys : List ℤ) → IsEncodingOf s old now e xs → CountsSamples s f (xs ++ ys) → complete_code s (xs ++ ys) ≡ whole_part (complete_code s xs) ++ f.sink →
     Appends now new (whole_bytes f.sink) → g.sink ≡ drop (bits_in_bytes (length f.sink)) f.sink → CountsSamples s g (xs ++ ys) → IsEncodingOf s old new g (xs ++ ys)
 all_written s old now new e f g xs ys h c same took rest d =
     let a = complete_code s xs in
@@ -166,7 +166,7 @@ parts_of (y ∷ []) h = record { before = []; last = y; split = refl }
 parts_of (y ∷ z ∷ ys) h = let p = parts_of (z ∷ ys) (omega arith) in record { before = y ∷ p.before; last = p.last; split = ap (λ l. y ∷ l) p.split }
 
 -- not all that the samples complete was written
-pub fails_in : (s : Parameters) (old : Beginning) (now new : Option Room) (e f g : Encoding) (xs samples : List ℤ) (n : ℕ) → IsEncodingOf s old now e xs → TakesSamples s f xs (take n samples) → 0 < n → n ≤ length samples → TakesPart now new (whole_bytes f.sink) → CountsSamples s g (xs ++ take n samples) → FailsIn s old new g xs samples
+pub fails_in : {N : ℕ} (s : Parameters) (old : Beginning) (now new : Option Room) (e f g : Encoding N) (xs samples : List ℤ) (n : ℕ) → IsEncodingOf s old now e xs → TakesSamples s f xs (take n samples) → 0 < n → n ≤ length samples → TakesPart now new (whole_bytes f.sink) → CountsSamples s g (xs ++ take n samples) → FailsIn s old new g xs samples
 fails_in s old now new e f g xs samples n h takes some within part counts =
     let ys = take n samples in
     let len = length-take-le n samples within in
@@ -189,7 +189,7 @@ fails_in s old now new e f g xs samples n h takes some within part counts =
     }
 
 -- the samples before some others were taken
-pub fails_later : (s : Parameters) (old : Beginning) (new : Option Room) (e : Encoding) (xs samples : List ℤ) (at : ℕ) → FailsIn s old new e (xs ++ take at samples) (drop at samples) → FailsIn s old new e xs samples
+pub fails_later : {N : ℕ} (s : Parameters) (old : Beginning) (new : Option Room) (e : Encoding N) (xs samples : List ℤ) (at : ℕ) → FailsIn s old new e (xs ++ take at samples) (drop at samples) → FailsIn s old new e xs samples
 fails_later s old new e xs samples at f = record {
   before = take at samples ++ f.before;
   last = f.last;
@@ -224,7 +224,7 @@ sets_nothing s j =
     (bits, omega (arith, bits, least), omega (arith, bits, most))
 
 -- the end of the samples
-pub closed : (s : Parameters) (old : Beginning) (now : Option Room) (e : Encoding) (r : Report) (sink end : List Bool) (xs : List ℤ) (n : ℕ) → IsEncodingOf s old now e xs →
+pub closed : {N : ℕ} (s : Parameters) (old : Beginning) (now : Option Room) (e : Encoding N) (r : Report) (sink end : List Bool) (xs : List ℤ) (n : ℕ) → IsEncodingOf s old now e xs →
     AddsCode e.coder.setting (complete_samples e.coder.setting xs) xs e.sink sink n (fill_samples e.coder.setting xs) e.meter r.steps → r.bits ≡ e.bits + n → r.samples ≡ e.samples → end ≡ sink ++ replicate (bits_to_byte (length sink)) false →
     ReportsAll s r xs × (padded_bits (code s xs) ≡ whole_part (complete_code s xs) ++ end)
 closed s old now e r sink end xs n h finishes bits samples fill =
@@ -266,7 +266,7 @@ All-front : {X : Type 0} (P : X → Type 0) (xs ys : List X) → All P (xs ++ ys
 All-front P xs ys h = subst (All P) (take-append_seam xs ys) (All-take P (length xs) (xs ++ ys) h)
 
 -- of samples that the bytes spell one is the last that was taken
-pub fails_among : (s : Parameters) (old : Beginning) (new : Option Room) (e : Encoding) (xs ys : List ℤ) (bytes rest : List ℕ) → Reads s bytes ys rest → FailsIn s old new e xs ys → MeetsFailure s old new e xs bytes
+pub fails_among : {N : ℕ} (s : Parameters) (old : Beginning) (new : Option Room) (e : Encoding N) (xs ys : List ℤ) (bytes rest : List ℕ) → Reads s bytes ys rest → FailsIn s old new e xs ys → MeetsFailure s old new e xs bytes
 fails_among s old new e xs ys bytes rest reads f =
     let parts : ys ≡ (f.before ++ f.last ∷ []) ++ f.behind = f.split ∙ sym (append_assoc f.before (f.last ∷ []) f.behind) in
     record {

@@ -31,7 +31,7 @@ reads_before s xs bytes rest behind r = record {
 no_spelling_before : (s : Parameters) (rest behind : List ℕ) → EndsSpelling s rest NoSpelling → EndsSpelling s (rest ++ behind) NoSpelling
 no_spelling_before s rest behind h = (omega (arith, h.0, length-append rest behind), λ x k e. h.1 x k (sym (take-append-le (width s) rest behind h.0) ∙ e))
 
-module _ (s : Parameters) (old : Beginning) (new : Option Room) (e : Encoding) (xs more : List ℤ) (front part : List ℕ) (spelled : front ≡ spellings s more) (legal : All (IsSample s) more) where
+module _ {N : ℕ} (s : Parameters) (old : Beginning) (new : Option Room) (e : Encoding N) (xs more : List ℤ) (front part : List ℕ) (spelled : front ≡ spellings s more) (legal : All (IsSample s) more) where
   pub takes_on : TakesAll s old new e (xs ++ more) part → TakesAll s old new e xs (front ++ part)
   takes_on h = record {
     more = more ++ h.more;

@@ -67,11 +67,11 @@ byte_fits x n k byte few is = shr_below x n (8 - k) (let e : n + (8 - k) ≡ 8 =
 pub some_width : (s : Parameters) → 1 ≤ width s
 some_width s = grind (arith, nat_tests)
 
-abbrev pub encoding_at : Parameters → Seam → Encoding
-encoding_at s seam = record { coder = state_between s seam.start seam.previous; sink = word seam.waiting_bits seam.waiting; meter = seam.steps; samples = seam.samples; bits = seam.bits }
+abbrev pub encoding_at : (N : ℕ) → Parameters → Seam → Encoding N
+encoding_at N s seam = record { coder = state_between s seam.start seam.previous; sink = word seam.waiting_bits seam.waiting; meter = seam.steps; samples = seam.samples; bits = seam.bits }
 
-pub resumed : (s : Parameters) (seam : Seam) (xs : List ℤ) (now : Option Room) → IsSeam s seam xs → IsEncodingOf s (behind s xs now) now (encoding_at s seam) xs
-resumed s seam xs now h = record {
+pub resumed : (N : ℕ) (s : Parameters) (seam : Seam) (xs : List ℤ) (now : Option Room) → IsSeam s seam xs → IsEncodingOf s (behind s xs now) now (encoding_at N s seam) xs
+resumed N s seam xs now h = record {
   counts = record { setting = refl; stands = h.taken; samples = h.samples; bits = h.bits; least = h.least; most = h.most };
   sink = h.waiting;
   took = record { more = []; split = sym (append-nil (early_output s xs)); took = Appends-nil now };
@@ -87,11 +87,11 @@ fit_in w n k le = let p : w * k ≤ w * (n / w) = mul-le-mul_left w le in omega 
 
 pub few_steps_so_far : (s : Parameters) (seam : Seam) (xs : List ℤ) → IsSeam s seam xs → seam.steps < 4611686018427387904
 few_steps_so_far s seam xs h =
-    let small = (counts_small s (encoding_at s seam) xs (resumed s seam xs None h).counts).1 in
+    let small = (counts_small s (encoding_at 0 s seam) xs (resumed 0 s seam xs None h).counts).1 in
     omega (arith, small, few_all (width s) (length xs) 0 (some_width s) (omega (arith, h.limit)))
 
 -- where the samples make whole segments, the encoding's place is a seam
-pub seam_of : (s : Parameters) (old : Beginning) (now : Option Room) (e : Encoding) (seam : Seam) (xs : List ℤ) → IsEncodingOf s old now e xs → cut s (length xs) ≡ length xs → width s * length xs ≤ 281474976710656 →
+pub seam_of : {N : ℕ} (s : Parameters) (old : Beginning) (now : Option Room) (e : Encoding N) (seam : Seam) (xs : List ℤ) → IsEncodingOf s old now e xs → cut s (length xs) ≡ length xs → width s * length xs ≤ 281474976710656 →
     seam.samples ≡ e.samples → seam.bits ≡ e.bits → seam.steps ≡ e.meter → seam.previous ≡ e.coder.previous → seam.start ≡ e.coder.start → seam.waiting_bits ≡ length e.sink → word (length e.sink) seam.waiting ≡ e.sink → seam.waiting < 2 ^ length e.sink → length e.sink < 8 → IsSeam s seam xs
 seam_of s old now e seam xs h all limit samples bits steps previous start count digits fits few =
     let nothing : e.coder ≡ state_between e.coder.setting e.coder.start e.coder.previous = holds_nothing e.coder xs h.counts.stands (ap (λ t. cut t (length xs)) h.counts.setting ∙ all) in
@@ -136,7 +136,7 @@ cut_grows s seam xs n h le =
     let up = cut_is_greatest s legal n k.0 k.2 (omega (arith, k.1, all, le)) in
     omega (arith, up, k.1, all)
 
-pub goes_on : (s : Parameters) (old new : Option Room) (e : Encoding) (at seam : Seam) (xs : List ℤ) (bytes : List ℕ) (count : ℕ) → IsSeam s at xs → TakesAll s (behind s xs old) new e xs (take (width s * count) bytes) →
+pub goes_on : {N : ℕ} (s : Parameters) (old new : Option Room) (e : Encoding N) (at seam : Seam) (xs : List ℤ) (bytes : List ℕ) (count : ℕ) → IsSeam s at xs → TakesAll s (behind s xs old) new e xs (take (width s * count) bytes) →
     length xs + count ≡ samples_to_take s xs bytes → width s * count ≤ length bytes → bytes_in_all s xs bytes ≤ 281474976710656 →
     ((ys : List ℤ) → IsEncodingOf s (behind s xs old) new e ys → cut s (length ys) ≡ length ys → width s * length ys ≤ 281474976710656 → IsSeam s seam ys) → GoesOn s xs bytes old new seam
 goes_on s old new e at seam xs bytes count h t is within limit stands =
@@ -163,7 +163,7 @@ goes_on s old new e at seam xs bytes count h t is within limit stands =
     parts w m n k e = ap (λ v. w * v) e ∙ (let p : w * (n + k) ≡ w * n + w * k = omega arith in p)
 
 -- what stops it inside the bytes, with others after them
-pub stopped_in : (s : Parameters) (old : Beginning) (new : Option Room) (e : Encoding) (xs : List ℤ) (bytes : List ℕ) (k : ℕ) (f : Fault) → Pushes {T = Unit {0}} s old new e xs (take k bytes) (Err f) → Pushes {T = Unit {0}} s old new e xs bytes (Err f)
+pub stopped_in : {N : ℕ} (s : Parameters) (old : Beginning) (new : Option Room) (e : Encoding N) (xs : List ℤ) (bytes : List ℕ) (k : ℕ) (f : Fault) → Pushes {T = Unit {0}} s old new e xs (take k bytes) (Err f) → Pushes {T = Unit {0}} s old new e xs bytes (Err f)
 stopped_in s old new e xs bytes k f h =
     subst (λ (l : List ℕ). Pushes {T = Unit {0}} s old new e xs l (Err f)) (take-append-drop k bytes)
     (stops_on s old new e xs [] [] (take k bytes) refl (λ k d lt. absurd (omega arith)) (drop k bytes) f (subst (λ (l : List ℤ). Pushes {T = Unit {0}} s old new e l (take k bytes) (Err f)) (sym (append-nil xs)) h))
@@ -179,7 +179,7 @@ refused_within s more part rest count r wide few =
       | inr le ↦ absurd (let p : w * k ≤ w * n = mul-le-mul_left w le in omega (arith, p, some, wide, few))
     ]
 
-pub more_stops : (s : Parameters) (old new : Option Room) (e : Encoding) (xs : List ℤ) (bytes : List ℕ) (count : ℕ) (f : Fault) → bytes_in_all s xs bytes ≤ 281474976710656 → length xs + count ≡ samples_to_take s xs bytes → width s * count ≤ length bytes →
+pub more_stops : {N : ℕ} (s : Parameters) (old new : Option Room) (e : Encoding N) (xs : List ℤ) (bytes : List ℕ) (count : ℕ) (f : Fault) → bytes_in_all s xs bytes ≤ 281474976710656 → length xs + count ≡ samples_to_take s xs bytes → width s * count ≤ length bytes →
     Pushes {T = Unit {0}} s (behind s xs old) new e xs (take (width s * count) bytes) (Err f) → EncodesMore s xs bytes old new (Err f)
 more_stops s old new e xs bytes count f limit is within h = by_fault f h (stopped_in s (behind s xs old) new e xs bytes (width s * count) f h)
   where
@@ -202,7 +202,7 @@ more_stops s old new e xs bytes count f limit is within h = by_fault f h (stoppe
 
 -- ---- what the last piece gives
 
-module _ (s : Parameters) (old new : Option Room) (e : Encoding) (r : Report) (xs : List ℤ) (bytes : List ℕ) (limit : bytes_in_all s xs bytes ≤ 281474976710656) where
+module _ {N : ℕ} (s : Parameters) (old new : Option Room) (e : Encoding N) (r : Report) (xs : List ℤ) (bytes : List ℕ) (limit : bytes_in_all s xs bytes ≤ 281474976710656) where
   rest_stops_at : (f : Fault) → ((ys : List ℤ) → CountsSamples s e ys → ReportsTaken s r ys) → Pushes {T = Unit {0}} s (behind s xs old) new e xs bytes (Err f) → EncodesRest s xs bytes old new r (Some f)
   rest_stops_at (SampleOutOfRange index) told m =
       (m.0.more, record { limit = limit; rest = m.0.rest; reads = m.0.reads; none = m.0.none; index_is = m.1 ∙ m.0.holds.counts.samples; writes = m.0.holds.took }, told (xs ++ m.0.more) m.0.holds.counts)
@@ -254,5 +254,5 @@ module _ (s : Parameters) (old new : Option Room) (e : Encoding) (r : Report) (x
   rest_all (Some (ResidualTooLarge block)) t last whole told bad = absurd bad
 
 -- so few samples that all their steps are counted
-pub takes_few : (s : Parameters) (old : Beginning) (new : Option Room) (e : Encoding) (xs : List ℤ) (bytes : List ℕ) → length xs + length bytes ≤ 281474976710656 → (t : TakesAll s old new e xs bytes) → length (xs ++ t.more) ≤ 281474976710656
+pub takes_few : {N : ℕ} (s : Parameters) (old : Beginning) (new : Option Room) (e : Encoding N) (xs : List ℤ) (bytes : List ℕ) → length xs + length bytes ≤ 281474976710656 → (t : TakesAll s old new e xs bytes) → length (xs ++ t.more) ≤ 281474976710656
 takes_few s old new e xs bytes few t = omega (arith, few, length-append xs t.more, few_more s t.more bytes t.rest t.reads (some_width s))

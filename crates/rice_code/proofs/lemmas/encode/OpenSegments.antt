@@ -11,7 +11,7 @@ use Rattle.rice_samples.specs.Places.{place, blocks_left}
 use Rattle.rice_samples.proofs.lemmas.setting.Levels.{zero_is_sample}
 use Rattle.rice_samples.proofs.lemmas.setting.PlaceLemmas.{some_left}
 use Rattle.rice_code.specs.code.Code.{data_sets}
-use Rattle.rice_code.specs.encode.OpenSegment.{CoderState, IsOpen, empty_state, state_after_segment, next_start, blocks_held, contents_held, sets_held, code_held, HoldsSoundBlocks, CodesHeld}
+use Rattle.rice_code.specs.encode.OpenSegment.{CoderState, IsOpen, HoldsAnySegment, empty_state, state_after_segment, next_start, blocks_held, contents_held, sets_held, code_held, HoldsSoundBlocks, CodesHeld}
 use Rattle.rice_code.specs.code.CodedDataSets.{bits_of_set, bits_of_sets}
 use Rattle.rice_code.specs.encode.HeldBlocks.{held_blocks, code_of_blocks, PutsBlocks}
 use Rattle.rice_code.specs.code.SoundBlocks.{AreSoundBlocks}
@@ -22,7 +22,23 @@ use Rattle.rice_code.proofs.lemmas.code.SegmentLayouts.{code_lies}
 use Rattle.rice_code.proofs.lemmas.code.SegmentPlaces.{begins_next, next_start_is}
 use Rattle.rice_code.proofs.lemmas.encode.PendingRuns.{held_len}
 
--- the room that a segment takes
+-- the room that the residuals of any segment take
+pub holds_any : (s : Parameters) → IsLegal s → HoldsAnySegment 4096 s
+holds_any s legal b =
+    let j : s.block ≤ 64 = grind (arith, legal.block) in
+    let left = some_left s b legal.interval_from in
+    let most : s.block * blocks_left s b ≤ s.block * 64 = mul-le-mul_left s.block left.1 in
+    omega (arith, most, j)
+
+-- and those where an interval has few samples
+pub holds_short : (s : Parameters) (size : ℕ) → 1 ≤ s.interval → s.block * s.interval ≤ size → HoldsAnySegment size s
+holds_short s size some few b =
+    let lt : place s b < s.interval = mod-lt b some in
+    let left : blocks_left s b ≤ s.interval = omega (arith, lt) in
+    let most : s.block * blocks_left s b ≤ s.block * s.interval = mul-le-mul_left s.block left in
+    omega (arith, most, few)
+
+-- the room that the code of a segment takes
 pub segment_room : (s : Parameters) (n : ℕ) → IsLegal s → n ≤ 64 → n * block_bound s ≤ 131392
 segment_room s n h k =
     let j : s.block ≤ 64 = grind (arith, h.block) in

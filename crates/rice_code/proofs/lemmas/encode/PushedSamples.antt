@@ -1,7 +1,7 @@
 -- What pushing samples does: what pushing the last of them does after the others.
-use Rattle.std.proofs.Common.{◌≡◌, ℕ, ◌+◌, ◌*◌, ◌^◌, ◌<◌, ◌≤◌, Bool, List, [], ◌∷◌, ◌++◌, length, take, All, refl, ap, arith, inl, inr, sym, ◌∙◌, subst, append_assoc, append-nil, length-append, ℤ}
+use Rattle.std.proofs.Common.{◌≡◌, ℕ, ◌+◌, ◌-◌, ◌*◌, ◌%◌, ◌^◌, ◌<◌, ◌≤◌, Bool, List, [], ◌∷◌, ◌++◌, length, take, All, refl, ap, arith, inl, inr, sym, ◌∙◌, subst, append_assoc, append-nil, length-append, ℤ}
 use Rattle.std.specs.List.{AllByRecursion}
-use Rattle.std.proofs.Math.Nat.{mul-le-mul_left}
+use Rattle.std.proofs.Math.Nat.{mod-lt, mul-le-mul_left}
 use Rattle.std.proofs.Math.Seq.{take-length}
 use Rattle.std.proofs.lemmas.Bool.{cases_lt}
 use Rattle.std.proofs.lemmas.List.{length-take-le, take-map}
@@ -11,7 +11,7 @@ use Rattle.rice_samples.specs.Places.{blocks_left, cut}
 use Rattle.rice_samples.proofs.lemmas.setting.PlaceLemmas.{some_left}
 use Rattle.rice_samples.proofs.lemmas.setting.ValuesAt.{legal_values, length-values}
 use Rattle.rice_code.specs.encode.Coder.{HasTaken, IsCoder, PushesSamples, CompletesNone, CompletesAll, complete_samples}
-use Rattle.rice_code.specs.encode.OpenSegment.{CoderState, IsWhole, state_after, state_after_all, state_after_segment, next_residual, HoldsSoundBlocks, CodesHeld}
+use Rattle.rice_code.specs.encode.OpenSegment.{CoderState, IsWhole, state_after, state_after_all, state_after_segment, state_with_fill, fill_count, next_residual, HoldsSoundBlocks, CodesHeld}
 use Rattle.rice_code.specs.Steps.{coding_steps, segment_steps}
 use Rattle.rice_code.proofs.lemmas.encode.PushedCode.{stays_open, stays_open_completes_none, short_of, pending_are, whole_sound, ends, whole_segment_adds_code, AddsHeldCode, adds_code, adds_nothing, steps_of_segment}
 use Rattle.rice_code.proofs.lemmas.encode.SeveralHeld.{state_after_all-none, state_after_all-cons, state_after_all-snoc, length-state_after_all}
@@ -157,6 +157,17 @@ whole_has_steps value coder held ys m0 m1 h room steps =
     let left : s.block * blocks_left s coder.start ≤ s.block * 64 = mul-le-mul_left s.block (some_left s coder.start h.coded.taken.holds.legal.interval_from).1 in
     let fits : m1 + coding_steps s < 2 ^ 62 = let all = steps_of_segment s in omega (arith, room, h.room, left, all, steps) in
     subst (λ s. m1 + coding_steps s < 2 ^ 62) (sym same) fits
+
+-- also behind the samples that fill the last block,
+pub filled_has_steps : (value coder held : CoderState) (m0 m1 : ℕ) → coder ≡ value → IsCoder coder → held ≡ state_with_fill coder (fill_count coder.setting (length coder.residuals)) → m0 + segment_steps value.setting < 2 ^ 62 →
+    m1 ≡ m0 + fill_count coder.setting (length coder.residuals) → m1 + coding_steps held.setting < 2 ^ 62
+filled_has_steps value coder held m0 m1 e k f room steps =
+    let s = coder.setting in
+    let some : 0 < s.block = grind (arith, k.taken.holds.legal.block) in
+    let few : fill_count s (length coder.residuals) < s.block = mod-lt (s.block - length coder.residuals % s.block) some in
+    let room : m0 + segment_steps s < 2 ^ 62 = subst (λ (v : CoderState). m0 + segment_steps v.setting < 2 ^ 62) (sym e) room in
+    let fits : m1 + coding_steps s < 2 ^ 62 = let all = steps_of_segment s in omega (arith, room, few, all, steps) in
+    subst (λ s. m1 + coding_steps s < 2 ^ 62) (sym (ap (λ (v : CoderState). v.setting) f)) fits
 
 -- and this is what the call does
 pub whole_pushes : (value coder held after : CoderState) (ys : List ℤ) (old new : List Bool) (n m0 m1 m2 : ℕ) → HoldsMore value coder held ys → IsWhole held → after ≡ state_after_segment held → CodesHeld held old new n m1 m2 → m1 ≡ m0 + length ys →

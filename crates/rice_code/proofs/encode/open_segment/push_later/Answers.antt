@@ -6,7 +6,7 @@ use Rattle.rice_code.proofs.lemmas.encode.SeveralHeld.{later_ranks, later_patter
 use Rattle.rice_code.proofs.encode.open_segment.push_later.Goals as goal
 
 pub returns-then-preprocess : goal.returns-then-preprocess
-returns-then-preprocess c =
+returns-then-preprocess g c =
     let s = c.args.setting.now in
     let p = c.args.previous in
     let levels = c.args.levels.now in
@@ -16,7 +16,7 @@ returns-then-preprocess c =
     c.push_residuals.ensures.value ∙ ap (λ v. c.args.segment.now ++ v) (plain ∙ sym ranked)
 
 pub returns-else-preprocess : goal.returns-else-preprocess
-returns-else-preprocess c =
+returns-else-preprocess g c =
     let s = c.args.setting.now in
     let levels = c.args.levels.now in
     let e : s.preprocess ≡ false = search rules in

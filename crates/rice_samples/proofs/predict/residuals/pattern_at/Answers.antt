@@ -1,6 +1,10 @@
-use Rattle.std.proofs.Common.{◌-◌, ap}
-use Rattle.rice_samples.proofs.lemmas.bytes.LevelPatterns.{pattern_at_level}
+use Rattle.std.proofs.Common.{◌-◌, ◌∙◌, ◌∷◌, [], ap, get_or, sym}
+use Rattle.rice_samples.proofs.lemmas.bytes.LevelPatterns.{pattern_at_level, unsigned_patterns}
 use Rattle.rice_samples.proofs.predict.residuals.pattern_at.Goals as goal
+
+pub returns-then-not-signed-clause-value : goal.returns-then-not-signed-clause-value
+returns-then-not-signed-clause-value c =
+    sym (ap (λ xs. get_or xs 0 0) (unsigned_patterns c.args.setting.now (c.args.level ∷ []) (sym c.signed.ensures ∙ c.if-not-signed.true)))
 
 pub returns-clause-value : goal.returns-clause-value
 returns-clause-value c =

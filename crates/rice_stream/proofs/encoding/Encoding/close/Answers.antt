@@ -1,4 +1,4 @@
-use Rattle.std.proofs.Common.{arith, ◌≡◌, ◌+◌, refl, sym, subst}
+use Rattle.std.proofs.Common.{arith, rules, ◌≡◌, ◌+◌, refl, sym, subst}
 use Rattle.rice_samples.specs.Parameters.{Parameters}
 use Rattle.rice_code.specs.code.Code.{code_bits}
 use Rattle.rice_code.specs.encode.Coder.{AddsCode, complete_samples, fill_samples}
@@ -6,14 +6,13 @@ use Rattle.rice_stream.specs.declared.outcome.Report.{Report}
 use Rattle.rice_stream.proofs.lemmas.EncodingLemmas.{all_small, counts_small, sink_short, closed}
 use Rattle.rice_stream.proofs.encoding.Encoding.close.Goals as goal
 
-pub finish_reset-bits-requires-clause-room : goal.finish_reset-bits-requires-clause-room
-finish_reset-bits-requires-clause-room c = sink_short c.requires.0 c.requires.1 c.requires.2 c.args.self.now c.requires.3 c.requires.4
-
-pub finish_reset-bits-requires-clause-meter : goal.finish_reset-bits-requires-clause-meter
-finish_reset-bits-requires-clause-meter c = let small = counts_small c.requires.0 _ c.requires.3 c.requires.4.counts in omega (arith, small.1, small.2, c.requires.5)
+pub finish_reset-bits-requires : goal.finish_reset-bits-requires
+finish_reset-bits-requires g c =
+    let small = counts_small c.requires.0 _ c.requires.3 c.requires.4.counts in
+    (search rules, (sink_short c.requires.0 c.requires.1 c.requires.2 c.args.self.now c.requires.3 c.requires.4, omega (arith, small.1, small.2, c.requires.5)))
 
 pub overflow_add-report : goal.overflow_add-report
-overflow_add-report c =
+overflow_add-report g c =
     let s = c.requires.0 in
     let xs = c.requires.3 in
     let k = c.requires.4.counts in
@@ -22,7 +21,7 @@ overflow_add-report c =
     omega (arith, all_small s c.args.self.now.coder xs k.setting k.stands, same, k.bits, c.requires.5)
 
 pub returns : goal.returns
-returns c s old now xs h =
+returns g c s old now xs h =
     let e = c.args.self.now in
     let f = c.finish_reset-bits in
     let r : Report = record { samples = e.samples; bits = e.bits + f.result; steps = c.steps.result } in

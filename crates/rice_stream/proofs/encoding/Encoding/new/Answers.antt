@@ -10,9 +10,9 @@ use Rattle.rice_stream.proofs.encoding.Encoding.new.Goals as goal
 
 pub returns : goal.returns
 unfolding whole_bytes
-returns c now =
+returns g c now =
     let s = c.args.setting in
-    let legal = subst IsLegal c.new.ensures.setting c.new.ensures.taken.holds.legal in
+    let legal = subst IsLegal c.begin.ensures.setting c.begin.ensures.taken.holds.legal in
     let j : 1 ≤ s.block = grind (arith, legal.block) in
     let none = ap (code s) (settled_nothing s) ∙ code_nothing s j in
     let steps = sets_nothing s j in
@@ -20,7 +20,7 @@ returns c now =
     let least : least_steps s (complete_samples s []) ≡ 0 = ap (least_steps s) (settled_nothing s) ∙ steps.1 in
     let most : most_steps s (complete_samples s []) ≡ 0 = ap (most_steps s) (settled_nothing s) ∙ steps.2 in
     record {
-      counts = record { setting = c.new.ensures.setting; stands = c.new.ensures.taken; samples = refl; bits = sym bits; least = omega (arith, c.new-3.ensures, least); most = omega (arith, c.new-3.ensures, most) };
-      sink = c.new-2.ensures ∙ ap (λ l. drop (bits_in_bytes (length l)) l) (sym none);
+      counts = record { setting = c.begin.ensures.setting; stands = c.begin.ensures.taken; samples = refl; bits = sym bits; least = omega (arith, c.new-2.ensures, least); most = omega (arith, c.new-2.ensures, most) };
+      sink = c.new.ensures ∙ ap (λ l. drop (bits_in_bytes (length l)) l) (sym none);
       took = subst (λ (l : List ℕ). Follows (afresh now) now l) (ap whole_bytes (sym none)) (Follows-nil now);
     }

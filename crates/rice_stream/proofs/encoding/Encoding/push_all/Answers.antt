@@ -1,4 +1,5 @@
-use Rattle.std.proofs.Common.{arith, ◌≡◌, ◌+◌, ◌-◌, ◌*◌, ◌<◌, ◌≤◌, ◌++◌, [], length, take, drop, refl, ap, sym, ◌∙◌, subst, append-nil, length-append, length-drop, take-append-drop, List, ℕ, ℤ, Err}
+use Rattle.std.proofs.Common.{arith, rules, ◌≡◌, ◌+◌, ◌-◌, ◌*◌, ◌<◌, ◌≤◌, ◌++◌, [], length, take, drop, refl, ap, sym, ◌∙◌, subst, append-nil, length-append, length-drop, take-append-drop, List, ℕ, ℤ, Err}
+use Rattle.std.proofs.Math.Nat.{mul-le-mul_left, mul-le-mul_right}
 use Rattle.std.proofs.Math.Seq.{take-add, take-length}
 use Rattle.std.proofs.lemmas.List.{length-take, length-take-le}
 use Rattle.rice_samples.specs.Parameters.{Parameters, width}
@@ -32,8 +33,18 @@ loop-at-init g c = record {
   room = refl;
 }
 
-pub push_part-requires-clause-ready : goal.push_part-requires-clause-ready
-push_part-requires-clause-ready g c =
+pub overflow_mul-most : goal.overflow_mul-most
+overflow_mul-most g c =
+    let most : c.width.result * length c.args.levels.now ≤ 4 * length c.args.levels.now = mul-le-mul_right (length c.args.levels.now) c.width.ensures.range.1 in
+    omega (arith, most, c.requires.some.1)
+
+pub loop-at-smaller : goal.loop-at-smaller
+loop-at-smaller g c =
+    let some : c.width.result * 1 ≤ c.width.result * length c.args.levels.now = mul-le-mul_left c.width.result c.requires.some.0 in
+    omega (arith, some, c.width.ensures.range.0, c.min-count.ensures, c.loop-at-test.true)
+
+pub push_part-requires : goal.push_part-requires
+push_part-requires g c =
     let s = c.args.setting.now in
     let bytes = c.args.bytes.now in
     let r = c.requires.ready in
@@ -44,7 +55,14 @@ push_part-requires-clause-ready g c =
     let few = few_more s h.more (take at bytes) h.rest h.reads (omega (arith, c.width.ensures.value, c.width.ensures.range)) in
     let all = length-take-le at bytes i.within in
     let part = length-take (at + count - at) (drop at bytes) in
-    (r.0, r.1 ++ h.more, h.holds, omega (arith, length-append r.1 h.more, few, all, part, length-drop at bytes, r.3, i.within))
+    let most : c.width.result * length c.args.levels.now ≡ width s * length c.args.levels.now = ap (λ v. v * length c.args.levels.now) c.width.ensures.value in
+    let room : width s * length c.loop-at.levels ≡ width s * length c.args.levels.now = ap (λ v. width s * v) i.room in (
+      search rules,
+      (
+        (r.0, r.1 ++ h.more, h.holds, omega (arith, length-append r.1 h.more, few, all, part, length-drop at bytes, r.3, i.within)),
+        (omega (arith, part, c.min-count.ensures, most, room), omega (arith, c.requires.writes, i.failures)),
+      ),
+    )
 
 pub loop-at-preserved : goal.loop-at-preserved
 loop-at-preserved g c =

@@ -1,4 +1,4 @@
-use Rattle.std.proofs.Common.{arith, ◌≡◌, ◌+◌, ◌-◌, ◌<◌, ◌++◌, length, take, drop, refl, ap, sym, ◌∙◌, subst, append_assoc, append-nil, length-append, length-drop, List, ℕ, ℤ}
+use Rattle.std.proofs.Common.{arith, rules, ◌≡◌, ◌+◌, ◌-◌, ◌<◌, ◌++◌, length, take, drop, refl, ap, sym, ◌∙◌, subst, append_assoc, append-nil, length-append, length-drop, List, ℕ, ℤ}
 use Rattle.std.specs.Prelude.{All}
 use Rattle.std.proofs.Math.Seq.{take-add, take-length}
 use Rattle.std.proofs.lemmas.List.{drop-map, length-take-le}
@@ -23,22 +23,27 @@ loop-at-init g c = record {
   failures = refl;
 }
 
-pub push-requires-clause-ready : goal.push-requires-clause-ready
-push-requires-clause-ready g c =
+pub push-requires : goal.push-requires
+push-requires g c =
     let k = c.requires.ready in
     let levels = c.args.levels.now in
     let samples = values_at k.setting levels in
     let at = c.loop-at.at in
     let i = c.loop-at.invariant in
-    let len = length-values k.setting levels in
-    record {
-      setting = k.setting;
-      start = k.start;
-      before = k.before ++ take at samples;
-      holds = i.holds k.setting k.start k.before k.holds;
-      legal = subst (All (λ l. l < value_count k.setting)) (sym (from at levels)) (All-drop (λ l. l < value_count k.setting) at levels k.legal);
-      few = omega (arith, k.few, length-append k.before (take at samples), length-take-le at samples (omega (arith, i.within, len)), ap length (from at levels), length-drop at levels, i.within);
-    }
+    let len = length-values k.setting levels in (
+      search rules,
+      (
+        record {
+          setting = k.setting;
+          start = k.start;
+          before = k.before ++ take at samples;
+          holds = i.holds k.setting k.start k.before k.holds;
+          legal = subst (All (λ l. l < value_count k.setting)) (sym (from at levels)) (All-drop (λ l. l < value_count k.setting) at levels k.legal);
+          few = omega (arith, k.few, length-append k.before (take at samples), length-take-le at samples (omega (arith, i.within, len)), ap length (from at levels), length-drop at levels, i.within);
+        },
+        (omega (arith, ap length (from at levels), length-drop at levels, c.loop-at-test.true), omega (arith, c.requires.writes, i.failures)),
+      ),
+    )
 
 pub returns-in-Err-clause-err : goal.returns-in-Err-clause-err
 returns-in-Err-clause-err g c s old xs h =

@@ -1,4 +1,4 @@
-use Rattle.std.proofs.Common.{arith, inl, inr, ◌≡◌, ◌+◌, ◌*◌, ◌/◌, ◌<◌, ◌≤◌, ◌++◌, length, take, drop, refl, ap, sym, ◌∙◌, subst, length-drop, ℕ, List, ℤ}
+use Rattle.std.proofs.Common.{arith, rules, inl, inr, ◌≡◌, ◌+◌, ◌*◌, ◌/◌, ◌<◌, ◌≤◌, ◌++◌, length, take, drop, refl, ap, sym, ◌∙◌, subst, length-drop, ℕ, List, ℤ}
 use Rattle.std.specs.Prelude.{All}
 use Rattle.std.proofs.Math.Nat.{div-add-mod, mod-lt, mul-le-mul_left}
 use Rattle.std.proofs.lemmas.Bool.{cases_lt}
@@ -40,23 +40,44 @@ levels_of-found-requires g c =
     let len : length (take count levels) ≡ count = length-take-le count levels fit in
     length-take-le (count * w) bytes (omega (arith, whole.0, whole.3)) ∙ (whole.3 ∙ ap (λ n. width s * n) (sym len))
 
-pub push_each-requires-clause-ready : goal.push_each-requires-clause-ready
-push_each-requires-clause-ready g c =
+pub slice_bounds-levels_of-end-2 : goal.slice_bounds-levels_of-end-2
+slice_bounds-levels_of-end-2 g c =
+    let w = c.width-width.result in
+    let e = c.width-width.ensures in
+    let bytes = c.args.bytes.now in
+    let whole = whole_samples (length bytes) w (width c.args.setting.now) e.value e.range.0 in
+    whole_fit (length bytes) w (width c.args.setting.now) (length c.args.levels.now) e.value e.range.0 whole.0 c.requires.room
+
+pub slice_bounds-levels_of-end-3 : goal.slice_bounds-levels_of-end-3
+slice_bounds-levels_of-end-3 g c =
+    let w = c.width-width.result in
+    let e = c.width-width.ensures in
+    let bytes = c.args.bytes.now in
+    let whole = whole_samples (length bytes) w (width c.args.setting.now) e.value e.range.0 in
+    sym (length-take-le (length bytes / w) c.args.levels.now (whole_fit (length bytes) w (width c.args.setting.now) (length c.args.levels.now) e.value e.range.0 whole.0 c.requires.room))
+
+pub push_each-requires : goal.push_each-requires
+push_each-requires g c =
     let s = c.args.setting.now in
     let f = c.levels_of-found in
     let zs = f.new.levels in
     let count = length c.args.bytes.now / c.width-width.result in
     let slice : take f.result (zs ++ drop count c.args.levels.now) ≡ take f.result zs = take-append-le f.result zs (drop count c.args.levels.now) f.ensures.count in
     let whole = whole_samples (length c.args.bytes.now) c.width-width.result (width s) c.width-width.ensures.value (omega (arith, c.width-width.ensures.range)) in
-    let r = c.requires.ready in
-    record {
-      setting = s;
-      start = r.0;
-      before = r.1;
-      holds = r.2;
-      legal = subst (All (λ l. l < value_count s)) (sym slice) f.ensures.legal;
-      few = omega (arith, r.3, ap length slice, length-take f.result zs, f.ensures.count, f.ensures.len, length-take count c.args.levels.now, whole.1);
-    }
+    let r = c.requires.ready in (
+      search rules,
+      (
+        record {
+          setting = s;
+          start = r.0;
+          before = r.1;
+          holds = r.2;
+          legal = subst (All (λ l. l < value_count s)) (sym slice) f.ensures.legal;
+          few = omega (arith, r.3, ap length slice, length-take f.result zs, f.ensures.count, f.ensures.len, length-take count c.args.levels.now, whole.1);
+        },
+        c.requires.writes,
+      ),
+    )
 
 pub returns-in-Err-clause-did : goal.returns-in-Err-clause-did
 returns-in-Err-clause-did g c old xs h =

@@ -5,7 +5,7 @@ use Rattle.rice_stream.proofs.lemmas.Seams.{seam_of}
 use Rattle.rice_stream.proofs.encoding.Encoding.seam.Goals as goal
 
 pub returns : goal.returns
-returns c s old now xs h all limit =
+returns g c s old now xs h all limit =
     let e = c.args.self.now in
     let fits : FitsSigned w64 c.previous.result = search rules in
     let seam : Seam = record { samples = e.samples; bits = e.bits; steps = c.steps.result; previous = to_z w64 (of_z w64 c.previous.result); start = c.start.result; waiting = c.waiting_number-waiting.result; waiting_bits = c.len-waiting_bits.result } in

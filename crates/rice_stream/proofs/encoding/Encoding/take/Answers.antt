@@ -1,4 +1,4 @@
-use Rattle.std.proofs.Common.{arith, ◌≡◌, ◌<◌, ◌∙◌, ◌+◌, ◌++◌, length, length-append, take, refl, ap, sym, subst, ℕ, ℤ, List}
+use Rattle.std.proofs.Common.{arith, rules, ◌≡◌, ◌<◌, ◌∙◌, ◌+◌, ◌++◌, length, length-append, take, refl, ap, sym, subst, ℕ, ℤ, List}
 use Rattle.std.specs.Prelude.{All}
 use Rattle.std.proofs.lemmas.List.{length-take-le, take-take}
 use Rattle.rice_samples.specs.Parameters.{Parameters, value_count, values_at}
@@ -10,26 +10,21 @@ use Rattle.rice_stream.specs.declared.encoding.Encoding.{Encoding}
 use Rattle.rice_stream.proofs.lemmas.EncodingLemmas.{counts_small, early_small, sink_short, taken_on}
 use Rattle.rice_stream.proofs.encoding.Encoding.take.Goals as goal
 
-of_setting : (s own : Parameters) (e : Encoding) (xs : List ℤ) (levels : List ℕ) (n : ℕ) → own ≡ s → TakesSamples s e xs (take n (values_at own levels)) → TakesSamples s e xs (take n (values_at s levels))
+of_setting : {N : ℕ} (s own : Parameters) (e : Encoding N) (xs : List ℤ) (levels : List ℕ) (n : ℕ) → own ≡ s → TakesSamples s e xs (take n (values_at own levels)) → TakesSamples s e xs (take n (values_at s levels))
 of_setting s own e xs levels n same h = subst (λ (t : Parameters). TakesSamples s e xs (take n (values_at t levels))) same h
 
-pub push_some-pushed-requires-clause-legal : goal.push_some-pushed-requires-clause-legal
-push_some-pushed-requires-clause-legal c = let can = c.requires.ready.1 in subst (λ (t : Parameters). All (λ l. l < value_count t) c.args.levels.now) (sym can.holds.counts.setting) can.legal
-
-pub push_some-pushed-requires-clause-room : goal.push_some-pushed-requires-clause-room
-push_some-pushed-requires-clause-room c = let can = c.requires.ready.1 in sink_short can.setting can.start c.requires.ready.0 _ can.before can.holds
-
-pub push_some-pushed-requires-clause-meter : goal.push_some-pushed-requires-clause-meter
-push_some-pushed-requires-clause-meter c =
+pub push_some-pushed-requires : goal.push_some-pushed-requires
+push_some-pushed-requires g c =
     let can = c.requires.ready.1 in
+    let legal = subst (λ (t : Parameters). All (λ l. l < value_count t) c.args.levels.now) (sym can.holds.counts.setting) can.legal in
     let small = counts_small can.setting _ can.before can.holds.counts in
-    omega (arith, small.1, small.2, can.few)
+    (search rules, (legal, (sink_short can.setting can.start c.requires.ready.0 _ can.before can.holds, omega (arith, small.1, small.2, can.few))))
 
 pub overflow_add-self : goal.overflow_add-self
-overflow_add-self c = let can = c.requires.ready.1 in omega (arith, can.holds.counts.samples, can.few, c.push_some-pushed.ensures.taken)
+overflow_add-self g c = let can = c.requires.ready.1 in omega (arith, can.holds.counts.samples, can.few, c.push_some-pushed.ensures.taken)
 
 pub overflow_add-self-2 : goal.overflow_add-self-2
-overflow_add-self-2 c =
+overflow_add-self-2 g c =
     let can = c.requires.ready.1 in
     let k = can.holds.counts in
     let p = c.push_some-pushed in
@@ -43,7 +38,7 @@ overflow_add-self-2 c =
     omega (arith, small, same, k.bits, can.few, length-append xs zs, len, p.ensures.taken)
 
 pub returns-clause-took : goal.returns-clause-took
-returns-clause-took c s old now xs h =
+returns-clause-took g c s old now xs h =
     let e = c.args.self.now in
     let p = c.push_some-pushed in
     let own = e.coder.setting in

@@ -1,13 +1,15 @@
-use Rattle.std.proofs.Common.{◌≡◌, ◌+◌, ◌*◌, ◌/◌, ◌^◌, ◌<◌, ◌∙◌, ap, arith, subst, sym}
+use Rattle.std.proofs.Common.{◌≡◌, ◌+◌, ◌*◌, ◌/◌, ◌^◌, ◌<◌, ◌∙◌, ap, arith, rules, subst, sym, ℕ}
 use Rattle.rice_code.specs.encode.OpenSegment.{CoderState, HoldsSoundBlocks, blocks_held}
 use Rattle.rice_code.specs.Bounds.{block_bound}
+use Rattle.rice_code.specs.code.SoundBlocks.{AreSoundBlocks}
+use Rattle.rice_code.specs.encode.HeldBlocks.{held_blocks}
 use Rattle.rice_code.specs.Steps.{coding_steps}
 use Rattle.rice_samples.specs.Parameters.{k_max, value_at}
 use Rattle.rice_code.proofs.lemmas.encode.OpenSegments.{few_bits, few_blocks, codes_held, segment_room, segment_meter}
 use Rattle.rice_code.proofs.encode.open_segment.OpenSegment.code.Goals as goal
 
-pub code_blocks-requires-clause-room : goal.code_blocks-requires-clause-room
-code_blocks-requires-clause-room c =
+pub code_blocks-requires : goal.code_blocks-requires
+code_blocks-requires g c =
     let i = c.self.inside in
     let s = i.setting in
     let st : CoderState = record { setting = i.setting; residuals = i.residuals; reference = i.reference; previous = value_at i.setting i.previous; start = i.start } in
@@ -18,10 +20,32 @@ code_blocks-requires-clause-room c =
     let few = (few_blocks st i.end c.self.invariant.1 blocks.whole).1 in
     let room = segment_room s (c.blocks_of-blocks.result) c.self.invariant.1.legal (omega (arith, n, few)) in
     let steps = segment_meter (c.blocks_of-blocks.result) (block_bound s) (s.block * (k_max s + 5)) c.args.meter.now _ (omega (arith, n, few)) bits meter in
-    record { room = omega (arith, bits, room, c.requires.room); steps = omega (arith, steps) }
+    let count = c.blocks_of-blocks.result in
+    let left = few_blocks st i.end c.self.invariant.1 blocks.whole in (
+      search rules,
+      (
+        c.self.invariant.1.place,
+        (
+          c.self.invariant.1.begins,
+          (
+            omega (arith, n, left.0),
+            (
+              blocks.whole ∙ ap (λ m. s.block * m) (sym n),
+              (
+                c.self.invariant.1.reference,
+                (
+                  subst (λ (m : ℕ). AreSoundBlocks s i.start (held_blocks s i.reference m i.residuals)) (sym n) blocks.sound,
+                  record { room = omega (arith, bits, room, c.requires.room); steps = omega (arith, steps) },
+                ),
+              ),
+            ),
+          ),
+        ),
+      ),
+    )
 
 pub returns : goal.returns
-returns c =
+returns g c =
     let i = c.self.inside in
     let st : CoderState = record { setting = i.setting; residuals = i.residuals; reference = i.reference; previous = value_at i.setting i.previous; start = i.start } in
     let n : c.blocks_of-blocks.result ≡ blocks_held st = c.blocks_of-blocks.ensures ∙ ap (λ l. l / i.setting.block) c.len.ensures.value in

@@ -1,4 +1,4 @@
-use Rattle.std.proofs.Common.{arith, ◌≡◌, ◌+◌, ◌-◌, ◌*◌, ◌%◌, ◌≤◌, ◌∙◌, ap, length, refl, length-append}
+use Rattle.std.proofs.Common.{arith, rules, ◌≡◌, ◌+◌, ◌-◌, ◌*◌, ◌%◌, ◌≤◌, ◌∙◌, ap, length, refl, length-append}
 use Rattle.std.proofs.Math.Nat.{mul-le-mul_left}
 use Rattle.std.proofs.lemmas.List.{length-replicate}
 use Rattle.rice_samples.specs.Places.{blocks_left}
@@ -6,17 +6,19 @@ use Rattle.rice_samples.proofs.lemmas.setting.PlaceLemmas.{some_left}
 use Rattle.rice_code.proofs.lemmas.encode.OpenSegments.{fill_room}
 use Rattle.rice_code.proofs.encode.open_segment.OpenSegment.fill.Goals as goal
 
-pub push_copies-requires-clause-room : goal.push_copies-requires-clause-room
-push_copies-requires-clause-room c =
+pub push_copies-requires : goal.push_copies-requires
+push_copies-requires g c =
     let s = c.self.inside.setting in
     let state = c.self.invariant.1 in
     let left = some_left s c.self.inside.start state.legal.interval_from in
     let room = fill_room (length c.self.inside.residuals) s.block (blocks_left s c.self.inside.start) (omega (arith, state.legal.block)) state.few in
-    let most : s.block * blocks_left s c.self.inside.start ≤ s.block * 64 = mul-le-mul_left s.block left.1 in
-    rw (c.block-size.ensures.value, c.len.ensures.value) (omega (arith, room, most, state.legal.block))
+    let most : s.block * blocks_left s c.self.inside.start ≤ s.block * 64 = mul-le-mul_left s.block left.1 in (
+      search rules,
+      (rw (c.block-size.ensures.value, c.len.ensures.value) (omega (arith, room, c.self.invariant.2 c.self.inside.start)), omega (arith, c.requires, c.block-size.ensures.range)),
+    )
 
 pub invariant_of-self : goal.invariant_of-self
-invariant_of-self c =
+invariant_of-self g c =
     let s = c.self.inside.setting in
     let state = c.self.invariant.1 in
     let n = length c.self.inside.residuals in
@@ -34,4 +36,5 @@ invariant_of-self c =
         reference = state.reference;
         ends = state.ends;
       },
+      c.self.invariant.2,
     )

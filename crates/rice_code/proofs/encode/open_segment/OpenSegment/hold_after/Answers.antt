@@ -9,7 +9,7 @@ use Rattle.rice_code.proofs.lemmas.encode.SeveralHeld.{open_later}
 use Rattle.rice_code.proofs.encode.open_segment.OpenSegment.hold_after.Goals as goal
 
 pub invariant_of-self : goal.invariant_of-self
-invariant_of-self c =
+invariant_of-self g c =
     let i = c.self.inside in
     let s = i.setting in
     let st : CoderState = record { setting = s; residuals = i.residuals; reference = i.reference; previous = value_at s i.previous; start = i.start } in
@@ -23,10 +23,11 @@ invariant_of-self c =
       legal (length levels - 1) 0 (omega (arith, c.requires.some)),
       subst (λ v. IsOpen (record { setting = s; residuals = c.push_later.new.segment; reference = i.reference; previous = v; start = i.start }) i.end) (sym last)
           (open_later st i.end p c.push_later.new.segment xs c.self.invariant.1 (sample_at s c.args.before within) c.push_later.ensures (legal_values s levels legal) (omega (arith, room, length-values s levels))),
+      c.self.invariant.2,
     )
 
 pub returns : goal.returns
-returns c =
+returns g c =
     let i = c.self.inside in
     let s = i.setting in
     let levels = c.args.levels.now in

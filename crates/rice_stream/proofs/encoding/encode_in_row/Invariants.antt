@@ -1,6 +1,6 @@
 use Rattle.std.proofs.Common.{◌≡◌, ◌-◌, ◌+◌, ◌^◌, length}
 use Rattle.rice_stream.specs.EncodingState.{EncodingProgress}
-use Rattle.rice_stream.proofs.encoding.encode.Given as goal
+use Rattle.rice_stream.proofs.encoding.encode_in_row.Given as goal
 
 abbrev pub invariant-fill_all : goal.invariant-fill_all
 invariant-fill_all g l = record {
