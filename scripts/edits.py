@@ -3,9 +3,12 @@
 
 What has to be shown of a function comes from its own body and from the contracts, types and constants that it names, never
 from another body. So edits of the bodies of different functions stand in one copy of the crate, and one check over the work
-that the crate's own check has kept tries them all. An edit is refused where a goal of its own function is open. That its
-function calls one that is not proved doesn't count: it is then tried in the next round. An edit that changes more than one
-body, or a constant, is tried alone. A check is of the functions that have to be judged, and of those that they call. Where the crate's must-fail/clauses.md names the clauses that an edit turns, a goal of each has to be open.
+that the crate's own check has kept tries them all. A further edit of one function stands in a twin of that, which has another
+name, the same contract and the same answers; but a method of a trait has no twin, so its edits take turns. An edit is refused
+where a goal of its own function is open. That its function calls one that is not proved doesn't count: it is then tried in the
+next round. An edit that changes more than one body, or a constant, is tried alone. A check is of the functions that have to be
+judged, and of those that they call. Where the crate's must-fail/clauses.md names the clauses that an edit turns, a goal of each
+has to be open.
 
 usage: edits [NAME ..]         the edits of these names, or of the crates of these names; all, if none is named
        edits --since COMMIT    the edits of functions whose text, definitions or proofs that commit, or one after it, changed
@@ -29,6 +32,8 @@ except ImportError as why:
 
 HEADER = re.compile(r"^(?:\./)?(\S+?):(\d+):\d+: (error|note|warning)\b|^note: (\S+?):(\d+):\d+: |^\S")
 PROOF_FILES = ("Answers.antt", "Invariants.antt", "Proof.antt")
+# How the names of twins end, which no other function's does.
+TWIN = "_twin"
 # Why a goal is open, first what says most of the edit.
 FALSE, OPEN, LIMIT, UNFIT, GONE = WHYS = [
     "values make it false", "no proof was found", "the prover gave up", "its answer does not fit", "a proof names what is gone",
@@ -56,10 +61,17 @@ class Edit:
     why: str
     function: edit_places.Function | None = None
     change: tuple = ()
+    # The number of the twin of its function that it stands in, or 0 for the function itself.
+    twin: int = 0
 
     @property
     def name(self):
         return f"{self.crate.name}/{os.path.basename(self.path)[: -len('.edit')]}"
+
+    @property
+    def judged_name(self):
+        """The name of the function, or of its twin, that this edit changes."""
+        return self.function.name + (f"{TWIN}{self.twin}" if self.twin else "")
 
     @property
     def clauses(self):
@@ -105,14 +117,39 @@ def edit_of(crate, path):
 
 
 def texts_with(edits):
-    """Returns the texts of files with all of these edits, each of the body of another function."""
-    texts = {}
+    """Returns the texts of files with all of these edits, each of the body of another function or twin, and the twins' answers."""
+    texts, answers = {}, {}
     for file in {it.function.file for it in edits}:
-        texts[file] = read(f"{edits[0].crate.folder}/{file}")
-        changes = [it.change[1:] for it in edits if it.function.file == file]
+        texts[file] = old = read(f"{edits[0].crate.folder}/{file}")
+        changes = [change_of(it, old) for it in edits if it.function.file == file]
         for first, last, text in sorted(changes, reverse=True):
             texts[file] = texts[file][:first] + text + texts[file][last:]
-    return texts
+    for it in edits:
+        answers.update(twin_answers(it) if it.twin else {})
+    return {**texts, **answers}
+
+
+def change_of(edit, text):
+    """Returns the places of its file's text that an edit replaces, and by what: for a twin that comes behind the function."""
+    first, last, new = edit.change[1:]
+    if not edit.twin:
+        return first, last, new
+    function = edit.function
+    start = sum(len(line) + 1 for line in text.split("\n")[: function.first - 1])
+    twin = text[start:first] + new + text[last : function.end]
+    name = function.name.split("::")[-1]
+    return function.end, function.end, re.sub(rf"\bfn {name}\b", f"fn {name}{TWIN}{edit.twin}", twin, count=1)
+
+
+def twin_answers(edit):
+    """Returns the texts of a twin's proof files, which are those of its function."""
+    path = "/".join(["proofs", *edit.function.name.split("::")[1:]])
+    module, found = path.replace("/", "."), {}
+    for name in PROOF_FILES:
+        if os.path.isfile(f"{edit.crate.folder}/{path}/{name}"):
+            text = read(f"{edit.crate.folder}/{path}/{name}")
+            found[f"{path}{TWIN}{edit.twin}/{name}"] = text.replace(f".{module}.", f".{module}{TWIN}{edit.twin}.")
+    return found
 
 
 def check(crate, texts, functions):
@@ -126,6 +163,7 @@ def check(crate, texts, functions):
                 how = "-al" if part == rtlib.KEPT[1] else "-a"
                 subprocess.run(["cp", how, f"{crate.folder}/{part}", f"{room}/{part}"], check=True)
         for file, text in texts.items():
+            os.makedirs(os.path.dirname(f"{room}/{file}"), exist_ok=True)
             with open(f"{room}/{file}", "w", encoding="utf-8") as it:
                 it.write(text)
         only = [word for it in functions for word in ("--only", it.split("::", 1)[1])]
@@ -188,21 +226,21 @@ def clause_of(goal):
 
 def refused(edit, goals):
     """Returns the verdict on an edit for which these goals are open: it tells them, first those that say most."""
-    is_open = {(it.function, clause_of(it)) for it in goals}
+    is_open = {(it.function.split(TWIN)[0], clause_of(it)) for it in goals}
     lost = [f"{function} {clause}" for function, clause in edit.clauses if (function, clause) not in is_open]
     if lost:
         return Verdict(False, f"NOT REFUSED FOR WHAT IT NAMES: no goal is open of {', '.join(lost)}")
     first = sorted(goals, key=lambda it: WHYS.index(it.why))
     names = dict.fromkeys(f"`{it.name}` ({it.why})" for it in first if it.function == first[0].function)
-    return Verdict(True, f"refused, as it must be: {first[0].function}: {', '.join([*names][:MOST])}")
+    return Verdict(True, f"refused, as it must be: {first[0].function.split(TWIN)[0]}: {', '.join([*names][:MOST])}")
 
 
 def judged(edit, texts, said):
     """Returns the verdict on an edit of one body, or None where its function was not judged for one that it calls."""
-    line = lines_of_functions(said).get(edit.function.name, "")
+    line = lines_of_functions(said).get(edit.judged_name, "")
     if line.startswith("proved"):
         return Verdict(False, f"NOT REFUSED: {edit.function.name} is proved with this edit")
-    goals = [it for it in goals_in(edit.crate, texts, said) if it.function == edit.function.name]
+    goals = [it for it in goals_in(edit.crate, texts, said) if it.function == edit.judged_name]
     if re.match(r"not proved|no proof", line) and goals:
         return refused(edit, goals)
     if re.search(r"it calls|it passes|a call of", line):
@@ -229,7 +267,7 @@ def tried_alone(edit):
 def tried_together(edits):
     """Returns the verdicts that one check gives on edits of different functions' bodies."""
     texts = texts_with(edits)
-    _, said = check(edits[0].crate, texts, {it.function.name for it in edits})
+    _, said = check(edits[0].crate, texts, {it.judged_name for it in edits})
     if has_verdict(said) and not any(rt.unread(it, texts) for it in said.split("\n")):
         return {it.path: judged(it, texts, said) for it in edits}
     if len(edits) == 1:
@@ -238,12 +276,23 @@ def tried_together(edits):
     return {**tried_together(edits[:half]), **tried_together(edits[half:])}
 
 
+def with_twins(edits):
+    """Returns those of these edits that one check can try, each in its function or in a twin of that."""
+    found, places = [], collections.Counter()
+    for it in edits:
+        it.twin = places[it.function.name]
+        if not it.twin or not it.function.trait:
+            found.append(it)
+            places[it.function.name] += 1
+    return found
+
+
 def tried(edits):
     """Returns the verdict on each edit of a crate that is proved, and has kept its work, by the edit's path."""
     found = {it.path: tried_alone(it) for it in edits if it.why or not it.function}
     left = [it for it in edits if it.path not in found]
     while left:
-        now = list({it.function.name: it for it in reversed(left)}.values())
+        now = with_twins(left)
         verdicts = tried_together(now)
         found.update({path: it for path, it in verdicts.items() if it})
         if not any(verdicts.values()):

@@ -7,7 +7,6 @@ is another one, whose `rt` can't have its parts replaced like this, it is `rt ci
 
 usage: gate
 """
-import collections
 import os
 import re
 import shutil
@@ -27,7 +26,9 @@ CONTROLS = "scripts/edit_controls"
 # What the last run said, for scripts/release.
 RECORD = "out/gate.txt"
 # The most that a check of a crate's edits has been seen to take, in bytes, and some more.
-MEMORY_OF_EDITS = 2_000_000_000
+MEMORY_OF_EDITS = 2_500_000_000
+# The most edits of one part.
+EDITS_OF_PART = 40
 
 
 def in_lanes(run_tasks, tried):
@@ -48,15 +49,13 @@ def in_lanes(run_tasks, tried):
 
 
 def parts_of(crate, paths):
-    """Returns a crate's edits in parts that can be tried side by side, the largest first: each of those that are tried alone, and of
-    the others those that are the first of their function, the second, and so on."""
-    places, parts = collections.Counter(), {}
+    """Returns a crate's edits in parts that can be tried side by side, the largest first: each of those that are tried alone, and
+    the others some at a time, since each check reads all below it first."""
+    alone, others = [], []
     for path in paths:
-        function = edits.edit_of(crate, path).function
-        if function:
-            places[function.name] += 1
-        parts.setdefault(places[function.name] if function else path, []).append(path)
-    return sorted(parts.values(), key=len, reverse=True)
+        (others if edits.edit_of(crate, path).function else alone).append(path)
+    count = -(-len(others) // EDITS_OF_PART)
+    return [*(others[it::count] for it in range(count)), *([it] for it in alone)]
 
 
 def add_parts(tasks, crate, paths, waits, is_well):
