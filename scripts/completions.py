@@ -88,7 +88,7 @@ def options_of(program):
     """The options of a program, by its help."""
     told = subprocess.run([program, "--help"], capture_output=True, text=True, check=True).stdout
     lines = [line.split("  ")[0] for line in re.findall(r"(?m)^ +(-.*)$", told)]
-    return [option for line in lines for option in re.findall(r"--?[A-Za-z0-9]+", line)]
+    return [option for line in lines for option in re.findall(r"--?[A-Za-z0-9][\w-]*", line)]
 
 
 def try_shell(name, program, prefix, folder):
@@ -98,7 +98,7 @@ def try_shell(name, program, prefix, folder):
         words = shell.words(keys)
         if words != wanted:
             wrong.append(f"{name}: aec {keys!r} becomes {words}")
-    offered = re.findall(r"(?<![\w-])--?\w+", shell.offers("-"))
+    offered = re.findall(r"(?<![\w-])--?\w[\w-]*", shell.offers("-"))
     wrong += [f"{name}: {option} is not offered" for option in options_of(program) if option not in offered]
     shell.close()
     return wrong
