@@ -3,12 +3,12 @@
 
 What has to be shown of a function comes from its own body and from the contracts, types and constants that it names, never
 from another body. So edits of the bodies of different functions stand in one copy of the crate, and one check over the work
-that the crate's own check has kept tries them all. A further edit of one function stands in a twin of that, which has another
-name, the same contract and the same answers; but a method of a trait has no twin, so its edits take turns. An edit is refused
-where a goal of its own function is open. That its function calls one that is not proved doesn't count: it is then tried in the
-next round. An edit that changes more than one body, or a constant, is tried alone. A check is of the functions that have to be
-judged, and of those that they call. Where the crate's must-fail/clauses.md names the clauses that an edit turns, a goal of each
-has to be open.
+that the crate's own check has kept tries them all. Each edit stands in a twin of its function, which has another name, the same
+contract and the same answers, so that what calls the function goes on to call what is proved. But a method of a trait has no
+twin: its edits take turns in the method itself. An edit is refused where a goal of its own function is open. That its function
+calls one that is not proved doesn't count: it is then tried in the next round. An edit that changes more than one body, or a
+constant, is tried alone. A check is of the functions that have to be judged, and of those that they call. Where the crate's
+must-fail/clauses.md names the clauses that an edit turns, a goal of each has to be open.
 
 usage: edits [NAME ..]         the edits of these names, or of the crates of these names; all, if none is named
        edits --since COMMIT    the edits of functions whose text, definitions or proofs that commit, or one after it, changed
@@ -277,13 +277,13 @@ def tried_together(edits):
 
 
 def with_twins(edits):
-    """Returns those of these edits that one check can try, each in its function or in a twin of that."""
+    """Returns those of these edits that one check can try, each in a twin of its function, or in a method of a trait itself."""
     found, places = [], collections.Counter()
     for it in edits:
-        it.twin = places[it.function.name]
-        if not it.twin or not it.function.trait:
+        places[it.function.name] += 1
+        it.twin = 0 if it.function.trait else places[it.function.name]
+        if it.twin or places[it.function.name] == 1:
             found.append(it)
-            places[it.function.name] += 1
     return found
 
 
