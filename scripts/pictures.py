@@ -139,6 +139,36 @@ def table_of(page, head):
     return [cell.strip() for cell in lines[at].strip("|").split("|")], rows
 
 
+def house():
+    """The way of the data through the crates, in both directions, and which crate stands on which."""
+    axes = canvas(900, 470)
+    fills = {"rice_bits": PALE, "rice_samples": LIGHT, "rice_code": MIDDLE}
+    ways = [
+        ("encode", 395, "-|>", ("bytes", "levels", "residuals of a\nsegment", "an option for\neach block", "fields", "bits", "bytes"),
+         ("levels_of", "push_some", "search", "options", "BitBuffer", "write_whole")),
+        ("decode", 265, "<|-", ("bytes", "levels of a\nblock", "residuals of a\nblock", "a coded\ndata set", "words and\nsequences", "bits", "bytes"),
+         ("write_block", "restoring", "options", "fields", "BitReader", "Intake")),
+    ]
+    owners = (None, "rice_samples", "rice_samples", "rice_code", "rice_code", "rice_bits", None)
+    for name, y, style, stages, steps in ways:
+        label(axes, 15, y + 45, name, weight="bold")
+        for i, (text, owner) in enumerate(zip(stages, owners)):
+            box(axes, 15 + 127 * i, y - 20, 92, 44, text, fill=fills.get(owner, "white"), size=9)
+        for i, text in enumerate(steps):
+            arrow(axes, (107 + 127 * i, y + 2), (142 + 127 * i, y + 2), style)
+            label(axes, 124 + 127 * i, y - 32, text, size=8, align="center", style="italic")
+    label(axes, 15, 205, "what is decoded in one pass goes from bits to bytes with nothing stored between (next_bytes)", size=9, style="italic")
+    label(axes, 15, 165, "which crate stands on which", weight="bold")
+    for i, (name, text) in enumerate((("rice_bits", "bits, devices,\nmeter"), ("rice_samples", "samples,\nresiduals"), ("rice_code", "coder,\ndecoder"), ("rice_stream", "bytes to\nbytes"))):
+        box(axes, 15 + 160 * i, 60, 120, 64, f"{name}\n{text}", fill=fills.get(name, "white"), size=9)
+        if i:
+            arrow(axes, (15 + 160 * i, 92), (135 + 160 * (i - 1), 92))
+    for y, name, text in ((100, "aec_tool", "the command"), (36, "rice_c", "librice, for C: compat and\nPython stand on it")):
+        box(axes, 660, y, 225, 52, f"{name}\n{text}", fill="white", size=9)
+        arrow(axes, (660, y + 26), (615, 92))
+    label(axes, 15, 20, "An arrow goes to what is used. Each crate may use those to its left.", size=9, style="italic")
+
+
 def memory():
     """The stack of a call, measured and stated."""
     _, rows = table_of("docs/EMBEDDING.md", "| call | stack")
@@ -245,7 +275,7 @@ def choosing():
     choose.draw(trials, 8 << 20, os.path.join(OUT, "choosing.svg"))
 
 
-PICTURES = {"way": way, "bytes": fields, "push": push, "memory": memory, "places": places, "benchmarks": ratios, "others": others}
+PICTURES = {"way": way, "bytes": fields, "push": push, "house": house, "memory": memory, "places": places, "benchmarks": ratios, "others": others}
 
 
 def draw_all():
