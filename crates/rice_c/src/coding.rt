@@ -1,5 +1,5 @@
 //! Encoding and decoding, from memory to memory.
-ghost use Rattle.std.specs.Prelude.{◌≡◌, ◌≢◌, ℕ, ◌*◌, ◌/◌, ◌^◌, ◌<◌, ◌≤◌, length, IfOk, IfErr, Option, Some, None};
+ghost use Rattle.std.specs.Prelude.{◌≡◌, ◌≢◌, ◌*◌, ◌/◌, ◌<◌, ◌≤◌, length, IfOk, IfErr, Option, Some, None};
 ghost use Rattle.rice_bits.specs.device.Slice.{slice_left, slice_state, slice_failures};
 ghost use Rattle.rice_samples.specs.Parameters.{width};
 ghost use Rattle.rice_stream.specs.Calls.{Call, Happens, Fails};

@@ -1,11 +1,11 @@
 //! Decoding piece by piece, for a caller that has not all of a code, or no room for all samples. All that is kept lies in the
 //! caller's memory.
-ghost use Rattle.std.specs.Prelude.{◌≡◌, ℕ, ◌+◌, ◌*◌, ◌/◌, ◌%◌, ◌^◌, ◌≤◌, Bool, true, false, List, IfOk, IfErr, ℤ};
+ghost use Rattle.std.specs.Prelude.{◌≡◌, Bool, true, false, List, IfOk, IfErr, ℤ};
 ghost use Rattle.rice_stream.specs.Pulling.{Beginning, IsStand, at_front};
 ghost use Rattle.rice_c.specs.Asked.{setting_asked};
 ghost use Rattle.rice_c.specs.Calls.{Refuses};
 ghost use Rattle.rice_c.specs.Drains.{CanBegin, Opens, PullsInto};
-ghost use Rattle.rice_c.specs.Statuses.{number_of, pause_status as pause_status_of, pause_place as pause_place_of, refusal_status as refusal_status_of};
+ghost use Rattle.rice_c.specs.Statuses.{number_of, refusal_status as refusal_status_of};
 ghost use Rattle.rice_c.specs.declared.status.Status.TheVariants.{BadPlace};
 
 use crate::report::RiceReport;

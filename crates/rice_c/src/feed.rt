@@ -1,11 +1,10 @@
 //! Encoding piece by piece, for a caller that has no room for all samples. All that is kept lies in the caller's memory.
-ghost use Rattle.std.specs.Prelude.{◌≡◌, ◌≢◌, ℕ, ◌/◌, ◌^◌, ◌<◌, ◌≤◌, length, List, [], Some, IfOk, IfErr, ℤ};
+ghost use Rattle.std.specs.Prelude.{◌≡◌, ◌≢◌, ◌/◌, ◌^◌, ◌<◌, ◌≤◌, length, List, Some, IfOk, IfErr, ℤ};
 ghost use Rattle.rice_bits.specs.device.Slice.{slice_state, slice_failures};
 ghost use Rattle.rice_stream.specs.Calls.{Fails};
 ghost use Rattle.rice_stream.specs.Encodes.{EncodesWithin};
 ghost use Rattle.rice_stream.specs.EncodingState.{PushFails};
 ghost use Rattle.rice_stream.specs.Feeding.{IsSeam, EncodesMore, EncodesRest};
-ghost use Rattle.rice_stream.specs.declared.outcome.Fault.TheVariants.{Read};
 ghost use Rattle.rice_c.specs.Asked.{setting_asked};
 ghost use Rattle.rice_c.specs.Calls.{Refuses};
 ghost use Rattle.rice_c.specs.Feeds.{Begins, PushesInto, FinishesInto, report_of_seam};

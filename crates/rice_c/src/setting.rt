@@ -1,5 +1,5 @@
 //! The setting as C gives it, and what follows from it alone.
-ghost use Rattle.std.specs.Prelude.{◌≡◌, ℕ, ◌^◌, ◌<◌, ◌≤◌, IsOk, IfOk, IfErr};
+ghost use Rattle.std.specs.Prelude.{◌≡◌, ◌^◌, ◌<◌, ◌≤◌, IfOk, IfErr};
 ghost use Rattle.rice_samples.specs.Parameters.{IsLegal, width};
 ghost use Rattle.rice_code.specs.Bounds.{step_bound};
 ghost use Rattle.rice_c.specs.Asked.{setting_asked};

@@ -1,5 +1,5 @@
 //! How a call ended, as C sees it.
-ghost use Rattle.std.specs.Prelude.{◌≡◌, ◌≢◌, ℕ, Some, Option};
+ghost use Rattle.std.specs.Prelude.{◌≡◌, ◌≢◌, Some, Option};
 ghost use Rattle.rice_stream.specs.declared.outcome.Fault.TheVariants.{Read};
 ghost use Rattle.rice_c.specs.Statuses.{refusal_status as refusal_status_of, fault_status as fault_status_of, fault_place as fault_place_of, pause_status as pause_status_of, pause_place as pause_place_of};
 

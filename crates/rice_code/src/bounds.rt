@@ -1,5 +1,5 @@
 //! Bounds on the bits and steps of coding.
-ghost use Rattle.std.specs.Prelude.{◌≡◌, ℕ, ◌^◌, ◌≤◌};
+ghost use Rattle.std.specs.Prelude.{◌≡◌, ◌^◌, ◌≤◌};
 ghost use Rattle.rice_samples.specs.Places.{block_count as blocks_of};
 ghost use Rattle.rice_code.specs.Bounds.{block_bound as most_of_block, bit_bound as most_bits, padded_bound as most_padded_bits, added_bound as most_added_bits, set_bound as most_of_set, step_bound as most_steps};
 

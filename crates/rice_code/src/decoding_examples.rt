@@ -1,5 +1,5 @@
 //! Worked examples of decoding: bytes, the samples that they are decoded to, how it ends, and how many bits are used.
-ghost use Rattle.std.specs.Prelude.{[], ◌∷◌, ◌++◌, replicate, ℤ, pos, true, None, Some};
+ghost use Rattle.std.specs.Prelude.{[], ◌∷◌, ◌++◌, replicate, pos, true, None, Some};
 ghost use Rattle.rice_bits.specs.Bits.{bits_of};
 ghost use Rattle.rice_samples.specs.Examples.{defaults, unprocessed_defaults, one_bit_defaults};
 ghost use Rattle.rice_code.specs.code.Decoded.{Decoded, Reached, Ended, CutOff, Past, Large};

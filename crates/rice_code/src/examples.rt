@@ -1,7 +1,7 @@
 //! Worked examples of the definitions, which the check computes: samples, the bytes that carry their code, and its number of bits.
 #![tactic(auto, unfolding(rice_bits::specs::Bits::word, rice_bits::specs::Bits::number_of, rice_bits::specs::Bits::bits_of, rice_bits::specs::Bits::whole_bytes))]
 
-ghost use Rattle.std.specs.Prelude.{◌≡◌, [], ◌∷◌, ◌++◌, length, replicate, ℤ, pos, negsuc, true, false, None, Some};
+ghost use Rattle.std.specs.Prelude.{◌≡◌, [], ◌∷◌, ◌++◌, length, replicate, pos, negsuc, true, false, None};
 ghost use Rattle.rice_bits.specs.Bits.{fundamental_sequence};
 ghost use Rattle.rice_samples.specs.Examples.{defaults, signed_defaults, unprocessed_defaults, one_bit_defaults};
 ghost use Rattle.rice_code.specs.code.Blocks.{block_data};

@@ -1,9 +1,9 @@
 //! From samples to their code.
-ghost use Rattle.std.specs.Prelude.{◌≡◌, ℕ, ◌+◌, ◌-◌, ◌*◌, ◌%◌, ◌^◌, ◌<◌, ◌≤◌, List, [], ◌++◌, length, take, drop, All, true, Option, Some, OnOk, OnErr, IfOk, ℤ};
+ghost use Rattle.std.specs.Prelude.{◌≡◌, ◌+◌, ◌-◌, ◌*◌, ◌^◌, ◌<◌, ◌≤◌, List, [], ◌++◌, length, take, drop, true, Option, Some, OnOk, OnErr, IfOk, ℤ};
 ghost use Rattle.std.specs.Io.KnownBytes.{IsAtEnd, Keeps};
 ghost use Rattle.rice_bits.specs.device.Device.{CountsFailure};
-ghost use Rattle.rice_bits.specs.device.Outlet.{Room, Appends};
-ghost use Rattle.rice_bits.specs.Bits.{bits_in_bytes, padded_bits};
+ghost use Rattle.rice_bits.specs.device.Outlet.{Room};
+ghost use Rattle.rice_bits.specs.Bits.{padded_bits};
 ghost use Rattle.rice_samples.specs.Parameters.{Parameters, values_at, width};
 ghost use Rattle.rice_stream.specs.Calls.{Call, Happens, Fails};
 ghost use Rattle.rice_stream.specs.Encodes.{Encodes, EncodesWithin, ReportsTaken, ReportsAll};

@@ -1,5 +1,5 @@
 //! Where the code of whole segments ends, and that of the next segment begins.
-ghost use Rattle.std.specs.Prelude.{◌≡◌, ℕ, ◌+◌, ◌-◌, ◌*◌, ◌/◌, ◌^◌, ◌<◌, ◌≤◌, [], length};
+ghost use Rattle.std.specs.Prelude.{◌≡◌, ◌-◌, ◌^◌, ◌<◌, [], length};
 ghost use Rattle.rice_bits.specs.Bits.{word};
 
 use rice_bits::BitSink;

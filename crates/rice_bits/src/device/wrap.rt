@@ -1,5 +1,5 @@
 //! Devices over the readers and writers of `std`.
-ghost use Rattle.std.specs.Prelude.{◌≡◌, ◌+◌};
+ghost use Rattle.std.specs.Prelude.{◌≡◌};
 
 use crate::device::{Intake, Outlet, ReadFault, WriteFault};
 use std::io::{Read, Write};

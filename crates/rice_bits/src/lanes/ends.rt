@@ -1,5 +1,5 @@
 //! The ends of the fundamental sequences in a word, in lanes.
-ghost use Rattle.std.specs.Prelude.{◌≡◌, ℕ, ◌+◌, ◌-◌, ◌*◌, ◌<◌, ◌≤◌, ◌++◌, length, replicate, take, drop};
+ghost use Rattle.std.specs.Prelude.{◌≡◌, ◌+◌, ◌-◌, ◌*◌, ◌<◌, ◌≤◌, ◌++◌, length, replicate, take, drop};
 ghost use Rattle.rice_bits.specs.Bits.{word};
 ghost use Rattle.rice_bits.specs.read.Ones.{ends_after};
 ghost use Rattle.rice_bits.specs.lanes.Ends.{in_lanes, places_behind as places_behind_of};

@@ -1,5 +1,5 @@
 //! Tables of the ends of the fundamental sequences in a byte, one for each place of the byte in a word.
-ghost use Rattle.std.specs.Prelude.{◌≡◌, ◌*◌, ◌<◌};
+ghost use Rattle.std.specs.Prelude.{◌≡◌, ◌<◌};
 ghost use Rattle.rice_bits.specs.lanes.Ends.{row_of_place};
 
 /// For each place of a byte and each byte, the number of bits of the word up to and including each 1 of the byte, and then zeros.

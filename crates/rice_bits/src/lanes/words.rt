@@ -1,5 +1,5 @@
 //! Eight or sixteen words of a few bits at a time, from any bit of a slice on.
-ghost use Rattle.std.specs.Prelude.{◌≡◌, ℕ, ◌+◌, ◌-◌, ◌*◌, ◌/◌, ◌%◌, ◌^◌, ◌<◌, ◌≤◌, ◌++◌, All, drop, flat_map, length, map, slice_index, take};
+ghost use Rattle.std.specs.Prelude.{◌≡◌, ◌+◌, ◌-◌, ◌*◌, ◌/◌, ◌^◌, ◌<◌, ◌≤◌, ◌++◌, All, drop, flat_map, length, map, slice_index, take};
 ghost use Rattle.rice_bits.specs.Bits.{bits_of, word};
 ghost use Rattle.rice_bits.specs.read.ShortWords.{eight};
 ghost use Rattle.rice_bits.specs.lanes.Words.{pair_number, factors, places};

@@ -1,5 +1,5 @@
 //! Numbers from their high parts, which fundamental sequences spell, and their low parts, which are words.
-ghost use Rattle.std.specs.Prelude.{◌≡◌, ◌+◌, ◌*◌, ◌/◌, ◌%◌, ◌^◌, ◌<◌, ◌≤◌, All, length};
+ghost use Rattle.std.specs.Prelude.{◌≡◌, ◌+◌, ◌*◌, ◌%◌, ◌^◌, ◌<◌, ◌≤◌, All, length};
 ghost use Rattle.rice_bits.specs.read.Parts.{AreWritten, joined_parts};
 ghost use Rattle.rice_bits.specs.read.Window.{buffer_len, most_waiting};
 

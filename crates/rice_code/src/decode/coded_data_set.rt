@@ -1,7 +1,5 @@
 //! Reads one coded data set.
-ghost use Rattle.std.specs.Prelude.{◌≡◌, ℕ, ◌+◌, ◌-◌, ◌*◌, ◌/◌, ◌^◌, ◌<◌, ◌≤◌, Bool, true, false, List, ◌++◌, ◌∷◌, length, None, IfOk, IfErr};
-ghost use Rattle.rice_bits.specs.read.Reader.{Takes, Stops};
-ghost use Rattle.rice_samples.specs.Parameters.{id_len};
+ghost use Rattle.std.specs.Prelude.{◌≡◌, ◌-◌, ◌<◌, length, None, IfOk, IfErr};
 ghost use Rattle.rice_code.specs.decode.Fields.{HasRoom, AreCounted};
 ghost use Rattle.rice_code.specs.decode.ReadSets.{LowRead, LowCut, SetRead, SetCut};
 

@@ -1,6 +1,5 @@
 //! Reads rows of words and of fundamental sequences.
-ghost use Rattle.std.specs.Prelude.{◌≡◌, ℕ, ◌+◌, ◌-◌, ◌*◌, ◌/◌, ◌^◌, ◌<◌, ◌≤◌, Bool, true, false, List, [], ◌++◌, length, replicate, take, sum, All, None, IfOk, IfErr, OnOk};
-ghost use Rattle.rice_bits.specs.Bits.{word, fundamental_sequence};
+ghost use Rattle.std.specs.Prelude.{◌≡◌, ℕ, ◌+◌, ◌-◌, ◌*◌, ◌/◌, ◌^◌, ◌<◌, ◌≤◌, Bool, true, false, List, length, replicate, take, sum, All, None, IfOk, IfErr, OnOk};
 ghost use Rattle.rice_bits.specs.read.Reader.{Stops};
 ghost use Rattle.rice_samples.specs.blocks.Pairs.{pair_codes};
 ghost use Rattle.rice_code.specs.decode.Fields.{HasRoom, AreCounted, WordRow, CountRow, CountsRead, PairRow, PairsTaken, ones};

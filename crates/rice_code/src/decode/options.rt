@@ -1,10 +1,9 @@
 //! Reads what follows an identifier: a block by each option, or a run.
-ghost use Rattle.std.specs.Prelude.{◌≡◌, ℕ, ◌+◌, ◌-◌, ◌*◌, ◌/◌, ◌^◌, ◌<◌, ◌≤◌, Bool, true, false, List, [], ◌++◌, length, take, drop, Option, None, IfOk, IfErr};
+ghost use Rattle.std.specs.Prelude.{◌≡◌, ℕ, ◌+◌, ◌-◌, ◌/◌, ◌^◌, ◌<◌, ◌≤◌, Bool, true, List, ◌++◌, length, take, drop, Option, None, IfOk, IfErr};
 ghost use Rattle.rice_bits.specs.read.Reader.{Takes, Stops};
-ghost use Rattle.rice_samples.specs.Parameters.{Parameters, IsLegal, k_max};
+ghost use Rattle.rice_samples.specs.Parameters.{k_max};
 ghost use Rattle.rice_samples.specs.Places.{is_reference};
-ghost use Rattle.rice_code.specs.code.Blocks.{BlockData};
-ghost use Rattle.rice_code.specs.code.CodedDataSets.{NoCompression, SecondExtension, Split, reference_bits, no_compression_tail, second_extension_tail, split_tail, run_tail};
+ghost use Rattle.rice_code.specs.code.CodedDataSets.{NoCompression, SecondExtension, Split, reference_bits, run_tail};
 ghost use Rattle.rice_code.specs.code.Forms.{IsReference};
 ghost use Rattle.rice_code.specs.decode.Fields.{HasRoom, AreCounted};
 ghost use Rattle.rice_code.specs.decode.ReadSets.{BlockRead, BlockCut, PartsRead, PartsCut, reference_place};

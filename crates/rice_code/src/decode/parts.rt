@@ -1,5 +1,5 @@
 //! Reads the high and the low parts of residuals.
-ghost use Rattle.std.specs.Prelude.{◌≡◌, ℕ, ◌+◌, ◌-◌, ◌*◌, ◌/◌, ◌%◌, ◌^◌, ◌<◌, ◌≤◌, Bool, true, false, List, [], ◌++◌, length, None, IfNone, IfSome, IfOk, IfErr};
+ghost use Rattle.std.specs.Prelude.{◌≡◌, ◌+◌, ◌-◌, ◌*◌, ◌/◌, ◌^◌, ◌<◌, ◌≤◌, length, None, IfNone, IfSome, IfOk, IfErr};
 ghost use Rattle.rice_code.specs.decode.Fields.{HasRoom};
 ghost use Rattle.rice_code.specs.decode.ReadSets.{PartsRead, PartsCut};
 

@@ -1,5 +1,5 @@
 //! Joins the parts of residuals, and says whether residuals are sound.
-ghost use Rattle.std.specs.Prelude.{◌≡◌, ℕ, ◌+◌, ◌-◌, ◌*◌, ◌/◌, ◌^◌, ◌<◌, ◌≤◌, true, false, List, length, slice_index, OnSome, All};
+ghost use Rattle.std.specs.Prelude.{◌≡◌, ◌-◌, ◌/◌, ◌^◌, ◌<◌, ◌≤◌, true, false, length, slice_index, OnSome, All};
 ghost use Rattle.rice_bits.specs.read.Parts.{joined_parts};
 
 /// Joins each high part with the low part of k bits at its place, and writes the residual there.

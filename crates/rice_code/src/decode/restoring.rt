@@ -1,8 +1,8 @@
 //! Restores the samples of a block, by their levels.
-ghost use Rattle.std.specs.Prelude.{◌≡◌, ℕ, ◌+◌, ◌-◌, ◌*◌, ◌/◌, ◌^◌, ◌<◌, ◌≤◌, ◌==◌, Bool, true, false, List, length, replicate, All, IfSome, IfNone, is_some};
+ghost use Rattle.std.specs.Prelude.{◌≡◌, ◌-◌, ◌<◌, ◌≤◌, true, length, replicate, All, IfSome, IfNone, is_some};
 ghost use Rattle.rice_samples.specs.Parameters.{IsLegal, value_at, value_count, values_at};
 ghost use Rattle.rice_samples.specs.predict.Residuals.{pattern, last_of};
-ghost use Rattle.rice_code.specs.code.Blocks.{BlockData, block_data, zero_block};
+ghost use Rattle.rice_code.specs.code.Blocks.{block_data, zero_block};
 ghost use Rattle.rice_code.specs.code.SoundBlocks.{block_with};
 ghost use Rattle.rice_code.specs.code.Forms.{IsReference, IsBlock, IsZeroAtReference, AllFit};
 ghost use Rattle.rice_code.specs.decode.Restored.{residual_at};

@@ -1,5 +1,5 @@
 //! A buffer of bits, which puts several fields into a sink at once.
-ghost use Rattle.std.specs.Prelude.{◌≡◌, ℕ, ◌+◌, ◌*◌, ◌^◌, ◌<◌, ◌≤◌, ◌++◌, [], length};
+ghost use Rattle.std.specs.Prelude.{◌≡◌, ◌+◌, ◌^◌, ◌<◌, ◌≤◌, ◌++◌, [], length};
 ghost use Rattle.rice_bits.specs.Bits.{word, fundamental_sequence, put_width};
 ghost use Rattle.rice_code.specs.encode.BitBuffer.{HasRoomFor, AddsFields};
 

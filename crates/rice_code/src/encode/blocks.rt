@@ -1,15 +1,13 @@
 //! Coding the blocks of a segment, one by one.
-ghost use Rattle.std.specs.Prelude.{◌≡◌, ℕ, ◌+◌, ◌-◌, ◌*◌, ◌/◌, ◌^◌, ◌<◌, ◌≤◌, ◌++◌, [], ◌∷◌, min, true, false, length, sum_by, Some, None, IfSome, if◌then◌else◌};
+ghost use Rattle.std.specs.Prelude.{◌≡◌, ◌+◌, ◌-◌, ◌*◌, ◌^◌, ◌<◌, ◌≤◌, ◌++◌, true, false, length, Some, None, IfSome, if◌then◌else◌};
 ghost use Rattle.rice_samples.specs.Parameters.{k_max, value_count};
 ghost use Rattle.rice_samples.specs.Places.{begins_segment, blocks_left, place};
 ghost use Rattle.rice_code.specs.code.Blocks.{is_zero_block};
-ghost use Rattle.rice_code.specs.code.CodedDataSets.{cost, bits_of_set, bits_of_sets};
-ghost use Rattle.rice_code.specs.code.Code.{data_sets};
-ghost use Rattle.rice_code.specs.code.Choice.{shortest, best_split};
+ghost use Rattle.rice_code.specs.code.CodedDataSets.{cost};
+ghost use Rattle.rice_code.specs.code.Choice.{shortest};
 ghost use Rattle.rice_code.specs.encode.BitBuffer.{HasRoomFor};
 ghost use Rattle.rice_code.specs.encode.HeldBlocks.{held_blocks, reference_at, pending_bits, JoinsRun, EndsRun, HasRoomForBlocks, PutsBlocks, HasRoomForShortest, PutsShortest};
 ghost use Rattle.rice_code.specs.code.SoundBlocks.{block_with, IsSoundData, AreSoundBlocks};
-ghost use Rattle.rice_code.specs.Steps.{least_looks, most_looks};
 
 use crate::encode::SegmentSink;
 use crate::encode::held_block::HeldBlock;

@@ -1,7 +1,6 @@
 //! Writing the lowest digits of residuals.
-ghost use Rattle.std.specs.Prelude.{◌≡◌, ℕ, ◌+◌, ◌-◌, ◌*◌, ◌%◌, ◌^◌, ◌<◌, ◌≤◌, ◌++◌, length, drop, slice_range, flat_map};
+ghost use Rattle.std.specs.Prelude.{◌≡◌, ◌+◌, ◌-◌, ◌*◌, ◌%◌, ◌^◌, ◌<◌, ◌≤◌, ◌++◌, length, drop, slice_range};
 ghost use Rattle.rice_bits.specs.Bits.{word};
-ghost use Rattle.rice_code.specs.encode.BitBuffer.{HasRoomFor, AddsFields};
 ghost use Rattle.rice_code.specs.encode.Parts.{HasRoomForLow, AddsLow};
 
 use crate::encode::SegmentSink;

@@ -1,5 +1,5 @@
 //! Fundamental sequences that are gathered in a word: each is a bit that is set.
-ghost use Rattle.std.specs.Prelude.{◌≡◌, ℕ, ◌+◌, ◌-◌, ◌*◌, ◌^◌, ◌<◌, ◌≤◌, ◌++◌, Bool, nat_le, List, [], length};
+ghost use Rattle.std.specs.Prelude.{◌≡◌, ◌+◌, ◌-◌, ◌^◌, ◌<◌, ◌≤◌, ◌++◌, Bool, nat_le, List, [], length};
 ghost use Rattle.rice_bits.specs.Bits.{fundamental_sequence};
 ghost use Rattle.rice_code.specs.encode.Ones.{Fills, Gathers, Spells, four_sequences, sequences_from};
 

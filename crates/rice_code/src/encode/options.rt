@@ -1,9 +1,9 @@
 //! Writing coded data sets: a block by each option, and runs of zero blocks.
-ghost use Rattle.std.specs.Prelude.{◌≡◌, ℕ, ◌+◌, ◌-◌, ◌*◌, ◌/◌, ◌%◌, ◌^◌, ◌<◌, ◌≤◌, ◌++◌, List, length, drop, sum_by, flat_map, IfSome};
+ghost use Rattle.std.specs.Prelude.{◌≡◌, ◌+◌, ◌-◌, ◌*◌, ◌%◌, ◌^◌, ◌<◌, ◌≤◌, ◌++◌, length, drop, flat_map, IfSome};
 ghost use Rattle.rice_bits.specs.Bits.{word, fundamental_sequence};
 ghost use Rattle.rice_samples.specs.Parameters.{k_max, value_count};
 ghost use Rattle.rice_samples.specs.blocks.Pairs.{pair_code, pair_codes};
-ghost use Rattle.rice_code.specs.code.CodedDataSets.{NoCompression, SecondExtension, Split, cost as cost_of, bits_of_set, sent_residuals, reference_bits, reference_len};
+ghost use Rattle.rice_code.specs.code.CodedDataSets.{NoCompression, SecondExtension, Split, cost as cost_of, sent_residuals, reference_bits, reference_len};
 ghost use Rattle.rice_code.specs.encode.BitBuffer.{sink_bits, HasRoomFor, AddsFields, HasRoomForSet, PutsSet};
 ghost use Rattle.rice_code.specs.encode.Parts.{pairs_len};
 ghost use Rattle.rice_code.specs.code.Runs.{run_of_blocks};

@@ -1,5 +1,5 @@
 //! A setting, with what the code of each block asks for.
-ghost use Rattle.std.specs.Prelude.{◌≡◌, ℕ, ◌≤◌};
+ghost use Rattle.std.specs.Prelude.{◌≡◌, ◌≤◌};
 ghost use Rattle.rice_samples.specs.Parameters.{IsLegal, IsBlockSize, id_len, k_max};
 ghost use Rattle.rice_samples.specs.Places.{blocks_left};
 

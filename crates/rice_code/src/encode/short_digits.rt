@@ -1,7 +1,6 @@
 //! Writing the lowest digits of eight residuals at once, where they fit one put.
-ghost use Rattle.std.specs.Prelude.{◌≡◌, ℕ, ◌+◌, ◌-◌, ◌*◌, ◌/◌, ◌%◌, ◌^◌, ◌<◌, ◌≤◌, ◌++◌, length, drop, slice_range, flat_map};
+ghost use Rattle.std.specs.Prelude.{◌≡◌, ◌+◌, ◌-◌, ◌*◌, ◌%◌, ◌^◌, ◌<◌, ◌≤◌, ◌++◌, length, slice_range, flat_map};
 ghost use Rattle.rice_bits.specs.Bits.{word};
-ghost use Rattle.rice_code.specs.encode.BitBuffer.{HasRoomFor, AddsFields};
 ghost use Rattle.rice_code.specs.encode.Parts.{HasRoomForEights, AddsEights};
 ghost use Rattle.rice_code.specs.encode.ShortDigits.{four_masks, four_weights};
 

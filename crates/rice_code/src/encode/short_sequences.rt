@@ -1,5 +1,5 @@
 //! Writing the fundamental sequences of 8 or 16 residuals at once, where they fit one put.
-ghost use Rattle.std.specs.Prelude.{◌≡◌, ℕ, ◌+◌, ◌-◌, ◌*◌, ◌/◌, ◌%◌, ◌^◌, ◌<◌, ◌≤◌, ◌++◌, Bool, List, length, drop, slice_index, slice_range, sum_by, flat_map};
+ghost use Rattle.std.specs.Prelude.{◌≡◌, ◌+◌, ◌-◌, ◌/◌, ◌%◌, ◌^◌, ◌<◌, ◌≤◌, ◌++◌, Bool, List, length, drop, slice_index, slice_range, sum_by};
 ghost use Rattle.rice_code.specs.encode.BitBuffer.{HasRoomFor, HasRoomForBits, AddsBits};
 ghost use Rattle.rice_code.specs.encode.Ones.{Gathers, four_sequences, sequences_from};
 ghost use Rattle.rice_code.specs.encode.Parts.{HasRoomForOnes, AddsOnes};

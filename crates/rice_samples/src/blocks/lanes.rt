@@ -1,5 +1,5 @@
 //! Tests and sums of residuals, eight at a time.
-ghost use Rattle.std.specs.Prelude.{◌≡◌, ℕ, ◌*◌, ◌/◌, ◌%◌, ◌^◌, ◌==◌, ◌<◌, ◌≤◌, All, length, sum_by};
+ghost use Rattle.std.specs.Prelude.{◌≡◌, ◌*◌, ◌/◌, ◌%◌, ◌^◌, ◌==◌, ◌<◌, ◌≤◌, All, length, sum_by};
 ghost use Rattle.std.specs.List.{list_all};
 ghost use Rattle.rice_samples.specs.Parameters.{IsBlockSize};
 

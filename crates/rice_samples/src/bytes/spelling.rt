@@ -1,5 +1,5 @@
 //! The one spelling of each sample in bytes.
-ghost use Rattle.std.specs.Prelude.{◌≡◌, ◌≢◌, ℕ, ◌≤◌, length, ℤ, IfNone, IfSome};
+ghost use Rattle.std.specs.Prelude.{◌≡◌, ◌≢◌, length, ℤ, IfNone, IfSome};
 ghost use Rattle.rice_samples.specs.Parameters.{IsSample, width};
 ghost use Rattle.rice_samples.specs.bytes.Spelling.{spelling};
 

@@ -1,5 +1,5 @@
 //! Eight numbers from their ranks at a time, in lanes of 32 bits.
-ghost use Rattle.std.specs.Prelude.{◌≡◌, ℕ, ◌+◌, ◌^◌, ◌<◌, ◌≤◌, ◌∷◌, All, length, map, true, take};
+ghost use Rattle.std.specs.Prelude.{◌≡◌, ◌+◌, ◌^◌, ◌≤◌, ◌∷◌, All, length, map, true, take};
 ghost use Rattle.rice_samples.specs.predict.Residuals.{ranks_below};
 ghost use Rattle.rice_samples.specs.predict.Near.{near_numbers as near_numbers_of, way, bound, sums_behind};
 

@@ -1,5 +1,5 @@
 //! Levels of samples in a row, from their residuals or their patterns.
-ghost use Rattle.std.specs.Prelude.{◌≡◌, ℕ, ◌+◌, ◌%◌, ◌^◌, ◌<◌, ◌≤◌, All, length, map, sum};
+ghost use Rattle.std.specs.Prelude.{◌≡◌, ◌+◌, ◌%◌, ◌<◌, ◌≤◌, All, length, map, sum};
 ghost use Rattle.rice_samples.specs.Parameters.{value_count, values_at, value_at};
 ghost use Rattle.rice_samples.specs.predict.Residuals.{pattern as pattern_of, ranks_below};
 
