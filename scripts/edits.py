@@ -143,8 +143,10 @@ def change_of(edit, text):
 
 def twin_answers(edit):
     """Returns the texts of a twin's proof files, which are those of its function."""
-    path = "/".join(["proofs", *edit.function.name.split("::")[1:]])
-    module, found = path.replace("/", "."), {}
+    parts = ["proofs", *edit.function.name.split("::")[1:]]
+    # (a part that is no name by itself stands in quotes there)
+    path, module = "/".join(parts), ".".join(it if re.fullmatch(r"\w+", it) else f"«{it}»" for it in parts)
+    found = {}
     for name in PROOF_FILES:
         if os.path.isfile(f"{edit.crate.folder}/{path}/{name}"):
             text = read(f"{edit.crate.folder}/{path}/{name}")
