@@ -5,3 +5,4 @@ pub mod DecoderState
 pub mod Fields
 pub mod ReadSets
 pub mod Restored
+pub mod RowsAhead

@@ -102,11 +102,23 @@ pub fn decode<I: Intake, O: Outlet>(
     if has_lanes::<16, 1>(setting) {
         return decode_in_lanes::<I, O, 16, 1>(setting, asked, intake, outlet);
     }
+    if has_lanes::<32, 1>(setting) {
+        return decode_in_lanes::<I, O, 32, 1>(setting, asked, intake, outlet);
+    }
+    if has_lanes::<64, 1>(setting) {
+        return decode_in_lanes::<I, O, 64, 1>(setting, asked, intake, outlet);
+    }
     if has_lanes::<8, 2>(setting) {
         return decode_in_lanes::<I, O, 8, 2>(setting, asked, intake, outlet);
     }
     if has_lanes::<16, 2>(setting) {
         return decode_in_lanes::<I, O, 16, 2>(setting, asked, intake, outlet);
+    }
+    if has_lanes::<32, 2>(setting) {
+        return decode_in_lanes::<I, O, 32, 2>(setting, asked, intake, outlet);
+    }
+    if has_lanes::<64, 2>(setting) {
+        return decode_in_lanes::<I, O, 64, 2>(setting, asked, intake, outlet);
     }
     match asked {
         None => decode_all::<I, O>(setting, intake, outlet),
@@ -152,7 +164,7 @@ fn decode_counted<I: Intake, O: Outlet>(
 
 /// Returns whether blocks have `SIZE` samples of `WIDTH` bytes, and the decoder may give their bytes at one stroke.
 fn has_lanes<const SIZE: usize, const WIDTH: usize>(setting: &Setting) -> bool
-    requires sizes { (SIZE ≡ 8) ⊎ (SIZE ≡ 16) }
+    requires sizes { (SIZE ≡ 8) ⊎ (SIZE ≡ 16) ⊎ (SIZE ≡ 32) ⊎ (SIZE ≡ 64) }
     requires widths { (WIDTH ≡ 1) ⊎ (WIDTH ≡ 2) }
     ensures { result ≡ true → HasLanes setting.now SIZE WIDTH }
 {

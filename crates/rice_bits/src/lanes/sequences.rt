@@ -18,7 +18,7 @@ pub struct Sequences {
 /// Returns the first `count` fundamental sequences of a word, if they end within its first bytes.
 #[inline(always)]
 pub fn first_sequences(front: u64, bytes: usize, count: usize) -> Option<Sequences>
-    requires bytes { (1 ≤ bytes) × (bytes ≤ 6) }
+    requires bytes { (1 ≤ bytes) × (bytes ≤ 7) }
     requires count { (1 ≤ count) × (count ≤ 16) }
     ensures { IfSome result (λ s. BeginWithSequences (word 64 front) count s.numbers s.len) }
 {

@@ -491,7 +491,7 @@ impl<I: Intake> BitReader<I> {
     /// It takes none.
     #[inline(always)]
     pub fn sequences_ahead(&self, skip: usize, bytes: usize, count: usize) -> Option<Sequences>
-        requires bytes { (1 ≤ bytes) × (bytes ≤ 6) }
+        requires bytes { (1 ≤ bytes) × (bytes ≤ 7) }
         requires count { (1 ≤ count) × (count ≤ 16) }
         requires there { skip + 64 ≤ length self.now.waiting }
         ensures { IfSome result (λ s.

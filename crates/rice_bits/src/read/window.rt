@@ -225,7 +225,7 @@ impl Window {
     #[inline(always)]
     pub fn sequences_ahead(&self, skip: usize, bytes: usize, count: usize) -> Option<Sequences>
         requires window { IsWindow self.now }
-        requires bytes { (1 ≤ bytes) × (bytes ≤ 6) }
+        requires bytes { (1 ≤ bytes) × (bytes ≤ 7) }
         requires count { (1 ≤ count) × (count ≤ 16) }
         requires there { skip + 64 ≤ length (window_bits self.now) }
         ensures { IfSome result (λ s.

@@ -6,3 +6,4 @@ pub mod FieldLemmas
 pub mod JoinedParts
 pub mod ReadLemmas
 pub mod RestoredBlocks
+pub mod RowsAhead

@@ -10,18 +10,22 @@ use Rattle.rice_code.specs.decode.Decoder.{Answers, GivesBlock, with_mark}
 use Rattle.rice_code.specs.decode.DecoderState.{DecoderState}
 use Rattle.rice_code.specs.declared.decode.fault.Step.TheVariants.{Block}
 
--- Blocks of `size` samples of `width` bytes that may be decoded in the lanes of vectors: 8 or 16 of at most 16 bits, predicted.
-pub record HasLanes (s : Parameters) (size width : ℕ) : Type 0 where
-  pub preprocess : s.preprocess ≡ true
-  pub size_is : s.block ≡ size
-  pub sizes : (size ≡ 8) ⊎ (size ≡ 16)
+-- Samples of `width` bytes that may be decoded in the lanes of vectors: of at most 16 bits.
+pub record HasWidth (s : Parameters) (width : ℕ) : Type 0 where
   pub widths : (width ≡ 1) ⊎ (width ≡ 2)
   pub narrow : width ≡ 1 → s.bits ≤ 8
   pub wide : width ≡ 2 → (8 < s.bits) × (s.bits ≤ 16)
 
+-- Blocks of `size` samples of `width` bytes that may be decoded in the lanes of vectors: 8, 16, 32 or 64 of at most 16 bits, predicted.
+pub record HasLanes (s : Parameters) (size width : ℕ) : Type 0 where
+  pub preprocess : s.preprocess ≡ true
+  pub size_is : s.block ≡ size
+  pub sizes : (size ≡ 8) ⊎ (size ≡ 16) ⊎ (size ≡ 32) ⊎ (size ≡ 64)
+  pub samples : HasWidth s width
+
 -- The first `len` bits are a sound coded data set at block b, and the levels of the samples of its one block, after sample p, stand
--- in the first lanes.
-pub record BlockAhead (waiting : List Bool) (s : Parameters) (b : ℕ) (p : ℤ) (lanes : List ℕ) (len : ℕ) : Type 0 where
+-- first among these.
+pub record BlockAhead (waiting : List Bool) (s : Parameters) (b : ℕ) (p : ℤ) (levels : List ℕ) (len : ℕ) : Type 0 where
   pub set : CodedDataSet
   pub form : IsForm s b set
   pub run_sound : RunIsSound s b set
@@ -29,15 +33,15 @@ pub record BlockAhead (waiting : List Bool) (s : Parameters) (b : ℕ) (p : ℤ)
   pub within : len ≤ length waiting
   pub bits : take len waiting ≡ bits_of_set s set
   pub no_turns : turns set ≡ 0
-  pub sixteen : length lanes ≡ 16
-  pub legal : All (λ l. l < value_count s) lanes
-  pub gives : GivesBlock s b p (values_at s (take s.block lanes)) 0 (blocks_in s b set)
+  pub enough : s.block ≤ length levels
+  pub legal : All (λ l. l < value_count s) levels
+  pub gives : GivesBlock s b p (values_at s (take s.block levels)) 0 (blocks_in s b set)
 
--- High and low parts of a block that waits, and the level after which its first sample is restored. Levels that are near and have
--- residuals with these parts are the block's.
-pub record PartsAhead (waiting : List Bool) (s : Parameters) (b before k from : ℕ) (highs lows : List ℕ) (len : ℕ) : Type 0 where
+-- High and low parts of a block that waits, `count` of each, and the level after which its first sample is restored. Levels that are
+-- near and have residuals with these parts are the block's.
+pub record PartsAhead (waiting : List Bool) (s : Parameters) (b before k from count : ℕ) (highs lows : List ℕ) (len : ℕ) : Type 0 where
   pub begins : from < value_count s
-  pub sixteen : (length highs ≡ 16) × (length lows ≡ 16)
+  pub counts : (length highs ≡ count) × (length lows ≡ count)
   pub low : All (λ l. l < 2 ^ k) lows
   pub whole : (levels : List ℕ) → AreNearLevels s from k highs lows levels → BlockAhead waiting s b (value_at s before) levels len
 
@@ -47,6 +51,14 @@ pub record SpellsNear (s : Parameters) (from k size : ℕ) (highs lows : List �
   pub levels : List ℕ
   pub near : AreNearLevels s from k highs lows levels
   pub last_is : last ≡ slice_index_or levels (size - 1) 0
+  pub spelled : take (width s * size) bytes ≡ spellings s (values_at s (take size levels))
+
+-- The first `len` bits are a sound coded data set at block b, and the bytes begin with the spellings of the samples of its one block,
+-- after sample p, of which the last has level l.
+pub record SpelledAhead (waiting : List Bool) (s : Parameters) (b : ℕ) (p : ℤ) (size l len : ℕ) (bytes : List ℕ) : Type 0 where
+  pub levels : List ℕ
+  pub ahead : BlockAhead waiting s b p levels len
+  pub last_is : l ≡ slice_index_or levels (size - 1) 0
   pub spelled : take (width s * size) bytes ≡ spellings s (values_at s (take size levels))
 
 -- A call read a coded data set, and the bytes begin with the spellings of the samples of its first block.

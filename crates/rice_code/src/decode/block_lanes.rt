@@ -1,20 +1,15 @@
-//! Blocks of 8 or 16 samples of at most 16 bits, by a split, in one pass from bits to bytes.
+//! Blocks of 8 or 16 samples of at most 16 bits, by a split, and rows of sixteen samples of longer blocks.
 ghost use Rattle.std.specs.Prelude.{◌≡◌, ◌⊎◌, ℕ, ◌+◌, ◌-◌, ◌^◌, ◌<◌, ◌≤◌, ◌++◌, ◌*◌, All, true, false, IfSome, IfNone, None, length, replicate, take};
 ghost use Rattle.rice_bits.specs.Bits.{word};
-ghost use Rattle.rice_bits.specs.read.Reader.{Takes};
 ghost use Rattle.rice_samples.specs.Parameters.{id_len, value_count};
 ghost use Rattle.rice_samples.specs.Places.{is_reference};
-ghost use Rattle.rice_code.specs.decode.BlocksAhead.{HasLanes, PartsAhead, SpellsNear};
-ghost use Rattle.rice_code.specs.decode.Decoder.{with_mark};
+ghost use Rattle.rice_code.specs.decode.BlocksAhead.{HasLanes, HasWidth, PartsAhead, SpellsNear};
 
-use rice_bits::{BitReader, Intake, Meter, behind_zero};
+use rice_bits::{BitReader, Intake, behind_zero};
 use rice_samples::{
     Setting, level_of_pattern, near_halves, near_levels, spelled_bytes, spelled_words,
 };
 use std::simd::prelude::*;
-
-/// The bits that are looked at for a block, at most: identifier, reference sample, six bytes with sequences, and sixteen bytes.
-const LOOKS: u64 = 200;
 
 /// The parts of the residuals of a block that waits, in the first lanes, the level after which its first sample is restored, and the
 /// number of bits of its coded data set.
@@ -60,27 +55,6 @@ fn first_half(numbers: u8x16) -> u8x16
     )
 }
 
-/// Returns the split of the block that waits, if it is one that leaves few low bits, and so many bits wait that all of the block may
-/// be looked at. Its samples have `WIDTH` bytes.
-#[inline(always)]
-pub fn split_ahead<I: Intake, const SIZE: usize, const WIDTH: usize>(
-    setting: &Setting,
-    reader: &BitReader<I>,
-) -> Option<u32>
-    requires lanes { HasLanes setting.now SIZE WIDTH }
-    ensures { IfSome result (λ k. (k < 3 + 3 * WIDTH) × (200 ≤ length reader.now.waiting) ×
-        (word (id_len setting.now) (k + 1) ≡ take (id_len setting.now) reader.now.waiting)) }
-{
-    if reader.waiting() < LOOKS {
-        return None;
-    }
-    let id = reader.number_ahead(0, WIDTH as u32 + 2);
-    if id < 1 || id > 3 + 3 * WIDTH as u32 {
-        return None;
-    }
-    Some(id - 1)
-}
-
 /// Returns the parts of the block of `SIZE` samples that waits, by split `k`, after a sample at level `before`, if its fundamental
 /// sequences are short. It takes nothing.
 #[inline(always)]
@@ -92,12 +66,13 @@ pub fn parts_ahead<I: Intake, const SIZE: usize, const WIDTH: usize>(
     reader: &BitReader<I>,
 ) -> Option<PartLanes>
     requires lanes { HasLanes setting.now SIZE WIDTH }
+    requires row { SIZE ≤ 16 }
     requires before { before < value_count setting.now }
-    requires there { 200 ≤ length reader.now.waiting }
+    requires there { 208 ≤ length reader.now.waiting }
     requires split { k < 3 + 3 * WIDTH }
     requires id { word (id_len setting.now) (k + 1) ≡ take (id_len setting.now) reader.now.waiting }
     ensures { IfSome result (λ p. PartsAhead reader.now.waiting setting.now block before k
-        p.from p.highs p.lows p.len) }
+        p.from 16 p.highs p.lows p.len) }
 {
     if setting.is_reference(block) {
         return parts_behind_reference::<I, SIZE, WIDTH>(setting, block, before, k, reader);
@@ -115,13 +90,14 @@ fn plain_parts<I: Intake, const SIZE: usize, const WIDTH: usize>(
     reader: &BitReader<I>,
 ) -> Option<PartLanes>
     requires lanes { HasLanes setting.now SIZE WIDTH }
+    requires row { SIZE ≤ 16 }
     requires before { before < value_count setting.now }
     requires reference { is_reference setting.now block ≡ false }
-    requires there { 200 ≤ length reader.now.waiting }
+    requires there { 208 ≤ length reader.now.waiting }
     requires split { k < 3 + 3 * WIDTH }
     requires id { word (id_len setting.now) (k + 1) ≡ take (id_len setting.now) reader.now.waiting }
     ensures { IfSome result (λ p. PartsAhead reader.now.waiting setting.now block before k
-        p.from p.highs p.lows p.len) }
+        p.from 16 p.highs p.lows p.len) }
 {
     let head = WIDTH + 2;
     let sequences = reader.sequences_ahead(head, sequence_bytes(SIZE), SIZE)?;
@@ -144,13 +120,14 @@ fn parts_behind_reference<I: Intake, const SIZE: usize, const WIDTH: usize>(
     reader: &BitReader<I>,
 ) -> Option<PartLanes>
     requires lanes { HasLanes setting.now SIZE WIDTH }
+    requires row { SIZE ≤ 16 }
     requires before { before < value_count setting.now }
     requires reference { is_reference setting.now block ≡ true }
-    requires there { 200 ≤ length reader.now.waiting }
+    requires there { 208 ≤ length reader.now.waiting }
     requires split { k < 3 + 3 * WIDTH }
     requires id { word (id_len setting.now) (k + 1) ≡ take (id_len setting.now) reader.now.waiting }
     ensures { IfSome result (λ p. PartsAhead reader.now.waiting setting.now block before k
-        p.from p.highs p.lows p.len) }
+        p.from 16 p.highs p.lows p.len) }
 {
     let id = setting.id_len() as usize;
     let bits = setting.bits();
@@ -167,28 +144,31 @@ fn parts_behind_reference<I: Intake, const SIZE: usize, const WIDTH: usize>(
     })
 }
 
-/// Writes the bytes of the block with these parts, of samples of `WIDTH` bytes, if all of them are near to those before them. Returns
-/// the level of its last sample. It may write more behind these bytes.
+/// Writes the bytes of a row of samples of `WIDTH` bytes, the first after a sample at level `from`, whose residuals have these parts, if
+/// all of them are near to those before them. Returns the level of the last. It may write more behind these bytes.
 #[inline(always)]
 pub fn spell_near<const SIZE: usize, const WIDTH: usize>(
     setting: &Setting,
     k: u32,
-    parts: PartLanes,
+    from: u32,
+    highs: u8x16,
+    lows: u8x16,
     bytes: &mut [u8],
 ) -> Option<u32>
-    requires lanes { HasLanes setting.now SIZE WIDTH }
+    requires width { HasWidth setting.now WIDTH }
+    requires size { (SIZE ≡ 8) ⊎ (SIZE ≡ 16) }
     requires split { k < 3 + 3 * WIDTH }
-    requires begins { parts.from < value_count setting.now }
-    requires sixteen { (length parts.highs ≡ 16) × (length parts.lows ≡ 16) }
-    requires low { All (λ l. l < 2 ^ k) parts.lows }
+    requires begins { from < value_count setting.now }
+    requires sixteen { (length highs ≡ 16) × (length lows ≡ 16) }
+    requires low { All (λ l. l < 2 ^ k) lows }
     requires bytes { 32 ≤ length bytes.old }
-    ensures some { IfSome result (λ l. SpellsNear setting.now parts.from k SIZE parts.highs parts.lows l bytes.new) }
+    ensures some { IfSome result (λ l. SpellsNear setting.now from k SIZE highs lows l bytes.new) }
     ensures none { IfNone result (bytes.new ≡ bytes.old) }
 {
     if WIDTH == 1 {
-        spell_bytes::<SIZE>(setting, k, parts, bytes)
+        spell_bytes::<SIZE>(setting, k, from, highs, lows, bytes)
     } else {
-        spell_words::<SIZE>(setting, k, parts, bytes)
+        spell_words::<SIZE>(setting, k, from, highs, lows, bytes)
     }
 }
 
@@ -197,20 +177,23 @@ pub fn spell_near<const SIZE: usize, const WIDTH: usize>(
 fn spell_bytes<const SIZE: usize>(
     setting: &Setting,
     k: u32,
-    parts: PartLanes,
+    from: u32,
+    highs: u8x16,
+    lows: u8x16,
     bytes: &mut [u8],
 ) -> Option<u32>
-    requires lanes { HasLanes setting.now SIZE 1 }
+    requires width { HasWidth setting.now 1 }
+    requires size { (SIZE ≡ 8) ⊎ (SIZE ≡ 16) }
     requires split { k < 6 }
-    requires begins { parts.from < value_count setting.now }
-    requires sixteen { (length parts.highs ≡ 16) × (length parts.lows ≡ 16) }
-    requires low { All (λ l. l < 2 ^ k) parts.lows }
+    requires begins { from < value_count setting.now }
+    requires sixteen { (length highs ≡ 16) × (length lows ≡ 16) }
+    requires low { All (λ l. l < 2 ^ k) lows }
     requires bytes { 32 ≤ length bytes.old }
-    ensures some { IfSome result (λ l. SpellsNear setting.now parts.from k SIZE parts.highs parts.lows l bytes.new) }
+    ensures some { IfSome result (λ l. SpellsNear setting.now from k SIZE highs lows l bytes.new) }
     ensures none { IfNone result (bytes.new ≡ bytes.old) }
 {
     let _bits = setting.bits();
-    let near = near_levels(setting, parts.from, parts.highs, parts.lows, k)?;
+    let near = near_levels(setting, from, highs, lows, k)?;
     spelled_bytes(setting, near.levels).copy_to_slice(bytes);
     Some(near.levels.to_array()[SIZE - 1] as u32)
 }
@@ -220,37 +203,26 @@ fn spell_bytes<const SIZE: usize>(
 fn spell_words<const SIZE: usize>(
     setting: &Setting,
     k: u32,
-    parts: PartLanes,
+    from: u32,
+    highs: u8x16,
+    lows: u8x16,
     bytes: &mut [u8],
 ) -> Option<u32>
-    requires lanes { HasLanes setting.now SIZE 2 }
+    requires width { HasWidth setting.now 2 }
+    requires size { (SIZE ≡ 8) ⊎ (SIZE ≡ 16) }
     requires split { k < 9 }
-    requires begins { parts.from < value_count setting.now }
-    requires sixteen { (length parts.highs ≡ 16) × (length parts.lows ≡ 16) }
-    requires low { All (λ l. l < 2 ^ k) parts.lows }
+    requires begins { from < value_count setting.now }
+    requires sixteen { (length highs ≡ 16) × (length lows ≡ 16) }
+    requires low { All (λ l. l < 2 ^ k) lows }
     requires bytes { 32 ≤ length bytes.old }
-    ensures some { IfSome result (λ l. SpellsNear setting.now parts.from k SIZE parts.highs parts.lows l bytes.new) }
+    ensures some { IfSome result (λ l. SpellsNear setting.now from k SIZE highs lows l bytes.new) }
     ensures none { IfNone result (bytes.new ≡ bytes.old) }
 {
-    let near = near_halves(setting, parts.from, parts.highs, parts.lows, k)?;
+    let near = near_halves(setting, from, highs, lows, k)?;
     spelled_words(setting, near.first).copy_to_slice(bytes);
     if SIZE == 8 {
         return Some(near.first.to_array()[7] as u32);
     }
     spelled_words(setting, near.second).copy_to_slice(&mut bytes[16..]);
     Some(near.second.to_array()[7] as u32)
-}
-
-/// Takes the next `len` bits, which are a block that was looked at, as if after [`mark`](BitReader::mark).
-#[inline(always)]
-pub fn take_ahead<I: Intake>(reader: &mut BitReader<I>, len: usize, meter: &mut Meter)
-    requires going { reader.old.refusal ≡ None }
-    requires there { len ≤ length reader.old.waiting }
-    requires meter { meter.old + len < 2 ^ 62 }
-    ensures takes { Takes (with_mark reader.old) reader.new (take len reader.old.waiting) }
-    ensures limit { reader.new.taken ≤ 2 ^ 52 }
-    ensures steps { meter.new ≡ meter.old + len }
-{
-    reader.mark();
-    reader.pass(len, meter);
 }

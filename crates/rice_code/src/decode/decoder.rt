@@ -13,7 +13,7 @@ ghost use Rattle.rice_code.specs.decode.DecoderState.{next_block_place, place_af
 ghost use Rattle.rice_code.specs.code.Layout.{padding};
 ghost use Rattle.rice_code.specs.code.CodedDataSets.{run_with_zeros};
 
-use crate::decode::block_lanes::{parts_ahead, spell_near, split_ahead, take_ahead};
+use crate::decode::block_ahead::{spell_ahead, split_ahead, take_ahead};
 use crate::decode::coded_data_set::read_set;
 use crate::decode::fault::{CodeFault, Step};
 use crate::decode::options::SetHead;
@@ -296,7 +296,7 @@ impl Decoder {
         requires stopped { self.old.stopped ≡ None }
         requires going { reader.old.refusal ≡ None }
         requires room { meter.old + 2 * (2 ^ 52 - reader.old.taken) + 64 < 2 ^ 62 }
-        requires bytes { 32 ≤ length bytes.old }
+        requires bytes { (32 ≤ length bytes.old) × (WIDTH * SIZE ≤ length bytes.old) }
         ensures some { result ≡ true → (self.old.run ≡ 0) ×
             GivesBytes reader.old reader.new meter.old meter.new self.old self.new bytes.new }
         ensures none { result ≡ false → (self.new ≡ self.old) × (reader.new ≡ reader.old) ×
@@ -330,13 +330,13 @@ impl Decoder {
         requires lanes { HasLanes self.old.setting SIZE WIDTH }
         requires stopped { self.old.stopped ≡ None }
         requires run { self.old.run ≡ 0 }
-        requires there { 200 ≤ length reader.old.waiting }
+        requires there { 208 ≤ length reader.old.waiting }
         requires split { k < 3 + 3 * WIDTH }
         requires id { word (id_len self.old.setting) (k + 1)
             ≡ take (id_len self.old.setting) reader.old.waiting }
         requires going { reader.old.refusal ≡ None }
         requires room { meter.old + 2 * (2 ^ 52 - reader.old.taken) + 64 < 2 ^ 62 }
-        requires bytes { 32 ≤ length bytes.old }
+        requires bytes { (32 ≤ length bytes.old) × (WIDTH * SIZE ≤ length bytes.old) }
         ensures some { result ≡ true →
             GivesBytes reader.old reader.new meter.old meter.new self.old self.new bytes.new }
         ensures none { result ≡ false → (self.new ≡ self.old) × (reader.new ≡ reader.old) ×
@@ -348,22 +348,19 @@ impl Decoder {
     {
         let _taken = reader.taken();
         let setting = &self.setting;
-        let parts = match parts_ahead::<I, SIZE, WIDTH>(
+        let spelled = match spell_ahead::<I, SIZE, WIDTH>(
             setting,
             self.block,
             self.before,
             k,
             reader,
+            bytes,
         ) {
-            Some(parts) => parts,
+            Some(spelled) => spelled,
             None => return false,
         };
-        let last = match spell_near::<SIZE, WIDTH>(setting, k, parts, bytes) {
-            Some(last) => last,
-            None => return false,
-        };
-        take_ahead(reader, parts.len, meter);
-        let _answer = self.go_on(last, 0, reader, meter);
+        take_ahead(reader, spelled.len, meter);
+        let _answer = self.go_on(spelled.last, 0, reader, meter);
         true
     }
 

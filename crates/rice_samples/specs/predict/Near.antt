@@ -26,9 +26,9 @@ reach count greatest x = min x ((greatest + (count - x)) % count)
 abbrev pub bound : ℕ → ℕ → ℕ → ℕ
 bound count greatest x = (reach count greatest x + reach count greatest x) % count
 
--- Sixteen levels of samples, the first after one at level p, have residuals with these high parts and these low parts of `width` bits.
+-- Levels of samples, the first after one at level p, have residuals with these high parts and these low parts of `width` bits.
 pub record AreNearLevels (s : Parameters) (p width : ℕ) (highs lows levels : List ℕ) : Type 0 where
-  pub len : length levels ≡ 16
+  pub len : length levels ≡ length highs
   pub legal : All (λ l. l < value_count s) levels
   pub ranked : ranks_below (value_count s) p levels ≡ joined_parts width highs lows
 

@@ -1,6 +1,6 @@
 -- A block by a split that waits, from its parts.
-use Rattle.std.proofs.Common.{◌≡◌, ℕ, zero, suc, ◌+◌, ◌-◌, ◌*◌, ◌/◌, ◌^◌, ◌<◌, ◌≤◌, Bool, true, false, List, [], ◌∷◌, ◌++◌, length, take, drop, refl, sym, ◌∙◌, ap, subst, arith, take-take, replicate, append_assoc, length-append, Option, Some, None, ℤ, inl, inr}
-use Rattle.std.specs.Prelude.{◌≢◌, All, flat_map, IfSome, IfNone, slice_index_or}
+use Rattle.std.proofs.Common.{◌≡◌, ℕ, zero, suc, ◌+◌, ◌-◌, ◌*◌, ◌/◌, ◌^◌, ◌<◌, ◌≤◌, Bool, true, false, List, [], ◌∷◌, ◌++◌, length, take, drop, refl, sym, ◌∙◌, ap, subst, arith, take-take, replicate, append_assoc, length-append, Option, Some, None, inl, inr}
+use Rattle.std.specs.Prelude.{◌≢◌, ◌⊎◌, All, flat_map, IfSome, IfNone, slice_index_or}
 use Rattle.std.specs.Simd.Lanes.{put_chunk}
 use Rattle.std.proofs.lemmas.Simd.{length-put_chunk, take_more_put_chunk}
 use Rattle.rice_bits.specs.read.Reader.{Reader, Takes}
@@ -33,7 +33,7 @@ use Rattle.rice_samples.proofs.lemmas.setting.ValuesAt.{last_value, legal_values
 use Rattle.rice_code.specs.code.Blocks.{BlockData}
 use Rattle.rice_code.specs.code.CodedDataSets.{Split, bits_of_set, reference_bits, sent_from}
 use Rattle.rice_code.specs.code.Forms.{IsReference}
-use Rattle.rice_code.specs.decode.BlocksAhead.{BlockAhead, GivesBytes, HasLanes, PartsAhead, SpellsNear}
+use Rattle.rice_code.specs.decode.BlocksAhead.{BlockAhead, GivesBytes, HasLanes, HasWidth, PartsAhead, SpelledAhead, SpellsNear}
 use Rattle.rice_code.specs.decode.ReadSets.{reference_place}
 use Rattle.rice_code.proofs.lemmas.code.ReadInOneWay.{wide_id}
 use Rattle.rice_code.proofs.lemmas.decode.JoinedParts.{high_pieces, low_pieces}
@@ -73,17 +73,17 @@ first_of size xs ys n h e = ap (take size) e ∙ take_at (take size xs) (replica
 
 -- the block of a split whose parts were found
 pub split_ahead : (waiting : List Bool) (s : Parameters) (b before from k : ℕ) (r : Option ℕ) (ms ls lanes : List ℕ) (a n m : ℕ)
-    → s.preprocess ≡ true → 1 ≤ s.block → s.block ≤ 16 → IsReference s b r → k ≤ k_max s
+    → s.preprocess ≡ true → 1 ≤ s.block → IsReference s b r → k ≤ k_max s
     → word (id_len s) (k + 1) ≡ take (id_len s) waiting → reference_bits s r ≡ take a (drop (id_len s) waiting)
     → flat_map fundamental_sequence ms ≡ take n (drop (id_len s + a) waiting) → flat_map (word k) ls ≡ take m (drop (id_len s + a + n) waiting)
     → id_len s + a + n + m ≤ length waiting → length ls ≡ length ms → All (λ l. l < 2 ^ k) ls
     → from < value_count s → IfSome r (λ v. pattern s (value_at s from) ≡ v) → IfNone r (value_at s from ≡ value_at s before)
-    → length lanes ≡ 16 → All (λ l. l < value_count s) lanes → ranks_below (value_count s) from (take s.block lanes) ≡ reference_place r ++ joined_parts k ms ls
+    → s.block ≤ length lanes → All (λ l. l < value_count s) lanes → ranks_below (value_count s) from (take s.block lanes) ≡ reference_place r ++ joined_parts k ms ls
     → BlockAhead waiting s b (value_at s before) lanes (id_len s + a + n + m)
-split_ahead waiting s b before from k r ms ls lanes a n m pre some most ref split id first second third there same low begins pat none sixteen legal ranked =
+split_ahead waiting s b before from k r ms ls lanes a n m pre some ref split id first second third there same low begins pat none enough legal ranked =
     let levels = take s.block lanes in
     let small : All (λ l. l < value_count s) levels = All-take (λ l. l < value_count s) s.block lanes legal in
-    let size : length levels ≡ s.block = length-take-le s.block lanes (omega (arith, sixteen, most)) in
+    let size : length levels ≡ s.block = length-take-le s.block lanes enough in
     let sent = joined_parts k ms ls in
     let ds = reference_place r ++ sent in
     let c : BlockData = record { reference = r; residuals = ds } in
@@ -104,7 +104,7 @@ split_ahead waiting s b before from k r ms ls lanes a n m pre some most ref spli
           four-parts waiting (word (id_len s) (k + 1)) (reference_bits s r) (flat_map fundamental_sequence ms) (flat_map (word k) ls) (id_len s) a n m id first second third
           ∙ ap (λ xs. word (id_len s) (k + 1) ++ (reference_bits s r ++ xs)) (sym spelled);
       no_turns = refl;
-      sixteen = sixteen;
+      enough = enough;
       legal = legal;
       gives = record {
         len = many;
@@ -113,26 +113,50 @@ split_ahead waiting s b before from k r ms ls lanes a n m pre some most ref spli
       };
     }
 
--- what is known of a setting whose blocks go in lanes
-pub record LanesKnown (s : Parameters) (size width : ℕ) : Type 0 where
-  pub some : 1 ≤ size
-  pub most : size ≤ 16
+-- what is known of a setting whose samples go in lanes
+pub record WidthKnown (s : Parameters) (width : ℕ) : Type 0 where
   pub id_is : id_len s ≡ width + 2
   pub short : width + 2 ≤ 4
   pub few : s.bits ≤ 16
 
-pub lanes_known : (s : Parameters) (size width : ℕ) → HasLanes s size width → LanesKnown s size width
-lanes_known s size width has =
-    let sizes : (1 ≤ size) × (size ≤ 16) = elim has.sizes [ inl e ↦ (omega (arith, e), omega (arith, e)) | inr e ↦ (omega (arith, e), omega (arith, e)) ] in
-    let rest : (id_len s ≡ width + 2) × (width + 2 ≤ 4) × (s.bits ≤ 16) = elim has.widths [
+pub width_known : (s : Parameters) (width : ℕ) → HasWidth s width → WidthKnown s width
+width_known s width has =
+    let all : (id_len s ≡ width + 2) × (width + 2 ≤ 4) × (s.bits ≤ 16) = elim has.widths [
       | inl e ↦ (let few = has.narrow e in let id : id_len s ≡ 3 = grind (arith, nat_tests) in (omega (arith, id, e), omega (arith, e), omega (arith, few)))
       | inr e ↦ (let few = has.wide e in let wide = few.0 in let most = few.1 in let id : id_len s ≡ 4 = grind (arith, nat_tests) in (omega (arith, id, e), omega (arith, e), most))
     ] in
-    record { some = sizes.0; most = sizes.1; id_is = rest.0; short = rest.1; few = rest.2 }
+    record { id_is = all.0; short = all.1; few = all.2 }
 
-pub split_fits : (s : Parameters) (size width k : ℕ) → HasLanes s size width → k < 3 + 3 * width → (k ≤ k_max s) × (k ≤ 8)
-split_fits s size width k has lt =
-    let known = lanes_known s size width has in
+pub some_samples : (s : Parameters) (size width : ℕ) → HasLanes s size width → 1 ≤ size
+some_samples s size width has = elim has.sizes [
+  | inl e ↦ omega (arith, e)
+  | inr (inl e) ↦ omega (arith, e)
+  | inr (inr (inl e)) ↦ omega (arith, e)
+  | inr (inr (inr e)) ↦ omega (arith, e)
+]
+
+-- blocks of one row, and of more
+pub one_row : (s : Parameters) (size width : ℕ) → HasLanes s size width → size ≤ 16 → (size ≡ 8) ⊎ (size ≡ 16)
+one_row s size width has row = elim has.sizes [
+  | inl e ↦ inl e
+  | inr (inl e) ↦ inr e
+  | inr (inr (inl e)) ↦ absurd (omega (arith, e, row))
+  | inr (inr (inr e)) ↦ absurd (omega (arith, e, row))
+]
+
+pub more_rows : (s : Parameters) (size width : ℕ) → HasLanes s size width → 16 < size → (size ≡ 32) ⊎ (size ≡ 64)
+more_rows s size width has rows = elim has.sizes [
+  | inl e ↦ absurd (omega (arith, e, rows))
+  | inr (inl e) ↦ absurd (omega (arith, e, rows))
+  | inr (inr e) ↦ e
+]
+
+pub one_row_most : (size : ℕ) → (size ≡ 8) ⊎ (size ≡ 16) → size ≤ 16
+one_row_most size sizes = elim sizes [ inl e ↦ omega (arith, e) | inr e ↦ omega (arith, e) ]
+
+pub split_fits : (s : Parameters) (width k : ℕ) → HasWidth s width → k < 3 + 3 * width → (k ≤ k_max s) × (k ≤ 8)
+split_fits s width k has lt =
+    let known = width_known s width has in
     elim has.widths [
       | inl e ↦ (let w = wide_id s in (omega (arith, w, lt, e), omega (arith, lt, e)))
       | inr e ↦ (let id : id_len s ≡ 4 = omega (arith, known.id_is, e) in let all : 2 ^ id_len s ≡ 16 = ap (λ n. 2 ^ n) id in (omega (arith, all, lt, e), omega (arith, lt, e)))
@@ -154,15 +178,15 @@ lanes-low k size words behind lanes e f low =
     first-low k size behind lanes f all
 
 -- a block with no reference sample
-pub plain_ahead : (waiting : List Bool) (s : Parameters) (b before k head n size width : ℕ) (numbers words highs lows : List ℕ) → HasLanes s size width → is_reference s b ≡ false → k < 3 + 3 * width → 200 ≤ length waiting
+pub plain_ahead : (waiting : List Bool) (s : Parameters) (b before k head n size width : ℕ) (numbers words highs lows : List ℕ) → HasLanes s size width → size ≤ 16 → is_reference s b ≡ false → k < 3 + 3 * width → 208 ≤ length waiting
     → word (id_len s) (k + 1) ≡ take (id_len s) waiting → before < value_count s → head ≡ width + 2 → BeginWithSequences (drop head waiting) size numbers n
     → length words ≡ 16 → All (λ l. l < 2 ^ k) words → flat_map (word k) words ≡ take (16 * k) (drop (head + n) waiting)
     → highs ≡ take size numbers ++ replicate (16 - size) 0 → lows ≡ take size words ++ replicate (16 - size) 0
-    → PartsAhead waiting s b before k before highs lows (head + n + size * k)
-plain_ahead waiting s b before k head n size width numbers words highs lows has none lt there id begins head_here found len low spelled_words high_is low_is =
-    let known = lanes_known s size width has in
-    let most = known.most in
-    let split = split_fits s size width k has lt in
+    → PartsAhead waiting s b before k before 16 highs lows (head + n + size * k)
+plain_ahead waiting s b before k head n size width numbers words highs lows has most none lt there id begins head_here found len low spelled_words high_is low_is =
+    let known = width_known s width has.samples in
+    let some = some_samples s size width has in
+    let split = split_fits s width k has.samples lt in
     let ms = take size numbers in
     let ls = take size words in
     let head_is : head ≡ id_len s = head_here ∙ sym known.id_is in
@@ -176,17 +200,18 @@ plain_ahead waiting s b before k head n size width numbers words highs lows has 
     let same : length ls ≡ length ms = length-take-le size words (omega (arith, len, most)) ∙ sym (length-take-le size numbers (omega (arith, found.lanes, most))) in
     let n_few = found.few in
     let short = known.short in
+    let many = lanes_sixteen size numbers highs found.lanes most high_is in
     record {
       begins = begins;
-      sixteen = (lanes_sixteen size numbers highs found.lanes most high_is, lanes_sixteen size words lows len most low_is);
+      counts = (lanes_sixteen size numbers highs found.lanes most high_is, lanes_sixteen size words lows len most low_is);
       low = first-low k size words lows low_is low;
       whole = λ lanes near.
           (let ranked : ranks_below (value_count s) before (take s.block lanes) ≡ joined_parts k ms ls =
           ap (λ z. ranks_below (value_count s) before (take z lanes)) has.size_is ∙ (take-ranks size (value_count s) before lanes ∙ (ap (take size) near.ranked
           ∙ (take-joined size k highs lows ∙ (λ j. joined_parts k (first_of size numbers highs found.lanes most high_is j) (first_of size words lows len most low_is j))))) in
           subst (BlockAhead waiting s b (value_at s before) lanes) all
-          (split_ahead waiting s b before before k None ms ls lanes 0 n (size * k) has.preprocess (omega (arith, known.some, has.size_is)) (omega (arith, most, has.size_is)) (record { there = sym none; fits = tt }) split.0 id refl spelled lowest
-          (omega (arith, there, head_here, head_is, short, n_few, room)) same (All-take (λ l. l < 2 ^ k) size words low) begins tt refl near.len near.legal ranked));
+          (split_ahead waiting s b before before k None ms ls lanes 0 n (size * k) has.preprocess (omega (arith, some, has.size_is)) (record { there = sym none; fits = tt }) split.0 id refl spelled lowest
+          (omega (arith, there, head_here, head_is, short, n_few, room)) same (All-take (λ l. l < 2 ^ k) size words low) begins tt refl (omega (arith, near.len, many, most, has.size_is)) near.legal ranked));
     }
 
 -- joined parts behind a 0
@@ -198,20 +223,20 @@ first_behind : (size m : ℕ) (xs behind : List ℕ) → size ≡ suc m → m �
 first_behind size m xs behind e h is = (λ j. take (e j) (is j)) ∙ ap (λ z. 0 ∷ z) (take-take m 15 xs h)
 
 -- a block with a reference sample
-pub behind_reference_ahead : (waiting : List Bool) (s : Parameters) (b before from v k id bits n size width : ℕ) (numbers words numbers_behind words_behind highs lows : List ℕ) → HasLanes s size width → is_reference s b ≡ true → k < 3 + 3 * width
-    → 200 ≤ length waiting → word (id_len s) (k + 1) ≡ take (id_len s) waiting → id ≡ id_len s → bits ≡ s.bits → v < 2 ^ bits → word bits v ≡ take bits (drop id waiting)
+pub behind_reference_ahead : (waiting : List Bool) (s : Parameters) (b before from v k id bits n size width : ℕ) (numbers words numbers_behind words_behind highs lows : List ℕ) → HasLanes s size width → size ≤ 16 → is_reference s b ≡ true → k < 3 + 3 * width
+    → 208 ≤ length waiting → word (id_len s) (k + 1) ≡ take (id_len s) waiting → id ≡ id_len s → bits ≡ s.bits → v < 2 ^ bits → word bits v ≡ take bits (drop id waiting)
     → from < value_count s → pattern s (value_at s from) ≡ v → BeginWithSequences (drop (id + bits) waiting) (size - 1) numbers n
     → length words ≡ 16 → All (λ l. l < 2 ^ k) words → flat_map (word k) words ≡ take (16 * k) (drop (id + bits + n) waiting)
     → numbers_behind ≡ 0 ∷ take 15 numbers → words_behind ≡ 0 ∷ take 15 words
     → highs ≡ take size numbers_behind ++ replicate (16 - size) 0 → lows ≡ take size words_behind ++ replicate (16 - size) 0
-    → PartsAhead waiting s b before k from highs lows (id + bits + n + (size - 1) * k)
-behind_reference_ahead waiting s b before from v k id bits n size width numbers words numbers_behind words_behind highs lows has reference lt there id_word id_is bits_are fits value begins pat found len low spelled_words number_is word_is high_is low_is =
-    let known = lanes_known s size width has in
-    let most = known.most in
+    → PartsAhead waiting s b before k from 16 highs lows (id + bits + n + (size - 1) * k)
+behind_reference_ahead waiting s b before from v k id bits n size width numbers words numbers_behind words_behind highs lows has most reference lt there id_word id_is bits_are fits value begins pat found len low spelled_words number_is word_is high_is low_is =
+    let known = width_known s width has.samples in
+    let some = some_samples s size width has in
     let narrow = known.few in
-    let split = split_fits s size width k has lt in
+    let split = split_fits s width k has.samples lt in
     let m = size - 1 in
-    let one : size ≡ suc m = omega (arith, known.some) in
+    let one : size ≡ suc m = omega (arith, some) in
     let less : m ≤ 15 = omega (arith, most) in
     let ms = take m numbers in
     let ls = take m words in
@@ -230,25 +255,25 @@ behind_reference_ahead waiting s b before from v k id bits n size width numbers 
     let n_few = found.few in
     let short = known.short in
     let id_here = known.id_is in
+    let many = lanes_sixteen size numbers_behind highs long_numbers most high_is in
     record {
       begins = begins;
-      sixteen = (lanes_sixteen size numbers_behind highs long_numbers most high_is, lanes_sixteen size words_behind lows long_words most low_is);
+      counts = (lanes_sixteen size numbers_behind highs long_numbers most high_is, lanes_sixteen size words_behind lows long_words most low_is);
       low = lanes-low k size words words_behind lows word_is low_is low;
       whole = λ lanes near.
           (let ranked : ranks_below (value_count s) from (take s.block lanes) ≡ 0 ∷ joined_parts k ms ls =
           ap (λ z. ranks_below (value_count s) from (take z lanes)) has.size_is ∙ (take-ranks size (value_count s) from lanes ∙ (ap (take size) near.ranked
           ∙ (take-joined size k highs lows ∙ ((λ j. joined_parts k (first_highs j) (first_lows j)) ∙ zero-joined k ms ls)))) in
           subst (BlockAhead waiting s b (value_at s before) lanes) all
-          (split_ahead waiting s b before from k (Some v) ms ls lanes s.bits n (m * k) has.preprocess (omega (arith, known.some, has.size_is)) (omega (arith, most, has.size_is)) (record { there = sym reference; fits = subst (λ w. v < 2 ^ w) bits_are fits }) split.0 id_word
+          (split_ahead waiting s b before from k (Some v) ms ls lanes s.bits n (m * k) has.preprocess (omega (arith, some, has.size_is)) (record { there = sym reference; fits = subst (λ w. v < 2 ^ w) bits_are fits }) split.0 id_word
           first (found.spelled ∙ ap (λ h. take n (drop h waiting)) place) lowest
-          (omega (arith, there, id_here, short, n_few, room, narrow)) same (All-take (λ l. l < 2 ^ k) m words low) begins pat tt near.len near.legal ranked));
+          (omega (arith, there, id_here, short, n_few, room, narrow)) same (All-take (λ l. l < 2 ^ k) m words low) begins pat tt (omega (arith, near.len, many, most, has.size_is)) near.legal ranked));
     }
 
 -- one byte of each sample
-pub bytes_near : (s : Parameters) (from k size : ℕ) (highs lows levels old spelled : List ℕ) → 1 ≤ s.bits → HasLanes s size 1 → AreNearLevels s from k highs lows levels → 32 ≤ length old → length spelled ≡ 16 → spelled ≡ spellings s (values_at s levels)
+pub bytes_near : (s : Parameters) (from k size : ℕ) (highs lows levels old spelled : List ℕ) → 1 ≤ s.bits → HasWidth s 1 → size ≤ 16 → AreNearLevels s from k highs lows levels → 32 ≤ length old → length spelled ≡ 16 → spelled ≡ spellings s (values_at s levels)
     → SpellsNear s from k size highs lows (slice_index_or levels (size - 1) 0) (put_chunk 0 old spelled)
-bytes_near s from k size highs lows levels old spelled some has near room count is =
-    let most = (lanes_known s size 1 has).most in
+bytes_near s from k size highs lows levels old spelled some has most near room count is =
     let narrow = has.narrow refl in
     let one : width s * size ≡ size = ap (λ w. w * size) (one_byte s narrow) ∙ omega arith in
     let front : take size (put_chunk 0 old spelled) ≡ take size spelled = sym (take-take size 16 (put_chunk 0 old spelled) most) ∙ ap (take size) (take_more_put_chunk 0 old spelled 16 (omega (arith, count)) (omega (arith, room))) in
@@ -260,7 +285,7 @@ bytes_near s from k size highs lows levels old spelled some has near room count 
     }
 
 -- two bytes of each of eight samples, and of sixteen
-pub words_near : (s : Parameters) (from k size : ℕ) (highs lows first second old spelled : List ℕ) → size ≡ 8 → HasLanes s size 2 → AreNearLevels s from k highs lows (first ++ second) → length first ≡ 8 → 32 ≤ length old
+pub words_near : (s : Parameters) (from k size : ℕ) (highs lows first second old spelled : List ℕ) → size ≡ 8 → HasWidth s 2 → AreNearLevels s from k highs lows (first ++ second) → length first ≡ 8 → 32 ≤ length old
     → length spelled ≡ 16 → spelled ≡ spellings s (values_at s first) → SpellsNear s from k size highs lows (slice_index_or first 7 0) (put_chunk 0 old spelled)
 words_near s from k size highs lows first second old spelled eight has near len room count is =
     let wide = has.wide refl in
@@ -284,11 +309,10 @@ pub bytes_given : {I : Type 0} (start marked middle new : Reader I) (first steps
     → GivesBytes start new first last p q bytes
 bytes_given start marked middle new first steps last p q lanes len l size bytes_of_one bytes legal has ahead marks takes counted skips skipped forward last_is moves spelled =
     let s = p.setting in
-    let known = lanes_known s size bytes_of_one has in
-    let most = known.most in
+    let some = some_samples s size bytes_of_one has in
     let levels = take s.block lanes in
     let samples = values_at s levels in
-    let long : length levels ≡ size = length-take-le s.block lanes (omega (arith, ahead.sixteen, most, has.size_is)) ∙ has.size_is in
+    let long : length levels ≡ size = length-take-le s.block lanes ahead.enough ∙ has.size_is in
     let many : length samples ≡ size = length-values s levels ∙ long in
     let same : marked.waiting ≡ start.waiting = ap (λ r. r.waiting) marks in
     let bits : take len marked.waiting ≡ bits_of_set s ahead.set = ap (take len) same ∙ ahead.bits in
@@ -305,9 +329,9 @@ bytes_given start marked middle new first steps last p q lanes len l size bytes_
     } in
     let from_start : TakesSet (with_mark start) middle first steps s p.block p.before samples 0 = subst (λ r. TakesSet r middle first steps s p.block p.before samples 0) marks set in
     let end : length levels - 1 ≡ size - 1 = omega (arith, long) in
-    let inside : size - 1 < s.block = omega (arith, known.some, has.size_is) in
+    let inside : size - 1 < s.block = omega (arith, some, has.size_is) in
     let value : value_at s l ≡ last_of p.before samples =
-    ap (value_at s) (last_is ∙ (sym (get_or-take s.block lanes (size - 1) 0 inside) ∙ ap (λ n. slice_index_or levels n 0) (sym end))) ∙ last_value s p.before levels (omega (arith, long, known.some)) in
+    ap (value_at s) (last_is ∙ (sym (get_or-take s.block lanes (size - 1) 0 inside) ∙ ap (λ n. slice_index_or levels n 0) (sym end))) ∙ last_value s p.before levels (omega (arith, long, some)) in
     let bound = samples_by_bits (with_mark start) middle first steps s p.block p.before samples 0 legal from_start in
     let none : q.run ≡ 0 = ap (λ r. r.run) moves in
     record {
@@ -322,16 +346,16 @@ pub all_behind : (P : ℕ → Type 0) (xs ys : List ℕ) → All P (xs ++ ys) �
 all_behind P [] ys h = h
 all_behind P (x ∷ xs) ys h = all_behind P xs ys (λ i d lt. h (suc i) d (omega (arith, lt)))
 
-spelled_both : (s : Parameters) (xs ys : List ℕ) → spellings s (values_at s xs) ++ spellings s (values_at s ys) ≡ spellings s (values_at s (xs ++ ys))
+pub spelled_both : (s : Parameters) (xs ys : List ℕ) → spellings s (values_at s xs) ++ spellings s (values_at s ys) ≡ spellings s (values_at s (xs ++ ys))
 spelled_both s [] ys = refl
 spelled_both s (x ∷ xs) ys = append_assoc (spelling s (value_at s x)) (spellings s (values_at s xs)) (spellings s (values_at s ys)) ∙ ap (λ l. spelling s (value_at s x) ++ l) (spelled_both s xs ys)
 
-pub sixteen_words_near : (s : Parameters) (from k size : ℕ) (highs lows first second old spelled more : List ℕ) → HasLanes s size 2 → size ≢ 8 → AreNearLevels s from k highs lows (first ++ second) → length first ≡ 8 → length second ≡ 8 → 32 ≤ length old
+pub sixteen_words_near : (s : Parameters) (from k size : ℕ) (highs lows first second old spelled more : List ℕ) → HasWidth s 2 → (size ≡ 8) ⊎ (size ≡ 16) → size ≢ 8 → AreNearLevels s from k highs lows (first ++ second) → length first ≡ 8 → length second ≡ 8 → 32 ≤ length old
     → length spelled ≡ 16 → length more ≡ 16 → spelled ≡ spellings s (values_at s first) → more ≡ spellings s (values_at s second)
     → SpellsNear s from k size highs lows (slice_index_or second 7 0) (put_chunk 16 (put_chunk 0 old spelled) more)
-sixteen_words_near s from k size highs lows first second old spelled more has other near len many room count counted is more_is =
+sixteen_words_near s from k size highs lows first second old spelled more has sizes other near len many room count counted is more_is =
     let wide = has.wide refl in
-    let sixteen : size ≡ 16 = elim has.sizes [ inl e ↦ absurd (other e) | inr e ↦ e ] in
+    let sixteen : size ≡ 16 = elim sizes [ inl e ↦ absurd (other e) | inr e ↦ e ] in
     let two : width s * size ≡ 32 = (λ j. two_bytes s wide.0 wide.1 j * sixteen j) in
     let long : length (put_chunk 0 old spelled) ≡ length old = length-put_chunk 0 old spelled in
     let front : take 16 (put_chunk 0 old spelled) ≡ spelled = take_more_put_chunk 0 old spelled 16 (omega (arith, count)) (omega (arith, room)) in
@@ -347,12 +371,6 @@ sixteen_words_near s from k size highs lows first second old spelled more has ot
     }
 
 -- a block whose bytes are written
-pub record SpelledAhead (waiting : List Bool) (s : Parameters) (b : ℕ) (p : ℤ) (size l len : ℕ) (bytes : List ℕ) : Type 0 where
-  pub levels : List ℕ
-  pub ahead : BlockAhead waiting s b p levels len
-  pub last_is : l ≡ slice_index_or levels (size - 1) 0
-  pub spelled : take (width s * size) bytes ≡ spellings s (values_at s (take size levels))
-
-pub spelled_ahead : (waiting : List Bool) (s : Parameters) (b before k from size l len : ℕ) (highs lows bytes : List ℕ) → PartsAhead waiting s b before k from highs lows len → SpellsNear s from k size highs lows l bytes
+pub spelled_ahead : (waiting : List Bool) (s : Parameters) (b before k from size l len : ℕ) (count : ℕ) (highs lows bytes : List ℕ) → PartsAhead waiting s b before k from count highs lows len → SpellsNear s from k size highs lows l bytes
     → SpelledAhead waiting s b (value_at s before) size l len bytes
-spelled_ahead waiting s b before k from size l len highs lows bytes parts near = record { levels = near.levels; ahead = parts.whole near.levels near.near; last_is = near.last_is; spelled = near.spelled }
+spelled_ahead waiting s b before k from size l len count highs lows bytes parts near = record { levels = near.levels; ahead = parts.whole near.levels near.near; last_is = near.last_is; spelled = near.spelled }

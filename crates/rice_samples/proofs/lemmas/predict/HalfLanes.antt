@@ -54,7 +54,8 @@ joined-halves k (suc n) [] (l ∷ ls) e = absurd (omega (arith, e))
 joined-halves k (suc n) (m ∷ ms) [] e = absurd (omega (arith, e))
 joined-halves k (suc n) (m ∷ ms) (l ∷ ls) e = ap (λ ds. (m * 2 ^ k + l) ∷ ds) (joined-halves k n ms ls (omega (arith, e)))
 
-last_is : (p n : ℕ) (xs : List ℕ) → length xs ≡ suc n → last_number p xs ≡ get_or xs n 0
+-- the last of so many numbers
+pub last_is : (p n : ℕ) (xs : List ℕ) → length xs ≡ suc n → last_number p xs ≡ get_or xs n 0
 last_is p n [] e = absurd (omega (arith, e))
 last_is p zero (x ∷ []) e = refl
 last_is p zero (x ∷ y ∷ xs) e = absurd (omega (arith, e))
@@ -67,7 +68,7 @@ pub halves_are : (s : Parameters) (before width greatest last : ℕ) (highs lows
     → ranks_below (greatest + 1) before first ≡ joined_parts width (take 8 highs) (take 8 lows) → ranks_below (greatest + 1) last second ≡ joined_parts width (drop 8 highs) (drop 8 lows)
     → AreNearLevels s before width highs lows (first ++ second)
 halves_are s before width greatest last highs lows first second count h l f g e small few ranked more = record {
-  len = length-append first second ∙ omega (arith, f, g);
+  len = length-append first second ∙ omega (arith, f, g, h);
   legal = λ i d lt. let x = All-append (λ x. x ≤ greatest) first second small few i d lt in omega (arith, x, count);
   ranked =
       ap (λ n. ranks_below n before (first ++ second)) (sym count)

@@ -164,7 +164,7 @@ bounds-fit w g xs bs e = subst (λ (ys : List ℕ). Each1 (Fits w) ys) (sym e) (
     each [] = tt
     each (x ∷ xs) = (record { fits = mod_below (reach (2 ^ bits w) g x + reach (2 ^ bits w) g x) (2 ^ bits w) (pow_pos (bits w)) }, each xs)
 
-pub near_levels_are : (s : Parameters) (m before width greatest : ℕ) (highs lows ranks levels : List ℕ) → greatest + 1 ≡ value_count s → length ranks ≡ 16 → levels ≡ near_numbers m before ranks
+pub near_levels_are : (s : Parameters) (m before width greatest : ℕ) (highs lows ranks levels : List ℕ) → greatest + 1 ≡ value_count s → length ranks ≡ length highs → levels ≡ near_numbers m before ranks
     → ranks ≡ joined_parts width highs lows → All (λ x. x ≤ greatest) levels → ranks_below (greatest + 1) before levels ≡ ranks
     → AreNearLevels s before width highs lows levels
 near_levels_are s m before width greatest highs lows ranks levels count len near joined legal ranked = record {

@@ -1,19 +1,19 @@
 use Rattle.std.proofs.Common.{arith, refl, subst}
 use Rattle.rice_samples.specs.Parameters.{IsLegal}
+use Rattle.rice_code.specs.decode.BlocksAhead.{SpelledAhead}
 use Rattle.rice_code.specs.decode.Decoder.{with_mark}
 use Rattle.rice_code.specs.decode.DecoderState.{DecoderState}
-use Rattle.rice_code.proofs.lemmas.decode.BlocksAhead.{SpelledAhead, bytes_given, spelled_ahead}
+use Rattle.rice_code.proofs.lemmas.decode.BlocksAhead.{bytes_given}
 use Rattle.rice_code.proofs.decode.decoder.Decoder.read_in_lanes.Goals as goal
 
 pub returns-clause-some : goal.returns-clause-some
 returns-clause-some g c _ =
     let view = c.self.view_is in
-    let parts = c.in-Some.parts in
+    let spelled = c.in-Some.spelled in
     let start = c.args.reader.now in
-    let bytes = c.spell_near.new.bytes in
+    let bytes = c.spell_ahead.new.bytes in
     let legal = subst (λ (p : DecoderState). IsLegal p.setting) view c.self.invariant.1.legal in
-    let found = spelled_ahead start.waiting c.self.inside.setting c.self.inside.block c.self.inside.before c.args.k parts.from g.row.SIZE c.in-Some-spell_near.last parts.len parts.highs parts.lows bytes c.in-Some.ensures c.in-Some-spell_near.ensures.some in
-    let block = subst (λ (p : DecoderState). SpelledAhead start.waiting p.setting p.block p.before g.row.SIZE c.in-Some-spell_near.last parts.len bytes) view found in
-    bytes_given start (with_mark start) c.take_ahead.new.reader c.go_on-answer.new.reader c.args.meter.now c.take_ahead.new.meter c.go_on-answer.new.meter c.args.self.now c.go_on-answer.new.self block.levels parts.len c.in-Some-spell_near.last g.row.SIZE g.row.WIDTH bytes
+    let block = subst (λ (p : DecoderState). SpelledAhead start.waiting p.setting p.block p.before g.row.SIZE spelled.last spelled.len bytes) view c.in-Some.ensures.some in
+    bytes_given start (with_mark start) c.take_ahead.new.reader c.go_on-answer.new.reader c.args.meter.now c.take_ahead.new.meter c.go_on-answer.new.meter c.args.self.now c.go_on-answer.new.self block.levels spelled.len spelled.last g.row.SIZE g.row.WIDTH bytes
     legal c.requires.lanes block.ahead refl c.take_ahead.ensures.takes c.take_ahead.ensures.steps c.go_on-answer.ensures.skips c.go_on-answer.ensures.steps (omega (arith, c.go_on-answer.ensures.few)) block.last_is
     c.go_on-answer.ensures.moves block.spelled

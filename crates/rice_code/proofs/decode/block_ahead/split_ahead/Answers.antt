@@ -1,14 +1,14 @@
 use Rattle.std.proofs.Common.{◌≡◌, ◌+◌, ◌-◌, ◌∙◌, arith, take, sym}
 use Rattle.rice_samples.specs.Parameters.{id_len}
 use Rattle.rice_bits.specs.Bits.{word}
-use Rattle.rice_code.proofs.lemmas.decode.BlocksAhead.{lanes_known}
-use Rattle.rice_code.proofs.decode.block_lanes.split_ahead.Goals as goal
+use Rattle.rice_code.proofs.lemmas.decode.BlocksAhead.{width_known}
+use Rattle.rice_code.proofs.decode.block_ahead.split_ahead.Goals as goal
 
 pub returns : goal.returns
 returns g c =
     let s = c.args.setting.now in
     let waiting = c.args.reader.now.waiting in
-    let known = lanes_known s g.row.SIZE g.row.WIDTH c.requires.lanes in
+    let known = width_known s g.row.WIDTH c.requires.lanes.samples in
     let id = c.number_ahead-id.result in
     let same : id ≡ id - 1 + 1 = omega (arith, c.if-id-lt1.false) in
     let here = c.number_ahead-id.ensures.bits in
