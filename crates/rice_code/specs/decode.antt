@@ -3,6 +3,7 @@ pub mod BlocksAhead
 pub mod Decoder
 pub mod DecoderState
 pub mod Fields
+pub mod PlainBlocks
 pub mod ReadSets
 pub mod Restored
 pub mod RowsAhead

@@ -11,5 +11,6 @@ mod fields;
 mod options;
 mod pair;
 mod parts;
+mod plain_blocks;
 mod residuals;
 mod restoring;

@@ -1,4 +1,5 @@
 -- Samples in bytes.
+pub mod PatternLanes
 pub mod Patterns
 pub mod Spelling
 pub mod Values

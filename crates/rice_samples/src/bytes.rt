@@ -1,5 +1,6 @@
 //! Samples in bytes: the one spelling of each, and reading and writing several at once.
 
+pub mod pattern_lanes;
 pub mod patterns;
 pub mod reading;
 pub mod spelling;

@@ -12,6 +12,7 @@ pub mod setting;
 
 pub use blocks::block::Block;
 pub use blocks::segment::{Residuals, Segment};
+pub use bytes::pattern_lanes::bytes_of_patterns;
 pub use bytes::patterns::spell_patterns;
 pub use bytes::reading::levels_of;
 pub use bytes::spelling::{bytes_of, sample_of};

@@ -7,6 +7,7 @@ ghost use Rattle.rice_stream.specs.Decodes.{Decodes, DecodesWithin, Reports, wan
 
 use crate::outcome::{Fault, Outcome, Report};
 use crate::patience::Patience;
+use crate::plain::{decode_plain, is_plain};
 use crate::runs::write_run;
 use crate::write::{write_all, write_block};
 use arrayvec::ArrayVec;
@@ -15,7 +16,7 @@ use rice_code::{CodeFault, Decoder, Step};
 use rice_samples::Setting;
 
 /// Returns how many samples of the next block are wanted after the first `written`.
-fn wanted(asked: Option<u64>, written: u64, block: u32) -> usize
+pub(crate) fn wanted(asked: Option<u64>, written: u64, block: u32) -> usize
     ensures value { result ≡ wanted_of asked written block }
     ensures most { result ≤ block }
 {
@@ -26,7 +27,7 @@ fn wanted(asked: Option<u64>, written: u64, block: u32) -> usize
 }
 
 /// Returns the fault of a code of which no 1 is left: none, unless more samples were asked for.
-fn end_of(asked: Option<u64>, samples: u64) -> Option<Fault>
+pub(crate) fn end_of(asked: Option<u64>, samples: u64) -> Option<Fault>
     ensures { result ≡ ended_fault asked samples }
 {
     match asked {
@@ -36,7 +37,7 @@ fn end_of(asked: Option<u64>, samples: u64) -> Option<Fault>
 }
 
 /// Returns the fault of decoding that stops after `samples` samples because the decoder refuses with `fault`.
-fn fault_of(fault: CodeFault, samples: u64, block: u32) -> Fault
+pub(crate) fn fault_of(fault: CodeFault, samples: u64, block: u32) -> Fault
     requires { 0 < block }
     ensures { result ≡ refusal_fault fault samples block }
 {
@@ -54,7 +55,7 @@ fn fault_of(fault: CodeFault, samples: u64, block: u32) -> Fault
 }
 
 /// Returns the report of decoding that ends here, and the intake.
-fn ended<I: Intake>(
+pub(crate) fn ended<I: Intake>(
     fault: Option<Fault>,
     samples: u64,
     reader: BitReader<I>,
@@ -119,6 +120,15 @@ pub fn decode<I: Intake, O: Outlet>(
     }
     if has_lanes::<64, 2>(setting) {
         return decode_in_lanes::<I, O, 64, 2>(setting, asked, intake, outlet);
+    }
+    if is_plain::<1>(setting) {
+        return decode_plain::<I, O, 1>(setting, asked, intake, outlet);
+    }
+    if is_plain::<2>(setting) {
+        return decode_plain::<I, O, 2>(setting, asked, intake, outlet);
+    }
+    if is_plain::<4>(setting) {
+        return decode_plain::<I, O, 4>(setting, asked, intake, outlet);
     }
     match asked {
         None => decode_all::<I, O>(setting, intake, outlet),
@@ -230,7 +240,7 @@ fn next_bytes<I: Intake, const SIZE: usize, const WIDTH: usize>(
 }
 
 /// Returns whether all of the next block is wanted, of `count` samples that are.
-fn is_whole(count: usize, block: u32) -> bool
+pub(crate) fn is_whole(count: usize, block: u32) -> bool
     ensures { result ≡ true → count ≡ block }
 {
     count == block as usize

@@ -8,6 +8,7 @@ pub mod feeding;
 pub mod laws;
 pub mod outcome;
 mod patience;
+mod plain;
 pub mod pulling;
 mod runs;
 pub mod seam;

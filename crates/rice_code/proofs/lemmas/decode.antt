@@ -4,6 +4,7 @@ pub mod CutSets
 pub mod DecoderLemmas
 pub mod FieldLemmas
 pub mod JoinedParts
+pub mod PlainBlocksRead
 pub mod ReadLemmas
 pub mod RestoredBlocks
 pub mod RowsAhead

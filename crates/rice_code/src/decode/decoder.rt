@@ -8,6 +8,7 @@ ghost use Rattle.rice_code.specs.code.Blocks.{BlockData, block_data, zero_block}
 ghost use Rattle.rice_code.specs.code.Forms.{IsReference, RunIsSound, blocks_in, zero_blocks};
 ghost use Rattle.rice_code.specs.decode.BlocksAhead.{GivesBytes, HasLanes};
 ghost use Rattle.rice_code.specs.decode.Fields.{HasRoom, AreCounted};
+ghost use Rattle.rice_code.specs.decode.PlainBlocks.{IsPlain};
 ghost use Rattle.rice_code.specs.decode.Decoder.{TakesSet, StopsBy, Skips, answer_to};
 ghost use Rattle.rice_code.specs.decode.DecoderState.{next_block_place, place_after};
 ghost use Rattle.rice_code.specs.code.Layout.{padding};
@@ -17,6 +18,7 @@ use crate::decode::block_ahead::{spell_ahead, split_ahead, take_ahead};
 use crate::decode::coded_data_set::read_set;
 use crate::decode::fault::{CodeFault, Step};
 use crate::decode::options::SetHead;
+use crate::decode::plain_blocks::{is_plain_ahead, last_of_plain, plain_len, spell_plain};
 use crate::decode::restoring::{restore_block, restore_zeros};
 use crate::sizes::known_or;
 use arrayvec::ArrayVec;
@@ -362,6 +364,45 @@ impl Decoder {
         take_ahead(reader, spelled.len, meter);
         let _answer = self.go_on(spelled.last, 0, reader, meter);
         true
+    }
+
+    /// Reads the next coded data set and writes the bytes of its block, whose samples are not predicted and use all bits of `WIDTH`
+    /// bytes, to the front of `bytes`, if it is not compressed, and it waits. Returns whether it did; otherwise nothing has happened,
+    /// and [`next_levels`](Self::next_levels) gives the block.
+    #[inline(always)]
+    pub fn next_plain_bytes<I: Intake, const WIDTH: usize>(
+        &mut self,
+        reader: &mut BitReader<I>,
+        meter: &mut Meter,
+        bytes: &mut [u8],
+    ) -> bool
+        requires plain { IsPlain self.old.setting WIDTH }
+        requires stopped { self.old.stopped ≡ None }
+        requires going { reader.old.refusal ≡ None }
+        requires room { meter.old + 2 * (2 ^ 52 - reader.old.taken) + 64 < 2 ^ 62 }
+        requires bytes { 272 ≤ length bytes.old }
+        ensures some { result ≡ true → (self.old.run ≡ 0) ×
+            GivesBytes reader.old reader.new meter.old meter.new self.old self.new bytes.new }
+        ensures none { result ≡ false → (self.new ≡ self.old) × (reader.new ≡ reader.old) ×
+            (meter.new ≡ meter.old) × (bytes.new ≡ bytes.old) }
+        // It may be called again with this reader.
+        ensures going { reader.new.refusal ≡ None }
+        ensures stopped { self.new.stopped ≡ None }
+        ensures setting { self.new.setting ≡ self.old.setting }
+        // Steps are at least the bits taken, and at most twice as many.
+        ensures steps { AreCounted meter.old meter.new reader.old.taken reader.new.taken }
+    {
+        let _taken = reader.taken();
+        if self.run > 0 {
+            return false;
+        }
+        if !is_plain_ahead::<I, WIDTH>(&self.setting, reader) {
+            return false;
+        }
+        spell_plain::<I, WIDTH>(&self.setting, reader, bytes);
+        let last = last_of_plain::<I, WIDTH>(&self.setting, reader);
+        take_ahead(reader, plain_len::<WIDTH>(&self.setting), meter);
+        self.go_on(last, 0, reader, meter).is_ok()
     }
 
     /// Restores the samples of the next block, as `next_block` does, by their levels: the level of a sample is the number of legal

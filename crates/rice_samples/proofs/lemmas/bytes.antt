@@ -5,3 +5,4 @@ pub mod ReadLevels
 pub mod ReadSamples
 pub mod SpelledPatterns
 pub mod SpellingLemmas
+pub mod WordLanes

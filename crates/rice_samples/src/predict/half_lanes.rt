@@ -71,7 +71,7 @@ pub fn spelled_words(setting: &Setting, levels: u16x8) -> u8x16
 
 /// Returns the bytes of each pair in the other order.
 #[inline(always)]
-fn in_pairs_swapped(bytes: u8x16) -> u8x16
+pub(crate) fn in_pairs_swapped(bytes: u8x16) -> u8x16
     requires { length bytes ≡ 16 }
     ensures { result ≡ swapped bytes }
 {

@@ -29,7 +29,7 @@ advances_spelled {p = p} none g = record {
 }
 
 -- the bytes that are written of it
-spelled_front : (s t : Parameters) (w count : ℕ) (samples : List ℤ) (bytes : List ℕ) → t ≡ s → w ≡ width s → count ≡ s.block → length samples ≡ s.block → take (width t * length samples) bytes ≡ spellings t samples
+pub spelled_front : (s t : Parameters) (w count : ℕ) (samples : List ℤ) (bytes : List ℕ) → t ≡ s → w ≡ width s → count ≡ s.block → length samples ≡ s.block → take (width t * length samples) bytes ≡ spellings t samples
     → take (w * count) bytes ≡ spellings s (take count samples)
 spelled_front s t w count samples bytes same wide all len spelled =
     let many : count ≡ length samples = omega (arith, all, len) in

@@ -27,7 +27,7 @@ pub values_replicate : (s : Parameters) (n l : ℕ) → values_at s (replicate n
 values_replicate s zero l = refl
 values_replicate s (suc n) l = ap (λ xs. value_at s l ∷ xs) (values_replicate s n l)
 
-last_at : (p d : ℤ) (xs : List ℤ) → 0 < length xs → last_of p xs ≡ slice_index_or xs (length xs - 1) d
+pub last_at : (p d : ℤ) (xs : List ℤ) → 0 < length xs → last_of p xs ≡ slice_index_or xs (length xs - 1) d
 last_at p d [] h = absurd (omega arith)
 last_at p d (x ∷ []) h = refl
 last_at p d (x ∷ y ∷ ys) h =

@@ -1,0 +1,111 @@
+//! Blocks without compression whose samples are not predicted, and use all bits of 1, 2 or 4 bytes: these bytes stand in the code.
+ghost use Rattle.std.specs.Prelude.{◌≡◌, ℕ, ◌+◌, ◌-◌, ◌*◌, ◌^◌, ◌<◌, ◌≤◌, true, length, take, drop};
+ghost use Rattle.rice_bits.specs.Bits.{word};
+ghost use Rattle.rice_samples.specs.Parameters.{id_len, value_at, value_count};
+ghost use Rattle.rice_samples.specs.predict.Residuals.{pattern};
+ghost use Rattle.rice_code.specs.decode.PlainBlocks.{IsPlain, WordsAhead};
+
+use rice_bits::{BitReader, Intake};
+use rice_samples::{Setting, bytes_of_patterns, level_of_pattern};
+
+/// The bits behind a block that are looked at with it, at most.
+const BEHIND: u64 = 128;
+
+/// Returns the number of bits of an identifier, which the compiler knows.
+#[inline(always)]
+fn known_id_len<const WIDTH: usize>(setting: &Setting) -> usize
+    requires { IsPlain setting.now WIDTH }
+    ensures value { result ≡ id_len setting.now }
+    ensures range { (3 ≤ result) × (result ≤ 5) }
+{
+    if WIDTH == 4 { 5 } else { WIDTH + 2 }
+}
+
+/// Returns the identifier of a block without compression, which the compiler knows.
+#[inline(always)]
+fn known_id<const WIDTH: usize>(setting: &Setting) -> u32
+    requires { IsPlain setting.now WIDTH }
+    ensures { result ≡ 2 ^ id_len setting.now - 1 }
+{
+    if WIDTH == 1 {
+        7
+    } else if WIDTH == 2 {
+        15
+    } else {
+        31
+    }
+}
+
+/// Returns the number of bytes of the samples of a block.
+#[inline(always)]
+fn block_bytes<const WIDTH: usize>(setting: &Setting) -> usize
+    requires { IsPlain setting.now WIDTH }
+    ensures value { result ≡ WIDTH * setting.now.block }
+    ensures range { (WIDTH ≤ result) × (result ≤ 256) }
+{
+    WIDTH * setting.block() as usize
+}
+
+/// Returns the number of bits of a block without compression.
+#[inline(always)]
+pub fn plain_len<const WIDTH: usize>(setting: &Setting) -> usize
+    requires { IsPlain setting.now WIDTH }
+    ensures value { result ≡ id_len setting.now + 8 * (WIDTH * setting.now.block) }
+    ensures range { result ≤ 2053 }
+{
+    known_id_len::<WIDTH>(setting) + 8 * block_bytes::<WIDTH>(setting)
+}
+
+/// Returns whether a block without compression waits, and so many bits that all of it may be looked at.
+#[inline(always)]
+pub fn is_plain_ahead<I: Intake, const WIDTH: usize>(
+    setting: &Setting,
+    reader: &BitReader<I>,
+) -> bool
+    requires { IsPlain setting.now WIDTH }
+    ensures there { result ≡ true →
+        id_len setting.now + 8 * (WIDTH * setting.now.block) + 128 ≤ length reader.now.waiting }
+    ensures id { result ≡ true →
+        word (id_len setting.now) (2 ^ id_len setting.now - 1) ≡ take (id_len setting.now) reader.now.waiting }
+{
+    if reader.waiting() < plain_len::<WIDTH>(setting) as u64 + BEHIND {
+        return false;
+    }
+    let head = known_id_len::<WIDTH>(setting);
+    reader.number_ahead(0, head as u32) == known_id::<WIDTH>(setting)
+}
+
+/// Writes the bytes of the samples of the block without compression that waits. It takes nothing, and may write more behind these
+/// bytes.
+#[inline(always)]
+pub fn spell_plain<I: Intake, const WIDTH: usize>(
+    setting: &Setting,
+    reader: &BitReader<I>,
+    bytes: &mut [u8],
+)
+    requires plain { IsPlain setting.now WIDTH }
+    requires there { id_len setting.now + 8 * (WIDTH * setting.now.block) + 128 ≤ length reader.now.waiting }
+    requires room { 272 ≤ length bytes.old }
+    ensures { WordsAhead reader.now.waiting setting.now WIDTH (WIDTH * setting.now.block) bytes.new }
+{
+    let count = block_bytes::<WIDTH>(setting);
+    let head = known_id_len::<WIDTH>(setting);
+    for i in 0..(count + 15) / 16 {
+        let patterns = reader.words_ahead(head + 128 * i, 8);
+        let spelled = bytes_of_patterns::<WIDTH>(setting, patterns);
+        spelled.copy_to_slice(&mut bytes[16 * i..]);
+    }
+}
+
+/// Returns the level of the last sample of the block without compression that waits.
+#[inline(always)]
+pub fn last_of_plain<I: Intake, const WIDTH: usize>(setting: &Setting, reader: &BitReader<I>) -> u32
+    requires plain { IsPlain setting.now WIDTH }
+    requires there { id_len setting.now + 8 * (WIDTH * setting.now.block) + 128 ≤ length reader.now.waiting }
+    ensures below { result < value_count setting.now }
+    ensures last { word (8 * WIDTH) (pattern setting.now (value_at setting.now result)) ≡ take (8 * WIDTH)
+        (drop (id_len setting.now + 8 * (WIDTH * setting.now.block - WIDTH)) reader.now.waiting) }
+{
+    let before = known_id_len::<WIDTH>(setting) + 8 * (block_bytes::<WIDTH>(setting) - WIDTH);
+    level_of_pattern(setting, reader.number_ahead(before, 8 * WIDTH as u32))
+}
