@@ -13,7 +13,7 @@ PYTHON_CODES ?= 1000000
 LIBRARY_CODES ?= 1000000
 
 .DEFAULT_GOAL := help
-.PHONY: help library compat python install install-command install-library install-compat uninstall check clean dist release deb released two-builds test test-each rows hostile interop exhaustive any-block refused-memory installed recipes documents options guesses vectors pictures bench-others bench examples stack header axioms hostile-library hostile-pulls clients hostile-compat python-tests aarch64 bench-compat bench-library wrappers clauses trusted plant
+.PHONY: help library compat python install install-command install-library install-compat uninstall check clean dist release deb released two-builds test test-each rows hostile interop exhaustive any-block refused-memory installed recipes documents options guesses vectors pictures imports bench-others bench examples stack header axioms hostile-library hostile-pulls clients hostile-compat python-tests aarch64 bench-compat bench-library wrappers clauses trusted plant
 
 help:
 	@echo 'make aec                    prove and build the program, as ./aec (ten to thirteen minutes the first time)'
@@ -62,6 +62,7 @@ help:
 	@echo 'make bench-compat           compare the speed of ./compat/out and of Debian'"'"'s libaec and szlib (libaec-dev)'
 	@echo 'make wrappers               turn the wrappers of readers, writers and the runtime into wrong ones, which the tests refuse'
 	@echo 'make clauses                compare the clauses of public calls with the edits that must fail'
+	@echo 'make imports                look for imports of definitions that no clause uses'
 	@echo 'make trusted                compare docs/TRUSTED.md with the definitions that the promises rest on'
 	@echo 'make plant                  plant wrong bodies under all contracts, and compare what is proved with docs/PLANTS.md (hours)'
 	@echo "make bench-library          compare the speed of the library and Debian's libaec (libaec-dev)"
@@ -326,6 +327,9 @@ clauses:
 
 trusted:
 	scripts/trusted.py
+
+imports:
+	scripts/imports.py
 
 plant:
 	scripts/plant.py

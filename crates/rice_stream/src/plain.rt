@@ -1,5 +1,5 @@
 //! Decodes samples that are not predicted, and use all bits of 1, 2 or 4 bytes: blocks without compression are copied.
-ghost use Rattle.std.specs.Prelude.{◌≡◌, ◌⊎◌, ℕ, ◌+◌, ◌-◌, ◌*◌, ◌^◌, ◌<◌, ◌≤◌, Some, None, true, false};
+ghost use Rattle.std.specs.Prelude.{◌≡◌, ◌⊎◌, ◌+◌, ◌-◌, ◌*◌, ◌^◌, ◌<◌, ◌≤◌, Some, None, true, false};
 ghost use Rattle.rice_samples.specs.Parameters.{width as width_of};
 ghost use Rattle.rice_code.specs.decode.BlocksAhead.{GivesBytes};
 ghost use Rattle.rice_code.specs.decode.Fields.{AreCounted};

@@ -1,5 +1,5 @@
 //! Sixteen fundamental sequences at a time.
-ghost use Rattle.std.specs.Prelude.{◌≡◌, ℕ, ◌≤◌, IfSome};
+ghost use Rattle.std.specs.Prelude.{◌≤◌, IfSome};
 ghost use Rattle.rice_bits.specs.Bits.{word};
 ghost use Rattle.rice_bits.specs.lanes.Sequences.{BeginWithSequences};
 

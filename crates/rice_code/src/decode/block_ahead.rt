@@ -1,5 +1,5 @@
 //! Blocks of 8 to 64 samples of at most 16 bits, by a split, in one pass from bits to bytes.
-ghost use Rattle.std.specs.Prelude.{◌≡◌, ◌⊎◌, ℕ, ◌+◌, ◌*◌, ◌^◌, ◌<◌, ◌≤◌, IfSome, IfNone, None, length, take};
+ghost use Rattle.std.specs.Prelude.{◌≡◌, ◌+◌, ◌*◌, ◌^◌, ◌<◌, ◌≤◌, IfSome, IfNone, None, length, take};
 ghost use Rattle.rice_bits.specs.Bits.{word};
 ghost use Rattle.rice_bits.specs.read.Reader.{Takes};
 ghost use Rattle.rice_samples.specs.Parameters.{id_len, value_at, value_count};

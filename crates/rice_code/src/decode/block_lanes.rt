@@ -1,5 +1,5 @@
 //! Blocks of 8 or 16 samples of at most 16 bits, by a split, and rows of sixteen samples of longer blocks.
-ghost use Rattle.std.specs.Prelude.{◌≡◌, ◌⊎◌, ℕ, ◌+◌, ◌-◌, ◌^◌, ◌<◌, ◌≤◌, ◌++◌, ◌*◌, All, true, false, IfSome, IfNone, None, length, replicate, take};
+ghost use Rattle.std.specs.Prelude.{◌≡◌, ◌⊎◌, ◌+◌, ◌-◌, ◌^◌, ◌<◌, ◌≤◌, ◌++◌, ◌*◌, All, true, false, IfSome, IfNone, length, replicate, take};
 ghost use Rattle.rice_bits.specs.Bits.{word};
 ghost use Rattle.rice_samples.specs.Parameters.{id_len, value_count};
 ghost use Rattle.rice_samples.specs.Places.{is_reference};

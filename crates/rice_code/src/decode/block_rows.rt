@@ -1,5 +1,5 @@
 //! Blocks of 32 or 64 samples of at most 16 bits, by a split, in rows of sixteen residuals.
-ghost use Rattle.std.specs.Prelude.{◌≡◌, ◌⊎◌, ℕ, ◌+◌, ◌-◌, ◌*◌, ◌^◌, ◌<◌, ◌≤◌, ◌++◌, All, IfSome, IfNone, drop, length, replicate, true, take};
+ghost use Rattle.std.specs.Prelude.{◌≡◌, ◌⊎◌, ◌+◌, ◌-◌, ◌*◌, ◌^◌, ◌<◌, ◌≤◌, ◌++◌, All, IfSome, IfNone, drop, length, replicate, true, take};
 ghost use Rattle.rice_bits.specs.Bits.{word};
 ghost use Rattle.rice_samples.specs.Parameters.{id_len, value_count};
 ghost use Rattle.rice_code.specs.decode.BlocksAhead.{HasLanes, HasWidth, PartsAhead, SpellsNear};

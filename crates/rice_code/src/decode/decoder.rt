@@ -1,15 +1,13 @@
 //! Decodes coded data sets, a block a call.
-ghost use Rattle.std.specs.Prelude.{◌≡◌, ◌≢◌, ◌⊎◌, ℕ, ◌+◌, ◌-◌, ◌*◌, ◌/◌, ◌^◌, ◌<◌, ◌≤◌, Bool, true, false, List, All, [], length, replicate, take, None, Option, Some, IfOk, IfErr, IfSome, IfNone, Ok, ℤ, pos};
-ghost use Rattle.rice_samples.specs.Parameters.{IsLegal, id_len, value_at, value_count, values_at};
+ghost use Rattle.std.specs.Prelude.{◌≡◌, ◌≢◌, ◌⊎◌, ℕ, ◌+◌, ◌-◌, ◌*◌, ◌^◌, ◌<◌, ◌≤◌, true, false, All, [], length, take, None, Option, Some, IfSome, IfNone, Ok, pos};
+ghost use Rattle.rice_samples.specs.Parameters.{id_len, value_at, value_count, values_at};
 ghost use Rattle.rice_samples.specs.Places.{blocks_left};
-ghost use Rattle.rice_samples.specs.predict.Residuals.{last_of};
 ghost use Rattle.rice_bits.specs.Bits.{word};
-ghost use Rattle.rice_code.specs.code.Blocks.{BlockData, block_data, zero_block};
-ghost use Rattle.rice_code.specs.code.Forms.{IsReference, RunIsSound, blocks_in, zero_blocks};
+ghost use Rattle.rice_code.specs.code.Forms.{RunIsSound, blocks_in, zero_blocks};
 ghost use Rattle.rice_code.specs.decode.BlocksAhead.{GivesBytes, HasLanes};
-ghost use Rattle.rice_code.specs.decode.Fields.{HasRoom, AreCounted};
+ghost use Rattle.rice_code.specs.decode.Fields.{AreCounted};
 ghost use Rattle.rice_code.specs.decode.PlainBlocks.{IsPlain};
-ghost use Rattle.rice_code.specs.decode.Decoder.{TakesSet, StopsBy, Skips, answer_to};
+ghost use Rattle.rice_code.specs.decode.Decoder.{Skips, answer_to};
 ghost use Rattle.rice_code.specs.decode.DecoderState.{next_block_place, place_after};
 ghost use Rattle.rice_code.specs.code.Layout.{padding};
 ghost use Rattle.rice_code.specs.code.CodedDataSets.{run_with_zeros};

@@ -1,5 +1,5 @@
 //! Blocks without compression whose samples are not predicted, and use all bits of 1, 2 or 4 bytes: these bytes stand in the code.
-ghost use Rattle.std.specs.Prelude.{◌≡◌, ℕ, ◌+◌, ◌-◌, ◌*◌, ◌^◌, ◌<◌, ◌≤◌, true, length, take, drop};
+ghost use Rattle.std.specs.Prelude.{◌≡◌, ◌+◌, ◌-◌, ◌*◌, ◌^◌, ◌<◌, ◌≤◌, true, length, take, drop};
 ghost use Rattle.rice_bits.specs.Bits.{word};
 ghost use Rattle.rice_samples.specs.Parameters.{id_len, value_at, value_count};
 ghost use Rattle.rice_samples.specs.predict.Residuals.{pattern};

@@ -1,5 +1,5 @@
 //! Sixteen samples of at most 16 bits from their residuals at a time, in two vectors with lanes of 16 bits.
-ghost use Rattle.std.specs.Prelude.{◌≡◌, ℕ, ◌+◌, ◌*◌, ◌^◌, ◌<◌, ◌≤◌, ◌++◌, All, IfSome, drop, length, take};
+ghost use Rattle.std.specs.Prelude.{◌≡◌, ◌+◌, ◌*◌, ◌^◌, ◌<◌, ◌≤◌, ◌++◌, All, IfSome, drop, length, take};
 ghost use Rattle.rice_bits.specs.read.Parts.{joined_parts};
 ghost use Rattle.rice_samples.specs.Parameters.{value_count, values_at};
 ghost use Rattle.rice_samples.specs.bytes.Spelling.{spellings};
