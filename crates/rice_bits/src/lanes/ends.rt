@@ -15,23 +15,26 @@ static SLIDE: [u8; 64] = [
     14, 15,
 ];
 
-/// Returns the places of the lanes that stand `count` lanes further on.
+/// Returns the places of the lanes that stand as many lanes further on as the first `place` bytes of a word have ones, beside `zeros`.
 #[inline(always)]
-fn places_behind(count: usize) -> u8x16
-    requires { count ≤ 48 }
-    ensures { result ≡ places_behind_of count }
+fn places_behind(place: usize, zeros: usize) -> u8x16
+    requires place { place ≤ 6 }
+    requires zeros { zeros ≤ 8 * place }
+    ensures { result ≡ places_behind_of (8 * place - zeros) }
 {
-    u8x16::from_slice(&SLIDE[48 - count..])
+    // Nothing is subtracted to find the address, as it would be from the number of ones.
+    u8x16::from_slice(&SLIDE[48 - 8 * place + zeros..])
 }
 
-/// Moves lanes `count` places on, with zeros before them.
+/// Moves lanes as many places on as the first `place` bytes of a word have ones, beside `zeros`, with zeros before them.
 #[inline(always)]
-fn moved(lanes: u8x16, count: usize) -> u8x16
-    requires count { count ≤ 48 }
+fn moved(lanes: u8x16, place: usize, zeros: usize) -> u8x16
+    requires place { place ≤ 6 }
+    requires zeros { zeros ≤ 8 * place }
     requires lanes { length lanes ≡ 16 }
-    ensures { result ≡ take 16 (replicate count 0 ++ lanes) }
+    ensures { result ≡ take 16 (replicate (8 * place - zeros) 0 ++ lanes) }
 {
-    lanes.swizzle_dyn(places_behind(count))
+    lanes.swizzle_dyn(places_behind(place, zeros))
 }
 
 /// Returns the ends of the ones of `byte`, which stands at `place` of a word.
@@ -65,6 +68,16 @@ pub fn ones_in(front: u64, bytes: usize) -> usize
     (front >> (64 - 8 * bytes)).count_ones() as usize
 }
 
+/// Returns the number of zeros in the first bytes of a word.
+#[inline(always)]
+fn zeros_in(front: u64, bytes: usize) -> usize
+    requires { (1 ≤ bytes) × (bytes ≤ 8) }
+    ensures value { result + length (ends_after 0 (take (8 * bytes) (word 64 front))) ≡ 8 * bytes }
+    ensures most { result ≤ 8 * bytes }
+{
+    (!front >> (64 - 8 * bytes)).count_ones() as usize
+}
+
 /// Adds the ends of the ones of the byte at `place` of a word to those of the bytes before it.
 #[inline(always)]
 fn with_byte(front: u64, place: usize, before: u8x16) -> u8x16
@@ -73,7 +86,7 @@ fn with_byte(front: u64, place: usize, before: u8x16) -> u8x16
     ensures { result ≡ in_lanes (ends_after 0 (take (8 * (place + 1)) (word 64 front))) }
 {
     let more = ends_at(place, byte_at(front, place));
-    before | moved(more, ones_in(front, place))
+    before | moved(more, place, zeros_in(front, place))
 }
 
 /// Returns the ends of the ones of the first bytes of a word, as many as there are lanes for, and zeros behind them.

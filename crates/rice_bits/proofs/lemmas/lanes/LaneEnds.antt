@@ -13,7 +13,8 @@ use Rattle.std.specs.Prelude.{◌==◌}
 use Rattle.std.proofs.Math.Seq.{take-add}
 use Rattle.std.proofs.lemmas.List.{length-replicate, length-take-le, map-append, replicate-append-replicate, take-replicate}
 use Rattle.std.proofs.lemmas.List.FromFn.{get_or-map-range_with_len}
-use Rattle.std.proofs.lemmas.Nat.{mod_below, pow_pos, shr_below, shr_split}
+use Rattle.std.proofs.Math.Nat.{add-mul}
+use Rattle.std.proofs.lemmas.Nat.{div-mul-add, mod_below, pow-add, pow_pos, shr_below, shr_split}
 use Rattle.std.proofs.lemmas.Simd.{Each1-chunk, SwzOk, SwzOk-from_Each1, swz_l, pick_l_whole}
 use Rattle.std.specs.Int.{to_be_bytes, w64}
 use Rattle.rice_bits.specs.Bits.{bits_of, word}
@@ -177,6 +178,58 @@ ones-counted (suc w) n h =
 pub ones-of : (front n : ℕ) → n ≤ 64 → front < 2 ^ 64 → ones (front / 2 ^ (64 - n)) ≡ length (ends_after 0 (take n (word 64 front)))
 ones-of front n h fits =
     ones-counted n (front / 2 ^ (64 - n)) (front_below 64 n front h fits) ∙ ap (λ b. length (ends_after 0 b)) (sym (take-front 64 n front h))
+
+-- the zeros of a number are the ones of the other digits
+complement : (w n : ℕ) → n < 2 ^ w → ones (2 ^ w - 1 - n) + ones n ≡ w
+complement zero zero h = omega (arith, none)
+complement zero (suc n) h = absurd (omega (arith, h))
+complement (suc w) n h =
+    let high = n / 2 ^ w in
+    let low = n % 2 ^ w in
+    let m : suc w ≡ 1 + w = omega arith in
+    let below : low < 2 ^ w = mod_below n (2 ^ w) (pow_pos w) in
+    let few : high < 2 = shr_below n 1 w (subst (λ k. n < 2 ^ k) m h) in
+    let split : n ≡ high * 2 ^ w + low = sym (shr_split n w) in
+    let double : 2 ^ suc w ≡ 2 * 2 ^ w = omega arith in
+    let rest : 2 ^ suc w - 1 - n ≡ (1 - high) * 2 ^ w + (2 ^ w - 1 - low) = parts high low (2 ^ w) (2 ^ suc w) n few below double split in
+    let other : 2 ^ w - 1 - low < 2 ^ w = omega (arith, pow_pos w) in
+    let all : ones (2 ^ suc w - 1 - n) ≡ ones (1 - high) + ones (2 ^ w - 1 - low) = ap ones rest ∙ ones_cat w (1 - high) (2 ^ w - 1 - low) other in
+    let here : ones n ≡ ones high + ones low = ap ones split ∙ ones_cat w high low below in
+    omega (arith, all, here, complement w low below, digit high few)
+  where
+    parts : (high low p q n : ℕ) → high < 2 → low < p → q ≡ 2 * p → n ≡ high * p + low → q - 1 - n ≡ (1 - high) * p + (p - 1 - low)
+    parts zero low p q n few below double split = omega (arith, below, double, split)
+    parts (suc zero) low p q n few below double split = omega (arith, below, double, split)
+    parts (suc (suc d)) low p q n few below double split = absurd (omega (arith, few))
+
+    digit : (high : ℕ) → high < 2 → ones (1 - high) + ones high ≡ 1
+    digit zero few = omega (arith, none, one)
+    digit (suc zero) few = omega (arith, none, one)
+    digit (suc (suc d)) few = absurd (omega (arith, few))
+
+-- the front of the other digits
+front-other : (front n : ℕ) → n ≤ 64 → front < 2 ^ 64 → (2 ^ 64 - 1 - front) / 2 ^ (64 - n) ≡ 2 ^ n - 1 - front / 2 ^ (64 - n)
+front-other front n h fits =
+    let d = 2 ^ (64 - n) in
+    let q = front / d in
+    let r = front % d in
+    let below : r < d = mod_below front d (pow_pos (64 - n)) in
+    let e : n + (64 - n) ≡ 64 = omega (arith, h) in
+    let all : 2 ^ 64 ≡ 2 ^ n * d = ap (λ k. 2 ^ k) (sym e) ∙ pow-add 2 n (64 - n) in
+    let few : q < 2 ^ n = front_below 64 n front h fits in
+    let split : front ≡ q * d + r = sym (shr_split front (64 - n)) in
+    let other : 2 ^ 64 - 1 - front ≡ (2 ^ n - 1 - q) * d + (d - 1 - r) = parts (2 ^ n - 1 - q) q r (2 ^ n) d (2 ^ 64) front (omega (arith, few)) below all split in
+    ap (λ x. x / d) other ∙ div-mul-add (2 ^ n - 1 - q) d (d - 1 - r) (omega (arith, below))
+  where
+    parts : (p q r m d all front : ℕ) → m ≡ p + (q + 1) → r < d → all ≡ m * d → front ≡ q * d + r → all - 1 - front ≡ p * d + (d - 1 - r)
+    parts p q r m d all front m_is below whole split =
+        let sum : m * d ≡ p * d + (q * d + d) = ap (λ k. k * d) m_is ∙ (add-mul p (q + 1) d ∙ ap (λ k. p * d + k) (add-mul q 1 d ∙ omega arith)) in
+        omega (arith, sum, below, whole, split)
+
+pub zeros-of : (front n : ℕ) → n ≤ 64 → front < 2 ^ 64 → ones ((2 ^ 64 - 1 - front) / 2 ^ (64 - n)) + length (ends_after 0 (take n (word 64 front))) ≡ n
+zeros-of front n h fits =
+    let other = ap ones (front-other front n h fits) in
+    omega (arith, other, ones-of front n h fits, complement n (front / 2 ^ (64 - n)) (front_below 64 n front h fits))
 
 byte_at : (q : ℕ) (bytes : List ℕ) → q < length bytes → take 8 (drop (8 * q) (bits_of bytes)) ≡ word 8 (get_or bytes q 0)
 unfolding word bits_of
