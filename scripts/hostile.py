@@ -3,7 +3,7 @@
 
 Each run has to end by itself with status 0 or 1 and with one of the known messages, write no more samples than were asked
 for and than the message says, and stay within its memory (a limit on its address space, which holds its resident set) and
-within a CPU time that is linear in what it read and wrote.
+within a CPU time that is linear in what it read and wrote. A test of a flipped code has to answer as decoding it did.
 
 usage: hostile.py PROGRAM RANDOM_INPUTS
 """
@@ -12,6 +12,7 @@ import random
 import re
 import shutil
 import signal
+import subprocess
 import sys
 import tempfile
 from concurrent.futures import ProcessPoolExecutor
@@ -28,6 +29,8 @@ DECODING = re.compile(
     r"|run at block (?P<run>\d+) passes its segment"
     r"|residual too large in block (?P<large>\d+))\n"
 )
+TESTED = re.compile(r"(?P<fault>aec: .*) \(block (?P<block>\d+), bit (?P<bit>\d+), byte (?P<byte>\d+) of the code\)\n")
+FOUND = re.compile(r"(?P<samples>\d+) samples, (?P<bits>\d+) bits(?:; (?:a|no) 1 is left)?\n")
 ENCODING = re.compile(r"aec: (?:sample \d+ is out of range|input ends inside sample \d+)\n")
 
 
@@ -136,6 +139,23 @@ def faults_of_decoding(answer, setting, count, given):
         yield f"{answer.errors!r} with {samples} samples"
 
 
+def faults_of_test(words, answer, setting, given):
+    """What is wrong with a test of a code, which has to answer as decoding did, to write nothing, and to name a place of the code."""
+    with open("in", "wb") as file:
+        file.write(given)
+    done = subprocess.run([PROGRAM, "--test", *words, "in"], capture_output=True, text=True)
+    samples, bits = len(answer.output) // setting.width(), 8 * len(given)
+    told = FOUND.fullmatch(done.stdout) if answer.status == 0 else TESTED.fullmatch(done.stderr)
+    if done.returncode != answer.status or not told or (done.stdout == "") == (answer.status == 0):
+        yield f"a test with status {done.returncode}, {done.stdout!r} and {done.stderr!r}"
+    elif answer.status == 0 and (int(told["samples"]) != samples or int(told["bits"]) > bits or done.stderr):
+        yield f"a test that found {done.stdout!r}"
+    elif answer.status == 1 and (told["fault"] + "\n" != answer.errors or int(told["block"]) != samples // setting.block):
+        yield f"a test with {done.stderr!r}"
+    elif answer.status == 1 and (int(told["byte"]) != int(told["bit"]) // 8 or int(told["bit"]) >= max(bits, 1)):
+        yield f"a test with {done.stderr!r}"
+
+
 def report(faults, words, given):
     """Prints what is wrong with a run; answers how many things."""
     faults = list(faults)
@@ -144,10 +164,11 @@ def report(faults, words, given):
     return len(faults)
 
 
-def decode(setting, count, given):
+def decode(setting, count, given, tests=False):
     words = ["-d", *setting.words()] + ([] if count is None else ["--samples", str(count)])
     answer = run(words, given)
-    return answer, report(faults_of_decoding(answer, setting, count, given), words, given)
+    faults = [*faults_of_decoding(answer, setting, count, given), *(faults_of_test(words[1:], answer, setting, given) if tests else ())]
+    return answer, report(faults, words, given)
 
 
 def encode(setting, given):
@@ -183,8 +204,8 @@ def damage_code(place):
     for bit in range(8 * len(code)):
         flipped = bytearray(code)
         flipped[bit // 8] ^= 0x80 >> bit % 8
-        wrong += decode(setting, None if bit % 2 else number, bytes(flipped))[1]
-    return 9 * len(code) + 3, wrong
+        wrong += decode(setting, None if bit % 2 else number, bytes(flipped), tests=True)[1]
+    return 17 * len(code) + 3, wrong
 
 
 def try_random(seed):

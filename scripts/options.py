@@ -149,10 +149,10 @@ def wrong(listed, program):
         yield f"{MANUAL}: its options are {items}"
     synopsis = manual.partition(".Sh SYNOPSIS")[2].partition(".Sh DESCRIPTION")[0]
     together, apart = synopsis_letters(listed)
-    for part in synopsis.split(".Nm aec\n")[1:3]:
+    for part in synopsis.split(".Nm aec\n")[1:4]:
         if sorted(re.search(r"\.Op Fl (\w+)\n", part)[1]) != sorted(together):
             yield f"{MANUAL}: its synopsis has not the options {together} together"
-        wanted = {text for text in apart if ".Fl d" in part or "samples Ar n" not in text}
+        wanted = {text for text in apart if ".Fl d\n" in part or ".Fl -test\n" in part or "samples Ar n" not in text}
         if set(re.findall(r"\.Op (Fl \S+ Ar \S+)", part)) != wanted:
             yield f"{MANUAL}: its synopsis has not the options {sorted(wanted)}"
     for path, text in written(listed):

@@ -1,3 +1,5 @@
+pub mod BehindLemmas
 pub mod EntryLemmas
 pub mod OutsideLemmas
 pub mod CommandLineLemmas
+pub mod TrialLemmas

@@ -53,21 +53,21 @@ arrives_of old new nothing bytes took o told kept finishes =
 
 -- The source was read, what the engine wrote has arrived, and then the last words came.
 pub runs_of : {Source Dest : Type 0} (left : Source → Option (List ℕ)) (reads : Source → ℕ) (taken : Dest → Option Room) (writes : Dest → ℕ)
-    (p : PlanView) (o : Outside) (status : ℕ) (given : List ℕ) (opened read : Source) (begins written : Dest) (done : Outcome)
+    (p : PlanView) (dest : List ℕ) (o : Outside) (status : ℕ) (given : List ℕ) (opened read : Source) (begins written : Dest) (done : Outcome)
     (kept : Result (Unit {0}) WriteFault) (told new : Option Outside) (words : Option Said)
-    → source_bytes o p.source ≡ Some given → (EmptiesSource o p → ⊥) → is_creatable o p.dest ≡ true
+    → source_bytes o p.source ≡ Some given → (EmptiesSource o p dest → ⊥) → is_creatable o dest ≡ true
     → reads opened ≡ 0 → writes begins ≡ 0 → left opened ≡ Some given → HasTakenNothing (taken begins)
     → ((c : Call) × Happens (left opened) (left read) (taken begins) (taken written) c × EngineOf p.decode p c done)
     → Fails done.fault (reads opened) (reads read) (writes begins) (writes written)
-    → ((room : Room) → taken written ≡ Some room → Finishes room.bytes (begun o (place_of p.dest)) told kept)
-    → ((there : List ℕ) → told ≡ Some (record o { destination = Holds (place_of p.dest) there })
-    → new ≡ Some (record o { destination = Holds (place_of p.dest) there; said = words }))
+    → ((room : Room) → taken written ≡ Some room → Finishes room.bytes (begun o (place_of dest)) told kept)
+    → ((there : List ℕ) → told ≡ Some (record o { destination = Holds (place_of dest) there })
+    → new ≡ Some (record o { destination = Holds (place_of dest) there; said = words }))
     → words ≡ last_words done.fault (is_ok kept) → status ≡ status_with words
-    → (after : Outside) × (new ≡ Some after) × Runs left reads taken writes p o after status
-runs_of left reads taken writes p o status given opened read begins written done kept told new words
+    → (after : Outside) × (new ≡ Some after) × Runs left reads taken writes p dest o after status
+runs_of left reads taken writes p dest o status given opened read begins written done kept told new words
     source keeps creatable sound unwritten gives empty engine failures finishes says words_are status_is =
-    let got = arrives_of (taken begins) (taken written) empty engine.0.written engine.1.took (begun o (place_of p.dest)) told kept finishes in (
-      record o { destination = Holds (place_of p.dest) got.0; said = words },
+    let got = arrives_of (taken begins) (taken written) empty engine.0.written engine.1.took (begun o (place_of dest)) told kept finishes in (
+      record o { destination = Holds (place_of dest) got.0; said = words },
       says got.0 got.2,
       record {
         given = given;
@@ -90,7 +90,7 @@ runs_of left reads taken writes p o status given opened read begins written done
         all = is_ok kept;
         there = got.0;
         arrives = got.1;
-        outside = ap (λ w. record o { destination = Holds (place_of p.dest) got.0; said = w }) words_are;
+        outside = ap (λ w. record o { destination = Holds (place_of dest) got.0; said = w }) words_are;
         status_is = status_is ∙ ap status_with words_are;
       },
     )

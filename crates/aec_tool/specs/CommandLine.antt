@@ -1,6 +1,8 @@
 -- The command line, as its parser reads it.
-use Rattle.std.specs.Prelude.{◌≡◌, ◌⊎◌, ℕ, true, List, [], ◌∷◌, codes, Some}
-use Rattle.clap.specs.Words.{Rule, App, Text, IsAmong, new_rule, rows_of, found_of, matches_of, fault_of}
+use Rattle.std.specs.Prelude.{◌≡◌, ◌⊎◌, ℕ, Bool, true, false, List, [], ◌∷◌, codes, Some}
+use Rattle.std.specs.Option.{option_map_or}
+use Rattle.std.specs.Str.{bytes_eq}
+use Rattle.clap.specs.Words.{Rule, App, Row, Text, IsAmong, new_rule, one_of, rows_of, found_of, matches_of, fault_of, with_rule}
 use Rattle.clap.specs.Simple.{new_shape}
 use Rattle.clap.specs.declared.builder.action.ArgAction.TheVariants.{SetTrue}
 use Rattle.clap.specs.declared.builder.value_parser.ValueParser.TheVariants as parser
@@ -11,6 +13,10 @@ use Rattle.clap.specs.declared.parser.matches.ArgMatches.{ArgMatches}
 -- a flag of one letter and of a long name
 abbrev pub flag_rule : Text → ℕ → Text → Rule
 flag_rule id letter name = record (new_rule id) { short = Some letter; long = Some name; action = Some SetTrue }
+
+-- a flag of a long name alone
+abbrev pub long_flag_rule : Text → Rule
+long_flag_rule name = record (new_rule name) { long = Some name; action = Some SetTrue }
 
 -- an option of one letter and of a long name, with a number of 32 bits and a default
 abbrev pub number_rule : Text → ℕ → Text → Text → Rule
@@ -30,9 +36,9 @@ samples_rule =
 abbrev pub name_rule : Text → Rule
 name_rule id = record (new_rule id) { value_names = 1; required = true }
 
--- The command: its options and its two names, in order.
-unfoldable pub aec : App
-aec = record {
+-- The command of a test: the options and one name, in order.
+unfoldable pub aec_test : App
+aec_test = record {
   top = record (new_shape (codes "aec")) {
     has_version = true;
     rules =
@@ -40,17 +46,39 @@ aec = record {
         ∷ flag_rule (codes "d") 100 (codes "decompress") ∷ number_rule (codes "j") 106 (codes "block") (codes "8")
         ∷ flag_rule (codes "m") 109 (codes "big-endian") ∷ number_rule (codes "n") 110 (codes "bits") (codes "8")
         ∷ flag_rule (codes "p") 112 (codes "pad") ∷ number_rule (codes "r") 114 (codes "interval") (codes "2")
-        ∷ flag_rule (codes "s") 115 (codes "signed") ∷ samples_rule
-        ∷ name_rule (codes "source") ∷ name_rule (codes "dest") ∷ [];
+        ∷ flag_rule (codes "s") 115 (codes "signed") ∷ samples_rule ∷ long_flag_rule (codes "test")
+        ∷ name_rule (codes "source") ∷ [];
   };
   subs = [];
 }
 
--- the words are in order, and these are their matches
-pub record AreParsedTo (words : List Text) (m : ArgMatches) : Type 0 where
-  pub in_order : fault_of aec words ≡ []
-  pub rows : rows_of (found_of m) ≡ matches_of aec words
+-- The command: its options and its two names, in order.
+unfoldable pub aec : App
+aec = with_rule aec_test (name_rule (codes "dest"))
+
+-- the words are in order for a command, and these are their matches
+pub record AreParsedBy (command : App) (words : List Text) (m : ArgMatches) : Type 0 where
+  pub in_order : fault_of command words ≡ []
+  pub rows : rows_of (found_of m) ≡ matches_of command words
+
+-- a test is asked for
+abbrev pub asks_test : List Row → Bool
+asks_test rows = option_map_or (λ t. bytes_eq t (codes "true")) (one_of (codes "test") rows) false
+
+-- The words lack a name, and are in order for a test, which they ask for.
+pub record AreOfTest (words : List Text) : Type 0 where
+  pub lack : IsAmong kind.MissingRequiredArgument (fault_of aec words)
+  pub in_order : fault_of aec_test words ≡ []
+  pub asks : asks_test (matches_of aec_test words) ≡ true
+
+-- the words are in order, with two names or as those of a test, and these are their matches
+abbrev pub AreParsedTo : List Text → ArgMatches → Type 0
+AreParsedTo words m = AreParsedBy aec words m ⊎ (AreOfTest words × (rows_of (found_of m) ≡ matches_of aec_test words))
+
+-- the words are not in order for a command, for a reason of this kind, or memory ran out
+abbrev pub IsRefusedBy : App → List Text → ErrorKind → Type 0
+IsRefusedBy command words k = (k ≡ kind.OutOfMemory) ⊎ IsAmong k (fault_of command words)
 
 -- the words are not in order, for a reason of this kind, or memory ran out
 abbrev pub AreRefusedFor : List Text → ErrorKind → Type 0
-AreRefusedFor words k = (k ≡ kind.OutOfMemory) ⊎ IsAmong k (fault_of aec words)
+AreRefusedFor words k = (k ≡ kind.OutOfMemory) ⊎ (IsAmong k (fault_of aec words) × (k ≡ kind.MissingRequiredArgument → AreOfTest words → ⊥))

@@ -1,3 +1,4 @@
+pub mod Behind
 pub mod CommandLine
 pub mod Outside
 pub mod Performs

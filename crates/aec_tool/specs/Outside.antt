@@ -1,9 +1,11 @@
 -- What a system tells of its files and streams, as far as the command reaches them.
-use Rattle.std.specs.Prelude.{◌≡◌, ℕ, ◌+◌, Bool, true, false, ◌||◌, List, [], ◌++◌, codes, Option, Some, None, Result, Ok, Err, IsTrue, if◌then◌else◌}
+use Rattle.std.specs.Prelude.{◌≡◌, ℕ, ◌+◌, Bool, true, false, not, ◌&&◌, ◌||◌, List, [], ◌++◌, codes, Option, Some, None, Result, Ok, Err, IsTrue, if◌then◌else◌}
+use Rattle.std.specs.Option.{option_map_or}
 use Rattle.std.specs.Str.{bytes_eq}
 use Rattle.clap.specs.declared.error.kind.ErrorKind.{ErrorKind}
 use Rattle.rice_bits.specs.device.Outlet.{Room}
 use Rattle.rice_stream.specs.declared.outcome.Fault.{Fault}
+use Rattle.aec_tool.specs.declared.finding.Finding.{Finding}
 use Rattle.aec_tool.specs.declared.plan.PlanFault.{PlanFault}
 use Rattle.aec_tool.specs.declared.same_file.FileId.{FileId}
 use Rattle.aec_tool.specs.declared.message.Message.{Message}
@@ -32,6 +34,8 @@ pub data Said : Type 0 where
   NotText : Said
   Refused : PlanFault → Said
   Stopped : Fault → Said
+  -- the fault of a code, and the block, the bit and the byte where reading it stopped
+  Faulty : Fault → ℕ → ℕ → ℕ → Said
 
 abbrev pub said_of : Message → Said
 said_of (message.NoSource name) = CannotOpen name.now
@@ -40,6 +44,7 @@ said_of message.NoMemory = LacksMemory
 said_of message.NotUtf8 = NotText
 said_of (message.Refused fault) = Refused fault
 said_of (message.Stopped fault) = Stopped fault
+said_of (message.Faulty fault block bit byte) = Faulty fault block bit byte
 
 -- The files and streams, and what the command has done with them.
 pub record Outside : Type 0 where
@@ -55,6 +60,8 @@ pub record Outside : Type 0 where
   -- the message, and the kind of text of the parser, that was written, if one was
   pub said : Option Said
   pub shown : Option ErrorKind
+  -- what was told of a code on standard output
+  pub found : Option Finding
   -- how many requests for memory were refused
   pub refusals : ℕ
 
@@ -63,6 +70,7 @@ pub record IsFresh (o : Outside) : Type 0 where
   pub destination : o.destination ≡ Untouched
   pub said : o.said ≡ None
   pub shown : o.shown ≡ None
+  pub found : o.found ≡ None
 
 -- what a source gives is told, and it is these bytes
 abbrev pub GivesAll : Option (List ℕ) → Option (List ℕ) → Type 0
@@ -90,6 +98,9 @@ saying o line = record o { said = Some line }
 abbrev pub showing : Outside → ErrorKind → Outside
 showing o kind = record o { shown = Some kind }
 
+abbrev pub finding : Outside → Finding → Outside
+finding o it = record o { found = Some it }
+
 abbrev pub refusing : Outside → Outside
 refusing o = record o { refusals = o.refusals + 1 }
 
@@ -103,6 +114,10 @@ source_bytes o name = if is_standard name then Some o.input else o.files name
 
 abbrev pub source_id : Outside → List ℕ → Option FileId
 source_id o name = if is_standard name then o.input_id else o.ids name
+
+-- this name can be opened once more, to read the same bytes: it is that of a regular file
+abbrev pub is_read_again : Outside → List ℕ → Bool
+is_read_again o name = not (is_standard name) && option_map_or (λ id. id.is_regular) (source_id o name) false
 
 -- where what is written to this name goes, and whether it can be created
 abbrev pub place_of : List ℕ → Place
@@ -126,6 +141,11 @@ abbrev pub Creates : {Dest : Type 0} → (Dest → Option Room) → Place → Bo
 Creates taken place can o new (Ok dest) = (new ≡ Some (begun o place)) × (can ≡ true) × HasTakenNothing (taken dest)
 Creates taken place can o new (Err create.NoMemory) = new ≡ Some (refusing o)
 Creates taken place can o new (Err create.Refused) = (new ≡ Some o) × (can ≡ false)
+
+-- What a test found was told, or could not be.
+abbrev pub Tells : Finding → Outside → Option Outside → Result (Unit {0}) WriteFault → Type 0
+Tells it o new (Ok _) = new ≡ Some (finding o it)
+Tells it o new (Err _) = new ≡ Some o
 
 -- Of these bytes all stand at the destination, or a front.
 abbrev pub Finishes : List ℕ → Outside → Option Outside → Result (Unit {0}) WriteFault → Type 0

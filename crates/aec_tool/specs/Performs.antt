@@ -1,14 +1,17 @@
 -- What the command has done for a plan, by what the system tells before and after.
-use Rattle.std.specs.Prelude.{◌≡◌, ℕ, Bool, true, false, List, ◌++◌, Option, Some, None, ◌⊎◌}
+use Rattle.std.specs.Prelude.{◌≡◌, ℕ, ◌-◌, ◌/◌, Bool, true, false, ◌&&◌, List, ◌++◌, Option, Some, None, is_some, Result, Ok, Err, ◌⊎◌}
 use Rattle.rice_bits.specs.device.Outlet.{Room}
+use Rattle.rice_samples.specs.Parameters.{Parameters}
 use Rattle.rice_stream.specs.Calls.{Call, Happens, Fails}
 use Rattle.rice_stream.specs.Encodes.{Encodes}
 use Rattle.rice_stream.specs.Decodes.{Decodes}
 use Rattle.rice_stream.specs.declared.outcome.Outcome.{Outcome}
+use Rattle.rice_stream.specs.declared.outcome.Report.{Report}
 use Rattle.rice_stream.specs.declared.outcome.Fault.{Fault}
 use Rattle.rice_stream.specs.declared.outcome.Fault.TheVariants.{Write}
+use Rattle.aec_tool.specs.Behind.{Looks}
 use Rattle.aec_tool.specs.Plan.{PlanView}
-use Rattle.aec_tool.specs.Outside.{Outside, Said, CannotOpen, CannotCreate, LacksMemory, Stopped, Holds, HasTakenNothing, refusing, saying, is_standard, source_bytes, source_id, place_of, is_creatable, AreOneFile}
+use Rattle.aec_tool.specs.Outside.{Outside, Said, CannotOpen, CannotCreate, LacksMemory, Stopped, Faulty, Holds, HasTakenNothing, finding, refusing, saying, is_standard, is_read_again, source_bytes, source_id, place_of, is_creatable, AreOneFile}
 
 -- what the engine that the plan asks for has done
 abbrev pub EngineOf : Bool → PlanView → Call → Outcome → Type 0
@@ -32,8 +35,8 @@ status_with None = 0
 status_with (Some line) = 1
 
 -- creating the file of this name would empty the source
-abbrev pub EmptiesSource : Outside → PlanView → Type 0
-EmptiesSource o p = (is_standard p.dest ≡ false) × AreOneFile (source_id o p.source) (o.ids p.dest)
+abbrev pub EmptiesSource : Outside → PlanView → List ℕ → Type 0
+EmptiesSource o p dest = (is_standard dest ≡ false) × AreOneFile (source_id o p.source) (o.ids dest)
 
 -- A message is all that came of it.
 pub record OnlySays (line : Said) (o after : Outside) (status : ℕ) : Type 0 where
@@ -46,23 +49,37 @@ pub record FindsNoSource (p : PlanView) (o after : Outside) (status : ℕ) : Typ
   pub says : OnlySays (CannotOpen p.source) o after status
 
 -- the destination is the source, or can't be created
-pub record CreatesNothing (p : PlanView) (o after : Outside) (status : ℕ) : Type 0 where
+pub record CreatesNothing (p : PlanView) (dest : List ℕ) (o after : Outside) (status : ℕ) : Type 0 where
   pub given : List ℕ
   pub source : source_bytes o p.source ≡ Some given
-  pub why : EmptiesSource o p ⊎ (is_creatable o p.dest ≡ false)
-  pub says : OnlySays (CannotCreate p.dest) o after status
+  pub why : EmptiesSource o p dest ⊎ (is_creatable o dest ≡ false)
+  pub says : OnlySays (CannotCreate dest) o after status
 
 -- there is no memory for the destination's buffer
-pub record WantsMemory (p : PlanView) (o after : Outside) (status : ℕ) : Type 0 where
+pub record WantsMemory (o after : Outside) (status : ℕ) : Type 0 where
   pub says : OnlySays LacksMemory (refusing o) after status
+
+-- the fault of a code, with the place of the last bit that was read
+abbrev pub faulty : Parameters → Report → Fault → Said
+faulty s r fault = Faulty fault (r.samples / s.block) (r.bits - 1) ((r.bits - 1) / 8)
+
+-- what a test told, or, where that could not be written, that it could not; and the status
+abbrev pub tested : Parameters → Report → Result (Option Bool) Fault → Bool → Outside → Outside
+tested s r (Err fault) told o = saying o (faulty s r fault)
+tested s r (Ok more) false o = saying o (Stopped Write)
+tested s r (Ok more) true o = finding o (record { samples = r.samples; bits = r.bits; more = more })
+
+abbrev pub test_status : Result (Option Bool) Fault → Bool → ℕ
+test_status (Ok more) true = 0
+test_status _ _ = 1
 
 module _ {Source Dest : Type 0} (left : Source → Option (List ℕ)) (reads : Source → ℕ) (taken : Dest → Option Room) (writes : Dest → ℕ) where
   -- The source of the plan's name was read, and what the engine wrote stands at the destination of the plan's name.
-  pub record Runs (p : PlanView) (o after : Outside) (status : ℕ) : Type 0 where
+  pub record Runs (p : PlanView) (dest : List ℕ) (o after : Outside) (status : ℕ) : Type 0 where
     pub given : List ℕ
     pub source : source_bytes o p.source ≡ Some given
-    pub keeps_source : EmptiesSource o p → ⊥
-    pub creatable : is_creatable o p.dest ≡ true
+    pub keeps_source : EmptiesSource o p dest → ⊥
+    pub creatable : is_creatable o dest ≡ true
     -- the source, opened and read, and the destination, begun and written
     pub opened : Source
     pub read : Source
@@ -81,9 +98,38 @@ module _ {Source Dest : Type 0} (left : Source → Option (List ℕ)) (reads : S
     pub all : Bool
     pub there : List ℕ
     pub arrives : Arrives all call.written there
-    pub outside : after ≡ record o { destination = Holds (place_of p.dest) there; said = last_words outcome.fault all }
+    pub outside : after ≡ record o { destination = Holds (place_of dest) there; said = last_words outcome.fault all }
     pub status_is : status ≡ status_with (last_words outcome.fault all)
 
+  -- what a test found: the fault of the code, or what is behind the samples that were asked for
+  abbrev pub Judges : PlanView → Outside → List ℕ → ℕ → Option Fault → Result (Option Bool) Fault → Type 0
+  Judges p o given bits (Some fault) found = found ≡ Err fault
+  Judges p o given bits None found = Looks reads (is_some p.samples && is_read_again o p.source) bits given found
+
+  -- The source of the plan's name was read, nothing was written, and what was found is told.
+  pub record Tests (p : PlanView) (o after : Outside) (status : ℕ) : Type 0 where
+    pub given : List ℕ
+    pub source : source_bytes o p.source ≡ Some given
+    pub opened : Source
+    pub read : Source
+    pub sound : reads opened ≡ 0
+    pub gives : left opened ≡ Some given
+    pub call : Call
+    pub outcome : Outcome
+    pub happens : Happens (left opened) (left read) None None call
+    pub engine : EngineOf p.decode p call outcome
+    pub failures : Fails outcome.fault (reads opened) (reads read) 0 0
+    pub found : Result (Option Bool) Fault
+    pub judges : Judges p o given outcome.report.bits outcome.fault found
+    -- whether standard output took what was found
+    pub told : Bool
+    pub outside : after ≡ tested p.setting outcome.report found told o
+    pub status_is : status ≡ test_status found told
+
+  -- the destination of this name was written, if there is one, and else the source was tested
+  abbrev pub Ends : Option (List ℕ) → PlanView → Outside → Outside → ℕ → Type 0
+  Ends (Some dest) p o after status = CreatesNothing p dest o after status ⊎ (WantsMemory o after status ⊎ Runs p dest o after status)
+  Ends None p o after status = Tests p o after status
+
   abbrev pub Performs : PlanView → Outside → Outside → ℕ → Type 0
-  Performs p o after status =
-      FindsNoSource p o after status ⊎ (CreatesNothing p o after status ⊎ (WantsMemory p o after status ⊎ Runs p o after status))
+  Performs p o after status = FindsNoSource p o after status ⊎ Ends p.dest p o after status

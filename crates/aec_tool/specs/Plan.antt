@@ -1,5 +1,5 @@
 -- What a parsed command line asks for.
-use Rattle.std.specs.Prelude.{ℕ, ◌^◌, Bool, false, not, ◌&&◌, nat_lt, List, length, codes, Option, Some, None, is_some, Result, Ok, Err, if◌then◌else◌}
+use Rattle.std.specs.Prelude.{ℕ, ◌^◌, Bool, false, not, ◌&&◌, ◌||◌, nat_lt, List, length, codes, Option, Some, None, is_some, option_map, Result, Ok, Err, if◌then◌else◌}
 use Rattle.std.specs.List.{list_all}
 use Rattle.std.specs.Option.{option_and_then, option_map_or}
 use Rattle.std.specs.Char.{digit_value}
@@ -39,7 +39,8 @@ pub record PlanView : Type 0 where
   pub decode : Bool
   pub samples : Option ℕ
   pub source : List ℕ
-  pub dest : List ℕ
+  -- none where the code is only tested
+  pub dest : Option (List ℕ)
 
 abbrev pub plan_view : Plan → PlanView
 plan_view p = record {
@@ -47,7 +48,7 @@ plan_view p = record {
   decode = p.decode;
   samples = p.samples;
   source = p.source.now;
-  dest = p.dest.now;
+  dest = option_map (λ name. name.now) p.dest;
 }
 
 -- what the answer says, with its plan as what the plan says
@@ -58,6 +59,14 @@ answer_view (Err e) = Err e
 -- the samples that are asked for
 abbrev pub samples_in : Found → Option ℕ
 samples_in f = number_in (2 ^ 64) f (codes "samples")
+
+-- a test is asked for
+abbrev pub tests : Found → Bool
+tests f = is_flagged f (codes "test")
+
+-- decoding is asked for, as a test does too
+abbrev pub decodes : Found → Bool
+decodes f = is_flagged f (codes "d") || tests f
 
 -- the setting of these numbers and of the flags that were used
 abbrev pub setting_in : Found → ℕ → ℕ → ℕ → Result Parameters SettingFault
@@ -73,26 +82,26 @@ setting_in f bits block interval =
       pad = is_flagged f (codes "p");
     })
 
-abbrev pub plan_with_setting : Found → List ℕ → List ℕ → Result Parameters SettingFault → Result PlanView PlanFault
-plan_with_setting f source dest (Ok setting) = Ok (record {
+abbrev pub plan_with_setting : Found → List ℕ → Result Parameters SettingFault → Result PlanView PlanFault
+plan_with_setting f source (Ok setting) = Ok (record {
   setting = setting;
-  decode = is_flagged f (codes "d");
+  decode = decodes f;
   samples = samples_in f;
   source = source;
-  dest = dest;
+  dest = first_value f (codes "dest");
 })
-plan_with_setting f source dest (Err e) = Err (fault.Setting e)
+plan_with_setting f source (Err e) = Err (fault.Setting e)
 
-abbrev pub plan_with_entries : Found → Option ℕ → Option ℕ → Option ℕ → Option (List ℕ) → Option (List ℕ)
-    → Result PlanView PlanFault
-plan_with_entries f (Some bits) (Some block) (Some interval) (Some source) (Some dest) =
-    plan_with_setting f source dest (setting_in f bits block interval)
-plan_with_entries f bits block interval source dest = Err fault.Unreadable
+abbrev pub plan_with_entries : Found → Option ℕ → Option ℕ → Option ℕ → Option (List ℕ) → Result PlanView PlanFault
+plan_with_entries f (Some bits) (Some block) (Some interval) (Some source) =
+    plan_with_setting f source (setting_in f bits block interval)
+plan_with_entries f bits block interval source = Err fault.Unreadable
 
 -- the plan that the entries give, or the first reason to refuse them
 abbrev pub plan_in : Found → Result PlanView PlanFault
 plan_in f =
-    if is_some (samples_in f) && not (is_flagged f (codes "d")) then Err fault.SamplesWithoutDecode
+    if is_some (samples_in f) && not (decodes f) then Err fault.SamplesWithoutDecode
+    else (if tests f && is_some (first_value f (codes "dest")) then Err fault.TestWithDest
+    else (if not (tests f) && not (is_some (first_value f (codes "dest"))) then Err fault.Unreadable
     else plan_with_entries f (number_in (2 ^ 32) f (codes "n")) (number_in (2 ^ 32) f (codes "j"))
-    (number_in (2 ^ 32) f (codes "r")) (first_value f (codes "source"))
-    (first_value f (codes "dest"))
+    (number_in (2 ^ 32) f (codes "r")) (first_value f (codes "source"))))

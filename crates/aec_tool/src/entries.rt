@@ -8,7 +8,7 @@ use clap::ArgMatches;
 use rice_samples::Setting;
 
 /// Returns whether a flag was used.
-fn is_used(matches: &ArgMatches<'_>, id: &str) -> bool
+pub fn is_used(matches: &ArgMatches<'_>, id: &str) -> bool
     ensures { result ≡ is_flagged (found_of matches.now) id.now }
 {
     matches.get_one::<bool>(id).unwrap_or(false)
@@ -28,15 +28,23 @@ fn long_number(matches: &ArgMatches<'_>, id: &str) -> Option<u64>
     matches.get_one::<u64>(id)
 }
 
-/// The plan that the matches ask for. Refused, in this order, are `--samples` without `-d`, a missing or unreadable entry,
-/// and what `Setting::new` refuses.
+/// The plan that the matches ask for. Refused, in this order, are `--samples` without `-d`, a test with a destination, a missing or
+/// unreadable entry, and what `Setting::new` refuses.
 pub fn plan_of<'a>(matches: &ArgMatches<'a>) -> Result<Plan<'a>, PlanFault>
     ensures { answer_view result ≡ plan_in (found_of matches.now) }
 {
-    let decode = is_used(matches, "d");
+    let test = is_used(matches, "test");
+    let decode = is_used(matches, "d") || test;
     let samples = long_number(matches, "samples");
     if samples.is_some() && !decode {
         return Err(PlanFault::SamplesWithoutDecode);
+    }
+    let dest = matches.get_str("dest");
+    if test && dest.is_some() {
+        return Err(PlanFault::TestWithDest);
+    }
+    if !test && dest.is_none() {
+        return Err(PlanFault::Unreadable);
     }
     let Some(bits) = number(matches, "n") else {
         return Err(PlanFault::Unreadable);
@@ -48,9 +56,6 @@ pub fn plan_of<'a>(matches: &ArgMatches<'a>) -> Result<Plan<'a>, PlanFault>
         return Err(PlanFault::Unreadable);
     };
     let Some(source) = matches.get_str("source") else {
-        return Err(PlanFault::Unreadable);
-    };
-    let Some(dest) = matches.get_str("dest") else {
         return Err(PlanFault::Unreadable);
     };
     let signed = is_used(matches, "s");

@@ -1,6 +1,7 @@
 //! The system of a runtime.
 ghost use Rattle.std.specs.Prelude.{None};
 
+use crate::finding::Finding;
 use crate::message::Message;
 use crate::same_file::{FileId, known_id};
 use crate::sink::Sink;
@@ -94,6 +95,13 @@ impl<'a, 'r, R: Runtime + AllocGlobal> System<'a> for Host<'r, R> {
 
     fn tell(&mut self, message: Message<'a>) {
         let _ = eprintln!(self.rt; "aec: {message}");
+    }
+
+    fn report(&mut self, it: Finding) -> Result<(), WriteFault> {
+        match println!(self.rt; "{it}") {
+            Ok(()) => Ok(()),
+            Err(_) => Err(WriteFault),
+        }
     }
 
     fn show(&mut self, error: &Error) {

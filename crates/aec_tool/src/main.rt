@@ -4,8 +4,11 @@
 mod command_line;
 mod entries;
 mod exit_status;
+mod finding;
 mod host;
+mod look;
 mod message;
+mod nowhere;
 mod perform;
 mod plan;
 mod run;
@@ -16,6 +19,7 @@ mod stream;
 mod system;
 #[cfg(test)]
 mod tests;
+mod trial;
 
 use std::process::ExitCode;
 

@@ -8,9 +8,13 @@ use thiserror::Error;
 #[derive(Clone, Copy, Debug, Error)]
 pub enum Message<'a> {
     #[error("cannot open {name}")]
-    NoSource { name: &'a str },
+    NoSource {
+        name: &'a str,
+    },
     #[error("cannot create {name}")]
-    NoDest { name: &'a str },
+    NoDest {
+        name: &'a str,
+    },
     #[error("out of memory")]
     NoMemory,
     #[error("an argument is not UTF-8")]
@@ -19,4 +23,11 @@ pub enum Message<'a> {
     Refused(PlanFault),
     #[error(transparent)]
     Stopped(Fault),
+    #[error("{fault} (block {block}, bit {bit}, byte {byte} of the code)")]
+    Faulty {
+        fault: Fault,
+        block: u64,
+        bit: u64,
+        byte: u64,
+    },
 }

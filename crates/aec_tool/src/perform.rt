@@ -2,7 +2,7 @@
 ghost use Rattle.std.specs.Prelude.{◌≡◌, ℕ, ◌↔◌, true, false, List, Some, None, IfOk, IsTrue};
 ghost use Rattle.aec_tool.specs.Plan.{plan_view};
 ghost use Rattle.aec_tool.specs.Outside.{Outside, Untouched, IsFresh, GivesAll, HasTakenNothing, Opens, Creates, begun, saying, said_of, is_standard, source_bytes, source_id, place_of, is_creatable, AreOneFile};
-ghost use Rattle.aec_tool.specs.Performs.{Performs, Runs, EmptiesSource};
+ghost use Rattle.aec_tool.specs.Performs.{Performs, Ends, Runs, EmptiesSource};
 
 use crate::exit_status::{FAILURE, exit_status};
 use crate::message::Message;
@@ -10,10 +10,11 @@ use crate::plan::Plan;
 use crate::run::run;
 use crate::same_file::{FileId, are_one_file};
 use crate::system::{CreateFault, OpenFault, System};
+use crate::trial::test;
 use rice_stream::Fault;
 
 /// The name of a standard stream.
-const STANDARD: &str = "-";
+pub const STANDARD: &str = "-";
 
 /// Does what a plan asks, and returns the exit status.
 pub fn perform<'a, S: System<'a>>(system: &mut S, plan: &Plan<'a>) -> u8
@@ -22,7 +23,10 @@ pub fn perform<'a, S: System<'a>>(system: &mut S, plan: &Plan<'a>) -> u8
         × Performs S.Source.left S.Source.failed S.Dest.taken S.Dest.failed (plan_view plan.now) o after result }
 {
     match open(system, plan.source) {
-        Ok((source, id)) => write(system, plan, source, id),
+        Ok((source, id)) => match plan.dest {
+            Some(dest) => write(system, plan, dest, source, id),
+            None => test(system, plan, source, id),
+        },
         Err(_) => fail(system, Message::NoSource { name: plan.source }),
     }
 }
@@ -38,7 +42,10 @@ pub fn fail<'a, S: System<'a>>(system: &mut S, message: Message<'a>) -> u8
 }
 
 /// Opens the source of a name, and returns it and which file it is.
-fn open<'a, S: System<'a>>(system: &S, name: &str) -> Result<(S::Source, Option<FileId>), OpenFault>
+pub fn open<'a, S: System<'a>>(
+    system: &S,
+    name: &str,
+) -> Result<(S::Source, Option<FileId>), OpenFault>
     ensures sound { IfOk result (λ r. S.Source.failed r.0 ≡ 0) }
     ensures opens { (o : Outside) → S.told system.now ≡ Some o → Opens S.Source.left (source_bytes o name.now) (source_id o name.now) result }
 {
@@ -74,6 +81,7 @@ fn create<'a, S: System<'a>>(system: &mut S, name: &'a str) -> Result<S::Dest, C
 fn write<'a, S: System<'a>>(
     system: &mut S,
     plan: &Plan<'a>,
+    dest: &'a str,
     source: S::Source,
     id: Option<FileId>,
 ) -> u8
@@ -82,22 +90,23 @@ fn write<'a, S: System<'a>>(
     requires bytes { (o : Outside) → S.told system.old ≡ Some o → GivesAll (source_bytes o plan.now.source.now) (S.Source.left source) }
     requires id { (o : Outside) → S.told system.old ≡ Some o → id ≡ source_id o plan.now.source.now }
     ensures { (o : Outside) → S.told system.old ≡ Some o → (after : Outside) × (S.told system.new ≡ Some after)
-        × Performs S.Source.left S.Source.failed S.Dest.taken S.Dest.failed (plan_view plan.now) o after result }
+        × Ends S.Source.left S.Source.failed S.Dest.taken S.Dest.failed (Some dest.entry.now) (plan_view plan.now) o after result }
 {
-    if empties_source(system, plan.dest, id) {
-        return fail(system, Message::NoDest { name: plan.dest });
+    if empties_source(system, dest, id) {
+        return fail(system, Message::NoDest { name: dest });
     }
-    match create(system, plan.dest) {
-        Ok(dest) => transfer(system, plan, source, dest),
+    match create(system, dest) {
+        Ok(begun) => transfer(system, plan, dest, source, begun),
         Err(CreateFault::NoMemory) => fail(system, Message::NoMemory),
-        Err(CreateFault::Refused) => fail(system, Message::NoDest { name: plan.dest }),
+        Err(CreateFault::Refused) => fail(system, Message::NoDest { name: dest }),
     }
 }
 
-/// Encodes or decodes from the source to the destination.
+/// Encodes or decodes from the source to the destination of a name.
 fn transfer<'a, S: System<'a>>(
     system: &mut S,
     plan: &Plan<'a>,
+    name: &'a str,
     source: S::Source,
     dest: S::Dest,
 ) -> u8
@@ -105,10 +114,10 @@ fn transfer<'a, S: System<'a>>(
     requires unwritten { S.Dest.failed dest ≡ 0 }
     requires empty { (o : Outside) → S.told system.old ≡ Some o → HasTakenNothing (S.Dest.taken dest) }
     requires unsaid { (o : Outside) → S.told system.old ≡ Some o → o.said ≡ None }
-    ensures { (o : Outside) (given : List ℕ) → S.told system.old ≡ Some (begun o (place_of plan.now.dest.now)) →
+    ensures { (o : Outside) (given : List ℕ) → S.told system.old ≡ Some (begun o (place_of name.entry.now)) →
         source_bytes o plan.now.source.now ≡ Some given → S.Source.left source ≡ Some given →
-        (EmptiesSource o (plan_view plan.now) → ⊥) → is_creatable o plan.now.dest.now ≡ true → (after : Outside) × (S.told system.new ≡ Some after)
-        × Runs S.Source.left S.Source.failed S.Dest.taken S.Dest.failed (plan_view plan.now) o after result }
+        (EmptiesSource o (plan_view plan.now) name.entry.now → ⊥) → is_creatable o name.entry.now ≡ true → (after : Outside) × (S.told system.new ≡ Some after)
+        × Runs S.Source.left S.Source.failed S.Dest.taken S.Dest.failed (plan_view plan.now) name.entry.now o after result }
 {
     let mut dest = dest;
     let (outcome, _) = run(plan, source, &mut dest);

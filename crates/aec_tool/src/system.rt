@@ -3,6 +3,7 @@ ghost use Rattle.std.specs.Prelude.{◌≡◌, true, Option, Some, None, IfOk};
 ghost use Rattle.clap.specs.Words.{kind_of};
 ghost use Rattle.rice_bits.specs.device.Outlet.{Room};
 
+use crate::finding::Finding;
 use crate::message::Message;
 use crate::same_file::FileId;
 use clap::Error;
@@ -23,7 +24,7 @@ pub enum CreateFault {
 
 /// The files and streams of a system. Contracts see them where the system tells them.
 pub trait System<'a> {
-    ghost use Rattle.aec_tool.specs.Outside.{Outside, StandardOutput, Named, Untouched, Opens, Creates, Finishes, saying, showing, said_of};
+    ghost use Rattle.aec_tool.specs.Outside.{Outside, StandardOutput, Named, Untouched, Opens, Creates, Finishes, Tells, saying, showing, said_of};
 
     type Source: Intake + Drop;
 
@@ -73,6 +74,12 @@ pub trait System<'a> {
         requires { (o : Outside) → told self.old ≡ Some o → o.said ≡ None }
         ensures silent { told self.old ≡ None → told self.new ≡ None }
         ensures says { (o : Outside) → told self.old ≡ Some o → told self.new ≡ Some (saying o (said_of message.entry)) };
+
+    /// Writes what a test found to standard output, as a line.
+    fn report(&mut self, it: Finding) -> Result<(), WriteFault>
+        requires { (o : Outside) → told self.old ≡ Some o → o.found ≡ None }
+        ensures silent { told self.old ≡ None → told self.new ≡ None }
+        ensures tells { (o : Outside) → told self.old ≡ Some o → Tells it o (told self.new) result };
 
     /// Writes what the parser of the command line has to say: help and version to standard output, mistakes to standard error.
     fn show(&mut self, error: &Error)

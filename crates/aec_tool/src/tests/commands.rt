@@ -78,8 +78,12 @@ const REFUSED: &str = "-n 0 - -     | bits per sample must be 1 to 32
     -r 4097 - -             | interval must be 1 to 4096
     --samples 3 - -         | --samples needs -d
     --samples 3 -n 0 - -    | --samples needs -d
+    --test - -              | --test takes no DEST
+    -d --test -n 0 - -      | --test takes no DEST
+    --test -n 0 -           | bits per sample must be 1 to 32
     -n 0 other.bin out.bin  | bits per sample must be 1 to 32
     other.bin out.bin       | cannot open other.bin
+    --test other.bin        | cannot open other.bin
     in.bin none/out.bin     | cannot create none/out.bin";
 
 #[test]
@@ -107,6 +111,8 @@ fn refuses_a_name_without_letters(rt: HostRuntime) -> Result<(), Fail> {
 
 // The words, and how the message begins.
 const UNPARSED: &str = "-t - -      | error: unexpected argument '-t' found
+    --test=1 -             | error: unexpected value '1' for '--test' found; no more were expected
+    --test                 | error: the following required arguments were not provided:
     --sample - -           | error: unexpected argument '--sample' found
     -n x - -               | error: invalid value 'x' for '--bits <BITS>'
     -n 4294967296 - -      | error: invalid value '4294967296' for '--bits <BITS>'
@@ -320,6 +326,69 @@ fn empties_no_file_that_it_reads(rt: HostRuntime) -> Result<(), Fail> {
 }
 
 #[test]
+fn tests_a_code(rt: HostRuntime) -> Result<(), Fail> {
+    // The words, the input, standard output, the errors, the status.
+    let cases: [(&str, &[u8], &str, &str, u8); 9] = [
+        ("-Nn7 --test -", CODE, "8 samples, 64 bits\n", "", 0),
+        ("-Nn7 -d --test in.bin", CODE, "8 samples, 64 bits\n", "", 0),
+        ("--test -", b"", "0 samples, 0 bits\n", "", 0),
+        (
+            "-n7 -N --test --samples 3 -",
+            CODE,
+            "3 samples, 59 bits\n",
+            "",
+            0,
+        ),
+        (
+            "--test --samples 8 -r1 in.bin",
+            b"\0\x58\x02\xC0",
+            "8 samples, 13 bits; a 1 is left\n",
+            "",
+            0,
+        ),
+        (
+            "--test --samples 16 -r1 in.bin",
+            b"\0\x58\x02\xC0",
+            "16 samples, 26 bits; no 1 is left\n",
+            "",
+            0,
+        ),
+        (
+            "--test --samples 9 in.bin",
+            b"\0\x58",
+            "",
+            "aec: code ends after 8 samples (block 1, bit 15, byte 1 of the code)\n",
+            1,
+        ),
+        (
+            "--test -",
+            b"\0\x02",
+            "",
+            "aec: run at block 0 passes its segment (block 0, bit 14, byte 1 of the code)\n",
+            1,
+        ),
+        (
+            "--test /",
+            b"",
+            "",
+            "aec: read failed (block 0, bit 0, byte 0 of the code)\n",
+            1,
+        ),
+    ];
+    for (words, input, output, errors, status) in cases {
+        expect(told_of(rt, words, input)?, output, errors, (status, 0))?;
+    }
+    Ok(())
+}
+
+#[test]
+fn tells_that_what_was_found_was_not_written(rt: HostRuntime) -> Result<(), Fail> {
+    let answer = told(rt, &["-Nn7", "--test", "-"], CODE, 3)?;
+    expect(answer, "8 s", "aec: write failed\n", (1, 0))?;
+    Ok(())
+}
+
+#[test]
 fn shows_its_help(rt: HostRuntime) -> Result<(), Fail> {
     let cases: [&[&str]; 3] = [&["-h"], &["--help"], &["-n", "0", "--help", "-", "-"]];
     for words in cases {
@@ -338,4 +407,4 @@ fn tells_its_version(rt: HostRuntime) -> Result<(), Fail> {
 }
 
 const HELP: &str =
-    "Compresses samples without loss, by the adaptive Rice coder of CCSDS 121.0-B-3\n\nUsage: aec [OPTIONS] <SOURCE> <DEST>\n\nArguments:\n  <SOURCE>  File to read; - is standard input\n  <DEST>    File to write; - is standard output\n\nOptions:\n  -3, --three-bytes        Three bytes for each sample of 17 to 24 bits\n  -N, --no-preprocess      No pre or post processing\n  -b <BYTES>               Size of a buffer, from 1 on; without effect\n  -d, --decompress         Decompress\n  -j, --block <SAMPLES>    Block size: 8, 16, 32 or 64 [default: 8]\n  -m, --big-endian         Most significant byte of a sample first\n  -n, --bits <BITS>        Bits per sample, 1 to 32 [default: 8]\n  -p, --pad                Pad each interval to a byte\n  -r, --interval <BLOCKS>  Reference interval, 1 to 4096 [default: 2]\n  -s, --signed             Signed samples\n      --samples <N>        Stop after N samples; with -d only\n  -h, --help               Print help\n  -V, --version            Print version\n\nDecompress with the options that compressed. A code does not tell how many samples\nit has: without --samples, those that fill its last block or run are written too.\n\nExamples:\n  aec -n 16 -r 128 samples.bin code.aec\n  aec -d -n 16 -r 128 --samples 5000 code.aec samples.bin\n";
+    "Compresses samples without loss, by the adaptive Rice coder of CCSDS 121.0-B-3\n\nUsage: aec [OPTIONS] <SOURCE> <DEST>\n\nArguments:\n  <SOURCE>  File to read; - is standard input\n  <DEST>    File to write; - is standard output\n\nOptions:\n  -3, --three-bytes        Three bytes for each sample of 17 to 24 bits\n  -N, --no-preprocess      No pre or post processing\n  -b <BYTES>               Size of a buffer, from 1 on; without effect\n  -d, --decompress         Decompress\n  -j, --block <SAMPLES>    Block size: 8, 16, 32 or 64 [default: 8]\n  -m, --big-endian         Most significant byte of a sample first\n  -n, --bits <BITS>        Bits per sample, 1 to 32 [default: 8]\n  -p, --pad                Pad each interval to a byte\n  -r, --interval <BLOCKS>  Reference interval, 1 to 4096 [default: 2]\n  -s, --signed             Signed samples\n      --samples <N>        Stop after N samples; with -d or --test only\n      --test               Test a code: decompress without DEST, and tell what is found\n  -h, --help               Print help\n  -V, --version            Print version\n\nDecompress with the options that compressed. A code does not tell how many samples\nit has: without --samples, those that fill its last block or run are written too.\n\nExamples:\n  aec -n 16 -r 128 samples.bin code.aec\n  aec -d -n 16 -r 128 --samples 5000 code.aec samples.bin\n  aec --test -n 16 -r 128 --samples 5000 code.aec\n";

@@ -1,4 +1,5 @@
 //! `start` over a system that tells what it holds: its contract says what comes of each of these.
+use crate::finding::Finding;
 use crate::message::Message;
 use crate::start_up::start;
 use crate::tests::told::Told;
@@ -8,6 +9,8 @@ use std::test::Fail;
 const SAMPLES: &[u8] = b"\x05\x05\x05\x05\x05\x05\x05\x05";
 
 const CODE: &[u8] = b"\0X";
+
+const TEST: &[&str] = &["aec", "--test", "--samples", "8", "in"];
 
 // The words, the place that was written, with no name where it is standard output, what stands there, and the status.
 type Case<'a> = (&'a [&'a str], Option<Option<&'a str>>, &'a [u8], u8);
@@ -34,4 +37,19 @@ fn reads_the_source_and_writes_the_destination(rt: HostRuntime) -> Result<(), Fa
         }
     }
     Ok(())
+}
+
+#[test]
+fn tells_what_a_test_found(rt: HostRuntime) -> Result<(), Fail> {
+    let mut system = Told::new(rt.alloc(), b"", "in", CODE, "locked");
+    let status = start(&mut system, rt.alloc(), TEST);
+    let wanted = Finding {
+        samples: 8,
+        bits: 13,
+        more: Some(false),
+    };
+    if system.found == Some(wanted) && system.place.is_none() && status == 0 {
+        return Ok(());
+    }
+    Err(Fail::new(format_args!("{status}, {:?}", system.found)))
 }

@@ -3,6 +3,7 @@ ghost use Rattle.std.specs.Prelude.{◌≡◌, None, Some, true, if◌then◌els
 ghost use Rattle.std.specs.Str.{bytes_eq};
 ghost use Rattle.rice_bits.specs.device.Outlet.{known};
 
+use crate::finding::Finding;
 use crate::message::Message;
 use crate::same_file::FileId;
 use crate::system::{CreateFault, OpenFault, System};
@@ -58,6 +59,7 @@ pub struct Told<'a> {
     pub held: Option<Vec<u8>>,
     pub said: Option<Message<'a>>,
     pub shown: Option<ErrorKind>,
+    pub found: Option<Finding>,
 }
 
 impl<'a> Told<'a> {
@@ -71,6 +73,7 @@ impl<'a> Told<'a> {
         ensures place { result.place ≡ None }
         ensures said { result.said ≡ None }
         ensures shown { result.shown ≡ None }
+        ensures found { result.found ≡ None }
     {
         Told {
             alloc,
@@ -82,6 +85,7 @@ impl<'a> Told<'a> {
             held: None,
             said: None,
             shown: None,
+            found: None,
         }
     }
 }
@@ -102,6 +106,7 @@ impl<'a> System<'a> for Told<'a> {
       destination = destination_of (option_map (option_map (λ name. name.now)) s.place) (option_map (λ v. v.items) s.held);
       said = option_map said_of s.said;
       shown = s.shown;
+      found = s.found;
       refusals = 0;
     }) };
 
@@ -151,6 +156,11 @@ impl<'a> System<'a> for Told<'a> {
 
     fn tell(&mut self, message: Message<'a>) {
         self.said = Some(message);
+    }
+
+    fn report(&mut self, it: Finding) -> Result<(), WriteFault> {
+        self.found = Some(it);
+        Ok(())
     }
 
     fn show(&mut self, error: &Error) {

@@ -1,4 +1,5 @@
-use Rattle.std.proofs.Common.{inl, subst}
+use Rattle.std.proofs.Common.{inl, inr, subst}
+use Rattle.clap.specs.Words.{kind_of}
 use Rattle.aec_tool.specs.Starts.{Follows}
 use Rattle.aec_tool.proofs.start_up.start.Goals as goal
 
@@ -15,3 +16,9 @@ returns-in-Ok-plan_of g c = λ o told.
             c.in-Ok-plan_of.ensures did.2,
       ),
     )
+
+-- what the parser has to say was passed on
+pub returns-in-Err : goal.returns-in-Err
+returns-in-Err g c = λ o told.
+    let did = c.refuse.ensures o told in
+    (did.0, did.1, inr (kind_of c.in-Err.error, c.in-Err.ensures.err, did.2))

@@ -1,0 +1,57 @@
+-- What a test of a code comes to.
+use Rattle.std.proofs.Common.{◌≡◌, ◌∙◌, ◌+◌, ap, ℕ, Bool, true, false, List, Option, Some, None, Result, Ok, Err, refl, sym}
+use Rattle.rice_bits.specs.device.Outlet.{Room}
+use Rattle.rice_stream.specs.Calls.{Call, Happens, Fails}
+use Rattle.rice_stream.specs.declared.outcome.Outcome.{Outcome}
+use Rattle.rice_stream.specs.declared.outcome.Fault.{Fault}
+use Rattle.rice_stream.specs.declared.outcome.Fault.TheVariants.{Read, TooLong}
+use Rattle.aec_tool.specs.Behind.{Looks, LooksBehind}
+use Rattle.aec_tool.specs.Plan.{PlanView}
+use Rattle.aec_tool.specs.Outside.{Outside, source_bytes}
+use Rattle.aec_tool.specs.Performs.{EngineOf, Judges, Tests, test_status, tested}
+
+-- nothing is looked for
+pub looks_nowhere : {Source : Type 0} (reads : Source → ℕ) (wanted is_wanted : Bool) (bits : ℕ) (given : List ℕ) → is_wanted ≡ wanted → is_wanted ≡ false → Looks reads wanted bits given (Ok None)
+looks_nowhere reads true true bits given e never = let bad : ⊥ = cc in absurd bad
+looks_nowhere reads true false bits given e never = let bad : ⊥ = cc in absurd bad
+looks_nowhere reads false is_wanted bits given e never = refl
+
+-- what was looked for
+pub looks_here : {Source : Type 0} (reads : Source → ℕ) (wanted is_wanted : Bool) (before bits : ℕ) (left : Option (List ℕ)) (given : List ℕ) (more : Bool) → is_wanted ≡ wanted → is_wanted ≡ true → left ≡ Some given
+    → LooksBehind reads before left bits (Ok more) → Looks reads wanted bits given (Ok (Some more))
+looks_here reads false is_wanted before bits left given more e is told looks = let bad : ⊥ = cc in absurd bad
+looks_here reads true is_wanted before bits left given more e is told looks = looks given told
+
+-- it was not found out
+pub looks_in_vain : {Source : Type 0} (reads : Source → ℕ) (wanted is_wanted : Bool) (before bits : ℕ) (left : Option (List ℕ)) (given : List ℕ) (fault : Fault) → is_wanted ≡ wanted → is_wanted ≡ true → before ≡ 0 → left ≡ Some given
+    → LooksBehind reads before left bits (Err fault) → Looks reads wanted bits given (Err fault)
+looks_in_vain reads false is_wanted before bits left given fault e is none told looks = let bad : ⊥ = cc in absurd bad
+looks_in_vain reads true is_wanted before bits left given Read e is none told looks = (looks.0, looks.1 ∙ ap (λ n. n + 1) none)
+looks_in_vain reads true is_wanted before bits left given TooLong e is none told looks = λ bytes same. looks bytes (told ∙ same)
+looks_in_vain reads true is_wanted before bits left given other e is none told looks = absurd looks
+
+-- The source was decoded, and what was found is told.
+pub tests_of : {Source Dest : Type 0} (left : Source → Option (List ℕ)) (reads : Source → ℕ) (taken : Dest → Option Room) (writes : Dest → ℕ)
+    (p : PlanView) (o after : Outside) (status : ℕ) (given : List ℕ) (opened read : Source) (done : Outcome) (found : Result (Option Bool) Fault) (told : Bool)
+    → source_bytes o p.source ≡ Some given → reads opened ≡ 0 → left opened ≡ Some given
+    → ((c : Call) × Happens (left opened) (left read) None None c × EngineOf p.decode p c done)
+    → Fails done.fault (reads opened) (reads read) 0 0 → Judges left reads taken writes p o given done.report.bits done.fault found
+    → after ≡ tested p.setting done.report found told o → status ≡ test_status found told → Tests left reads taken writes p o after status
+tests_of left reads taken writes p o after status given opened read done found told source sound gives engine failures judges outside status_is = record {
+  given = given;
+  source = source;
+  opened = opened;
+  read = read;
+  sound = sound;
+  gives = gives;
+  call = engine.0;
+  outcome = done;
+  happens = engine.1;
+  engine = engine.2;
+  failures = failures;
+  found = found;
+  judges = judges;
+  told = told;
+  outside = outside;
+  status_is = status_is;
+}

@@ -1,0 +1,11 @@
+use Rattle.aec_tool.specs.CommandLine.{aec}
+use Rattle.aec_tool.proofs.CommandLineLemmas.{aec_is_free, aec_is_simple, parsed, refused}
+use Rattle.aec_tool.proofs.start_up.matches_of_all.Goals as goal
+
+pub returns : goal.returns
+returns c =
+    let parse = c.try_get_matches_from in
+    record {
+      ok = parsed aec _ _ parse.result aec_is_simple aec_is_free c.in_ok-command.ensures parse.ensures.matches parse.ensures.kinds;
+      err = refused aec _ _ parse.result aec_is_free c.in_ok-command.ensures parse.ensures.kinds;
+    }

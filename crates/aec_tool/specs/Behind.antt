@@ -1,0 +1,36 @@
+-- Whether a 1 is left behind the first bits of a code.
+use Rattle.std.specs.Prelude.{◌≡◌, ℕ, ◌+◌, ◌^◌, ◌<◌, Bool, true, false, not, List, length, drop, Option, Some, None, Result, Ok, Err}
+use Rattle.rice_bits.specs.Bits.{bits_of}
+use Rattle.rice_bits.specs.read.Reader.{is_blank}
+use Rattle.rice_bits.specs.declared.read.fault.BitFault.{BitFault}
+use Rattle.rice_bits.specs.declared.read.fault.BitFault.TheVariants as bit_faults
+use Rattle.rice_stream.specs.declared.outcome.Fault.{Fault}
+use Rattle.rice_stream.specs.declared.outcome.Fault.TheVariants.{Read, TooLong}
+
+-- a 1 is among the bits of these bytes, behind so many
+abbrev pub has_one_behind : ℕ → List ℕ → Bool
+has_one_behind bits bytes = not (is_blank (drop bits (bits_of bytes)))
+
+-- A look at the bytes of an intake stopped: a read failed, or there were more bytes than a code may have.
+abbrev pub StopsLooking : {I : Type 0} → (I → ℕ) → ℕ → Option (List ℕ) → Fault → Type 0
+StopsLooking {I} failed before left Read = (after : I) × (failed after ≡ before + 1)
+StopsLooking failed before left TooLong = (bytes : List ℕ) → left ≡ Some bytes → 2 ^ 49 < length bytes
+StopsLooking failed before left _ = ⊥
+
+-- What a look at the bytes of an intake found behind so many bits.
+abbrev pub LooksBehind : {I : Type 0} → (I → ℕ) → ℕ → Option (List ℕ) → ℕ → Result Bool Fault → Type 0
+LooksBehind failed before left bits (Ok more) = (bytes : List ℕ) → left ≡ Some bytes → more ≡ has_one_behind bits bytes
+LooksBehind failed before left bits (Err fault) = StopsLooking failed before left fault
+
+-- A look that a reader's refusal stopped: where the intake has ended, there is no 1.
+abbrev pub StoppedBy : {I : Type 0} → (I → ℕ) → ℕ → BitFault → Result Bool Fault → Type 0
+StoppedBy failed count (bit_faults.End blank) result = result ≡ Ok false
+StoppedBy {I} failed count bit_faults.Read result = (result ≡ Err Read) × ((after : I) × (failed after ≡ count))
+StoppedBy failed count bit_faults.TooLong result = result ≡ Err TooLong
+
+-- What was found behind so many bits of these bytes, if that was looked for, in a new source.
+abbrev pub Looks : {Source : Type 0} → (Source → ℕ) → Bool → ℕ → List ℕ → Result (Option Bool) Fault → Type 0
+Looks reads false bits given found = found ≡ Ok None
+Looks reads true bits given (Ok None) = ⊥
+Looks reads true bits given (Ok (Some more)) = more ≡ has_one_behind bits given
+Looks reads true bits given (Err fault) = StopsLooking reads 0 (Some given) fault

@@ -1,0 +1,126 @@
+//! The test of a code: it is decoded, and nothing is written.
+ghost use Rattle.std.specs.Prelude.{◌≡◌, ℕ, ◌⊎◌, ◌&&◌, List, Some, is_some};
+ghost use Rattle.aec_tool.specs.Behind.{Looks};
+ghost use Rattle.aec_tool.specs.Plan.{plan_view};
+ghost use Rattle.aec_tool.specs.Outside.{Outside, IsFresh, GivesAll, Stopped, finding, is_read_again, said_of, saying, source_bytes, source_id};
+ghost use Rattle.aec_tool.specs.Performs.{Tests, Judges, faulty};
+ghost use Rattle.rice_stream.specs.declared.outcome.Fault.TheVariants as faults;
+
+use crate::exit_status::SUCCESS;
+use crate::finding::Finding;
+use crate::look::look_behind;
+use crate::message::Message;
+use crate::nowhere::Nowhere;
+use crate::perform::{STANDARD, fail, open};
+use crate::plan::Plan;
+use crate::run::run;
+use crate::same_file::FileId;
+use crate::system::System;
+use rice_samples::Setting;
+use rice_stream::{Fault, Outcome, Report};
+
+/// Decodes the source and writes nothing, and tells what that found. Returns the exit status.
+pub fn test<'a, S: System<'a>>(
+    system: &mut S,
+    plan: &Plan<'a>,
+    source: S::Source,
+    id: Option<FileId>,
+) -> u8
+    requires fresh { (o : Outside) → S.told system.old ≡ Some o → IsFresh o }
+    requires sound { S.Source.failed source ≡ 0 }
+    requires bytes { (o : Outside) → S.told system.old ≡ Some o → GivesAll (source_bytes o plan.now.source.now) (S.Source.left source) }
+    requires id { (o : Outside) → S.told system.old ≡ Some o → id ≡ source_id o plan.now.source.now }
+    ensures { (o : Outside) → S.told system.old ≡ Some o → (after : Outside) × (S.told system.new ≡ Some after)
+        × Tests S.Source.left S.Source.failed S.Dest.taken S.Dest.failed (plan_view plan.now) o after result }
+{
+    let (outcome, _) = run(plan, source, &mut Nowhere);
+    let report = outcome.report;
+    match judge(system, plan, id, &outcome) {
+        Ok(more) => {
+            let it = Finding {
+                samples: report.samples,
+                bits: report.bits,
+                more,
+            };
+            tell(system, it)
+        }
+        Err(fault) => fail(system, at_place(&plan.setting, &report, fault)),
+    }
+}
+
+/// Writes what was found to standard output, and returns the exit status.
+fn tell<'a, S: System<'a>>(system: &mut S, it: Finding) -> u8
+    requires fresh { (o : Outside) → S.told system.old ≡ Some o → IsFresh o }
+    ensures { (o : Outside) → S.told system.old ≡ Some o →
+        ((S.told system.new ≡ Some (finding o it)) × (result ≡ 0)) ⊎ ((S.told system.new ≡ Some (saying o (Stopped faults.Write))) × (result ≡ 1)) }
+{
+    match system.report(it) {
+        Ok(()) => SUCCESS,
+        Err(_) => fail(system, Message::Stopped(Fault::Write)),
+    }
+}
+
+/// Returns the message of a fault of a code, with the block, the bit and the byte where reading it stopped, counted from 0.
+fn at_place<'a>(setting: &Setting, report: &Report, fault: Fault) -> Message<'a>
+    ensures { said_of result ≡ faulty setting.now report.now fault }
+{
+    let bit = report.bits.saturating_sub(1);
+    Message::Faulty {
+        fault,
+        block: report.samples / setting.block() as u64,
+        bit,
+        byte: bit / 8,
+    }
+}
+
+/// Returns the fault of a code, or whether a 1 is left behind the samples that were asked for, if that is looked for.
+fn judge<'a, S: System<'a>>(
+    system: &S,
+    plan: &Plan<'a>,
+    id: Option<FileId>,
+    outcome: &Outcome,
+) -> Result<Option<bool>, Fault>
+    requires id { (o : Outside) → S.told system.now ≡ Some o → id ≡ source_id o plan.now.source.now }
+    ensures { (o : Outside) (given : List ℕ) → S.told system.now ≡ Some o → source_bytes o plan.now.source.now ≡ Some given →
+        Judges S.Source.left S.Source.failed S.Dest.taken S.Dest.failed (plan_view plan.now) o given outcome.now.report.bits outcome.now.fault result }
+{
+    match outcome.fault {
+        Some(fault) => Err(fault),
+        None => look(system, plan, id, outcome.report.bits),
+    }
+}
+
+/// Returns whether the source can be opened once more, to look behind the samples that were asked for.
+fn is_looked_for(plan: &Plan<'_>, id: Option<FileId>) -> bool
+    ensures { (o : Outside) → id ≡ source_id o plan.now.source.now →
+        result ≡ (is_some plan.now.samples && is_read_again o plan.now.source.now) }
+{
+    match id {
+        Some(id) => plan.samples.is_some() && plan.source != STANDARD && id.is_regular,
+        None => false,
+    }
+}
+
+/// Returns whether a 1 is left behind the first `bits` bits of the source, if that is looked for.
+fn look<'a, S: System<'a>>(
+    system: &S,
+    plan: &Plan<'a>,
+    id: Option<FileId>,
+    bits: u64,
+) -> Result<Option<bool>, Fault>
+    requires id { (o : Outside) → S.told system.now ≡ Some o → id ≡ source_id o plan.now.source.now }
+    ensures { (o : Outside) (given : List ℕ) → S.told system.now ≡ Some o → source_bytes o plan.now.source.now ≡ Some given →
+        Looks S.Source.failed (is_some plan.now.samples && is_read_again o plan.now.source.now) bits given result }
+{
+    if !is_looked_for(plan, id) {
+        return Ok(None);
+    }
+    let (source, _) = match open(system, plan.source) {
+        Ok(opened) => opened,
+        Err(_) => return Err(Fault::Read),
+    };
+    match look_behind(source, bits) {
+        Ok(more) => Ok(Some(more)),
+        Err(fault) => Err(fault),
+    }
+}
