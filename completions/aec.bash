@@ -8,7 +8,7 @@ _aec() {
         -r | --interval) words='1 2 64 128 256 4096' ;;
         *)
             if [[ $word == -* ]]; then
-                words='-3 --three-bytes -N --no-preprocess -b -d --decompress -j --block -m --big-endian -n --bits -p --pad -r --interval -s --signed --samples --test -h --help -V --version'
+                words='-3 --three-bytes -N --no-preprocess -b -d --decompress -j --block -m --big-endian -n --bits -p --pad -r --interval -s --signed --samples --test --verbose -h --help -V --version'
             else
                 compopt -o default
             fi

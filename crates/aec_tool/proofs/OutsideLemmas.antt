@@ -8,7 +8,7 @@ use Rattle.rice_stream.specs.Encodes.{Encodes}
 use Rattle.rice_stream.specs.Decodes.{Decodes}
 use Rattle.rice_stream.specs.declared.outcome.Outcome.{Outcome}
 use Rattle.aec_tool.specs.Plan.{PlanView}
-use Rattle.aec_tool.specs.Outside.{Outside, Said, Holds, HasTakenNothing, Finishes, begun, holding, source_bytes, place_of, is_creatable}
+use Rattle.aec_tool.specs.Outside.{Outside, Said, Holds, HasTakenNothing, Finishes, begun, holding, new_mode, source_bytes, source_id, place_of, is_creatable}
 use Rattle.aec_tool.specs.Performs.{EngineOf, Arrives, EmptiesSource, Runs, last_words, status_with}
 
 -- What holds of what a system tells after a call, where it told something before, holds of all that it tells.
@@ -53,21 +53,21 @@ arrives_of old new nothing bytes took o told kept finishes =
 
 -- The source was read, what the engine wrote has arrived, and then the last words came.
 pub runs_of : {Source Dest : Type 0} (left : Source → Option (List ℕ)) (reads : Source → ℕ) (taken : Dest → Option Room) (writes : Dest → ℕ)
-    (p : PlanView) (dest : List ℕ) (o : Outside) (status : ℕ) (given : List ℕ) (opened read : Source) (begins written : Dest) (done : Outcome)
+    (p : PlanView) (dest : List ℕ) (o : Outside) (status samples : ℕ) (given : List ℕ) (opened read : Source) (begins written : Dest) (done : Outcome)
     (kept : Result (Unit {0}) WriteFault) (told new : Option Outside) (words : Option Said)
     → source_bytes o p.source ≡ Some given → (EmptiesSource o p dest → ⊥) → is_creatable o dest ≡ true
     → reads opened ≡ 0 → writes begins ≡ 0 → left opened ≡ Some given → HasTakenNothing (taken begins)
     → ((c : Call) × Happens (left opened) (left read) (taken begins) (taken written) c × EngineOf p.decode p c done)
     → Fails done.fault (reads opened) (reads read) (writes begins) (writes written)
-    → ((room : Room) → taken written ≡ Some room → Finishes room.bytes (begun o (place_of dest)) told kept)
-    → ((there : List ℕ) → told ≡ Some (record o { destination = Holds (place_of dest) there })
-    → new ≡ Some (record o { destination = Holds (place_of dest) there; said = words }))
-    → words ≡ last_words done.fault (is_ok kept) → status ≡ status_with words
-    → (after : Outside) × (new ≡ Some after) × Runs left reads taken writes p dest o after status
-runs_of left reads taken writes p dest o status given opened read begins written done kept told new words
-    source keeps creatable sound unwritten gives empty engine failures finishes says words_are status_is =
-    let got = arrives_of (taken begins) (taken written) empty engine.0.written engine.1.took (begun o (place_of dest)) told kept finishes in (
-      record o { destination = Holds (place_of dest) got.0; said = words },
+    → ((room : Room) → taken written ≡ Some room → Finishes room.bytes (begun o (place_of dest (new_mode (source_id o p.source)))) told kept)
+    → ((there : List ℕ) → told ≡ Some (record o { destination = Holds (place_of dest (new_mode (source_id o p.source))) there })
+    → new ≡ Some (record o { destination = Holds (place_of dest (new_mode (source_id o p.source))) there; said = words }))
+    → words ≡ last_words done.fault (is_ok kept) → status ≡ status_with words → samples ≡ done.report.samples
+    → (after : Outside) × (new ≡ Some after) × Runs left reads taken writes p dest o after status samples
+runs_of left reads taken writes p dest o status samples given opened read begins written done kept told new words
+    source keeps creatable sound unwritten gives empty engine failures finishes says words_are status_is samples_are =
+    let got = arrives_of (taken begins) (taken written) empty engine.0.written engine.1.took (begun o (place_of dest (new_mode (source_id o p.source)))) told kept finishes in (
+      record o { destination = Holds (place_of dest (new_mode (source_id o p.source))) got.0; said = words },
       says got.0 got.2,
       record {
         given = given;
@@ -90,7 +90,8 @@ runs_of left reads taken writes p dest o status given opened read begins written
         all = is_ok kept;
         there = got.0;
         arrives = got.1;
-        outside = ap (λ w. record o { destination = Holds (place_of dest) got.0; said = w }) words_are;
+        outside = ap (λ w. record o { destination = Holds (place_of dest (new_mode (source_id o p.source))) got.0; said = w }) words_are;
         status_is = status_is ∙ ap status_with words_are;
+        samples_are = samples_are;
       },
     )

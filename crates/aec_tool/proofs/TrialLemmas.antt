@@ -32,12 +32,12 @@ looks_in_vain reads true is_wanted before bits left given other e is none told l
 
 -- The source was decoded, and what was found is told.
 pub tests_of : {Source Dest : Type 0} (left : Source → Option (List ℕ)) (reads : Source → ℕ) (taken : Dest → Option Room) (writes : Dest → ℕ)
-    (p : PlanView) (o after : Outside) (status : ℕ) (given : List ℕ) (opened read : Source) (done : Outcome) (found : Result (Option Bool) Fault) (told : Bool)
+    (p : PlanView) (o after : Outside) (status samples : ℕ) (given : List ℕ) (opened read : Source) (done : Outcome) (found : Result (Option Bool) Fault) (told : Bool)
     → source_bytes o p.source ≡ Some given → reads opened ≡ 0 → left opened ≡ Some given
     → ((c : Call) × Happens (left opened) (left read) None None c × EngineOf p.decode p c done)
     → Fails done.fault (reads opened) (reads read) 0 0 → Judges left reads taken writes p o given done.report.bits done.fault found
-    → after ≡ tested p.setting done.report found told o → status ≡ test_status found told → Tests left reads taken writes p o after status
-tests_of left reads taken writes p o after status given opened read done found told source sound gives engine failures judges outside status_is = record {
+    → after ≡ tested p.setting done.report found told o → status ≡ test_status found told → samples ≡ done.report.samples → Tests left reads taken writes p o after status samples
+tests_of left reads taken writes p o after status samples given opened read done found told source sound gives engine failures judges outside status_is samples_are = record {
   given = given;
   source = source;
   opened = opened;
@@ -54,4 +54,5 @@ tests_of left reads taken writes p o after status given opened read done found t
   told = told;
   outside = outside;
   status_is = status_is;
+  samples_are = samples_are;
 }

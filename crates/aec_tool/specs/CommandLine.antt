@@ -47,6 +47,7 @@ aec_test = record {
         ∷ flag_rule (codes "m") 109 (codes "big-endian") ∷ number_rule (codes "n") 110 (codes "bits") (codes "8")
         ∷ flag_rule (codes "p") 112 (codes "pad") ∷ number_rule (codes "r") 114 (codes "interval") (codes "2")
         ∷ flag_rule (codes "s") 115 (codes "signed") ∷ samples_rule ∷ long_flag_rule (codes "test")
+        ∷ long_flag_rule (codes "verbose")
         ∷ name_rule (codes "source") ∷ [];
   };
   subs = [];

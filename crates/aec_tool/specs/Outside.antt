@@ -15,10 +15,10 @@ use Rattle.aec_tool.specs.declared.system.CreateFault.TheVariants as create
 use Rattle.aec_tool.specs.declared.system.OpenFault.{OpenFault}
 use Rattle.rice_bits.specs.declared.device.WriteFault.{WriteFault}
 
--- where bytes are written
+-- where bytes are written: a file that is new has the permissions that are given, or fewer
 pub data Place : Type 0 where
   StandardOutput : Place
-  Named : List ℕ → Place
+  Named : List ℕ → Option ℕ → Place
 
 -- the one destination that a command has: none yet, one that is being written, or one that holds these bytes
 pub data Destination : Type 0 where
@@ -62,6 +62,8 @@ pub record Outside : Type 0 where
   pub shown : Option ErrorKind
   -- what was told of a code on standard output
   pub found : Option Finding
+  -- the samples that the closing line told of, if there was one
+  pub closed : Option ℕ
   -- how many requests for memory were refused
   pub refusals : ℕ
 
@@ -101,6 +103,9 @@ showing o kind = record o { shown = Some kind }
 abbrev pub finding : Outside → Finding → Outside
 finding o it = record o { found = Some it }
 
+abbrev pub closing : Bool → ℕ → Outside → Outside
+closing told samples o = record o { closed = if told then Some samples else o.closed }
+
 abbrev pub refusing : Outside → Outside
 refusing o = record o { refusals = o.refusals + 1 }
 
@@ -119,16 +124,24 @@ source_id o name = if is_standard name then o.input_id else o.ids name
 abbrev pub is_read_again : Outside → List ℕ → Bool
 is_read_again o name = not (is_standard name) && option_map_or (λ id. id.is_regular) (source_id o name) false
 
+-- the permissions that a new file gets for those of a source: of a regular file
+abbrev pub new_mode : Option FileId → Option ℕ
+new_mode None = None
+new_mode (Some id) = if id.is_regular then Some id.mode else None
+
 -- where what is written to this name goes, and whether it can be created
-abbrev pub place_of : List ℕ → Place
-place_of name = if is_standard name then StandardOutput else Named name
+abbrev pub place_of : List ℕ → Option ℕ → Place
+place_of name mode = if is_standard name then StandardOutput else Named name mode
 
 abbrev pub is_creatable : Outside → List ℕ → Bool
 is_creatable o name = is_standard name || o.creatable name
 
 -- both are one regular file
+abbrev pub IsOneFile : FileId → FileId → Type 0
+IsOneFile a b = (a.device ≡ b.device) × (a.number ≡ b.number) × IsTrue a.is_regular × IsTrue b.is_regular
+
 abbrev pub AreOneFile : Option FileId → Option FileId → Type 0
-AreOneFile (Some a) (Some b) = (a ≡ b) × IsTrue a.is_regular
+AreOneFile (Some a) (Some b) = IsOneFile a b
 AreOneFile _ _ = ⊥
 
 -- A file with these bytes, if it can be opened, and this identity was opened, or can't be.
@@ -152,10 +165,10 @@ abbrev pub Finishes : List ℕ → Outside → Option Outside → Result (Unit {
 Finishes bytes o new (Ok _) = new ≡ Some (holding o bytes)
 Finishes bytes o new (Err _) = (there : List ℕ) × (lost : List ℕ) × (bytes ≡ there ++ lost) × (new ≡ Some (holding o there))
 
--- The destination of a place, with no name where it is standard output, and of the bytes that stand there once it is finished.
-abbrev pub destination_of : Option (Option (List ℕ)) → Option (List ℕ) → Destination
+-- The destination of a place, with no name and permissions where it is standard output, and of the bytes that stand there once it is finished.
+abbrev pub destination_of : Option (Option (List ℕ × Option ℕ)) → Option (List ℕ) → Destination
 destination_of None bytes = Untouched
 destination_of (Some None) None = Begun StandardOutput
 destination_of (Some None) (Some bytes) = Holds StandardOutput bytes
-destination_of (Some (Some name)) None = Begun (Named name)
-destination_of (Some (Some name)) (Some bytes) = Holds (Named name) bytes
+destination_of (Some (Some named)) None = Begun (Named named.0 named.1)
+destination_of (Some (Some named)) (Some bytes) = Holds (Named named.0 named.1) bytes

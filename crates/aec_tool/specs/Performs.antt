@@ -11,7 +11,7 @@ use Rattle.rice_stream.specs.declared.outcome.Fault.{Fault}
 use Rattle.rice_stream.specs.declared.outcome.Fault.TheVariants.{Write}
 use Rattle.aec_tool.specs.Behind.{Looks}
 use Rattle.aec_tool.specs.Plan.{PlanView}
-use Rattle.aec_tool.specs.Outside.{Outside, Said, CannotOpen, CannotCreate, LacksMemory, Stopped, Faulty, Holds, HasTakenNothing, finding, refusing, saying, is_standard, is_read_again, source_bytes, source_id, place_of, is_creatable, AreOneFile}
+use Rattle.aec_tool.specs.Outside.{Outside, Said, CannotOpen, CannotCreate, LacksMemory, Stopped, Faulty, Holds, HasTakenNothing, closing, finding, new_mode, refusing, saying, is_standard, is_read_again, source_bytes, source_id, place_of, is_creatable, AreOneFile}
 
 -- what the engine that the plan asks for has done
 abbrev pub EngineOf : Bool → PlanView → Call → Outcome → Type 0
@@ -75,7 +75,7 @@ test_status _ _ = 1
 
 module _ {Source Dest : Type 0} (left : Source → Option (List ℕ)) (reads : Source → ℕ) (taken : Dest → Option Room) (writes : Dest → ℕ) where
   -- The source of the plan's name was read, and what the engine wrote stands at the destination of the plan's name.
-  pub record Runs (p : PlanView) (dest : List ℕ) (o after : Outside) (status : ℕ) : Type 0 where
+  pub record Runs (p : PlanView) (dest : List ℕ) (o after : Outside) (status samples : ℕ) : Type 0 where
     pub given : List ℕ
     pub source : source_bytes o p.source ≡ Some given
     pub keeps_source : EmptiesSource o p dest → ⊥
@@ -98,8 +98,9 @@ module _ {Source Dest : Type 0} (left : Source → Option (List ℕ)) (reads : S
     pub all : Bool
     pub there : List ℕ
     pub arrives : Arrives all call.written there
-    pub outside : after ≡ record o { destination = Holds (place_of dest) there; said = last_words outcome.fault all }
+    pub outside : after ≡ record o { destination = Holds (place_of dest (new_mode (source_id o p.source))) there; said = last_words outcome.fault all }
     pub status_is : status ≡ status_with (last_words outcome.fault all)
+    pub samples_are : samples ≡ outcome.report.samples
 
   -- what a test found: the fault of the code, or what is behind the samples that were asked for
   abbrev pub Judges : PlanView → Outside → List ℕ → ℕ → Option Fault → Result (Option Bool) Fault → Type 0
@@ -107,7 +108,7 @@ module _ {Source Dest : Type 0} (left : Source → Option (List ℕ)) (reads : S
   Judges p o given bits None found = Looks reads (is_some p.samples && is_read_again o p.source) bits given found
 
   -- The source of the plan's name was read, nothing was written, and what was found is told.
-  pub record Tests (p : PlanView) (o after : Outside) (status : ℕ) : Type 0 where
+  pub record Tests (p : PlanView) (o after : Outside) (status samples : ℕ) : Type 0 where
     pub given : List ℕ
     pub source : source_bytes o p.source ≡ Some given
     pub opened : Source
@@ -125,11 +126,16 @@ module _ {Source Dest : Type 0} (left : Source → Option (List ℕ)) (reads : S
     pub told : Bool
     pub outside : after ≡ tested p.setting outcome.report found told o
     pub status_is : status ≡ test_status found told
+    pub samples_are : samples ≡ outcome.report.samples
+
+  -- this was done, and the closing line was written, if the plan asks for it
+  abbrev pub Closes : PlanView → (Outside → ℕ → ℕ → Type 0) → Outside → ℕ → Type 0
+  Closes p did after status = (before : Outside) × (samples : ℕ) × did before status samples × (after ≡ closing p.verbose samples before)
 
   -- the destination of this name was written, if there is one, and else the source was tested
   abbrev pub Ends : Option (List ℕ) → PlanView → Outside → Outside → ℕ → Type 0
-  Ends (Some dest) p o after status = CreatesNothing p dest o after status ⊎ (WantsMemory o after status ⊎ Runs p dest o after status)
-  Ends None p o after status = Tests p o after status
+  Ends (Some dest) p o after status = CreatesNothing p dest o after status ⊎ (WantsMemory o after status ⊎ Closes p (Runs p dest o) after status)
+  Ends None p o after status = Closes p (Tests p o) after status
 
   abbrev pub Performs : PlanView → Outside → Outside → ℕ → Type 0
   Performs p o after status = FindsNoSource p o after status ⊎ Ends p.dest p o after status

@@ -41,6 +41,7 @@ pub record PlanView : Type 0 where
   pub source : List ℕ
   -- none where the code is only tested
   pub dest : Option (List ℕ)
+  pub verbose : Bool
 
 abbrev pub plan_view : Plan → PlanView
 plan_view p = record {
@@ -49,6 +50,7 @@ plan_view p = record {
   samples = p.samples;
   source = p.source.now;
   dest = option_map (λ name. name.now) p.dest;
+  verbose = p.verbose;
 }
 
 -- what the answer says, with its plan as what the plan says
@@ -89,6 +91,7 @@ plan_with_setting f source (Ok setting) = Ok (record {
   samples = samples_in f;
   source = source;
   dest = first_value f (codes "dest");
+  verbose = is_flagged f (codes "verbose");
 })
 plan_with_setting f source (Err e) = Err (fault.Setting e)
 

@@ -63,6 +63,7 @@ pub fn plan_of<'a>(matches: &ArgMatches<'a>) -> Result<Plan<'a>, PlanFault>
     let three = is_used(matches, "3");
     let preprocess = !is_used(matches, "N");
     let pad = is_used(matches, "p");
+    let verbose = is_used(matches, "verbose");
     match Setting::new(bits, block, interval, signed, msb, three, preprocess, pad) {
         Ok(setting) => Ok(Plan {
             setting,
@@ -70,6 +71,7 @@ pub fn plan_of<'a>(matches: &ArgMatches<'a>) -> Result<Plan<'a>, PlanFault>
             samples,
             source,
             dest,
+            verbose,
         }),
         Err(fault) => Err(PlanFault::Setting(fault)),
     }

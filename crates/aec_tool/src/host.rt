@@ -1,8 +1,10 @@
 //! The system of a runtime.
 ghost use Rattle.std.specs.Prelude.{None};
 
+use crate::counted::Counted;
 use crate::finding::Finding;
 use crate::message::Message;
+use crate::progress::Progress;
 use crate::same_file::{FileId, known_id};
 use crate::sink::Sink;
 use crate::stream::Stream;
@@ -10,47 +12,67 @@ use crate::system::{CreateFault, OpenFault, System};
 use clap::Error;
 use rice_bits::{FromBufWriter, FromReader, WriteFault};
 use std::alloc::AllocGlobal;
-use std::fs::{File, OpenFile};
+use std::fs::{File, Metadata, OpenFile};
 use std::io::{BufWriter, Printer, Write};
+use std::os::unix::fs::OpenOptionsExt;
 use std::rt::Runtime;
 use std::{fs, io};
 
 /// The size of the buffer in front of the destination, in bytes.
 const BUFFER: usize = 1 << 16;
 
+/// The permissions that a new file gets where those of the source are not known, less those that the system withholds.
+const ANY_NEW_FILE: u32 = 0o666;
+
 /// The name of the file that standard input is.
 const STANDARD_INPUT: &str = "/dev/stdin";
+
+/// Returns the bytes of a regular file.
+fn size_of(found: io::Result<Metadata>) -> Option<u64> {
+    match found {
+        Ok(found) if found.is_file() => Some(found.len()),
+        _ => None,
+    }
+}
 
 /// The system that a runtime reaches. It tells nothing of its files: the runtime's own contracts don't.
 #[derive(Drop)]
 pub struct Host<'r, R> {
     rt: &'r R,
+    progress: &'r Progress,
 }
 
 impl<'r, R> Host<'r, R> {
-    /// Returns the system of a runtime.
-    pub fn new(rt: &'r R) -> Self {
-        Host { rt }
+    /// Returns the system of a runtime, which notes its progress.
+    pub fn new(rt: &'r R, progress: &'r Progress) -> Self {
+        Host { rt, progress }
     }
 }
 
 impl<'a, 'r, R: Runtime + AllocGlobal> System<'a> for Host<'r, R> {
-    type Source = FromReader<Stream<R::Reader, R::File>>;
+    type Source = FromReader<Counted<'r, R, Stream<R::Reader, R::File>>>;
 
-    type Dest = FromBufWriter<Sink<Printer<'r, R>, R::File>>;
+    type Dest = FromBufWriter<Counted<'r, R, Sink<Printer<'r, R>, R::File>>>;
 
     ghost told = { λ _. None };
 
     fn input(&self) -> (Self::Source, Option<FileId>) {
         let id = known_id(fs::metadata(self.rt, STANDARD_INPUT));
-        (FromReader::new(Stream::Input(self.rt.reader())), id)
+        let input = Stream::Input(self.rt.reader());
+        (
+            FromReader::new(Counted::new(self.rt, self.progress, input)),
+            id,
+        )
     }
 
     fn open(&self, name: &str) -> Result<(Self::Source, Option<FileId>), OpenFault> {
         match File::open(self.rt, name) {
             Ok(file) => {
                 let id = known_id(file.metadata());
-                Ok((FromReader::new(Stream::File(file)), id))
+                self.progress.expect(size_of(file.metadata()));
+                let stream = Stream::File(file);
+                let source = FromReader::new(Counted::new(self.rt, self.progress, stream));
+                Ok((source, id))
             }
             Err(_) => Err(OpenFault),
         }
@@ -61,25 +83,32 @@ impl<'a, 'r, R: Runtime + AllocGlobal> System<'a> for Host<'r, R> {
     }
 
     fn output(&mut self) -> Result<Self::Dest, CreateFault> {
-        let sink = Sink::Output(io::writer(self.rt));
+        let sink = Counted::new(self.rt, self.progress, Sink::Output(io::writer(self.rt)));
         match BufWriter::with_capacity(self.rt.alloc(), BUFFER, sink) {
             Ok(writer) => Ok(FromBufWriter::new(writer)),
             Err(_) => Err(CreateFault::NoMemory),
         }
     }
 
-    fn create(&mut self, name: &'a str) -> Result<Self::Dest, CreateFault> {
+    fn create(&mut self, name: &'a str, mode: Option<u32>) -> Result<Self::Dest, CreateFault> {
         // Where standard streams are closed, a new file takes their place, and messages would go into it. A directory, which
         // is neither read nor written, stands in for each.
         let _input = File::open(self.rt, "/");
         let _output = File::open(self.rt, "/");
         let _errors = File::open(self.rt, "/");
-        let Ok(mut writer) = BufWriter::with_capacity(self.rt.alloc(), BUFFER, Sink::Pending) else {
+        let sink = Counted::new(self.rt, self.progress, Sink::Pending);
+        let Ok(mut writer) = BufWriter::with_capacity(self.rt.alloc(), BUFFER, sink) else {
             return Err(CreateFault::NoMemory);
         };
-        match File::create(self.rt, name) {
+        let mut options = File::options();
+        options
+            .write(true)
+            .create(true)
+            .truncate(true)
+            .mode(mode.unwrap_or(ANY_NEW_FILE));
+        match options.open(self.rt, name) {
             Ok(file) => {
-                writer.get_mut().set(file);
+                writer.get_mut().get_mut().set(file);
                 Ok(FromBufWriter::new(writer))
             }
             Err(_) => Err(CreateFault::Refused),
@@ -95,6 +124,14 @@ impl<'a, 'r, R: Runtime + AllocGlobal> System<'a> for Host<'r, R> {
 
     fn tell(&mut self, message: Message<'a>) {
         let _ = eprintln!(self.rt; "aec: {message}");
+    }
+
+    fn watch(&self) {
+        self.progress.watch(self.rt);
+    }
+
+    fn close(&mut self, decode: bool, samples: u64) {
+        self.progress.close(self.rt, decode, samples);
     }
 
     fn report(&mut self, it: Finding) -> Result<(), WriteFault> {

@@ -2,6 +2,7 @@
 #![tactic(auto)]
 
 mod command_line;
+mod counted;
 mod entries;
 mod exit_status;
 mod finding;
@@ -11,6 +12,7 @@ mod message;
 mod nowhere;
 mod perform;
 mod plan;
+mod progress;
 mod run;
 mod same_file;
 mod sink;
@@ -21,8 +23,10 @@ mod system;
 mod tests;
 mod trial;
 
+use std::io::IsTerminal;
 use std::process::ExitCode;
 
 fn main(rt: HostRuntime) -> ExitCode {
-    ExitCode::from(start_up::start_with_arguments(&rt))
+    let terminal = rt.stderr().is_terminal();
+    ExitCode::from(start_up::start_with_arguments(&rt, terminal))
 }

@@ -1,14 +1,14 @@
 //! From a plan to the exit status.
 ghost use Rattle.std.specs.Prelude.{◌≡◌, ℕ, ◌↔◌, true, false, List, Some, None, IfOk, IsTrue};
 ghost use Rattle.aec_tool.specs.Plan.{plan_view};
-ghost use Rattle.aec_tool.specs.Outside.{Outside, Untouched, IsFresh, GivesAll, HasTakenNothing, Opens, Creates, begun, saying, said_of, is_standard, source_bytes, source_id, place_of, is_creatable, AreOneFile};
+ghost use Rattle.aec_tool.specs.Outside.{Outside, Untouched, IsFresh, GivesAll, HasTakenNothing, Opens, Creates, begun, closing, new_mode, saying, said_of, is_standard, source_bytes, source_id, place_of, is_creatable, AreOneFile};
 ghost use Rattle.aec_tool.specs.Performs.{Performs, Ends, Runs, EmptiesSource};
 
 use crate::exit_status::{FAILURE, exit_status};
 use crate::message::Message;
 use crate::plan::Plan;
 use crate::run::run;
-use crate::same_file::{FileId, are_one_file};
+use crate::same_file::{FileId, are_one_file, mode_for};
 use crate::system::{CreateFault, OpenFault, System};
 use crate::trial::test;
 use rice_stream::Fault;
@@ -16,16 +16,29 @@ use rice_stream::Fault;
 /// The name of a standard stream.
 pub const STANDARD: &str = "-";
 
+/// What was done: the exit status, and how many samples were coded, decoded and written, or tested.
+#[derive(Clone, Copy, Debug)]
+pub struct Done {
+    pub status: u8,
+    pub samples: u64,
+}
+
 /// Does what a plan asks, and returns the exit status.
 pub fn perform<'a, S: System<'a>>(system: &mut S, plan: &Plan<'a>) -> u8
     requires { (o : Outside) → S.told system.old ≡ Some o → IsFresh o }
     ensures { (o : Outside) → S.told system.old ≡ Some o → (after : Outside) × (S.told system.new ≡ Some after)
         × Performs S.Source.left S.Source.failed S.Dest.taken S.Dest.failed (plan_view plan.now) o after result }
 {
+    if plan.verbose {
+        system.watch();
+    }
     match open(system, plan.source) {
         Ok((source, id)) => match plan.dest {
             Some(dest) => write(system, plan, dest, source, id),
-            None => test(system, plan, source, id),
+            None => {
+                let done = test(system, plan, source, id);
+                close(system, plan, done)
+            }
         },
         Err(_) => fail(system, Message::NoSource { name: plan.source }),
     }
@@ -39,6 +52,17 @@ pub fn fail<'a, S: System<'a>>(system: &mut S, message: Message<'a>) -> u8
 {
     system.tell(message);
     FAILURE
+}
+
+/// Writes the closing line, if the plan asks for it, and returns the status.
+fn close<'a, S: System<'a>>(system: &mut S, plan: &Plan<'a>, done: Done) -> u8
+    ensures closes { (o : Outside) → S.told system.old ≡ Some o → S.told system.new ≡ Some (closing plan.now.verbose done.samples o) }
+    ensures status { result ≡ done.status }
+{
+    if plan.verbose {
+        system.close(plan.decode, done.samples);
+    }
+    done.status
 }
 
 /// Opens the source of a name, and returns it and which file it is.
@@ -64,17 +88,21 @@ fn empties_source<'a, S: System<'a>>(system: &S, name: &str, source: Option<File
 }
 
 /// Begins the destination of a name.
-fn create<'a, S: System<'a>>(system: &mut S, name: &'a str) -> Result<S::Dest, CreateFault>
+fn create<'a, S: System<'a>>(
+    system: &mut S,
+    name: &'a str,
+    mode: Option<u32>,
+) -> Result<S::Dest, CreateFault>
     requires { (o : Outside) → S.told system.old ≡ Some o → o.destination ≡ Untouched }
     ensures sound { IfOk result (λ d. S.Dest.failed d ≡ 0) }
     ensures silent { S.told system.old ≡ None → S.told system.new ≡ None }
     ensures creates { (o : Outside) → S.told system.old ≡ Some o →
-        Creates S.Dest.taken (place_of name.entry.now) (is_creatable o name.entry.now) o (S.told system.new) result }
+        Creates S.Dest.taken (place_of name.entry.now mode) (is_creatable o name.entry.now) o (S.told system.new) result }
 {
     if name == STANDARD {
         return system.output();
     }
-    system.create(name)
+    system.create(name, mode)
 }
 
 /// Creates the destination, unless that would empty the source, and writes to it.
@@ -95,8 +123,11 @@ fn write<'a, S: System<'a>>(
     if empties_source(system, dest, id) {
         return fail(system, Message::NoDest { name: dest });
     }
-    match create(system, dest) {
-        Ok(begun) => transfer(system, plan, dest, source, begun),
+    match create(system, dest, mode_for(id)) {
+        Ok(begun) => {
+            let done = transfer(system, plan, dest, source, begun);
+            close(system, plan, done)
+        }
         Err(CreateFault::NoMemory) => fail(system, Message::NoMemory),
         Err(CreateFault::Refused) => fail(system, Message::NoDest { name: dest }),
     }
@@ -109,22 +140,32 @@ fn transfer<'a, S: System<'a>>(
     name: &'a str,
     source: S::Source,
     dest: S::Dest,
-) -> u8
+) -> Done
     requires sound { S.Source.failed source ≡ 0 }
     requires unwritten { S.Dest.failed dest ≡ 0 }
     requires empty { (o : Outside) → S.told system.old ≡ Some o → HasTakenNothing (S.Dest.taken dest) }
     requires unsaid { (o : Outside) → S.told system.old ≡ Some o → o.said ≡ None }
-    ensures { (o : Outside) (given : List ℕ) → S.told system.old ≡ Some (begun o (place_of name.entry.now)) →
+    ensures { (o : Outside) (given : List ℕ) → S.told system.old ≡ Some (begun o (place_of name.entry.now (new_mode (source_id o plan.now.source.now)))) →
         source_bytes o plan.now.source.now ≡ Some given → S.Source.left source ≡ Some given →
         (EmptiesSource o (plan_view plan.now) name.entry.now → ⊥) → is_creatable o name.entry.now ≡ true → (after : Outside) × (S.told system.new ≡ Some after)
-        × Runs S.Source.left S.Source.failed S.Dest.taken S.Dest.failed (plan_view plan.now) name.entry.now o after result }
+        × Runs S.Source.left S.Source.failed S.Dest.taken S.Dest.failed (plan_view plan.now) name.entry.now o after result.status result.samples }
 {
     let mut dest = dest;
     let (outcome, _) = run(plan, source, &mut dest);
     let kept = system.finish(dest);
+    let samples = outcome.report.samples;
     match outcome.fault {
-        Some(fault) => fail(system, Message::Stopped(fault)),
-        None if kept.is_err() => fail(system, Message::Stopped(Fault::Write)),
-        None => exit_status(&outcome),
+        Some(fault) => Done {
+            status: fail(system, Message::Stopped(fault)),
+            samples,
+        },
+        None if kept.is_err() => Done {
+            status: fail(system, Message::Stopped(Fault::Write)),
+            samples,
+        },
+        None => Done {
+            status: exit_status(&outcome),
+            samples,
+        },
     }
 }

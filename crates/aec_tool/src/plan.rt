@@ -3,8 +3,8 @@
 use rice_samples::{Setting, SettingFault};
 use thiserror::Error;
 
-/// What the command line asks for: a setting, which direction, how many samples at most, and the names. Without a destination the
-/// code is only tested.
+/// What the command line asks for: a setting, which direction, how many samples at most, the names, and whether a closing line is
+/// told. Without a destination the code is only tested.
 #[derive(Clone, Copy, Debug)]
 pub struct Plan<'a> {
     pub setting: Setting,
@@ -12,6 +12,7 @@ pub struct Plan<'a> {
     pub samples: Option<u64>,
     pub source: &'a str,
     pub dest: Option<&'a str>,
+    pub verbose: bool,
 }
 
 /// Why a command line that was parsed is refused.

@@ -1,18 +1,22 @@
 //! Whether a name is that of the file that is read.
 ghost use Rattle.std.specs.Prelude.{◌≡◌, ◌↔◌, IsTrue};
 ghost use Rattle.std.specs.Fs.{IsFile, file_type};
-ghost use Rattle.aec_tool.specs.Outside.{AreOneFile};
+ghost use Rattle.aec_tool.specs.Outside.{AreOneFile, IsOneFile, new_mode};
 
 use std::fs::Metadata;
 use std::io;
-use std::os::unix::fs::MetadataExt;
+use std::os::unix::fs::{MetadataExt, PermissionsExt};
 
-/// What tells a file from all others, its device and its number there, and whether it is a regular file.
+/// The bits of a mode that say who may read, write and run a file.
+const PERMISSIONS: u32 = 0o777;
+
+/// What tells a file from all others, its device and its number there; whether it is a regular file, and its permissions.
 #[derive(Clone, Copy, Debug)]
 pub struct FileId {
     pub device: u64,
     pub number: u64,
     pub is_regular: bool,
+    pub mode: u32,
 }
 
 /// The identity of a file, by what the system says of it.
@@ -23,6 +27,7 @@ fn id_of(found: &Metadata) -> FileId
         device: found.dev(),
         number: found.ino(),
         is_regular: found.is_file(),
+        mode: found.permissions().mode() & PERMISSIONS,
     }
 }
 
@@ -36,7 +41,7 @@ pub fn known_id(found: io::Result<Metadata>) -> Option<FileId> {
 
 /// Whether both are one regular file. Writing to anything else, such as a device, empties nothing.
 fn is_one_file(source: FileId, dest: FileId) -> bool
-    ensures { IsTrue result ↔ ((source ≡ dest) × IsTrue source.is_regular) }
+    ensures { IsTrue result ↔ IsOneFile source dest }
 {
     source.device == dest.device
         && source.number == dest.number
@@ -51,5 +56,21 @@ pub fn are_one_file(source: Option<FileId>, dest: Option<FileId>) -> bool
     match (source, dest) {
         (Some(source), Some(dest)) => is_one_file(source, dest),
         _ => false,
+    }
+}
+
+/// Returns the permissions that a new file gets for those of the source: none where that is no regular file.
+pub fn mode_for(source: Option<FileId>) -> Option<u32>
+    ensures { result ≡ new_mode source }
+{
+    match source {
+        Some(source) => {
+            if source.is_regular {
+                Some(source.mode)
+            } else {
+                None
+            }
+        }
+        None => None,
     }
 }

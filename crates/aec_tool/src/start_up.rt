@@ -13,6 +13,7 @@ use crate::exit_status::SUCCESS;
 use crate::host::Host;
 use crate::message::Message;
 use crate::perform::{fail, perform};
+use crate::progress::Progress;
 use crate::system::System;
 use clap::error::ErrorKind;
 use clap::{ArgMatches, Error};
@@ -117,9 +118,10 @@ fn refuse<'a, S: System<'a>>(system: &mut S, error: &Error) -> u8
     }
 }
 
-/// Runs the command with the words of the process, and returns its exit status.
-pub fn start_with_arguments<R: Runtime + AllocGlobal>(rt: &R) -> u8 {
-    let mut host = Host::new(rt);
+/// Runs the command with the words of the process, and returns its exit status. `terminal` says whether standard error is one.
+pub fn start_with_arguments<R: Runtime + AllocGlobal>(rt: &R, terminal: bool) -> u8 {
+    let progress = Progress::new(terminal);
+    let mut host = Host::new(rt, &progress);
     let words = match env::args(rt) {
         Ok(words) => words,
         Err(error) if error.kind() == io::ErrorKind::OutOfMemory => {

@@ -24,7 +24,7 @@ pub enum CreateFault {
 
 /// The files and streams of a system. Contracts see them where the system tells them.
 pub trait System<'a> {
-    ghost use Rattle.aec_tool.specs.Outside.{Outside, StandardOutput, Named, Untouched, Opens, Creates, Finishes, Tells, saying, showing, said_of};
+    ghost use Rattle.aec_tool.specs.Outside.{Outside, StandardOutput, Named, Untouched, Opens, Creates, Finishes, Tells, closing, saying, showing, said_of};
 
     type Source: Intake + Drop;
 
@@ -55,13 +55,14 @@ pub trait System<'a> {
         ensures silent { told self.old ≡ None → told self.new ≡ None }
         ensures creates { (o : Outside) → told self.old ≡ Some o → Creates Self.Dest.taken StandardOutput true o (told self.new) result };
 
-    /// Creates a file, or empties the one that has this name, to write to it. A file is touched only if there is memory.
-    fn create(&mut self, name: &'a str) -> Result<Self::Dest, CreateFault>
+    /// Creates a file, or empties the one that has this name, to write to it. A file is touched only if there is memory. One that is new
+    /// gets these permissions, or those that all new files get, less those that the system withholds from new files.
+    fn create(&mut self, name: &'a str, mode: Option<u32>) -> Result<Self::Dest, CreateFault>
         requires { (o : Outside) → told self.old ≡ Some o → o.destination ≡ Untouched }
         ensures sound { IfOk result (λ d. Self.Dest.failed d ≡ 0) }
         ensures silent { told self.old ≡ None → told self.new ≡ None }
         ensures creates { (o : Outside) → told self.old ≡ Some o →
-            Creates Self.Dest.taken (Named name.entry.now) (o.creatable name.entry.now) o (told self.new) result };
+            Creates Self.Dest.taken (Named name.entry.now mode) (o.creatable name.entry.now) o (told self.new) result };
 
     /// Ends writing. `Err` if not all bytes that the destination took have arrived.
     fn finish(&mut self, dest: Self::Dest) -> Result<(), WriteFault>
@@ -74,6 +75,15 @@ pub trait System<'a> {
         requires { (o : Outside) → told self.old ≡ Some o → o.said ≡ None }
         ensures silent { told self.old ≡ None → told self.new ≡ None }
         ensures says { (o : Outside) → told self.old ≡ Some o → told self.new ≡ Some (saying o (said_of message.entry)) };
+
+    /// Lets the system show on a terminal how far it has come.
+    fn watch(&self);
+
+    /// Writes the closing line to standard error: so many samples, the bytes in and out, their ratio, and the time. A failure is
+    /// passed over.
+    fn close(&mut self, decode: bool, samples: u64)
+        ensures silent { told self.old ≡ None → told self.new ≡ None }
+        ensures closes { (o : Outside) → told self.old ≡ Some o → told self.new ≡ Some (closing true samples o) };
 
     /// Writes what a test found to standard output, as a line.
     fn report(&mut self, it: Finding) -> Result<(), WriteFault>

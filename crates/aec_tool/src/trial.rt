@@ -11,7 +11,7 @@ use crate::finding::Finding;
 use crate::look::look_behind;
 use crate::message::Message;
 use crate::nowhere::Nowhere;
-use crate::perform::{STANDARD, fail, open};
+use crate::perform::{Done, STANDARD, fail, open};
 use crate::plan::Plan;
 use crate::run::run;
 use crate::same_file::FileId;
@@ -19,19 +19,19 @@ use crate::system::System;
 use rice_samples::Setting;
 use rice_stream::{Fault, Outcome, Report};
 
-/// Decodes the source and writes nothing, and tells what that found. Returns the exit status.
+/// Decodes the source and writes nothing, and tells what that found.
 pub fn test<'a, S: System<'a>>(
     system: &mut S,
     plan: &Plan<'a>,
     source: S::Source,
     id: Option<FileId>,
-) -> u8
+) -> Done
     requires fresh { (o : Outside) → S.told system.old ≡ Some o → IsFresh o }
     requires sound { S.Source.failed source ≡ 0 }
     requires bytes { (o : Outside) → S.told system.old ≡ Some o → GivesAll (source_bytes o plan.now.source.now) (S.Source.left source) }
     requires id { (o : Outside) → S.told system.old ≡ Some o → id ≡ source_id o plan.now.source.now }
     ensures { (o : Outside) → S.told system.old ≡ Some o → (after : Outside) × (S.told system.new ≡ Some after)
-        × Tests S.Source.left S.Source.failed S.Dest.taken S.Dest.failed (plan_view plan.now) o after result }
+        × Tests S.Source.left S.Source.failed S.Dest.taken S.Dest.failed (plan_view plan.now) o after result.status result.samples }
 {
     let (outcome, _) = run(plan, source, &mut Nowhere);
     let report = outcome.report;
@@ -42,9 +42,15 @@ pub fn test<'a, S: System<'a>>(
                 bits: report.bits,
                 more,
             };
-            tell(system, it)
+            Done {
+                status: tell(system, it),
+                samples: report.samples,
+            }
         }
-        Err(fault) => fail(system, at_place(&plan.setting, &report, fault)),
+        Err(fault) => Done {
+            status: fail(system, at_place(&plan.setting, &report, fault)),
+            samples: report.samples,
+        },
     }
 }
 

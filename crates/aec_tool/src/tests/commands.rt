@@ -1,5 +1,6 @@
 //! `start` over a runtime in memory.
 use crate::host::Host;
+use crate::progress::Progress;
 use crate::start_up::start;
 use crate::tests::memory::{Memory, Record, Told};
 use std::test::Fail;
@@ -19,7 +20,9 @@ fn told(rt: HostRuntime, words: &[&str], input: &[u8], room: usize) -> Result<(u
     for word in words {
         all.push(*word)?;
     }
-    let status = start(&mut Host::new(&memory), rt.alloc(), all.as_slice());
+    let progress = Progress::new(false);
+    let mut host = Host::new(&memory, &progress);
+    let status = start(&mut host, rt.alloc(), all.as_slice());
     Ok((status, record.into_told()?))
 }
 
@@ -389,6 +392,52 @@ fn tells_that_what_was_found_was_not_written(rt: HostRuntime) -> Result<(), Fail
 }
 
 #[test]
+fn closes_with_a_line(rt: HostRuntime) -> Result<(), Fail> {
+    // The words, standard output, the errors, the status. The clock can't be read here.
+    let cases: [(&[&str], &[u8], &str, &str, u8); 5] = [
+        (
+            &["--verbose", "-", "-"],
+            SIXTEEN,
+            "\0T",
+            "aec: 16 samples, 16 bytes in, 2 bytes out, ratio 8.00\n",
+            0,
+        ),
+        (
+            &["-d", "--verbose", "in.bin", "-"],
+            b"\0\x58",
+            "\x05\x05\x05\x05\x05\x05\x05\x05",
+            "aec: 8 samples, 2 bytes in, 8 bytes out, ratio 4.00\n",
+            0,
+        ),
+        (
+            &["--verbose", "-", "-"],
+            b"",
+            "",
+            "aec: 0 samples, 0 bytes in, 0 bytes out\n",
+            0,
+        ),
+        (
+            &["--test", "--verbose", "in.bin"],
+            b"\0\x58",
+            "8 samples, 16 bits\n",
+            "aec: 8 samples, 2 bytes in, 0 bytes out, ratio 0.00\n",
+            0,
+        ),
+        (
+            &["-n4", "--verbose", "-", "-"],
+            b"\x10",
+            "",
+            "aec: sample 0 is out of range\naec: 0 samples, 1 bytes in, 0 bytes out\n",
+            1,
+        ),
+    ];
+    for (words, input, output, errors, status) in cases {
+        expect(told(rt, words, input, 100)?, output, errors, (status, 0))?;
+    }
+    Ok(())
+}
+
+#[test]
 fn shows_its_help(rt: HostRuntime) -> Result<(), Fail> {
     let cases: [&[&str]; 3] = [&["-h"], &["--help"], &["-n", "0", "--help", "-", "-"]];
     for words in cases {
@@ -407,4 +456,4 @@ fn tells_its_version(rt: HostRuntime) -> Result<(), Fail> {
 }
 
 const HELP: &str =
-    "Compresses samples without loss, by the adaptive Rice coder of CCSDS 121.0-B-3\n\nUsage: aec [OPTIONS] <SOURCE> <DEST>\n\nArguments:\n  <SOURCE>  File to read; - is standard input\n  <DEST>    File to write; - is standard output\n\nOptions:\n  -3, --three-bytes        Three bytes for each sample of 17 to 24 bits\n  -N, --no-preprocess      No pre or post processing\n  -b <BYTES>               Size of a buffer, from 1 on; without effect\n  -d, --decompress         Decompress\n  -j, --block <SAMPLES>    Block size: 8, 16, 32 or 64 [default: 8]\n  -m, --big-endian         Most significant byte of a sample first\n  -n, --bits <BITS>        Bits per sample, 1 to 32 [default: 8]\n  -p, --pad                Pad each interval to a byte\n  -r, --interval <BLOCKS>  Reference interval, 1 to 4096 [default: 2]\n  -s, --signed             Signed samples\n      --samples <N>        Stop after N samples; with -d or --test only\n      --test               Test a code: decompress without DEST, and tell what is found\n  -h, --help               Print help\n  -V, --version            Print version\n\nDecompress with the options that compressed. A code does not tell how many samples\nit has: without --samples, those that fill its last block or run are written too.\n\nExamples:\n  aec -n 16 -r 128 samples.bin code.aec\n  aec -d -n 16 -r 128 --samples 5000 code.aec samples.bin\n  aec --test -n 16 -r 128 --samples 5000 code.aec\n";
+    "Compresses samples without loss, by the adaptive Rice coder of CCSDS 121.0-B-3\n\nUsage: aec [OPTIONS] <SOURCE> <DEST>\n\nArguments:\n  <SOURCE>  File to read; - is standard input\n  <DEST>    File to write; - is standard output\n\nOptions:\n  -3, --three-bytes        Three bytes for each sample of 17 to 24 bits\n  -N, --no-preprocess      No pre or post processing\n  -b <BYTES>               Size of a buffer, from 1 on; without effect\n  -d, --decompress         Decompress\n  -j, --block <SAMPLES>    Block size: 8, 16, 32 or 64 [default: 8]\n  -m, --big-endian         Most significant byte of a sample first\n  -n, --bits <BITS>        Bits per sample, 1 to 32 [default: 8]\n  -p, --pad                Pad each interval to a byte\n  -r, --interval <BLOCKS>  Reference interval, 1 to 4096 [default: 2]\n  -s, --signed             Signed samples\n      --samples <N>        Stop after N samples; with -d or --test only\n      --test               Test a code: decompress without DEST, and tell what is found\n      --verbose            Tell samples, bytes, ratio and seconds at the end\n  -h, --help               Print help\n  -V, --version            Print version\n\nDecompress with the options that compressed. A code does not tell how many samples\nit has: without --samples, those that fill its last block or run are written too.\n\nExamples:\n  aec -n 16 -r 128 samples.bin code.aec\n  aec -d -n 16 -r 128 --samples 5000 code.aec samples.bin\n  aec --test -n 16 -r 128 --samples 5000 code.aec\n";

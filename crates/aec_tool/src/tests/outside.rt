@@ -12,15 +12,22 @@ const CODE: &[u8] = b"\0X";
 
 const TEST: &[&str] = &["aec", "--test", "--samples", "8", "in"];
 
-// The words, the place that was written, with no name where it is standard output, what stands there, and the status.
-type Case<'a> = (&'a [&'a str], Option<Option<&'a str>>, &'a [u8], u8);
+// The words, the place that was written, with no name and permissions where it is standard output, what stands there, and the status.
+type Place<'a> = Option<Option<(&'a str, Option<u32>)>>;
+
+type Case<'a> = (&'a [&'a str], Place<'a>, &'a [u8], u8);
 
 #[test]
 fn reads_the_source_and_writes_the_destination(rt: HostRuntime) -> Result<(), Fail> {
     let cases: [Case<'_>; 5] = [
-        (&["aec", "in", "out"], Some(Some("out")), CODE, 0),
+        (
+            &["aec", "in", "out"],
+            Some(Some(("out", Some(0o600)))),
+            CODE,
+            0,
+        ),
         (&["aec", "in", "-"], Some(None), CODE, 0),
-        (&["aec", "-", "out"], Some(Some("out")), b"", 0),
+        (&["aec", "-", "out"], Some(Some(("out", None))), b"", 0),
         (&["aec", "in", "in"], None, b"", 1),
         (&["aec", "out", "in"], None, b"", 1),
     ];

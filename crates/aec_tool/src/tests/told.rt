@@ -17,6 +17,7 @@ const ID: FileId = FileId {
     device: 1,
     number: 1,
     is_regular: true,
+    mode: 0o600,
 };
 
 // A destination: the bytes that it took.
@@ -55,11 +56,12 @@ pub struct Told<'a> {
     name: &'a str,
     file: &'a [u8],
     locked: &'a str,
-    pub place: Option<Option<&'a str>>,
+    pub place: Option<Option<(&'a str, Option<u32>)>>,
     pub held: Option<Vec<u8>>,
     pub said: Option<Message<'a>>,
     pub shown: Option<ErrorKind>,
     pub found: Option<Finding>,
+    pub closed: Option<u64>,
 }
 
 impl<'a> Told<'a> {
@@ -86,6 +88,7 @@ impl<'a> Told<'a> {
             said: None,
             shown: None,
             found: None,
+            closed: None,
         }
     }
 }
@@ -101,12 +104,13 @@ impl<'a> System<'a> for Told<'a> {
       input = s.input.now;
       input_id = None;
       files = λ name. if bytes_eq name s.name.now then Some s.file.now else None;
-      ids = λ name. if bytes_eq name s.name.now then Some (record { device = 1; number = 1; is_regular = true }) else None;
+      ids = λ name. if bytes_eq name s.name.now then Some (record { device = 1; number = 1; is_regular = true; mode = 0o600 }) else None;
       creatable = λ name. not (bytes_eq name s.locked.now);
-      destination = destination_of (option_map (option_map (λ name. name.now)) s.place) (option_map (λ v. v.items) s.held);
+      destination = destination_of (option_map (option_map (λ named. (named.0.now, named.1))) s.place) (option_map (λ v. v.items) s.held);
       said = option_map said_of s.said;
       shown = s.shown;
       found = s.found;
+      closed = s.closed;
       refusals = 0;
     }) };
 
@@ -137,11 +141,11 @@ impl<'a> System<'a> for Told<'a> {
         })
     }
 
-    fn create(&mut self, name: &'a str) -> Result<Taken, CreateFault> {
+    fn create(&mut self, name: &'a str, mode: Option<u32>) -> Result<Taken, CreateFault> {
         if name == self.locked {
             return Err(CreateFault::Refused);
         }
-        self.place = Some(Some(name));
+        self.place = Some(Some((name, mode)));
         self.held = None;
         Ok(Taken {
             bytes: Vec::new(self.alloc),
@@ -156,6 +160,12 @@ impl<'a> System<'a> for Told<'a> {
 
     fn tell(&mut self, message: Message<'a>) {
         self.said = Some(message);
+    }
+
+    fn watch(&self) {}
+
+    fn close(&mut self, _decode: bool, samples: u64) {
+        self.closed = Some(samples);
     }
 
     fn report(&mut self, it: Finding) -> Result<(), WriteFault> {

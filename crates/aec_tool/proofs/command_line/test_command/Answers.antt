@@ -24,4 +24,5 @@ returns c =
     let signed = added _ _ _ _ _ c.in_ok-arg-10.ensures c.flag-5.ensures.local c.flag-5.ensures.rule interval in
     let samples = added _ _ _ _ _ c.in_ok-arg-11.ensures c.samples.ensures.local c.samples.ensures.rule signed in
     let test = added _ _ _ _ _ c.in_ok-arg-12.ensures c.long_flag.ensures.local c.long_flag.ensures.rule samples in
-    added_last _ _ _ _ c.arg-13.result c.arg-13.ensures c.source.ensures.local c.source.ensures.rule test
+    let verbose = added _ _ _ _ _ c.in_ok-arg-13.ensures c.long_flag-2.ensures.local c.long_flag-2.ensures.rule test in
+    added_last _ _ _ _ c.arg-14.result c.arg-14.ensures c.source.ensures.local c.source.ensures.rule verbose

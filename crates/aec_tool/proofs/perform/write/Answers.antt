@@ -1,13 +1,13 @@
-use Rattle.std.proofs.Common.{◌≡◌, false, None, refl, inr}
+use Rattle.std.proofs.Common.{◌≡◌, ◌∙◌, false, None, Some, ap, refl, inr, subst, sym}
 use Rattle.std.specs.Prelude.{IsTrue}
 use Rattle.aec_tool.specs.Plan.{plan_view}
-use Rattle.aec_tool.specs.Outside.{HasTakenNothing, begun, refusing, place_of, AreOneFile}
-use Rattle.aec_tool.specs.Performs.{EmptiesSource}
+use Rattle.aec_tool.specs.Outside.{HasTakenNothing, begun, closing, new_mode, refusing, place_of, source_id, AreOneFile}
+use Rattle.aec_tool.specs.Performs.{EmptiesSource, Runs}
 use Rattle.aec_tool.proofs.OutsideLemmas.{holds_after}
 use Rattle.aec_tool.proofs.perform.write.Goals as goal
 
-pub transfer-requires : goal.transfer-requires
-transfer-requires g c κs = (
+pub transfer-done-requires : goal.transfer-done-requires
+transfer-done-requires g c κs = (
   (refl, tt),
   (
     c.requires.sound,
@@ -16,10 +16,10 @@ transfer-requires g c κs = (
       (
         (λ x e. holds_after (λ o. HasTakenNothing (g.S.Dest.Outlet.taken c.in-Ok.begun)) _ _ c.create.ensures.silent (λ o told.
             let made = c.in-Ok.ensures.creates o told in
-            (begun o (place_of c.args.dest.now), made.0, made.2)) x e),
+            (begun o (place_of c.args.dest.now c.mode_for.result), made.0, made.2)) x e),
         (λ x e. holds_after (λ o. o.said ≡ None) _ _ c.create.ensures.silent (λ o told.
             let made = c.in-Ok.ensures.creates o told in
-            (begun o (place_of c.args.dest.now), made.0, (c.requires.fresh o told).said)) x e),
+            (begun o (place_of c.args.dest.now c.mode_for.result), made.0, (c.requires.fresh o told).said)) x e),
       ),
     ),
   ),
@@ -35,8 +35,20 @@ returns-in-Ok g c = λ o told.
     let no : c.empties_source.result ≡ false = c.if-empties_source.false in
     let bad : ⊥ = cc in
     bad in
-    let ran = c.transfer.ensures o all.0 made.0 all.1 all.2 keeps made.1 in
-    (ran.0, ran.1, inr (inr ran.2))
+    let mode : c.mode_for.result ≡ new_mode (source_id o c.args.plan.now.source.now) = c.mode_for.ensures ∙ ap new_mode (c.requires.id o told) in
+    let ran = c.transfer-done.ensures o all.0 (made.0 ∙ ap (λ m. Some (begun o (place_of c.args.dest.now m))) mode) all.1 all.2 keeps made.1 in
+    let status = sym c.close.ensures.status in (
+      closing c.args.plan.now.verbose c.transfer-done.result.samples ran.0,
+      c.close.ensures.closes ran.0 ran.1,
+      inr (
+        inr (
+          ran.0,
+          c.transfer-done.result.samples,
+          subst (λ n. Runs g.S.Source.Intake.left g.S.Source.Intake.failed g.S.Dest.Outlet.taken g.S.Dest.Outlet.failed (plan_view c.args.plan.now) c.args.dest.now o ran.0 n c.transfer-done.result.samples) status ran.2,
+          refl,
+        )
+      ),
+    )
 
 pub fail-requires-in-Err-NoMemory : goal.fail-requires-in-Err-NoMemory
 fail-requires-in-Err-NoMemory g c κs = (

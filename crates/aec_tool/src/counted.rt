@@ -1,0 +1,58 @@
+//! A reader or a writer whose bytes are counted.
+
+use crate::progress::Progress;
+use std::io;
+use std::io::{Eprint, Read, Write};
+use std::time::Clock;
+
+/// A reader or a writer whose bytes are counted.
+#[derive(Drop)]
+pub struct Counted<'r, R, T> {
+    rt: &'r R,
+    progress: &'r Progress,
+    inner: T,
+}
+
+impl<'r, R, T: Drop> Counted<'r, R, T> {
+    /// Returns a reader or a writer of which nothing is counted yet.
+    pub fn new(rt: &'r R, progress: &'r Progress, inner: T) -> Self {
+        Counted {
+            rt,
+            progress,
+            inner,
+        }
+    }
+
+    /// Returns the reader or the writer.
+    pub fn get_mut(&mut self) -> &mut T {
+        &mut self.inner
+    }
+}
+
+impl<R: Clock + Eprint, T: Read> Read for Counted<'_, R, T> {
+    fn read(&mut self, buf: &mut [u8]) -> io::Result<usize> {
+        match self.inner.read(buf) {
+            Ok(count) => {
+                self.progress.count_read(self.rt, count);
+                Ok(count)
+            }
+            Err(error) => Err(error),
+        }
+    }
+}
+
+impl<R, T: Write> Write for Counted<'_, R, T> {
+    fn write(&mut self, buf: &[u8]) -> io::Result<usize> {
+        match self.inner.write(buf) {
+            Ok(count) => {
+                self.progress.count_written(count);
+                Ok(count)
+            }
+            Err(error) => Err(error),
+        }
+    }
+
+    fn flush(&mut self) -> io::Result<()> {
+        self.inner.flush()
+    }
+}
