@@ -3,7 +3,7 @@
 whenever this runs, and speeds, which are those of this machine and of what else is at work.
 
 A size is that of the samples alone. A speed is over copies of them that have 8 MiB together, each with another constant added, so that no
-copy repeats another; by CPU time, the best of some runs; for blosc that of its call, for the others that of the program from file to file.
+copy repeats another; by CPU time, the best of some runs; for blosc that of its call, for the others that of the program from file to file, by hyperfine.
 
 usage: bench_others.py PROGRAM [--json FILE]
 """
@@ -11,7 +11,7 @@ import gzip
 import json
 import math
 import os
-import resource
+import shlex
 import subprocess
 import sys
 import tempfile
@@ -121,12 +121,13 @@ def tools(program):
 
 
 def run(words, to_standard, dest):
-    """Runs a program once; answers its CPU time."""
-    before = resource.getrusage(resource.RUSAGE_CHILDREN)
-    with open(dest if to_standard else os.devnull, "wb") as out:
-        subprocess.run(words, stdout=out, check=True)
-    after = resource.getrusage(resource.RUSAGE_CHILDREN)
-    return after.ru_utime + after.ru_stime - before.ru_utime - before.ru_stime
+    """Runs a program once by hyperfine; answers its CPU time."""
+    output = ["--output", dest if to_standard else "null"]
+    with tempfile.NamedTemporaryFile("r", suffix=".json") as file:
+        clock = ["hyperfine", "--shell=none", "--style=none", "--runs=1", f"--export-json={file.name}", *output]
+        subprocess.run([*clock, shlex.join(words)], check=True, capture_output=True)
+        found, = json.load(file)["results"]
+    return found["user"] + found["system"]
 
 
 def best(call):

@@ -35,7 +35,9 @@ PRINTS = "aec() { printf '<%s>' \"$@\"; echo; }"
 # What is typed after `aec `, with tabs, and the words that it becomes.
 CASES = [
     ("--sam\t5 x y", "<--samples><5><x><y>"),
-    ("--v\t", "<--version>"),
+    ("--vers\t", "<--version>"),
+    ("--verb\t fr\t y", "<--verbose><frame.raw><y>"),
+    ("--te\t fr\t", "<--test><frame.raw>"),
     ("--h\t", "<--help>"),
     ("-j 1\t fr\t y", "<-j><16><frame.raw><y>"),
     ("-n 2\t fr\t y", "<-n><24><frame.raw><y>"),
