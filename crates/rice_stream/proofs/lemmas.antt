@@ -14,6 +14,7 @@ pub mod PiecesPulled
 pub mod PulledPieces
 pub mod PullingLemmas
 pub mod ReturnedBytes
+pub mod RowsWritten
 pub mod RunsWritten
 pub mod Seams
 pub mod SetsRead

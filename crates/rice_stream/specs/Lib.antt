@@ -6,5 +6,6 @@ pub mod EncodingState
 pub mod Feeding
 pub mod Laws
 pub mod Pulling
+pub mod Rows
 pub mod Runs
 pub mod Writes

@@ -75,7 +75,7 @@ pub(crate) fn ended<I: Intake>(
 
 /// Decodes the code that `intake` gives, and writes its samples to `outlet`: as many as are asked for, or all.
 ///
-/// Each block is written before the next is read. With a count of 0 the intake is not called. Returns what was done,
+/// Each block is written before the next is taken. With a count of 0 the intake is not called. Returns what was done,
 /// and the intake.
 #[inline(always)]
 pub fn decode<I: Intake, O: Outlet>(

@@ -1,67 +1,139 @@
 //! Decodes samples that are not predicted, and use all bits of 1, 2 or 4 bytes: blocks without compression are copied.
-ghost use Rattle.std.specs.Prelude.{◌≡◌, ◌⊎◌, ◌+◌, ◌-◌, ◌*◌, ◌^◌, ◌<◌, ◌≤◌, Some, None, true, false};
-ghost use Rattle.rice_samples.specs.Parameters.{width as width_of};
-ghost use Rattle.rice_code.specs.decode.BlocksAhead.{GivesBytes};
+ghost use Rattle.std.specs.Prelude.{◌≡◌, ◌⊎◌, ◌+◌, ◌-◌, ◌*◌, ◌^◌, ◌<◌, ◌≤◌, Some, None, IfErr, IfOk, IfSome, OnErr, OnOk, true};
 ghost use Rattle.rice_code.specs.decode.Fields.{AreCounted};
-ghost use Rattle.rice_code.specs.decode.PlainBlocks.{IsPlain};
+ghost use Rattle.rice_code.specs.decode.PlainBlocks.{IsPlain, PlainRow};
 ghost use Rattle.rice_stream.specs.Calls.{Call, Happens, Fails};
-ghost use Rattle.rice_stream.specs.Decodes.{Decodes, DecodesWithin};
+ghost use Rattle.rice_stream.specs.Decodes.{Decodes, DecodesWithin, wanted_of};
+ghost use Rattle.rice_stream.specs.Rows.{FailsInRow, WritesRow};
 
 use crate::decoding::{end_of, ended, fault_of, is_whole, wanted};
 use crate::outcome::{Fault, Outcome};
-use crate::write::{write_block, write_bytes};
+use crate::write::{write_block, write_counted};
 use arrayvec::ArrayVec;
 use rice_bits::{BitReader, Intake, Meter, Outlet};
 use rice_code::{Decoder, Step};
 use rice_samples::Setting;
 
-/// Returns whether samples are not predicted, and use all bits of `WIDTH` bytes.
+/// Returns whether samples are not predicted, and use all bits of `WIDTH` bytes, and intervals are not padded.
 pub(crate) fn is_plain<const WIDTH: usize>(setting: &Setting) -> bool
     requires { (WIDTH ≡ 1) ⊎ ((WIDTH ≡ 2) ⊎ (WIDTH ≡ 4)) }
     ensures { result ≡ true → IsPlain setting.now WIDTH }
 {
-    !setting.preprocess() && setting.bits() as usize == 8 * WIDTH
+    !setting.preprocess() && !setting.pads() && setting.bits() as usize == 8 * WIDTH
 }
 
-/// Gives the bytes of the next block, if `whole` says that all of it is wanted, it is not compressed, and it waits. Returns whether it
-/// did; otherwise nothing has happened.
+/// The bytes of a row of blocks, at most. Up to 15 more are written behind them.
+const ROOM: usize = 480;
+
+/// Returns the number of blocks that a row has room for.
+fn blocks_of_row<const WIDTH: usize>(setting: &Setting) -> usize
+    requires { IsPlain setting.now WIDTH }
+    ensures few { result ≤ 480 }
+    ensures room { WIDTH * setting.now.block * result ≤ 480 }
+{
+    ROOM / row_bytes::<WIDTH>(setting, 1).max(1)
+}
+
+/// Returns the number of bytes of `blocks` blocks.
 #[inline(always)]
-fn next_bytes<I: Intake, const WIDTH: usize>(
-    decoder: &mut Decoder,
+fn row_bytes<const WIDTH: usize>(setting: &Setting, blocks: usize) -> usize
+    requires plain { IsPlain setting.now WIDTH }
+    requires few { blocks ≤ 480 }
+    ensures { result ≡ WIDTH * setting.now.block * blocks }
+{
+    WIDTH * setting.block() as usize * blocks
+}
+
+/// Returns how many blocks are wanted whole, at most `fit`, where the next one is.
+#[inline(always)]
+fn blocks_wanted(setting: &Setting, asked: Option<u64>, written: u64, fit: usize) -> usize
+    requires wanted { wanted_of asked written setting.now.block ≡ setting.now.block }
+    ensures few { result ≤ fit }
+    ensures wanted { IfSome asked (λ n. written + setting.now.block * result ≤ n) }
+{
+    let block = setting.block();
+    match asked {
+        None => fit,
+        Some(count) => ((count - written) / block as u64).min(fit as u64) as usize,
+    }
+}
+
+/// Returns how many of the next blocks, at most `fit`, are wanted whole, are not compressed, and wait, and writes their bytes. `whole`
+/// says whether the next one is wanted whole.
+#[inline(always)]
+fn row_ahead<I: Intake, const WIDTH: usize>(
+    setting: &Setting,
+    asked: Option<u64>,
+    written: u64,
+    fit: usize,
     whole: bool,
+    decoder: &Decoder,
+    reader: &BitReader<I>,
+    bytes: &mut [u8; 512],
+) -> usize
+    requires plain { IsPlain decoder.now.setting WIDTH }
+    requires setting { decoder.now.setting ≡ setting.now }
+    requires few { fit ≤ 480 }
+    requires room { WIDTH * setting.now.block * fit ≤ 480 }
+    requires whole { whole ≡ true → wanted_of asked written setting.now.block ≡ setting.now.block }
+    ensures few { result ≤ fit }
+    ensures run { 0 < result → decoder.now.run ≡ 0 }
+    ensures wanted { 0 < result → IfSome asked (λ n. written + setting.now.block * result ≤ n) }
+    ensures row { PlainRow reader.now.waiting decoder.now.setting WIDTH result bytes.new }
+{
+    if !whole || decoder.is_in_run() {
+        return 0;
+    }
+    let most = blocks_wanted(setting, asked, written, fit);
+    decoder.plain_blocks::<I, WIDTH>(most, reader, bytes)
+}
+
+/// Writes the bytes of the `blocks` blocks that wait, and goes past them. Returns how many samples were written. If the outlet fails, an
+/// error has the number of samples of those blocks that were written whole, and the block after them is passed too.
+#[inline(always)]
+fn write_row<I: Intake, O: Outlet, const WIDTH: usize>(
+    setting: &Setting,
+    blocks: usize,
+    decoder: &mut Decoder,
     reader: &mut BitReader<I>,
     meter: &mut Meter,
-    bytes: &mut [u8; 512],
-) -> bool
+    bytes: &[u8; 512],
+    outlet: &mut O,
+) -> Result<u64, u64>
     requires plain { IsPlain decoder.old.setting WIDTH }
+    requires setting { decoder.old.setting ≡ setting.now }
+    requires some { 1 ≤ blocks }
+    requires few { blocks ≤ 480 }
+    requires room { WIDTH * setting.now.block * blocks ≤ 480 }
+    requires row { PlainRow reader.old.waiting decoder.old.setting WIDTH blocks bytes.now }
+    requires run { decoder.old.run ≡ 0 }
     requires stopped { decoder.old.stopped ≡ None }
     requires going { reader.old.refusal ≡ None }
-    requires room { meter.old + 2 * (2 ^ 52 - reader.old.taken) + 64 < 2 ^ 62 }
-    ensures width { WIDTH ≡ width_of decoder.old.setting }
-    ensures some { result ≡ true → (whole ≡ true) × (decoder.old.run ≡ 0) ×
-        GivesBytes reader.old reader.new meter.old meter.new decoder.old decoder.new bytes.new }
-    ensures none { result ≡ false → (decoder.new ≡ decoder.old) × (reader.new ≡ reader.old) ×
-        (meter.new ≡ meter.old) × (bytes.new ≡ bytes.old) }
-    ensures going { reader.new.refusal ≡ None }
-    ensures stopped { decoder.new.stopped ≡ None }
-    ensures setting { decoder.new.setting ≡ decoder.old.setting }
-    ensures steps { AreCounted meter.old meter.new reader.old.taken reader.new.taken }
+    requires steps { meter.old + 2 * (2 ^ 52 - reader.old.taken) + 64 < 2 ^ 62 }
+    requires counted { O.failed outlet.old + 1 < 2 ^ 64 }
+    ensures ok { IfOk result (λ n. WritesRow setting.now blocks reader.old reader.new meter.old meter.new
+        decoder.old decoder.new bytes.now (O.taken outlet.old) (O.taken outlet.new) n) }
+    ensures err { IfErr result (λ n. FailsInRow setting.now blocks reader.old reader.new meter.old meter.new
+        decoder.old decoder.new bytes.now (O.taken outlet.old) (O.taken outlet.new) n) }
+    ensures failures { OnOk result (O.failed outlet.new ≡ O.failed outlet.old) }
+    ensures failure { OnErr result (O.failed outlet.new ≡ O.failed outlet.old + 1) }
+    ensures run { decoder.new.run ≡ 0 }
+    ensures counted { AreCounted meter.old meter.new reader.old.taken reader.new.taken }
 {
-    let _taken = reader.taken();
-    if !whole {
-        return false;
+    let block = setting.block() as u64;
+    let size = row_bytes::<WIDTH>(setting, 1);
+    let len = row_bytes::<WIDTH>(setting, blocks);
+    match write_counted(outlet, &bytes[..len]) {
+        Ok(()) => {
+            decoder.take_plain_blocks::<I, WIDTH>(blocks, reader, meter, bytes);
+            Ok(block * blocks as u64)
+        }
+        Err(taken) => {
+            let whole = taken / size;
+            decoder.take_plain_blocks::<I, WIDTH>(whole + 1, reader, meter, bytes);
+            Err(block * whole as u64)
+        }
     }
-    decoder.next_plain_bytes::<I, WIDTH>(reader, meter, bytes)
-}
-
-/// Returns the number of bytes of `count` samples of `WIDTH` bytes.
-#[inline(always)]
-fn block_bytes<const WIDTH: usize>(count: usize) -> usize
-    requires width { WIDTH ≤ 4 }
-    requires count { count ≤ 64 }
-    ensures { result ≡ WIDTH * count }
-{
-    WIDTH * count
 }
 
 /// Decodes such samples, of `WIDTH` bytes.
@@ -86,6 +158,7 @@ pub(crate) fn decode_plain<I: Intake, O: Outlet, const WIDTH: usize>(
 {
     let own = *setting;
     let block = own.block();
+    let fit = blocks_of_row::<WIDTH>(&own);
     let mut decoder = Decoder::new(own);
     let mut reader = BitReader::new(intake);
     let mut meter = Meter::new();
@@ -98,15 +171,30 @@ pub(crate) fn decode_plain<I: Intake, O: Outlet, const WIDTH: usize>(
             return ended(None, written, reader, &meter);
         }
         let whole = is_whole(count, block);
-        if next_bytes::<I, WIDTH>(&mut decoder, whole, &mut reader, &mut meter, &mut bytes) {
-            let len = block_bytes::<WIDTH>(count);
-            match write_bytes(outlet, &bytes[..len]) {
-                Ok(()) => {}
-                Err(_) => return ended(Some(Fault::Write), written, reader, &meter),
+        let blocks = row_ahead::<I, WIDTH>(
+            &own, asked, written, fit, whole, &decoder, &reader, &mut bytes,
+        );
+        if blocks > 0 {
+            match write_row::<I, O, WIDTH>(
+                &own,
+                blocks,
+                &mut decoder,
+                &mut reader,
+                &mut meter,
+                &bytes,
+                outlet,
+            ) {
+                Ok(samples) => {
+                    written += samples;
+                    meter.tick(samples);
+                    continue 'decode_all;
+                }
+                Err(samples) => {
+                    meter.tick(samples);
+                    let all = written + samples;
+                    return ended(Some(Fault::Write), all, reader, &meter);
+                }
             }
-            written += count as u64;
-            meter.tick(count as u64);
-            continue 'decode_all;
         }
         let step = match decoder.next_levels(&mut reader, &mut meter, &mut levels) {
             Ok(step) => step,

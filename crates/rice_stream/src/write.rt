@@ -28,28 +28,6 @@ pub fn write_all<O: Outlet>(outlet: &mut O, bytes: &[u8]) -> Result<(), WriteFau
     }
 }
 
-/// Writes all of the bytes, as `write_all` does. It is laid out for the numbers of bytes that blocks have most.
-#[inline(always)]
-pub fn write_bytes<O: Outlet>(outlet: &mut O, bytes: &[u8]) -> Result<(), WriteFault>
-    requires { O.failed outlet.old + 1 < 2 ^ 64 }
-    ensures ok { OnOk result (Appends (O.taken outlet.old) (O.taken outlet.new) bytes.now ×
-        (O.failed outlet.new ≡ O.failed outlet.old)) }
-    ensures err { OnErr result (TakesPart (O.taken outlet.old) (O.taken outlet.new) bytes.now ×
-        (O.failed outlet.new ≡ O.failed outlet.old + 1)) }
-{
-    let len = bytes.len();
-    if len == 8 {
-        return write_all(outlet, &bytes[..8]);
-    }
-    if len == 16 {
-        return write_all(outlet, &bytes[..16]);
-    }
-    if len == 32 {
-        return write_all(outlet, &bytes[..32]);
-    }
-    write_all(outlet, bytes)
-}
-
 /// Writes all of the bytes, in as many calls as it takes.
 #[inline(never)]
 fn write_rest<O: Outlet>(outlet: &mut O, bytes: &[u8]) -> Result<(), WriteFault>

@@ -1,12 +1,17 @@
 -- Blocks without compression that have the bytes of their samples as they are.
-use Rattle.std.specs.Prelude.{◌≡◌, ◌⊎◌, ℕ, ◌*◌, ◌^◌, ◌<◌, Bool, false, List, All, length, take, drop, flat_map}
+use Rattle.std.specs.Prelude.{◌≡◌, ◌⊎◌, ℕ, zero, suc, ◌+◌, ◌-◌, ◌*◌, ◌^◌, ◌<◌, ◌≤◌, Bool, false, List, All, length, take, drop, flat_map}
 use Rattle.rice_bits.specs.Bits.{word}
-use Rattle.rice_samples.specs.Parameters.{Parameters, id_len}
+use Rattle.rice_bits.specs.read.Reader.{Reader}
+use Rattle.rice_samples.specs.Parameters.{Parameters, id_len, width as width_of}
 use Rattle.rice_samples.specs.bytes.Values.{ordered_bytes}
+use Rattle.rice_code.specs.decode.BlocksAhead.{GivesBytes}
+use Rattle.rice_code.specs.decode.DecoderState.{DecoderState}
+use Rattle.rice_code.specs.decode.Fields.{AreCounted}
 
--- Samples are not predicted, and use all bits of 1, 2 or 4 bytes.
+-- Samples are not predicted, and use all bits of 1, 2 or 4 bytes, and intervals are not padded.
 pub record IsPlain (s : Parameters) (width : ℕ) : Type 0 where
   pub preprocess : s.preprocess ≡ false
+  pub pad : s.pad ≡ false
   pub widths : (width ≡ 1) ⊎ ((width ≡ 2) ⊎ (width ≡ 4))
   pub whole : s.bits ≡ 8 * width
 
@@ -17,3 +22,24 @@ pub record WordsAhead (waiting : List Bool) (s : Parameters) (width count : ℕ)
   pub fit : All (λ v. v < 2 ^ (8 * width)) words
   pub bits : flat_map (word (8 * width)) words ≡ take (8 * count) (drop (id_len s) waiting)
   pub spelled : take count bytes ≡ flat_map (ordered_bytes s.msb width) words
+
+-- the bits of a block without compression
+abbrev pub plain_bits : Parameters → ℕ → ℕ
+plain_bits s width = id_len s + 8 * (width * s.block)
+
+-- A block without compression waits, and the bytes begin with those of its samples.
+pub record PlainBlock (waiting : List Bool) (s : Parameters) (width : ℕ) (bytes : List ℕ) : Type 0 where
+  pub there : plain_bits s width ≤ length waiting
+  pub id : word (id_len s) (2 ^ id_len s - 1) ≡ take (id_len s) waiting
+  pub words : WordsAhead waiting s width (width * s.block) bytes
+
+-- So many of them wait, one behind another.
+abbrev pub PlainRow : List Bool → Parameters → ℕ → ℕ → List ℕ → Type 0
+PlainRow waiting s width count bytes = (i : ℕ) → i < count → PlainBlock (drop (plain_bits s width * i) waiting) s width (drop (width * s.block * i) bytes)
+
+-- A decoder read so many coded data sets, each of one block, and the bytes begin with the spellings of their samples. No run is to come.
+abbrev pub GivesRow : {I : Type 0} → ℕ → Reader I → Reader I → ℕ → ℕ → DecoderState → DecoderState → List ℕ → Type 0
+GivesRow zero old new steps steps_new p q bytes = (new ≡ old) × (steps_new ≡ steps) × (q ≡ p)
+GivesRow {I} (suc n) old new steps steps_new p q bytes =
+    (middle : Reader I) × (steps_middle : ℕ) × (m : DecoderState) × GivesBytes old middle steps steps_middle p m bytes × AreCounted steps steps_middle old.taken middle.taken × (m.run ≡ 0) ×
+    GivesRow n middle new steps_middle steps_new m q (drop (width_of p.setting * p.setting.block) bytes)

@@ -1,12 +1,12 @@
 //! Decodes coded data sets, a block a call.
-ghost use Rattle.std.specs.Prelude.{◌≡◌, ◌≢◌, ◌⊎◌, ℕ, ◌+◌, ◌-◌, ◌*◌, ◌^◌, ◌<◌, ◌≤◌, true, false, All, [], length, take, None, Option, Some, IfSome, IfNone, Ok, pos};
+ghost use Rattle.std.specs.Prelude.{◌≡◌, ◌≢◌, ◌⊎◌, ℕ, ◌+◌, ◌-◌, ◌*◌, ◌%◌, ◌^◌, ◌<◌, ◌≤◌, true, false, All, [], length, take, None, Option, Some, IfSome, IfNone, Ok, pos};
 ghost use Rattle.rice_samples.specs.Parameters.{id_len, value_at, value_count, values_at};
 ghost use Rattle.rice_samples.specs.Places.{blocks_left};
 ghost use Rattle.rice_bits.specs.Bits.{word};
 ghost use Rattle.rice_code.specs.code.Forms.{RunIsSound, blocks_in, zero_blocks};
 ghost use Rattle.rice_code.specs.decode.BlocksAhead.{GivesBytes, HasLanes};
 ghost use Rattle.rice_code.specs.decode.Fields.{AreCounted};
-ghost use Rattle.rice_code.specs.decode.PlainBlocks.{IsPlain};
+ghost use Rattle.rice_code.specs.decode.PlainBlocks.{GivesRow, IsPlain, PlainRow};
 ghost use Rattle.rice_code.specs.decode.Decoder.{Skips, answer_to};
 ghost use Rattle.rice_code.specs.decode.DecoderState.{next_block_place, place_after};
 ghost use Rattle.rice_code.specs.code.Layout.{padding};
@@ -16,7 +16,7 @@ use crate::decode::block_ahead::{spell_ahead, split_ahead, take_ahead};
 use crate::decode::coded_data_set::read_set;
 use crate::decode::fault::{CodeFault, Step};
 use crate::decode::options::SetHead;
-use crate::decode::plain_blocks::{is_plain_ahead, last_of_plain, plain_len, spell_plain};
+use crate::decode::plain_blocks::{last_of_plain, plain_len, spell_plain_row};
 use crate::decode::restoring::{restore_block, restore_zeros};
 use crate::sizes::known_or;
 use arrayvec::ArrayVec;
@@ -78,6 +78,21 @@ fn place_behind(setting: &Setting, block: u64, count: u32) -> u64
     let interval = setting.interval() as u64;
     let next = block + count as u64;
     if next == interval { 0 } else { next }
+}
+
+/// Returns the place in its interval of the block that stands `count` blocks behind block `block`.
+fn place_on(setting: &Setting, block: u64, count: usize) -> u64
+    requires block { block < setting.now.interval }
+    requires count { count ≤ 512 }
+    ensures { result ≡ (block + count) % setting.now.interval }
+{
+    let interval = setting.interval() as u64;
+    let next = block + count as u64;
+    if next < interval {
+        next
+    } else {
+        next % interval
+    }
 }
 
 /// Skips the padding before block `next`, if intervals are padded and the next one begins there.
@@ -364,43 +379,58 @@ impl Decoder {
         true
     }
 
-    /// Reads the next coded data set and writes the bytes of its block, whose samples are not predicted and use all bits of `WIDTH`
-    /// bytes, to the front of `bytes`, if it is not compressed, and it waits. Returns whether it did; otherwise nothing has happened,
-    /// and [`next_levels`](Self::next_levels) gives the block.
+    /// Returns how many of the next coded data sets, at most `most`, are blocks without compression and wait one behind another, where
+    /// samples are not predicted and use all bits of `WIDTH` bytes. Writes the bytes of these blocks. It takes nothing:
+    /// [`take_plain_blocks`](Self::take_plain_blocks) does.
     #[inline(always)]
-    pub fn next_plain_bytes<I: Intake, const WIDTH: usize>(
+    pub fn plain_blocks<I: Intake, const WIDTH: usize>(
+        &self,
+        most: usize,
+        reader: &BitReader<I>,
+        bytes: &mut [u8],
+    ) -> usize
+        requires plain { IsPlain self.now.setting WIDTH }
+        requires few { most ≤ 512 }
+        requires room { WIDTH * self.now.setting.block * most + 15 ≤ length bytes.old }
+        ensures most { result ≤ most }
+        ensures row { PlainRow reader.now.waiting self.now.setting WIDTH result bytes.new }
+    {
+        spell_plain_row::<I, WIDTH>(&self.setting, most, reader, bytes)
+    }
+
+    /// Goes past the next `count` blocks, outside a run, which are not compressed and have these bytes.
+    #[inline(always)]
+    pub fn take_plain_blocks<I: Intake, const WIDTH: usize>(
         &mut self,
+        count: usize,
         reader: &mut BitReader<I>,
         meter: &mut Meter,
-        bytes: &mut [u8],
-    ) -> bool
+        bytes: &[u8],
+    )
         requires plain { IsPlain self.old.setting WIDTH }
+        requires some { 1 ≤ count }
+        requires few { count ≤ 512 }
+        requires row { PlainRow reader.old.waiting self.old.setting WIDTH count bytes.now }
+        requires run { self.old.run ≡ 0 }
         requires stopped { self.old.stopped ≡ None }
         requires going { reader.old.refusal ≡ None }
         requires room { meter.old + 2 * (2 ^ 52 - reader.old.taken) + 64 < 2 ^ 62 }
-        requires bytes { 272 ≤ length bytes.old }
-        ensures some { result ≡ true → (self.old.run ≡ 0) ×
-            GivesBytes reader.old reader.new meter.old meter.new self.old self.new bytes.new }
-        ensures none { result ≡ false → (self.new ≡ self.old) × (reader.new ≡ reader.old) ×
-            (meter.new ≡ meter.old) × (bytes.new ≡ bytes.old) }
+        ensures gives { GivesRow count reader.old reader.new meter.old meter.new self.old self.new bytes.now }
         // It may be called again with this reader.
         ensures going { reader.new.refusal ≡ None }
         ensures stopped { self.new.stopped ≡ None }
         ensures setting { self.new.setting ≡ self.old.setting }
-        // Steps are at least the bits taken, and at most twice as many.
+        ensures run { self.new.run ≡ 0 }
+        // Steps are the bits taken.
         ensures steps { AreCounted meter.old meter.new reader.old.taken reader.new.taken }
     {
+        let _bytes = bytes.len();
         let _taken = reader.taken();
-        if self.run > 0 {
-            return false;
-        }
-        if !is_plain_ahead::<I, WIDTH>(&self.setting, reader) {
-            return false;
-        }
-        spell_plain::<I, WIDTH>(&self.setting, reader, bytes);
-        let last = last_of_plain::<I, WIDTH>(&self.setting, reader);
-        take_ahead(reader, plain_len::<WIDTH>(&self.setting), meter);
-        self.go_on(last, 0, reader, meter).is_ok()
+        let len = plain_len::<WIDTH>(&self.setting);
+        let last = last_of_plain::<I, WIDTH>(&self.setting, reader, len * (count - 1));
+        take_ahead(reader, len * count, meter);
+        self.block = place_on(&self.setting, self.block, count);
+        self.before = last;
     }
 
     /// Restores the samples of the next block, as `next_block` does, by their levels: the level of a sample is the number of legal

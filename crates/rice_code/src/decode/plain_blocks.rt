@@ -3,7 +3,7 @@ ghost use Rattle.std.specs.Prelude.{◌≡◌, ◌+◌, ◌-◌, ◌*◌, ◌^�
 ghost use Rattle.rice_bits.specs.Bits.{word};
 ghost use Rattle.rice_samples.specs.Parameters.{id_len, value_at, value_count};
 ghost use Rattle.rice_samples.specs.predict.Residuals.{pattern};
-ghost use Rattle.rice_code.specs.decode.PlainBlocks.{IsPlain, WordsAhead};
+ghost use Rattle.rice_code.specs.decode.PlainBlocks.{IsPlain, PlainRow, WordsAhead, plain_bits};
 
 use rice_bits::{BitReader, Intake};
 use rice_samples::{Setting, bytes_of_patterns, level_of_pattern};
@@ -50,62 +50,99 @@ fn block_bytes<const WIDTH: usize>(setting: &Setting) -> usize
 #[inline(always)]
 pub fn plain_len<const WIDTH: usize>(setting: &Setting) -> usize
     requires { IsPlain setting.now WIDTH }
-    ensures value { result ≡ id_len setting.now + 8 * (WIDTH * setting.now.block) }
+    ensures value { result ≡ plain_bits setting.now WIDTH }
     ensures range { result ≤ 2053 }
 {
     known_id_len::<WIDTH>(setting) + 8 * block_bytes::<WIDTH>(setting)
 }
 
-/// Returns whether a block without compression waits, and so many bits that all of it may be looked at.
+/// Returns whether a block without compression waits behind the first `skip` bits, and so many bits that all of it may be looked at.
 #[inline(always)]
 pub fn is_plain_ahead<I: Intake, const WIDTH: usize>(
     setting: &Setting,
     reader: &BitReader<I>,
+    skip: usize,
 ) -> bool
-    requires { IsPlain setting.now WIDTH }
-    ensures there { result ≡ true →
-        id_len setting.now + 8 * (WIDTH * setting.now.block) + 128 ≤ length reader.now.waiting }
-    ensures id { result ≡ true →
-        word (id_len setting.now) (2 ^ id_len setting.now - 1) ≡ take (id_len setting.now) reader.now.waiting }
+    requires plain { IsPlain setting.now WIDTH }
+    requires skip { skip < 2 ^ 32 }
+    ensures there { result ≡ true → skip + plain_bits setting.now WIDTH + 128 ≤ length reader.now.waiting }
+    ensures id { result ≡ true → word (id_len setting.now) (2 ^ id_len setting.now - 1)
+        ≡ take (id_len setting.now) (drop skip reader.now.waiting) }
 {
-    if reader.waiting() < plain_len::<WIDTH>(setting) as u64 + BEHIND {
+    if reader.waiting() < (skip + plain_len::<WIDTH>(setting)) as u64 + BEHIND {
         return false;
     }
     let head = known_id_len::<WIDTH>(setting);
-    reader.number_ahead(0, head as u32) == known_id::<WIDTH>(setting)
+    reader.number_ahead(skip, head as u32) == known_id::<WIDTH>(setting)
 }
 
-/// Writes the bytes of the samples of the block without compression that waits. It takes nothing, and may write more behind these
-/// bytes.
+/// Writes the bytes of the samples of the block without compression that waits behind the first `skip` bits. It takes nothing, and
+/// may write up to 15 bytes more behind these.
 #[inline(always)]
 pub fn spell_plain<I: Intake, const WIDTH: usize>(
     setting: &Setting,
     reader: &BitReader<I>,
+    skip: usize,
     bytes: &mut [u8],
 )
     requires plain { IsPlain setting.now WIDTH }
-    requires there { id_len setting.now + 8 * (WIDTH * setting.now.block) + 128 ≤ length reader.now.waiting }
-    requires room { 272 ≤ length bytes.old }
-    ensures { WordsAhead reader.now.waiting setting.now WIDTH (WIDTH * setting.now.block) bytes.new }
+    requires skip { skip < 2 ^ 32 }
+    requires there { skip + plain_bits setting.now WIDTH + 128 ≤ length reader.now.waiting }
+    requires room { WIDTH * setting.now.block + 15 ≤ length bytes.old }
+    ensures { WordsAhead (drop skip reader.now.waiting) setting.now WIDTH (WIDTH * setting.now.block) bytes.new }
 {
     let count = block_bytes::<WIDTH>(setting);
     let head = known_id_len::<WIDTH>(setting);
     for i in 0..(count + 15) / 16 {
-        let patterns = reader.words_ahead(head + 128 * i, 8);
+        let patterns = reader.words_ahead(skip + head + 128 * i, 8);
         let spelled = bytes_of_patterns::<WIDTH>(setting, patterns);
         spelled.copy_to_slice(&mut bytes[16 * i..]);
     }
 }
 
-/// Returns the level of the last sample of the block without compression that waits.
+/// Returns the level of the last sample of the block without compression that waits behind the first `skip` bits.
 #[inline(always)]
-pub fn last_of_plain<I: Intake, const WIDTH: usize>(setting: &Setting, reader: &BitReader<I>) -> u32
+pub fn last_of_plain<I: Intake, const WIDTH: usize>(
+    setting: &Setting,
+    reader: &BitReader<I>,
+    skip: usize,
+) -> u32
     requires plain { IsPlain setting.now WIDTH }
-    requires there { id_len setting.now + 8 * (WIDTH * setting.now.block) + 128 ≤ length reader.now.waiting }
+    requires skip { skip < 2 ^ 32 }
+    requires there { skip + plain_bits setting.now WIDTH ≤ length reader.now.waiting }
     ensures below { result < value_count setting.now }
     ensures last { word (8 * WIDTH) (pattern setting.now (value_at setting.now result)) ≡ take (8 * WIDTH)
-        (drop (id_len setting.now + 8 * (WIDTH * setting.now.block - WIDTH)) reader.now.waiting) }
+        (drop (skip + (id_len setting.now + 8 * (WIDTH * setting.now.block - WIDTH))) reader.now.waiting) }
 {
     let before = known_id_len::<WIDTH>(setting) + 8 * (block_bytes::<WIDTH>(setting) - WIDTH);
-    level_of_pattern(setting, reader.number_ahead(before, 8 * WIDTH as u32))
+    level_of_pattern(
+        setting,
+        reader.number_ahead(skip + before, 8 * WIDTH as u32),
+    )
+}
+
+/// Returns how many blocks without compression wait one behind another, at most `most`, and writes the bytes of their samples. It takes
+/// nothing, and may write more behind these bytes.
+#[inline(always)]
+pub fn spell_plain_row<I: Intake, const WIDTH: usize>(
+    setting: &Setting,
+    most: usize,
+    reader: &BitReader<I>,
+    bytes: &mut [u8],
+) -> usize
+    requires plain { IsPlain setting.now WIDTH }
+    requires few { most ≤ 512 }
+    requires room { WIDTH * setting.now.block * most + 15 ≤ length bytes.old }
+    ensures most { result ≤ most }
+    ensures row { PlainRow reader.now.waiting setting.now WIDTH result bytes.new }
+{
+    let len = plain_len::<WIDTH>(setting);
+    let count = block_bytes::<WIDTH>(setting);
+    for i in 0..most {
+        if !is_plain_ahead::<I, WIDTH>(setting, reader, len * i) {
+            return i;
+        }
+        spell_plain::<I, WIDTH>(setting, reader, len * i, &mut bytes[count * i..]);
+    }
+    most
 }

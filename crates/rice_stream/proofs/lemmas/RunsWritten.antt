@@ -66,7 +66,7 @@ Appends-split (Some x) (Some y) bs cs h =
     )
 
 -- Where an outlet took nothing more.
-progress_put : {I : Type 0} {s : Parameters} {asked : Option ℕ} {start : Reader I} {out_old out out_new : Option Room} {p : DecoderState} {r : Reader I} {steps written : ℕ}
+pub progress_put : {I : Type 0} {s : Parameters} {asked : Option ℕ} {start : Reader I} {out_old out out_new : Option Room} {p : DecoderState} {r : Reader I} {steps written : ℕ}
     → DecodingProgress s asked start out_old out p r steps written → Appends out out_new [] → DecodingProgress s asked start out_old out_new p r steps written
 progress_put {s = s} {asked = asked} {out_old = out_old} {out = out} {out_new = out_new} runs put = record {
   blocks = runs.blocks;
@@ -116,7 +116,7 @@ pub all_wanted : (asked : Option ℕ) (written block n : ℕ) → IfSome asked (
 all_wanted None written block n h = refl
 all_wanted (Some k) written block n h = let le : written + block * suc n ≤ k = h in let e : block * suc n ≡ block + block * n = omega arith in omega (arith, le, e)
 
-more_wanted : (asked : Option ℕ) (written block n : ℕ) → IfSome asked (λ k. written + block * suc n ≤ k) → IfSome asked (λ k. written + block + block * n ≤ k)
+pub more_wanted : (asked : Option ℕ) (written block n : ℕ) → IfSome asked (λ k. written + block * suc n ≤ k) → IfSome asked (λ k. written + block + block * n ≤ k)
 more_wanted None written block n h = tt
 more_wanted (Some k) written block n h = let le : written + block * suc n ≤ k = h in omega (arith, le)
 
@@ -246,7 +246,7 @@ spellings-more : (s : Parameters) (n m : ℕ) (x : ℤ) → spellings s (replica
 spellings-more s n m x = ap (spellings s) (sym (replicate-append-replicate n m x)) ∙ spellings-append s (replicate n x) (replicate m x)
 
 -- a part of the next block's bytes
-part_of : (old new : Option Room) (bytes : List ℕ) (r : ℕ) → r < length bytes → Appends old new (take r bytes) → TakesPart old new bytes
+pub part_of : (old new : Option Room) (bytes : List ℕ) (r : ℕ) → r < length bytes → Appends old new (take r bytes) → TakesPart old new bytes
 part_of old new bytes r short h = record {
   front = take r bytes;
   missing = drop r bytes;

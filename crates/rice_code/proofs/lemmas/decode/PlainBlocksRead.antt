@@ -1,24 +1,33 @@
 -- Blocks without compression, read as the bytes that they are.
-use Rattle.std.proofs.Common.{◌≡◌, ℕ, zero, suc, ◌+◌, ◌-◌, ◌*◌, ◌/◌, ◌^◌, ◌<◌, ◌≤◌, ◌==◌, Bool, true, false, cond, List, [], ◌∷◌, ◌++◌, length, take, drop, map, refl, sym, ◌∙◌, ap, subst, arith, take-take, take-append-drop, length-append, None, ℤ, pos, inl, inr, ◌⊎◌}
+use Rattle.std.proofs.Common.{◌≡◌, ℕ, zero, suc, ◌+◌, ◌-◌, ◌*◌, ◌/◌, ◌%◌, ◌^◌, ◌<◌, ◌≤◌, ◌==◌, Bool, true, false, cond, List, [], ◌∷◌, ◌++◌, length, take, drop, map, refl, sym, ◌∙◌, ap, subst, arith, take-take, take-append-drop, length-append, length-drop, append-nil, Option, None, ℤ, pos, inl, inr, ◌⊎◌}
 use Rattle.std.specs.Prelude.{All, flat_map, nat_le, slice_index_or, ◌&&◌}
+use Rattle.std.specs.Io.KnownBytes.{Consumes}
 use Rattle.std.specs.Simd.Lanes.{put_chunk}
-use Rattle.std.proofs.Math.Nat.{mul-div_cancel_left, mul-le-mul_right}
+use Rattle.std.proofs.Math.Nat.{mod-add-mod, mod-eq_of_lt, mul-div_cancel_left, mul-le-mul_right}
 use Rattle.std.proofs.Math.Seq.{take-add}
 use Rattle.std.proofs.lemmas.Bool.{cases_lt}
 use Rattle.std.proofs.lemmas.Bool.Decides.{nat_tests}
 use Rattle.std.proofs.lemmas.Grind.{flat_map-append}
-use Rattle.std.proofs.lemmas.List.{drop-drop, drop-take, drop_at, get_or-map, length-take-le, take_at}
+use Rattle.std.proofs.lemmas.List.{drop-drop, drop-take, drop_all, drop_at, get_or-map, length-take-le, take-append-le, take_at}
 use Rattle.std.proofs.lemmas.List.Elements.{All-append, All-nil, All-take}
+use Rattle.std.proofs.lemmas.Nat.{mod-mul-add}
 use Rattle.std.proofs.lemmas.Simd.{take_more_put_chunk}
-use Rattle.rice_bits.specs.Bits.{number_of, word}
-use Rattle.rice_bits.specs.read.Reader.{Reader, Takes}
+use Rattle.std.proofs.lemmas.Slice.{drop-put_mid, take-put_mid}
+use borrow.Rule.Slice.PartMut.{put_mid}
+use Rattle.rice_bits.specs.Bits.{bits_of, bits_to_byte, number_of, word}
+use Rattle.rice_bits.specs.read.Reader.{Reader, Takes, is_blank}
+use Rattle.rice_bits.proofs.lemmas.bits.Bytes.{bits_of-nil}
+use Rattle.rice_bits.proofs.lemmas.read.Blank.{blank-append}
+use Rattle.rice_bits.proofs.lemmas.read.Drawing.{draws-waiting}
 use Rattle.rice_bits.proofs.lemmas.bits.Words.{length-word, number_of-word}
+use Rattle.rice_bits.proofs.lemmas.read.WindowLemmas.{words-front}
 use Rattle.rice_samples.specs.Parameters.{Parameters, IsLegal, IsSample, id_len, value_at, value_count, width}
-use Rattle.rice_samples.specs.Places.{place}
+use Rattle.rice_samples.specs.Places.{is_reference, place}
 use Rattle.rice_samples.specs.predict.Residuals.{last_of, pattern}
 use Rattle.rice_samples.specs.bytes.PatternLanes.{OrdersWords}
+use Rattle.rice_samples.specs.bytes.Spelling.{spellings}
 use Rattle.rice_samples.specs.bytes.Values.{ordered_bytes}
-use Rattle.rice_samples.proofs.lemmas.bytes.WordLanes.{samples_of_words}
+use Rattle.rice_samples.proofs.lemmas.bytes.WordLanes.{SamplesOfWords, samples_of_words}
 use Rattle.rice_samples.proofs.lemmas.predict.Patterns.{same_pattern}
 use Rattle.rice_samples.proofs.lemmas.setting.Gaps.{sample_at}
 use Rattle.rice_samples.proofs.lemmas.setting.Levels.{pattern_fits}
@@ -30,8 +39,10 @@ use Rattle.rice_code.specs.code.Layout.{padding}
 use Rattle.rice_code.specs.decode.BlocksAhead.{GivesBytes}
 use Rattle.rice_code.specs.decode.Decoder.{Skips, TakesSet, with_mark}
 use Rattle.rice_code.specs.decode.DecoderState.{DecoderState, next_block_place}
-use Rattle.rice_code.specs.decode.PlainBlocks.{IsPlain, WordsAhead}
-use Rattle.rice_code.proofs.lemmas.decode.DecoderLemmas.{answers_block, samples_by_bits}
+use Rattle.rice_code.specs.decode.Fields.{AreCounted}
+use Rattle.rice_code.specs.decode.PlainBlocks.{GivesRow, IsPlain, PlainBlock, PlainRow, WordsAhead, plain_bits}
+use Rattle.rice_code.proofs.lemmas.code.ReadInOneWay.{long_id}
+use Rattle.rice_code.proofs.lemmas.decode.DecoderLemmas.{answers_block, next_within, samples_by_bits}
 use Rattle.rice_code.proofs.lemmas.decode.RestoredBlocks.{contents_of_patterns}
 
 -- what the widths say of identifiers and bytes
@@ -169,55 +180,305 @@ last_is_at waiting s w i l p words samples some whole many len fit legal pattern
     let end : length samples - 1 ≡ i = omega (arith, len) in
     same_pattern s (value_at s l) x some sample (legal i (pos 0) within) (told ∙ sym pat) ∙ sym (last_at p (pos 0) samples (omega (arith, len)) ∙ ap (λ m. slice_index_or samples m (pos 0)) end)
 
--- a block that waits, and the bytes of its samples
-pub plain_given : {I : Type 0} (start marked middle new : Reader I) (first steps last : ℕ) (p q : DecoderState) (len l w : ℕ) (bytes : List ℕ)
-    → IsLegal p.setting → IsPlain p.setting w → WordsAhead start.waiting p.setting w (w * p.setting.block) bytes
-    → word (id_len p.setting) (2 ^ id_len p.setting - 1) ≡ take (id_len p.setting) start.waiting → len ≡ id_len p.setting + 8 * (w * p.setting.block) → len ≤ length start.waiting
-    → l < value_count p.setting → word (8 * w) (pattern p.setting (value_at p.setting l)) ≡ take (8 * w) (drop (id_len p.setting + 8 * (w * p.setting.block - w)) start.waiting)
-    → marked ≡ with_mark start → Takes marked middle (take len marked.waiting) → steps ≡ first + len
-    → Skips middle new (padding p.setting (p.block + 1 + 0) middle.taken) → last + middle.taken ≡ steps + new.taken → middle.taken ≤ new.taken
-    → q ≡ record p { block = next_block_place p.setting p.block; before = value_at p.setting l; run = 0 }
+-- the samples of a block
+samples_in : (s : Parameters) (w : ℕ) (words : List ℕ) → IsLegal s → IsPlain s w → All (λ v. v < 2 ^ (8 * w)) words → SamplesOfWords s w words
+samples_in s w words legal plain fit = samples_of_words s w words legal.bits_from plain.whole (plain_width s w plain) fit
+
+counted_words : (s : Parameters) (w n : ℕ) → IsPlain s w → w * n ≡ w * s.block → n ≡ s.block
+counted_words s w n plain e = sym (mul-div_cancel_left n (some_bytes s w plain)) ∙ (ap (λ m. m / w) e ∙ mul-div_cancel_left s.block (some_bytes s w plain))
+
+not_padded : (s : Parameters) (w next bits : ℕ) → IsPlain s w → padding s next bits ≡ 0
+not_padded s w next bits plain = ap (λ v. cond (v && place s next == 0) (bits_to_byte bits) 0) plain.pad
+
+-- a block that waits, and the bytes of its samples, of which `x` is the last
+plain_step : {I : Type 0} (start new : Reader I) (first last : ℕ) (p q : DecoderState) (x : ℤ) (w : ℕ) (bytes : List ℕ)
+    → (legal : IsLegal p.setting) (plain : IsPlain p.setting w) (h : PlainBlock start.waiting p.setting w bytes) → x ≡ last_of p.before (samples_in p.setting w h.words.words legal plain h.words.fit).samples
+    → Takes (with_mark start) new (take (plain_bits p.setting w) start.waiting) → last ≡ first + plain_bits p.setting w
+    → q ≡ record p { block = next_block_place p.setting p.block; before = x; run = 0 }
     → GivesBytes start new first last p q bytes
-plain_given start marked middle new first steps last p q len l w bytes legal plain h id len_is within small last_is marks takes counted skips skipped forward moves =
+plain_step start new first last p q x w bytes legal plain h x_is takes steps moves =
     let s = p.setting in
-    let given = samples_of_words s w h.words legal.bits_from plain.whole (plain_width s w plain) h.fit in
+    let len = plain_bits s w in
+    let words = h.words in
+    let given = samples_in s w words.words legal plain words.fit in
     let samples = given.samples in
-    let count : length h.words ≡ s.block = sym (mul-div_cancel_left (length h.words) (some_bytes s w plain)) ∙ (ap (λ n. n / w) h.counted ∙ mul-div_cancel_left s.block (some_bytes s w plain)) in
+    let count : length words.words ≡ s.block = counted_words s w (length words.words) plain words.counted in
     let many : length samples ≡ s.block = given.len ∙ count in
-    let size : suc (s.block - 1) ≡ s.block = omega (arith, legal.block.0) in
     let reference : IsReference s p.block None = record { there = sym (ap (λ v. v && (place s p.block == 0)) plain.preprocess); fits = tt } in
-    let c : BlockData = record { reference = None; residuals = h.words } in
-    let contents = contents_of_patterns s p.block p.before h.words samples reference plain.preprocess given.patterns in
-    let same : marked.waiting ≡ start.waiting = ap (λ r. r.waiting) marks in
+    let c : BlockData = record { reference = None; residuals = words.words } in
+    let contents = contents_of_patterns s p.block p.before words.words samples reference plain.preprocess given.patterns in
     let text : take len start.waiting ≡ bits_of_set s (NoCompression c) =
-    ap (λ n. take n start.waiting) len_is ∙ (take-add (id_len s) (8 * (w * s.block)) start.waiting ∙ (λ j. sym id j ++ (sym h.bits ∙ ap (λ n. flat_map (word n) h.words) (sym plain.whole)) j)) in
-    let bits : take len marked.waiting ≡ bits_of_set s (NoCompression c) = ap (take len) same ∙ text in
-    let taken_len : length (take len marked.waiting) ≡ len = ap (λ b. length (take len b)) same ∙ length-take-le len start.waiting within in
+    take-add (id_len s) (8 * (w * s.block)) start.waiting ∙ (λ j. sym h.id j ++ (sym words.bits ∙ ap (λ n. flat_map (word n) words.words) (sym plain.whole)) j) in
+    let taken_len : length (take len start.waiting) ≡ len = length-take-le len start.waiting h.there in
     let taken = takes.taken in
-    let set : TakesSet marked middle first steps s p.block p.before samples 0 = record {
+    let set : TakesSet (with_mark start) new first last s p.block p.before samples 0 = record {
       set = NoCompression c;
-      form = (record { reference = reference; len = count }, tt, subst (λ n. All (λ v. v < 2 ^ n) h.words) (sym plain.whole) h.fit);
+      form = (record { reference = reference; len = count }, tt, subst (λ n. All (λ v. v < 2 ^ n) words.words) (sym plain.whole) words.fit);
       run_sound = tt;
       residuals_sound = tt;
-      takes = subst (Takes marked middle) bits takes;
+      takes = subst (Takes (with_mark start) new) text takes;
       gives = record {
         len = many;
         legal = given.legal;
         blocks_are = ap (λ b. b ∷ []) contents;
       };
-      steps = omega (arith, counted, taken, taken_len);
+      steps = omega (arith, steps, taken, taken_len);
     } in
-    let from_start : TakesSet (with_mark start) middle first steps s p.block p.before samples 0 = subst (λ r. TakesSet r middle first steps s p.block p.before samples 0) marks set in
-    let read : flat_map (word (8 * w)) h.words ≡ take (8 * (w * suc (s.block - 1))) (drop (id_len s) start.waiting) = h.bits ∙ ap (λ n. take (8 * (w * n)) (drop (id_len s) start.waiting)) (sym size) in
-    let end : word (8 * w) (pattern s (value_at s l)) ≡ take (8 * w) (drop (id_len s + 8 * (w * suc (s.block - 1) - w)) start.waiting) = last_is ∙ ap (λ n. take (8 * w) (drop (id_len s + 8 * (w * n - w)) start.waiting)) (sym size) in
-    let value : value_at s l ≡ last_of p.before samples =
-    last_is_at start.waiting s w (s.block - 1) l p.before h.words samples legal.bits_from plain.whole (count ∙ sym size) (many ∙ sym size) h.fit given.legal given.patterns read small end in
-    let bound = samples_by_bits (with_mark start) middle first steps s p.block p.before samples 0 legal from_start in
-    let none : q.run ≡ 0 = ap (λ r. r.run) moves in
+    let none = not_padded s w (p.block + 1 + 0) new.taken plain in
+    let nothing : new.taken ≡ new.taken + padding s (p.block + 1 + 0) new.taken = omega (arith, none) in
+    let skips : Skips new new (padding s (p.block + 1 + 0) new.taken) = record {
+      bits = [];
+      len = sym none;
+      split = refl;
+      same = ap (λ n. record new { taken = n }) nothing;
+    } in
+    let bound = samples_by_bits (with_mark start) new first last s p.block p.before samples 0 legal set in
+    let zero_run : q.run ≡ 0 = ap (λ r. r.run) moves in
     let bytes_are : width s * length samples ≡ w * s.block = λ j. sym (plain_width s w plain) j * many j in
     record {
       samples = samples;
-      answers = answers_block start middle new first steps last p q samples 0 (value_at s l) from_start skips skipped value moves;
-      spelled = ap (λ n. take n bytes) bytes_are ∙ (h.spelled ∙ sym given.spelled);
-      by_bits = rw none (omega (arith, bound, forward));
+      answers = answers_block start new new first last last p q samples 0 x set skips refl x_is moves;
+      spelled = ap (λ n. take n bytes) bytes_are ∙ (words.spelled ∙ sym given.spelled);
+      by_bits = rw zero_run (omega (arith, bound));
     }
+
+-- Rows
+
+-- bytes that are written behind others leave these
+front_same : {A : Type 0} (a b n : ℕ) (xs ys : List A) → a + b ≤ n → n ≤ length xs → take b (drop a (take n xs ++ ys)) ≡ take b (drop a xs)
+front_same a b n xs ys h k =
+    let long : length (take n xs) ≡ n = length-take-le n xs k in
+    sym (drop-take a b (take n xs ++ ys)) ∙ (ap (drop a) (take-append-le (a + b) (take n xs) ys (omega (arith, long, h)) ∙ take-take (a + b) n xs h) ∙ drop-take a b xs)
+
+block_kept : (waiting : List Bool) (s : Parameters) (w : ℕ) (old new : List ℕ) → take (w * s.block) new ≡ take (w * s.block) old → PlainBlock waiting s w old → PlainBlock waiting s w new
+block_kept waiting s w old new same h = record {
+  there = h.there;
+  id = h.id;
+  words = record {
+    words = h.words.words;
+    counted = h.words.counted;
+    fit = h.words.fit;
+    bits = h.words.bits;
+    spelled = same ∙ h.words.spelled;
+  };
+}
+
+pub no_row : (waiting : List Bool) (s : Parameters) (w : ℕ) (bytes : List ℕ) → PlainRow waiting s w 0 bytes
+no_row waiting s w bytes i lt = absurd (omega (arith, lt))
+
+pub row_more : (waiting : List Bool) (s : Parameters) (w i : ℕ) (old new more : List ℕ) → PlainRow waiting s w i old → new ≡ take (w * s.block * i) old ++ more → w * s.block * i ≤ length old
+    → PlainBlock (drop (plain_bits s w * i) waiting) s w more → PlainRow waiting s w (i + 1) new
+row_more waiting s w i old new more row is within last k lt =
+    let c = w * s.block in
+    elim (cases_lt k i) [
+      | inl below ↦
+          let part : c * k + c ≤ c * i = (let m : suc k * c ≤ i * c = mul-le-mul_right c below in let x : suc k * c ≡ c * k + c = omega arith in let y : i * c ≡ c * i = omega arith in omega (arith, m, x, y)) in
+          block_kept (drop (plain_bits s w * k) waiting) s w (drop (c * k) old) (drop (c * k) new) (ap (λ l. take c (drop (c * k) l)) is ∙ front_same (c * k) c (c * i) old more part within) (row k below)
+      | inr from ↦
+          let here : i ≡ k = omega (arith, from, lt) in
+          let there : drop (c * i) new ≡ more = ap (drop (c * i)) is ∙ drop_at (take (c * i) old) more (c * i) (length-take-le (c * i) old within) in
+          subst (λ n. PlainBlock (drop (plain_bits s w * n) waiting) s w (drop (c * n) new)) here (subst (PlainBlock (drop (plain_bits s w * i) waiting) s w) (sym there) last)
+    ]
+
+pub row_room : (c i most total : ℕ) → i < most → c * most + 15 ≤ total → c * i + (c + 15) ≤ total
+row_room c i most total lt h =
+    let m : suc i * c ≤ most * c = mul-le-mul_right c lt in
+    let x : suc i * c ≡ c * i + c = omega arith in
+    let y : most * c ≡ c * most = omega arith in
+    omega (arith, m, x, y, h)
+
+-- the part of a slice from a place on was written
+pub written_from : {A : Type 0} (a k : ℕ) (xs ys : List A) → a ≤ length xs → k ≡ length xs - a → length ys ≡ k → put_mid a k xs ys ≡ take a xs ++ ys
+written_from a k xs ys h e len =
+    let n = a + length ys in
+    let new = put_mid a k xs ys in
+    sym (take-append-drop n new) ∙ ((λ j. take-put_mid a k xs ys n refl h j ++ (drop-put_mid a k xs ys n (omega (arith, len)) h len ∙ drop_all n xs (omega (arith, h, e, len))) j) ∙ append-nil (take a xs ++ ys))
+
+-- a row without its first block
+row_behind : (waiting : List Bool) (s : Parameters) (w n : ℕ) (bytes : List ℕ) → PlainRow waiting s w (suc n) bytes → PlainRow (drop (plain_bits s w) waiting) s w n (drop (w * s.block) bytes)
+row_behind waiting s w n bytes row i lt =
+    let c = w * s.block in
+    let len = plain_bits s w in
+    let a : drop (len * suc i) waiting ≡ drop (len * i) (drop len waiting) = (let e : len * suc i ≡ len + len * i = omega arith in ap (λ k. drop k waiting) e ∙ sym (drop-drop (len * i) len waiting)) in
+    let b : drop (c * suc i) bytes ≡ drop (c * i) (drop c bytes) = (let e : c * suc i ≡ c + c * i = omega arith in ap (λ k. drop k bytes) e ∙ sym (drop-drop (c * i) c bytes)) in
+    subst (λ l. PlainBlock l s w (drop (c * i) (drop c bytes))) a (subst (PlainBlock (drop (len * suc i) waiting) s w) b (row (suc i) (omega (arith, lt))))
+
+row_first : (waiting : List Bool) (s : Parameters) (w n : ℕ) (bytes : List ℕ) → PlainRow waiting s w (suc n) bytes → PlainBlock waiting s w bytes
+row_first waiting s w n bytes row =
+    let a : plain_bits s w * 0 ≡ 0 = omega arith in
+    let b : w * s.block * 0 ≡ 0 = omega arith in
+    subst (λ k. PlainBlock (drop k waiting) s w bytes) a (subst (λ k. PlainBlock (drop (plain_bits s w * 0) waiting) s w (drop k bytes)) b (row 0 (omega arith)))
+
+-- its identifier has a 1
+three : is_blank (word 3 7) ≡ false
+unfolding word
+three = refl
+
+four : is_blank (word 4 15) ≡ false
+unfolding word
+four = refl
+
+five : is_blank (word 5 31) ≡ false
+unfolding word
+five = refl
+
+ones_of : (k : ℕ) → (k ≡ 3) ⊎ ((k ≡ 4) ⊎ (k ≡ 5)) → is_blank (word k (2 ^ k - 1)) ≡ false
+ones_of k is = elim is [
+  | inl e ↦ ap (λ v. is_blank (word v (2 ^ v - 1))) e ∙ three
+  | inr other ↦ elim other [ inl e ↦ ap (λ v. is_blank (word v (2 ^ v - 1))) e ∙ four | inr e ↦ ap (λ v. is_blank (word v (2 ^ v - 1))) e ∙ five ]
+]
+
+begins_with_one : (s : Parameters) (w k : ℕ) (waiting : List Bool) → IsPlain s w → word (id_len s) (2 ^ id_len s - 1) ≡ take (id_len s) waiting → id_len s ≤ k → is_blank (take k waiting) ≡ false
+begins_with_one s w k waiting plain id h =
+    let parts : id_len s + (k - id_len s) ≡ k = omega (arith, h) in
+    let text : take k waiting ≡ word (id_len s) (2 ^ id_len s - 1) ++ take (k - id_len s) (drop (id_len s) waiting) =
+    ap (λ n. take n waiting) (sym parts) ∙ (take-add (id_len s) (k - id_len s) waiting ∙ ap (λ l. l ++ take (k - id_len s) (drop (id_len s) waiting)) (sym id)) in
+    ap is_blank text ∙ (blank-append (word (id_len s) (2 ^ id_len s - 1)) (take (k - id_len s) (drop (id_len s) waiting)) ∙ ap (λ b. b && is_blank (take (k - id_len s) (drop (id_len s) waiting))) ones)
+  where
+    ones : is_blank (word (id_len s) (2 ^ id_len s - 1)) ≡ false
+    ones = elim plain.widths [
+      | inl e ↦ (let n : id_len s ≡ 3 = plain_id_len s w plain ∙ ap (λ v. cond (v == 4) 5 (v + 2)) e in ones_of (id_len s) (inl n))
+      | inr other ↦ elim other [
+        | inl e ↦ (let n : id_len s ≡ 4 = plain_id_len s w plain ∙ ap (λ v. cond (v == 4) 5 (v + 2)) e in ones_of (id_len s) (inr (inl n)))
+        | inr e ↦ (let n : id_len s ≡ 5 = plain_id_len s w plain ∙ ap (λ v. cond (v == 4) 5 (v + 2)) e in ones_of (id_len s) (inr (inr n)))
+      ]
+    ]
+
+-- a reader behind bits with a 1 that wait
+abbrev behind : {I : Type 0} → Reader I → ℕ → Reader I
+behind r n = record r { waiting = drop n r.waiting; taken = r.taken + n; blank = false }
+
+takes_front : {I : Type 0} (r : Reader I) (n : ℕ) → n ≤ length r.waiting → r.refusal ≡ None → is_blank (take n r.waiting) ≡ false → Takes (with_mark r) (behind r n) (take n r.waiting)
+takes_front r n h going one = record {
+  draws = draws-waiting r.left r.waiting (drop n r.waiting) (take n r.waiting) (sym (take-append-drop n r.waiting));
+  taken = ap (λ k. r.taken + k) (sym (length-take-le n r.waiting h));
+  blank = sym one;
+  going = going;
+  failures = refl;
+}
+
+takes_behind : {I : Type 0} (r new : Reader I) (a b : ℕ) → a + b ≤ length r.waiting → Takes (with_mark r) new (take (a + b) r.waiting) → is_blank (take (a + b) r.waiting) ≡ false → is_blank (take b (drop a r.waiting)) ≡ false
+    → Takes (with_mark (behind r a)) new (take b (drop a r.waiting))
+takes_behind r new a b h t one last =
+    let long : length (take (a + b) r.waiting) ≡ a + b = length-take-le (a + b) r.waiting h in
+    let short : length (take b (drop a r.waiting)) ≡ b = length-take-le b (drop a r.waiting) (omega (arith, h, length-drop a r.waiting)) in
+    let none : t.draws.given ≡ [] = elim (cases_lt 0 (length t.draws.given)) [
+      | inl some ↦ absurd (omega (arith, t.draws.needed some, long, h))
+      | inr few ↦ empty t.draws.given few
+    ] in
+    let all : r.waiting ≡ take (a + b) r.waiting ++ new.waiting =
+    sym (append-nil r.waiting) ∙ (ap (λ l. r.waiting ++ l) (sym bits_of-nil) ∙ (ap (λ g. r.waiting ++ bits_of g) (sym none) ∙ t.draws.split)) in
+    let rest : drop (a + b) r.waiting ≡ new.waiting = ap (drop (a + b)) all ∙ drop_at (take (a + b) r.waiting) new.waiting (a + b) long in
+    record {
+      draws = record {
+        given = [];
+        consumed = subst (λ g. Consumes r.left new.left g) none t.draws.consumed;
+        split = ap (λ l. drop a r.waiting ++ l) bits_of-nil ∙ (append-nil (drop a r.waiting) ∙ (sym (take-append-drop b (drop a r.waiting)) ∙ ap (λ l. take b (drop a r.waiting) ++ l) (drop-drop b a r.waiting ∙ rest)));
+        needed = λ some. absurd (omega arith);
+      };
+      taken = omega (arith, t.taken, long, short);
+      blank = t.blank ∙ (one ∙ sym last);
+      going = t.going;
+      failures = t.failures;
+    }
+  where
+    empty : (xs : List ℕ) → length xs ≤ 0 → xs ≡ []
+    empty [] h = refl
+    empty (x ∷ xs) h = absurd (omega (arith, h))
+
+next_by_mod : (s : Parameters) (b : ℕ) → b < s.interval → next_block_place s b ≡ (b + 1) % s.interval
+next_by_mod s b h = elim (cases_lt (b + 1) s.interval) [
+  | inl lt ↦ (let m : (b + 1) % s.interval ≡ b + 1 = mod-eq_of_lt lt in rw m (grind (arith, nat_tests)))
+  | inr ge ↦
+      let e : b + 1 ≡ 1 * s.interval + 0 = omega (arith, h, ge) in
+      let m : (b + 1) % s.interval ≡ 0 = ap (λ n. n % s.interval) e ∙ mod-mul-add 1 s.interval 0 (omega (arith, h)) in
+      rw m (grind (arith, nat_tests))
+]
+
+pub row_there : (waiting : List Bool) (s : Parameters) (w n : ℕ) (bytes : List ℕ) → PlainRow waiting s w (suc n) bytes → plain_bits s w * n + plain_bits s w ≤ length waiting
+row_there waiting s w n bytes row =
+    let last = row n (omega arith) in
+    let some : 0 < plain_bits s w = (let id = long_id s in omega (arith, id)) in
+    omega (arith, last.there, length-drop (plain_bits s w * n) waiting, some)
+
+-- blocks in a row that are taken together
+pub row_given : {I : Type 0} (n : ℕ) (r new : Reader I) (first last : ℕ) (p q : DecoderState) (l w : ℕ) (bytes : List ℕ) → IsLegal p.setting → IsPlain p.setting w → p.block < p.setting.interval → r.refusal ≡ None
+    → PlainRow r.waiting p.setting w (suc n) bytes → Takes (with_mark r) new (take (plain_bits p.setting w * suc n) r.waiting) → last ≡ first + plain_bits p.setting w * suc n → new.taken ≤ 2 ^ 52
+    → l < value_count p.setting → word (8 * w) (pattern p.setting (value_at p.setting l)) ≡ take (8 * w) (drop (plain_bits p.setting w * n + (id_len p.setting + 8 * (w * p.setting.block - w))) r.waiting)
+    → q ≡ record p { block = (p.block + suc n) % p.setting.interval; before = value_at p.setting l; run = 0 }
+    → GivesRow (suc n) r new first last p q bytes
+row_given zero r new first last p q l w bytes legal plain within going row takes steps limit small spelled moves =
+    let s = p.setting in
+    let len = plain_bits s w in
+    let block = row_first r.waiting s w 0 bytes row in
+    let words = block.words in
+    let given = samples_in s w words.words legal plain words.fit in
+    let count : length words.words ≡ s.block = counted_words s w (length words.words) plain words.counted in
+    let size : suc (s.block - 1) ≡ s.block = omega (arith, legal.block.0) in
+    let read : flat_map (word (8 * w)) words.words ≡ take (8 * (w * suc (s.block - 1))) (drop (id_len s) r.waiting) = words.bits ∙ ap (λ n. take (8 * (w * n)) (drop (id_len s) r.waiting)) (sym size) in
+    let at : len * 0 + (id_len s + 8 * (w * s.block - w)) ≡ id_len s + 8 * (w * s.block - w) = omega arith in
+    let end : word (8 * w) (pattern s (value_at s l)) ≡ take (8 * w) (drop (id_len s + 8 * (w * suc (s.block - 1) - w)) r.waiting) =
+    spelled ∙ (ap (λ n. take (8 * w) (drop n r.waiting)) at ∙ ap (λ n. take (8 * w) (drop (id_len s + 8 * (w * n - w)) r.waiting)) (sym size)) in
+    let value : value_at s l ≡ last_of p.before given.samples =
+    last_is_at r.waiting s w (s.block - 1) l p.before words.words given.samples legal.bits_from plain.whole (count ∙ sym size) (given.len ∙ (count ∙ sym size)) words.fit given.legal given.patterns read small end in
+    let one : len * 1 ≡ len = omega arith in
+    let next : (p.block + 1) % s.interval ≡ next_block_place s p.block = sym (next_by_mod s p.block within) in
+    let long : length (take (len * 1) r.waiting) ≡ len = ap (λ k. length (take k r.waiting)) one ∙ length-take-le len r.waiting block.there in
+    let took = takes.taken in
+    let counted : AreCounted first last r.taken new.taken = record { forward = omega (arith, took, long); limit = limit; least = omega (arith, took, long, steps, one); most = omega (arith, took, long, steps, one) } in (
+      new,
+      last,
+      q,
+      plain_step r new first last p q (value_at s l) w bytes legal plain block value (subst (λ k. Takes (with_mark r) new (take k r.waiting)) one takes) (omega (arith, steps, one))
+          (moves ∙ ap (λ b. record p { block = b; before = value_at s l; run = 0 }) next),
+      counted,
+      ap (λ (d : DecoderState). d.run) moves,
+      (refl, refl, refl),
+    )
+row_given (suc n) r new first last p q l w bytes legal plain within going row takes steps limit small spelled moves =
+    let s = p.setting in
+    let len = plain_bits s w in
+    let block = row_first r.waiting s w (suc n) bytes row in
+    let more = row_behind r.waiting s w (suc n) bytes row in
+    let second = row_first (drop len r.waiting) s w n (drop (w * s.block) bytes) more in
+    let words = block.words in
+    let given = samples_in s w words.words legal plain words.fit in
+    let x = last_of p.before given.samples in
+    let m = behind r len in
+    let p1 = record p { block = next_block_place s p.block; before = x; run = 0 } in
+    let all : len * suc (suc n) ≡ len + len * suc n = omega arith in
+    let there = row_there r.waiting s w (suc n) bytes row in
+    let enough : len + len * suc n ≤ length r.waiting = omega (arith, there) in
+    let head : id_len s ≤ len = omega arith in
+    let whole = begins_with_one s w (len + len * suc n) r.waiting plain block.id (omega (arith, head)) in
+    let one = begins_with_one s w len r.waiting plain block.id head in
+    let inside : id_len s ≤ len * suc n = (let e : len * suc n ≡ len + len * n = omega arith in omega (arith, e, head)) in
+    let rest = begins_with_one s w (len * suc n) (drop len r.waiting) plain second.id inside in
+    let front = takes_front r len block.there going one in
+    let later = takes_behind r new len (len * suc n) enough (subst (λ k. Takes (with_mark r) new (take k r.waiting)) all takes) whole rest in
+    let here : len * suc n + (id_len s + 8 * (w * s.block - w)) ≡ len + (len * n + (id_len s + 8 * (w * s.block - w))) = (let e : len * suc n ≡ len + len * n = omega arith in omega (arith, e)) in
+    let end : word (8 * w) (pattern s (value_at s l)) ≡ take (8 * w) (drop (len * n + (id_len s + 8 * (w * s.block - w))) (drop len r.waiting)) =
+    spelled ∙ (ap (λ k. take (8 * w) (drop k r.waiting)) here ∙ ap (take (8 * w)) (sym (drop-drop (len * n + (id_len s + 8 * (w * s.block - w))) len r.waiting))) in
+    let place_is : (p.block + suc (suc n)) % s.interval ≡ (next_block_place s p.block + suc n) % s.interval =
+    (let e : p.block + suc (suc n) ≡ p.block + 1 + suc n = omega arith in ap (λ b. b % s.interval) e ∙ (sym (mod-add-mod (p.block + 1) s.interval (suc n)) ∙ ap (λ b. (b + suc n) % s.interval) (sym (next_by_mod s p.block within)))) in
+    let tail : GivesRow (suc n) m new (first + len) last p1 q (drop (w * s.block) bytes) =
+    row_given n m new (first + len) last p1 q l w (drop (w * s.block) bytes) legal plain (next_within s p.block within) going more later (omega (arith, steps, all)) limit small end
+    (moves ∙ ap (λ b. record p { block = b; before = value_at s l; run = 0 }) place_is) in
+    let long : length (take (len * suc (suc n)) r.waiting) ≡ len * suc (suc n) = length-take-le (len * suc (suc n)) r.waiting (omega (arith, enough, all)) in
+    let took = takes.taken in
+    let counted : AreCounted first (first + len) r.taken m.taken = record { forward = omega arith; limit = omega (arith, took, long, all, limit); least = omega arith; most = omega arith } in (
+      m,
+      first + len,
+      p1,
+      plain_step r m first (first + len) p p1 x w bytes legal plain block refl front refl refl,
+      counted,
+      refl,
+      subst (λ k. GivesRow (suc n) m new (first + len) last p1 q (drop (k * s.block) bytes)) (plain_width s w plain) tail,
+    )
+
+pub bits_there : (waiting : List Bool) (s : Parameters) (w count : ℕ) (bytes : List ℕ) → 1 ≤ count → PlainRow waiting s w count bytes → plain_bits s w * count ≤ length waiting
+bits_there waiting s w zero bytes some row = absurd (omega (arith, some))
+bits_there waiting s w (suc n) bytes some row =
+    let there = row_there waiting s w n bytes row in
+    let e : plain_bits s w * suc n ≡ plain_bits s w * n + plain_bits s w = omega arith in
+    omega (arith, there, e)

@@ -7,9 +7,10 @@ use Rattle.rice_stream.specs.Writes.{TakesPart}
 use Rattle.rice_stream.proofs.lemmas.DecodingLemmas.{advances, done, gains, moves_of, samples_of_block, stopped}
 use Rattle.rice_stream.proofs.lemmas.DecodingEnds.{reports_as, wants, progress_at_start, refusal_ends, refusal_fails, ended_ends, done_fails, write_ends, reached_ends, progress_with_block}
 use Rattle.rice_code.specs.decode.DecoderState.{DecoderState}
-use Rattle.rice_stream.proofs.lemmas.SpelledBlocks.{advances_spelled, progress_unchanged, spelled_front}
+use Rattle.rice_stream.proofs.lemmas.SpelledBlocks.{advances_spelled}
 use Rattle.rice_samples.proofs.lemmas.setting.ValuesAt.{length-values}
 use Rattle.rice_stream.proofs.lemmas.LevelLemmas.{few_legal, few_spelled}
+use Rattle.rice_stream.proofs.lemmas.RowsWritten.{progress_with_row, row_fails, row_fails_so, row_fails_within, row_takes}
 use Rattle.rice_stream.proofs.plain.decode_plain.Goals as goal
 
 pub decode_all-init : goal.decode_all-init
@@ -24,10 +25,8 @@ write_block-requires-clause-legal g c =
     let i = c.decode_all.invariant in
     let old = c.decode_all in
     let new = c.next_levels.new in
-    let mid = c.next_bytes.new in
-    let same = c.next_bytes.ensures.none c.if-next_bytes.false in
-    let runs = progress_unchanged same.0 same.1 same.2 i.runs in
-    let a = advances mid.reader new.reader mid.meter new.meter mid.decoder new.self s new.levels.items runs.at_block.setting (ap Ok c.in-Block.is) c.in-Ok-next_levels.ensures.in_run c.in-Ok-next_levels.ensures.reads in
+    let runs = i.runs in
+    let a = advances old.reader new.reader old.meter new.meter old.decoder new.self s new.levels.items runs.at_block.setting (ap Ok c.in-Block.is) c.in-Ok-next_levels.ensures.in_run c.in-Ok-next_levels.ensures.reads in
     let block = samples_of_block s runs.at_block.setting runs.at_block.going a in
     few_legal s c.wanted-count.result new.levels.items _ c.as_slice.ensures.value block.legal
 
@@ -42,10 +41,8 @@ returns-in-Err-next_levels-clause-call g c =
     let i = c.decode_all.invariant in
     let old = c.decode_all in
     let new = c.next_levels.new in
-    let mid = c.next_bytes.new in
-    let same = c.next_bytes.ensures.none c.if-next_bytes.false in
-    let runs = progress_unchanged same.0 same.1 same.2 i.runs in
-    let a = advances mid.reader new.reader mid.meter new.meter mid.decoder new.self s new.levels.items runs.at_block.setting refl c.in-Err-next_levels.ensures.in_run c.in-Err-next_levels.ensures.reads in
+    let runs = i.runs in
+    let a = advances old.reader new.reader old.meter new.meter old.decoder new.self s new.levels.items runs.at_block.setting refl c.in-Err-next_levels.ensures.in_run c.in-Err-next_levels.ensures.reads in
     let some = wants c.args.asked old.written c.wanted-count.ensures.value c.block-block.ensures.value c.if-count-eq0.false in
     let tells = reports_as (ap Some (c.fault_of-fault.ensures ∙ ap (refusal_fault c.in-Err-next_levels.fault old.written) c.block-block.ensures.value)) c.ended-in-Err-next_levels.ensures.reports in
     let legal = c.block-block.ensures.legal in
@@ -57,10 +54,8 @@ returns-in-Err-next_levels-clause-failures g c =
     let i = c.decode_all.invariant in
     let old = c.decode_all in
     let new = c.next_levels.new in
-    let mid = c.next_bytes.new in
-    let same = c.next_bytes.ensures.none c.if-next_bytes.false in
-    let runs = progress_unchanged same.0 same.1 same.2 i.runs in
-    let a = advances mid.reader new.reader mid.meter new.meter mid.decoder new.self s new.levels.items runs.at_block.setting refl c.in-Err-next_levels.ensures.in_run c.in-Err-next_levels.ensures.reads in
+    let runs = i.runs in
+    let a = advances old.reader new.reader old.meter new.meter old.decoder new.self s new.levels.items runs.at_block.setting refl c.in-Err-next_levels.ensures.in_run c.in-Err-next_levels.ensures.reads in
     let tells = reports_as (ap Some (c.fault_of-fault.ensures ∙ ap (refusal_fault c.in-Err-next_levels.fault old.written) c.block-block.ensures.value)) c.ended-in-Err-next_levels.ensures.reports in
     refusal_fails c.in-Err-next_levels.fault runs (stopped c.block-block.ensures.legal runs a) i.writes tells
 
@@ -70,10 +65,8 @@ returns-in-Done-clause-call g c =
     let i = c.decode_all.invariant in
     let old = c.decode_all in
     let new = c.next_levels.new in
-    let mid = c.next_bytes.new in
-    let same = c.next_bytes.ensures.none c.if-next_bytes.false in
-    let runs = progress_unchanged same.0 same.1 same.2 i.runs in
-    let a = advances mid.reader new.reader mid.meter new.meter mid.decoder new.self s new.levels.items runs.at_block.setting (ap Ok c.in-Done.is) c.in-Ok-next_levels.ensures.in_run c.in-Ok-next_levels.ensures.reads in
+    let runs = i.runs in
+    let a = advances old.reader new.reader old.meter new.meter old.decoder new.self s new.levels.items runs.at_block.setting (ap Ok c.in-Done.is) c.in-Ok-next_levels.ensures.in_run c.in-Ok-next_levels.ensures.reads in
     let some = wants c.args.asked old.written c.wanted-count.ensures.value c.block-block.ensures.value c.if-count-eq0.false in
     let tells = reports_as c.end_of.ensures c.ended-in-Done.ensures.reports in
     let ends = done c.block-block.ensures.legal runs a in
@@ -85,10 +78,8 @@ returns-in-Done-clause-failures g c =
     let i = c.decode_all.invariant in
     let old = c.decode_all in
     let new = c.next_levels.new in
-    let mid = c.next_bytes.new in
-    let same = c.next_bytes.ensures.none c.if-next_bytes.false in
-    let runs = progress_unchanged same.0 same.1 same.2 i.runs in
-    let a = advances mid.reader new.reader mid.meter new.meter mid.decoder new.self s new.levels.items runs.at_block.setting (ap Ok c.in-Done.is) c.in-Ok-next_levels.ensures.in_run c.in-Ok-next_levels.ensures.reads in
+    let runs = i.runs in
+    let a = advances old.reader new.reader old.meter new.meter old.decoder new.self s new.levels.items runs.at_block.setting (ap Ok c.in-Done.is) c.in-Ok-next_levels.ensures.in_run c.in-Ok-next_levels.ensures.reads in
     let tells = reports_as c.end_of.ensures c.ended-in-Done.ensures.reports in
     done_fails runs (done c.block-block.ensures.legal runs a) i.writes tells
 
@@ -98,10 +89,8 @@ returns-in-Err-write_block-clause-call g c =
     let i = c.decode_all.invariant in
     let old = c.decode_all in
     let new = c.next_levels.new in
-    let mid = c.next_bytes.new in
-    let same = c.next_bytes.ensures.none c.if-next_bytes.false in
-    let runs = progress_unchanged same.0 same.1 same.2 i.runs in
-    let a = advances mid.reader new.reader mid.meter new.meter mid.decoder new.self s new.levels.items runs.at_block.setting (ap Ok c.in-Block.is) c.in-Ok-next_levels.ensures.in_run c.in-Ok-next_levels.ensures.reads in
+    let runs = i.runs in
+    let a = advances old.reader new.reader old.meter new.meter old.decoder new.self s new.levels.items runs.at_block.setting (ap Ok c.in-Block.is) c.in-Ok-next_levels.ensures.in_run c.in-Ok-next_levels.ensures.reads in
     let some = wants c.args.asked old.written c.wanted-count.ensures.value c.block-block.ensures.value c.if-count-eq0.false in
     let is = c.wanted-count.ensures.value ∙ ap (wanted_of c.args.asked old.written) c.block-block.ensures.value in
     let legal = c.block-block.ensures.legal in
@@ -114,13 +103,11 @@ decode_all-smaller g c =
     let i = c.decode_all.invariant in
     let old = c.decode_all in
     let new = c.next_levels.new in
-    let mid = c.next_bytes.new in
-    let same = c.next_bytes.ensures.none c.if-next_bytes.false in
-    let runs = progress_unchanged same.0 same.1 same.2 i.runs in
-    let a = advances mid.reader new.reader mid.meter new.meter mid.decoder new.self s new.levels.items runs.at_block.setting (ap Ok c.in-Block.is) c.in-Ok-next_levels.ensures.in_run c.in-Ok-next_levels.ensures.reads in
+    let runs = i.runs in
+    let a = advances old.reader new.reader old.meter new.meter old.decoder new.self s new.levels.items runs.at_block.setting (ap Ok c.in-Block.is) c.in-Ok-next_levels.ensures.in_run c.in-Ok-next_levels.ensures.reads in
     let block = samples_of_block s runs.at_block.setting runs.at_block.going a in
     let counted = c.in-Ok-next_levels.ensures.steps in
-    omega (arith, block.len, length-values s new.levels.items, c.in-Ok-next_levels.ensures.waiting, counted.forward, counted.limit, c.block-block.ensures.range, ap (λ r. r.taken) same.1, ap (λ (d : DecoderState). d.run * d.setting.block) same.0)
+    omega (arith, block.len, length-values s new.levels.items, c.in-Ok-next_levels.ensures.waiting, counted.forward, counted.limit, c.block-block.ensures.range)
 
 pub decode_all-preserved : goal.decode_all-preserved
 decode_all-preserved g c =
@@ -128,18 +115,16 @@ decode_all-preserved g c =
     let i = c.decode_all.invariant in
     let old = c.decode_all in
     let new = c.next_levels.new in
-    let mid = c.next_bytes.new in
-    let same = c.next_bytes.ensures.none c.if-next_bytes.false in
-    let runs = progress_unchanged same.0 same.1 same.2 i.runs in
-    let a = advances mid.reader new.reader mid.meter new.meter mid.decoder new.self s new.levels.items runs.at_block.setting (ap Ok c.in-Block.is) c.in-Ok-next_levels.ensures.in_run c.in-Ok-next_levels.ensures.reads in
+    let runs = i.runs in
+    let a = advances old.reader new.reader old.meter new.meter old.decoder new.self s new.levels.items runs.at_block.setting (ap Ok c.in-Block.is) c.in-Ok-next_levels.ensures.in_run c.in-Ok-next_levels.ensures.reads in
     let some = wants c.args.asked old.written c.wanted-count.ensures.value c.block-block.ensures.value c.if-count-eq0.false in
     let is = c.wanted-count.ensures.value ∙ ap (wanted_of c.args.asked old.written) c.block-block.ensures.value in
     let legal = c.block-block.ensures.legal in
     let at = runs.at_block in
     let block = samples_of_block s at.setting at.going a in
-    let old_run : mid.decoder.run * mid.decoder.setting.block ≡ mid.decoder.run * s.block = ap (λ t. mid.decoder.run * t.block) at.setting in
+    let old_run : old.decoder.run * old.decoder.setting.block ≡ old.decoder.run * s.block = ap (λ t. old.decoder.run * t.block) at.setting in
     let new_run : new.self.run * new.self.setting.block ≡ new.self.run * s.block = ap (λ t. new.self.run * t.block) (c.in-Ok-next_levels.ensures.setting ∙ at.setting) in
-    let few : s.block + new.self.run * s.block ≤ mid.decoder.run * s.block + 456 * (new.reader.taken - mid.reader.taken) = omega (arith, block.len, length-values s new.levels.items, c.in-Ok-next_levels.ensures.waiting, old_run, new_run) in
+    let few : s.block + new.self.run * s.block ≤ old.decoder.run * s.block + 456 * (new.reader.taken - old.reader.taken) = omega (arith, block.len, length-values s new.levels.items, c.in-Ok-next_levels.ensures.waiting, old_run, new_run) in
     let put = subst (λ (l : List ℕ). Appends (g.O.Outlet.taken old.outlet) (g.O.Outlet.taken c.write_block.new.outlet) l) (few_spelled s c.wanted-count.result new.levels.items _ c.as_slice.ensures.value) c.in-Ok-write_block.ensures.ok.0 in
     record {
       runs = progress_with_block c.wanted-count.result c.tick-in-decode_all.new.self legal runs is some (gains legal runs a) (moves_of at.going a) (record { counted = c.in-Ok-next_levels.ensures.steps; few = few }) c.tick-in-decode_all.ensures put;
@@ -151,44 +136,37 @@ returns-then-count-eq0-clause-idle g c none = c.ended.ensures.intake ∙ ap (λ 
 
 pub returns-in-Err-clause-call : goal.returns-in-Err-clause-call
 returns-in-Err-clause-call g c =
-    let s = c.args.setting.now in
-    let i = c.decode_all.invariant in
-    let old = c.decode_all in
-    let new = c.next_bytes.new in
-    let at = i.runs.at_block in
-    let spelled = c.next_bytes.ensures.some c.if-next_bytes.true in
-    let a = advances_spelled spelled.1 spelled.2 in
-    let block = samples_of_block s at.setting at.going a in
-    let legal = c.block-block.ensures.legal in
-    let all = c.is_whole-whole.ensures spelled.0 ∙ c.block-block.ensures.value in
-    let some = wants c.args.asked old.written c.wanted-count.ensures.value c.block-block.ensures.value c.if-count-eq0.false in
-    let is = c.wanted-count.ensures.value ∙ ap (wanted_of c.args.asked old.written) c.block-block.ensures.value in
-    let bytes = ap (λ n. take n new.bytes) c.block_bytes-len.ensures
-    ∙ spelled_front s old.decoder.setting g.row.WIDTH c.wanted-count.result spelled.2.samples new.bytes at.setting (c.next_bytes.ensures.width ∙ ap (λ t. width t) at.setting) all block.len spelled.2.spelled in
-    let part = subst (λ (l : List ℕ). TakesPart (g.O.Outlet.taken old.outlet) (g.O.Outlet.taken c.write_bytes.new.outlet) l) bytes c.in-Err.ensures.err.0 in
-    write_ends c.wanted-count.result new.decoder legal i.runs is some (gains legal i.runs a) part c.ended-in-Err.ensures.reports
+    let row = c.row_ahead-blocks.ensures in
+    let some = c.if-blocks-gt0.true in
+    row_fails c.block-block.ensures.legal c.decode_all.invariant.runs (row.run some) c.in-Err.ensures.err (row.wanted some) c.tick-in-Err.ensures c.ended-in-Err.ensures.reports
 
-pub decode_all-preserved-then-next_bytes : goal.decode_all-preserved-then-next_bytes
-decode_all-preserved-then-next_bytes g c =
-    let s = c.args.setting.now in
+pub returns-in-Err-clause-failures : goal.returns-in-Err-clause-failures
+returns-in-Err-clause-failures g c =
     let i = c.decode_all.invariant in
-    let old = c.decode_all in
-    let new = c.next_bytes.new in
-    let at = i.runs.at_block in
-    let spelled = c.next_bytes.ensures.some c.if-next_bytes.true in
-    let a = advances_spelled spelled.1 spelled.2 in
-    let block = samples_of_block s at.setting at.going a in
-    let legal = c.block-block.ensures.legal in
-    let all = c.is_whole-whole.ensures spelled.0 ∙ c.block-block.ensures.value in
-    let some = wants c.args.asked old.written c.wanted-count.ensures.value c.block-block.ensures.value c.if-count-eq0.false in
-    let is = c.wanted-count.ensures.value ∙ ap (wanted_of c.args.asked old.written) c.block-block.ensures.value in
-    let bytes = ap (λ n. take n new.bytes) c.block_bytes-len.ensures
-    ∙ spelled_front s old.decoder.setting g.row.WIDTH c.wanted-count.result spelled.2.samples new.bytes at.setting (c.next_bytes.ensures.width ∙ ap (λ t. width t) at.setting) all block.len spelled.2.spelled in
-    let put = subst (λ (l : List ℕ). Appends (g.O.Outlet.taken old.outlet) (g.O.Outlet.taken c.write_bytes.new.outlet) l) bytes c.in-Ok.ensures.ok.0 in
-    let new_run : new.decoder.run * new.decoder.setting.block ≡ new.decoder.run * s.block = ap (λ t. new.decoder.run * t.block) (c.next_bytes.ensures.setting ∙ at.setting) in
-    let none : old.decoder.run * s.block ≡ 0 = ap (λ n. n * s.block) spelled.1 ∙ omega arith in
-    let few : s.block + new.decoder.run * s.block ≤ old.decoder.run * s.block + 456 * (new.reader.taken - old.reader.taken) = omega (arith, block.len, spelled.2.by_bits, none, new_run) in
+    let row = c.row_ahead-blocks.ensures in
+    row_fails_so (g.O.Outlet.failed c.args.outlet.now) (g.O.Outlet.failed c.write_row.new.outlet) i.runs (row.run c.if-blocks-gt0.true) c.in-Err.ensures.err (c.in-Err.ensures.failure ∙ ap (λ n. n + 1) i.writes) c.ended-in-Err.ensures.reports
+
+pub returns-in-Err-clause-bounds : goal.returns-in-Err-clause-bounds
+returns-in-Err-clause-bounds g c =
+    let row = c.row_ahead-blocks.ensures in
+    let some = c.if-blocks-gt0.true in
+    row_fails_within c.decode_all.invariant.runs (row.run some) c.in-Err.ensures.err c.in-Err.ensures.counted (row.wanted some) c.tick-in-Err.ensures c.ended-in-Err.ensures.reports
+
+pub decode_all-preserved-in-Ok : goal.decode_all-preserved-in-Ok
+decode_all-preserved-in-Ok g c =
+    let i = c.decode_all.invariant in
+    let row = c.row_ahead-blocks.ensures in
+    let some = c.if-blocks-gt0.true in
     record {
-      runs = progress_with_block c.wanted-count.result c.tick.new.self legal i.runs is some (gains legal i.runs a) (moves_of at.going a) (record { counted = c.next_bytes.ensures.steps; few = few }) c.tick.ensures put;
-      writes = c.in-Ok.ensures.ok.1 ∙ i.writes;
+      runs = progress_with_row c.block-block.ensures.legal i.runs (row.run some) c.in-Ok.ensures.ok (row.wanted some) c.tick.ensures;
+      writes = c.in-Ok.ensures.failures ∙ i.writes;
     }
+
+pub decode_all-smaller-in-Ok : goal.decode_all-smaller-in-Ok
+decode_all-smaller-in-Ok g c =
+    let i = c.decode_all.invariant in
+    let row = c.row_ahead-blocks.ensures in
+    let some = c.if-blocks-gt0.true in
+    let more = row_takes c.block-block.ensures.legal i.runs (row.run some) some c.in-Ok.ensures.ok in
+    let none : c.write_row.new.decoder.run * c.write_row.new.decoder.setting.block ≡ 0 = ap (λ n. n * c.write_row.new.decoder.setting.block) c.in-Ok.ensures.run ∙ omega arith in
+    omega (arith, more, none, c.in-Ok.ensures.counted.limit)

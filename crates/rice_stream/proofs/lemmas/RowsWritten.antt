@@ -1,0 +1,281 @@
+-- Blocks in a row that are written at once.
+use Rattle.std.proofs.Common.{◌≡◌, ℕ, zero, suc, ◌+◌, ◌-◌, ◌*◌, ◌/◌, ◌%◌, ◌^◌, ◌<◌, ◌≤◌, List, [], ◌∷◌, ◌++◌, length, take, drop, refl, sym, ◌∙◌, ap, subst, arith, append-nil, length-append, length-drop, take-append-drop, take-take, Option, Some, None, ℤ}
+use Rattle.std.specs.Prelude.{◌≢◌, IfSome, Ok}
+use Rattle.std.proofs.Math.Nat.{div-add-mod, lt_of_mul-lt-mul_left, mod-lt, mul-le-mul_left, mul-le-mul_right}
+use Rattle.std.proofs.Math.Seq.{take-add}
+use Rattle.std.proofs.lemmas.List.{drop-drop, drop-take, length-take-le}
+use Rattle.rice_bits.specs.read.Reader.{Reader}
+use Rattle.rice_bits.specs.device.Outlet.{Room, Appends}
+use Rattle.rice_samples.specs.Parameters.{Parameters, IsLegal, width}
+use Rattle.rice_samples.specs.bytes.Spelling.{spellings}
+use Rattle.rice_code.specs.decode.BlocksAhead.{GivesBytes}
+use Rattle.rice_code.specs.decode.Decoder.{GivesSet, TakesSet, with_mark}
+use Rattle.rice_code.specs.decode.DecoderState.{DecoderState}
+use Rattle.rice_code.specs.decode.Fields.{AreCounted}
+use Rattle.rice_code.specs.decode.PlainBlocks.{GivesRow}
+use Rattle.rice_code.specs.declared.decode.fault.Step.TheVariants.{Block}
+use Rattle.rice_stream.specs.Calls.{Fails}
+use Rattle.rice_stream.specs.Decodes.{DecodesWithin, Reports, wanted_of}
+use Rattle.rice_stream.specs.DecodingState.{DecodingProgress}
+use Rattle.rice_stream.specs.Rows.{FailsInRow, WritesRow, row_bytes}
+use Rattle.rice_stream.specs.Writes.{TakesPart}
+use Rattle.rice_stream.specs.declared.outcome.Fault.{Fault}
+use Rattle.rice_stream.specs.declared.outcome.Fault.TheVariants.{Write}
+use Rattle.rice_stream.specs.declared.outcome.Report.{Report}
+use Rattle.rice_stream.proofs.lemmas.DecodingEnds.{Ends, progress_with_block, write_ends}
+use Rattle.rice_stream.proofs.lemmas.DecodingLemmas.{gains, moves_of, samples_of_block}
+use Rattle.rice_stream.proofs.lemmas.RunsWritten.{Appends-split, all_wanted, more_wanted, part_of, progress_put}
+use Rattle.rice_stream.proofs.lemmas.SpelledBlocks.{advances_spelled, spelled_front}
+
+-- the same with `more` steps before
+later_set : {I : Type 0} (more : ℕ) (old new : Reader I) (steps steps_new : ℕ) (s : Parameters) (b : ℕ) (p : ℤ) (samples : List ℤ) (run : ℕ)
+    → GivesSet old new steps steps_new s b p samples run → GivesSet old new (steps + more) (steps_new + more) s b p samples run
+later_set more old new steps steps_new s b p samples run g =
+    let t = g.set in
+    record {
+      middle = g.middle;
+      middle_steps = g.middle_steps + more;
+      set = record {
+        set = t.set;
+        form = t.form;
+        run_sound = t.run_sound;
+        residuals_sound = t.residuals_sound;
+        takes = t.takes;
+        gives = t.gives;
+        steps = (let e = t.steps in omega (arith, e));
+      };
+      skips = g.skips;
+      steps = (let e = g.steps in omega (arith, e));
+    }
+
+later : {I : Type 0} (more : ℕ) (old new : Reader I) (steps steps_new : ℕ) (p q : DecoderState) (bytes : List ℕ) → GivesBytes old new steps steps_new p q bytes → GivesBytes old new (steps + more) (steps_new + more) p q bytes
+later more old new steps steps_new p q bytes g = record {
+  samples = g.samples;
+  answers = (later_set more (with_mark old) new steps steps_new p.setting p.block p.before g.samples q.run g.answers.0, g.answers.1);
+  spelled = g.spelled;
+  by_bits = g.by_bits;
+}
+
+-- the bytes of the first block, and those of the others
+bytes_apart : (s : Parameters) (n : ℕ) (bytes : List ℕ) → take (row_bytes s (suc n)) bytes ≡ take (width s * s.block) bytes ++ take (row_bytes s n) (drop (width s * s.block) bytes)
+bytes_apart s n bytes =
+    let e : width s * s.block * suc n ≡ width s * s.block + width s * s.block * n = omega arith in
+    ap (λ k. take k bytes) e ∙ take-add (width s * s.block) (width s * s.block * n) bytes
+
+-- one block is written
+pub one_on : {I : Type 0} {s : Parameters} {asked : Option ℕ} {start : Reader I} {out_old : Option Room} (more : ℕ) (out out_new : Option Room) (r m : Reader I) (steps steps_m : ℕ) (p d : DecoderState) (bytes : List ℕ) (written : ℕ) → IsLegal s
+    → DecodingProgress s asked start out_old out p r (steps + more) written → p.run ≡ 0 → GivesBytes r m steps steps_m p d bytes → AreCounted steps steps_m r.taken m.taken → d.run ≡ 0 → wanted_of asked written s.block ≡ s.block
+    → Appends out out_new (take (width s * s.block) bytes) → DecodingProgress s asked start out_old out_new d m (steps_m + (more + s.block)) (written + s.block)
+one_on {s = s} more out out_new r m steps steps_m p d bytes written legal runs none g counted none_new is put =
+    let at = runs.at_block in
+    let j : 2 ≤ s.block = grind (arith, legal.block) in
+    let b = later more r m steps steps_m p d bytes g in
+    let a = advances_spelled none b in
+    let block = samples_of_block s at.setting at.going a in
+    let text = spelled_front s p.setting (width s) s.block b.samples bytes at.setting refl refl block.len b.spelled in
+    let first = subst (λ (l : List ℕ). Appends out out_new l) text put in
+    let by_bits = g.by_bits in
+    let d_none : d.run * d.setting.block ≡ 0 = ap (λ k. k * d.setting.block) none_new ∙ omega arith in
+    let d_run : d.run * s.block ≡ 0 = ap (λ k. k * s.block) none_new ∙ omega arith in
+    let few : s.block + d.run * s.block ≤ p.run * s.block + 456 * (m.taken - r.taken) = omega (arith, block.len, by_bits, d_none, d_run) in
+    let ticks : AreCounted (steps + more) (steps_m + more) r.taken m.taken = record { forward = counted.forward; limit = counted.limit; least = omega (arith, counted.least); most = omega (arith, counted.most) } in
+    progress_with_block s.block (steps_m + (more + s.block)) legal runs (sym is) (λ e. omega (arith, e, is, j)) (gains legal runs a) (moves_of at.going a) (record { counted = ticks; few = few }) (omega arith) first
+
+pub progress_on_row : {I : Type 0} {s : Parameters} {asked : Option ℕ} {start : Reader I} {out_old : Option Room} (n more : ℕ) (out out_new : Option Room) (r new : Reader I) (steps last : ℕ) (p q : DecoderState) (bytes : List ℕ) (written : ℕ) → IsLegal s
+    → DecodingProgress s asked start out_old out p r (steps + more) written → p.run ≡ 0 → GivesRow n r new steps last p q bytes → IfSome asked (λ k. written + s.block * n ≤ k)
+    → Appends out out_new (take (row_bytes s n) bytes) → DecodingProgress s asked start out_old out_new q new (last + (more + s.block * n)) (written + s.block * n)
+progress_on_row {I} {s = s} {asked = asked} {start = start} {out_old = out_old} zero more out out_new r new steps last p q bytes written legal runs none (same, same_steps, same_state) wanted put =
+    let nothing : s.block * 0 ≡ 0 = omega arith in
+    let no_bytes : row_bytes s 0 ≡ 0 = omega arith in
+    let there = progress_put runs (subst (λ k. Appends out out_new (take k bytes)) no_bytes put) in
+    let a : steps + more ≡ last + (more + s.block * 0) = omega (arith, nothing, same_steps) in
+    let b : written ≡ written + s.block * 0 = omega (arith, nothing) in
+    subst (λ (d : DecoderState). DecodingProgress s asked start out_old out_new d new (last + (more + s.block * 0)) (written + s.block * 0)) (sym same_state)
+    (subst (λ (t : Reader I). DecodingProgress s asked start out_old out_new p t (last + (more + s.block * 0)) (written + s.block * 0)) (sym same)
+    (subst (λ k. DecodingProgress s asked start out_old out_new p r k (written + s.block * 0)) a (subst (λ k. DecodingProgress s asked start out_old out_new p r (steps + more) k) b there)))
+progress_on_row {s = s} {asked = asked} {start = start} {out_old = out_old} (suc n) more out out_new r new steps last p q bytes written legal runs none (m, k, d, g, counted, none_new, rest) wanted put =
+    let parts = Appends-split out out_new (take (width s * s.block) bytes) (take (row_bytes s n) (drop (width s * s.block) bytes)) (subst (λ l. Appends out out_new l) (bytes_apart s n bytes) put) in
+    let here = one_on more out parts.0 r m steps k p d bytes written legal runs none g counted none_new (all_wanted asked written s.block n wanted) parts.1 in
+    let own : width p.setting * p.setting.block ≡ width s * s.block = ap (λ t. width t * t.block) runs.at_block.setting in
+    let tail = subst (λ c. GivesRow n m new k last d q (drop c bytes)) own rest in
+    let done = progress_on_row n (more + s.block) parts.0 out_new m new k last d q (drop (width s * s.block) bytes) (written + s.block) legal here none_new tail (more_wanted asked written s.block n wanted) parts.2 in
+    let all : s.block * suc n ≡ s.block + s.block * n = omega arith in
+    let a : last + (more + s.block + s.block * n) ≡ last + (more + s.block * suc n) = omega (arith, all) in
+    let b : written + s.block + s.block * n ≡ written + s.block * suc n = omega (arith, all) in
+    subst (λ x. DecodingProgress s asked start out_old out_new q new x (written + s.block * suc n)) a (subst (λ x. DecodingProgress s asked start out_old out_new q new (last + (more + s.block + s.block * n)) x) b done)
+
+-- the outlet fails in a row
+pub fails_in_row : {I : Type 0} {s : Parameters} {asked : Option ℕ} {start : Reader I} {out_old : Option Room} {rep : Report} {f : Option Fault} {left : Option (List ℕ)} {failed : ℕ} (n more : ℕ) (out room out_new : Option Room) (r new : Reader I) (steps last : ℕ)
+    (p q : DecoderState) (bytes : List ℕ) (written : ℕ) → IsLegal s
+    → DecodingProgress s asked start out_old out p r (steps + more) written → p.run ≡ 0 → GivesRow (suc n) r new steps last p q bytes → IfSome asked (λ k. written + s.block * suc n ≤ k)
+    → Appends out room (take (row_bytes s n) bytes) → TakesPart room out_new (take (row_bytes s 1) (drop (row_bytes s n) bytes))
+    → Reports rep f left failed new (written + s.block * n) (last + (more + s.block * n)) (Some Write) → Ends s asked start.left left out_old out_new rep f
+fails_in_row {I} {s = s} {asked = asked} {start = start} {out_old = out_old} {rep = rep} {f = f} {left = left} {failed = failed} zero more out room out_new r new steps last p q bytes written legal runs none (m, k, d, g, counted, none_new, (same, same_steps, same_state)) wanted put part tells =
+    let at = runs.at_block in
+    let j : 2 ≤ s.block = grind (arith, legal.block) in
+    let nothing : s.block * 0 ≡ 0 = omega arith in
+    let no_bytes : row_bytes s 0 ≡ 0 = omega arith in
+    let one : row_bytes s 1 ≡ width s * s.block = omega arith in
+    let there = progress_put runs (subst (λ x. Appends out room (take x bytes)) no_bytes put) in
+    let b = later more r m steps k p d bytes g in
+    let a = advances_spelled none b in
+    let block = samples_of_block s at.setting at.going a in
+    let text = spelled_front s p.setting (width s) s.block b.samples bytes at.setting refl refl block.len b.spelled in
+    let front : take (row_bytes s 1) (drop (row_bytes s 0) bytes) ≡ spellings s (take s.block b.samples) = (λ i. take (one i) (drop (no_bytes i) bytes)) ∙ text in
+    let piece = subst (λ l. TakesPart room out_new l) front part in
+    let is = all_wanted asked written s.block 0 wanted in
+    let same_written : written + s.block * 0 ≡ written = omega (arith, nothing) in
+    let ticked : last + (more + s.block * 0) ≡ k + more = omega (arith, nothing, same_steps) in
+    let told = subst (λ (t : Reader I). Reports rep f left failed t written (k + more) (Some Write)) same (subst (λ x. Reports rep f left failed new x (k + more) (Some Write)) same_written (subst (λ x. Reports rep f left failed new (written + s.block * 0) x (Some Write)) ticked tells)) in
+    write_ends s.block d legal there (sym is) (λ e. omega (arith, e, is, j)) (gains legal there a) piece told
+fails_in_row {s = s} {asked = asked} {start = start} {out_old = out_old} {rep = rep} {f = f} {left = left} {failed = failed} (suc n) more out room out_new r new steps last p q bytes written legal runs none (m, k, d, g, counted, none_new, rest) wanted put part tells =
+    let parts = Appends-split out room (take (width s * s.block) bytes) (take (row_bytes s n) (drop (width s * s.block) bytes)) (subst (λ l. Appends out room l) (bytes_apart s n bytes) put) in
+    let here = one_on more out parts.0 r m steps k p d bytes written legal runs none g counted none_new (all_wanted asked written s.block (suc n) wanted) parts.1 in
+    let own : width p.setting * p.setting.block ≡ width s * s.block = ap (λ t. width t * t.block) runs.at_block.setting in
+    let tail = subst (λ c. GivesRow (suc n) m new k last d q (drop c bytes)) own rest in
+    let all : s.block * suc n ≡ s.block + s.block * n = omega arith in
+    let a : last + (more + s.block * suc n) ≡ last + (more + s.block + s.block * n) = omega (arith, all) in
+    let b : written + s.block * suc n ≡ written + s.block + s.block * n = omega (arith, all) in
+    let bytes_on : drop (row_bytes s (suc n)) bytes ≡ drop (row_bytes s n) (drop (width s * s.block) bytes) =
+    (let e : width s * s.block * suc n ≡ width s * s.block + width s * s.block * n = omega arith in ap (λ c. drop c bytes) e ∙ sym (drop-drop (width s * s.block * n) (width s * s.block) bytes)) in
+    let told = subst (λ x. Reports rep f left failed new x (last + (more + s.block + s.block * n)) (Some Write)) b (subst (λ x. Reports rep f left failed new (written + s.block * suc n) x (Some Write)) a tells) in
+    fails_in_row n (more + s.block) parts.0 room out_new m new k last d q (drop (width s * s.block) bytes) (written + s.block) legal here none_new tail (more_wanted asked written s.block (suc n) wanted) parts.2
+    (subst (λ l. TakesPart room out_new (take (row_bytes s 1) l)) bytes_on part) told
+
+-- a row that was cut
+pub row_cut : {I : Type 0} (s : Parameters) (all taken size : ℕ) (old new : Reader I) (steps steps_new : ℕ) (p q : DecoderState) (bytes row : List ℕ) (out out_new : Option Room) → 1 ≤ size → size ≡ width s * s.block → row ≡ take (row_bytes s all) bytes → row_bytes s all ≤ length bytes
+    → taken < length row → GivesRow (suc (taken / size)) old new steps steps_new p q bytes → Appends out out_new (take taken row) → FailsInRow s all old new steps steps_new p q bytes out out_new (s.block * (taken / size))
+row_cut s all taken size old new steps steps_new p q bytes row out out_new some wide is there short gives put =
+    let n = taken / size in
+    let rest = taken % size in
+    let below : rest < size = mod-lt taken (omega (arith, some)) in
+    let split : size * n + rest ≡ taken = div-add-mod taken size in
+    let place : size * n ≡ row_bytes s n = ap (λ c. c * n) wide in
+    let whole : size * all ≡ row_bytes s all = ap (λ c. c * all) wide in
+    let long : length row ≡ row_bytes s all = ap length is ∙ length-take-le (row_bytes s all) bytes there in
+    let inside : n < all = lt_of_mul-lt-mul_left size (omega (arith, split, short, long, whole)) in
+    let one : row_bytes s 1 ≡ size = (let e : width s * s.block * 1 ≡ width s * s.block = omega arith in omega (arith, e, wide)) in
+    let at : taken ≡ row_bytes s n + rest = omega (arith, split, place) in
+    let front : take taken row ≡ take (row_bytes s n) bytes ++ take rest (drop (row_bytes s n) bytes) =
+    ap (take taken) is ∙ (take-take taken (row_bytes s all) bytes (omega (arith, short, long)) ∙ (ap (λ c. take c bytes) at ∙ take-add (row_bytes s n) rest bytes)) in
+    let parts = Appends-split out out_new (take (row_bytes s n) bytes) (take rest (drop (row_bytes s n) bytes)) (subst (λ l. Appends out out_new l) front put) in
+    let block = take (row_bytes s 1) (drop (row_bytes s n) bytes) in
+    let next : row_bytes s n + row_bytes s 1 ≤ length bytes = more_room s n inside there in
+    let size_of : length block ≡ size = length-take-le (row_bytes s 1) (drop (row_bytes s n) bytes) (omega (arith, next, length-drop (row_bytes s n) bytes)) ∙ one in
+    let some_of : take rest block ≡ take rest (drop (row_bytes s n) bytes) = take-take rest (row_bytes s 1) (drop (row_bytes s n) bytes) (omega (arith, below, one)) in
+    record {
+      blocks = n;
+      within = omega (arith, inside);
+      count_is = refl;
+      gives = gives;
+      room = parts.0;
+      put = parts.1;
+      part = part_of parts.0 out_new block rest (omega (arith, below, size_of)) (subst (λ l. Appends parts.0 out_new l) (sym some_of) parts.2);
+    }
+  where
+    more_room : (s : Parameters) (n : ℕ) → n < all → row_bytes s all ≤ length bytes → row_bytes s n + row_bytes s 1 ≤ length bytes
+    more_room s n lt h =
+        let m : suc n * (width s * s.block) ≤ all * (width s * s.block) = mul-le-mul_right (width s * s.block) lt in
+        let a : suc n * (width s * s.block) ≡ width s * s.block * n + width s * s.block * 1 = omega arith in
+        let b : all * (width s * s.block) ≡ width s * s.block * all = omega arith in
+        omega (arith, m, a, b, h)
+
+-- what the bits of a row bring, and that the intake does not fail in it
+record RowCosts {I : Type 0} (s : Parameters) (n : ℕ) (r new : Reader I) : Type 0 where
+  pub by_bits : s.block * n ≤ 456 * (new.taken - r.taken)
+  pub forward : r.taken ≤ new.taken
+  pub failures : new.failed ≡ r.failed
+
+row_costs : {I : Type 0} (n : ℕ) (s : Parameters) (r new : Reader I) (steps last : ℕ) (p q : DecoderState) (bytes : List ℕ) → p.setting ≡ s → p.stopped ≡ None → p.run ≡ 0 → GivesRow n r new steps last p q bytes → RowCosts s n r new
+row_costs {I} zero s r new steps last p q bytes setting going none (same, same_steps, same_state) =
+    let nothing : s.block * 0 ≡ 0 = omega arith in
+    record { by_bits = omega (arith, nothing); forward = (let e = ap (λ (t : Reader I). t.taken) same in omega (arith, e)); failures = ap (λ (t : Reader I). t.failed) same }
+row_costs {I} (suc n) s r new steps last p q bytes setting going none (m, k, d, g, counted, none_new, rest) =
+    let a = advances_spelled none g in
+    let moves = moves_of going a in
+    let block = samples_of_block s setting going a in
+    let on = row_costs n s m new k last d q (drop (width p.setting * p.setting.block) bytes) (ap (λ (t : DecoderState). t.setting) moves ∙ setting) (ap (λ (t : DecoderState). t.stopped) moves ∙ going) none_new rest in
+    let all : s.block * suc n ≡ s.block + s.block * n = omega arith in
+    let by_bits = g.by_bits in
+    let set = g.answers.0 in
+    record {
+      by_bits = omega (arith, all, on.by_bits, on.forward, counted.forward, block.len, by_bits);
+      forward = omega (arith, on.forward, counted.forward);
+      failures = on.failures ∙ (ap (λ (t : Reader I). t.failed) set.skips.same ∙ set.set.takes.failures);
+    }
+
+fewer_wanted : (asked : Option ℕ) (written size few all : ℕ) → few ≤ all → IfSome asked (λ k. written + size * all ≤ k) → IfSome asked (λ k. written + size * few ≤ k)
+fewer_wanted None written size few all h w = tt
+fewer_wanted (Some k) written size few all h w = let le : written + size * all ≤ k = w in let m = mul-le-mul_left size h in omega (arith, le, m)
+
+-- a row is written
+pub progress_with_row : {I : Type 0} {s : Parameters} {asked : Option ℕ} {start : Reader I} {out_old out out_new : Option Room} {p q : DecoderState} {r new : Reader I} {steps last written blocks count steps_next : ℕ} {bytes : List ℕ} → IsLegal s
+    → DecodingProgress s asked start out_old out p r steps written → p.run ≡ 0 → WritesRow s blocks r new steps last p q bytes out out_new count → IfSome asked (λ k. written + s.block * blocks ≤ k) → steps_next ≡ last + count
+    → DecodingProgress s asked start out_old out_new q new steps_next (written + count)
+progress_with_row {s = s} {asked = asked} {start = start} {out_old = out_old} {out = out} {out_new = out_new} {p = p} {q = q} {r = r} {new = new} {steps = steps} {last = last} {written = written} {blocks = blocks} {count = count} {steps_next = steps_next} {bytes = bytes} legal runs none w wanted ticked =
+    let zero_more : steps ≡ steps + 0 = omega arith in
+    let begun = subst (λ k. DecodingProgress s asked start out_old out p r k written) zero_more runs in
+    let done = progress_on_row blocks 0 out out_new r new steps last p q bytes written legal begun none w.gives wanted w.put in
+    let c = w.count_is in
+    let a : last + (0 + s.block * blocks) ≡ steps_next = omega (arith, ticked, c) in
+    let b : written + s.block * blocks ≡ written + count = omega (arith, c) in
+    subst (λ k. DecodingProgress s asked start out_old out_new q new k (written + count)) a (subst (λ k. DecodingProgress s asked start out_old out_new q new (last + (0 + s.block * blocks)) k) b done)
+
+-- the outlet fails in a row
+pub row_fails : {I : Type 0} {s : Parameters} {asked : Option ℕ} {start : Reader I} {out_old out out_new : Option Room} {p q : DecoderState} {r new : Reader I} {steps last written all count steps_new : ℕ} {bytes : List ℕ} {rep : Report} {f : Option Fault} {left : Option (List ℕ)} {failed : ℕ} → IsLegal s
+    → DecodingProgress s asked start out_old out p r steps written → p.run ≡ 0 → FailsInRow s all r new steps last p q bytes out out_new count → IfSome asked (λ k. written + s.block * all ≤ k) → steps_new ≡ last + count
+    → Reports rep f left failed new (written + count) steps_new (Some Write) → Ends s asked start.left left out_old out_new rep f
+row_fails {s = s} {asked = asked} {start = start} {out_old = out_old} {out = out} {out_new = out_new} {p = p} {q = q} {r = r} {new = new} {steps = steps} {last = last} {written = written} {all = all} {count = count} {steps_new = steps_new} {bytes = bytes} {rep = rep} {f = f} {left = left} {failed = failed} legal runs none w wanted ticked tells =
+    let zero_more : steps ≡ steps + 0 = omega arith in
+    let begun = subst (λ k. DecodingProgress s asked start out_old out p r k written) zero_more runs in
+    let c = w.count_is in
+    let a : steps_new ≡ last + (0 + s.block * w.blocks) = omega (arith, ticked, c) in
+    let b : written + count ≡ written + s.block * w.blocks = omega (arith, c) in
+    let told = subst (λ k. Reports rep f left failed new k (last + (0 + s.block * w.blocks)) (Some Write)) b (subst (λ k. Reports rep f left failed new (written + count) k (Some Write)) a tells) in
+    fails_in_row w.blocks 0 out w.room out_new r new steps last p q bytes written legal begun none w.gives (fewer_wanted asked written s.block (suc w.blocks) all w.within wanted) w.put w.part told
+
+pub row_fails_within : {I : Type 0} {s : Parameters} {asked : Option ℕ} {start : Reader I} {out_old out out_new : Option Room} {p q : DecoderState} {r new : Reader I} {steps last written all count steps_new : ℕ} {bytes : List ℕ} {rep : Report} {f : Option Fault} {left : Option (List ℕ)} {failed : ℕ}
+    → DecodingProgress s asked start out_old out p r steps written → p.run ≡ 0 → FailsInRow s all r new steps last p q bytes out out_new count → AreCounted steps last r.taken new.taken → IfSome asked (λ k. written + s.block * all ≤ k) → steps_new ≡ last + count
+    → Reports rep f left failed new (written + count) steps_new (Some Write) → DecodesWithin asked rep
+row_fails_within {s = s} {asked = asked} {p = p} {q = q} {r = r} {new = new} {steps = steps} {last = last} {written = written} {all = all} {count = count} {steps_new = steps_new} {bytes = bytes} {rep = rep} runs none w counted wanted ticked tells =
+    let at = runs.at_block in
+    let costs = row_costs (suc w.blocks) s r new steps last p q bytes at.setting at.going none w.gives in
+    let more : s.block * suc w.blocks ≡ s.block + s.block * w.blocks = omega arith in
+    let st = runs.has_steps in
+    let c = w.count_is in
+    let so_far = st.count in
+    let bits = st.by_bits in
+    let steps_most = st.most in
+    record {
+      asked_for = by_asked asked (fewer_wanted asked written s.block (suc w.blocks) all w.within wanted);
+      by_bits = omega (arith, tells.samples_are, tells.bits_are, c, more, costs.by_bits, costs.forward, bits);
+      at_least = omega (arith, tells.samples_are, tells.bits_are, tells.steps_are, ticked, counted.least, counted.forward, so_far);
+      at_most = omega (arith, tells.samples_are, tells.bits_are, tells.steps_are, ticked, counted.most, counted.forward, steps_most);
+    }
+  where
+    by_asked : (asked : Option ℕ) → IfSome asked (λ k. written + s.block * suc w.blocks ≤ k) → IfSome asked (λ k. rep.samples ≤ k)
+    by_asked None h = tt
+    by_asked (Some k) h =
+        let le : written + s.block * suc w.blocks ≤ k = h in
+        let e : s.block * suc w.blocks ≡ s.block + s.block * w.blocks = omega arith in
+        let c = w.count_is in
+        omega (arith, le, e, c, tells.samples_are)
+
+pub row_fails_so : {I : Type 0} {s : Parameters} {asked : Option ℕ} {start : Reader I} {out_old out out_new : Option Room} {p q : DecoderState} {r new : Reader I} {steps last written all count steps_new : ℕ} {bytes : List ℕ} {rep : Report} {f : Option Fault} {left : Option (List ℕ)} {failed : ℕ} (writes writes_new : ℕ)
+    → DecodingProgress s asked start out_old out p r steps written → p.run ≡ 0 → FailsInRow s all r new steps last p q bytes out out_new count → writes_new ≡ writes + 1
+    → Reports rep f left failed new (written + count) steps_new (Some Write) → Fails f start.failed failed writes writes_new
+row_fails_so {s = s} {start = start} {p = p} {q = q} {r = r} {new = new} {steps = steps} {last = last} {bytes = bytes} {failed = failed} writes writes_new runs none w more tells =
+    let at = runs.at_block in
+    let costs = row_costs (suc w.blocks) s r new steps last p q bytes at.setting at.going none w.gives in
+    subst (λ g. Fails g start.failed failed writes writes_new) (sym tells.fault_is) (tells.failed_is ∙ (costs.failures ∙ runs.reads), more)
+
+-- bits are taken for a row
+pub row_takes : {I : Type 0} {s : Parameters} {asked : Option ℕ} {start : Reader I} {out_old out out_new : Option Room} {p q : DecoderState} {r new : Reader I} {steps last written blocks count : ℕ} {bytes : List ℕ} → IsLegal s
+    → DecodingProgress s asked start out_old out p r steps written → p.run ≡ 0 → 1 ≤ blocks → WritesRow s blocks r new steps last p q bytes out out_new count → r.taken < new.taken
+row_takes {s = s} {p = p} {q = q} {r = r} {new = new} {steps = steps} {last = last} {blocks = blocks} {bytes = bytes} legal runs none some w =
+    let at = runs.at_block in
+    let costs = row_costs blocks s r new steps last p q bytes at.setting at.going none w.gives in
+    let j : 2 ≤ s.block = grind (arith, legal.block) in
+    let m : s.block * 1 ≤ s.block * blocks = mul-le-mul_left s.block some in
+    let one : s.block * 1 ≡ s.block = omega arith in
+    omega (arith, costs.by_bits, m, one, j)
