@@ -1,19 +1,18 @@
 -- Blocks in a row that are written at once.
-use Rattle.std.proofs.Common.{◌≡◌, ℕ, zero, suc, ◌+◌, ◌-◌, ◌*◌, ◌/◌, ◌%◌, ◌^◌, ◌<◌, ◌≤◌, List, [], ◌∷◌, ◌++◌, length, take, drop, refl, sym, ◌∙◌, ap, subst, arith, append-nil, length-append, length-drop, take-append-drop, take-take, Option, Some, None, ℤ}
-use Rattle.std.specs.Prelude.{◌≢◌, IfSome, Ok}
+use Rattle.std.proofs.Common.{◌≡◌, ℕ, zero, suc, ◌+◌, ◌-◌, ◌*◌, ◌/◌, ◌%◌, ◌<◌, ◌≤◌, List, ◌++◌, length, take, drop, refl, sym, ◌∙◌, ap, subst, arith, length-drop, take-take, Option, Some, None, ℤ}
+use Rattle.std.specs.Prelude.{IfSome}
 use Rattle.std.proofs.Math.Nat.{div-add-mod, lt_of_mul-lt-mul_left, mod-lt, mul-le-mul_left, mul-le-mul_right}
 use Rattle.std.proofs.Math.Seq.{take-add}
-use Rattle.std.proofs.lemmas.List.{drop-drop, drop-take, length-take-le}
+use Rattle.std.proofs.lemmas.List.{drop-drop, length-take-le}
 use Rattle.rice_bits.specs.read.Reader.{Reader}
 use Rattle.rice_bits.specs.device.Outlet.{Room, Appends}
 use Rattle.rice_samples.specs.Parameters.{Parameters, IsLegal, width}
 use Rattle.rice_samples.specs.bytes.Spelling.{spellings}
 use Rattle.rice_code.specs.decode.BlocksAhead.{GivesBytes}
-use Rattle.rice_code.specs.decode.Decoder.{GivesSet, TakesSet, with_mark}
+use Rattle.rice_code.specs.decode.Decoder.{GivesSet, with_mark}
 use Rattle.rice_code.specs.decode.DecoderState.{DecoderState}
 use Rattle.rice_code.specs.decode.Fields.{AreCounted}
 use Rattle.rice_code.specs.decode.PlainBlocks.{GivesRow}
-use Rattle.rice_code.specs.declared.decode.fault.Step.TheVariants.{Block}
 use Rattle.rice_stream.specs.Calls.{Fails}
 use Rattle.rice_stream.specs.Decodes.{DecodesWithin, Reports, wanted_of}
 use Rattle.rice_stream.specs.DecodingState.{DecodingProgress}

@@ -1,5 +1,5 @@
 -- Blocks without compression, read as the bytes that they are.
-use Rattle.std.proofs.Common.{◌≡◌, ℕ, zero, suc, ◌+◌, ◌-◌, ◌*◌, ◌/◌, ◌%◌, ◌^◌, ◌<◌, ◌≤◌, ◌==◌, Bool, true, false, cond, List, [], ◌∷◌, ◌++◌, length, take, drop, map, refl, sym, ◌∙◌, ap, subst, arith, take-take, take-append-drop, length-append, length-drop, append-nil, Option, None, ℤ, pos, inl, inr, ◌⊎◌}
+use Rattle.std.proofs.Common.{◌≡◌, ℕ, zero, suc, ◌+◌, ◌-◌, ◌*◌, ◌/◌, ◌%◌, ◌^◌, ◌<◌, ◌≤◌, ◌==◌, Bool, true, false, cond, List, [], ◌∷◌, ◌++◌, length, take, drop, map, refl, sym, ◌∙◌, ap, subst, arith, take-take, take-append-drop, length-append, length-drop, append-nil, None, ℤ, pos, inl, inr, ◌⊎◌}
 use Rattle.std.specs.Prelude.{All, flat_map, nat_le, slice_index_or, ◌&&◌}
 use Rattle.std.specs.Io.KnownBytes.{Consumes}
 use Rattle.std.specs.Simd.Lanes.{put_chunk}
@@ -20,12 +20,10 @@ use Rattle.rice_bits.proofs.lemmas.bits.Bytes.{bits_of-nil}
 use Rattle.rice_bits.proofs.lemmas.read.Blank.{blank-append}
 use Rattle.rice_bits.proofs.lemmas.read.Drawing.{draws-waiting}
 use Rattle.rice_bits.proofs.lemmas.bits.Words.{length-word, number_of-word}
-use Rattle.rice_bits.proofs.lemmas.read.WindowLemmas.{words-front}
 use Rattle.rice_samples.specs.Parameters.{Parameters, IsLegal, IsSample, id_len, value_at, value_count, width}
-use Rattle.rice_samples.specs.Places.{is_reference, place}
+use Rattle.rice_samples.specs.Places.{place}
 use Rattle.rice_samples.specs.predict.Residuals.{last_of, pattern}
 use Rattle.rice_samples.specs.bytes.PatternLanes.{OrdersWords}
-use Rattle.rice_samples.specs.bytes.Spelling.{spellings}
 use Rattle.rice_samples.specs.bytes.Values.{ordered_bytes}
 use Rattle.rice_samples.proofs.lemmas.bytes.WordLanes.{SamplesOfWords, samples_of_words}
 use Rattle.rice_samples.proofs.lemmas.predict.Patterns.{same_pattern}

@@ -1,13 +1,10 @@
-use Rattle.std.proofs.Common.{take, arith, ◌≡◌, ◌+◌, ◌-◌, ◌*◌, ◌≤◌, List, ℕ, ap, refl, sym, ◌∙◌, subst, true, Some}
+use Rattle.std.proofs.Common.{arith, ◌≡◌, ◌+◌, ◌-◌, ◌*◌, ◌≤◌, List, ℕ, ap, refl, sym, ◌∙◌, subst, true, Some}
 use Rattle.std.specs.Prelude.{Ok}
 use Rattle.rice_bits.specs.device.Outlet.{Appends}
-use Rattle.rice_samples.specs.Parameters.{width}
 use Rattle.rice_stream.specs.Decodes.{wanted_of, refusal_fault}
 use Rattle.rice_stream.specs.Writes.{TakesPart}
 use Rattle.rice_stream.proofs.lemmas.DecodingLemmas.{advances, done, gains, moves_of, samples_of_block, stopped}
 use Rattle.rice_stream.proofs.lemmas.DecodingEnds.{reports_as, wants, progress_at_start, refusal_ends, refusal_fails, ended_ends, done_fails, write_ends, reached_ends, progress_with_block}
-use Rattle.rice_code.specs.decode.DecoderState.{DecoderState}
-use Rattle.rice_stream.proofs.lemmas.SpelledBlocks.{advances_spelled}
 use Rattle.rice_samples.proofs.lemmas.setting.ValuesAt.{length-values}
 use Rattle.rice_stream.proofs.lemmas.LevelLemmas.{few_legal, few_spelled}
 use Rattle.rice_stream.proofs.lemmas.RowsWritten.{progress_with_row, row_fails, row_fails_so, row_fails_within, row_takes}

@@ -1,4 +1,3 @@
-use Rattle.rice_code.proofs.lemmas.decode.PlainBlocksRead.{no_row}
 use Rattle.rice_stream.proofs.plain.row_ahead.Goals as goal
 
 pub returns-clause-row : goal.returns-clause-row

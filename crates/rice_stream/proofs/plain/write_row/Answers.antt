@@ -1,7 +1,6 @@
 use Rattle.std.proofs.Common.{◌≡◌, ◌≤◌, ◌+◌, ◌*◌, ◌/◌, ◌<◌, ◌∙◌, suc, arith, ap, inl, inr, length, subst, sym, take}
 use Rattle.std.proofs.Math.Nat.{le-mul_of_pos_right}
 use Rattle.rice_samples.specs.Parameters.{width}
-use Rattle.rice_code.specs.decode.DecoderState.{DecoderState}
 use Rattle.rice_code.specs.decode.PlainBlocks.{GivesRow, IsPlain}
 use Rattle.rice_code.proofs.lemmas.decode.PlainBlocksRead.{plain_width}
 use Rattle.rice_stream.specs.Rows.{FailsInRow, row_bytes}

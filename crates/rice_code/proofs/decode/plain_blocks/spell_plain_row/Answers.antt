@@ -1,4 +1,4 @@
-use Rattle.std.proofs.Common.{◌≡◌, ◌+◌, ◌-◌, ◌*◌, ◌≤◌, ◌∙◌, ◌++◌, arith, ap, drop, length, length-drop, refl, subst, sym, take}
+use Rattle.std.proofs.Common.{◌≡◌, ◌-◌, ◌*◌, ◌≤◌, ◌∙◌, ◌++◌, arith, ap, drop, length, length-drop, refl, subst, take}
 use Rattle.std.proofs.lemmas.List.{length-take-le}
 use Rattle.rice_code.specs.decode.PlainBlocks.{PlainBlock, plain_bits}
 use Rattle.rice_code.proofs.lemmas.decode.PlainBlocksRead.{no_row, row_more, row_room, written_from}
