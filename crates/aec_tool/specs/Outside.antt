@@ -64,7 +64,8 @@ pub record Outside : Type 0 where
   pub found : Option Finding
   -- the samples that the closing line told of, if there was one
   pub closed : Option ℕ
-  -- how many requests for memory were refused
+  -- how many lines standard output did not take, and how many requests for memory were refused
+  pub losses : ℕ
   pub refusals : ℕ
 
 -- the command has done nothing yet
@@ -105,6 +106,9 @@ finding o it = record o { found = Some it }
 
 abbrev pub closing : Bool → ℕ → Outside → Outside
 closing told samples o = record o { closed = if told then Some samples else o.closed }
+
+abbrev pub losing : Outside → Outside
+losing o = record o { losses = o.losses + 1 }
 
 abbrev pub refusing : Outside → Outside
 refusing o = record o { refusals = o.refusals + 1 }
@@ -158,7 +162,7 @@ Creates taken place can o new (Err create.Refused) = (new ≡ Some o) × (can �
 -- What a test found was told, or could not be.
 abbrev pub Tells : Finding → Outside → Option Outside → Result (Unit {0}) WriteFault → Type 0
 Tells it o new (Ok _) = new ≡ Some (finding o it)
-Tells it o new (Err _) = new ≡ Some o
+Tells it o new (Err _) = new ≡ Some (losing o)
 
 -- Of these bytes all stand at the destination, or a front.
 abbrev pub Finishes : List ℕ → Outside → Option Outside → Result (Unit {0}) WriteFault → Type 0

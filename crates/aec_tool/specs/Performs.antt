@@ -11,7 +11,7 @@ use Rattle.rice_stream.specs.declared.outcome.Fault.{Fault}
 use Rattle.rice_stream.specs.declared.outcome.Fault.TheVariants.{Write}
 use Rattle.aec_tool.specs.Behind.{Looks}
 use Rattle.aec_tool.specs.Plan.{PlanView}
-use Rattle.aec_tool.specs.Outside.{Outside, Said, CannotOpen, CannotCreate, LacksMemory, Stopped, Faulty, Holds, HasTakenNothing, closing, finding, new_mode, refusing, saying, is_standard, is_read_again, source_bytes, source_id, place_of, is_creatable, AreOneFile}
+use Rattle.aec_tool.specs.Outside.{Outside, Said, CannotOpen, CannotCreate, LacksMemory, Stopped, Faulty, Holds, HasTakenNothing, closing, finding, losing, new_mode, refusing, saying, is_standard, is_read_again, source_bytes, source_id, place_of, is_creatable, AreOneFile}
 
 -- what the engine that the plan asks for has done
 abbrev pub EngineOf : Bool → PlanView → Call → Outcome → Type 0
@@ -66,7 +66,7 @@ faulty s r fault = Faulty fault (r.samples / s.block) (r.bits - 1) ((r.bits - 1)
 -- what a test told, or, where that could not be written, that it could not; and the status
 abbrev pub tested : Parameters → Report → Result (Option Bool) Fault → Bool → Outside → Outside
 tested s r (Err fault) told o = saying o (faulty s r fault)
-tested s r (Ok more) false o = saying o (Stopped Write)
+tested s r (Ok more) false o = saying (losing o) (Stopped Write)
 tested s r (Ok more) true o = finding o (record { samples = r.samples; bits = r.bits; more = more })
 
 abbrev pub test_status : Result (Option Bool) Fault → Bool → ℕ

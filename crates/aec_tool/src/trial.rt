@@ -2,7 +2,7 @@
 ghost use Rattle.std.specs.Prelude.{◌≡◌, ℕ, ◌⊎◌, ◌&&◌, List, Some, is_some};
 ghost use Rattle.aec_tool.specs.Behind.{Looks};
 ghost use Rattle.aec_tool.specs.Plan.{plan_view};
-ghost use Rattle.aec_tool.specs.Outside.{Outside, IsFresh, GivesAll, Stopped, finding, is_read_again, said_of, saying, source_bytes, source_id};
+ghost use Rattle.aec_tool.specs.Outside.{Outside, IsFresh, GivesAll, Stopped, finding, losing, is_read_again, said_of, saying, source_bytes, source_id};
 ghost use Rattle.aec_tool.specs.Performs.{Tests, Judges, faulty};
 ghost use Rattle.rice_stream.specs.declared.outcome.Fault.TheVariants as faults;
 
@@ -58,7 +58,7 @@ pub fn test<'a, S: System<'a>>(
 fn tell<'a, S: System<'a>>(system: &mut S, it: Finding) -> u8
     requires fresh { (o : Outside) → S.told system.old ≡ Some o → IsFresh o }
     ensures { (o : Outside) → S.told system.old ≡ Some o →
-        ((S.told system.new ≡ Some (finding o it)) × (result ≡ 0)) ⊎ ((S.told system.new ≡ Some (saying o (Stopped faults.Write))) × (result ≡ 1)) }
+        ((S.told system.new ≡ Some (finding o it)) × (result ≡ 0)) ⊎ ((S.told system.new ≡ Some (saying (losing o) (Stopped faults.Write))) × (result ≡ 1)) }
 {
     match system.report(it) {
         Ok(()) => SUCCESS,

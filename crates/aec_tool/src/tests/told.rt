@@ -111,6 +111,7 @@ impl<'a> System<'a> for Told<'a> {
       shown = s.shown;
       found = s.found;
       closed = s.closed;
+      losses = 0;
       refusals = 0;
     }) };
 

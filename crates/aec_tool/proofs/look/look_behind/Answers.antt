@@ -1,4 +1,4 @@
-use Rattle.std.proofs.Common.{arith, ◌≡◌, ◌/◌, ◌%◌, subst}
+use Rattle.std.proofs.Common.{arith, ◌/◌, ◌%◌, subst}
 use Rattle.aec_tool.specs.Behind.{LooksBehind}
 use Rattle.aec_tool.proofs.BehindLemmas.{looks_all}
 use Rattle.aec_tool.proofs.look.look_behind.Goals as goal

@@ -16,7 +16,7 @@ returns-in-None g c = λ o told.
       after,
       c.close.ensures.closes ran.0 ran.1,
       inr (
-        subst (λ (d : Option (List ℕ)). Ends g.S.Source.Intake.left g.S.Source.Intake.failed g.S.Dest.Outlet.taken g.S.Dest.Outlet.failed d p o after c.close.result)
-            (sym (ap (option_map (λ name. name.now)) c.in-None.is)) (ran.0, done.samples, tests, refl)
-      ),
+          subst (λ (d : Option (List ℕ)). Ends g.S.Source.Intake.left g.S.Source.Intake.failed g.S.Dest.Outlet.taken g.S.Dest.Outlet.failed d p o after c.close.result)
+          (sym (ap (option_map (λ name. name.now)) c.in-None.is)) (ran.0, done.samples, tests, refl)
+          ),
     )

@@ -41,13 +41,13 @@ returns-in-Ok g c = λ o told.
       closing c.args.plan.now.verbose c.transfer-done.result.samples ran.0,
       c.close.ensures.closes ran.0 ran.1,
       inr (
-        inr (
-          ran.0,
-          c.transfer-done.result.samples,
-          subst (λ n. Runs g.S.Source.Intake.left g.S.Source.Intake.failed g.S.Dest.Outlet.taken g.S.Dest.Outlet.failed (plan_view c.args.plan.now) c.args.dest.now o ran.0 n c.transfer-done.result.samples) status ran.2,
-          refl,
-        )
-      ),
+          inr (
+            ran.0,
+            c.transfer-done.result.samples,
+            subst (λ n. Runs g.S.Source.Intake.left g.S.Source.Intake.failed g.S.Dest.Outlet.taken g.S.Dest.Outlet.failed (plan_view c.args.plan.now) c.args.dest.now o ran.0 n c.transfer-done.result.samples) status ran.2,
+            refl,
+          )
+          ),
     )
 
 pub fail-requires-in-Err-NoMemory : goal.fail-requires-in-Err-NoMemory

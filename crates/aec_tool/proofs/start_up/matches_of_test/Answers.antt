@@ -1,5 +1,5 @@
 use Rattle.std.proofs.Common.{◌≡◌, ◌∙◌, true, false, inr, subst, sym}
-use Rattle.clap.specs.Words.{IsAmong, fault_of, kind_of}
+use Rattle.clap.specs.Words.{IsAmong, fault_of}
 use Rattle.clap.specs.Walk.{texts}
 use Rattle.aec_tool.specs.CommandLine.{aec}
 use Rattle.aec_tool.proofs.CommandLineLemmas.{asks_of}

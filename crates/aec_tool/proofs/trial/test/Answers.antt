@@ -1,7 +1,6 @@
 use Rattle.std.proofs.Common.{Some, ◌≡◌, ◌∙◌, true, false, Ok, Err, refl, ap, subst, inl, inr}
-use Rattle.rice_stream.specs.declared.outcome.Fault.TheVariants.{Write}
 use Rattle.aec_tool.specs.Plan.{plan_view}
-use Rattle.aec_tool.specs.Outside.{Stopped, saying}
+use Rattle.aec_tool.specs.Outside.{saying}
 use Rattle.aec_tool.specs.Performs.{faulty, tested}
 use Rattle.aec_tool.proofs.OutsideLemmas.{engine_of}
 use Rattle.aec_tool.proofs.TrialLemmas.{tests_of}
@@ -14,7 +13,7 @@ returns-in-Ok g c = λ o told.
     let judges = rw c.in-Ok.is at (c.judge.ensures o all.0 told all.1) in
     elim (c.tell.ensures o told) [
       | inl done_so ↦ (tested c.args.plan.now.setting c.run.result.0.report (Ok c.in-Ok.more) true o, done_so.0, tests_of _ _ _ _ (plan_view c.args.plan.now) o _ c.tell.result c.run.result.0.report.samples all.0 c.args.source c.run.result.1 c.run.result.0 (Ok c.in-Ok.more) true all.1 c.requires.sound all.2 done c.run.ensures.failures judges refl done_so.1 refl)
-      | inr failed ↦ (saying o (Stopped Write), failed.0, tests_of _ _ _ _ (plan_view c.args.plan.now) o _ c.tell.result c.run.result.0.report.samples all.0 c.args.source c.run.result.1 c.run.result.0 (Ok c.in-Ok.more) false all.1 c.requires.sound all.2 done c.run.ensures.failures judges refl failed.1 refl)
+      | inr failed ↦ (tested c.args.plan.now.setting c.run.result.0.report (Ok c.in-Ok.more) false o, failed.0, tests_of _ _ _ _ (plan_view c.args.plan.now) o _ c.tell.result c.run.result.0.report.samples all.0 c.args.source c.run.result.1 c.run.result.0 (Ok c.in-Ok.more) false all.1 c.requires.sound all.2 done c.run.ensures.failures judges refl failed.1 refl)
     ]
 
 pub returns-in-Err : goal.returns-in-Err
