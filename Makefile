@@ -13,7 +13,7 @@ PYTHON_CODES ?= 1000000
 LIBRARY_CODES ?= 1000000
 
 .DEFAULT_GOAL := help
-.PHONY: help library compat python install install-command install-library install-compat uninstall check clean dist release deb released two-builds test test-each rows hostile interop exhaustive any-block refused-memory installed recipes documents options guesses vectors pictures imports bench-others bench examples stack header axioms hostile-library hostile-pulls clients hostile-compat python-tests aarch64 bench-compat bench-library wrappers clauses trusted plant
+.PHONY: help library compat python install install-command install-library install-compat uninstall check clean dist release deb released two-builds test test-each rows hostile interop exhaustive any-block refused-memory installed recipes documents options guesses vectors pictures imports progress bench-others bench examples stack header axioms hostile-library hostile-pulls clients hostile-compat python-tests aarch64 bench-compat bench-library wrappers clauses trusted plant
 
 help:
 	@echo 'make aec                    prove and build the program, as ./aec (ten to thirteen minutes the first time)'
@@ -44,6 +44,7 @@ help:
 	@echo 'make recipes                run the recipes of docs/COOKBOOK.md with ./aec'
 	@echo 'make documents              try the links, commands and messages of the documents with ./aec'
 	@echo 'make options                compare all lists of the options with scripts/options.txt'
+	@echo 'make progress               look at what ./aec --verbose shows on a terminal (python3-pexpect)'
 	@echo 'make pictures               draw docs/pictures from the tables of the documents (python3-matplotlib)'
 	@echo 'make bench-others           compare sizes and speeds with zstd, xz, lz4, bzip2, fpack, blosc and libaec'
 	@echo "make vectors                try the files of vectors/ with ./aec and with Debian's aec"
@@ -266,6 +267,9 @@ documents: aec
 
 options: aec
 	scripts/options.py ./aec
+
+progress: aec
+	scripts/progress.py ./aec
 
 pictures:
 	scripts/pictures.py
