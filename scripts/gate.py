@@ -27,8 +27,9 @@ CONTROLS = "scripts/edit_controls"
 RECORD = "out/gate.txt"
 # The most that a check of a crate's edits has been seen to take, in bytes, and some more.
 MEMORY_OF_EDITS = 2_500_000_000
-# The most edits of one part.
-EDITS_OF_PART = 40
+# About how many seconds of a processor an edit takes, and the most that a part of a crate's edits is to take.
+SECONDS_OF_EDIT = {"rice_bits": 5, "rice_samples": 3, "rice_code": 10, "rice_stream": 18, "rice_c": 6, "aec_tool": 9}
+SECONDS_OF_PART = 200
 
 
 def in_lanes(run_tasks, tried):
@@ -49,13 +50,17 @@ def in_lanes(run_tasks, tried):
 
 
 def parts_of(crate, paths):
-    """Returns a crate's edits in parts that can be tried side by side, the largest first: each of those that are tried alone, and
+    """Returns a crate's edits in parts that can be tried side by side, the longest first: each of those that are tried alone, and
     the others some at a time, since each check reads all below it first."""
     alone, others = [], []
     for path in paths:
         (others if edits.edit_of(crate, path).function else alone).append(path)
-    count = -(-len(others) // EDITS_OF_PART)
+    count = -(-len(others) * seconds_of_edit(crate) // SECONDS_OF_PART)
     return [*(others[it::count] for it in range(count)), *([it] for it in alone)]
+
+
+def seconds_of_edit(crate):
+    return SECONDS_OF_EDIT.get(crate.name, 5)
 
 
 def add_parts(tasks, crate, paths, waits, is_well):
@@ -65,7 +70,8 @@ def add_parts(tasks, crate, paths, waits, is_well):
         call = lambda given, _jobs, part=part, number=number: try_edits(crate, part, number) if is_well(given) else {}
         # (after the tests too, whose check writes into the work that is copied)
         keys.append((crate.name, "edits", number))
-        tasks[keys[-1]] = waits, crate.count(rb"\n"), MEMORY_OF_EDITS, call
+        # (the longest begin first, in whatever crate)
+        tasks[keys[-1]] = waits, len(part) * seconds_of_edit(crate), MEMORY_OF_EDITS, call
     return keys
 
 
