@@ -270,7 +270,9 @@ def tried_together(edits):
     """Returns the verdicts that one check gives on edits of different functions' bodies."""
     texts = texts_with(edits)
     _, said = check(edits[0].crate, texts, {it.judged_name for it in edits})
-    if has_verdict(said) and not any(rt.unread(it, texts) for it in said.split("\n")):
+    # (the answers of a twin may name what its edit took away, which says something of that edit alone)
+    sources = [it for it in texts if it.startswith("src/")]
+    if has_verdict(said) and not any(rt.unread(it, sources) for it in said.split("\n")):
         return {it.path: judged(it, texts, said) for it in edits}
     if len(edits) == 1:
         return {edits[0].path: tried_alone(edits[0])}
