@@ -1,7 +1,8 @@
 -- What a test of a code comes to.
-use Rattle.std.proofs.Common.{◌≡◌, ◌∙◌, ◌+◌, ap, ℕ, Bool, true, false, List, Option, Some, None, Result, Ok, Err, refl, sym}
+use Rattle.std.proofs.Common.{◌≡◌, ◌∙◌, ◌+◌, ap, ℕ, Bool, true, false, List, Option, Some, None, Result, Ok, Err, refl}
 use Rattle.rice_bits.specs.device.Outlet.{Room}
 use Rattle.rice_stream.specs.Calls.{Call, Happens, Fails}
+use Rattle.rice_stream.specs.Decodes.{Decodes}
 use Rattle.rice_stream.specs.declared.outcome.Outcome.{Outcome}
 use Rattle.rice_stream.specs.declared.outcome.Fault.{Fault}
 use Rattle.rice_stream.specs.declared.outcome.Fault.TheVariants.{Read, TooLong}
@@ -29,6 +30,13 @@ looks_in_vain reads false is_wanted before bits left given fault e is none told 
 looks_in_vain reads true is_wanted before bits left given Read e is none told looks = (looks.0, looks.1 ∙ ap (λ n. n + 1) none)
 looks_in_vain reads true is_wanted before bits left given TooLong e is none told looks = λ bytes same. looks bytes (told ∙ same)
 looks_in_vain reads true is_wanted before bits left given other e is none told looks = absurd looks
+
+-- decoding is what a plan that decodes asks for
+pub decoded : (p : PlanView) (decode : Bool) (left left' : Option (List ℕ)) (taken taken' : Option Room) (done : Outcome) → decode ≡ true
+    → ((c : Call) × Happens left left' taken taken' c × Decodes p.setting p.samples c done.report done.fault)
+    → (c : Call) × Happens left left' taken taken' c × EngineOf decode p c done
+decoded p true left left' taken taken' done e call = call
+decoded p false left left' taken taken' done e call = let bad : ⊥ = cc in absurd bad
 
 -- The source was decoded, and what was found is told.
 pub tests_of : {Source Dest : Type 0} (left : Source → Option (List ℕ)) (reads : Source → ℕ) (taken : Dest → Option Room) (writes : Dest → ℕ)

@@ -25,7 +25,8 @@ pub struct Done {
 
 /// Does what a plan asks, and returns the exit status.
 pub fn perform<'a, S: System<'a>>(system: &mut S, plan: &Plan<'a>) -> u8
-    requires { (o : Outside) → S.told system.old ≡ Some o → IsFresh o }
+    requires fresh { (o : Outside) → S.told system.old ≡ Some o → IsFresh o }
+    requires decodes { plan.now.dest ≡ None → plan.now.decode ≡ true }
     ensures { (o : Outside) → S.told system.old ≡ Some o → (after : Outside) × (S.told system.new ≡ Some after)
         × Performs S.Source.left S.Source.failed S.Dest.taken S.Dest.failed (plan_view plan.now) o after result }
 {

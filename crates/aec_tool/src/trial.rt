@@ -1,5 +1,5 @@
 //! The test of a code: it is decoded, and nothing is written.
-ghost use Rattle.std.specs.Prelude.{◌≡◌, ℕ, ◌⊎◌, ◌&&◌, List, Some, is_some};
+ghost use Rattle.std.specs.Prelude.{◌≡◌, ℕ, ◌⊎◌, ◌&&◌, true, List, Some, is_some};
 ghost use Rattle.aec_tool.specs.Behind.{Looks};
 ghost use Rattle.aec_tool.specs.Plan.{plan_view};
 ghost use Rattle.aec_tool.specs.Outside.{Outside, IsFresh, GivesAll, Stopped, finding, losing, is_read_again, said_of, saying, source_bytes, source_id};
@@ -13,11 +13,10 @@ use crate::message::Message;
 use crate::nowhere::Nowhere;
 use crate::perform::{Done, STANDARD, fail, open};
 use crate::plan::Plan;
-use crate::run::run;
 use crate::same_file::FileId;
 use crate::system::System;
 use rice_samples::Setting;
-use rice_stream::{Fault, Outcome, Report};
+use rice_stream::{Fault, Outcome, Report, decode};
 
 /// Decodes the source and writes nothing, and tells what that found.
 pub fn test<'a, S: System<'a>>(
@@ -30,10 +29,11 @@ pub fn test<'a, S: System<'a>>(
     requires sound { S.Source.failed source ≡ 0 }
     requires bytes { (o : Outside) → S.told system.old ≡ Some o → GivesAll (source_bytes o plan.now.source.now) (S.Source.left source) }
     requires id { (o : Outside) → S.told system.old ≡ Some o → id ≡ source_id o plan.now.source.now }
+    requires decodes { plan.now.decode ≡ true }
     ensures { (o : Outside) → S.told system.old ≡ Some o → (after : Outside) × (S.told system.new ≡ Some after)
         × Tests S.Source.left S.Source.failed S.Dest.taken S.Dest.failed (plan_view plan.now) o after result.status result.samples }
 {
-    let (outcome, _) = run(plan, source, &mut Nowhere);
+    let (outcome, _) = decode(&plan.setting, plan.samples, source, &mut Nowhere);
     let report = outcome.report;
     match judge(system, plan, id, &outcome) {
         Ok(more) => {

@@ -1,4 +1,4 @@
-use Rattle.std.proofs.Common.{ℕ, List, Option, None, ap, inr, refl, subst, sym}
+use Rattle.std.proofs.Common.{ℕ, List, Option, ap, inr, refl, subst, sym}
 use Rattle.std.specs.Prelude.{option_map}
 use Rattle.aec_tool.specs.Plan.{plan_view}
 use Rattle.aec_tool.specs.Outside.{closing}

@@ -1,7 +1,20 @@
-use Rattle.std.proofs.Common.{inl, inr, subst}
-use Rattle.clap.specs.Words.{kind_of}
+use Rattle.std.proofs.Common.{ap, inl, inr, refl, subst}
+use Rattle.std.specs.Prelude.{option_map}
+use Rattle.clap.specs.Words.{found_of, kind_of}
+use Rattle.aec_tool.specs.Plan.{plan_view}
 use Rattle.aec_tool.specs.Starts.{Follows}
+use Rattle.aec_tool.proofs.EntryLemmas.{decodes_without_dest}
 use Rattle.aec_tool.proofs.start_up.start.Goals as goal
+
+-- a plan without a destination decodes
+pub perform-requires : goal.perform-requires
+perform-requires g c κs = (
+  (refl, tt),
+  (
+    (λ o told. c.requires o told),
+    λ none. decodes_without_dest (found_of c.in-Ok.matches) (plan_view c.in-Ok-plan_of.plan) c.in-Ok-plan_of.ensures (ap (option_map (λ name. name.now)) none),
+  ),
+)
 
 -- the plan was performed that the matches ask for
 pub returns-in-Ok-plan_of : goal.returns-in-Ok-plan_of
