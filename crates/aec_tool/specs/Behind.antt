@@ -1,5 +1,6 @@
 -- Whether a 1 is left behind the first bits of a code.
 use Rattle.std.specs.Prelude.{◌≡◌, ℕ, ◌+◌, ◌^◌, ◌<◌, Bool, true, false, not, List, length, drop, Option, Some, None, Result, Ok, Err}
+use Rattle.rice_bits.specs.Limits.{most_bytes_read}
 use Rattle.rice_bits.specs.Bits.{bits_of}
 use Rattle.rice_bits.specs.read.Reader.{is_blank}
 use Rattle.rice_bits.specs.declared.read.fault.BitFault.{BitFault}
@@ -14,7 +15,7 @@ has_one_behind bits bytes = not (is_blank (drop bits (bits_of bytes)))
 -- A look at the bytes of an intake stopped: a read failed, or there were more bytes than a code may have.
 abbrev pub StopsLooking : {I : Type 0} → (I → ℕ) → ℕ → Option (List ℕ) → Fault → Type 0
 StopsLooking {I} failed before left Read = (after : I) × (failed after ≡ before + 1)
-StopsLooking failed before left TooLong = (bytes : List ℕ) → left ≡ Some bytes → 2 ^ 49 < length bytes
+StopsLooking failed before left TooLong = (bytes : List ℕ) → left ≡ Some bytes → most_bytes_read < length bytes
 StopsLooking failed before left _ = ⊥
 
 -- What a look at the bytes of an intake found behind so many bits.

@@ -1,5 +1,7 @@
 -- What the calls that decode piece by piece do with their caller's memory.
 use Rattle.std.specs.Prelude.{◌≡◌, ℕ, ◌*◌, ◌/◌, ◌%◌, ◌^◌, ◌≤◌, Bool, true, List, [], length, ℤ}
+use Rattle.rice_bits.specs.Limits.{most_bits_read}
+use Rattle.rice_samples.specs.Limits.{most_samples_counted}
 use Rattle.rice_samples.specs.Parameters.{Parameters, width}
 use Rattle.rice_stream.specs.Pulling.{Beginning, IsStand, DecodesMore}
 use Rattle.rice_stream.specs.declared.outcome.Report.{Report}
@@ -14,8 +16,8 @@ use Rattle.rice_c.specs.Statuses.{number_of, pause_status, pause_place}
 
 -- a place where an interval can begin: on a byte, where intervals are padded
 pub record CanBegin (s : Parameters) (samples bits : ℕ) : Type 0 where
-  pub few : samples ≤ 2 ^ 62
-  pub limit : bits ≤ 2 ^ 52
+  pub few : samples ≤ most_samples_counted
+  pub limit : bits ≤ most_bits_read
   pub padded : s.pad ≡ true → bits % 8 ≡ 0
 
 -- a drain that has given nothing

@@ -1,6 +1,7 @@
 //! Encoding piece by piece, for a caller that has no room for all samples. All that is kept lies in the caller's memory.
-ghost use Rattle.std.specs.Prelude.{◌≡◌, ◌≢◌, ◌/◌, ◌^◌, ◌<◌, ◌≤◌, length, List, Some, IfOk, IfErr, ℤ};
+ghost use Rattle.std.specs.Prelude.{◌≡◌, ◌≢◌, ◌/◌, ◌<◌, ◌≤◌, length, List, Some, IfOk, IfErr, ℤ};
 ghost use Rattle.rice_bits.specs.device.Slice.{slice_state, slice_failures};
+ghost use Rattle.rice_samples.specs.Limits.{most_input};
 ghost use Rattle.rice_stream.specs.Calls.{Fails};
 ghost use Rattle.rice_stream.specs.Encodes.{EncodesWithin};
 ghost use Rattle.rice_stream.specs.EncodingState.{PushFails};
@@ -52,8 +53,8 @@ pub extern "C" fn rice_begin(setting: &RiceSetting, feed: &mut RiceFeed) -> u32
 /// legal setting, or if there are more than 2^48 samples, which no call encodes.
 #[unsafe(no_mangle)]
 pub extern "C" fn rice_push_room(feed: &RiceFeed, samples: u64) -> u64
-    ensures ok { IfOk (setting_asked feed.now.setting) (λ s. samples ≤ 2 ^ 48 → result ≡ push_room s feed.now.seam.waiting_bits samples) }
-    ensures many { 2 ^ 48 < samples → result ≡ 0 }
+    ensures ok { IfOk (setting_asked feed.now.setting) (λ s. samples ≤ most_input → result ≡ push_room s feed.now.seam.waiting_bits samples) }
+    ensures many { most_input < samples → result ≡ 0 }
     ensures refused { IfErr (setting_asked feed.now.setting) (λ fault. result ≡ 0) }
 {
     if samples > 1 << 48 {

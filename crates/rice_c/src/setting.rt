@@ -1,5 +1,6 @@
 //! The setting as C gives it, and what follows from it alone.
-ghost use Rattle.std.specs.Prelude.{◌≡◌, ◌^◌, ◌<◌, ◌≤◌, IfOk, IfErr};
+ghost use Rattle.std.specs.Prelude.{◌≡◌, ◌<◌, ◌≤◌, IfOk, IfErr};
+ghost use Rattle.rice_samples.specs.Limits.{most_input};
 ghost use Rattle.rice_samples.specs.Parameters.{IsLegal, width};
 ghost use Rattle.rice_code.specs.Bounds.{step_bound};
 ghost use Rattle.rice_c.specs.Asked.{setting_asked};
@@ -94,8 +95,8 @@ pub extern "C" fn rice_sample_width(setting: &RiceSetting) -> u32
 /// not legal, or if there are more than 2^48 samples, which no call encodes.
 #[unsafe(no_mangle)]
 pub extern "C" fn rice_code_room(setting: &RiceSetting, samples: u64) -> u64
-    ensures ok { IfOk (setting_asked setting.now) (λ s. samples ≤ 2 ^ 48 → result ≡ code_room s samples) }
-    ensures many { 2 ^ 48 < samples → result ≡ 0 }
+    ensures ok { IfOk (setting_asked setting.now) (λ s. samples ≤ most_input → result ≡ code_room s samples) }
+    ensures many { most_input < samples → result ≡ 0 }
     ensures refused { IfErr (setting_asked setting.now) (λ fault. result ≡ 0) }
 {
     if samples > 1 << 48 {
@@ -124,8 +125,8 @@ pub extern "C" fn rice_set_room(setting: &RiceSetting) -> u32
 /// are more than 2^48 samples, which no call encodes.
 #[unsafe(no_mangle)]
 pub extern "C" fn rice_step_bound(setting: &RiceSetting, samples: u64) -> u64
-    ensures ok { IfOk (setting_asked setting.now) (λ s. samples ≤ 2 ^ 48 → result ≡ step_bound s samples) }
-    ensures many { 2 ^ 48 < samples → result ≡ 0 }
+    ensures ok { IfOk (setting_asked setting.now) (λ s. samples ≤ most_input → result ≡ step_bound s samples) }
+    ensures many { most_input < samples → result ≡ 0 }
     ensures refused { IfErr (setting_asked setting.now) (λ fault. result ≡ 0) }
 {
     if samples > 1 << 48 {

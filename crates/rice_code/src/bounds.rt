@@ -1,5 +1,6 @@
 //! Bounds on the bits and steps of coding.
 ghost use Rattle.std.specs.Prelude.{◌≡◌, ◌^◌, ◌≤◌};
+ghost use Rattle.rice_samples.specs.Limits.{most_input};
 ghost use Rattle.rice_samples.specs.Places.{block_count as blocks_of};
 ghost use Rattle.rice_code.specs.Bounds.{block_bound as most_of_block, bit_bound as most_bits, padded_bound as most_padded_bits, added_bound as most_added_bits, set_bound as most_of_set, step_bound as most_steps};
 
@@ -7,7 +8,7 @@ use rice_samples::Setting;
 
 /// Returns the most bits that the code of `samples` samples, at most 2^48, can have without padding.
 pub fn bit_bound(setting: &Setting, samples: u64) -> u64
-    requires { samples ≤ 2 ^ 48 }
+    requires { samples ≤ most_input }
     ensures value { result ≡ most_bits setting.now samples }
     ensures limit { result ≤ 2 ^ 59 }
 {
@@ -17,7 +18,7 @@ pub fn bit_bound(setting: &Setting, samples: u64) -> u64
 /// Returns the most bits that the code of `samples` samples, at most 2^48, can have with the padding of
 /// intervals, if intervals are padded: seven bits for each.
 pub fn padded_bound(setting: &Setting, samples: u64) -> u64
-    requires { samples ≤ 2 ^ 48 }
+    requires { samples ≤ most_input }
     ensures value { result ≡ most_padded_bits setting.now samples }
     ensures limit { result ≤ 2 ^ 60 }
 {
@@ -31,7 +32,7 @@ pub fn padded_bound(setting: &Setting, samples: u64) -> u64
 
 /// Returns the most bits, with all padding, that `samples` samples, at most 2^48, add to the code of whole segments.
 pub fn added_bound(setting: &Setting, samples: u64) -> u64
-    requires { samples ≤ 2 ^ 48 }
+    requires { samples ≤ most_input }
     ensures value { result ≡ most_added_bits setting.now samples }
     ensures limit { result ≤ 2 ^ 61 }
 {
@@ -52,7 +53,7 @@ pub fn set_bound(setting: &Setting) -> u32
 /// Returns the most steps that coding `samples` samples, at most 2^48, can take: one for each sample pushed
 /// or filled, each bit put without padding, and each read of a residual.
 pub fn step_bound(setting: &Setting, samples: u64) -> u64
-    requires { samples ≤ 2 ^ 48 }
+    requires { samples ≤ most_input }
     ensures value { result ≡ most_steps setting.now samples }
     ensures limit { result ≤ 2 ^ 60 }
 {
@@ -62,7 +63,7 @@ pub fn step_bound(setting: &Setting, samples: u64) -> u64
 
 /// Returns the number of blocks of `samples` samples, with a short last one.
 fn block_count(setting: &Setting, samples: u64) -> u64
-    requires { samples ≤ 2 ^ 48 }
+    requires { samples ≤ most_input }
     ensures value { result ≡ blocks_of setting.now samples }
     ensures limit { result ≤ 2 ^ 47 }
 {

@@ -16,6 +16,8 @@ pub use encode::SegmentSink;
 pub use encode::coder::{Coder, Pushed, SizedCoder};
 
 // What these hold, in bytes, on a machine with pointers of eight.
+const _: () = prove!(size_of::<SegmentSink>() == 16440);
+
 const _: () = prove!(size_of::<Coder>() == 16448);
 
 const _: () = prove!(size_of::<Decoder>() == 560);

@@ -1,5 +1,6 @@
 pub mod Examples
 pub mod Laws
+pub mod Limits
 pub mod Parameters
 pub mod Places
 pub mod Settings

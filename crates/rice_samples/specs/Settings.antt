@@ -1,5 +1,6 @@
 -- Which settings there are, and which of their parameters is refused first.
 use Rattle.std.specs.Prelude.{ℕ, Bool, ◌≤◌, ◌%◌, if◌then◌else◌, nat_le, ◌&&◌, ◌||◌, ◌==◌, Result, Ok, Err}
+use Rattle.rice_samples.specs.Limits.{longest_interval}
 use Rattle.rice_samples.specs.Parameters.{Parameters, IsBlockSize, IsStandardSize}
 use Rattle.rice_samples.specs.declared.setting.SettingFault.{SettingFault}
 use Rattle.rice_samples.specs.declared.setting.SettingFault.TheVariants.{BadBits, BadBlock, BadAnyBlock, BadInterval}
@@ -26,7 +27,7 @@ abbrev pub HasAnyBlock : Parameters → Type 0
 HasAnyBlock s = IsBlockSize s.block
 
 abbrev pub HasLegalInterval : Parameters → Type 0
-HasLegalInterval s = (1 ≤ s.interval) × (s.interval ≤ 4096)
+HasLegalInterval s = (1 ≤ s.interval) × (s.interval ≤ longest_interval)
 
 -- the fault is that of the first illegal parameter, in the order bits, block, interval
 abbrev pub IsRefused : Parameters → SettingFault → Type 0
@@ -47,7 +48,7 @@ abbrev pub setting_of : Parameters → Result Parameters SettingFault
 setting_of s =
     if nat_le 1 s.bits && nat_le s.bits 32 then
     (if s.block == 8 || s.block == 16 || s.block == 32 || s.block == 64 then
-    (if nat_le 1 s.interval && nat_le s.interval 4096 then Ok s else Err BadInterval)
+    (if nat_le 1 s.interval && nat_le s.interval longest_interval then Ok s else Err BadInterval)
     else Err BadBlock)
     else Err BadBits
 
@@ -56,6 +57,6 @@ abbrev pub any_setting_of : Parameters → Result Parameters SettingFault
 any_setting_of s =
     if nat_le 1 s.bits && nat_le s.bits 32 then
     (if nat_le 2 s.block && nat_le s.block 64 && s.block % 2 == 0 then
-    (if nat_le 1 s.interval && nat_le s.interval 4096 then Ok s else Err BadInterval)
+    (if nat_le 1 s.interval && nat_le s.interval longest_interval then Ok s else Err BadInterval)
     else Err BadAnyBlock)
     else Err BadBits

@@ -1,5 +1,6 @@
 //! The setting of a coder and a decoder.
 ghost use Rattle.std.specs.Prelude.{◌≡◌, ◌-◌, ◌*◌, ◌%◌, ◌^◌, ◌<◌, ◌≤◌, ◌↔◌, IsTrue, IsOk, IfErr};
+ghost use Rattle.rice_samples.specs.Limits.{longest_interval};
 ghost use Rattle.rice_samples.specs.Parameters.{Parameters, IsLegal, IsSample, id_len, k_max, width, value_at as value_at_level, value_count, least, level, level as level_of};
 ghost use Rattle.rice_samples.specs.Places.{segment_blocks, blocks_left, is_reference};
 ghost use Rattle.rice_samples.specs.Parameters.{IsBlockSize, IsStandardSize};
@@ -160,7 +161,7 @@ impl Setting {
     #[inline]
     pub fn interval(&self) -> u32
         ensures value { result ≡ self.now.interval }
-        ensures range { (1 ≤ result) × (result ≤ 4096) }
+        ensures range { (1 ≤ result) × (result ≤ longest_interval) }
         ensures legal { IsLegal self.now }
     {
         self.interval

@@ -1,11 +1,13 @@
 -- What decoding does: each way in which it ends.
 use Rattle.std.specs.Prelude.{◌≡◌, ◌≢◌, ℕ, ◌+◌, ◌-◌, ◌*◌, ◌/◌, ◌^◌, ◌≤◌, ◌⊎◌, Bool, List, [], ◌++◌, length, sum_by, take, min, Option, Some, None, IfSome, IsSome, ℤ}
 use Rattle.std.specs.Io.KnownBytes.{IsAtEnd}
+use Rattle.rice_bits.specs.Limits.{most_bits_read, most_bytes_read, most_at_once}
 use Rattle.rice_bits.specs.Bits.{bits_of}
-use Rattle.rice_bits.specs.read.Window.{most_at_once, most_waiting}
+use Rattle.rice_bits.specs.read.Window.{most_waiting}
 use Rattle.rice_bits.specs.read.Reader.{Reader}
 use Rattle.rice_samples.specs.Parameters.{Parameters}
 use Rattle.rice_samples.specs.bytes.Spelling.{spellings}
+use Rattle.rice_code.specs.Limits.{most_samples_of_bit}
 use Rattle.rice_code.specs.Bounds.{decoder_step_bound}
 use Rattle.rice_code.specs.code.Decoded.{Decoded, AreTaken, BeginsUnsound, EndsWith, Ending, Reached, Ended, CutOff, Past, Large}
 use Rattle.rice_code.specs.code.CodedDataSets.{CodedDataSet, turns}
@@ -48,7 +50,7 @@ EndsDecoding s asked (Some (CodeEnds samples)) c r ys ending =
 EndsDecoding s asked (Some (RunPastSegment block)) c r ys ending = DecodesBytes s asked c r c.given ys ending × (ending ≡ Past) × (length ys ≡ s.block * block)
 EndsDecoding s asked (Some (ResidualTooLarge block)) c r ys ending = DecodesBytes s asked c r c.given ys ending × (ending ≡ Large) × (length ys ≡ s.block * block)
 EndsDecoding s asked (Some Read) c r ys ending = DecodesBytes s asked c r c.given ys ending × RunsOut ending
-EndsDecoding s asked (Some TooLong) c r ys ending = ((front : List ℕ) × PassesLimit (2 ^ 49) c.given front × DecodesBytes s asked c r front ys ending) × RunsOut ending
+EndsDecoding s asked (Some TooLong) c r ys ending = ((front : List ℕ) × PassesLimit most_bytes_read c.given front × DecodesBytes s asked c r front ys ending) × RunsOut ending
 EndsDecoding s asked (Some Write) c r ys ending = FailsInBlock s asked c r ys × (ending ≡ Reached)
 EndsDecoding s asked (Some _) c r ys ending = ⊥
 
@@ -83,14 +85,14 @@ pub record Decodes (s : Parameters) (asked : Option ℕ) (c : Call) (r : Report)
   pub ends : EndsDecoding s asked fault c r samples ending
   pub ahead : length c.given ≤ r.bits / 8 + most_at_once
   -- only the outcome `TooLong` is of more bytes
-  pub limit : fault ≢ Some TooLong → length c.given ≤ 2 ^ 49
+  pub limit : fault ≢ Some TooLong → length c.given ≤ most_bytes_read
   pub steps : CountsSteps s (bits_of c.given) r ending
 
 -- the report's bounds, at every exit
 pub record DecodesWithin (asked : Option ℕ) (r : Report) : Type 0 where
   pub asked_for : IfSome asked (λ n. r.samples ≤ n)
   -- a bit brings at most 456 samples
-  pub by_bits : r.samples ≤ 456 * r.bits
+  pub by_bits : r.samples ≤ most_samples_of_bit * r.bits
   pub at_least : r.bits + r.samples ≤ r.steps
   pub at_most : r.steps ≤ decoder_step_bound r.bits r.samples
 
@@ -103,7 +105,7 @@ pub record Reports {I : Type 0} (r : Report) (f : Option Fault) (left : Option (
   pub left_is : left ≡ reader.left
   pub failed_is : failed ≡ reader.failed
   pub ahead : length reader.waiting ≤ most_waiting
-  pub limit : reader.taken + length reader.waiting ≤ 2 ^ 52
+  pub limit : reader.taken + length reader.waiting ≤ most_bits_read
 
 -- how many samples of a block are wanted after the first `written`
 abbrev pub wanted_of : Option ℕ → ℕ → ℕ → ℕ

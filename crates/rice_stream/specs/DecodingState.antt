@@ -1,6 +1,7 @@
 -- A decoder at work: how far it has come, and what is written of its samples.
 use Rattle.std.specs.Prelude.{◌≡◌, ℕ, ◌+◌, ◌*◌, ◌<◌, ◌≤◌, ◌^◌, Bool, List, ◌++◌, length, sum_by, replicate, All, Option, None, Some, IfSome, ℤ, pos}
 use Rattle.std.specs.Io.KnownBytes.{Consumes}
+use Rattle.rice_bits.specs.Limits.{most_bits_read}
 use Rattle.rice_bits.specs.device.Outlet.{Room, Appends}
 use Rattle.rice_bits.specs.Bits.{bits_of}
 use Rattle.rice_bits.specs.read.Reader.{Reader, Draws}
@@ -8,6 +9,7 @@ use Rattle.rice_samples.specs.Parameters.{Parameters, IsSample}
 use Rattle.rice_samples.specs.Places.{place}
 use Rattle.rice_samples.specs.predict.Residuals.{last_of}
 use Rattle.rice_samples.specs.bytes.Spelling.{spellings}
+use Rattle.rice_code.specs.Limits.{most_samples_of_bit}
 use Rattle.rice_code.specs.code.Blocks.{blocks_from, zero_block}
 use Rattle.rice_code.specs.code.Decoded.{AreTaken, Decoded, DecodedFrom, Ending, IsWanted, cut_to}
 use Rattle.rice_code.specs.code.CodedDataSets.{CodedDataSet, turns}
@@ -70,7 +72,7 @@ pub record HasWritten (s : Parameters) (asked : Option ℕ) (out_old out : Optio
 pub record HasSteps (steps taken written in_run turns : ℕ) : Type 0 where
   pub count : steps ≡ taken + written + turns
   pub most : steps ≤ 2 * taken + written
-  pub by_bits : written + in_run ≤ 456 * taken
+  pub by_bits : written + in_run ≤ most_samples_of_bit * taken
 
 -- One block more was given, for which these bits were taken.
 pub record Gains {I : Type 0} (s : Parameters) (old new : Reader I) (steps steps_new : ℕ) (front : List Bool) (sets : List CodedDataSet) (blocks run : ℕ) (given samples : List ℤ) : Type 0 where
@@ -98,7 +100,7 @@ pub record DecodingProgress {I : Type 0} (s : Parameters) (asked : Option ℕ) (
   pub going : r.refusal ≡ None
   pub reads : r.failed ≡ start.failed
   pub idle : asked ≡ Some 0 → r ≡ start
-  pub limit : r.taken ≤ 2 ^ 52
+  pub limit : r.taken ≤ most_bits_read
   pub has_read : HasRead start.left r.left r.waiting r.taken front
   pub has_sets : HasSets s sets front (blocks + p.run)
   pub before : begun ≤ blocks

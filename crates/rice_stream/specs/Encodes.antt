@@ -1,6 +1,8 @@
 -- What encoding does: each way in which it ends.
 use Rattle.std.specs.Prelude.{◌≡◌, ◌≢◌, ℕ, ◌+◌, ◌-◌, ◌*◌, ◌^◌, ◌<◌, ◌≤◌, ◌⊎◌, List, ◌++◌, length, take, All, Option, Some, None, ℤ}
 use Rattle.std.specs.Io.KnownBytes.{IsAtEnd}
+use Rattle.rice_bits.specs.Limits.{most_at_once}
+use Rattle.rice_samples.specs.Limits.{most_input}
 use Rattle.rice_samples.specs.Parameters.{Parameters, IsSample, width}
 use Rattle.rice_samples.specs.bytes.Spelling.{Spells, spellings, SpellingEnd, AtEnd, NoSpelling, TooFew}
 use Rattle.rice_code.specs.Bounds.{bit_bound, step_bound, amortised_step_bound}
@@ -70,18 +72,18 @@ module _ (s : Parameters) where
       Spells s c.given xs TooFew × IsAtEnd c.left × (index ≡ length xs) × LeavesEarly c r xs
   EndsEncoding (Some Read) c r xs = SpellsSoFar c.given xs × LeavesEarly c r xs
   EndsEncoding (Some TooLong) c r xs =
-      ((front : List ℕ) × PassesLimit (2 ^ 48) c.given front × SpellsSoFar front xs) × LeavesEarly c r xs
+      ((front : List ℕ) × PassesLimit most_input c.given front × SpellsSoFar front xs) × LeavesEarly c r xs
   EndsEncoding (Some Write) c r xs =
-      (length c.given < r.samples * width s + 4096) × (FailsBehind c r xs ⊎ FailsAtEnd c r xs)
+      (length c.given < r.samples * width s + most_at_once) × (FailsBehind c r xs ⊎ FailsAtEnd c r xs)
   EndsEncoding (Some _) c r xs = ⊥
 
   -- What the call did, for each outcome.
   pub record Encodes (c : Call) (r : Report) (fault : Option Fault) : Type 0 where
     pub samples : List ℤ
     pub ends : EndsEncoding fault c r samples
-    pub limit : IsWithinLimit (2 ^ 48) fault c.given
+    pub limit : IsWithinLimit most_input fault c.given
     -- one read gives at most 4,096 bytes, and its samples are taken before the next
-    pub ahead : length c.given ≤ r.samples * width s + 4096
+    pub ahead : length c.given ≤ r.samples * width s + most_at_once
 
 -- the report's bounds, at every exit
 pub record EncodesWithin (s : Parameters) (r : Report) : Type 0 where

@@ -3,6 +3,7 @@ use Rattle.std.specs.Prelude.{◌≡◌, ℕ, ◌+◌, ◌^◌, ◌<◌, ◌≤�
 use Rattle.std.specs.Io.KnownBytes.{Consumes}
 use Rattle.rice_bits.specs.device.Outlet.{Room, Appends}
 use Rattle.rice_bits.specs.Bits.{bits_in_bytes}
+use Rattle.rice_samples.specs.Limits.{most_input}
 use Rattle.rice_samples.specs.Parameters.{Parameters, IsSample, value_count, width}
 use Rattle.rice_samples.specs.bytes.Spelling.{spellings, EndsSpelling, NoSpelling}
 use Rattle.rice_stream.specs.Calls.{StopsBetween}
@@ -54,7 +55,7 @@ pub record CanTake {N : ℕ} (taken : Option Room) (e : Encoding N) (levels : Li
   pub before : List ℤ
   pub holds : IsEncodingOf setting start taken e before
   pub legal : All (λ l. l < value_count setting) levels
-  pub few : length before + length levels ≤ 2 ^ 48
+  pub few : length before + length levels ≤ most_input
 
 -- An encoding that held xs has taken these samples too. Only the last of them can have made a segment whole.
 pub record TakesSamples {N : ℕ} (s : Parameters) (e : Encoding N) (xs more : List ℤ) : Type 0 where
@@ -140,7 +141,7 @@ pub record EncodingProgress {N : ℕ} (s : Parameters) (left_old left : Option (
   pub samples : List ℤ
   pub reads : Reads s bytes samples (take waiting buffer)
   pub count : given ≡ length bytes
-  pub limit : given ≤ 2 ^ 48
+  pub limit : given ≤ most_input
   pub few : waiting < width s
   pub gave : Consumes left_old left bytes
   pub holds : IsEncodingOf s (afresh taken_old) taken e samples

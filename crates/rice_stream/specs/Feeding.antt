@@ -2,6 +2,7 @@
 use Rattle.std.specs.Prelude.{◌≡◌, ℕ, ◌+◌, ◌*◌, ◌/◌, ◌^◌, ◌<◌, ◌≤◌, ◌⊎◌, List, [], ◌∷◌, ◌++◌, length, drop, All, Option, Some, None, Result, Ok, Err, ℤ}
 use Rattle.rice_bits.specs.device.Outlet.{Room}
 use Rattle.rice_bits.specs.Bits.{bits_in_bytes, word}
+use Rattle.rice_samples.specs.Limits.{most_input}
 use Rattle.rice_samples.specs.Parameters.{Parameters, IsSample, width}
 use Rattle.rice_samples.specs.Places.{cut}
 use Rattle.rice_samples.specs.bytes.Spelling.{spellings, EndsSpelling, NoSpelling, TooFew}
@@ -27,7 +28,7 @@ pub record IsSeam (s : Parameters) (seam : Seam) (xs : List ℤ) : Type 0 where
   pub waiting : word seam.waiting_bits seam.waiting ≡ drop (bits_in_bytes (length (complete_code s xs))) (complete_code s xs)
   pub few : seam.waiting_bits < 8
   pub fits : seam.waiting < 2 ^ seam.waiting_bits
-  pub limit : width s * length xs ≤ 2 ^ 48
+  pub limit : width s * length xs ≤ most_input
 
 -- an encoding stands there, but for these bits
 pub record StandsAt {N : ℕ} (s : Parameters) (seam : Seam) (e : Encoding N) : Type 0 where
@@ -53,7 +54,7 @@ samples_to_take s xs bytes = cut s (length xs + length bytes / width s)
 module _ (s : Parameters) (xs : List ℤ) (bytes : List ℕ) (old new : Option Room) where
   -- Of the samples that the bytes spell those of the complete segments are taken, and the whole bytes of their code are written.
   pub record GoesOn (seam : Seam) : Type 0 where
-    pub limit : bytes_in_all s xs bytes ≤ 2 ^ 48
+    pub limit : bytes_in_all s xs bytes ≤ most_input
     pub more : List ℤ
     pub rest : List ℕ
     pub reads : Reads s bytes more rest
@@ -63,7 +64,7 @@ module _ (s : Parameters) (xs : List ℤ) (bytes : List ℕ) (old new : Option R
 
   -- the bytes spell these samples, and then none; the code of the complete segments is written
   pub record MeetsNone (more : List ℤ) (index : ℕ) : Type 0 where
-    pub limit : bytes_in_all s xs bytes ≤ 2 ^ 48
+    pub limit : bytes_in_all s xs bytes ≤ most_input
     pub rest : List ℕ
     pub reads : Reads s bytes more rest
     pub none : EndsSpelling s rest NoSpelling
@@ -72,14 +73,14 @@ module _ (s : Parameters) (xs : List ℤ) (bytes : List ℕ) (old new : Option R
 
   -- the last of these samples completes a segment, and the outlet fails before all of its code is written
   pub record WantsRoom (more : List ℤ) (last : ℤ) : Type 0 where
-    pub limit : bytes_in_all s xs bytes ≤ 2 ^ 48
+    pub limit : bytes_in_all s xs bytes ≤ most_input
     pub rest : List ℕ
     pub reads : Reads s bytes (more ++ last ∷ []) rest
     pub writes : FollowsBetween (behind s xs old) new (early_output s (xs ++ more)) (early_output s ((xs ++ more) ++ last ∷ []))
 
   -- the samples so far and these bytes pass the limit, and nothing is done
   pub record PassesAll : Type 0 where
-    pub passes : 2 ^ 48 < bytes_in_all s xs bytes
+    pub passes : most_input < bytes_in_all s xs bytes
     pub untouched : new ≡ old
 
   -- What becomes of a piece of the samples. None but those to take is looked at.
@@ -92,13 +93,13 @@ module _ (s : Parameters) (xs : List ℤ) (bytes : List ℕ) (old new : Option R
 
   -- the bytes spell these samples and no others
   pub record AreAll (more : List ℤ) : Type 0 where
-    pub limit : bytes_in_all s xs bytes ≤ 2 ^ 48
+    pub limit : bytes_in_all s xs bytes ≤ most_input
     pub spelled : bytes ≡ spellings s more
     pub legal : All (IsSample s) more
 
   -- these samples are cut off
   pub record MeetsCut (more : List ℤ) (index : ℕ) : Type 0 where
-    pub limit : bytes_in_all s xs bytes ≤ 2 ^ 48
+    pub limit : bytes_in_all s xs bytes ≤ most_input
     pub rest : List ℕ
     pub reads : Reads s bytes more rest
     pub cut_off : EndsSpelling s rest TooFew

@@ -1,7 +1,9 @@
 -- Decoding piece by piece: where decoding stands between two calls, and what each call gives.
 use Rattle.std.specs.Prelude.{◌≡◌, ◌≢◌, ℕ, ◌+◌, ◌*◌, ◌%◌, ◌^◌, ◌<◌, ◌≤◌, Bool, true, List, [], ◌++◌, length, drop, sum_by, Option, Some, None, IsSome, Result, Ok, Err, ℤ, pos}
+use Rattle.rice_bits.specs.Limits.{most_bits_read}
 use Rattle.rice_bits.specs.Bits.{bits_of}
 use Rattle.rice_bits.specs.read.Reader.{Reader}
+use Rattle.rice_samples.specs.Limits.{most_samples_counted}
 use Rattle.rice_samples.specs.Parameters.{Parameters, width}
 use Rattle.rice_samples.specs.Places.{place}
 use Rattle.rice_samples.specs.predict.Residuals.{last_of}
@@ -34,7 +36,7 @@ MayBegin s o = s.pad ≡ true → o.bits % 8 ≡ 0
 pub record IsStand (s : Parameters) (o : Beginning) (stand : Stand) (front : List Bool) (given : List ℤ) : Type 0 where
   pub state : IsDecoderState s stand.block stand.previous stand.run None
   pub begins : MayBegin s o
-  pub early : o.samples ≤ 2 ^ 62
+  pub early : o.samples ≤ most_samples_counted
   pub blocks : ℕ
   pub begun : ℕ
   pub before : begun ≤ blocks
@@ -46,7 +48,7 @@ pub record IsStand (s : Parameters) (o : Beginning) (stand : Stand) (front : Lis
   pub samples : stand.samples ≡ o.samples + length given
   pub bits : stand.bits ≡ o.bits + length front
   pub steps : HasSteps stand.steps (length front) (length given) (stand.run * s.block) (sum_by turns sets)
-  pub limit : stand.bits ≤ 2 ^ 52
+  pub limit : stand.bits ≤ most_bits_read
 
 -- the bits of a piece, which begins with the byte that has the stand's next bit
 abbrev pub bits_ahead : Stand → List ℕ → List Bool
@@ -58,7 +60,7 @@ HasRoom s count room = width s * count + width s * s.block ≤ room
 
 -- The piece is not taken: it passes the limit of a code.
 pub record IsRefused (old new : Stand) (piece : List ℕ) (count : ℕ) : Type 0 where
-  pub passes : 2 ^ 52 < old.bits + 8 * length piece
+  pub passes : most_bits_read < old.bits + 8 * length piece
   pub stays : new ≡ old
   pub none : count ≡ 0
 
@@ -81,7 +83,7 @@ pub record DecodesMore (s : Parameters) (o : Beginning) (front : List Bool) (giv
   pub stands : IsStand s o new (front ++ bits) (given ++ samples)
   pub writes : out ≡ spellings s samples ++ drop (width s * length samples) out_old
   pub pauses_at : PausesAt s old piece (length out_old) new rest (length samples) pause
-  pub limit : pause ≢ pauses.TooLong → old.bits + 8 * length piece ≤ 2 ^ 52
+  pub limit : pause ≢ pauses.TooLong → old.bits + 8 * length piece ≤ most_bits_read
 
 -- the state of a decoder that goes on there
 abbrev pub state_of : Parameters → Stand → DecoderState
@@ -102,7 +104,7 @@ pub record IsReadFrom {I : Type 0} (stand : Stand) (r : Reader I) : Type 0 where
   pub failed : r.failed ≡ 0
   pub told : IsSome r.left
   pub taken : r.taken ≤ stand.bits
-  pub limit : stand.bits + length (ahead r) ≤ 2 ^ 52
+  pub limit : stand.bits + length (ahead r) ≤ most_bits_read
 
 -- a block more was given
 pub record GivesNext {I : Type 0} (s : Parameters) (o : Beginning) (front : List Bool) (given : List ℤ) (next : Stand) (old new : Reader I) (samples : List ℤ) : Type 0 where

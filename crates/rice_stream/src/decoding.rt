@@ -1,5 +1,6 @@
 //! Decodes a code to its samples.
 ghost use Rattle.std.specs.Prelude.{◌≡◌, ◌⊎◌, ◌+◌, ◌-◌, ◌*◌, ◌^◌, ◌<◌, ◌≤◌, Option, None, Some, true, false};
+ghost use Rattle.rice_bits.specs.Limits.{step_limit, most_bits_read};
 ghost use Rattle.rice_code.specs.decode.BlocksAhead.{GivesBytes, HasLanes};
 ghost use Rattle.rice_code.specs.decode.Fields.{AreCounted};
 ghost use Rattle.rice_stream.specs.Calls.{Call, Happens, Fails};
@@ -219,7 +220,7 @@ fn next_bytes<I: Intake, const SIZE: usize, const WIDTH: usize>(
     requires lanes { 0 < SIZE → HasLanes decoder.old.setting SIZE WIDTH }
     requires stopped { decoder.old.stopped ≡ None }
     requires going { reader.old.refusal ≡ None }
-    requires room { meter.old + 2 * (2 ^ 52 - reader.old.taken) + 64 < 2 ^ 62 }
+    requires room { meter.old + 2 * (most_bits_read - reader.old.taken) + 64 < step_limit }
     ensures sized { result ≡ true → 0 < SIZE }
     ensures some { result ≡ true → (whole ≡ true) × (decoder.old.run ≡ 0) ×
         GivesBytes reader.old reader.new meter.old meter.new decoder.old decoder.new bytes.new }

@@ -1,9 +1,11 @@
 //! From samples to their code.
 ghost use Rattle.std.specs.Prelude.{◌≡◌, ◌+◌, ◌-◌, ◌*◌, ◌^◌, ◌<◌, ◌≤◌, List, [], ◌++◌, length, take, drop, true, Option, Some, OnOk, OnErr, IfOk, ℤ};
 ghost use Rattle.std.specs.Io.KnownBytes.{IsAtEnd, Keeps};
+ghost use Rattle.rice_bits.specs.Limits.{most_at_once};
 ghost use Rattle.rice_bits.specs.device.Device.{CountsFailure};
 ghost use Rattle.rice_bits.specs.device.Outlet.{Room};
 ghost use Rattle.rice_bits.specs.Bits.{padded_bits};
+ghost use Rattle.rice_samples.specs.Limits.{most_input, longest_segment};
 ghost use Rattle.rice_samples.specs.Parameters.{Parameters, values_at, width};
 ghost use Rattle.rice_stream.specs.Calls.{Call, Happens, Fails};
 ghost use Rattle.rice_stream.specs.Encodes.{Encodes, EncodesWithin, ReportsTaken, ReportsAll};
@@ -18,7 +20,7 @@ use crate::outcome::{Fault, Outcome, Report};
 use crate::seam::{Seam, waiting_number};
 use crate::write::write_whole;
 use rice_bits::{BitSink, Intake, Meter, Outlet, ReadFault, WriteFault};
-use rice_code::SizedCoder;
+use rice_code::{SegmentSink, SizedCoder};
 use rice_samples::{Setting, levels_of};
 
 /// The limit of the input, in bytes.
@@ -41,7 +43,7 @@ pub(crate) const SHORT: usize = 128;
 #[derive(Drop)]
 pub struct Encoding<const N: usize> {
     coder: SizedCoder<N>,
-    sink: BitSink<16432>,
+    sink: SegmentSink,
     meter: Meter,
     samples: u64,
     bits: u64,
@@ -50,7 +52,7 @@ pub struct Encoding<const N: usize> {
 impl<const N: usize> Encoding<N> {
     /// Returns an encoding that has taken no sample.
     fn new(setting: Setting) -> Self
-        requires size { N ≤ 4096 }
+        requires size { N ≤ longest_segment }
         requires room { HoldsAnySegment N setting }
         ensures { (now : Option Room) → IsEncodingOf setting (afresh now) now result [] }
     {
@@ -68,7 +70,7 @@ impl<const N: usize> Encoding<N> {
     /// They are put by `put_waiting`, once it lies where it is kept: else it would be copied there, which takes longer than
     /// short pieces.
     pub(crate) fn resume(setting: Setting, seam: &Seam) -> Self
-        requires size { N ≤ 4096 }
+        requires size { N ≤ longest_segment }
         requires room { HoldsAnySegment N setting }
         requires seam { (xs : List ℤ) × IsSeam setting seam.now xs }
         ensures { StandsAt setting seam.now result }
@@ -99,7 +101,7 @@ impl<const N: usize> Encoding<N> {
         requires { length self.old.sink < 8 }
         ensures { (s : Parameters) (old : Beginning) (now : Option Room) (xs : List ℤ) →
             IsEncodingOf s old now self.old xs → cut s (length xs) ≡ length xs →
-            width s * length xs ≤ 2 ^ 48 → IsSeam s result xs }
+            width s * length xs ≤ most_input → IsSeam s result xs }
     {
         let waiting_bits = self.sink.len() as u32;
         let waiting = waiting_number(&mut self.sink);
@@ -197,7 +199,7 @@ impl<const N: usize> Encoding<N> {
     ) -> Result<(), Fault>
         requires ready { (old : Beginning) × (xs : List ℤ) ×
             IsEncodingOf setting.now old (O.taken outlet.old) self.old xs ×
-            (length xs + length bytes.now ≤ 2 ^ 48) }
+            (length xs + length bytes.now ≤ most_input) }
         requires room { length bytes.now ≤ width setting.now * length levels.old }
         requires writes { O.failed outlet.old + 1 < 2 ^ 64 }
         ensures did { (old : Beginning) (xs : List ℤ) →
@@ -232,8 +234,8 @@ impl<const N: usize> Encoding<N> {
     ) -> Result<(), Fault>
         requires ready { (old : Beginning) × (xs : List ℤ) ×
             IsEncodingOf setting.now old (O.taken outlet.old) self.old xs ×
-            (length xs + length bytes.now ≤ 2 ^ 48) }
-        requires some { (0 < length levels.old) × (length levels.old ≤ 2 ^ 48) }
+            (length xs + length bytes.now ≤ most_input) }
+        requires some { (0 < length levels.old) × (length levels.old ≤ most_input) }
         requires writes { O.failed outlet.old + 1 < 2 ^ 64 }
         ensures did { (old : Beginning) (xs : List ℤ) →
             IsEncodingOf setting.now old (O.taken outlet.old) self.old xs →
@@ -256,7 +258,7 @@ impl<const N: usize> Encoding<N> {
     /// Codes the samples that wait, fills the last byte, and returns the report. The sink then holds the rest of the code.
     fn close(&mut self) -> Report
         requires { (s : Parameters) × (old : Beginning) × (now : Option Room) ×
-            (xs : List ℤ) × IsEncodingOf s old now self.old xs × (length xs ≤ 2 ^ 48) }
+            (xs : List ℤ) × IsEncodingOf s old now self.old xs × (length xs ≤ most_input) }
         ensures { (s : Parameters) (old : Beginning) (now : Option Room) (xs : List ℤ) →
             IsEncodingOf s old now self.old xs →
             ReportsAll s result xs × (padded_bits (code s xs) ≡ whole_part (complete_code s xs) ++
@@ -275,7 +277,7 @@ impl<const N: usize> Encoding<N> {
     /// Codes the samples that wait, fills the last byte, and writes the rest of the code.
     pub(crate) fn finish<O: Outlet>(&mut self, outlet: &mut O) -> Outcome
         requires ready { (s : Parameters) × (old : Beginning) × (xs : List ℤ) ×
-            IsEncodingOf s old (O.taken outlet.old) self.old xs × (length xs ≤ 2 ^ 48) }
+            IsEncodingOf s old (O.taken outlet.old) self.old xs × (length xs ≤ most_input) }
         requires writes { O.failed outlet.old + 1 < 2 ^ 64 }
         ensures did { (s : Parameters) (old : Beginning) (xs : List ℤ) →
             IsEncodingOf s old (O.taken outlet.old) self.old xs →
@@ -312,9 +314,9 @@ impl<const N: usize> Encoding<N> {
 fn piece(given: u64, waiting: usize) -> usize
     requires { waiting < 4 }
     ensures some { 0 < result }
-    ensures most { result + waiting ≤ 4096 }
-    ensures limit { given < 2 ^ 48 → given + result ≤ 2 ^ 48 }
-    ensures last { 2 ^ 48 ≤ given → result ≡ 1 }
+    ensures most { result + waiting ≤ most_at_once }
+    ensures limit { given < most_input → given + result ≤ most_input }
+    ensures last { most_input ≤ given → result ≡ 1 }
 {
     if given < LIMIT {
         (LIMIT - given).min((PIECE - waiting) as u64) as usize
@@ -378,7 +380,7 @@ pub fn encode<I: Intake, O: Outlet>(setting: &Setting, intake: &mut I, outlet: &
 /// Returns whether a short row holds the residuals of each segment.
 pub(crate) fn has_short_intervals(setting: &Setting) -> bool
     ensures short { result ≡ true → HoldsAnySegment 128 setting.now }
-    ensures any { HoldsAnySegment 4096 setting.now }
+    ensures any { HoldsAnySegment longest_segment setting.now }
 {
     setting.block() * setting.interval() <= SHORT as u32
 }
@@ -392,7 +394,7 @@ fn encode_in_row<const N: usize, I: Intake, O: Outlet>(
     intake: &mut I,
     outlet: &mut O,
 ) -> Outcome
-    requires size { N ≤ 4096 }
+    requires size { N ≤ longest_segment }
     requires room { HoldsAnySegment N setting.now }
     requires reads { I.failed intake.old + 1 < 2 ^ 64 }
     requires writes { O.failed outlet.old + 1 < 2 ^ 64 }

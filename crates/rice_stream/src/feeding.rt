@@ -1,5 +1,6 @@
 //! From samples to their code, piece by piece.
 ghost use Rattle.std.specs.Prelude.{◌≡◌, ◌+◌, ◌-◌, ◌*◌, ◌^◌, ◌<◌, ◌≤◌, List, ℤ};
+ghost use Rattle.rice_samples.specs.Limits.{most_input, longest_segment};
 ghost use Rattle.rice_samples.specs.Places.{cut};
 ghost use Rattle.rice_code.specs.encode.OpenSegment.{HoldsAnySegment};
 ghost use Rattle.rice_stream.specs.Calls.{Fails};
@@ -43,7 +44,7 @@ fn encode_more_in_row<const N: usize, O: Outlet>(
     bytes: &[u8],
     outlet: &mut O,
 ) -> Result<Seam, Fault>
-    requires size { N ≤ 4096 }
+    requires size { N ≤ longest_segment }
     requires room { HoldsAnySegment N setting.now }
     requires seam { (xs : List ℤ) × IsSeam setting.now seam.now xs }
     requires writes { O.failed outlet.old + 1 < 2 ^ 64 }
@@ -96,7 +97,7 @@ fn encode_rest_in_row<const N: usize, O: Outlet>(
     bytes: &[u8],
     outlet: &mut O,
 ) -> Outcome
-    requires size { N ≤ 4096 }
+    requires size { N ≤ longest_segment }
     requires room { HoldsAnySegment N setting.now }
     requires seam { (xs : List ℤ) × IsSeam setting.now seam.now xs }
     requires writes { O.failed outlet.old + 1 < 2 ^ 64 }
@@ -126,9 +127,9 @@ fn encode_rest_in_row<const N: usize, O: Outlet>(
 /// Returns how many bytes a code may still be given after `samples` samples of `width` bytes.
 fn bytes_left(width: usize, samples: u64) -> u64
     requires width { width ≤ 4 }
-    requires samples { samples ≤ 2 ^ 48 }
-    ensures value { result ≡ 2 ^ 48 - width * samples }
-    ensures few { 0 < width → samples + result ≤ 2 ^ 48 }
+    requires samples { samples ≤ most_input }
+    ensures value { result ≡ most_input - width * samples }
+    ensures few { 0 < width → samples + result ≤ most_input }
 {
     LIMIT.saturating_sub(width as u64 * samples)
 }

@@ -1,5 +1,6 @@
 //! Decodes samples that are not predicted, and use all bits of 1, 2 or 4 bytes: blocks without compression are copied.
 ghost use Rattle.std.specs.Prelude.{◌≡◌, ◌⊎◌, ◌+◌, ◌-◌, ◌*◌, ◌^◌, ◌<◌, ◌≤◌, Some, None, IfErr, IfOk, IfSome, OnErr, OnOk, true};
+ghost use Rattle.rice_bits.specs.Limits.{step_limit, most_bits_read};
 ghost use Rattle.rice_code.specs.decode.Fields.{AreCounted};
 ghost use Rattle.rice_code.specs.decode.PlainBlocks.{IsPlain, PlainRow};
 ghost use Rattle.rice_stream.specs.Calls.{Call, Happens, Fails};
@@ -109,7 +110,7 @@ fn write_row<I: Intake, O: Outlet, const WIDTH: usize>(
     requires run { decoder.old.run ≡ 0 }
     requires stopped { decoder.old.stopped ≡ None }
     requires going { reader.old.refusal ≡ None }
-    requires steps { meter.old + 2 * (2 ^ 52 - reader.old.taken) + 64 < 2 ^ 62 }
+    requires steps { meter.old + 2 * (most_bits_read - reader.old.taken) + 64 < step_limit }
     requires counted { O.failed outlet.old + 1 < 2 ^ 64 }
     ensures ok { IfOk result (λ n. WritesRow setting.now blocks reader.old reader.new meter.old meter.new
         decoder.old decoder.new bytes.now (O.taken outlet.old) (O.taken outlet.new) n) }

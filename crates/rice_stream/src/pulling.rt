@@ -1,5 +1,6 @@
 //! Decodes a code piece by piece, for a caller that has not all of it, or no room for all samples. Nothing but a `Stand` is kept.
-ghost use Rattle.std.specs.Prelude.{◌≡◌, ◌≢◌, ◌+◌, ◌-◌, ◌*◌, ◌%◌, ◌^◌, ◌<◌, ◌≤◌, ◌++◌, Bool, true, false, List, All, IsSome, IfOk, IfSome, None, drop, take, length, ℤ};
+ghost use Rattle.std.specs.Prelude.{◌≡◌, ◌≢◌, ◌+◌, ◌-◌, ◌*◌, ◌%◌, ◌<◌, ◌≤◌, ◌++◌, Bool, true, false, List, All, IsSome, IfOk, IfSome, None, drop, take, length, ℤ};
+ghost use Rattle.rice_bits.specs.Limits.{most_bits_read};
 ghost use Rattle.rice_bits.specs.Bits.{bits_of};
 ghost use Rattle.rice_samples.specs.Parameters.{value_count, values_at, width as width_of};
 ghost use Rattle.rice_samples.specs.bytes.Spelling.{spellings};
@@ -63,9 +64,9 @@ pub fn decode_more(
 
 /// Returns whether `bits` bits of code and `bytes` bytes after them pass the limit of a code.
 fn is_too_long(bits: u64, bytes: usize) -> bool
-    requires { bits ≤ 2 ^ 52 }
-    ensures long { result ≡ true → 2 ^ 52 < bits + 8 * bytes }
-    ensures fits { result ≡ false → bits + 8 * bytes ≤ 2 ^ 52 }
+    requires { bits ≤ most_bits_read }
+    ensures long { result ≡ true → most_bits_read < bits + 8 * bytes }
+    ensures fits { result ≡ false → bits + 8 * bytes ≤ most_bits_read }
 {
     bytes as u64 > (LIMIT - bits) / 8
 }

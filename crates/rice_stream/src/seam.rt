@@ -2,7 +2,7 @@
 ghost use Rattle.std.specs.Prelude.{◌≡◌, ◌-◌, ◌^◌, ◌<◌, [], length};
 ghost use Rattle.rice_bits.specs.Bits.{word};
 
-use rice_bits::BitSink;
+use rice_code::SegmentSink;
 use rice_samples::Setting;
 
 /// Where the code of whole segments ends: all that is kept of them. In plain numbers, in C's own layout.
@@ -48,7 +48,7 @@ impl Seam {
 }
 
 /// Returns the number that the bits of a sink spell, of which there are fewer than eight, and fills their byte with zeros.
-pub fn waiting_number(sink: &mut BitSink<16432>) -> u32
+pub fn waiting_number(sink: &mut SegmentSink) -> u32
     requires { length sink.old < 8 }
     ensures digits { word (length sink.old) result ≡ sink.old }
     ensures fits { result < 2 ^ length sink.old }

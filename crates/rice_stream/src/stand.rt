@@ -1,5 +1,7 @@
 //! Where decoding stands between two calls.
-ghost use Rattle.std.specs.Prelude.{◌≡◌, ◌%◌, ◌^◌, ◌≤◌, [], true};
+ghost use Rattle.std.specs.Prelude.{◌≡◌, ◌%◌, ◌≤◌, [], true};
+ghost use Rattle.rice_bits.specs.Limits.{most_bits_read};
+ghost use Rattle.rice_samples.specs.Limits.{most_samples_counted};
 
 use rice_samples::Setting;
 
@@ -54,8 +56,8 @@ impl Stand {
 
     /// Returns the place of an interval that begins after `samples` samples and `bits` bits of a code.
     pub fn at(setting: &Setting, samples: u64, bits: u64) -> Self
-        requires samples { samples ≤ 2 ^ 62 }
-        requires limit { bits ≤ 2 ^ 52 }
+        requires samples { samples ≤ most_samples_counted }
+        requires limit { bits ≤ most_bits_read }
         requires padded { setting.now.pad ≡ true → bits % 8 ≡ 0 }
         ensures { IsStand setting.now (record { bits = bits; samples = samples }) result [] [] }
     {

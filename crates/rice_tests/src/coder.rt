@@ -4,7 +4,7 @@ ghost use Rattle.rice_samples.specs.Parameters.{value_count};
 use crate::cases::Cases;
 use crate::table::{Columns, bytes_of, number_of, samples_of, setting_of};
 use rice_bits::{BitSink, Meter};
-use rice_code::{Coder, bit_bound, padded_bound, step_bound};
+use rice_code::{Coder, SegmentSink, bit_bound, padded_bound, step_bound};
 use rice_samples::Setting;
 use std::alloc::Global;
 use std::process::Abort;
@@ -24,7 +24,7 @@ fn push(
     setting: &Setting,
     coder: &mut Coder,
     x: i64,
-    sink: &mut BitSink<16432>,
+    sink: &mut SegmentSink,
     meter: &mut Meter,
 ) -> Result<(), Fail>
     requires setting { coder.old.setting ≡ setting.now }
@@ -96,7 +96,7 @@ fn push_some(
     setting: &Setting,
     coder: &mut Coder,
     levels: &[u32],
-    sink: &mut BitSink<16432>,
+    sink: &mut SegmentSink,
     meter: &mut Meter,
 ) -> Result<usize, Fail>
     requires setting { coder.old.setting ≡ setting.now }

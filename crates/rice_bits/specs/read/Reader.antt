@@ -2,8 +2,9 @@
 use Rattle.std.specs.Prelude.{◌≡◌, ℕ, ◌+◌, ◌-◌, ◌*◌, ◌^◌, ◌<◌, ◌≤◌, Bool, true, not, ◌&&◌, List, [], ◌∷◌, ◌++◌, length, Option, Some, None, IsSome}
 use Rattle.std.specs.List.{list_all}
 use Rattle.std.specs.Io.KnownBytes.{Consumes, IsAtEnd}
+use Rattle.rice_bits.specs.Limits.{most_bits_read, most_at_once}
 use Rattle.rice_bits.specs.Bits.{bits_of}
-use Rattle.rice_bits.specs.read.Window.{IsWindow, most_at_once, window_bits}
+use Rattle.rice_bits.specs.read.Window.{IsWindow, window_bits}
 use Rattle.rice_bits.specs.declared.read.fault.BitFault.{BitFault}
 use Rattle.rice_bits.specs.declared.read.fault.BitFault.TheVariants.{End, Read, TooLong}
 use Rattle.rice_bits.specs.declared.read.window.Window.{Window}
@@ -55,7 +56,7 @@ Refuses (End told) old_left new_left old_failed new_failed taken blank =
 Refuses Read old_left new_left old_failed new_failed taken blank =
     Consumes old_left new_left [] × (new_failed ≡ old_failed + 1)
 Refuses TooLong old_left new_left old_failed new_failed taken blank =
-    ((byte : ℕ) × Consumes old_left new_left (byte ∷ [])) × (new_failed ≡ old_failed) × (taken ≡ 2 ^ 52)
+    ((byte : ℕ) × Consumes old_left new_left (byte ∷ [])) × (new_failed ≡ old_failed) × (taken ≡ most_bits_read)
 
 -- A reader took these bits.
 pub record Takes {I : Type 0} (old new : Reader I) (bits : List Bool) : Type 0 where

@@ -1,11 +1,8 @@
 -- The bits that were given and not yet taken.
-use Rattle.std.specs.Prelude.{◌≡◌, ◌+◌, ◌-◌, ◌*◌, ◌/◌, ◌%◌, ◌^◌, ◌<◌, ◌≤◌, ℕ, All, Bool, List, ◌++◌, length, drop, flat_map, min, replicate, take, slice_range}
+use Rattle.std.specs.Prelude.{◌≡◌, ◌+◌, ◌-◌, ◌*◌, ◌/◌, ◌%◌, ◌<◌, ◌≤◌, ℕ, All, Bool, List, ◌++◌, length, drop, flat_map, min, replicate, take, slice_range}
+use Rattle.rice_bits.specs.Limits.{most_bytes_read, most_at_once}
 use Rattle.rice_bits.specs.Bits.{word, fundamental_sequence, bits_of}
 use Rattle.rice_bits.specs.declared.read.window.Window.{Window}
-
--- the most bytes that are asked for at a time
-abbrev pub most_at_once : ℕ
-most_at_once = 4096
 
 -- the bits of the most bytes that are asked for at a time
 abbrev pub most_waiting : ℕ
@@ -38,7 +35,7 @@ pub record IsWindow (w : Window) : Type 0 where
   pub fits : w.end ≤ most_waiting
   pub whole : w.end % 8 ≡ 0
   pub held : w.end - w.at ≤ 8 * w.given
-  pub limit : w.given ≤ 2 ^ 49
+  pub limit : w.given ≤ most_bytes_read
   -- eight zeros follow the bytes
   pub behind : take 8 (drop (w.end / 8) w.buffer) ≡ replicate 8 0
 

@@ -1,5 +1,6 @@
 //! A list of bits that is gathered into bytes.
 ghost use Rattle.std.specs.Prelude.{◌≡◌, ◌+◌, ◌-◌, ◌*◌, ◌%◌, ◌^◌, ◌<◌, ◌≤◌, ◌↔◌, IsTrue, Bool, false, List, [], ◌++◌, length, drop, flat_map, replicate};
+ghost use Rattle.rice_bits.specs.Limits.{step_limit};
 ghost use Rattle.rice_bits.specs.Bits.{fundamental_sequence, word, whole_bytes, bits_in_bytes, bits_to_byte, put_width, IsBitSink, Joins, Puts};
 
 use crate::Meter;
@@ -9,7 +10,7 @@ use std::marker::Model;
 
 /// A list of at most `8 * N` bits, gathered into bytes, most significant bit first.
 ///
-/// A `BitSink<16432>` takes 16,440 bytes of memory. In contracts its value is the list of the bits.
+/// It takes eight bytes of memory more than these. In contracts its value is the list of the bits.
 #[derive(Drop)]
 pub struct BitSink<const N: usize> {
     /// The bits, and zeros after them.
@@ -73,7 +74,7 @@ impl<const N: usize> BitSink<N> {
         requires width { width ≤ 32 }
         requires value { value < 2 ^ width }
         requires room { length self.old + width ≤ 8 * N }
-        requires meter { meter.old + width < 2 ^ 62 }
+        requires meter { meter.old + width < step_limit }
         ensures { Puts (word width value) width self.old self.new meter.old meter.new }
     {
         self.put_long(value as u64, width, meter);
@@ -87,7 +88,7 @@ impl<const N: usize> BitSink<N> {
         requires width { width ≤ put_width }
         requires value { value < 2 ^ width }
         requires room { length self.old + width ≤ 8 * N }
-        requires meter { meter.old + width < 2 ^ 62 }
+        requires meter { meter.old + width < step_limit }
         ensures { Puts (word width value) width self.old self.new meter.old meter.new }
     {
         meter.tick(width as u64);
@@ -99,7 +100,7 @@ impl<const N: usize> BitSink<N> {
     pub fn put_words(&mut self, words: &[u32], width: u32, meter: &mut Meter)
         requires width { width ≤ 32 }
         requires room { length self.old + width * length words.now ≤ 8 * N }
-        requires meter { meter.old + width * length words.now < 2 ^ 62 }
+        requires meter { meter.old + width * length words.now < step_limit }
         ensures { Puts (flat_map (word width) words.now) (width * length words.now) self.old self.new meter.old meter.new }
     {
         meter.tick(width as u64 * words.len() as u64);
@@ -111,7 +112,7 @@ impl<const N: usize> BitSink<N> {
     #[inline]
     pub fn put_fs(&mut self, m: u64, meter: &mut Meter)
         requires room { length self.old + m + 1 ≤ 8 * N }
-        requires meter { meter.old + m + 1 < 2 ^ 62 }
+        requires meter { meter.old + m + 1 < step_limit }
         ensures { Puts (fundamental_sequence m) (m + 1) self.old self.new meter.old meter.new }
     {
         let count = m + 1;

@@ -1,11 +1,12 @@
 //! Reads the bits of what an intake gives.
 ghost use Rattle.std.specs.Prelude.{◌≡◌, ℕ, ◌+◌, ◌-◌, ◌*◌, ◌%◌, ◌^◌, ◌<◌, ◌≤◌, ◌&&◌, Bool, true, false, List, [], ◌++◌, length, replicate, All, drop, flat_map, take, IfOk, IfErr, OnOk, IfSome, IfNone, IsSome, Option, None};
 ghost use Rattle.std.specs.Io.KnownBytes.{Consumes};
+ghost use Rattle.rice_bits.specs.Limits.{step_limit, most_bits_read, most_bytes_read, most_at_once};
 ghost use Rattle.rice_bits.specs.Bits.{fundamental_sequence, bits_to_byte, word};
 ghost use Rattle.rice_bits.specs.lanes.Sequences.{BeginWithSequences};
 ghost use Rattle.rice_bits.specs.read.Reader.{Supplies, Refuses, is_blank, new_reader};
 ghost use Rattle.rice_bits.specs.read.Parts.{TakesParts};
-ghost use Rattle.rice_bits.specs.read.Window.{IsWindow, buffer_len, most_at_once, most_waiting, window_bits, window_passed, window_taken};
+ghost use Rattle.rice_bits.specs.read.Window.{IsWindow, buffer_len, most_waiting, window_bits, window_passed, window_taken};
 
 use crate::bits::digits::join;
 use crate::device::Intake;
@@ -57,10 +58,10 @@ fn ask<I: Intake>(
     blank: bool,
 ) -> Result<usize, BitFault>
     requires room { length buffer.old ≡ buffer_len }
-    requires given { given ≤ 2 ^ 49 }
+    requires given { given ≤ most_bytes_read }
     requires countable { I.failed intake.old + 1 < 2 ^ 64 }
     ensures some { IfOk result (λ n. (0 < n) × (n ≤ most_at_once)) }
-    ensures limit { IfOk result (λ n. given + n ≤ 2 ^ 49) }
+    ensures limit { IfOk result (λ n. given + n ≤ most_bytes_read) }
     ensures gave { IfOk result (λ n.
         Consumes (I.left intake.old) (I.left intake.new) (take n buffer.new)) }
     ensures failures { OnOk result (I.failed intake.new ≡ I.failed intake.old) }
@@ -182,7 +183,7 @@ impl<I: Intake> BitReader<I> {
     #[inline]
     pub fn taken(&self) -> u64
         ensures value { result ≡ self.now.taken }
-        ensures limit { result + length self.now.waiting ≤ 2 ^ 52 }
+        ensures limit { result + length self.now.waiting ≤ most_bits_read }
         // At most 4,096 bytes are asked for at a time.
         ensures waiting { length self.now.waiting ≤ most_waiting }
         ensures aligned { (result + length self.now.waiting) % 8 ≡ 0 }
@@ -209,7 +210,7 @@ impl<I: Intake> BitReader<I> {
     #[inline]
     pub fn take(&mut self, width: u32, meter: &mut Meter) -> Result<u32, BitFault>
         requires width { width ≤ 32 }
-        requires meter { meter.old + width < 2 ^ 62 }
+        requires meter { meter.old + width < step_limit }
         ensures ok { IfOk result (λ v. (v < 2 ^ width) × Takes self.old self.new (word width v)) }
         // A first refusal took all bits that were left, which were too few.
         ensures err { self.old.refusal ≡ None → IfErr result (λ f.
@@ -218,7 +219,7 @@ impl<I: Intake> BitReader<I> {
         ensures stopped { IfSome self.old.refusal (λ f. (result ≡ Err f) × (self.new ≡ self.old)) }
         ensures taken { OnOk result (self.new.taken ≡ self.old.taken + width) }
         ensures most { self.new.taken ≤ self.old.taken + width }
-        ensures limit { self.new.taken ≤ 2 ^ 52 }
+        ensures limit { self.new.taken ≤ most_bits_read }
         // The intake is not called where enough bits wait.
         ensures idle { width ≤ length self.old.waiting → self.new.intake ≡ self.old.intake }
         ensures steps { meter.new + self.old.taken ≡ meter.old + self.new.taken }
@@ -237,14 +238,14 @@ impl<I: Intake> BitReader<I> {
     #[inline]
     fn take_ready(&mut self, width: u32, meter: &mut Meter) -> Option<u32>
         requires width { width ≤ 32 }
-        requires meter { meter.old + width < 2 ^ 62 }
+        requires meter { meter.old + width < step_limit }
         ensures some { IfSome result (λ v. (v < 2 ^ width) ×
             Takes self.old self.new (word width v)) }
         ensures going { IsSome result → self.old.refusal ≡ None }
         ensures idle { self.new.intake ≡ self.old.intake }
         ensures none { IfNone result ((self.new ≡ self.old) × (meter.new ≡ meter.old)) }
         ensures steps { meter.new + self.old.taken ≡ meter.old + self.new.taken }
-        ensures limit { self.new.taken ≤ 2 ^ 52 }
+        ensures limit { self.new.taken ≤ most_bits_read }
     {
         let number = self.window.take_of_more(width)?;
         meter.tick(width as u64);
@@ -256,7 +257,7 @@ impl<I: Intake> BitReader<I> {
     #[inline(never)]
     fn take_across(&mut self, width: u32, meter: &mut Meter) -> u32
         requires width { width ≤ 32 }
-        requires meter { meter.old + width < 2 ^ 62 }
+        requires meter { meter.old + width < step_limit }
         ensures ok { self.new.refusal ≡ None → (result < 2 ^ width) ×
             Takes self.old self.new (word width result) }
         // A first refusal took all bits that were left, which were too few.
@@ -266,7 +267,7 @@ impl<I: Intake> BitReader<I> {
         ensures stopped { IsSome self.old.refusal → self.new ≡ self.old }
         ensures taken { self.new.refusal ≡ None → self.new.taken ≡ self.old.taken + width }
         ensures most { self.new.taken ≤ self.old.taken + width }
-        ensures limit { self.new.taken ≤ 2 ^ 52 }
+        ensures limit { self.new.taken ≤ most_bits_read }
         // The intake is not called where enough bits wait.
         ensures idle { width ≤ length self.old.waiting → self.new.intake ≡ self.old.intake }
         ensures steps { meter.new + self.old.taken ≡ meter.old + self.new.taken }
@@ -295,7 +296,7 @@ impl<I: Intake> BitReader<I> {
     /// An error says why there was no 1: [`BitFault`] has each case.
     #[inline]
     pub fn take_fs(&mut self, meter: &mut Meter) -> Result<u64, BitFault>
-        requires meter { meter.old + (2 ^ 52 - self.old.taken) < 2 ^ 62 }
+        requires meter { meter.old + (most_bits_read - self.old.taken) < step_limit }
         ensures ok { IfOk result (λ m. Takes self.old self.new (fundamental_sequence m)) }
         // A first refusal took all bits that were left, which were zeros.
         ensures err { self.old.refusal ≡ None → IfErr result (λ f.
@@ -303,7 +304,7 @@ impl<I: Intake> BitReader<I> {
         // A reader that has refused returns the same refusal, and takes nothing.
         ensures stopped { IfSome self.old.refusal (λ f. (result ≡ Err f) × (self.new ≡ self.old)) }
         ensures taken { IfOk result (λ m. self.new.taken ≡ self.old.taken + m + 1) }
-        ensures most { self.new.taken ≤ 2 ^ 52 }
+        ensures most { self.new.taken ≤ most_bits_read }
         // The intake is not called where a 1 waits.
         ensures idle { is_blank self.old.waiting ≡ false → self.new.intake ≡ self.old.intake }
         ensures steps { meter.new + self.old.taken ≡ meter.old + self.new.taken }
@@ -321,13 +322,13 @@ impl<I: Intake> BitReader<I> {
     /// Takes a fundamental sequence if its 1 comes soon.
     #[inline]
     fn take_fs_ready(&mut self, meter: &mut Meter) -> Option<u64>
-        requires meter { meter.old + (2 ^ 52 - self.old.taken) < 2 ^ 62 }
+        requires meter { meter.old + (most_bits_read - self.old.taken) < step_limit }
         ensures some { IfSome result (λ m. Takes self.old self.new (fundamental_sequence m)) }
         ensures going { IsSome result → self.old.refusal ≡ None }
         ensures idle { self.new.intake ≡ self.old.intake }
         ensures none { IfNone result ((self.new ≡ self.old) × (meter.new ≡ meter.old)) }
         ensures steps { meter.new + self.old.taken ≡ meter.old + self.new.taken }
-        ensures limit { self.new.taken ≤ 2 ^ 52 }
+        ensures limit { self.new.taken ≤ most_bits_read }
     {
         let count = self.window.sequence_ahead()?;
         // The meter first: after its store the place is moved by one addition in memory.
@@ -340,7 +341,7 @@ impl<I: Intake> BitReader<I> {
     /// nothing.
     #[inline(never)]
     fn take_fs_across(&mut self, meter: &mut Meter) -> u64
-        requires meter { meter.old + (2 ^ 52 - self.old.taken) < 2 ^ 62 }
+        requires meter { meter.old + (most_bits_read - self.old.taken) < step_limit }
         ensures ok { self.new.refusal ≡ None →
             Takes self.old self.new (fundamental_sequence result) }
         // A first refusal took all bits that were left, which were zeros.
@@ -349,7 +350,7 @@ impl<I: Intake> BitReader<I> {
         // A reader that has refused takes nothing.
         ensures stopped { IsSome self.old.refusal → self.new ≡ self.old }
         ensures taken { self.new.refusal ≡ None → self.new.taken ≡ self.old.taken + result + 1 }
-        ensures most { self.new.taken ≤ 2 ^ 52 }
+        ensures most { self.new.taken ≤ most_bits_read }
         // The intake is not called where a 1 waits.
         ensures idle { is_blank self.old.waiting ≡ false → self.new.intake ≡ self.old.intake }
         ensures steps { meter.new + self.old.taken ≡ meter.old + self.new.taken }
@@ -370,7 +371,7 @@ impl<I: Intake> BitReader<I> {
     /// Takes some zeros, or zeros and a 1. Returns the number of zeros, and whether there was a 1.
     fn take_run(&mut self, meter: &mut Meter) -> Result<(u64, bool), BitFault>
         requires going { self.old.refusal ≡ None }
-        requires meter { meter.old + (2 ^ 52 - self.old.taken) < 2 ^ 62 }
+        requires meter { meter.old + (most_bits_read - self.old.taken) < step_limit }
         ensures one { IfOk result (λ r. r.1 ≡ true →
             Takes self.old self.new (fundamental_sequence r.0)) }
         ensures zeros { IfOk result (λ r. r.1 ≡ false → (0 < r.0) ×
@@ -378,7 +379,7 @@ impl<I: Intake> BitReader<I> {
         ensures err { IfErr result (Stops self.old self.new []) }
         ensures idle { 0 < length self.old.waiting → self.new.intake ≡ self.old.intake }
         ensures steps { meter.new + self.old.taken ≡ meter.old + self.new.taken }
-        ensures limit { self.new.taken ≤ 2 ^ 52 }
+        ensures limit { self.new.taken ≤ most_bits_read }
     {
         if let Err(refusal) = supply(&mut self.intake, &mut self.window, &mut self.blank_before) {
             self.refusal = Some(refusal);
@@ -403,14 +404,14 @@ impl<I: Intake> BitReader<I> {
     pub fn take_waiting(&mut self, width: u32, words: &mut [u32], meter: &mut Meter) -> usize
         requires going { self.old.refusal ≡ None }
         requires width { width ≤ 32 }
-        requires meter { meter.old + (2 ^ 52 - self.old.taken) < 2 ^ 62 }
+        requires meter { meter.old + (most_bits_read - self.old.taken) < step_limit }
         ensures within { result ≤ length words.new }
         ensures fit { All (λ v. v < 2 ^ width) (take result words.new) }
         ensures rest { drop result words.new ≡ drop result words.old }
         ensures takes { Takes self.old self.new (flat_map (word width) (take result words.new)) }
         ensures idle { self.new.intake ≡ self.old.intake }
         ensures steps { meter.new + self.old.taken ≡ meter.old + self.new.taken }
-        ensures limit { self.new.taken ≤ 2 ^ 52 }
+        ensures limit { self.new.taken ≤ most_bits_read }
     {
         let before = self.window.len();
         let taken = self.window.take_words(width, words);
@@ -427,7 +428,7 @@ impl<I: Intake> BitReader<I> {
     #[inline(always)]
     pub fn take_waiting_fs(&mut self, zeros: &mut [u32], meter: &mut Meter) -> usize
         requires going { self.old.refusal ≡ None }
-        requires meter { meter.old + (2 ^ 52 - self.old.taken) < 2 ^ 62 }
+        requires meter { meter.old + (most_bits_read - self.old.taken) < step_limit }
         ensures within { result ≤ length zeros.new }
         ensures fit { All (λ m. m < 64) (take result zeros.new) }
         ensures rest { drop result zeros.new ≡ drop result zeros.old }
@@ -435,7 +436,7 @@ impl<I: Intake> BitReader<I> {
             (flat_map fundamental_sequence (take result zeros.new)) }
         ensures idle { self.new.intake ≡ self.old.intake }
         ensures steps { meter.new + self.old.taken ≡ meter.old + self.new.taken }
-        ensures limit { self.new.taken ≤ 2 ^ 52 }
+        ensures limit { self.new.taken ≤ most_bits_read }
     {
         let before = self.window.len();
         let taken = self.window.take_sequences(zeros);
@@ -455,12 +456,12 @@ impl<I: Intake> BitReader<I> {
         requires width { (1 ≤ width) × (width ≤ 7) }
         requires count { (length numbers.old + 1) % 8 ≤ 1 }
         requires few { length numbers.old ≤ 16 }
-        requires meter { meter.old + (2 ^ 52 - self.old.taken) < 2 ^ 62 }
+        requires meter { meter.old + (most_bits_read - self.old.taken) < step_limit }
         ensures takes { result ≡ true → TakesParts self.old self.new width numbers.new }
         ensures none { result ≡ false → (self.new ≡ self.old) × (meter.new ≡ meter.old) }
         ensures idle { self.new.intake ≡ self.old.intake }
         ensures steps { meter.new + self.old.taken ≡ meter.old + self.new.taken }
-        ensures limit { self.new.taken ≤ 2 ^ 52 }
+        ensures limit { self.new.taken ≤ most_bits_read }
     {
         let before = self.window.len();
         let taken = self.window.take_parts(width, numbers);
@@ -517,10 +518,10 @@ impl<I: Intake> BitReader<I> {
     pub fn pass(&mut self, count: usize, meter: &mut Meter)
         requires going { self.old.refusal ≡ None }
         requires there { count ≤ length self.old.waiting }
-        requires meter { meter.old + count < 2 ^ 62 }
+        requires meter { meter.old + count < step_limit }
         ensures takes { Takes self.old self.new (take count self.old.waiting) }
         ensures idle { self.new.intake ≡ self.old.intake }
-        ensures limit { self.new.taken ≤ 2 ^ 52 }
+        ensures limit { self.new.taken ≤ most_bits_read }
         ensures steps { meter.new ≡ meter.old + count }
     {
         meter.tick(count as u64);
@@ -530,7 +531,7 @@ impl<I: Intake> BitReader<I> {
     /// Takes the 0 to 7 bits up to the next multiple of 8 of [`taken`](Self::taken), whatever they are, and ticks
     /// once for each. These bits are always there. A 1 among them counts as no 1 since the mark.
     pub fn align(&mut self, meter: &mut Meter)
-        requires meter { meter.old + bits_to_byte self.old.taken < 2 ^ 62 }
+        requires meter { meter.old + bits_to_byte self.old.taken < step_limit }
         ensures bits { (bits : List Bool) × (length bits ≡ bits_to_byte self.old.taken) ×
             (self.old.waiting ≡ bits ++ self.new.waiting) }
         ensures rest { self.new ≡
@@ -554,13 +555,13 @@ impl<I: Intake> BitReader<I> {
         requires going { self.old.refusal ≡ None }
         requires some { 0 < most }
         requires width { most ≤ 32 }
-        requires meter { meter.old + most < 2 ^ 62 }
+        requires meter { meter.old + most < step_limit }
         ensures count { IfOk result (λ r. (0 < r.1) × (r.1 ≤ most) × (r.0 < 2 ^ r.1)) }
         ensures ok { IfOk result (λ r. Takes self.old self.new (word r.1 r.0)) }
         ensures err { IfErr result (Stops self.old self.new []) }
         ensures idle { 0 < length self.old.waiting → self.new.intake ≡ self.old.intake }
         ensures steps { meter.new + self.old.taken ≡ meter.old + self.new.taken }
-        ensures limit { self.new.taken ≤ 2 ^ 52 }
+        ensures limit { self.new.taken ≤ most_bits_read }
     {
         if let Err(fault) = supply(&mut self.intake, &mut self.window, &mut self.blank_before) {
             self.refusal = Some(fault);

@@ -1,9 +1,10 @@
 //! The bytes that an intake gave last, and a place among their bits.
 ghost use Rattle.std.specs.Prelude.{◌≡◌, ◌+◌, ◌-◌, ◌*◌, ◌/◌, ◌%◌, ◌^◌, ◌<◌, ◌≤◌, ◌&&◌, false, [], ◌++◌, min, true, replicate, flat_map, length, take, drop, All, IfSome, IfNone};
+ghost use Rattle.rice_bits.specs.Limits.{most_bytes_read, most_at_once};
 ghost use Rattle.rice_bits.specs.Bits.{bits_of, fundamental_sequence, word};
 ghost use Rattle.rice_bits.specs.lanes.Sequences.{BeginWithSequences};
 ghost use Rattle.rice_bits.specs.read.Reader.{is_blank};
-ghost use Rattle.rice_bits.specs.read.Window.{AreParted, buffer_len, most_at_once, most_waiting};
+ghost use Rattle.rice_bits.specs.read.Window.{AreParted, buffer_len, most_waiting};
 
 use crate::bits::digits::{digits_behind, front_digits};
 use crate::bits::octets::{bits_from, eight_bytes_from, load, store_zeros};
@@ -66,7 +67,7 @@ impl Window {
     pub fn hold(&mut self, count: usize)
         requires size { length self.old.buffer ≡ buffer_len }
         requires count { count ≤ most_at_once }
-        requires limit { self.old.given + count ≤ 2 ^ 49 }
+        requires limit { self.old.given + count ≤ most_bytes_read }
         ensures window { IsWindow self.new }
         ensures bits { window_bits self.new ≡ bits_of (take count self.old.buffer) }
         ensures passed { window_passed self.new ≡ [] }

@@ -4,6 +4,7 @@ use Rattle.rice_bits.specs.read.Reader.{Reader}
 use Rattle.rice_samples.specs.Parameters.{Parameters, value_at, value_count, values_at, width}
 use Rattle.rice_samples.specs.bytes.Spelling.{spellings}
 use Rattle.rice_samples.specs.predict.Near.{AreNearLevels}
+use Rattle.rice_code.specs.Limits.{most_samples_of_bit}
 use Rattle.rice_code.specs.code.CodedDataSets.{CodedDataSet, bits_of_set, turns}
 use Rattle.rice_code.specs.code.Forms.{IsForm, RunIsSound, ResidualsAreSound, blocks_in}
 use Rattle.rice_code.specs.decode.Decoder.{Answers, GivesBlock, with_mark}
@@ -67,4 +68,4 @@ pub record GivesBytes {I : Type 0} (old new : Reader I) (old_steps new_steps : �
   pub answers : Answers (with_mark old) new old_steps new_steps p q samples (Ok Block)
   pub spelled : take (width p.setting * length samples) bytes ≡ spellings p.setting samples
   -- the samples that are given and those that then wait are bounded by the bits
-  pub by_bits : length samples + q.run * q.setting.block ≤ 456 * (new.taken - old.taken)
+  pub by_bits : length samples + q.run * q.setting.block ≤ most_samples_of_bit * (new.taken - old.taken)

@@ -1,5 +1,6 @@
 -- What the pieces of a coded data set are read by.
 use Rattle.std.specs.Prelude.{◌≡◌, ℕ, suc, All, length, flat_map, sum, ◌+◌, ◌-◌, ◌*◌, ◌^◌, ◌<◌, ◌≤◌, Bool, true, false, List, [], ◌∷◌, ◌++◌}
+use Rattle.rice_bits.specs.Limits.{step_limit, most_bits_read}
 use Rattle.rice_bits.specs.Bits.{fundamental_sequence, word}
 use Rattle.rice_bits.specs.read.Reader.{Reader, Takes}
 use Rattle.rice_samples.specs.blocks.Pairs.{pair_codes}
@@ -12,13 +13,13 @@ ones (false ∷ bits) = ones bits
 
 -- A reader that took `taken` bits is within its limit, and a meter has room for the steps of all that may follow.
 pub record HasRoom (steps taken : ℕ) : Type 0 where
-  pub limit : taken ≤ 2 ^ 52
-  pub room : steps + 2 * (2 ^ 52 - taken) + 64 < 2 ^ 62
+  pub limit : taken ≤ most_bits_read
+  pub room : steps + 2 * (most_bits_read - taken) + 64 < step_limit
 
 -- the steps are at least the bits that were taken, and at most twice as many
 pub record AreCounted (old_steps new_steps old_taken new_taken : ℕ) : Type 0 where
   pub forward : old_taken ≤ new_taken
-  pub limit : new_taken ≤ 2 ^ 52
+  pub limit : new_taken ≤ most_bits_read
   pub least : old_steps + new_taken ≤ new_steps + old_taken
   pub most : new_steps + 2 * old_taken ≤ old_steps + 2 * new_taken
 

@@ -1,5 +1,6 @@
 -- Bits that are gathered before they are put into a sink, and what a put does.
 use Rattle.std.specs.Prelude.{◌≡◌, ℕ, ◌+◌, ◌^◌, ◌<◌, ◌≤◌, Bool, List, ◌++◌, length}
+use Rattle.rice_bits.specs.Limits.{step_limit}
 use Rattle.rice_bits.specs.Bits.{put_width}
 use Rattle.rice_samples.specs.Parameters.{Parameters}
 use Rattle.rice_code.specs.code.CodedDataSets.{CodedDataSet, bits_of_set, cost}
@@ -16,7 +17,7 @@ pub record IsShort (width value : ℕ) : Type 0 where
 -- after `bits` bits a sink has room for `count` more, and the meter for `ticks`
 pub record HasRoomFor (count ticks bits meter : ℕ) : Type 0 where
   pub room : bits + count ≤ sink_bits
-  pub steps : meter + ticks < 2 ^ 62
+  pub steps : meter + ticks < step_limit
 
 -- These bits, `count` of them, are added after those of the sink and those that are gathered. A bit that is gathered still counts as a
 -- step when it is put; `ticks` steps are counted in all.

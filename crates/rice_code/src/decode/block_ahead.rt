@@ -1,5 +1,6 @@
 //! Blocks of 8 to 64 samples of at most 16 bits, by a split, in one pass from bits to bytes.
-ghost use Rattle.std.specs.Prelude.{◌≡◌, ◌+◌, ◌*◌, ◌^◌, ◌<◌, ◌≤◌, IfSome, IfNone, None, length, take};
+ghost use Rattle.std.specs.Prelude.{◌≡◌, ◌+◌, ◌*◌, ◌<◌, ◌≤◌, IfSome, IfNone, None, length, take};
+ghost use Rattle.rice_bits.specs.Limits.{step_limit, most_bits_read};
 ghost use Rattle.rice_bits.specs.Bits.{word};
 ghost use Rattle.rice_bits.specs.read.Reader.{Takes};
 ghost use Rattle.rice_samples.specs.Parameters.{id_len, value_at, value_count};
@@ -133,9 +134,9 @@ fn spell_in_rows<I: Intake, const SIZE: usize, const WIDTH: usize>(
 pub fn take_ahead<I: Intake>(reader: &mut BitReader<I>, len: usize, meter: &mut Meter)
     requires going { reader.old.refusal ≡ None }
     requires there { len ≤ length reader.old.waiting }
-    requires meter { meter.old + len < 2 ^ 62 }
+    requires meter { meter.old + len < step_limit }
     ensures takes { Takes (with_mark reader.old) reader.new (take len reader.old.waiting) }
-    ensures limit { reader.new.taken ≤ 2 ^ 52 }
+    ensures limit { reader.new.taken ≤ most_bits_read }
     ensures steps { meter.new ≡ meter.old + len }
 {
     reader.mark();

@@ -1,8 +1,10 @@
 //! Decodes coded data sets, a block a call.
-ghost use Rattle.std.specs.Prelude.{◌≡◌, ◌≢◌, ◌⊎◌, ℕ, ◌+◌, ◌-◌, ◌*◌, ◌%◌, ◌^◌, ◌<◌, ◌≤◌, true, false, All, [], length, take, None, Option, Some, IfSome, IfNone, Ok, pos};
+ghost use Rattle.std.specs.Prelude.{◌≡◌, ◌≢◌, ◌⊎◌, ℕ, ◌+◌, ◌-◌, ◌*◌, ◌%◌, ◌<◌, ◌≤◌, true, false, All, [], length, take, None, Option, Some, IfSome, IfNone, Ok, pos};
+ghost use Rattle.rice_bits.specs.Limits.{step_limit, most_bits_read};
 ghost use Rattle.rice_samples.specs.Parameters.{id_len, value_at, value_count, values_at};
 ghost use Rattle.rice_samples.specs.Places.{blocks_left};
 ghost use Rattle.rice_bits.specs.Bits.{word};
+ghost use Rattle.rice_code.specs.Limits.{most_samples_of_bit};
 ghost use Rattle.rice_code.specs.code.Forms.{RunIsSound, blocks_in, zero_blocks};
 ghost use Rattle.rice_code.specs.decode.BlocksAhead.{GivesBytes, HasLanes};
 ghost use Rattle.rice_code.specs.decode.Fields.{AreCounted};
@@ -104,7 +106,7 @@ fn skip_padding<I: Intake>(
 )
     requires some { 0 < next }
     requires within { next ≤ setting.now.interval }
-    requires meter { meter.old + 7 < 2 ^ 62 }
+    requires meter { meter.old + 7 < step_limit }
     ensures skips { Skips reader.old reader.new (padding setting.now next reader.old.taken) }
     ensures steps { meter.new + reader.old.taken ≡ meter.old + reader.new.taken }
     ensures few { reader.new.taken ≡ reader.old.taken + padding setting.now next reader.old.taken }
@@ -270,7 +272,7 @@ impl Decoder {
         samples: &mut ArrayVec<i64, 64>,
     ) -> Result<Step, CodeFault>
         requires going { self.old.stopped ≡ None → reader.old.refusal ≡ None }
-        requires room { meter.old + 2 * (2 ^ 52 - reader.old.taken) + 64 < 2 ^ 62 }
+        requires room { meter.old + 2 * (most_bits_read - reader.old.taken) + 64 < step_limit }
         // A decoder that has stopped answers the same from then on.
         ensures stopped { IfSome self.old.stopped (λ a. (result ≡ a) × (samples.new.items ≡ []) ×
             (self.new ≡ self.old) × (reader.new ≡ reader.old) × (meter.new ≡ meter.old)) }
@@ -289,7 +291,7 @@ impl Decoder {
         ensures steps { AreCounted meter.old meter.new reader.old.taken reader.new.taken }
         // The samples that are given and those that then wait are bounded by the bits.
         ensures waiting { length samples.new.items + self.new.run * self.new.setting.block
-            ≤ self.old.run * self.old.setting.block + 456 * (reader.new.taken - reader.old.taken) }
+            ≤ self.old.run * self.old.setting.block + most_samples_of_bit * (reader.new.taken - reader.old.taken) }
     {
         let mut levels = ArrayVec::new();
         let answer = self.next_levels(reader, meter, &mut levels);
@@ -310,7 +312,7 @@ impl Decoder {
         requires lanes { HasLanes self.old.setting SIZE WIDTH }
         requires stopped { self.old.stopped ≡ None }
         requires going { reader.old.refusal ≡ None }
-        requires room { meter.old + 2 * (2 ^ 52 - reader.old.taken) + 64 < 2 ^ 62 }
+        requires room { meter.old + 2 * (most_bits_read - reader.old.taken) + 64 < step_limit }
         requires bytes { (32 ≤ length bytes.old) × (WIDTH * SIZE ≤ length bytes.old) }
         ensures some { result ≡ true → (self.old.run ≡ 0) ×
             GivesBytes reader.old reader.new meter.old meter.new self.old self.new bytes.new }
@@ -350,7 +352,7 @@ impl Decoder {
         requires id { word (id_len self.old.setting) (k + 1)
             ≡ take (id_len self.old.setting) reader.old.waiting }
         requires going { reader.old.refusal ≡ None }
-        requires room { meter.old + 2 * (2 ^ 52 - reader.old.taken) + 64 < 2 ^ 62 }
+        requires room { meter.old + 2 * (most_bits_read - reader.old.taken) + 64 < step_limit }
         requires bytes { (32 ≤ length bytes.old) × (WIDTH * SIZE ≤ length bytes.old) }
         ensures some { result ≡ true →
             GivesBytes reader.old reader.new meter.old meter.new self.old self.new bytes.new }
@@ -414,7 +416,7 @@ impl Decoder {
         requires run { self.old.run ≡ 0 }
         requires stopped { self.old.stopped ≡ None }
         requires going { reader.old.refusal ≡ None }
-        requires room { meter.old + 2 * (2 ^ 52 - reader.old.taken) + 64 < 2 ^ 62 }
+        requires room { meter.old + 2 * (most_bits_read - reader.old.taken) + 64 < step_limit }
         ensures gives { GivesRow count reader.old reader.new meter.old meter.new self.old self.new bytes.now }
         // It may be called again with this reader.
         ensures going { reader.new.refusal ≡ None }
@@ -445,7 +447,7 @@ impl Decoder {
         levels: &mut ArrayVec<u32, 64>,
     ) -> Result<Step, CodeFault>
         requires going { self.old.stopped ≡ None → reader.old.refusal ≡ None }
-        requires room { meter.old + 2 * (2 ^ 52 - reader.old.taken) + 64 < 2 ^ 62 }
+        requires room { meter.old + 2 * (most_bits_read - reader.old.taken) + 64 < step_limit }
         // A decoder that has stopped answers the same from then on.
         ensures stopped { IfSome self.old.stopped (λ a. (result ≡ a) × (levels.new.items ≡ []) ×
             (self.new ≡ self.old) × (reader.new ≡ reader.old) × (meter.new ≡ meter.old)) }
@@ -465,7 +467,7 @@ impl Decoder {
         ensures steps { AreCounted meter.old meter.new reader.old.taken reader.new.taken }
         // The samples that are given and those that then wait are bounded by the bits.
         ensures waiting { length levels.new.items + self.new.run * self.new.setting.block
-            ≤ self.old.run * self.old.setting.block + 456 * (reader.new.taken - reader.old.taken) }
+            ≤ self.old.run * self.old.setting.block + most_samples_of_bit * (reader.new.taken - reader.old.taken) }
     {
         let _taken = reader.taken();
         if let Some(answer) = self.stopped {
@@ -501,7 +503,7 @@ impl Decoder {
         requires stopped { self.old.stopped ≡ None }
         requires run { self.old.run ≡ 0 }
         requires going { reader.old.refusal ≡ None }
-        requires room { meter.old + 2 * (2 ^ 52 - reader.old.taken) + 64 < 2 ^ 62 }
+        requires room { meter.old + 2 * (most_bits_read - reader.old.taken) + 64 < step_limit }
         ensures reads { Answers (with_mark reader.old) reader.new meter.old meter.new
             self.old self.new (values_at self.old.setting levels.new.items) result }
         ensures legal { All (λ l. l < value_count self.old.setting) levels.new.items }
@@ -510,7 +512,7 @@ impl Decoder {
         ensures setting { self.new.setting ≡ self.old.setting }
         ensures steps { AreCounted meter.old meter.new reader.old.taken reader.new.taken }
         ensures waiting { length levels.new.items + self.new.run * self.new.setting.block
-            ≤ 456 * (reader.new.taken - reader.old.taken) }
+            ≤ most_samples_of_bit * (reader.new.taken - reader.old.taken) }
     {
         let _taken = reader.taken();
         reader.mark();
@@ -559,8 +561,8 @@ impl Decoder {
     ) -> Result<Step, CodeFault>
         requires last { last < value_count self.old.setting }
         requires run { 0 < run → run + 1 ≤ blocks_left self.old.setting self.old.block }
-        requires taken { reader.old.taken ≤ 2 ^ 52 }
-        requires meter { meter.old + 7 < 2 ^ 62 }
+        requires taken { reader.old.taken ≤ most_bits_read }
+        requires meter { meter.old + 7 < step_limit }
         ensures block { result ≡ Ok Block }
         ensures moves { self.new ≡ record self.old {
           block = next_block_place self.old.setting self.old.block;
@@ -572,7 +574,7 @@ impl Decoder {
         ensures steps { meter.new + reader.old.taken ≡ meter.old + reader.new.taken }
         ensures few { reader.new.taken ≡ reader.old.taken +
             padding self.old.setting (self.old.block + 1 + run) reader.old.taken }
-        ensures limit { reader.new.taken ≤ 2 ^ 52 }
+        ensures limit { reader.new.taken ≤ most_bits_read }
     {
         skip_padding(&self.setting, self.block + 1 + run as u64, reader, meter);
         self.run = run;

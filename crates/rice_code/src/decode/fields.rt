@@ -1,5 +1,6 @@
 //! Reads rows of words and of fundamental sequences.
 ghost use Rattle.std.specs.Prelude.{◌≡◌, ℕ, ◌+◌, ◌-◌, ◌*◌, ◌/◌, ◌^◌, ◌<◌, ◌≤◌, Bool, true, false, List, length, replicate, take, sum, All, None, IfOk, IfErr, OnOk};
+ghost use Rattle.rice_bits.specs.Limits.{most_bits_read};
 ghost use Rattle.rice_bits.specs.read.Reader.{Stops};
 ghost use Rattle.rice_samples.specs.blocks.Pairs.{pair_codes};
 ghost use Rattle.rice_code.specs.decode.Fields.{HasRoom, AreCounted, WordRow, CountRow, CountsRead, PairRow, PairsTaken, ones};
@@ -26,7 +27,7 @@ fn read_each_word<I: Intake>(
     ensures err { IfErr result (λ f. (bits : List Bool) × (length bits < length words.old * width) ×
         Stops reader.old reader.new bits f) }
     ensures steps { meter.new + reader.old.taken ≡ meter.old + reader.new.taken }
-    ensures limit { reader.new.taken ≤ 2 ^ 52 }
+    ensures limit { reader.new.taken ≤ most_bits_read }
 {
     for done in 0..words.len() {
         match reader.take(width, meter) {
@@ -52,7 +53,7 @@ pub fn read_words<I: Intake>(
     ensures err { IfErr result (λ f. (bits : List Bool) × (length bits < length words.old * width) ×
         Stops reader.old reader.new bits f) }
     ensures steps { meter.new + reader.old.taken ≡ meter.old + reader.new.taken }
-    ensures limit { reader.new.taken ≤ 2 ^ 52 }
+    ensures limit { reader.new.taken ≤ most_bits_read }
 {
     let some = reader.take_waiting(width, words, meter);
     if some == words.len() {
@@ -82,7 +83,7 @@ fn read_some_counts<I: Intake>(
         CountsRead reader.old reader.new most r.1 r.0 (take r.0 counts.new)) }
     ensures err { IfErr result (λ f. (m : ℕ) × Stops reader.old reader.new (replicate m false) f) }
     ensures steps { meter.new + reader.old.taken ≡ meter.old + reader.new.taken }
-    ensures limit { reader.new.taken ≤ 2 ^ 52 }
+    ensures limit { reader.new.taken ≤ most_bits_read }
 {
     let some = reader.take_waiting_fs(counts, meter);
     if some > 0 {
@@ -114,7 +115,7 @@ fn read_each_count<I: Intake>(
     ensures err { IfErr result (λ f. (bits : List Bool) × (ones bits < length counts.old) ×
         Stops reader.old reader.new bits f) }
     ensures steps { meter.new + reader.old.taken ≡ meter.old + reader.new.taken }
-    ensures limit { reader.new.taken ≤ 2 ^ 52 }
+    ensures limit { reader.new.taken ≤ most_bits_read }
 {
     let mut small = true;
     let mut done = 0;
@@ -147,7 +148,7 @@ pub fn read_counts<I: Intake>(
     ensures err { IfErr result (λ f. (bits : List Bool) × (ones bits < length counts.old) ×
         Stops reader.old reader.new bits f) }
     ensures steps { meter.new + reader.old.taken ≡ meter.old + reader.new.taken }
-    ensures limit { reader.new.taken ≤ 2 ^ 52 }
+    ensures limit { reader.new.taken ≤ most_bits_read }
 {
     let some = reader.take_waiting_fs(counts, meter);
     if some < counts.len() {

@@ -1,5 +1,6 @@
 //! Reads what follows an identifier: a block by each option, or a run.
 ghost use Rattle.std.specs.Prelude.{◌≡◌, ℕ, ◌+◌, ◌-◌, ◌/◌, ◌^◌, ◌<◌, ◌≤◌, Bool, true, List, ◌++◌, length, take, drop, Option, None, IfOk, IfErr};
+ghost use Rattle.rice_bits.specs.Limits.{most_bits_read};
 ghost use Rattle.rice_bits.specs.read.Reader.{Takes, Stops};
 ghost use Rattle.rice_samples.specs.Parameters.{k_max};
 ghost use Rattle.rice_samples.specs.Places.{is_reference};
@@ -51,7 +52,7 @@ pub fn read_reference<I: Intake>(
     ensures err { IfErr result (λ f. (bits : List Bool) × (is_reference setting.now block ≡ true) ×
         (length bits < setting.now.bits) × Stops reader.old reader.new bits f) }
     ensures steps { meter.new + reader.old.taken ≡ meter.old + reader.new.taken }
-    ensures limit { reader.new.taken ≤ 2 ^ 52 }
+    ensures limit { reader.new.taken ≤ most_bits_read }
 {
     if !setting.is_reference(block) {
         return Ok(None);
@@ -92,7 +93,7 @@ pub fn read_run<I: Intake>(
         × ((r : Option ℕ) (m : ℕ) (more : List Bool) → IsReference setting.now block r →
         bits ≡ run_tail setting.now r m ++ more → ⊥)) }
     ensures steps { meter.new + reader.old.taken ≡ meter.old + reader.new.taken }
-    ensures limit { reader.new.taken ≤ 2 ^ 52 }
+    ensures limit { reader.new.taken ≤ most_bits_read }
 {
     let reference = match read_reference(setting, block, reader, meter) {
         Ok(reference) => reference,
@@ -235,7 +236,7 @@ fn read_sent<I: Intake>(
     ensures stay { take first residuals.new ≡ take first residuals.old }
     ensures err { IfErr result (PartsCut reader.old reader.new k (length residuals.old - first)) }
     ensures steps { meter.new + reader.old.taken ≡ meter.old + reader.new.taken }
-    ensures limit { reader.new.taken ≤ 2 ^ 52 }
+    ensures limit { reader.new.taken ≤ most_bits_read }
 {
     // It is laid out for blocks with a reference and without.
     let size = residuals.len();

@@ -1,5 +1,6 @@
 //! The pairs of second extension.
-ghost use Rattle.std.specs.Prelude.{◌≡◌, ◌+◌, ◌-◌, ◌^◌, ◌<◌, ◌≤◌};
+ghost use Rattle.std.specs.Prelude.{◌≡◌, ◌+◌, ◌-◌, ◌<◌, ◌≤◌};
+ghost use Rattle.rice_bits.specs.Limits.{step_limit, most_bits_read};
 ghost use Rattle.rice_samples.specs.blocks.Pairs.{pair_code};
 
 use rice_bits::Meter;
@@ -86,8 +87,8 @@ pub fn pair_of_few(g: u32) -> (u32, u32)
 /// Returns the pair that the number `g` stands for. It counts the sum of the two up from 0, and ticks once for each
 /// turn.
 pub fn pair_of(g: u64, meter: &mut Meter) -> (u32, u32)
-    requires g { g ≤ 2 ^ 52 }
-    requires meter { meter.old + g < 2 ^ 62 }
+    requires g { g ≤ most_bits_read }
+    requires meter { meter.old + g < step_limit }
     ensures pair { pair_code result.0 result.1 ≡ g }
     ensures steps { meter.new ≡ meter.old + (result.0 + result.1) }
     ensures turns { result.0 + result.1 ≤ g }

@@ -1,5 +1,6 @@
 //! Reads the high and the low parts of residuals.
 ghost use Rattle.std.specs.Prelude.{◌≡◌, ◌+◌, ◌-◌, ◌*◌, ◌/◌, ◌^◌, ◌<◌, ◌≤◌, length, None, IfNone, IfSome, IfOk, IfErr};
+ghost use Rattle.rice_bits.specs.Limits.{most_bits_read};
 ghost use Rattle.rice_code.specs.decode.Fields.{HasRoom};
 ghost use Rattle.rice_code.specs.decode.ReadSets.{PartsRead, PartsCut};
 
@@ -28,7 +29,7 @@ pub fn read_parts<I: Intake>(
         PartsRead reader.old reader.new most k small (length residuals.old) residuals.new) }
     ensures err { IfErr result (PartsCut reader.old reader.new k (length residuals.old)) }
     ensures steps { meter.new + reader.old.taken ≡ meter.old + reader.new.taken }
-    ensures limit { reader.new.taken ≤ 2 ^ 52 }
+    ensures limit { reader.new.taken ≤ most_bits_read }
 {
     match take_parts(reader, meter, most, k, residuals) {
         Some(small) => Ok(small),
@@ -65,7 +66,7 @@ fn read_rows<I: Intake>(
         PartsRead reader.old reader.new most k small (length residuals.old) residuals.new) }
     ensures err { IfErr result (PartsCut reader.old reader.new k (length residuals.old)) }
     ensures steps { meter.new + reader.old.taken ≡ meter.old + reader.new.taken }
-    ensures limit { reader.new.taken ≤ 2 ^ 52 }
+    ensures limit { reader.new.taken ≤ most_bits_read }
 {
     // It is laid out for blocks of 8, with a reference and without, and of 16.
     match residuals.len() {
@@ -100,7 +101,7 @@ fn take_parts<I: Intake>(
         PartsRead reader.old reader.new most k small (length residuals.old) residuals.new) }
     ensures none { IfNone result ((reader.new ≡ reader.old) × (meter.new ≡ meter.old)) }
     ensures steps { meter.new + reader.old.taken ≡ meter.old + reader.new.taken }
-    ensures limit { reader.new.taken ≤ 2 ^ 52 }
+    ensures limit { reader.new.taken ≤ most_bits_read }
 {
     let count = residuals.len();
     if k < 1 || k > 7 || count > 16 || (count + 1) % 8 > 1 {
@@ -135,7 +136,7 @@ fn read_rows_of<I: Intake>(
         PartsRead reader.old reader.new most k small (length residuals.old) residuals.new) }
     ensures err { IfErr result (PartsCut reader.old reader.new k (length residuals.old)) }
     ensures steps { meter.new + reader.old.taken ≡ meter.old + reader.new.taken }
-    ensures limit { reader.new.taken ≤ 2 ^ 52 }
+    ensures limit { reader.new.taken ≤ most_bits_read }
 {
     if k == 0 {
         return read_counts(reader, meter, most, residuals);

@@ -1,5 +1,6 @@
 //! Coding the blocks of a segment, one by one.
-ghost use Rattle.std.specs.Prelude.{◌≡◌, ◌+◌, ◌-◌, ◌*◌, ◌^◌, ◌<◌, ◌≤◌, ◌++◌, true, false, length, Some, None, IfSome, if◌then◌else◌};
+ghost use Rattle.std.specs.Prelude.{◌≡◌, ◌+◌, ◌-◌, ◌*◌, ◌<◌, ◌≤◌, ◌++◌, true, false, length, Some, None, IfSome, if◌then◌else◌};
+ghost use Rattle.rice_bits.specs.Limits.{step_limit};
 ghost use Rattle.rice_samples.specs.Parameters.{k_max, value_count};
 ghost use Rattle.rice_samples.specs.Places.{begins_segment, blocks_left, place};
 ghost use Rattle.rice_code.specs.code.Blocks.{is_zero_block};
@@ -125,7 +126,7 @@ fn code_next<const SIZE: usize>(
     requires fits { IfSome reference (λ v. v < value_count setting.now) }
     requires size { 0 < SIZE → SIZE ≡ length block.residuals }
     requires sound { IsSoundData setting.now block }
-    requires look { meter.old + setting.now.block < 2 ^ 62 }
+    requires look { meter.old + setting.now.block < step_limit }
     requires room { is_zero_block block ≡ false →
         HasRoomFor (length (pending_bits setting.now false (reference_at reference first) run) +
         cost setting.now (shortest setting.now block))

@@ -1,5 +1,7 @@
 //! The coder, from samples to code.
-ghost use Rattle.std.specs.Prelude.{◌≡◌, ℕ, ◌+◌, ◌*◌, ◌^◌, ◌<◌, ◌≤◌, [], ◌∷◌, length, take, All, List, ℤ};
+ghost use Rattle.std.specs.Prelude.{◌≡◌, ℕ, ◌+◌, ◌*◌, ◌<◌, ◌≤◌, [], ◌∷◌, length, take, All, List, ℤ};
+ghost use Rattle.rice_bits.specs.Limits.{step_limit};
+ghost use Rattle.rice_samples.specs.Limits.{longest_segment};
 ghost use Rattle.rice_samples.specs.Parameters.{IsSample, value_count, values_at};
 ghost use Rattle.rice_samples.specs.Places.{cut};
 ghost use Rattle.rice_code.specs.Steps.{segment_steps};
@@ -62,7 +64,7 @@ impl<const N: usize> SizedCoder<N> {
 
     /// Returns a coder that has taken no samples, where there is room for each of its segments.
     pub fn begin(setting: Setting) -> Self
-        requires size { N ≤ 4096 }
+        requires size { N ≤ longest_segment }
         requires room { HoldsAnySegment N setting }
         ensures taken { HasTaken result [] }
         ensures setting { result.setting ≡ setting }
@@ -76,7 +78,7 @@ impl<const N: usize> SizedCoder<N> {
     /// Returns a coder that goes on after whole segments: its next segment begins at the place `start` of
     /// its interval, and the last sample before it is `previous`.
     pub fn resume(setting: Setting, start: u32, previous: i64) -> Self
-        requires size { N ≤ 4096 }
+        requires size { N ≤ longest_segment }
         requires room { HoldsAnySegment N setting }
         requires taken { (xs : List ℤ) × HasTaken (state_between setting start previous) xs }
         ensures { result ≡ state_between setting start previous }
@@ -118,7 +120,7 @@ impl<const N: usize> SizedCoder<N> {
     pub fn push(&mut self, x: i64, sink: &mut SegmentSink, meter: &mut Meter) -> u64
         requires sample { IsSample self.old.setting x }
         requires room { length sink.old ≤ 7 }
-        requires meter { meter.old + segment_steps self.old.setting < 2 ^ 62 }
+        requires meter { meter.old + segment_steps self.old.setting < step_limit }
         ensures { PushesSamples self.old self.new (x ∷
             []) sink.old sink.new result meter.old meter.new }
     {
@@ -140,7 +142,7 @@ impl<const N: usize> SizedCoder<N> {
     pub fn push_some(&mut self, levels: &[u32], sink: &mut SegmentSink, meter: &mut Meter) -> Pushed
         requires legal { All (λ l. l < value_count self.old.setting) levels.now }
         requires room { length sink.old ≤ 7 }
-        requires meter { meter.old + segment_steps self.old.setting < 2 ^ 62 }
+        requires meter { meter.old + segment_steps self.old.setting < step_limit }
         ensures taken { result.samples ≤ length levels.now }
         ensures some { 0 < length levels.now → 0 < result.samples }
         ensures pushes { PushesSamples self.old self.new
@@ -173,7 +175,7 @@ impl<const N: usize> SizedCoder<N> {
     /// the number of bits that were appended, padding aside.
     pub fn finish(self, sink: &mut SegmentSink, meter: &mut Meter) -> u64
         requires room { length sink.old ≤ 7 }
-        requires meter { meter.old + segment_steps self.setting < 2 ^ 62 }
+        requires meter { meter.old + segment_steps self.setting < step_limit }
         ensures { (xs : List ℤ) → HasTaken self.entry xs →
             AddsCode self.entry.setting (complete_samples self.entry.setting xs) xs
             sink.old sink.new result (fill_samples self.entry.setting xs) meter.old meter.new }
@@ -186,7 +188,7 @@ impl<const N: usize> SizedCoder<N> {
     /// is copied, residuals and all, and one that is borrowed is not.
     pub fn finish_reset(&mut self, sink: &mut SegmentSink, meter: &mut Meter) -> u64
         requires room { length sink.old ≤ 7 }
-        requires meter { meter.old + segment_steps self.old.setting < 2 ^ 62 }
+        requires meter { meter.old + segment_steps self.old.setting < step_limit }
         ensures adds { (xs : List ℤ) → HasTaken self.old xs →
             AddsCode self.old.setting (complete_samples self.old.setting xs) xs
             sink.old sink.new result (fill_samples self.old.setting xs) meter.old meter.new }

@@ -1,6 +1,7 @@
 //! What a block costs by each option, in bits, without its head: the identifier and the reference, which are as long by
 //! each option.
 ghost use Rattle.std.specs.Prelude.{◌≡◌, All, ◌+◌, ◌/◌, ◌^◌, ◌<◌, ◌≤◌, length, sum_by};
+ghost use Rattle.rice_bits.specs.Limits.{step_limit};
 ghost use Rattle.rice_samples.specs.Parameters.{k_max};
 ghost use Rattle.rice_code.specs.code.CodedDataSets.{NoCompression, SecondExtension, Split, sent_residuals, cost};
 ghost use Rattle.rice_code.specs.code.SoundBlocks.{IsSoundData};
@@ -33,7 +34,7 @@ pub fn second_extension_cost(
 ) -> u64
     requires sound { IsSoundData setting.now block.now }
     requires small { All (λ d. d < 2 ^ 12) block.now.residuals }
-    requires meter { meter.old + length block.now.residuals < 2 ^ 62 }
+    requires meter { meter.old + length block.now.residuals < step_limit }
     ensures value { result + head_len setting.now block.now ≡
         cost setting.now (SecondExtension block.now) }
     ensures steps { meter.new ≡ meter.old + setting.now.block }

@@ -1,6 +1,8 @@
 //! The segment that a coder fills.
-ghost use Rattle.std.specs.Prelude.{◌≡◌, ◌+◌, ◌-◌, ◌*◌, ◌/◌, ◌^◌, ◌<◌, ◌≤◌, ◌↔◌, ◌++◌, length, replicate, if◌then◌else◌, ◌==◌, ◌&&◌, Some, false, IsTrue, All};
+ghost use Rattle.std.specs.Prelude.{◌≡◌, ◌+◌, ◌-◌, ◌*◌, ◌/◌, ◌<◌, ◌≤◌, ◌↔◌, ◌++◌, length, replicate, if◌then◌else◌, ◌==◌, ◌&&◌, Some, false, IsTrue, All};
+ghost use Rattle.rice_bits.specs.Limits.{step_limit};
 ghost use Rattle.rice_bits.specs.Bits.{bits_to_byte};
+ghost use Rattle.rice_samples.specs.Limits.{longest_interval, longest_segment};
 ghost use Rattle.rice_samples.specs.Parameters.{IsLegal, IsSample, value_at, value_count, values_at};
 ghost use Rattle.rice_samples.specs.Places.{blocks_left};
 ghost use Rattle.rice_samples.specs.predict.Residuals.{pattern, rank};
@@ -46,7 +48,7 @@ impl<const N: usize> Model for OpenSegment<N> {
 impl<const N: usize> OpenSegment<N> {
     /// Returns the first segment, without residuals.
     pub fn new(setting: Setting) -> Self
-        requires size { N ≤ 4096 }
+        requires size { N ≤ longest_segment }
         requires room { HoldsAnySegment N setting }
         ensures { result ≡ empty_state setting }
     {
@@ -64,7 +66,7 @@ impl<const N: usize> OpenSegment<N> {
 
     /// Returns the segment that begins at the place `start` of its interval, after the sample `previous`, without residuals.
     pub fn resume(setting: Setting, start: u32, previous: i64) -> Self
-        requires size { N ≤ 4096 }
+        requires size { N ≤ longest_segment }
         requires room { HoldsAnySegment N setting }
         requires open { IsOpen (state_between setting start previous) (setting.block *
             blocks_left setting start) }
@@ -102,7 +104,7 @@ impl<const N: usize> OpenSegment<N> {
     #[inline]
     pub fn len(&self) -> usize
         ensures value { result ≡ length self.now.residuals }
-        ensures limit { result ≤ 4096 }
+        ensures limit { result ≤ longest_interval }
     {
         self.residuals.len()
     }
@@ -193,7 +195,7 @@ impl<const N: usize> OpenSegment<N> {
 
     /// Fills the last block by repeating the last sample, a step for each.
     pub fn fill(&mut self, meter: &mut Meter)
-        requires { meter.old + 64 < 2 ^ 62 }
+        requires { meter.old + 64 < step_limit }
         ensures value { self.new ≡
             state_with_fill self.old (fill_count self.old.setting (length self.old.residuals)) }
         ensures steps { meter.new ≡ meter.old +
@@ -212,7 +214,7 @@ impl<const N: usize> OpenSegment<N> {
     pub fn code(&self, sink: &mut SegmentSink, meter: &mut Meter) -> u64
         requires blocks { HoldsSoundBlocks self.now }
         requires room { length sink.old ≤ 7 }
-        requires meter { meter.old + coding_steps self.now.setting < 2 ^ 62 }
+        requires meter { meter.old + coding_steps self.now.setting < step_limit }
         ensures { CodesHeld self.now sink.old sink.new result meter.old meter.new }
     {
         let setting = &self.setting;
@@ -288,7 +290,7 @@ fn blocks_of(setting: &PreparedSetting, len: usize) -> usize
 /// Returns the number of residuals of a segment from its block at place `start` of the interval on.
 fn residuals_from(setting: &PreparedSetting, start: u32) -> usize
     ensures value { result ≡ setting.now.block * blocks_left setting.now start }
-    ensures limit { result ≤ 4096 }
+    ensures limit { result ≤ longest_interval }
     ensures legal { IsLegal setting.now }
 {
     (setting.block() * setting.blocks_left(start as u64)) as usize
@@ -296,7 +298,7 @@ fn residuals_from(setting: &PreparedSetting, start: u32) -> usize
 
 /// Returns the place of the first block after the segment that has a block at place `start`.
 fn next_start(setting: &PreparedSetting, start: u32) -> u32
-    requires { start ≤ 4096 }
+    requires { start ≤ longest_interval }
     ensures { result ≡ (if start +
         blocks_left setting.now start == setting.now.interval then 0 else start +
         blocks_left setting.now start) }
@@ -371,7 +373,7 @@ fn push_copies<const N: usize>(
     meter: &mut Meter,
 )
     requires room { length segment.old + count ≤ N }
-    requires meter { meter.old + count < 2 ^ 62 }
+    requires meter { meter.old + count < step_limit }
     ensures items { segment.new ≡ segment.old ++ replicate count residual }
     ensures steps { meter.new ≡ meter.old + count }
 {

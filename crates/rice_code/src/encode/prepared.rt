@@ -1,5 +1,6 @@
 //! A setting, with what the code of each block asks for.
 ghost use Rattle.std.specs.Prelude.{◌≡◌, ◌≤◌};
+ghost use Rattle.rice_samples.specs.Limits.{longest_interval};
 ghost use Rattle.rice_samples.specs.Parameters.{IsLegal, IsBlockSize, id_len, k_max};
 ghost use Rattle.rice_samples.specs.Places.{blocks_left};
 
@@ -113,7 +114,7 @@ impl PreparedSetting {
     #[inline]
     pub fn interval(&self) -> u32
         ensures value { result ≡ self.now.interval }
-        ensures range { (1 ≤ result) × (result ≤ 4096) }
+        ensures range { (1 ≤ result) × (result ≤ longest_interval) }
     {
         self.setting.interval()
     }

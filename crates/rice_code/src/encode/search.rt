@@ -1,5 +1,6 @@
 //! The search for the option that codes a block in the fewest bits.
 ghost use Rattle.std.specs.Prelude.{◌≡◌, All, ℕ, ◌+◌, ◌*◌, ◌/◌, ◌^◌, ◌<◌, ◌≤◌, min, sum_by};
+ghost use Rattle.rice_bits.specs.Limits.{step_limit};
 ghost use Rattle.rice_samples.specs.Parameters.{k_max};
 ghost use Rattle.rice_code.specs.code.CodedDataSets.{Split, cost};
 ghost use Rattle.rice_code.specs.code.Choice.{shortest, IsBestSplit, best_split};
@@ -23,7 +24,7 @@ pub enum Choice {
 #[inline(always)]
 pub fn best_split(setting: &PreparedSetting, block: &HeldBlock<'_>, meter: &mut Meter) -> (u32, u64)
     requires sound { IsSoundData setting.now block.now }
-    requires meter { meter.old + setting.now.block * (k_max setting.now + 1) < 2 ^ 62 }
+    requires meter { meter.old + setting.now.block * (k_max setting.now + 1) < step_limit }
     ensures best { IsBestSplit setting.now block.now result.0 }
     ensures named { best_split setting.now block.now ≡ result.0 }
     ensures value { result.1 + head_len setting.now block.now ≡
@@ -49,7 +50,7 @@ fn stop_of(
 ) -> (u32, u64)
     requires sound { IsSoundData setting.now block.now }
     requires price { price ≤ 64 }
-    requires meter { meter.old + setting.now.block * (k_max setting.now + 1) < 2 ^ 62 }
+    requires meter { meter.old + setting.now.block * (k_max setting.now + 1) < step_limit }
     ensures limit { result.0 ≤ k_max setting.now }
     ensures value { result.1 ≡ sum_by (λ d. d / 2 ^ result.0) block.now.residuals }
     ensures size { result.1 ≤ 2 ^ 38 }
@@ -73,7 +74,7 @@ fn stop_of(
 #[inline(always)]
 pub fn choose(setting: &PreparedSetting, block: &HeldBlock<'_>, meter: &mut Meter) -> (Choice, u64)
     requires sound { IsSoundData setting.now block.now }
-    requires meter { meter.old + setting.now.block * (k_max setting.now + 2) < 2 ^ 62 }
+    requires meter { meter.old + setting.now.block * (k_max setting.now + 2) < step_limit }
     ensures value { chosen_set result.0 block.now ≡ shortest setting.now block.now }
     ensures cost { result.1 + head_len setting.now block.now ≡
         cost setting.now (chosen_set result.0 block.now) }

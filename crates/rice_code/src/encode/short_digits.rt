@@ -1,5 +1,6 @@
 //! Writing the lowest digits of eight residuals at once, where they fit one put.
 ghost use Rattle.std.specs.Prelude.{◌≡◌, ◌+◌, ◌-◌, ◌*◌, ◌%◌, ◌^◌, ◌<◌, ◌≤◌, ◌++◌, length, slice_range, flat_map};
+ghost use Rattle.rice_bits.specs.Limits.{step_limit};
 ghost use Rattle.rice_bits.specs.Bits.{word};
 ghost use Rattle.rice_code.specs.encode.Parts.{HasRoomForEights, AddsEights};
 ghost use Rattle.rice_code.specs.encode.ShortDigits.{four_masks, four_weights};
@@ -86,7 +87,7 @@ fn digits_from(eight: u64, from: usize, width: u32) -> (u64, u32)
 fn eight_low(block: &Block<'_>, at: usize, width: u32, meter: &mut Meter) -> u64
     requires width { width ≤ 7 }
     requires inside { at + 7 < length block.now }
-    requires meter { meter.old + 8 < 2 ^ 62 }
+    requires meter { meter.old + 8 < step_limit }
     ensures fits { result < 2 ^ (8 * width) }
     ensures bits { word (8 * width) result ≡
         flat_map (word width) (slice_range block.now at (at + 8)) }

@@ -1,5 +1,6 @@
 //! Writing the fundamental sequences of 8 or 16 residuals at once, where they fit one put.
 ghost use Rattle.std.specs.Prelude.{◌≡◌, ◌+◌, ◌-◌, ◌/◌, ◌%◌, ◌^◌, ◌<◌, ◌≤◌, ◌++◌, Bool, List, length, drop, slice_index, slice_range, sum_by};
+ghost use Rattle.rice_bits.specs.Limits.{step_limit};
 ghost use Rattle.rice_code.specs.encode.BitBuffer.{HasRoomFor, HasRoomForBits, AddsBits};
 ghost use Rattle.rice_code.specs.encode.Ones.{Gathers, four_sequences, sequences_from};
 ghost use Rattle.rice_code.specs.encode.Parts.{HasRoomForOnes, AddsOnes};
@@ -190,7 +191,7 @@ fn put_sixteen_high(
 fn high_four(block: &Block<'_>, at: usize, k: u32, meter: &mut Meter) -> (u32, u32, u32, u32)
     requires split { k ≤ 29 }
     requires inside { at + 3 < length block.now }
-    requires meter { meter.old + 4 < 2 ^ 62 }
+    requires meter { meter.old + 4 < step_limit }
     ensures first { result.0 ≡ slice_index block.now at / 2 ^ k }
     ensures second { result.1 ≡ slice_index block.now (at + 1) / 2 ^ k }
     ensures third { result.2 ≡ slice_index block.now (at + 2) / 2 ^ k }

@@ -1,6 +1,7 @@
 //! Blocks of residuals, which are read only by calls that count their steps.
 ghost use Rattle.std.specs.Prelude.{◌≡◌, All, ℕ, ◌+◌, ◌-◌, ◌*◌, ◌/◌, ◌^◌, ◌==◌, ◌<◌, ◌≤◌, ◌++◌, drop, flat_map, min, length, slice_index, sum_by};
 ghost use Rattle.std.specs.List.{list_all};
+ghost use Rattle.rice_bits.specs.Limits.{step_limit};
 ghost use Rattle.rice_bits.specs.Bits.{word};
 ghost use Rattle.rice_samples.specs.blocks.Pairs.{pair_codes};
 ghost use Rattle.rice_samples.specs.Parameters.{IsBlockSize};
@@ -66,7 +67,7 @@ impl Block<'_> {
     /// Returns whether all residuals are 0.
     #[inline]
     pub fn is_zero(&self, meter: &mut Meter) -> bool
-        requires { meter.old + length self.now < 2 ^ 62 }
+        requires { meter.old + length self.now < step_limit }
         ensures value { result ≡ list_all (λ d. d == 0) self.now }
         ensures steps { meter.new ≡ meter.old + length self.now }
     {
@@ -77,7 +78,7 @@ impl Block<'_> {
     #[inline]
     pub fn sum_shifted(&self, k: u32, meter: &mut Meter) -> u64
         requires split { k ≤ 29 }
-        requires meter { meter.old + length self.now < 2 ^ 62 }
+        requires meter { meter.old + length self.now < step_limit }
         ensures value { result ≡ sum_by (λ d. d / 2 ^ k) self.now }
         ensures limit { result ≤ 2 ^ 38 }
         ensures steps { meter.new ≡ meter.old + length self.now }
@@ -94,7 +95,7 @@ impl Block<'_> {
     pub fn first_stop(&self, limit: u32, price: u64, meter: &mut Meter) -> (u32, u64)
         requires limit { limit ≤ 29 }
         requires price { price ≤ 64 }
-        requires meter { meter.old + length self.now * (limit + 1) < 2 ^ 62 }
+        requires meter { meter.old + length self.now * (limit + 1) < step_limit }
         ensures limit { result.0 ≤ limit }
         ensures value { result.1 ≡ sum_by (λ d. d / 2 ^ result.0) self.now }
         ensures size { result.1 ≤ 2 ^ 38 }
@@ -116,7 +117,7 @@ impl Block<'_> {
         requires small { All (λ d. d < 2 ^ 26) self.now }
         requires limit { limit ≤ 29 }
         requires price { price ≤ 64 }
-        requires meter { meter.old + length self.now * (limit + 1) < 2 ^ 62 }
+        requires meter { meter.old + length self.now * (limit + 1) < step_limit }
         ensures limit { result.0 ≤ limit }
         ensures value { result.1 ≡ sum_by (λ d. d / 2 ^ result.0) self.now }
         ensures size { result.1 < 2 ^ 32 }
@@ -136,7 +137,7 @@ impl Block<'_> {
     #[inline(always)]
     pub fn small_pair_sum(&self, meter: &mut Meter) -> u64
         requires small { All (λ d. d < 2 ^ 12) self.now }
-        requires meter { meter.old + length self.now < 2 ^ 62 }
+        requires meter { meter.old + length self.now < step_limit }
         ensures value { result ≡ sum_by (λ g. g + 1) (pair_codes self.now) }
         ensures limit { result ≤ 2 ^ 30 }
         ensures steps { meter.new ≡ meter.old + length self.now }
@@ -148,7 +149,7 @@ impl Block<'_> {
     /// Returns the number of bits of the codewords that second extension sends for the pairs of residuals.
     #[inline]
     pub fn pair_sum(&self, meter: &mut Meter) -> u128
-        requires { meter.old + length self.now < 2 ^ 62 }
+        requires { meter.old + length self.now < step_limit }
         ensures value { result ≡ sum_by (λ g. g + 1) (pair_codes self.now) }
         ensures limit { result ≤ 2 ^ 72 }
         ensures steps { meter.new ≡ meter.old + length self.now }
@@ -160,7 +161,7 @@ impl Block<'_> {
     #[inline]
     pub fn at(&self, i: usize, meter: &mut Meter) -> u32
         requires inside { i < length self.now }
-        requires meter { meter.old + 1 < 2 ^ 62 }
+        requires meter { meter.old + 1 < step_limit }
         ensures value { result ≡ slice_index self.now i }
         ensures steps { meter.new ≡ meter.old + 1 }
     {
@@ -173,7 +174,7 @@ impl Block<'_> {
     #[inline]
     pub fn four_at(&self, i: usize, meter: &mut Meter) -> (u32, u32, u32, u32)
         requires inside { i + 3 < length self.now }
-        requires meter { meter.old + 4 < 2 ^ 62 }
+        requires meter { meter.old + 4 < step_limit }
         ensures first { result.0 ≡ slice_index self.now i }
         ensures second { result.1 ≡ slice_index self.now (i + 1) }
         ensures third { result.2 ≡ slice_index self.now (i + 2) }
@@ -198,7 +199,7 @@ impl Block<'_> {
         requires width { width ≤ 32 }
         requires from { from ≤ length self.now }
         requires room { length sink.old + width * (length self.now - from) ≤ 8 * N }
-        requires meter { meter.old + (length self.now - from) + width * (length self.now - from) < 2 ^ 62 }
+        requires meter { meter.old + (length self.now - from) + width * (length self.now - from) < step_limit }
         ensures bits { sink.new ≡ sink.old ++ flat_map (word width) (drop from self.now) }
         ensures len { length sink.new ≡ length sink.old + width * (length self.now - from) }
         ensures steps { meter.new ≡ meter.old + (length self.now - from) + width * (length self.now - from) }
@@ -214,7 +215,7 @@ impl Block<'_> {
     fn tick_looks(&self, k: u32, limit: u32, meter: &mut Meter)
         requires limit { limit ≤ 29 }
         requires stop { k ≤ limit }
-        requires meter { meter.old + length self.now * (limit + 1) < 2 ^ 62 }
+        requires meter { meter.old + length self.now * (limit + 1) < step_limit }
         ensures { meter.new ≡ meter.old + length self.now * (min (k + 1) limit + 1) }
     {
         let items = self.items;
@@ -225,7 +226,7 @@ impl Block<'_> {
     /// All residuals, at a step each.
     #[inline]
     fn look(&self, meter: &mut Meter) -> &[u32]
-        requires { meter.old + length self.now < 2 ^ 62 }
+        requires { meter.old + length self.now < step_limit }
         ensures value { result.now ≡ self.now }
         ensures size { IsBlockSize (length result.now) }
         ensures steps { meter.new ≡ meter.old + length self.now }

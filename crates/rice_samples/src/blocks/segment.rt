@@ -1,5 +1,6 @@
 //! The residuals of a segment.
 ghost use Rattle.std.specs.Prelude.{◌≡◌, ℕ, ◌+◌, ◌*◌, ◌<◌, ◌≤◌, ◌↔◌, IsTrue, [], ◌∷◌, ◌++◌, All, length, map, slice_range};
+ghost use Rattle.rice_samples.specs.Limits.{longest_segment};
 ghost use Rattle.rice_samples.specs.Parameters.{value_count, values_at};
 ghost use Rattle.rice_samples.specs.predict.Residuals.{pattern, ranks_below};
 ghost use Rattle.rice_samples.specs.Parameters.{IsBlockSize};
@@ -24,12 +25,13 @@ pub type Segment = Residuals<CAPACITY>;
 
 impl<const N: usize> Model for Residuals<N> {
     ghost use Rattle.std.specs.Prelude.{ℕ, ◌≤◌, List, take};
+    ghost use Rattle.rice_samples.specs.Limits.{longest_segment};
 
     ghost Value = { List ℕ };
 
     ghost view = { λ s. take s.len s.items };
 
-    ghost invariant = { λ s. (s.len ≤ N) × (N ≤ 4096) };
+    ghost invariant = { λ s. (s.len ≤ N) × (N ≤ longest_segment) };
 }
 
 impl Residuals<4096> {
@@ -46,7 +48,7 @@ impl<const N: usize> Residuals<N> {
     /// Returns a row without residuals, with room for `N`.
     #[inline]
     pub fn empty() -> Self
-        requires { N ≤ 4096 }
+        requires { N ≤ longest_segment }
         ensures { result ≡ [] }
     {
         Residuals {
@@ -59,7 +61,7 @@ impl<const N: usize> Residuals<N> {
     #[inline]
     pub fn len(&self) -> usize
         ensures value { result ≡ length self.now }
-        ensures limit { result ≤ 4096 }
+        ensures limit { result ≤ longest_segment }
     {
         self.filled().len()
     }
@@ -76,7 +78,7 @@ impl<const N: usize> Residuals<N> {
     #[inline]
     fn filled(&self) -> &[u32]
         ensures value { result.now ≡ self.now }
-        ensures limit { length result.now ≤ 4096 }
+        ensures limit { length result.now ≤ longest_segment }
     {
         &self.items[..self.len]
     }

@@ -2,9 +2,9 @@
 use Rattle.std.proofs.Common.{◌+◌, ◌-◌, ◌*◌, inl, inr, ◌≡◌, ℕ, ◌<◌, ◌≤◌, length-append, Bool, List, [], ◌∷◌, ◌++◌, length, take, get_or, refl, sym, ◌∙◌, ap, arith, append_assoc, Option, Some, None}
 use Rattle.std.specs.Io.KnownBytes.{Consumes, Keeps}
 use Rattle.std.proofs.lemmas.List.{append-nil}
+use Rattle.rice_bits.specs.Limits.{most_at_once}
 use Rattle.rice_bits.specs.Bits.{bits_of}
 use Rattle.std.proofs.lemmas.Bool.{cases_lt}
-use Rattle.rice_bits.specs.read.Window.{most_at_once}
 use Rattle.rice_bits.specs.read.Reader.{Draws, Supplies}
 use Rattle.rice_bits.proofs.lemmas.bits.Bytes.{bits_of-nil, bits_of-append, length-bits_of}
 
