@@ -6,8 +6,8 @@ use Rattle.rice_samples.specs.Limits.{most_input}
 use Rattle.rice_samples.specs.Parameters.{Parameters, IsSample, width}
 use Rattle.rice_samples.specs.Places.{cut}
 use Rattle.rice_samples.specs.bytes.Spelling.{spellings, EndsSpelling, NoSpelling, TooFew}
-use Rattle.rice_code.specs.code.Code.{code_bits, output, early_output}
-use Rattle.rice_code.specs.encode.Coder.{HasTaken, complete_samples, complete_code}
+use Rattle.rice_code.specs.code.Code.{code_bits, output, early_output, complete_samples}
+use Rattle.rice_code.specs.encode.Coder.{HasTaken, complete_code}
 use Rattle.rice_code.specs.encode.OpenSegment.{state_between}
 use Rattle.rice_code.specs.Steps.{least_steps, most_steps}
 use Rattle.rice_stream.specs.Encodes.{ReportsTaken, ReportsAll}

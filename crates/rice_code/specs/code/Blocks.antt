@@ -1,5 +1,5 @@
 -- The blocks that samples make. (CCSDS 121.0-B-3, section 3: blocks of J samples.)
-use Rattle.std.specs.Prelude.{ℕ, zero, suc, ◌+◌, ◌*◌, ◌==◌, Bool, if◌then◌else◌, List, [], ◌∷◌, take, drop, length, replicate, slice_index_or, Option, Some, None, ℤ}
+use Rattle.std.specs.Prelude.{ℕ, zero, suc, ◌+◌, ◌-◌, ◌*◌, ◌%◌, ◌==◌, Bool, if◌then◌else◌, List, [], ◌∷◌, take, drop, length, replicate, slice_index_or, Option, Some, None, ℤ}
 use Rattle.std.specs.List.{list_all}
 use Rattle.rice_samples.specs.Parameters.{Parameters}
 use Rattle.rice_samples.specs.Places.{is_reference, block_count}
@@ -25,6 +25,14 @@ blocks_from s b p (suc count) xs = block_data s b p (take s.block xs) ∷ blocks
 -- the blocks of all these samples, from block b on, after p
 abbrev pub blocks_of : Parameters → ℕ → ℤ → List ℤ → List BlockData
 blocks_of s b p xs = blocks_from s b p (block_count s (length xs)) (filled_samples s p xs)
+
+-- how many samples fill the last block, after n samples
+abbrev pub fill_count : Parameters → ℕ → ℕ
+fill_count s n = (s.block - n % s.block) % s.block
+
+-- and after these
+abbrev pub fill_samples : Parameters → List ℤ → ℕ
+fill_samples s xs = fill_count s (length xs)
 
 -- all its residuals are 0, that at the reference place included
 abbrev pub is_zero_block : BlockData → Bool

@@ -48,6 +48,10 @@ code_bits s xs = bits_from s 0 (pos 0) xs
 abbrev pub output : Parameters → List ℤ → List ℕ
 output s xs = whole_bytes (padded_bits (code s xs))
 
--- the bytes that stand whole once all whole segments are coded
+-- the samples of whole segments,
+abbrev pub complete_samples : Parameters → List ℤ → List ℤ
+complete_samples s xs = take (cut s (length xs)) xs
+
+-- and the bytes that stand whole once these are coded
 abbrev pub early_output : Parameters → List ℤ → List ℕ
 early_output s xs = whole_bytes (code s (take (cut s (length xs)) xs))

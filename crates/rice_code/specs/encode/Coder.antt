@@ -1,12 +1,12 @@
 -- Which samples a coder has taken, and the code that each call appends.
-use Rattle.std.specs.Prelude.{◌≡◌, ℕ, ◌+◌, ◌*◌, ◌%◌, ◌<◌, ◌≤◌, Bool, true, if◌then◌else◌, List, [], ◌∷◌, ◌++◌, length, take, Option, Some, None, ℤ, pos}
+use Rattle.std.specs.Prelude.{◌≡◌, ℕ, ◌+◌, ◌*◌, ◌%◌, ◌<◌, ◌≤◌, Bool, true, if◌then◌else◌, List, [], ◌∷◌, ◌++◌, length, Option, Some, None, ℤ, pos}
 use Rattle.std.specs.List.{AllByRecursion}
 use Rattle.rice_samples.specs.Parameters.{Parameters, IsLegal, IsSample}
-use Rattle.rice_samples.specs.Places.{place, begins_segment, is_reference, blocks_left, cut}
+use Rattle.rice_samples.specs.Places.{place, begins_segment, is_reference, blocks_left}
 use Rattle.rice_samples.specs.predict.Residuals.{pattern, residuals, last_of}
-use Rattle.rice_code.specs.code.Code.{code, code_bits}
+use Rattle.rice_code.specs.code.Code.{code, code_bits, complete_samples}
 use Rattle.rice_code.specs.Steps.{least_steps, most_steps}
-use Rattle.rice_code.specs.encode.OpenSegment.{CoderState, fill_count}
+use Rattle.rice_code.specs.encode.OpenSegment.{CoderState}
 
 -- the reference of block b, which has these samples
 abbrev pub reference_in : Parameters → ℕ → List ℤ → Option ℕ
@@ -39,10 +39,7 @@ pub record IsCoder (coder : CoderState) : Type 0 where
   pub samples : List ℤ
   pub taken : HasTaken coder samples
 
--- the samples of whole segments, and their code
-abbrev pub complete_samples : Parameters → List ℤ → List ℤ
-complete_samples s xs = take (cut s (length xs)) xs
-
+-- the code of whole segments
 abbrev pub complete_code : Parameters → List ℤ → List Bool
 complete_code s xs = code s (complete_samples s xs)
 
@@ -81,7 +78,3 @@ CompletesNone coder ys = (xs : List ℤ) → HasTaken coder xs → complete_samp
 -- the last of them completes one
 abbrev pub CompletesAll : CoderState → List ℤ → Type 0
 CompletesAll coder ys = (xs : List ℤ) → HasTaken coder xs → complete_samples coder.setting (xs ++ ys) ≡ xs ++ ys
-
--- the samples that fill the last block of all
-abbrev pub fill_samples : Parameters → List ℤ → ℕ
-fill_samples s xs = fill_count s (length xs)

@@ -87,10 +87,6 @@ state_with_later coder p xs = record { setting = coder.setting; residuals = code
 abbrev pub state_with_fill : CoderState → ℕ → CoderState
 state_with_fill coder n = record { setting = coder.setting; residuals = coder.residuals ++ replicate n (next_residual coder coder.previous); reference = coder.reference; previous = coder.previous; start = coder.start }
 
--- the samples that fill the last block, after n samples
-abbrev pub fill_count : Parameters → ℕ → ℕ
-fill_count s n = (s.block - n % s.block) % s.block
-
 -- what it holds after a whole segment
 abbrev pub next_start : CoderState → ℕ
 next_start coder = let next = coder.start + blocks_left coder.setting coder.start in if next == coder.setting.interval then 0 else next

@@ -60,7 +60,9 @@ impl SizedCoder<4096> {
 
 impl<const N: usize> SizedCoder<N> {
     ghost use Rattle.rice_code.specs.encode.OpenSegment.{HoldsAnySegment, state_between};
-    ghost use Rattle.rice_code.specs.encode.Coder.{HasTaken, AddsCode, PushesSamples, CompletesNone, CompletesAll, fill_samples, complete_samples};
+    ghost use Rattle.rice_code.specs.code.Code.{complete_samples};
+    ghost use Rattle.rice_code.specs.code.Blocks.{fill_samples};
+    ghost use Rattle.rice_code.specs.encode.Coder.{HasTaken, AddsCode, PushesSamples, CompletesNone, CompletesAll};
 
     /// Returns a coder that has taken no samples, where there is room for each of its segments.
     pub fn begin(setting: Setting) -> Self

@@ -7,7 +7,8 @@ ghost use Rattle.rice_samples.specs.Parameters.{IsLegal, IsSample, value_at, val
 ghost use Rattle.rice_samples.specs.Places.{blocks_left};
 ghost use Rattle.rice_samples.specs.predict.Residuals.{pattern, rank};
 ghost use Rattle.rice_code.specs.Steps.{coding_steps};
-ghost use Rattle.rice_code.specs.encode.OpenSegment.{IsOpen, IsWhole, HoldsAnySegment, empty_state, state_between, state_after, state_after_all, state_with_later, later_residuals, state_with_fill, fill_count, state_after_segment, HoldsSoundBlocks, CodesHeld, is_first};
+ghost use Rattle.rice_code.specs.code.Blocks.{fill_count};
+ghost use Rattle.rice_code.specs.encode.OpenSegment.{IsOpen, IsWhole, HoldsAnySegment, empty_state, state_between, state_after, state_after_all, state_with_later, later_residuals, state_with_fill, state_after_segment, HoldsSoundBlocks, CodesHeld, is_first};
 
 use crate::encode::SegmentSink;
 use crate::encode::blocks::code_blocks;

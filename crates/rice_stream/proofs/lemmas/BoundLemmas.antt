@@ -13,8 +13,9 @@ use Rattle.rice_samples.specs.Places.{block_count}
 use Rattle.rice_samples.specs.predict.Residuals.{last_of}
 use Rattle.rice_samples.proofs.lemmas.setting.Levels.{zero_is_sample}
 use Rattle.rice_code.specs.Bounds.{block_bound, bit_bound, step_bound, amortised_step_bound}
-use Rattle.rice_code.specs.code.Code.{code_bits}
-use Rattle.rice_code.specs.encode.Coder.{HasTaken, complete_samples, fill_samples}
+use Rattle.rice_code.specs.code.Code.{code_bits, complete_samples}
+use Rattle.rice_code.specs.code.Blocks.{fill_samples}
+use Rattle.rice_code.specs.encode.Coder.{HasTaken}
 use Rattle.rice_code.specs.encode.OpenSegment.{CoderState}
 use Rattle.rice_code.specs.Steps.{most_steps}
 use Rattle.rice_code.proofs.lemmas.encode.PushedCode.{complete_are_coded}

@@ -13,8 +13,7 @@ use Rattle.rice_samples.specs.bytes.Spelling.{Spells, spellings, AtEnd, NoSpelli
 use Rattle.rice_stream.specs.Calls.{Call, Happens, Fails, PassesLimit, StopsBetween}
 use Rattle.rice_stream.specs.EncodingState.{Beginning, afresh, CountsSamples, WritesRest, Reads, EncodingProgress, TakesAll, MeetsNoSpelling, MeetsFailure, Pushes, PushFails, Refills}
 use Rattle.rice_stream.specs.Encodes.{Encodes, EndsEncoding, EncodesWithin, ReportsTaken, ReportsAll, LeavesEarly, SpellsSoFar}
-use Rattle.rice_code.specs.code.Code.{code_bits, output, early_output}
-use Rattle.rice_code.specs.encode.Coder.{complete_samples}
+use Rattle.rice_code.specs.code.Code.{code_bits, output, early_output, complete_samples}
 use Rattle.rice_stream.specs.declared.encoding.Encoding.{Encoding}
 use Rattle.rice_stream.specs.declared.outcome.Report.{Report}
 use Rattle.rice_stream.specs.declared.outcome.Fault.{Fault}

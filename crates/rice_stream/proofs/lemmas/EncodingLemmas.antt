@@ -3,8 +3,8 @@ use Rattle.std.proofs.Common.{◌≡◌, ℕ, ◌+◌, ◌-◌, ◌*◌, ◌<◌
 use Rattle.std.specs.Prelude.{All, sum_by}
 use Rattle.std.specs.Int.{div_ceil}
 use Rattle.rice_code.specs.code.CodedDataSets.{bits_of_set}
-use Rattle.rice_code.specs.code.Blocks.{blocks_from}
-use Rattle.rice_code.specs.code.Code.{data_sets}
+use Rattle.rice_code.specs.code.Blocks.{blocks_from, fill_samples}
+use Rattle.rice_code.specs.code.Code.{data_sets, complete_samples}
 use Rattle.rice_code.specs.code.Layout.{layout}
 use Rattle.rice_bits.specs.device.Outlet.{Room, Appends}
 use Rattle.rice_bits.proofs.lemmas.device.OutletLemmas.{Appends-nil, Appends-trans}
@@ -14,7 +14,7 @@ use Rattle.rice_samples.specs.Parameters.{Parameters, IsSample, width}
 use Rattle.rice_samples.specs.Places.{block_count, cut}
 use Rattle.rice_samples.specs.predict.Residuals.{filled_samples}
 use Rattle.rice_samples.specs.bytes.Spelling.{spellings}
-use Rattle.rice_code.specs.encode.Coder.{HasTaken, IsAlignedWith, AddsCode, PushesSamples, CompletesNone, complete_samples, complete_code, fill_samples}
+use Rattle.rice_code.specs.encode.Coder.{HasTaken, IsAlignedWith, AddsCode, PushesSamples, CompletesNone, complete_code}
 use Rattle.rice_code.specs.encode.OpenSegment.{CoderState}
 use Rattle.rice_code.specs.code.Code.{code, code_bits, early_output}
 use Rattle.rice_code.specs.Steps.{least_looks, most_looks, least_looks_at, most_looks_at, least_steps, most_steps, segment_steps}

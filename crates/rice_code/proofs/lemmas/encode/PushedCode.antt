@@ -15,10 +15,10 @@ use Rattle.rice_samples.specs.predict.Residuals.{last_of, filled_samples}
 use Rattle.rice_samples.proofs.lemmas.setting.PlaceLemmas.{some_left}
 use Rattle.rice_samples.proofs.lemmas.predict.ResidualLemmas.{length-residuals}
 use Rattle.rice_samples.proofs.lemmas.setting.Levels.{zero_is_sample}
-use Rattle.rice_code.specs.code.Blocks.{BlockData, blocks_from, blocks_of}
-use Rattle.rice_code.specs.code.Code.{code, code_bits, data_sets}
-use Rattle.rice_code.specs.encode.Coder.{reference_in, HasCodedBefore, HasTaken, IsCoder, AddsCode, complete_samples, fill_samples}
-use Rattle.rice_code.specs.encode.OpenSegment.{CoderState, IsOpen, IsWhole, state_between, empty_state, state_after, state_with_fill, fill_count, state_after_segment, next_start, blocks_held, contents_held, sets_held, code_held, bits_held, HoldsSoundBlocks, CodesHeld, is_empty}
+use Rattle.rice_code.specs.code.Blocks.{BlockData, blocks_from, blocks_of, fill_samples, fill_count}
+use Rattle.rice_code.specs.code.Code.{code, code_bits, data_sets, complete_samples}
+use Rattle.rice_code.specs.encode.Coder.{reference_in, HasCodedBefore, HasTaken, IsCoder, AddsCode}
+use Rattle.rice_code.specs.encode.OpenSegment.{CoderState, IsOpen, IsWhole, state_between, empty_state, state_after, state_with_fill, state_after_segment, next_start, blocks_held, contents_held, sets_held, code_held, bits_held, HoldsSoundBlocks, CodesHeld, is_empty}
 use Rattle.rice_code.specs.code.CodedDataSets.{CodedDataSet, bits_of_set}
 use Rattle.rice_code.specs.encode.HeldBlocks.{held_blocks}
 use Rattle.rice_code.specs.code.SoundBlocks.{AreSoundBlocks}

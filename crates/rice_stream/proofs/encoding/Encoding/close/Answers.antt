@@ -1,7 +1,8 @@
 use Rattle.std.proofs.Common.{arith, rules, ◌≡◌, ◌+◌, refl, sym, subst}
 use Rattle.rice_samples.specs.Parameters.{Parameters}
-use Rattle.rice_code.specs.code.Code.{code_bits}
-use Rattle.rice_code.specs.encode.Coder.{AddsCode, complete_samples, fill_samples}
+use Rattle.rice_code.specs.code.Code.{code_bits, complete_samples}
+use Rattle.rice_code.specs.code.Blocks.{fill_samples}
+use Rattle.rice_code.specs.encode.Coder.{AddsCode}
 use Rattle.rice_stream.specs.declared.outcome.Report.{Report}
 use Rattle.rice_stream.proofs.lemmas.EncodingLemmas.{all_small, counts_small, sink_short, closed}
 use Rattle.rice_stream.proofs.encoding.Encoding.close.Goals as goal
