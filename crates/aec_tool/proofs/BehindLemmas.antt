@@ -12,7 +12,7 @@ use Rattle.rice_bits.proofs.lemmas.bits.Bytes.{length-bits_of}
 use Rattle.rice_bits.proofs.lemmas.bits.EightBytes.{split-bytes}
 use Rattle.rice_bits.proofs.lemmas.bits.Words.{length-word}
 use Rattle.rice_bits.proofs.lemmas.read.Blank.{blank-zeros}
-use Rattle.rice_stream.specs.Pulling.{ahead, known}
+use Rattle.rice_stream.specs.Pulling.{ahead, bytes_told}
 use Rattle.rice_stream.specs.declared.outcome.Fault.{Fault}
 use Rattle.rice_stream.specs.declared.outcome.Fault.TheVariants.{Read, TooLong}
 use Rattle.rice_stream.proofs.lemmas.PullingLemmas.{all_drawn, draws_ahead}
@@ -120,7 +120,7 @@ module _ {I : Type 0} (intake : I) (left : Option (List ℕ)) (failed k : ℕ) w
   pub no_one : (failures : I → ℕ) (v m : ℕ) (r new : Reader I) (fault : BitFault) (result : Result Bool Fault) → Takes (new_reader intake left failed) r (word k v) → Stops r new (replicate m false) fault → StoppedBy failures new.failed fault result → LooksBehind failures failed left k result
   no_one failures v m r new fault result takes stops by = explained failures new.failed fault result by (why fault stops)
     where
-      one_more : (middle left_new : Option (List ℕ)) (byte : ℕ) → IsSome middle → Consumes middle left_new (byte ∷ []) → 0 < length (known middle)
+      one_more : (middle left_new : Option (List ℕ)) (byte : ℕ) → IsSome middle → Consumes middle left_new (byte ∷ []) → 0 < length (bytes_told middle)
       one_more None new byte told c = absurd (let bad : false ≡ true = told in cc)
       one_more (Some xs) None byte told c = absurd c
       one_more (Some xs) (Some ys) byte told c = omega (arith, ap length c)
@@ -135,8 +135,8 @@ module _ {I : Type 0} (intake : I) (left : Option (List ℕ)) (failed k : ℕ) w
           let few = taken_few bytes v r e takes in
           let drawn = draws_ahead r.left stops.middle r.waiting [] (replicate m false) few.0 stops.draws in
           let last = one_more stops.middle new.left stops.refuses.0.0 drawn.0 stops.refuses.0.1 in
-          let size : length (drop k (bits_of bytes)) ≡ length (replicate m false) + length (bits_of (known stops.middle)) = ap length (sym few.1 ∙ drawn.1) ∙ length-append (replicate m false) (bits_of (known stops.middle)) in
-          omega (arith, size, length-drop k (bits_of bytes), length-bits_of bytes, length-bits_of (known stops.middle), last, stops.refuses.2, stops.taken, takes.taken, length-word k v)
+          let size : length (drop k (bits_of bytes)) ≡ length (replicate m false) + length (bits_of (bytes_told stops.middle)) = ap length (sym few.1 ∙ drawn.1) ∙ length-append (replicate m false) (bits_of (bytes_told stops.middle)) in
+          omega (arith, size, length-drop k (bits_of bytes), length-bits_of bytes, length-bits_of (bytes_told stops.middle), last, stops.refuses.2, stops.taken, takes.taken, length-word k v)
 
 -- A look at what is behind whole bytes is one at all.
 pub looks_all : {I : Type 0} (failures : I → ℕ) (before : ℕ) (left rest : Option (List ℕ)) (k few bits : ℕ) (result : Result Bool Fault) → bits ≡ 8 * k + few → ((bytes : List ℕ) → left ≡ Some bytes → rest ≡ Some (drop k bytes))

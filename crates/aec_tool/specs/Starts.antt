@@ -20,7 +20,7 @@ pub record Explains (k : ErrorKind) (o after : Outside) (status : ℕ) : Type 0 
   pub mistake : k ≢ kind.OutOfMemory → k ≢ kind.DisplayHelp → k ≢ kind.DisplayVersion → status ≡ 2
 
 -- a plan that can't be is told with status 2
-pub record Refuses (fault : PlanFault) (o after : Outside) (status : ℕ) : Type 0 where
+pub record RefusesPlan (fault : PlanFault) (o after : Outside) (status : ℕ) : Type 0 where
   pub outside : after ≡ saying o (Refused fault)
   pub status_is : status ≡ 2
 
@@ -28,7 +28,7 @@ module _ {Source Dest : Type 0} (left : Source → Option (List ℕ)) (reads : S
   -- what came of the plan that the parsed words ask for
   abbrev pub Follows : Result PlanView PlanFault → Outside → Outside → ℕ → Type 0
   Follows (Ok plan) o after status = Performs left reads taken writes plan o after status
-  Follows (Err fault) o after status = Refuses fault o after status
+  Follows (Err fault) o after status = RefusesPlan fault o after status
 
   -- The words were parsed, and their plan was followed; or they were not, and the parser said why.
   abbrev pub Starts : List Text → Outside → Outside → ℕ → Type 0

@@ -10,14 +10,14 @@ use Rattle.rice_stream.specs.declared.outcome.Fault.{Fault}
 use Rattle.rice_stream.specs.declared.outcome.Fault.TheVariants.{Read, Write}
 use Rattle.rice_c.specs.declared.report.RiceReport.{RiceReport}
 use Rattle.rice_c.specs.Reports.{report_of, empty_report}
-use Rattle.rice_c.specs.Statuses.{number_of, refusal_status, fault_status, fault_place}
+use Rattle.rice_c.specs.Statuses.{status_number, refusal_status, fault_status, fault_place}
 
 -- These bytes stand at the front of a memory, and those after them are as they were.
 abbrev pub StandsInFront : List ℕ → List ℕ → List ℕ → Type 0
 StandsInFront bytes old new = new ≡ bytes ++ drop (length bytes) old
 
 -- A call took its bytes from `input`, and wrote its bytes at the front of the output. It stopped with this fault, or with none.
-pub record Passes (input old new : List ℕ) (c : Call) (fault : Option Fault) : Type 0 where
+pub record UsesMemory (input old new : List ℕ) (c : Call) (fault : Option Fault) : Type 0 where
   pub left : List ℕ
   pub gave : Consumes (Some input) (Some left) c.given
   pub left_is : c.left ≡ Some left
@@ -28,8 +28,8 @@ pub record Passes (input old new : List ℕ) (c : Call) (fault : Option Fault) :
   pub full : fault ≡ Some Write → length c.written ≡ length old
 
 -- The status and the report tell it.
-pub record Tells (c : Call) (fault : Option Fault) (r : RiceReport) (number : ℕ) : Type 0 where
-  pub status : number ≡ number_of (fault_status fault)
+pub record ReportsCall (c : Call) (fault : Option Fault) (r : RiceReport) (number : ℕ) : Type 0 where
+  pub status : number ≡ status_number (fault_status fault)
   pub written : r.written ≡ length c.written
   pub place : r.place ≡ fault_place fault
 
@@ -37,22 +37,22 @@ pub record Tells (c : Call) (fault : Option Fault) (r : RiceReport) (number : �
 pub record EncodesInto (s : Parameters) (samples old new : List ℕ) (r : RiceReport) (status : ℕ) : Type 0 where
   pub call : Call
   pub fault : Option Fault
-  pub passes : Passes samples old new call fault
+  pub passes : UsesMemory samples old new call fault
   pub encodes : Encodes s call (report_of r) fault
   pub within : EncodesWithin s (report_of r)
-  pub tells : Tells call fault r status
+  pub tells : ReportsCall call fault r status
 
 -- a call that decodes
 pub record DecodesInto (s : Parameters) (asked : Option ℕ) (code old new : List ℕ) (r : RiceReport) (status : ℕ) : Type 0 where
   pub call : Call
   pub fault : Option Fault
-  pub passes : Passes code old new call fault
+  pub passes : UsesMemory code old new call fault
   pub decodes : Decodes s asked call (report_of r) fault
   pub within : DecodesWithin asked (report_of r)
-  pub tells : Tells call fault r status
+  pub tells : ReportsCall call fault r status
 
 -- a call that refuses its setting
-pub record Refuses (fault : SettingFault) (old new : List ℕ) (r : RiceReport) (number : ℕ) : Type 0 where
-  pub status : number ≡ number_of (refusal_status fault)
+pub record RefusesSetting (fault : SettingFault) (old new : List ℕ) (r : RiceReport) (number : ℕ) : Type 0 where
+  pub status : number ≡ status_number (refusal_status fault)
   pub untouched : new ≡ old
   pub report : r ≡ empty_report

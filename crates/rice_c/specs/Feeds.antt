@@ -14,7 +14,7 @@ use Rattle.rice_c.specs.declared.setting.RiceSetting.{RiceSetting}
 use Rattle.rice_c.specs.declared.status.Status.TheVariants.{Done}
 use Rattle.rice_c.specs.Calls.{StandsInFront}
 use Rattle.rice_c.specs.Reports.{report_of}
-use Rattle.rice_c.specs.Statuses.{number_of, fault_status, fault_place}
+use Rattle.rice_c.specs.Statuses.{status_number, fault_status, fault_place}
 
 -- what is counted at a seam
 abbrev pub report_of_seam : Seam → Report
@@ -22,7 +22,7 @@ report_of_seam seam = record { samples = seam.samples; bits = seam.bits; steps =
 
 -- a feed that has taken nothing
 pub record Begins (s : Parameters) (setting : RiceSetting) (feed : RiceFeed) (status : ℕ) : Type 0 where
-  pub done : status ≡ number_of Done
+  pub done : status ≡ status_number Done
   pub setting_is : feed.setting ≡ setting
   pub none : IsSeam s feed.seam []
 
@@ -33,7 +33,7 @@ pub record WritesFront (old new bytes : List ℕ) (fault : Option Fault) (r : Ri
   -- a write fails only where the output is full
   pub reads : fault ≢ Some Read
   pub full : fault ≡ Some Write → length bytes ≡ length old
-  pub status_is : status ≡ number_of (fault_status fault)
+  pub status_is : status ≡ status_number (fault_status fault)
   pub written : r.written ≡ length bytes
   pub place : r.place ≡ fault_place fault
 

@@ -5,7 +5,7 @@ use Rattle.rice_samples.specs.bytes.Spelling.{spellings}
 use Rattle.rice_stream.specs.Feeding.{IsSeam}
 use Rattle.rice_code.specs.code.Code.{output}
 use Rattle.rice_stream.specs.Laws.{IsPlace, place_at, place_behind}
-use Rattle.rice_stream.specs.Pulling.{Beginning, IsStand}
+use Rattle.rice_stream.specs.Pulling.{Origin, IsStand}
 use Rattle.rice_stream.specs.declared.seam.Seam.{Seam}
 use Rattle.rice_c.specs.declared.drain.RiceDrain.{RiceDrain}
 use Rattle.rice_c.specs.declared.feed.RiceFeed.{RiceFeed}
@@ -14,38 +14,38 @@ use Rattle.rice_c.specs.declared.setting.RiceSetting.{RiceSetting}
 use Rattle.rice_c.specs.declared.status.Status.{Status}
 use Rattle.rice_c.specs.declared.status.Status.TheVariants.{Done, NoRoom, CodeEnds, RunPastSegment, ResidualTooLarge, OnlyZeros, MoreCode}
 use Rattle.rice_c.specs.Calls.{EncodesInto, DecodesInto, StandsInFront}
-use Rattle.rice_c.specs.Drains.{Opens, PullsInto}
+use Rattle.rice_c.specs.Drains.{OpensDrain, PullsInto}
 use Rattle.rice_c.specs.Feeds.{Begins, PushesInto, FinishesInto}
 use Rattle.rice_c.specs.Rooms.{code_room, push_room}
-use Rattle.rice_c.specs.Statuses.{number_of}
+use Rattle.rice_c.specs.Statuses.{status_number}
 
 -- A call that decodes is given what a call that encoded all has written, the number of its samples, and room for their bytes.
 -- Then it writes these bytes, and all is done.
 abbrev pub ReturnsBytes : Type 0
 ReturnsBytes = (s : Parameters) → IsLegal s → (samples code_old code old new : List ℕ) (encoded decoded : RiceReport) (status : ℕ) →
-    EncodesInto s samples code_old code encoded (number_of Done) → DecodesInto s (Some encoded.samples) (take encoded.written code) old new decoded status → length samples ≤ length old →
-    (status ≡ number_of Done) × StandsInFront samples old new
+    EncodesInto s samples code_old code encoded (status_number Done) → DecodesInto s (Some encoded.samples) (take encoded.written code) old new decoded status → length samples ≤ length old →
+    (status ≡ status_number Done) × StandsInFront samples old new
 
 -- Without the number of samples it writes these bytes and those of fewer than a segment of samples more, and all is done, or there is no
 -- room for them.
 abbrev pub ReturnsBytesAndFill : Type 0
 ReturnsBytesAndFill = (s : Parameters) → IsLegal s → (samples code_old code old new : List ℕ) (encoded decoded : RiceReport) (status : ℕ) →
-    EncodesInto s samples code_old code encoded (number_of Done) → DecodesInto s None (take encoded.written code) old new decoded status →
-    ((status ≡ number_of Done) × (fill : List ℤ) × (length fill < 64 * s.block) × StandsInFront (samples ++ spellings s fill) old new) ⊎ (status ≡ number_of NoRoom)
+    EncodesInto s samples code_old code encoded (status_number Done) → DecodesInto s None (take encoded.written code) old new decoded status →
+    ((status ≡ status_number Done) × (fill : List ℤ) × (length fill < 64 * s.block) × StandsInFront (samples ++ spellings s fill) old new) ⊎ (status ≡ status_number NoRoom)
 
 -- With room for as much as the samples can take a call does not want for it.
 abbrev pub RoomSuffices : Type 0
 RoomSuffices = (s : Parameters) → IsLegal s → (input old new : List ℕ) (r : RiceReport) (status : ℕ) →
-    (EncodesInto s input old new r status → code_room s (length input / width s) ≤ length old → status ≢ number_of NoRoom)
-    × ((count : ℕ) → DecodesInto s (Some count) input old new r status → count * width s ≤ length old → status ≢ number_of NoRoom)
+    (EncodesInto s input old new r status → code_room s (length input / width s) ≤ length old → status ≢ status_number NoRoom)
+    × ((count : ℕ) → DecodesInto s (Some count) input old new r status → count * width s ≤ length old → status ≢ status_number NoRoom)
 
 -- So it is with as much as the samples of a piece can take, and the bits that wait.
 abbrev pub PushRoomSuffices : Type 0
 PushRoomSuffices = (s : Parameters) → IsLegal s → (xs : List ℤ) (input old new : List ℕ) (r : RiceReport) (status : ℕ) →
     ((feed_old feed_new : RiceFeed) → IsSeam s feed_old.seam xs → PushesInto s xs input old new feed_old feed_new r status →
-    push_room s feed_old.seam.waiting_bits (length input / width s) ≤ length old → status ≢ number_of NoRoom)
+    push_room s feed_old.seam.waiting_bits (length input / width s) ≤ length old → status ≢ status_number NoRoom)
     × ((seam : Seam) → IsSeam s seam xs → FinishesInto s xs input old new r status →
-    push_room s seam.waiting_bits (length input / width s) ≤ length old → status ≢ number_of NoRoom)
+    push_room s seam.waiting_bits (length input / width s) ≤ length old → status ≢ status_number NoRoom)
 
 -- A piece of a code that was pulled: its bytes, the drain, the report and the status after it, and the caller's memory before and after.
 pub record Pull : Type 0 where
@@ -60,7 +60,7 @@ pub record Pull : Type 0 where
 abbrev pub IsPulled : Parameters → List ℕ → RiceDrain → Pull → List ℕ → Type 0
 IsPulled s code drain p behind =
     (drop (drain.stand.bits / 8) code ≡ p.piece ++ behind) ×
-    ((o : Beginning) (front : List Bool) (given : List ℤ) → IsStand s o drain.stand front given → PullsInto s o front given p.piece p.old p.new drain p.drain p.report p.status)
+    ((o : Origin) (front : List Bool) (given : List ℤ) → IsStand s o drain.stand front given → PullsInto s o front given p.piece p.old p.new drain p.drain p.report p.status)
 
 -- Pieces of a code were pulled one after the other. Each ends anywhere, and has any room.
 abbrev pub ArePulled : Parameters → List ℕ → RiceDrain → List Pull → Type 0
@@ -94,27 +94,27 @@ place_all _ r = r.place
 -- decoded the whole code without a count, with room for the bytes of all samples. Then that call wrote the bytes of the samples before
 -- the place and those of all pulls, one after the other, and ended as they did.
 abbrev pub PullsAreDecoding : Type 0
-PullsAreDecoding = (s : Parameters) (code : List ℕ) (o : Beginning) (before : List ℤ) (setting : RiceSetting) (first : RiceDrain) (opened : ℕ) (pulls : List Pull) (last : Pull) (behind old new : List ℕ) (report : RiceReport) (status : ℕ) (paused ended : Status) →
-    IsPlace s code o before → Opens s o setting first opened → ArePulled s code first pulls → IsPulled s code (last_drain first pulls) last behind → last.status ≡ number_of paused → EndsAll paused behind ended →
+PullsAreDecoding = (s : Parameters) (code : List ℕ) (o : Origin) (before : List ℤ) (setting : RiceSetting) (first : RiceDrain) (opened : ℕ) (pulls : List Pull) (last : Pull) (behind old new : List ℕ) (report : RiceReport) (status : ℕ) (paused ended : Status) →
+    IsPlace s code o before → OpensDrain s o setting first opened → ArePulled s code first pulls → IsPulled s code (last_drain first pulls) last behind → last.status ≡ status_number paused → EndsAll paused behind ended →
     DecodesInto s None code old new report status → width s * last.report.samples ≤ length old →
     (bytes : List ℕ) × WriteInParts (pulls ++ last ∷ []) bytes × StandsInFront (spellings s before ++ bytes) old new ×
-    (status ≡ number_of ended) × (report.samples ≡ last.report.samples) × (report.place ≡ place_all paused last.report)
+    (status ≡ status_number ended) × (report.samples ≡ last.report.samples) × (report.place ≡ place_all paused last.report)
 
 -- Pieces were pulled until there were n samples behind the place, and no block more; and a call decoded the code with the count of these and
 -- of the samples before the place, and with room for their bytes. Then that call wrote the bytes of the samples before the place and the
 -- first n of the pulls', and all is done, with as many bits.
 abbrev pub EnoughIsDecoding : Type 0
-EnoughIsDecoding = (s : Parameters) (code : List ℕ) (o : Beginning) (before : List ℤ) (setting : RiceSetting) (first : RiceDrain) (opened : ℕ) (pulls : List Pull) (n : ℕ) (old new : List ℕ) (report : RiceReport) (status : ℕ) →
-    IsPlace s code o before → Opens s o setting first opened → ArePulled s code first pulls →
+EnoughIsDecoding = (s : Parameters) (code : List ℕ) (o : Origin) (before : List ℤ) (setting : RiceSetting) (first : RiceDrain) (opened : ℕ) (pulls : List Pull) (n : ℕ) (old new : List ℕ) (report : RiceReport) (status : ℕ) →
+    IsPlace s code o before → OpensDrain s o setting first opened → ArePulled s code first pulls →
     o.samples + n ≤ (last_drain first pulls).stand.samples → (last_drain first pulls).stand.samples < o.samples + n + s.block →
     DecodesInto s (Some (o.samples + n)) code old new report status → width s * (o.samples + n) ≤ length old →
     (bytes : List ℕ) × WriteInParts pulls bytes × StandsInFront (spellings s before ++ take (width s * n) bytes) old new ×
-    (status ≡ number_of Done) × (report.samples ≡ o.samples + n) × (report.bits ≡ (last_drain first pulls).stand.bits)
+    (status ≡ status_number Done) × (report.samples ≡ o.samples + n) × (report.bits ≡ (last_drain first pulls).stand.bits)
 
 -- Where pieces of a code were pulled up to the end of an interval, the drain tells the place at which the next begins.
 abbrev pub DrainsTellPlaces : Type 0
-DrainsTellPlaces = (s : Parameters) (code : List ℕ) (o : Beginning) (before : List ℤ) (setting : RiceSetting) (first : RiceDrain) (opened : ℕ) (pulls : List Pull) →
-    IsPlace s code o before → Opens s o setting first opened → ArePulled s code first pulls → (last_drain first pulls).stand.block ≡ 0 → (last_drain first pulls).stand.run ≡ 0 →
+DrainsTellPlaces = (s : Parameters) (code : List ℕ) (o : Origin) (before : List ℤ) (setting : RiceSetting) (first : RiceDrain) (opened : ℕ) (pulls : List Pull) →
+    IsPlace s code o before → OpensDrain s o setting first opened → ArePulled s code first pulls → (last_drain first pulls).stand.block ≡ 0 → (last_drain first pulls).stand.run ≡ 0 →
     (xs : List ℤ) × WriteInParts pulls (spellings s xs) × IsPlace s code (place_at (last_drain first pulls).stand) (before ++ xs)
 
 -- A piece of an input that was fed: its bytes, the feed, the report and the status after it, and the caller's memory before and after.
@@ -131,7 +131,7 @@ pub record Push : Type 0 where
 abbrev pub AreFed : Parameters → List ℕ → RiceFeed → List Push → Type 0
 AreFed s input feed [] = ⊤
 AreFed s input feed (p ∷ ps) =
-    ((behind : List ℕ) × (drop (width s * feed.seam.samples) input ≡ p.piece ++ behind)) × (p.status ≡ number_of Done) ×
+    ((behind : List ℕ) × (drop (width s * feed.seam.samples) input ≡ p.piece ++ behind)) × (p.status ≡ status_number Done) ×
     ((xs : List ℤ) → IsSeam s feed.seam xs → PushesInto s xs p.piece p.old p.new feed p.feed p.report p.status) × AreFed s input p.feed ps
 
 -- where the last of them ended

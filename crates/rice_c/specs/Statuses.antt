@@ -13,21 +13,21 @@ use Rattle.rice_c.specs.declared.status.Status.{Status}
 use Rattle.rice_c.specs.declared.status.Status.TheVariants.{Done, BadBits, BadBlock, BadInterval, SampleOutOfRange, InputCut, CodeEnds, RunPastSegment, ResidualTooLarge, NoRoom, TooLong, OnlyZeros, MoreCode, BadPlace}
 
 -- the number that C sees
-abbrev pub number_of : Status → ℕ
-number_of Done = 0
-number_of BadBits = 1
-number_of BadBlock = 2
-number_of BadInterval = 3
-number_of SampleOutOfRange = 4
-number_of InputCut = 5
-number_of CodeEnds = 6
-number_of RunPastSegment = 7
-number_of ResidualTooLarge = 8
-number_of NoRoom = 9
-number_of TooLong = 10
-number_of OnlyZeros = 11
-number_of MoreCode = 12
-number_of BadPlace = 13
+abbrev pub status_number : Status → ℕ
+status_number Done = 0
+status_number BadBits = 1
+status_number BadBlock = 2
+status_number BadInterval = 3
+status_number SampleOutOfRange = 4
+status_number InputCut = 5
+status_number CodeEnds = 6
+status_number RunPastSegment = 7
+status_number ResidualTooLarge = 8
+status_number NoRoom = 9
+status_number TooLong = 10
+status_number OnlyZeros = 11
+status_number MoreCode = 12
+status_number BadPlace = 13
 
 -- the status of a setting that is refused
 abbrev pub refusal_status : SettingFault → Status

@@ -7,9 +7,9 @@ ghost use Rattle.rice_stream.specs.Encodes.{Encodes, EncodesWithin};
 ghost use Rattle.rice_stream.specs.Decodes.{Decodes, DecodesWithin};
 ghost use Rattle.rice_c.specs.declared.status.Status.TheVariants.{NoRoom};
 ghost use Rattle.rice_c.specs.Asked.{setting_asked};
-ghost use Rattle.rice_c.specs.Calls.{EncodesInto, DecodesInto, Refuses};
+ghost use Rattle.rice_c.specs.Calls.{EncodesInto, DecodesInto, RefusesSetting};
 ghost use Rattle.rice_c.specs.Rooms.{code_room};
-ghost use Rattle.rice_c.specs.Statuses.{number_of};
+ghost use Rattle.rice_c.specs.Statuses.{status_number};
 
 use crate::report::RiceReport;
 use crate::setting::RiceSetting;
@@ -26,9 +26,9 @@ pub extern "C" fn rice_encode(
     report: &mut RiceReport,
 ) -> u32
     ensures ok { IfOk (setting_asked setting.now) (λ s. EncodesInto s samples.now code.old code.new report.new result) }
-    ensures refused { IfErr (setting_asked setting.now) (λ fault. Refuses fault code.old code.new report.new result) }
+    ensures refused { IfErr (setting_asked setting.now) (λ fault. RefusesSetting fault code.old code.new report.new result) }
     ensures room { IfOk (setting_asked setting.now) (λ s. code_room s (length samples.now / width s) ≤ length code.old →
-        result ≢ number_of NoRoom) }
+        result ≢ status_number NoRoom) }
 {
     match setting.legal() {
         Ok(setting) => encode_into(&setting, samples, code, report),
@@ -71,8 +71,8 @@ pub extern "C" fn rice_decode(
 ) -> u32
     ensures ok { IfOk (setting_asked setting.now) (λ s.
         DecodesInto s (Some count) code.now samples.old samples.new report.new result) }
-    ensures refused { IfErr (setting_asked setting.now) (λ fault. Refuses fault samples.old samples.new report.new result) }
-    ensures room { IfOk (setting_asked setting.now) (λ s. count * width s ≤ length samples.old → result ≢ number_of NoRoom) }
+    ensures refused { IfErr (setting_asked setting.now) (λ fault. RefusesSetting fault samples.old samples.new report.new result) }
+    ensures room { IfOk (setting_asked setting.now) (λ s. count * width s ≤ length samples.old → result ≢ status_number NoRoom) }
 {
     match setting.legal() {
         Ok(setting) => decode_into(&setting, Some(count), code, samples, report),
@@ -89,7 +89,7 @@ pub extern "C" fn rice_decode_all(
     report: &mut RiceReport,
 ) -> u32
     ensures ok { IfOk (setting_asked setting.now) (λ s. DecodesInto s None code.now samples.old samples.new report.new result) }
-    ensures refused { IfErr (setting_asked setting.now) (λ fault. Refuses fault samples.old samples.new report.new result) }
+    ensures refused { IfErr (setting_asked setting.now) (λ fault. RefusesSetting fault samples.old samples.new report.new result) }
 {
     match setting.legal() {
         Ok(setting) => decode_into(&setting, None, code, samples, report),

@@ -1,11 +1,11 @@
 //! Decoding piece by piece, for a caller that has not all of a code, or no room for all samples. All that is kept lies in the
 //! caller's memory.
 ghost use Rattle.std.specs.Prelude.{◌≡◌, Bool, true, false, List, IfOk, IfErr, ℤ};
-ghost use Rattle.rice_stream.specs.Pulling.{Beginning, IsStand, at_front};
+ghost use Rattle.rice_stream.specs.Pulling.{Origin, IsStand, at_front};
 ghost use Rattle.rice_c.specs.Asked.{setting_asked};
-ghost use Rattle.rice_c.specs.Calls.{Refuses};
-ghost use Rattle.rice_c.specs.Drains.{CanBegin, Opens, PullsInto};
-ghost use Rattle.rice_c.specs.Statuses.{number_of, refusal_status as refusal_status_of};
+ghost use Rattle.rice_c.specs.Calls.{RefusesSetting};
+ghost use Rattle.rice_c.specs.Drains.{CanBegin, OpensDrain, PullsInto};
+ghost use Rattle.rice_c.specs.Statuses.{status_number, refusal_status as refusal_status_of};
 ghost use Rattle.rice_c.specs.declared.status.Status.TheVariants.{BadPlace};
 
 use crate::report::RiceReport;
@@ -25,9 +25,9 @@ pub struct RiceDrain {
 /// Opens a code at its front, if the setting is legal. Returns the number of the status.
 #[unsafe(no_mangle)]
 pub extern "C" fn rice_open(setting: &RiceSetting, drain: &mut RiceDrain) -> u32
-    ensures ok { IfOk (setting_asked setting.now) (λ s. Opens s at_front setting.now drain.new result) }
+    ensures ok { IfOk (setting_asked setting.now) (λ s. OpensDrain s at_front setting.now drain.new result) }
     ensures refused { IfErr (setting_asked setting.now) (λ fault.
-        (result ≡ number_of (refusal_status_of fault)) × (drain.new ≡ drain.old)) }
+        (result ≡ status_number (refusal_status_of fault)) × (drain.new ≡ drain.old)) }
 {
     match setting.legal() {
         Ok(legal) => {
@@ -51,11 +51,11 @@ pub extern "C" fn rice_open_at(
     drain: &mut RiceDrain,
 ) -> u32
     ensures ok { IfOk (setting_asked setting.now) (λ s. CanBegin s samples bits →
-        Opens s (record { bits = bits; samples = samples }) setting.now drain.new result) }
+        OpensDrain s (record { bits = bits; samples = samples }) setting.now drain.new result) }
     ensures never { IfOk (setting_asked setting.now) (λ s. (CanBegin s samples bits → ⊥) →
-        (result ≡ number_of BadPlace) × (drain.new ≡ drain.old)) }
+        (result ≡ status_number BadPlace) × (drain.new ≡ drain.old)) }
     ensures refused { IfErr (setting_asked setting.now) (λ fault.
-        (result ≡ number_of (refusal_status_of fault)) × (drain.new ≡ drain.old)) }
+        (result ≡ status_number (refusal_status_of fault)) × (drain.new ≡ drain.old)) }
 {
     match setting.legal() {
         Ok(legal) => {
@@ -93,12 +93,12 @@ pub extern "C" fn rice_pull(
     report: &mut RiceReport,
 ) -> u32
     requires { IfOk (setting_asked drain.old.setting) (λ s.
-        (o : Beginning) × (front : List Bool) × (given : List ℤ) × IsStand s o drain.old.stand front given) }
+        (o : Origin) × (front : List Bool) × (given : List ℤ) × IsStand s o drain.old.stand front given) }
     ensures ok { IfOk (setting_asked drain.old.setting) (λ s.
-        (o : Beginning) (front : List Bool) (given : List ℤ) → IsStand s o drain.old.stand front given →
+        (o : Origin) (front : List Bool) (given : List ℤ) → IsStand s o drain.old.stand front given →
         PullsInto s o front given code.now samples.old samples.new drain.old drain.new report.new result) }
     ensures refused { IfErr (setting_asked drain.old.setting) (λ fault.
-        Refuses fault samples.old samples.new report.new result × (drain.new ≡ drain.old)) }
+        RefusesSetting fault samples.old samples.new report.new result × (drain.new ≡ drain.old)) }
 {
     match drain.setting.legal() {
         Ok(setting) => pull_into(&setting, drain, code, samples, report),
@@ -114,8 +114,8 @@ fn pull_into(
     samples: &mut [u8],
     report: &mut RiceReport,
 ) -> u32
-    requires { (o : Beginning) × (front : List Bool) × (given : List ℤ) × IsStand setting.now o drain.old.stand front given }
-    ensures { (o : Beginning) (front : List Bool) (given : List ℤ) → IsStand setting.now o drain.old.stand front given →
+    requires { (o : Origin) × (front : List Bool) × (given : List ℤ) × IsStand setting.now o drain.old.stand front given }
+    ensures { (o : Origin) (front : List Bool) (given : List ℤ) → IsStand setting.now o drain.old.stand front given →
         PullsInto setting.now o front given code.now samples.old samples.new drain.old drain.new report.new result }
 {
     let before = drain.stand.samples;

@@ -7,12 +7,12 @@ ghost use Rattle.rice_stream.specs.Encodes.{EncodesWithin};
 ghost use Rattle.rice_stream.specs.EncodingState.{PushFails};
 ghost use Rattle.rice_stream.specs.Feeding.{IsSeam, EncodesMore, EncodesRest};
 ghost use Rattle.rice_c.specs.Asked.{setting_asked};
-ghost use Rattle.rice_c.specs.Calls.{Refuses};
+ghost use Rattle.rice_c.specs.Calls.{RefusesSetting};
 ghost use Rattle.rice_c.specs.Feeds.{Begins, PushesInto, FinishesInto, report_of_seam};
 ghost use Rattle.rice_samples.specs.Parameters.{width};
 ghost use Rattle.rice_c.specs.Rooms.{push_room};
 ghost use Rattle.rice_c.specs.declared.status.Status.TheVariants.{NoRoom};
-ghost use Rattle.rice_c.specs.Statuses.{number_of, refusal_status as refusal_status_of};
+ghost use Rattle.rice_c.specs.Statuses.{status_number, refusal_status as refusal_status_of};
 
 use crate::report::RiceReport;
 use crate::setting::RiceSetting;
@@ -35,7 +35,7 @@ pub struct RiceFeed {
 pub extern "C" fn rice_begin(setting: &RiceSetting, feed: &mut RiceFeed) -> u32
     ensures ok { IfOk (setting_asked setting.now) (λ s. Begins s setting.now feed.new result) }
     ensures refused { IfErr (setting_asked setting.now) (λ fault.
-        (result ≡ number_of (refusal_status_of fault)) × (feed.new ≡ feed.old)) }
+        (result ≡ status_number (refusal_status_of fault)) × (feed.new ≡ feed.old)) }
 {
     match setting.legal() {
         Ok(legal) => {
@@ -82,9 +82,9 @@ pub extern "C" fn rice_push(
     ensures ok { IfOk (setting_asked feed.old.setting) (λ s. (xs : List ℤ) → IsSeam s feed.old.seam xs →
         PushesInto s xs samples.now code.old code.new feed.old feed.new report.new result) }
     ensures room { IfOk (setting_asked feed.old.setting) (λ s. push_room s feed.old.seam.waiting_bits (length samples.now / width s) ≤ length code.old →
-        result ≢ number_of NoRoom) }
+        result ≢ status_number NoRoom) }
     ensures refused { IfErr (setting_asked feed.old.setting) (λ fault.
-        Refuses fault code.old code.new report.new result × (feed.new ≡ feed.old)) }
+        RefusesSetting fault code.old code.new report.new result × (feed.new ≡ feed.old)) }
 {
     match feed.setting.legal() {
         Ok(setting) => push_into(&setting, feed, samples, code, report),
@@ -104,8 +104,8 @@ pub extern "C" fn rice_finish(
     ensures ok { IfOk (setting_asked feed.now.setting) (λ s. (xs : List ℤ) → IsSeam s feed.now.seam xs →
         FinishesInto s xs samples.now code.old code.new report.new result) }
     ensures room { IfOk (setting_asked feed.now.setting) (λ s. push_room s feed.now.seam.waiting_bits (length samples.now / width s) ≤ length code.old →
-        result ≢ number_of NoRoom) }
-    ensures refused { IfErr (setting_asked feed.now.setting) (λ fault. Refuses fault code.old code.new report.new result) }
+        result ≢ status_number NoRoom) }
+    ensures refused { IfErr (setting_asked feed.now.setting) (λ fault. RefusesSetting fault code.old code.new report.new result) }
 {
     match feed.setting.legal() {
         Ok(setting) => finish_into(&setting, &feed.seam, samples, code, report),

@@ -1,7 +1,7 @@
 //! What a call has done, as C sees it.
 ghost use Rattle.std.specs.Prelude.{◌≡◌, ◌≢◌, Some};
 ghost use Rattle.rice_stream.specs.declared.outcome.Fault.TheVariants.{Read};
-ghost use Rattle.rice_c.specs.Statuses.{number_of, refusal_status as refusal_status_of, fault_status as fault_status_of, fault_place as fault_place_of};
+ghost use Rattle.rice_c.specs.Statuses.{status_number, refusal_status as refusal_status_of, fault_status as fault_status_of, fault_place as fault_place_of};
 
 use crate::status::{fault_place, fault_status, refusal_status};
 use rice_samples::SettingFault;
@@ -29,7 +29,7 @@ impl RiceReport {
     /// Writes down what was done, and returns the number of its status.
     pub fn tell(&mut self, outcome: &Outcome, written: usize) -> u32
         requires { outcome.now.fault ≢ Some Read }
-        ensures status { result ≡ number_of (fault_status_of outcome.now.fault) }
+        ensures status { result ≡ status_number (fault_status_of outcome.now.fault) }
         ensures report { report_of self.new ≡ outcome.now.report }
         ensures written { self.new.written ≡ written }
         ensures place { self.new.place ≡ fault_place_of outcome.now.fault }
@@ -46,7 +46,7 @@ impl RiceReport {
 
     /// Writes down that nothing was done, since the setting is refused, and returns the number of the status.
     pub fn refuse(&mut self, fault: SettingFault) -> u32
-        ensures status { result ≡ number_of (refusal_status_of fault) }
+        ensures status { result ≡ status_number (refusal_status_of fault) }
         ensures report { self.new ≡ empty_report }
     {
         *self = RiceReport {

@@ -5,7 +5,7 @@ ghost use Rattle.rice_samples.specs.Parameters.{IsLegal, width};
 ghost use Rattle.rice_code.specs.Bounds.{step_bound};
 ghost use Rattle.rice_c.specs.Asked.{setting_asked};
 ghost use Rattle.rice_c.specs.Rooms.{code_room, set_room};
-ghost use Rattle.rice_c.specs.Statuses.{number_of, check_of, refusal_status};
+ghost use Rattle.rice_c.specs.Statuses.{status_number, check_of, refusal_status};
 
 use crate::status::{Status, refusal_status};
 use rice_code::{padded_bound, set_bound, step_bound};
@@ -71,7 +71,7 @@ impl RiceSetting {
 /// Returns the number of the status of this setting: that of `Status::Done` if it is legal.
 #[unsafe(no_mangle)]
 pub extern "C" fn rice_check(setting: &RiceSetting) -> u32
-    ensures { result ≡ number_of (check_of setting.now) }
+    ensures { result ≡ status_number (check_of setting.now) }
 {
     match setting.legal() {
         Ok(_) => Status::Done.number(),

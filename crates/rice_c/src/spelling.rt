@@ -2,7 +2,7 @@
 ghost use Rattle.std.specs.Prelude.{◌≡◌, IfOk, IfErr};
 ghost use Rattle.rice_samples.specs.bytes.Patterns.{SpellsPatterns};
 ghost use Rattle.rice_c.specs.Asked.{setting_asked};
-ghost use Rattle.rice_c.specs.Statuses.{number_of, refusal_status as refusal_status_of};
+ghost use Rattle.rice_c.specs.Statuses.{status_number, refusal_status as refusal_status_of};
 ghost use Rattle.rice_c.specs.declared.status.Status.TheVariants.{Done};
 
 use crate::setting::RiceSetting;
@@ -13,9 +13,9 @@ use rice_samples::spell_patterns;
 /// number of the status.
 #[unsafe(no_mangle)]
 pub extern "C" fn rice_spell(setting: &RiceSetting, samples: &mut [u8]) -> u32
-    ensures ok { IfOk (setting_asked setting.now) (λ s. SpellsPatterns s samples.old samples.new × (result ≡ number_of Done)) }
+    ensures ok { IfOk (setting_asked setting.now) (λ s. SpellsPatterns s samples.old samples.new × (result ≡ status_number Done)) }
     ensures refused { IfErr (setting_asked setting.now) (λ fault.
-        (result ≡ number_of (refusal_status_of fault)) × (samples.new ≡ samples.old)) }
+        (result ≡ status_number (refusal_status_of fault)) × (samples.new ≡ samples.old)) }
 {
     match setting.legal() {
         Ok(setting) => {

@@ -40,11 +40,11 @@ pub enum Status {
 }
 
 impl Status {
-    ghost use Rattle.rice_c.specs.Statuses.{number_of};
+    ghost use Rattle.rice_c.specs.Statuses.{status_number};
 
     /// Returns the number that C sees.
     pub fn number(self) -> u32
-        ensures { result ≡ number_of self }
+        ensures { result ≡ status_number self }
     {
         match self {
             Status::Done => 0,

@@ -2,7 +2,7 @@
 ghost use Rattle.std.specs.Prelude.{◌≡◌, ◌^◌, ◌≤◌};
 ghost use Rattle.rice_samples.specs.Limits.{most_input};
 ghost use Rattle.rice_samples.specs.Places.{block_count as blocks_of};
-ghost use Rattle.rice_code.specs.Bounds.{block_bound as most_of_block, bit_bound as most_bits, padded_bound as most_padded_bits, added_bound as most_added_bits, set_bound as most_of_set, step_bound as most_steps};
+ghost use Rattle.rice_code.specs.Bounds.{block_bound as most_of_block, bit_bound as most_bits, padded_bound as most_padded_bits, added_bound as most_added_bits, set_bound as most_of_set, step_bound as bound_of_steps};
 
 use rice_samples::Setting;
 
@@ -54,7 +54,7 @@ pub fn set_bound(setting: &Setting) -> u32
 /// or filled, each bit put without padding, and each read of a residual.
 pub fn step_bound(setting: &Setting, samples: u64) -> u64
     requires { samples ≤ most_input }
-    ensures value { result ≡ most_steps setting.now samples }
+    ensures value { result ≡ bound_of_steps setting.now samples }
     ensures limit { result ≤ 2 ^ 60 }
 {
     let looks = setting.block() * (setting.k_max() + 6);

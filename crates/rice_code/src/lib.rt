@@ -11,7 +11,7 @@ mod sizes;
 
 pub use bounds::{added_bound, bit_bound, padded_bound, set_bound, step_bound};
 pub use decode::decoder::Decoder;
-pub use decode::fault::{CodeFault, Step};
+pub use decode::fault::{CodeFault, NextBlock};
 pub use encode::SegmentSink;
 pub use encode::coder::{Coder, Pushed, SizedCoder};
 

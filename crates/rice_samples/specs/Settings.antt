@@ -20,8 +20,8 @@ parameters bits block interval signed msb three preprocess pad = record {
 abbrev pub HasLegalBits : Parameters → Type 0
 HasLegalBits s = (1 ≤ s.bits) × (s.bits ≤ 32)
 
-abbrev pub HasLegalBlock : Parameters → Type 0
-HasLegalBlock s = IsStandardSize s.block
+abbrev pub HasStandardBlock : Parameters → Type 0
+HasStandardBlock s = IsStandardSize s.block
 
 abbrev pub HasAnyBlock : Parameters → Type 0
 HasAnyBlock s = IsBlockSize s.block
@@ -32,9 +32,9 @@ HasLegalInterval s = (1 ≤ s.interval) × (s.interval ≤ longest_interval)
 -- the fault is that of the first illegal parameter, in the order bits, block, interval
 abbrev pub IsRefused : Parameters → SettingFault → Type 0
 IsRefused s BadBits = ¬ HasLegalBits s
-IsRefused s BadBlock = HasLegalBits s × ¬ HasLegalBlock s
+IsRefused s BadBlock = HasLegalBits s × ¬ HasStandardBlock s
 IsRefused s BadAnyBlock = ⊥
-IsRefused s BadInterval = HasLegalBits s × HasLegalBlock s × ¬ HasLegalInterval s
+IsRefused s BadInterval = HasLegalBits s × HasStandardBlock s × ¬ HasLegalInterval s
 
 -- and where any size that a block can have is taken
 abbrev pub IsRefusedOfAny : Parameters → SettingFault → Type 0

@@ -21,7 +21,9 @@ pub use predict::byte_lanes::{LevelLanes, near_levels, spelled_bytes};
 pub use predict::half_lanes::{LevelHalves, near_halves, spelled_words};
 pub use predict::preprocessor::{from_pattern, pattern, residual, restore};
 pub use predict::residuals::pattern_at;
-pub use predict::samples::{level_of_pattern, levels_of_patterns, restore_all, restore_spread};
+pub use predict::samples::{
+    level_of_pattern, levels_of_patterns, restore_by_selection, restore_near_first,
+};
 pub use setting::{Setting, SettingFault};
 
 // What it holds, in bytes, on a machine with pointers of eight.

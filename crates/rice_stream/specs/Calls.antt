@@ -25,7 +25,7 @@ Fails (Some Write) reads reads_new writes writes_new = (reads_new ≡ reads) × 
 Fails _ reads reads_new writes writes_new = (reads_new ≡ reads) × (writes_new ≡ writes)
 
 -- These bytes are written, and so many samples and bits are reported.
-pub record Leaves (c : Call) (r : Report) (bytes : List ℕ) (count used : ℕ) : Type 0 where
+pub record WritesAndReports (c : Call) (r : Report) (bytes : List ℕ) (count used : ℕ) : Type 0 where
   pub written : c.written ≡ bytes
   pub samples : r.samples ≡ count
   pub bits : r.bits ≡ used

@@ -13,7 +13,7 @@ use Rattle.rice_code.specs.code.Decoded.{Decoded, AreTaken, BeginsUnsound, EndsW
 use Rattle.rice_code.specs.code.CodedDataSets.{CodedDataSet, turns}
 use Rattle.rice_code.specs.code.Forms.{RunIsSound, ResidualsAreSound, blocks_in_all}
 use Rattle.rice_code.specs.code.Layout.{Lies}
-use Rattle.rice_stream.specs.Calls.{Call, Leaves, StopsBetween, PassesLimit}
+use Rattle.rice_stream.specs.Calls.{Call, WritesAndReports, StopsBetween, PassesLimit}
 use Rattle.rice_stream.specs.declared.outcome.Report.{Report}
 use Rattle.rice_stream.specs.declared.outcome.Fault.{Fault}
 use Rattle.rice_stream.specs.declared.outcome.Fault.TheVariants.{Read, Write, TooLong, CodeEnds, RunPastSegment, ResidualTooLarge}
@@ -22,7 +22,7 @@ use Rattle.rice_code.specs.declared.decode.fault.CodeFault.TheVariants as codes
 
 -- the bytes decode so, and these samples and bits are what the call left
 abbrev pub DecodesBytes : Parameters → Option ℕ → Call → Report → List ℕ → List ℤ → Ending → Type 0
-DecodesBytes s asked c r bytes ys ending = (used : ℕ) × Decoded s (bits_of bytes) asked ys ending used × Leaves c r (spellings s ys) (length ys) used
+DecodesBytes s asked c r bytes ys ending = (used : ℕ) × Decoded s (bits_of bytes) asked ys ending used × WritesAndReports c r (spellings s ys) (length ys) used
 
 -- no whole coded data set is left
 abbrev pub RunsOut : Ending → Type 0

@@ -8,7 +8,7 @@ use Rattle.rice_samples.specs.bytes.Spelling.{Spells, spellings, SpellingEnd, At
 use Rattle.rice_code.specs.Bounds.{bit_bound, step_bound, amortised_step_bound}
 use Rattle.rice_code.specs.code.Code.{code_bits, output, early_output, complete_samples}
 use Rattle.rice_code.specs.Steps.{least_steps, most_steps}
-use Rattle.rice_code.specs.code.Blocks.{fill_samples}
+use Rattle.rice_code.specs.code.Blocks.{fill_count_of}
 use Rattle.rice_stream.specs.Calls.{Call, StopsBetween, PassesLimit, IsWithinLimit}
 use Rattle.rice_stream.specs.declared.outcome.Report.{Report}
 use Rattle.rice_stream.specs.declared.outcome.Fault.{Fault}
@@ -31,8 +31,8 @@ pub record ReportsTaken (s : Parameters) (r : Report) (xs : List ℤ) : Type 0 w
 pub record ReportsAll (s : Parameters) (r : Report) (xs : List ℤ) : Type 0 where
   pub samples : r.samples ≡ length xs
   pub bits : r.bits ≡ code_bits s xs
-  pub least : length xs + fill_samples s xs + least_steps s xs ≤ r.steps
-  pub most : r.steps ≤ length xs + fill_samples s xs + most_steps s xs
+  pub least : length xs + fill_count_of s xs + least_steps s xs ≤ r.steps
+  pub most : r.steps ≤ length xs + fill_count_of s xs + most_steps s xs
 
 module _ (s : Parameters) where
   -- the code of all samples is written

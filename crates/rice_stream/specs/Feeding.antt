@@ -53,7 +53,7 @@ samples_to_take s xs bytes = cut s (length xs + length bytes / width s)
 -- Unless a code is too long, the samples so far and these bytes are within its limit.
 module _ (s : Parameters) (xs : List ℤ) (bytes : List ℕ) (old new : Option Room) where
   -- Of the samples that the bytes spell those of the complete segments are taken, and the whole bytes of their code are written.
-  pub record GoesOn (seam : Seam) : Type 0 where
+  pub record TakesPiece (seam : Seam) : Type 0 where
     pub limit : bytes_in_all s xs bytes ≤ most_input
     pub more : List ℤ
     pub rest : List ℕ
@@ -85,7 +85,7 @@ module _ (s : Parameters) (xs : List ℤ) (bytes : List ℕ) (old new : Option R
 
   -- What becomes of a piece of the samples. None but those to take is looked at.
   abbrev pub EncodesMore : Result Seam Fault → Type 0
-  EncodesMore (Ok seam) = GoesOn seam
+  EncodesMore (Ok seam) = TakesPiece seam
   EncodesMore (Err (SampleOutOfRange index)) = (more : List ℤ) × MeetsNone more index × (index < samples_to_take s xs bytes)
   EncodesMore (Err Write) = (more : List ℤ) × (last : ℤ) × WantsRoom more last
   EncodesMore (Err TooLong) = PassesAll

@@ -12,7 +12,7 @@ use Rattle.rice_stream.specs.Calls.{Call}
 use Rattle.rice_stream.specs.Encodes.{Encodes}
 use Rattle.rice_stream.specs.Decodes.{Decodes}
 use Rattle.rice_stream.specs.Feeding.{IsSeam, EncodesMore, EncodesRest}
-use Rattle.rice_stream.specs.Pulling.{Beginning, IsStand, DecodesMore, at_front}
+use Rattle.rice_stream.specs.Pulling.{Origin, IsStand, DecodesMore, at_front}
 use Rattle.rice_stream.specs.declared.outcome.Report.{Report}
 use Rattle.rice_stream.specs.declared.outcome.Fault.{Fault}
 use Rattle.rice_stream.specs.declared.outcome.Fault.TheVariants.{Read, Write}
@@ -79,7 +79,7 @@ pub record Pull : Type 0 where
 abbrev pub IsPulled : Parameters → List ℕ → Stand → Pull → List ℕ → Type 0
 IsPulled s code stand p behind =
     (drop (stand.bits / 8) code ≡ p.piece ++ behind) ×
-    ((o : Beginning) (front : List Bool) (given : List ℤ) → IsStand s o stand front given → DecodesMore s o front given p.piece stand p.old p.new p.stand p.pause)
+    ((o : Origin) (front : List Bool) (given : List ℤ) → IsStand s o stand front given → DecodesMore s o front given p.piece stand p.old p.new p.stand p.pause)
 
 -- Pieces of a code were pulled one after the other. Each ends anywhere, and has any room.
 abbrev pub ArePulled : Parameters → List ℕ → Stand → List Pull → Type 0
@@ -123,7 +123,7 @@ EnoughIsDecoding = (s : Parameters) (code : List ℕ) (first : Stand) (pulls : L
     (xs : List ℤ) × GiveInParts s first pulls xs × Decoded s (bits_of code) (Some n) (take n xs) Reached (last_stand first pulls).bits
 
 -- One of the intervals of a code begins there, after these samples.
-pub record IsPlace (s : Parameters) (code : List ℕ) (o : Beginning) (before : List ℤ) : Type 0 where
+pub record IsPlace (s : Parameters) (code : List ℕ) (o : Origin) (before : List ℤ) : Type 0 where
   pub count : o.samples ≡ length before
   pub begins : BeginsInterval s (bits_of code) before o.bits
 
@@ -134,29 +134,29 @@ FrontIsPlace = (s : Parameters) (code : List ℕ) → IsPlace s code at_front []
 -- Pieces were pulled from such a place, and the last of them to where the code ends. Then the samples of all calls are those that the
 -- whole code decodes to behind the samples before it, and it ends so.
 abbrev pub SeekingIsDecoding : Type 0
-SeekingIsDecoding = (s : Parameters) (code : List ℕ) (o : Beginning) (before : List ℤ) (first : Stand) (pulls : List Pull) (last : Pull) (behind : List ℕ) (ending : Ending) →
+SeekingIsDecoding = (s : Parameters) (code : List ℕ) (o : Origin) (before : List ℤ) (first : Stand) (pulls : List Pull) (last : Pull) (behind : List ℕ) (ending : Ending) →
     IsPlace s code o before → IsStand s o first [] [] → ArePulled s code first pulls → IsPulled s code (last_stand first pulls) last behind → EndsCode last.pause behind ending →
     (xs : List ℤ) × (used : ℕ) × GiveInParts s first (pulls ++ last ∷ []) xs × Decoded s (bits_of code) None (before ++ xs) ending used
 
 -- Pieces were pulled from there until there were n samples, and no block more. Then the first n are those that the whole code decodes to
 -- behind the samples before them, with the count of all these, which is reached.
 abbrev pub EnoughBehindIsDecoding : Type 0
-EnoughBehindIsDecoding = (s : Parameters) (code : List ℕ) (o : Beginning) (before : List ℤ) (first : Stand) (pulls : List Pull) (n : ℕ) →
+EnoughBehindIsDecoding = (s : Parameters) (code : List ℕ) (o : Origin) (before : List ℤ) (first : Stand) (pulls : List Pull) (n : ℕ) →
     IsPlace s code o before → IsStand s o first [] [] → ArePulled s code first pulls → o.samples + n ≤ (last_stand first pulls).samples → (last_stand first pulls).samples < o.samples + n + s.block →
     (xs : List ℤ) × GiveInParts s first pulls xs × Decoded s (bits_of code) (Some (o.samples + n)) (before ++ take n xs) Reached (last_stand first pulls).bits
 
 -- the place that a stand tells
-abbrev pub place_at : Stand → Beginning
+abbrev pub place_at : Stand → Origin
 place_at stand = record { bits = stand.bits; samples = stand.samples }
 
 -- Where pieces were pulled up to the end of an interval, the stand tells the place at which the next begins.
 abbrev pub StandsTellPlaces : Type 0
-StandsTellPlaces = (s : Parameters) (code : List ℕ) (o : Beginning) (before : List ℤ) (first : Stand) (pulls : List Pull) →
+StandsTellPlaces = (s : Parameters) (code : List ℕ) (o : Origin) (before : List ℤ) (first : Stand) (pulls : List Pull) →
     IsPlace s code o before → IsStand s o first [] [] → ArePulled s code first pulls → (last_stand first pulls).block ≡ 0 → (last_stand first pulls).run ≡ 0 →
     (xs : List ℤ) × GiveInParts s first pulls xs × IsPlace s code (place_at (last_stand first pulls)) (before ++ xs)
 
 -- the place that a seam tells, where so many bytes were written
-abbrev pub place_behind : Seam → ℕ → Beginning
+abbrev pub place_behind : Seam → ℕ → Origin
 place_behind seam written = record { bits = 8 * written + seam.waiting_bits; samples = seam.samples }
 
 -- Where pieces of an input were fed up to the end of an interval, the seam tells, with the number of bytes written so far, the place at which

@@ -19,21 +19,21 @@ use Rattle.rice_stream.specs.declared.stand.Pause.TheVariants as pauses
 use Rattle.rice_stream.specs.declared.stand.Stand.{Stand}
 
 -- Where decoding began: after so many bits of a code, and so many samples.
-pub record Beginning : Type 0 where
+pub record Origin : Type 0 where
   pub bits : ℕ
   pub samples : ℕ
 
 -- the beginning of a code
-abbrev pub at_front : Beginning
+abbrev pub at_front : Origin
 at_front = record { bits = 0; samples = 0 }
 
 -- an interval can begin there: on a byte, where intervals are padded
-abbrev pub MayBegin : Parameters → Beginning → Type 0
+abbrev pub MayBegin : Parameters → Origin → Type 0
 MayBegin s o = s.pad ≡ true → o.bits % 8 ≡ 0
 
 -- These bits, from where decoding began, are whole coded data sets with their padding. Their samples are `given`, and `stand.run`
 -- blocks of zeros that are still to come. The stand counts from the beginning of the code.
-pub record IsStand (s : Parameters) (o : Beginning) (stand : Stand) (front : List Bool) (given : List ℤ) : Type 0 where
+pub record IsStand (s : Parameters) (o : Origin) (stand : Stand) (front : List Bool) (given : List ℤ) : Type 0 where
   pub state : IsDecoderState s stand.block stand.previous stand.run None
   pub begins : MayBegin s o
   pub early : o.samples ≤ most_samples_counted
@@ -55,11 +55,11 @@ abbrev pub bits_ahead : Stand → List ℕ → List Bool
 bits_ahead stand piece = drop (stand.bits % 8) (bits_of piece)
 
 -- another block has room after so many samples
-abbrev pub HasRoom : Parameters → ℕ → ℕ → Type 0
-HasRoom s count room = width s * count + width s * s.block ≤ room
+abbrev pub HasRoomForBlock : Parameters → ℕ → ℕ → Type 0
+HasRoomForBlock s count room = width s * count + width s * s.block ≤ room
 
 -- The piece is not taken: it passes the limit of a code.
-pub record IsRefused (old new : Stand) (piece : List ℕ) (count : ℕ) : Type 0 where
+pub record PieceIsRefused (old new : Stand) (piece : List ℕ) (count : ℕ) : Type 0 where
   pub passes : most_bits_read < old.bits + 8 * length piece
   pub stays : new ≡ old
   pub none : count ≡ 0
@@ -68,14 +68,14 @@ pub record IsRefused (old new : Stand) (piece : List ℕ) (count : ℕ) : Type 0
 -- were written to `room` bytes.
 abbrev pub PausesAt : Parameters → Stand → List ℕ → ℕ → Stand → List Bool → ℕ → Pause → Type 0
 PausesAt s old piece room new rest count pauses.Full = (width s * count ≤ room) × (room < width s * count + width s * s.block)
-PausesAt s old piece room new rest count pauses.Blank = HasRoom s count room × (new.run ≡ 0) × EndsWith s None new.block rest Ended (length rest)
-PausesAt s old piece room new rest count pauses.Cut = HasRoom s count room × (new.run ≡ 0) × EndsWith s None new.block rest CutOff (length rest)
-PausesAt s old piece room new rest count pauses.RunPastSegment = HasRoom s count room × (new.run ≡ 0) × (used : ℕ) × EndsWith s None new.block rest Past used
-PausesAt s old piece room new rest count pauses.ResidualTooLarge = HasRoom s count room × (new.run ≡ 0) × (used : ℕ) × EndsWith s None new.block rest Large used
-PausesAt s old piece room new rest count pauses.TooLong = IsRefused old new piece count
+PausesAt s old piece room new rest count pauses.Blank = HasRoomForBlock s count room × (new.run ≡ 0) × EndsWith s None new.block rest Ended (length rest)
+PausesAt s old piece room new rest count pauses.Cut = HasRoomForBlock s count room × (new.run ≡ 0) × EndsWith s None new.block rest CutOff (length rest)
+PausesAt s old piece room new rest count pauses.RunPastSegment = HasRoomForBlock s count room × (new.run ≡ 0) × (used : ℕ) × EndsWith s None new.block rest Past used
+PausesAt s old piece room new rest count pauses.ResidualTooLarge = HasRoomForBlock s count room × (new.run ≡ 0) × (used : ℕ) × EndsWith s None new.block rest Large used
+PausesAt s old piece room new rest count pauses.TooLong = PieceIsRefused old new piece count
 
 -- Whole blocks were given, and the stand is behind the last coded data set that they take. The memory of the caller has their bytes in front.
-pub record DecodesMore (s : Parameters) (o : Beginning) (front : List Bool) (given : List ℤ) (piece : List ℕ) (old : Stand) (out_old out : List ℕ) (new : Stand) (pause : Pause) : Type 0 where
+pub record DecodesMore (s : Parameters) (o : Origin) (front : List Bool) (given : List ℤ) (piece : List ℕ) (old : Stand) (out_old out : List ℕ) (new : Stand) (pause : Pause) : Type 0 where
   pub bits : List Bool
   pub rest : List Bool
   pub samples : List ℤ
@@ -90,13 +90,13 @@ abbrev pub state_of : Parameters → Stand → DecoderState
 state_of s stand = record { setting = s; block = stand.block; before = stand.previous; run = stand.run; stopped = None }
 
 -- the bytes, if they are told
-abbrev pub known : Option (List ℕ) → List ℕ
-known None = []
-known (Some bytes) = bytes
+abbrev pub bytes_told : Option (List ℕ) → List ℕ
+bytes_told None = []
+bytes_told (Some bytes) = bytes
 
 -- the bits that are still to come, of a reader that tells its bytes
 abbrev pub ahead : {I : Type 0} → Reader I → List Bool
-ahead r = r.waiting ++ bits_of (known r.left)
+ahead r = r.waiting ++ bits_of (bytes_told r.left)
 
 -- a reader of a piece that has come to where decoding stands
 pub record IsReadFrom {I : Type 0} (stand : Stand) (r : Reader I) : Type 0 where
@@ -107,14 +107,14 @@ pub record IsReadFrom {I : Type 0} (stand : Stand) (r : Reader I) : Type 0 where
   pub limit : stand.bits + length (ahead r) ≤ most_bits_read
 
 -- a block more was given
-pub record GivesNext {I : Type 0} (s : Parameters) (o : Beginning) (front : List Bool) (given : List ℤ) (next : Stand) (old new : Reader I) (samples : List ℤ) : Type 0 where
+pub record GivesNext {I : Type 0} (s : Parameters) (o : Origin) (front : List Bool) (given : List ℤ) (next : Stand) (old new : Reader I) (samples : List ℤ) : Type 0 where
   pub bits : List Bool
   pub split : ahead old ≡ bits ++ ahead new
   pub len : length samples ≡ s.block
   pub stands : IsStand s o next (front ++ bits) (given ++ samples)
 
 -- what becomes of the next block
-abbrev pub TakesNext : {I : Type 0} → Parameters → Beginning → List Bool → List ℤ → Stand → Reader I → Reader I → List ℤ → Result (Option Stand) CodeFault → Type 0
+abbrev pub TakesNext : {I : Type 0} → Parameters → Origin → List Bool → List ℤ → Stand → Reader I → Reader I → List ℤ → Result (Option Stand) CodeFault → Type 0
 TakesNext s o front given stand old new samples (Ok (Some next)) = GivesNext s o front given next old new samples
 TakesNext s o front given stand old new samples (Ok None) = (stand.run ≡ 0) × EndsWith s None stand.block (ahead old) Ended (length (ahead old))
 TakesNext s o front given stand old new samples (Err faults.CodeEnds) = (stand.run ≡ 0) × EndsWith s None stand.block (ahead old) CutOff (length (ahead old))

@@ -13,7 +13,7 @@ use crate::runs::write_run;
 use crate::write::{write_all, write_block};
 use arrayvec::ArrayVec;
 use rice_bits::{BitReader, Intake, Meter, Outlet};
-use rice_code::{CodeFault, Decoder, Step};
+use rice_code::{CodeFault, Decoder, NextBlock};
 use rice_samples::Setting;
 
 /// Returns how many samples of the next block are wanted after the first `written`.
@@ -331,8 +331,8 @@ fn decode_blocks<I: Intake, O: Outlet, const SIZE: usize, const WIDTH: usize>(
             }
         };
         match step {
-            Step::Block => {}
-            Step::Done => return ended(end_of(asked, written), written, reader, &meter),
+            NextBlock::Block => {}
+            NextBlock::Done => return ended(end_of(asked, written), written, reader, &meter),
         }
         let block_levels = &levels.as_slice()[..count];
         match write_block(&own, block_levels, &mut bytes, outlet) {

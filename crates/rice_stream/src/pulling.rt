@@ -5,12 +5,12 @@ ghost use Rattle.rice_bits.specs.Bits.{bits_of};
 ghost use Rattle.rice_samples.specs.Parameters.{value_count, values_at, width as width_of};
 ghost use Rattle.rice_samples.specs.bytes.Spelling.{spellings};
 ghost use Rattle.rice_code.specs.declared.decode.fault.CodeFault.TheVariants as faults;
-ghost use Rattle.rice_stream.specs.Pulling.{Beginning, IsStand, DecodesMore, GoesOnAt, IsReadFrom, TakesNext, ahead, pause_for, state_of};
+ghost use Rattle.rice_stream.specs.Pulling.{Origin, IsStand, DecodesMore, GoesOnAt, IsReadFrom, TakesNext, ahead, pause_for, state_of};
 
 use crate::stand::{Pause, Stand};
 use arrayvec::ArrayVec;
 use rice_bits::{BitReader, Meter, SliceIn};
-use rice_code::{CodeFault, Decoder, Step};
+use rice_code::{CodeFault, Decoder, NextBlock};
 use rice_samples::{Setting, write_spellings};
 
 /// The most bits of a code.
@@ -27,8 +27,8 @@ pub fn decode_more(
     piece: &[u8],
     samples: &mut [u8],
 ) -> (Stand, Pause)
-    requires { (o : Beginning) × (front : List Bool) × (given : List ℤ) × IsStand setting.now o stand.now front given }
-    ensures { (o : Beginning) (front : List Bool) (given : List ℤ) → IsStand setting.now o stand.now front given →
+    requires { (o : Origin) × (front : List Bool) × (given : List ℤ) × IsStand setting.now o stand.now front given }
+    ensures { (o : Origin) (front : List Bool) (given : List ℤ) → IsStand setting.now o stand.now front given →
         DecodesMore setting.now o front given piece.now stand.now samples.old samples.new result.0 result.1 }
 {
     if is_too_long(stand.bits, piece.len()) {
@@ -103,14 +103,14 @@ fn next_stand(
     reader: &mut BitReader<SliceIn<'_>>,
     levels: &mut ArrayVec<u32, 64>,
 ) -> Result<Option<Stand>, CodeFault>
-    requires stand { (o : Beginning) × (front : List Bool) × (given : List ℤ) × IsStand setting.now o stand.now front given }
+    requires stand { (o : Origin) × (front : List Bool) × (given : List ℤ) × IsStand setting.now o stand.now front given }
     requires state { decoder.old ≡ state_of setting.now stand.now }
     requires reads { IsReadFrom stand.now reader.old }
     requires aligned { stand.now.run ≡ 0 → reader.old.taken % 8 ≡ stand.now.bits % 8 }
     ensures legal { All (λ l. l < value_count setting.now) levels.new.items }
     ensures goes_on { IfOk result (λ next. IfSome next (λ next.
         GoesOnAt setting.now stand.now next decoder.new reader.old reader.new × (length levels.new.items ≡ setting.now.block))) }
-    ensures takes { (o : Beginning) (front : List Bool) (given : List ℤ) → IsStand setting.now o stand.now front given →
+    ensures takes { (o : Origin) (front : List Bool) (given : List ℤ) → IsStand setting.now o stand.now front given →
         TakesNext setting.now o front given stand.now reader.old reader.new (values_at setting.now levels.new.items) result }
 {
     let size = setting.block() as u64;
@@ -122,8 +122,8 @@ fn next_stand(
         Err(fault) => return Err(fault),
     };
     match step {
-        Step::Block => {}
-        Step::Done => return Ok(None),
+        NextBlock::Block => {}
+        NextBlock::Done => return Ok(None),
     }
     meter.tick(size);
     let next = Stand {

@@ -45,7 +45,7 @@ pub struct Stand {
 }
 
 impl Stand {
-    ghost use Rattle.rice_stream.specs.Pulling.{Beginning, IsStand, at_front};
+    ghost use Rattle.rice_stream.specs.Pulling.{Origin, IsStand, at_front};
 
     /// Returns the place before all of a code.
     pub fn new(setting: &Setting) -> Self

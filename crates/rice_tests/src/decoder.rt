@@ -5,7 +5,7 @@ use crate::cases::Cases;
 use crate::table::{Columns, bytes_of, number_of, samples_of, setting_of};
 use arrayvec::ArrayVec;
 use rice_bits::{BitReader, Intake, MemoryIn, Meter};
-use rice_code::{CodeFault, Decoder, Step};
+use rice_code::{CodeFault, Decoder, NextBlock};
 use rice_samples::Setting;
 use std::alloc::Global;
 use std::test::Fail;
@@ -14,7 +14,7 @@ use std::test::Fail;
 #[derive(Drop)]
 struct Seen {
     samples: Vec<i64>,
-    answer: Result<Step, CodeFault>,
+    answer: Result<NextBlock, CodeFault>,
     bits: u64,
     steps: u64,
 }
@@ -35,7 +35,7 @@ fn decode<I: Intake + Drop>(
     let mut samples = Vec::new(alloc);
     for _ in 0..2000 {
         let answer = decoder.next_block(&mut reader, &mut meter, &mut block);
-        if answer != Ok(Step::Block) {
+        if answer != Ok(NextBlock::Block) {
             cases.check(block.is_empty());
             let seen = Seen {
                 samples,
@@ -76,9 +76,9 @@ fn decodes_line(cases: &mut Cases<'_>, alloc: Global, line: &str) -> Result<(), 
 }
 
 /// Returns what a decoder answers at the end of a code, by its name.
-fn answer_of(name: &str) -> Result<Result<Step, CodeFault>, Fail> {
+fn answer_of(name: &str) -> Result<Result<NextBlock, CodeFault>, Fail> {
     match name {
-        "done" => Ok(Ok(Step::Done)),
+        "done" => Ok(Ok(NextBlock::Done)),
         "ends" => Ok(Err(CodeFault::CodeEnds)),
         "run" => Ok(Err(CodeFault::RunPastSegment)),
         "residual" => Ok(Err(CodeFault::ResidualTooLarge)),
@@ -150,10 +150,10 @@ fn waiting_samples(rt: HostRuntime) -> Result<(), Fail> {
     let mut meter = Meter::new();
     let mut block = ArrayVec::new();
     cases.check(decoder.waiting() == 0);
-    cases.check(decoder.next_block(&mut reader, &mut meter, &mut block) == Ok(Step::Block));
+    cases.check(decoder.next_block(&mut reader, &mut meter, &mut block) == Ok(NextBlock::Block));
     cases.check(decoder.waiting() == 8);
     cases.check(decoder.is_in_run());
-    cases.check(decoder.next_block(&mut reader, &mut meter, &mut block) == Ok(Step::Block));
+    cases.check(decoder.next_block(&mut reader, &mut meter, &mut block) == Ok(NextBlock::Block));
     cases.check(decoder.waiting() == 0);
     cases.check(!decoder.is_in_run());
     cases.check(meter.steps() == 17);
@@ -170,7 +170,7 @@ fn repeated_samples(rt: HostRuntime) -> Result<(), Fail> {
     let mut meter = Meter::new();
     let mut levels = ArrayVec::new();
     cases.check(!decoder.repeats());
-    cases.check(decoder.next_levels(&mut reader, &mut meter, &mut levels) == Ok(Step::Block));
+    cases.check(decoder.next_levels(&mut reader, &mut meter, &mut levels) == Ok(NextBlock::Block));
     cases.check(levels.as_slice() == [0; 8].as_slice());
     if decoder.repeats() {
         decoder.repeat_blocks(1);
@@ -206,8 +206,8 @@ fn bytes_of_a_block(rt: HostRuntime) -> Result<(), Fail> {
     if has_eights(&setting) {
         cases.check(!decoder.next_bytes::<_, 8, 1>(&mut reader, &mut meter, &mut bytes));
         let first = decoder.next_levels(&mut reader, &mut meter, &mut levels);
-        cases.check(first == Ok(Step::Block));
-        if first == Ok(Step::Block) {
+        cases.check(first == Ok(NextBlock::Block));
+        if first == Ok(NextBlock::Block) {
             cases.check(decoder.next_bytes::<_, 8, 1>(&mut reader, &mut meter, &mut bytes));
         }
     }
@@ -226,7 +226,7 @@ fn steps_of_second_extension(rt: HostRuntime) -> Result<(), Fail> {
     let mut decoder = Decoder::new(setting_of("N")?);
     let mut meter = Meter::new();
     let mut block = ArrayVec::new();
-    cases.check(decoder.next_block(&mut reader, &mut meter, &mut block) == Ok(Step::Block));
+    cases.check(decoder.next_block(&mut reader, &mut meter, &mut block) == Ok(NextBlock::Block));
     cases.check(reader.taken() == 10);
     cases.check(meter.steps() == 11);
     cases.end(&rt);

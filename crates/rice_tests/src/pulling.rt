@@ -1,11 +1,11 @@
 ghost use Rattle.std.specs.Prelude.{Bool, List, ℤ};
-ghost use Rattle.rice_stream.specs.Pulling.{Beginning, IsStand};
+ghost use Rattle.rice_stream.specs.Pulling.{Origin, IsStand};
 
 use crate::cases::Cases;
 use crate::table::setting_of;
 use arrayvec::ArrayVec;
 use rice_bits::{BitReader, MemoryIn, Meter};
-use rice_code::{Decoder, Step};
+use rice_code::{Decoder, NextBlock};
 use rice_samples::Setting;
 use rice_stream::{Pause, Stand, decode_more};
 use std::test::Fail;
@@ -19,8 +19,8 @@ fn pull(
     samples: &[u8; 8],
     pause: Pause,
 ) -> Stand
-    requires { (o : Beginning) × (front : List Bool) × (given : List ℤ) × IsStand setting.now o stand.now front given }
-    ensures { (o : Beginning) × (front : List Bool) × (given : List ℤ) × IsStand setting.now o result front given }
+    requires { (o : Origin) × (front : List Bool) × (given : List ℤ) × IsStand setting.now o stand.now front given }
+    ensures { (o : Origin) × (front : List Bool) × (given : List ℤ) × IsStand setting.now o result front given }
 {
     let mut given = [0xEE; 8];
     let (next, why) = decode_more(setting, stand, piece, &mut given);
@@ -138,7 +138,7 @@ fn a_block_from_its_place(rt: HostRuntime) -> Result<(), Fail> {
     };
     let mut meter = Meter::new();
     let mut block = ArrayVec::new();
-    cases.check(decoder.next_block(&mut reader, &mut meter, &mut block) == Ok(Step::Block));
+    cases.check(decoder.next_block(&mut reader, &mut meter, &mut block) == Ok(NextBlock::Block));
     cases.check(block.as_slice() == [5, 5, 5, 5, 5, 5, 5, 4].as_slice());
     cases.check((decoder.block(), decoder.before(), decoder.run()) == (0, 4, 0));
     cases.end(&rt);

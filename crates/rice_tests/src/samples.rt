@@ -5,8 +5,8 @@ use crate::table::{self, Columns, answer_to, bytes_of, setting_of};
 use rice_bits::{BitSink, Meter};
 use rice_samples::{
     Segment, Setting, SettingFault, bytes_of as bytes_of_sample, from_pattern, level_of_pattern,
-    levels_of, levels_of_patterns, pattern, pattern_at, residual, restore, restore_all, sample_of,
-    spell_patterns, write_spellings, write_spellings_as,
+    levels_of, levels_of_patterns, pattern, pattern_at, residual, restore, restore_near_first,
+    sample_of, spell_patterns, write_spellings, write_spellings_as,
 };
 use std::test::Fail;
 
@@ -493,7 +493,7 @@ fn samples_restored_in_a_row(rt: HostRuntime) -> Result<(), Fail> {
     assert!(rt; are_below(setting.values(), &residuals));
     assert!(rt; are_below(signed.values(), &patterns));
     let mut levels = [0; 8];
-    restore_all(&setting, 5, &residuals, &mut levels);
+    restore_near_first(&setting, 5, &residuals, &mut levels);
     cases.check(levels == [6, 5, 5, 4, 0, 255, 0, 255]);
     levels_of_patterns(&signed, &patterns, &mut levels);
     cases.check(levels == [127, 0, 255, 128, 129, 130, 126, 1]);

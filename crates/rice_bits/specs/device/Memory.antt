@@ -6,9 +6,9 @@ use Rattle.rice_bits.specs.declared.device.memory.ZeroIn.{ZeroIn}
 use Rattle.rice_bits.specs.declared.device.memory.MemoryOut.{MemoryOut}
 
 -- n, or the limit where there is a smaller one
-abbrev pub at_most : Option ℕ → ℕ → ℕ
-at_most None n = n
-at_most (Some limit) n = min limit n
+abbrev pub limited_to : Option ℕ → ℕ → ℕ
+limited_to None n = n
+limited_to (Some limit) n = min limit n
 
 -- what is left of a limit after n
 abbrev pub limit_after : Option ℕ → ℕ → Option ℕ
@@ -29,7 +29,7 @@ memory_before_failure s = s.before_failure
 
 -- how many bytes a call gives for a buffer of n bytes
 abbrev pub memory_gives : MemoryIn → ℕ → ℕ
-memory_gives s n = at_most (memory_before_failure s) (min (min n (length (memory_left s))) (memory_in_piece s))
+memory_gives s n = limited_to (memory_before_failure s) (min (min n (length (memory_left s))) (memory_in_piece s))
 
 abbrev pub memory_in_failures : MemoryIn → ℕ
 memory_in_failures s = s.failures

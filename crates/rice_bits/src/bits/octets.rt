@@ -18,7 +18,7 @@ pub fn front(bytes: &[u8], count: usize) -> &[u8]
 
 /// Returns the eight bytes of `word`, least significant first.
 #[inline(always)]
-fn low_first(word: u64) -> u8x8
+fn least_byte_first(word: u64) -> u8x8
     ensures { result ≡ to_le_bytes w64 word }
 {
     u64x1::splat(word).to_le_bytes()
@@ -30,7 +30,7 @@ fn store(bytes: &mut [u8], at: usize, word: u64)
     requires { at + 8 ≤ length bytes.old }
     ensures { bytes.new ≡ take at bytes.old ++ (to_le_bytes w64 word ++ drop (at + 8) bytes.old) }
 {
-    low_first(word).copy_to_slice(&mut bytes[at..]);
+    least_byte_first(word).copy_to_slice(&mut bytes[at..]);
 }
 
 /// Returns the digits of `byte` and then those of `word`, as the eight bytes that spell them, the first
@@ -180,5 +180,5 @@ pub fn eight_bytes_from(bytes: &[u8], at: usize) -> u8x8
     ensures fit { All (λ b. b < 2 ^ 8) result }
     ensures bits { flat_map (word 8) result ≡ take (8 * 8) (drop at (bits_of bytes.now)) }
 {
-    low_first(word_from(bytes, at).swap_bytes())
+    least_byte_first(word_from(bytes, at).swap_bytes())
 }

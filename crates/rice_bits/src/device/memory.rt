@@ -97,7 +97,7 @@ pub struct MemoryOut<'a> {
 }
 
 impl<'a> MemoryOut<'a> {
-    ghost use Rattle.rice_bits.specs.device.Memory.{memory_taken, memory_state, memory_out_piece, memory_room, memory_out_failures, at_most};
+    ghost use Rattle.rice_bits.specs.device.Memory.{memory_taken, memory_state, memory_out_piece, memory_room, memory_out_failures, limited_to};
 
     /// Returns an outlet that takes at most `piece` bytes a call. No call passes the place `fail_at` or the end of `room`, and each
     /// call that finds the outlet there fails.
@@ -106,7 +106,7 @@ impl<'a> MemoryOut<'a> {
         ensures bytes { memory_taken result ≡ [] }
         ensures state { memory_state result ≡ outlet.begun room.entry.ghost_name room.old }
         ensures piece { memory_out_piece result ≡ piece }
-        ensures room { memory_room result ≡ at_most fail_at (length room.old) }
+        ensures room { memory_room result ≡ limited_to fail_at (length room.old) }
         ensures failures { memory_out_failures result ≡ 0 }
     {
         let end = match fail_at {

@@ -1,7 +1,7 @@
 -- What a piece of code gives, by its numbers.
 use Rattle.std.proofs.Common.{◌≡◌, ℕ, ◌+◌, ◌-◌, ◌*◌, ◌≤◌, Bool, List, length, length-append, ap, arith, ◌∙◌, ℤ}
 use Rattle.rice_samples.specs.Parameters.{Parameters, width}
-use Rattle.rice_stream.specs.Pulling.{Beginning, IsStand, DecodesMore, PausesAt}
+use Rattle.rice_stream.specs.Pulling.{Origin, IsStand, DecodesMore, PausesAt}
 use Rattle.rice_stream.specs.declared.stand.Pause.{Pause}
 use Rattle.rice_stream.specs.declared.stand.Pause.TheVariants as pauses
 use Rattle.rice_stream.specs.declared.stand.Stand.{Stand}
@@ -15,7 +15,7 @@ written_fits s old new piece room count rest pauses.RunPastSegment at = let h : 
 written_fits s old new piece room count rest pauses.ResidualTooLarge at = let h : width s * count + width s * s.block ≤ room = at.0 in omega arith
 written_fits s old new piece room count rest pauses.TooLong at = let e : width s * count ≡ 0 = ap (λ n. width s * n) at.none ∙ omega arith in omega arith
 
-module _ (s : Parameters) (o : Beginning) (front : List Bool) (given : List ℤ) (piece : List ℕ) (old new : Stand) (out_old out : List ℕ) (pause : Pause) where
+module _ (s : Parameters) (o : Origin) (front : List Bool) (given : List ℤ) (piece : List ℕ) (old new : Stand) (out_old out : List ℕ) (pause : Pause) where
   pub more_samples : IsStand s o old front given → (d : DecodesMore s o front given piece old out_old out new pause) → new.samples ≡ old.samples + length d.samples
   more_samples h d = omega (arith, h.samples, d.stands.samples, length-append given d.samples)
 

@@ -11,7 +11,7 @@ use Rattle.rice_stream.specs.declared.outcome.Report.{Report}
 use Rattle.rice_stream.specs.declared.seam.Seam.{Seam}
 use Rattle.rice_c.specs.declared.report.RiceReport.{RiceReport}
 use Rattle.rice_c.specs.Feeds.{WritesFront, fault_of}
-use Rattle.rice_c.specs.Statuses.{number_of, fault_status, fault_place}
+use Rattle.rice_c.specs.Statuses.{status_number, fault_status, fault_place}
 
 -- the room of an outlet that was not used
 inner : Option Room → Room → Room
@@ -62,7 +62,7 @@ not_read fault n fails e = let f : Fails (Some Read) 0 0 0 n = subst (λ (f : Op
 
 -- the room of an outlet that began with a slice, and what became of the slice
 pub writes_front : (old new : List ℕ) (name failures : ℕ) (room : Room) (fault : Option Fault) (r : RiceReport) (status : ℕ) (wrote : (more : List ℕ) × Fills (begun name old) room more) → new ≡ room.bytes ++ room.rest → length new ≡ length old →
-    Fails fault 0 0 0 failures → (0 < failures → room.rest ≡ []) → status ≡ number_of (fault_status fault) → r.written ≡ length room.bytes → r.place ≡ fault_place fault → WritesFront old new room.bytes fault r status
+    Fails fault 0 0 0 failures → (0 < failures → room.rest ≡ []) → status ≡ status_number (fault_status fault) → r.written ≡ length room.bytes → r.place ≡ fault_place fault → WritesFront old new room.bytes fault r status
 writes_front old new name failures room fault r status wrote whole len fails full is written place =
     let fills = wrote.1 in
     let both : length new ≡ length room.bytes + length room.rest = ap length whole ∙ length-append room.bytes room.rest in

@@ -13,7 +13,7 @@ use Rattle.rice_code.proofs.lemmas.meaning.OneMeaning.{decoded_is_one}
 use Rattle.rice_stream.specs.Decodes.{EndsDecoding}
 use Rattle.rice_stream.specs.Laws.{EndsCode, IsPlace, place_at}
 use Rattle.rice_stream.specs.Laws as stream
-use Rattle.rice_stream.specs.Pulling.{Beginning, IsStand, DecodesMore}
+use Rattle.rice_stream.specs.Pulling.{Origin, IsStand, DecodesMore}
 use Rattle.rice_stream.specs.declared.outcome.Fault.{Fault}
 use Rattle.rice_stream.specs.declared.outcome.Report.{Report}
 use Rattle.rice_stream.specs.declared.outcome.Fault.TheVariants as faults
@@ -31,7 +31,7 @@ use Rattle.rice_c.specs.declared.status.Status.TheVariants as statuses
 use Rattle.rice_c.specs.Calls.{DecodesInto, StandsInFront}
 use Rattle.rice_c.specs.Laws.{ArePulled, DrainsTellPlaces, EndsAll, EnoughIsDecoding, IsPulled, Pull, PullsAreDecoding, WriteInParts, last_drain, place_all}
 use Rattle.rice_c.specs.Reports.{report_of}
-use Rattle.rice_c.specs.Statuses.{number_of, pause_status, fault_status, fault_place, pause_place}
+use Rattle.rice_c.specs.Statuses.{status_number, pause_status, fault_status, fault_place, pause_place}
 use Rattle.rice_c.proofs.lemmas.Draining.{more_samples}
 use Rattle.rice_c.proofs.lemmas.Returning.{decode_suffices}
 
@@ -41,7 +41,7 @@ use Rattle.rice_c.proofs.lemmas.Returning.{decode_suffices}
 abbrev pause_of : ℕ → Pause
 pause_of n = cond (n == 9) pauses.Full (cond (n == 11) pauses.Blank (cond (n == 12) pauses.Cut (cond (n == 7) pauses.RunPastSegment (cond (n == 8) pauses.ResidualTooLarge pauses.TooLong))))
 
-pause_is : (q : Pause) (n : ℕ) → n ≡ number_of (pause_status q) → q ≡ pause_of n
+pause_is : (q : Pause) (n : ℕ) → n ≡ status_number (pause_status q) → q ≡ pause_of n
 pause_is pauses.Full n e = ap pause_of (sym e)
 pause_is pauses.Blank n e = ap pause_of (sym e)
 pause_is pauses.Cut n e = ap pause_of (sym e)
@@ -81,7 +81,7 @@ pulled-push s code drain [] last behind h k = ((behind, k), tt)
 pulled-push s code drain (p ∷ ps) last behind h k = (h.0, pulled-push s code p.drain ps last behind h.1 k)
 
 -- what they gave stands in the caller's memory
-wrote_in_parts : (s : Parameters) (code : List ℕ) (o : Beginning) (front : List Bool) (given : List ℤ) (drain : RiceDrain) (pulls : List Pull) (xs : List ℤ) → IsStand s o drain.stand front given → ArePulled s code drain pulls → stream.GiveInParts s drain.stand (engines pulls) xs
+wrote_in_parts : (s : Parameters) (code : List ℕ) (o : Origin) (front : List Bool) (given : List ℤ) (drain : RiceDrain) (pulls : List Pull) (xs : List ℤ) → IsStand s o drain.stand front given → ArePulled s code drain pulls → stream.GiveInParts s drain.stand (engines pulls) xs
     → WriteInParts pulls (spellings s xs)
 wrote_in_parts s code o front given drain [] xs h pulled g = ap (spellings s) g
 wrote_in_parts s code o front given drain (p ∷ ps) xs h pulled g =
@@ -107,7 +107,7 @@ ending_of statuses.RunPastSegment = Past
 ending_of statuses.ResidualTooLarge = Large
 ending_of _ = Reached
 
-ends_code : (paused ended : Status) (behind : List ℕ) → EndsAll paused behind ended → EndsCode (pause_of (number_of paused)) behind (ending_of paused)
+ends_code : (paused ended : Status) (behind : List ℕ) → EndsAll paused behind ended → EndsCode (pause_of (status_number paused)) behind (ending_of paused)
 ends_code statuses.OnlyZeros ended behind h = (h.0, refl)
 ends_code statuses.MoreCode ended behind h = (h.0, refl)
 ends_code statuses.RunPastSegment ended behind h = refl
@@ -123,17 +123,17 @@ never_reached_so _ ended behind h e = absurd h
 
 -- what the status and the place of the whole call tell
 tells_end : (s : Parameters) (paused ended : Status) (behind : List ℕ) (xs : List ℤ) (fault : Option Fault) (last : RiceReport) → 1 ≤ s.block → EndsAll paused behind ended → FaultOf s xs (ending_of paused) fault → last.samples ≡ length xs
-    → last.place ≡ pause_place (pause_of (number_of paused)) (length xs / s.block) → (number_of (fault_status fault) ≡ number_of ended) × (fault_place fault ≡ place_all paused last)
-tells_end s statuses.OnlyZeros ended behind xs fault last j h f count place = (ap (λ (v : Option Fault). number_of (fault_status v)) f ∙ ap number_of (sym h.1), ap fault_place f ∙ sym place)
-tells_end s statuses.MoreCode ended behind xs fault last j h f count place = (ap (λ (v : Option Fault). number_of (fault_status v)) f ∙ ap number_of (sym h.1), ap fault_place f ∙ sym count)
+    → last.place ≡ pause_place (pause_of (status_number paused)) (length xs / s.block) → (status_number (fault_status fault) ≡ status_number ended) × (fault_place fault ≡ place_all paused last)
+tells_end s statuses.OnlyZeros ended behind xs fault last j h f count place = (ap (λ (v : Option Fault). status_number (fault_status v)) f ∙ ap status_number (sym h.1), ap fault_place f ∙ sym place)
+tells_end s statuses.MoreCode ended behind xs fault last j h f count place = (ap (λ (v : Option Fault). status_number (fault_status v)) f ∙ ap status_number (sym h.1), ap fault_place f ∙ sym count)
 tells_end s statuses.RunPastSegment ended behind xs fault last j h f count place =
-    (ap (λ (v : Option Fault). number_of (fault_status v)) f.2 ∙ ap number_of (sym h), ap fault_place f.2 ∙ sym (place ∙ ap (λ n. n / s.block) f.1 ∙ mul-div_cancel_left f.0 j))
+    (ap (λ (v : Option Fault). status_number (fault_status v)) f.2 ∙ ap status_number (sym h), ap fault_place f.2 ∙ sym (place ∙ ap (λ n. n / s.block) f.1 ∙ mul-div_cancel_left f.0 j))
 tells_end s statuses.ResidualTooLarge ended behind xs fault last j h f count place =
-    (ap (λ (v : Option Fault). number_of (fault_status v)) f.2 ∙ ap number_of (sym h), ap fault_place f.2 ∙ sym (place ∙ ap (λ n. n / s.block) f.1 ∙ mul-div_cancel_left f.0 j))
+    (ap (λ (v : Option Fault). status_number (fault_status v)) f.2 ∙ ap status_number (sym h), ap fault_place f.2 ∙ sym (place ∙ ap (λ n. n / s.block) f.1 ∙ mul-div_cancel_left f.0 j))
 tells_end s _ ended behind xs fault last j h f count place = absurd h
 
 -- a drain stands for some bits and samples after each pull
-stands_at : (s : Parameters) (code : List ℕ) (o : Beginning) (front : List Bool) (given : List ℤ) (drain : RiceDrain) (pulls : List Pull) → IsStand s o drain.stand front given → ArePulled s code drain pulls
+stands_at : (s : Parameters) (code : List ℕ) (o : Origin) (front : List Bool) (given : List ℤ) (drain : RiceDrain) (pulls : List Pull) → IsStand s o drain.stand front given → ArePulled s code drain pulls
     → (bits : List Bool) × (xs : List ℤ) × IsStand s o (last_drain drain pulls).stand bits xs
 stands_at s code o front given drain [] h pulled = (front, given, h)
 stands_at s code o front given drain (p ∷ ps) h pulled =
@@ -145,7 +145,7 @@ record TellsDrain (s : Parameters) (p : Pull) : Type 0 where
   pub samples : p.report.samples ≡ p.drain.stand.samples
   pub place : p.report.place ≡ pause_place (pause_of p.status) (p.drain.stand.samples / s.block)
 
-tells_drain : (s : Parameters) (code : List ℕ) (o : Beginning) (front : List Bool) (given : List ℤ) (drain : RiceDrain) (p : Pull) (behind : List ℕ) → IsStand s o drain.stand front given → IsPulled s code drain p behind → TellsDrain s p
+tells_drain : (s : Parameters) (code : List ℕ) (o : Origin) (front : List Bool) (given : List ℤ) (drain : RiceDrain) (p : Pull) (behind : List ℕ) → IsStand s o drain.stand front given → IsPulled s code drain p behind → TellsDrain s p
 tells_drain s code o front given drain p behind h pulled =
     let d = pulled.1 o front given h in
     record {
@@ -210,7 +210,7 @@ enough_is_decoding s code o before setting first opened pulls n old new report s
     let part = take n p.samples in
     let xs = before ++ part in
     let bytes = spellings s p.samples in
-    let write : d.fault ≢ Some faults.Write = λ full. decode_suffices s (o.samples + n) code old new report status d (omega (arith, room)) (d.tells.status ∙ ap (λ (v : Option Fault). number_of (fault_status v)) full) in
+    let write : d.fault ≢ Some faults.Write = λ full. decode_suffices s (o.samples + n) code old new report status d (omega (arith, room)) (d.tells.status ∙ ap (λ (v : Option Fault). status_number (fault_status v)) full) in
     let same = decodes_as s legal (Some (o.samples + n)) code d.passes.left d.call (report_of report) d.fault xs d.decodes.samples Reached d.decodes.ending (stream.last_stand first.stand (engines pulls)).bits p.decoded p.limit (inr refl) d.passes.gave d.passes.left_is d.decodes.ends d.passes.reads write in
     let count : length part ≡ n = length-take-le n p.samples p.size in
     let size : length (spellings s part) ≡ width s * n = length-spellings s part ∙ ap (λ m. width s * m) count in
@@ -220,7 +220,7 @@ enough_is_decoding s code o before setting first opened pulls n old new report s
       bytes,
       wrote_in_parts s code o [] [] first pulls p.samples begins pulled p.parts,
       subst (λ (l : List ℕ). StandsInFront l old new) (same.written ∙ spellings-append s before part ∙ ap (λ l. spellings s before ++ l) first_n) d.passes.front,
-      d.tells.status ∙ ap (λ (v : Option Fault). number_of (fault_status v)) same.fault_is,
+      d.tells.status ∙ ap (λ (v : Option Fault). status_number (fault_status v)) same.fault_is,
       omega (arith, same.samples, length-append before part, count, place.count),
       same.bits ∙ ap (λ (v : Stand). v.bits) at,
     )

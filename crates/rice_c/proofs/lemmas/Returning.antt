@@ -17,7 +17,7 @@ use Rattle.rice_c.specs.Calls.{EncodesInto, DecodesInto, StandsInFront}
 use Rattle.rice_c.specs.Laws.{ReturnsBytes, ReturnsBytesAndFill, RoomSuffices}
 use Rattle.rice_c.specs.Reports.{report_of}
 use Rattle.rice_c.specs.Rooms.{code_room}
-use Rattle.rice_c.specs.Statuses.{number_of, fault_status}
+use Rattle.rice_c.specs.Statuses.{status_number, fault_status}
 use Rattle.rice_c.proofs.lemmas.Room.{encode_wants, decode_wants, write_of, none_of}
 
 pub encode_suffices : (s : Parameters) (input old new : List ℕ) (r : RiceReport) (status : ℕ) → IsLegal s → EncodesInto s input old new r status → code_room s (length input / width s) ≤ length old → status ≢ 9
@@ -41,7 +41,7 @@ record EncodedAll (s : Parameters) (samples : List ℕ) (encoded : RiceReport) (
   pub all : samples ≡ c.given
   pub gave : Consumes (Some c.written) left given
 
-encoded_all : (s : Parameters) (samples code_old code old new : List ℕ) (asked : Option ℕ) (encoded decoded : RiceReport) (status : ℕ) → (e : EncodesInto s samples code_old code encoded (number_of Done)) →
+encoded_all : (s : Parameters) (samples code_old code old new : List ℕ) (asked : Option ℕ) (encoded decoded : RiceReport) (status : ℕ) → (e : EncodesInto s samples code_old code encoded (status_number Done)) →
     (d : DecodesInto s asked (take encoded.written code) old new decoded status) → EncodedAll s samples encoded e.call d.call.left d.call.given
 encoded_all s samples code_old code old new asked encoded decoded status e d =
     let none : e.fault ≡ None = none_of e.fault (sym e.tells.status) e.passes.reads in
@@ -64,7 +64,7 @@ returns_bytes s legal samples code_old code old new encoded decoded status e d r
   where
     by_end : samples ≡ e.call.given → length samples ≡ encoded.samples * width s → ((d.fault ≡ None) × (d.call.written ≡ e.call.given)) ⊎ ((d.fault ≡ Some Read) ⊎ (d.fault ≡ Some Write)) →
         (status ≡ 0) × StandsInFront samples old new
-    by_end given size (inl h) = (d.tells.status ∙ ap (λ (f : Option Fault). number_of (fault_status f)) h.0, d.passes.front ∙ ap (λ l. l ++ drop (length l) old) (h.1 ∙ sym given))
+    by_end given size (inl h) = (d.tells.status ∙ ap (λ (f : Option Fault). status_number (fault_status f)) h.0, d.passes.front ∙ ap (λ l. l ++ drop (length l) old) (h.1 ∙ sym given))
     by_end given size (inr (inl h)) = absurd (d.passes.reads h)
     by_end given size (inr (inr h)) =
         absurd (let wants = decode_wants s encoded.samples d.call (report_of decoded) (subst (λ (f : Option Fault). Decodes s (Some encoded.samples) d.call (report_of decoded) f) h d.decodes) in omega (arith, wants, d.passes.full h, room, size))
@@ -74,11 +74,11 @@ returns_bytes_and_fill s legal samples code_old code old new encoded decoded sta
     let a = encoded_all s samples code_old code old new None encoded decoded status e d in
     by_end a.all (stream.returns_bytes_and_fill s legal e.call d.call (report_of encoded) (report_of decoded) d.fault a.encodes a.gave d.decodes)
   where
-    status_of : (f : Option Fault) → d.fault ≡ f → status ≡ number_of (fault_status f)
-    status_of f is = d.tells.status ∙ ap (λ (f : Option Fault). number_of (fault_status f)) is
+    status_of : (f : Option Fault) → d.fault ≡ f → status ≡ status_number (fault_status f)
+    status_of f is = d.tells.status ∙ ap (λ (f : Option Fault). status_number (fault_status f)) is
 
     by_end : samples ≡ e.call.given → ((d.fault ≡ None) × (fill : List ℤ) × (length fill < 64 * s.block) × (d.call.written ≡ e.call.given ++ spellings s fill)) ⊎ ((d.fault ≡ Some Read) ⊎ (d.fault ≡ Some Write)) →
-        ((status ≡ number_of Done) × (fill : List ℤ) × (length fill < 64 * s.block) × StandsInFront (samples ++ spellings s fill) old new) ⊎ (status ≡ number_of NoRoom)
+        ((status ≡ status_number Done) × (fill : List ℤ) × (length fill < 64 * s.block) × StandsInFront (samples ++ spellings s fill) old new) ⊎ (status ≡ status_number NoRoom)
     by_end given (inl h) = inl (status_of None h.0, h.1, h.2, d.passes.front ∙ ap (λ l. l ++ drop (length l) old) (h.3 ∙ ap (λ l. l ++ spellings s h.1) (sym given)))
     by_end given (inr (inl h)) = absurd (d.passes.reads h)
     by_end given (inr (inr h)) = inr (status_of (Some Write) h)

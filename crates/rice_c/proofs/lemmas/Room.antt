@@ -27,7 +27,7 @@ use Rattle.rice_stream.specs.declared.outcome.Report.{Report}
 use Rattle.rice_stream.specs.declared.outcome.Fault.{Fault}
 use Rattle.rice_stream.specs.declared.outcome.Fault.TheVariants.{Read, Write, TooLong, SampleOutOfRange, SampleCut, CodeEnds, RunPastSegment, ResidualTooLarge}
 use Rattle.rice_c.specs.Rooms.{code_room}
-use Rattle.rice_c.specs.Statuses.{number_of, fault_status}
+use Rattle.rice_c.specs.Statuses.{status_number, fault_status}
 
 -- ---- more samples want no less room
 
@@ -115,7 +115,7 @@ decode_wants s count c r d =
 
 -- ---- which faults the statuses tell
 
-pub write_of : (fault : Option Fault) → number_of (fault_status fault) ≡ 9 → fault ≡ Some Write
+pub write_of : (fault : Option Fault) → status_number (fault_status fault) ≡ 9 → fault ≡ Some Write
 write_of None e = absurd cc
 write_of (Some Read) e = absurd cc
 write_of (Some Write) e = refl
@@ -126,7 +126,7 @@ write_of (Some (CodeEnds n)) e = absurd cc
 write_of (Some (RunPastSegment n)) e = absurd cc
 write_of (Some (ResidualTooLarge n)) e = absurd cc
 
-pub none_of : (fault : Option Fault) → number_of (fault_status fault) ≡ 0 → fault ≢ Some Read → fault ≡ None
+pub none_of : (fault : Option Fault) → status_number (fault_status fault) ≡ 0 → fault ≢ Some Read → fault ≡ None
 none_of None e reads = refl
 none_of (Some Read) e reads = absurd (reads refl)
 none_of (Some Write) e reads = absurd cc

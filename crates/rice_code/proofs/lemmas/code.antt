@@ -3,7 +3,7 @@ pub mod BlockPlaces
 pub mod Filling
 pub mod GoingOn
 pub mod Layouts
-pub mod Ones
+pub mod OnesOfForms
 pub mod ReadInOneWay
 pub mod SegmentLayouts
 pub mod SegmentPlaces

@@ -31,8 +31,8 @@ abbrev pub fill_count : Parameters → ℕ → ℕ
 fill_count s n = (s.block - n % s.block) % s.block
 
 -- and after these
-abbrev pub fill_samples : Parameters → List ℤ → ℕ
-fill_samples s xs = fill_count s (length xs)
+abbrev pub fill_count_of : Parameters → List ℤ → ℕ
+fill_count_of s xs = fill_count s (length xs)
 
 -- all its residuals are 0, that at the reference place included
 abbrev pub is_zero_block : BlockData → Bool

@@ -7,9 +7,9 @@ use Rattle.rice_bits.specs.declared.read.fault.BitFault.{BitFault}
 use Rattle.rice_samples.specs.Parameters.{Parameters}
 use Rattle.rice_code.specs.code.Blocks.{BlockData}
 use Rattle.rice_code.specs.code.CodedDataSets.{CodedDataSet, NoCompression, SecondExtension, Split, ZeroBlocks, RemainderOfSegment, bits_of_set, turns, run_with_zeros, run_number, no_compression_tail, second_extension_tail, split_tail, run_tail}
-use Rattle.rice_code.specs.declared.decode.options.BlockHead.{BlockHead}
-use Rattle.rice_code.specs.declared.decode.options.SetHead.{SetHead}
-use Rattle.rice_code.specs.declared.decode.options.SetHead.TheVariants.{Residuals, Zeros}
+use Rattle.rice_code.specs.declared.decode.options.BlockSummary.{BlockSummary}
+use Rattle.rice_code.specs.declared.decode.options.SetSummary.{SetSummary}
+use Rattle.rice_code.specs.declared.decode.options.SetSummary.TheVariants.{Residuals, Zeros}
 use Rattle.rice_code.specs.code.Forms.{IsForm, IsBlock, IsZeroAtReference, RunIsSound, ResidualsAreSound, AllFit, blocks_in}
 
 -- A reader took the fundamental sequences of the high parts of `count` residuals, and then their low parts, words of k bits.
@@ -47,7 +47,7 @@ set_tail s (RemainderOfSegment reference) = run_tail s reference 4
 -- A reader took what follows the identifier of a block that this option codes.
 -- `head` has the reference, and says whether the residuals are sound: then they are these.
 pub record BlockRead {I : Type 0} (old new : Reader I) (old_steps new_steps : ℕ)
-    (s : Parameters) (b : ℕ) (option : BlockData → CodedDataSet) (head : BlockHead) (residuals : List ℕ) : Type 0 where
+    (s : Parameters) (b : ℕ) (option : BlockData → CodedDataSet) (head : BlockSummary) (residuals : List ℕ) : Type 0 where
   pub contents : BlockData
   pub form : IsForm s b (option contents)
   pub reference_is : contents.reference ≡ head.reference
@@ -73,12 +73,12 @@ pub record DescribesBlock (s : Parameters) (b : ℕ) (reference : Option ℕ) (s
   pub refused : sound ≡ false → ResidualsAreSound s set → ⊥
 
 -- what is known of a coded data set by its head and residuals
-abbrev pub DescribesSet : Parameters → ℕ → SetHead → List ℕ → CodedDataSet → Type 0
+abbrev pub DescribesSet : Parameters → ℕ → SetSummary → List ℕ → CodedDataSet → Type 0
 DescribesSet s b (Residuals reference sound near) residuals set = DescribesBlock s b reference sound residuals set
 DescribesSet s b (Zeros reference zeros) residuals set = set ≡ run_with_zeros reference zeros
 
 -- A reader took a data set, sound or not.
-pub record SetRead {I : Type 0} (old new : Reader I) (old_steps new_steps : ℕ) (s : Parameters) (b : ℕ) (taken : SetHead) (residuals : List ℕ) : Type 0 where
+pub record SetRead {I : Type 0} (old new : Reader I) (old_steps new_steps : ℕ) (s : Parameters) (b : ℕ) (taken : SetSummary) (residuals : List ℕ) : Type 0 where
   pub set : CodedDataSet
   pub form : IsForm s b set
   pub takes : Takes old new (bits_of_set s set)
@@ -95,31 +95,31 @@ pub record SetCut {I : Type 0} (old new : Reader I) (old_steps new_steps : ℕ) 
   pub steps : is_blank bits ≡ true → new_steps + old.taken ≡ old_steps + new.taken
 
 -- what follows an identifier of 0, as each coded data set that has one spells it
-abbrev pub low_tail : Parameters → CodedDataSet → List Bool
-low_tail s (NoCompression c) = []
-low_tail s (SecondExtension c) = true ∷ second_extension_tail s c
-low_tail s (Split k c) = []
-low_tail s (ZeroBlocks reference z) = false ∷ run_tail s reference (run_number z)
-low_tail s (RemainderOfSegment reference) = false ∷ run_tail s reference 4
+abbrev pub low_entropy_tail : Parameters → CodedDataSet → List Bool
+low_entropy_tail s (NoCompression c) = []
+low_entropy_tail s (SecondExtension c) = true ∷ second_extension_tail s c
+low_entropy_tail s (Split k c) = []
+low_entropy_tail s (ZeroBlocks reference z) = false ∷ run_tail s reference (run_number z)
+low_entropy_tail s (RemainderOfSegment reference) = false ∷ run_tail s reference 4
 
 -- the identifier of the coded data set is 0
-abbrev pub IsLow : CodedDataSet → Type 0
-IsLow (NoCompression c) = ⊥
-IsLow (SecondExtension c) = ⊤
-IsLow (Split k c) = ⊥
-IsLow (ZeroBlocks reference z) = ⊤
-IsLow (RemainderOfSegment reference) = ⊤
+abbrev pub IsLowEntropy : CodedDataSet → Type 0
+IsLowEntropy (NoCompression c) = ⊥
+IsLowEntropy (SecondExtension c) = ⊤
+IsLowEntropy (Split k c) = ⊥
+IsLowEntropy (ZeroBlocks reference z) = ⊤
+IsLowEntropy (RemainderOfSegment reference) = ⊤
 
-pub record LowRead {I : Type 0} (old new : Reader I) (old_steps new_steps : ℕ) (s : Parameters) (b : ℕ) (taken : SetHead) (residuals : List ℕ) : Type 0 where
+pub record LowEntropyRead {I : Type 0} (old new : Reader I) (old_steps new_steps : ℕ) (s : Parameters) (b : ℕ) (taken : SetSummary) (residuals : List ℕ) : Type 0 where
   pub set : CodedDataSet
-  pub low : IsLow set
+  pub low : IsLowEntropy set
   pub form : IsForm s b set
-  pub takes : Takes old new (low_tail s set)
+  pub takes : Takes old new (low_entropy_tail s set)
   pub tells : DescribesSet s b taken residuals set
   pub steps : new_steps + old.taken ≡ old_steps + new.taken + turns set
 
-pub record LowCut {I : Type 0} (old new : Reader I) (old_steps new_steps : ℕ) (s : Parameters) (b : ℕ) (fault : BitFault) : Type 0 where
+pub record LowEntropyCut {I : Type 0} (old new : Reader I) (old_steps new_steps : ℕ) (s : Parameters) (b : ℕ) (fault : BitFault) : Type 0 where
   pub bits : List Bool
   pub stops : Stops old new bits fault
-  pub none : (d : CodedDataSet) (more : List Bool) → IsForm s b d → IsLow d → bits ≡ low_tail s d ++ more → ⊥
+  pub none : (d : CodedDataSet) (more : List Bool) → IsForm s b d → IsLowEntropy d → bits ≡ low_entropy_tail s d ++ more → ⊥
   pub steps : is_blank bits ≡ true → new_steps + old.taken ≡ old_steps + new.taken

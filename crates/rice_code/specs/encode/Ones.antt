@@ -8,7 +8,7 @@ pub record Gathers (word left : ℕ) (bits : List Bool) : Type 0 where
   pub front : length bits ≤ 64 → word ≡ number_of bits * 2 ^ (64 - length bits)
 
 -- A number begins with these bits, and `left` zeros follow them.
-pub record Fills (value left : ℕ) (bits : List Bool) : Type 0 where
+pub record HasFront (value left : ℕ) (bits : List Bool) : Type 0 where
   pub digits : value ≡ number_of bits * 2 ^ left
 
 -- the fundamental sequences of four numbers
@@ -20,7 +20,7 @@ abbrev pub sequences_from : ℕ → ℕ → ℕ → ℕ → ℕ → List Bool
 sequences_from from a b c d = (if from == 0 then fundamental_sequence a else []) ++ fundamental_sequence b ++ fundamental_sequence c ++ fundamental_sequence d
 
 -- the digits of a number are these bits
-pub record Spells (bits : List Bool) (value width : ℕ) : Type 0 where
+pub record HasDigits (bits : List Bool) (value width : ℕ) : Type 0 where
   pub len : length bits ≡ width
   pub fits : value < 2 ^ width
   pub digits : word width value ≡ bits

@@ -16,8 +16,8 @@ ghost use Rattle.rice_code.specs.code.CodedDataSets.{run_with_zeros};
 
 use crate::decode::block_ahead::{spell_ahead, split_ahead, take_ahead};
 use crate::decode::coded_data_set::read_set;
-use crate::decode::fault::{CodeFault, Step};
-use crate::decode::options::SetHead;
+use crate::decode::fault::{CodeFault, NextBlock};
+use crate::decode::options::SetSummary;
 use crate::decode::plain_blocks::{last_of_plain, plain_len, spell_plain_row};
 use crate::decode::restoring::{restore_block, restore_zeros};
 use crate::sizes::known_or;
@@ -50,11 +50,11 @@ fn run_blocks(setting: &Setting, block: u64, zeros: u64) -> Option<u32>
 }
 
 /// Returns what a decoder answers when its reader refuses.
-fn answer_of(fault: BitFault) -> Result<Step, CodeFault>
+fn answer_of(fault: BitFault) -> Result<NextBlock, CodeFault>
     ensures { result ≡ answer_to fault }
 {
     match fault {
-        BitFault::End { blank: true } => Ok(Step::Done),
+        BitFault::End { blank: true } => Ok(NextBlock::Done),
         BitFault::End { blank: false } => Err(CodeFault::CodeEnds),
         BitFault::Read => Err(CodeFault::Read),
         BitFault::TooLong => Err(CodeFault::TooLong),
@@ -139,7 +139,7 @@ pub struct Decoder {
     /// The level of the sample before it.
     before: u32,
     run: u32,
-    stopped: Option<Result<Step, CodeFault>>,
+    stopped: Option<Result<NextBlock, CodeFault>>,
     /// Scratch space for the residuals of a block and for their high parts.
     scratch: [u32; 128],
 }
@@ -159,7 +159,7 @@ impl Model for Decoder {
 impl Decoder {
     ghost use Rattle.rice_code.specs.decode.DecoderState.{IsDecoderState};
     ghost use Rattle.rice_code.specs.decode.Decoder.{Answers, GivesFromRun, RepeatsBlocks, with_mark};
-    ghost use Rattle.rice_code.specs.declared.decode.fault.Step.TheVariants.{Block};
+    ghost use Rattle.rice_code.specs.declared.decode.fault.NextBlock.TheVariants.{Block};
 
     /// Returns a decoder at the beginning of a code.
     pub fn new(setting: Setting) -> Self
@@ -270,7 +270,7 @@ impl Decoder {
         reader: &mut BitReader<I>,
         meter: &mut Meter,
         samples: &mut ArrayVec<i64, 64>,
-    ) -> Result<Step, CodeFault>
+    ) -> Result<NextBlock, CodeFault>
         requires going { self.old.stopped ≡ None → reader.old.refusal ≡ None }
         requires room { meter.old + 2 * (most_bits_read - reader.old.taken) + 64 < step_limit }
         // A decoder that has stopped answers the same from then on.
@@ -445,7 +445,7 @@ impl Decoder {
         reader: &mut BitReader<I>,
         meter: &mut Meter,
         levels: &mut ArrayVec<u32, 64>,
-    ) -> Result<Step, CodeFault>
+    ) -> Result<NextBlock, CodeFault>
         requires going { self.old.stopped ≡ None → reader.old.refusal ≡ None }
         requires room { meter.old + 2 * (most_bits_read - reader.old.taken) + 64 < step_limit }
         // A decoder that has stopped answers the same from then on.
@@ -479,7 +479,7 @@ impl Decoder {
             self.run -= 1;
             self.before = last;
             self.block = next_place(&self.setting, self.block);
-            return Ok(Step::Block);
+            return Ok(NextBlock::Block);
         }
         // It is laid out for each size of blocks.
         match self.setting.block() {
@@ -498,7 +498,7 @@ impl Decoder {
         reader: &mut BitReader<I>,
         meter: &mut Meter,
         levels: &mut ArrayVec<u32, 64>,
-    ) -> Result<Step, CodeFault>
+    ) -> Result<NextBlock, CodeFault>
         requires size { 0 < SIZE → SIZE ≡ self.old.setting.block }
         requires stopped { self.old.stopped ≡ None }
         requires run { self.old.run ≡ 0 }
@@ -524,7 +524,7 @@ impl Decoder {
         let residuals = &mut residuals[..size];
         match read_set(setting, block, reader, meter, residuals, highs) {
             Ok(
-                SetHead::Residuals {
+                SetSummary::Residuals {
                     reference,
                     sound,
                     near,
@@ -538,7 +538,7 @@ impl Decoder {
                 );
                 self.go_on(last, 0, reader, meter)
             }
-            Ok(SetHead::Zeros { reference, zeros }) => match run_blocks(setting, block, zeros) {
+            Ok(SetSummary::Zeros { reference, zeros }) => match run_blocks(setting, block, zeros) {
                 Some(count) => {
                     let last = restore_zeros(setting, block, before, reference, levels);
                     self.go_on(last, count - 1, reader, meter)
@@ -558,7 +558,7 @@ impl Decoder {
         run: u32,
         reader: &mut BitReader<I>,
         meter: &mut Meter,
-    ) -> Result<Step, CodeFault>
+    ) -> Result<NextBlock, CodeFault>
         requires last { last < value_count self.old.setting }
         requires run { 0 < run → run + 1 ≤ blocks_left self.old.setting self.old.block }
         requires taken { reader.old.taken ≤ most_bits_read }
@@ -580,15 +580,15 @@ impl Decoder {
         self.run = run;
         self.before = last;
         self.block = next_place(&self.setting, self.block);
-        Ok(Step::Block)
+        Ok(NextBlock::Block)
     }
 
     /// Returns this answer from now on.
     fn stop(
         &mut self,
-        answer: Result<Step, CodeFault>,
+        answer: Result<NextBlock, CodeFault>,
         levels: &mut ArrayVec<u32, 64>,
-    ) -> Result<Step, CodeFault>
+    ) -> Result<NextBlock, CodeFault>
         requires { answer ≢ Ok Block }
         ensures answer { result ≡ answer }
         ensures stops { self.new ≡ record self.old { stopped = Some answer } }

@@ -17,7 +17,7 @@ use rice_samples::Setting;
 
 /// What was read of a coded data set, besides residuals.
 #[derive(Clone, Copy)]
-pub enum SetHead {
+pub enum SetSummary {
     /// `near` says whether most samples are expected to be near to those before them.
     Residuals {
         reference: Option<u32>,
@@ -32,7 +32,7 @@ pub enum SetHead {
 
 /// What was read of a block, besides its residuals: the reference sample, and whether the residuals are sound.
 #[derive(Clone, Copy)]
-pub struct BlockHead {
+pub struct BlockSummary {
     pub reference: Option<u32>,
     pub sound: bool,
 }
@@ -113,7 +113,7 @@ pub fn read_no_compression<I: Intake>(
     reader: &mut BitReader<I>,
     meter: &mut Meter,
     residuals: &mut [u32],
-) -> Result<BlockHead, BitFault>
+) -> Result<BlockSummary, BitFault>
     requires going { reader.old.refusal ≡ None }
     requires room { HasRoom meter.old reader.old.taken }
     requires size { length residuals.old ≡ setting.now.block }
@@ -131,7 +131,7 @@ pub fn read_no_compression<I: Intake>(
     if let Err(fault) = read_words(reader, meter, width, &mut residuals[first..]) {
         return Err(fault);
     }
-    Ok(BlockHead {
+    Ok(BlockSummary {
         reference,
         sound: true,
     })
@@ -145,7 +145,7 @@ pub fn read_second_extension<I: Intake>(
     meter: &mut Meter,
     residuals: &mut [u32],
     codes: &mut [u32],
-) -> Result<BlockHead, BitFault>
+) -> Result<BlockSummary, BitFault>
     requires going { reader.old.refusal ≡ None }
     requires room { HasRoom meter.old reader.old.taken }
     requires size { length residuals.old ≡ setting.now.block }
@@ -163,7 +163,7 @@ pub fn read_second_extension<I: Intake>(
     match read_pairs(reader, meter, codes, residuals) {
         Ok(few) => {
             let sound = are_sound(reference, few, residuals, values);
-            Ok(BlockHead { reference, sound })
+            Ok(BlockSummary { reference, sound })
         }
         Err(fault) => Err(fault),
     }
@@ -179,7 +179,7 @@ pub fn read_split<I: Intake>(
     meter: &mut Meter,
     residuals: &mut [u32],
     highs: &mut [u32],
-) -> Result<BlockHead, BitFault>
+) -> Result<BlockSummary, BitFault>
     requires going { reader.old.refusal ≡ None }
     requires room { HasRoom meter.old reader.old.taken }
     requires k { k ≤ k_max setting.now }
@@ -201,7 +201,7 @@ pub fn read_split<I: Intake>(
     match read_sent(reader, meter, most, k, first, highs, residuals) {
         Ok(true) => {}
         Ok(false) => {
-            return Ok(BlockHead {
+            return Ok(BlockSummary {
                 reference,
                 sound: false,
             });
@@ -209,7 +209,7 @@ pub fn read_split<I: Intake>(
         Err(fault) => return Err(fault),
     }
     let sound = joined_are_below(setting.bits(), k, &residuals[first..]);
-    Ok(BlockHead { reference, sound })
+    Ok(BlockSummary { reference, sound })
 }
 
 /// Reads the parts of the residuals after the first `first`, which is 0 or 1, as `read_parts` does. `highs` is scratch space.

@@ -31,7 +31,7 @@ pub fn read_parts<I: Intake>(
     ensures steps { meter.new + reader.old.taken ≡ meter.old + reader.new.taken }
     ensures limit { reader.new.taken ≤ most_bits_read }
 {
-    match take_parts(reader, meter, most, k, residuals) {
+    match take_short_parts(reader, meter, most, k, residuals) {
         Some(small) => Ok(small),
         None => read_rows(reader, meter, most, k, highs, residuals),
     }
@@ -87,7 +87,7 @@ fn read_rows<I: Intake>(
 /// As `read_parts`, if the parts wait together, the low ones have 1 to 7 bits, and the block has 8 or 16 residuals. Otherwise
 /// takes nothing and returns `None`.
 #[inline(always)]
-fn take_parts<I: Intake>(
+fn take_short_parts<I: Intake>(
     reader: &mut BitReader<I>,
     meter: &mut Meter,
     most: u64,

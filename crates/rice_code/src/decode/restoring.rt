@@ -8,7 +8,9 @@ ghost use Rattle.rice_code.specs.code.Forms.{IsReference, IsBlock, IsZeroAtRefer
 ghost use Rattle.rice_code.specs.decode.Restored.{residual_at};
 
 use arrayvec::ArrayVec;
-use rice_samples::{Setting, level_of_pattern, levels_of_patterns, restore_all, restore_spread};
+use rice_samples::{
+    Setting, level_of_pattern, levels_of_patterns, restore_by_selection, restore_near_first,
+};
 
 /// Sets the length to `len`; the contents are unspecified.
 #[inline(always)]
@@ -27,7 +29,7 @@ fn set_len(levels: &mut ArrayVec<u32, 64>, len: usize)
 
 /// Writes the levels of the samples of the block with this reference sample and these residuals, after a sample at level `before`.
 #[inline(always)]
-fn write_block(
+fn write_levels(
     setting: &Setting,
     block: u64,
     before: u32,
@@ -54,9 +56,9 @@ fn write_block(
     // A residual of 0 stands at the place of the reference sample, and so it is restored as the sample before it.
     let before = reference_or(setting, reference, before);
     if near {
-        restore_all(setting, before, residuals, levels);
+        restore_near_first(setting, before, residuals, levels);
     } else {
-        restore_spread(setting, before, residuals, levels);
+        restore_by_selection(setting, before, residuals, levels);
     }
 }
 
@@ -101,7 +103,7 @@ pub fn restore_block(
     let _block = setting.block();
     let size = residuals.len();
     set_len(levels, size);
-    write_block(
+    write_levels(
         setting,
         block,
         before,

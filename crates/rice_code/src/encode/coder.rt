@@ -61,7 +61,7 @@ impl SizedCoder<4096> {
 impl<const N: usize> SizedCoder<N> {
     ghost use Rattle.rice_code.specs.encode.OpenSegment.{HoldsAnySegment, state_between};
     ghost use Rattle.rice_code.specs.code.Code.{complete_samples};
-    ghost use Rattle.rice_code.specs.code.Blocks.{fill_samples};
+    ghost use Rattle.rice_code.specs.code.Blocks.{fill_count_of};
     ghost use Rattle.rice_code.specs.encode.Coder.{HasTaken, AddsCode, PushesSamples, CompletesNone, CompletesAll};
 
     /// Returns a coder that has taken no samples, where there is room for each of its segments.
@@ -180,7 +180,7 @@ impl<const N: usize> SizedCoder<N> {
         requires meter { meter.old + segment_steps self.setting < step_limit }
         ensures { (xs : List ℤ) → HasTaken self.entry xs →
             AddsCode self.entry.setting (complete_samples self.entry.setting xs) xs
-            sink.old sink.new result (fill_samples self.entry.setting xs) meter.old meter.new }
+            sink.old sink.new result (fill_count_of self.entry.setting xs) meter.old meter.new }
     {
         let mut coder = self;
         coder.finish_reset(sink, meter)
@@ -193,7 +193,7 @@ impl<const N: usize> SizedCoder<N> {
         requires meter { meter.old + segment_steps self.old.setting < step_limit }
         ensures adds { (xs : List ℤ) → HasTaken self.old xs →
             AddsCode self.old.setting (complete_samples self.old.setting xs) xs
-            sink.old sink.new result (fill_samples self.old.setting xs) meter.old meter.new }
+            sink.old sink.new result (fill_count_of self.old.setting xs) meter.old meter.new }
         ensures taken { HasTaken self.new [] }
         ensures setting { self.new.setting ≡ self.old.setting }
     {

@@ -26,7 +26,7 @@ pub fn put_low(
         sink.old fields.old sink.new fields.new meter.old meter.new }
 {
     if width > 14 {
-        put_wide(block, from, width, fields, sink, meter);
+        put_many_digits(block, from, width, fields, sink, meter);
         return;
     }
     let end = block.len();
@@ -86,7 +86,7 @@ fn put_four_low(
 
 /// Puts the bits of the buffer, and then those of the residuals from number `from` on.
 #[inline(always)]
-fn put_wide(
+fn put_many_digits(
     block: &Block<'_>,
     from: usize,
     width: u32,

@@ -1,7 +1,7 @@
 //! Fundamental sequences that are gathered in a word: each is a bit that is set.
 ghost use Rattle.std.specs.Prelude.{◌≡◌, ◌+◌, ◌-◌, ◌^◌, ◌<◌, ◌≤◌, ◌++◌, Bool, nat_le, List, [], length};
 ghost use Rattle.rice_bits.specs.Bits.{fundamental_sequence};
-ghost use Rattle.rice_code.specs.encode.Ones.{Fills, Gathers, Spells, four_sequences, sequences_from};
+ghost use Rattle.rice_code.specs.encode.Ones.{HasFront, Gathers, HasDigits, four_sequences, sequences_from};
 
 /// Fundamental sequences at the front of a word, which shows them if they are at most 64 bits.
 #[derive(Clone, Copy)]
@@ -77,7 +77,7 @@ pub fn number_of_ones(ones: Ones) -> (u64, u32)
     ensures width { result.1 ≤ 56 }
     ensures fits { result.0 < 2 ^ result.1 }
     ensures bits { (bits : List Bool) → Gathers ones.word ones.left bits →
-        Spells bits result.0 result.1 }
+        HasDigits bits result.0 result.1 }
 {
     let width = (1 << 40) - ones.left;
     (ones.word >> (64 - width), width as u32)
@@ -86,7 +86,7 @@ pub fn number_of_ones(ones: Ones) -> (u64, u32)
 /// The digits of a number that is spelled by fundamental sequences, from the first on, and zeros in place of those that are
 /// still to come.
 #[derive(Clone, Copy)]
-pub struct Row {
+pub struct GatheredRow {
     pub value: u64,
     /// The number of digits that are still to come.
     pub left: u64,
@@ -94,11 +94,11 @@ pub struct Row {
 
 /// Begins a number of `total` digits.
 #[inline(always)]
-pub fn no_sequences(total: u64) -> Row
+pub fn no_sequences(total: u64) -> GatheredRow
     ensures left { result.left ≡ total }
-    ensures bits { Fills result.value result.left [] }
+    ensures bits { HasFront result.value result.left [] }
 {
-    Row {
+    GatheredRow {
         value: 0,
         left: total,
     }
@@ -106,15 +106,15 @@ pub fn no_sequences(total: u64) -> Row
 
 /// Adds the fundamental sequence of `m`.
 #[inline(always)]
-pub fn with_sequence(row: Row, m: u32) -> Row
+pub fn with_sequence(row: GatheredRow, m: u32) -> GatheredRow
     requires some { m < row.left }
     requires few { row.left ≤ 56 }
     ensures left { result.left + m + 1 ≡ row.left }
-    ensures bits { (bits : List Bool) → Fills row.value row.left bits →
-        Fills result.value result.left (bits ++ fundamental_sequence m) }
+    ensures bits { (bits : List Bool) → HasFront row.value row.left bits →
+        HasFront result.value result.left (bits ++ fundamental_sequence m) }
 {
     let left = row.left - m as u64 - 1;
-    Row {
+    GatheredRow {
         value: row.value | 1 << left,
         left,
     }
@@ -122,12 +122,12 @@ pub fn with_sequence(row: Row, m: u32) -> Row
 
 /// Adds the fundamental sequences of four numbers.
 #[inline(always)]
-pub fn with_four_sequences(row: Row, four: (u32, u32, u32, u32)) -> Row
+pub fn with_four_sequences(row: GatheredRow, four: (u32, u32, u32, u32)) -> GatheredRow
     requires some { four.0 + four.1 + four.2 + four.3 + 4 ≤ row.left }
     requires few { row.left ≤ 56 }
     ensures left { result.left + (four.0 + four.1 + four.2 + four.3 + 4) ≡ row.left }
-    ensures bits { (bits : List Bool) → Fills row.value row.left bits →
-        Fills result.value result.left (bits ++ four_sequences four.0 four.1 four.2 four.3) }
+    ensures bits { (bits : List Bool) → HasFront row.value row.left bits →
+        HasFront result.value result.left (bits ++ four_sequences four.0 four.1 four.2 four.3) }
 {
     let one = with_sequence(row, four.0);
     let two = with_sequence(one, four.1);
@@ -138,12 +138,12 @@ pub fn with_four_sequences(row: Row, four: (u32, u32, u32, u32)) -> Row
 /// Begins a number of `total` digits with the fundamental sequences of the four numbers from number `from` on, which is one
 /// of the first two.
 #[inline(always)]
-pub fn first_sequences(four: (u32, u32, u32, u32), from: usize, total: u64) -> Row
+pub fn sequences_of_four(four: (u32, u32, u32, u32), from: usize, total: u64) -> GatheredRow
     requires from { from ≤ 1 }
     requires some { length (sequences_from from four.0 four.1 four.2 four.3) ≤ total }
     requires few { total ≤ 56 }
     ensures left { result.left + length (sequences_from from four.0 four.1 four.2 four.3) ≡ total }
-    ensures bits { Fills result.value result.left
+    ensures bits { HasFront result.value result.left
         (sequences_from from four.0 four.1 four.2 four.3) }
 {
     let none = no_sequences(total);

@@ -18,7 +18,7 @@ use crate::encode::held_block::HeldBlock;
 use crate::encode::ones::{no_sequences, with_sequence};
 use crate::encode::prepared::PreparedSetting;
 use crate::encode::short_digits::put_short_low;
-use crate::encode::short_sequences::put_short_high;
+use crate::encode::short_sequences::put_high;
 use rice_bits::Meter;
 use rice_samples::Block;
 
@@ -223,7 +223,7 @@ pub fn put_split(
     let _block = setting.block();
     let mut fields = begin(setting, k + 1, id, block.reference(), sink, meter);
     let digits = (residuals.len() - from) as u64 * k as u64;
-    put_short_high(residuals, from, k, cost - digits, &mut fields, sink, meter);
+    put_high(residuals, from, k, cost - digits, &mut fields, sink, meter);
     if k == 0 {
         fields.put(sink, meter);
         return;

@@ -35,14 +35,14 @@ pub fn best_split(setting: &PreparedSetting, block: &HeldBlock<'_>, meter: &mut 
 {
     let _limit = setting.k_max();
     let coded = coded_len(setting, block);
-    let (k, sum) = stop_of(setting, block, coded as u64, meter);
+    let (k, sum) = split_stop(setting, block, coded as u64, meter);
     (k, split_cost(setting, block, k, sum))
 }
 
 /// Returns the first split at which one digit more takes no more than `price` off the sum of the residuals without their
 /// lowest digits, and this sum.
 #[inline(always)]
-fn stop_of(
+fn split_stop(
     setting: &PreparedSetting,
     block: &HeldBlock<'_>,
     price: u64,

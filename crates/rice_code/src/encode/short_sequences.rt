@@ -8,7 +8,7 @@ ghost use Rattle.rice_code.specs.encode.Parts.{HasRoomForOnes, AddsOnes};
 use crate::encode::SegmentSink;
 use crate::encode::bit_buffer::BitBuffer;
 use crate::encode::ones::{
-    Ones, are_short, first_ones, first_sequences, number_of_ones, with_four, with_four_sequences,
+    Ones, are_short, first_ones, number_of_ones, sequences_of_four, with_four, with_four_sequences,
 };
 use rice_bits::Meter;
 use rice_samples::Block;
@@ -16,7 +16,7 @@ use rice_samples::Block;
 /// Adds the fundamental sequences of the residuals from number `from` on, which is one of the first two, without their `k`
 /// lowest digits: `total` bits. Looks at all residuals.
 #[inline(always)]
-pub fn put_short_high(
+pub fn put_high(
     block: &Block<'_>,
     from: usize,
     k: u32,
@@ -223,7 +223,7 @@ fn put_eight(
         sink.old fields.old sink.new fields.new meter.old meter.new }
 {
     if total <= 56 {
-        let row = with_four_sequences(first_sequences(a, from, total), b);
+        let row = with_four_sequences(sequences_of_four(a, from, total), b);
         fields.add(row.value, total as u32, sink, meter);
         return;
     }
@@ -260,7 +260,7 @@ fn put_whole_sixteen(
         sink.old fields.old sink.new fields.new meter.old meter.new }
 {
     if total <= 56 {
-        let half = with_four_sequences(first_sequences(a, from, total), b);
+        let half = with_four_sequences(sequences_of_four(a, from, total), b);
         let row = with_four_sequences(with_four_sequences(half, c), d);
         fields.add(row.value, total as u32, sink, meter);
         return;

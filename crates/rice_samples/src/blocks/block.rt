@@ -6,7 +6,7 @@ ghost use Rattle.rice_bits.specs.Bits.{word};
 ghost use Rattle.rice_samples.specs.blocks.Pairs.{pair_codes};
 ghost use Rattle.rice_samples.specs.Parameters.{IsBlockSize};
 
-use crate::blocks::codewords::{pair_sum, tiny_pair_sum};
+use crate::blocks::codewords::{pair_sum, pair_sum_in_32_bits};
 use crate::blocks::lanes::{all_of, all_zero, sum_shifted};
 use crate::blocks::minimum::{first_small_stop, first_stop};
 use rice_bits::{BitSink, Meter};
@@ -143,7 +143,7 @@ impl Block<'_> {
         ensures steps { meter.new ≡ meter.old + length self.now }
     {
         let items = self.look(meter);
-        tiny_pair_sum(items) as u64
+        pair_sum_in_32_bits(items) as u64
     }
 
     /// Returns the number of bits of the codewords that second extension sends for the pairs of residuals.

@@ -14,15 +14,15 @@ pub(crate) fn pair_sum(items: &[u32]) -> u128
 {
     // The loops unroll where the length is known.
     match items.len() {
-        8 => narrowest_pair_sum(all_of(items, 8)),
-        len if len % 8 == 0 => narrowest_pair_sum(items),
-        _ => large_pair_sum(items),
+        8 => least_wide_pair_sum(all_of(items, 8)),
+        len if len % 8 == 0 => least_wide_pair_sum(items),
+        _ => pair_sum_in_128_bits(items),
     }
 }
 
 /// The same, counted in 32 or 64 bits where all residuals are so small.
 #[inline(always)]
-fn narrowest_pair_sum(items: &[u32]) -> u128
+fn least_wide_pair_sum(items: &[u32]) -> u128
     requires size { IsBlockSize (length items.now) }
     requires eights { length items.now % 8 ≡ 0 }
     ensures value { result ≡ sum_by (λ g. g + 1) (pair_codes items.now) }
@@ -30,16 +30,16 @@ fn narrowest_pair_sum(items: &[u32]) -> u128
 {
     let digits = set_digits(items);
     if digits < 1 << 12 {
-        tiny_pair_sum(items) as u128
+        pair_sum_in_32_bits(items) as u128
     } else if digits < 1 << 28 {
-        small_pair_sum(items) as u128
+        pair_sum_in_64_bits(items) as u128
     } else {
-        large_pair_sum(items)
+        pair_sum_in_128_bits(items)
     }
 }
 
 #[inline(always)]
-pub(crate) fn tiny_pair_sum(items: &[u32]) -> u32
+pub(crate) fn pair_sum_in_32_bits(items: &[u32]) -> u32
     requires size { IsBlockSize (length items.now) }
     requires tiny { All (λ d. d < 2 ^ 12) items.now }
     ensures value { result ≡ sum_by (λ g. g + 1) (pair_codes items.now) }
@@ -47,13 +47,13 @@ pub(crate) fn tiny_pair_sum(items: &[u32]) -> u32
 {
     let mut total: u32 = 0;
     for i in 0..items.len() / 2 {
-        total += tiny_codeword_len(items[2 * i], items[2 * i + 1]);
+        total += codeword_len_in_32_bits(items[2 * i], items[2 * i + 1]);
     }
     total
 }
 
 #[inline]
-fn small_pair_sum(items: &[u32]) -> u64
+fn pair_sum_in_64_bits(items: &[u32]) -> u64
     requires size { IsBlockSize (length items.now) }
     requires small { All (λ d. d < 2 ^ 28) items.now }
     ensures value { result ≡ sum_by (λ g. g + 1) (pair_codes items.now) }
@@ -61,25 +61,25 @@ fn small_pair_sum(items: &[u32]) -> u64
 {
     let mut total: u64 = 0;
     for i in 0..items.len() / 2 {
-        total += small_codeword_len(items[2 * i], items[2 * i + 1]);
+        total += codeword_len_in_64_bits(items[2 * i], items[2 * i + 1]);
     }
     total
 }
 
-fn large_pair_sum(items: &[u32]) -> u128
+fn pair_sum_in_128_bits(items: &[u32]) -> u128
     requires { IsBlockSize (length items.now) }
     ensures value { result ≡ sum_by (λ g. g + 1) (pair_codes items.now) }
     ensures limit { result ≤ 2 ^ 72 }
 {
     let mut total: u128 = 0;
     for i in 0..items.len() / 2 {
-        total += large_codeword_len(items[2 * i], items[2 * i + 1]);
+        total += codeword_len_in_128_bits(items[2 * i], items[2 * i + 1]);
     }
     total
 }
 
 #[inline]
-fn tiny_codeword_len(a: u32, b: u32) -> u32
+fn codeword_len_in_32_bits(a: u32, b: u32) -> u32
     requires a { a < 2 ^ 12 }
     requires b { b < 2 ^ 12 }
     ensures value { result ≡ pair_code a b + 1 }
@@ -90,7 +90,7 @@ fn tiny_codeword_len(a: u32, b: u32) -> u32
 }
 
 #[inline]
-fn small_codeword_len(a: u32, b: u32) -> u64
+fn codeword_len_in_64_bits(a: u32, b: u32) -> u64
     requires a { a < 2 ^ 28 }
     requires b { b < 2 ^ 28 }
     ensures value { result ≡ pair_code a b + 1 }
@@ -102,7 +102,7 @@ fn small_codeword_len(a: u32, b: u32) -> u64
 }
 
 #[inline]
-fn large_codeword_len(a: u32, b: u32) -> u128
+fn codeword_len_in_128_bits(a: u32, b: u32) -> u128
     ensures value { result ≡ pair_code a b + 1 }
     ensures limit { result < 2 ^ 67 }
 {

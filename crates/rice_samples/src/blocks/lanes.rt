@@ -67,14 +67,14 @@ pub(crate) fn sum_shifted(items: &[u32], k: u32) -> u64
 {
     // The loops unroll where the length is known.
     match items.len() {
-        8 => narrow_sum(all_of(items, 8), k),
-        16 if 2 <= 1usize << k => narrow_sum(all_of(items, 16), k),
-        16 => wide_sum(all_of(items, 16), k),
-        32 if 4 <= 1usize << k => narrow_sum(all_of(items, 32), k),
-        32 => wide_sum(all_of(items, 32), k),
+        8 => sum_in_lanes_of_32(all_of(items, 8), k),
+        16 if 2 <= 1usize << k => sum_in_lanes_of_32(all_of(items, 16), k),
+        16 => sum_in_lanes_of_64(all_of(items, 16), k),
+        32 if 4 <= 1usize << k => sum_in_lanes_of_32(all_of(items, 32), k),
+        32 => sum_in_lanes_of_64(all_of(items, 32), k),
         len if len % 8 != 0 => sum_in_turn(items, k),
-        _ if 8 <= 1usize << k => narrow_sum(items, k),
-        _ => wide_sum(items, k),
+        _ if 8 <= 1usize << k => sum_in_lanes_of_32(items, k),
+        _ => sum_in_lanes_of_64(items, k),
     }
 }
 
@@ -103,7 +103,7 @@ pub(crate) fn all_of(items: &[u32], len: usize) -> &[u32]
 
 /// The sum of the numbers without their `k` lowest digits, in lanes of 64 bits.
 #[inline(always)]
-fn wide_sum(items: &[u32], k: u32) -> u64
+fn sum_in_lanes_of_64(items: &[u32], k: u32) -> u64
     requires chunks { length items.now % 8 ≡ 0 }
     requires few { length items.now ≤ 64 }
     requires shift { k < 32 }
@@ -120,7 +120,7 @@ fn wide_sum(items: &[u32], k: u32) -> u64
 
 /// The same in lanes of 32 bits, of which none can overflow, whatever the numbers are.
 #[inline(always)]
-fn narrow_sum(items: &[u32], k: u32) -> u64
+fn sum_in_lanes_of_32(items: &[u32], k: u32) -> u64
     requires chunks { length items.now % 8 ≡ 0 }
     requires few { length items.now ≤ 64 }
     requires narrow { length items.now ≤ 8 * 2 ^ k }

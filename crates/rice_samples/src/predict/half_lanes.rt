@@ -62,11 +62,11 @@ pub fn spelled_words(setting: &Setting, levels: u16x8) -> u8x16
     ensures value { result ≡ spellings setting.now (values_at setting.now levels) }
     ensures len { length result ≡ 16 }
 {
-    let low_first = (levels - u16x8::splat(setting.offset() as u16)).to_le_bytes();
+    let least_byte_first = (levels - u16x8::splat(setting.offset() as u16)).to_le_bytes();
     if setting.msb() {
-        return in_pairs_swapped(low_first);
+        return in_pairs_swapped(least_byte_first);
     }
-    low_first
+    least_byte_first
 }
 
 /// Returns the bytes of each pair in the other order.

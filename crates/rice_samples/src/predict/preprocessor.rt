@@ -103,7 +103,7 @@ fn way(d: u32) -> u32
 /// Returns the number with rank `d` from `p`, where the range goes on to `d` above `p` and further. It is `way` away from `p`
 /// if it is near.
 #[inline(always)]
-pub(crate) fn low_number_along(p: u32, d: u32, way: u32) -> u32
+pub(crate) fn number_above_along(p: u32, d: u32, way: u32) -> u32
     requires low { p + d < 2 ^ 32 }
     requires way { way ≡ way_of (2 ^ 32) d }
     ensures reach { result ≤ p + d }

@@ -9,7 +9,7 @@ use std::simd::prelude::*;
 
 /// Writes the residuals of the first samples, eight at a time, as long as there are eight: of the first one after the sample at
 /// level `p`, and of each other after the one before it.
-pub(crate) fn write_eights(setting: &Setting, p: u32, levels: &[u32], residuals: &mut [u32])
+pub(crate) fn write_eight_ranks(setting: &Setting, p: u32, levels: &[u32], residuals: &mut [u32])
     requires narrow { setting.now.bits ≤ 16 }
     requires before { p < value_count setting.now }
     requires legal { All (λ l. l < value_count setting.now) levels.now }

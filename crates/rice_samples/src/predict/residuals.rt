@@ -5,7 +5,7 @@ ghost use Rattle.rice_samples.specs.predict.Residuals.{pattern as pattern_of, ra
 
 use crate::Setting;
 use crate::predict::preprocessor::rank_of;
-use crate::predict::rank_lanes::write_eights;
+use crate::predict::rank_lanes::write_eight_ranks;
 
 /// Writes the residuals of the samples with these levels: of the first one after the sample at level `p`, and of each other
 /// after the one before it.
@@ -16,14 +16,14 @@ pub(crate) fn write_residuals(setting: &Setting, p: u32, levels: &[u32], residua
     ensures { residuals.new ≡ ranks_below (value_count setting.now) p levels.now }
 {
     if setting.bits() > 16 {
-        write_wide(setting, p, levels, residuals);
+        write_any_width(setting, p, levels, residuals);
         return;
     }
-    write_eights(setting, p, levels, residuals);
+    write_eight_ranks(setting, p, levels, residuals);
     let end = 8 * (levels.len() / 8);
     if end < levels.len() {
         let last = last_level(p, &levels[..end]);
-        write_wide(setting, last, &levels[end..], &mut residuals[end..]);
+        write_any_width(setting, last, &levels[end..], &mut residuals[end..]);
     }
 }
 
@@ -42,7 +42,7 @@ fn last_level(p: u32, levels: &[u32]) -> u32
 ///
 /// It is never inlined, so that what calls it for few samples, or for none, saves no registers for it.
 #[inline(never)]
-fn write_wide(setting: &Setting, p: u32, levels: &[u32], residuals: &mut [u32])
+fn write_any_width(setting: &Setting, p: u32, levels: &[u32], residuals: &mut [u32])
     requires before { p < value_count setting.now }
     requires legal { All (λ l. l < value_count setting.now) levels.now }
     requires len { length residuals.old ≡ length levels.now }

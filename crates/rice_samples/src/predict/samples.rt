@@ -6,14 +6,14 @@ ghost use Rattle.rice_samples.specs.predict.Residuals.{pattern as pattern_of, ra
 use crate::Setting;
 use crate::predict::narrow_near_lanes;
 use crate::predict::near_lanes::{are_near, near_numbers, ways};
-use crate::predict::preprocessor::{low_number_along, number_with};
+use crate::predict::preprocessor::{number_above_along, number_with};
 use crate::predict::turns::write_in_turn;
 use std::simd::prelude::*;
 
 /// Writes the levels of the samples with these residuals: the first after a sample at level `before`, and each other after the
 /// one before it.
 #[inline(always)]
-pub fn restore_all(setting: &Setting, before: u32, residuals: &[u32], levels: &mut [u32])
+pub fn restore_near_first(setting: &Setting, before: u32, residuals: &[u32], levels: &mut [u32])
     requires before { before < value_count setting.now }
     requires residuals { All (λ d. d < value_count setting.now) residuals.now }
     requires len { length levels.old ≡ length residuals.now }
@@ -28,10 +28,10 @@ pub fn restore_all(setting: &Setting, before: u32, residuals: &[u32], levels: &m
     }
 }
 
-/// Writes the levels of the samples with these residuals, as `restore_all` does. It is made for samples that are far from those
+/// Writes the levels of the samples with these residuals, as `restore_near_first` does. It is made for samples that are far from those
 /// before.
 #[inline(always)]
-pub fn restore_spread(setting: &Setting, before: u32, residuals: &[u32], levels: &mut [u32])
+pub fn restore_by_selection(setting: &Setting, before: u32, residuals: &[u32], levels: &mut [u32])
     requires before { before < value_count setting.now }
     requires residuals { All (λ d. d < value_count setting.now) residuals.now }
     requires len { length levels.old ≡ length residuals.now }
@@ -76,7 +76,7 @@ fn restore_eight(setting: &Setting, before: u32, residuals: &[u32], levels: &mut
     if setting.bits() <= 16 {
         restore_narrow(setting, before, residuals, levels);
     } else {
-        restore_wide(setting, before, residuals, levels);
+        restore_any_width(setting, before, residuals, levels);
     }
 }
 
@@ -103,7 +103,7 @@ fn restore_narrow(setting: &Setting, before: u32, residuals: &[u32], levels: &mu
 
 /// Writes the levels of eight samples of any number of bits.
 #[inline(always)]
-fn restore_wide(setting: &Setting, before: u32, residuals: &[u32], levels: &mut [u32])
+fn restore_any_width(setting: &Setting, before: u32, residuals: &[u32], levels: &mut [u32])
     requires before { before < value_count setting.now }
     requires residuals { All (λ d. d < value_count setting.now) residuals.now }
     requires len { length levels.old ≡ length residuals.now }
@@ -136,7 +136,7 @@ fn restore_far(setting: &Setting, before: u32, residuals: &[u32], levels: &mut [
         .cast::<u64>()
         .strict_reduce_sum();
     if before as u64 + all <= greatest as u64 {
-        return restore_low(setting, before, residuals, levels);
+        return restore_above(setting, before, residuals, levels);
     }
     restore_in_turn(setting, before, residuals, levels);
 }
@@ -144,7 +144,7 @@ fn restore_far(setting: &Setting, before: u32, residuals: &[u32], levels: &mut [
 /// Writes eight levels one at a time, where the range goes on above `before` for the sum of the residuals. There a level that
 /// is not near is its residual.
 #[inline(always)]
-fn restore_low(setting: &Setting, before: u32, residuals: &[u32], levels: &mut [u32])
+fn restore_above(setting: &Setting, before: u32, residuals: &[u32], levels: &mut [u32])
     requires low { before + sum residuals.now < value_count setting.now }
     requires len { length levels.old ≡ length residuals.now }
     requires eight { length residuals.now ≡ 8 }
@@ -155,7 +155,7 @@ fn restore_low(setting: &Setting, before: u32, residuals: &[u32], levels: &mut [
     let ways = ways(u32x8::from_slice(residuals)).to_array();
     let mut level = before;
     for i in 0..8 {
-        level = low_number_along(level, residuals[i], ways[i]);
+        level = number_above_along(level, residuals[i], ways[i]);
         levels[i] = level;
     }
 }

@@ -18,17 +18,17 @@ pub(crate) fn write_in_turn(greatest: u32, p: u32, ranks: &[u32], numbers: &mut 
 {
     let lanes = u32x8::from_slice(ranks);
     let ways = ways(lanes).to_array();
-    let highs = highs(greatest, lanes).to_array();
+    let below_greatest = below_greatest(greatest, lanes).to_array();
     let mut number = p;
     for i in 0..8 {
-        number = number_from(greatest, number, ranks[i], ways[i], highs[i]);
+        number = selected_number(greatest, number, ranks[i], ways[i], below_greatest[i]);
         numbers[i] = number;
     }
 }
 
 /// Returns how far each rank is below `greatest`.
 #[inline(always)]
-fn highs(greatest: u32, ranks: u32x8) -> u32x8
+fn below_greatest(greatest: u32, ranks: u32x8) -> u32x8
     requires ranks { All (λ d. d ≤ greatest) ranks }
     requires lanes { length ranks ≡ 8 }
     ensures { result ≡ map (λ d. greatest - d) ranks }
@@ -39,7 +39,7 @@ fn highs(greatest: u32, ranks: u32x8) -> u32x8
 /// Returns the number up to `greatest` with rank `d` from `p`: `way` away from `p` if it is near, `d` if `p` is too low for that, and
 /// `high` if `p` is too high.
 #[inline(always)]
-fn number_from(greatest: u32, p: u32, d: u32, way: u32, high: u32) -> u32
+fn selected_number(greatest: u32, p: u32, d: u32, way: u32, high: u32) -> u32
     requires before { p ≤ greatest }
     requires way { way ≡ way_of (2 ^ 32) d }
     requires high { high + d ≡ greatest }

@@ -14,7 +14,7 @@ use Rattle.rice_samples.specs.predict.Residuals.{last_of}
 use Rattle.rice_samples.proofs.lemmas.setting.Levels.{zero_is_sample}
 use Rattle.rice_code.specs.Bounds.{block_bound, bit_bound, step_bound, amortised_step_bound}
 use Rattle.rice_code.specs.code.Code.{code_bits, complete_samples}
-use Rattle.rice_code.specs.code.Blocks.{fill_samples}
+use Rattle.rice_code.specs.code.Blocks.{fill_count_of}
 use Rattle.rice_code.specs.encode.Coder.{HasTaken}
 use Rattle.rice_code.specs.encode.OpenSegment.{CoderState}
 use Rattle.rice_code.specs.Steps.{most_steps}
@@ -78,7 +78,7 @@ early_bounded s xs h =
     at j n c e id k most bits h f g = (omega arith, omega arith)
 
 -- and of all
-pub all_bounded : (s : Parameters) (xs : List ℤ) → Settles s xs → Bounded s (length xs) (code_bits s xs) (length xs + fill_samples s xs + most_steps s xs)
+pub all_bounded : (s : Parameters) (xs : List ℤ) → Settles s xs → Bounded s (length xs) (code_bits s xs) (length xs + fill_count_of s xs + most_steps s xs)
 all_bounded s xs h =
     let j : 1 ≤ s.block = let k : 2 ≤ s.block = grind (arith, h.setting.block) in omega arith in
     let steps = all_steps_are_bounded s h.setting xs h.legal in
@@ -89,12 +89,12 @@ all_bounded s xs h =
       amortised = omega (arith, steps.1, full);
     }
   where
-    filled_count : (s : Parameters) (xs : List ℤ) → 1 ≤ s.block → length xs + fill_samples s xs ≡ s.block * block_count s (length xs)
+    filled_count : (s : Parameters) (xs : List ℤ) → 1 ≤ s.block → length xs + fill_count_of s xs ≡ s.block * block_count s (length xs)
     filled_count s xs j =
         let n = length xs in
         let k = next_multiple_of n s.block - n in
         let x = last_of (pos 0) xs in
-        let same : k ≡ fill_samples s xs = (let e : n + (s.block - n % s.block) % s.block - n ≡ (s.block - n % s.block) % s.block = omega arith in e) in
+        let same : k ≡ fill_count_of s xs = (let e : n + (s.block - n % s.block) % s.block - n ≡ (s.block - n % s.block) % s.block = omega arith in e) in
         ap (λ m. n + m) (sym same ∙ sym (length-replicate k x)) ∙ sym (length-append xs (replicate k x)) ∙ filled_len s (pos 0) xs j
 
 -- a block has at most a bit more than its samples as they are, and its identifier

@@ -3,7 +3,7 @@ use Rattle.std.proofs.Common.{◌≡◌, ℕ, ◌+◌, ◌-◌, ◌*◌, ◌<◌
 use Rattle.std.specs.Prelude.{All, sum_by}
 use Rattle.std.specs.Int.{div_ceil}
 use Rattle.rice_code.specs.code.CodedDataSets.{bits_of_set}
-use Rattle.rice_code.specs.code.Blocks.{blocks_from, fill_samples}
+use Rattle.rice_code.specs.code.Blocks.{blocks_from, fill_count_of}
 use Rattle.rice_code.specs.code.Code.{data_sets, complete_samples}
 use Rattle.rice_code.specs.code.Layout.{layout}
 use Rattle.rice_bits.specs.device.Outlet.{Room, Appends}
@@ -225,10 +225,10 @@ sets_nothing s j =
 
 -- the end of the samples
 pub closed : {N : ℕ} (s : Parameters) (old : Beginning) (now : Option Room) (e : Encoding N) (r : Report) (sink end : List Bool) (xs : List ℤ) (n : ℕ) → IsEncodingOf s old now e xs →
-    AddsCode e.coder.setting (complete_samples e.coder.setting xs) xs e.sink sink n (fill_samples e.coder.setting xs) e.meter r.steps → r.bits ≡ e.bits + n → r.samples ≡ e.samples → end ≡ sink ++ replicate (bits_to_byte (length sink)) false →
+    AddsCode e.coder.setting (complete_samples e.coder.setting xs) xs e.sink sink n (fill_count_of e.coder.setting xs) e.meter r.steps → r.bits ≡ e.bits + n → r.samples ≡ e.samples → end ≡ sink ++ replicate (bits_to_byte (length sink)) false →
     ReportsAll s r xs × (padded_bits (code s xs) ≡ whole_part (complete_code s xs) ++ end)
 closed s old now e r sink end xs n h finishes bits samples fill =
-    let t : AddsCode s (complete_samples s xs) xs e.sink sink n (fill_samples s xs) e.meter r.steps = subst (λ (t : Parameters). AddsCode t (complete_samples t xs) xs e.sink sink n (fill_samples t xs) e.meter r.steps) h.counts.setting finishes in
+    let t : AddsCode s (complete_samples s xs) xs e.sink sink n (fill_count_of s xs) e.meter r.steps = subst (λ (t : Parameters). AddsCode t (complete_samples t xs) xs e.sink sink n (fill_count_of t xs) e.meter r.steps) h.counts.setting finishes in
     let k = t.code_is (sink_place s old now e xs h) in
     let part = whole_part (complete_code s xs) in
     let all : part ++ sink ≡ code s xs = ap (λ l. part ++ l) k.appended ∙ sym (append_assoc part e.sink k.bits) ∙ ap (λ l. l ++ k.bits) (joined s old now e xs h) ∙ sym k.completes in

@@ -15,14 +15,14 @@ use Rattle.rice_code.specs.code.Decoded.{EndsWith, Ended}
 use Rattle.rice_code.specs.declared.decode.fault.CodeFault.{CodeFault}
 use Rattle.rice_code.specs.declared.decode.fault.CodeFault.TheVariants as faults
 use Rattle.std.specs.Prelude.{◌^◌, Err}
-use Rattle.rice_stream.specs.Pulling.{Beginning, IsStand, DecodesMore, GivesNext, HasRoom, PausesAt, TakesNext, ahead, bits_ahead, pause_for}
+use Rattle.rice_stream.specs.Pulling.{Origin, IsStand, DecodesMore, GivesNext, HasRoomForBlock, PausesAt, TakesNext, ahead, bits_ahead, pause_for}
 use Rattle.rice_stream.specs.declared.stand.Pause.{Pause}
 use Rattle.rice_stream.specs.declared.stand.Pause.TheVariants as pauses
 use Rattle.rice_stream.specs.declared.stand.Stand.{Stand}
 use Rattle.rice_stream.proofs.lemmas.SpellingLengths.{length-spellings, spellings-append}
 
 -- Blocks of a piece were given, and their samples stand in the first `at` bytes.
-pub record PulledSoFar (s : Parameters) (o : Beginning) (front : List Bool) (given : List ℤ) (piece : List ℕ) (old : Stand) (out_old out : List ℕ) (here : Stand) (rest : List Bool) (at : ℕ) : Type 0 where
+pub record PulledSoFar (s : Parameters) (o : Origin) (front : List Bool) (given : List ℤ) (piece : List ℕ) (old : Stand) (out_old out : List ℕ) (here : Stand) (rest : List Bool) (at : ℕ) : Type 0 where
   pub bits : List Bool
   pub samples : List ℤ
   pub parts : bits_ahead old piece ≡ bits ++ rest
@@ -30,7 +30,7 @@ pub record PulledSoFar (s : Parameters) (o : Beginning) (front : List Bool) (giv
   pub writes : out ≡ spellings s samples ++ drop at out_old
   pub count : at ≡ width s * length samples
 
-pub none_so_far : (s : Parameters) (o : Beginning) (front : List Bool) (given : List ℤ) (piece : List ℕ) (old : Stand) (out : List ℕ) (rest : List Bool) → IsStand s o old front given → rest ≡ bits_ahead old piece → PulledSoFar s o front given piece old out out old rest 0
+pub none_so_far : (s : Parameters) (o : Origin) (front : List Bool) (given : List ℤ) (piece : List ℕ) (old : Stand) (out : List ℕ) (rest : List Bool) → IsStand s o old front given → rest ≡ bits_ahead old piece → PulledSoFar s o front given piece old out out old rest 0
 none_so_far s o front given piece old out rest h e = record {
   bits = [];
   samples = [];
@@ -41,7 +41,7 @@ none_so_far s o front given piece old out rest h e = record {
 }
 
 -- a block more
-pub more_so_far : {I : Type 0} (s : Parameters) (o : Beginning) (front : List Bool) (given xs : List ℤ) (piece : List ℕ) (old here next : Stand) (out_old out out_new : List ℕ) (r new : Reader I) (at n : ℕ) → (so : PulledSoFar s o front given piece old out_old out here (ahead r) at)
+pub more_so_far : {I : Type 0} (s : Parameters) (o : Origin) (front : List Bool) (given xs : List ℤ) (piece : List ℕ) (old here next : Stand) (out_old out out_new : List ℕ) (r new : Reader I) (at n : ℕ) → (so : PulledSoFar s o front given piece old out_old out here (ahead r) at)
     → GivesNext s o (front ++ so.bits) (given ++ so.samples) next r new xs → n ≡ width s * length xs → out_new ≡ take at out ++ (spellings s xs ++ drop (at + n) out) → PulledSoFar s o front given piece old out_old out_new next (ahead new) (at + n)
 more_so_far s o front given xs piece old here next out_old out out_new r new at n so g e wrote =
     let a = spellings s so.samples in
@@ -61,7 +61,7 @@ more_so_far s o front given xs piece old here next out_old out out_new r new at 
     sizes w k m at n e f = omega arith
 
 -- the call ends
-pub ends_so : {s : Parameters} {o : Beginning} {front : List Bool} {given : List ℤ} {piece : List ℕ} {old : Stand} {out_old out : List ℕ} {here : Stand} {rest : List Bool} {at : ℕ} (pause : Pause) → (so : PulledSoFar s o front given piece old out_old out here rest at)
+pub ends_so : {s : Parameters} {o : Origin} {front : List Bool} {given : List ℤ} {piece : List ℕ} {old : Stand} {out_old out : List ℕ} {here : Stand} {rest : List Bool} {at : ℕ} (pause : Pause) → (so : PulledSoFar s o front given piece old out_old out here rest at)
     → PausesAt s old piece (length out_old) here rest (length so.samples) pause → (pause ≢ pauses.TooLong → old.bits + 8 * length piece ≤ 2 ^ 52) → DecodesMore s o front given piece old out_old out here pause
 ends_so {s = s} {out_old = out_old} {rest = rest} pause so pauses_at limit = record {
   bits = so.bits;
@@ -75,7 +75,7 @@ ends_so {s = s} {out_old = out_old} {rest = rest} pause so pauses_at limit = rec
 }
 
 -- the piece is too long
-pub refuses_piece : (s : Parameters) (o : Beginning) (front : List Bool) (given : List ℤ) (piece : List ℕ) (old : Stand) (out : List ℕ) → IsStand s o old front given → 2 ^ 52 < old.bits + 8 * length piece → DecodesMore s o front given piece old out out old pauses.TooLong
+pub refuses_piece : (s : Parameters) (o : Origin) (front : List Bool) (given : List ℤ) (piece : List ℕ) (old : Stand) (out : List ℕ) → IsStand s o old front given → 2 ^ 52 < old.bits + 8 * length piece → DecodesMore s o front given piece old out out old pauses.TooLong
 unfolding none_so_far
 refuses_piece s o front given piece old out h passes =
     ends_so pauses.TooLong (none_so_far s o front given piece old out (bits_ahead old piece) h refl) (record { passes = passes; stays = refl; none = refl }) (λ no. absurd (no refl))
@@ -89,8 +89,8 @@ nothing_ahead s old b piece bits rest none parts = empty rest (omega (arith, ap 
     empty (x ∷ xs) e = absurd (omega arith)
 
 -- the decoder refuses
-pub refused_so : {I : Type 0} {s : Parameters} {o : Beginning} {front : List Bool} {given : List ℤ} {piece : List ℕ} {old : Stand} {out_old out : List ℕ} {here : Stand} {at : ℕ} (xs : List ℤ) (r new : Reader I) (fault : CodeFault) → (so : PulledSoFar s o front given piece old out_old out here (ahead r) at)
-    → HasRoom s (length so.samples) (length out_old) → TakesNext s o (front ++ so.bits) (given ++ so.samples) here r new xs (Err fault) → (fault ≡ faults.Read → ⊥) → old.bits + 8 * length piece ≤ 2 ^ 52 → DecodesMore s o front given piece old out_old out here (pause_for fault)
+pub refused_so : {I : Type 0} {s : Parameters} {o : Origin} {front : List Bool} {given : List ℤ} {piece : List ℕ} {old : Stand} {out_old out : List ℕ} {here : Stand} {at : ℕ} (xs : List ℤ) (r new : Reader I) (fault : CodeFault) → (so : PulledSoFar s o front given piece old out_old out here (ahead r) at)
+    → HasRoomForBlock s (length so.samples) (length out_old) → TakesNext s o (front ++ so.bits) (given ++ so.samples) here r new xs (Err fault) → (fault ≡ faults.Read → ⊥) → old.bits + 8 * length piece ≤ 2 ^ 52 → DecodesMore s o front given piece old out_old out here (pause_for fault)
 refused_so xs r new faults.CodeEnds so room t read limit = ends_so pauses.Cut so (room, t.0, t.1) (λ no. limit)
 refused_so xs r new faults.RunPastSegment so room t read limit = ends_so pauses.RunPastSegment so (room, t.0, t.1, t.2) (λ no. limit)
 refused_so xs r new faults.ResidualTooLarge so room t read limit = ends_so pauses.ResidualTooLarge so (room, t.0, t.1, t.2) (λ no. limit)
@@ -98,7 +98,7 @@ refused_so xs r new faults.Read so room t read limit = absurd (read refl)
 refused_so xs r new faults.TooLong so room t read limit = absurd t
 
 -- there is room for another block
-pub has_room : (s : Parameters) (at len len_old k : ℕ) {w j : ℕ} → w ≡ width s → j ≡ s.block → w * j ≤ len - at → at ≤ len → at ≡ width s * k → len ≡ len_old → HasRoom s k len_old
+pub has_room : (s : Parameters) (at len len_old k : ℕ) {w j : ℕ} → w ≡ width s → j ≡ s.block → w * j ≤ len - at → at ≤ len → at ≡ width s * k → len ≡ len_old → HasRoomForBlock s k len_old
 has_room s at len len_old k {w} {j} e f le within count same = let size : w * j ≡ width s * s.block = (λ i. e i * f i) in omega arith
 
 -- there is none
@@ -106,10 +106,10 @@ pub has_none : (s : Parameters) (at len len_old k : ℕ) {w j : ℕ} → w ≡ w
 has_none s at len len_old k {w} {j} e f lt within count same = let size : w * j ≡ width s * s.block = (λ i. e i * f i) in (omega arith, omega arith)
 
 -- where the decoder refuses, the intake has failed only if the fault says so
-pub failed_once : {I : Type 0} (s : Parameters) (o : Beginning) (front : List Bool) (given : List ℤ) (here : Stand) (r new : Reader I) (xs : List ℤ) (fault : CodeFault) → fault ≡ faults.Read → TakesNext s o front given here r new xs (Err fault) → new.failed ≡ 1
+pub failed_once : {I : Type 0} (s : Parameters) (o : Origin) (front : List Bool) (given : List ℤ) (here : Stand) (r new : Reader I) (xs : List ℤ) (fault : CodeFault) → fault ≡ faults.Read → TakesNext s o front given here r new xs (Err fault) → new.failed ≡ 1
 failed_once s o front given here r new xs fault e t = subst (λ (f : CodeFault). TakesNext s o front given here r new xs (Err f)) e t
 
-pub never_too_long : {I : Type 0} (s : Parameters) (o : Beginning) (front : List Bool) (given : List ℤ) (here : Stand) (r new : Reader I) (xs : List ℤ) (fault : CodeFault) → fault ≡ faults.TooLong → TakesNext s o front given here r new xs (Err fault) → ⊥
+pub never_too_long : {I : Type 0} (s : Parameters) (o : Origin) (front : List Bool) (given : List ℤ) (here : Stand) (r new : Reader I) (xs : List ℤ) (fault : CodeFault) → fault ≡ faults.TooLong → TakesNext s o front given here r new xs (Err fault) → ⊥
 never_too_long s o front given here r new xs fault e t = subst (λ (f : CodeFault). TakesNext s o front given here r new xs (Err f)) e t
 
 -- ---- a reader of a piece

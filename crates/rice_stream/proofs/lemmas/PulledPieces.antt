@@ -14,7 +14,7 @@ use Rattle.rice_code.proofs.lemmas.meaning.Afresh.{decoding_begins_afresh}
 use Rattle.rice_code.proofs.lemmas.meaning.DecodingPlaces.{end_there}
 use Rattle.rice_stream.specs.DecodingState.{DecodedSoFar}
 use Rattle.rice_stream.specs.Laws.{ArePulled, EndsCode, EnoughBehindIsDecoding, EnoughIsDecoding, FrontIsPlace, GiveInParts, IsPlace, IsPulled, Pull, PullsAreDecoding, SeekingIsDecoding, StandsTellPlaces, last_stand}
-use Rattle.rice_stream.specs.Pulling.{Beginning, IsStand, PausesAt, at_front, bits_ahead}
+use Rattle.rice_stream.specs.Pulling.{Origin, IsStand, PausesAt, at_front, bits_ahead}
 use Rattle.rice_stream.specs.declared.stand.Pause.{Pause}
 use Rattle.rice_stream.specs.declared.stand.Pause.TheVariants as pauses
 use Rattle.rice_stream.specs.declared.stand.Stand.{Stand}
@@ -22,7 +22,7 @@ use Rattle.rice_stream.proofs.lemmas.DecodedSamples.{at_end, ends_here, ends_rea
 use Rattle.rice_stream.proofs.lemmas.DecodingLemmas.{same_place}
 
 -- Bits of a code were pulled from where decoding began, and a stand is behind them.
-record HasPulled (s : Parameters) (code : List ℕ) (o : Beginning) (stand : Stand) : Type 0 where
+record HasPulled (s : Parameters) (code : List ℕ) (o : Origin) (stand : Stand) : Type 0 where
   pub front : List Bool
   pub given : List ℤ
   pub rest : List Bool
@@ -61,7 +61,7 @@ drop_bits (suc n) k (x ∷ xs) le =
 others : (stand : Stand) (piece behind : List ℕ) → List Bool
 others stand piece behind = drop (stand.bits % 8 - length (bits_of piece)) (bits_of behind)
 
-behind_stand : (s : Parameters) (code : List ℕ) (o : Beginning) (stand : Stand) (piece behind : List ℕ) → (h : HasPulled s code o stand) → drop (stand.bits / 8) code ≡ piece ++ behind → h.rest ≡ bits_ahead stand piece ++ others stand piece behind
+behind_stand : (s : Parameters) (code : List ℕ) (o : Origin) (stand : Stand) (piece behind : List ℕ) → (h : HasPulled s code o stand) → drop (stand.bits / 8) code ≡ piece ++ behind → h.rest ≡ bits_ahead stand piece ++ others stand piece behind
 unfolding others
 behind_stand s code o stand piece behind h e =
     let n = stand.bits / 8 in
@@ -72,7 +72,7 @@ behind_stand s code o stand piece behind h e =
     ∙ ap (drop k) (bits_of-append piece behind) ∙ drop_both k (bits_of piece) (bits_of behind)
 
 -- a piece more was pulled
-record PullsOn (s : Parameters) (code : List ℕ) (o : Beginning) (stand : Stand) (p : Pull) (given : List ℤ) (behind : List ℕ) : Type 0 where
+record PullsOn (s : Parameters) (code : List ℕ) (o : Origin) (stand : Stand) (p : Pull) (given : List ℤ) (behind : List ℕ) : Type 0 where
   pub next : HasPulled s code o p.stand
   pub part : List ℤ
   pub more : next.given ≡ given ++ part
@@ -83,7 +83,7 @@ record PullsOn (s : Parameters) (code : List ℕ) (o : Beginning) (stand : Stand
   pub pauses_at : PausesAt s stand p.piece (length p.old) p.stand left (length part) p.pause
   pub limit : p.pause ≢ pauses.TooLong → p.stand.bits + length left ≤ 2 ^ 52
 
-pulls_on : (s : Parameters) (code : List ℕ) (o : Beginning) (stand : Stand) (p : Pull) (behind : List ℕ) → (h : HasPulled s code o stand) → IsPulled s code stand p behind → PullsOn s code o stand p h.given behind
+pulls_on : (s : Parameters) (code : List ℕ) (o : Origin) (stand : Stand) (p : Pull) (behind : List ℕ) → (h : HasPulled s code o stand) → IsPulled s code stand p behind → PullsOn s code o stand p h.given behind
 pulls_on s code o stand p behind h pulled =
     let d = pulled.1 o h.front h.given h.stands in
     let far = others stand p.piece behind in
@@ -113,13 +113,13 @@ pulls_on s code o stand p behind h pulled =
     within old n k bits rest new most e f g few = omega arith
 
 -- pieces were pulled after these samples
-record PullAll (s : Parameters) (code : List ℕ) (o : Beginning) (stand : Stand) (pulls : List Pull) (given : List ℤ) : Type 0 where
+record PullAll (s : Parameters) (code : List ℕ) (o : Origin) (stand : Stand) (pulls : List Pull) (given : List ℤ) : Type 0 where
   pub next : HasPulled s code o (last_stand stand pulls)
   pub more : List ℤ
   pub all : next.given ≡ given ++ more
   pub parts : GiveInParts s stand pulls more
 
-pull_all : (s : Parameters) (code : List ℕ) (o : Beginning) (stand : Stand) (pulls : List Pull) → (h : HasPulled s code o stand) → ArePulled s code stand pulls → PullAll s code o stand pulls h.given
+pull_all : (s : Parameters) (code : List ℕ) (o : Origin) (stand : Stand) (pulls : List Pull) → (h : HasPulled s code o stand) → ArePulled s code stand pulls → PullAll s code o stand pulls h.given
 pull_all s code o stand [] h pulled = record { next = h; more = []; all = sym (append-nil h.given); parts = refl }
 pull_all s code o stand (p ∷ ps) h pulled =
     let on = pulls_on s code o stand p pulled.0.0 h pulled.0.1 in
@@ -185,11 +185,11 @@ not_long pauses.RunPastSegment behind ending e = λ same. absurd cc
 not_long pauses.ResidualTooLarge behind ending e = λ same. absurd cc
 
 -- nothing is pulled yet
-at_first : (s : Parameters) (code : List ℕ) (o : Beginning) (first : Stand) → o.bits ≤ length (bits_of code) → IsStand s o first [] [] → HasPulled s code o first
+at_first : (s : Parameters) (code : List ℕ) (o : Origin) (first : Stand) → o.bits ≤ length (bits_of code) → IsStand s o first [] [] → HasPulled s code o first
 at_first s code o first le h = record { front = []; given = []; rest = drop o.bits (bits_of code); inside = le; split = refl; stands = h }
 
 -- what ends there is what the code decodes to
-decoded_all : (s : Parameters) (code : List ℕ) (o : Beginning) (stand : Stand) (rest : List Bool) (ahead : ℕ) (ending : Ending) → (h : HasPulled s code o stand) → h.rest ≡ rest → (f : Finishes s stand rest ahead ending)
+decoded_all : (s : Parameters) (code : List ℕ) (o : Origin) (stand : Stand) (rest : List Bool) (ahead : ℕ) (ending : Ending) → (h : HasPulled s code o stand) → h.rest ≡ rest → (f : Finishes s stand rest ahead ending)
     → Decoded s (drop o.bits (bits_of code)) None h.given ending (length h.front + f.used)
 decoded_all s code o stand rest ahead ending h e f =
     let st = h.stands in
@@ -198,7 +198,7 @@ decoded_all s code o stand rest ahead ending h e f =
     (ends_here s h.front rest st.begun st.blocks h.given None ending f.used (subst (λ (n : ℕ). DecodedSoFar s h.front st.begun st.blocks n h.given) f.none st.decoded) (λ i lt. tt) ends)
 
 -- Pieces were pulled from where decoding began to where the code ends.
-record PulledAll (s : Parameters) (code : List ℕ) (o : Beginning) (first : Stand) (pulls : List Pull) (last : Stand) (ending : Ending) : Type 0 where
+record PulledAll (s : Parameters) (code : List ℕ) (o : Origin) (first : Stand) (pulls : List Pull) (last : Stand) (ending : Ending) : Type 0 where
   pub samples : List ℤ
   pub used : ℕ
   pub parts : GiveInParts s first pulls samples
@@ -206,7 +206,7 @@ record PulledAll (s : Parameters) (code : List ℕ) (o : Beginning) (first : Sta
   pub limit : o.bits + used ≤ 2 ^ 52
   pub count : last.samples ≡ o.samples + length samples
 
-pulled_all : (s : Parameters) (code : List ℕ) (o : Beginning) (first : Stand) (pulls : List Pull) (last : Pull) (behind : List ℕ) (ending : Ending) → o.bits ≤ length (bits_of code) → IsStand s o first [] [] → ArePulled s code first pulls
+pulled_all : (s : Parameters) (code : List ℕ) (o : Origin) (first : Stand) (pulls : List Pull) (last : Pull) (behind : List ℕ) (ending : Ending) → o.bits ≤ length (bits_of code) → IsStand s o first [] [] → ArePulled s code first pulls
     → IsPulled s code (last_stand first pulls) last behind → EndsCode last.pause behind ending → PulledAll s code o first (pulls ++ last ∷ []) last.stand ending
 unfolding at_first
 pulled_all s code o first pulls last behind ending inside begins pulled last_pulled ends =
@@ -225,7 +225,7 @@ pulled_all s code o first pulls last behind ending inside begins pulled last_pul
     }
 
 -- Pieces were pulled until there were n samples, and no block more.
-record PulledEnough (s : Parameters) (code : List ℕ) (o : Beginning) (first : Stand) (pulls : List Pull) (n : ℕ) (last : Stand) : Type 0 where
+record PulledEnough (s : Parameters) (code : List ℕ) (o : Origin) (first : Stand) (pulls : List Pull) (n : ℕ) (last : Stand) : Type 0 where
   pub samples : List ℤ
   pub used : ℕ
   pub parts : GiveInParts s first pulls samples
@@ -237,7 +237,7 @@ record PulledEnough (s : Parameters) (code : List ℕ) (o : Beginning) (first : 
   pub size : length samples ≡ s.block * blocks
   pub here : place s blocks ≡ last.block
 
-pulled_enough : (s : Parameters) (code : List ℕ) (o : Beginning) (first : Stand) (pulls : List Pull) (n : ℕ) → o.bits ≤ length (bits_of code) → IsStand s o first [] [] → ArePulled s code first pulls
+pulled_enough : (s : Parameters) (code : List ℕ) (o : Origin) (first : Stand) (pulls : List Pull) (n : ℕ) → o.bits ≤ length (bits_of code) → IsStand s o first [] [] → ArePulled s code first pulls
     → o.samples + n ≤ (last_stand first pulls).samples → (last_stand first pulls).samples < o.samples + n + s.block → PulledEnough s code o first pulls n (last_stand first pulls)
 unfolding at_first
 pulled_enough s code o first pulls n inside begins pulled enough few =
@@ -285,7 +285,7 @@ front_is_place s code =
     record { count = refl; begins = record { intervals = 0; len = none; decoded = at_end s 0 0 (pos 0) (bits_of code) (Some 0) Reached 0 (omega arith, refl) } }
 
 -- the place is in the code
-inside_code : (s : Parameters) (code : List ℕ) (o : Beginning) (before : List ℤ) → IsPlace s code o before → o.bits ≤ length (bits_of code)
+inside_code : (s : Parameters) (code : List ℕ) (o : Origin) (before : List ℤ) → IsPlace s code o before → o.bits ≤ length (bits_of code)
 inside_code s code o before place =
     let h = place.begins.decoded in
     omega (arith, ap length h.parts, length-append h.front h.rest, h.bits_used, h.ends.1)
@@ -299,7 +299,7 @@ pub record SeekAll (s : Parameters) (code : List ℕ) (before : List ℤ) (first
   pub limit : used ≤ 2 ^ 52
   pub count : last.samples ≡ length (before ++ samples)
 
-pub seek_all : (s : Parameters) (code : List ℕ) (o : Beginning) (before : List ℤ) (first : Stand) (pulls : List Pull) (last : Pull) (behind : List ℕ) (ending : Ending) → IsPlace s code o before → IsStand s o first [] []
+pub seek_all : (s : Parameters) (code : List ℕ) (o : Origin) (before : List ℤ) (first : Stand) (pulls : List Pull) (last : Pull) (behind : List ℕ) (ending : Ending) → IsPlace s code o before → IsStand s o first [] []
     → ArePulled s code first pulls → IsPulled s code (last_stand first pulls) last behind → EndsCode last.pause behind ending → SeekAll s code before first (pulls ++ last ∷ []) last.stand ending
 seek_all s code o before first pulls last behind ending place begins pulled last_pulled ends =
     let p = pulled_all s code o first pulls last behind ending (inside_code s code o before place) begins pulled last_pulled ends in
@@ -325,7 +325,7 @@ pub record SeekEnough (s : Parameters) (code : List ℕ) (before : List ℤ) (fi
   pub size : n ≤ length samples
   pub limit : last.bits ≤ 2 ^ 52
 
-pub seek_enough : (s : Parameters) (code : List ℕ) (o : Beginning) (before : List ℤ) (first : Stand) (pulls : List Pull) (n : ℕ) → IsPlace s code o before → IsStand s o first [] [] → ArePulled s code first pulls
+pub seek_enough : (s : Parameters) (code : List ℕ) (o : Origin) (before : List ℤ) (first : Stand) (pulls : List Pull) (n : ℕ) → IsPlace s code o before → IsStand s o first [] [] → ArePulled s code first pulls
     → o.samples + n ≤ (last_stand first pulls).samples → (last_stand first pulls).samples < o.samples + n + s.block → SeekEnough s code before first pulls (o.samples + n) n (last_stand first pulls)
 seek_enough s code o before first pulls n place begins pulled enough few =
     let p = pulled_enough s code o first pulls n (inside_code s code o before place) begins pulled enough few in
@@ -345,7 +345,7 @@ enough_behind_is_decoding s code o before first pulls n place begins pulled enou
     (p.samples, p.parts, p.decoded)
 
 -- no pull goes back
-pulled_far : (s : Parameters) (code : List ℕ) (o : Beginning) (first : Stand) (pulls : List Pull) → o.bits ≤ length (bits_of code) → IsStand s o first [] [] → ArePulled s code first pulls → o.samples ≤ (last_stand first pulls).samples
+pulled_far : (s : Parameters) (code : List ℕ) (o : Origin) (first : Stand) (pulls : List Pull) → o.bits ≤ length (bits_of code) → IsStand s o first [] [] → ArePulled s code first pulls → o.samples ≤ (last_stand first pulls).samples
 pulled_far s code o first pulls inside begins pulled = let all = pull_all s code o first pulls (at_first s code o first inside begins) pulled in omega (arith, all.next.stands.samples)
 
 pub stands_tell_places : StandsTellPlaces

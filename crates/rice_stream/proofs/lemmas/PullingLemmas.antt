@@ -18,17 +18,17 @@ use Rattle.rice_code.specs.decode.Fields.{AreCounted}
 use Rattle.rice_code.specs.decode.ReadSets.{SetCut}
 use Rattle.rice_code.specs.declared.decode.fault.CodeFault.{CodeFault}
 use Rattle.rice_code.specs.declared.decode.fault.CodeFault.TheVariants as faults
-use Rattle.rice_code.specs.declared.decode.fault.Step.TheVariants.{Block, Done}
+use Rattle.rice_code.specs.declared.decode.fault.NextBlock.TheVariants.{Block, Done}
 use Rattle.rice_code.proofs.lemmas.code.Filling.{last_append}
 use Rattle.rice_stream.specs.DecodingState.{DecodedSoFar, Gains, HasSets}
-use Rattle.rice_stream.specs.Pulling.{Beginning, IsStand, MayBegin, GivesNext, GoesOnAt, IsReadFrom, TakesNext, ahead, known, state_of}
+use Rattle.rice_stream.specs.Pulling.{Origin, IsStand, MayBegin, GivesNext, GoesOnAt, IsReadFrom, TakesNext, ahead, bytes_told, state_of}
 use Rattle.rice_stream.specs.declared.stand.Stand.{Stand}
 use Rattle.rice_stream.proofs.lemmas.DecodingEnds.{blank_all, next_here, some_one}
 use Rattle.rice_stream.proofs.lemmas.DecodingLemmas.{Advances, gains_run, gains_set, moves_of, runs_or_not, took}
 
 -- what is drawn of a piece
 pub draws_ahead : (old new : Option (List ℕ)) (waiting waiting_new bits : List Bool) → IsSome old → Draws old new waiting waiting_new bits
-    → IsSome new × (waiting ++ bits_of (known old) ≡ bits ++ (waiting_new ++ bits_of (known new)))
+    → IsSome new × (waiting ++ bits_of (bytes_told old) ≡ bits ++ (waiting_new ++ bits_of (bytes_told new)))
 draws_ahead None new waiting waiting_new bits told d = absurd (let e : false ≡ true = told in cc)
 draws_ahead (Some xs) None waiting waiting_new bits told d = absurd d.consumed
 draws_ahead (Some xs) (Some ys) waiting waiting_new bits told d = (
@@ -38,25 +38,25 @@ draws_ahead (Some xs) (Some ys) waiting waiting_new bits told d = (
 )
 
 -- nothing is left of a piece
-nothing_left : (mid new : Option (List ℕ)) → Consumes mid new [] → IsAtEnd new → known mid ≡ []
+nothing_left : (mid new : Option (List ℕ)) → Consumes mid new [] → IsAtEnd new → bytes_told mid ≡ []
 nothing_left None new c e = refl
 nothing_left (Some xs) None c e = absurd c
 nothing_left (Some xs) (Some ys) c e = c ∙ e
 
 -- all of a piece was drawn
-pub all_drawn : (old mid new : Option (List ℕ)) (waiting bits : List Bool) → IsSome old → Draws old mid waiting [] bits → Consumes mid new [] → IsAtEnd new → waiting ++ bits_of (known old) ≡ bits
+pub all_drawn : (old mid new : Option (List ℕ)) (waiting bits : List Bool) → IsSome old → Draws old mid waiting [] bits → Consumes mid new [] → IsAtEnd new → waiting ++ bits_of (bytes_told old) ≡ bits
 all_drawn old mid new waiting bits told d c e =
     (draws_ahead old mid waiting [] bits told d).1 ∙ ap (λ l. bits ++ bits_of l) (nothing_left mid new c e) ∙ ap (λ l. bits ++ l) bits_of-nil ∙ append-nil bits
 
 -- the padding is that of the same place in a byte
-pads_as : (s : Parameters) (o : Beginning) (taken bits len b n : ℕ) → MayBegin s o → taken % 8 ≡ bits % 8 → bits ≡ o.bits + len → padding s b (taken + n) ≡ padding s b (len + n)
+pads_as : (s : Parameters) (o : Origin) (taken bits len b n : ℕ) → MayBegin s o → taken % 8 ≡ bits % 8 → bits ≡ o.bits + len → padding s b (taken + n) ≡ padding s b (len + n)
 pads_as s o taken bits len b n begins e f = by_pad s.pad (place s b == 0) (λ pad. let g : o.bits % 8 ≡ 0 = begins pad in let same : (taken + n) % 8 ≡ (len + n) % 8 = omega arith in ap (λ v. (8 - v) % 8) same)
   where
     by_pad : (pad at : Bool) {x y : ℕ} → (pad ≡ true → x ≡ y) → cond (pad && at) x 0 ≡ cond (pad && at) y 0
     by_pad true at h = ap (λ v. cond at v 0) (h refl)
     by_pad false at h = refl
 
-module _ {I : Type 0} (s : Parameters) (o : Beginning) (stand next : Stand) (r new : Reader I) (steps steps_new : ℕ) (xs : List ℤ) where
+module _ {I : Type 0} (s : Parameters) (o : Origin) (stand next : Stand) (r new : Reader I) (steps steps_new : ℕ) (xs : List ℤ) where
   -- what a call of the decoder has done that gave a block
   pub record Steps : Type 0 where
     pub state : IsDecoderState s next.block next.previous next.run None
@@ -166,15 +166,15 @@ never_long s b first last stand r new reads cut =
     let stops = cut.stops in
     let drawn = draws_ahead r.left stops.middle r.waiting [] cut.bits reads.told stops.draws in
     let some = one_left stops.middle new.left stops.refuses.0.0 drawn.0 stops.refuses.0.1 in
-    omega (arith, reads.limit, reads.taken, ap length drawn.1, length-append cut.bits (bits_of (known stops.middle)), length-bits_of (known stops.middle), some, stops.refuses.2, stops.taken)
+    omega (arith, reads.limit, reads.taken, ap length drawn.1, length-append cut.bits (bits_of (bytes_told stops.middle)), length-bits_of (bytes_told stops.middle), some, stops.refuses.2, stops.taken)
   where
-    one_left : (mid new : Option (List ℕ)) (byte : ℕ) → IsSome mid → Consumes mid new (byte ∷ []) → 1 ≤ length (known mid)
+    one_left : (mid new : Option (List ℕ)) (byte : ℕ) → IsSome mid → Consumes mid new (byte ∷ []) → 1 ≤ length (bytes_told mid)
     one_left None new byte told c = absurd (let e : false ≡ true = told in cc)
     one_left (Some xs) None byte told c = absurd c
     one_left (Some xs) (Some ys) byte told c = omega (arith, ap length c)
 
 -- the decoder refuses
-refuses_next : {I : Type 0} (s : Parameters) (o : Beginning) (stand : Stand) (r new : Reader I) (first last : ℕ) (front : List Bool) (given xs : List ℤ) (fault : CodeFault) → IsReadFrom stand r → stand.run ≡ 0
+refuses_next : {I : Type 0} (s : Parameters) (o : Origin) (stand : Stand) (r new : Reader I) (first last : ℕ) (front : List Bool) (given xs : List ℤ) (fault : CodeFault) → IsReadFrom stand r → stand.run ≡ 0
     → StopsBy (with_mark r) new first last s stand.block (Err fault) → TakesNext s o front given stand r new xs (Err fault)
 refuses_next s o stand r new first last front given xs faults.CodeEnds reads none h = (none, ends_cut s stand.block first last r new reads.told h)
 refuses_next s o stand r new first last front given xs faults.RunPastSegment reads none h = let u = begins_unsound s stand.block first last r new _ reads.told h in (none, u.0, (tt, u.1))
@@ -182,7 +182,7 @@ refuses_next s o stand r new first last front given xs faults.ResidualTooLarge r
 refuses_next s o stand r new first last front given xs faults.Read reads none h = h.stops.refuses.1 ∙ ap (λ n. n + 1) reads.failed
 refuses_next s o stand r new first last front given xs faults.TooLong reads none h = never_long s stand.block first last stand r new reads h
 
-pub stops_next : {I : Type 0} (s : Parameters) (o : Beginning) (stand : Stand) (r new : Reader I) (steps steps_new : ℕ) (q : DecoderState) (front : List Bool) (given xs : List ℤ) (fault : CodeFault) → IsReadFrom stand r
+pub stops_next : {I : Type 0} (s : Parameters) (o : Origin) (stand : Stand) (r new : Reader I) (steps steps_new : ℕ) (q : DecoderState) (front : List Bool) (given xs : List ℤ) (fault : CodeFault) → IsReadFrom stand r
     → Advances r new steps steps_new (state_of s stand) q xs (Err fault) → TakesNext s o front given stand r new xs (Err fault)
 stops_next s o stand r new steps steps_new q front given xs fault reads a =
     elim (runs_or_not (state_of s stand)) [
@@ -190,7 +190,7 @@ stops_next s o stand r new steps steps_new q front given xs fault reads a =
       | inr none ↦ refuses_next s o stand r new steps steps_new front given xs fault reads none (a.reads refl none).0
     ]
 
-pub done_next : {I : Type 0} (s : Parameters) (o : Beginning) (stand : Stand) (r new : Reader I) (steps steps_new : ℕ) (q : DecoderState) (front : List Bool) (given xs : List ℤ) → IsReadFrom stand r
+pub done_next : {I : Type 0} (s : Parameters) (o : Origin) (stand : Stand) (r new : Reader I) (steps steps_new : ℕ) (q : DecoderState) (front : List Bool) (given xs : List ℤ) → IsReadFrom stand r
     → Advances r new steps steps_new (state_of s stand) q xs (Ok Done) → TakesNext s o front given stand r new xs (Ok None)
 done_next s o stand r new steps steps_new q front given xs reads a =
     elim (runs_or_not (state_of s stand)) [

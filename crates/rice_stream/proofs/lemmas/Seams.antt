@@ -20,7 +20,7 @@ use Rattle.rice_code.specs.encode.OpenSegment.{state_between}
 use Rattle.rice_code.proofs.lemmas.encode.PushedCode.{holds_nothing, between_all}
 use Rattle.rice_stream.specs.Encodes.{ReportsTaken, ReportsAll}
 use Rattle.rice_stream.specs.EncodingState.{Beginning, CountsSamples, IsEncodingOf, Reads, TakesAll, Pushes, WritesRest}
-use Rattle.rice_stream.specs.Feeding.{IsSeam, behind, bytes_in_all, samples_to_take, GoesOn, EncodesMore, AreAll, EncodesRest}
+use Rattle.rice_stream.specs.Feeding.{IsSeam, behind, bytes_in_all, samples_to_take, TakesPiece, EncodesMore, AreAll, EncodesRest}
 use Rattle.rice_stream.specs.declared.encoding.Encoding.{Encoding}
 use Rattle.rice_stream.specs.declared.outcome.Fault.{Fault}
 use Rattle.rice_stream.specs.declared.outcome.Fault.TheVariants.{Read, Write, TooLong, SampleOutOfRange, SampleCut, CodeEnds, RunPastSegment, ResidualTooLarge}
@@ -138,7 +138,7 @@ cut_grows s seam xs n h le =
 
 pub goes_on : {N : ℕ} (s : Parameters) (old new : Option Room) (e : Encoding N) (at seam : Seam) (xs : List ℤ) (bytes : List ℕ) (count : ℕ) → IsSeam s at xs → TakesAll s (behind s xs old) new e xs (take (width s * count) bytes) →
     length xs + count ≡ samples_to_take s xs bytes → width s * count ≤ length bytes → bytes_in_all s xs bytes ≤ 281474976710656 →
-    ((ys : List ℤ) → IsEncodingOf s (behind s xs old) new e ys → cut s (length ys) ≡ length ys → width s * length ys ≤ 281474976710656 → IsSeam s seam ys) → GoesOn s xs bytes old new seam
+    ((ys : List ℤ) → IsEncodingOf s (behind s xs old) new e ys → cut s (length ys) ≡ length ys → width s * length ys ≤ 281474976710656 → IsSeam s seam ys) → TakesPiece s xs bytes old new seam
 goes_on s old new e at seam xs bytes count h t is within limit stands =
     let w = width s in
     let len = length-take-le (w * count) bytes within in

@@ -1,5 +1,5 @@
 use Rattle.std.proofs.Common.{arith, refl, ◌/◌, ◌∙◌, ap}
-use Rattle.rice_c.specs.Statuses.{number_of, pause_place}
+use Rattle.rice_c.specs.Statuses.{status_number, pause_place}
 use Rattle.rice_c.proofs.lemmas.Draining.{bytes_fit, bytes_written, more_samples}
 use Rattle.rice_c.proofs.drain.pull_into.Goals as goal
 
@@ -24,7 +24,7 @@ returns c = λ o front given h.
       pause = pause;
       decodes = d;
       setting_is = refl;
-      status_is = c.number.ensures ∙ ap number_of c.pause_status.ensures;
+      status_is = c.number.ensures ∙ ap status_number c.pause_status.ensures;
       counts = refl;
       written = bytes_written c.args.setting.now o front given c.args.code.now c.args.drain.now.stand stand c.args.samples.now c.decode_more-pause.new.samples pause c.width.result c.width.ensures.value h d;
       place = c.pause_place.ensures ∙ ap (λ n. pause_place pause (stand.samples / n)) c.block.ensures.value;

@@ -14,8 +14,8 @@ use Rattle.rice_samples.specs.Parameters.{Parameters, id_len}
 use Rattle.rice_code.specs.code.Blocks.{BlockData}
 use Rattle.rice_code.specs.code.CodedDataSets.{CodedDataSet, NoCompression, SecondExtension, Split, ZeroBlocks, RemainderOfSegment, bits_of_set, run_number, no_compression_tail, second_extension_tail, split_tail, run_tail}
 use Rattle.rice_code.specs.code.Forms.{IsForm, IsReference}
-use Rattle.rice_code.specs.decode.ReadSets.{BlockRead, BlockCut, SetRead, SetCut, LowRead, LowCut, low_tail, IsLow}
-use Rattle.rice_code.specs.declared.decode.options.SetHead.TheVariants.{Residuals, Zeros}
+use Rattle.rice_code.specs.decode.ReadSets.{BlockRead, BlockCut, SetRead, SetCut, LowEntropyRead, LowEntropyCut, low_entropy_tail, IsLowEntropy}
+use Rattle.rice_code.specs.declared.decode.options.SetSummary.TheVariants.{Residuals, Zeros}
 use Rattle.rice_code.proofs.lemmas.code.ReadInOneWay.{head_reads, identifier, tail, wide_id}
 
 -- a word of less than the identifier begins nothing
@@ -44,7 +44,7 @@ cut_split s b id k bits e lt none (Split m c) more form i t =
 cut_split s b id k bits e lt none (ZeroBlocks r z) more form i t = omega arith
 cut_split s b id k bits e lt none (RemainderOfSegment r) more form i t = omega arith
 
-cut_low : (s : Parameters) (b id : ℕ) (bits : List Bool) → id ≡ 0 → ((d : CodedDataSet) (more : List Bool) → IsForm s b d → IsLow d → bits ≡ low_tail s d ++ more → ⊥)
+cut_low : (s : Parameters) (b id : ℕ) (bits : List Bool) → id ≡ 0 → ((d : CodedDataSet) (more : List Bool) → IsForm s b d → IsLowEntropy d → bits ≡ low_entropy_tail s d ++ more → ⊥)
     → (d : CodedDataSet) (more : List Bool) → IsForm s b d → id ≡ identifier s d → bits ≡ tail s d ++ more → ⊥
 unfolding identifier tail
 cut_low s b id bits e none (NoCompression c) more form i t = let w = wide_id s in omega arith
@@ -82,7 +82,7 @@ split_set_cut old mid new first last s b id k f lt e t cut =
     cut_after_id old mid new first last s b id cut.bits f (omega arith) t cut.stops (cut_split s b id k cut.bits e lt cut.none) (λ blank. absurd (not_blank (id_len s) id cut.bits (omega arith) (omega arith) blank))
 
 pub low_set_cut : {I : Type 0} (old mid new : Reader I) (first second last : ℕ) (s : Parameters) (b id : ℕ) (f : BitFault)
-    → id < 2 ^ id_len s → id ≡ 0 → Takes old mid (word (id_len s) id) → second + old.taken ≡ first + mid.taken → LowCut mid new second last s b f → SetCut old new first last s b f
+    → id < 2 ^ id_len s → id ≡ 0 → Takes old mid (word (id_len s) id) → second + old.taken ≡ first + mid.taken → LowEntropyCut mid new second last s b f → SetCut old new first last s b f
 low_set_cut old mid new first second last s b id f lt e t steps cut =
     cut_after_id old mid new first last s b id cut.bits f lt t cut.stops (cut_low s b id cut.bits e cut.none) (λ blank. omega (arith, steps, cut.steps (behind (is_blank (word (id_len s) id)) (is_blank cut.bits) (sym (blank-append (word (id_len s) id) cut.bits) ∙ blank))))
   where
@@ -130,9 +130,9 @@ split_set old mid new first second last s b id k r sound near items e t steps re
 }
 
 -- low data sets are data sets
-pub low_set : {I : Type 0} (old mid new : Reader I) (first second last : ℕ) (s : Parameters) (b id : ℕ) (taken : Rattle.rice_code.specs.declared.decode.options.SetHead.SetHead) (items : List ℕ)
+pub low_set : {I : Type 0} (old mid new : Reader I) (first second last : ℕ) (s : Parameters) (b id : ℕ) (taken : Rattle.rice_code.specs.declared.decode.options.SetSummary.SetSummary) (items : List ℕ)
     → id ≡ 0 → Takes old mid (word (id_len s) id) → second + old.taken ≡ first + mid.taken
-    → LowRead mid new second last s b taken items → SetRead old new first last s b taken items
+    → LowEntropyRead mid new second last s b taken items → SetRead old new first last s b taken items
 low_set old mid new first second last s b id taken items e t steps read = record {
   set = read.set;
   form = read.form;
@@ -141,7 +141,7 @@ low_set old mid new first second last s b id taken items e t steps read = record
   steps = omega (arith, read.steps);
 }
   where
-    low_text : (d : CodedDataSet) → IsLow d → word (id_len s) 0 ++ low_tail s d ≡ bits_of_set s d
+    low_text : (d : CodedDataSet) → IsLowEntropy d → word (id_len s) 0 ++ low_entropy_tail s d ≡ bits_of_set s d
     low_text (NoCompression c) h = absurd h
     low_text (SecondExtension c) h = refl
     low_text (Split k c) h = absurd h
@@ -164,10 +164,10 @@ one_bit (suc zero) h k = bit_word 1 (omega arith)
 one_bit (suc (suc v)) h k = absurd (omega arith)
 
 pub low_bit_cut : {I : Type 0} (old new : Reader I) (first last : ℕ) (s : Parameters) (b : ℕ) (bits : List Bool) (f : BitFault)
-    → length bits < 1 → Stops old new bits f → last + old.taken ≡ first + new.taken → LowCut old new first last s b f
+    → length bits < 1 → Stops old new bits f → last + old.taken ≡ first + new.taken → LowEntropyCut old new first last s b f
 low_bit_cut old new first last s b bits f lt stops steps = record { bits = bits; stops = stops; none = none bits lt; steps = λ blank. steps }
   where
-    none : (bits : List Bool) → length bits < 1 → (d : CodedDataSet) (more : List Bool) → IsForm s b d → IsLow d → bits ≡ low_tail s d ++ more → ⊥
+    none : (bits : List Bool) → length bits < 1 → (d : CodedDataSet) (more : List Bool) → IsForm s b d → IsLowEntropy d → bits ≡ low_entropy_tail s d ++ more → ⊥
     none bits lt (NoCompression c) more form low e = low
     none bits lt (SecondExtension c) more form low e = omega (arith, ap length e)
     none bits lt (Split k c) more form low e = low
@@ -175,7 +175,7 @@ low_bit_cut old new first last s b bits f lt stops steps = record { bits = bits;
     none bits lt (RemainderOfSegment r) more form low e = omega (arith, ap length e)
 
 pub second_low_cut : {I : Type 0} (old mid new : Reader I) (first last : ℕ) (s : Parameters) (b v : ℕ) (f : BitFault)
-    → v < 2 → 0 < v → Takes old mid (word 1 v) → BlockCut mid new s b SecondExtension f → LowCut old new first last s b f
+    → v < 2 → 0 < v → Takes old mid (word 1 v) → BlockCut mid new s b SecondExtension f → LowEntropyCut old new first last s b f
 second_low_cut old mid new first last s b v f lt pos t cut = record {
   bits = true ∷ cut.bits;
   stops = stops-append old mid new (true ∷ []) cut.bits f (rw (one_bit v lt pos) at t) cut.stops;
@@ -183,7 +183,7 @@ second_low_cut old mid new first last s b v f lt pos t cut = record {
   steps = λ blank. absurd (let no : false ≡ true = blank in cc);
 }
   where
-    none : (bits : List Bool) → ((c : BlockData) (more : List Bool) → IsForm s b (SecondExtension c) → bits ≡ second_extension_tail s c ++ more → ⊥) → (d : CodedDataSet) (more : List Bool) → IsForm s b d → IsLow d → true ∷ bits ≡ low_tail s d ++ more → ⊥
+    none : (bits : List Bool) → ((c : BlockData) (more : List Bool) → IsForm s b (SecondExtension c) → bits ≡ second_extension_tail s c ++ more → ⊥) → (d : CodedDataSet) (more : List Bool) → IsForm s b d → IsLowEntropy d → true ∷ bits ≡ low_entropy_tail s d ++ more → ⊥
     none bits h (NoCompression c) more form low e = low
     none bits h (SecondExtension c) more form low e = h c more form cc
     none bits h (Split k c) more form low e = low
@@ -192,7 +192,7 @@ second_low_cut old mid new first last s b v f lt pos t cut = record {
 
 pub run_low_cut : {I : Type 0} (old mid new : Reader I) (first second last : ℕ) (s : Parameters) (b : ℕ) (bits : List Bool) (f : BitFault)
     → Takes old mid (word 1 0) → second + old.taken ≡ first + mid.taken → Stops mid new bits f → last + mid.taken ≡ second + new.taken
-    → ((r : Option ℕ) (m : ℕ) (more : List Bool) → IsReference s b r → bits ≡ run_tail s r m ++ more → ⊥) → LowCut old new first last s b f
+    → ((r : Option ℕ) (m : ℕ) (more : List Bool) → IsReference s b r → bits ≡ run_tail s r m ++ more → ⊥) → LowEntropyCut old new first last s b f
 run_low_cut old mid new first second last s b bits f t before stops behind cut = record {
   bits = false ∷ bits;
   stops = stops-append old mid new (false ∷ []) bits f (rw zero_bit at t) stops;
@@ -200,7 +200,7 @@ run_low_cut old mid new first second last s b bits f t before stops behind cut =
   steps = λ blank. omega (arith, before, behind);
 }
   where
-    none : (bits : List Bool) → ((r : Option ℕ) (m : ℕ) (more : List Bool) → IsReference s b r → bits ≡ run_tail s r m ++ more → ⊥) → (d : CodedDataSet) (more : List Bool) → IsForm s b d → IsLow d → false ∷ bits ≡ low_tail s d ++ more → ⊥
+    none : (bits : List Bool) → ((r : Option ℕ) (m : ℕ) (more : List Bool) → IsReference s b r → bits ≡ run_tail s r m ++ more → ⊥) → (d : CodedDataSet) (more : List Bool) → IsForm s b d → IsLowEntropy d → false ∷ bits ≡ low_entropy_tail s d ++ more → ⊥
     none bits h (NoCompression c) more form low e = low
     none bits h (SecondExtension c) more form low e = absurd cc
     none bits h (Split k c) more form low e = low
@@ -209,7 +209,7 @@ run_low_cut old mid new first second last s b bits f t before stops behind cut =
 
 pub second_low : {I : Type 0} (old mid new : Reader I) (first second last : ℕ) (s : Parameters) (b v : ℕ) (r : Option ℕ) (sound near : Bool) (items : List ℕ)
     → v < 2 → 0 < v → Takes old mid (word 1 v) → second + old.taken ≡ first + mid.taken
-    → BlockRead mid new second last s b SecondExtension (record { reference = r; sound = sound }) items → LowRead old new first last s b (Residuals r sound near) items
+    → BlockRead mid new second last s b SecondExtension (record { reference = r; sound = sound }) items → LowEntropyRead old new first last s b (Residuals r sound near) items
 second_low old mid new first second last s b v r sound near items lt pos t steps read = record {
   set = SecondExtension read.contents;
   low = tt;
@@ -229,7 +229,7 @@ second_low old mid new first second last s b v r sound near items lt pos t steps
 
 pub run_low : {I : Type 0} (old mid new : Reader I) (first second last : ℕ) (s : Parameters) (b : ℕ) (r : Option ℕ) (zeros : ℕ) (items : List ℕ)
     → Takes old mid (word 1 0) → second + old.taken ≡ first + mid.taken
-    → IsReference s b r → Takes mid new (run_tail s r zeros) → last + mid.taken ≡ second + new.taken → LowRead old new first last s b (Zeros r zeros) items
+    → IsReference s b r → Takes mid new (run_tail s r zeros) → last + mid.taken ≡ second + new.taken → LowEntropyRead old new first last s b (Zeros r zeros) items
 run_low old mid new first second last s b r zeros items t steps h u more =
     by_zeros (zeros == 4) refl
   where
@@ -239,7 +239,7 @@ run_low old mid new first second last s b r zeros items t steps h u more =
     whole : Takes old new (false ∷ run_tail s r zeros)
     whole = takes-append old mid new (false ∷ []) _ (rw zero_bit at t) u
 
-    by_zeros : (b' : Bool) → (zeros == 4) ≡ b' → LowRead old new first last s b (Zeros r zeros) items
+    by_zeros : (b' : Bool) → (zeros == 4) ≡ b' → LowEntropyRead old new first last s b (Zeros r zeros) items
     by_zeros true e = record {
       set = RemainderOfSegment r;
       low = tt;

@@ -19,7 +19,7 @@ use Rattle.rice_code.specs.code.Blocks.{BlockData, block_data, zero_block}
 use Rattle.rice_code.specs.code.CodedDataSets.{CodedDataSet, NoCompression, SecondExtension, Split, ZeroBlocks, RemainderOfSegment, bits_of_set, turns, run_number, run_tail, run_with_zeros, no_compression_tail, second_extension_tail, split_tail, reference_bits}
 use Rattle.rice_code.specs.code.Forms.{IsForm, IsReference, RunIsSound, ResidualsAreSound, blocks_in, zero_blocks}
 use Rattle.rice_code.specs.decode.ReadSets.{SetRead, SetCut}
-use Rattle.rice_code.specs.declared.decode.options.SetHead.TheVariants.{Residuals, Zeros}
+use Rattle.rice_code.specs.declared.decode.options.SetSummary.TheVariants.{Residuals, Zeros}
 use Rattle.rice_code.specs.code.Layout.{block_after, padding}
 use Rattle.rice_code.specs.code.SoundBlocks.{block_with}
 use Rattle.rice_code.specs.decode.Decoder.{Answers, RepeatsBlocks, Skips, TakesSet, GivesSet, GivesFromRun, SetEnds, StopsBy, answer_to, with_mark}
@@ -27,8 +27,8 @@ use Rattle.rice_code.specs.decode.DecoderState.{DecoderState, IsDecoderState, ne
 use Rattle.rice_bits.specs.declared.read.fault.BitFault.{BitFault}
 use Rattle.rice_bits.specs.declared.read.fault.BitFault.TheVariants as bit_faults
 use Rattle.rice_samples.specs.predict.Residuals.{last_of}
-use Rattle.rice_code.specs.declared.decode.fault.Step.{Step}
-use Rattle.rice_code.specs.declared.decode.fault.Step.TheVariants.{Block, Done}
+use Rattle.rice_code.specs.declared.decode.fault.NextBlock.{NextBlock}
+use Rattle.rice_code.specs.declared.decode.fault.NextBlock.TheVariants.{Block, Done}
 use Rattle.rice_code.specs.declared.decode.fault.CodeFault.{CodeFault}
 
 -- a run says no residuals
@@ -111,7 +111,7 @@ run_goes_on s b run legal h pos le = by_begin (begins_segment s (b + 1)) refl
         let same : next_block_place s b ≡ b + 1 = grind (arith, nat_tests) in
         (ap (λ n. begins_segment s n) same ∙ e, rw same (omega arith))
 
-pub place_moves : (s : Parameters) (b next run : ℕ) (last : ℤ) (stopped : Option (Result Step CodeFault)) → IsLegal s → b < s.interval → next ≡ next_block_place s b → IsSample s last → (0 < run → run + 1 ≤ blocks_left s b) → stopped ≢ Some (Ok Block) → IsDecoderState s next last run stopped
+pub place_moves : (s : Parameters) (b next run : ℕ) (last : ℤ) (stopped : Option (Result NextBlock CodeFault)) → IsLegal s → b < s.interval → next ≡ next_block_place s b → IsSample s last → (0 < run → run + 1 ≤ blocks_left s b) → stopped ≢ Some (Ok Block) → IsDecoderState s next last run stopped
 place_moves s b next run last stopped legal h e sample more no_block = record {
   legal = legal;
   within = subst (λ n. n < s.interval) (sym e) (next_within s b h);
@@ -125,7 +125,7 @@ replicate-first : (run : ℕ) (z : BlockData) → 0 < run → z ∷ replicate (r
 replicate-first zero z h = absurd (omega arith)
 replicate-first (suc run) z h = let e : suc run - 1 ≡ run = omega arith in ap (λ n. z ∷ replicate n z) e
 
-pub goes_on : (s : Parameters) (b next run : ℕ) (p last : ℤ) (stopped : Option (Result Step CodeFault)) (samples : List ℤ) → 0 < run → next ≡ next_block_place s b → last ≡ last_of p samples
+pub goes_on : (s : Parameters) (b next run : ℕ) (p last : ℤ) (stopped : Option (Result NextBlock CodeFault)) (samples : List ℤ) → 0 < run → next ≡ next_block_place s b → last ≡ last_of p samples
     → length samples ≡ s.block → All (IsSample s) samples → block_data s b p samples ≡ zero_block s None
     → GivesFromRun (record { setting = s; block = b; before = p; run = run; stopped = stopped }) (record { setting = s; block = next; before = last; run = run - 1; stopped = stopped }) samples
 goes_on s b next run p last stopped samples pos e f len legal says = record {
@@ -134,14 +134,14 @@ goes_on s b next run p last stopped samples pos e f len legal says = record {
 }
 
 -- a block of a run repeats the sample before it
-pub repeats_on : (s : Parameters) (b next run : ℕ) (p : ℤ) (stopped : Option (Result Step CodeFault)) → IsDecoderState s b p run stopped → 0 < run → s.preprocess ≡ true → next ≡ next_block_place s b
+pub repeats_on : (s : Parameters) (b next run : ℕ) (p : ℤ) (stopped : Option (Result NextBlock CodeFault)) → IsDecoderState s b p run stopped → 0 < run → s.preprocess ≡ true → next ≡ next_block_place s b
     → GivesFromRun (record { setting = s; block = b; before = p; run = run; stopped = stopped }) (record { setting = s; block = next; before = p; run = run - 1; stopped = stopped }) (replicate s.block p)
 repeats_on s b next run p stopped state pos ways e =
     goes_on s b next run p p stopped (replicate s.block p) pos e (sym (last_replicate p s.block)) (length-replicate s.block p) (All-replicate (IsSample s) s.block p state.sample)
     (repeated_block s b p (sym (no_reference s b (state.run_begun pos)).there) (inl ways))
 
 -- a run goes no further than its interval
-pub inside_interval : (s : Parameters) (b count run : ℕ) (p : ℤ) (stopped : Option (Result Step CodeFault)) → IsDecoderState s b p run stopped → count ≤ run → b + count ≤ s.interval
+pub inside_interval : (s : Parameters) (b count run : ℕ) (p : ℤ) (stopped : Option (Result NextBlock CodeFault)) → IsDecoderState s b p run stopped → count ≤ run → b + count ≤ s.interval
 inside_interval s b zero run p stopped state few = omega (arith, state.within)
 inside_interval s b (suc n) run p stopped state few =
     let at : place s b ≡ b = mod-eq_of_lt state.within in
@@ -162,12 +162,12 @@ place_on s b n h k = elim (cases_lt (b + 1) s.interval) [
 ]
 
 -- a decoder behind some blocks of a run
-pub record PassedBlocks (count : ℕ) (s : Parameters) (b next run : ℕ) (p : ℤ) (stopped : Option (Result Step CodeFault)) : Type 0 where
+pub record PassedBlocks (count : ℕ) (s : Parameters) (b next run : ℕ) (p : ℤ) (stopped : Option (Result NextBlock CodeFault)) : Type 0 where
   pub state : IsDecoderState s next p (run - count) stopped
   pub passes : RepeatsBlocks count (record { setting = s; block = b; before = p; run = run; stopped = stopped }) (record { setting = s; block = next; before = p; run = run - count; stopped = stopped })
 
 -- blocks of a run repeat the sample before them
-pub passes_blocks : (count : ℕ) (s : Parameters) (b next run : ℕ) (p : ℤ) (stopped : Option (Result Step CodeFault)) → IsDecoderState s b p run stopped → count ≤ run → s.preprocess ≡ true → next ≡ place_after s b count → PassedBlocks count s b next run p stopped
+pub passes_blocks : (count : ℕ) (s : Parameters) (b next run : ℕ) (p : ℤ) (stopped : Option (Result NextBlock CodeFault)) → IsDecoderState s b p run stopped → count ≤ run → s.preprocess ≡ true → next ≡ place_after s b count → PassedBlocks count s b next run p stopped
 passes_blocks zero s b next run p stopped state few ways e =
     let h = state.within in
     let here : place_after s b 0 ≡ b = grind (arith, nat_tests) in
@@ -274,7 +274,7 @@ answers_block start middle new first steps last p q samples run before set skips
     )
 
 -- a decoder that stops answers so
-pub answers_stop : {I : Type 0} (old new : Reader I) (first last : ℕ) (p q : DecoderState) (samples : List ℤ) (a : Result Step CodeFault)
+pub answers_stop : {I : Type 0} (old new : Reader I) (first last : ℕ) (p q : DecoderState) (samples : List ℤ) (a : Result NextBlock CodeFault)
     → StopsBy old new first last p.setting p.block a → q ≡ record p { stopped = Some a } → samples ≡ [] → Answers old new first last p q samples a
 answers_stop old new first last p q samples (Ok Block) stops moves none = absurd stops
 answers_stop old new first last p q samples (Ok Done) stops moves none = (stops, moves, none)

@@ -5,7 +5,7 @@ use Rattle.std.proofs.lemmas.Nat.{pow-add, pow_pos, or_shifted, one_shl, div-mul
 use Rattle.std.proofs.Math.Nat.{pow-le-pow_right}
 use Rattle.rice_bits.specs.Bits.{word, number_of, fundamental_sequence}
 use Rattle.rice_bits.proofs.lemmas.bits.Words.{word-cat, word-fs, word-number_of, number_of-word, number_of-lt, join_below, length-fundamental_sequence}
-use Rattle.rice_code.specs.encode.Ones.{Fills, Gathers, Spells}
+use Rattle.rice_code.specs.encode.Ones.{HasFront, Gathers, HasDigits}
 use Rattle.rice_code.proofs.lemmas.encode.JoinedWords.{one_fits}
 
 -- the number that is spelled with one sequence more
@@ -52,7 +52,7 @@ gathers_more word left m bits lt h =
     }
 
 -- the sequences as digits
-pub gathered_number : (value left width : ℕ) (bits : List Bool) → width ≡ 2 ^ 40 - left → left < 2 ^ 40 → width ≤ 56 → Gathers value left bits → Spells bits (value / 2 ^ (64 - width)) width
+pub gathered_number : (value left width : ℕ) (bits : List Bool) → width ≡ 2 ^ 40 - left → left < 2 ^ 40 → width ≤ 56 → Gathers value left bits → HasDigits bits (value / 2 ^ (64 - width)) width
 gathered_number value left width bits e some few h =
     let len : length bits ≡ width = omega (arith, e, some, h.count) in
     let same : value / 2 ^ (64 - width) ≡ number_of bits = ap (λ v. v / 2 ^ (64 - width)) (h.front (omega (arith, len, few)) ∙ ap (λ n. number_of bits * 2 ^ (64 - n)) len) ∙ whole (number_of bits) (2 ^ (64 - width)) (pow_pos (64 - width)) in
@@ -69,14 +69,14 @@ pub four_behind : (bits a b c d : List Bool) → bits ++ a ++ b ++ c ++ d ≡ bi
 four_behind bits a b c d = simp append_assoc
 
 -- digits that are filled in, one sequence after another
-pub fills_none : (left : ℕ) → Fills 0 left []
+pub fills_none : (left : ℕ) → HasFront 0 left []
 unfolding number_of
 fills_none left =
     let e : number_of [] ≡ 0 = refl in
     record { digits = omega (arith, ap (λ n. n * 2 ^ left) e) }
 
-pub fills_more : (value left m : ℕ) (bits : List Bool) → m < left → left ≤ 56 → Fills value left bits →
-    Fills (bit_or value (1 * 2 ^ (left - m - 1) % 2 ^ 64)) (left - m - 1) (bits ++ fundamental_sequence m)
+pub fills_more : (value left m : ℕ) (bits : List Bool) → m < left → left ≤ 56 → HasFront value left bits →
+    HasFront (bit_or value (1 * 2 ^ (left - m - 1) % 2 ^ 64)) (left - m - 1) (bits ++ fundamental_sequence m)
 fills_more value left m bits lt few h =
     let b = left - m - 1 in
     let before : left ≡ m + 1 + b = omega (arith, lt) in
@@ -87,7 +87,7 @@ fills_more value left m bits lt few h =
     }
 
 -- all digits
-pub filled : (value left total : ℕ) (bits : List Bool) → left ≡ 0 → length bits ≡ total → Fills value left bits → Spells bits value total
+pub filled : (value left total : ℕ) (bits : List Bool) → left ≡ 0 → length bits ≡ total → HasFront value left bits → HasDigits bits value total
 filled value left total bits none len h =
     let same : value ≡ number_of bits = h.digits ∙ (ap (λ n. number_of bits * 2 ^ n) none ∙ once (number_of bits)) in
     record {

@@ -15,7 +15,7 @@ use Rattle.rice_samples.specs.predict.Residuals.{last_of, filled_samples}
 use Rattle.rice_samples.proofs.lemmas.setting.PlaceLemmas.{some_left}
 use Rattle.rice_samples.proofs.lemmas.predict.ResidualLemmas.{length-residuals}
 use Rattle.rice_samples.proofs.lemmas.setting.Levels.{zero_is_sample}
-use Rattle.rice_code.specs.code.Blocks.{BlockData, blocks_from, blocks_of, fill_samples, fill_count}
+use Rattle.rice_code.specs.code.Blocks.{BlockData, blocks_from, blocks_of, fill_count_of, fill_count}
 use Rattle.rice_code.specs.code.Code.{code, code_bits, data_sets, complete_samples}
 use Rattle.rice_code.specs.encode.Coder.{reference_in, HasCodedBefore, HasTaken, IsCoder, AddsCode}
 use Rattle.rice_code.specs.encode.OpenSegment.{CoderState, IsOpen, IsWhole, state_between, empty_state, state_after, state_with_fill, state_after_segment, next_start, blocks_held, contents_held, sets_held, code_held, bits_held, HoldsSoundBlocks, CodesHeld, is_empty}
@@ -395,7 +395,7 @@ pub filled_segment_adds_code : (coder : CoderState) (xs : List ℤ) → HasTaken
 filled_segment_adds_code coder xs h = adds_held_code (state_with_fill coder (fill_count coder.setting (length coder.residuals))) (complete_samples coder.setting xs) xs h.coded h.held (complete_are_coded coder xs h) h.parts (filled_part coder xs h)
 
 -- as many as fill the last block of all samples
-pub fill_count_is : (coder : CoderState) (xs : List ℤ) → HasTaken coder xs → fill_count coder.setting (length coder.residuals) ≡ fill_samples coder.setting xs
+pub fill_count_is : (coder : CoderState) (xs : List ℤ) → HasTaken coder xs → fill_count coder.setting (length coder.residuals) ≡ fill_count_of coder.setting xs
 fill_count_is coder xs h =
     let s = coder.setting in
     let count = held_count coder h.block h.coded h.held h.holds in
@@ -407,13 +407,13 @@ pub finish_sound : (coder held : CoderState) → held ≡ state_with_fill coder 
 finish_sound coder held g k = subst HoldsSoundBlocks (sym g) (filled_sound coder k.samples k.taken)
 
 pub finish_adds : (coder value held : CoderState) (xs : List ℤ) (old new : List Bool) (n m0 m1 m2 : ℕ) → coder ≡ value → held ≡ state_with_fill coder (fill_count coder.setting (length coder.residuals)) → CodesHeld held old new n m1 m2 → m1 ≡ m0 + fill_count coder.setting (length coder.residuals) → HasTaken value xs →
-    AddsCode value.setting (complete_samples value.setting xs) xs old new n (fill_samples value.setting xs) m0 m2
+    AddsCode value.setting (complete_samples value.setting xs) xs old new n (fill_count_of value.setting xs) m0 m2
 finish_adds coder value held xs old new n m0 m1 m2 e g codes steps h =
-    subst (λ (v : CoderState). HasTaken v xs → AddsCode v.setting (complete_samples v.setting xs) xs old new n (fill_samples v.setting xs) m0 m2) e (λ k.
+    subst (λ (v : CoderState). HasTaken v xs → AddsCode v.setting (complete_samples v.setting xs) xs old new n (fill_count_of v.setting xs) m0 m2) e (λ k.
     (let full = state_with_fill coder (fill_count coder.setting (length coder.residuals)) in
     let coded : CodesHeld full old new n m1 m2 = subst (λ v. CodesHeld v old new n m1 m2) g codes in
     let count = fill_count_is coder xs k in
-    adds_code full (complete_samples coder.setting xs) xs old new n (fill_samples coder.setting xs) m0 m1 m2 (filled_segment_adds_code coder xs k) coded (omega (arith, count, steps)))) h
+    adds_code full (complete_samples coder.setting xs) xs old new n (fill_count_of coder.setting xs) m0 m1 m2 (filled_segment_adds_code coder xs k) coded (omega (arith, count, steps)))) h
 
 -- The steps of a segment are few,
 pub segment_steps_few : (s : Parameters) → IsLegal s → segment_steps s ≤ 274752

@@ -17,7 +17,7 @@ use Rattle.rice_code.specs.code.Decoded.{DecodedFrom, Ending, Reached, Ended, Cu
 use Rattle.rice_code.proofs.lemmas.meaning.Covers.{bool_cases}
 use Rattle.rice_code.proofs.lemmas.code.SoundBlocks.{all_take, all_drop, last_legal}
 use Rattle.rice_code.proofs.lemmas.code.ReadInOneWay.{forms_read_in_one_way}
-use Rattle.rice_code.proofs.lemmas.code.Ones.{forms_have_a_one}
+use Rattle.rice_code.proofs.lemmas.code.OnesOfForms.{forms_have_a_one}
 use Rattle.rice_code.proofs.lemmas.meaning.SentSets.{IsSound}
 
 -- what excludes each other

@@ -9,4 +9,4 @@ written at xs ys eight room =
     put_chunk_is at xs ys (omega arith) ∙ ap (λ rest. take at xs ++ (ys ++ rest)) (ap (λ n. drop n (drop at xs)) eight ∙ drop-drop 8 at xs)
 
 pub returns : goal.returns
-returns c = ap (put_chunk c.args.at c.args.bytes.now) c.low_first.ensures ∙ written c.args.at c.args.bytes.now _ refl c.requires
+returns c = ap (put_chunk c.args.at c.args.bytes.now) c.least_byte_first.ensures ∙ written c.args.at c.args.bytes.now _ refl c.requires

@@ -7,17 +7,17 @@ returns-in-Err-clause-err g c =
     let e = rw c.id_len-width.ensures.value at (c.in-Err.ensures.err c.requires.going) in
     record { bits = e.0; stops = e.2; none = cut_identifier c.args.setting.now c.args.block e.0 e.1; steps = λ blank. c.in-Err.ensures.steps }
 
-pub returns-in-Ok-read_low-clause-ok : goal.returns-in-Ok-read_low-clause-ok
-returns-in-Ok-read_low-clause-ok g c =
+pub returns-in-Ok-read_low_entropy-clause-ok : goal.returns-in-Ok-read_low_entropy-clause-ok
+returns-in-Ok-read_low_entropy-clause-ok g c =
     let t = rw c.id_len-width.ensures.value at c.in-Ok.ensures.ok in
-    low_set c.args.reader.now c.take.new.self c.read_low.new.reader c.args.meter.now c.take.new.meter c.read_low.new.meter c.args.setting.now c.args.block c.in-Ok.id c.in-Ok-read_low.taken c.read_low.new.residuals
-    c.if-id-eq0.true t.1 c.in-Ok.ensures.steps c.in-Ok-read_low.ensures.ok
+    low_set c.args.reader.now c.take.new.self c.read_low_entropy.new.reader c.args.meter.now c.take.new.meter c.read_low_entropy.new.meter c.args.setting.now c.args.block c.in-Ok.id c.in-Ok-read_low_entropy.taken c.read_low_entropy.new.residuals
+    c.if-id-eq0.true t.1 c.in-Ok.ensures.steps c.in-Ok-read_low_entropy.ensures.ok
 
-pub returns-in-Err-read_low-clause-err : goal.returns-in-Err-read_low-clause-err
-returns-in-Err-read_low-clause-err g c =
+pub returns-in-Err-read_low_entropy-clause-err : goal.returns-in-Err-read_low_entropy-clause-err
+returns-in-Err-read_low_entropy-clause-err g c =
     let t = rw c.id_len-width.ensures.value at c.in-Ok.ensures.ok in
-    low_set_cut c.args.reader.now c.take.new.self c.read_low.new.reader c.args.meter.now c.take.new.meter c.read_low.new.meter c.args.setting.now c.args.block c.in-Ok.id c.in-Err-read_low.fault
-    t.0 c.if-id-eq0.true t.1 c.in-Ok.ensures.steps c.in-Err-read_low.ensures.err
+    low_set_cut c.args.reader.now c.take.new.self c.read_low_entropy.new.reader c.args.meter.now c.take.new.meter c.read_low_entropy.new.meter c.args.setting.now c.args.block c.in-Ok.id c.in-Err-read_low_entropy.fault
+    t.0 c.if-id-eq0.true t.1 c.in-Ok.ensures.steps c.in-Err-read_low_entropy.ensures.err
 
 pub returns-in-Ok-read_no_compression-clause-ok : goal.returns-in-Ok-read_no_compression-clause-ok
 returns-in-Ok-read_no_compression-clause-ok g c =

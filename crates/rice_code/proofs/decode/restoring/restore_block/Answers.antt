@@ -10,14 +10,14 @@ pub returns-clause-contents : goal.returns-clause-contents
 returns-clause-contents c =
     let len = c.requires.form.len in
     let s = c.args.setting.now in
-    ap (λ ls. block_data s c.args.block (value_at s c.args.before) (values_at s ls)) (refill_all c.set_len.new.levels.items c.write_block.new.levels (omega arith)) ∙ c.write_block.ensures.contents
+    ap (λ ls. block_data s c.args.block (value_at s c.args.before) (values_at s ls)) (refill_all c.set_len.new.levels.items c.write_levels.new.levels (omega arith)) ∙ c.write_levels.ensures.contents
 
 pub returns-clause-last : goal.returns-clause-last
 returns-clause-last c =
     let len = c.requires.form.len in
     let s = c.args.setting.now in
     let p = value_at s c.args.before in
-    let ls = c.write_block.new.levels in
+    let ls = c.write_levels.new.levels in
     let all = refill_all c.set_len.new.levels.items ls (omega arith) in
     let n : length c.args.residuals.now - 1 ≡ length ls - 1 = omega arith in
     let whole = c.as_slice.ensures.value ∙ all in

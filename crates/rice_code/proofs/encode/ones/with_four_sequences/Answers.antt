@@ -1,6 +1,6 @@
 use Rattle.std.proofs.Common.{subst}
 use Rattle.rice_bits.specs.Bits.{fundamental_sequence}
-use Rattle.rice_code.specs.encode.Ones.{Fills}
+use Rattle.rice_code.specs.encode.Ones.{HasFront}
 use Rattle.rice_code.proofs.lemmas.encode.GatheredOnes.{four_behind}
 use Rattle.rice_code.proofs.encode.ones.with_four_sequences.Goals as goal
 
@@ -10,4 +10,4 @@ returns-clause-bits c = λ bits h.
     let two = c.with_sequence-two.ensures.bits _ one in
     let three = c.with_sequence-three.ensures.bits _ two in
     let all = c.with_sequence.ensures.bits _ three in
-    subst (Fills c.with_sequence.result.value c.with_sequence.result.left) (four_behind bits (fundamental_sequence c.args.four.0) (fundamental_sequence c.args.four.1) (fundamental_sequence c.args.four.2) (fundamental_sequence c.args.four.3)) all
+    subst (HasFront c.with_sequence.result.value c.with_sequence.result.left) (four_behind bits (fundamental_sequence c.args.four.0) (fundamental_sequence c.args.four.1) (fundamental_sequence c.args.four.2) (fundamental_sequence c.args.four.3)) all

@@ -46,7 +46,7 @@ returns c =
     let low = flat_map (word c.args.k) (sent_residuals b) in
     let one = ap (λ n. c.args.sink.now ++ word n (c.args.k + 1)) c.id_len-id.ensures.value in
     let two = c.begin-fields.ensures.bits ∙ (λ i. one i ++ reference_bits s (c.reference.ensures i)) in
-    let three = c.put_short_high.ensures.bits ∙ (λ i. two i ++ sent.bits (λ d. fundamental_sequence (d / 2 ^ c.args.k)) i) in
+    let three = c.put_high.ensures.bits ∙ (λ i. two i ++ sent.bits (λ d. fundamental_sequence (d / 2 ^ c.args.k)) i) in
     let all = c.put-2.ensures.bits ∙ (c.put_low.ensures.bits ∙ (λ i. three i ++ sent.bits (word c.args.k) i)) in
     let len = ap length c.residuals-residuals.ensures in
     let len_ref = ap (reference_len s) c.reference.ensures in
@@ -67,7 +67,7 @@ returns-then-k-eq0 c =
     let low = flat_map (word c.args.k) (sent_residuals b) in
     let one = ap (λ n. c.args.sink.now ++ word n (c.args.k + 1)) c.id_len-id.ensures.value in
     let two = c.begin-fields.ensures.bits ∙ (λ i. one i ++ reference_bits s (c.reference.ensures i)) in
-    let three = c.put_short_high.ensures.bits ∙ (λ i. two i ++ sent.bits (λ d. fundamental_sequence (d / 2 ^ c.args.k)) i) in
+    let three = c.put_high.ensures.bits ∙ (λ i. two i ++ sent.bits (λ d. fundamental_sequence (d / 2 ^ c.args.k)) i) in
     let zero : 0 ≡ c.args.k = omega arith in
     let few : length (sent_residuals b) * (c.args.k + 1) ≡ length (sent_residuals b) * 1 = ap (λ k. length (sent_residuals b) * (k + 1)) (sym zero) in
     let none = sym (no_digits (sent_residuals b)) ∙ ap (λ k. flat_map (word k) (sent_residuals b)) zero in
@@ -82,8 +82,8 @@ returns-then-k-eq0 c =
       steps_to = omega (arith, few, sent.count, sent.digits, sent.parts, len, len_ref, c.requires.sound.len);
     }
 
-pub put_short_high-requires-clause-total : goal.put_short_high-requires-clause-total
-put_short_high-requires-clause-total c =
+pub put_high-requires-clause-total : goal.put_high-requires-clause-total
+put_high-requires-clause-total c =
     let sent = sent_are (sent_residuals c.args.block.now) c.args.block.now.residuals c.residuals-residuals.result.now c.first_coded-from.result c.args.k c.args.k c.first_coded-from.ensures.coded c.residuals-residuals.ensures in
     let len = ap length c.residuals-residuals.ensures in
     let ref = ap (reference_len c.args.setting.now) c.reference.ensures in
