@@ -19,7 +19,7 @@ use Rattle.rice_stream.specs.declared.outcome.Fault.{Fault}
 use Rattle.rice_stream.specs.declared.outcome.Fault.TheVariants.{Read, Write, TooLong, SampleOutOfRange, SampleCut, CodeEnds, RunPastSegment, ResidualTooLarge}
 use Rattle.rice_stream.specs.declared.outcome.Report.{Report}
 use Rattle.rice_stream.specs.declared.seam.Seam.{Seam}
-use Rattle.rice_stream.proofs.lemmas.FedPieces.{waits}
+use Rattle.rice_stream.proofs.lemmas.FedPieces.{code_of_seam}
 use Rattle.rice_stream.proofs.lemmas.Seams.{cut_grows}
 use Rattle.rice_c.specs.Feeds.{fault_of}
 use Rattle.rice_c.specs.Laws.{PushRoomSuffices}
@@ -59,7 +59,7 @@ module _ (s : Parameters) (legal : IsLegal s) (seam : Seam) (xs : List ℤ) (h :
     short from to f few =
         let all : length f.written ≡ length (early_output s xs) + length f.took.more = ap length f.took.split ∙ length-append (early_output s xs) f.took.more in
         let mine : length room.bytes ≡ length f.took.more = ap length f.took.took.bytes in
-        omega (arith, stops_short from to f.written f.stops, all, mine, few, waits s seam xs h, (div_ceil_times (seam.waiting_bits + added_bound s (length input / width s)) 8 (omega arith)).0)
+        omega (arith, stops_short from to f.written f.stops, all, mine, few, code_of_seam s seam xs h, (div_ceil_times (seam.waiting_bits + added_bound s (length input / width s)) 8 (omega arith)).0)
 
     more_wants : (more : List ℤ) (last : ℤ) → WantsRoom s xs input (Some (begun name old)) (Some room) more last → length room.bytes < push_room s seam.waiting_bits (length input / width s)
     more_wants more last w =

@@ -14,20 +14,20 @@ use Rattle.rice_c.specs.Feeds.{WritesFront, fault_of}
 use Rattle.rice_c.specs.Statuses.{status_number, fault_status, fault_place}
 
 -- the room of an outlet that was not used
-inner : Option Room → Room → Room
-inner None room = room
-inner (Some room) other = room
+room_of : Option Room → Room → Room
+room_of None room = room
+room_of (Some room) other = room
 
-unused : (a b : Room) → Some b ≡ Some a → Fills a b []
-unfolding inner
-unused a b e = let same : b ≡ a = ap (λ o. inner o a) e in record { borrow = ap (λ r. r.borrow) same; bytes = ap (λ r. r.bytes) same ∙ sym (append-nil a.bytes); rest = ap (λ r. r.rest) same }
+fills_nothing : (a b : Room) → Some b ≡ Some a → Fills a b []
+unfolding room_of
+fills_nothing a b e = let same : b ≡ a = ap (λ o. room_of o a) e in record { borrow = ap (λ r. r.borrow) same; bytes = ap (λ r. r.bytes) same ∙ sym (append-nil a.bytes); rest = ap (λ r. r.rest) same }
 
 module _ (s : Parameters) (xs : List ℤ) (input : List ℕ) (a b : Room) where
   pub more_fills : (r : Result Seam Fault) → EncodesMore s xs input (Some a) (Some b) r → (more : List ℕ) × Fills a b more
   more_fills (Ok seam) h = (h.writes.more, h.writes.took)
   more_fills (Err (SampleOutOfRange index)) h = (h.1.writes.more, h.1.writes.took)
   more_fills (Err Write) h = (h.2.writes.took.more, h.2.writes.took.took)
-  more_fills (Err TooLong) h = ([], unused a b h.untouched)
+  more_fills (Err TooLong) h = ([], fills_nothing a b h.untouched)
   more_fills (Err Read) h = absurd h
   more_fills (Err (SampleCut index)) h = absurd h
   more_fills (Err (CodeEnds samples)) h = absurd h
@@ -51,7 +51,7 @@ module _ (s : Parameters) (xs : List ℤ) (input : List ℕ) (a b : Room) where
   rest_fills r (Some (SampleCut index)) h = (h.1.writes.more, h.1.writes.took)
   rest_fills r (Some Write) (inl h) = (h.2.writes.took.more, h.2.writes.took.took)
   rest_fills r (Some Write) (inr h) = (h.3.took.more, h.3.took.took)
-  rest_fills r (Some TooLong) h = ([], unused a b h.0.untouched)
+  rest_fills r (Some TooLong) h = ([], fills_nothing a b h.0.untouched)
   rest_fills r (Some Read) h = absurd h
   rest_fills r (Some (CodeEnds samples)) h = absurd h
   rest_fills r (Some (RunPastSegment block)) h = absurd h

@@ -7,10 +7,10 @@ use Rattle.rice_stream.specs.declared.outcome.Fault.TheVariants.{Read, Write}
 use Rattle.rice_c.specs.Calls.{UsesMemory}
 
 -- the room of an outlet that began with a slice, and what became of the slice
-pub passes : (input left old new : List ℕ) (name failures : ℕ) (room : Room) (c : Call) (fault : Option Fault) →
+pub uses_memory : (input left old new : List ℕ) (name failures : ℕ) (room : Room) (c : Call) (fault : Option Fault) →
     Happens (Some input) (Some left) (Some (begun name old)) (Some room) c → new ≡ room.bytes ++ room.rest → length new ≡ length old →
     Fails fault 0 0 0 failures → (0 < failures → room.rest ≡ []) → UsesMemory input old new c fault
-passes input left old new name failures room c fault happens whole len fails full =
+uses_memory input left old new name failures room c fault happens whole len fails full =
     let bytes : length room.bytes ≡ length c.written = ap length happens.took.bytes in
     let both : length new ≡ length room.bytes + length room.rest = ap length whole ∙ length-append room.bytes room.rest in
     let fits : length c.written ≤ length old = omega arith in

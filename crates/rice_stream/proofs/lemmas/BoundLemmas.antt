@@ -30,8 +30,8 @@ pub record Settles (s : Parameters) (xs : List ℤ) : Type 0 where
   pub legal_settled : All (IsSample s) (complete_samples s xs)
   pub few : length (complete_samples s xs) ≤ length xs
 
-pub settles : (s : Parameters) (coder : CoderState) (xs : List ℤ) → coder.setting ≡ s → HasTaken coder xs → Settles s xs
-settles s coder xs e h =
+pub taken_settles : (s : Parameters) (coder : CoderState) (xs : List ℤ) → coder.setting ≡ s → HasTaken coder xs → Settles s xs
+taken_settles s coder xs e h =
     let t = coder.setting in
     let same = complete_are_coded coder xs h in
     subst (λ (t : Parameters). Settles t xs) e (record {

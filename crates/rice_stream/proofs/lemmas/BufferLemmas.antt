@@ -10,8 +10,8 @@ pub front_is : (w n k : ℕ) (old buf : List ℕ) → w ≤ length old → n ≤
 front_is w n k old buf h few =
     ap (λ m. take (m + n) (put_mid w k old buf)) (sym (length-take-le w old h)) ∙ take-append-add (take w old) (buf ++ post_of w k old) n ∙ ap (λ l. take w old ++ l) (take-append-le n buf (post_of w k old) few)
 
-pub carried : (filled waiting : ℕ) (old new : List ℕ) → new ≡ copy_within old (filled - waiting) filled 0 → waiting ≤ filled → filled ≤ length old → take waiting new ≡ drop (filled - waiting) (take filled old)
-carried filled waiting old new e h within =
+pub front_is_carried : (filled waiting : ℕ) (old new : List ℕ) → new ≡ copy_within old (filled - waiting) filled 0 → waiting ≤ filled → filled ≤ length old → take waiting new ≡ drop (filled - waiting) (take filled old)
+front_is_carried filled waiting old new e h within =
     let i = filled - waiting in
     let n : 0 + (filled - i) ≡ waiting = omega arith in
     let few : filled - i ≤ length (drop i old) = omega (arith, length-drop i old) in

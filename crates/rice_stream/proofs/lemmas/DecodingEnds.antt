@@ -93,8 +93,8 @@ pub reports_as : {I : Type 0} {rep : Report} {f fault known : Option Fault} {lef
 reports_as {rep = rep} {f = f} {left = left} {failed = failed} {reader = reader} {samples = samples} {steps = steps} is r = subst (λ (k : Option Fault). Reports rep f left failed reader samples steps k) is r
 
 -- a block's samples are wanted
-pub wants : (asked : Option ℕ) (written : ℕ) {size count block : ℕ} → count ≡ wanted_of asked written size → size ≡ block → count ≢ 0 → wanted_of asked written block ≢ 0
-wants asked written e f some none = some (e ∙ ap (wanted_of asked written) f ∙ none)
+pub block_is_wanted : (asked : Option ℕ) (written : ℕ) {size count block : ℕ} → count ≡ wanted_of asked written size → size ≡ block → count ≢ 0 → wanted_of asked written block ≢ 0
+block_is_wanted asked written e f some none = some (e ∙ ap (wanted_of asked written) f ∙ none)
 
 -- more bits were taken
 has_read-append : {start left left_new : Option (List ℕ)} {waiting waiting_new front bits : List Bool} {taken taken_new : ℕ} → HasRead start left waiting taken front → Draws left left_new waiting waiting_new bits → taken_new ≡ taken + length bits
@@ -182,10 +182,10 @@ record Exits (s : Parameters) (asked : Option ℕ) (start left : Option (List �
   pub steps : CountsSteps s (bits_of bytes) rep ending
 
 -- the call ends so
-exit : {s : Parameters} {asked : Option ℕ} {start left : Option (List ℕ)} {out_old out : Option Room} {rep : Report} {f : Option Fault} {bytes written : List ℕ} (left_new : Option (List ℕ)) (ys : List ℤ) (ending : Ending) (fault : Option Fault)
+call_ends_so : {s : Parameters} {asked : Option ℕ} {start left : Option (List ℕ)} {out_old out : Option Room} {rep : Report} {f : Option Fault} {bytes written : List ℕ} (left_new : Option (List ℕ)) (ys : List ℤ) (ending : Ending) (fault : Option Fault)
     → Exits s asked start left out_old out rep bytes written ending → left_new ≡ left → f ≡ fault → (fault ≢ Some TooLong → length bytes ≤ 2 ^ 49)
     → EndsDecoding s asked fault (record { given = bytes; left = left; written = written }) rep ys ending → Ends s asked start left_new out_old out rep f
-exit {s = s} {asked = asked} {start = start} {left = left} {out_old = out_old} {out = out} {rep = rep} {f = f} {bytes = bytes} {written = written} left_new ys ending fault e there is limit ends =
+call_ends_so {s = s} {asked = asked} {start = start} {left = left} {out_old = out_old} {out = out} {rep = rep} {f = f} {bytes = bytes} {written = written} left_new ys ending fault e there is limit ends =
     subst (λ (l : Option (List ℕ)). Ends s asked start l out_old out rep f) (sym there)
     (subst (λ (f : Option Fault). Ends s asked start left out_old out rep f) (sym is) (
       record { given = bytes; left = left; written = written },
@@ -194,9 +194,9 @@ exit {s = s} {asked = asked} {start = start} {left = left} {out_old = out_old} {
     ))
 
 -- what is given ahead of the bits that were taken is limited
-within : {start left : Option (List ℕ)} {waiting front : List Bool} {taken : ℕ} → (read : HasRead start left waiting taken front) → length waiting ≤ most_waiting → taken + length waiting ≤ 2 ^ 52
+given_is_limited : {start left : Option (List ℕ)} {waiting front : List Bool} {taken : ℕ} → (read : HasRead start left waiting taken front) → length waiting ≤ most_waiting → taken + length waiting ≤ 2 ^ 52
     → (length read.bytes ≤ taken / 8 + most_at_once) × (length read.bytes ≤ 2 ^ 49)
-within {waiting = waiting} {front = front} read few limit =
+given_is_limited {waiting = waiting} {front = front} read few limit =
     let a = length-bits_of read.bytes in
     let b = ap length read.bits in
     let c = length-append front waiting in
@@ -262,8 +262,8 @@ reached_ends {s = s} {asked = Some n} {p = p} {r = r} {rep = rep} {left = left} 
     let decoded = ends_reached s runs.front r.waiting runs.begun runs.blocks p.run runs.given n legal runs.decoded (begun_wanted runs) enough in
     let used : length runs.front + 0 ≡ r.taken = omega (arith, read.count) in
     let all : Decoded s (bits_of read.bytes) (Some n) ys Reached (length runs.front + 0) = subst (λ (l : List Bool). Decoded s l (Some n) ys Reached (length runs.front + 0)) (sym read.bits) decoded in
-    let few = within read tells.ahead tells.limit in
-    exit left ys Reached None record {
+    let few = given_is_limited read tells.ahead tells.limit in
+    call_ends_so left ys Reached None record {
       gave = read.gave;
       took = so.put;
       ahead = omega (arith, few.0, tells.bits_are);
@@ -364,7 +364,7 @@ ended_ends {s = s} {asked = asked} {start = start} {new = new} {written = writte
     let read = dry.read in
     let ys = cut_to s asked 0 runs.given in
     let gave = subst (λ (l : List ℕ). Consumes start.left new.left l) (append-nil read.bytes) (Consumes-trans start.left stops.middle new.left read.bytes [] read.gave stops.refuses.0) in
-    exit left ys (ending_of blank) (fault_at_end asked blank written) record {
+    call_ends_so left ys (ending_of blank) (fault_at_end asked blank written) record {
       gave = gave;
       took = runs.has_written.put;
       ahead = omega (arith, dry.few);
@@ -386,7 +386,7 @@ read_ends {s = s} {asked = asked} {start = start} {new = new} {rep = rep} {left 
     let dry = runs_dry blank runs some none cut refl counted tells in
     let read = dry.read in
     let gave = subst (λ (l : List ℕ). Consumes start.left new.left l) (append-nil read.bytes) (Consumes-trans start.left cut.stops.middle new.left read.bytes [] read.gave cut.stops.refuses.0) in
-    exit left (cut_to s asked 0 runs.given) (ending_of blank) (Some Read) record {
+    call_ends_so left (cut_to s asked 0 runs.given) (ending_of blank) (Some Read) record {
       gave = gave;
       took = runs.has_written.put;
       ahead = omega (arith, dry.few);
@@ -405,7 +405,7 @@ long_ends {s = s} {asked = asked} {start = start} {new = new} {rep = rep} {left 
     let refuses = cut.stops.refuses in
     let byte = refuses.0.0 in
     let full : length read.bytes ≡ 562949953421312 = omega (arith, length-bits_of read.bytes, ap length (read.bits ∙ append-nil dry.front), read.count, refuses.2) in
-    exit left (cut_to s asked 0 runs.given) (ending_of blank) (Some TooLong) record {
+    call_ends_so left (cut_to s asked 0 runs.given) (ending_of blank) (Some TooLong) record {
       gave = Consumes-trans start.left cut.stops.middle new.left read.bytes (byte ∷ []) read.gave refuses.0.1;
       took = runs.has_written.put;
       ahead = omega (arith, dry.few, length-append read.bytes (byte ∷ []));
@@ -436,11 +436,11 @@ refused_ends {s = s} {asked = asked} {start = start} {p = p} {r = r} {new = new}
     let here = ends_here s runs.front rest runs.begun b runs.given asked ending (length set) (at_set runs none) (begun_wanted runs) (by_rule asked rest (length set) goes refuses) in
     let used : length runs.front + length set ≡ rep.bits = sym (tells.bits_are ∙ read.count ∙ length-append runs.front set) in
     let number : written / s.block ≡ b = ap (λ n. n / s.block) so_far.0 ∙ mul-div_cancel_left b j in
-    let few = within read tells.ahead tells.limit in
+    let few = given_is_limited read tells.ahead tells.limit in
     let end : b + p.run ≡ b = omega (arith, none) in
     let has = subst (λ (n : ℕ). HasSets s runs.sets runs.front n) end runs.has_sets in
     let decodes = subst (λ (l : List Bool). Decoded s l asked ys ending (length runs.front + length set)) (sym whole) here in
-    exit left ys ending fault record {
+    call_ends_so left ys ending fault record {
       gave = read.gave;
       took = so.put;
       ahead = omega (arith, few.0, tells.bits_are);
@@ -484,8 +484,8 @@ write_ends {s = s} {asked = asked} {out_old = out_old} {out = out} {out_new = ou
     let between = part_between out_old out out_new (spellings s (cut_to s asked 0 runs.given)) (spellings s (take count xs)) (spellings s ys) so.put part all_of in
     let n : rep.samples ≡ length (cut_to s asked 0 runs.given) = tells.samples_are ∙ so.count in
     let before : take rep.samples ys ≡ cut_to s asked 0 runs.given = (λ i. take (n i) (cut i)) ∙ take-append_seam (cut_to s asked 0 runs.given) (cut_to s asked b xs) in
-    let few = within read tells.ahead tells.limit in
-    exit left ys Reached (Some Write) record {
+    let few = given_is_limited read tells.ahead tells.limit in
+    call_ends_so left ys Reached (Some Write) record {
       gave = read.gave;
       took = between.took;
       ahead = omega (arith, few.0, tells.bits_are);

@@ -38,10 +38,10 @@ pub record Advances {I : Type 0} (old new : Reader I) (steps steps_new : ℕ) (p
   pub in_run : p.stopped ≡ None → 0 < p.run → (answer ≡ Ok Block) × GivesFromRun p q samples × (new ≡ old) × (steps_new ≡ steps)
   pub reads : p.stopped ≡ None → p.run ≡ 0 → Answers (with_mark old) new steps steps_new p q samples answer
 
-pub advances : {I : Type 0} (old new : Reader I) (steps steps_new : ℕ) (p q : DecoderState) (s : Parameters) (levels : List ℕ) {answer known : Result NextBlock CodeFault} → p.setting ≡ s → answer ≡ known
+pub decoder_advances : {I : Type 0} (old new : Reader I) (steps steps_new : ℕ) (p q : DecoderState) (s : Parameters) (levels : List ℕ) {answer known : Result NextBlock CodeFault} → p.setting ≡ s → answer ≡ known
     → (p.stopped ≡ None → 0 < p.run → (answer ≡ Ok Block) × GivesFromRun p q (values_at p.setting levels) × (new ≡ old) × (steps_new ≡ steps))
     → (p.stopped ≡ None → p.run ≡ 0 → Answers (with_mark old) new steps steps_new p q (values_at p.setting levels) answer) → Advances old new steps steps_new p q (values_at s levels) known
-advances old new steps steps_new p q s levels {answer} {known} setting is in_run reads =
+decoder_advances old new steps steps_new p q s levels {answer} {known} setting is in_run reads =
     subst (λ (t : Parameters). Advances old new steps steps_new p q (values_at t levels) known) setting
     (subst (λ (a : Result NextBlock CodeFault). Advances old new steps steps_new p q (values_at p.setting levels) a) is record { in_run = in_run; reads = reads })
 
@@ -62,9 +62,9 @@ pub runs_or_not : (p : DecoderState) → (0 < p.run) ⊎ (p.run ≡ 0)
 runs_or_not p = elim (cases_lt 0 p.run) [ inl lt ↦ inl lt | inr le ↦ inr (omega arith) ]
 
 -- a block was given
-pub took : {I : Type 0} {old new : Reader I} {steps steps_new : ℕ} {p q : DecoderState} {samples : List ℤ} → p.stopped ≡ None → Advances old new steps steps_new p q samples (Ok Block)
+pub took_block : {I : Type 0} {old new : Reader I} {steps steps_new : ℕ} {p q : DecoderState} {samples : List ℤ} → p.stopped ≡ None → Advances old new steps steps_new p q samples (Ok Block)
     → Inside old new steps steps_new p q samples ⊎ Outside old new steps steps_new p q samples
-took {p = p} going a =
+took_block {p = p} going a =
     elim (runs_or_not p) [
       | inl lt ↦ let k = a.in_run going lt in inl (record { run = lt; gives = k.1; same = k.2; steps_are = k.3 })
       | inr none ↦ let k = a.reads going none in inr (record { none = none; gives = k.0; moves = k.1 })
@@ -72,7 +72,7 @@ took {p = p} going a =
 
 pub moves_of : {I : Type 0} {old new : Reader I} {steps steps_new : ℕ} {p q : DecoderState} {samples : List ℤ} → p.stopped ≡ None → Advances old new steps steps_new p q samples (Ok Block)
     → q ≡ state_after_block p samples q.run
-moves_of going a = elim (took going a) [ inl k ↦ k.gives.moves | inr k ↦ k.moves ]
+moves_of going a = elim (took_block going a) [ inl k ↦ k.gives.moves | inr k ↦ k.moves ]
 
 -- the samples of a block
 pub record AreOfBlock (s : Parameters) (samples : List ℤ) : Type 0 where
@@ -83,7 +83,7 @@ pub samples_of_block : {I : Type 0} {old new : Reader I} {steps steps_new : ℕ}
     → AreOfBlock s samples
 samples_of_block {samples = samples} s setting going a =
     subst (λ (t : Parameters). AreOfBlock t samples) setting
-    (elim (took going a) [ inl k ↦ record { len = k.gives.gives.len; legal = k.gives.gives.legal } | inr k ↦ record { len = k.gives.set.gives.len; legal = k.gives.set.gives.legal } ])
+    (elim (took_block going a) [ inl k ↦ record { len = k.gives.gives.len; legal = k.gives.gives.legal } | inr k ↦ record { len = k.gives.set.gives.len; legal = k.gives.set.gives.legal } ])
 
 -- the place that a decoder holds is that of a block
 pub same_place : (s : Parameters) (b c : ℕ) → 1 ≤ s.interval → place s b ≡ c → place s c ≡ place s b
@@ -179,12 +179,12 @@ gains_run {I = I} s r new steps steps_new b c begun run run_new p front sets giv
       counted = omega (arith, same_steps, ap (λ (v : Reader I). v.taken) same);
     }
 
-pub gains : {I : Type 0} {s : Parameters} {asked : Option ℕ} {start : Reader I} {out_old out : Option Room} {p q : DecoderState} {r new : Reader I} {steps steps_new written : ℕ} {xs : List ℤ} → IsLegal s
+pub gains_block : {I : Type 0} {s : Parameters} {asked : Option ℕ} {start : Reader I} {out_old out : Option Room} {p q : DecoderState} {r new : Reader I} {steps steps_new written : ℕ} {xs : List ℤ} → IsLegal s
     → (runs : DecodingProgress s asked start out_old out p r steps written) → Advances r new steps steps_new p q xs (Ok Block)
     → Gains s r new steps steps_new runs.front runs.sets runs.blocks q.run runs.given xs
-gains {s = s} {p = p} {q = q} {r = r} {new = new} {steps = steps} {steps_new = steps_new} {xs = xs} legal runs a =
+gains_block {s = s} {p = p} {q = q} {r = r} {new = new} {steps = steps} {steps_new = steps_new} {xs = xs} legal runs a =
     let at = runs.at_block in
-    elim (took at.going a) [
+    elim (took_block at.going a) [
       | inl k ↦ let block = subst (λ (t : Parameters). GivesBlock t p.block p.before xs q.run (replicate p.run (zero_block t None))) at.setting k.gives.gives in
           gains_run s r new steps steps_new runs.blocks p.block runs.begun p.run q.run p.before runs.front runs.sets runs.given xs legal at.here at.previous runs.going runs.before runs.has_sets runs.decoded k.same k.steps_are block
       | inr k ↦ let set = subst (λ (t : Parameters). GivesSet (with_mark r) new steps steps_new t p.block p.before xs q.run) at.setting k.gives in
@@ -218,20 +218,20 @@ ends_at old new first last s t b c blank some setting here h =
     ends_there old new first last s b c blank (same_place s b c some here) (subst (λ (t : Parameters). SetEnds old new first last t c blank) setting h)
 
 -- where the decoder stops, it is in no run
-pub stopped : {I : Type 0} {s : Parameters} {asked : Option ℕ} {start : Reader I} {out_old out : Option Room} {p q : DecoderState} {r new : Reader I} {steps steps_new written : ℕ} {xs : List ℤ} {fault : CodeFault} → IsLegal s
+pub stops_in_no_run : {I : Type 0} {s : Parameters} {asked : Option ℕ} {start : Reader I} {out_old out : Option Room} {p q : DecoderState} {r new : Reader I} {steps steps_new written : ℕ} {xs : List ℤ} {fault : CodeFault} → IsLegal s
     → (runs : DecodingProgress s asked start out_old out p r steps written) → Advances r new steps steps_new p q xs (Err fault)
     → (p.run ≡ 0) × StopsBy (with_mark r) new steps steps_new s runs.blocks (Err fault)
-stopped {s = s} {p = p} {r = r} {new = new} {steps = steps} {steps_new = steps_new} {fault = fault} legal runs a =
+stops_in_no_run {s = s} {p = p} {r = r} {new = new} {steps = steps} {steps_new = steps_new} {fault = fault} legal runs a =
     let at = runs.at_block in
     elim (runs_or_not p) [
       | inl lt ↦ absurd (let e = (a.in_run at.going lt).0 in cc)
       | inr none ↦ (none, stops_here (with_mark r) new steps steps_new s p.setting runs.blocks p.block fault legal.interval_from at.setting at.here (a.reads at.going none).0)
     ]
 
-pub done : {I : Type 0} {s : Parameters} {asked : Option ℕ} {start : Reader I} {out_old out : Option Room} {p q : DecoderState} {r new : Reader I} {steps steps_new written : ℕ} {xs : List ℤ} → IsLegal s
+pub decoding_is_done : {I : Type 0} {s : Parameters} {asked : Option ℕ} {start : Reader I} {out_old out : Option Room} {p q : DecoderState} {r new : Reader I} {steps steps_new written : ℕ} {xs : List ℤ} → IsLegal s
     → (runs : DecodingProgress s asked start out_old out p r steps written) → Advances r new steps steps_new p q xs (Ok Done)
     → (p.run ≡ 0) × SetEnds (with_mark r) new steps steps_new s runs.blocks true
-done {s = s} {p = p} {r = r} {new = new} {steps = steps} {steps_new = steps_new} legal runs a =
+decoding_is_done {s = s} {p = p} {r = r} {new = new} {steps = steps} {steps_new = steps_new} legal runs a =
     let at = runs.at_block in
     elim (runs_or_not p) [
       | inl lt ↦ absurd (let e = (a.in_run at.going lt).0 in cc)

@@ -50,9 +50,9 @@ spelled_so_far s bytes xs [] r few = (AtEnd, record { rest = []; whole = r.split
 spelled_so_far s bytes xs (b ∷ rest) r few = (TooFew, record { rest = b ∷ rest; whole = r.split; legal = r.legal; stops = ((λ e. cc), few) }, λ e. cc)
 
 -- what a call leaves that stops early
-leaves : (s : Parameters) (r : Report) (xs : List ℤ) (given : List ℕ) (left : Option (List ℕ)) → ReportsTaken s r xs →
+leaves_early : (s : Parameters) (r : Report) (xs : List ℤ) (given : List ℕ) (left : Option (List ℕ)) → ReportsTaken s r xs →
     LeavesEarly s (record { given = given; left = left; written = early_output s xs }) r xs
-leaves s r xs given left t = record { written = refl; reports = t }
+leaves_early s r xs given left t = record { written = refl; reports = t }
 
 -- of the bytes given, those after the samples that are reported are at most one call's
 given_ahead : (s : Parameters) (bytes rest : List ℕ) (xs : List ℤ) (samples : ℕ) → bytes ≡ spellings s xs ++ rest → length rest ≤ 4096 → samples ≡ length xs →
@@ -70,7 +70,7 @@ read_ends s left_old left mid taken_old taken e given waiting buffer r f runs ke
     let xs = runs.samples in
     let c : Call = record { given = runs.bytes; left = left; written = early_output s xs } in
     let t = told xs runs.holds.counts in
-    let ends : EndsEncoding s (Some Read) c r xs = (spelled_so_far s runs.bytes xs (take waiting buffer) runs.reads few, leaves s r xs runs.bytes left t) in (
+    let ends : EndsEncoding s (Some Read) c r xs = (spelled_so_far s runs.bytes xs (take waiting buffer) runs.reads few, leaves_early s r xs runs.bytes left t) in (
       c,
       record { gave = Consumes-kept left_old mid left runs.bytes runs.gave keeps; left = refl; took = Follows-all taken_old taken _ runs.holds.took },
       subst (λ (f : Option Fault). Encodes s c r f) (sym is) (record {
@@ -89,7 +89,7 @@ cut_ends s left_old left mid taken_old taken e given waiting buffer r f runs gav
     let c : Call = record { given = runs.bytes; left = left; written = early_output s xs } in
     let t = told xs runs.holds.counts in
     let spells : Spells s runs.bytes xs TooFew = record { rest = take waiting buffer; whole = runs.reads.split; legal = runs.reads.legal; stops = (some, few) } in
-    let ends : EndsEncoding s (Some (SampleCut e.samples)) c r xs = (spells, end, runs.holds.counts.samples, leaves s r xs runs.bytes left t) in
+    let ends : EndsEncoding s (Some (SampleCut e.samples)) c r xs = (spells, end, runs.holds.counts.samples, leaves_early s r xs runs.bytes left t) in
     let all = Consumes-trans left_old mid left runs.bytes [] runs.gave gave in (
       c,
       record { gave = subst (λ (l : List ℕ). Consumes left_old left l) (append-nil runs.bytes) all; left = refl; took = Follows-all taken_old taken _ runs.holds.took },
@@ -111,7 +111,7 @@ long_ends s left_old left mid taken_old taken e given waiting buffer r f more ru
     let so_far = spelled_so_far s runs.bytes xs (take waiting buffer) runs.reads few in
     let last = single more one in
     let passes : PassesLimit 281474976710656 (runs.bytes ++ more) runs.bytes = record { last = last.0; split = ap (λ l. runs.bytes ++ l) last.1; full = omega (arith, runs.count, runs.limit, full) } in
-    let ends : EndsEncoding s (Some TooLong) c r xs = ((runs.bytes, passes, so_far), leaves s r xs (runs.bytes ++ more) left t) in (
+    let ends : EndsEncoding s (Some TooLong) c r xs = ((runs.bytes, passes, so_far), leaves_early s r xs (runs.bytes ++ more) left t) in (
       c,
       record { gave = Consumes-trans left_old mid left runs.bytes more runs.gave gave; left = refl; took = Follows-all taken_old taken _ runs.holds.took },
       subst (λ (f : Option Fault). Encodes s c r f) (sym is) (record {
@@ -205,7 +205,7 @@ push_ends s left_old left taken_old taken e r f g xs given bytes split legal gav
           record { gave = gave; left = refl; took = Follows-all taken_old taken _ m.holds.took },
           record {
             samples = ys;
-            ends = (spells, same ∙ m.holds.counts.samples, leaves s r ys given left t);
+            ends = (spells, same ∙ m.holds.counts.samples, leaves_early s r ys given left t);
             limit = limit;
             ahead = given_ahead s given m.rest ys r.samples (joined m.more m.rest m.reads.split) (omega (arith, few, ap length m.reads.split, length-append (spellings s m.more) m.rest)) t.samples;
           },

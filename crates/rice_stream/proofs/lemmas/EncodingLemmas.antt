@@ -30,7 +30,7 @@ use Rattle.std.proofs.Math.Seq.{take-append_seam}
 use Rattle.std.proofs.lemmas.List.{length-take-le, drop-take, take-take}
 use Rattle.std.proofs.lemmas.List.Elements.{All-take}
 use Rattle.std.proofs.Math.Nat.{mul-le-mul_left}
-use Rattle.rice_stream.proofs.lemmas.BoundLemmas.{Settles, settles, early_bounded, all_bounded, few_steps, few_bits}
+use Rattle.rice_stream.proofs.lemmas.BoundLemmas.{Settles, taken_settles, early_bounded, all_bounded, few_steps, few_bits}
 use Rattle.rice_stream.proofs.lemmas.WholeBytes.{length-part, more_bytes, more_rest}
 
 -- nothing follows what was written, what follows it goes on, and where nothing was written before it is all
@@ -48,7 +48,7 @@ pub Follows-all : (old new : Option Room) (bytes : List ℕ) → Follows (afresh
 Follows-all old new bytes f = subst (λ (l : List ℕ). Appends old new l) (sym f.split) f.took
 
 pub settled_by : {N : ℕ} (s : Parameters) (e : Encoding N) (xs : List ℤ) → CountsSamples s e xs → Settles s xs
-settled_by s e xs c = settles s e.coder xs c.setting c.stands
+settled_by s e xs c = taken_settles s e.coder xs c.setting c.stands
 
 -- bits and steps are far below what a number holds
 pub counts_small : {N : ℕ} (s : Parameters) (e : Encoding N) (xs : List ℤ) → CountsSamples s e xs → (e.bits ≤ 73 * length xs + 4700) × (e.meter ≤ 73 * length xs + 4700) × (segment_steps e.coder.setting ≤ 274752)
@@ -61,14 +61,14 @@ counts_small s e xs c =
 
 -- so are the bits of a coder's samples so far, and of all
 pub early_small : (s : Parameters) (coder : CoderState) (xs : List ℤ) → coder.setting ≡ s → HasTaken coder xs → code_bits s (complete_samples s xs) ≤ 73 * length xs + 4700
-early_small s coder xs e h = let k = settles s coder xs e h in few_bits s (length xs) _ _ k.setting (early_bounded s xs k) (omega arith)
+early_small s coder xs e h = let k = taken_settles s coder xs e h in few_bits s (length xs) _ _ k.setting (early_bounded s xs k) (omega arith)
 
 pub all_small : (s : Parameters) (coder : CoderState) (xs : List ℤ) → coder.setting ≡ s → HasTaken coder xs → code_bits s xs ≤ 73 * length xs + 4700
-all_small s coder xs e h = let k = settles s coder xs e h in few_bits s (length xs) _ _ k.setting (all_bounded s xs k) (omega arith)
+all_small s coder xs e h = let k = taken_settles s coder xs e h in few_bits s (length xs) _ _ k.setting (all_bounded s xs k) (omega arith)
 
 -- what the sink holds goes on from the bytes that are whole
-pub joined : {N : ℕ} (s : Parameters) (old : Beginning) (now : Option Room) (e : Encoding N) (xs : List ℤ) → IsEncodingOf s old now e xs → whole_part (complete_code s xs) ++ e.sink ≡ complete_code s xs
-joined s old now e xs h = ap (λ l. whole_part (complete_code s xs) ++ l) h.sink ∙ take-append-drop (bits_in_bytes (length (complete_code s xs))) (complete_code s xs)
+pub sink_goes_on : {N : ℕ} (s : Parameters) (old : Beginning) (now : Option Room) (e : Encoding N) (xs : List ℤ) → IsEncodingOf s old now e xs → whole_part (complete_code s xs) ++ e.sink ≡ complete_code s xs
+sink_goes_on s old now e xs h = ap (λ l. whole_part (complete_code s xs) ++ l) h.sink ∙ take-append-drop (bits_in_bytes (length (complete_code s xs))) (complete_code s xs)
 
 pub sink_short : {N : ℕ} (s : Parameters) (old : Beginning) (now : Option Room) (e : Encoding N) (xs : List ℤ) → IsEncodingOf s old now e xs → length e.sink ≤ 7
 sink_short s old now e xs h = omega (arith, ap length h.sink, length-drop (bits_in_bytes (length (complete_code s xs))) (complete_code s xs))
@@ -99,7 +99,7 @@ taken_on s old now e f xs ys n h pushes bits samples before =
         least = omega (arith, adds.steps.least, h.counts.least, c);
         most = omega (arith, adds.steps.most, h.counts.most, c);
       };
-      code_is = k.completes ∙ ap (λ l. l ++ k.bits) (sym (joined s old now e xs h)) ∙ append_assoc part e.sink k.bits ∙ ap (λ l. part ++ l) (sym k.appended);
+      code_is = k.completes ∙ ap (λ l. l ++ k.bits) (sym (sink_goes_on s old now e xs h)) ∙ append_assoc part e.sink k.bits ∙ ap (λ l. part ++ l) (sym k.appended);
       before_last = λ m lt. subst (λ (t : Parameters). complete_samples t (xs ++ take m ys) ≡ complete_samples t xs) h.counts.setting (before m lt xs stands);
     }
 
@@ -224,14 +224,14 @@ sets_nothing s j =
     (bits, omega (arith, bits, least), omega (arith, bits, most))
 
 -- the end of the samples
-pub closed : {N : ℕ} (s : Parameters) (old : Beginning) (now : Option Room) (e : Encoding N) (r : Report) (sink end : List Bool) (xs : List ℤ) (n : ℕ) → IsEncodingOf s old now e xs →
+pub samples_end : {N : ℕ} (s : Parameters) (old : Beginning) (now : Option Room) (e : Encoding N) (r : Report) (sink end : List Bool) (xs : List ℤ) (n : ℕ) → IsEncodingOf s old now e xs →
     AddsCode e.coder.setting (complete_samples e.coder.setting xs) xs e.sink sink n (fill_count_of e.coder.setting xs) e.meter r.steps → r.bits ≡ e.bits + n → r.samples ≡ e.samples → end ≡ sink ++ replicate (bits_to_byte (length sink)) false →
     ReportsAll s r xs × (padded_bits (code s xs) ≡ whole_part (complete_code s xs) ++ end)
-closed s old now e r sink end xs n h finishes bits samples fill =
+samples_end s old now e r sink end xs n h finishes bits samples fill =
     let t : AddsCode s (complete_samples s xs) xs e.sink sink n (fill_count_of s xs) e.meter r.steps = subst (λ (t : Parameters). AddsCode t (complete_samples t xs) xs e.sink sink n (fill_count_of t xs) e.meter r.steps) h.counts.setting finishes in
     let k = t.code_is (sink_place s old now e xs h) in
     let part = whole_part (complete_code s xs) in
-    let all : part ++ sink ≡ code s xs = ap (λ l. part ++ l) k.appended ∙ sym (append_assoc part e.sink k.bits) ∙ ap (λ l. l ++ k.bits) (joined s old now e xs h) ∙ sym k.completes in
+    let all : part ++ sink ≡ code s xs = ap (λ l. part ++ l) k.appended ∙ sym (append_assoc part e.sink k.bits) ∙ ap (λ l. l ++ k.bits) (sink_goes_on s old now e xs h) ∙ sym k.completes in
     let size : length (code s xs) ≡ length part + length sink = ap length (sym all) ∙ length-append part sink in
     let gap : bits_to_byte (length sink) ≡ bits_to_byte (length (code s xs)) = omega (arith, size, length-part (complete_code s xs)) in (
       record {

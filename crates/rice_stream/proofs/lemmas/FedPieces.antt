@@ -128,8 +128,8 @@ feeding_is_encoding s legal input seam pieces old new fed encoded encoding begin
 -- ---- where an interval begins
 
 -- the code of a seam's samples is what is written, and the bits that wait
-pub waits : (s : Parameters) (seam : Seam) (xs : List ℤ) → IsSeam s seam xs → length (code s xs) ≡ 8 * length (early_output s xs) + seam.waiting_bits
-waits s seam xs h =
+pub code_of_seam : (s : Parameters) (seam : Seam) (xs : List ℤ) → IsSeam s seam xs → length (code s xs) ≡ 8 * length (early_output s xs) + seam.waiting_bits
+code_of_seam s seam xs h =
     let all = between_all s seam.start seam.previous xs h.taken in
     let same : take (cut s (length xs)) xs ≡ xs = ap (λ n. take n xs) all ∙ take-length xs in
     let bits = complete_code s xs in
@@ -154,7 +154,7 @@ pub place_of_seam : (s : Parameters) (seam : Seam) (xs ys : List ℤ) (written :
 place_of_seam s seam xs ys written h at_start count =
     let legal = h.taken.holds.legal in
     let whole = whole_intervals s seam xs h at_start in
-    let place : length (code s xs) ≡ 8 * written + seam.waiting_bits = waits s seam xs h ∙ ap (λ n. 8 * n + seam.waiting_bits) (sym count) in
+    let place : length (code s xs) ≡ 8 * written + seam.waiting_bits = code_of_seam s seam xs h ∙ ap (λ n. 8 * n + seam.waiting_bits) (sym count) in
     let zeros = replicate (bits_to_byte (length (code s (xs ++ ys)))) false in
     let bits : bits_of (output s (xs ++ ys)) ≡ code s xs ++ (code s ys ++ zeros) =
     bits_of-padded (code s (xs ++ ys)) ∙ ap (λ l. l ++ zeros) (intervals_are_joined s legal whole.0 xs ys whole.1) ∙ append_assoc (code s xs) (code s ys) zeros in

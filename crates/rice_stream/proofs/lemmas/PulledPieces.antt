@@ -58,11 +58,11 @@ drop_bits (suc n) k (x ∷ xs) le =
     nil_of_length (x ∷ xs) e = absurd (omega arith)
 
 -- the bits behind the stand are those of the piece and others
-others : (stand : Stand) (piece behind : List ℕ) → List Bool
-others stand piece behind = drop (stand.bits % 8 - length (bits_of piece)) (bits_of behind)
+bits_behind_stand : (stand : Stand) (piece behind : List ℕ) → List Bool
+bits_behind_stand stand piece behind = drop (stand.bits % 8 - length (bits_of piece)) (bits_of behind)
 
-behind_stand : (s : Parameters) (code : List ℕ) (o : Origin) (stand : Stand) (piece behind : List ℕ) → (h : HasPulled s code o stand) → drop (stand.bits / 8) code ≡ piece ++ behind → h.rest ≡ bits_ahead stand piece ++ others stand piece behind
-unfolding others
+behind_stand : (s : Parameters) (code : List ℕ) (o : Origin) (stand : Stand) (piece behind : List ℕ) → (h : HasPulled s code o stand) → drop (stand.bits / 8) code ≡ piece ++ behind → h.rest ≡ bits_ahead stand piece ++ bits_behind_stand stand piece behind
+unfolding bits_behind_stand
 behind_stand s code o stand piece behind h e =
     let n = stand.bits / 8 in
     let k = stand.bits % 8 in
@@ -79,14 +79,14 @@ record PullsOn (s : Parameters) (code : List ℕ) (o : Origin) (stand : Stand) (
   pub count : p.stand.samples ≡ stand.samples + length part
   pub writes : p.new ≡ spellings s part ++ drop (width s * length part) p.old
   pub left : List Bool
-  pub rest_is : next.rest ≡ left ++ others stand p.piece behind
+  pub rest_is : next.rest ≡ left ++ bits_behind_stand stand p.piece behind
   pub pauses_at : PausesAt s stand p.piece (length p.old) p.stand left (length part) p.pause
   pub limit : p.pause ≢ pauses.TooLong → p.stand.bits + length left ≤ 2 ^ 52
 
 pulls_on : (s : Parameters) (code : List ℕ) (o : Origin) (stand : Stand) (p : Pull) (behind : List ℕ) → (h : HasPulled s code o stand) → IsPulled s code stand p behind → PullsOn s code o stand p h.given behind
 pulls_on s code o stand p behind h pulled =
     let d = pulled.1 o h.front h.given h.stands in
-    let far = others stand p.piece behind in
+    let far = bits_behind_stand stand p.piece behind in
     record {
       next = record {
         front = h.front ++ d.bits;
@@ -158,23 +158,23 @@ unsound_on s b used left far P u = record {
 unsound_in : (s : Parameters) (b used : ℕ) (left : List Bool) (P : CodedDataSet → Type 0) → BeginsUnsound s b left used P → used ≤ length left
 unsound_in s b used left P u = omega (arith, u.bits, ap length u.begins, length-append (bits_of_set s u.refused) u.more)
 
-nothing_far : (stand : Stand) (piece behind : List ℕ) → behind ≡ [] → others stand piece behind ≡ []
-unfolding others
+nothing_far : (stand : Stand) (piece behind : List ℕ) → behind ≡ [] → bits_behind_stand stand piece behind ≡ []
+unfolding bits_behind_stand
 nothing_far stand piece behind e = let k = stand.bits % 8 - length (bits_of piece) in ap (λ l. drop k (bits_of l)) e ∙ ap (drop k) bits_of-nil ∙ drop-nil k
 
-finishes : (s : Parameters) (old stand : Stand) (piece behind : List ℕ) (room count : ℕ) (left : List Bool) (pause : Pause) (ending : Ending) → PausesAt s old piece room stand left count pause → EndsCode pause behind ending → Finishes s stand (left ++ others old piece behind) (length left) ending
-finishes s old stand piece behind room count left pauses.Full ending at e = absurd e
-finishes s old stand piece behind room count left pauses.TooLong ending at e = absurd e
-finishes s old stand piece behind room count left pauses.Blank ending at e =
-    let whole : left ≡ left ++ others old piece behind = sym (append-nil left) ∙ ap (λ l. left ++ l) (sym (nothing_far old piece behind e.0)) in
-    record { none = at.1; used = length left; few = omega arith; ends = subst (λ (v : Ending). EndsWith s None stand.block (left ++ others old piece behind) v (length left)) (sym e.1) (subst (λ (l : List Bool). EndsWith s None stand.block l Ended (length left)) whole at.2) }
-finishes s old stand piece behind room count left pauses.Cut ending at e =
-    let whole : left ≡ left ++ others old piece behind = sym (append-nil left) ∙ ap (λ l. left ++ l) (sym (nothing_far old piece behind e.0)) in
-    record { none = at.1; used = length left; few = omega arith; ends = subst (λ (v : Ending). EndsWith s None stand.block (left ++ others old piece behind) v (length left)) (sym e.1) (subst (λ (l : List Bool). EndsWith s None stand.block l CutOff (length left)) whole at.2) }
-finishes s old stand piece behind room count left pauses.RunPastSegment ending at e =
-    record { none = at.1; used = at.2; few = unsound_in s stand.block at.2 left _ at.3.1; ends = subst (λ (v : Ending). EndsWith s None stand.block (left ++ others old piece behind) v at.2) (sym e) (tt, unsound_on s stand.block at.2 left (others old piece behind) _ at.3.1) }
-finishes s old stand piece behind room count left pauses.ResidualTooLarge ending at e =
-    record { none = at.1; used = at.2; few = unsound_in s stand.block at.2 left _ at.3.1; ends = subst (λ (v : Ending). EndsWith s None stand.block (left ++ others old piece behind) v at.2) (sym e) (tt, unsound_on s stand.block at.2 left (others old piece behind) _ at.3.1) }
+pause_finishes : (s : Parameters) (old stand : Stand) (piece behind : List ℕ) (room count : ℕ) (left : List Bool) (pause : Pause) (ending : Ending) → PausesAt s old piece room stand left count pause → EndsCode pause behind ending → Finishes s stand (left ++ bits_behind_stand old piece behind) (length left) ending
+pause_finishes s old stand piece behind room count left pauses.Full ending at e = absurd e
+pause_finishes s old stand piece behind room count left pauses.TooLong ending at e = absurd e
+pause_finishes s old stand piece behind room count left pauses.Blank ending at e =
+    let whole : left ≡ left ++ bits_behind_stand old piece behind = sym (append-nil left) ∙ ap (λ l. left ++ l) (sym (nothing_far old piece behind e.0)) in
+    record { none = at.1; used = length left; few = omega arith; ends = subst (λ (v : Ending). EndsWith s None stand.block (left ++ bits_behind_stand old piece behind) v (length left)) (sym e.1) (subst (λ (l : List Bool). EndsWith s None stand.block l Ended (length left)) whole at.2) }
+pause_finishes s old stand piece behind room count left pauses.Cut ending at e =
+    let whole : left ≡ left ++ bits_behind_stand old piece behind = sym (append-nil left) ∙ ap (λ l. left ++ l) (sym (nothing_far old piece behind e.0)) in
+    record { none = at.1; used = length left; few = omega arith; ends = subst (λ (v : Ending). EndsWith s None stand.block (left ++ bits_behind_stand old piece behind) v (length left)) (sym e.1) (subst (λ (l : List Bool). EndsWith s None stand.block l CutOff (length left)) whole at.2) }
+pause_finishes s old stand piece behind room count left pauses.RunPastSegment ending at e =
+    record { none = at.1; used = at.2; few = unsound_in s stand.block at.2 left _ at.3.1; ends = subst (λ (v : Ending). EndsWith s None stand.block (left ++ bits_behind_stand old piece behind) v at.2) (sym e) (tt, unsound_on s stand.block at.2 left (bits_behind_stand old piece behind) _ at.3.1) }
+pause_finishes s old stand piece behind room count left pauses.ResidualTooLarge ending at e =
+    record { none = at.1; used = at.2; few = unsound_in s stand.block at.2 left _ at.3.1; ends = subst (λ (v : Ending). EndsWith s None stand.block (left ++ bits_behind_stand old piece behind) v at.2) (sym e) (tt, unsound_on s stand.block at.2 left (bits_behind_stand old piece behind) _ at.3.1) }
 
 not_long : (pause : Pause) (behind : List ℕ) (ending : Ending) → EndsCode pause behind ending → pause ≢ pauses.TooLong
 not_long pauses.Full behind ending e = absurd e
@@ -212,14 +212,14 @@ unfolding at_first
 pulled_all s code o first pulls last behind ending inside begins pulled last_pulled ends =
     let all = pull_all s code o first pulls (at_first s code o first inside begins) pulled in
     let on = pulls_on s code o (last_stand first pulls) last behind all.next last_pulled in
-    let f = finishes s (last_stand first pulls) last.stand last.piece behind (length last.old) (length on.part) on.left last.pause ending on.pauses_at ends in
+    let f = pause_finishes s (last_stand first pulls) last.stand last.piece behind (length last.old) (length on.part) on.left last.pause ending on.pauses_at ends in
     let same : on.next.given ≡ all.more ++ on.part = on.more ∙ ap (λ l. l ++ on.part) all.all in
     record {
       samples = all.more ++ on.part;
       used = length on.next.front + f.used;
       parts = parts-push s first pulls last all.more on.part all.parts on.count on.writes;
       decoded = subst (λ (l : List ℤ). Decoded s (drop o.bits (bits_of code)) None l ending (length on.next.front + f.used)) same
-          (decoded_all s code o last.stand (on.left ++ others (last_stand first pulls) last.piece behind) (length on.left) ending on.next on.rest_is f);
+          (decoded_all s code o last.stand (on.left ++ bits_behind_stand (last_stand first pulls) last.piece behind) (length on.left) ending on.next on.rest_is f);
       limit = omega (arith, on.limit (not_long last.pause behind ending ends), on.next.stands.bits, f.few);
       count = on.next.stands.samples ∙ ap (λ l. o.samples + length l) same;
     }

@@ -24,7 +24,7 @@ use Rattle.rice_stream.specs.DecodingState.{DecodedSoFar, Gains, HasSets}
 use Rattle.rice_stream.specs.Pulling.{Origin, IsStand, MayBegin, GivesNext, GoesOnAt, IsReadFrom, TakesNext, ahead, bytes_told, state_of}
 use Rattle.rice_stream.specs.declared.stand.Stand.{Stand}
 use Rattle.rice_stream.proofs.lemmas.DecodingEnds.{blank_all, next_here, some_one}
-use Rattle.rice_stream.proofs.lemmas.DecodingLemmas.{Advances, gains_run, gains_set, moves_of, runs_or_not, took}
+use Rattle.rice_stream.proofs.lemmas.DecodingLemmas.{Advances, gains_run, gains_set, moves_of, runs_or_not, took_block}
 
 -- what is drawn of a piece
 pub draws_ahead : (old new : Option (List ℕ)) (waiting waiting_new bits : List Bool) → IsSome old → Draws old new waiting waiting_new bits
@@ -73,7 +73,7 @@ module _ {I : Type 0} (s : Parameters) (o : Origin) (stand next : Stand) (r new 
   gained : (front : List Bool) (given : List ℤ) → Steps → (h : IsStand s o stand front given) → Gains s r new steps steps_new front h.sets h.blocks next.run given xs
   gained front given t h =
       let legal = h.state.legal in
-      elim (took refl t.advances) [
+      elim (took_block refl t.advances) [
         | inl k ↦ gains_run s r new steps steps_new h.blocks stand.block h.begun stand.run next.run stand.previous front h.sets given xs legal h.here h.previous t.reads.going h.before h.has_sets h.decoded k.same k.steps_are k.gives.gives
         | inr k ↦
             let none : stand.run ≡ 0 = k.none in

@@ -22,7 +22,7 @@ use Rattle.rice_stream.specs.declared.outcome.Fault.{Fault}
 use Rattle.rice_stream.specs.declared.outcome.Fault.TheVariants.{Write}
 use Rattle.rice_stream.specs.declared.outcome.Report.{Report}
 use Rattle.rice_stream.proofs.lemmas.DecodingEnds.{Ends, progress_with_block, write_ends}
-use Rattle.rice_stream.proofs.lemmas.DecodingLemmas.{gains, moves_of, samples_of_block}
+use Rattle.rice_stream.proofs.lemmas.DecodingLemmas.{gains_block, moves_of, samples_of_block}
 use Rattle.rice_stream.proofs.lemmas.RunsWritten.{Appends-split, all_wanted, more_wanted, part_of, progress_put}
 use Rattle.rice_stream.proofs.lemmas.SpelledBlocks.{advances_spelled, spelled_front}
 
@@ -47,8 +47,8 @@ later_set more old new steps steps_new s b p samples run g =
       steps = (let e = g.steps in omega (arith, e));
     }
 
-later : {I : Type 0} (more : ℕ) (old new : Reader I) (steps steps_new : ℕ) (p q : DecoderState) (bytes : List ℕ) → GivesBytes old new steps steps_new p q bytes → GivesBytes old new (steps + more) (steps_new + more) p q bytes
-later more old new steps steps_new p q bytes g = record {
+gives_with_more_steps : {I : Type 0} (more : ℕ) (old new : Reader I) (steps steps_new : ℕ) (p q : DecoderState) (bytes : List ℕ) → GivesBytes old new steps steps_new p q bytes → GivesBytes old new (steps + more) (steps_new + more) p q bytes
+gives_with_more_steps more old new steps steps_new p q bytes g = record {
   samples = g.samples;
   answers = (later_set more (with_mark old) new steps steps_new p.setting p.block p.before g.samples q.run g.answers.0, g.answers.1);
   spelled = g.spelled;
@@ -68,7 +68,7 @@ pub one_on : {I : Type 0} {s : Parameters} {asked : Option ℕ} {start : Reader 
 one_on {s = s} more out out_new r m steps steps_m p d bytes written legal runs none g counted none_new is put =
     let at = runs.at_block in
     let j : 2 ≤ s.block = grind (arith, legal.block) in
-    let b = later more r m steps steps_m p d bytes g in
+    let b = gives_with_more_steps more r m steps steps_m p d bytes g in
     let a = advances_spelled none b in
     let block = samples_of_block s at.setting at.going a in
     let text = spelled_front s p.setting (width s) s.block b.samples bytes at.setting refl refl block.len b.spelled in
@@ -78,7 +78,7 @@ one_on {s = s} more out out_new r m steps steps_m p d bytes written legal runs n
     let d_run : d.run * s.block ≡ 0 = ap (λ k. k * s.block) none_new ∙ omega arith in
     let few : s.block + d.run * s.block ≤ p.run * s.block + 456 * (m.taken - r.taken) = omega (arith, block.len, by_bits, d_none, d_run) in
     let ticks : AreCounted (steps + more) (steps_m + more) r.taken m.taken = record { forward = counted.forward; limit = counted.limit; least = omega (arith, counted.least); most = omega (arith, counted.most) } in
-    progress_with_block s.block (steps_m + (more + s.block)) legal runs (sym is) (λ e. omega (arith, e, is, j)) (gains legal runs a) (moves_of at.going a) (record { counted = ticks; few = few }) (omega arith) first
+    progress_with_block s.block (steps_m + (more + s.block)) legal runs (sym is) (λ e. omega (arith, e, is, j)) (gains_block legal runs a) (moves_of at.going a) (record { counted = ticks; few = few }) (omega arith) first
 
 pub progress_on_row : {I : Type 0} {s : Parameters} {asked : Option ℕ} {start : Reader I} {out_old : Option Room} (n more : ℕ) (out out_new : Option Room) (r new : Reader I) (steps last : ℕ) (p q : DecoderState) (bytes : List ℕ) (written : ℕ) → IsLegal s
     → DecodingProgress s asked start out_old out p r (steps + more) written → p.run ≡ 0 → GivesRow n r new steps last p q bytes → IfSome asked (λ k. written + s.block * n ≤ k)
@@ -116,7 +116,7 @@ fails_in_row {I} {s = s} {asked = asked} {start = start} {out_old = out_old} {re
     let no_bytes : row_bytes s 0 ≡ 0 = omega arith in
     let one : row_bytes s 1 ≡ width s * s.block = omega arith in
     let there = progress_put runs (subst (λ x. Appends out room (take x bytes)) no_bytes put) in
-    let b = later more r m steps k p d bytes g in
+    let b = gives_with_more_steps more r m steps k p d bytes g in
     let a = advances_spelled none b in
     let block = samples_of_block s at.setting at.going a in
     let text = spelled_front s p.setting (width s) s.block b.samples bytes at.setting refl refl block.len b.spelled in
@@ -126,7 +126,7 @@ fails_in_row {I} {s = s} {asked = asked} {start = start} {out_old = out_old} {re
     let same_written : written + s.block * 0 ≡ written = omega (arith, nothing) in
     let ticked : last + (more + s.block * 0) ≡ k + more = omega (arith, nothing, same_steps) in
     let told = subst (λ (t : Reader I). Reports rep f left failed t written (k + more) (Some Write)) same (subst (λ x. Reports rep f left failed new x (k + more) (Some Write)) same_written (subst (λ x. Reports rep f left failed new (written + s.block * 0) x (Some Write)) ticked tells)) in
-    write_ends s.block d legal there (sym is) (λ e. omega (arith, e, is, j)) (gains legal there a) piece told
+    write_ends s.block d legal there (sym is) (λ e. omega (arith, e, is, j)) (gains_block legal there a) piece told
 fails_in_row {s = s} {asked = asked} {start = start} {out_old = out_old} {rep = rep} {f = f} {left = left} {failed = failed} (suc n) more out room out_new r new steps last p q bytes written legal runs none (m, k, d, g, counted, none_new, rest) wanted put part tells =
     let parts = Appends-split out room (take (width s * s.block) bytes) (take (row_bytes s n) (drop (width s * s.block) bytes)) (subst (λ l. Appends out room l) (bytes_apart s n bytes) put) in
     let here = one_on more out parts.0 r m steps k p d bytes written legal runs none g counted none_new (all_wanted asked written s.block (suc n) wanted) parts.1 in

@@ -26,7 +26,7 @@ use Rattle.rice_stream.specs.declared.outcome.Report.{Report}
 use Rattle.rice_stream.specs.declared.outcome.Fault.{Fault}
 use Rattle.rice_stream.specs.declared.outcome.Fault.TheVariants.{Write}
 use Rattle.rice_stream.proofs.lemmas.DecodingEnds.{Ends, progress_with_block, write_ends}
-use Rattle.rice_stream.proofs.lemmas.DecodingLemmas.{Advances, gains}
+use Rattle.rice_stream.proofs.lemmas.DecodingLemmas.{Advances, gains_block}
 use Rattle.rice_stream.proofs.lemmas.SpellingLengths.{length-spellings, spellings-append}
 
 -- the front of a repeated pattern
@@ -148,7 +148,7 @@ progress_on {s = s} {asked = asked} {start = start} {out_old = out_old} {r = r} 
     let more = run_is_more p m xs g in
     let few : s.block + m.run * s.block ≤ p.run * s.block + 456 * (r.taken - r.taken) = (let e : p.run * s.block ≡ s.block + m.run * s.block = ap (λ k. k * s.block) more ∙ omega arith in omega (arith, e)) in
     let limit = runs.limit in
-    let here = progress_with_block s.block (steps + s.block) legal runs (sym is) (λ none. omega (arith, none, is, j)) (gains legal runs (advances_in_run r steps p m xs g)) g.moves
+    let here = progress_with_block s.block (steps + s.block) legal runs (sym is) (λ none. omega (arith, none, is, j)) (gains_block legal runs (advances_in_run r steps p m xs g)) g.moves
     (record { counted = record { forward = omega arith; limit = limit; least = omega arith; most = omega arith }; few = few }) refl first in
     let before : m.before ≡ x = ap (λ r. r.before) g.moves ∙ last_replicate x p.setting.block in
     let second = subst (λ (z : ℤ). Appends parts.0 out_new (spellings s (replicate (s.block * n) z))) (sym before) parts.2 in
@@ -186,7 +186,7 @@ run_fails {s = s} {asked = asked} {start = start} {out_old = out_old} {out = out
     let is = all_wanted asked (written + count) s.block 0 (one_more asked w.wanted) in
     let j : 2 ≤ s.block = grind (arith, legal.block) in
     let told = subst (λ (n : ℕ). Reports rep f left failed r n (steps + count) (Some Write)) are (subst (λ (n : ℕ). Reports rep f left failed r all n (Some Write)) ticked tells) in
-    write_ends s.block m legal at (sym is) (λ none. omega (arith, none, is, j)) (gains legal at (advances_in_run r (steps + count) middle m xs g)) part told
+    write_ends s.block m legal at (sym is) (λ none. omega (arith, none, is, j)) (gains_block legal at (advances_in_run r (steps + count) middle m xs g)) part told
   where
     by_asked : (asked : Option ℕ) → IfSome asked (λ n. written + count + s.block ≤ n) → IfSome asked (λ k. written + s.block * w.blocks ≤ k)
     by_asked None h = tt

@@ -44,9 +44,9 @@ one_long bits full bytes f e some few =
 pub one_byte : (bits full : List Bool) (bytes : List ℕ) → full ≡ padded_bits bits → bytes ≡ whole_bytes full → 0 < length bits → length bits < 8 → 0 < length bytes
 one_byte bits full bytes f e some few = omega (arith, one_long bits full bytes f e some few)
 
-one : (x : ℕ) → word 8 x ++ [] ≡ bits_of (x ∷ [])
+word_of_byte : (x : ℕ) → word 8 x ++ [] ≡ bits_of (x ∷ [])
 unfolding bits_of
-one x = refl
+word_of_byte x = refl
 
 pub byte_digits : (bits full : List Bool) (bytes : List ℕ) (k : ℕ) → full ≡ padded_bits bits → bytes ≡ whole_bytes full → 0 < length bits → length bits < 8 → k ≡ length bits → word (length bits) (slice_index_or bytes 0 0 / 2 ^ (8 - k)) ≡ bits
 byte_digits bits full [] k f e some few is = absurd (omega (arith, one_long bits full [] f e some few))
@@ -57,7 +57,7 @@ byte_digits bits full (x ∷ []) k f e some few is =
     let high = word n (x / 2 ^ (8 - k)) in
     let split = word-split n (8 - k) x in
     let whole = ap (λ m. word m x) eight in
-    sym (take_at high _ n (length-word n (x / 2 ^ (8 - k)))) ∙ ap (take n) (sym split ∙ whole ∙ sym (append-nil (word 8 x)) ∙ one x ∙ spelled_by bits full (x ∷ []) f e) ∙ take_at bits (replicate (bits_to_byte n) false) n refl
+    sym (take_at high _ n (length-word n (x / 2 ^ (8 - k)))) ∙ ap (take n) (sym split ∙ whole ∙ sym (append-nil (word 8 x)) ∙ word_of_byte x ∙ spelled_by bits full (x ∷ []) f e) ∙ take_at bits (replicate (bits_to_byte n) false) n refl
 
 pub byte_fits : (x n k : ℕ) → x < 256 → n < 8 → k ≡ n → x / 2 ^ (8 - k) < 2 ^ n
 byte_fits x n k byte few is = shr_below x n (8 - k) (let e : n + (8 - k) ≡ 8 = omega arith in subst (λ m. x < 2 ^ m) (sym e) byte)
@@ -70,8 +70,8 @@ some_width s = grind (arith, nat_tests)
 abbrev pub encoding_at : (N : ℕ) → Parameters → Seam → Encoding N
 encoding_at N s seam = record { coder = state_between s seam.start seam.previous; sink = word seam.waiting_bits seam.waiting; meter = seam.steps; samples = seam.samples; bits = seam.bits }
 
-pub resumed : (N : ℕ) (s : Parameters) (seam : Seam) (xs : List ℤ) (now : Option Room) → IsSeam s seam xs → IsEncodingOf s (behind s xs now) now (encoding_at N s seam) xs
-resumed N s seam xs now h = record {
+pub encoding_is_resumed : (N : ℕ) (s : Parameters) (seam : Seam) (xs : List ℤ) (now : Option Room) → IsSeam s seam xs → IsEncodingOf s (behind s xs now) now (encoding_at N s seam) xs
+encoding_is_resumed N s seam xs now h = record {
   counts = record { setting = refl; stands = h.taken; samples = h.samples; bits = h.bits; least = h.least; most = h.most };
   sink = h.waiting;
   took = record { more = []; split = sym (append-nil (early_output s xs)); took = Appends-nil now };
@@ -87,7 +87,7 @@ fit_in w n k le = let p : w * k ≤ w * (n / w) = mul-le-mul_left w le in omega 
 
 pub few_steps_so_far : (s : Parameters) (seam : Seam) (xs : List ℤ) → IsSeam s seam xs → seam.steps < 4611686018427387904
 few_steps_so_far s seam xs h =
-    let small = (counts_small s (encoding_at 0 s seam) xs (resumed 0 s seam xs None h).counts).1 in
+    let small = (counts_small s (encoding_at 0 s seam) xs (encoding_is_resumed 0 s seam xs None h).counts).1 in
     omega (arith, small, few_all (width s) (length xs) 0 (some_width s) (omega (arith, h.limit)))
 
 -- where the samples make whole segments, the encoding's place is a seam

@@ -54,13 +54,13 @@ sequence_piece (false ∷ xs) =
     none xs miss (suc m) more h e = let t : xs ≡ fundamental_sequence m ++ more = cc in miss m more tt t
 
 -- so many pieces of a kind
-pub pieces : {X : Type 0} (f : X → List Bool) (P : X → Type 0) → ((bits : List Bool) → Search f P bits) → ((x y : X) (a b : List Bool) → P x → P y → f x ++ a ≡ f y ++ b → a ≡ b) →
+pub search_pieces : {X : Type 0} (f : X → List Bool) (P : X → Type 0) → ((bits : List Bool) → Search f P bits) → ((x y : X) (a b : List Bool) → P x → P y → f x ++ a ≡ f y ++ b → a ≡ b) →
     (n : ℕ) (bits : List Bool) → Search (flat_map f) (λ xs. (length xs ≡ n) × AllByRecursion P xs) bits
-pieces f P one tells zero bits = inl (record { piece = []; more = bits; fits = (refl, tt); begins = refl })
-pieces {X = X} f P one tells (suc n) bits =
+search_pieces f P one tells zero bits = inl (record { piece = []; more = bits; fits = (refl, tt); begins = refl })
+search_pieces {X = X} f P one tells (suc n) bits =
     elim (one bits) [
       | inr miss ↦ inr (none_first miss)
-      | inl p ↦ elim (pieces f P one tells n p.more) [
+      | inl p ↦ elim (search_pieces f P one tells n p.more) [
         | inl q ↦ inl (record {
           piece = p.piece ∷ q.piece;
           more = q.more;

@@ -42,9 +42,9 @@ length_before bytes at g v h =
     omega (arith, length-append (bits_of (take at bytes)) (word g v), length-front at bytes h, length-word g v)
 
 -- the bits are those of the whole bytes, and the digits that stand after these
-viewed : (bytes : List ℕ) (n : ℕ) → n ≤ 8 * length bytes
+whole_bytes_and_digits : (bytes : List ℕ) (n : ℕ) → n ≤ 8 * length bytes
     → take n (bits_of bytes) ≡ bits_of (take (n / 8) bytes) ++ word (n % 8) (slice_index bytes (n / 8) / 2 ^ (8 - n % 8))
-viewed bytes n h = elim (cases_lt (n / 8) (length bytes)) [
+whole_bytes_and_digits bytes n h = elim (cases_lt (n / 8) (length bytes)) [
   | inl i ↦
       let size : 8 * (n / 8) + n % 8 ≡ n = omega arith in
       ap (take n) (bits_at bytes (n / 8) (n % 8) i (omega arith))
@@ -70,16 +70,16 @@ low_zeros w b z rest e =
     zero_low b (2 ^ w) (pow_pos w) (word_reads w (b % 2 ^ w) 0 rest (replicate (z - w) false) (e ∙ zeros)).0
 
 -- zeros after bits
-behind : (bits xs : List Bool) (n z : ℕ) → bits ≡ xs ++ replicate z false → length xs ≡ n → (take n bits ≡ xs) × (drop n bits ≡ replicate z false)
-behind bits xs n z e size = (
+zeros_behind : (bits xs : List Bool) (n z : ℕ) → bits ≡ xs ++ replicate z false → length xs ≡ n → (take n bits ≡ xs) × (drop n bits ≡ replicate z false)
+zeros_behind bits xs n z e size = (
   ap (take n) e ∙ take_at xs (replicate z false) n size,
   ap (drop n) e ∙ drop_at xs (replicate z false) n size,
 )
 
 -- more of the zeros after bits
-pub passed : (bits : List Bool) (n m size : ℕ) → length bits ≡ size → n ≤ m → m ≤ size → drop n bits ≡ replicate (size - n) false
+pub fewer_zeros_behind : (bits : List Bool) (n m size : ℕ) → length bits ≡ size → n ≤ m → m ≤ size → drop n bits ≡ replicate (size - n) false
     → (take m bits ≡ take n bits ++ replicate (m - n) false) × (drop m bits ≡ replicate (size - m) false)
-passed bits n m size e h i zeros =
+fewer_zeros_behind bits n m size e h i zeros =
     let front : length (take n bits) ≡ n = length-take-le n bits (omega (arith, e)) in
     let more : length (take n bits) + (m - n) ≡ m = omega (arith, front) in
     let step : n + (m - n) ≡ m = omega arith in
@@ -122,7 +122,7 @@ bytes_behind : (bytes : List ℕ) (n q : ℕ) → n ≤ 8 * length bytes → n �
 bytes_behind bytes n q h place zeros = elim (cases_lt q (length bytes)) [
   | inl i ↦
       sym (drop_at (bits_of (take q bytes)) (bits_of (drop q bytes)) (8 * q) (length-front q bytes (omega arith)))
-      ∙ (ap (drop (8 * q)) (split-bytes q bytes) ∙ (passed (bits_of bytes) n (8 * q) (8 * length bytes) (length-bits_of bytes) place (omega arith) zeros).1)
+      ∙ (ap (drop (8 * q)) (split-bytes q bytes) ∙ (fewer_zeros_behind (bits_of bytes) n (8 * q) (8 * length bytes) (length-bits_of bytes) place (omega arith) zeros).1)
   | inr i ↦
       let none : 8 * length bytes - 8 * q ≡ 0 = omega arith in
       rw none (ap bits_of (drop_all q bytes (omega arith)) ∙ bits_of-nil)
@@ -133,9 +133,9 @@ fs-parts : (m : ℕ) (bits : List Bool) → (bits ++ replicate m false) ++ word 
 fs-parts m bits = ap (λ d. (bits ++ replicate m false) ++ d) (word-fs 0) ∙ append_assoc bits (replicate m false) (true ∷ [])
 
 -- the zeros after bits, as far as there is room
-cut : (bytes : List ℕ) (xs : List Bool) (z room : ℕ) → bits_of bytes ≡ xs ++ replicate z false → length xs ≤ 8 * room → 8 * room ≤ length xs + z
+zeros_within_room : (bytes : List ℕ) (xs : List Bool) (z room : ℕ) → bits_of bytes ≡ xs ++ replicate z false → length xs ≤ 8 * room → 8 * room ≤ length xs + z
     → bits_of (take room bytes) ≡ xs ++ replicate (8 * room - length xs) false
-cut bytes xs z room e h i =
+zeros_within_room bytes xs z room e h i =
     let k : ℕ = 8 * room - length xs in
     let size : length xs + k ≡ 8 * room = omega arith in
     let all : length xs + z ≡ 8 * length bytes = ap (λ n. length xs + n) (sym (length-replicate z false)) ∙ (sym (length-append xs (replicate z false)) ∙ (ap length (sym e) ∙ length-bits_of bytes)) in
@@ -144,8 +144,8 @@ cut bytes xs z room e h i =
     ∙ (ap (λ n. take n (xs ++ replicate z false)) (sym size)
     ∙ (take-append-add xs (replicate z false) k ∙ ap (λ d. xs ++ d) (take-replicate k z false (omega (arith, size))))))
 
-product : (h p q v : ℕ) → h * (p * q) + v * q ≡ (h * p + v) * q
-product h p q v = omega arith
+add-mul-mul : (h p q v : ℕ) → h * (p * q) + v * q ≡ (h * p + v) * q
+add-mul-mul h p q v = omega arith
 
 -- digits that are moved to the front, with zeros after them
 top-word : (size c j : ℕ) → c ≤ size → word size (j * 2 ^ (size - c)) ≡ word c j ++ replicate (size - c) false
@@ -155,30 +155,30 @@ top-word size c j h =
     ap (λ w. word w (j * 2 ^ (size - c))) (sym all)
     ∙ (ap (word (c + (size - c))) (sym plain) ∙ (word-cat c (size - c) j 0 (pow_pos (size - c)) ∙ ap (λ z. word c j ++ z) (word-zero (size - c))))
 
-regroup : (a b c d e : List Bool) → a ++ (((b ++ c) ++ d) ++ e) ≡ ((a ++ b) ++ c) ++ (d ++ e)
-regroup a b c d e =
+append_five : (a b c d e : List Bool) → a ++ (((b ++ c) ++ d) ++ e) ≡ ((a ++ b) ++ c) ++ (d ++ e)
+append_five a b c d e =
     ap (λ z. a ++ z) (append_assoc (b ++ c) d e ∙ append_assoc b c (d ++ e)) ∙ (sym (append_assoc a b (c ++ (d ++ e))) ∙ sym (append_assoc (a ++ b) c (d ++ e)))
 
 -- digits that are written in the byte in which bits end, and zeros after them
-written : (old : List ℕ) (n count s : ℕ) (digits piece : List Bool) → n ≤ 8 * length old → n ≤ 8 * (n / 8 + count) → drop n (bits_of old) ≡ replicate (8 * length old - n) false
+digits_written : (old : List ℕ) (n count s : ℕ) (digits piece : List Bool) → n ≤ 8 * length old → n ≤ 8 * (n / 8 + count) → drop n (bits_of old) ≡ replicate (8 * length old - n) false
     → piece ≡ (word (n % 8) (slice_index old (n / 8) / 2 ^ (8 - n % 8)) ++ digits) ++ replicate s false
     → bits_of (take (n / 8) old) ++ (piece ++ bits_of (drop (n / 8 + count) old))
     ≡ (take n (bits_of old) ++ digits) ++ replicate (s + (8 * length old - 8 * (n / 8 + count))) false
-written old n count s digits piece room past zeros e =
+digits_written old n count s digits piece room past zeros e =
     let front : List Bool = bits_of (take (n / 8) old) in
     let first : List Bool = word (n % 8) (slice_index old (n / 8) / 2 ^ (8 - n % 8)) in
     let back : List Bool = bits_of (drop (n / 8 + count) old) in
     let left : ℕ = 8 * length old - 8 * (n / 8 + count) in
     ap (λ d. front ++ (d ++ back)) e
-    ∙ (regroup front first digits (replicate s false) back
-    ∙ (ap (λ d. (d ++ digits) ++ (replicate s false ++ back)) (sym (viewed old n room))
+    ∙ (append_five front first digits (replicate s false) back
+    ∙ (ap (λ d. (d ++ digits) ++ (replicate s false ++ back)) (sym (whole_bytes_and_digits old n room))
     ∙ ap (λ d. (take n (bits_of old) ++ digits) ++ d) (ap (λ d. replicate s false ++ d) (bytes_behind old n (n / 8 + count) room past zeros) ∙ replicate-append-replicate s left false)))
 
-shifted : (h p q : ℕ) → h * p * q ≡ h * (p * q)
-shifted h p q = omega arith
+mul-mul : (h p q : ℕ) → h * p * q ≡ h * (p * q)
+mul-mul h p q = omega arith
 
-moved : (b h k n : ℕ) → b ≡ h * 2 ^ k → k + 56 ≡ n → b * 2 ^ 56 ≡ h * 2 ^ n
-moved b h k n e f = ap (λ c. c * 2 ^ 56) e ∙ (shifted h (2 ^ k) (2 ^ 56) ∙ ap (λ c. h * c) (sym (pow-add 2 k 56) ∙ ap (λ c. 2 ^ c) f))
+moved_to_front : (b h k n : ℕ) → b ≡ h * 2 ^ k → k + 56 ≡ n → b * 2 ^ 56 ≡ h * 2 ^ n
+moved_to_front b h k n e f = ap (λ c. c * 2 ^ 56) e ∙ (mul-mul h (2 ^ k) (2 ^ 56) ∙ ap (λ c. h * c) (sym (pow-add 2 k 56) ∙ ap (λ c. 2 ^ c) f))
 
 -- digits that are joined to those of a byte
 joined_to_byte : (b g width value : ℕ) → b % 2 ^ (8 - g) ≡ 0 → g < 8 → g + width < 64
@@ -189,8 +189,8 @@ joined_to_byte b g width value zeros short narrow =
     let byte : b ≡ h * 2 ^ (8 - g) = omega (arith, shr_split b (8 - g)) in
     let up : 8 - g + 56 ≡ 64 - g = omega arith in
     let split : width + s ≡ 64 - g = omega arith in
-    let high : b * 2 ^ 56 ≡ h * 2 ^ (64 - g) = moved b h (8 - g) (64 - g) byte up in
-    ap (λ n. n + value * 2 ^ s) (high ∙ ap (λ n. h * n) (ap (λ n. 2 ^ n) (sym split) ∙ pow-add 2 width s)) ∙ product h (2 ^ width) (2 ^ s) value
+    let high : b * 2 ^ 56 ≡ h * 2 ^ (64 - g) = moved_to_front b h (8 - g) (64 - g) byte up in
+    ap (λ n. n + value * 2 ^ s) (high ∙ ap (λ n. h * n) (ap (λ n. 2 ^ n) (sym split) ∙ pow-add 2 width s)) ∙ add-mul-mul h (2 ^ width) (2 ^ s) value
 
 -- so they fit eight bytes
 pub joined_below : (b g width value : ℕ) → b < 256 → b % 2 ^ (8 - g) ≡ 0 → g < 8 → g + width < 64 → value < 2 ^ width
@@ -220,11 +220,11 @@ gathered-put old new n width value room narrow below zeros e =
     let all : bits_of (take at old ++ (to_be_bytes w64 x ++ drop (at + 8) old)) ≡ bits ++ replicate (s + (8 * length old - 8 * (at + 8))) false =
     bits_of-append (take at old) (to_be_bytes w64 x ++ drop (at + 8) old)
     ∙ (ap (λ d. bits_of (take at old) ++ d) (bits_of-append (to_be_bytes w64 x) (drop (at + 8) old))
-    ∙ written old n 8 s (word width value) (bits_of (to_be_bytes w64 x)) (omega arith) (omega arith) zeros eight) in
+    ∙ digits_written old n 8 s (word width value) (bits_of (to_be_bytes w64 x)) (omega arith) (omega arith) zeros eight) in
     let size : length bits ≡ n + width =
     omega (arith, length-append (take n (bits_of old)) (word width value), length-take-le n (bits_of old) (omega (arith, length-bits_of old)), length-word width value) in
-    behind (bits_of new) bits (n + width) (8 * length old - (n + width))
-    (ap bits_of e ∙ (cut _ bits _ (length old) all (omega (arith, size)) (omega (arith, size)) ∙ ap (λ k. bits ++ replicate (8 * length old - k) false) size))
+    zeros_behind (bits_of new) bits (n + width) (8 * length old - (n + width))
+    (ap bits_of e ∙ (zeros_within_room _ bits _ (length old) all (omega (arith, size)) (omega (arith, size)) ∙ ap (λ k. bits ++ replicate (8 * length old - k) false) size))
     size
 
 -- a 1 that is joined to a number that ends in zeros
@@ -265,7 +265,7 @@ gathered-one old new n m room zeros e =
     let x : ℕ = slice_index old at in
     let h : ℕ = x / 2 ^ (8 - g) in
     let s : ℕ = 8 - (g + 1) in
-    let far = passed (bits_of old) n p (8 * length old) (length-bits_of old) (omega arith) (omega arith) zeros in
+    let far = fewer_zeros_behind (bits_of old) n p (8 * length old) (length-bits_of old) (omega arith) (omega arith) zeros in
     let gap : p - n ≡ m = omega arith in
     let bits : List Bool = take n (bits_of old) ++ fundamental_sequence m in
     let byte : word 8 (bit_or x (2 ^ (7 - g))) ≡ (word g h ++ word 1 1) ++ replicate s false =
@@ -276,10 +276,10 @@ gathered-one old new n m room zeros e =
     ap (λ d. d ++ word 1 1) (far.0 ∙ ap (λ k. take n (bits_of old) ++ replicate k false) gap) ∙ fs-parts m (take n (bits_of old)) in
     let size : length bits ≡ n + (m + 1) =
     omega (arith, length-append (take n (bits_of old)) (fundamental_sequence m), length-take-le n (bits_of old) (omega (arith, length-bits_of old)), length-fundamental_sequence m) in
-    behind (bits_of new) bits (n + (m + 1)) (8 * length old - (n + (m + 1)))
+    zeros_behind (bits_of new) bits (n + (m + 1)) (8 * length old - (n + (m + 1)))
     (ap bits_of e
     ∙ (set_apart old at (bit_or x (2 ^ (7 - g))) (omega arith)
-    ∙ (written old p 1 s (word 1 1) (word 8 (bit_or x (2 ^ (7 - g)))) (omega arith) (omega arith) far.1 byte ∙ ((λ j. sequence j ++ replicate (left j) false)))))
+    ∙ (digits_written old p 1 s (word 1 1) (word 8 (bit_or x (2 ^ (7 - g)))) (omega arith) (omega arith) far.1 byte ∙ ((λ j. sequence j ++ replicate (left j) false)))))
     size
 
 byte_first : (b : ℕ) (bytes : List ℕ) (at : ℕ) → bits_of (b ∷ replicate at 0 ++ bytes) ≡ word 8 b ++ (replicate (8 * at) false ++ bits_of bytes)
@@ -291,10 +291,10 @@ three_zeros g h k xs =
     append_assoc xs (replicate g false) (replicate h false ++ replicate k false)
     ∙ ap (λ d. xs ++ d) (ap (λ d. replicate g false ++ d) (replicate-append-replicate h k false) ∙ replicate-append-replicate g (h + k) false)
 
-dropped : (old new : List ℕ) (n count : ℕ) → n ≤ 8 * length old → n / 8 ≤ count → drop n (bits_of old) ≡ replicate (8 * length old - n) false
+zeros_dropped : (old new : List ℕ) (n count : ℕ) → n ≤ 8 * length old → n / 8 ≤ count → drop n (bits_of old) ≡ replicate (8 * length old - n) false
     → new ≡ take (length old) (slice_index old (n / 8) ∷ replicate count 0 ++ drop (count + 1) old)
     → bits_of new ≡ drop (bits_in_bytes (length (take n (bits_of old)))) (take n (bits_of old)) ++ replicate (8 * length old - n % 8) false
-dropped old new n count room far zeros e =
+zeros_dropped old new n count room far zeros e =
     let at : ℕ = n / 8 in
     let g : ℕ = n % 8 in
     let b : ℕ = slice_index old at in
@@ -306,9 +306,9 @@ dropped old new n count room far zeros e =
     ∙ (ap (λ d. (digits ++ replicate (8 - g) false) ++ (replicate (8 * count) false ++ d)) (bytes_behind old n (count + 1) room (omega (arith, far)) zeros) ∙ three_zeros (8 - g) (8 * count) left digits)) in
     let size : length digits ≡ g = length-word g (b / 2 ^ (8 - g)) in
     let kept : drop (bits_in_bytes (length (take n (bits_of old)))) (take n (bits_of old)) ≡ digits =
-    ap (λ d. drop (bits_in_bytes (length d)) d) (viewed old n room) ∙ rest-bits (take at old) digits (omega (arith, size)) in
+    ap (λ d. drop (bits_in_bytes (length d)) d) (whole_bytes_and_digits old n room) ∙ rest-bits (take at old) digits (omega (arith, size)) in
     ap bits_of e
-    ∙ (cut _ digits _ (length old) all (omega (arith, size)) (omega (arith, size, far))
+    ∙ (zeros_within_room _ digits _ (length old) all (omega (arith, size)) (omega (arith, size, far))
     ∙ (ap (λ k. digits ++ replicate (8 * length old - k) false) size ∙ ap (λ d. d ++ replicate (8 * length old - g) false) (sym kept)))
 
 -- the byte that is not whole comes to the front, when the others are dropped
@@ -320,11 +320,11 @@ gathered-dropped old new capacity n count h size far e =
     let zeros : drop n (bits_of old) ≡ replicate (8 * length old - n) false = h.zeros ∙ ap (λ k. replicate (8 * k - n) false) (sym size) in
     let long : length bits ≡ n = length_viewed old capacity n bits h size refl in
     let rest : length (drop (bits_in_bytes (length bits)) bits) ≡ n % 8 = omega (arith, long, length-drop (bits_in_bytes (length bits)) bits) in
-    let all = behind (bits_of new) (drop (bits_in_bytes (length bits)) bits) (n % 8) (8 * length old - n % 8) (dropped old new n count (omega (arith, h.room, size)) far zeros e) rest in
+    let all = zeros_behind (bits_of new) (drop (bits_in_bytes (length bits)) bits) (n % 8) (8 * length old - n % 8) (zeros_dropped old new n count (omega (arith, h.room, size)) far zeros e) rest in
     (all.0, record { room = omega (arith, h.room); zeros = all.1 ∙ ap (λ k. replicate (8 * k - n % 8) false) size; small = h.small })
 
 pub gathered-whole : (bytes : List ℕ) (n : ℕ) → n ≤ 8 * length bytes → ((i : ℕ) → get_or (take (n / 8) bytes) i 0 < 256)
     → whole_bytes (take n (bits_of bytes)) ≡ take (n / 8) bytes
 gathered-whole bytes n room f =
     let v : ℕ = slice_index bytes (n / 8) / 2 ^ (8 - n % 8) in
-    ap whole_bytes (viewed bytes n room) ∙ whole-bits (take (n / 8) bytes) (word (n % 8) v) f (rw (length-word (n % 8) v) (omega arith))
+    ap whole_bytes (whole_bytes_and_digits bytes n room) ∙ whole-bits (take (n / 8) bytes) (word (n % 8) v) f (rw (length-word (n % 8) v) (omega arith))

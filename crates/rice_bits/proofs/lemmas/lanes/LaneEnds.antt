@@ -40,8 +40,8 @@ row_of place byte h k =
 abbrev from_slide : ℕ → List ℕ
 from_slide n = take 16 (drop (48 - n) SLIDE)
 
-pub slid : (count : ℕ) → count ≤ 48 → take 16 (drop (48 - count) SLIDE) ≡ places_behind count
-slid count h =
+pub slide_places : (count : ℕ) → count ≤ 48 → take 16 (drop (48 - count) SLIDE) ≡ places_behind count
+slide_places count h =
     let all : map from_slide (range_with_len 0 49) ≡ map places_behind (range_with_len 0 49) = refl in
     sym (get_or-map-range_with_len from_slide 0 49 count count [] (omega (arith, h)) (omega arith))
     ∙ (ap (λ xs. get_or xs count []) all ∙ get_or-map-range_with_len places_behind 0 49 count count [] (omega (arith, h)) (omega arith))
@@ -99,11 +99,11 @@ places_are_ok count =
 abbrev picked : List ℕ → ℕ → ℕ
 picked xs j = cond (leb 128 j) 0 (get_or xs j 0)
 
-picks : (xs : List ℕ) (i : ℕ) (js : List ℕ) → i + length js ≤ 16 → swz_l w8 16 xs i js ≡ map (picked xs) js
-picks xs i [] h = refl
-picks xs i (j ∷ js) h =
+swizzle_picks : (xs : List ℕ) (i : ℕ) (js : List ℕ) → i + length js ≤ 16 → swz_l w8 16 xs i js ≡ map (picked xs) js
+swizzle_picks xs i [] h = refl
+swizzle_picks xs i (j ∷ js) h =
     let none : 16 * (i / 16) + j ≡ j = omega (arith, h) in
-    let rest = picks xs (suc i) js (omega (arith, h)) in
+    let rest = swizzle_picks xs (suc i) js (omega (arith, h)) in
     λ k. cond (leb 128 j) 0 (get_or xs (none k) 0) ∷ rest k
 
 take-map : (f : ℕ → ℕ) (n : ℕ) (xs : List ℕ) → take n (map f xs) ≡ map f (take n xs)
@@ -115,7 +115,7 @@ pub lanes-moved : (xs : List ℕ) (count : ℕ) → length xs ≡ 16 → swz_l w
 lanes-moved xs count n =
     let places = range_with_len 0 16 in
     let whole : map (picked xs) places ≡ xs = pick_l_whole 0 xs 16 n in
-    picks xs 0 (places_behind count) (omega (arith, length-behind count))
+    swizzle_picks xs 0 (places_behind count) (omega (arith, length-behind count))
     ∙ (sym (take-map (picked xs) 16 (replicate count 128 ++ places))
     ∙ ap (take 16) (map-append (picked xs) (replicate count 128) places ∙ (λ k. map-replicate (picked xs) count 128 k ++ whole k)))
 
@@ -151,20 +151,20 @@ length-lanes xs = length-take-le 16 (xs ++ replicate 16 0) (omega (arith, length
 
 -- the bytes of a word, and the ones in them
 
-none : ones 0 ≡ 0
-none = omega (arith, ones-le 0 0 (omega arith))
+ones_of_zero : ones 0 ≡ 0
+ones_of_zero = omega (arith, ones-le 0 0 (omega arith))
 
-one : ones 1 ≡ 1
-one = ones-ones 1
+ones_of_one : ones 1 ≡ 1
+ones_of_one = ones-ones 1
 
 more_ones : (d : ℕ) (bits : List Bool) → d < 2 → ones d + length (ends_after 0 bits) ≡ length (ends_after 0 ((d % 2 == 1) ∷ bits))
-more_ones zero bits h = omega (arith, none, ends-count 0 1 bits)
-more_ones (suc zero) bits h = omega (arith, one, ends-count 0 1 bits)
+more_ones zero bits h = omega (arith, ones_of_zero, ends-count 0 1 bits)
+more_ones (suc zero) bits h = omega (arith, ones_of_one, ends-count 0 1 bits)
 more_ones (suc (suc d)) bits h = absurd (omega arith)
 
 ones-counted : (w n : ℕ) → n < 2 ^ w → ones n ≡ length (ends_after 0 (word w n))
 unfolding word
-ones-counted zero zero h = none
+ones-counted zero zero h = ones_of_zero
 ones-counted zero (suc n) h = absurd (omega (arith, h))
 ones-counted (suc w) n h =
     let high = n / 2 ^ w in
@@ -180,10 +180,10 @@ ones-of front n h fits =
     ones-counted n (front / 2 ^ (64 - n)) (front_below 64 n front h fits) ∙ ap (λ b. length (ends_after 0 b)) (sym (take-front 64 n front h))
 
 -- the zeros of a number are the ones of the other digits
-complement : (w n : ℕ) → n < 2 ^ w → ones (2 ^ w - 1 - n) + ones n ≡ w
-complement zero zero h = omega (arith, none)
-complement zero (suc n) h = absurd (omega (arith, h))
-complement (suc w) n h =
+ones_of_complement : (w n : ℕ) → n < 2 ^ w → ones (2 ^ w - 1 - n) + ones n ≡ w
+ones_of_complement zero zero h = omega (arith, ones_of_zero)
+ones_of_complement zero (suc n) h = absurd (omega (arith, h))
+ones_of_complement (suc w) n h =
     let high = n / 2 ^ w in
     let low = n % 2 ^ w in
     let m : suc w ≡ 1 + w = omega arith in
@@ -195,7 +195,7 @@ complement (suc w) n h =
     let other : 2 ^ w - 1 - low < 2 ^ w = omega (arith, pow_pos w) in
     let all : ones (2 ^ suc w - 1 - n) ≡ ones (1 - high) + ones (2 ^ w - 1 - low) = ap ones rest ∙ ones_cat w (1 - high) (2 ^ w - 1 - low) other in
     let here : ones n ≡ ones high + ones low = ap ones split ∙ ones_cat w high low below in
-    omega (arith, all, here, complement w low below, digit high few)
+    omega (arith, all, here, ones_of_complement w low below, digit high few)
   where
     parts : (high low p q n : ℕ) → high < 2 → low < p → q ≡ 2 * p → n ≡ high * p + low → q - 1 - n ≡ (1 - high) * p + (p - 1 - low)
     parts zero low p q n few below double split = omega (arith, below, double, split)
@@ -203,8 +203,8 @@ complement (suc w) n h =
     parts (suc (suc d)) low p q n few below double split = absurd (omega (arith, few))
 
     digit : (high : ℕ) → high < 2 → ones (1 - high) + ones high ≡ 1
-    digit zero few = omega (arith, none, one)
-    digit (suc zero) few = omega (arith, none, one)
+    digit zero few = omega (arith, ones_of_zero, ones_of_one)
+    digit (suc zero) few = omega (arith, ones_of_zero, ones_of_one)
     digit (suc (suc d)) few = absurd (omega (arith, few))
 
 -- the front of the other digits
@@ -229,7 +229,7 @@ front-other front n h fits =
 pub zeros-of : (front n : ℕ) → n ≤ 64 → front < 2 ^ 64 → ones ((2 ^ 64 - 1 - front) / 2 ^ (64 - n)) + length (ends_after 0 (take n (word 64 front))) ≡ n
 zeros-of front n h fits =
     let other = ap ones (front-other front n h fits) in
-    omega (arith, other, ones-of front n h fits, complement n (front / 2 ^ (64 - n)) (front_below 64 n front h fits))
+    omega (arith, other, ones-of front n h fits, ones_of_complement n (front / 2 ^ (64 - n)) (front_below 64 n front h fits))
 
 byte_at : (q : ℕ) (bytes : List ℕ) → q < length bytes → take 8 (drop (8 * q) (bits_of bytes)) ≡ word 8 (get_or bytes q 0)
 unfolding word bits_of

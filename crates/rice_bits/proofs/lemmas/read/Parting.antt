@@ -19,8 +19,8 @@ pub parted-bits : (front : ℕ) (old new : List ℕ) (used taken : ℕ) → AreP
     → word 64 front ≡ flat_map fundamental_sequence (take taken new) ++ drop used (word 64 front)
 parted-bits front old new used taken p = sym (take-append-drop used (word 64 front)) ∙ ap (λ z. z ++ drop used (word 64 front)) (sym p.bits)
 
-spread : (q p r s m : ℕ) → p * s ≡ m → (q * p + r) * s ≡ q * m + r * s
-spread q p r s m e = rw (← e) (grind arith)
+add-mul-mul : (q p r s m : ℕ) → p * s ≡ m → (q * p + r) * s ≡ q * m + r * s
+add-mul-mul q p r s m e = rw (← e) (grind arith)
 
 -- digits after the first ones, at the front of 64
 pub moved_up : (a d : ℕ) → a < 64 → d * 2 ^ (64 - a) % 2 ^ 64 ≡ d % 2 ^ a * 2 ^ (64 - a)
@@ -30,5 +30,5 @@ moved_up a d h =
     let power : 2 ^ a * 2 ^ s ≡ 2 ^ 64 = sym (pow-add 2 a s) ∙ ap (λ k. 2 ^ k) n in
     let low : d % 2 ^ a < 2 ^ a = mod_below d (2 ^ a) (pow_pos a) in
     ap (λ k. k * 2 ^ s % 2 ^ 64) (sym (shr_split d a))
-    ∙ (ap (λ k. k % 2 ^ 64) (spread (d / 2 ^ a) (2 ^ a) (d % 2 ^ a) (2 ^ s) (2 ^ 64) power)
+    ∙ (ap (λ k. k % 2 ^ 64) (add-mul-mul (d / 2 ^ a) (2 ^ a) (d % 2 ^ a) (2 ^ s) (2 ^ 64) power)
     ∙ mod-mul-add (d / 2 ^ a) (2 ^ 64) (d % 2 ^ a * 2 ^ s) (shift_fits a s (d % 2 ^ a) low (omega arith)))

@@ -76,8 +76,8 @@ pub no_refusal : (refusal : Option BitFault) → is_some refusal ≡ false → r
 no_refusal None e = refl
 no_refusal (Some f) e = absurd cc
 
-pub refused : (refusal : Option BitFault) (f : BitFault) (P : BitFault → Type 0) → refusal ≡ Some f → P f → IfSome refusal P
-refused refusal f P e holds = rw e holds
+pub refusal_is : (refusal : Option BitFault) (f : BitFault) (P : BitFault → Type 0) → refusal ≡ Some f → P f → IfSome refusal P
+refusal_is refusal f P e holds = rw e holds
 
 -- a reader with a bit has refused nothing
 pub not_refused : (refusal : Option BitFault) (bits : List Bool) → 0 < length bits → (IsSome refusal → bits ≡ []) → refusal ≡ None

@@ -4,7 +4,7 @@ use Rattle.rice_bits.specs.device.Slice.{slice_left, slice_state}
 use Rattle.rice_stream.specs.Calls.{Happens}
 use Rattle.rice_stream.specs.Decodes.{Decodes, DecodesWithin}
 use Rattle.rice_stream.specs.declared.outcome.Report.{Report}
-use Rattle.rice_c.proofs.lemmas.Passing.{passes}
+use Rattle.rice_c.proofs.lemmas.Passing.{uses_memory}
 use Rattle.rice_c.proofs.coding.decode_into.Goals as goal
 
 pub returns : goal.returns
@@ -19,7 +19,7 @@ returns c =
     record {
       call = call.0;
       fault = run.result.0.fault;
-      passes = passes c.args.code.now (slice_left run.result.1) c.args.samples.now _ c.new-arg-1.given out.failures (slice_state out) call.0 run.result.0.fault happens
+      passes = uses_memory c.args.code.now (slice_left run.result.1) c.args.samples.now _ c.new-arg-1.given out.failures (slice_state out) call.0 run.result.0.fault happens
           (tie ∙ sym (take-append-drop out.at out.room.now)) c.samples-1.given.1.0 run.ensures.failures c.taken-written.ensures.full;
       decodes = subst (λ (r : Report). Decodes s c.args.asked call.0 r run.result.0.fault) (sym c.tell.ensures.report) call.2;
       within = subst (λ (r : Report). DecodesWithin c.args.asked r) (sym c.tell.ensures.report) run.ensures.within;

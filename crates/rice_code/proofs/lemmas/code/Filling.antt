@@ -10,7 +10,7 @@ use Rattle.rice_samples.specs.Places.{is_reference_sample, is_reference}
 use Rattle.rice_samples.specs.predict.Residuals.{rank_below, rank, residual, residuals, pattern, last_of}
 use Rattle.rice_samples.proofs.lemmas.setting.PlaceLemmas.{reference_begins}
 use Rattle.rice_code.specs.code.Blocks.{block_data, blocks_from, zero_block}
-use Rattle.rice_code.proofs.lemmas.meaning.Covers.{bool_cases, both, GoOn, EndsInZeros}
+use Rattle.rice_code.proofs.lemmas.meaning.Covers.{bool_cases, and-split, GoOn, EndsInZeros}
 
 pub last_append : (p : ℤ) (xs ys : List ℤ) → last_of p (xs ++ ys) ≡ last_of (last_of p xs) ys
 last_append p [] ys = refl
@@ -50,8 +50,8 @@ Repeats s p = (s.preprocess ≡ true) ⊎ (pattern s p ≡ 0)
 pub same_rank : (count p : ℕ) → rank_below count p p ≡ 0
 same_rank count p = grind (arith, nat_tests)
 
-repeated : (s : Parameters) (i : ℕ) (p : ℤ) → Repeats s p → residual s i p p ≡ 0
-repeated s i p h =
+residual_of_repeated : (s : Parameters) (i : ℕ) (p : ℤ) → Repeats s p → residual s i p p ≡ 0
+residual_of_repeated s i p h =
     elim (bool_cases s.preprocess) [
       | inl e ↦ ap (λ v. cond v (cond (is_reference_sample s i) 0 (rank s p p)) (pattern s p)) e ∙ predicted (is_reference_sample s i)
       | inr e ↦ ap (λ v. cond v (cond (is_reference_sample s i) 0 (rank s p p)) (pattern s p)) e
@@ -64,7 +64,7 @@ repeated s i p h =
 
 pub repeated_all : (s : Parameters) (i n : ℕ) (p : ℤ) → Repeats s p → residuals s i p (replicate n p) ≡ replicate n 0
 repeated_all s i zero p h = refl
-repeated_all s i (suc n) p h = let first = repeated s i p h in let rest = repeated_all s (i + 1) n p h in λ k. first k ∷ rest k
+repeated_all s i (suc n) p h = let first = residual_of_repeated s i p h in let rest = repeated_all s (i + 1) n p h in λ k. first k ∷ rest k
 
 pub repeated_block : (s : Parameters) (b : ℕ) (p : ℤ) → is_reference s b ≡ false → Repeats s p → block_data s b p (replicate s.block p) ≡ zero_block s None
 repeated_block s b p e h =
@@ -90,12 +90,12 @@ repeated_blocks s b p (suc n) k h =
 -- without prediction the last sample of a block of zeros is zero
 last_of_zeros : (s : Parameters) (i : ℕ) (p : ℤ) (xs : List ℤ) → s.preprocess ≡ false → 1 ≤ length xs → list_all (λ d. d == 0) (residuals s i p xs) ≡ true → pattern s (last_of p xs) ≡ 0
 last_of_zeros s i p [] e h k = absurd (omega arith)
-last_of_zeros s i p (x ∷ []) e h k = sym (ap (λ v. cond v (cond (is_reference_sample s i) 0 (rank s p x)) (pattern s x)) e) ∙ is_none (residual s i p x) (both (residual s i p x == 0) true k).0
+last_of_zeros s i p (x ∷ []) e h k = sym (ap (λ v. cond v (cond (is_reference_sample s i) 0 (rank s p x)) (pattern s x)) e) ∙ is_none (residual s i p x) (and-split (residual s i p x == 0) true k).0
   where
     is_none : (d : ℕ) → (d == 0) ≡ true → d ≡ 0
     is_none d e = grind (arith, nat_tests)
 last_of_zeros s i p (x ∷ y ∷ ys) e h k =
-    last_of_zeros s (i + 1) x (y ∷ ys) e (omega arith) (both (residual s i p x == 0) (list_all (λ d. d == 0) (residuals s (i + 1) x (y ∷ ys))) k).1
+    last_of_zeros s (i + 1) x (y ∷ ys) e (omega arith) (and-split (residual s i p x == 0) (list_all (λ d. d == 0) (residuals s (i + 1) x (y ∷ ys))) k).1
 
 pub last_repeats : (s : Parameters) (b : ℕ) (p : ℤ) (n : ℕ) (xs : List ℤ) → 1 ≤ s.block → length xs ≡ s.block * n → EndsInZeros (blocks_from s b p n xs) → Repeats s (last_of p xs)
 last_repeats s b p n xs j len h =

@@ -17,11 +17,11 @@ use Rattle.rice_code.specs.code.Forms.{blocks_in_all}
 use Rattle.rice_code.specs.code.Layout.{layout}
 use Rattle.rice_code.specs.code.CodedDataSets.{bits_of_set}
 use Rattle.rice_code.specs.code.Code.{data_sets, sets_from, code_from, code, bits_from}
-use Rattle.rice_code.proofs.lemmas.meaning.Covers.{GoOn, covers}
+use Rattle.rice_code.proofs.lemmas.meaning.Covers.{GoOn, covers_blocks}
 use Rattle.rice_code.proofs.lemmas.code.Layouts.{laid_append, laid_inside}
 use Rattle.rice_code.proofs.lemmas.cost.PaddingBounds.{are_blocks}
 use Rattle.rice_code.proofs.lemmas.code.SoundBlocks.{all_take, blocks_sound, count_blocks}
-use Rattle.rice_code.proofs.lemmas.code.Segments.{segments}
+use Rattle.rice_code.proofs.lemmas.code.Segments.{sets_of_segments}
 use Rattle.rice_code.proofs.lemmas.code.Filling.{last_append, blocks_append}
 use Rattle.rice_code.proofs.lemmas.code.WholeBlocks.{not_filled}
 
@@ -49,14 +49,14 @@ pub own_blocks : (s : Parameters) (b q : ℕ) (p : ℤ) (xs : List ℤ) → 1 �
 own_blocks s b q p xs j len = let bare = not_filled s q p xs j len in λ i. blocks_from s b p (bare.1 i) (bare.0 i)
 
 -- no zero blocks are sent past a segment's end
-pub exact : (s : Parameters) (b : ℕ) (p : ℤ) (n : ℕ) (xs : List ℤ) → IsLegal s → IsSample s p → All (IsSample s) xs → length xs ≡ s.block * n → begins_segment s (b + n) ≡ true →
+pub no_zeros_past_segment : (s : Parameters) (b : ℕ) (p : ℤ) (n : ℕ) (xs : List ℤ) → IsLegal s → IsSample s p → All (IsSample s) xs → length xs ≡ s.block * n → begins_segment s (b + n) ≡ true →
     length (blocks_in_all s b (data_sets s b false (blocks_from s b p n xs))) ≡ n
-exact s b p n xs legal h k e begins =
+no_zeros_past_segment s b p n xs legal h k e begins =
     let j : 1 ≤ s.block = grind (arith, legal.block) in
     let cs = blocks_from s b p n xs in
     let count : length cs ≡ n = count_blocks s b p n xs in
     let sound = blocks_sound s b p n xs legal j h (recursion_from_All (IsSample s) xs k) e in
-    let cover = covers s b false cs legal.interval_from (are_blocks s b cs sound) in
+    let cover = covers_blocks s b false cs legal.interval_from (are_blocks s b cs sound) in
     let P : ℕ → Type 0 = λ m. GoOn s (b + m) cover.fill in
     let none = no_fill s (b + n) cover.fill begins (subst P count cover.inside) in
     let Q : ℕ → Type 0 = λ m. length (blocks_in_all s m (data_sets s b false cs)) ≡ length (cs ++ replicate cover.fill (zero_block s None)) in
@@ -88,7 +88,7 @@ sets_go_on s legal b q p xs ys len begins =
     let begins' = ap (λ i. begins_segment s (b + i)) count ∙ begins in
     let later = data_sets s (b + q) false second in
     ap (λ v. data_sets s b false v) blocks
-    ∙ (segments s b false false first second legal.interval_from begins'
+    ∙ (sets_of_segments s b false false first second legal.interval_from begins'
     ∙ (ap (λ m. data_sets s b false first ++ data_sets s (b + m) false second) count ∙ ap (λ v. data_sets s b false v ++ later) (sym (own_blocks s b q p xs j len))))
 
 pub code_goes_on : (s : Parameters) → IsLegal s → (b position blocks : ℕ) (p : ℤ) (xs ys : List ℤ) → IsSample s p → All (IsSample s) xs → length xs ≡ s.block * blocks → begins_segment s (b + blocks) ≡ true →
@@ -103,7 +103,7 @@ code_goes_on s legal b position q p xs ys h k len begins =
     let own = b + block_count s (length xs) in
     let counted = (filled_behind s q p xs ys j len).1 in
     let whole = (not_filled s q p xs j len).1 in
-    let place = ap (λ v. length (blocks_in_all s b (data_sets s b false v))) (own_blocks s b q p xs j len) ∙ exact s b p q xs legal h k len begins in
+    let place = ap (λ v. length (blocks_in_all s b (data_sets s b false v))) (own_blocks s b q p xs j len) ∙ no_zeros_past_segment s b p q xs legal h k len begins in
     let inside = laid_inside s end own b position sent (omega arith) (omega arith) in
     let same : end ≡ b + q + n = omega arith in
     ap (λ v. layout s end b position v) (sets_go_on s legal b q p xs ys len begins)

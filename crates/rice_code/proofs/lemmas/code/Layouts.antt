@@ -13,7 +13,7 @@ use Rattle.rice_samples.specs.Places.{place, is_padded}
 use Rattle.rice_code.specs.code.CodedDataSets.{CodedDataSet, NoCompression, SecondExtension, Split, ZeroBlocks, RemainderOfSegment, bits_of_set}
 use Rattle.rice_code.specs.code.Forms.{blocks_in, blocks_in_all}
 use Rattle.rice_code.specs.code.Layout.{block_after, padding, bits_with_padding, layout, Lies}
-use Rattle.rice_code.proofs.lemmas.meaning.Covers.{bool_cases, both}
+use Rattle.rice_code.proofs.lemmas.meaning.Covers.{bool_cases, and-split}
 
 -- without padding the texts are joined
 no_padding : (s : Parameters) (next bits : ℕ) → s.pad ≡ false → padding s next bits ≡ 0
@@ -172,7 +172,7 @@ padding_bound s end b bits d h lt =
     let q' = ap (λ m. m / r) there in
     elim (bool_cases (is_padded s next)) [
       | inl e ↦
-          let at_end : place s next ≡ 0 = same (place s next) (both s.pad (place s next == 0) e).1 in
+          let at_end : place s next ≡ 0 = same (place s next) (and-split s.pad (place s next == 0) e).1 in
           let p = end_passed b k r h (omega arith) (ap (λ m. m % r) here ∙ at_end) in
           let p' = ap (λ m. m / r) here in
           let f : padding s next bits ≡ bits_to_byte bits = ap (λ v. cond v (bits_to_byte bits) 0) e in

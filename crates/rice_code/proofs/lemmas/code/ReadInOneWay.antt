@@ -101,9 +101,9 @@ identifier_fits s b (ZeroBlocks r z) h = let w = wide_id s in omega arith
 identifier_fits s b (RemainderOfSegment r) h = let w = wide_id s in omega arith
 
 -- two texts on one list have one identifier, and then one rest
-heads : (s : Parameters) (b : ℕ) (d e : CodedDataSet) (x y : List Bool) → IsForm s b d → IsForm s b e → bits_of_set s d ++ x ≡ bits_of_set s e ++ y →
+same_identifiers : (s : Parameters) (b : ℕ) (d e : CodedDataSet) (x y : List Bool) → IsForm s b d → IsForm s b e → bits_of_set s d ++ x ≡ bits_of_set s e ++ y →
     (identifier s d ≡ identifier s e) × (tail s d ++ x ≡ tail s e ++ y)
-heads s b d e x y hd he eq =
+same_identifiers s b d e x y hd he eq =
     let a = after_word (id_len s) (identifier s d) (identifier s e) (tail s d) (tail s e) x y
     (ap (λ t. t ++ x) (sym (text_is s d)) ∙ (eq ∙ ap (λ t. t ++ y) (text_is s e))) in
     (same_below (2 ^ id_len s) _ _ (identifier_fits s b d hd) (identifier_fits s b e he) a.0, a.1)
@@ -239,7 +239,7 @@ by_tails s b (RemainderOfSegment r) (Split n e) x y legal h k i t = absurd (omeg
 pub forms_read_in_one_way : (s : Parameters) (b : ℕ) (d e : CodedDataSet) (x y : List Bool) → IsLegal s → IsForm s b d → IsForm s b e →
     bits_of_set s d ++ x ≡ bits_of_set s e ++ y → (d ≡ e) × (x ≡ y)
 forms_read_in_one_way s b d e x y legal hd he eq =
-    let a = heads s b d e x y hd he eq in
+    let a = same_identifiers s b d e x y hd he eq in
     by_tails s b d e x y legal hd he a.0 a.1
 
 -- an identifier and what follows it

@@ -13,7 +13,7 @@ use Rattle.rice_code.specs.code.Decoded.{AreTaken}
 use Rattle.rice_code.specs.code.Forms.{blocks_in_all}
 use Rattle.rice_code.specs.code.SoundBlocks.{AreSoundBlocks}
 use Rattle.rice_code.specs.code.Layout.{block_after, padding, bits_with_padding, layout}
-use Rattle.rice_code.proofs.lemmas.meaning.Covers.{covers}
+use Rattle.rice_code.proofs.lemmas.meaning.Covers.{covers_blocks}
 use Rattle.rice_code.proofs.lemmas.code.Layouts.{BeginBefore, ends_inside, sent_first, some_block}
 use Rattle.rice_code.proofs.lemmas.cost.PaddingBounds.{are_blocks}
 use Rattle.rice_code.proofs.lemmas.code.SegmentPlaces.{none_padded}
@@ -57,7 +57,7 @@ laid_segment s start position cs legal sound some few =
     let end = start + length cs in
     let ds = data_sets s start false cs in
     let j : 1 ≤ s.block = grind (arith, legal.block) in
-    let cover = covers s start false cs legal.interval_from (are_blocks s start cs sound) in
+    let cover = covers_blocks s start false cs legal.interval_from (are_blocks s start cs sound) in
     let here : start + 0 ≡ start = omega arith in
     let all : length (blocks_in_all s (start + 0) ds) ≡ length (cs ++ replicate cover.fill (zero_block s None)) = ap length cover.blocks in
     let reach : end ≤ start + length (blocks_in_all s start ds) = omega (arith, ap (λ m. length (blocks_in_all s m ds)) here, all, length-append cs (replicate cover.fill (zero_block s None))) in

@@ -7,7 +7,7 @@ use Rattle.std.proofs.Math.Nat.{div-add-mod, mod-lt, mod-eq_of_lt, mul-le-mul_le
 use Rattle.rice_samples.specs.Parameters.{Parameters}
 use Rattle.rice_samples.specs.Places.{place, segment_start, begins_segment, blocks_left, is_padded, cut}
 use Rattle.rice_samples.proofs.lemmas.setting.PlaceLemmas.{next_place, some_left}
-use Rattle.rice_code.proofs.lemmas.meaning.Covers.{bool_cases, both}
+use Rattle.rice_code.proofs.lemmas.meaning.Covers.{bool_cases, and-split}
 
 -- places go on inside a segment
 pub place_inside : (s : Parameters) (b q : ℕ) → 1 ≤ s.interval → q < blocks_left s b → place s (b + q) ≡ place s b + q
@@ -87,7 +87,7 @@ pub none_padded : (s : Parameters) (b q : ℕ) → 1 ≤ s.interval → 1 ≤ q 
 none_padded s b q h some k =
     elim (bool_cases (is_padded s (b + q))) [
       | inr e ↦ e
-      | inl e ↦ absurd (let first = same (place s (b + q)) (both s.pad (place s (b + q) == 0) e).1 in omega (arith, first, place_inside s b q h k))
+      | inl e ↦ absurd (let first = same (place s (b + q)) (and-split s.pad (place s (b + q) == 0) e).1 in omega (arith, first, place_inside s b q h k))
     ]
   where
     same : (m : ℕ) → (m == 0) ≡ true → m ≡ 0

@@ -51,14 +51,14 @@ head_of_segment s b v w (c ∷ cs) e =
     no false = refl
 
 -- the coded data sets of whole segments, and of what follows
-pub segments : (s : Parameters) (b : ℕ) (v w : Bool) (cs ds : List BlockData) → 1 ≤ s.interval → begins_segment s (b + length cs) ≡ true →
+pub sets_of_segments : (s : Parameters) (b : ℕ) (v w : Bool) (cs ds : List BlockData) → 1 ≤ s.interval → begins_segment s (b + length cs) ≡ true →
     data_sets s b v (cs ++ ds) ≡ data_sets s b v cs ++ data_sets s (b + length cs) w ds
-segments s b v w [] ds h e =
+sets_of_segments s b v w [] ds h e =
     let n : b + 0 ≡ b = omega arith in
     ap (λ m. data_sets s m v ds) (sym n) ∙ head_of_segment s (b + 0) v w ds e
-segments s b v w (c ∷ cs) ds h e =
+sets_of_segments s b v w (c ∷ cs) ds h e =
     let n : b + suc (length cs) ≡ b + 1 + length cs = omega arith in
-    let rest = segments s (b + 1) (is_zero_block c) w cs ds h (ap (λ m. begins_segment s m) (sym n) ∙ e) in
+    let rest = sets_of_segments s (b + 1) (is_zero_block c) w cs ds h (ap (λ m. begins_segment s m) (sym n) ∙ e) in
     let first : data_set_at s b v c (cs ++ ds) ≡ data_set_at s b v c cs =
     ap (λ run. cond (is_zero_block c) (cond (v && not (begins_segment s b)) [] (run ∷ [])) (shortest s c ∷ [])) (same_run s b c.reference (c ∷ cs) ds (ends_before s b (length cs) h e)) in
     (λ i. first i ++ rest i) ∙ (sym (append_assoc (data_set_at s b v c cs) (data_sets s (b + 1) (is_zero_block c) cs) (data_sets s (b + 1 + length cs) w ds))

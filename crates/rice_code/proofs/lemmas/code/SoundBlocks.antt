@@ -17,7 +17,7 @@ use Rattle.rice_code.specs.code.Code.{bits_from}
 use Rattle.rice_code.specs.Bounds.{bit_bound}
 use Rattle.rice_code.specs.code.Forms.{IsReference}
 use Rattle.rice_code.specs.code.SoundBlocks.{IsSoundBlock, AreSoundBlocks}
-use Rattle.rice_code.proofs.lemmas.cost.BlockBounds.{bounded}
+use Rattle.rice_code.proofs.lemmas.cost.BlockBounds.{blocks_are_bounded}
 
 abbrev Samples : Parameters → List ℤ → Type 0
 Samples s xs = AllByRecursion (IsSample s) xs
@@ -75,8 +75,8 @@ count_blocks s b p zero xs = refl
 count_blocks s b p (suc n) xs = ap (λ m. suc m) (count_blocks s (b + 1) (last_of p (take s.block xs)) n (drop s.block xs))
 
 -- filled up, the samples make whole blocks
-whole : (j n : ℕ) → 1 ≤ j → n + (n + (j - n % j) % j - n) ≡ j * (n / j + min 1 (n % j))
-whole j n h =
+filled_to_whole_blocks : (j n : ℕ) → 1 ≤ j → n + (n + (j - n % j) % j - n) ≡ j * (n / j + min 1 (n % j))
+filled_to_whole_blocks j n h =
     let e = div-add-mod n j in
     elim (cases_lt 0 (n % j)) [
       | inl some ↦ let f = mod-eq_of_lt (rest_below j n h some) in let g : min 1 (n % j) ≡ 1 = omega arith in let k = ap (λ v. j * (n / j + v)) g in let b = mod-lt n h in omega arith
@@ -87,7 +87,7 @@ whole j n h =
     rest_below j n h k = omega arith
 
 pub filled_len : (s : Parameters) (p : ℤ) (xs : List ℤ) → 1 ≤ s.block → length (filled_samples s p xs) ≡ s.block * block_count s (length xs)
-filled_len s p xs j = length-append xs _ ∙ (ap (λ n. length xs + n) (length-replicate (next_multiple_of (length xs) s.block - length xs) (last_of p xs)) ∙ whole s.block (length xs) j)
+filled_len s p xs j = length-append xs _ ∙ (ap (λ n. length xs + n) (length-replicate (next_multiple_of (length xs) s.block - length xs) (last_of p xs)) ∙ filled_to_whole_blocks s.block (length xs) j)
 
 pub blocks_sound_behind : (s : Parameters) (b : ℕ) (p : ℤ) (xs : List ℤ) → IsLegal s → 1 ≤ s.block → IsSample s p → Samples s xs → AreSoundBlocks s b (blocks_of s b p xs)
 blocks_sound_behind s b p xs legal j h k =
@@ -96,7 +96,7 @@ blocks_sound_behind s b p xs legal j h k =
 pub code_is_bounded : (s : Parameters) → IsLegal s → (b : ℕ) (p : ℤ) (xs : List ℤ) → IsSample s p → All (IsSample s) xs → bits_from s b p xs ≤ bit_bound s (length xs)
 code_is_bounded s legal b p xs h k =
     let j : 1 ≤ s.block = grind (arith, legal.block) in
-    let bound = bounded s b false (blocks_of s b p xs) legal (blocks_sound_behind s b p xs legal j h (recursion_from_All (IsSample s) xs k)) in
+    let bound = blocks_are_bounded s b false (blocks_of s b p xs) legal (blocks_sound_behind s b p xs legal j h (recursion_from_All (IsSample s) xs k)) in
     let n = count_blocks s b p (block_count s (length xs)) (filled_samples s p xs) in
     at _ _ _ _ bound n
   where

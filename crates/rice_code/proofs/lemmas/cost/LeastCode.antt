@@ -30,8 +30,8 @@ least_split s c k le =
     let there = get_or-map-range_with_len (λ (k : ℕ). Split k c) 0 (k_max s + 1) k k (NoCompression c) (omega (arith, le)) (omega arith) in
     subst (λ (d : CodedDataSet). cost s (shortest s c) ≤ cost s d) there (choice_is_least s c (suc (suc k)) (NoCompression c) (omega (arith, size, le)))
 
-four : (s : Parameters) (b : ℕ) (x : BlockData) → 4 ≤ s.block → IsSoundBlock s b x → 4 ≤ length x.residuals
-four s b x size sound = omega (arith, sound.block.len, size)
+four_residuals : (s : Parameters) (b : ℕ) (x : BlockData) → 4 ≤ s.block → IsSoundBlock s b x → 4 ≤ length x.residuals
+four_residuals s b x size sound = omega (arith, sound.block.len, size)
 
 -- What an option of a block costs, beside those of a block whose residuals are no greater.
 record IsPaid (s : Parameters) (c x : BlockData) (d : CodedDataSet) : Type 0 where
@@ -83,47 +83,47 @@ by_set s fill b end p q n number others r cs ys d legal is some le word text blo
     by_run s fill b end p q (n - 1) number others r cs ys is legal.interval_from (omega (arith, some, le)) (subst (λ (m : ℕ). IsLeastCodeword s b m number) count word) e begins below first after
 
 -- The coder's code of blocks ends no later than coded data sets that begin no earlier, and stand for blocks of which none is smaller, and perhaps for more.
-pub least : (s : Parameters) (fill : ℕ → ℕ → ℕ) → IsLegal s → 4 ≤ s.block → IsFill s fill → (b end p q : ℕ) (cs : List BlockData) (ds : List CodedDataSet) → end ≡ b + length cs → p ≤ q → AreTaken s None b ds → BeginAtMost cs (blocks_in_all s b ds) →
+pub ends_no_later : (s : Parameters) (fill : ℕ → ℕ → ℕ) → IsLegal s → 4 ≤ s.block → IsFill s fill → (b end p q : ℕ) (cs : List BlockData) (ds : List CodedDataSet) → end ≡ b + length cs → p ≤ q → AreTaken s None b ds → BeginAtMost cs (blocks_in_all s b ds) →
     code_end s fill end b p (data_sets s b false cs) ≤ taken_end s fill b q ds
-least s fill legal size is b end p q [] ds e begins taken below = omega (arith, begins, never_back s fill b q ds is)
-least s fill legal size is b end p q (c ∷ cs) [] e begins taken below = absurd below
-least s fill legal size is b end p q (c ∷ cs) (NoCompression x ∷ ds) e begins taken below =
+ends_no_later s fill legal size is b end p q [] ds e begins taken below = omega (arith, begins, never_back s fill b q ds is)
+ends_no_later s fill legal size is b end p q (c ∷ cs) [] e begins taken below = absurd below
+ends_no_later s fill legal size is b end p q (c ∷ cs) (NoCompression x ∷ ds) e begins taken below =
     let form = taken.1 in
     let sound : IsSoundBlock s b x = record { block = form.0; at_reference = form.1; fit = form.2 } in
     let paid : IsPaid s c x (NoCompression x) = record {
       chosen = omega (arith, choice_is_least s c 0 (NoCompression c) (omega arith), no_compression_at_most s c x below.0);
-      run = no_compression_exceeds s x (four s b x size sound) legal.bits_from;
+      run = no_compression_exceeds s x (four_residuals s b x size sound) legal.bits_from;
     } in
-    one_block s fill b end p q _ c x cs (NoCompression x) legal is below.0 sound form paid e begins (λ position le. least s fill legal size is (b + 1) end position _ cs ds (omega (arith, e)) le taken.4 below.1)
-least s fill legal size is b end p q (c ∷ cs) (SecondExtension x ∷ ds) e begins taken below =
+    one_block s fill b end p q _ c x cs (NoCompression x) legal is below.0 sound form paid e begins (λ position le. ends_no_later s fill legal size is (b + 1) end position _ cs ds (omega (arith, e)) le taken.4 below.1)
+ends_no_later s fill legal size is b end p q (c ∷ cs) (SecondExtension x ∷ ds) e begins taken below =
     let form = taken.1 in
     let sound : IsSoundBlock s b x = record { block = form; at_reference = taken.3.0; fit = taken.3.1 } in
     let paid : IsPaid s c x (SecondExtension x) = record {
       chosen = omega (arith, choice_is_least s c 1 (NoCompression c) (omega arith), second_extension_at_most s c x below.0);
-      run = second_extension_exceeds s x (four s b x size sound);
+      run = second_extension_exceeds s x (four_residuals s b x size sound);
     } in
-    one_block s fill b end p q _ c x cs (SecondExtension x) legal is below.0 sound form paid e begins (λ position le. least s fill legal size is (b + 1) end position _ cs ds (omega (arith, e)) le taken.4 below.1)
-least s fill legal size is b end p q (c ∷ cs) (Split k x ∷ ds) e begins taken below =
+    one_block s fill b end p q _ c x cs (SecondExtension x) legal is below.0 sound form paid e begins (λ position le. ends_no_later s fill legal size is (b + 1) end position _ cs ds (omega (arith, e)) le taken.4 below.1)
+ends_no_later s fill legal size is b end p q (c ∷ cs) (Split k x ∷ ds) e begins taken below =
     let form = taken.1 in
     let sound : IsSoundBlock s b x = record { block = form.0; at_reference = form.1; fit = taken.3 } in
     let paid : IsPaid s c x (Split k x) = record {
       chosen = omega (arith, least_split s c k form.2, split_at_most s k c x below.0);
-      run = split_exceeds s k x (four s b x size sound);
+      run = split_exceeds s k x (four_residuals s b x size sound);
     } in
-    one_block s fill b end p q _ c x cs (Split k x) legal is below.0 sound form paid e begins (λ position le. least s fill legal size is (b + 1) end position _ cs ds (omega (arith, e)) le taken.4 below.1)
-least s fill legal size is b end p q (c ∷ cs) (ZeroBlocks r n ∷ ds) e begins taken below =
+    one_block s fill b end p q _ c x cs (Split k x) legal is below.0 sound form paid e begins (λ position le. ends_no_later s fill legal size is (b + 1) end position _ cs ds (omega (arith, e)) le taken.4 below.1)
+ends_no_later s fill legal size is b end p q (c ∷ cs) (ZeroBlocks r n ∷ ds) e begins taken below =
     let d = ZeroBlocks r n in
     let next = block_after s b d in
     let bits = fill next (q + length (bits_of_set s d)) in
     by_set s fill b end p q n (run_number n) _ r (c ∷ cs) (blocks_in_all s next ds) d legal is taken.1.1 taken.2.0 (inl (omega arith)) (omega (arith, numbered_run_len s r n)) refl e begins below (never_back s fill next bits ds is)
-    (λ rest position under len le. least s fill legal size is next end position bits rest ds len le taken.4 under)
-least s fill legal size is b end p q (c ∷ cs) (RemainderOfSegment r ∷ ds) e begins taken below =
+    (λ rest position under len le. ends_no_later s fill legal size is next end position bits rest ds len le taken.4 under)
+ends_no_later s fill legal size is b end p q (c ∷ cs) (RemainderOfSegment r ∷ ds) e begins taken below =
     let d = RemainderOfSegment r in
     let next = block_after s b d in
     let bits = fill next (q + length (bits_of_set s d)) in
     by_set s fill b end p q (blocks_left s b) 4 _ r (c ∷ cs) (blocks_in_all s next ds) d legal is (some_left s b legal.interval_from).0 (omega arith) (inr (omega arith, refl)) (omega (arith, remainder_len s r)) refl e begins below (never_back s fill next bits ds is)
-    (λ rest position under len le. least s fill legal size is next end position bits rest ds len le taken.4 under)
+    (λ rest position under len le. ends_no_later s fill legal size is next end position bits rest ds len le taken.4 under)
 
 pub no_sets_are_shorter : NoSetsAreShorter
 no_sets_are_shorter s legal size b cs more ds taken e =
-    omega (arith, least s unfilled legal size (unfilled_is s) b (b + length cs) 0 0 cs ds refl (omega arith) taken (subst (BeginAtMost cs) (sym e) (begin_with cs more)), sent_bits s (b + length cs) b 0 (data_sets s b false cs), taken_bits s b 0 ds)
+    omega (arith, ends_no_later s unfilled legal size (unfilled_is s) b (b + length cs) 0 0 cs ds refl (omega arith) taken (subst (BeginAtMost cs) (sym e) (begin_with cs more)), sent_bits s (b + length cs) b 0 (data_sets s b false cs), taken_bits s b 0 ds)

@@ -97,9 +97,9 @@ record GoesOn (s : Parameters) (fill : ℕ → ℕ → ℕ) (b : ℕ) (cs : List
   pub laid : (end p : ℕ) → end ≡ b + length cs → code_end s fill end b p (data_sets s b false cs)
       ≡ (let next = b + run_len s b cs in code_end s fill end next (fill next (p + length (bits_of_set s (zero_run s b reference cs)))) (data_sets s b true cs))
 
-afresh : (s : Parameters) (fill : ℕ → ℕ → ℕ) (b : ℕ) (cs : List BlockData) → 1 ≤ s.interval → ((skipped s b true cs ≡ 0) × (data_sets s b true cs ≡ data_sets s b false cs)) ⊎ GoesOn s fill b cs
-afresh s fill b [] h = inl (skipped_nil s b true, refl)
-afresh s fill b (c ∷ cs) h =
+run_or_afresh : (s : Parameters) (fill : ℕ → ℕ → ℕ) (b : ℕ) (cs : List BlockData) → 1 ≤ s.interval → ((skipped s b true cs ≡ 0) × (data_sets s b true cs ≡ data_sets s b false cs)) ⊎ GoesOn s fill b cs
+run_or_afresh s fill b [] h = inl (skipped_nil s b true, refl)
+run_or_afresh s fill b (c ∷ cs) h =
     elim (bool_cases (begins_segment s b)) [
       | inl e ↦ inl (skipped_stop s b true (c ∷ cs) (ap not e), head_of_segment s b true false (c ∷ cs) e)
       | inr e ↦ elim (bool_cases (is_zero_block c)) [
@@ -157,7 +157,7 @@ run_and_more s fill b end p q w number others r rest is h le word e begins more 
     let later = data_sets s here true rest in
     let count = front_count s b w r rest h le in
     let laid = front_laid s fill b end p w r rest h le e in
-    elim (afresh s fill here rest h) [
+    elim (run_or_afresh s fill here rest h) [
       | inl none ↦
           let exact : z ≡ suc w = omega (arith, count, none.0) in
           let few : zeros_of_run v z ≤ number = elim word [

@@ -70,10 +70,10 @@ plain_pays s c k h b =
     omega (arith, e, f)
 
 -- a sum is at least its sum without k digits, doubled for each digit
-grows : (ds : List ℕ) (k : ℕ) → suc k * cut_sum ds k ≤ cut_sum ds 0
-grows ds zero = omega arith
-grows ds (suc k) =
-    let ih = grows ds k in
+cut_sum_grows : (ds : List ℕ) (k : ℕ) → suc k * cut_sum ds k ≤ cut_sum ds 0
+cut_sum_grows ds zero = omega arith
+cut_sum_grows ds (suc k) =
+    let ih = cut_sum_grows ds k in
     let e : suc k ≡ k + 1 = omega arith in
     let g = ap (cut_sum ds) e in
     let h = sum_halves ds k in
@@ -120,7 +120,7 @@ second_pays s c (suc k) half e h b =
     let at = ap (cut_sum (sent_residuals c)) g in
     let more : l + 1 ≤ cut_sum (sent_residuals c) k = larger l k (id_len s + reference_len s c.reference) (cut_sum (sent_residuals c) k) (cut_sum (sent_residuals c) (suc k)) first in
     let p : suc k * (l + 1) ≤ suc k * cut_sum (sent_residuals c) k = mul-le-mul_left (suc k) more in
-    let q = grows (sent_residuals c) k in
+    let q = cut_sum_grows (sent_residuals c) k in
     let same = coded_sum c.reference c.residuals 0 h.zero in
     let pairs = pairs_cover half c.residuals (omega (arith, h.len, e)) in
     let most = coded_most c.reference c.residuals in

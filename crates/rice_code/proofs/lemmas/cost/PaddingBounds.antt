@@ -20,7 +20,7 @@ use Rattle.rice_code.specs.code.Forms.{blocks_in_all}
 use Rattle.rice_code.specs.code.Code.{sets_from, code, code_from, code_bits, bits_from}
 use Rattle.rice_code.specs.code.Decoded.{AreTaken}
 use Rattle.rice_code.specs.Bounds.{padding_bound}
-use Rattle.rice_code.proofs.lemmas.meaning.Covers.{bool_cases, GoOn, AreBlocks, covers}
+use Rattle.rice_code.proofs.lemmas.meaning.Covers.{bool_cases, GoOn, AreBlocks, covers_blocks}
 use Rattle.rice_code.proofs.lemmas.code.Layouts.{BeginBefore, laid_plain, laid_bound}
 use Rattle.rice_code.proofs.lemmas.meaning.SentSets.{are_taken, begin_before}
 use Rattle.std.proofs.Math.Nat.{mul-le-mul_left, mul-le-mul_right}
@@ -33,8 +33,8 @@ are_blocks s b [] h = tt
 are_blocks s b (c ∷ cs) h = (h.0.block, are_blocks s (b + 1) cs h.1)
 
 -- blocks that begin no segment begin no interval
-pub starts : (s : Parameters) (b : ℕ) → place s b ≡ 0 → begins_segment s b ≡ true
-starts s b e = grind (arith, nat_tests)
+pub interval_begins_segment : (s : Parameters) (b : ℕ) → place s b ≡ 0 → begins_segment s b ≡ true
+interval_begins_segment s b e = grind (arith, nat_tests)
 
 pub inside_interval : (s : Parameters) (b n : ℕ) → 1 ≤ s.interval → GoOn s b n → (b + n) / s.interval ≤ div_ceil b s.interval
 inside_interval s b zero h k = let e : b + 0 ≡ b = omega arith in let f = ap (λ m. m / s.interval) e in omega arith
@@ -43,7 +43,7 @@ inside_interval s b (suc n) h k =
     let ih = inside_interval s (b + 1) n h k.1 in
     let e : b + 1 + n ≡ b + suc n = omega arith in
     let f = ap (λ m. m / r) e in
-    let some : 1 ≤ b % r = elim (cases_lt 0 (b % r)) [ inl lt ↦ lt | inr le ↦ absurd (let none : b % r ≡ 0 = omega arith in let g : true ≡ false = sym (starts s b none) ∙ k.0 in cc) ] in
+    let some : 1 ≤ b % r = elim (cases_lt 0 (b % r)) [ inl lt ↦ lt | inr le ↦ absurd (let none : b % r ≡ 0 = omega arith in let g : true ≡ false = sym (interval_begins_segment s b none) ∙ k.0 in cc) ] in
     let up = ceil_step b r h some in
     omega arith
   where
@@ -90,7 +90,7 @@ padding_from s legal b position p xs h k =
     let cs = blocks_of s b p xs in
     let sets = sets_from s b p xs in
     let sound = blocks_sound_behind s b p xs legal j h (recursion_from_All (IsSample s) xs k) in
-    let cover = covers s b false cs legal.interval_from (are_blocks s b cs sound) in
+    let cover = covers_blocks s b false cs legal.interval_from (are_blocks s b cs sound) in
     let n : length cs ≡ count = count_blocks s b p count (filled_samples s p xs) in
     elim (bool_cases s.pad) [
       | inr e ↦

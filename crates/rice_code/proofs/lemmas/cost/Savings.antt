@@ -32,10 +32,10 @@ sum_falls ds k (suc m) =
     omega (arith, f, sum_falls ds k m, sum_halves ds (k + m))
 
 -- where the next is no shorter, none after it is
-pub stops : (ds : List ℕ) (l k m : ℕ) → l * (k + 1) + cut_sum ds k ≤ l * (k + 1 + 1) + cut_sum ds (k + 1) → l * (k + 1) + cut_sum ds k ≤ l * (k + m + 1) + cut_sum ds (k + m)
-stops ds l k zero h = let e : k + 0 ≡ k = omega arith in let f = ap (λ n. l * (n + 1) + cut_sum ds n) e in omega arith
-stops ds l k (suc m) h =
-    let ih = stops ds l k m h in
+pub no_later_is_shorter : (ds : List ℕ) (l k m : ℕ) → l * (k + 1) + cut_sum ds k ≤ l * (k + 1 + 1) + cut_sum ds (k + 1) → l * (k + 1) + cut_sum ds k ≤ l * (k + m + 1) + cut_sum ds (k + m)
+no_later_is_shorter ds l k zero h = let e : k + 0 ≡ k = omega arith in let f = ap (λ n. l * (n + 1) + cut_sum ds n) e in omega arith
+no_later_is_shorter ds l k (suc m) h =
+    let ih = no_later_is_shorter ds l k m h in
     let e : k + suc m ≡ k + m + 1 = omega arith in
     let f = ap (λ n. l * (n + 1) + cut_sum ds n) e in
     let low : cut_sum ds (k + m) ≤ cut_sum ds (k + m + 1) + l = below m in
@@ -50,19 +50,19 @@ stops ds l k (suc m) h =
         let i = sum_halves ds k in
         omega (arith, f, g, i, h)
 
-pub less : (m n : ℕ) → m < n → nat_lt m n ≡ true
-less m n h = grind (arith, nat_tests)
+pub nat_lt-true : (m n : ℕ) → m < n → nat_lt m n ≡ true
+nat_lt-true m n h = grind (arith, nat_tests)
 
 pub not_less : (m n : ℕ) → n ≤ m → nat_lt m n ≡ false
 not_less m n h = grind (arith, nat_tests)
 
 -- no option after is shorter, so the first stays
-pub kept : {A : Type 0} (f : A → ℕ) (g : ℕ → A) (a : A) (from n : ℕ) → ((j : ℕ) → from ≤ j → j < from + n → f a ≤ f (g j)) → best_of (λ x y. nat_lt (f x) (f y)) a (map g (range_with_len from n)) ≡ a
-kept f g a from zero h = refl
-kept f g a from (suc n) h =
+pub first_is_kept : {A : Type 0} (f : A → ℕ) (g : ℕ → A) (a : A) (from n : ℕ) → ((j : ℕ) → from ≤ j → j < from + n → f a ≤ f (g j)) → best_of (λ x y. nat_lt (f x) (f y)) a (map g (range_with_len from n)) ≡ a
+first_is_kept f g a from zero h = refl
+first_is_kept f g a from (suc n) h =
     let e : nat_lt (f (g from)) (f a) ≡ false = no (f (g from)) (f a) (h from (omega arith) (omega arith)) in
     ap (λ v. best_of (λ x y. nat_lt (f x) (f y)) (cond v (g from) a) (map g (range_with_len (from + 1) n))) e
-    ∙ kept f g a (from + 1) n (λ j p q. h j (omega arith) (omega arith))
+    ∙ first_is_kept f g a (from + 1) n (λ j p q. h j (omega arith) (omega arith))
   where
     no : (m n : ℕ) → n ≤ m → nat_lt m n ≡ false
     no m n h = grind (arith, nat_tests)
@@ -90,11 +90,11 @@ best_numbered {A} f g a from (suc n) k h i first least =
           let same : from ≡ k = omega arith in
           elim (bool_cases (nat_lt (f (g from)) (f a))) [
             | inl e ↦
-                step true e ∙ (kept f g (g from) (from + 1) n (λ j p q. subst (λ n. f (g n) ≤ f (g j)) (sym same) (least j (omega arith)))
+                step true e ∙ (first_is_kept f g (g from) (from + 1) n (λ j p q. subst (λ n. f (g n) ≤ f (g j)) (sym same) (least j (omega arith)))
                 ∙ (sym (ap (λ v. cond v (g from) a) e) ∙ ap (λ n. cond (nat_lt (f (g n)) (f a)) (g n) a) same))
             | inr e ↦
                 let over : f a ≤ f (g from) = at_least (f (g from)) (f a) e in
-                step false e ∙ (kept f g a (from + 1) n (λ j p q. let l = subst (λ n. f (g n) ≤ f (g j)) (sym same) (least j (omega arith)) in omega arith)
+                step false e ∙ (first_is_kept f g a (from + 1) n (λ j p q. let l = subst (λ n. f (g n) ≤ f (g j)) (sym same) (least j (omega arith)) in omega arith)
                 ∙ (sym (ap (λ v. cond v (g from) a) e) ∙ ap (λ n. cond (nat_lt (f (g n)) (f a)) (g n) a) same))
           ]
     ]
@@ -117,7 +117,7 @@ best_where_it_stops s c k h first stop = record {
     | inr le ↦
         let m = j - k in
         let e : k + m ≡ j = omega arith in
-        let f = stops (sent_residuals c) (length (sent_residuals c)) k m (omega arith) in
+        let f = no_later_is_shorter (sent_residuals c) (length (sent_residuals c)) k m (omega arith) in
         let g = ap (λ n. cost s (Split n c)) e in
         omega (arith, f, g)
   ];
@@ -150,17 +150,17 @@ shortest_is s c k h =
     best_numbered (cost s) (λ k. Split k c) (cond (nat_lt (cost s (SecondExtension c)) (cost s (NoCompression c))) (SecondExtension c) (NoCompression c)) 0 (k_max s + 1) k (omega arith) (omega arith) (λ j p q. h.first j q) (λ j p. h.least j (omega arith))
 
 -- where each split up to k is shorter than the one before, k is shorter than all before it
-falling : (s : Parameters) (c : BlockData) (k : ℕ) → ((j : ℕ) → j < k → cost s (Split (j + 1) c) < cost s (Split j c)) → (j : ℕ) → j < k → cost s (Split k c) < cost s (Split j c)
-falling s c zero h j lt = absurd (omega arith)
-falling s c (suc k) h j lt =
+shorter_than_before : (s : Parameters) (c : BlockData) (k : ℕ) → ((j : ℕ) → j < k → cost s (Split (j + 1) c) < cost s (Split j c)) → (j : ℕ) → j < k → cost s (Split k c) < cost s (Split j c)
+shorter_than_before s c zero h j lt = absurd (omega arith)
+shorter_than_before s c (suc k) h j lt =
     let e : k + 1 ≡ suc k = omega arith in
     let ShorterThanBefore : ℕ → Type 0 = λ n. cost s (Split n c) < cost s (Split j c) in
-    subst ShorterThanBefore e (first_more s c k (falling s c k (λ i p. h i (omega arith))) (h k (omega arith)) j (omega arith))
+    subst ShorterThanBefore e (first_more s c k (shorter_than_before s c k (λ i p. h i (omega arith))) (h k (omega arith)) j (omega arith))
 
 pub first_stop_is_best : (s : Parameters) (c : BlockData) (k : ℕ) → k ≤ k_max s → ((j : ℕ) → j < k → cost s (Split (j + 1) c) < cost s (Split j c)) →
     (cost s (Split k c) ≤ cost s (Split (k + 1) c)) ⊎ (k ≡ k_max s) → IsBestSplit s c k
-first_stop_is_best s c k le h (inl stop) = best_where_it_stops s c k le (falling s c k h) stop
-first_stop_is_best s c k le h (inr end) = best_where_it_ends s c k end (falling s c k h)
+first_stop_is_best s c k le h (inl stop) = best_where_it_stops s c k le (shorter_than_before s c k h) stop
+first_stop_is_best s c k le h (inr end) = best_where_it_ends s c k end (shorter_than_before s c k h)
 
 -- the residual at the reference place adds nothing
 pub coded_sum : (r : Option ℕ) (ds : List ℕ) (k : ℕ) → OnSome r (slice_index ds 0 ≡ 0) → cut_sum (sent_from r ds) k ≡ cut_sum ds k
@@ -194,8 +194,8 @@ sum_stop_is_best s c k at_reference le falls ends =
     no_shorter l base k x y h = omega arith
 
 -- the one that is taken of two is no longer than either
-lesser : {A : Type 0} (f : A → ℕ) (a x : A) → (f (cond (nat_lt (f x) (f a)) x a) ≤ f a) × (f (cond (nat_lt (f x) (f a)) x a) ≤ f x)
-lesser {A} f a x = by_test (nat_lt (f x) (f a)) refl
+taken_is_no_longer : {A : Type 0} (f : A → ℕ) (a x : A) → (f (cond (nat_lt (f x) (f a)) x a) ≤ f a) × (f (cond (nat_lt (f x) (f a)) x a) ≤ f x)
+taken_is_no_longer {A} f a x = by_test (nat_lt (f x) (f a)) refl
   where
     less : (m n : ℕ) → nat_lt m n ≡ true → m < n
     less m n e = grind (arith, nat_tests)
@@ -212,7 +212,7 @@ best_is_least : {A : Type 0} (f : A → ℕ) (a : A) (xs : List A) → AllByRecu
 best_is_least f a [] = (omega arith, tt)
 best_is_least f a (x ∷ xs) =
     let ih = best_is_least f (cond (nat_lt (f x) (f a)) x a) xs in
-    let both = lesser f a x in
+    let both = taken_is_no_longer f a x in
     let first = ih.0 in
     (omega arith, (omega arith, ih.1))
 

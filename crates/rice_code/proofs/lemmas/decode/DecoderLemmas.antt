@@ -201,16 +201,16 @@ block_limit s legal = grind (arith, legal.block)
 few_samples : (blocks size bits : ℕ) → size ≤ 64 → 64 * blocks ≤ 456 * bits → blocks * size ≤ 456 * bits
 few_samples blocks size bits h k = let m : blocks * size ≤ blocks * 64 = mul-le-mul_left blocks h in omega arith
 
-identified : (s : Parameters) (id : ℕ) (rest : List Bool) → length (word (id_len s) id ++ rest) ≡ id_len s + length rest
-identified s id rest = length-append (word (id_len s) id) rest ∙ ap (λ n. n + length rest) (length-word (id_len s) id)
+length-identified : (s : Parameters) (id : ℕ) (rest : List Bool) → length (word (id_len s) id ++ rest) ≡ id_len s + length rest
+length-identified s id rest = length-append (word (id_len s) id) rest ∙ ap (λ n. n + length rest) (length-word (id_len s) id)
 
 run_bits : (s : Parameters) (r : Option ℕ) (zero_block : ℕ) → 5 + zero_block ≤ length (word (id_len s) 0 ++ false ∷ run_tail s r zero_block)
-run_bits s r m = omega (arith, long_id s, identified s 0 (false ∷ run_tail s r m), length-append (reference_bits s r) (fundamental_sequence m), length-fundamental_sequence m)
+run_bits s r m = omega (arith, long_id s, length-identified s 0 (false ∷ run_tail s r m), length-append (reference_bits s r) (fundamental_sequence m), length-fundamental_sequence m)
 
 few_blocks : (s : Parameters) (b : ℕ) (d : CodedDataSet) → IsLegal s → IsForm s b d → RunIsSound s b d → 64 * length (blocks_in s b d) ≤ 456 * length (bits_of_set s d)
-few_blocks s b (NoCompression c) legal form run = omega (arith, long_id s, identified s (2 ^ id_len s - 1) (no_compression_tail s c))
-few_blocks s b (SecondExtension c) legal form run = omega (arith, long_id s, identified s 0 (true ∷ second_extension_tail s c))
-few_blocks s b (Split k c) legal form run = omega (arith, long_id s, identified s (k + 1) (split_tail s k c))
+few_blocks s b (NoCompression c) legal form run = omega (arith, long_id s, length-identified s (2 ^ id_len s - 1) (no_compression_tail s c))
+few_blocks s b (SecondExtension c) legal form run = omega (arith, long_id s, length-identified s 0 (true ∷ second_extension_tail s c))
+few_blocks s b (Split k c) legal form run = omega (arith, long_id s, length-identified s (k + 1) (split_tail s k c))
 few_blocks s b (ZeroBlocks r z) legal form run =
     let n : length (replicate (z - 1) (zero_block s None)) ≡ z - 1 = length-replicate (z - 1) (zero_block s None) in
     let m : z ≤ run_number z + 1 = grind (arith, nat_tests) in
@@ -231,16 +231,16 @@ samples_by_bits old new first last s b p samples run legal given =
     let k : (1 + run) * s.block ≡ length (blocks_in s b given.set) * s.block = ap (λ j. j * s.block) (omega arith) in
     omega (arith, given.gives.len)
 
-ends : {I : Type 0} (old new : Reader I) (first last : ℕ) (s : Parameters) (b : ℕ) (blank : Bool) → old.blank ≡ true → SetCut old new first last s b (bit_faults.End blank) → SetEnds old new first last s b blank
-ends old new first last s b blank h cut = record {
+cut_at_end : {I : Type 0} (old new : Reader I) (first last : ℕ) (s : Parameters) (b : ℕ) (blank : Bool) → old.blank ≡ true → SetCut old new first last s b (bit_faults.End blank) → SetEnds old new first last s b blank
+cut_at_end old new first last s b blank h cut = record {
   cut = cut;
   told = ap (λ t. t && is_blank cut.bits) (sym h) ∙ (sym cut.stops.blank ∙ sym cut.stops.refuses.3);
 }
 
 -- where the reader refuses, the decoder stops so
 pub stops_by : {I : Type 0} (old new : Reader I) (first last : ℕ) (s : Parameters) (b : ℕ) (fault : BitFault) → old.blank ≡ true → SetCut old new first last s b fault → StopsBy old new first last s b (answer_to fault)
-stops_by old new first last s b (bit_faults.End true) h cut = ends old new first last s b true h cut
-stops_by old new first last s b (bit_faults.End false) h cut = ends old new first last s b false h cut
+stops_by old new first last s b (bit_faults.End true) h cut = cut_at_end old new first last s b true h cut
+stops_by old new first last s b (bit_faults.End false) h cut = cut_at_end old new first last s b false h cut
 stops_by old new first last s b bit_faults.Read h cut = cut
 stops_by old new first last s b bit_faults.TooLong h cut = cut
 

@@ -18,7 +18,7 @@ use Rattle.rice_bits.proofs.lemmas.bits.Words.{length-fundamental_sequence}
 use Rattle.rice_bits.specs.declared.read.fault.BitFault.{BitFault}
 use Rattle.rice_samples.specs.blocks.Pairs.{pair_code, pair_codes}
 use Rattle.rice_samples.proofs.lemmas.bytes.ReadSamples.{flat_map-push}
-use Rattle.rice_code.proofs.lemmas.meaning.Covers.{both}
+use Rattle.rice_code.proofs.lemmas.meaning.Covers.{and-split}
 use Rattle.rice_code.specs.decode.Fields.{PairsTaken, AreCounted, HasRoom, Row, CountRow, CountsRead, PairRow, ones}
 
 pub row-none : {I : Type 0} (f : ℕ → List Bool) (P : ℕ → Type 0) (r : Reader I) (before : List ℕ)
@@ -70,7 +70,7 @@ counts-append old mid new most done some small fits front part after r q e =
     record {
       values = r.values ++ q.values;
       len = omega (arith, length-append r.values q.values, r.len, q.len);
-      told_are = λ f. (let b = both small fits f in e ∙ (λ i. r.told_are b.0 i ++ q.told_are b.1 i));
+      told_are = λ f. (let b = and-split small fits f in e ∙ (λ i. r.told_are b.0 i ++ q.told_are b.1 i));
       refused = not_told small fits (λ f h. r.refused f (all_front P r.values q.values h)) (λ f h. q.refused f (all_back P r.values q.values h));
       takes = rw (flat_map-append fundamental_sequence r.values q.values) (takes-append old mid new _ _ r.takes q.takes);
     }
@@ -105,7 +105,7 @@ pub counts-judged : {I : Type 0} (old new : Reader I) (most count : ℕ) (small 
 counts-judged old new most count small below told r good bad = record {
   values = r.values;
   len = r.len;
-  told_are = λ e. (let b = both small below e in (r.told_are b.0, λ i d lt. omega (arith, subst (λ xs. All (λ m. m < most + 1) xs) (r.told_are b.0) (good b.1) i d lt)));
+  told_are = λ e. (let b = and-split small below e in (r.told_are b.0, λ i d lt. omega (arith, subst (λ xs. All (λ m. m < most + 1) xs) (r.told_are b.0) (good b.1) i d lt)));
   refused = judged small below refl refl;
   takes = r.takes;
 }
@@ -188,8 +188,8 @@ row-both old mid new width m n count front rest after e whole r q =
     (record { values = q.values; len = q.len; each = q.each; appended = whole ∙ ap (λ z. front ++ z) q.appended; takes = q.takes }) in
     subst (λ k. Row (word width) (λ v. v < 2 ^ width) old new k [] after) e both
 
-few : (done some count width short : ℕ) → done + some ≤ count → short < some * width → done * width + short < count * width
-few done some count width short h k =
+too_few_bits : (done some count width short : ℕ) → done + some ≤ count → short < some * width → done * width + short < count * width
+too_few_bits done some count width short h k =
     let m : (done + some) * width ≤ count * width = mul-le-mul_right width h in omega arith
 
 -- some words, of those that follow, were cut off
@@ -199,7 +199,7 @@ pub words-stop : {I : Type 0} (width : ℕ) (P : ℕ → Type 0) (old mid new : 
 words-stop width P old mid new done some count before after bits f r s short h = (
   flat_map (word width) r.values ++ bits,
   (let e : length (flat_map (word width) r.values) ≡ done * width = length-words width r.values ∙ ap (λ n. n * width) r.len in
-      omega (arith, e, length-append (flat_map (word width) r.values) bits, few done some count width (length bits) h short)),
+      omega (arith, e, length-append (flat_map (word width) r.values) bits, too_few_bits done some count width (length bits) h short)),
   stops-append old mid new _ bits f r.takes s,
 )
 

@@ -308,22 +308,22 @@ row_first waiting s w n bytes row =
     subst (λ k. PlainBlock (drop k waiting) s w bytes) a (subst (λ k. PlainBlock (drop (plain_bits s w * 0) waiting) s w (drop k bytes)) b (row 0 (omega arith)))
 
 -- its identifier has a 1
-three : is_blank (word 3 7) ≡ false
+id_of_3_has_one : is_blank (word 3 7) ≡ false
 unfolding word
-three = refl
+id_of_3_has_one = refl
 
-four : is_blank (word 4 15) ≡ false
+id_of_4_has_one : is_blank (word 4 15) ≡ false
 unfolding word
-four = refl
+id_of_4_has_one = refl
 
-five : is_blank (word 5 31) ≡ false
+id_of_5_has_one : is_blank (word 5 31) ≡ false
 unfolding word
-five = refl
+id_of_5_has_one = refl
 
 ones_of : (k : ℕ) → (k ≡ 3) ⊎ ((k ≡ 4) ⊎ (k ≡ 5)) → is_blank (word k (2 ^ k - 1)) ≡ false
 ones_of k is = elim is [
-  | inl e ↦ ap (λ v. is_blank (word v (2 ^ v - 1))) e ∙ three
-  | inr other ↦ elim other [ inl e ↦ ap (λ v. is_blank (word v (2 ^ v - 1))) e ∙ four | inr e ↦ ap (λ v. is_blank (word v (2 ^ v - 1))) e ∙ five ]
+  | inl e ↦ ap (λ v. is_blank (word v (2 ^ v - 1))) e ∙ id_of_3_has_one
+  | inr other ↦ elim other [ inl e ↦ ap (λ v. is_blank (word v (2 ^ v - 1))) e ∙ id_of_4_has_one | inr e ↦ ap (λ v. is_blank (word v (2 ^ v - 1))) e ∙ id_of_5_has_one ]
 ]
 
 begins_with_one : (s : Parameters) (w k : ℕ) (waiting : List Bool) → IsPlain s w → word (id_len s) (2 ^ id_len s - 1) ≡ take (id_len s) waiting → id_len s ≤ k → is_blank (take k waiting) ≡ false

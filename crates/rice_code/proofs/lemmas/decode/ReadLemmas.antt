@@ -238,11 +238,11 @@ no_digits : (xs : List ℕ) → flat_map (word 0) xs ≡ []
 no_digits [] = refl
 no_digits (x ∷ xs) = ap (λ bits. bits ++ flat_map (word 0) xs) (word-nil x) ∙ no_digits xs
 
-alone : (ms : List ℕ) → joined_parts 0 ms (replicate (length ms) 0) ≡ ms
-alone [] = refl
-alone (m ∷ ms) =
+joined_without_low : (ms : List ℕ) → joined_parts 0 ms (replicate (length ms) 0) ≡ ms
+joined_without_low [] = refl
+joined_without_low (m ∷ ms) =
     let same : m * 2 ^ 0 + 0 ≡ m = omega arith in
-    λ i. same i ∷ alone ms i
+    λ i. same i ∷ joined_without_low ms i
 
 -- parts without low digits are the counts alone
 pub counts_read : {I : Type 0} (old new : Reader I) (most : ℕ) (small : Bool) (count : ℕ) (told : List ℕ) → CountRow old new most small count told → PartsRead old new most 0 small count told
@@ -256,7 +256,7 @@ counts_read old new most small count told high =
       as_many_lows = length-replicate (length ms) 0 ∙ high.len;
       low = All-replicate (λ v. v < 1) (length ms) 0 (omega arith);
       takes = subst (λ bits. Takes old new bits) (sym (ap (λ bits. flat_map fundamental_sequence ms ++ bits) (no_digits lows) ∙ append-nil (flat_map fundamental_sequence ms))) high.takes;
-      told = λ e. ((high.told_are e).1, (high.told_are e).0 ∙ sym (alone ms));
+      told = λ e. ((high.told_are e).1, (high.told_are e).0 ∙ sym (joined_without_low ms));
       refused = high.refused;
     }
 
@@ -343,15 +343,15 @@ one_at_most : (r : Option ℕ) → length (reference_place r) ≤ 1
 one_at_most None = omega arith
 one_at_most (Some v) = omega arith
 
-sizes : (n : ℕ) → IsBlockSize n → (1 ≤ n) × (n ≤ 64)
-sizes n h = (omega (arith, h.0), h.1)
+size_limits : (n : ℕ) → IsBlockSize n → (1 ≤ n) × (n ≤ 64)
+size_limits n h = (omega (arith, h.0), h.1)
 
 -- the residuals that are sent of a block
 pub sent_part : (s : Parameters) (r : Option ℕ) (first : ℕ) (xs : List ℕ) → IsLegal s → first ≡ length (reference_place r) → length xs ≡ s.block
     → (first ≤ 1) × (length xs - first + length (reference_place r) ≡ s.block) × (0 < length xs) × (length xs ≤ 64)
 sent_part s r first xs legal e n =
     let few : length (reference_place r) ≤ 1 = one_at_most r in
-    let size = sizes s.block legal.block in
+    let size = size_limits s.block legal.block in
     (omega (arith, few, e), omega (arith, few, size.0, e, n), omega (arith, size.0, n), omega (arith, size.1, n))
 
 -- the coded residuals of a block: where they begin, and how many there are
@@ -359,7 +359,7 @@ pub coded_part : (s : Parameters) (r : Option ℕ) (first : ℕ) (xs : List ℕ)
     → (first ≤ length xs) × (length (take (length xs - first) (drop first xs)) + length (reference_place r) ≡ s.block)
 coded_part s r first xs legal e n =
     let few : length (reference_place r) ≤ 1 = one_at_most r in
-    let size = sizes s.block legal.block in
+    let size = size_limits s.block legal.block in
     let len : length (take (length xs - first) (drop first xs)) ≡ length xs - first = length-take-le (length xs - first) (drop first xs) (omega (arith, length-drop first xs)) in
     (omega (arith, few, size.0, e, n), omega (arith, len, few, size.0, e, n))
 
@@ -368,8 +368,8 @@ pub sent_placed : (first : ℕ) (r : Option ℕ) (xs ys : List ℕ) → take fir
 sent_placed first r xs ys e h = sym (take-append-drop first ys) ∙ ap (λ z. z ++ drop first ys) (h ∙ e)
 
 -- residuals that are written after the place of the reference sample
-pub placed : (first : ℕ) (r : Option ℕ) (xs ys : List ℕ) → take first xs ≡ reference_place r → first ≤ length xs → put_mid first (length xs - first) xs ys ≡ reference_place r ++ ys
-placed first r xs ys e h = put_rest first xs ys h ∙ ap (λ z. z ++ ys) e
+pub residuals_behind_reference : (first : ℕ) (r : Option ℕ) (xs ys : List ℕ) → take first xs ≡ reference_place r → first ≤ length xs → put_mid first (length xs - first) xs ys ≡ reference_place r ++ ys
+residuals_behind_reference first r xs ys e h = put_rest first xs ys h ∙ ap (λ z. z ++ ys) e
 
 pub zero-place : (r : Option ℕ) → is_some r ≡ true → 0 ∷ [] ≡ reference_place r
 zero-place None h = absurd cc

@@ -68,8 +68,8 @@ contents_of_ranks s b p ds xs h e len r =
     contents_are s b p None ds xs h (ap (λ n. residuals s n p xs) at ∙ (ranks_within s b 0 None p xs h e refl (omega (arith, len)) ∙ r)) tt
 
 -- a block has a reference only with preprocessing
-preprocesses : (s : Parameters) (b v : ℕ) → IsReference s b (Some v) → s.preprocess ≡ true
-preprocesses s b v h = at s.preprocess (place s b == 0) h.there
+reference_preprocesses : (s : Parameters) (b v : ℕ) → IsReference s b (Some v) → s.preprocess ≡ true
+reference_preprocesses s b v h = at s.preprocess (place s b == 0) h.there
   where
     at : (preprocess first : Bool) → true ≡ (preprocess && first) → preprocess ≡ true
     at true first e = refl
@@ -80,7 +80,7 @@ pub contents_behind : (s : Parameters) (b : ℕ) (p x : ℤ) (v : ℕ) (ds : Lis
     → block_data s b p (x ∷ ys) ≡ record { reference = Some v; residuals = ds }
 contents_behind s b p x v [] ys h n len first r pat = absurd (omega arith)
 contents_behind s b p x v (d ∷ ds) ys h n len first r pat =
-    let e = preprocesses s b v h in
+    let e = reference_preprocesses s b v h in
     let at : s.block * b ≡ s.block * b + 0 = omega arith in
     let one : residual s (s.block * b) p x ≡ d = ap (λ j. residual s j p x) at ∙ (residual_within s b 0 (Some v) p x (omega (arith, n)) h ∙ ((λ i. cond (e i) 0 (pattern s x)) ∙ sym first)) in
     let rest : residuals s (s.block * b + 1) x ys ≡ ds = ranks_within s b 1 (Some v) x ys h e refl (omega (arith, n, len)) ∙ r in
@@ -138,4 +138,4 @@ contents_restored s b p x (Some v) (d ∷ ds) (y ∷ ys) h pre n none some hx pa
 -- without preprocessing a block has no reference
 pub contents_plain : (s : Parameters) (b : ℕ) (p : ℤ) (r : Option ℕ) (ds : List ℕ) (xs : List ℤ) → IsReference s b r → s.preprocess ≡ false → map (pattern s) xs ≡ ds → block_data s b p xs ≡ record { reference = r; residuals = ds }
 contents_plain s b p None ds xs h e m = contents_of_patterns s b p ds xs h e m
-contents_plain s b p (Some v) ds xs h e m = absurd (let f : true ≡ false = sym (preprocesses s b v h) ∙ e in cc)
+contents_plain s b p (Some v) ds xs h e m = absurd (let f : true ≡ false = sym (reference_preprocesses s b v h) ∙ e in cc)

@@ -87,8 +87,8 @@ fills_more value left m bits lt few h =
     }
 
 -- all digits
-pub filled : (value left total : ℕ) (bits : List Bool) → left ≡ 0 → length bits ≡ total → HasFront value left bits → HasDigits bits value total
-filled value left total bits none len h =
+pub all_digits_filled : (value left total : ℕ) (bits : List Bool) → left ≡ 0 → length bits ≡ total → HasFront value left bits → HasDigits bits value total
+all_digits_filled value left total bits none len h =
     let same : value ≡ number_of bits = h.digits ∙ (ap (λ n. number_of bits * 2 ^ n) none ∙ once (number_of bits)) in
     record {
       len = len;

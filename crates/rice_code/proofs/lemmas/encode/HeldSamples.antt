@@ -17,7 +17,7 @@ use Rattle.rice_code.specs.encode.Coder.{HasCodedBefore, reference_in}
 use Rattle.rice_code.specs.encode.OpenSegment.{CoderState, is_empty, next_residual, next_reference, state_after, state_with_fill}
 use Rattle.rice_code.specs.encode.HeldBlocks.{held_blocks}
 use Rattle.rice_code.specs.code.SoundBlocks.{block_with}
-use Rattle.rice_code.proofs.lemmas.meaning.Covers.{bool_cases, both}
+use Rattle.rice_code.proofs.lemmas.meaning.Covers.{bool_cases, and-split}
 use Rattle.rice_code.proofs.lemmas.code.Filling.{last_append}
 use Rattle.rice_code.proofs.lemmas.code.SegmentPlaces.{place_inside}
 
@@ -39,8 +39,8 @@ later_reference s b n h j k =
       | inr e ↦ e
       | inl e ↦
           let m = s.block * b + suc n in
-          let p = both (is_reference s (m / s.block)) (m % s.block == 0) e in
-          let p' = both s.preprocess (place s (m / s.block) == 0) p.0 in
+          let p = and-split (is_reference s (m / s.block)) (m % s.block == 0) e in
+          let p' = and-split s.preprocess (place s (m / s.block) == 0) p.0 in
           let whole : m % s.block ≡ 0 = same (m % s.block) p.1 in
           let first : place s (m / s.block) ≡ 0 = same (place s (m / s.block)) p'.1 in
           let q = suc n / s.block in
@@ -146,16 +146,16 @@ held_are s b p (suc n) xs h j k e =
         first (suc n) h = refl
 
     behind : (m : ℕ) (ys : List ℤ) (ds : List ℕ) (rest : List BlockData) → suc m ≤ blocks_left s b → (m ≡ 0 → rest ≡ []) → (m ≤ blocks_left s (b + 1) → rest ≡ held_blocks s (reference_in s (b + 1) ys) m ds) → rest ≡ held_blocks s None m ds
-    behind zero ys ds rest g none again = none refl
-    behind (suc m) ys ds rest g none again =
+    behind zero ys ds rest g and-false again = and-false refl
+    behind (suc m) ys ds rest g and-false again =
         elim (bool_cases (begins_segment s (b + 1))) [
           | inl f ↦ absurd (let i = last_of_segment s b h f in omega arith)
           | inr f ↦ let i = one_less_left s b h f in again (omega arith) ∙ ap (λ r. held_blocks s r (suc m) ds) (none_inside s (b + 1) ys f)
         ]
 
-none : (v : Bool) → (v && false) ≡ false
-none true = refl
-none false = refl
+and-false : (v : Bool) → (v && false) ≡ false
+and-false true = refl
+and-false false = refl
 
 -- the reference after it
 the_reference : (coder : CoderState) (b : ℕ) (held : List ℤ) (p x : ℤ) → place coder.setting b ≡ coder.start → coder.residuals ≡ residuals coder.setting (coder.setting.block * b) p held →
@@ -165,7 +165,7 @@ the_reference coder b [] p x e f g =
     λ i. cond (s.preprocess && (is_empty (f i) && sym e i == 0)) (Some (pattern s x)) (g i)
 the_reference coder b (y ∷ ys) p x e f g =
     let s = coder.setting in
-    ap (λ ds. cond (s.preprocess && (is_empty ds && coder.start == 0)) (Some (pattern s x)) coder.reference) f ∙ (ap (λ v. cond v (Some (pattern s x)) coder.reference) (none s.preprocess) ∙ g)
+    ap (λ ds. cond (s.preprocess && (is_empty ds && coder.start == 0)) (Some (pattern s x)) coder.reference) f ∙ (ap (λ v. cond v (Some (pattern s x)) coder.reference) (and-false s.preprocess) ∙ g)
 
 -- one sample more is held
 pub one_more : (coder : CoderState) (b : ℕ) (coded held : List ℤ) (x : ℤ) → HasCodedBefore coder b coded held → length held < coder.setting.block * blocks_left coder.setting b → IsSample coder.setting x →
@@ -193,18 +193,18 @@ one_more coder b coded held x h k legal =
 push_last : {X : Type 0} (n : ℕ) (x : X) (xs : List X) → xs ++ replicate (suc n) x ≡ (xs ++ x ∷ []) ++ replicate n x
 push_last n x xs = sym (append_assoc xs (x ∷ []) (replicate n x))
 
-pub fills : (coder : CoderState) (b : ℕ) (coded held : List ℤ) (n : ℕ) → HasCodedBefore coder b coded held → IsSample coder.setting coder.previous → (0 < n → is_empty coder.residuals ≡ false) → length held + n ≤ coder.setting.block * blocks_left coder.setting b →
+pub holds_fill : (coder : CoderState) (b : ℕ) (coded held : List ℤ) (n : ℕ) → HasCodedBefore coder b coded held → IsSample coder.setting coder.previous → (0 < n → is_empty coder.residuals ≡ false) → length held + n ≤ coder.setting.block * blocks_left coder.setting b →
     HasCodedBefore (state_with_fill coder n) b coded (held ++ replicate n coder.previous)
-fills coder b coded held zero h legal f k = subst (λ ds. HasCodedBefore (record { setting = coder.setting; residuals = ds; reference = coder.reference; previous = coder.previous; start = coder.start }) b coded (held ++ [])) (sym (append-nil coder.residuals))
+holds_fill coder b coded held zero h legal f k = subst (λ ds. HasCodedBefore (record { setting = coder.setting; residuals = ds; reference = coder.reference; previous = coder.previous; start = coder.start }) b coded (held ++ [])) (sym (append-nil coder.residuals))
     (subst (HasCodedBefore coder b coded) (sym (append-nil held)) h)
-fills coder b coded held (suc n) h legal f k =
+holds_fill coder b coded held (suc n) h legal f k =
     let x = coder.previous in
     let first = f (omega arith) in
     let more = one_more coder b coded held x h (omega arith) legal in
-    let ref : next_reference coder x ≡ coder.reference = ap (λ v. cond (coder.setting.preprocess && (v && coder.start == 0)) (Some (pattern coder.setting x)) coder.reference) first ∙ ap (λ v. cond v (Some (pattern coder.setting x)) coder.reference) (none coder.setting.preprocess) in
+    let ref : next_reference coder x ≡ coder.reference = ap (λ v. cond (coder.setting.preprocess && (v && coder.start == 0)) (Some (pattern coder.setting x)) coder.reference) first ∙ ap (λ v. cond v (Some (pattern coder.setting x)) coder.reference) (and-false coder.setting.preprocess) in
     let later = not_first coder.residuals (next_residual coder x) in
     let same : next_residual (state_after coder x) x ≡ next_residual coder x = ap (λ v. cond coder.setting.preprocess (cond (v && coder.start == 0) 0 (rank coder.setting x x)) (pattern coder.setting x)) (later ∙ sym first) in
-    let ih = fills (state_after coder x) b coded (held ++ x ∷ []) n more legal (λ p. later) (omega (arith, length-append held (x ∷ []), k)) in
+    let ih = holds_fill (state_after coder x) b coded (held ++ x ∷ []) n more legal (λ p. later) (omega (arith, length-append held (x ∷ []), k)) in
     let d = next_residual coder x in
     let state : state_with_fill (state_after coder x) n ≡ state_with_fill coder (suc n) = λ i. record {
       setting = coder.setting;

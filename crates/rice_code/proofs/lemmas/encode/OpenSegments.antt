@@ -17,7 +17,7 @@ use Rattle.rice_code.specs.encode.HeldBlocks.{held_blocks, code_of_blocks, PutsB
 use Rattle.rice_code.specs.code.SoundBlocks.{AreSoundBlocks}
 use Rattle.rice_code.specs.Steps.{least_looks, most_looks}
 use Rattle.rice_code.specs.Bounds.{block_bound}
-use Rattle.rice_code.proofs.lemmas.cost.BlockBounds.{bounded}
+use Rattle.rice_code.proofs.lemmas.cost.BlockBounds.{blocks_are_bounded}
 use Rattle.rice_code.proofs.lemmas.code.SegmentLayouts.{code_lies}
 use Rattle.rice_code.proofs.lemmas.code.SegmentPlaces.{begins_next, next_start_is}
 use Rattle.rice_code.proofs.lemmas.encode.PendingRuns.{held_len}
@@ -97,7 +97,7 @@ pub few_bits : (coder : CoderState) (count end : ℕ) → count ≡ blocks_held 
     length (bits_of_sets coder.setting (data_sets coder.setting coder.start false (held_blocks coder.setting coder.reference count coder.residuals))) ≤ count * block_bound coder.setting
 few_bits coder count end e h sound =
     let s = coder.setting in
-    let bound = bounded s coder.start false (contents_held coder) h.legal sound in
+    let bound = blocks_are_bounded s coder.start false (contents_held coder) h.legal sound in
     let len = held_len s coder.reference (blocks_held coder) coder.residuals in
     at_most _ _ _ _ _ _ bound len e (ap (λ n. length (bits_of_sets s (data_sets s coder.start false (held_blocks s coder.reference n coder.residuals)))) e ∙ length-flat_map (bits_of_set s) (sets_held coder))
   where

@@ -25,12 +25,12 @@ pub no_digits : (xs : List ℕ) → flat_map (word 0) xs ≡ []
 no_digits [] = refl
 no_digits (x ∷ xs) = rw word-nil (no_digits xs)
 
-pub flagged : (sink head ref body : List Bool) (b : Bool) → sink ++ (head ++ b ∷ []) ++ ref ++ body ≡ sink ++ (head ++ b ∷ (ref ++ body))
-flagged sink head ref body b =
+pub append_flagged : (sink head ref body : List Bool) (b : Bool) → sink ++ (head ++ b ∷ []) ++ ref ++ body ≡ sink ++ (head ++ b ∷ (ref ++ body))
+append_flagged sink head ref body b =
     append_assoc (sink ++ (head ++ b ∷ [])) ref body ∙ (append_assoc sink (head ++ b ∷ []) (ref ++ body) ∙ ap (λ z. sink ++ z) (append_assoc head (b ∷ []) (ref ++ body)))
 
-pub four : (sink head ref high low : List Bool) → sink ++ head ++ ref ++ high ++ low ≡ sink ++ (head ++ (ref ++ (high ++ low)))
-four sink head ref high low = simp append_assoc
+pub append_four : (sink head ref high low : List Bool) → sink ++ head ++ ref ++ high ++ low ≡ sink ++ (head ++ (ref ++ (high ++ low)))
+append_four sink head ref high low = simp append_assoc
 
 -- The residuals rs that are sent from number `from` on, in numbers: how many, their digits, and the parts above these.
 pub record SentResiduals (sent rs : List ℕ) (from w k : ℕ) : Type 0 where

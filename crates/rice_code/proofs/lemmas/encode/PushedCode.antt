@@ -28,7 +28,7 @@ use Rattle.rice_code.specs.Steps.{least_looks, most_looks, least_looks_at, most_
 use Rattle.rice_code.proofs.lemmas.meaning.Covers.{bool_cases}
 use Rattle.rice_code.proofs.lemmas.code.Filling.{last_append, blocks_append}
 use Rattle.rice_code.proofs.lemmas.code.GoingOn.{filled_behind, own_blocks, code_goes_on, bits_go_on}
-use Rattle.rice_code.proofs.lemmas.encode.HeldSamples.{held_are, one_more, fills, all_first}
+use Rattle.rice_code.proofs.lemmas.encode.HeldSamples.{held_are, one_more, holds_fill, all_first}
 use Rattle.rice_code.proofs.lemmas.code.Layouts.{laid_plain, laid_at}
 use Rattle.rice_code.proofs.lemmas.encode.OpenSegments.{fill_inside}
 use Rattle.rice_code.proofs.lemmas.code.BlockPlaces.{same_blocks, same_data_sets, same_reference, place_step, code_stands_in_intervals}
@@ -327,8 +327,8 @@ pub whole_sound : (coder : CoderState) (x : ℤ) (xs : List ℤ) → HasTaken co
 whole_sound coder x xs h legal e = let part = whole_part coder x xs h legal e in record { sound = part.sound; whole = part.blocks }
 
 -- then the coder has taken the samples with it
-pub ends : (coder : CoderState) (x : ℤ) (xs : List ℤ) → HasTaken coder xs → IsSample coder.setting x → IsWhole (state_after coder x) → HasTaken (state_after_segment (state_after coder x)) (xs ++ x ∷ [])
-ends coder x xs h legal e =
+pub takes_last_of_segment : (coder : CoderState) (x : ℤ) (xs : List ℤ) → HasTaken coder xs → IsSample coder.setting x → IsWhole (state_after coder x) → HasTaken (state_after_segment (state_after coder x)) (xs ++ x ∷ [])
+takes_last_of_segment coder x xs h legal e =
     let s = coder.setting in
     let more = one_more coder h.block h.coded h.held x h.holds h.short legal in
     let count = held_count (state_after coder x) h.block h.coded (h.held ++ x ∷ []) more in
@@ -341,7 +341,7 @@ ends coder x xs h legal e =
 -- and this completes the code of the segment
 pub whole_segment_adds_code : (coder : CoderState) (x : ℤ) (xs : List ℤ) → HasTaken coder xs → IsSample coder.setting x → IsWhole (state_after coder x) → AddsHeldCode (state_after coder x) (complete_samples coder.setting xs) (complete_samples coder.setting (xs ++ x ∷ []))
 whole_segment_adds_code coder x xs h legal e =
-    let next = ends coder x xs h legal e in
+    let next = takes_last_of_segment coder x xs h legal e in
     adds_held_code (state_after coder x) (complete_samples coder.setting xs) (complete_samples coder.setting (xs ++ x ∷ [])) h.coded (h.held ++ x ∷ []) (complete_are_coded coder xs h) (all_complete next) (whole_part coder x xs h legal e)
   where
     all_complete : HasTaken (state_after_segment (state_after coder x)) (xs ++ x ∷ []) → complete_samples coder.setting (xs ++ x ∷ []) ≡ h.coded ++ (h.held ++ x ∷ [])
@@ -380,7 +380,7 @@ filled_part coder xs h =
     let inside : length h.held + n ≤ s.block * blocks_left s h.block = let f = fill_inside m s.block (blocks_left s h.block) j (omega (arith, count, h.short)) in omega (arith, f, count) in
     let legal = previous_legal coder (record { samples = xs; taken = h }) in
     let some : 0 < n → 0 < m = λ p. elim (cases_lt 0 m) [ inl lt ↦ lt | inr le ↦ absurd (let z = zero_fill s.block m j (omega arith) in omega (arith, z, p)) ] in
-    let holds = fills coder h.block h.coded h.held n h.holds legal (λ p. not_first_of coder.residuals (some p)) inside in
+    let holds = holds_fill coder h.block h.coded h.held n h.holds legal (λ p. not_first_of coder.residuals (some p)) inside in
     let full = h.held ++ replicate n x in
     let last : last_of p h.held ≡ x = sym (h.holds.previous ∙ last_append (pos 0) h.coded h.held) in
     let fill : next_multiple_of (length h.held) s.block - length h.held ≡ n = (let e : length h.held + (s.block - length h.held % s.block) % s.block - length h.held ≡ (s.block - length h.held % s.block) % s.block = omega arith in e) ∙ ap (λ v. (s.block - v % s.block) % s.block) (sym count) in

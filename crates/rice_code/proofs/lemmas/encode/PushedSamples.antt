@@ -15,7 +15,7 @@ use Rattle.rice_code.specs.encode.Coder.{HasTaken, IsCoder, PushesSamples, Compl
 use Rattle.rice_code.specs.code.Blocks.{fill_count}
 use Rattle.rice_code.specs.encode.OpenSegment.{CoderState, IsWhole, state_after, state_after_all, state_after_segment, state_with_fill, next_residual, HoldsSoundBlocks, CodesHeld}
 use Rattle.rice_code.specs.Steps.{coding_steps, segment_steps}
-use Rattle.rice_code.proofs.lemmas.encode.PushedCode.{stays_open, stays_open_completes_none, short_of, pending_are, whole_sound, ends, whole_segment_adds_code, AddsHeldCode, adds_code, adds_nothing, steps_of_segment}
+use Rattle.rice_code.proofs.lemmas.encode.PushedCode.{stays_open, stays_open_completes_none, short_of, pending_are, whole_sound, takes_last_of_segment, whole_segment_adds_code, AddsHeldCode, adds_code, adds_nothing, steps_of_segment}
 use Rattle.rice_code.proofs.lemmas.encode.SeveralHeld.{state_after_all-none, state_after_all-cons, state_after_all-snoc, length-state_after_all}
 
 -- samples that leave the segment open
@@ -83,7 +83,7 @@ several_sound coder ys xs legal whole h =
 several_end : (coder : CoderState) (ys xs : List ℤ) → AllByRecursion (IsSample coder.setting) ys → IsWhole (state_after_all coder ys) → HasTaken coder xs → HasTaken (state_after_segment (state_after_all coder ys)) (xs ++ ys)
 several_end coder ys xs legal whole h =
     let l = whole_last coder ys xs legal whole h in
-    let end = ends (state_after_all coder l.others) l.x (xs ++ l.others) l.taken l.legal (subst IsWhole l.grows whole) in
+    let end = takes_last_of_segment (state_after_all coder l.others) l.x (xs ++ l.others) l.taken l.legal (subst IsWhole l.grows whole) in
     subst (λ v. HasTaken (state_after_segment v) (xs ++ ys)) (sym l.grows) (subst (HasTaken (state_after_segment (state_after (state_after_all coder l.others) l.x))) (sym l.all) end)
 
 several_add_code : (coder : CoderState) (ys xs : List ℤ) → AllByRecursion (IsSample coder.setting) ys → IsWhole (state_after_all coder ys) → HasTaken coder xs →

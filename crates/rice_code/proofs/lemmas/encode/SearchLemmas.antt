@@ -11,7 +11,7 @@ use Rattle.rice_samples.proofs.lemmas.blocks.Halves.{cut_sum}
 use Rattle.rice_code.specs.code.Blocks.{BlockData}
 use Rattle.rice_code.specs.code.Choice.{shortest, IsBestSplit, best_split}
 use Rattle.rice_code.specs.code.CodedDataSets.{NoCompression, SecondExtension, Split, cost, reference_len, sent_from}
-use Rattle.rice_code.proofs.lemmas.cost.Savings.{kept, less, not_less, best_numbered, shortest_is}
+use Rattle.rice_code.proofs.lemmas.cost.Savings.{first_is_kept, nat_lt-true, not_less, best_numbered, shortest_is}
 
 map_same : (xs : List ℕ) → map (λ k. k) xs ≡ xs
 map_same [] = refl
@@ -27,7 +27,7 @@ best_split_is s c k h = sym (ap (λ ks. best_of (shorter s c) 0 ks) (map_same (r
     yes m n h = grind (arith, nat_tests)
 
     mapped : (k : ℕ) → IsBestSplit s c k → best_of (shorter s c) 0 (map (λ k. k) (range_with_len 1 (k_max s))) ≡ k
-    mapped zero h = kept (λ k. cost s (Split k c)) (λ k. k) 0 1 (k_max s) (λ j p q. h.least j (omega arith))
+    mapped zero h = first_is_kept (λ k. cost s (Split k c)) (λ k. k) 0 1 (k_max s) (λ j p q. h.least j (omega arith))
     mapped (suc k) h =
         let at = h.at_most in
         let less = h.first 0 (omega arith) in
@@ -43,7 +43,7 @@ takes_no_compression s c k h p q =
 
 pub takes_second_extension : (s : Parameters) (c : BlockData) (k : ℕ) → IsBestSplit s c k → cost s (SecondExtension c) < cost s (NoCompression c) → cost s (SecondExtension c) ≤ cost s (Split k c) → SecondExtension c ≡ shortest s c
 takes_second_extension s c k h p q =
-    let e = less (cost s (SecondExtension c)) (cost s (NoCompression c)) p in
+    let e = nat_lt-true (cost s (SecondExtension c)) (cost s (NoCompression c)) p in
     let f = not_less (cost s (Split k c)) (cost s (SecondExtension c)) q in
     sym (shortest_is s c k h ∙ (ap (λ v. let first = cond v (SecondExtension c) (NoCompression c) in cond (nat_lt (cost s (Split k c)) (cost s first)) (Split k c) first) e
     ∙ ap (λ v. cond v (Split k c) (SecondExtension c)) f))
@@ -53,7 +53,7 @@ takes_split s c k h p q =
     let first = λ (v : Bool). cond v (SecondExtension c) (NoCompression c) in
     let below : (v : Bool) → cost s (Split k c) < cost s (first v) = λ v. elim v as (λ v. cost s (Split k c) < cost s (first v)) [ true ↦ q | false ↦ p ] in
     let v = nat_lt (cost s (SecondExtension c)) (cost s (NoCompression c)) in
-    sym (shortest_is s c k h ∙ ap (λ w. cond w (Split k c) (first v)) (less (cost s (Split k c)) (cost s (first v)) (below v)))
+    sym (shortest_is s c k h ∙ ap (λ w. cond w (Split k c) (first v)) (nat_lt-true (cost s (Split k c)) (cost s (first v)) (below v)))
 
 -- by no compression all residuals are sent but that at the reference place, in whose place the reference is sent
 pub all_sent : (s : Parameters) (reference : Option ℕ) (ds : List ℕ) → 1 ≤ length ds → length (sent_from reference ds) * s.bits + reference_len s reference ≡ length ds * s.bits

@@ -86,8 +86,8 @@ next_zero s start r n ds i run h k sound z =
     ∙ (ap (λ cs. bits_of_sets s (data_sets s (start + (i - run)) false cs)) f
     ∙ ap (λ m. bits_of_sets s (data_sets s (start + m) false (pending_zeros s (reference_at r m) (run + 1) ++ rest))) g)
 
-inside : (s : Parameters) (start n i run : ℕ) → 1 ≤ s.interval → run ≤ i → i < n → n ≤ blocks_left s start → run < blocks_left s (start + (i - run))
-inside s start n i run h k l m = let e = left_inside s start (i - run) h (omega arith) in omega arith
+run_is_inside : (s : Parameters) (start n i run : ℕ) → 1 ≤ s.interval → run ≤ i → i < n → n ≤ blocks_left s start → run < blocks_left s (start + (i - run))
+run_is_inside s start n i run h k l m = let e = left_inside s start (i - run) h (omega arith) in omega arith
 
 pub next_other : (s : Parameters) (start : ℕ) (r : Option ℕ) (n : ℕ) (ds : List ℕ) (i run : ℕ) → 1 ≤ s.interval → n ≤ blocks_left s start → run ≤ i → i < n →
     is_zero_block (held s r ds i) ≡ false → to_come s start r n ds i run ≡ bits_of_sets s (pending_run false (reference_at r (i - run)) run) ++ (bits_of_set s (shortest s (held s r ds i)) ++ to_come s start r n ds (i + 1) 0)
@@ -97,7 +97,7 @@ next_other s start r n ds i run h m l k z =
     let e = held_at s r n i ds k in
     let b = start + (i - run) in
     let w = pending_run false (reference_at r (i - run)) run in
-    let f = run_then_block s b run (reference_at r (i - run)) c rest h (inside s start n i run h l k m) z in
+    let f = run_then_block s b run (reference_at r (i - run)) c rest h (run_is_inside s start n i run h l k m) z in
     let g : b + run + 1 ≡ start + (i + 1 - 0) = omega arith in
     ap (λ cs. bits_of_sets s (data_sets s b false (pending_zeros s (reference_at r (i - run)) run ++ cs))) e
     ∙ (ap (bits_of_sets s) (f ∙ ap (λ m. w ++ shortest s c ∷ data_sets s m false rest) g)

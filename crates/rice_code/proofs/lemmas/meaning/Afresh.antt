@@ -21,7 +21,7 @@ use Rattle.rice_code.proofs.lemmas.code.BlockPlaces.{place_on, same_blocks}
 use Rattle.rice_code.proofs.lemmas.code.Filling.{blocks_append}
 use Rattle.rice_code.proofs.lemmas.code.Layouts.{ends_inside, lies_at}
 use Rattle.rice_code.proofs.lemmas.code.Segments.{ends_before}
-use Rattle.rice_code.proofs.lemmas.cost.PaddingBounds.{starts}
+use Rattle.rice_code.proofs.lemmas.cost.PaddingBounds.{interval_begins_segment}
 use Rattle.rice_code.proofs.lemmas.meaning.Covers.{bool_cases}
 use Rattle.rice_code.proofs.lemmas.meaning.DecodingGoesOn.{cut_parts}
 use Rattle.rice_code.proofs.lemmas.meaning.DecodingPlaces.{ends_there, same_all_blocks, same_lie, taken_there}
@@ -150,7 +150,7 @@ end_inside s end b (d ∷ ds) some e le h =
     let before : b < end = elim (cases_lt b end) [ inl l ↦ l | inr le ↦ let m : s.block * end ≤ s.block * b = mul-le-mul_left s.block le in absurd (omega arith) ] in
     let n = end - b - 1 in
     let same : b + suc n ≡ end = omega arith in
-    let left = ends_before s b n some (ap (begins_segment s) same ∙ starts s end e) in
+    let left = ends_before s b n some (ap (begins_segment s) same ∙ interval_begins_segment s end e) in
     let inside = stays_inside s b d some h.2 in
     let next = block_after s b d in
     omega (arith, end_inside s end next ds some e (omega arith) h.4, length-append (blocks_in s b d) (blocks_in_all s next ds))

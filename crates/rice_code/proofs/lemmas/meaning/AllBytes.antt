@@ -193,34 +193,34 @@ blocks_have_samples s b p (c ∷ cs) legal j h k =
 abbrev Comes : Parameters → ℕ → ℕ → ℤ → List Bool → Option ℕ → Type 0
 Comes s b position p bits asked = (xs : List ℤ) × (e : Ending) × (n : ℕ) × DecodedFrom s b position p bits asked xs e n
 
-stop : (s : Parameters) (b position : ℕ) (p : ℤ) (bits : List Bool) (asked : Option ℕ) (ending : Ending) (last : ℕ) → EndsWith s asked b bits ending last → Comes s b position p bits asked
-stop s b position p bits asked ending last h = (cut_to s asked b [], ending, last, decoded_from_none s b position p bits asked ending last h)
+comes_to_stop : (s : Parameters) (b position : ℕ) (p : ℤ) (bits : List Bool) (asked : Option ℕ) (ending : Ending) (last : ℕ) → EndsWith s asked b bits ending last → Comes s b position p bits asked
+comes_to_stop s b position p bits asked ending last h = (cut_to s asked b [], ending, last, decoded_from_none s b position p bits asked ending last h)
 
 -- in whole bytes there is room for the padding
-room : (position t more total : ℕ) (pads : Bool) → total ≡ t + more → (position + total) % 8 ≡ 0 → cond pads (bits_to_byte (position + t)) 0 ≤ more
-room position t more total true e h = omega arith
-room position t more total false e h = omega arith
+padding_fits : (position t more total : ℕ) (pads : Bool) → total ≡ t + more → (position + total) % 8 ≡ 0 → cond pads (bits_to_byte (position + t)) 0 ≤ more
+padding_fits position t more total true e h = omega arith
+padding_fits position t more total false e h = omega arith
 
-decodes : (fuel : ℕ) (s : Parameters) (b position : ℕ) (p : ℤ) (bits : List Bool) (asked : Option ℕ) → IsLegal s → 1 ≤ s.block → IsSample s p → length bits < fuel → (position + length bits) % 8 ≡ 0 → Comes s b position p bits asked
-decodes zero s b position p bits asked legal j h lt whole = absurd (omega arith)
-decodes (suc fuel) s b position p bits asked legal j h lt whole =
+bits_are_decoded : (fuel : ℕ) (s : Parameters) (b position : ℕ) (p : ℤ) (bits : List Bool) (asked : Option ℕ) → IsLegal s → 1 ≤ s.block → IsSample s p → length bits < fuel → (position + length bits) % 8 ≡ 0 → Comes s b position p bits asked
+bits_are_decoded zero s b position p bits asked legal j h lt whole = absurd (omega arith)
+bits_are_decoded (suc fuel) s b position p bits asked legal j h lt whole =
     elim (goes_or_not s asked b) [
-      | inr reached ↦ stop s b position p bits asked Reached 0 (reached, refl)
+      | inr reached ↦ comes_to_stop s b position p bits asked Reached 0 (reached, refl)
       | inl go ↦ elim (form_piece s b bits legal) [
         | inr miss ↦ elim (one_or_none bits) [
-          | inl one ↦ stop s b position p bits asked CutOff (length bits) (go, one, (λ d more f e. miss d more f e), refl)
-          | inr none ↦ stop s b position p bits asked Ended (length bits) (go, All-from_recursion (λ bit. bit ≡ false) bits none, refl)
+          | inl one ↦ comes_to_stop s b position p bits asked CutOff (length bits) (go, one, (λ d more f e. miss d more f e), refl)
+          | inr none ↦ comes_to_stop s b position p bits asked Ended (length bits) (go, All-from_recursion (λ bit. bit ≡ false) bits none, refl)
         ]
         | inl q ↦ elim (run_or_not s b q.piece) [
-          | inr past ↦ stop s b position p bits asked Past (length (bits_of_set s q.piece)) (go, record { refused = q.piece; more = q.more; form = q.fits; unsound = past; begins = q.begins; bits = refl })
+          | inr past ↦ comes_to_stop s b position p bits asked Past (length (bits_of_set s q.piece)) (go, record { refused = q.piece; more = q.more; form = q.fits; unsound = past; begins = q.begins; bits = refl })
           | inl run ↦ elim (residuals_or_not s q.piece) [
-            | inr large ↦ stop s b position p bits asked Large (length (bits_of_set s q.piece)) (go, record { refused = q.piece; more = q.more; form = q.fits; unsound = large; begins = q.begins; bits = refl })
+            | inr large ↦ comes_to_stop s b position p bits asked Large (length (bits_of_set s q.piece)) (go, record { refused = q.piece; more = q.more; form = q.fits; unsound = large; begins = q.begins; bits = refl })
             | inl sound ↦
                 let d = q.piece in
                 let t = length (bits_of_set s d) in
                 let n = padding s (block_after s b d) (position + t) in
                 let size : length bits ≡ t + length q.more = ap length q.begins ∙ length-append (bits_of_set s d) q.more in
-                let fits : n ≤ length q.more = room position t (length q.more) (length bits) (is_padded s (block_after s b d)) size whole in
+                let fits : n ≤ length q.more = padding_fits position t (length q.more) (length bits) (is_padded s (block_after s b d)) size whole in
                 let skipped = take n q.more in
                 let rest = drop n q.more in
                 let l1 : length skipped ≡ n = length-take-le n q.more fits in
@@ -228,7 +228,7 @@ decodes (suc fuel) s b position p bits asked legal j h lt whole =
                 let l3 : length (bits_of_set s d ++ skipped) ≡ t + n = length-append (bits_of_set s d) skipped ∙ ap (λ m. t + m) l1 in
                 let some : 1 ≤ t = not_empty (bits_of_set s d) (forms_have_a_one s b d legal q.fits) in
                 let made = blocks_have_samples s b p (blocks_in s b d) legal j h (blocks_are_sound s b d legal (q.fits, run, sound)) in
-                let later = decodes fuel s (block_after s b d) (position + length (bits_of_set s d ++ skipped)) (last_of p made.0) rest asked legal j (last_legal s p made.0 h made.2) (sizes _ _ _ _ _ _ size l2 fits some lt) (places _ _ _ _ _ _ _ size l2 l3 fits whole) in
+                let later = bits_are_decoded fuel s (block_after s b d) (position + length (bits_of_set s d ++ skipped)) (last_of p made.0) rest asked legal j (last_legal s p made.0 h made.2) (sizes _ _ _ _ _ _ size l2 fits some lt) (places _ _ _ _ _ _ _ size l2 l3 fits whole) in
                 let P : List Bool → Type 0 = λ v. DecodedFrom s b position p v asked (cut_to s asked b made.0 ++ later.0) later.1 (length (bits_of_set s d ++ skipped) + later.2) in
                 let joined : bits_of_set s d ++ (skipped ++ rest) ≡ bits = ap (λ v. bits_of_set s d ++ v) (take-append-drop n q.more) ∙ sym q.begins in (
                   cut_to s asked b made.0 ++ later.0,
@@ -254,7 +254,7 @@ pub all_bytes_are_decoded : (s : Parameters) → IsLegal s → (bytes : List ℕ
 all_bytes_are_decoded s legal bytes asked =
     let j : 1 ≤ s.block = grind (arith, legal.block) in
     let e = length-bits_of bytes in
-    decodes (suc (length (bits_of bytes))) s 0 0 (pos 0) (bits_of bytes) asked legal j (zero_is_sample s legal.bits_from) (omega arith) (multiple _ _ e)
+    bits_are_decoded (suc (length (bits_of bytes))) s 0 0 (pos 0) (bits_of bytes) asked legal j (zero_is_sample s legal.bits_from) (omega arith) (multiple _ _ e)
   where
     multiple : (n m : ℕ) → n ≡ 8 * m → (0 + n) % 8 ≡ 0
     multiple n m e = omega arith

@@ -25,9 +25,9 @@ pub bool_cases : (b : Bool) → (b ≡ true) ⊎ (b ≡ false)
 bool_cases true = inl refl
 bool_cases false = inr refl
 
-pub both : (a b : Bool) → (a && b) ≡ true → (a ≡ true) × (b ≡ true)
-both true b e = (refl, e)
-both false b e = absurd (let f : false ≡ true = e in cc)
+pub and-split : (a b : Bool) → (a && b) ≡ true → (a ≡ true) × (b ≡ true)
+and-split true b e = (refl, e)
+and-split false b e = absurd (let f : false ≡ true = e in cc)
 
 zero_head : (d : ℕ) → (d == 0) ≡ true → d ≡ 0
 zero_head d e = grind (arith, nat_tests)
@@ -35,7 +35,7 @@ zero_head d e = grind (arith, nat_tests)
 all_zero : (ds : List ℕ) → list_all (λ d. d == 0) ds ≡ true → ds ≡ replicate (length ds) 0
 all_zero [] e = refl
 all_zero (d ∷ ds) e =
-    let p = both (d == 0) (list_all (λ d. d == 0) ds) e in
+    let p = and-split (d == 0) (list_all (λ d. d == 0) ds) e in
     let first = zero_head d p.0 in
     let rest = all_zero ds p.1 in
     cc
@@ -46,9 +46,9 @@ zero_block_is s b c h e =
     let g = all_zero c.residuals e ∙ ap (λ n. replicate n 0) h.len in
     λ i. record { reference = c.reference; residuals = g i }
 
-none : (r : Option ℕ) → is_some r ≡ false → r ≡ None
-none None e = refl
-none (Some v) e = absurd cc
+is_some-false : (r : Option ℕ) → is_some r ≡ false → r ≡ None
+is_some-false None e = refl
+is_some-false (Some v) e = absurd cc
 
 -- the zero blocks at the front that a run before block b stands for
 abbrev pub skipped : Parameters → ℕ → Bool → List BlockData → ℕ
@@ -122,7 +122,7 @@ no_reference s b e =
     ]
 
 zeros_inside : (s : Parameters) (b : ℕ) (c : BlockData) → IsBlock s b c → is_zero_block c ≡ true → not (begins_segment s b) ≡ true → c ≡ zero_block s None
-zeros_inside s b c h z e = zero_block_is s b c h z ∙ ap (λ r. zero_block s r) (none c.reference (h.reference.there ∙ no_reference s b e))
+zeros_inside s b c h z e = zero_block_is s b c h z ∙ ap (λ r. zero_block s r) (is_some-false c.reference (h.reference.there ∙ no_reference s b e))
 
 -- the blocks that are skipped are zeros without a reference
 skipped_zeros : (s : Parameters) (b : ℕ) (cs : List BlockData) → 1 ≤ s.interval → AreBlocks s b cs → take (skipped s b true cs) cs ≡ replicate (skipped s b true cs) (zero_block s None)
@@ -173,8 +173,8 @@ zero_run_is s b r cs = cases (run_len s b cs) (blocks_left s b) (length cs)
           | inr e ↦ inl (ap (λ v. cond v (RemainderOfSegment r) (ZeroBlocks r z)) e)
           | inl e ↦ inr (
             ap (λ v. cond v (RemainderOfSegment r) (ZeroBlocks r z)) e,
-            elim (either (z == left) (z == len) (both (nat_le 5 z) (z == left || z == len) e).1) [ inl f ↦ inl (same z left f) | inr f ↦ inr (same z len f) ],
-            five z (both (nat_le 5 z) (z == left || z == len) e).0,
+            elim (either (z == left) (z == len) (and-split (nat_le 5 z) (z == left || z == len) e).1) [ inl f ↦ inl (same z left f) | inr f ↦ inr (same z len f) ],
+            five z (and-split (nat_le 5 z) (z == left || z == len) e).0,
           )
         ]
 
@@ -284,35 +284,35 @@ pub record Covering (s : Parameters) (b : ℕ) (behind : Bool) (cs : List BlockD
   pub blocks : blocks_in_all s (b + skipped s b behind cs) (data_sets s b behind cs) ≡ drop (skipped s b behind cs) cs ++ replicate fill (zero_block s None)
 
 -- one block more
-more : (s : Parameters) (b : ℕ) (behind ahead : Bool) (c : BlockData) (cs : List BlockData) → (ih : Covering s (b + 1) ahead cs) →
+covers_one_more : (s : Parameters) (b : ℕ) (behind ahead : Bool) (c : BlockData) (cs : List BlockData) → (ih : Covering s (b + 1) ahead cs) →
     blocks_in_all s (b + skipped s b behind (c ∷ cs)) (data_sets s b behind (c ∷ cs)) ≡ drop (skipped s b behind (c ∷ cs)) (c ∷ cs) ++ replicate ih.fill (zero_block s None) → Covering s b behind (c ∷ cs)
-more s b behind ahead c cs ih e =
+covers_one_more s b behind ahead c cs ih e =
     let n : b + 1 + length cs ≡ b + suc (length cs) = omega arith in
     let P : ℕ → Type 0 = λ x. GoOn s x ih.fill in
     record { fill = ih.fill; few = ih.few; inside = subst P n ih.inside; last = λ h. ends_cons c cs (ih.last h); blocks = e }
 
-pub covers : (s : Parameters) (b : ℕ) (behind : Bool) (cs : List BlockData) → 1 ≤ s.interval → AreBlocks s b cs → Covering s b behind cs
-covers s b behind [] h k = record {
+pub covers_blocks : (s : Parameters) (b : ℕ) (behind : Bool) (cs : List BlockData) → 1 ≤ s.interval → AreBlocks s b cs → Covering s b behind cs
+covers_blocks s b behind [] h k = record {
   fill = 0;
   few = lit< tt;
   inside = tt;
   last = λ e. absurd (omega arith);
   blocks = sym (ap (λ v. v ++ (let e : List BlockData = [] in e)) (drop_none (skipped s b behind [])));
 }
-covers s b behind (c ∷ cs) h k =
+covers_blocks s b behind (c ∷ cs) h k =
     let at = λ (n : ℕ) (ds : List CodedDataSet) (fill : ℕ) (e : skipped s b behind (c ∷ cs) ≡ n) (f : data_sets s b behind (c ∷ cs) ≡ ds)
     (g : blocks_in_all s (b + n) ds ≡ drop n (c ∷ cs) ++ replicate fill (zero_block s None)).
     (ap (λ m. blocks_in_all s (b + m) (data_sets s b behind (c ∷ cs))) e ∙ (ap (λ v. blocks_in_all s (b + n) v) f ∙ (g ∙ sym (ap (λ m. drop m (c ∷ cs) ++ replicate fill (zero_block s None)) e)))) in
     elim (bool_cases (is_zero_block c)) [
       | inr z ↦
-          let ih = covers s (b + 1) false cs h k.1 in
+          let ih = covers_blocks s (b + 1) false cs h k.1 in
           let rest = data_sets s (b + 1) false cs in
           let n : b + 0 + 1 ≡ b + 1 + 0 = omega arith in
-          more s b behind false c cs ih
+          covers_one_more s b behind false c cs ih
           (at 0 (shortest s c ∷ rest) ih.fill (skipped_plain s b behind c cs h z) (data_sets_plain s b behind c cs z)
           (cons_covers s (b + 0) (shortest s c) rest (c ∷ []) (shortest_covers s (b + 0) c) ∙ (ap (λ m. c ∷ blocks_in_all s m rest) n ∙ ap (λ v. c ∷ v) ih.blocks)))
       | inl z ↦
-          let ih = covers s (b + 1) true cs h k.1 in
+          let ih = covers_blocks s (b + 1) true cs h k.1 in
           let j = skipped s (b + 1) true cs in
           let rest = data_sets s (b + 1) true cs in
           let zc = zero_block_is s b c k.0 z in
@@ -321,12 +321,12 @@ covers s b behind (c ∷ cs) h k =
           elim (bool_cases (behind && not (begins_segment s b))) [
             | inl go ↦
                 let n : b + suc j ≡ b + 1 + j = omega arith in
-                more s b behind true c cs ih (at (suc j) rest ih.fill (skipped_go s b behind c cs h z go) (data_sets_inside s b behind c cs z go) (ap (λ m. blocks_in_all s m rest) n ∙ ih.blocks))
+                covers_one_more s b behind true c cs ih (at (suc j) rest ih.fill (skipped_go s b behind c cs h z go) (data_sets_inside s b behind c cs z go) (ap (λ m. blocks_in_all s m rest) n ∙ ih.blocks))
             | inr stop ↦
                 let start = λ (d : CodedDataSet) (e : zero_run s b c.reference (c ∷ cs) ≡ d) (fill : ℕ) (g : blocks_in_all s (b + 0) (d ∷ rest) ≡ (c ∷ cs) ++ replicate fill (zero_block s None)).
                 at 0 (d ∷ rest) fill (skipped_stop s b behind (c ∷ cs) stop) (data_sets_start s b behind c cs z stop ∙ ap (λ v. v ∷ rest) e) g in
                 elim (zero_run_is s b c.reference (c ∷ cs)) [
-                  | inl e ↦ more s b behind true c cs ih
+                  | inl e ↦ covers_one_more s b behind true c cs ih
                       (start (ZeroBlocks c.reference (run_len s b (c ∷ cs))) e ih.fill
                       (run_covers s b j (ZeroBlocks c.reference (run_len s b (c ∷ cs))) rest c cs (replicate ih.fill (zero_block s None))
                       (run_blocks s c.reference (run_len s b (c ∷ cs)) j len) zc zcs ih.blocks))
@@ -334,7 +334,7 @@ covers s b behind (c ∷ cs) h k =
                       let here : b + 0 ≡ b = omega arith in
                       let left = ap (λ i. blocks_left s i) here in
                       elim e.1 [
-                        | inl full ↦ more s b behind true c cs ih
+                        | inl full ↦ covers_one_more s b behind true c cs ih
                             (start (RemainderOfSegment c.reference) e.0 ih.fill
                             (run_covers s b j (RemainderOfSegment c.reference) rest c cs (replicate ih.fill (zero_block s None))
                             (run_blocks s c.reference (blocks_left s (b + 0)) j (left ∙ (sym full ∙ len))) zc zcs ih.blocks))

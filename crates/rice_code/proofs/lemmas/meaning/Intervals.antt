@@ -19,13 +19,13 @@ use Rattle.rice_code.specs.code.Decoded.{Decoded, Reached}
 use Rattle.rice_code.specs.code.Forms.{blocks_in_all}
 use Rattle.rice_code.specs.code.Layout.{block_after, padding, layout}
 use Rattle.rice_code.proofs.lemmas.code.BlockPlaces.{code_stands_in_intervals}
-use Rattle.rice_code.proofs.lemmas.code.GoingOn.{code_goes_on, exact, own_blocks}
+use Rattle.rice_code.proofs.lemmas.code.GoingOn.{code_goes_on, no_zeros_past_segment, own_blocks}
 use Rattle.rice_code.proofs.lemmas.code.Layouts.{ends_inside, laid_at, laid_plain, lies_inside, sent_first}
 use Rattle.rice_code.proofs.lemmas.code.SoundBlocks.{blocks_sound_behind, count_blocks}
 use Rattle.rice_code.proofs.lemmas.code.WholeBlocks.{not_filled}
 use Rattle.rice_code.proofs.lemmas.code.WholeBytes.{whole-append}
-use Rattle.rice_code.proofs.lemmas.cost.PaddingBounds.{are_blocks, starts}
-use Rattle.rice_code.proofs.lemmas.meaning.Covers.{bool_cases, covers}
+use Rattle.rice_code.proofs.lemmas.cost.PaddingBounds.{are_blocks, interval_begins_segment}
+use Rattle.rice_code.proofs.lemmas.meaning.Covers.{bool_cases, covers_blocks}
 use Rattle.rice_code.proofs.lemmas.meaning.SentSets.{are_taken}
 
 -- ---- an interval begins afresh
@@ -123,8 +123,8 @@ record Whole (s : Parameters) (xs : List ℤ) : Type 0 where
   pub reach : length (blocks_in_all s 0 (sets_of s xs)) ≡ blocks
   pub own : blocks_of s 0 (pos 0) xs ≡ blocks_from s 0 (pos 0) blocks xs
 
-whole : (s : Parameters) → IsLegal s → (count : ℕ) (xs : List ℤ) → AreIntervals s count xs → Whole s xs
-whole s legal count xs h =
+intervals_are_whole : (s : Parameters) → IsLegal s → (count : ℕ) (xs : List ℤ) → AreIntervals s count xs → Whole s xs
+intervals_are_whole s legal count xs h =
     let j : 1 ≤ s.block = grind (arith, legal.block) in
     let n = s.interval * count in
     let here : 0 + n ≡ n = omega arith in
@@ -135,7 +135,7 @@ whole s legal count xs h =
       begins = begins;
       len = h.len;
       count = (not_filled s n (pos 0) xs j h.len).1;
-      reach = ap (λ cs. length (blocks_in_all s 0 (data_sets s 0 false cs))) own ∙ exact s 0 (pos 0) n xs legal (zero_is_sample s legal.bits_from) h.legal h.len (starts s (0 + n) begins);
+      reach = ap (λ cs. length (blocks_in_all s 0 (data_sets s 0 false cs))) own ∙ no_zeros_past_segment s 0 (pos 0) n xs legal (zero_is_sample s legal.bits_from) h.legal h.len (interval_begins_segment s (0 + n) begins);
       own = own;
     }
 
@@ -149,10 +149,10 @@ code_to_byte s xs pads w =
 
 pub intervals_are_joined : IntervalsAreJoined
 intervals_are_joined s legal count xs ys h =
-    let w = whole s legal count xs h in
+    let w = intervals_are_whole s legal count xs h in
     let first = code s xs in
     let n = block_count s (length ys) in
-    let goes = code_goes_on s legal 0 0 w.blocks (pos 0) xs ys (zero_is_sample s legal.bits_from) h.legal w.len (starts s (0 + w.blocks) w.begins) in
+    let goes = code_goes_on s legal 0 0 w.blocks (pos 0) xs ys (zero_is_sample s legal.bits_from) h.legal w.len (interval_begins_segment s (0 + w.blocks) w.begins) in
     let alone = stands_alone s legal (0 + w.blocks) (0 + length first) (last_of (pos 0) xs) ys w.begins in
     goes ∙ ap (λ l. first ++ l) (alone ∙ elim (bool_cases s.pad) [
       | inl pads ↦ let byte : (0 + length first) % 8 ≡ 0 % 8 = omega (arith, code_to_byte s xs pads w) in laid_at s (0 + n) 0 (0 + length first) 0 (sets_of s ys) byte
@@ -175,18 +175,18 @@ bytes_joined a b e =
 
 pub padded_intervals_are_joined : PaddedIntervalsAreJoined
 padded_intervals_are_joined s legal pads count xs ys h =
-    ap (λ l. whole_bytes (padded_bits l)) (intervals_are_joined s legal count xs ys h) ∙ bytes_joined (code s xs) (code s ys) (code_to_byte s xs pads (whole s legal count xs h))
+    ap (λ l. whole_bytes (padded_bits l)) (intervals_are_joined s legal count xs ys h) ∙ bytes_joined (code s xs) (code s ys) (code_to_byte s xs pads (intervals_are_whole s legal count xs h))
 
 -- ---- and is decoded by itself
 
 pub intervals_are_decoded_alone : IntervalsAreDecodedAlone
 intervals_are_decoded_alone s legal count xs rest h =
     let j : 1 ≤ s.block = grind (arith, legal.block) in
-    let w = whole s legal count xs h in
+    let w = intervals_are_whole s legal count xs h in
     let cs = blocks_of s 0 (pos 0) xs in
     let sets = sets_of s xs in
     let sound = blocks_sound_behind s 0 (pos 0) xs legal j (zero_is_sample s legal.bits_from) (recursion_from_All (IsSample s) xs h.legal) in
-    let cover = covers s 0 false cs legal.interval_from (are_blocks s 0 cs sound) in
+    let cover = covers_blocks s 0 false cs legal.interval_from (are_blocks s 0 cs sound) in
     let size : length cs ≡ w.blocks = count_blocks s 0 (pos 0) (block_count s (length xs)) (filled_samples s (pos 0) xs) ∙ w.count in
     let none : cover.fill ≡ 0 = omega (arith, w.reach, ap length cover.blocks, length-append cs (replicate cover.fill (zero_block s None)), length-replicate cover.fill (zero_block s None), size) in
     let found : blocks_in_all s 0 sets ≡ cs = cover.blocks ∙ (ap (λ n. cs ++ replicate n (zero_block s None)) none ∙ append-nil cs) in
@@ -218,7 +218,7 @@ damage_stays s legal pads m n xs ys zs damaged h k same =
     let first = output s xs in
     let last = output s zs in
     let whole_code = padded_bits (code s xs) in
-    let spelled : bits_of first ≡ code s xs = bits_of-padded (code s xs) ∙ not_padded (code s xs) (code_to_byte s xs pads (whole s legal m xs h)) in
+    let spelled : bits_of first ≡ code s xs = bits_of-padded (code s xs) ∙ not_padded (code s xs) (code_to_byte s xs pads (intervals_are_whole s legal m xs h)) in
     let bits : bits_of ((first ++ damaged) ++ last) ≡ code s xs ++ (bits_of damaged ++ bits_of last) =
     bits_of-append (first ++ damaged) last ∙ (ap (λ l. l ++ bits_of last) (bits_of-append first damaged ∙ ap (λ l. l ++ bits_of damaged) spelled) ∙ append_assoc (code s xs) (bits_of damaged) (bits_of last)) in
     let decoded = intervals_are_decoded_alone s legal m xs (bits_of damaged ++ bits_of last) h in

@@ -20,7 +20,7 @@ use Rattle.rice_code.specs.code.Layout.{block_after}
 use Rattle.rice_code.proofs.lemmas.code.Filling.{last_behind, repeated_all}
 use Rattle.rice_code.proofs.lemmas.code.SoundBlocks.{count_blocks, filled_len}
 use Rattle.rice_code.proofs.lemmas.cost.CodeEnds.{padded, padded_is, sent_padded, taken_padded}
-use Rattle.rice_code.proofs.lemmas.cost.LeastCode.{least}
+use Rattle.rice_code.proofs.lemmas.cost.LeastCode.{ends_no_later}
 use Rattle.rice_code.proofs.lemmas.cost.SmallerBlocks.{AreAtMost, BeginAtMost, IsAtMost, at_most_itself}
 
 -- ---- samples that repeat the last one have the least residuals
@@ -126,7 +126,7 @@ sets_are_no_shorter s legal size xs more way bits asked ending used h =
     let end : 0 + m ≡ 0 + length cs = omega (arith, count_blocks s 0 (pos 0) m (filled_samples s (pos 0) xs)) in
     omega (
       arith,
-      least s (padded s) legal size (padded_is s legal.interval_from) 0 (0 + m) 0 0 cs h.sets end (omega arith) (taken_at_will s asked 0 h.sets h.taken) (subst (λ l. BeginAtMost cs l) theirs below),
+      ends_no_later s (padded s) legal size (padded_is s legal.interval_from) 0 (0 + m) 0 0 cs h.sets end (omega arith) (taken_at_will s asked 0 h.sets h.taken) (subst (λ l. BeginAtMost cs l) theirs below),
       sent_padded s (0 + m) 0 0 (sets_of s xs),
       taken_padded s 0 0 h.sets h.front h.lie,
     )

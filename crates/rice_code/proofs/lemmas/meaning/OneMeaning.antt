@@ -56,13 +56,13 @@ same_refusal s b rest m n P legal h k =
     h.bits ∙ (ap (λ d. length (bits_of_set s d)) same.0 ∙ sym k.bits)
 
 -- where decoding ends, no coded data set is taken
-stops : (s : Parameters) (asked : Option ℕ) (b : ℕ) (rest : List Bool) (ending : Ending) (used : ℕ) → IsLegal s → EndsWith s asked b rest ending used →
+takes_no_set : (s : Parameters) (asked : Option ℕ) (b : ℕ) (rest : List Bool) (ending : Ending) (used : ℕ) → IsLegal s → EndsWith s asked b rest ending used →
     (d : CodedDataSet) (more : List Bool) → IsWanted s asked b → IsSound s b d → rest ≡ bits_of_set s d ++ more → ⊥
-stops s asked b rest Reached used legal h d more go sound e = reached_or_not asked (s.block * b) h.0 go
-stops s asked b rest Ended used legal h d more go sound e = zeros_or_one rest h.1 (begins_with_one s b d rest more legal sound.0 e)
-stops s asked b rest CutOff used legal h d more go sound e = h.2 d more sound.0 e
-stops s asked b rest Past used legal h d more go sound e = refused_here s b rest used (RunIsSound s b) d more legal h.1 sound.0 e sound.1
-stops s asked b rest Large used legal h d more go sound e = refused_here s b rest used (ResidualsAreSound s) d more legal h.1 sound.0 e sound.2
+takes_no_set s asked b rest Reached used legal h d more go sound e = reached_or_not asked (s.block * b) h.0 go
+takes_no_set s asked b rest Ended used legal h d more go sound e = zeros_or_one rest h.1 (begins_with_one s b d rest more legal sound.0 e)
+takes_no_set s asked b rest CutOff used legal h d more go sound e = h.2 d more sound.0 e
+takes_no_set s asked b rest Past used legal h d more go sound e = refused_here s b rest used (RunIsSound s b) d more legal h.1 sound.0 e sound.1
+takes_no_set s asked b rest Large used legal h d more go sound e = refused_here s b rest used (ResidualsAreSound s) d more legal h.1 sound.0 e sound.2
 
 -- decoding ends in one way
 same_ending : (s : Parameters) (asked : Option ℕ) (b : ℕ) (rest : List Bool) (p q : Ending) (m n : ℕ) → IsLegal s → EndsWith s asked b rest p m → EndsWith s asked b rest q n → (p ≡ q) × (m ≡ n)
@@ -177,7 +177,7 @@ decoded_is_one s legal b position t sample bits asked xs ys p q m n h k =
     let cs = blocks_in_all s b h.sets in
     let ds = blocks_in_all s b k.sets in
     let same = same_sets s asked b position (b + length cs) (b + length ds) h.sets k.sets h.front k.front h.rest k.rest legal refl refl h.lie k.lie (sym h.parts ∙ k.parts) h.taken k.taken
-    (stops s asked (b + length cs) h.rest p h.last legal h.ends) (stops s asked (b + length ds) k.rest q k.last legal k.ends) in
+    (takes_no_set s asked (b + length cs) h.rest p h.last legal h.ends) (takes_no_set s asked (b + length ds) k.rest q k.last legal k.ends) in
     let blocks : cs ≡ ds = ap (λ v. blocks_in_all s b v) same.0 in
     let count = ap length blocks in
     let P : ℕ → Type 0 = λ i. EndsWith s asked (b + i) k.rest q k.last in

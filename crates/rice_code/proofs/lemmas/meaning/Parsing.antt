@@ -10,7 +10,7 @@ use Rattle.std.proofs.lemmas.List.Folds.{flat_map-map}
 use Rattle.std.proofs.lemmas.Nat.{pow_pos}
 use Rattle.rice_bits.specs.Bits.{word, fundamental_sequence}
 use Rattle.rice_bits.proofs.lemmas.bits.OneWay.{word_reads, sequence_reads, pieces_read, bits_read}
-use Rattle.rice_bits.proofs.lemmas.bits.Pieces.{Piece, NoPiece, Search, word_piece, bits_piece, sequence_piece, pieces, two_pieces}
+use Rattle.rice_bits.proofs.lemmas.bits.Pieces.{Piece, NoPiece, Search, word_piece, bits_piece, sequence_piece, search_pieces, two_pieces}
 use Rattle.rice_bits.proofs.lemmas.bits.Words.{length-word, followed_by, high-followed_by, word-followed_by}
 use Rattle.rice_samples.specs.Parameters.{Parameters, IsLegal, id_len, k_max, value_count}
 use Rattle.rice_samples.specs.Places.{is_reference}
@@ -79,9 +79,9 @@ fit_uncoded m (Some v) ds h k = (h, k)
 abbrev block_of : Option ℕ → List ℕ → BlockData
 block_of r ds = record { reference = r; residuals = uncoded r ds }
 
-always : {X : Type 0} (xs : List X) → AllByRecursion (λ x. Unit {0}) xs
-always [] = tt
-always (x ∷ xs) = (tt, always xs)
+all_units : {X : Type 0} (xs : List X) → AllByRecursion (λ x. Unit {0}) xs
+all_units [] = tt
+all_units (x ∷ xs) = (tt, all_units xs)
 
 -- no compression
 abbrev PlainBody : Parameters → (Option ℕ × List ℕ) → List Bool
@@ -94,7 +94,7 @@ plain_piece : (s : Parameters) (b : ℕ) (bits : List Bool) → Search (PlainBod
 plain_piece s b bits =
     two_pieces (reference_bits s) (IsReference s b) (λ r. flat_map (word s.bits)) (λ r xs. (length xs ≡ coded_count s r) × AllByRecursion (λ v. v < 2 ^ s.bits) xs) bits (reference_piece s b bits)
     (λ r q x y h k e. reference_reads s b r q x y h k e)
-    (λ r rest h. pieces (word s.bits) (λ v. v < 2 ^ s.bits) (word_piece s.bits) (λ v w x y h k e. (word_reads s.bits v w x y e).1) (coded_count s r) rest)
+    (λ r rest h. search_pieces (word s.bits) (λ v. v < 2 ^ s.bits) (word_piece s.bits) (λ v w x y h k e. (word_reads s.bits v w x y e).1) (coded_count s r) rest)
 
 -- second extension
 abbrev SecondBody : Parameters → (Option ℕ × List ℕ) → List Bool
@@ -107,7 +107,7 @@ second_piece : (s : Parameters) (b : ℕ) (bits : List Bool) → Search (SecondB
 second_piece s b bits =
     two_pieces (reference_bits s) (IsReference s b) (λ r. flat_map fundamental_sequence) (λ r xs. (length xs ≡ s.block / 2) × AllByRecursion (λ m. Unit {0}) xs) bits (reference_piece s b bits)
     (λ r q x y h k e. reference_reads s b r q x y h k e)
-    (λ r rest h. pieces fundamental_sequence (λ m. Unit {0}) sequence_piece (λ v w x y h k e. (sequence_reads v w x y e).1) (s.block / 2) rest)
+    (λ r rest h. search_pieces fundamental_sequence (λ m. Unit {0}) sequence_piece (λ v w x y h k e. (sequence_reads v w x y e).1) (s.block / 2) rest)
 
 -- a run
 abbrev RunBody : Parameters → (Option ℕ × ℕ) → List Bool
@@ -134,9 +134,9 @@ AreHalves k n y = ((length y.0 ≡ n) × AllByRecursion (λ m. Unit {0}) y.0) ×
 halves_piece : (k n : ℕ) (bits : List Bool) → Search HalvesBody (AreHalves k n) bits
 halves_piece k n bits =
     two_pieces (flat_map fundamental_sequence) (λ hs. (length hs ≡ n) × AllByRecursion (λ m. Unit {0}) hs) (λ hs. flat_map (λ (v : List Bool). v)) (λ hs ls. (length ls ≡ n) × AllByRecursion (λ v. length v ≡ k) ls) bits
-    (pieces fundamental_sequence (λ m. Unit {0}) sequence_piece (λ v w x y h k e. (sequence_reads v w x y e).1) n bits)
+    (search_pieces fundamental_sequence (λ m. Unit {0}) sequence_piece (λ v w x y h k e. (sequence_reads v w x y e).1) n bits)
     (λ hs gs x y h g e. let p = pieces_read fundamental_sequence (λ u v. u ≡ v) sequence_reads hs gs x y (h.0 ∙ sym g.0) e in (same_all hs gs p.0, p.1))
-    (λ hs rest h. pieces (λ (v : List Bool). v) (λ v. length v ≡ k) (bits_piece k) (λ v w x y h g e. (bits_read v w x y (h ∙ sym g) e).1) n rest)
+    (λ hs rest h. search_pieces (λ (v : List Bool). v) (λ v. length v ≡ k) (bits_piece k) (λ v w x y h g e. (bits_read v w x y (h ∙ sym g) e).1) n rest)
 
 abbrev SplitBody : Parameters → (Option ℕ × Halves) → List Bool
 SplitBody s p = reference_bits s p.0 ++ HalvesBody p.1
@@ -189,9 +189,9 @@ abbrev IsTail : Parameters → ℕ → ℕ → CodedDataSet → Type 0
 IsTail s b i d = IsForm s b d × (identifier s d ≡ i)
 
 -- from pieces of one kind to forms
-convert : {X : Type 0} (s : Parameters) (body : X → List Bool) (P : X → Type 0) (R : CodedDataSet → Type 0) (bits : List Bool) → ((x : X) → P x → (d : CodedDataSet) × R d × (body x ≡ tail s d)) →
+pieces_to_forms : {X : Type 0} (s : Parameters) (body : X → List Bool) (P : X → Type 0) (R : CodedDataSet → Type 0) (bits : List Bool) → ((x : X) → P x → (d : CodedDataSet) × R d × (body x ≡ tail s d)) →
     ((d : CodedDataSet) → R d → (x : X) × P x × (tail s d ≡ body x)) → Search body P bits → Search (tail s) R bits
-convert s body P R bits to from h =
+pieces_to_forms s body P R bits to from h =
     elim h [
       | inl p ↦ let t = to p.piece p.fits in inl (record { piece = t.0; more = p.more; fits = t.1; begins = p.begins ∙ ap (λ v. v ++ p.more) t.2 })
       | inr miss ↦ inr (λ d more g e. let f = from d g in miss f.0 more f.1 (e ∙ ap (λ v. v ++ more) f.2))
@@ -244,7 +244,7 @@ split_halves s b k c h =
     let high = sym (flat_map-map fundamental_sequence (λ d. d / 2 ^ k) ds) in
     let low = sym (flat_map-map (λ (v : List Bool). v) (word k) ds) in (
       (c.reference, (hs, ls)),
-      (h.0.reference, ((length-map ds (λ d. d / 2 ^ k) ∙ n, always hs), (length-map ds (word k) ∙ n, all_words k ds))),
+      (h.0.reference, ((length-map ds (λ d. d / 2 ^ k) ∙ n, all_units hs), (length-map ds (word k) ∙ n, all_words k ds))),
       (λ i. reference_bits s c.reference ++ (high i ++ low i)),
     )
 
@@ -280,7 +280,7 @@ unfolding tail identifier
 no_second s b bits legal miss (NoCompression c) more h e = let w = wide_id s in absurd (omega (arith, h.1))
 no_second s b bits legal miss (SecondExtension c) more h e =
     let t : bits ≡ (reference_bits s c.reference ++ flat_map fundamental_sequence (pair_codes c.residuals)) ++ more = cc in
-    miss (c.reference, pair_codes c.residuals) more (h.0.reference, (count_pairs (s.block / 2) c.residuals (h.0.len ∙ even_block s legal), always (pair_codes c.residuals))) t
+    miss (c.reference, pair_codes c.residuals) more (h.0.reference, (count_pairs (s.block / 2) c.residuals (h.0.len ∙ even_block s legal), all_units (pair_codes c.residuals))) t
 no_second s b bits legal miss (Split k c) more h e = absurd (omega (arith, h.1))
 no_second s b bits legal miss (ZeroBlocks r z) more h e = absurd cc
 no_second s b bits legal miss (RemainderOfSegment r) more h e = absurd cc
@@ -338,10 +338,10 @@ tail_piece s b (suc k) bits legal lt =
       | inl less ↦
           let le : k ≤ k_max s = omega arith in
           let e : k + 1 ≡ suc k = omega arith in
-          subst P e (convert s (SplitBody s) (IsSplit s b k) (IsTail s b (k + 1)) bits (λ x h. to_split s b k x j le h) (λ d h. from_split s b k d le h) (split_piece s b k bits))
+          subst P e (pieces_to_forms s (SplitBody s) (IsSplit s b k) (IsTail s b (k + 1)) bits (λ x h. to_split s b k x j le h) (λ d h. from_split s b k d le h) (split_piece s b k bits))
       | inr whole ↦
           let e : 2 ^ id_len s - 1 ≡ suc k = omega arith in
-          subst P e (convert s (PlainBody s) (IsPlain s b) (IsTail s b (2 ^ id_len s - 1)) bits (λ x h. to_plain s b x j h) (λ d h. from_plain s b d h) (plain_piece s b bits))
+          subst P e (pieces_to_forms s (PlainBody s) (IsPlain s b) (IsTail s b (2 ^ id_len s - 1)) bits (λ x h. to_plain s b x j h) (λ d h. from_plain s b d h) (plain_piece s b bits))
     ]
 
 pub form_piece : (s : Parameters) (b : ℕ) (bits : List Bool) → IsLegal s → Search (bits_of_set s) (IsForm s b) bits

@@ -20,9 +20,9 @@ use Rattle.rice_code.specs.code.Layout.{Lies}
 use Rattle.rice_code.specs.code.Forms.{blocks_in_all}
 use Rattle.rice_code.specs.code.Code.{sets_of, code, output}
 use Rattle.rice_code.specs.code.Decoded.{Decoded, Ending, Reached, Ended, IsWanted, EndsWith, cut_to}
-use Rattle.rice_code.proofs.lemmas.meaning.Covers.{bool_cases, both, GoOn, covers}
+use Rattle.rice_code.proofs.lemmas.meaning.Covers.{bool_cases, and-split, GoOn, covers_blocks}
 use Rattle.rice_code.proofs.lemmas.code.Layouts.{lies_laid, lies_inside}
-use Rattle.rice_code.proofs.lemmas.cost.PaddingBounds.{are_blocks, starts, sets_begin}
+use Rattle.rice_code.proofs.lemmas.cost.PaddingBounds.{are_blocks, interval_begins_segment, sets_begin}
 use Rattle.rice_code.proofs.lemmas.code.SoundBlocks.{all_append, all_replicate, last_legal, count_blocks, filled_len, blocks_sound_behind}
 use Rattle.rice_code.proofs.lemmas.meaning.SentSets.{are_taken}
 use Rattle.rice_code.proofs.lemmas.code.Filling.{blocks_append, repeated_blocks, last_repeats}
@@ -55,8 +55,8 @@ with_none s sets bits h = let P : List Bool → Type 0 = λ v. Lies s 0 0 sets v
 two_lengths : (bits x y : List Bool) → bits ≡ x ++ y → length x + length y ≡ length bits
 two_lengths bits x y e = sym (ap length e ∙ length-append x y)
 
-pub returned : (s : Parameters) → IsLegal s → (xs : List ℤ) → All (IsSample s) xs → Returned s xs
-returned s legal xs k =
+pub samples_are_returned : (s : Parameters) → IsLegal s → (xs : List ℤ) → All (IsSample s) xs → Returned s xs
+samples_are_returned s legal xs k =
     let jay : 1 ≤ s.block = grind (arith, legal.block) in
     with_block s legal jay xs k
   where
@@ -74,7 +74,7 @@ returned s legal xs k =
         let samples = recursion_from_All (IsSample s) xs k in
         let zero = zero_is_sample s legal.bits_from in
         let sound = blocks_sound_behind s 0 (pos 0) xs legal jay zero samples in
-        let cover = covers s 0 false cs legal.interval_from (are_blocks s 0 cs sound) in
+        let cover = covers_blocks s 0 false cs legal.interval_from (are_blocks s 0 cs sound) in
         let fill = cover.fill in
         let front = replicate (next_multiple_of (length xs) j - length xs) (last_of (pos 0) xs) in
         let back = replicate (j * fill) end in
@@ -144,7 +144,7 @@ returned s legal xs k =
         not_padded s b (suc n) h g =
             elim (bool_cases (is_padded s b)) [
               | inr e ↦ e
-              | inl e ↦ absurd (let f : true ≡ false = sym (starts s b (test_zero (place s b) (both s.pad (place s b == 0) e).1)) ∙ g.0 in cc)
+              | inl e ↦ absurd (let f : true ≡ false = sym (interval_begins_segment s b (test_zero (place s b) (and-split s.pad (place s b == 0) e).1)) ∙ g.0 in cc)
             ]
 
         whole_len : (base back all n fill j found : ℕ) → all ≡ base + back → base ≡ j * n → back ≡ j * fill → found ≡ n + fill → all ≡ j * found
@@ -162,7 +162,7 @@ begins_before j len i h lt =
 pub returns_samples : (s : Parameters) → IsLegal s → (xs : List ℤ) → All (IsSample s) xs → (used : ℕ) × Decoded s (bits_of (output s xs)) (Some (length xs)) xs Reached used
 returns_samples s legal xs k =
     let jay : 1 ≤ s.block = grind (arith, legal.block) in
-    let r = returned s legal xs k in
+    let r = samples_are_returned s legal xs k in
     let n : length xs - s.block * 0 ≡ length xs = omega arith in
     let all = sym (ap (λ m. take m (xs ++ r.more)) n ∙ take-append_seam xs r.more) in
     (r.size + 0, r.decoded (Some (length xs)) xs Reached 0 (λ i lt. begins_before s.block (length xs) i jay lt) all (r.enough, refl))
@@ -170,6 +170,6 @@ returns_samples s legal xs k =
 pub returns_samples_and_fill : (s : Parameters) → IsLegal s → (xs : List ℤ) → All (IsSample s) xs →
     (fill : List ℤ) × (length fill < 64 * s.block) × Decoded s (bits_of (output s xs)) None (xs ++ fill) Ended (length (bits_of (output s xs)))
 returns_samples_and_fill s legal xs k =
-    let r = returned s legal xs k in
+    let r = samples_are_returned s legal xs k in
     let P : ℕ → Type 0 = λ n. Decoded s (bits_of (output s xs)) None (xs ++ r.more) Ended n in
     (r.more, r.few, subst P r.sizes (r.decoded None (xs ++ r.more) Ended (length r.rest) (λ i lt. tt) refl (tt, r.zeros, refl)))

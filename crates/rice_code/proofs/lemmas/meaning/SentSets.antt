@@ -36,8 +36,8 @@ shortest_is_sound s b c h =
     splits (k ∷ ks) = ((tt, h.fit), splits ks)
 
 -- a run that is numbered has no more than 63 blocks
-numbered : (z left len : ℕ) → z ≤ left → left ≤ 64 → (nat_le 5 z && (z == left || z == len)) ≡ false → z ≤ 63
-numbered z left len h k e =
+numbered_is_short : (z left len : ℕ) → z ≤ left → left ≤ 64 → (nat_le 5 z && (z == left || z == len)) ≡ false → z ≤ 63
+numbered_is_short z left len h k e =
     elim (cases_lt z left) [ inl lt ↦ omega arith | inr le ↦ elim (cases_lt z 64) [ inl lt ↦ omega arith | inr ge ↦ absurd (grind (arith, nat_tests)) ] ]
 
 pub zero_run_is_sound : (s : Parameters) (b w : ℕ) (r : Option ℕ) (cs : List BlockData) → 1 ≤ s.interval → IsReference s b r → run_len s b cs ≡ suc w → IsSound s b (zero_run s b r cs)
@@ -48,7 +48,7 @@ zero_run_is_sound s b w r cs h k e =
       | inl f ↦ subst (λ (v : Bool). IsSound s b (cond v (RemainderOfSegment r) (ZeroBlocks r z))) (sym f) (k, tt, tt)
       | inr f ↦
           let inside = run_inside s b cs in
-          let few : z ≤ 63 = numbered z left (length cs) inside (some_left s b h).1 f in
+          let few : z ≤ 63 = numbered_is_short z left (length cs) inside (some_left s b h).1 f in
           subst (λ (v : Bool). IsSound s b (cond v (RemainderOfSegment r) (ZeroBlocks r z))) (sym f) ((k, omega arith), (inside, few), tt)
     ]
 

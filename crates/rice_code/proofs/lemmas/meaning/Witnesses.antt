@@ -11,10 +11,10 @@ use Rattle.rice_code.specs.code.CodedDataSets.{CodedDataSet, bits_of_set}
 use Rattle.rice_code.specs.code.Decoded.{Decoded, DecodedFrom, Ending, Ended, IsWanted, EndsWith, cut_to}
 use Rattle.rice_code.specs.code.Forms.{IsForm, RunIsSound, ResidualsAreSound, blocks_in}
 use Rattle.rice_code.specs.code.Layout.{block_after, padding}
-use Rattle.rice_code.proofs.lemmas.meaning.Covers.{both}
+use Rattle.rice_code.proofs.lemmas.meaning.Covers.{and-split}
 
-below : (limit d : ℕ) → nat_lt d limit ≡ true → d < limit
-below limit d e = grind (arith, nat_tests)
+nat_lt-below : (limit d : ℕ) → nat_lt d limit ≡ true → d < limit
+nat_lt-below limit d e = grind (arith, nat_tests)
 
 -- numbers that a test finds small enough
 pub all_below : (limit : ℕ) (ds : List ℕ) → list_all (λ d. nat_lt d limit) ds ≡ true → All (λ d. d < limit) ds
@@ -22,7 +22,7 @@ all_below limit ds e = All-from_recursion (λ d. d < limit) ds (each ds e)
   where
     each : (ds : List ℕ) → list_all (λ d. nat_lt d limit) ds ≡ true → AllByRecursion (λ d. d < limit) ds
     each [] e = tt
-    each (d ∷ ds) e = let p = both (nat_lt d limit) (list_all (λ d. nat_lt d limit) ds) e in (below limit d p.0, each ds p.1)
+    each (d ∷ ds) e = let p = and-split (nat_lt d limit) (list_all (λ d. nat_lt d limit) ds) e in (nat_lt-below limit d p.0, each ds p.1)
 
 -- unsigned samples
 pub unsigned_samples : (s : Parameters) → s.signed ≡ false → (vs : List ℕ) → list_all (λ v. nat_lt v (value_count s)) vs ≡ true → All (IsSample s) (map pos vs)
@@ -33,7 +33,7 @@ unsigned_samples s unsigned vs e = All-from_recursion (IsSample s) (map pos vs) 
 
     each : (vs : List ℕ) → list_all (λ v. nat_lt v (value_count s)) vs ≡ true → AllByRecursion (IsSample s) (map pos vs)
     each [] e = tt
-    each (v ∷ vs) e = let p = both (nat_lt v (value_count s)) (list_all (λ v. nat_lt v (value_count s)) vs) e in (one v (below (value_count s) v p.0), each vs p.1)
+    each (v ∷ vs) e = let p = and-split (nat_lt v (value_count s)) (list_all (λ v. nat_lt v (value_count s)) vs) e in (one v (nat_lt-below (value_count s) v p.0), each vs p.1)
 
 -- only zeros are left
 pub zeros_end : (s : Parameters) (asked : Option ℕ) (b n : ℕ) → IsWanted s asked b → EndsWith s asked b (replicate n false) Ended (length (replicate n false))

@@ -13,8 +13,8 @@ abbrev pub cut_sum : List ℕ → ℕ → ℕ
 cut_sum ds k = sum_by (λ d. d / 2 ^ k) ds
 
 -- a digit fewer halves a number at least
-half : (d k : ℕ) → d / 2 ^ (k + 1) + d / 2 ^ (k + 1) ≤ d / 2 ^ k
-half d k =
+digit_halves : (d k : ℕ) → d / 2 ^ (k + 1) + d / 2 ^ (k + 1) ≤ d / 2 ^ k
+digit_halves d k =
     let e : 2 ^ (k + 1) ≡ 2 ^ k * 2 = pow-add 2 k 1 in
     let f : d / 2 ^ (k + 1) ≡ d / 2 ^ k / 2 = ap (λ n. d / n) e ∙ sym (div-div-eq-div-mul d (2 ^ k) 2) in
     omega (arith, f)
@@ -25,7 +25,7 @@ sum_halves [] k = omega arith
 sum_halves (d ∷ ds) k =
     let a = sum_by-cons (λ d. d / 2 ^ k) d ds in
     let b = sum_by-cons (λ d. d / 2 ^ (k + 1)) d ds in
-    omega (arith, sum_halves ds k, half d k)
+    omega (arith, sum_halves ds k, digit_halves d k)
 
 -- so what one more digit saves never rises
 pub sum_saving : (ds : List ℕ) (k : ℕ) → 2 * cut_sum ds (k + 1) ≤ cut_sum ds k + cut_sum ds (k + 2)
@@ -43,15 +43,15 @@ falls_more ds price k falls more j h = elim (cases_lt j k) [
 ]
 
 -- rounding takes less than one off each number
-rest : (d p : ℕ) → 0 < p → d + 1 ≤ (d / p + 1) * p
-rest d p some =
+rounds_up : (d p : ℕ) → 0 < p → d + 1 ≤ (d / p + 1) * p
+rounds_up d p some =
     let e = mod-add-div d p in
     let h = mod-lt d some in
     omega arith
 
 sum_rest : (ds : List ℕ) (k : ℕ) → cut_sum ds 0 + length ds ≤ (cut_sum ds k + length ds) * 2 ^ k
 sum_rest [] k = omega arith
-sum_rest (d ∷ ds) k = rw (sum_by-cons (λ d. d / 2 ^ 0) d ds, sum_by-cons (λ d. d / 2 ^ k) d ds) (one d (cut_sum ds 0) (length ds) (d / 2 ^ k) (cut_sum ds k) (2 ^ k) (rest d (2 ^ k) (pow_pos k)) (sum_rest ds k))
+sum_rest (d ∷ ds) k = rw (sum_by-cons (λ d. d / 2 ^ 0) d ds, sum_by-cons (λ d. d / 2 ^ k) d ds) (one d (cut_sum ds 0) (length ds) (d / 2 ^ k) (cut_sum ds k) (2 ^ k) (rounds_up d (2 ^ k) (pow_pos k)) (sum_rest ds k))
   where
     one : (d s n q t p : ℕ) → d + 1 ≤ (q + 1) * p → s + n ≤ (t + n) * p → d / 2 ^ 0 + s + suc n ≤ (q + t + suc n) * p
     one d s n q t p h l = omega (arith, h, l)

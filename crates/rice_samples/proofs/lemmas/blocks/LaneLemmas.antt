@@ -39,8 +39,8 @@ sum_limit k limit (x ∷ xs) h = rw (sum_by-cons (λ d. d / 2 ^ k) x xs) (one x 
     one x q (suc p) n limit s le lt h k = omega arith
 
 -- each number of a chunk without its k lowest digits
-pub shifted : (k : ℕ) (xs : List ℕ) → length xs ≡ 8 → zip2 (λ d s. d / 2 ^ s) xs (replicate 8 k) ≡ map (λ d. d / 2 ^ k) xs
-shifted k xs e = zip2_splat (λ d s. d / 2 ^ s) xs 8 k e
+pub lanes_without_digits : (k : ℕ) (xs : List ℕ) → length xs ≡ 8 → zip2 (λ d s. d / 2 ^ s) xs (replicate 8 k) ≡ map (λ d. d / 2 ^ k) xs
+lanes_without_digits k xs e = zip2_splat (λ d s. d / 2 ^ s) xs 8 k e
 
 pub length-map : (f : ℕ → ℕ) (xs : List ℕ) → length (map f xs) ≡ length xs
 length-map f [] = refl
@@ -49,7 +49,7 @@ length-map f (x ∷ xs) = ap (λ n. suc n) (length-map f xs)
 pub next_sum : (k i : ℕ) (xs total : List ℕ) → length total ≡ 8 → 8 * i + 8 ≤ length xs → sum_l total ≡ sum_by (λ d. d / 2 ^ k) (take (8 * i) xs) →
     sum_l total + sum_l (zip2 (λ d s. d / 2 ^ s) (chunk (8 * i) 8 xs) (replicate 8 k)) ≡ sum_by (λ d. d / 2 ^ k) (take (8 * (i + 1)) xs)
 next_sum k i xs total lanes room value =
-    rw (shifted k (chunk (8 * i) 8 xs) (length-chunk (8 * i) 8 xs room), sum_map (λ d. d / 2 ^ k) (chunk (8 * i) 8 xs), take_chunk i xs, sum_by-append (λ d. d / 2 ^ k) (take (8 * i) xs) (chunk (8 * i) 8 xs), value) refl
+    rw (lanes_without_digits k (chunk (8 * i) 8 xs) (length-chunk (8 * i) 8 xs room), sum_map (λ d. d / 2 ^ k) (chunk (8 * i) 8 xs), take_chunk i xs, sum_by-append (λ d. d / 2 ^ k) (take (8 * i) xs) (chunk (8 * i) 8 xs), value) refl
 
 pub map_same : (xs : List ℕ) → map (λ d. d) xs ≡ xs
 map_same [] = refl
@@ -176,7 +176,7 @@ Each1-map P f (x ∷ xs) h = (h.0, Each1-map P f xs h.1)
 
 pub lanes_small : (k i : ℕ) (xs : List ℕ) → 8 * i + 8 ≤ length xs → ((j : ℕ) → get_or xs j 0 < 2 ^ 32) → Each1 (λ y. y * 2 ^ k ≤ 2 ^ 32 - 1) (zip2 (λ d s. d / 2 ^ s) (chunk (8 * i) 8 xs) (replicate 8 k))
 lanes_small k i xs room small =
-    rw (shifted k (chunk (8 * i) 8 xs) (length-chunk (8 * i) 8 xs room))
+    rw (lanes_without_digits k (chunk (8 * i) 8 xs) (length-chunk (8 * i) 8 xs room))
     (Each1-map (λ y. y * 2 ^ k ≤ 2 ^ 32 - 1) (λ d. d / 2 ^ k) (chunk (8 * i) 8 xs)
     (Each1-weaker (λ d. d < 2 ^ 32) (λ d. d / 2 ^ k * 2 ^ k ≤ 2 ^ 32 - 1) (λ d h. let a = div-mul-le_self d (2 ^ k) in omega arith) (chunk (8 * i) 8 xs)
     (Each1-chunk (λ d. d < 2 ^ 32) (8 * i) 8 xs (Each1-from_get_or (λ d. d < 2 ^ 32) xs 0 (λ j _. small j)))))

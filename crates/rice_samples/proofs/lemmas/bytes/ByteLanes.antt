@@ -15,9 +15,9 @@ pub one_byte : (s : Parameters) → s.bits ≤ 8 → width s ≡ 1
 one_byte s h = ap (λ t. cond t 1 (cond (nat_le s.bits 16) 2 (cond (s.three && nat_le s.bits 24) 3 4))) (le-leb s.bits 8 h)
 
 -- one byte in either order
-alone : (msb : Bool) (v : ℕ) → v < 256 → cond msb (bytes_high_first 1 v) (bytes_low_first 0 1 v) ≡ v ∷ []
-alone true v h = (let e : v % 256 ≡ v = omega (arith, h) in ap (λ b. b ∷ []) e)
-alone false v h = (let e : v % 256 ≡ v = omega (arith, h) in ap (λ b. b ∷ []) e)
+byte_in_either_order : (msb : Bool) (v : ℕ) → v < 256 → cond msb (bytes_high_first 1 v) (bytes_low_first 0 1 v) ≡ v ∷ []
+byte_in_either_order true v h = (let e : v % 256 ≡ v = omega (arith, h) in ap (λ b. b ∷ []) e)
+byte_in_either_order false v h = (let e : v % 256 ≡ v = omega (arith, h) in ap (λ b. b ∷ []) e)
 
 -- the byte of a level
 byte_of_level : (s : Parameters) (l o : ℕ) → 1 ≤ s.bits → s.bits ≤ 8 → o ≡ offset s → l < value_count s → spelling s (value_at s l) ≡ (l + (256 - o)) % 256 ∷ []
@@ -28,7 +28,7 @@ byte_of_level s l o h few e lt =
     let limit : o ≤ 2 ^ 8 = rw e (offset_limit s 8 h few) in
     let byte : twos_complement 8 (value_at s l) ≡ (l + (256 - o)) % 256 = sym v ∙ omega (arith, limit) in
     let same : word ≡ (l + (256 - o)) % 256 = ap (λ k. twos_complement k (value_at s l)) w ∙ byte in
-    (λ j. cond s.msb (bytes_high_first (one_byte s few j) (same j)) (bytes_low_first 0 (one_byte s few j) (same j))) ∙ alone s.msb ((l + (256 - o)) % 256) (omega arith)
+    (λ j. cond s.msb (bytes_high_first (one_byte s few j) (same j)) (bytes_low_first 0 (one_byte s few j) (same j))) ∙ byte_in_either_order s.msb ((l + (256 - o)) % 256) (omega arith)
 
 pub bytes-spelled : (s : Parameters) (n o : ℕ) (levels : List ℕ) → 1 ≤ s.bits → s.bits ≤ 8 → o ≡ offset s → length levels ≡ n → All (λ l. l < value_count s) levels
     → zip2 (λ a b. (a + (256 - b)) % 256) levels (replicate n o) ≡ spellings s (values_at s levels)

@@ -15,8 +15,8 @@ use Rattle.rice_samples.proofs.lemmas.setting.Levels.{half_pow, pattern_fits}
 not_below : (a b c : ℕ) → a ≡ c + b → pos a -ℤ pos b ≡ pos c
 not_below a b c e = omega (arith, ints)
 
-below : (a b c : ℕ) → suc (a + c) ≡ b → pos a -ℤ pos b ≡ negsuc c
-below a b c e = omega (arith, ints)
+pos_minus_greater : (a b c : ℕ) → suc (a + c) ≡ b → pos a -ℤ pos b ≡ negsuc c
+pos_minus_greater a b c e = omega (arith, ints)
 
 -- the value of a pattern in two's complement has that pattern
 pub signed_digits : (bits d : ℕ) → 1 ≤ bits → d < 2 ^ bits → twos_complement bits (pos ((d + 2 ^ (bits - 1)) % (2 * 2 ^ (bits - 1))) -ℤ pos (2 ^ (bits - 1))) ≡ d
@@ -34,7 +34,7 @@ signed_digits bits d h lt = halves (2 ^ (bits - 1)) (half_pow bits h) (pow_pos (
               let n : d + suc half ≡ 2 * suc half * 1 + (d - suc half) = omega arith in
               let l : (d - suc half) % (2 * suc half) ≡ d - suc half = mod-eq_of_lt (omega (arith, lt, e)) in
               let m : (d + suc half) % (2 * suc half) ≡ d - suc half = ap (λ k. k % (2 * suc half)) n ∙ (mul-add-mod_self_left (2 * suc half) 1 (d - suc half) ∙ l) in
-              let v : pos ((d + suc half) % (2 * suc half)) -ℤ pos (suc half) ≡ negsuc (2 ^ bits - suc d) = ap (λ k. pos k -ℤ pos (suc half)) m ∙ below (d - suc half) (suc half) (2 ^ bits - suc d) (omega (arith, lt, e, high)) in
+              let v : pos ((d + suc half) % (2 * suc half)) -ℤ pos (suc half) ≡ negsuc (2 ^ bits - suc d) = ap (λ k. pos k -ℤ pos (suc half)) m ∙ pos_minus_greater (d - suc half) (suc half) (2 ^ bits - suc d) (omega (arith, lt, e, high)) in
               rw v (omega (arith, lt))
         ]
 

@@ -12,7 +12,7 @@ use Rattle.rice_samples.specs.bytes.PatternLanes.{OrdersWords, turned_in_fours}
 use Rattle.rice_samples.specs.bytes.Spelling.{spelling, spellings}
 use Rattle.rice_samples.specs.bytes.Values.{ordered_bytes}
 use Rattle.rice_samples.proofs.lemmas.predict.InverseLemmas.{has_pattern}
-use Rattle.rice_samples.proofs.lemmas.predict.LaneSums.{sixteen}
+use Rattle.rice_samples.proofs.lemmas.predict.LaneSums.{sixteen_lanes}
 
 -- the bytes of each word in the given order: of one byte, of two, and of four
 abbrev in_pairs : Bool → List ℕ → List ℕ
@@ -103,66 +103,66 @@ four_more msb a b c d bs la lb lc ld h = record {
     parts true = refl
     parts false = refl
 
-ones : (msb : Bool) (bs : List ℕ) → All (λ v. v < 2 ^ 8) bs → OrdersWords msb 1 bs bs
-ones msb [] fit = record { words = []; count = refl; fit = All-nil (λ v. v < 2 ^ (8 * 1)); bits = refl; ordered_are = refl }
-ones msb (a ∷ bs) fit = one_more msb a bs (fit 0 0 (omega arith)) (ones msb bs (λ i d lt. fit (suc i) d (omega (arith, lt))))
+single_bytes_ordered : (msb : Bool) (bs : List ℕ) → All (λ v. v < 2 ^ 8) bs → OrdersWords msb 1 bs bs
+single_bytes_ordered msb [] fit = record { words = []; count = refl; fit = All-nil (λ v. v < 2 ^ (8 * 1)); bits = refl; ordered_are = refl }
+single_bytes_ordered msb (a ∷ bs) fit = one_more msb a bs (fit 0 0 (omega arith)) (single_bytes_ordered msb bs (λ i d lt. fit (suc i) d (omega (arith, lt))))
 
-pairs : (msb : Bool) (n : ℕ) (bs : List ℕ) → length bs ≡ 2 * n → All (λ v. v < 2 ^ 8) bs → OrdersWords msb 2 bs (in_pairs msb bs)
-pairs msb zero [] len fit = record { words = []; count = refl; fit = All-nil (λ v. v < 2 ^ (8 * 2)); bits = refl; ordered_are = none msb }
+pairs_ordered : (msb : Bool) (n : ℕ) (bs : List ℕ) → length bs ≡ 2 * n → All (λ v. v < 2 ^ 8) bs → OrdersWords msb 2 bs (in_pairs msb bs)
+pairs_ordered msb zero [] len fit = record { words = []; count = refl; fit = All-nil (λ v. v < 2 ^ (8 * 2)); bits = refl; ordered_are = none msb }
   where
     none : (msb : Bool) → in_pairs msb [] ≡ []
     none true = refl
     none false = refl
-pairs msb zero (a ∷ bs) len fit = absurd (omega (arith, len))
-pairs msb (suc n) [] len fit = absurd (omega (arith, len))
-pairs msb (suc n) (a ∷ []) len fit = absurd (omega (arith, len))
-pairs msb (suc n) (a ∷ b ∷ bs) len fit = pair_more msb a b bs (fit 0 0 (omega arith)) (fit 1 0 (omega arith)) (pairs msb n bs (omega (arith, len)) (λ i d lt. fit (suc (suc i)) d (omega (arith, lt))))
+pairs_ordered msb zero (a ∷ bs) len fit = absurd (omega (arith, len))
+pairs_ordered msb (suc n) [] len fit = absurd (omega (arith, len))
+pairs_ordered msb (suc n) (a ∷ []) len fit = absurd (omega (arith, len))
+pairs_ordered msb (suc n) (a ∷ b ∷ bs) len fit = pair_more msb a b bs (fit 0 0 (omega arith)) (fit 1 0 (omega arith)) (pairs_ordered msb n bs (omega (arith, len)) (λ i d lt. fit (suc (suc i)) d (omega (arith, lt))))
 
-fours : (msb : Bool) (n : ℕ) (bs : List ℕ) → length bs ≡ 4 * n → All (λ v. v < 2 ^ 8) bs → OrdersWords msb 4 bs (in_fours msb bs)
-fours msb zero [] len fit = record { words = []; count = refl; fit = All-nil (λ v. v < 2 ^ (8 * 4)); bits = refl; ordered_are = none msb }
+fours_ordered : (msb : Bool) (n : ℕ) (bs : List ℕ) → length bs ≡ 4 * n → All (λ v. v < 2 ^ 8) bs → OrdersWords msb 4 bs (in_fours msb bs)
+fours_ordered msb zero [] len fit = record { words = []; count = refl; fit = All-nil (λ v. v < 2 ^ (8 * 4)); bits = refl; ordered_are = none msb }
   where
     none : (msb : Bool) → in_fours msb [] ≡ []
     none true = refl
     none false = refl
-fours msb zero (a ∷ bs) len fit = absurd (omega (arith, len))
-fours msb (suc n) [] len fit = absurd (omega (arith, len))
-fours msb (suc n) (a ∷ []) len fit = absurd (omega (arith, len))
-fours msb (suc n) (a ∷ b ∷ []) len fit = absurd (omega (arith, len))
-fours msb (suc n) (a ∷ b ∷ c ∷ []) len fit = absurd (omega (arith, len))
-fours msb (suc n) (a ∷ b ∷ c ∷ d ∷ bs) len fit =
+fours_ordered msb zero (a ∷ bs) len fit = absurd (omega (arith, len))
+fours_ordered msb (suc n) [] len fit = absurd (omega (arith, len))
+fours_ordered msb (suc n) (a ∷ []) len fit = absurd (omega (arith, len))
+fours_ordered msb (suc n) (a ∷ b ∷ []) len fit = absurd (omega (arith, len))
+fours_ordered msb (suc n) (a ∷ b ∷ c ∷ []) len fit = absurd (omega (arith, len))
+fours_ordered msb (suc n) (a ∷ b ∷ c ∷ d ∷ bs) len fit =
     four_more msb a b c d bs (fit 0 0 (omega arith)) (fit 1 0 (omega arith)) (fit 2 0 (omega arith)) (fit 3 0 (omega arith))
-    (fours msb n bs (omega (arith, len)) (λ i x lt. fit (suc (suc (suc (suc i)))) x (omega (arith, lt))))
+    (fours_ordered msb n bs (omega (arith, len)) (λ i x lt. fit (suc (suc (suc (suc i)))) x (omega (arith, lt))))
 
 -- bytes of words stay as they are where the most significant comes first
 pub kept_words : (msb : Bool) (w : ℕ) (bs : List ℕ) → (w ≡ 1) ⊎ ((w ≡ 2) ⊎ (w ≡ 4)) → msb ≡ true → length bs ≡ 16 → All (λ v. v < 2 ^ 8) bs → OrdersWords msb w bs bs
 kept_words msb w bs widths m len fit =
     subst (λ t. OrdersWords t w bs bs) (sym m) (elim widths [
-      | inl e ↦ subst (λ k. OrdersWords true k bs bs) (sym e) (ones true bs fit)
+      | inl e ↦ subst (λ k. OrdersWords true k bs bs) (sym e) (single_bytes_ordered true bs fit)
       | inr other ↦ elim other [
-        | inl e ↦ subst (λ k. OrdersWords true k bs bs) (sym e) (pairs true 8 bs len fit)
-        | inr e ↦ subst (λ k. OrdersWords true k bs bs) (sym e) (fours true 4 bs len fit)
+        | inl e ↦ subst (λ k. OrdersWords true k bs bs) (sym e) (pairs_ordered true 8 bs len fit)
+        | inr e ↦ subst (λ k. OrdersWords true k bs bs) (sym e) (fours_ordered true 4 bs len fit)
       ]
     ])
 
 pub single_words : (msb : Bool) (w : ℕ) (bs : List ℕ) → w ≡ 1 → All (λ v. v < 2 ^ 8) bs → OrdersWords msb w bs bs
-single_words msb w bs e fit = subst (λ k. OrdersWords msb k bs bs) (sym e) (ones msb bs fit)
+single_words msb w bs e fit = subst (λ k. OrdersWords msb k bs bs) (sym e) (single_bytes_ordered msb bs fit)
 
 pub swapped_words : (msb : Bool) (w : ℕ) (bs ordered : List ℕ) → w ≡ 2 → msb ≡ false → length bs ≡ 16 → All (λ v. v < 2 ^ 8) bs → ordered ≡ swapped bs → OrdersWords msb w bs ordered
 swapped_words msb w bs ordered e m len fit is =
-    subst (λ t. OrdersWords t w bs ordered) (sym m) (subst (λ k. OrdersWords false k bs ordered) (sym e) (subst (λ l. OrdersWords false 2 bs l) (sym is) (pairs false 8 bs len fit)))
+    subst (λ t. OrdersWords t w bs ordered) (sym m) (subst (λ k. OrdersWords false k bs ordered) (sym e) (subst (λ l. OrdersWords false 2 bs l) (sym is) (pairs_ordered false 8 bs len fit)))
 
 pub turned_words : (msb : Bool) (w : ℕ) (bs ordered : List ℕ) → w ≡ 4 → msb ≡ false → length bs ≡ 16 → All (λ v. v < 2 ^ 8) bs → ordered ≡ turned_in_fours bs → OrdersWords msb w bs ordered
 turned_words msb w bs ordered e m len fit is =
-    subst (λ t. OrdersWords t w bs ordered) (sym m) (subst (λ k. OrdersWords false k bs ordered) (sym e) (subst (λ l. OrdersWords false 4 bs l) (sym is) (fours false 4 bs len fit)))
+    subst (λ t. OrdersWords t w bs ordered) (sym m) (subst (λ k. OrdersWords false k bs ordered) (sym e) (subst (λ l. OrdersWords false 4 bs l) (sym is) (fours_ordered false 4 bs len fit)))
 
 pub fours_turned : (xs : List ℕ) → length xs ≡ 16 → pick_l 0 (xs ++ xs) (3 ∷ 2 ∷ 1 ∷ 0 ∷ 7 ∷ 6 ∷ 5 ∷ 4 ∷ 11 ∷ 10 ∷ 9 ∷ 8 ∷ 15 ∷ 14 ∷ 13 ∷ 12 ∷ []) ≡ turned_in_fours xs
-fours_turned xs n = sixteen (λ xs. pick_l 0 (xs ++ xs) (3 ∷ 2 ∷ 1 ∷ 0 ∷ 7 ∷ 6 ∷ 5 ∷ 4 ∷ 11 ∷ 10 ∷ 9 ∷ 8 ∷ 15 ∷ 14 ∷ 13 ∷ 12 ∷ []) ≡ turned_in_fours xs) (λ a0 a1 a2 a3 a4 a5 a6 a7 a8 a9 a10 a11 a12 a13 a14 a15. refl) xs n
+fours_turned xs n = sixteen_lanes (λ xs. pick_l 0 (xs ++ xs) (3 ∷ 2 ∷ 1 ∷ 0 ∷ 7 ∷ 6 ∷ 5 ∷ 4 ∷ 11 ∷ 10 ∷ 9 ∷ 8 ∷ 15 ∷ 14 ∷ 13 ∷ 12 ∷ []) ≡ turned_in_fours xs) (λ a0 a1 a2 a3 a4 a5 a6 a7 a8 a9 a10 a11 a12 a13 a14 a15. refl) xs n
 
 pub length-turned : (xs : List ℕ) → length xs ≡ 16 → length (turned_in_fours xs) ≡ 16
-length-turned xs n = sixteen (λ xs. length (turned_in_fours xs) ≡ 16) (λ a0 a1 a2 a3 a4 a5 a6 a7 a8 a9 a10 a11 a12 a13 a14 a15. refl) xs n
+length-turned xs n = sixteen_lanes (λ xs. length (turned_in_fours xs) ≡ 16) (λ a0 a1 a2 a3 a4 a5 a6 a7 a8 a9 a10 a11 a12 a13 a14 a15. refl) xs n
 
 pub length-swapped : (xs : List ℕ) → length xs ≡ 16 → length (swapped xs) ≡ 16
-length-swapped xs n = sixteen (λ xs. length (swapped xs) ≡ 16) (λ a0 a1 a2 a3 a4 a5 a6 a7 a8 a9 a10 a11 a12 a13 a14 a15. refl) xs n
+length-swapped xs n = sixteen_lanes (λ xs. length (swapped xs) ≡ 16) (λ a0 a1 a2 a3 a4 a5 a6 a7 a8 a9 a10 a11 a12 a13 a14 a15. refl) xs n
 
 -- samples that have words of all their bits as patterns
 pub record SamplesOfWords (s : Parameters) (w : ℕ) (words : List ℕ) : Type 0 where

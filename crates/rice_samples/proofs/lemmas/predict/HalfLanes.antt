@@ -15,7 +15,7 @@ use Rattle.rice_samples.specs.bytes.Values.{offset}
 use Rattle.rice_samples.proofs.lemmas.bytes.LevelPatterns.{word_of_level}
 use Rattle.rice_samples.proofs.lemmas.bytes.SpellingLemmas.{offset_limit}
 use Rattle.rice_samples.proofs.lemmas.predict.LaneParts.{bytes_of, parted}
-use Rattle.rice_samples.proofs.lemmas.predict.LaneSums.{sixteen}
+use Rattle.rice_samples.proofs.lemmas.predict.LaneSums.{sixteen_lanes}
 use Rattle.rice_samples.proofs.lemmas.predict.RestoredLevels.{ranks_below-append}
 
 -- high and low parts
@@ -133,13 +133,13 @@ high-spelled s (suc n) o (l ∷ levels) h wide few order e len legal =
 
 -- pairs in a vector
 pub pairs_swapped : (xs : List ℕ) → length xs ≡ 16 → pick_l 0 (xs ++ xs) (1 ∷ 0 ∷ 3 ∷ 2 ∷ 5 ∷ 4 ∷ 7 ∷ 6 ∷ 9 ∷ 8 ∷ 11 ∷ 10 ∷ 13 ∷ 12 ∷ 15 ∷ 14 ∷ []) ≡ swapped xs
-pairs_swapped xs n = sixteen (λ xs. pick_l 0 (xs ++ xs) (1 ∷ 0 ∷ 3 ∷ 2 ∷ 5 ∷ 4 ∷ 7 ∷ 6 ∷ 9 ∷ 8 ∷ 11 ∷ 10 ∷ 13 ∷ 12 ∷ 15 ∷ 14 ∷ []) ≡ swapped xs) (λ a0 a1 a2 a3 a4 a5 a6 a7 a8 a9 a10 a11 a12 a13 a14 a15. refl) xs n
+pairs_swapped xs n = sixteen_lanes (λ xs. pick_l 0 (xs ++ xs) (1 ∷ 0 ∷ 3 ∷ 2 ∷ 5 ∷ 4 ∷ 7 ∷ 6 ∷ 9 ∷ 8 ∷ 11 ∷ 10 ∷ 13 ∷ 12 ∷ 15 ∷ 14 ∷ []) ≡ swapped xs) (λ a0 a1 a2 a3 a4 a5 a6 a7 a8 a9 a10 a11 a12 a13 a14 a15. refl) xs n
 
 pub first_eight : (xs : List ℕ) → length xs ≡ 16 → pick_l 0 (xs ++ xs) (0 ∷ 1 ∷ 2 ∷ 3 ∷ 4 ∷ 5 ∷ 6 ∷ 7 ∷ []) ≡ take 8 xs
-first_eight xs n = sixteen (λ xs. pick_l 0 (xs ++ xs) (0 ∷ 1 ∷ 2 ∷ 3 ∷ 4 ∷ 5 ∷ 6 ∷ 7 ∷ []) ≡ take 8 xs) (λ a0 a1 a2 a3 a4 a5 a6 a7 a8 a9 a10 a11 a12 a13 a14 a15. refl) xs n
+first_eight xs n = sixteen_lanes (λ xs. pick_l 0 (xs ++ xs) (0 ∷ 1 ∷ 2 ∷ 3 ∷ 4 ∷ 5 ∷ 6 ∷ 7 ∷ []) ≡ take 8 xs) (λ a0 a1 a2 a3 a4 a5 a6 a7 a8 a9 a10 a11 a12 a13 a14 a15. refl) xs n
 
 pub last_eight : (xs : List ℕ) → length xs ≡ 16 → pick_l 0 (xs ++ xs) (8 ∷ 9 ∷ 10 ∷ 11 ∷ 12 ∷ 13 ∷ 14 ∷ 15 ∷ []) ≡ drop 8 xs
-last_eight xs n = sixteen (λ xs. pick_l 0 (xs ++ xs) (8 ∷ 9 ∷ 10 ∷ 11 ∷ 12 ∷ 13 ∷ 14 ∷ 15 ∷ []) ≡ drop 8 xs) (λ a0 a1 a2 a3 a4 a5 a6 a7 a8 a9 a10 a11 a12 a13 a14 a15. refl) xs n
+last_eight xs n = sixteen_lanes (λ xs. pick_l 0 (xs ++ xs) (8 ∷ 9 ∷ 10 ∷ 11 ∷ 12 ∷ 13 ∷ 14 ∷ 15 ∷ []) ≡ drop 8 xs) (λ a0 a1 a2 a3 a4 a5 a6 a7 a8 a9 a10 a11 a12 a13 a14 a15. refl) xs n
 
 -- the words of levels
 

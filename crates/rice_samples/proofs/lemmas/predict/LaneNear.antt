@@ -53,19 +53,19 @@ before_are p n xs e = ap (λ z. p ∷ z) (pick_l-range_with_len 0 xs 0 n (omega 
 
 -- bounds
 
-lesser : (xs ys : List ℕ) → sel_l (zip2 nat_lt xs ys) xs ys ≡ zip2 min xs ys
-lesser [] ys = refl
-lesser (x ∷ xs) [] = refl
-lesser (x ∷ xs) (y ∷ ys) =
+select_min : (xs ys : List ℕ) → sel_l (zip2 nat_lt xs ys) xs ys ≡ zip2 min xs ys
+select_min [] ys = refl
+select_min (x ∷ xs) [] = refl
+select_min (x ∷ xs) (y ∷ ys) =
     let one : cond (nat_lt x y) x y ≡ min x y = grind (arith, nat_tests) in
-    λ j. one j ∷ lesser xs ys j
+    λ j. one j ∷ select_min xs ys j
 
-greater : (xs ys : List ℕ) → sel_l (zip2 nat_lt xs ys) ys xs ≡ zip2 max xs ys
-greater [] ys = refl
-greater (x ∷ xs) [] = refl
-greater (x ∷ xs) (y ∷ ys) =
+select_max : (xs ys : List ℕ) → sel_l (zip2 nat_lt xs ys) ys xs ≡ zip2 max xs ys
+select_max [] ys = refl
+select_max (x ∷ xs) [] = refl
+select_max (x ∷ xs) (y ∷ ys) =
     let one : cond (nat_lt x y) y x ≡ max x y = grind (arith, nat_tests) in
-    λ j. one j ∷ greater xs ys j
+    λ j. one j ∷ select_max xs ys j
 
 abbrev masks : Width → List ℕ → List ℕ → List Bool
 masks w xs ys = map (top (hbits w)) (zip2 (λ a b. cond (nat_lt a b) (2 ^ bits w - 1) 0) xs ys)
@@ -83,7 +83,7 @@ pub bounds_are : (w : Width) (n g : ℕ) (xs : List ℕ) → length xs ≡ n →
     zip2 (λ x y. (x + y) % 2 ^ bits w) reaches reaches) ≡ map (bound (2 ^ bits w) g) xs
 bounds_are w n g xs e =
     let ys = gaps n (2 ^ bits w) g xs in
-    let least : sel_l (masks w xs ys) xs ys ≡ zip2 min xs ys = ap (λ ms. sel_l ms xs ys) (tops_compared w nat_lt xs ys) ∙ lesser xs ys in
+    let least : sel_l (masks w xs ys) xs ys ≡ zip2 min xs ys = ap (λ ms. sel_l ms xs ys) (tops_compared w nat_lt xs ys) ∙ select_min xs ys in
     (λ j. zip2 (λ x y. (x + y) % 2 ^ bits w) (least j) (least j)) ∙ of_least n (2 ^ bits w) g xs e
 
 -- the tests
@@ -98,10 +98,10 @@ one_excess m d b h k = elim (cases_lt b d) [
       ap (λ n. n % m) up ∙ (add-mod_right (d - b) m ∙ mod-eq_of_lt (omega arith)))
 ]
 
-pub excesses : (w : Width) (ds bs : List ℕ) → Each1 (Fits w) ds → Each1 (Fits w) bs
+pub excess_of_each : (w : Width) (ds bs : List ℕ) → Each1 (Fits w) ds → Each1 (Fits w) bs
     → zip2 (λ a b. (a + (2 ^ bits w - b)) % 2 ^ bits w) (sel_l (masks w ds bs) bs ds) bs ≡ zip2 (λ d b. d - b) ds bs
-excesses w ds bs h k =
-    let most : sel_l (masks w ds bs) bs ds ≡ zip2 max ds bs = ap (λ ms. sel_l ms bs ds) (tops_compared w nat_lt ds bs) ∙ greater ds bs in
+excess_of_each w ds bs h k =
+    let most : sel_l (masks w ds bs) bs ds ≡ zip2 max ds bs = ap (λ ms. sel_l ms bs ds) (tops_compared w nat_lt ds bs) ∙ select_max ds bs in
     ap (λ ys. zip2 (λ a b. (a + (2 ^ bits w - b)) % 2 ^ bits w) ys bs) most ∙ each ds bs h k
   where
     each : (ds bs : List ℕ) → Each1 (Fits w) ds → Each1 (Fits w) bs → zip2 (λ a b. (a + (2 ^ bits w - b)) % 2 ^ bits w) (zip2 max ds bs) bs ≡ zip2 (λ d b. d - b) ds bs
@@ -112,13 +112,13 @@ excesses w ds bs h k =
         λ j. one_excess (2 ^ bits w) d b h.0.fits k.0.fits j ∷ rest j
 
 -- where no number is above the other, in any lane
-pub within : (n : ℕ) (ds bs : List ℕ) → length ds ≡ length bs → zip2 (λ d b. d - b) ds bs ≡ replicate n 0 → Each2 (λ d b. d ≤ b) ds bs
-within n [] bs e t = tt
-within n (d ∷ ds) [] e t = absurd (omega arith)
-within zero (d ∷ ds) (b ∷ bs) e t = absurd (let l = ap length t in omega arith)
-within (suc n) (d ∷ ds) (b ∷ bs) e t =
+pub no_excess_within : (n : ℕ) (ds bs : List ℕ) → length ds ≡ length bs → zip2 (λ d b. d - b) ds bs ≡ replicate n 0 → Each2 (λ d b. d ≤ b) ds bs
+no_excess_within n [] bs e t = tt
+no_excess_within n (d ∷ ds) [] e t = absurd (omega arith)
+no_excess_within zero (d ∷ ds) (b ∷ bs) e t = absurd (let l = ap length t in omega arith)
+no_excess_within (suc n) (d ∷ ds) (b ∷ bs) e t =
     let first : d - b ≡ 0 = ap (λ xs. get_or xs 0 0) t in
-    (omega (arith, first), within n ds bs (omega arith) (ap (drop 1) t))
+    (omega (arith, first), no_excess_within n ds bs (omega arith) (ap (drop 1) t))
 
 -- where no rank is above its bound, all numbers are the ones with these ranks
 pub all_near : (n m g p : ℕ) (ds bs xs before over : List ℕ) → p ≤ g → g < m → length ds ≡ n → xs ≡ near_numbers m p ds → before ≡ take n (p ∷ xs) → bs ≡ map (bound m g) before
@@ -126,12 +126,12 @@ pub all_near : (n m g p : ℕ) (ds bs xs before over : List ℕ) → p ≤ g →
 all_near n m g p ds bs xs before over h k len numbers shifted bounds are test =
     let all : bs ≡ map (bound m g) (take (length ds) (p ∷ near_numbers m p ds)) = bounds ∙ (ap (map (bound m g)) shifted ∙ (λ j. map (bound m g) (take (sym len j) (p ∷ numbers j)))) in
     let many : length ds ≡ length bs = len ∙ sym (ap length bounds ∙ (length-map (bound m g) before ∙ (ap length shifted ∙ length-take-le n (p ∷ xs) (omega (arith, len, ap length numbers, length-near_numbers m p ds))))) in
-    let each = within n ds bs many (sym are ∙ test) in
+    let each = no_excess_within n ds bs many (sym are ∙ test) in
     let near = near_ranks m g p ds h k (subst (λ (ys : List ℕ). Each2 (λ d b. d ≤ b) ds ys) all each) in
     subst (λ (ys : List ℕ). All (λ x. x ≤ g) ys × (ranks_below (g + 1) p ys ≡ ds)) (sym numbers) ((λ i d lt. Each1-get_or (λ x. x ≤ g) (near_numbers m p ds) i d lt near.0), near.1)
 
 pub none_above : (n most : ℕ) (ms over : List ℕ) → over ≡ zip2 (λ d b. d - b) ms (replicate n most) → length ms ≡ n → over ≡ replicate n 0 → All (λ m. m ≤ most) ms
-none_above n most ms over are len test = λ i d lt. Each1-get_or (λ m. m ≤ most) ms i d lt (each n ms len (within n ms (replicate n most) (len ∙ sym (length-replicate n most)) (sym are ∙ test)))
+none_above n most ms over are len test = λ i d lt. Each1-get_or (λ m. m ≤ most) ms i d lt (each n ms len (no_excess_within n ms (replicate n most) (len ∙ sym (length-replicate n most)) (sym are ∙ test)))
   where
     each : (n : ℕ) (ms : List ℕ) → length ms ≡ n → Each2 (λ d b. d ≤ b) ms (replicate n most) → Each1 (λ m. m ≤ most) ms
     each n [] e h = tt

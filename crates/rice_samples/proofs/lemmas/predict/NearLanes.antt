@@ -17,17 +17,17 @@ use Rattle.rice_samples.proofs.lemmas.blocks.LaneLemmas.{lanes_below_digits, len
 use Rattle.rice_samples.proofs.lemmas.predict.Ranks.{rank_above, rank_under}
 
 -- a vector of eight lanes
-pub eight : (P : List ℕ → Type 0) → ((a b c d e f g h : ℕ) → P (a ∷ b ∷ c ∷ d ∷ e ∷ f ∷ g ∷ h ∷ [])) → (xs : List ℕ) → length xs ≡ 8 → P xs
-eight P each [] n = absurd (omega arith)
-eight P each (a ∷ []) n = absurd (omega arith)
-eight P each (a ∷ b ∷ []) n = absurd (omega arith)
-eight P each (a ∷ b ∷ c ∷ []) n = absurd (omega arith)
-eight P each (a ∷ b ∷ c ∷ d ∷ []) n = absurd (omega arith)
-eight P each (a ∷ b ∷ c ∷ d ∷ e ∷ []) n = absurd (omega arith)
-eight P each (a ∷ b ∷ c ∷ d ∷ e ∷ f ∷ []) n = absurd (omega arith)
-eight P each (a ∷ b ∷ c ∷ d ∷ e ∷ f ∷ g ∷ []) n = absurd (omega arith)
-eight P each (a ∷ b ∷ c ∷ d ∷ e ∷ f ∷ g ∷ h ∷ []) n = each a b c d e f g h
-eight P each (a ∷ b ∷ c ∷ d ∷ e ∷ f ∷ g ∷ h ∷ i ∷ xs) n = absurd (omega arith)
+pub eight_lanes : (P : List ℕ → Type 0) → ((a b c d e f g h : ℕ) → P (a ∷ b ∷ c ∷ d ∷ e ∷ f ∷ g ∷ h ∷ [])) → (xs : List ℕ) → length xs ≡ 8 → P xs
+eight_lanes P each [] n = absurd (omega arith)
+eight_lanes P each (a ∷ []) n = absurd (omega arith)
+eight_lanes P each (a ∷ b ∷ []) n = absurd (omega arith)
+eight_lanes P each (a ∷ b ∷ c ∷ []) n = absurd (omega arith)
+eight_lanes P each (a ∷ b ∷ c ∷ d ∷ []) n = absurd (omega arith)
+eight_lanes P each (a ∷ b ∷ c ∷ d ∷ e ∷ []) n = absurd (omega arith)
+eight_lanes P each (a ∷ b ∷ c ∷ d ∷ e ∷ f ∷ []) n = absurd (omega arith)
+eight_lanes P each (a ∷ b ∷ c ∷ d ∷ e ∷ f ∷ g ∷ []) n = absurd (omega arith)
+eight_lanes P each (a ∷ b ∷ c ∷ d ∷ e ∷ f ∷ g ∷ h ∷ []) n = each a b c d e f g h
+eight_lanes P each (a ∷ b ∷ c ∷ d ∷ e ∷ f ∷ g ∷ h ∷ i ∷ xs) n = absurd (omega arith)
 
 -- ways
 
@@ -57,21 +57,21 @@ abbrev ways_of : Width → List ℕ → List ℕ
 ways_of w ds = zip2 bit_xor (zip2 (λ d s. d / 2 ^ s) ds (replicate 8 1)) (zip2 (λ a b. (a + (2 ^ bits w - b)) % 2 ^ bits w) (replicate 8 0) (zip2 bit_and ds (replicate 8 1)))
 
 pub ways_are : (w : Width) (ds : List ℕ) → length ds ≡ 8 → Each1 (Fits w) ds → ways_of w ds ≡ map (way (2 ^ bits w)) ds
-ways_are w ds n fits = eight (λ ds. Each1 (Fits w) ds → ways_of w ds ≡ map (way (2 ^ bits w)) ds) (λ a b c d e f g h. λ k. λ j. way_lane (bits w) a k.0.fits j ∷ way_lane (bits w) b k.1.0.fits j ∷ way_lane (bits w) c k.1.1.0.fits j ∷ way_lane (bits w) d k.1.1.1.0.fits j ∷ way_lane (bits w) e k.1.1.1.1.0.fits j ∷ way_lane (bits w) f k.1.1.1.1.1.0.fits j ∷ way_lane (bits w) g k.1.1.1.1.1.1.0.fits j ∷ way_lane (bits w) h k.1.1.1.1.1.1.1.0.fits j ∷ []) ds n fits
+ways_are w ds n fits = eight_lanes (λ ds. Each1 (Fits w) ds → ways_of w ds ≡ map (way (2 ^ bits w)) ds) (λ a b c d e f g h. λ k. λ j. way_lane (bits w) a k.0.fits j ∷ way_lane (bits w) b k.1.0.fits j ∷ way_lane (bits w) c k.1.1.0.fits j ∷ way_lane (bits w) d k.1.1.1.0.fits j ∷ way_lane (bits w) e k.1.1.1.1.0.fits j ∷ way_lane (bits w) f k.1.1.1.1.1.0.fits j ∷ way_lane (bits w) g k.1.1.1.1.1.1.0.fits j ∷ way_lane (bits w) h k.1.1.1.1.1.1.1.0.fits j ∷ []) ds n fits
 
 -- sums
 
 pub sums_of_two : (m : ℕ) (xs : List ℕ) → length xs ≡ 8 →
     zip2 (λ x y. (x + y) % m) xs (0 ∷ get_or xs 0 0 ∷ get_or xs 1 0 ∷ get_or xs 2 0 ∷ get_or xs 3 0 ∷ get_or xs 4 0 ∷ get_or xs 5 0 ∷ get_or xs 6 0 ∷ []) ≡ sums_behind m 1 xs
-sums_of_two m xs n = eight (λ xs. zip2 (λ x y. (x + y) % m) xs (0 ∷ get_or xs 0 0 ∷ get_or xs 1 0 ∷ get_or xs 2 0 ∷ get_or xs 3 0 ∷ get_or xs 4 0 ∷ get_or xs 5 0 ∷ get_or xs 6 0 ∷ []) ≡ sums_behind m 1 xs) (λ a b c d e f g h. refl) xs n
+sums_of_two m xs n = eight_lanes (λ xs. zip2 (λ x y. (x + y) % m) xs (0 ∷ get_or xs 0 0 ∷ get_or xs 1 0 ∷ get_or xs 2 0 ∷ get_or xs 3 0 ∷ get_or xs 4 0 ∷ get_or xs 5 0 ∷ get_or xs 6 0 ∷ []) ≡ sums_behind m 1 xs) (λ a b c d e f g h. refl) xs n
 
 pub sums_of_four : (m : ℕ) (xs : List ℕ) → length xs ≡ 8 →
     zip2 (λ x y. (x + y) % m) xs (0 ∷ 0 ∷ get_or xs 0 0 ∷ get_or xs 1 0 ∷ get_or xs 2 0 ∷ get_or xs 3 0 ∷ get_or xs 4 0 ∷ get_or xs 5 0 ∷ []) ≡ sums_behind m 2 xs
-sums_of_four m xs n = eight (λ xs. zip2 (λ x y. (x + y) % m) xs (0 ∷ 0 ∷ get_or xs 0 0 ∷ get_or xs 1 0 ∷ get_or xs 2 0 ∷ get_or xs 3 0 ∷ get_or xs 4 0 ∷ get_or xs 5 0 ∷ []) ≡ sums_behind m 2 xs) (λ a b c d e f g h. refl) xs n
+sums_of_four m xs n = eight_lanes (λ xs. zip2 (λ x y. (x + y) % m) xs (0 ∷ 0 ∷ get_or xs 0 0 ∷ get_or xs 1 0 ∷ get_or xs 2 0 ∷ get_or xs 3 0 ∷ get_or xs 4 0 ∷ get_or xs 5 0 ∷ []) ≡ sums_behind m 2 xs) (λ a b c d e f g h. refl) xs n
 
 pub sums_of_eight : (m : ℕ) (xs : List ℕ) → length xs ≡ 8 →
     zip2 (λ x y. (x + y) % m) xs (0 ∷ 0 ∷ 0 ∷ 0 ∷ get_or xs 0 0 ∷ get_or xs 1 0 ∷ get_or xs 2 0 ∷ get_or xs 3 0 ∷ []) ≡ sums_behind m 4 xs
-sums_of_eight m xs n = eight (λ xs. zip2 (λ x y. (x + y) % m) xs (0 ∷ 0 ∷ 0 ∷ 0 ∷ get_or xs 0 0 ∷ get_or xs 1 0 ∷ get_or xs 2 0 ∷ get_or xs 3 0 ∷ []) ≡ sums_behind m 4 xs) (λ a b c d e f g h. refl) xs n
+sums_of_eight m xs n = eight_lanes (λ xs. zip2 (λ x y. (x + y) % m) xs (0 ∷ 0 ∷ 0 ∷ 0 ∷ get_or xs 0 0 ∷ get_or xs 1 0 ∷ get_or xs 2 0 ∷ get_or xs 3 0 ∷ []) ≡ sums_behind m 4 xs) (λ a b c d e f g h. refl) xs n
 
 -- in each lane the sum of all ways up to its own
 lane0 : (m p a : ℕ) → ((((a + 0) % m + 0) % m + 0) % m + p) % m ≡ (p + a) % m
@@ -102,7 +102,7 @@ abbrev sums_from : ℕ → ℕ → List ℕ → List ℕ
 sums_from m p ds = zip2 (λ x y. (x + y) % m) (sums_behind m 4 (sums_behind m 2 (sums_behind m 1 (map (way m) ds)))) (replicate 8 p)
 
 pub sums_are : (m p : ℕ) (ds : List ℕ) → length ds ≡ 8 → zip2 (λ x y. (x + y) % m) (sums_behind m 4 (sums_behind m 2 (sums_behind m 1 (map (way m) ds)))) (replicate 8 p) ≡ near_numbers m p ds
-sums_are m p ds n = eight (λ ds. sums_from m p ds ≡ near_numbers m p ds) (λ a b c d e f g h. lanes (way m a) (way m b) (way m c) (way m d) (way m e) (way m f) (way m g) (way m h)) ds n
+sums_are m p ds n = eight_lanes (λ ds. sums_from m p ds ≡ near_numbers m p ds) (λ a b c d e f g h. lanes (way m a) (way m b) (way m c) (way m d) (way m e) (way m f) (way m g) (way m h)) ds n
   where
     lanes : (a b c d e f g h : ℕ) →
         zip2 (λ x y. (x + y) % m) (sums_behind m 4 (sums_behind m 2 (sums_behind m 1 (a ∷ b ∷ c ∷ d ∷ e ∷ f ∷ g ∷ h ∷ [])))) (replicate 8 p)
@@ -116,23 +116,23 @@ length-near_numbers m p (d ∷ ds) = ap (λ n. suc n) (length-near_numbers m ((p
 
 pub all_before : (p : ℕ) (xs : List ℕ) → length xs ≡ 8 →
     (p ∷ get_or xs 0 0 ∷ get_or xs 1 0 ∷ get_or xs 2 0 ∷ get_or xs 3 0 ∷ get_or xs 4 0 ∷ get_or xs 5 0 ∷ get_or xs 6 0 ∷ []) ≡ take 8 (p ∷ xs)
-all_before p xs n = eight (λ xs. (p ∷ get_or xs 0 0 ∷ get_or xs 1 0 ∷ get_or xs 2 0 ∷ get_or xs 3 0 ∷ get_or xs 4 0 ∷ get_or xs 5 0 ∷ get_or xs 6 0 ∷ []) ≡ take 8 (p ∷ xs)) (λ a b c d e f g h. refl) xs n
+all_before p xs n = eight_lanes (λ xs. (p ∷ get_or xs 0 0 ∷ get_or xs 1 0 ∷ get_or xs 2 0 ∷ get_or xs 3 0 ∷ get_or xs 4 0 ∷ get_or xs 5 0 ∷ get_or xs 6 0 ∷ []) ≡ take 8 (p ∷ xs)) (λ a b c d e f g h. refl) xs n
 
 -- bounds
 
-lesser : (xs ys : List ℕ) → sel_l (zip2 nat_lt xs ys) xs ys ≡ zip2 min xs ys
-lesser [] ys = refl
-lesser (x ∷ xs) [] = refl
-lesser (x ∷ xs) (y ∷ ys) =
+select_min : (xs ys : List ℕ) → sel_l (zip2 nat_lt xs ys) xs ys ≡ zip2 min xs ys
+select_min [] ys = refl
+select_min (x ∷ xs) [] = refl
+select_min (x ∷ xs) (y ∷ ys) =
     let one : cond (nat_lt x y) x y ≡ min x y = grind (arith, nat_tests) in
-    λ j. one j ∷ lesser xs ys j
+    λ j. one j ∷ select_min xs ys j
 
-greater : (xs ys : List ℕ) → sel_l (zip2 nat_lt xs ys) ys xs ≡ zip2 max xs ys
-greater [] ys = refl
-greater (x ∷ xs) [] = refl
-greater (x ∷ xs) (y ∷ ys) =
+select_max : (xs ys : List ℕ) → sel_l (zip2 nat_lt xs ys) ys xs ≡ zip2 max xs ys
+select_max [] ys = refl
+select_max (x ∷ xs) [] = refl
+select_max (x ∷ xs) (y ∷ ys) =
     let one : cond (nat_lt x y) y x ≡ max x y = grind (arith, nat_tests) in
-    λ j. one j ∷ greater xs ys j
+    λ j. one j ∷ select_max xs ys j
 
 abbrev masks : Width → List ℕ → List ℕ → List Bool
 masks w xs ys = map (top (hbits w)) (zip2 (λ a b. cond (nat_lt a b) (2 ^ bits w - 1) 0) xs ys)
@@ -145,18 +145,18 @@ pub bounds_are : (w : Width) (g : ℕ) (xs : List ℕ) → length xs ≡ 8 →
     zip2 (λ x y. (x + y) % 2 ^ bits w) reaches reaches) ≡ map (bound (2 ^ bits w) g) xs
 bounds_are w g xs n =
     let ys = gaps (2 ^ bits w) g xs in
-    let least : sel_l (masks w xs ys) xs ys ≡ zip2 min xs ys = ap (λ ms. sel_l ms xs ys) (tops_compared w nat_lt xs ys) ∙ lesser xs ys in
+    let least : sel_l (masks w xs ys) xs ys ≡ zip2 min xs ys = ap (λ ms. sel_l ms xs ys) (tops_compared w nat_lt xs ys) ∙ select_min xs ys in
     (λ j. zip2 (λ x y. (x + y) % 2 ^ bits w) (least j) (least j)) ∙ of_least (2 ^ bits w) g xs n
   where
     of_least : (m g : ℕ) (xs : List ℕ) → length xs ≡ 8 → zip2 (λ x y. (x + y) % m) (zip2 min xs (gaps m g xs)) (zip2 min xs (gaps m g xs)) ≡ map (bound m g) xs
-    of_least m g xs n = eight (λ xs. zip2 (λ x y. (x + y) % m) (zip2 min xs (gaps m g xs)) (zip2 min xs (gaps m g xs)) ≡ map (bound m g) xs) (λ a b c d e f g h. refl) xs n
+    of_least m g xs n = eight_lanes (λ xs. zip2 (λ x y. (x + y) % m) (zip2 min xs (gaps m g xs)) (zip2 min xs (gaps m g xs)) ≡ map (bound m g) xs) (λ a b c d e f g h. refl) xs n
 
 -- the test
 
-within : (m : ℕ) (ds bs : List ℕ) → Each1 (λ d. d < m) ds → Each1 (λ b. b < m) bs → length ds ≡ length bs → Each1 (λ x. x ≤ 0) (zip2 (λ a b. (a + (m - b)) % m) (zip2 max ds bs) bs) → Each2 (λ d b. d ≤ b) ds bs
-within m [] bs h k n t = tt
-within m (d ∷ ds) [] h k n t = absurd (omega arith)
-within m (d ∷ ds) (b ∷ bs) h k n t = (one d b h.0 k.0 t.0, within m ds bs h.1 k.1 (omega arith) t.1)
+no_excess_within : (m : ℕ) (ds bs : List ℕ) → Each1 (λ d. d < m) ds → Each1 (λ b. b < m) bs → length ds ≡ length bs → Each1 (λ x. x ≤ 0) (zip2 (λ a b. (a + (m - b)) % m) (zip2 max ds bs) bs) → Each2 (λ d b. d ≤ b) ds bs
+no_excess_within m [] bs h k n t = tt
+no_excess_within m (d ∷ ds) [] h k n t = absurd (omega arith)
+no_excess_within m (d ∷ ds) (b ∷ bs) h k n t = (one d b h.0 k.0 t.0, no_excess_within m ds bs h.1 k.1 (omega arith) t.1)
   where
     one : (d b : ℕ) → d < m → b < m → (max d b + (m - b)) % m ≤ 0 → d ≤ b
     one d b h k t = elim (cases_lt b d) [
@@ -217,7 +217,7 @@ pub all_near : (w : Width) (g p : ℕ) (ds bs xs before : List ℕ) → p ≤ g 
     → (fold_l bit_or 0 (zip2 (λ a b. (a + (2 ^ bits w - b)) % 2 ^ bits w) (sel_l (masks w ds bs) bs ds) bs) == 0) ≡ true
     → All (λ x. x ≤ g) xs × (ranks_below (g + 1) p xs ≡ ds)
 all_near w g p ds bs xs before h k n fits numbers shifted bounds test =
-    let most : sel_l (masks w ds bs) bs ds ≡ zip2 max ds bs = ap (λ ms. sel_l ms bs ds) (tops_compared w nat_lt ds bs) ∙ greater ds bs in
+    let most : sel_l (masks w ds bs) bs ds ≡ zip2 max ds bs = ap (λ ms. sel_l ms bs ds) (tops_compared w nat_lt ds bs) ∙ select_max ds bs in
     let over = zip2 (λ a b. (a + (2 ^ bits w - b)) % 2 ^ bits w) (zip2 max ds bs) bs in
     let test' : (fold_l bit_or 0 over == 0) ≡ true = ap (λ ys. fold_l bit_or 0 (zip2 (λ a b. (a + (2 ^ bits w - b)) % 2 ^ bits w) ys bs) == 0) (sym most) ∙ test in
     let none : fold_l bit_or 0 over ≡ 0 = grind (arith, nat_tests) in
@@ -225,7 +225,7 @@ all_near w g p ds bs xs before h k n fits numbers shifted bounds test =
     let all : bs ≡ map (bound (2 ^ bits w) g) (take (length ds) (p ∷ near_numbers (2 ^ bits w) p ds)) = bounds ∙ (ap (map (bound (2 ^ bits w) g)) shifted ∙ (λ j. map (bound (2 ^ bits w) g) (take (sym n j) (p ∷ numbers j)))) in
     let below = subst (λ (ys : List ℕ). Each1 (λ b. b < 2 ^ bits w) ys) (sym bounds) (bounds_below (2 ^ bits w) g before (pow_pos (bits w))) in
     let many : length ds ≡ length bs = n ∙ sym (ap length bounds ∙ (length-map (bound (2 ^ bits w) g) before ∙ (ap length shifted ∙ length-take-le 8 (p ∷ xs) (omega (arith, n, ap length numbers, length-near_numbers (2 ^ bits w) p ds))))) in
-    let each = within (2 ^ bits w) ds bs (Each1-weaker (Fits w) (λ d. d < 2 ^ bits w) (λ d f. f.fits) ds fits) below many zeros in
+    let each = no_excess_within (2 ^ bits w) ds bs (Each1-weaker (Fits w) (λ d. d < 2 ^ bits w) (λ d f. f.fits) ds fits) below many zeros in
     let near = near_ranks (2 ^ bits w) g p ds h k (subst (λ (ys : List ℕ). Each2 (λ d b. d ≤ b) ds ys) all each) in
     subst (λ (ys : List ℕ). All (λ x. x ≤ g) ys × (ranks_below (g + 1) p ys ≡ ds)) (sym numbers) ((λ i d lt. Each1-get_or (λ x. x ≤ g) (near_numbers (2 ^ bits w) p ds) i d lt near.0), near.1)
 

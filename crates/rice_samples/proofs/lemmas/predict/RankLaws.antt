@@ -98,8 +98,8 @@ rank_of_other s p x hp hx h = without_tie (value_count s) (level s p) (level s x
     ]
 
 -- how far both sides of a sample reach
-sides : (s : Parameters) (p : ℤ) → IsSample s p → min (int_gap (least s) p) (int_gap p (greatest s)) ≡ min (level s p) (value_count s - 1 - level s p)
-sides s p hp =
+reach_by_level : (s : Parameters) (p : ℤ) → IsSample s p → min (int_gap (least s) p) (int_gap p (greatest s)) ≡ min (level s p) (value_count s - 1 - level s p)
+reach_by_level s p hp =
     let z = least s in
     let up : int_gap p (greatest s) ≡ value_count s - 1 - level s p = upper z p (value_count s) hp.0 hp.1 in
     ap (λ n. min (level s p) n) up
@@ -118,7 +118,7 @@ rank_folds s p x hp hx =
     let n = value_count s in
     let l = level s p in
     let m = level s x in
-    let reach = sides s p hp in
+    let reach = reach_by_level s p hp in
     let far = distance_levels (least s) p x hp.0 hx.0 in
     let e = gap_is (least s) p hp.0 in
     let f = gap_is (least s) x hx.0 in (

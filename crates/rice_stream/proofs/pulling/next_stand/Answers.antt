@@ -6,7 +6,7 @@ use Rattle.rice_samples.proofs.lemmas.setting.ValuesAt.{length-values}
 use Rattle.rice_code.specs.decode.DecoderState.{DecoderState, IsDecoderState}
 use Rattle.rice_code.specs.declared.decode.fault.NextBlock.TheVariants.{Block, Done}
 use Rattle.rice_stream.specs.Pulling.{GivesNext, GoesOnAt, state_of}
-use Rattle.rice_stream.proofs.lemmas.DecodingLemmas.{Advances, advances, samples_of_block}
+use Rattle.rice_stream.proofs.lemmas.DecodingLemmas.{Advances, decoder_advances, samples_of_block}
 use Rattle.rice_stream.proofs.lemmas.PullingLemmas.{Steps, done_next, gives_next, goes_on_at, stand_with, stops_next}
 use Rattle.rice_stream.proofs.pulling.next_stand.Goals as goal
 
@@ -17,7 +17,7 @@ returns-in-Err-clause-takes c = λ o front given h.
     let new = c.next_levels.new in
     let says = c.in-Err.ensures in
     let setting_old : p.setting ≡ s = ap (λ (d : DecoderState). d.setting) c.requires.state in
-    let a = advances c.args.reader.now new.reader c.tick.new.self new.meter p new.self s new.levels.items setting_old refl says.in_run says.reads in
+    let a = decoder_advances c.args.reader.now new.reader c.tick.new.self new.meter p new.self s new.levels.items setting_old refl says.in_run says.reads in
     stops_next s o c.args.stand.now c.args.reader.now new.reader c.tick.new.self new.meter new.self front given (values_at s new.levels.items) c.in-Err.fault c.requires.reads
     (subst (λ (d : DecoderState). Advances c.args.reader.now new.reader c.tick.new.self new.meter d new.self (values_at s new.levels.items) (Err c.in-Err.fault)) c.requires.state a)
 
@@ -28,7 +28,7 @@ returns-in-Done-clause-takes c = λ o front given h.
     let new = c.next_levels.new in
     let says = c.in-Ok.ensures in
     let setting_old : p.setting ≡ s = ap (λ (d : DecoderState). d.setting) c.requires.state in
-    let a = advances c.args.reader.now new.reader c.tick.new.self new.meter p new.self s new.levels.items setting_old (ap Ok c.in-Done.is) says.in_run says.reads in
+    let a = decoder_advances c.args.reader.now new.reader c.tick.new.self new.meter p new.self s new.levels.items setting_old (ap Ok c.in-Done.is) says.in_run says.reads in
     done_next s o c.args.stand.now c.args.reader.now new.reader c.tick.new.self new.meter new.self front given (values_at s new.levels.items) c.requires.reads
     (subst (λ (d : DecoderState). Advances c.args.reader.now new.reader c.tick.new.self new.meter d new.self (values_at s new.levels.items) (Ok Done)) c.requires.state a)
 
@@ -47,7 +47,7 @@ returns-clause-goes_on c =
     let next = stand_with (stand.samples + c.block-size.result) (stand.bits + (c.taken.result - c.taken-before.result)) c.steps.result c.before-2.result c.block.result c.run.result in
     let stopped : q.stopped ≡ None = says.block (ap Ok c.in-Block.is) in
     let same : q ≡ state_of s next = (λ i. record { setting = setting i; block = sym c.block.ensures.place i; before = sym c.before-2.ensures i; run = sym c.run.ensures i; stopped = stopped i }) in
-    let a = advances old new c.tick.new.self c.next_levels.new.meter p q s levels setting_old (ap Ok c.in-Block.is) says.in_run says.reads in
+    let a = decoder_advances old new c.tick.new.self c.next_levels.new.meter p q s levels setting_old (ap Ok c.in-Block.is) says.in_run says.reads in
     let at_stand = subst (λ (d : DecoderState). Advances old new c.tick.new.self c.next_levels.new.meter d q (values_at s levels) (Ok Block)) c.requires.state a in
     let going : p.stopped ≡ None = ap (λ (d : DecoderState). d.stopped) c.requires.state in
     let block = samples_of_block s setting_old going a in
@@ -88,7 +88,7 @@ returns-clause-takes c = λ o front given h.
     let next = stand_with (stand.samples + c.block-size.result) (stand.bits + (c.taken.result - c.taken-before.result)) c.steps.result c.before-2.result c.block.result c.run.result in
     let stopped : q.stopped ≡ None = says.block (ap Ok c.in-Block.is) in
     let same : q ≡ state_of s next = (λ i. record { setting = setting i; block = sym c.block.ensures.place i; before = sym c.before-2.ensures i; run = sym c.run.ensures i; stopped = stopped i }) in
-    let a = advances old new c.tick.new.self c.next_levels.new.meter p q s levels setting_old (ap Ok c.in-Block.is) says.in_run says.reads in
+    let a = decoder_advances old new c.tick.new.self c.next_levels.new.meter p q s levels setting_old (ap Ok c.in-Block.is) says.in_run says.reads in
     let at_stand = subst (λ (d : DecoderState). Advances old new c.tick.new.self c.next_levels.new.meter d q (values_at s levels) (Ok Block)) c.requires.state a in
     let going : p.stopped ≡ None = ap (λ (d : DecoderState). d.stopped) c.requires.state in
     let block = samples_of_block s setting_old going a in

@@ -4,7 +4,7 @@ use Rattle.std.specs.Prelude.{flat_map}
 use Rattle.std.proofs.lemmas.Nat.{pow_pos}
 use Rattle.rice_bits.specs.Bits.{word}
 use Rattle.rice_code.specs.code.CodedDataSets.{NoCompression, sent_residuals}
-use Rattle.rice_code.proofs.lemmas.decode.ReadLemmas.{no_compression_read, placed, row_after_others, coded_part, no_compression_cut, cut_at_reference}
+use Rattle.rice_code.proofs.lemmas.decode.ReadLemmas.{no_compression_read, residuals_behind_reference, row_after_others, coded_part, no_compression_cut, cut_at_reference}
 use Rattle.rice_code.proofs.decode.options.read_no_compression.Goals as goal
 
 pub returns-in-Err-clause-err : goal.returns-in-Err-clause-err
@@ -23,7 +23,7 @@ returns-clause-ok g c =
     no_compression_read c.args.reader.now c.read_reference.new.reader c.read_words.new.reader c.args.meter.now c.read_words.new.meter s c.args.block c.in-Ok.reference _ _
     c.in-Ok.ensures.reference part.1 (pow_pos s.bits) c.in-Ok.ensures.ok
     (row_after_others (word s.bits) (λ v. v < 2 ^ s.bits) c.read_reference.new.reader c.read_words.new.reader _ (reference_place c.in-Ok.reference) c.read_words.new.words _ row
-    (placed first.result c.in-Ok.reference first.new.residuals c.read_words.new.words first.ensures.place part.0))
+    (residuals_behind_reference first.result c.in-Ok.reference first.new.residuals c.read_words.new.words first.ensures.place part.0))
     (omega (arith, c.in-Ok.ensures.steps, c.in_default.ensures.steps))
 
 pub returns-in-Err-read_words-clause-err : goal.returns-in-Err-read_words-clause-err

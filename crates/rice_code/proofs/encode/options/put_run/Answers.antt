@@ -3,7 +3,7 @@ use Rattle.rice_bits.specs.Bits.{word, fundamental_sequence}
 use Rattle.rice_samples.specs.Parameters.{id_len}
 use Rattle.rice_code.specs.code.CodedDataSets.{reference_bits}
 use Rattle.rice_code.specs.encode.HeldBlocks.{zeros_of_run}
-use Rattle.rice_code.proofs.lemmas.encode.OptionBits.{word_flag_zero, flagged, run_text, run_cost}
+use Rattle.rice_code.proofs.lemmas.encode.OptionBits.{word_flag_zero, append_flagged, run_text, run_cost}
 use Rattle.rice_code.proofs.encode.options.put_run.Goals as goal
 
 pub returns : goal.returns
@@ -17,7 +17,7 @@ returns c =
     let three = c.put_fs.ensures.bits ∙ (λ i. two i ++ fundamental_sequence (c.sent_zeros.ensures.value i)) in
     let cost = run_cost s c.args.to_end c.args.reference c.args.z in
     record {
-      bits = three ∙ (flagged c.args.sink.now (word (id_len s) 0) ref body false ∙ ap (λ z. c.args.sink.now ++ z) (sym (run_text s c.args.to_end c.args.reference c.args.z)));
+      bits = three ∙ (append_flagged c.args.sink.now (word (id_len s) 0) ref body false ∙ ap (λ z. c.args.sink.now ++ z) (sym (run_text s c.args.to_end c.args.reference c.args.z)));
       len = omega (arith, cost);
       steps_from = omega (arith, cost);
       steps_to = omega (arith, cost);

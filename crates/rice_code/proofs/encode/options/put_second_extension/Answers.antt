@@ -5,7 +5,7 @@ use Rattle.rice_samples.specs.Parameters.{id_len}
 use Rattle.rice_samples.specs.blocks.Pairs.{pair_codes}
 use Rattle.rice_code.specs.code.CodedDataSets.{reference_bits, reference_len}
 use Rattle.rice_code.specs.encode.Parts.{pairs_len}
-use Rattle.rice_code.proofs.lemmas.encode.OptionBits.{word_flag, flagged}
+use Rattle.rice_code.proofs.lemmas.encode.OptionBits.{word_flag, append_flagged}
 use Rattle.rice_code.proofs.encode.options.put_second_extension.Goals as goal
 
 pub returns : goal.returns
@@ -17,7 +17,7 @@ returns c =
     let one = ap (λ z. c.args.sink.now ++ z) head in
     let two = c.begin-fields.ensures.bits ∙ (λ i. one i ++ reference_bits s (c.reference.ensures i)) in
     let three = c.put.ensures.bits ∙ (c.put_pairs.ensures.bits ∙ (λ i. two i ++ codes (c.residuals-residuals.ensures i))) in
-    let all = three ∙ flagged c.args.sink.now (word (id_len s) 0) ref (codes c.args.block.now.residuals) true in
+    let all = three ∙ append_flagged c.args.sink.now (word (id_len s) 0) ref (codes c.args.block.now.residuals) true in
     let len = ap length c.residuals-residuals.ensures in
     let pairs = ap pairs_len c.residuals-residuals.ensures in
     let len_ref = ap (reference_len s) c.reference.ensures in

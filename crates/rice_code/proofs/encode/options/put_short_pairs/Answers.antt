@@ -2,7 +2,7 @@ use Rattle.std.proofs.Common.{◌≡◌, ◌+◌, ◌*◌, ◌++◌, ◌∙◌, 
 use Rattle.std.specs.Prelude.{flat_map, sum_by}
 use Rattle.rice_bits.specs.Bits.{fundamental_sequence}
 use Rattle.rice_samples.specs.blocks.Pairs.{pair_code, pair_codes}
-use Rattle.rice_code.proofs.lemmas.encode.GatheredOnes.{filled}
+use Rattle.rice_code.proofs.lemmas.encode.GatheredOnes.{all_digits_filled}
 use Rattle.rice_code.proofs.lemmas.encode.OptionBits.{pairs_left, pairs_left_sum, no_pairs_left, length-pairs}
 use Rattle.rice_code.proofs.encode.options.put_short_pairs.Goals as goal
 
@@ -53,7 +53,7 @@ add-requires-clause-value c =
     let inv = c.loop-i.invariant in
     let all : inv.filled.0 ≡ flat_map fundamental_sequence (pair_codes xs) = sym (append-nil inv.filled.0) ∙ (ap (λ v. inv.filled.0 ++ flat_map fundamental_sequence (pair_codes v)) (sym none) ∙ inv.filled.2) in
     let left = ap (λ v. sum_by (λ g. g + 1) (pair_codes v)) none in
-    let spelled = filled c.loop-i.row.value c.loop-i.row.left c.args.total (flat_map fundamental_sequence (pair_codes xs)) (omega (arith, left, inv.left)) (omega (arith, length-pairs xs, c.requires.total))
+    let spelled = all_digits_filled c.loop-i.row.value c.loop-i.row.left c.args.total (flat_map fundamental_sequence (pair_codes xs)) (omega (arith, left, inv.left)) (omega (arith, length-pairs xs, c.requires.total))
     (rw (← all) inv.filled.1) in
     spelled.fits
 
@@ -64,7 +64,7 @@ returns c =
     let inv = c.loop-i.invariant in
     let all : inv.filled.0 ≡ flat_map fundamental_sequence (pair_codes xs) = sym (append-nil inv.filled.0) ∙ (ap (λ v. inv.filled.0 ++ flat_map fundamental_sequence (pair_codes v)) (sym none) ∙ inv.filled.2) in
     let left = ap (λ v. sum_by (λ g. g + 1) (pair_codes v)) none in
-    let spelled = filled c.loop-i.row.value c.loop-i.row.left c.args.total (flat_map fundamental_sequence (pair_codes xs)) (omega (arith, left, inv.left)) (omega (arith, length-pairs xs, c.requires.total))
+    let spelled = all_digits_filled c.loop-i.row.value c.loop-i.row.left c.args.total (flat_map fundamental_sequence (pair_codes xs)) (omega (arith, left, inv.left)) (omega (arith, length-pairs xs, c.requires.total))
     (rw (← all) inv.filled.1) in
     record {
       bits = c.add.ensures.bits ∙ ap (λ v. c.args.sink.now ++ c.args.fields.now ++ v) spelled.digits;

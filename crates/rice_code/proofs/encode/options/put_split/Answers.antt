@@ -3,7 +3,7 @@ use Rattle.std.specs.Prelude.{flat_map}
 use Rattle.rice_bits.specs.Bits.{word, fundamental_sequence}
 use Rattle.rice_samples.specs.Parameters.{id_len}
 use Rattle.rice_code.specs.code.CodedDataSets.{reference_bits, reference_len, sent_residuals}
-use Rattle.rice_code.proofs.lemmas.encode.OptionBits.{four, no_digits, sent_are}
+use Rattle.rice_code.proofs.lemmas.encode.OptionBits.{append_four, no_digits, sent_are}
 use Rattle.rice_code.proofs.encode.options.put_split.Goals as goal
 
 pub put_low-requires-clause-room : goal.put_low-requires-clause-room
@@ -51,7 +51,7 @@ returns c =
     let len = ap length c.residuals-residuals.ensures in
     let len_ref = ap (reference_len s) c.reference.ensures in
     record {
-      bits = all ∙ four c.args.sink.now (word (id_len s) (c.args.k + 1)) ref high low;
+      bits = all ∙ append_four c.args.sink.now (word (id_len s) (c.args.k + 1)) ref high low;
       len = omega (arith, sent.count, sent.digits, sent.parts, len, len_ref, c.requires.sound.len);
       steps_from = omega (arith, sent.count, sent.digits, sent.parts, len, len_ref, c.requires.sound.len);
       steps_to = omega (arith, sent.count, sent.digits, sent.parts, len, len_ref, c.requires.sound.len);
@@ -76,7 +76,7 @@ returns-then-k-eq0 c =
     let len = ap length c.residuals-residuals.ensures in
     let len_ref = ap (reference_len s) c.reference.ensures in
     record {
-      bits = all ∙ (last ∙ four c.args.sink.now (word (id_len s) (c.args.k + 1)) ref high low);
+      bits = all ∙ (last ∙ append_four c.args.sink.now (word (id_len s) (c.args.k + 1)) ref high low);
       len = omega (arith, few, sent.count, sent.digits, sent.parts, len, len_ref, c.requires.sound.len);
       steps_from = omega (arith, few, sent.count, sent.digits, sent.parts, len, len_ref, c.requires.sound.len);
       steps_to = omega (arith, few, sent.count, sent.digits, sent.parts, len, len_ref, c.requires.sound.len);

@@ -1,6 +1,6 @@
 use Rattle.std.proofs.Common.{arith, ◌≡◌, ◌++◌, ◌∙◌, ap, length-append}
 use Rattle.rice_code.specs.encode.Ones.{four_sequences, sequences_from}
-use Rattle.rice_code.proofs.lemmas.encode.GatheredOnes.{filled}
+use Rattle.rice_code.proofs.lemmas.encode.GatheredOnes.{all_digits_filled}
 use Rattle.rice_code.proofs.lemmas.encode.ShortSequences.{length-four}
 use Rattle.rice_code.proofs.encode.short_sequences.put_eight.Goals as goal
 
@@ -12,7 +12,7 @@ add-requires-clause-value c =
     let len = length-append w x in
     let four = length-four c.args.b.0 c.args.b.1 c.args.b.2 c.args.b.3 in
     let none : row.result.left ≡ 0 = omega (arith, len, four, c.requires.total, c.sequences_of_four.ensures.left, row.ensures.left) in
-    let spelled = filled row.result.value row.result.left c.args.total (w ++ x) none (omega (arith, c.requires.total)) (row.ensures.bits w c.sequences_of_four.ensures.bits) in
+    let spelled = all_digits_filled row.result.value row.result.left c.args.total (w ++ x) none (omega (arith, c.requires.total)) (row.ensures.bits w c.sequences_of_four.ensures.bits) in
     spelled.fits
 
 pub returns-then-total-le56 : goal.returns-then-total-le56
@@ -23,7 +23,7 @@ returns-then-total-le56 c =
     let len = length-append w x in
     let four = length-four c.args.b.0 c.args.b.1 c.args.b.2 c.args.b.3 in
     let none : row.result.left ≡ 0 = omega (arith, len, four, c.requires.total, c.sequences_of_four.ensures.left, row.ensures.left) in
-    let spelled = filled row.result.value row.result.left c.args.total (w ++ x) none (omega (arith, c.requires.total)) (row.ensures.bits w c.sequences_of_four.ensures.bits) in
+    let spelled = all_digits_filled row.result.value row.result.left c.args.total (w ++ x) none (omega (arith, c.requires.total)) (row.ensures.bits w c.sequences_of_four.ensures.bits) in
     record {
       bits = c.add.ensures.bits ∙ ap (λ v. c.args.sink.now ++ c.args.fields.now ++ v) spelled.digits;
       len = omega (arith, c.requires.total, c.add.ensures.len);

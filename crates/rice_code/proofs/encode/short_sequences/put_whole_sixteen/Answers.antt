@@ -1,7 +1,7 @@
 use Rattle.std.proofs.Common.{arith, ◌≡◌, ◌++◌, ◌∙◌, ap, length}
 use Rattle.rice_code.specs.encode.Ones.{four_sequences, sequences_from}
 use Rattle.rice_code.proofs.lemmas.encode.ShortSequences.{length-first_part, length-four, length-three_parts, four_behind}
-use Rattle.rice_code.proofs.lemmas.encode.GatheredOnes.{filled}
+use Rattle.rice_code.proofs.lemmas.encode.GatheredOnes.{all_digits_filled}
 use Rattle.rice_code.proofs.encode.short_sequences.put_whole_sixteen.Goals as goal
 
 pub put_twelve-requires : goal.put_twelve-requires
@@ -83,7 +83,7 @@ add-requires-clause-value c =
     let none : row.result.left ≡ 0 = omega (arith, whole, parts, four_x, four_y, four_z, c.requires.total, c.sequences_of_four.ensures.left, c.with_four_sequences-half.ensures.left, c.with_four_sequences.ensures.left, row.ensures.left) in
     let half = c.with_four_sequences-half.ensures.bits w c.sequences_of_four.ensures.bits in
     let more = c.with_four_sequences.ensures.bits _ half in
-    let spelled = filled row.result.value row.result.left c.args.total (w ++ x ++ y ++ z) none (omega (arith, c.requires.total)) (row.ensures.bits _ more) in
+    let spelled = all_digits_filled row.result.value row.result.left c.args.total (w ++ x ++ y ++ z) none (omega (arith, c.requires.total)) (row.ensures.bits _ more) in
     spelled.fits
 
 pub returns-then-total-le56 : goal.returns-then-total-le56
@@ -101,7 +101,7 @@ returns-then-total-le56 c =
     let none : row.result.left ≡ 0 = omega (arith, whole, parts, four_x, four_y, four_z, c.requires.total, c.sequences_of_four.ensures.left, c.with_four_sequences-half.ensures.left, c.with_four_sequences.ensures.left, row.ensures.left) in
     let half = c.with_four_sequences-half.ensures.bits w c.sequences_of_four.ensures.bits in
     let more = c.with_four_sequences.ensures.bits _ half in
-    let spelled = filled row.result.value row.result.left c.args.total (w ++ x ++ y ++ z) none (omega (arith, c.requires.total)) (row.ensures.bits _ more) in
+    let spelled = all_digits_filled row.result.value row.result.left c.args.total (w ++ x ++ y ++ z) none (omega (arith, c.requires.total)) (row.ensures.bits _ more) in
     record {
       bits = c.add.ensures.bits ∙ ap (λ v. c.args.sink.now ++ c.args.fields.now ++ v) spelled.digits;
       len = omega (arith, c.requires.total, c.add.ensures.len);

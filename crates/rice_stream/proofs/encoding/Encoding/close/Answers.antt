@@ -4,7 +4,7 @@ use Rattle.rice_code.specs.code.Code.{code_bits, complete_samples}
 use Rattle.rice_code.specs.code.Blocks.{fill_count_of}
 use Rattle.rice_code.specs.encode.Coder.{AddsCode}
 use Rattle.rice_stream.specs.declared.outcome.Report.{Report}
-use Rattle.rice_stream.proofs.lemmas.EncodingLemmas.{all_small, counts_small, sink_short, closed}
+use Rattle.rice_stream.proofs.lemmas.EncodingLemmas.{all_small, counts_small, sink_short, samples_end}
 use Rattle.rice_stream.proofs.encoding.Encoding.close.Goals as goal
 
 pub finish_reset-bits-requires : goal.finish_reset-bits-requires
@@ -28,4 +28,4 @@ returns g c s old now xs h =
     let r : Report = record { samples = e.samples; bits = e.bits + f.result; steps = c.steps.result } in
     let adds : AddsCode e.coder.setting (complete_samples e.coder.setting xs) xs e.sink f.new.sink f.result (fill_count_of e.coder.setting xs) e.meter c.steps.result =
     subst (AddsCode e.coder.setting (complete_samples e.coder.setting xs) xs e.sink f.new.sink f.result (fill_count_of e.coder.setting xs) e.meter) (sym c.steps.ensures.value) (f.ensures.adds xs h.counts.stands) in
-    closed s old now e r f.new.sink c.pad.new.self xs f.result h adds refl refl c.pad.ensures.bits
+    samples_end s old now e r f.new.sink c.pad.new.self xs f.result h adds refl refl c.pad.ensures.bits

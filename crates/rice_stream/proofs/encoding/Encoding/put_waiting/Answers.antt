@@ -3,7 +3,7 @@ use Rattle.rice_bits.specs.Bits.{word}
 use Rattle.rice_stream.specs.EncodingState.{IsEncodingOf}
 use Rattle.rice_stream.specs.Feeding.{behind}
 use Rattle.rice_stream.specs.declared.encoding.Encoding.{Encoding}
-use Rattle.rice_stream.proofs.lemmas.Seams.{encoding_at, resumed}
+use Rattle.rice_stream.proofs.lemmas.Seams.{encoding_at, encoding_is_resumed}
 use Rattle.rice_stream.proofs.encoding.Encoding.put_waiting.Goals as goal
 
 pub put-requires : goal.put-requires
@@ -18,4 +18,4 @@ returns g c s now xs st h =
     let sink = c.put.ensures.bits ∙ ap (λ l. l ++ word seam.waiting_bits seam.waiting) st.sink in
     let same : encoding_at g.row.N s seam ≡ record { coder = e.coder; sink = c.put.new.self; meter = e.meter; samples = e.samples; bits = e.bits } =
     λ i. record { coder = sym st.coder i; sink = sym sink i; meter = sym st.steps i; samples = sym st.samples i; bits = sym st.bits i } in
-    subst (λ (v : Encoding g.row.N). IsEncodingOf s (behind s xs now) now v xs) same (resumed g.row.N s seam xs now h)
+    subst (λ (v : Encoding g.row.N). IsEncodingOf s (behind s xs now) now v xs) same (encoding_is_resumed g.row.N s seam xs now h)

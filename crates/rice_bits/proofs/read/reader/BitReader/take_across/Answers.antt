@@ -2,7 +2,7 @@ use Rattle.std.proofs.Common.{arith, ◌≡◌, ◌+◌, ◌-◌, ◌++◌, [], 
 use Rattle.std.proofs.lemmas.Nat.{pow_pos}
 use Rattle.rice_bits.specs.Bits.{word}
 use Rattle.rice_bits.proofs.lemmas.bits.Words.{join_below, length-word, word-nil, word-cat}
-use Rattle.rice_bits.proofs.lemmas.read.ReaderLemmas.{no_refusal, refused, takes-none, takes-append, stops-append, still_wait}
+use Rattle.rice_bits.proofs.lemmas.read.ReaderLemmas.{no_refusal, refusal_is, takes-none, takes-append, stops-append, still_wait}
 use Rattle.rice_bits.proofs.read.reader.BitReader.take_across.Goals as goal
 
 pub loop-left-init : goal.loop-left-init
@@ -41,7 +41,7 @@ loop-left-preserved g c =
     }
 
 pub returns-in-Err-clause-err : goal.returns-in-Err-clause-err
-returns-in-Err-clause-err g c none = refused _ _ _ c.in-Err.ensures.err.refusal (
+returns-in-Err-clause-err g c none = refusal_is _ _ _ c.in-Err.ensures.err.refusal (
   word (c.args.width - c.loop-left.left) c.loop-left.value ++ [],
   omega (arith, length-append (word (c.args.width - c.loop-left.left) c.loop-left.value) [], length-word (c.args.width - c.loop-left.left) c.loop-left.value, c.loop-left.invariant.within, c.loop-left-test.true),
   stops-append c.args.self.now c.loop-left.self c.take_some.new.self _ _ _ c.loop-left.invariant.takes c.in-Err.ensures.err,

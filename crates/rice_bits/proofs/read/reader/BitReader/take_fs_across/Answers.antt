@@ -1,7 +1,7 @@
 use Rattle.std.proofs.Common.{arith, ◌≡◌, ap, sym, ◌∙◌, subst, refl, None, false, replicate}
 use Rattle.std.proofs.lemmas.List.{replicate-append-replicate, append-nil}
 use Rattle.rice_bits.specs.read.Reader.{Stops}
-use Rattle.rice_bits.proofs.lemmas.read.ReaderLemmas.{no_refusal, refused, takes-none, takes-append, stops-append, zeros-fs, one_waits}
+use Rattle.rice_bits.proofs.lemmas.read.ReaderLemmas.{no_refusal, refusal_is, takes-none, takes-append, stops-append, zeros-fs, one_waits}
 use Rattle.rice_bits.proofs.read.reader.BitReader.take_fs_across.Goals as goal
 
 pub loop-count-init : goal.loop-count-init
@@ -32,7 +32,7 @@ loop-count-preserved g c =
     }
 
 pub returns-in-Err-clause-err : goal.returns-in-Err-clause-err
-returns-in-Err-clause-err g c none = refused _ _ _ c.in-Err.ensures.err.refusal (
+returns-in-Err-clause-err g c none = refusal_is _ _ _ c.in-Err.ensures.err.refusal (
   c.loop-count.zeros,
   subst (λ xs. Stops c.args.self.now c.take_run.new.self xs c.in-Err.field-0) (append-nil (replicate c.loop-count.zeros false))
       (stops-append c.args.self.now c.loop-count.self c.take_run.new.self _ _ _ c.loop-count.invariant.takes c.in-Err.ensures.err),
