@@ -38,6 +38,7 @@ pub added_last : {E : Type 0} (old : Command) (a : Arg) (x : App) (r : Rule) (re
 added_last old a x r (Ok new) adds local rule before = added old new a x r adds local rule before
 added_last old a x r (Err e) adds local rule before = tt
 
+-- what the parser refuses of a command, it refuses of one that is built as it is
 fails_by : (command a : App) (words : List Text) (r : Result ArgMatches Error) → is_simple_and_free command ≡ true → a ≡ command → (is_simple_and_free a ≡ true → FailsBy (fault_of a words) r) → FailsBy (fault_of command words) r
 fails_by command a words r free is_it fails =
     let of_it : is_simple_and_free command ≡ true → FailsBy (fault_of command words) r =

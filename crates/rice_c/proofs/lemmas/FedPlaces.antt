@@ -24,6 +24,7 @@ record HasPushed (s : Parameters) (input : List ℕ) (feed : RiceFeed) (written 
   pub stands : IsSeam s feed.seam samples
   pub count : written ≡ length (early_output s samples)
 
+-- one push goes on with what was pushed before
 pushes_on : (s : Parameters) (input : List ℕ) (feed : RiceFeed) (p : Push) (ps : List Push) (written : ℕ) → HasPushed s input feed written → AreFed s input feed (p ∷ ps) → HasPushed s input p.feed (written + p.report.written)
 pushes_on s input feed p ps written h are_fed =
     let d = are_fed.2 h.samples h.stands in
@@ -46,6 +47,7 @@ pushes_on s input feed p ps written h are_fed =
           count = omega (arith, h.count, count, ap length e.writes.took.bytes, ap length e.writes.split, length-append (early_output s xs) e.writes.more);
         }
 
+-- and several do, one after another
 pushes_all : (s : Parameters) (input : List ℕ) (feed : RiceFeed) (pushes : List Push) (written : ℕ) → HasPushed s input feed written → AreFed s input feed pushes → HasPushed s input (last_feed feed pushes) (written + written_by pushes)
 pushes_all s input feed [] written h are_fed = let e : written ≡ written + 0 = omega arith in subst (λ (n : ℕ). HasPushed s input feed n) e h
 pushes_all s input feed (p ∷ ps) written h are_fed =
@@ -53,6 +55,7 @@ pushes_all s input feed (p ∷ ps) written h are_fed =
     let e : written + p.report.written + written_by ps ≡ written + written_by (p ∷ ps) = omega (arith, all) in
     subst (λ (n : ℕ). HasPushed s input (last_feed p.feed ps) n) e (pushes_all s input p.feed ps (written + p.report.written) (pushes_on s input feed p ps written h are_fed) are_fed.3)
 
+-- where an interval begins, the reports' counts are its place
 pub feeds_tell_places : FeedsTellPlaces
 feeds_tell_places s input setting first begun pushes begins are_fed at_start =
     let none = begins.none in

@@ -97,6 +97,7 @@ module _ (s : Parameters) (legal : IsLegal s) (seam : Seam) (xs : List ℤ) (h :
     finish_wants r (Some (RunPastSegment block)) e w = absurd w
     finish_wants r (Some (ResidualTooLarge block)) e w = absurd w
 
+-- the room that is told suffices for the code of a piece
 pub push_room_suffices : PushRoomSuffices
 push_room_suffices s legal xs input old new r status = (
   λ before after h p enough no.

@@ -18,6 +18,7 @@ room_of : Option Room → Room → Room
 room_of None room = room
 room_of (Some room) other = room
 
+-- a room that is the same was filled with nothing
 fills_nothing : (a b : Room) → Some b ≡ Some a → Fills a b []
 unfolding room_of
 fills_nothing a b e = let same : b ≡ a = ap (λ o. room_of o a) e in record { borrow = ap (λ r. r.borrow) same; bytes = ap (λ r. r.bytes) same ∙ sym (append-nil a.bytes); rest = ap (λ r. r.rest) same }
@@ -57,6 +58,7 @@ module _ (s : Parameters) (xs : List ℤ) (input : List ℕ) (a b : Room) where
   rest_fills r (Some (RunPastSegment block)) h = absurd h
   rest_fills r (Some (ResidualTooLarge block)) h = absurd h
 
+-- memory is read without faults
 pub not_read : (fault : Option Fault) (n : ℕ) → Fails fault 0 0 0 n → fault ≢ Some Read
 not_read fault n fails e = let f : Fails (Some Read) 0 0 0 n = subst (λ (f : Option Fault). Fails f 0 0 0 n) e fails in omega (arith, f.0)
 

@@ -41,6 +41,7 @@ use Rattle.rice_c.proofs.lemmas.Returning.{decode_suffices}
 abbrev pause_of : ℕ → Pause
 pause_of n = cond (n == 9) pauses.Full (cond (n == 11) pauses.Blank (cond (n == 12) pauses.Cut (cond (n == 7) pauses.RunPastSegment (cond (n == 8) pauses.ResidualTooLarge pauses.TooLong))))
 
+-- the number of a status tells the pause
 pause_is : (q : Pause) (n : ℕ) → n ≡ status_number (pause_status q) → q ≡ pause_of n
 pause_is pauses.Full n e = ap pause_of (sym e)
 pause_is pauses.Blank n e = ap pause_of (sym e)
@@ -56,6 +57,7 @@ abbrev engines : List Pull → List stream.Pull
 engines [] = []
 engines (p ∷ ps) = engine p ∷ engines ps
 
+-- a pull of C is one of the engine below
 one_pulled : (s : Parameters) (code : List ℕ) (drain : RiceDrain) (p : Pull) (behind : List ℕ) → IsPulled s code drain p behind → stream.IsPulled s code drain.stand (engine p) behind
 one_pulled s code drain p behind h = (
   h.0,
@@ -64,10 +66,12 @@ one_pulled s code drain p behind h = (
       subst (λ (q : Pause). DecodesMore s o front given p.piece drain.stand p.old p.new p.drain.stand q) (pause_is d.pause p.status d.status_is) d.decodes),
 )
 
+-- and so are several
 all_pulled : (s : Parameters) (code : List ℕ) (drain : RiceDrain) (pulls : List Pull) → ArePulled s code drain pulls → stream.ArePulled s code drain.stand (engines pulls)
 all_pulled s code drain [] h = tt
 all_pulled s code drain (p ∷ ps) h = ((h.0.0, one_pulled s code drain p h.0.0 h.0.1), all_pulled s code p.drain ps h.1)
 
+-- which stand last where C's do
 same_last : (drain : RiceDrain) (pulls : List Pull) → stream.last_stand drain.stand (engines pulls) ≡ (last_drain drain pulls).stand
 same_last drain [] = refl
 same_last drain (p ∷ ps) = same_last p.drain ps
@@ -76,6 +80,7 @@ engines-push : (pulls : List Pull) (last : Pull) → engines pulls ++ engine las
 engines-push [] last = refl
 engines-push (p ∷ ps) last = ap (λ l. engine p ∷ l) (engines-push ps last)
 
+-- one pull more is pulled behind the others
 pulled-push : (s : Parameters) (code : List ℕ) (drain : RiceDrain) (pulls : List Pull) (last : Pull) (behind : List ℕ) → ArePulled s code drain pulls → IsPulled s code (last_drain drain pulls) last behind → ArePulled s code drain (pulls ++ last ∷ [])
 pulled-push s code drain [] last behind h k = ((behind, k), tt)
 pulled-push s code drain (p ∷ ps) last behind h k = (h.0, pulled-push s code p.drain ps last behind h.1 k)
@@ -107,6 +112,7 @@ ending_of statuses.RunPastSegment = Past
 ending_of statuses.ResidualTooLarge = Large
 ending_of _ = Reached
 
+-- a status that ends a code is a pause that does
 ends_code : (paused ended : Status) (behind : List ℕ) → EndsAll paused behind ended → EndsCode (pause_of (status_number paused)) behind (ending_of paused)
 ends_code statuses.OnlyZeros ended behind h = (h.0, refl)
 ends_code statuses.MoreCode ended behind h = (h.0, refl)
@@ -114,6 +120,7 @@ ends_code statuses.RunPastSegment ended behind h = refl
 ends_code statuses.ResidualTooLarge ended behind h = refl
 ends_code _ ended behind h = absurd h
 
+-- a code that ends was decoded past the samples asked for
 never_reached_so : (paused ended : Status) (behind : List ℕ) → EndsAll paused behind ended → ending_of paused ≡ Reached → ⊥
 never_reached_so statuses.OnlyZeros ended behind h e = absurd cc
 never_reached_so statuses.MoreCode ended behind h e = absurd cc
@@ -145,6 +152,7 @@ record TellsDrain (s : Parameters) (p : Pull) : Type 0 where
   pub samples : p.report.samples ≡ p.drain.stand.samples
   pub place : p.report.place ≡ pause_place (pause_of p.status) (p.drain.stand.samples / s.block)
 
+-- the report of a pull tells where its drain stands
 tells_drain : (s : Parameters) (code : List ℕ) (o : Origin) (front : List Bool) (given : List ℤ) (drain : RiceDrain) (p : Pull) (behind : List ℕ) → IsStand s o drain.stand front given → IsPulled s code drain p behind → TellsDrain s p
 tells_drain s code o front given drain p behind h pulled =
     let d = pulled.1 o front given h in
@@ -174,6 +182,7 @@ never_full s code xs ending used old new report status legal whole early d room 
     fewer_of : (w n m : ℕ) → w * n < w * m → n < m
     fewer_of w n m lt = elim (cases_lt n m) [ inl l ↦ l | inr le ↦ absurd (let p : w * m ≤ w * n = mul-le-mul_left w le in omega arith) ]
 
+-- pulls up to the end of a code give what one call gives
 pub pulls_are_decoding : PullsAreDecoding
 pulls_are_decoding s code o before setting first opened pulls last behind old new report status paused ended place opens pulled last_pulled paused_is ends d room =
     let begins = opens.none in
@@ -200,6 +209,7 @@ pulls_are_decoding s code o before setting first opened pulls last behind old ne
       d.tells.place ∙ told.1,
     )
 
+-- and up to a number of samples
 pub enough_is_decoding : EnoughIsDecoding
 enough_is_decoding s code o before setting first opened pulls n old new report status place opens pulled enough few d room =
     let begins = opens.none in
@@ -225,6 +235,7 @@ enough_is_decoding s code o before setting first opened pulls n old new report s
       same.bits ∙ ap (λ (v : Stand). v.bits) at,
     )
 
+-- where an interval begins, the reports' counts are its place
 pub drains_tell_places : DrainsTellPlaces
 drains_tell_places s code o before setting first opened pulls place opens pulled at_start no_run =
     let begins = opens.none in

@@ -20,12 +20,14 @@ use Rattle.rice_c.specs.Rooms.{code_room}
 use Rattle.rice_c.specs.Statuses.{status_number, fault_status}
 use Rattle.rice_c.proofs.lemmas.Room.{encode_wants, decode_wants, write_of, none_of}
 
+-- with the room that is told, encoding never wants more
 pub encode_suffices : (s : Parameters) (input old new : List ℕ) (r : RiceReport) (status : ℕ) → IsLegal s → EncodesInto s input old new r status → code_room s (length input / width s) ≤ length old → status ≢ 9
 encode_suffices s input old new r status legal e room full =
     let write : e.fault ≡ Some Write = write_of e.fault (sym e.tells.status ∙ full) in
     let wants = encode_wants s e.call (report_of r) input e.passes.left legal e.passes.gave (subst (λ (f : Option Fault). Encodes s e.call (report_of r) f) write e.encodes) in
     omega (arith, wants, e.passes.full write, room)
 
+-- with room for the samples asked for, decoding never wants more
 pub decode_suffices : (s : Parameters) (count : ℕ) (input old new : List ℕ) (r : RiceReport) (status : ℕ) → DecodesInto s (Some count) input old new r status → count * width s ≤ length old → status ≢ 9
 decode_suffices s count input old new r status d room full =
     let write : d.fault ≡ Some Write = write_of d.fault (sym d.tells.status ∙ full) in
@@ -41,6 +43,7 @@ record EncodedAll (s : Parameters) (samples : List ℕ) (encoded : RiceReport) (
   pub all : samples ≡ c.given
   pub gave : Consumes (Some c.written) left given
 
+-- the code of samples decodes to them, and what fills the last block
 encoded_all : (s : Parameters) (samples code_old code old new : List ℕ) (asked : Option ℕ) (encoded decoded : RiceReport) (status : ℕ) → (e : EncodesInto s samples code_old code encoded (status_number Done)) →
     (d : DecodesInto s asked (take encoded.written code) old new decoded status) → EncodedAll s samples encoded e.call d.call.left d.call.given
 encoded_all s samples code_old code old new asked encoded decoded status e d =

@@ -44,6 +44,7 @@ padding_le : (pad : Bool) (a b : ℕ) → a ≤ b → cond pad (7 * a) 0 ≤ con
 padding_le true a b le = omega arith
 padding_le false a b le = omega arith
 
+-- more samples have no lesser bound
 pub bound_le : (s : Parameters) (m n : ℕ) → IsLegal s → m ≤ n → padded_bound s m ≤ padded_bound s n
 bound_le s m n legal le =
     let j : 1 ≤ s.block = let k : 2 ≤ s.block = grind (arith, legal.block) in omega arith in
@@ -54,12 +55,15 @@ bound_le s m n legal le =
 
 -- ---- code takes no more
 
+-- whole bytes have no more bits than there are
 pub few_whole : (bits : List Bool) → 8 * length (whole_bytes bits) ≤ length bits
 few_whole bits = omega (arith, length-bits_of (whole_bytes bits), ap length (bits_of-whole_bytes bits), length-take (bits_in_bytes (length bits)) bits)
 
+-- a code is within its bound
 code_fits : (s : Parameters) (xs : List ℤ) → IsLegal s → All (IsSample s) xs → length (code s xs) ≤ padded_bound s (length xs)
 code_fits s xs legal samples = omega (arith, padding_is_bounded s legal xs samples, code_is_bounded s legal 0 (pos 0) xs (zero_is_sample s legal.bits_from) samples)
 
+-- so its bytes are within the room that is told
 pub output_fits : (s : Parameters) (xs : List ℤ) (n : ℕ) → IsLegal s → All (IsSample s) xs → length xs ≤ n → length (output s xs) ≤ code_room s n
 output_fits s xs n legal samples le =
     let c = code s xs in
@@ -68,6 +72,7 @@ output_fits s xs n legal samples le =
     let filled : length (padded_bits c) ≤ length c + 7 = omega (arith, length-append c (replicate (bits_to_byte (length c)) false), length-replicate (bits_to_byte (length c)) false) in
     omega (arith, few_whole (padded_bits c), (div_ceil_times (padded_bound s n) 8 (omega arith)).0)
 
+-- and those of whole segments are
 early_fits : (s : Parameters) (xs : List ℤ) (n : ℕ) → IsLegal s → All (IsSample s) xs → length xs ≤ n → length (early_output s xs) ≤ code_room s n
 early_fits s xs n legal samples le =
     let zs = take (cut s (length xs)) xs in
@@ -77,6 +82,7 @@ early_fits s xs n legal samples le =
 
 -- ---- a call that wants for room
 
+-- what stops before the end is shorter
 pub stops_short : (from to text : List ℕ) → StopsBetween from to text → length text < length to
 stops_short from to text h = some h.missing h.short (ap length h.stops ∙ length-append text h.missing)
   where
@@ -98,6 +104,7 @@ few_samples s xs given rest input left legal split gave =
           | inr le ↦ le
         ]
 
+-- encoding that wants room had less than is told
 pub encode_wants : (s : Parameters) (c : Call) (r : Report) (input left : List ℕ) → IsLegal s → Consumes (Some input) (Some left) c.given → Encodes s c r (Some Write) → length c.written < code_room s (length input / width s)
 encode_wants s c r input left legal gave e = by_end e.ends.1
   where
@@ -105,6 +112,7 @@ encode_wants s c r input left legal gave e = by_end e.ends.1
     by_end (inl h) = omega (arith, stops_short _ _ c.written h.stops, early_fits s e.samples (length input / width s) legal h.given.legal (few_samples s e.samples c.given h.given.rest input left legal h.given.split gave))
     by_end (inr h) = omega (arith, stops_short _ _ c.written h.stops, output_fits s e.samples (length input / width s) legal h.given.legal (few_samples s e.samples c.given h.given.rest input left legal h.given.whole gave))
 
+-- decoding that wants room had less than the samples asked for take
 pub decode_wants : (s : Parameters) (count : ℕ) (c : Call) (r : Report) → Decodes s (Some count) c r (Some Write) → length c.written < count * width s
 decode_wants s count c r d =
     let h = d.ends.0 in
@@ -115,6 +123,7 @@ decode_wants s count c r d =
 
 -- ---- which faults the statuses tell
 
+-- the number of want of room is that of no other fault
 pub write_of : (fault : Option Fault) → status_number (fault_status fault) ≡ 9 → fault ≡ Some Write
 write_of None e = absurd cc
 write_of (Some Read) e = absurd cc
@@ -126,6 +135,7 @@ write_of (Some (CodeEnds n)) e = absurd cc
 write_of (Some (RunPastSegment n)) e = absurd cc
 write_of (Some (ResidualTooLarge n)) e = absurd cc
 
+-- and 0 is that of none
 pub none_of : (fault : Option Fault) → status_number (fault_status fault) ≡ 0 → fault ≢ Some Read → fault ≡ None
 none_of None e reads = refl
 none_of (Some Read) e reads = absurd (reads refl)

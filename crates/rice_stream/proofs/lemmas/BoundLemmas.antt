@@ -30,6 +30,7 @@ pub record Settles (s : Parameters) (xs : List ℤ) : Type 0 where
   pub legal_settled : All (IsSample s) (complete_samples s xs)
   pub few : length (complete_samples s xs) ≤ length xs
 
+-- what a coder has taken settles the bounds of its samples
 pub taken_settles : (s : Parameters) (coder : CoderState) (xs : List ℤ) → coder.setting ≡ s → HasTaken coder xs → Settles s xs
 taken_settles s coder xs e h =
     let t = coder.setting in

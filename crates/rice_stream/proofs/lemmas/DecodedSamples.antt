@@ -28,6 +28,7 @@ pub cut_nothing : (s : Parameters) (wanted : Option ℕ) (b : ℕ) → cut_to s 
 cut_nothing s None b = refl
 cut_nothing s (Some n) b = take_nothing (n - s.block * b)
 
+-- a front of two lists is one of the first, and what is left of it of the second
 take_both : (n : ℕ) (xs ys : List ℤ) → take n (xs ++ ys) ≡ take n xs ++ take (n - length xs) ys
 take_both n [] ys = let e : n ≡ n - 0 = omega arith in ap (λ m. take m ys) e ∙ ap (λ l. l ++ take (n - 0) ys) (sym (take_nothing n))
 take_both zero (x ∷ xs) ys = let e : 0 ≡ 0 - suc (length xs) = omega arith in ap (λ m. take m ys) e
@@ -38,6 +39,7 @@ pub cut_more : (s : Parameters) (wanted : Option ℕ) (b : ℕ) (all xs : List �
 cut_more s None b all xs e = refl
 cut_more s (Some n) b all xs e = let m : n - s.block * 0 - length all ≡ n - s.block * b = omega arith in take_both (n - s.block * 0) all xs ∙ ap (λ k. take (n - s.block * 0) all ++ take k xs) m
 
+-- where another block is wanted, none of the samples before it is cut off
 pub cut_none : (s : Parameters) (wanted : Option ℕ) (b : ℕ) (all : List ℤ) → length all ≡ s.block * b → IsWanted s wanted b → cut_to s wanted 0 all ≡ all
 cut_none s None b all e h = refl
 cut_none s (Some n) b all e h = let lt : s.block * b < n = h in take_all (n - s.block * 0) all (omega arith)
@@ -47,6 +49,7 @@ no_samples : (more : List ℤ) (n : ℕ) → length more ≡ n → n ≡ 0 → m
 no_samples [] n e h = refl
 no_samples (x ∷ more) n e h = absurd (omega arith)
 
+-- no bits are no blocks
 pub decoded_nothing : (s : Parameters) → DecodedSoFar s [] 0 0 0 []
 decoded_nothing s = record {
   len = omega arith;

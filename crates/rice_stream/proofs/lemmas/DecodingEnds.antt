@@ -80,6 +80,7 @@ next_here s b c legal e =
     by_end (inl inside) lt = let no : (c + 1 == s.interval) ≡ false = grind (arith, nat_tests) in mod-eq_of_lt inside ∙ ap (λ v. cond v 0 (c + 1)) (sym no)
     by_end (inr end) lt = let yes : (c + 1 == s.interval) ≡ true = grind (arith, nat_tests) in let same : c + 1 ≡ s.interval = omega arith in ap (λ n. n % s.interval) same ∙ mod_self s.interval ∙ ap (λ v. cond v 0 (c + 1)) (sym yes)
 
+-- of a block no more samples are wanted than it has
 pub most_wanted : (asked : Option ℕ) (written block : ℕ) → wanted_of asked written block ≤ block
 most_wanted None written block = omega arith
 most_wanted (Some n) written block = omega arith
@@ -292,6 +293,7 @@ unfolding ending_of
 run_out true = inl refl
 run_out false = inr refl
 
+-- where no coded data set begins what is left, decoding ends: of zeros as it should, else inside a coded data set
 ends_out : (s : Parameters) (asked : Option ℕ) (b : ℕ) (bits : List Bool) (blank : Bool) → IsWanted s asked b → is_blank bits ≡ blank → ((d : CodedDataSet) (more : List Bool) → IsForm s b d → bits ≡ bits_of_set s d ++ more → ⊥) → EndsWith s asked b bits (ending_of blank) (length bits)
 unfolding ending_of
 ends_out s asked b bits true goes e none = (goes, blank_all bits e, refl)
@@ -321,6 +323,7 @@ record RunsDry {I : Type 0} (s : Parameters) (asked : Option ℕ) (start : Reade
   pub count : written ≡ length ys
   pub sets : (more : List ℕ) → CountsSteps s (bits_of (read.bytes ++ more)) rep (ending_of blank)
 
+-- the intake ended, and decoding ends with it
 runs_dry : {I : Type 0} {s : Parameters} {asked : Option ℕ} {start : Reader I} {out_old out : Option Room} {p : DecoderState} {r new : Reader I} {steps steps_new written : ℕ} {rep : Report} {f fault : Option Fault} {left : Option (List ℕ)} {failed : ℕ} {why : BitFault} (blank : Bool)
     → (runs : DecodingProgress s asked start out_old out p r steps written) → wanted_of asked written s.block ≢ 0 → p.run ≡ 0 → (cut : SetCut (with_mark r) new steps steps_new s runs.blocks why) → is_blank cut.bits ≡ blank
     → AreCounted steps steps_new r.taken new.taken → Reports rep f left failed new written steps_new fault → RunsDry s asked start cut.stops.middle new rep (cut_to s asked 0 runs.given) written blank
@@ -544,12 +547,14 @@ reported_fails {f = f} {fault = fault} {reads_now = reads_now} {failed = failed}
     subst (λ (f : Option Fault). Fails f reads failed writes writes_new) (sym is)
     (subst (λ (n : ℕ). Fails fault reads n writes writes_new) (sym there) (subst (λ (n : ℕ). Fails fault reads reads_now writes n) (sym same) fails))
 
+-- a refusal counts as a failure where the intake failed, and nowhere else
 pub refusal_fails : {I : Type 0} {s : Parameters} {asked : Option ℕ} {start : Reader I} {out_old out : Option Room} {p : DecoderState} {r new : Reader I} {steps steps_new written writes writes_new : ℕ} {rep : Report} {f : Option Fault} {left : Option (List ℕ)} {failed : ℕ} (fault : CodeFault)
     → (runs : DecodingProgress s asked start out_old out p r steps written) → (p.run ≡ 0) × StopsBy (with_mark r) new steps steps_new s runs.blocks (Err fault) → writes_new ≡ writes
     → Reports rep f left failed new written steps_new (Some (refusal_fault fault written s.block)) → Fails f start.failed failed writes writes_new
 refusal_fails {s = s} {r = r} {new = new} {written = written} {writes = writes} fault runs stops same tells =
     reported_fails _ tells.fault_is tells.failed_is same (stops_fail s runs.blocks r new _ _ _ written s.block writes fault stops.1 runs.reads)
 
+-- an end without a fault counts as none
 pub done_fails : {I : Type 0} {s : Parameters} {asked : Option ℕ} {start : Reader I} {out_old out : Option Room} {p : DecoderState} {r new : Reader I} {steps steps_new written writes writes_new : ℕ} {rep : Report} {f : Option Fault} {left : Option (List ℕ)} {failed : ℕ}
     → (runs : DecodingProgress s asked start out_old out p r steps written) → (p.run ≡ 0) × SetEnds (with_mark r) new steps steps_new s runs.blocks true → writes_new ≡ writes
     → Reports rep f left failed new written steps_new (ended_fault asked written) → Fails f start.failed failed writes writes_new

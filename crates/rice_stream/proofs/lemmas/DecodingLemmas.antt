@@ -38,6 +38,7 @@ pub record Advances {I : Type 0} (old new : Reader I) (steps steps_new : ℕ) (p
   pub in_run : p.stopped ≡ None → 0 < p.run → (answer ≡ Ok Block) × GivesFromRun p q samples × (new ≡ old) × (steps_new ≡ steps)
   pub reads : p.stopped ≡ None → p.run ≡ 0 → Answers (with_mark old) new steps steps_new p q samples answer
 
+-- what a call of the decoder answers, of its levels and of its samples
 pub decoder_advances : {I : Type 0} (old new : Reader I) (steps steps_new : ℕ) (p q : DecoderState) (s : Parameters) (levels : List ℕ) {answer known : Result NextBlock CodeFault} → p.setting ≡ s → answer ≡ known
     → (p.stopped ≡ None → 0 < p.run → (answer ≡ Ok Block) × GivesFromRun p q (values_at p.setting levels) × (new ≡ old) × (steps_new ≡ steps))
     → (p.stopped ≡ None → p.run ≡ 0 → Answers (with_mark old) new steps steps_new p q (values_at p.setting levels) answer) → Advances old new steps steps_new p q (values_at s levels) known
@@ -70,6 +71,7 @@ took_block {p = p} going a =
       | inr none ↦ let k = a.reads going none in inr (record { none = none; gives = k.0; moves = k.1 })
     ]
 
+-- a block that was given moves the decoder by one place
 pub moves_of : {I : Type 0} {old new : Reader I} {steps steps_new : ℕ} {p q : DecoderState} {samples : List ℤ} → p.stopped ≡ None → Advances old new steps steps_new p q samples (Ok Block)
     → q ≡ state_after_block p samples q.run
 moves_of going a = elim (took_block going a) [ inl k ↦ k.gives.moves | inr k ↦ k.moves ]
@@ -79,6 +81,7 @@ pub record AreOfBlock (s : Parameters) (samples : List ℤ) : Type 0 where
   pub len : length samples ≡ s.block
   pub legal : All (IsSample s) samples
 
+-- a block that was given has as many samples as each, and they are legal
 pub samples_of_block : {I : Type 0} {old new : Reader I} {steps steps_new : ℕ} {p q : DecoderState} {samples : List ℤ} (s : Parameters) → p.setting ≡ s → p.stopped ≡ None → Advances old new steps steps_new p q samples (Ok Block)
     → AreOfBlock s samples
 samples_of_block {samples = samples} s setting going a =
@@ -89,6 +92,7 @@ samples_of_block {samples = samples} s setting going a =
 pub same_place : (s : Parameters) (b c : ℕ) → 1 ≤ s.interval → place s b ≡ c → place s c ≡ place s b
 same_place s b c h e = let lt : c < s.interval = omega (arith, e, mod-lt b h) in mod-eq_of_lt lt ∙ sym e
 
+-- a block depends on its place in its interval alone
 gives_there : (s : Parameters) (b c run : ℕ) (p : ℤ) (xs : List ℤ) (d : CodedDataSet) → 1 ≤ s.block → place s c ≡ place s b → GivesBlock s c p xs run (blocks_in s c d) → GivesBlock s b p xs run (blocks_in s b d)
 gives_there s b c run p xs d j e g = record {
   len = g.len;
@@ -96,6 +100,7 @@ gives_there s b c run p xs d j e g = record {
   blocks_are = ap (λ v. v ∷ replicate run (zero_block s None)) (sym (same_contents s c b p xs j e)) ∙ g.blocks_are ∙ same_blocks_in s c b d e;
 }
 
+-- and so does a block of a run
 run_gives_there : (s : Parameters) (b c run left : ℕ) (p : ℤ) (xs : List ℤ) → 1 ≤ s.block → place s c ≡ place s b → GivesBlock s c p xs left (replicate run (zero_block s None)) → GivesBlock s b p xs left (replicate run (zero_block s None))
 run_gives_there s b c run left p xs j e g = record {
   len = g.len;
@@ -179,6 +184,7 @@ gains_run {I = I} s r new steps steps_new b c begun run run_new p front sets giv
       counted = omega (arith, same_steps, ap (λ (v : Reader I). v.taken) same);
     }
 
+-- a block that was given goes on with what was decoded so far
 pub gains_block : {I : Type 0} {s : Parameters} {asked : Option ℕ} {start : Reader I} {out_old out : Option Room} {p q : DecoderState} {r new : Reader I} {steps steps_new written : ℕ} {xs : List ℤ} → IsLegal s
     → (runs : DecodingProgress s asked start out_old out p r steps written) → Advances r new steps steps_new p q xs (Ok Block)
     → Gains s r new steps steps_new runs.front runs.sets runs.blocks q.run runs.given xs
@@ -198,10 +204,12 @@ gains_block {s = s} {p = p} {q = q} {r = r} {new = new} {steps = steps} {steps_n
 pub cut_there : {I : Type 0} (old new : Reader I) (first last : ℕ) (s : Parameters) (b c : ℕ) (fault : BitFault) → place s c ≡ place s b → SetCut old new first last s c fault → SetCut old new first last s b fault
 cut_there old new first last s b c fault e cut = record { bits = cut.bits; stops = cut.stops; none = λ d more f g. cut.none d more (form_there s b c d (sym e) f) g; steps = cut.steps }
 
+-- the end of a code depends on the place in the interval alone
 pub ends_there : {I : Type 0} (old new : Reader I) (first last : ℕ) (s : Parameters) (b c : ℕ) (blank : Bool) → place s c ≡ place s b → SetEnds old new first last s c blank → SetEnds old new first last s b blank
 unfolding cut_there
 ends_there old new first last s b c blank e ends = record { cut = cut_there old new first last s b c _ e ends.cut; told = ends.told }
 
+-- and so does a refusal
 stops_there : {I : Type 0} (old new : Reader I) (first last : ℕ) (s : Parameters) (b c : ℕ) (fault : CodeFault) → place s c ≡ place s b → StopsBy old new first last s c (Err fault) → StopsBy old new first last s b (Err fault)
 stops_there old new first last s b c faults.CodeEnds e h = ends_there old new first last s b c false e h
 stops_there old new first last s b c faults.RunPastSegment e h = record { set = h.set; form = form_there s c b h.set e h.form; takes = h.takes; unsound = λ g. h.unsound (run_there s b c h.set (sym e) g); steps = h.steps }
@@ -209,10 +217,12 @@ stops_there old new first last s b c faults.ResidualTooLarge e h = record { set 
 stops_there old new first last s b c faults.Read e h = cut_there old new first last s b c _ e h
 stops_there old new first last s b c faults.TooLong e h = cut_there old new first last s b c _ e h
 
+-- a refusal at the decoder's place is one at the block of that number
 stops_here : {I : Type 0} (old new : Reader I) (first last : ℕ) (s t : Parameters) (b c : ℕ) (fault : CodeFault) → 1 ≤ s.interval → t ≡ s → place s b ≡ c → StopsBy old new first last t c (Err fault) → StopsBy old new first last s b (Err fault)
 stops_here old new first last s t b c fault some setting here h =
     stops_there old new first last s b c fault (same_place s b c some here) (subst (λ (t : Parameters). StopsBy old new first last t c (Err fault)) setting h)
 
+-- and an end at the decoder's place is one there
 ends_at : {I : Type 0} (old new : Reader I) (first last : ℕ) (s t : Parameters) (b c : ℕ) (blank : Bool) → 1 ≤ s.interval → t ≡ s → place s b ≡ c → SetEnds old new first last t c blank → SetEnds old new first last s b blank
 ends_at old new first last s t b c blank some setting here h =
     ends_there old new first last s b c blank (same_place s b c some here) (subst (λ (t : Parameters). SetEnds old new first last t c blank) setting h)
@@ -228,6 +238,7 @@ stops_in_no_run {s = s} {p = p} {r = r} {new = new} {steps = steps} {steps_new =
       | inr none ↦ (none, stops_here (with_mark r) new steps steps_new s p.setting runs.blocks p.block fault legal.interval_from at.setting at.here (a.reads at.going none).0)
     ]
 
+-- where the decoder finds the end, it is in no run, and what was decoded is all
 pub decoding_is_done : {I : Type 0} {s : Parameters} {asked : Option ℕ} {start : Reader I} {out_old out : Option Room} {p q : DecoderState} {r new : Reader I} {steps steps_new written : ℕ} {xs : List ℤ} → IsLegal s
     → (runs : DecodingProgress s asked start out_old out p r steps written) → Advances r new steps steps_new p q xs (Ok Done)
     → (p.run ≡ 0) × SetEnds (with_mark r) new steps steps_new s runs.blocks true

@@ -22,6 +22,7 @@ use Rattle.rice_stream.proofs.lemmas.BoundLemmas.{Settles, early_bounded, all_bo
 use Rattle.rice_stream.proofs.lemmas.EncodingLemmas.{Follows-all, settled_by}
 use Rattle.rice_stream.proofs.lemmas.SpellingLengths.{length-spellings, spellings-append}
 
+-- a call that stops early is within the bounds
 pub within_early : (s : Parameters) (r : Report) (xs : List ℤ) → Settles s xs → ReportsTaken s r xs → EncodesWithin s r
 within_early s r xs settles t =
     let b = early_bounded s xs settles in
@@ -33,6 +34,7 @@ within_early s r xs settles t =
     } in
     subst (EncodesWithin s) (λ i. record { samples = sym t.samples i; bits = sym t.bits i; steps = r.steps }) at
 
+-- and so is one that encodes all
 pub within_all : (s : Parameters) (r : Report) (xs : List ℤ) → Settles s xs → ReportsAll s r xs → EncodesWithin s r
 within_all s r xs settles t =
     let b = all_bounded s xs settles in
@@ -63,6 +65,7 @@ given_ahead s bytes rest xs samples split few e =
     at : (w n k b m : ℕ) → m ≡ w * n + b → k ≡ n → b ≤ 4096 → m ≤ k * w + 4096
     at w n k b m e h few = let p = ap (λ v. v * w) h in omega arith
 
+-- the intake failed
 pub read_ends : {N : ℕ} (s : Parameters) (left_old left mid : Option (List ℕ)) (taken_old taken : Option Room) (e : Encoding N) (given waiting : ℕ) (buffer : List ℕ) (r : Report) (f : Option Fault) → EncodingProgress s left_old mid taken_old taken e given waiting buffer →
     Keeps mid left → ((xs : List ℤ) → CountsSamples s e xs → ReportsTaken s r xs) → length (take waiting buffer) < width s → width s ≤ 4 → f ≡ Some Read →
     (c : Call) × Happens left_old left taken_old taken c × Encodes s c r f
@@ -81,6 +84,7 @@ read_ends s left_old left mid taken_old taken e given waiting buffer r f runs ke
       }),
     )
 
+-- the intake ended inside a sample
 pub cut_ends : {N : ℕ} (s : Parameters) (left_old left mid : Option (List ℕ)) (taken_old taken : Option Room) (e : Encoding N) (given waiting : ℕ) (buffer : List ℕ) (r : Report) (f : Option Fault) → EncodingProgress s left_old mid taken_old taken e given waiting buffer →
     Consumes mid left [] → IsAtEnd left → ((xs : List ℤ) → CountsSamples s e xs → ReportsTaken s r xs) → length (take waiting buffer) < width s → width s ≤ 4 → take waiting buffer ≢ [] → f ≡ Some (SampleCut e.samples) →
     (c : Call) × Happens left_old left taken_old taken c × Encodes s c r f
@@ -101,6 +105,7 @@ cut_ends s left_old left mid taken_old taken e given waiting buffer r f runs gav
       }),
     )
 
+-- the intake gave a byte past the limit
 pub long_ends : {N : ℕ} (s : Parameters) (left_old left mid : Option (List ℕ)) (taken_old taken : Option Room) (e : Encoding N) (given waiting : ℕ) (buffer : List ℕ) (r : Report) (f : Option Fault) (more : List ℕ) → EncodingProgress s left_old mid taken_old taken e given waiting buffer →
     Consumes mid left more → length more ≡ 1 → 281474976710656 ≤ given → ((xs : List ℤ) → CountsSamples s e xs → ReportsTaken s r xs) → length (take waiting buffer) < width s → width s ≤ 4 → f ≡ Some TooLong →
     (c : Call) × Happens left_old left taken_old taken c × Encodes s c r f
@@ -280,6 +285,7 @@ pub in_hand : {N : ℕ} (s : Parameters) (left_old left mid : Option (List ℕ))
 in_hand s left_old left mid taken_old taken e given waiting count buffer full runs more =
     ap (λ l. l ++ more.given) runs.reads.split ∙ append_assoc (spellings s runs.samples) (take waiting buffer) more.given ∙ ap (λ l. spellings s runs.samples ++ l) (sym more.front)
 
+-- the samples of what was read are taken, and encoding goes on
 pub runs_on : {N : ℕ} (s : Parameters) (left_old left mid : Option (List ℕ)) (taken_old taken new : Option Room) (e f : Encoding N) (given waiting count w rest : ℕ) (buffer full last : List ℕ) → (runs : EncodingProgress s left_old mid taken_old taken e given waiting buffer) → Refills mid left buffer full waiting count →
     TakesAll s (afresh taken_old) new f runs.samples (take (waiting + count) full) → w ≡ width s → waiting ≤ length buffer → rest ≡ (waiting + count) % w → take rest last ≡ drop (waiting + count - rest) (take (waiting + count) full) → given + count ≤ 281474976710656 →
     EncodingProgress s left_old left taken_old new f (given + count) rest last

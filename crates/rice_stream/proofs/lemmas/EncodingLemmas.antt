@@ -47,6 +47,7 @@ Follows-trans old now new bytes more f a = record {
 pub Follows-all : (old new : Option Room) (bytes : List ℕ) → Follows (afresh old) new bytes → Appends old new bytes
 Follows-all old new bytes f = subst (λ (l : List ℕ). Appends old new l) (sym f.split) f.took
 
+-- what was counted settles the bounds of the samples
 pub settled_by : {N : ℕ} (s : Parameters) (e : Encoding N) (xs : List ℤ) → CountsSamples s e xs → Settles s xs
 settled_by s e xs c = taken_settles s e.coder xs c.setting c.stands
 
@@ -63,6 +64,7 @@ counts_small s e xs c =
 pub early_small : (s : Parameters) (coder : CoderState) (xs : List ℤ) → coder.setting ≡ s → HasTaken coder xs → code_bits s (complete_samples s xs) ≤ 73 * length xs + 4700
 early_small s coder xs e h = let k = taken_settles s coder xs e h in few_bits s (length xs) _ _ k.setting (early_bounded s xs k) (omega arith)
 
+-- the code so far is no longer than its samples allow
 pub all_small : (s : Parameters) (coder : CoderState) (xs : List ℤ) → coder.setting ≡ s → HasTaken coder xs → code_bits s xs ≤ 73 * length xs + 4700
 all_small s coder xs e h = let k = taken_settles s coder xs e h in few_bits s (length xs) _ _ k.setting (all_bounded s xs k) (omega arith)
 
@@ -70,6 +72,7 @@ all_small s coder xs e h = let k = taken_settles s coder xs e h in few_bits s (l
 pub sink_goes_on : {N : ℕ} (s : Parameters) (old : Beginning) (now : Option Room) (e : Encoding N) (xs : List ℤ) → IsEncodingOf s old now e xs → whole_part (complete_code s xs) ++ e.sink ≡ complete_code s xs
 sink_goes_on s old now e xs h = ap (λ l. whole_part (complete_code s xs) ++ l) h.sink ∙ take-append-drop (bits_in_bytes (length (complete_code s xs))) (complete_code s xs)
 
+-- less than a byte waits in the sink
 pub sink_short : {N : ℕ} (s : Parameters) (old : Beginning) (now : Option Room) (e : Encoding N) (xs : List ℤ) → IsEncodingOf s old now e xs → length e.sink ≤ 7
 sink_short s old now e xs h = omega (arith, ap length h.sink, length-drop (bits_in_bytes (length (complete_code s xs))) (complete_code s xs))
 
@@ -140,6 +143,7 @@ module _ (from more to : List ℕ) (e : to ≡ from ++ more) where
     short = part.short;
   }
 
+-- a part that was taken ends between what was there and what should be
 pub part_between : (old now new : Option Room) (from more to : List ℕ) → Appends old now from → TakesPart now new more → to ≡ from ++ more → TakesBetween old new from to
 part_between old now new from more to took part e = record {
   written = from ++ part.front;
@@ -147,6 +151,7 @@ part_between old now new from more to took part e = record {
   took = Appends-trans old now new from part.front took part.took;
 }
 
+-- and the same behind what was written before
 pub part_follows : (old : Beginning) (now new : Option Room) (from more to : List ℕ) → Follows old now from → TakesPart now new more → to ≡ from ++ more → FollowsBetween old new from to
 part_follows old now new from more to took part e = record {
   written = from ++ part.front;
@@ -160,6 +165,7 @@ record Parts (ys : List ℤ) : Type 0 where
   pub last : ℤ
   pub split : ys ≡ before ++ last ∷ []
 
+-- samples have a last one
 parts_of : (ys : List ℤ) → 0 < length ys → Parts ys
 parts_of [] h = absurd (omega arith)
 parts_of (y ∷ []) h = record { before = []; last = y; split = refl }
@@ -212,9 +218,11 @@ no_blocks s j = by_block s.block j
     by_block : (j : ℕ) → 1 ≤ j → div_ceil 0 j ≡ 0
     by_block j h = omega arith
 
+-- no samples have no code
 pub code_nothing : (s : Parameters) → 1 ≤ s.block → code s [] ≡ []
 code_nothing s j = ap (λ n. layout s (0 + n) 0 0 (data_sets s 0 false (blocks_from s 0 (pos 0) n (filled_samples s (pos 0) [])))) (no_blocks s j)
 
+-- no bits and no steps
 pub sets_nothing : (s : Parameters) → 1 ≤ s.block → (code_bits s [] ≡ 0) × (least_steps s [] ≡ 0) × (most_steps s [] ≡ 0)
 sets_nothing s j =
     let none = no_blocks s j in

@@ -80,6 +80,7 @@ not_taken s input seam h =
     let size : length (spellings s h.samples) ≡ width s * seam.samples = length-spellings s h.samples ∙ ap (λ n. width s * n) (sym h.stands.samples) in
     ap (drop (width s * seam.samples)) h.split ∙ drop_at (spellings s h.samples) h.rest (width s * seam.samples) size
 
+-- the pieces, from any seam on, give the code of all samples so far
 feeds_on : (s : Parameters) (input : List ℕ) (seam : Seam) (pieces : List Piece) (h : HasFed s input seam) → AreFed s input seam pieces → FeedsOn s input seam pieces h.samples
 feeds_on s input seam [] h fed = record { fed = h; bytes = []; grows = sym (append-nil (early_output s h.samples)); taken = refl }
 feeds_on s input seam (p ∷ ps) h fed =
@@ -102,10 +103,12 @@ feeds_on s input seam (p ∷ ps) h fed =
       taken = (part, on.bytes, refl, goes.writes.took, on.taken);
     }
 
+-- of no samples no byte is written
 pub nothing_early : (s : Parameters) → IsLegal s → early_output s [] ≡ []
 unfolding whole_bytes
 nothing_early s legal = let some : 1 ≤ s.block = grind (arith, legal.block) in ap whole_bytes (ap (code s) (settled_nothing s) ∙ code_nothing s some)
 
+-- from the seam before all samples on
 pub feeding_is_encoding : FeedingIsEncoding
 feeding_is_encoding s legal input seam pieces old new fed encoded encoding begins are_fed finishes encodes given =
     let start : HasFed s input seam = record { samples = []; rest = input; split = refl; legal = All-nil (IsSample s); stands = begins } in
@@ -168,6 +171,7 @@ place_of_seam s seam xs ys written h at_start count =
       };
     }
 
+-- where an interval begins, the seam's counts are its place
 pub seams_tell_places : SeamsTellPlaces
 seams_tell_places s input seam pieces begins fed at_start =
     let start : HasFed s input seam = record { samples = []; rest = input; split = refl; legal = All-nil (IsSample s); stands = begins } in

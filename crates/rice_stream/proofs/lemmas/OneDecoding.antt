@@ -47,6 +47,7 @@ module _ (s : Parameters) (asked : Option ℕ) (bits more : List Bool) (xs : Lis
   with_rest : (left : List Bool) → bits ≡ d.front ++ left → EndsWith s asked (0 + length (blocks_in_all s 0 d.sets)) left ending d.last → Decoded s bits asked xs ending used
   with_rest left parts ends = record { sets = d.sets; front = d.front; rest = left; parts = parts; lie = d.lie; taken = d.taken; all = d.all; legal = d.legal; len = d.len; blocks = d.blocks; asked_for = d.asked_for; last = d.last; ends = ends; bits_used = d.bits_used }
 
+-- decoding that ends in the front of a code ends so without the rest
 ends_in_front : (s : Parameters) (asked : Option ℕ) (bits more : List Bool) (xs : List ℤ) (ending : Ending) (used : ℕ) → EndsBefore ending → Decoded s (bits ++ more) asked xs ending used → used ≤ length bits → Decoded s bits asked xs ending used
 ends_in_front s asked bits more xs Reached used early d le =
     with_rest s asked bits more xs Reached used d (drop (length d.front) bits) (front_of bits more d.front d.rest d.parts (omega (arith, d.bits_used, le))) d.ends
@@ -65,6 +66,7 @@ ends_in_front s asked bits more xs CutOff used (inr (inr e)) d le = absurd cc
 
 -- ---- a count that is not reached
 
+-- sets that end before the samples asked for are taken as where all are asked for
 wanted_all : (s : Parameters) (n b : ℕ) (ds : List CodedDataSet) → s.block * (b + length (blocks_in_all s b ds)) < n → AreTaken s None b ds → AreTaken s (Some n) b ds
 wanted_all s n b [] lt h = tt
 wanted_all s n b (d ∷ ds) lt h =
@@ -158,6 +160,7 @@ not_early s legal asked code front more xs ys ending e used n whole split le d r
     not_cut f same (inr (inl g)) = absurd cc
     not_cut f same (inr (inr g)) = absurd cc
 
+-- a code that decodes within the limit has no byte past it that is read
 never_long : (s : Parameters) → IsLegal s → (asked : Option ℕ) (code front more : List ℕ) (xs ys : List ℤ) (ending e : Ending) (used n : ℕ) → Decoded s (bits_of code) asked xs ending used → used ≤ 2 ^ 52 → code ≡ front ++ more → length front ≡ 2 ^ 49 → 0 < length more
     → Decoded s (bits_of front) asked ys e n → RunsOut e → ⊥
 never_long s legal asked code front more xs ys Reached e used n whole limit split full some d runs = not_early s legal asked code front more xs ys Reached e used n whole split (omega arith) d runs (inl refl)
@@ -168,6 +171,7 @@ never_long s legal asked code front more xs ys Ended e used n whole limit split 
 never_long s legal asked code front more xs ys CutOff e used n whole limit split full some d runs =
     omega (arith, whole.bits_used, whole.ends.3, ap length whole.parts, length-append whole.front whole.rest, length-bits_of code, ap length split, length-append front more)
 
+-- a call of the decoder finds the one way in which its bytes decode
 pub decodes_as : (s : Parameters) → IsLegal s → (asked : Option ℕ) (code left : List ℕ) (c : Call) (r : Report) (fault : Option Fault) (xs ys : List ℤ) (ending e : Ending) (used : ℕ) → Decoded s (bits_of code) asked xs ending used → used ≤ 2 ^ 52
     → (asked ≡ None) ⊎ (ending ≡ Reached) → code ≡ c.given ++ left → c.left ≡ Some left → EndsDecoding s asked fault c r ys e → fault ≢ Some Read → fault ≢ Some Write → DecodesAs s xs ending used c r fault
 decodes_as s legal asked code left c r None xs ys ending e used whole limit way split left_is (d, inl reached) read write =

@@ -28,6 +28,7 @@ reads_before s xs bytes rest behind r = record {
   legal = r.legal;
 }
 
+-- what spells no sample spells none with more behind it
 no_spelling_before : (s : Parameters) (rest behind : List ℕ) → EndsSpelling s rest NoSpelling → EndsSpelling s (rest ++ behind) NoSpelling
 no_spelling_before s rest behind h = (omega (arith, h.0, length-append rest behind), λ x k e. h.1 x k (sym (take-append-le (width s) rest behind h.0) ∙ e))
 

@@ -30,6 +30,7 @@ pub record PulledSoFar (s : Parameters) (o : Origin) (front : List Bool) (given 
   pub writes : out ≡ spellings s samples ++ drop at out_old
   pub count : at ≡ width s * length samples
 
+-- before the first block nothing was pulled
 pub none_so_far : (s : Parameters) (o : Origin) (front : List Bool) (given : List ℤ) (piece : List ℕ) (old : Stand) (out : List ℕ) (rest : List Bool) → IsStand s o old front given → rest ≡ bits_ahead old piece → PulledSoFar s o front given piece old out out old rest 0
 none_so_far s o front given piece old out rest h e = record {
   bits = [];
@@ -109,6 +110,7 @@ has_none s at len len_old k {w} {j} e f lt within count same = let size : w * j 
 pub failed_once : {I : Type 0} (s : Parameters) (o : Origin) (front : List Bool) (given : List ℤ) (here : Stand) (r new : Reader I) (xs : List ℤ) (fault : CodeFault) → fault ≡ faults.Read → TakesNext s o front given here r new xs (Err fault) → new.failed ≡ 1
 failed_once s o front given here r new xs fault e t = subst (λ (f : CodeFault). TakesNext s o front given here r new xs (Err f)) e t
 
+-- a reader of a piece within the limit never passes it
 pub never_too_long : {I : Type 0} (s : Parameters) (o : Origin) (front : List Bool) (given : List ℤ) (here : Stand) (r new : Reader I) (xs : List ℤ) (fault : CodeFault) → fault ≡ faults.TooLong → TakesNext s o front given here r new xs (Err fault) → ⊥
 never_too_long s o front given here r new xs fault e t = subst (λ (f : CodeFault). TakesNext s o front given here r new xs (Err f)) e t
 
@@ -127,6 +129,7 @@ drop_front : (xs ys : List Bool) → drop (length xs) (xs ++ ys) ≡ ys
 drop_front [] ys = refl
 drop_front (x ∷ xs) ys = drop_front xs ys
 
+-- the bits of the first byte that were taken before are skipped
 pub skipped_bits : {I : Type 0} (intake : I) (piece : List ℕ) (k v : ℕ) (new : Reader I) → Takes (new_reader intake (Some piece) 0) new (word k v) → ahead new ≡ drop k (bits_of piece)
 skipped_bits intake piece k v new takes =
     let drawn = draws_ahead (Some piece) new.left [] new.waiting (word k v) refl takes.draws in

@@ -61,6 +61,7 @@ drop_bits (suc n) k (x ∷ xs) le =
 bits_behind_stand : (stand : Stand) (piece behind : List ℕ) → List Bool
 bits_behind_stand stand piece behind = drop (stand.bits % 8 - length (bits_of piece)) (bits_of behind)
 
+-- what is left of a code is the rest of the piece, and what is behind it
 behind_stand : (s : Parameters) (code : List ℕ) (o : Origin) (stand : Stand) (piece behind : List ℕ) → (h : HasPulled s code o stand) → drop (stand.bits / 8) code ≡ piece ++ behind → h.rest ≡ bits_ahead stand piece ++ bits_behind_stand stand piece behind
 unfolding bits_behind_stand
 behind_stand s code o stand piece behind h e =
@@ -83,6 +84,7 @@ record PullsOn (s : Parameters) (code : List ℕ) (o : Origin) (stand : Stand) (
   pub pauses_at : PausesAt s stand p.piece (length p.old) p.stand left (length part) p.pause
   pub limit : p.pause ≢ pauses.TooLong → p.stand.bits + length left ≤ 2 ^ 52
 
+-- one pull goes on with what was pulled before
 pulls_on : (s : Parameters) (code : List ℕ) (o : Origin) (stand : Stand) (p : Pull) (behind : List ℕ) → (h : HasPulled s code o stand) → IsPulled s code stand p behind → PullsOn s code o stand p h.given behind
 pulls_on s code o stand p behind h pulled =
     let d = pulled.1 o h.front h.given h.stands in
@@ -119,6 +121,7 @@ record PullAll (s : Parameters) (code : List ℕ) (o : Origin) (stand : Stand) (
   pub all : next.given ≡ given ++ more
   pub parts : GiveInParts s stand pulls more
 
+-- and several pulls do, one after another
 pull_all : (s : Parameters) (code : List ℕ) (o : Origin) (stand : Stand) (pulls : List Pull) → (h : HasPulled s code o stand) → ArePulled s code stand pulls → PullAll s code o stand pulls h.given
 pull_all s code o stand [] h pulled = record { next = h; more = []; all = sym (append-nil h.given); parts = refl }
 pull_all s code o stand (p ∷ ps) h pulled =
@@ -145,6 +148,7 @@ record Finishes (s : Parameters) (stand : Stand) (rest : List Bool) (ahead : ℕ
   pub ends : EndsWith s None stand.block rest ending used
   pub few : used ≤ ahead
 
+-- bits that begin unsoundly do so with more behind them
 unsound_on : (s : Parameters) (b used : ℕ) (left far : List Bool) (P : CodedDataSet → Type 0) → BeginsUnsound s b left used P → BeginsUnsound s b (left ++ far) used P
 unsound_on s b used left far P u = record {
   refused = u.refused;
@@ -155,6 +159,7 @@ unsound_on s b used left far P u = record {
   bits = u.bits;
 }
 
+-- and the coded data set that is not sound lies in them
 unsound_in : (s : Parameters) (b used : ℕ) (left : List Bool) (P : CodedDataSet → Type 0) → BeginsUnsound s b left used P → used ≤ length left
 unsound_in s b used left P u = omega (arith, u.bits, ap length u.begins, length-append (bits_of_set s u.refused) u.more)
 
@@ -162,6 +167,7 @@ nothing_far : (stand : Stand) (piece behind : List ℕ) → behind ≡ [] → bi
 unfolding bits_behind_stand
 nothing_far stand piece behind e = let k = stand.bits % 8 - length (bits_of piece) in ap (λ l. drop k (bits_of l)) e ∙ ap (drop k) bits_of-nil ∙ drop-nil k
 
+-- a pause behind which nothing is left is the end of the code
 pause_finishes : (s : Parameters) (old stand : Stand) (piece behind : List ℕ) (room count : ℕ) (left : List Bool) (pause : Pause) (ending : Ending) → PausesAt s old piece room stand left count pause → EndsCode pause behind ending → Finishes s stand (left ++ bits_behind_stand old piece behind) (length left) ending
 pause_finishes s old stand piece behind room count left pauses.Full ending at e = absurd e
 pause_finishes s old stand piece behind room count left pauses.TooLong ending at e = absurd e
@@ -176,6 +182,7 @@ pause_finishes s old stand piece behind room count left pauses.RunPastSegment en
 pause_finishes s old stand piece behind room count left pauses.ResidualTooLarge ending at e =
     record { none = at.1; used = at.2; few = unsound_in s stand.block at.2 left _ at.3.1; ends = subst (λ (v : Ending). EndsWith s None stand.block (left ++ bits_behind_stand old piece behind) v at.2) (sym e) (tt, unsound_on s stand.block at.2 left (bits_behind_stand old piece behind) _ at.3.1) }
 
+-- a code that ends was not refused for its length
 not_long : (pause : Pause) (behind : List ℕ) (ending : Ending) → EndsCode pause behind ending → pause ≢ pauses.TooLong
 not_long pauses.Full behind ending e = absurd e
 not_long pauses.TooLong behind ending e = absurd e
@@ -206,6 +213,7 @@ record PulledAll (s : Parameters) (code : List ℕ) (o : Origin) (first : Stand)
   pub limit : o.bits + used ≤ 2 ^ 52
   pub count : last.samples ≡ o.samples + length samples
 
+-- pulls up to the end of a code give what it decodes to
 pulled_all : (s : Parameters) (code : List ℕ) (o : Origin) (first : Stand) (pulls : List Pull) (last : Pull) (behind : List ℕ) (ending : Ending) → o.bits ≤ length (bits_of code) → IsStand s o first [] [] → ArePulled s code first pulls
     → IsPulled s code (last_stand first pulls) last behind → EndsCode last.pause behind ending → PulledAll s code o first (pulls ++ last ∷ []) last.stand ending
 unfolding at_first
@@ -237,6 +245,7 @@ record PulledEnough (s : Parameters) (code : List ℕ) (o : Origin) (first : Sta
   pub size : length samples ≡ s.block * blocks
   pub here : place s blocks ≡ last.block
 
+-- pulls up to as many samples as are asked for give these
 pulled_enough : (s : Parameters) (code : List ℕ) (o : Origin) (first : Stand) (pulls : List Pull) (n : ℕ) → o.bits ≤ length (bits_of code) → IsStand s o first [] [] → ArePulled s code first pulls
     → o.samples + n ≤ (last_stand first pulls).samples → (last_stand first pulls).samples < o.samples + n + s.block → PulledEnough s code o first pulls n (last_stand first pulls)
 unfolding at_first
@@ -268,17 +277,20 @@ pulled_enough s code o first pulls n inside begins pulled enough few =
 
 -- ---- from the front of a code, and from where an interval begins
 
+-- from the front of a code on
 pub pulls_are_decoding : PullsAreDecoding
 pulls_are_decoding s code first pulls last behind ending begins pulled last_pulled ends =
     let p = pulled_all s code at_front first pulls last behind ending (omega arith) begins pulled last_pulled ends in
     (p.samples, p.used, p.parts, p.decoded)
 
+-- and up to a number of samples
 pub enough_is_decoding : EnoughIsDecoding
 enough_is_decoding s code first pulls n begins pulled enough few =
     let p = pulled_enough s code at_front first pulls n (omega arith) begins pulled (omega (arith, enough)) (omega (arith, few)) in
     let bits : p.used ≡ (last_stand first pulls).bits = omega (arith, p.bits) in
     (p.samples, p.parts, subst (λ (m : ℕ). Decoded s (bits_of code) (Some n) (take n p.samples) Reached m) bits p.decoded)
 
+-- a code can be opened at its front
 pub front_is_place : FrontIsPlace
 front_is_place s code =
     let none : 0 ≡ s.block * (s.interval * 0) = omega arith in
@@ -299,6 +311,7 @@ pub record SeekAll (s : Parameters) (code : List ℕ) (before : List ℤ) (first
   pub limit : used ≤ 2 ^ 52
   pub count : last.samples ≡ length (before ++ samples)
 
+-- pulls from the place of an interval on give what follows the samples before it
 pub seek_all : (s : Parameters) (code : List ℕ) (o : Origin) (before : List ℤ) (first : Stand) (pulls : List Pull) (last : Pull) (behind : List ℕ) (ending : Ending) → IsPlace s code o before → IsStand s o first [] []
     → ArePulled s code first pulls → IsPulled s code (last_stand first pulls) last behind → EndsCode last.pause behind ending → SeekAll s code before first (pulls ++ last ∷ []) last.stand ending
 seek_all s code o before first pulls last behind ending place begins pulled last_pulled ends =
@@ -325,6 +338,7 @@ pub record SeekEnough (s : Parameters) (code : List ℕ) (before : List ℤ) (fi
   pub size : n ≤ length samples
   pub limit : last.bits ≤ 2 ^ 52
 
+-- and up to a number of samples
 pub seek_enough : (s : Parameters) (code : List ℕ) (o : Origin) (before : List ℤ) (first : Stand) (pulls : List Pull) (n : ℕ) → IsPlace s code o before → IsStand s o first [] [] → ArePulled s code first pulls
     → o.samples + n ≤ (last_stand first pulls).samples → (last_stand first pulls).samples < o.samples + n + s.block → SeekEnough s code before first pulls (o.samples + n) n (last_stand first pulls)
 seek_enough s code o before first pulls n place begins pulled enough few =
@@ -348,6 +362,7 @@ enough_behind_is_decoding s code o before first pulls n place begins pulled enou
 pulled_far : (s : Parameters) (code : List ℕ) (o : Origin) (first : Stand) (pulls : List Pull) → o.bits ≤ length (bits_of code) → IsStand s o first [] [] → ArePulled s code first pulls → o.samples ≤ (last_stand first pulls).samples
 pulled_far s code o first pulls inside begins pulled = let all = pull_all s code o first pulls (at_first s code o first inside begins) pulled in omega (arith, all.next.stands.samples)
 
+-- where an interval begins, the stand's counts are its place
 pub stands_tell_places : StandsTellPlaces
 stands_tell_places s code o before first pulls place begins pulled at_start no_run =
     let last = last_stand first pulls in

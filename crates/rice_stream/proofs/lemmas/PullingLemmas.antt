@@ -182,6 +182,7 @@ refuses_next s o stand r new first last front given xs faults.ResidualTooLarge r
 refuses_next s o stand r new first last front given xs faults.Read reads none h = h.stops.refuses.1 ∙ ap (λ n. n + 1) reads.failed
 refuses_next s o stand r new first last front given xs faults.TooLong reads none h = never_long s stand.block first last stand r new reads h
 
+-- a refusal leaves the stand where it was
 pub stops_next : {I : Type 0} (s : Parameters) (o : Origin) (stand : Stand) (r new : Reader I) (steps steps_new : ℕ) (q : DecoderState) (front : List Bool) (given xs : List ℤ) (fault : CodeFault) → IsReadFrom stand r
     → Advances r new steps steps_new (state_of s stand) q xs (Err fault) → TakesNext s o front given stand r new xs (Err fault)
 stops_next s o stand r new steps steps_new q front given xs fault reads a =
@@ -190,6 +191,7 @@ stops_next s o stand r new steps steps_new q front given xs fault reads a =
       | inr none ↦ refuses_next s o stand r new steps steps_new front given xs fault reads none (a.reads refl none).0
     ]
 
+-- and so does the end
 pub done_next : {I : Type 0} (s : Parameters) (o : Origin) (stand : Stand) (r new : Reader I) (steps steps_new : ℕ) (q : DecoderState) (front : List Bool) (given xs : List ℤ) → IsReadFrom stand r
     → Advances r new steps steps_new (state_of s stand) q xs (Ok Done) → TakesNext s o front given stand r new xs (Ok None)
 done_next s o stand r new steps steps_new q front given xs reads a =

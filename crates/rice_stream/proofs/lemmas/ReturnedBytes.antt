@@ -46,6 +46,7 @@ ends_before s asked b rest more CutOff used (inl e) h = absurd cc
 ends_before s asked b rest more CutOff used (inr (inl e)) h = absurd cc
 ends_before s asked b rest more CutOff used (inr (inr e)) h = absurd cc
 
+-- what ends before the bits do decodes so with more behind it
 pub decoded_before : (s : Parameters) (asked : Option ℕ) (bits more : List Bool) (xs : List ℤ) (ending : Ending) (used : ℕ) → EndsBefore ending → Decoded s bits asked xs ending used → Decoded s (bits ++ more) asked xs ending used
 decoded_before s asked bits more xs ending used early d = record {
   sets = d.sets;
@@ -84,6 +85,7 @@ few_pads s b some = at b (div_ceil b s.interval) s.interval some (div_ceil_times
       | inr le ↦ le
     ]
 
+-- a code is no longer than its blocks sent as they are
 code_short : (s : Parameters) → IsLegal s → (xs : List ℤ) → All (IsSample s) xs → length (code s xs) ≤ block_count s (length xs) * (id_len s + 1 + s.block * s.bits) + 7 * block_count s (length xs)
 code_short s legal xs k =
     let bits = padding_is_bounded s legal xs k in
@@ -102,6 +104,7 @@ output_bits s xs =
     let n = bits_to_byte (length bits) in
     omega (arith, length-bits_of (output s xs), ap length (bits_of-padded bits), length-append bits (replicate n false), length-replicate n false)
 
+-- so the output of samples within their limit is within the limit of a code
 output_short : (s : Parameters) → IsLegal s → (xs : List ℤ) → All (IsSample s) xs → width s * length xs ≤ 281474976710656 → length (output s xs) ≤ 562949953421312
 output_short s legal xs k limit =
     let j : 2 ≤ s.block = grind (arith, legal.block) in

@@ -47,6 +47,7 @@ later_set more old new steps steps_new s b p samples run g =
       steps = (let e = g.steps in omega (arith, e));
     }
 
+-- steps that were counted before change nothing
 gives_with_more_steps : {I : Type 0} (more : ℕ) (old new : Reader I) (steps steps_new : ℕ) (p q : DecoderState) (bytes : List ℕ) → GivesBytes old new steps steps_new p q bytes → GivesBytes old new (steps + more) (steps_new + more) p q bytes
 gives_with_more_steps more old new steps steps_new p q bytes g = record {
   samples = g.samples;
@@ -80,6 +81,7 @@ one_on {s = s} more out out_new r m steps steps_m p d bytes written legal runs n
     let ticks : AreCounted (steps + more) (steps_m + more) r.taken m.taken = record { forward = counted.forward; limit = counted.limit; least = omega (arith, counted.least); most = omega (arith, counted.most) } in
     progress_with_block s.block (steps_m + (more + s.block)) legal runs (sym is) (λ e. omega (arith, e, is, j)) (gains_block legal runs a) (moves_of at.going a) (record { counted = ticks; few = few }) (omega arith) first
 
+-- a row that was written goes on with what was decoded so far
 pub progress_on_row : {I : Type 0} {s : Parameters} {asked : Option ℕ} {start : Reader I} {out_old : Option Room} (n more : ℕ) (out out_new : Option Room) (r new : Reader I) (steps last : ℕ) (p q : DecoderState) (bytes : List ℕ) (written : ℕ) → IsLegal s
     → DecodingProgress s asked start out_old out p r (steps + more) written → p.run ≡ 0 → GivesRow n r new steps last p q bytes → IfSome asked (λ k. written + s.block * n ≤ k)
     → Appends out out_new (take (row_bytes s n) bytes) → DecodingProgress s asked start out_old out_new q new (last + (more + s.block * n)) (written + s.block * n)
@@ -185,6 +187,7 @@ record RowCosts {I : Type 0} (s : Parameters) (n : ℕ) (r new : Reader I) : Typ
   pub forward : r.taken ≤ new.taken
   pub failures : new.failed ≡ r.failed
 
+-- the bits and steps of a row are those of its blocks
 row_costs : {I : Type 0} (n : ℕ) (s : Parameters) (r new : Reader I) (steps last : ℕ) (p q : DecoderState) (bytes : List ℕ) → p.setting ≡ s → p.stopped ≡ None → p.run ≡ 0 → GivesRow n r new steps last p q bytes → RowCosts s n r new
 row_costs {I} zero s r new steps last p q bytes setting going none (same, same_steps, same_state) =
     let nothing : s.block * 0 ≡ 0 = omega arith in
@@ -203,6 +206,7 @@ row_costs {I} (suc n) s r new steps last p q bytes setting going none (m, k, d, 
       failures = on.failures ∙ (ap (λ (t : Reader I). t.failed) set.skips.same ∙ set.set.takes.failures);
     }
 
+-- where all blocks of a row are wanted, fewer are
 fewer_wanted : (asked : Option ℕ) (written size few all : ℕ) → few ≤ all → IfSome asked (λ k. written + size * all ≤ k) → IfSome asked (λ k. written + size * few ≤ k)
 fewer_wanted None written size few all h w = tt
 fewer_wanted (Some k) written size few all h w = let le : written + size * all ≤ k = w in let m = mul-le-mul_left size h in omega (arith, le, m)
@@ -233,6 +237,7 @@ row_fails {s = s} {asked = asked} {start = start} {out_old = out_old} {out = out
     let told = subst (λ k. Reports rep f left failed new k (last + (0 + s.block * w.blocks)) (Some Write)) b (subst (λ k. Reports rep f left failed new (written + count) k (Some Write)) a tells) in
     fails_in_row w.blocks 0 out w.room out_new r new steps last p q bytes written legal begun none w.gives (fewer_wanted asked written s.block (suc w.blocks) all w.within wanted) w.put w.part told
 
+-- a row whose write fails is within the bounds
 pub row_fails_within : {I : Type 0} {s : Parameters} {asked : Option ℕ} {start : Reader I} {out_old out out_new : Option Room} {p q : DecoderState} {r new : Reader I} {steps last written all count steps_new : ℕ} {bytes : List ℕ} {rep : Report} {f : Option Fault} {left : Option (List ℕ)} {failed : ℕ}
     → DecodingProgress s asked start out_old out p r steps written → p.run ≡ 0 → FailsInRow s all r new steps last p q bytes out out_new count → AreCounted steps last r.taken new.taken → IfSome asked (λ k. written + s.block * all ≤ k) → steps_new ≡ last + count
     → Reports rep f left failed new (written + count) steps_new (Some Write) → DecodesWithin asked rep
@@ -260,6 +265,7 @@ row_fails_within {s = s} {asked = asked} {p = p} {q = q} {r = r} {new = new} {st
         let c = w.count_is in
         omega (arith, le, e, c, tells.samples_are)
 
+-- and ends in the block that was not written whole
 pub row_fails_so : {I : Type 0} {s : Parameters} {asked : Option ℕ} {start : Reader I} {out_old out out_new : Option Room} {p q : DecoderState} {r new : Reader I} {steps last written all count steps_new : ℕ} {bytes : List ℕ} {rep : Report} {f : Option Fault} {left : Option (List ℕ)} {failed : ℕ} (writes writes_new : ℕ)
     → DecodingProgress s asked start out_old out p r steps written → p.run ≡ 0 → FailsInRow s all r new steps last p q bytes out out_new count → writes_new ≡ writes + 1
     → Reports rep f left failed new (written + count) steps_new (Some Write) → Fails f start.failed failed writes writes_new

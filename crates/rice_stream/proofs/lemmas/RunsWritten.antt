@@ -116,6 +116,7 @@ pub all_wanted : (asked : Option ℕ) (written block n : ℕ) → IfSome asked (
 all_wanted None written block n h = refl
 all_wanted (Some k) written block n h = let le : written + block * suc n ≤ k = h in let e : block * suc n ≡ block + block * n = omega arith in omega (arith, le, e)
 
+-- where a block and others are wanted, the others are after it
 pub more_wanted : (asked : Option ℕ) (written block n : ℕ) → IfSome asked (λ k. written + block * suc n ≤ k) → IfSome asked (λ k. written + block + block * n ≤ k)
 more_wanted None written block n h = tt
 more_wanted (Some k) written block n h = let le : written + block * suc n ≤ k = h in omega (arith, le)
@@ -157,6 +158,7 @@ progress_on {s = s} {asked = asked} {start = start} {out_old = out_old} {r = r} 
     let b : written + s.block + s.block * n ≡ written + s.block * suc n = omega (arith, all) in
     subst (λ (k : ℕ). DecodingProgress s asked start out_old out_new q r k (written + s.block * suc n)) a (subst (λ (k : ℕ). DecodingProgress s asked start out_old out_new q r (steps + s.block + s.block * n) k) b done)
 
+-- blocks of a run that were written go on with what was decoded so far
 pub progress_with_run : {I : Type 0} {s : Parameters} {asked : Option ℕ} {start : Reader I} {out_old out out_new : Option Room} {p q : DecoderState} {r : Reader I} {steps written count steps_next : ℕ} → IsLegal s
     → DecodingProgress s asked start out_old out p r steps written → WritesRun s asked written p q out out_new count → steps_next ≡ steps + count → DecodingProgress s asked start out_old out_new q r steps_next (written + count)
 progress_with_run {s = s} {asked = asked} {start = start} {out_old = out_old} {out = out} {out_new = out_new} {p = p} {q = q} {r = r} {steps = steps} {written = written} {count = count} legal runs w ticked =

@@ -34,9 +34,11 @@ pub no_bits : (bits : List Bool) → length bits ≡ 0 → word (length bits) 0 
 no_bits [] e = word-nil 0
 no_bits (x ∷ bits) e = absurd (omega arith)
 
+-- the bytes of padded bits have these bits
 spelled_by : (bits full : List Bool) (bytes : List ℕ) → full ≡ padded_bits bits → bytes ≡ whole_bytes full → bits_of bytes ≡ padded_bits bits
 spelled_by bits full bytes f e = ap bits_of (e ∙ ap whole_bytes f) ∙ bits_of-padded bits
 
+-- fewer than eight bits, padded, are one byte
 one_long : (bits full : List Bool) (bytes : List ℕ) → full ≡ padded_bits bits → bytes ≡ whole_bytes full → 0 < length bits → length bits < 8 → length bytes ≡ 1
 one_long bits full bytes f e some few =
     omega (arith, length-bits_of bytes, ap length (spelled_by bits full bytes f e), length-append bits (replicate (bits_to_byte (length bits)) false), length-replicate (bits_to_byte (length bits)) false)
@@ -48,6 +50,7 @@ word_of_byte : (x : ℕ) → word 8 x ++ [] ≡ bits_of (x ∷ [])
 unfolding bits_of
 word_of_byte x = refl
 
+-- whose high digits are the bits
 pub byte_digits : (bits full : List Bool) (bytes : List ℕ) (k : ℕ) → full ≡ padded_bits bits → bytes ≡ whole_bytes full → 0 < length bits → length bits < 8 → k ≡ length bits → word (length bits) (slice_index_or bytes 0 0 / 2 ^ (8 - k)) ≡ bits
 byte_digits bits full [] k f e some few is = absurd (omega (arith, one_long bits full [] f e some few))
 byte_digits bits full (x ∷ y ∷ l) k f e some few is = absurd (omega (arith, one_long bits full (x ∷ y ∷ l) f e some few))
@@ -59,6 +62,7 @@ byte_digits bits full (x ∷ []) k f e some few is =
     let whole = ap (λ m. word m x) eight in
     sym (take_at high _ n (length-word n (x / 2 ^ (8 - k)))) ∙ ap (take n) (sym split ∙ whole ∙ sym (append-nil (word 8 x)) ∙ word_of_byte x ∙ spelled_by bits full (x ∷ []) f e) ∙ take_at bits (replicate (bits_to_byte n) false) n refl
 
+-- and are a number of so many digits
 pub byte_fits : (x n k : ℕ) → x < 256 → n < 8 → k ≡ n → x / 2 ^ (8 - k) < 2 ^ n
 byte_fits x n k byte few is = shr_below x n (8 - k) (let e : n + (8 - k) ≡ 8 = omega arith in subst (λ m. x < 2 ^ m) (sym e) byte)
 
@@ -70,6 +74,7 @@ some_width s = grind (arith, nat_tests)
 abbrev pub encoding_at : (N : ℕ) → Parameters → Seam → Encoding N
 encoding_at N s seam = record { coder = state_between s seam.start seam.previous; sink = word seam.waiting_bits seam.waiting; meter = seam.steps; samples = seam.samples; bits = seam.bits }
 
+-- an encoding that begins at a seam has taken its samples
 pub encoding_is_resumed : (N : ℕ) (s : Parameters) (seam : Seam) (xs : List ℤ) (now : Option Room) → IsSeam s seam xs → IsEncodingOf s (behind s xs now) now (encoding_at N s seam) xs
 encoding_is_resumed N s seam xs now h = record {
   counts = record { setting = refl; stands = h.taken; samples = h.samples; bits = h.bits; least = h.least; most = h.most };
@@ -85,6 +90,7 @@ few_all w n m some le = let p : n * 1 ≤ n * w = mul-le-mul_left n some in omeg
 pub fit_in : (w n k : ℕ) → k ≤ n / w → w * k ≤ n
 fit_in w n k le = let p : w * k ≤ w * (n / w) = mul-le-mul_left w le in omega (arith, p, div-add-mod n w)
 
+-- the steps so far leave room for those of what is still to come
 pub few_steps_so_far : (s : Parameters) (seam : Seam) (xs : List ℤ) → IsSeam s seam xs → seam.steps < 4611686018427387904
 few_steps_so_far s seam xs h =
     let small = (counts_small s (encoding_at 0 s seam) xs (encoding_is_resumed 0 s seam xs None h).counts).1 in
@@ -136,6 +142,7 @@ cut_grows s seam xs n h le =
     let up = cut_is_greatest s legal n k.0 k.2 (omega (arith, k.1, all, le)) in
     omega (arith, up, k.1, all)
 
+-- an encoding that ends between two segments leaves a seam
 pub goes_on : {N : ℕ} (s : Parameters) (old new : Option Room) (e : Encoding N) (at seam : Seam) (xs : List ℤ) (bytes : List ℕ) (count : ℕ) → IsSeam s at xs → TakesAll s (behind s xs old) new e xs (take (width s * count) bytes) →
     length xs + count ≡ samples_to_take s xs bytes → width s * count ≤ length bytes → bytes_in_all s xs bytes ≤ 281474976710656 →
     ((ys : List ℤ) → IsEncodingOf s (behind s xs old) new e ys → cut s (length ys) ≡ length ys → width s * length ys ≤ 281474976710656 → IsSeam s seam ys) → TakesPiece s xs bytes old new seam
@@ -179,6 +186,7 @@ refused_within s more part rest count r wide few =
       | inr le ↦ absurd (let p : w * k ≤ w * n = mul-le-mul_left w le in omega (arith, p, some, wide, few))
     ]
 
+-- why a piece is not taken whole
 pub more_stops : {N : ℕ} (s : Parameters) (old new : Option Room) (e : Encoding N) (xs : List ℤ) (bytes : List ℕ) (count : ℕ) (f : Fault) → bytes_in_all s xs bytes ≤ 281474976710656 → length xs + count ≡ samples_to_take s xs bytes → width s * count ≤ length bytes →
     Pushes {T = Unit {0}} s (behind s xs old) new e xs (take (width s * count) bytes) (Err f) → EncodesMore s xs bytes old new (Err f)
 more_stops s old new e xs bytes count f limit is within h = by_fault f h (stopped_in s (behind s xs old) new e xs bytes (width s * count) f h)

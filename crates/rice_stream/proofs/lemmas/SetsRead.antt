@@ -35,6 +35,7 @@ lies-push s b at position place (x ∷ ds) bits d skipped e f lies pads =
       lies-push s (block_after s b x) at (position + length ahead) place ds lies.1 d skipped at_is place_is lies.4 pads,
     )
 
+-- one coded data set more is taken behind the others
 taken-push : (s : Parameters) (b at : ℕ) (ds : List CodedDataSet) (d : CodedDataSet) → at ≡ b + length (blocks_in_all s b ds) → AreTaken s None b ds
     → IsForm s at d → RunIsSound s at d → ResidualsAreSound s d → AreTaken s None b (ds ++ d ∷ [])
 taken-push s b at [] d e taken form run residuals =
@@ -44,6 +45,7 @@ taken-push s b at (x ∷ ds) d e taken form run residuals =
     let at_is : at ≡ block_after s b x + length (blocks_in_all s (block_after s b x) ds) = omega (arith, e, length-append (blocks_in s b x) (blocks_in_all s (block_after s b x) ds)) in
     (tt, taken.1, taken.2, taken.3, taken-push s (block_after s b x) at ds d at_is taken.4 form run residuals)
 
+-- and its blocks stand behind theirs
 blocks-push : (s : Parameters) (b at : ℕ) (ds : List CodedDataSet) (d : CodedDataSet) → at ≡ b + length (blocks_in_all s b ds)
     → length (blocks_in_all s b (ds ++ d ∷ [])) ≡ length (blocks_in_all s b ds) + length (blocks_in s at d)
 blocks-push s b at [] d e =

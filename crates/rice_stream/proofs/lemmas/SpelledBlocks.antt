@@ -40,6 +40,7 @@ spelled_front s t w count samples bytes same wide all len spelled =
 width_is : (s : Parameters) (size bytes_of_one : ℕ) → HasLanes s size bytes_of_one → bytes_of_one ≡ width s
 width_is s size bytes_of_one has = elim has.samples.widths [ inl e ↦ e ∙ sym (one_byte s (has.samples.narrow e)) | inr e ↦ (let wide = has.samples.wide e in e ∙ sym (two_bytes s wide.0 wide.1)) ]
 
+-- the samples of a block are at the front of its lanes
 pub lanes_front : (s t : Parameters) (size bytes_of_one count : ℕ) (samples : List ℤ) (bytes : List ℕ) → HasLanes s size bytes_of_one → t ≡ s → count ≡ s.block → length samples ≡ s.block → take (width t * length samples) bytes ≡ spellings t samples
     → take (bytes_of_one * size) bytes ≡ spellings s (take count samples)
 lanes_front s t size bytes_of_one count samples bytes has same all len spelled =

@@ -33,6 +33,7 @@ bits_of-zeros (suc n) =
     let e : 8 + 8 * n ≡ 8 * suc n = omega arith in
     rw (word-zero 8, bits_of-zeros n, ← e) (replicate-append-replicate 8 (8 * n) false)
 
+-- the first byte of bits is that of their first word
 whole_word : (b : ℕ) (rest : List Bool) → b < 256 → whole_bytes (word 8 b ++ rest) ≡ b ∷ whole_bytes rest
 unfolding whole_bytes word
 whole_word b rest h = ap (λ n. n ∷ whole_bytes rest) (unfold word in number_of-word 8 b h)
@@ -49,6 +50,7 @@ whole_short (a ∷ b ∷ c ∷ d ∷ e ∷ f ∷ []) h = refl
 whole_short (a ∷ b ∷ c ∷ d ∷ e ∷ f ∷ g ∷ []) h = refl
 whole_short (a ∷ b ∷ c ∷ d ∷ e ∷ f ∷ g ∷ i ∷ rest) h = absurd (omega arith)
 
+-- the whole bytes of the bits of bytes, and fewer than eight bits after them, are these bytes
 pub whole-bits : (bytes : List ℕ) (rest : List Bool) → ((i : ℕ) → get_or bytes i 0 < 256) → length rest < 8
     → whole_bytes (bits_of bytes ++ rest) ≡ bytes
 unfolding bits_of
@@ -75,11 +77,13 @@ each_byte bytes f i = elim (cases_lt i (length bytes)) [
 next_byte : (n : ℕ) → bits_in_bytes (suc (suc (suc (suc (suc (suc (suc (suc n)))))))) ≡ suc (suc (suc (suc (suc (suc (suc (suc (bits_in_bytes n))))))))
 next_byte n = omega arith
 
+-- bits of whole bytes are their front, eight bits at a time
 byte_again : (a b c d e f g h : Bool) (bits : List Bool) → bits_of (whole_bytes bits) ≡ take (bits_in_bytes (length bits)) bits
     → bits_of (whole_bytes (a ∷ b ∷ c ∷ d ∷ e ∷ f ∷ g ∷ h ∷ bits)) ≡ a ∷ b ∷ c ∷ d ∷ e ∷ f ∷ g ∷ h ∷ take (bits_in_bytes (length bits)) bits
 unfolding bits_of whole_bytes
 byte_again a b c d e f g h bits rest = (let first = word-number_of (a ∷ b ∷ c ∷ d ∷ e ∷ f ∷ g ∷ h ∷ []) in λ i. first i ++ rest i)
 
+-- fewer than eight bits have no whole byte
 short_bytes : (bits : List Bool) → length bits < 8 → bits_of (whole_bytes bits) ≡ take (bits_in_bytes (length bits)) bits
 short_bytes bits h =
     let none : bits_in_bytes (length bits) ≡ 0 = omega arith in

@@ -20,6 +20,7 @@ pow_bytes (suc k) =
     let e : 8 * suc k ≡ 8 + 8 * k = omega arith in
     rw (e, pow-add 2 8 (8 * k), ← pow_bytes k) (omega (arith, pow-suc 256 k))
 
+-- a byte of a number has its digits
 byte_digits : (k n : ℕ) → word 8 (byte_at k n) ≡ word 8 (n / 2 ^ (8 * k))
 byte_digits zero n = let e : n / 1 ≡ n = omega arith in word-mod 8 8 n (omega arith) ∙ ap (word 8) (sym e)
 byte_digits (suc k) n = word-mod 8 8 (n / 256 ^ suc k) (omega arith) ∙ ap (λ p. word 8 (n / p)) (pow_bytes (suc k))
@@ -40,6 +41,7 @@ byte_below : (k n : ℕ) → byte_at k n < 256
 byte_below zero n = mod-lt n (omega arith)
 byte_below (suc k) n = mod-lt (n / 256 ^ suc k) (omega arith)
 
+-- and each is a byte
 all_bytes : (j k n : ℕ) → All (λ b. b < 256) (bytes_low_first j k n)
 all_bytes j zero n = All-nil (λ b. b < 256)
 all_bytes j (suc k) n = All-cons (λ b. b < 256) (byte_at j n) (bytes_low_first (suc j) k n) (byte_below j n) (all_bytes (suc j) k n)

@@ -8,6 +8,7 @@ use Rattle.rice_bits.specs.Bits.{word, fundamental_sequence}
 use Rattle.rice_bits.proofs.lemmas.bits.EightBytes.{word-mod}
 use Rattle.rice_bits.proofs.lemmas.bits.Words.{length-word, word-cat, word-fs, word-split, word-zero}
 
+-- the first digits of a number are a number of so many digits
 pub front_below : (w n v : ℕ) → n ≤ w → v < 2 ^ w → v / 2 ^ (w - n) < 2 ^ n
 front_below w n v h p =
     let e : n + (w - n) ≡ w = omega arith in

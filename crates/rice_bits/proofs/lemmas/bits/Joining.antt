@@ -43,6 +43,7 @@ pair_fits w h l all p q e =
     let size : w + w ≡ 2 * w = omega arith in
     subst (λ n. all < 2 ^ n) size (rw e (join_below w w h l p q))
 
+-- two numbers in one word are two words
 pub pair_word : (w c d h l all : ℕ) → h ≡ c % 2 ^ w → l ≡ d % 2 ^ w → l < 2 ^ w → all ≡ h * 2 ^ w + l → word (2 * w) all ≡ word w c ++ word w d
 pair_word w c d h l all f g q e =
     let size : 2 * w ≡ w + w = omega arith in

@@ -10,9 +10,11 @@ use Rattle.rice_bits.specs.Bits.{word, fundamental_sequence}
 same_bit : (a b : ℕ) → (a % 2 == 1) ≡ (b % 2 == 1) → a % 2 ≡ b % 2
 same_bit a b e = grind (arith, nat_tests)
 
+-- lists that are one have one head
 same_heads : {a b : Bool} {x y : List Bool} → a ∷ x ≡ b ∷ y → a ≡ b
 same_heads e = cc
 
+-- and one tail
 same_tails : {a b : Bool} {x y : List Bool} → a ∷ x ≡ b ∷ y → x ≡ y
 same_tails e = cc
 

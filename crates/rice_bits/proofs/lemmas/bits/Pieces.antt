@@ -20,6 +20,7 @@ NoPiece {X = X} f P bits = (x : X) (more : List Bool) → P x → bits ≡ f x +
 abbrev pub Search : {X : Type 0} → (X → List Bool) → (X → Type 0) → List Bool → Type 0
 Search f P bits = Piece f P bits ⊎ NoPiece f P bits
 
+-- bits begin with a word where they are as many
 pub word_piece : (w : ℕ) (bits : List Bool) → Search (word w) (λ v. v < 2 ^ w) bits
 word_piece w bits =
     elim (cases_lt (length bits) w) [
@@ -40,6 +41,7 @@ bits_piece w bits =
       | inr long ↦ inl (record { piece = take w bits; more = drop w bits; fits = length-take-le w bits long; begins = sym (take-append-drop w bits) })
     ]
 
+-- bits begin with a fundamental sequence where there is a 1 among them
 pub sequence_piece : (bits : List Bool) → Search fundamental_sequence (λ m. Unit {0}) bits
 sequence_piece [] = inr (λ m more h e. let l : 0 ≡ length (fundamental_sequence m ++ more) = ap length e in let k = length-append (fundamental_sequence m) more in let n = length-fundamental_sequence m in omega arith)
 sequence_piece (true ∷ xs) = inl (record { piece = 0; more = xs; fits = tt; begins = refl })

@@ -37,6 +37,7 @@ bits_at bytes at g h m =
     ∙ (ap (λ d. bits_of (take at bytes) ++ d) rest
     ∙ sym (append_assoc (bits_of (take at bytes)) (word g (b / 2 ^ (8 - g))) (word (8 - g) (b % 2 ^ (8 - g)) ++ bits_of (drop (at + 1) bytes))))
 
+-- how many bits stand before a byte's digits
 length_before : (bytes : List ℕ) (at g v : ℕ) → at ≤ length bytes → length (bits_of (take at bytes) ++ word g v) ≡ 8 * at + g
 length_before bytes at g v h =
     omega (arith, length-append (bits_of (take at bytes)) (word g v), length-front at bytes h, length-word g v)
@@ -144,6 +145,7 @@ zeros_within_room bytes xs z room e h i =
     ∙ (ap (λ n. take n (xs ++ replicate z false)) (sym size)
     ∙ (take-append-add xs (replicate z false) k ∙ ap (λ d. xs ++ d) (take-replicate k z false (omega (arith, size))))))
 
+-- digits that are moved up, and digits below them
 add-mul-mul : (h p q v : ℕ) → h * (p * q) + v * q ≡ (h * p + v) * q
 add-mul-mul h p q v = omega arith
 
@@ -177,6 +179,7 @@ digits_written old n count s digits piece room past zeros e =
 mul-mul : (h p q : ℕ) → h * p * q ≡ h * (p * q)
 mul-mul h p q = omega arith
 
+-- eight digits at the front of a word of 64
 moved_to_front : (b h k n : ℕ) → b ≡ h * 2 ^ k → k + 56 ≡ n → b * 2 ^ 56 ≡ h * 2 ^ n
 moved_to_front b h k n e f = ap (λ c. c * 2 ^ 56) e ∙ (mul-mul h (2 ^ k) (2 ^ 56) ∙ ap (λ c. h * c) (sym (pow-add 2 k 56) ∙ ap (λ c. 2 ^ c) f))
 
@@ -282,6 +285,7 @@ gathered-one old new n m room zeros e =
     ∙ (digits_written old p 1 s (word 1 1) (word 8 (bit_or x (2 ^ (7 - g)))) (omega arith) (omega arith) far.1 byte ∙ ((λ j. sequence j ++ replicate (left j) false)))))
     size
 
+-- a byte, and zeros in front of others
 byte_first : (b : ℕ) (bytes : List ℕ) (at : ℕ) → bits_of (b ∷ replicate at 0 ++ bytes) ≡ word 8 b ++ (replicate (8 * at) false ++ bits_of bytes)
 byte_first b bytes at =
     bits_of-first b (replicate at 0 ++ bytes) ∙ ap (λ d. word 8 b ++ d) (bits_of-append (replicate at 0) bytes ∙ ap (λ d. d ++ bits_of bytes) (bits_of-zeros at))
@@ -291,6 +295,7 @@ three_zeros g h k xs =
     append_assoc xs (replicate g false) (replicate h false ++ replicate k false)
     ∙ ap (λ d. xs ++ d) (ap (λ d. replicate g false ++ d) (replicate-append-replicate h k false) ∙ replicate-append-replicate g (h + k) false)
 
+-- what stands behind whole bytes that are dropped moves to the front, and zeros come behind it
 zeros_dropped : (old new : List ℕ) (n count : ℕ) → n ≤ 8 * length old → n / 8 ≤ count → drop n (bits_of old) ≡ replicate (8 * length old - n) false
     → new ≡ take (length old) (slice_index old (n / 8) ∷ replicate count 0 ++ drop (count + 1) old)
     → bits_of new ≡ drop (bits_in_bytes (length (take n (bits_of old)))) (take n (bits_of old)) ++ replicate (8 * length old - n % 8) false
@@ -323,6 +328,7 @@ gathered-dropped old new capacity n count h size far e =
     let all = zeros_behind (bits_of new) (drop (bits_in_bytes (length bits)) bits) (n % 8) (8 * length old - n % 8) (zeros_dropped old new n count (omega (arith, h.room, size)) far zeros e) rest in
     (all.0, record { room = omega (arith, h.room); zeros = all.1 ∙ ap (λ k. replicate (8 * k - n % 8) false) size; small = h.small })
 
+-- the whole bytes that bits are gathered in are the whole bytes of these bits
 pub gathered-whole : (bytes : List ℕ) (n : ℕ) → n ≤ 8 * length bytes → ((i : ℕ) → get_or (take (n / 8) bytes) i 0 < 256)
     → whole_bytes (take n (bits_of bytes)) ≡ take (n / 8) bytes
 gathered-whole bytes n room f =

@@ -11,6 +11,7 @@ use Rattle.rice_samples.specs.bytes.Values.{offset}
 use Rattle.rice_samples.proofs.lemmas.bytes.LevelPatterns.{word_of_level}
 use Rattle.rice_samples.proofs.lemmas.bytes.SpellingLemmas.{offset_limit}
 
+-- samples of at most 8 bits have a byte each
 pub one_byte : (s : Parameters) → s.bits ≤ 8 → width s ≡ 1
 one_byte s h = ap (λ t. cond t 1 (cond (nat_le s.bits 16) 2 (cond (s.three && nat_le s.bits 24) 3 4))) (le-leb s.bits 8 h)
 
@@ -30,6 +31,7 @@ byte_of_level s l o h few e lt =
     let same : word ≡ (l + (256 - o)) % 256 = ap (λ k. twos_complement k (value_at s l)) w ∙ byte in
     (λ j. cond s.msb (bytes_high_first (one_byte s few j) (same j)) (bytes_low_first 0 (one_byte s few j) (same j))) ∙ byte_in_either_order s.msb ((l + (256 - o)) % 256) (omega arith)
 
+-- levels in lanes of 8 bits, less the offset, are the bytes that spell the samples
 pub bytes-spelled : (s : Parameters) (n o : ℕ) (levels : List ℕ) → 1 ≤ s.bits → s.bits ≤ 8 → o ≡ offset s → length levels ≡ n → All (λ l. l < value_count s) levels
     → zip2 (λ a b. (a + (256 - b)) % 256) levels (replicate n o) ≡ spellings s (values_at s levels)
 bytes-spelled s n o [] h few e len legal = refl

@@ -15,6 +15,7 @@ use Rattle.rice_samples.proofs.lemmas.setting.Gaps.{gap_above, sample_at}
 use Rattle.rice_samples.proofs.lemmas.setting.Levels.{pattern_fits}
 use Rattle.rice_samples.proofs.lemmas.setting.ValuesAt.{value_of_level}
 
+-- a level that the offset has turned is that of the value with this pattern
 pattern_of_level : (s : Parameters) (v : ℕ) → 1 ≤ s.bits → v < value_count s → pattern s (value_at s ((v + offset s) % 2 ^ s.bits)) ≡ v
 pattern_of_level s v h lt =
     let x = has_pattern s h v lt in

@@ -5,6 +5,7 @@ use Rattle.rice_samples.specs.Parameters.{Parameters, IsSample, value_at, value_
 use Rattle.rice_samples.specs.bytes.Spelling.{IsNoSpelling, ReadsSamples, spelling, spellings}
 use Rattle.rice_samples.proofs.lemmas.setting.ValuesAt.{legal_values, length-values}
 
+-- one level more was read
 pub reads_levels : (s : Parameters) (bytes levels : List ℕ) (i : ℕ) → All (λ l. l < value_count s) (take i levels) → take (width s * i) bytes ≡ spellings s (values_at s (take i levels)) →
     (i < length levels → IsNoSpelling s (drop (width s * i) bytes)) → ReadsSamples s bytes (values_at s levels) i
 reads_levels s bytes levels i legal spelled stop =
@@ -23,6 +24,7 @@ reads_all s bytes levels len legal spelled =
     let whole : take (width s * n) bytes ≡ bytes = take_all (width s * n) bytes (omega (arith, len)) in
     reads_levels s bytes levels n (subst (All (λ l. l < value_count s)) (sym all) legal) (whole ∙ (spelled ∙ ap (λ v. spellings s (values_at s v)) (sym all))) (λ h. absurd (omega (arith, h)))
 
+-- bytes that are those of no sample spell none
 pub no_spelling : (s : Parameters) (w i : ℕ) (bytes : List ℕ) → w ≡ width s → ((x : ℤ) → IsSample s x → take (w * i + w - w * i) (drop (w * i) bytes) ≢ spelling s x) → IsNoSpelling s (drop (width s * i) bytes)
 no_spelling s w i bytes e h = λ x sample spells.
     let m : w * i + w - w * i ≡ width s = omega (arith, e) in

@@ -30,6 +30,7 @@ one_read f value w i bytes levels l h e g =
     let all : flat_map f (map value (take (i + 1) (slice_set levels i l))) ≡ flat_map f (map value (take i levels)) ++ f (value l) = ap (flat_map f) values ∙ flat_map-push f (map value (take i levels)) (value l) in
     ap (λ v. take v bytes) n ∙ (take-add (w * i) w bytes ∙ ((λ j. e j ++ last j) ∙ sym all))
 
+-- one sample more is legal
 pub one_legal : {X : Type 0} (P : X → Type 0) (i : ℕ) (xs : List X) (x : X) → i < length xs → All P (take i xs) → P x → All P (take (i + 1) (slice_set xs i x))
 one_legal P i xs x h all p = subst (All P) (sym (take_more_set xs i x h)) (All-push P (take i xs) x all p)
 

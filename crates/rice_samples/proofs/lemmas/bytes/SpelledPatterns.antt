@@ -21,6 +21,7 @@ pub record SpelledSoFar (s : Parameters) (old now : List ℕ) (at : ℕ) : Type 
   pub patterns : map (pattern s) samples ≡ map (λ w. w % value_count s) words
   pub spelled : now ≡ spellings s samples ++ drop at old
 
+-- before the first sample nothing was spelled
 pub none_so_far : (s : Parameters) (old : List ℕ) (w : ℕ) → SpelledSoFar s old old (w * 0)
 none_so_far s old w =
     let none : 0 ≡ w * 0 = omega arith in
@@ -34,6 +35,7 @@ none_so_far s old w =
       spelled = ap (λ n. drop n old) none;
     }
 
+-- one sample more was spelled
 pub one_more : (s : Parameters) (old now new one one_new : List ℕ) (w at : ℕ) → (h : SpelledSoFar s old now at) → at + w ≤ length old → length now ≡ length old → one ≡ take w (drop at now) → SpellsOne s one one_new
     → new ≡ take at now ++ (one_new ++ drop (at + w) now) → SpelledSoFar s old new (at + w)
 one_more s old now new one one_new w at h within len one_is d wrote =
@@ -54,6 +56,7 @@ one_more s old now new one one_new w at h within len one_is d wrote =
           ∙ ap (λ l. l ++ drop (at + w) old) (ap (λ l. front ++ l) (sym (append-nil (spelling s d.sample))) ∙ sym (flat_map-append (spelling s) h.samples (d.sample ∷ [])));
     }
 
+-- where no whole sample is left, all are spelled
 pub all_spelled : (s : Parameters) (old new : List ℕ) (at : ℕ) → SpelledSoFar s old new at → at ≤ length old → length old < at + width s → SpellsPatterns s old new
 all_spelled s old new at h within few = record {
   words = h.words;

@@ -71,6 +71,7 @@ same_low (suc (suc (suc (suc zero)))) v w h le hv hw e =
     omega arith
 same_low (suc (suc (suc (suc (suc k))))) v w h le hv hw e = absurd (omega arith)
 
+-- bytes, the most significant first, spell one number
 same_high : (k v w : ℕ) → 1 ≤ k → k ≤ 4 → v < 2 ^ (8 * k) → w < 2 ^ (8 * k) → bytes_high_first k v ≡ bytes_high_first k w → v ≡ w
 same_high zero v w h le hv hw e = absurd (omega arith)
 same_high (suc zero) v w h le hv hw e = let a : v % 256 ≡ w % 256 = cc in omega arith
@@ -91,6 +92,7 @@ same_high (suc (suc (suc (suc zero)))) v w h le hv hw e =
     omega arith
 same_high (suc (suc (suc (suc (suc k))))) v w h le hv hw e = absurd (omega arith)
 
+-- and so do bytes in either order
 same_word : (msb : Bool) (k v w : ℕ) → 1 ≤ k → k ≤ 4 → v < 2 ^ (8 * k) → w < 2 ^ (8 * k) → ordered_bytes msb k v ≡ ordered_bytes msb k w → v ≡ w
 same_word true k v w h le hv hw e = same_high k v w h le hv hw e
 same_word false k v w h le hv hw e = same_low k v w h le hv hw e
@@ -109,6 +111,7 @@ value_limits false bits more x h le k = unsigned (2 ^ bits) (2 ^ more) x (pow_mo
     unsigned count limit (pos v) le k l = (omega (arith, ints), omega (arith, ints))
     unsigned count limit (negsuc v) le k l = absurd (omega (arith, ints))
 
+-- a number below twice another is reduced by it once at most
 pub mod_once : (n c : ℕ) → n < c + c → ((n % c ≡ n) × (n < c)) ⊎ ((n % c + c ≡ n) × (c ≤ n))
 mod_once n c h =
     elim (cases_lt n c) [

@@ -23,6 +23,7 @@ abbrev in_fours : Bool → List ℕ → List ℕ
 in_fours true bs = bs
 in_fours false bs = turned_in_fours bs
 
+-- a byte more
 one_more : (msb : Bool) (a : ℕ) (bs : List ℕ) → a < 2 ^ 8 → OrdersWords msb 1 bs bs → OrdersWords msb 1 (a ∷ bs) (a ∷ bs)
 one_more msb a bs la h = record {
   words = a ∷ h.words;
@@ -36,6 +37,7 @@ one_more msb a bs la h = record {
     alone true = (let e : a % 256 ≡ a = omega (arith, la) in ap (λ b. b ∷ []) e)
     alone false = (let e : a % 256 ≡ a = omega (arith, la) in ap (λ b. b ∷ []) e)
 
+-- two bytes more
 pair_more : (msb : Bool) (a b : ℕ) (bs : List ℕ) → a < 2 ^ 8 → b < 2 ^ 8 → OrdersWords msb 2 bs (in_pairs msb bs) → OrdersWords msb 2 (a ∷ b ∷ bs) (in_pairs msb (a ∷ b ∷ bs))
 pair_more msb a b bs la lb h = record {
   words = (a * 2 ^ 8 + b) ∷ h.words;
@@ -63,6 +65,7 @@ pair_more msb a b bs la lb h = record {
     parts true = refl
     parts false = refl
 
+-- four bytes more
 four_more : (msb : Bool) (a b c d : ℕ) (bs : List ℕ) → a < 2 ^ 8 → b < 2 ^ 8 → c < 2 ^ 8 → d < 2 ^ 8 → OrdersWords msb 4 bs (in_fours msb bs) → OrdersWords msb 4 (a ∷ b ∷ c ∷ d ∷ bs) (in_fours msb (a ∷ b ∷ c ∷ d ∷ bs))
 four_more msb a b c d bs la lb lc ld h = record {
   words = v ∷ h.words;
@@ -103,10 +106,12 @@ four_more msb a b c d bs la lb lc ld h = record {
     parts true = refl
     parts false = refl
 
+-- words of one byte stand in either order
 single_bytes_ordered : (msb : Bool) (bs : List ℕ) → All (λ v. v < 2 ^ 8) bs → OrdersWords msb 1 bs bs
 single_bytes_ordered msb [] fit = record { words = []; count = refl; fit = All-nil (λ v. v < 2 ^ (8 * 1)); bits = refl; ordered_are = refl }
 single_bytes_ordered msb (a ∷ bs) fit = one_more msb a bs (fit 0 0 (omega arith)) (single_bytes_ordered msb bs (λ i d lt. fit (suc i) d (omega (arith, lt))))
 
+-- words of two bytes are ordered pair by pair
 pairs_ordered : (msb : Bool) (n : ℕ) (bs : List ℕ) → length bs ≡ 2 * n → All (λ v. v < 2 ^ 8) bs → OrdersWords msb 2 bs (in_pairs msb bs)
 pairs_ordered msb zero [] len fit = record { words = []; count = refl; fit = All-nil (λ v. v < 2 ^ (8 * 2)); bits = refl; ordered_are = none msb }
   where
@@ -118,6 +123,7 @@ pairs_ordered msb (suc n) [] len fit = absurd (omega (arith, len))
 pairs_ordered msb (suc n) (a ∷ []) len fit = absurd (omega (arith, len))
 pairs_ordered msb (suc n) (a ∷ b ∷ bs) len fit = pair_more msb a b bs (fit 0 0 (omega arith)) (fit 1 0 (omega arith)) (pairs_ordered msb n bs (omega (arith, len)) (λ i d lt. fit (suc (suc i)) d (omega (arith, lt))))
 
+-- words of four bytes are ordered four by four
 fours_ordered : (msb : Bool) (n : ℕ) (bs : List ℕ) → length bs ≡ 4 * n → All (λ v. v < 2 ^ 8) bs → OrdersWords msb 4 bs (in_fours msb bs)
 fours_ordered msb zero [] len fit = record { words = []; count = refl; fit = All-nil (λ v. v < 2 ^ (8 * 4)); bits = refl; ordered_are = none msb }
   where
@@ -172,6 +178,7 @@ pub record SamplesOfWords (s : Parameters) (w : ℕ) (words : List ℕ) : Type 0
   pub patterns : map (pattern s) samples ≡ words
   pub spelled : spellings s samples ≡ flat_map (ordered_bytes s.msb w) words
 
+-- words that use all bits of their bytes are samples
 pub samples_of_words : (s : Parameters) (w : ℕ) (words : List ℕ) → 1 ≤ s.bits → s.bits ≡ 8 * w → w ≡ width s → All (λ v. v < 2 ^ (8 * w)) words → SamplesOfWords s w words
 samples_of_words s w [] some whole wide fit = record { samples = []; len = refl; legal = All-nil (IsSample s); patterns = refl; spelled = refl }
 samples_of_words s w (v ∷ words) some whole wide fit =
