@@ -12,7 +12,8 @@ const PIECE: usize = 4096;
 /// Takes `count` bytes from an intake and forgets them, or all if it has fewer.
 fn skip<I: Intake + Drop>(intake: &mut I, count: u64) -> Result<(), ReadFault>
     requires { I.failed intake.old + 1 < 2 ^ 64 }
-    ensures rest { OnOk result ((bytes : List ℕ) → I.left intake.old ≡ Some bytes → I.left intake.new ≡ Some (drop count bytes)) }
+    ensures rest { OnOk result ((bytes : List ℕ) → I.left intake.old ≡ Some bytes →
+        I.left intake.new ≡ Some (drop count bytes)) }
     ensures failures { CountsFailure (I.failed intake.old) (I.failed intake.new) result }
 {
     let mut buffer = [0; PIECE];

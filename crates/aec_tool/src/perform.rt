@@ -27,7 +27,8 @@ pub struct Done {
 pub fn perform<'a, S: System<'a>>(system: &mut S, plan: &Plan<'a>) -> u8
     requires fresh { (o : Outside) → S.told system.old ≡ Some o → IsFresh o }
     requires decodes { plan.now.dest ≡ None → plan.now.decode ≡ true }
-    ensures { (o : Outside) → S.told system.old ≡ Some o → (after : Outside) × (S.told system.new ≡ Some after)
+    ensures { (o : Outside) → S.told system.old ≡ Some o → (after : Outside) ×
+        (S.told system.new ≡ Some after)
         × Performs S.Source.left S.Source.failed S.Dest.taken S.Dest.failed (plan_view plan.now) o after result }
 {
     if plan.verbose {
@@ -48,7 +49,8 @@ pub fn perform<'a, S: System<'a>>(system: &mut S, plan: &Plan<'a>) -> u8
 /// Writes a message, and returns the status of a failure.
 pub fn fail<'a, S: System<'a>>(system: &mut S, message: Message<'a>) -> u8
     requires { (o : Outside) → S.told system.old ≡ Some o → o.said ≡ None }
-    ensures says { (o : Outside) → S.told system.old ≡ Some o → S.told system.new ≡ Some (saying o (said_of message.entry)) }
+    ensures says { (o : Outside) → S.told system.old ≡ Some o →
+        S.told system.new ≡ Some (saying o (said_of message.entry)) }
     ensures status { result ≡ 1 }
 {
     system.tell(message);
@@ -57,7 +59,8 @@ pub fn fail<'a, S: System<'a>>(system: &mut S, message: Message<'a>) -> u8
 
 /// Writes the closing line, if the plan asks for it, and returns the status.
 fn close<'a, S: System<'a>>(system: &mut S, plan: &Plan<'a>, done: Done) -> u8
-    ensures closes { (o : Outside) → S.told system.old ≡ Some o → S.told system.new ≡ Some (closing plan.now.verbose done.samples o) }
+    ensures closes { (o : Outside) → S.told system.old ≡ Some o →
+        S.told system.new ≡ Some (closing plan.now.verbose done.samples o) }
     ensures status { result ≡ done.status }
 {
     if plan.verbose {
@@ -72,7 +75,8 @@ pub fn open<'a, S: System<'a>>(
     name: &str,
 ) -> Result<(S::Source, Option<FileId>), OpenFault>
     ensures sound { IfOk result (λ r. S.Source.failed r.0 ≡ 0) }
-    ensures opens { (o : Outside) → S.told system.now ≡ Some o → Opens S.Source.left (source_bytes o name.now) (source_id o name.now) result }
+    ensures opens { (o : Outside) → S.told system.now ≡ Some o →
+        Opens S.Source.left (source_bytes o name.now) (source_id o name.now) result }
 {
     if name == STANDARD {
         return Ok(system.input());
@@ -116,9 +120,12 @@ fn write<'a, S: System<'a>>(
 ) -> u8
     requires fresh { (o : Outside) → S.told system.old ≡ Some o → IsFresh o }
     requires sound { S.Source.failed source ≡ 0 }
-    requires bytes { (o : Outside) → S.told system.old ≡ Some o → GivesAll (source_bytes o plan.now.source.now) (S.Source.left source) }
-    requires id { (o : Outside) → S.told system.old ≡ Some o → id ≡ source_id o plan.now.source.now }
-    ensures { (o : Outside) → S.told system.old ≡ Some o → (after : Outside) × (S.told system.new ≡ Some after)
+    requires bytes { (o : Outside) → S.told system.old ≡ Some o →
+        GivesAll (source_bytes o plan.now.source.now) (S.Source.left source) }
+    requires id { (o : Outside) → S.told system.old ≡ Some o →
+        id ≡ source_id o plan.now.source.now }
+    ensures { (o : Outside) → S.told system.old ≡ Some o → (after : Outside) ×
+        (S.told system.new ≡ Some after)
         × Ends S.Source.left S.Source.failed S.Dest.taken S.Dest.failed (Some dest.entry.now) (plan_view plan.now) o after result }
 {
     if empties_source(system, dest, id) {
@@ -144,9 +151,12 @@ fn transfer<'a, S: System<'a>>(
 ) -> Done
     requires sound { S.Source.failed source ≡ 0 }
     requires unwritten { S.Dest.failed dest ≡ 0 }
-    requires empty { (o : Outside) → S.told system.old ≡ Some o → HasTakenNothing (S.Dest.taken dest) }
+    requires empty { (o : Outside) → S.told system.old ≡ Some o →
+        HasTakenNothing (S.Dest.taken dest) }
     requires unsaid { (o : Outside) → S.told system.old ≡ Some o → o.said ≡ None }
-    ensures { (o : Outside) (given : List ℕ) → S.told system.old ≡ Some (begun o (place_of name.entry.now (new_mode (source_id o plan.now.source.now)))) →
+    ensures { (o : Outside) (given : List ℕ) →
+        S.told system.old ≡ Some (begun o
+        (place_of name.entry.now (new_mode (source_id o plan.now.source.now)))) →
         source_bytes o plan.now.source.now ≡ Some given → S.Source.left source ≡ Some given →
         (EmptiesSource o (plan_view plan.now) name.entry.now → ⊥) → is_creatable o name.entry.now ≡ true → (after : Outside) × (S.told system.new ≡ Some after)
         × Runs S.Source.left S.Source.failed S.Dest.taken S.Dest.failed (plan_view plan.now) name.entry.now o after result.status result.samples }

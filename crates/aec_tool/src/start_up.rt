@@ -83,7 +83,8 @@ fn matches_of_test<'a>(
 /// Runs the command with the given words, and returns its exit status.
 pub fn start<'a, S: System<'a>>(system: &mut S, alloc: Global, words: &'a [&'a str]) -> u8
     requires { (o : Outside) → S.told system.old ≡ Some o → IsFresh o }
-    ensures { (o : Outside) → S.told system.old ≡ Some o → (after : Outside) × (S.told system.new ≡ Some after)
+    ensures { (o : Outside) → S.told system.old ≡ Some o → (after : Outside) ×
+        (S.told system.new ≡ Some after)
         × Starts S.Source.left S.Source.failed S.Dest.taken S.Dest.failed (texts words.entry.now) o after result }
 {
     let matches = match matches_of(alloc, words) {
@@ -102,7 +103,8 @@ pub fn start<'a, S: System<'a>>(system: &mut S, alloc: Global, words: &'a [&'a s
 /// Passes on what the parser has to say, and returns the exit status.
 fn refuse<'a, S: System<'a>>(system: &mut S, error: &Error) -> u8
     requires { (o : Outside) → S.told system.old ≡ Some o → IsFresh o }
-    ensures { (o : Outside) → S.told system.old ≡ Some o → (after : Outside) × (S.told system.new ≡ Some after)
+    ensures { (o : Outside) → S.told system.old ≡ Some o → (after : Outside) ×
+        (S.told system.new ≡ Some after)
         × Explains (kind_of error.now) o after result }
 {
     match error.kind() {

@@ -36,13 +36,15 @@ pub trait System<'a> {
     /// Returns standard input, and which file it is, where the system knows.
     fn input(&self) -> (Self::Source, Option<FileId>)
         ensures sound { Self.Source.failed result.0 ≡ 0 }
-        ensures bytes { (o : Outside) → told self.now ≡ Some o → Self.Source.left result.0 ≡ Some o.input }
+        ensures bytes { (o : Outside) → told self.now ≡ Some o →
+            Self.Source.left result.0 ≡ Some o.input }
         ensures id { (o : Outside) → told self.now ≡ Some o → result.1 ≡ o.input_id };
 
     /// Opens a file to read, and returns it and which file it is, where the system knows.
     fn open(&self, name: &str) -> Result<(Self::Source, Option<FileId>), OpenFault>
         ensures sound { IfOk result (λ r. Self.Source.failed r.0 ≡ 0) }
-        ensures opens { (o : Outside) → told self.now ≡ Some o → Opens Self.Source.left (o.files name.now) (o.ids name.now) result };
+        ensures opens { (o : Outside) → told self.now ≡ Some o →
+            Opens Self.Source.left (o.files name.now) (o.ids name.now) result };
 
     /// Returns which file has a name, where the system knows.
     fn find(&self, name: &str) -> Option<FileId>
@@ -53,7 +55,8 @@ pub trait System<'a> {
         requires { (o : Outside) → told self.old ≡ Some o → o.destination ≡ Untouched }
         ensures sound { IfOk result (λ d. Self.Dest.failed d ≡ 0) }
         ensures silent { told self.old ≡ None → told self.new ≡ None }
-        ensures creates { (o : Outside) → told self.old ≡ Some o → Creates Self.Dest.taken StandardOutput true o (told self.new) result };
+        ensures creates { (o : Outside) → told self.old ≡ Some o →
+            Creates Self.Dest.taken StandardOutput true o (told self.new) result };
 
     /// Creates a file, or empties the one that has this name, to write to it. A file is touched only if there is memory. One that is new
     /// gets these permissions, or those that all new files get, less those that the system withholds from new files.
@@ -67,14 +70,16 @@ pub trait System<'a> {
     /// Ends writing. `Err` if not all bytes that the destination took have arrived.
     fn finish(&mut self, dest: Self::Dest) -> Result<(), WriteFault>
         ensures silent { told self.old ≡ None → told self.new ≡ None }
-        ensures finishes { (o : Outside) (room : Room) → told self.old ≡ Some o → Self.Dest.taken dest ≡ Some room →
+        ensures finishes { (o : Outside) (room : Room) → told self.old ≡ Some o →
+            Self.Dest.taken dest ≡ Some room →
             Finishes room.bytes o (told self.new) result };
 
     /// Writes a message to standard error, as a line that begins with `aec: `. A failure is passed over.
     fn tell(&mut self, message: Message<'a>)
         requires { (o : Outside) → told self.old ≡ Some o → o.said ≡ None }
         ensures silent { told self.old ≡ None → told self.new ≡ None }
-        ensures says { (o : Outside) → told self.old ≡ Some o → told self.new ≡ Some (saying o (said_of message.entry)) };
+        ensures says { (o : Outside) → told self.old ≡ Some o →
+            told self.new ≡ Some (saying o (said_of message.entry)) };
 
     /// Lets the system show on a terminal how far it has come.
     fn watch(&self);
@@ -83,17 +88,20 @@ pub trait System<'a> {
     /// passed over.
     fn close(&mut self, decode: bool, samples: u64)
         ensures silent { told self.old ≡ None → told self.new ≡ None }
-        ensures closes { (o : Outside) → told self.old ≡ Some o → told self.new ≡ Some (closing true samples o) };
+        ensures closes { (o : Outside) → told self.old ≡ Some o →
+            told self.new ≡ Some (closing true samples o) };
 
     /// Writes what a test found to standard output, as a line.
     fn report(&mut self, it: Finding) -> Result<(), WriteFault>
         requires { (o : Outside) → told self.old ≡ Some o → o.found ≡ None }
         ensures silent { told self.old ≡ None → told self.new ≡ None }
-        ensures tells { (o : Outside) → told self.old ≡ Some o → Tells it o (told self.new) result };
+        ensures tells { (o : Outside) → told self.old ≡ Some o →
+            Tells it o (told self.new) result };
 
     /// Writes what the parser of the command line has to say: help and version to standard output, mistakes to standard error.
     fn show(&mut self, error: &Error)
         requires { (o : Outside) → told self.old ≡ Some o → o.shown ≡ None }
         ensures silent { told self.old ≡ None → told self.new ≡ None }
-        ensures shows { (o : Outside) → told self.old ≡ Some o → told self.new ≡ Some (showing o (kind_of error.now)) };
+        ensures shows { (o : Outside) → told self.old ≡ Some o →
+            told self.new ≡ Some (showing o (kind_of error.now)) };
 }

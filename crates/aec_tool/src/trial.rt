@@ -27,10 +27,13 @@ pub fn test<'a, S: System<'a>>(
 ) -> Done
     requires fresh { (o : Outside) → S.told system.old ≡ Some o → IsFresh o }
     requires sound { S.Source.failed source ≡ 0 }
-    requires bytes { (o : Outside) → S.told system.old ≡ Some o → GivesAll (source_bytes o plan.now.source.now) (S.Source.left source) }
-    requires id { (o : Outside) → S.told system.old ≡ Some o → id ≡ source_id o plan.now.source.now }
+    requires bytes { (o : Outside) → S.told system.old ≡ Some o →
+        GivesAll (source_bytes o plan.now.source.now) (S.Source.left source) }
+    requires id { (o : Outside) → S.told system.old ≡ Some o →
+        id ≡ source_id o plan.now.source.now }
     requires decodes { plan.now.decode ≡ true }
-    ensures { (o : Outside) → S.told system.old ≡ Some o → (after : Outside) × (S.told system.new ≡ Some after)
+    ensures { (o : Outside) → S.told system.old ≡ Some o → (after : Outside) ×
+        (S.told system.new ≡ Some after)
         × Tests S.Source.left S.Source.failed S.Dest.taken S.Dest.failed (plan_view plan.now) o after result.status result.samples }
 {
     let (outcome, _) = decode(&plan.setting, plan.samples, source, &mut Nowhere);
@@ -86,8 +89,10 @@ fn judge<'a, S: System<'a>>(
     id: Option<FileId>,
     outcome: &Outcome,
 ) -> Result<Option<bool>, Fault>
-    requires id { (o : Outside) → S.told system.now ≡ Some o → id ≡ source_id o plan.now.source.now }
-    ensures { (o : Outside) (given : List ℕ) → S.told system.now ≡ Some o → source_bytes o plan.now.source.now ≡ Some given →
+    requires id { (o : Outside) → S.told system.now ≡ Some o →
+        id ≡ source_id o plan.now.source.now }
+    ensures { (o : Outside) (given : List ℕ) → S.told system.now ≡ Some o →
+        source_bytes o plan.now.source.now ≡ Some given →
         Judges S.Source.left S.Source.failed S.Dest.taken S.Dest.failed (plan_view plan.now) o given outcome.now.report.bits outcome.now.fault result }
 {
     match outcome.fault {
@@ -114,8 +119,10 @@ fn look<'a, S: System<'a>>(
     id: Option<FileId>,
     bits: u64,
 ) -> Result<Option<bool>, Fault>
-    requires id { (o : Outside) → S.told system.now ≡ Some o → id ≡ source_id o plan.now.source.now }
-    ensures { (o : Outside) (given : List ℕ) → S.told system.now ≡ Some o → source_bytes o plan.now.source.now ≡ Some given →
+    requires id { (o : Outside) → S.told system.now ≡ Some o →
+        id ≡ source_id o plan.now.source.now }
+    ensures { (o : Outside) (given : List ℕ) → S.told system.now ≡ Some o →
+        source_bytes o plan.now.source.now ≡ Some given →
         Looks S.Source.failed (is_some plan.now.samples && is_read_again o plan.now.source.now) bits given result }
 {
     if !is_looked_for(plan, id) {

@@ -25,9 +25,12 @@ pub extern "C" fn rice_encode(
     code: &mut [u8],
     report: &mut RiceReport,
 ) -> u32
-    ensures ok { IfOk (setting_asked setting.now) (λ s. EncodesInto s samples.now code.old code.new report.new result) }
-    ensures refused { IfErr (setting_asked setting.now) (λ fault. RefusesSetting fault code.old code.new report.new result) }
-    ensures room { IfOk (setting_asked setting.now) (λ s. code_room s (length samples.now / width s) ≤ length code.old →
+    ensures ok { IfOk (setting_asked setting.now)
+        (λ s. EncodesInto s samples.now code.old code.new report.new result) }
+    ensures refused { IfErr (setting_asked setting.now)
+        (λ fault. RefusesSetting fault code.old code.new report.new result) }
+    ensures room { IfOk (setting_asked setting.now)
+        (λ s. code_room s (length samples.now / width s) ≤ length code.old →
         result ≢ status_number NoRoom) }
 {
     match setting.legal() {
@@ -71,8 +74,10 @@ pub extern "C" fn rice_decode(
 ) -> u32
     ensures ok { IfOk (setting_asked setting.now) (λ s.
         DecodesInto s (Some count) code.now samples.old samples.new report.new result) }
-    ensures refused { IfErr (setting_asked setting.now) (λ fault. RefusesSetting fault samples.old samples.new report.new result) }
-    ensures room { IfOk (setting_asked setting.now) (λ s. count * width s ≤ length samples.old → result ≢ status_number NoRoom) }
+    ensures refused { IfErr (setting_asked setting.now)
+        (λ fault. RefusesSetting fault samples.old samples.new report.new result) }
+    ensures room { IfOk (setting_asked setting.now) (λ s. count * width s ≤ length samples.old →
+        result ≢ status_number NoRoom) }
 {
     match setting.legal() {
         Ok(setting) => decode_into(&setting, Some(count), code, samples, report),
@@ -88,8 +93,10 @@ pub extern "C" fn rice_decode_all(
     samples: &mut [u8],
     report: &mut RiceReport,
 ) -> u32
-    ensures ok { IfOk (setting_asked setting.now) (λ s. DecodesInto s None code.now samples.old samples.new report.new result) }
-    ensures refused { IfErr (setting_asked setting.now) (λ fault. RefusesSetting fault samples.old samples.new report.new result) }
+    ensures ok { IfOk (setting_asked setting.now)
+        (λ s. DecodesInto s None code.now samples.old samples.new report.new result) }
+    ensures refused { IfErr (setting_asked setting.now)
+        (λ fault. RefusesSetting fault samples.old samples.new report.new result) }
 {
     match setting.legal() {
         Ok(setting) => decode_into(&setting, None, code, samples, report),

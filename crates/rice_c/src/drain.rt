@@ -25,7 +25,8 @@ pub struct RiceDrain {
 /// Opens a code at its front, if the setting is legal. Returns the number of the status.
 #[unsafe(no_mangle)]
 pub extern "C" fn rice_open(setting: &RiceSetting, drain: &mut RiceDrain) -> u32
-    ensures ok { IfOk (setting_asked setting.now) (λ s. OpensDrain s at_front setting.now drain.new result) }
+    ensures ok { IfOk (setting_asked setting.now)
+        (λ s. OpensDrain s at_front setting.now drain.new result) }
     ensures refused { IfErr (setting_asked setting.now) (λ fault.
         (result ≡ status_number (refusal_status_of fault)) × (drain.new ≡ drain.old)) }
 {
@@ -114,8 +115,10 @@ fn pull_into(
     samples: &mut [u8],
     report: &mut RiceReport,
 ) -> u32
-    requires { (o : Origin) × (front : List Bool) × (given : List ℤ) × IsStand setting.now o drain.old.stand front given }
-    ensures { (o : Origin) (front : List Bool) (given : List ℤ) → IsStand setting.now o drain.old.stand front given →
+    requires { (o : Origin) × (front : List Bool) × (given : List ℤ) ×
+        IsStand setting.now o drain.old.stand front given }
+    ensures { (o : Origin) (front : List Bool) (given : List ℤ) →
+        IsStand setting.now o drain.old.stand front given →
         PullsInto setting.now o front given code.now samples.old samples.new drain.old drain.new report.new result }
 {
     let before = drain.stand.samples;

@@ -53,7 +53,8 @@ pub extern "C" fn rice_begin(setting: &RiceSetting, feed: &mut RiceFeed) -> u32
 /// legal setting, or if there are more than 2^48 samples, which no call encodes.
 #[unsafe(no_mangle)]
 pub extern "C" fn rice_push_room(feed: &RiceFeed, samples: u64) -> u64
-    ensures ok { IfOk (setting_asked feed.now.setting) (λ s. samples ≤ most_input → result ≡ push_room s feed.now.seam.waiting_bits samples) }
+    ensures ok { IfOk (setting_asked feed.now.setting) (λ s. samples ≤ most_input →
+        result ≡ push_room s feed.now.seam.waiting_bits samples) }
     ensures many { most_input < samples → result ≡ 0 }
     ensures refused { IfErr (setting_asked feed.now.setting) (λ fault. result ≡ 0) }
 {
@@ -78,10 +79,14 @@ pub extern "C" fn rice_push(
     code: &mut [u8],
     report: &mut RiceReport,
 ) -> u32
-    requires { IfOk (setting_asked feed.old.setting) (λ s. (xs : List ℤ) × IsSeam s feed.old.seam xs) }
-    ensures ok { IfOk (setting_asked feed.old.setting) (λ s. (xs : List ℤ) → IsSeam s feed.old.seam xs →
+    requires { IfOk (setting_asked feed.old.setting) (λ s. (xs : List ℤ) ×
+        IsSeam s feed.old.seam xs) }
+    ensures ok { IfOk (setting_asked feed.old.setting) (λ s. (xs : List ℤ) →
+        IsSeam s feed.old.seam xs →
         PushesInto s xs samples.now code.old code.new feed.old feed.new report.new result) }
-    ensures room { IfOk (setting_asked feed.old.setting) (λ s. push_room s feed.old.seam.waiting_bits (length samples.now / width s) ≤ length code.old →
+    ensures room { IfOk (setting_asked feed.old.setting)
+        (λ s. push_room s feed.old.seam.waiting_bits (length samples.now / width s) ≤ length
+        code.old →
         result ≢ status_number NoRoom) }
     ensures refused { IfErr (setting_asked feed.old.setting) (λ fault.
         RefusesSetting fault code.old code.new report.new result × (feed.new ≡ feed.old)) }
@@ -100,12 +105,17 @@ pub extern "C" fn rice_finish(
     code: &mut [u8],
     report: &mut RiceReport,
 ) -> u32
-    requires { IfOk (setting_asked feed.now.setting) (λ s. (xs : List ℤ) × IsSeam s feed.now.seam xs) }
-    ensures ok { IfOk (setting_asked feed.now.setting) (λ s. (xs : List ℤ) → IsSeam s feed.now.seam xs →
+    requires { IfOk (setting_asked feed.now.setting) (λ s. (xs : List ℤ) ×
+        IsSeam s feed.now.seam xs) }
+    ensures ok { IfOk (setting_asked feed.now.setting) (λ s. (xs : List ℤ) →
+        IsSeam s feed.now.seam xs →
         FinishesInto s xs samples.now code.old code.new report.new result) }
-    ensures room { IfOk (setting_asked feed.now.setting) (λ s. push_room s feed.now.seam.waiting_bits (length samples.now / width s) ≤ length code.old →
+    ensures room { IfOk (setting_asked feed.now.setting)
+        (λ s. push_room s feed.now.seam.waiting_bits (length samples.now / width s) ≤ length
+        code.old →
         result ≢ status_number NoRoom) }
-    ensures refused { IfErr (setting_asked feed.now.setting) (λ fault. RefusesSetting fault code.old code.new report.new result) }
+    ensures refused { IfErr (setting_asked feed.now.setting)
+        (λ fault. RefusesSetting fault code.old code.new report.new result) }
 {
     match feed.setting.legal() {
         Ok(setting) => finish_into(&setting, &feed.seam, samples, code, report),

@@ -95,7 +95,8 @@ pub extern "C" fn rice_sample_width(setting: &RiceSetting) -> u32
 /// not legal, or if there are more than 2^48 samples, which no call encodes.
 #[unsafe(no_mangle)]
 pub extern "C" fn rice_code_room(setting: &RiceSetting, samples: u64) -> u64
-    ensures ok { IfOk (setting_asked setting.now) (λ s. samples ≤ most_input → result ≡ code_room s samples) }
+    ensures ok { IfOk (setting_asked setting.now) (λ s. samples ≤ most_input →
+        result ≡ code_room s samples) }
     ensures many { most_input < samples → result ≡ 0 }
     ensures refused { IfErr (setting_asked setting.now) (λ fault. result ≡ 0) }
 {
@@ -125,7 +126,8 @@ pub extern "C" fn rice_set_room(setting: &RiceSetting) -> u32
 /// are more than 2^48 samples, which no call encodes.
 #[unsafe(no_mangle)]
 pub extern "C" fn rice_step_bound(setting: &RiceSetting, samples: u64) -> u64
-    ensures ok { IfOk (setting_asked setting.now) (λ s. samples ≤ most_input → result ≡ step_bound s samples) }
+    ensures ok { IfOk (setting_asked setting.now) (λ s. samples ≤ most_input →
+        result ≡ step_bound s samples) }
     ensures many { most_input < samples → result ≡ 0 }
     ensures refused { IfErr (setting_asked setting.now) (λ fault. result ≡ 0) }
 {

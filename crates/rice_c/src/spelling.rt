@@ -13,7 +13,8 @@ use rice_samples::spell_patterns;
 /// number of the status.
 #[unsafe(no_mangle)]
 pub extern "C" fn rice_spell(setting: &RiceSetting, samples: &mut [u8]) -> u32
-    ensures ok { IfOk (setting_asked setting.now) (λ s. SpellsPatterns s samples.old samples.new × (result ≡ status_number Done)) }
+    ensures ok { IfOk (setting_asked setting.now) (λ s. SpellsPatterns s samples.old samples.new ×
+        (result ≡ status_number Done)) }
     ensures refused { IfErr (setting_asked setting.now) (λ fault.
         (result ≡ status_number (refusal_status_of fault)) × (samples.new ≡ samples.old)) }
 {

@@ -85,7 +85,8 @@ impl Setting {
             setting_of (parameters bits block interval signed msb three preprocess pad) }
         ensures legal { IsOk result ↔
             IsLegal (parameters bits block interval signed msb three preprocess pad) × IsStandardSize block }
-        ensures refused { IfErr result (IsRefused (parameters bits block interval signed msb three preprocess pad)) }
+        ensures refused { IfErr result (IsRefused
+            (parameters bits block interval signed msb three preprocess pad)) }
     {
         let is_standard = block == 8 || block == 16 || block == 32 || block == 64;
         if 1 <= bits && bits <= 32 && !is_standard {
@@ -113,7 +114,8 @@ impl Setting {
             any_setting_of (parameters bits block interval signed msb three preprocess pad) }
         ensures legal { IsOk result ↔
             IsLegal (parameters bits block interval signed msb three preprocess pad) }
-        ensures refused { IfErr result (IsRefusedOfAny (parameters bits block interval signed msb three preprocess pad)) }
+        ensures refused { IfErr result (IsRefusedOfAny
+            (parameters bits block interval signed msb three preprocess pad)) }
     {
         if bits < 1 || bits > 32 {
             return Err(SettingFault::BadBits);

@@ -112,9 +112,11 @@ fn write_row<I: Intake, O: Outlet, const WIDTH: usize>(
     requires going { reader.old.refusal ≡ None }
     requires steps { meter.old + 2 * (most_bits_read - reader.old.taken) + 64 < step_limit }
     requires counted { O.failed outlet.old + 1 < 2 ^ 64 }
-    ensures ok { IfOk result (λ n. WritesRow setting.now blocks reader.old reader.new meter.old meter.new
+    ensures ok { IfOk result (λ n. WritesRow setting.now blocks reader.old reader.new meter.old
+        meter.new
         decoder.old decoder.new bytes.now (O.taken outlet.old) (O.taken outlet.new) n) }
-    ensures err { IfErr result (λ n. FailsInRow setting.now blocks reader.old reader.new meter.old meter.new
+    ensures err { IfErr result (λ n.
+        FailsInRow setting.now blocks reader.old reader.new meter.old meter.new
         decoder.old decoder.new bytes.now (O.taken outlet.old) (O.taken outlet.new) n) }
     ensures failures { OnOk result (O.failed outlet.new ≡ O.failed outlet.old) }
     ensures failure { OnErr result (O.failed outlet.new ≡ O.failed outlet.old + 1) }

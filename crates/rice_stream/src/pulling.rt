@@ -27,8 +27,10 @@ pub fn decode_more(
     piece: &[u8],
     samples: &mut [u8],
 ) -> (Stand, Pause)
-    requires { (o : Origin) × (front : List Bool) × (given : List ℤ) × IsStand setting.now o stand.now front given }
-    ensures { (o : Origin) (front : List Bool) (given : List ℤ) → IsStand setting.now o stand.now front given →
+    requires { (o : Origin) × (front : List Bool) × (given : List ℤ) ×
+        IsStand setting.now o stand.now front given }
+    ensures { (o : Origin) (front : List Bool) (given : List ℤ) →
+        IsStand setting.now o stand.now front given →
         DecodesMore setting.now o front given piece.now stand.now samples.old samples.new result.0 result.1 }
 {
     if is_too_long(stand.bits, piece.len()) {
@@ -103,14 +105,16 @@ fn next_stand(
     reader: &mut BitReader<SliceIn<'_>>,
     levels: &mut ArrayVec<u32, 64>,
 ) -> Result<Option<Stand>, CodeFault>
-    requires stand { (o : Origin) × (front : List Bool) × (given : List ℤ) × IsStand setting.now o stand.now front given }
+    requires stand { (o : Origin) × (front : List Bool) × (given : List ℤ) ×
+        IsStand setting.now o stand.now front given }
     requires state { decoder.old ≡ state_of setting.now stand.now }
     requires reads { IsReadFrom stand.now reader.old }
     requires aligned { stand.now.run ≡ 0 → reader.old.taken % 8 ≡ stand.now.bits % 8 }
     ensures legal { All (λ l. l < value_count setting.now) levels.new.items }
     ensures goes_on { IfOk result (λ next. IfSome next (λ next.
         GoesOnAt setting.now stand.now next decoder.new reader.old reader.new × (length levels.new.items ≡ setting.now.block))) }
-    ensures takes { (o : Origin) (front : List Bool) (given : List ℤ) → IsStand setting.now o stand.now front given →
+    ensures takes { (o : Origin) (front : List Bool) (given : List ℤ) →
+        IsStand setting.now o stand.now front given →
         TakesNext setting.now o front given stand.now reader.old reader.new (values_at setting.now levels.new.items) result }
 {
     let size = setting.block() as u64;
@@ -142,7 +146,8 @@ fn write_at(setting: &Setting, levels: &[u32], at: usize, samples: &mut [u8])
     requires legal { All (λ l. l < value_count setting.now) levels.now }
     requires few { length levels.now ≤ 64 }
     requires room { at + width_of setting.now * length levels.now ≤ length samples.old }
-    ensures { samples.new ≡ take at samples.old ++ (spellings setting.now (values_at setting.now levels.now)
+    ensures { samples.new ≡ take at
+        samples.old ++ (spellings setting.now (values_at setting.now levels.now)
         ++ drop (at + width_of setting.now * length levels.now) samples.old) }
 {
     let size = setting.width() as usize * levels.len();

@@ -69,10 +69,12 @@ pub fn write_whole<const N: usize, O: Outlet>(
     outlet: &mut O,
 ) -> Result<(), WriteFault>
     requires { O.failed outlet.old + 1 < 2 ^ 64 }
-    ensures ok { OnOk result (Appends (O.taken outlet.old) (O.taken outlet.new) (whole_bytes sink.old) ×
+    ensures ok { OnOk result (Appends (O.taken outlet.old) (O.taken outlet.new)
+        (whole_bytes sink.old) ×
         (O.failed outlet.new ≡ O.failed outlet.old)
         × (sink.new ≡ drop (bits_in_bytes (length sink.old)) sink.old)) }
-    ensures err { OnErr result (TakesPart (O.taken outlet.old) (O.taken outlet.new) (whole_bytes sink.old) ×
+    ensures err { OnErr result (TakesPart (O.taken outlet.old) (O.taken outlet.new)
+        (whole_bytes sink.old) ×
         (O.failed outlet.new ≡ O.failed outlet.old + 1)) }
 {
     match write_all(outlet, sink.whole()) {
@@ -95,9 +97,11 @@ pub fn write_block<O: Outlet>(
     requires legal { All (λ l. l < value_count setting.now) levels.now }
     requires few { length levels.now ≤ 64 }
     requires counted { O.failed outlet.old + 1 < 2 ^ 64 }
-    ensures ok { OnOk result (Appends (O.taken outlet.old) (O.taken outlet.new) (spellings setting.now (values_at setting.now levels.now)) ×
+    ensures ok { OnOk result (Appends (O.taken outlet.old) (O.taken outlet.new)
+        (spellings setting.now (values_at setting.now levels.now)) ×
         (O.failed outlet.new ≡ O.failed outlet.old)) }
-    ensures err { OnErr result (TakesPart (O.taken outlet.old) (O.taken outlet.new) (spellings setting.now (values_at setting.now levels.now)) ×
+    ensures err { OnErr result (TakesPart (O.taken outlet.old) (O.taken outlet.new)
+        (spellings setting.now (values_at setting.now levels.now)) ×
         (O.failed outlet.new ≡ O.failed outlet.old + 1)) }
 {
     // Laid out for the blocks that are written most.
@@ -121,9 +125,11 @@ fn write_other_samples<O: Outlet>(
     requires legal { All (λ l. l < value_count setting.now) levels.now }
     requires few { length levels.now ≤ 64 }
     requires counted { O.failed outlet.old + 1 < 2 ^ 64 }
-    ensures ok { OnOk result (Appends (O.taken outlet.old) (O.taken outlet.new) (spellings setting.now (values_at setting.now levels.now)) ×
+    ensures ok { OnOk result (Appends (O.taken outlet.old) (O.taken outlet.new)
+        (spellings setting.now (values_at setting.now levels.now)) ×
         (O.failed outlet.new ≡ O.failed outlet.old)) }
-    ensures err { OnErr result (TakesPart (O.taken outlet.old) (O.taken outlet.new) (spellings setting.now (values_at setting.now levels.now)) ×
+    ensures err { OnErr result (TakesPart (O.taken outlet.old) (O.taken outlet.new)
+        (spellings setting.now (values_at setting.now levels.now)) ×
         (O.failed outlet.new ≡ O.failed outlet.old + 1)) }
 {
     match (setting.width(), setting.msb(), levels.len()) {
@@ -155,9 +161,11 @@ fn write_sized<O: Outlet>(
     requires count { length levels.now ≡ count }
     requires few { count ≤ 64 }
     requires counted { O.failed outlet.old + 1 < 2 ^ 64 }
-    ensures ok { OnOk result (Appends (O.taken outlet.old) (O.taken outlet.new) (spellings setting.now (values_at setting.now levels.now)) ×
+    ensures ok { OnOk result (Appends (O.taken outlet.old) (O.taken outlet.new)
+        (spellings setting.now (values_at setting.now levels.now)) ×
         (O.failed outlet.new ≡ O.failed outlet.old)) }
-    ensures err { OnErr result (TakesPart (O.taken outlet.old) (O.taken outlet.new) (spellings setting.now (values_at setting.now levels.now)) ×
+    ensures err { OnErr result (TakesPart (O.taken outlet.old) (O.taken outlet.new)
+        (spellings setting.now (values_at setting.now levels.now)) ×
         (O.failed outlet.new ≡ O.failed outlet.old + 1)) }
 {
     let spelled = &mut bytes[..width * count];

@@ -43,11 +43,14 @@ impl<W: Write + Drop> FromBufWriter<W> {
         requires some { 0 < length bytes.now }
         requires countable { buffered_failures self.old + 1 < 2 ^ 64 }
         ensures count { IfOk result (λ m. (0 < m) × (m ≤ length bytes.now)) }
-        ensures bytes { IfOk result (λ m. Appends (known (writer_contents W.contents (buffered_writer self.old)))
+        ensures bytes { IfOk result (λ m.
+            Appends (known (writer_contents W.contents (buffered_writer self.old)))
             (known (writer_contents W.contents (buffered_writer self.new))) (take m bytes.now)) }
-        ensures err { OnErr result (Keeps (known (writer_contents W.contents (buffered_writer self.old)))
+        ensures err { OnErr result (Keeps
+            (known (writer_contents W.contents (buffered_writer self.old)))
             (known (writer_contents W.contents (buffered_writer self.new)))) }
-        ensures failures { CountsFailure (buffered_failures self.old) (buffered_failures self.new) result }
+        ensures failures { CountsFailure (buffered_failures self.old) (buffered_failures self.new)
+            result }
     {
         match self.writer.write(bytes) {
             Ok(count) if count > 0 => Ok(count),
@@ -64,11 +67,14 @@ impl<W: Write + Drop> FromBufWriter<W> {
         requires some { 0 < length bytes.now }
         requires countable { buffered_failures self.old + 1 < 2 ^ 64 }
         ensures count { IfOk result (λ m. (0 < m) × (m ≤ length bytes.now)) }
-        ensures bytes { IfOk result (λ m. Appends (known (writer_contents W.contents (buffered_writer self.old)))
+        ensures bytes { IfOk result (λ m.
+            Appends (known (writer_contents W.contents (buffered_writer self.old)))
             (known (writer_contents W.contents (buffered_writer self.new))) (take m bytes.now)) }
-        ensures err { OnErr result (Keeps (known (writer_contents W.contents (buffered_writer self.old)))
+        ensures err { OnErr result (Keeps
+            (known (writer_contents W.contents (buffered_writer self.old)))
             (known (writer_contents W.contents (buffered_writer self.new)))) }
-        ensures failures { CountsFailure (buffered_failures self.old) (buffered_failures self.new) result }
+        ensures failures { CountsFailure (buffered_failures self.old) (buffered_failures self.new)
+            result }
     {
         self.write_once(bytes)
     }

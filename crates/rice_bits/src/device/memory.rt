@@ -48,10 +48,13 @@ impl Intake for MemoryIn<'_> {
         requires room { 0 < length buf.old }
         requires countable { memory_in_failures self.old + 1 < 2 ^ 64 }
         ensures count { IfOk result (λ m. m ≤ length buf.new) }
-        ensures bytes { IfOk result (λ m. Consumes (Some (memory_left self.old)) (Some (memory_left self.new)) (take m buf.new)) }
+        ensures bytes { IfOk result (λ m.
+            Consumes (Some (memory_left self.old)) (Some (memory_left self.new)) (take m buf.new)) }
         ensures end { IfOk result (λ m. m ≡ 0 → IsAtEnd (Some (memory_left self.new))) }
-        ensures err { OnErr result (Keeps (Some (memory_left self.old)) (Some (memory_left self.new))) }
-        ensures failures { CountsFailure (memory_in_failures self.old) (memory_in_failures self.new) result }
+        ensures err { OnErr result (Keeps (Some (memory_left self.old))
+            (Some (memory_left self.new))) }
+        ensures failures { CountsFailure (memory_in_failures self.old) (memory_in_failures self.new)
+            result }
 
         // It fails at the place of failure, and nowhere else.
         ensures fails { IsErr result ↔ (memory_before_failure self.old ≡ Some 0) }
@@ -141,9 +144,13 @@ impl Outlet for MemoryOut<'_> {
         requires some { 0 < length bytes.now }
         requires countable { memory_out_failures self.old + 1 < 2 ^ 64 }
         ensures count { IfOk result (λ m. (0 < m) × (m ≤ length bytes.now)) }
-        ensures bytes { IfOk result (λ m. outlet.Appends (Some (memory_state self.old)) (Some (memory_state self.new)) (take m bytes.now)) }
-        ensures err { OnErr result (outlet.Keeps (Some (memory_state self.old)) (Some (memory_state self.new))) }
-        ensures failures { CountsFailure (memory_out_failures self.old) (memory_out_failures self.new) result }
+        ensures bytes { IfOk result (λ m.
+            outlet.Appends (Some (memory_state self.old)) (Some (memory_state self.new))
+            (take m bytes.now)) }
+        ensures err { OnErr result (outlet.Keeps (Some (memory_state self.old))
+            (Some (memory_state self.new))) }
+        ensures failures { CountsFailure (memory_out_failures self.old)
+            (memory_out_failures self.new) result }
 
         // It fails where no room is left, and nowhere else.
         ensures fails { IsErr result ↔ (memory_room self.old ≡ 0) }

@@ -34,9 +34,11 @@ impl Intake for SliceIn<'_> {
     fn fill(&mut self, buf: &mut [u8]) -> Result<usize, ReadFault>
         requires room { 0 < length buf.old }
         ensures count { IfOk result (λ m. m ≤ length buf.new) }
-        ensures bytes { IfOk result (λ m. Consumes (Some (slice_left self.old)) (Some (slice_left self.new)) (take m buf.new)) }
+        ensures bytes { IfOk result (λ m.
+            Consumes (Some (slice_left self.old)) (Some (slice_left self.new)) (take m buf.new)) }
         ensures end { IfOk result (λ m. m ≡ 0 → IsAtEnd (Some (slice_left self.new))) }
-        ensures err { OnErr result (Keeps (Some (slice_left self.old)) (Some (slice_left self.new))) }
+        ensures err { OnErr result (Keeps (Some (slice_left self.old))
+            (Some (slice_left self.new))) }
         ensures failures { CountsFailure 0 0 result }
         ensures never_fails { IsOk result }
         ensures exact { IfOk result (λ m. m ≡ min (length buf.old) (length (slice_left self.old))) }
@@ -100,11 +102,16 @@ impl Outlet for SliceOut<'_> {
         requires some { 0 < length bytes.now }
         requires countable { slice_failures self.old + 1 < 2 ^ 64 }
         ensures count { IfOk result (λ m. (0 < m) × (m ≤ length bytes.now)) }
-        ensures bytes { IfOk result (λ m. outlet.Appends (Some (slice_state self.old)) (Some (slice_state self.new)) (take m bytes.now)) }
-        ensures err { OnErr result (outlet.Keeps (Some (slice_state self.old)) (Some (slice_state self.new))) }
-        ensures failures { CountsFailure (slice_failures self.old) (slice_failures self.new) result }
+        ensures bytes { IfOk result (λ m.
+            outlet.Appends (Some (slice_state self.old)) (Some (slice_state self.new))
+            (take m bytes.now)) }
+        ensures err { OnErr result (outlet.Keeps (Some (slice_state self.old))
+            (Some (slice_state self.new))) }
+        ensures failures { CountsFailure (slice_failures self.old) (slice_failures self.new)
+            result }
         ensures fails { IsErr result ↔ ((slice_state self.old).rest ≡ []) }
-        ensures exact { IfOk result (λ m. m ≡ min (length bytes.now) (length (slice_state self.old).rest)) }
+        ensures exact { IfOk result (λ m.
+            m ≡ min (length bytes.now) (length (slice_state self.old).rest)) }
     {
         if self.at == self.room.len() {
             self.failures += 1;

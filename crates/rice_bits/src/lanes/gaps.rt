@@ -47,7 +47,8 @@ pub fn len_of_sequences(front: u64, bytes: usize, ends: u8x16, count: usize) -> 
     requires some { (1 ≤ count) × (count ≤ 16) }
     requires there { count ≤ length (ends_after 0 (take (8 * bytes) (word 64 front))) }
     ensures inside { result ≤ 8 * bytes }
-    ensures bits { flat_map fundamental_sequence (take count (gaps (0 ∷ ends))) ≡ take result (word 64 front) }
+    ensures bits { flat_map fundamental_sequence (take count (gaps (0 ∷ ends))) ≡ take result
+        (word 64 front) }
 {
     ends.to_array()[count - 1] as usize
 }
