@@ -1,8 +1,9 @@
 use crate::cases::Cases;
+use crate::devices::{MemoryIn, MemoryOut, ZeroIn};
 use crate::table::{Columns, bytes_of};
 use rice_bits::{
-    BitFault, BitReader, BitSink, FromBufWriter, FromReader, FromWriter, Intake, MemoryIn,
-    MemoryOut, Meter, Outlet, ReadFault, SliceIn, SliceOut, WriteFault, ZeroIn, join, low_digits,
+    BitFault, BitReader, BitSink, FromBufWriter, FromReader, FromWriter, Intake, Meter, Outlet,
+    ReadFault, SliceIn, SliceOut, WriteFault, join, low_digits,
 };
 use std::io::{self, BufWriter, ErrorKind, Read, Write};
 use std::test::Fail;

@@ -1,5 +1,7 @@
 //! Tests of the libraries over their public calls: worked bytes, bits and steps, pieces of several sizes, devices that fail.
 //!
+//! The devices that fail, in [`devices`], are proved as all else is.
+//!
 //! They are a crate of their own, since a crate with tests is proved twice: with them and without.
 #![tactic(auto)]
 
@@ -11,6 +13,7 @@ mod cases;
 mod coder;
 #[cfg(test)]
 mod decoder;
+pub mod devices;
 #[cfg(test)]
 mod failing_devices;
 #[cfg(test)]

@@ -2,9 +2,10 @@ ghost use Rattle.std.specs.Prelude.{Bool, List, ℤ};
 ghost use Rattle.rice_stream.specs.Pulling.{Origin, IsStand};
 
 use crate::cases::Cases;
+use crate::devices::MemoryIn;
 use crate::table::setting_of;
 use arrayvec::ArrayVec;
-use rice_bits::{BitReader, MemoryIn, Meter};
+use rice_bits::{BitReader, Meter};
 use rice_code::{Decoder, NextBlock};
 use rice_samples::Setting;
 use rice_stream::{Pause, Stand, decode_more};
