@@ -40,7 +40,8 @@ skipped_more (Some xs) (Some ys) d m bytes bs e c n =
     ap Some (behind ∙ ap (drop m) all ∙ drop-drop m d bytes)
 
 -- no more bytes came
-pub skipped_all : (old new : Option (List ℕ)) (d count : ℕ) (bytes bs : List ℕ) → old ≡ Some (drop d bytes) → Consumes old new bs → length bs ≡ 0 → IsAtEnd new → d ≤ count → new ≡ Some (drop count bytes)
+pub skipped_all : (old new : Option (List ℕ)) (d count : ℕ) (bytes bs : List ℕ) → old ≡ Some (drop d bytes) → Consumes old new bs → length bs ≡ 0 → IsAtEnd new
+    → d ≤ count → new ≡ Some (drop count bytes)
 skipped_all old new d count bytes bs e c n end le =
     let here : new ≡ Some (drop (d + 0) bytes) = skipped_more old new d 0 bytes bs e c n in
     ended new (d + 0) here end (omega arith)
@@ -81,7 +82,8 @@ module _ {I : Type 0} (intake : I) (left : Option (List ℕ)) (failed k : ℕ) w
       )
 
   -- a 1 was found
-  pub found_one : (v m : ℕ) (r new : Reader I) → Takes (new_reader intake left failed) r (word k v) → Takes r new (fundamental_sequence m) → (bytes : List ℕ) → left ≡ Some bytes → true ≡ has_one_behind k bytes
+  pub found_one : (v m : ℕ) (r new : Reader I) → Takes (new_reader intake left failed) r (word k v) → Takes r new (fundamental_sequence m) → (bytes : List ℕ)
+      → left ≡ Some bytes → true ≡ has_one_behind k bytes
   found_one v m r new takes one bytes e =
       let few = taken_few bytes v r e takes in
       let drawn = draws_ahead r.left new.left r.waiting new.waiting (fundamental_sequence m) few.0 one.draws in
@@ -104,7 +106,8 @@ module _ {I : Type 0} (intake : I) (left : Option (List ℕ)) (failed k : ℕ) w
   explained failures count bit_faults.TooLong result by why = subst (LooksBehind failures failed left k) (sym by) why
 
   -- the few bits are not there
-  pub no_few : (failures : I → ℕ) (bits : List Bool) (new : Reader I) (fault : BitFault) (result : Result Bool Fault) → k < 8 → length bits < k → Stops (new_reader intake left failed) new bits fault → StoppedBy failures new.failed fault result → LooksBehind failures failed left k result
+  pub no_few : (failures : I → ℕ) (bits : List Bool) (new : Reader I) (fault : BitFault) (result : Result Bool Fault) → k < 8 → length bits < k
+      → Stops (new_reader intake left failed) new bits fault → StoppedBy failures new.failed fault result → LooksBehind failures failed left k result
   no_few failures bits new fault result few lt stops by = explained failures new.failed fault result by (why fault stops)
     where
       why : (fault : BitFault) → Stops (new_reader intake left failed) new bits fault → Explains new.failed fault
@@ -117,7 +120,9 @@ module _ {I : Type 0} (intake : I) (left : Option (List ℕ)) (failed k : ℕ) w
       why bit_faults.TooLong stops = absurd (omega (arith, stops.refuses.2, stops.taken))
 
   -- no 1 is behind them
-  pub no_one : (failures : I → ℕ) (v m : ℕ) (r new : Reader I) (fault : BitFault) (result : Result Bool Fault) → Takes (new_reader intake left failed) r (word k v) → Stops r new (replicate m false) fault → StoppedBy failures new.failed fault result → LooksBehind failures failed left k result
+  pub no_one : (failures : I → ℕ) (v m : ℕ) (r new : Reader I) (fault : BitFault) (result : Result Bool Fault)
+      → Takes (new_reader intake left failed) r (word k v) → Stops r new (replicate m false) fault → StoppedBy failures new.failed fault result
+      → LooksBehind failures failed left k result
   no_one failures v m r new fault result takes stops by = explained failures new.failed fault result by (why fault stops)
     where
       one_more : (middle left_new : Option (List ℕ)) (byte : ℕ) → IsSome middle → Consumes middle left_new (byte ∷ []) → 0 < length (bytes_told middle)
@@ -135,11 +140,13 @@ module _ {I : Type 0} (intake : I) (left : Option (List ℕ)) (failed k : ℕ) w
           let few = taken_few bytes v r e takes in
           let drawn = draws_ahead r.left stops.middle r.waiting [] (replicate m false) few.0 stops.draws in
           let last = one_more stops.middle new.left stops.refuses.0.0 drawn.0 stops.refuses.0.1 in
-          let size : length (drop k (bits_of bytes)) ≡ length (replicate m false) + length (bits_of (bytes_told stops.middle)) = ap length (sym few.1 ∙ drawn.1) ∙ length-append (replicate m false) (bits_of (bytes_told stops.middle)) in
+          let size : length (drop k (bits_of bytes)) ≡ length (replicate m false) + length (bits_of (bytes_told stops.middle)) = ap length (sym few.1 ∙ drawn.1)
+          ∙ length-append (replicate m false) (bits_of (bytes_told stops.middle)) in
           omega (arith, size, length-drop k (bits_of bytes), length-bits_of bytes, length-bits_of (bytes_told stops.middle), last, stops.refuses.2, stops.taken, takes.taken, length-word k v)
 
 -- A look at what is behind whole bytes is one at all.
-pub looks_all : {I : Type 0} (failures : I → ℕ) (before : ℕ) (left rest : Option (List ℕ)) (k few bits : ℕ) (result : Result Bool Fault) → bits ≡ 8 * k + few → ((bytes : List ℕ) → left ≡ Some bytes → rest ≡ Some (drop k bytes))
+pub looks_all : {I : Type 0} (failures : I → ℕ) (before : ℕ) (left rest : Option (List ℕ)) (k few bits : ℕ) (result : Result Bool Fault) → bits ≡ 8 * k + few
+    → ((bytes : List ℕ) → left ≡ Some bytes → rest ≡ Some (drop k bytes))
     → LooksBehind failures before rest few result → LooksBehind failures before left bits result
 looks_all failures before left rest k few bits (Ok more) e skipped looks = λ bytes told. looks (drop k bytes) (skipped bytes told) ∙ ap (λ bits. not (is_blank bits)) (bits_behind k few bits bytes e)
 looks_all failures before left rest k few bits (Err Read) e skipped looks = looks

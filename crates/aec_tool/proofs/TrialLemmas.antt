@@ -18,13 +18,15 @@ looks_nowhere reads true false bits given e never = let bad : ⊥ = cc in absurd
 looks_nowhere reads false is_wanted bits given e never = refl
 
 -- what was looked for
-pub looks_here : {Source : Type 0} (reads : Source → ℕ) (wanted is_wanted : Bool) (before bits : ℕ) (left : Option (List ℕ)) (given : List ℕ) (more : Bool) → is_wanted ≡ wanted → is_wanted ≡ true → left ≡ Some given
+pub looks_here : {Source : Type 0} (reads : Source → ℕ) (wanted is_wanted : Bool) (before bits : ℕ) (left : Option (List ℕ)) (given : List ℕ) (more : Bool)
+    → is_wanted ≡ wanted → is_wanted ≡ true → left ≡ Some given
     → LooksBehind reads before left bits (Ok more) → Looks reads wanted bits given (Ok (Some more))
 looks_here reads false is_wanted before bits left given more e is told looks = let bad : ⊥ = cc in absurd bad
 looks_here reads true is_wanted before bits left given more e is told looks = looks given told
 
 -- it was not found out
-pub looks_in_vain : {Source : Type 0} (reads : Source → ℕ) (wanted is_wanted : Bool) (before bits : ℕ) (left : Option (List ℕ)) (given : List ℕ) (fault : Fault) → is_wanted ≡ wanted → is_wanted ≡ true → before ≡ 0 → left ≡ Some given
+pub looks_in_vain : {Source : Type 0} (reads : Source → ℕ) (wanted is_wanted : Bool) (before bits : ℕ) (left : Option (List ℕ)) (given : List ℕ) (fault : Fault)
+    → is_wanted ≡ wanted → is_wanted ≡ true → before ≡ 0 → left ≡ Some given
     → LooksBehind reads before left bits (Err fault) → Looks reads wanted bits given (Err fault)
 looks_in_vain reads false is_wanted before bits left given fault e is none told looks = let bad : ⊥ = cc in absurd bad
 looks_in_vain reads true is_wanted before bits left given Read e is none told looks = (looks.0, looks.1 ∙ ap (λ n. n + 1) none)

@@ -20,7 +20,8 @@ module _ (s : Parameters) (o : Origin) (front : List Bool) (given : List ℤ) (p
   more_samples h d = omega (arith, h.samples, d.stands.samples, length-append given d.samples)
 
   -- as many bytes are written
-  pub bytes_written : (w : ℕ) → w ≡ width s → IsStand s o old front given → (d : DecodesMore s o front given piece old out_old out new pause) → w * (new.samples - old.samples) ≡ width s * length d.samples
+  pub bytes_written : (w : ℕ) → w ≡ width s → IsStand s o old front given → (d : DecodesMore s o front given piece old out_old out new pause)
+      → w * (new.samples - old.samples) ≡ width s * length d.samples
   bytes_written w e h d = let n : new.samples - old.samples ≡ length d.samples = omega (arith, more_samples h d) in (λ i. e i * n i)
 
   pub bytes_fit : (w : ℕ) → w ≡ width s → IsStand s o old front given → DecodesMore s o front given piece old out_old out new pause → w * (new.samples - old.samples) ≤ length out_old

@@ -25,7 +25,8 @@ record HasPushed (s : Parameters) (input : List ℕ) (feed : RiceFeed) (written 
   pub count : written ≡ length (early_output s samples)
 
 -- one push goes on with what was pushed before
-pushes_on : (s : Parameters) (input : List ℕ) (feed : RiceFeed) (p : Push) (ps : List Push) (written : ℕ) → HasPushed s input feed written → AreFed s input feed (p ∷ ps) → HasPushed s input p.feed (written + p.report.written)
+pushes_on : (s : Parameters) (input : List ℕ) (feed : RiceFeed) (p : Push) (ps : List Push) (written : ℕ) → HasPushed s input feed written
+    → AreFed s input feed (p ∷ ps) → HasPushed s input p.feed (written + p.report.written)
 pushes_on s input feed p ps written h are_fed =
     let d = are_fed.2 h.samples h.stands in
     by_outcome d.outcome d.name d.room d.encodes d.feeds d.writes.written (none_of (fault_of d.outcome) (sym d.writes.status_is ∙ are_fed.1) d.writes.reads)
@@ -33,7 +34,8 @@ pushes_on s input feed p ps written h are_fed =
     xs : List ℤ
     xs = h.samples
 
-    by_outcome : (r : Result Seam Fault) (name : ℕ) (room : Room) → EncodesMore s xs p.piece (Some (begun name p.old)) (Some room) r → p.feed ≡ fed feed r → p.report.written ≡ length room.bytes → fault_of r ≡ None → HasPushed s input p.feed (written + p.report.written)
+    by_outcome : (r : Result Seam Fault) (name : ℕ) (room : Room) → EncodesMore s xs p.piece (Some (begun name p.old)) (Some room) r → p.feed ≡ fed feed r
+        → p.report.written ≡ length room.bytes → fault_of r ≡ None → HasPushed s input p.feed (written + p.report.written)
     by_outcome (Err fault) name room e feeds count none = absurd cc
     by_outcome (Ok seam) name room e feeds count none =
         let size : length (spellings s xs) ≡ width s * feed.seam.samples = length-spellings s xs ∙ ap (λ n. width s * n) (sym h.stands.samples) in
@@ -42,13 +44,15 @@ pushes_on s input feed p ps written h are_fed =
         record {
           samples = xs ++ e.more;
           rest = e.rest ++ are_fed.0.0;
-          split = h.split ∙ ap (λ l. spellings s xs ++ l) rest ∙ sym (append_assoc (spellings s xs) (spellings s e.more) (e.rest ++ are_fed.0.0)) ∙ ap (λ l. l ++ (e.rest ++ are_fed.0.0)) (sym (spellings-append s xs e.more));
+          split = h.split ∙ ap (λ l. spellings s xs ++ l) rest ∙ sym (append_assoc (spellings s xs) (spellings s e.more) (e.rest ++ are_fed.0.0))
+              ∙ ap (λ l. l ++ (e.rest ++ are_fed.0.0)) (sym (spellings-append s xs e.more));
           stands = subst (λ (f : RiceFeed). IsSeam s f.seam (xs ++ e.more)) (sym feeds) e.stands;
           count = omega (arith, h.count, count, ap length e.writes.took.bytes, ap length e.writes.split, length-append (early_output s xs) e.writes.more);
         }
 
 -- and several do, one after another
-pushes_all : (s : Parameters) (input : List ℕ) (feed : RiceFeed) (pushes : List Push) (written : ℕ) → HasPushed s input feed written → AreFed s input feed pushes → HasPushed s input (last_feed feed pushes) (written + written_by pushes)
+pushes_all : (s : Parameters) (input : List ℕ) (feed : RiceFeed) (pushes : List Push) (written : ℕ) → HasPushed s input feed written
+    → AreFed s input feed pushes → HasPushed s input (last_feed feed pushes) (written + written_by pushes)
 pushes_all s input feed [] written h are_fed = let e : written ≡ written + 0 = omega arith in subst (λ (n : ℕ). HasPushed s input feed n) e h
 pushes_all s input feed (p ∷ ps) written h are_fed =
     let all : written_by (p ∷ ps) ≡ p.report.written + written_by ps = sum_by-cons (λ (q : Push). q.report.written) p ps in

@@ -68,13 +68,15 @@ module _ (s : Parameters) (legal : IsLegal s) (seam : Seam) (xs : List ℤ) (h :
         let same = ap (λ l. length (early_output s l)) (append_assoc xs more (last ∷ [])) in
         short _ _ w.writes (omega (arith, adds_early ys (length input / width s) w.reads.legal few, same))
 
-    rest_wants : (more : List ℤ) → AreAll s xs input (Some (begun name old)) (Some room) more → FollowsBetween (behind s xs (Some (begun name old))) (Some room) (early_output s (xs ++ more)) (output s (xs ++ more)) →
+    rest_wants : (more : List ℤ) → AreAll s xs input (Some (begun name old)) (Some room) more
+        → FollowsBetween (behind s xs (Some (begun name old))) (Some room) (early_output s (xs ++ more)) (output s (xs ++ more)) →
         length room.bytes < push_room s seam.waiting_bits (length input / width s)
     rest_wants more a f =
         let few = few_samples s more input [] input [] legal (a.spelled ∙ sym (append-nil _)) (sym (append-nil input)) in
         short _ _ f (adds_output more (length input / width s) a.legal few)
 
-    push_wants : (r : Result Seam Fault) → fault_of r ≡ Some Write → EncodesMore s xs input (Some (begun name old)) (Some room) r → length room.bytes < push_room s seam.waiting_bits (length input / width s)
+    push_wants : (r : Result Seam Fault) → fault_of r ≡ Some Write → EncodesMore s xs input (Some (begun name old)) (Some room) r
+        → length room.bytes < push_room s seam.waiting_bits (length input / width s)
     push_wants (Ok seam) e w = absurd cc
     push_wants (Err Write) e w = more_wants w.0 w.1 w.2
     push_wants (Err Read) e w = absurd w
@@ -85,7 +87,8 @@ module _ (s : Parameters) (legal : IsLegal s) (seam : Seam) (xs : List ℤ) (h :
     push_wants (Err (RunPastSegment block)) e w = absurd w
     push_wants (Err (ResidualTooLarge block)) e w = absurd w
 
-    finish_wants : (r : Report) (fault : Option Fault) → fault ≡ Some Write → EncodesRest s xs input (Some (begun name old)) (Some room) r fault → length room.bytes < push_room s seam.waiting_bits (length input / width s)
+    finish_wants : (r : Report) (fault : Option Fault) → fault ≡ Some Write → EncodesRest s xs input (Some (begun name old)) (Some room) r fault
+        → length room.bytes < push_room s seam.waiting_bits (length input / width s)
     finish_wants r None e w = absurd cc
     finish_wants r (Some Write) e (inl w) = more_wants w.0 w.1 w.2
     finish_wants r (Some Write) e (inr w) = rest_wants w.0 w.1 w.3

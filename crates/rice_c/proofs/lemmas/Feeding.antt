@@ -63,8 +63,10 @@ pub not_read : (fault : Option Fault) (n : ℕ) → Fails fault 0 0 0 n → faul
 not_read fault n fails e = let f : Fails (Some Read) 0 0 0 n = subst (λ (f : Option Fault). Fails f 0 0 0 n) e fails in omega (arith, f.0)
 
 -- the room of an outlet that began with a slice, and what became of the slice
-pub writes_front : (old new : List ℕ) (name failures : ℕ) (room : Room) (fault : Option Fault) (r : RiceReport) (status : ℕ) (wrote : (more : List ℕ) × Fills (begun name old) room more) → new ≡ room.bytes ++ room.rest → length new ≡ length old →
-    Fails fault 0 0 0 failures → (0 < failures → room.rest ≡ []) → status ≡ status_number (fault_status fault) → r.written ≡ length room.bytes → r.place ≡ fault_place fault → WritesFront old new room.bytes fault r status
+pub writes_front : (old new : List ℕ) (name failures : ℕ) (room : Room) (fault : Option Fault) (r : RiceReport) (status : ℕ)
+    (wrote : (more : List ℕ) × Fills (begun name old) room more) → new ≡ room.bytes ++ room.rest → length new ≡ length old →
+    Fails fault 0 0 0 failures → (0 < failures → room.rest ≡ []) → status ≡ status_number (fault_status fault) → r.written ≡ length room.bytes
+    → r.place ≡ fault_place fault → WritesFront old new room.bytes fault r status
 writes_front old new name failures room fault r status wrote whole len fails full is written place =
     let fills = wrote.1 in
     let both : length new ≡ length room.bytes + length room.rest = ap length whole ∙ length-append room.bytes room.rest in

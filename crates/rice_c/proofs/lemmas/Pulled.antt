@@ -81,12 +81,14 @@ engines-push [] last = refl
 engines-push (p ∷ ps) last = ap (λ l. engine p ∷ l) (engines-push ps last)
 
 -- one pull more is pulled behind the others
-pulled-push : (s : Parameters) (code : List ℕ) (drain : RiceDrain) (pulls : List Pull) (last : Pull) (behind : List ℕ) → ArePulled s code drain pulls → IsPulled s code (last_drain drain pulls) last behind → ArePulled s code drain (pulls ++ last ∷ [])
+pulled-push : (s : Parameters) (code : List ℕ) (drain : RiceDrain) (pulls : List Pull) (last : Pull) (behind : List ℕ) → ArePulled s code drain pulls
+    → IsPulled s code (last_drain drain pulls) last behind → ArePulled s code drain (pulls ++ last ∷ [])
 pulled-push s code drain [] last behind h k = ((behind, k), tt)
 pulled-push s code drain (p ∷ ps) last behind h k = (h.0, pulled-push s code p.drain ps last behind h.1 k)
 
 -- what they gave stands in the caller's memory
-wrote_in_parts : (s : Parameters) (code : List ℕ) (o : Origin) (front : List Bool) (given : List ℤ) (drain : RiceDrain) (pulls : List Pull) (xs : List ℤ) → IsStand s o drain.stand front given → ArePulled s code drain pulls → stream.GiveInParts s drain.stand (engines pulls) xs
+wrote_in_parts : (s : Parameters) (code : List ℕ) (o : Origin) (front : List Bool) (given : List ℤ) (drain : RiceDrain) (pulls : List Pull) (xs : List ℤ)
+    → IsStand s o drain.stand front given → ArePulled s code drain pulls → stream.GiveInParts s drain.stand (engines pulls) xs
     → WriteInParts pulls (spellings s xs)
 wrote_in_parts s code o front given drain [] xs h pulled g = ap (spellings s) g
 wrote_in_parts s code o front given drain (p ∷ ps) xs h pulled g =
@@ -129,7 +131,8 @@ never_reached_so statuses.ResidualTooLarge ended behind h e = absurd cc
 never_reached_so _ ended behind h e = absurd h
 
 -- what the status and the place of the whole call tell
-tells_end : (s : Parameters) (paused ended : Status) (behind : List ℕ) (xs : List ℤ) (fault : Option Fault) (last : RiceReport) → 1 ≤ s.block → EndsAll paused behind ended → FaultOf s xs (ending_of paused) fault → last.samples ≡ length xs
+tells_end : (s : Parameters) (paused ended : Status) (behind : List ℕ) (xs : List ℤ) (fault : Option Fault) (last : RiceReport) → 1 ≤ s.block
+    → EndsAll paused behind ended → FaultOf s xs (ending_of paused) fault → last.samples ≡ length xs
     → last.place ≡ pause_place (pause_of (status_number paused)) (length xs / s.block) → (status_number (fault_status fault) ≡ status_number ended) × (fault_place fault ≡ place_all paused last)
 tells_end s statuses.OnlyZeros ended behind xs fault last j h f count place = (ap (λ (v : Option Fault). status_number (fault_status v)) f ∙ ap status_number (sym h.1), ap fault_place f ∙ sym place)
 tells_end s statuses.MoreCode ended behind xs fault last j h f count place = (ap (λ (v : Option Fault). status_number (fault_status v)) f ∙ ap status_number (sym h.1), ap fault_place f ∙ sym count)
@@ -140,7 +143,8 @@ tells_end s statuses.ResidualTooLarge ended behind xs fault last j h f count pla
 tells_end s _ ended behind xs fault last j h f count place = absurd h
 
 -- a drain stands for some bits and samples after each pull
-stands_at : (s : Parameters) (code : List ℕ) (o : Origin) (front : List Bool) (given : List ℤ) (drain : RiceDrain) (pulls : List Pull) → IsStand s o drain.stand front given → ArePulled s code drain pulls
+stands_at : (s : Parameters) (code : List ℕ) (o : Origin) (front : List Bool) (given : List ℤ) (drain : RiceDrain) (pulls : List Pull)
+    → IsStand s o drain.stand front given → ArePulled s code drain pulls
     → (bits : List Bool) × (xs : List ℤ) × IsStand s o (last_drain drain pulls).stand bits xs
 stands_at s code o front given drain [] h pulled = (front, given, h)
 stands_at s code o front given drain (p ∷ ps) h pulled =
@@ -153,7 +157,8 @@ record TellsDrain (s : Parameters) (p : Pull) : Type 0 where
   pub place : p.report.place ≡ pause_place (pause_of p.status) (p.drain.stand.samples / s.block)
 
 -- the report of a pull tells where its drain stands
-tells_drain : (s : Parameters) (code : List ℕ) (o : Origin) (front : List Bool) (given : List ℤ) (drain : RiceDrain) (p : Pull) (behind : List ℕ) → IsStand s o drain.stand front given → IsPulled s code drain p behind → TellsDrain s p
+tells_drain : (s : Parameters) (code : List ℕ) (o : Origin) (front : List Bool) (given : List ℤ) (drain : RiceDrain) (p : Pull) (behind : List ℕ)
+    → IsStand s o drain.stand front given → IsPulled s code drain p behind → TellsDrain s p
 tells_drain s code o front given drain p behind h pulled =
     let d = pulled.1 o front given h in
     record {
@@ -162,17 +167,20 @@ tells_drain s code o front given drain p behind h pulled =
     }
 
 -- with room for all samples the whole call does not fail
-never_full : (s : Parameters) (code : List ℕ) (xs : List ℤ) (ending : Ending) (used : ℕ) (old new : List ℕ) (report : RiceReport) (status : ℕ) → IsLegal s → Decoded s (bits_of code) None xs ending used → (ending ≡ Reached → ⊥) → (d : DecodesInto s None code old new report status)
+never_full : (s : Parameters) (code : List ℕ) (xs : List ℤ) (ending : Ending) (used : ℕ) (old new : List ℕ) (report : RiceReport) (status : ℕ) → IsLegal s
+    → Decoded s (bits_of code) None xs ending used → (ending ≡ Reached → ⊥) → (d : DecodesInto s None code old new report status)
     → width s * length xs ≤ length old → d.fault ≢ Some faults.Write
 never_full s code xs ending used old new report status legal whole early d room full =
     let ys = d.decodes.samples in
     let fails = subst (λ (f : Option Fault). EndsDecoding s None f d.call (report_of report) ys d.decodes.ending) full d.decodes.ends in
     let f = fails.0 in
-    let short : length d.call.written < width s * length ys = omega (arith, some f.stops.missing f.stops.short, ap length f.stops.stops, length-append d.call.written f.stops.missing, length-spellings s ys) in
+    let short : length d.call.written < width s * length ys = omega
+    (arith, some f.stops.missing f.stops.short, ap length f.stops.stops, length-append d.call.written f.stops.missing, length-spellings s ys) in
     let fewer : length xs < length ys = fewer_of (width s) (length xs) (length ys) (omega (arith, short, d.passes.full full, room)) in
     let there = never_reached s (bits_of code) (length ys) xs ending used fewer whole in
     let bits : bits_of d.call.given ++ bits_of d.passes.left ≡ bits_of code = sym (bits_of-append d.call.given d.passes.left) ∙ ap bits_of (sym d.passes.gave) in
-    let here = subst (λ (l : List Bool). Decoded s l (Some (length ys)) ys Reached (report_of report).bits) bits (decoded_before s (Some (length ys)) (bits_of d.call.given) (bits_of d.passes.left) ys Reached (report_of report).bits (inl refl) f.decoded) in
+    let here = subst (λ (l : List Bool). Decoded s l (Some (length ys)) ys Reached (report_of report).bits) bits
+    (decoded_before s (Some (length ys)) (bits_of d.call.given) (bits_of d.passes.left) ys Reached (report_of report).bits (inl refl) f.decoded) in
     early (decoded_is_one s legal 0 0 (pos 0) (zero_is_sample s legal.bits_from) (bits_of code) (Some (length ys)) xs ys ending Reached used (report_of report).bits there here).1
   where
     some : (l : List ℕ) → l ≢ [] → 0 < length l
@@ -198,11 +206,14 @@ pulls_are_decoding s code o before setting first opened pulls last behind old ne
     let stands = stands_at s code o [] [] first pulls begins pulled in
     let end = tells_drain s code o stands.0 stands.1 (last_drain first pulls) last behind stands.2 last_pulled in
     let count : last.report.samples ≡ length xs = end.samples ∙ p.count in
-    let write = never_full s code xs (ending_of paused) p.used old new report status legal p.decoded (never_reached_so paused ended behind ends) d (let fits : width s * length xs ≤ length old = (omega (arith, room, ap (λ n. width s * n) count)) in fits) in
-    let same = decodes_as s legal None code d.passes.left d.call (report_of report) d.fault xs d.decodes.samples (ending_of paused) d.decodes.ending p.used p.decoded p.limit (inl refl) d.passes.gave d.passes.left_is d.decodes.ends d.passes.reads write in
+    let write = never_full s code xs (ending_of paused) p.used old new report status legal p.decoded (never_reached_so paused ended behind ends) d
+    (let fits : width s * length xs ≤ length old = (omega (arith, room, ap (λ n. width s * n) count)) in fits) in
+    let same = decodes_as s legal None code d.passes.left d.call (report_of report) d.fault xs d.decodes.samples (ending_of paused) d.decodes.ending p.used
+    p.decoded p.limit (inl refl) d.passes.gave d.passes.left_is d.decodes.ends d.passes.reads write in
     let told = tells_end s paused ended behind xs d.fault last.report j ends same.fault_is count (end.place ∙ (λ i. pause_place (pause_of (paused_is i)) (p.count i / s.block))) in (
       bytes,
-      wrote_in_parts s code o [] [] first (pulls ++ last ∷ []) p.samples begins (pulled-push s code first pulls last behind pulled last_pulled) (subst (λ (l : List stream.Pull). stream.GiveInParts s first.stand l p.samples) (engines-push pulls last) p.parts),
+      wrote_in_parts s code o [] [] first (pulls ++ last ∷ []) p.samples begins (pulled-push s code first pulls last behind pulled last_pulled)
+          (subst (λ (l : List stream.Pull). stream.GiveInParts s first.stand l p.samples) (engines-push pulls last) p.parts),
       subst (λ (l : List ℕ). StandsInFront l old new) (same.written ∙ spellings-append s before p.samples) d.passes.front,
       d.tells.status ∙ told.0,
       same.samples ∙ sym count,
@@ -220,8 +231,10 @@ enough_is_decoding s code o before setting first opened pulls n old new report s
     let part = take n p.samples in
     let xs = before ++ part in
     let bytes = spellings s p.samples in
-    let write : d.fault ≢ Some faults.Write = λ full. decode_suffices s (o.samples + n) code old new report status d (omega (arith, room)) (d.tells.status ∙ ap (λ (v : Option Fault). status_number (fault_status v)) full) in
-    let same = decodes_as s legal (Some (o.samples + n)) code d.passes.left d.call (report_of report) d.fault xs d.decodes.samples Reached d.decodes.ending (stream.last_stand first.stand (engines pulls)).bits p.decoded p.limit (inr refl) d.passes.gave d.passes.left_is d.decodes.ends d.passes.reads write in
+    let write : d.fault ≢ Some faults.Write = λ full. decode_suffices s (o.samples + n) code old new report status d (omega (arith, room))
+    (d.tells.status ∙ ap (λ (v : Option Fault). status_number (fault_status v)) full) in
+    let same = decodes_as s legal (Some (o.samples + n)) code d.passes.left d.call (report_of report) d.fault xs d.decodes.samples Reached d.decodes.ending
+    (stream.last_stand first.stand (engines pulls)).bits p.decoded p.limit (inr refl) d.passes.gave d.passes.left_is d.decodes.ends d.passes.reads write in
     let count : length part ≡ n = length-take-le n p.samples p.size in
     let size : length (spellings s part) ≡ width s * n = length-spellings s part ∙ ap (λ m. width s * m) count in
     let far = spellings s (drop n p.samples) in
@@ -240,5 +253,6 @@ pub drains_tell_places : DrainsTellPlaces
 drains_tell_places s code o before setting first opened pulls place opens pulled at_start no_run =
     let begins = opens.none in
     let at = same_last first pulls in
-    let told = stands_tell_places s code o before first.stand (engines pulls) place begins (all_pulled s code first pulls pulled) (ap (λ (v : Stand). v.block) at ∙ at_start) (ap (λ (v : Stand). v.run) at ∙ no_run) in
+    let told = stands_tell_places s code o before first.stand (engines pulls) place begins (all_pulled s code first pulls pulled)
+    (ap (λ (v : Stand). v.block) at ∙ at_start) (ap (λ (v : Stand). v.run) at ∙ no_run) in
     (told.0, wrote_in_parts s code o [] [] first pulls told.0 begins pulled told.1, subst (λ (v : Stand). IsPlace s code (place_at v) (before ++ told.0)) at told.2)

@@ -21,14 +21,16 @@ use Rattle.rice_c.specs.Statuses.{status_number, fault_status}
 use Rattle.rice_c.proofs.lemmas.Room.{encode_wants, decode_wants, write_of, none_of}
 
 -- with the room that is told, encoding never wants more
-pub encode_suffices : (s : Parameters) (input old new : List ℕ) (r : RiceReport) (status : ℕ) → IsLegal s → EncodesInto s input old new r status → code_room s (length input / width s) ≤ length old → status ≢ 9
+pub encode_suffices : (s : Parameters) (input old new : List ℕ) (r : RiceReport) (status : ℕ) → IsLegal s → EncodesInto s input old new r status
+    → code_room s (length input / width s) ≤ length old → status ≢ 9
 encode_suffices s input old new r status legal e room full =
     let write : e.fault ≡ Some Write = write_of e.fault (sym e.tells.status ∙ full) in
     let wants = encode_wants s e.call (report_of r) input e.passes.left legal e.passes.gave (subst (λ (f : Option Fault). Encodes s e.call (report_of r) f) write e.encodes) in
     omega (arith, wants, e.passes.full write, room)
 
 -- with room for the samples asked for, decoding never wants more
-pub decode_suffices : (s : Parameters) (count : ℕ) (input old new : List ℕ) (r : RiceReport) (status : ℕ) → DecodesInto s (Some count) input old new r status → count * width s ≤ length old → status ≢ 9
+pub decode_suffices : (s : Parameters) (count : ℕ) (input old new : List ℕ) (r : RiceReport) (status : ℕ) → DecodesInto s (Some count) input old new r status
+    → count * width s ≤ length old → status ≢ 9
 decode_suffices s count input old new r status d room full =
     let write : d.fault ≡ Some Write = write_of d.fault (sym d.tells.status ∙ full) in
     let wants = decode_wants s count d.call (report_of r) (subst (λ (f : Option Fault). Decodes s (Some count) d.call (report_of r) f) write d.decodes) in
@@ -44,13 +46,15 @@ record EncodedAll (s : Parameters) (samples : List ℕ) (encoded : RiceReport) (
   pub gave : Consumes (Some c.written) left given
 
 -- the code of samples decodes to them, and what fills the last block
-encoded_all : (s : Parameters) (samples code_old code old new : List ℕ) (asked : Option ℕ) (encoded decoded : RiceReport) (status : ℕ) → (e : EncodesInto s samples code_old code encoded (status_number Done)) →
+encoded_all : (s : Parameters) (samples code_old code old new : List ℕ) (asked : Option ℕ) (encoded decoded : RiceReport) (status : ℕ)
+    → (e : EncodesInto s samples code_old code encoded (status_number Done)) →
     (d : DecodesInto s asked (take encoded.written code) old new decoded status) → EncodedAll s samples encoded e.call d.call.left d.call.given
 encoded_all s samples code_old code old new asked encoded decoded status e d =
     let none : e.fault ≡ None = none_of e.fault (sym e.tells.status) e.passes.reads in
     let all = subst (λ (f : Option Fault). Encodes s e.call (report_of encoded) f) none e.encodes in
     let at_end : e.passes.left ≡ [] = subst (λ (l : Option (List ℕ)). IsAtEnd l) e.passes.left_is all.ends.1 in
-    let front : take encoded.written code ≡ e.call.written = ap (λ n. take n code) e.tells.written ∙ ap (take (length e.call.written)) e.passes.front ∙ take-append_seam e.call.written (drop (length e.call.written) code_old) in
+    let front : take encoded.written code ≡ e.call.written = ap (λ n. take n code) e.tells.written ∙ ap (take (length e.call.written)) e.passes.front
+    ∙ take-append_seam e.call.written (drop (length e.call.written) code_old) in
     record {
       encodes = all;
       all = e.passes.gave ∙ ap (λ l. e.call.given ++ l) at_end ∙ append-nil e.call.given;
@@ -70,7 +74,8 @@ returns_bytes s legal samples code_old code old new encoded decoded status e d r
     by_end given size (inl h) = (d.tells.status ∙ ap (λ (f : Option Fault). status_number (fault_status f)) h.0, d.passes.front ∙ ap (λ l. l ++ drop (length l) old) (h.1 ∙ sym given))
     by_end given size (inr (inl h)) = absurd (d.passes.reads h)
     by_end given size (inr (inr h)) =
-        absurd (let wants = decode_wants s encoded.samples d.call (report_of decoded) (subst (λ (f : Option Fault). Decodes s (Some encoded.samples) d.call (report_of decoded) f) h d.decodes) in omega (arith, wants, d.passes.full h, room, size))
+        absurd (let wants = decode_wants s encoded.samples d.call (report_of decoded)
+        (subst (λ (f : Option Fault). Decodes s (Some encoded.samples) d.call (report_of decoded) f) h d.decodes) in omega (arith, wants, d.passes.full h, room, size))
 
 pub returns_bytes_and_fill : ReturnsBytesAndFill
 returns_bytes_and_fill s legal samples code_old code old new encoded decoded status e d =
@@ -80,7 +85,8 @@ returns_bytes_and_fill s legal samples code_old code old new encoded decoded sta
     status_of : (f : Option Fault) → d.fault ≡ f → status ≡ status_number (fault_status f)
     status_of f is = d.tells.status ∙ ap (λ (f : Option Fault). status_number (fault_status f)) is
 
-    by_end : samples ≡ e.call.given → ((d.fault ≡ None) × (fill : List ℤ) × (length fill < 64 * s.block) × (d.call.written ≡ e.call.given ++ spellings s fill)) ⊎ ((d.fault ≡ Some Read) ⊎ (d.fault ≡ Some Write)) →
+    by_end : samples ≡ e.call.given → ((d.fault ≡ None) × (fill : List ℤ) × (length fill < 64 * s.block) × (d.call.written ≡ e.call.given ++ spellings s fill))
+        ⊎ ((d.fault ≡ Some Read) ⊎ (d.fault ≡ Some Write)) →
         ((status ≡ status_number Done) × (fill : List ℤ) × (length fill < 64 * s.block) × StandsInFront (samples ++ spellings s fill) old new) ⊎ (status ≡ status_number NoRoom)
     by_end given (inl h) = inl (status_of None h.0, h.1, h.2, d.passes.front ∙ ap (λ l. l ++ drop (length l) old) (h.3 ∙ ap (λ l. l ++ spellings s h.1) (sym given)))
     by_end given (inr (inl h)) = absurd (d.passes.reads h)

@@ -50,7 +50,8 @@ bound_le s m n legal le =
     let j : 1 ≤ s.block = let k : 2 ≤ s.block = grind (arith, legal.block) in omega arith in
     let blocks : block_count s m ≤ block_count s n = div_ceil_le m n s.block j le in
     let bits : bit_bound s m ≤ bit_bound s n = mul-le-mul_right (block_bound s) blocks in
-    let pads : padding_bound s m ≤ padding_bound s n = padding_le s.pad (interval_count s m) (interval_count s n) (div_ceil_le (block_count s m) (block_count s n) s.interval legal.interval_from blocks) in
+    let pads : padding_bound s m ≤ padding_bound s n = padding_le s.pad (interval_count s m) (interval_count s n)
+    (div_ceil_le (block_count s m) (block_count s n) s.interval legal.interval_from blocks) in
     omega arith
 
 -- ---- code takes no more
@@ -91,9 +92,11 @@ stops_short from to text h = some h.missing h.short (ap length h.stops ∙ lengt
     some (x ∷ l) e same = omega arith
 
 -- so many samples are spelled by the bytes
-pub few_samples : (s : Parameters) (xs : List ℤ) (given rest input left : List ℕ) → IsLegal s → given ≡ spellings s xs ++ rest → Consumes (Some input) (Some left) given → length xs ≤ length input / width s
+pub few_samples : (s : Parameters) (xs : List ℤ) (given rest input left : List ℕ) → IsLegal s → given ≡ spellings s xs ++ rest
+    → Consumes (Some input) (Some left) given → length xs ≤ length input / width s
 few_samples s xs given rest input left legal split gave =
-    at (width s) (length xs) (length input) (grind (arith, nat_tests)) (omega (arith, length-spellings s xs, ap length split, length-append (spellings s xs) rest, ap length gave, length-append given left))
+    at (width s) (length xs) (length input) (grind (arith, nat_tests))
+    (omega (arith, length-spellings s xs, ap length split, length-append (spellings s xs) rest, ap length gave, length-append given left))
   where
     at : (w n m : ℕ) → 1 ≤ w → w * n ≤ m → n ≤ m / w
     at w n m some le =
@@ -105,12 +108,23 @@ few_samples s xs given rest input left legal split gave =
         ]
 
 -- encoding that wants room had less than is told
-pub encode_wants : (s : Parameters) (c : Call) (r : Report) (input left : List ℕ) → IsLegal s → Consumes (Some input) (Some left) c.given → Encodes s c r (Some Write) → length c.written < code_room s (length input / width s)
+pub encode_wants : (s : Parameters) (c : Call) (r : Report) (input left : List ℕ) → IsLegal s → Consumes (Some input) (Some left) c.given
+    → Encodes s c r (Some Write) → length c.written < code_room s (length input / width s)
 encode_wants s c r input left legal gave e = by_end e.ends.1
   where
     by_end : FailsBehind s c r e.samples ⊎ FailsAtEnd s c r e.samples → length c.written < code_room s (length input / width s)
-    by_end (inl h) = omega (arith, stops_short _ _ c.written h.stops, early_fits s e.samples (length input / width s) legal h.given.legal (few_samples s e.samples c.given h.given.rest input left legal h.given.split gave))
-    by_end (inr h) = omega (arith, stops_short _ _ c.written h.stops, output_fits s e.samples (length input / width s) legal h.given.legal (few_samples s e.samples c.given h.given.rest input left legal h.given.whole gave))
+    by_end (inl h) = omega (
+      arith,
+      stops_short _ _ c.written h.stops,
+      early_fits s e.samples (length input / width s) legal h.given.legal
+          (few_samples s e.samples c.given h.given.rest input left legal h.given.split gave),
+    )
+    by_end (inr h) = omega (
+      arith,
+      stops_short _ _ c.written h.stops,
+      output_fits s e.samples (length input / width s) legal h.given.legal
+          (few_samples s e.samples c.given h.given.rest input left legal h.given.whole gave),
+    )
 
 -- decoding that wants room had less than the samples asked for take
 pub decode_wants : (s : Parameters) (count : ℕ) (c : Call) (r : Report) → Decodes s (Some count) c r (Some Write) → length c.written < count * width s

@@ -67,7 +67,8 @@ early_bounded s xs h =
     let steps = all_steps_are_bounded s h.setting zs h.legal_settled in
     let each = mul-le-mul_right (block_bound s) le in
     let e : c + (d - c) ≡ d = omega arith in
-    let all = at s.block (length xs) c (d - c) (block_bound s) (k_max s) (most_steps s zs) (code_bits s zs) (subst (λ (v : ℕ). length xs ≤ v * s.block) (sym e) (div_ceil_times (length xs) s.block j).0) steps.0 steps.1 in
+    let all = at s.block (length xs) c (d - c) (block_bound s) (k_max s) (most_steps s zs) (code_bits s zs)
+    (subst (λ (v : ℕ). length xs ≤ v * s.block) (sym e) (div_ceil_times (length xs) s.block j).0) steps.0 steps.1 in
     record {
       bits = omega (arith, bits, each);
       steps = subst (λ (v : ℕ). length xs + most_steps s zs ≤ v * (block_bound s + s.block * (k_max s + 6))) e all.0;

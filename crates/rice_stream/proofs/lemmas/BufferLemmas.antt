@@ -9,10 +9,12 @@ use borrow.Rule.Slice.PartMut.{put_mid, post_of}
 -- behind the bytes that wait stand those that were read
 pub front_is : (w n k : ℕ) (old buf : List ℕ) → w ≤ length old → n ≤ length buf → take (w + n) (put_mid w k old buf) ≡ take w old ++ take n buf
 front_is w n k old buf h few =
-    ap (λ m. take (m + n) (put_mid w k old buf)) (sym (length-take-le w old h)) ∙ take-append-add (take w old) (buf ++ post_of w k old) n ∙ ap (λ l. take w old ++ l) (take-append-le n buf (post_of w k old) few)
+    ap (λ m. take (m + n) (put_mid w k old buf)) (sym (length-take-le w old h)) ∙ take-append-add (take w old) (buf ++ post_of w k old) n
+    ∙ ap (λ l. take w old ++ l) (take-append-le n buf (post_of w k old) few)
 
 -- the bytes that wait are moved to the front
-pub front_is_carried : (filled waiting : ℕ) (old new : List ℕ) → new ≡ copy_within old (filled - waiting) filled 0 → waiting ≤ filled → filled ≤ length old → take waiting new ≡ drop (filled - waiting) (take filled old)
+pub front_is_carried : (filled waiting : ℕ) (old new : List ℕ) → new ≡ copy_within old (filled - waiting) filled 0 → waiting ≤ filled → filled ≤ length old
+    → take waiting new ≡ drop (filled - waiting) (take filled old)
 front_is_carried filled waiting old new e h within =
     let i = filled - waiting in
     let n : 0 + (filled - i) ≡ waiting = omega arith in

@@ -55,7 +55,8 @@ decoded_nothing s = record {
   len = omega arith;
   legal = λ k d lt. absurd (omega arith);
   sound = tt;
-  goes_on = λ (wanted : Option ℕ) (more : List ℤ) (rest : List Bool) (ys : List ℤ) (ending : Ending) (used : ℕ) follows. at wanted more rest ys ending used (no_samples more (s.block * 0) follows.of_run.len (omega arith)) follows.next;
+  goes_on = λ (wanted : Option ℕ) (more : List ℤ) (rest : List Bool) (ys : List ℤ) (ending : Ending) (used : ℕ) follows. at wanted more rest ys ending used
+      (no_samples more (s.block * 0) follows.of_run.len (omega arith)) follows.next;
 }
   where
     at : (wanted : Option ℕ) (more : List ℤ) (rest : List Bool) (ys : List ℤ) (ending : Ending) (used : ℕ) → more ≡ [] → DecodedFrom s (0 + 0) 0 (last_of (pos 0) more) rest wanted ys ending used →
@@ -65,10 +66,12 @@ decoded_nothing s = record {
         let n : used ≡ 0 + used = omega arith in
         let b : 0 + 0 ≡ 0 = omega arith in
         let e : ys ≡ cut_to s wanted 0 [] ++ ys = ap (λ l. l ++ ys) (sym (cut_nothing s wanted 0)) in
-        subst (λ (m : ℕ). Decoded s rest wanted (cut_to s wanted 0 [] ++ ys) ending m) n (subst (λ (l : List ℤ). Decoded s rest wanted l ending used) e (subst (λ (b : ℕ). DecodedFrom s b 0 (pos 0) rest wanted ys ending used) b d))
+        subst (λ (m : ℕ). Decoded s rest wanted (cut_to s wanted 0 [] ++ ys) ending m) n
+        (subst (λ (l : List ℤ). Decoded s rest wanted l ending used) e (subst (λ (b : ℕ). DecodedFrom s b 0 (pos 0) rest wanted ys ending used) b d))
 
 -- the blocks of some samples and of a run after them
-run_blocks : (s : Parameters) (b run : ℕ) (p : ℤ) (xs more : List ℤ) (cs : List BlockData) → GivesBlock s b p xs run cs → AreOfRun s (b + 1) (last_of p xs) run more → (length cs ≡ 1 + run) × (length (xs ++ more) ≡ s.block * length cs) × (blocks_from s b p (length cs) (xs ++ more) ≡ cs)
+run_blocks : (s : Parameters) (b run : ℕ) (p : ℤ) (xs more : List ℤ) (cs : List BlockData) → GivesBlock s b p xs run cs
+    → AreOfRun s (b + 1) (last_of p xs) run more → (length cs ≡ 1 + run) × (length (xs ++ more) ≡ s.block * length cs) × (blocks_from s b p (length cs) (xs ++ more) ≡ cs)
 run_blocks s b run p xs more cs gives of_run =
     let n : length cs ≡ 1 + run = omega (arith, ap length gives.blocks_are, length-replicate run (zero_block s None)) in
     let one : length xs ≡ s.block * 1 = omega (arith, gives.len) in
@@ -87,8 +90,10 @@ last_both : (p : ℤ) (all xs more : List ℤ) → last_of p ((all ++ xs) ++ mor
 last_both p all xs more = ap (last_of p) (append_assoc all xs more) ∙ last_append p all (xs ++ more)
 
 -- a coded data set was taken, and its first block given
-pub decoded_with_set : (s : Parameters) (front skipped : List Bool) (begun b run : ℕ) (all xs : List ℤ) (d : CodedDataSet) → IsLegal s → DecodedSoFar s front begun b 0 all → begun ≤ b → IsForm s b d → RunIsSound s b d → ResidualsAreSound s d →
-    length skipped ≡ padding s (block_after s b d) (length front + length (bits_of_set s d)) → GivesBlock s b (last_of (pos 0) all) xs run (blocks_in s b d) → DecodedSoFar s (front ++ (bits_of_set s d ++ skipped)) (b + 1) (b + 1) run (all ++ xs)
+pub decoded_with_set : (s : Parameters) (front skipped : List Bool) (begun b run : ℕ) (all xs : List ℤ) (d : CodedDataSet) → IsLegal s
+    → DecodedSoFar s front begun b 0 all → begun ≤ b → IsForm s b d → RunIsSound s b d → ResidualsAreSound s d →
+    length skipped ≡ padding s (block_after s b d) (length front + length (bits_of_set s d)) → GivesBlock s b (last_of (pos 0) all) xs run (blocks_in s b d)
+    → DecodedSoFar s (front ++ (bits_of_set s d ++ skipped)) (b + 1) (b + 1) run (all ++ xs)
 decoded_with_set s front skipped begun b run all xs d legal behind before form sound residuals skips gives =
     let p = last_of (pos 0) all in
     let more_one : s.block * b + s.block ≡ s.block * (b + 1) = omega arith in
@@ -107,8 +112,10 @@ decoded_with_set s front skipped begun b run all xs d legal behind before form s
     set : List Bool
     set = t ++ skipped
 
-    on : (wanted : Option ℕ) (more : List ℤ) (rest : List Bool) (ys : List ℤ) (ending : Ending) (used : ℕ) → ((i : ℕ) → i < b + 1 → IsWanted s wanted i) → AreOfRun s (b + 1) (last_of (last_of (pos 0) all) xs) run more →
-        DecodedFrom s (b + 1 + run) (length (front ++ set)) (last_of (pos 0) ((all ++ xs) ++ more)) rest wanted ys ending used → Decoded s ((front ++ set) ++ rest) wanted (cut_to s wanted 0 ((all ++ xs) ++ more) ++ ys) ending (length (front ++ set) + used)
+    on : (wanted : Option ℕ) (more : List ℤ) (rest : List Bool) (ys : List ℤ) (ending : Ending) (used : ℕ) → ((i : ℕ) → i < b + 1 → IsWanted s wanted i)
+        → AreOfRun s (b + 1) (last_of (last_of (pos 0) all) xs) run more →
+        DecodedFrom s (b + 1 + run) (length (front ++ set)) (last_of (pos 0) ((all ++ xs) ++ more)) rest wanted ys ending used
+        → Decoded s ((front ++ set) ++ rest) wanted (cut_to s wanted 0 ((all ++ xs) ++ more) ++ ys) ending (length (front ++ set) + used)
     on wanted more rest ys ending used goes run_of next =
         let p = last_of (pos 0) all in
         let zs = xs ++ more in
@@ -119,14 +126,16 @@ decoded_with_set s front skipped begun b run all xs d legal behind before form s
         subst (λ (n : ℕ). DecodedFrom s n (length front + length set) (last_of p zs) rest wanted ys ending used) place
         (subst (λ (n : ℕ). DecodedFrom s (b + 1 + run) n (last_of p zs) rest wanted ys ending used) position
         (subst (λ (x : ℤ). DecodedFrom s (b + 1 + run) (length (front ++ set)) x rest wanted ys ending used) (last_both (pos 0) all xs more) next)) in
-        let here = decoding_goes_on s legal b (length front) p d skipped rest wanted zs ys ending used (goes b (omega arith)) form sound residuals skips (All-append (IsSample s) xs more gives.legal run_of.legal) made.1 made.2 there in
+        let here = decoding_goes_on s legal b (length front) p d skipped rest wanted zs ys ending used (goes b (omega arith)) form sound residuals skips
+        (All-append (IsSample s) xs more gives.legal run_of.legal) made.1 made.2 there in
         let none : AreOfRun s b p 0 [] = record { len = omega arith; legal = λ k d lt. absurd (omega arith); blocks = refl } in
         let again = append-nil all in
         let at : b ≡ b + 0 = omega arith in
         let back : DecodedFrom s (b + 0) (length front) (last_of (pos 0) (all ++ [])) (t ++ (skipped ++ rest)) wanted (cut_to s wanted b zs ++ ys) ending (length set + used) =
         subst (λ (l : List ℤ). DecodedFrom s (b + 0) (length front) (last_of (pos 0) l) (t ++ (skipped ++ rest)) wanted (cut_to s wanted b zs ++ ys) ending (length set + used)) (sym again)
         (subst (λ (n : ℕ). DecodedFrom s n (length front) p (t ++ (skipped ++ rest)) wanted (cut_to s wanted b zs ++ ys) ending (length set + used)) at here) in
-        let all_of = behind.goes_on wanted [] (t ++ (skipped ++ rest)) (cut_to s wanted b zs ++ ys) ending (length set + used) (record { begun_wanted = λ i lt. goes i (omega arith); of_run = none; next = back }) in
+        let all_of = behind.goes_on wanted [] (t ++ (skipped ++ rest)) (cut_to s wanted b zs ++ ys) ending (length set + used)
+        (record { begun_wanted = λ i lt. goes i (omega arith); of_run = none; next = back }) in
         let samples : cut_to s wanted 0 (all ++ []) ++ (cut_to s wanted b zs ++ ys) ≡ cut_to s wanted 0 ((all ++ xs) ++ more) ++ ys =
         ap (λ l. cut_to s wanted 0 l ++ (cut_to s wanted b zs ++ ys)) again ∙ sym (append_assoc (cut_to s wanted 0 all) (cut_to s wanted b zs) ys)
         ∙ ap (λ l. l ++ ys) (sym (cut_more s wanted b all zs behind.len) ∙ ap (cut_to s wanted 0) (sym (append_assoc all xs more))) in
@@ -137,7 +146,8 @@ decoded_with_set s front skipped begun b run all xs d legal behind before form s
         (subst (λ (n : ℕ). Decoded s (front ++ (t ++ (skipped ++ rest))) wanted (cut_to s wanted 0 (all ++ []) ++ (cut_to s wanted b zs ++ ys)) ending n) count all_of))
 
 -- a block of a run was given
-pub decoded_with_run_block : (s : Parameters) (front : List Bool) (begun b run left : ℕ) (all xs : List ℤ) → DecodedSoFar s front begun b run all → GivesBlock s b (last_of (pos 0) all) xs left (replicate run (zero_block s None)) → DecodedSoFar s front begun (b + 1) left (all ++ xs)
+pub decoded_with_run_block : (s : Parameters) (front : List Bool) (begun b run left : ℕ) (all xs : List ℤ) → DecodedSoFar s front begun b run all
+    → GivesBlock s b (last_of (pos 0) all) xs left (replicate run (zero_block s None)) → DecodedSoFar s front begun (b + 1) left (all ++ xs)
 decoded_with_run_block s front begun b run left all xs behind gives =
     let more_one : s.block * b + s.block ≡ s.block * (b + 1) = omega arith in
     let some : run ≡ suc left = count in
@@ -156,23 +166,31 @@ decoded_with_run_block s front begun b run left all xs behind gives =
     count : run ≡ suc left
     count = sym (length-replicate run (zero_block s None)) ∙ ap length (sym gives.blocks_are) ∙ ap suc (length-replicate left (zero_block s None))
 
-    on : (wanted : Option ℕ) (more : List ℤ) (rest : List Bool) (ys : List ℤ) (ending : Ending) (used : ℕ) → ((i : ℕ) → i < begun → IsWanted s wanted i) → AreOfRun s (b + 1) (last_of (last_of (pos 0) all) xs) left more →
-        DecodedFrom s (b + 1 + left) (length front) (last_of (pos 0) ((all ++ xs) ++ more)) rest wanted ys ending used → Decoded s (front ++ rest) wanted (cut_to s wanted 0 ((all ++ xs) ++ more) ++ ys) ending (length front + used)
+    on : (wanted : Option ℕ) (more : List ℤ) (rest : List Bool) (ys : List ℤ) (ending : Ending) (used : ℕ) → ((i : ℕ) → i < begun → IsWanted s wanted i)
+        → AreOfRun s (b + 1) (last_of (last_of (pos 0) all) xs) left more →
+        DecodedFrom s (b + 1 + left) (length front) (last_of (pos 0) ((all ++ xs) ++ more)) rest wanted ys ending used
+        → Decoded s (front ++ rest) wanted (cut_to s wanted 0 ((all ++ xs) ++ more) ++ ys) ending (length front + used)
     on wanted more rest ys ending used goes run_of next =
         let p = last_of (pos 0) all in
         let zs = xs ++ more in
         let made = run_blocks s b left p xs more zero_blocks gives run_of in
         let n : length zero_blocks ≡ run = length-replicate run (zero_block s None) in
-        let of_run : AreOfRun s b p run zs = record { len = made.1 ∙ ap (λ m. s.block * m) n; legal = All-append (IsSample s) xs more gives.legal run_of.legal; blocks = ap (λ m. blocks_from s b p m zs) (sym n) ∙ made.2 } in
+        let of_run : AreOfRun s b p run zs = record {
+          len = made.1 ∙ ap (λ m. s.block * m) n;
+          legal = All-append (IsSample s) xs more gives.legal run_of.legal;
+          blocks = ap (λ m. blocks_from s b p m zs) (sym n) ∙ made.2;
+        } in
         let place : b + 1 + left ≡ b + run = omega (arith, count) in
         let both = append_assoc all xs more in
         let there : DecodedFrom s (b + run) (length front) (last_of (pos 0) (all ++ zs)) rest wanted ys ending used =
         subst (λ (m : ℕ). DecodedFrom s m (length front) (last_of (pos 0) (all ++ zs)) rest wanted ys ending used) place
         (subst (λ (l : List ℤ). DecodedFrom s (b + 1 + left) (length front) (last_of (pos 0) l) rest wanted ys ending used) both next) in
-        subst (λ (l : List ℤ). Decoded s (front ++ rest) wanted (cut_to s wanted 0 l ++ ys) ending (length front + used)) (sym both) (behind.goes_on wanted zs rest ys ending used (record { begun_wanted = goes; of_run = of_run; next = there }))
+        subst (λ (l : List ℤ). Decoded s (front ++ rest) wanted (cut_to s wanted 0 l ++ ys) ending (length front + used)) (sym both)
+        (behind.goes_on wanted zs rest ys ending used (record { begun_wanted = goes; of_run = of_run; next = there }))
 
 -- what the bits end with is all
-pub at_end : (s : Parameters) (b position : ℕ) (p : ℤ) (rest : List Bool) (wanted : Option ℕ) (ending : Ending) (used : ℕ) → EndsWith s wanted b rest ending used → DecodedFrom s b position p rest wanted [] ending used
+pub at_end : (s : Parameters) (b position : ℕ) (p : ℤ) (rest : List Bool) (wanted : Option ℕ) (ending : Ending) (used : ℕ)
+    → EndsWith s wanted b rest ending used → DecodedFrom s b position p rest wanted [] ending used
 at_end s b position p rest wanted ending used ends =
     let none : b ≡ b + 0 = omega arith in
     record {
@@ -193,7 +211,8 @@ at_end s b position p rest wanted ending used ends =
     }
 
 -- decoding ends after the blocks of the run
-ends_after_run : (s : Parameters) (front rest : List Bool) (begun b run : ℕ) (all more : List ℤ) (wanted : Option ℕ) (ending : Ending) (used : ℕ) → DecodedSoFar s front begun b run all → ((i : ℕ) → i < begun → IsWanted s wanted i) → AreOfRun s b (last_of (pos 0) all) run more →
+ends_after_run : (s : Parameters) (front rest : List Bool) (begun b run : ℕ) (all more : List ℤ) (wanted : Option ℕ) (ending : Ending) (used : ℕ)
+    → DecodedSoFar s front begun b run all → ((i : ℕ) → i < begun → IsWanted s wanted i) → AreOfRun s b (last_of (pos 0) all) run more →
     EndsWith s wanted (b + run) rest ending used → Decoded s (front ++ rest) wanted (cut_to s wanted 0 (all ++ more)) ending (length front + used)
 ends_after_run s front rest begun b run all more wanted ending used behind goes of_run ends =
     subst (λ (l : List ℤ). Decoded s (front ++ rest) wanted l ending (length front + used)) (append-nil (cut_to s wanted 0 (all ++ more)))
@@ -204,7 +223,8 @@ ends_after_run s front rest begun b run all more wanted ending used behind goes 
     }))
 
 -- it ends where no run goes on
-pub ends_here : (s : Parameters) (front rest : List Bool) (begun b : ℕ) (all : List ℤ) (wanted : Option ℕ) (ending : Ending) (used : ℕ) → DecodedSoFar s front begun b 0 all → ((i : ℕ) → i < begun → IsWanted s wanted i) → EndsWith s wanted b rest ending used →
+pub ends_here : (s : Parameters) (front rest : List Bool) (begun b : ℕ) (all : List ℤ) (wanted : Option ℕ) (ending : Ending) (used : ℕ)
+    → DecodedSoFar s front begun b 0 all → ((i : ℕ) → i < begun → IsWanted s wanted i) → EndsWith s wanted b rest ending used →
     Decoded s (front ++ rest) wanted (cut_to s wanted 0 all) ending (length front + used)
 ends_here s front rest begun b all wanted ending used behind goes ends =
     let none : AreOfRun s b (last_of (pos 0) all) 0 [] = record { len = omega arith; legal = λ k d lt. absurd (omega arith); blocks = refl } in
@@ -213,7 +233,8 @@ ends_here s front rest begun b all wanted ending used behind goes ends =
     (ends_after_run s front rest begun b 0 all [] wanted ending used behind goes none (subst (λ (n : ℕ). EndsWith s wanted n rest ending used) at ends))
 
 -- it ends with the samples that were asked for, all of which were given
-pub ends_reached : (s : Parameters) (front rest : List Bool) (begun b run : ℕ) (all : List ℤ) (n : ℕ) → IsLegal s → DecodedSoFar s front begun b run all → ((i : ℕ) → i < begun → IsWanted s (Some n) i) → n ≤ s.block * b →
+pub ends_reached : (s : Parameters) (front rest : List Bool) (begun b run : ℕ) (all : List ℤ) (n : ℕ) → IsLegal s → DecodedSoFar s front begun b run all
+    → ((i : ℕ) → i < begun → IsWanted s (Some n) i) → n ≤ s.block * b →
     Decoded s (front ++ rest) (Some n) (cut_to s (Some n) 0 all) Reached (length front + 0)
 ends_reached s front rest begun b run all n legal behind goes enough =
     let j : 1 ≤ s.block = let k : 2 ≤ s.block = grind (arith, legal.block) in omega arith in
@@ -221,7 +242,11 @@ ends_reached s front rest begun b run all n legal behind goes enough =
     let hp = last_legal s (pos 0) all (zero_is_sample s legal.bits_from) (recursion_from_All (IsSample s) all behind.legal) in
     let made = blocks_have_samples s b p (replicate run (zero_block s None)) legal j hp behind.sound in
     let count = length-replicate run (zero_block s None) in
-    let of_run : AreOfRun s b p run made.0 = record { len = made.1 ∙ ap (λ m. s.block * m) count; legal = All-from_recursion (IsSample s) made.0 made.2; blocks = ap (λ m. blocks_from s b p m made.0) (sym count) ∙ made.3 } in
+    let of_run : AreOfRun s b p run made.0 = record {
+      len = made.1 ∙ ap (λ m. s.block * m) count;
+      legal = All-from_recursion (IsSample s) made.0 made.2;
+      blocks = ap (λ m. blocks_from s b p m made.0) (sym count) ∙ made.3;
+    } in
     let far : s.block * b ≤ s.block * (b + run) = mul-le-mul_left s.block (omega arith) in
     let ends : EndsWith s (Some n) (b + run) rest Reached 0 = (omega arith, refl) in
     let cut : take (n - s.block * 0) (all ++ made.0) ≡ take (n - s.block * 0) all = take-append-le (n - s.block * 0) all made.0 (omega (arith, behind.len)) in

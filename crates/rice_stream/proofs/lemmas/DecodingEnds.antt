@@ -46,16 +46,19 @@ use Rattle.rice_code.specs.decode.Fields.{AreCounted}
 use Rattle.rice_stream.proofs.lemmas.SpellingLengths.{spellings-append}
 
 -- more samples are wanted than are written
-pub goes_on : (s : Parameters) (asked : Option ℕ) (blocks written : ℕ) (all : List ℤ) → length all ≡ s.block * blocks → written ≡ length (cut_to s asked 0 all) → wanted_of asked written s.block ≢ 0 → IsWanted s asked blocks
+pub goes_on : (s : Parameters) (asked : Option ℕ) (blocks written : ℕ) (all : List ℤ) → length all ≡ s.block * blocks → written ≡ length (cut_to s asked 0 all)
+    → wanted_of asked written s.block ≢ 0 → IsWanted s asked blocks
 goes_on s None blocks written all e w some = tt
 goes_on s (Some n) blocks written all e w some = let k = length-take (n - s.block * 0) all in omega arith
 
 -- and then as many are written as there are
-pub all_written : (s : Parameters) (asked : Option ℕ) (blocks written : ℕ) (all : List ℤ) → length all ≡ s.block * blocks → written ≡ length (cut_to s asked 0 all) → IsWanted s asked blocks → (written ≡ s.block * blocks) × (cut_to s asked 0 all ≡ all)
+pub all_written : (s : Parameters) (asked : Option ℕ) (blocks written : ℕ) (all : List ℤ) → length all ≡ s.block * blocks
+    → written ≡ length (cut_to s asked 0 all) → IsWanted s asked blocks → (written ≡ s.block * blocks) × (cut_to s asked 0 all ≡ all)
 all_written s asked blocks written all e w goes = let same = cut_none s asked blocks all e goes in (w ∙ ap length same ∙ e, same)
 
 -- the wanted part of the next block
-pub wanted_part : (s : Parameters) (asked : Option ℕ) (blocks written : ℕ) (xs : List ℤ) → written ≡ s.block * blocks → length xs ≡ s.block → take (wanted_of asked written s.block) xs ≡ cut_to s asked blocks xs
+pub wanted_part : (s : Parameters) (asked : Option ℕ) (blocks written : ℕ) (xs : List ℤ) → written ≡ s.block * blocks → length xs ≡ s.block
+    → take (wanted_of asked written s.block) xs ≡ cut_to s asked blocks xs
 wanted_part s None blocks written xs e n = ap (λ m. take m xs) (sym n) ∙ take-length xs
 wanted_part s (Some m) blocks written xs e n = ap (λ k. take (min (m - k) s.block) xs) e ∙ by_min (m - s.block * blocks) s.block xs n
   where
@@ -78,7 +81,8 @@ next_here s b c legal e =
   where
     by_end : (c + 1 < s.interval) ⊎ (s.interval ≤ c + 1) → c < s.interval → place s (c + 1) ≡ next_block_place s c
     by_end (inl inside) lt = let no : (c + 1 == s.interval) ≡ false = grind (arith, nat_tests) in mod-eq_of_lt inside ∙ ap (λ v. cond v 0 (c + 1)) (sym no)
-    by_end (inr end) lt = let yes : (c + 1 == s.interval) ≡ true = grind (arith, nat_tests) in let same : c + 1 ≡ s.interval = omega arith in ap (λ n. n % s.interval) same ∙ mod_self s.interval ∙ ap (λ v. cond v 0 (c + 1)) (sym yes)
+    by_end (inr end) lt = let yes : (c + 1 == s.interval) ≡ true = grind (arith, nat_tests) in let same : c + 1 ≡ s.interval = omega arith in
+        ap (λ n. n % s.interval) same ∙ mod_self s.interval ∙ ap (λ v. cond v 0 (c + 1)) (sym yes)
 
 -- of a block no more samples are wanted than it has
 pub most_wanted : (asked : Option ℕ) (written block : ℕ) → wanted_of asked written block ≤ block
@@ -90,20 +94,24 @@ nothing_wanted : (written block : ℕ) → wanted_of (Some 0) written block ≡ 
 nothing_wanted written block = omega arith
 
 -- the fault that is reported, in another form
-pub reports_as : {I : Type 0} {rep : Report} {f fault known : Option Fault} {left : Option (List ℕ)} {failed : ℕ} {reader : Reader I} {samples steps : ℕ} → fault ≡ known → Reports rep f left failed reader samples steps fault → Reports rep f left failed reader samples steps known
-reports_as {rep = rep} {f = f} {left = left} {failed = failed} {reader = reader} {samples = samples} {steps = steps} is r = subst (λ (k : Option Fault). Reports rep f left failed reader samples steps k) is r
+pub reports_as : {I : Type 0} {rep : Report} {f fault known : Option Fault} {left : Option (List ℕ)} {failed : ℕ} {reader : Reader I} {samples steps : ℕ}
+    → fault ≡ known → Reports rep f left failed reader samples steps fault → Reports rep f left failed reader samples steps known
+reports_as {rep = rep} {f = f} {left = left} {failed = failed} {reader = reader} {samples = samples} {steps = steps} is r = subst
+    (λ (k : Option Fault). Reports rep f left failed reader samples steps k) is r
 
 -- a block's samples are wanted
 pub block_is_wanted : (asked : Option ℕ) (written : ℕ) {size count block : ℕ} → count ≡ wanted_of asked written size → size ≡ block → count ≢ 0 → wanted_of asked written block ≢ 0
 block_is_wanted asked written e f some none = some (e ∙ ap (wanted_of asked written) f ∙ none)
 
 -- more bits were taken
-has_read-append : {start left left_new : Option (List ℕ)} {waiting waiting_new front bits : List Bool} {taken taken_new : ℕ} → HasRead start left waiting taken front → Draws left left_new waiting waiting_new bits → taken_new ≡ taken + length bits
+has_read-append : {start left left_new : Option (List ℕ)} {waiting waiting_new front bits : List Bool} {taken taken_new : ℕ}
+    → HasRead start left waiting taken front → Draws left left_new waiting waiting_new bits → taken_new ≡ taken + length bits
     → HasRead start left_new waiting_new taken_new (front ++ bits)
 has_read-append {start = start} {left = left} {left_new = left_new} {waiting = waiting} {waiting_new = waiting_new} {front = front} {bits = bits} r d e = record {
   bytes = r.bytes ++ d.given;
   gave = Consumes-trans start left left_new r.bytes d.given r.gave d.consumed;
-  bits = bits_of-append r.bytes d.given ∙ ap (λ l. l ++ bits_of d.given) r.bits ∙ append_assoc front waiting (bits_of d.given) ∙ ap (λ l. front ++ l) d.split ∙ sym (append_assoc front bits waiting_new);
+  bits = bits_of-append r.bytes d.given ∙ ap (λ l. l ++ bits_of d.given) r.bits ∙ append_assoc front waiting (bits_of d.given) ∙ ap (λ l. front ++ l) d.split
+      ∙ sym (append_assoc front bits waiting_new);
   count = e ∙ ap (λ n. n + length bits) r.count ∙ sym (length-append front bits);
 }
 
@@ -113,13 +121,15 @@ pub record Grows (steps tick old_taken new_taken wanted run run_new size : ℕ) 
   pub few : size + run_new * size ≤ run * size + 456 * (new_taken - old_taken)
 
 -- a block more is written
-pub progress_with_block : {I : Type 0} {s : Parameters} {asked : Option ℕ} {start : Reader I} {out_old out out_new : Option Room} {p q : DecoderState} {r new : Reader I} {steps steps_new written : ℕ} {xs : List ℤ} (count steps_next : ℕ) → IsLegal s
+pub progress_with_block : {I : Type 0} {s : Parameters} {asked : Option ℕ} {start : Reader I} {out_old out out_new : Option Room} {p q : DecoderState}
+    {r new : Reader I} {steps steps_new written : ℕ} {xs : List ℤ} (count steps_next : ℕ) → IsLegal s
     → (runs : DecodingProgress s asked start out_old out p r steps written) → count ≡ wanted_of asked written s.block → wanted_of asked written s.block ≢ 0
     → Gains s r new steps steps_new runs.front runs.sets runs.blocks q.run runs.given xs → q ≡ state_after_block p xs q.run
     → Grows steps steps_new r.taken new.taken count p.run q.run s.block → steps_next ≡ steps_new + count
     → Appends out out_new (spellings s (take count xs))
     → DecodingProgress s asked start out_old out_new q new steps_next (written + count)
-progress_with_block {s = s} {asked = asked} {start = start} {out_old = out_old} {out = out} {out_new = out_new} {p = p} {q = q} {r = r} {new = new} {steps = steps} {steps_new = steps_new} {written = written} {xs = xs} count steps_next legal runs is some gained moves grows ticked put =
+progress_with_block {s = s} {asked = asked} {start = start} {out_old = out_old} {out = out} {out_new = out_new} {p = p} {q = q} {r = r} {new = new}
+    {steps = steps} {steps_new = steps_new} {written = written} {xs = xs} count steps_next legal runs is some gained moves grows ticked put =
     let b = runs.blocks in
     let at = runs.at_block in
     let so = runs.has_written in
@@ -154,7 +164,9 @@ progress_with_block {s = s} {asked = asked} {start = start} {out_old = out_old} 
         wanted = λ i lt. one_more_wanted asked b i so.wanted goes lt;
         count = so_many count (omega (arith, most, gained.len)) (ap length (sym part)) cut;
         asked_for = subst (λ (n : ℕ). IfSome asked (λ m. written + n ≤ m)) (sym is) (still_asked asked written s.block so.asked_for);
-        put = subst (λ (l : List ℕ). Appends out_old out_new l) (ap (λ l. spellings s (cut_to s asked 0 runs.given) ++ spellings s l) part ∙ sym (spellings-append s (cut_to s asked 0 runs.given) (cut_to s asked b xs)) ∙ ap (spellings s) (sym cut))
+        put = subst (λ (l : List ℕ). Appends out_old out_new l)
+            (ap (λ l. spellings s (cut_to s asked 0 runs.given) ++ spellings s l) part
+            ∙ sym (spellings-append s (cut_to s asked 0 runs.given) (cut_to s asked b xs)) ∙ ap (spellings s) (sym cut))
             (Appends-trans out_old out out_new (spellings s (cut_to s asked 0 runs.given)) (spellings s (take count xs)) so.put put);
       };
       has_steps = record {
@@ -168,7 +180,8 @@ progress_with_block {s = s} {asked = asked} {start = start} {out_old = out_old} 
     one_more_wanted None b i h k lt = tt
     one_more_wanted (Some n) b i h k lt = let le : s.block * i ≤ s.block * b = mul-le-mul_left s.block (omega arith) in let k' : s.block * b < n = k in omega arith
 
-    so_many : (w : ℕ) → w ≤ length xs → length (cut_to s asked runs.blocks xs) ≡ length (take w xs) → cut_to s asked 0 (runs.given ++ xs) ≡ cut_to s asked 0 runs.given ++ cut_to s asked runs.blocks xs → written + w ≡ length (cut_to s asked 0 (runs.given ++ xs))
+    so_many : (w : ℕ) → w ≤ length xs → length (cut_to s asked runs.blocks xs) ≡ length (take w xs)
+        → cut_to s asked 0 (runs.given ++ xs) ≡ cut_to s asked 0 runs.given ++ cut_to s asked runs.blocks xs → written + w ≡ length (cut_to s asked 0 (runs.given ++ xs))
     so_many w le part cut = omega (arith, runs.has_written.count, ap length cut, length-append (cut_to s asked 0 runs.given) (cut_to s asked runs.blocks xs), part, length-take-le w xs le)
 
 -- the call and what it says
@@ -183,10 +196,12 @@ record Exits (s : Parameters) (asked : Option ℕ) (start left : Option (List �
   pub steps : CountsSteps s (bits_of bytes) rep ending
 
 -- the call ends so
-call_ends_so : {s : Parameters} {asked : Option ℕ} {start left : Option (List ℕ)} {out_old out : Option Room} {rep : Report} {f : Option Fault} {bytes written : List ℕ} (left_new : Option (List ℕ)) (ys : List ℤ) (ending : Ending) (fault : Option Fault)
+call_ends_so : {s : Parameters} {asked : Option ℕ} {start left : Option (List ℕ)} {out_old out : Option Room} {rep : Report} {f : Option Fault}
+    {bytes written : List ℕ} (left_new : Option (List ℕ)) (ys : List ℤ) (ending : Ending) (fault : Option Fault)
     → Exits s asked start left out_old out rep bytes written ending → left_new ≡ left → f ≡ fault → (fault ≢ Some TooLong → length bytes ≤ 2 ^ 49)
     → EndsDecoding s asked fault (record { given = bytes; left = left; written = written }) rep ys ending → Ends s asked start left_new out_old out rep f
-call_ends_so {s = s} {asked = asked} {start = start} {left = left} {out_old = out_old} {out = out} {rep = rep} {f = f} {bytes = bytes} {written = written} left_new ys ending fault e there is limit ends =
+call_ends_so {s = s} {asked = asked} {start = start} {left = left} {out_old = out_old} {out = out} {rep = rep} {f = f} {bytes = bytes} {written = written}
+    left_new ys ending fault e there is limit ends =
     subst (λ (l : Option (List ℕ)). Ends s asked start l out_old out rep f) (sym there)
     (subst (λ (f : Option Fault). Ends s asked start left out_old out rep f) (sym is) (
       record { given = bytes; left = left; written = written },
@@ -195,7 +210,8 @@ call_ends_so {s = s} {asked = asked} {start = start} {left = left} {out_old = ou
     ))
 
 -- what is given ahead of the bits that were taken is limited
-given_is_limited : {start left : Option (List ℕ)} {waiting front : List Bool} {taken : ℕ} → (read : HasRead start left waiting taken front) → length waiting ≤ most_waiting → taken + length waiting ≤ 2 ^ 52
+given_is_limited : {start left : Option (List ℕ)} {waiting front : List Bool} {taken : ℕ} → (read : HasRead start left waiting taken front)
+    → length waiting ≤ most_waiting → taken + length waiting ≤ 2 ^ 52
     → (length read.bytes ≤ taken / 8 + most_at_once) × (length read.bytes ≤ 2 ^ 49)
 given_is_limited {waiting = waiting} {front = front} read few limit =
     let a = length-bits_of read.bytes in
@@ -204,15 +220,18 @@ given_is_limited {waiting = waiting} {front = front} read few limit =
     (omega (arith, read.count), omega (arith, read.count))
 
 -- the coded data sets so far are wanted
-begun_wanted : {I : Type 0} {s : Parameters} {asked : Option ℕ} {start : Reader I} {out_old out : Option Room} {p : DecoderState} {r : Reader I} {steps written : ℕ} → (runs : DecodingProgress s asked start out_old out p r steps written) → (i : ℕ) → i < runs.begun → IsWanted s asked i
+begun_wanted : {I : Type 0} {s : Parameters} {asked : Option ℕ} {start : Reader I} {out_old out : Option Room} {p : DecoderState} {r : Reader I}
+    {steps written : ℕ} → (runs : DecodingProgress s asked start out_old out p r steps written) → (i : ℕ) → i < runs.begun → IsWanted s asked i
 begun_wanted runs i lt = runs.has_written.wanted i (omega (arith, lt, runs.before))
 
 -- no run goes on
-at_set : {I : Type 0} {s : Parameters} {asked : Option ℕ} {start : Reader I} {out_old out : Option Room} {p : DecoderState} {r : Reader I} {steps written : ℕ} → (runs : DecodingProgress s asked start out_old out p r steps written) → p.run ≡ 0 → DecodedSoFar s runs.front runs.begun runs.blocks 0 runs.given
+at_set : {I : Type 0} {s : Parameters} {asked : Option ℕ} {start : Reader I} {out_old out : Option Room} {p : DecoderState} {r : Reader I} {steps written : ℕ}
+    → (runs : DecodingProgress s asked start out_old out p r steps written) → p.run ≡ 0 → DecodedSoFar s runs.front runs.begun runs.blocks 0 runs.given
 at_set {s = s} runs none = subst (λ (n : ℕ). DecodedSoFar s runs.front runs.begun runs.blocks n runs.given) none runs.decoded
 
 -- the steps where decoding ends with a whole coded data set
-whole_steps : {s : Parameters} {rep : Report} {sets : List CodedDataSet} {front : List Bool} {blocks : ℕ} (waiting : List Bool) (bytes : List ℕ) → HasSets s sets front blocks → bits_of bytes ≡ front ++ waiting → rep.bits ≡ length front
+whole_steps : {s : Parameters} {rep : Report} {sets : List CodedDataSet} {front : List Bool} {blocks : ℕ} (waiting : List Bool) (bytes : List ℕ)
+    → HasSets s sets front blocks → bits_of bytes ≡ front ++ waiting → rep.bits ≡ length front
     → rep.steps ≡ rep.bits + rep.samples + sum_by turns sets → CountsSteps s (bits_of bytes) rep Reached
 whole_steps {sets = sets} {front = front} waiting bytes has bits count steps =
     let whole = append-nil front in
@@ -231,7 +250,8 @@ whole_steps {sets = sets} {front = front} waiting bytes has bits count steps =
     }
 
 -- the steps where it ends with bits that are no sound coded data set
-last_steps : {s : Parameters} {rep : Report} {sets : List CodedDataSet} {front : List Bool} {blocks : ℕ} (last waiting : List Bool) (bytes : List ℕ) (ending : Ending) (in_last steps new_steps taken new_taken written : ℕ) → HasSets s sets front blocks → bits_of bytes ≡ (front ++ last) ++ waiting
+last_steps : {s : Parameters} {rep : Report} {sets : List CodedDataSet} {front : List Bool} {blocks : ℕ} (last waiting : List Bool) (bytes : List ℕ)
+    (ending : Ending) (in_last steps new_steps taken new_taken written : ℕ) → HasSets s sets front blocks → bits_of bytes ≡ (front ++ last) ++ waiting
     → EndsInTurns s blocks last ending in_last → new_steps + taken ≡ steps + new_taken + in_last → steps ≡ taken + written + sum_by turns sets → new_taken ≡ length (front ++ last)
     → rep.bits ≡ new_taken → rep.samples ≡ written → rep.steps ≡ new_steps → CountsSteps s (bits_of bytes) rep ending
 last_steps {s = s} {sets = sets} {front = front} last waiting bytes ending in_last steps new_steps taken new_taken written has bits ends counted before count bits_are samples_are steps_are =
@@ -250,8 +270,10 @@ last_steps {s = s} {sets = sets} {front = front} last waiting bytes ending in_la
     }
 
 -- the samples that were asked for are reached
-pub reached_ends : {I : Type 0} {s : Parameters} {asked : Option ℕ} {start : Reader I} {out_old out : Option Room} {p : DecoderState} {r : Reader I} {steps written : ℕ} {rep : Report} {f : Option Fault} {left : Option (List ℕ)} {failed : ℕ} → IsLegal s
-    → (runs : DecodingProgress s asked start out_old out p r steps written) → wanted_of asked written s.block ≡ 0 → Reports rep f left failed r written steps None → Ends s asked start.left left out_old out rep f
+pub reached_ends : {I : Type 0} {s : Parameters} {asked : Option ℕ} {start : Reader I} {out_old out : Option Room} {p : DecoderState} {r : Reader I}
+    {steps written : ℕ} {rep : Report} {f : Option Fault} {left : Option (List ℕ)} {failed : ℕ} → IsLegal s
+    → (runs : DecodingProgress s asked start out_old out p r steps written) → wanted_of asked written s.block ≡ 0
+    → Reports rep f left failed r written steps None → Ends s asked start.left left out_old out rep f
 reached_ends {s = s} {asked = None} legal runs none tells = absurd (let j : 2 ≤ s.block = grind (arith, legal.block) in omega arith)
 reached_ends {s = s} {asked = Some n} {p = p} {r = r} {rep = rep} {left = left} legal runs none tells =
     let j : 2 ≤ s.block = grind (arith, legal.block) in
@@ -294,13 +316,16 @@ run_out true = inl refl
 run_out false = inr refl
 
 -- where no coded data set begins what is left, decoding ends: of zeros as it should, else inside a coded data set
-ends_out : (s : Parameters) (asked : Option ℕ) (b : ℕ) (bits : List Bool) (blank : Bool) → IsWanted s asked b → is_blank bits ≡ blank → ((d : CodedDataSet) (more : List Bool) → IsForm s b d → bits ≡ bits_of_set s d ++ more → ⊥) → EndsWith s asked b bits (ending_of blank) (length bits)
+ends_out : (s : Parameters) (asked : Option ℕ) (b : ℕ) (bits : List Bool) (blank : Bool) → IsWanted s asked b → is_blank bits ≡ blank
+    → ((d : CodedDataSet) (more : List Bool) → IsForm s b d → bits ≡ bits_of_set s d ++ more → ⊥) → EndsWith s asked b bits (ending_of blank) (length bits)
 unfolding ending_of
 ends_out s asked b bits true goes e none = (goes, blank_all bits e, refl)
 ends_out s asked b bits false goes e none = (goes, some_one bits e, none, refl)
 
 -- The turns where all bits are taken and no data set begins with them: at most one for each bit, and none where no bit is a 1.
-turns_out : (s : Parameters) (b : ℕ) (bits : List Bool) (blank : Bool) (count : ℕ) → is_blank bits ≡ blank → ((d : CodedDataSet) (more : List Bool) → IsForm s b d → bits ≡ bits_of_set s d ++ more → ⊥) → count ≤ length bits → (is_blank bits ≡ true → count ≡ 0) → EndsInTurns s b bits (ending_of blank) count
+turns_out : (s : Parameters) (b : ℕ) (bits : List Bool) (blank : Bool) (count : ℕ) → is_blank bits ≡ blank
+    → ((d : CodedDataSet) (more : List Bool) → IsForm s b d → bits ≡ bits_of_set s d ++ more → ⊥) → count ≤ length bits → (is_blank bits ≡ true → count ≡ 0)
+    → EndsInTurns s b bits (ending_of blank) count
 unfolding ending_of
 turns_out s b bits true count e none most blank = ((tt, blank_all bits e, refl), blank e)
 turns_out s b bits false count e none most blank = ((tt, some_one bits e, none, refl), most)
@@ -324,8 +349,10 @@ record RunsDry {I : Type 0} (s : Parameters) (asked : Option ℕ) (start : Reade
   pub sets : (more : List ℕ) → CountsSteps s (bits_of (read.bytes ++ more)) rep (ending_of blank)
 
 -- the intake ended, and decoding ends with it
-runs_dry : {I : Type 0} {s : Parameters} {asked : Option ℕ} {start : Reader I} {out_old out : Option Room} {p : DecoderState} {r new : Reader I} {steps steps_new written : ℕ} {rep : Report} {f fault : Option Fault} {left : Option (List ℕ)} {failed : ℕ} {why : BitFault} (blank : Bool)
-    → (runs : DecodingProgress s asked start out_old out p r steps written) → wanted_of asked written s.block ≢ 0 → p.run ≡ 0 → (cut : SetCut (with_mark r) new steps steps_new s runs.blocks why) → is_blank cut.bits ≡ blank
+runs_dry : {I : Type 0} {s : Parameters} {asked : Option ℕ} {start : Reader I} {out_old out : Option Room} {p : DecoderState} {r new : Reader I}
+    {steps steps_new written : ℕ} {rep : Report} {f fault : Option Fault} {left : Option (List ℕ)} {failed : ℕ} {why : BitFault} (blank : Bool)
+    → (runs : DecodingProgress s asked start out_old out p r steps written) → wanted_of asked written s.block ≢ 0 → p.run ≡ 0
+    → (cut : SetCut (with_mark r) new steps steps_new s runs.blocks why) → is_blank cut.bits ≡ blank
     → AreCounted steps steps_new r.taken new.taken → Reports rep f left failed new written steps_new fault → RunsDry s asked start cut.stops.middle new rep (cut_to s asked 0 runs.given) written blank
 runs_dry {s = s} {asked = asked} {p = p} {r = r} {new = new} {steps = steps} {steps_new = steps_new} {written = written} {rep = rep} blank runs some none cut told counted tells =
     let bits = cut.bits in
@@ -334,7 +361,8 @@ runs_dry {s = s} {asked = asked} {p = p} {r = r} {new = new} {steps = steps} {st
     let read = has_read-append runs.has_read cut.stops.draws cut.stops.taken in
     let ys = cut_to s asked 0 runs.given in
     let goes = goes_on s asked runs.blocks written runs.given runs.decoded.len so.count some in
-    let out_of = ends_here s runs.front bits runs.begun runs.blocks runs.given asked (ending_of blank) (length bits) (at_set runs none) (begun_wanted runs) (ends_out s asked runs.blocks bits blank goes told cut.none) in
+    let out_of = ends_here s runs.front bits runs.begun runs.blocks runs.given asked (ending_of blank) (length bits) (at_set runs none) (begun_wanted runs)
+    (ends_out s asked runs.blocks bits blank goes told cut.none) in
     let whole : bits_of read.bytes ≡ front = read.bits ∙ append-nil front in
     let used : length runs.front + length bits ≡ new.taken = sym (read.count ∙ length-append runs.front bits) in
     let size = length-bits_of read.bytes in
@@ -351,13 +379,15 @@ runs_dry {s = s} {asked = asked} {p = p} {r = r} {new = new} {steps = steps} {st
       bits = tells.bits_are ∙ sym used;
       samples = tells.samples_are ∙ so.count;
       count = so.count;
-      sets = λ more. last_steps bits (bits_of more) (read.bytes ++ more) (ending_of blank) in_last steps steps_new r.taken new.taken written has (bits_of-append read.bytes more ∙ ap (λ l. l ++ bits_of more) whole)
+      sets = λ more. last_steps bits (bits_of more) (read.bytes ++ more) (ending_of blank) in_last steps steps_new r.taken new.taken written has
+          (bits_of-append read.bytes more ∙ ap (λ l. l ++ bits_of more) whole)
           (turns_out s runs.blocks bits blank in_last told cut.none (omega (arith, counted.most, cut.stops.taken)) (λ zeros. omega (arith, cut.steps zeros, cut.stops.taken)))
           (omega (arith, counted.least, cut.stops.taken)) runs.has_steps.count read.count tells.bits_are tells.samples_are tells.steps_are;
     }
 
 -- no 1 is left, or no data set begins with what is left, where the intake has ended
-pub ended_ends : {I : Type 0} {s : Parameters} {asked : Option ℕ} {start : Reader I} {out_old out : Option Room} {p : DecoderState} {r new : Reader I} {steps steps_new written : ℕ} {rep : Report} {f : Option Fault} {left : Option (List ℕ)} {failed : ℕ} (blank : Bool)
+pub ended_ends : {I : Type 0} {s : Parameters} {asked : Option ℕ} {start : Reader I} {out_old out : Option Room} {p : DecoderState} {r new : Reader I}
+    {steps steps_new written : ℕ} {rep : Report} {f : Option Fault} {left : Option (List ℕ)} {failed : ℕ} (blank : Bool)
     → (runs : DecodingProgress s asked start out_old out p r steps written) → wanted_of asked written s.block ≢ 0 → p.run ≡ 0 → SetEnds (with_mark r) new steps steps_new s runs.blocks blank
     → AreCounted steps steps_new r.taken new.taken → Reports rep f left failed new written steps_new (fault_at_end asked blank written) → Ends s asked start.left left out_old out rep f
 unfolding ending_of
@@ -375,13 +405,15 @@ ended_ends {s = s} {asked = asked} {start = start} {new = new} {written = writte
     } tells.left_is tells.fault_is (λ _. dry.limit)
     (by_fault blank asked (dry.used, dry.decoded, record { written = refl; samples = dry.samples; bits = dry.bits }) stops.refuses.1 dry.count)
   where
-    by_fault : {c : Call} {ys : List ℤ} (blank : Bool) (asked : Option ℕ) → DecodesBytes s asked c rep c.given ys (ending_of blank) → IsAtEnd c.left → written ≡ length ys → EndsDecoding s asked (fault_at_end asked blank written) c rep ys (ending_of blank)
+    by_fault : {c : Call} {ys : List ℤ} (blank : Bool) (asked : Option ℕ) → DecodesBytes s asked c rep c.given ys (ending_of blank) → IsAtEnd c.left
+        → written ≡ length ys → EndsDecoding s asked (fault_at_end asked blank written) c rep ys (ending_of blank)
     by_fault true None d end n = (d, inr (refl, refl, end))
     by_fault true (Some m) d end n = (d, inr (refl, refl), end, n)
     by_fault false asked d end n = (d, inl refl, end, n)
 
 -- the intake failed
-read_ends : {I : Type 0} {s : Parameters} {asked : Option ℕ} {start : Reader I} {out_old out : Option Room} {p : DecoderState} {r new : Reader I} {steps steps_new written : ℕ} {rep : Report} {f : Option Fault} {left : Option (List ℕ)} {failed : ℕ}
+read_ends : {I : Type 0} {s : Parameters} {asked : Option ℕ} {start : Reader I} {out_old out : Option Room} {p : DecoderState} {r new : Reader I}
+    {steps steps_new written : ℕ} {rep : Report} {f : Option Fault} {left : Option (List ℕ)} {failed : ℕ}
     → (runs : DecodingProgress s asked start out_old out p r steps written) → wanted_of asked written s.block ≢ 0 → p.run ≡ 0 → SetCut (with_mark r) new steps steps_new s runs.blocks bit_faults.Read
     → AreCounted steps steps_new r.taken new.taken → Reports rep f left failed new written steps_new (Some Read) → Ends s asked start.left left out_old out rep f
 read_ends {s = s} {asked = asked} {start = start} {new = new} {rep = rep} {left = left} runs some none cut counted tells =
@@ -398,8 +430,10 @@ read_ends {s = s} {asked = asked} {start = start} {new = new} {rep = rep} {left 
     ((dry.used, dry.decoded, record { written = refl; samples = dry.samples; bits = dry.bits }), run_out blank)
 
 -- the byte past the limit was given
-long_ends : {I : Type 0} {s : Parameters} {asked : Option ℕ} {start : Reader I} {out_old out : Option Room} {p : DecoderState} {r new : Reader I} {steps steps_new written : ℕ} {rep : Report} {f : Option Fault} {left : Option (List ℕ)} {failed : ℕ}
-    → (runs : DecodingProgress s asked start out_old out p r steps written) → wanted_of asked written s.block ≢ 0 → p.run ≡ 0 → SetCut (with_mark r) new steps steps_new s runs.blocks bit_faults.TooLong
+long_ends : {I : Type 0} {s : Parameters} {asked : Option ℕ} {start : Reader I} {out_old out : Option Room} {p : DecoderState} {r new : Reader I}
+    {steps steps_new written : ℕ} {rep : Report} {f : Option Fault} {left : Option (List ℕ)} {failed : ℕ}
+    → (runs : DecodingProgress s asked start out_old out p r steps written) → wanted_of asked written s.block ≢ 0 → p.run ≡ 0
+    → SetCut (with_mark r) new steps steps_new s runs.blocks bit_faults.TooLong
     → AreCounted steps steps_new r.taken new.taken → Reports rep f left failed new written steps_new (Some TooLong) → Ends s asked start.left left out_old out rep f
 long_ends {s = s} {asked = asked} {start = start} {new = new} {rep = rep} {left = left} runs some none cut counted tells =
     let blank = is_blank cut.bits in
@@ -417,13 +451,17 @@ long_ends {s = s} {asked = asked} {start = start} {new = new} {rep = rep} {left 
     ((read.bytes, record { last = byte; split = refl; full = full }, (dry.used, dry.decoded, record { written = refl; samples = dry.samples; bits = dry.bits })), run_out blank)
 
 -- a coded data set was refused
-refused_ends : {I : Type 0} {s : Parameters} {asked : Option ℕ} {start : Reader I} {out_old out : Option Room} {p : DecoderState} {r new : Reader I} {steps steps_new written : ℕ} {rep : Report} {f : Option Fault} {left : Option (List ℕ)} {failed : ℕ} (P : CodedDataSet → Type 0) (ending : Ending) (fault : Option Fault)
-    → fault ≢ Some TooLong → IsLegal s → (runs : DecodingProgress s asked start out_old out p r steps written) → wanted_of asked written s.block ≢ 0 → p.run ≡ 0 → SetRefused (with_mark r) new steps steps_new s runs.blocks P
+refused_ends : {I : Type 0} {s : Parameters} {asked : Option ℕ} {start : Reader I} {out_old out : Option Room} {p : DecoderState} {r new : Reader I}
+    {steps steps_new written : ℕ} {rep : Report} {f : Option Fault} {left : Option (List ℕ)} {failed : ℕ} (P : CodedDataSet → Type 0) (ending : Ending) (fault : Option Fault)
+    → fault ≢ Some TooLong → IsLegal s → (runs : DecodingProgress s asked start out_old out p r steps written) → wanted_of asked written s.block ≢ 0 → p.run ≡ 0
+    → SetRefused (with_mark r) new steps steps_new s runs.blocks P
     → ((asked : Option ℕ) (rest : List Bool) (used : ℕ) → IsWanted s asked runs.blocks → BeginsUnsound s runs.blocks rest used P → EndsWith s asked runs.blocks rest ending used)
     → ((last : List Bool) (count : ℕ) (unsound : BeginsUnsound s runs.blocks last (length last) P) → count ≡ turns unsound.refused → EndsInTurns s runs.blocks last ending count)
     → AreCounted steps steps_new r.taken new.taken → Reports rep f left failed new written steps_new fault
-    → ((c : Call) (ys : List ℤ) → DecodesBytes s asked c rep c.given ys ending → length ys ≡ s.block * (written / s.block) → EndsDecoding s asked fault c rep ys ending) → Ends s asked start.left left out_old out rep f
-refused_ends {s = s} {asked = asked} {start = start} {p = p} {r = r} {new = new} {steps = steps} {steps_new = steps_new} {written = written} {rep = rep} {left = left} P ending fault other legal runs some none refused by_rule by_turns counted tells ends =
+    → ((c : Call) (ys : List ℤ) → DecodesBytes s asked c rep c.given ys ending → length ys ≡ s.block * (written / s.block)
+    → EndsDecoding s asked fault c rep ys ending) → Ends s asked start.left left out_old out rep f
+refused_ends {s = s} {asked = asked} {start = start} {p = p} {r = r} {new = new} {steps = steps} {steps_new = steps_new} {written = written} {rep = rep}
+    {left = left} P ending fault other legal runs some none refused by_rule by_turns counted tells ends =
     let b = runs.blocks in
     let so = runs.has_written in
     let j : 1 ≤ s.block = let k : 2 ≤ s.block = grind (arith, legal.block) in omega arith in
@@ -447,7 +485,8 @@ refused_ends {s = s} {asked = asked} {start = start} {p = p} {r = r} {new = new}
       gave = read.gave;
       took = so.put;
       ahead = omega (arith, few.0, tells.bits_are);
-      steps = last_steps set new.waiting read.bytes ending (turns refused.set) steps steps_new r.taken new.taken written has read.bits (by_turns set (turns refused.set) alone refl) refused.steps runs.has_steps.count read.count tells.bits_are tells.samples_are tells.steps_are;
+      steps = last_steps set new.waiting read.bytes ending (turns refused.set) steps steps_new r.taken new.taken written has read.bits
+          (by_turns set (turns refused.set) alone refl) refused.steps runs.has_steps.count read.count tells.bits_are tells.samples_are tells.steps_are;
     } tells.left_is tells.fault_is (λ _. few.1)
     (ends _ ys (length runs.front + length set, decodes, record { written = refl; samples = tells.samples_are ∙ so.count; bits = sym used })
     (sym so.count ∙ so_far.0 ∙ ap (λ n. s.block * n) (sym number)))
@@ -459,11 +498,13 @@ take_same (suc n) [] = refl
 take_same (suc n) (x ∷ xs) = ap (λ l. x ∷ l) (take_same n xs)
 
 -- the outlet failed in a block
-pub write_ends : {I : Type 0} {s : Parameters} {asked : Option ℕ} {start : Reader I} {out_old out out_new : Option Room} {p : DecoderState} {r new : Reader I} {steps steps_new written : ℕ} {xs : List ℤ} {rep : Report} {f : Option Fault} {left : Option (List ℕ)} {failed : ℕ} (count : ℕ) (q : DecoderState) → IsLegal s
+pub write_ends : {I : Type 0} {s : Parameters} {asked : Option ℕ} {start : Reader I} {out_old out out_new : Option Room} {p : DecoderState} {r new : Reader I}
+    {steps steps_new written : ℕ} {xs : List ℤ} {rep : Report} {f : Option Fault} {left : Option (List ℕ)} {failed : ℕ} (count : ℕ) (q : DecoderState) → IsLegal s
     → (runs : DecodingProgress s asked start out_old out p r steps written) → count ≡ wanted_of asked written s.block → wanted_of asked written s.block ≢ 0
     → Gains s r new steps steps_new runs.front runs.sets runs.blocks q.run runs.given xs → TakesPart out out_new (spellings s (take count xs))
     → Reports rep f left failed new written steps_new (Some Write) → Ends s asked start.left left out_old out_new rep f
-write_ends {s = s} {asked = asked} {out_old = out_old} {out = out} {out_new = out_new} {r = r} {new = new} {written = written} {xs = xs} {rep = rep} {left = left} count q legal runs is some gives part tells =
+write_ends {s = s} {asked = asked} {out_old = out_old} {out = out} {out_new = out_new} {r = r} {new = new} {written = written} {xs = xs} {rep = rep}
+    {left = left} count q legal runs is some gives part tells =
     let b = runs.blocks in
     let so = runs.has_written in
     let goes = goes_on s asked b written runs.given runs.decoded.len so.count some in
@@ -476,14 +517,18 @@ write_ends {s = s} {asked = asked} {out_old = out_old} {out = out} {out_new = ou
     let ys = cut_to s asked 0 (runs.given ++ xs) in
     let cut : ys ≡ cut_to s asked 0 runs.given ++ cut_to s asked b xs = cut_more s asked b runs.given xs runs.decoded.len in
     let size : length ys ≡ written + count = counted count (omega (arith, most, gives.len)) (ap length (sym piece)) cut in
-    let wanted : (i : ℕ) → i < gives.begun → IsWanted s (Some (length ys)) i = λ i lt. below s.block i b (length ys) written count size so_far.0 (λ none. some (sym is ∙ none)) (omega (arith, lt, gives.before)) in
+    let wanted : (i : ℕ) → i < gives.begun → IsWanted s (Some (length ys)) i = λ i lt. below s.block i b (length ys) written count size so_far.0
+    (λ none. some (sym is ∙ none)) (omega (arith, lt, gives.before)) in
     let bound : length ys ≤ s.block * (b + 1) = up_to s.block b (length ys) written count size so_far.0 most in
     let here = ends_reached s front new.waiting gives.begun (b + 1) q.run (runs.given ++ xs) (length ys) legal gives.decoded wanted bound in
     let exact : cut_to s (Some (length ys)) 0 (runs.given ++ xs) ≡ ys = exactly asked in
     let used : length front + 0 ≡ rep.bits = omega (arith, taken) in
-    let decoded : Decoded s (bits_of read.bytes) (Some (length ys)) ys Reached rep.bits = subst (λ (n : ℕ). Decoded s (bits_of read.bytes) (Some (length ys)) ys Reached n) used (subst (λ (l : List ℤ). Decoded s (bits_of read.bytes) (Some (length ys)) l Reached (length front + 0)) exact
+    let decoded : Decoded s (bits_of read.bytes) (Some (length ys)) ys Reached rep.bits = subst
+    (λ (n : ℕ). Decoded s (bits_of read.bytes) (Some (length ys)) ys Reached n) used
+    (subst (λ (l : List ℤ). Decoded s (bits_of read.bytes) (Some (length ys)) l Reached (length front + 0)) exact
     (subst (λ (l : List Bool). Decoded s l (Some (length ys)) (cut_to s (Some (length ys)) 0 (runs.given ++ xs)) Reached (length front + 0)) (sym read.bits) here)) in
-    let all_of : spellings s ys ≡ spellings s (cut_to s asked 0 runs.given) ++ spellings s (take count xs) = ap (spellings s) cut ∙ spellings-append s (cut_to s asked 0 runs.given) (cut_to s asked b xs) ∙ ap (λ l. spellings s (cut_to s asked 0 runs.given) ++ spellings s l) (sym piece) in
+    let all_of : spellings s ys ≡ spellings s (cut_to s asked 0 runs.given) ++ spellings s (take count xs) = ap (spellings s) cut
+    ∙ spellings-append s (cut_to s asked 0 runs.given) (cut_to s asked b xs) ∙ ap (λ l. spellings s (cut_to s asked 0 runs.given) ++ spellings s l) (sym piece) in
     let between = part_between out_old out out_new (spellings s (cut_to s asked 0 runs.given)) (spellings s (take count xs)) (spellings s ys) so.put part all_of in
     let n : rep.samples ≡ length (cut_to s asked 0 runs.given) = tells.samples_are ∙ so.count in
     let before : take rep.samples ys ≡ cut_to s asked 0 runs.given = (λ i. take (n i) (cut i)) ∙ take-append_seam (cut_to s asked 0 runs.given) (cut_to s asked b xs) in
@@ -504,7 +549,8 @@ write_ends {s = s} {asked = asked} {out_old = out_old} {out = out} {out_new = ou
       refl,
     )
   where
-    counted : (w : ℕ) → w ≤ length xs → length (cut_to s asked runs.blocks xs) ≡ length (take w xs) → cut_to s asked 0 (runs.given ++ xs) ≡ cut_to s asked 0 runs.given ++ cut_to s asked runs.blocks xs → length (cut_to s asked 0 (runs.given ++ xs)) ≡ written + w
+    counted : (w : ℕ) → w ≤ length xs → length (cut_to s asked runs.blocks xs) ≡ length (take w xs)
+        → cut_to s asked 0 (runs.given ++ xs) ≡ cut_to s asked 0 runs.given ++ cut_to s asked runs.blocks xs → length (cut_to s asked 0 (runs.given ++ xs)) ≡ written + w
     counted w le part cut = omega (arith, runs.has_written.count, ap length cut, length-append (cut_to s asked 0 runs.given) (cut_to s asked runs.blocks xs), part, length-take-le w xs le)
 
     below : (m i b n k w : ℕ) → n ≡ k + w → k ≡ m * b → w ≢ 0 → i < b + 1 → m * i < n
@@ -519,10 +565,12 @@ write_ends {s = s} {asked = asked} {out_old = out_old} {out = out} {out_new = ou
 
     exactly : (asked : Option ℕ) → cut_to s (Some (length (cut_to s asked 0 (runs.given ++ xs)))) 0 (runs.given ++ xs) ≡ cut_to s asked 0 (runs.given ++ xs)
     exactly None = let n : length (runs.given ++ xs) - s.block * 0 ≡ length (runs.given ++ xs) = omega arith in ap (λ m. take m (runs.given ++ xs)) n ∙ take-length (runs.given ++ xs)
-    exactly (Some m) = let zs = runs.given ++ xs in let n : length (take (m - s.block * 0) zs) - s.block * 0 ≡ length (take (m - s.block * 0) zs) = omega arith in ap (λ m. take m zs) n ∙ take_same (m - s.block * 0) zs
+    exactly (Some m) = let zs = runs.given ++ xs in
+        let n : length (take (m - s.block * 0) zs) - s.block * 0 ≡ length (take (m - s.block * 0) zs) = omega arith in ap (λ m. take m zs) n ∙ take_same (m - s.block * 0) zs
 
 -- the decoder refuses
-pub refusal_ends : {I : Type 0} {s : Parameters} {asked : Option ℕ} {start : Reader I} {out_old out : Option Room} {p : DecoderState} {r new : Reader I} {steps steps_new written : ℕ} {rep : Report} {f : Option Fault} {left : Option (List ℕ)} {failed : ℕ} (fault : CodeFault) → IsLegal s
+pub refusal_ends : {I : Type 0} {s : Parameters} {asked : Option ℕ} {start : Reader I} {out_old out : Option Room} {p : DecoderState} {r new : Reader I}
+    {steps steps_new written : ℕ} {rep : Report} {f : Option Fault} {left : Option (List ℕ)} {failed : ℕ} (fault : CodeFault) → IsLegal s
     → (runs : DecodingProgress s asked start out_old out p r steps written) → wanted_of asked written s.block ≢ 0 → (p.run ≡ 0) × StopsBy (with_mark r) new steps steps_new s runs.blocks (Err fault)
     → AreCounted steps steps_new r.taken new.taken → Reports rep f left failed new written steps_new (Some (refusal_fault fault written s.block)) → Ends s asked start.left left out_old out rep f
 refusal_ends faults.CodeEnds legal runs some stops counted tells = ended_ends false runs some stops.0 stops.1 counted tells
@@ -534,7 +582,8 @@ refusal_ends faults.Read legal runs some stops counted tells = read_ends runs so
 refusal_ends faults.TooLong legal runs some stops counted tells = long_ends runs some stops.0 stops.1 counted tells
 
 -- a fault of the intake is its one failure
-stops_fail : {I : Type 0} (s : Parameters) (b : ℕ) (r new : Reader I) (steps steps_new n written block writes : ℕ) (fault : CodeFault) → StopsBy (with_mark r) new steps steps_new s b (Err fault) → r.failed ≡ n → Fails (Some (refusal_fault fault written block)) n new.failed writes writes
+stops_fail : {I : Type 0} (s : Parameters) (b : ℕ) (r new : Reader I) (steps steps_new n written block writes : ℕ) (fault : CodeFault)
+    → StopsBy (with_mark r) new steps steps_new s b (Err fault) → r.failed ≡ n → Fails (Some (refusal_fault fault written block)) n new.failed writes writes
 stops_fail s b r new steps steps_new n written block writes faults.CodeEnds stops e = (stops.cut.stops.refuses.2 ∙ e, refl)
 stops_fail s b r new steps steps_new n written block writes faults.RunPastSegment stops e = (stops.takes.failures ∙ e, refl)
 stops_fail s b r new steps steps_new n written block writes faults.ResidualTooLarge stops e = (stops.takes.failures ∙ e, refl)
@@ -542,20 +591,23 @@ stops_fail s b r new steps steps_new n written block writes faults.Read stops e 
 stops_fail s b r new steps steps_new n written block writes faults.TooLong stops e = (stops.stops.refuses.1 ∙ e, refl)
 
 -- the failures where decoding ends with this fault
-reported_fails : {f fault : Option Fault} {reads_now failed writes writes_new : ℕ} (reads : ℕ) → f ≡ fault → failed ≡ reads_now → writes_new ≡ writes → Fails fault reads reads_now writes writes → Fails f reads failed writes writes_new
+reported_fails : {f fault : Option Fault} {reads_now failed writes writes_new : ℕ} (reads : ℕ) → f ≡ fault → failed ≡ reads_now → writes_new ≡ writes
+    → Fails fault reads reads_now writes writes → Fails f reads failed writes writes_new
 reported_fails {f = f} {fault = fault} {reads_now = reads_now} {failed = failed} {writes = writes} {writes_new = writes_new} reads is there same fails =
     subst (λ (f : Option Fault). Fails f reads failed writes writes_new) (sym is)
     (subst (λ (n : ℕ). Fails fault reads n writes writes_new) (sym there) (subst (λ (n : ℕ). Fails fault reads reads_now writes n) (sym same) fails))
 
 -- a refusal counts as a failure where the intake failed, and nowhere else
-pub refusal_fails : {I : Type 0} {s : Parameters} {asked : Option ℕ} {start : Reader I} {out_old out : Option Room} {p : DecoderState} {r new : Reader I} {steps steps_new written writes writes_new : ℕ} {rep : Report} {f : Option Fault} {left : Option (List ℕ)} {failed : ℕ} (fault : CodeFault)
+pub refusal_fails : {I : Type 0} {s : Parameters} {asked : Option ℕ} {start : Reader I} {out_old out : Option Room} {p : DecoderState} {r new : Reader I}
+    {steps steps_new written writes writes_new : ℕ} {rep : Report} {f : Option Fault} {left : Option (List ℕ)} {failed : ℕ} (fault : CodeFault)
     → (runs : DecodingProgress s asked start out_old out p r steps written) → (p.run ≡ 0) × StopsBy (with_mark r) new steps steps_new s runs.blocks (Err fault) → writes_new ≡ writes
     → Reports rep f left failed new written steps_new (Some (refusal_fault fault written s.block)) → Fails f start.failed failed writes writes_new
 refusal_fails {s = s} {r = r} {new = new} {written = written} {writes = writes} fault runs stops same tells =
     reported_fails _ tells.fault_is tells.failed_is same (stops_fail s runs.blocks r new _ _ _ written s.block writes fault stops.1 runs.reads)
 
 -- an end without a fault counts as none
-pub done_fails : {I : Type 0} {s : Parameters} {asked : Option ℕ} {start : Reader I} {out_old out : Option Room} {p : DecoderState} {r new : Reader I} {steps steps_new written writes writes_new : ℕ} {rep : Report} {f : Option Fault} {left : Option (List ℕ)} {failed : ℕ}
+pub done_fails : {I : Type 0} {s : Parameters} {asked : Option ℕ} {start : Reader I} {out_old out : Option Room} {p : DecoderState} {r new : Reader I}
+    {steps steps_new written writes writes_new : ℕ} {rep : Report} {f : Option Fault} {left : Option (List ℕ)} {failed : ℕ}
     → (runs : DecodingProgress s asked start out_old out p r steps written) → (p.run ≡ 0) × SetEnds (with_mark r) new steps steps_new s runs.blocks true → writes_new ≡ writes
     → Reports rep f left failed new written steps_new (ended_fault asked written) → Fails f start.failed failed writes writes_new
 done_fails {asked = asked} {start = start} {new = new} {written = written} {writes = writes} runs ends same tells =
@@ -566,8 +618,10 @@ done_fails {asked = asked} {start = start} {new = new} {written = written} {writ
     by_count (Some n) e = (e, refl)
 
 -- nothing is decoded yet
-pub progress_at_start : {I : Type 0} {s : Parameters} {intake : I} {left : Option (List ℕ)} {failed : ℕ} {p : DecoderState} {r : Reader I} {steps : ℕ} (asked : Option ℕ) (out : Option Room) → IsLegal s
-    → p ≡ record { setting = s; block = 0; before = pos 0; run = 0; stopped = None } → r ≡ new_reader intake left failed → steps ≡ 0 → DecodingProgress s asked (new_reader intake left failed) out out p r steps 0
+pub progress_at_start : {I : Type 0} {s : Parameters} {intake : I} {left : Option (List ℕ)} {failed : ℕ} {p : DecoderState} {r : Reader I} {steps : ℕ}
+    (asked : Option ℕ) (out : Option Room) → IsLegal s
+    → p ≡ record { setting = s; block = 0; before = pos 0; run = 0; stopped = None } → r ≡ new_reader intake left failed → steps ≡ 0
+    → DecodingProgress s asked (new_reader intake left failed) out out p r steps 0
 progress_at_start {I = I} {s = s} {intake = intake} {left = left} {failed = failed} {p = p} {steps = steps} asked out legal ep er es =
     let run = ap (λ p. p.run) ep in
     let start = new_reader intake left failed in

@@ -66,7 +66,8 @@ given_ahead s bytes rest xs samples split few e =
     at w n k b m e h few = let p = ap (λ v. v * w) h in omega arith
 
 -- the intake failed
-pub read_ends : {N : ℕ} (s : Parameters) (left_old left mid : Option (List ℕ)) (taken_old taken : Option Room) (e : Encoding N) (given waiting : ℕ) (buffer : List ℕ) (r : Report) (f : Option Fault) → EncodingProgress s left_old mid taken_old taken e given waiting buffer →
+pub read_ends : {N : ℕ} (s : Parameters) (left_old left mid : Option (List ℕ)) (taken_old taken : Option Room) (e : Encoding N) (given waiting : ℕ)
+    (buffer : List ℕ) (r : Report) (f : Option Fault) → EncodingProgress s left_old mid taken_old taken e given waiting buffer →
     Keeps mid left → ((xs : List ℤ) → CountsSamples s e xs → ReportsTaken s r xs) → length (take waiting buffer) < width s → width s ≤ 4 → f ≡ Some Read →
     (c : Call) × Happens left_old left taken_old taken c × Encodes s c r f
 read_ends s left_old left mid taken_old taken e given waiting buffer r f runs keeps told few narrow is =
@@ -85,8 +86,10 @@ read_ends s left_old left mid taken_old taken e given waiting buffer r f runs ke
     )
 
 -- the intake ended inside a sample
-pub cut_ends : {N : ℕ} (s : Parameters) (left_old left mid : Option (List ℕ)) (taken_old taken : Option Room) (e : Encoding N) (given waiting : ℕ) (buffer : List ℕ) (r : Report) (f : Option Fault) → EncodingProgress s left_old mid taken_old taken e given waiting buffer →
-    Consumes mid left [] → IsAtEnd left → ((xs : List ℤ) → CountsSamples s e xs → ReportsTaken s r xs) → length (take waiting buffer) < width s → width s ≤ 4 → take waiting buffer ≢ [] → f ≡ Some (SampleCut e.samples) →
+pub cut_ends : {N : ℕ} (s : Parameters) (left_old left mid : Option (List ℕ)) (taken_old taken : Option Room) (e : Encoding N) (given waiting : ℕ)
+    (buffer : List ℕ) (r : Report) (f : Option Fault) → EncodingProgress s left_old mid taken_old taken e given waiting buffer →
+    Consumes mid left [] → IsAtEnd left → ((xs : List ℤ) → CountsSamples s e xs → ReportsTaken s r xs) → length (take waiting buffer) < width s → width s ≤ 4
+    → take waiting buffer ≢ [] → f ≡ Some (SampleCut e.samples) →
     (c : Call) × Happens left_old left taken_old taken c × Encodes s c r f
 cut_ends s left_old left mid taken_old taken e given waiting buffer r f runs gave end told few narrow some is =
     let xs = runs.samples in
@@ -106,8 +109,10 @@ cut_ends s left_old left mid taken_old taken e given waiting buffer r f runs gav
     )
 
 -- the intake gave a byte past the limit
-pub long_ends : {N : ℕ} (s : Parameters) (left_old left mid : Option (List ℕ)) (taken_old taken : Option Room) (e : Encoding N) (given waiting : ℕ) (buffer : List ℕ) (r : Report) (f : Option Fault) (more : List ℕ) → EncodingProgress s left_old mid taken_old taken e given waiting buffer →
-    Consumes mid left more → length more ≡ 1 → 281474976710656 ≤ given → ((xs : List ℤ) → CountsSamples s e xs → ReportsTaken s r xs) → length (take waiting buffer) < width s → width s ≤ 4 → f ≡ Some TooLong →
+pub long_ends : {N : ℕ} (s : Parameters) (left_old left mid : Option (List ℕ)) (taken_old taken : Option Room) (e : Encoding N) (given waiting : ℕ)
+    (buffer : List ℕ) (r : Report) (f : Option Fault) (more : List ℕ) → EncodingProgress s left_old mid taken_old taken e given waiting buffer →
+    Consumes mid left more → length more ≡ 1 → 281474976710656 ≤ given → ((xs : List ℤ) → CountsSamples s e xs → ReportsTaken s r xs)
+    → length (take waiting buffer) < width s → width s ≤ 4 → f ≡ Some TooLong →
     (c : Call) × Happens left_old left taken_old taken c × Encodes s c r f
 long_ends s left_old left mid taken_old taken e given waiting buffer r f more runs gave one full told few narrow is =
     let xs = runs.samples in
@@ -134,7 +139,8 @@ long_ends s left_old left mid taken_old taken e given waiting buffer r f more ru
     single (x ∷ y ∷ l) e = absurd (omega arith)
 
 -- all samples were given, and their code is written or not
-pub finish_ends : {N : ℕ} (s : Parameters) (left_old left mid : Option (List ℕ)) (taken_old taken new : Option Room) (e : Encoding N) (given waiting : ℕ) (buffer : List ℕ) (r : Report) (f : Option Fault) → (runs : EncodingProgress s left_old mid taken_old taken e given waiting buffer) →
+pub finish_ends : {N : ℕ} (s : Parameters) (left_old left mid : Option (List ℕ)) (taken_old taken new : Option Room) (e : Encoding N) (given waiting : ℕ)
+    (buffer : List ℕ) (r : Report) (f : Option Fault) → (runs : EncodingProgress s left_old mid taken_old taken e given waiting buffer) →
     Consumes mid left [] → IsAtEnd left → 1 ≤ width s → take waiting buffer ≡ [] → ReportsAll s r runs.samples → WritesRest s (afresh taken_old) new runs.samples f →
     (c : Call) × Happens left_old left taken_old new c × Encodes s c r f
 finish_ends s left_old left mid taken_old taken new e given waiting buffer r f runs gave end some none closes finishes = by_fault f finishes
@@ -187,8 +193,10 @@ finish_ends s left_old left mid taken_old taken new e given waiting buffer r f r
     by_fault (Some (ResidualTooLarge block)) bad = absurd bad
 
 -- the samples of the bytes in hand are taken, as far as that goes
-pub push_ends : {N : ℕ} (s : Parameters) (left_old left : Option (List ℕ)) (taken_old taken : Option Room) (e : Encoding N) (r : Report) (f : Fault) (g : Option Fault) (xs : List ℤ) (given bytes : List ℕ) → given ≡ spellings s xs ++ bytes → All (IsSample s) xs →
-    Consumes left_old left given → length given ≤ 281474976710656 → length bytes ≤ 4096 → 1 ≤ width s → ((ys : List ℤ) → CountsSamples s e ys → ReportsTaken s r ys) → g ≡ Some f → Pushes {T = Unit {0}} s (afresh taken_old) taken e xs bytes (Err f) →
+pub push_ends : {N : ℕ} (s : Parameters) (left_old left : Option (List ℕ)) (taken_old taken : Option Room) (e : Encoding N) (r : Report) (f : Fault)
+    (g : Option Fault) (xs : List ℤ) (given bytes : List ℕ) → given ≡ spellings s xs ++ bytes → All (IsSample s) xs →
+    Consumes left_old left given → length given ≤ 281474976710656 → length bytes ≤ 4096 → 1 ≤ width s
+    → ((ys : List ℤ) → CountsSamples s e ys → ReportsTaken s r ys) → g ≡ Some f → Pushes {T = Unit {0}} s (afresh taken_old) taken e xs bytes (Err f) →
     (c : Call) × Happens left_old left taken_old taken c × Encodes s c r g
 push_ends s left_old left taken_old taken e r f g xs given bytes split legal gave limit few some told is pushes =
     let result = by_fault f pushes in
@@ -205,7 +213,8 @@ push_ends s left_old left taken_old taken e r f g xs given bytes split legal gav
     out_of_range index m same =
         let ys = xs ++ m.more in
         let t = told ys m.holds.counts in
-        let spells : Spells s given ys NoSpelling = record { rest = m.rest; whole = joined m.more m.rest m.reads.split; legal = All-append (IsSample s) xs m.more legal m.reads.legal; stops = m.none } in (
+        let spells : Spells s given ys NoSpelling =
+        record { rest = m.rest; whole = joined m.more m.rest m.reads.split; legal = All-append (IsSample s) xs m.more legal m.reads.legal; stops = m.none } in (
           record { given = given; left = left; written = early_output s ys },
           record { gave = gave; left = refl; took = Follows-all taken_old taken _ m.holds.took },
           record {
@@ -263,7 +272,8 @@ push_ends s left_old left taken_old taken e r f g xs given bytes split legal gav
     by_fault (ResidualTooLarge block) bad = absurd bad
 
 -- and the failures then
-pub push_fails : {N : ℕ} (s : Parameters) (old : Beginning) (taken : Option Room) (e : Encoding N) (xs : List ℤ) (bytes : List ℕ) (f : Fault) (g : Option Fault) (reads reads_new writes mid writes_new : ℕ) → reads_new ≡ reads → mid ≡ writes →
+pub push_fails : {N : ℕ} (s : Parameters) (old : Beginning) (taken : Option Room) (e : Encoding N) (xs : List ℤ) (bytes : List ℕ) (f : Fault) (g : Option Fault)
+    (reads reads_new writes mid writes_new : ℕ) → reads_new ≡ reads → mid ≡ writes →
     Pushes {T = Unit {0}} s old taken e xs bytes (Err f) → PushFails {T = Unit {0}} mid writes_new (Err f) → g ≡ Some f → Fails g reads reads_new writes writes_new
 push_fails s old taken e xs bytes f g reads reads_new writes mid writes_new same before pushes fails is =
     let result = by_fault f pushes fails in
@@ -280,19 +290,24 @@ push_fails s old taken e xs bytes f g reads reads_new writes mid writes_new same
     by_fault (ResidualTooLarge block) bad k = absurd bad
 
 -- the bytes in hand: those that waited, and those that were given
-pub in_hand : {N : ℕ} (s : Parameters) (left_old left mid : Option (List ℕ)) (taken_old taken : Option Room) (e : Encoding N) (given waiting count : ℕ) (buffer full : List ℕ) → (runs : EncodingProgress s left_old mid taken_old taken e given waiting buffer) → (more : Refills mid left buffer full waiting count) →
+pub in_hand : {N : ℕ} (s : Parameters) (left_old left mid : Option (List ℕ)) (taken_old taken : Option Room) (e : Encoding N) (given waiting count : ℕ)
+    (buffer full : List ℕ) → (runs : EncodingProgress s left_old mid taken_old taken e given waiting buffer) → (more : Refills mid left buffer full waiting count) →
     runs.bytes ++ more.given ≡ spellings s runs.samples ++ take (waiting + count) full
 in_hand s left_old left mid taken_old taken e given waiting count buffer full runs more =
     ap (λ l. l ++ more.given) runs.reads.split ∙ append_assoc (spellings s runs.samples) (take waiting buffer) more.given ∙ ap (λ l. spellings s runs.samples ++ l) (sym more.front)
 
 -- the samples of what was read are taken, and encoding goes on
-pub runs_on : {N : ℕ} (s : Parameters) (left_old left mid : Option (List ℕ)) (taken_old taken new : Option Room) (e f : Encoding N) (given waiting count w rest : ℕ) (buffer full last : List ℕ) → (runs : EncodingProgress s left_old mid taken_old taken e given waiting buffer) → Refills mid left buffer full waiting count →
-    TakesAll s (afresh taken_old) new f runs.samples (take (waiting + count) full) → w ≡ width s → waiting ≤ length buffer → rest ≡ (waiting + count) % w → take rest last ≡ drop (waiting + count - rest) (take (waiting + count) full) → given + count ≤ 281474976710656 →
+pub runs_on : {N : ℕ} (s : Parameters) (left_old left mid : Option (List ℕ)) (taken_old taken new : Option Room) (e f : Encoding N)
+    (given waiting count w rest : ℕ) (buffer full last : List ℕ) → (runs : EncodingProgress s left_old mid taken_old taken e given waiting buffer)
+    → Refills mid left buffer full waiting count →
+    TakesAll s (afresh taken_old) new f runs.samples (take (waiting + count) full) → w ≡ width s → waiting ≤ length buffer → rest ≡ (waiting + count) % w
+    → take rest last ≡ drop (waiting + count - rest) (take (waiting + count) full) → given + count ≤ 281474976710656 →
     EncodingProgress s left_old left taken_old new f (given + count) rest last
 runs_on s left_old left mid taken_old taken new e f given waiting count w rest buffer full last runs more t ew within er el limit =
     let hand = take (waiting + count) full in
     let size : length hand ≡ waiting + count = ap length more.front ∙ length-append (take waiting buffer) more.given ∙ (λ i. length-take-le waiting buffer within i + more.length_is i) in
-    let parts : waiting + count ≡ width s * length t.more + length t.rest = sym size ∙ ap length t.reads.split ∙ length-append (spellings s t.more) t.rest ∙ ap (λ n. n + length t.rest) (length-spellings s t.more) in
+    let parts : waiting + count ≡ width s * length t.more + length t.rest = sym size ∙ ap length t.reads.split ∙ length-append (spellings s t.more) t.rest
+    ∙ ap (λ n. n + length t.rest) (length-spellings s t.more) in
     let tail : rest ≡ length t.rest = er ∙ (λ i. parts i % ew i) ∙ mul-add-mod_self_left (width s) (length t.more) (length t.rest) ∙ mod-eq_of_lt t.few in
     let front : waiting + count - rest ≡ length (spellings s t.more) = behind (waiting + count) (width s * length t.more) (length t.rest) rest parts tail ∙ sym (length-spellings s t.more) in
     let left_is : take rest last ≡ t.rest = el ∙ (λ i. drop (front i) (t.reads.split i)) ∙ drop-append_seam (spellings s t.more) t.rest in
@@ -315,7 +330,9 @@ runs_on s left_old left mid taken_old taken new e f given waiting count w rest b
     behind n a b r e h = omega arith
 
 -- how many samples were taken
-pub runs_count : {N : ℕ} (s : Parameters) (left_old left : Option (List ℕ)) (taken_old taken : Option Room) (e : Encoding N) (given waiting : ℕ) (buffer : List ℕ) → (runs : EncodingProgress s left_old left taken_old taken e given waiting buffer) → 1 ≤ width s → waiting ≤ length buffer → length runs.samples + waiting ≤ given
+pub runs_count : {N : ℕ} (s : Parameters) (left_old left : Option (List ℕ)) (taken_old taken : Option Room) (e : Encoding N) (given waiting : ℕ)
+    (buffer : List ℕ) → (runs : EncodingProgress s left_old left taken_old taken e given waiting buffer) → 1 ≤ width s → waiting ≤ length buffer
+    → length runs.samples + waiting ≤ given
 runs_count s left_old left taken_old taken e given waiting buffer runs some within =
     at (width s) (length runs.samples) waiting given
     (runs.count ∙ ap length runs.reads.split ∙ length-append (spellings s runs.samples) (take waiting buffer) ∙ (λ i. length-spellings s runs.samples i + length-take-le waiting buffer within i)) some
@@ -324,7 +341,8 @@ runs_count s left_old left taken_old taken e given waiting buffer runs some with
     at w n k m e h = let p = mul-le-mul_right n h in omega arith
 
 -- the report's bounds where taking the bytes in hand stops
-pub push_within : {N : ℕ} (s : Parameters) (old : Beginning) (taken : Option Room) (e : Encoding N) (r : Report) (f : Fault) (xs : List ℤ) (bytes : List ℕ) → ((ys : List ℤ) → CountsSamples s e ys → ReportsTaken s r ys) → Pushes {T = Unit {0}} s old taken e xs bytes (Err f) → EncodesWithin s r
+pub push_within : {N : ℕ} (s : Parameters) (old : Beginning) (taken : Option Room) (e : Encoding N) (r : Report) (f : Fault) (xs : List ℤ) (bytes : List ℕ)
+    → ((ys : List ℤ) → CountsSamples s e ys → ReportsTaken s r ys) → Pushes {T = Unit {0}} s old taken e xs bytes (Err f) → EncodesWithin s r
 push_within s old taken e r (SampleOutOfRange index) xs bytes told m = let k = m.0.holds.counts in within_early s r (xs ++ m.0.more) (settled_by s e (xs ++ m.0.more) k) (told (xs ++ m.0.more) k)
 push_within s old taken e r Write xs bytes told m = let ys = (xs ++ m.more) ++ m.last ∷ [] in let k = m.fails.counts in within_early s r ys (settled_by s e ys k) (told ys k)
 push_within s old taken e r Read xs bytes told bad = absurd bad

@@ -52,7 +52,8 @@ pub settled_by : {N : ℕ} (s : Parameters) (e : Encoding N) (xs : List ℤ) →
 settled_by s e xs c = taken_settles s e.coder xs c.setting c.stands
 
 -- bits and steps are far below what a number holds
-pub counts_small : {N : ℕ} (s : Parameters) (e : Encoding N) (xs : List ℤ) → CountsSamples s e xs → (e.bits ≤ 73 * length xs + 4700) × (e.meter ≤ 73 * length xs + 4700) × (segment_steps e.coder.setting ≤ 274752)
+pub counts_small : {N : ℕ} (s : Parameters) (e : Encoding N) (xs : List ℤ) → CountsSamples s e xs → (e.bits ≤ 73 * length xs + 4700)
+    × (e.meter ≤ 73 * length xs + 4700) × (segment_steps e.coder.setting ≤ 274752)
 counts_small s e xs c =
     let h = settled_by s e xs c in
     let b = early_bounded s xs h in
@@ -69,7 +70,8 @@ pub all_small : (s : Parameters) (coder : CoderState) (xs : List ℤ) → coder.
 all_small s coder xs e h = let k = taken_settles s coder xs e h in few_bits s (length xs) _ _ k.setting (all_bounded s xs k) (omega arith)
 
 -- what the sink holds goes on from the bytes that are whole
-pub sink_goes_on : {N : ℕ} (s : Parameters) (old : Beginning) (now : Option Room) (e : Encoding N) (xs : List ℤ) → IsEncodingOf s old now e xs → whole_part (complete_code s xs) ++ e.sink ≡ complete_code s xs
+pub sink_goes_on : {N : ℕ} (s : Parameters) (old : Beginning) (now : Option Room) (e : Encoding N) (xs : List ℤ) → IsEncodingOf s old now e xs
+    → whole_part (complete_code s xs) ++ e.sink ≡ complete_code s xs
 sink_goes_on s old now e xs h = ap (λ l. whole_part (complete_code s xs) ++ l) h.sink ∙ take-append-drop (bits_in_bytes (length (complete_code s xs))) (complete_code s xs)
 
 -- less than a byte waits in the sink
@@ -85,7 +87,8 @@ sink_place s old now e xs h pads =
 
 -- samples are taken
 pub taken_on : {N : ℕ} (s : Parameters) (old : Beginning) (now : Option Room) (e f : Encoding N) (xs ys : List ℤ) (n : ℕ) → IsEncodingOf s old now e xs →
-    PushesSamples e.coder f.coder ys e.sink f.sink n e.meter f.meter → f.bits ≡ e.bits + n → f.samples ≡ e.samples + length ys → ((m : ℕ) → m < length ys → CompletesNone e.coder (take m ys)) → TakesSamples s f xs ys
+    PushesSamples e.coder f.coder ys e.sink f.sink n e.meter f.meter → f.bits ≡ e.bits + n → f.samples ≡ e.samples + length ys
+    → ((m : ℕ) → m < length ys → CompletesNone e.coder (take m ys)) → TakesSamples s f xs ys
 taken_on s old now e f xs ys n h pushes bits samples before =
     let stands = h.counts.stands in
     let adds : AddsCode s (complete_samples s xs) (complete_samples s (xs ++ ys)) e.sink f.sink n (length ys) e.meter f.meter =
@@ -107,7 +110,8 @@ taken_on s old now e f xs ys n h pushes bits samples before =
     }
 
 -- nothing is whole
-pub none_whole : {N : ℕ} (s : Parameters) (old : Beginning) (now : Option Room) (e f : Encoding N) (xs ys : List ℤ) → IsEncodingOf s old now e xs → CountsSamples s f (xs ++ ys) → complete_code s (xs ++ ys) ≡ whole_part (complete_code s xs) ++ f.sink →
+pub none_whole : {N : ℕ} (s : Parameters) (old : Beginning) (now : Option Room) (e f : Encoding N) (xs ys : List ℤ) → IsEncodingOf s old now e xs
+    → CountsSamples s f (xs ++ ys) → complete_code s (xs ++ ys) ≡ whole_part (complete_code s xs) ++ f.sink →
     length f.sink < 8 → IsEncodingOf s old now f (xs ++ ys)
 none_whole s old now e f xs ys h c same few =
     let a = complete_code s xs in
@@ -121,7 +125,8 @@ none_whole s old now e f xs ys h c same few =
     }
 
 -- the whole bytes are written
-pub all_written : {N : ℕ} (s : Parameters) (old : Beginning) (now new : Option Room) (e f g : Encoding N) (xs ys : List ℤ) → IsEncodingOf s old now e xs → CountsSamples s f (xs ++ ys) → complete_code s (xs ++ ys) ≡ whole_part (complete_code s xs) ++ f.sink →
+pub all_written : {N : ℕ} (s : Parameters) (old : Beginning) (now new : Option Room) (e f g : Encoding N) (xs ys : List ℤ) → IsEncodingOf s old now e xs
+    → CountsSamples s f (xs ++ ys) → complete_code s (xs ++ ys) ≡ whole_part (complete_code s xs) ++ f.sink →
     Appends now new (whole_bytes f.sink) → g.sink ≡ drop (bits_in_bytes (length f.sink)) f.sink → CountsSamples s g (xs ++ ys) → IsEncodingOf s old new g (xs ++ ys)
 all_written s old now new e f g xs ys h c same took rest d =
     let a = complete_code s xs in
@@ -172,7 +177,9 @@ parts_of (y ∷ []) h = record { before = []; last = y; split = refl }
 parts_of (y ∷ z ∷ ys) h = let p = parts_of (z ∷ ys) (omega arith) in record { before = y ∷ p.before; last = p.last; split = ap (λ l. y ∷ l) p.split }
 
 -- not all that the samples complete was written
-pub fails_in : {N : ℕ} (s : Parameters) (old : Beginning) (now new : Option Room) (e f g : Encoding N) (xs samples : List ℤ) (n : ℕ) → IsEncodingOf s old now e xs → TakesSamples s f xs (take n samples) → 0 < n → n ≤ length samples → TakesPart now new (whole_bytes f.sink) → CountsSamples s g (xs ++ take n samples) → FailsIn s old new g xs samples
+pub fails_in : {N : ℕ} (s : Parameters) (old : Beginning) (now new : Option Room) (e f g : Encoding N) (xs samples : List ℤ) (n : ℕ)
+    → IsEncodingOf s old now e xs → TakesSamples s f xs (take n samples) → 0 < n → n ≤ length samples → TakesPart now new (whole_bytes f.sink)
+    → CountsSamples s g (xs ++ take n samples) → FailsIn s old new g xs samples
 fails_in s old now new e f g xs samples n h takes some within part counts =
     let ys = take n samples in
     let len = length-take-le n samples within in
@@ -182,7 +189,8 @@ fails_in s old now new e f g xs samples n h takes some within part counts =
     let all : xs ++ ys ≡ (xs ++ p.before) ++ p.last ∷ [] = ap (λ l. xs ++ l) p.split ∙ sym (append_assoc xs p.before (p.last ∷ [])) in
     let before : early_output s (xs ++ p.before) ≡ early_output s xs =
     ap (λ l. early_output s (xs ++ l)) (sym front) ∙ ap (λ l. whole_bytes (code s l)) (takes.before_last (length p.before) (omega (arith, size))) in
-    let between = part_follows old now new (early_output s xs) (whole_bytes f.sink) (early_output s (xs ++ ys)) h.took part (more_bytes (complete_code s xs) (complete_code s (xs ++ ys)) f.sink (sym takes.code_is)) in
+    let between = part_follows old now new (early_output s xs) (whole_bytes f.sink) (early_output s (xs ++ ys)) h.took part
+    (more_bytes (complete_code s xs) (complete_code s (xs ++ ys)) f.sink (sym takes.code_is)) in
     record {
       before = p.before;
       last = p.last;
@@ -190,12 +198,14 @@ fails_in s old now new e f g xs samples n h takes some within part counts =
       split = sym (take-append-drop n samples) ∙ ap (λ l. l ++ drop n samples) p.split ∙ append_assoc p.before (p.last ∷ []) (drop n samples);
       fails = record {
         counts = subst (CountsSamples s g) all counts;
-        takes = subst (λ (l : List ℕ). FollowsBetween old new l (early_output s ((xs ++ p.before) ++ p.last ∷ []))) (sym before) (subst (λ (l : List ℤ). FollowsBetween old new (early_output s xs) (early_output s l)) all between);
+        takes = subst (λ (l : List ℕ). FollowsBetween old new l (early_output s ((xs ++ p.before) ++ p.last ∷ []))) (sym before)
+            (subst (λ (l : List ℤ). FollowsBetween old new (early_output s xs) (early_output s l)) all between);
       };
     }
 
 -- the samples before some others were taken
-pub fails_later : {N : ℕ} (s : Parameters) (old : Beginning) (new : Option Room) (e : Encoding N) (xs samples : List ℤ) (at : ℕ) → FailsIn s old new e (xs ++ take at samples) (drop at samples) → FailsIn s old new e xs samples
+pub fails_later : {N : ℕ} (s : Parameters) (old : Beginning) (new : Option Room) (e : Encoding N) (xs samples : List ℤ) (at : ℕ)
+    → FailsIn s old new e (xs ++ take at samples) (drop at samples) → FailsIn s old new e xs samples
 fails_later s old new e xs samples at f = record {
   before = take at samples ++ f.before;
   last = f.last;
@@ -233,10 +243,12 @@ sets_nothing s j =
 
 -- the end of the samples
 pub samples_end : {N : ℕ} (s : Parameters) (old : Beginning) (now : Option Room) (e : Encoding N) (r : Report) (sink end : List Bool) (xs : List ℤ) (n : ℕ) → IsEncodingOf s old now e xs →
-    AddsCode e.coder.setting (complete_samples e.coder.setting xs) xs e.sink sink n (fill_count_of e.coder.setting xs) e.meter r.steps → r.bits ≡ e.bits + n → r.samples ≡ e.samples → end ≡ sink ++ replicate (bits_to_byte (length sink)) false →
+    AddsCode e.coder.setting (complete_samples e.coder.setting xs) xs e.sink sink n (fill_count_of e.coder.setting xs) e.meter r.steps → r.bits ≡ e.bits + n
+    → r.samples ≡ e.samples → end ≡ sink ++ replicate (bits_to_byte (length sink)) false →
     ReportsAll s r xs × (padded_bits (code s xs) ≡ whole_part (complete_code s xs) ++ end)
 samples_end s old now e r sink end xs n h finishes bits samples fill =
-    let t : AddsCode s (complete_samples s xs) xs e.sink sink n (fill_count_of s xs) e.meter r.steps = subst (λ (t : Parameters). AddsCode t (complete_samples t xs) xs e.sink sink n (fill_count_of t xs) e.meter r.steps) h.counts.setting finishes in
+    let t : AddsCode s (complete_samples s xs) xs e.sink sink n (fill_count_of s xs) e.meter r.steps = subst
+    (λ (t : Parameters). AddsCode t (complete_samples t xs) xs e.sink sink n (fill_count_of t xs) e.meter r.steps) h.counts.setting finishes in
     let k = t.code_is (sink_place s old now e xs h) in
     let part = whole_part (complete_code s xs) in
     let all : part ++ sink ≡ code s xs = ap (λ l. part ++ l) k.appended ∙ sym (append_assoc part e.sink k.bits) ∙ ap (λ l. l ++ k.bits) (sink_goes_on s old now e xs h) ∙ sym k.completes in
@@ -252,7 +264,8 @@ samples_end s old now e r sink end xs n h finishes bits samples fill =
     )
 
 -- the bytes of the first of some samples
-pub first_of : (s : Parameters) (bytes : List ℕ) (count n : ℕ) (ys : List ℤ) → n ≤ count → take (width s * n) (take (width s * count) bytes) ≡ spellings s ys → All (IsSample s) ys → Reads s bytes ys (drop (width s * n) bytes)
+pub first_of : (s : Parameters) (bytes : List ℕ) (count n : ℕ) (ys : List ℤ) → n ≤ count → take (width s * n) (take (width s * count) bytes) ≡ spellings s ys
+    → All (IsSample s) ys → Reads s bytes ys (drop (width s * n) bytes)
 first_of s bytes count n ys le front legal =
     let w = width s in
     let more : w * n ≤ w * count = mul-le-mul_left w le in
@@ -260,21 +273,24 @@ first_of s bytes count n ys le front legal =
     record { split = sym (take-append-drop (w * n) bytes) ∙ ap (λ l. l ++ drop (w * n) bytes) (sym first ∙ front); legal = legal }
 
 -- what stands after them
-pub behind_them : (s : Parameters) (bytes : List ℕ) (count n : ℕ) → n < count → width s * count ≤ length bytes → (width s ≤ length (drop (width s * n) bytes)) × (take (width s) (drop (width s * n) (take (width s * count) bytes)) ≡ take (width s) (drop (width s * n) bytes))
+pub behind_them : (s : Parameters) (bytes : List ℕ) (count n : ℕ) → n < count → width s * count ≤ length bytes → (width s ≤ length (drop (width s * n) bytes))
+    × (take (width s) (drop (width s * n) (take (width s * count) bytes)) ≡ take (width s) (drop (width s * n) bytes))
 behind_them s bytes count n lt within =
     let w = width s in
     let more : w * (n + 1) ≤ w * count = mul-le-mul_left w (omega arith) in
     let same : w * n + (w + (w * count - w * n - w)) ≡ w * count = omega arith in
     let len = length-drop (w * n) bytes in (
       omega (arith, len, more, within),
-      ap (λ m. take w (drop (w * n) (take m bytes))) (sym same) ∙ ap (take w) (drop-take (w * n) (w + (w * count - w * n - w)) bytes) ∙ take-take w (w + (w * count - w * n - w)) (drop (w * n) bytes) (omega arith),
+      ap (λ m. take w (drop (w * n) (take m bytes))) (sym same) ∙ ap (take w) (drop-take (w * n) (w + (w * count - w * n - w)) bytes)
+          ∙ take-take w (w + (w * count - w * n - w)) (drop (w * n) bytes) (omega arith),
     )
 
 All-front : {X : Type 0} (P : X → Type 0) (xs ys : List X) → All P (xs ++ ys) → All P xs
 All-front P xs ys h = subst (All P) (take-append_seam xs ys) (All-take P (length xs) (xs ++ ys) h)
 
 -- of samples that the bytes spell one is the last that was taken
-pub fails_among : {N : ℕ} (s : Parameters) (old : Beginning) (new : Option Room) (e : Encoding N) (xs ys : List ℤ) (bytes rest : List ℕ) → Reads s bytes ys rest → FailsIn s old new e xs ys → MeetsFailure s old new e xs bytes
+pub fails_among : {N : ℕ} (s : Parameters) (old : Beginning) (new : Option Room) (e : Encoding N) (xs ys : List ℤ) (bytes rest : List ℕ) → Reads s bytes ys rest
+    → FailsIn s old new e xs ys → MeetsFailure s old new e xs bytes
 fails_among s old new e xs ys bytes rest reads f =
     let parts : ys ≡ (f.before ++ f.last ∷ []) ++ f.behind = f.split ∙ sym (append_assoc f.before (f.last ∷ []) f.behind) in
     record {
@@ -282,7 +298,8 @@ fails_among s old new e xs ys bytes rest reads f =
       last = f.last;
       rest = spellings s f.behind ++ rest;
       reads = record {
-        split = reads.split ∙ ap (λ l. spellings s l ++ rest) parts ∙ ap (λ l. l ++ rest) (spellings-append s (f.before ++ f.last ∷ []) f.behind) ∙ append_assoc (spellings s (f.before ++ f.last ∷ [])) (spellings s f.behind) rest;
+        split = reads.split ∙ ap (λ l. spellings s l ++ rest) parts ∙ ap (λ l. l ++ rest) (spellings-append s (f.before ++ f.last ∷ []) f.behind)
+            ∙ append_assoc (spellings s (f.before ++ f.last ∷ [])) (spellings s f.behind) rest;
         legal = All-front (IsSample s) (f.before ++ f.last ∷ []) f.behind (subst (All (IsSample s)) parts reads.legal);
       };
       fails = f.fails;

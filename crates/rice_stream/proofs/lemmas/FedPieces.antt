@@ -54,7 +54,8 @@ same_samples s (x ∷ xs) [] legal kx ky e = absurd (let some : 1 ≤ width s = 
 same_samples s (x ∷ xs) (y ∷ ys) legal kx ky e =
     let w = width s in
     let first : spelling s x ≡ spelling s y = sym (take_at (spelling s x) (spellings s xs) w (length-spelling s x)) ∙ ap (take w) e ∙ take_at (spelling s y) (spellings s ys) w (length-spelling s y) in
-    let others : spellings s xs ≡ spellings s ys = sym (drop_at (spelling s x) (spellings s xs) w (length-spelling s x)) ∙ ap (drop w) e ∙ drop_at (spelling s y) (spellings s ys) w (length-spelling s y) in
+    let others : spellings s xs ≡ spellings s ys = sym (drop_at (spelling s x) (spellings s xs) w (length-spelling s x)) ∙ ap (drop w) e
+    ∙ drop_at (spelling s y) (spellings s ys) w (length-spelling s y) in
     let same = one_sample s x y legal (All-head (IsSample s) x xs kx) (All-head (IsSample s) y ys ky) first in
     let rest = same_samples s xs ys legal (All-tail (IsSample s) x xs kx) (All-tail (IsSample s) y ys ky) others in
     (λ i. same i ∷ rest i)
@@ -86,11 +87,13 @@ feeds_on s input seam [] h fed = record { fed = h; bytes = []; grows = sym (appe
 feeds_on s input seam (p ∷ ps) h fed =
     let goes = fed.1 h.samples h.stands in
     let behind = fed.0.0 in
-    let rest : h.rest ≡ spellings s goes.more ++ (goes.rest ++ behind) = sym (not_taken s input seam h) ∙ fed.0.1 ∙ ap (λ l. l ++ behind) goes.reads.split ∙ append_assoc (spellings s goes.more) goes.rest behind in
+    let rest : h.rest ≡ spellings s goes.more ++ (goes.rest ++ behind) = sym (not_taken s input seam h) ∙ fed.0.1 ∙ ap (λ l. l ++ behind) goes.reads.split
+    ∙ append_assoc (spellings s goes.more) goes.rest behind in
     let next : HasFed s input p.seam = record {
       samples = h.samples ++ goes.more;
       rest = goes.rest ++ behind;
-      split = h.split ∙ ap (λ l. spellings s h.samples ++ l) rest ∙ sym (append_assoc (spellings s h.samples) (spellings s goes.more) (goes.rest ++ behind)) ∙ ap (λ l. l ++ (goes.rest ++ behind)) (sym (spellings-append s h.samples goes.more));
+      split = h.split ∙ ap (λ l. spellings s h.samples ++ l) rest ∙ sym (append_assoc (spellings s h.samples) (spellings s goes.more) (goes.rest ++ behind))
+          ∙ ap (λ l. l ++ (goes.rest ++ behind)) (sym (spellings-append s h.samples goes.more));
       legal = All-append (IsSample s) h.samples goes.more h.legal goes.reads.legal;
       stands = goes.stands;
     } in
@@ -118,7 +121,8 @@ feeding_is_encoding s legal input seam pieces old new fed encoded encoding begin
     let more = end.0 in
     let all = h.samples ++ more in
     let xs = encodes.samples in
-    let spelled : input ≡ spellings s all = h.split ∙ ap (λ l. spellings s h.samples ++ l) (sym (not_taken s input (last_seam seam pieces) h) ∙ end.1.spelled) ∙ sym (spellings-append s h.samples more) in
+    let spelled : input ≡ spellings s all = h.split ∙ ap (λ l. spellings s h.samples ++ l) (sym (not_taken s input (last_seam seam pieces) h) ∙ end.1.spelled)
+    ∙ sym (spellings-append s h.samples more) in
     let whole : encoding.given ≡ spellings s xs = encodes.ends.0.whole ∙ ap (λ l. spellings s xs ++ l) encodes.ends.0.stops ∙ append-nil (spellings s xs) in
     let same : all ≡ xs = same_samples s all xs legal (All-append (IsSample s) h.samples more h.legal end.1.legal) encodes.ends.0.legal (sym spelled ∙ sym given ∙ whole) in
     let front : early_output s h.samples ≡ on.bytes = on.grows ∙ ap (λ l. l ++ on.bytes) (nothing_early s legal) in
@@ -136,8 +140,10 @@ code_of_seam s seam xs h =
     let all = between_all s seam.start seam.previous xs h.taken in
     let same : take (cut s (length xs)) xs ≡ xs = ap (λ n. take n xs) all ∙ take-length xs in
     let bits = complete_code s xs in
-    let left : seam.waiting_bits ≡ length bits - bits_in_bytes (length bits) = sym (length-word seam.waiting_bits seam.waiting) ∙ ap length h.waiting ∙ length-drop (bits_in_bytes (length bits)) bits in
-    let whole : 8 * length (whole_bytes bits) ≡ 8 * (length bits / 8) = omega (arith, length-bits_of (whole_bytes bits), ap length (bits_of-whole_bytes bits), length-take (bits_in_bytes (length bits)) bits) in
+    let left : seam.waiting_bits ≡ length bits - bits_in_bytes (length bits) = sym (length-word seam.waiting_bits seam.waiting) ∙ ap length h.waiting
+    ∙ length-drop (bits_in_bytes (length bits)) bits in
+    let whole : 8 * length (whole_bytes bits) ≡ 8 * (length bits / 8) = omega
+    (arith, length-bits_of (whole_bytes bits), ap length (bits_of-whole_bytes bits), length-take (bits_in_bytes (length bits)) bits) in
     omega (arith, left, ap (λ l. length (code s l)) same, whole)
 
 -- the samples of a seam where an interval begins are those of whole intervals
@@ -153,7 +159,8 @@ whole_intervals s seam xs h at_start =
     (t.block / s.interval, record { legal = All-from_recursion (IsSample s) xs samples; len = ap length coded ∙ t.holds.whole ∙ ap (λ n. s.block * n) blocks })
 
 -- where it begins in the code of these samples and others
-pub place_of_seam : (s : Parameters) (seam : Seam) (xs ys : List ℤ) (written : ℕ) → IsSeam s seam xs → seam.start ≡ 0 → written ≡ length (early_output s xs) → IsPlace s (output s (xs ++ ys)) (place_behind seam written) xs
+pub place_of_seam : (s : Parameters) (seam : Seam) (xs ys : List ℤ) (written : ℕ) → IsSeam s seam xs → seam.start ≡ 0 → written ≡ length (early_output s xs)
+    → IsPlace s (output s (xs ++ ys)) (place_behind seam written) xs
 place_of_seam s seam xs ys written h at_start count =
     let legal = h.taken.holds.legal in
     let whole = whole_intervals s seam xs h at_start in

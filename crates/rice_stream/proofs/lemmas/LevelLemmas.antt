@@ -13,7 +13,8 @@ level_is_legal s l h = subst (λ n. n < value_count s) (level_of_value s l) h.1
 levels_are_legal : (s : Parameters) (ls : List ℕ) → All (IsSample s) (values_at s ls) → All (λ l. l < value_count s) ls
 levels_are_legal s [] h = All-nil (λ l. l < value_count s)
 levels_are_legal s (l ∷ ls) h =
-    All-cons (λ k. k < value_count s) l ls (level_is_legal s l (All-head (IsSample s) (value_at s l) (values_at s ls) h)) (levels_are_legal s ls (All-tail (IsSample s) (value_at s l) (values_at s ls) h))
+    All-cons (λ k. k < value_count s) l ls (level_is_legal s l (All-head (IsSample s) (value_at s l) (values_at s ls) h))
+    (levels_are_legal s ls (All-tail (IsSample s) (value_at s l) (values_at s ls) h))
 
 -- the first levels of legal samples
 pub few_legal : (s : Parameters) (n : ℕ) (xs ys : List ℕ) → ys ≡ xs → All (IsSample s) (values_at s xs) → All (λ l. l < value_count s) (take n ys)

@@ -33,22 +33,43 @@ front_of bits more a b e le =
     sym (take-append-drop n bits) ∙ ap (λ l. l ++ drop n bits) (sym (take-append-le n bits more le) ∙ ap (take n) e ∙ take-append_seam a b)
 
 -- what is left begins with the same coded data set, which is refused
-unsound_front : (s : Parameters) (b used : ℕ) (bits more front rest : List Bool) (P : CodedDataSet → Type 0) → bits ++ more ≡ front ++ rest → (u : BeginsUnsound s b rest used P) → length front + used ≤ length bits
+unsound_front : (s : Parameters) (b used : ℕ) (bits more front rest : List Bool) (P : CodedDataSet → Type 0) → bits ++ more ≡ front ++ rest
+    → (u : BeginsUnsound s b rest used P) → length front + used ≤ length bits
     → (left : List Bool) × (bits ≡ front ++ left) × BeginsUnsound s b left used P
 unsound_front s b used bits more front rest P e u le =
     let set = bits_of_set s u.refused in
     let all = front ++ set in
     let far = drop (length all) bits in
-    let parts : bits ++ more ≡ all ++ u.more = e ∙ ap (λ l. front ++ l) u.begins ∙ sym (append_assoc front set u.more) in
-    (set ++ far, front_of bits more all u.more parts (omega (arith, length-append front set, u.bits)) ∙ append_assoc front set far, record { refused = u.refused; more = far; form = u.form; unsound = u.unsound; begins = refl; bits = u.bits })
+    let parts : bits ++ more ≡ all ++ u.more = e ∙ ap (λ l. front ++ l) u.begins ∙ sym (append_assoc front set u.more) in (
+      set ++ far,
+      front_of bits more all u.more parts (omega (arith, length-append front set, u.bits))
+          ∙ append_assoc front set far,
+      record { refused = u.refused; more = far; form = u.form; unsound = u.unsound; begins = refl; bits = u.bits },
+    )
 
 -- where decoding ends inside of the first bits, it is theirs
 module _ (s : Parameters) (asked : Option ℕ) (bits more : List Bool) (xs : List ℤ) (ending : Ending) (used : ℕ) (d : Decoded s (bits ++ more) asked xs ending used) where
   with_rest : (left : List Bool) → bits ≡ d.front ++ left → EndsWith s asked (0 + length (blocks_in_all s 0 d.sets)) left ending d.last → Decoded s bits asked xs ending used
-  with_rest left parts ends = record { sets = d.sets; front = d.front; rest = left; parts = parts; lie = d.lie; taken = d.taken; all = d.all; legal = d.legal; len = d.len; blocks = d.blocks; asked_for = d.asked_for; last = d.last; ends = ends; bits_used = d.bits_used }
+  with_rest left parts ends = record {
+    sets = d.sets;
+    front = d.front;
+    rest = left;
+    parts = parts;
+    lie = d.lie;
+    taken = d.taken;
+    all = d.all;
+    legal = d.legal;
+    len = d.len;
+    blocks = d.blocks;
+    asked_for = d.asked_for;
+    last = d.last;
+    ends = ends;
+    bits_used = d.bits_used;
+  }
 
 -- decoding that ends in the front of a code ends so without the rest
-ends_in_front : (s : Parameters) (asked : Option ℕ) (bits more : List Bool) (xs : List ℤ) (ending : Ending) (used : ℕ) → EndsBefore ending → Decoded s (bits ++ more) asked xs ending used → used ≤ length bits → Decoded s bits asked xs ending used
+ends_in_front : (s : Parameters) (asked : Option ℕ) (bits more : List Bool) (xs : List ℤ) (ending : Ending) (used : ℕ) → EndsBefore ending
+    → Decoded s (bits ++ more) asked xs ending used → used ≤ length bits → Decoded s bits asked xs ending used
 ends_in_front s asked bits more xs Reached used early d le =
     with_rest s asked bits more xs Reached used d (drop (length d.front) bits) (front_of bits more d.front d.rest d.parts (omega (arith, d.bits_used, le))) d.ends
 ends_in_front s asked bits more xs Past used early d le =
@@ -117,7 +138,8 @@ pub record DecodesAs (s : Parameters) (xs : List ℤ) (ending : Ending) (used : 
 pub is_at_end : (l : Option (List ℕ)) (left : List ℕ) → l ≡ Some left → IsAtEnd l → left ≡ []
 is_at_end l left e end = subst (λ (v : Option (List ℕ)). IsAtEnd v) e end
 
-module _ (s : Parameters) (legal : IsLegal s) (asked : Option ℕ) (code left : List ℕ) (c : Call) (r : Report) (xs ys : List ℤ) (ending e : Ending) (used : ℕ) (whole : Decoded s (bits_of code) asked xs ending used) (split : code ≡ c.given ++ left) where
+module _ (s : Parameters) (legal : IsLegal s) (asked : Option ℕ) (code left : List ℕ) (c : Call) (r : Report) (xs ys : List ℤ) (ending e : Ending) (used : ℕ)
+    (whole : Decoded s (bits_of code) asked xs ending used) (split : code ≡ c.given ++ left) where
   -- what a part of the code decodes to that all of it decodes to
   one : (zs : List ℤ) (v : Ending) (n : ℕ) → Decoded s (bits_of code) asked zs v n → (zs ≡ xs) × (v ≡ ending) × (n ≡ used)
   one zs v n d = decoded_is_one s legal 0 0 (pos 0) (zero_is_sample s legal.bits_from) (bits_of code) asked zs xs v ending n used d whole
@@ -142,11 +164,13 @@ module _ (s : Parameters) (legal : IsLegal s) (asked : Option ℕ) (code left : 
   }
 
 -- a code of which so few bits are used is not too long
-not_early : (s : Parameters) → IsLegal s → (asked : Option ℕ) (code front more : List ℕ) (xs ys : List ℤ) (ending e : Ending) (used n : ℕ) → Decoded s (bits_of code) asked xs ending used → code ≡ front ++ more → used ≤ 8 * length front
+not_early : (s : Parameters) → IsLegal s → (asked : Option ℕ) (code front more : List ℕ) (xs ys : List ℤ) (ending e : Ending) (used n : ℕ)
+    → Decoded s (bits_of code) asked xs ending used → code ≡ front ++ more → used ≤ 8 * length front
     → Decoded s (bits_of front) asked ys e n → RunsOut e → EndsBefore ending → ⊥
 not_early s legal asked code front more xs ys ending e used n whole split le d runs early =
     let bits : bits_of code ≡ bits_of front ++ bits_of more = ap bits_of split ∙ bits_of-append front more in
-    let inside = ends_in_front s asked (bits_of front) (bits_of more) xs ending used early (subst (λ (l : List Bool). Decoded s l asked xs ending used) bits whole) (omega (arith, le, length-bits_of front)) in
+    let inside = ends_in_front s asked (bits_of front) (bits_of more) xs ending used early
+    (subst (λ (l : List Bool). Decoded s l asked xs ending used) bits whole) (omega (arith, le, length-bits_of front)) in
     let same : e ≡ ending = (decoded_is_one s legal 0 0 (pos 0) (zero_is_sample s legal.bits_from) (bits_of front) asked ys xs e ending n used d inside).1 in
     elim runs [ inl f ↦ no f same early | inr f ↦ not_cut f same early ]
   where
@@ -161,25 +185,35 @@ not_early s legal asked code front more xs ys ending e used n whole split le d r
     not_cut f same (inr (inr g)) = absurd cc
 
 -- a code that decodes within the limit has no byte past it that is read
-never_long : (s : Parameters) → IsLegal s → (asked : Option ℕ) (code front more : List ℕ) (xs ys : List ℤ) (ending e : Ending) (used n : ℕ) → Decoded s (bits_of code) asked xs ending used → used ≤ 2 ^ 52 → code ≡ front ++ more → length front ≡ 2 ^ 49 → 0 < length more
+never_long : (s : Parameters) → IsLegal s → (asked : Option ℕ) (code front more : List ℕ) (xs ys : List ℤ) (ending e : Ending) (used n : ℕ)
+    → Decoded s (bits_of code) asked xs ending used → used ≤ 2 ^ 52 → code ≡ front ++ more → length front ≡ 2 ^ 49 → 0 < length more
     → Decoded s (bits_of front) asked ys e n → RunsOut e → ⊥
-never_long s legal asked code front more xs ys Reached e used n whole limit split full some d runs = not_early s legal asked code front more xs ys Reached e used n whole split (omega arith) d runs (inl refl)
-never_long s legal asked code front more xs ys Past e used n whole limit split full some d runs = not_early s legal asked code front more xs ys Past e used n whole split (omega arith) d runs (inr (inl refl))
-never_long s legal asked code front more xs ys Large e used n whole limit split full some d runs = not_early s legal asked code front more xs ys Large e used n whole split (omega arith) d runs (inr (inr refl))
+never_long s legal asked code front more xs ys Reached e used n whole limit split full some d runs = not_early s legal asked code front more xs ys Reached e
+    used n whole split (omega arith) d runs (inl refl)
+never_long s legal asked code front more xs ys Past e used n whole limit split full some d runs = not_early s legal asked code front more xs ys Past e used n
+    whole split (omega arith) d runs (inr (inl refl))
+never_long s legal asked code front more xs ys Large e used n whole limit split full some d runs = not_early s legal asked code front more xs ys Large e used n
+    whole split (omega arith) d runs (inr (inr refl))
 never_long s legal asked code front more xs ys Ended e used n whole limit split full some d runs =
     omega (arith, whole.bits_used, whole.ends.2, ap length whole.parts, length-append whole.front whole.rest, length-bits_of code, ap length split, length-append front more)
 never_long s legal asked code front more xs ys CutOff e used n whole limit split full some d runs =
     omega (arith, whole.bits_used, whole.ends.3, ap length whole.parts, length-append whole.front whole.rest, length-bits_of code, ap length split, length-append front more)
 
 -- a call of the decoder finds the one way in which its bytes decode
-pub decodes_as : (s : Parameters) → IsLegal s → (asked : Option ℕ) (code left : List ℕ) (c : Call) (r : Report) (fault : Option Fault) (xs ys : List ℤ) (ending e : Ending) (used : ℕ) → Decoded s (bits_of code) asked xs ending used → used ≤ 2 ^ 52
-    → (asked ≡ None) ⊎ (ending ≡ Reached) → code ≡ c.given ++ left → c.left ≡ Some left → EndsDecoding s asked fault c r ys e → fault ≢ Some Read → fault ≢ Some Write → DecodesAs s xs ending used c r fault
+pub decodes_as : (s : Parameters) → IsLegal s
+    → (asked : Option ℕ) (code left : List ℕ) (c : Call) (r : Report) (fault : Option Fault) (xs ys : List ℤ) (ending e : Ending) (used : ℕ)
+    → Decoded s (bits_of code) asked xs ending used → used ≤ 2 ^ 52
+    → (asked ≡ None) ⊎ (ending ≡ Reached) → code ≡ c.given ++ left → c.left ≡ Some left → EndsDecoding s asked fault c r ys e → fault ≢ Some Read
+    → fault ≢ Some Write → DecodesAs s xs ending used c r fault
 decodes_as s legal asked code left c r None xs ys ending e used whole limit way split left_is (d, inl reached) read write =
-    decodes_so s legal asked code left c r xs ys ending e used whole split None d (as_before s legal asked code left c r xs ys ending e used whole split (inl reached) d) (subst (λ (v : Ending). FaultOf s ys v None) (sym reached) refl)
+    decodes_so s legal asked code left c r xs ys ending e used whole split None d
+    (as_before s legal asked code left c r xs ys ending e used whole split (inl reached) d) (subst (λ (v : Ending). FaultOf s ys v None) (sym reached) refl)
 decodes_as s legal asked code left c r None xs ys ending e used whole limit way split left_is (d, inr (ended, none, end)) read write =
-    decodes_so s legal asked code left c r xs ys ending e used whole split None d (as_all s legal asked code left c r xs ys ending e used whole split (is_at_end c.left left left_is end) d) (subst (λ (v : Ending). FaultOf s ys v None) (sym ended) refl)
+    decodes_so s legal asked code left c r xs ys ending e used whole split None d
+    (as_all s legal asked code left c r xs ys ending e used whole split (is_at_end c.left left left_is end) d) (subst (λ (v : Ending). FaultOf s ys v None) (sym ended) refl)
 decodes_as s legal asked code left c r (Some (CodeEnds n)) xs ys ending e used whole limit way split left_is (d, inl cut, end, count) read write =
-    decodes_so s legal asked code left c r xs ys ending e used whole split (Some (CodeEnds n)) d (as_all s legal asked code left c r xs ys ending e used whole split (is_at_end c.left left left_is end) d)
+    decodes_so s legal asked code left c r xs ys ending e used whole split (Some (CodeEnds n)) d
+    (as_all s legal asked code left c r xs ys ending e used whole split (is_at_end c.left left left_is end) d)
     (subst (λ (v : Ending). FaultOf s ys v (Some (CodeEnds n))) (sym cut) (ap (λ m. Some (CodeEnds m)) count))
 decodes_as s legal asked code left c r (Some (CodeEnds n)) xs ys ending e used whole limit way split left_is (d, inr (ended, some), end, count) read write =
     let same = (as_all s legal asked code left c r xs ys ending e used whole split (is_at_end c.left left left_is end) d).1 in

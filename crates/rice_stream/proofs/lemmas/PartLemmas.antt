@@ -32,7 +32,8 @@ reads_before s xs bytes rest behind r = record {
 no_spelling_before : (s : Parameters) (rest behind : List ℕ) → EndsSpelling s rest NoSpelling → EndsSpelling s (rest ++ behind) NoSpelling
 no_spelling_before s rest behind h = (omega (arith, h.0, length-append rest behind), λ x k e. h.1 x k (sym (take-append-le (width s) rest behind h.0) ∙ e))
 
-module _ {N : ℕ} (s : Parameters) (old : Beginning) (new : Option Room) (e : Encoding N) (xs more : List ℤ) (front part : List ℕ) (spelled : front ≡ spellings s more) (legal : All (IsSample s) more) where
+module _ {N : ℕ} (s : Parameters) (old : Beginning) (new : Option Room) (e : Encoding N) (xs more : List ℤ) (front part : List ℕ)
+    (spelled : front ≡ spellings s more) (legal : All (IsSample s) more) where
   pub takes_on : TakesAll s old new e (xs ++ more) part → TakesAll s old new e xs (front ++ part)
   takes_on h = record {
     more = more ++ h.more;
@@ -71,7 +72,9 @@ module _ {N : ℕ} (s : Parameters) (old : Beginning) (new : Option Room) (e : E
 -- nothing is left of a part that has the bytes of whole samples
 pub none_left : (s : Parameters) (more : List ℤ) (bytes rest : List ℕ) (k : ℕ) → Reads s bytes more rest → length rest < width s → length bytes ≡ width s * k → bytes ≡ spellings s more
 none_left s more bytes rest k r few whole =
-    r.split ∙ ap (λ l. spellings s more ++ l) (empty rest (zero_rest (width s) (length more) (length rest) k few (omega (arith, ap length r.split, length-append (spellings s more) rest, length-spellings s more, whole)))) ∙ append-nil (spellings s more)
+    r.split ∙ ap (λ l. spellings s more ++ l)
+    (empty rest (zero_rest (width s) (length more) (length rest) k few
+    (omega (arith, ap length r.split, length-append (spellings s more) rest, length-spellings s more, whole)))) ∙ append-nil (spellings s more)
   where
     empty : (l : List ℕ) → length l ≡ 0 → l ≡ []
     empty [] e = refl

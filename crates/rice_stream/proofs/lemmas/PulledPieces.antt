@@ -62,14 +62,16 @@ bits_behind_stand : (stand : Stand) (piece behind : List ℕ) → List Bool
 bits_behind_stand stand piece behind = drop (stand.bits % 8 - length (bits_of piece)) (bits_of behind)
 
 -- what is left of a code is the rest of the piece, and what is behind it
-behind_stand : (s : Parameters) (code : List ℕ) (o : Origin) (stand : Stand) (piece behind : List ℕ) → (h : HasPulled s code o stand) → drop (stand.bits / 8) code ≡ piece ++ behind → h.rest ≡ bits_ahead stand piece ++ bits_behind_stand stand piece behind
+behind_stand : (s : Parameters) (code : List ℕ) (o : Origin) (stand : Stand) (piece behind : List ℕ) → (h : HasPulled s code o stand)
+    → drop (stand.bits / 8) code ≡ piece ++ behind → h.rest ≡ bits_ahead stand piece ++ bits_behind_stand stand piece behind
 unfolding bits_behind_stand
 behind_stand s code o stand piece behind h e =
     let n = stand.bits / 8 in
     let k = stand.bits % 8 in
     let here : o.bits + length h.front ≡ 8 * n + k = omega (arith, h.stands.bits) in
     let most : n ≤ length code = omega (arith, here, h.inside, length-drop o.bits (bits_of code), ap length h.split, length-append h.front h.rest, length-bits_of code) in
-    sym (drop_front h.front h.rest) ∙ ap (drop (length h.front)) (sym h.split) ∙ drop-drop (length h.front) o.bits (bits_of code) ∙ ap (λ m. drop m (bits_of code)) here ∙ drop_bits n k code most ∙ ap (λ l. drop k (bits_of l)) e
+    sym (drop_front h.front h.rest) ∙ ap (drop (length h.front)) (sym h.split) ∙ drop-drop (length h.front) o.bits (bits_of code)
+    ∙ ap (λ m. drop m (bits_of code)) here ∙ drop_bits n k code most ∙ ap (λ l. drop k (bits_of l)) e
     ∙ ap (drop k) (bits_of-append piece behind) ∙ drop_both k (bits_of piece) (bits_of behind)
 
 -- a piece more was pulled
@@ -85,7 +87,8 @@ record PullsOn (s : Parameters) (code : List ℕ) (o : Origin) (stand : Stand) (
   pub limit : p.pause ≢ pauses.TooLong → p.stand.bits + length left ≤ 2 ^ 52
 
 -- one pull goes on with what was pulled before
-pulls_on : (s : Parameters) (code : List ℕ) (o : Origin) (stand : Stand) (p : Pull) (behind : List ℕ) → (h : HasPulled s code o stand) → IsPulled s code stand p behind → PullsOn s code o stand p h.given behind
+pulls_on : (s : Parameters) (code : List ℕ) (o : Origin) (stand : Stand) (p : Pull) (behind : List ℕ) → (h : HasPulled s code o stand)
+    → IsPulled s code stand p behind → PullsOn s code o stand p h.given behind
 pulls_on s code o stand p behind h pulled =
     let d = pulled.1 o h.front h.given h.stands in
     let far = bits_behind_stand stand p.piece behind in
@@ -95,7 +98,8 @@ pulls_on s code o stand p behind h pulled =
         given = h.given ++ d.samples;
         rest = d.rest ++ far;
         inside = h.inside;
-        split = h.split ∙ ap (λ l. h.front ++ l) (behind_stand s code o stand p.piece behind h pulled.0 ∙ ap (λ l. l ++ far) d.parts ∙ append_assoc d.bits d.rest far) ∙ sym (append_assoc h.front d.bits (d.rest ++ far));
+        split = h.split ∙ ap (λ l. h.front ++ l) (behind_stand s code o stand p.piece behind h pulled.0 ∙ ap (λ l. l ++ far) d.parts
+            ∙ append_assoc d.bits d.rest far) ∙ sym (append_assoc h.front d.bits (d.rest ++ far));
         stands = d.stands;
       };
       part = d.samples;
@@ -107,8 +111,10 @@ pulls_on s code o stand p behind h pulled =
       pauses_at = d.pauses_at;
       limit = λ no.
           let most = d.limit no in
-          let ahead : length (bits_of p.piece) - stand.bits % 8 ≡ length d.bits + length d.rest = sym (length-drop (stand.bits % 8) (bits_of p.piece)) ∙ ap length d.parts ∙ length-append d.bits d.rest in
-          within stand.bits (length p.piece) (stand.bits % 8) (length d.bits) (length d.rest) p.stand.bits most (sym (length-bits_of p.piece)) ahead (omega (arith, h.stands.bits, d.stands.bits, length-append h.front d.bits)) d.stands.limit;
+          let ahead : length (bits_of p.piece) - stand.bits % 8 ≡ length d.bits + length d.rest = sym (length-drop (stand.bits % 8) (bits_of p.piece))
+          ∙ ap length d.parts ∙ length-append d.bits d.rest in
+          within stand.bits (length p.piece) (stand.bits % 8) (length d.bits) (length d.rest) p.stand.bits most (sym (length-bits_of p.piece)) ahead
+          (omega (arith, h.stands.bits, d.stands.bits, length-append h.front d.bits)) d.stands.limit;
     }
   where
     within : (old n k bits rest new : ℕ) {m : ℕ} → old + 8 * n ≤ 2 ^ 52 → 8 * n ≡ m → m - k ≡ bits + rest → new ≡ old + bits → new ≤ 2 ^ 52 → new + rest ≤ 2 ^ 52
@@ -135,7 +141,8 @@ pull_all s code o stand (p ∷ ps) h pulled =
     }
 
 -- and one more
-parts-push : (s : Parameters) (first : Stand) (pulls : List Pull) (last : Pull) (more part : List ℤ) → GiveInParts s first pulls more → last.stand.samples ≡ (last_stand first pulls).samples + length part
+parts-push : (s : Parameters) (first : Stand) (pulls : List Pull) (last : Pull) (more part : List ℤ) → GiveInParts s first pulls more
+    → last.stand.samples ≡ (last_stand first pulls).samples + length part
     → last.new ≡ spellings s part ++ drop (width s * length part) last.old → GiveInParts s first (pulls ++ last ∷ []) (more ++ part)
 parts-push s first [] last more part parts count writes = (part, [], ap (λ l. l ++ part) parts ∙ sym (append-nil part), count, writes, refl)
 parts-push s first (p ∷ ps) last more part parts count writes =
@@ -168,19 +175,44 @@ unfolding bits_behind_stand
 nothing_far stand piece behind e = let k = stand.bits % 8 - length (bits_of piece) in ap (λ l. drop k (bits_of l)) e ∙ ap (drop k) bits_of-nil ∙ drop-nil k
 
 -- a pause behind which nothing is left is the end of the code
-pause_finishes : (s : Parameters) (old stand : Stand) (piece behind : List ℕ) (room count : ℕ) (left : List Bool) (pause : Pause) (ending : Ending) → PausesAt s old piece room stand left count pause → EndsCode pause behind ending → Finishes s stand (left ++ bits_behind_stand old piece behind) (length left) ending
+pause_finishes : (s : Parameters) (old stand : Stand) (piece behind : List ℕ) (room count : ℕ) (left : List Bool) (pause : Pause) (ending : Ending)
+    → PausesAt s old piece room stand left count pause → EndsCode pause behind ending → Finishes s stand (left ++ bits_behind_stand old piece behind) (length left) ending
 pause_finishes s old stand piece behind room count left pauses.Full ending at e = absurd e
 pause_finishes s old stand piece behind room count left pauses.TooLong ending at e = absurd e
 pause_finishes s old stand piece behind room count left pauses.Blank ending at e =
     let whole : left ≡ left ++ bits_behind_stand old piece behind = sym (append-nil left) ∙ ap (λ l. left ++ l) (sym (nothing_far old piece behind e.0)) in
-    record { none = at.1; used = length left; few = omega arith; ends = subst (λ (v : Ending). EndsWith s None stand.block (left ++ bits_behind_stand old piece behind) v (length left)) (sym e.1) (subst (λ (l : List Bool). EndsWith s None stand.block l Ended (length left)) whole at.2) }
+    record {
+      none = at.1;
+      used = length left;
+      few = omega arith;
+      ends = subst (λ (v : Ending). EndsWith s None stand.block (left ++ bits_behind_stand old piece behind) v (length left)) (sym e.1)
+          (subst (λ (l : List Bool). EndsWith s None stand.block l Ended (length left)) whole at.2);
+    }
 pause_finishes s old stand piece behind room count left pauses.Cut ending at e =
     let whole : left ≡ left ++ bits_behind_stand old piece behind = sym (append-nil left) ∙ ap (λ l. left ++ l) (sym (nothing_far old piece behind e.0)) in
-    record { none = at.1; used = length left; few = omega arith; ends = subst (λ (v : Ending). EndsWith s None stand.block (left ++ bits_behind_stand old piece behind) v (length left)) (sym e.1) (subst (λ (l : List Bool). EndsWith s None stand.block l CutOff (length left)) whole at.2) }
+    record {
+      none = at.1;
+      used = length left;
+      few = omega arith;
+      ends = subst (λ (v : Ending). EndsWith s None stand.block (left ++ bits_behind_stand old piece behind) v (length left)) (sym e.1)
+          (subst (λ (l : List Bool). EndsWith s None stand.block l CutOff (length left)) whole at.2);
+    }
 pause_finishes s old stand piece behind room count left pauses.RunPastSegment ending at e =
-    record { none = at.1; used = at.2; few = unsound_in s stand.block at.2 left _ at.3.1; ends = subst (λ (v : Ending). EndsWith s None stand.block (left ++ bits_behind_stand old piece behind) v at.2) (sym e) (tt, unsound_on s stand.block at.2 left (bits_behind_stand old piece behind) _ at.3.1) }
+    record {
+      none = at.1;
+      used = at.2;
+      few = unsound_in s stand.block at.2 left _ at.3.1;
+      ends = subst (λ (v : Ending). EndsWith s None stand.block (left ++ bits_behind_stand old piece behind) v at.2) (sym e)
+          (tt, unsound_on s stand.block at.2 left (bits_behind_stand old piece behind) _ at.3.1);
+    }
 pause_finishes s old stand piece behind room count left pauses.ResidualTooLarge ending at e =
-    record { none = at.1; used = at.2; few = unsound_in s stand.block at.2 left _ at.3.1; ends = subst (λ (v : Ending). EndsWith s None stand.block (left ++ bits_behind_stand old piece behind) v at.2) (sym e) (tt, unsound_on s stand.block at.2 left (bits_behind_stand old piece behind) _ at.3.1) }
+    record {
+      none = at.1;
+      used = at.2;
+      few = unsound_in s stand.block at.2 left _ at.3.1;
+      ends = subst (λ (v : Ending). EndsWith s None stand.block (left ++ bits_behind_stand old piece behind) v at.2) (sym e)
+          (tt, unsound_on s stand.block at.2 left (bits_behind_stand old piece behind) _ at.3.1);
+    }
 
 -- a code that ends was not refused for its length
 not_long : (pause : Pause) (behind : List ℕ) (ending : Ending) → EndsCode pause behind ending → pause ≢ pauses.TooLong
@@ -196,7 +228,8 @@ at_first : (s : Parameters) (code : List ℕ) (o : Origin) (first : Stand) → o
 at_first s code o first le h = record { front = []; given = []; rest = drop o.bits (bits_of code); inside = le; split = refl; stands = h }
 
 -- what ends there is what the code decodes to
-decoded_all : (s : Parameters) (code : List ℕ) (o : Origin) (stand : Stand) (rest : List Bool) (ahead : ℕ) (ending : Ending) → (h : HasPulled s code o stand) → h.rest ≡ rest → (f : Finishes s stand rest ahead ending)
+decoded_all : (s : Parameters) (code : List ℕ) (o : Origin) (stand : Stand) (rest : List Bool) (ahead : ℕ) (ending : Ending) → (h : HasPulled s code o stand)
+    → h.rest ≡ rest → (f : Finishes s stand rest ahead ending)
     → Decoded s (drop o.bits (bits_of code)) None h.given ending (length h.front + f.used)
 decoded_all s code o stand rest ahead ending h e f =
     let st = h.stands in
@@ -214,7 +247,8 @@ record PulledAll (s : Parameters) (code : List ℕ) (o : Origin) (first : Stand)
   pub count : last.samples ≡ o.samples + length samples
 
 -- pulls up to the end of a code give what it decodes to
-pulled_all : (s : Parameters) (code : List ℕ) (o : Origin) (first : Stand) (pulls : List Pull) (last : Pull) (behind : List ℕ) (ending : Ending) → o.bits ≤ length (bits_of code) → IsStand s o first [] [] → ArePulled s code first pulls
+pulled_all : (s : Parameters) (code : List ℕ) (o : Origin) (first : Stand) (pulls : List Pull) (last : Pull) (behind : List ℕ) (ending : Ending)
+    → o.bits ≤ length (bits_of code) → IsStand s o first [] [] → ArePulled s code first pulls
     → IsPulled s code (last_stand first pulls) last behind → EndsCode last.pause behind ending → PulledAll s code o first (pulls ++ last ∷ []) last.stand ending
 unfolding at_first
 pulled_all s code o first pulls last behind ending inside begins pulled last_pulled ends =
@@ -312,7 +346,8 @@ pub record SeekAll (s : Parameters) (code : List ℕ) (before : List ℤ) (first
   pub count : last.samples ≡ length (before ++ samples)
 
 -- pulls from the place of an interval on give what follows the samples before it
-pub seek_all : (s : Parameters) (code : List ℕ) (o : Origin) (before : List ℤ) (first : Stand) (pulls : List Pull) (last : Pull) (behind : List ℕ) (ending : Ending) → IsPlace s code o before → IsStand s o first [] []
+pub seek_all : (s : Parameters) (code : List ℕ) (o : Origin) (before : List ℤ) (first : Stand) (pulls : List Pull) (last : Pull) (behind : List ℕ)
+    (ending : Ending) → IsPlace s code o before → IsStand s o first [] []
     → ArePulled s code first pulls → IsPulled s code (last_stand first pulls) last behind → EndsCode last.pause behind ending → SeekAll s code before first (pulls ++ last ∷ []) last.stand ending
 seek_all s code o before first pulls last behind ending place begins pulled last_pulled ends =
     let p = pulled_all s code o first pulls last behind ending (inside_code s code o before place) begins pulled last_pulled ends in
@@ -339,7 +374,8 @@ pub record SeekEnough (s : Parameters) (code : List ℕ) (before : List ℤ) (fi
   pub limit : last.bits ≤ 2 ^ 52
 
 -- and up to a number of samples
-pub seek_enough : (s : Parameters) (code : List ℕ) (o : Origin) (before : List ℤ) (first : Stand) (pulls : List Pull) (n : ℕ) → IsPlace s code o before → IsStand s o first [] [] → ArePulled s code first pulls
+pub seek_enough : (s : Parameters) (code : List ℕ) (o : Origin) (before : List ℤ) (first : Stand) (pulls : List Pull) (n : ℕ) → IsPlace s code o before
+    → IsStand s o first [] [] → ArePulled s code first pulls
     → o.samples + n ≤ (last_stand first pulls).samples → (last_stand first pulls).samples < o.samples + n + s.block → SeekEnough s code before first pulls (o.samples + n) n (last_stand first pulls)
 seek_enough s code o before first pulls n place begins pulled enough few =
     let p = pulled_enough s code o first pulls n (inside_code s code o before place) begins pulled enough few in
@@ -359,7 +395,8 @@ enough_behind_is_decoding s code o before first pulls n place begins pulled enou
     (p.samples, p.parts, p.decoded)
 
 -- no pull goes back
-pulled_far : (s : Parameters) (code : List ℕ) (o : Origin) (first : Stand) (pulls : List Pull) → o.bits ≤ length (bits_of code) → IsStand s o first [] [] → ArePulled s code first pulls → o.samples ≤ (last_stand first pulls).samples
+pulled_far : (s : Parameters) (code : List ℕ) (o : Origin) (first : Stand) (pulls : List Pull) → o.bits ≤ length (bits_of code) → IsStand s o first [] []
+    → ArePulled s code first pulls → o.samples ≤ (last_stand first pulls).samples
 pulled_far s code o first pulls inside begins pulled = let all = pull_all s code o first pulls (at_first s code o first inside begins) pulled in omega (arith, all.next.stands.samples)
 
 -- where an interval begins, the stand's counts are its place

@@ -50,7 +50,8 @@ all_drawn old mid new waiting bits told d c e =
 
 -- the padding is that of the same place in a byte
 pads_as : (s : Parameters) (o : Origin) (taken bits len b n : ℕ) → MayBegin s o → taken % 8 ≡ bits % 8 → bits ≡ o.bits + len → padding s b (taken + n) ≡ padding s b (len + n)
-pads_as s o taken bits len b n begins e f = by_pad s.pad (place s b == 0) (λ pad. let g : o.bits % 8 ≡ 0 = begins pad in let same : (taken + n) % 8 ≡ (len + n) % 8 = omega arith in ap (λ v. (8 - v) % 8) same)
+pads_as s o taken bits len b n begins e f = by_pad s.pad (place s b == 0)
+    (λ pad. let g : o.bits % 8 ≡ 0 = begins pad in let same : (taken + n) % 8 ≡ (len + n) % 8 = omega arith in ap (λ v. (8 - v) % 8) same)
   where
     by_pad : (pad at : Bool) {x y : ℕ} → (pad ≡ true → x ≡ y) → cond (pad && at) x 0 ≡ cond (pad && at) y 0
     by_pad true at h = ap (λ v. cond at v 0) (h refl)
@@ -74,7 +75,8 @@ module _ {I : Type 0} (s : Parameters) (o : Origin) (stand next : Stand) (r new 
   gained front given t h =
       let legal = h.state.legal in
       elim (took_block refl t.advances) [
-        | inl k ↦ gains_run s r new steps steps_new h.blocks stand.block h.begun stand.run next.run stand.previous front h.sets given xs legal h.here h.previous t.reads.going h.before h.has_sets h.decoded k.same k.steps_are k.gives.gives
+        | inl k ↦ gains_run s r new steps steps_new h.blocks stand.block h.begun stand.run next.run stand.previous front h.sets given xs legal h.here h.previous
+            t.reads.going h.before h.has_sets h.decoded k.same k.steps_are k.gives.gives
         | inr k ↦
             let none : stand.run ≡ 0 = k.none in
             let end : h.blocks + stand.run ≡ h.blocks = omega arith in
@@ -138,7 +140,8 @@ module _ {I : Type 0} (s : Parameters) (o : Origin) (stand next : Stand) (r new 
       }
 
 -- no 1 is left
-pub ends_blank : {I : Type 0} (s : Parameters) (b first last : ℕ) (r new : Reader I) → IsSome r.left → SetEnds (with_mark r) new first last s b true → EndsWith s None b (ahead r) Ended (length (ahead r))
+pub ends_blank : {I : Type 0} (s : Parameters) (b first last : ℕ) (r new : Reader I) → IsSome r.left → SetEnds (with_mark r) new first last s b true
+    → EndsWith s None b (ahead r) Ended (length (ahead r))
 ends_blank s b first last r new told ends =
     let bits = ends.cut.bits in
     let stops = ends.cut.stops in
@@ -146,7 +149,8 @@ ends_blank s b first last r new told ends =
     subst (λ (l : List Bool). EndsWith s None b l Ended (length l)) (sym all) (tt, blank_all bits ends.told, refl)
 
 -- what is left begins with no coded data set
-pub ends_cut : {I : Type 0} (s : Parameters) (b first last : ℕ) (r new : Reader I) → IsSome r.left → SetEnds (with_mark r) new first last s b false → EndsWith s None b (ahead r) CutOff (length (ahead r))
+pub ends_cut : {I : Type 0} (s : Parameters) (b first last : ℕ) (r new : Reader I) → IsSome r.left → SetEnds (with_mark r) new first last s b false
+    → EndsWith s None b (ahead r) CutOff (length (ahead r))
 ends_cut s b first last r new told ends =
     let bits = ends.cut.bits in
     let stops = ends.cut.stops in
@@ -154,7 +158,8 @@ ends_cut s b first last r new told ends =
     subst (λ (l : List Bool). EndsWith s None b l CutOff (length l)) (sym all) (tt, some_one bits ends.told, ends.cut.none, refl)
 
 -- what is left begins with a coded data set that is refused
-pub begins_unsound : {I : Type 0} (s : Parameters) (b first last : ℕ) (r new : Reader I) (P : CodedDataSet → Type 0) → IsSome r.left → SetRefused (with_mark r) new first last s b P → (used : ℕ) × BeginsUnsound s b (ahead r) used P
+pub begins_unsound : {I : Type 0} (s : Parameters) (b first last : ℕ) (r new : Reader I) (P : CodedDataSet → Type 0) → IsSome r.left
+    → SetRefused (with_mark r) new first last s b P → (used : ℕ) × BeginsUnsound s b (ahead r) used P
 begins_unsound s b first last r new P told refused =
     let set = bits_of_set s refused.set in
     let drawn = draws_ahead r.left new.left r.waiting new.waiting set told refused.takes.draws in
@@ -174,7 +179,8 @@ never_long s b first last stand r new reads cut =
     one_left (Some xs) (Some ys) byte told c = omega (arith, ap length c)
 
 -- the decoder refuses
-refuses_next : {I : Type 0} (s : Parameters) (o : Origin) (stand : Stand) (r new : Reader I) (first last : ℕ) (front : List Bool) (given xs : List ℤ) (fault : CodeFault) → IsReadFrom stand r → stand.run ≡ 0
+refuses_next : {I : Type 0} (s : Parameters) (o : Origin) (stand : Stand) (r new : Reader I) (first last : ℕ) (front : List Bool) (given xs : List ℤ)
+    (fault : CodeFault) → IsReadFrom stand r → stand.run ≡ 0
     → StopsBy (with_mark r) new first last s stand.block (Err fault) → TakesNext s o front given stand r new xs (Err fault)
 refuses_next s o stand r new first last front given xs faults.CodeEnds reads none h = (none, ends_cut s stand.block first last r new reads.told h)
 refuses_next s o stand r new first last front given xs faults.RunPastSegment reads none h = let u = begins_unsound s stand.block first last r new _ reads.told h in (none, u.0, (tt, u.1))
@@ -183,7 +189,8 @@ refuses_next s o stand r new first last front given xs faults.Read reads none h 
 refuses_next s o stand r new first last front given xs faults.TooLong reads none h = never_long s stand.block first last stand r new reads h
 
 -- a refusal leaves the stand where it was
-pub stops_next : {I : Type 0} (s : Parameters) (o : Origin) (stand : Stand) (r new : Reader I) (steps steps_new : ℕ) (q : DecoderState) (front : List Bool) (given xs : List ℤ) (fault : CodeFault) → IsReadFrom stand r
+pub stops_next : {I : Type 0} (s : Parameters) (o : Origin) (stand : Stand) (r new : Reader I) (steps steps_new : ℕ) (q : DecoderState) (front : List Bool)
+    (given xs : List ℤ) (fault : CodeFault) → IsReadFrom stand r
     → Advances r new steps steps_new (state_of s stand) q xs (Err fault) → TakesNext s o front given stand r new xs (Err fault)
 stops_next s o stand r new steps steps_new q front given xs fault reads a =
     elim (runs_or_not (state_of s stand)) [

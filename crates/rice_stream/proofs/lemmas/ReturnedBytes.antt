@@ -33,7 +33,8 @@ abbrev pub EndsBefore : Ending → Type 0
 EndsBefore ending = (ending ≡ Reached) ⊎ ((ending ≡ Past) ⊎ (ending ≡ Large))
 
 -- what follows the bits does not matter then
-ends_before : (s : Parameters) (asked : Option ℕ) (b : ℕ) (rest more : List Bool) (ending : Ending) (used : ℕ) → EndsBefore ending → EndsWith s asked b rest ending used → EndsWith s asked b (rest ++ more) ending used
+ends_before : (s : Parameters) (asked : Option ℕ) (b : ℕ) (rest more : List Bool) (ending : Ending) (used : ℕ) → EndsBefore ending
+    → EndsWith s asked b rest ending used → EndsWith s asked b (rest ++ more) ending used
 ends_before s asked b rest more Reached used early e = e
 ends_before s asked b rest more Past used early e =
     let r = e.1 in (e.0, record { refused = r.refused; more = r.more ++ more; form = r.form; unsound = r.unsound; begins = ap (λ l. l ++ more) r.begins ∙ append_assoc _ r.more more; bits = r.bits })
@@ -47,7 +48,8 @@ ends_before s asked b rest more CutOff used (inr (inl e)) h = absurd cc
 ends_before s asked b rest more CutOff used (inr (inr e)) h = absurd cc
 
 -- what ends before the bits do decodes so with more behind it
-pub decoded_before : (s : Parameters) (asked : Option ℕ) (bits more : List Bool) (xs : List ℤ) (ending : Ending) (used : ℕ) → EndsBefore ending → Decoded s bits asked xs ending used → Decoded s (bits ++ more) asked xs ending used
+pub decoded_before : (s : Parameters) (asked : Option ℕ) (bits more : List Bool) (xs : List ℤ) (ending : Ending) (used : ℕ) → EndsBefore ending
+    → Decoded s bits asked xs ending used → Decoded s (bits ++ more) asked xs ending used
 decoded_before s asked bits more xs ending used early d = record {
   sets = d.sets;
   front = d.front;
@@ -66,7 +68,8 @@ decoded_before s asked bits more xs ending used early d = record {
 }
 
 -- what the first of some bytes decode to, where that ends before them, all do
-from_front : (s : Parameters) → IsLegal s → (asked : Option ℕ) (bytes : List ℕ) (xs ys : List ℤ) (front left : List ℕ) (ending known : Ending) (used all : ℕ) → bytes ≡ front ++ left → EndsBefore ending
+from_front : (s : Parameters) → IsLegal s → (asked : Option ℕ) (bytes : List ℕ) (xs ys : List ℤ) (front left : List ℕ) (ending known : Ending) (used all : ℕ)
+    → bytes ≡ front ++ left → EndsBefore ending
     → Decoded s (bits_of front) asked ys ending used → Decoded s (bits_of bytes) asked xs known all → (ys ≡ xs) × (ending ≡ known)
 from_front s legal asked bytes xs ys front left ending known used all split early d whole =
     let more = decoded_before s asked (bits_of front) (bits_of left) ys ending used early d in
@@ -113,12 +116,15 @@ output_short s legal xs k limit =
     let some : 1 ≤ width s = grind (arith, nat_tests) in
     let few : width s ≤ 4 = grind (arith, nat_tests) in
     let holds : s.bits ≤ 8 * width s = grind (arith, nat_tests, legal.bits_to) in
-    at s.block (length xs) (block_count s (length xs)) (id_len s + 1) s.bits (width s) (length (code s xs)) (length (output s xs)) j most (omega (arith, i)) some few holds limit (div_ceil_times (length xs) s.block (omega arith)).1 (code_short s legal xs k) (output_bits s xs)
+    at s.block (length xs) (block_count s (length xs)) (id_len s + 1) s.bits (width s) (length (code s xs)) (length (output s xs)) j most (omega (arith, i))
+    some few holds limit (div_ceil_times (length xs) s.block (omega arith)).1 (code_short s legal xs k) (output_bits s xs)
   where
-    sums : (b id x z w m bits bytes : ℕ) → b * id ≤ 6 * b → b * x ≤ 8 * z → z ≤ w * m + 256 → 2 * b ≤ m + 64 → m ≤ w * m → w * m ≤ 281474976710656 → bits ≤ b * (id + x) + 7 * b → 8 * bytes ≤ bits + 7 → bytes ≤ 562949953421312
+    sums : (b id x z w m bits bytes : ℕ) → b * id ≤ 6 * b → b * x ≤ 8 * z → z ≤ w * m + 256 → 2 * b ≤ m + 64 → m ≤ w * m → w * m ≤ 281474976710656
+        → bits ≤ b * (id + x) + 7 * b → 8 * bytes ≤ bits + 7 → bytes ≤ 562949953421312
     sums b id x z w m bits bytes h f g few some limit most whole = omega arith
 
-    at : (j m b id n w bits bytes : ℕ) → 2 ≤ j → j ≤ 64 → id ≤ 6 → 1 ≤ w → w ≤ 4 → n ≤ 8 * w → w * m ≤ 281474976710656 → b * j < m + j → bits ≤ b * (id + j * n) + 7 * b → 8 * bytes ≤ bits + 7 → bytes ≤ 562949953421312
+    at : (j m b id n w bits bytes : ℕ) → 2 ≤ j → j ≤ 64 → id ≤ 6 → 1 ≤ w → w ≤ 4 → n ≤ 8 * w → w * m ≤ 281474976710656 → b * j < m + j
+        → bits ≤ b * (id + j * n) + 7 * b → 8 * bytes ≤ bits + 7 → bytes ≤ 562949953421312
     at j m b id n w bits bytes lo hi h some four holds limit few most whole =
         let first : b * id ≤ b * 6 = mul-le-mul_left b h in
         let each : b * j * n ≤ b * j * (8 * w) = mul-le-mul_left (b * j) holds in
@@ -147,7 +153,8 @@ all_given encoding decoding consumed end = by_left decoding.left consumed end
     by_left (Some rest) c end = sym (append-nil decoding.given) ∙ ap (λ l. decoding.given ++ l) (sym end) ∙ sym c
 
 -- an output does not pass the limit of a code
-not_too_long : (s : Parameters) (encoding decoding : Call) → IsLegal s → (xs : List ℤ) → All (IsSample s) xs → (front : List ℕ) → encoding.written ≡ output s xs → encoding.given ≡ spellings s xs → length encoding.given ≤ 281474976710656
+not_too_long : (s : Parameters) (encoding decoding : Call) → IsLegal s → (xs : List ℤ) → All (IsSample s) xs → (front : List ℕ) → encoding.written ≡ output s xs
+    → encoding.given ≡ spellings s xs → length encoding.given ≤ 281474976710656
     → Consumes (Some encoding.written) decoding.left decoding.given → PassesLimit 562949953421312 decoding.given front → ⊥
 not_too_long s encoding decoding legal xs k front written bytes limit consumed passes =
     let given = ap length passes.split ∙ length-append front (passes.last ∷ []) in
@@ -184,12 +191,15 @@ returns_bytes s legal enc dec encoded decoded fault encodes consumed decodes = b
     at_front : DecodesBytes s (Some encoded.samples) dec decoded dec.given ys decodes.ending → EndsBefore decodes.ending → (ys ≡ xs) × (decodes.ending ≡ Reached)
     at_front d early =
         let parts = given_of enc dec consumed in
-        from_front s legal (Some (length xs)) (output s xs) xs ys dec.given parts.0 decodes.ending Reached d.0 all.0 (sym written ∙ parts.1) early (subst (λ (m : ℕ). Decoded s (bits_of dec.given) (Some m) ys decodes.ending d.0) n d.1) all.1
+        from_front s legal (Some (length xs)) (output s xs) xs ys dec.given parts.0 decodes.ending Reached d.0 all.0 (sym written ∙ parts.1) early
+        (subst (λ (m : ℕ). Decoded s (bits_of dec.given) (Some m) ys decodes.ending d.0) n d.1) all.1
 
-    not_at_end : IsAtEnd dec.left → DecodesBytes s (Some encoded.samples) dec decoded dec.given ys decodes.ending → (decodes.ending ≡ CutOff) ⊎ ((decodes.ending ≡ Ended) × IsSome (Some encoded.samples)) → ⊥
+    not_at_end : IsAtEnd dec.left → DecodesBytes s (Some encoded.samples) dec decoded dec.given ys decodes.ending
+        → (decodes.ending ≡ CutOff) ⊎ ((decodes.ending ≡ Ended) × IsSome (Some encoded.samples)) → ⊥
     not_at_end end d ends =
         let whole : dec.given ≡ output s xs = all_given enc dec consumed end ∙ written in
-        let there = subst (λ (l : List ℕ). Decoded s (bits_of l) (Some (length xs)) ys decodes.ending d.0) whole (subst (λ (m : ℕ). Decoded s (bits_of dec.given) (Some m) ys decodes.ending d.0) n d.1) in
+        let there = subst (λ (l : List ℕ). Decoded s (bits_of l) (Some (length xs)) ys decodes.ending d.0) whole
+        (subst (λ (m : ℕ). Decoded s (bits_of dec.given) (Some m) ys decodes.ending d.0) n d.1) in
         let one = decoded_is_one s legal 0 0 (pos 0) (zero_is_sample s legal.bits_from) (bits_of (output s xs)) (Some (length xs)) ys xs decodes.ending Reached d.0 all.0 there all.1 in
         let reached = one.1 in
         elim ends [ inl e ↦ absurd cc | inr e ↦ absurd (let ended = e.0 in cc) ]
@@ -235,7 +245,8 @@ returns_bytes_and_fill s legal enc dec encoded decoded fault encodes consumed de
     at_end : IsAtEnd dec.left → DecodesBytes s None dec decoded dec.given ys decodes.ending → (ys ≡ xs ++ all.0) × (decodes.ending ≡ Ended)
     at_end end d =
         let there = subst (λ (l : List ℕ). Decoded s (bits_of l) None ys decodes.ending d.0) (all_given enc dec consumed end ∙ written) d.1 in
-        let one = decoded_is_one s legal 0 0 (pos 0) (zero_is_sample s legal.bits_from) (bits_of (output s xs)) None ys (xs ++ all.0) decodes.ending Ended d.0 (length (bits_of (output s xs))) there all.2 in
+        let one = decoded_is_one s legal 0 0 (pos 0) (zero_is_sample s legal.bits_from) (bits_of (output s xs)) None ys (xs ++ all.0) decodes.ending Ended d.0
+        (length (bits_of (output s xs))) there all.2 in
         (one.0, one.1)
 
     by_fault : (fault : Option Fault) → EndsDecoding s None fault dec decoded ys decodes.ending → Ends fault

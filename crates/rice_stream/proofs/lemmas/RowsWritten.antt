@@ -48,7 +48,8 @@ later_set more old new steps steps_new s b p samples run g =
     }
 
 -- steps that were counted before change nothing
-gives_with_more_steps : {I : Type 0} (more : ℕ) (old new : Reader I) (steps steps_new : ℕ) (p q : DecoderState) (bytes : List ℕ) → GivesBytes old new steps steps_new p q bytes → GivesBytes old new (steps + more) (steps_new + more) p q bytes
+gives_with_more_steps : {I : Type 0} (more : ℕ) (old new : Reader I) (steps steps_new : ℕ) (p q : DecoderState) (bytes : List ℕ)
+    → GivesBytes old new steps steps_new p q bytes → GivesBytes old new (steps + more) (steps_new + more) p q bytes
 gives_with_more_steps more old new steps steps_new p q bytes g = record {
   samples = g.samples;
   answers = (later_set more (with_mark old) new steps steps_new p.setting p.block p.before g.samples q.run g.answers.0, g.answers.1);
@@ -63,8 +64,10 @@ bytes_apart s n bytes =
     ap (λ k. take k bytes) e ∙ take-add (width s * s.block) (width s * s.block * n) bytes
 
 -- one block is written
-pub one_on : {I : Type 0} {s : Parameters} {asked : Option ℕ} {start : Reader I} {out_old : Option Room} (more : ℕ) (out out_new : Option Room) (r m : Reader I) (steps steps_m : ℕ) (p d : DecoderState) (bytes : List ℕ) (written : ℕ) → IsLegal s
-    → DecodingProgress s asked start out_old out p r (steps + more) written → p.run ≡ 0 → GivesBytes r m steps steps_m p d bytes → AreCounted steps steps_m r.taken m.taken → d.run ≡ 0 → wanted_of asked written s.block ≡ s.block
+pub one_on : {I : Type 0} {s : Parameters} {asked : Option ℕ} {start : Reader I} {out_old : Option Room} (more : ℕ) (out out_new : Option Room) (r m : Reader I)
+    (steps steps_m : ℕ) (p d : DecoderState) (bytes : List ℕ) (written : ℕ) → IsLegal s
+    → DecodingProgress s asked start out_old out p r (steps + more) written → p.run ≡ 0 → GivesBytes r m steps steps_m p d bytes
+    → AreCounted steps steps_m r.taken m.taken → d.run ≡ 0 → wanted_of asked written s.block ≡ s.block
     → Appends out out_new (take (width s * s.block) bytes) → DecodingProgress s asked start out_old out_new d m (steps_m + (more + s.block)) (written + s.block)
 one_on {s = s} more out out_new r m steps steps_m p d bytes written legal runs none g counted none_new is put =
     let at = runs.at_block in
@@ -78,11 +81,14 @@ one_on {s = s} more out out_new r m steps steps_m p d bytes written legal runs n
     let d_none : d.run * d.setting.block ≡ 0 = ap (λ k. k * d.setting.block) none_new ∙ omega arith in
     let d_run : d.run * s.block ≡ 0 = ap (λ k. k * s.block) none_new ∙ omega arith in
     let few : s.block + d.run * s.block ≤ p.run * s.block + 456 * (m.taken - r.taken) = omega (arith, block.len, by_bits, d_none, d_run) in
-    let ticks : AreCounted (steps + more) (steps_m + more) r.taken m.taken = record { forward = counted.forward; limit = counted.limit; least = omega (arith, counted.least); most = omega (arith, counted.most) } in
-    progress_with_block s.block (steps_m + (more + s.block)) legal runs (sym is) (λ e. omega (arith, e, is, j)) (gains_block legal runs a) (moves_of at.going a) (record { counted = ticks; few = few }) (omega arith) first
+    let ticks : AreCounted (steps + more) (steps_m + more) r.taken m.taken =
+    record { forward = counted.forward; limit = counted.limit; least = omega (arith, counted.least); most = omega (arith, counted.most) } in
+    progress_with_block s.block (steps_m + (more + s.block)) legal runs (sym is) (λ e. omega (arith, e, is, j)) (gains_block legal runs a) (moves_of at.going a)
+    (record { counted = ticks; few = few }) (omega arith) first
 
 -- a row that was written goes on with what was decoded so far
-pub progress_on_row : {I : Type 0} {s : Parameters} {asked : Option ℕ} {start : Reader I} {out_old : Option Room} (n more : ℕ) (out out_new : Option Room) (r new : Reader I) (steps last : ℕ) (p q : DecoderState) (bytes : List ℕ) (written : ℕ) → IsLegal s
+pub progress_on_row : {I : Type 0} {s : Parameters} {asked : Option ℕ} {start : Reader I} {out_old : Option Room} (n more : ℕ) (out out_new : Option Room)
+    (r new : Reader I) (steps last : ℕ) (p q : DecoderState) (bytes : List ℕ) (written : ℕ) → IsLegal s
     → DecodingProgress s asked start out_old out p r (steps + more) written → p.run ≡ 0 → GivesRow n r new steps last p q bytes → IfSome asked (λ k. written + s.block * n ≤ k)
     → Appends out out_new (take (row_bytes s n) bytes) → DecodingProgress s asked start out_old out_new q new (last + (more + s.block * n)) (written + s.block * n)
 progress_on_row {I} {s = s} {asked = asked} {start = start} {out_old = out_old} zero more out out_new r new steps last p q bytes written legal runs none (same, same_steps, same_state) wanted put =
@@ -94,24 +100,29 @@ progress_on_row {I} {s = s} {asked = asked} {start = start} {out_old = out_old} 
     subst (λ (d : DecoderState). DecodingProgress s asked start out_old out_new d new (last + (more + s.block * 0)) (written + s.block * 0)) (sym same_state)
     (subst (λ (t : Reader I). DecodingProgress s asked start out_old out_new p t (last + (more + s.block * 0)) (written + s.block * 0)) (sym same)
     (subst (λ k. DecodingProgress s asked start out_old out_new p r k (written + s.block * 0)) a (subst (λ k. DecodingProgress s asked start out_old out_new p r (steps + more) k) b there)))
-progress_on_row {s = s} {asked = asked} {start = start} {out_old = out_old} (suc n) more out out_new r new steps last p q bytes written legal runs none (m, k, d, g, counted, none_new, rest) wanted put =
+progress_on_row {s = s} {asked = asked} {start = start} {out_old = out_old} (suc n) more out out_new r new steps last p q bytes written legal runs none
+    (m, k, d, g, counted, none_new, rest) wanted put =
     let parts = Appends-split out out_new (take (width s * s.block) bytes) (take (row_bytes s n) (drop (width s * s.block) bytes)) (subst (λ l. Appends out out_new l) (bytes_apart s n bytes) put) in
     let here = one_on more out parts.0 r m steps k p d bytes written legal runs none g counted none_new (all_wanted asked written s.block n wanted) parts.1 in
     let own : width p.setting * p.setting.block ≡ width s * s.block = ap (λ t. width t * t.block) runs.at_block.setting in
     let tail = subst (λ c. GivesRow n m new k last d q (drop c bytes)) own rest in
-    let done = progress_on_row n (more + s.block) parts.0 out_new m new k last d q (drop (width s * s.block) bytes) (written + s.block) legal here none_new tail (more_wanted asked written s.block n wanted) parts.2 in
+    let done = progress_on_row n (more + s.block) parts.0 out_new m new k last d q (drop (width s * s.block) bytes) (written + s.block) legal here none_new tail
+    (more_wanted asked written s.block n wanted) parts.2 in
     let all : s.block * suc n ≡ s.block + s.block * n = omega arith in
     let a : last + (more + s.block + s.block * n) ≡ last + (more + s.block * suc n) = omega (arith, all) in
     let b : written + s.block + s.block * n ≡ written + s.block * suc n = omega (arith, all) in
-    subst (λ x. DecodingProgress s asked start out_old out_new q new x (written + s.block * suc n)) a (subst (λ x. DecodingProgress s asked start out_old out_new q new (last + (more + s.block + s.block * n)) x) b done)
+    subst (λ x. DecodingProgress s asked start out_old out_new q new x (written + s.block * suc n)) a
+    (subst (λ x. DecodingProgress s asked start out_old out_new q new (last + (more + s.block + s.block * n)) x) b done)
 
 -- the outlet fails in a row
-pub fails_in_row : {I : Type 0} {s : Parameters} {asked : Option ℕ} {start : Reader I} {out_old : Option Room} {rep : Report} {f : Option Fault} {left : Option (List ℕ)} {failed : ℕ} (n more : ℕ) (out room out_new : Option Room) (r new : Reader I) (steps last : ℕ)
+pub fails_in_row : {I : Type 0} {s : Parameters} {asked : Option ℕ} {start : Reader I} {out_old : Option Room} {rep : Report} {f : Option Fault}
+    {left : Option (List ℕ)} {failed : ℕ} (n more : ℕ) (out room out_new : Option Room) (r new : Reader I) (steps last : ℕ)
     (p q : DecoderState) (bytes : List ℕ) (written : ℕ) → IsLegal s
     → DecodingProgress s asked start out_old out p r (steps + more) written → p.run ≡ 0 → GivesRow (suc n) r new steps last p q bytes → IfSome asked (λ k. written + s.block * suc n ≤ k)
     → Appends out room (take (row_bytes s n) bytes) → TakesPart room out_new (take (row_bytes s 1) (drop (row_bytes s n) bytes))
     → Reports rep f left failed new (written + s.block * n) (last + (more + s.block * n)) (Some Write) → Ends s asked start.left left out_old out_new rep f
-fails_in_row {I} {s = s} {asked = asked} {start = start} {out_old = out_old} {rep = rep} {f = f} {left = left} {failed = failed} zero more out room out_new r new steps last p q bytes written legal runs none (m, k, d, g, counted, none_new, (same, same_steps, same_state)) wanted put part tells =
+fails_in_row {I} {s = s} {asked = asked} {start = start} {out_old = out_old} {rep = rep} {f = f} {left = left} {failed = failed} zero more out room out_new r
+    new steps last p q bytes written legal runs none (m, k, d, g, counted, none_new, (same, same_steps, same_state)) wanted put part tells =
     let at = runs.at_block in
     let j : 2 ≤ s.block = grind (arith, legal.block) in
     let nothing : s.block * 0 ≡ 0 = omega arith in
@@ -127,9 +138,12 @@ fails_in_row {I} {s = s} {asked = asked} {start = start} {out_old = out_old} {re
     let is = all_wanted asked written s.block 0 wanted in
     let same_written : written + s.block * 0 ≡ written = omega (arith, nothing) in
     let ticked : last + (more + s.block * 0) ≡ k + more = omega (arith, nothing, same_steps) in
-    let told = subst (λ (t : Reader I). Reports rep f left failed t written (k + more) (Some Write)) same (subst (λ x. Reports rep f left failed new x (k + more) (Some Write)) same_written (subst (λ x. Reports rep f left failed new (written + s.block * 0) x (Some Write)) ticked tells)) in
+    let told = subst (λ (t : Reader I). Reports rep f left failed t written (k + more) (Some Write)) same
+    (subst (λ x. Reports rep f left failed new x (k + more) (Some Write)) same_written
+    (subst (λ x. Reports rep f left failed new (written + s.block * 0) x (Some Write)) ticked tells)) in
     write_ends s.block d legal there (sym is) (λ e. omega (arith, e, is, j)) (gains_block legal there a) piece told
-fails_in_row {s = s} {asked = asked} {start = start} {out_old = out_old} {rep = rep} {f = f} {left = left} {failed = failed} (suc n) more out room out_new r new steps last p q bytes written legal runs none (m, k, d, g, counted, none_new, rest) wanted put part tells =
+fails_in_row {s = s} {asked = asked} {start = start} {out_old = out_old} {rep = rep} {f = f} {left = left} {failed = failed} (suc n) more out room out_new r new
+    steps last p q bytes written legal runs none (m, k, d, g, counted, none_new, rest) wanted put part tells =
     let parts = Appends-split out room (take (width s * s.block) bytes) (take (row_bytes s n) (drop (width s * s.block) bytes)) (subst (λ l. Appends out room l) (bytes_apart s n bytes) put) in
     let here = one_on more out parts.0 r m steps k p d bytes written legal runs none g counted none_new (all_wanted asked written s.block (suc n) wanted) parts.1 in
     let own : width p.setting * p.setting.block ≡ width s * s.block = ap (λ t. width t * t.block) runs.at_block.setting in
@@ -139,13 +153,17 @@ fails_in_row {s = s} {asked = asked} {start = start} {out_old = out_old} {rep = 
     let b : written + s.block * suc n ≡ written + s.block + s.block * n = omega (arith, all) in
     let bytes_on : drop (row_bytes s (suc n)) bytes ≡ drop (row_bytes s n) (drop (width s * s.block) bytes) =
     (let e : width s * s.block * suc n ≡ width s * s.block + width s * s.block * n = omega arith in ap (λ c. drop c bytes) e ∙ sym (drop-drop (width s * s.block * n) (width s * s.block) bytes)) in
-    let told = subst (λ x. Reports rep f left failed new x (last + (more + s.block + s.block * n)) (Some Write)) b (subst (λ x. Reports rep f left failed new (written + s.block * suc n) x (Some Write)) a tells) in
-    fails_in_row n (more + s.block) parts.0 room out_new m new k last d q (drop (width s * s.block) bytes) (written + s.block) legal here none_new tail (more_wanted asked written s.block (suc n) wanted) parts.2
+    let told = subst (λ x. Reports rep f left failed new x (last + (more + s.block + s.block * n)) (Some Write)) b
+    (subst (λ x. Reports rep f left failed new (written + s.block * suc n) x (Some Write)) a tells) in
+    fails_in_row n (more + s.block) parts.0 room out_new m new k last d q (drop (width s * s.block) bytes) (written + s.block) legal here none_new tail
+    (more_wanted asked written s.block (suc n) wanted) parts.2
     (subst (λ l. TakesPart room out_new (take (row_bytes s 1) l)) bytes_on part) told
 
 -- a row that was cut
-pub row_cut : {I : Type 0} (s : Parameters) (all taken size : ℕ) (old new : Reader I) (steps steps_new : ℕ) (p q : DecoderState) (bytes row : List ℕ) (out out_new : Option Room) → 1 ≤ size → size ≡ width s * s.block → row ≡ take (row_bytes s all) bytes → row_bytes s all ≤ length bytes
-    → taken < length row → GivesRow (suc (taken / size)) old new steps steps_new p q bytes → Appends out out_new (take taken row) → FailsInRow s all old new steps steps_new p q bytes out out_new (s.block * (taken / size))
+pub row_cut : {I : Type 0} (s : Parameters) (all taken size : ℕ) (old new : Reader I) (steps steps_new : ℕ) (p q : DecoderState) (bytes row : List ℕ)
+    (out out_new : Option Room) → 1 ≤ size → size ≡ width s * s.block → row ≡ take (row_bytes s all) bytes → row_bytes s all ≤ length bytes
+    → taken < length row → GivesRow (suc (taken / size)) old new steps steps_new p q bytes → Appends out out_new (take taken row)
+    → FailsInRow s all old new steps steps_new p q bytes out out_new (s.block * (taken / size))
 row_cut s all taken size old new steps steps_new p q bytes row out out_new some wide is there short gives put =
     let n = taken / size in
     let rest = taken % size in
@@ -188,7 +206,8 @@ record RowCosts {I : Type 0} (s : Parameters) (n : ℕ) (r new : Reader I) : Typ
   pub failures : new.failed ≡ r.failed
 
 -- the bits and steps of a row are those of its blocks
-row_costs : {I : Type 0} (n : ℕ) (s : Parameters) (r new : Reader I) (steps last : ℕ) (p q : DecoderState) (bytes : List ℕ) → p.setting ≡ s → p.stopped ≡ None → p.run ≡ 0 → GivesRow n r new steps last p q bytes → RowCosts s n r new
+row_costs : {I : Type 0} (n : ℕ) (s : Parameters) (r new : Reader I) (steps last : ℕ) (p q : DecoderState) (bytes : List ℕ) → p.setting ≡ s → p.stopped ≡ None
+    → p.run ≡ 0 → GivesRow n r new steps last p q bytes → RowCosts s n r new
 row_costs {I} zero s r new steps last p q bytes setting going none (same, same_steps, same_state) =
     let nothing : s.block * 0 ≡ 0 = omega arith in
     record { by_bits = omega (arith, nothing); forward = (let e = ap (λ (t : Reader I). t.taken) same in omega (arith, e)); failures = ap (λ (t : Reader I). t.failed) same }
@@ -196,7 +215,8 @@ row_costs {I} (suc n) s r new steps last p q bytes setting going none (m, k, d, 
     let a = advances_spelled none g in
     let moves = moves_of going a in
     let block = samples_of_block s setting going a in
-    let on = row_costs n s m new k last d q (drop (width p.setting * p.setting.block) bytes) (ap (λ (t : DecoderState). t.setting) moves ∙ setting) (ap (λ (t : DecoderState). t.stopped) moves ∙ going) none_new rest in
+    let on = row_costs n s m new k last d q (drop (width p.setting * p.setting.block) bytes) (ap (λ (t : DecoderState). t.setting) moves ∙ setting)
+    (ap (λ (t : DecoderState). t.stopped) moves ∙ going) none_new rest in
     let all : s.block * suc n ≡ s.block + s.block * n = omega arith in
     let by_bits = g.by_bits in
     let set = g.answers.0 in
@@ -212,10 +232,13 @@ fewer_wanted None written size few all h w = tt
 fewer_wanted (Some k) written size few all h w = let le : written + size * all ≤ k = w in let m = mul-le-mul_left size h in omega (arith, le, m)
 
 -- a row is written
-pub progress_with_row : {I : Type 0} {s : Parameters} {asked : Option ℕ} {start : Reader I} {out_old out out_new : Option Room} {p q : DecoderState} {r new : Reader I} {steps last written blocks count steps_next : ℕ} {bytes : List ℕ} → IsLegal s
-    → DecodingProgress s asked start out_old out p r steps written → p.run ≡ 0 → WritesRow s blocks r new steps last p q bytes out out_new count → IfSome asked (λ k. written + s.block * blocks ≤ k) → steps_next ≡ last + count
+pub progress_with_row : {I : Type 0} {s : Parameters} {asked : Option ℕ} {start : Reader I} {out_old out out_new : Option Room} {p q : DecoderState}
+    {r new : Reader I} {steps last written blocks count steps_next : ℕ} {bytes : List ℕ} → IsLegal s
+    → DecodingProgress s asked start out_old out p r steps written → p.run ≡ 0 → WritesRow s blocks r new steps last p q bytes out out_new count
+    → IfSome asked (λ k. written + s.block * blocks ≤ k) → steps_next ≡ last + count
     → DecodingProgress s asked start out_old out_new q new steps_next (written + count)
-progress_with_row {s = s} {asked = asked} {start = start} {out_old = out_old} {out = out} {out_new = out_new} {p = p} {q = q} {r = r} {new = new} {steps = steps} {last = last} {written = written} {blocks = blocks} {count = count} {steps_next = steps_next} {bytes = bytes} legal runs none w wanted ticked =
+progress_with_row {s = s} {asked = asked} {start = start} {out_old = out_old} {out = out} {out_new = out_new} {p = p} {q = q} {r = r} {new = new}
+    {steps = steps} {last = last} {written = written} {blocks = blocks} {count = count} {steps_next = steps_next} {bytes = bytes} legal runs none w wanted ticked =
     let zero_more : steps ≡ steps + 0 = omega arith in
     let begun = subst (λ k. DecodingProgress s asked start out_old out p r k written) zero_more runs in
     let done = progress_on_row blocks 0 out out_new r new steps last p q bytes written legal begun none w.gives wanted w.put in
@@ -225,10 +248,14 @@ progress_with_row {s = s} {asked = asked} {start = start} {out_old = out_old} {o
     subst (λ k. DecodingProgress s asked start out_old out_new q new k (written + count)) a (subst (λ k. DecodingProgress s asked start out_old out_new q new (last + (0 + s.block * blocks)) k) b done)
 
 -- the outlet fails in a row
-pub row_fails : {I : Type 0} {s : Parameters} {asked : Option ℕ} {start : Reader I} {out_old out out_new : Option Room} {p q : DecoderState} {r new : Reader I} {steps last written all count steps_new : ℕ} {bytes : List ℕ} {rep : Report} {f : Option Fault} {left : Option (List ℕ)} {failed : ℕ} → IsLegal s
-    → DecodingProgress s asked start out_old out p r steps written → p.run ≡ 0 → FailsInRow s all r new steps last p q bytes out out_new count → IfSome asked (λ k. written + s.block * all ≤ k) → steps_new ≡ last + count
+pub row_fails : {I : Type 0} {s : Parameters} {asked : Option ℕ} {start : Reader I} {out_old out out_new : Option Room} {p q : DecoderState} {r new : Reader I}
+    {steps last written all count steps_new : ℕ} {bytes : List ℕ} {rep : Report} {f : Option Fault} {left : Option (List ℕ)} {failed : ℕ} → IsLegal s
+    → DecodingProgress s asked start out_old out p r steps written → p.run ≡ 0 → FailsInRow s all r new steps last p q bytes out out_new count
+    → IfSome asked (λ k. written + s.block * all ≤ k) → steps_new ≡ last + count
     → Reports rep f left failed new (written + count) steps_new (Some Write) → Ends s asked start.left left out_old out_new rep f
-row_fails {s = s} {asked = asked} {start = start} {out_old = out_old} {out = out} {out_new = out_new} {p = p} {q = q} {r = r} {new = new} {steps = steps} {last = last} {written = written} {all = all} {count = count} {steps_new = steps_new} {bytes = bytes} {rep = rep} {f = f} {left = left} {failed = failed} legal runs none w wanted ticked tells =
+row_fails {s = s} {asked = asked} {start = start} {out_old = out_old} {out = out} {out_new = out_new} {p = p} {q = q} {r = r} {new = new} {steps = steps}
+    {last = last} {written = written} {all = all} {count = count} {steps_new = steps_new} {bytes = bytes} {rep = rep} {f = f} {left = left} {failed = failed}
+    legal runs none w wanted ticked tells =
     let zero_more : steps ≡ steps + 0 = omega arith in
     let begun = subst (λ k. DecodingProgress s asked start out_old out p r k written) zero_more runs in
     let c = w.count_is in
@@ -238,10 +265,13 @@ row_fails {s = s} {asked = asked} {start = start} {out_old = out_old} {out = out
     fails_in_row w.blocks 0 out w.room out_new r new steps last p q bytes written legal begun none w.gives (fewer_wanted asked written s.block (suc w.blocks) all w.within wanted) w.put w.part told
 
 -- a row whose write fails is within the bounds
-pub row_fails_within : {I : Type 0} {s : Parameters} {asked : Option ℕ} {start : Reader I} {out_old out out_new : Option Room} {p q : DecoderState} {r new : Reader I} {steps last written all count steps_new : ℕ} {bytes : List ℕ} {rep : Report} {f : Option Fault} {left : Option (List ℕ)} {failed : ℕ}
-    → DecodingProgress s asked start out_old out p r steps written → p.run ≡ 0 → FailsInRow s all r new steps last p q bytes out out_new count → AreCounted steps last r.taken new.taken → IfSome asked (λ k. written + s.block * all ≤ k) → steps_new ≡ last + count
+pub row_fails_within : {I : Type 0} {s : Parameters} {asked : Option ℕ} {start : Reader I} {out_old out out_new : Option Room} {p q : DecoderState}
+    {r new : Reader I} {steps last written all count steps_new : ℕ} {bytes : List ℕ} {rep : Report} {f : Option Fault} {left : Option (List ℕ)} {failed : ℕ}
+    → DecodingProgress s asked start out_old out p r steps written → p.run ≡ 0 → FailsInRow s all r new steps last p q bytes out out_new count
+    → AreCounted steps last r.taken new.taken → IfSome asked (λ k. written + s.block * all ≤ k) → steps_new ≡ last + count
     → Reports rep f left failed new (written + count) steps_new (Some Write) → DecodesWithin asked rep
-row_fails_within {s = s} {asked = asked} {p = p} {q = q} {r = r} {new = new} {steps = steps} {last = last} {written = written} {all = all} {count = count} {steps_new = steps_new} {bytes = bytes} {rep = rep} runs none w counted wanted ticked tells =
+row_fails_within {s = s} {asked = asked} {p = p} {q = q} {r = r} {new = new} {steps = steps} {last = last} {written = written} {all = all} {count = count}
+    {steps_new = steps_new} {bytes = bytes} {rep = rep} runs none w counted wanted ticked tells =
     let at = runs.at_block in
     let costs = row_costs (suc w.blocks) s r new steps last p q bytes at.setting at.going none w.gives in
     let more : s.block * suc w.blocks ≡ s.block + s.block * w.blocks = omega arith in
@@ -266,7 +296,8 @@ row_fails_within {s = s} {asked = asked} {p = p} {q = q} {r = r} {new = new} {st
         omega (arith, le, e, c, tells.samples_are)
 
 -- and ends in the block that was not written whole
-pub row_fails_so : {I : Type 0} {s : Parameters} {asked : Option ℕ} {start : Reader I} {out_old out out_new : Option Room} {p q : DecoderState} {r new : Reader I} {steps last written all count steps_new : ℕ} {bytes : List ℕ} {rep : Report} {f : Option Fault} {left : Option (List ℕ)} {failed : ℕ} (writes writes_new : ℕ)
+pub row_fails_so : {I : Type 0} {s : Parameters} {asked : Option ℕ} {start : Reader I} {out_old out out_new : Option Room} {p q : DecoderState}
+    {r new : Reader I} {steps last written all count steps_new : ℕ} {bytes : List ℕ} {rep : Report} {f : Option Fault} {left : Option (List ℕ)} {failed : ℕ} (writes writes_new : ℕ)
     → DecodingProgress s asked start out_old out p r steps written → p.run ≡ 0 → FailsInRow s all r new steps last p q bytes out out_new count → writes_new ≡ writes + 1
     → Reports rep f left failed new (written + count) steps_new (Some Write) → Fails f start.failed failed writes writes_new
 row_fails_so {s = s} {start = start} {p = p} {q = q} {r = r} {new = new} {steps = steps} {last = last} {bytes = bytes} {failed = failed} writes writes_new runs none w more tells =
@@ -275,7 +306,8 @@ row_fails_so {s = s} {start = start} {p = p} {q = q} {r = r} {new = new} {steps 
     subst (λ g. Fails g start.failed failed writes writes_new) (sym tells.fault_is) (tells.failed_is ∙ (costs.failures ∙ runs.reads), more)
 
 -- bits are taken for a row
-pub row_takes : {I : Type 0} {s : Parameters} {asked : Option ℕ} {start : Reader I} {out_old out out_new : Option Room} {p q : DecoderState} {r new : Reader I} {steps last written blocks count : ℕ} {bytes : List ℕ} → IsLegal s
+pub row_takes : {I : Type 0} {s : Parameters} {asked : Option ℕ} {start : Reader I} {out_old out out_new : Option Room} {p q : DecoderState} {r new : Reader I}
+    {steps last written blocks count : ℕ} {bytes : List ℕ} → IsLegal s
     → DecodingProgress s asked start out_old out p r steps written → p.run ≡ 0 → 1 ≤ blocks → WritesRow s blocks r new steps last p q bytes out out_new count → r.taken < new.taken
 row_takes {s = s} {p = p} {q = q} {r = r} {new = new} {steps = steps} {last = last} {blocks = blocks} {bytes = bytes} legal runs none some w =
     let at = runs.at_block in

@@ -43,7 +43,8 @@ take-repeated (suc m) (suc n) xs h =
 
 pub repeated-append : (m n : ℕ) (xs : List ℕ) → repeated m xs ++ repeated n xs ≡ repeated (m + n) xs
 repeated-append zero n xs = (let e : n ≡ 0 + n = omega arith in ap (λ m. repeated m xs) e)
-repeated-append (suc m) n xs = append_assoc xs (repeated m xs) (repeated n xs) ∙ ap (λ l. xs ++ l) (repeated-append m n xs) ∙ (let e : suc (m + n) ≡ suc m + n = omega arith in ap (λ k. repeated k xs) e)
+repeated-append (suc m) n xs = append_assoc xs (repeated m xs) (repeated n xs) ∙ ap (λ l. xs ++ l) (repeated-append m n xs)
+    ∙ (let e : suc (m + n) ≡ suc m + n = omega arith in ap (λ k. repeated k xs) e)
 
 -- the spellings of one sample again and again
 pub spellings-repeat : (s : Parameters) (n : ℕ) (x : ℤ) → spellings s (replicate n x) ≡ repeated n (spelling s x)
@@ -122,8 +123,10 @@ more_wanted None written block n h = tt
 more_wanted (Some k) written block n h = let le : written + block * suc n ≤ k = h in omega (arith, le)
 
 -- blocks of a run are written
-pub progress_on : {I : Type 0} {s : Parameters} {asked : Option ℕ} {start : Reader I} {out_old : Option Room} {r : Reader I} (blocks : ℕ) (out out_new : Option Room) (p q : DecoderState) (steps written : ℕ) → IsLegal s
-    → DecodingProgress s asked start out_old out p r steps written → RepeatsBlocks blocks p q → IfSome asked (λ n. written + s.block * blocks ≤ n) → Appends out out_new (spellings s (replicate (s.block * blocks) p.before))
+pub progress_on : {I : Type 0} {s : Parameters} {asked : Option ℕ} {start : Reader I} {out_old : Option Room} {r : Reader I} (blocks : ℕ)
+    (out out_new : Option Room) (p q : DecoderState) (steps written : ℕ) → IsLegal s
+    → DecodingProgress s asked start out_old out p r steps written → RepeatsBlocks blocks p q → IfSome asked (λ n. written + s.block * blocks ≤ n)
+    → Appends out out_new (spellings s (replicate (s.block * blocks) p.before))
     → DecodingProgress s asked start out_old out_new q r (steps + s.block * blocks) (written + s.block * blocks)
 progress_on {s = s} {asked = asked} {start = start} {out_old = out_old} {r = r} zero out out_new p q steps written legal runs same wanted put =
     let nothing : s.block * 0 ≡ 0 = omega arith in
@@ -147,7 +150,8 @@ progress_on {s = s} {asked = asked} {start = start} {out_old = out_old} {r = r} 
     let is = all_wanted asked written s.block n wanted in
     let j : 2 ≤ s.block = grind (arith, legal.block) in
     let more = run_is_more p m xs g in
-    let few : s.block + m.run * s.block ≤ p.run * s.block + 456 * (r.taken - r.taken) = (let e : p.run * s.block ≡ s.block + m.run * s.block = ap (λ k. k * s.block) more ∙ omega arith in omega (arith, e)) in
+    let few : s.block + m.run * s.block ≤ p.run * s.block + 456 * (r.taken - r.taken) =
+    (let e : p.run * s.block ≡ s.block + m.run * s.block = ap (λ k. k * s.block) more ∙ omega arith in omega (arith, e)) in
     let limit = runs.limit in
     let here = progress_with_block s.block (steps + s.block) legal runs (sym is) (λ none. omega (arith, none, is, j)) (gains_block legal runs (advances_in_run r steps p m xs g)) g.moves
     (record { counted = record { forward = omega arith; limit = limit; least = omega arith; most = omega arith }; few = few }) refl first in
@@ -156,22 +160,29 @@ progress_on {s = s} {asked = asked} {start = start} {out_old = out_old} {r = r} 
     let done = progress_on n parts.0 out_new m q (steps + s.block) (written + s.block) legal here rest (more_wanted asked written s.block n wanted) second in
     let a : steps + s.block + s.block * n ≡ steps + s.block * suc n = omega (arith, all) in
     let b : written + s.block + s.block * n ≡ written + s.block * suc n = omega (arith, all) in
-    subst (λ (k : ℕ). DecodingProgress s asked start out_old out_new q r k (written + s.block * suc n)) a (subst (λ (k : ℕ). DecodingProgress s asked start out_old out_new q r (steps + s.block + s.block * n) k) b done)
+    subst (λ (k : ℕ). DecodingProgress s asked start out_old out_new q r k (written + s.block * suc n)) a
+    (subst (λ (k : ℕ). DecodingProgress s asked start out_old out_new q r (steps + s.block + s.block * n) k) b done)
 
 -- blocks of a run that were written go on with what was decoded so far
-pub progress_with_run : {I : Type 0} {s : Parameters} {asked : Option ℕ} {start : Reader I} {out_old out out_new : Option Room} {p q : DecoderState} {r : Reader I} {steps written count steps_next : ℕ} → IsLegal s
-    → DecodingProgress s asked start out_old out p r steps written → WritesRun s asked written p q out out_new count → steps_next ≡ steps + count → DecodingProgress s asked start out_old out_new q r steps_next (written + count)
-progress_with_run {s = s} {asked = asked} {start = start} {out_old = out_old} {out = out} {out_new = out_new} {p = p} {q = q} {r = r} {steps = steps} {written = written} {count = count} legal runs w ticked =
+pub progress_with_run : {I : Type 0} {s : Parameters} {asked : Option ℕ} {start : Reader I} {out_old out out_new : Option Room} {p q : DecoderState}
+    {r : Reader I} {steps written count steps_next : ℕ} → IsLegal s
+    → DecodingProgress s asked start out_old out p r steps written → WritesRun s asked written p q out out_new count → steps_next ≡ steps + count
+    → DecodingProgress s asked start out_old out_new q r steps_next (written + count)
+progress_with_run {s = s} {asked = asked} {start = start} {out_old = out_old} {out = out} {out_new = out_new} {p = p} {q = q} {r = r} {steps = steps}
+    {written = written} {count = count} legal runs w ticked =
     let e = w.count_is in
-    let done = progress_on w.blocks out out_new p q steps written legal runs w.passes (subst (λ (n : ℕ). IfSome asked (λ k. written + n ≤ k)) e w.wanted) (subst (λ (n : ℕ). Appends out out_new (spellings s (replicate n p.before))) e w.put) in
+    let done = progress_on w.blocks out out_new p q steps written legal runs w.passes (subst (λ (n : ℕ). IfSome asked (λ k. written + n ≤ k)) e w.wanted)
+    (subst (λ (n : ℕ). Appends out out_new (spellings s (replicate n p.before))) e w.put) in
     let at = subst (λ (n : ℕ). DecodingProgress s asked start out_old out_new q r (steps + n) (written + n)) (sym e) done in
     subst (λ (n : ℕ). DecodingProgress s asked start out_old out_new q r n (written + count)) (sym ticked) at
 
 -- the outlet fails in a run
-pub run_fails : {I : Type 0} {s : Parameters} {asked : Option ℕ} {start : Reader I} {out_old out out_new : Option Room} {p : DecoderState} {r : Reader I} {steps written count steps_new all : ℕ} {rep : Report} {f : Option Fault} {left : Option (List ℕ)} {failed : ℕ} → IsLegal s
+pub run_fails : {I : Type 0} {s : Parameters} {asked : Option ℕ} {start : Reader I} {out_old out out_new : Option Room} {p : DecoderState} {r : Reader I}
+    {steps written count steps_new all : ℕ} {rep : Report} {f : Option Fault} {left : Option (List ℕ)} {failed : ℕ} → IsLegal s
     → DecodingProgress s asked start out_old out p r steps written → FailsInRun s asked written p out out_new count → steps_new ≡ steps + count → all ≡ written + count
     → Reports rep f left failed r all steps_new (Some Write) → Ends s asked start.left left out_old out_new rep f
-run_fails {s = s} {asked = asked} {start = start} {out_old = out_old} {out = out} {out_new = out_new} {p = p} {r = r} {steps = steps} {written = written} {count = count} {steps_new = steps_new} {all = all} {rep = rep} {f = f} {left = left} {failed = failed} legal runs w ticked are tells =
+run_fails {s = s} {asked = asked} {start = start} {out_old = out_old} {out = out} {out_new = out_new} {p = p} {r = r} {steps = steps} {written = written}
+    {count = count} {steps_new = steps_new} {all = all} {rep = rep} {f = f} {left = left} {failed = failed} legal runs w ticked are tells =
     let e = w.count_is in
     let middle = w.middle in
     let so_far : IfSome asked (λ k. written + s.block * w.blocks ≤ k) = by_asked asked w.wanted in
@@ -259,7 +270,8 @@ part_of old new bytes r short h = record {
 
 -- an outlet failed behind so many bytes of the blocks of a run
 pub run_cut : (s : Parameters) (asked : Option ℕ) (written m taken w b : ℕ) (p q : DecoderState) (old new : Option Room) (spelled : List ℕ) → 1 ≤ s.block → 1 ≤ width s → w ≡ width s → b ≡ s.block
-    → RepeatsBlocks m p q → q.run + m ≡ p.run → IfSome asked (λ n. written + s.block * m ≤ n) → spelled ≡ spellings s (replicate (b * m) p.before) → taken < length spelled → Appends old new (take taken spelled)
+    → RepeatsBlocks m p q → q.run + m ≡ p.run → IfSome asked (λ n. written + s.block * m ≤ n) → spelled ≡ spellings s (replicate (b * m) p.before)
+    → taken < length spelled → Appends old new (take taken spelled)
     → FailsInRun s asked written p old new (taken / (w * b) * b)
 run_cut s asked written m taken w b p q old new spelled some some_bytes wide size passes left wanted is short put =
     let x = p.before in
@@ -280,11 +292,13 @@ run_cut s asked written m taken w b p q old new spelled some some_bytes wide siz
     let first = spellings s (replicate (j * n) x) in
     let second = spellings s (replicate j x) in
     let third = spellings s (replicate (j * k) x) in
-    let text : spelled ≡ first ++ (second ++ third) = many ∙ (ap (λ z. spellings s (replicate z x)) parts ∙ (spellings-more s (j * n) (j + j * k) x ∙ ap (λ l. first ++ l) (spellings-more s j (j * k) x))) in
+    let text : spelled ≡ first ++ (second ++ third) = many
+    ∙ (ap (λ z. spellings s (replicate z x)) parts ∙ (spellings-more s (j * n) (j + j * k) x ∙ ap (λ l. first ++ l) (spellings-more s j (j * k) x))) in
     let first_len : length first ≡ each * n = length-repeat s (j * n) x ∙ product (width s) j n in
     let second_len : length second ≡ each = length-repeat s j x in
     let place : taken ≡ length first + r = omega (arith, split, first_len) in
-    let cut : take taken spelled ≡ first ++ take r second = (λ i. take (place i) (text i)) ∙ (take-append-add first (second ++ third) r ∙ ap (λ l. first ++ l) (take-append-le r second third (omega (arith, below, second_len)))) in
+    let cut : take taken spelled ≡ first ++ take r second = (λ i. take (place i) (text i))
+    ∙ (take-append-add first (second ++ third) r ∙ ap (λ l. first ++ l) (take-append-le r second third (omega (arith, below, second_len)))) in
     let apart = Appends-split old new first (take r second) (subst (λ (l : List ℕ). Appends old new l) cut put) in
     let count : n * b ≡ j * n = ap (λ z. n * z) size ∙ omega arith in
     let stop = repeats-split n k m p q all passes in
@@ -308,7 +322,8 @@ run_cut s asked written m taken w b p q old new spelled some some_bytes wide siz
     product : (a b c : ℕ) → a * (b * c) ≡ a * b * c
     product a b c = omega arith
 
-    asked_for : (asked : Option ℕ) (count n k : ℕ) → count ≡ s.block * n → s.block * m ≡ s.block * n + (s.block + s.block * k) → IfSome asked (λ z. written + s.block * m ≤ z) → IfSome asked (λ z. written + count + s.block ≤ z)
+    asked_for : (asked : Option ℕ) (count n k : ℕ) → count ≡ s.block * n → s.block * m ≡ s.block * n + (s.block + s.block * k)
+        → IfSome asked (λ z. written + s.block * m ≤ z) → IfSome asked (λ z. written + count + s.block ≤ z)
     asked_for None count n k e f h = tt
     asked_for (Some z) count n k e f h = let le : written + s.block * m ≤ z = h in omega (arith, le, e, f)
 

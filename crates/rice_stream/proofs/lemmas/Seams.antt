@@ -41,7 +41,13 @@ spelled_by bits full bytes f e = ap bits_of (e ∙ ap whole_bytes f) ∙ bits_of
 -- fewer than eight bits, padded, are one byte
 one_long : (bits full : List Bool) (bytes : List ℕ) → full ≡ padded_bits bits → bytes ≡ whole_bytes full → 0 < length bits → length bits < 8 → length bytes ≡ 1
 one_long bits full bytes f e some few =
-    omega (arith, length-bits_of bytes, ap length (spelled_by bits full bytes f e), length-append bits (replicate (bits_to_byte (length bits)) false), length-replicate (bits_to_byte (length bits)) false)
+    omega (
+      arith,
+      length-bits_of bytes,
+      ap length (spelled_by bits full bytes f e),
+      length-append bits (replicate (bits_to_byte (length bits)) false),
+      length-replicate (bits_to_byte (length bits)) false,
+    )
 
 pub one_byte : (bits full : List Bool) (bytes : List ℕ) → full ≡ padded_bits bits → bytes ≡ whole_bytes full → 0 < length bits → length bits < 8 → 0 < length bytes
 one_byte bits full bytes f e some few = omega (arith, one_long bits full bytes f e some few)
@@ -51,7 +57,8 @@ unfolding bits_of
 word_of_byte x = refl
 
 -- whose high digits are the bits
-pub byte_digits : (bits full : List Bool) (bytes : List ℕ) (k : ℕ) → full ≡ padded_bits bits → bytes ≡ whole_bytes full → 0 < length bits → length bits < 8 → k ≡ length bits → word (length bits) (slice_index_or bytes 0 0 / 2 ^ (8 - k)) ≡ bits
+pub byte_digits : (bits full : List Bool) (bytes : List ℕ) (k : ℕ) → full ≡ padded_bits bits → bytes ≡ whole_bytes full → 0 < length bits → length bits < 8
+    → k ≡ length bits → word (length bits) (slice_index_or bytes 0 0 / 2 ^ (8 - k)) ≡ bits
 byte_digits bits full [] k f e some few is = absurd (omega (arith, one_long bits full [] f e some few))
 byte_digits bits full (x ∷ y ∷ l) k f e some few is = absurd (omega (arith, one_long bits full (x ∷ y ∷ l) f e some few))
 byte_digits bits full (x ∷ []) k f e some few is =
@@ -60,7 +67,9 @@ byte_digits bits full (x ∷ []) k f e some few is =
     let high = word n (x / 2 ^ (8 - k)) in
     let split = word-split n (8 - k) x in
     let whole = ap (λ m. word m x) eight in
-    sym (take_at high _ n (length-word n (x / 2 ^ (8 - k)))) ∙ ap (take n) (sym split ∙ whole ∙ sym (append-nil (word 8 x)) ∙ word_of_byte x ∙ spelled_by bits full (x ∷ []) f e) ∙ take_at bits (replicate (bits_to_byte n) false) n refl
+    sym (take_at high _ n (length-word n (x / 2 ^ (8 - k))))
+    ∙ ap (take n) (sym split ∙ whole ∙ sym (append-nil (word 8 x)) ∙ word_of_byte x ∙ spelled_by bits full (x ∷ []) f e)
+    ∙ take_at bits (replicate (bits_to_byte n) false) n refl
 
 -- and are a number of so many digits
 pub byte_fits : (x n k : ℕ) → x < 256 → n < 8 → k ≡ n → x / 2 ^ (8 - k) < 2 ^ n
@@ -97,8 +106,10 @@ few_steps_so_far s seam xs h =
     omega (arith, small, few_all (width s) (length xs) 0 (some_width s) (omega (arith, h.limit)))
 
 -- where the samples make whole segments, the encoding's place is a seam
-pub seam_of : {N : ℕ} (s : Parameters) (old : Beginning) (now : Option Room) (e : Encoding N) (seam : Seam) (xs : List ℤ) → IsEncodingOf s old now e xs → cut s (length xs) ≡ length xs → width s * length xs ≤ 281474976710656 →
-    seam.samples ≡ e.samples → seam.bits ≡ e.bits → seam.steps ≡ e.meter → seam.previous ≡ e.coder.previous → seam.start ≡ e.coder.start → seam.waiting_bits ≡ length e.sink → word (length e.sink) seam.waiting ≡ e.sink → seam.waiting < 2 ^ length e.sink → length e.sink < 8 → IsSeam s seam xs
+pub seam_of : {N : ℕ} (s : Parameters) (old : Beginning) (now : Option Room) (e : Encoding N) (seam : Seam) (xs : List ℤ) → IsEncodingOf s old now e xs
+    → cut s (length xs) ≡ length xs → width s * length xs ≤ 281474976710656 →
+    seam.samples ≡ e.samples → seam.bits ≡ e.bits → seam.steps ≡ e.meter → seam.previous ≡ e.coder.previous → seam.start ≡ e.coder.start
+    → seam.waiting_bits ≡ length e.sink → word (length e.sink) seam.waiting ≡ e.sink → seam.waiting < 2 ^ length e.sink → length e.sink < 8 → IsSeam s seam xs
 seam_of s old now e seam xs h all limit samples bits steps previous start count digits fits few =
     let nothing : e.coder ≡ state_between e.coder.setting e.coder.start e.coder.previous = holds_nothing e.coder xs h.counts.stands (ap (λ t. cut t (length xs)) h.counts.setting ∙ all) in
     let same : e.coder ≡ state_between s seam.start seam.previous = nothing ∙ (λ i. state_between (h.counts.setting i) (sym start i) (sym previous i)) in
@@ -143,7 +154,8 @@ cut_grows s seam xs n h le =
     omega (arith, up, k.1, all)
 
 -- an encoding that ends between two segments leaves a seam
-pub goes_on : {N : ℕ} (s : Parameters) (old new : Option Room) (e : Encoding N) (at seam : Seam) (xs : List ℤ) (bytes : List ℕ) (count : ℕ) → IsSeam s at xs → TakesAll s (behind s xs old) new e xs (take (width s * count) bytes) →
+pub goes_on : {N : ℕ} (s : Parameters) (old new : Option Room) (e : Encoding N) (at seam : Seam) (xs : List ℤ) (bytes : List ℕ) (count : ℕ) → IsSeam s at xs
+    → TakesAll s (behind s xs old) new e xs (take (width s * count) bytes) →
     length xs + count ≡ samples_to_take s xs bytes → width s * count ≤ length bytes → bytes_in_all s xs bytes ≤ 281474976710656 →
     ((ys : List ℤ) → IsEncodingOf s (behind s xs old) new e ys → cut s (length ys) ≡ length ys → width s * length ys ≤ 281474976710656 → IsSeam s seam ys) → TakesPiece s xs bytes old new seam
 goes_on s old new e at seam xs bytes count h t is within limit stands =
@@ -170,10 +182,12 @@ goes_on s old new e at seam xs bytes count h t is within limit stands =
     parts w m n k e = ap (λ v. w * v) e ∙ (let p : w * (n + k) ≡ w * n + w * k = omega arith in p)
 
 -- what stops it inside the bytes, with others after them
-pub stopped_in : {N : ℕ} (s : Parameters) (old : Beginning) (new : Option Room) (e : Encoding N) (xs : List ℤ) (bytes : List ℕ) (k : ℕ) (f : Fault) → Pushes {T = Unit {0}} s old new e xs (take k bytes) (Err f) → Pushes {T = Unit {0}} s old new e xs bytes (Err f)
+pub stopped_in : {N : ℕ} (s : Parameters) (old : Beginning) (new : Option Room) (e : Encoding N) (xs : List ℤ) (bytes : List ℕ) (k : ℕ) (f : Fault)
+    → Pushes {T = Unit {0}} s old new e xs (take k bytes) (Err f) → Pushes {T = Unit {0}} s old new e xs bytes (Err f)
 stopped_in s old new e xs bytes k f h =
     subst (λ (l : List ℕ). Pushes {T = Unit {0}} s old new e xs l (Err f)) (take-append-drop k bytes)
-    (stops_on s old new e xs [] [] (take k bytes) refl (λ k d lt. absurd (omega arith)) (drop k bytes) f (subst (λ (l : List ℤ). Pushes {T = Unit {0}} s old new e l (take k bytes) (Err f)) (sym (append-nil xs)) h))
+    (stops_on s old new e xs [] [] (take k bytes) refl (λ k d lt. absurd (omega arith)) (drop k bytes) f
+    (subst (λ (l : List ℤ). Pushes {T = Unit {0}} s old new e l (take k bytes) (Err f)) (sym (append-nil xs)) h))
 
 -- a sample that is refused is one of those that these bytes are of
 refused_within : (s : Parameters) (more : List ℤ) (part rest : List ℕ) (count : ℕ) → Reads s part more rest → width s ≤ length rest → length part ≤ width s * count → length more < count
@@ -187,11 +201,13 @@ refused_within s more part rest count r wide few =
     ]
 
 -- why a piece is not taken whole
-pub more_stops : {N : ℕ} (s : Parameters) (old new : Option Room) (e : Encoding N) (xs : List ℤ) (bytes : List ℕ) (count : ℕ) (f : Fault) → bytes_in_all s xs bytes ≤ 281474976710656 → length xs + count ≡ samples_to_take s xs bytes → width s * count ≤ length bytes →
+pub more_stops : {N : ℕ} (s : Parameters) (old new : Option Room) (e : Encoding N) (xs : List ℤ) (bytes : List ℕ) (count : ℕ) (f : Fault)
+    → bytes_in_all s xs bytes ≤ 281474976710656 → length xs + count ≡ samples_to_take s xs bytes → width s * count ≤ length bytes →
     Pushes {T = Unit {0}} s (behind s xs old) new e xs (take (width s * count) bytes) (Err f) → EncodesMore s xs bytes old new (Err f)
 more_stops s old new e xs bytes count f limit is within h = by_fault f h (stopped_in s (behind s xs old) new e xs bytes (width s * count) f h)
   where
-    by_fault : (f : Fault) → Pushes {T = Unit {0}} s (behind s xs old) new e xs (take (width s * count) bytes) (Err f) → Pushes {T = Unit {0}} s (behind s xs old) new e xs bytes (Err f) → EncodesMore s xs bytes old new (Err f)
+    by_fault : (f : Fault) → Pushes {T = Unit {0}} s (behind s xs old) new e xs (take (width s * count) bytes) (Err f)
+        → Pushes {T = Unit {0}} s (behind s xs old) new e xs bytes (Err f) → EncodesMore s xs bytes old new (Err f)
     by_fault (SampleOutOfRange index) h m =
         let part = h.0 in
         let len : length (take (width s * count) bytes) ≤ width s * count = omega (arith, length-take-le (width s * count) bytes within) in
@@ -211,9 +227,20 @@ more_stops s old new e xs bytes count f limit is within h = by_fault f h (stoppe
 -- ---- what the last piece gives
 
 module _ {N : ℕ} (s : Parameters) (old new : Option Room) (e : Encoding N) (r : Report) (xs : List ℤ) (bytes : List ℕ) (limit : bytes_in_all s xs bytes ≤ 281474976710656) where
-  rest_stops_at : (f : Fault) → ((ys : List ℤ) → CountsSamples s e ys → ReportsTaken s r ys) → Pushes {T = Unit {0}} s (behind s xs old) new e xs bytes (Err f) → EncodesRest s xs bytes old new r (Some f)
-  rest_stops_at (SampleOutOfRange index) told m =
-      (m.0.more, record { limit = limit; rest = m.0.rest; reads = m.0.reads; none = m.0.none; index_is = m.1 ∙ m.0.holds.counts.samples; writes = m.0.holds.took }, told (xs ++ m.0.more) m.0.holds.counts)
+  rest_stops_at : (f : Fault) → ((ys : List ℤ) → CountsSamples s e ys → ReportsTaken s r ys) → Pushes {T = Unit {0}} s (behind s xs old) new e xs bytes (Err f)
+      → EncodesRest s xs bytes old new r (Some f)
+  rest_stops_at (SampleOutOfRange index) told m = (
+    m.0.more,
+    record {
+      limit = limit;
+      rest = m.0.rest;
+      reads = m.0.reads;
+      none = m.0.none;
+      index_is = m.1 ∙ m.0.holds.counts.samples;
+      writes = m.0.holds.took;
+    },
+    told (xs ++ m.0.more) m.0.holds.counts,
+  )
   rest_stops_at Write told m = inl (m.more, m.last, record { limit = limit; rest = m.rest; reads = m.reads; writes = m.fails.takes }, told ((xs ++ m.more) ++ m.last ∷ []) m.fails.counts)
   rest_stops_at Read told bad = absurd bad
   rest_stops_at TooLong told bad = absurd bad
@@ -222,11 +249,13 @@ module _ {N : ℕ} (s : Parameters) (old new : Option Room) (e : Encoding N) (r 
   rest_stops_at (RunPastSegment block) told bad = absurd bad
   rest_stops_at (ResidualTooLarge block) told bad = absurd bad
 
-  pub rest_stops : (f : Fault) (g : Option Fault) → g ≡ Some f → ((ys : List ℤ) → CountsSamples s e ys → ReportsTaken s r ys) → Pushes {T = Unit {0}} s (behind s xs old) new e xs bytes (Err f) → EncodesRest s xs bytes old new r g
+  pub rest_stops : (f : Fault) (g : Option Fault) → g ≡ Some f → ((ys : List ℤ) → CountsSamples s e ys → ReportsTaken s r ys)
+      → Pushes {T = Unit {0}} s (behind s xs old) new e xs bytes (Err f) → EncodesRest s xs bytes old new r g
   rest_stops f g is told m = subst (EncodesRest s xs bytes old new r) (sym is) (rest_stops_at f told m)
 
   -- a sample is cut off
-  pub rest_cut : (index : ℕ) (g : Option Fault) → g ≡ Some (SampleCut index) → index ≡ e.samples → ((ys : List ℤ) → CountsSamples s e ys → ReportsTaken s r ys) → TakesAll s (behind s xs old) new e xs bytes → 0 < length bytes % width s → EncodesRest s xs bytes old new r g
+  pub rest_cut : (index : ℕ) (g : Option Fault) → g ≡ Some (SampleCut index) → index ≡ e.samples → ((ys : List ℤ) → CountsSamples s e ys → ReportsTaken s r ys)
+      → TakesAll s (behind s xs old) new e xs bytes → 0 < length bytes % width s → EncodesRest s xs bytes old new r g
   rest_cut index g is same told t cut_off = subst (EncodesRest s xs bytes old new r) (sym is) (
     t.more,
     record {
@@ -241,18 +270,30 @@ module _ {N : ℕ} (s : Parameters) (old new : Option Room) (e : Encoding N) (r 
   )
     where
       whole : t.rest ≡ [] → length bytes % width s ≡ 0
-      whole none = ap (λ n. n % width s) (ap length t.reads.split ∙ ap (λ l. length (spellings s t.more ++ l)) none ∙ ap length (append-nil (spellings s t.more)) ∙ length-spellings s t.more) ∙ mul-mod_right (width s) (length t.more)
+      whole none = ap (λ n. n % width s) (ap length t.reads.split ∙ ap (λ l. length (spellings s t.more ++ l)) none
+          ∙ ap length (append-nil (spellings s t.more)) ∙ length-spellings s t.more) ∙ mul-mod_right (width s) (length t.more)
 
   -- all are coded
-  pub rest_all : (f : Option Fault) (t : TakesAll s (behind s xs old) new e xs bytes) (last : Option Room) → length bytes % width s ≡ 0 → ReportsAll s r (xs ++ t.more) → WritesRest s (behind s xs old) last (xs ++ t.more) f → EncodesRest s xs bytes old last r f
+  pub rest_all : (f : Option Fault) (t : TakesAll s (behind s xs old) new e xs bytes) (last : Option Room) → length bytes % width s ≡ 0
+      → ReportsAll s r (xs ++ t.more) → WritesRest s (behind s xs old) last (xs ++ t.more) f → EncodesRest s xs bytes old last r f
   rest_all None t last whole told wrote = (t.more, are_all, told, wrote)
     where
       are_all : AreAll s xs bytes old last t.more
-      are_all = record { limit = limit; spelled = none_left s t.more bytes t.rest (length bytes / width s) t.reads t.few (omega (arith, div-add-mod (length bytes) (width s), whole)); legal = t.reads.legal }
+      are_all = record {
+        limit = limit;
+        spelled = none_left s t.more bytes t.rest (length bytes / width s) t.reads t.few
+            (omega (arith, div-add-mod (length bytes) (width s), whole));
+        legal = t.reads.legal;
+      }
   rest_all (Some Write) t last whole told wrote = inr (t.more, are_all, told, wrote)
     where
       are_all : AreAll s xs bytes old last t.more
-      are_all = record { limit = limit; spelled = none_left s t.more bytes t.rest (length bytes / width s) t.reads t.few (omega (arith, div-add-mod (length bytes) (width s), whole)); legal = t.reads.legal }
+      are_all = record {
+        limit = limit;
+        spelled = none_left s t.more bytes t.rest (length bytes / width s) t.reads t.few
+            (omega (arith, div-add-mod (length bytes) (width s), whole));
+        legal = t.reads.legal;
+      }
   rest_all (Some Read) t last whole told bad = absurd bad
   rest_all (Some TooLong) t last whole told bad = absurd bad
   rest_all (Some (SampleOutOfRange index)) t last whole told bad = absurd bad
@@ -262,5 +303,6 @@ module _ {N : ℕ} (s : Parameters) (old new : Option Room) (e : Encoding N) (r 
   rest_all (Some (ResidualTooLarge block)) t last whole told bad = absurd bad
 
 -- so few samples that all their steps are counted
-pub takes_few : {N : ℕ} (s : Parameters) (old : Beginning) (new : Option Room) (e : Encoding N) (xs : List ℤ) (bytes : List ℕ) → length xs + length bytes ≤ 281474976710656 → (t : TakesAll s old new e xs bytes) → length (xs ++ t.more) ≤ 281474976710656
+pub takes_few : {N : ℕ} (s : Parameters) (old : Beginning) (new : Option Room) (e : Encoding N) (xs : List ℤ) (bytes : List ℕ)
+    → length xs + length bytes ≤ 281474976710656 → (t : TakesAll s old new e xs bytes) → length (xs ++ t.more) ≤ 281474976710656
 takes_few s old new e xs bytes few t = omega (arith, few, length-append xs t.more, few_more s t.more bytes t.rest t.reads (some_width s))

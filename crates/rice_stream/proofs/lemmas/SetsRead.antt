@@ -27,7 +27,8 @@ lies-push s b at position place (x ∷ ds) bits d skipped e f lies pads =
     let text = bits_of_set s x in
     let ahead = text ++ lies.0 in
     let at_is : at ≡ block_after s b x + length (blocks_in_all s (block_after s b x) ds) = omega (arith, e, length-append (blocks_in s b x) (blocks_in_all s (block_after s b x) ds)) in
-    let place_is : place ≡ position + length ahead + length lies.1 = omega (arith, f, ap length lies.3, length-append text (lies.0 ++ lies.1), length-append lies.0 lies.1, length-append text lies.0) in (
+    let place_is : place ≡ position + length ahead + length lies.1 = omega
+    (arith, f, ap length lies.3, length-append text (lies.0 ++ lies.1), length-append lies.0 lies.1, length-append text lies.0) in (
       lies.0,
       lies.1 ++ more,
       lies.2,

@@ -17,19 +17,23 @@ use Rattle.rice_stream.proofs.lemmas.DecodingLemmas.{Advances}
 -- where nothing has happened
 pub progress_unchanged : {I : Type 0} {s : Parameters} {asked : Option ℕ} {start : Reader I} {out_old out : Option Room} {p q : DecoderState} {r t : Reader I} {steps steps_new written : ℕ}
     → q ≡ p → t ≡ r → steps_new ≡ steps → DecodingProgress s asked start out_old out p r steps written → DecodingProgress s asked start out_old out q t steps_new written
-progress_unchanged {s = s} {asked = asked} {start = start} {out_old = out_old} {out = out} {p = p} {q = q} {r = r} {t = t} {steps = steps} {steps_new = steps_new} {written = written} same_state same_reader same_steps runs =
+progress_unchanged {s = s} {asked = asked} {start = start} {out_old = out_old} {out = out} {p = p} {q = q} {r = r} {t = t} {steps = steps}
+    {steps_new = steps_new} {written = written} same_state same_reader same_steps runs =
     subst (λ (x : DecoderState). DecodingProgress s asked start out_old out x t steps_new written) (sym same_state)
-    (subst (λ (x : Reader _). DecodingProgress s asked start out_old out p x steps_new written) (sym same_reader) (subst (λ (n : ℕ). DecodingProgress s asked start out_old out p r n written) (sym same_steps) runs))
+    (subst (λ (x : Reader _). DecodingProgress s asked start out_old out p x steps_new written) (sym same_reader)
+    (subst (λ (n : ℕ). DecodingProgress s asked start out_old out p r n written) (sym same_steps) runs))
 
 -- a block that was spelled
-pub advances_spelled : {I : Type 0} {old new : Reader I} {steps steps_new : ℕ} {p q : DecoderState} {bytes : List ℕ} → p.run ≡ 0 → (g : GivesBytes old new steps steps_new p q bytes) → Advances old new steps steps_new p q g.samples (Ok Block)
+pub advances_spelled : {I : Type 0} {old new : Reader I} {steps steps_new : ℕ} {p q : DecoderState} {bytes : List ℕ} → p.run ≡ 0
+    → (g : GivesBytes old new steps steps_new p q bytes) → Advances old new steps steps_new p q g.samples (Ok Block)
 advances_spelled {p = p} none g = record {
   in_run = λ _ lt. absurd (let f : 0 < p.run = lt in omega (arith, none, f));
   reads = λ _ _. g.answers;
 }
 
 -- the bytes that are written of it
-pub spelled_front : (s t : Parameters) (w count : ℕ) (samples : List ℤ) (bytes : List ℕ) → t ≡ s → w ≡ width s → count ≡ s.block → length samples ≡ s.block → take (width t * length samples) bytes ≡ spellings t samples
+pub spelled_front : (s t : Parameters) (w count : ℕ) (samples : List ℤ) (bytes : List ℕ) → t ≡ s → w ≡ width s → count ≡ s.block → length samples ≡ s.block
+    → take (width t * length samples) bytes ≡ spellings t samples
     → take (w * count) bytes ≡ spellings s (take count samples)
 spelled_front s t w count samples bytes same wide all len spelled =
     let many : count ≡ length samples = omega (arith, all, len) in
@@ -41,7 +45,8 @@ width_is : (s : Parameters) (size bytes_of_one : ℕ) → HasLanes s size bytes_
 width_is s size bytes_of_one has = elim has.samples.widths [ inl e ↦ e ∙ sym (one_byte s (has.samples.narrow e)) | inr e ↦ (let wide = has.samples.wide e in e ∙ sym (two_bytes s wide.0 wide.1)) ]
 
 -- the samples of a block are at the front of its lanes
-pub lanes_front : (s t : Parameters) (size bytes_of_one count : ℕ) (samples : List ℤ) (bytes : List ℕ) → HasLanes s size bytes_of_one → t ≡ s → count ≡ s.block → length samples ≡ s.block → take (width t * length samples) bytes ≡ spellings t samples
+pub lanes_front : (s t : Parameters) (size bytes_of_one count : ℕ) (samples : List ℤ) (bytes : List ℕ) → HasLanes s size bytes_of_one → t ≡ s → count ≡ s.block
+    → length samples ≡ s.block → take (width t * length samples) bytes ≡ spellings t samples
     → take (bytes_of_one * size) bytes ≡ spellings s (take count samples)
 lanes_front s t size bytes_of_one count samples bytes has same all len spelled =
     let many : size ≡ count = sym has.size_is ∙ sym all in

@@ -17,6 +17,7 @@ loop-left-preserved g c =
     let step : (c.args.count - c.loop-left.left) + c.in-Ok.taken ≡ c.args.count - (c.loop-left.left - c.in-Ok.taken) = omega (arith, few, i.within) in
     record {
       within = omega (arith, i.within);
-      rest = λ bytes told. skipped_more _ _ (c.args.count - c.loop-left.left) c.in-Ok.taken bytes (take c.in-Ok.taken c.fill.new.buf) (i.rest bytes told) c.in-Ok.ensures.bytes size ∙ ap (λ n. Some (drop n bytes)) step;
+      rest = λ bytes told. skipped_more _ _ (c.args.count - c.loop-left.left) c.in-Ok.taken bytes (take c.in-Ok.taken c.fill.new.buf) (i.rest bytes told)
+          c.in-Ok.ensures.bytes size ∙ ap (λ n. Some (drop n bytes)) step;
       failures = c.in-Ok.ensures.failures ∙ i.failures;
     }

@@ -44,7 +44,8 @@ returns-in-Ok g c = λ o told.
           inr (
             ran.0,
             c.transfer-done.result.samples,
-            subst (λ n. Runs g.S.Source.Intake.left g.S.Source.Intake.failed g.S.Dest.Outlet.taken g.S.Dest.Outlet.failed (plan_view c.args.plan.now) c.args.dest.now o ran.0 n c.transfer-done.result.samples) status ran.2,
+            subst (λ n. Runs g.S.Source.Intake.left g.S.Source.Intake.failed g.S.Dest.Outlet.taken g.S.Dest.Outlet.failed (plan_view c.args.plan.now)
+                c.args.dest.now o ran.0 n c.transfer-done.result.samples) status ran.2,
             refl,
           )
           ),

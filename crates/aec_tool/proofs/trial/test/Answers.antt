@@ -11,8 +11,20 @@ returns-in-Ok g c = λ o told.
     let done = decoded (plan_view c.args.plan.now) _ _ _ _ _ c.decode.result.0 c.requires.decodes c.decode.ensures.call in
     let judges = rw c.in-Ok.is at (c.judge.ensures o all.0 told all.1) in
     elim (c.tell.ensures o told) [
-      | inl done_so ↦ (tested c.args.plan.now.setting c.decode.result.0.report (Ok c.in-Ok.more) true o, done_so.0, tests_of _ _ _ _ (plan_view c.args.plan.now) o _ c.tell.result c.decode.result.0.report.samples all.0 c.args.source c.decode.result.1 c.decode.result.0 (Ok c.in-Ok.more) true all.1 c.requires.sound all.2 done c.decode.ensures.failures judges refl done_so.1 refl)
-      | inr failed ↦ (tested c.args.plan.now.setting c.decode.result.0.report (Ok c.in-Ok.more) false o, failed.0, tests_of _ _ _ _ (plan_view c.args.plan.now) o _ c.tell.result c.decode.result.0.report.samples all.0 c.args.source c.decode.result.1 c.decode.result.0 (Ok c.in-Ok.more) false all.1 c.requires.sound all.2 done c.decode.ensures.failures judges refl failed.1 refl)
+      | inl done_so ↦ (
+        tested c.args.plan.now.setting c.decode.result.0.report (Ok c.in-Ok.more) true o,
+        done_so.0,
+        tests_of _ _ _ _ (plan_view c.args.plan.now) o
+            _ c.tell.result c.decode.result.0.report.samples all.0 c.args.source c.decode.result.1 c.decode.result.0 (Ok c.in-Ok.more) true all.1 c.requires.sound all.2
+            done c.decode.ensures.failures judges refl done_so.1 refl,
+      )
+      | inr failed ↦ (
+        tested c.args.plan.now.setting c.decode.result.0.report (Ok c.in-Ok.more) false o,
+        failed.0,
+        tests_of _ _ _ _ (plan_view c.args.plan.now) o _
+            c.tell.result c.decode.result.0.report.samples all.0 c.args.source c.decode.result.1 c.decode.result.0 (Ok c.in-Ok.more) false all.1 c.requires.sound all.2
+            done c.decode.ensures.failures judges refl failed.1 refl,
+      )
     ]
 
 pub returns-in-Err : goal.returns-in-Err
@@ -22,5 +34,6 @@ returns-in-Err g c = λ o told.
     let judges = rw c.in-Err.is at (c.judge.ensures o all.0 told all.1) in (
       saying o (faulty c.args.plan.now.setting c.decode.result.0.report c.in-Err.fault),
       c.fail.ensures.says o told ∙ ap (λ s. Some (saying o s)) c.at_place.ensures,
-      tests_of _ _ _ _ (plan_view c.args.plan.now) o _ c.fail.result c.decode.result.0.report.samples all.0 c.args.source c.decode.result.1 c.decode.result.0 (Err c.in-Err.fault) true all.1 c.requires.sound all.2 done c.decode.ensures.failures judges refl c.fail.ensures.status refl,
+      tests_of _ _ _ _ (plan_view c.args.plan.now) o _ c.fail.result c.decode.result.0.report.samples all.0 c.args.source c.decode.result.1 c.decode.result.0
+          (Err c.in-Err.fault) true all.1 c.requires.sound all.2 done c.decode.ensures.failures judges refl c.fail.ensures.status refl,
     )

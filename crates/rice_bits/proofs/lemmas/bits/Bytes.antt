@@ -106,6 +106,7 @@ bits_of-whole_bytes (a ∷ b ∷ c ∷ d ∷ e ∷ f ∷ g ∷ []) = short_bytes
 -- padded bits are whole bytes
 pub bits_of-padded : (bits : List Bool) → bits_of (whole_bytes (padded_bits bits)) ≡ padded_bits bits
 bits_of-padded bits =
-    let n : length (padded_bits bits) ≡ length bits + bits_to_byte (length bits) = length-append bits (replicate (bits_to_byte (length bits)) false) ∙ ap (λ n. length bits + n) (length-replicate (bits_to_byte (length bits)) false) in
+    let n : length (padded_bits bits) ≡ length bits + bits_to_byte (length bits) = length-append bits (replicate (bits_to_byte (length bits)) false)
+    ∙ ap (λ n. length bits + n) (length-replicate (bits_to_byte (length bits)) false) in
     let whole : bits_in_bytes (length (padded_bits bits)) ≡ length (padded_bits bits) = omega arith in
     bits_of-whole_bytes (padded_bits bits) ∙ (ap (λ n. take n (padded_bits bits)) whole ∙ take-length (padded_bits bits))

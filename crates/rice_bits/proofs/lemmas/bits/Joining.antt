@@ -22,7 +22,8 @@ one_word_more f xs i h =
     ap (flat_map f) (take_more xs i 0 h) ∙ (flat_map-append f (take i xs) (get_or xs i 0 ∷ []) ∙ ap (λ d. flat_map f (take i xs) ++ d) (append-nil (f (get_or xs i 0))))
 
 -- two words more
-pub two_words_more : (f : ℕ → List Bool) (xs : List ℕ) (i : ℕ) → 2 * i + 1 < length xs → flat_map f (take (2 * (i + 1)) xs) ≡ flat_map f (take (2 * i) xs) ++ (f (get_or xs (2 * i) 0) ++ f (get_or xs (2 * i + 1) 0))
+pub two_words_more : (f : ℕ → List Bool) (xs : List ℕ) (i : ℕ) → 2 * i + 1 < length xs
+    → flat_map f (take (2 * (i + 1)) xs) ≡ flat_map f (take (2 * i) xs) ++ (f (get_or xs (2 * i) 0) ++ f (get_or xs (2 * i + 1) 0))
 two_words_more f xs i h =
     let e : 2 * (i + 1) ≡ 2 * i + 1 + 1 = omega arith in
     ap (λ n. flat_map f (take n xs)) e
@@ -69,7 +70,8 @@ pub up_to_end : (first : ℕ) (xs : List ℕ) → take (length xs - first) (drop
 up_to_end first xs = take_all (length xs - first) (drop first xs) (omega (arith, length-drop first xs))
 
 -- bits that are joined are put
-pub joined-puts : (count n all before after : ℕ) (more bits : List Bool) (old new : List ℕ) → take n (bits_of old) ≡ bits → Joins more count n all old new → length more ≡ count → after ≡ before + count
+pub joined-puts : (count n all before after : ℕ) (more bits : List Bool) (old new : List ℕ) → take n (bits_of old) ≡ bits → Joins more count n all old new
+    → length more ≡ count → after ≡ before + count
     → Puts more count bits (take all (bits_of new)) before after
 joined-puts count n all before after more bits old new view h size steps =
     let put : take all (bits_of new) ≡ bits ++ more = h.joined ∙ ap (λ d. d ++ more) view in

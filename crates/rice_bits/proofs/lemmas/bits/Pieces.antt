@@ -43,7 +43,8 @@ bits_piece w bits =
 
 -- bits begin with a fundamental sequence where there is a 1 among them
 pub sequence_piece : (bits : List Bool) → Search fundamental_sequence (λ m. Unit {0}) bits
-sequence_piece [] = inr (λ m more h e. let l : 0 ≡ length (fundamental_sequence m ++ more) = ap length e in let k = length-append (fundamental_sequence m) more in let n = length-fundamental_sequence m in omega arith)
+sequence_piece [] = inr (λ m more h e. let l : 0 ≡ length (fundamental_sequence m ++ more) = ap length e in
+    let k = length-append (fundamental_sequence m) more in let n = length-fundamental_sequence m in omega arith)
 sequence_piece (true ∷ xs) = inl (record { piece = 0; more = xs; fits = tt; begins = refl })
 sequence_piece (false ∷ xs) =
     elim (sequence_piece xs) [

@@ -49,7 +49,8 @@ whole_bytes_and_digits bytes n h = elim (cases_lt (n / 8) (length bytes)) [
   | inl i ↦
       let size : 8 * (n / 8) + n % 8 ≡ n = omega arith in
       ap (take n) (bits_at bytes (n / 8) (n % 8) i (omega arith))
-      ∙ take_at (bits_of (take (n / 8) bytes) ++ word (n % 8) (slice_index bytes (n / 8) / 2 ^ (8 - n % 8))) (word (8 - n % 8) (slice_index bytes (n / 8) % 2 ^ (8 - n % 8)) ++ bits_of (drop (n / 8 + 1) bytes)) n
+      ∙ take_at (bits_of (take (n / 8) bytes) ++ word (n % 8) (slice_index bytes (n / 8) / 2 ^ (8 - n % 8)))
+      (word (8 - n % 8) (slice_index bytes (n / 8) % 2 ^ (8 - n % 8)) ++ bits_of (drop (n / 8 + 1) bytes)) n
       (length_before bytes (n / 8) (n % 8) (slice_index bytes (n / 8) / 2 ^ (8 - n % 8)) (omega arith) ∙ size)
   | inr i ↦
       let none : n % 8 ≡ 0 = omega arith in
@@ -255,7 +256,8 @@ set_apart bytes i b h =
     ∙ (ap (λ d. bits_of d ++ bits_of (drop i (set bytes i b))) (take-set bytes i b)
     ∙ ap (λ d. bits_of (take i bytes) ++ d)
     (ap bits_of (drop_more (set bytes i b) i 0 (omega (arith, length-set bytes i b)))
-    ∙ (bits_of-first (get_or (set bytes i b) i 0) (drop (i + 1) (set bytes i b)) ∙ ap (λ d. word 8 d ++ bits_of (drop (i + 1) (set bytes i b))) (get_or-set_same bytes i b 0 h) ∙ ap (λ d. word 8 b ++ bits_of d) back)))
+    ∙ (bits_of-first (get_or (set bytes i b) i 0) (drop (i + 1) (set bytes i b))
+    ∙ ap (λ d. word 8 d ++ bits_of (drop (i + 1) (set bytes i b))) (get_or-set_same bytes i b 0 h) ∙ ap (λ d. word 8 b ++ bits_of d) back)))
 
 -- a 1 that comes after the bits and some zeros
 pub gathered-one : (old new : List ℕ) (n m : ℕ) → n + m < 8 * length old → drop n (bits_of old) ≡ replicate (8 * length old - n) false
@@ -308,7 +310,8 @@ zeros_dropped old new n count room far zeros e =
     let all : bits_of (b ∷ replicate count 0 ++ drop (count + 1) old) ≡ digits ++ replicate (8 - g + (8 * count + left)) false =
     byte_first b (drop (count + 1) old) count
     ∙ (ap (λ d. d ++ (replicate (8 * count) false ++ bits_of (drop (count + 1) old))) (last_byte old n room zeros)
-    ∙ (ap (λ d. (digits ++ replicate (8 - g) false) ++ (replicate (8 * count) false ++ d)) (bytes_behind old n (count + 1) room (omega (arith, far)) zeros) ∙ three_zeros (8 - g) (8 * count) left digits)) in
+    ∙ (ap (λ d. (digits ++ replicate (8 - g) false) ++ (replicate (8 * count) false ++ d)) (bytes_behind old n (count + 1) room (omega (arith, far)) zeros)
+    ∙ three_zeros (8 - g) (8 * count) left digits)) in
     let size : length digits ≡ g = length-word g (b / 2 ^ (8 - g)) in
     let kept : drop (bits_in_bytes (length (take n (bits_of old)))) (take n (bits_of old)) ≡ digits =
     ap (λ d. drop (bits_in_bytes (length d)) d) (whole_bytes_and_digits old n room) ∙ rest-bits (take at old) digits (omega (arith, size)) in

@@ -40,7 +40,8 @@ known_keeps (Some x) (Some y) p = ap (λ l. record { borrow = 0; bytes = l; rest
 
 -- The front of some bytes, put over as many bytes of a memory at a place, is taken by an outlet that stands there.
 pub put_fills : (borrow at m k : ℕ) (memory new bytes : List ℕ) → at ≤ length memory → new ≡ take m bytes → m ≤ length bytes → k ≡ m →
-    Fills (record { borrow = borrow; bytes = take at memory; rest = drop at memory }) (record { borrow = borrow; bytes = take (at + m) (put_mid at k memory new); rest = drop (at + m) (put_mid at k memory new) }) (take m bytes)
+    Fills (record { borrow = borrow; bytes = take at memory; rest = drop at memory })
+    (record { borrow = borrow; bytes = take (at + m) (put_mid at k memory new); rest = drop (at + m) (put_mid at k memory new) }) (take m bytes)
 put_fills borrow at m k memory new bytes fits is few same =
     let len : length new ≡ m = ap length is ∙ length-take-le m bytes few in
     record {

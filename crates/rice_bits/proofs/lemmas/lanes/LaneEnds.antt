@@ -94,7 +94,8 @@ length-behind count = length-take-le 16 (replicate count 128 ++ range_with_len 0
 pub places_are_ok : (count : ℕ) → SwzOk w8 16 16 0 (places_behind count)
 places_are_ok count =
     SwzOk-from_Each1 w8 16 1 16 0 (places_behind count) (omega arith) (omega (arith, length-behind count))
-    (Each1-chunk HasPlace 0 16 (replicate count 128 ++ range_with_len 0 16) (behind_all count (range_with_len 0 16) (tt, (tt, (tt, (tt, (tt, (tt, (tt, (tt, (tt, (tt, (tt, (tt, (tt, (tt, (tt, (tt, tt))))))))))))))))))
+    (Each1-chunk HasPlace 0 16 (replicate count 128 ++ range_with_len 0 16)
+    (behind_all count (range_with_len 0 16) (tt, (tt, (tt, (tt, (tt, (tt, (tt, (tt, (tt, (tt, (tt, (tt, (tt, (tt, (tt, (tt, tt))))))))))))))))))
 
 abbrev picked : List ℕ → ℕ → ℕ
 picked xs j = cond (leb 128 j) 0 (get_or xs j 0)

@@ -36,7 +36,8 @@ lanes-spell front bytes count ends h e some few there =
     let none : 0 - 0 ≡ 0 = omega arith in
     let first : take count ends ≡ take count es = ap (take count) e ∙ lanes-first count es few there in
     let last : get_or ends (count - 1) 0 ≡ get_or (0 ∷ es) count 0 =
-    sym (get_or-take count ends (count - 1) 0 (omega (arith, some))) ∙ (ap (λ z. get_or z (count - 1) 0) first ∙ (get_or-take count es (count - 1) 0 (omega (arith, some)) ∙ ap (λ k. get_or (0 ∷ es) k 0) (sym n))) in
+    sym (get_or-take count ends (count - 1) 0 (omega (arith, some)))
+    ∙ (ap (λ z. get_or z (count - 1) 0) first ∙ (get_or-take count es (count - 1) 0 (omega (arith, some)) ∙ ap (λ k. get_or (0 ∷ es) k 0) (sym n))) in
     let same : get_or ends (count - 1) 0 ≡ get_or (0 ∷ es) count 0 - 0 = omega (arith, last) in
     let len : length bits ≡ 8 * bytes = length-take-le (8 * bytes) (word 64 front) (omega (arith, h, length-word 64 front)) in
     let inside : get_or ends (count - 1) 0 ≤ 8 * bytes = omega (arith, last, len, ends-within 0 bits count there) in

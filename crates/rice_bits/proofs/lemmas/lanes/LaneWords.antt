@@ -124,7 +124,8 @@ lane_of bytes w r j at n fit few place inside =
     ∙ (ap (take w) (drop-take s (16 - s) (drop (8 * q) bits) ∙ ap (take (16 - s)) (drop-drop s (8 * q) bits)) ∙ (take-take w (16 - s) (drop (8 * q + s) bits) (omega (arith, few))
     ∙ ap (λ k. take w (drop k bits)) last)))
 
-lanes-whole : (bytes : List ℕ) (w r : ℕ) → length bytes ≡ 16 → ((i : ℕ) → get_or bytes i 0 < 256) → w ≤ 9 → r < 8 → flat_map (word w) (map (lane bytes w r) eight) ≡ take (8 * w) (drop r (bits_of bytes))
+lanes-whole : (bytes : List ℕ) (w r : ℕ) → length bytes ≡ 16 → ((i : ℕ) → get_or bytes i 0 < 256) → w ≤ 9 → r < 8
+    → flat_map (word w) (map (lane bytes w r) eight) ≡ take (8 * w) (drop r (bits_of bytes))
 lanes-whole bytes w r n fit few before =
     let a0 = lane_of bytes w r 0 r n fit few (omega arith) (omega (arith, few, before)) in
     let a1 = lane_of bytes w r 1 (r + w) n fit few (omega arith) (omega (arith, few, before)) in
@@ -159,7 +160,8 @@ steps-joined bytes w r h (j ∷ js) =
     let rest = steps-joined bytes w r h js in
     λ i. one i ∷ rest i
 
-pub lanes-words : (bytes : List ℕ) (w r : ℕ) → length bytes ≡ 16 → ((i : ℕ) → get_or bytes i 0 < 256) → w ≤ 9 → r < 8 → flat_map (word w) (map (lane_in_steps bytes w r) eight) ≡ take (8 * w) (drop r (bits_of bytes))
+pub lanes-words : (bytes : List ℕ) (w r : ℕ) → length bytes ≡ 16 → ((i : ℕ) → get_or bytes i 0 < 256) → w ≤ 9 → r < 8
+    → flat_map (word w) (map (lane_in_steps bytes w r) eight) ≡ take (8 * w) (drop r (bits_of bytes))
 lanes-words bytes w r n fit few before = ap (flat_map (word w)) (steps-joined bytes w r few eight) ∙ lanes-whole bytes w r n fit few before
 
 pub lanes-small : (bytes : List ℕ) (w r : ℕ) → w ≤ 9 → All (λ v. v < 2 ^ w) (map (lane_in_steps bytes w r) eight)
@@ -170,7 +172,37 @@ pub places_inside : (w r : ℕ) → w ≤ 9 → r < 8 → All (λ p. p < 16) (pl
 places_inside w r h k = λ i d lt. Each1-get_or (λ p. p < 16) (places w r) i d lt each
   where
     each : Each1 (λ p. p < 16) (places w r)
-    each = (omega (arith, h, k), (omega (arith, h, k), (omega (arith, h, k), (omega (arith, h, k), (omega (arith, h, k), (omega (arith, h, k), (omega (arith, h, k), (omega (arith, h, k), (omega (arith, h, k), (omega (arith, h, k), (omega (arith, h, k), (omega (arith, h, k), (omega (arith, h, k), (omega (arith, h, k), (omega (arith, h, k), (omega (arith, h, k), tt))))))))))))))))
+    each = (
+      omega (arith, h, k),
+      (
+        omega (arith, h, k),
+        (
+          omega (arith, h, k),
+          (
+            omega (arith, h, k),
+            (
+              omega (arith, h, k),
+              (
+                omega (arith, h, k),
+                (
+                  omega (arith, h, k),
+                  (
+                    omega (arith, h, k),
+                    (
+                      omega (arith, h, k),
+                      (
+                        omega (arith, h, k),
+                        (omega (arith, h, k), (omega (arith, h, k), (omega (arith, h, k), (omega (arith, h, k), (omega (arith, h, k), (omega (arith, h, k), tt)))))),
+                      ),
+                    ),
+                  ),
+                ),
+              ),
+            ),
+          ),
+        ),
+      ),
+    )
 
 -- sixteen bytes of many
 pub words-loaded : (bytes : List ℕ) (at w : ℕ) → at / 8 + 16 ≤ length bytes → w ≤ 9

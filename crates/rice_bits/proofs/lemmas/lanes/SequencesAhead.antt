@@ -19,5 +19,6 @@ sequences-wait w skip count r (Some s) h there loaded found =
     record {
       lanes = found.lanes;
       few = found.few;
-      spelled = found.spelled ∙ (front-ahead (drop (w.at + skip) (bits_of w.buffer)) s.len (64 - m) m r (omega (arith, few)) (omega arith) loaded ∙ sym (part-waits w skip s.len h (omega (arith, there, few))));
+      spelled = found.spelled ∙ (front-ahead (drop (w.at + skip) (bits_of w.buffer)) s.len (64 - m) m r (omega (arith, few)) (omega arith) loaded
+          ∙ sym (part-waits w skip s.len h (omega (arith, there, few))));
     }

@@ -269,8 +269,10 @@ searched-seven front bytes old middle told found all b first count e more f =
     let four = bits_of (take 4 bytes) in
     let three = bits_of (take 3 (drop 4 bytes)) in
     let len : length four ≡ 32 = ap length (first-bytes front 4 bytes (omega arith) b) ∙ length-take-le 32 (word 64 front) (omega (arith, length-word 64 front)) in
-    let bits : four ++ three ≡ take 56 (word 64 front) = sym (bits_of-append (take 4 bytes) (take 3 (drop 4 bytes))) ∙ (ap bits_of (sym (take-add 4 3 bytes)) ∙ first-bytes front 7 bytes (omega arith) b) in
-    let both : ends_after 0 (take 56 (word 64 front)) ≡ ends_after 0 four ++ ends_after 32 three = ap (ends_after 0) (sym bits) ∙ (ends-append 0 four three ∙ ap (λ n. ends_after 0 four ++ ends_after (0 + n) three) len) in
+    let bits : four ++ three ≡ take 56 (word 64 front) = sym (bits_of-append (take 4 bytes) (take 3 (drop 4 bytes)))
+    ∙ (ap bits_of (sym (take-add 4 3 bytes)) ∙ first-bytes front 7 bytes (omega arith) b) in
+    let both : ends_after 0 (take 56 (word 64 front)) ≡ ends_after 0 four ++ ends_after 32 three = ap (ends_after 0) (sym bits)
+    ∙ (ends-append 0 four three ∙ ap (λ n. ends_after 0 four ++ ends_after (0 + n) three) len) in
     record {
       seen = 56;
       few = omega arith;

@@ -269,7 +269,8 @@ pub words-front : (width n : ℕ) (xs : List ℕ) → n ≤ length xs → flat_m
 words-front width n xs h =
     let front = flat_map (word width) (take n xs) in
     let len : length front ≡ n * width = length-words width (take n xs) ∙ ap (λ k. k * width) (length-take-le n xs h) in
-    let both : flat_map (word width) xs ≡ front ++ flat_map (word width) (drop n xs) = ap (flat_map (word width)) (sym (take-append-drop n xs)) ∙ flat_map-append (word width) (take n xs) (drop n xs) in
+    let both : flat_map (word width) xs ≡ front ++ flat_map (word width) (drop n xs) = ap (flat_map (word width)) (sym (take-append-drop n xs))
+    ∙ flat_map-append (word width) (take n xs) (drop n xs) in
     sym (ap (take (n * width)) both ∙ take_at front (flat_map (word width) (drop n xs)) (n * width) len)
 
 -- the last four words, of which some may be written again

@@ -11,5 +11,6 @@ returns-in-Ok-clause-room c =
     let same = sym c.in-Ok.is ∙ c.legal.ensures.answer in
     let stands = subst (λ (r : Result Parameters SettingFault). IfOk r (λ s. (xs : List ℤ) × IsSeam s c.args.feed.now.seam xs)) (sym same) c.requires in
     let room = (push_room_suffices c.in-Ok.setting c.in-Ok.ensures.legal stands.0 c.args.samples.now c.args.code.now c.finish_into.new.code c.finish_into.new.report c.finish_into.result).1 in
-    subst (λ (r : Result Parameters SettingFault). IfOk r (λ s. push_room s c.args.feed.now.seam.waiting_bits (length c.args.samples.now / width s) ≤ length c.args.code.now → c.finish_into.result ≢ 9)) same
+    subst (λ (r : Result Parameters SettingFault). IfOk r
+    (λ s. push_room s c.args.feed.now.seam.waiting_bits (length c.args.samples.now / width s) ≤ length c.args.code.now → c.finish_into.result ≢ 9)) same
     (room c.args.feed.now.seam stands.1 (c.finish_into.ensures stands.0 stands.1))

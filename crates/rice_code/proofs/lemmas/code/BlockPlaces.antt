@@ -72,7 +72,9 @@ same_blocks s b c p (suc n) xs h e =
 
 same_run : (s : Parameters) (b c : ℕ) (r : Option ℕ) (cs : List BlockData) → place s b ≡ place s c → zero_run s b r cs ≡ zero_run s c r cs
 same_run s b c r cs e =
-    ap (λ (left : ℕ). cond (nat_le 5 (prefix_len is_zero_block (take left cs)) && (prefix_len is_zero_block (take left cs) == left || prefix_len is_zero_block (take left cs) == length cs)) (RemainderOfSegment r) (ZeroBlocks r (prefix_len is_zero_block (take left cs)))) (same_left s b c e)
+    ap (λ (left : ℕ). cond (nat_le 5 (prefix_len is_zero_block (take left cs))
+    && (prefix_len is_zero_block (take left cs) == left || prefix_len is_zero_block (take left cs) == length cs)) (RemainderOfSegment r)
+    (ZeroBlocks r (prefix_len is_zero_block (take left cs)))) (same_left s b c e)
 
 pub same_data_sets : (s : Parameters) (b c : ℕ) (behind : Bool) (cs : List BlockData) → place s b ≡ place s c → data_sets s b behind cs ≡ data_sets s c behind cs
 same_data_sets s b c behind [] e = refl
@@ -97,7 +99,8 @@ same_laid s end stop b c m (d ∷ ds) e f g =
     let at : place s (min end (block_after s b d)) ≡ place s (min stop (block_after s c d)) =
     elim (cases_lt end (block_after s b d)) [
       | inl lt ↦ let x : min end (block_after s b d) ≡ end = omega arith in let y : stop ≡ min stop (block_after s c d) = omega arith in ap (λ v. place s v) x ∙ (f ∙ ap (λ v. place s v) y)
-      | inr le ↦ let x : min end (block_after s b d) ≡ block_after s b d = omega arith in let y : block_after s c d ≡ min stop (block_after s c d) = omega arith in ap (λ v. place s v) x ∙ (next ∙ ap (λ v. place s v) y)
+      | inr le ↦ let x : min end (block_after s b d) ≡ block_after s b d = omega arith in
+          let y : block_after s c d ≡ min stop (block_after s c d) = omega arith in ap (λ v. place s v) x ∙ (next ∙ ap (λ v. place s v) y)
     ] in
     let first : sent_first s end b m d ≡ sent_first s stop c m d = ap (λ v. bits_of_set s d ++ replicate (cond (s.pad && v == 0) (bits_to_byte (m + length (bits_of_set s d))) 0) false) at in
     let k = length (sent_first s end b m d) in

@@ -91,7 +91,8 @@ sets_go_on s legal b q p xs ys len begins =
     ∙ (sets_of_segments s b false false first second legal.interval_from begins'
     ∙ (ap (λ m. data_sets s b false first ++ data_sets s (b + m) false second) count ∙ ap (λ v. data_sets s b false v ++ later) (sym (own_blocks s b q p xs j len))))
 
-pub code_goes_on : (s : Parameters) → IsLegal s → (b position blocks : ℕ) (p : ℤ) (xs ys : List ℤ) → IsSample s p → All (IsSample s) xs → length xs ≡ s.block * blocks → begins_segment s (b + blocks) ≡ true →
+pub code_goes_on : (s : Parameters) → IsLegal s → (b position blocks : ℕ) (p : ℤ) (xs ys : List ℤ) → IsSample s p → All (IsSample s) xs
+    → length xs ≡ s.block * blocks → begins_segment s (b + blocks) ≡ true →
     let first = code_from s b position p xs in
     code_from s b position p (xs ++ ys) ≡ first ++ code_from s (b + blocks) (position + length first) (last_of p xs) ys
 code_goes_on s legal b position q p xs ys h k len begins =
@@ -128,4 +129,5 @@ code_grows s legal xs k m le =
 pub bits_go_on : (s : Parameters) → IsLegal s → (b blocks : ℕ) (p : ℤ) (xs ys : List ℤ) → length xs ≡ s.block * blocks → begins_segment s (b + blocks) ≡ true →
     bits_from s b p (xs ++ ys) ≡ bits_from s b p xs + bits_from s (b + blocks) (last_of p xs) ys
 bits_go_on s legal b q p xs ys len begins =
-    ap (λ v. sum_by (λ d. length (bits_of_set s d)) v) (sets_go_on s legal b q p xs ys len begins) ∙ sum_by-append (λ d. length (bits_of_set s d)) (sets_from s b p xs) (sets_from s (b + q) (last_of p xs) ys)
+    ap (λ v. sum_by (λ d. length (bits_of_set s d)) v) (sets_go_on s legal b q p xs ys len begins)
+    ∙ sum_by-append (λ d. length (bits_of_set s d)) (sets_from s b p xs) (sets_from s (b + q) (last_of p xs) ys)

@@ -36,7 +36,8 @@ pub ends_inside : (s : Parameters) (b : ℕ) (d : CodedDataSet) (ds : List Coded
 ends_inside s b d ds = omega (arith, length-append (blocks_in s b d) (blocks_in_all s (block_after s b d) ds))
 
 -- where the blocks end makes no difference to coded data sets before that end
-pub laid_inside : (s : Parameters) (m n b position : ℕ) (ds : List CodedDataSet) → b + length (blocks_in_all s b ds) ≤ m → b + length (blocks_in_all s b ds) ≤ n → layout s m b position ds ≡ layout s n b position ds
+pub laid_inside : (s : Parameters) (m n b position : ℕ) (ds : List CodedDataSet) → b + length (blocks_in_all s b ds) ≤ m → b + length (blocks_in_all s b ds) ≤ n
+    → layout s m b position ds ≡ layout s n b position ds
 laid_inside s m n b position [] h k = refl
 laid_inside s m n b position (d ∷ ds) h k =
     let next = block_after s b d in
@@ -61,8 +62,14 @@ lies_inside s end b position (d ∷ ds) h =
     let bits = position + length (bits_of_set s d) in
     let n = padding s (min end next) bits in
     let zeros = replicate n false in
-    let rest = layout s end next (position + length (sent_first s end b position d)) ds in
-    (zeros, rest, length-replicate n false ∙ ap (λ v. padding s v bits) e, append_assoc (bits_of_set s d) zeros rest, lies_inside s end next (position + length (sent_first s end b position d)) ds (omega arith))
+    let rest = layout s end next (position + length (sent_first s end b position d)) ds in (
+      zeros,
+      rest,
+      length-replicate n false ∙ ap (λ v. padding s v bits) e,
+      append_assoc (bits_of_set s d) zeros rest,
+      lies_inside s end next
+          (position + length (sent_first s end b position d)) ds (omega arith),
+    )
 
 -- What is laid is taken with some zeros more, no more than fill the last byte.
 -- They are skipped after a run that stands for more blocks than there are.
@@ -159,7 +166,8 @@ no_end_passed b n r h = le-div (b / r) (b + n) r h (let e = div-mul-le_self b r 
 few_zeros : (n : ℕ) → bits_to_byte n ≤ 7
 few_zeros n = omega arith
 
-padding_bound : (s : Parameters) (end b bits : ℕ) (d : CodedDataSet) → 1 ≤ s.interval → b < end → padding s (min end (block_after s b d)) bits + 7 * (b / s.interval) ≤ 7 * (block_after s b d / s.interval)
+padding_bound : (s : Parameters) (end b bits : ℕ) (d : CodedDataSet) → 1 ≤ s.interval → b < end
+    → padding s (min end (block_after s b d)) bits + 7 * (b / s.interval) ≤ 7 * (block_after s b d / s.interval)
 padding_bound s end b bits d h lt =
     let n = length (blocks_in s b d) in
     let r = s.interval in

@@ -39,12 +39,14 @@ sequence_has_one s front m =
     (Contains-append_right (false ∷ []) (front ++ fundamental_sequence m) true (Contains-append_right front (fundamental_sequence m) true (Contains-push (replicate m false) true)))
 
 pub forms_have_a_one : (s : Parameters) (b : ℕ) (d : CodedDataSet) → IsLegal s → IsForm s b d → Contains (bits_of_set s d) true
-forms_have_a_one s b (NoCompression c) legal h = let w = wide_id s in small_word_has_one (id_len s) (2 ^ id_len s - 1) (omega arith) (omega arith) (reference_bits s c.reference ++ flat_map (word s.bits) (sent_residuals c))
+forms_have_a_one s b (NoCompression c) legal h = let w = wide_id s in
+    small_word_has_one (id_len s) (2 ^ id_len s - 1) (omega arith) (omega arith) (reference_bits s c.reference ++ flat_map (word s.bits) (sent_residuals c))
 forms_have_a_one s b (SecondExtension c) legal h =
     Contains-append_right (word (id_len s) 0) (true ∷ (reference_bits s c.reference ++ flat_map fundamental_sequence (pair_codes c.residuals))) true (0, omega arith, refl)
 forms_have_a_one s b (Split k c) legal h =
     let w = wide_id s in
     let le : k ≤ 2 ^ id_len s - 3 = h.2 in
-    small_word_has_one (id_len s) (k + 1) (omega arith) (omega arith) (reference_bits s c.reference ++ (flat_map (λ d. fundamental_sequence (d / 2 ^ k)) (sent_residuals c) ++ flat_map (word k) (sent_residuals c)))
+    small_word_has_one (id_len s) (k + 1) (omega arith) (omega arith)
+    (reference_bits s c.reference ++ (flat_map (λ d. fundamental_sequence (d / 2 ^ k)) (sent_residuals c) ++ flat_map (word k) (sent_residuals c)))
 forms_have_a_one s b (ZeroBlocks r z) legal h = sequence_has_one s (reference_bits s r) (run_number z)
 forms_have_a_one s b (RemainderOfSegment r) legal h = sequence_has_one s (reference_bits s r) 4

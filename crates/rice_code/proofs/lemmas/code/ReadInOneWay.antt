@@ -147,7 +147,8 @@ unfolding tail
 plain_reads s b c e x y h k eq =
     let a = after_reference s b c.reference e.reference h.0.reference k.0.reference (flat_map (word s.bits) (sent_residuals c)) (flat_map (word s.bits) (sent_residuals e)) x y eq in
     let p = pieces_read (word s.bits) (λ u v. u % 2 ^ s.bits ≡ v % 2 ^ s.bits) (word_reads s.bits) (sent_residuals c) (sent_residuals e) x y (coded_len s b c e h.0 k.0 a.0) a.1 in
-    let same = same_all_below (2 ^ s.bits) (sent_residuals c) (sent_residuals e) (All-coded (λ d. d < 2 ^ s.bits) c.reference c.residuals h.2) (All-coded (λ d. d < 2 ^ s.bits) e.reference e.residuals k.2) p.0 in
+    let same = same_all_below (2 ^ s.bits) (sent_residuals c) (sent_residuals e) (All-coded (λ d. d < 2 ^ s.bits) c.reference c.residuals h.2)
+    (All-coded (λ d. d < 2 ^ s.bits) e.reference e.residuals k.2) p.0 in
     (same_contents c e a.0 (same_len s b c e h.0 k.0) h.1 k.1 same, p.1)
 
 pub even_block : (s : Parameters) → IsLegal s → s.block ≡ s.block / 2 + s.block / 2
@@ -157,9 +158,12 @@ second_reads : (s : Parameters) (b : ℕ) (c e : BlockData) (x y : List Bool) �
     tail s (SecondExtension c) ++ x ≡ tail s (SecondExtension e) ++ y → (c ≡ e) × (x ≡ y)
 unfolding tail
 second_reads s b c e x y legal h k eq =
-    let eq' : (reference_bits s c.reference ++ flat_map fundamental_sequence (pair_codes c.residuals)) ++ x ≡ (reference_bits s e.reference ++ flat_map fundamental_sequence (pair_codes e.residuals)) ++ y = cc in
-    let a = after_reference s b c.reference e.reference h.reference k.reference (flat_map fundamental_sequence (pair_codes c.residuals)) (flat_map fundamental_sequence (pair_codes e.residuals)) x y eq' in
-    let p = pieces_read fundamental_sequence (λ u v. u ≡ v) sequence_reads (pair_codes c.residuals) (pair_codes e.residuals) x y (length-pair_codes c.residuals e.residuals (same_len s b c e h k)) a.1 in
+    let eq' : (reference_bits s c.reference ++ flat_map fundamental_sequence (pair_codes c.residuals)) ++ x
+    ≡ (reference_bits s e.reference ++ flat_map fundamental_sequence (pair_codes e.residuals)) ++ y = cc in
+    let a = after_reference s b c.reference e.reference h.reference k.reference (flat_map fundamental_sequence (pair_codes c.residuals))
+    (flat_map fundamental_sequence (pair_codes e.residuals)) x y eq' in
+    let p = pieces_read fundamental_sequence (λ u v. u ≡ v) sequence_reads (pair_codes c.residuals) (pair_codes e.residuals) x y
+    (length-pair_codes c.residuals e.residuals (same_len s b c e h k)) a.1 in
     let half = even_block s legal in
     let g = same_pairs (s.block / 2) c.residuals e.residuals (h.len ∙ half) (k.len ∙ half) (same_all (pair_codes c.residuals) (pair_codes e.residuals) p.0) in
     let r = a.0 in
@@ -173,7 +177,8 @@ split_reads s b k c e x y h g eq =
     let low = λ (ds : List ℕ). flat_map (word k) ds in
     let a = after_reference s b c.reference e.reference h.0.reference g.0.reference (high (sent_residuals c) ++ low (sent_residuals c)) (high (sent_residuals e) ++ low (sent_residuals e)) x y eq in
     let n = coded_len s b c e h.0 g.0 a.0 in
-    let p = pieces_read (λ d. fundamental_sequence (d / 2 ^ k)) (λ u v. u / 2 ^ k ≡ v / 2 ^ k) (λ u v. sequence_reads (u / 2 ^ k) (v / 2 ^ k)) (sent_residuals c) (sent_residuals e) (low (sent_residuals c) ++ x) (low (sent_residuals e) ++ y) n
+    let p = pieces_read (λ d. fundamental_sequence (d / 2 ^ k)) (λ u v. u / 2 ^ k ≡ v / 2 ^ k) (λ u v. sequence_reads (u / 2 ^ k) (v / 2 ^ k))
+    (sent_residuals c) (sent_residuals e) (low (sent_residuals c) ++ x) (low (sent_residuals e) ++ y) n
     (sym (append_assoc (high (sent_residuals c)) (low (sent_residuals c)) x) ∙ (a.1 ∙ append_assoc (high (sent_residuals e)) (low (sent_residuals e)) y)) in
     let q = pieces_read (word k) (λ u v. u % 2 ^ k ≡ v % 2 ^ k) (word_reads k) (sent_residuals c) (sent_residuals e) x y n p.1 in
     (same_contents c e a.0 (same_len s b c e h.0 g.0) h.1 g.1 (same_all_parts (2 ^ k) (sent_residuals c) (sent_residuals e) p.0 q.0), q.1)

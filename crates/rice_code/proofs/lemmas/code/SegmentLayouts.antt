@@ -20,7 +20,8 @@ use Rattle.rice_code.proofs.lemmas.code.SegmentPlaces.{none_padded}
 use Rattle.rice_code.proofs.lemmas.meaning.SentSets.{are_taken, begin_before}
 
 -- only the last can be padded, since the others end inside
-laid_to_end : (s : Parameters) (end b position : ℕ) (d : CodedDataSet) (ds : List CodedDataSet) → ((m : ℕ) → b < m → m < end → is_padded s m ≡ false) → BeginBefore s end b (d ∷ ds) → end ≤ b + length (blocks_in_all s b (d ∷ ds)) →
+laid_to_end : (s : Parameters) (end b position : ℕ) (d : CodedDataSet) (ds : List CodedDataSet) → ((m : ℕ) → b < m → m < end → is_padded s m ≡ false)
+    → BeginBefore s end b (d ∷ ds) → end ≤ b + length (blocks_in_all s b (d ∷ ds)) →
     layout s end b position (d ∷ ds) ≡ bits_of_sets s (d ∷ ds) ++ replicate (padding s end (position + length (bits_of_sets s (d ∷ ds)))) false
 laid_to_end s end b position d [] none h le =
     let next = block_after s b d in
@@ -45,14 +46,16 @@ laid_to_end s end b position d (c ∷ ds) none h le =
     ∙ (ap (λ v. t ++ v) ih ∙ (sym (append_assoc t more (replicate (padding s end (position + length t + length more)) false)) ∙ ap (λ m. (t ++ more) ++ replicate (padding s end m) false) n))
 
 -- the same, where there are blocks
-laid_some : (s : Parameters) (end b position : ℕ) (ds : List CodedDataSet) → b < end → ((m : ℕ) → b < m → m < end → is_padded s m ≡ false) → BeginBefore s end b ds → end ≤ b + length (blocks_in_all s b ds) →
+laid_some : (s : Parameters) (end b position : ℕ) (ds : List CodedDataSet) → b < end → ((m : ℕ) → b < m → m < end → is_padded s m ≡ false)
+    → BeginBefore s end b ds → end ≤ b + length (blocks_in_all s b ds) →
     layout s end b position ds ≡ bits_of_sets s ds ++ replicate (padding s end (position + length (bits_of_sets s ds))) false
 laid_some s end b position [] lt none h le = absurd (omega arith)
 laid_some s end b position (d ∷ ds) lt none h le = laid_to_end s end b position d ds none h le
 
 -- the blocks of a segment up to its end, or to the last of all blocks
 pub laid_segment : (s : Parameters) (start position : ℕ) (cs : List BlockData) → IsLegal s → AreSoundBlocks s start cs → 1 ≤ length cs → length cs ≤ blocks_left s start →
-    layout s (start + length cs) start position (data_sets s start false cs) ≡ bits_of_sets s (data_sets s start false cs) ++ replicate (padding s (start + length cs) (position + length (bits_of_sets s (data_sets s start false cs)))) false
+    layout s (start + length cs) start position (data_sets s start false cs) ≡ bits_of_sets s (data_sets s start false cs) ++ replicate
+    (padding s (start + length cs) (position + length (bits_of_sets s (data_sets s start false cs)))) false
 laid_segment s start position cs legal sound some few =
     let end = start + length cs in
     let ds = data_sets s start false cs in
@@ -61,7 +64,8 @@ laid_segment s start position cs legal sound some few =
     let here : start + 0 ≡ start = omega arith in
     let all : length (blocks_in_all s (start + 0) ds) ≡ length (cs ++ replicate cover.fill (zero_block s None)) = ap length cover.blocks in
     let reach : end ≤ start + length (blocks_in_all s start ds) = omega (arith, ap (λ m. length (blocks_in_all s m ds)) here, all, length-append cs (replicate cover.fill (zero_block s None))) in
-    let taken = are_taken s (Some (s.block * end)) start false cs legal.interval_from sound (λ i lt. let m : s.block * suc i ≤ s.block * end = mul-le-mul_left s.block (omega arith) in less s.block i _ j m) in
+    let taken = are_taken s (Some (s.block * end)) start false cs legal.interval_from sound
+    (λ i lt. let m : s.block * suc i ≤ s.block * end = mul-le-mul_left s.block (omega arith) in less s.block i _ j m) in
     let begin = begin_before s end start ds (subst (λ m. AreTaken s (Some (s.block * end)) m ds) here taken) in
     let inside = λ (m : ℕ) (p : start < m) (q : m < end).
     (let e : start + (m - start) ≡ m = omega arith in sym (ap (is_padded s) e) ∙ none_padded s start (m - start) legal.interval_from (omega arith) (omega arith)) in
@@ -96,10 +100,13 @@ inside_interval s start count lt at few =
 
 -- the code of blocks of a segment: their texts, and zeros up to a byte where they end an interval and intervals are padded
 pub code_lies : (s : Parameters) (start position count : ℕ) (cs : List BlockData) → length cs ≡ count → IsLegal s → place s start ≡ start → AreSoundBlocks s start cs → count ≤ blocks_left s start →
-    bits_of_sets s (data_sets s start false cs) ++ replicate (cond (s.pad && start + count == s.interval) (bits_to_byte (position + length (bits_of_sets s (data_sets s start false cs)))) 0) false ≡ layout s (start + count) start position (data_sets s start false cs)
+    bits_of_sets s (data_sets s start false cs) ++ replicate
+    (cond (s.pad && start + count == s.interval) (bits_to_byte (position + length (bits_of_sets s (data_sets s start false cs)))) 0) false ≡ layout s
+    (start + count) start position (data_sets s start false cs)
 code_lies s start position count [] e legal at sound few =
     let lt : start < s.interval = omega (arith, at, mod-lt start legal.interval_from) in
-    ap (λ v. replicate (cond (s.pad && v) (bits_to_byte (position + 0)) 0) false) (no (start + count) s.interval (omega (arith, e))) ∙ ap (λ v. replicate (cond v (bits_to_byte (position + 0)) 0) false) (none s.pad)
+    ap (λ v. replicate (cond (s.pad && v) (bits_to_byte (position + 0)) 0) false) (no (start + count) s.interval (omega (arith, e)))
+    ∙ ap (λ v. replicate (cond v (bits_to_byte (position + 0)) 0) false) (none s.pad)
   where
     no : (n r : ℕ) → n < r → (n == r) ≡ false
     no n r h = grind (arith, nat_tests)
@@ -113,4 +120,5 @@ code_lies s start position count (c ∷ cs) e legal at sound few =
     let lt : start < s.interval = omega (arith, at, mod-lt start legal.interval_from) in
     let l = laid_segment s start position (c ∷ cs) legal sound (omega arith) (omega arith) in
     let same = padded_at_end s start count bits lt (omega arith) (inside_interval s start count lt at few) in
-    sym (sym (ap (λ n. layout s (start + n) start position ds) e) ∙ (l ∙ (ap (λ n. bits_of_sets s ds ++ replicate (padding s (start + n) bits) false) e ∙ ap (λ n. bits_of_sets s ds ++ replicate n false) same)))
+    sym (sym (ap (λ n. layout s (start + n) start position ds) e)
+    ∙ (l ∙ (ap (λ n. bits_of_sets s ds ++ replicate (padding s (start + n) bits) false) e ∙ ap (λ n. bits_of_sets s ds ++ replicate n false) same)))

@@ -60,7 +60,8 @@ contents_sound s b p (x ∷ xs) legal j h k n = record {
     zero_there true e = zero_at_reference s b p (x ∷ xs) j e
     zero_there false e = tt
 
-pub blocks_sound : (s : Parameters) (b : ℕ) (p : ℤ) (n : ℕ) (xs : List ℤ) → IsLegal s → 1 ≤ s.block → IsSample s p → Samples s xs → length xs ≡ s.block * n → AreSoundBlocks s b (blocks_from s b p n xs)
+pub blocks_sound : (s : Parameters) (b : ℕ) (p : ℤ) (n : ℕ) (xs : List ℤ) → IsLegal s → 1 ≤ s.block → IsSample s p → Samples s xs → length xs ≡ s.block * n
+    → AreSoundBlocks s b (blocks_from s b p n xs)
 blocks_sound s b p zero xs legal j h k n = tt
 blocks_sound s b p (suc m) xs legal j h k n =
     let front : length (take s.block xs) ≡ s.block = omega (arith, length-take s.block xs) in
@@ -80,7 +81,8 @@ filled_to_whole_blocks j n h =
     let e = div-add-mod n j in
     elim (cases_lt 0 (n % j)) [
       | inl some ↦ let f = mod-eq_of_lt (rest_below j n h some) in let g : min 1 (n % j) ≡ 1 = omega arith in let k = ap (λ v. j * (n / j + v)) g in let b = mod-lt n h in omega arith
-      | inr none ↦ let z : n % j ≡ 0 = omega arith in let same : j - 0 ≡ j = omega arith in let f = ap (λ v. (j - v) % j) z ∙ (ap (λ v. v % j) same ∙ mod_self j) in let k = ap (λ v. j * (n / j + min 1 v)) z in omega arith
+      | inr none ↦ let z : n % j ≡ 0 = omega arith in let same : j - 0 ≡ j = omega arith in let f = ap (λ v. (j - v) % j) z
+          ∙ (ap (λ v. v % j) same ∙ mod_self j) in let k = ap (λ v. j * (n / j + min 1 v)) z in omega arith
     ]
   where
     rest_below : (j n : ℕ) → 1 ≤ j → 0 < n % j → j - n % j < j
@@ -91,7 +93,8 @@ filled_len s p xs j = length-append xs _ ∙ (ap (λ n. length xs + n) (length-r
 
 pub blocks_sound_behind : (s : Parameters) (b : ℕ) (p : ℤ) (xs : List ℤ) → IsLegal s → 1 ≤ s.block → IsSample s p → Samples s xs → AreSoundBlocks s b (blocks_of s b p xs)
 blocks_sound_behind s b p xs legal j h k =
-    blocks_sound s b p (block_count s (length xs)) (filled_samples s p xs) legal j h (all_append (IsSample s) xs _ k (all_replicate (IsSample s) _ (last_of p xs) (last_legal s p xs h k))) (filled_len s p xs j)
+    blocks_sound s b p (block_count s (length xs)) (filled_samples s p xs) legal j h
+    (all_append (IsSample s) xs _ k (all_replicate (IsSample s) _ (last_of p xs) (last_legal s p xs h k))) (filled_len s p xs j)
 
 pub code_is_bounded : (s : Parameters) → IsLegal s → (b : ℕ) (p : ℤ) (xs : List ℤ) → IsSample s p → All (IsSample s) xs → bits_from s b p xs ≤ bit_bound s (length xs)
 code_is_bounded s legal b p xs h k =

@@ -62,7 +62,8 @@ reference_bound s (Some v) = omega arith
 number_bound : (w : ℕ) → (run_number (suc w) ≤ w + 5) × (w ≡ 0 → run_number (suc w) ≡ 0)
 number_bound w = (grind (arith, nat_tests), λ e. ap (λ v. run_number (suc v)) e)
 
-pub run_bound : (s : Parameters) (b w : ℕ) (r : Option ℕ) (cs : List BlockData) → IsLegal s → IsReference s b r → run_len s b cs ≡ suc w → length (bits_of_set s (zero_run s b r cs)) ≤ suc w * block_bound s
+pub run_bound : (s : Parameters) (b w : ℕ) (r : Option ℕ) (cs : List BlockData) → IsLegal s → IsReference s b r → run_len s b cs ≡ suc w
+    → length (bits_of_set s (zero_run s b r cs)) ≤ suc w * block_bound s
 run_bound s b w r cs legal h e =
     let j : id_len s + s.bits + 2 ≤ block_bound s = omega arith in
     let i : 3 ≤ id_len s = grind (arith, nat_tests) in

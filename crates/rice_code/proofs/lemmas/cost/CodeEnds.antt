@@ -52,7 +52,8 @@ taken_end s fill b position (d ∷ ds) = taken_end s fill (block_after s b d) (f
 -- what begins no later ends no later
 pub ends_later : (s : Parameters) (fill : ℕ → ℕ → ℕ) (end b m n : ℕ) (ds : List CodedDataSet) → IsFill s fill → m ≤ n → code_end s fill end b m ds ≤ code_end s fill end b n ds
 ends_later s fill end b m n [] is le = le
-ends_later s fill end b m n (d ∷ ds) is le = ends_later s fill end (block_after s b d) _ _ ds is (is.rises (min end (block_after s b d)) (m + length (bits_of_set s d)) (n + length (bits_of_set s d)) (omega (arith, le)))
+ends_later s fill end b m n (d ∷ ds) is le = ends_later s fill end (block_after s b d) _ _ ds is
+    (is.rises (min end (block_after s b d)) (m + length (bits_of_set s d)) (n + length (bits_of_set s d)) (omega (arith, le)))
 
 pub never_back : (s : Parameters) (fill : ℕ → ℕ → ℕ) (b position : ℕ) (ds : List CodedDataSet) → IsFill s fill → position ≤ taken_end s fill b position ds
 never_back s fill b position [] is = omega arith
@@ -90,4 +91,12 @@ taken_padded s b position (d ∷ ds) bits lie =
     let text = bits_of_set s d in
     let size = length-append text lie.0 in
     let at : padded s next (position + length text) ≡ position + length (text ++ lie.0) = omega (arith, lie.2, size) in
-    omega (arith, ap (λ n. taken_end s (padded s) next n ds) at, taken_padded s next (position + length (text ++ lie.0)) ds lie.1 lie.4, ap length lie.3, length-append text (lie.0 ++ lie.1), length-append lie.0 lie.1, size)
+    omega (
+      arith,
+      ap (λ n. taken_end s (padded s) next n ds) at,
+      taken_padded s next (position + length (text ++ lie.0)) ds lie.1 lie.4,
+      ap length lie.3,
+      length-append text (lie.0 ++ lie.1),
+      length-append lie.0 lie.1,
+      size,
+    )

@@ -53,7 +53,8 @@ one_block s fill b end p q others c x cs d legal is below sound form paid e begi
           let own = p + length (bits_of_set s (shortest s c)) in
           let next : block_after s b (shortest s c) ≡ b + 1 = ap (λ (l : List BlockData). b + length l) (shortest_covers s b c) in
           let last : min end (b + 1) ≡ b + 1 = omega (arith, e) in
-          let sent = ap (λ l. code_end s fill end b p l) (data_sets_plain s b false c cs plain) ∙ (ap (λ n. code_end s fill end n (fill (min end n) own) rest) next ∙ ap (λ n. code_end s fill end (b + 1) (fill n own) rest) last) in
+          let sent = ap (λ l. code_end s fill end b p l) (data_sets_plain s b false c cs plain)
+          ∙ (ap (λ n. code_end s fill end n (fill (min end n) own) rest) next ∙ ap (λ n. code_end s fill end (b + 1) (fill n own) rest) last) in
           let fewer : own ≤ q + length (bits_of_set s d) = omega (arith, cost_is_length s b (shortest s c) j (shortest_is_form s b c same), text, paid.chosen, begins) in
           omega (arith, sent, more (fill (b + 1) own) (is.rises (b + 1) own (q + length (bits_of_set s d)) fewer))
       | inl z ↦
@@ -67,7 +68,8 @@ one_block s fill b end p q others c x cs d legal is below sound form paid e begi
 
 -- a run, and other coded data sets after it
 by_set : (s : Parameters) (fill : ℕ → ℕ → ℕ) (b end p q n number others : ℕ) (r : Option ℕ) (cs ys : List BlockData) (d : CodedDataSet) →
-    IsLegal s → IsFill s fill → 1 ≤ n → n ≤ blocks_left s b → IsLeastCodeword s b n number → length (bits_of_set s d) ≡ id_len s + 2 + reference_len s r + number → blocks_in s b d ≡ zero_blocks s r n →
+    IsLegal s → IsFill s fill → 1 ≤ n → n ≤ blocks_left s b → IsLeastCodeword s b n number
+    → length (bits_of_set s d) ≡ id_len s + 2 + reference_len s r + number → blocks_in s b d ≡ zero_blocks s r n →
     end ≡ b + length cs → p ≤ q → BeginAtMost cs (zero_blocks s r n ++ ys) → fill (block_after s b d) (q + length (bits_of_set s d)) ≤ others →
     ((rest : List BlockData) (position : ℕ) → BeginAtMost rest ys → end ≡ block_after s b d + length rest → position ≤ fill (block_after s b d) (q + length (bits_of_set s d)) →
     code_end s fill end (block_after s b d) position (data_sets s (block_after s b d) false rest) ≤ others) →
@@ -78,12 +80,15 @@ by_set s fill b end p q n number others r cs ys d legal is some le word text blo
     let theirs = id_len s + 2 + reference_len s r + number in
     let bits = length (bits_of_set s d) in
     let first = subst (λ (m : ℕ). fill m (q + theirs) ≤ others) next (subst (λ (m : ℕ). fill (block_after s b d) (q + m) ≤ others) text enough) in
-    let after = subst (λ (m : ℕ). (rest : List BlockData) (position : ℕ) → BeginAtMost rest ys → end ≡ m + length rest → position ≤ fill m (q + theirs) → code_end s fill end m position (data_sets s m false rest) ≤ others) next
-    (subst (λ (t : ℕ). (rest : List BlockData) (position : ℕ) → BeginAtMost rest ys → end ≡ block_after s b d + length rest → position ≤ fill (block_after s b d) (q + t) → code_end s fill end (block_after s b d) position (data_sets s (block_after s b d) false rest) ≤ others) text more) in
+    let after = subst (λ (m : ℕ). (rest : List BlockData) (position : ℕ) → BeginAtMost rest ys → end ≡ m + length rest → position ≤ fill m (q + theirs)
+    → code_end s fill end m position (data_sets s m false rest) ≤ others) next
+    (subst (λ (t : ℕ). (rest : List BlockData) (position : ℕ) → BeginAtMost rest ys → end ≡ block_after s b d + length rest
+    → position ≤ fill (block_after s b d) (q + t) → code_end s fill end (block_after s b d) position (data_sets s (block_after s b d) false rest) ≤ others) text more) in
     by_run s fill b end p q (n - 1) number others r cs ys is legal.interval_from (omega (arith, some, le)) (subst (λ (m : ℕ). IsLeastCodeword s b m number) count word) e begins below first after
 
 -- The coder's code of blocks ends no later than coded data sets that begin no earlier, and stand for blocks of which none is smaller, and perhaps for more.
-pub ends_no_later : (s : Parameters) (fill : ℕ → ℕ → ℕ) → IsLegal s → 4 ≤ s.block → IsFill s fill → (b end p q : ℕ) (cs : List BlockData) (ds : List CodedDataSet) → end ≡ b + length cs → p ≤ q → AreTaken s None b ds → BeginAtMost cs (blocks_in_all s b ds) →
+pub ends_no_later : (s : Parameters) (fill : ℕ → ℕ → ℕ) → IsLegal s → 4 ≤ s.block → IsFill s fill
+    → (b end p q : ℕ) (cs : List BlockData) (ds : List CodedDataSet) → end ≡ b + length cs → p ≤ q → AreTaken s None b ds → BeginAtMost cs (blocks_in_all s b ds) →
     code_end s fill end b p (data_sets s b false cs) ≤ taken_end s fill b q ds
 ends_no_later s fill legal size is b end p q [] ds e begins taken below = omega (arith, begins, never_back s fill b q ds is)
 ends_no_later s fill legal size is b end p q (c ∷ cs) [] e begins taken below = absurd below
@@ -94,7 +99,8 @@ ends_no_later s fill legal size is b end p q (c ∷ cs) (NoCompression x ∷ ds)
       chosen = omega (arith, choice_is_least s c 0 (NoCompression c) (omega arith), no_compression_at_most s c x below.0);
       run = no_compression_exceeds s x (four_residuals s b x size sound) legal.bits_from;
     } in
-    one_block s fill b end p q _ c x cs (NoCompression x) legal is below.0 sound form paid e begins (λ position le. ends_no_later s fill legal size is (b + 1) end position _ cs ds (omega (arith, e)) le taken.4 below.1)
+    one_block s fill b end p q _ c x cs (NoCompression x) legal is below.0 sound form paid e begins
+    (λ position le. ends_no_later s fill legal size is (b + 1) end position _ cs ds (omega (arith, e)) le taken.4 below.1)
 ends_no_later s fill legal size is b end p q (c ∷ cs) (SecondExtension x ∷ ds) e begins taken below =
     let form = taken.1 in
     let sound : IsSoundBlock s b x = record { block = form; at_reference = taken.3.0; fit = taken.3.1 } in
@@ -102,7 +108,8 @@ ends_no_later s fill legal size is b end p q (c ∷ cs) (SecondExtension x ∷ d
       chosen = omega (arith, choice_is_least s c 1 (NoCompression c) (omega arith), second_extension_at_most s c x below.0);
       run = second_extension_exceeds s x (four_residuals s b x size sound);
     } in
-    one_block s fill b end p q _ c x cs (SecondExtension x) legal is below.0 sound form paid e begins (λ position le. ends_no_later s fill legal size is (b + 1) end position _ cs ds (omega (arith, e)) le taken.4 below.1)
+    one_block s fill b end p q _ c x cs (SecondExtension x) legal is below.0 sound form paid e begins
+    (λ position le. ends_no_later s fill legal size is (b + 1) end position _ cs ds (omega (arith, e)) le taken.4 below.1)
 ends_no_later s fill legal size is b end p q (c ∷ cs) (Split k x ∷ ds) e begins taken below =
     let form = taken.1 in
     let sound : IsSoundBlock s b x = record { block = form.0; at_reference = form.1; fit = taken.3 } in
@@ -110,20 +117,29 @@ ends_no_later s fill legal size is b end p q (c ∷ cs) (Split k x ∷ ds) e beg
       chosen = omega (arith, least_split s c k form.2, split_at_most s k c x below.0);
       run = split_exceeds s k x (four_residuals s b x size sound);
     } in
-    one_block s fill b end p q _ c x cs (Split k x) legal is below.0 sound form paid e begins (λ position le. ends_no_later s fill legal size is (b + 1) end position _ cs ds (omega (arith, e)) le taken.4 below.1)
+    one_block s fill b end p q _ c x cs (Split k x) legal is below.0 sound form paid e begins
+    (λ position le. ends_no_later s fill legal size is (b + 1) end position _ cs ds (omega (arith, e)) le taken.4 below.1)
 ends_no_later s fill legal size is b end p q (c ∷ cs) (ZeroBlocks r n ∷ ds) e begins taken below =
     let d = ZeroBlocks r n in
     let next = block_after s b d in
     let bits = fill next (q + length (bits_of_set s d)) in
-    by_set s fill b end p q n (run_number n) _ r (c ∷ cs) (blocks_in_all s next ds) d legal is taken.1.1 taken.2.0 (inl (omega arith)) (omega (arith, numbered_run_len s r n)) refl e begins below (never_back s fill next bits ds is)
+    by_set s fill b end p q n (run_number n) _ r (c ∷ cs) (blocks_in_all s next ds) d legal is taken.1.1 taken.2.0 (inl (omega arith))
+    (omega (arith, numbered_run_len s r n)) refl e begins below (never_back s fill next bits ds is)
     (λ rest position under len le. ends_no_later s fill legal size is next end position bits rest ds len le taken.4 under)
 ends_no_later s fill legal size is b end p q (c ∷ cs) (RemainderOfSegment r ∷ ds) e begins taken below =
     let d = RemainderOfSegment r in
     let next = block_after s b d in
     let bits = fill next (q + length (bits_of_set s d)) in
-    by_set s fill b end p q (blocks_left s b) 4 _ r (c ∷ cs) (blocks_in_all s next ds) d legal is (some_left s b legal.interval_from).0 (omega arith) (inr (omega arith, refl)) (omega (arith, remainder_len s r)) refl e begins below (never_back s fill next bits ds is)
+    by_set s fill b end p q (blocks_left s b) 4 _ r (c ∷ cs) (blocks_in_all s next ds) d legal is (some_left s b legal.interval_from).0 (omega arith)
+    (inr (omega arith, refl)) (omega (arith, remainder_len s r)) refl e begins below (never_back s fill next bits ds is)
     (λ rest position under len le. ends_no_later s fill legal size is next end position bits rest ds len le taken.4 under)
 
 pub no_sets_are_shorter : NoSetsAreShorter
 no_sets_are_shorter s legal size b cs more ds taken e =
-    omega (arith, ends_no_later s unfilled legal size (unfilled_is s) b (b + length cs) 0 0 cs ds refl (omega arith) taken (subst (BeginAtMost cs) (sym e) (begin_with cs more)), sent_bits s (b + length cs) b 0 (data_sets s b false cs), taken_bits s b 0 ds)
+    omega (
+      arith,
+      ends_no_later s unfilled legal size (unfilled_is s) b (b + length cs) 0 0 cs ds refl (omega arith) taken
+          (subst (BeginAtMost cs) (sym e) (begin_with cs more)),
+      sent_bits s (b + length cs) b 0 (data_sets s b false cs),
+      taken_bits s b 0 ds,
+    )

@@ -83,7 +83,8 @@ run_laid s fill b end p r c cs h is_zero e =
         | inl full ↦ behind (blocks_left s b) (ap (block_after s b) f.0) full
         | inr all ↦
             let none = nothing_more s (b + 1) cs h (omega (arith, count, all)) in
-            let last : min end (block_after s b run) ≡ b + z = omega (arith, ap (block_after s b) f.0, length-replicate (blocks_left s b - 1) (zero_block s None), run_inside s b (c ∷ cs), all, e, count) in
+            let last : min end (block_after s b run) ≡ b + z = omega
+            (arith, ap (block_after s b) f.0, length-replicate (blocks_left s b - 1) (zero_block s None), run_inside s b (c ∷ cs), all, e, count) in
             ap (λ l. code_end s fill end (block_after s b run) (fill (min end (block_after s b run)) bits) l) none
             ∙ (ap (λ n. fill n bits) last ∙ sym (ap (λ l. code_end s fill end (b + z) (fill (b + z) bits) l) none))
       ]
@@ -124,7 +125,8 @@ abbrev zeros_and : Parameters → Option ℕ → ℕ → List BlockData → List
 zeros_and s r w rest = zero_block s r ∷ (replicate w (zero_block s None) ++ rest)
 
 -- how long the coder's run of them is, and where the coder goes on
-front_count : (s : Parameters) (b w : ℕ) (r : Option ℕ) (rest : List BlockData) → 1 ≤ s.interval → suc w ≤ blocks_left s b → run_len s b (zeros_and s r w rest) ≡ suc w + skipped s (b + 1 + w) true rest
+front_count : (s : Parameters) (b w : ℕ) (r : Option ℕ) (rest : List BlockData) → 1 ≤ s.interval → suc w ≤ blocks_left s b
+    → run_len s b (zeros_and s r w rest) ≡ suc w + skipped s (b + 1 + w) true rest
 front_count s b w r rest h le = omega (arith, run_cons s b (zero_block s r) (replicate w (zero_block s None) ++ rest) h (is_zero_zeros s r), count_zeros s b w rest h le)
 
 front_len : (s : Parameters) (w : ℕ) (r : Option ℕ) (rest : List BlockData) → length (zeros_and s r w rest) ≡ suc w + length rest
@@ -186,7 +188,8 @@ run_and_more s fill b end p q w number others r rest is h le word e begins more 
     ]
 
 -- the last zero blocks, by a run of more
-last_run : (s : Parameters) (fill : ℕ → ℕ → ℕ) (b end p q j n number : ℕ) (r : Option ℕ) → IsFill s fill → 1 ≤ s.interval → suc j < n → n ≤ blocks_left s b → IsLeastCodeword s b n number → end ≡ b + suc j → p ≤ q →
+last_run : (s : Parameters) (fill : ℕ → ℕ → ℕ) (b end p q j n number : ℕ) (r : Option ℕ) → IsFill s fill → 1 ≤ s.interval → suc j < n → n ≤ blocks_left s b
+    → IsLeastCodeword s b n number → end ≡ b + suc j → p ≤ q →
     code_end s fill end b p (data_sets s b false (zeros_and s r j [])) ≤ q + run_bits s r number
 last_run s fill b end p q j n number r is h some le word e begins =
     let all = zeros_and s r j [] in

@@ -143,7 +143,8 @@ best_from s c (suc fuel) k e first =
 
 shortest_pays : (s : Parameters) (c : BlockData) (k half : ℕ) → s.block ≡ half + half → 1 ≤ s.block → IsSoundData s c → IsBestSplit s c k → s.block * k ≤ cost s (shortest s c)
 shortest_pays s c k half e j h b =
-    best_keeps (λ d. s.block * k ≤ cost s d) (λ x y. nat_lt (cost s x) (cost s y)) (NoCompression c) (other_options s c) (plain_pays s c k h b) (second_pays s c k half e h b, splits 0 (k_max s + 1) (omega arith))
+    best_keeps (λ d. s.block * k ≤ cost s d) (λ x y. nat_lt (cost s x) (cost s y)) (NoCompression c) (other_options s c) (plain_pays s c k h b)
+    (second_pays s c k half e h b, splits 0 (k_max s + 1) (omega arith))
   where
     splits : (from n : ℕ) → from + n ≤ k_max s + 1 → AllByRecursion (λ d. s.block * k ≤ cost s d) (map (λ k. Split k c) (range_with_len from n))
     splits from zero le = tt
@@ -164,7 +165,8 @@ looks_are_paid s c legal h =
     let pays = shortest_pays s c best.0 (s.block / 2) half j h best.1 in
     let named = ap (λ k. s.block * k) (best_split_is s c best.0 best.1) in
     let m : s.block * (min (best_split s c + 1) (k_max s) + 5) ≤ s.block * (best_split s c + 6) = mul-le-mul_left s.block (omega arith) in
-    elim (is_zero_block c) as (λ v. cond v s.block (s.block * (min (best_split s c + 1) (k_max s) + 5)) ≤ cost s (shortest s c) + 6 * s.block) [ true ↦ omega arith | false ↦ omega (arith, pays, named, m) ]
+    elim (is_zero_block c) as (λ v. cond v s.block (s.block * (min (best_split s c + 1) (k_max s) + 5)) ≤ cost s (shortest s c) + 6 * s.block)
+    [ true ↦ omega arith | false ↦ omega (arith, pays, named, m) ]
 
 -- so are those of several blocks: a run's bits are not even needed
 looks_of_all_are_paid : (s : Parameters) (b : ℕ) (behind : Bool) (cs : List BlockData) → IsLegal s → AreSoundBlocks s b cs →

@@ -43,7 +43,8 @@ inside_interval s b (suc n) h k =
     let ih = inside_interval s (b + 1) n h k.1 in
     let e : b + 1 + n ≡ b + suc n = omega arith in
     let f = ap (λ m. m / r) e in
-    let some : 1 ≤ b % r = elim (cases_lt 0 (b % r)) [ inl lt ↦ lt | inr le ↦ absurd (let none : b % r ≡ 0 = omega arith in let g : true ≡ false = sym (interval_begins_segment s b none) ∙ k.0 in cc) ] in
+    let some : 1 ≤ b % r = elim (cases_lt 0 (b % r))
+    [ inl lt ↦ lt | inr le ↦ absurd (let none : b % r ≡ 0 = omega arith in let g : true ≡ false = sym (interval_begins_segment s b none) ∙ k.0 in cc) ] in
     let up = ceil_step b r h some in
     omega arith
   where
@@ -75,7 +76,8 @@ sets_begin s b p xs legal h k =
     let sound = blocks_sound_behind s b p xs legal j h (recursion_from_All (IsSample s) xs k) in
     let count : length cs ≡ n = count_blocks s b p n (filled_samples s p xs) in
     let here : b + 0 ≡ b = omega arith in
-    let taken = are_taken s (Some (s.block * (b + n))) b false cs legal.interval_from sound (λ i lt. let m : s.block * suc i ≤ s.block * (b + n) = mul-le-mul_left s.block (omega (arith, lt, count)) in less s.block i _ j m) in
+    let taken = are_taken s (Some (s.block * (b + n))) b false cs legal.interval_from sound
+    (λ i lt. let m : s.block * suc i ≤ s.block * (b + n) = mul-le-mul_left s.block (omega (arith, lt, count)) in less s.block i _ j m) in
     begin_before s (b + n) b (sets_from s b p xs) (subst (λ (m : ℕ). AreTaken s (Some (s.block * (b + n))) m (sets_from s b p xs)) here taken)
   where
     less : (j i m : ℕ) → 1 ≤ j → j * suc i ≤ m → j * i < m

@@ -57,7 +57,8 @@ pub not_less : (m n : ℕ) → n ≤ m → nat_lt m n ≡ false
 not_less m n h = grind (arith, nat_tests)
 
 -- no option after is shorter, so the first stays
-pub first_is_kept : {A : Type 0} (f : A → ℕ) (g : ℕ → A) (a : A) (from n : ℕ) → ((j : ℕ) → from ≤ j → j < from + n → f a ≤ f (g j)) → best_of (λ x y. nat_lt (f x) (f y)) a (map g (range_with_len from n)) ≡ a
+pub first_is_kept : {A : Type 0} (f : A → ℕ) (g : ℕ → A) (a : A) (from n : ℕ) → ((j : ℕ) → from ≤ j → j < from + n → f a ≤ f (g j))
+    → best_of (λ x y. nat_lt (f x) (f y)) a (map g (range_with_len from n)) ≡ a
 first_is_kept f g a from zero h = refl
 first_is_kept f g a from (suc n) h =
     let e : nat_lt (f (g from)) (f a) ≡ false = no (f (g from)) (f a) (h from (omega arith) (omega arith)) in
@@ -109,7 +110,8 @@ best_numbered {A} f g a from (suc n) k h i first least =
     at_least m n e = grind (arith, nat_tests)
 
 -- the search may stop where the next split is no shorter
-pub best_where_it_stops : (s : Parameters) (c : BlockData) (k : ℕ) → k ≤ k_max s → ((j : ℕ) → j < k → cost s (Split k c) < cost s (Split j c)) → cost s (Split k c) ≤ cost s (Split (k + 1) c) → IsBestSplit s c k
+pub best_where_it_stops : (s : Parameters) (c : BlockData) (k : ℕ) → k ≤ k_max s → ((j : ℕ) → j < k → cost s (Split k c) < cost s (Split j c))
+    → cost s (Split k c) ≤ cost s (Split (k + 1) c) → IsBestSplit s c k
 best_where_it_stops s c k h first stop = record {
   at_most = h;
   least = λ j p. elim (cases_lt j k) [
@@ -136,7 +138,8 @@ best_where_it_ends s c k h first = record {
 }
 
 -- one split more
-pub first_more : (s : Parameters) (c : BlockData) (k : ℕ) → ((j : ℕ) → j < k → cost s (Split k c) < cost s (Split j c)) → cost s (Split (k + 1) c) < cost s (Split k c) → (j : ℕ) → j < k + 1 → cost s (Split (k + 1) c) < cost s (Split j c)
+pub first_more : (s : Parameters) (c : BlockData) (k : ℕ) → ((j : ℕ) → j < k → cost s (Split k c) < cost s (Split j c))
+    → cost s (Split (k + 1) c) < cost s (Split k c) → (j : ℕ) → j < k + 1 → cost s (Split (k + 1) c) < cost s (Split j c)
 first_more s c k first less j h = elim (cases_lt j k) [
   | inl lt ↦ let f = first j lt in omega arith
   | inr le ↦ let e : k ≡ j = omega arith in let g = ap (λ n. cost s (Split n c)) e in omega (arith, g)
@@ -144,10 +147,12 @@ first_more s c k first less j h = elim (cases_lt j k) [
 
 -- the shortest is decided by the three costs
 pub shortest_is : (s : Parameters) (c : BlockData) (k : ℕ) → IsBestSplit s c k →
-    shortest s c ≡ (let first = cond (nat_lt (cost s (SecondExtension c)) (cost s (NoCompression c))) (SecondExtension c) (NoCompression c) in cond (nat_lt (cost s (Split k c)) (cost s first)) (Split k c) first)
+    shortest s c ≡ (let first = cond (nat_lt (cost s (SecondExtension c)) (cost s (NoCompression c))) (SecondExtension c) (NoCompression c) in
+    cond (nat_lt (cost s (Split k c)) (cost s first)) (Split k c) first)
 shortest_is s c k h =
     let at = h.at_most in
-    best_numbered (cost s) (λ k. Split k c) (cond (nat_lt (cost s (SecondExtension c)) (cost s (NoCompression c))) (SecondExtension c) (NoCompression c)) 0 (k_max s + 1) k (omega arith) (omega arith) (λ j p q. h.first j q) (λ j p. h.least j (omega arith))
+    best_numbered (cost s) (λ k. Split k c) (cond (nat_lt (cost s (SecondExtension c)) (cost s (NoCompression c))) (SecondExtension c) (NoCompression c)) 0
+    (k_max s + 1) k (omega arith) (omega arith) (λ j p q. h.first j q) (λ j p. h.least j (omega arith))
 
 -- where each split up to k is shorter than the one before, k is shorter than all before it
 shorter_than_before : (s : Parameters) (c : BlockData) (k : ℕ) → ((j : ℕ) → j < k → cost s (Split (j + 1) c) < cost s (Split j c)) → (j : ℕ) → j < k → cost s (Split k c) < cost s (Split j c)

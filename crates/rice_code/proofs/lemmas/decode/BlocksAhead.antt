@@ -48,7 +48,8 @@ ranks_fit count p (x ∷ xs) h all =
     All-cons (λ d. d < count) (rank_below count p x) (ranks_below count x xs) (rank_fits count p x h lt) (ranks_fit count x xs lt (λ i d k. all (suc i) d (omega (arith, k))))
 
 -- four parts that follow one another
-four-parts : (bits a b c d : List Bool) (k l m n : ℕ) → a ≡ take k bits → b ≡ take l (drop k bits) → c ≡ take m (drop (k + l) bits) → d ≡ take n (drop (k + l + m) bits) → take (k + l + m + n) bits ≡ a ++ (b ++ (c ++ d))
+four-parts : (bits a b c d : List Bool) (k l m n : ℕ) → a ≡ take k bits → b ≡ take l (drop k bits) → c ≡ take m (drop (k + l) bits)
+    → d ≡ take n (drop (k + l + m) bits) → take (k + l + m + n) bits ≡ a ++ (b ++ (c ++ d))
 four-parts bits a b c d k l m n p q r t =
     let all : k + l + m + n ≡ k + (l + (m + n)) = omega arith in
     let third : drop m (drop (k + l) bits) ≡ drop (k + l + m) bits = drop-drop m (k + l) bits in
@@ -93,7 +94,8 @@ split_ahead waiting s b before from k r ms ls lanes a n m pre some ref split id 
     ap (λ xs. flat_map (λ d. fundamental_sequence (d / 2 ^ k)) xs ++ flat_map (word k) xs) (coded-placed r sent) ∙ (λ j. high_pieces k ms ls same low j ++ low_pieces k ms ls same j) in
     let samples = values_at s levels in
     let many : length samples ≡ s.block = length-values s levels ∙ size in
-    let contents = contents_restored s b (value_at s before) (value_at s from) r ds samples ref pre len zero some (sample_at s from begins) pat none (legal_values s levels small) many (ranks_of_values s from levels ∙ ranked) in
+    let contents = contents_restored s b (value_at s before) (value_at s from) r ds samples ref pre len zero some (sample_at s from begins) pat none
+    (legal_values s levels small) many (ranks_of_values s from levels ∙ ranked) in
     record {
       set = Split k c;
       form = (record { reference = ref; len = len }, zero, split);
@@ -165,12 +167,14 @@ split_fits s width k has lt =
 -- lanes with zeros behind the first
 pub lanes_sixteen : (size : ℕ) (xs ys : List ℕ) → length xs ≡ 16 → size ≤ 16 → ys ≡ take size xs ++ replicate (16 - size) 0 → length ys ≡ 16
 lanes_sixteen size xs ys n h e =
-    ap length e ∙ (length-append (take size xs) (replicate (16 - size) 0) ∙ (let a = length-take-le size xs (omega (arith, n, h)) in let b = length-replicate {A = ℕ} (16 - size) 0 in omega (arith, a, b, h)))
+    ap length e ∙ (length-append (take size xs) (replicate (16 - size) 0)
+    ∙ (let a = length-take-le size xs (omega (arith, n, h)) in let b = length-replicate {A = ℕ} (16 - size) 0 in omega (arith, a, b, h)))
 
 -- low parts in the first lanes
 pub first-low : (k size : ℕ) (words lanes : List ℕ) → lanes ≡ take size words ++ replicate (16 - size) 0 → All (λ l. l < 2 ^ k) words → All (λ l. l < 2 ^ k) lanes
 first-low k size words lanes e low =
-    subst (All (λ l. l < 2 ^ k)) (sym e) (All-append (λ l. l < 2 ^ k) (take size words) (replicate (16 - size) 0) (All-take (λ l. l < 2 ^ k) size words low) (All-replicate (λ l. l < 2 ^ k) (16 - size) 0 (pow_pos k)))
+    subst (All (λ l. l < 2 ^ k)) (sym e) (All-append (λ l. l < 2 ^ k) (take size words) (replicate (16 - size) 0) (All-take (λ l. l < 2 ^ k) size words low)
+    (All-replicate (λ l. l < 2 ^ k) (16 - size) 0 (pow_pos k)))
 
 pub lanes-low : (k size : ℕ) (words behind lanes : List ℕ) → behind ≡ 0 ∷ take 15 words → lanes ≡ take size behind ++ replicate (16 - size) 0 → All (λ l. l < 2 ^ k) words → All (λ l. l < 2 ^ k) lanes
 lanes-low k size words behind lanes e f low =
@@ -178,7 +182,8 @@ lanes-low k size words behind lanes e f low =
     first-low k size behind lanes f all
 
 -- a block with no reference sample
-pub plain_ahead : (waiting : List Bool) (s : Parameters) (b before k head n size width : ℕ) (numbers words highs lows : List ℕ) → HasLanes s size width → size ≤ 16 → is_reference s b ≡ false → k < 3 + 3 * width → 208 ≤ length waiting
+pub plain_ahead : (waiting : List Bool) (s : Parameters) (b before k head n size width : ℕ) (numbers words highs lows : List ℕ) → HasLanes s size width
+    → size ≤ 16 → is_reference s b ≡ false → k < 3 + 3 * width → 208 ≤ length waiting
     → word (id_len s) (k + 1) ≡ take (id_len s) waiting → before < value_count s → head ≡ width + 2 → BeginWithSequences (drop head waiting) size numbers n
     → length words ≡ 16 → All (λ l. l < 2 ^ k) words → flat_map (word k) words ≡ take (16 * k) (drop (head + n) waiting)
     → highs ≡ take size numbers ++ replicate (16 - size) 0 → lows ≡ take size words ++ replicate (16 - size) 0
@@ -196,7 +201,8 @@ plain_ahead waiting s b before k head n size width numbers words highs lows has 
     let room : size * k ≤ 128 = let p : 16 * k ≤ 128 = omega (arith, split.1) in omega (arith, part, p) in
     let spelled : flat_map fundamental_sequence ms ≡ take n (drop (id_len s + 0) waiting) = found.spelled ∙ ap (λ h. take n (drop h waiting)) place in
     let lowest : flat_map (word k) ls ≡ take (size * k) (drop (id_len s + 0 + n) waiting) =
-    words-front k size words (omega (arith, len, most)) ∙ (ap (take (size * k)) spelled_words ∙ (take-take (size * k) (16 * k) (drop (head + n) waiting) part ∙ ap (λ h. take (size * k) (drop (h + n) waiting)) place)) in
+    words-front k size words (omega (arith, len, most))
+    ∙ (ap (take (size * k)) spelled_words ∙ (take-take (size * k) (16 * k) (drop (head + n) waiting) part ∙ ap (λ h. take (size * k) (drop (h + n) waiting)) place)) in
     let same : length ls ≡ length ms = length-take-le size words (omega (arith, len, most)) ∙ sym (length-take-le size numbers (omega (arith, found.lanes, most))) in
     let n_few = found.few in
     let short = known.short in
@@ -210,8 +216,10 @@ plain_ahead waiting s b before k head n size width numbers words highs lows has 
           ap (λ z. ranks_below (value_count s) before (take z lanes)) has.size_is ∙ (take-ranks size (value_count s) before lanes ∙ (ap (take size) near.ranked
           ∙ (take-joined size k highs lows ∙ (λ j. joined_parts k (first_of size numbers highs found.lanes most high_is j) (first_of size words lows len most low_is j))))) in
           subst (BlockAhead waiting s b (value_at s before) lanes) all
-          (split_ahead waiting s b before before k None ms ls lanes 0 n (size * k) has.preprocess (omega (arith, some, has.size_is)) (record { there = sym none; fits = tt }) split.0 id refl spelled lowest
-          (omega (arith, there, head_here, head_is, short, n_few, room)) same (All-take (λ l. l < 2 ^ k) size words low) begins tt refl (omega (arith, near.len, many, most, has.size_is)) near.legal ranked));
+          (split_ahead waiting s b before before k None ms ls lanes 0 n (size * k) has.preprocess (omega (arith, some, has.size_is))
+          (record { there = sym none; fits = tt }) split.0 id refl spelled lowest
+          (omega (arith, there, head_here, head_is, short, n_few, room)) same (All-take (λ l. l < 2 ^ k) size words low) begins tt refl
+          (omega (arith, near.len, many, most, has.size_is)) near.legal ranked));
     }
 
 -- joined parts behind a 0
@@ -223,14 +231,16 @@ first_behind : (size m : ℕ) (xs behind : List ℕ) → size ≡ suc m → m �
 first_behind size m xs behind e h is = (λ j. take (e j) (is j)) ∙ ap (λ z. 0 ∷ z) (take-take m 15 xs h)
 
 -- a block with a reference sample
-pub behind_reference_ahead : (waiting : List Bool) (s : Parameters) (b before from v k id bits n size width : ℕ) (numbers words numbers_behind words_behind highs lows : List ℕ) → HasLanes s size width → size ≤ 16 → is_reference s b ≡ true → k < 3 + 3 * width
+pub behind_reference_ahead : (waiting : List Bool) (s : Parameters) (b before from v k id bits n size width : ℕ)
+    (numbers words numbers_behind words_behind highs lows : List ℕ) → HasLanes s size width → size ≤ 16 → is_reference s b ≡ true → k < 3 + 3 * width
     → 208 ≤ length waiting → word (id_len s) (k + 1) ≡ take (id_len s) waiting → id ≡ id_len s → bits ≡ s.bits → v < 2 ^ bits → word bits v ≡ take bits (drop id waiting)
     → from < value_count s → pattern s (value_at s from) ≡ v → BeginWithSequences (drop (id + bits) waiting) (size - 1) numbers n
     → length words ≡ 16 → All (λ l. l < 2 ^ k) words → flat_map (word k) words ≡ take (16 * k) (drop (id + bits + n) waiting)
     → numbers_behind ≡ 0 ∷ take 15 numbers → words_behind ≡ 0 ∷ take 15 words
     → highs ≡ take size numbers_behind ++ replicate (16 - size) 0 → lows ≡ take size words_behind ++ replicate (16 - size) 0
     → PartsAhead waiting s b before k from 16 highs lows (id + bits + n + (size - 1) * k)
-behind_reference_ahead waiting s b before from v k id bits n size width numbers words numbers_behind words_behind highs lows has most reference lt there id_word id_is bits_are fits value begins pat found len low spelled_words number_is word_is high_is low_is =
+behind_reference_ahead waiting s b before from v k id bits n size width numbers words numbers_behind words_behind highs lows has most reference lt there id_word
+    id_is bits_are fits value begins pat found len low spelled_words number_is word_is high_is low_is =
     let known = width_known s width has.samples in
     let some = some_samples s size width has in
     let narrow = known.few in
@@ -245,7 +255,8 @@ behind_reference_ahead waiting s b before from v k id bits n size width numbers 
     let part : m * k ≤ 16 * k = mul-le-mul_right k (omega (arith, less)) in
     let room : m * k ≤ 128 = let p : 16 * k ≤ 128 = omega (arith, split.1) in omega (arith, part, p) in
     let lowest : flat_map (word k) ls ≡ take (m * k) (drop (id_len s + s.bits + n) waiting) =
-    words-front k m words (omega (arith, len, less)) ∙ (ap (take (m * k)) spelled_words ∙ (take-take (m * k) (16 * k) (drop (id + bits + n) waiting) part ∙ ap (λ h. take (m * k) (drop (h + n) waiting)) place)) in
+    words-front k m words (omega (arith, len, less))
+    ∙ (ap (take (m * k)) spelled_words ∙ (take-take (m * k) (16 * k) (drop (id + bits + n) waiting) part ∙ ap (λ h. take (m * k) (drop (h + n) waiting)) place)) in
     let long_numbers : length numbers_behind ≡ 16 = let l : length (take 15 numbers) ≡ 15 = length-take-le 15 numbers (omega (arith, found.lanes)) in omega (arith, ap length number_is, l) in
     let long_words : length words_behind ≡ 16 = let l : length (take 15 words) ≡ 15 = length-take-le 15 words (omega (arith, len)) in omega (arith, ap length word_is, l) in
     let first_highs : take size highs ≡ 0 ∷ ms = first_of size numbers_behind highs long_numbers most high_is ∙ first_behind size m numbers numbers_behind one less number_is in
@@ -265,18 +276,21 @@ behind_reference_ahead waiting s b before from v k id bits n size width numbers 
           ap (λ z. ranks_below (value_count s) from (take z lanes)) has.size_is ∙ (take-ranks size (value_count s) from lanes ∙ (ap (take size) near.ranked
           ∙ (take-joined size k highs lows ∙ ((λ j. joined_parts k (first_highs j) (first_lows j)) ∙ zero-joined k ms ls)))) in
           subst (BlockAhead waiting s b (value_at s before) lanes) all
-          (split_ahead waiting s b before from k (Some v) ms ls lanes s.bits n (m * k) has.preprocess (omega (arith, some, has.size_is)) (record { there = sym reference; fits = subst (λ w. v < 2 ^ w) bits_are fits }) split.0 id_word
+          (split_ahead waiting s b before from k (Some v) ms ls lanes s.bits n (m * k) has.preprocess (omega (arith, some, has.size_is))
+          (record { there = sym reference; fits = subst (λ w. v < 2 ^ w) bits_are fits }) split.0 id_word
           first (found.spelled ∙ ap (λ h. take n (drop h waiting)) place) lowest
           (omega (arith, there, id_here, short, n_few, room, narrow)) same (All-take (λ l. l < 2 ^ k) m words low) begins pat tt (omega (arith, near.len, many, most, has.size_is)) near.legal ranked));
     }
 
 -- one byte of each sample
-pub bytes_near : (s : Parameters) (from k size : ℕ) (highs lows levels old spelled : List ℕ) → 1 ≤ s.bits → HasWidth s 1 → size ≤ 16 → AreNearLevels s from k highs lows levels → 32 ≤ length old → length spelled ≡ 16 → spelled ≡ spellings s (values_at s levels)
+pub bytes_near : (s : Parameters) (from k size : ℕ) (highs lows levels old spelled : List ℕ) → 1 ≤ s.bits → HasWidth s 1 → size ≤ 16
+    → AreNearLevels s from k highs lows levels → 32 ≤ length old → length spelled ≡ 16 → spelled ≡ spellings s (values_at s levels)
     → SpellsNear s from k size highs lows (slice_index_or levels (size - 1) 0) (put_chunk 0 old spelled)
 bytes_near s from k size highs lows levels old spelled some has most near room count is =
     let narrow = has.narrow refl in
     let one : width s * size ≡ size = ap (λ w. w * size) (one_byte s narrow) ∙ omega arith in
-    let front : take size (put_chunk 0 old spelled) ≡ take size spelled = sym (take-take size 16 (put_chunk 0 old spelled) most) ∙ ap (take size) (take_more_put_chunk 0 old spelled 16 (omega (arith, count)) (omega (arith, room))) in
+    let front : take size (put_chunk 0 old spelled) ≡ take size spelled = sym (take-take size 16 (put_chunk 0 old spelled) most)
+    ∙ ap (take size) (take_more_put_chunk 0 old spelled 16 (omega (arith, count)) (omega (arith, room))) in
     record {
       levels = levels;
       near = near;
@@ -285,7 +299,8 @@ bytes_near s from k size highs lows levels old spelled some has most near room c
     }
 
 -- two bytes of each of eight samples, and of sixteen
-pub words_near : (s : Parameters) (from k size : ℕ) (highs lows first second old spelled : List ℕ) → size ≡ 8 → HasWidth s 2 → AreNearLevels s from k highs lows (first ++ second) → length first ≡ 8 → 32 ≤ length old
+pub words_near : (s : Parameters) (from k size : ℕ) (highs lows first second old spelled : List ℕ) → size ≡ 8 → HasWidth s 2
+    → AreNearLevels s from k highs lows (first ++ second) → length first ≡ 8 → 32 ≤ length old
     → length spelled ≡ 16 → spelled ≡ spellings s (values_at s first) → SpellsNear s from k size highs lows (slice_index_or first 7 0) (put_chunk 0 old spelled)
 words_near s from k size highs lows first second old spelled eight has near len room count is =
     let wide = has.wide refl in
@@ -302,7 +317,8 @@ words_near s from k size highs lows first second old spelled eight has near len 
 
 -- the bytes of a block that was looked at, taken and spelled
 pub bytes_given : {I : Type 0} (start marked middle new : Reader I) (first steps last : ℕ) (p q : DecoderState) (lanes : List ℕ) (len l size bytes_of_one : ℕ) (bytes : List ℕ)
-    → IsLegal p.setting → HasLanes p.setting size bytes_of_one → BlockAhead start.waiting p.setting p.block p.before lanes len → marked ≡ with_mark start → Takes marked middle (take len marked.waiting) → steps ≡ first + len
+    → IsLegal p.setting → HasLanes p.setting size bytes_of_one → BlockAhead start.waiting p.setting p.block p.before lanes len → marked ≡ with_mark start
+    → Takes marked middle (take len marked.waiting) → steps ≡ first + len
     → Skips middle new (padding p.setting (p.block + 1 + 0) middle.taken) → last + middle.taken ≡ steps + new.taken → middle.taken ≤ new.taken
     → l ≡ slice_index_or lanes (size - 1) 0 → q ≡ record p { block = next_block_place p.setting p.block; before = value_at p.setting l; run = 0 }
     → take (width p.setting * size) bytes ≡ spellings p.setting (values_at p.setting (take size lanes))
@@ -350,7 +366,8 @@ pub spelled_both : (s : Parameters) (xs ys : List ℕ) → spellings s (values_a
 spelled_both s [] ys = refl
 spelled_both s (x ∷ xs) ys = append_assoc (spelling s (value_at s x)) (spellings s (values_at s xs)) (spellings s (values_at s ys)) ∙ ap (λ l. spelling s (value_at s x) ++ l) (spelled_both s xs ys)
 
-pub sixteen_words_near : (s : Parameters) (from k size : ℕ) (highs lows first second old spelled more : List ℕ) → HasWidth s 2 → (size ≡ 8) ⊎ (size ≡ 16) → size ≢ 8 → AreNearLevels s from k highs lows (first ++ second) → length first ≡ 8 → length second ≡ 8 → 32 ≤ length old
+pub sixteen_words_near : (s : Parameters) (from k size : ℕ) (highs lows first second old spelled more : List ℕ) → HasWidth s 2 → (size ≡ 8) ⊎ (size ≡ 16)
+    → size ≢ 8 → AreNearLevels s from k highs lows (first ++ second) → length first ≡ 8 → length second ≡ 8 → 32 ≤ length old
     → length spelled ≡ 16 → length more ≡ 16 → spelled ≡ spellings s (values_at s first) → more ≡ spellings s (values_at s second)
     → SpellsNear s from k size highs lows (slice_index_or second 7 0) (put_chunk 16 (put_chunk 0 old spelled) more)
 sixteen_words_near s from k size highs lows first second old spelled more has sizes other near len many room count counted is more_is =
@@ -359,7 +376,8 @@ sixteen_words_near s from k size highs lows first second old spelled more has si
     let two : width s * size ≡ 32 = (λ j. two_bytes s wide.0 wide.1 j * sixteen j) in
     let long : length (put_chunk 0 old spelled) ≡ length old = length-put_chunk 0 old spelled in
     let front : take 16 (put_chunk 0 old spelled) ≡ spelled = take_more_put_chunk 0 old spelled 16 (omega (arith, count)) (omega (arith, room)) in
-    let both : take 32 (put_chunk 16 (put_chunk 0 old spelled) more) ≡ spelled ++ more = take_more_put_chunk 16 (put_chunk 0 old spelled) more 32 (omega (arith, counted)) (omega (arith, room, long)) ∙ ap (λ l. l ++ more) front in
+    let both : take 32 (put_chunk 16 (put_chunk 0 old spelled) more) ≡ spelled ++ more = take_more_put_chunk 16 (put_chunk 0 old spelled) more 32
+    (omega (arith, counted)) (omega (arith, room, long)) ∙ ap (λ l. l ++ more) front in
     let whole : length (first ++ second) ≡ 16 = length-append first second ∙ omega (arith, len, many) in
     let levels : take size (first ++ second) ≡ first ++ second = take_all size (first ++ second) (omega (arith, whole, sixteen)) in
     let place : length first + 7 ≡ size - 1 = omega (arith, len, sixteen) in
@@ -367,10 +385,13 @@ sixteen_words_near s from k size highs lows first second old spelled more has si
       levels = first ++ second;
       near = near;
       last_is = sym (get_or-append-add first second 7 0) ∙ ap (λ n. slice_index_or (first ++ second) n 0) place;
-      spelled = ap (λ n. take n (put_chunk 16 (put_chunk 0 old spelled) more)) two ∙ (both ∙ ((λ j. is j ++ more_is j) ∙ (spelled_both s first second ∙ ap (λ l. spellings s (values_at s l)) (sym levels))));
+      spelled = ap (λ n. take n (put_chunk 16 (put_chunk 0 old spelled) more)) two
+          ∙ (both ∙ ((λ j. is j ++ more_is j) ∙ (spelled_both s first second ∙ ap (λ l. spellings s (values_at s l)) (sym levels))));
     }
 
 -- a block whose bytes are written
-pub spelled_ahead : (waiting : List Bool) (s : Parameters) (b before k from size l len : ℕ) (count : ℕ) (highs lows bytes : List ℕ) → PartsAhead waiting s b before k from count highs lows len → SpellsNear s from k size highs lows l bytes
+pub spelled_ahead : (waiting : List Bool) (s : Parameters) (b before k from size l len : ℕ) (count : ℕ) (highs lows bytes : List ℕ)
+    → PartsAhead waiting s b before k from count highs lows len → SpellsNear s from k size highs lows l bytes
     → SpelledAhead waiting s b (value_at s before) size l len bytes
-spelled_ahead waiting s b before k from size l len count highs lows bytes parts near = record { levels = near.levels; ahead = parts.whole near.levels near.near; last_is = near.last_is; spelled = near.spelled }
+spelled_ahead waiting s b before k from size l len count highs lows bytes parts near =
+    record { levels = near.levels; ahead = parts.whole near.levels near.near; last_is = near.last_is; spelled = near.spelled }

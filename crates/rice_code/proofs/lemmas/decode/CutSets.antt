@@ -21,7 +21,15 @@ use Rattle.rice_code.proofs.lemmas.code.ReadInOneWay.{head_reads, identifier, ta
 -- a word of less than the identifier begins nothing
 pub cut_identifier : (s : Parameters) (b : ℕ) (bits : List Bool) → length bits < id_len s → (d : CodedDataSet) (more : List Bool) → IsForm s b d → bits ≡ bits_of_set s d ++ more → ⊥
 cut_identifier s b bits lt d more form e =
-    omega (arith, ap length e, length-append (bits_of_set s d) more, ap length (Rattle.rice_code.proofs.lemmas.code.ReadInOneWay.text_is s d), length-append (word (id_len s) (identifier s d)) (tail s d), length-word (id_len s) (identifier s d))
+    omega (
+      arith,
+      ap length e,
+      length-append (bits_of_set s d) more,
+      ap length (Rattle.rice_code.proofs.lemmas.code.ReadInOneWay.text_is s d),
+      length-append
+          (word (id_len s) (identifier s d)) (tail s d),
+      length-word (id_len s) (identifier s d),
+    )
 
 cut_plain : (s : Parameters) (b id : ℕ) (bits : List Bool) → id ≡ 2 ^ id_len s - 1 → ((c : BlockData) (more : List Bool) → IsForm s b (NoCompression c) → bits ≡ no_compression_tail s c ++ more → ⊥)
     → (d : CodedDataSet) (more : List Bool) → IsForm s b d → id ≡ identifier s d → bits ≡ tail s d ++ more → ⊥
@@ -79,12 +87,14 @@ no_compression_set_cut old mid new first last s b id f lt e t cut =
 pub split_set_cut : {I : Type 0} (old mid new : Reader I) (first last : ℕ) (s : Parameters) (b id k : ℕ) (f : BitFault)
     → id < 2 ^ id_len s - 1 → id ≡ k + 1 → Takes old mid (word (id_len s) id) → BlockCut mid new s b (Split k) f → SetCut old new first last s b f
 split_set_cut old mid new first last s b id k f lt e t cut =
-    cut_after_id old mid new first last s b id cut.bits f (omega arith) t cut.stops (cut_split s b id k cut.bits e lt cut.none) (λ blank. absurd (not_blank (id_len s) id cut.bits (omega arith) (omega arith) blank))
+    cut_after_id old mid new first last s b id cut.bits f (omega arith) t cut.stops (cut_split s b id k cut.bits e lt cut.none)
+    (λ blank. absurd (not_blank (id_len s) id cut.bits (omega arith) (omega arith) blank))
 
 pub low_set_cut : {I : Type 0} (old mid new : Reader I) (first second last : ℕ) (s : Parameters) (b id : ℕ) (f : BitFault)
     → id < 2 ^ id_len s → id ≡ 0 → Takes old mid (word (id_len s) id) → second + old.taken ≡ first + mid.taken → LowEntropyCut mid new second last s b f → SetCut old new first last s b f
 low_set_cut old mid new first second last s b id f lt e t steps cut =
-    cut_after_id old mid new first last s b id cut.bits f lt t cut.stops (cut_low s b id cut.bits e cut.none) (λ blank. omega (arith, steps, cut.steps (behind (is_blank (word (id_len s) id)) (is_blank cut.bits) (sym (blank-append (word (id_len s) id) cut.bits) ∙ blank))))
+    cut_after_id old mid new first last s b id cut.bits f lt t cut.stops (cut_low s b id cut.bits e cut.none)
+    (λ blank. omega (arith, steps, cut.steps (behind (is_blank (word (id_len s) id)) (is_blank cut.bits) (sym (blank-append (word (id_len s) id) cut.bits) ∙ blank))))
   where
     behind : (x y : Bool) → (x && y) ≡ true → y ≡ true
     behind true y h = h
@@ -183,7 +193,8 @@ second_low_cut old mid new first last s b v f lt pos t cut = record {
   steps = λ blank. absurd (let no : false ≡ true = blank in cc);
 }
   where
-    none : (bits : List Bool) → ((c : BlockData) (more : List Bool) → IsForm s b (SecondExtension c) → bits ≡ second_extension_tail s c ++ more → ⊥) → (d : CodedDataSet) (more : List Bool) → IsForm s b d → IsLowEntropy d → true ∷ bits ≡ low_entropy_tail s d ++ more → ⊥
+    none : (bits : List Bool) → ((c : BlockData) (more : List Bool) → IsForm s b (SecondExtension c) → bits ≡ second_extension_tail s c ++ more → ⊥)
+        → (d : CodedDataSet) (more : List Bool) → IsForm s b d → IsLowEntropy d → true ∷ bits ≡ low_entropy_tail s d ++ more → ⊥
     none bits h (NoCompression c) more form low e = low
     none bits h (SecondExtension c) more form low e = h c more form cc
     none bits h (Split k c) more form low e = low
@@ -200,7 +211,8 @@ run_low_cut old mid new first second last s b bits f t before stops behind cut =
   steps = λ blank. omega (arith, before, behind);
 }
   where
-    none : (bits : List Bool) → ((r : Option ℕ) (m : ℕ) (more : List Bool) → IsReference s b r → bits ≡ run_tail s r m ++ more → ⊥) → (d : CodedDataSet) (more : List Bool) → IsForm s b d → IsLowEntropy d → false ∷ bits ≡ low_entropy_tail s d ++ more → ⊥
+    none : (bits : List Bool) → ((r : Option ℕ) (m : ℕ) (more : List Bool) → IsReference s b r → bits ≡ run_tail s r m ++ more → ⊥)
+        → (d : CodedDataSet) (more : List Bool) → IsForm s b d → IsLowEntropy d → false ∷ bits ≡ low_entropy_tail s d ++ more → ⊥
     none bits h (NoCompression c) more form low e = low
     none bits h (SecondExtension c) more form low e = absurd cc
     none bits h (Split k c) more form low e = low

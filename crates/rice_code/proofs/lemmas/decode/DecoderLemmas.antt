@@ -96,7 +96,8 @@ not_first : (q : ℕ) → q ≡ 0 → (q == 64 * (q / 64)) ≡ false → ⊥
 not_first q e f = absurd (grind (arith, nat_tests))
 
 -- the run goes on inside its segment
-pub run_goes_on : (s : Parameters) (b run : ℕ) → IsLegal s → b < s.interval → 0 < run → run + 1 ≤ blocks_left s b → (begins_segment s (next_block_place s b) ≡ false) × (run ≤ blocks_left s (next_block_place s b))
+pub run_goes_on : (s : Parameters) (b run : ℕ) → IsLegal s → b < s.interval → 0 < run → run + 1 ≤ blocks_left s b
+    → (begins_segment s (next_block_place s b) ≡ false) × (run ≤ blocks_left s (next_block_place s b))
 run_goes_on s b run legal h pos le = by_begin (begins_segment s (b + 1)) refl
   where
     by_begin : (t : Bool) → begins_segment s (b + 1) ≡ t → (begins_segment s (next_block_place s b) ≡ false) × (run ≤ blocks_left s (next_block_place s b))
@@ -111,7 +112,8 @@ run_goes_on s b run legal h pos le = by_begin (begins_segment s (b + 1)) refl
         let same : next_block_place s b ≡ b + 1 = grind (arith, nat_tests) in
         (ap (λ n. begins_segment s n) same ∙ e, rw same (omega arith))
 
-pub place_moves : (s : Parameters) (b next run : ℕ) (last : ℤ) (stopped : Option (Result NextBlock CodeFault)) → IsLegal s → b < s.interval → next ≡ next_block_place s b → IsSample s last → (0 < run → run + 1 ≤ blocks_left s b) → stopped ≢ Some (Ok Block) → IsDecoderState s next last run stopped
+pub place_moves : (s : Parameters) (b next run : ℕ) (last : ℤ) (stopped : Option (Result NextBlock CodeFault)) → IsLegal s → b < s.interval
+    → next ≡ next_block_place s b → IsSample s last → (0 < run → run + 1 ≤ blocks_left s b) → stopped ≢ Some (Ok Block) → IsDecoderState s next last run stopped
 place_moves s b next run last stopped legal h e sample more no_block = record {
   legal = legal;
   within = subst (λ n. n < s.interval) (sym e) (next_within s b h);
@@ -134,8 +136,10 @@ goes_on s b next run p last stopped samples pos e f len legal says = record {
 }
 
 -- a block of a run repeats the sample before it
-pub repeats_on : (s : Parameters) (b next run : ℕ) (p : ℤ) (stopped : Option (Result NextBlock CodeFault)) → IsDecoderState s b p run stopped → 0 < run → s.preprocess ≡ true → next ≡ next_block_place s b
-    → GivesFromRun (record { setting = s; block = b; before = p; run = run; stopped = stopped }) (record { setting = s; block = next; before = p; run = run - 1; stopped = stopped }) (replicate s.block p)
+pub repeats_on : (s : Parameters) (b next run : ℕ) (p : ℤ) (stopped : Option (Result NextBlock CodeFault)) → IsDecoderState s b p run stopped → 0 < run
+    → s.preprocess ≡ true → next ≡ next_block_place s b
+    → GivesFromRun (record { setting = s; block = b; before = p; run = run; stopped = stopped })
+    (record { setting = s; block = next; before = p; run = run - 1; stopped = stopped }) (replicate s.block p)
 repeats_on s b next run p stopped state pos ways e =
     goes_on s b next run p p stopped (replicate s.block p) pos e (sym (last_replicate p s.block)) (length-replicate s.block p) (All-replicate (IsSample s) s.block p state.sample)
     (repeated_block s b p (sym (no_reference s b (state.run_begun pos)).there) (inl ways))
@@ -164,10 +168,12 @@ place_on s b n h k = elim (cases_lt (b + 1) s.interval) [
 -- a decoder behind some blocks of a run
 pub record PassedBlocks (count : ℕ) (s : Parameters) (b next run : ℕ) (p : ℤ) (stopped : Option (Result NextBlock CodeFault)) : Type 0 where
   pub state : IsDecoderState s next p (run - count) stopped
-  pub passes : RepeatsBlocks count (record { setting = s; block = b; before = p; run = run; stopped = stopped }) (record { setting = s; block = next; before = p; run = run - count; stopped = stopped })
+  pub passes : RepeatsBlocks count (record { setting = s; block = b; before = p; run = run; stopped = stopped })
+      (record { setting = s; block = next; before = p; run = run - count; stopped = stopped })
 
 -- blocks of a run repeat the sample before them
-pub passes_blocks : (count : ℕ) (s : Parameters) (b next run : ℕ) (p : ℤ) (stopped : Option (Result NextBlock CodeFault)) → IsDecoderState s b p run stopped → count ≤ run → s.preprocess ≡ true → next ≡ place_after s b count → PassedBlocks count s b next run p stopped
+pub passes_blocks : (count : ℕ) (s : Parameters) (b next run : ℕ) (p : ℤ) (stopped : Option (Result NextBlock CodeFault)) → IsDecoderState s b p run stopped
+    → count ≤ run → s.preprocess ≡ true → next ≡ place_after s b count → PassedBlocks count s b next run p stopped
 passes_blocks zero s b next run p stopped state few ways e =
     let h = state.within in
     let here : place_after s b 0 ≡ b = grind (arith, nat_tests) in
@@ -190,7 +196,8 @@ passes_blocks (suc n) s b next run p stopped state few ways e =
       passes = (
         record { setting = s; block = middle; before = p; run = run - 1; stopped = stopped },
         first,
-        subst (λ m. RepeatsBlocks n (record { setting = s; block = middle; before = p; run = run - 1; stopped = stopped }) (record { setting = s; block = next; before = p; run = m; stopped = stopped })) left rest.passes,
+        subst (λ m. RepeatsBlocks n (record { setting = s; block = middle; before = p; run = run - 1; stopped = stopped })
+            (record { setting = s; block = next; before = p; run = m; stopped = stopped })) left rest.passes,
       );
     }
 
@@ -227,18 +234,21 @@ samples_by_bits old new first last s b p samples run legal given =
     let n : suc (length (replicate run (zero_block s None))) ≡ length (blocks_in s b given.set) = ap length given.gives.blocks_are in
     let m : length (replicate run (zero_block s None)) ≡ run = length-replicate run (zero_block s None) in
     let t : new.taken - old.taken ≡ length (bits_of_set s given.set) = omega (arith, given.takes.taken) in
-    let few : length (blocks_in s b given.set) * s.block ≤ 456 * length (bits_of_set s given.set) = few_samples (length (blocks_in s b given.set)) s.block (length (bits_of_set s given.set)) (block_limit s legal) (few_blocks s b given.set legal given.form given.run_sound) in
+    let few : length (blocks_in s b given.set) * s.block ≤ 456 * length (bits_of_set s given.set) = few_samples (length (blocks_in s b given.set)) s.block
+    (length (bits_of_set s given.set)) (block_limit s legal) (few_blocks s b given.set legal given.form given.run_sound) in
     let k : (1 + run) * s.block ≡ length (blocks_in s b given.set) * s.block = ap (λ j. j * s.block) (omega arith) in
     omega (arith, given.gives.len)
 
-cut_at_end : {I : Type 0} (old new : Reader I) (first last : ℕ) (s : Parameters) (b : ℕ) (blank : Bool) → old.blank ≡ true → SetCut old new first last s b (bit_faults.End blank) → SetEnds old new first last s b blank
+cut_at_end : {I : Type 0} (old new : Reader I) (first last : ℕ) (s : Parameters) (b : ℕ) (blank : Bool) → old.blank ≡ true
+    → SetCut old new first last s b (bit_faults.End blank) → SetEnds old new first last s b blank
 cut_at_end old new first last s b blank h cut = record {
   cut = cut;
   told = ap (λ t. t && is_blank cut.bits) (sym h) ∙ (sym cut.stops.blank ∙ sym cut.stops.refuses.3);
 }
 
 -- where the reader refuses, the decoder stops so
-pub stops_by : {I : Type 0} (old new : Reader I) (first last : ℕ) (s : Parameters) (b : ℕ) (fault : BitFault) → old.blank ≡ true → SetCut old new first last s b fault → StopsBy old new first last s b (answer_to fault)
+pub stops_by : {I : Type 0} (old new : Reader I) (first last : ℕ) (s : Parameters) (b : ℕ) (fault : BitFault) → old.blank ≡ true
+    → SetCut old new first last s b fault → StopsBy old new first last s b (answer_to fault)
 stops_by old new first last s b (bit_faults.End true) h cut = cut_at_end old new first last s b true h cut
 stops_by old new first last s b (bit_faults.End false) h cut = cut_at_end old new first last s b false h cut
 stops_by old new first last s b bit_faults.Read h cut = cut

@@ -52,7 +52,8 @@ counts-one old mid new most fits counts none m v some e before t good bad =
       len = refl;
       told_are = λ f. take_more_set counts 0 v some ∙ ap (λ x. x ∷ []) (good f);
       refused = λ f h. omega (arith, bad f, h 0 0 (omega arith));
-      takes = subst (λ bits. Takes old new bits) (sym (append-nil (fundamental_sequence m))) (takes-append old mid new [] (fundamental_sequence m) (subst (λ bits. Takes old mid bits) nothing before) t);
+      takes = subst (λ bits. Takes old new bits) (sym (append-nil (fundamental_sequence m)))
+          (takes-append old mid new [] (fundamental_sequence m) (subst (λ bits. Takes old mid bits) nothing before) t);
     }
 
 all_front : (P : ℕ → Type 0) (xs ys : List ℕ) → All P (xs ++ ys) → All P xs

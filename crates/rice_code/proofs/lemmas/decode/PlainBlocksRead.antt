@@ -104,26 +104,31 @@ text-at f k zero (v ∷ ws) each h =
     ap (λ n. take k (drop n (f v ++ flat_map f ws))) none ∙ take_at (f v) (flat_map f ws) k (each v)
 text-at f k (suc i) (v ∷ ws) each h =
     let more : k * suc i ≡ k + k * i = omega arith in
-    ap (λ n. take k (drop n (f v ++ flat_map f ws))) more ∙ (ap (take k) (sym (drop-drop (k * i) k (f v ++ flat_map f ws)) ∙ ap (drop (k * i)) (drop_at (f v) (flat_map f ws) k (each v))) ∙ text-at f k i ws each (omega (arith, h)))
+    ap (λ n. take k (drop n (f v ++ flat_map f ws))) more
+    ∙ (ap (take k) (sym (drop-drop (k * i) k (f v ++ flat_map f ws)) ∙ ap (drop (k * i)) (drop_at (f v) (flat_map f ws) k (each v))) ∙ text-at f k i ws each (omega (arith, h)))
 
 -- sixteen bytes more
 pub no_words : (waiting : List Bool) (s : Parameters) (w : ℕ) (bytes : List ℕ) → WordsAhead waiting s w (16 * 0) bytes
 no_words waiting s w bytes = record { words = []; counted = omega arith; fit = All-nil (λ v. v < 2 ^ (8 * w)); bits = refl; spelled = refl }
 
-pub words_more : (waiting : List Bool) (s : Parameters) (w i : ℕ) (old patterns spelled : List ℕ) → WordsAhead waiting s w (16 * i) old → OrdersWords s.msb w patterns spelled → length patterns ≡ 16 → length spelled ≡ 16 → 16 * i + 16 ≤ length old
+pub words_more : (waiting : List Bool) (s : Parameters) (w i : ℕ) (old patterns spelled : List ℕ) → WordsAhead waiting s w (16 * i) old
+    → OrdersWords s.msb w patterns spelled → length patterns ≡ 16 → length spelled ≡ 16 → 16 * i + 16 ≤ length old
     → flat_map (word 8) patterns ≡ take 128 (drop (id_len s + 128 * i) waiting) → WordsAhead waiting s w (16 * (i + 1)) (put_chunk (16 * i) old spelled)
 words_more waiting s w i old patterns spelled h o sixteen len room read =
     let here : 16 * (i + 1) ≡ 16 * i + 16 = omega arith in
     let bits_here : 8 * (16 * (i + 1)) ≡ 8 * (16 * i) + 128 = omega arith in
     let at : id_len s + 128 * i ≡ id_len s + 8 * (16 * i) = omega arith in
     let rest = drop (id_len s) waiting in
-    let more : flat_map (word (8 * w)) o.words ≡ take 128 (drop (8 * (16 * i)) rest) = o.bits ∙ (read ∙ ap (take 128) (ap (λ n. drop n waiting) at ∙ sym (drop-drop (8 * (16 * i)) (id_len s) waiting))) in
+    let more : flat_map (word (8 * w)) o.words ≡ take 128 (drop (8 * (16 * i)) rest) = o.bits
+    ∙ (read ∙ ap (take 128) (ap (λ n. drop n waiting) at ∙ sym (drop-drop (8 * (16 * i)) (id_len s) waiting))) in
     record {
       words = h.words ++ o.words;
-      counted = ap (λ n. w * n) (length-append h.words o.words) ∙ (let d : w * (length h.words + length o.words) ≡ w * length h.words + w * length o.words = omega arith in omega (arith, d, h.counted, o.count, sixteen));
+      counted = ap (λ n. w * n) (length-append h.words o.words)
+          ∙ (let d : w * (length h.words + length o.words) ≡ w * length h.words + w * length o.words = omega arith in omega (arith, d, h.counted, o.count, sixteen));
       fit = All-append (λ v. v < 2 ^ (8 * w)) h.words o.words h.fit o.fit;
       bits = flat_map-append (word (8 * w)) h.words o.words ∙ ((λ j. h.bits j ++ more j) ∙ (sym (take-add (8 * (16 * i)) 128 rest) ∙ ap (λ n. take n rest) (sym bits_here)));
-      spelled = take_more_put_chunk (16 * i) old spelled (16 * (i + 1)) (omega (arith, here, len)) (omega (arith, here, room)) ∙ ((λ j. h.spelled j ++ o.ordered_are j) ∙ sym (flat_map-append (ordered_bytes s.msb w) h.words o.words));
+      spelled = take_more_put_chunk (16 * i) old spelled (16 * (i + 1)) (omega (arith, here, len)) (omega (arith, here, room))
+          ∙ ((λ j. h.spelled j ++ o.ordered_are j) ∙ sym (flat_map-append (ordered_bytes s.msb w) h.words o.words));
     }
 
 -- and so many of them as a block has
@@ -169,7 +174,8 @@ last_is_at waiting s w i l p words samples some whole many len fit legal pattern
     let all : 8 * (w * suc i) ≡ n * i + n = omega arith in
     let at : id_len s + 8 * (w * suc i - w) ≡ id_len s + n * i = (let d : w * suc i ≡ w * i + w = omega arith in omega (arith, d)) in
     let read : word n z ≡ take n (drop (n * i) rest) =
-    sym (text-at (word n) n i words (λ v. length-word n v) inside) ∙ (ap (λ b. take n (drop (n * i) b)) (bits ∙ ap (λ m. take m rest) all) ∙ (ap (take n) (drop-take (n * i) n rest) ∙ take-take n n (drop (n * i) rest) (omega arith))) in
+    sym (text-at (word n) n i words (λ v. length-word n v) inside)
+    ∙ (ap (λ b. take n (drop (n * i) b)) (bits ∙ ap (λ m. take m rest) all) ∙ (ap (take n) (drop-take (n * i) n rest) ∙ take-take n n (drop (n * i) rest) (omega arith))) in
     let same : word n (pattern s (value_at s l)) ≡ word n z = last ∙ (ap (λ m. take n (drop m waiting)) at ∙ (ap (take n) (sym (drop-drop (n * i) (id_len s) waiting)) ∙ sym read)) in
     let sample = sample_at s l small in
     let fits : pattern s (value_at s l) < 2 ^ n = subst (λ m. pattern s (value_at s l) < 2 ^ m) whole (pattern_fits s (value_at s l) some sample) in
@@ -190,7 +196,8 @@ not_padded s w next bits plain = ap (λ v. cond (v && place s next == 0) (bits_t
 
 -- a block that waits, and the bytes of its samples, of which `x` is the last
 plain_step : {I : Type 0} (start new : Reader I) (first last : ℕ) (p q : DecoderState) (x : ℤ) (w : ℕ) (bytes : List ℕ)
-    → (legal : IsLegal p.setting) (plain : IsPlain p.setting w) (h : PlainBlock start.waiting p.setting w bytes) → x ≡ last_of p.before (samples_in p.setting w h.words.words legal plain h.words.fit).samples
+    → (legal : IsLegal p.setting) (plain : IsPlain p.setting w) (h : PlainBlock start.waiting p.setting w bytes)
+    → x ≡ last_of p.before (samples_in p.setting w h.words.words legal plain h.words.fit).samples
     → Takes (with_mark start) new (take (plain_bits p.setting w) start.waiting) → last ≡ first + plain_bits p.setting w
     → q ≡ record p { block = next_block_place p.setting p.block; before = x; run = 0 }
     → GivesBytes start new first last p q bytes
@@ -270,8 +277,10 @@ row_more waiting s w i old new more row is within last k lt =
     let c = w * s.block in
     elim (cases_lt k i) [
       | inl below ↦
-          let part : c * k + c ≤ c * i = (let m : suc k * c ≤ i * c = mul-le-mul_right c below in let x : suc k * c ≡ c * k + c = omega arith in let y : i * c ≡ c * i = omega arith in omega (arith, m, x, y)) in
-          block_kept (drop (plain_bits s w * k) waiting) s w (drop (c * k) old) (drop (c * k) new) (ap (λ l. take c (drop (c * k) l)) is ∙ front_same (c * k) c (c * i) old more part within) (row k below)
+          let part : c * k + c ≤ c * i = (let m : suc k * c ≤ i * c = mul-le-mul_right c below in let x : suc k * c ≡ c * k + c = omega arith in
+          let y : i * c ≡ c * i = omega arith in omega (arith, m, x, y)) in
+          block_kept (drop (plain_bits s w * k) waiting) s w (drop (c * k) old) (drop (c * k) new)
+          (ap (λ l. take c (drop (c * k) l)) is ∙ front_same (c * k) c (c * i) old more part within) (row k below)
       | inr from ↦
           let here : i ≡ k = omega (arith, from, lt) in
           let there : drop (c * i) new ≡ more = ap (drop (c * i)) is ∙ drop_at (take (c * i) old) more (c * i) (length-take-le (c * i) old within) in
@@ -290,14 +299,16 @@ pub written_from : {A : Type 0} (a k : ℕ) (xs ys : List A) → a ≤ length xs
 written_from a k xs ys h e len =
     let n = a + length ys in
     let new = put_mid a k xs ys in
-    sym (take-append-drop n new) ∙ ((λ j. take-put_mid a k xs ys n refl h j ++ (drop-put_mid a k xs ys n (omega (arith, len)) h len ∙ drop_all n xs (omega (arith, h, e, len))) j) ∙ append-nil (take a xs ++ ys))
+    sym (take-append-drop n new) ∙ ((λ j. take-put_mid a k xs ys n refl h j
+    ++ (drop-put_mid a k xs ys n (omega (arith, len)) h len ∙ drop_all n xs (omega (arith, h, e, len))) j) ∙ append-nil (take a xs ++ ys))
 
 -- a row without its first block
 row_behind : (waiting : List Bool) (s : Parameters) (w n : ℕ) (bytes : List ℕ) → PlainRow waiting s w (suc n) bytes → PlainRow (drop (plain_bits s w) waiting) s w n (drop (w * s.block) bytes)
 row_behind waiting s w n bytes row i lt =
     let c = w * s.block in
     let len = plain_bits s w in
-    let a : drop (len * suc i) waiting ≡ drop (len * i) (drop len waiting) = (let e : len * suc i ≡ len + len * i = omega arith in ap (λ k. drop k waiting) e ∙ sym (drop-drop (len * i) len waiting)) in
+    let a : drop (len * suc i) waiting ≡ drop (len * i) (drop len waiting) =
+    (let e : len * suc i ≡ len + len * i = omega arith in ap (λ k. drop k waiting) e ∙ sym (drop-drop (len * i) len waiting)) in
     let b : drop (c * suc i) bytes ≡ drop (c * i) (drop c bytes) = (let e : c * suc i ≡ c + c * i = omega arith in ap (λ k. drop k bytes) e ∙ sym (drop-drop (c * i) c bytes)) in
     subst (λ l. PlainBlock l s w (drop (c * i) (drop c bytes))) a (subst (PlainBlock (drop (len * suc i) waiting) s w) b (row (suc i) (omega (arith, lt))))
 
@@ -331,7 +342,8 @@ begins_with_one s w k waiting plain id h =
     let parts : id_len s + (k - id_len s) ≡ k = omega (arith, h) in
     let text : take k waiting ≡ word (id_len s) (2 ^ id_len s - 1) ++ take (k - id_len s) (drop (id_len s) waiting) =
     ap (λ n. take n waiting) (sym parts) ∙ (take-add (id_len s) (k - id_len s) waiting ∙ ap (λ l. l ++ take (k - id_len s) (drop (id_len s) waiting)) (sym id)) in
-    ap is_blank text ∙ (blank-append (word (id_len s) (2 ^ id_len s - 1)) (take (k - id_len s) (drop (id_len s) waiting)) ∙ ap (λ b. b && is_blank (take (k - id_len s) (drop (id_len s) waiting))) ones)
+    ap is_blank text ∙ (blank-append (word (id_len s) (2 ^ id_len s - 1)) (take (k - id_len s) (drop (id_len s) waiting))
+    ∙ ap (λ b. b && is_blank (take (k - id_len s) (drop (id_len s) waiting))) ones)
   where
     ones : is_blank (word (id_len s) (2 ^ id_len s - 1)) ≡ false
     ones = elim plain.widths [
@@ -355,7 +367,8 @@ takes_front r n h going one = record {
   failures = refl;
 }
 
-takes_behind : {I : Type 0} (r new : Reader I) (a b : ℕ) → a + b ≤ length r.waiting → Takes (with_mark r) new (take (a + b) r.waiting) → is_blank (take (a + b) r.waiting) ≡ false → is_blank (take b (drop a r.waiting)) ≡ false
+takes_behind : {I : Type 0} (r new : Reader I) (a b : ℕ) → a + b ≤ length r.waiting → Takes (with_mark r) new (take (a + b) r.waiting)
+    → is_blank (take (a + b) r.waiting) ≡ false → is_blank (take b (drop a r.waiting)) ≡ false
     → Takes (with_mark (behind r a)) new (take b (drop a r.waiting))
 takes_behind r new a b h t one last =
     let long : length (take (a + b) r.waiting) ≡ a + b = length-take-le (a + b) r.waiting h in
@@ -371,7 +384,8 @@ takes_behind r new a b h t one last =
       draws = record {
         given = [];
         consumed = subst (λ g. Consumes r.left new.left g) none t.draws.consumed;
-        split = ap (λ l. drop a r.waiting ++ l) bits_of-nil ∙ (append-nil (drop a r.waiting) ∙ (sym (take-append-drop b (drop a r.waiting)) ∙ ap (λ l. take b (drop a r.waiting) ++ l) (drop-drop b a r.waiting ∙ rest)));
+        split = ap (λ l. drop a r.waiting ++ l) bits_of-nil
+            ∙ (append-nil (drop a r.waiting) ∙ (sym (take-append-drop b (drop a r.waiting)) ∙ ap (λ l. take b (drop a r.waiting) ++ l) (drop-drop b a r.waiting ∙ rest)));
         needed = λ some. absurd (omega arith);
       };
       taken = omega (arith, t.taken, long, short);
@@ -400,9 +414,11 @@ row_there waiting s w n bytes row =
     omega (arith, last.there, length-drop (plain_bits s w * n) waiting, some)
 
 -- blocks in a row that are taken together
-pub row_given : {I : Type 0} (n : ℕ) (r new : Reader I) (first last : ℕ) (p q : DecoderState) (l w : ℕ) (bytes : List ℕ) → IsLegal p.setting → IsPlain p.setting w → p.block < p.setting.interval → r.refusal ≡ None
+pub row_given : {I : Type 0} (n : ℕ) (r new : Reader I) (first last : ℕ) (p q : DecoderState) (l w : ℕ) (bytes : List ℕ) → IsLegal p.setting
+    → IsPlain p.setting w → p.block < p.setting.interval → r.refusal ≡ None
     → PlainRow r.waiting p.setting w (suc n) bytes → Takes (with_mark r) new (take (plain_bits p.setting w * suc n) r.waiting) → last ≡ first + plain_bits p.setting w * suc n → new.taken ≤ 2 ^ 52
-    → l < value_count p.setting → word (8 * w) (pattern p.setting (value_at p.setting l)) ≡ take (8 * w) (drop (plain_bits p.setting w * n + (id_len p.setting + 8 * (w * p.setting.block - w))) r.waiting)
+    → l < value_count p.setting → word (8 * w) (pattern p.setting (value_at p.setting l)) ≡ take (8 * w)
+    (drop (plain_bits p.setting w * n + (id_len p.setting + 8 * (w * p.setting.block - w))) r.waiting)
     → q ≡ record p { block = (p.block + suc n) % p.setting.interval; before = value_at p.setting l; run = 0 }
     → GivesRow (suc n) r new first last p q bytes
 row_given zero r new first last p q l w bytes legal plain within going row takes steps limit small spelled moves =
@@ -413,17 +429,20 @@ row_given zero r new first last p q l w bytes legal plain within going row takes
     let given = samples_in s w words.words legal plain words.fit in
     let count : length words.words ≡ s.block = counted_words s w (length words.words) plain words.counted in
     let size : suc (s.block - 1) ≡ s.block = omega (arith, legal.block.0) in
-    let read : flat_map (word (8 * w)) words.words ≡ take (8 * (w * suc (s.block - 1))) (drop (id_len s) r.waiting) = words.bits ∙ ap (λ n. take (8 * (w * n)) (drop (id_len s) r.waiting)) (sym size) in
+    let read : flat_map (word (8 * w)) words.words ≡ take (8 * (w * suc (s.block - 1))) (drop (id_len s) r.waiting) = words.bits
+    ∙ ap (λ n. take (8 * (w * n)) (drop (id_len s) r.waiting)) (sym size) in
     let at : len * 0 + (id_len s + 8 * (w * s.block - w)) ≡ id_len s + 8 * (w * s.block - w) = omega arith in
     let end : word (8 * w) (pattern s (value_at s l)) ≡ take (8 * w) (drop (id_len s + 8 * (w * suc (s.block - 1) - w)) r.waiting) =
     spelled ∙ (ap (λ n. take (8 * w) (drop n r.waiting)) at ∙ ap (λ n. take (8 * w) (drop (id_len s + 8 * (w * n - w)) r.waiting)) (sym size)) in
     let value : value_at s l ≡ last_of p.before given.samples =
-    last_is_at r.waiting s w (s.block - 1) l p.before words.words given.samples legal.bits_from plain.whole (count ∙ sym size) (given.len ∙ (count ∙ sym size)) words.fit given.legal given.patterns read small end in
+    last_is_at r.waiting s w (s.block - 1) l p.before words.words given.samples legal.bits_from plain.whole (count ∙ sym size) (given.len ∙ (count ∙ sym size))
+    words.fit given.legal given.patterns read small end in
     let one : len * 1 ≡ len = omega arith in
     let next : (p.block + 1) % s.interval ≡ next_block_place s p.block = sym (next_by_mod s p.block within) in
     let long : length (take (len * 1) r.waiting) ≡ len = ap (λ k. length (take k r.waiting)) one ∙ length-take-le len r.waiting block.there in
     let took = takes.taken in
-    let counted : AreCounted first last r.taken new.taken = record { forward = omega (arith, took, long); limit = limit; least = omega (arith, took, long, steps, one); most = omega (arith, took, long, steps, one) } in (
+    let counted : AreCounted first last r.taken new.taken =
+    record { forward = omega (arith, took, long); limit = limit; least = omega (arith, took, long, steps, one); most = omega (arith, took, long, steps, one) } in (
       new,
       last,
       q,
@@ -458,7 +477,8 @@ row_given (suc n) r new first last p q l w bytes legal plain within going row ta
     let end : word (8 * w) (pattern s (value_at s l)) ≡ take (8 * w) (drop (len * n + (id_len s + 8 * (w * s.block - w))) (drop len r.waiting)) =
     spelled ∙ (ap (λ k. take (8 * w) (drop k r.waiting)) here ∙ ap (take (8 * w)) (sym (drop-drop (len * n + (id_len s + 8 * (w * s.block - w))) len r.waiting))) in
     let place_is : (p.block + suc (suc n)) % s.interval ≡ (next_block_place s p.block + suc n) % s.interval =
-    (let e : p.block + suc (suc n) ≡ p.block + 1 + suc n = omega arith in ap (λ b. b % s.interval) e ∙ (sym (mod-add-mod (p.block + 1) s.interval (suc n)) ∙ ap (λ b. (b + suc n) % s.interval) (sym (next_by_mod s p.block within)))) in
+    (let e : p.block + suc (suc n) ≡ p.block + 1 + suc n = omega arith in ap (λ b. b % s.interval) e
+    ∙ (sym (mod-add-mod (p.block + 1) s.interval (suc n)) ∙ ap (λ b. (b + suc n) % s.interval) (sym (next_by_mod s p.block within)))) in
     let tail : GivesRow (suc n) m new (first + len) last p1 q (drop (w * s.block) bytes) =
     row_given n m new (first + len) last p1 q l w (drop (w * s.block) bytes) legal plain (next_within s p.block within) going more later (omega (arith, steps, all)) limit small end
     (moves ∙ ap (λ b. record p { block = b; before = value_at s l; run = 0 }) place_is) in

@@ -45,10 +45,12 @@ all-placed P (Some v) vs z h = λ i. by_index i
     by_index (suc i) d lt = h i d (omega arith)
 
 -- as many residuals are coded at a block, whatever they are
-pub length-coded_at : (s : Parameters) (b : ℕ) (c : BlockData) (r : Option ℕ) (count : ℕ) → IsBlock s b c → IsReference s b r → count + length (reference_place r) ≡ s.block → length (sent_residuals c) ≡ count
+pub length-coded_at : (s : Parameters) (b : ℕ) (c : BlockData) (r : Option ℕ) (count : ℕ) → IsBlock s b c → IsReference s b r
+    → count + length (reference_place r) ≡ s.block → length (sent_residuals c) ≡ count
 length-coded_at s b c r count h k e = by_cases r c.reference c.residuals (k.there ∙ sym h.reference.there) (e ∙ sym h.len)
   where
-    by_cases : (r q : Option ℕ) (ds : List ℕ) → Rattle.std.specs.Prelude.is_some r ≡ Rattle.std.specs.Prelude.is_some q → count + length (reference_place r) ≡ length ds → length (sent_from q ds) ≡ count
+    by_cases : (r q : Option ℕ) (ds : List ℕ) → Rattle.std.specs.Prelude.is_some r ≡ Rattle.std.specs.Prelude.is_some q
+        → count + length (reference_place r) ≡ length ds → length (sent_from q ds) ≡ count
     by_cases None None ds e f = omega arith
     by_cases None (Some w) ds e f = absurd cc
     by_cases (Some v) None ds e f = absurd cc
@@ -309,7 +311,8 @@ after_sequences k [] (d ∷ ds) x y n e = absurd (omega arith)
 after_sequences k (m ∷ ms) [] x y n e = absurd (omega arith)
 after_sequences k (m ∷ ms) (d ∷ ds) x y n e =
     let a = sequence_reads m (d / 2 ^ k) (flat_map fundamental_sequence ms ++ x) (flat_map (λ d. fundamental_sequence (d / 2 ^ k)) ds ++ y)
-    (sym (append_assoc (fundamental_sequence m) (flat_map fundamental_sequence ms) x) ∙ (e ∙ append_assoc (fundamental_sequence (d / 2 ^ k)) (flat_map (λ d. fundamental_sequence (d / 2 ^ k)) ds) y)) in
+    (sym (append_assoc (fundamental_sequence m) (flat_map fundamental_sequence ms) x)
+    ∙ (e ∙ append_assoc (fundamental_sequence (d / 2 ^ k)) (flat_map (λ d. fundamental_sequence (d / 2 ^ k)) ds) y)) in
     after_sequences k ms ds x y (omega arith) a.1
 
 -- too few low parts

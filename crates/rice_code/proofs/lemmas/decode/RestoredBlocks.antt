@@ -38,7 +38,8 @@ residual_within s b j r p x h k =
     ap (λ z. cond s.preprocess (cond z 0 (rank s p x)) (pattern s x)) e
 
 -- the residuals of samples that no reference is among
-ranks_within : (s : Parameters) (b j : ℕ) (r : Option ℕ) (p : ℤ) (xs : List ℤ) → IsReference s b r → s.preprocess ≡ true → ((j == 0) && is_some r) ≡ false → j + length xs ≤ s.block → residuals s (s.block * b + j) p xs ≡ ranks s p xs
+ranks_within : (s : Parameters) (b j : ℕ) (r : Option ℕ) (p : ℤ) (xs : List ℤ) → IsReference s b r → s.preprocess ≡ true → ((j == 0) && is_some r) ≡ false
+    → j + length xs ≤ s.block → residuals s (s.block * b + j) p xs ≡ ranks s p xs
 ranks_within s b j r p [] k e f h = refl
 ranks_within s b j r p (x ∷ xs) k e f h =
     let one : residual s (s.block * b + j) p x ≡ rank s p x = residual_within s b j r p x (omega (arith, h)) k ∙ (λ i. cond (e i) (cond (f i) 0 (rank s p x)) (pattern s x)) in
@@ -50,19 +51,23 @@ patterns_alone : (s : Parameters) (n : ℕ) (p : ℤ) (xs : List ℤ) → s.prep
 patterns_alone s n p [] e = refl
 patterns_alone s n p (x ∷ xs) e = let rest = patterns_alone s (n + 1) x xs e in λ i. cond (e i) (cond (is_reference_sample s n) 0 (rank s p x)) (pattern s x) ∷ rest i
 
-pub contents_are : (s : Parameters) (b : ℕ) (p : ℤ) (r : Option ℕ) (ds : List ℕ) (samples : List ℤ) → IsReference s b r → residuals s (s.block * b) p samples ≡ ds → IfSome r (λ v. pattern s (slice_index_or samples 0 p) ≡ v)
+pub contents_are : (s : Parameters) (b : ℕ) (p : ℤ) (r : Option ℕ) (ds : List ℕ) (samples : List ℤ) → IsReference s b r
+    → residuals s (s.block * b) p samples ≡ ds → IfSome r (λ v. pattern s (slice_index_or samples 0 p) ≡ v)
     → block_data s b p samples ≡ record { reference = r; residuals = ds }
 contents_are s b p None ds samples h e first =
     let f : cond (is_reference s b) (Some (pattern s (slice_index_or samples 0 p))) None ≡ None = ap (λ t. cond t (Some (pattern s (slice_index_or samples 0 p))) None) (sym h.there) in
     λ i. record { reference = f i; residuals = e i }
 contents_are s b p (Some v) ds samples h e first =
-    let f : cond (is_reference s b) (Some (pattern s (slice_index_or samples 0 p))) None ≡ Some v = ap (λ t. cond t (Some (pattern s (slice_index_or samples 0 p))) None) (sym h.there) ∙ ap (λ w. Some w) first in
+    let f : cond (is_reference s b) (Some (pattern s (slice_index_or samples 0 p))) None ≡ Some v = ap
+    (λ t. cond t (Some (pattern s (slice_index_or samples 0 p))) None) (sym h.there) ∙ ap (λ w. Some w) first in
     λ i. record { reference = f i; residuals = e i }
 
-pub contents_of_patterns : (s : Parameters) (b : ℕ) (p : ℤ) (ds : List ℕ) (xs : List ℤ) → IsReference s b None → s.preprocess ≡ false → map (pattern s) xs ≡ ds → block_data s b p xs ≡ record { reference = None; residuals = ds }
+pub contents_of_patterns : (s : Parameters) (b : ℕ) (p : ℤ) (ds : List ℕ) (xs : List ℤ) → IsReference s b None → s.preprocess ≡ false → map (pattern s) xs ≡ ds
+    → block_data s b p xs ≡ record { reference = None; residuals = ds }
 contents_of_patterns s b p ds xs h e m = contents_are s b p None ds xs h (patterns_alone s (s.block * b) p xs e ∙ m) tt
 
-pub contents_of_ranks : (s : Parameters) (b : ℕ) (p : ℤ) (ds : List ℕ) (xs : List ℤ) → IsReference s b None → s.preprocess ≡ true → length xs ≡ s.block → ranks s p xs ≡ ds → block_data s b p xs ≡ record { reference = None; residuals = ds }
+pub contents_of_ranks : (s : Parameters) (b : ℕ) (p : ℤ) (ds : List ℕ) (xs : List ℤ) → IsReference s b None → s.preprocess ≡ true → length xs ≡ s.block
+    → ranks s p xs ≡ ds → block_data s b p xs ≡ record { reference = None; residuals = ds }
 contents_of_ranks s b p ds xs h e len r =
     let at : s.block * b ≡ s.block * b + 0 = omega arith in
     contents_are s b p None ds xs h (ap (λ n. residuals s n p xs) at ∙ (ranks_within s b 0 None p xs h e refl (omega (arith, len)) ∙ r)) tt
@@ -76,7 +81,8 @@ reference_preprocesses s b v h = at s.preprocess (place s b == 0) h.there
     at false first e = absurd (let f : true ≡ false = e in cc)
 
 -- the samples after a reference sample
-pub contents_behind : (s : Parameters) (b : ℕ) (p x : ℤ) (v : ℕ) (ds : List ℕ) (ys : List ℤ) → IsReference s b (Some v) → length ds ≡ s.block → length ds ≡ suc (length ys) → slice_index ds 0 ≡ 0 → ranks s x ys ≡ drop 1 ds → pattern s x ≡ v
+pub contents_behind : (s : Parameters) (b : ℕ) (p x : ℤ) (v : ℕ) (ds : List ℕ) (ys : List ℤ) → IsReference s b (Some v) → length ds ≡ s.block
+    → length ds ≡ suc (length ys) → slice_index ds 0 ≡ 0 → ranks s x ys ≡ drop 1 ds → pattern s x ≡ v
     → block_data s b p (x ∷ ys) ≡ record { reference = Some v; residuals = ds }
 contents_behind s b p x v [] ys h n len first r pat = absurd (omega arith)
 contents_behind s b p x v (d ∷ ds) ys h n len first r pat =
@@ -92,7 +98,8 @@ refill_all xs ys e =
     ∙ (ap (take (length xs)) (append-nil ys) ∙ take_all (length xs) ys (omega (arith, e)))
 
 -- a sample that gives a residual of 0 first gives it again and again
-pub zeros_restored : (s : Parameters) (b : ℕ) (p x : ℤ) (r : Option ℕ) → IsReference s b r → 1 ≤ s.block → residual_at s r true p x ≡ 0 → IfSome r (λ v. pattern s x ≡ v) → block_data s b p (replicate s.block x) ≡ zero_block s r
+pub zeros_restored : (s : Parameters) (b : ℕ) (p x : ℤ) (r : Option ℕ) → IsReference s b r → 1 ≤ s.block → residual_at s r true p x ≡ 0
+    → IfSome r (λ v. pattern s x ≡ v) → block_data s b p (replicate s.block x) ≡ zero_block s r
 zeros_restored s b p x r h j res ref = contents_are s b p r (replicate s.block 0) (replicate s.block x) h (all_zeros s.block j) (subst Q (sym (first s.block j)) ref)
   where
     Q : ℤ → Type 0
@@ -123,7 +130,8 @@ same_first : (s : Parameters) (x y : ℤ) → IsSample s x → IsSample s y → 
 same_first s x y h k e = same_level s y x k h (rank_injective (value_count s) (level s x) (level s y) (level s x) h.1 k.1 h.1 (e ∙ sym (same_rank (value_count s) (level s x))))
 
 -- samples restored from all residuals of a block, after its reference sample or the sample before it
-pub contents_restored : (s : Parameters) (b : ℕ) (p x : ℤ) (r : Option ℕ) (ds : List ℕ) (xs : List ℤ) → IsReference s b r → s.preprocess ≡ true → length ds ≡ s.block → OnSome r (slice_index ds 0 ≡ 0) → 1 ≤ s.block
+pub contents_restored : (s : Parameters) (b : ℕ) (p x : ℤ) (r : Option ℕ) (ds : List ℕ) (xs : List ℤ) → IsReference s b r → s.preprocess ≡ true
+    → length ds ≡ s.block → OnSome r (slice_index ds 0 ≡ 0) → 1 ≤ s.block
     → IsSample s x → IfSome r (λ v. pattern s x ≡ v) → IfNone r (x ≡ p) → All (IsSample s) xs → length xs ≡ s.block → ranks s x xs ≡ ds → block_data s b p xs ≡ record { reference = r; residuals = ds }
 contents_restored s b p x None ds xs h pre n none some hx pat same all len e = contents_of_ranks s b p ds xs h pre len (ap (λ q. ranks s q xs) (sym same) ∙ e)
 contents_restored s b p x (Some v) ds [] h pre n none some hx pat same all len e = absurd (omega arith)
@@ -136,6 +144,7 @@ contents_restored s b p x (Some v) (d ∷ ds) (y ∷ ys) h pre n none some hx pa
     ap (λ q. block_data s b p (q ∷ ys)) at ∙ contents_behind s b p x v (d ∷ ds) ys h n (omega arith) none rest_behind pat
 
 -- without preprocessing a block has no reference
-pub contents_plain : (s : Parameters) (b : ℕ) (p : ℤ) (r : Option ℕ) (ds : List ℕ) (xs : List ℤ) → IsReference s b r → s.preprocess ≡ false → map (pattern s) xs ≡ ds → block_data s b p xs ≡ record { reference = r; residuals = ds }
+pub contents_plain : (s : Parameters) (b : ℕ) (p : ℤ) (r : Option ℕ) (ds : List ℕ) (xs : List ℤ) → IsReference s b r → s.preprocess ≡ false
+    → map (pattern s) xs ≡ ds → block_data s b p xs ≡ record { reference = r; residuals = ds }
 contents_plain s b p None ds xs h e m = contents_of_patterns s b p ds xs h e m
 contents_plain s b p (Some v) ds xs h e m = absurd (let f : true ≡ false = sym (reference_preprocesses s b v h) ∙ e in cc)

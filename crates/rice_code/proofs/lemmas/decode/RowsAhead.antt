@@ -25,7 +25,8 @@ use Rattle.rice_code.specs.decode.RowsAhead.{HeadAhead, HighsAhead, LowsAhead}
 use Rattle.rice_code.proofs.lemmas.decode.BlocksAhead.{all_behind, some_samples, spelled_both, split_ahead, split_fits, width_known}
 
 -- what stands before the sequences of a block with a reference sample
-pub head_behind_reference : (waiting : List Bool) (s : Parameters) (b before from v id bits w : ℕ) → HasWidth s w → is_reference s b ≡ true → id ≡ id_len s → bits ≡ s.bits → v < 2 ^ bits → word bits v ≡ take bits (drop id waiting)
+pub head_behind_reference : (waiting : List Bool) (s : Parameters) (b before from v id bits w : ℕ) → HasWidth s w → is_reference s b ≡ true → id ≡ id_len s
+    → bits ≡ s.bits → v < 2 ^ bits → word bits v ≡ take bits (drop id waiting)
     → from < value_count s → pattern s (value_at s from) ≡ v → HeadAhead waiting s b before from 1 (id + bits)
 head_behind_reference waiting s b before from v id bits w has there id_is bits_are fits value begins pat =
     let known = width_known s w has in
@@ -54,7 +55,8 @@ length-behind (suc zero) numbers row few len is = ap length is ∙ length-take-l
 length-behind (suc (suc o)) numbers row few len is = absurd (omega (arith, few))
 
 -- a row of fundamental sequences
-pub row-highs : (waiting : List Bool) (skip o n : ℕ) (numbers row : List ℕ) → o ≤ 1 → skip + 64 ≤ length waiting → BeginWithSequences (drop skip waiting) (16 - o) numbers n → row ≡ take 16 (replicate o 0 ++ numbers) → HighsAhead waiting skip o row n
+pub row-highs : (waiting : List Bool) (skip o n : ℕ) (numbers row : List ℕ) → o ≤ 1 → skip + 64 ≤ length waiting
+    → BeginWithSequences (drop skip waiting) (16 - o) numbers n → row ≡ take 16 (replicate o 0 ++ numbers) → HighsAhead waiting skip o row n
 row-highs waiting skip zero n numbers row few there found is =
     let short = found.few in
     record {
@@ -72,7 +74,8 @@ row-highs waiting skip (suc zero) n numbers row few there found is =
 row-highs waiting skip (suc (suc o)) n numbers row few there found is = absurd (omega (arith, few))
 
 -- one row more of fundamental sequences
-pub highs-row : (waiting : List Bool) (skip omitted len n : ℕ) (highs row : List ℕ) → omitted ≤ length highs → HighsAhead waiting skip omitted highs len → HighsAhead waiting (skip + len) 0 row n → HighsAhead waiting skip omitted (highs ++ row) (len + n)
+pub highs-row : (waiting : List Bool) (skip omitted len n : ℕ) (highs row : List ℕ) → omitted ≤ length highs → HighsAhead waiting skip omitted highs len
+    → HighsAhead waiting (skip + len) 0 row n → HighsAhead waiting skip omitted (highs ++ row) (len + n)
 highs-row waiting skip omitted len n highs row few before more =
     let within = more.within in
     record {
@@ -84,7 +87,8 @@ highs-row waiting skip omitted len n highs row few before more =
     }
 
 -- a row of words
-pub row-lows : (waiting : List Bool) (skip o k : ℕ) (words row : List ℕ) → o ≤ 1 → length words ≡ 16 → All (λ l. l < 2 ^ k) words → flat_map (word k) words ≡ take (16 * k) (drop skip waiting) → row ≡ take 16 (replicate o 0 ++ words)
+pub row-lows : (waiting : List Bool) (skip o k : ℕ) (words row : List ℕ) → o ≤ 1 → length words ≡ 16 → All (λ l. l < 2 ^ k) words
+    → flat_map (word k) words ≡ take (16 * k) (drop skip waiting) → row ≡ take 16 (replicate o 0 ++ words)
     → LowsAhead waiting skip o k row
 row-lows waiting skip zero k words row few len low bits is =
     let same : row ≡ words = is ∙ take_all 16 words (omega (arith, len)) in
@@ -123,7 +127,8 @@ lows-row waiting skip omitted k at lows row few before place len low bits =
     }
 
 -- parts of which the first are zeros, joined
-zeros-joined : (n k : ℕ) (highs lows : List ℕ) → length lows ≡ length highs → n ≤ length highs → take n highs ≡ replicate n 0 → take n lows ≡ replicate n 0 → joined_parts k highs lows ≡ replicate n 0 ++ joined_parts k (drop n highs) (drop n lows)
+zeros-joined : (n k : ℕ) (highs lows : List ℕ) → length lows ≡ length highs → n ≤ length highs → take n highs ≡ replicate n 0 → take n lows ≡ replicate n 0
+    → joined_parts k highs lows ≡ replicate n 0 ++ joined_parts k (drop n highs) (drop n lows)
 zeros-joined zero k highs lows same few e f = refl
 zeros-joined (suc n) k [] lows same few e f = absurd (omega (arith, few))
 zeros-joined (suc n) k (x ∷ xs) [] same few e f = absurd (omega (arith, same))
@@ -162,7 +167,9 @@ rows_parts waiting s b before k from omitted head n size bytes_of_one highs lows
       whole = λ levels near.
           (let whole : length levels ≡ s.block = near.len ∙ (many ∙ sym has.size_is) in
           let ranked : ranks_below (value_count s) from (take s.block levels) ≡ reference_place r ++ joined_parts k ms ls =
-          ap (ranks_below (value_count s) from) (take_all s.block levels (omega (arith, whole))) ∙ (near.ranked ∙ (zeros-joined omitted k highs lows same (omega (arith, few, some, many)) high.zeros low.zeros ∙ ap (λ xs. xs ++ joined_parts k ms ls) (sym begin.place))) in
+          ap (ranks_below (value_count s) from) (take_all s.block levels (omega (arith, whole)))
+          ∙ (near.ranked ∙ (zeros-joined omitted k highs lows same (omega (arith, few, some, many)) high.zeros low.zeros
+          ∙ ap (λ xs. xs ++ joined_parts k ms ls) (sym begin.place))) in
           subst (BlockAhead waiting s b (value_at s before) levels) all
           (split_ahead waiting s b before from k r ms ls levels a n m has.preprocess (omega (arith, some, has.size_is)) begin.is split.0 id begin.bits first second (omega (arith, within, all)) as_many
           (All-drop (λ l. l < 2 ^ k) omitted lows low.low) begin.begins begin.value begin.same (omega (arith, whole)) near.legal ranked));
@@ -174,7 +181,8 @@ bytes_of_width s w has = elim has.widths [ inl e ↦ one_byte s (has.narrow e) �
 
 -- a row after a row
 
-joined-append : (k : ℕ) (hs ls more_highs more_lows : List ℕ) → length ls ≡ length hs → joined_parts k (hs ++ more_highs) (ls ++ more_lows) ≡ joined_parts k hs ls ++ joined_parts k more_highs more_lows
+joined-append : (k : ℕ) (hs ls more_highs more_lows : List ℕ) → length ls ≡ length hs
+    → joined_parts k (hs ++ more_highs) (ls ++ more_lows) ≡ joined_parts k hs ls ++ joined_parts k more_highs more_lows
 joined-append k [] [] more_highs more_lows e = refl
 joined-append k [] (l ∷ ls) more_highs more_lows e = absurd (omega (arith, e))
 joined-append k (h ∷ hs) [] more_highs more_lows e = absurd (omega (arith, e))
@@ -184,7 +192,8 @@ last-append : (p : ℕ) (xs ys : List ℕ) → last_number p (xs ++ ys) ≡ last
 last-append p [] ys = refl
 last-append p (x ∷ xs) ys = last-append x xs ys
 
-pub rows_near : (s : Parameters) (p q k : ℕ) (highs lows levels more_highs more_lows more : List ℕ) → length lows ≡ length highs → q ≡ last_number p levels → AreNearLevels s p k highs lows levels → AreNearLevels s q k more_highs more_lows more
+pub rows_near : (s : Parameters) (p q k : ℕ) (highs lows levels more_highs more_lows more : List ℕ) → length lows ≡ length highs → q ≡ last_number p levels
+    → AreNearLevels s p k highs lows levels → AreNearLevels s q k more_highs more_lows more
     → AreNearLevels s p k (highs ++ more_highs) (lows ++ more_lows) (levels ++ more)
 rows_near s p q k highs lows levels more_highs more_lows more same last near then_near =
     let first = near.len in
@@ -217,8 +226,10 @@ none_spelled s from k highs lows bytes begins =
     }
 
 -- one row more
-pub row_spelled : (s : Parameters) (from k count last l w : ℕ) (highs lows bytes now : List ℕ) → HasWidth s w → length lows ≡ length highs → count + 16 ≤ length highs → take (w * count) now ≡ take (w * count) bytes
-    → RowsSpelled s from k count highs lows last bytes → SpellsNear s last k 16 (take 16 (drop count highs)) (take 16 (drop count lows)) l (drop (w * count) now) → RowsSpelled s from k (count + 16) highs lows l now
+pub row_spelled : (s : Parameters) (from k count last l w : ℕ) (highs lows bytes now : List ℕ) → HasWidth s w → length lows ≡ length highs
+    → count + 16 ≤ length highs → take (w * count) now ≡ take (w * count) bytes
+    → RowsSpelled s from k count highs lows last bytes
+    → SpellsNear s last k 16 (take 16 (drop count highs)) (take 16 (drop count lows)) l (drop (w * count) now) → RowsSpelled s from k (count + 16) highs lows l now
 row_spelled s from k count last l w highs lows bytes now has same room front before more =
     let one = bytes_of_width s w has in
     let next_highs = take 16 (drop count highs) in
@@ -241,11 +252,13 @@ row_spelled s from k count last l w highs lows bytes now has same room front bef
       spelled =
           ap (λ n. take n now) place
           ∙ (take-add (w * count) (width s * 16) now
-          ∙ ((λ j. (front ∙ (ap (λ v. take (v * count) bytes) (sym one) ∙ before.spelled)) j ++ (more.spelled ∙ ap (λ ls. spellings s (values_at s ls)) whole) j) ∙ spelled_both s before.levels more.levels));
+          ∙ ((λ j. (front ∙ (ap (λ v. take (v * count) bytes) (sym one) ∙ before.spelled)) j ++ (more.spelled ∙ ap (λ ls. spellings s (values_at s ls)) whole)
+          j) ∙ spelled_both s before.levels more.levels));
     }
 
 -- all of them, copied to the front of other bytes
-pub all_spelled : (s : Parameters) (from k size last w : ℕ) (highs lows bytes old : List ℕ) → HasWidth s w → 1 ≤ size → size ≤ length highs → w * size ≤ length bytes → RowsSpelled s from k size highs lows last bytes
+pub all_spelled : (s : Parameters) (from k size last w : ℕ) (highs lows bytes old : List ℕ) → HasWidth s w → 1 ≤ size → size ≤ length highs
+    → w * size ≤ length bytes → RowsSpelled s from k size highs lows last bytes
     → SpellsNear s from k size (take size highs) (take size lows) last (take (w * size) bytes ++ drop (w * size) old)
 all_spelled s from k size last w highs lows bytes old has some room there rows =
     let one = bytes_of_width s w has in

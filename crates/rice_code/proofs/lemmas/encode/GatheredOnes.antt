@@ -12,7 +12,8 @@ use Rattle.rice_code.proofs.lemmas.encode.JoinedWords.{one_fits}
 number_more : (bits : List Bool) (m : ℕ) → number_of (bits ++ fundamental_sequence m) ≡ number_of bits * 2 ^ (m + 1) + 1
 number_more bits m =
     let w = length bits in
-    let spelled : word (w + (m + 1)) (number_of bits * 2 ^ (m + 1) + 1) ≡ bits ++ fundamental_sequence m = word-cat w (m + 1) (number_of bits) 1 (one_fits m) ∙ (λ i. word-number_of bits i ++ word-fs m i) in
+    let spelled : word (w + (m + 1)) (number_of bits * 2 ^ (m + 1) + 1) ≡ bits ++ fundamental_sequence m = word-cat w (m + 1) (number_of bits) 1 (one_fits m)
+    ∙ (λ i. word-number_of bits i ++ word-fs m i) in
     sym (ap number_of spelled) ∙ number_of-word (w + (m + 1)) (number_of bits * 2 ^ (m + 1) + 1) (join_below w (m + 1) (number_of bits) 1 (number_of-lt bits) (one_fits m))
 
 pub gathers_none : Gathers 0 (2 ^ 40) []
@@ -55,7 +56,8 @@ gathers_more word left m bits lt h =
 pub gathered_number : (value left width : ℕ) (bits : List Bool) → width ≡ 2 ^ 40 - left → left < 2 ^ 40 → width ≤ 56 → Gathers value left bits → HasDigits bits (value / 2 ^ (64 - width)) width
 gathered_number value left width bits e some few h =
     let len : length bits ≡ width = omega (arith, e, some, h.count) in
-    let same : value / 2 ^ (64 - width) ≡ number_of bits = ap (λ v. v / 2 ^ (64 - width)) (h.front (omega (arith, len, few)) ∙ ap (λ n. number_of bits * 2 ^ (64 - n)) len) ∙ whole (number_of bits) (2 ^ (64 - width)) (pow_pos (64 - width)) in
+    let same : value / 2 ^ (64 - width) ≡ number_of bits = ap (λ v. v / 2 ^ (64 - width))
+    (h.front (omega (arith, len, few)) ∙ ap (λ n. number_of bits * 2 ^ (64 - n)) len) ∙ whole (number_of bits) (2 ^ (64 - width)) (pow_pos (64 - width)) in
     record {
       len = len;
       fits = subst (λ v. v < 2 ^ width) (sym same) (subst (λ n. number_of bits < 2 ^ n) len (number_of-lt bits));

@@ -83,7 +83,8 @@ all_first s [] ys h = (tt, h)
 all_first s (x ∷ xs) ys h = let r = all_first s xs ys h.1 in ((h.0, r.0), r.1)
 
 -- the residual of the next sample
-the_residual : (coder : CoderState) (b : ℕ) (held : List ℤ) (p x : ℤ) → 1 ≤ coder.setting.interval → 1 ≤ coder.setting.block → place coder.setting b ≡ coder.start → length held < coder.setting.block * blocks_left coder.setting b →
+the_residual : (coder : CoderState) (b : ℕ) (held : List ℤ) (p x : ℤ) → 1 ≤ coder.setting.interval → 1 ≤ coder.setting.block
+    → place coder.setting b ≡ coder.start → length held < coder.setting.block * blocks_left coder.setting b →
     coder.residuals ≡ residuals coder.setting (coder.setting.block * b) p held → residual coder.setting (coder.setting.block * b + length held) coder.previous x ≡ next_residual coder x
 the_residual coder b [] p x h j e k f =
     let s = coder.setting in
@@ -127,13 +128,16 @@ held_are s b p (suc n) xs h j k e =
     let flen : length front ≡ s.block = length-take-le s.block xs (omega arith) in
     let blen : length back ≡ s.block * n = omega (arith, length-drop s.block xs) in
     let q = last_of p front in
-    let all : residuals s (s.block * b) p xs ≡ residuals s (s.block * b) p front ++ residuals s (s.block * b + length front) q back = ap (residuals s (s.block * b) p) (sym (take-append-drop s.block xs)) ∙ residuals_append s (s.block * b) p front back in
+    let all : residuals s (s.block * b) p xs ≡ residuals s (s.block * b) p front ++ residuals s (s.block * b + length front) q back = ap
+    (residuals s (s.block * b) p) (sym (take-append-drop s.block xs)) ∙ residuals_append s (s.block * b) p front back in
     let rlen : length (residuals s (s.block * b) p front) ≡ s.block = length-residuals s (s.block * b) p front ∙ flen in
     let t : take s.block (residuals s (s.block * b) p xs) ≡ residuals s (s.block * b) p front = ap (take s.block) all ∙ take_at (residuals s (s.block * b) p front) _ s.block rlen in
     let at : s.block * b + length front ≡ s.block * (b + 1) = omega arith in
-    let d : drop s.block (residuals s (s.block * b) p xs) ≡ residuals s (s.block * (b + 1)) q back = ap (drop s.block) all ∙ (drop_at (residuals s (s.block * b) p front) _ s.block rlen ∙ ap (λ i. residuals s i q back) at) in
+    let d : drop s.block (residuals s (s.block * b) p xs) ≡ residuals s (s.block * (b + 1)) q back = ap (drop s.block) all
+    ∙ (drop_at (residuals s (s.block * b) p front) _ s.block rlen ∙ ap (λ i. residuals s i q back) at) in
     let ref : cond (is_reference s b) (Some (pattern s (slice_index_or front 0 p))) None ≡ reference_in s b xs = same_reference xs front flen refl in
-    let rest : blocks_from s (b + 1) q n back ≡ held_blocks s None n (residuals s (s.block * (b + 1)) q back) = behind n back (residuals s (s.block * (b + 1)) q back) (blocks_from s (b + 1) q n back) k (no_blocks s (b + 1) q n back)
+    let rest : blocks_from s (b + 1) q n back ≡ held_blocks s None n (residuals s (s.block * (b + 1)) q back) = behind n back
+    (residuals s (s.block * (b + 1)) q back) (blocks_from s (b + 1) q n back) k (no_blocks s (b + 1) q n back)
     (λ f. held_are s (b + 1) q n back h j f blen) in
     (λ i. block_with (ref i) (sym t i) ∷ (rest ∙ ap (held_blocks s None n) (sym d)) i)
   where
@@ -145,7 +149,8 @@ held_are s b p (suc n) xs h j k e =
         first zero h = absurd (omega arith)
         first (suc n) h = refl
 
-    behind : (m : ℕ) (ys : List ℤ) (ds : List ℕ) (rest : List BlockData) → suc m ≤ blocks_left s b → (m ≡ 0 → rest ≡ []) → (m ≤ blocks_left s (b + 1) → rest ≡ held_blocks s (reference_in s (b + 1) ys) m ds) → rest ≡ held_blocks s None m ds
+    behind : (m : ℕ) (ys : List ℤ) (ds : List ℕ) (rest : List BlockData) → suc m ≤ blocks_left s b → (m ≡ 0 → rest ≡ [])
+        → (m ≤ blocks_left s (b + 1) → rest ≡ held_blocks s (reference_in s (b + 1) ys) m ds) → rest ≡ held_blocks s None m ds
     behind zero ys ds rest g and-false again = and-false refl
     behind (suc m) ys ds rest g and-false again =
         elim (bool_cases (begins_segment s (b + 1))) [
@@ -168,7 +173,8 @@ the_reference coder b (y ∷ ys) p x e f g =
     ap (λ ds. cond (s.preprocess && (is_empty ds && coder.start == 0)) (Some (pattern s x)) coder.reference) f ∙ (ap (λ v. cond v (Some (pattern s x)) coder.reference) (and-false s.preprocess) ∙ g)
 
 -- one sample more is held
-pub one_more : (coder : CoderState) (b : ℕ) (coded held : List ℤ) (x : ℤ) → HasCodedBefore coder b coded held → length held < coder.setting.block * blocks_left coder.setting b → IsSample coder.setting x →
+pub one_more : (coder : CoderState) (b : ℕ) (coded held : List ℤ) (x : ℤ) → HasCodedBefore coder b coded held
+    → length held < coder.setting.block * blocks_left coder.setting b → IsSample coder.setting x →
     HasCodedBefore (state_after coder x) b coded (held ++ x ∷ [])
 one_more coder b coded held x h k legal =
     let s = coder.setting in
@@ -185,7 +191,9 @@ one_more coder b coded held x h k legal =
       begins = h.begins;
       few = omega (arith, length-append held (x ∷ []), k);
       previous = sym (ap (last_of (pos 0)) (sym more) ∙ last_append (pos 0) (coded ++ held) (x ∷ []));
-      residuals = sym (residuals_append s (s.block * b) p held (x ∷ []) ∙ ((λ i. sym h.residuals i ++ residual s (s.block * b + length held) (before i) x ∷ []) ∙ ap (λ d. coder.residuals ++ d ∷ []) (the_residual coder b held p x h.legal.interval_from j h.place k h.residuals)));
+      residuals = sym (residuals_append s (s.block * b) p held (x ∷ [])
+          ∙ ((λ i. sym h.residuals i ++ residual s (s.block * b + length held) (before i) x ∷ [])
+          ∙ ap (λ d. coder.residuals ++ d ∷ []) (the_residual coder b held p x h.legal.interval_from j h.place k h.residuals)));
       reference = the_reference coder b held p x h.place h.residuals h.reference;
     }
 
@@ -193,17 +201,23 @@ one_more coder b coded held x h k legal =
 push_last : {X : Type 0} (n : ℕ) (x : X) (xs : List X) → xs ++ replicate (suc n) x ≡ (xs ++ x ∷ []) ++ replicate n x
 push_last n x xs = sym (append_assoc xs (x ∷ []) (replicate n x))
 
-pub holds_fill : (coder : CoderState) (b : ℕ) (coded held : List ℤ) (n : ℕ) → HasCodedBefore coder b coded held → IsSample coder.setting coder.previous → (0 < n → is_empty coder.residuals ≡ false) → length held + n ≤ coder.setting.block * blocks_left coder.setting b →
+pub holds_fill : (coder : CoderState) (b : ℕ) (coded held : List ℤ) (n : ℕ) → HasCodedBefore coder b coded held → IsSample coder.setting coder.previous
+    → (0 < n → is_empty coder.residuals ≡ false) → length held + n ≤ coder.setting.block * blocks_left coder.setting b →
     HasCodedBefore (state_with_fill coder n) b coded (held ++ replicate n coder.previous)
-holds_fill coder b coded held zero h legal f k = subst (λ ds. HasCodedBefore (record { setting = coder.setting; residuals = ds; reference = coder.reference; previous = coder.previous; start = coder.start }) b coded (held ++ [])) (sym (append-nil coder.residuals))
+holds_fill coder b coded held zero h legal f k = subst
+    (λ ds. HasCodedBefore (record { setting = coder.setting; residuals = ds; reference = coder.reference; previous = coder.previous; start = coder.start }) b
+    coded (held ++ [])) (sym (append-nil coder.residuals))
     (subst (HasCodedBefore coder b coded) (sym (append-nil held)) h)
 holds_fill coder b coded held (suc n) h legal f k =
     let x = coder.previous in
     let first = f (omega arith) in
     let more = one_more coder b coded held x h (omega arith) legal in
-    let ref : next_reference coder x ≡ coder.reference = ap (λ v. cond (coder.setting.preprocess && (v && coder.start == 0)) (Some (pattern coder.setting x)) coder.reference) first ∙ ap (λ v. cond v (Some (pattern coder.setting x)) coder.reference) (and-false coder.setting.preprocess) in
+    let ref : next_reference coder x ≡ coder.reference = ap
+    (λ v. cond (coder.setting.preprocess && (v && coder.start == 0)) (Some (pattern coder.setting x)) coder.reference) first
+    ∙ ap (λ v. cond v (Some (pattern coder.setting x)) coder.reference) (and-false coder.setting.preprocess) in
     let later = not_first coder.residuals (next_residual coder x) in
-    let same : next_residual (state_after coder x) x ≡ next_residual coder x = ap (λ v. cond coder.setting.preprocess (cond (v && coder.start == 0) 0 (rank coder.setting x x)) (pattern coder.setting x)) (later ∙ sym first) in
+    let same : next_residual (state_after coder x) x ≡ next_residual coder x = ap
+    (λ v. cond coder.setting.preprocess (cond (v && coder.start == 0) 0 (rank coder.setting x x)) (pattern coder.setting x)) (later ∙ sym first) in
     let ih = holds_fill (state_after coder x) b coded (held ++ x ∷ []) n more legal (λ p. later) (omega (arith, length-append held (x ∷ []), k)) in
     let d = next_residual coder x in
     let state : state_with_fill (state_after coder x) n ≡ state_with_fill coder (suc n) = λ i. record {

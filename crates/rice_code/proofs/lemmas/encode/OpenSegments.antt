@@ -99,13 +99,15 @@ few_bits coder count end e h sound =
     let s = coder.setting in
     let bound = blocks_are_bounded s coder.start false (contents_held coder) h.legal sound in
     let len = held_len s coder.reference (blocks_held coder) coder.residuals in
-    at_most _ _ _ _ _ _ bound len e (ap (λ n. length (bits_of_sets s (data_sets s coder.start false (held_blocks s coder.reference n coder.residuals)))) e ∙ length-flat_map (bits_of_set s) (sets_held coder))
+    at_most _ _ _ _ _ _ bound len e (ap (λ n. length (bits_of_sets s (data_sets s coder.start false (held_blocks s coder.reference n coder.residuals)))) e
+    ∙ length-flat_map (bits_of_set s) (sets_held coder))
   where
     at_most : (x y len n count m : ℕ) → y + 0 * m ≤ len * m → len ≡ n → count ≡ n → x ≡ y → x ≤ count * m
     at_most x y len n count m h e f g = let p = ap (λ v. v * m) (e ∙ sym f) in omega arith
 
 -- no more blocks than the segment has
-pub few_blocks : (coder : CoderState) (end : ℕ) → IsOpen coder end → length coder.residuals ≡ coder.setting.block * blocks_held coder → (blocks_held coder ≤ blocks_left coder.setting coder.start) × (blocks_held coder ≤ 64)
+pub few_blocks : (coder : CoderState) (end : ℕ) → IsOpen coder end → length coder.residuals ≡ coder.setting.block * blocks_held coder
+    → (blocks_held coder ≤ blocks_left coder.setting coder.start) × (blocks_held coder ≤ 64)
 few_blocks coder end h whole =
     let s = coder.setting in
     let j : 1 ≤ s.block = grind (arith, h.legal.block) in

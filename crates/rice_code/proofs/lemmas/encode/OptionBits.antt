@@ -50,7 +50,8 @@ sent_are sent ds rs from w k coded same =
     }
 
 -- the text of a run, and its length
-pub run_text : (s : Parameters) (to_end : Bool) (r : Option ℕ) (z : ℕ) → bits_of_set s (run_of_blocks to_end r z) ≡ word (id_len s) 0 ++ false ∷ (reference_bits s r ++ fundamental_sequence (zeros_of_run to_end z))
+pub run_text : (s : Parameters) (to_end : Bool) (r : Option ℕ) (z : ℕ)
+    → bits_of_set s (run_of_blocks to_end r z) ≡ word (id_len s) 0 ++ false ∷ (reference_bits s r ++ fundamental_sequence (zeros_of_run to_end z))
 run_text s to_end r z = by_test (nat_le 5 z && to_end)
   where
     by_test : (v : Bool) → bits_of_set s (cond v (RemainderOfSegment r) (ZeroBlocks r z)) ≡ word (id_len s) 0 ++ false ∷ (reference_bits s r ++ fundamental_sequence (cond v 4 (run_number z)))

@@ -48,7 +48,8 @@ count_zeros s b (suc w) rest h k =
           let f = one_less_left s b h e in
           let ahead = replicate w (zero_block s None) ++ rest in
           let n : b + 1 + 1 + w ≡ b + 1 + suc w = omega arith in
-          let more : skipped s (b + 1) true (replicate (suc w) (zero_block s None) ++ rest) ≡ suc (skipped s (b + 1 + 1) true ahead) = skipped_go s (b + 1) true (zero_block s None) ahead h (is_zero_zeros s None) (ap (λ v. true && not v) e) in
+          let more : skipped s (b + 1) true (replicate (suc w) (zero_block s None) ++ rest) ≡ suc (skipped s (b + 1 + 1) true ahead) = skipped_go s (b + 1) true
+          (zero_block s None) ahead h (is_zero_zeros s None) (ap (λ v. true && not v) e) in
           omega (arith, more, count_zeros s (b + 1) w rest h (omega arith), ap (λ n. skipped s n true rest) n)
     ]
 
@@ -83,7 +84,8 @@ run_then_block s b (suc w) r c cs h k z =
     let count = run_cons s b (zero_block s r) rest h (is_zero_zeros s r) ∙ ap (λ v. suc v) counted in
     let n : b + 1 + w + 1 ≡ b + suc w + 1 = omega arith in
     data_sets_start s b false (zero_block s r) rest (is_zero_zeros s r) refl
-    ∙ (λ i. run_before s b w r (zero_block s r ∷ rest) count k (omega arith) i ∷ (skip_zeros s b w (c ∷ cs) h (omega arith) ∙ (data_sets_plain s (b + 1 + w) true c cs z ∙ ap (λ m. shortest s c ∷ data_sets s m false cs) n)) i)
+    ∙ (λ i. run_before s b w r (zero_block s r ∷ rest) count k (omega arith) i
+    ∷ (skip_zeros s b w (c ∷ cs) h (omega arith) ∙ (data_sets_plain s (b + 1 + w) true c cs z ∙ ap (λ m. shortest s c ∷ data_sets s m false cs) n)) i)
 
 -- zero blocks at the end
 pub run_ends : (s : Parameters) (b run : ℕ) (r : Option ℕ) → 1 ≤ s.interval → run ≤ blocks_left s b → data_sets s b false (pending_zeros s r run) ≡ pending_run true r run
@@ -102,7 +104,8 @@ replicate_push zero x xs = refl
 replicate_push (suc n) x xs = ap (λ l. x ∷ l) (replicate_push n x xs)
 
 -- one more zero block waits
-pub zero_block_joins_run : (s : Parameters) (run : ℕ) (r q : Option ℕ) (c : BlockData) (cs : List BlockData) → c ≡ zero_block s q → (run ≡ 0 → q ≡ r) → (0 < run → q ≡ None) → pending_zeros s r run ++ c ∷ cs ≡ pending_zeros s r (run + 1) ++ cs
+pub zero_block_joins_run : (s : Parameters) (run : ℕ) (r q : Option ℕ) (c : BlockData) (cs : List BlockData) → c ≡ zero_block s q → (run ≡ 0 → q ≡ r)
+    → (0 < run → q ≡ None) → pending_zeros s r run ++ c ∷ cs ≡ pending_zeros s r (run + 1) ++ cs
 zero_block_joins_run s zero r q c cs e f g = ap (λ c. c ∷ cs) (e ∙ ap (zero_block s) (f refl))
 zero_block_joins_run s (suc w) r q c cs e f g =
     let h : zero_block s r ∷ (replicate w (zero_block s None) ++ c ∷ cs) ≡ zero_block s r ∷ (zero_block s None ∷ (replicate w (zero_block s None) ++ cs)) =
@@ -111,14 +114,16 @@ zero_block_joins_run s (suc w) r q c cs e f g =
     h ∙ ap (λ n. pending_zeros s r n ++ cs) n
 
 -- the block with number i
-pub held_at : (s : Parameters) (r : Option ℕ) (n i : ℕ) (ds : List ℕ) → i < n → drop i (held_blocks s r n ds) ≡ block_with (reference_at r i) (take s.block (drop (i * s.block) ds)) ∷ drop (i + 1) (held_blocks s r n ds)
+pub held_at : (s : Parameters) (r : Option ℕ) (n i : ℕ) (ds : List ℕ) → i < n
+    → drop i (held_blocks s r n ds) ≡ block_with (reference_at r i) (take s.block (drop (i * s.block) ds)) ∷ drop (i + 1) (held_blocks s r n ds)
 held_at s r zero i ds h = absurd (omega arith)
 held_at s r (suc n) zero ds h =
     let e : 0 ≡ 0 * s.block = omega arith in
     ap (λ m. block_with r (take s.block (drop m ds)) ∷ held_blocks s None n (drop s.block ds)) e
 held_at s r (suc n) (suc i) ds h =
     let ih = held_at s None n i (drop s.block ds) (omega arith) in
-    let e : drop (i * s.block) (drop s.block ds) ≡ drop (suc i * s.block) ds = drop-drop (i * s.block) s.block ds ∙ ap (λ n. drop n ds) (let f : s.block + i * s.block ≡ suc i * s.block = omega arith in f) in
+    let e : drop (i * s.block) (drop s.block ds) ≡ drop (suc i * s.block) ds = drop-drop (i * s.block) s.block ds
+    ∙ ap (λ n. drop n ds) (let f : s.block + i * s.block ≡ suc i * s.block = omega arith in f) in
     let g : reference_at None i ≡ None = none i in
     let m : suc (i + 1) ≡ suc i + 1 = omega arith in
     ih ∙ ((λ j. block_with (g j) (take s.block (e j)) ∷ drop (i + 1) (held_blocks s None n (drop s.block ds)))

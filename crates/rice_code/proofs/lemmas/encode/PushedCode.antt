@@ -104,7 +104,8 @@ held_count : (coder : CoderState) (b : ℕ) (coded held : List ℤ) → HasCoded
 held_count coder b coded held h = ap length h.residuals ∙ length-residuals coder.setting (coder.setting.block * b) (last_of (pos 0) coded) held
 
 -- a sample that leaves the segment open
-pub stays_open : (coder : CoderState) (x : ℤ) (xs : List ℤ) → HasTaken coder xs → IsSample coder.setting x → length (state_after coder x).residuals < coder.setting.block * blocks_left coder.setting coder.start →
+pub stays_open : (coder : CoderState) (x : ℤ) (xs : List ℤ) → HasTaken coder xs → IsSample coder.setting x
+    → length (state_after coder x).residuals < coder.setting.block * blocks_left coder.setting coder.start →
     HasTaken (state_after coder x) (xs ++ x ∷ [])
 stays_open coder x xs h legal less =
     let more = one_more coder h.block h.coded h.held x h.holds h.short legal in
@@ -119,7 +120,8 @@ stays_open coder x xs h legal less =
       short = omega (arith, count, m, less);
     }
 
-pub stays_open_completes_none : (coder : CoderState) (x : ℤ) (xs : List ℤ) → (h : HasTaken coder xs) → IsSample coder.setting x → length (state_after coder x).residuals < coder.setting.block * blocks_left coder.setting coder.start →
+pub stays_open_completes_none : (coder : CoderState) (x : ℤ) (xs : List ℤ) → (h : HasTaken coder xs) → IsSample coder.setting x
+    → length (state_after coder x).residuals < coder.setting.block * blocks_left coder.setting coder.start →
     complete_samples coder.setting (xs ++ x ∷ []) ≡ complete_samples coder.setting xs
 unfolding stays_open
 stays_open_completes_none coder x xs h legal less =
@@ -177,7 +179,8 @@ pub between_all : (s : Parameters) (start : ℕ) (p : ℤ) (xs : List ℤ) → H
 between_all s start p xs k = omega (arith, pending_are (state_between s start p) xs k)
 
 -- the blocks of samples after whole blocks
-pub blocks_go_on : (s : Parameters) (b q : ℕ) (p : ℤ) (xs ys : List ℤ) → 1 ≤ s.block → length xs ≡ s.block * q → blocks_of s b p (xs ++ ys) ≡ blocks_of s b p xs ++ blocks_of s (b + q) (last_of p xs) ys
+pub blocks_go_on : (s : Parameters) (b q : ℕ) (p : ℤ) (xs ys : List ℤ) → 1 ≤ s.block → length xs ≡ s.block * q
+    → blocks_of s b p (xs ++ ys) ≡ blocks_of s b p xs ++ blocks_of s (b + q) (last_of p xs) ys
 blocks_go_on s b q p xs ys j len =
     let parts = filled_behind s q p xs ys j len in
     (λ i. blocks_from s b p (parts.1 i) (parts.0 i))
@@ -187,7 +190,8 @@ blocks_go_on s b q p xs ys j len =
 pub record IsPart (coder : CoderState) (coded held : List ℤ) : Type 0 where
   pub sound : AreSoundBlocks coder.setting coder.start (contents_held coder)
   pub blocks : length coder.residuals ≡ coder.setting.block * blocks_held coder
-  pub code_is : (position : ℕ) → (coder.setting.pad ≡ true → position % 8 ≡ length (code coder.setting coded) % 8) → code coder.setting (coded ++ held) ≡ code coder.setting coded ++ code_held coder position
+  pub code_is : (position : ℕ) → (coder.setting.pad ≡ true → position % 8 ≡ length (code coder.setting coded) % 8)
+      → code coder.setting (coded ++ held) ≡ code coder.setting coded ++ code_held coder position
   pub bits_are : code_bits coder.setting (coded ++ held) ≡ code_bits coder.setting coded + sum_by (λ d. length (bits_of_set coder.setting d)) (sets_held coder)
   pub blocks_are : blocks_of coder.setting 0 (pos 0) (coded ++ held) ≡ blocks_of coder.setting 0 (pos 0) coded ++ contents_held coder
 
@@ -199,7 +203,9 @@ same_position s end b m n ds h =
       | inr e ↦ laid_plain s end b m ds e ∙ sym (laid_plain s end b n ds e)
     ]
 
-pub held_part : (coder : CoderState) (b n : ℕ) (coded held full : List ℤ) → HasCodedBefore coder b coded full → filled_samples coder.setting (last_of (pos 0) coded) held ≡ full → block_count coder.setting (length held) ≡ n → length full ≡ coder.setting.block * n → IsPart coder coded held
+pub held_part : (coder : CoderState) (b n : ℕ) (coded held full : List ℤ) → HasCodedBefore coder b coded full
+    → filled_samples coder.setting (last_of (pos 0) coded) held ≡ full → block_count coder.setting (length held) ≡ n → length full ≡ coder.setting.block * n
+    → IsPart coder coded held
 held_part coder b n coded held full h shape counted len =
     let s = coder.setting in
     let j : 1 ≤ s.block = grind (arith, h.legal.block) in
@@ -222,12 +228,15 @@ held_part coder b n coded held full h shape counted len =
     let sets : data_sets s b false (contents_held coder) ≡ sets_held coder = same_data_sets s b coder.start false (contents_held coder) same in
     let goes_on = λ (m : ℕ). code_stands_in_intervals s h.legal (0 + b) coder.start m p held (ap (λ m. place s m) here ∙ same)
     ∙ (λ i. layout s (coder.start + (counted ∙ sym q) i) coder.start m (data_sets s coder.start false (moved i))) in
-    let sound = sound_same s b coder.start (contents_held coder) same (subst (AreSoundBlocks s b) own (blocks_sound s b p n full h.legal j (last_legal s (pos 0) coded zero samples.0) samples.1 len)) in
+    let sound = sound_same s b coder.start (contents_held coder) same
+    (subst (AreSoundBlocks s b) own (blocks_sound s b p n full h.legal j (last_legal s (pos 0) coded zero samples.0) samples.1 len)) in
     record {
       sound = sound;
       blocks = size ∙ ap (λ v. s.block * v) (sym q);
       code_is = λ position place. code_goes_on s h.legal 0 0 b (pos 0) coded held zero all_coded h.whole begins
-          ∙ ap (λ v. code s coded ++ v) (goes_on (0 + length (code s coded)) ∙ same_position s (coder.start + blocks_held coder) coder.start (0 + length (code s coded)) position (sets_held coder) (λ e. place e ∙ ap (λ m. m % 8) (none (length (code s coded)))));
+          ∙ ap (λ v. code s coded ++ v) (goes_on (0 + length (code s coded))
+          ∙ same_position s (coder.start + blocks_held coder) coder.start (0 + length (code s coded)) position (sets_held coder)
+          (λ e. place e ∙ ap (λ m. m % 8) (none (length (code s coded)))));
       bits_are = bits_go_on s h.legal 0 b (pos 0) coded held h.whole begins
           ∙ ap (λ v. code_bits s coded + sum_by (λ d. length (bits_of_set s d)) v) (ap (λ m. data_sets s m false (blocks_of s m p held)) here ∙ (ap (λ v. data_sets s b false v) blocks ∙ sets));
       blocks_are = blocks_go_on s 0 b (pos 0) coded held j h.whole ∙ ap (λ v. blocks_of s 0 (pos 0) coded ++ v) (ap (λ m. blocks_of s m p held) here ∙ blocks);
@@ -252,7 +261,9 @@ pub record AddsHeldCode (coder : CoderState) (xs ys : List ℤ) : Type 0 where
 adds_held_code : (coder : CoderState) (xs ys coded held : List ℤ) → xs ≡ coded → ys ≡ coded ++ held → IsPart coder coded held → AddsHeldCode coder xs ys
 adds_held_code coder xs ys coded held e f part =
     let s = coder.setting in
-    let looks = λ (g : BlockData → ℕ). ap (λ v. sum_by g (blocks_of s 0 (pos 0) v)) f ∙ (ap (λ v. sum_by g v) part.blocks_are ∙ (sum_by-append g (blocks_of s 0 (pos 0) coded) (contents_held coder) ∙ ap (λ v. sum_by g (blocks_of s 0 (pos 0) v) + sum_by g (contents_held coder)) (sym e))) in
+    let looks = λ (g : BlockData → ℕ). ap (λ v. sum_by g (blocks_of s 0 (pos 0) v)) f
+    ∙ (ap (λ v. sum_by g v) part.blocks_are
+    ∙ (sum_by-append g (blocks_of s 0 (pos 0) coded) (contents_held coder) ∙ ap (λ v. sum_by g (blocks_of s 0 (pos 0) v) + sum_by g (contents_held coder)) (sym e))) in
     record {
       code_is = λ position place. ap (λ v. code s v) f ∙ (part.code_is position (λ p. place p ∙ ap (λ v. length (code s v) % 8) e) ∙ ap (λ v. code s v ++ code_held coder position) (sym e));
       bits_are = ap (λ v. code_bits s v) f ∙ (part.bits_are ∙ ap (λ v. code_bits s v + bits_held coder) (sym e));
@@ -285,7 +296,8 @@ adds_nothing s xs ys sink more m0 m1 e steps =
     }
 
 -- after a whole segment the next begins
-pub next_begins : (coder : CoderState) (b : ℕ) (coded held : List ℤ) (start : ℕ) → HasCodedBefore coder b coded held → length held ≡ coder.setting.block * blocks_left coder.setting b → place coder.setting (b + blocks_left coder.setting b) ≡ start →
+pub next_begins : (coder : CoderState) (b : ℕ) (coded held : List ℤ) (start : ℕ) → HasCodedBefore coder b coded held
+    → length held ≡ coder.setting.block * blocks_left coder.setting b → place coder.setting (b + blocks_left coder.setting b) ≡ start →
     HasTaken (record { setting = coder.setting; residuals = []; reference = None; previous = coder.previous; start = start }) (coded ++ held)
 next_begins coder b coded held start h len e =
     let s = coder.setting in
@@ -327,7 +339,8 @@ pub whole_sound : (coder : CoderState) (x : ℤ) (xs : List ℤ) → HasTaken co
 whole_sound coder x xs h legal e = let part = whole_part coder x xs h legal e in record { sound = part.sound; whole = part.blocks }
 
 -- then the coder has taken the samples with it
-pub takes_last_of_segment : (coder : CoderState) (x : ℤ) (xs : List ℤ) → HasTaken coder xs → IsSample coder.setting x → IsWhole (state_after coder x) → HasTaken (state_after_segment (state_after coder x)) (xs ++ x ∷ [])
+pub takes_last_of_segment : (coder : CoderState) (x : ℤ) (xs : List ℤ) → HasTaken coder xs → IsSample coder.setting x → IsWhole (state_after coder x)
+    → HasTaken (state_after_segment (state_after coder x)) (xs ++ x ∷ [])
 takes_last_of_segment coder x xs h legal e =
     let s = coder.setting in
     let more = one_more coder h.block h.coded h.held x h.holds h.short legal in
@@ -339,10 +352,12 @@ takes_last_of_segment coder x xs h legal e =
     subst (λ v. HasTaken (state_after_segment (state_after coder x)) v) (sym parts) next
 
 -- and this completes the code of the segment
-pub whole_segment_adds_code : (coder : CoderState) (x : ℤ) (xs : List ℤ) → HasTaken coder xs → IsSample coder.setting x → IsWhole (state_after coder x) → AddsHeldCode (state_after coder x) (complete_samples coder.setting xs) (complete_samples coder.setting (xs ++ x ∷ []))
+pub whole_segment_adds_code : (coder : CoderState) (x : ℤ) (xs : List ℤ) → HasTaken coder xs → IsSample coder.setting x → IsWhole (state_after coder x)
+    → AddsHeldCode (state_after coder x) (complete_samples coder.setting xs) (complete_samples coder.setting (xs ++ x ∷ []))
 whole_segment_adds_code coder x xs h legal e =
     let next = takes_last_of_segment coder x xs h legal e in
-    adds_held_code (state_after coder x) (complete_samples coder.setting xs) (complete_samples coder.setting (xs ++ x ∷ [])) h.coded (h.held ++ x ∷ []) (complete_are_coded coder xs h) (all_complete next) (whole_part coder x xs h legal e)
+    adds_held_code (state_after coder x) (complete_samples coder.setting xs) (complete_samples coder.setting (xs ++ x ∷ [])) h.coded (h.held ++ x ∷ [])
+    (complete_are_coded coder xs h) (all_complete next) (whole_part coder x xs h legal e)
   where
     all_complete : HasTaken (state_after_segment (state_after coder x)) (xs ++ x ∷ []) → complete_samples coder.setting (xs ++ x ∷ []) ≡ h.coded ++ (h.held ++ x ∷ [])
     all_complete next =
@@ -383,7 +398,9 @@ filled_part coder xs h =
     let holds = holds_fill coder h.block h.coded h.held n h.holds legal (λ p. not_first_of coder.residuals (some p)) inside in
     let full = h.held ++ replicate n x in
     let last : last_of p h.held ≡ x = sym (h.holds.previous ∙ last_append (pos 0) h.coded h.held) in
-    let fill : next_multiple_of (length h.held) s.block - length h.held ≡ n = (let e : length h.held + (s.block - length h.held % s.block) % s.block - length h.held ≡ (s.block - length h.held % s.block) % s.block = omega arith in e) ∙ ap (λ v. (s.block - v % s.block) % s.block) (sym count) in
+    let fill : next_multiple_of (length h.held) s.block - length h.held ≡ n =
+    (let e : length h.held + (s.block - length h.held % s.block) % s.block - length h.held ≡ (s.block - length h.held % s.block) % s.block = omega arith in
+    e) ∙ ap (λ v. (s.block - v % s.block) % s.block) (sym count) in
     let shape : filled_samples s p h.held ≡ full = λ i. h.held ++ replicate (fill i) (last i) in
     held_part (state_with_fill coder n) h.block (block_count s (length h.held)) h.coded h.held full holds shape refl (sym (ap length shape) ∙ filled_len s p h.held j)
 
@@ -391,8 +408,10 @@ pub filled_sound : (coder : CoderState) (xs : List ℤ) → HasTaken coder xs �
 filled_sound coder xs h = let part = filled_part coder xs h in record { sound = part.sound; whole = part.blocks }
 
 -- and this completes the code of all samples
-pub filled_segment_adds_code : (coder : CoderState) (xs : List ℤ) → HasTaken coder xs → AddsHeldCode (state_with_fill coder (fill_count coder.setting (length coder.residuals))) (complete_samples coder.setting xs) xs
-filled_segment_adds_code coder xs h = adds_held_code (state_with_fill coder (fill_count coder.setting (length coder.residuals))) (complete_samples coder.setting xs) xs h.coded h.held (complete_are_coded coder xs h) h.parts (filled_part coder xs h)
+pub filled_segment_adds_code : (coder : CoderState) (xs : List ℤ) → HasTaken coder xs
+    → AddsHeldCode (state_with_fill coder (fill_count coder.setting (length coder.residuals))) (complete_samples coder.setting xs) xs
+filled_segment_adds_code coder xs h = adds_held_code (state_with_fill coder (fill_count coder.setting (length coder.residuals)))
+    (complete_samples coder.setting xs) xs h.coded h.held (complete_are_coded coder xs h) h.parts (filled_part coder xs h)
 
 -- as many as fill the last block of all samples
 pub fill_count_is : (coder : CoderState) (xs : List ℤ) → HasTaken coder xs → fill_count coder.setting (length coder.residuals) ≡ fill_count_of coder.setting xs
@@ -406,7 +425,9 @@ fill_count_is coder xs h =
 pub finish_sound : (coder held : CoderState) → held ≡ state_with_fill coder (fill_count coder.setting (length coder.residuals)) → IsCoder coder → HoldsSoundBlocks held
 finish_sound coder held g k = subst HoldsSoundBlocks (sym g) (filled_sound coder k.samples k.taken)
 
-pub finish_adds : (coder value held : CoderState) (xs : List ℤ) (old new : List Bool) (n m0 m1 m2 : ℕ) → coder ≡ value → held ≡ state_with_fill coder (fill_count coder.setting (length coder.residuals)) → CodesHeld held old new n m1 m2 → m1 ≡ m0 + fill_count coder.setting (length coder.residuals) → HasTaken value xs →
+pub finish_adds : (coder value held : CoderState) (xs : List ℤ) (old new : List Bool) (n m0 m1 m2 : ℕ) → coder ≡ value
+    → held ≡ state_with_fill coder (fill_count coder.setting (length coder.residuals)) → CodesHeld held old new n m1 m2
+    → m1 ≡ m0 + fill_count coder.setting (length coder.residuals) → HasTaken value xs →
     AddsCode value.setting (complete_samples value.setting xs) xs old new n (fill_count_of value.setting xs) m0 m2
 finish_adds coder value held xs old new n m0 m1 m2 e g codes steps h =
     subst (λ (v : CoderState). HasTaken v xs → AddsCode v.setting (complete_samples v.setting xs) xs old new n (fill_count_of v.setting xs) m0 m2) e (λ k.

@@ -19,7 +19,8 @@ use Rattle.rice_code.proofs.lemmas.encode.PushedCode.{stays_open, stays_open_com
 use Rattle.rice_code.proofs.lemmas.encode.SeveralHeld.{state_after_all-none, state_after_all-cons, state_after_all-snoc, length-state_after_all}
 
 -- samples that leave the segment open
-pub several_stay_open : (coder : CoderState) (ys xs : List ℤ) → HasTaken coder xs → AllByRecursion (IsSample coder.setting) ys → length coder.residuals + length ys < coder.setting.block * blocks_left coder.setting coder.start →
+pub several_stay_open : (coder : CoderState) (ys xs : List ℤ) → HasTaken coder xs → AllByRecursion (IsSample coder.setting) ys
+    → length coder.residuals + length ys < coder.setting.block * blocks_left coder.setting coder.start →
     HasTaken (state_after_all coder ys) (xs ++ ys) × (complete_samples coder.setting (xs ++ ys) ≡ complete_samples coder.setting xs)
 several_stay_open coder [] xs h legal less = (
   subst (λ v. HasTaken v (xs ++ [])) (sym (state_after_all-none coder [] refl)) (subst (HasTaken coder) (sym (append-nil xs)) h),
@@ -75,12 +76,14 @@ whole_last coder ys xs legal full h =
       all = ap (λ v. xs ++ v) parts.2 ∙ sym (append_assoc xs parts.0 (parts.1 ∷ []));
     }
 
-several_sound : (coder : CoderState) (ys xs : List ℤ) → AllByRecursion (IsSample coder.setting) ys → IsWhole (state_after_all coder ys) → HasTaken coder xs → HoldsSoundBlocks (state_after_all coder ys)
+several_sound : (coder : CoderState) (ys xs : List ℤ) → AllByRecursion (IsSample coder.setting) ys → IsWhole (state_after_all coder ys) → HasTaken coder xs
+    → HoldsSoundBlocks (state_after_all coder ys)
 several_sound coder ys xs legal whole h =
     let l = whole_last coder ys xs legal whole h in
     subst HoldsSoundBlocks (sym l.grows) (whole_sound (state_after_all coder l.others) l.x (xs ++ l.others) l.taken l.legal (subst IsWhole l.grows whole))
 
-several_end : (coder : CoderState) (ys xs : List ℤ) → AllByRecursion (IsSample coder.setting) ys → IsWhole (state_after_all coder ys) → HasTaken coder xs → HasTaken (state_after_segment (state_after_all coder ys)) (xs ++ ys)
+several_end : (coder : CoderState) (ys xs : List ℤ) → AllByRecursion (IsSample coder.setting) ys → IsWhole (state_after_all coder ys) → HasTaken coder xs
+    → HasTaken (state_after_segment (state_after_all coder ys)) (xs ++ ys)
 several_end coder ys xs legal whole h =
     let l = whole_last coder ys xs legal whole h in
     let end = takes_last_of_segment (state_after_all coder l.others) l.x (xs ++ l.others) l.taken l.legal (subst IsWhole l.grows whole) in
@@ -93,7 +96,8 @@ several_add_code coder ys xs legal whole h =
     let l = whole_last coder ys xs legal whole h in
     let last = state_after (state_after_all coder l.others) l.x in
     let adds = whole_segment_adds_code (state_after_all coder l.others) l.x (xs ++ l.others) l.taken l.legal (subst IsWhole l.grows whole) in
-    let before : AddsHeldCode last (complete_samples s xs) (complete_samples s ((xs ++ l.others) ++ l.x ∷ [])) = subst (λ v. AddsHeldCode last v (complete_samples s ((xs ++ l.others) ++ l.x ∷ []))) l.completes_none adds in
+    let before : AddsHeldCode last (complete_samples s xs) (complete_samples s ((xs ++ l.others) ++ l.x ∷ [])) = subst
+    (λ v. AddsHeldCode last v (complete_samples s ((xs ++ l.others) ++ l.x ∷ []))) l.completes_none adds in
     let both : AddsHeldCode last (complete_samples s xs) (complete_samples s (xs ++ ys)) = subst (λ v. AddsHeldCode last (complete_samples s xs) (complete_samples s v)) (sym l.all) before in
     subst (λ v. AddsHeldCode v (complete_samples s xs) (complete_samples s (xs ++ ys))) (sym l.grows) both
 
@@ -112,7 +116,8 @@ pub record HoldsMore (value coder held : CoderState) (ys : List ℤ) : Type 0 wh
   pub holds : held ≡ state_after_all coder ys
 
 -- the first t of several samples,
-holds_first : (value coder held : CoderState) (xs : List ℤ) (t : ℕ) → coder ≡ value → IsCoder coder → All (IsSample value.setting) xs → length coder.residuals + t ≤ coder.setting.block * blocks_left coder.setting coder.start → t ≤ length xs →
+holds_first : (value coder held : CoderState) (xs : List ℤ) (t : ℕ) → coder ≡ value → IsCoder coder → All (IsSample value.setting) xs
+    → length coder.residuals + t ≤ coder.setting.block * blocks_left coder.setting coder.start → t ≤ length xs →
     held ≡ state_after_all coder (take t xs) → HoldsMore value coder held (take t xs)
 holds_first value coder held xs t e k legal room few g = record {
   same = e;
@@ -126,7 +131,8 @@ steps_of_first : (xs : List ℤ) (t m0 m1 : ℕ) → t ≤ length xs → m1 ≡ 
 steps_of_first xs t m0 m1 few steps = let len : length (take t xs) ≡ t = length-take-le t xs few in omega (arith, len, steps)
 
 -- which are given by their levels,
-pub holds_levels : (value coder held : CoderState) (levels : List ℕ) (t : ℕ) → coder ≡ value → IsCoder coder → All (λ l. l < value_count value.setting) levels → length coder.residuals + t ≤ coder.setting.block * blocks_left coder.setting coder.start → t ≤ length levels →
+pub holds_levels : (value coder held : CoderState) (levels : List ℕ) (t : ℕ) → coder ≡ value → IsCoder coder → All (λ l. l < value_count value.setting) levels
+    → length coder.residuals + t ≤ coder.setting.block * blocks_left coder.setting coder.start → t ≤ length levels →
     held ≡ state_after_all coder (values_at coder.setting (take t levels)) → HoldsMore value coder held (take t (values_at value.setting levels))
 holds_levels value coder held levels t e k legal room few g =
     let s = value.setting in
@@ -151,7 +157,8 @@ pub whole_is_sound : (value coder held : CoderState) (ys : List ℤ) → HoldsMo
 whole_is_sound value coder held ys h whole = subst HoldsSoundBlocks (sym h.holds) (several_sound coder ys h.coded.samples h.legal (subst IsWhole h.holds whole) h.coded.taken)
 
 -- the meter has room for it,
-pub whole_has_steps : (value coder held : CoderState) (ys : List ℤ) (m0 m1 : ℕ) → HoldsMore value coder held ys → m0 + segment_steps value.setting < 2 ^ 62 → m1 ≡ m0 + length ys → m1 + coding_steps held.setting < 2 ^ 62
+pub whole_has_steps : (value coder held : CoderState) (ys : List ℤ) (m0 m1 : ℕ) → HoldsMore value coder held ys → m0 + segment_steps value.setting < 2 ^ 62
+    → m1 ≡ m0 + length ys → m1 + coding_steps held.setting < 2 ^ 62
 whole_has_steps value coder held ys m0 m1 h room steps =
     let s = coder.setting in
     let same : held.setting ≡ s = ap (λ (v : CoderState). v.setting) h.holds in
@@ -161,7 +168,8 @@ whole_has_steps value coder held ys m0 m1 h room steps =
     subst (λ s. m1 + coding_steps s < 2 ^ 62) (sym same) fits
 
 -- also behind the samples that fill the last block,
-pub filled_has_steps : (value coder held : CoderState) (m0 m1 : ℕ) → coder ≡ value → IsCoder coder → held ≡ state_with_fill coder (fill_count coder.setting (length coder.residuals)) → m0 + segment_steps value.setting < 2 ^ 62 →
+pub filled_has_steps : (value coder held : CoderState) (m0 m1 : ℕ) → coder ≡ value → IsCoder coder
+    → held ≡ state_with_fill coder (fill_count coder.setting (length coder.residuals)) → m0 + segment_steps value.setting < 2 ^ 62 →
     m1 ≡ m0 + fill_count coder.setting (length coder.residuals) → m1 + coding_steps held.setting < 2 ^ 62
 filled_has_steps value coder held m0 m1 e k f room steps =
     let s = coder.setting in
@@ -172,7 +180,8 @@ filled_has_steps value coder held m0 m1 e k f room steps =
     subst (λ s. m1 + coding_steps s < 2 ^ 62) (sym (ap (λ (v : CoderState). v.setting) f)) fits
 
 -- and this is what the call does
-pub whole_pushes : (value coder held after : CoderState) (ys : List ℤ) (old new : List Bool) (n m0 m1 m2 : ℕ) → HoldsMore value coder held ys → IsWhole held → after ≡ state_after_segment held → CodesHeld held old new n m1 m2 → m1 ≡ m0 + length ys →
+pub whole_pushes : (value coder held after : CoderState) (ys : List ℤ) (old new : List Bool) (n m0 m1 m2 : ℕ) → HoldsMore value coder held ys → IsWhole held
+    → after ≡ state_after_segment held → CodesHeld held old new n m1 m2 → m1 ≡ m0 + length ys →
     PushesSamples value after ys old new n m0 m2
 whole_pushes value coder held after ys old new n m0 m1 m2 h whole e codes steps =
     let full = state_after_all coder ys in
@@ -182,7 +191,8 @@ whole_pushes value coder held after ys old new n m0 m1 m2 h whole e codes steps 
     subst (λ v. PushesSamples v after ys old new n m0 m2) h.same (record {
       setting = ap (λ (v : CoderState). v.setting) ends_so;
       taken = λ xs k. subst (λ v. HasTaken v (xs ++ ys)) (sym ends_so) (several_end coder ys xs h.legal is_whole k);
-      adds = λ xs k. adds_code full (complete_samples coder.setting xs) (complete_samples coder.setting (xs ++ ys)) old new n (length ys) m0 m1 m2 (several_add_code coder ys xs h.legal is_whole k) coded steps;
+      adds = λ xs k. adds_code full (complete_samples coder.setting xs) (complete_samples coder.setting (xs ++ ys)) old new n (length ys) m0 m1 m2
+          (several_add_code coder ys xs h.legal is_whole k) coded steps;
     })
 
 pub whole_completes_all : (value coder held : CoderState) (ys : List ℤ) → HoldsMore value coder held ys → IsWhole held → CompletesAll value ys
@@ -190,7 +200,8 @@ whole_completes_all value coder held ys h whole =
     subst (λ v. CompletesAll v ys) h.same (λ xs k. all_complete (state_after_segment (state_after_all coder ys)) (xs ++ ys) (several_end coder ys xs h.legal (subst IsWhole h.holds whole) k) refl)
 
 -- Where they leave it open, nothing is appended.
-pub still_short : (value coder held : CoderState) (ys : List ℤ) → HoldsMore value coder held ys → (IsWhole held → ⊥) → length coder.residuals + length ys < coder.setting.block * blocks_left coder.setting coder.start
+pub still_short : (value coder held : CoderState) (ys : List ℤ) → HoldsMore value coder held ys → (IsWhole held → ⊥)
+    → length coder.residuals + length ys < coder.setting.block * blocks_left coder.setting coder.start
 still_short value coder held ys h not_whole =
     let count = length-state_after_all coder ys in
     elim (cases_lt (length coder.residuals + length ys) (coder.setting.block * blocks_left coder.setting coder.start)) [
@@ -198,31 +209,36 @@ still_short value coder held ys h not_whole =
       | inr le ↦ absurd (let whole : IsWhole (state_after_all coder ys) = omega (arith, count, h.room, le) in not_whole (subst IsWhole (sym h.holds) whole))
     ]
 
-pub open_pushes : (value coder held : CoderState) (ys : List ℤ) (sink : List Bool) (m0 m1 : ℕ) → HoldsMore value coder held ys → (IsWhole held → ⊥) → m1 ≡ m0 + length ys → PushesSamples value held ys sink sink 0 m0 m1
+pub open_pushes : (value coder held : CoderState) (ys : List ℤ) (sink : List Bool) (m0 m1 : ℕ) → HoldsMore value coder held ys → (IsWhole held → ⊥)
+    → m1 ≡ m0 + length ys → PushesSamples value held ys sink sink 0 m0 m1
 open_pushes value coder held ys sink m0 m1 h not_whole steps =
     let short = still_short value coder held ys h not_whole in
     subst (λ v. PushesSamples v held ys sink sink 0 m0 m1) h.same (record {
       setting = ap (λ (v : CoderState). v.setting) h.holds;
       taken = λ xs k. subst (λ v. HasTaken v (xs ++ ys)) (sym h.holds) (several_stay_open coder ys xs k h.legal short).0;
-      adds = λ xs k. adds_nothing coder.setting (complete_samples coder.setting xs) (complete_samples coder.setting (xs ++ ys)) sink (length ys) m0 m1 (several_stay_open coder ys xs k h.legal short).1 steps;
+      adds = λ xs k. adds_nothing coder.setting (complete_samples coder.setting xs) (complete_samples coder.setting (xs ++ ys)) sink (length ys) m0 m1
+          (several_stay_open coder ys xs k h.legal short).1 steps;
     })
 
 -- Before the last of the first t samples none completes a segment.
-none_before_last : (value coder : CoderState) (xs : List ℤ) (t m : ℕ) → coder ≡ value → All (IsSample value.setting) xs → length coder.residuals + t ≤ coder.setting.block * blocks_left coder.setting coder.start → t ≤ length xs → m < t → CompletesNone value (take m xs)
+none_before_last : (value coder : CoderState) (xs : List ℤ) (t m : ℕ) → coder ≡ value → All (IsSample value.setting) xs
+    → length coder.residuals + t ≤ coder.setting.block * blocks_left coder.setting coder.start → t ≤ length xs → m < t → CompletesNone value (take m xs)
 none_before_last value coder xs t m e legal room few less =
     let all : All (IsSample coder.setting) xs = subst (λ (v : CoderState). All (IsSample v.setting) xs) (sym e) legal in
     let firsts = recursion_from_All (IsSample coder.setting) (take m xs) (All-take (IsSample coder.setting) m xs all) in
     let len : length (take m xs) ≡ m = length-take-le m xs (omega (arith, less, few)) in
     subst (λ v. CompletesNone v (take m xs)) e (λ zs k. (several_stay_open coder (take m xs) zs k firsts (omega (arith, len, less, room))).1)
 
-pub none_before_level : (value coder : CoderState) (levels : List ℕ) (t m : ℕ) → coder ≡ value → All (λ l. l < value_count value.setting) levels → length coder.residuals + t ≤ coder.setting.block * blocks_left coder.setting coder.start → t ≤ length levels → m < t →
+pub none_before_level : (value coder : CoderState) (levels : List ℕ) (t m : ℕ) → coder ≡ value → All (λ l. l < value_count value.setting) levels
+    → length coder.residuals + t ≤ coder.setting.block * blocks_left coder.setting coder.start → t ≤ length levels → m < t →
     CompletesNone value (take m (values_at value.setting levels))
 none_before_level value coder levels t m e legal room few less =
     let s = value.setting in
     none_before_last value coder (values_at s levels) t m e (legal_values s levels legal) room (omega (arith, few, length-values s levels)) less
 
 -- After the call the coder has taken some samples still.
-pub is_coder_after : (value coder held after : CoderState) (ys : List ℤ) (old new : List Bool) (n m0 m2 : ℕ) → HoldsMore value coder held ys → PushesSamples value after ys old new n m0 m2 → IsCoder after
+pub is_coder_after : (value coder held after : CoderState) (ys : List ℤ) (old new : List Bool) (n m0 m2 : ℕ) → HoldsMore value coder held ys
+    → PushesSamples value after ys old new n m0 m2 → IsCoder after
 is_coder_after value coder held after ys old new n m0 m2 h pushes = record {
   samples = h.coded.samples ++ ys;
   taken = pushes.taken h.coded.samples (subst (λ v. HasTaken v h.coded.samples) h.same h.coded.taken);

@@ -34,21 +34,24 @@ best_split_is s c k h = sym (ap (λ ks. best_of (shorter s c) 0 ks) (map_same (r
         best_numbered (λ k. cost s (Split k c)) (λ k. k) 0 1 (k_max s) (suc k) (omega arith) (omega arith) (λ j p q. h.first j q) (λ j p. h.least j (omega arith))
         ∙ ap (λ v. cond v (suc k) 0) (yes (cost s (Split (suc k) c)) (cost s (Split 0 c)) less)
 
-pub takes_no_compression : (s : Parameters) (c : BlockData) (k : ℕ) → IsBestSplit s c k → cost s (NoCompression c) ≤ cost s (SecondExtension c) → cost s (NoCompression c) ≤ cost s (Split k c) → NoCompression c ≡ shortest s c
+pub takes_no_compression : (s : Parameters) (c : BlockData) (k : ℕ) → IsBestSplit s c k → cost s (NoCompression c) ≤ cost s (SecondExtension c)
+    → cost s (NoCompression c) ≤ cost s (Split k c) → NoCompression c ≡ shortest s c
 takes_no_compression s c k h p q =
     let e = not_less (cost s (SecondExtension c)) (cost s (NoCompression c)) p in
     let f = not_less (cost s (Split k c)) (cost s (NoCompression c)) q in
     sym (shortest_is s c k h ∙ (ap (λ v. let first = cond v (SecondExtension c) (NoCompression c) in cond (nat_lt (cost s (Split k c)) (cost s first)) (Split k c) first) e
     ∙ ap (λ v. cond v (Split k c) (NoCompression c)) f))
 
-pub takes_second_extension : (s : Parameters) (c : BlockData) (k : ℕ) → IsBestSplit s c k → cost s (SecondExtension c) < cost s (NoCompression c) → cost s (SecondExtension c) ≤ cost s (Split k c) → SecondExtension c ≡ shortest s c
+pub takes_second_extension : (s : Parameters) (c : BlockData) (k : ℕ) → IsBestSplit s c k → cost s (SecondExtension c) < cost s (NoCompression c)
+    → cost s (SecondExtension c) ≤ cost s (Split k c) → SecondExtension c ≡ shortest s c
 takes_second_extension s c k h p q =
     let e = nat_lt-true (cost s (SecondExtension c)) (cost s (NoCompression c)) p in
     let f = not_less (cost s (Split k c)) (cost s (SecondExtension c)) q in
     sym (shortest_is s c k h ∙ (ap (λ v. let first = cond v (SecondExtension c) (NoCompression c) in cond (nat_lt (cost s (Split k c)) (cost s first)) (Split k c) first) e
     ∙ ap (λ v. cond v (Split k c) (SecondExtension c)) f))
 
-pub takes_split : (s : Parameters) (c : BlockData) (k : ℕ) → IsBestSplit s c k → cost s (Split k c) < cost s (NoCompression c) → cost s (Split k c) < cost s (SecondExtension c) → Split k c ≡ shortest s c
+pub takes_split : (s : Parameters) (c : BlockData) (k : ℕ) → IsBestSplit s c k → cost s (Split k c) < cost s (NoCompression c)
+    → cost s (Split k c) < cost s (SecondExtension c) → Split k c ≡ shortest s c
 takes_split s c k h p q =
     let first = λ (v : Bool). cond v (SecondExtension c) (NoCompression c) in
     let below : (v : Bool) → cost s (Split k c) < cost s (first v) = λ v. elim v as (λ v. cost s (Split k c) < cost s (first v)) [ true ↦ q | false ↦ p ] in

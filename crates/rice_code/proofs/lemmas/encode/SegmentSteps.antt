@@ -80,7 +80,8 @@ next_zero s start r n ds i run h k sound z =
     let c = held s r ds i in
     let rest = drop (i + 1) (held_blocks s r n ds) in
     let e = held_at s r n i ds k in
-    let f = zero_block_joins_run s run (reference_at r (i - run)) (reference_at r i) c rest (zero_block_is s (start + i) c (held_sound s start r n ds i k sound).block z) (reference_first r i run) (reference_later r i run h) in
+    let f = zero_block_joins_run s run (reference_at r (i - run)) (reference_at r i) c rest
+    (zero_block_is s (start + i) c (held_sound s start r n ds i k sound).block z) (reference_first r i run) (reference_later r i run h) in
     let g : i - run ≡ i + 1 - (run + 1) = omega arith in
     ap (λ cs. bits_of_sets s (data_sets s (start + (i - run)) false (pending_zeros s (reference_at r (i - run)) run ++ cs))) e
     ∙ (ap (λ cs. bits_of_sets s (data_sets s (start + (i - run)) false cs)) f
@@ -90,7 +91,8 @@ run_is_inside : (s : Parameters) (start n i run : ℕ) → 1 ≤ s.interval → 
 run_is_inside s start n i run h k l m = let e = left_inside s start (i - run) h (omega arith) in omega arith
 
 pub next_other : (s : Parameters) (start : ℕ) (r : Option ℕ) (n : ℕ) (ds : List ℕ) (i run : ℕ) → 1 ≤ s.interval → n ≤ blocks_left s start → run ≤ i → i < n →
-    is_zero_block (held s r ds i) ≡ false → to_come s start r n ds i run ≡ bits_of_sets s (pending_run false (reference_at r (i - run)) run) ++ (bits_of_set s (shortest s (held s r ds i)) ++ to_come s start r n ds (i + 1) 0)
+    is_zero_block (held s r ds i) ≡ false → to_come s start r n ds i run ≡ bits_of_sets s (pending_run false (reference_at r (i - run)) run)
+    ++ (bits_of_set s (shortest s (held s r ds i)) ++ to_come s start r n ds (i + 1) 0)
 next_other s start r n ds i run h m l k z =
     let c = held s r ds i in
     let rest = drop (i + 1) (held_blocks s r n ds) in
@@ -146,14 +148,16 @@ most_of_all s (suc i) (c ∷ cs) =
 pub looks_zero : (s : Parameters) (c : BlockData) → is_zero_block c ≡ true → (least_looks s c ≡ s.block) × (most_looks s c ≡ s.block)
 looks_zero s c e = (ap (λ v. cond v s.block (s.block * (best_split s c + 3) - 1)) e, ap (λ v. cond v s.block (s.block * (min (best_split s c + 1) (k_max s) + 5))) e)
 
-pub looks_other : (s : Parameters) (c : BlockData) → is_zero_block c ≡ false → (least_looks s c ≡ s.block * (best_split s c + 3) - 1) × (most_looks s c ≡ s.block * (min (best_split s c + 1) (k_max s) + 5))
+pub looks_other : (s : Parameters) (c : BlockData) → is_zero_block c ≡ false → (least_looks s c ≡ s.block * (best_split s c + 3) - 1)
+    × (most_looks s c ≡ s.block * (min (best_split s c + 1) (k_max s) + 5))
 looks_other s c e = (ap (λ v. cond v s.block (s.block * (best_split s c + 3) - 1)) e, ap (λ v. cond v s.block (s.block * (min (best_split s c + 1) (k_max s) + 5))) e)
 
 pub shortest_len : (s : Parameters) (b : ℕ) (c : BlockData) → 1 ≤ s.block → IsSoundBlock s b c → length (bits_of_set s (shortest s c)) ≡ cost s (shortest s c)
 shortest_len s b c j h = cost_is_length s b (shortest s c) j (shortest_is_form s b c h)
 
 -- what is put has room
-pub room_other : (s : Parameters) (start : ℕ) (r : Option ℕ) (n : ℕ) (ds : List ℕ) (i run : ℕ) (sink before all : List Bool) → 1 ≤ s.interval → 1 ≤ s.block → n ≤ blocks_left s start → run ≤ i → i < n →
+pub room_other : (s : Parameters) (start : ℕ) (r : Option ℕ) (n : ℕ) (ds : List ℕ) (i run : ℕ) (sink before all : List Bool) → 1 ≤ s.interval → 1 ≤ s.block
+    → n ≤ blocks_left s start → run ≤ i → i < n →
     AreSoundBlocks s start (held_blocks s r n ds) → is_zero_block (held s r ds i) ≡ false → sink ++ to_come s start r n ds i run ≡ before ++ all →
     length sink + length (bits_of_sets s (pending_run false (reference_at r (i - run)) run)) + cost s (shortest s (held s r ds i)) ≤ length before + length all
 room_other s start r n ds i run sink before all h j m l k sound z same =
@@ -190,7 +194,8 @@ other_same sink new w x y total e f =
     ap (λ v. v ++ y) e ∙ (append_assoc (sink ++ w) x y ∙ (append_assoc sink w (x ++ y) ∙ f))
 
 -- the steps of one block more
-pub least_more : (j k least m0 m m' a a' a0 put total : ℕ) → 1 ≤ j → m0 + a + total ≤ m + a0 → m + put + j * (k + 4) ≤ m' + 1 → a' ≡ a + put → least ≡ j * (k + 3) - 1 → m0 + a' + (total + least) ≤ m' + a0
+pub least_more : (j k least m0 m m' a a' a0 put total : ℕ) → 1 ≤ j → m0 + a + total ≤ m + a0 → m + put + j * (k + 4) ≤ m' + 1 → a' ≡ a + put
+    → least ≡ j * (k + 3) - 1 → m0 + a' + (total + least) ≤ m' + a0
 least_more j k least m0 m m' a a' a0 put total h p q e f =
     let r : j * (k + 4) ≡ j * (k + 3) + j = omega arith in
     omega (arith, r)

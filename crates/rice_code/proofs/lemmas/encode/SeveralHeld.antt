@@ -34,7 +34,8 @@ next_later : (coder : CoderState) (xs : List ℤ) → (coder.setting.preprocess 
 next_later coder [] e = refl
 next_later coder (x ∷ xs) e = ap (λ d. d ∷ later_residuals coder.setting x xs) (by_way coder.setting.preprocess (is_first coder) e)
   where
-    by_way : (a b : Bool) → (a && b) ≡ false → cond a (cond b 0 (rank coder.setting coder.previous x)) (pattern coder.setting x) ≡ cond a (rank coder.setting coder.previous x) (pattern coder.setting x)
+    by_way : (a b : Bool) → (a && b) ≡ false → cond a (cond b 0 (rank coder.setting coder.previous x)) (pattern coder.setting x) ≡ cond a
+        (rank coder.setting coder.previous x) (pattern coder.setting x)
     by_way false b e = refl
     by_way true false e = refl
     by_way true true e = absurd (let f : true ≡ false = e in cc)
@@ -66,10 +67,12 @@ state_after_all-cons coder x xs =
 -- and one last
 pub state_after_all-snoc : (coder : CoderState) (xs : List ℤ) (x : ℤ) → state_after_all coder (xs ++ x ∷ []) ≡ state_after (state_after_all coder xs) x
 state_after_all-snoc coder [] x = sym (ap (λ v. state_after v x) (state_after_all-none coder [] refl))
-state_after_all-snoc coder (y ∷ ys) x = sym (state_after_all-cons coder y (ys ++ x ∷ [])) ∙ (state_after_all-snoc (state_after coder y) ys x ∙ ap (λ v. state_after v x) (state_after_all-cons coder y ys))
+state_after_all-snoc coder (y ∷ ys) x = sym (state_after_all-cons coder y (ys ++ x ∷ []))
+    ∙ (state_after_all-snoc (state_after coder y) ys x ∙ ap (λ v. state_after v x) (state_after_all-cons coder y ys))
 
 -- the segment stays open
-pub open_later : (coder : CoderState) (end : ℕ) (p : ℤ) (ds : List ℕ) (xs : List ℤ) → IsOpen coder end → IsSample coder.setting p → ds ≡ coder.residuals ++ later_residuals coder.setting p xs → All (IsSample coder.setting) xs →
+pub open_later : (coder : CoderState) (end : ℕ) (p : ℤ) (ds : List ℕ) (xs : List ℤ) → IsOpen coder end → IsSample coder.setting p
+    → ds ≡ coder.residuals ++ later_residuals coder.setting p xs → All (IsSample coder.setting) xs →
     length coder.residuals + length xs ≤ coder.setting.block * blocks_left coder.setting coder.start →
     IsOpen (record { setting = coder.setting; residuals = ds; reference = coder.reference; previous = last_of p xs; start = coder.start }) end
 open_later coder end p ds xs h sample e legal room = record {
@@ -84,10 +87,22 @@ open_later coder end p ds xs h sample e legal room = record {
 
 -- After a reference the samples are held as after that sample itself.
 pub state_after_all-first : (coder : CoderState) (x : ℤ) (xs : List ℤ) → (coder.setting.preprocess && is_first coder) ≡ true →
-    state_with_later (record { setting = coder.setting; residuals = coder.residuals; reference = Some (pattern coder.setting x); previous = coder.previous; start = coder.start }) x (x ∷ xs) ≡ state_after_all coder (x ∷ xs)
+    state_with_later (record {
+      setting = coder.setting;
+      residuals = coder.residuals;
+      reference = Some (pattern coder.setting x);
+      previous = coder.previous;
+      start = coder.start;
+    }) x (x ∷ xs) ≡ state_after_all coder (x ∷ xs)
 state_after_all-first coder x xs e =
     let d = by_way coder.setting.preprocess (is_first coder) e in
-    λ i. record { setting = coder.setting; residuals = coder.residuals ++ d i ∷ later_residuals coder.setting x xs; reference = cond (sym e i) (Some (pattern coder.setting x)) coder.reference; previous = last_of x xs; start = coder.start }
+    λ i. record {
+      setting = coder.setting;
+      residuals = coder.residuals ++ d i ∷ later_residuals coder.setting x xs;
+      reference = cond (sym e i) (Some (pattern coder.setting x)) coder.reference;
+      previous = last_of x xs;
+      start = coder.start;
+    }
   where
     by_way : (a b : Bool) → (a && b) ≡ true → cond a (rank coder.setting x x) (pattern coder.setting x) ≡ cond a (cond b 0 (rank coder.setting coder.previous x)) (pattern coder.setting x)
     by_way false b e = absurd (let f : false ≡ true = e in cc)

@@ -33,8 +33,10 @@ pub joined_lanes : (w a b c d : ℕ) → w ≤ 7 →
     (all < 2 ^ (4 * w)) × (word (4 * w) all ≡ word w a ++ word w b ++ word w c ++ word w d)
 joined_lanes w a b c d le =
     let below = λ (x : ℕ). mod_below x (2 ^ w) (pow_pos w) in
-    let same : lanes_joined w (bit_and a (2 ^ w - 1)) (bit_and b (2 ^ w - 1)) (bit_and c (2 ^ w - 1)) (bit_and d (2 ^ w - 1)) ≡ ((a % 2 ^ w * 2 ^ w + b % 2 ^ w) * 2 ^ w + c % 2 ^ w) * 2 ^ w + d % 2 ^ w =
-    (λ i. lanes_joined w (and_mask a w i) (and_mask b w i) (and_mask c w i) (and_mask d w i)) ∙ joined_value w (a % 2 ^ w) (b % 2 ^ w) (c % 2 ^ w) (d % 2 ^ w) le (below a) (below b) (below c) (below d) in
+    let same : lanes_joined w (bit_and a (2 ^ w - 1)) (bit_and b (2 ^ w - 1)) (bit_and c (2 ^ w - 1)) (bit_and d (2 ^ w - 1))
+    ≡ ((a % 2 ^ w * 2 ^ w + b % 2 ^ w) * 2 ^ w + c % 2 ^ w) * 2 ^ w + d % 2 ^ w =
+    (λ i. lanes_joined w (and_mask a w i) (and_mask b w i) (and_mask c w i) (and_mask d w i))
+    ∙ joined_value w (a % 2 ^ w) (b % 2 ^ w) (c % 2 ^ w) (d % 2 ^ w) le (below a) (below b) (below c) (below d) in
     four_words w w w w (4 * w) (a % 2 ^ w) (b % 2 ^ w) (c % 2 ^ w) (d % 2 ^ w) (a % 2 ^ w * 2 ^ w + b % 2 ^ w) ((a % 2 ^ w * 2 ^ w + b % 2 ^ w) * 2 ^ w + c % 2 ^ w) _ _ _ _ _
     (below a) (below b) (below c) (below d) refl refl same
     (low_word w a _ refl) (low_word w b _ refl) (low_word w c _ refl) (low_word w d _ refl) (omega arith)
@@ -56,7 +58,9 @@ eight_in_row f xs i n h e =
     let more = four_more xs (i + 4) n (omega arith) (omega arith) in
     let count : n - i ≡ 8 = omega arith in
     let row = four ∙ ap (λ v. get_or xs i 0 ∷ get_or xs (i + 1) 0 ∷ get_or xs (i + 2) 0 ∷ get_or xs (i + 3) 0 ∷ v) more in
-    (λ j. flat_map f (take (count j) (row j))) ∙ nest (f (get_or xs i 0)) (f (get_or xs (i + 1) 0)) (f (get_or xs (i + 2) 0)) (f (get_or xs (i + 3) 0)) (f (get_or xs (i + 4) 0)) (f (get_or xs (i + 4 + 1) 0)) (f (get_or xs (i + 4 + 2) 0)) (f (get_or xs (i + 4 + 3) 0))
+    (λ j. flat_map f (take (count j) (row j)))
+    ∙ nest (f (get_or xs i 0)) (f (get_or xs (i + 1) 0)) (f (get_or xs (i + 2) 0)) (f (get_or xs (i + 3) 0)) (f (get_or xs (i + 4) 0))
+    (f (get_or xs (i + 4 + 1) 0)) (f (get_or xs (i + 4 + 2) 0)) (f (get_or xs (i + 4 + 3) 0))
   where
     nest : (a b c d e f g h : List Bool) → a ++ (b ++ (c ++ (d ++ (e ++ (f ++ (g ++ (h ++ []))))))) ≡ (a ++ b ++ c ++ d) ++ (e ++ f ++ g ++ h)
     nest a b c d e f g h = simp (append_assoc, append-nil)
@@ -74,7 +78,8 @@ tail_of_eight w (suc zero) v (x ∷ xs) le len e =
 tail_of_eight w (suc (suc from)) v xs le len e = absurd (omega arith)
 
 -- eight more are written
-pub eight_added : (f : ℕ → List Bool) (xs : List ℕ) (i n : ℕ) (a b all : List Bool) → i ≤ n → b ≡ a ++ flat_map f (slice_range xs i n) → a ++ flat_map f (drop i xs) ≡ all → b ++ flat_map f (drop n xs) ≡ all
+pub eight_added : (f : ℕ → List Bool) (xs : List ℕ) (i n : ℕ) (a b all : List Bool) → i ≤ n → b ≡ a ++ flat_map f (slice_range xs i n)
+    → a ++ flat_map f (drop i xs) ≡ all → b ++ flat_map f (drop n xs) ≡ all
 eight_added f xs i n a b all le added same =
     let rest = flat_map f (drop n xs) in
     let row = flat_map f (slice_range xs i n) in

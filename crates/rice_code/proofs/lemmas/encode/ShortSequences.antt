@@ -47,7 +47,8 @@ four_behind all a b c d = simp append_assoc
 
 -- 8 and 16 residuals from number i on
 eight_more : (xs : List ℕ) (i n : ℕ) → i + 7 < length xs → n ≡ i + 8 →
-    drop i xs ≡ get_or xs i 0 ∷ get_or xs (i + 1) 0 ∷ get_or xs (i + 2) 0 ∷ get_or xs (i + 3) 0 ∷ get_or xs (i + 4) 0 ∷ get_or xs (i + 4 + 1) 0 ∷ get_or xs (i + 4 + 2) 0 ∷ get_or xs (i + 4 + 3) 0 ∷ drop n xs
+    drop i xs ≡ get_or xs i 0 ∷ get_or xs (i + 1) 0 ∷ get_or xs (i + 2) 0 ∷ get_or xs (i + 3) 0 ∷ get_or xs (i + 4) 0 ∷ get_or xs (i + 4 + 1) 0 ∷ get_or xs
+    (i + 4 + 2) 0 ∷ get_or xs (i + 4 + 3) 0 ∷ drop n xs
 eight_more xs i n h e =
     four_more xs i (i + 4) (omega arith) refl
     ∙ ap (λ v. get_or xs i 0 ∷ get_or xs (i + 1) 0 ∷ get_or xs (i + 2) 0 ∷ get_or xs (i + 3) 0 ∷ v) (four_more xs (i + 4) n (omega arith) (omega arith))
@@ -56,11 +57,13 @@ pub eight_from : (f : ℕ → List Bool) (xs : List ℕ) (from : ℕ) → from �
     flat_map f (slice_range xs from 8) ≡
     (if from == 0 then f (get_or xs 0 0) else []) ++ f (get_or xs 1 0) ++ f (get_or xs 2 0) ++ f (get_or xs 3 0)
     ++ (f (get_or xs 4 0) ++ f (get_or xs 5 0) ++ f (get_or xs 6 0) ++ f (get_or xs 7 0))
-eight_from f xs zero le h = ap (λ v. flat_map f (take 8 v)) (eight_more xs 0 8 h refl) ∙ nest (f (get_or xs 0 0)) (f (get_or xs 1 0)) (f (get_or xs 2 0)) (f (get_or xs 3 0)) (f (get_or xs 4 0)) (f (get_or xs 5 0)) (f (get_or xs 6 0)) (f (get_or xs 7 0))
+eight_from f xs zero le h = ap (λ v. flat_map f (take 8 v)) (eight_more xs 0 8 h refl)
+    ∙ nest (f (get_or xs 0 0)) (f (get_or xs 1 0)) (f (get_or xs 2 0)) (f (get_or xs 3 0)) (f (get_or xs 4 0)) (f (get_or xs 5 0)) (f (get_or xs 6 0)) (f (get_or xs 7 0))
   where
     nest : (a b c d e f g h : List Bool) → a ++ (b ++ (c ++ (d ++ (e ++ (f ++ (g ++ (h ++ []))))))) ≡ a ++ b ++ c ++ d ++ (e ++ f ++ g ++ h)
     nest a b c d e f g h = simp (append_assoc, append-nil)
-eight_from f xs (suc zero) le h = ap (λ v. flat_map f (take 7 (drop 1 v))) (eight_more xs 0 8 h refl) ∙ nest (f (get_or xs 1 0)) (f (get_or xs 2 0)) (f (get_or xs 3 0)) (f (get_or xs 4 0)) (f (get_or xs 5 0)) (f (get_or xs 6 0)) (f (get_or xs 7 0))
+eight_from f xs (suc zero) le h = ap (λ v. flat_map f (take 7 (drop 1 v))) (eight_more xs 0 8 h refl)
+    ∙ nest (f (get_or xs 1 0)) (f (get_or xs 2 0)) (f (get_or xs 3 0)) (f (get_or xs 4 0)) (f (get_or xs 5 0)) (f (get_or xs 6 0)) (f (get_or xs 7 0))
   where
     nest : (b c d e f g h : List Bool) → b ++ (c ++ (d ++ (e ++ (f ++ (g ++ (h ++ [])))))) ≡ [] ++ b ++ c ++ d ++ (e ++ f ++ g ++ h)
     nest b c d e f g h = simp (append_assoc, append-nil)
@@ -68,7 +71,8 @@ eight_from f xs (suc (suc from)) le h = absurd (omega arith)
 
 sixteen_more : (xs : List ℕ) (i n : ℕ) → i + 15 < length xs → n ≡ i + 16 →
     drop i xs ≡ get_or xs i 0 ∷ get_or xs (i + 1) 0 ∷ get_or xs (i + 2) 0 ∷ get_or xs (i + 3) 0 ∷ get_or xs (i + 4) 0 ∷ get_or xs (i + 4 + 1) 0 ∷ get_or xs (i + 4 + 2) 0 ∷ get_or xs (i + 4 + 3) 0 ∷
-    get_or xs (i + 8) 0 ∷ get_or xs (i + 8 + 1) 0 ∷ get_or xs (i + 8 + 2) 0 ∷ get_or xs (i + 8 + 3) 0 ∷ get_or xs (i + 12) 0 ∷ get_or xs (i + 12 + 1) 0 ∷ get_or xs (i + 12 + 2) 0 ∷ get_or xs (i + 12 + 3) 0 ∷ drop n xs
+    get_or xs (i + 8) 0 ∷ get_or xs (i + 8 + 1) 0 ∷ get_or xs (i + 8 + 2) 0 ∷ get_or xs (i + 8 + 3) 0 ∷ get_or xs (i + 12) 0 ∷ get_or xs (i + 12 + 1) 0 ∷ get_or
+    xs (i + 12 + 2) 0 ∷ get_or xs (i + 12 + 3) 0 ∷ drop n xs
 sixteen_more xs i n h e =
     let third = four_more xs (i + 8) (i + 12) (omega arith) (omega arith) in
     let last = four_more xs (i + 12) n (omega arith) (omega arith) in
@@ -85,14 +89,23 @@ pub sixteen_from : (f : ℕ → List Bool) (xs : List ℕ) (i from : ℕ) → fr
 sixteen_from f xs i zero le h =
     let count : i + 16 - (i + 0) ≡ 16 = omega arith in
     let start : i + 0 ≡ i = omega arith in
-    (λ j. flat_map f (take (count j) (drop (start j) xs))) ∙ (ap (λ v. flat_map f (take 16 v)) (sixteen_more xs i (i + 16) h refl) ∙ nest (f (get_or xs (i) 0)) (f (get_or xs (i + 1) 0)) (f (get_or xs (i + 2) 0)) (f (get_or xs (i + 3) 0)) (f (get_or xs (i + 4) 0)) (f (get_or xs (i + 4 + 1) 0)) (f (get_or xs (i + 4 + 2) 0)) (f (get_or xs (i + 4 + 3) 0)) (f (get_or xs (i + 8) 0)) (f (get_or xs (i + 8 + 1) 0)) (f (get_or xs (i + 8 + 2) 0)) (f (get_or xs (i + 8 + 3) 0)) (f (get_or xs (i + 12) 0)) (f (get_or xs (i + 12 + 1) 0)) (f (get_or xs (i + 12 + 2) 0)) (f (get_or xs (i + 12 + 3) 0)))
+    (λ j. flat_map f (take (count j) (drop (start j) xs)))
+    ∙ (ap (λ v. flat_map f (take 16 v)) (sixteen_more xs i (i + 16) h refl)
+    ∙ nest (f (get_or xs (i) 0)) (f (get_or xs (i + 1) 0)) (f (get_or xs (i + 2) 0)) (f (get_or xs (i + 3) 0)) (f (get_or xs (i + 4) 0))
+    (f (get_or xs (i + 4 + 1) 0)) (f (get_or xs (i + 4 + 2) 0)) (f (get_or xs (i + 4 + 3) 0)) (f (get_or xs (i + 8) 0)) (f (get_or xs (i + 8 + 1) 0))
+    (f (get_or xs (i + 8 + 2) 0)) (f (get_or xs (i + 8 + 3) 0)) (f (get_or xs (i + 12) 0)) (f (get_or xs (i + 12 + 1) 0)) (f (get_or xs (i + 12 + 2) 0))
+    (f (get_or xs (i + 12 + 3) 0)))
   where
     nest : (a b c d e f g h k l m n o p q r : List Bool) → a ++ (b ++ (c ++ (d ++ (e ++ (f ++ (g ++ (h ++ (k ++ (l ++ (m ++ (n ++ (o ++ (p ++ (q ++ (r ++ [])))))))))))))))
         ≡ a ++ b ++ c ++ d ++ (e ++ f ++ g ++ h) ++ (k ++ l ++ m ++ n) ++ (o ++ p ++ q ++ r)
     nest a b c d e f g h k l m n o p q r = simp (append_assoc, append-nil)
 sixteen_from f xs i (suc zero) le h =
     let count : i + 16 - (i + 1) ≡ 15 = omega arith in
-    (λ j. flat_map f (take (count j) (sym (drop-drop 1 i xs) j))) ∙ (ap (λ v. flat_map f (take 15 (drop 1 v))) (sixteen_more xs i (i + 16) h refl) ∙ nest (f (get_or xs (i + 1) 0)) (f (get_or xs (i + 2) 0)) (f (get_or xs (i + 3) 0)) (f (get_or xs (i + 4) 0)) (f (get_or xs (i + 4 + 1) 0)) (f (get_or xs (i + 4 + 2) 0)) (f (get_or xs (i + 4 + 3) 0)) (f (get_or xs (i + 8) 0)) (f (get_or xs (i + 8 + 1) 0)) (f (get_or xs (i + 8 + 2) 0)) (f (get_or xs (i + 8 + 3) 0)) (f (get_or xs (i + 12) 0)) (f (get_or xs (i + 12 + 1) 0)) (f (get_or xs (i + 12 + 2) 0)) (f (get_or xs (i + 12 + 3) 0)))
+    (λ j. flat_map f (take (count j) (sym (drop-drop 1 i xs) j)))
+    ∙ (ap (λ v. flat_map f (take 15 (drop 1 v))) (sixteen_more xs i (i + 16) h refl)
+    ∙ nest (f (get_or xs (i + 1) 0)) (f (get_or xs (i + 2) 0)) (f (get_or xs (i + 3) 0)) (f (get_or xs (i + 4) 0)) (f (get_or xs (i + 4 + 1) 0))
+    (f (get_or xs (i + 4 + 2) 0)) (f (get_or xs (i + 4 + 3) 0)) (f (get_or xs (i + 8) 0)) (f (get_or xs (i + 8 + 1) 0)) (f (get_or xs (i + 8 + 2) 0))
+    (f (get_or xs (i + 8 + 3) 0)) (f (get_or xs (i + 12) 0)) (f (get_or xs (i + 12 + 1) 0)) (f (get_or xs (i + 12 + 2) 0)) (f (get_or xs (i + 12 + 3) 0)))
   where
     nest : (b c d e f g h k l m n o p q r : List Bool) → b ++ (c ++ (d ++ (e ++ (f ++ (g ++ (h ++ (k ++ (l ++ (m ++ (n ++ (o ++ (p ++ (q ++ (r ++ []))))))))))))))
         ≡ [] ++ b ++ c ++ d ++ (e ++ f ++ g ++ h) ++ (k ++ l ++ m ++ n) ++ (o ++ p ++ q ++ r)

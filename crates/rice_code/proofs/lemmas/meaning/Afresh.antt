@@ -35,8 +35,14 @@ lies_plain s b m n [] bits e h = h
 lies_plain s b m n (d ∷ ds) bits e h =
     let t = length (bits_of_set s d) in
     let k = length (bits_of_set s d ++ h.0) in
-    let next = block_after s b d in
-    (h.0, h.1, h.2 ∙ ap (λ v. cond (v && place s next == 0) (bits_to_byte (m + t)) 0) e ∙ sym (ap (λ v. cond (v && place s next == 0) (bits_to_byte (n + t)) 0) e), h.3, lies_plain s next (m + k) (n + k) ds h.1 e h.4)
+    let next = block_after s b d in (
+      h.0,
+      h.1,
+      h.2 ∙ ap (λ v. cond (v && place s next == 0) (bits_to_byte (m + t)) 0) e
+          ∙ sym (ap (λ v. cond (v && place s next == 0) (bits_to_byte (n + t)) 0) e),
+      h.3,
+      lies_plain s next (m + k) (n + k) ds h.1 e h.4,
+    )
 
 -- where they are, it is on a byte
 lies_afresh : (s : Parameters) (b n : ℕ) (ds : List CodedDataSet) (bits : List Bool) → (s.pad ≡ true → n % 8 ≡ 0) → Lies s b 0 ds bits → Lies s b n ds bits
@@ -113,7 +119,8 @@ taken-append s asked b (d ∷ ds) es h k =
     let e : b + length (blocks_in s b d ++ blocks_in_all s next ds) ≡ next + length (blocks_in_all s next ds) = omega (arith, length-append (blocks_in s b d) (blocks_in_all s next ds)) in
     (h.0, h.1, h.2, h.3, taken-append s asked next ds es h.4 (subst (λ (n : ℕ). AreTaken s asked n es) e k))
 
-lies-append : (s : Parameters) (b m : ℕ) (ds es : List CodedDataSet) (bits more : List Bool) → Lies s b m ds bits → Lies s (b + length (blocks_in_all s b ds)) (m + length bits) es more → Lies s b m (ds ++ es) (bits ++ more)
+lies-append : (s : Parameters) (b m : ℕ) (ds es : List CodedDataSet) (bits more : List Bool) → Lies s b m ds bits
+    → Lies s (b + length (blocks_in_all s b ds)) (m + length bits) es more → Lies s b m (ds ++ es) (bits ++ more)
 lies-append s b m [] es bits more h k =
     let here : b + 0 ≡ b = omega arith in
     let there : m + length bits ≡ m = omega (arith, ap length h) in
@@ -156,7 +163,8 @@ end_inside s end b (d ∷ ds) some e le h =
     omega (arith, end_inside s end next ds some e (omega arith) h.4, length-append (blocks_in s b d) (blocks_in_all s next ds))
 
 -- and on a byte, where intervals are padded
-lies_to_byte : (s : Parameters) (end b m : ℕ) (ds : List CodedDataSet) (bits : List Bool) → is_padded s end ≡ true → b + length (blocks_in_all s b ds) ≡ end → (ds ≡ [] → m % 8 ≡ 0) → Lies s b m ds bits → (m + length bits) % 8 ≡ 0
+lies_to_byte : (s : Parameters) (end b m : ℕ) (ds : List CodedDataSet) (bits : List Bool) → is_padded s end ≡ true → b + length (blocks_in_all s b ds) ≡ end
+    → (ds ≡ [] → m % 8 ≡ 0) → Lies s b m ds bits → (m + length bits) % 8 ≡ 0
 lies_to_byte s end b m [] bits pads reach whole h = let here : m + length bits ≡ m = omega (arith, ap length h) in ap (λ n. n % 8) here ∙ whole refl
 lies_to_byte s end b m (d ∷ ds) bits pads reach whole h =
     let t = bits_of_set s d in
@@ -218,8 +226,10 @@ is_before s bits before begin legal b =
     }
 
 -- coded data sets that decode to all samples that are asked for of them, and others behind them
-decodes_behind : (s : Parameters) (bits : List Bool) (before xs : List ℤ) (asked : Option ℕ) (ending : Ending) (begin used : ℕ) → (h : Decoded s bits (Some (length before)) before Reached begin) → before ≡ h.all → begin ≡ length h.front
-    → DecodedFrom s (0 + length (blocks_in_all s 0 h.sets)) (0 + length h.front) (last_of (pos 0) h.all) h.rest (count_behind (length before) asked) xs ending used → Decoded s bits (count_behind (length before) asked) (before ++ xs) ending (begin + used)
+decodes_behind : (s : Parameters) (bits : List Bool) (before xs : List ℤ) (asked : Option ℕ) (ending : Ending) (begin used : ℕ)
+    → (h : Decoded s bits (Some (length before)) before Reached begin) → before ≡ h.all → begin ≡ length h.front
+    → DecodedFrom s (0 + length (blocks_in_all s 0 h.sets)) (0 + length h.front) (last_of (pos 0) h.all) h.rest (count_behind (length before) asked) xs ending
+    used → Decoded s bits (count_behind (length before) asked) (before ++ xs) ending (begin + used)
 decodes_behind s bits before xs asked ending begin used h all front d =
     let there = count_behind (length before) asked in
     let n = length (blocks_in_all s 0 h.sets) in
@@ -254,6 +264,7 @@ decoding_begins_afresh s legal bits before xs asked ending begin used b d =
     let is = is_before s bits before begin legal b in
     let c = 0 + length (blocks_in_all s 0 h.sets) in
     let rest : drop begin bits ≡ h.rest = ap (drop begin) h.parts ∙ drop_at h.front h.rest begin (sym is.front) in
-    let there = stands_behind s legal c (0 + length h.front) (last_of (pos 0) h.all) h.rest asked xs ending used is.begins is.byte (subst (λ (l : List Bool). Decoded s l asked xs ending used) rest d) in
+    let there = stands_behind s legal c (0 + length h.front) (last_of (pos 0) h.all) h.rest asked xs ending used is.begins is.byte
+    (subst (λ (l : List Bool). Decoded s l asked xs ending used) rest d) in
     decodes_behind s bits before xs asked ending begin used h is.all is.front
     (subst (λ (n : ℕ). DecodedFrom s c (0 + length h.front) (last_of (pos 0) h.all) h.rest (count_behind n asked) xs ending used) (sym is.count) there)

@@ -129,7 +129,8 @@ residual_has_sample s i p d legal h r lt =
           (x.0, x.1, ap (λ v. cond v (cond (is_reference_sample s i) 0 (rank s p x.0)) (pattern s x.0)) e ∙ x.2)
     ]
 
-residuals_have_samples : (s : Parameters) (i : ℕ) (p : ℤ) (ds : List ℕ) → IsLegal s → IsSample s p → ((t : ℕ) → t < length ds → is_reference_sample s (i + t) ≡ false) → AllByRecursion (λ d. d < value_count s) ds →
+residuals_have_samples : (s : Parameters) (i : ℕ) (p : ℤ) (ds : List ℕ) → IsLegal s → IsSample s p
+    → ((t : ℕ) → t < length ds → is_reference_sample s (i + t) ≡ false) → AllByRecursion (λ d. d < value_count s) ds →
     (xs : List ℤ) × (length xs ≡ length ds) × AllByRecursion (IsSample s) xs × (residuals s i p xs ≡ ds)
 residuals_have_samples s i p [] legal h r k = ([], refl, tt, refl)
 residuals_have_samples s i p (d ∷ ds) legal h r k =
@@ -201,7 +202,8 @@ padding_fits : (position t more total : ℕ) (pads : Bool) → total ≡ t + mor
 padding_fits position t more total true e h = omega arith
 padding_fits position t more total false e h = omega arith
 
-bits_are_decoded : (fuel : ℕ) (s : Parameters) (b position : ℕ) (p : ℤ) (bits : List Bool) (asked : Option ℕ) → IsLegal s → 1 ≤ s.block → IsSample s p → length bits < fuel → (position + length bits) % 8 ≡ 0 → Comes s b position p bits asked
+bits_are_decoded : (fuel : ℕ) (s : Parameters) (b position : ℕ) (p : ℤ) (bits : List Bool) (asked : Option ℕ) → IsLegal s → 1 ≤ s.block → IsSample s p
+    → length bits < fuel → (position + length bits) % 8 ≡ 0 → Comes s b position p bits asked
 bits_are_decoded zero s b position p bits asked legal j h lt whole = absurd (omega arith)
 bits_are_decoded (suc fuel) s b position p bits asked legal j h lt whole =
     elim (goes_or_not s asked b) [
@@ -212,9 +214,11 @@ bits_are_decoded (suc fuel) s b position p bits asked legal j h lt whole =
           | inr none ↦ comes_to_stop s b position p bits asked Ended (length bits) (go, All-from_recursion (λ bit. bit ≡ false) bits none, refl)
         ]
         | inl q ↦ elim (run_or_not s b q.piece) [
-          | inr past ↦ comes_to_stop s b position p bits asked Past (length (bits_of_set s q.piece)) (go, record { refused = q.piece; more = q.more; form = q.fits; unsound = past; begins = q.begins; bits = refl })
+          | inr past ↦ comes_to_stop s b position p bits asked Past (length (bits_of_set s q.piece))
+              (go, record { refused = q.piece; more = q.more; form = q.fits; unsound = past; begins = q.begins; bits = refl })
           | inl run ↦ elim (residuals_or_not s q.piece) [
-            | inr large ↦ comes_to_stop s b position p bits asked Large (length (bits_of_set s q.piece)) (go, record { refused = q.piece; more = q.more; form = q.fits; unsound = large; begins = q.begins; bits = refl })
+            | inr large ↦ comes_to_stop s b position p bits asked Large (length (bits_of_set s q.piece))
+                (go, record { refused = q.piece; more = q.more; form = q.fits; unsound = large; begins = q.begins; bits = refl })
             | inl sound ↦
                 let d = q.piece in
                 let t = length (bits_of_set s d) in
@@ -228,13 +232,15 @@ bits_are_decoded (suc fuel) s b position p bits asked legal j h lt whole =
                 let l3 : length (bits_of_set s d ++ skipped) ≡ t + n = length-append (bits_of_set s d) skipped ∙ ap (λ m. t + m) l1 in
                 let some : 1 ≤ t = not_empty (bits_of_set s d) (forms_have_a_one s b d legal q.fits) in
                 let made = blocks_have_samples s b p (blocks_in s b d) legal j h (blocks_are_sound s b d legal (q.fits, run, sound)) in
-                let later = bits_are_decoded fuel s (block_after s b d) (position + length (bits_of_set s d ++ skipped)) (last_of p made.0) rest asked legal j (last_legal s p made.0 h made.2) (sizes _ _ _ _ _ _ size l2 fits some lt) (places _ _ _ _ _ _ _ size l2 l3 fits whole) in
+                let later = bits_are_decoded fuel s (block_after s b d) (position + length (bits_of_set s d ++ skipped)) (last_of p made.0) rest asked legal j
+                (last_legal s p made.0 h made.2) (sizes _ _ _ _ _ _ size l2 fits some lt) (places _ _ _ _ _ _ _ size l2 l3 fits whole) in
                 let P : List Bool → Type 0 = λ v. DecodedFrom s b position p v asked (cut_to s asked b made.0 ++ later.0) later.1 (length (bits_of_set s d ++ skipped) + later.2) in
                 let joined : bits_of_set s d ++ (skipped ++ rest) ≡ bits = ap (λ v. bits_of_set s d ++ v) (take-append-drop n q.more) ∙ sym q.begins in (
                   cut_to s asked b made.0 ++ later.0,
                   later.1,
                   length (bits_of_set s d ++ skipped) + later.2,
-                  subst P joined (decoding_goes_on s legal b position p d skipped rest asked made.0 later.0 later.1 later.2 go q.fits run sound l1 (All-from_recursion (IsSample s) made.0 made.2) made.1 made.3 later.3),
+                  subst P joined (decoding_goes_on s legal b position p d skipped rest asked made.0 later.0 later.1 later.2 go q.fits run sound l1
+                      (All-from_recursion (IsSample s) made.0 made.2) made.1 made.3 later.3),
                 )
           ]
         ]

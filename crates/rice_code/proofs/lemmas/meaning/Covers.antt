@@ -71,7 +71,8 @@ run_cons s b c cs h z =
 run_stops : (s : Parameters) (b : ℕ) (c : BlockData) (cs : List BlockData) → 1 ≤ s.interval → is_zero_block c ≡ false → run_len s b (c ∷ cs) ≡ 0
 run_stops s b c cs h z = no_run_of (blocks_left s b) c cs z
 
-pub data_sets_plain : (s : Parameters) (b : ℕ) (behind : Bool) (c : BlockData) (cs : List BlockData) → is_zero_block c ≡ false → data_sets s b behind (c ∷ cs) ≡ shortest s c ∷ data_sets s (b + 1) false cs
+pub data_sets_plain : (s : Parameters) (b : ℕ) (behind : Bool) (c : BlockData) (cs : List BlockData) → is_zero_block c ≡ false
+    → data_sets s b behind (c ∷ cs) ≡ shortest s c ∷ data_sets s (b + 1) false cs
 data_sets_plain s b behind c cs e = rw e refl
 
 pub data_sets_start : (s : Parameters) (b : ℕ) (behind : Bool) (c : BlockData) (cs : List BlockData) → is_zero_block c ≡ true → (behind && not (begins_segment s b)) ≡ false →
@@ -285,7 +286,8 @@ pub record Covering (s : Parameters) (b : ℕ) (behind : Bool) (cs : List BlockD
 
 -- one block more
 covers_one_more : (s : Parameters) (b : ℕ) (behind ahead : Bool) (c : BlockData) (cs : List BlockData) → (ih : Covering s (b + 1) ahead cs) →
-    blocks_in_all s (b + skipped s b behind (c ∷ cs)) (data_sets s b behind (c ∷ cs)) ≡ drop (skipped s b behind (c ∷ cs)) (c ∷ cs) ++ replicate ih.fill (zero_block s None) → Covering s b behind (c ∷ cs)
+    blocks_in_all s (b + skipped s b behind (c ∷ cs)) (data_sets s b behind (c ∷ cs)) ≡ drop (skipped s b behind (c ∷ cs)) (c ∷ cs) ++ replicate ih.fill
+    (zero_block s None) → Covering s b behind (c ∷ cs)
 covers_one_more s b behind ahead c cs ih e =
     let n : b + 1 + length cs ≡ b + suc (length cs) = omega arith in
     let P : ℕ → Type 0 = λ x. GoOn s x ih.fill in
@@ -321,7 +323,8 @@ covers_blocks s b behind (c ∷ cs) h k =
           elim (bool_cases (behind && not (begins_segment s b))) [
             | inl go ↦
                 let n : b + suc j ≡ b + 1 + j = omega arith in
-                covers_one_more s b behind true c cs ih (at (suc j) rest ih.fill (skipped_go s b behind c cs h z go) (data_sets_inside s b behind c cs z go) (ap (λ m. blocks_in_all s m rest) n ∙ ih.blocks))
+                covers_one_more s b behind true c cs ih (at (suc j) rest ih.fill (skipped_go s b behind c cs h z go) (data_sets_inside s b behind c cs z go)
+                (ap (λ m. blocks_in_all s m rest) n ∙ ih.blocks))
             | inr stop ↦
                 let start = λ (d : CodedDataSet) (e : zero_run s b c.reference (c ∷ cs) ≡ d) (fill : ℕ) (g : blocks_in_all s (b + 0) (d ∷ rest) ≡ (c ∷ cs) ++ replicate fill (zero_block s None)).
                 at 0 (d ∷ rest) fill (skipped_stop s b behind (c ∷ cs) stop) (data_sets_start s b behind c cs z stop ∙ ap (λ v. v ∷ rest) e) g in

@@ -38,7 +38,8 @@ decoding_goes_on s legal b position p d skipped rest asked xs ys ending used go 
     let place : next + length more ≡ b + length (blocks_in_all s b (d ∷ h.sets)) = omega arith in
     let front = bits_of_set s d ++ (skipped ++ h.front) in
     let whole : bits_of_set s d ++ (skipped ++ rest) ≡ front ++ h.rest =
-    ap (λ v. bits_of_set s d ++ (skipped ++ v)) h.parts ∙ (ap (λ v. bits_of_set s d ++ v) (sym (append_assoc skipped h.front h.rest)) ∙ sym (append_assoc (bits_of_set s d) (skipped ++ h.front) h.rest)) in
+    ap (λ v. bits_of_set s d ++ (skipped ++ v)) h.parts
+    ∙ (ap (λ v. bits_of_set s d ++ v) (sym (append_assoc skipped h.front h.rest)) ∙ sym (append_assoc (bits_of_set s d) (skipped ++ h.front) h.rest)) in
     let l1 = length-append (bits_of_set s d) (skipped ++ h.front) in
     let l2 = length-append skipped h.front in
     let l3 = length-append (bits_of_set s d) skipped in

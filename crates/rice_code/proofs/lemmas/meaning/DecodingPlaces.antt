@@ -46,7 +46,8 @@ run_there s b c (ZeroBlocks r z) e h = let l = same_left s b c e in let inside :
 run_there s b c (RemainderOfSegment r) e h = tt
 
 -- what is wanted at one block by one count is wanted at another by another
-pub taken_there : (s : Parameters) (asked there : Option ℕ) (b c : ℕ) (ds : List CodedDataSet) → place s b ≡ place s c → ((i : ℕ) → IsWanted s asked (b + i) → IsWanted s there (c + i)) → AreTaken s asked b ds → AreTaken s there c ds
+pub taken_there : (s : Parameters) (asked there : Option ℕ) (b c : ℕ) (ds : List CodedDataSet) → place s b ≡ place s c
+    → ((i : ℕ) → IsWanted s asked (b + i) → IsWanted s there (c + i)) → AreTaken s asked b ds → AreTaken s there c ds
 taken_there s asked there b c [] e w h = tt
 taken_there s asked there b c (d ∷ ds) e w h =
     let n = length (blocks_in s b d) in

@@ -94,7 +94,8 @@ pub to_byte : (n : ℕ) → (n + bits_to_byte n) % 8 ≡ 0
 to_byte n = omega arith
 
 -- where the last coded data set ends an interval, the bits do with a byte
-laid_to_byte : (s : Parameters) (end b position : ℕ) (ds : List CodedDataSet) → is_padded s end ≡ true → b + length (blocks_in_all s b ds) ≡ end → (ds ≡ [] → position % 8 ≡ 0) → (position + length (layout s end b position ds)) % 8 ≡ 0
+laid_to_byte : (s : Parameters) (end b position : ℕ) (ds : List CodedDataSet) → is_padded s end ≡ true → b + length (blocks_in_all s b ds) ≡ end
+    → (ds ≡ [] → position % 8 ≡ 0) → (position + length (layout s end b position ds)) % 8 ≡ 0
 laid_to_byte s end b position [] pads reach whole = let here : position + 0 ≡ position = omega arith in ap (λ n. n % 8) here ∙ whole refl
 laid_to_byte s end b position (d ∷ ds) pads reach whole =
     let next = block_after s b d in
@@ -111,7 +112,8 @@ laid_to_byte s end b position (d ∷ ds) pads reach whole =
         let next = block_after s b d in
         let end_is : min end next ≡ end = omega (arith, ends_inside s b d ds, reach, ap (λ l. length (blocks_in_all s next l)) none) in
         let count : padding s (min end next) bits ≡ bits_to_byte bits = ap (λ m. padding s m bits) end_is ∙ ap (λ v. cond v (bits_to_byte bits) 0) pads in
-        let size : position + length (sent_first s end b position d) ≡ bits + bits_to_byte bits = omega (arith, length-append t (replicate (padding s (min end next) bits) false), length-replicate (padding s (min end next) bits) false, count) in
+        let size : position + length (sent_first s end b position d) ≡ bits + bits_to_byte bits = omega
+        (arith, length-append t (replicate (padding s (min end next) bits) false), length-replicate (padding s (min end next) bits) false, count) in
         ap (λ n. n % 8) size ∙ to_byte bits
 
 -- What is known of the code of whole intervals: their blocks, and that no run goes past the last of them.
@@ -135,7 +137,8 @@ intervals_are_whole s legal count xs h =
       begins = begins;
       len = h.len;
       count = (not_filled s n (pos 0) xs j h.len).1;
-      reach = ap (λ cs. length (blocks_in_all s 0 (data_sets s 0 false cs))) own ∙ no_zeros_past_segment s 0 (pos 0) n xs legal (zero_is_sample s legal.bits_from) h.legal h.len (interval_begins_segment s (0 + n) begins);
+      reach = ap (λ cs. length (blocks_in_all s 0 (data_sets s 0 false cs))) own
+          ∙ no_zeros_past_segment s 0 (pos 0) n xs legal (zero_is_sample s legal.bits_from) h.legal h.len (interval_begins_segment s (0 + n) begins);
       own = own;
     }
 
@@ -197,7 +200,8 @@ intervals_are_decoded_alone s legal count xs rest h =
       rest = rest;
       parts = refl;
       lie = lies_inside s (0 + block_count s (length xs)) 0 0 sets (omega (arith, w.reach, w.count));
-      taken = are_taken s (Some (length xs)) 0 false cs legal.interval_from sound (λ i lt. wanted s.block i (length cs) (length xs) j (omega (arith, lt)) (omega (arith, w.len, ap (λ n. s.block * n) size)));
+      taken = are_taken s (Some (length xs)) 0 false cs legal.interval_from sound
+          (λ i lt. wanted s.block i (length cs) (length xs) j (omega (arith, lt)) (omega (arith, w.len, ap (λ n. s.block * n) size)));
       all = xs;
       legal = h.legal;
       len = w.len ∙ ap (λ n. s.block * n) (sym w.reach);
@@ -220,9 +224,12 @@ damage_stays s legal pads m n xs ys zs damaged h k same =
     let whole_code = padded_bits (code s xs) in
     let spelled : bits_of first ≡ code s xs = bits_of-padded (code s xs) ∙ not_padded (code s xs) (code_to_byte s xs pads (intervals_are_whole s legal m xs h)) in
     let bits : bits_of ((first ++ damaged) ++ last) ≡ code s xs ++ (bits_of damaged ++ bits_of last) =
-    bits_of-append (first ++ damaged) last ∙ (ap (λ l. l ++ bits_of last) (bits_of-append first damaged ∙ ap (λ l. l ++ bits_of damaged) spelled) ∙ append_assoc (code s xs) (bits_of damaged) (bits_of last)) in
+    bits_of-append (first ++ damaged) last ∙ (ap (λ l. l ++ bits_of last) (bits_of-append first damaged ∙ ap (λ l. l ++ bits_of damaged) spelled)
+    ∙ append_assoc (code s xs) (bits_of damaged) (bits_of last)) in
     let decoded = intervals_are_decoded_alone s legal m xs (bits_of damaged ++ bits_of last) h in
-    let size : length (first ++ damaged) ≡ length (output s (xs ++ ys)) = omega (arith, ap length (padded_intervals_are_joined s legal pads m xs ys h), length-append first (output s ys), length-append first damaged, same) in (
-      subst (λ (l : List Bool). Decoded s l (Some (length xs)) xs Reached (length (bits_of first))) (sym bits) (subst (λ (l : List Bool). Decoded s (code s xs ++ (bits_of damaged ++ bits_of last)) (Some (length xs)) xs Reached (length l)) (sym spelled) decoded),
+    let size : length (first ++ damaged) ≡ length (output s (xs ++ ys)) = omega
+    (arith, ap length (padded_intervals_are_joined s legal pads m xs ys h), length-append first (output s ys), length-append first damaged, same) in (
+      subst (λ (l : List Bool). Decoded s l (Some (length xs)) xs Reached (length (bits_of first))) (sym bits)
+          (subst (λ (l : List Bool). Decoded s (code s xs ++ (bits_of damaged ++ bits_of last)) (Some (length xs)) xs Reached (length l)) (sym spelled) decoded),
       drop_at (first ++ damaged) last (length (output s (xs ++ ys))) size,
     )

@@ -47,7 +47,8 @@ residuals_at_most s i k p [] zs way len =
     empty (z ∷ zs) e = absurd (omega arith)
 residuals_at_most s i k p (x ∷ xs) zs way len = (omega arith, residuals_at_most s (i + 1) k x xs zs way len)
 
-data_at_most : (s : Parameters) (b k : ℕ) (p : ℤ) (xs zs : List ℤ) → 1 ≤ length xs → FillsLeast s k → length zs ≡ k → IsAtMost (block_data s b p (xs ++ replicate k (last_of p xs))) (block_data s b p (xs ++ zs))
+data_at_most : (s : Parameters) (b k : ℕ) (p : ℤ) (xs zs : List ℤ) → 1 ≤ length xs → FillsLeast s k → length zs ≡ k
+    → IsAtMost (block_data s b p (xs ++ replicate k (last_of p xs))) (block_data s b p (xs ++ zs))
 data_at_most s b k p [] zs some way len = absurd (omega arith)
 data_at_most s b k p (x ∷ xs) zs some way len = record { reference = refl; residuals = residuals_at_most s (s.block * b) k p (x ∷ xs) zs way len }
 
@@ -72,7 +73,8 @@ blocks_begin s b (suc zero) (suc count) k p xs ys j way few len all =
     let other : take s.block (xs ++ ys) ≡ xs ++ take k ys = ap (λ n. take n (xs ++ ys)) one ∙ take-append-add xs ys k in
     let count : length (take k ys) ≡ k = length-take-le k ys (omega (arith, one, all)) in
     let below = data_at_most s b k p xs (take k ys) (omega (arith, one, few)) way count in (
-      subst (λ (l : List ℤ). IsAtMost (block_data s b p l) (block_data s b p (take s.block (xs ++ ys)))) (sym own) (subst (λ (l : List ℤ). IsAtMost (block_data s b p (xs ++ fill)) (block_data s b p l)) (sym other) below),
+      subst (λ (l : List ℤ). IsAtMost (block_data s b p l) (block_data s b p (take s.block (xs ++ ys)))) (sym own)
+          (subst (λ (l : List ℤ). IsAtMost (block_data s b p (xs ++ fill)) (block_data s b p l)) (sym other) below),
       tt,
     )
 blocks_begin s b (suc (suc m)) (suc count) k p xs ys j way few len all =
@@ -83,8 +85,10 @@ blocks_begin s b (suc (suc m)) (suc count) k p xs ys j way few len all =
     let own = ap (λ v. blocks_from s b p (suc (suc m)) (xs ++ replicate k v)) (sym last) ∙ first_block s b (suc m) p xs (replicate k (last_of next rest)) whole in
     let other = first_block s b count p xs ys whole in
     let ih = blocks_begin s (b + 1) (suc m) count k next rest ys j way few (omega (arith, len, length-drop s.block xs, whole)) (omega (arith, all, length-drop s.block xs, whole)) in
-    let same : IsAtMost (block_data s b p (take s.block xs)) (block_data s b p (take s.block xs)) = record { reference = refl; residuals = at_most_itself (residuals s (s.block * b) p (take s.block xs)) } in
-    subst (λ l. BeginAtMost l (blocks_from s b p (suc count) (xs ++ ys))) (sym own) (subst (λ l. BeginAtMost (block_data s b p (take s.block xs) ∷ blocks_from s (b + 1) next (suc m) (rest ++ replicate k (last_of next rest))) l) (sym other) (same, ih))
+    let same : IsAtMost (block_data s b p (take s.block xs)) (block_data s b p (take s.block xs)) =
+    record { reference = refl; residuals = at_most_itself (residuals s (s.block * b) p (take s.block xs)) } in
+    subst (λ l. BeginAtMost l (blocks_from s b p (suc count) (xs ++ ys))) (sym own)
+    (subst (λ l. BeginAtMost (block_data s b p (take s.block xs) ∷ blocks_from s (b + 1) next (suc m) (rest ++ replicate k (last_of next rest))) l) (sym other) (same, ih))
 
 -- ---- and so has their code
 
@@ -107,7 +111,8 @@ fill_of n j k h e = (
 )
 
 -- the bits of the coded data sets from which samples were decoded
-pub sets_are_no_shorter : (s : Parameters) → IsLegal s → 4 ≤ s.block → (xs more : List ℤ) → (s.preprocess ≡ true) ⊎ (length xs % s.block ≡ 0) → (bits : List Bool) (asked : Option ℕ) (ending : Ending) (used : ℕ) →
+pub sets_are_no_shorter : (s : Parameters) → IsLegal s → 4 ≤ s.block → (xs more : List ℤ) → (s.preprocess ≡ true) ⊎ (length xs % s.block ≡ 0)
+    → (bits : List Bool) (asked : Option ℕ) (ending : Ending) (used : ℕ) →
     (h : Decoded s bits asked (xs ++ more) ending used) → length (code s xs) ≤ length h.front
 sets_are_no_shorter s legal size xs more way bits asked ending used h =
     let j : 1 ≤ s.block = grind (arith, legal.block) in
@@ -126,7 +131,8 @@ sets_are_no_shorter s legal size xs more way bits asked ending used h =
     let end : 0 + m ≡ 0 + length cs = omega (arith, count_blocks s 0 (pos 0) m (filled_samples s (pos 0) xs)) in
     omega (
       arith,
-      ends_no_later s (padded s) legal size (padded_is s legal.interval_from) 0 (0 + m) 0 0 cs h.sets end (omega arith) (taken_at_will s asked 0 h.sets h.taken) (subst (λ l. BeginAtMost cs l) theirs below),
+      ends_no_later s (padded s) legal size (padded_is s legal.interval_from) 0 (0 + m) 0 0 cs h.sets end (omega arith) (taken_at_will s asked 0 h.sets h.taken)
+          (subst (λ l. BeginAtMost cs l) theirs below),
       sent_padded s (0 + m) 0 0 (sets_of s xs),
       taken_padded s 0 0 h.sets h.front h.lie,
     )

@@ -33,7 +33,8 @@ begins_with_one s b d rest more legal h e =
     let P : List Bool → Type 0 = λ v. Contains v true in
     subst P (sym e) (Contains-append_left (bits_of_set s d) more true (forms_have_a_one s b d legal h))
 
-refused_here : (s : Parameters) (b : ℕ) (rest : List Bool) (used : ℕ) (P : CodedDataSet → Type 0) (d : CodedDataSet) (more : List Bool) → IsLegal s → BeginsUnsound s b rest used P → IsForm s b d → rest ≡ bits_of_set s d ++ more → P d → ⊥
+refused_here : (s : Parameters) (b : ℕ) (rest : List Bool) (used : ℕ) (P : CodedDataSet → Type 0) (d : CodedDataSet) (more : List Bool) → IsLegal s
+    → BeginsUnsound s b rest used P → IsForm s b d → rest ≡ bits_of_set s d ++ more → P d → ⊥
 refused_here s b rest used P d more legal r h e k =
     let same = forms_read_in_one_way s b d r.refused more r.more legal h r.form (sym e ∙ r.begins) in
     r.unsound (subst P same.0 k)
@@ -112,8 +113,10 @@ same_sets s asked b position m n (d ∷ ds) [] f g r q legal bm bn lf lg e tf tg
     let all : q ≡ bits_of_set s d ++ ((lf.0 ++ lf.1) ++ r) = ap (λ v. v ++ q) (sym lg) ∙ (sym e ∙ (ap (λ v. v ++ r) lf.3 ∙ append_assoc (bits_of_set s d) (lf.0 ++ lf.1) r)) in
     absurd (subst P here sq d ((lf.0 ++ lf.1) ++ r) tf.0 (tf.1, tf.2, tf.3) all)
 same_sets s asked b position m n (d ∷ ds) (c ∷ es) f g r q legal bm bn lf lg e tf tg sr sq =
-    let left : f ++ r ≡ bits_of_set s d ++ (lf.0 ++ (lf.1 ++ r)) = ap (λ v. v ++ r) lf.3 ∙ (append_assoc (bits_of_set s d) (lf.0 ++ lf.1) r ∙ ap (λ v. bits_of_set s d ++ v) (append_assoc lf.0 lf.1 r)) in
-    let right : g ++ q ≡ bits_of_set s c ++ (lg.0 ++ (lg.1 ++ q)) = ap (λ v. v ++ q) lg.3 ∙ (append_assoc (bits_of_set s c) (lg.0 ++ lg.1) q ∙ ap (λ v. bits_of_set s c ++ v) (append_assoc lg.0 lg.1 q)) in
+    let left : f ++ r ≡ bits_of_set s d ++ (lf.0 ++ (lf.1 ++ r)) = ap (λ v. v ++ r) lf.3
+    ∙ (append_assoc (bits_of_set s d) (lf.0 ++ lf.1) r ∙ ap (λ v. bits_of_set s d ++ v) (append_assoc lf.0 lf.1 r)) in
+    let right : g ++ q ≡ bits_of_set s c ++ (lg.0 ++ (lg.1 ++ q)) = ap (λ v. v ++ q) lg.3
+    ∙ (append_assoc (bits_of_set s c) (lg.0 ++ lg.1) q ∙ ap (λ v. bits_of_set s c ++ v) (append_assoc lg.0 lg.1 q)) in
     let one = forms_read_in_one_way s b d c (lf.0 ++ (lf.1 ++ r)) (lg.0 ++ (lg.1 ++ q)) legal tf.1 tg.1 (sym left ∙ (e ∙ right)) in
     let same = one.0 in
     let two = bits_read lf.0 lg.0 (lf.1 ++ r) (lg.1 ++ q) (lf.2 ∙ (ap (λ x. padding s (block_after s b x) (position + length (bits_of_set s x))) same ∙ sym lg.2)) one.1 in
@@ -160,7 +163,8 @@ same_samples s b p (suc count) xs ys legal j h k l m n e =
     let kf = all_take (IsSample s) s.block xs k in
     let lf = all_take (IsSample s) s.block ys l in
     let front = same_block s b p (take s.block xs) (take s.block ys) legal j h kf lf (length-take-le s.block xs (omega arith)) (length-take-le s.block ys (omega arith)) one in
-    let back = same_samples s (b + 1) (last_of p (take s.block xs)) count (drop s.block xs) (drop s.block ys) legal j (last_legal s p (take s.block xs) h kf) (all_drop (IsSample s) s.block xs k) (all_drop (IsSample s) s.block ys l)
+    let back = same_samples s (b + 1) (last_of p (take s.block xs)) count (drop s.block xs) (drop s.block ys) legal j (last_legal s p (take s.block xs) h kf)
+    (all_drop (IsSample s) s.block xs k) (all_drop (IsSample s) s.block ys l)
     (omega (arith, length-drop s.block xs)) (omega (arith, length-drop s.block ys)) (others ∙ ap (λ v. blocks_from s (b + 1) (last_of p v) count (drop s.block ys)) (sym front)) in
     sym (take-append-drop s.block xs) ∙ ((λ i. front i ++ back i) ∙ take-append-drop s.block ys)
   where

@@ -133,7 +133,8 @@ AreHalves k n y = ((length y.0 ≡ n) × AllByRecursion (λ m. Unit {0}) y.0) ×
 
 halves_piece : (k n : ℕ) (bits : List Bool) → Search HalvesBody (AreHalves k n) bits
 halves_piece k n bits =
-    two_pieces (flat_map fundamental_sequence) (λ hs. (length hs ≡ n) × AllByRecursion (λ m. Unit {0}) hs) (λ hs. flat_map (λ (v : List Bool). v)) (λ hs ls. (length ls ≡ n) × AllByRecursion (λ v. length v ≡ k) ls) bits
+    two_pieces (flat_map fundamental_sequence) (λ hs. (length hs ≡ n) × AllByRecursion (λ m. Unit {0}) hs) (λ hs. flat_map (λ (v : List Bool). v))
+    (λ hs ls. (length ls ≡ n) × AllByRecursion (λ v. length v ≡ k) ls) bits
     (search_pieces fundamental_sequence (λ m. Unit {0}) sequence_piece (λ v w x y h k e. (sequence_reads v w x y e).1) n bits)
     (λ hs gs x y h g e. let p = pieces_read fundamental_sequence (λ u v. u ≡ v) sequence_reads hs gs x y (h.0 ∙ sym g.0) e in (same_all hs gs p.0, p.1))
     (λ hs rest h. search_pieces (λ (v : List Bool). v) (λ v. length v ≡ k) (bits_piece k) (λ v w x y h g e. (bits_read v w x y (h ∙ sym g) e).1) n rest)
@@ -161,7 +162,8 @@ length-joined [] ls e = refl
 length-joined (h ∷ hs) [] e = absurd cc
 length-joined (h ∷ hs) (l ∷ ls) e = ap (λ n. suc n) (length-joined hs ls (omega arith))
 
-high_joined : (k : ℕ) (hs : List ℕ) (ls : List (List Bool)) → length hs ≡ length ls → AllByRecursion (λ v. length v ≡ k) ls → flat_map (λ d. fundamental_sequence (d / 2 ^ k)) (joined hs ls) ≡ flat_map fundamental_sequence hs
+high_joined : (k : ℕ) (hs : List ℕ) (ls : List (List Bool)) → length hs ≡ length ls → AllByRecursion (λ v. length v ≡ k) ls
+    → flat_map (λ d. fundamental_sequence (d / 2 ^ k)) (joined hs ls) ≡ flat_map fundamental_sequence hs
 unfolding joined
 high_joined k [] ls e h = refl
 high_joined k (h ∷ hs) [] e g = absurd cc
@@ -189,7 +191,8 @@ abbrev IsTail : Parameters → ℕ → ℕ → CodedDataSet → Type 0
 IsTail s b i d = IsForm s b d × (identifier s d ≡ i)
 
 -- from pieces of one kind to forms
-pieces_to_forms : {X : Type 0} (s : Parameters) (body : X → List Bool) (P : X → Type 0) (R : CodedDataSet → Type 0) (bits : List Bool) → ((x : X) → P x → (d : CodedDataSet) × R d × (body x ≡ tail s d)) →
+pieces_to_forms : {X : Type 0} (s : Parameters) (body : X → List Bool) (P : X → Type 0) (R : CodedDataSet → Type 0) (bits : List Bool)
+    → ((x : X) → P x → (d : CodedDataSet) × R d × (body x ≡ tail s d)) →
     ((d : CodedDataSet) → R d → (x : X) × P x × (tail s d ≡ body x)) → Search body P bits → Search (tail s) R bits
 pieces_to_forms s body P R bits to from h =
     elim h [
@@ -212,8 +215,18 @@ to_plain s b x j h =
 
 from_plain : (s : Parameters) (b : ℕ) (d : CodedDataSet) → IsTail s b (2 ^ id_len s - 1) d → (x : Option ℕ × List ℕ) × IsPlain s b x × (tail s d ≡ PlainBody s x)
 unfolding tail identifier
-from_plain s b (NoCompression c) h =
-    ((c.reference, sent_residuals c), (h.0.0.reference, (count_coded s c.reference c.residuals h.0.0.len, recursion_from_All (λ v. v < 2 ^ s.bits) (sent_residuals c) (All-coded (λ v. v < 2 ^ s.bits) c.reference c.residuals h.0.2))), refl)
+from_plain s b (NoCompression c) h = (
+  (c.reference, sent_residuals c),
+  (
+    h.0.0.reference,
+    (
+      count_coded s c.reference c.residuals h.0.0.len,
+      recursion_from_All (λ v. v < 2 ^ s.bits) (sent_residuals c)
+          (All-coded (λ v. v < 2 ^ s.bits) c.reference c.residuals h.0.2),
+    ),
+  ),
+  refl,
+)
 from_plain s b (SecondExtension c) h = let w = wide_id s in absurd (omega (arith, h.1))
 from_plain s b (Split k c) h = let w = wide_id s in let le : k ≤ 2 ^ id_len s - 3 = h.0.2 in absurd (omega (arith, h.1))
 from_plain s b (ZeroBlocks r z) h = let w = wide_id s in absurd (omega (arith, h.1))
@@ -293,14 +306,29 @@ to_run s b bits p =
     elim (cases_lt m 4) [
       | inl few ↦
           let e : run_number (m + 1) ≡ m = grind (arith, nat_tests) in
-          record { piece = ZeroBlocks r (m + 1); more = p.more; fits = ((p.fits.0, omega arith), refl); begins = ap (λ v. false ∷ v) (p.begins ∙ ap (λ v. (reference_bits s r ++ fundamental_sequence v) ++ p.more) (sym e)) }
+          record {
+            piece = ZeroBlocks r (m + 1);
+            more = p.more;
+            fits = ((p.fits.0, omega arith), refl);
+            begins = ap (λ v. false ∷ v) (p.begins ∙ ap (λ v. (reference_bits s r ++ fundamental_sequence v) ++ p.more) (sym e));
+          }
       | inr many ↦ elim (cases_lt 4 m) [
         | inl more ↦
             let e : run_number m ≡ m = grind (arith, nat_tests) in
-            record { piece = ZeroBlocks r m; more = p.more; fits = ((p.fits.0, omega arith), refl); begins = ap (λ v. false ∷ v) (p.begins ∙ ap (λ v. (reference_bits s r ++ fundamental_sequence v) ++ p.more) (sym e)) }
+            record {
+              piece = ZeroBlocks r m;
+              more = p.more;
+              fits = ((p.fits.0, omega arith), refl);
+              begins = ap (λ v. false ∷ v) (p.begins ∙ ap (λ v. (reference_bits s r ++ fundamental_sequence v) ++ p.more) (sym e));
+            }
         | inr same ↦
             let e : m ≡ 4 = omega arith in
-            record { piece = RemainderOfSegment r; more = p.more; fits = (p.fits.0, refl); begins = ap (λ v. false ∷ v) (p.begins ∙ ap (λ v. (reference_bits s r ++ fundamental_sequence v) ++ p.more) e) }
+            record {
+              piece = RemainderOfSegment r;
+              more = p.more;
+              fits = (p.fits.0, refl);
+              begins = ap (λ v. false ∷ v) (p.begins ∙ ap (λ v. (reference_bits s r ++ fundamental_sequence v) ++ p.more) e);
+            }
       ]
     ]
 

@@ -56,7 +56,8 @@ count_zeros : (s : Parameters) (r : Option ℕ) (z w : ℕ) → z ≡ suc w → 
 count_zeros s r z w e = omega (arith, length-replicate (z - 1) (zero_block s None))
 
 -- one more coded data set, and those after it
-take_one : (s : Parameters) (asked : Option ℕ) (b n : ℕ) (d : CodedDataSet) (ds : List CodedDataSet) → IsWanted s asked b → IsSound s b d → length (blocks_in s b d) ≡ suc n → AreTaken s asked (b + 1 + n) ds → AreTaken s asked b (d ∷ ds)
+take_one : (s : Parameters) (asked : Option ℕ) (b n : ℕ) (d : CodedDataSet) (ds : List CodedDataSet) → IsWanted s asked b → IsSound s b d
+    → length (blocks_in s b d) ≡ suc n → AreTaken s asked (b + 1 + n) ds → AreTaken s asked b (d ∷ ds)
 take_one s asked b n d ds go sound e h =
     let P : ℕ → Type 0 = λ m. AreTaken s asked m ds in
     let f : b + 1 + n ≡ block_after s b d = omega arith in
@@ -68,7 +69,8 @@ are_taken s asked b behind [] h k go = tt
 are_taken s asked b behind (c ∷ cs) h k go =
     let P : ℕ → Type 0 = λ n. AreTaken s asked (b + n) (data_sets s b behind (c ∷ cs)) in
     let Q : List CodedDataSet → Type 0 = λ ds. AreTaken s asked b ds in
-    let at = λ (ds : List CodedDataSet) (e : skipped s b behind (c ∷ cs) ≡ 0) (f : data_sets s b behind (c ∷ cs) ≡ ds) (g : AreTaken s asked b ds). zero_more s asked b (data_sets s b behind (c ∷ cs)) (skipped s b behind (c ∷ cs)) e (subst Q (sym f) g) in
+    let at = λ (ds : List CodedDataSet) (e : skipped s b behind (c ∷ cs) ≡ 0) (f : data_sets s b behind (c ∷ cs) ≡ ds) (g : AreTaken s asked b ds). zero_more s
+    asked b (data_sets s b behind (c ∷ cs)) (skipped s b behind (c ∷ cs)) e (subst Q (sym f) g) in
     let here : IsWanted s asked b = go b (omega arith) in
     let later = λ (i : ℕ) (lt : i < b + 1 + length cs). go i (omega arith) in
     elim (bool_cases (is_zero_block c)) [

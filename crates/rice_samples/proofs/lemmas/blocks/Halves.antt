@@ -36,7 +36,8 @@ pub sum_within : (ds : List ℕ) (k : ℕ) → cut_sum ds k ≤ cut_sum ds 0
 sum_within ds k = sum_by-le-sum_by (λ d. d / 2 ^ k) (λ d. d / 2 ^ 0) ds (λ d. let e : d / 2 ^ 0 ≡ d = omega arith in let h = div-le_self d (2 ^ k) in omega arith)
 
 -- where the sum falls by more than so much at k too, it does at each place up to k
-pub falls_more : (ds : List ℕ) (price k : ℕ) → ((j : ℕ) → j < k → cut_sum ds (j + 1) + price < cut_sum ds j) → cut_sum ds (k + 1) + price < cut_sum ds k → (j : ℕ) → j < k + 1 → cut_sum ds (j + 1) + price < cut_sum ds j
+pub falls_more : (ds : List ℕ) (price k : ℕ) → ((j : ℕ) → j < k → cut_sum ds (j + 1) + price < cut_sum ds j) → cut_sum ds (k + 1) + price < cut_sum ds k
+    → (j : ℕ) → j < k + 1 → cut_sum ds (j + 1) + price < cut_sum ds j
 falls_more ds price k falls more j h = elim (cases_lt j k) [
   | inl lt ↦ falls j lt
   | inr le ↦ let e : k ≡ j = omega arith in let f = ap (cut_sum ds) e in let g = ap (λ n. cut_sum ds (n + 1)) e in omega (arith, f, g, more)
@@ -51,7 +52,8 @@ rounds_up d p some =
 
 sum_rest : (ds : List ℕ) (k : ℕ) → cut_sum ds 0 + length ds ≤ (cut_sum ds k + length ds) * 2 ^ k
 sum_rest [] k = omega arith
-sum_rest (d ∷ ds) k = rw (sum_by-cons (λ d. d / 2 ^ 0) d ds, sum_by-cons (λ d. d / 2 ^ k) d ds) (one d (cut_sum ds 0) (length ds) (d / 2 ^ k) (cut_sum ds k) (2 ^ k) (rounds_up d (2 ^ k) (pow_pos k)) (sum_rest ds k))
+sum_rest (d ∷ ds) k = rw (sum_by-cons (λ d. d / 2 ^ 0) d ds, sum_by-cons (λ d. d / 2 ^ k) d ds)
+    (one d (cut_sum ds 0) (length ds) (d / 2 ^ k) (cut_sum ds k) (2 ^ k) (rounds_up d (2 ^ k) (pow_pos k)) (sum_rest ds k))
   where
     one : (d s n q t p : ℕ) → d + 1 ≤ (q + 1) * p → s + n ≤ (t + n) * p → d / 2 ^ 0 + s + suc n ≤ (q + t + suc n) * p
     one d s n q t p h l = omega (arith, h, l)

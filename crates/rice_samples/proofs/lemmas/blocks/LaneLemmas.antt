@@ -32,7 +32,8 @@ sum_map f (x ∷ xs) = ap (λ n. f x + n) (sum_map f xs) ∙ sym (sum_by-cons f 
 
 pub sum_limit : (k limit : ℕ) (xs : List ℕ) → ((i : ℕ) → get_or xs i 0 < limit) → sum_by (λ d. d / 2 ^ k) xs ≤ length xs * limit
 sum_limit k limit [] h = omega arith
-sum_limit k limit (x ∷ xs) h = rw (sum_by-cons (λ d. d / 2 ^ k) x xs) (one x (x / 2 ^ k) (2 ^ k) (length xs) limit (sum_by (λ d. d / 2 ^ k) xs) (div-mul-le_self x (2 ^ k)) (pow_pos k) (h 0) (sum_limit k limit xs (λ i. h (suc i))))
+sum_limit k limit (x ∷ xs) h = rw (sum_by-cons (λ d. d / 2 ^ k) x xs)
+    (one x (x / 2 ^ k) (2 ^ k) (length xs) limit (sum_by (λ d. d / 2 ^ k) xs) (div-mul-le_self x (2 ^ k)) (pow_pos k) (h 0) (sum_limit k limit xs (λ i. h (suc i))))
   where
     one : (x q p n limit s : ℕ) → q * p ≤ x → 0 < p → x < limit → s ≤ n * limit → q + s ≤ suc n * limit
     one x q zero n limit s le lt h k = absurd (omega arith)
@@ -49,7 +50,13 @@ length-map f (x ∷ xs) = ap (λ n. suc n) (length-map f xs)
 pub next_sum : (k i : ℕ) (xs total : List ℕ) → length total ≡ 8 → 8 * i + 8 ≤ length xs → sum_l total ≡ sum_by (λ d. d / 2 ^ k) (take (8 * i) xs) →
     sum_l total + sum_l (zip2 (λ d s. d / 2 ^ s) (chunk (8 * i) 8 xs) (replicate 8 k)) ≡ sum_by (λ d. d / 2 ^ k) (take (8 * (i + 1)) xs)
 next_sum k i xs total lanes room value =
-    rw (lanes_without_digits k (chunk (8 * i) 8 xs) (length-chunk (8 * i) 8 xs room), sum_map (λ d. d / 2 ^ k) (chunk (8 * i) 8 xs), take_chunk i xs, sum_by-append (λ d. d / 2 ^ k) (take (8 * i) xs) (chunk (8 * i) 8 xs), value) refl
+    rw (
+      lanes_without_digits k (chunk (8 * i) 8 xs) (length-chunk (8 * i) 8 xs room),
+      sum_map (λ d. d / 2 ^ k) (chunk (8 * i) 8 xs),
+      take_chunk i xs,
+      sum_by-append (λ d. d / 2 ^ k) (take (8 * i) xs) (chunk (8 * i) 8 xs),
+      value,
+    ) refl
 
 pub map_same : (xs : List ℕ) → map (λ d. d) xs ≡ xs
 map_same [] = refl
@@ -148,7 +155,8 @@ sums_below k i limit xs total lanes room small value =
     rw (next_sum k i xs total lanes room value)
     (let a = sum_by-take-le (λ d. d / 2 ^ k) xs (8 * (i + 1)) in omega arith)
 
-pub sums_fit : (k i : ℕ) (xs total : List ℕ) → length total ≡ 8 → 8 * i + 8 ≤ length xs → length xs ≤ 64 → ((j : ℕ) → get_or xs j 0 < 2 ^ 32) → sum_l total ≡ sum_by (λ d. d / 2 ^ k) (take (8 * i) xs) →
+pub sums_fit : (k i : ℕ) (xs total : List ℕ) → length total ≡ 8 → 8 * i + 8 ≤ length xs → length xs ≤ 64 → ((j : ℕ) → get_or xs j 0 < 2 ^ 32)
+    → sum_l total ≡ sum_by (λ d. d / 2 ^ k) (take (8 * i) xs) →
     sum_l total + sum_l (zip2 (λ d s. d / 2 ^ s) (chunk (8 * i) 8 xs) (replicate 8 k)) < 2 ^ 64
 sums_fit k i xs total lanes room few small value = sums_below k i (2 ^ 64) xs total lanes room (let b = sum_limit k (2 ^ 32) xs small in omega arith) value
 
@@ -159,7 +167,8 @@ sum_added k i xs total lanes room value = sum-zip2 total _ (lanes ∙ sym (lanes
 pub lanes_added : (k i : ℕ) (xs total : List ℕ) → length total ≡ 8 → 8 * i + 8 ≤ length xs → length (zip2 (λ a b. a + b) total (zip2 (λ d s. d / 2 ^ s) (chunk (8 * i) 8 xs) (replicate 8 k))) ≡ 8
 lanes_added k i xs total lanes room = length-zip2 (λ a b. a + b) total _ (lanes ∙ sym (lanes_shifted k i xs room)) ∙ lanes
 
-pub whole_sum : (k n : ℕ) (xs total : List ℕ) → length xs % 8 ≡ 0 → length xs / 8 ≤ n → sum_l total ≡ sum_by (λ d. d / 2 ^ k) (take (8 * n) xs) → fold_l (λ s x. s + x) 0 total ≡ sum_by (λ d. d / 2 ^ k) xs
+pub whole_sum : (k n : ℕ) (xs total : List ℕ) → length xs % 8 ≡ 0 → length xs / 8 ≤ n → sum_l total ≡ sum_by (λ d. d / 2 ^ k) (take (8 * n) xs)
+    → fold_l (λ s x. s + x) 0 total ≡ sum_by (λ d. d / 2 ^ k) xs
 whole_sum k n xs total e le value = fold-sum 0 total ∙ (omega arith ∙ (value ∙ ap (λ ys. sum_by (λ d. d / 2 ^ k) ys) (take_all n xs e le)))
 
 pub total_below : (k n limit : ℕ) (xs total : List ℕ) → sum_by (λ d. d / 2 ^ k) xs < limit → sum_l total ≡ sum_by (λ d. d / 2 ^ k) (take (8 * n) xs) → 0 + sum_l total < limit
@@ -174,7 +183,8 @@ pub Each1-map : (P : ℕ → Type 0) (f : ℕ → ℕ) (xs : List ℕ) → Each1
 Each1-map P f [] h = tt
 Each1-map P f (x ∷ xs) h = (h.0, Each1-map P f xs h.1)
 
-pub lanes_small : (k i : ℕ) (xs : List ℕ) → 8 * i + 8 ≤ length xs → ((j : ℕ) → get_or xs j 0 < 2 ^ 32) → Each1 (λ y. y * 2 ^ k ≤ 2 ^ 32 - 1) (zip2 (λ d s. d / 2 ^ s) (chunk (8 * i) 8 xs) (replicate 8 k))
+pub lanes_small : (k i : ℕ) (xs : List ℕ) → 8 * i + 8 ≤ length xs → ((j : ℕ) → get_or xs j 0 < 2 ^ 32)
+    → Each1 (λ y. y * 2 ^ k ≤ 2 ^ 32 - 1) (zip2 (λ d s. d / 2 ^ s) (chunk (8 * i) 8 xs) (replicate 8 k))
 lanes_small k i xs room small =
     rw (lanes_without_digits k (chunk (8 * i) 8 xs) (length-chunk (8 * i) 8 xs room))
     (Each1-map (λ y. y * 2 ^ k ≤ 2 ^ 32 - 1) (λ d. d / 2 ^ k) (chunk (8 * i) 8 xs)
@@ -184,7 +194,8 @@ lanes_small k i xs room small =
 pub narrow_fits : (k i : ℕ) (xs total : List ℕ) → 8 * i + 8 ≤ length xs → length xs ≤ 8 * 2 ^ k → ((j : ℕ) → get_or xs j 0 < 2 ^ 32) → Each1 (λ t. t * 2 ^ k ≤ i * (2 ^ 32 - 1)) total →
     Each2 (λ a b. Fits w32 (a + b)) total (zip2 (λ d s. d / 2 ^ s) (chunk (8 * i) 8 xs) (replicate 8 k))
 narrow_fits k i xs total room narrow small below =
-    Each2-of (λ t. t * 2 ^ k ≤ i * (2 ^ 32 - 1)) (λ y. y * 2 ^ k ≤ 2 ^ 32 - 1) (λ a b. Fits w32 (a + b)) (λ a b h l. lane a b (2 ^ k) i (length xs) (pow_pos k) room narrow h l) total _ below (lanes_small k i xs room small)
+    Each2-of (λ t. t * 2 ^ k ≤ i * (2 ^ 32 - 1)) (λ y. y * 2 ^ k ≤ 2 ^ 32 - 1) (λ a b. Fits w32 (a + b))
+    (λ a b h l. lane a b (2 ^ k) i (length xs) (pow_pos k) room narrow h l) total _ below (lanes_small k i xs room small)
   where
     lane : (a b p i n : ℕ) → 0 < p → 8 * i + 8 ≤ n → n ≤ 8 * p → a * p ≤ i * (2 ^ 32 - 1) → b * p ≤ 2 ^ 32 - 1 → Fits w32 (a + b)
     lane a b p i n some room narrow h l =
@@ -201,7 +212,8 @@ pub narrow_below : (k i : ℕ) (xs total : List ℕ) → 8 * i + 8 ≤ length xs
     Each1 (λ t. t * 2 ^ k ≤ (i + 1) * (2 ^ 32 - 1)) (zip2 (λ a b. a + b) total (zip2 (λ d s. d / 2 ^ s) (chunk (8 * i) 8 xs) (replicate 8 k)))
 narrow_below k i xs total room small below =
     Each1-zip2 (λ a b. a + b) (λ t. t * 2 ^ k ≤ (i + 1) * (2 ^ 32 - 1)) total _
-    (Each2-of (λ t. t * 2 ^ k ≤ i * (2 ^ 32 - 1)) (λ y. y * 2 ^ k ≤ 2 ^ 32 - 1) (λ a b. (a + b) * 2 ^ k ≤ (i + 1) * (2 ^ 32 - 1)) (λ a b h l. lane a b (2 ^ k) i h l) total _ below (lanes_small k i xs room small))
+    (Each2-of (λ t. t * 2 ^ k ≤ i * (2 ^ 32 - 1)) (λ y. y * 2 ^ k ≤ 2 ^ 32 - 1) (λ a b. (a + b) * 2 ^ k ≤ (i + 1) * (2 ^ 32 - 1))
+    (λ a b h l. lane a b (2 ^ k) i h l) total _ below (lanes_small k i xs room small))
   where
     lane : (a b p i : ℕ) → a * p ≤ i * (2 ^ 32 - 1) → b * p ≤ 2 ^ 32 - 1 → (a + b) * p ≤ (i + 1) * (2 ^ 32 - 1)
     lane a b p i h l = omega arith
@@ -214,10 +226,12 @@ digits_above limit i xs digits lanes room above h =
     let parts = parts_below limit digits (chunk (8 * i) 8 xs) (lanes ∙ sym (length-chunk (8 * i) 8 xs room)) h in
     rw (take_chunk i xs) (Each1-append (λ d. d ≤ limit) (take (8 * i) xs) (chunk (8 * i) 8 xs) (above limit parts.0) parts.1)
 
-pub digits_bound : (n : ℕ) (xs digits : List ℕ) → length xs % 8 ≡ 0 → length xs / 8 ≤ n → ((limit : ℕ) → Each1 (λ d. d ≤ limit) digits → Each1 (λ d. d ≤ limit) (take (8 * n) xs)) → All (λ d. d ≤ fold_l bit_or 0 digits) xs
+pub digits_bound : (n : ℕ) (xs digits : List ℕ) → length xs % 8 ≡ 0 → length xs / 8 ≤ n
+    → ((limit : ℕ) → Each1 (λ d. d ≤ limit) digits → Each1 (λ d. d ≤ limit) (take (8 * n) xs)) → All (λ d. d ≤ fold_l bit_or 0 digits) xs
 digits_bound n xs digits e le above = λ k d lt.
     let all : Each1 (λ d. d ≤ fold_l bit_or 0 digits) xs = rw (take_all n xs e le) at (above (fold_l bit_or 0 digits) (lanes_below_digits digits)) in
     Each1-get_or (λ d. d ≤ fold_l bit_or 0 digits) xs k d lt all
 
-pub sum_limited : (k n : ℕ) (xs total : List ℕ) → length xs ≤ 64 → length xs % 8 ≡ 0 → length xs / 8 ≤ n → ((j : ℕ) → get_or xs j 0 < 2 ^ 32) → sum_l total ≡ sum_by (λ d. d / 2 ^ k) (take (8 * n) xs) → fold_l (λ s x. s + x) 0 total ≤ 2 ^ 38
+pub sum_limited : (k n : ℕ) (xs total : List ℕ) → length xs ≤ 64 → length xs % 8 ≡ 0 → length xs / 8 ≤ n → ((j : ℕ) → get_or xs j 0 < 2 ^ 32)
+    → sum_l total ≡ sum_by (λ d. d / 2 ^ k) (take (8 * n) xs) → fold_l (λ s x. s + x) 0 total ≤ 2 ^ 38
 sum_limited k n xs total few e le small value = let a = whole_sum k n xs total e le value in let b = sum_limit k (2 ^ 32) xs small in omega arith

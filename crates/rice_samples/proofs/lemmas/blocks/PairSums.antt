@@ -16,7 +16,8 @@ pairs_more (suc i) (a ∷ b ∷ xs) h =
     let l : 2 * suc i + 1 ≡ suc (suc (2 * i + 1)) = omega arith in
     let left = sum_by-cons f (pair_code a b) (pair_codes (take (2 * (i + 1)) xs)) in
     let right = sum_by-cons f (pair_code a b) (pair_codes (take (2 * i) xs)) in
-    let next : sum_by f (pair_codes (take (suc (suc (2 * (i + 1)))) (a ∷ b ∷ xs))) ≡ sum_by f (pair_codes (take (suc (suc (2 * i))) (a ∷ b ∷ xs))) + (pair_code (get_or (a ∷ b ∷ xs) (suc (suc (2 * i))) 0) (get_or (a ∷ b ∷ xs) (suc (suc (2 * i + 1))) 0) + 1) =
+    let next : sum_by f (pair_codes (take (suc (suc (2 * (i + 1)))) (a ∷ b ∷ xs))) ≡ sum_by f (pair_codes (take (suc (suc (2 * i))) (a ∷ b ∷ xs)))
+    + (pair_code (get_or (a ∷ b ∷ xs) (suc (suc (2 * i))) 0) (get_or (a ∷ b ∷ xs) (suc (suc (2 * i + 1))) 0) + 1) =
     omega (arith, ih, left, right)
     in
     ap (λ n. sum_by f (pair_codes (take n (a ∷ b ∷ xs)))) e ∙ (next

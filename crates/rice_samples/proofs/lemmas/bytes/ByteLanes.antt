@@ -42,7 +42,8 @@ bytes-spelled s (suc n) o (l ∷ levels) h few e len legal =
     λ j. sym one j ++ rest j
 
 -- of the spellings the first are those of the first samples
-pub bytes-front : (s : Parameters) (n : ℕ) (levels : List ℕ) → 1 ≤ s.bits → s.bits ≤ 8 → All (λ l. l < value_count s) levels → take n (spellings s (values_at s levels)) ≡ spellings s (values_at s (take n levels))
+pub bytes-front : (s : Parameters) (n : ℕ) (levels : List ℕ) → 1 ≤ s.bits → s.bits ≤ 8 → All (λ l. l < value_count s) levels
+    → take n (spellings s (values_at s levels)) ≡ spellings s (values_at s (take n levels))
 bytes-front s zero levels h few legal = refl
 bytes-front s (suc n) [] h few legal = refl
 bytes-front s (suc n) (l ∷ levels) h few legal =

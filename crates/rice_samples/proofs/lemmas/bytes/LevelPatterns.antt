@@ -29,7 +29,8 @@ low_sum n a h =
     and_mask (a % 2 ^ 32) n ∙ (ap (λ k. a % 2 ^ k % 2 ^ n) e ∙ mod-mod-pow a (32 - n) n)
 
 -- the level of the sample with a pattern
-pub level_of_pattern : (s : Parameters) (v o greatest : ℕ) → 1 ≤ s.bits → s.bits ≤ 32 → v < value_count s → o ≡ offset s → greatest ≡ value_count s - 1 → pattern s (value_at s (bit_and ((v + o) % 2 ^ 32) greatest)) ≡ v
+pub level_of_pattern : (s : Parameters) (v o greatest : ℕ) → 1 ≤ s.bits → s.bits ≤ 32 → v < value_count s → o ≡ offset s → greatest ≡ value_count s - 1
+    → pattern s (value_at s (bit_and ((v + o) % 2 ^ 32) greatest)) ≡ v
 level_of_pattern s v o greatest h k lt e g =
     let l : bit_and ((v + o) % 2 ^ 32) greatest ≡ (v + offset s) % 2 ^ s.bits = ap (λ m. bit_and ((v + o) % 2 ^ 32) m) g ∙ (low_sum s.bits (v + o) k ∙ ap (λ m. (v + m) % 2 ^ s.bits) e) in
     ap (λ m. pattern s (value_at s m)) l ∙ pattern_of_level s v h lt
@@ -44,14 +45,17 @@ unsigned_patterns s (l ∷ levels) e = λ j. one s.signed e j ∷ unsigned_patte
     one false e = ap (twos_complement s.bits) (let z : pos 0 +ℤ pos l ≡ pos l = omega (arith, ints) in z)
 
 -- one more by its pattern
-pub one_of_pattern : (s : Parameters) (l i : ℕ) (levels vs : List ℕ) → i < length levels → i < length vs → map (pattern s) (values_at s (take i levels)) ≡ take i vs → pattern s (value_at s l) ≡ get_or vs i 0 →
+pub one_of_pattern : (s : Parameters) (l i : ℕ) (levels vs : List ℕ) → i < length levels → i < length vs
+    → map (pattern s) (values_at s (take i levels)) ≡ take i vs → pattern s (value_at s l) ≡ get_or vs i 0 →
     map (pattern s) (values_at s (take (i + 1) (slice_set levels i l))) ≡ take (i + 1) vs
 one_of_pattern s l i levels vs h k e r =
-    let values : values_at s (take (i + 1) (slice_set levels i l)) ≡ values_at s (take i levels) ++ value_at s l ∷ [] = ap (values_at s) (take_more_set levels i l h) ∙ map-append (value_at s) (take i levels) (l ∷ []) in
+    let values : values_at s (take (i + 1) (slice_set levels i l)) ≡ values_at s (take i levels) ++ value_at s l ∷ [] = ap (values_at s)
+    (take_more_set levels i l h) ∙ map-append (value_at s) (take i levels) (l ∷ []) in
     ap (map (pattern s)) values ∙ (map-append (pattern s) (values_at s (take i levels)) (value_at s l ∷ []) ∙ ((λ j. e j ++ r j ∷ []) ∙ sym (take_more vs i 0 k)))
 
 -- one more pattern
-pub one_pattern : (s : Parameters) (v i : ℕ) (now levels : List ℕ) → i < length now → i < length levels → take i now ≡ map (pattern s) (values_at s (take i levels)) → v ≡ pattern s (value_at s (get_or levels i 0)) →
+pub one_pattern : (s : Parameters) (v i : ℕ) (now levels : List ℕ) → i < length now → i < length levels
+    → take i now ≡ map (pattern s) (values_at s (take i levels)) → v ≡ pattern s (value_at s (get_or levels i 0)) →
     take (i + 1) (slice_set now i v) ≡ map (pattern s) (values_at s (take (i + 1) levels))
 one_pattern s v i now levels h k e r =
     let values : values_at s (take (i + 1) levels) ≡ values_at s (take i levels) ++ value_at s (get_or levels i 0) ∷ [] = map_more (value_at s) levels i 0 k in
@@ -74,7 +78,8 @@ level_again l o more h lt le =
         rw f (mod-mul-add parts c l lt)
 
 -- the word in which the value at a level is spelled
-pub word_of_level : (s : Parameters) (more l o : ℕ) → 1 ≤ s.bits → s.bits ≤ more → more ≤ 32 → o ≡ offset s → l < value_count s → (l + (2 ^ 32 - o)) % 2 ^ 32 % 2 ^ more ≡ twos_complement more (value_at s l)
+pub word_of_level : (s : Parameters) (more l o : ℕ) → 1 ≤ s.bits → s.bits ≤ more → more ≤ 32 → o ≡ offset s → l < value_count s
+    → (l + (2 ^ 32 - o)) % 2 ^ 32 % 2 ^ more ≡ twos_complement more (value_at s l)
 word_of_level s more l o h le few e lt =
     let x = value_at s l in
     let sample = sample_at s l lt in
@@ -83,19 +88,23 @@ word_of_level s more l o h le few e lt =
     let limit : o ≤ 2 ^ more = rw e (offset_limit s more h le) in
     let small : l < 2 ^ more = let m = pow_mono le in omega arith in
     let word = (l + (2 ^ 32 - o)) % 2 ^ 32 % 2 ^ more in
-    same_offset word (twos_complement more x) (offset s) (2 ^ more) (mod_below ((l + (2 ^ 32 - o)) % 2 ^ 32) (2 ^ more) (pow_pos more)) (pattern_fits wide x (omega arith) value) (offset_limit s more h le)
+    same_offset word (twos_complement more x) (offset s) (2 ^ more) (mod_below ((l + (2 ^ 32 - o)) % 2 ^ 32) (2 ^ more) (pow_pos more))
+    (pattern_fits wide x (omega arith) value) (offset_limit s more h le)
     (ap (λ m. (word + m) % 2 ^ more) (sym e) ∙ (level_again l o more few small limit ∙ sym (level_from_pattern s more x h le sample ∙ gap_above (least s) l)))
 
 -- the pattern of the sample at a level
-pub pattern_at_level : (s : Parameters) (l o greatest : ℕ) → 1 ≤ s.bits → s.bits ≤ 32 → l < value_count s → o ≡ offset s → greatest ≡ value_count s - 1 → bit_and ((l + (2 ^ 32 - o)) % 2 ^ 32) greatest ≡ pattern s (value_at s l)
+pub pattern_at_level : (s : Parameters) (l o greatest : ℕ) → 1 ≤ s.bits → s.bits ≤ 32 → l < value_count s → o ≡ offset s → greatest ≡ value_count s - 1
+    → bit_and ((l + (2 ^ 32 - o)) % 2 ^ 32) greatest ≡ pattern s (value_at s l)
 pattern_at_level s l o greatest h k lt e g =
     ap (λ m. bit_and ((l + (2 ^ 32 - o)) % 2 ^ 32) m) g ∙ (and_mask ((l + (2 ^ 32 - o)) % 2 ^ 32) s.bits ∙ word_of_level s s.bits l o h (omega arith) k e lt)
 
 -- the level that is read from a word tells the word, also where it is not legal
-pub level_of_word : (s : Parameters) (more word o : ℕ) → 1 ≤ s.bits → s.bits ≤ more → more ≤ 32 → o ≡ offset s → word < 2 ^ more → twos_complement more (value_at s ((word + o) % 2 ^ 32 % 2 ^ more)) ≡ word
+pub level_of_word : (s : Parameters) (more word o : ℕ) → 1 ≤ s.bits → s.bits ≤ more → more ≤ 32 → o ≡ offset s → word < 2 ^ more
+    → twos_complement more (value_at s ((word + o) % 2 ^ 32 % 2 ^ more)) ≡ word
 level_of_word s more word o h le few e lt =
     let all : 32 ≡ 32 - more + more = omega arith in
-    let low : (word + o) % 2 ^ 32 % 2 ^ more ≡ (word + offset s) % 2 ^ more = ap (λ k. (word + o) % 2 ^ k % 2 ^ more) all ∙ (mod-mod-pow (word + o) (32 - more) more ∙ ap (λ m. (word + m) % 2 ^ more) e) in
+    let low : (word + o) % 2 ^ 32 % 2 ^ more ≡ (word + offset s) % 2 ^ more = ap (λ k. (word + o) % 2 ^ k % 2 ^ more) all
+    ∙ (mod-mod-pow (word + o) (32 - more) more ∙ ap (λ m. (word + m) % 2 ^ more) e) in
     ap (λ l. twos_complement more (value_at s l)) low ∙ by_sign s.signed
   where
     halves : (half count : ℕ) → count ≡ 2 ^ more → half ≤ count → 0 < half → word < count → twos_complement more (neg_ℤ (pos half) +ℤ pos ((word + half) % count)) ≡ word

@@ -17,7 +17,8 @@ reads_levels s bytes levels i legal spelled stop =
     }
 
 -- where all are legal
-pub reads_all : (s : Parameters) (bytes levels : List ℕ) → length bytes ≡ width s * length levels → All (λ l. l < value_count s) levels → bytes ≡ spellings s (values_at s levels) → ReadsSamples s bytes (values_at s levels) (length levels)
+pub reads_all : (s : Parameters) (bytes levels : List ℕ) → length bytes ≡ width s * length levels → All (λ l. l < value_count s) levels
+    → bytes ≡ spellings s (values_at s levels) → ReadsSamples s bytes (values_at s levels) (length levels)
 reads_all s bytes levels len legal spelled =
     let n = length levels in
     let all : take n levels ≡ levels = take_all n levels (omega arith) in
@@ -25,7 +26,8 @@ reads_all s bytes levels len legal spelled =
     reads_levels s bytes levels n (subst (All (λ l. l < value_count s)) (sym all) legal) (whole ∙ (spelled ∙ ap (λ v. spellings s (values_at s v)) (sym all))) (λ h. absurd (omega (arith, h)))
 
 -- bytes that are those of no sample spell none
-pub no_spelling : (s : Parameters) (w i : ℕ) (bytes : List ℕ) → w ≡ width s → ((x : ℤ) → IsSample s x → take (w * i + w - w * i) (drop (w * i) bytes) ≢ spelling s x) → IsNoSpelling s (drop (width s * i) bytes)
+pub no_spelling : (s : Parameters) (w i : ℕ) (bytes : List ℕ) → w ≡ width s
+    → ((x : ℤ) → IsSample s x → take (w * i + w - w * i) (drop (w * i) bytes) ≢ spelling s x) → IsNoSpelling s (drop (width s * i) bytes)
 no_spelling s w i bytes e h = λ x sample spells.
     let m : w * i + w - w * i ≡ width s = omega (arith, e) in
     h x sample ((λ j. take (m j) (drop (e j * i) bytes)) ∙ spells)

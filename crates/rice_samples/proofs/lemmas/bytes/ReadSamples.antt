@@ -26,8 +26,10 @@ one_read f value w i bytes levels l h e g =
     let n : w * (i + 1) ≡ w * i + w = omega arith in
     let m : w * i + w - w * i ≡ w = omega arith in
     let last : take w (drop (w * i) bytes) ≡ f (value l) = ap (λ v. take v (drop (w * i) bytes)) (sym m) ∙ g in
-    let values : map value (take (i + 1) (slice_set levels i l)) ≡ map value (take i levels) ++ value l ∷ [] = ap (map value) (take_more_set levels i l h) ∙ map-append value (take i levels) (l ∷ []) in
-    let all : flat_map f (map value (take (i + 1) (slice_set levels i l))) ≡ flat_map f (map value (take i levels)) ++ f (value l) = ap (flat_map f) values ∙ flat_map-push f (map value (take i levels)) (value l) in
+    let values : map value (take (i + 1) (slice_set levels i l)) ≡ map value (take i levels) ++ value l ∷ [] = ap (map value) (take_more_set levels i l h)
+    ∙ map-append value (take i levels) (l ∷ []) in
+    let all : flat_map f (map value (take (i + 1) (slice_set levels i l))) ≡ flat_map f (map value (take i levels)) ++ f (value l) = ap (flat_map f) values
+    ∙ flat_map-push f (map value (take i levels)) (value l) in
     ap (λ v. take v bytes) n ∙ (take-add (w * i) w bytes ∙ ((λ j. e j ++ last j) ∙ sym all))
 
 -- one sample more is legal
@@ -35,7 +37,8 @@ pub one_legal : {X : Type 0} (P : X → Type 0) (i : ℕ) (xs : List X) (x : X) 
 one_legal P i xs x h all p = subst (All P) (sym (take_more_set xs i x h)) (All-push P (take i xs) x all p)
 
 -- the bytes of one more value, by its level
-pub one_written : (f : ℤ → List ℕ) (value : ℕ → ℤ) (w i k : ℕ) (bytes ys levels : List ℕ) → i < length levels → length bytes ≡ w * length levels → length ys ≡ w → take (w * i) bytes ≡ flat_map f (map value (take i levels)) →
+pub one_written : (f : ℤ → List ℕ) (value : ℕ → ℤ) (w i k : ℕ) (bytes ys levels : List ℕ) → i < length levels → length bytes ≡ w * length levels → length ys ≡ w
+    → take (w * i) bytes ≡ flat_map f (map value (take i levels)) →
     ys ≡ f (value (get_or levels i 0)) → take (w * (i + 1)) (put_mid (w * i) k bytes ys) ≡ flat_map f (map value (take (i + 1) levels))
 one_written f value w i k bytes ys levels h len one e g =
     let n : w * (i + 1) ≡ w * i + length ys = omega (arith, one) in

@@ -36,7 +36,8 @@ none_so_far s old w =
     }
 
 -- one sample more was spelled
-pub one_more : (s : Parameters) (old now new one one_new : List ℕ) (w at : ℕ) → (h : SpelledSoFar s old now at) → at + w ≤ length old → length now ≡ length old → one ≡ take w (drop at now) → SpellsOne s one one_new
+pub one_more : (s : Parameters) (old now new one one_new : List ℕ) (w at : ℕ) → (h : SpelledSoFar s old now at) → at + w ≤ length old → length now ≡ length old
+    → one ≡ take w (drop at now) → SpellsOne s one one_new
     → new ≡ take at now ++ (one_new ++ drop (at + w) now) → SpelledSoFar s old new (at + w)
 one_more s old now new one one_new w at h within len one_is d wrote =
     let front = spellings s h.samples in
@@ -48,7 +49,9 @@ one_more s old now new one one_new w at h within len one_is d wrote =
     record {
       words = h.words ++ d.word ∷ [];
       samples = h.samples ++ d.sample ∷ [];
-      carries = take-add at w old ∙ (λ i. h.carries i ++ word i) ∙ ap (λ l. bytes_of_words s h.words ++ l) (sym (append-nil (ordered_bytes s.msb (width s) d.word))) ∙ sym (flat_map-append (ordered_bytes s.msb (width s)) h.words (d.word ∷ []));
+      carries = take-add at w old ∙ (λ i. h.carries i ++ word i)
+          ∙ ap (λ l. bytes_of_words s h.words ++ l) (sym (append-nil (ordered_bytes s.msb (width s) d.word)))
+          ∙ sym (flat_map-append (ordered_bytes s.msb (width s)) h.words (d.word ∷ []));
       fit = All-push (λ w. w < 2 ^ (8 * width s)) h.words d.word h.fit d.fits;
       legal = All-push (IsSample s) h.samples d.sample h.legal d.legal;
       patterns = map-append (pattern s) h.samples (d.sample ∷ []) ∙ (λ i. h.patterns i ++ d.pattern_is i ∷ []) ∙ sym (map-append (λ w. w % value_count s) h.words (d.word ∷ []));

@@ -34,7 +34,8 @@ signed_digits bits d h lt = halves (2 ^ (bits - 1)) (half_pow bits h) (pow_pos (
               let n : d + suc half ≡ 2 * suc half * 1 + (d - suc half) = omega arith in
               let l : (d - suc half) % (2 * suc half) ≡ d - suc half = mod-eq_of_lt (omega (arith, lt, e)) in
               let m : (d + suc half) % (2 * suc half) ≡ d - suc half = ap (λ k. k % (2 * suc half)) n ∙ (mul-add-mod_self_left (2 * suc half) 1 (d - suc half) ∙ l) in
-              let v : pos ((d + suc half) % (2 * suc half)) -ℤ pos (suc half) ≡ negsuc (2 ^ bits - suc d) = ap (λ k. pos k -ℤ pos (suc half)) m ∙ pos_minus_greater (d - suc half) (suc half) (2 ^ bits - suc d) (omega (arith, lt, e, high)) in
+              let v : pos ((d + suc half) % (2 * suc half)) -ℤ pos (suc half) ≡ negsuc (2 ^ bits - suc d) = ap (λ k. pos k -ℤ pos (suc half)) m
+              ∙ pos_minus_greater (d - suc half) (suc half) (2 ^ bits - suc d) (omega (arith, lt, e, high)) in
               rw v (omega (arith, lt))
         ]
 
@@ -43,7 +44,8 @@ pub wider_value : (bits more : ℕ) (signed : Bool) (x : ℤ) → 1 ≤ bits →
 wider_value bits more true x h le k =
     halves (2 ^ (bits - 1)) (2 ^ bits) (2 ^ (more - 1)) (2 ^ more) x (half_pow bits h) (half_pow more (omega arith)) (pow_pos (bits - 1)) (pow_mono {i = bits - 1} {j = more - 1} (omega arith)) k.0 k.1
   where
-    halves : (half count half' count' : ℕ) (x : ℤ) → count ≡ half + half → count' ≡ half' + half' → 0 < half → half ≤ half' → neg_ℤ (pos half) ≤ℤ x → int_gap (neg_ℤ (pos half)) x < count → (neg_ℤ (pos half') ≤ℤ x) × (int_gap (neg_ℤ (pos half')) x < count')
+    halves : (half count half' count' : ℕ) (x : ℤ) → count ≡ half + half → count' ≡ half' + half' → 0 < half → half ≤ half' → neg_ℤ (pos half) ≤ℤ x
+        → int_gap (neg_ℤ (pos half)) x < count → (neg_ℤ (pos half') ≤ℤ x) × (int_gap (neg_ℤ (pos half')) x < count')
     halves zero count half' count' x e f some le k l = absurd (omega arith)
     halves (suc half) count zero count' x e f some le k l = absurd (omega arith)
     halves (suc half) count (suc half') count' (pos v) e f some le k l = (omega (arith, ints), omega (arith, ints))
@@ -101,7 +103,8 @@ same_word false k v w h le hv hw e = same_low k v w h le hv hw e
 pub value_limits : (signed : Bool) (bits more : ℕ) (x : ℤ) → 1 ≤ bits → bits ≤ more → IsValue bits signed x → (neg_ℤ (pos (2 ^ more)) ≤ℤ x) × (x <ℤ pos (2 ^ more))
 value_limits true bits more x h le k = halves (2 ^ (bits - 1)) (2 ^ bits) (2 ^ more) x (half_pow bits h) (pow_pos (bits - 1)) (pow_mono le) k.0 k.1
   where
-    halves : (half count limit : ℕ) (x : ℤ) → count ≡ half + half → 0 < half → count ≤ limit → neg_ℤ (pos half) ≤ℤ x → int_gap (neg_ℤ (pos half)) x < count → (neg_ℤ (pos limit) ≤ℤ x) × (x <ℤ pos limit)
+    halves : (half count limit : ℕ) (x : ℤ) → count ≡ half + half → 0 < half → count ≤ limit → neg_ℤ (pos half) ≤ℤ x → int_gap (neg_ℤ (pos half)) x < count
+        → (neg_ℤ (pos limit) ≤ℤ x) × (x <ℤ pos limit)
     halves zero count limit x e some le k l = absurd (omega arith)
     halves (suc half) count limit (pos v) e some le k l = (omega (arith, ints), omega (arith, ints))
     halves (suc half) count limit (negsuc v) e some le k l = (omega (arith, ints), omega (arith, ints))
@@ -116,7 +119,11 @@ pub mod_once : (n c : ℕ) → n < c + c → ((n % c ≡ n) × (n < c)) ⊎ ((n 
 mod_once n c h =
     elim (cases_lt n c) [
       | inl lt ↦ inl (mod-eq_of_lt lt, lt)
-      | inr ge ↦ inr (let e : n ≡ c * 1 + (n - c) = omega arith in let f : n % c ≡ (n - c) % c = ap (λ v. v % c) e ∙ mul-add-mod_self_left c 1 (n - c) in let g : (n - c) % c ≡ n - c = mod-eq_of_lt (omega arith) in omega arith, ge)
+      | inr ge ↦ inr (
+        let e : n ≡ c * 1 + (n - c) = omega arith in let f : n % c ≡ (n - c) % c = ap (λ v. v % c) e ∙ mul-add-mod_self_left c 1 (n - c) in
+            let g : (n - c) % c ≡ n - c = mod-eq_of_lt (omega arith) in omega arith,
+        ge,
+      )
     ]
 
 -- the level of a sample, from its pattern of so many bits or more
@@ -170,10 +177,12 @@ spelled_level s bytes msb k word o x legal m f w n holds from b lt hx e =
     same_offset word (twos_complement (8 * k) x) (offset s) (2 ^ (8 * k)) fits below (offset_limit s (8 * k) legal.bits_from holds)
     (ap (λ v. (word + v) % 2 ^ (8 * k)) (sym f) ∙ (sym e ∙ sym (level_from_pattern s (8 * k) x legal.bits_from holds hx)))
     in
-    b ∙ (ap (λ v. ordered_bytes v (length bytes) word) m ∙ (ap (λ v. ordered_bytes s.msb v word) n ∙ (ap (λ v. ordered_bytes s.msb (width s) v) same ∙ ap (λ v. ordered_bytes s.msb (width s) (twos_complement (8 * v) x)) w)))
+    b ∙ (ap (λ v. ordered_bytes v (length bytes) word) m
+    ∙ (ap (λ v. ordered_bytes s.msb v word) n ∙ (ap (λ v. ordered_bytes s.msb (width s) v) same ∙ ap (λ v. ordered_bytes s.msb (width s) (twos_complement (8 * v) x)) w)))
 
 -- bytes that spell a sample tell its level
-pub level_spelled : (s : Parameters) (bytes : List ℕ) (msb : Bool) (k word o : ℕ) (y : ℤ) → IsLegal s → msb ≡ s.msb → o ≡ offset s → k ≡ width s → length bytes ≡ width s → s.bits ≤ 8 * k → 1 ≤ k → k ≤ 4 →
+pub level_spelled : (s : Parameters) (bytes : List ℕ) (msb : Bool) (k word o : ℕ) (y : ℤ) → IsLegal s → msb ≡ s.msb → o ≡ offset s → k ≡ width s
+    → length bytes ≡ width s → s.bits ≤ 8 * k → 1 ≤ k → k ≤ 4 →
     bytes ≡ ordered_bytes msb (length bytes) word → word < 2 ^ (8 * length bytes) → IsSample s y → bytes ≡ spelling s y → (word + o) % 2 ^ (8 * k) ≡ level s y
 level_spelled s bytes msb k word o y legal m f w n holds from to b lt hy e =
     let len : length bytes ≡ k = n ∙ sym w in

@@ -66,7 +66,8 @@ pair_more msb a b bs la lb h = record {
     parts false = refl
 
 -- four bytes more
-four_more : (msb : Bool) (a b c d : ℕ) (bs : List ℕ) → a < 2 ^ 8 → b < 2 ^ 8 → c < 2 ^ 8 → d < 2 ^ 8 → OrdersWords msb 4 bs (in_fours msb bs) → OrdersWords msb 4 (a ∷ b ∷ c ∷ d ∷ bs) (in_fours msb (a ∷ b ∷ c ∷ d ∷ bs))
+four_more : (msb : Bool) (a b c d : ℕ) (bs : List ℕ) → a < 2 ^ 8 → b < 2 ^ 8 → c < 2 ^ 8 → d < 2 ^ 8 → OrdersWords msb 4 bs (in_fours msb bs)
+    → OrdersWords msb 4 (a ∷ b ∷ c ∷ d ∷ bs) (in_fours msb (a ∷ b ∷ c ∷ d ∷ bs))
 four_more msb a b c d bs la lb lc ld h = record {
   words = v ∷ h.words;
   count = omega (arith, h.count);
@@ -121,7 +122,8 @@ pairs_ordered msb zero [] len fit = record { words = []; count = refl; fit = All
 pairs_ordered msb zero (a ∷ bs) len fit = absurd (omega (arith, len))
 pairs_ordered msb (suc n) [] len fit = absurd (omega (arith, len))
 pairs_ordered msb (suc n) (a ∷ []) len fit = absurd (omega (arith, len))
-pairs_ordered msb (suc n) (a ∷ b ∷ bs) len fit = pair_more msb a b bs (fit 0 0 (omega arith)) (fit 1 0 (omega arith)) (pairs_ordered msb n bs (omega (arith, len)) (λ i d lt. fit (suc (suc i)) d (omega (arith, lt))))
+pairs_ordered msb (suc n) (a ∷ b ∷ bs) len fit = pair_more msb a b bs (fit 0 0 (omega arith)) (fit 1 0 (omega arith))
+    (pairs_ordered msb n bs (omega (arith, len)) (λ i d lt. fit (suc (suc i)) d (omega (arith, lt))))
 
 -- words of four bytes are ordered four by four
 fours_ordered : (msb : Bool) (n : ℕ) (bs : List ℕ) → length bs ≡ 4 * n → All (λ v. v < 2 ^ 8) bs → OrdersWords msb 4 bs (in_fours msb bs)
@@ -162,7 +164,8 @@ turned_words msb w bs ordered e m len fit is =
     subst (λ t. OrdersWords t w bs ordered) (sym m) (subst (λ k. OrdersWords false k bs ordered) (sym e) (subst (λ l. OrdersWords false 4 bs l) (sym is) (fours_ordered false 4 bs len fit)))
 
 pub fours_turned : (xs : List ℕ) → length xs ≡ 16 → pick_l 0 (xs ++ xs) (3 ∷ 2 ∷ 1 ∷ 0 ∷ 7 ∷ 6 ∷ 5 ∷ 4 ∷ 11 ∷ 10 ∷ 9 ∷ 8 ∷ 15 ∷ 14 ∷ 13 ∷ 12 ∷ []) ≡ turned_in_fours xs
-fours_turned xs n = sixteen_lanes (λ xs. pick_l 0 (xs ++ xs) (3 ∷ 2 ∷ 1 ∷ 0 ∷ 7 ∷ 6 ∷ 5 ∷ 4 ∷ 11 ∷ 10 ∷ 9 ∷ 8 ∷ 15 ∷ 14 ∷ 13 ∷ 12 ∷ []) ≡ turned_in_fours xs) (λ a0 a1 a2 a3 a4 a5 a6 a7 a8 a9 a10 a11 a12 a13 a14 a15. refl) xs n
+fours_turned xs n = sixteen_lanes (λ xs. pick_l 0 (xs ++ xs) (3 ∷ 2 ∷ 1 ∷ 0 ∷ 7 ∷ 6 ∷ 5 ∷ 4 ∷ 11 ∷ 10 ∷ 9 ∷ 8 ∷ 15 ∷ 14 ∷ 13 ∷ 12 ∷ []) ≡ turned_in_fours xs)
+    (λ a0 a1 a2 a3 a4 a5 a6 a7 a8 a9 a10 a11 a12 a13 a14 a15. refl) xs n
 
 pub length-turned : (xs : List ℕ) → length xs ≡ 16 → length (turned_in_fours xs) ≡ 16
 length-turned xs n = sixteen_lanes (λ xs. length (turned_in_fours xs) ≡ 16) (λ a0 a1 a2 a3 a4 a5 a6 a7 a8 a9 a10 a11 a12 a13 a14 a15. refl) xs n

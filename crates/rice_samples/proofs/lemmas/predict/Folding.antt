@@ -9,7 +9,8 @@ same_rest now xs i h k e =
     let heads : slice_index_or now i 0 ∷ drop (i + 1) now ≡ slice_index_or xs i 0 ∷ drop (i + 1) xs = sym (drop_more now i 0 h) ∙ (e ∙ drop_more xs i 0 k) in
     (cc, cc)
 
-pub one_rank : (count p before r i : ℕ) (now xs : List ℕ) → i < length now → i < length xs → ranks_below count p xs ≡ take i now ++ ranks_below count before (drop i xs) → drop i now ≡ drop i xs → r ≡ rank_below count before (slice_index_or now i 0) →
+pub one_rank : (count p before r i : ℕ) (now xs : List ℕ) → i < length now → i < length xs
+    → ranks_below count p xs ≡ take i now ++ ranks_below count before (drop i xs) → drop i now ≡ drop i xs → r ≡ rank_below count before (slice_index_or now i 0) →
     ranks_below count p xs ≡ take (i + 1) (slice_set now i r) ++ ranks_below count (slice_index_or now i 0) (drop (i + 1) xs)
 one_rank count p before r i now xs h k folded rest e =
     let x = slice_index_or xs i 0 in
@@ -19,7 +20,8 @@ one_rank count p before r i now xs h k folded rest e =
     let b : rank_below count before x ≡ r = ap (λ v. rank_below count before v) (sym same.0) ∙ sym e in
     let c : take i now ++ rank_below count before x ∷ more ≡ take i now ++ r ∷ more = ap (λ v. take i now ++ v ∷ more) b in
     let d : take (i + 1) (slice_set now i r) ++ more ≡ take i now ++ r ∷ more = ap (λ v. v ++ more) (take_more_set now i r h) ∙ append_assoc (take i now) (r ∷ []) more in
-    let f : take (i + 1) (slice_set now i r) ++ more ≡ take (i + 1) (slice_set now i r) ++ ranks_below count (slice_index_or now i 0) (drop (i + 1) xs) = ap (λ v. take (i + 1) (slice_set now i r) ++ ranks_below count v (drop (i + 1) xs)) (sym same.0) in
+    let f : take (i + 1) (slice_set now i r) ++ more ≡ take (i + 1) (slice_set now i r) ++ ranks_below count (slice_index_or now i 0) (drop (i + 1) xs) = ap
+    (λ v. take (i + 1) (slice_set now i r) ++ ranks_below count v (drop (i + 1) xs)) (sym same.0) in
     a ∙ (c ∙ (sym d ∙ f))
 
 pub rest_after : (now xs : List ℕ) (i r : ℕ) → i < length now → i < length xs → drop i now ≡ drop i xs → drop (i + 1) (slice_set now i r) ≡ drop (i + 1) xs

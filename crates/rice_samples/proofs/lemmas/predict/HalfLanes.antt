@@ -63,7 +63,8 @@ last_is p (suc n) (x ∷ []) e = absurd (omega (arith, e))
 last_is p (suc n) (x ∷ y ∷ xs) e = last_is x n (y ∷ xs) (omega (arith, e))
 
 -- the levels of both halves
-pub halves_are : (s : Parameters) (before width greatest last : ℕ) (highs lows first second : List ℕ) → greatest + 1 ≡ value_count s → length highs ≡ 16 → length lows ≡ 16 → length first ≡ 8 → length second ≡ 8
+pub halves_are : (s : Parameters) (before width greatest last : ℕ) (highs lows first second : List ℕ) → greatest + 1 ≡ value_count s → length highs ≡ 16
+    → length lows ≡ 16 → length first ≡ 8 → length second ≡ 8
     → last ≡ get_or first 7 0 → All (λ x. x ≤ greatest) first → All (λ x. x ≤ greatest) second
     → ranks_below (greatest + 1) before first ≡ joined_parts width (take 8 highs) (take 8 lows) → ranks_below (greatest + 1) last second ≡ joined_parts width (drop 8 highs) (drop 8 lows)
     → AreNearLevels s before width highs lows (first ++ second)
@@ -133,7 +134,8 @@ high-spelled s (suc n) o (l ∷ levels) h wide few order e len legal =
 
 -- pairs in a vector
 pub pairs_swapped : (xs : List ℕ) → length xs ≡ 16 → pick_l 0 (xs ++ xs) (1 ∷ 0 ∷ 3 ∷ 2 ∷ 5 ∷ 4 ∷ 7 ∷ 6 ∷ 9 ∷ 8 ∷ 11 ∷ 10 ∷ 13 ∷ 12 ∷ 15 ∷ 14 ∷ []) ≡ swapped xs
-pairs_swapped xs n = sixteen_lanes (λ xs. pick_l 0 (xs ++ xs) (1 ∷ 0 ∷ 3 ∷ 2 ∷ 5 ∷ 4 ∷ 7 ∷ 6 ∷ 9 ∷ 8 ∷ 11 ∷ 10 ∷ 13 ∷ 12 ∷ 15 ∷ 14 ∷ []) ≡ swapped xs) (λ a0 a1 a2 a3 a4 a5 a6 a7 a8 a9 a10 a11 a12 a13 a14 a15. refl) xs n
+pairs_swapped xs n = sixteen_lanes (λ xs. pick_l 0 (xs ++ xs) (1 ∷ 0 ∷ 3 ∷ 2 ∷ 5 ∷ 4 ∷ 7 ∷ 6 ∷ 9 ∷ 8 ∷ 11 ∷ 10 ∷ 13 ∷ 12 ∷ 15 ∷ 14 ∷ []) ≡ swapped xs)
+    (λ a0 a1 a2 a3 a4 a5 a6 a7 a8 a9 a10 a11 a12 a13 a14 a15. refl) xs n
 
 pub first_eight : (xs : List ℕ) → length xs ≡ 16 → pick_l 0 (xs ++ xs) (0 ∷ 1 ∷ 2 ∷ 3 ∷ 4 ∷ 5 ∷ 6 ∷ 7 ∷ []) ≡ take 8 xs
 first_eight xs n = sixteen_lanes (λ xs. pick_l 0 (xs ++ xs) (0 ∷ 1 ∷ 2 ∷ 3 ∷ 4 ∷ 5 ∷ 6 ∷ 7 ∷ []) ≡ take 8 xs) (λ a0 a1 a2 a3 a4 a5 a6 a7 a8 a9 a10 a11 a12 a13 a14 a15. refl) xs n
@@ -150,4 +152,5 @@ words_below (suc n) o (l ∷ levels) = (omega arith, words_below n o levels)
 
 pub words_parted : (o : ℕ) (levels : List ℕ) → length levels ≡ 8
     → digits_l 256 16 (number_l 65536 (zip2 (λ a b. (a + (65536 - b)) % 65536) levels (replicate 8 o))) ≡ parted (zip2 (λ a b. (a + (65536 - b)) % 65536) levels (replicate 8 o))
-words_parted o levels len = bytes_of 8 (zip2 (λ a b. (a + (65536 - b)) % 65536) levels (replicate 8 o)) (length-zip2 (λ a b. (a + (65536 - b)) % 65536) levels (replicate 8 o) len ∙ len) (words_below 8 o levels)
+words_parted o levels len = bytes_of 8 (zip2 (λ a b. (a + (65536 - b)) % 65536) levels (replicate 8 o))
+    (length-zip2 (λ a b. (a + (65536 - b)) % 65536) levels (replicate 8 o) len ∙ len) (words_below 8 o levels)

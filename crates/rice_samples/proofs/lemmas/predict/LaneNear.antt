@@ -125,13 +125,16 @@ pub all_near : (n m g p : ℕ) (ds bs xs before over : List ℕ) → p ≤ g →
     → over ≡ zip2 (λ d b. d - b) ds bs → over ≡ replicate n 0 → All (λ x. x ≤ g) xs × (ranks_below (g + 1) p xs ≡ ds)
 all_near n m g p ds bs xs before over h k len numbers shifted bounds are test =
     let all : bs ≡ map (bound m g) (take (length ds) (p ∷ near_numbers m p ds)) = bounds ∙ (ap (map (bound m g)) shifted ∙ (λ j. map (bound m g) (take (sym len j) (p ∷ numbers j)))) in
-    let many : length ds ≡ length bs = len ∙ sym (ap length bounds ∙ (length-map (bound m g) before ∙ (ap length shifted ∙ length-take-le n (p ∷ xs) (omega (arith, len, ap length numbers, length-near_numbers m p ds))))) in
+    let many : length ds ≡ length bs = len ∙ sym
+    (ap length bounds ∙ (length-map (bound m g) before
+    ∙ (ap length shifted ∙ length-take-le n (p ∷ xs) (omega (arith, len, ap length numbers, length-near_numbers m p ds))))) in
     let each = no_excess_within n ds bs many (sym are ∙ test) in
     let near = near_ranks m g p ds h k (subst (λ (ys : List ℕ). Each2 (λ d b. d ≤ b) ds ys) all each) in
     subst (λ (ys : List ℕ). All (λ x. x ≤ g) ys × (ranks_below (g + 1) p ys ≡ ds)) (sym numbers) ((λ i d lt. Each1-get_or (λ x. x ≤ g) (near_numbers m p ds) i d lt near.0), near.1)
 
 pub none_above : (n most : ℕ) (ms over : List ℕ) → over ≡ zip2 (λ d b. d - b) ms (replicate n most) → length ms ≡ n → over ≡ replicate n 0 → All (λ m. m ≤ most) ms
-none_above n most ms over are len test = λ i d lt. Each1-get_or (λ m. m ≤ most) ms i d lt (each n ms len (no_excess_within n ms (replicate n most) (len ∙ sym (length-replicate n most)) (sym are ∙ test)))
+none_above n most ms over are len test = λ i d lt. Each1-get_or (λ m. m ≤ most) ms i d lt
+    (each n ms len (no_excess_within n ms (replicate n most) (len ∙ sym (length-replicate n most)) (sym are ∙ test)))
   where
     each : (n : ℕ) (ms : List ℕ) → length ms ≡ n → Each2 (λ d b. d ≤ b) ms (replicate n most) → Each1 (λ m. m ≤ most) ms
     each n [] e h = tt
@@ -164,7 +167,8 @@ bounds-fit w g xs bs e = subst (λ (ys : List ℕ). Each1 (Fits w) ys) (sym e) (
     each [] = tt
     each (x ∷ xs) = (record { fits = mod_below (reach (2 ^ bits w) g x + reach (2 ^ bits w) g x) (2 ^ bits w) (pow_pos (bits w)) }, each xs)
 
-pub near_levels_are : (s : Parameters) (m before width greatest : ℕ) (highs lows ranks levels : List ℕ) → greatest + 1 ≡ value_count s → length ranks ≡ length highs → levels ≡ near_numbers m before ranks
+pub near_levels_are : (s : Parameters) (m before width greatest : ℕ) (highs lows ranks levels : List ℕ) → greatest + 1 ≡ value_count s
+    → length ranks ≡ length highs → levels ≡ near_numbers m before ranks
     → ranks ≡ joined_parts width highs lows → All (λ x. x ≤ greatest) levels → ranks_below (greatest + 1) before levels ≡ ranks
     → AreNearLevels s before width highs lows levels
 near_levels_are s m before width greatest highs lows ranks levels count len near joined legal ranked = record {

@@ -37,7 +37,8 @@ one_rank g p x h hp hx = grind (arith, nat_tests)
 pub lanes_ranked : (g n : ℕ) (ps xs : List ℕ) → g < 65536 → length ps ≡ n → length xs ≡ n → Each1 (λ p. p ≤ g) ps → Each1 (λ x. x ≤ g) xs →
     let down = zip2 (λ x y. x - y) ps xs in
     let up = zip2 (λ x y. x - y) xs ps in
-    zip2 wrapped_add (zip2 wrapped_add down up) (zip2 min (zip2 wrapped_add up (zip2 (λ x y. x - y) down (replicate n 1))) (zip2 min ps (zip2 wrapped_sub (replicate n g) ps))) ≡ zip2 (rank_below (g + 1)) ps xs
+    zip2 wrapped_add (zip2 wrapped_add down up)
+    (zip2 min (zip2 wrapped_add up (zip2 (λ x y. x - y) down (replicate n 1))) (zip2 min ps (zip2 wrapped_sub (replicate n g) ps))) ≡ zip2 (rank_below (g + 1)) ps xs
 lanes_ranked g zero [] xs h e f hp hx = refl
 lanes_ranked g zero (p ∷ ps) xs h e f hp hx = absurd (omega arith)
 lanes_ranked g (suc n) [] xs h e f hp hx = absurd (omega arith)

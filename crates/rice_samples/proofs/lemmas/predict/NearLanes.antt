@@ -57,21 +57,27 @@ abbrev ways_of : Width → List ℕ → List ℕ
 ways_of w ds = zip2 bit_xor (zip2 (λ d s. d / 2 ^ s) ds (replicate 8 1)) (zip2 (λ a b. (a + (2 ^ bits w - b)) % 2 ^ bits w) (replicate 8 0) (zip2 bit_and ds (replicate 8 1)))
 
 pub ways_are : (w : Width) (ds : List ℕ) → length ds ≡ 8 → Each1 (Fits w) ds → ways_of w ds ≡ map (way (2 ^ bits w)) ds
-ways_are w ds n fits = eight_lanes (λ ds. Each1 (Fits w) ds → ways_of w ds ≡ map (way (2 ^ bits w)) ds) (λ a b c d e f g h. λ k. λ j. way_lane (bits w) a k.0.fits j ∷ way_lane (bits w) b k.1.0.fits j ∷ way_lane (bits w) c k.1.1.0.fits j ∷ way_lane (bits w) d k.1.1.1.0.fits j ∷ way_lane (bits w) e k.1.1.1.1.0.fits j ∷ way_lane (bits w) f k.1.1.1.1.1.0.fits j ∷ way_lane (bits w) g k.1.1.1.1.1.1.0.fits j ∷ way_lane (bits w) h k.1.1.1.1.1.1.1.0.fits j ∷ []) ds n fits
+ways_are w ds n fits = eight_lanes (λ ds. Each1 (Fits w) ds → ways_of w ds ≡ map (way (2 ^ bits w)) ds)
+    (λ a b c d e f g h. λ k. λ j. way_lane (bits w) a k.0.fits j ∷ way_lane (bits w) b k.1.0.fits j ∷ way_lane (bits w) c k.1.1.0.fits j ∷ way_lane (bits w) d
+    k.1.1.1.0.fits j ∷ way_lane (bits w) e k.1.1.1.1.0.fits j ∷ way_lane (bits w) f k.1.1.1.1.1.0.fits j ∷ way_lane (bits w) g k.1.1.1.1.1.1.0.fits j ∷ way_lane
+    (bits w) h k.1.1.1.1.1.1.1.0.fits j ∷ []) ds n fits
 
 -- sums
 
 pub sums_of_two : (m : ℕ) (xs : List ℕ) → length xs ≡ 8 →
     zip2 (λ x y. (x + y) % m) xs (0 ∷ get_or xs 0 0 ∷ get_or xs 1 0 ∷ get_or xs 2 0 ∷ get_or xs 3 0 ∷ get_or xs 4 0 ∷ get_or xs 5 0 ∷ get_or xs 6 0 ∷ []) ≡ sums_behind m 1 xs
-sums_of_two m xs n = eight_lanes (λ xs. zip2 (λ x y. (x + y) % m) xs (0 ∷ get_or xs 0 0 ∷ get_or xs 1 0 ∷ get_or xs 2 0 ∷ get_or xs 3 0 ∷ get_or xs 4 0 ∷ get_or xs 5 0 ∷ get_or xs 6 0 ∷ []) ≡ sums_behind m 1 xs) (λ a b c d e f g h. refl) xs n
+sums_of_two m xs n = eight_lanes (λ xs. zip2 (λ x y. (x + y) % m) xs
+    (0 ∷ get_or xs 0 0 ∷ get_or xs 1 0 ∷ get_or xs 2 0 ∷ get_or xs 3 0 ∷ get_or xs 4 0 ∷ get_or xs 5 0 ∷ get_or xs 6 0 ∷ []) ≡ sums_behind m 1 xs) (λ a b c d e f g h. refl) xs n
 
 pub sums_of_four : (m : ℕ) (xs : List ℕ) → length xs ≡ 8 →
     zip2 (λ x y. (x + y) % m) xs (0 ∷ 0 ∷ get_or xs 0 0 ∷ get_or xs 1 0 ∷ get_or xs 2 0 ∷ get_or xs 3 0 ∷ get_or xs 4 0 ∷ get_or xs 5 0 ∷ []) ≡ sums_behind m 2 xs
-sums_of_four m xs n = eight_lanes (λ xs. zip2 (λ x y. (x + y) % m) xs (0 ∷ 0 ∷ get_or xs 0 0 ∷ get_or xs 1 0 ∷ get_or xs 2 0 ∷ get_or xs 3 0 ∷ get_or xs 4 0 ∷ get_or xs 5 0 ∷ []) ≡ sums_behind m 2 xs) (λ a b c d e f g h. refl) xs n
+sums_of_four m xs n = eight_lanes (λ xs. zip2 (λ x y. (x + y) % m) xs
+    (0 ∷ 0 ∷ get_or xs 0 0 ∷ get_or xs 1 0 ∷ get_or xs 2 0 ∷ get_or xs 3 0 ∷ get_or xs 4 0 ∷ get_or xs 5 0 ∷ []) ≡ sums_behind m 2 xs) (λ a b c d e f g h. refl) xs n
 
 pub sums_of_eight : (m : ℕ) (xs : List ℕ) → length xs ≡ 8 →
     zip2 (λ x y. (x + y) % m) xs (0 ∷ 0 ∷ 0 ∷ 0 ∷ get_or xs 0 0 ∷ get_or xs 1 0 ∷ get_or xs 2 0 ∷ get_or xs 3 0 ∷ []) ≡ sums_behind m 4 xs
-sums_of_eight m xs n = eight_lanes (λ xs. zip2 (λ x y. (x + y) % m) xs (0 ∷ 0 ∷ 0 ∷ 0 ∷ get_or xs 0 0 ∷ get_or xs 1 0 ∷ get_or xs 2 0 ∷ get_or xs 3 0 ∷ []) ≡ sums_behind m 4 xs) (λ a b c d e f g h. refl) xs n
+sums_of_eight m xs n = eight_lanes (λ xs. zip2 (λ x y. (x + y) % m) xs (0 ∷ 0 ∷ 0 ∷ 0 ∷ get_or xs 0 0 ∷ get_or xs 1 0 ∷ get_or xs 2 0 ∷ get_or xs 3 0 ∷ [])
+    ≡ sums_behind m 4 xs) (λ a b c d e f g h. refl) xs n
 
 -- in each lane the sum of all ways up to its own
 lane0 : (m p a : ℕ) → ((((a + 0) % m + 0) % m + 0) % m + p) % m ≡ (p + a) % m
@@ -95,7 +101,8 @@ lane5 m p a b c d e f = simp (mod-add-mod, add-mod-mod) (ap (λ x. x % m) (omega
 lane6 : (m p a b c d e f g : ℕ) → ((((g + f) % m + (e + d) % m) % m + ((c + b) % m + (a + 0) % m) % m) % m + p) % m ≡ (((((((p + a) % m + b) % m + c) % m + d) % m + e) % m + f) % m + g) % m
 lane6 m p a b c d e f g = simp (mod-add-mod, add-mod-mod) (ap (λ x. x % m) (omega arith))
 
-lane7 : (m p a b c d e f g h : ℕ) → ((((h + g) % m + (f + e) % m) % m + ((d + c) % m + (b + a) % m) % m) % m + p) % m ≡ ((((((((p + a) % m + b) % m + c) % m + d) % m + e) % m + f) % m + g) % m + h) % m
+lane7 : (m p a b c d e f g h : ℕ) → ((((h + g) % m + (f + e) % m) % m + ((d + c) % m + (b + a) % m) % m) % m + p) % m
+    ≡ ((((((((p + a) % m + b) % m + c) % m + d) % m + e) % m + f) % m + g) % m + h) % m
 lane7 m p a b c d e f g h = simp (mod-add-mod, add-mod-mod) (ap (λ x. x % m) (omega arith))
 
 abbrev sums_from : ℕ → ℕ → List ℕ → List ℕ
@@ -108,7 +115,8 @@ sums_are m p ds n = eight_lanes (λ ds. sums_from m p ds ≡ near_numbers m p ds
         zip2 (λ x y. (x + y) % m) (sums_behind m 4 (sums_behind m 2 (sums_behind m 1 (a ∷ b ∷ c ∷ d ∷ e ∷ f ∷ g ∷ h ∷ [])))) (replicate 8 p)
         ≡ (let x0 = (p + a) % m in let x1 = (x0 + b) % m in let x2 = (x1 + c) % m in let x3 = (x2 + d) % m in let x4 = (x3 + e) % m in let x5 = (x4 + f) % m in let x6 = (x5 + g) % m in
         x0 ∷ x1 ∷ x2 ∷ x3 ∷ x4 ∷ x5 ∷ x6 ∷ (x6 + h) % m ∷ [])
-    lanes a b c d e f g h = λ j. lane0 m p a j ∷ lane1 m p a b j ∷ lane2 m p a b c j ∷ lane3 m p a b c d j ∷ lane4 m p a b c d e j ∷ lane5 m p a b c d e f j ∷ lane6 m p a b c d e f g j ∷ lane7 m p a b c d e f g h j ∷ []
+    lanes a b c d e f g h = λ j. lane0 m p a j ∷ lane1 m p a b j ∷ lane2 m p a b c j ∷ lane3 m p a b c d j ∷ lane4 m p a b c d e j ∷ lane5 m p a b c d e f j
+        ∷ lane6 m p a b c d e f g j ∷ lane7 m p a b c d e f g h j ∷ []
 
 pub length-near_numbers : (m p : ℕ) (ds : List ℕ) → length (near_numbers m p ds) ≡ length ds
 length-near_numbers m p [] = refl
@@ -116,7 +124,8 @@ length-near_numbers m p (d ∷ ds) = ap (λ n. suc n) (length-near_numbers m ((p
 
 pub all_before : (p : ℕ) (xs : List ℕ) → length xs ≡ 8 →
     (p ∷ get_or xs 0 0 ∷ get_or xs 1 0 ∷ get_or xs 2 0 ∷ get_or xs 3 0 ∷ get_or xs 4 0 ∷ get_or xs 5 0 ∷ get_or xs 6 0 ∷ []) ≡ take 8 (p ∷ xs)
-all_before p xs n = eight_lanes (λ xs. (p ∷ get_or xs 0 0 ∷ get_or xs 1 0 ∷ get_or xs 2 0 ∷ get_or xs 3 0 ∷ get_or xs 4 0 ∷ get_or xs 5 0 ∷ get_or xs 6 0 ∷ []) ≡ take 8 (p ∷ xs)) (λ a b c d e f g h. refl) xs n
+all_before p xs n = eight_lanes (λ xs. (p ∷ get_or xs 0 0 ∷ get_or xs 1 0 ∷ get_or xs 2 0 ∷ get_or xs 3 0 ∷ get_or xs 4 0 ∷ get_or xs 5 0 ∷ get_or xs 6 0 ∷ [])
+    ≡ take 8 (p ∷ xs)) (λ a b c d e f g h. refl) xs n
 
 -- bounds
 
@@ -153,7 +162,8 @@ bounds_are w g xs n =
 
 -- the test
 
-no_excess_within : (m : ℕ) (ds bs : List ℕ) → Each1 (λ d. d < m) ds → Each1 (λ b. b < m) bs → length ds ≡ length bs → Each1 (λ x. x ≤ 0) (zip2 (λ a b. (a + (m - b)) % m) (zip2 max ds bs) bs) → Each2 (λ d b. d ≤ b) ds bs
+no_excess_within : (m : ℕ) (ds bs : List ℕ) → Each1 (λ d. d < m) ds → Each1 (λ b. b < m) bs → length ds ≡ length bs
+    → Each1 (λ x. x ≤ 0) (zip2 (λ a b. (a + (m - b)) % m) (zip2 max ds bs) bs) → Each2 (λ d b. d ≤ b) ds bs
 no_excess_within m [] bs h k n t = tt
 no_excess_within m (d ∷ ds) [] h k n t = absurd (omega arith)
 no_excess_within m (d ∷ ds) (b ∷ bs) h k n t = (one d b h.0 k.0 t.0, no_excess_within m ds bs h.1 k.1 (omega arith) t.1)
@@ -213,7 +223,8 @@ bounds_below m g [] h = tt
 bounds_below m g (x ∷ xs) h = (mod_below (reach m g x + reach m g x) m h, bounds_below m g xs h)
 
 -- where no rank is above its bound, all numbers are the ones with these ranks
-pub all_near : (w : Width) (g p : ℕ) (ds bs xs before : List ℕ) → p ≤ g → g < 2 ^ bits w → length ds ≡ 8 → Each1 (Fits w) ds → xs ≡ near_numbers (2 ^ bits w) p ds → before ≡ take 8 (p ∷ xs) → bs ≡ map (bound (2 ^ bits w) g) before
+pub all_near : (w : Width) (g p : ℕ) (ds bs xs before : List ℕ) → p ≤ g → g < 2 ^ bits w → length ds ≡ 8 → Each1 (Fits w) ds
+    → xs ≡ near_numbers (2 ^ bits w) p ds → before ≡ take 8 (p ∷ xs) → bs ≡ map (bound (2 ^ bits w) g) before
     → (fold_l bit_or 0 (zip2 (λ a b. (a + (2 ^ bits w - b)) % 2 ^ bits w) (sel_l (masks w ds bs) bs ds) bs) == 0) ≡ true
     → All (λ x. x ≤ g) xs × (ranks_below (g + 1) p xs ≡ ds)
 all_near w g p ds bs xs before h k n fits numbers shifted bounds test =
@@ -222,15 +233,19 @@ all_near w g p ds bs xs before h k n fits numbers shifted bounds test =
     let test' : (fold_l bit_or 0 over == 0) ≡ true = ap (λ ys. fold_l bit_or 0 (zip2 (λ a b. (a + (2 ^ bits w - b)) % 2 ^ bits w) ys bs) == 0) (sym most) ∙ test in
     let none : fold_l bit_or 0 over ≡ 0 = grind (arith, nat_tests) in
     let zeros = subst (λ (m : ℕ). Each1 (λ x. x ≤ m) over) none (lanes_below_digits over) in
-    let all : bs ≡ map (bound (2 ^ bits w) g) (take (length ds) (p ∷ near_numbers (2 ^ bits w) p ds)) = bounds ∙ (ap (map (bound (2 ^ bits w) g)) shifted ∙ (λ j. map (bound (2 ^ bits w) g) (take (sym n j) (p ∷ numbers j)))) in
+    let all : bs ≡ map (bound (2 ^ bits w) g) (take (length ds) (p ∷ near_numbers (2 ^ bits w) p ds)) = bounds
+    ∙ (ap (map (bound (2 ^ bits w) g)) shifted ∙ (λ j. map (bound (2 ^ bits w) g) (take (sym n j) (p ∷ numbers j)))) in
     let below = subst (λ (ys : List ℕ). Each1 (λ b. b < 2 ^ bits w) ys) (sym bounds) (bounds_below (2 ^ bits w) g before (pow_pos (bits w))) in
-    let many : length ds ≡ length bs = n ∙ sym (ap length bounds ∙ (length-map (bound (2 ^ bits w) g) before ∙ (ap length shifted ∙ length-take-le 8 (p ∷ xs) (omega (arith, n, ap length numbers, length-near_numbers (2 ^ bits w) p ds))))) in
+    let many : length ds ≡ length bs = n ∙ sym
+    (ap length bounds ∙ (length-map (bound (2 ^ bits w) g) before
+    ∙ (ap length shifted ∙ length-take-le 8 (p ∷ xs) (omega (arith, n, ap length numbers, length-near_numbers (2 ^ bits w) p ds))))) in
     let each = no_excess_within (2 ^ bits w) ds bs (Each1-weaker (Fits w) (λ d. d < 2 ^ bits w) (λ d f. f.fits) ds fits) below many zeros in
     let near = near_ranks (2 ^ bits w) g p ds h k (subst (λ (ys : List ℕ). Each2 (λ d b. d ≤ b) ds ys) all each) in
     subst (λ (ys : List ℕ). All (λ x. x ≤ g) ys × (ranks_below (g + 1) p ys ≡ ds)) (sym numbers) ((λ i d lt. Each1-get_or (λ x. x ≤ g) (near_numbers (2 ^ bits w) p ds) i d lt near.0), near.1)
 
 -- near numbers are restored
-pub near_restored : (count greatest m p : ℕ) (levels ds numbers : List ℕ) → length levels ≡ length ds → length ds ≡ 8 → greatest + 1 ≡ count → numbers ≡ near_numbers m p (take 8 ds) → All (λ x. x ≤ greatest) numbers
+pub near_restored : (count greatest m p : ℕ) (levels ds numbers : List ℕ) → length levels ≡ length ds → length ds ≡ 8 → greatest + 1 ≡ count
+    → numbers ≡ near_numbers m p (take 8 ds) → All (λ x. x ≤ greatest) numbers
     → ranks_below (greatest + 1) p numbers ≡ take 8 ds → All (λ l. l < count) (put_chunk 0 levels numbers) × (ranks_below count p (put_chunk 0 levels numbers) ≡ ds)
 near_restored count greatest m p levels ds numbers len n above near fit ranked =
     let whole : take 8 ds ≡ ds = take_all 8 ds (omega arith) in

@@ -15,7 +15,8 @@ use Rattle.rice_samples.proofs.lemmas.setting.Levels.{half_pow, same_level}
 -- the lowest digits of a small number in 64 bits
 pub low_digits : (bits : ℕ) (x : ℤ) → bits ≤ 32 → neg_ℤ (pos (2 ^ bits)) ≤ℤ x → x <ℤ pos (2 ^ bits) → cast_unsigned w64 x % 2 ^ bits ≡ twos_complement bits x
 low_digits bits (pos v) few from below = mod-eq_of_lt (omega (arith, ints))
-low_digits bits (negsuc v) few from below = negative (2 ^ (64 - bits)) (2 ^ bits) v (let e : 64 ≡ 64 - bits + bits = omega arith in sym (ap (λ n. 2 ^ n) e ∙ pow-add 2 (64 - bits) bits)) (pow_pos (64 - bits)) (omega (arith, ints))
+low_digits bits (negsuc v) few from below = negative (2 ^ (64 - bits)) (2 ^ bits) v
+    (let e : 64 ≡ 64 - bits + bits = omega arith in sym (ap (λ n. 2 ^ n) e ∙ pow-add 2 (64 - bits) bits)) (pow_pos (64 - bits)) (omega (arith, ints))
   where
     negative : (parts p v : ℕ) → parts * p ≡ 2 ^ 64 → 0 < parts → v < p → (2 ^ 64 - suc v) % p ≡ p - 1 - v
     negative zero p v e some lt = absurd (omega arith)
@@ -69,7 +70,8 @@ same_residuals s i p (x ∷ xs) (y ∷ ys) n h k l r e =
 pub inside_block : (s : Parameters) (b t : ℕ) → 1 ≤ t → t < s.block → is_reference_sample s (s.block * b + t) ≡ false
 inside_block s b t h lt =
     let m : (s.block * b + t) % s.block ≡ t = mul-add-mod_self_left s.block b t ∙ mod-eq_of_lt lt in
-    ap (λ v. is_reference s ((s.block * b + t) / s.block) && (v == 0)) m ∙ (ap (λ v. is_reference s ((s.block * b + t) / s.block) && v) (some t h) ∙ never (is_reference s ((s.block * b + t) / s.block)))
+    ap (λ v. is_reference s ((s.block * b + t) / s.block) && (v == 0)) m
+    ∙ (ap (λ v. is_reference s ((s.block * b + t) / s.block) && v) (some t h) ∙ never (is_reference s ((s.block * b + t) / s.block)))
   where
     some : (t : ℕ) → 1 ≤ t → (t == 0) ≡ false
     some t h = grind (arith, nat_tests)

@@ -24,7 +24,8 @@ pub record AreRestored (count before i reached : ℕ) (levels ds : List ℕ) : T
   pub within : reached < count
 
 -- one more by its residual
-pub restored-more : (count before i reached next above : ℕ) (levels ds : List ℕ) → i < length levels → i < length ds → AreRestored count before i reached levels ds → next < count → above ≡ count → rank_below above reached next ≡ get_or ds i 0
+pub restored-more : (count before i reached next above : ℕ) (levels ds : List ℕ) → i < length levels → i < length ds
+    → AreRestored count before i reached levels ds → next < count → above ≡ count → rank_below above reached next ≡ get_or ds i 0
     → AreRestored count before (i + 1) next (slice_set levels i next) ds
 restored-more count before i reached next above levels ds h k so_far within same ranked =
     let more = take_more_set levels i next h in
@@ -57,7 +58,8 @@ pub last_taken : (p n m : ℕ) (xs : List ℕ) (d : ℕ) → m ≡ n + 1 → n <
 last_taken p n m xs d e h = sym (ap (λ k. last_number p (take k xs)) e ∙ (ap (last_number p) (take_more xs n d h) ∙ last_number-push p (take n xs) (get_or xs n d)))
 
 -- up to `m` from the place `a`, with `last` as the last one
-pub restored-row : (count before a k m last reached : ℕ) (levels ys ds : List ℕ) → length ys ≡ k → m ≡ a + k → m ≡ last + 1 → m ≤ length levels → AreRestored count before a reached levels ds → All (λ l. l < count) ys
+pub restored-row : (count before a k m last reached : ℕ) (levels ys ds : List ℕ) → length ys ≡ k → m ≡ a + k → m ≡ last + 1 → m ≤ length levels
+    → AreRestored count before a reached levels ds → All (λ l. l < count) ys
     → ranks_below count reached ys ≡ take k (drop a ds) → AreRestored count before m (get_or (put_mid a k levels ys) last 0) (put_mid a k levels ys) ds
 restored-row count before a k m last reached levels ys ds n e f room so_far small ranked =
     let now = put_mid a k levels ys in

@@ -37,7 +37,8 @@ fits_unsigned n (negsuc v) h k = absurd (omega (arith, ints))
 pub pattern_fits : (s : Parameters) (x : ℤ) → 1 ≤ s.bits → IsSample s x → pattern s x < value_count s
 pattern_fits s x h k = by_sign s.signed s.bits x h k.0 k.1
   where
-    by_sign : (signed : Bool) (n : ℕ) (x : ℤ) → 1 ≤ n → cond signed (neg_ℤ (pos (2 ^ (n - 1)))) (pos 0) ≤ℤ x → int_gap (cond signed (neg_ℤ (pos (2 ^ (n - 1)))) (pos 0)) x < 2 ^ n → twos_complement n x < 2 ^ n
+    by_sign : (signed : Bool) (n : ℕ) (x : ℤ) → 1 ≤ n → cond signed (neg_ℤ (pos (2 ^ (n - 1)))) (pos 0) ≤ℤ x
+        → int_gap (cond signed (neg_ℤ (pos (2 ^ (n - 1)))) (pos 0)) x < 2 ^ n → twos_complement n x < 2 ^ n
     by_sign true n x h l g = fits_signed n (2 ^ (n - 1)) x (half_pow n h) (pow_pos (n - 1)) l g
     by_sign false n x h l g = fits_unsigned n x l g
 

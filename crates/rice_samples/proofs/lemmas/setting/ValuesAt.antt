@@ -38,7 +38,8 @@ last_at p d (x ∷ y ∷ ys) h =
 pub last_value : (s : Parameters) (p : ℤ) (ls : List ℕ) → 0 < length ls → value_at s (slice_index_or ls (length ls - 1) 0) ≡ last_of p (values_at s ls)
 last_value s p ls h =
     let len = length-values s ls in
-    let last : slice_index_or (values_at s ls) (length (values_at s ls) - 1) (pos 0) ≡ value_at s (slice_index_or ls (length ls - 1) 0) = ap (λ n. slice_index_or (values_at s ls) (n - 1) (pos 0)) len ∙ get_or-map (value_at s) ls (length ls - 1) 0 (pos 0) (omega arith) in
+    let last : slice_index_or (values_at s ls) (length (values_at s ls) - 1) (pos 0) ≡ value_at s (slice_index_or ls (length ls - 1) 0) = ap
+    (λ n. slice_index_or (values_at s ls) (n - 1) (pos 0)) len ∙ get_or-map (value_at s) ls (length ls - 1) 0 (pos 0) (omega arith) in
     sym (last_at p (pos 0) (values_at s ls) (omega (arith, len)) ∙ last)
 
 -- different levels are of different values

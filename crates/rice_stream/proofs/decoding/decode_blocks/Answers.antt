@@ -27,7 +27,8 @@ write_block-requires-clause-legal g c =
     let mid = c.next_bytes.new in
     let same = c.next_bytes.ensures.none c.if-next_bytes.false in
     let runs = progress_unchanged same.0 same.1 same.2 i.runs in
-    let a = decoder_advances mid.reader new.reader mid.meter new.meter mid.decoder new.self s new.levels.items runs.at_block.setting (ap Ok c.in-Block.is) c.in-Ok-next_levels.ensures.in_run c.in-Ok-next_levels.ensures.reads in
+    let a = decoder_advances mid.reader new.reader mid.meter new.meter mid.decoder new.self s new.levels.items runs.at_block.setting (ap Ok c.in-Block.is)
+    c.in-Ok-next_levels.ensures.in_run c.in-Ok-next_levels.ensures.reads in
     let block = samples_of_block s runs.at_block.setting runs.at_block.going a in
     few_legal s c.wanted-count.result new.levels.items _ c.as_slice.ensures.value block.legal
 
@@ -45,7 +46,8 @@ returns-in-Err-next_levels-clause-call g c =
     let mid = c.next_bytes.new in
     let same = c.next_bytes.ensures.none c.if-next_bytes.false in
     let runs = progress_unchanged same.0 same.1 same.2 i.runs in
-    let a = decoder_advances mid.reader new.reader mid.meter new.meter mid.decoder new.self s new.levels.items runs.at_block.setting refl c.in-Err-next_levels.ensures.in_run c.in-Err-next_levels.ensures.reads in
+    let a = decoder_advances mid.reader new.reader mid.meter new.meter mid.decoder new.self s new.levels.items runs.at_block.setting refl
+    c.in-Err-next_levels.ensures.in_run c.in-Err-next_levels.ensures.reads in
     let some = block_is_wanted c.args.asked old.written c.wanted-count.ensures.value c.block-block.ensures.value c.if-count-eq0.false in
     let tells = reports_as (ap Some (c.fault_of-fault.ensures ∙ ap (refusal_fault c.in-Err-next_levels.fault old.written) c.block-block.ensures.value)) c.ended-in-Err-next_levels.ensures.reports in
     let legal = c.block-block.ensures.legal in
@@ -60,7 +62,8 @@ returns-in-Err-next_levels-clause-failures g c =
     let mid = c.next_bytes.new in
     let same = c.next_bytes.ensures.none c.if-next_bytes.false in
     let runs = progress_unchanged same.0 same.1 same.2 i.runs in
-    let a = decoder_advances mid.reader new.reader mid.meter new.meter mid.decoder new.self s new.levels.items runs.at_block.setting refl c.in-Err-next_levels.ensures.in_run c.in-Err-next_levels.ensures.reads in
+    let a = decoder_advances mid.reader new.reader mid.meter new.meter mid.decoder new.self s new.levels.items runs.at_block.setting refl
+    c.in-Err-next_levels.ensures.in_run c.in-Err-next_levels.ensures.reads in
     let tells = reports_as (ap Some (c.fault_of-fault.ensures ∙ ap (refusal_fault c.in-Err-next_levels.fault old.written) c.block-block.ensures.value)) c.ended-in-Err-next_levels.ensures.reports in
     refusal_fails c.in-Err-next_levels.fault runs (stops_in_no_run c.block-block.ensures.legal runs a) i.writes tells
 
@@ -73,7 +76,8 @@ returns-in-Done-clause-call g c =
     let mid = c.next_bytes.new in
     let same = c.next_bytes.ensures.none c.if-next_bytes.false in
     let runs = progress_unchanged same.0 same.1 same.2 i.runs in
-    let a = decoder_advances mid.reader new.reader mid.meter new.meter mid.decoder new.self s new.levels.items runs.at_block.setting (ap Ok c.in-Done.is) c.in-Ok-next_levels.ensures.in_run c.in-Ok-next_levels.ensures.reads in
+    let a = decoder_advances mid.reader new.reader mid.meter new.meter mid.decoder new.self s new.levels.items runs.at_block.setting (ap Ok c.in-Done.is)
+    c.in-Ok-next_levels.ensures.in_run c.in-Ok-next_levels.ensures.reads in
     let some = block_is_wanted c.args.asked old.written c.wanted-count.ensures.value c.block-block.ensures.value c.if-count-eq0.false in
     let tells = reports_as c.end_of.ensures c.ended-in-Done.ensures.reports in
     let ends = decoding_is_done c.block-block.ensures.legal runs a in
@@ -88,7 +92,8 @@ returns-in-Done-clause-failures g c =
     let mid = c.next_bytes.new in
     let same = c.next_bytes.ensures.none c.if-next_bytes.false in
     let runs = progress_unchanged same.0 same.1 same.2 i.runs in
-    let a = decoder_advances mid.reader new.reader mid.meter new.meter mid.decoder new.self s new.levels.items runs.at_block.setting (ap Ok c.in-Done.is) c.in-Ok-next_levels.ensures.in_run c.in-Ok-next_levels.ensures.reads in
+    let a = decoder_advances mid.reader new.reader mid.meter new.meter mid.decoder new.self s new.levels.items runs.at_block.setting (ap Ok c.in-Done.is)
+    c.in-Ok-next_levels.ensures.in_run c.in-Ok-next_levels.ensures.reads in
     let tells = reports_as c.end_of.ensures c.ended-in-Done.ensures.reports in
     done_fails runs (decoding_is_done c.block-block.ensures.legal runs a) i.writes tells
 
@@ -101,11 +106,13 @@ returns-in-Err-write_block-clause-call g c =
     let mid = c.next_bytes.new in
     let same = c.next_bytes.ensures.none c.if-next_bytes.false in
     let runs = progress_unchanged same.0 same.1 same.2 i.runs in
-    let a = decoder_advances mid.reader new.reader mid.meter new.meter mid.decoder new.self s new.levels.items runs.at_block.setting (ap Ok c.in-Block.is) c.in-Ok-next_levels.ensures.in_run c.in-Ok-next_levels.ensures.reads in
+    let a = decoder_advances mid.reader new.reader mid.meter new.meter mid.decoder new.self s new.levels.items runs.at_block.setting (ap Ok c.in-Block.is)
+    c.in-Ok-next_levels.ensures.in_run c.in-Ok-next_levels.ensures.reads in
     let some = block_is_wanted c.args.asked old.written c.wanted-count.ensures.value c.block-block.ensures.value c.if-count-eq0.false in
     let is = c.wanted-count.ensures.value ∙ ap (wanted_of c.args.asked old.written) c.block-block.ensures.value in
     let legal = c.block-block.ensures.legal in
-    let part = subst (λ (l : List ℕ). TakesPart (g.O.Outlet.taken old.outlet) (g.O.Outlet.taken c.write_block.new.outlet) l) (few_spelled s c.wanted-count.result new.levels.items _ c.as_slice.ensures.value) c.in-Err-write_block.ensures.err.0 in
+    let part = subst (λ (l : List ℕ). TakesPart (g.O.Outlet.taken old.outlet) (g.O.Outlet.taken c.write_block.new.outlet) l)
+    (few_spelled s c.wanted-count.result new.levels.items _ c.as_slice.ensures.value) c.in-Err-write_block.ensures.err.0 in
     write_ends c.wanted-count.result new.self legal runs is some (gains_block legal runs a) part c.ended-in-Err-write_block.ensures.reports
 
 pub decode_all-smaller : goal.decode_all-smaller
@@ -117,10 +124,21 @@ decode_all-smaller g c =
     let mid = c.next_bytes.new in
     let same = c.next_bytes.ensures.none c.if-next_bytes.false in
     let runs = progress_unchanged same.0 same.1 same.2 i.runs in
-    let a = decoder_advances mid.reader new.reader mid.meter new.meter mid.decoder new.self s new.levels.items runs.at_block.setting (ap Ok c.in-Block.is) c.in-Ok-next_levels.ensures.in_run c.in-Ok-next_levels.ensures.reads in
+    let a = decoder_advances mid.reader new.reader mid.meter new.meter mid.decoder new.self s new.levels.items runs.at_block.setting (ap Ok c.in-Block.is)
+    c.in-Ok-next_levels.ensures.in_run c.in-Ok-next_levels.ensures.reads in
     let block = samples_of_block s runs.at_block.setting runs.at_block.going a in
     let counted = c.in-Ok-next_levels.ensures.steps in
-    omega (arith, block.len, length-values s new.levels.items, c.in-Ok-next_levels.ensures.waiting, counted.forward, counted.limit, c.block-block.ensures.range, ap (λ r. r.taken) same.1, ap (λ (d : DecoderState). d.run * d.setting.block) same.0)
+    omega (
+      arith,
+      block.len,
+      length-values s new.levels.items,
+      c.in-Ok-next_levels.ensures.waiting,
+      counted.forward,
+      counted.limit,
+      c.block-block.ensures.range,
+      ap (λ r. r.taken) same.1,
+      ap (λ (d : DecoderState). d.run * d.setting.block) same.0,
+    )
 
 pub decode_all-preserved : goal.decode_all-preserved
 decode_all-preserved g c =
@@ -131,7 +149,8 @@ decode_all-preserved g c =
     let mid = c.next_bytes.new in
     let same = c.next_bytes.ensures.none c.if-next_bytes.false in
     let runs = progress_unchanged same.0 same.1 same.2 i.runs in
-    let a = decoder_advances mid.reader new.reader mid.meter new.meter mid.decoder new.self s new.levels.items runs.at_block.setting (ap Ok c.in-Block.is) c.in-Ok-next_levels.ensures.in_run c.in-Ok-next_levels.ensures.reads in
+    let a = decoder_advances mid.reader new.reader mid.meter new.meter mid.decoder new.self s new.levels.items runs.at_block.setting (ap Ok c.in-Block.is)
+    c.in-Ok-next_levels.ensures.in_run c.in-Ok-next_levels.ensures.reads in
     let some = block_is_wanted c.args.asked old.written c.wanted-count.ensures.value c.block-block.ensures.value c.if-count-eq0.false in
     let is = c.wanted-count.ensures.value ∙ ap (wanted_of c.args.asked old.written) c.block-block.ensures.value in
     let legal = c.block-block.ensures.legal in
@@ -139,10 +158,13 @@ decode_all-preserved g c =
     let block = samples_of_block s at.setting at.going a in
     let old_run : mid.decoder.run * mid.decoder.setting.block ≡ mid.decoder.run * s.block = ap (λ t. mid.decoder.run * t.block) at.setting in
     let new_run : new.self.run * new.self.setting.block ≡ new.self.run * s.block = ap (λ t. new.self.run * t.block) (c.in-Ok-next_levels.ensures.setting ∙ at.setting) in
-    let few : s.block + new.self.run * s.block ≤ mid.decoder.run * s.block + 456 * (new.reader.taken - mid.reader.taken) = omega (arith, block.len, length-values s new.levels.items, c.in-Ok-next_levels.ensures.waiting, old_run, new_run) in
-    let put = subst (λ (l : List ℕ). Appends (g.O.Outlet.taken old.outlet) (g.O.Outlet.taken c.write_block.new.outlet) l) (few_spelled s c.wanted-count.result new.levels.items _ c.as_slice.ensures.value) c.in-Ok-write_block.ensures.ok.0 in
+    let few : s.block + new.self.run * s.block ≤ mid.decoder.run * s.block + 456 * (new.reader.taken - mid.reader.taken) = omega
+    (arith, block.len, length-values s new.levels.items, c.in-Ok-next_levels.ensures.waiting, old_run, new_run) in
+    let put = subst (λ (l : List ℕ). Appends (g.O.Outlet.taken old.outlet) (g.O.Outlet.taken c.write_block.new.outlet) l)
+    (few_spelled s c.wanted-count.result new.levels.items _ c.as_slice.ensures.value) c.in-Ok-write_block.ensures.ok.0 in
     record {
-      runs = progress_with_block c.wanted-count.result c.tick-in-decode_all.new.self legal runs is some (gains_block legal runs a) (moves_of at.going a) (record { counted = c.in-Ok-next_levels.ensures.steps; few = few }) c.tick-in-decode_all.ensures put;
+      runs = progress_with_block c.wanted-count.result c.tick-in-decode_all.new.self legal runs is some (gains_block legal runs a) (moves_of at.going a)
+          (record { counted = c.in-Ok-next_levels.ensures.steps; few = few }) c.tick-in-decode_all.ensures put;
       writes = c.in-Ok-write_block.ensures.ok.1 ∙ i.writes;
     }
 
@@ -163,7 +185,8 @@ returns-in-Err-write_all-clause-call g c =
     let all = c.is_whole-whole.ensures spelled.0 ∙ c.block-block.ensures.value in
     let some = block_is_wanted c.args.asked old.written c.wanted-count.ensures.value c.block-block.ensures.value c.if-count-eq0.false in
     let is = c.wanted-count.ensures.value ∙ ap (wanted_of c.args.asked old.written) c.block-block.ensures.value in
-    let bytes = lanes_front s old.decoder.setting g.row.SIZE g.row.WIDTH c.wanted-count.result spelled.2.samples new.bytes (c.requires.lanes (c.next_bytes.ensures.sized c.if-next_bytes.true)) at.setting all block.len spelled.2.spelled in
+    let bytes = lanes_front s old.decoder.setting g.row.SIZE g.row.WIDTH c.wanted-count.result spelled.2.samples new.bytes
+    (c.requires.lanes (c.next_bytes.ensures.sized c.if-next_bytes.true)) at.setting all block.len spelled.2.spelled in
     let part = subst (λ (l : List ℕ). TakesPart (g.O.Outlet.taken old.outlet) (g.O.Outlet.taken c.write_all.new.outlet) l) bytes c.in-Err-write_all.ensures.err.0 in
     write_ends c.wanted-count.result new.decoder legal i.runs is some (gains_block legal i.runs a) part c.ended-in-Err-write_all.ensures.reports
 
@@ -181,13 +204,15 @@ decode_all-preserved-then-next_bytes g c =
     let all = c.is_whole-whole.ensures spelled.0 ∙ c.block-block.ensures.value in
     let some = block_is_wanted c.args.asked old.written c.wanted-count.ensures.value c.block-block.ensures.value c.if-count-eq0.false in
     let is = c.wanted-count.ensures.value ∙ ap (wanted_of c.args.asked old.written) c.block-block.ensures.value in
-    let bytes = lanes_front s old.decoder.setting g.row.SIZE g.row.WIDTH c.wanted-count.result spelled.2.samples new.bytes (c.requires.lanes (c.next_bytes.ensures.sized c.if-next_bytes.true)) at.setting all block.len spelled.2.spelled in
+    let bytes = lanes_front s old.decoder.setting g.row.SIZE g.row.WIDTH c.wanted-count.result spelled.2.samples new.bytes
+    (c.requires.lanes (c.next_bytes.ensures.sized c.if-next_bytes.true)) at.setting all block.len spelled.2.spelled in
     let put = subst (λ (l : List ℕ). Appends (g.O.Outlet.taken old.outlet) (g.O.Outlet.taken c.write_all.new.outlet) l) bytes c.in-Ok-write_all.ensures.ok.0 in
     let new_run : new.decoder.run * new.decoder.setting.block ≡ new.decoder.run * s.block = ap (λ t. new.decoder.run * t.block) (c.next_bytes.ensures.setting ∙ at.setting) in
     let none : old.decoder.run * s.block ≡ 0 = ap (λ n. n * s.block) spelled.1 ∙ omega arith in
     let few : s.block + new.decoder.run * s.block ≤ old.decoder.run * s.block + 456 * (new.reader.taken - old.reader.taken) = omega (arith, block.len, spelled.2.by_bits, none, new_run) in
     record {
-      runs = progress_with_block c.wanted-count.result c.tick-then-next_bytes.new.self legal i.runs is some (gains_block legal i.runs a) (moves_of at.going a) (record { counted = c.next_bytes.ensures.steps; few = few }) c.tick-then-next_bytes.ensures put;
+      runs = progress_with_block c.wanted-count.result c.tick-then-next_bytes.new.self legal i.runs is some (gains_block legal i.runs a) (moves_of at.going a)
+          (record { counted = c.next_bytes.ensures.steps; few = few }) c.tick-then-next_bytes.ensures put;
       writes = c.in-Ok-write_all.ensures.ok.1 ∙ i.writes;
     }
 

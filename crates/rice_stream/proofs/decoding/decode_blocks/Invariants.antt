@@ -5,7 +5,8 @@ use Rattle.rice_stream.proofs.decoding.decode_blocks.Given as goal
 
 abbrev pub invariant-decode_all : goal.invariant-decode_all
 invariant-decode_all g l = record {
-  runs : DecodingProgress l.setting l.asked (new_reader l.fn.intake (g.I.Intake.left l.fn.intake) (g.I.Intake.failed l.fn.intake)) (g.O.Outlet.taken l.fn.outlet) (g.O.Outlet.taken l.outlet) l.decoder l.reader l.meter l.written;
+  runs : DecodingProgress l.setting l.asked (new_reader l.fn.intake (g.I.Intake.left l.fn.intake) (g.I.Intake.failed l.fn.intake))
+      (g.O.Outlet.taken l.fn.outlet) (g.O.Outlet.taken l.outlet) l.decoder l.reader l.meter l.written;
   writes : g.O.Outlet.failed l.outlet ≡ g.O.Outlet.failed l.fn.outlet;
 }
 

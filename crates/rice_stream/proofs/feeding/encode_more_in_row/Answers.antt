@@ -38,8 +38,25 @@ push_all-requires g c =
     let xs = c.requires.seam.0 in
     let h = c.requires.seam.1 in
     let bytes = c.args.bytes.now in
-    let few = c.bytes_left.ensures.few (omega (arith, c.width-width.ensures.range)) in
-    (search rules, ((behind c.args.setting.now xs now, xs, c.put_waiting.ensures c.args.setting.now now xs c.resume-encoding.ensures h, omega (arith, few, c.if-bytes-bytes_left.false, h.samples, length-take (c.width-width.result * (c.in_whole_segments.result - c.args.seam.now.samples)) bytes)), ((omega arith, omega arith), c.requires.writes)))
+    let few = c.bytes_left.ensures.few (omega (arith, c.width-width.ensures.range)) in (
+      search rules,
+      (
+        (
+          behind c.args.setting.now xs now,
+          xs,
+          c.put_waiting.ensures c.args.setting.now now xs c.resume-encoding.ensures h,
+          omega (
+            arith,
+            few,
+            c.if-bytes-bytes_left.false,
+            h.samples,
+            length-take (c.width-width.result * (c.in_whole_segments.result - c.args.seam.now.samples))
+                bytes,
+          ),
+        ),
+        ((omega arith, omega arith), c.requires.writes),
+      ),
+    )
 
 pub seam-requires : goal.seam-requires
 seam-requires g c =
@@ -60,7 +77,8 @@ returns-clause-did g c xs h =
     let w = c.width-width.result in
     let all = c.in_whole_segments.result in
     let count = all - seam.samples in
-    let t = subst (λ (w : ℕ). TakesAll s (behind s xs now) new e xs (take (w * count) bytes)) c.width-width.ensures.value (c.in-Ok.ensures.did (behind s xs now) xs (c.put_waiting.ensures c.args.setting.now now xs c.resume-encoding.ensures h)) in
+    let t = subst (λ (w : ℕ). TakesAll s (behind s xs now) new e xs (take (w * count) bytes)) c.width-width.ensures.value
+    (c.in-Ok.ensures.did (behind s xs now) xs (c.put_waiting.ensures c.args.setting.now now xs c.resume-encoding.ensures h)) in
     let size : w * seam.samples ≡ width s * length xs = (λ i. c.width-width.ensures.value i * h.samples i) in
     let limit : width s * length xs + length bytes ≤ 281474976710656 = omega (arith, size, h.limit, c.bytes_left.ensures.value, c.if-bytes-bytes_left.false) in
     let per : length bytes / w ≡ length bytes / width s = (λ i. length bytes / c.width-width.ensures.value i) in
@@ -80,10 +98,12 @@ returns-in-Err-clause-did g c xs h =
     let w = c.width-width.result in
     let count = c.in_whole_segments.result - seam.samples in
     let fault = c.in-Err.fault in
-    let stops = subst (λ (w : ℕ). Pushes {T = Unit {0}} s (behind s xs now) new e xs (take (w * count) bytes) (Err fault)) c.width-width.ensures.value (c.in-Err.ensures.did (behind s xs now) xs (c.put_waiting.ensures c.args.setting.now now xs c.resume-encoding.ensures h)) in
+    let stops = subst (λ (w : ℕ). Pushes {T = Unit {0}} s (behind s xs now) new e xs (take (w * count) bytes) (Err fault)) c.width-width.ensures.value
+    (c.in-Err.ensures.did (behind s xs now) xs (c.put_waiting.ensures c.args.setting.now now xs c.resume-encoding.ensures h)) in
     let size : w * seam.samples ≡ width s * length xs = (λ i. c.width-width.ensures.value i * h.samples i) in
     let limit : width s * length xs + length bytes ≤ 281474976710656 = omega (arith, size, h.limit, c.bytes_left.ensures.value, c.if-bytes-bytes_left.false) in
     let per : length bytes / w ≡ length bytes / width s = (λ i. length bytes / c.width-width.ensures.value i) in
     let total : cut s (seam.samples + length bytes / w) ≡ cut s (length xs + length bytes / width s) = (λ i. cut s (h.samples i + per i)) in
     let grows = cut_grows s seam xs (length xs + length bytes / width s) h (omega arith) in
-    more_stops s now new e xs bytes count fault limit (omega (arith, c.in_whole_segments.ensures.value, total, grows, h.samples)) (fit_in (width s) (length bytes) count (omega (arith, c.in_whole_segments.ensures.limit, per))) stops
+    more_stops s now new e xs bytes count fault limit (omega (arith, c.in_whole_segments.ensures.value, total, grows, h.samples))
+    (fit_in (width s) (length bytes) count (omega (arith, c.in_whole_segments.ensures.limit, per))) stops

@@ -18,9 +18,13 @@ pub returns-then-bytes-bytes_left-clause-did : goal.returns-then-bytes-bytes_lef
 returns-then-bytes-bytes_left-clause-did g c xs h =
     let now = g.O.Outlet.taken c.args.outlet.now in
     let s = c.args.setting.now in
-    let size : c.width-width.result * c.taken.result ≡ width s * length xs = (λ i. c.width-width.ensures.value i * (c.taken.ensures ∙ (c.put_waiting.ensures c.args.setting.now now xs c.resume-encoding.ensures h).counts.samples) i) in
-    subst (EncodesRest s xs c.args.bytes.now now now c.stopped.result.report) (sym c.stopped.ensures.fault)
-    (record { passes = omega (arith, size, c.bytes_left.ensures.value, c.if-bytes-bytes_left.true); untouched = refl }, c.stopped.ensures.told s xs (c.put_waiting.ensures c.args.setting.now now xs c.resume-encoding.ensures h).counts)
+    let size : c.width-width.result * c.taken.result ≡ width s * length xs =
+    (λ i. c.width-width.ensures.value i * (c.taken.ensures ∙ (c.put_waiting.ensures c.args.setting.now now xs c.resume-encoding.ensures h).counts.samples) i) in
+    subst (EncodesRest s xs c.args.bytes.now now now c.stopped.result.report) (sym c.stopped.ensures.fault) (
+      record { passes = omega (arith, size, c.bytes_left.ensures.value, c.if-bytes-bytes_left.true); untouched = refl },
+      c.stopped.ensures.told s xs
+          (c.put_waiting.ensures c.args.setting.now now xs c.resume-encoding.ensures h).counts,
+    )
 
 pub resume-encoding-requires : goal.resume-encoding-requires
 resume-encoding-requires g c = (search rules, (c.requires.size, (c.requires.room, c.requires.seam)))
@@ -34,8 +38,13 @@ push_all-requires g c =
     let xs = c.requires.seam.0 in
     let h = c.requires.seam.1 in
     let holds = c.put_waiting.ensures c.args.setting.now now xs c.resume-encoding.ensures h in
-    let few = c.bytes_left.ensures.few (omega (arith, c.width-width.ensures.range)) in
-    (search rules, ((behind c.args.setting.now xs now, xs, holds, omega (arith, few, c.if-bytes-bytes_left.false, c.taken.ensures, holds.counts.samples)), ((omega arith, omega arith), c.requires.writes)))
+    let few = c.bytes_left.ensures.few (omega (arith, c.width-width.ensures.range)) in (
+      search rules,
+      (
+        (behind c.args.setting.now xs now, xs, holds, omega (arith, few, c.if-bytes-bytes_left.false, c.taken.ensures, holds.counts.samples)),
+        ((omega arith, omega arith), c.requires.writes),
+      ),
+    )
 
 pub returns-in-Err-clause-did : goal.returns-in-Err-clause-did
 returns-in-Err-clause-did g c xs h =
@@ -43,7 +52,8 @@ returns-in-Err-clause-did g c xs h =
     let new = g.O.Outlet.taken c.push_all.new.outlet in
     let s = c.args.setting.now in
     let o = c.stopped-in-Err in
-    let size : c.width-width.result * c.taken.result ≡ width s * length xs = (λ i. c.width-width.ensures.value i * (c.taken.ensures ∙ (c.put_waiting.ensures c.args.setting.now now xs c.resume-encoding.ensures h).counts.samples) i) in
+    let size : c.width-width.result * c.taken.result ≡ width s * length xs =
+    (λ i. c.width-width.ensures.value i * (c.taken.ensures ∙ (c.put_waiting.ensures c.args.setting.now now xs c.resume-encoding.ensures h).counts.samples) i) in
     let limit : width s * length xs + length c.args.bytes.now ≤ 281474976710656 = omega (arith, size, h.limit, c.bytes_left.ensures.value, c.if-bytes-bytes_left.false) in
     rest_stops s now new c.push_all.new.self o.result.report xs c.args.bytes.now limit c.in-Err.fault o.result.fault o.ensures.fault (λ ys k. o.ensures.told s ys k)
     (c.in-Err.ensures.did (behind s xs now) xs (c.put_waiting.ensures c.args.setting.now now xs c.resume-encoding.ensures h))
@@ -55,7 +65,8 @@ returns-in-Err-clause-failures g c =
     let s = c.args.setting.now in
     let xs = c.requires.seam.0 in
     let h = c.requires.seam.1 in
-    push_fails s (behind s xs now) new c.push_all.new.self xs c.args.bytes.now c.in-Err.fault c.stopped-in-Err.result.fault 0 0 (g.O.Outlet.failed c.args.outlet.now) (g.O.Outlet.failed c.args.outlet.now) (g.O.Outlet.failed c.push_all.new.outlet)
+    push_fails s (behind s xs now) new c.push_all.new.self xs c.args.bytes.now c.in-Err.fault c.stopped-in-Err.result.fault 0 0
+    (g.O.Outlet.failed c.args.outlet.now) (g.O.Outlet.failed c.args.outlet.now) (g.O.Outlet.failed c.push_all.new.outlet)
     refl refl (c.in-Err.ensures.did (behind s xs now) xs (c.put_waiting.ensures c.args.setting.now now xs c.resume-encoding.ensures h)) c.in-Err.ensures.failures c.stopped-in-Err.ensures.fault
 
 pub returns-then-bytes-width-gt0-clause-did : goal.returns-then-bytes-width-gt0-clause-did
@@ -66,7 +77,8 @@ returns-then-bytes-width-gt0-clause-did g c xs h =
     let o = c.stopped-then-bytes-width-gt0 in
     let bytes = c.args.bytes.now in
     let same : length bytes % c.width-width.result ≡ length bytes % width s = ap (λ w. length bytes % w) c.width-width.ensures.value in
-    let size : c.width-width.result * c.taken.result ≡ width s * length xs = (λ i. c.width-width.ensures.value i * (c.taken.ensures ∙ (c.put_waiting.ensures c.args.setting.now now xs c.resume-encoding.ensures h).counts.samples) i) in
+    let size : c.width-width.result * c.taken.result ≡ width s * length xs =
+    (λ i. c.width-width.ensures.value i * (c.taken.ensures ∙ (c.put_waiting.ensures c.args.setting.now now xs c.resume-encoding.ensures h).counts.samples) i) in
     let limit : width s * length xs + length c.args.bytes.now ≤ 281474976710656 = omega (arith, size, h.limit, c.bytes_left.ensures.value, c.if-bytes-bytes_left.false) in
     rest_cut s now new c.push_all.new.self o.result.report xs bytes limit c.taken-index.result o.result.fault o.ensures.fault c.taken-index.ensures (λ ys k. o.ensures.told s ys k)
     (c.in-Ok.ensures.did (behind s xs now) xs (c.put_waiting.ensures c.args.setting.now now xs c.resume-encoding.ensures h)) (omega (arith, same, c.if-bytes-width-gt0.true))
@@ -80,8 +92,20 @@ finish-requires g c =
     let h = c.requires.seam.1 in
     let holds = c.put_waiting.ensures c.args.setting.now now xs c.resume-encoding.ensures h in
     let t = c.in-Ok.ensures.did (behind s xs now) xs holds in
-    let few = c.bytes_left.ensures.few (omega (arith, c.width-width.ensures.range)) in
-    (search rules, ((s, behind s xs now, xs ++ t.more, t.holds, takes_few s (behind s xs now) new c.push_all.new.self xs c.args.bytes.now (omega (arith, few, c.if-bytes-bytes_left.false, c.taken.ensures, holds.counts.samples)) t), omega (arith, c.requires.writes, c.in-Ok.ensures.failures)))
+    let few = c.bytes_left.ensures.few (omega (arith, c.width-width.ensures.range)) in (
+      search rules,
+      (
+        (
+          s,
+          behind s xs now,
+          xs ++ t.more,
+          t.holds,
+          takes_few s (behind s xs now) new c.push_all.new.self xs c.args.bytes.now
+              (omega (arith, few, c.if-bytes-bytes_left.false, c.taken.ensures, holds.counts.samples)) t,
+        ),
+        omega (arith, c.requires.writes, c.in-Ok.ensures.failures),
+      ),
+    )
 
 pub returns-clause-did : goal.returns-clause-did
 returns-clause-did g c xs h =
@@ -93,7 +117,8 @@ returns-clause-did g c xs h =
     let t = c.in-Ok.ensures.did (behind s xs now) xs (c.put_waiting.ensures c.args.setting.now now xs c.resume-encoding.ensures h) in
     let same : length bytes % c.width-width.result ≡ length bytes % width s = ap (λ w. length bytes % w) c.width-width.ensures.value in
     let did = c.finish.ensures.did s (behind s xs now) (xs ++ t.more) t.holds in
-    let size : c.width-width.result * c.taken.result ≡ width s * length xs = (λ i. c.width-width.ensures.value i * (c.taken.ensures ∙ (c.put_waiting.ensures c.args.setting.now now xs c.resume-encoding.ensures h).counts.samples) i) in
+    let size : c.width-width.result * c.taken.result ≡ width s * length xs =
+    (λ i. c.width-width.ensures.value i * (c.taken.ensures ∙ (c.put_waiting.ensures c.args.setting.now now xs c.resume-encoding.ensures h).counts.samples) i) in
     let limit : width s * length xs + length c.args.bytes.now ≤ 281474976710656 = omega (arith, size, h.limit, c.bytes_left.ensures.value, c.if-bytes-bytes_left.false) in
     rest_all s now mid c.push_all.new.self c.finish.result.report xs bytes limit c.finish.result.fault t new (omega (arith, same, c.if-bytes-width-gt0.false)) did.0 did.1
 

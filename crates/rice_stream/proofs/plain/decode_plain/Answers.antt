@@ -23,7 +23,8 @@ write_block-requires-clause-legal g c =
     let old = c.decode_all in
     let new = c.next_levels.new in
     let runs = i.runs in
-    let a = decoder_advances old.reader new.reader old.meter new.meter old.decoder new.self s new.levels.items runs.at_block.setting (ap Ok c.in-Block.is) c.in-Ok-next_levels.ensures.in_run c.in-Ok-next_levels.ensures.reads in
+    let a = decoder_advances old.reader new.reader old.meter new.meter old.decoder new.self s new.levels.items runs.at_block.setting (ap Ok c.in-Block.is)
+    c.in-Ok-next_levels.ensures.in_run c.in-Ok-next_levels.ensures.reads in
     let block = samples_of_block s runs.at_block.setting runs.at_block.going a in
     few_legal s c.wanted-count.result new.levels.items _ c.as_slice.ensures.value block.legal
 
@@ -39,7 +40,8 @@ returns-in-Err-next_levels-clause-call g c =
     let old = c.decode_all in
     let new = c.next_levels.new in
     let runs = i.runs in
-    let a = decoder_advances old.reader new.reader old.meter new.meter old.decoder new.self s new.levels.items runs.at_block.setting refl c.in-Err-next_levels.ensures.in_run c.in-Err-next_levels.ensures.reads in
+    let a = decoder_advances old.reader new.reader old.meter new.meter old.decoder new.self s new.levels.items runs.at_block.setting refl
+    c.in-Err-next_levels.ensures.in_run c.in-Err-next_levels.ensures.reads in
     let some = block_is_wanted c.args.asked old.written c.wanted-count.ensures.value c.block-block.ensures.value c.if-count-eq0.false in
     let tells = reports_as (ap Some (c.fault_of-fault.ensures ∙ ap (refusal_fault c.in-Err-next_levels.fault old.written) c.block-block.ensures.value)) c.ended-in-Err-next_levels.ensures.reports in
     let legal = c.block-block.ensures.legal in
@@ -52,7 +54,8 @@ returns-in-Err-next_levels-clause-failures g c =
     let old = c.decode_all in
     let new = c.next_levels.new in
     let runs = i.runs in
-    let a = decoder_advances old.reader new.reader old.meter new.meter old.decoder new.self s new.levels.items runs.at_block.setting refl c.in-Err-next_levels.ensures.in_run c.in-Err-next_levels.ensures.reads in
+    let a = decoder_advances old.reader new.reader old.meter new.meter old.decoder new.self s new.levels.items runs.at_block.setting refl
+    c.in-Err-next_levels.ensures.in_run c.in-Err-next_levels.ensures.reads in
     let tells = reports_as (ap Some (c.fault_of-fault.ensures ∙ ap (refusal_fault c.in-Err-next_levels.fault old.written) c.block-block.ensures.value)) c.ended-in-Err-next_levels.ensures.reports in
     refusal_fails c.in-Err-next_levels.fault runs (stops_in_no_run c.block-block.ensures.legal runs a) i.writes tells
 
@@ -63,7 +66,8 @@ returns-in-Done-clause-call g c =
     let old = c.decode_all in
     let new = c.next_levels.new in
     let runs = i.runs in
-    let a = decoder_advances old.reader new.reader old.meter new.meter old.decoder new.self s new.levels.items runs.at_block.setting (ap Ok c.in-Done.is) c.in-Ok-next_levels.ensures.in_run c.in-Ok-next_levels.ensures.reads in
+    let a = decoder_advances old.reader new.reader old.meter new.meter old.decoder new.self s new.levels.items runs.at_block.setting (ap Ok c.in-Done.is)
+    c.in-Ok-next_levels.ensures.in_run c.in-Ok-next_levels.ensures.reads in
     let some = block_is_wanted c.args.asked old.written c.wanted-count.ensures.value c.block-block.ensures.value c.if-count-eq0.false in
     let tells = reports_as c.end_of.ensures c.ended-in-Done.ensures.reports in
     let ends = decoding_is_done c.block-block.ensures.legal runs a in
@@ -76,7 +80,8 @@ returns-in-Done-clause-failures g c =
     let old = c.decode_all in
     let new = c.next_levels.new in
     let runs = i.runs in
-    let a = decoder_advances old.reader new.reader old.meter new.meter old.decoder new.self s new.levels.items runs.at_block.setting (ap Ok c.in-Done.is) c.in-Ok-next_levels.ensures.in_run c.in-Ok-next_levels.ensures.reads in
+    let a = decoder_advances old.reader new.reader old.meter new.meter old.decoder new.self s new.levels.items runs.at_block.setting (ap Ok c.in-Done.is)
+    c.in-Ok-next_levels.ensures.in_run c.in-Ok-next_levels.ensures.reads in
     let tells = reports_as c.end_of.ensures c.ended-in-Done.ensures.reports in
     done_fails runs (decoding_is_done c.block-block.ensures.legal runs a) i.writes tells
 
@@ -87,11 +92,13 @@ returns-in-Err-write_block-clause-call g c =
     let old = c.decode_all in
     let new = c.next_levels.new in
     let runs = i.runs in
-    let a = decoder_advances old.reader new.reader old.meter new.meter old.decoder new.self s new.levels.items runs.at_block.setting (ap Ok c.in-Block.is) c.in-Ok-next_levels.ensures.in_run c.in-Ok-next_levels.ensures.reads in
+    let a = decoder_advances old.reader new.reader old.meter new.meter old.decoder new.self s new.levels.items runs.at_block.setting (ap Ok c.in-Block.is)
+    c.in-Ok-next_levels.ensures.in_run c.in-Ok-next_levels.ensures.reads in
     let some = block_is_wanted c.args.asked old.written c.wanted-count.ensures.value c.block-block.ensures.value c.if-count-eq0.false in
     let is = c.wanted-count.ensures.value ∙ ap (wanted_of c.args.asked old.written) c.block-block.ensures.value in
     let legal = c.block-block.ensures.legal in
-    let part = subst (λ (l : List ℕ). TakesPart (g.O.Outlet.taken old.outlet) (g.O.Outlet.taken c.write_block.new.outlet) l) (few_spelled s c.wanted-count.result new.levels.items _ c.as_slice.ensures.value) c.in-Err-write_block.ensures.err.0 in
+    let part = subst (λ (l : List ℕ). TakesPart (g.O.Outlet.taken old.outlet) (g.O.Outlet.taken c.write_block.new.outlet) l)
+    (few_spelled s c.wanted-count.result new.levels.items _ c.as_slice.ensures.value) c.in-Err-write_block.ensures.err.0 in
     write_ends c.wanted-count.result new.self legal runs is some (gains_block legal runs a) part c.ended-in-Err-write_block.ensures.reports
 
 pub decode_all-smaller : goal.decode_all-smaller
@@ -101,7 +108,8 @@ decode_all-smaller g c =
     let old = c.decode_all in
     let new = c.next_levels.new in
     let runs = i.runs in
-    let a = decoder_advances old.reader new.reader old.meter new.meter old.decoder new.self s new.levels.items runs.at_block.setting (ap Ok c.in-Block.is) c.in-Ok-next_levels.ensures.in_run c.in-Ok-next_levels.ensures.reads in
+    let a = decoder_advances old.reader new.reader old.meter new.meter old.decoder new.self s new.levels.items runs.at_block.setting (ap Ok c.in-Block.is)
+    c.in-Ok-next_levels.ensures.in_run c.in-Ok-next_levels.ensures.reads in
     let block = samples_of_block s runs.at_block.setting runs.at_block.going a in
     let counted = c.in-Ok-next_levels.ensures.steps in
     omega (arith, block.len, length-values s new.levels.items, c.in-Ok-next_levels.ensures.waiting, counted.forward, counted.limit, c.block-block.ensures.range)
@@ -113,7 +121,8 @@ decode_all-preserved g c =
     let old = c.decode_all in
     let new = c.next_levels.new in
     let runs = i.runs in
-    let a = decoder_advances old.reader new.reader old.meter new.meter old.decoder new.self s new.levels.items runs.at_block.setting (ap Ok c.in-Block.is) c.in-Ok-next_levels.ensures.in_run c.in-Ok-next_levels.ensures.reads in
+    let a = decoder_advances old.reader new.reader old.meter new.meter old.decoder new.self s new.levels.items runs.at_block.setting (ap Ok c.in-Block.is)
+    c.in-Ok-next_levels.ensures.in_run c.in-Ok-next_levels.ensures.reads in
     let some = block_is_wanted c.args.asked old.written c.wanted-count.ensures.value c.block-block.ensures.value c.if-count-eq0.false in
     let is = c.wanted-count.ensures.value ∙ ap (wanted_of c.args.asked old.written) c.block-block.ensures.value in
     let legal = c.block-block.ensures.legal in
@@ -121,10 +130,13 @@ decode_all-preserved g c =
     let block = samples_of_block s at.setting at.going a in
     let old_run : old.decoder.run * old.decoder.setting.block ≡ old.decoder.run * s.block = ap (λ t. old.decoder.run * t.block) at.setting in
     let new_run : new.self.run * new.self.setting.block ≡ new.self.run * s.block = ap (λ t. new.self.run * t.block) (c.in-Ok-next_levels.ensures.setting ∙ at.setting) in
-    let few : s.block + new.self.run * s.block ≤ old.decoder.run * s.block + 456 * (new.reader.taken - old.reader.taken) = omega (arith, block.len, length-values s new.levels.items, c.in-Ok-next_levels.ensures.waiting, old_run, new_run) in
-    let put = subst (λ (l : List ℕ). Appends (g.O.Outlet.taken old.outlet) (g.O.Outlet.taken c.write_block.new.outlet) l) (few_spelled s c.wanted-count.result new.levels.items _ c.as_slice.ensures.value) c.in-Ok-write_block.ensures.ok.0 in
+    let few : s.block + new.self.run * s.block ≤ old.decoder.run * s.block + 456 * (new.reader.taken - old.reader.taken) = omega
+    (arith, block.len, length-values s new.levels.items, c.in-Ok-next_levels.ensures.waiting, old_run, new_run) in
+    let put = subst (λ (l : List ℕ). Appends (g.O.Outlet.taken old.outlet) (g.O.Outlet.taken c.write_block.new.outlet) l)
+    (few_spelled s c.wanted-count.result new.levels.items _ c.as_slice.ensures.value) c.in-Ok-write_block.ensures.ok.0 in
     record {
-      runs = progress_with_block c.wanted-count.result c.tick-in-decode_all.new.self legal runs is some (gains_block legal runs a) (moves_of at.going a) (record { counted = c.in-Ok-next_levels.ensures.steps; few = few }) c.tick-in-decode_all.ensures put;
+      runs = progress_with_block c.wanted-count.result c.tick-in-decode_all.new.self legal runs is some (gains_block legal runs a) (moves_of at.going a)
+          (record { counted = c.in-Ok-next_levels.ensures.steps; few = few }) c.tick-in-decode_all.ensures put;
       writes = c.in-Ok-write_block.ensures.ok.1 ∙ i.writes;
     }
 
@@ -141,7 +153,8 @@ pub returns-in-Err-clause-failures : goal.returns-in-Err-clause-failures
 returns-in-Err-clause-failures g c =
     let i = c.decode_all.invariant in
     let row = c.row_ahead-blocks.ensures in
-    row_fails_so (g.O.Outlet.failed c.args.outlet.now) (g.O.Outlet.failed c.write_row.new.outlet) i.runs (row.run c.if-blocks-gt0.true) c.in-Err.ensures.err (c.in-Err.ensures.failure ∙ ap (λ n. n + 1) i.writes) c.ended-in-Err.ensures.reports
+    row_fails_so (g.O.Outlet.failed c.args.outlet.now) (g.O.Outlet.failed c.write_row.new.outlet) i.runs (row.run c.if-blocks-gt0.true) c.in-Err.ensures.err
+    (c.in-Err.ensures.failure ∙ ap (λ n. n + 1) i.writes) c.ended-in-Err.ensures.reports
 
 pub returns-in-Err-clause-bounds : goal.returns-in-Err-clause-bounds
 returns-in-Err-clause-bounds g c =

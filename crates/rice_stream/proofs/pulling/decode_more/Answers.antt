@@ -45,7 +45,8 @@ returns-then-here-eq0 c = λ o front given h.
     let i = c.decode_all.invariant in
     let so = i.so_far o front given h in
     ends_so pauses.Blank so (
-      has_room c.args.setting.now c.decode_all.at (length c.decode_all.samples) (length c.args.samples.now) (length so.samples) c.width.ensures.value c.block.ensures.value c.decode_all-test.true i.within so.count i.len,
+      has_room c.args.setting.now c.decode_all.at (length c.decode_all.samples) (length c.args.samples.now) (length so.samples) c.width.ensures.value
+          c.block.ensures.value c.decode_all-test.true i.within so.count i.len,
       c.if-here-eq0.true,
       nothing_ahead c.args.setting.now c.args.stand.now c.decode_all.here.block c.args.piece.now so.bits (ahead c.decode_all.reader) (let e : length c.args.piece.now ≡ 0 = search rules in e) so.parts,
     ) (λ no. c.is_too_long.ensures.fits c.if-is_too_long.false)
@@ -81,8 +82,10 @@ decode_all-preserved c =
       len = c.write_at.auto.samples ∙ i.len;
       so_far = λ o front given h.
           let so = i.so_far o front given h in
-          more_so_far s o front given (values_at s levels) c.args.piece.now c.args.stand.now c.decode_all.here next c.args.samples.now out c.write_at.new.samples c.decode_all.reader c.next_stand.new.reader at n so
-          (subst (λ (v : Option Stand). TakesNext s o (front ++ so.bits) (given ++ so.samples) here r new (values_at s levels) (Ok v)) c.in-Some.is (c.in-Ok.ensures.takes o (front ++ so.bits) (given ++ so.samples) so.stands)) (λ j. c.width.ensures.value j * (count ∙ sym (length-values s levels)) j) wrote;
+          more_so_far s o front given (values_at s levels) c.args.piece.now c.args.stand.now c.decode_all.here next c.args.samples.now out
+          c.write_at.new.samples c.decode_all.reader c.next_stand.new.reader at n so
+          (subst (λ (v : Option Stand). TakesNext s o (front ++ so.bits) (given ++ so.samples) here r new (values_at s levels) (Ok v)) c.in-Some.is
+          (c.in-Ok.ensures.takes o (front ++ so.bits) (given ++ so.samples) so.stands)) (λ j. c.width.ensures.value j * (count ∙ sym (length-values s levels)) j) wrote;
     }
 
 pub returns-in-None : goal.returns-in-None
@@ -90,9 +93,11 @@ returns-in-None c = λ o front given h.
     let i = c.decode_all.invariant in
     let so = i.so_far o front given h in
     let s = c.args.setting.now in
-    let t = subst (λ (v : Option Stand). TakesNext s o (front ++ so.bits) (given ++ so.samples) c.decode_all.here c.decode_all.reader c.next_stand.new.reader (values_at s c.next_stand.new.levels.items) (Ok v)) c.in-None.is (c.in-Ok.ensures.takes o (front ++ so.bits) (given ++ so.samples) so.stands) in
+    let t = subst (λ (v : Option Stand). TakesNext s o (front ++ so.bits) (given ++ so.samples) c.decode_all.here c.decode_all.reader c.next_stand.new.reader
+    (values_at s c.next_stand.new.levels.items) (Ok v)) c.in-None.is (c.in-Ok.ensures.takes o (front ++ so.bits) (given ++ so.samples) so.stands) in
     ends_so pauses.Blank so (
-      has_room c.args.setting.now c.decode_all.at (length c.decode_all.samples) (length c.args.samples.now) (length so.samples) c.width.ensures.value c.block.ensures.value c.decode_all-test.true i.within so.count i.len,
+      has_room c.args.setting.now c.decode_all.at (length c.decode_all.samples) (length c.args.samples.now) (length so.samples) c.width.ensures.value
+          c.block.ensures.value c.decode_all-test.true i.within so.count i.len,
       t.0,
       t.1,
     ) (λ no. c.is_too_long.ensures.fits c.if-is_too_long.false)
@@ -101,25 +106,30 @@ pub pause_of-requires-clause-read : goal.pause_of-requires-clause-read
 pause_of-requires-clause-read c = λ read.
     let know = c.requires in
     let so = c.decode_all.invariant.so_far know.0 know.1 know.2 know.3 in
-    failed_once c.args.setting.now know.0 (know.1 ++ so.bits) (know.2 ++ so.samples) c.decode_all.here c.decode_all.reader c.next_stand.new.reader (values_at c.args.setting.now c.next_stand.new.levels.items) c.in-Err.fault read (c.in-Err.ensures.takes know.0 (know.1 ++ so.bits) (know.2 ++ so.samples) so.stands)
+    failed_once c.args.setting.now know.0 (know.1 ++ so.bits) (know.2 ++ so.samples) c.decode_all.here c.decode_all.reader c.next_stand.new.reader
+    (values_at c.args.setting.now c.next_stand.new.levels.items) c.in-Err.fault read (c.in-Err.ensures.takes know.0 (know.1 ++ so.bits) (know.2 ++ so.samples) so.stands)
 
 pub pause_of-requires-clause-long : goal.pause_of-requires-clause-long
 pause_of-requires-clause-long c = λ long.
     let know = c.requires in
     let so = c.decode_all.invariant.so_far know.0 know.1 know.2 know.3 in
-    never_too_long c.args.setting.now know.0 (know.1 ++ so.bits) (know.2 ++ so.samples) c.decode_all.here c.decode_all.reader c.next_stand.new.reader (values_at c.args.setting.now c.next_stand.new.levels.items) c.in-Err.fault long (c.in-Err.ensures.takes know.0 (know.1 ++ so.bits) (know.2 ++ so.samples) so.stands)
+    never_too_long c.args.setting.now know.0 (know.1 ++ so.bits) (know.2 ++ so.samples) c.decode_all.here c.decode_all.reader c.next_stand.new.reader
+    (values_at c.args.setting.now c.next_stand.new.levels.items) c.in-Err.fault long (c.in-Err.ensures.takes know.0 (know.1 ++ so.bits) (know.2 ++ so.samples) so.stands)
 
 pub returns-in-Err : goal.returns-in-Err
 returns-in-Err c = λ o front given h.
     let s = c.args.setting.now in
     let i = c.decode_all.invariant in
     let so = i.so_far o front given h in
-    let room = has_room s c.decode_all.at (length c.decode_all.samples) (length c.args.samples.now) (length so.samples) c.width.ensures.value c.block.ensures.value c.decode_all-test.true i.within so.count i.len in
+    let room = has_room s c.decode_all.at (length c.decode_all.samples) (length c.args.samples.now) (length so.samples) c.width.ensures.value
+    c.block.ensures.value c.decode_all-test.true i.within so.count i.len in
     subst (λ (p : Pause). DecodesMore s o front given c.args.piece.now c.args.stand.now c.args.samples.now c.decode_all.samples c.decode_all.here p) (sym c.pause_of.ensures.pause)
-    (refused_so (values_at s c.next_stand.new.levels.items) c.decode_all.reader c.next_stand.new.reader c.in-Err.fault so room (c.in-Err.ensures.takes o (front ++ so.bits) (given ++ so.samples) so.stands) c.pause_of.ensures.never (c.is_too_long.ensures.fits c.if-is_too_long.false))
+    (refused_so (values_at s c.next_stand.new.levels.items) c.decode_all.reader c.next_stand.new.reader c.in-Err.fault so room
+    (c.in-Err.ensures.takes o (front ++ so.bits) (given ++ so.samples) so.stands) c.pause_of.ensures.never (c.is_too_long.ensures.fits c.if-is_too_long.false))
 
 pub returns : goal.returns
 returns c = λ o front given h.
     let i = c.decode_all.invariant in
     let so = i.so_far o front given h in
-    ends_so pauses.Full so (has_none c.args.setting.now c.decode_all.at (length c.decode_all.samples) (length c.args.samples.now) (length so.samples) c.width.ensures.value c.block.ensures.value c.decode_all-test.false i.within so.count i.len) (λ no. c.is_too_long.ensures.fits c.if-is_too_long.false)
+    ends_so pauses.Full so (has_none c.args.setting.now c.decode_all.at (length c.decode_all.samples) (length c.args.samples.now) (length so.samples)
+    c.width.ensures.value c.block.ensures.value c.decode_all-test.false i.within so.count i.len) (λ no. c.is_too_long.ensures.fits c.if-is_too_long.false)

@@ -10,7 +10,8 @@ invariant-decode_all l = record {
   aligned : 0 < length l.piece → l.reader.taken % 8 ≡ l.here.bits % 8;
   within : l.at ≤ length l.samples;
   len : length l.samples ≡ length l.fn.samples;
-  so_far : (o : Origin) (front : List Bool) (given : List ℤ) → IsStand l.setting o l.stand front given → PulledSoFar l.setting o front given l.piece l.stand l.fn.samples l.samples l.here (ahead l.reader) l.at;
+  so_far : (o : Origin) (front : List Bool) (given : List ℤ) → IsStand l.setting o l.stand front given
+      → PulledSoFar l.setting o front given l.piece l.stand l.fn.samples l.samples l.here (ahead l.reader) l.at;
 }
 
 abbrev pub decreases-decode_all : goal.decreases-decode_all

@@ -68,7 +68,8 @@ returns-clause-goes_on c =
     } in
     let fits : FitsSigned w64 c.before-2.result = search rules in
     let cast : to_z w64 (of_z w64 c.before-2.result) ≡ c.before-2.result = to_z-of_z w64 c.before-2.result fits in (
-      subst (λ (z : ℤ). GoesOnAt s stand (stand_with (stand.samples + c.block-size.result) (stand.bits + (c.taken.result - c.taken-before.result)) c.steps.result z c.block.result c.run.result) q old new) (sym cast)
+      subst (λ (z : ℤ). GoesOnAt s stand (stand_with (stand.samples + c.block-size.result) (stand.bits + (c.taken.result - c.taken-before.result))
+          c.steps.result z c.block.result c.run.result) q old new) (sym cast)
           (goes_on_at s know.0 stand next old new c.tick.new.self c.next_levels.new.meter (values_at s levels) know.1 know.2 q same steps know.3),
       omega (arith, block.len, length-values s levels),
     )
@@ -108,5 +109,7 @@ returns-clause-takes c = λ o front given h.
     } in
     let fits : FitsSigned w64 c.before-2.result = search rules in
     let cast : to_z w64 (of_z w64 c.before-2.result) ≡ c.before-2.result = to_z-of_z w64 c.before-2.result fits in
-    subst (λ (z : ℤ). GivesNext s o front given (stand_with (stand.samples + c.block-size.result) (stand.bits + (c.taken.result - c.taken-before.result)) c.steps.result z c.block.result c.run.result) old new (values_at s levels)) (sym cast)
+    subst (λ (z : ℤ). GivesNext s o front given
+    (stand_with (stand.samples + c.block-size.result) (stand.bits + (c.taken.result - c.taken-before.result)) c.steps.result z c.block.result c.run.result)
+    old new (values_at s levels)) (sym cast)
     (gives_next s o stand next old new c.tick.new.self c.next_levels.new.meter (values_at s levels) front given steps h)

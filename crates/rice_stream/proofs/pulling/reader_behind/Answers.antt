@@ -14,10 +14,12 @@ pub unreachable-requires : goal.unreachable-requires
 unreachable-requires c =
     let start : c.new-reader.result ≡ new_reader c.new.result (Some c.args.piece.now) 0 = c.new-reader.ensures ∙ ap (λ (l : List ℕ). new_reader c.new.result (Some l) 0) c.new.ensures in
     let err = c.in-Err.ensures.err (ap (λ (r : Reader SliceIn). r.refusal) start) in
-    never_refused c.new.result c.args.piece.now c.args.skipped err.0 c.take.new.self c.in-Err.field-0 c.requires err.1 (let e : length c.args.piece.now ≢ 0 = search rules in e) (sym c.into_inner-intake.ensures.failed)
+    never_refused c.new.result c.args.piece.now c.args.skipped err.0 c.take.new.self c.in-Err.field-0 c.requires err.1
+    (let e : length c.args.piece.now ≢ 0 = search rules in e) (sym c.into_inner-intake.ensures.failed)
     (subst (λ (r : Reader SliceIn). Stops r c.take.new.self err.0 c.in-Err.field-0) start err.2)
 
 pub returns-clause-bits : goal.returns-clause-bits
 returns-clause-bits c =
     let start : c.new-reader.result ≡ new_reader c.new.result (Some c.args.piece.now) 0 = c.new-reader.ensures ∙ ap (λ (l : List ℕ). new_reader c.new.result (Some l) 0) c.new.ensures in
-    skipped_bits c.new.result c.args.piece.now c.args.skipped c.in-Ok.field-0 c.take.new.self (subst (λ (r : Reader SliceIn). Takes r c.take.new.self (word c.args.skipped c.in-Ok.field-0)) start c.in-Ok.ensures.ok.1)
+    skipped_bits c.new.result c.args.piece.now c.args.skipped c.in-Ok.field-0 c.take.new.self
+    (subst (λ (r : Reader SliceIn). Takes r c.take.new.self (word c.args.skipped c.in-Ok.field-0)) start c.in-Ok.ensures.ok.1)

@@ -29,5 +29,6 @@ repeat-preserved c =
       some = omega (arith, c.repeat.invariant.some);
       within = few;
       len = c.copy_within.ensures.len ∙ c.repeat.invariant.len;
-      copies = ap (take (length pattern * (done + more))) c.copy_within.ensures.after ∙ copied-on pattern c.repeat.bytes done more c.args.count inside few c.repeat.invariant.len c.repeat.invariant.copies;
+      copies = ap (take (length pattern * (done + more))) c.copy_within.ensures.after
+          ∙ copied-on pattern c.repeat.bytes done more c.args.count inside few c.repeat.invariant.len c.repeat.invariant.copies;
     }

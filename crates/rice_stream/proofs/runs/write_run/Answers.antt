@@ -6,7 +6,8 @@ use Rattle.rice_stream.proofs.runs.write_run.Goals as goal
 
 pub slice_bounds-spelled-end : goal.slice_bounds-spelled-end
 slice_bounds-spelled-end g c =
-    let e : c.width-width.result * (c.block-block.result * c.blocks_at_once-blocks.result) ≤ 512 = (let w = c.width-width.ensures.value in let b = c.block-block.ensures.value in rw (w, b) (let r = c.blocks_at_once-blocks.ensures.room in omega (arith, r))) in
+    let e : c.width-width.result * (c.block-block.result * c.blocks_at_once-blocks.result) ≤ 512 =
+    (let w = c.width-width.ensures.value in let b = c.block-block.ensures.value in rw (w, b) (let r = c.blocks_at_once-blocks.ensures.room in omega (arith, r))) in
     omega (arith, e)
 
 pub spell_again-requires-clause-sample : goal.spell_again-requires-clause-sample
@@ -28,5 +29,7 @@ returns-in-Err-clause-err g c =
     let block = c.block-block.ensures in
     let spelled = c.spell_again.ensures ∙ ap (λ x. spellings s (replicate (c.block-block.result * blocks.result) x)) same in
     let taken = c.in-Err.ensures.err in
-    run_cut s c.args.asked c.args.written blocks.result c.in-Err.taken c.width-width.result c.block-block.result p c.repeat_blocks.new.self (g.O.Outlet.taken c.args.outlet.now) (g.O.Outlet.taken c.write_counted.new.outlet) c.spell_again.new.bytes
-    (omega (arith, block.value, block.range)) (omega (arith, width.value, width.range)) width.value block.value c.repeat_blocks.ensures.gives c.repeat_blocks.ensures.run blocks.ensures.wanted spelled taken.0 taken.1
+    run_cut s c.args.asked c.args.written blocks.result c.in-Err.taken c.width-width.result c.block-block.result p c.repeat_blocks.new.self
+    (g.O.Outlet.taken c.args.outlet.now) (g.O.Outlet.taken c.write_counted.new.outlet) c.spell_again.new.bytes
+    (omega (arith, block.value, block.range)) (omega (arith, width.value, width.range)) width.value block.value c.repeat_blocks.ensures.gives
+    c.repeat_blocks.ensures.run blocks.ensures.wanted spelled taken.0 taken.1

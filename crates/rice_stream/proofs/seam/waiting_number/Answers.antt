@@ -9,7 +9,8 @@ pub bounds-whole-0 : goal.bounds-whole-0
 bounds-whole-0 c = one_byte c.args.sink.now c.pad.new.self c.whole.result.now c.pad.ensures.bits c.whole.ensures (omega (arith, c.len-count.ensures.value, c.if-count-eq0.false)) c.requires
 
 pub returns-clause-digits : goal.returns-clause-digits
-returns-clause-digits c = byte_digits c.args.sink.now c.pad.new.self c.whole.result.now c.len-count.result c.pad.ensures.bits c.whole.ensures (omega (arith, c.len-count.ensures.value, c.if-count-eq0.false)) c.requires c.len-count.ensures.value
+returns-clause-digits c = byte_digits c.args.sink.now c.pad.new.self c.whole.result.now c.len-count.result c.pad.ensures.bits c.whole.ensures
+    (omega (arith, c.len-count.ensures.value, c.if-count-eq0.false)) c.requires c.len-count.ensures.value
 
 pub returns-clause-fits : goal.returns-clause-fits
 returns-clause-fits c =

@@ -10,4 +10,5 @@ pub returns : goal.returns
 returns c =
     let four = c.write_all_ends-found in
     let three = c.write_all_ends in
-    searched-seven c.args.front c.to_be_bytes-bytes.result c.args.ends.now four.new.ends three.new.ends four.result three.result c.to_be_bytes-bytes.ensures c.requires.first four.ensures.found four.ensures.ends three.ensures.found three.ensures.ends
+    searched-seven c.args.front c.to_be_bytes-bytes.result c.args.ends.now four.new.ends three.new.ends four.result three.result c.to_be_bytes-bytes.ensures
+    c.requires.first four.ensures.found four.ensures.ends three.ensures.found three.ensures.ends

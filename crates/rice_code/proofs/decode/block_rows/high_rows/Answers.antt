@@ -21,10 +21,12 @@ loop-row-preserved g c =
     let few : o ≤ length (take (16 * l.row) l.highs) = omega (arith, c.requires.omitted, l.auto.row, length-take-le (16 * l.row) l.highs (omega (arith, inside.0, l.invariant.places))) in
     record {
       places = c.store_row-in-loop-row.ensures.len ∙ l.invariant.places;
-      rows = subst (λ xs. HighsAhead w skip o xs (l.len + next.len)) (sym c.store_row-in-loop-row.ensures.value) (highs-row w skip o l.len next.len (take (16 * l.row) l.highs) next.numbers few l.invariant.rows c.in_ok-next.ensures.some);
+      rows = subst (λ xs. HighsAhead w skip o xs (l.len + next.len)) (sym c.store_row-in-loop-row.ensures.value)
+          (highs-row w skip o l.len next.len (take (16 * l.row) l.highs) next.numbers few l.invariant.rows c.in_ok-next.ensures.some);
     }
 
 pub returns-clause-some : goal.returns-clause-some
 returns-clause-some g c =
     let l = c.loop-row in
-    subst (λ n. HighsAhead c.args.reader.now.waiting c.args.skip c.args.omitted (take n l.highs) l.len) (rows_end g.row.SIZE l.row c.requires.size (omega (arith, l.auto.row-end)) (omega (arith, c.loop-row-test.false))) l.invariant.rows
+    subst (λ n. HighsAhead c.args.reader.now.waiting c.args.skip c.args.omitted (take n l.highs) l.len)
+    (rows_end g.row.SIZE l.row c.requires.size (omega (arith, l.auto.row-end)) (omega (arith, c.loop-row-test.false))) l.invariant.rows

@@ -11,7 +11,8 @@ loop-row-init g c =
       places = c.store_row.ensures.len;
       rows =
           subst (LowsAhead c.args.reader.now.waiting c.args.skip c.args.omitted c.args.k) (sym c.store_row.ensures.value)
-          (row-lows c.args.reader.now.waiting c.args.skip c.args.omitted c.args.k c.words_ahead.result c.behind_omitted-first.result c.requires.omitted words.len words.fit words.bits c.behind_omitted-first.ensures);
+          (row-lows c.args.reader.now.waiting c.args.skip c.args.omitted c.args.k c.words_ahead.result c.behind_omitted-first.result c.requires.omitted
+          words.len words.fit words.bits c.behind_omitted-first.ensures);
     }
 
 pub loop-row-preserved : goal.loop-row-preserved
@@ -29,10 +30,12 @@ loop-row-preserved g c =
     let place : skip + (16 - o) * k + 16 * (l.row - 1) * k ≡ skip + (length before - o) * k = row_place skip l.row o k l.auto.row c.requires.omitted ∙ ap (λ n. skip + (n - o) * k) (sym long) in
     record {
       places = c.store_row-in-loop-row.ensures.len ∙ l.invariant.places;
-      rows = subst (LowsAhead w skip o k) (sym c.store_row-in-loop-row.ensures.value) (lows-row w skip o k (skip + (16 - o) * k + 16 * (l.row - 1) * k) before words.result few l.invariant.rows place words.ensures.len words.ensures.fit words.ensures.bits);
+      rows = subst (LowsAhead w skip o k) (sym c.store_row-in-loop-row.ensures.value)
+          (lows-row w skip o k (skip + (16 - o) * k + 16 * (l.row - 1) * k) before words.result few l.invariant.rows place words.ensures.len words.ensures.fit words.ensures.bits);
     }
 
 pub returns-clause-lows : goal.returns-clause-lows
 returns-clause-lows g c =
     let l = c.loop-row in
-    subst (λ n. LowsAhead c.args.reader.now.waiting c.args.skip c.args.omitted c.args.k (take n l.lows)) (rows_end g.row.SIZE l.row c.requires.size (omega (arith, l.auto.row-end)) (omega (arith, c.loop-row-test.false))) l.invariant.rows
+    subst (λ n. LowsAhead c.args.reader.now.waiting c.args.skip c.args.omitted c.args.k (take n l.lows))
+    (rows_end g.row.SIZE l.row c.requires.size (omega (arith, l.auto.row-end)) (omega (arith, c.loop-row-test.false))) l.invariant.rows

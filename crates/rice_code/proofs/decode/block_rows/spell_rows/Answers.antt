@@ -20,7 +20,8 @@ loop-row-preserved g c =
       room = c.spell_row.ensures.len ∙ l.invariant.room;
       rows =
           subst (λ n. RowsSpelled s parts.from c.args.k n parts.highs parts.lows c.in_ok-last.last c.spell_row.new.bytes) next
-          (row_spelled s parts.from c.args.k (16 * l.row) l.last c.in_ok-last.last g.row.WIDTH parts.highs parts.lows l.spelled c.spell_row.new.bytes c.requires.width (places.1 ∙ sym places.0) (omega (arith, inside.1, inside.2, places.0)) c.spell_row.ensures.before
+          (row_spelled s parts.from c.args.k (16 * l.row) l.last c.in_ok-last.last g.row.WIDTH parts.highs parts.lows l.spelled c.spell_row.new.bytes
+          c.requires.width (places.1 ∙ sym places.0) (omega (arith, inside.1, inside.2, places.0)) c.spell_row.ensures.before
           l.invariant.rows c.in_ok-last.ensures.some);
     }
 
@@ -32,6 +33,8 @@ returns-clause-some g c =
     let size = g.row.SIZE in
     let w = g.row.WIDTH in
     let most = most_rows size c.requires.size in
-    let rows = subst (λ n. RowsSpelled s parts.from c.args.k n parts.highs parts.lows l.last l.spelled) (rows_end size l.row c.requires.size (omega (arith, l.auto.row-end)) (omega (arith, c.loop-row-test.false))) l.invariant.rows in
+    let rows = subst (λ n. RowsSpelled s parts.from c.args.k n parts.highs parts.lows l.last l.spelled)
+    (rows_end size l.row c.requires.size (omega (arith, l.auto.row-end)) (omega (arith, c.loop-row-test.false))) l.invariant.rows in
     subst (λ front. SpellsNear s parts.from c.args.k size (take size parts.highs) (take size parts.lows) l.last (front ++ drop (w * size) c.args.bytes.now)) (sym c.copy_from_slice.ensures.after)
-    (all_spelled s parts.from c.args.k size l.last w parts.highs parts.lows l.spelled c.args.bytes.now c.requires.width most.0 (omega (arith, most.1, c.requires.places.0)) (omega (arith, all_inside w size c.requires.width.widths c.requires.size, l.invariant.room)) rows)
+    (all_spelled s parts.from c.args.k size l.last w parts.highs parts.lows l.spelled c.args.bytes.now c.requires.width most.0
+    (omega (arith, most.1, c.requires.places.0)) (omega (arith, all_inside w size c.requires.width.widths c.requires.size, l.invariant.room)) rows)

@@ -9,7 +9,8 @@ returns-in-Err-clause-err g c =
 
 pub returns-in-Ok-read_run-clause-ok : goal.returns-in-Ok-read_run-clause-ok
 returns-in-Ok-read_run-clause-ok g c =
-    run_low c.args.reader.now c.take.new.self c.read_run.new.reader c.args.meter.now c.take.new.meter c.read_run.new.meter c.args.setting.now c.args.block c.in-Ok-read_run.reference c.in-Ok-read_run.zeros c.args.residuals.now
+    run_low c.args.reader.now c.take.new.self c.read_run.new.reader c.args.meter.now c.take.new.meter c.read_run.new.meter c.args.setting.now c.args.block
+    c.in-Ok-read_run.reference c.in-Ok-read_run.zeros c.args.residuals.now
     (rw c.if-bit-eq0.true at c.in-Ok.ensures.ok.1) c.in-Ok.ensures.steps c.in-Ok-read_run.ensures.reference c.in-Ok-read_run.ensures.ok c.in-Ok-read_run.ensures.steps
 
 pub returns-in-Err-read_run-clause-err : goal.returns-in-Err-read_run-clause-err
@@ -20,10 +21,12 @@ returns-in-Err-read_run-clause-err g c =
 
 pub returns-in-Ok-read_second_extension-clause-ok : goal.returns-in-Ok-read_second_extension-clause-ok
 returns-in-Ok-read_second_extension-clause-ok g c =
-    second_low c.args.reader.now c.take.new.self c.read_second_extension.new.reader c.args.meter.now c.take.new.meter c.read_second_extension.new.meter c.args.setting.now c.args.block c.in-Ok.bit c.in-Ok-read_second_extension.head.reference c.in-Ok-read_second_extension.head.sound true c.read_second_extension.new.residuals
+    second_low c.args.reader.now c.take.new.self c.read_second_extension.new.reader c.args.meter.now c.take.new.meter c.read_second_extension.new.meter
+    c.args.setting.now c.args.block c.in-Ok.bit c.in-Ok-read_second_extension.head.reference c.in-Ok-read_second_extension.head.sound true c.read_second_extension.new.residuals
     c.in-Ok.ensures.ok.0 (omega arith) c.in-Ok.ensures.ok.1 c.in-Ok.ensures.steps c.in-Ok-read_second_extension.ensures.ok
 
 pub returns-in-Err-read_second_extension-clause-err : goal.returns-in-Err-read_second_extension-clause-err
 returns-in-Err-read_second_extension-clause-err g c =
-    second_low_cut c.args.reader.now c.take.new.self c.read_second_extension.new.reader c.args.meter.now c.read_second_extension.new.meter c.args.setting.now c.args.block c.in-Ok.bit c.in-Err-read_second_extension.fault
+    second_low_cut c.args.reader.now c.take.new.self c.read_second_extension.new.reader c.args.meter.now c.read_second_extension.new.meter c.args.setting.now
+    c.args.block c.in-Ok.bit c.in-Err-read_second_extension.fault
     c.in-Ok.ensures.ok.0 (omega arith) c.in-Ok.ensures.ok.1 c.in-Err-read_second_extension.ensures.err

@@ -10,33 +10,38 @@ returns-in-Err-clause-err g c =
 pub returns-in-Ok-read_low_entropy-clause-ok : goal.returns-in-Ok-read_low_entropy-clause-ok
 returns-in-Ok-read_low_entropy-clause-ok g c =
     let t = rw c.id_len-width.ensures.value at c.in-Ok.ensures.ok in
-    low_set c.args.reader.now c.take.new.self c.read_low_entropy.new.reader c.args.meter.now c.take.new.meter c.read_low_entropy.new.meter c.args.setting.now c.args.block c.in-Ok.id c.in-Ok-read_low_entropy.taken c.read_low_entropy.new.residuals
+    low_set c.args.reader.now c.take.new.self c.read_low_entropy.new.reader c.args.meter.now c.take.new.meter c.read_low_entropy.new.meter c.args.setting.now
+    c.args.block c.in-Ok.id c.in-Ok-read_low_entropy.taken c.read_low_entropy.new.residuals
     c.if-id-eq0.true t.1 c.in-Ok.ensures.steps c.in-Ok-read_low_entropy.ensures.ok
 
 pub returns-in-Err-read_low_entropy-clause-err : goal.returns-in-Err-read_low_entropy-clause-err
 returns-in-Err-read_low_entropy-clause-err g c =
     let t = rw c.id_len-width.ensures.value at c.in-Ok.ensures.ok in
-    low_set_cut c.args.reader.now c.take.new.self c.read_low_entropy.new.reader c.args.meter.now c.take.new.meter c.read_low_entropy.new.meter c.args.setting.now c.args.block c.in-Ok.id c.in-Err-read_low_entropy.fault
+    low_set_cut c.args.reader.now c.take.new.self c.read_low_entropy.new.reader c.args.meter.now c.take.new.meter c.read_low_entropy.new.meter
+    c.args.setting.now c.args.block c.in-Ok.id c.in-Err-read_low_entropy.fault
     t.0 c.if-id-eq0.true t.1 c.in-Ok.ensures.steps c.in-Err-read_low_entropy.ensures.err
 
 pub returns-in-Ok-read_no_compression-clause-ok : goal.returns-in-Ok-read_no_compression-clause-ok
 returns-in-Ok-read_no_compression-clause-ok g c =
     let t = rw c.id_len-width.ensures.value at c.in-Ok.ensures.ok in
     let e = rw c.id_len-width.ensures.value at c.if-id-width.true in
-    no_compression_set c.args.reader.now c.take.new.self c.read_no_compression.new.reader c.args.meter.now c.take.new.meter c.read_no_compression.new.meter c.args.setting.now c.args.block c.in-Ok.id c.in-Ok-read_no_compression.head.reference c.in-Ok-read_no_compression.head.sound false c.read_no_compression.new.residuals
+    no_compression_set c.args.reader.now c.take.new.self c.read_no_compression.new.reader c.args.meter.now c.take.new.meter c.read_no_compression.new.meter
+    c.args.setting.now c.args.block c.in-Ok.id c.in-Ok-read_no_compression.head.reference c.in-Ok-read_no_compression.head.sound false c.read_no_compression.new.residuals
     (e ∙ ones_id c.args.setting.now) t.1 c.in-Ok.ensures.steps c.in-Ok-read_no_compression.ensures.ok
 
 pub returns-in-Err-read_no_compression-clause-err : goal.returns-in-Err-read_no_compression-clause-err
 returns-in-Err-read_no_compression-clause-err g c =
     let t = rw c.id_len-width.ensures.value at c.in-Ok.ensures.ok in
     let e = rw c.id_len-width.ensures.value at c.if-id-width.true in
-    no_compression_set_cut c.args.reader.now c.take.new.self c.read_no_compression.new.reader c.args.meter.now c.read_no_compression.new.meter c.args.setting.now c.args.block c.in-Ok.id c.in-Err-read_no_compression.fault
+    no_compression_set_cut c.args.reader.now c.take.new.self c.read_no_compression.new.reader c.args.meter.now c.read_no_compression.new.meter
+    c.args.setting.now c.args.block c.in-Ok.id c.in-Err-read_no_compression.fault
     t.0 (e ∙ ones_id c.args.setting.now) t.1 c.in-Err-read_no_compression.ensures.err
 
 pub returns-in-Ok-read_split-clause-ok : goal.returns-in-Ok-read_split-clause-ok
 returns-in-Ok-read_split-clause-ok g c =
     let t = rw c.id_len-width.ensures.value at c.in-Ok.ensures.ok in
-    split_set c.args.reader.now c.take.new.self c.read_split.new.reader c.args.meter.now c.take.new.meter c.read_split.new.meter c.args.setting.now c.args.block c.in-Ok.id (c.in-Ok.id - 1) c.in-Ok-read_split.head.reference c.in-Ok-read_split.head.sound true c.read_split.new.residuals
+    split_set c.args.reader.now c.take.new.self c.read_split.new.reader c.args.meter.now c.take.new.meter c.read_split.new.meter c.args.setting.now c.args.block
+    c.in-Ok.id (c.in-Ok.id - 1) c.in-Ok-read_split.head.reference c.in-Ok-read_split.head.sound true c.read_split.new.residuals
     (omega arith) t.1 c.in-Ok.ensures.steps c.in-Ok-read_split.ensures.ok
 
 pub returns-in-Err-read_split-clause-err : goal.returns-in-Err-read_split-clause-err
@@ -44,5 +49,6 @@ returns-in-Err-read_split-clause-err g c =
     let t = rw c.id_len-width.ensures.value at c.in-Ok.ensures.ok in
     let e = rw c.id_len-width.ensures.value at c.if-id-width.false in
     let i = ones_id c.args.setting.now in
-    split_set_cut c.args.reader.now c.take.new.self c.read_split.new.reader c.args.meter.now c.read_split.new.meter c.args.setting.now c.args.block c.in-Ok.id (c.in-Ok.id - 1) c.in-Err-read_split.fault
+    split_set_cut c.args.reader.now c.take.new.self c.read_split.new.reader c.args.meter.now c.read_split.new.meter c.args.setting.now c.args.block c.in-Ok.id
+    (c.in-Ok.id - 1) c.in-Err-read_split.fault
     (omega (arith, t.0, e, i)) (omega arith) t.1 c.in-Err-read_split.ensures.err

@@ -24,7 +24,8 @@ returns-clause-ok g c =
 
 pub loop-done-preserved : goal.loop-done-preserved
 loop-done-preserved g c = record {
-  row = counts-append c.args.reader.now c.loop-done.reader c.read_some_counts.new.reader c.args.most c.loop-done.done c.in-Ok.some c.loop-done.small c.in-Ok.fit (take c.loop-done.done c.loop-done.counts) (take c.in-Ok.some c.read_some_counts.new.counts) _
+  row = counts-append c.args.reader.now c.loop-done.reader c.read_some_counts.new.reader c.args.most c.loop-done.done c.in-Ok.some c.loop-done.small c.in-Ok.fit
+      (take c.loop-done.done c.loop-done.counts) (take c.in-Ok.some c.read_some_counts.new.counts) _
       c.loop-done.invariant.row c.in-Ok.ensures.ok
       (put_front c.loop-done.done _ c.in-Ok.some c.loop-done.counts c.read_some_counts.new.counts (search rules) c.in-Ok.ensures.some.1);
   steps = omega (arith, c.in-Ok.ensures.steps, c.loop-done.invariant.steps);

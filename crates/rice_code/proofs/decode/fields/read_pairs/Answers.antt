@@ -39,6 +39,7 @@ returns-clause-ok g c =
     let w = c.take_waiting_pairs-some in
     let rest = c.read_each_pair.new.out in
     let twice : 2 * w.result ≡ w.result + w.result = omega arith in
-    pairs-both c.args.reader.now w.new.reader c.read_each_pair.new.reader w.result _ (length c.args.out.now / 2) (take (w.result + w.result) w.new.out) rest _ c.args.meter.now w.new.meter c.read_each_pair.new.meter
+    pairs-both c.args.reader.now w.new.reader c.read_each_pair.new.reader w.result _ (length c.args.out.now / 2) (take (w.result + w.result) w.new.out) rest _
+    c.args.meter.now w.new.meter c.read_each_pair.new.meter
     w.ensures.taken.row c.in_default.ensures.ok (omega (arith, w.ensures.within, w.auto.out, c.read_each_pair.auto.out))
     (put_rest (2 * w.result) w.new.out rest (omega (arith, w.ensures.within, w.auto.out)) ∙ ap (λ k. take k w.new.out ++ rest) twice)

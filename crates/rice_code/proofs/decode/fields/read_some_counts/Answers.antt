@@ -17,5 +17,8 @@ pub returns-in-Err-clause-err : goal.returns-in-Err-clause-err
 returns-in-Err-clause-err g c =
     let waiting = c.take_waiting_fs-some in
     let none : waiting.result ≡ 0 = omega (arith, c.if-some-gt0.false) in
-    let e = c.in-Err.ensures.err waiting.ensures.takes.going in
-    (e.0, stops-first fundamental_sequence c.args.reader.now waiting.new.self c.take_fs.new.self (take waiting.result waiting.new.zeros) _ c.in-Err.fault (ap (λ n. take n waiting.new.zeros) none) waiting.ensures.takes e.1)
+    let e = c.in-Err.ensures.err waiting.ensures.takes.going in (
+      e.0,
+      stops-first fundamental_sequence c.args.reader.now waiting.new.self c.take_fs.new.self (take waiting.result waiting.new.zeros) _ c.in-Err.fault
+          (ap (λ n. take n waiting.new.zeros) none) waiting.ensures.takes e.1,
+    )

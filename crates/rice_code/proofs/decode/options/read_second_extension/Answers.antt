@@ -15,11 +15,14 @@ returns-in-Err-clause-err g c =
 pub returns-in-Err-read_pairs-clause-err : goal.returns-in-Err-read_pairs-clause-err
 returns-in-Err-read_pairs-clause-err g c =
     let e = c.in-Err-read_pairs.ensures.err in
-    second_extension_cut c.args.reader.now c.read_reference.new.reader c.read_pairs.new.reader c.args.setting.now c.args.block c.in-Ok.reference (length c.args.residuals.now / 2) e.0 c.in-Err-read_pairs.fault
+    second_extension_cut c.args.reader.now c.read_reference.new.reader c.read_pairs.new.reader c.args.setting.now c.args.block c.in-Ok.reference
+    (length c.args.residuals.now / 2) e.0 c.in-Err-read_pairs.fault
     c.in-Ok.ensures.reference (ap (λ n. n / 2 + n / 2) c.requires.size ∙ two_halves c.args.setting.now.block c.values-values.ensures.legal.block) c.in-Ok.ensures.ok e.1 e.2
 
 pub returns-in-Ok-read_pairs-clause-ok : goal.returns-in-Ok-read_pairs-clause-ok
 returns-in-Ok-read_pairs-clause-ok g c =
-    second_extension_read c.args.reader.now c.read_reference.new.reader c.read_pairs.new.reader c.args.meter.now c.read_reference.new.meter c.read_pairs.new.meter c.args.setting.now c.args.block c.in-Ok.reference (length c.args.residuals.now / 2) c.read_pairs.new.out c.are_sound-sound.result
-    c.in-Ok.ensures.reference (ap (λ n. n / 2 + n / 2) c.requires.size ∙ two_halves c.args.setting.now.block c.values-values.ensures.legal.block) c.in-Ok.ensures.ok c.in-Ok-read_pairs.ensures.ok c.in-Ok.ensures.steps
+    second_extension_read c.args.reader.now c.read_reference.new.reader c.read_pairs.new.reader c.args.meter.now c.read_reference.new.meter
+    c.read_pairs.new.meter c.args.setting.now c.args.block c.in-Ok.reference (length c.args.residuals.now / 2) c.read_pairs.new.out c.are_sound-sound.result
+    c.in-Ok.ensures.reference (ap (λ n. n / 2 + n / 2) c.requires.size ∙ two_halves c.args.setting.now.block c.values-values.ensures.legal.block)
+    c.in-Ok.ensures.ok c.in-Ok-read_pairs.ensures.ok c.in-Ok.ensures.steps
     (rw c.values-values.ensures.value at c.are_sound-sound.ensures.sound) (rw c.values-values.ensures.value at c.are_sound-sound.ensures.unsound)

@@ -26,7 +26,8 @@ returns-in-Ok-false-clause-ok g c =
     let part = sent_part c.args.setting.now c.in-Ok.reference first.result first.new.residuals c.values-values.ensures.legal first.ensures.first (first.auto.residuals ∙ c.requires.size) in
     split_large c.args.reader.now c.read_reference.new.reader c.read_sent.new.reader c.args.meter.now c.read_sent.new.meter c.args.setting.now c.args.block c.args.k c.in-Ok.reference _ false
     (drop first.result c.read_sent.new.residuals) _
-    c.in-Ok.ensures.reference c.requires.k part.1 c.in-Ok.ensures.ok (rw (c.values-values.ensures.value, c.in-Ok-false.field-0-test) at c.in-Ok-false.ensures.ok) refl (omega (arith, c.in-Ok.ensures.steps, c.in-Ok-false.ensures.steps))
+    c.in-Ok.ensures.reference c.requires.k part.1 c.in-Ok.ensures.ok
+    (rw (c.values-values.ensures.value, c.in-Ok-false.field-0-test) at c.in-Ok-false.ensures.ok) refl (omega (arith, c.in-Ok.ensures.steps, c.in-Ok-false.ensures.steps))
 
 pub joined_are_below-sound-requires-clause-highs : goal.joined_are_below-sound-requires-clause-highs
 joined_are_below-sound-requires-clause-highs g c =
@@ -35,15 +36,19 @@ joined_are_below-sound-requires-clause-highs g c =
     let sent = drop c.begin_residuals-first.result c.read_sent.new.residuals in
     let same : many ≡ 2 ^ c.bits.result = ap (λ n. 2 ^ n) (sym c.bits.ensures.value) in
     let read = rw c.values-values.ensures.value at c.in-Ok-true.ensures.ok in
-    subst (λ ds. All (λ d. d / 2 ^ k ≤ (2 ^ c.bits.result - 1) / 2 ^ k) ds) (sym (up_to_end c.begin_residuals-first.result c.read_sent.new.residuals)) (subst (λ n. All (λ d. d / 2 ^ k ≤ (n - 1) / 2 ^ k) sent) same (parts_small c.read_reference.new.reader c.read_sent.new.reader _ k c.in-Ok-true.field-0 _ sent read c.in-Ok-true.field-0-test))
+    subst (λ ds. All (λ d. d / 2 ^ k ≤ (2 ^ c.bits.result - 1) / 2 ^ k) ds) (sym (up_to_end c.begin_residuals-first.result c.read_sent.new.residuals))
+    (subst (λ n. All (λ d. d / 2 ^ k ≤ (n - 1) / 2 ^ k) sent) same
+    (parts_small c.read_reference.new.reader c.read_sent.new.reader _ k c.in-Ok-true.field-0 _ sent read c.in-Ok-true.field-0-test))
 
 pub returns-clause-ok : goal.returns-clause-ok
 returns-clause-ok g c =
     let first = c.begin_residuals-first in
     let part = sent_part c.args.setting.now c.in-Ok.reference first.result first.new.residuals c.values-values.ensures.legal first.ensures.first (first.auto.residuals ∙ c.requires.size) in
-    split_joined c.args.reader.now c.read_reference.new.reader c.read_sent.new.reader c.args.meter.now c.read_sent.new.meter c.args.setting.now c.args.block c.args.k c.in-Ok.reference _ c.in-Ok-true.field-0
+    split_joined c.args.reader.now c.read_reference.new.reader c.read_sent.new.reader c.args.meter.now c.read_sent.new.meter c.args.setting.now c.args.block
+    c.args.k c.in-Ok.reference _ c.in-Ok-true.field-0
     (drop first.result c.read_sent.new.residuals) _ c.joined_are_below-sound.result
-    c.in-Ok.ensures.reference c.requires.k part.1 c.in-Ok.ensures.ok (rw c.values-values.ensures.value at c.in-Ok-true.ensures.ok) c.in-Ok-true.field-0-test (omega (arith, c.in-Ok.ensures.steps, c.in-Ok-true.ensures.steps))
+    c.in-Ok.ensures.reference c.requires.k part.1 c.in-Ok.ensures.ok (rw c.values-values.ensures.value at c.in-Ok-true.ensures.ok) c.in-Ok-true.field-0-test
+    (omega (arith, c.in-Ok.ensures.steps, c.in-Ok-true.ensures.steps))
     (sent_placed first.result c.in-Ok.reference first.new.residuals c.read_sent.new.residuals first.ensures.place c.in-Ok-true.ensures.stay)
     (rw (up_to_end first.result c.read_sent.new.residuals, c.bits.ensures.value) at c.joined_are_below-sound.ensures.below)
     (rw (up_to_end first.result c.read_sent.new.residuals, c.bits.ensures.value) at c.joined_are_below-sound.ensures.not_below)

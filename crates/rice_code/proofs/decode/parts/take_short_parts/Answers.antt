@@ -13,4 +13,6 @@ pub returns-clause-some : goal.returns-clause-some
 returns-clause-some g c =
     let waited = c.take_waiting_parts in
     subst (λ n. PartsRead c.args.reader.now waited.new.self c.args.most c.args.k c.each_is_below.result n waited.new.numbers) waited.auto.numbers
-    (parts_waited c.args.reader.now waited.new.self c.args.most c.args.k c.each_is_below.result waited.new.numbers (c.if-not-take_waiting_parts.ensures.takes refl) (λ e. inr (rw c.limit_of.ensures.value at (c.each_is_below.ensures.below e))) (rw c.limit_of.ensures.value at c.each_is_below.ensures.not_below))
+    (parts_waited c.args.reader.now waited.new.self c.args.most c.args.k c.each_is_below.result waited.new.numbers
+    (c.if-not-take_waiting_parts.ensures.takes refl) (λ e. inr (rw c.limit_of.ensures.value at (c.each_is_below.ensures.below e)))
+    (rw c.limit_of.ensures.value at c.each_is_below.ensures.not_below))

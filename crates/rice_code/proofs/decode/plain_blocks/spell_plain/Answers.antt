@@ -25,4 +25,5 @@ loop-i-preserved g c =
 pub returns : goal.returns
 returns g c =
     let count = c.block_bytes-count.ensures in
-    block_words (drop c.args.skip c.args.reader.now.waiting) c.args.setting.now g.row.WIDTH (16 * c.loop-i.i) c.loop-i.bytes c.requires.plain c.loop-i.invariant.words (omega (arith, c.loop-i-test.false, count.value))
+    block_words (drop c.args.skip c.args.reader.now.waiting) c.args.setting.now g.row.WIDTH (16 * c.loop-i.i) c.loop-i.bytes c.requires.plain
+    c.loop-i.invariant.words (omega (arith, c.loop-i-test.false, count.value))

@@ -29,7 +29,9 @@ loop-i-preserved g c =
     let room = row_room count.result l.i c.args.most (length l.bytes) c.loop-i-test.true (omega (arith, same, c.requires.room, l.auto.bytes)) in
     let within : count.result * l.i ≤ length l.bytes = omega (arith, room) in
     let place : count.result * l.i ≡ w * s.block * l.i = ap (λ n. n * l.i) count.ensures.value in
-    let kept = written_from (count.result * l.i) (length l.bytes - count.result * l.i) l.bytes more within refl (c.spell_plain.auto.bytes ∙ length-take-le (length l.bytes - count.result * l.i) (drop (count.result * l.i) l.bytes) (omega (arith, length-drop (count.result * l.i) l.bytes))) in
+    let kept = written_from (count.result * l.i) (length l.bytes - count.result * l.i) l.bytes more within refl
+    (c.spell_plain.auto.bytes ∙ length-take-le (length l.bytes - count.result * l.i) (drop (count.result * l.i) l.bytes)
+    (omega (arith, length-drop (count.result * l.i) l.bytes))) in
     let here : len.result * l.i ≡ plain_bits s w * l.i = ap (λ n. n * l.i) len.ensures.value in
     let block : PlainBlock (drop (len.result * l.i) all) s w more = record {
       there = omega (arith, ahead.there refl, length-drop (len.result * l.i) all);
@@ -37,5 +39,6 @@ loop-i-preserved g c =
       words = c.spell_plain.ensures;
     } in
     record {
-      row = row_more all s w l.i l.bytes _ more l.invariant.row (kept ∙ ap (λ n. take n l.bytes ++ more) place) (omega (arith, within, place)) (subst (λ n. PlainBlock (drop n all) s w more) here block);
+      row = row_more all s w l.i l.bytes _ more l.invariant.row (kept ∙ ap (λ n. take n l.bytes ++ more) place) (omega (arith, within, place))
+          (subst (λ n. PlainBlock (drop n all) s w more) here block);
     }

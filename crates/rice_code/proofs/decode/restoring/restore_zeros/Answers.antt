@@ -21,9 +21,11 @@ returns-clause-contents c =
     let old = c.set_len.new.levels.items in
     let count : length c.as_mut_slice.result.now ≡ s.block = ap length c.as_mut_slice.ensures.value ∙ (c.set_len.ensures ∙ c.block.ensures.value) in
     let whole : refill (length old) old c.fill_all.new.levels ≡ c.fill_all.new.levels = refill_all old c.fill_all.new.levels (c.fill_all.auto.levels ∙ ap length c.as_mut_slice.ensures.value) in
-    let all : values_at s (refill (length old) old c.fill_all.new.levels) ≡ replicate s.block x = ap (values_at s) (whole ∙ (c.fill_all.ensures ∙ ap (λ n. replicate n first.result) count)) ∙ values_replicate s s.block first.result in
+    let all : values_at s (refill (length old) old c.fill_all.new.levels) ≡ replicate s.block x = ap (values_at s)
+    (whole ∙ (c.fill_all.ensures ∙ ap (λ n. replicate n first.result) count)) ∙ values_replicate s s.block first.result in
     let some : 1 ≤ s.block = omega (arith, c.block.ensures.value, c.block.ensures.range) in
-    ap (block_data s c.args.block (value_at s c.args.before)) all ∙ zeros_restored s c.args.block (value_at s c.args.before) x c.args.reference c.requires.reference some first.ensures.residual first.ensures.reference
+    ap (block_data s c.args.block (value_at s c.args.before)) all
+    ∙ zeros_restored s c.args.block (value_at s c.args.before) x c.args.reference c.requires.reference some first.ensures.residual first.ensures.reference
 
 pub returns-clause-legal : goal.returns-clause-legal
 returns-clause-legal c =
@@ -43,6 +45,7 @@ returns-clause-last c =
     let old = c.set_len.new.levels.items in
     let count : length c.as_mut_slice.result.now ≡ s.block = ap length c.as_mut_slice.ensures.value ∙ (c.set_len.ensures ∙ c.block.ensures.value) in
     let whole : refill (length old) old c.fill_all.new.levels ≡ c.fill_all.new.levels = refill_all old c.fill_all.new.levels (c.fill_all.auto.levels ∙ ap length c.as_mut_slice.ensures.value) in
-    let all : values_at s (refill (length old) old c.fill_all.new.levels) ≡ replicate s.block x = ap (values_at s) (whole ∙ (c.fill_all.ensures ∙ ap (λ n. replicate n first.result) count)) ∙ values_replicate s s.block first.result in
+    let all : values_at s (refill (length old) old c.fill_all.new.levels) ≡ replicate s.block x = ap (values_at s)
+    (whole ∙ (c.fill_all.ensures ∙ ap (λ n. replicate n first.result) count)) ∙ values_replicate s s.block first.result in
     let some : 1 ≤ s.block = omega (arith, c.block.ensures.value, c.block.ensures.range) in
     sym (ap (last_of p) all ∙ last_of_many p x s.block some)

@@ -49,10 +49,14 @@ code_next-run-requires-clause-room g c =
     let e : c.new-block.result ≡ held s c.args.reference ds i = c.new-block.ensures ∙ (λ j. block_with (c.reference_of.ensures j) (block j)) in
     let legal = c.block-size.ensures.legal in
     let one : 1 ≤ s.block = grind (arith, legal.block) in
-    let P : BlockData → Type 0 = λ b. is_zero_block b ≡ false → HasRoomFor (length (pending_bits s false (reference_at c.args.reference (c.loop-i.i - c.loop-i.run)) c.loop-i.run) + cost s (shortest s b)) (length (pending_bits s false (reference_at c.args.reference (c.loop-i.i - c.loop-i.run)) c.loop-i.run) + cost s (shortest s b) + s.block * (k_max s + 5)) (length c.loop-i.sink) c.loop-i.meter in
+    let P : BlockData → Type 0 = λ b. is_zero_block b ≡ false
+    → HasRoomFor (length (pending_bits s false (reference_at c.args.reference (c.loop-i.i - c.loop-i.run)) c.loop-i.run) + cost s (shortest s b))
+    (length (pending_bits s false (reference_at c.args.reference (c.loop-i.i - c.loop-i.run)) c.loop-i.run) + cost s (shortest s b) + s.block
+    * (k_max s + 5)) (length c.loop-i.sink) c.loop-i.meter in
     subst P (sym e) (λ z.
     let put = length (bits_of_sets s (pending_run false (reference_at c.args.reference (i - c.loop-i.run)) c.loop-i.run)) + cost s (shortest s (held s c.args.reference ds i)) in
-    let g = room_other s c.args.start c.args.reference c.args.count ds i c.loop-i.run c.loop-i.sink c.args.sink.now all legal.interval_from one c.requires.few c.loop-i.invariant.inside c.loop-i-test.true c.requires.sound z c.loop-i.invariant.same in
+    let g = room_other s c.args.start c.args.reference c.args.count ds i c.loop-i.run c.loop-i.sink c.args.sink.now all legal.interval_from one c.requires.few
+    c.loop-i.invariant.inside c.loop-i-test.true c.requires.sound z c.loop-i.invariant.same in
     let fits = meter_fits c.loop-i.meter c.args.meter.now (length c.loop-i.sink) (length c.args.sink.now) (length all) put (sum_by (most_looks s) (take i cs)) i c.args.count (s.block * (k_max s + 5))
     c.loop-i.invariant.steps_to (most_of_all s i cs) c.loop-i-test.true (omega (arith, g)) (omega (arith, c.requires.room.steps)) in
     record { room = omega (arith, g, c.requires.room.room); steps = omega (arith, fits) })
@@ -87,7 +91,8 @@ loop-i-preserved g c =
           let len = ap length joins.bits in
           record {
             inside = omega (arith, joins.run_is);
-            same = (λ j. joins.bits j ++ to_come s start r n ds (i + 1) (joins.run_is j)) ∙ (ap (λ v. c.loop-i.sink ++ v) (sym (next_zero s start r n ds i run inv.inside c.loop-i-test.true c.requires.sound zh)) ∙ inv.same);
+            same = (λ j. joins.bits j ++ to_come s start r n ds (i + 1) (joins.run_is j))
+                ∙ (ap (λ v. c.loop-i.sink ++ v) (sym (next_zero s start r n ds i run inv.inside c.loop-i-test.true c.requires.sound zh)) ∙ inv.same);
             steps_from = omega (arith, low, looks.0, len, joins.steps, inv.steps_from);
             steps_to = omega (arith, high, looks.1, len, joins.steps, inv.steps_to);
           }
@@ -99,16 +104,21 @@ loop-i-preserved g c =
           let k = ap (best_split s) e in
           let put = length (bits_of_sets s (pending_run false (reference_at c.args.reference (c.loop-i.i - c.loop-i.run)) run)) + cost s (shortest s raw) in
           let more = next_other s start r n ds i run legal.interval_from c.requires.few inv.inside c.loop-i-test.true zh in
-          let more' : to_come s start r n ds i run ≡ bits_of_sets s (pending_run false (reference_at c.args.reference (c.loop-i.i - c.loop-i.run)) run) ++ (bits_of_set s (shortest s raw) ++ to_come s start r n ds (i + 1) 0) =
+          let more' : to_come s start r n ds i run ≡ bits_of_sets s (pending_run false (reference_at c.args.reference (c.loop-i.i - c.loop-i.run)) run)
+          ++ (bits_of_set s (shortest s raw) ++ to_come s start r n ds (i + 1) 0) =
           more ∙ (λ j. bits_of_sets s (pending_run false (reference_at r (i - run)) run) ++ (bits_of_set s (shortest s (sym e j)) ++ to_come s start r n ds (i + 1) 0)) in
           record {
             inside = omega (arith, ends.run_is);
             same = ap (λ v. c.code_next-run.new.sink ++ to_come s start r n ds (i + 1) v) ends.run_is
-                ∙ other_same c.loop-i.sink c.code_next-run.new.sink (bits_of_sets s (pending_run false (reference_at c.args.reference (c.loop-i.i - c.loop-i.run)) run)) (bits_of_set s (shortest s raw)) (to_come s start r n ds (i + 1) 0) (c.args.sink.now ++ all) ends.bits
+                ∙ other_same c.loop-i.sink c.code_next-run.new.sink
+                (bits_of_sets s (pending_run false (reference_at c.args.reference (c.loop-i.i - c.loop-i.run)) run)) (bits_of_set s (shortest s raw))
+                (to_come s start r n ds (i + 1) 0) (c.args.sink.now ++ all) ends.bits
                 (sym (ap (λ v. c.loop-i.sink ++ v) more') ∙ inv.same);
-            steps_from = rw low (least_more s.block (best_split s raw) (least_looks s (held s r ds i)) c.args.meter.now c.loop-i.meter c.code_next-run.new.meter (length c.loop-i.sink) (length c.code_next-run.new.sink) (length c.args.sink.now) put (sum_by (least_looks s) (take i cs))
+            steps_from = rw low (least_more s.block (best_split s raw) (least_looks s (held s r ds i)) c.args.meter.now c.loop-i.meter c.code_next-run.new.meter
+                (length c.loop-i.sink) (length c.code_next-run.new.sink) (length c.args.sink.now) put (sum_by (least_looks s) (take i cs))
                 one inv.steps_from (omega (arith, ends.steps_from)) (omega (arith, len)) (looks.0 ∙ ap (λ k. s.block * (k + 3) - 1) (sym k)));
-            steps_to = rw high (most_more (most_looks s (held s r ds i)) c.args.meter.now c.loop-i.meter c.code_next-run.new.meter (length c.loop-i.sink) (length c.code_next-run.new.sink) (length c.args.sink.now) put (sum_by (most_looks s) (take i cs)) (s.block * (min (best_split s raw + 1) (k_max s) + 5))
+            steps_to = rw high (most_more (most_looks s (held s r ds i)) c.args.meter.now c.loop-i.meter c.code_next-run.new.meter (length c.loop-i.sink)
+                (length c.code_next-run.new.sink) (length c.args.sink.now) put (sum_by (most_looks s) (take i cs)) (s.block * (min (best_split s raw + 1) (k_max s) + 5))
                 inv.steps_to (omega (arith, ends.steps_to)) (omega (arith, len)) (looks.1 ∙ ap (λ k. s.block * (min (k + 1) (k_max s) + 5)) (sym k)));
           }
     ]
@@ -128,7 +138,8 @@ put_pending-requires-clause-room g c =
     let put = length (bits_of_sets s (pending_run true (reference_at c.args.reference (n - run)) run)) in
     let room = room_within c.loop-i.sink (bits_of_sets s (pending_run true (reference_at c.args.reference (n - run)) run)) c.args.sink.now all (sym ends ∙ same) in
     let w = ap (λ f. length (bits_of_sets s (pending_run true f run))) c.reference_of-first.ensures in
-    let fits = meter_ends c.loop-i.meter c.args.meter.now (length c.loop-i.sink) (length c.args.sink.now) (length all) put (sum_by (most_looks s) (take c.loop-i.i cs)) c.loop-i.i n (s.block * (k_max s + 5))
+    let fits = meter_ends c.loop-i.meter c.args.meter.now (length c.loop-i.sink) (length c.args.sink.now) (length all) put
+    (sum_by (most_looks s) (take c.loop-i.i cs)) c.loop-i.i n (s.block * (k_max s + 5))
     c.loop-i.invariant.steps_to (most_of_all s c.loop-i.i cs) (omega arith) (omega (arith, room)) (omega (arith, c.requires.room.steps)) in
     record { room = omega (arith, room, w, c.requires.room.room); steps = omega (arith, fits, w) }
 
@@ -143,7 +154,8 @@ returns g c =
     let run = c.loop-i.run in
     let same = sym (ap (λ i. c.loop-i.sink ++ to_come s c.args.start c.args.reference n ds i run) i) ∙ c.loop-i.invariant.same in
     let ends = ap (λ v. c.loop-i.sink ++ v) (at_end s c.args.start c.args.reference n ds run c.block-size.ensures.legal.interval_from c.requires.few (omega arith)) in
-    let put : c.put_pending.new.sink ≡ c.args.sink.now ++ all = c.put_pending.ensures.bits ∙ (ap (λ f. c.loop-i.sink ++ bits_of_sets s (pending_run true f run)) c.reference_of-first.ensures ∙ (sym ends ∙ same)) in
+    let put : c.put_pending.new.sink ≡ c.args.sink.now ++ all = c.put_pending.ensures.bits
+    ∙ (ap (λ f. c.loop-i.sink ++ bits_of_sets s (pending_run true f run)) c.reference_of-first.ensures ∙ (sym ends ∙ same)) in
     let len = held_len s c.args.reference n ds in
     let least = ap (sum_by (least_looks s)) (take_all c.loop-i.i cs (omega (arith, len))) in
     let most = ap (sum_by (most_looks s)) (take_all c.loop-i.i cs (omega (arith, len))) in

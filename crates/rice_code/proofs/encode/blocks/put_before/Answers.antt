@@ -10,7 +10,8 @@ reference_fits r (suc n) P h = tt
 
 pub put_pending-requires-clause-fits : goal.put_pending-requires-clause-fits
 put_pending-requires-clause-fits c =
-    subst (λ r. IfSome r (λ v. v < value_count c.args.setting.now)) (sym c.reference_of-head.ensures) (reference_fits c.args.reference c.args.first (λ v. v < value_count c.args.setting.now) c.requires.fits)
+    subst (λ r. IfSome r (λ v. v < value_count c.args.setting.now)) (sym c.reference_of-head.ensures)
+    (reference_fits c.args.reference c.args.first (λ v. v < value_count c.args.setting.now) c.requires.fits)
 
 pub put_pending-requires-clause-room : goal.put_pending-requires-clause-room
 put_pending-requires-clause-room c =

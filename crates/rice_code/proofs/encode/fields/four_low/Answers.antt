@@ -8,14 +8,16 @@ returns-clause-fits c =
     let w = c.args.width in
     (four_words w w w w (4 * w) c.low_digits-first.result c.low_digits-second.result c.low_digits-third.result c.low_digits-last.result c.join-two.result c.join-three.result c.join.result _ _ _ _
     c.low_digits-first.ensures.fits c.low_digits-second.ensures.fits c.low_digits-third.ensures.fits c.low_digits-last.ensures.fits c.join-two.ensures c.join-three.ensures c.join.ensures
-    (low_word w c.args.four.0 _ c.low_digits-first.ensures.value) (low_word w c.args.four.1 _ c.low_digits-second.ensures.value) (low_word w c.args.four.2 _ c.low_digits-third.ensures.value) (low_word w c.args.four.3 _ c.low_digits-last.ensures.value) (omega arith)).0
+    (low_word w c.args.four.0 _ c.low_digits-first.ensures.value) (low_word w c.args.four.1 _ c.low_digits-second.ensures.value)
+    (low_word w c.args.four.2 _ c.low_digits-third.ensures.value) (low_word w c.args.four.3 _ c.low_digits-last.ensures.value) (omega arith)).0
 
 pub returns-clause-bits : goal.returns-clause-bits
 returns-clause-bits c =
     let w = c.args.width in
     (four_words w w w w (4 * w) c.low_digits-first.result c.low_digits-second.result c.low_digits-third.result c.low_digits-last.result c.join-two.result c.join-three.result c.join.result _ _ _ _
     c.low_digits-first.ensures.fits c.low_digits-second.ensures.fits c.low_digits-third.ensures.fits c.low_digits-last.ensures.fits c.join-two.ensures c.join-three.ensures c.join.ensures
-    (low_word w c.args.four.0 _ c.low_digits-first.ensures.value) (low_word w c.args.four.1 _ c.low_digits-second.ensures.value) (low_word w c.args.four.2 _ c.low_digits-third.ensures.value) (low_word w c.args.four.3 _ c.low_digits-last.ensures.value) (omega arith)).1
+    (low_word w c.args.four.0 _ c.low_digits-first.ensures.value) (low_word w c.args.four.1 _ c.low_digits-second.ensures.value)
+    (low_word w c.args.four.2 _ c.low_digits-third.ensures.value) (low_word w c.args.four.3 _ c.low_digits-last.ensures.value) (omega arith)).1
 
 pub join-two-requires-clause-high : goal.join-two-requires-clause-high
 join-two-requires-clause-high c =

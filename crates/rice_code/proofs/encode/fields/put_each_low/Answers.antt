@@ -7,7 +7,11 @@ use Rattle.rice_code.proofs.encode.fields.put_each_low.Goals as goal
 pub loop-i-init : goal.loop-i-init
 loop-i-init c = record {
   after = omega arith;
-  adds = record { bits = none_written (word c.args.width) c.args.block.now c.args.from (c.args.sink.now ++ c.args.fields.now); len = omega (arith, none_times c.args.from c.args.width); steps = omega (arith, none_times c.args.from (c.args.width + 1)) };
+  adds = record {
+    bits = none_written (word c.args.width) c.args.block.now c.args.from (c.args.sink.now ++ c.args.fields.now);
+    len = omega (arith, none_times c.args.from c.args.width);
+    steps = omega (arith, none_times c.args.from (c.args.width + 1));
+  };
 }
 
 pub add-requires-clause-room : goal.add-requires-clause-room

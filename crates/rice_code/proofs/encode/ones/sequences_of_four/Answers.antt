@@ -16,7 +16,8 @@ returns-then-from-eq0-clause-left c =
 pub returns-then-from-eq0-clause-bits : goal.returns-then-from-eq0-clause-bits
 returns-then-from-eq0-clause-bits c =
     let from : 0 ≡ c.args.from = omega arith in
-    subst (λ n. HasFront c.with_four_sequences.result.value c.with_four_sequences.result.left (sequences_from n c.args.four.0 c.args.four.1 c.args.four.2 c.args.four.3)) from (c.with_four_sequences.ensures.bits [] c.no_sequences-none.ensures.bits)
+    subst (λ n. HasFront c.with_four_sequences.result.value c.with_four_sequences.result.left
+    (sequences_from n c.args.four.0 c.args.four.1 c.args.four.2 c.args.four.3)) from (c.with_four_sequences.ensures.bits [] c.no_sequences-none.ensures.bits)
 
 pub with_sequence-one-requires-clause-some : goal.with_sequence-one-requires-clause-some
 with_sequence-one-requires-clause-some c =
@@ -31,12 +32,27 @@ with_sequence-two-requires-clause-some c =
 pub with_sequence-requires-clause-some : goal.with_sequence-requires-clause-some
 with_sequence-requires-clause-some c =
     let four = c.args.four in
-    omega (arith, c.requires.some, c.no_sequences-none.ensures.left, c.with_sequence-one.ensures.left, c.with_sequence-two.ensures.left, length-from_second c.args.from four.0 four.1 four.2 four.3 (omega arith))
+    omega (
+      arith,
+      c.requires.some,
+      c.no_sequences-none.ensures.left,
+      c.with_sequence-one.ensures.left,
+      c.with_sequence-two.ensures.left,
+      length-from_second
+          c.args.from four.0 four.1 four.2 four.3 (omega arith),
+    )
 
 pub returns-clause-left : goal.returns-clause-left
 returns-clause-left c =
     let four = c.args.four in
-    omega (arith, c.no_sequences-none.ensures.left, c.with_sequence-one.ensures.left, c.with_sequence-two.ensures.left, c.with_sequence.ensures.left, length-from_second c.args.from four.0 four.1 four.2 four.3 (omega arith))
+    omega (
+      arith,
+      c.no_sequences-none.ensures.left,
+      c.with_sequence-one.ensures.left,
+      c.with_sequence-two.ensures.left,
+      c.with_sequence.ensures.left,
+      length-from_second c.args.from four.0 four.1 four.2 four.3 (omega arith),
+    )
 
 pub returns-clause-bits : goal.returns-clause-bits
 returns-clause-bits c =

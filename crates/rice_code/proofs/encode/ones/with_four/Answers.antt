@@ -10,4 +10,5 @@ returns-clause-bits c = λ bits h.
     let two = c.with_one-two.ensures.bits _ one in
     let three = c.with_one-three.ensures.bits _ two in
     let all = c.with_one.ensures.bits _ three in
-    subst (Gathers c.with_one.result.word c.with_one.result.left) (four_behind bits (fundamental_sequence c.args.four.0) (fundamental_sequence c.args.four.1) (fundamental_sequence c.args.four.2) (fundamental_sequence c.args.four.3)) all
+    subst (Gathers c.with_one.result.word c.with_one.result.left)
+    (four_behind bits (fundamental_sequence c.args.four.0) (fundamental_sequence c.args.four.1) (fundamental_sequence c.args.four.2) (fundamental_sequence c.args.four.3)) all

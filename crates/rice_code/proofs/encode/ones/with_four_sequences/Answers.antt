@@ -10,4 +10,5 @@ returns-clause-bits c = λ bits h.
     let two = c.with_sequence-two.ensures.bits _ one in
     let three = c.with_sequence-three.ensures.bits _ two in
     let all = c.with_sequence.ensures.bits _ three in
-    subst (HasFront c.with_sequence.result.value c.with_sequence.result.left) (four_behind bits (fundamental_sequence c.args.four.0) (fundamental_sequence c.args.four.1) (fundamental_sequence c.args.four.2) (fundamental_sequence c.args.four.3)) all
+    subst (HasFront c.with_sequence.result.value c.with_sequence.result.left)
+    (four_behind bits (fundamental_sequence c.args.four.0) (fundamental_sequence c.args.four.1) (fundamental_sequence c.args.four.2) (fundamental_sequence c.args.four.3)) all

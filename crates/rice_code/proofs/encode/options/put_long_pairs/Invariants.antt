@@ -8,5 +8,6 @@ abbrev pub invariant-loop-i : goal.invariant-loop-i
 invariant-loop-i l = record {
   same : (l.sink ++ l.fields) ++ flat_map fundamental_sequence (pair_codes (drop (2 * l.i) l.block)) ≡ l.fn.sink ++ l.fn.fields ++ flat_map fundamental_sequence (pair_codes l.block);
   len : length l.sink + length l.fields + sum_by (λ g. g + 1) (pair_codes (drop (2 * l.i) l.block)) ≡ length l.fn.sink + length l.fn.fields + sum_by (λ g. g + 1) (pair_codes l.block);
-  steps : l.meter + length l.fields + (length l.block - 2 * l.i) + sum_by (λ g. g + 1) (pair_codes (drop (2 * l.i) l.block)) ≡ l.fn.meter + length l.fn.fields + length l.block + sum_by (λ g. g + 1) (pair_codes l.block);
+  steps : l.meter + length l.fields + (length l.block - 2 * l.i) + sum_by (λ g. g + 1) (pair_codes (drop (2 * l.i) l.block)) ≡ l.fn.meter + length l.fn.fields
+      + length l.block + sum_by (λ g. g + 1) (pair_codes l.block);
 }

@@ -14,7 +14,8 @@ all_ones n h = let few : 2 ^ n ≤ 2 ^ 5 = pow-le-pow_right {n = 2} (omega arith
 
 pub put_low-requires-clause-room : goal.put_low-requires-clause-room
 put_low-requires-clause-room c =
-    let sent = sent_are (sent_residuals c.args.block.now) c.args.block.now.residuals c.residuals-residuals.result.now c.first_coded-from.result c.args.setting.now.bits 0 c.first_coded-from.ensures.coded c.residuals-residuals.ensures in
+    let sent = sent_are (sent_residuals c.args.block.now) c.args.block.now.residuals c.residuals-residuals.result.now c.first_coded-from.result
+    c.args.setting.now.bits 0 c.first_coded-from.ensures.coded c.residuals-residuals.ensures in
     let s = c.args.setting.now in
     let j : 2 ≤ s.block = grind (arith, c.bits-bits.ensures.legal.block) in
     let all = coded_and_reference s c.args.block.now.reference c.args.block.now.residuals (omega (arith, c.requires.sound.len)) in
@@ -28,7 +29,8 @@ put_low-requires-clause-room c =
 
 pub returns : goal.returns
 returns c =
-    let sent = sent_are (sent_residuals c.args.block.now) c.args.block.now.residuals c.residuals-residuals.result.now c.first_coded-from.result c.args.setting.now.bits 0 c.first_coded-from.ensures.coded c.residuals-residuals.ensures in
+    let sent = sent_are (sent_residuals c.args.block.now) c.args.block.now.residuals c.residuals-residuals.result.now c.first_coded-from.result
+    c.args.setting.now.bits 0 c.first_coded-from.ensures.coded c.residuals-residuals.ensures in
     let s = c.args.setting.now in
     let j : 2 ≤ s.block = omega (arith, c.bits-bits.ensures.legal.block) in
     let all = coded_and_reference s c.args.block.now.reference c.args.block.now.residuals (omega (arith, c.requires.sound.len)) in
@@ -42,7 +44,8 @@ returns c =
     let first = word (id_len s) (2 ^ id_len s - 1) in
     let low = flat_map (word s.bits) (sent_residuals c.args.block.now) in
     record {
-      bits = three ∙ (append_assoc (c.args.sink.now ++ first) (reference_bits s c.args.block.now.reference) low ∙ append_assoc c.args.sink.now first (reference_bits s c.args.block.now.reference ++ low));
+      bits = three ∙ (append_assoc (c.args.sink.now ++ first) (reference_bits s c.args.block.now.reference) low
+          ∙ append_assoc c.args.sink.now first (reference_bits s c.args.block.now.reference ++ low));
       len = omega (arith, all, sent.count, sent.digits, bits, len, ref);
       steps_from = omega (arith, all, sent.count, sent.digits, bits, len, ref, c.requires.sound.len, j);
       steps_to = omega (arith, all, sent.count, sent.digits, bits, len, ref, c.requires.sound.len, j);

@@ -20,13 +20,15 @@ at-a-requires-clause-meter c = omega (arith, c.loop-i.invariant.steps, c.require
 pub codeword_of-requires : goal.codeword_of-requires
 codeword_of-requires c =
     let f = pairs_left_sum c.loop-i.i c.args.block.now (omega arith) in
-    let m : pair_code c.at-a.result c.at-b.result ≡ pair_code (get_or c.args.block.now (2 * c.loop-i.i) 0) (get_or c.args.block.now (2 * c.loop-i.i + 1) 0) = (λ j. pair_code (c.at-a.ensures.value j) (c.at-b.ensures.value j)) in
+    let m : pair_code c.at-a.result c.at-b.result ≡ pair_code (get_or c.args.block.now (2 * c.loop-i.i) 0) (get_or c.args.block.now (2 * c.loop-i.i + 1) 0) =
+    (λ j. pair_code (c.at-a.ensures.value j) (c.at-b.ensures.value j)) in
     omega (arith, f, m, c.loop-i.invariant.left, c.loop-i.invariant.few)
 
 pub with_sequence-row-requires-clause-some : goal.with_sequence-row-requires-clause-some
 with_sequence-row-requires-clause-some c =
     let f = pairs_left_sum c.loop-i.i c.args.block.now (omega arith) in
-    let m : c.codeword_of.result ≡ pair_code (get_or c.args.block.now (2 * c.loop-i.i) 0) (get_or c.args.block.now (2 * c.loop-i.i + 1) 0) = c.codeword_of.ensures ∙ (λ j. pair_code (c.at-a.ensures.value j) (c.at-b.ensures.value j)) in
+    let m : c.codeword_of.result ≡ pair_code (get_or c.args.block.now (2 * c.loop-i.i) 0) (get_or c.args.block.now (2 * c.loop-i.i + 1) 0) =
+    c.codeword_of.ensures ∙ (λ j. pair_code (c.at-a.ensures.value j) (c.at-b.ensures.value j)) in
     omega (arith, f, m, c.loop-i.invariant.left, c.loop-i.invariant.few)
 
 pub loop-i-preserved : goal.loop-i-preserved
@@ -38,7 +40,8 @@ loop-i-preserved c =
     let m : c.codeword_of.result ≡ pair_code (get_or xs (2 * i) 0) (get_or xs (2 * i + 1) 0) = c.codeword_of.ensures ∙ (λ j. pair_code (c.at-a.ensures.value j) (c.at-b.ensures.value j)) in
     let bits = c.loop-i.invariant.filled.0 in
     let rest = flat_map fundamental_sequence (pair_codes (drop (2 * (i + 1)) xs)) in
-    let same = append_assoc bits (fundamental_sequence c.codeword_of.result) rest ∙ (ap (λ n. bits ++ (fundamental_sequence n ++ rest)) m ∙ (ap (λ v. bits ++ flat_map fundamental_sequence v) (sym e) ∙ c.loop-i.invariant.filled.2)) in
+    let same = append_assoc bits (fundamental_sequence c.codeword_of.result) rest
+    ∙ (ap (λ n. bits ++ (fundamental_sequence n ++ rest)) m ∙ (ap (λ v. bits ++ flat_map fundamental_sequence v) (sym e) ∙ c.loop-i.invariant.filled.2)) in
     record {
       left = omega (arith, f, m, c.loop-i.invariant.left, c.with_sequence-row.ensures.left);
       few = omega (arith, c.loop-i.invariant.few, c.with_sequence-row.ensures.left);
@@ -51,9 +54,11 @@ add-requires-clause-value c =
     let xs = c.args.block.now in
     let none = no_pairs_left c.loop-i.i xs c.requires.even (omega arith) in
     let inv = c.loop-i.invariant in
-    let all : inv.filled.0 ≡ flat_map fundamental_sequence (pair_codes xs) = sym (append-nil inv.filled.0) ∙ (ap (λ v. inv.filled.0 ++ flat_map fundamental_sequence (pair_codes v)) (sym none) ∙ inv.filled.2) in
+    let all : inv.filled.0 ≡ flat_map fundamental_sequence (pair_codes xs) = sym (append-nil inv.filled.0)
+    ∙ (ap (λ v. inv.filled.0 ++ flat_map fundamental_sequence (pair_codes v)) (sym none) ∙ inv.filled.2) in
     let left = ap (λ v. sum_by (λ g. g + 1) (pair_codes v)) none in
-    let spelled = all_digits_filled c.loop-i.row.value c.loop-i.row.left c.args.total (flat_map fundamental_sequence (pair_codes xs)) (omega (arith, left, inv.left)) (omega (arith, length-pairs xs, c.requires.total))
+    let spelled = all_digits_filled c.loop-i.row.value c.loop-i.row.left c.args.total (flat_map fundamental_sequence (pair_codes xs))
+    (omega (arith, left, inv.left)) (omega (arith, length-pairs xs, c.requires.total))
     (rw (← all) inv.filled.1) in
     spelled.fits
 
@@ -62,9 +67,11 @@ returns c =
     let xs = c.args.block.now in
     let none = no_pairs_left c.loop-i.i xs c.requires.even (omega arith) in
     let inv = c.loop-i.invariant in
-    let all : inv.filled.0 ≡ flat_map fundamental_sequence (pair_codes xs) = sym (append-nil inv.filled.0) ∙ (ap (λ v. inv.filled.0 ++ flat_map fundamental_sequence (pair_codes v)) (sym none) ∙ inv.filled.2) in
+    let all : inv.filled.0 ≡ flat_map fundamental_sequence (pair_codes xs) = sym (append-nil inv.filled.0)
+    ∙ (ap (λ v. inv.filled.0 ++ flat_map fundamental_sequence (pair_codes v)) (sym none) ∙ inv.filled.2) in
     let left = ap (λ v. sum_by (λ g. g + 1) (pair_codes v)) none in
-    let spelled = all_digits_filled c.loop-i.row.value c.loop-i.row.left c.args.total (flat_map fundamental_sequence (pair_codes xs)) (omega (arith, left, inv.left)) (omega (arith, length-pairs xs, c.requires.total))
+    let spelled = all_digits_filled c.loop-i.row.value c.loop-i.row.left c.args.total (flat_map fundamental_sequence (pair_codes xs))
+    (omega (arith, left, inv.left)) (omega (arith, length-pairs xs, c.requires.total))
     (rw (← all) inv.filled.1) in
     record {
       bits = c.add.ensures.bits ∙ ap (λ v. c.args.sink.now ++ c.args.fields.now ++ v) spelled.digits;

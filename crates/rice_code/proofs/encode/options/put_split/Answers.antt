@@ -8,7 +8,8 @@ use Rattle.rice_code.proofs.encode.options.put_split.Goals as goal
 
 pub put_low-requires-clause-room : goal.put_low-requires-clause-room
 put_low-requires-clause-room c =
-    let sent = sent_are (sent_residuals c.args.block.now) c.args.block.now.residuals c.residuals-residuals.result.now c.first_coded-from.result c.args.k c.args.k c.first_coded-from.ensures.coded c.residuals-residuals.ensures in
+    let sent = sent_are (sent_residuals c.args.block.now) c.args.block.now.residuals c.residuals-residuals.result.now c.first_coded-from.result c.args.k
+    c.args.k c.first_coded-from.ensures.coded c.residuals-residuals.ensures in
     let len = ap length c.residuals-residuals.ensures in
     let ref = ap (reference_len c.args.setting.now) c.reference.ensures in
     record {
@@ -18,7 +19,8 @@ put_low-requires-clause-room c =
 
 pub put-requires : goal.put-requires
 put-requires c =
-    let sent = sent_are (sent_residuals c.args.block.now) c.args.block.now.residuals c.residuals-residuals.result.now c.first_coded-from.result c.args.k c.args.k c.first_coded-from.ensures.coded c.residuals-residuals.ensures in
+    let sent = sent_are (sent_residuals c.args.block.now) c.args.block.now.residuals c.residuals-residuals.result.now c.first_coded-from.result c.args.k
+    c.args.k c.first_coded-from.ensures.coded c.residuals-residuals.ensures in
     let len = ap length c.residuals-residuals.ensures in
     let ref = ap (reference_len c.args.setting.now) c.reference.ensures in
     record {
@@ -28,7 +30,8 @@ put-requires c =
 
 pub put-requires-2 : goal.put-requires-2
 put-requires-2 c =
-    let sent = sent_are (sent_residuals c.args.block.now) c.args.block.now.residuals c.residuals-residuals.result.now c.first_coded-from.result c.args.k c.args.k c.first_coded-from.ensures.coded c.residuals-residuals.ensures in
+    let sent = sent_are (sent_residuals c.args.block.now) c.args.block.now.residuals c.residuals-residuals.result.now c.first_coded-from.result c.args.k
+    c.args.k c.first_coded-from.ensures.coded c.residuals-residuals.ensures in
     let len = ap length c.residuals-residuals.ensures in
     let ref = ap (reference_len c.args.setting.now) c.reference.ensures in
     record {
@@ -38,7 +41,8 @@ put-requires-2 c =
 
 pub returns : goal.returns
 returns c =
-    let sent = sent_are (sent_residuals c.args.block.now) c.args.block.now.residuals c.residuals-residuals.result.now c.first_coded-from.result c.args.k c.args.k c.first_coded-from.ensures.coded c.residuals-residuals.ensures in
+    let sent = sent_are (sent_residuals c.args.block.now) c.args.block.now.residuals c.residuals-residuals.result.now c.first_coded-from.result c.args.k
+    c.args.k c.first_coded-from.ensures.coded c.residuals-residuals.ensures in
     let s = c.args.setting.now in
     let b = c.args.block.now in
     let ref = reference_bits s b.reference in
@@ -59,7 +63,8 @@ returns c =
 
 pub returns-then-k-eq0 : goal.returns-then-k-eq0
 returns-then-k-eq0 c =
-    let sent = sent_are (sent_residuals c.args.block.now) c.args.block.now.residuals c.residuals-residuals.result.now c.first_coded-from.result c.args.k c.args.k c.first_coded-from.ensures.coded c.residuals-residuals.ensures in
+    let sent = sent_are (sent_residuals c.args.block.now) c.args.block.now.residuals c.residuals-residuals.result.now c.first_coded-from.result c.args.k
+    c.args.k c.first_coded-from.ensures.coded c.residuals-residuals.ensures in
     let s = c.args.setting.now in
     let b = c.args.block.now in
     let ref = reference_bits s b.reference in
@@ -84,7 +89,8 @@ returns-then-k-eq0 c =
 
 pub put_high-requires-clause-total : goal.put_high-requires-clause-total
 put_high-requires-clause-total c =
-    let sent = sent_are (sent_residuals c.args.block.now) c.args.block.now.residuals c.residuals-residuals.result.now c.first_coded-from.result c.args.k c.args.k c.first_coded-from.ensures.coded c.residuals-residuals.ensures in
+    let sent = sent_are (sent_residuals c.args.block.now) c.args.block.now.residuals c.residuals-residuals.result.now c.first_coded-from.result c.args.k
+    c.args.k c.first_coded-from.ensures.coded c.residuals-residuals.ensures in
     let len = ap length c.residuals-residuals.ensures in
     let ref = ap (reference_len c.args.setting.now) c.reference.ensures in
     let more : length (sent_residuals c.args.block.now) * (c.args.k + 1) ≡ length (sent_residuals c.args.block.now) * c.args.k + length (sent_residuals c.args.block.now) = omega arith in
@@ -93,7 +99,8 @@ put_high-requires-clause-total c =
 
 pub put_short_low-requires-clause-room : goal.put_short_low-requires-clause-room
 put_short_low-requires-clause-room c =
-    let sent = sent_are (sent_residuals c.args.block.now) c.args.block.now.residuals c.residuals-residuals.result.now c.first_coded-from.result c.args.k c.args.k c.first_coded-from.ensures.coded c.residuals-residuals.ensures in
+    let sent = sent_are (sent_residuals c.args.block.now) c.args.block.now.residuals c.residuals-residuals.result.now c.first_coded-from.result c.args.k
+    c.args.k c.first_coded-from.ensures.coded c.residuals-residuals.ensures in
     let len = ap length c.residuals-residuals.ensures in
     let ref = ap (reference_len c.args.setting.now) c.reference.ensures in
     record {

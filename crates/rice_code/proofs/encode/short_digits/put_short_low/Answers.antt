@@ -11,7 +11,8 @@ loop-i-init c =
     let xs = c.args.block.now in
     let first = c.eight_low-first.result in
     let all = c.args.sink.now ++ c.args.fields.now in
-    let words = (λ j. word (c.digits_from-digits.ensures.count j) (c.digits_from-digits.ensures.value j)) ∙ tail_of_eight w from first xs c.requires.from (omega (arith, c.len-eights.ensures.range.0, c.len-eights.ensures.value)) c.eight_low-first.ensures.bits in
+    let words = (λ j. word (c.digits_from-digits.ensures.count j) (c.digits_from-digits.ensures.value j))
+    ∙ tail_of_eight w from first xs c.requires.from (omega (arith, c.len-eights.ensures.range.0, c.len-eights.ensures.value)) c.eight_low-first.ensures.bits in
     let less = first_eight_fewer (length xs) from w c.requires.from (omega (arith, c.len-eights.ensures.range.0, c.len-eights.ensures.value)) in
     record {
       after = omega arith;

@@ -10,7 +10,11 @@ put_eight-requires-clause-total c =
     let xs = c.args.block.now in
     let from = c.args.from in
     let f = λ (d : ℕ). fundamental_sequence (d / 2 ^ c.args.k) in
-    let same : sequences_from from c.high_four-a.result.0 c.high_four-a.result.1 c.high_four-a.result.2 c.high_four-a.result.3 ++ four_sequences c.high_four-b.result.0 c.high_four-b.result.1 c.high_four-b.result.2 c.high_four-b.result.3 ≡ flat_map f (slice_range xs from 8) = (λ j. sequences_from from (c.high_four-a.ensures.first j) (c.high_four-a.ensures.second j) (c.high_four-a.ensures.third j) (c.high_four-a.ensures.last j) ++ four_sequences (c.high_four-b.ensures.first j) (c.high_four-b.ensures.second j) (c.high_four-b.ensures.third j) (c.high_four-b.ensures.last j)) ∙ sym (eight_from f xs from c.requires.from (omega (arith, c.requires.eight))) in
+    let same : sequences_from from c.high_four-a.result.0 c.high_four-a.result.1 c.high_four-a.result.2 c.high_four-a.result.3 ++ four_sequences
+    c.high_four-b.result.0 c.high_four-b.result.1 c.high_four-b.result.2 c.high_four-b.result.3 ≡ flat_map f (slice_range xs from 8) =
+    (λ j. sequences_from from (c.high_four-a.ensures.first j) (c.high_four-a.ensures.second j) (c.high_four-a.ensures.third j)
+    (c.high_four-a.ensures.last j) ++ four_sequences (c.high_four-b.ensures.first j) (c.high_four-b.ensures.second j) (c.high_four-b.ensures.third j)
+    (c.high_four-b.ensures.last j)) ∙ sym (eight_from f xs from c.requires.from (omega (arith, c.requires.eight))) in
     let len = ap length same ∙ length-high c.args.k (slice_range xs from 8) in
     let row = length-row xs from 8 (omega (arith, c.requires.from)) (omega (arith, c.requires.eight)) in
     omega (arith, len, row, c.requires.total)
@@ -20,7 +24,11 @@ put_eight-requires-clause-room c =
     let xs = c.args.block.now in
     let from = c.args.from in
     let f = λ (d : ℕ). fundamental_sequence (d / 2 ^ c.args.k) in
-    let same : sequences_from from c.high_four-a.result.0 c.high_four-a.result.1 c.high_four-a.result.2 c.high_four-a.result.3 ++ four_sequences c.high_four-b.result.0 c.high_four-b.result.1 c.high_four-b.result.2 c.high_four-b.result.3 ≡ flat_map f (slice_range xs from 8) = (λ j. sequences_from from (c.high_four-a.ensures.first j) (c.high_four-a.ensures.second j) (c.high_four-a.ensures.third j) (c.high_four-a.ensures.last j) ++ four_sequences (c.high_four-b.ensures.first j) (c.high_four-b.ensures.second j) (c.high_four-b.ensures.third j) (c.high_four-b.ensures.last j)) ∙ sym (eight_from f xs from c.requires.from (omega (arith, c.requires.eight))) in
+    let same : sequences_from from c.high_four-a.result.0 c.high_four-a.result.1 c.high_four-a.result.2 c.high_four-a.result.3 ++ four_sequences
+    c.high_four-b.result.0 c.high_four-b.result.1 c.high_four-b.result.2 c.high_four-b.result.3 ≡ flat_map f (slice_range xs from 8) =
+    (λ j. sequences_from from (c.high_four-a.ensures.first j) (c.high_four-a.ensures.second j) (c.high_four-a.ensures.third j)
+    (c.high_four-a.ensures.last j) ++ four_sequences (c.high_four-b.ensures.first j) (c.high_four-b.ensures.second j) (c.high_four-b.ensures.third j)
+    (c.high_four-b.ensures.last j)) ∙ sym (eight_from f xs from c.requires.from (omega (arith, c.requires.eight))) in
     let len = ap length same ∙ length-high c.args.k (slice_range xs from 8) in
     let row = length-row xs from 8 (omega (arith, c.requires.from)) (omega (arith, c.requires.eight)) in
     record { room = omega (arith, len, row, c.requires.room.room); steps = omega (arith, len, row, c.requires.room.steps) }
@@ -30,7 +38,11 @@ returns c =
     let xs = c.args.block.now in
     let from = c.args.from in
     let f = λ (d : ℕ). fundamental_sequence (d / 2 ^ c.args.k) in
-    let same : sequences_from from c.high_four-a.result.0 c.high_four-a.result.1 c.high_four-a.result.2 c.high_four-a.result.3 ++ four_sequences c.high_four-b.result.0 c.high_four-b.result.1 c.high_four-b.result.2 c.high_four-b.result.3 ≡ flat_map f (slice_range xs from 8) = (λ j. sequences_from from (c.high_four-a.ensures.first j) (c.high_four-a.ensures.second j) (c.high_four-a.ensures.third j) (c.high_four-a.ensures.last j) ++ four_sequences (c.high_four-b.ensures.first j) (c.high_four-b.ensures.second j) (c.high_four-b.ensures.third j) (c.high_four-b.ensures.last j)) ∙ sym (eight_from f xs from c.requires.from (omega (arith, c.requires.eight))) in
+    let same : sequences_from from c.high_four-a.result.0 c.high_four-a.result.1 c.high_four-a.result.2 c.high_four-a.result.3 ++ four_sequences
+    c.high_four-b.result.0 c.high_four-b.result.1 c.high_four-b.result.2 c.high_four-b.result.3 ≡ flat_map f (slice_range xs from 8) =
+    (λ j. sequences_from from (c.high_four-a.ensures.first j) (c.high_four-a.ensures.second j) (c.high_four-a.ensures.third j)
+    (c.high_four-a.ensures.last j) ++ four_sequences (c.high_four-b.ensures.first j) (c.high_four-b.ensures.second j) (c.high_four-b.ensures.third j)
+    (c.high_four-b.ensures.last j)) ∙ sym (eight_from f xs from c.requires.from (omega (arith, c.requires.eight))) in
     let len = ap length same ∙ length-high c.args.k (slice_range xs from 8) in
     let row = length-row xs from 8 (omega (arith, c.requires.from)) (omega (arith, c.requires.eight)) in
     record {

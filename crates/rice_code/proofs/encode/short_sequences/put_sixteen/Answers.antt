@@ -11,7 +11,10 @@ put_twelve-requires c =
     let z = four_sequences c.args.d.0 c.args.d.1 c.args.d.2 c.args.d.3 in
     let whole = length-first_part w x y z in
     let held = ap length c.replace-held.ensures.value in
-    record { room = omega (arith, whole, held, c.requires.room.room, c.put_four_from-held.ensures.len); steps = omega (arith, whole, held, c.requires.room.steps, c.new-steps.ensures, c.put_four_from-held.ensures.steps) }
+    record {
+      room = omega (arith, whole, held, c.requires.room.room, c.put_four_from-held.ensures.len);
+      steps = omega (arith, whole, held, c.requires.room.steps, c.new-steps.ensures, c.put_four_from-held.ensures.steps);
+    }
 
 pub returns : goal.returns
 returns c =

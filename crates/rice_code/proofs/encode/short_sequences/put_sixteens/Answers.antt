@@ -31,7 +31,8 @@ loop-i-preserved c =
     let end : i + 16 ≡ n = omega arith in
     let all = c.loop-i.sink ++ c.loop-i.fields in
     let sums = split_summed (λ d. d / 2 ^ c.args.k) xs i n (omega arith) in
-    let row : sum_by (λ d. d / 2 ^ c.args.k) (slice_range xs (i + 0) (i + 16)) ≡ sum_by (λ d. d / 2 ^ c.args.k) (slice_range xs i n) = (λ j. sum_by (λ d. d / 2 ^ c.args.k) (slice_range xs (start j) (end j))) in
+    let row : sum_by (λ d. d / 2 ^ c.args.k) (slice_range xs (i + 0) (i + 16)) ≡ sum_by (λ d. d / 2 ^ c.args.k) (slice_range xs i n) =
+    (λ j. sum_by (λ d. d / 2 ^ c.args.k) (slice_range xs (start j) (end j))) in
     record {
       after = omega arith;
       same = eight_added f xs i n all _ _ (omega arith) (c.put_sixteen_high-in-loop-i.ensures.bits ∙ (λ j. all ++ flat_map f (slice_range xs (start j) (end j)))) c.loop-i.invariant.same;

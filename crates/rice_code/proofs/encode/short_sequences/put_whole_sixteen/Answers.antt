@@ -12,7 +12,10 @@ put_twelve-requires c =
     let z = four_sequences c.args.d.0 c.args.d.1 c.args.d.2 c.args.d.3 in
     let whole = length-first_part w x y z in
     let held = ap length c.replace-held.ensures.value in
-    record { room = omega (arith, whole, held, c.requires.room.room, c.put_four_from-held.ensures.len); steps = omega (arith, whole, held, c.requires.room.steps, c.new-steps.ensures, c.put_four_from-held.ensures.steps) }
+    record {
+      room = omega (arith, whole, held, c.requires.room.room, c.put_four_from-held.ensures.len);
+      steps = omega (arith, whole, held, c.requires.room.steps, c.new-steps.ensures, c.put_four_from-held.ensures.steps);
+    }
 
 pub returns : goal.returns
 returns c =
@@ -80,7 +83,19 @@ add-requires-clause-value c =
     let four_y = length-four c.args.c.0 c.args.c.1 c.args.c.2 c.args.c.3 in
     let four_z = length-four c.args.d.0 c.args.d.1 c.args.d.2 c.args.d.3 in
     let row = c.with_four_sequences-row in
-    let none : row.result.left ≡ 0 = omega (arith, whole, parts, four_x, four_y, four_z, c.requires.total, c.sequences_of_four.ensures.left, c.with_four_sequences-half.ensures.left, c.with_four_sequences.ensures.left, row.ensures.left) in
+    let none : row.result.left ≡ 0 = omega (
+      arith,
+      whole,
+      parts,
+      four_x,
+      four_y,
+      four_z,
+      c.requires.total,
+      c.sequences_of_four.ensures.left,
+      c.with_four_sequences-half.ensures.left,
+      c.with_four_sequences.ensures.left,
+      row.ensures.left,
+    ) in
     let half = c.with_four_sequences-half.ensures.bits w c.sequences_of_four.ensures.bits in
     let more = c.with_four_sequences.ensures.bits _ half in
     let spelled = all_digits_filled row.result.value row.result.left c.args.total (w ++ x ++ y ++ z) none (omega (arith, c.requires.total)) (row.ensures.bits _ more) in
@@ -98,7 +113,19 @@ returns-then-total-le56 c =
     let four_y = length-four c.args.c.0 c.args.c.1 c.args.c.2 c.args.c.3 in
     let four_z = length-four c.args.d.0 c.args.d.1 c.args.d.2 c.args.d.3 in
     let row = c.with_four_sequences-row in
-    let none : row.result.left ≡ 0 = omega (arith, whole, parts, four_x, four_y, four_z, c.requires.total, c.sequences_of_four.ensures.left, c.with_four_sequences-half.ensures.left, c.with_four_sequences.ensures.left, row.ensures.left) in
+    let none : row.result.left ≡ 0 = omega (
+      arith,
+      whole,
+      parts,
+      four_x,
+      four_y,
+      four_z,
+      c.requires.total,
+      c.sequences_of_four.ensures.left,
+      c.with_four_sequences-half.ensures.left,
+      c.with_four_sequences.ensures.left,
+      row.ensures.left,
+    ) in
     let half = c.with_four_sequences-half.ensures.bits w c.sequences_of_four.ensures.bits in
     let more = c.with_four_sequences.ensures.bits _ half in
     let spelled = all_digits_filled row.result.value row.result.left c.args.total (w ++ x ++ y ++ z) none (omega (arith, c.requires.total)) (row.ensures.bits _ more) in

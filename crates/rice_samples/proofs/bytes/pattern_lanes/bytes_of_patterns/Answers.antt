@@ -10,7 +10,8 @@ returns-then-this-eq1-clause-words g c = single_words c.args.setting.now.msb g.r
 
 pub returns-then-this-eq2-clause-words : goal.returns-then-this-eq2-clause-words
 returns-then-this-eq2-clause-words g c =
-    swapped_words c.args.setting.now.msb g.row.WIDTH c.args.patterns c.in_pairs_swapped.result c.if-this-eq2.true (sym c.msb.ensures ∙ c.if-msb.false) c.requires.lanes c.requires.fit c.in_pairs_swapped.ensures
+    swapped_words c.args.setting.now.msb g.row.WIDTH c.args.patterns c.in_pairs_swapped.result c.if-this-eq2.true (sym c.msb.ensures ∙ c.if-msb.false)
+    c.requires.lanes c.requires.fit c.in_pairs_swapped.ensures
 
 pub returns-then-this-eq2-clause-len : goal.returns-then-this-eq2-clause-len
 returns-then-this-eq2-clause-len g c = ap length c.in_pairs_swapped.ensures ∙ length-swapped c.args.patterns c.requires.lanes

@@ -19,7 +19,8 @@ loop-i-preserved c =
     let value : value_at s l.result ≡ x = ap (value_at s) same ∙ value_of_level s x c.in-Some.ensures.value.0 in
     record {
       legal = one_legal (λ v. v < value_count s) i levels l.result (omega arith) c.loop-i.invariant.legal l.ensures.below;
-      spelled = one_read (spelling s) (value_at s) c.width-width.result i c.args.bytes.now levels l.result (omega arith) c.loop-i.invariant.spelled (c.in-Some.ensures.value.1 ∙ ap (spelling s) (sym value));
+      spelled = one_read (spelling s) (value_at s) c.width-width.result i c.args.bytes.now levels l.result (omega arith) c.loop-i.invariant.spelled
+          (c.in-Some.ensures.value.1 ∙ ap (spelling s) (sym value));
     }
 
 pub returns-in-None-clause-reads : goal.returns-in-None-clause-reads
@@ -28,7 +29,8 @@ returns-in-None-clause-reads c =
     let w = c.width-width in
     let i = c.loop-i.i in
     let bytes = c.args.bytes.now in
-    reads_levels s bytes c.loop-i.levels i c.loop-i.invariant.legal (ap (λ n. take (n * i) bytes) (sym w.ensures.value) ∙ c.loop-i.invariant.spelled) (λ h. no_spelling s w.result i bytes w.ensures.value c.in-None.ensures.none)
+    reads_levels s bytes c.loop-i.levels i c.loop-i.invariant.legal (ap (λ n. take (n * i) bytes) (sym w.ensures.value) ∙ c.loop-i.invariant.spelled)
+    (λ h. no_spelling s w.result i bytes w.ensures.value c.in-None.ensures.none)
 
 pub returns-clause-reads : goal.returns-clause-reads
 returns-clause-reads c =

@@ -20,7 +20,8 @@ loop-i-preserved c =
     let fits : word.result < 2 ^ (8 * w) = subst (λ (n : ℕ). word.result < 2 ^ (8 * n)) len word.ensures.fits in
     let wide = c.width-width.ensures in
     let digits : word.result ≡ twos_complement (8 * w) (value_at s level.result) = sym (ap (λ l. twos_complement (8 * w) (value_at s l)) level.ensures.value
-    ∙ level_of_word s (8 * w) word.result c.offset_with-offset.result wide.legal.bits_from (omega (arith, wide.holds_bits, wide.value, c.requires.width)) (omega (arith, wide.range.1, wide.value, c.requires.width)) c.offset_with-offset.ensures.value fits)
+    ∙ level_of_word s (8 * w) word.result c.offset_with-offset.result wide.legal.bits_from (omega (arith, wide.holds_bits, wide.value, c.requires.width))
+    (omega (arith, wide.range.1, wide.value, c.requires.width)) c.offset_with-offset.ensures.value fits)
     in
     let spelled = digits ∙ (λ j. twos_complement (8 * c.requires.width j) (value_at s level.result)) in
     let one = word.ensures.bytes ∙ (λ j. ordered_bytes (c.requires.order j) ((len ∙ c.requires.width) j) (spelled j)) in

@@ -20,7 +20,8 @@ loop-i-preserved c =
     let legal : level < value_count s = c.requires.legal i 0 (omega arith) in
     let wide = c.width-width.ensures in
     let digits : c.low_digits-word.result ≡ twos_complement (8 * w) (value_at s level) = c.low_digits-word.ensures.value
-    ∙ word_of_level s (8 * w) level c.offset-offset.result wide.legal.bits_from (omega (arith, wide.holds_bits, wide.value, c.requires.width)) (omega (arith, wide.range.1, wide.value, c.requires.width)) c.offset-offset.ensures.value legal
+    ∙ word_of_level s (8 * w) level c.offset-offset.result wide.legal.bits_from (omega (arith, wide.holds_bits, wide.value, c.requires.width))
+    (omega (arith, wide.range.1, wide.value, c.requires.width)) c.offset-offset.ensures.value legal
     in
     let word = digits ∙ (λ j. twos_complement (8 * c.requires.width j) (value_at s level)) in
     one_written (spelling s) (value_at s) w i _ bytes c.store_word.new.bytes levels (omega arith) len (c.store_word.auto.bytes ∙ part) c.loop-i.invariant

@@ -26,14 +26,17 @@ returns-clause-levels c =
     let second_len : length second ≡ 8 = ap length c.near_numbers-second.ensures ∙ (length-near_numbers (2 ^ 16) last c.joined-second_ranks.result ∙ c.joined-second_ranks.ensures.len) in
     let inside : last ≤ greatest = small 7 0 (omega (arith, first_len)) in
     let more = test.second refl in
-    halves_are a.setting.now a.before a.width greatest last a.highs a.lows first second count c.requires.len.0 c.requires.len.1 first_len second_len refl small (c.far-second_far.ensures.fit inside more)
+    halves_are a.setting.now a.before a.width greatest last a.highs a.lows first second count c.requires.len.0 c.requires.len.1 first_len second_len refl small
+    (c.far-second_far.ensures.fit inside more)
     (c.far-first_far.ensures.ranks legal none ∙ (c.joined-first_ranks.ensures.value ∙ (λ j. joined_parts a.width (c.first_half.ensures j) (c.first_half-2.ensures j))))
     (c.far-second_far.ensures.ranks inside more ∙ (c.joined-second_ranks.ensures.value ∙ (λ j. joined_parts a.width (c.second_half.ensures j) (c.second_half-2.ensures j))))
 
 pub returns-clause-halves : goal.returns-clause-halves
 returns-clause-halves c =
-    let first_len : length c.near_numbers-first.result ≡ 8 = ap length c.near_numbers-first.ensures ∙ (length-near_numbers (2 ^ 16) c.args.before c.joined-first_ranks.result ∙ c.joined-first_ranks.ensures.len) in
-    let second_len : length c.near_numbers-second.result ≡ 8 = ap length c.near_numbers-second.ensures ∙ (length-near_numbers (2 ^ 16) (slice_index_or c.near_numbers-first.result 7 0) c.joined-second_ranks.result ∙ c.joined-second_ranks.ensures.len) in
+    let first_len : length c.near_numbers-first.result ≡ 8 = ap length c.near_numbers-first.ensures
+    ∙ (length-near_numbers (2 ^ 16) c.args.before c.joined-first_ranks.result ∙ c.joined-first_ranks.ensures.len) in
+    let second_len : length c.near_numbers-second.result ≡ 8 = ap length c.near_numbers-second.ensures
+    ∙ (length-near_numbers (2 ^ 16) (slice_index_or c.near_numbers-first.result 7 0) c.joined-second_ranks.result ∙ c.joined-second_ranks.ensures.len) in
     (first_len, second_len)
 
 -- lanes of 8 bits

@@ -26,7 +26,8 @@ eight_ranks-requires-clause-before c =
     let count = value_count c.args.setting.now in
     let row = slice_range c.args.levels.now (8 * l.i) (8 * l.i + 8) in
     let legal = each_of_all (λ x. x < count) row (legal_row count (8 * l.i) (8 * l.i + 8) c.args.levels.now c.requires.legal) in
-    rw (c.last_before.ensures, c.eight_narrow-eight.ensures) (shifted_below count (c.values.result - 1) l.before row (omega (arith, c.values.ensures.value, c.values.ensures.range.0)) l.invariant.lanes l.invariant.fit legal)
+    rw (c.last_before.ensures, c.eight_narrow-eight.ensures)
+    (shifted_below count (c.values.result - 1) l.before row (omega (arith, c.values.ensures.value, c.values.ensures.range.0)) l.invariant.lanes l.invariant.fit legal)
 
 pub eight_ranks-requires-clause-numbers : goal.eight_ranks-requires-clause-numbers
 eight_ranks-requires-clause-numbers c =

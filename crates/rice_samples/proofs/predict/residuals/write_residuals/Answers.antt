@@ -11,5 +11,6 @@ write_any_width-requires-then-end-levels-clause-before c =
 pub returns-then-end-levels : goal.returns-then-end-levels
 returns-then-end-levels c =
     let levels = c.args.levels.now in
-    ranks_of_rest (value_count c.args.setting.now) c.args.p c.last_level-last.result (8 * (length levels / 8)) levels c.write_eight_ranks.new.residuals c.write_any_width-then-end-levels.new.residuals c.write_eight_ranks.ensures.len (omega arith)
+    ranks_of_rest (value_count c.args.setting.now) c.args.p c.last_level-last.result (8 * (length levels / 8)) levels c.write_eight_ranks.new.residuals
+    c.write_any_width-then-end-levels.new.residuals c.write_eight_ranks.ensures.len (omega arith)
     c.write_eight_ranks.ensures.value c.last_level-last.ensures c.write_any_width-then-end-levels.ensures

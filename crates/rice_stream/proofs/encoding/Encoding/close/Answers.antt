@@ -27,5 +27,6 @@ returns g c s old now xs h =
     let f = c.finish_reset-bits in
     let r : Report = record { samples = e.samples; bits = e.bits + f.result; steps = c.steps.result } in
     let adds : AddsCode e.coder.setting (complete_samples e.coder.setting xs) xs e.sink f.new.sink f.result (fill_count_of e.coder.setting xs) e.meter c.steps.result =
-    subst (AddsCode e.coder.setting (complete_samples e.coder.setting xs) xs e.sink f.new.sink f.result (fill_count_of e.coder.setting xs) e.meter) (sym c.steps.ensures.value) (f.ensures.adds xs h.counts.stands) in
+    subst (AddsCode e.coder.setting (complete_samples e.coder.setting xs) xs e.sink f.new.sink f.result (fill_count_of e.coder.setting xs) e.meter)
+    (sym c.steps.ensures.value) (f.ensures.adds xs h.counts.stands) in
     samples_end s old now e r f.new.sink c.pad.new.self xs f.result h adds refl refl c.pad.ensures.bits

@@ -19,7 +19,14 @@ returns g c now =
     let least : least_steps s (complete_samples s []) ≡ 0 = ap (least_steps s) (settled_nothing s) ∙ steps.1 in
     let most : most_steps s (complete_samples s []) ≡ 0 = ap (most_steps s) (settled_nothing s) ∙ steps.2 in
     record {
-      counts = record { setting = c.begin.ensures.setting; stands = c.begin.ensures.taken; samples = refl; bits = sym bits; least = omega (arith, c.new-2.ensures, least); most = omega (arith, c.new-2.ensures, most) };
+      counts = record {
+        setting = c.begin.ensures.setting;
+        stands = c.begin.ensures.taken;
+        samples = refl;
+        bits = sym bits;
+        least = omega (arith, c.new-2.ensures, least);
+        most = omega (arith, c.new-2.ensures, most);
+      };
       sink = c.new.ensures ∙ ap (λ l. drop (bits_in_bytes (length l)) l) (sym none);
       took = subst (λ (l : List ℕ). Follows (afresh now) now l) (ap whole_bytes (sym none)) (Follows-nil now);
     }

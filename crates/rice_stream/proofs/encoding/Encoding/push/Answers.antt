@@ -25,5 +25,6 @@ returns-in-Err-clause-err g c s old xs h =
     let now = g.O.Outlet.taken c.args.outlet.now in
     let t = c.take-taken.ensures.took s old now xs h in
     let k = t.counts in
-    fails_in s old now (g.O.Outlet.taken c.write_whole.new.outlet) c.args.self.now c.take-taken.new.self _ xs (values_at s c.args.levels.now) c.take-taken.result h t (c.take-taken.ensures.some c.requires.some) (omega (arith, c.take-taken.ensures.count, length-values s c.args.levels.now)) c.in-Err.ensures.err.0
+    fails_in s old now (g.O.Outlet.taken c.write_whole.new.outlet) c.args.self.now c.take-taken.new.self _ xs (values_at s c.args.levels.now)
+    c.take-taken.result h t (c.take-taken.ensures.some c.requires.some) (omega (arith, c.take-taken.ensures.count, length-values s c.args.levels.now)) c.in-Err.ensures.err.0
     (record { setting = k.setting; stands = k.stands; samples = k.samples; bits = k.bits; least = k.least; most = k.most })

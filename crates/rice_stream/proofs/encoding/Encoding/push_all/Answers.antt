@@ -9,7 +9,8 @@ use Rattle.rice_stream.proofs.lemmas.PartLemmas.{takes_on, stops_on, none_left, 
 use Rattle.rice_stream.proofs.encoding.Encoding.push_all.Goals as goal
 
 -- the bytes so far are those of whole samples
-spelled_so_far : (s : Parameters) (at : ℕ) (bytes rest : List ℕ) (more : List ℤ) (k : ℕ) → Reads s (take at bytes) more rest → length rest < width s → at ≤ length bytes → at ≡ width s * k → take at bytes ≡ spellings s more
+spelled_so_far : (s : Parameters) (at : ℕ) (bytes rest : List ℕ) (more : List ℤ) (k : ℕ) → Reads s (take at bytes) more rest → length rest < width s
+    → at ≤ length bytes → at ≡ width s * k → take at bytes ≡ spellings s more
 spelled_so_far s at bytes rest more k r few within whole = none_left s more (take at bytes) rest k r few (length-take-le at bytes within ∙ whole)
 
 -- and the next part of them
@@ -101,7 +102,8 @@ returns-in-Err-clause-did g c old xs h =
     let behind = drop (at + count) bytes in
     let whole : (take at bytes ++ take (at + count - at) (drop at bytes)) ++ behind ≡ bytes = ap (λ l. l ++ behind) (sym (next_part at count bytes)) ∙ take-append-drop (at + count) bytes in
     subst (λ (l : List ℕ). Pushes {T = Unit {0}} s old new c.push_part.new.self xs l (Err c.in-Err.why)) whole
-    (stops_on s old new c.push_part.new.self xs p.more (take at bytes) (take (at + count - at) (drop at bytes)) spelled p.reads.legal behind c.in-Err.why (c.in-Err.ensures.did old (xs ++ p.more) p.holds))
+    (stops_on s old new c.push_part.new.self xs p.more (take at bytes) (take (at + count - at) (drop at bytes)) spelled p.reads.legal behind c.in-Err.why
+    (c.in-Err.ensures.did old (xs ++ p.more) p.holds))
 
 pub returns-clause-did : goal.returns-clause-did
 returns-clause-did g c old xs h =

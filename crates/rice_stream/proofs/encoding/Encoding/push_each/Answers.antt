@@ -51,7 +51,9 @@ returns-in-Err-clause-err g c s old xs h =
     let levels = c.args.levels.now in
     let samples = values_at s levels in
     let new = g.O.Outlet.taken c.push.new.outlet in
-    fails_later s old new c.push.new.self xs samples at (subst (λ (l : List ℤ). FailsIn s old new c.push.new.self (xs ++ take at samples) l) (samples_from s at levels) (c.in-Err.ensures.err s old (xs ++ take at samples) (c.loop-at.invariant.holds s old xs h)))
+    fails_later s old new c.push.new.self xs samples at
+    (subst (λ (l : List ℤ). FailsIn s old new c.push.new.self (xs ++ take at samples) l) (samples_from s at levels)
+    (c.in-Err.ensures.err s old (xs ++ take at samples) (c.loop-at.invariant.holds s old xs h)))
 
 pub loop-at-preserved : goal.loop-at-preserved
 loop-at-preserved g c =
@@ -63,7 +65,9 @@ loop-at-preserved g c =
     record {
       within = omega (arith, i.within, c.in-Ok.ensures.count.1, ap length (from at levels), length-drop at levels);
       holds = λ s old xs h. (let samples = values_at s levels in
-          let same : (xs ++ take at samples) ++ take n (values_at s (take (length levels - at) (drop at levels))) ≡ xs ++ take (at + n) samples = ap (λ l. (xs ++ take at samples) ++ take n l) (samples_from s at levels) ∙ append_assoc xs (take at samples) (take n (drop at samples)) ∙ ap (λ l. xs ++ l) (sym (take-add at n samples)) in
+          let same : (xs ++ take at samples) ++ take n (values_at s (take (length levels - at) (drop at levels))) ≡ xs ++ take (at + n) samples = ap
+          (λ l. (xs ++ take at samples) ++ take n l) (samples_from s at levels) ∙ append_assoc xs (take at samples) (take n (drop at samples))
+          ∙ ap (λ l. xs ++ l) (sym (take-add at n samples)) in
           subst (λ (l : List ℤ). IsEncodingOf s old new c.push.new.self l) same (c.in-Ok.ensures.ok s old (xs ++ take at samples) (i.holds s old xs h)));
       failures = c.in-Ok.ensures.calm ∙ i.failures;
     }

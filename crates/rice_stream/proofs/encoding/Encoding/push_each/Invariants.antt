@@ -6,7 +6,8 @@ use Rattle.rice_stream.proofs.encoding.Encoding.push_each.Given as goal
 abbrev pub invariant-loop-at : goal.invariant-loop-at
 invariant-loop-at g l = record {
   within : l.at ≤ length l.levels;
-  holds : (s : Parameters) (old : Beginning) (xs : List ℤ) → IsEncodingOf s old (g.O.Outlet.taken l.fn.outlet) l.fn.self xs → IsEncodingOf s old (g.O.Outlet.taken l.outlet) l.self (xs ++ take l.at (values_at s l.levels));
+  holds : (s : Parameters) (old : Beginning) (xs : List ℤ) → IsEncodingOf s old (g.O.Outlet.taken l.fn.outlet) l.fn.self xs
+      → IsEncodingOf s old (g.O.Outlet.taken l.outlet) l.self (xs ++ take l.at (values_at s l.levels));
   failures : g.O.Outlet.failed l.outlet ≡ g.O.Outlet.failed l.fn.outlet;
 }
 

@@ -94,7 +94,8 @@ returns-in-Err-clause-did g c old xs h =
     let spelled : take (width s * f.result) (take (width s * count) bytes) ≡ spellings s ys = ap (λ n. take (width s * f.result) (take n bytes)) (sym whole.3) ∙ f.ensures.reads.spelled in
     let reads = first_of s bytes count f.result ys few spelled f.ensures.reads.legal in
     let new = g.O.Outlet.taken c.push_each.new.outlet in
-    fails_among s old new c.push_each.new.self xs ys bytes (drop (width s * f.result) bytes) reads (subst (λ (l : List ℤ). FailsIn s old new c.push_each.new.self xs l) taken (c.in-Err.ensures.err s old xs h))
+    fails_among s old new c.push_each.new.self xs ys bytes (drop (width s * f.result) bytes) reads
+    (subst (λ (l : List ℤ). FailsIn s old new c.push_each.new.self xs l) taken (c.in-Err.ensures.err s old xs h))
 
 pub returns-then-found-count-clause-did : goal.returns-then-found-count-clause-did
 returns-then-found-count-clause-did g c old xs h =
@@ -107,7 +108,13 @@ returns-then-found-count-clause-did g c old xs h =
     let ys = take f.result (values_at s zs) in
     let taken : values_at s (take f.result (zs ++ drop count c.args.levels.now)) ≡ ys = ap (values_at s) slice ∙ sym (take-map (value_at s) f.result zs) in
     let whole = whole_samples (length bytes) c.width-width.result (width s) c.width-width.ensures.value (omega (arith, c.width-width.ensures.range)) in
-    let len : length zs ≡ count = omega (arith, f.ensures.len, length-take count c.args.levels.now, whole_fit (length bytes) c.width-width.result (width s) (length c.args.levels.now) c.width-width.ensures.value (omega (arith, c.width-width.ensures.range)) whole.0 c.requires.room) in
+    let len : length zs ≡ count = omega (
+      arith,
+      f.ensures.len,
+      length-take count c.args.levels.now,
+      whole_fit (length bytes) c.width-width.result (width s)
+          (length c.args.levels.now) c.width-width.ensures.value (omega (arith, c.width-width.ensures.range)) whole.0 c.requires.room,
+    ) in
     let few : f.result < count = c.if-found-count.true in
     let spelled : take (width s * f.result) (take (width s * count) bytes) ≡ spellings s ys = ap (λ n. take (width s * f.result) (take n bytes)) (sym whole.3) ∙ f.ensures.reads.spelled in
     let behind = behind_them s bytes count f.result few whole.0 in

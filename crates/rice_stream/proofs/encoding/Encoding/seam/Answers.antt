@@ -8,5 +8,14 @@ pub returns : goal.returns
 returns g c s old now xs h all limit =
     let e = c.args.self.now in
     let fits : FitsSigned w64 c.previous.result = search rules in
-    let seam : Seam = record { samples = e.samples; bits = e.bits; steps = c.steps.result; previous = to_z w64 (of_z w64 c.previous.result); start = c.start.result; waiting = c.waiting_number-waiting.result; waiting_bits = c.len-waiting_bits.result } in
-    seam_of s old now e seam xs h all limit refl refl c.steps.ensures.value (to_z-of_z w64 c.previous.result fits ∙ c.previous.ensures) c.start.ensures c.len-waiting_bits.ensures.value c.waiting_number-waiting.ensures.digits c.waiting_number-waiting.ensures.fits c.requires
+    let seam : Seam = record {
+      samples = e.samples;
+      bits = e.bits;
+      steps = c.steps.result;
+      previous = to_z w64 (of_z w64 c.previous.result);
+      start = c.start.result;
+      waiting = c.waiting_number-waiting.result;
+      waiting_bits = c.len-waiting_bits.result;
+    } in
+    seam_of s old now e seam xs h all limit refl refl c.steps.ensures.value (to_z-of_z w64 c.previous.result fits ∙ c.previous.ensures) c.start.ensures
+    c.len-waiting_bits.ensures.value c.waiting_number-waiting.ensures.digits c.waiting_number-waiting.ensures.fits c.requires

@@ -10,7 +10,8 @@ use Rattle.rice_stream.specs.declared.encoding.Encoding.{Encoding}
 use Rattle.rice_stream.proofs.lemmas.EncodingLemmas.{counts_small, early_small, sink_short, taken_on}
 use Rattle.rice_stream.proofs.encoding.Encoding.take.Goals as goal
 
-of_setting : {N : ℕ} (s own : Parameters) (e : Encoding N) (xs : List ℤ) (levels : List ℕ) (n : ℕ) → own ≡ s → TakesSamples s e xs (take n (values_at own levels)) → TakesSamples s e xs (take n (values_at s levels))
+of_setting : {N : ℕ} (s own : Parameters) (e : Encoding N) (xs : List ℤ) (levels : List ℕ) (n : ℕ) → own ≡ s
+    → TakesSamples s e xs (take n (values_at own levels)) → TakesSamples s e xs (take n (values_at s levels))
 of_setting s own e xs levels n same h = subst (λ (t : Parameters). TakesSamples s e xs (take n (values_at t levels))) same h
 
 pub push_some-pushed-requires : goal.push_some-pushed-requires

@@ -3,11 +3,13 @@ use Rattle.rice_bits.proofs.lemmas.bits.SinkBytes.{gathered-dropped, length_view
 use Rattle.rice_bits.proofs.bits.sink.BitSink.drop_whole.Goals as goal
 
 pub invariant_of-self : goal.invariant_of-self
-invariant_of-self g c = (gathered-dropped c.self.inside.bytes c.keep_byte.new.bytes g.row.N c.self.inside.bits c.keep_byte.ensures.0 c.self.invariant c.self.told c.keep_byte.ensures.1 c.keep_byte.ensures.2).1
+invariant_of-self g c = (gathered-dropped c.self.inside.bytes c.keep_byte.new.bytes g.row.N c.self.inside.bits c.keep_byte.ensures.0 c.self.invariant
+    c.self.told c.keep_byte.ensures.1 c.keep_byte.ensures.2).1
 
 pub returns-clause-bits : goal.returns-clause-bits
 returns-clause-bits g c =
-    rw (← c.self.view_is) (gathered-dropped c.self.inside.bytes c.keep_byte.new.bytes g.row.N c.self.inside.bits c.keep_byte.ensures.0 c.self.invariant c.self.told c.keep_byte.ensures.1 c.keep_byte.ensures.2).0
+    rw (← c.self.view_is) (gathered-dropped c.self.inside.bytes c.keep_byte.new.bytes g.row.N c.self.inside.bits c.keep_byte.ensures.0 c.self.invariant
+    c.self.told c.keep_byte.ensures.1 c.keep_byte.ensures.2).0
 
 pub returns-clause-len : goal.returns-clause-len
 returns-clause-len g c =

@@ -18,7 +18,8 @@ returns-clause-bits g c =
     let window = c.self.invariant.window in
     rw (← c.self.view_is) (
       take (c.len.result % 8) (window_bits c.self.inside.window),
-      length-take-le (c.len.result % 8) (window_bits c.self.inside.window) (omega (arith, c.len.ensures.value)) ∙ omega (arith, length-window c.self.inside.window window, window.held, c.len.ensures.value),
+      length-take-le (c.len.result % 8) (window_bits c.self.inside.window) (omega (arith, c.len.ensures.value))
+          ∙ omega (arith, length-window c.self.inside.window window, window.held, c.len.ensures.value),
       c.pass.ensures.passes.split ∙ ap (λ bits. take (c.len.result % 8) (window_bits c.self.inside.window) ++ bits) (sym c.mark.ensures.bits),
     )
 
@@ -30,7 +31,15 @@ returns-clause-rest g c =
     let taken = c.mark.ensures.taken ∙ (c.pass.ensures.passes.taken
     ∙ ap (λ n. window_taken c.self.inside.window + n) (length-take-le (c.len.result % 8) (window_bits c.self.inside.window) (omega (arith, c.len.ensures.value)) ∙ gap)) in
     let blank = (λ j. c.is_blank-self-inside.ensures j && is_blank (c.mark.ensures.passed j)) ∙ and-true before in
-    rw (← c.self.view_is) (λ j. record { waiting = window_bits c.mark.new.self; taken = taken j; blank = blank j; refusal = c.self.inside.refusal; intake = c.self.inside.intake; left = g.I.Intake.left c.self.inside.intake; failed = g.I.Intake.failed c.self.inside.intake })
+    rw (← c.self.view_is) (λ j. record {
+      waiting = window_bits c.mark.new.self;
+      taken = taken j;
+      blank = blank j;
+      refusal = c.self.inside.refusal;
+      intake = c.self.inside.intake;
+      left = g.I.Intake.left c.self.inside.intake;
+      failed = g.I.Intake.failed c.self.inside.intake;
+    })
 
 pub returns-clause-steps : goal.returns-clause-steps
 returns-clause-steps g c =

@@ -43,7 +43,13 @@ loop-left-preserved g c =
 pub returns-in-Err-clause-err : goal.returns-in-Err-clause-err
 returns-in-Err-clause-err g c none = refusal_is _ _ _ c.in-Err.ensures.err.refusal (
   word (c.args.width - c.loop-left.left) c.loop-left.value ++ [],
-  omega (arith, length-append (word (c.args.width - c.loop-left.left) c.loop-left.value) [], length-word (c.args.width - c.loop-left.left) c.loop-left.value, c.loop-left.invariant.within, c.loop-left-test.true),
+  omega (
+    arith,
+    length-append (word (c.args.width - c.loop-left.left) c.loop-left.value) [],
+    length-word (c.args.width - c.loop-left.left) c.loop-left.value,
+    c.loop-left.invariant.within,
+    c.loop-left-test.true,
+  ),
   stops-append c.args.self.now c.loop-left.self c.take_some.new.self _ _ _ c.loop-left.invariant.takes c.in-Err.ensures.err,
 )
 

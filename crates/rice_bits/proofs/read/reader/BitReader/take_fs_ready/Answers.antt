@@ -7,7 +7,15 @@ use Rattle.rice_bits.proofs.read.reader.BitReader.take_fs_ready.Goals as goal
 
 pub tick-requires : goal.tick-requires
 tick-requires g c =
-    omega (arith, c.requires.meter, c.in_ok-count.ensures.some.1, length-window _ c.self.invariant.window, c.self.invariant.window.limit, c.self.invariant.window.held, ap (λ r. r.taken) c.self.view_is)
+    omega (
+      arith,
+      c.requires.meter,
+      c.in_ok-count.ensures.some.1,
+      length-window _ c.self.invariant.window,
+      c.self.invariant.window.limit,
+      c.self.invariant.window.held,
+      ap (λ r. r.taken) c.self.view_is,
+    )
 
 pub returns-clause-some : goal.returns-clause-some
 returns-clause-some g c =

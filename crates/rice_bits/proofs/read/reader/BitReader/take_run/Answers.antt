@@ -20,11 +20,30 @@ returns-in-Err-clause-err g c = rw (← c.self.view_is) record {
 
 pub tick-requires : goal.tick-requires
 tick-requires g c =
-    omega (arith, c.requires.meter, c.in-Some.ensures.some.1, length-window _ c.supply.ensures.window, c.supply.ensures.window.limit, c.supply.ensures.window.held, c.supply.ensures.taken, ap (λ r. r.taken) c.self.view_is)
+    omega (
+      arith,
+      c.requires.meter,
+      c.in-Some.ensures.some.1,
+      length-window _ c.supply.ensures.window,
+      c.supply.ensures.window.limit,
+      c.supply.ensures.window.held,
+      c.supply.ensures.taken,
+      ap (λ r. r.taken) c.self.view_is,
+    )
 
 pub tick-requires-2 : goal.tick-requires-2
 tick-requires-2 g c =
-    omega (arith, c.requires.meter, c.min-zeros.ensures, c.len.ensures.value, length-window _ c.supply.ensures.window, c.supply.ensures.window.limit, c.supply.ensures.window.held, c.supply.ensures.taken, ap (λ r. r.taken) c.self.view_is)
+    omega (
+      arith,
+      c.requires.meter,
+      c.min-zeros.ensures,
+      c.len.ensures.value,
+      length-window _ c.supply.ensures.window,
+      c.supply.ensures.window.limit,
+      c.supply.ensures.window.held,
+      c.supply.ensures.taken,
+      ap (λ r. r.taken) c.self.view_is,
+    )
 
 pub returns-clause-zeros : goal.returns-clause-zeros
 returns-clause-zeros g c _ =

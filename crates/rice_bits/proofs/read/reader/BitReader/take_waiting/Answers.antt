@@ -15,4 +15,12 @@ returns-clause-takes g c =
 pub returns-clause-steps : goal.returns-clause-steps
 returns-clause-steps g c =
     let taken = c.take_words-taken in
-    omega (arith, taken.ensures.passes.taken, ap length taken.ensures.passes.split ∙ length-append (flat_map (word c.args.width) (take taken.result taken.new.words)) (window_bits taken.new.self), c.len-before.ensures.value, c.len-left.ensures.value, ap (λ r. r.taken) c.self.view_is)
+    omega (
+      arith,
+      taken.ensures.passes.taken,
+      ap length taken.ensures.passes.split
+          ∙ length-append (flat_map (word c.args.width) (take taken.result taken.new.words)) (window_bits taken.new.self),
+      c.len-before.ensures.value,
+      c.len-left.ensures.value,
+      ap (λ r. r.taken) c.self.view_is,
+    )

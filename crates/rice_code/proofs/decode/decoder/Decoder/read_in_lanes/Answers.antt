@@ -14,6 +14,8 @@ returns-clause-some g c _ =
     let bytes = c.spell_ahead.new.bytes in
     let legal = subst (λ (p : DecoderState). IsLegal p.setting) view c.self.invariant.1.legal in
     let block = subst (λ (p : DecoderState). SpelledAhead start.waiting p.setting p.block p.before g.row.SIZE spelled.last spelled.len bytes) view c.in-Some.ensures.some in
-    bytes_given start (with_mark start) c.take_ahead.new.reader c.go_on-answer.new.reader c.args.meter.now c.take_ahead.new.meter c.go_on-answer.new.meter c.args.self.now c.go_on-answer.new.self block.levels spelled.len spelled.last g.row.SIZE g.row.WIDTH bytes
-    legal c.requires.lanes block.ahead refl c.take_ahead.ensures.takes c.take_ahead.ensures.steps c.go_on-answer.ensures.skips c.go_on-answer.ensures.steps (omega (arith, c.go_on-answer.ensures.few)) block.last_is
+    bytes_given start (with_mark start) c.take_ahead.new.reader c.go_on-answer.new.reader c.args.meter.now c.take_ahead.new.meter c.go_on-answer.new.meter
+    c.args.self.now c.go_on-answer.new.self block.levels spelled.len spelled.last g.row.SIZE g.row.WIDTH bytes
+    legal c.requires.lanes block.ahead refl c.take_ahead.ensures.takes c.take_ahead.ensures.steps c.go_on-answer.ensures.skips c.go_on-answer.ensures.steps
+    (omega (arith, c.go_on-answer.ensures.few)) block.last_is
     c.go_on-answer.ensures.moves block.spelled

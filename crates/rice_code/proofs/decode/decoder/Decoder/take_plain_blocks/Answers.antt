@@ -29,7 +29,8 @@ returns-clause-steps g c =
     let a = c.args in
     let bits : c.plain_len-len.result ≡ plain_bits a.self.now.setting g.row.WIDTH = c.plain_len-len.ensures.value ∙ ap (λ (p : DecoderState). plain_bits p.setting g.row.WIDTH) c.self.view_is in
     let all = bits_there a.reader.now.waiting a.self.now.setting g.row.WIDTH a.count a.bytes.now c.requires.some c.requires.row in
-    let len : length (take (c.plain_len-len.result * a.count) a.reader.now.waiting) ≡ c.plain_len-len.result * a.count = length-take-le (c.plain_len-len.result * a.count) a.reader.now.waiting (omega (arith, all, ap (λ k. k * a.count) bits)) in
+    let len : length (take (c.plain_len-len.result * a.count) a.reader.now.waiting) ≡ c.plain_len-len.result * a.count = length-take-le
+    (c.plain_len-len.result * a.count) a.reader.now.waiting (omega (arith, all, ap (λ k. k * a.count) bits)) in
     let taken = c.take_ahead.ensures.takes.taken in
     let steps = c.take_ahead.ensures.steps in
     let limit = c.take_ahead.ensures.limit in
@@ -56,12 +57,14 @@ returns-clause-gives g c =
     let below = subst (λ (p : DecoderState). l < value_count p.setting) view c.last_of_plain-last.ensures.below in
     let read : word (8 * w) (pattern st.setting (value_at st.setting l)) ≡ take (8 * w) (drop (plain_bits st.setting w * n + (id_len st.setting + 8 * (w * st.setting.block - w))) waiting) =
     c.last_of_plain-last.ensures.last ∙ ap (λ k. take (8 * w) (drop (k * n + (id_len st.setting + 8 * (w * st.setting.block - w))) waiting)) c.plain_len-len.ensures.value in
-    let spelled = subst (λ (p : DecoderState). word (8 * w) (pattern p.setting (value_at p.setting l)) ≡ take (8 * w) (drop (plain_bits p.setting w * n + (id_len p.setting + 8 * (w * p.setting.block - w))) waiting)) view read in
+    let spelled = subst (λ (p : DecoderState). word (8 * w) (pattern p.setting (value_at p.setting l)) ≡ take (8 * w)
+    (drop (plain_bits p.setting w * n + (id_len p.setting + 8 * (w * p.setting.block - w))) waiting)) view read in
     let run : st.run ≡ 0 = ap (λ (p : DecoderState). p.run) view ∙ c.requires.run in
     let place : c.place_on-self-inside.result ≡ (st.block + suc n) % st.setting.interval = c.place_on-self-inside.ensures ∙ ap (λ k. (st.block + k) % st.setting.interval) size in
     let q : DecoderState = record { setting = st.setting; block = c.place_on-self-inside.result; before = value_at st.setting l; run = st.run; stopped = st.stopped } in
     let here : q ≡ record { setting = st.setting; block = (st.block + suc n) % st.setting.interval; before = value_at st.setting l; run = 0; stopped = st.stopped } =
     λ j. record { setting = st.setting; block = place j; before = value_at st.setting l; run = run j; stopped = st.stopped } in
     let moves = subst (λ (p : DecoderState). q ≡ record p { block = (p.block + suc n) % p.setting.interval; before = value_at p.setting l; run = 0 }) view here in
-    let given = row_given n a.reader.now new a.meter.now steps a.self.now q l w a.bytes.now legal c.requires.plain within c.requires.going row takes (omega (arith, c.take_ahead.ensures.steps, together)) c.take_ahead.ensures.limit below spelled moves in
+    let given = row_given n a.reader.now new a.meter.now steps a.self.now q l w a.bytes.now legal c.requires.plain within c.requires.going row takes
+    (omega (arith, c.take_ahead.ensures.steps, together)) c.take_ahead.ensures.limit below spelled moves in
     subst (λ k. GivesRow k a.reader.now new a.meter.now steps a.self.now q a.bytes.now) (sym size) given

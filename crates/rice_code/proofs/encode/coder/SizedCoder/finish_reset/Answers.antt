@@ -6,7 +6,13 @@ use Rattle.rice_code.proofs.lemmas.encode.PushedSamples.{filled_has_steps}
 use Rattle.rice_code.proofs.encode.coder.SizedCoder.finish_reset.Goals as goal
 
 pub code-bits-requires : goal.code-bits-requires
-code-bits-requires g c = (search rules, (finish_sound c.self.inside.segment c.fill.new.self c.fill.ensures.value c.self.invariant, (c.requires.room, filled_has_steps _ c.self.inside.segment c.fill.new.self _ _ c.self.view_is c.self.invariant c.fill.ensures.value c.requires.meter c.fill.ensures.steps)))
+code-bits-requires g c = (
+  search rules,
+  (
+    finish_sound c.self.inside.segment c.fill.new.self c.fill.ensures.value c.self.invariant,
+    (c.requires.room, filled_has_steps _ c.self.inside.segment c.fill.new.self _ _ c.self.view_is c.self.invariant c.fill.ensures.value c.requires.meter c.fill.ensures.steps),
+  ),
+)
 
 pub invariant_of-self : goal.invariant_of-self
 invariant_of-self g c =

@@ -11,4 +11,5 @@ returns-clause-value g c =
     (λ xs h. let e = pending_are c.self.inside.segment xs h in omega (arith, e, c.len.ensures.value))
 
 pub returns-clause-limit : goal.returns-clause-limit
-returns-clause-limit g c = subst (λ (v : CoderState). c.len.result < 64 * v.setting.block) c.self.view_is (let e = few_pending c.self.inside.segment c.self.invariant in omega (arith, e, c.len.ensures.value))
+returns-clause-limit g c = subst (λ (v : CoderState). c.len.result < 64 * v.setting.block) c.self.view_is
+    (let e = few_pending c.self.inside.segment c.self.invariant in omega (arith, e, c.len.ensures.value))

@@ -10,7 +10,8 @@ pub resume-requires : goal.resume-requires
 resume-requires g c =
     let s = c.args.setting in
     let start = c.args.start in
-    let opens = subst (λ (p : ℤ). IsOpen (state_between s start p) (s.block * blocks_left s start)) (sym (to_z-of_z w64 c.args.previous c.ranges.previous)) (open_between s start c.args.previous c.requires.taken.0 c.requires.taken.1) in
+    let opens = subst (λ (p : ℤ). IsOpen (state_between s start p) (s.block * blocks_left s start)) (sym (to_z-of_z w64 c.args.previous c.ranges.previous))
+    (open_between s start c.args.previous c.requires.taken.0 c.requires.taken.1) in
     (search rules, (c.requires.size, (c.requires.room, opens)))
 
 pub invariant_of-result : goal.invariant_of-result

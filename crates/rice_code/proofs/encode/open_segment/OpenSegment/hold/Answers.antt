@@ -23,7 +23,9 @@ invariant_of-self g c =
         begins = c.self.invariant.1.begins;
         few = search rules;
         previous = sample_at c.self.inside.setting c.level_of-self-inside.result c.level_of-self-inside.ensures.below;
-        reference = noted_fits (c.self.inside.setting.preprocess && c.is_first-first.result) _ c.self.inside.reference c.note_reference.new.reference (value_count c.self.inside.setting) c.note_reference.ensures (pattern_fits c.self.inside.setting _ c.self.invariant.1.legal.bits_from sample) c.self.invariant.1.reference;
+        reference = noted_fits (c.self.inside.setting.preprocess && c.is_first-first.result) _ c.self.inside.reference c.note_reference.new.reference
+            (value_count c.self.inside.setting) c.note_reference.ensures (pattern_fits c.self.inside.setting _ c.self.invariant.1.legal.bits_from sample)
+            c.self.invariant.1.reference;
         ends = c.self.invariant.1.ends;
       },
       c.self.invariant.2,

@@ -13,14 +13,27 @@ not_none (suc n) e = omega arith
 -- The first sample is at a reference place.
 all_held : (coder value new : CoderState) (s : Parameters) (levels : List ℕ) (x : ℕ) (word : ℕ) → coder ≡ value → 0 < length levels → (value.setting.preprocess && is_first value) ≡ true →
     x ≡ slice_index_or levels 0 0 → s ≡ coder.setting → word ≡ pattern s (value_at s x) →
-    new ≡ state_with_later (record { setting = coder.setting; residuals = coder.residuals; reference = Some word; previous = coder.previous; start = coder.start }) (value_at coder.setting x) (values_at coder.setting levels) →
+    new ≡ state_with_later (record {
+      setting = coder.setting;
+      residuals = coder.residuals;
+      reference = Some word;
+      previous = coder.previous;
+      start = coder.start;
+    }) (value_at coder.setting x) (values_at coder.setting levels) →
     new ≡ state_after_all value (values_at value.setting levels)
 all_held coder value new s [] x word same some first head plain is put = absurd (omega arith)
 all_held coder value new s (y ∷ ys) x word same some first head plain is put =
     let own = coder.setting in
     let r : word ≡ pattern own (value_at own y) = is ∙ (ap (λ (v : Parameters). pattern v (value_at v x)) plain ∙ ap (λ l. pattern own (value_at own l)) head) in
-    put ∙ ((λ j. state_with_later (record { setting = own; residuals = coder.residuals; reference = Some (r j); previous = coder.previous; start = coder.start }) (value_at own (head j)) (values_at own (y ∷ ys)))
-    ∙ (state_after_all-first coder (value_at own y) (values_at own ys) (ap (λ (v : CoderState). v.setting.preprocess && is_first v) same ∙ first) ∙ ap (λ (v : CoderState). state_after_all v (values_at v.setting (y ∷ ys))) same))
+    put ∙ ((λ j. state_with_later (record {
+      setting = own;
+      residuals = coder.residuals;
+      reference = Some (r j);
+      previous = coder.previous;
+      start = coder.start;
+    }) (value_at own (head j)) (values_at own (y ∷ ys)))
+    ∙ (state_after_all-first coder (value_at own y) (values_at own ys) (ap (λ (v : CoderState). v.setting.preprocess && is_first v) same ∙ first)
+    ∙ ap (λ (v : CoderState). state_after_all v (values_at v.setting (y ∷ ys))) same))
 
 pub returns-then-is_reference_next : goal.returns-then-is_reference_next
 returns-then-is_reference_next g c =
