@@ -14,3 +14,4 @@ mod parts;
 mod plain_blocks;
 mod residuals;
 mod restoring;
+mod whole_blocks;

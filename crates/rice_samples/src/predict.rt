@@ -1,6 +1,7 @@
 //! The preprocessor: from samples to residuals and back.
 
 pub mod byte_lanes;
+pub mod byte_turns;
 pub mod half_lanes;
 mod narrow_near_lanes;
 mod near_lanes;

@@ -8,3 +8,4 @@ pub mod PlainBlocksRead
 pub mod ReadLemmas
 pub mod RestoredBlocks
 pub mod RowsAhead
+pub mod WholeBlocks

@@ -5,6 +5,7 @@ use Rattle.rice_samples.specs.Parameters.{Parameters, id_len, value_at, value_co
 use Rattle.rice_samples.specs.predict.Residuals.{pattern}
 use Rattle.rice_code.specs.code.CodedDataSets.{reference_bits}
 use Rattle.rice_code.specs.code.Forms.{IsReference}
+use Rattle.rice_code.specs.decode.BlocksAhead.{SpellsNear}
 use Rattle.rice_code.specs.decode.ReadSets.{reference_place}
 
 -- The first `len` bits are identifier and reference sample, if there is one, of block b after a sample at level `before`. Its first
@@ -33,3 +34,11 @@ pub record LowsAhead (waiting : List Bool) (skip omitted k : ℕ) (lows : List �
   pub zeros : take omitted lows ≡ replicate omitted 0
   pub low : All (λ l. l < 2 ^ k) lows
   pub spelled : flat_map (word k) (drop omitted lows) ≡ take ((length lows - omitted) * k) (drop skip waiting)
+
+-- The residuals of a block without compression stand behind the first `skip` bits, less the first `omitted`, which are zeros, and the
+-- bytes begin with the spellings of its samples, after a sample at level `from`, of which the last has level l.
+pub record WholeAhead (waiting : List Bool) (s : Parameters) (from omitted skip size l : ℕ) (bytes : List ℕ) : Type 0 where
+  pub residuals : List ℕ
+  pub ahead : LowsAhead waiting skip omitted s.bits residuals
+  pub count : length residuals ≡ size
+  pub spelled : SpellsNear s from s.bits size (replicate size 0) residuals l bytes

@@ -27,10 +27,10 @@ pub struct PartRows {
 /// The level after which the first sample of a block is restored, the number of its residuals that are not sent, and the number of
 /// bits before its fundamental sequences.
 #[derive(Clone, Copy)]
-struct RowsHead {
-    from: u32,
-    omitted: usize,
-    len: usize,
+pub struct RowsHead {
+    pub from: u32,
+    pub omitted: usize,
+    pub len: usize,
 }
 
 /// The high parts of the residuals of a block, in the first places, and the number of bits of their fundamental sequences.
@@ -42,7 +42,7 @@ struct HighRows {
 
 /// Returns what stands before the fundamental sequences of the block that waits, after a sample at level `before`.
 #[inline(always)]
-fn head_ahead<I: Intake, const WIDTH: usize>(
+pub fn head_ahead<I: Intake, const WIDTH: usize>(
     setting: &Setting,
     block: u64,
     before: u32,
@@ -73,7 +73,7 @@ fn head_ahead<I: Intake, const WIDTH: usize>(
 
 /// Returns the first numbers behind zeros for those that are omitted, one or none.
 #[inline(always)]
-fn behind_omitted(numbers: u8x16, omitted: usize) -> u8x16
+pub fn behind_omitted(numbers: u8x16, omitted: usize) -> u8x16
     requires lanes { length numbers ≡ 16 }
     requires omitted { omitted ≤ 1 }
     ensures { result ≡ take 16 (replicate omitted 0 ++ numbers) }
@@ -147,7 +147,7 @@ fn high_rows<I: Intake, const SIZE: usize>(
 /// Returns the low parts of `k` bits of the residuals of a block of `SIZE` samples, which wait behind the first `skip` bits. Those that
 /// are omitted, one or none, are zeros.
 #[inline(always)]
-fn low_rows<I: Intake, const SIZE: usize>(
+pub fn low_rows<I: Intake, const SIZE: usize>(
     reader: &BitReader<I>,
     skip: usize,
     omitted: usize,

@@ -20,6 +20,7 @@ use crate::decode::fault::{CodeFault, NextBlock};
 use crate::decode::options::SetSummary;
 use crate::decode::plain_blocks::{last_of_plain, plain_len, spell_plain_row};
 use crate::decode::restoring::{restore_block, restore_zeros};
+use crate::decode::whole_blocks::{is_whole_ahead, spell_whole_ahead};
 use crate::sizes::known_or;
 use arrayvec::ArrayVec;
 use rice_bits::{BitFault, BitReader, Intake, Meter};
@@ -329,10 +330,14 @@ impl Decoder {
         if self.run > 0 {
             return false;
         }
-        match split_ahead::<I, SIZE, WIDTH>(&self.setting, reader) {
-            Some(k) => self.read_in_lanes::<I, SIZE, WIDTH>(k, reader, meter, bytes),
-            None => false,
+        if let Some(k) = split_ahead::<I, SIZE, WIDTH>(&self.setting, reader) {
+            return self.read_in_lanes::<I, SIZE, WIDTH>(k, reader, meter, bytes);
         }
+        if is_whole_ahead::<I, SIZE, WIDTH>(&self.setting, reader) {
+            self.read_whole::<I, SIZE>(reader, meter, bytes);
+            return true;
+        }
+        false
     }
 
     /// As `next_bytes`, outside a run, of a block by split `k`.
@@ -379,6 +384,36 @@ impl Decoder {
         take_ahead(reader, spelled.len, meter);
         let _answer = self.go_on(spelled.last, 0, reader, meter);
         true
+    }
+
+    /// Reads the block without compression that waits outside a run, and writes its bytes.
+    #[inline(never)]
+    fn read_whole<I: Intake, const SIZE: usize>(
+        &mut self,
+        reader: &mut BitReader<I>,
+        meter: &mut Meter,
+        bytes: &mut [u8],
+    )
+        requires lanes { HasLanes self.old.setting SIZE 1 }
+        requires stopped { self.old.stopped ≡ None }
+        requires run { self.old.run ≡ 0 }
+        requires there { 148 + 8 * SIZE ≤ length reader.old.waiting }
+        requires id { word (id_len self.old.setting) (2 ^ id_len self.old.setting - 1)
+            ≡ take (id_len self.old.setting) reader.old.waiting }
+        requires going { reader.old.refusal ≡ None }
+        requires room { meter.old + 2 * (2 ^ 52 - reader.old.taken) + 64 < 2 ^ 62 }
+        requires bytes { (32 ≤ length bytes.old) × (SIZE ≤ length bytes.old) }
+        ensures gives { GivesBytes reader.old reader.new meter.old meter.new self.old self.new bytes.new }
+        ensures going { reader.new.refusal ≡ None }
+        ensures stopped { self.new.stopped ≡ None }
+        ensures setting { self.new.setting ≡ self.old.setting }
+        ensures steps { AreCounted meter.old meter.new reader.old.taken reader.new.taken }
+    {
+        let _taken = reader.taken();
+        let setting = &self.setting;
+        let spelled = spell_whole_ahead::<I, SIZE>(setting, self.block, self.before, reader, bytes);
+        take_ahead(reader, spelled.len, meter);
+        let _answer = self.go_on(spelled.last, 0, reader, meter);
     }
 
     /// Returns how many of the next coded data sets, at most `most`, are blocks without compression and wait one behind another, where

@@ -92,7 +92,7 @@ fn near_numbers(p: u8, ranks: u8x16) -> u8x16
 
 /// Returns the way to each number, if it is near. The ways wrap, as their sums do.
 #[inline(always)]
-fn ways(ranks: u8x16) -> u8x16
+pub(crate) fn ways(ranks: u8x16) -> u8x16
     requires { length ranks ≡ 16 }
     ensures { result ≡ map (way (2 ^ 8)) ranks }
 {

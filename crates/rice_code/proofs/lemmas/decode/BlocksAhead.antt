@@ -41,7 +41,7 @@ use Rattle.rice_code.proofs.lemmas.decode.ReadLemmas.{coded-placed, zero-placed}
 use Rattle.rice_code.proofs.lemmas.decode.RestoredBlocks.{contents_restored}
 
 -- ranks of numbers below `count` are below it
-ranks_fit : (count p : ℕ) (xs : List ℕ) → p < count → All (λ x. x < count) xs → All (λ d. d < count) (ranks_below count p xs)
+pub ranks_fit : (count p : ℕ) (xs : List ℕ) → p < count → All (λ x. x < count) xs → All (λ d. d < count) (ranks_below count p xs)
 ranks_fit count p [] h all = All-nil (λ d. d < count)
 ranks_fit count p (x ∷ xs) h all =
     let lt : x < count = all 0 0 (omega arith) in
@@ -57,7 +57,7 @@ four-parts bits a b c d k l m n p q r t =
     let second : take (l + (m + n)) (drop k bits) ≡ b ++ (c ++ d) = take-add l (m + n) (drop k bits) ∙ (λ j. sym q j ++ (ap (take (m + n)) (drop-drop l k bits) ∙ last) j) in
     ap (λ i. take i bits) all ∙ (take-add k (l + (m + n)) bits ∙ (λ j. sym p j ++ second j))
 
-take-ranks : (n count p : ℕ) (xs : List ℕ) → ranks_below count p (take n xs) ≡ take n (ranks_below count p xs)
+pub take-ranks : (n count p : ℕ) (xs : List ℕ) → ranks_below count p (take n xs) ≡ take n (ranks_below count p xs)
 take-ranks zero count p xs = refl
 take-ranks (suc n) count p [] = refl
 take-ranks (suc n) count p (x ∷ xs) = ap (λ ds. rank_below count p x ∷ ds) (take-ranks n count x xs)
