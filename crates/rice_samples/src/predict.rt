@@ -3,6 +3,7 @@
 pub mod byte_lanes;
 pub mod byte_turns;
 pub mod half_lanes;
+pub mod half_turns;
 mod narrow_near_lanes;
 mod near_lanes;
 pub mod preprocessor;

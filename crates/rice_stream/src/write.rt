@@ -135,6 +135,8 @@ fn write_other_samples<O: Outlet>(
     match (setting.width(), setting.msb(), levels.len()) {
         (1, msb, 64) => write_sized(setting, 1, msb, 64, levels, bytes, outlet),
         (3, false, 8) => write_sized(setting, 3, false, 8, levels, bytes, outlet),
+        (4, false, 32) => write_sized(setting, 4, false, 32, levels, bytes, outlet),
+        (4, false, 64) => write_sized(setting, 4, false, 64, levels, bytes, outlet),
         (width, _, count) => {
             let spelled = &mut bytes[..width as usize * count];
             write_spellings(setting, levels, spelled);

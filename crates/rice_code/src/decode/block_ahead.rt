@@ -45,7 +45,7 @@ pub struct SpelledBlock {
 }
 
 /// Writes the bytes of the block of `SIZE` samples of `WIDTH` bytes that waits, by split `k`, after a sample at level `before`, if its
-/// fundamental sequences are short and its samples near to those before them. It takes nothing, and may write more behind these bytes.
+/// fundamental sequences are short and no residual is too large. It takes nothing, and may write more behind these bytes.
 #[inline(always)]
 pub fn spell_ahead<I: Intake, const SIZE: usize, const WIDTH: usize>(
     setting: &Setting,

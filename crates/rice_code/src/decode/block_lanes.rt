@@ -3,11 +3,13 @@ ghost use Rattle.std.specs.Prelude.{◌≡◌, ◌⊎◌, ◌+◌, ◌-◌, ◌^
 ghost use Rattle.rice_bits.specs.Bits.{word};
 ghost use Rattle.rice_samples.specs.Parameters.{id_len, value_count};
 ghost use Rattle.rice_samples.specs.Places.{is_reference};
+ghost use Rattle.rice_samples.specs.predict.Near.{AreNearLevels};
 ghost use Rattle.rice_code.specs.decode.BlocksAhead.{HasLanes, HasWidth, PartsAhead, SpellsNear};
 
 use rice_bits::{BitReader, Intake, behind_zero};
 use rice_samples::{
-    Setting, level_of_pattern, near_halves, near_levels, spelled_bytes, spelled_words,
+    LevelHalves, LevelLanes, Setting, halves_in_turn, joined_in_turn, level_of_pattern,
+    near_halves, near_levels, spelled_bytes, spelled_words,
 };
 use std::simd::prelude::*;
 
@@ -145,7 +147,7 @@ fn parts_behind_reference<I: Intake, const SIZE: usize, const WIDTH: usize>(
 }
 
 /// Writes the bytes of a row of samples of `WIDTH` bytes, the first after a sample at level `from`, whose residuals have these parts, if
-/// all of them are near to those before them. Returns the level of the last. It may write more behind these bytes.
+/// no residual is too large. Returns the level of the last. It may write more behind these bytes.
 #[inline(always)]
 pub fn spell_near<const SIZE: usize, const WIDTH: usize>(
     setting: &Setting,
@@ -172,6 +174,48 @@ pub fn spell_near<const SIZE: usize, const WIDTH: usize>(
     }
 }
 
+/// Returns the levels of sixteen samples of at most 8 bits, the first after one at level `from`, whose residuals have these parts, if no
+/// residual is too large.
+#[inline(always)]
+fn row_levels(setting: &Setting, from: u32, highs: u8x16, lows: u8x16, k: u32) -> Option<LevelLanes>
+    requires narrow { setting.now.bits ≤ 8 }
+    requires begins { from < value_count setting.now }
+    requires split { k ≤ 7 }
+    requires sixteen { (length highs ≡ 16) × (length lows ≡ 16) }
+    requires low { All (λ l. l < 2 ^ k) lows }
+    ensures { IfSome result (λ l. AreNearLevels setting.now from k highs lows l.levels) }
+{
+    match near_levels(setting, from, highs, lows, k) {
+        Some(near) => Some(near),
+        None => joined_in_turn(setting, from, highs, lows, k),
+    }
+}
+
+/// Returns the levels of sixteen samples of at most 16 bits, the first after one at level `from`, whose residuals have these parts, if
+/// no residual is too large.
+#[inline(always)]
+fn row_halves(
+    setting: &Setting,
+    from: u32,
+    highs: u8x16,
+    lows: u8x16,
+    k: u32,
+) -> Option<LevelHalves>
+    requires narrow { setting.now.bits ≤ 16 }
+    requires begins { from < value_count setting.now }
+    requires split { k ≤ 8 }
+    requires sixteen { (length highs ≡ 16) × (length lows ≡ 16) }
+    requires low { All (λ l. l < 2 ^ k) lows }
+    ensures levels { IfSome result (λ l.
+        AreNearLevels setting.now from k highs lows (l.first ++ l.second)) }
+    ensures halves { IfSome result (λ l. (length l.first ≡ 8) × (length l.second ≡ 8)) }
+{
+    match near_halves(setting, from, highs, lows, k) {
+        Some(near) => Some(near),
+        None => halves_in_turn(setting, from, highs, lows, k),
+    }
+}
+
 /// As `spell_near`, of samples of one byte.
 #[inline(always)]
 fn spell_bytes<const SIZE: usize>(
@@ -193,7 +237,7 @@ fn spell_bytes<const SIZE: usize>(
     ensures none { IfNone result (bytes.new ≡ bytes.old) }
 {
     let _bits = setting.bits();
-    let near = near_levels(setting, from, highs, lows, k)?;
+    let near = row_levels(setting, from, highs, lows, k)?;
     spelled_bytes(setting, near.levels).copy_to_slice(bytes);
     Some(near.levels.to_array()[SIZE - 1] as u32)
 }
@@ -218,7 +262,7 @@ fn spell_words<const SIZE: usize>(
     ensures some { IfSome result (λ l. SpellsNear setting.now from k SIZE highs lows l bytes.new) }
     ensures none { IfNone result (bytes.new ≡ bytes.old) }
 {
-    let near = near_halves(setting, from, highs, lows, k)?;
+    let near = row_halves(setting, from, highs, lows, k)?;
     spelled_words(setting, near.first).copy_to_slice(bytes);
     if SIZE == 8 {
         return Some(near.first.to_array()[7] as u32);

@@ -210,8 +210,8 @@ pub fn rows_ahead<I: Intake, const SIZE: usize, const WIDTH: usize>(
 }
 
 /// Writes the bytes of row `row` of a block with these parts, of samples of `WIDTH` bytes, behind those of the rows before it, the
-/// first after a sample at level `from`, if all of them are near to those before them. Returns the level of the last. It may write more
-/// behind these bytes.
+/// first after a sample at level `from`, if no residual is too large. Returns the level of the last. It may write more behind these
+/// bytes.
 #[inline(always)]
 fn spell_row<const WIDTH: usize>(
     setting: &Setting,
@@ -239,8 +239,8 @@ fn spell_row<const WIDTH: usize>(
     spell_near::<16, WIDTH>(setting, k, from, highs, lows, place)
 }
 
-/// Writes the bytes of the block with these parts, of `SIZE` samples of `WIDTH` bytes, if all of them are near to those before them.
-/// Returns the level of its last sample.
+/// Writes the bytes of the block with these parts, of `SIZE` samples of `WIDTH` bytes, if no residual is too large. Returns the level of
+/// its last sample.
 #[inline(always)]
 pub fn spell_rows<const SIZE: usize, const WIDTH: usize>(
     setting: &Setting,

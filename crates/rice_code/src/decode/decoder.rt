@@ -301,8 +301,8 @@ impl Decoder {
     }
 
     /// Reads the next coded data set and writes the bytes of its block, of `SIZE` samples of `WIDTH` bytes, to the front of `bytes`, if
-    /// it is coded by a split, its samples are near to those before them, and it waits. Returns whether it did; otherwise nothing has
-    /// happened, and [`next_levels`](Self::next_levels) gives the block.
+    /// it is coded by a split with short fundamental sequences, or is not compressed and has samples of one byte, and it waits. Returns
+    /// whether it did; otherwise nothing has happened, and [`next_levels`](Self::next_levels) gives the block.
     #[inline(always)]
     pub fn next_bytes<I: Intake, const SIZE: usize, const WIDTH: usize>(
         &mut self,

@@ -71,7 +71,7 @@ fn raised(numbers: u8x16, width: u32) -> u8x16
 
 /// Joins high parts and low parts of `width` digits, if the high parts are small enough.
 #[inline(always)]
-fn joined(highs: u8x16, lows: u8x16, width: u32) -> u8x16
+pub(crate) fn joined(highs: u8x16, lows: u8x16, width: u32) -> u8x16
     requires width { width ≤ 7 }
     requires len { (length highs ≡ 16) × (length lows ≡ 16) }
     requires lows { All (λ v. v < 2 ^ width) lows }
@@ -198,7 +198,7 @@ fn bounds_from(greatest: u8, numbers: u8x16) -> u8x16
 
 /// Returns by how much each number is above `most`.
 #[inline(always)]
-fn above(numbers: u8x16, most: u8) -> u8x16
+pub(crate) fn above(numbers: u8x16, most: u8) -> u8x16
     requires { length numbers ≡ 16 }
     ensures len { length result ≡ 16 }
     ensures value { result ≡ replicate 16 0 → All (λ m. m ≤ most) numbers }
@@ -208,7 +208,7 @@ fn above(numbers: u8x16, most: u8) -> u8x16
 
 /// Returns whether both vectors are all zeros.
 #[inline(always)]
-fn are_zeros(a: u8x16, b: u8x16) -> bool
+pub(crate) fn are_zeros(a: u8x16, b: u8x16) -> bool
     requires { (length a ≡ 16) × (length b ≡ 16) }
     ensures first { result ≡ true → a ≡ replicate 16 0 }
     ensures second { result ≡ true → b ≡ replicate 16 0 }

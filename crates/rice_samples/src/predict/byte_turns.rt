@@ -1,12 +1,12 @@
 //! Sixteen samples of at most 8 bits from their residuals, one after another. It is made for samples of which many are far from the one
 //! before.
-ghost use Rattle.std.specs.Prelude.{◌≡◌, ◌+◌, ◌-◌, ◌/◌, ◌^◌, ◌<◌, ◌≤◌, All, length, map, nat_lt, if◌then◌else◌};
+ghost use Rattle.std.specs.Prelude.{◌≡◌, ◌+◌, ◌-◌, ◌/◌, ◌^◌, ◌<◌, ◌≤◌, All, IfSome, length, map, nat_lt, if◌then◌else◌};
 ghost use Rattle.rice_samples.specs.Parameters.{value_count};
 ghost use Rattle.rice_samples.specs.predict.Residuals.{rank_below, ranks_below};
-ghost use Rattle.rice_samples.specs.predict.Near.{way as way_of};
+ghost use Rattle.rice_samples.specs.predict.Near.{AreNearLevels, way as way_of};
 
 use crate::Setting;
-use crate::predict::byte_lanes::{LevelLanes, ways};
+use crate::predict::byte_lanes::{LevelLanes, above, are_zeros, joined, ways};
 use std::simd::prelude::*;
 
 /// What sixteen numbers are selected from, by their ranks: the rank, the way to a number that is near, half the rank, and how far the
@@ -43,6 +43,31 @@ pub fn levels_in_turn(setting: &Setting, before: u32, residuals: u8x16) -> Level
     LevelLanes {
         levels: u8x16::from_array(levels),
     }
+}
+
+/// Returns the levels of sixteen samples, of which the residuals have these high parts and these low parts of `width` bits: the first
+/// after a sample at level `before`, and each other after the one before it. `None` if a residual is too large.
+#[inline(never)]
+pub fn joined_in_turn(
+    setting: &Setting,
+    before: u32,
+    highs: u8x16,
+    lows: u8x16,
+    width: u32,
+) -> Option<LevelLanes>
+    requires narrow { setting.now.bits ≤ 8 }
+    requires before { before < value_count setting.now }
+    requires width { width ≤ 7 }
+    requires len { (length highs ≡ 16) × (length lows ≡ 16) }
+    requires lows { All (λ v. v < 2 ^ width) lows }
+    ensures { IfSome result (λ l. AreNearLevels setting.now before width highs lows l.levels) }
+{
+    let greatest = (setting.values() - 1) as u8;
+    let residuals = joined(highs, lows, width);
+    if !are_zeros(above(highs, 255 >> width), above(residuals, greatest)) {
+        return None;
+    }
+    Some(levels_in_turn(setting, before, residuals))
 }
 
 /// Returns half of each rank, up.

@@ -83,7 +83,7 @@ pub(crate) fn in_pairs_swapped(bytes: u8x16) -> u8x16
 
 /// Returns the first eight numbers, in lanes of 16 bits.
 #[inline(always)]
-fn first_half(numbers: u8x16) -> u16x8
+pub(crate) fn first_half(numbers: u8x16) -> u16x8
     requires { length numbers ≡ 16 }
     ensures { result ≡ take 8 numbers }
 {
@@ -94,7 +94,7 @@ fn first_half(numbers: u8x16) -> u16x8
 
 /// Returns the last eight numbers, in lanes of 16 bits.
 #[inline(always)]
-fn second_half(numbers: u8x16) -> u16x8
+pub(crate) fn second_half(numbers: u8x16) -> u16x8
     requires { length numbers ≡ 16 }
     ensures { result ≡ drop 8 numbers }
 {
@@ -105,7 +105,7 @@ fn second_half(numbers: u8x16) -> u16x8
 
 /// Joins high parts below 256 and low parts of `width` digits.
 #[inline(always)]
-fn joined(highs: u16x8, lows: u16x8, width: u32) -> u16x8
+pub(crate) fn joined(highs: u16x8, lows: u16x8, width: u32) -> u16x8
     requires width { width ≤ 8 }
     requires len { (length highs ≡ 8) × (length lows ≡ 8) }
     requires highs { All (λ m. m < 256) highs }

@@ -16,7 +16,7 @@ pub(crate) fn near_numbers(p: u16, ranks: u16x8) -> u16x8
 
 /// Returns the way to each number, if it is near. The ways wrap, as their sums do.
 #[inline(always)]
-fn ways(ranks: u16x8) -> u16x8
+pub(crate) fn ways(ranks: u16x8) -> u16x8
     requires { length ranks ≡ 8 }
     ensures { result ≡ map (way (2 ^ 16)) ranks }
 {

@@ -10,6 +10,9 @@ use crate::predict::preprocessor::{number_above_along, number_with};
 use crate::predict::turns::write_in_turn;
 use std::simd::prelude::*;
 
+/// The least level that so many others are near to that near ones are expected after it.
+const FEW_BELOW: u32 = 8;
+
 /// Writes the levels of the samples with these residuals: the first after a sample at level `before`, and each other after the
 /// one before it.
 #[inline(always)]
@@ -20,9 +23,10 @@ pub fn restore_near_first(setting: &Setting, before: u32, residuals: &[u32], lev
     ensures legal { All (λ l. l < value_count setting.now) levels.new }
     ensures ranks { ranks_below (value_count setting.now) before levels.new ≡ residuals.now }
 {
-    // It is laid out for blocks of 8.
+    // It is laid out for blocks of 8, and of 16 after a level to which few are near.
     match levels.len() {
         8 => restore_eight(setting, before, residuals, levels),
+        16 if before < FEW_BELOW => restore_sixteen_far(setting, before, residuals, levels),
         len if len % 8 == 0 => restore_eights(setting, before, residuals, levels),
         _ => restore_each(setting, before, residuals, levels),
     }
@@ -124,6 +128,35 @@ fn restore_any_width(setting: &Setting, before: u32, residuals: &[u32], levels: 
 /// Writes eight levels, of which not all are near.
 #[inline(never)]
 fn restore_far(setting: &Setting, before: u32, residuals: &[u32], levels: &mut [u32])
+    requires before { before < value_count setting.now }
+    requires residuals { All (λ d. d < value_count setting.now) residuals.now }
+    requires len { length levels.old ≡ length residuals.now }
+    requires eight { length residuals.now ≡ 8 }
+    ensures legal { All (λ l. l < value_count setting.now) levels.new }
+    ensures ranks { ranks_below (value_count setting.now) before levels.new ≡ residuals.now }
+{
+    restore_eight_far(setting, before, residuals, levels);
+}
+
+/// Writes sixteen levels, of which few are expected to be near.
+#[inline(never)]
+fn restore_sixteen_far(setting: &Setting, before: u32, residuals: &[u32], levels: &mut [u32])
+    requires before { before < value_count setting.now }
+    requires residuals { All (λ d. d < value_count setting.now) residuals.now }
+    requires len { length levels.old ≡ length residuals.now }
+    requires sixteen { length residuals.now ≡ 16 }
+    ensures legal { All (λ l. l < value_count setting.now) levels.new }
+    ensures ranks { ranks_below (value_count setting.now) before levels.new ≡ residuals.now }
+{
+    let setting = *setting;
+    let (first, second) = levels.split_at_mut(8);
+    restore_eight_far(&setting, before, &residuals[..8], first);
+    restore_eight_far(&setting, first[7], &residuals[8..], second);
+}
+
+/// Writes eight levels one at a time, by one comparison each where the range goes on far enough above them.
+#[inline(always)]
+fn restore_eight_far(setting: &Setting, before: u32, residuals: &[u32], levels: &mut [u32])
     requires before { before < value_count setting.now }
     requires residuals { All (λ d. d < value_count setting.now) residuals.now }
     requires len { length levels.old ≡ length residuals.now }
