@@ -45,9 +45,10 @@ pub struct SpelledBlock {
 }
 
 /// Writes the bytes of the block of `SIZE` samples of `WIDTH` bytes that waits, by split `k`, after a sample at level `before`, if its
-/// fundamental sequences are short and no residual is too large. It takes nothing, and may write more behind these bytes.
+/// fundamental sequences are short and, by `TURNS`, no residual is too large, else all samples are near to those before them. It takes
+/// nothing, and may write more behind these bytes.
 #[inline(always)]
-pub fn spell_ahead<I: Intake, const SIZE: usize, const WIDTH: usize>(
+pub fn spell_ahead<I: Intake, const SIZE: usize, const WIDTH: usize, const TURNS: bool>(
     setting: &Setting,
     block: u64,
     before: u32,
@@ -66,14 +67,14 @@ pub fn spell_ahead<I: Intake, const SIZE: usize, const WIDTH: usize>(
     ensures none { IfNone result (bytes.new ≡ bytes.old) }
 {
     if SIZE > 16 {
-        return spell_in_rows::<I, SIZE, WIDTH>(setting, block, before, k, reader, bytes);
+        return spell_in_rows::<I, SIZE, WIDTH, TURNS>(setting, block, before, k, reader, bytes);
     }
-    spell_in_one::<I, SIZE, WIDTH>(setting, block, before, k, reader, bytes)
+    spell_in_one::<I, SIZE, WIDTH, TURNS>(setting, block, before, k, reader, bytes)
 }
 
 /// As `spell_ahead`, of a block of one row.
 #[inline(always)]
-fn spell_in_one<I: Intake, const SIZE: usize, const WIDTH: usize>(
+fn spell_in_one<I: Intake, const SIZE: usize, const WIDTH: usize, const TURNS: bool>(
     setting: &Setting,
     block: u64,
     before: u32,
@@ -93,7 +94,14 @@ fn spell_in_one<I: Intake, const SIZE: usize, const WIDTH: usize>(
     ensures none { IfNone result (bytes.new ≡ bytes.old) }
 {
     let parts = parts_ahead::<I, SIZE, WIDTH>(setting, block, before, k, reader)?;
-    let last = spell_near::<SIZE, WIDTH>(setting, k, parts.from, parts.highs, parts.lows, bytes)?;
+    let last = spell_near::<SIZE, WIDTH, TURNS>(
+        setting,
+        k,
+        parts.from,
+        parts.highs,
+        parts.lows,
+        bytes,
+    )?;
     Some(SpelledBlock {
         last,
         len: parts.len,
@@ -102,7 +110,7 @@ fn spell_in_one<I: Intake, const SIZE: usize, const WIDTH: usize>(
 
 /// As `spell_ahead`, of a block of several rows.
 #[inline(always)]
-fn spell_in_rows<I: Intake, const SIZE: usize, const WIDTH: usize>(
+fn spell_in_rows<I: Intake, const SIZE: usize, const WIDTH: usize, const TURNS: bool>(
     setting: &Setting,
     block: u64,
     before: u32,
@@ -122,7 +130,7 @@ fn spell_in_rows<I: Intake, const SIZE: usize, const WIDTH: usize>(
     ensures none { IfNone result (bytes.new ≡ bytes.old) }
 {
     let parts = rows_ahead::<I, SIZE, WIDTH>(setting, block, before, k, reader)?;
-    let last = spell_rows::<SIZE, WIDTH>(setting, k, &parts, bytes)?;
+    let last = spell_rows::<SIZE, WIDTH, TURNS>(setting, k, &parts, bytes)?;
     Some(SpelledBlock {
         last,
         len: parts.len,

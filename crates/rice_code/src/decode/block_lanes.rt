@@ -146,10 +146,11 @@ fn parts_behind_reference<I: Intake, const SIZE: usize, const WIDTH: usize>(
     })
 }
 
-/// Writes the bytes of a row of samples of `WIDTH` bytes, the first after a sample at level `from`, whose residuals have these parts, if
-/// no residual is too large. Returns the level of the last. It may write more behind these bytes.
+/// Writes the bytes of a row of samples of `WIDTH` bytes, the first after a sample at level `from`, whose residuals have these parts: by
+/// `TURNS` if no residual is too large, else if all of them are near to those before them. Returns the level of the last. It may write
+/// more behind these bytes.
 #[inline(always)]
-pub fn spell_near<const SIZE: usize, const WIDTH: usize>(
+pub fn spell_near<const SIZE: usize, const WIDTH: usize, const TURNS: bool>(
     setting: &Setting,
     k: u32,
     from: u32,
@@ -168,16 +169,22 @@ pub fn spell_near<const SIZE: usize, const WIDTH: usize>(
     ensures none { IfNone result (bytes.new ≡ bytes.old) }
 {
     if WIDTH == 1 {
-        spell_bytes::<SIZE>(setting, k, from, highs, lows, bytes)
+        spell_bytes::<SIZE, TURNS>(setting, k, from, highs, lows, bytes)
     } else {
-        spell_words::<SIZE>(setting, k, from, highs, lows, bytes)
+        spell_words::<SIZE, TURNS>(setting, k, from, highs, lows, bytes)
     }
 }
 
-/// Returns the levels of sixteen samples of at most 8 bits, the first after one at level `from`, whose residuals have these parts, if no
-/// residual is too large.
+/// Returns the levels of sixteen samples of at most 8 bits, the first after one at level `from`, whose residuals have these parts: by `TURNS`
+/// if no residual is too large, else if all samples are near to those before them.
 #[inline(always)]
-fn row_levels(setting: &Setting, from: u32, highs: u8x16, lows: u8x16, k: u32) -> Option<LevelLanes>
+fn row_levels<const TURNS: bool>(
+    setting: &Setting,
+    from: u32,
+    highs: u8x16,
+    lows: u8x16,
+    k: u32,
+) -> Option<LevelLanes>
     requires narrow { setting.now.bits ≤ 8 }
     requires begins { from < value_count setting.now }
     requires split { k ≤ 7 }
@@ -185,16 +192,16 @@ fn row_levels(setting: &Setting, from: u32, highs: u8x16, lows: u8x16, k: u32) -
     requires low { All (λ l. l < 2 ^ k) lows }
     ensures { IfSome result (λ l. AreNearLevels setting.now from k highs lows l.levels) }
 {
-    match near_levels(setting, from, highs, lows, k) {
-        Some(near) => Some(near),
-        None => joined_in_turn(setting, from, highs, lows, k),
+    if TURNS {
+        return joined_in_turn(setting, from, highs, lows, k);
     }
+    near_levels(setting, from, highs, lows, k)
 }
 
-/// Returns the levels of sixteen samples of at most 16 bits, the first after one at level `from`, whose residuals have these parts, if
-/// no residual is too large.
+/// Returns the levels of sixteen samples of at most 16 bits, the first after one at level `from`, whose residuals have these parts, as
+/// `row_levels` does.
 #[inline(always)]
-fn row_halves(
+fn row_halves<const TURNS: bool>(
     setting: &Setting,
     from: u32,
     highs: u8x16,
@@ -210,15 +217,15 @@ fn row_halves(
         AreNearLevels setting.now from k highs lows (l.first ++ l.second)) }
     ensures halves { IfSome result (λ l. (length l.first ≡ 8) × (length l.second ≡ 8)) }
 {
-    match near_halves(setting, from, highs, lows, k) {
-        Some(near) => Some(near),
-        None => halves_in_turn(setting, from, highs, lows, k),
+    if TURNS {
+        return halves_in_turn(setting, from, highs, lows, k);
     }
+    near_halves(setting, from, highs, lows, k)
 }
 
 /// As `spell_near`, of samples of one byte.
 #[inline(always)]
-fn spell_bytes<const SIZE: usize>(
+fn spell_bytes<const SIZE: usize, const TURNS: bool>(
     setting: &Setting,
     k: u32,
     from: u32,
@@ -237,14 +244,14 @@ fn spell_bytes<const SIZE: usize>(
     ensures none { IfNone result (bytes.new ≡ bytes.old) }
 {
     let _bits = setting.bits();
-    let near = row_levels(setting, from, highs, lows, k)?;
+    let near = row_levels::<TURNS>(setting, from, highs, lows, k)?;
     spelled_bytes(setting, near.levels).copy_to_slice(bytes);
     Some(near.levels.to_array()[SIZE - 1] as u32)
 }
 
 /// As `spell_near`, of samples of two bytes.
 #[inline(always)]
-fn spell_words<const SIZE: usize>(
+fn spell_words<const SIZE: usize, const TURNS: bool>(
     setting: &Setting,
     k: u32,
     from: u32,
@@ -262,7 +269,7 @@ fn spell_words<const SIZE: usize>(
     ensures some { IfSome result (λ l. SpellsNear setting.now from k SIZE highs lows l bytes.new) }
     ensures none { IfNone result (bytes.new ≡ bytes.old) }
 {
-    let near = row_halves(setting, from, highs, lows, k)?;
+    let near = row_halves::<TURNS>(setting, from, highs, lows, k)?;
     spelled_words(setting, near.first).copy_to_slice(bytes);
     if SIZE == 8 {
         return Some(near.first.to_array()[7] as u32);

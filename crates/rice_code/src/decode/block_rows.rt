@@ -210,10 +210,9 @@ pub fn rows_ahead<I: Intake, const SIZE: usize, const WIDTH: usize>(
 }
 
 /// Writes the bytes of row `row` of a block with these parts, of samples of `WIDTH` bytes, behind those of the rows before it, the
-/// first after a sample at level `from`, if no residual is too large. Returns the level of the last. It may write more behind these
-/// bytes.
+/// first after a sample at level `from`, if it can, as `spell_near`. Returns the level of the last. It may write more behind these bytes.
 #[inline(always)]
-fn spell_row<const WIDTH: usize>(
+fn spell_row<const WIDTH: usize, const TURNS: bool>(
     setting: &Setting,
     k: u32,
     from: u32,
@@ -236,13 +235,13 @@ fn spell_row<const WIDTH: usize>(
     let highs = u8x16::from_slice(&parts.highs[16 * row..]);
     let lows = u8x16::from_slice(&parts.lows[16 * row..]);
     let place = &mut bytes[WIDTH * (16 * row)..];
-    spell_near::<16, WIDTH>(setting, k, from, highs, lows, place)
+    spell_near::<16, WIDTH, TURNS>(setting, k, from, highs, lows, place)
 }
 
-/// Writes the bytes of the block with these parts, of `SIZE` samples of `WIDTH` bytes, if no residual is too large. Returns the level of
+/// Writes the bytes of the block with these parts, of `SIZE` samples of `WIDTH` bytes, if it can, as `spell_near`. Returns the level of
 /// its last sample.
 #[inline(always)]
-pub fn spell_rows<const SIZE: usize, const WIDTH: usize>(
+pub fn spell_rows<const SIZE: usize, const WIDTH: usize, const TURNS: bool>(
     setting: &Setting,
     k: u32,
     parts: &PartRows,
@@ -263,7 +262,7 @@ pub fn spell_rows<const SIZE: usize, const WIDTH: usize>(
     let mut spelled = [0; 160];
     let mut last = parts.from;
     for row in 0..SIZE / 16 {
-        last = spell_row::<WIDTH>(setting, k, last, parts, row, &mut spelled)?;
+        last = spell_row::<WIDTH, TURNS>(setting, k, last, parts, row, &mut spelled)?;
     }
     bytes[..WIDTH * SIZE].copy_from_slice(&spelled[..WIDTH * SIZE]);
     Some(last)

@@ -331,7 +331,11 @@ impl Decoder {
             return false;
         }
         if let Some(k) = split_ahead::<I, SIZE, WIDTH>(&self.setting, reader) {
-            return self.read_in_lanes::<I, SIZE, WIDTH>(k, reader, meter, bytes);
+            // Most samples are near to those before them. A call for others in the same function would take registers from these.
+            if self.read_in_lanes::<I, SIZE, WIDTH, false>(k, reader, meter, bytes) {
+                return true;
+            }
+            return self.read_in_lanes::<I, SIZE, WIDTH, true>(k, reader, meter, bytes);
         }
         if is_whole_ahead::<I, SIZE, WIDTH>(&self.setting, reader) {
             self.read_whole::<I, SIZE>(reader, meter, bytes);
@@ -340,9 +344,10 @@ impl Decoder {
         false
     }
 
-    /// As `next_bytes`, outside a run, of a block by split `k`.
+    /// As `next_bytes`, outside a run, of a block by split `k`: by `TURNS` of any samples, else of samples that are near to those before
+    /// them.
     #[inline(never)]
-    fn read_in_lanes<I: Intake, const SIZE: usize, const WIDTH: usize>(
+    fn read_in_lanes<I: Intake, const SIZE: usize, const WIDTH: usize, const TURNS: bool>(
         &mut self,
         k: u32,
         reader: &mut BitReader<I>,
@@ -370,7 +375,7 @@ impl Decoder {
     {
         let _taken = reader.taken();
         let setting = &self.setting;
-        let spelled = match spell_ahead::<I, SIZE, WIDTH>(
+        let spelled = match spell_ahead::<I, SIZE, WIDTH, TURNS>(
             setting,
             self.block,
             self.before,
