@@ -27,6 +27,9 @@ use rice_bits::{BitFault, BitReader, Intake, Meter};
 use rice_samples::Setting;
 use std::marker::Model;
 
+/// The least level that so many others are near to that near ones are expected after it.
+const FEW_BELOW: u32 = 8;
+
 /// Returns the number of blocks of the run whose codeword has `zeros` zeros, or `None` if that run is not sound.
 fn run_blocks(setting: &Setting, block: u64, zeros: u64) -> Option<u32>
     ensures within { IfSome result (λ z. (1 ≤ z) × (z ≤ blocks_left setting.now block)) }
@@ -331,6 +334,9 @@ impl Decoder {
             return false;
         }
         if let Some(k) = split_ahead::<I, SIZE, WIDTH>(&self.setting, reader) {
+            if self.before < FEW_BELOW {
+                return self.read_in_lanes::<I, SIZE, WIDTH, true>(k, reader, meter, bytes);
+            }
             // Most samples are near to those before them. A call for others in the same function would take registers from these.
             if self.read_in_lanes::<I, SIZE, WIDTH, false>(k, reader, meter, bytes) {
                 return true;
