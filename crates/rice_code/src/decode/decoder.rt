@@ -1,5 +1,5 @@
 //! Decodes coded data sets, a block a call.
-ghost use Rattle.std.specs.Prelude.{◌≡◌, ◌≢◌, ◌⊎◌, ℕ, ◌+◌, ◌-◌, ◌*◌, ◌%◌, ◌<◌, ◌≤◌, true, false, All, [], length, take, None, Option, Some, IfSome, IfNone, Ok, pos};
+ghost use Rattle.std.specs.Prelude.{◌≡◌, ◌≢◌, ◌⊎◌, ℕ, ◌+◌, ◌-◌, ◌*◌, ◌%◌, ◌^◌, ◌<◌, ◌≤◌, true, false, All, [], length, take, None, Option, Some, IfSome, IfNone, Ok, pos};
 ghost use Rattle.rice_bits.specs.Limits.{step_limit, most_bits_read};
 ghost use Rattle.rice_samples.specs.Parameters.{id_len, value_at, value_count, values_at};
 ghost use Rattle.rice_samples.specs.Places.{blocks_left};
@@ -412,7 +412,7 @@ impl Decoder {
         requires id { word (id_len self.old.setting) (2 ^ id_len self.old.setting - 1)
             ≡ take (id_len self.old.setting) reader.old.waiting }
         requires going { reader.old.refusal ≡ None }
-        requires room { meter.old + 2 * (2 ^ 52 - reader.old.taken) + 64 < 2 ^ 62 }
+        requires room { meter.old + 2 * (most_bits_read - reader.old.taken) + 64 < step_limit }
         requires bytes { (32 ≤ length bytes.old) × (SIZE ≤ length bytes.old) }
         ensures gives { GivesBytes reader.old reader.new meter.old meter.new self.old self.new bytes.new }
         ensures going { reader.new.refusal ≡ None }

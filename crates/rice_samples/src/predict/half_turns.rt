@@ -1,7 +1,6 @@
 //! Sixteen samples of at most 16 bits from their residuals, one after another. It is made for samples of which many are far from the one
 //! before.
 ghost use Rattle.std.specs.Prelude.{◌≡◌, ◌+◌, ◌-◌, ◌/◌, ◌^◌, ◌<◌, ◌≤◌, ◌++◌, All, IfSome, length, map, replicate, nat_lt, if◌then◌else◌};
-ghost use Rattle.rice_bits.specs.read.Parts.{joined_parts};
 ghost use Rattle.rice_samples.specs.Parameters.{value_count};
 ghost use Rattle.rice_samples.specs.predict.Residuals.{last_number, rank_below, ranks_below};
 ghost use Rattle.rice_samples.specs.predict.Near.{AreNearLevels, way as way_of};
