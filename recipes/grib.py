@@ -243,12 +243,15 @@ def encode(path, out):
 
 def main():
     command, *paths = sys.argv[1:] or [""]
-    if command == "check" and paths:
-        sys.exit(not check(paths))
-    if command not in ("decode", "encode") or len(paths) != 2:
+    is_check = command == "check" and paths
+    if not is_check and (command not in ("decode", "encode") or len(paths) != 2):
         sys.exit(__doc__.partition("\n\n")[2])
     try:
+        if is_check:
+            sys.exit(not check(paths))
         {"decode": decode, "encode": encode}[command](*paths)
+    except OSError as error:
+        sys.exit(f"{error.filename}: {error.strerror}")
     except (Damage, Unserved) as error:
         sys.exit(f"{paths[0]}: {error}")
 

@@ -296,8 +296,11 @@ def main():
     parser.add_argument("--count", type=int, help="the number of the samples")
     parser.add_argument("--all", action="store_true", help="try every interval, 1 to 4096")
     given = parser.parse_args()
-    with open(given.code, "rb") as file:
-        code = file.read()
+    try:
+        with open(given.code, "rb") as file:
+            code = file.read()
+    except OSError as error:
+        sys.exit(f"{error.filename}: {error.strerror}")
     kind = next((kind for magic, kind in MAGIC.items() if code.startswith(magic)), None)
     if kind:
         print(f"{given.code} begins as {kind}")
