@@ -68,7 +68,7 @@ fn read_rows<I: Intake>(
     ensures steps { meter.new + reader.old.taken ≡ meter.old + reader.new.taken }
     ensures limit { reader.new.taken ≤ most_bits_read }
 {
-    // It is laid out for blocks of 8, with a reference and without, and of 16.
+    // It is laid out for blocks of 8 and of 64, with a reference and without, and for 16 and 32 residuals.
     match residuals.len() {
         7 => read_rows_of(reader, meter, most, k, &mut highs[..7], &mut residuals[..7]),
         8 => read_rows_of(reader, meter, most, k, &mut highs[..8], &mut residuals[..8]),
@@ -79,6 +79,30 @@ fn read_rows<I: Intake>(
             k,
             &mut highs[..16],
             &mut residuals[..16],
+        ),
+        32 => read_rows_of(
+            reader,
+            meter,
+            most,
+            k,
+            &mut highs[..32],
+            &mut residuals[..32],
+        ),
+        63 => read_rows_of(
+            reader,
+            meter,
+            most,
+            k,
+            &mut highs[..63],
+            &mut residuals[..63],
+        ),
+        64 => read_rows_of(
+            reader,
+            meter,
+            most,
+            k,
+            &mut highs[..64],
+            &mut residuals[..64],
         ),
         _ => read_rows_of(reader, meter, most, k, highs, residuals),
     }
