@@ -14,7 +14,7 @@ import sys
 
 CRATES = ["rice_bits", "rice_samples", "rice_code", "rice_stream", "rice_c", "aec_tool"]
 PAGE = "docs/PLANTS.md"
-FOUND = re.compile(r"(?m)^(proves|no-ensures|untested) +(\S+?):\d+ (\S+?)(?:: (\{.*?\})(?:  \(.*\))?|\(\))?$")
+FOUND = re.compile(r"(?m)^(proves|no-ensures|untested) +(\S+?):\d+ (.+?)(?:: (\{.*?\})(?:  \(.*\))?|\(\))?$")
 
 
 NOTHING = re.compile(r"(laws|examples|decoding_examples)::")
@@ -23,7 +23,7 @@ NOTHING = re.compile(r"(laws|examples|decoding_examples)::")
 def explained():
     """Returns the rows of the page: the crate, the function, and the body that is right, or the kind of row."""
     with open(PAGE, encoding="utf-8") as it:
-        rows = re.findall(r"(?m)^\| `(\w+)` \| `(\S+)` \| `(.*?)` \| \S", it.read())
+        rows = re.findall(r"(?m)^\| `(\w+)` \| `(.+?)` \| `(.*?)` \| \S", it.read())
     return {*rows}
 
 
