@@ -361,7 +361,7 @@ fn carry(buffer: &mut [u8], filled: usize, waiting: usize)
 /// Encodes the samples that the intake's bytes spell, and writes their code to the outlet.
 ///
 /// It asks for at most 4,096 bytes at a time and for at most 2^48 in all, and then for one more.
-/// The code of each segment that a sample completes is written before the next sample is taken.
+/// The whole bytes of the code of each segment that a sample completes are written before the next sample is taken.
 pub fn encode<I: Intake, O: Outlet>(setting: &Setting, intake: &mut I, outlet: &mut O) -> Outcome
     requires reads { I.failed intake.old + 1 < 2 ^ 64 }
     requires writes { O.failed outlet.old + 1 < 2 ^ 64 }

@@ -303,9 +303,10 @@ impl Decoder {
         answer
     }
 
-    /// Reads the next coded data set and writes the bytes of its block, of `SIZE` samples of `WIDTH` bytes, to the front of `bytes`, if
-    /// it is coded by a split with short fundamental sequences, or is not compressed and has samples of one byte, and it waits. Returns
-    /// whether it did; otherwise nothing has happened, and [`next_levels`](Self::next_levels) gives the block.
+    /// Reads the next coded data set and writes the bytes of its block, of `SIZE` samples of `WIDTH` bytes, to the front of `bytes`. It
+    /// has to be coded by a split of at most 5, or of at most 8 where samples have two bytes, with short fundamental sequences, or not to
+    /// be compressed where they have one; and 208 bits, or 148 and eight for each sample, have to wait. Returns whether it did; otherwise
+    /// nothing has happened, and [`next_levels`](Self::next_levels) gives the block.
     #[inline(always)]
     pub fn next_bytes<I: Intake, const SIZE: usize, const WIDTH: usize>(
         &mut self,
