@@ -212,11 +212,11 @@ def places():
 def ratios():
     """How many times as fast as Debian's aec, by CPU time and by instructions, of each row."""
     _, rows = table_of("docs/BENCHMARKS.md", "| data, options | aec here")
-    seconds = lambda cell: float(cell.split()[0])
+    rate = lambda cell: float(cell.split("(")[1].split()[0])
     figure, panels = pyplot.subplots(1, 2, figsize=(10, 6), sharex=True, sharey=True, layout="constrained")
     for panel, way_ in zip(panels, ("encode", "decode")):
         chosen = [row for row in rows if row[0].endswith(f", {way_}")][::-1]
-        clock = [seconds(row[2]) / seconds(row[1]) for row in chosen]
+        clock = [rate(row[1]) / rate(row[2]) for row in chosen]
         counted = [float(row[4]) / float(row[3]) for row in chosen]
         places_ = range(len(chosen))
         panel.hlines(places_, clock, counted, color=LIGHT, linewidth=3)
@@ -226,8 +226,11 @@ def ratios():
         panel.set_yticks(places_, [row[0].removesuffix(f", {way_}").replace("`", "") for row in chosen])
         panel.set_title(way_)
         panel.grid(axis="x", color="#ddd")
-        panel.set_xlim(0, 6.2)
-    panels[1].legend(loc="lower right")
+        panel.set_xscale("log")
+        panel.set_xlim(0.9, 25)
+        panel.set_xticks([1, 2, 4, 8, 16], ["1", "2", "4", "8", "16"])
+        panel.minorticks_off()
+    panels[1].legend(loc="upper center", bbox_to_anchor=(0.2, 1.13), ncols=2, frameon=False)
     figure.supxlabel("times as fast as Debian's aec, and times fewer instructions; 1 is as fast", size=10)
 
 
