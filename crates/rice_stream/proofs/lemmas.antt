@@ -20,4 +20,5 @@ pub mod Seams
 pub mod SetsRead
 pub mod SpelledBlocks
 pub mod SpellingLengths
+pub mod Strokes
 pub mod WholeBytes

@@ -1,5 +1,5 @@
 -- Decoding piece by piece: where decoding stands between two calls, and what each call gives.
-use Rattle.std.specs.Prelude.{◌≡◌, ◌≢◌, ℕ, ◌+◌, ◌*◌, ◌%◌, ◌^◌, ◌<◌, ◌≤◌, Bool, true, List, [], ◌++◌, length, drop, sum_by, Option, Some, None, IsSome, Result, Ok, Err, ℤ, pos}
+use Rattle.std.specs.Prelude.{◌≡◌, ◌≢◌, ℕ, ◌+◌, ◌*◌, ◌%◌, ◌^◌, ◌<◌, ◌≤◌, Bool, true, List, [], ◌++◌, length, drop, take, sum_by, Option, Some, None, IsSome, Result, Ok, Err, ℤ, pos}
 use Rattle.rice_bits.specs.Limits.{most_bits_read}
 use Rattle.rice_bits.specs.Bits.{bits_of}
 use Rattle.rice_bits.specs.read.Reader.{Reader}
@@ -106,11 +106,10 @@ pub record IsReadFrom {I : Type 0} (stand : Stand) (r : Reader I) : Type 0 where
   pub taken : r.taken ≤ stand.bits
   pub limit : stand.bits + length (ahead r) ≤ most_bits_read
 
--- a block more was given
+-- blocks more were given
 pub record GivesNext {I : Type 0} (s : Parameters) (o : Origin) (front : List Bool) (given : List ℤ) (next : Stand) (old new : Reader I) (samples : List ℤ) : Type 0 where
   pub bits : List Bool
   pub split : ahead old ≡ bits ++ ahead new
-  pub len : length samples ≡ s.block
   pub stands : IsStand s o next (front ++ bits) (given ++ samples)
 
 -- what becomes of the next block
@@ -128,6 +127,31 @@ pub record GoesOnAt {I : Type 0} (s : Parameters) (stand next : Stand) (q : Deco
   pub state : q ≡ state_of s next
   pub reads : IsReadFrom next new
   pub aligned : old.taken % 8 ≡ stand.bits % 8 → new.taken % 8 ≡ next.bits % 8
+
+-- a stand by its numbers, and where the decoder is
+abbrev pub stand_at : (samples bits steps : ℕ) → DecoderState → Stand
+stand_at samples bits steps q = record { samples = samples; bits = bits; steps = steps; previous = q.before; block = q.block; run = q.run }
+
+-- the decoder gave blocks with these samples, and decoding stands behind them then
+pub record GivesMore {I : Type 0} (s : Parameters) (stand next : Stand) (q : DecoderState) (old new : Reader I) (samples : List ℤ) : Type 0 where
+  pub goes_on : GoesOnAt s stand next q old new
+  pub gives : (o : Origin) (front : List Bool) (given : List ℤ) → IsStand s o stand front given → GivesNext s o front given next old new samples
+
+-- It gave them at one stroke, and the first `len` bytes are theirs.
+pub record GivesStroke {I : Type 0} (s : Parameters) (stand next : Stand) (q : DecoderState) (old new : Reader I) (len : ℕ) (bytes : List ℕ) : Type 0 where
+  pub samples : List ℤ
+  pub more : GivesMore s stand next q old new samples
+  pub some : 1 ≤ len
+  pub len_is : len ≡ width s * length samples
+  pub spelled : take len bytes ≡ spellings s samples
+
+-- and they were written at this place
+pub record WritesStroke {I : Type 0} (s : Parameters) (stand next : Stand) (q : DecoderState) (old new : Reader I) (len at : ℕ) (out_old out : List ℕ) : Type 0 where
+  pub samples : List ℤ
+  pub more : GivesMore s stand next q old new samples
+  pub some : 1 ≤ len
+  pub len_is : len ≡ width s * length samples
+  pub wrote : out ≡ take at out_old ++ (spellings s samples ++ drop (at + len) out_old)
 
 -- how decoding pauses where the decoder refuses
 abbrev pub pause_for : CodeFault → Pause

@@ -174,7 +174,7 @@ fn decode_counted<I: Intake, O: Outlet>(
 }
 
 /// Returns whether blocks have `SIZE` samples of `WIDTH` bytes, and the decoder may give their bytes at one stroke.
-fn has_lanes<const SIZE: usize, const WIDTH: usize>(setting: &Setting) -> bool
+pub(crate) fn has_lanes<const SIZE: usize, const WIDTH: usize>(setting: &Setting) -> bool
     requires sizes { (SIZE ≡ 8) ⊎ (SIZE ≡ 16) ⊎ (SIZE ≡ 32) ⊎ (SIZE ≡ 64) }
     requires widths { (WIDTH ≡ 1) ⊎ (WIDTH ≡ 2) }
     ensures { result ≡ true → HasLanes setting.now SIZE WIDTH }

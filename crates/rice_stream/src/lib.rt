@@ -13,6 +13,7 @@ pub mod pulling;
 mod runs;
 pub mod seam;
 pub mod stand;
+mod strokes;
 mod write;
 
 pub use decoding::decode;

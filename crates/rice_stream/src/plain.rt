@@ -27,7 +27,7 @@ pub(crate) fn is_plain<const WIDTH: usize>(setting: &Setting) -> bool
 const ROOM: usize = 480;
 
 /// Returns the number of blocks that a row has room for.
-fn blocks_of_row<const WIDTH: usize>(setting: &Setting) -> usize
+pub(crate) fn blocks_of_row<const WIDTH: usize>(setting: &Setting) -> usize
     requires { IsPlain setting.now WIDTH }
     ensures few { result ≤ 480 }
     ensures room { WIDTH * setting.now.block * result ≤ 480 }
@@ -62,7 +62,7 @@ fn blocks_wanted(setting: &Setting, asked: Option<u64>, written: u64, fit: usize
 /// Returns how many of the next blocks, at most `fit`, are wanted whole, are not compressed, and wait, and writes their bytes. `whole`
 /// says whether the next one is wanted whole.
 #[inline(always)]
-fn row_ahead<I: Intake, const WIDTH: usize>(
+pub(crate) fn row_ahead<I: Intake, const WIDTH: usize>(
     setting: &Setting,
     asked: Option<u64>,
     written: u64,

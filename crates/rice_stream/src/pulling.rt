@@ -5,9 +5,16 @@ ghost use Rattle.rice_bits.specs.Bits.{bits_of};
 ghost use Rattle.rice_samples.specs.Parameters.{value_count, values_at, width as width_of};
 ghost use Rattle.rice_samples.specs.bytes.Spelling.{spellings};
 ghost use Rattle.rice_code.specs.declared.decode.fault.CodeFault.TheVariants as faults;
+ghost use Rattle.rice_code.specs.decode.BlocksAhead.{HasLanes};
+ghost use Rattle.rice_code.specs.decode.PlainBlocks.{IsPlain};
 ghost use Rattle.rice_stream.specs.Pulling.{Origin, IsStand, DecodesMore, GoesOnAt, IsReadFrom, TakesNext, ahead, pause_for, state_of};
 
+use crate::decoding::has_lanes;
+use crate::patience::Patience;
+use crate::plain::is_plain;
 use crate::stand::{Pause, Stand};
+use crate::strokes::{next_stroke, stand_behind};
+use crate::write::spell_sized;
 use arrayvec::ArrayVec;
 use rice_bits::{BitReader, Meter, SliceIn};
 use rice_code::{CodeFault, Decoder, NextBlock};
@@ -36,17 +43,91 @@ pub fn decode_more(
     if is_too_long(stand.bits, piece.len()) {
         return (*stand, Pause::TooLong);
     }
+    // As `decode`, it has a loop for each shape of blocks.
+    if has_lanes::<8, 1>(setting) {
+        return decode_piece::<8, 1, false>(setting, stand, piece, samples);
+    }
+    if has_lanes::<16, 1>(setting) {
+        return decode_piece::<16, 1, false>(setting, stand, piece, samples);
+    }
+    if has_lanes::<32, 1>(setting) {
+        return decode_piece::<32, 1, false>(setting, stand, piece, samples);
+    }
+    if has_lanes::<64, 1>(setting) {
+        return decode_piece::<64, 1, false>(setting, stand, piece, samples);
+    }
+    if has_lanes::<8, 2>(setting) {
+        return decode_piece::<8, 2, false>(setting, stand, piece, samples);
+    }
+    if has_lanes::<16, 2>(setting) {
+        return decode_piece::<16, 2, false>(setting, stand, piece, samples);
+    }
+    if has_lanes::<32, 2>(setting) {
+        return decode_piece::<32, 2, false>(setting, stand, piece, samples);
+    }
+    if has_lanes::<64, 2>(setting) {
+        return decode_piece::<64, 2, false>(setting, stand, piece, samples);
+    }
+    if is_plain::<1>(setting) {
+        return decode_piece::<0, 1, true>(setting, stand, piece, samples);
+    }
+    if is_plain::<2>(setting) {
+        return decode_piece::<0, 2, true>(setting, stand, piece, samples);
+    }
+    if is_plain::<4>(setting) {
+        return decode_piece::<0, 4, true>(setting, stand, piece, samples);
+    }
+    decode_piece::<0, 0, false>(setting, stand, piece, samples)
+}
+
+/// Decodes a piece that does not pass the limit of a code. `SIZE`, if it is not 0, is the number of samples of a block whose bytes may
+/// be known at one stroke, and `WIDTH` that of the bytes of each. Where `PLAIN`, samples have `WIDTH` bytes and are not predicted.
+#[inline(never)]
+fn decode_piece<const SIZE: usize, const WIDTH: usize, const PLAIN: bool>(
+    setting: &Setting,
+    stand: &Stand,
+    piece: &[u8],
+    samples: &mut [u8],
+) -> (Stand, Pause)
+    requires lanes { PLAIN ≡ false → 0 < SIZE → HasLanes setting.now SIZE WIDTH }
+    requires plain { PLAIN ≡ true → IsPlain setting.now WIDTH }
+    requires fits { stand.now.bits + 8 * length piece.now ≤ most_bits_read }
+    requires stand { (o : Origin) × (front : List Bool) × (given : List ℤ) ×
+        IsStand setting.now o stand.now front given }
+    ensures { (o : Origin) (front : List Bool) (given : List ℤ) →
+        IsStand setting.now o stand.now front given →
+        DecodesMore setting.now o front given piece.now stand.now samples.old samples.new result.0 result.1 }
+{
     let own = *setting;
     let size = own.width() as usize * own.block() as usize;
     let mut decoder = Decoder::at(own, stand.block, stand.previous, stand.run);
     let mut reader = reader_behind(piece, (stand.bits % 8) as u32);
     let mut levels = ArrayVec::new();
+    let mut patience = Patience::new();
+    let mut bytes = [0; 512];
     let mut here = *stand;
     let mut at = 0;
     'decode_all: while samples.len() - at >= size {
         // Of no bytes nothing is read, since the reader stands at no bit of them.
         if piece.is_empty() && here.run == 0 {
             return (here, Pause::Blank);
+        }
+        match next_stroke::<SIZE, WIDTH, PLAIN>(
+            &own,
+            &here,
+            &mut patience,
+            &mut decoder,
+            &mut reader,
+            &mut bytes,
+            at,
+            samples,
+        ) {
+            Some(stroke) => {
+                here = stroke.stand;
+                at += stroke.len;
+                continue 'decode_all;
+            }
+            None => {}
         }
         let found = match next_stand(&own, &here, &mut decoder, &mut reader, &mut levels) {
             Ok(found) => found,
@@ -98,6 +179,7 @@ fn reader_behind<'a>(piece: &'a [u8], skipped: u32) -> BitReader<SliceIn<'a>>
 }
 
 /// Restores the samples of the next block, by their levels, and returns where decoding stands behind it, or `None` if no 1 is left.
+#[inline(always)]
 fn next_stand(
     setting: &Setting,
     stand: &Stand,
@@ -129,15 +211,7 @@ fn next_stand(
         NextBlock::Block => {}
         NextBlock::Done => return Ok(None),
     }
-    meter.tick(size);
-    let next = Stand {
-        samples: stand.samples + size,
-        bits: stand.bits + (reader.taken() - before),
-        steps: meter.steps(),
-        previous: decoder.before(),
-        block: decoder.block(),
-        run: decoder.run(),
-    };
+    let next = stand_behind(stand, size, before, decoder, reader, &meter);
     Ok(Some(next))
 }
 
@@ -151,7 +225,13 @@ fn write_at(setting: &Setting, levels: &[u32], at: usize, samples: &mut [u8])
         ++ drop (at + width_of setting.now * length levels.now) samples.old) }
 {
     let size = setting.width() as usize * levels.len();
-    write_spellings(setting, levels, &mut samples[at..at + size]);
+    let bytes = &mut samples[at..at + size];
+    match (setting.width(), setting.msb(), levels.len()) {
+        (3, false, 8) => spell_sized(setting, 3, false, 8, levels, bytes),
+        (4, false, 32) => spell_sized(setting, 4, false, 32, levels, bytes),
+        (4, false, 64) => spell_sized(setting, 4, false, 64, levels, bytes),
+        _ => write_spellings(setting, levels, bytes),
+    }
 }
 
 /// Returns how decoding pauses where a coded data set is cut off or refused. A slice is read without faults.

@@ -43,7 +43,20 @@ none_so_far s o front given piece old out rest h e = record {
   count = omega arith;
 }
 
--- a block more
+-- where nothing has happened to the reader and the samples
+pub still : {I : Type 0} {s : Parameters} {o : Origin} {front : List Bool} {given : List ℤ} {piece : List ℕ} {old : Stand} {out_old out out_new : List ℕ} {here : Stand} {at : ℕ}
+    {r new : Reader I} → new ≡ r → out_new ≡ out → PulledSoFar s o front given piece old out_old out here (ahead r) at
+    → PulledSoFar s o front given piece old out_old out_new here (ahead new) at
+still e f so = record {
+  bits = so.bits;
+  samples = so.samples;
+  parts = so.parts ∙ ap (λ t. so.bits ++ ahead t) (sym e);
+  stands = so.stands;
+  writes = f ∙ so.writes;
+  count = so.count;
+}
+
+-- blocks more
 pub more_so_far : {I : Type 0} (s : Parameters) (o : Origin) (front : List Bool) (given xs : List ℤ) (piece : List ℕ) (old here next : Stand)
     (out_old out out_new : List ℕ) (r new : Reader I) (at n : ℕ) → (so : PulledSoFar s o front given piece old out_old out here (ahead r) at)
     → GivesNext s o (front ++ so.bits) (given ++ so.samples) next r new xs → n ≡ width s * length xs

@@ -57,7 +57,7 @@ pads_as s o taken bits len b n begins e f = by_pad s.pad (place s b == 0)
     by_pad true at h = ap (λ v. cond at v 0) (h refl)
     by_pad false at h = refl
 
-module _ {I : Type 0} (s : Parameters) (o : Origin) (stand next : Stand) (r new : Reader I) (steps steps_new : ℕ) (xs : List ℤ) where
+module _ {I : Type 0} (s : Parameters) (stand next : Stand) (r new : Reader I) (steps steps_new : ℕ) (xs : List ℤ) where
   -- what a call of the decoder has done that gave a block
   pub record Steps : Type 0 where
     pub state : IsDecoderState s next.block next.previous next.run None
@@ -71,8 +71,8 @@ module _ {I : Type 0} (s : Parameters) (o : Origin) (stand next : Stand) (r new 
     pub steps_old : steps ≡ stand.steps
     pub steps_are : next.steps ≡ steps_new + s.block
 
-  gained : (front : List Bool) (given : List ℤ) → Steps → (h : IsStand s o stand front given) → Gains s r new steps steps_new front h.sets h.blocks next.run given xs
-  gained front given t h =
+  gained : (o : Origin) (front : List Bool) (given : List ℤ) → Steps → (h : IsStand s o stand front given) → Gains s r new steps steps_new front h.sets h.blocks next.run given xs
+  gained o front given t h =
       let legal = h.state.legal in
       elim (took_block refl t.advances) [
         | inl k ↦ gains_run s r new steps steps_new h.blocks stand.block h.begun stand.run next.run stand.previous front h.sets given xs legal h.here h.previous
@@ -85,9 +85,9 @@ module _ {I : Type 0} (s : Parameters) (o : Origin) (stand next : Stand) (r new 
             (subst (λ (n : ℕ). HasSets s h.sets front n) end h.has_sets) (subst (λ (n : ℕ). DecodedSoFar s front h.begun h.blocks n given) none h.decoded) k.gives
       ]
 
-  pub gives_next : (front : List Bool) (given : List ℤ) → Steps → IsStand s o stand front given → GivesNext s o front given next r new xs
-  gives_next front given t h =
-      let g = gained front given t h in
+  pub gives_next : (o : Origin) (front : List Bool) (given : List ℤ) → Steps → IsStand s o stand front given → GivesNext s o front given next r new xs
+  gives_next o front given t h =
+      let g = gained o front given t h in
       let moves = moves_of refl t.advances in
       let drawn = draws_ahead r.left new.left r.waiting new.waiting g.bits t.reads.told g.draws in
       let size = length-append front g.bits in
@@ -97,7 +97,6 @@ module _ {I : Type 0} (s : Parameters) (o : Origin) (stand next : Stand) (r new 
       record {
         bits = g.bits;
         split = drawn.1;
-        len = g.len;
         stands = record {
           state = t.state;
           begins = h.begins;
@@ -121,9 +120,9 @@ module _ {I : Type 0} (s : Parameters) (o : Origin) (stand next : Stand) (r new 
         };
       }
 
-  pub goes_on_at : (front : List Bool) (given : List ℤ) (q : DecoderState) → q ≡ state_of s next → Steps → IsStand s o stand front given → GoesOnAt s stand next q r new
-  goes_on_at front given q same t h =
-      let g = gained front given t h in
+  pub goes_on_at : (o : Origin) (front : List Bool) (given : List ℤ) (q : DecoderState) → q ≡ state_of s next → Steps → IsStand s o stand front given → GoesOnAt s stand next q r new
+  goes_on_at o front given q same t h =
+      let g = gained o front given t h in
       let drawn = draws_ahead r.left new.left r.waiting new.waiting g.bits t.reads.told g.draws in
       let bits_are : next.bits ≡ stand.bits + length g.bits = omega (arith, t.bits, g.taken) in
       let whole : length (ahead r) ≡ length g.bits + length (ahead new) = ap length drawn.1 ∙ length-append g.bits (ahead new) in
@@ -206,7 +205,3 @@ done_next s o stand r new steps steps_new q front given xs reads a =
       | inl lt ↦ absurd (let e = (a.in_run refl lt).0 in cc)
       | inr none ↦ (none, ends_blank s stand.block steps steps_new r new reads.told (a.reads refl none).0)
     ]
-
--- a stand by its numbers
-abbrev pub stand_with : (samples bits steps : ℕ) (previous : ℤ) (block run : ℕ) → Stand
-stand_with samples bits steps previous block run = record { samples = samples; bits = bits; steps = steps; previous = previous; block = block; run = run }

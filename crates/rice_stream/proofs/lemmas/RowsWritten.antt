@@ -48,7 +48,7 @@ later_set more old new steps steps_new s b p samples run g =
     }
 
 -- steps that were counted before change nothing
-gives_with_more_steps : {I : Type 0} (more : ℕ) (old new : Reader I) (steps steps_new : ℕ) (p q : DecoderState) (bytes : List ℕ)
+pub gives_with_more_steps : {I : Type 0} (more : ℕ) (old new : Reader I) (steps steps_new : ℕ) (p q : DecoderState) (bytes : List ℕ)
     → GivesBytes old new steps steps_new p q bytes → GivesBytes old new (steps + more) (steps_new + more) p q bytes
 gives_with_more_steps more old new steps steps_new p q bytes g = record {
   samples = g.samples;

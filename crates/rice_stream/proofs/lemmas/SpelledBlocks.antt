@@ -1,5 +1,5 @@
 -- Blocks whose bytes the decoder gives at one stroke.
-use Rattle.std.proofs.Common.{◌≡◌, ℕ, ◌*◌, ◌<◌, ◌∙◌, List, length, take, ap, arith, subst, sym, Option, ℤ, inl, inr}
+use Rattle.std.proofs.Common.{◌≡◌, ℕ, ◌*◌, ◌<◌, ◌≤◌, ◌∙◌, List, length, take, ap, arith, subst, sym, Option, ℤ, inl, inr}
 use Rattle.std.specs.Prelude.{Ok}
 use Rattle.std.proofs.lemmas.List.{take_all}
 use Rattle.rice_bits.specs.read.Reader.{Reader}
@@ -41,8 +41,18 @@ spelled_front s t w count samples bytes same wide all len spelled =
     (λ j. take (wide j * many j) bytes) ∙ (subst (λ (u : Parameters). take (width u * length samples) bytes ≡ spellings u samples) same spelled ∙ ap (spellings s) (sym whole))
 
 -- the width of samples whose blocks go in lanes
-width_is : (s : Parameters) (size bytes_of_one : ℕ) → HasLanes s size bytes_of_one → bytes_of_one ≡ width s
+pub width_is : (s : Parameters) (size bytes_of_one : ℕ) → HasLanes s size bytes_of_one → bytes_of_one ≡ width s
 width_is s size bytes_of_one has = elim has.samples.widths [ inl e ↦ e ∙ sym (one_byte s (has.samples.narrow e)) | inr e ↦ (let wide = has.samples.wide e in e ∙ sym (two_bytes s wide.0 wide.1)) ]
+
+-- and the bytes of a block
+pub lanes_size : (s : Parameters) (size bytes_of_one : ℕ) → HasLanes s size bytes_of_one → bytes_of_one * size ≡ width s * s.block
+lanes_size s size bytes_of_one has = (λ i. width_is s size bytes_of_one has i * sym has.size_is i)
+
+-- They are few.
+pub lanes_few : (s : Parameters) (size bytes_of_one : ℕ) → HasLanes s size bytes_of_one → bytes_of_one * size ≤ 512
+lanes_few s size bytes_of_one has =
+    let few : size ≤ 64 = elim has.sizes [ inl e ↦ omega (arith, e) | inr e ↦ elim e [ inl f ↦ omega (arith, f) | inr f ↦ elim f [ inl g ↦ omega (arith, g) | inr g ↦ omega (arith, g) ] ] ] in
+    elim has.samples.widths [ inl e ↦ (let m : bytes_of_one * size ≡ 1 * size = ap (λ w. w * size) e in omega (arith, few, m)) | inr e ↦ (let m : bytes_of_one * size ≡ 2 * size = ap (λ w. w * size) e in omega (arith, few, m)) ]
 
 -- the samples of a block are at the front of its lanes
 pub lanes_front : (s t : Parameters) (size bytes_of_one count : ℕ) (samples : List ℤ) (bytes : List ℕ) → HasLanes s size bytes_of_one → t ≡ s → count ≡ s.block

@@ -1,10 +1,10 @@
 use Rattle.std.proofs.Common.{◌≡◌, ◌-◌, ◌%◌, ◌<◌, ◌≤◌, Bool, List, ℤ, length}
 use Rattle.rice_stream.specs.Pulling.{Origin, IsReadFrom, IsStand, ahead, state_of}
 use Rattle.rice_stream.proofs.lemmas.PiecesPulled.{PulledSoFar}
-use Rattle.rice_stream.proofs.pulling.decode_more.Given as goal
+use Rattle.rice_stream.proofs.pulling.decode_piece.Given as goal
 
 abbrev pub invariant-decode_all : goal.invariant-decode_all
-invariant-decode_all l = record {
+invariant-decode_all g l = record {
   state : l.decoder ≡ state_of l.setting l.here;
   reads : IsReadFrom l.here l.reader;
   aligned : 0 < length l.piece → l.reader.taken % 8 ≡ l.here.bits % 8;
@@ -15,4 +15,4 @@ invariant-decode_all l = record {
 }
 
 abbrev pub decreases-decode_all : goal.decreases-decode_all
-decreases-decode_all l = length l.samples - l.at
+decreases-decode_all g l = length l.samples - l.at

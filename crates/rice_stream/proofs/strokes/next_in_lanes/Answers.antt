@@ -1,0 +1,28 @@
+use Rattle.std.proofs.Common.{◌≡◌, ◌+◌, ◌-◌, ◌*◌, ◌∙◌, ap, arith, sym}
+use Rattle.rice_code.specs.decode.DecoderState.{DecoderState}
+use Rattle.rice_stream.specs.Pulling.{stand_at}
+use Rattle.rice_stream.proofs.lemmas.SpelledBlocks.{lanes_few, lanes_size}
+use Rattle.std.proofs.lemmas.List.{length-take-le}
+use Rattle.rice_stream.proofs.lemmas.Strokes.{lanes_stroke, stroke_written}
+use Rattle.rice_stream.proofs.strokes.next_in_lanes.Goals as goal
+
+pub returns-clause-gives : goal.returns-clause-gives
+returns-clause-gives g c =
+    let stand = c.args.stand.now in
+    let know = c.requires.stand in
+    let r = c.args.reader.now in
+    let new = c.next_bytes.new in
+    let says = c.next_bytes.ensures.some c.if-not-next_bytes.false in
+    let taken : new.reader.taken - c.taken-before.result ≡ new.reader.taken - r.taken = omega (arith, c.taken-before.ensures.value) in
+    let steps : c.tick.new.self ≡ stand.steps = omega (arith, c.tick.ensures, c.new-meter.ensures) in
+    let k = lanes_stroke c.args.setting.now stand c.stand_behind-stand.result c.args.decoder.now new.self r new.reader g.row.WIDTH g.row.SIZE c.tick.new.self new.meter
+    new.bytes know.0 know.1 know.2 know.3 c.requires.reads c.requires.aligned c.requires.state says.0 steps c.stand_behind-stand.ensures.state
+    c.next_bytes.ensures.setting c.next_bytes.ensures.stopped says.1 c.next_bytes.ensures.steps c.requires.lanes
+    (c.stand_behind-stand.ensures.numbers ∙ (λ i. stand_at (stand.samples + g.row.SIZE) (stand.bits + taken i) (new.meter + g.row.SIZE) new.self)) in
+    stroke_written (g.row.WIDTH * g.row.SIZE) c.args.at new.bytes c.args.samples.now c.copy_at.new.samples k (let few = lanes_few c.args.setting.now g.row.SIZE g.row.WIDTH c.requires.lanes in omega (arith, few, c.next_bytes.auto.bytes, c.told-bytes)) c.copy_at.ensures
+
+pub copy_at-requires : goal.copy_at-requires
+copy_at-requires g c =
+    let same = lanes_size c.args.setting.now g.row.SIZE g.row.WIDTH c.requires.lanes in
+    let len = length-take-le (g.row.WIDTH * g.row.SIZE) c.next_bytes.new.bytes (let few = lanes_few c.args.setting.now g.row.SIZE g.row.WIDTH c.requires.lanes in omega (arith, few, c.next_bytes.auto.bytes, c.told-bytes)) in
+    omega (arith, same, len, c.requires.room)

@@ -1,0 +1,227 @@
+//! Blocks of a piece whose bytes are known at one stroke, for a caller that keeps a `Stand`.
+ghost use Rattle.std.specs.Prelude.{◌≡◌, ◌+◌, ◌-◌, ◌*◌, ◌%◌, ◌^◌, ◌<◌, ◌≤◌, Bool, true, false, List, ◌++◌, IfSome, IfNone, drop, length, take, ℤ};
+ghost use Rattle.rice_samples.specs.Parameters.{width as width_of};
+ghost use Rattle.rice_code.specs.decode.BlocksAhead.{HasLanes};
+ghost use Rattle.rice_code.specs.decode.DecoderState.{IsDecoderState};
+ghost use Rattle.rice_code.specs.decode.PlainBlocks.{IsPlain};
+ghost use Rattle.rice_stream.specs.Pulling.{Origin, IsStand, IsReadFrom, WritesStroke, stand_at, state_of};
+
+use crate::patience::Patience;
+use crate::plain::{blocks_of_row, row_ahead};
+use crate::runs::spell_run;
+use crate::stand::Stand;
+use rice_bits::{BitReader, Meter, SliceIn};
+use rice_code::Decoder;
+use rice_samples::Setting;
+
+/// Where decoding stands behind blocks that were given at one stroke, and the number of their bytes.
+#[derive(Clone, Copy)]
+pub(crate) struct Stroke {
+    pub(crate) stand: Stand,
+    pub(crate) len: usize,
+}
+
+/// Copies these bytes to this place.
+#[inline(always)]
+fn copy_at(bytes: &[u8], at: usize, samples: &mut [u8])
+    requires { at + length bytes.now ≤ length samples.old }
+    ensures { samples.new ≡ take at samples.old
+        ++ (bytes.now ++ drop (at + length bytes.now) samples.old) }
+{
+    samples[at..at + bytes.len()].copy_from_slice(bytes);
+}
+
+/// Returns where decoding stands behind `samples` samples more. The reader had taken `before` bits at `stand`, and the steps of those
+/// that it took since are ticked.
+#[inline(always)]
+pub(crate) fn stand_behind(
+    stand: &Stand,
+    samples: u64,
+    before: u64,
+    decoder: &Decoder,
+    reader: &BitReader<SliceIn<'_>>,
+    meter: &Meter,
+) -> Stand
+    requires samples { stand.now.samples + samples < 2 ^ 64 }
+    requires before { before ≤ reader.now.taken }
+    requires bits { stand.now.bits + (reader.now.taken - before) < 2 ^ 64 }
+    requires steps { meter.now + samples < 2 ^ 64 }
+    ensures numbers { result ≡ stand_at (stand.now.samples + samples)
+        (stand.now.bits + (reader.now.taken - before)) (meter.now + samples) decoder.now }
+    // What is known of each decoder.
+    ensures state { IsDecoderState decoder.now.setting decoder.now.block decoder.now.before decoder.now.run decoder.now.stopped }
+{
+    Stand {
+        samples: stand.samples + samples,
+        bits: stand.bits + (reader.taken() - before),
+        steps: meter.steps() + samples,
+        previous: decoder.before(),
+        block: decoder.block(),
+        run: decoder.run(),
+    }
+}
+
+/// Writes the samples of blocks of a run at this place.
+#[inline(never)]
+fn next_of_run(
+    setting: &Setting,
+    stand: &Stand,
+    decoder: &mut Decoder,
+    reader: &BitReader<SliceIn<'_>>,
+    bytes: &mut [u8; 512],
+    at: usize,
+    samples: &mut [u8],
+) -> Stroke
+    requires stand { (o : Origin) × (front : List Bool) × (given : List ℤ) ×
+        IsStand setting.now o stand.now front given }
+    requires state { decoder.old ≡ state_of setting.now stand.now }
+    requires reads { IsReadFrom stand.now reader.now }
+    requires run { 0 < decoder.old.run }
+    requires preprocess { decoder.old.setting.preprocess ≡ true }
+    requires room { at + width_of setting.now * setting.now.block ≤ length samples.old }
+    ensures gives { WritesStroke setting.now stand.now result.stand decoder.new reader.now reader.now
+        result.len at samples.old samples.new }
+    ensures room { at + result.len ≤ length samples.old }
+    ensures len { length samples.new ≡ length samples.old }
+{
+    let width = setting.width() as usize;
+    let fit = ((samples.len() - at) / width) as u64;
+    let mut meter = Meter::new();
+    meter.tick(stand.steps);
+    let blocks = spell_run(setting, Some(fit), 0, decoder, bytes);
+    let count = setting.block() as u64 * blocks as u64;
+    let stand = stand_behind(stand, count, reader.taken(), decoder, reader, &meter);
+    let len = width * count as usize;
+    copy_at(&bytes[..len], at, samples);
+    Stroke { stand, len }
+}
+
+/// Writes the samples of the next block at this place, if it can be decoded in lanes. Otherwise nothing has happened.
+#[inline(always)]
+fn next_in_lanes<const SIZE: usize, const WIDTH: usize>(
+    setting: &Setting,
+    stand: &Stand,
+    decoder: &mut Decoder,
+    reader: &mut BitReader<SliceIn<'_>>,
+    bytes: &mut [u8; 512],
+    at: usize,
+    samples: &mut [u8],
+) -> Option<Stroke>
+    requires lanes { HasLanes setting.now SIZE WIDTH }
+    requires stand { (o : Origin) × (front : List Bool) × (given : List ℤ) ×
+        IsStand setting.now o stand.now front given }
+    requires state { decoder.old ≡ state_of setting.now stand.now }
+    requires reads { IsReadFrom stand.now reader.old }
+    requires aligned { stand.now.run ≡ 0 → reader.old.taken % 8 ≡ stand.now.bits % 8 }
+    requires room { at + width_of setting.now * setting.now.block ≤ length samples.old }
+    ensures gives { IfSome result (λ k. WritesStroke setting.now stand.now k.stand decoder.new
+        reader.old reader.new k.len at samples.old samples.new) }
+    ensures room { IfSome result (λ k. at + k.len ≤ length samples.old) }
+    ensures len { length samples.new ≡ length samples.old }
+    ensures none { IfNone result ((decoder.new ≡ decoder.old) × (reader.new ≡ reader.old) ×
+        (samples.new ≡ samples.old)) }
+{
+    let before = reader.taken();
+    let mut meter = Meter::new();
+    meter.tick(stand.steps);
+    if !decoder.next_bytes::<SliceIn<'_>, SIZE, WIDTH>(reader, &mut meter, bytes) {
+        return None;
+    }
+    let stand = stand_behind(stand, SIZE as u64, before, decoder, reader, &meter);
+    let len = WIDTH * SIZE;
+    copy_at(&bytes[..len], at, samples);
+    Some(Stroke { stand, len })
+}
+
+/// Writes the samples of the next blocks at this place, if they are not compressed and wait. Otherwise nothing has happened.
+#[inline(always)]
+fn next_row<const WIDTH: usize>(
+    setting: &Setting,
+    stand: &Stand,
+    decoder: &mut Decoder,
+    reader: &mut BitReader<SliceIn<'_>>,
+    bytes: &mut [u8; 512],
+    at: usize,
+    samples: &mut [u8],
+) -> Option<Stroke>
+    requires plain { IsPlain setting.now WIDTH }
+    requires stand { (o : Origin) × (front : List Bool) × (given : List ℤ) ×
+        IsStand setting.now o stand.now front given }
+    requires state { decoder.old ≡ state_of setting.now stand.now }
+    requires reads { IsReadFrom stand.now reader.old }
+    requires aligned { stand.now.run ≡ 0 → reader.old.taken % 8 ≡ stand.now.bits % 8 }
+    requires room { at + width_of setting.now * setting.now.block ≤ length samples.old }
+    ensures gives { IfSome result (λ k. WritesStroke setting.now stand.now k.stand decoder.new
+        reader.old reader.new k.len at samples.old samples.new) }
+    ensures room { IfSome result (λ k. at + k.len ≤ length samples.old) }
+    ensures len { length samples.new ≡ length samples.old }
+    ensures none { IfNone result ((decoder.new ≡ decoder.old) × (reader.new ≡ reader.old) ×
+        (samples.new ≡ samples.old)) }
+{
+    let fit = ((samples.len() - at) / WIDTH) as u64;
+    let most = blocks_of_row::<WIDTH>(setting);
+    let blocks = row_ahead::<SliceIn<'_>, WIDTH>(
+        setting,
+        Some(fit),
+        0,
+        most,
+        true,
+        decoder,
+        reader,
+        bytes,
+    );
+    if blocks == 0 {
+        return None;
+    }
+    let before = reader.taken();
+    let mut meter = Meter::new();
+    meter.tick(stand.steps);
+    decoder.take_plain_blocks::<SliceIn<'_>, WIDTH>(blocks, reader, &mut meter, bytes);
+    let count = setting.block() as u64 * blocks as u64;
+    let stand = stand_behind(stand, count, before, decoder, reader, &meter);
+    let len = WIDTH * count as usize;
+    copy_at(&bytes[..len], at, samples);
+    Some(Stroke { stand, len })
+}
+
+/// Writes the samples of the next blocks at this place, as many as there is room for and are known at one stroke, and returns where
+/// decoding stands behind them. If none is, nothing has happened to the decoder, the reader and the samples.
+#[inline(always)]
+pub(crate) fn next_stroke<const SIZE: usize, const WIDTH: usize, const PLAIN: bool>(
+    setting: &Setting,
+    stand: &Stand,
+    patience: &mut Patience,
+    decoder: &mut Decoder,
+    reader: &mut BitReader<SliceIn<'_>>,
+    bytes: &mut [u8; 512],
+    at: usize,
+    samples: &mut [u8],
+) -> Option<Stroke>
+    requires lanes { PLAIN ≡ false → 0 < SIZE → HasLanes setting.now SIZE WIDTH }
+    requires plain { PLAIN ≡ true → IsPlain setting.now WIDTH }
+    requires stand { (o : Origin) × (front : List Bool) × (given : List ℤ) ×
+        IsStand setting.now o stand.now front given }
+    requires state { decoder.old ≡ state_of setting.now stand.now }
+    requires reads { IsReadFrom stand.now reader.old }
+    requires aligned { stand.now.run ≡ 0 → reader.old.taken % 8 ≡ stand.now.bits % 8 }
+    requires room { at + width_of setting.now * setting.now.block ≤ length samples.old }
+    ensures gives { IfSome result (λ k. WritesStroke setting.now stand.now k.stand decoder.new
+        reader.old reader.new k.len at samples.old samples.new) }
+    ensures room { IfSome result (λ k. at + k.len ≤ length samples.old) }
+    ensures len { length samples.new ≡ length samples.old }
+    ensures none { IfNone result ((decoder.new ≡ decoder.old) × (reader.new ≡ reader.old) ×
+        (samples.new ≡ samples.old)) }
+{
+    if decoder.repeats() {
+        return Some(next_of_run(setting, stand, decoder, reader, bytes, at, samples));
+    }
+    if PLAIN {
+        return next_row::<WIDTH>(setting, stand, decoder, reader, bytes, at, samples);
+    }
+    if SIZE == 0 || !patience.is_due() {
+        return None;
+    }
+    let found = next_in_lanes::<SIZE, WIDTH>(setting, stand, decoder, reader, bytes, at, samples);
+    patience.note(found.is_some());
+    found
+}
