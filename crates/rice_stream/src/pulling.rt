@@ -13,7 +13,7 @@ use crate::decoding::has_lanes;
 use crate::patience::Patience;
 use crate::plain::is_plain;
 use crate::stand::{Pause, Stand};
-use crate::strokes::{next_stroke, stand_behind};
+use crate::strokes::{copy_at, next_stroke, stand_behind};
 use crate::write::spell_sized;
 use arrayvec::ArrayVec;
 use rice_bits::{BitReader, Meter, SliceIn};
@@ -135,7 +135,7 @@ fn decode_piece<const SIZE: usize, const WIDTH: usize, const PLAIN: bool>(
         };
         match found {
             Some(next) => {
-                write_at(&own, levels.as_slice(), at, samples);
+                write_at(&own, levels.as_slice(), &mut bytes, at, samples);
                 here = next;
                 at += size;
             }
@@ -215,8 +215,9 @@ fn next_stand(
     Ok(Some(next))
 }
 
-/// Writes the spellings of the samples with these levels at this place.
-fn write_at(setting: &Setting, levels: &[u32], at: usize, samples: &mut [u8])
+/// Writes the spellings of the samples with these levels at this place. `bytes` are for what it makes of them first.
+#[inline(never)]
+fn write_at(setting: &Setting, levels: &[u32], bytes: &mut [u8; 512], at: usize, samples: &mut [u8])
     requires legal { All (λ l. l < value_count setting.now) levels.now }
     requires few { length levels.now ≤ 64 }
     requires room { at + width_of setting.now * length levels.now ≤ length samples.old }
@@ -224,14 +225,49 @@ fn write_at(setting: &Setting, levels: &[u32], at: usize, samples: &mut [u8])
         samples.old ++ (spellings setting.now (values_at setting.now levels.now)
         ++ drop (at + width_of setting.now * length levels.now) samples.old) }
 {
-    let size = setting.width() as usize * levels.len();
-    let bytes = &mut samples[at..at + size];
+    // Laid out for the blocks that are written most.
     match (setting.width(), setting.msb(), levels.len()) {
-        (3, false, 8) => spell_sized(setting, 3, false, 8, levels, bytes),
-        (4, false, 32) => spell_sized(setting, 4, false, 32, levels, bytes),
-        (4, false, 64) => spell_sized(setting, 4, false, 64, levels, bytes),
-        _ => write_spellings(setting, levels, bytes),
+        (1, msb, 8) => write_sized_at(setting, 1, msb, 8, levels, bytes, at, samples),
+        (1, msb, 16) => write_sized_at(setting, 1, msb, 16, levels, bytes, at, samples),
+        (1, msb, 64) => write_sized_at(setting, 1, msb, 64, levels, bytes, at, samples),
+        (2, false, 8) => write_sized_at(setting, 2, false, 8, levels, bytes, at, samples),
+        (2, false, 16) => write_sized_at(setting, 2, false, 16, levels, bytes, at, samples),
+        (3, false, 8) => write_sized_at(setting, 3, false, 8, levels, bytes, at, samples),
+        (4, false, 32) => write_sized_at(setting, 4, false, 32, levels, bytes, at, samples),
+        (4, false, 64) => write_sized_at(setting, 4, false, 64, levels, bytes, at, samples),
+        (width, _, count) => {
+            let size = width as usize * count;
+            write_spellings(setting, levels, &mut samples[at..at + size]);
+        }
     }
+}
+
+/// Writes the bytes of `count` samples at this place. It is laid out for what is known of the arguments, which are the width and the
+/// order of bytes of the setting.
+#[inline(always)]
+fn write_sized_at(
+    setting: &Setting,
+    width: usize,
+    msb: bool,
+    count: usize,
+    levels: &[u32],
+    bytes: &mut [u8; 512],
+    at: usize,
+    samples: &mut [u8],
+)
+    requires legal { All (λ l. l < value_count setting.now) levels.now }
+    requires width { width ≡ width_of setting.now }
+    requires order { msb ≡ setting.now.msb }
+    requires count { length levels.now ≡ count }
+    requires few { count ≤ 64 }
+    requires room { at + width * count ≤ length samples.old }
+    ensures { samples.new ≡ take at
+        samples.old ++ (spellings setting.now (values_at setting.now levels.now)
+        ++ drop (at + width * count) samples.old) }
+{
+    let spelled = &mut bytes[..width * count];
+    spell_sized(setting, width, msb, count, levels, spelled);
+    copy_at(spelled, at, samples);
 }
 
 /// Returns how decoding pauses where a coded data set is cut off or refused. A slice is read without faults.

@@ -23,7 +23,7 @@ pub(crate) struct Stroke {
 
 /// Copies these bytes to this place.
 #[inline(always)]
-fn copy_at(bytes: &[u8], at: usize, samples: &mut [u8])
+pub(crate) fn copy_at(bytes: &[u8], at: usize, samples: &mut [u8])
     requires { at + length bytes.now ≤ length samples.old }
     ensures { samples.new ≡ take at samples.old
         ++ (bytes.now ++ drop (at + length bytes.now) samples.old) }

@@ -194,5 +194,11 @@ pub(crate) fn spell_sized(
     ensures { bytes.new ≡ spellings setting.now (values_at setting.now levels.now) }
 {
     let _width = setting.width();
-    write_spellings_as(setting, width, msb, &levels[..count], bytes);
+    write_spellings_as(
+        setting,
+        width,
+        msb,
+        &levels[..count],
+        &mut bytes[..width * count],
+    );
 }
