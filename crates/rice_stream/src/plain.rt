@@ -48,14 +48,17 @@ fn row_bytes<const WIDTH: usize>(setting: &Setting, blocks: usize) -> usize
 /// Returns how many blocks are wanted whole, at most `fit`, where the next one is.
 #[inline(always)]
 fn blocks_wanted(setting: &Setting, asked: Option<u64>, written: u64, fit: usize) -> usize
+    requires few { fit ≤ 480 }
     requires wanted { wanted_of asked written setting.now.block ≡ setting.now.block }
     ensures few { result ≤ fit }
     ensures wanted { IfSome asked (λ n. written + setting.now.block * result ≤ n) }
 {
-    let block = setting.block();
+    let block = setting.block() as u64;
     match asked {
-        None => fit,
-        Some(count) => ((count - written) / block as u64).min(fit as u64) as usize,
+        Some(count) if block * fit as u64 > count - written => {
+            ((count - written) / block).min(fit as u64) as usize
+        }
+        _ => fit,
     }
 }
 

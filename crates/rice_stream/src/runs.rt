@@ -58,11 +58,19 @@ fn blocks_at_once(setting: &Setting, asked: Option<u64>, written: u64, run: u32)
     ensures room { width_of setting.now * setting.now.block * result ≤ 512 }
     ensures wanted { IfSome asked (λ n. written + setting.now.block * result ≤ n) }
 {
-    let block = setting.block();
-    let fit = (ROOM / (setting.width() * block) as usize).min(run as usize) as u32;
+    let block = setting.block() as u64;
+    let size = setting.width() as u64 * block;
+    // A division takes as long as the bytes of a short run.
+    let fit = if size * run as u64 <= ROOM as u64 {
+        run
+    } else {
+        (ROOM as u64 / size) as u32
+    };
     match asked {
-        None => fit,
-        Some(count) => ((count - written) / block as u64).min(fit as u64) as u32,
+        Some(count) if block * fit as u64 > count - written => {
+            ((count - written) / block).min(fit as u64) as u32
+        }
+        _ => fit,
     }
 }
 
