@@ -11,7 +11,7 @@ ghost use Rattle.rice_stream.specs.Pulling.{Origin, IsStand, DecodesMore, GoesOn
 
 use crate::decoding::has_lanes;
 use crate::patience::Patience;
-use crate::plain::is_plain;
+use crate::plain::{blocks_of_row, is_plain};
 use crate::stand::{Pause, Stand};
 use crate::strokes::{copy_at, next_stroke, stand_behind};
 use crate::write::spell_sized;
@@ -103,6 +103,11 @@ fn decode_piece<const SIZE: usize, const WIDTH: usize, const PLAIN: bool>(
     let mut decoder = Decoder::at(own, stand.block, stand.previous, stand.run);
     let mut reader = reader_behind(piece, (stand.bits % 8) as u32);
     let mut levels = ArrayVec::new();
+    let most = if PLAIN {
+        blocks_of_row::<WIDTH>(&own)
+    } else {
+        0
+    };
     let mut patience = Patience::new();
     let mut bytes = [0; 512];
     let mut here = *stand;
@@ -115,6 +120,7 @@ fn decode_piece<const SIZE: usize, const WIDTH: usize, const PLAIN: bool>(
         match next_stroke::<SIZE, WIDTH, PLAIN>(
             &own,
             &here,
+            most,
             &mut patience,
             &mut decoder,
             &mut reader,

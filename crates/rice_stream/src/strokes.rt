@@ -7,7 +7,7 @@ ghost use Rattle.rice_code.specs.decode.PlainBlocks.{IsPlain};
 ghost use Rattle.rice_stream.specs.Pulling.{Origin, IsStand, IsReadFrom, WritesStroke, stand_at, state_of};
 
 use crate::patience::Patience;
-use crate::plain::{blocks_of_row, row_ahead};
+use crate::plain::row_ahead;
 use crate::runs::spell_run;
 use crate::stand::Stand;
 use rice_bits::{BitReader, Meter, SliceIn};
@@ -85,11 +85,13 @@ fn next_of_run(
     ensures len { length samples.new ≡ length samples.old }
 {
     let width = setting.width() as usize;
-    let fit = ((samples.len() - at) / width) as u64;
+    let block = setting.block() as u64;
+    // Samples that have room, whatever their width, without a division.
+    let fit = ((samples.len() - at) as u64 / 4).max(block);
     let mut meter = Meter::new();
     meter.tick(stand.steps);
     let blocks = spell_run(setting, Some(fit), 0, decoder, bytes);
-    let count = setting.block() as u64 * blocks as u64;
+    let count = block * blocks as u64;
     let stand = stand_behind(stand, count, reader.taken(), decoder, reader, &meter);
     let len = width * count as usize;
     copy_at(&bytes[..len], at, samples);
@@ -138,6 +140,7 @@ fn next_in_lanes<const SIZE: usize, const WIDTH: usize>(
 fn next_row<const WIDTH: usize>(
     setting: &Setting,
     stand: &Stand,
+    most: usize,
     decoder: &mut Decoder,
     reader: &mut BitReader<SliceIn<'_>>,
     bytes: &mut [u8; 512],
@@ -145,6 +148,7 @@ fn next_row<const WIDTH: usize>(
     samples: &mut [u8],
 ) -> Option<Stroke>
     requires plain { IsPlain setting.now WIDTH }
+    requires few { (most ≤ 480) × (WIDTH * setting.now.block * most ≤ 480) }
     requires stand { (o : Origin) × (front : List Bool) × (given : List ℤ) ×
         IsStand setting.now o stand.now front given }
     requires state { decoder.old ≡ state_of setting.now stand.now }
@@ -159,7 +163,6 @@ fn next_row<const WIDTH: usize>(
         (samples.new ≡ samples.old)) }
 {
     let fit = ((samples.len() - at) / WIDTH) as u64;
-    let most = blocks_of_row::<WIDTH>(setting);
     let blocks = row_ahead::<SliceIn<'_>, WIDTH>(
         setting,
         Some(fit),
@@ -185,11 +188,13 @@ fn next_row<const WIDTH: usize>(
 }
 
 /// Writes the samples of the next blocks at this place, as many as there is room for and are known at one stroke, and returns where
-/// decoding stands behind them. If none is, nothing has happened to the decoder, the reader and the samples.
+/// decoding stands behind them. If none is, nothing has happened to the decoder, the reader and the samples. Blocks without compression
+/// are at most `most`.
 #[inline(always)]
 pub(crate) fn next_stroke<const SIZE: usize, const WIDTH: usize, const PLAIN: bool>(
     setting: &Setting,
     stand: &Stand,
+    most: usize,
     patience: &mut Patience,
     decoder: &mut Decoder,
     reader: &mut BitReader<SliceIn<'_>>,
@@ -199,6 +204,7 @@ pub(crate) fn next_stroke<const SIZE: usize, const WIDTH: usize, const PLAIN: bo
 ) -> Option<Stroke>
     requires lanes { PLAIN ≡ false → 0 < SIZE → HasLanes setting.now SIZE WIDTH }
     requires plain { PLAIN ≡ true → IsPlain setting.now WIDTH }
+    requires few { PLAIN ≡ true → (most ≤ 480) × (WIDTH * setting.now.block * most ≤ 480) }
     requires stand { (o : Origin) × (front : List Bool) × (given : List ℤ) ×
         IsStand setting.now o stand.now front given }
     requires state { decoder.old ≡ state_of setting.now stand.now }
@@ -216,7 +222,7 @@ pub(crate) fn next_stroke<const SIZE: usize, const WIDTH: usize, const PLAIN: bo
         return Some(next_of_run(setting, stand, decoder, reader, bytes, at, samples));
     }
     if PLAIN {
-        return next_row::<WIDTH>(setting, stand, decoder, reader, bytes, at, samples);
+        return next_row::<WIDTH>(setting, stand, most, decoder, reader, bytes, at, samples);
     }
     if SIZE == 0 || !patience.is_due() {
         return None;

@@ -20,7 +20,7 @@ returns-clause-gives g c =
     let w = g.row.WIDTH in
     let least = mul-le-mul_left (w * s.block) c.row_ahead-blocks.ensures.few in
     let same : w * n ≡ w * s.block * c.row_ahead-blocks.result = ap (λ b. w * (b * c.row_ahead-blocks.result)) c.block.ensures.value ∙ omega arith in
-    let few : w * n ≤ 512 = omega (arith, same, least, c.blocks_of_row-most.ensures.room) in
+    let few : w * n ≤ 512 = omega (arith, same, least, c.requires.few.1) in
     let k = row_stroke c.args.setting.now stand c.stand_behind-stand.result c.args.decoder.now new.self r new.reader g.row.WIDTH c.block.result c.row_ahead-blocks.result c.tick.new.self new.meter
     c.row_ahead-blocks.new.bytes know.0 know.1 know.2 know.3 c.requires.reads c.requires.aligned c.requires.state (c.row_ahead-blocks.ensures.run some) steps
     c.take_plain_blocks.ensures.gives (plain_width c.args.setting.now g.row.WIDTH c.requires.plain) c.block.ensures.value
