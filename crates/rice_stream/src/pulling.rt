@@ -222,7 +222,7 @@ fn next_stand(
 }
 
 /// Writes the spellings of the samples with these levels at this place. `bytes` are for what it makes of them first.
-#[inline(never)]
+#[inline(always)]
 fn write_at(setting: &Setting, levels: &[u32], bytes: &mut [u8; 512], at: usize, samples: &mut [u8])
     requires legal { All (λ l. l < value_count setting.now) levels.now }
     requires few { length levels.now ≤ 64 }
@@ -235,9 +235,30 @@ fn write_at(setting: &Setting, levels: &[u32], bytes: &mut [u8; 512], at: usize,
     match (setting.width(), setting.msb(), levels.len()) {
         (1, msb, 8) => write_sized_at(setting, 1, msb, 8, levels, bytes, at, samples),
         (1, msb, 16) => write_sized_at(setting, 1, msb, 16, levels, bytes, at, samples),
-        (1, msb, 64) => write_sized_at(setting, 1, msb, 64, levels, bytes, at, samples),
         (2, false, 8) => write_sized_at(setting, 2, false, 8, levels, bytes, at, samples),
         (2, false, 16) => write_sized_at(setting, 2, false, 16, levels, bytes, at, samples),
+        _ => write_others_at(setting, levels, bytes, at, samples),
+    }
+}
+
+/// Writes the spellings, apart from the blocks that are written most.
+#[inline(never)]
+fn write_others_at(
+    setting: &Setting,
+    levels: &[u32],
+    bytes: &mut [u8; 512],
+    at: usize,
+    samples: &mut [u8],
+)
+    requires legal { All (λ l. l < value_count setting.now) levels.now }
+    requires few { length levels.now ≤ 64 }
+    requires room { at + width_of setting.now * length levels.now ≤ length samples.old }
+    ensures { samples.new ≡ take at
+        samples.old ++ (spellings setting.now (values_at setting.now levels.now)
+        ++ drop (at + width_of setting.now * length levels.now) samples.old) }
+{
+    match (setting.width(), setting.msb(), levels.len()) {
+        (1, msb, 64) => write_sized_at(setting, 1, msb, 64, levels, bytes, at, samples),
         (3, false, 8) => write_sized_at(setting, 3, false, 8, levels, bytes, at, samples),
         (4, false, 32) => write_sized_at(setting, 4, false, 32, levels, bytes, at, samples),
         (4, false, 64) => write_sized_at(setting, 4, false, 64, levels, bytes, at, samples),

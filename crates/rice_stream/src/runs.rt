@@ -1,9 +1,8 @@
 //! Writes the blocks of a run, several at a time.
-ghost use Rattle.std.specs.Prelude.{◌≡◌, ◌+◌, ◌*◌, ◌^◌, ◌<◌, ◌≤◌, true, length, replicate, take, IfOk, IfErr, IfSome, OnOk, OnErr};
+ghost use Rattle.std.specs.Prelude.{◌≡◌, ◌+◌, ◌*◌, ◌^◌, ◌<◌, ◌≤◌, true, length, replicate, IfOk, IfErr, IfSome, OnOk, OnErr};
 ghost use Rattle.rice_samples.specs.Parameters.{IsSample, width as width_of};
 ghost use Rattle.rice_samples.specs.bytes.Spelling.{spellings};
 ghost use Rattle.rice_stream.specs.Decodes.{wanted_of};
-ghost use Rattle.rice_code.specs.decode.Decoder.{RepeatsBlocks};
 ghost use Rattle.rice_stream.specs.Runs.{FailsInRun, WritesRun, repeated};
 
 use crate::write::write_counted;
@@ -32,7 +31,7 @@ fn repeat(pattern: &[u8], count: usize, bytes: &mut [u8])
 }
 
 /// Fills the bytes with the spellings of `count` samples that are all `sample`.
-fn spell_again(setting: &Setting, sample: i64, count: usize, bytes: &mut [u8])
+pub(crate) fn spell_again(setting: &Setting, sample: i64, count: usize, bytes: &mut [u8])
     requires sample { IsSample setting.now sample }
     requires count { 1 ≤ count }
     requires len { length bytes.old ≡ width_of setting.now * count }
@@ -50,7 +49,7 @@ fn spell_again(setting: &Setting, sample: i64, count: usize, bytes: &mut [u8])
 
 /// Returns how many of the next `run` blocks are written at once: those of which all samples are wanted, as many as `ROOM` bytes have
 /// room for.
-fn blocks_at_once(setting: &Setting, asked: Option<u64>, written: u64, run: u32) -> u32
+pub(crate) fn blocks_at_once(setting: &Setting, asked: Option<u64>, written: u64, run: u32) -> u32
     requires some { 1 ≤ run }
     requires wanted { wanted_of asked written setting.now.block ≡ setting.now.block }
     ensures some { 1 ≤ result }
@@ -72,38 +71,6 @@ fn blocks_at_once(setting: &Setting, asked: Option<u64>, written: u64, run: u32)
         }
         _ => fit,
     }
-}
-
-/// Writes the bytes of the next blocks of a run to the front of `bytes`, and goes past them. Returns how many blocks.
-#[inline(always)]
-pub(crate) fn spell_run(
-    setting: &Setting,
-    asked: Option<u64>,
-    written: u64,
-    decoder: &mut Decoder,
-    bytes: &mut [u8; 512],
-) -> u32
-    requires run { 1 ≤ decoder.old.run }
-    requires preprocess { decoder.old.setting.preprocess ≡ true }
-    requires setting { decoder.old.setting ≡ setting.now }
-    requires wanted { wanted_of asked written setting.now.block ≡ setting.now.block }
-    ensures some { 1 ≤ result }
-    ensures room { width_of setting.now * setting.now.block * result ≤ 512 }
-    ensures wanted { IfSome asked (λ n. written + setting.now.block * result ≤ n) }
-    ensures passes { RepeatsBlocks result decoder.old decoder.new }
-    ensures run { decoder.new.run + result ≡ decoder.old.run }
-    ensures spelled { take (width_of setting.now * (setting.now.block * result)) bytes.new
-        ≡ spellings setting.now (replicate (setting.now.block * result) decoder.old.before) }
-{
-    let block = setting.block();
-    let _place = decoder.block();
-    let sample = decoder.before();
-    let blocks = blocks_at_once(setting, asked, written, decoder.run());
-    decoder.repeat_blocks(blocks);
-    let count = block as usize * blocks as usize;
-    let width = setting.width() as usize;
-    spell_again(setting, sample, count, &mut bytes[..width * count]);
-    blocks
 }
 
 /// Writes the next blocks of a run, and goes past them. Returns how many samples were written. If the outlet fails, an error has the
@@ -129,12 +96,17 @@ pub fn write_run<O: Outlet>(
     ensures failures { OnOk result (O.failed outlet.new ≡ O.failed outlet.old) }
     ensures failure { OnErr result (O.failed outlet.new ≡ O.failed outlet.old + 1) }
 {
-    let block = setting.block() as usize;
+    let block = setting.block();
+    let _place = decoder.block();
+    let sample = decoder.before();
+    let blocks = blocks_at_once(setting, asked, written, decoder.run());
+    decoder.repeat_blocks(blocks);
+    let count = block as usize * blocks as usize;
     let width = setting.width() as usize;
-    let blocks = spell_run(setting, asked, written, decoder, bytes);
-    let count = block * blocks as usize;
-    match write_counted(outlet, &bytes[..width * count]) {
+    let spelled = &mut bytes[..width * count];
+    spell_again(setting, sample, count, spelled);
+    match write_counted(outlet, spelled) {
         Ok(()) => Ok(count as u64),
-        Err(taken) => Err((taken / (width * block)) as u64 * block as u64),
+        Err(taken) => Err((taken / (width * block as usize)) as u64 * block as u64),
     }
 }

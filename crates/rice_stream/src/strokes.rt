@@ -1,6 +1,7 @@
 //! Blocks of a piece whose bytes are known at one stroke, for a caller that keeps a `Stand`.
-ghost use Rattle.std.specs.Prelude.{◌≡◌, ◌+◌, ◌-◌, ◌*◌, ◌%◌, ◌^◌, ◌<◌, ◌≤◌, Bool, true, false, List, ◌++◌, IfSome, IfNone, drop, length, take, ℤ};
-ghost use Rattle.rice_samples.specs.Parameters.{width as width_of};
+ghost use Rattle.std.specs.Prelude.{◌≡◌, ◌+◌, ◌-◌, ◌*◌, ◌%◌, ◌^◌, ◌<◌, ◌≤◌, Bool, true, false, List, ◌++◌, IfSome, IfNone, drop, length, replicate, take, ℤ};
+ghost use Rattle.rice_samples.specs.Parameters.{IsSample, width as width_of};
+ghost use Rattle.rice_samples.specs.bytes.Spelling.{spellings};
 ghost use Rattle.rice_code.specs.decode.BlocksAhead.{HasLanes};
 ghost use Rattle.rice_code.specs.decode.DecoderState.{IsDecoderState};
 ghost use Rattle.rice_code.specs.decode.PlainBlocks.{IsPlain};
@@ -8,7 +9,7 @@ ghost use Rattle.rice_stream.specs.Pulling.{Origin, IsStand, IsReadFrom, WritesS
 
 use crate::patience::Patience;
 use crate::plain::row_ahead;
-use crate::runs::spell_run;
+use crate::runs::{blocks_at_once, spell_again};
 use crate::stand::Stand;
 use rice_bits::{BitReader, Meter, SliceIn};
 use rice_code::Decoder;
@@ -29,6 +30,21 @@ pub(crate) fn copy_at(bytes: &[u8], at: usize, samples: &mut [u8])
         ++ (bytes.now ++ drop (at + length bytes.now) samples.old) }
 {
     samples[at..at + bytes.len()].copy_from_slice(bytes);
+}
+
+/// Writes the spellings of `count` samples that are all `sample` at this place.
+#[inline(always)]
+fn spell_again_at(setting: &Setting, sample: i64, count: usize, at: usize, samples: &mut [u8])
+    requires sample { IsSample setting.now sample }
+    requires count { 1 ≤ count }
+    requires few { count ≤ 2 ^ 32 }
+    requires room { at + width_of setting.now * count ≤ length samples.old }
+    ensures { samples.new ≡ take at samples.old
+        ++ (spellings setting.now (replicate count sample)
+        ++ drop (at + width_of setting.now * count) samples.old) }
+{
+    let len = setting.width() as usize * count;
+    spell_again(setting, sample, count, &mut samples[at..at + len]);
 }
 
 /// Returns where decoding stands behind `samples` samples more. The reader had taken `before` bits at `stand`, and the steps of those
@@ -68,7 +84,6 @@ fn next_of_run(
     stand: &Stand,
     decoder: &mut Decoder,
     reader: &BitReader<SliceIn<'_>>,
-    bytes: &mut [u8; 512],
     at: usize,
     samples: &mut [u8],
 ) -> Stroke
@@ -90,11 +105,13 @@ fn next_of_run(
     let fit = ((samples.len() - at) as u64 / 4).max(block);
     let mut meter = Meter::new();
     meter.tick(stand.steps);
-    let blocks = spell_run(setting, Some(fit), 0, decoder, bytes);
+    let sample = decoder.before();
+    let blocks = blocks_at_once(setting, Some(fit), 0, decoder.run());
+    decoder.repeat_blocks(blocks);
     let count = block * blocks as u64;
     let stand = stand_behind(stand, count, reader.taken(), decoder, reader, &meter);
     let len = width * count as usize;
-    copy_at(&bytes[..len], at, samples);
+    spell_again_at(setting, sample, count as usize, at, samples);
     Stroke { stand, len }
 }
 
@@ -219,7 +236,7 @@ pub(crate) fn next_stroke<const SIZE: usize, const WIDTH: usize, const PLAIN: bo
         (samples.new ≡ samples.old)) }
 {
     if decoder.repeats() {
-        return Some(next_of_run(setting, stand, decoder, reader, bytes, at, samples));
+        return Some(next_of_run(setting, stand, decoder, reader, at, samples));
     }
     if PLAIN {
         return next_row::<WIDTH>(setting, stand, most, decoder, reader, bytes, at, samples);

@@ -229,23 +229,23 @@ row_on {I} (suc n) more s stand q r new steps last bytes o front given h reads a
 -- ---- what the calls give
 
 -- a run
-pub run_stroke : {I : Type 0} (s : Parameters) (stand next : Stand) (p q : DecoderState) (r : Reader I) (w b n : ℕ) (bytes : List ℕ) (o : Origin) (front : List Bool) (given : List ℤ)
+pub run_stroke : {I : Type 0} (s : Parameters) (stand next : Stand) (p q : DecoderState) (r : Reader I) (w b n at : ℕ) (x : ℤ) (out out_new : List ℕ) (o : Origin) (front : List Bool) (given : List ℤ)
     → IsStand s o stand front given → IsReadFrom stand r → p ≡ state_of s stand → RepeatsBlocks n p q → w ≡ width s → b ≡ s.block → 1 ≤ w → 1 ≤ b → 1 ≤ n
-    → next ≡ stand_at (stand.samples + b * n) (stand.bits + (r.taken - r.taken)) (stand.steps + b * n) q
-    → take (width s * (s.block * n)) bytes ≡ spellings s (replicate (s.block * n) p.before) → GivesStroke s stand next q r r (w * (b * n)) bytes
-run_stroke s stand next p q r w b n bytes o front given h reads state passes wide many w_some b_some n_some is spelled =
+    → next ≡ stand_at (stand.samples + b * n) (stand.bits + (r.taken - r.taken)) (stand.steps + b * n) q → x ≡ p.before
+    → out_new ≡ take at out ++ (spellings s (replicate (b * n) x) ++ drop (at + width s * (b * n)) out) → WritesStroke s stand next q r r (w * (b * n)) at out out_new
+run_stroke s stand next p q r w b n at x out out_new o front given h reads state passes wide many w_some b_some n_some is same wrote =
     let count : b * n ≡ s.block * n = ap (λ k. k * n) many in
     let size : w * (b * n) ≡ width s * (s.block * n) = (λ i. wide i * count i) in
     let bits : stand.bits + (r.taken - r.taken) ≡ stand.bits = omega arith in
     let there : next ≡ stand_at (stand.samples + s.block * n) stand.bits (stand.steps + s.block * n) q = is ∙ (λ i. stand_at (stand.samples + count i) (bits i) (stand.steps + count i) q) in
-    let before : p.before ≡ stand.previous = ap (λ (d : DecoderState). d.before) state in
+    let before : x ≡ stand.previous = same ∙ ap (λ (d : DecoderState). d.before) state in
     let on = run_on n s stand q r o front given h reads (subst (λ (d : DecoderState). RepeatsBlocks n d q) state passes) in
     record {
       samples = replicate (s.block * n) stand.previous;
       more = subst (λ (t : Stand). GivesMore s stand t q r r (replicate (s.block * n) stand.previous)) (sym there) on;
       some = mul-pos w_some (mul-pos b_some n_some);
       len_is = size ∙ ap (λ k. width s * k) (sym (length-replicate (s.block * n) stand.previous));
-      spelled = ap (λ k. take k bytes) size ∙ spelled ∙ ap (λ z. spellings s (replicate (s.block * n) z)) before;
+      wrote = wrote ∙ (λ i. take at out ++ (spellings s (replicate (count i) (before i)) ++ drop (at + sym wide i * (b * n)) out));
     }
 
 -- a row

@@ -1,28 +1,35 @@
-use Rattle.std.proofs.Common.{◌≡◌, ◌≤◌, ◌*◌, ◌∙◌, ap, arith, replicate, sym, take}
-use Rattle.rice_samples.specs.Parameters.{width as width_of}
+use Rattle.std.proofs.Common.{◌≡◌, ◌≤◌, ◌*◌, ◌∙◌, ap, arith, replicate, sym, subst, w64, to_z, of_z, to_z-of_z}
+use Rattle.rice_samples.specs.Parameters.{IsSample}
 use Rattle.rice_samples.specs.bytes.Spelling.{spellings}
 use Rattle.rice_stream.proofs.lemmas.RunsWritten.{run_cut}
 use Rattle.rice_stream.proofs.runs.write_run.Goals as goal
 
-pub slice_bounds-write_counted-end : goal.slice_bounds-write_counted-end
-slice_bounds-write_counted-end g c =
-    let e : c.width-width.result * (c.block-block.result * c.spell_run-blocks.result) ≤ 512 =
-    (let w = c.width-width.ensures.value in let b = c.block-block.ensures.value in rw (w, b) (let r = c.spell_run-blocks.ensures.room in omega (arith, r))) in
+pub slice_bounds-spelled-end : goal.slice_bounds-spelled-end
+slice_bounds-spelled-end g c =
+    let e : c.width-width.result * (c.block-block.result * c.blocks_at_once-blocks.result) ≤ 512 =
+    (let w = c.width-width.ensures.value in let b = c.block-block.ensures.value in rw (w, b) (let r = c.blocks_at_once-blocks.ensures.room in omega (arith, r))) in
     omega (arith, e)
+
+pub spell_again-requires-clause-sample : goal.spell_again-requires-clause-sample
+spell_again-requires-clause-sample g c =
+    let p = c.args.decoder.now in
+    let z = c.before-sample.result in
+    let same : to_z w64 (of_z w64 z) ≡ z = to_z-of_z {w = w64} {z = z} (record { sfits = c.before-sample.type_inv }) in
+    let legal : IsSample c.args.setting.now p.before = subst (λ t. IsSample t p.before) c.requires.setting c.block-place.ensures.state.sample in
+    subst (IsSample c.args.setting.now) (sym (same ∙ c.before-sample.ensures)) legal
 
 pub returns-in-Err-clause-err : goal.returns-in-Err-clause-err
 returns-in-Err-clause-err g c =
     let p = c.args.decoder.now in
     let s = c.args.setting.now in
-    let blocks = c.spell_run-blocks in
-    let n = blocks.result in
+    let z = c.before-sample.result in
+    let same : to_z w64 (of_z w64 z) ≡ p.before = to_z-of_z {w = w64} {z = z} (record { sfits = c.before-sample.type_inv }) ∙ c.before-sample.ensures in
+    let blocks = c.blocks_at_once-blocks in
     let width = c.width-width.ensures in
     let block = c.block-block.ensures in
-    let count : c.block-block.result * n ≡ s.block * n = ap (λ k. k * n) block.value in
-    let size : c.width-width.result * (c.block-block.result * n) ≡ width_of s * (s.block * n) = (λ i. width.value i * count i) in
-    let spelled = ap (λ k. take k blocks.new.bytes) size ∙ blocks.ensures.spelled ∙ ap (λ k. spellings s (replicate k p.before)) (sym count) in
+    let spelled = c.spell_again.ensures ∙ ap (λ x. spellings s (replicate (c.block-block.result * blocks.result) x)) same in
     let taken = c.in-Err.ensures.err in
-    run_cut s c.args.asked c.args.written n c.in-Err.taken c.width-width.result c.block-block.result p blocks.new.decoder
-    (g.O.Outlet.taken c.args.outlet.now) (g.O.Outlet.taken c.write_counted.new.outlet) (take (c.width-width.result * (c.block-block.result * n)) blocks.new.bytes)
-    (omega (arith, block.value, block.range)) (omega (arith, width.value, width.range)) width.value block.value blocks.ensures.passes
-    blocks.ensures.run blocks.ensures.wanted spelled taken.0 taken.1
+    run_cut s c.args.asked c.args.written blocks.result c.in-Err.taken c.width-width.result c.block-block.result p c.repeat_blocks.new.self
+    (g.O.Outlet.taken c.args.outlet.now) (g.O.Outlet.taken c.write_counted.new.outlet) c.spell_again.new.bytes
+    (omega (arith, block.value, block.range)) (omega (arith, width.value, width.range)) width.value block.value c.repeat_blocks.ensures.gives
+    c.repeat_blocks.ensures.run blocks.ensures.wanted spelled taken.0 taken.1
