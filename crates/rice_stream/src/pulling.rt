@@ -263,8 +263,9 @@ fn write_others_at(
         (4, false, 32) => write_sized_at(setting, 4, false, 32, levels, bytes, at, samples),
         (4, false, 64) => write_sized_at(setting, 4, false, 64, levels, bytes, at, samples),
         (width, _, count) => {
-            let size = width as usize * count;
-            write_spellings(setting, levels, &mut samples[at..at + size]);
+            let spelled = &mut bytes[..width as usize * count];
+            write_spellings(setting, levels, spelled);
+            copy_at(spelled, at, samples);
         }
     }
 }
