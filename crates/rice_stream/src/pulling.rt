@@ -1,7 +1,8 @@
 //! Decodes a code piece by piece, for a caller that has not all of it, or no room for all samples. Nothing but a `Stand` is kept.
-ghost use Rattle.std.specs.Prelude.{◌≡◌, ◌≢◌, ◌+◌, ◌-◌, ◌*◌, ◌%◌, ◌<◌, ◌≤◌, ◌++◌, Bool, true, false, List, All, IsSome, IfOk, IfSome, None, drop, take, length, ℤ};
+ghost use Rattle.std.specs.Prelude.{◌≡◌, ◌≢◌, ◌+◌, ◌-◌, ◌*◌, ◌%◌, ◌<◌, ◌≤◌, ◌++◌, Bool, true, false, List, All, IsSome, IfOk, IfSome, None, Some, drop, take, length, ℤ};
 ghost use Rattle.rice_bits.specs.Limits.{most_bits_read};
 ghost use Rattle.rice_bits.specs.Bits.{bits_of};
+ghost use Rattle.rice_bits.specs.read.Reader.{new_reader};
 ghost use Rattle.rice_samples.specs.Parameters.{value_count, values_at, width as width_of};
 ghost use Rattle.rice_samples.specs.bytes.Spelling.{spellings};
 ghost use Rattle.rice_code.specs.declared.decode.fault.CodeFault.TheVariants as faults;
@@ -101,7 +102,11 @@ fn decode_piece<const SIZE: usize, const WIDTH: usize, const PLAIN: bool>(
     let own = *setting;
     let size = own.width() as usize * own.block() as usize;
     let mut decoder = Decoder::at(own, stand.block, stand.previous, stand.run);
-    let mut reader = reader_behind(piece, (stand.bits % 8) as u32);
+    let mut reader = BitReader::new(SliceIn::new(piece));
+    if !skip_bits(&mut reader, piece, (stand.bits % 8) as u32) {
+        let _intake = reader.into_inner();
+        unreachable!()
+    }
     let mut levels = ArrayVec::new();
     let most = if PLAIN {
         blocks_of_row::<WIDTH>(&own)
@@ -137,7 +142,10 @@ fn decode_piece<const SIZE: usize, const WIDTH: usize, const PLAIN: bool>(
         }
         let found = match next_stand(&own, &here, &mut decoder, &mut reader, &mut levels) {
             Ok(found) => found,
-            Err(fault) => return (here, pause_of(fault, reader)),
+            Err(fault) => {
+                let _intake = reader.into_inner();
+                return (here, pause_of(fault));
+            }
         };
         match found {
             Some(next) => {
@@ -160,27 +168,25 @@ fn is_too_long(bits: u64, bytes: usize) -> bool
     bytes as u64 > (LIMIT - bits) / 8
 }
 
-/// Returns a reader of the bits of a piece after the first `skipped`.
-fn reader_behind<'a>(piece: &'a [u8], skipped: u32) -> BitReader<SliceIn<'a>>
-    requires { skipped < 8 }
-    ensures going { result.refusal ≡ None }
-    ensures failed { result.failed ≡ 0 }
-    ensures told { IsSome result.left }
-    ensures bits { ahead result ≡ drop skipped (bits_of piece.now) }
-    ensures taken { result.taken ≤ skipped }
-    ensures aligned { 0 < length piece.now → result.taken ≡ skipped }
+/// Takes the first `skipped` bits of a piece, if it has bytes. Returns false if they were too few, which none are.
+fn skip_bits(reader: &mut BitReader<SliceIn<'_>>, piece: &[u8], skipped: u32) -> bool
+    requires few { skipped < 8 }
+    requires fresh { reader.old ≡ new_reader reader.old.intake (Some piece.now) 0 }
+    ensures going { result ≡ true → reader.new.refusal ≡ None }
+    ensures failed { result ≡ true → reader.new.failed ≡ 0 }
+    ensures told { result ≡ true → IsSome reader.new.left }
+    ensures bits { result ≡ true → ahead reader.new ≡ drop skipped (bits_of piece.now) }
+    ensures taken { result ≡ true → reader.new.taken ≤ skipped }
+    ensures aligned { result ≡ true → 0 < length piece.now → reader.new.taken ≡ skipped }
+    ensures never { result ≡ false → reader.new.failed ≡ 0 → ⊥ }
 {
-    let mut reader = BitReader::new(SliceIn::new(piece));
     if piece.is_empty() {
-        return reader;
+        return true;
     }
     let mut aside = Meter::new();
     match reader.take(skipped, &mut aside) {
-        Ok(_) => reader,
-        Err(_) => {
-            let _intake = reader.into_inner();
-            unreachable!()
-        }
+        Ok(_) => true,
+        Err(_) => false,
     }
 }
 
@@ -299,13 +305,11 @@ fn write_sized_at(
 }
 
 /// Returns how decoding pauses where a coded data set is cut off or refused. A slice is read without faults.
-fn pause_of(fault: CodeFault, reader: BitReader<SliceIn<'_>>) -> Pause
-    requires read { fault ≡ faults.Read → reader.failed ≡ 1 }
+fn pause_of(fault: CodeFault) -> Pause
+    requires read { fault ≢ faults.Read }
     requires long { fault ≢ faults.TooLong }
-    ensures pause { result ≡ pause_for fault }
-    ensures never { fault ≢ faults.Read }
+    ensures { result ≡ pause_for fault }
 {
-    let _intake = reader.into_inner();
     match fault {
         CodeFault::CodeEnds => Pause::Cut,
         CodeFault::RunPastSegment => Pause::RunPastSegment,

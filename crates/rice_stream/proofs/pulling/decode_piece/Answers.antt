@@ -1,11 +1,13 @@
 use Rattle.std.proofs.Common.{rules, arith, refl, w64, FitsSigned, ℤ, ◌≡◌, ◌+◌, ◌*◌, ◌++◌, ◌∙◌, ap, sym, subst, length, length-drop, take, drop, Option}
-use Rattle.std.specs.Prelude.{Ok, IfSome, ◌%◌}
+use Rattle.std.specs.Prelude.{Ok, IfSome, ◌%◌, ◌<◌}
 use Rattle.std.proofs.lemmas.Int.{to_z-of_z}
+use Rattle.std.proofs.Math.Nat.{mul-pos}
 use Rattle.rice_bits.specs.Bits.{bits_of}
 use Rattle.rice_bits.proofs.lemmas.bits.Bytes.{length-bits_of}
 use Rattle.rice_samples.specs.Parameters.{values_at, width}
 use Rattle.rice_samples.specs.bytes.Spelling.{spellings}
 use Rattle.rice_samples.proofs.lemmas.setting.ValuesAt.{length-values}
+use Rattle.rice_code.specs.declared.decode.fault.CodeFault.TheVariants as faults
 use Rattle.rice_stream.specs.Pulling.{DecodesMore, GoesOnAt, TakesNext, ahead, state_of}
 use Rattle.rice_stream.specs.declared.stand.Pause.{Pause}
 use Rattle.rice_stream.specs.declared.stand.Stand.{Stand}
@@ -17,22 +19,23 @@ pub decode_all-init : goal.decode_all-init
 decode_all-init g c =
     let stand = c.args.stand.now in
     let piece = c.args.piece.now in
-    let reader = c.reader_behind-reader.ensures in
+    let reader = c.skip_bits.ensures in
+    let took = c.if-not-skip_bits.false in
     let k = stand.bits % 8 in
     let fits : FitsSigned w64 stand.previous = search rules in
     record {
       state = c.at-decoder.ensures ∙ ap (λ (z : ℤ). state_of c.args.setting.now (record stand { previous = z })) (to_z-of_z w64 stand.previous fits);
       reads = record {
-        going = reader.going;
-        failed = reader.failed;
-        told = reader.told;
-        taken = omega (arith, reader.taken);
-        limit = omega (arith, c.requires.fits, ap length reader.bits, length-drop k (bits_of piece), length-bits_of piece);
+        going = reader.going took;
+        failed = reader.failed took;
+        told = reader.told took;
+        taken = omega (arith, reader.taken took);
+        limit = omega (arith, c.requires.fits, ap length (reader.bits took), length-drop k (bits_of piece), length-bits_of piece);
       };
-      aligned = λ lt. omega (arith, reader.aligned lt);
+      aligned = λ lt. omega (arith, reader.aligned took lt);
       within = omega arith;
       len = refl;
-      so_far = λ o front given h. none_so_far c.args.setting.now o front given piece stand c.args.samples.now (ahead c.reader_behind-reader.result) h reader.bits;
+      so_far = λ o front given h. none_so_far c.args.setting.now o front given piece stand c.args.samples.now (ahead c.skip_bits.new.reader) h (reader.bits took);
     }
 
 pub returns-then-here-eq0 : goal.returns-then-here-eq0
@@ -127,8 +130,9 @@ pub pause_of-requires-clause-read : goal.pause_of-requires-clause-read
 pause_of-requires-clause-read g c = λ read.
     let know = c.requires.stand in
     let so = still c.in-None.ensures.none.1 c.in-None.ensures.none.2 (c.decode_all.invariant.so_far know.0 know.1 know.2 know.3) in
-    failed_once c.args.setting.now know.0 (know.1 ++ so.bits) (know.2 ++ so.samples) c.decode_all.here c.next_stroke.new.reader c.next_stand.new.reader
-    (values_at c.args.setting.now c.next_stand.new.levels.items) c.in-Err.fault read (c.in-Err.ensures.takes know.0 (know.1 ++ so.bits) (know.2 ++ so.samples) so.stands)
+    let failed = failed_once c.args.setting.now know.0 (know.1 ++ so.bits) (know.2 ++ so.samples) c.decode_all.here c.next_stroke.new.reader c.next_stand.new.reader
+    (values_at c.args.setting.now c.next_stand.new.levels.items) c.in-Err.fault read (c.in-Err.ensures.takes know.0 (know.1 ++ so.bits) (know.2 ++ so.samples) so.stands) in
+    omega (arith, failed, c.into_inner-intake-in-Err.ensures.failed)
 
 pub pause_of-requires-clause-long : goal.pause_of-requires-clause-long
 pause_of-requires-clause-long g c = λ long.
@@ -142,11 +146,13 @@ returns-in-Err g c = λ o front given h.
     let s = c.args.setting.now in
     let i = c.decode_all.invariant in
     let so = still c.in-None.ensures.none.1 c.in-None.ensures.none.2 (i.so_far o front given h) in
+    let never : c.in-Err.fault ≡ faults.Read → ⊥ = λ read. let failed = failed_once s o (front ++ so.bits) (given ++ so.samples) c.decode_all.here c.next_stroke.new.reader c.next_stand.new.reader
+    (values_at s c.next_stand.new.levels.items) c.in-Err.fault read (c.in-Err.ensures.takes o (front ++ so.bits) (given ++ so.samples) so.stands) in absurd (omega (arith, failed, c.into_inner-intake-in-Err.ensures.failed)) in
     let room = has_room s c.decode_all.at (length c.decode_all.samples) (length c.args.samples.now) (length so.samples) c.width.ensures.value
     c.block.ensures.value c.decode_all-test.true i.within so.count i.len in
-    subst (λ (p : Pause). DecodesMore s o front given c.args.piece.now c.args.stand.now c.args.samples.now c.next_stroke.new.samples c.decode_all.here p) (sym c.pause_of.ensures.pause)
+    subst (λ (p : Pause). DecodesMore s o front given c.args.piece.now c.args.stand.now c.args.samples.now c.next_stroke.new.samples c.decode_all.here p) (sym c.pause_of.ensures)
     (refused_so (values_at s c.next_stand.new.levels.items) c.next_stroke.new.reader c.next_stand.new.reader c.in-Err.fault so room
-    (c.in-Err.ensures.takes o (front ++ so.bits) (given ++ so.samples) so.stands) c.pause_of.ensures.never (c.requires.fits))
+    (c.in-Err.ensures.takes o (front ++ so.bits) (given ++ so.samples) so.stands) never (c.requires.fits))
 
 pub returns : goal.returns
 returns g c = λ o front given h.
@@ -154,3 +160,8 @@ returns g c = λ o front given h.
     let so = i.so_far o front given h in
     ends_so pauses.Full so (has_none c.args.setting.now c.decode_all.at (length c.decode_all.samples) (length c.args.samples.now) (length so.samples)
     c.width.ensures.value c.block.ensures.value c.decode_all-test.false i.within so.count i.len) (λ no. c.requires.fits)
+
+pub decode_all-smaller : goal.decode_all-smaller
+decode_all-smaller g c =
+    let some : 0 < c.width.result * c.block.result = mul-pos (omega (arith, c.width.ensures.range)) (omega (arith, c.block.ensures.range)) in
+    omega (arith, some, c.write_at.auto.samples, c.next_stroke.ensures.len, c.decode_all-test.true, c.decode_all.invariant.within)
