@@ -1,4 +1,4 @@
--- Near numbers, eight at a time.
+-- Near numbers, eight at a time; `near_ranks` holds for any number of them.
 use Rattle.std.proofs.Common.{◌≡◌, inl, inr, ℕ, zero, suc, ◌+◌, ◌-◌, ◌*◌, ◌/◌, ◌%◌, ◌^◌, ◌<◌, ◌≤◌, min, max, cond, Bool, true, List, [], ◌∷◌, map, length, take, get_or, refl, sym, ◌∙◌, ap, subst, arith, Fits, nat_lt, ◌==◌}
 use Rattle.std.specs.Prelude.{All, bit_and, bit_or, replicate}
 use Rattle.std.specs.Int.{Width}
@@ -210,6 +210,7 @@ near_one m g p d h k t = by_digit (d % 2) (omega arith) refl
         subst Near (sym x) (omega arith, omega arith)
     by_digit (suc (suc r)) lt e = absurd (omega arith)
 
+-- Where each rank is at most the bound of the number before it, the near numbers lie in the range, and their ranks are these.
 pub near_ranks : (m g p : ℕ) (ds : List ℕ) → p ≤ g → g < m → Each2 (λ d b. d ≤ b) ds (map (bound m g) (take (length ds) (p ∷ near_numbers m p ds)))
     → Each1 (λ x. x ≤ g) (near_numbers m p ds) × (ranks_below (g + 1) p (near_numbers m p ds) ≡ ds)
 near_ranks m g p [] h k t = (tt, refl)
