@@ -1,6 +1,6 @@
 -- What contracts see of a reader of bits.
-pub mod Ones
-pub mod Parts
+pub mod EndsAndGaps
+pub mod JoinedParts
 pub mod Reader
-pub mod ShortWords
+pub mod EightWords
 pub mod Window

@@ -2,6 +2,6 @@
 
 mod ends;
 pub mod gaps;
-mod rows;
 pub mod sequences;
+mod tables_of_ends;
 pub mod words;

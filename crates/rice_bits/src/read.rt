@@ -1,10 +1,12 @@
 //! Reading bits: the bits of the bytes that an intake gives, taken one word or one fundamental sequence at a time.
 
-mod ends;
+mod eight_words;
+mod ends_and_gaps;
 pub mod fault;
 mod four_words;
-mod ones;
-mod parts;
+mod joined_parts;
 pub mod reader;
-mod short_words;
+mod sequences;
+mod table_of_ends;
 mod window;
+mod words;

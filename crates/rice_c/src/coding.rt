@@ -55,7 +55,8 @@ fn encode_slice(setting: &Setting, intake: &mut SliceIn<'_>, outlet: &mut SliceO
     requires { slice_failures outlet.old ≡ 0 }
     ensures borrow { (slice_state outlet.new).borrow ≡ (slice_state outlet.old).borrow }
     ensures call { (c : Call) ×
-        Happens (Some (slice_left intake.old)) (Some (slice_left intake.new)) (Some (slice_state outlet.old)) (Some (slice_state outlet.new)) c ×
+        Happens (Some (slice_left intake.old)) (Some (slice_left intake.new))
+        (Some (slice_state outlet.old)) (Some (slice_state outlet.new)) c ×
         Encodes setting.now c result.report result.fault }
     ensures failures { Fails result.fault 0 0 0 (slice_failures outlet.new) }
     ensures within { EncodesWithin setting.now result.report }
@@ -131,7 +132,8 @@ fn decode_slice<'a>(
     requires { slice_failures outlet.old ≡ 0 }
     ensures borrow { (slice_state outlet.new).borrow ≡ (slice_state outlet.old).borrow }
     ensures call { (c : Call) ×
-        Happens (Some (slice_left intake.entry)) (Some (slice_left result.1)) (Some (slice_state outlet.old)) (Some (slice_state outlet.new)) c ×
+        Happens (Some (slice_left intake.entry)) (Some (slice_left result.1))
+        (Some (slice_state outlet.old)) (Some (slice_state outlet.new)) c ×
         Decodes setting.now asked c result.0.report result.0.fault }
     ensures failures { Fails result.0.fault 0 0 0 (slice_failures outlet.new) }
     ensures within { DecodesWithin asked result.0.report }

@@ -94,10 +94,13 @@ pub extern "C" fn rice_pull(
     report: &mut RiceReport,
 ) -> u32
     requires { IfOk (setting_asked drain.old.setting) (λ s.
-        (o : Origin) × (front : List Bool) × (given : List ℤ) × IsStand s o drain.old.stand front given) }
+        (o : Origin) × (front : List Bool) × (given : List ℤ) ×
+        IsStand s o drain.old.stand front given) }
     ensures ok { IfOk (setting_asked drain.old.setting) (λ s.
-        (o : Origin) (front : List Bool) (given : List ℤ) → IsStand s o drain.old.stand front given →
-        PullsInto s o front given code.now samples.old samples.new drain.old drain.new report.new result) }
+        (o : Origin) (front : List Bool) (given : List ℤ) →
+        IsStand s o drain.old.stand front given →
+        PullsInto s o front given code.now samples.old samples.new drain.old drain.new report.new
+        result) }
     ensures refused { IfErr (setting_asked drain.old.setting) (λ fault.
         RefusesSetting fault samples.old samples.new report.new result × (drain.new ≡ drain.old)) }
 {
@@ -119,7 +122,8 @@ fn pull_into(
         IsStand setting.now o drain.old.stand front given }
     ensures { (o : Origin) (front : List Bool) (given : List ℤ) →
         IsStand setting.now o drain.old.stand front given →
-        PullsInto setting.now o front given code.now samples.old samples.new drain.old drain.new report.new result }
+        PullsInto setting.now o front given code.now samples.old samples.new drain.old drain.new
+        report.new result }
 {
     let before = drain.stand.samples;
     let (stand, pause) = decode_more(setting, &drain.stand, code, samples);

@@ -133,7 +133,8 @@ fn push_into(
 ) -> u32
     requires { (xs : List ℤ) × IsSeam setting.now feed.old.seam xs }
     ensures { (xs : List ℤ) → IsSeam setting.now feed.old.seam xs →
-        PushesInto setting.now xs samples.now code.old code.new feed.old feed.new report.new result }
+        PushesInto setting.now xs samples.now code.old code.new feed.old feed.new report.new
+        result }
 {
     let mut outlet = SliceOut::new(code);
     match push_slice(setting, &feed.seam, samples, &mut outlet) {
@@ -160,7 +161,8 @@ fn push_slice(
     requires failures { slice_failures outlet.old ≡ 0 }
     ensures borrow { (slice_state outlet.new).borrow ≡ (slice_state outlet.old).borrow }
     ensures did { (xs : List ℤ) → IsSeam setting.now seam.now xs →
-        EncodesMore setting.now xs samples.now (Some (slice_state outlet.old)) (Some (slice_state outlet.new)) result }
+        EncodesMore setting.now xs samples.now (Some (slice_state outlet.old))
+        (Some (slice_state outlet.new)) result }
     ensures failures { PushFails 0 (slice_failures outlet.new) result }
 {
     encode_more(setting, seam, samples, outlet)
@@ -195,7 +197,8 @@ fn finish_slice(
     requires failures { slice_failures outlet.old ≡ 0 }
     ensures borrow { (slice_state outlet.new).borrow ≡ (slice_state outlet.old).borrow }
     ensures did { (xs : List ℤ) → IsSeam setting.now seam.now xs →
-        EncodesRest setting.now xs samples.now (Some (slice_state outlet.old)) (Some (slice_state outlet.new)) result.report result.fault }
+        EncodesRest setting.now xs samples.now (Some (slice_state outlet.old))
+        (Some (slice_state outlet.new)) result.report result.fault }
     ensures failures { Fails result.fault 0 0 0 (slice_failures outlet.new) }
     ensures within { EncodesWithin setting.now result.report }
 {

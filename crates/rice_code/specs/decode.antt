@@ -2,8 +2,8 @@
 pub mod BlocksAhead
 pub mod Decoder
 pub mod DecoderState
-pub mod Fields
+pub mod Rows
 pub mod PlainBlocks
 pub mod ReadSets
 pub mod Restored
-pub mod RowsAhead
+pub mod FieldsAhead

@@ -3,8 +3,8 @@ pub mod BitBuffer
 pub mod Chosen
 pub mod Coder
 pub mod HeldBlocks
-pub mod Ones
+pub mod GatheredSequences
 pub mod OpenSegment
-pub mod Parts
-pub mod Prepared
-pub mod ShortDigits
+pub mod SentParts
+pub mod PreparedSettings
+pub mod ShortLowParts

@@ -5,17 +5,18 @@ use rice_bits::BitSink;
 
 mod bit_buffer;
 mod blocks;
+mod choice;
 pub mod coder;
 mod cost;
-mod fields;
+mod gathered_sequences;
 mod held_block;
-mod ones;
+mod high_parts;
+mod low_parts;
 mod open_segment;
 mod options;
-mod prepared;
-mod search;
-mod short_digits;
-mod short_sequences;
+mod pairs;
+mod prepared_setting;
+mod short_low_parts;
 
 /// A sink with room for the code of a segment, of at most 64 blocks of 2,053 bits, and eight bytes beside it for the bits
 /// that it held before.

@@ -10,8 +10,8 @@ pub mod laws;
 mod sizes;
 
 pub use bounds::{added_bound, bit_bound, padded_bound, set_bound, step_bound};
+pub use decode::answer::{CodeFault, NextBlock};
 pub use decode::decoder::Decoder;
-pub use decode::fault::{CodeFault, NextBlock};
 pub use encode::SegmentSink;
 pub use encode::coder::{Coder, Pushed, SizedCoder};
 

@@ -1,3 +1,4 @@
 -- The preprocessor.
+pub mod LevelsOfParts
 pub mod Near
 pub mod Residuals

@@ -3,5 +3,5 @@
 pub mod block;
 mod codewords;
 mod lanes;
-mod minimum;
 pub mod segment;
+mod stops;

@@ -17,13 +17,13 @@ pub use bytes::patterns::spell_patterns;
 pub use bytes::reading::levels_of;
 pub use bytes::spelling::{bytes_of, sample_of};
 pub use bytes::writing::{write_spellings, write_spellings_as};
-pub use predict::byte_lanes::{LevelLanes, near_levels, spelled_bytes};
-pub use predict::byte_turns::{joined_in_turn, levels_in_turn};
-pub use predict::half_lanes::{LevelHalves, near_halves, spelled_words};
-pub use predict::half_turns::halves_in_turn;
 pub use predict::preprocessor::{from_pattern, pattern, residual, restore};
-pub use predict::residuals::pattern_at;
-pub use predict::samples::{
+pub use predict::residuals::rows::pattern_at;
+pub use predict::restoring::byte_lanes::{LevelLanes, near_levels, spelled_bytes};
+pub use predict::restoring::bytes_in_turn::{joined_in_turn, levels_in_turn};
+pub use predict::restoring::half_lanes::{LevelHalves, near_halves, spelled_words};
+pub use predict::restoring::halves_in_turn::halves_in_turn;
+pub use predict::restoring::levels::{
     level_of_pattern, levels_of_patterns, restore_by_selection, restore_near_first,
 };
 pub use setting::{Setting, SettingFault};

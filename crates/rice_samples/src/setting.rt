@@ -84,7 +84,8 @@ impl Setting {
         ensures answer { result ≡
             setting_of (parameters bits block interval signed msb three preprocess pad) }
         ensures legal { IsOk result ↔
-            IsLegal (parameters bits block interval signed msb three preprocess pad) × IsStandardSize block }
+            IsLegal (parameters bits block interval signed msb three preprocess pad) ×
+            IsStandardSize block }
         ensures refused { IfErr result (IsRefused
             (parameters bits block interval signed msb three preprocess pad)) }
     {

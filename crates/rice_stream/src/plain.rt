@@ -1,7 +1,7 @@
 //! Decodes samples that are not predicted, and use all bits of 1, 2 or 4 bytes: blocks without compression are copied.
 ghost use Rattle.std.specs.Prelude.{◌≡◌, ◌⊎◌, ◌+◌, ◌-◌, ◌*◌, ◌^◌, ◌<◌, ◌≤◌, Some, None, IfErr, IfOk, IfSome, OnErr, OnOk, true};
 ghost use Rattle.rice_bits.specs.Limits.{step_limit, most_bits_read};
-ghost use Rattle.rice_code.specs.decode.Fields.{AreCounted};
+ghost use Rattle.rice_code.specs.decode.Rows.{AreCounted};
 ghost use Rattle.rice_code.specs.decode.PlainBlocks.{IsPlain, PlainRow};
 ghost use Rattle.rice_stream.specs.Calls.{Call, Happens, Fails};
 ghost use Rattle.rice_stream.specs.Decodes.{Decodes, DecodesWithin, wanted_of};

@@ -5,7 +5,7 @@ ghost use Rattle.rice_bits.specs.Bits.{bits_of};
 ghost use Rattle.rice_bits.specs.read.Reader.{new_reader};
 ghost use Rattle.rice_samples.specs.Parameters.{value_count, values_at, width as width_of};
 ghost use Rattle.rice_samples.specs.bytes.Spelling.{spellings};
-ghost use Rattle.rice_code.specs.declared.decode.fault.CodeFault.TheVariants as faults;
+ghost use Rattle.rice_code.specs.declared.decode.answer.CodeFault.TheVariants as faults;
 ghost use Rattle.rice_code.specs.decode.BlocksAhead.{HasLanes};
 ghost use Rattle.rice_code.specs.decode.PlainBlocks.{IsPlain};
 ghost use Rattle.rice_stream.specs.Pulling.{Origin, IsStand, DecodesMore, GoesOnAt, IsReadFrom, TakesNext, ahead, pause_for, state_of};

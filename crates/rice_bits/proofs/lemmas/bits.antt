@@ -4,6 +4,6 @@ pub mod EightBytes
 pub mod FirstOnes
 pub mod Joining
 pub mod OneWay
-pub mod Pieces
+pub mod PieceSearch
 pub mod Words
 pub mod SinkBytes

@@ -2,9 +2,9 @@
 pub mod Blank
 pub mod Drawing
 pub mod FourWords
-pub mod Parting
-pub mod OnesLemmas
-pub mod PartsLemmas
+pub mod TakenSequences
+pub mod EndsAndGapsLemmas
+pub mod JoinedPartsLemmas
 pub mod ReaderLemmas
-pub mod ShortWordsLemmas
+pub mod EightWordsLemmas
 pub mod WindowLemmas

@@ -5,7 +5,7 @@ ghost use Rattle.rice_bits.specs.Bits.{fundamental_sequence, word, whole_bytes, 
 
 use crate::Meter;
 use crate::bits::digits::{join, low_digits, to_front};
-use crate::bits::octets::{front, join_bytes, join_one, keep_byte};
+use crate::bits::eight_bytes::{front, join_bytes, join_one, keep_byte};
 use std::marker::Model;
 
 /// A list of at most `8 * N` bits, gathered into bytes, most significant bit first.
@@ -101,7 +101,8 @@ impl<const N: usize> BitSink<N> {
         requires width { width ≤ 32 }
         requires room { length self.old + width * length words.now ≤ 8 * N }
         requires meter { meter.old + width * length words.now < step_limit }
-        ensures { Puts (flat_map (word width) words.now) (width * length words.now) self.old self.new meter.old meter.new }
+        ensures { Puts (flat_map (word width) words.now) (width * length words.now) self.old
+            self.new meter.old meter.new }
     {
         meter.tick(width as u64 * words.len() as u64);
         self.bits = join_words(&mut self.bytes, self.bits, words, width);
@@ -168,7 +169,8 @@ fn join_words(bytes: &mut [u8], bits: u64, words: &[u32], width: u32) -> u64
     requires width { width ≤ 32 }
     requires bits { IsBitSink (length bytes.old) bits bytes.old }
     requires room { bits + width * length words.now ≤ 8 * length bytes.old }
-    ensures { Joins (flat_map (word width) words.now) (width * length words.now) bits result bytes.old bytes.new }
+    ensures { Joins (flat_map (word width) words.now) (width * length words.now) bits result
+        bytes.old bytes.new }
 {
     if width <= 28 {
         join_pairs(bytes, bits, words, width)
@@ -183,7 +185,8 @@ fn join_each(bytes: &mut [u8], bits: u64, words: &[u32], width: u32) -> u64
     requires width { width ≤ 32 }
     requires bits { IsBitSink (length bytes.old) bits bytes.old }
     requires room { bits + width * length words.now ≤ 8 * length bytes.old }
-    ensures { Joins (flat_map (word width) words.now) (width * length words.now) bits result bytes.old bytes.new }
+    ensures { Joins (flat_map (word width) words.now) (width * length words.now) bits result
+        bytes.old bytes.new }
 {
     let mut bits = bits;
     for i in 0..words.len() {
@@ -198,7 +201,8 @@ fn join_pairs(bytes: &mut [u8], bits: u64, words: &[u32], width: u32) -> u64
     requires width { width ≤ 28 }
     requires bits { IsBitSink (length bytes.old) bits bytes.old }
     requires room { bits + width * length words.now ≤ 8 * length bytes.old }
-    ensures { Joins (flat_map (word width) words.now) (width * length words.now) bits result bytes.old bytes.new }
+    ensures { Joins (flat_map (word width) words.now) (width * length words.now) bits result
+        bytes.old bytes.new }
 {
     let mut bits = bits;
     let pairs = words.len() / 2;

@@ -1,10 +1,10 @@
 //! The ends of the fundamental sequences in a word, in lanes.
 ghost use Rattle.std.specs.Prelude.{◌≡◌, ◌+◌, ◌-◌, ◌*◌, ◌<◌, ◌≤◌, ◌++◌, length, replicate, take, drop};
 ghost use Rattle.rice_bits.specs.Bits.{word};
-ghost use Rattle.rice_bits.specs.read.Ones.{ends_after};
+ghost use Rattle.rice_bits.specs.read.EndsAndGaps.{ends_after};
 ghost use Rattle.rice_bits.specs.lanes.Ends.{in_lanes, places_behind as places_behind_of};
 
-use crate::lanes::rows::row_at;
+use crate::lanes::tables_of_ends::row_at;
 use std::simd::prelude::*;
 
 /// Places that no lane has, and then the places of all sixteen lanes.

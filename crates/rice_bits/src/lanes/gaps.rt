@@ -2,7 +2,7 @@
 ghost use Rattle.std.specs.Prelude.{◌≡◌, ◌-◌, ◌*◌, ◌≤◌, ◌∷◌, length, take, flat_map};
 ghost use Rattle.std.specs.Simd.Lanes.{zip2};
 ghost use Rattle.rice_bits.specs.Bits.{fundamental_sequence, word};
-ghost use Rattle.rice_bits.specs.read.Ones.{ends_after, gaps};
+ghost use Rattle.rice_bits.specs.read.EndsAndGaps.{ends_after, gaps};
 ghost use Rattle.rice_bits.specs.lanes.Ends.{in_lanes};
 
 use std::simd::prelude::*;

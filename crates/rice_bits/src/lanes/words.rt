@@ -1,7 +1,7 @@
 //! Eight or sixteen words of a few bits at a time, from any bit of a slice on.
 ghost use Rattle.std.specs.Prelude.{◌≡◌, ◌+◌, ◌-◌, ◌*◌, ◌/◌, ◌^◌, ◌<◌, ◌≤◌, ◌++◌, All, drop, flat_map, length, map, slice_index, take};
 ghost use Rattle.rice_bits.specs.Bits.{bits_of, word};
-ghost use Rattle.rice_bits.specs.read.ShortWords.{eight};
+ghost use Rattle.rice_bits.specs.read.EightWords.{eight};
 ghost use Rattle.rice_bits.specs.lanes.Words.{pair_number, factors, places};
 
 use std::simd::prelude::*;
@@ -238,7 +238,7 @@ fn factors_of(width: u32, before: usize) -> u16x8
 
 /// Returns the bytes at these places.
 #[inline(always)]
-fn picked(bytes: u8x16, places: u8x16) -> u8x16
+fn bytes_at(bytes: u8x16, places: u8x16) -> u8x16
     requires { All (λ p. p < 16) places }
     ensures { result ≡ map (λ p. slice_index bytes p) places }
 {
@@ -252,7 +252,7 @@ fn pairs_of(bytes: u8x16, width: u32, before: usize) -> u16x8
     requires before { before < 8 }
     ensures { result ≡ map (λ j. pair_number bytes ((before + j * width) / 8)) eight }
 {
-    u16x8::from_le_bytes(picked(bytes, places_of(width, before)))
+    u16x8::from_le_bytes(bytes_at(bytes, places_of(width, before)))
 }
 
 /// Returns the eight words of `width` bits behind the first bits of sixteen bytes.

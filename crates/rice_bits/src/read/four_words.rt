@@ -3,7 +3,7 @@ ghost use Rattle.std.specs.Prelude.{◌≡◌, ◌+◌, ◌*◌, ◌^◌, ◌<�
 ghost use Rattle.rice_bits.specs.Bits.{bits_of, word};
 ghost use Rattle.rice_bits.specs.read.Window.{buffer_len, most_waiting};
 
-use crate::bits::octets::bits_from;
+use crate::bits::eight_bytes::bits_from;
 use std::simd::prelude::*;
 
 /// Returns the first two words of `width` digits of each of two words of 64.
@@ -12,7 +12,8 @@ fn four_words(first: u64, second: u64, width: u32) -> u32x4
     requires width { (1 ≤ width) × (width ≤ 28) }
     ensures len { length result ≡ 4 }
     ensures fit { All (λ v. v < 2 ^ width) result }
-    ensures bits { flat_map (word width) result ≡ take (2 * width) (word 64 first) ++ take (2 * width) (word 64 second) }
+    ensures bits { flat_map (word width) result
+        ≡ take (2 * width) (word 64 first) ++ take (2 * width) (word 64 second) }
 {
     let both = u64x2::from_array([first, second]);
     let away = u64x2::splat(64 - width as u64);

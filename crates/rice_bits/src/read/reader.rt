@@ -5,7 +5,7 @@ ghost use Rattle.rice_bits.specs.Limits.{step_limit, most_bits_read, most_bytes_
 ghost use Rattle.rice_bits.specs.Bits.{fundamental_sequence, bits_to_byte, word};
 ghost use Rattle.rice_bits.specs.lanes.Sequences.{BeginWithSequences};
 ghost use Rattle.rice_bits.specs.read.Reader.{Supplies, Refuses, is_blank, new_reader};
-ghost use Rattle.rice_bits.specs.read.Parts.{TakesParts};
+ghost use Rattle.rice_bits.specs.read.JoinedParts.{TakesParts};
 ghost use Rattle.rice_bits.specs.read.Window.{IsWindow, buffer_len, most_waiting, window_bits, window_passed, window_taken};
 
 use crate::bits::digits::join;
@@ -105,7 +105,9 @@ fn draw<I: Intake>(
     ensures taken { window_taken window.new ≡ window_taken window.old }
     ensures failures { OnOk result (I.failed intake.new ≡ I.failed intake.old) }
     ensures err { IfErr result (λ f. (window_bits window.old ≡ []) × (window_bits window.new ≡ []) ×
-        Refuses f (I.left intake.old) (I.left intake.new) (I.failed intake.old) (I.failed intake.new) (window_taken window.old) (blank_before.old && is_blank (window_passed window.old))) }
+        Refuses f (I.left intake.old) (I.left intake.new) (I.failed intake.old)
+        (I.failed intake.new) (window_taken window.old)
+        (blank_before.old && is_blank (window_passed window.old))) }
 {
     // Other bytes may take the place of the bits that were taken.
     *blank_before = window.is_blank(*blank_before);
@@ -140,7 +142,9 @@ fn supply<I: Intake>(
     ensures failures { OnOk result (I.failed intake.new ≡ I.failed intake.old) }
     ensures idle { 0 < length (window_bits window.old) → intake.new ≡ intake.old }
     ensures err { IfErr result (λ f. (window_bits window.old ≡ []) × (window_bits window.new ≡ []) ×
-        Refuses f (I.left intake.old) (I.left intake.new) (I.failed intake.old) (I.failed intake.new) (window_taken window.old) (blank_before.old && is_blank (window_passed window.old))) }
+        Refuses f (I.left intake.old) (I.left intake.new) (I.failed intake.old)
+        (I.failed intake.new) (window_taken window.old)
+        (blank_before.old && is_blank (window_passed window.old))) }
 {
     if window.len() > 0 {
         return Ok(());
@@ -508,7 +512,8 @@ impl<I: Intake> BitReader<I> {
         requires there { skip + 128 ≤ length self.now.waiting }
         ensures len { length result ≡ 16 }
         ensures fit { All (λ v. v < 2 ^ width) result }
-        ensures bits { flat_map (word width) result ≡ take (16 * width) (drop skip self.now.waiting) }
+        ensures bits { flat_map (word width) result
+            ≡ take (16 * width) (drop skip self.now.waiting) }
     {
         self.window.words_ahead(skip, width)
     }

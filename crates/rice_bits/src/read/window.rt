@@ -1,19 +1,19 @@
 //! The bytes that an intake gave last, and a place among their bits.
-ghost use Rattle.std.specs.Prelude.{◌≡◌, ◌+◌, ◌-◌, ◌*◌, ◌/◌, ◌%◌, ◌^◌, ◌<◌, ◌≤◌, ◌&&◌, false, [], ◌++◌, min, true, replicate, flat_map, length, take, drop, All, IfSome, IfNone};
+ghost use Rattle.std.specs.Prelude.{◌≡◌, ◌+◌, ◌-◌, ◌*◌, ◌%◌, ◌^◌, ◌<◌, ◌≤◌, ◌&&◌, false, [], ◌++◌, min, true, replicate, flat_map, length, take, drop, All, IfSome, IfNone};
 ghost use Rattle.rice_bits.specs.Limits.{most_bytes_read, most_at_once};
 ghost use Rattle.rice_bits.specs.Bits.{bits_of, fundamental_sequence, word};
 ghost use Rattle.rice_bits.specs.lanes.Sequences.{BeginWithSequences};
 ghost use Rattle.rice_bits.specs.read.Reader.{is_blank};
-ghost use Rattle.rice_bits.specs.read.Window.{AreParted, buffer_len, most_waiting};
+ghost use Rattle.rice_bits.specs.read.Window.{buffer_len, most_waiting};
 
-use crate::bits::digits::{digits_behind, front_digits};
-use crate::bits::octets::{bits_from, eight_bytes_from, load, store_zeros};
+use crate::bits::digits::front_digits;
+use crate::bits::eight_bytes::{bits_from, store_zeros};
 use crate::lanes::sequences::{Sequences, first_sequences};
 use crate::lanes::words::sixteen_from;
-use crate::read::four_words::four_from;
-use crate::read::ones::{find_ends, write_gaps};
-use crate::read::parts::write_parts;
-use crate::read::short_words::eight_from;
+use crate::read::ends_and_gaps::find_ends;
+use crate::read::joined_parts::write_parts;
+use crate::read::sequences::part_sequences;
+use crate::read::words::{number_from, words_from};
 use std::simd::prelude::*;
 
 /// The most bytes that are asked for at a time.
@@ -44,7 +44,7 @@ pub struct Window {
 }
 
 impl Window {
-    ghost use Rattle.rice_bits.specs.read.Parts.{PassesParts};
+    ghost use Rattle.rice_bits.specs.read.JoinedParts.{PassesParts};
     ghost use Rattle.rice_bits.specs.read.Window.{IsWindow, Passes, bits_near, window_bits, window_passed, window_taken};
 
     /// Returns a window with no bits, of which none was taken.
@@ -312,186 +312,5 @@ impl Window {
         write_parts(&self.buffer, words, width, &ends, numbers);
         self.at = next;
         true
-    }
-}
-
-/// Returns the number that the `width` bits from bit `at` on spell.
-#[inline]
-fn number_from(bytes: &[u8], at: usize, width: u32) -> u64
-    requires width { width ≤ 32 }
-    requires room { at / 8 + 8 ≤ length bytes.now }
-    ensures below { result < 2 ^ width }
-    ensures bits { word width result ≡ take width (drop at (bits_of bytes.now)) }
-{
-    digits_behind(load(bytes, at / 8), (at % 8) as u32, width)
-}
-
-/// Fills `words` with the words of `width` bits from bit `at` on.
-#[inline(always)]
-fn words_from(bytes: &[u8], at: usize, width: u32, words: &mut [u32])
-    requires width { width ≤ 32 }
-    requires few { length words.old ≤ 64 }
-    requires within { at + length words.old * width ≤ most_waiting }
-    requires room { buffer_len ≤ length bytes.now }
-    ensures fit { All (λ v. v < 2 ^ width) words.new }
-    ensures bits { flat_map (word width) words.new
-        ≡ take (length words.new * width) (drop at (bits_of bytes.now)) }
-{
-    if width == 0 {
-        return words.fill(0);
-    }
-    if width > 28 || words.len() < 4 {
-        return each_from(bytes, at, width, words);
-    }
-    if width > 8 || words.len() % 8 != 0 {
-        return fours_from(bytes, at, width, words);
-    }
-    if width < 8 {
-        return eights_from(bytes, at, width, words);
-    }
-    bytes_from(bytes, at, words);
-}
-
-/// As `words_from`, eight words at a time.
-#[inline(always)]
-fn eights_from(bytes: &[u8], at: usize, width: u32, words: &mut [u32])
-    requires width { (1 ≤ width) × (width ≤ 7) }
-    requires eights { length words.old % 8 ≡ 0 }
-    requires few { length words.old ≤ 64 }
-    requires within { at + length words.old * width ≤ most_waiting }
-    requires room { buffer_len ≤ length bytes.now }
-    ensures fit { All (λ v. v < 2 ^ width) words.new }
-    ensures bits { flat_map (word width) words.new
-        ≡ take (length words.new * width) (drop at (bits_of bytes.now)) }
-{
-    let mut at = at;
-    for i in 0..words.len() / 8 {
-        let eight = eight_from(bytes, at, width).cast::<u32>();
-        eight.copy_to_slice(&mut words[8 * i..]);
-        at += 8 * width as usize;
-    }
-}
-
-/// As `words_from`, for words of eight bits, eight at a time.
-#[inline(always)]
-fn bytes_from(bytes: &[u8], at: usize, words: &mut [u32])
-    requires eights { length words.old % 8 ≡ 0 }
-    requires few { length words.old ≤ 64 }
-    requires within { at + length words.old * 8 ≤ most_waiting }
-    requires room { buffer_len ≤ length bytes.now }
-    ensures fit { All (λ v. v < 2 ^ 8) words.new }
-    ensures bits { flat_map (word 8) words.new
-        ≡ take (length words.new * 8) (drop at (bits_of bytes.now)) }
-{
-    let mut at = at;
-    for i in 0..words.len() / 8 {
-        let eight = eight_bytes_from(bytes, at).cast::<u32>();
-        eight.copy_to_slice(&mut words[8 * i..]);
-        at += 64;
-    }
-}
-
-/// As `words_from`, four words at a time.
-#[inline(always)]
-fn fours_from(bytes: &[u8], at: usize, width: u32, words: &mut [u32])
-    requires width { (1 ≤ width) × (width ≤ 28) }
-    requires some { 4 ≤ length words.old }
-    requires few { length words.old ≤ 64 }
-    requires within { at + length words.old * width ≤ most_waiting }
-    requires room { buffer_len ≤ length bytes.now }
-    ensures fit { All (λ v. v < 2 ^ width) words.new }
-    ensures bits { flat_map (word width) words.new
-        ≡ take (length words.new * width) (drop at (bits_of bytes.now)) }
-{
-    // More of them are taken elsewhere, so that this takes no registers from its caller.
-    if words.len() > 8 {
-        return many_fours_from(bytes, at, width, words);
-    }
-    each_four_from(bytes, at, width, words);
-}
-
-/// As `fours_from`, and is never inlined.
-#[inline(never)]
-fn many_fours_from(bytes: &[u8], at: usize, width: u32, words: &mut [u32])
-    requires width { (1 ≤ width) × (width ≤ 28) }
-    requires some { 4 ≤ length words.old }
-    requires few { length words.old ≤ 64 }
-    requires within { at + length words.old * width ≤ most_waiting }
-    requires room { buffer_len ≤ length bytes.now }
-    ensures fit { All (λ v. v < 2 ^ width) words.new }
-    ensures bits { flat_map (word width) words.new
-        ≡ take (length words.new * width) (drop at (bits_of bytes.now)) }
-{
-    each_four_from(bytes, at, width, words);
-}
-
-/// As `fours_from`, and is always inlined.
-#[inline(always)]
-fn each_four_from(bytes: &[u8], at: usize, width: u32, words: &mut [u32])
-    requires width { (1 ≤ width) × (width ≤ 28) }
-    requires some { 4 ≤ length words.old }
-    requires few { length words.old ≤ 64 }
-    requires within { at + length words.old * width ≤ most_waiting }
-    requires room { buffer_len ≤ length bytes.now }
-    ensures fit { All (λ v. v < 2 ^ width) words.new }
-    ensures bits { flat_map (word width) words.new
-        ≡ take (length words.new * width) (drop at (bits_of bytes.now)) }
-{
-    let last = words.len() - 4;
-    for i in 0..(last + 3) / 4 {
-        let four = four_from(bytes, at + 4 * i * width as usize, width);
-        four.copy_to_slice(&mut words[4 * i..]);
-    }
-    // The last four may begin among those before them.
-    let four = four_from(bytes, at + last * width as usize, width);
-    four.copy_to_slice(&mut words[last..]);
-}
-
-/// As `words_from`, one word at a time.
-#[inline]
-fn each_from(bytes: &[u8], at: usize, width: u32, words: &mut [u32])
-    requires width { width ≤ 32 }
-    requires few { length words.old ≤ 64 }
-    requires within { at + length words.old * width ≤ most_waiting }
-    requires room { buffer_len ≤ length bytes.now }
-    ensures fit { All (λ v. v < 2 ^ width) words.new }
-    ensures bits { flat_map (word width) words.new
-        ≡ take (length words.new * width) (drop at (bits_of bytes.now)) }
-{
-    let mut at = at;
-    for i in 0..words.len() {
-        let number = number_from(bytes, at, width);
-        words[i] = number as u32;
-        at += width as usize;
-    }
-}
-
-/// The number of fundamental sequences taken from the front of a word, and the number of their bits.
-#[derive(Clone, Copy)]
-struct Parted {
-    taken: usize,
-    used: usize,
-}
-
-/// Takes fundamental sequences from the front of a word, and writes the numbers of their zeros to the first places
-/// of `zeros`.
-#[inline(always)]
-fn part_sequences(front: u64, zeros: &mut [u32]) -> Parted
-    ensures { AreParted front zeros.old zeros.new result.used result.taken }
-{
-    let mut ends = [0; 64];
-    let found = find_ends(front, zeros.len(), &mut ends);
-    // It is laid out for all places, of which the number may be known.
-    if found >= zeros.len() {
-        write_gaps(&ends, zeros);
-        return Parted {
-            taken: zeros.len(),
-            used: ends[zeros.len()] as usize,
-        };
-    }
-    write_gaps(&ends, &mut zeros[..found]);
-    Parted {
-        taken: found,
-        used: ends[found] as usize,
     }
 }

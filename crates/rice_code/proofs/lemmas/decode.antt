@@ -1,11 +1,11 @@
 -- The decoder.
-pub mod BlocksAhead
+pub mod SplitAhead
 pub mod CutSets
 pub mod DecoderLemmas
-pub mod FieldLemmas
-pub mod JoinedParts
+pub mod RowLemmas
+pub mod JoinedResiduals
 pub mod PlainBlocksRead
 pub mod ReadLemmas
 pub mod RestoredBlocks
-pub mod RowsAhead
-pub mod WholeBlocks
+pub mod SplitRows
+pub mod NoCompressionAhead

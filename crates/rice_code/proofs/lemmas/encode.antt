@@ -1,6 +1,6 @@
 -- The coder. `PushedCode` joins what a push does with the code; begin there.
 pub mod ChosenSets
-pub mod GatheredOnes
+pub mod GatheredSequences
 pub mod HeldSamples
 pub mod JoinedWords
 pub mod OpenSegments
@@ -8,9 +8,9 @@ pub mod OptionBits
 pub mod PartsWritten
 pub mod PendingRuns
 pub mod PushedCode
-pub mod SearchLemmas
+pub mod ChoiceLemmas
 pub mod SegmentSteps
 pub mod SeveralHeld
-pub mod ShortDigits
-pub mod ShortSequences
+pub mod ShortLowParts
+pub mod HighParts
 pub mod PushedSamples

@@ -8,7 +8,7 @@ pub mod Intervals
 pub mod NoShorterCode
 pub mod OneMeaning
 pub mod OwnBytes
-pub mod Parsing
+pub mod FormSearch
 pub mod Returned
 pub mod SentSets
 pub mod Witnesses

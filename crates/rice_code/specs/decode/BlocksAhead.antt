@@ -3,13 +3,13 @@ use Rattle.std.specs.Prelude.{◌≡◌, ◌⊎◌, ℕ, ◌+◌, ◌-◌, ◌*�
 use Rattle.rice_bits.specs.read.Reader.{Reader}
 use Rattle.rice_samples.specs.Parameters.{Parameters, value_at, value_count, values_at, width}
 use Rattle.rice_samples.specs.bytes.Spelling.{spellings}
-use Rattle.rice_samples.specs.predict.Near.{AreNearLevels}
+use Rattle.rice_samples.specs.predict.LevelsOfParts.{AreLevelsOfParts}
 use Rattle.rice_code.specs.Limits.{most_samples_of_bit}
 use Rattle.rice_code.specs.code.CodedDataSets.{CodedDataSet, bits_of_set, turns}
 use Rattle.rice_code.specs.code.Forms.{IsForm, RunIsSound, ResidualsAreSound, blocks_in}
 use Rattle.rice_code.specs.decode.Decoder.{Answers, GivesBlock, with_mark}
 use Rattle.rice_code.specs.decode.DecoderState.{DecoderState}
-use Rattle.rice_code.specs.declared.decode.fault.NextBlock.TheVariants.{Block}
+use Rattle.rice_code.specs.declared.decode.answer.NextBlock.TheVariants.{Block}
 
 -- Samples of `width` bytes that may be decoded in the lanes of vectors: of at most 16 bits.
 pub record HasWidth (s : Parameters) (width : ℕ) : Type 0 where
@@ -44,13 +44,13 @@ pub record PartsAhead (waiting : List Bool) (s : Parameters) (b before k from co
   pub begins : from < value_count s
   pub counts : (length highs ≡ count) × (length lows ≡ count)
   pub low : All (λ l. l < 2 ^ k) lows
-  pub whole : (levels : List ℕ) → AreNearLevels s from k highs lows levels → BlockAhead waiting s b (value_at s before) levels len
+  pub whole : (levels : List ℕ) → AreLevelsOfParts s from k highs lows levels → BlockAhead waiting s b (value_at s before) levels len
 
 -- The bytes begin with the spellings of the near levels that have residuals with these parts, `size` of them, of which `last` is the
 -- last.
-pub record SpellsNear (s : Parameters) (from k size : ℕ) (highs lows : List ℕ) (last : ℕ) (bytes : List ℕ) : Type 0 where
+pub record SpellsParts (s : Parameters) (from k size : ℕ) (highs lows : List ℕ) (last : ℕ) (bytes : List ℕ) : Type 0 where
   pub levels : List ℕ
-  pub near : AreNearLevels s from k highs lows levels
+  pub near : AreLevelsOfParts s from k highs lows levels
   pub last_is : last ≡ slice_index_or levels (size - 1) 0
   pub spelled : take (width s * size) bytes ≡ spellings s (values_at s (take size levels))
 

@@ -6,7 +6,7 @@ use Rattle.rice_samples.specs.Parameters.{Parameters, id_len, width as width_of}
 use Rattle.rice_samples.specs.bytes.Values.{ordered_bytes}
 use Rattle.rice_code.specs.decode.BlocksAhead.{GivesBytes}
 use Rattle.rice_code.specs.decode.DecoderState.{DecoderState}
-use Rattle.rice_code.specs.decode.Fields.{AreCounted}
+use Rattle.rice_code.specs.decode.Rows.{AreCounted}
 
 -- Samples are not predicted, and use all bits of 1, 2 or 4 bytes, and intervals are not padded.
 pub record IsPlain (s : Parameters) (width : ℕ) : Type 0 where

@@ -3,8 +3,8 @@ use Rattle.std.specs.Prelude.{ℕ, ◌+◌, ◌≤◌, ⊤}
 use Rattle.rice_samples.specs.Parameters.{Parameters, id_len}
 use Rattle.rice_code.specs.code.Blocks.{BlockData}
 use Rattle.rice_code.specs.code.CodedDataSets.{CodedDataSet, reference_len, NoCompression as no_compression, SecondExtension as second_extension, Split as split}
-use Rattle.rice_code.specs.declared.encode.search.Choice.{Choice}
-use Rattle.rice_code.specs.declared.encode.search.Choice.TheVariants.{NoCompression, SecondExtension, Split}
+use Rattle.rice_code.specs.declared.encode.choice.Choice.{Choice}
+use Rattle.rice_code.specs.declared.encode.choice.Choice.TheVariants.{NoCompression, SecondExtension, Split}
 
 abbrev pub chosen_set : Choice → BlockData → CodedDataSet
 chosen_set NoCompression c = no_compression c

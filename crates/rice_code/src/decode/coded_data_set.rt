@@ -1,6 +1,6 @@
 //! Reads one coded data set.
 ghost use Rattle.std.specs.Prelude.{◌≡◌, ◌-◌, ◌<◌, length, None, IfOk, IfErr};
-ghost use Rattle.rice_code.specs.decode.Fields.{HasRoom, AreCounted};
+ghost use Rattle.rice_code.specs.decode.Rows.{HasRoom, AreCounted};
 ghost use Rattle.rice_code.specs.decode.ReadSets.{LowEntropyRead, LowEntropyCut, SetRead, SetCut};
 
 use crate::decode::options::{
@@ -23,9 +23,10 @@ fn read_low_entropy<I: Intake>(
     requires room { HasRoom meter.old reader.old.taken }
     requires size { length residuals.old ≡ setting.now.block }
     requires codes { length codes.old ≡ 64 }
-    ensures ok { IfOk result (λ t.
-        LowEntropyRead reader.old reader.new meter.old meter.new setting.now block t residuals.new) }
-    ensures err { IfErr result (LowEntropyCut reader.old reader.new meter.old meter.new setting.now block) }
+    ensures ok { IfOk result (λ t. LowEntropyRead reader.old reader.new meter.old meter.new
+        setting.now block t residuals.new) }
+    ensures err { IfErr result
+        (LowEntropyCut reader.old reader.new meter.old meter.new setting.now block) }
     ensures steps { AreCounted meter.old meter.new reader.old.taken reader.new.taken }
 {
     let bit = match reader.take(1, meter) {
@@ -64,7 +65,8 @@ pub fn read_set<I: Intake>(
     requires highs { length highs.old ≡ 64 }
     ensures ok { IfOk result (λ t.
         SetRead reader.old reader.new meter.old meter.new setting.now block t residuals.new) }
-    ensures err { IfErr result (SetCut reader.old reader.new meter.old meter.new setting.now block) }
+    ensures err { IfErr result
+        (SetCut reader.old reader.new meter.old meter.new setting.now block) }
     ensures steps { AreCounted meter.old meter.new reader.old.taken reader.new.taken }
 {
     let width = setting.id_len();

@@ -7,20 +7,20 @@ ghost use Rattle.rice_bits.specs.Bits.{word};
 ghost use Rattle.rice_code.specs.Limits.{most_samples_of_bit};
 ghost use Rattle.rice_code.specs.code.Forms.{RunIsSound, blocks_in, zero_blocks};
 ghost use Rattle.rice_code.specs.decode.BlocksAhead.{GivesBytes, HasLanes};
-ghost use Rattle.rice_code.specs.decode.Fields.{AreCounted};
+ghost use Rattle.rice_code.specs.decode.Rows.{AreCounted};
 ghost use Rattle.rice_code.specs.decode.PlainBlocks.{GivesRow, IsPlain, PlainRow};
 ghost use Rattle.rice_code.specs.decode.Decoder.{Skips, answer_to};
 ghost use Rattle.rice_code.specs.decode.DecoderState.{next_block_place, place_after};
 ghost use Rattle.rice_code.specs.code.Layout.{padding};
 ghost use Rattle.rice_code.specs.code.CodedDataSets.{run_with_zeros};
 
-use crate::decode::block_ahead::{spell_ahead, split_ahead, take_ahead};
+use crate::decode::answer::{CodeFault, NextBlock};
 use crate::decode::coded_data_set::read_set;
-use crate::decode::fault::{CodeFault, NextBlock};
+use crate::decode::no_compression_ahead::{is_uncompressed_ahead, spell_uncompressed_ahead};
 use crate::decode::options::SetSummary;
 use crate::decode::plain_blocks::{last_of_plain, plain_len, spell_plain_row};
 use crate::decode::restoring::{restore_block, restore_zeros};
-use crate::decode::whole_blocks::{is_whole_ahead, spell_whole_ahead};
+use crate::decode::split_ahead::{spell_ahead, split_ahead, take_ahead};
 use crate::sizes::known_or;
 use arrayvec::ArrayVec;
 use rice_bits::{BitFault, BitReader, Intake, Meter};
@@ -163,7 +163,7 @@ impl Model for Decoder {
 impl Decoder {
     ghost use Rattle.rice_code.specs.decode.DecoderState.{IsDecoderState};
     ghost use Rattle.rice_code.specs.decode.Decoder.{Answers, GivesFromRun, RepeatsBlocks, with_mark};
-    ghost use Rattle.rice_code.specs.declared.decode.fault.NextBlock.TheVariants.{Block};
+    ghost use Rattle.rice_code.specs.declared.decode.answer.NextBlock.TheVariants.{Block};
 
     /// Returns a decoder at the beginning of a code.
     pub fn new(setting: Setting) -> Self
@@ -187,7 +187,13 @@ impl Decoder {
     pub fn at(setting: Setting, block: u32, before: i64, run: u32) -> Self
         requires { IsDecoderState setting block before run None }
         ensures { result
-            ≡ record { setting = setting; block = block; before = before; run = run; stopped = None } }
+            ≡ record {
+              setting = setting;
+              block = block;
+              before = before;
+              run = run;
+              stopped = None;
+            } }
     {
         let _bits = setting.bits();
         let level = setting.level(before) as u32;
@@ -204,7 +210,8 @@ impl Decoder {
     /// Returns the place of the next block in its interval.
     pub fn block(&self) -> u32
         ensures place { result ≡ self.now.block }
-        ensures state { IsDecoderState self.now.setting self.now.block self.now.before self.now.run self.now.stopped }
+        ensures state { IsDecoderState self.now.setting self.now.block self.now.before self.now.run
+            self.now.stopped }
     {
         let _interval = self.setting.interval();
         self.block as u32
@@ -295,7 +302,8 @@ impl Decoder {
         ensures steps { AreCounted meter.old meter.new reader.old.taken reader.new.taken }
         // The samples that are given and those that then wait are bounded by the bits.
         ensures waiting { length samples.new.items + self.new.run * self.new.setting.block
-            ≤ self.old.run * self.old.setting.block + most_samples_of_bit * (reader.new.taken - reader.old.taken) }
+            ≤ self.old.run * self.old.setting.block
+            + most_samples_of_bit * (reader.new.taken - reader.old.taken) }
     {
         let mut levels = ArrayVec::new();
         let answer = self.next_levels(reader, meter, &mut levels);
@@ -344,7 +352,7 @@ impl Decoder {
             }
             return self.read_in_lanes::<I, SIZE, WIDTH, true>(k, reader, meter, bytes);
         }
-        if is_whole_ahead::<I, SIZE, WIDTH>(&self.setting, reader) {
+        if is_uncompressed_ahead::<I, SIZE, WIDTH>(&self.setting, reader) {
             self.read_whole::<I, SIZE>(reader, meter, bytes);
             return true;
         }
@@ -415,7 +423,8 @@ impl Decoder {
         requires going { reader.old.refusal ≡ None }
         requires room { meter.old + 2 * (most_bits_read - reader.old.taken) + 64 < step_limit }
         requires bytes { (32 ≤ length bytes.old) × (SIZE ≤ length bytes.old) }
-        ensures gives { GivesBytes reader.old reader.new meter.old meter.new self.old self.new bytes.new }
+        ensures gives { GivesBytes reader.old reader.new meter.old meter.new self.old self.new
+            bytes.new }
         ensures going { reader.new.refusal ≡ None }
         ensures stopped { self.new.stopped ≡ None }
         ensures setting { self.new.setting ≡ self.old.setting }
@@ -423,7 +432,13 @@ impl Decoder {
     {
         let _taken = reader.taken();
         let setting = &self.setting;
-        let spelled = spell_whole_ahead::<I, SIZE>(setting, self.block, self.before, reader, bytes);
+        let spelled = spell_uncompressed_ahead::<I, SIZE>(
+            setting,
+            self.block,
+            self.before,
+            reader,
+            bytes,
+        );
         take_ahead(reader, spelled.len, meter);
         let _answer = self.go_on(spelled.last, 0, reader, meter);
     }
@@ -464,7 +479,8 @@ impl Decoder {
         requires stopped { self.old.stopped ≡ None }
         requires going { reader.old.refusal ≡ None }
         requires room { meter.old + 2 * (most_bits_read - reader.old.taken) + 64 < step_limit }
-        ensures gives { GivesRow count reader.old reader.new meter.old meter.new self.old self.new bytes.now }
+        ensures gives { GivesRow count reader.old reader.new meter.old meter.new self.old self.new
+            bytes.now }
         // It may be called again with this reader.
         ensures going { reader.new.refusal ≡ None }
         ensures stopped { self.new.stopped ≡ None }
@@ -499,8 +515,8 @@ impl Decoder {
         ensures stopped { IfSome self.old.stopped (λ a. (result ≡ a) × (levels.new.items ≡ []) ×
             (self.new ≡ self.old) × (reader.new ≡ reader.old) × (meter.new ≡ meter.old)) }
         // Inside a run no bit is taken.
-        ensures in_run { self.old.stopped ≡ None → 0 < self.old.run →
-            (result ≡ Ok Block) × GivesFromRun self.old self.new (values_at self.old.setting levels.new.items) ×
+        ensures in_run { self.old.stopped ≡ None → 0 < self.old.run → (result ≡ Ok Block) ×
+            GivesFromRun self.old self.new (values_at self.old.setting levels.new.items) ×
             (reader.new ≡ reader.old) × (meter.new ≡ meter.old) }
         ensures reads { self.old.stopped ≡ None → self.old.run ≡ 0 →
             Answers (with_mark reader.old) reader.new meter.old meter.new
@@ -514,7 +530,8 @@ impl Decoder {
         ensures steps { AreCounted meter.old meter.new reader.old.taken reader.new.taken }
         // The samples that are given and those that then wait are bounded by the bits.
         ensures waiting { length levels.new.items + self.new.run * self.new.setting.block
-            ≤ self.old.run * self.old.setting.block + most_samples_of_bit * (reader.new.taken - reader.old.taken) }
+            ≤ self.old.run * self.old.setting.block
+            + most_samples_of_bit * (reader.new.taken - reader.old.taken) }
     {
         let _taken = reader.taken();
         if let Some(answer) = self.stopped {

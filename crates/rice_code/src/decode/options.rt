@@ -6,12 +6,13 @@ ghost use Rattle.rice_samples.specs.Parameters.{k_max};
 ghost use Rattle.rice_samples.specs.Places.{is_reference};
 ghost use Rattle.rice_code.specs.code.CodedDataSets.{NoCompression, SecondExtension, Split, reference_bits, run_tail};
 ghost use Rattle.rice_code.specs.code.Forms.{IsReference};
-ghost use Rattle.rice_code.specs.decode.Fields.{HasRoom, AreCounted};
+ghost use Rattle.rice_code.specs.decode.Rows.{HasRoom, AreCounted};
 ghost use Rattle.rice_code.specs.decode.ReadSets.{BlockRead, BlockCut, PartsRead, PartsCut, reference_place};
 
-use crate::decode::fields::{read_pairs, read_words};
-use crate::decode::parts::read_parts;
-use crate::decode::residuals::{are_sound, joined_are_below};
+use crate::decode::high_and_low_parts::read_parts;
+use crate::decode::pairs::read_pairs;
+use crate::decode::rows::read_words;
+use crate::decode::sound_residuals::{are_sound, joined_are_below};
 use rice_bits::{BitFault, BitReader, Intake, Meter};
 use rice_samples::Setting;
 

@@ -65,7 +65,8 @@ pub fn is_plain_ahead<I: Intake, const WIDTH: usize>(
 ) -> bool
     requires plain { IsPlain setting.now WIDTH }
     requires skip { skip < 2 ^ 32 }
-    ensures there { result ≡ true → skip + plain_bits setting.now WIDTH + 128 ≤ length reader.now.waiting }
+    ensures there { result ≡ true → skip + plain_bits setting.now WIDTH + 128
+        ≤ length reader.now.waiting }
     ensures id { result ≡ true → word (id_len setting.now) (2 ^ id_len setting.now - 1)
         ≡ take (id_len setting.now) (drop skip reader.now.waiting) }
 {
@@ -89,7 +90,8 @@ pub fn spell_plain<I: Intake, const WIDTH: usize>(
     requires skip { skip < 2 ^ 32 }
     requires there { skip + plain_bits setting.now WIDTH + 128 ≤ length reader.now.waiting }
     requires room { WIDTH * setting.now.block + 15 ≤ length bytes.old }
-    ensures { WordsAhead (drop skip reader.now.waiting) setting.now WIDTH (WIDTH * setting.now.block) bytes.new }
+    ensures { WordsAhead (drop skip reader.now.waiting) setting.now WIDTH
+        (WIDTH * setting.now.block) bytes.new }
 {
     let count = block_bytes::<WIDTH>(setting);
     let head = known_id_len::<WIDTH>(setting);
@@ -111,8 +113,10 @@ pub fn last_of_plain<I: Intake, const WIDTH: usize>(
     requires skip { skip < 2 ^ 32 }
     requires there { skip + plain_bits setting.now WIDTH ≤ length reader.now.waiting }
     ensures below { result < value_count setting.now }
-    ensures last { word (8 * WIDTH) (pattern setting.now (value_at setting.now result)) ≡ take (8 * WIDTH)
-        (drop (skip + (id_len setting.now + 8 * (WIDTH * setting.now.block - WIDTH))) reader.now.waiting) }
+    ensures last { word (8 * WIDTH) (pattern setting.now (value_at setting.now result))
+        ≡ take (8 * WIDTH)
+        (drop (skip + (id_len setting.now + 8 * (WIDTH * setting.now.block - WIDTH)))
+        reader.now.waiting) }
 {
     let before = known_id_len::<WIDTH>(setting) + 8 * (block_bytes::<WIDTH>(setting) - WIDTH);
     level_of_pattern(

@@ -46,8 +46,8 @@ fn write_levels(
     requires len { length levels.old ≡ setting.now.block }
     ensures len { length levels.new ≡ setting.now.block }
     ensures legal { All (λ l. l < value_count setting.now) levels.new }
-    ensures contents { block_data setting.now block (value_at setting.now before) (values_at setting.now levels.new)
-        ≡ block_with reference residuals.now }
+    ensures contents { block_data setting.now block (value_at setting.now before)
+        (values_at setting.now levels.new) ≡ block_with reference residuals.now }
 {
     if !setting.preprocess() {
         levels_of_patterns(setting, residuals, levels);
@@ -95,9 +95,10 @@ pub fn restore_block(
     requires fit { AllFit setting.now (block_with reference residuals.now) }
     ensures len { length levels.new.items ≡ setting.now.block }
     ensures legal { All (λ l. l < value_count setting.now) levels.new.items }
-    ensures contents { block_data setting.now block (value_at setting.now before) (values_at setting.now levels.new.items)
-        ≡ block_with reference residuals.now }
-    ensures last { value_at setting.now result ≡ last_of (value_at setting.now before) (values_at setting.now levels.new.items) }
+    ensures contents { block_data setting.now block (value_at setting.now before)
+        (values_at setting.now levels.new.items) ≡ block_with reference residuals.now }
+    ensures last { value_at setting.now result
+        ≡ last_of (value_at setting.now before) (values_at setting.now levels.new.items) }
     ensures below { result < value_count setting.now }
 {
     let _block = setting.block();
@@ -121,8 +122,10 @@ fn level_of_zero(setting: &Setting, reference: Option<u32>, before: u32) -> u32
     requires reference { IfSome reference (λ v. v < value_count setting.now) }
     requires preprocess { is_some reference ≡ true → setting.now.preprocess ≡ true }
     ensures below { result < value_count setting.now }
-    ensures residual { residual_at setting.now reference true (value_at setting.now before) (value_at setting.now result) ≡ 0 }
-    ensures reference { IfSome reference (λ v. pattern setting.now (value_at setting.now result) ≡ v) }
+    ensures residual { residual_at setting.now reference true (value_at setting.now before)
+        (value_at setting.now result) ≡ 0 }
+    ensures reference { IfSome reference
+        (λ v. pattern setting.now (value_at setting.now result) ≡ v) }
 {
     if !setting.preprocess() {
         return level_of_pattern(setting, 0);
@@ -157,9 +160,10 @@ pub fn restore_zeros(
     requires reference { IsReference setting.now block reference }
     ensures len { length levels.new.items ≡ setting.now.block }
     ensures legal { All (λ l. l < value_count setting.now) levels.new.items }
-    ensures contents { block_data setting.now block (value_at setting.now before) (values_at setting.now levels.new.items)
-        ≡ zero_block setting.now reference }
-    ensures last { value_at setting.now result ≡ last_of (value_at setting.now before) (values_at setting.now levels.new.items) }
+    ensures contents { block_data setting.now block (value_at setting.now before)
+        (values_at setting.now levels.new.items) ≡ zero_block setting.now reference }
+    ensures last { value_at setting.now result
+        ≡ last_of (value_at setting.now before) (values_at setting.now levels.new.items) }
     ensures below { result < value_count setting.now }
 {
     let first = level_of_zero(setting, reference, before);

@@ -11,10 +11,10 @@ ghost use Rattle.rice_code.specs.encode.HeldBlocks.{held_blocks, reference_at, p
 ghost use Rattle.rice_code.specs.code.SoundBlocks.{block_with, IsSoundData, AreSoundBlocks};
 
 use crate::encode::SegmentSink;
+use crate::encode::choice::{Choice, choose};
 use crate::encode::held_block::HeldBlock;
 use crate::encode::options::{put_no_compression, put_run, put_second_extension, put_split};
-use crate::encode::prepared::PreparedSetting;
-use crate::encode::search::{Choice, choose};
+use crate::encode::prepared_setting::PreparedSetting;
 use crate::sizes::known_or;
 use rice_bits::Meter;
 use rice_samples::{Block, Residuals};
@@ -33,10 +33,13 @@ fn code_block<const SIZE: usize, const REFERENCE: bool>(
     meter: &mut Meter,
 )
     requires size { 0 < SIZE → SIZE ≡ length residuals }
-    requires sound { IsSoundData setting.now (block_with (if REFERENCE then Some word else None) residuals) }
-    requires room { HasRoomForShortest setting.now (block_with (if REFERENCE then Some word else None) residuals)
+    requires sound { IsSoundData setting.now
+        (block_with (if REFERENCE then Some word else None) residuals) }
+    requires room { HasRoomForShortest setting.now
+        (block_with (if REFERENCE then Some word else None) residuals)
         sink.old meter.old }
-    ensures { PutsShortest setting.now (block_with (if REFERENCE then Some word else None) residuals.entry)
+    ensures { PutsShortest setting.now
+        (block_with (if REFERENCE then Some word else None) residuals.entry)
         sink.old sink.new meter.old meter.new }
 {
     // What a copy and a count of its own say stays in registers from step to step.
@@ -93,7 +96,8 @@ fn put_before(
 )
     requires few { run ≤ 64 }
     requires fits { IfSome reference (λ v. v < value_count setting.now) }
-    requires room { HasRoomFor (length (pending_bits setting.now false (reference_at reference first) run))
+    requires room { HasRoomFor
+        (length (pending_bits setting.now false (reference_at reference first) run))
         (length (pending_bits setting.now false (reference_at reference first) run))
         (length sink.old) meter.old }
     ensures bits { sink.new ≡ sink.old ++
@@ -136,8 +140,8 @@ fn code_next<const SIZE: usize>(
     ensures joins { is_zero_block block.entry ≡ true →
         JoinsRun setting.now run result sink.old sink.new meter.old meter.new }
     ensures ends { is_zero_block block.entry ≡ false →
-        EndsRun setting.now (pending_bits setting.now false (reference_at reference first) run) block.entry result
-        sink.old sink.new meter.old meter.new }
+        EndsRun setting.now (pending_bits setting.now false (reference_at reference first) run)
+        block.entry result sink.old sink.new meter.old meter.new }
 {
     if block.residuals().is_zero(meter) {
         return run + 1;
@@ -176,8 +180,10 @@ pub fn code_blocks<const N: usize>(
     requires few { count ≤ blocks_left setting.now start }
     requires len { length segment.now ≡ setting.now.block * count }
     requires fits { IfSome reference (λ v. v < value_count setting.now) }
-    requires sound { AreSoundBlocks setting.now start (held_blocks setting.now reference count segment.now) }
-    requires room { HasRoomForBlocks setting.now start (held_blocks setting.now reference count segment.now)
+    requires sound { AreSoundBlocks setting.now start
+        (held_blocks setting.now reference count segment.now) }
+    requires room { HasRoomForBlocks setting.now start
+        (held_blocks setting.now reference count segment.now)
         (count * (setting.now.block * (k_max setting.now + 5))) sink.old meter.old }
     ensures { PutsBlocks setting.now start (held_blocks setting.now reference count segment.now)
         sink.old sink.new meter.old meter.new }
@@ -211,8 +217,10 @@ fn code_each<const SIZE: usize, const N: usize>(
     requires few { count ≤ blocks_left setting.now start }
     requires len { length segment.now ≡ setting.now.block * count }
     requires fits { IfSome reference (λ v. v < value_count setting.now) }
-    requires sound { AreSoundBlocks setting.now start (held_blocks setting.now reference count segment.now) }
-    requires room { HasRoomForBlocks setting.now start (held_blocks setting.now reference count segment.now)
+    requires sound { AreSoundBlocks setting.now start
+        (held_blocks setting.now reference count segment.now) }
+    requires room { HasRoomForBlocks setting.now start
+        (held_blocks setting.now reference count segment.now)
         (count * (setting.now.block * (k_max setting.now + 5))) sink.old meter.old }
     ensures { PutsBlocks setting.now start (held_blocks setting.now reference count segment.now)
         sink.old sink.new meter.old meter.new }

@@ -148,7 +148,8 @@ impl<const N: usize> SizedCoder<N> {
         ensures taken { result.samples ≤ length levels.now }
         ensures some { 0 < length levels.now → 0 < result.samples }
         ensures pushes { PushesSamples self.old self.new
-            (take result.samples (values_at self.old.setting levels.now)) sink.old sink.new result.bits meter.old meter.new }
+            (take result.samples (values_at self.old.setting levels.now))
+            sink.old sink.new result.bits meter.old meter.new }
         ensures before_last { (m : ℕ) → m < result.samples →
             CompletesNone self.old (take m (values_at self.old.setting levels.now)) }
         ensures stops { result.samples < length levels.now →

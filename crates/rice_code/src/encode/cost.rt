@@ -6,10 +6,10 @@ ghost use Rattle.rice_samples.specs.Parameters.{k_max};
 ghost use Rattle.rice_code.specs.code.CodedDataSets.{NoCompression, SecondExtension, Split, sent_residuals, cost};
 ghost use Rattle.rice_code.specs.code.SoundBlocks.{IsSoundData};
 ghost use Rattle.rice_code.specs.encode.Chosen.{head_len};
-ghost use Rattle.rice_code.specs.encode.Parts.{pairs_len};
+ghost use Rattle.rice_code.specs.encode.SentParts.{pairs_len};
 
 use crate::encode::held_block::HeldBlock;
-use crate::encode::prepared::PreparedSetting;
+use crate::encode::prepared_setting::PreparedSetting;
 use rice_bits::Meter;
 use rice_samples::Block;
 

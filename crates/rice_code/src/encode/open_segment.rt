@@ -12,7 +12,7 @@ ghost use Rattle.rice_code.specs.encode.OpenSegment.{IsOpen, IsWhole, HoldsAnySe
 
 use crate::encode::SegmentSink;
 use crate::encode::blocks::code_blocks;
-use crate::encode::prepared::PreparedSetting;
+use crate::encode::prepared_setting::PreparedSetting;
 use rice_bits::Meter;
 use rice_samples::{Residuals, Setting, pattern, pattern_at, residual};
 use std::marker::Model;
@@ -313,7 +313,9 @@ fn next_start(setting: &PreparedSetting, start: u32) -> u32
 fn next_residual(setting: &PreparedSetting, first: bool, previous: i64, x: i64) -> u32
     requires before { IsSample setting.now previous }
     requires sample { IsSample setting.now x }
-    ensures { result ≡ (if setting.now.preprocess then (if first then 0 else rank setting.now previous x) else pattern setting.now x) }
+    ensures { result ≡ (if setting.now.preprocess
+        then (if first then 0 else rank setting.now previous x)
+        else pattern setting.now x) }
 {
     if !setting.preprocess() {
         return pattern(setting.plain(), x);
@@ -329,7 +331,9 @@ fn next_residual(setting: &PreparedSetting, first: bool, previous: i64, x: i64) 
 #[inline]
 fn note_reference(setting: &PreparedSetting, first: bool, reference: &mut Option<u32>, x: i64)
     requires { IsSample setting.now x }
-    ensures { reference.new ≡ (if setting.now.preprocess && first then Some (pattern setting.now x) else reference.old) }
+    ensures { reference.new ≡ (if setting.now.preprocess && first
+        then Some (pattern setting.now x)
+        else reference.old) }
 {
     if setting.preprocess() && first {
         *reference = Some(pattern(setting.plain(), x));
@@ -346,8 +350,8 @@ fn push_later<const N: usize>(
     requires before { previous < value_count setting.now }
     requires legal { All (λ l. l < value_count setting.now) levels.now }
     requires room { length segment.old + length levels.now ≤ N }
-    ensures { segment.new ≡ segment.old ++
-        later_residuals setting.now (value_at setting.now previous) (values_at setting.now levels.now) }
+    ensures { segment.new ≡ segment.old ++ later_residuals setting.now
+        (value_at setting.now previous) (values_at setting.now levels.now) }
 {
     if setting.preprocess() {
         segment.push_residuals(setting.plain(), previous, levels);
@@ -358,8 +362,10 @@ fn push_later<const N: usize>(
 
 /// Fills the last byte with zeros if an interval ends after `blocks` blocks, and intervals are padded.
 fn pad_interval(setting: &PreparedSetting, blocks: usize, sink: &mut SegmentSink)
-    ensures { sink.new ≡ sink.old ++
-        replicate (if setting.now.pad && blocks == setting.now.interval then bits_to_byte (length sink.old) else 0) false }
+    ensures { sink.new ≡ sink.old ++ replicate
+        (if setting.now.pad && blocks == setting.now.interval
+        then bits_to_byte (length sink.old) else 0)
+        false }
 {
     if setting.pads() && blocks == setting.interval() as usize {
         sink.pad();

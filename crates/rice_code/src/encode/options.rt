@@ -1,11 +1,9 @@
 //! Writing coded data sets: a block by each option, and runs of zero blocks.
-ghost use Rattle.std.specs.Prelude.{◌≡◌, ◌+◌, ◌-◌, ◌*◌, ◌%◌, ◌^◌, ◌<◌, ◌≤◌, ◌++◌, length, drop, flat_map, IfSome};
-ghost use Rattle.rice_bits.specs.Bits.{word, fundamental_sequence};
+ghost use Rattle.std.specs.Prelude.{◌≡◌, ◌+◌, ◌-◌, ◌*◌, ◌^◌, ◌<◌, ◌≤◌, ◌++◌, length, drop, IfSome};
+ghost use Rattle.rice_bits.specs.Bits.{word};
 ghost use Rattle.rice_samples.specs.Parameters.{k_max, value_count};
-ghost use Rattle.rice_samples.specs.blocks.Pairs.{pair_code, pair_codes};
 ghost use Rattle.rice_code.specs.code.CodedDataSets.{NoCompression, SecondExtension, Split, cost as cost_of, sent_residuals, reference_bits, reference_len};
-ghost use Rattle.rice_code.specs.encode.BitBuffer.{sink_bits, HasRoomFor, AddsFields, HasRoomForSet, PutsSet};
-ghost use Rattle.rice_code.specs.encode.Parts.{pairs_len};
+ghost use Rattle.rice_code.specs.encode.BitBuffer.{HasRoomFor, HasRoomForSet, PutsSet};
 ghost use Rattle.rice_code.specs.code.Runs.{run_of_blocks};
 ghost use Rattle.rice_code.specs.encode.HeldBlocks.{zeros_of_run};
 ghost use Rattle.rice_code.specs.code.SoundBlocks.{IsSoundData};
@@ -13,12 +11,12 @@ ghost use Rattle.rice_code.specs.encode.Chosen.{head_len};
 
 use crate::encode::SegmentSink;
 use crate::encode::bit_buffer::BitBuffer;
-use crate::encode::fields::put_low;
 use crate::encode::held_block::HeldBlock;
-use crate::encode::ones::{no_sequences, with_sequence};
-use crate::encode::prepared::PreparedSetting;
-use crate::encode::short_digits::put_short_low;
-use crate::encode::short_sequences::put_high;
+use crate::encode::high_parts::put_high;
+use crate::encode::low_parts::put_low;
+use crate::encode::pairs::put_pairs;
+use crate::encode::prepared_setting::PreparedSetting;
+use crate::encode::short_low_parts::put_short_low;
 use rice_bits::Meter;
 use rice_samples::Block;
 
@@ -53,93 +51,6 @@ fn begin(
     fields
 }
 
-/// Returns the number of the codeword of a pair, where the codeword fits a sink.
-#[inline]
-fn codeword_of(a: u32, b: u32) -> u32
-    requires { pair_code a b ≤ sink_bits }
-    ensures { result ≡ pair_code a b }
-{
-    let sum = a as u64 + b as u64;
-    (sum * (sum + 1) / 2) as u32 + b
-}
-
-/// Adds the codewords of the pairs, which are `total` bits.
-#[inline(always)]
-fn put_pairs(
-    block: &Block<'_>,
-    total: u64,
-    fields: &mut BitBuffer,
-    sink: &mut SegmentSink,
-    meter: &mut Meter,
-)
-    requires even { length block.now % 2 ≡ 0 }
-    requires total { total ≡ pairs_len block.now }
-    requires room { HasRoomFor (pairs_len block.now) (length block.now + pairs_len block.now)
-        (length sink.old + length fields.old) (meter.old + length fields.old) }
-    ensures { AddsFields (flat_map fundamental_sequence (pair_codes block.now))
-        (pairs_len block.now) (length block.now + pairs_len block.now)
-        sink.old fields.old sink.new fields.new meter.old meter.new }
-{
-    if total <= 56 {
-        put_short_pairs(block, total, fields, sink, meter);
-        return;
-    }
-    let held = std::mem::replace(fields, BitBuffer::new());
-    let mut steps = Meter::new();
-    *fields = put_long_pairs(block.sized(block.len()), held, sink, &mut steps);
-    meter.tick(steps.steps());
-}
-
-/// Adds the codewords of the pairs, where one put takes their `total` bits.
-#[inline(always)]
-fn put_short_pairs(
-    block: &Block<'_>,
-    total: u64,
-    fields: &mut BitBuffer,
-    sink: &mut SegmentSink,
-    meter: &mut Meter,
-)
-    requires even { length block.now % 2 ≡ 0 }
-    requires total { total ≡ pairs_len block.now }
-    requires short { total ≤ 56 }
-    requires room { HasRoomFor (pairs_len block.now) (length block.now + pairs_len block.now)
-        (length sink.old + length fields.old) (meter.old + length fields.old) }
-    ensures { AddsFields (flat_map fundamental_sequence (pair_codes block.now))
-        (pairs_len block.now) (length block.now + pairs_len block.now)
-        sink.old fields.old sink.new fields.new meter.old meter.new }
-{
-    let mut row = no_sequences(total);
-    for i in 0..block.len() / 2 {
-        let a = block.at(2 * i, meter);
-        let b = block.at(2 * i + 1, meter);
-        row = with_sequence(row, codeword_of(a, b));
-    }
-    fields.add(row.value, total as u32, sink, meter);
-}
-
-/// Adds the codewords of the pairs one by one, and returns the buffer.
-#[inline(never)]
-fn put_long_pairs(
-    block: Block<'_>,
-    mut fields: BitBuffer,
-    sink: &mut SegmentSink,
-    meter: &mut Meter,
-) -> BitBuffer
-    requires even { length block % 2 ≡ 0 }
-    requires room { HasRoomFor (pairs_len block) (length block + pairs_len block)
-        (length sink.old + length fields) (meter.old + length fields) }
-    ensures { AddsFields (flat_map fundamental_sequence (pair_codes block.entry))
-        (pairs_len block.entry) (length block.entry + pairs_len block.entry)
-        sink.old fields sink.new result meter.old meter.new }
-{
-    for i in 0..block.len() / 2 {
-        let a = block.at(2 * i, meter);
-        let b = block.at(2 * i + 1, meter);
-        fields.add_fs(codeword_of(a, b), sink, meter);
-    }
-    fields
-}
-
 /// Returns the number of residuals that are not sent: that at the reference place, where there is one.
 #[inline(always)]
 fn first_coded(block: &HeldBlock<'_>) -> usize
@@ -161,9 +72,10 @@ pub fn put_no_compression(
     meter: &mut Meter,
 )
     requires sound { IsSoundData setting.now block.now }
-    requires room { HasRoomForSet setting.now (NoCompression block.now) (2 * setting.now.block) sink.old meter.old }
-    ensures { PutsSet setting.now (NoCompression block.now) (setting.now.block - 1) (2 * setting.now.block)
-        sink.old sink.new meter.old meter.new }
+    requires room { HasRoomForSet setting.now (NoCompression block.now) (2 * setting.now.block)
+        sink.old meter.old }
+    ensures { PutsSet setting.now (NoCompression block.now) (setting.now.block - 1)
+        (2 * setting.now.block) sink.old sink.new meter.old meter.new }
 {
     let residuals = block.residuals();
     let id = setting.id_len();
@@ -187,7 +99,8 @@ pub fn put_second_extension(
     requires sound { IsSoundData setting.now block.now }
     requires cost { cost + head_len setting.now block.now ≡
         cost_of setting.now (SecondExtension block.now) }
-    requires room { HasRoomForSet setting.now (SecondExtension block.now) (2 * setting.now.block) sink.old meter.old }
+    requires room { HasRoomForSet setting.now (SecondExtension block.now) (2 * setting.now.block)
+        sink.old meter.old }
     ensures { PutsSet setting.now (SecondExtension block.now) setting.now.block setting.now.block
         sink.old sink.new meter.old meter.new }
 {
@@ -211,10 +124,12 @@ pub fn put_split(
 )
     requires sound { IsSoundData setting.now block.now }
     requires split { k ≤ k_max setting.now }
-    requires cost { cost + head_len setting.now block.now ≡ cost_of setting.now (Split k block.now) }
-    requires room { HasRoomForSet setting.now (Split k block.now) (2 * setting.now.block) sink.old meter.old }
-    ensures { PutsSet setting.now (Split k block.now) (setting.now.block - 1) (2 * setting.now.block)
-        sink.old sink.new meter.old meter.new }
+    requires cost { cost + head_len setting.now block.now
+        ≡ cost_of setting.now (Split k block.now) }
+    requires room { HasRoomForSet setting.now (Split k block.now) (2 * setting.now.block) sink.old
+        meter.old }
+    ensures { PutsSet setting.now (Split k block.now) (setting.now.block - 1)
+        (2 * setting.now.block) sink.old sink.new meter.old meter.new }
 {
     let residuals = block.residuals();
     let id = setting.id_len();
@@ -250,8 +165,10 @@ pub fn put_run(
     requires blocks { 1 ≤ z }
     requires few { z ≤ 64 }
     requires fits { IfSome reference (λ v. v < value_count setting.now) }
-    requires room { HasRoomForSet setting.now (run_of_blocks to_end reference z) 0 sink.old meter.old }
-    ensures { PutsSet setting.now (run_of_blocks to_end reference z) 0 0 sink.old sink.new meter.old meter.new }
+    requires room { HasRoomForSet setting.now (run_of_blocks to_end reference z) 0 sink.old
+        meter.old }
+    ensures { PutsSet setting.now (run_of_blocks to_end reference z) 0 0 sink.old sink.new meter.old
+        meter.new }
 {
     let id = setting.id_len();
     let mut fields = begin(setting, 0, id + 1, reference, sink, meter);

@@ -1,7 +1,7 @@
 -- Settings: the values of samples, and the places of blocks.
-pub mod Counts
+pub mod ValueCounts
 pub mod CutLemmas
-pub mod Gaps
+pub mod ValuesAboveLeast
 pub mod Levels
 pub mod PlaceLemmas
 pub mod ValuesAt

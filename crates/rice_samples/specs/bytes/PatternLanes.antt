@@ -3,6 +3,11 @@ use Rattle.std.specs.Prelude.{◌≡◌, ℕ, ◌*◌, ◌^◌, ◌<◌, Bool, L
 use Rattle.rice_bits.specs.Bits.{word}
 use Rattle.rice_samples.specs.bytes.Values.{ordered_bytes}
 
+-- the bytes of each pair in the other order
+abbrev pub swapped : List ℕ → List ℕ
+swapped (a ∷ b ∷ xs) = b ∷ a ∷ swapped xs
+swapped _ = []
+
 -- the bytes of each four in the opposite order
 abbrev pub turned_in_fours : List ℕ → List ℕ
 turned_in_fours (a ∷ b ∷ c ∷ d ∷ xs) = d ∷ c ∷ b ∷ a ∷ turned_in_fours xs

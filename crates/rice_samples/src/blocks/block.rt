@@ -8,7 +8,7 @@ ghost use Rattle.rice_samples.specs.Parameters.{IsBlockSize};
 
 use crate::blocks::codewords::{pair_sum, pair_sum_in_32_bits};
 use crate::blocks::lanes::{all_of, all_zero, sum_shifted};
-use crate::blocks::minimum::{first_small_stop, first_stop};
+use crate::blocks::stops::{first_small_stop, first_stop};
 use rice_bits::{BitSink, Meter};
 use std::marker::Model;
 
@@ -199,10 +199,12 @@ impl Block<'_> {
         requires width { width ≤ 32 }
         requires from { from ≤ length self.now }
         requires room { length sink.old + width * (length self.now - from) ≤ 8 * N }
-        requires meter { meter.old + (length self.now - from) + width * (length self.now - from) < step_limit }
+        requires meter { meter.old + (length self.now - from) + width * (length self.now - from)
+            < step_limit }
         ensures bits { sink.new ≡ sink.old ++ flat_map (word width) (drop from self.now) }
         ensures len { length sink.new ≡ length sink.old + width * (length self.now - from) }
-        ensures steps { meter.new ≡ meter.old + (length self.now - from) + width * (length self.now - from) }
+        ensures steps { meter.new ≡ meter.old + (length self.now - from)
+            + width * (length self.now - from) }
     {
         let items = self.items;
         let coded = &items[from..];

@@ -5,7 +5,7 @@ ghost use Rattle.rice_samples.specs.Parameters.{value_count, values_at};
 ghost use Rattle.rice_samples.specs.predict.Residuals.{pattern, ranks_below};
 ghost use Rattle.rice_samples.specs.Parameters.{IsBlockSize};
 
-use crate::predict::residuals::{write_patterns, write_residuals};
+use crate::predict::residuals::rows::{write_patterns, write_residuals};
 use crate::{Block, Setting};
 use std::marker::Model;
 
@@ -116,7 +116,8 @@ impl<const N: usize> Residuals<N> {
     pub fn push_patterns(&mut self, setting: &Setting, levels: &[u32])
         requires legal { All (λ l. l < value_count setting.now) levels.now }
         requires room { length self.old + length levels.now ≤ N }
-        ensures value { self.new ≡ self.old ++ map (pattern setting.now) (values_at setting.now levels.now) }
+        ensures value { self.new ≡ self.old ++ map (pattern setting.now)
+            (values_at setting.now levels.now) }
         ensures len { length self.new ≡ length self.old + length levels.now }
     {
         let start = self.len;

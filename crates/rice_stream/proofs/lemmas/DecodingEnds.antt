@@ -30,8 +30,8 @@ use Rattle.rice_code.specs.decode.Decoder.{StopsBy, SetEnds, SetRefused, with_ma
 use Rattle.rice_code.specs.decode.DecoderState.{DecoderState, state_after_block, next_block_place}
 use Rattle.rice_code.specs.code.Forms.{IsForm, RunIsSound, ResidualsAreSound}
 use Rattle.rice_code.specs.decode.ReadSets.{SetCut}
-use Rattle.rice_code.specs.declared.decode.fault.CodeFault.{CodeFault}
-use Rattle.rice_code.specs.declared.decode.fault.CodeFault.TheVariants as faults
+use Rattle.rice_code.specs.declared.decode.answer.CodeFault.{CodeFault}
+use Rattle.rice_code.specs.declared.decode.answer.CodeFault.TheVariants as faults
 use Rattle.rice_stream.specs.Calls.{Call, Happens, Fails, StopsBetween}
 use Rattle.rice_stream.specs.Decodes.{CountsSteps, Decodes, EndsInTurns, Reports, EndsDecoding, DecodesBytes, RunsOut, at_most, wanted_of, ended_fault, refusal_fault}
 use Rattle.rice_stream.specs.DecodingState.{DecodedSoFar, Gains, DecodingProgress, HasRead, HasSets}
@@ -42,7 +42,7 @@ use Rattle.rice_stream.specs.declared.outcome.Fault.TheVariants.{Read, Write, To
 use Rattle.rice_stream.proofs.lemmas.DecodedSamples.{decoded_nothing, ends_here, ends_reached, cut_nothing, cut_more, cut_none}
 use Rattle.rice_stream.proofs.lemmas.DecodingLemmas.{still_asked}
 use Rattle.rice_stream.proofs.lemmas.SetsRead.{sets-none}
-use Rattle.rice_code.specs.decode.Fields.{AreCounted}
+use Rattle.rice_code.specs.decode.Rows.{AreCounted}
 use Rattle.rice_stream.proofs.lemmas.SpellingLengths.{spellings-append}
 
 -- more samples are wanted than are written

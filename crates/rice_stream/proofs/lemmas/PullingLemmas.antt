@@ -14,11 +14,11 @@ use Rattle.rice_code.specs.code.Decoded.{BeginsUnsound, EndsWith, Ended, CutOff}
 use Rattle.rice_code.specs.code.Layout.{padding}
 use Rattle.rice_code.specs.decode.Decoder.{SetEnds, SetRefused, StopsBy, with_mark}
 use Rattle.rice_code.specs.decode.DecoderState.{DecoderState, IsDecoderState}
-use Rattle.rice_code.specs.decode.Fields.{AreCounted}
+use Rattle.rice_code.specs.decode.Rows.{AreCounted}
 use Rattle.rice_code.specs.decode.ReadSets.{SetCut}
-use Rattle.rice_code.specs.declared.decode.fault.CodeFault.{CodeFault}
-use Rattle.rice_code.specs.declared.decode.fault.CodeFault.TheVariants as faults
-use Rattle.rice_code.specs.declared.decode.fault.NextBlock.TheVariants.{Block, Done}
+use Rattle.rice_code.specs.declared.decode.answer.CodeFault.{CodeFault}
+use Rattle.rice_code.specs.declared.decode.answer.CodeFault.TheVariants as faults
+use Rattle.rice_code.specs.declared.decode.answer.NextBlock.TheVariants.{Block, Done}
 use Rattle.rice_code.proofs.lemmas.code.Filling.{last_append}
 use Rattle.rice_stream.specs.DecodingState.{DecodedSoFar, Gains, HasSets}
 use Rattle.rice_stream.specs.Pulling.{Origin, IsStand, MayBegin, GivesNext, GoesOnAt, IsReadFrom, TakesNext, ahead, bytes_told, state_of}

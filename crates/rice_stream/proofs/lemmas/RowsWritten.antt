@@ -11,7 +11,7 @@ use Rattle.rice_samples.specs.bytes.Spelling.{spellings}
 use Rattle.rice_code.specs.decode.BlocksAhead.{GivesBytes}
 use Rattle.rice_code.specs.decode.Decoder.{GivesSet, with_mark}
 use Rattle.rice_code.specs.decode.DecoderState.{DecoderState}
-use Rattle.rice_code.specs.decode.Fields.{AreCounted}
+use Rattle.rice_code.specs.decode.Rows.{AreCounted}
 use Rattle.rice_code.specs.decode.PlainBlocks.{GivesRow}
 use Rattle.rice_stream.specs.Calls.{Fails}
 use Rattle.rice_stream.specs.Decodes.{DecodesWithin, Reports, wanted_of}

@@ -19,7 +19,7 @@ use Rattle.rice_stream.specs.Runs.{FailsInRun, WritesRun, repeated}
 use Rattle.rice_stream.specs.Writes.{TakesPart}
 use Rattle.rice_code.proofs.lemmas.code.Filling.{last_replicate}
 use Rattle.rice_code.specs.code.Decoded.{cut_to}
-use Rattle.rice_code.specs.declared.decode.fault.NextBlock.TheVariants.{Block}
+use Rattle.rice_code.specs.declared.decode.answer.NextBlock.TheVariants.{Block}
 use Rattle.rice_bits.proofs.lemmas.device.OutletLemmas.{Appends-trans}
 use Rattle.rice_stream.specs.Decodes.{Reports}
 use Rattle.rice_stream.specs.declared.outcome.Report.{Report}

@@ -9,7 +9,7 @@ use Rattle.rice_code.specs.decode.BlocksAhead.{GivesBytes, HasLanes}
 use Rattle.rice_samples.proofs.lemmas.bytes.ByteLanes.{one_byte}
 use Rattle.rice_samples.proofs.lemmas.predict.HalfLanes.{two_bytes}
 use Rattle.rice_code.specs.decode.DecoderState.{DecoderState}
-use Rattle.rice_code.specs.declared.decode.fault.NextBlock.TheVariants.{Block}
+use Rattle.rice_code.specs.declared.decode.answer.NextBlock.TheVariants.{Block}
 use Rattle.rice_bits.specs.device.Outlet.{Room}
 use Rattle.rice_stream.specs.DecodingState.{DecodingProgress}
 use Rattle.rice_stream.proofs.lemmas.DecodingLemmas.{Advances}

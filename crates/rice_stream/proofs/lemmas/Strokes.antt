@@ -11,9 +11,9 @@ use Rattle.rice_samples.specs.bytes.Spelling.{spellings}
 use Rattle.rice_code.specs.decode.BlocksAhead.{GivesBytes, HasLanes}
 use Rattle.rice_code.specs.decode.Decoder.{GivesFromRun, RepeatsBlocks}
 use Rattle.rice_code.specs.decode.DecoderState.{DecoderState, IsDecoderState}
-use Rattle.rice_code.specs.decode.Fields.{AreCounted}
+use Rattle.rice_code.specs.decode.Rows.{AreCounted}
 use Rattle.rice_code.specs.decode.PlainBlocks.{GivesRow}
-use Rattle.rice_code.specs.declared.decode.fault.NextBlock.TheVariants.{Block}
+use Rattle.rice_code.specs.declared.decode.answer.NextBlock.TheVariants.{Block}
 use Rattle.rice_code.proofs.lemmas.code.Filling.{last_replicate}
 use Rattle.rice_code.proofs.lemmas.code.SoundBlocks.{last_legal}
 use Rattle.rice_code.proofs.lemmas.decode.DecoderLemmas.{place_moves}

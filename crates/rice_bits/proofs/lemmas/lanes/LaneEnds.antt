@@ -18,14 +18,14 @@ use Rattle.std.proofs.lemmas.Nat.{div-mul-add, mod_below, pow-add, pow_pos, shr_
 use Rattle.std.proofs.lemmas.Simd.{Each1-chunk, SwzOk, SwzOk-from_Each1, swz_l, pick_l_whole}
 use Rattle.std.specs.Int.{to_be_bytes, w64}
 use Rattle.rice_bits.specs.Bits.{bits_of, word}
-use Rattle.rice_bits.specs.read.Ones.{ends_after}
+use Rattle.rice_bits.specs.read.EndsAndGaps.{ends_after}
 use Rattle.rice_bits.proofs.lemmas.bits.EightBytes.{bits_of-eight, word-mod}
 use Rattle.rice_bits.proofs.lemmas.bits.FirstOnes.{front_below, take-front}
 use Rattle.rice_bits.proofs.lemmas.bits.Words.{length-word}
-use Rattle.rice_bits.proofs.lemmas.read.OnesLemmas.{ends-append, ends-count, few-ends}
+use Rattle.rice_bits.proofs.lemmas.read.EndsAndGapsLemmas.{ends-append, ends-count, few-ends}
 use Rattle.rice_bits.specs.lanes.Ends.{in_lanes, places_behind, row_of_place}
 use Rattle.rice_bits.specs.declared.lanes.ends.TheConstants.{SLIDE}
-use Rattle.rice_bits.specs.declared.lanes.rows.TheConstants.{ROWS}
+use Rattle.rice_bits.specs.declared.lanes.tables_of_ends.TheConstants.{ROWS}
 
 -- the tables
 

@@ -6,9 +6,9 @@ use Rattle.std.specs.Simd.Lanes.{zip2, pick_l}
 use Rattle.std.proofs.lemmas.List.{get_or-take, length-take-le, take_all, take-append-le}
 use Rattle.std.proofs.lemmas.Simd.{pick_l-range_with_len}
 use Rattle.rice_bits.specs.Bits.{fundamental_sequence, word}
-use Rattle.rice_bits.specs.read.Ones.{ends_after, gaps}
+use Rattle.rice_bits.specs.read.EndsAndGaps.{ends_after, gaps}
 use Rattle.rice_bits.proofs.lemmas.bits.Words.{length-word}
-use Rattle.rice_bits.proofs.lemmas.read.OnesLemmas.{gaps-at, gaps-spell, length-gaps, take-gaps}
+use Rattle.rice_bits.proofs.lemmas.read.EndsAndGapsLemmas.{gaps-at, gaps-spell, length-gaps, take-gaps}
 use Rattle.rice_bits.specs.lanes.Ends.{in_lanes}
 
 pub behind-zero : (xs : List ℕ) → length xs ≡ 16 → 0 ∷ pick_l 0 xs (range_with_len 0 15) ≡ take 16 (0 ∷ xs)

@@ -8,7 +8,7 @@ use Rattle.std.proofs.lemmas.Bool.Decides.{nat_tests}
 use Rattle.std.proofs.lemmas.List.Sums.{sum_by-cons}
 use Rattle.std.proofs.Math.Nat.{zero-div}
 use Rattle.rice_samples.specs.Parameters.{Parameters, id_len, k_max}
-use Rattle.rice_samples.proofs.lemmas.blocks.Halves.{cut_sum, sum_halves}
+use Rattle.rice_samples.proofs.lemmas.blocks.FallingSums.{cut_sum, sum_halves}
 use Rattle.rice_code.specs.code.Blocks.{BlockData}
 use Rattle.rice_code.specs.code.CodedDataSets.{NoCompression, SecondExtension, Split, cost, sent_residuals, sent_from, reference_len}
 use Rattle.rice_code.specs.code.Choice.{shortest, other_options, IsBestSplit}

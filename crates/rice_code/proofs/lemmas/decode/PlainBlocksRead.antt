@@ -27,7 +27,7 @@ use Rattle.rice_samples.specs.bytes.PatternLanes.{OrdersWords}
 use Rattle.rice_samples.specs.bytes.Values.{ordered_bytes}
 use Rattle.rice_samples.proofs.lemmas.bytes.WordLanes.{SamplesOfWords, samples_of_words}
 use Rattle.rice_samples.proofs.lemmas.predict.Patterns.{same_pattern}
-use Rattle.rice_samples.proofs.lemmas.setting.Gaps.{sample_at}
+use Rattle.rice_samples.proofs.lemmas.setting.ValuesAboveLeast.{sample_at}
 use Rattle.rice_samples.proofs.lemmas.setting.Levels.{pattern_fits}
 use Rattle.rice_samples.proofs.lemmas.setting.ValuesAt.{last_at}
 use Rattle.rice_code.specs.code.Blocks.{BlockData}
@@ -37,7 +37,7 @@ use Rattle.rice_code.specs.code.Layout.{padding}
 use Rattle.rice_code.specs.decode.BlocksAhead.{GivesBytes}
 use Rattle.rice_code.specs.decode.Decoder.{Skips, TakesSet, with_mark}
 use Rattle.rice_code.specs.decode.DecoderState.{DecoderState, next_block_place}
-use Rattle.rice_code.specs.decode.Fields.{AreCounted}
+use Rattle.rice_code.specs.decode.Rows.{AreCounted}
 use Rattle.rice_code.specs.decode.PlainBlocks.{GivesRow, IsPlain, PlainBlock, PlainRow, WordsAhead, plain_bits}
 use Rattle.rice_code.proofs.lemmas.code.ReadInOneWay.{long_id}
 use Rattle.rice_code.proofs.lemmas.decode.DecoderLemmas.{answers_block, next_within, samples_by_bits}

@@ -16,14 +16,14 @@ use Rattle.rice_code.specs.code.Blocks.{BlockData}
 use Rattle.rice_samples.specs.blocks.Pairs.{pair_codes}
 use Rattle.rice_code.specs.code.CodedDataSets.{CodedDataSet, NoCompression, SecondExtension, Split, sent_residuals, sent_from, reference_bits, run_tail}
 use Rattle.rice_code.specs.code.Forms.{IsForm, IsReference, IsBlock}
-use Rattle.rice_code.specs.decode.Fields.{Row, CountRow, WordRow, PairRow, ones}
+use Rattle.rice_code.specs.decode.Rows.{Row, CountRow, WordRow, PairRow, ones}
 use Rattle.rice_code.specs.decode.ReadSets.{BlockRead, BlockCut, PartsRead, PartsCut, reference_place, set_tail}
-use Rattle.rice_bits.specs.read.Parts.{TakesParts, joined_parts}
+use Rattle.rice_bits.specs.read.JoinedParts.{TakesParts, joined_parts}
 use Rattle.rice_samples.proofs.lemmas.blocks.PairLemmas.{count_pairs}
 use Rattle.rice_bits.proofs.lemmas.read.WindowLemmas.{length-words}
-use Rattle.rice_code.proofs.lemmas.decode.FieldLemmas.{put_rest, ones-append, ones-zeros, ones-sequence, ones-sequences}
-use Rattle.rice_code.proofs.lemmas.decode.JoinedParts.{high_pieces, highs_of_joined, joined_below, low_pieces, highs_small, joined_highs}
-use Rattle.rice_bits.proofs.lemmas.read.PartsLemmas.{length-joined}
+use Rattle.rice_code.proofs.lemmas.decode.RowLemmas.{put_rest, ones-append, ones-zeros, ones-sequence, ones-sequences}
+use Rattle.rice_code.proofs.lemmas.decode.JoinedResiduals.{high_pieces, highs_of_joined, joined_below, low_pieces, highs_small, joined_highs}
+use Rattle.rice_bits.proofs.lemmas.read.JoinedPartsLemmas.{length-joined}
 use Rattle.std.proofs.lemmas.Nat.{pow_pos}
 use borrow.Rule.Slice.PartMut.{put_mid}
 use Rattle.rice_code.proofs.lemmas.code.ReadInOneWay.{after_reference}

@@ -1,16 +1,29 @@
--- The texts of blocks, piece by piece.
+-- The texts of blocks, piece by piece. `split_is_joined` says what joins the parts of a split block.
 use Rattle.std.proofs.Common.{◌≡◌, ℕ, zero, suc, ◌+◌, ◌-◌, ◌*◌, ◌/◌, ◌%◌, ◌^◌, ◌<◌, ◌≤◌, Bool, true, false, cond, ◌&&◌, nat_le, List, [], ◌∷◌, ◌++◌, length, drop, get_or, refl, ap, arith, sym, ◌∙◌, append_assoc, Option}
 use Rattle.std.specs.Prelude.{flat_map, sum_by}
 use Rattle.std.proofs.lemmas.List.{length-drop, drop_all, drop_more}
 use Rattle.std.proofs.lemmas.List.Sums.{sum_by-cons}
 use Rattle.rice_samples.specs.Parameters.{Parameters, id_len}
 use Rattle.rice_samples.specs.blocks.Pairs.{pair_code, pair_codes}
-use Rattle.rice_code.specs.code.CodedDataSets.{bits_of_set, cost, reference_bits, reference_len, run_number, ZeroBlocks, RemainderOfSegment}
+use Rattle.rice_code.specs.code.Blocks.{BlockData}
+use Rattle.rice_code.specs.code.CodedDataSets.{bits_of_set, cost, reference_bits, reference_len, run_number, sent_residuals, Split, ZeroBlocks, RemainderOfSegment}
 use Rattle.rice_code.specs.code.Runs.{run_of_blocks}
 use Rattle.rice_code.specs.encode.HeldBlocks.{zeros_of_run}
 use Rattle.rice_bits.specs.Bits.{word, fundamental_sequence}
 use Rattle.rice_code.proofs.lemmas.cost.Costs.{length_pieces, numbered_run_len, remainder_len}
 use Rattle.rice_bits.proofs.lemmas.bits.Words.{length-fundamental_sequence, word-fs, word-zero, word-cat, word-nil}
+
+-- What joins a split block: identifier and reference sample, the fundamental sequences of the high parts, and then the words of the low
+-- parts, put into a sink one after the other, are the text of its coded data set.
+pub split_is_joined : (s : Parameters) (k : ℕ) (block : BlockData) (sink : List Bool)
+    → sink ++ word (id_len s) (k + 1) ++ reference_bits s block.reference
+    ++ flat_map (λ d. fundamental_sequence (d / 2 ^ k)) (sent_residuals block) ++ flat_map (word k) (sent_residuals block)
+    ≡ sink ++ bits_of_set s (Split k block)
+split_is_joined s k block sink = append_four sink (word (id_len s) (k + 1)) (reference_bits s block.reference)
+    (flat_map (λ d. fundamental_sequence (d / 2 ^ k)) (sent_residuals block)) (flat_map (word k) (sent_residuals block))
+  where
+    append_four : (sink head ref high low : List Bool) → sink ++ head ++ ref ++ high ++ low ≡ sink ++ (head ++ (ref ++ (high ++ low)))
+    append_four sink head ref high low = simp append_assoc
 
 -- zeros and a one
 pub word_flag : (n : ℕ) → word (n + 1) 1 ≡ word n 0 ++ true ∷ []
@@ -28,9 +41,6 @@ no_digits (x ∷ xs) = rw word-nil (no_digits xs)
 pub append_flagged : (sink head ref body : List Bool) (b : Bool) → sink ++ (head ++ b ∷ []) ++ ref ++ body ≡ sink ++ (head ++ b ∷ (ref ++ body))
 append_flagged sink head ref body b =
     append_assoc (sink ++ (head ++ b ∷ [])) ref body ∙ (append_assoc sink (head ++ b ∷ []) (ref ++ body) ∙ ap (λ z. sink ++ z) (append_assoc head (b ∷ []) (ref ++ body)))
-
-pub append_four : (sink head ref high low : List Bool) → sink ++ head ++ ref ++ high ++ low ≡ sink ++ (head ++ (ref ++ (high ++ low)))
-append_four sink head ref high low = simp append_assoc
 
 -- The residuals rs that are sent from number `from` on, in numbers: how many, their digits, and the parts above these.
 pub record SentResiduals (sent rs : List ℕ) (from w k : ℕ) : Type 0 where

@@ -27,7 +27,7 @@ use Rattle.rice_code.specs.code.SoundBlocks.{IsSoundBlock, AreSoundBlocks}
 use Rattle.rice_code.proofs.lemmas.code.SoundBlocks.{all_append, last_legal}
 use Rattle.rice_code.proofs.lemmas.meaning.SentSets.{IsSound}
 use Rattle.rice_code.proofs.lemmas.code.OnesOfForms.{forms_have_a_one}
-use Rattle.rice_code.proofs.lemmas.meaning.Parsing.{form_piece}
+use Rattle.rice_code.proofs.lemmas.meaning.FormSearch.{form_piece}
 use Rattle.rice_code.proofs.lemmas.meaning.Witnesses.{decoded_from_none}
 use Rattle.rice_code.proofs.lemmas.meaning.DecodingGoesOn.{decoding_goes_on}
 

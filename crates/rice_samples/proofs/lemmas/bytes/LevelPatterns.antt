@@ -11,7 +11,7 @@ use Rattle.rice_samples.specs.predict.Residuals.{pattern, twos_complement}
 use Rattle.rice_samples.specs.bytes.Values.{offset, IsValue}
 use Rattle.rice_samples.proofs.lemmas.bytes.SpellingLemmas.{level_from_pattern, mod_once, offset_limit, same_offset, wider_value}
 use Rattle.rice_samples.proofs.lemmas.predict.InverseLemmas.{has_pattern}
-use Rattle.rice_samples.proofs.lemmas.setting.Gaps.{gap_above, sample_at}
+use Rattle.rice_samples.proofs.lemmas.setting.ValuesAboveLeast.{gap_above, sample_at}
 use Rattle.rice_samples.proofs.lemmas.setting.Levels.{pattern_fits}
 use Rattle.rice_samples.proofs.lemmas.setting.ValuesAt.{value_of_level}
 

@@ -6,9 +6,8 @@ use Rattle.std.proofs.lemmas.List.Elements.{All-cons, All-nil}
 use Rattle.rice_bits.specs.Bits.{word}
 use Rattle.rice_bits.proofs.lemmas.bits.Words.{word-cat}
 use Rattle.rice_samples.specs.Parameters.{Parameters, IsSample, value_count, width}
-use Rattle.rice_samples.specs.predict.Near.{swapped}
 use Rattle.rice_samples.specs.predict.Residuals.{pattern, twos_complement}
-use Rattle.rice_samples.specs.bytes.PatternLanes.{OrdersWords, turned_in_fours}
+use Rattle.rice_samples.specs.bytes.PatternLanes.{OrdersWords, turned_in_fours, swapped}
 use Rattle.rice_samples.specs.bytes.Spelling.{spelling, spellings}
 use Rattle.rice_samples.specs.bytes.Values.{ordered_bytes}
 use Rattle.rice_samples.proofs.lemmas.predict.InverseLemmas.{has_pattern}

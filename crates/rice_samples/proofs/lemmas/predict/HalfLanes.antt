@@ -6,15 +6,16 @@ use Rattle.std.specs.Simd.Lanes.{Each1, digits_l, number_l, pick_l, zip2}
 use Rattle.std.proofs.lemmas.Bool.Decides.{nat_tests}
 use Rattle.std.proofs.lemmas.List.Elements.{All-append}
 use Rattle.std.proofs.lemmas.Simd.{length-zip2}
-use Rattle.rice_bits.specs.read.Parts.{joined_parts}
+use Rattle.rice_bits.specs.read.JoinedParts.{joined_parts}
 use Rattle.rice_samples.specs.Parameters.{Parameters, value_at, value_count, values_at, width}
-use Rattle.rice_samples.specs.predict.Near.{AreNearLevels, swapped}
+use Rattle.rice_samples.specs.predict.LevelsOfParts.{AreLevelsOfParts}
+use Rattle.rice_samples.specs.bytes.PatternLanes.{swapped}
 use Rattle.rice_samples.specs.predict.Residuals.{last_number, ranks_below, twos_complement}
 use Rattle.rice_samples.specs.bytes.Spelling.{spelling, spellings}
 use Rattle.rice_samples.specs.bytes.Values.{offset}
 use Rattle.rice_samples.proofs.lemmas.bytes.LevelPatterns.{word_of_level}
 use Rattle.rice_samples.proofs.lemmas.bytes.SpellingLemmas.{offset_limit}
-use Rattle.rice_samples.proofs.lemmas.predict.LaneParts.{bytes_of, parted}
+use Rattle.rice_samples.proofs.lemmas.predict.JoinedLanes.{bytes_of, parted}
 use Rattle.rice_samples.proofs.lemmas.predict.LaneSums.{sixteen_lanes}
 use Rattle.rice_samples.proofs.lemmas.predict.RestoredLevels.{ranks_below-append}
 
@@ -67,7 +68,7 @@ pub halves_are : (s : Parameters) (before width greatest last : ℕ) (highs lows
     → length lows ≡ 16 → length first ≡ 8 → length second ≡ 8
     → last ≡ get_or first 7 0 → All (λ x. x ≤ greatest) first → All (λ x. x ≤ greatest) second
     → ranks_below (greatest + 1) before first ≡ joined_parts width (take 8 highs) (take 8 lows) → ranks_below (greatest + 1) last second ≡ joined_parts width (drop 8 highs) (drop 8 lows)
-    → AreNearLevels s before width highs lows (first ++ second)
+    → AreLevelsOfParts s before width highs lows (first ++ second)
 halves_are s before width greatest last highs lows first second count h l f g e small few ranked more = record {
   len = length-append first second ∙ omega (arith, f, g, h);
   legal = λ i d lt. let x = All-append (λ x. x ≤ greatest) first second small few i d lt in omega (arith, x, count);

@@ -4,7 +4,7 @@ use Rattle.std.proofs.lemmas.List.{get_or-map, length-map}
 use Rattle.std.proofs.lemmas.List.Elements.{All-map}
 use Rattle.rice_samples.specs.Parameters.{Parameters, IsSample, least, level, value_at, value_count, values_at}
 use Rattle.rice_samples.specs.predict.Residuals.{rank_below, ranks, ranks_below, last_of}
-use Rattle.rice_samples.proofs.lemmas.setting.Gaps.{gap_above, sample_at}
+use Rattle.rice_samples.proofs.lemmas.setting.ValuesAboveLeast.{gap_above, sample_at}
 use Rattle.rice_samples.proofs.lemmas.setting.Levels.{same_level}
 
 pub level_of_value : (s : Parameters) (l : ℕ) → level s (value_at s l) ≡ l

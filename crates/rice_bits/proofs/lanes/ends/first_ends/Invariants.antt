@@ -1,6 +1,6 @@
 use Rattle.std.proofs.Common.{◌≡◌, ◌*◌, take}
 use Rattle.rice_bits.specs.Bits.{word}
-use Rattle.rice_bits.specs.read.Ones.{ends_after}
+use Rattle.rice_bits.specs.read.EndsAndGaps.{ends_after}
 use Rattle.rice_bits.specs.lanes.Ends.{in_lanes}
 use Rattle.rice_bits.proofs.lanes.ends.first_ends.Given as goal
 

@@ -1,7 +1,7 @@
 use Rattle.std.proofs.Common.{nat_lt, ◌∙◌, ap, w8}
 use Rattle.std.specs.Simd.Lanes.{sel_l, zip2}
 use Rattle.std.proofs.lemmas.Simd.{tops_compared}
-use Rattle.rice_bits.proofs.lemmas.read.OnesLemmas.{lanes_excess, wrapped_sub}
+use Rattle.rice_bits.proofs.lemmas.read.EndsAndGapsLemmas.{lanes_excess, wrapped_sub}
 use Rattle.rice_bits.proofs.lanes.gaps.excess.Goals as goal
 
 pub returns : goal.returns

@@ -3,7 +3,7 @@ use Rattle.rice_samples.specs.Parameters.{k_max}
 use Rattle.rice_code.specs.code.CodedDataSets.{bits_of_set, cost}
 use Rattle.rice_code.specs.code.Choice.{shortest, best_split}
 use Rattle.rice_code.specs.code.SoundBlocks.{block_with}
-use Rattle.rice_code.specs.declared.encode.search.Choice.{Choice}
+use Rattle.rice_code.specs.declared.encode.choice.Choice.{Choice}
 use Rattle.rice_code.specs.encode.BitBuffer.{PutsSet}
 use Rattle.rice_code.specs.encode.Chosen.{chosen_set}
 use Rattle.rice_code.proofs.lemmas.encode.ChosenSets.{where_set, where_unset, puts_chosen}

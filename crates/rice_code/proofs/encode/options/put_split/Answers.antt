@@ -3,7 +3,7 @@ use Rattle.std.specs.Prelude.{flat_map}
 use Rattle.rice_bits.specs.Bits.{word, fundamental_sequence}
 use Rattle.rice_samples.specs.Parameters.{id_len}
 use Rattle.rice_code.specs.code.CodedDataSets.{reference_bits, reference_len, sent_residuals}
-use Rattle.rice_code.proofs.lemmas.encode.OptionBits.{append_four, no_digits, sent_are}
+use Rattle.rice_code.proofs.lemmas.encode.OptionBits.{no_digits, sent_are, split_is_joined}
 use Rattle.rice_code.proofs.encode.options.put_split.Goals as goal
 
 pub put_low-requires-clause-room : goal.put_low-requires-clause-room
@@ -45,9 +45,6 @@ returns c =
     c.args.k c.first_coded-from.ensures.coded c.residuals-residuals.ensures in
     let s = c.args.setting.now in
     let b = c.args.block.now in
-    let ref = reference_bits s b.reference in
-    let high = flat_map (λ d. fundamental_sequence (d / 2 ^ c.args.k)) (sent_residuals b) in
-    let low = flat_map (word c.args.k) (sent_residuals b) in
     let one = ap (λ n. c.args.sink.now ++ word n (c.args.k + 1)) c.id_len-id.ensures.value in
     let two = c.begin-fields.ensures.bits ∙ (λ i. one i ++ reference_bits s (c.reference.ensures i)) in
     let three = c.put_high.ensures.bits ∙ (λ i. two i ++ sent.bits (λ d. fundamental_sequence (d / 2 ^ c.args.k)) i) in
@@ -55,7 +52,7 @@ returns c =
     let len = ap length c.residuals-residuals.ensures in
     let len_ref = ap (reference_len s) c.reference.ensures in
     record {
-      bits = all ∙ append_four c.args.sink.now (word (id_len s) (c.args.k + 1)) ref high low;
+      bits = all ∙ split_is_joined s c.args.k b c.args.sink.now;
       len = omega (arith, sent.count, sent.digits, sent.parts, len, len_ref, c.requires.sound.len);
       steps_from = omega (arith, sent.count, sent.digits, sent.parts, len, len_ref, c.requires.sound.len);
       steps_to = omega (arith, sent.count, sent.digits, sent.parts, len, len_ref, c.requires.sound.len);
@@ -69,7 +66,6 @@ returns-then-k-eq0 c =
     let b = c.args.block.now in
     let ref = reference_bits s b.reference in
     let high = flat_map (λ d. fundamental_sequence (d / 2 ^ c.args.k)) (sent_residuals b) in
-    let low = flat_map (word c.args.k) (sent_residuals b) in
     let one = ap (λ n. c.args.sink.now ++ word n (c.args.k + 1)) c.id_len-id.ensures.value in
     let two = c.begin-fields.ensures.bits ∙ (λ i. one i ++ reference_bits s (c.reference.ensures i)) in
     let three = c.put_high.ensures.bits ∙ (λ i. two i ++ sent.bits (λ d. fundamental_sequence (d / 2 ^ c.args.k)) i) in
@@ -81,7 +77,7 @@ returns-then-k-eq0 c =
     let len = ap length c.residuals-residuals.ensures in
     let len_ref = ap (reference_len s) c.reference.ensures in
     record {
-      bits = all ∙ (last ∙ append_four c.args.sink.now (word (id_len s) (c.args.k + 1)) ref high low);
+      bits = all ∙ (last ∙ split_is_joined s c.args.k b c.args.sink.now);
       len = omega (arith, few, sent.count, sent.digits, sent.parts, len, len_ref, c.requires.sound.len);
       steps_from = omega (arith, few, sent.count, sent.digits, sent.parts, len, len_ref, c.requires.sound.len);
       steps_to = omega (arith, few, sent.count, sent.digits, sent.parts, len, len_ref, c.requires.sound.len);

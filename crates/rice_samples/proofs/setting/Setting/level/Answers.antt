@@ -1,7 +1,7 @@
 use Rattle.std.proofs.Common.{arith}
 use Rattle.std.proofs.lemmas.Int.{ints}
 use Rattle.rice_samples.specs.Parameters.{least}
-use Rattle.rice_samples.proofs.lemmas.setting.Gaps.{least_low, least_high, gap_is, count_limit}
+use Rattle.rice_samples.proofs.lemmas.setting.ValuesAboveLeast.{least_low, least_high, gap_is, count_limit}
 use Rattle.rice_samples.proofs.setting.Setting.level.Goals as goal
 
 pub returns-clause-value : goal.returns-clause-value

@@ -1,7 +1,7 @@
 use Rattle.std.proofs.Common.{◌≡◌, arith, pos, ◌+ℤ◌, w64, to_z, of_z}
 use Rattle.std.proofs.lemmas.Int.{ints}
 use Rattle.rice_samples.specs.Parameters.{least}
-use Rattle.rice_samples.proofs.lemmas.setting.Gaps.{least_low, least_high, count_limit, sample_at, gap_above}
+use Rattle.rice_samples.proofs.lemmas.setting.ValuesAboveLeast.{least_low, least_high, count_limit, sample_at, gap_above}
 use Rattle.rice_samples.proofs.setting.Setting.value_at.Goals as goal
 
 pub returns-clause-sample : goal.returns-clause-sample

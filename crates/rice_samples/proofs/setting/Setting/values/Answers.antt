@@ -1,6 +1,6 @@
 use Rattle.std.proofs.Common.{arith}
 use Rattle.std.proofs.lemmas.Nat.{one_shl}
-use Rattle.rice_samples.proofs.lemmas.setting.Counts.{count_range}
+use Rattle.rice_samples.proofs.lemmas.setting.ValueCounts.{count_range}
 use Rattle.rice_samples.proofs.setting.Setting.values.Goals as goal
 
 pub returns-clause-range : goal.returns-clause-range

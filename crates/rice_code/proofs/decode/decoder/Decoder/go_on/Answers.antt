@@ -1,5 +1,5 @@
 use Rattle.rice_samples.specs.Parameters.{value_at}
-use Rattle.rice_samples.proofs.lemmas.setting.Gaps.{sample_at}
+use Rattle.rice_samples.proofs.lemmas.setting.ValuesAboveLeast.{sample_at}
 use Rattle.rice_code.proofs.lemmas.decode.DecoderLemmas.{place_moves}
 use Rattle.rice_code.proofs.decode.decoder.Decoder.go_on.Goals as goal
 

@@ -3,7 +3,7 @@ use Rattle.rice_samples.specs.Parameters.{IsLegal}
 use Rattle.rice_code.specs.decode.BlocksAhead.{SpelledAhead}
 use Rattle.rice_code.specs.decode.Decoder.{with_mark}
 use Rattle.rice_code.specs.decode.DecoderState.{DecoderState}
-use Rattle.rice_code.proofs.lemmas.decode.BlocksAhead.{bytes_given}
+use Rattle.rice_code.proofs.lemmas.decode.SplitAhead.{bytes_given}
 use Rattle.rice_code.proofs.decode.decoder.Decoder.read_in_lanes.Goals as goal
 
 pub returns-clause-some : goal.returns-clause-some

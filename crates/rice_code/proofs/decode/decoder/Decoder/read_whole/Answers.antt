@@ -3,17 +3,17 @@ use Rattle.rice_samples.specs.Parameters.{IsLegal}
 use Rattle.rice_code.specs.decode.BlocksAhead.{SpelledAhead}
 use Rattle.rice_code.specs.decode.Decoder.{with_mark}
 use Rattle.rice_code.specs.decode.DecoderState.{DecoderState}
-use Rattle.rice_code.proofs.lemmas.decode.BlocksAhead.{bytes_given}
+use Rattle.rice_code.proofs.lemmas.decode.SplitAhead.{bytes_given}
 use Rattle.rice_code.proofs.decode.decoder.Decoder.read_whole.Goals as goal
 
 pub returns-clause-gives : goal.returns-clause-gives
 returns-clause-gives g c =
     let view = c.self.view_is in
-    let spelled = c.spell_whole_ahead-spelled.result in
+    let spelled = c.spell_uncompressed_ahead-spelled.result in
     let start = c.args.reader.now in
-    let bytes = c.spell_whole_ahead-spelled.new.bytes in
+    let bytes = c.spell_uncompressed_ahead-spelled.new.bytes in
     let legal = subst (λ (p : DecoderState). IsLegal p.setting) view c.self.invariant.1.legal in
-    let block = subst (λ (p : DecoderState). SpelledAhead start.waiting p.setting p.block p.before g.row.SIZE spelled.last spelled.len bytes) view c.spell_whole_ahead-spelled.ensures in
+    let block = subst (λ (p : DecoderState). SpelledAhead start.waiting p.setting p.block p.before g.row.SIZE spelled.last spelled.len bytes) view c.spell_uncompressed_ahead-spelled.ensures in
     bytes_given start (with_mark start) c.take_ahead.new.reader c.go_on-answer.new.reader c.args.meter.now c.take_ahead.new.meter c.go_on-answer.new.meter c.args.self.now c.go_on-answer.new.self block.levels spelled.len spelled.last g.row.SIZE 1 bytes
     legal c.requires.lanes block.ahead refl c.take_ahead.ensures.takes c.take_ahead.ensures.steps c.go_on-answer.ensures.skips c.go_on-answer.ensures.steps (omega (arith, c.go_on-answer.ensures.few)) block.last_is
     c.go_on-answer.ensures.moves block.spelled

@@ -1,8 +1,0 @@
-use Rattle.std.proofs.Common.{◌-◌, ◌∙◌, ap, arith, replicate}
-use Rattle.std.specs.Simd.Lanes.{zip2}
-use Rattle.rice_bits.proofs.lemmas.read.OnesLemmas.{gaps-at, map_same}
-use Rattle.rice_bits.proofs.read.ones.four_gaps.Goals as goal
-
-pub returns-clause-value : goal.returns-clause-value
-returns-clause-value c =
-    map_same _ ∙ (c.excess_of_four-2.ensures ∙ (ap (λ z. zip2 (λ x y. x - y) z (replicate 4 1)) c.excess_of_four.ensures ∙ gaps-at 4 c.args.ends.now c.args.at (omega (arith, c.requires))))

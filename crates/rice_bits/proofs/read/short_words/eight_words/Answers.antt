@@ -1,8 +1,0 @@
-use Rattle.rice_bits.proofs.lemmas.read.ShortWordsLemmas.{lanes-fit, lanes-words}
-use Rattle.rice_bits.proofs.read.short_words.eight_words.Goals as goal
-
-pub returns-clause-fit : goal.returns-clause-fit
-returns-clause-fit c = rw (c.pairs_of.ensures, c.factors_of.ensures) (lanes-fit c.args.digits c.args.width c.requires.1)
-
-pub returns-clause-bits : goal.returns-clause-bits
-returns-clause-bits c = rw (c.pairs_of.ensures, c.factors_of.ensures) (lanes-words c.args.digits c.args.width c.requires.1)

@@ -1,0 +1,185 @@
+//! Eight bytes at a time.
+ghost use Rattle.std.specs.Prelude.{All, false, ◌≡◌, ℕ, ◌+◌, ◌-◌, ◌*◌, ◌/◌, ◌%◌, ◌^◌, ◌<◌, ◌≤◌, ◌∷◌, ◌++◌, bit_or, drop, flat_map, length, min, replicate, set, take};
+ghost use Rattle.std.specs.Int.{to_be_bytes, to_le_bytes, w64};
+ghost use Rattle.std.specs.List.{slice_index};
+ghost use Rattle.rice_bits.specs.Bits.{bits_of, word};
+
+use std::simd::prelude::*;
+
+/// Returns the first `count` bytes.
+#[inline]
+pub fn front(bytes: &[u8], count: usize) -> &[u8]
+    requires { count ≤ length bytes.now }
+    ensures bytes { result.now ≡ take count bytes.now }
+    ensures fit { All (λ b. b < 256) result.now }
+{
+    &bytes[..count]
+}
+
+/// Returns the eight bytes of `word`, least significant first.
+#[inline(always)]
+fn least_byte_first(word: u64) -> u8x8
+    ensures { result ≡ to_le_bytes w64 word }
+{
+    u64x1::splat(word).to_le_bytes()
+}
+
+/// Writes the eight bytes of `word`, least significant first, from the place `at` on.
+#[inline]
+fn store(bytes: &mut [u8], at: usize, word: u64)
+    requires { at + 8 ≤ length bytes.old }
+    ensures { bytes.new ≡ take at bytes.old ++ (to_le_bytes w64 word ++ drop (at + 8) bytes.old) }
+{
+    least_byte_first(word).copy_to_slice(&mut bytes[at..]);
+}
+
+/// Returns the digits of `byte` and then those of `word`, as the eight bytes that spell them, the first
+/// as the least significant.
+#[inline]
+fn joined(byte: u8, word: u64) -> u64
+    requires { byte * 2 ^ 56 + word < 2 ^ 64 }
+    ensures { to_le_bytes w64 result ≡ to_be_bytes w64 (byte * 2 ^ 56 + word) }
+{
+    word.swap_bytes() + byte as u64
+}
+
+/// Joins the digits of `word` to those of the byte at the place `at`, and writes them from there on as eight bytes, most
+/// significant first, as far as there is room.
+#[inline]
+pub fn join_bytes(bytes: &mut [u8], at: usize, word: u64)
+    requires at { at ≤ length bytes.old }
+    requires digits { slice_index bytes.old at * 2 ^ 56 + word < 2 ^ 64 }
+    ensures { bytes.new ≡ take (length bytes.old) (take at bytes.old ++
+        (to_be_bytes w64 (slice_index bytes.old at * 2 ^ 56 + word) ++ drop (at + 8) bytes.old)) }
+{
+    if 8 <= bytes.len() && at <= bytes.len() - 8 {
+        let eight = joined(bytes[at], word);
+        store(bytes, at, eight);
+    } else if at < bytes.len() {
+        join_last_bytes(bytes, at, word);
+    }
+}
+
+/// Joins the digits of `word` where fewer than eight bytes are left.
+#[cold]
+#[inline(never)]
+fn join_last_bytes(bytes: &mut [u8], at: usize, word: u64)
+    requires at { at < length bytes.old }
+    requires few { length bytes.old ≤ at + 8 }
+    requires digits { slice_index bytes.old at * 2 ^ 56 + word < 2 ^ 64 }
+    ensures { bytes.new ≡ take (length bytes.old) (take at bytes.old ++
+        to_be_bytes w64 (slice_index bytes.old at * 2 ^ 56 + word)) }
+{
+    let mut eight = [0; 8];
+    store(&mut eight, 0, joined(bytes[at], word));
+    let left = bytes.len() - at;
+    bytes[at..].copy_from_slice(&eight[..left]);
+}
+
+/// Joins a 1 at the bit number `at`.
+#[inline]
+pub fn join_one(bytes: &mut [u8], at: u64)
+    requires { at < 8 * length bytes.old }
+    ensures { bytes.new ≡ set bytes.old (at / 8)
+        (bit_or (slice_index bytes.old (at / 8)) (2 ^ (7 - at % 8))) }
+{
+    // A rotation, of which the machine takes the remainder by 8 itself.
+    bytes[(at / 8) as usize] |= 0x80_u8.rotate_right((at % 8) as u32);
+}
+
+/// Moves the byte at the place `at` to the front, or a zero where there is none, and writes zeros after
+/// it, up to that place at least.
+#[inline]
+pub fn keep_byte(bytes: &mut [u8], at: usize)
+    requires { at ≤ length bytes.old }
+    ensures { (count : ℕ) × (at ≤ count) × (bytes.new ≡
+        take (length bytes.old) (slice_index bytes.old at ∷ replicate count 0 ++
+        drop (count + 1) bytes.old)) }
+{
+    let kept = if at < bytes.len() { bytes[at] } else { 0 };
+    store_front_zeros(bytes, at + 1);
+    if !bytes.is_empty() {
+        bytes[0] = kept;
+    }
+}
+
+/// Writes zeros to the first bytes, to `count` of them at least, or to all where there are fewer.
+#[inline]
+fn store_front_zeros(bytes: &mut [u8], count: usize)
+    ensures { (some : ℕ) × (min count (length bytes.old) ≤ some) × (some ≤ length bytes.old) ×
+        (bytes.new ≡ replicate some 0 ++ drop some bytes.old) }
+{
+    if count <= 64 && 64 <= bytes.len() {
+        u8x64::splat(0).copy_to_slice(bytes);
+    } else {
+        store_many_zeros(bytes, count);
+    }
+}
+
+/// Writes zeros to exactly the first `count` bytes, or to all where there are fewer.
+#[inline(never)]
+fn store_many_zeros(bytes: &mut [u8], count: usize)
+    ensures { bytes.new ≡ replicate (min count (length bytes.old)) 0 ++
+        drop (min count (length bytes.old)) bytes.old }
+{
+    let end = bytes.len().min(count);
+    bytes[..end].fill(0);
+}
+
+/// Writes `count` zeros from the place `at` on.
+pub fn store_zeros(bytes: &mut [u8], at: usize, count: usize)
+    requires { at + count ≤ length bytes.old }
+    ensures { take (at + count) bytes.new ≡ take at bytes.old ++ replicate count 0 }
+{
+    bytes[at..at + count].fill(0);
+}
+
+/// Returns the number that the eight bytes from the place `at` on spell, most significant first.
+#[inline]
+pub fn load(bytes: &[u8], at: usize) -> u64
+    requires { at + 8 ≤ length bytes.now }
+    ensures { to_be_bytes w64 result ≡ take 8 (drop at bytes.now) }
+{
+    u64::from_be_bytes([
+        bytes[at],
+        bytes[at + 1],
+        bytes[at + 2],
+        bytes[at + 3],
+        bytes[at + 4],
+        bytes[at + 5],
+        bytes[at + 6],
+        bytes[at + 7],
+    ])
+}
+
+/// Returns the 57 to 64 bits from bit `at` on, at the front of a word.
+#[inline]
+pub fn bits_from(bytes: &[u8], at: usize) -> u64
+    requires { at / 8 + 8 ≤ length bytes.now }
+    ensures { word 64 result
+        ≡ take (64 - at % 8) (drop at (bits_of bytes.now)) ++ replicate (at % 8) false }
+{
+    load(bytes, at / 8) << (at % 8)
+}
+
+/// Returns the 64 bits from bit `at` on.
+#[inline(always)]
+fn word_from(bytes: &[u8], at: usize) -> u64
+    requires { at / 8 + 9 ≤ length bytes.now }
+    ensures { word 64 result ≡ take 64 (drop at (bits_of bytes.now)) }
+{
+    // Where the first of them begins a byte, no bit is taken from the ninth.
+    let ninth = bytes[at / 8 + 8] as u64;
+    bits_from(bytes, at) | (ninth >> (8 - at % 8))
+}
+
+/// Returns the eight bytes that the 64 bits from bit `at` on spell.
+#[inline(always)]
+pub fn eight_bytes_from(bytes: &[u8], at: usize) -> u8x8
+    requires { at / 8 + 9 ≤ length bytes.now }
+    ensures len { length result ≡ 8 }
+    ensures fit { All (λ b. b < 2 ^ 8) result }
+    ensures bits { flat_map (word 8) result ≡ take (8 * 8) (drop at (bits_of bytes.now)) }
+{
+    least_byte_first(word_from(bytes, at).swap_bytes())
+}

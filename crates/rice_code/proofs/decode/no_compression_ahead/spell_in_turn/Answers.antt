@@ -1,0 +1,9 @@
+use Rattle.rice_code.proofs.lemmas.decode.NoCompressionAhead.{row_spelled_in_turn}
+use Rattle.rice_code.proofs.decode.no_compression_ahead.spell_in_turn.Goals as goal
+
+pub returns-clause-spelled : goal.returns-clause-spelled
+returns-clause-spelled g c =
+    let a = c.args in
+    let turned = c.levels_in_turn-turned in
+    row_spelled_in_turn a.setting.now a.from g.row.SIZE a.residuals turned.result.levels a.bytes.now c.spelled_bytes.result c.bits-bits.ensures.legal.bits_from c.requires.width c.requires.size c.requires.sixteen turned.ensures.len turned.ensures.legal turned.ensures.ranked
+    c.requires.bytes c.spelled_bytes.ensures.len c.spelled_bytes.ensures.value

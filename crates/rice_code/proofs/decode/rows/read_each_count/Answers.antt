@@ -1,0 +1,34 @@
+use Rattle.std.proofs.Common.{arith, length, refl, rules, take}
+use Rattle.rice_code.proofs.lemmas.decode.RowLemmas.{counts-none, counts-append, counts-whole, put_front, part_within, sequences-stop}
+use Rattle.rice_code.proofs.decode.rows.read_each_count.Goals as goal
+
+pub loop-done-init : goal.loop-done-init
+loop-done-init g c = record {
+  row = counts-none c.args.reader.now c.args.most (take 0 c.args.counts.now) refl c.requires.going;
+  steps = refl;
+  limit = c.requires.room.limit;
+  within = omega arith;
+}
+
+pub returns-in-Err-clause-err : goal.returns-in-Err-clause-err
+returns-in-Err-clause-err g c =
+    let r = c.loop-done.invariant.row in
+    let e = c.in-Err.ensures.err in
+    sequences-stop c.args.reader.now c.loop-done.reader c.read_some_counts.new.reader r.values (length c.args.counts.now)
+    e.0 c.in-Err.fault r.takes (omega (arith, r.len, c.loop-done-test.true, c.loop-done.auto.counts)) e.1
+
+pub returns-clause-ok : goal.returns-clause-ok
+returns-clause-ok g c =
+    counts-whole c.args.reader.now c.loop-done.reader c.args.most c.loop-done.small c.loop-done.done (length c.args.counts.now) c.loop-done.counts
+    c.loop-done.invariant.row (omega (arith, c.loop-done.invariant.within, c.loop-done-test.false, c.loop-done.auto.counts)) c.loop-done.auto.counts
+
+pub loop-done-preserved : goal.loop-done-preserved
+loop-done-preserved g c = record {
+  row = counts-append c.args.reader.now c.loop-done.reader c.read_some_counts.new.reader c.args.most c.loop-done.done c.in-Ok.some c.loop-done.small c.in-Ok.fit
+      (take c.loop-done.done c.loop-done.counts) (take c.in-Ok.some c.read_some_counts.new.counts) _
+      c.loop-done.invariant.row c.in-Ok.ensures.ok
+      (put_front c.loop-done.done _ c.in-Ok.some c.loop-done.counts c.read_some_counts.new.counts (search rules) c.in-Ok.ensures.some.1);
+  steps = omega (arith, c.in-Ok.ensures.steps, c.loop-done.invariant.steps);
+  limit = c.in-Ok.ensures.limit;
+  within = omega (arith, c.in-Ok.ensures.some.1, part_within _ _ _ c.read_some_counts.auto.counts, c.loop-done-test.true, c.loop-done.auto.counts);
+}

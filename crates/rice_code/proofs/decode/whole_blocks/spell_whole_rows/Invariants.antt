@@ -1,9 +1,0 @@
-use Rattle.std.proofs.Common.{◌≡◌, ◌*◌, length, replicate}
-use Rattle.rice_code.proofs.lemmas.decode.RowsAhead.{RowsSpelled}
-use Rattle.rice_code.proofs.decode.whole_blocks.spell_whole_rows.Given as goal
-
-abbrev pub invariant-loop-row : goal.invariant-loop-row
-invariant-loop-row g l = record {
-  room : length l.bytes ≡ length l.initial.bytes;
-  rows : RowsSpelled l.fn.setting l.fn.from l.fn.setting.bits (16 * l.row) (replicate 64 0) l.residuals l.last l.bytes;
-}

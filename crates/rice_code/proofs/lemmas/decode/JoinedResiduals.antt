@@ -1,0 +1,138 @@
+-- Residuals from their high and low parts.
+use Rattle.std.proofs.Common.{◌≡◌, ℕ, zero, suc, ◌+◌, ◌-◌, ◌*◌, ◌/◌, ◌%◌, ◌^◌, ◌<◌, ◌≤◌, Bool, true, false, List, [], ◌∷◌, ◌++◌, length, get_or, take, drop, set, refl, sym, ◌∙◌, ap, subst, arith}
+use Rattle.std.specs.Prelude.{All, flat_map, ◌&&◌}
+use Rattle.std.proofs.lemmas.List.{take_more, take_more_set, drop-set-lt, drop-drop, get_or-drop}
+use Rattle.std.proofs.lemmas.Grind.{get_or_default_zero}
+use Rattle.std.proofs.Math.Dec.{leb}
+use Rattle.std.proofs.lemmas.List.Elements.{All-push}
+use Rattle.std.proofs.lemmas.Nat.{div-mul-add, pow_pos, pow-add}
+use Rattle.std.proofs.lemmas.Bool.{leb-true, leb-false}
+use Rattle.std.proofs.Math.Nat.{le-div_iff_mul-le, div-lt_iff_lt-mul, mod-eq_of_lt, mul-le-mul_right}
+use Rattle.rice_bits.specs.Bits.{word, fundamental_sequence}
+use Rattle.rice_bits.proofs.lemmas.bits.Words.{word-low}
+use Rattle.rice_bits.proofs.lemmas.read.JoinedPartsLemmas.{length-joined}
+use Rattle.rice_bits.specs.read.JoinedParts.{joined_parts}
+
+pub joined-at : (k : ℕ) (ms ls : List ℕ) (i : ℕ) → i < length ms → length ls ≡ length ms → get_or (joined_parts k ms ls) i 0 ≡ get_or ms i 0 * 2 ^ k + get_or ls i 0
+joined-at k [] ls i h e = absurd (omega arith)
+joined-at k (m ∷ ms) [] i h e = absurd (omega arith)
+joined-at k (m ∷ ms) (l ∷ ls) zero h e = refl
+joined-at k (m ∷ ms) (l ∷ ls) (suc i) h e = joined-at k ms ls i (omega arith) (omega arith)
+
+-- all of a list, one more
+pub fit_more : (count : ℕ) (xs : List ℕ) (i : ℕ) → i < length xs → All (λ d. d < count) (take i xs) → get_or xs i 0 < count → All (λ d. d < count) (take (i + 1) xs)
+fit_more count xs i h f k = rw (take_more xs i 0 h) (All-push (λ d. d < count) (take i xs) (get_or xs i 0) f k)
+
+-- the high parts of joined parts
+pub joined_highs : (k most : ℕ) (ms ls : List ℕ) → length ls ≡ length ms → All (λ l. l < 2 ^ k) ls → All (λ m. m ≤ most) ms → All (λ d. d / 2 ^ k ≤ most) (joined_parts k ms ls)
+joined_highs k most ms ls same lows highs = λ i d lt.
+    let n : length (joined_parts k ms ls) ≡ length ms = length-joined k ms ls same in
+    let high : (get_or ms i 0 * 2 ^ k + get_or ls i 0) / 2 ^ k ≡ get_or ms i 0 = div-mul-add (get_or ms i 0) (2 ^ k) (get_or ls i 0) (lows i 0 (omega (arith, same, n, lt))) in
+    let small : get_or (joined_parts k ms ls) i 0 / 2 ^ k ≤ most = omega (arith, ap (λ x. x / 2 ^ k) (joined-at k ms ls i (omega (arith, n, lt)) same), high, highs i 0 (omega (arith, n, lt))) in
+    subst (λ x. x / 2 ^ k ≤ most) (sym (get_or_default_zero (joined_parts k ms ls) i d lt)) small
+
+-- a number of at most as many digits as its high part lets it have
+pub below_by_high : (bits k d : ℕ) → k ≤ bits → d / 2 ^ k ≤ (2 ^ bits - 1) / 2 ^ k → d < 2 ^ bits
+below_by_high bits k d h le =
+    let n : bits - k + k ≡ bits = omega (arith, h) in
+    let whole : 2 ^ (bits - k) * 2 ^ k ≡ 2 ^ bits = sym (pow-add 2 (bits - k) k) ∙ ap (λ m. 2 ^ m) n in
+    let small : (2 ^ bits - 1) / 2 ^ k < 2 ^ (bits - k) = (div-lt_iff_lt-mul {k = 2 ^ k} {x = 2 ^ bits - 1} {y = 2 ^ (bits - k)} (pow_pos k)).1 (omega (arith, whole, pow_pos bits)) in
+    let below : d < 2 ^ (bits - k) * 2 ^ k = (div-lt_iff_lt-mul {k = 2 ^ k} {x = d} {y = 2 ^ (bits - k)} (pow_pos k)).0 (omega (arith, le, small)) in
+    omega (arith, whole, below)
+
+-- the high parts are small where those of joined parts are
+pub highs_of_joined : (k most : ℕ) (ms ls : List ℕ) → length ls ≡ length ms → All (λ l. l < 2 ^ k) ls → All (λ d. d < (most + 1) * 2 ^ k) (joined_parts k ms ls) → All (λ m. m ≤ most) ms
+highs_of_joined k most ms ls same lows joined = λ i d lt.
+    let n : length (joined_parts k ms ls) ≡ length ms = length-joined k ms ls same in
+    let m = get_or ms i 0 in
+    let x = m * 2 ^ k + get_or ls i 0 in
+    let high : x / 2 ^ k ≡ m = div-mul-add m (2 ^ k) (get_or ls i 0) (lows i 0 (omega (arith, same, lt))) in
+    let below : x < (most + 1) * 2 ^ k = subst (λ y. y < (most + 1) * 2 ^ k) (joined-at k ms ls i lt same) (joined i 0 (omega (arith, n, lt))) in
+    let small : x / 2 ^ k < most + 1 = (div-lt_iff_lt-mul {k = 2 ^ k} {x = x} {y = most + 1} (pow_pos k)).1 below in
+    subst (λ y. y ≤ most) (sym (get_or_default_zero ms i d lt)) (omega (arith, high, small))
+
+-- joined parts are small where the high parts are
+pub joined_below : (k most : ℕ) (ms ls : List ℕ) → length ls ≡ length ms → All (λ l. l < 2 ^ k) ls → All (λ m. m ≤ most) ms → All (λ d. d < (most + 1) * 2 ^ k) (joined_parts k ms ls)
+joined_below k most ms ls same lows highs = λ i d lt.
+    let x = get_or (joined_parts k ms ls) i 0 in
+    let high : x / 2 ^ k ≤ most = joined_highs k most ms ls same lows highs i 0 lt in
+    let below : x < (most + 1) * 2 ^ k = (div-lt_iff_lt-mul {k = 2 ^ k} {x = x} {y = most + 1} (pow_pos k)).0 (omega (arith, high)) in
+    subst (λ y. y < (most + 1) * 2 ^ k) (sym (get_or_default_zero (joined_parts k ms ls) i d lt)) below
+
+-- the pieces of joined parts
+pub high_pieces : (k : ℕ) (ms ls : List ℕ) → length ls ≡ length ms → All (λ l. l < 2 ^ k) ls →
+    flat_map (λ d. fundamental_sequence (d / 2 ^ k)) (joined_parts k ms ls) ≡ flat_map fundamental_sequence ms
+high_pieces k [] ls e f = refl
+high_pieces k (m ∷ ms) [] e f = absurd (omega arith)
+high_pieces k (m ∷ ms) (l ∷ ls) e f =
+    let here : (m * 2 ^ k + l) / 2 ^ k ≡ m = div-mul-add m (2 ^ k) l (f 0 0 (omega arith)) in
+    let rest = high_pieces k ms ls (omega arith) (λ i d lt. f (suc i) d (omega arith)) in
+    rw (here, rest) refl
+
+pub low_pieces : (k : ℕ) (ms ls : List ℕ) → length ls ≡ length ms → flat_map (word k) (joined_parts k ms ls) ≡ flat_map (word k) ls
+low_pieces k [] [] e = refl
+low_pieces k [] (l ∷ ls) e = absurd (omega arith)
+low_pieces k (m ∷ ms) [] e = absurd (omega arith)
+low_pieces k (m ∷ ms) (l ∷ ls) e = rw (word-low k k m l (omega arith), low_pieces k ms ls (omega arith)) refl
+
+-- whether all of a list are below a number, one more of them
+pub below-more : (count : ℕ) (xs : List ℕ) (i : ℕ) (all : Bool) → i < length xs → 0 < count → (all ≡ true → All (λ d. d < count) (take i xs)) → (all ≡ false → All (λ d. d < count) xs → ⊥)
+    → ((all && leb (get_or xs i 0) (count - 1)) ≡ true → All (λ d. d < count) (take (i + 1) xs)) × ((all && leb (get_or xs i 0) (count - 1)) ≡ false → All (λ d. d < count) xs → ⊥)
+below-more count xs i all lt some good bad = by_test all (leb (get_or xs i 0) (count - 1)) refl good bad
+  where
+    by_test : (a b : Bool) → leb (get_or xs i 0) (count - 1) ≡ b → (a ≡ true → All (λ d. d < count) (take i xs)) → (a ≡ false → All (λ d. d < count) xs → ⊥)
+        → ((a && b) ≡ true → All (λ d. d < count) (take (i + 1) xs)) × ((a && b) ≡ false → All (λ d. d < count) xs → ⊥)
+    by_test true true t good bad = ((λ e. fit_more count xs i lt (good refl) (omega (arith, some, leb-true (get_or xs i 0) (count - 1) t))), λ e. absurd cc)
+    by_test true false t good bad = ((λ e. absurd cc), λ e h. omega (arith, h i 0 lt, leb-false (get_or xs i 0) (count - 1) t))
+    by_test false b t good bad = ((λ e. absurd cc), λ e h. bad refl h)
+
+at_rest : (xs ys : List ℕ) (i : ℕ) → drop i xs ≡ drop i ys → get_or xs i 0 ≡ get_or ys i 0
+at_rest xs ys i e =
+    let z : i + 0 ≡ i = omega arith in
+    ap (λ n. get_or xs n 0) (sym z) ∙ (sym (get_or-drop i xs 0 0) ∙ (ap (λ zs. get_or zs 0 0) e ∙ (get_or-drop i ys 0 0 ∙ ap (λ n. get_or ys n 0) z)))
+
+-- a high part, and a low part of fewer than p values, where 2^32 is a multiple of p
+join_fits : (high low p q : ℕ) → 0 < p → q * p ≡ 2 ^ 32 → high ≤ (2 ^ 32 - 1) / p → low < p → high * p + low < 2 ^ 32
+join_fits high low p q h e le lt =
+    let small : (2 ^ 32 - 1) / p < q = (div-lt_iff_lt-mul {k = p} {x = 2 ^ 32 - 1} {y = q} h).1 (omega (arith, e)) in
+    let more : (high + 1) * p ≤ q * p = mul-le-mul_right p (omega (arith, le, small)) in
+    omega (arith, more, e, lt)
+
+pub part_fits : (high low k : ℕ) → k ≤ 29 → high ≤ (2 ^ 32 - 1) / 2 ^ k → low < 2 ^ k → high * 2 ^ k + low < 2 ^ 32
+part_fits high low k h le lt =
+    let n : 32 - k + k ≡ 32 = omega arith in
+    join_fits high low (2 ^ k) (2 ^ (32 - k)) (pow_pos k) (sym (pow-add 2 (32 - k) k) ∙ ap (λ m. 2 ^ m) n) le lt
+
+-- high parts are put before low parts, one more
+pub join-more : (k : ℕ) (ms old now : List ℕ) (i : ℕ) → length old ≡ length ms → length now ≡ length old → i < length ms → k ≤ 29 → All (λ h. h ≤ (2 ^ 32 - 1) / 2 ^ k) ms → All (λ l. l < 2 ^ k) old
+    → take i now ≡ take i (joined_parts k ms old) → drop i now ≡ drop i old
+    → (get_or now i 0 + get_or ms i 0 * 2 ^ k % 2 ^ 32 < 2 ^ 32)
+    × (take (i + 1) (set now i (get_or now i 0 + get_or ms i 0 * 2 ^ k % 2 ^ 32)) ≡ take (i + 1) (joined_parts k ms old))
+    × (drop (i + 1) (set now i (get_or now i 0 + get_or ms i 0 * 2 ^ k % 2 ^ 32)) ≡ drop (i + 1) old)
+    × (get_or now i 0 + get_or ms i 0 * 2 ^ k % 2 ^ 32 ≡ get_or (joined_parts k ms old) i 0)
+join-more k ms old now i same long lt few highs lows done rest =
+    let v = get_or now i 0 + get_or ms i 0 * 2 ^ k % 2 ^ 32 in
+    let high : get_or ms i 0 ≤ (2 ^ 32 - 1) / 2 ^ k = highs i 0 lt in
+    let low : get_or old i 0 < 2 ^ k = lows i 0 (omega (arith, same, lt)) in
+    let here : get_or now i 0 ≡ get_or old i 0 = at_rest now old i rest in
+    let fits : get_or ms i 0 * 2 ^ k + get_or old i 0 < 2 ^ 32 = part_fits (get_or ms i 0) (get_or old i 0) k few high low in
+    let whole : get_or ms i 0 * 2 ^ k % 2 ^ 32 ≡ get_or ms i 0 * 2 ^ k = mod-eq_of_lt (omega (arith, fits)) in
+    let n : length (joined_parts k ms old) ≡ length ms = length-joined k ms old same in
+    let value : v ≡ get_or (joined_parts k ms old) i 0 = omega (arith, here, whole, joined-at k ms old i lt same) in (
+      omega (arith, here, whole, fits),
+      take_more_set now i v (omega (arith, long, same, lt)) ∙ ((λ j. done j ++ value j ∷ []) ∙ sym (take_more (joined_parts k ms old) i 0 (omega (arith, n, lt)))),
+      drop-set-lt (i + 1) now i v (omega arith) ∙ (drop_next now i ∙ (ap (λ zs. drop 1 zs) rest ∙ sym (drop_next old i))),
+      value,
+    )
+  where
+    drop_next : (xs : List ℕ) (i : ℕ) → drop (i + 1) xs ≡ drop 1 (drop i xs)
+    drop_next xs i = sym (drop-drop 1 i xs)
+
+-- high parts of numbers that are all below `count`
+pub highs_small : (k count : ℕ) (ms ls : List ℕ) → length ls ≡ length ms → 0 < count → All (λ d. d < count) (joined_parts k ms ls) → All (λ m. m ≤ (count - 1) / 2 ^ k) ms
+highs_small k count ms ls same some h = λ i d lt.
+    let n : length (joined_parts k ms ls) ≡ length ms = length-joined k ms ls same in
+    let below : get_or (joined_parts k ms ls) i 0 < count = h i 0 (omega (arith, n, lt)) in
+    let fits : get_or ms i 0 * 2 ^ k ≤ count - 1 = omega (arith, below, joined-at k ms ls i lt same) in
+    let small : get_or ms i 0 ≤ (count - 1) / 2 ^ k = (le-div_iff_mul-le {k = 2 ^ k} {x = get_or ms i 0} {y = count - 1} (pow_pos k)).1 fits in
+    subst (λ m. m ≤ (count - 1) / 2 ^ k) (sym (get_or_default_zero ms i d lt)) small

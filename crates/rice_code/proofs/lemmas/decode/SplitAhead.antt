@@ -1,0 +1,397 @@
+-- A block by a split that waits, from its parts.
+use Rattle.std.proofs.Common.{◌≡◌, ℕ, zero, suc, ◌+◌, ◌-◌, ◌*◌, ◌/◌, ◌^◌, ◌<◌, ◌≤◌, Bool, true, false, List, [], ◌∷◌, ◌++◌, length, take, drop, refl, sym, ◌∙◌, ap, subst, arith, take-take, replicate, append_assoc, length-append, Option, Some, None, inl, inr}
+use Rattle.std.specs.Prelude.{◌≢◌, ◌⊎◌, All, flat_map, IfSome, IfNone, slice_index_or}
+use Rattle.std.specs.Simd.Lanes.{put_chunk}
+use Rattle.std.proofs.lemmas.Simd.{length-put_chunk, take_more_put_chunk}
+use Rattle.rice_bits.specs.read.Reader.{Reader, Takes}
+use Rattle.rice_samples.specs.bytes.Spelling.{spelling, spellings}
+use Rattle.rice_samples.proofs.lemmas.bytes.ByteLanes.{bytes-front, one_byte}
+use Rattle.rice_code.specs.code.Layout.{padding}
+use Rattle.rice_code.specs.decode.Decoder.{Skips, TakesSet, with_mark}
+use Rattle.rice_code.specs.decode.DecoderState.{DecoderState, next_block_place}
+use Rattle.rice_code.proofs.lemmas.decode.DecoderLemmas.{answers_block, samples_by_bits}
+use Rattle.std.proofs.Math.ListN.{get_or-append}
+use Rattle.std.proofs.Math.Seq.{take-add, take-append_seam}
+use Rattle.std.proofs.lemmas.Bool.Decides.{nat_tests}
+use Rattle.rice_samples.proofs.lemmas.predict.HalfLanes.{two_bytes}
+use Rattle.std.proofs.Math.Nat.{mul-le-mul_right}
+use Rattle.std.proofs.lemmas.Nat.{pow_pos}
+use Rattle.std.proofs.lemmas.List.{drop-drop, get_or-take, length-replicate, length-take-le, get_or-append-add, take_all, take_at}
+use Rattle.std.proofs.lemmas.List.Elements.{All-append, All-cons, All-nil, All-replicate, All-take}
+use Rattle.rice_bits.specs.Bits.{word, fundamental_sequence}
+use Rattle.rice_bits.specs.lanes.Sequences.{BeginWithSequences}
+use Rattle.rice_bits.specs.read.JoinedParts.{joined_parts}
+use Rattle.rice_bits.proofs.lemmas.read.WindowLemmas.{words-front}
+use Rattle.rice_samples.specs.Places.{is_reference}
+use Rattle.rice_samples.specs.predict.LevelsOfParts.{AreLevelsOfParts}
+use Rattle.rice_samples.specs.Parameters.{Parameters, IsLegal, id_len, k_max, value_at, value_count, values_at, width}
+use Rattle.rice_samples.specs.predict.Residuals.{last_of, pattern, rank_below, ranks_below}
+use Rattle.rice_samples.proofs.lemmas.predict.LaneRanks.{length-ranks_below}
+use Rattle.rice_samples.proofs.lemmas.predict.Ranks.{rank_fits}
+use Rattle.rice_samples.proofs.lemmas.setting.ValuesAboveLeast.{sample_at}
+use Rattle.rice_samples.proofs.lemmas.setting.ValuesAt.{last_value, legal_values, length-values, ranks_of_values}
+use Rattle.rice_code.specs.code.Blocks.{BlockData}
+use Rattle.rice_code.specs.code.CodedDataSets.{Split, bits_of_set, reference_bits, sent_from}
+use Rattle.rice_code.specs.code.Forms.{IsReference}
+use Rattle.rice_code.specs.decode.BlocksAhead.{BlockAhead, GivesBytes, HasLanes, HasWidth, PartsAhead, SpelledAhead, SpellsParts}
+use Rattle.rice_code.specs.decode.ReadSets.{reference_place}
+use Rattle.rice_code.proofs.lemmas.code.ReadInOneWay.{wide_id}
+use Rattle.rice_code.proofs.lemmas.decode.JoinedResiduals.{high_pieces, low_pieces}
+use Rattle.rice_code.proofs.lemmas.decode.ReadLemmas.{coded-placed, zero-placed}
+use Rattle.rice_code.proofs.lemmas.decode.RestoredBlocks.{contents_restored}
+
+-- ranks of numbers below `count` are below it
+pub ranks_fit : (count p : ℕ) (xs : List ℕ) → p < count → All (λ x. x < count) xs → All (λ d. d < count) (ranks_below count p xs)
+ranks_fit count p [] h all = All-nil (λ d. d < count)
+ranks_fit count p (x ∷ xs) h all =
+    let lt : x < count = all 0 0 (omega arith) in
+    All-cons (λ d. d < count) (rank_below count p x) (ranks_below count x xs) (rank_fits count p x h lt) (ranks_fit count x xs lt (λ i d k. all (suc i) d (omega (arith, k))))
+
+-- four parts that follow one another
+four-parts : (bits a b c d : List Bool) (k l m n : ℕ) → a ≡ take k bits → b ≡ take l (drop k bits) → c ≡ take m (drop (k + l) bits)
+    → d ≡ take n (drop (k + l + m) bits) → take (k + l + m + n) bits ≡ a ++ (b ++ (c ++ d))
+four-parts bits a b c d k l m n p q r t =
+    let all : k + l + m + n ≡ k + (l + (m + n)) = omega arith in
+    let third : drop m (drop (k + l) bits) ≡ drop (k + l + m) bits = drop-drop m (k + l) bits in
+    let last : take (m + n) (drop (k + l) bits) ≡ c ++ d = take-add m n (drop (k + l) bits) ∙ (λ j. sym r j ++ (ap (take n) third ∙ sym t) j) in
+    let second : take (l + (m + n)) (drop k bits) ≡ b ++ (c ++ d) = take-add l (m + n) (drop k bits) ∙ (λ j. sym q j ++ (ap (take (m + n)) (drop-drop l k bits) ∙ last) j) in
+    ap (λ i. take i bits) all ∙ (take-add k (l + (m + n)) bits ∙ (λ j. sym p j ++ second j))
+
+pub take-ranks : (n count p : ℕ) (xs : List ℕ) → ranks_below count p (take n xs) ≡ take n (ranks_below count p xs)
+take-ranks zero count p xs = refl
+take-ranks (suc n) count p [] = refl
+take-ranks (suc n) count p (x ∷ xs) = ap (λ ds. rank_below count p x ∷ ds) (take-ranks n count x xs)
+
+take-joined : (n k : ℕ) (ms ls : List ℕ) → take n (joined_parts k ms ls) ≡ joined_parts k (take n ms) (take n ls)
+take-joined zero k ms ls = refl
+take-joined (suc n) k [] ls = refl
+take-joined (suc n) k (m ∷ ms) [] = refl
+take-joined (suc n) k (m ∷ ms) (l ∷ ls) = ap (λ ds. (m * 2 ^ k + l) ∷ ds) (take-joined n k ms ls)
+
+-- the first of the numbers that stand before zeros
+first_of : (size : ℕ) (xs ys : List ℕ) → length xs ≡ 16 → size ≤ 16 → ys ≡ take size xs ++ replicate (16 - size) 0 → take size ys ≡ take size xs
+first_of size xs ys n h e = ap (take size) e ∙ take_at (take size xs) (replicate (16 - size) 0) size (length-take-le size xs (omega (arith, n, h)))
+
+-- the block of a split whose parts were found
+pub split_ahead : (waiting : List Bool) (s : Parameters) (b before from k : ℕ) (r : Option ℕ) (ms ls lanes : List ℕ) (a n m : ℕ)
+    → s.preprocess ≡ true → 1 ≤ s.block → IsReference s b r → k ≤ k_max s
+    → word (id_len s) (k + 1) ≡ take (id_len s) waiting → reference_bits s r ≡ take a (drop (id_len s) waiting)
+    → flat_map fundamental_sequence ms ≡ take n (drop (id_len s + a) waiting) → flat_map (word k) ls ≡ take m (drop (id_len s + a + n) waiting)
+    → id_len s + a + n + m ≤ length waiting → length ls ≡ length ms → All (λ l. l < 2 ^ k) ls
+    → from < value_count s → IfSome r (λ v. pattern s (value_at s from) ≡ v) → IfNone r (value_at s from ≡ value_at s before)
+    → s.block ≤ length lanes → All (λ l. l < value_count s) lanes → ranks_below (value_count s) from (take s.block lanes) ≡ reference_place r ++ joined_parts k ms ls
+    → BlockAhead waiting s b (value_at s before) lanes (id_len s + a + n + m)
+split_ahead waiting s b before from k r ms ls lanes a n m pre some ref split id first second third there same low begins pat none enough legal ranked =
+    let levels = take s.block lanes in
+    let small : All (λ l. l < value_count s) levels = All-take (λ l. l < value_count s) s.block lanes legal in
+    let size : length levels ≡ s.block = length-take-le s.block lanes enough in
+    let sent = joined_parts k ms ls in
+    let ds = reference_place r ++ sent in
+    let c : BlockData = record { reference = r; residuals = ds } in
+    let len : length ds ≡ s.block = sym (ap length ranked) ∙ (length-ranks_below (value_count s) from levels ∙ size) in
+    let zero = zero-placed r sent in
+    let spelled : flat_map (λ d. fundamental_sequence (d / 2 ^ k)) (sent_from r ds) ++ flat_map (word k) (sent_from r ds) ≡ flat_map fundamental_sequence ms ++ flat_map (word k) ls =
+    ap (λ xs. flat_map (λ d. fundamental_sequence (d / 2 ^ k)) xs ++ flat_map (word k) xs) (coded-placed r sent) ∙ (λ j. high_pieces k ms ls same low j ++ low_pieces k ms ls same j) in
+    let samples = values_at s levels in
+    let many : length samples ≡ s.block = length-values s levels ∙ size in
+    let contents = contents_restored s b (value_at s before) (value_at s from) r ds samples ref pre len zero some (sample_at s from begins) pat none
+    (legal_values s levels small) many (ranks_of_values s from levels ∙ ranked) in
+    record {
+      set = Split k c;
+      form = (record { reference = ref; len = len }, zero, split);
+      run_sound = tt;
+      residuals_sound = subst (All (λ d. d < value_count s)) ranked (ranks_fit (value_count s) from levels begins small);
+      within = there;
+      bits =
+          four-parts waiting (word (id_len s) (k + 1)) (reference_bits s r) (flat_map fundamental_sequence ms) (flat_map (word k) ls) (id_len s) a n m id first second third
+          ∙ ap (λ xs. word (id_len s) (k + 1) ++ (reference_bits s r ++ xs)) (sym spelled);
+      no_turns = refl;
+      enough = enough;
+      legal = legal;
+      gives = record {
+        len = many;
+        legal = legal_values s levels small;
+        blocks_are = ap (λ x. x ∷ []) contents;
+      };
+    }
+
+-- what is known of a setting whose samples go in lanes
+pub record WidthKnown (s : Parameters) (width : ℕ) : Type 0 where
+  pub id_is : id_len s ≡ width + 2
+  pub short : width + 2 ≤ 4
+  pub few : s.bits ≤ 16
+
+pub width_known : (s : Parameters) (width : ℕ) → HasWidth s width → WidthKnown s width
+width_known s width has =
+    let all : (id_len s ≡ width + 2) × (width + 2 ≤ 4) × (s.bits ≤ 16) = elim has.widths [
+      | inl e ↦ (let few = has.narrow e in let id : id_len s ≡ 3 = grind (arith, nat_tests) in (omega (arith, id, e), omega (arith, e), omega (arith, few)))
+      | inr e ↦ (let few = has.wide e in let wide = few.0 in let most = few.1 in let id : id_len s ≡ 4 = grind (arith, nat_tests) in (omega (arith, id, e), omega (arith, e), most))
+    ] in
+    record { id_is = all.0; short = all.1; few = all.2 }
+
+pub some_samples : (s : Parameters) (size width : ℕ) → HasLanes s size width → 1 ≤ size
+some_samples s size width has = elim has.sizes [
+  | inl e ↦ omega (arith, e)
+  | inr (inl e) ↦ omega (arith, e)
+  | inr (inr (inl e)) ↦ omega (arith, e)
+  | inr (inr (inr e)) ↦ omega (arith, e)
+]
+
+-- blocks of one row, and of more
+pub one_row : (s : Parameters) (size width : ℕ) → HasLanes s size width → size ≤ 16 → (size ≡ 8) ⊎ (size ≡ 16)
+one_row s size width has row = elim has.sizes [
+  | inl e ↦ inl e
+  | inr (inl e) ↦ inr e
+  | inr (inr (inl e)) ↦ absurd (omega (arith, e, row))
+  | inr (inr (inr e)) ↦ absurd (omega (arith, e, row))
+]
+
+pub more_rows : (s : Parameters) (size width : ℕ) → HasLanes s size width → 16 < size → (size ≡ 32) ⊎ (size ≡ 64)
+more_rows s size width has rows = elim has.sizes [
+  | inl e ↦ absurd (omega (arith, e, rows))
+  | inr (inl e) ↦ absurd (omega (arith, e, rows))
+  | inr (inr e) ↦ e
+]
+
+pub one_row_most : (size : ℕ) → (size ≡ 8) ⊎ (size ≡ 16) → size ≤ 16
+one_row_most size sizes = elim sizes [ inl e ↦ omega (arith, e) | inr e ↦ omega (arith, e) ]
+
+pub split_fits : (s : Parameters) (width k : ℕ) → HasWidth s width → k < 3 + 3 * width → (k ≤ k_max s) × (k ≤ 8)
+split_fits s width k has lt =
+    let known = width_known s width has in
+    elim has.widths [
+      | inl e ↦ (let w = wide_id s in (omega (arith, w, lt, e), omega (arith, lt, e)))
+      | inr e ↦ (let id : id_len s ≡ 4 = omega (arith, known.id_is, e) in let all : 2 ^ id_len s ≡ 16 = ap (λ n. 2 ^ n) id in (omega (arith, all, lt, e), omega (arith, lt, e)))
+    ]
+
+-- lanes with zeros behind the first
+pub lanes_sixteen : (size : ℕ) (xs ys : List ℕ) → length xs ≡ 16 → size ≤ 16 → ys ≡ take size xs ++ replicate (16 - size) 0 → length ys ≡ 16
+lanes_sixteen size xs ys n h e =
+    ap length e ∙ (length-append (take size xs) (replicate (16 - size) 0)
+    ∙ (let a = length-take-le size xs (omega (arith, n, h)) in let b = length-replicate {A = ℕ} (16 - size) 0 in omega (arith, a, b, h)))
+
+-- low parts in the first lanes
+pub first-low : (k size : ℕ) (words lanes : List ℕ) → lanes ≡ take size words ++ replicate (16 - size) 0 → All (λ l. l < 2 ^ k) words → All (λ l. l < 2 ^ k) lanes
+first-low k size words lanes e low =
+    subst (All (λ l. l < 2 ^ k)) (sym e) (All-append (λ l. l < 2 ^ k) (take size words) (replicate (16 - size) 0) (All-take (λ l. l < 2 ^ k) size words low)
+    (All-replicate (λ l. l < 2 ^ k) (16 - size) 0 (pow_pos k)))
+
+pub lanes-low : (k size : ℕ) (words behind lanes : List ℕ) → behind ≡ 0 ∷ take 15 words → lanes ≡ take size behind ++ replicate (16 - size) 0 → All (λ l. l < 2 ^ k) words → All (λ l. l < 2 ^ k) lanes
+lanes-low k size words behind lanes e f low =
+    let all : All (λ l. l < 2 ^ k) behind = subst (All (λ l. l < 2 ^ k)) (sym e) (All-cons (λ l. l < 2 ^ k) 0 (take 15 words) (pow_pos k) (All-take (λ l. l < 2 ^ k) 15 words low)) in
+    first-low k size behind lanes f all
+
+-- a block with no reference sample
+pub plain_ahead : (waiting : List Bool) (s : Parameters) (b before k head n size width : ℕ) (numbers words highs lows : List ℕ) → HasLanes s size width
+    → size ≤ 16 → is_reference s b ≡ false → k < 3 + 3 * width → 208 ≤ length waiting
+    → word (id_len s) (k + 1) ≡ take (id_len s) waiting → before < value_count s → head ≡ width + 2 → BeginWithSequences (drop head waiting) size numbers n
+    → length words ≡ 16 → All (λ l. l < 2 ^ k) words → flat_map (word k) words ≡ take (16 * k) (drop (head + n) waiting)
+    → highs ≡ take size numbers ++ replicate (16 - size) 0 → lows ≡ take size words ++ replicate (16 - size) 0
+    → PartsAhead waiting s b before k before 16 highs lows (head + n + size * k)
+plain_ahead waiting s b before k head n size width numbers words highs lows has most none lt there id begins head_here found len low spelled_words high_is low_is =
+    let known = width_known s width has.samples in
+    let some = some_samples s size width has in
+    let split = split_fits s width k has.samples lt in
+    let ms = take size numbers in
+    let ls = take size words in
+    let head_is : head ≡ id_len s = head_here ∙ sym known.id_is in
+    let place : head ≡ id_len s + 0 = omega (arith, head_is) in
+    let all : id_len s + 0 + n + size * k ≡ head + n + size * k = omega (arith, head_is) in
+    let part : size * k ≤ 16 * k = mul-le-mul_right k most in
+    let room : size * k ≤ 128 = let p : 16 * k ≤ 128 = omega (arith, split.1) in omega (arith, part, p) in
+    let spelled : flat_map fundamental_sequence ms ≡ take n (drop (id_len s + 0) waiting) = found.spelled ∙ ap (λ h. take n (drop h waiting)) place in
+    let lowest : flat_map (word k) ls ≡ take (size * k) (drop (id_len s + 0 + n) waiting) =
+    words-front k size words (omega (arith, len, most))
+    ∙ (ap (take (size * k)) spelled_words ∙ (take-take (size * k) (16 * k) (drop (head + n) waiting) part ∙ ap (λ h. take (size * k) (drop (h + n) waiting)) place)) in
+    let same : length ls ≡ length ms = length-take-le size words (omega (arith, len, most)) ∙ sym (length-take-le size numbers (omega (arith, found.lanes, most))) in
+    let n_few = found.few in
+    let short = known.short in
+    let many = lanes_sixteen size numbers highs found.lanes most high_is in
+    record {
+      begins = begins;
+      counts = (lanes_sixteen size numbers highs found.lanes most high_is, lanes_sixteen size words lows len most low_is);
+      low = first-low k size words lows low_is low;
+      whole = λ lanes near.
+          (let ranked : ranks_below (value_count s) before (take s.block lanes) ≡ joined_parts k ms ls =
+          ap (λ z. ranks_below (value_count s) before (take z lanes)) has.size_is ∙ (take-ranks size (value_count s) before lanes ∙ (ap (take size) near.ranked
+          ∙ (take-joined size k highs lows ∙ (λ j. joined_parts k (first_of size numbers highs found.lanes most high_is j) (first_of size words lows len most low_is j))))) in
+          subst (BlockAhead waiting s b (value_at s before) lanes) all
+          (split_ahead waiting s b before before k None ms ls lanes 0 n (size * k) has.preprocess (omega (arith, some, has.size_is))
+          (record { there = sym none; fits = tt }) split.0 id refl spelled lowest
+          (omega (arith, there, head_here, head_is, short, n_few, room)) same (All-take (λ l. l < 2 ^ k) size words low) begins tt refl
+          (omega (arith, near.len, many, most, has.size_is)) near.legal ranked));
+    }
+
+-- joined parts behind a 0
+zero-joined : (k : ℕ) (ms ls : List ℕ) → joined_parts k (0 ∷ ms) (0 ∷ ls) ≡ 0 ∷ joined_parts k ms ls
+zero-joined k ms ls = (let zero_is : 0 * 2 ^ k + 0 ≡ 0 = omega arith in ap (λ d. d ∷ joined_parts k ms ls) zero_is)
+
+-- the first of the numbers behind a 0
+first_behind : (size m : ℕ) (xs behind : List ℕ) → size ≡ suc m → m ≤ 15 → behind ≡ 0 ∷ take 15 xs → take size behind ≡ 0 ∷ take m xs
+first_behind size m xs behind e h is = (λ j. take (e j) (is j)) ∙ ap (λ z. 0 ∷ z) (take-take m 15 xs h)
+
+-- a block with a reference sample
+pub behind_reference_ahead : (waiting : List Bool) (s : Parameters) (b before from v k id bits n size width : ℕ)
+    (numbers words numbers_behind words_behind highs lows : List ℕ) → HasLanes s size width → size ≤ 16 → is_reference s b ≡ true → k < 3 + 3 * width
+    → 208 ≤ length waiting → word (id_len s) (k + 1) ≡ take (id_len s) waiting → id ≡ id_len s → bits ≡ s.bits → v < 2 ^ bits → word bits v ≡ take bits (drop id waiting)
+    → from < value_count s → pattern s (value_at s from) ≡ v → BeginWithSequences (drop (id + bits) waiting) (size - 1) numbers n
+    → length words ≡ 16 → All (λ l. l < 2 ^ k) words → flat_map (word k) words ≡ take (16 * k) (drop (id + bits + n) waiting)
+    → numbers_behind ≡ 0 ∷ take 15 numbers → words_behind ≡ 0 ∷ take 15 words
+    → highs ≡ take size numbers_behind ++ replicate (16 - size) 0 → lows ≡ take size words_behind ++ replicate (16 - size) 0
+    → PartsAhead waiting s b before k from 16 highs lows (id + bits + n + (size - 1) * k)
+behind_reference_ahead waiting s b before from v k id bits n size width numbers words numbers_behind words_behind highs lows has most reference lt there id_word
+    id_is bits_are fits value begins pat found len low spelled_words number_is word_is high_is low_is =
+    let known = width_known s width has.samples in
+    let some = some_samples s size width has in
+    let narrow = known.few in
+    let split = split_fits s width k has.samples lt in
+    let m = size - 1 in
+    let one : size ≡ suc m = omega (arith, some) in
+    let less : m ≤ 15 = omega (arith, most) in
+    let ms = take m numbers in
+    let ls = take m words in
+    let place : id + bits ≡ id_len s + s.bits = omega (arith, id_is, bits_are) in
+    let all : id_len s + s.bits + n + m * k ≡ id + bits + n + m * k = omega (arith, id_is, bits_are) in
+    let part : m * k ≤ 16 * k = mul-le-mul_right k (omega (arith, less)) in
+    let room : m * k ≤ 128 = let p : 16 * k ≤ 128 = omega (arith, split.1) in omega (arith, part, p) in
+    let lowest : flat_map (word k) ls ≡ take (m * k) (drop (id_len s + s.bits + n) waiting) =
+    words-front k m words (omega (arith, len, less))
+    ∙ (ap (take (m * k)) spelled_words ∙ (take-take (m * k) (16 * k) (drop (id + bits + n) waiting) part ∙ ap (λ h. take (m * k) (drop (h + n) waiting)) place)) in
+    let long_numbers : length numbers_behind ≡ 16 = let l : length (take 15 numbers) ≡ 15 = length-take-le 15 numbers (omega (arith, found.lanes)) in omega (arith, ap length number_is, l) in
+    let long_words : length words_behind ≡ 16 = let l : length (take 15 words) ≡ 15 = length-take-le 15 words (omega (arith, len)) in omega (arith, ap length word_is, l) in
+    let first_highs : take size highs ≡ 0 ∷ ms = first_of size numbers_behind highs long_numbers most high_is ∙ first_behind size m numbers numbers_behind one less number_is in
+    let first_lows : take size lows ≡ 0 ∷ ls = first_of size words_behind lows long_words most low_is ∙ first_behind size m words words_behind one less word_is in
+    let first : word s.bits v ≡ take s.bits (drop (id_len s) waiting) = (λ j. word (sym bits_are j) v) ∙ (value ∙ (λ j. take (bits_are j) (drop (id_is j) waiting))) in
+    let same : length ls ≡ length ms = length-take-le m words (omega (arith, len, less)) ∙ sym (length-take-le m numbers (omega (arith, found.lanes, less))) in
+    let n_few = found.few in
+    let short = known.short in
+    let id_here = known.id_is in
+    let many = lanes_sixteen size numbers_behind highs long_numbers most high_is in
+    record {
+      begins = begins;
+      counts = (lanes_sixteen size numbers_behind highs long_numbers most high_is, lanes_sixteen size words_behind lows long_words most low_is);
+      low = lanes-low k size words words_behind lows word_is low_is low;
+      whole = λ lanes near.
+          (let ranked : ranks_below (value_count s) from (take s.block lanes) ≡ 0 ∷ joined_parts k ms ls =
+          ap (λ z. ranks_below (value_count s) from (take z lanes)) has.size_is ∙ (take-ranks size (value_count s) from lanes ∙ (ap (take size) near.ranked
+          ∙ (take-joined size k highs lows ∙ ((λ j. joined_parts k (first_highs j) (first_lows j)) ∙ zero-joined k ms ls)))) in
+          subst (BlockAhead waiting s b (value_at s before) lanes) all
+          (split_ahead waiting s b before from k (Some v) ms ls lanes s.bits n (m * k) has.preprocess (omega (arith, some, has.size_is))
+          (record { there = sym reference; fits = subst (λ w. v < 2 ^ w) bits_are fits }) split.0 id_word
+          first (found.spelled ∙ ap (λ h. take n (drop h waiting)) place) lowest
+          (omega (arith, there, id_here, short, n_few, room, narrow)) same (All-take (λ l. l < 2 ^ k) m words low) begins pat tt (omega (arith, near.len, many, most, has.size_is)) near.legal ranked));
+    }
+
+-- one byte of each sample
+pub bytes_near : (s : Parameters) (from k size : ℕ) (highs lows levels old spelled : List ℕ) → 1 ≤ s.bits → HasWidth s 1 → size ≤ 16
+    → AreLevelsOfParts s from k highs lows levels → 32 ≤ length old → length spelled ≡ 16 → spelled ≡ spellings s (values_at s levels)
+    → SpellsParts s from k size highs lows (slice_index_or levels (size - 1) 0) (put_chunk 0 old spelled)
+bytes_near s from k size highs lows levels old spelled some has most near room count is =
+    let narrow = has.narrow refl in
+    let one : width s * size ≡ size = ap (λ w. w * size) (one_byte s narrow) ∙ omega arith in
+    let front : take size (put_chunk 0 old spelled) ≡ take size spelled = sym (take-take size 16 (put_chunk 0 old spelled) most)
+    ∙ ap (take size) (take_more_put_chunk 0 old spelled 16 (omega (arith, count)) (omega (arith, room))) in
+    record {
+      levels = levels;
+      near = near;
+      last_is = refl;
+      spelled = ap (λ n. take n (put_chunk 0 old spelled)) one ∙ (front ∙ (ap (take size) is ∙ bytes-front s size levels some narrow near.legal));
+    }
+
+-- two bytes of each of eight samples, and of sixteen
+pub words_near : (s : Parameters) (from k size : ℕ) (highs lows first second old spelled : List ℕ) → size ≡ 8 → HasWidth s 2
+    → AreLevelsOfParts s from k highs lows (first ++ second) → length first ≡ 8 → 32 ≤ length old
+    → length spelled ≡ 16 → spelled ≡ spellings s (values_at s first) → SpellsParts s from k size highs lows (slice_index_or first 7 0) (put_chunk 0 old spelled)
+words_near s from k size highs lows first second old spelled eight has near len room count is =
+    let wide = has.wide refl in
+    let two : width s * size ≡ 16 = (λ j. two_bytes s wide.0 wide.1 j * eight j) in
+    let front : take 16 (put_chunk 0 old spelled) ≡ spelled = take_more_put_chunk 0 old spelled 16 (omega (arith, count)) (omega (arith, room)) in
+    let levels : take size (first ++ second) ≡ first = ap (λ n. take n (first ++ second)) (eight ∙ sym len) ∙ take-append_seam first second in
+    let last : slice_index_or first 7 0 ≡ slice_index_or (first ++ second) 7 0 = sym (get_or-append first second 0 7 (omega (arith, len))) in
+    record {
+      levels = first ++ second;
+      near = near;
+      last_is = last ∙ ap (λ n. slice_index_or (first ++ second) (n - 1) 0) (sym eight);
+      spelled = ap (λ n. take n (put_chunk 0 old spelled)) two ∙ (front ∙ (is ∙ ap (λ l. spellings s (values_at s l)) (sym levels)));
+    }
+
+-- the bytes of a block that was looked at, taken and spelled
+pub bytes_given : {I : Type 0} (start marked middle new : Reader I) (first steps last : ℕ) (p q : DecoderState) (lanes : List ℕ) (len l size bytes_of_one : ℕ) (bytes : List ℕ)
+    → IsLegal p.setting → HasLanes p.setting size bytes_of_one → BlockAhead start.waiting p.setting p.block p.before lanes len → marked ≡ with_mark start
+    → Takes marked middle (take len marked.waiting) → steps ≡ first + len
+    → Skips middle new (padding p.setting (p.block + 1 + 0) middle.taken) → last + middle.taken ≡ steps + new.taken → middle.taken ≤ new.taken
+    → l ≡ slice_index_or lanes (size - 1) 0 → q ≡ record p { block = next_block_place p.setting p.block; before = value_at p.setting l; run = 0 }
+    → take (width p.setting * size) bytes ≡ spellings p.setting (values_at p.setting (take size lanes))
+    → GivesBytes start new first last p q bytes
+bytes_given start marked middle new first steps last p q lanes len l size bytes_of_one bytes legal has ahead marks takes counted skips skipped forward last_is moves spelled =
+    let s = p.setting in
+    let some = some_samples s size bytes_of_one has in
+    let levels = take s.block lanes in
+    let samples = values_at s levels in
+    let long : length levels ≡ size = length-take-le s.block lanes ahead.enough ∙ has.size_is in
+    let many : length samples ≡ size = length-values s levels ∙ long in
+    let same : marked.waiting ≡ start.waiting = ap (λ r. r.waiting) marks in
+    let bits : take len marked.waiting ≡ bits_of_set s ahead.set = ap (take len) same ∙ ahead.bits in
+    let taken_len : length (take len marked.waiting) ≡ len = ap (λ w. length (take len w)) same ∙ length-take-le len start.waiting ahead.within in
+    let taken = takes.taken in
+    let set : TakesSet marked middle first steps s p.block p.before samples 0 = record {
+      set = ahead.set;
+      form = ahead.form;
+      run_sound = ahead.run_sound;
+      residuals_sound = ahead.residuals_sound;
+      takes = subst (Takes marked middle) bits takes;
+      gives = ahead.gives;
+      steps = omega (arith, counted, taken, taken_len, ahead.no_turns);
+    } in
+    let from_start : TakesSet (with_mark start) middle first steps s p.block p.before samples 0 = subst (λ r. TakesSet r middle first steps s p.block p.before samples 0) marks set in
+    let end : length levels - 1 ≡ size - 1 = omega (arith, long) in
+    let inside : size - 1 < s.block = omega (arith, some, has.size_is) in
+    let value : value_at s l ≡ last_of p.before samples =
+    ap (value_at s) (last_is ∙ (sym (get_or-take s.block lanes (size - 1) 0 inside) ∙ ap (λ n. slice_index_or levels n 0) (sym end))) ∙ last_value s p.before levels (omega (arith, long, some)) in
+    let bound = samples_by_bits (with_mark start) middle first steps s p.block p.before samples 0 legal from_start in
+    let none : q.run ≡ 0 = ap (λ r. r.run) moves in
+    record {
+      samples = samples;
+      answers = answers_block start middle new first steps last p q samples 0 (value_at s l) from_start skips skipped value moves;
+      spelled = ap (λ n. take (width s * n) bytes) many ∙ (spelled ∙ ap (λ n. spellings s (values_at s (take n lanes))) (sym has.size_is));
+      by_bits = rw none (omega (arith, bound, forward));
+    }
+
+-- the second part of a list
+pub all_behind : (P : ℕ → Type 0) (xs ys : List ℕ) → All P (xs ++ ys) → All P ys
+all_behind P [] ys h = h
+all_behind P (x ∷ xs) ys h = all_behind P xs ys (λ i d lt. h (suc i) d (omega (arith, lt)))
+
+pub spelled_both : (s : Parameters) (xs ys : List ℕ) → spellings s (values_at s xs) ++ spellings s (values_at s ys) ≡ spellings s (values_at s (xs ++ ys))
+spelled_both s [] ys = refl
+spelled_both s (x ∷ xs) ys = append_assoc (spelling s (value_at s x)) (spellings s (values_at s xs)) (spellings s (values_at s ys)) ∙ ap (λ l. spelling s (value_at s x) ++ l) (spelled_both s xs ys)
+
+pub sixteen_words_near : (s : Parameters) (from k size : ℕ) (highs lows first second old spelled more : List ℕ) → HasWidth s 2 → (size ≡ 8) ⊎ (size ≡ 16)
+    → size ≢ 8 → AreLevelsOfParts s from k highs lows (first ++ second) → length first ≡ 8 → length second ≡ 8 → 32 ≤ length old
+    → length spelled ≡ 16 → length more ≡ 16 → spelled ≡ spellings s (values_at s first) → more ≡ spellings s (values_at s second)
+    → SpellsParts s from k size highs lows (slice_index_or second 7 0) (put_chunk 16 (put_chunk 0 old spelled) more)
+sixteen_words_near s from k size highs lows first second old spelled more has sizes other near len many room count counted is more_is =
+    let wide = has.wide refl in
+    let sixteen : size ≡ 16 = elim sizes [ inl e ↦ absurd (other e) | inr e ↦ e ] in
+    let two : width s * size ≡ 32 = (λ j. two_bytes s wide.0 wide.1 j * sixteen j) in
+    let long : length (put_chunk 0 old spelled) ≡ length old = length-put_chunk 0 old spelled in
+    let front : take 16 (put_chunk 0 old spelled) ≡ spelled = take_more_put_chunk 0 old spelled 16 (omega (arith, count)) (omega (arith, room)) in
+    let both : take 32 (put_chunk 16 (put_chunk 0 old spelled) more) ≡ spelled ++ more = take_more_put_chunk 16 (put_chunk 0 old spelled) more 32
+    (omega (arith, counted)) (omega (arith, room, long)) ∙ ap (λ l. l ++ more) front in
+    let whole : length (first ++ second) ≡ 16 = length-append first second ∙ omega (arith, len, many) in
+    let levels : take size (first ++ second) ≡ first ++ second = take_all size (first ++ second) (omega (arith, whole, sixteen)) in
+    let place : length first + 7 ≡ size - 1 = omega (arith, len, sixteen) in
+    record {
+      levels = first ++ second;
+      near = near;
+      last_is = sym (get_or-append-add first second 7 0) ∙ ap (λ n. slice_index_or (first ++ second) n 0) place;
+      spelled = ap (λ n. take n (put_chunk 16 (put_chunk 0 old spelled) more)) two
+          ∙ (both ∙ ((λ j. is j ++ more_is j) ∙ (spelled_both s first second ∙ ap (λ l. spellings s (values_at s l)) (sym levels))));
+    }
+
+-- a block whose bytes are written
+pub spelled_ahead : (waiting : List Bool) (s : Parameters) (b before k from size l len : ℕ) (count : ℕ) (highs lows bytes : List ℕ)
+    → PartsAhead waiting s b before k from count highs lows len → SpellsParts s from k size highs lows l bytes
+    → SpelledAhead waiting s b (value_at s before) size l len bytes
+spelled_ahead waiting s b before k from size l len count highs lows bytes parts near =
+    record { levels = near.levels; ahead = parts.whole near.levels near.near; last_is = near.last_is; spelled = near.spelled }

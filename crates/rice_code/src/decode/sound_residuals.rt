@@ -1,0 +1,83 @@
+//! Joins the parts of residuals, and says whether residuals are sound.
+ghost use Rattle.std.specs.Prelude.{◌≡◌, ◌-◌, ◌/◌, ◌^◌, ◌<◌, ◌≤◌, true, false, length, slice_index, OnSome, All};
+ghost use Rattle.rice_bits.specs.read.JoinedParts.{joined_parts};
+
+/// Joins each high part with the low part of k bits at its place, and writes the residual there.
+#[inline(always)]
+pub fn join_all(highs: &[u32], k: u32, lows: &mut [u32])
+    requires same { length lows.old ≡ length highs.now }
+    requires k { k ≤ 29 }
+    requires highs { All (λ h. h ≤ (2 ^ 32 - 1) / 2 ^ k) highs.now }
+    requires lows { All (λ l. l < 2 ^ k) lows.old }
+    ensures { lows.new ≡ joined_parts k highs.now lows.old }
+{
+    for i in 0..highs.len() {
+        lows[i] += highs[i] << k;
+    }
+}
+
+/// Returns whether all residuals are below 2^`bits`, of which the high parts, without `k` digits, are as small as those of such
+/// numbers.
+#[inline(always)]
+pub fn joined_are_below(bits: u32, k: u32, residuals: &[u32]) -> bool
+    requires bits { (1 ≤ bits) × (bits ≤ 32) }
+    requires highs { All (λ d. d / 2 ^ k ≤ (2 ^ bits - 1) / 2 ^ k) residuals.now }
+    ensures below { result ≡ true → All (λ d. d < 2 ^ bits) residuals.now }
+    ensures not_below { result ≡ false → All (λ d. d < 2 ^ bits) residuals.now → ⊥ }
+{
+    // A high part that is small enough makes a residual that is, unless more digits are split off than a sample has.
+    if k <= bits {
+        return true;
+    }
+    are_below(residuals, 1 << bits)
+}
+
+/// Returns whether all residuals are below `count`.
+pub fn are_below(residuals: &[u32], count: u64) -> bool
+    requires { (0 < count) × (count ≤ 2 ^ 32) }
+    ensures below { result ≡ true → All (λ d. d < count) residuals.now }
+    ensures not_below { result ≡ false → All (λ d. d < count) residuals.now → ⊥ }
+{
+    // The loop is laid out for blocks of 8, with a reference and without.
+    match residuals.len() {
+        7 => each_is_below(&residuals[..7], count),
+        8 => each_is_below(&residuals[..8], count),
+        _ => each_is_below(residuals, count),
+    }
+}
+
+/// As `are_below`, with a loop over residuals of any number.
+#[inline(always)]
+pub fn each_is_below(residuals: &[u32], count: u64) -> bool
+    requires { (0 < count) × (count ≤ 2 ^ 32) }
+    ensures below { result ≡ true → All (λ d. d < count) residuals.now }
+    ensures not_below { result ≡ false → All (λ d. d < count) residuals.now → ⊥ }
+{
+    let greatest = (count - 1) as u32;
+    let mut all = true;
+    for i in 0..residuals.len() {
+        all = all & (residuals[i] <= greatest);
+    }
+    all
+}
+
+/// Returns whether the residuals of a block by second extension are sound: all are below `count`, and the first is 0
+/// where the block has a reference sample. `few` says that all are known to be below 64.
+#[inline]
+pub fn are_sound(reference: Option<u32>, few: bool, residuals: &[u32], count: u64) -> bool
+    requires some { 0 < length residuals.now }
+    requires few { few ≡ true → All (λ d. d < 64) residuals.now }
+    requires count { (0 < count) × (count ≤ 2 ^ 32) }
+    ensures sound { result ≡ true → OnSome reference (slice_index residuals.now 0 ≡ 0) ×
+        All (λ d. d < count) residuals.now }
+    ensures unsound { result ≡ false → OnSome reference (slice_index residuals.now 0 ≡ 0) ×
+        All (λ d. d < count) residuals.now → ⊥ }
+{
+    if reference.is_some() && residuals[0] != 0 {
+        return false;
+    }
+    if few && count >= 64 {
+        return true;
+    }
+    are_below(residuals, count)
+}

@@ -1,0 +1,279 @@
+//! Blocks of 8 or 16 samples of at most 16 bits, by a split, and rows of sixteen samples of longer blocks.
+ghost use Rattle.std.specs.Prelude.{◌≡◌, ◌⊎◌, ◌+◌, ◌-◌, ◌^◌, ◌<◌, ◌≤◌, ◌++◌, ◌*◌, All, true, false, IfSome, IfNone, length, replicate, take};
+ghost use Rattle.rice_bits.specs.Bits.{word};
+ghost use Rattle.rice_samples.specs.Parameters.{id_len, value_count};
+ghost use Rattle.rice_samples.specs.Places.{is_reference};
+ghost use Rattle.rice_samples.specs.predict.LevelsOfParts.{AreLevelsOfParts};
+ghost use Rattle.rice_code.specs.decode.BlocksAhead.{HasLanes, HasWidth, PartsAhead, SpellsParts};
+
+use rice_bits::{BitReader, Intake, behind_zero};
+use rice_samples::{
+    LevelHalves, LevelLanes, Setting, halves_in_turn, joined_in_turn, level_of_pattern,
+    near_halves, near_levels, spelled_bytes, spelled_words,
+};
+use std::simd::prelude::*;
+
+/// The parts of the residuals of a block that waits, in the first lanes, the level after which its first sample is restored, and the
+/// number of bits of its coded data set.
+#[derive(Clone, Copy)]
+pub struct PartLanes {
+    pub from: u32,
+    pub highs: u8x16,
+    pub lows: u8x16,
+    pub len: usize,
+}
+
+/// Returns the number of bytes in which the fundamental sequences of a block have to end.
+#[inline(always)]
+fn sequence_bytes(size: usize) -> usize
+    ensures { (1 ≤ result) × (result ≤ 6) }
+{
+    if size > 8 { 6 } else { 5 }
+}
+
+/// Returns the first `SIZE` numbers, with zeros behind them.
+#[inline(always)]
+fn first_lanes<const SIZE: usize>(numbers: u8x16) -> u8x16
+    requires size { (SIZE ≡ 8) ⊎ (SIZE ≡ 16) }
+    requires len { length numbers ≡ 16 }
+    ensures { result ≡ take SIZE numbers ++ replicate (16 - SIZE) 0 }
+{
+    if SIZE == 16 {
+        numbers
+    } else {
+        first_half(numbers)
+    }
+}
+
+/// Returns the first eight numbers, with zeros behind them.
+#[inline(always)]
+fn first_half(numbers: u8x16) -> u8x16
+    requires { length numbers ≡ 16 }
+    ensures { result ≡ take 8 numbers ++ replicate 8 0 }
+{
+    u8x16::splat(0).shuffle(
+        numbers,
+        [16, 17, 18, 19, 20, 21, 22, 23, 0, 1, 2, 3, 4, 5, 6, 7],
+    )
+}
+
+/// Returns the parts of the block of `SIZE` samples that waits, by split `k`, after a sample at level `before`, if its fundamental
+/// sequences are short. It takes nothing.
+#[inline(always)]
+pub fn parts_ahead<I: Intake, const SIZE: usize, const WIDTH: usize>(
+    setting: &Setting,
+    block: u64,
+    before: u32,
+    k: u32,
+    reader: &BitReader<I>,
+) -> Option<PartLanes>
+    requires lanes { HasLanes setting.now SIZE WIDTH }
+    requires row { SIZE ≤ 16 }
+    requires before { before < value_count setting.now }
+    requires there { 208 ≤ length reader.now.waiting }
+    requires split { k < 3 + 3 * WIDTH }
+    requires id { word (id_len setting.now) (k + 1) ≡ take (id_len setting.now) reader.now.waiting }
+    ensures { IfSome result (λ p. PartsAhead reader.now.waiting setting.now block before k
+        p.from 16 p.highs p.lows p.len) }
+{
+    if setting.is_reference(block) {
+        return parts_behind_reference::<I, SIZE, WIDTH>(setting, block, before, k, reader);
+    }
+    plain_parts::<I, SIZE, WIDTH>(setting, block, before, k, reader)
+}
+
+/// As `parts_ahead`, for a block that has no reference sample.
+#[inline(always)]
+fn plain_parts<I: Intake, const SIZE: usize, const WIDTH: usize>(
+    setting: &Setting,
+    block: u64,
+    before: u32,
+    k: u32,
+    reader: &BitReader<I>,
+) -> Option<PartLanes>
+    requires lanes { HasLanes setting.now SIZE WIDTH }
+    requires row { SIZE ≤ 16 }
+    requires before { before < value_count setting.now }
+    requires reference { is_reference setting.now block ≡ false }
+    requires there { 208 ≤ length reader.now.waiting }
+    requires split { k < 3 + 3 * WIDTH }
+    requires id { word (id_len setting.now) (k + 1) ≡ take (id_len setting.now) reader.now.waiting }
+    ensures { IfSome result (λ p. PartsAhead reader.now.waiting setting.now block before k
+        p.from 16 p.highs p.lows p.len) }
+{
+    let head = WIDTH + 2;
+    let sequences = reader.sequences_ahead(head, sequence_bytes(SIZE), SIZE)?;
+    let words = head + sequences.len;
+    Some(PartLanes {
+        from: before,
+        highs: first_lanes::<SIZE>(sequences.numbers),
+        lows: first_lanes::<SIZE>(reader.words_ahead(words, k)),
+        len: words + SIZE * k as usize,
+    })
+}
+
+/// As `parts_ahead`, for a block that has a reference sample.
+#[inline(always)]
+fn parts_behind_reference<I: Intake, const SIZE: usize, const WIDTH: usize>(
+    setting: &Setting,
+    block: u64,
+    before: u32,
+    k: u32,
+    reader: &BitReader<I>,
+) -> Option<PartLanes>
+    requires lanes { HasLanes setting.now SIZE WIDTH }
+    requires row { SIZE ≤ 16 }
+    requires before { before < value_count setting.now }
+    requires reference { is_reference setting.now block ≡ true }
+    requires there { 208 ≤ length reader.now.waiting }
+    requires split { k < 3 + 3 * WIDTH }
+    requires id { word (id_len setting.now) (k + 1) ≡ take (id_len setting.now) reader.now.waiting }
+    ensures { IfSome result (λ p. PartsAhead reader.now.waiting setting.now block before k
+        p.from 16 p.highs p.lows p.len) }
+{
+    let id = setting.id_len() as usize;
+    let bits = setting.bits();
+    let first = level_of_pattern(setting, reader.number_ahead(id, bits));
+    let head = id + bits as usize;
+    let sequences = reader.sequences_ahead(head, sequence_bytes(SIZE), SIZE - 1)?;
+    let words = head + sequences.len;
+    // A residual of 0 stands at the place of the reference sample.
+    Some(PartLanes {
+        from: first,
+        highs: first_lanes::<SIZE>(behind_zero(sequences.numbers)),
+        lows: first_lanes::<SIZE>(behind_zero(reader.words_ahead(words, k))),
+        len: words + (SIZE - 1) * k as usize,
+    })
+}
+
+/// Writes the bytes of a row of samples of `WIDTH` bytes, the first after a sample at level `from`, whose residuals have these parts: by
+/// `TURNS` if no residual is too large, else if all of them are near to those before them. Returns the level of the last. It may write
+/// more behind these bytes.
+#[inline(always)]
+pub fn spell_parts<const SIZE: usize, const WIDTH: usize, const TURNS: bool>(
+    setting: &Setting,
+    k: u32,
+    from: u32,
+    highs: u8x16,
+    lows: u8x16,
+    bytes: &mut [u8],
+) -> Option<u32>
+    requires width { HasWidth setting.now WIDTH }
+    requires size { (SIZE ≡ 8) ⊎ (SIZE ≡ 16) }
+    requires split { k < 3 + 3 * WIDTH }
+    requires begins { from < value_count setting.now }
+    requires sixteen { (length highs ≡ 16) × (length lows ≡ 16) }
+    requires low { All (λ l. l < 2 ^ k) lows }
+    requires bytes { 32 ≤ length bytes.old }
+    ensures some { IfSome result (λ l. SpellsParts setting.now from k SIZE highs lows l bytes.new) }
+    ensures none { IfNone result (bytes.new ≡ bytes.old) }
+{
+    if WIDTH == 1 {
+        spell_bytes::<SIZE, TURNS>(setting, k, from, highs, lows, bytes)
+    } else {
+        spell_words::<SIZE, TURNS>(setting, k, from, highs, lows, bytes)
+    }
+}
+
+/// Returns the levels of sixteen samples of at most 8 bits, the first after one at level `from`, whose residuals have these parts: by `TURNS`
+/// if no residual is too large, else if all samples are near to those before them.
+#[inline(always)]
+fn row_levels<const TURNS: bool>(
+    setting: &Setting,
+    from: u32,
+    highs: u8x16,
+    lows: u8x16,
+    k: u32,
+) -> Option<LevelLanes>
+    requires narrow { setting.now.bits ≤ 8 }
+    requires begins { from < value_count setting.now }
+    requires split { k ≤ 7 }
+    requires sixteen { (length highs ≡ 16) × (length lows ≡ 16) }
+    requires low { All (λ l. l < 2 ^ k) lows }
+    ensures { IfSome result (λ l. AreLevelsOfParts setting.now from k highs lows l.levels) }
+{
+    if TURNS {
+        return joined_in_turn(setting, from, highs, lows, k);
+    }
+    near_levels(setting, from, highs, lows, k)
+}
+
+/// Returns the levels of sixteen samples of at most 16 bits, the first after one at level `from`, whose residuals have these parts, as
+/// `row_levels` does.
+#[inline(always)]
+fn row_halves<const TURNS: bool>(
+    setting: &Setting,
+    from: u32,
+    highs: u8x16,
+    lows: u8x16,
+    k: u32,
+) -> Option<LevelHalves>
+    requires narrow { setting.now.bits ≤ 16 }
+    requires begins { from < value_count setting.now }
+    requires split { k ≤ 8 }
+    requires sixteen { (length highs ≡ 16) × (length lows ≡ 16) }
+    requires low { All (λ l. l < 2 ^ k) lows }
+    ensures levels { IfSome result (λ l.
+        AreLevelsOfParts setting.now from k highs lows (l.first ++ l.second)) }
+    ensures halves { IfSome result (λ l. (length l.first ≡ 8) × (length l.second ≡ 8)) }
+{
+    if TURNS {
+        return halves_in_turn(setting, from, highs, lows, k);
+    }
+    near_halves(setting, from, highs, lows, k)
+}
+
+/// As `spell_parts`, of samples of one byte.
+#[inline(always)]
+fn spell_bytes<const SIZE: usize, const TURNS: bool>(
+    setting: &Setting,
+    k: u32,
+    from: u32,
+    highs: u8x16,
+    lows: u8x16,
+    bytes: &mut [u8],
+) -> Option<u32>
+    requires width { HasWidth setting.now 1 }
+    requires size { (SIZE ≡ 8) ⊎ (SIZE ≡ 16) }
+    requires split { k < 6 }
+    requires begins { from < value_count setting.now }
+    requires sixteen { (length highs ≡ 16) × (length lows ≡ 16) }
+    requires low { All (λ l. l < 2 ^ k) lows }
+    requires bytes { 32 ≤ length bytes.old }
+    ensures some { IfSome result (λ l. SpellsParts setting.now from k SIZE highs lows l bytes.new) }
+    ensures none { IfNone result (bytes.new ≡ bytes.old) }
+{
+    let _bits = setting.bits();
+    let near = row_levels::<TURNS>(setting, from, highs, lows, k)?;
+    spelled_bytes(setting, near.levels).copy_to_slice(bytes);
+    Some(near.levels.to_array()[SIZE - 1] as u32)
+}
+
+/// As `spell_parts`, of samples of two bytes.
+#[inline(always)]
+fn spell_words<const SIZE: usize, const TURNS: bool>(
+    setting: &Setting,
+    k: u32,
+    from: u32,
+    highs: u8x16,
+    lows: u8x16,
+    bytes: &mut [u8],
+) -> Option<u32>
+    requires width { HasWidth setting.now 2 }
+    requires size { (SIZE ≡ 8) ⊎ (SIZE ≡ 16) }
+    requires split { k < 9 }
+    requires begins { from < value_count setting.now }
+    requires sixteen { (length highs ≡ 16) × (length lows ≡ 16) }
+    requires low { All (λ l. l < 2 ^ k) lows }
+    requires bytes { 32 ≤ length bytes.old }
+    ensures some { IfSome result (λ l. SpellsParts setting.now from k SIZE highs lows l bytes.new) }
+    ensures none { IfNone result (bytes.new ≡ bytes.old) }
+{
+    let near = row_halves::<TURNS>(setting, from, highs, lows, k)?;
+    spelled_words(setting, near.first).copy_to_slice(bytes);
+    if SIZE == 8 {
+        return Some(near.first.to_array()[7] as u32);
+    }
+    spelled_words(setting, near.second).copy_to_slice(&mut bytes[16..]);
+    Some(near.second.to_array()[7] as u32)
+}

@@ -1,0 +1,157 @@
+//! Fundamental sequences that are gathered in a word: each is a bit that is set.
+ghost use Rattle.std.specs.Prelude.{◌≡◌, ◌+◌, ◌-◌, ◌^◌, ◌<◌, ◌≤◌, ◌++◌, Bool, nat_le, List, [], length};
+ghost use Rattle.rice_bits.specs.Bits.{fundamental_sequence};
+ghost use Rattle.rice_code.specs.encode.GatheredSequences.{HasFront, Gathers, HasDigits, four_sequences, sequences_from};
+
+/// Fundamental sequences at the front of a word, which shows them if they are at most 64 bits.
+#[derive(Clone, Copy)]
+pub struct Ones {
+    word: u64,
+    /// Counts down from 2^40 by the bits of the sequences.
+    left: u64,
+}
+
+/// Adds the fundamental sequence of `m`.
+#[inline(always)]
+fn with_one(ones: Ones, m: u32) -> Ones
+    requires { m < ones.left }
+    ensures left { result.left + m + 1 ≡ ones.left }
+    ensures bits { (bits : List Bool) → Gathers ones.word ones.left bits →
+        Gathers result.word result.left (bits ++ fundamental_sequence m) }
+{
+    let left = ones.left - m as u64 - 1;
+    Ones {
+        word: ones.word | 1 << (left % 64),
+        left,
+    }
+}
+
+/// Adds the fundamental sequences of four numbers.
+#[inline(always)]
+pub fn with_four(ones: Ones, four: (u32, u32, u32, u32)) -> Ones
+    requires { 2 ^ 36 ≤ ones.left }
+    ensures most { ones.left ≤ result.left + 2 ^ 34 }
+    ensures some { result.left < ones.left }
+    ensures bits { (bits : List Bool) → Gathers ones.word ones.left bits →
+        Gathers result.word result.left (bits ++ four_sequences four.0 four.1 four.2 four.3) }
+{
+    let one = with_one(ones, four.0);
+    let two = with_one(one, four.1);
+    let three = with_one(two, four.2);
+    with_one(three, four.3)
+}
+
+/// Begins with the fundamental sequences of the four numbers from number `from` on, which is one of the first two.
+#[inline(always)]
+pub fn first_ones(four: (u32, u32, u32, u32), from: usize) -> Ones
+    requires { from ≤ 1 }
+    ensures most { 2 ^ 39 ≤ result.left }
+    ensures some { result.left < 2 ^ 40 }
+    ensures bits { Gathers result.word result.left
+        (sequences_from from four.0 four.1 four.2 four.3) }
+{
+    let none = Ones {
+        word: 0,
+        left: 1 << 40,
+    };
+    if from == 0 {
+        return with_four(none, four);
+    }
+    let one = with_one(none, four.1);
+    let two = with_one(one, four.2);
+    with_one(two, four.3)
+}
+
+/// Returns whether the sequences are at most 56 bits.
+#[inline(always)]
+pub fn are_short(ones: Ones) -> bool
+    ensures { result ≡ nat_le (2 ^ 40 - 56) ones.left }
+{
+    (1 << 40) - 56 <= ones.left
+}
+
+/// Returns the number whose digits are the sequences, and the number of the digits.
+#[inline(always)]
+pub fn number_of_ones(ones: Ones) -> (u64, u32)
+    requires short { 2 ^ 40 - 56 ≤ ones.left }
+    requires some { ones.left < 2 ^ 40 }
+    ensures width { result.1 ≤ 56 }
+    ensures fits { result.0 < 2 ^ result.1 }
+    ensures bits { (bits : List Bool) → Gathers ones.word ones.left bits →
+        HasDigits bits result.0 result.1 }
+{
+    let width = (1 << 40) - ones.left;
+    (ones.word >> (64 - width), width as u32)
+}
+
+/// The digits of a number that is spelled by fundamental sequences, from the first on, and zeros in place of those that are
+/// still to come.
+#[derive(Clone, Copy)]
+pub struct GatheredRow {
+    pub value: u64,
+    /// The number of digits that are still to come.
+    pub left: u64,
+}
+
+/// Begins a number of `total` digits.
+#[inline(always)]
+pub fn no_sequences(total: u64) -> GatheredRow
+    ensures left { result.left ≡ total }
+    ensures bits { HasFront result.value result.left [] }
+{
+    GatheredRow {
+        value: 0,
+        left: total,
+    }
+}
+
+/// Adds the fundamental sequence of `m`.
+#[inline(always)]
+pub fn with_sequence(row: GatheredRow, m: u32) -> GatheredRow
+    requires some { m < row.left }
+    requires few { row.left ≤ 56 }
+    ensures left { result.left + m + 1 ≡ row.left }
+    ensures bits { (bits : List Bool) → HasFront row.value row.left bits →
+        HasFront result.value result.left (bits ++ fundamental_sequence m) }
+{
+    let left = row.left - m as u64 - 1;
+    GatheredRow {
+        value: row.value | 1 << left,
+        left,
+    }
+}
+
+/// Adds the fundamental sequences of four numbers.
+#[inline(always)]
+pub fn with_four_sequences(row: GatheredRow, four: (u32, u32, u32, u32)) -> GatheredRow
+    requires some { four.0 + four.1 + four.2 + four.3 + 4 ≤ row.left }
+    requires few { row.left ≤ 56 }
+    ensures left { result.left + (four.0 + four.1 + four.2 + four.3 + 4) ≡ row.left }
+    ensures bits { (bits : List Bool) → HasFront row.value row.left bits →
+        HasFront result.value result.left (bits ++ four_sequences four.0 four.1 four.2 four.3) }
+{
+    let one = with_sequence(row, four.0);
+    let two = with_sequence(one, four.1);
+    let three = with_sequence(two, four.2);
+    with_sequence(three, four.3)
+}
+
+/// Begins a number of `total` digits with the fundamental sequences of the four numbers from number `from` on, which is one
+/// of the first two.
+#[inline(always)]
+pub fn sequences_of_four(four: (u32, u32, u32, u32), from: usize, total: u64) -> GatheredRow
+    requires from { from ≤ 1 }
+    requires some { length (sequences_from from four.0 four.1 four.2 four.3) ≤ total }
+    requires few { total ≤ 56 }
+    ensures left { result.left + length (sequences_from from four.0 four.1 four.2 four.3) ≡ total }
+    ensures bits { HasFront result.value result.left
+        (sequences_from from four.0 four.1 four.2 four.3) }
+{
+    let none = no_sequences(total);
+    if from == 0 {
+        return with_four_sequences(none, four);
+    }
+    let one = with_sequence(none, four.1);
+    let two = with_sequence(one, four.2);
+    with_sequence(two, four.3)
+}

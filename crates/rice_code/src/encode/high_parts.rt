@@ -1,0 +1,371 @@
+//! Writing the fundamental sequences of 8 or 16 residuals at once, where they fit one put.
+ghost use Rattle.std.specs.Prelude.{◌≡◌, ◌+◌, ◌-◌, ◌/◌, ◌%◌, ◌^◌, ◌<◌, ◌≤◌, ◌++◌, Bool, List, length, drop, slice_index, slice_range, sum_by};
+ghost use Rattle.rice_bits.specs.Limits.{step_limit};
+ghost use Rattle.rice_code.specs.encode.BitBuffer.{HasRoomFor, HasRoomForBits, AddsBits};
+ghost use Rattle.rice_code.specs.encode.GatheredSequences.{Gathers, four_sequences, sequences_from};
+ghost use Rattle.rice_code.specs.encode.SentParts.{HasRoomForOnes, AddsOnes};
+
+use crate::encode::SegmentSink;
+use crate::encode::bit_buffer::BitBuffer;
+use crate::encode::gathered_sequences::{
+    Ones, are_short, first_ones, number_of_ones, sequences_of_four, with_four, with_four_sequences,
+};
+use rice_bits::Meter;
+use rice_samples::Block;
+
+/// Adds the fundamental sequences of the residuals from number `from` on, which is one of the first two, without their `k`
+/// lowest digits: `total` bits. Looks at all residuals.
+#[inline(always)]
+pub fn put_high(
+    block: &Block<'_>,
+    from: usize,
+    k: u32,
+    total: u64,
+    fields: &mut BitBuffer,
+    sink: &mut SegmentSink,
+    meter: &mut Meter,
+)
+    requires split { k ≤ 29 }
+    requires from { from ≤ 1 }
+    requires total { total ≡ length block.now - from +
+        sum_by (λ d. d / 2 ^ k) (drop from block.now) }
+    requires room { HasRoomForOnes k (length block.now) (length block.now - from) (drop from
+        block.now) (length sink.old + length fields.old) (meter.old + length fields.old) }
+    ensures { AddsOnes k (length block.now) (length block.now - from) (drop from block.now)
+        sink.old fields.old sink.new fields.new meter.old meter.new }
+{
+    let len = block.len();
+    if len == 8 {
+        put_eight_high(block, from, k, total, fields, sink, meter);
+        return;
+    }
+    if len == 16 {
+        put_all_sixteen(block, from, k, total, fields, sink, meter);
+        return;
+    }
+    let held = std::mem::replace(fields, BitBuffer::new());
+    let mut steps = Meter::new();
+    if len % 16 != 0 {
+        *fields = put_each_high(block.sized(len), from, k, held, sink, &mut steps);
+        meter.tick(steps.steps());
+        return;
+    }
+    *fields = put_sixteens(block.sized(len), from, k, held, sink, &mut steps);
+    meter.tick(steps.steps());
+}
+
+/// Adds those of a block of any number of residuals, one by one, and returns the buffer.
+#[inline(never)]
+fn put_each_high(
+    block: Block<'_>,
+    from: usize,
+    k: u32,
+    mut fields: BitBuffer,
+    sink: &mut SegmentSink,
+    meter: &mut Meter,
+) -> BitBuffer
+    requires split { k ≤ 29 }
+    requires from { from ≤ 1 }
+    requires room { HasRoomForOnes k (length block) (length block - from) (drop from block)
+        (length sink.old + length fields) (meter.old + length fields) }
+    ensures { AddsOnes k (length block.entry) (length block.entry - from) (drop from block.entry)
+        sink.old fields sink.new result meter.old meter.new }
+{
+    // The residual that is not sent is looked at too.
+    let len = block.len();
+    meter.tick(from as u64);
+    for i in from..len {
+        let residual = block.at(i, meter);
+        fields.add_fs(residual >> k, sink, meter);
+    }
+    fields
+}
+
+/// Adds those of a block of several times 16 residuals, sixteen by sixteen, and returns the buffer.
+#[inline(never)]
+fn put_sixteens(
+    block: Block<'_>,
+    from: usize,
+    k: u32,
+    mut fields: BitBuffer,
+    sink: &mut SegmentSink,
+    meter: &mut Meter,
+) -> BitBuffer
+    requires split { k ≤ 29 }
+    requires from { from ≤ 1 }
+    requires sixteens { length block % 16 ≡ 0 }
+    requires room { HasRoomForOnes k (length block) (length block - from) (drop from block)
+        (length sink.old + length fields) (meter.old + length fields) }
+    ensures { AddsOnes k (length block.entry) (length block.entry - from) (drop from block.entry)
+        sink.old fields sink.new result meter.old meter.new }
+{
+    let len = block.len();
+    put_sixteen_high(&block, 0, from, k, &mut fields, sink, meter);
+    for i in 1..len / 16 {
+        put_sixteen_high(&block, 16 * i, 0, k, &mut fields, sink, meter);
+    }
+    fields
+}
+
+/// Adds those of the first eight residuals from number `from` on: `total` bits.
+#[inline(always)]
+fn put_eight_high(
+    block: &Block<'_>,
+    from: usize,
+    k: u32,
+    total: u64,
+    fields: &mut BitBuffer,
+    sink: &mut SegmentSink,
+    meter: &mut Meter,
+)
+    requires split { k ≤ 29 }
+    requires from { from ≤ 1 }
+    requires eight { 8 ≤ length block.now }
+    requires total { total ≡ 8 - from + sum_by (λ d. d / 2 ^ k) (slice_range block.now from 8) }
+    requires room { HasRoomForOnes k 8 (8 - from) (slice_range block.now from 8)
+        (length sink.old + length fields.old) (meter.old + length fields.old) }
+    ensures { AddsOnes k 8 (8 - from) (slice_range block.now from 8)
+        sink.old fields.old sink.new fields.new meter.old meter.new }
+{
+    let a = high_four(block, 0, k, meter);
+    let b = high_four(block, 4, k, meter);
+    put_eight(a, b, from, total, fields, sink, meter);
+}
+
+/// Adds those of the first 16 residuals from number `from` on: `total` bits.
+#[inline(always)]
+fn put_all_sixteen(
+    block: &Block<'_>,
+    from: usize,
+    k: u32,
+    total: u64,
+    fields: &mut BitBuffer,
+    sink: &mut SegmentSink,
+    meter: &mut Meter,
+)
+    requires split { k ≤ 29 }
+    requires from { from ≤ 1 }
+    requires sixteen { 16 ≤ length block.now }
+    requires total { total ≡ 16 - from + sum_by (λ d. d / 2 ^ k) (slice_range block.now from 16) }
+    requires room { HasRoomForOnes k 16 (16 - from) (slice_range block.now from 16)
+        (length sink.old + length fields.old) (meter.old + length fields.old) }
+    ensures { AddsOnes k 16 (16 - from) (slice_range block.now from 16)
+        sink.old fields.old sink.new fields.new meter.old meter.new }
+{
+    let a = high_four(block, 0, k, meter);
+    let b = high_four(block, 4, k, meter);
+    let c = high_four(block, 8, k, meter);
+    let d = high_four(block, 12, k, meter);
+    put_whole_sixteen(a, b, c, d, from, total, fields, sink, meter);
+}
+
+/// Adds those of 16 residuals, of which the first is number `at`, from the one with number `from` among them on.
+#[inline(always)]
+fn put_sixteen_high(
+    block: &Block<'_>,
+    at: usize,
+    from: usize,
+    k: u32,
+    fields: &mut BitBuffer,
+    sink: &mut SegmentSink,
+    meter: &mut Meter,
+)
+    requires split { k ≤ 29 }
+    requires from { from ≤ 1 }
+    requires inside { at + 15 < length block.now }
+    requires room { HasRoomForOnes k 16 (16 - from) (slice_range block.now (at + from) (at + 16))
+        (length sink.old + length fields.old) (meter.old + length fields.old) }
+    ensures { AddsOnes k 16 (16 - from) (slice_range block.now (at + from) (at + 16))
+        sink.old fields.old sink.new fields.new meter.old meter.new }
+{
+    let _len = block.len();
+    let a = high_four(block, at, k, meter);
+    let b = high_four(block, at + 4, k, meter);
+    let c = high_four(block, at + 8, k, meter);
+    let d = high_four(block, at + 12, k, meter);
+    put_sixteen(a, b, c, d, from, fields, sink, meter);
+}
+
+/// Returns residuals number `at` to `at + 3` without their `k` lowest digits.
+#[inline(always)]
+fn high_four(block: &Block<'_>, at: usize, k: u32, meter: &mut Meter) -> (u32, u32, u32, u32)
+    requires split { k ≤ 29 }
+    requires inside { at + 3 < length block.now }
+    requires meter { meter.old + 4 < step_limit }
+    ensures first { result.0 ≡ slice_index block.now at / 2 ^ k }
+    ensures second { result.1 ≡ slice_index block.now (at + 1) / 2 ^ k }
+    ensures third { result.2 ≡ slice_index block.now (at + 2) / 2 ^ k }
+    ensures last { result.3 ≡ slice_index block.now (at + 3) / 2 ^ k }
+    ensures steps { meter.new ≡ meter.old + 4 }
+{
+    let (a, b, c, d) = block.four_at(at, meter);
+    (a >> k, b >> k, c >> k, d >> k)
+}
+
+/// Adds the fundamental sequences of eight numbers, from number `from` on: `total` bits.
+#[inline(always)]
+fn put_eight(
+    a: (u32, u32, u32, u32),
+    b: (u32, u32, u32, u32),
+    from: usize,
+    total: u64,
+    fields: &mut BitBuffer,
+    sink: &mut SegmentSink,
+    meter: &mut Meter,
+)
+    requires from { from ≤ 1 }
+    requires total { total ≡ length (sequences_from from a.0 a.1 a.2 a.3 ++
+        four_sequences b.0 b.1 b.2 b.3) }
+    requires room { HasRoomForBits (sequences_from from a.0 a.1 a.2 a.3 ++
+        four_sequences b.0 b.1 b.2 b.3)
+        (length sink.old + length fields.old) (meter.old + length fields.old) }
+    ensures { AddsBits (sequences_from from a.0 a.1 a.2 a.3 ++ four_sequences b.0 b.1 b.2 b.3)
+        sink.old fields.old sink.new fields.new meter.old meter.new }
+{
+    if total <= 56 {
+        let row = with_four_sequences(sequences_of_four(a, from, total), b);
+        fields.add(row.value, total as u32, sink, meter);
+        return;
+    }
+    let held = std::mem::replace(fields, BitBuffer::new());
+    let mut steps = Meter::new();
+    let held = put_four_from(a, from, held, sink, &mut steps);
+    *fields = put_four_from(b, 0, held, sink, &mut steps);
+    meter.tick(steps.steps());
+}
+
+/// Adds the fundamental sequences of 16 numbers, from number `from` on: `total` bits.
+#[inline(always)]
+fn put_whole_sixteen(
+    a: (u32, u32, u32, u32),
+    b: (u32, u32, u32, u32),
+    c: (u32, u32, u32, u32),
+    d: (u32, u32, u32, u32),
+    from: usize,
+    total: u64,
+    fields: &mut BitBuffer,
+    sink: &mut SegmentSink,
+    meter: &mut Meter,
+)
+    requires from { from ≤ 1 }
+    requires total { total ≡ length (sequences_from from a.0 a.1 a.2 a.3 ++
+        four_sequences b.0 b.1 b.2 b.3 ++ four_sequences c.0 c.1 c.2 c.3 ++
+        four_sequences d.0 d.1 d.2 d.3) }
+    requires room { HasRoomForBits (sequences_from from a.0 a.1 a.2 a.3 ++
+        four_sequences b.0 b.1 b.2 b.3 ++ four_sequences c.0 c.1 c.2 c.3 ++
+        four_sequences d.0 d.1 d.2 d.3)
+        (length sink.old + length fields.old) (meter.old + length fields.old) }
+    ensures { AddsBits (sequences_from from a.0 a.1 a.2 a.3 ++ four_sequences b.0 b.1 b.2 b.3 ++
+        four_sequences c.0 c.1 c.2 c.3 ++ four_sequences d.0 d.1 d.2 d.3)
+        sink.old fields.old sink.new fields.new meter.old meter.new }
+{
+    if total <= 56 {
+        let half = with_four_sequences(sequences_of_four(a, from, total), b);
+        let row = with_four_sequences(with_four_sequences(half, c), d);
+        fields.add(row.value, total as u32, sink, meter);
+        return;
+    }
+    let held = std::mem::replace(fields, BitBuffer::new());
+    let mut steps = Meter::new();
+    let held = put_four_from(a, from, held, sink, &mut steps);
+    *fields = put_twelve(b, c, d, held, sink, &mut steps);
+    meter.tick(steps.steps());
+}
+
+/// Adds the fundamental sequences of 16 numbers, from number `from` on.
+#[inline(always)]
+fn put_sixteen(
+    a: (u32, u32, u32, u32),
+    b: (u32, u32, u32, u32),
+    c: (u32, u32, u32, u32),
+    d: (u32, u32, u32, u32),
+    from: usize,
+    fields: &mut BitBuffer,
+    sink: &mut SegmentSink,
+    meter: &mut Meter,
+)
+    requires from { from ≤ 1 }
+    requires room { HasRoomForBits (sequences_from from a.0 a.1 a.2 a.3 ++
+        four_sequences b.0 b.1 b.2 b.3 ++ four_sequences c.0 c.1 c.2 c.3 ++
+        four_sequences d.0 d.1 d.2 d.3)
+        (length sink.old + length fields.old) (meter.old + length fields.old) }
+    ensures { AddsBits (sequences_from from a.0 a.1 a.2 a.3 ++ four_sequences b.0 b.1 b.2 b.3 ++
+        four_sequences c.0 c.1 c.2 c.3 ++ four_sequences d.0 d.1 d.2 d.3)
+        sink.old fields.old sink.new fields.new meter.old meter.new }
+{
+    let ones = with_four(with_four(with_four(first_ones(a, from), b), c), d);
+    if are_short(ones) {
+        add_ones(ones, fields, sink, meter);
+        return;
+    }
+    let held = std::mem::replace(fields, BitBuffer::new());
+    let mut steps = Meter::new();
+    let held = put_four_from(a, from, held, sink, &mut steps);
+    *fields = put_twelve(b, c, d, held, sink, &mut steps);
+    meter.tick(steps.steps());
+}
+
+/// Adds the sequences that are gathered.
+#[inline(always)]
+fn add_ones(ones: Ones, fields: &mut BitBuffer, sink: &mut SegmentSink, meter: &mut Meter)
+    requires short { 2 ^ 40 - 56 ≤ ones.left }
+    requires some { ones.left < 2 ^ 40 }
+    requires room { HasRoomFor 0 0 (length sink.old + length fields.old) (meter.old +
+        length fields.old) }
+    ensures { (bits : List Bool) → Gathers ones.word ones.left bits →
+        AddsBits bits sink.old fields.old sink.new fields.new meter.old meter.new }
+{
+    let (value, width) = number_of_ones(ones);
+    fields.add(value, width, sink, meter);
+}
+
+/// Adds the fundamental sequences of four numbers, from number `from` on, and returns the buffer. It takes no reference to
+/// it, so that the bits stay in registers elsewhere.
+#[cold]
+#[inline(never)]
+fn put_four_from(
+    four: (u32, u32, u32, u32),
+    from: usize,
+    mut fields: BitBuffer,
+    sink: &mut SegmentSink,
+    meter: &mut Meter,
+) -> BitBuffer
+    requires from { from ≤ 1 }
+    requires room { HasRoomForBits (sequences_from from four.0 four.1 four.2 four.3)
+        (length sink.old + length fields) (meter.old + length fields) }
+    ensures { AddsBits (sequences_from from four.0 four.1 four.2 four.3)
+        sink.old fields sink.new result meter.old meter.new }
+{
+    if from == 0 {
+        fields.add_four_fs(four, sink, meter);
+        return fields;
+    }
+    fields.add_fs(four.1, sink, meter);
+    fields.add_fs(four.2, sink, meter);
+    fields.add_fs(four.3, sink, meter);
+    fields
+}
+
+/// Adds the fundamental sequences of twelve numbers, and returns the buffer.
+#[cold]
+#[inline(never)]
+fn put_twelve(
+    b: (u32, u32, u32, u32),
+    c: (u32, u32, u32, u32),
+    d: (u32, u32, u32, u32),
+    mut fields: BitBuffer,
+    sink: &mut SegmentSink,
+    meter: &mut Meter,
+) -> BitBuffer
+    requires { HasRoomForBits (four_sequences b.0 b.1 b.2 b.3 ++ four_sequences c.0 c.1 c.2 c.3 ++
+        four_sequences d.0 d.1 d.2 d.3)
+        (length sink.old + length fields) (meter.old + length fields) }
+    ensures { AddsBits (four_sequences b.0 b.1 b.2 b.3 ++ four_sequences c.0 c.1 c.2 c.3 ++
+        four_sequences d.0 d.1 d.2 d.3)
+        sink.old fields sink.new result meter.old meter.new }
+{
+    fields.add_four_fs(b, sink, meter);
+    fields.add_four_fs(c, sink, meter);
+    fields.add_four_fs(d, sink, meter);
+    fields
+}

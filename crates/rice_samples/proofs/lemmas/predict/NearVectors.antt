@@ -1,0 +1,179 @@
+-- Near numbers, as many at a time as a vector has lanes.
+use Rattle.std.proofs.Common.{◌≡◌, inl, inr, ℕ, zero, suc, ◌+◌, ◌-◌, ◌/◌, ◌%◌, ◌^◌, ◌<◌, ◌≤◌, min, max, cond, Bool, true, List, [], ◌∷◌, ◌++◌, map, length, take, drop, get_or, replicate, refl, sym, ◌∙◌, ap, subst, arith, Fits, nat_lt, ◌==◌}
+use Rattle.std.specs.Prelude.{All, bit_and, bit_or}
+use Rattle.std.specs.Int.{Width}
+use mir.Val.{bits, hbits}
+use Rattle.std.specs.Int.Bits.{bit_xor}
+use Rattle.std.specs.List.{range_with_len}
+use Rattle.std.specs.Simd.Lanes.{zip2, Each1, Each2, fold_l, pick_l, sel_l, top}
+use Rattle.std.proofs.lemmas.Bool.Decides.{nat_tests}
+use Rattle.std.proofs.lemmas.Bool.{cases_lt}
+use Rattle.std.proofs.lemmas.Nat.{mod_below, pow_pos}
+use Rattle.std.proofs.lemmas.List.{length-replicate, length-take-le}
+use Rattle.std.proofs.lemmas.Simd.{tops_compared, Each1-get_or, pick_l-range_with_len}
+use Rattle.std.proofs.Math.Nat.{mod-eq_of_lt, add-mod_right}
+use Rattle.std.proofs.Math.Seq.{take-append-add}
+use Rattle.rice_samples.specs.predict.Residuals.{ranks_below}
+use Rattle.rice_bits.specs.read.JoinedParts.{joined_parts}
+use Rattle.rice_samples.specs.Parameters.{Parameters, value_count}
+use Rattle.rice_samples.specs.predict.LevelsOfParts.{AreLevelsOfParts}
+use Rattle.rice_samples.specs.predict.Near.{way, near_numbers, sums_behind, reach, bound}
+use Rattle.rice_samples.proofs.lemmas.blocks.LaneLemmas.{lanes_below_digits, length-map, parts_below}
+use Rattle.rice_samples.proofs.lemmas.predict.NearEights.{length-near_numbers, near_ranks, way_lane}
+
+-- ways
+
+pub vector_of_ways : (w : Width) (n : ℕ) (ds : List ℕ) → length ds ≡ n → Each1 (Fits w) ds
+    → zip2 bit_xor (zip2 (λ d s. d / 2 ^ s) ds (replicate n 1)) (zip2 (λ a b. (a + (2 ^ bits w - b)) % 2 ^ bits w) (replicate n 0) (zip2 bit_and ds (replicate n 1))) ≡ map (way (2 ^ bits w)) ds
+vector_of_ways w n [] e fits = refl
+vector_of_ways w zero (d ∷ ds) e fits = absurd (omega arith)
+vector_of_ways w (suc n) (d ∷ ds) e fits =
+    let rest = vector_of_ways w n ds (omega arith) fits.1 in
+    λ j. way_lane (bits w) d fits.0.fits j ∷ rest j
+
+-- sums
+
+zip2-take : (f : ℕ → ℕ → ℕ) (n : ℕ) (xs ys : List ℕ) → length xs ≤ n → zip2 f xs (take n ys) ≡ zip2 f xs ys
+zip2-take f n [] ys h = refl
+zip2-take f zero (x ∷ xs) ys h = absurd (omega (arith, h))
+zip2-take f (suc n) (x ∷ xs) [] h = refl
+zip2-take f (suc n) (x ∷ xs) (y ∷ ys) h = ap (λ z. f x y ∷ z) (zip2-take f n xs ys (omega (arith, h)))
+
+-- each number with the one k places before it, where the lanes of a vector are moved k places on
+pub sums_are_behind : (m n k : ℕ) (xs : List ℕ) → length xs ≡ k + n → zip2 (λ x y. (x + y) % m) xs (replicate k 0 ++ pick_l 0 xs (range_with_len 0 n)) ≡ sums_behind m k xs
+sums_are_behind m n k xs e =
+    let front : List ℕ = replicate k 0 in
+    let len : length front + n ≡ length xs = omega (arith, e, length-replicate {A = ℕ} k 0) in
+    let moved : front ++ pick_l 0 xs (range_with_len 0 n) ≡ take (length xs) (front ++ xs) =
+    ap (λ z. front ++ z) (pick_l-range_with_len 0 xs 0 n (omega (arith, e))) ∙ (sym (take-append-add front xs n) ∙ ap (λ c. take c (front ++ xs)) len) in
+    ap (λ z. zip2 (λ x y. (x + y) % m) xs z) moved ∙ zip2-take (λ x y. (x + y) % m) (length xs) xs (front ++ xs) (omega arith)
+
+-- a number before all, and all but the last
+pub before_are : (p n : ℕ) (xs : List ℕ) → length xs ≡ suc n → p ∷ pick_l 0 xs (range_with_len 0 n) ≡ take (suc n) (p ∷ xs)
+before_are p n xs e = ap (λ z. p ∷ z) (pick_l-range_with_len 0 xs 0 n (omega (arith, e)))
+
+-- bounds
+
+lesser_selected : (xs ys : List ℕ) → sel_l (zip2 nat_lt xs ys) xs ys ≡ zip2 min xs ys
+lesser_selected [] ys = refl
+lesser_selected (x ∷ xs) [] = refl
+lesser_selected (x ∷ xs) (y ∷ ys) =
+    let one : cond (nat_lt x y) x y ≡ min x y = grind (arith, nat_tests) in
+    λ j. one j ∷ lesser_selected xs ys j
+
+greater_selected : (xs ys : List ℕ) → sel_l (zip2 nat_lt xs ys) ys xs ≡ zip2 max xs ys
+greater_selected [] ys = refl
+greater_selected (x ∷ xs) [] = refl
+greater_selected (x ∷ xs) (y ∷ ys) =
+    let one : cond (nat_lt x y) y x ≡ max x y = grind (arith, nat_tests) in
+    λ j. one j ∷ greater_selected xs ys j
+
+abbrev masks : Width → List ℕ → List ℕ → List Bool
+masks w xs ys = map (top (hbits w)) (zip2 (λ a b. cond (nat_lt a b) (2 ^ bits w - 1) 0) xs ys)
+
+abbrev gaps : ℕ → ℕ → ℕ → List ℕ → List ℕ
+gaps n m g xs = zip2 (λ a b. (a + (m - b)) % m) (replicate n g) xs
+
+of_least : (n m g : ℕ) (xs : List ℕ) → length xs ≡ n → zip2 (λ x y. (x + y) % m) (zip2 min xs (gaps n m g xs)) (zip2 min xs (gaps n m g xs)) ≡ map (bound m g) xs
+of_least n m g [] e = refl
+of_least zero m g (x ∷ xs) e = absurd (omega arith)
+of_least (suc n) m g (x ∷ xs) e = ap (λ z. bound m g x ∷ z) (of_least n m g xs (omega arith))
+
+pub vector_of_bounds : (w : Width) (n g : ℕ) (xs : List ℕ) → length xs ≡ n →
+    (let reaches = sel_l (masks w xs (gaps n (2 ^ bits w) g xs)) xs (gaps n (2 ^ bits w) g xs) in
+    zip2 (λ x y. (x + y) % 2 ^ bits w) reaches reaches) ≡ map (bound (2 ^ bits w) g) xs
+vector_of_bounds w n g xs e =
+    let ys = gaps n (2 ^ bits w) g xs in
+    let least : sel_l (masks w xs ys) xs ys ≡ zip2 min xs ys = ap (λ ms. sel_l ms xs ys) (tops_compared w nat_lt xs ys) ∙ lesser_selected xs ys in
+    (λ j. zip2 (λ x y. (x + y) % 2 ^ bits w) (least j) (least j)) ∙ of_least n (2 ^ bits w) g xs e
+
+-- the tests
+
+one_excess : (m d b : ℕ) → d < m → b < m → (max d b + (m - b)) % m ≡ d - b
+one_excess m d b h k = elim (cases_lt b d) [
+  | inr le ↦ (
+      let same : max d b + (m - b) ≡ m = omega arith in
+      ap (λ n. n % m) (same ∙ (let z : m ≡ 0 + m = omega arith in z)) ∙ (add-mod_right 0 m ∙ (mod-eq_of_lt (omega arith) ∙ omega arith)))
+  | inl lt ↦ (
+      let up : max d b + (m - b) ≡ (d - b) + m = omega arith in
+      ap (λ n. n % m) up ∙ (add-mod_right (d - b) m ∙ mod-eq_of_lt (omega arith)))
+]
+
+pub excess_of_each : (w : Width) (ds bs : List ℕ) → Each1 (Fits w) ds → Each1 (Fits w) bs
+    → zip2 (λ a b. (a + (2 ^ bits w - b)) % 2 ^ bits w) (sel_l (masks w ds bs) bs ds) bs ≡ zip2 (λ d b. d - b) ds bs
+excess_of_each w ds bs h k =
+    let most : sel_l (masks w ds bs) bs ds ≡ zip2 max ds bs = ap (λ ms. sel_l ms bs ds) (tops_compared w nat_lt ds bs) ∙ greater_selected ds bs in
+    ap (λ ys. zip2 (λ a b. (a + (2 ^ bits w - b)) % 2 ^ bits w) ys bs) most ∙ each ds bs h k
+  where
+    each : (ds bs : List ℕ) → Each1 (Fits w) ds → Each1 (Fits w) bs → zip2 (λ a b. (a + (2 ^ bits w - b)) % 2 ^ bits w) (zip2 max ds bs) bs ≡ zip2 (λ d b. d - b) ds bs
+    each [] bs h k = refl
+    each (d ∷ ds) [] h k = refl
+    each (d ∷ ds) (b ∷ bs) h k =
+        let rest = each ds bs h.1 k.1 in
+        λ j. one_excess (2 ^ bits w) d b h.0.fits k.0.fits j ∷ rest j
+
+-- where no number is above the other, in any lane
+pub no_excess_in_vector : (n : ℕ) (ds bs : List ℕ) → length ds ≡ length bs → zip2 (λ d b. d - b) ds bs ≡ replicate n 0 → Each2 (λ d b. d ≤ b) ds bs
+no_excess_in_vector n [] bs e t = tt
+no_excess_in_vector n (d ∷ ds) [] e t = absurd (omega arith)
+no_excess_in_vector zero (d ∷ ds) (b ∷ bs) e t = absurd (let l = ap length t in omega arith)
+no_excess_in_vector (suc n) (d ∷ ds) (b ∷ bs) e t =
+    let first : d - b ≡ 0 = ap (λ xs. get_or xs 0 0) t in
+    (omega (arith, first), no_excess_in_vector n ds bs (omega arith) (ap (drop 1) t))
+
+-- where no rank is above its bound, all numbers are the ones with these ranks
+pub vector_is_near : (n m g p : ℕ) (ds bs xs before over : List ℕ) → p ≤ g → g < m → length ds ≡ n → xs ≡ near_numbers m p ds → before ≡ take n (p ∷ xs) → bs ≡ map (bound m g) before
+    → over ≡ zip2 (λ d b. d - b) ds bs → over ≡ replicate n 0 → All (λ x. x ≤ g) xs × (ranks_below (g + 1) p xs ≡ ds)
+vector_is_near n m g p ds bs xs before over h k len numbers shifted bounds are test =
+    let all : bs ≡ map (bound m g) (take (length ds) (p ∷ near_numbers m p ds)) = bounds ∙ (ap (map (bound m g)) shifted ∙ (λ j. map (bound m g) (take (sym len j) (p ∷ numbers j)))) in
+    let many : length ds ≡ length bs = len ∙ sym
+    (ap length bounds ∙ (length-map (bound m g) before
+    ∙ (ap length shifted ∙ length-take-le n (p ∷ xs) (omega (arith, len, ap length numbers, length-near_numbers m p ds))))) in
+    let each = no_excess_in_vector n ds bs many (sym are ∙ test) in
+    let near = near_ranks m g p ds h k (subst (λ (ys : List ℕ). Each2 (λ d b. d ≤ b) ds ys) all each) in
+    subst (λ (ys : List ℕ). All (λ x. x ≤ g) ys × (ranks_below (g + 1) p ys ≡ ds)) (sym numbers) ((λ i d lt. Each1-get_or (λ x. x ≤ g) (near_numbers m p ds) i d lt near.0), near.1)
+
+pub none_above : (n most : ℕ) (ms over : List ℕ) → over ≡ zip2 (λ d b. d - b) ms (replicate n most) → length ms ≡ n → over ≡ replicate n 0 → All (λ m. m ≤ most) ms
+none_above n most ms over are len test = λ i d lt. Each1-get_or (λ m. m ≤ most) ms i d lt
+    (each n ms len (no_excess_in_vector n ms (replicate n most) (len ∙ sym (length-replicate n most)) (sym are ∙ test)))
+  where
+    each : (n : ℕ) (ms : List ℕ) → length ms ≡ n → Each2 (λ d b. d ≤ b) ms (replicate n most) → Each1 (λ m. m ≤ most) ms
+    each n [] e h = tt
+    each zero (m ∷ ms) e h = absurd (omega arith)
+    each (suc n) (m ∷ ms) e h = (h.0, each n ms (omega arith) h.1)
+
+pub zeros-each : (n : ℕ) (xs ys : List ℕ) → length xs ≡ n → length ys ≡ n → (fold_l bit_or 0 (zip2 bit_or xs ys) == 0) ≡ true → (xs ≡ replicate n 0) × (ys ≡ replicate n 0)
+zeros-each n xs ys h k test =
+    let none : fold_l bit_or 0 (zip2 bit_or xs ys) ≡ 0 = grind (arith, nat_tests) in
+    let both = parts_below 0 xs ys (h ∙ sym k) (subst (λ (m : ℕ). Each1 (λ x. x ≤ m) (zip2 bit_or xs ys)) none (lanes_below_digits (zip2 bit_or xs ys))) in
+    (all n xs h both.0, all n ys k both.1)
+  where
+    all : (n : ℕ) (xs : List ℕ) → length xs ≡ n → Each1 (λ x. x ≤ 0) xs → xs ≡ replicate n 0
+    all zero [] e h = refl
+    all (suc n) [] e h = absurd (omega arith)
+    all zero (x ∷ xs) e h = absurd (omega arith)
+    all (suc n) (x ∷ xs) e h =
+        let first : x ≡ 0 = omega (arith, h.0) in
+        let rest = all n xs (omega arith) h.1 in
+        λ j. first j ∷ rest j
+
+pub splat-fits : (w : Width) (n x : ℕ) → Fits w x → Each1 (Fits w) (replicate n x)
+splat-fits w zero x h = tt
+splat-fits w (suc n) x h = (h, splat-fits w n x h)
+
+pub bounds-fit : (w : Width) (g : ℕ) (xs bs : List ℕ) → bs ≡ map (bound (2 ^ bits w) g) xs → Each1 (Fits w) bs
+bounds-fit w g xs bs e = subst (λ (ys : List ℕ). Each1 (Fits w) ys) (sym e) (each xs)
+  where
+    each : (xs : List ℕ) → Each1 (Fits w) (map (bound (2 ^ bits w) g) xs)
+    each [] = tt
+    each (x ∷ xs) = (record { fits = mod_below (reach (2 ^ bits w) g x + reach (2 ^ bits w) g x) (2 ^ bits w) (pow_pos (bits w)) }, each xs)
+
+pub near_levels_are : (s : Parameters) (m before width greatest : ℕ) (highs lows ranks levels : List ℕ) → greatest + 1 ≡ value_count s
+    → length ranks ≡ length highs → levels ≡ near_numbers m before ranks
+    → ranks ≡ joined_parts width highs lows → All (λ x. x ≤ greatest) levels → ranks_below (greatest + 1) before levels ≡ ranks
+    → AreLevelsOfParts s before width highs lows levels
+near_levels_are s m before width greatest highs lows ranks levels count len near joined legal ranked = record {
+  len = ap length near ∙ (length-near_numbers m before ranks ∙ len);
+  legal = λ i d lt. let x = legal i d lt in omega (arith, x, count);
+  ranked = ap (λ n. ranks_below n before levels) (sym count) ∙ (ranked ∙ joined);
+}

@@ -1,6 +1,0 @@
-use Rattle.std.proofs.Common.{◌^◌}
-use Rattle.rice_samples.proofs.lemmas.predict.LaneNear.{sums_are_behind}
-use Rattle.rice_samples.proofs.predict.byte_lanes.sums_of_four.Goals as goal
-
-pub returns : goal.returns
-returns c = sums_are_behind (2 ^ 8) 14 2 c.args.numbers c.requires

@@ -1,6 +1,0 @@
-use Rattle.std.proofs.Common.{w8, arith}
-use Rattle.rice_samples.proofs.lemmas.predict.TurnLanes.{halves_are}
-use Rattle.rice_samples.proofs.predict.byte_turns.halves.Goals as goal
-
-pub returns : goal.returns
-returns c = halves_are w8 16 c.args.ranks c.requires (omega arith) c.fits-ranks.1

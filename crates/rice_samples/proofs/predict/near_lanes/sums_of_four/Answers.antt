@@ -1,6 +1,0 @@
-use Rattle.std.proofs.Common.{◌^◌}
-use Rattle.rice_samples.proofs.lemmas.predict.NearLanes.{sums_of_four}
-use Rattle.rice_samples.proofs.predict.near_lanes.sums_of_four.Goals as goal
-
-pub returns : goal.returns
-returns c = sums_of_four (2 ^ 32) c.args.numbers c.requires

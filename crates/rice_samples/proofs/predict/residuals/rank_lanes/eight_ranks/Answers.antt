@@ -1,0 +1,12 @@
+use Rattle.std.proofs.Common.{◌∙◌, ◌-◌, arith, min}
+use Rattle.std.specs.Prelude.{replicate}
+use Rattle.std.specs.Simd.Lanes.{zip2}
+use Rattle.rice_samples.proofs.lemmas.predict.LaneRanks.{lanes_ranked, wrapped_add}
+use Rattle.rice_samples.proofs.predict.residuals.rank_lanes.eight_ranks.Goals as goal
+
+pub returns : goal.returns
+returns c =
+    let one = c.excess.ensures ∙ (λ j. zip2 (λ x y. x - y) (c.excess-down.ensures j) (replicate 8 1)) in
+    let last = c.least.ensures ∙ (λ i. zip2 min (zip2 wrapped_add (c.excess-up.ensures i) (one i)) (c.least-reach.ensures i)) in
+    (λ i. zip2 wrapped_add (zip2 wrapped_add (c.excess-down.ensures i) (c.excess-up.ensures i)) (last i))
+    ∙ lanes_ranked c.args.greatest 8 c.args.before c.args.numbers (omega arith) c.fits-before.0 c.fits-numbers.0 c.requires.before c.requires.numbers

@@ -1,0 +1,15 @@
+use Rattle.std.proofs.Common.{◌≡◌, ◌+◌, ◌-◌, ◌^◌, ◌∙◌, arith, refl, sym}
+use Rattle.rice_samples.specs.Parameters.{value_count}
+use Rattle.rice_samples.proofs.lemmas.predict.NearVectors.{near_levels_are}
+use Rattle.rice_samples.proofs.predict.restoring.byte_lanes.near_levels.Goals as goal
+
+pub returns : goal.returns
+returns c =
+    let a = c.args in
+    let values = c.values.ensures in
+    let test = c.if-not-are_zeros.ensures in
+    let small = c.above.ensures.value (test.first refl) in
+    let count : c.values.result - 1 + 1 ≡ value_count a.setting.now = omega (arith, values.value, values.range) in
+    near_levels_are a.setting.now (2 ^ 8) a.before a.width (c.values.result - 1) a.highs a.lows c.joined-ranks.result c.near_numbers-levels.result count
+    (c.joined-ranks.ensures.len ∙ sym c.requires.len.0) c.near_numbers-levels.ensures
+    (c.joined-ranks.ensures.value small) (c.excess_over_near-far.ensures.fit (test.second refl)) (c.excess_over_near-far.ensures.ranks (test.second refl))

@@ -1,0 +1,109 @@
+//! Eight numbers of at most 16 bits from their ranks at a time, in lanes of 16 bits.
+ghost use Rattle.std.specs.Prelude.{◌≡◌, ◌+◌, ◌^◌, ◌≤◌, ◌∷◌, All, length, map, replicate, true, take};
+ghost use Rattle.rice_samples.specs.predict.Residuals.{ranks_below};
+ghost use Rattle.rice_samples.specs.predict.Near.{near_numbers as near_numbers_of, way, bound, sums_behind};
+
+use std::simd::prelude::*;
+
+/// Returns the numbers with these ranks, the first from `p` and each other from the one before it, if all are near.
+#[inline(always)]
+pub(crate) fn near_numbers(p: u16, ranks: u16x8) -> u16x8
+    requires { length ranks ≡ 8 }
+    ensures { result ≡ near_numbers_of (2 ^ 16) p ranks }
+{
+    sums_of_eight(sums_of_four(sums_of_two(ways(ranks)))) + u16x8::splat(p)
+}
+
+/// Returns the way to each number, if it is near. The ways wrap, as their sums do.
+#[inline(always)]
+pub(crate) fn ways(ranks: u16x8) -> u16x8
+    requires { length ranks ≡ 8 }
+    ensures { result ≡ map (way (2 ^ 16)) ranks }
+{
+    let one = u16x8::splat(1);
+    (ranks >> one) ^ (u16x8::splat(0) - (ranks & one))
+}
+
+/// Returns the sum of each number and the one before it.
+#[inline(always)]
+fn sums_of_two(numbers: u16x8) -> u16x8
+    requires { length numbers ≡ 8 }
+    ensures { result ≡ sums_behind (2 ^ 16) 1 numbers }
+{
+    numbers + u16x8::splat(0).shuffle(numbers, [7, 8, 9, 10, 11, 12, 13, 14])
+}
+
+/// Returns the sum of each number and the one two places before it.
+#[inline(always)]
+fn sums_of_four(numbers: u16x8) -> u16x8
+    requires { length numbers ≡ 8 }
+    ensures { result ≡ sums_behind (2 ^ 16) 2 numbers }
+{
+    numbers + u16x8::splat(0).shuffle(numbers, [6, 7, 8, 9, 10, 11, 12, 13])
+}
+
+/// Returns the sum of each number and the one four places before it.
+#[inline(always)]
+fn sums_of_eight(numbers: u16x8) -> u16x8
+    requires { length numbers ≡ 8 }
+    ensures { result ≡ sums_behind (2 ^ 16) 4 numbers }
+{
+    numbers + u16x8::splat(0).shuffle(numbers, [4, 5, 6, 7, 8, 9, 10, 11])
+}
+
+/// Returns by how much each rank is above those that are near. Where none is, the numbers have these ranks.
+#[inline(always)]
+pub(crate) fn excess_over_near(greatest: u16, p: u16, ranks: u16x8, numbers: u16x8) -> u16x8
+    requires lanes { length ranks ≡ 8 }
+    requires numbers { numbers ≡ near_numbers_of (2 ^ 16) p ranks }
+    ensures len { length result ≡ 8 }
+    ensures fit { p ≤ greatest → result ≡ replicate 8 0 → All (λ x. x ≤ greatest) numbers }
+    ensures ranks { p ≤ greatest → result ≡ replicate 8 0 →
+        ranks_below (greatest + 1) p numbers ≡ ranks }
+{
+    // The first number that is not near still has the true one before it, so it is seen here.
+    ranks.saturating_sub(bounds_from(greatest, all_before(p, numbers)))
+}
+
+/// Returns whether each number is so near to the one before it that the range up to `greatest` reaches as far to both
+/// sides. Then the numbers have these ranks.
+#[inline(always)]
+pub(crate) fn are_near(greatest: u16, p: u16, ranks: u16x8, numbers: u16x8) -> bool
+    requires before { p ≤ greatest }
+    requires lanes { length ranks ≡ 8 }
+    requires numbers { numbers ≡ near_numbers_of (2 ^ 16) p ranks }
+    ensures fit { result ≡ true → All (λ x. x ≤ greatest) numbers }
+    ensures ranks { result ≡ true → ranks_below (greatest + 1) p numbers ≡ ranks }
+{
+    let far = excess_over_near(greatest, p, ranks, numbers);
+    are_zeros(far, far)
+}
+
+/// Returns whether both vectors are all zeros.
+#[inline(always)]
+pub(crate) fn are_zeros(a: u16x8, b: u16x8) -> bool
+    requires { (length a ≡ 8) × (length b ≡ 8) }
+    ensures first { result ≡ true → a ≡ replicate 8 0 }
+    ensures second { result ≡ true → b ≡ replicate 8 0 }
+{
+    (a | b).reduce_or() == 0
+}
+
+/// Returns the number before each of these.
+#[inline(always)]
+fn all_before(p: u16, numbers: u16x8) -> u16x8
+    requires { length numbers ≡ 8 }
+    ensures { result ≡ take 8 (p ∷ numbers) }
+{
+    u16x8::splat(p).shuffle(numbers, [7, 8, 9, 10, 11, 12, 13, 14])
+}
+
+/// Returns the greatest rank that is near to each of these numbers.
+#[inline(always)]
+fn bounds_from(greatest: u16, numbers: u16x8) -> u16x8
+    requires { length numbers ≡ 8 }
+    ensures { result ≡ map (bound (2 ^ 16) greatest) numbers }
+{
+    let reach = numbers.simd_min(u16x8::splat(greatest) - numbers);
+    reach + reach
+}
