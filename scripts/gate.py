@@ -26,10 +26,11 @@ CONTROLS = "scripts/edit_controls"
 # What the last run said, for scripts/release.
 RECORD = "out/gate.txt"
 # The most that a check of a crate's edits has been seen to take, in bytes, and some more.
-MEMORY_OF_EDITS = 2_500_000_000
-# About how many seconds of a processor an edit takes, and the most that a part of a crate's edits is to take.
-SECONDS_OF_EDIT = {"rice_bits": 5, "rice_samples": 3, "rice_code": 10, "rice_stream": 18, "rice_c": 6, "aec_tool": 9, "rice_tests": 5}
-SECONDS_OF_PART = 200
+MEMORY_OF_EDITS = 3_000_000_000
+# About how many seconds of a processor an edit takes, and the most that a part of a crate's edits is to take: each part reads all that
+# is below the crate first, in some 10 seconds.
+SECONDS_OF_EDIT = {"rice_bits": 5, "rice_samples": 2, "rice_code": 9, "rice_stream": 18, "rice_c": 6, "aec_tool": 9, "rice_tests": 5}
+SECONDS_OF_PART = 400
 
 
 def in_lanes(run_tasks, tried):
