@@ -1,5 +1,5 @@
 /* Encodes and decodes a file of samples by the library and by libaec, in turn, and prints the least CPU times of some runs in
- * seconds: encoding here and there, decoding here and there.
+ * seconds: encoding here and there, decoding here and there, and decoding here by rice_pull.
  * usage: bench_library BITS BLOCK INTERVAL PREPROCESS SIGNED THREE FILE */
 #define _POSIX_C_SOURCE 200809L
 #include <libaec.h>
@@ -9,7 +9,7 @@
 #include <string.h>
 #include <time.h>
 
-enum { RUNS = 15 };
+enum { RUNS = 15, PIECE = 64 << 10 };
 
 static struct rice_setting setting;
 static struct aec_stream stream;
@@ -51,6 +51,22 @@ static void decode_there(void) {
     if (aec_buffer_decode(&s) != AEC_OK) exit(1);
 }
 
+/* Pulls give whole blocks alone. */
+static size_t pulled(void) {
+    return size / rice_sample_width(&setting) / setting.block * setting.block * rice_sample_width(&setting);
+}
+
+static void pull_here(void) {
+    struct rice_drain drain = {0};
+    struct rice_report report;
+    if (rice_open(&setting, &drain) != RICE_DONE) exit(1);
+    for (size_t written = 0; written < pulled(); written += report.written) {
+        size_t from = drain.bits / 8, left = ours - from;
+        rice_pull(&drain, code + from, left < PIECE ? left : PIECE, back + written, pulled() - written, &report);
+        if (report.written == 0) exit(1);
+    }
+}
+
 static double timed(void (*call)(void)) {
     double before = now();
     call();
@@ -69,14 +85,14 @@ int main(int argc, char **argv) {
     samples = malloc(size), code = malloc(room), other = malloc(room), back = malloc(size);
     if (!samples || !code || !other || !back || fread(samples, 1, size, file) != size) return 2;
     memset(code, 0, room), memset(other, 0, room), memset(back, 0, size);
-    void (*calls[])(void) = {encode_here, encode_there, decode_here, decode_there};
-    double best[] = {1e9, 1e9, 1e9, 1e9};
-    for (int run = 0; run < RUNS; run++) for (int i = 0; i < 4; i++) {
+    void (*calls[])(void) = {encode_here, encode_there, decode_here, decode_there, pull_here};
+    double best[] = {1e9, 1e9, 1e9, 1e9, 1e9};
+    for (int run = 0; run < RUNS; run++) for (int i = 0; i < 5; i++) {
         double time = timed(calls[i]);
         if (time < best[i]) best[i] = time;
-        if (i >= 2 && memcmp(samples, back, size)) return 1;
+        if (i >= 2 && memcmp(samples, back, i == 4 ? pulled() : size)) return 1;
         if (i >= 2) memset(back, 0, size);
     }
-    printf("%f %f %f %f %zu %zu\n", best[0], best[1], best[2], best[3], ours, theirs);
+    printf("%f %f %f %f %f %zu %zu\n", best[0], best[1], best[2], best[3], best[4], ours, theirs);
     return 0;
 }

@@ -243,6 +243,7 @@ fn write_at(setting: &Setting, levels: &[u32], bytes: &mut [u8; 512], at: usize,
         (1, msb, 16) => write_sized_at(setting, 1, msb, 16, levels, bytes, at, samples),
         (2, false, 8) => write_sized_at(setting, 2, false, 8, levels, bytes, at, samples),
         (2, false, 16) => write_sized_at(setting, 2, false, 16, levels, bytes, at, samples),
+        (3, false, 8) => write_sized_at(setting, 3, false, 8, levels, bytes, at, samples),
         _ => write_others_at(setting, levels, bytes, at, samples),
     }
 }
@@ -265,7 +266,6 @@ fn write_others_at(
 {
     match (setting.width(), setting.msb(), levels.len()) {
         (1, msb, 64) => write_sized_at(setting, 1, msb, 64, levels, bytes, at, samples),
-        (3, false, 8) => write_sized_at(setting, 3, false, 8, levels, bytes, at, samples),
         (4, false, 32) => write_sized_at(setting, 4, false, 32, levels, bytes, at, samples),
         (4, false, 64) => write_sized_at(setting, 4, false, 64, levels, bytes, at, samples),
         (width, _, count) => {
