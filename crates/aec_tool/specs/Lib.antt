@@ -3,4 +3,4 @@ pub mod CommandLine
 pub mod Outside
 pub mod Performs
 pub mod Plan
-pub mod Starts
+pub mod WholeCommand

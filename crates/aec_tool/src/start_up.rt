@@ -5,7 +5,7 @@ ghost use Rattle.clap.specs.declared.error.kind.ErrorKind.TheVariants as kinds;
 ghost use Rattle.clap.specs.Walk.{texts};
 ghost use Rattle.aec_tool.specs.CommandLine.{aec, aec_test, AreParsedBy, AreParsedTo, AreRefusedFor, IsRefusedBy};
 ghost use Rattle.aec_tool.specs.Outside.{Outside, IsFresh};
-ghost use Rattle.aec_tool.specs.Starts.{Starts, Explains};
+ghost use Rattle.aec_tool.specs.WholeCommand.{Starts, Explains};
 
 use crate::command_line::{command, test_command};
 use crate::entries::{is_used, plan_of};

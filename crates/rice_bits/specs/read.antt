@@ -2,5 +2,5 @@
 pub mod EndsAndGaps
 pub mod JoinedParts
 pub mod Reader
-pub mod EightWords
+pub mod EightWordPlaces
 pub mod Window

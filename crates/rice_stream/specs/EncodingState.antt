@@ -9,7 +9,7 @@ use Rattle.rice_samples.specs.bytes.Spelling.{spellings, EndsSpelling, NoSpellin
 use Rattle.rice_stream.specs.Calls.{StopsBetween}
 use Rattle.rice_code.specs.code.Code.{code_bits, output, early_output, complete_samples}
 use Rattle.rice_code.specs.encode.Coder.{HasTaken, complete_code}
-use Rattle.rice_code.specs.Steps.{least_steps, most_steps}
+use Rattle.rice_code.specs.CoderSteps.{least_steps, most_steps}
 use Rattle.rice_stream.specs.declared.encoding.Encoding.{Encoding}
 use Rattle.rice_stream.specs.declared.outcome.Fault.{Fault}
 use Rattle.rice_stream.specs.declared.outcome.Fault.TheVariants.{Write, SampleOutOfRange}

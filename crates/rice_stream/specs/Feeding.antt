@@ -9,7 +9,7 @@ use Rattle.rice_samples.specs.bytes.Spelling.{spellings, EndsSpelling, NoSpellin
 use Rattle.rice_code.specs.code.Code.{code_bits, output, early_output, complete_samples}
 use Rattle.rice_code.specs.encode.Coder.{HasTaken, complete_code}
 use Rattle.rice_code.specs.encode.OpenSegment.{state_between}
-use Rattle.rice_code.specs.Steps.{least_steps, most_steps}
+use Rattle.rice_code.specs.CoderSteps.{least_steps, most_steps}
 use Rattle.rice_stream.specs.Encodes.{ReportsTaken, ReportsAll}
 use Rattle.rice_stream.specs.EncodingState.{Beginning, Follows, FollowsBetween, Reads}
 use Rattle.rice_stream.specs.declared.outcome.Fault.{Fault}

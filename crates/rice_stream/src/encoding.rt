@@ -67,7 +67,7 @@ impl<const N: usize> Encoding<N> {
 
     /// Returns an encoding that goes on after the code of whole segments, but for the bits that wait.
     ///
-    /// They are put by `put_waiting`, once it lies where it is kept: else it would be copied there, which takes longer than
+    /// They are put by `put_bits_of_seam`, once it lies where it is kept: else it would be copied there, which takes longer than
     /// short pieces.
     pub(crate) fn resume(setting: Setting, seam: &Seam) -> Self
         requires size { N ≤ longest_segment }
@@ -87,7 +87,7 @@ impl<const N: usize> Encoding<N> {
     }
 
     /// Puts the bits that wait.
-    pub(crate) fn put_waiting(&mut self, seam: &Seam)
+    pub(crate) fn put_bits_of_seam(&mut self, seam: &Seam)
         requires { (s : Parameters) × (xs : List ℤ) × IsSeam s seam.now xs × StandsAt s seam.now self.old }
         ensures { (s : Parameters) (now : Option Room) (xs : List ℤ) → StandsAt s seam.now self.old →
             IsSeam s seam.now xs → IsEncodingOf s (behind s xs now) now self.new xs }

@@ -60,7 +60,7 @@ fn encode_more_in_row<const N: usize, O: Outlet>(
     let count = in_whole_segments(setting, all) - seam.samples;
     let part = &bytes[..width * count as usize];
     let mut encoding = Encoding::<N>::resume(*setting, seam);
-    encoding.put_waiting(seam);
+    encoding.put_bits_of_seam(seam);
     let mut levels = [0u32; SAMPLES];
     match encoding.push_all(setting, part, &mut levels, outlet) {
         Ok(()) => {}
@@ -108,7 +108,7 @@ fn encode_rest_in_row<const N: usize, O: Outlet>(
 {
     let width = setting.width() as usize;
     let mut encoding = Encoding::<N>::resume(*setting, seam);
-    encoding.put_waiting(seam);
+    encoding.put_bits_of_seam(seam);
     if bytes.len() as u64 > bytes_left(width, encoding.taken()) {
         return encoding.stopped(Fault::TooLong);
     }

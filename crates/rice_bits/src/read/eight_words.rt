@@ -1,7 +1,7 @@
 //! Eight words of at most seven bits at a time.
 ghost use Rattle.std.specs.Prelude.{◌≡◌, ◌+◌, ◌-◌, ◌*◌, ◌/◌, ◌%◌, ◌^◌, ◌<◌, ◌≤◌, All, drop, flat_map, length, map, slice_index, take};
 ghost use Rattle.rice_bits.specs.Bits.{bits_of, word};
-ghost use Rattle.rice_bits.specs.read.EightWords.{eight, word_factors, word_places};
+ghost use Rattle.rice_bits.specs.read.EightWordPlaces.{eight, word_factors, word_places};
 
 use crate::bits::eight_bytes::bits_from;
 use std::simd::prelude::*;

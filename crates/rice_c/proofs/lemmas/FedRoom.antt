@@ -11,7 +11,7 @@ use Rattle.rice_samples.specs.Parameters.{Parameters, IsLegal, IsSample, width}
 use Rattle.rice_samples.specs.Places.{cut}
 use Rattle.rice_code.specs.Bounds.{added_bound}
 use Rattle.rice_code.specs.code.Code.{code, output, early_output}
-use Rattle.rice_code.proofs.lemmas.cost.AddedBounds.{added_code_is_bounded}
+use Rattle.rice_code.proofs.lemmas.cost.AddedCodeBound.{added_code_is_bounded}
 use Rattle.rice_code.proofs.lemmas.encode.PushedCode.{between_all}
 use Rattle.rice_stream.specs.EncodingState.{FollowsBetween}
 use Rattle.rice_stream.specs.Feeding.{IsSeam, behind, WantsRoom, AreAll, EncodesMore, EncodesRest}

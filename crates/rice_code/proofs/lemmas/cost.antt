@@ -1,5 +1,5 @@
 -- How many bits and looks the options take.
-pub mod AddedBounds
+pub mod AddedCodeBound
 pub mod BlockBounds
 pub mod CodeEnds
 pub mod Costs

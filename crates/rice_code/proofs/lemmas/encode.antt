@@ -5,7 +5,7 @@ pub mod HeldSamples
 pub mod JoinedWords
 pub mod OpenSegments
 pub mod OptionBits
-pub mod PartsWritten
+pub mod RangesWritten
 pub mod PendingRuns
 pub mod PushedCode
 pub mod ChoiceLemmas

@@ -5,7 +5,7 @@ use Rattle.rice_samples.specs.Parameters.{Parameters, IsLegal, IsSample}
 use Rattle.rice_samples.specs.Places.{place, begins_segment, is_reference, blocks_left}
 use Rattle.rice_samples.specs.predict.Residuals.{pattern, residuals, last_of}
 use Rattle.rice_code.specs.code.Code.{code, code_bits, complete_samples}
-use Rattle.rice_code.specs.Steps.{least_steps, most_steps}
+use Rattle.rice_code.specs.CoderSteps.{least_steps, most_steps}
 use Rattle.rice_code.specs.encode.OpenSegment.{CoderState}
 
 -- the reference of block b, which has these samples

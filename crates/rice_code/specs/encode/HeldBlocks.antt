@@ -8,7 +8,7 @@ use Rattle.rice_code.specs.code.CodedDataSets.{CodedDataSet, run_number, cost, b
 use Rattle.rice_code.specs.code.Runs.{run_of_blocks}
 use Rattle.rice_code.specs.code.SoundBlocks.{block_with}
 use Rattle.rice_code.specs.encode.BitBuffer.{HasRoomFor, HasRoomForSet, PutsSet}
-use Rattle.rice_code.specs.Steps.{least_looks, most_looks}
+use Rattle.rice_code.specs.CoderSteps.{least_looks, most_looks}
 
 -- the first `count` blocks that residuals make, of which only the first has this reference
 abbrev pub held_blocks : Parameters → Option ℕ → ℕ → List ℕ → List BlockData

@@ -7,7 +7,7 @@ use Rattle.rice_code.specs.code.Blocks.{BlockData}
 use Rattle.rice_code.specs.code.Code.{data_sets}
 use Rattle.rice_code.specs.code.CodedDataSets.{CodedDataSet, bits_of_set}
 use Rattle.rice_code.specs.code.SoundBlocks.{AreSoundBlocks}
-use Rattle.rice_code.specs.Steps.{least_looks, most_looks}
+use Rattle.rice_code.specs.CoderSteps.{least_looks, most_looks}
 use Rattle.rice_code.specs.encode.HeldBlocks.{held_blocks}
 use Rattle.rice_code.specs.code.Layout.{layout}
 

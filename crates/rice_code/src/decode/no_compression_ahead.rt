@@ -35,7 +35,7 @@ pub fn is_uncompressed_ahead<I: Intake, const SIZE: usize, const WIDTH: usize>(
 /// Writes the bytes of a row of samples, the first after a sample at level `from`, which have these residuals. Returns the level of the
 /// last. It may write more behind these bytes.
 #[inline(always)]
-fn spell_in_turn<const SIZE: usize>(
+fn restore_and_spell<const SIZE: usize>(
     setting: &Setting,
     from: u32,
     residuals: u8x16,
@@ -79,12 +79,12 @@ fn spell_uncompressed_row<I: Intake, const SIZE: usize>(
 {
     let bits = setting.bits();
     let residuals = behind_omitted(reader.words_ahead(skip, bits), omitted);
-    spell_in_turn::<SIZE>(setting, from, residuals, bytes)
+    restore_and_spell::<SIZE>(setting, from, residuals, bytes)
 }
 
 /// Writes the bytes of row `row`, of sixteen samples, behind those of the rows before it. Returns the level of the last.
 #[inline(always)]
-fn spell_row_in_turn(
+fn restore_and_spell_row(
     setting: &Setting,
     from: u32,
     residuals: &[u8],
@@ -104,7 +104,7 @@ fn spell_row_in_turn(
     ensures len { length bytes.new ≡ length bytes.old }
 {
     let lanes = u8x16::from_slice(&residuals[16 * row..]);
-    spell_in_turn::<16>(setting, from, lanes, &mut bytes[16 * row..])
+    restore_and_spell::<16>(setting, from, lanes, &mut bytes[16 * row..])
 }
 
 /// Writes the bytes of the block of several rows whose words wait behind the first `skip` bits, less those that are omitted, one or
@@ -131,7 +131,7 @@ fn spell_uncompressed_rows<I: Intake, const SIZE: usize>(
     let residuals = low_rows::<I, SIZE>(reader, skip, omitted, bits);
     let mut last = from;
     for row in 0..SIZE / 16 {
-        last = spell_row_in_turn(setting, last, &residuals, row, bytes);
+        last = restore_and_spell_row(setting, last, &residuals, row, bytes);
     }
     last
 }

@@ -4,7 +4,7 @@ ghost use Rattle.rice_bits.specs.Limits.{step_limit};
 ghost use Rattle.rice_samples.specs.Limits.{longest_segment};
 ghost use Rattle.rice_samples.specs.Parameters.{IsSample, value_count, values_at};
 ghost use Rattle.rice_samples.specs.Places.{cut};
-ghost use Rattle.rice_code.specs.Steps.{segment_steps};
+ghost use Rattle.rice_code.specs.CoderSteps.{segment_steps};
 
 use crate::encode::SegmentSink;
 use crate::encode::open_segment::OpenSegment;

@@ -72,14 +72,14 @@ pub(crate) fn sum_shifted(items: &[u32], k: u32) -> u64
         16 => sum_in_lanes_of_64(all_of(items, 16), k),
         32 if 4 <= 1usize << k => sum_in_lanes_of_32(all_of(items, 32), k),
         32 => sum_in_lanes_of_64(all_of(items, 32), k),
-        len if len % 8 != 0 => sum_in_turn(items, k),
+        len if len % 8 != 0 => sum_shifted_in_turn(items, k),
         _ if 8 <= 1usize << k => sum_in_lanes_of_32(items, k),
         _ => sum_in_lanes_of_64(items, k),
     }
 }
 
 /// The sum of the numbers without their `k` lowest digits, one at a time.
-fn sum_in_turn(items: &[u32], k: u32) -> u64
+fn sum_shifted_in_turn(items: &[u32], k: u32) -> u64
     requires few { length items.now ≤ 64 }
     requires shift { k < 32 }
     ensures value { result ≡ sum_by (λ d. d / 2 ^ k) items.now }
@@ -145,7 +145,7 @@ pub(crate) fn small_sum(items: &[u32], k: u32) -> u32
     ensures { result ≡ sum_by (λ d. d / 2 ^ k) items.now }
 {
     if items.len() % 8 != 0 {
-        return sum_in_turn(items, k) as u32;
+        return sum_shifted_in_turn(items, k) as u32;
     }
     small_sum_of_eights(items, k)
 }

@@ -17,7 +17,7 @@ use Rattle.rice_code.specs.code.Code.{code_bits, complete_samples}
 use Rattle.rice_code.specs.code.Blocks.{fill_count_of}
 use Rattle.rice_code.specs.encode.Coder.{HasTaken}
 use Rattle.rice_code.specs.encode.OpenSegment.{CoderState}
-use Rattle.rice_code.specs.Steps.{most_steps}
+use Rattle.rice_code.specs.CoderSteps.{most_steps}
 use Rattle.rice_code.proofs.lemmas.encode.PushedCode.{complete_are_coded}
 use Rattle.rice_code.proofs.lemmas.encode.HeldSamples.{all_first}
 use Rattle.rice_code.proofs.lemmas.cost.LooksPaid.{all_steps_are_bounded}

@@ -17,7 +17,7 @@ use Rattle.rice_samples.specs.bytes.Spelling.{spellings}
 use Rattle.rice_code.specs.encode.Coder.{HasTaken, IsAlignedWith, AddsCode, PushesSamples, CompletesNone, complete_code}
 use Rattle.rice_code.specs.encode.OpenSegment.{CoderState}
 use Rattle.rice_code.specs.code.Code.{code, code_bits, early_output}
-use Rattle.rice_code.specs.Steps.{least_looks, most_looks, least_looks_at, most_looks_at, least_steps, most_steps, segment_steps}
+use Rattle.rice_code.specs.CoderSteps.{least_looks, most_looks, least_looks_at, most_looks_at, least_steps, most_steps, segment_steps}
 use Rattle.rice_code.proofs.lemmas.encode.PushedCode.{segment_steps_few}
 use Rattle.rice_stream.specs.EncodingState.{Beginning, afresh, Follows, CountsSamples, IsEncodingOf, TakesSamples, TakesBetween, FollowsBetween, FailsAt, FailsIn, MeetsFailure, Reads, whole_part}
 use Rattle.rice_stream.specs.Calls.{StopsBetween}

@@ -10,7 +10,7 @@ use Rattle.std.proofs.lemmas.List.Elements.{All-cons, All-nil}
 use Rattle.std.proofs.lemmas.Nat.{pow_pos}
 use Rattle.std.proofs.lemmas.Simd.{get_or_narrower, get_or_wider, get_or-swz_l_below, SwzOk, SwzOk-from_below, swz_l}
 use Rattle.rice_bits.specs.Bits.{word}
-use Rattle.rice_bits.specs.read.EightWords.{eight, word_places}
+use Rattle.rice_bits.specs.read.EightWordPlaces.{eight, word_places}
 use Rattle.rice_bits.proofs.lemmas.bits.EightBytes.{word-mod}
 use Rattle.rice_bits.proofs.lemmas.bits.FirstOnes.{front_below, take-front}
 use Rattle.rice_bits.proofs.lemmas.bits.Words.{length-word, word-split}

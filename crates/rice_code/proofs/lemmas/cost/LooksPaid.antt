@@ -17,7 +17,7 @@ use Rattle.rice_code.specs.code.CodedDataSets.{CodedDataSet, NoCompression, Seco
 use Rattle.rice_code.specs.code.Code.{data_sets, data_set_at, bits_from, code_bits}
 use Rattle.rice_code.specs.code.SoundBlocks.{IsSoundData, AreSoundBlocks}
 use Rattle.rice_code.specs.Laws.{SplitIsPaid}
-use Rattle.rice_code.specs.Steps.{most_looks, most_looks_at, most_steps}
+use Rattle.rice_code.specs.CoderSteps.{most_looks, most_looks_at, most_steps}
 use Rattle.rice_code.proofs.lemmas.meaning.Covers.{best_keeps, bool_cases, data_sets_plain}
 use Rattle.rice_code.specs.code.Choice.{IsBestSplit, best_split, shortest, other_options}
 use Rattle.rice_samples.proofs.lemmas.blocks.FallingSums.{cut_sum, sum_halves}

@@ -15,7 +15,7 @@ use Rattle.rice_code.specs.encode.OpenSegment.{CoderState, IsOpen, HoldsAnySegme
 use Rattle.rice_code.specs.code.CodedDataSets.{bits_of_set, bits_of_sets}
 use Rattle.rice_code.specs.encode.HeldBlocks.{held_blocks, code_of_blocks, PutsBlocks}
 use Rattle.rice_code.specs.code.SoundBlocks.{AreSoundBlocks}
-use Rattle.rice_code.specs.Steps.{least_looks, most_looks}
+use Rattle.rice_code.specs.CoderSteps.{least_looks, most_looks}
 use Rattle.rice_code.specs.Bounds.{block_bound}
 use Rattle.rice_code.proofs.lemmas.cost.BlockBounds.{blocks_are_bounded}
 use Rattle.rice_code.proofs.lemmas.code.SegmentLayouts.{code_lies}

@@ -16,7 +16,7 @@ use Rattle.rice_code.specs.code.Choice.{shortest, best_split}
 use Rattle.rice_code.specs.code.Runs.{run_of_blocks}
 use Rattle.rice_code.specs.encode.HeldBlocks.{pending_zeros, pending_run, held_blocks, reference_at}
 use Rattle.rice_code.specs.code.SoundBlocks.{block_with, IsSoundData, AreSoundBlocks, IsSoundBlock}
-use Rattle.rice_code.specs.Steps.{least_looks, most_looks}
+use Rattle.rice_code.specs.CoderSteps.{least_looks, most_looks}
 use Rattle.rice_code.proofs.lemmas.meaning.Covers.{bool_cases, zero_block_is}
 use Rattle.rice_code.proofs.lemmas.cost.Costs.{cost_is_length}
 use Rattle.rice_code.proofs.lemmas.cost.BlockBounds.{shortest_is_form}

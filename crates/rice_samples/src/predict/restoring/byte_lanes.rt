@@ -40,7 +40,7 @@ pub fn near_levels(
     let levels = near_numbers(before, ranks);
     let far = excess_over_near(greatest, before, ranks, levels);
     // What is above in any lane is seen by one test.
-    if !are_zeros(above(highs, 255 >> width), far) {
+    if !are_zeros(excess_over(highs, 255 >> width), far) {
         return None;
     }
     Some(LevelLanes { levels })
@@ -200,7 +200,7 @@ fn bounds_from(greatest: u8, numbers: u8x16) -> u8x16
 
 /// Returns by how much each number is above `most`.
 #[inline(always)]
-pub(crate) fn above(numbers: u8x16, most: u8) -> u8x16
+pub(crate) fn excess_over(numbers: u8x16, most: u8) -> u8x16
     requires { length numbers ≡ 16 }
     ensures len { length result ≡ 16 }
     ensures value { result ≡ replicate 16 0 → All (λ m. m ≤ most) numbers }

@@ -7,7 +7,7 @@ ghost use Rattle.rice_samples.specs.predict.LevelsOfParts.{AreLevelsOfParts};
 ghost use Rattle.rice_samples.specs.predict.Near.{way as way_of};
 
 use crate::Setting;
-use crate::predict::restoring::byte_lanes::{LevelLanes, above, are_zeros, joined, ways};
+use crate::predict::restoring::byte_lanes::{LevelLanes, are_zeros, excess_over, joined, ways};
 use std::simd::prelude::*;
 
 /// What sixteen numbers are selected from, by their ranks: the rank, the way to a number that is near, half the rank, and how far the
@@ -65,7 +65,7 @@ pub fn joined_in_turn(
 {
     let greatest = (setting.values() - 1) as u8;
     let residuals = joined(highs, lows, width);
-    if !are_zeros(above(highs, 255 >> width), above(residuals, greatest)) {
+    if !are_zeros(excess_over(highs, 255 >> width), excess_over(residuals, greatest)) {
         return None;
     }
     Some(levels_in_turn(setting, before, residuals))

@@ -43,7 +43,7 @@ pub fn halves_in_turn(
     let greatest = (setting.values() - 1) as u16;
     let first_ranks = joined(first_half(highs), first_half(lows), width);
     let second_ranks = joined(second_half(highs), second_half(lows), width);
-    if !are_zeros(above(first_ranks, greatest), above(second_ranks, greatest)) {
+    if !are_zeros(excess_over(first_ranks, greatest), excess_over(second_ranks, greatest)) {
         return None;
     }
     let mut first = [0; 8];
@@ -58,7 +58,7 @@ pub fn halves_in_turn(
 
 /// Returns by how much each rank is above `most`.
 #[inline(always)]
-fn above(ranks: u16x8, most: u16) -> u16x8
+fn excess_over(ranks: u16x8, most: u16) -> u16x8
     requires { length ranks ≡ 8 }
     ensures len { length result ≡ 8 }
     ensures value { result ≡ replicate 8 0 → All (λ d. d ≤ most) ranks }

@@ -29,8 +29,8 @@ returns-then-bytes-bytes_left-clause-did g c xs h =
 pub resume-encoding-requires : goal.resume-encoding-requires
 resume-encoding-requires g c = (search rules, (c.requires.size, (c.requires.room, c.requires.seam)))
 
-pub put_waiting-requires : goal.put_waiting-requires
-put_waiting-requires g c = (search rules, (c.args.setting.now, c.requires.seam.0, c.requires.seam.1, c.resume-encoding.ensures))
+pub put_bits_of_seam-requires : goal.put_bits_of_seam-requires
+put_bits_of_seam-requires g c = (search rules, (c.args.setting.now, c.requires.seam.0, c.requires.seam.1, c.resume-encoding.ensures))
 
 pub push_all-requires : goal.push_all-requires
 push_all-requires g c =
@@ -44,7 +44,7 @@ push_all-requires g c =
         (
           behind c.args.setting.now xs now,
           xs,
-          c.put_waiting.ensures c.args.setting.now now xs c.resume-encoding.ensures h,
+          c.put_bits_of_seam.ensures c.args.setting.now now xs c.resume-encoding.ensures h,
           omega (
             arith,
             few,
@@ -63,7 +63,7 @@ seam-requires g c =
     let now = g.O.Outlet.taken c.args.outlet.now in
     let s = c.args.setting.now in
     let xs = c.requires.seam.0 in
-    let t = c.in-Ok.ensures.did (behind s xs now) xs (c.put_waiting.ensures c.args.setting.now now xs c.resume-encoding.ensures c.requires.seam.1) in
+    let t = c.in-Ok.ensures.did (behind s xs now) xs (c.put_bits_of_seam.ensures c.args.setting.now now xs c.resume-encoding.ensures c.requires.seam.1) in
     (search rules, omega (arith, sink_short s (behind s xs now) _ _ _ t.holds))
 
 pub returns-clause-did : goal.returns-clause-did
@@ -78,7 +78,7 @@ returns-clause-did g c xs h =
     let all = c.in_whole_segments.result in
     let count = all - seam.samples in
     let t = subst (λ (w : ℕ). TakesAll s (behind s xs now) new e xs (take (w * count) bytes)) c.width-width.ensures.value
-    (c.in-Ok.ensures.did (behind s xs now) xs (c.put_waiting.ensures c.args.setting.now now xs c.resume-encoding.ensures h)) in
+    (c.in-Ok.ensures.did (behind s xs now) xs (c.put_bits_of_seam.ensures c.args.setting.now now xs c.resume-encoding.ensures h)) in
     let size : w * seam.samples ≡ width s * length xs = (λ i. c.width-width.ensures.value i * h.samples i) in
     let limit : width s * length xs + length bytes ≤ 281474976710656 = omega (arith, size, h.limit, c.bytes_left.ensures.value, c.if-bytes-bytes_left.false) in
     let per : length bytes / w ≡ length bytes / width s = (λ i. length bytes / c.width-width.ensures.value i) in
@@ -99,7 +99,7 @@ returns-in-Err-clause-did g c xs h =
     let count = c.in_whole_segments.result - seam.samples in
     let fault = c.in-Err.fault in
     let stops = subst (λ (w : ℕ). Pushes {T = Unit {0}} s (behind s xs now) new e xs (take (w * count) bytes) (Err fault)) c.width-width.ensures.value
-    (c.in-Err.ensures.did (behind s xs now) xs (c.put_waiting.ensures c.args.setting.now now xs c.resume-encoding.ensures h)) in
+    (c.in-Err.ensures.did (behind s xs now) xs (c.put_bits_of_seam.ensures c.args.setting.now now xs c.resume-encoding.ensures h)) in
     let size : w * seam.samples ≡ width s * length xs = (λ i. c.width-width.ensures.value i * h.samples i) in
     let limit : width s * length xs + length bytes ≤ 281474976710656 = omega (arith, size, h.limit, c.bytes_left.ensures.value, c.if-bytes-bytes_left.false) in
     let per : length bytes / w ≡ length bytes / width s = (λ i. length bytes / c.width-width.ensures.value i) in

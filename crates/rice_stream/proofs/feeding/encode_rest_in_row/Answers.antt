@@ -11,7 +11,7 @@ bytes_left-requires-clause-samples g c =
     let s = c.args.setting.now in
     let xs = c.requires.seam.0 in
     let h = c.requires.seam.1 in
-    let taken = (c.put_waiting.ensures c.args.setting.now (g.O.Outlet.taken c.args.outlet.now) xs c.resume-encoding.ensures h).counts.samples in
+    let taken = (c.put_bits_of_seam.ensures c.args.setting.now (g.O.Outlet.taken c.args.outlet.now) xs c.resume-encoding.ensures h).counts.samples in
     omega (arith, c.taken.ensures, taken, few_all (width s) (length xs) 0 (some_width s) (omega (arith, h.limit)))
 
 pub returns-then-bytes-bytes_left-clause-did : goal.returns-then-bytes-bytes_left-clause-did
@@ -19,25 +19,25 @@ returns-then-bytes-bytes_left-clause-did g c xs h =
     let now = g.O.Outlet.taken c.args.outlet.now in
     let s = c.args.setting.now in
     let size : c.width-width.result * c.taken.result ≡ width s * length xs =
-    (λ i. c.width-width.ensures.value i * (c.taken.ensures ∙ (c.put_waiting.ensures c.args.setting.now now xs c.resume-encoding.ensures h).counts.samples) i) in
+    (λ i. c.width-width.ensures.value i * (c.taken.ensures ∙ (c.put_bits_of_seam.ensures c.args.setting.now now xs c.resume-encoding.ensures h).counts.samples) i) in
     subst (EncodesRest s xs c.args.bytes.now now now c.stopped.result.report) (sym c.stopped.ensures.fault) (
       record { passes = omega (arith, size, c.bytes_left.ensures.value, c.if-bytes-bytes_left.true); untouched = refl },
       c.stopped.ensures.told s xs
-          (c.put_waiting.ensures c.args.setting.now now xs c.resume-encoding.ensures h).counts,
+          (c.put_bits_of_seam.ensures c.args.setting.now now xs c.resume-encoding.ensures h).counts,
     )
 
 pub resume-encoding-requires : goal.resume-encoding-requires
 resume-encoding-requires g c = (search rules, (c.requires.size, (c.requires.room, c.requires.seam)))
 
-pub put_waiting-requires : goal.put_waiting-requires
-put_waiting-requires g c = (search rules, (c.args.setting.now, c.requires.seam.0, c.requires.seam.1, c.resume-encoding.ensures))
+pub put_bits_of_seam-requires : goal.put_bits_of_seam-requires
+put_bits_of_seam-requires g c = (search rules, (c.args.setting.now, c.requires.seam.0, c.requires.seam.1, c.resume-encoding.ensures))
 
 pub push_all-requires : goal.push_all-requires
 push_all-requires g c =
     let now = g.O.Outlet.taken c.args.outlet.now in
     let xs = c.requires.seam.0 in
     let h = c.requires.seam.1 in
-    let holds = c.put_waiting.ensures c.args.setting.now now xs c.resume-encoding.ensures h in
+    let holds = c.put_bits_of_seam.ensures c.args.setting.now now xs c.resume-encoding.ensures h in
     let few = c.bytes_left.ensures.few (omega (arith, c.width-width.ensures.range)) in (
       search rules,
       (
@@ -53,10 +53,10 @@ returns-in-Err-clause-did g c xs h =
     let s = c.args.setting.now in
     let o = c.stopped-in-Err in
     let size : c.width-width.result * c.taken.result ≡ width s * length xs =
-    (λ i. c.width-width.ensures.value i * (c.taken.ensures ∙ (c.put_waiting.ensures c.args.setting.now now xs c.resume-encoding.ensures h).counts.samples) i) in
+    (λ i. c.width-width.ensures.value i * (c.taken.ensures ∙ (c.put_bits_of_seam.ensures c.args.setting.now now xs c.resume-encoding.ensures h).counts.samples) i) in
     let limit : width s * length xs + length c.args.bytes.now ≤ 281474976710656 = omega (arith, size, h.limit, c.bytes_left.ensures.value, c.if-bytes-bytes_left.false) in
     rest_stops s now new c.push_all.new.self o.result.report xs c.args.bytes.now limit c.in-Err.fault o.result.fault o.ensures.fault (λ ys k. o.ensures.told s ys k)
-    (c.in-Err.ensures.did (behind s xs now) xs (c.put_waiting.ensures c.args.setting.now now xs c.resume-encoding.ensures h))
+    (c.in-Err.ensures.did (behind s xs now) xs (c.put_bits_of_seam.ensures c.args.setting.now now xs c.resume-encoding.ensures h))
 
 pub returns-in-Err-clause-failures : goal.returns-in-Err-clause-failures
 returns-in-Err-clause-failures g c =
@@ -67,7 +67,7 @@ returns-in-Err-clause-failures g c =
     let h = c.requires.seam.1 in
     push_fails s (behind s xs now) new c.push_all.new.self xs c.args.bytes.now c.in-Err.fault c.stopped-in-Err.result.fault 0 0
     (g.O.Outlet.failed c.args.outlet.now) (g.O.Outlet.failed c.args.outlet.now) (g.O.Outlet.failed c.push_all.new.outlet)
-    refl refl (c.in-Err.ensures.did (behind s xs now) xs (c.put_waiting.ensures c.args.setting.now now xs c.resume-encoding.ensures h)) c.in-Err.ensures.failures c.stopped-in-Err.ensures.fault
+    refl refl (c.in-Err.ensures.did (behind s xs now) xs (c.put_bits_of_seam.ensures c.args.setting.now now xs c.resume-encoding.ensures h)) c.in-Err.ensures.failures c.stopped-in-Err.ensures.fault
 
 pub returns-then-bytes-width-gt0-clause-did : goal.returns-then-bytes-width-gt0-clause-did
 returns-then-bytes-width-gt0-clause-did g c xs h =
@@ -78,10 +78,10 @@ returns-then-bytes-width-gt0-clause-did g c xs h =
     let bytes = c.args.bytes.now in
     let same : length bytes % c.width-width.result ≡ length bytes % width s = ap (λ w. length bytes % w) c.width-width.ensures.value in
     let size : c.width-width.result * c.taken.result ≡ width s * length xs =
-    (λ i. c.width-width.ensures.value i * (c.taken.ensures ∙ (c.put_waiting.ensures c.args.setting.now now xs c.resume-encoding.ensures h).counts.samples) i) in
+    (λ i. c.width-width.ensures.value i * (c.taken.ensures ∙ (c.put_bits_of_seam.ensures c.args.setting.now now xs c.resume-encoding.ensures h).counts.samples) i) in
     let limit : width s * length xs + length c.args.bytes.now ≤ 281474976710656 = omega (arith, size, h.limit, c.bytes_left.ensures.value, c.if-bytes-bytes_left.false) in
     rest_cut s now new c.push_all.new.self o.result.report xs bytes limit c.taken-index.result o.result.fault o.ensures.fault c.taken-index.ensures (λ ys k. o.ensures.told s ys k)
-    (c.in-Ok.ensures.did (behind s xs now) xs (c.put_waiting.ensures c.args.setting.now now xs c.resume-encoding.ensures h)) (omega (arith, same, c.if-bytes-width-gt0.true))
+    (c.in-Ok.ensures.did (behind s xs now) xs (c.put_bits_of_seam.ensures c.args.setting.now now xs c.resume-encoding.ensures h)) (omega (arith, same, c.if-bytes-width-gt0.true))
 
 pub finish-requires : goal.finish-requires
 finish-requires g c =
@@ -90,7 +90,7 @@ finish-requires g c =
     let s = c.args.setting.now in
     let xs = c.requires.seam.0 in
     let h = c.requires.seam.1 in
-    let holds = c.put_waiting.ensures c.args.setting.now now xs c.resume-encoding.ensures h in
+    let holds = c.put_bits_of_seam.ensures c.args.setting.now now xs c.resume-encoding.ensures h in
     let t = c.in-Ok.ensures.did (behind s xs now) xs holds in
     let few = c.bytes_left.ensures.few (omega (arith, c.width-width.ensures.range)) in (
       search rules,
@@ -114,11 +114,11 @@ returns-clause-did g c xs h =
     let new = g.O.Outlet.taken c.finish.new.outlet in
     let s = c.args.setting.now in
     let bytes = c.args.bytes.now in
-    let t = c.in-Ok.ensures.did (behind s xs now) xs (c.put_waiting.ensures c.args.setting.now now xs c.resume-encoding.ensures h) in
+    let t = c.in-Ok.ensures.did (behind s xs now) xs (c.put_bits_of_seam.ensures c.args.setting.now now xs c.resume-encoding.ensures h) in
     let same : length bytes % c.width-width.result ≡ length bytes % width s = ap (λ w. length bytes % w) c.width-width.ensures.value in
     let did = c.finish.ensures.did s (behind s xs now) (xs ++ t.more) t.holds in
     let size : c.width-width.result * c.taken.result ≡ width s * length xs =
-    (λ i. c.width-width.ensures.value i * (c.taken.ensures ∙ (c.put_waiting.ensures c.args.setting.now now xs c.resume-encoding.ensures h).counts.samples) i) in
+    (λ i. c.width-width.ensures.value i * (c.taken.ensures ∙ (c.put_bits_of_seam.ensures c.args.setting.now now xs c.resume-encoding.ensures h).counts.samples) i) in
     let limit : width s * length xs + length c.args.bytes.now ≤ 281474976710656 = omega (arith, size, h.limit, c.bytes_left.ensures.value, c.if-bytes-bytes_left.false) in
     rest_all s now mid c.push_all.new.self c.finish.result.report xs bytes limit c.finish.result.fault t new (omega (arith, same, c.if-bytes-width-gt0.false)) did.0 did.1
 
@@ -127,8 +127,8 @@ returns-then-bytes-bytes_left-clause-bounds g c =
     let now = g.O.Outlet.taken c.args.outlet.now in
     let s = c.args.setting.now in
     let xs = c.requires.seam.0 in
-    let k = (c.put_waiting.ensures c.args.setting.now now xs c.resume-encoding.ensures c.requires.seam.1).counts in
-    within_early s c.stopped.result.report xs (settled_by s c.put_waiting.new.self xs k) (c.stopped.ensures.told s xs k)
+    let k = (c.put_bits_of_seam.ensures c.args.setting.now now xs c.resume-encoding.ensures c.requires.seam.1).counts in
+    within_early s c.stopped.result.report xs (settled_by s c.put_bits_of_seam.new.self xs k) (c.stopped.ensures.told s xs k)
 
 pub returns-in-Err-clause-bounds : goal.returns-in-Err-clause-bounds
 returns-in-Err-clause-bounds g c =
@@ -137,14 +137,14 @@ returns-in-Err-clause-bounds g c =
     let s = c.args.setting.now in
     let xs = c.requires.seam.0 in
     push_within s (behind s xs now) new c.push_all.new.self c.stopped-in-Err.result.report c.in-Err.fault xs c.args.bytes.now (λ ys k. c.stopped-in-Err.ensures.told s ys k)
-    (c.in-Err.ensures.did (behind s xs now) xs (c.put_waiting.ensures c.args.setting.now now xs c.resume-encoding.ensures c.requires.seam.1))
+    (c.in-Err.ensures.did (behind s xs now) xs (c.put_bits_of_seam.ensures c.args.setting.now now xs c.resume-encoding.ensures c.requires.seam.1))
 
 pub returns-then-bytes-width-gt0-clause-bounds : goal.returns-then-bytes-width-gt0-clause-bounds
 returns-then-bytes-width-gt0-clause-bounds g c =
     let now = g.O.Outlet.taken c.args.outlet.now in
     let s = c.args.setting.now in
     let xs = c.requires.seam.0 in
-    let t = c.in-Ok.ensures.did (behind s xs now) xs (c.put_waiting.ensures c.args.setting.now now xs c.resume-encoding.ensures c.requires.seam.1) in
+    let t = c.in-Ok.ensures.did (behind s xs now) xs (c.put_bits_of_seam.ensures c.args.setting.now now xs c.resume-encoding.ensures c.requires.seam.1) in
     let k = t.holds.counts in
     within_early s c.stopped-then-bytes-width-gt0.result.report (xs ++ t.more) (settled_by s c.push_all.new.self (xs ++ t.more) k) (c.stopped-then-bytes-width-gt0.ensures.told s (xs ++ t.more) k)
 
@@ -153,6 +153,6 @@ returns-clause-bounds g c =
     let now = g.O.Outlet.taken c.args.outlet.now in
     let s = c.args.setting.now in
     let xs = c.requires.seam.0 in
-    let t = c.in-Ok.ensures.did (behind s xs now) xs (c.put_waiting.ensures c.args.setting.now now xs c.resume-encoding.ensures c.requires.seam.1) in
+    let t = c.in-Ok.ensures.did (behind s xs now) xs (c.put_bits_of_seam.ensures c.args.setting.now now xs c.resume-encoding.ensures c.requires.seam.1) in
     let did = c.finish.ensures.did s (behind s xs now) (xs ++ t.more) t.holds in
     within_all s c.finish.result.report (xs ++ t.more) (settled_by s c.push_all.new.self (xs ++ t.more) t.holds.counts) did.0

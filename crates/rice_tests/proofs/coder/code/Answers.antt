@@ -1,5 +1,5 @@
 use Rattle.std.proofs.Common.{arith, ap, rules}
-use Rattle.rice_code.specs.Steps.{segment_steps}
+use Rattle.rice_code.specs.CoderSteps.{segment_steps}
 use Rattle.rice_code.proofs.lemmas.encode.PushedCode.{segment_steps_few}
 use Rattle.rice_tests.proofs.coder.code.Goals as goal
 

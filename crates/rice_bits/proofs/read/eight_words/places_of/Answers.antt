@@ -2,7 +2,7 @@ use Rattle.std.proofs.Common.{◌≡◌, [], ◌∙◌, ap, sym, arith, get_or, 
 use Rattle.std.specs.List.{range_with_len}
 use Rattle.std.proofs.lemmas.List.FromFn.{get_or-map-range_with_len}
 use Rattle.rice_bits.specs.declared.read.eight_words.TheConstants.{PLACES}
-use Rattle.rice_bits.specs.read.EightWords.{word_places}
+use Rattle.rice_bits.specs.read.EightWordPlaces.{word_places}
 use Rattle.rice_bits.proofs.read.eight_words.places_of.Goals as goal
 
 pub returns : goal.returns

@@ -6,8 +6,8 @@ use Rattle.rice_code.proofs.lemmas.decode.SplitRows.{length-behind, row-lows}
 use Rattle.rice_code.proofs.lemmas.decode.NoCompressionAhead.{lows-first, one_row_least}
 use Rattle.rice_code.proofs.decode.no_compression_ahead.spell_uncompressed_row.Goals as goal
 
-pub spell_in_turn-requires-clause-residuals : goal.spell_in_turn-requires-clause-residuals
-spell_in_turn-requires-clause-residuals g c =
+pub restore_and_spell-requires-clause-residuals : goal.restore_and_spell-requires-clause-residuals
+restore_and_spell-requires-clause-residuals g c =
     let a = c.args in
     let words = c.words_ahead.ensures in
     let row = c.behind_omitted-residuals.result in
@@ -29,5 +29,5 @@ returns g c =
       residuals = take size row;
       ahead = subst (λ k. LowsAhead a.reader.now.waiting a.skip a.omitted k (take size row)) c.bits-bits.ensures.value all;
       count = length-take-le size row (omega (arith, most, len));
-      spelled = c.spell_in_turn.ensures.spelled;
+      spelled = c.restore_and_spell.ensures.spelled;
     }

@@ -5,11 +5,11 @@ use Rattle.rice_code.proofs.lemmas.decode.SplitRows.{RowsSpelled, all_of_row, mo
 use Rattle.rice_code.proofs.lemmas.decode.NoCompressionAhead.{row_turned, rows_turned}
 use Rattle.rice_code.proofs.decode.no_compression_ahead.spell_uncompressed_rows.Goals as goal
 
-pub spell_row_in_turn-last-requires-clause-begins : goal.spell_row_in_turn-last-requires-clause-begins
-spell_row_in_turn-last-requires-clause-begins g c = c.loop-row.invariant.rows.legal
+pub restore_and_spell_row-last-requires-clause-begins : goal.restore_and_spell_row-last-requires-clause-begins
+restore_and_spell_row-last-requires-clause-begins g c = c.loop-row.invariant.rows.legal
 
-pub spell_row_in_turn-last-requires-clause-residuals : goal.spell_row_in_turn-last-requires-clause-residuals
-spell_row_in_turn-last-requires-clause-residuals g c =
+pub restore_and_spell_row-last-requires-clause-residuals : goal.restore_and_spell_row-last-requires-clause-residuals
+restore_and_spell_row-last-requires-clause-residuals g c =
     let inside = row_inside g.row.SIZE c.loop-row.row c.requires.size c.loop-row-test.true in
     let row = take 16 (drop (16 * c.loop-row.row) c.low_rows-residuals.result) in
     subst (λ n. All (λ l. l < 2 ^ n) row) c.bits-bits.ensures.value
@@ -25,7 +25,7 @@ pub loop-row-preserved : goal.loop-row-preserved
 loop-row-preserved g c =
     let s = c.args.setting.now in
     let l = c.loop-row in
-    let next = c.spell_row_in_turn-last in
+    let next = c.restore_and_spell_row-last in
     let inside = row_inside g.row.SIZE l.row c.requires.size c.loop-row-test.true in
     record {
       room = next.ensures.len ∙ l.invariant.room;

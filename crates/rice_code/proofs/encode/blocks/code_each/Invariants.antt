@@ -3,7 +3,7 @@ use Rattle.std.specs.Prelude.{sum_by}
 use Rattle.rice_code.specs.code.Code.{data_sets}
 use Rattle.rice_code.specs.code.CodedDataSets.{bits_of_sets}
 use Rattle.rice_code.specs.encode.HeldBlocks.{held_blocks, reference_at, pending_zeros}
-use Rattle.rice_code.specs.Steps.{least_looks, most_looks}
+use Rattle.rice_code.specs.CoderSteps.{least_looks, most_looks}
 use Rattle.rice_code.proofs.encode.blocks.code_each.Given as goal
 
 abbrev pub invariant-loop-i : goal.invariant-loop-i

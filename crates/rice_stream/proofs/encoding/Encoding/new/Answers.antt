@@ -3,7 +3,7 @@ use Rattle.rice_stream.specs.EncodingState.{Follows, afresh}
 use Rattle.rice_bits.specs.Bits.{bits_in_bytes, whole_bytes}
 use Rattle.rice_samples.specs.Parameters.{IsLegal}
 use Rattle.rice_code.specs.code.Code.{code, code_bits, complete_samples}
-use Rattle.rice_code.specs.Steps.{least_steps, most_steps}
+use Rattle.rice_code.specs.CoderSteps.{least_steps, most_steps}
 use Rattle.rice_stream.proofs.lemmas.EncodingLemmas.{Follows-nil, settled_nothing, code_nothing, sets_nothing}
 use Rattle.rice_stream.proofs.encoding.Encoding.new.Goals as goal
 

@@ -2,7 +2,7 @@ use Rattle.std.proofs.Common.{arith, ◌≡◌, ◌≤◌, ◌∙◌, refl, ap, 
 use Rattle.rice_bits.specs.Bits.{bits_in_bytes}
 use Rattle.rice_bits.proofs.lemmas.bits.Words.{word-nil}
 use Rattle.rice_code.specs.code.Code.{code, code_bits, complete_samples}
-use Rattle.rice_code.specs.Steps.{least_steps, most_steps}
+use Rattle.rice_code.specs.CoderSteps.{least_steps, most_steps}
 use Rattle.rice_code.proofs.lemmas.encode.PushedCode.{none_taken}
 use Rattle.rice_stream.proofs.lemmas.EncodingLemmas.{settled_nothing, code_nothing, sets_nothing}
 use Rattle.rice_stream.proofs.seam.Seam.new.Goals as goal

@@ -3,7 +3,7 @@ use Rattle.rice_code.specs.encode.OpenSegment.{CoderState, HoldsSoundBlocks, blo
 use Rattle.rice_code.specs.Bounds.{block_bound}
 use Rattle.rice_code.specs.code.SoundBlocks.{AreSoundBlocks}
 use Rattle.rice_code.specs.encode.HeldBlocks.{held_blocks}
-use Rattle.rice_code.specs.Steps.{coding_steps}
+use Rattle.rice_code.specs.CoderSteps.{coding_steps}
 use Rattle.rice_samples.specs.Parameters.{k_max, value_at}
 use Rattle.rice_code.proofs.lemmas.encode.OpenSegments.{few_bits, few_blocks, codes_held, segment_room, segment_meter}
 use Rattle.rice_code.proofs.encode.open_segment.OpenSegment.code.Goals as goal

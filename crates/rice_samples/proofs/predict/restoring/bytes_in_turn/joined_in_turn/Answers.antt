@@ -6,13 +6,13 @@ pub levels_in_turn-requires-clause-residuals : goal.levels_in_turn-requires-clau
 levels_in_turn-requires-clause-residuals c =
     let values = c.values.ensures in
     let count : c.values.result - 1 + 1 ≡ value_count c.args.setting.now = omega (arith, values.value, values.range) in
-    let small = c.above-2.ensures.value (c.if-not-are_zeros.ensures.second refl) in
+    let small = c.excess_over-2.ensures.value (c.if-not-are_zeros.ensures.second refl) in
     λ i d lt. let fit = small i d lt in omega (arith, count, fit)
 
 pub returns : goal.returns
 returns c =
     let levels = c.levels_in_turn.ensures in
-    let small = c.above.ensures.value (c.if-not-are_zeros.ensures.first refl) in
+    let small = c.excess_over.ensures.value (c.if-not-are_zeros.ensures.first refl) in
     record {
       len = levels.len ∙ sym c.requires.len.0;
       legal = levels.legal;

@@ -1,6 +1,6 @@
 use Rattle.std.proofs.Common.{arith, ◌/◌, ◌^◌}
 use Rattle.std.proofs.lemmas.List.Sums.{sum_by_more}
-use Rattle.rice_samples.proofs.blocks.lanes.sum_in_turn.Goals as goal
+use Rattle.rice_samples.proofs.blocks.lanes.sum_shifted_in_turn.Goals as goal
 
 pub loop-i-preserved : goal.loop-i-preserved
 loop-i-preserved c = record {

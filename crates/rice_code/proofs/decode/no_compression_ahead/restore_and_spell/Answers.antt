@@ -1,5 +1,5 @@
 use Rattle.rice_code.proofs.lemmas.decode.NoCompressionAhead.{row_spelled_in_turn}
-use Rattle.rice_code.proofs.decode.no_compression_ahead.spell_in_turn.Goals as goal
+use Rattle.rice_code.proofs.decode.no_compression_ahead.restore_and_spell.Goals as goal
 
 pub returns-clause-spelled : goal.returns-clause-spelled
 returns-clause-spelled g c =

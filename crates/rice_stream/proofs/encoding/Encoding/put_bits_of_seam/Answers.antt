@@ -4,7 +4,7 @@ use Rattle.rice_stream.specs.EncodingState.{IsEncodingOf}
 use Rattle.rice_stream.specs.Feeding.{behind}
 use Rattle.rice_stream.specs.declared.encoding.Encoding.{Encoding}
 use Rattle.rice_stream.proofs.lemmas.Seams.{encoding_at, encoding_is_resumed}
-use Rattle.rice_stream.proofs.encoding.Encoding.put_waiting.Goals as goal
+use Rattle.rice_stream.proofs.encoding.Encoding.put_bits_of_seam.Goals as goal
 
 pub put-requires : goal.put-requires
 put-requires g c =

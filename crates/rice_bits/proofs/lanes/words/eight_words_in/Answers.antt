@@ -1,5 +1,5 @@
 use Rattle.rice_bits.proofs.lemmas.lanes.LaneWords.{lanes_below, lanes-small, lanes-words}
-use Rattle.rice_bits.proofs.lanes.words.words_in.Goals as goal
+use Rattle.rice_bits.proofs.lanes.words.eight_words_in.Goals as goal
 
 pub returns-clause-fit : goal.returns-clause-fit
 returns-clause-fit c = rw (c.pairs_of.ensures, c.factors_of.ensures) (lanes-small c.args.bytes c.args.width c.args.before c.requires.width)

@@ -1,5 +1,5 @@
 use Rattle.std.proofs.Common.{◌≡◌, ◌*◌, ◌/◌, ◌^◌, ◌-◌, ◌≤◌, take, sum_by}
-use Rattle.rice_samples.proofs.blocks.lanes.sum_in_turn.Given as goal
+use Rattle.rice_samples.proofs.blocks.lanes.sum_shifted_in_turn.Given as goal
 
 abbrev pub invariant-loop-i : goal.invariant-loop-i
 invariant-loop-i l = record {
