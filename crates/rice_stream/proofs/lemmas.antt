@@ -10,7 +10,7 @@ pub mod FedPieces
 pub mod LevelLemmas
 pub mod OneDecoding
 pub mod PartLemmas
-pub mod PiecesPulled
+pub mod OnePulledPiece
 pub mod PulledPieces
 pub mod PullingLemmas
 pub mod ReturnedBytes

@@ -137,15 +137,7 @@ pub record GivesMore {I : Type 0} (s : Parameters) (stand next : Stand) (q : Dec
   pub goes_on : GoesOnAt s stand next q old new
   pub gives : (o : Origin) (front : List Bool) (given : List ℤ) → IsStand s o stand front given → GivesNext s o front given next old new samples
 
--- It gave them at one stroke, and the first `len` bytes are theirs.
-pub record GivesStroke {I : Type 0} (s : Parameters) (stand next : Stand) (q : DecoderState) (old new : Reader I) (len : ℕ) (bytes : List ℕ) : Type 0 where
-  pub samples : List ℤ
-  pub more : GivesMore s stand next q old new samples
-  pub some : 1 ≤ len
-  pub len_is : len ≡ width s * length samples
-  pub spelled : take len bytes ≡ spellings s samples
-
--- and they were written at this place
+-- It gave them at one stroke, and their `len` bytes were written at this place.
 pub record WritesStroke {I : Type 0} (s : Parameters) (stand next : Stand) (q : DecoderState) (old new : Reader I) (len at : ℕ) (out_old out : List ℕ) : Type 0 where
   pub samples : List ℤ
   pub more : GivesMore s stand next q old new samples

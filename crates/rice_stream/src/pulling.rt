@@ -168,7 +168,7 @@ fn is_too_long(bits: u64, bytes: usize) -> bool
     bytes as u64 > (LIMIT - bits) / 8
 }
 
-/// Takes the first `skipped` bits of a piece, if it has bytes. Returns false if they were too few, which none are.
+/// Takes the first `skipped` bits of a piece, if it has bytes. Returns whether it did, which is false of no slice.
 fn skip_bits(reader: &mut BitReader<SliceIn<'_>>, piece: &[u8], skipped: u32) -> bool
     requires few { skipped < 8 }
     requires fresh { reader.old ≡ new_reader reader.old.intake (Some piece.now) 0 }

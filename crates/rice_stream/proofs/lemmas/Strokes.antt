@@ -17,7 +17,7 @@ use Rattle.rice_code.specs.declared.decode.answer.NextBlock.TheVariants.{Block}
 use Rattle.rice_code.proofs.lemmas.code.Filling.{last_replicate}
 use Rattle.rice_code.proofs.lemmas.code.SoundBlocks.{last_legal}
 use Rattle.rice_code.proofs.lemmas.decode.DecoderLemmas.{place_moves}
-use Rattle.rice_stream.specs.Pulling.{Origin, IsStand, GivesMore, GivesNext, GivesStroke, GoesOnAt, WritesStroke, IsReadFrom, ahead, stand_at, state_of}
+use Rattle.rice_stream.specs.Pulling.{Origin, IsStand, GivesMore, GivesNext, GoesOnAt, WritesStroke, IsReadFrom, ahead, stand_at, state_of}
 use Rattle.rice_stream.specs.declared.stand.Stand.{Stand}
 use Rattle.rice_stream.proofs.lemmas.DecodingLemmas.{Advances, moves_of, samples_of_block}
 use Rattle.rice_stream.proofs.lemmas.PullingLemmas.{Steps, gives_next, goes_on_at}
@@ -227,6 +227,14 @@ row_on {I} (suc n) more s stand q r new steps last bytes o front given h reads a
     }
 
 -- ---- what the calls give
+
+-- Blocks were given, and the first `len` bytes are theirs.
+pub record GivesStroke {I : Type 0} (s : Parameters) (stand next : Stand) (q : DecoderState) (old new : Reader I) (len : ℕ) (bytes : List ℕ) : Type 0 where
+  pub samples : List ℤ
+  pub more : GivesMore s stand next q old new samples
+  pub some : 1 ≤ len
+  pub len_is : len ≡ width s * length samples
+  pub spelled : take len bytes ≡ spellings s samples
 
 -- a run
 pub run_stroke : {I : Type 0} (s : Parameters) (stand next : Stand) (p q : DecoderState) (r : Reader I) (w b n at : ℕ) (x : ℤ) (out out_new : List ℕ) (o : Origin) (front : List Bool) (given : List ℤ)

@@ -65,7 +65,10 @@ pub fn joined_in_turn(
 {
     let greatest = (setting.values() - 1) as u8;
     let residuals = joined(highs, lows, width);
-    if !are_zeros(excess_over(highs, 255 >> width), excess_over(residuals, greatest)) {
+    if !are_zeros(
+        excess_over(highs, 255 >> width),
+        excess_over(residuals, greatest),
+    ) {
         return None;
     }
     Some(levels_in_turn(setting, before, residuals))

@@ -43,7 +43,10 @@ pub fn halves_in_turn(
     let greatest = (setting.values() - 1) as u16;
     let first_ranks = joined(first_half(highs), first_half(lows), width);
     let second_ranks = joined(second_half(highs), second_half(lows), width);
-    if !are_zeros(excess_over(first_ranks, greatest), excess_over(second_ranks, greatest)) {
+    if !are_zeros(
+        excess_over(first_ranks, greatest),
+        excess_over(second_ranks, greatest),
+    ) {
         return None;
     }
     let mut first = [0; 8];

@@ -12,7 +12,7 @@ use Rattle.rice_stream.specs.Pulling.{DecodesMore, GoesOnAt, TakesNext, ahead, s
 use Rattle.rice_stream.specs.declared.stand.Pause.{Pause}
 use Rattle.rice_stream.specs.declared.stand.Stand.{Stand}
 use Rattle.rice_stream.specs.declared.stand.Pause.TheVariants as pauses
-use Rattle.rice_stream.proofs.lemmas.PiecesPulled.{ends_so, failed_once, has_none, has_room, more_so_far, never_too_long, none_so_far, nothing_ahead, refused_so, still}
+use Rattle.rice_stream.proofs.lemmas.OnePulledPiece.{ends_so, failed_once, has_none, has_room, more_so_far, never_too_long, none_so_far, nothing_ahead, refused_so, still}
 use Rattle.rice_stream.proofs.pulling.decode_piece.Goals as goal
 
 pub decode_all-init : goal.decode_all-init
