@@ -15,11 +15,10 @@ use crate::patience::Patience;
 use crate::plain::{blocks_of_row, is_plain};
 use crate::stand::{Pause, Stand};
 use crate::strokes::{copy_at, next_stroke, stand_behind};
-use crate::write::spell_sized;
 use arrayvec::ArrayVec;
 use rice_bits::{BitReader, Meter, SliceIn};
 use rice_code::{CodeFault, Decoder, NextBlock};
-use rice_samples::{Setting, write_spellings};
+use rice_samples::{Setting, write_spellings, write_spellings_as};
 
 /// The most bits of a code.
 const LIMIT: u64 = 1 << 52;
@@ -300,7 +299,7 @@ fn write_sized_at(
         ++ drop (at + width * count) samples.old) }
 {
     let spelled = &mut bytes[..width * count];
-    spell_sized(setting, width, msb, count, levels, spelled);
+    write_spellings_as(setting, width, msb, &levels[..count], spelled);
     copy_at(spelled, at, samples);
 }
 

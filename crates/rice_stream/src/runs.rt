@@ -59,7 +59,7 @@ pub(crate) fn blocks_at_once(setting: &Setting, asked: Option<u64>, written: u64
 {
     let block = setting.block() as u64;
     let size = setting.width() as u64 * block;
-    // A division takes as long as the bytes of a short run.
+    // Most runs fit, and need no division.
     let fit = if size * run as u64 <= ROOM as u64 {
         run
     } else {

@@ -1,5 +1,5 @@
 //! Writing all bytes of a slice, of a sink, or of samples.
-ghost use Rattle.std.specs.Prelude.{◌≡◌, ◌+◌, ◌*◌, ◌^◌, ◌<◌, ◌≤◌, All, length, drop, take, OnOk, OnErr, IfErr};
+ghost use Rattle.std.specs.Prelude.{◌≡◌, ◌+◌, ◌^◌, ◌<◌, ◌≤◌, All, length, drop, take, OnOk, OnErr, IfErr};
 ghost use Rattle.rice_bits.specs.device.Outlet.{Appends};
 ghost use Rattle.rice_bits.specs.Bits.{whole_bytes, bits_in_bytes};
 ghost use Rattle.rice_samples.specs.Parameters.{value_count, values_at, width as width_of};
@@ -171,34 +171,6 @@ fn write_sized<O: Outlet>(
         (O.failed outlet.new ≡ O.failed outlet.old + 1)) }
 {
     let spelled = &mut bytes[..width * count];
-    spell_sized(setting, width, msb, count, levels, spelled);
+    write_spellings_as(setting, width, msb, &levels[..count], spelled);
     write_all(outlet, spelled)
-}
-
-/// Makes these the bytes of `count` samples. It is laid out as `write_sized` is.
-#[inline(always)]
-pub(crate) fn spell_sized(
-    setting: &Setting,
-    width: usize,
-    msb: bool,
-    count: usize,
-    levels: &[u32],
-    bytes: &mut [u8],
-)
-    requires legal { All (λ l. l < value_count setting.now) levels.now }
-    requires width { width ≡ width_of setting.now }
-    requires order { msb ≡ setting.now.msb }
-    requires count { length levels.now ≡ count }
-    requires few { count ≤ 64 }
-    requires len { length bytes.old ≡ width * count }
-    ensures { bytes.new ≡ spellings setting.now (values_at setting.now levels.now) }
-{
-    let _width = setting.width();
-    write_spellings_as(
-        setting,
-        width,
-        msb,
-        &levels[..count],
-        &mut bytes[..width * count],
-    );
 }
