@@ -14,6 +14,7 @@ pub use decode::answer::{CodeFault, NextBlock};
 pub use decode::decoder::Decoder;
 pub use encode::SegmentSink;
 pub use encode::coder::{Coder, Pushed, SizedCoder};
+pub use sizes::known_or;
 
 // What these hold, in bytes, on a machine with pointers of eight.
 const _: () = prove!(size_of::<SegmentSink>() == 16440);

@@ -19,6 +19,5 @@ pub mod RunsWritten
 pub mod Seams
 pub mod SetsRead
 pub mod SpelledBlocks
-pub mod SpellingLengths
 pub mod Strokes
 pub mod WholeBytes

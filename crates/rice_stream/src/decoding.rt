@@ -13,7 +13,7 @@ use crate::runs::write_run;
 use crate::write::{write_all, write_block};
 use arrayvec::ArrayVec;
 use rice_bits::{BitReader, Intake, Meter, Outlet};
-use rice_code::{CodeFault, Decoder, NextBlock};
+use rice_code::{CodeFault, Decoder, NextBlock, known_or};
 use rice_samples::Setting;
 
 /// Returns how many samples of the next block are wanted after the first `written`.
@@ -122,6 +122,12 @@ pub fn decode<I: Intake, O: Outlet>(
     if has_lanes::<64, 2>(setting) {
         return decode_in_lanes::<I, O, 64, 2>(setting, asked, intake, outlet);
     }
+    if has_lanes::<0, 1>(setting) {
+        return decode_in_lanes::<I, O, 0, 1>(setting, asked, intake, outlet);
+    }
+    if has_lanes::<0, 2>(setting) {
+        return decode_in_lanes::<I, O, 0, 2>(setting, asked, intake, outlet);
+    }
     if is_plain::<1>(setting) {
         return decode_plain::<I, O, 1>(setting, asked, intake, outlet);
     }
@@ -173,18 +179,19 @@ fn decode_counted<I: Intake, O: Outlet>(
     decode_blocks::<I, O, 0, 0>(setting, Some(count), intake, outlet)
 }
 
-/// Returns whether blocks have `SIZE` samples of `WIDTH` bytes, and the decoder may give their bytes at one stroke.
+/// Returns whether blocks have samples of `WIDTH` bytes, and the decoder may give their bytes at one stroke; and, unless `SIZE` is 0,
+/// that many samples.
 pub(crate) fn has_lanes<const SIZE: usize, const WIDTH: usize>(setting: &Setting) -> bool
-    requires sizes { (SIZE ≡ 8) ⊎ (SIZE ≡ 16) ⊎ (SIZE ≡ 32) ⊎ (SIZE ≡ 64) }
     requires widths { (WIDTH ≡ 1) ⊎ (WIDTH ≡ 2) }
-    ensures { result ≡ true → HasLanes setting.now SIZE WIDTH }
+    ensures size { result ≡ true → 0 < SIZE → SIZE ≡ setting.now.block }
+    ensures lanes { result ≡ true → HasLanes setting.now setting.now.block WIDTH }
 {
     let bits = setting.bits() as usize;
     let wide = 8 * (WIDTH - 1) < bits && bits <= 8 * WIDTH;
-    wide && setting.preprocess() && setting.block() as usize == SIZE
+    wide && setting.preprocess() && (SIZE == 0 || setting.block() as usize == SIZE)
 }
 
-/// Decodes blocks of `SIZE` samples of `WIDTH` bytes that may be decoded at one stroke.
+/// Decodes blocks of `SIZE` samples, unless that is 0, of `WIDTH` bytes that may be decoded at one stroke.
 #[inline(never)]
 fn decode_in_lanes<I: Intake, O: Outlet, const SIZE: usize, const WIDTH: usize>(
     setting: &Setting,
@@ -192,7 +199,8 @@ fn decode_in_lanes<I: Intake, O: Outlet, const SIZE: usize, const WIDTH: usize>(
     intake: I,
     outlet: &mut O,
 ) -> (Outcome, I)
-    requires lanes { HasLanes setting.now SIZE WIDTH }
+    requires size { 0 < SIZE → SIZE ≡ setting.now.block }
+    requires lanes { HasLanes setting.now setting.now.block WIDTH }
     requires reads { I.failed intake + 1 < 2 ^ 64 }
     requires writes { O.failed outlet.old + 1 < 2 ^ 64 }
     ensures call { (c : Call) ×
@@ -217,11 +225,12 @@ fn next_bytes<I: Intake, const SIZE: usize, const WIDTH: usize>(
     meter: &mut Meter,
     bytes: &mut [u8; 512],
 ) -> bool
-    requires lanes { 0 < SIZE → HasLanes decoder.old.setting SIZE WIDTH }
+    requires size { 0 < SIZE → SIZE ≡ decoder.old.setting.block }
+    requires lanes { 0 < WIDTH → HasLanes decoder.old.setting decoder.old.setting.block WIDTH }
     requires stopped { decoder.old.stopped ≡ None }
     requires going { reader.old.refusal ≡ None }
     requires room { meter.old + 2 * (most_bits_read - reader.old.taken) + 64 < step_limit }
-    ensures sized { result ≡ true → 0 < SIZE }
+    ensures lanes { result ≡ true → 0 < WIDTH }
     ensures some { result ≡ true → (whole ≡ true) × (decoder.old.run ≡ 0) ×
         GivesBytes reader.old reader.new meter.old meter.new decoder.old decoder.new bytes.new }
     ensures none { result ≡ false → (decoder.new ≡ decoder.old) × (reader.new ≡ reader.old) ×
@@ -232,7 +241,7 @@ fn next_bytes<I: Intake, const SIZE: usize, const WIDTH: usize>(
     ensures steps { AreCounted meter.old meter.new reader.old.taken reader.new.taken }
 {
     let _taken = reader.taken();
-    if SIZE == 0 || !whole || !patience.is_due() {
+    if WIDTH == 0 || !whole || !patience.is_due() {
         return false;
     }
     let found = decoder.next_bytes::<I, SIZE, WIDTH>(reader, meter, bytes);
@@ -254,8 +263,8 @@ fn repeats(decoder: &Decoder, whole: bool) -> bool
     whole && decoder.repeats()
 }
 
-/// Decodes, whatever is asked for. `SIZE`, if it is not 0, is the number of samples of a block whose bytes may be decoded at one
-/// stroke, and `WIDTH` that of the bytes of each.
+/// Decodes, whatever is asked for. `WIDTH`, if it is not 0, is the number of bytes of each sample of blocks whose bytes may be decoded
+/// at one stroke, and `SIZE`, if it is not 0, that of the samples of each.
 #[inline(always)]
 fn decode_blocks<I: Intake, O: Outlet, const SIZE: usize, const WIDTH: usize>(
     setting: &Setting,
@@ -263,7 +272,8 @@ fn decode_blocks<I: Intake, O: Outlet, const SIZE: usize, const WIDTH: usize>(
     intake: I,
     outlet: &mut O,
 ) -> (Outcome, I)
-    requires lanes { 0 < SIZE → HasLanes setting.now SIZE WIDTH }
+    requires size { 0 < SIZE → SIZE ≡ setting.now.block }
+    requires lanes { 0 < WIDTH → HasLanes setting.now setting.now.block WIDTH }
     requires reads { I.failed intake + 1 < 2 ^ 64 }
     requires writes { O.failed outlet.old + 1 < 2 ^ 64 }
     ensures call { (c : Call) ×
@@ -314,7 +324,7 @@ fn decode_blocks<I: Intake, O: Outlet, const SIZE: usize, const WIDTH: usize>(
             &mut meter,
             &mut bytes,
         ) {
-            match write_all(outlet, &bytes[..WIDTH * SIZE]) {
+            match write_all(outlet, &bytes[..WIDTH * known_or::<SIZE>(count)]) {
                 Ok(()) => {}
                 Err(_) => return ended(Some(Fault::Write), written, reader, &meter),
             }

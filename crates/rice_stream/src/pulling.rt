@@ -68,6 +68,12 @@ pub fn decode_more(
     if has_lanes::<64, 2>(setting) {
         return decode_piece::<64, 2, false>(setting, stand, piece, samples);
     }
+    if has_lanes::<0, 1>(setting) {
+        return decode_piece::<0, 1, false>(setting, stand, piece, samples);
+    }
+    if has_lanes::<0, 2>(setting) {
+        return decode_piece::<0, 2, false>(setting, stand, piece, samples);
+    }
     if is_plain::<1>(setting) {
         return decode_piece::<0, 1, true>(setting, stand, piece, samples);
     }
@@ -80,8 +86,8 @@ pub fn decode_more(
     decode_piece::<0, 0, false>(setting, stand, piece, samples)
 }
 
-/// Decodes a piece that does not pass the limit of a code. `SIZE`, if it is not 0, is the number of samples of a block whose bytes may
-/// be known at one stroke, and `WIDTH` that of the bytes of each. Where `PLAIN`, samples have `WIDTH` bytes and are not predicted.
+/// Decodes a piece that does not pass the limit of a code. `WIDTH`, if it is not 0, is the number of bytes of each sample of blocks whose
+/// bytes may be known at one stroke, and `SIZE`, if it is not 0, that of the samples of each. Where `PLAIN`, samples are not predicted.
 #[inline(never)]
 fn decode_piece<const SIZE: usize, const WIDTH: usize, const PLAIN: bool>(
     setting: &Setting,
@@ -89,7 +95,8 @@ fn decode_piece<const SIZE: usize, const WIDTH: usize, const PLAIN: bool>(
     piece: &[u8],
     samples: &mut [u8],
 ) -> (Stand, Pause)
-    requires lanes { PLAIN ≡ false → 0 < SIZE → HasLanes setting.now SIZE WIDTH }
+    requires size { 0 < SIZE → SIZE ≡ setting.now.block }
+    requires lanes { PLAIN ≡ false → 0 < WIDTH → HasLanes setting.now setting.now.block WIDTH }
     requires plain { PLAIN ≡ true → IsPlain setting.now WIDTH }
     requires fits { stand.now.bits + 8 * length piece.now ≤ most_bits_read }
     requires stand { (o : Origin) × (front : List Bool) × (given : List ℤ) ×

@@ -12,7 +12,7 @@ use crate::plain::row_ahead;
 use crate::runs::{blocks_at_once, spell_again};
 use crate::stand::Stand;
 use rice_bits::{BitReader, Meter, SliceIn};
-use rice_code::Decoder;
+use rice_code::{Decoder, known_or};
 use rice_samples::Setting;
 
 /// Where decoding stands behind blocks that were given at one stroke, and the number of their bytes.
@@ -126,7 +126,8 @@ fn next_in_lanes<const SIZE: usize, const WIDTH: usize>(
     at: usize,
     samples: &mut [u8],
 ) -> Option<Stroke>
-    requires lanes { HasLanes setting.now SIZE WIDTH }
+    requires size { 0 < SIZE → SIZE ≡ setting.now.block }
+    requires lanes { HasLanes setting.now setting.now.block WIDTH }
     requires stand { (o : Origin) × (front : List Bool) × (given : List ℤ) ×
         IsStand setting.now o stand.now front given }
     requires state { decoder.old ≡ state_of setting.now stand.now }
@@ -146,8 +147,9 @@ fn next_in_lanes<const SIZE: usize, const WIDTH: usize>(
     if !decoder.next_bytes::<SliceIn<'_>, SIZE, WIDTH>(reader, &mut meter, bytes) {
         return None;
     }
-    let stand = stand_behind(stand, SIZE as u64, before, decoder, reader, &meter);
-    let len = WIDTH * SIZE;
+    let size = known_or::<SIZE>(setting.block() as usize);
+    let stand = stand_behind(stand, size as u64, before, decoder, reader, &meter);
+    let len = WIDTH * size;
     copy_at(&bytes[..len], at, samples);
     Some(Stroke { stand, len })
 }
@@ -219,7 +221,8 @@ pub(crate) fn next_stroke<const SIZE: usize, const WIDTH: usize, const PLAIN: bo
     at: usize,
     samples: &mut [u8],
 ) -> Option<Stroke>
-    requires lanes { PLAIN ≡ false → 0 < SIZE → HasLanes setting.now SIZE WIDTH }
+    requires size { 0 < SIZE → SIZE ≡ setting.now.block }
+    requires lanes { PLAIN ≡ false → 0 < WIDTH → HasLanes setting.now setting.now.block WIDTH }
     requires plain { PLAIN ≡ true → IsPlain setting.now WIDTH }
     requires few { PLAIN ≡ true → (most ≤ 480) × (WIDTH * setting.now.block * most ≤ 480) }
     requires stand { (o : Origin) × (front : List Bool) × (given : List ℤ) ×
@@ -241,7 +244,7 @@ pub(crate) fn next_stroke<const SIZE: usize, const WIDTH: usize, const PLAIN: bo
     if PLAIN {
         return next_row::<WIDTH>(setting, stand, most, decoder, reader, bytes, at, samples);
     }
-    if SIZE == 0 || !patience.is_due() {
+    if WIDTH == 0 || !patience.is_due() {
         return None;
     }
     let found = next_in_lanes::<SIZE, WIDTH>(setting, stand, decoder, reader, bytes, at, samples);

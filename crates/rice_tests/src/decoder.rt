@@ -185,7 +185,8 @@ fn repeated_samples(rt: HostRuntime) -> Result<(), Fail> {
 
 /// Returns whether blocks are of 8 samples that may be given as bytes.
 fn has_eights(setting: &Setting) -> bool
-    ensures { result ≡ true → HasLanes setting.now 8 1 }
+    ensures size { result ≡ true → 8 ≡ setting.now.block }
+    ensures lanes { result ≡ true → HasLanes setting.now setting.now.block 1 }
 {
     setting.bits() <= 8 && setting.preprocess() && setting.block() == 8
 }

@@ -23,7 +23,7 @@ use Rattle.rice_stream.specs.declared.stand.Stand.{Stand}
 use Rattle.rice_stream.proofs.lemmas.OneDecoding.{FaultOf, decodes_as, never_reached}
 use Rattle.rice_stream.proofs.lemmas.PulledPieces.{seek_all, seek_enough, stands_tell_places}
 use Rattle.rice_stream.proofs.lemmas.ReturnedBytes.{decoded_before}
-use Rattle.rice_stream.proofs.lemmas.SpellingLengths.{length-spellings, spellings-append}
+use Rattle.rice_samples.proofs.lemmas.bytes.SpellingLengths.{length-spellings, spellings-append}
 use Rattle.rice_c.specs.declared.drain.RiceDrain.{RiceDrain}
 use Rattle.rice_c.specs.declared.report.RiceReport.{RiceReport}
 use Rattle.rice_c.specs.declared.status.Status.{Status}

@@ -4,7 +4,7 @@ use Rattle.std.specs.Io.KnownBytes.{Consumes, IsAtEnd}
 use Rattle.std.proofs.Math.Seq.{take-append_seam}
 use Rattle.rice_samples.specs.Parameters.{Parameters, IsLegal, width}
 use Rattle.rice_samples.specs.bytes.Spelling.{spellings}
-use Rattle.rice_stream.proofs.lemmas.SpellingLengths.{length-spellings}
+use Rattle.rice_samples.proofs.lemmas.bytes.SpellingLengths.{length-spellings}
 use Rattle.rice_stream.proofs.lemmas.ReturnedBytes as stream
 use Rattle.rice_stream.specs.Calls.{Call}
 use Rattle.rice_stream.specs.Encodes.{Encodes}

@@ -7,5 +7,6 @@ pub mod JoinedResiduals
 pub mod PlainBlocksRead
 pub mod ReadLemmas
 pub mod RestoredBlocks
+pub mod FirstLanes
 pub mod SplitRows
 pub mod NoCompressionAhead

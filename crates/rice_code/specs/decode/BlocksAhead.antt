@@ -1,5 +1,5 @@
 -- Blocks that wait, and are looked at before they are taken.
-use Rattle.std.specs.Prelude.{◌≡◌, ◌⊎◌, ℕ, ◌+◌, ◌-◌, ◌*◌, ◌^◌, ◌<◌, ◌≤◌, Bool, true, List, All, length, slice_index_or, take, Ok, ℤ}
+use Rattle.std.specs.Prelude.{◌≡◌, ◌⊎◌, ℕ, ◌+◌, ◌-◌, ◌*◌, ◌/◌, ◌^◌, ◌<◌, ◌≤◌, Bool, true, List, All, length, slice_index_or, take, Ok, ℤ}
 use Rattle.rice_bits.specs.read.Reader.{Reader}
 use Rattle.rice_samples.specs.Parameters.{Parameters, value_at, value_count, values_at, width}
 use Rattle.rice_samples.specs.bytes.Spelling.{spellings}
@@ -17,12 +17,17 @@ pub record HasWidth (s : Parameters) (width : ℕ) : Type 0 where
   pub narrow : width ≡ 1 → s.bits ≤ 8
   pub wide : width ≡ 2 → (8 < s.bits) × (s.bits ≤ 16)
 
--- Blocks of `size` samples of `width` bytes that may be decoded in the lanes of vectors: 8, 16, 32 or 64 of at most 16 bits, predicted.
+-- Blocks of `size` samples of `width` bytes that may be decoded in the lanes of vectors: of at most 16 bits, predicted.
 pub record HasLanes (s : Parameters) (size width : ℕ) : Type 0 where
   pub preprocess : s.preprocess ≡ true
   pub size_is : s.block ≡ size
-  pub sizes : (size ≡ 8) ⊎ (size ≡ 16) ⊎ (size ≡ 32) ⊎ (size ≡ 64)
+  pub some : 2 ≤ size
+  pub few : size ≤ 64
   pub samples : HasWidth s width
+
+-- The lanes that a block of `size` samples takes, in rows of sixteen.
+abbrev pub lanes_of : (size : ℕ) → ℕ
+lanes_of size = 16 * ((size + 15) / 16)
 
 -- The first `len` bits are a sound coded data set at block b, and the levels of the samples of its one block, after sample p, stand
 -- first among these.

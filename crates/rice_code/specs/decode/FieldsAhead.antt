@@ -24,6 +24,10 @@ pub record HeadAhead (waiting : List Bool) (s : Parameters) (b before from omitt
   pub bits : reference_bits s reference ≡ take part (drop (id_len s) waiting)
   pub short : len ≤ 20
 
+-- The samples of the first `rows` rows of a block: sixteen each, but for what the last one lacks.
+abbrev pub rows_len : (size rows : ℕ) → ℕ
+rows_len size rows = size - (size - 16 * rows)
+
 -- The first `omitted` numbers are zeros, and the fundamental sequences of the others are the `len` bits behind the first `skip`.
 pub record HighsAhead (waiting : List Bool) (skip omitted : ℕ) (highs : List ℕ) (len : ℕ) : Type 0 where
   pub zeros : take omitted highs ≡ replicate omitted 0

@@ -6,7 +6,7 @@ ghost use Rattle.rice_samples.specs.Places.{blocks_left};
 ghost use Rattle.rice_bits.specs.Bits.{word};
 ghost use Rattle.rice_code.specs.Limits.{most_samples_of_bit};
 ghost use Rattle.rice_code.specs.code.Forms.{RunIsSound, blocks_in, zero_blocks};
-ghost use Rattle.rice_code.specs.decode.BlocksAhead.{GivesBytes, HasLanes};
+ghost use Rattle.rice_code.specs.decode.BlocksAhead.{GivesBytes, HasLanes, lanes_of};
 ghost use Rattle.rice_code.specs.decode.Rows.{AreCounted};
 ghost use Rattle.rice_code.specs.decode.PlainBlocks.{GivesRow, IsPlain, PlainRow};
 ghost use Rattle.rice_code.specs.decode.Decoder.{Skips, answer_to};
@@ -311,10 +311,10 @@ impl Decoder {
         answer
     }
 
-    /// Reads the next coded data set and writes the bytes of its block, of `SIZE` samples of `WIDTH` bytes, to the front of `bytes`. It
-    /// has to be coded by a split of at most 5, or of at most 8 where samples have two bytes, with short fundamental sequences, or not to
-    /// be compressed where they have one; and 208 bits, or 148 and eight for each sample, have to wait. Returns whether it did; otherwise
-    /// nothing has happened, and [`next_levels`](Self::next_levels) gives the block.
+    /// Reads the next coded data set and writes the bytes of its block, of samples of `WIDTH` bytes, to the front of `bytes`. `SIZE`, if it
+    /// is not 0, is the number of samples of a block. It has to be coded by a split of at most 5, or of at most 8 where samples have two
+    /// bytes, with short fundamental sequences, or not to be compressed where they have one; and 208 bits, or 148 and eight for each sample,
+    /// have to wait. Returns whether it did; otherwise nothing has happened, and [`next_levels`](Self::next_levels) gives the block.
     #[inline(always)]
     pub fn next_bytes<I: Intake, const SIZE: usize, const WIDTH: usize>(
         &mut self,
@@ -322,11 +322,12 @@ impl Decoder {
         meter: &mut Meter,
         bytes: &mut [u8],
     ) -> bool
-        requires lanes { HasLanes self.old.setting SIZE WIDTH }
+        requires size { 0 < SIZE → SIZE ≡ self.old.setting.block }
+        requires lanes { HasLanes self.old.setting self.old.setting.block WIDTH }
         requires stopped { self.old.stopped ≡ None }
         requires going { reader.old.refusal ≡ None }
         requires room { meter.old + 2 * (most_bits_read - reader.old.taken) + 64 < step_limit }
-        requires bytes { (32 ≤ length bytes.old) × (WIDTH * SIZE ≤ length bytes.old) }
+        requires bytes { (32 ≤ length bytes.old) × (WIDTH * lanes_of self.old.setting.block ≤ length bytes.old) }
         ensures some { result ≡ true → (self.old.run ≡ 0) ×
             GivesBytes reader.old reader.new meter.old meter.new self.old self.new bytes.new }
         ensures none { result ≡ false → (self.new ≡ self.old) × (reader.new ≡ reader.old) ×
@@ -342,7 +343,7 @@ impl Decoder {
         if self.run > 0 {
             return false;
         }
-        if let Some(k) = split_ahead::<I, SIZE, WIDTH>(&self.setting, reader) {
+        if let Some(k) = split_ahead::<I, WIDTH>(&self.setting, reader) {
             if self.before < FEW_BELOW {
                 return self.read_in_lanes::<I, SIZE, WIDTH, true>(k, reader, meter, bytes);
             }
@@ -352,7 +353,8 @@ impl Decoder {
             }
             return self.read_in_lanes::<I, SIZE, WIDTH, true>(k, reader, meter, bytes);
         }
-        if is_uncompressed_ahead::<I, SIZE, WIDTH>(&self.setting, reader) {
+        let size = known_or::<SIZE>(self.setting.block() as usize);
+        if is_uncompressed_ahead::<I, WIDTH>(&self.setting, size, reader) {
             self.read_whole::<I, SIZE>(reader, meter, bytes);
             return true;
         }
@@ -369,7 +371,8 @@ impl Decoder {
         meter: &mut Meter,
         bytes: &mut [u8],
     ) -> bool
-        requires lanes { HasLanes self.old.setting SIZE WIDTH }
+        requires size { 0 < SIZE → SIZE ≡ self.old.setting.block }
+        requires lanes { HasLanes self.old.setting self.old.setting.block WIDTH }
         requires stopped { self.old.stopped ≡ None }
         requires run { self.old.run ≡ 0 }
         requires there { 208 ≤ length reader.old.waiting }
@@ -378,7 +381,7 @@ impl Decoder {
             ≡ take (id_len self.old.setting) reader.old.waiting }
         requires going { reader.old.refusal ≡ None }
         requires room { meter.old + 2 * (most_bits_read - reader.old.taken) + 64 < step_limit }
-        requires bytes { (32 ≤ length bytes.old) × (WIDTH * SIZE ≤ length bytes.old) }
+        requires bytes { (32 ≤ length bytes.old) × (WIDTH * lanes_of self.old.setting.block ≤ length bytes.old) }
         ensures some { result ≡ true →
             GivesBytes reader.old reader.new meter.old meter.new self.old self.new bytes.new }
         ensures none { result ≡ false → (self.new ≡ self.old) × (reader.new ≡ reader.old) ×
@@ -392,6 +395,7 @@ impl Decoder {
         let setting = &self.setting;
         let spelled = match spell_ahead::<I, SIZE, WIDTH, TURNS>(
             setting,
+            known_or::<SIZE>(setting.block() as usize),
             self.block,
             self.before,
             k,
@@ -414,15 +418,16 @@ impl Decoder {
         meter: &mut Meter,
         bytes: &mut [u8],
     )
-        requires lanes { HasLanes self.old.setting SIZE 1 }
+        requires size { 0 < SIZE → SIZE ≡ self.old.setting.block }
+        requires lanes { HasLanes self.old.setting self.old.setting.block 1 }
         requires stopped { self.old.stopped ≡ None }
         requires run { self.old.run ≡ 0 }
-        requires there { 148 + 8 * SIZE ≤ length reader.old.waiting }
+        requires there { 148 + 8 * self.old.setting.block ≤ length reader.old.waiting }
         requires id { word (id_len self.old.setting) (2 ^ id_len self.old.setting - 1)
             ≡ take (id_len self.old.setting) reader.old.waiting }
         requires going { reader.old.refusal ≡ None }
         requires room { meter.old + 2 * (most_bits_read - reader.old.taken) + 64 < step_limit }
-        requires bytes { (32 ≤ length bytes.old) × (SIZE ≤ length bytes.old) }
+        requires bytes { lanes_of self.old.setting.block ≤ length bytes.old }
         ensures gives { GivesBytes reader.old reader.new meter.old meter.new self.old self.new
             bytes.new }
         ensures going { reader.new.refusal ≡ None }
@@ -434,6 +439,7 @@ impl Decoder {
         let setting = &self.setting;
         let spelled = spell_uncompressed_ahead::<I, SIZE>(
             setting,
+            known_or::<SIZE>(setting.block() as usize),
             self.block,
             self.before,
             reader,

@@ -1,5 +1,5 @@
-//! Blocks of 8 or 16 samples of at most 16 bits, by a split, and rows of sixteen samples of longer blocks.
-ghost use Rattle.std.specs.Prelude.{◌≡◌, ◌⊎◌, ◌+◌, ◌-◌, ◌^◌, ◌<◌, ◌≤◌, ◌++◌, ◌*◌, All, true, false, IfSome, IfNone, length, replicate, take};
+//! Blocks of at most 16 samples of at most 16 bits, by a split, and rows of longer blocks.
+ghost use Rattle.std.specs.Prelude.{◌≡◌, ◌+◌, ◌-◌, ◌^◌, ◌<◌, ◌≤◌, ◌++◌, ◌*◌, All, true, false, IfSome, IfNone, length, replicate, take};
 ghost use Rattle.rice_bits.specs.Bits.{word};
 ghost use Rattle.rice_samples.specs.Parameters.{id_len, value_count};
 ghost use Rattle.rice_samples.specs.Places.{is_reference};
@@ -31,18 +31,34 @@ fn sequence_bytes(size: usize) -> usize
     if size > 8 { 6 } else { 5 }
 }
 
-/// Returns the first `SIZE` numbers, with zeros behind them.
+/// Bytes of ones, and then of zeros: a mask of the first `n` of sixteen bytes begins `16 - n` bytes behind the front.
+static ONES: [u8; 32] = [
+    255, 255, 255, 255, 255, 255, 255, 255, 255, 255, 255, 255, 255, 255, 255, 255, 0, 0, 0, 0, 0,
+    0, 0, 0, 0, 0, 0, 0, 0, 0, 0, 0,
+];
+
+/// Returns the first `count` numbers, with zeros behind them.
 #[inline(always)]
-fn first_lanes<const SIZE: usize>(numbers: u8x16) -> u8x16
-    requires size { (SIZE ≡ 8) ⊎ (SIZE ≡ 16) }
+pub fn first_lanes(numbers: u8x16, count: usize) -> u8x16
+    requires count { count ≤ 16 }
     requires len { length numbers ≡ 16 }
-    ensures { result ≡ take SIZE numbers ++ replicate (16 - SIZE) 0 }
+    ensures { result ≡ take count numbers ++ replicate (16 - count) 0 }
 {
-    if SIZE == 16 {
-        numbers
-    } else {
-        first_half(numbers)
+    match count {
+        16 => numbers,
+        8 => first_half(numbers),
+        _ => cleared_behind(numbers, count),
     }
+}
+
+/// Returns the first `count` numbers, with zeros behind them.
+#[inline(always)]
+fn cleared_behind(numbers: u8x16, count: usize) -> u8x16
+    requires count { count ≤ 16 }
+    requires len { length numbers ≡ 16 }
+    ensures { result ≡ take count numbers ++ replicate (16 - count) 0 }
+{
+    numbers & u8x16::from_slice(&ONES[16 - count..])
 }
 
 /// Returns the first eight numbers, with zeros behind them.
@@ -57,18 +73,19 @@ fn first_half(numbers: u8x16) -> u8x16
     )
 }
 
-/// Returns the parts of the block of `SIZE` samples that waits, by split `k`, after a sample at level `before`, if its fundamental
+/// Returns the parts of the block of `size` samples that waits, by split `k`, after a sample at level `before`, if its fundamental
 /// sequences are short. It takes nothing.
 #[inline(always)]
-pub fn parts_ahead<I: Intake, const SIZE: usize, const WIDTH: usize>(
+pub fn parts_ahead<I: Intake, const WIDTH: usize>(
     setting: &Setting,
+    size: usize,
     block: u64,
     before: u32,
     k: u32,
     reader: &BitReader<I>,
 ) -> Option<PartLanes>
-    requires lanes { HasLanes setting.now SIZE WIDTH }
-    requires row { SIZE ≤ 16 }
+    requires lanes { HasLanes setting.now size WIDTH }
+    requires row { size ≤ 16 }
     requires before { before < value_count setting.now }
     requires there { 208 ≤ length reader.now.waiting }
     requires split { k < 3 + 3 * WIDTH }
@@ -77,22 +94,23 @@ pub fn parts_ahead<I: Intake, const SIZE: usize, const WIDTH: usize>(
         p.from 16 p.highs p.lows p.len) }
 {
     if setting.is_reference(block) {
-        return parts_behind_reference::<I, SIZE, WIDTH>(setting, block, before, k, reader);
+        return parts_behind_reference::<I, WIDTH>(setting, size, block, before, k, reader);
     }
-    plain_parts::<I, SIZE, WIDTH>(setting, block, before, k, reader)
+    plain_parts::<I, WIDTH>(setting, size, block, before, k, reader)
 }
 
 /// As `parts_ahead`, for a block that has no reference sample.
 #[inline(always)]
-fn plain_parts<I: Intake, const SIZE: usize, const WIDTH: usize>(
+fn plain_parts<I: Intake, const WIDTH: usize>(
     setting: &Setting,
+    size: usize,
     block: u64,
     before: u32,
     k: u32,
     reader: &BitReader<I>,
 ) -> Option<PartLanes>
-    requires lanes { HasLanes setting.now SIZE WIDTH }
-    requires row { SIZE ≤ 16 }
+    requires lanes { HasLanes setting.now size WIDTH }
+    requires row { size ≤ 16 }
     requires before { before < value_count setting.now }
     requires reference { is_reference setting.now block ≡ false }
     requires there { 208 ≤ length reader.now.waiting }
@@ -102,27 +120,28 @@ fn plain_parts<I: Intake, const SIZE: usize, const WIDTH: usize>(
         p.from 16 p.highs p.lows p.len) }
 {
     let head = WIDTH + 2;
-    let sequences = reader.sequences_ahead(head, sequence_bytes(SIZE), SIZE)?;
+    let sequences = reader.sequences_ahead(head, sequence_bytes(size), size)?;
     let words = head + sequences.len;
     Some(PartLanes {
         from: before,
-        highs: first_lanes::<SIZE>(sequences.numbers),
-        lows: first_lanes::<SIZE>(reader.words_ahead(words, k)),
-        len: words + SIZE * k as usize,
+        highs: first_lanes(sequences.numbers, size),
+        lows: first_lanes(reader.words_ahead(words, k), size),
+        len: words + size * k as usize,
     })
 }
 
 /// As `parts_ahead`, for a block that has a reference sample.
 #[inline(always)]
-fn parts_behind_reference<I: Intake, const SIZE: usize, const WIDTH: usize>(
+fn parts_behind_reference<I: Intake, const WIDTH: usize>(
     setting: &Setting,
+    size: usize,
     block: u64,
     before: u32,
     k: u32,
     reader: &BitReader<I>,
 ) -> Option<PartLanes>
-    requires lanes { HasLanes setting.now SIZE WIDTH }
-    requires row { SIZE ≤ 16 }
+    requires lanes { HasLanes setting.now size WIDTH }
+    requires row { size ≤ 16 }
     requires before { before < value_count setting.now }
     requires reference { is_reference setting.now block ≡ true }
     requires there { 208 ≤ length reader.now.waiting }
@@ -135,23 +154,24 @@ fn parts_behind_reference<I: Intake, const SIZE: usize, const WIDTH: usize>(
     let bits = setting.bits();
     let first = level_of_pattern(setting, reader.number_ahead(id, bits));
     let head = id + bits as usize;
-    let sequences = reader.sequences_ahead(head, sequence_bytes(SIZE), SIZE - 1)?;
+    let sequences = reader.sequences_ahead(head, sequence_bytes(size), size - 1)?;
     let words = head + sequences.len;
     // A residual of 0 stands at the place of the reference sample.
     Some(PartLanes {
         from: first,
-        highs: first_lanes::<SIZE>(behind_zero(sequences.numbers)),
-        lows: first_lanes::<SIZE>(behind_zero(reader.words_ahead(words, k))),
-        len: words + (SIZE - 1) * k as usize,
+        highs: first_lanes(behind_zero(sequences.numbers), size),
+        lows: first_lanes(behind_zero(reader.words_ahead(words, k)), size),
+        len: words + (size - 1) * k as usize,
     })
 }
 
-/// Writes the bytes of a row of samples of `WIDTH` bytes, the first after a sample at level `from`, whose residuals have these parts: by
+/// Writes the bytes of a row of `size` samples of `WIDTH` bytes, the first after a sample at level `from`, whose residuals have these parts: by
 /// `TURNS` if no residual is too large, else if all of them are near to those before them. Returns the level of the last. It may write
 /// more behind these bytes.
 #[inline(always)]
-pub fn spell_parts<const SIZE: usize, const WIDTH: usize, const TURNS: bool>(
+pub fn spell_parts<const WIDTH: usize, const TURNS: bool>(
     setting: &Setting,
+    size: usize,
     k: u32,
     from: u32,
     highs: u8x16,
@@ -159,19 +179,19 @@ pub fn spell_parts<const SIZE: usize, const WIDTH: usize, const TURNS: bool>(
     bytes: &mut [u8],
 ) -> Option<u32>
     requires width { HasWidth setting.now WIDTH }
-    requires size { (SIZE ≡ 8) ⊎ (SIZE ≡ 16) }
+    requires size { (1 ≤ size) × (size ≤ 16) }
     requires split { k < 3 + 3 * WIDTH }
     requires begins { from < value_count setting.now }
     requires sixteen { (length highs ≡ 16) × (length lows ≡ 16) }
     requires low { All (λ l. l < 2 ^ k) lows }
     requires bytes { 32 ≤ length bytes.old }
-    ensures some { IfSome result (λ l. SpellsParts setting.now from k SIZE highs lows l bytes.new) }
+    ensures some { IfSome result (λ l. SpellsParts setting.now from k size highs lows l bytes.new) }
     ensures none { IfNone result (bytes.new ≡ bytes.old) }
 {
     if WIDTH == 1 {
-        spell_bytes::<SIZE, TURNS>(setting, k, from, highs, lows, bytes)
+        spell_bytes::<TURNS>(setting, size, k, from, highs, lows, bytes)
     } else {
-        spell_words::<SIZE, TURNS>(setting, k, from, highs, lows, bytes)
+        spell_words::<TURNS>(setting, size, k, from, highs, lows, bytes)
     }
 }
 
@@ -225,8 +245,9 @@ fn row_halves<const TURNS: bool>(
 
 /// As `spell_parts`, of samples of one byte.
 #[inline(always)]
-fn spell_bytes<const SIZE: usize, const TURNS: bool>(
+fn spell_bytes<const TURNS: bool>(
     setting: &Setting,
+    size: usize,
     k: u32,
     from: u32,
     highs: u8x16,
@@ -234,25 +255,26 @@ fn spell_bytes<const SIZE: usize, const TURNS: bool>(
     bytes: &mut [u8],
 ) -> Option<u32>
     requires width { HasWidth setting.now 1 }
-    requires size { (SIZE ≡ 8) ⊎ (SIZE ≡ 16) }
+    requires size { (1 ≤ size) × (size ≤ 16) }
     requires split { k < 6 }
     requires begins { from < value_count setting.now }
     requires sixteen { (length highs ≡ 16) × (length lows ≡ 16) }
     requires low { All (λ l. l < 2 ^ k) lows }
     requires bytes { 32 ≤ length bytes.old }
-    ensures some { IfSome result (λ l. SpellsParts setting.now from k SIZE highs lows l bytes.new) }
+    ensures some { IfSome result (λ l. SpellsParts setting.now from k size highs lows l bytes.new) }
     ensures none { IfNone result (bytes.new ≡ bytes.old) }
 {
     let _bits = setting.bits();
     let near = row_levels::<TURNS>(setting, from, highs, lows, k)?;
     spelled_bytes(setting, near.levels).copy_to_slice(bytes);
-    Some(near.levels.to_array()[SIZE - 1] as u32)
+    Some(near.levels.to_array()[size - 1] as u32)
 }
 
 /// As `spell_parts`, of samples of two bytes.
 #[inline(always)]
-fn spell_words<const SIZE: usize, const TURNS: bool>(
+fn spell_words<const TURNS: bool>(
     setting: &Setting,
+    size: usize,
     k: u32,
     from: u32,
     highs: u8x16,
@@ -260,20 +282,20 @@ fn spell_words<const SIZE: usize, const TURNS: bool>(
     bytes: &mut [u8],
 ) -> Option<u32>
     requires width { HasWidth setting.now 2 }
-    requires size { (SIZE ≡ 8) ⊎ (SIZE ≡ 16) }
+    requires size { (1 ≤ size) × (size ≤ 16) }
     requires split { k < 9 }
     requires begins { from < value_count setting.now }
     requires sixteen { (length highs ≡ 16) × (length lows ≡ 16) }
     requires low { All (λ l. l < 2 ^ k) lows }
     requires bytes { 32 ≤ length bytes.old }
-    ensures some { IfSome result (λ l. SpellsParts setting.now from k SIZE highs lows l bytes.new) }
+    ensures some { IfSome result (λ l. SpellsParts setting.now from k size highs lows l bytes.new) }
     ensures none { IfNone result (bytes.new ≡ bytes.old) }
 {
     let near = row_halves::<TURNS>(setting, from, highs, lows, k)?;
     spelled_words(setting, near.first).copy_to_slice(bytes);
-    if SIZE == 8 {
-        return Some(near.first.to_array()[7] as u32);
+    if size <= 8 {
+        return Some(near.first.to_array()[size - 1] as u32);
     }
     spelled_words(setting, near.second).copy_to_slice(&mut bytes[16..]);
-    Some(near.second.to_array()[7] as u32)
+    Some(near.second.to_array()[size - 9] as u32)
 }

@@ -1,11 +1,11 @@
-//! Blocks of 32 or 64 samples of at most 16 bits, by a split, in rows of sixteen residuals.
-ghost use Rattle.std.specs.Prelude.{◌≡◌, ◌⊎◌, ◌+◌, ◌-◌, ◌*◌, ◌^◌, ◌<◌, ◌≤◌, ◌++◌, All, IfSome, IfNone, drop, length, replicate, true, take};
+//! Blocks of 17 to 64 samples of at most 16 bits, by a split, in rows of sixteen residuals. The last row may have fewer.
+ghost use Rattle.std.specs.Prelude.{◌≡◌, ◌+◌, ◌-◌, ◌*◌, ◌^◌, ◌<◌, ◌≤◌, ◌++◌, All, IfSome, IfNone, drop, length, replicate, true, take};
 ghost use Rattle.rice_bits.specs.Bits.{word};
 ghost use Rattle.rice_samples.specs.Parameters.{id_len, value_count};
-ghost use Rattle.rice_code.specs.decode.BlocksAhead.{HasLanes, HasWidth, PartsAhead, SpellsParts};
-ghost use Rattle.rice_code.specs.decode.FieldsAhead.{HeadAhead, HighsAhead, LowsAhead};
+ghost use Rattle.rice_code.specs.decode.BlocksAhead.{HasLanes, HasWidth, PartsAhead, SpellsParts, lanes_of};
+ghost use Rattle.rice_code.specs.decode.FieldsAhead.{HeadAhead, HighsAhead, LowsAhead, rows_len};
 
-use crate::decode::split_lanes::spell_parts;
+use crate::decode::split_lanes::{first_lanes, spell_parts};
 use rice_bits::{BitReader, Intake, Sequences, behind_zero};
 use rice_samples::{Setting, level_of_pattern};
 use std::simd::prelude::*;
@@ -40,6 +40,21 @@ struct HighRows {
     len: usize,
 }
 
+/// Returns the number of samples of row `row` of a block of `size` samples.
+#[inline(always)]
+pub fn row_len(size: usize, row: usize) -> usize
+    requires row { 16 * row < size }
+    ensures some { (1 ≤ result) × (result ≤ 16) }
+    ensures end { 16 * row + result ≡ rows_len size (row + 1) }
+{
+    // Where all rows are whole, the compiler sees that no lane has to be cleared.
+    if size % 16 == 0 {
+        16
+    } else {
+        (size - 16 * row).min(16)
+    }
+}
+
 /// Returns what stands before the fundamental sequences of the block that waits, after a sample at level `before`.
 #[inline(always)]
 pub fn head_ahead<I: Intake, const WIDTH: usize>(
@@ -51,7 +66,7 @@ pub fn head_ahead<I: Intake, const WIDTH: usize>(
     requires width { HasWidth setting.now WIDTH }
     requires preprocess { setting.now.preprocess ≡ true }
     requires before { before < value_count setting.now }
-    requires there { 208 ≤ length reader.now.waiting }
+    requires there { 20 ≤ length reader.now.waiting }
     ensures { HeadAhead reader.now.waiting setting.now block before result.from result.omitted
         result.len }
 {
@@ -98,68 +113,78 @@ fn store_row(rows: &mut [u8], row: usize, numbers: u8x16)
     numbers.copy_to_slice(&mut rows[16 * row..]);
 }
 
-/// Returns the high parts of a row of sixteen residuals whose fundamental sequences wait behind the first `skip` bits, if all of them
-/// are in one look. Those that are omitted, one or none, are zeros.
+/// Returns the high parts of a row of `count` residuals whose fundamental sequences wait behind the first `skip` bits, if all of them
+/// are in one look, and zeros behind them. Those that are omitted, one or none, are zeros.
 #[inline(always)]
-fn row_ahead<I: Intake>(reader: &BitReader<I>, skip: usize, omitted: usize) -> Option<Sequences>
+fn row_ahead<I: Intake>(
+    reader: &BitReader<I>,
+    skip: usize,
+    omitted: usize,
+    count: usize,
+) -> Option<Sequences>
     requires skip { skip ≤ length reader.now.waiting }
     requires omitted { omitted ≤ 1 }
-    ensures some { IfSome result (λ s. HighsAhead reader.now.waiting skip omitted s.numbers s.len) }
+    requires count { (omitted < count) × (count ≤ 16) }
+    ensures some { IfSome result (λ s.
+        HighsAhead reader.now.waiting skip omitted (take count s.numbers) s.len) }
     ensures lanes { IfSome result (λ s. length s.numbers ≡ 16) }
 {
     let _taken = reader.taken();
     if reader.waiting() < skip as u64 + 64 {
         return None;
     }
-    let sequences = reader.sequences_ahead(skip, ROW_BYTES, 16 - omitted)?;
+    let sequences = reader.sequences_ahead(skip, ROW_BYTES, count - omitted)?;
     Some(Sequences {
-        numbers: behind_omitted(sequences.numbers, omitted),
+        numbers: first_lanes(behind_omitted(sequences.numbers, omitted), count),
         len: sequences.len,
     })
 }
 
-/// Returns the high parts of the residuals of a block of `SIZE` samples whose fundamental sequences wait behind the first `skip` bits,
+/// Returns the high parts of the residuals of a block of `size` samples whose fundamental sequences wait behind the first `skip` bits,
 /// if each row of them is in one look. Those that are omitted, one or none, are zeros.
 #[inline(always)]
-fn high_rows<I: Intake, const SIZE: usize>(
+fn high_rows<I: Intake>(
     reader: &BitReader<I>,
+    size: usize,
     skip: usize,
     omitted: usize,
 ) -> Option<HighRows>
-    requires size { (SIZE ≡ 32) ⊎ (SIZE ≡ 64) }
+    requires size { (16 < size) × (size ≤ 64) }
     requires skip { skip ≤ length reader.now.waiting }
     requires omitted { omitted ≤ 1 }
     ensures some { IfSome result (λ r. HighsAhead reader.now.waiting skip omitted
-        (take SIZE r.highs) r.len) }
+        (take size r.highs) r.len) }
     ensures places { IfSome result (λ r. length r.highs ≡ 64) }
 {
     let _taken = reader.taken();
-    let first = row_ahead(reader, skip, omitted)?;
+    let first = row_ahead(reader, skip, omitted, 16)?;
     let mut highs = [0; 64];
     store_row(&mut highs, 0, first.numbers);
     let mut len = first.len;
-    for row in 1..SIZE / 16 {
-        let next = row_ahead(reader, skip + len, 0)?;
+    for row in 1..(size + 15) / 16 {
+        let next = row_ahead(reader, skip + len, 0, row_len(size, row))?;
         store_row(&mut highs, row, next.numbers);
         len += next.len;
     }
     Some(HighRows { highs, len })
 }
 
-/// Returns the low parts of `k` bits of the residuals of a block of `SIZE` samples, which wait behind the first `skip` bits. Those that
+/// Returns the low parts of `k` bits of the residuals of a block of `size` samples, which wait behind the first `skip` bits. Those that
 /// are omitted, one or none, are zeros.
 #[inline(always)]
-pub fn low_rows<I: Intake, const SIZE: usize>(
+pub fn low_rows<I: Intake>(
     reader: &BitReader<I>,
+    size: usize,
     skip: usize,
     omitted: usize,
     k: u32,
 ) -> [u8; 64]
-    requires size { (SIZE ≡ 32) ⊎ (SIZE ≡ 64) }
+    requires size { (16 < size) × (size ≤ 64) }
     requires split { k ≤ 8 }
     requires omitted { omitted ≤ 1 }
-    requires there { skip + SIZE * k + 128 ≤ length reader.now.waiting }
-    ensures lows { LowsAhead reader.now.waiting skip omitted k (take SIZE result) }
+    requires there { skip + size * k + 128 ≤ length reader.now.waiting }
+    ensures lows { LowsAhead reader.now.waiting skip omitted k (take size result) }
+    ensures fit { All (λ l. l < 2 ^ k) (take (lanes_of size) result) }
     ensures places { length result ≡ 64 }
 {
     let _taken = reader.taken();
@@ -167,52 +192,56 @@ pub fn low_rows<I: Intake, const SIZE: usize>(
     let first = behind_omitted(reader.words_ahead(skip, k), omitted);
     store_row(&mut lows, 0, first);
     let second = skip + (16 - omitted) * k as usize;
-    for row in 1..SIZE / 16 {
+    for row in 1..(size + 15) / 16 {
         let words = reader.words_ahead(second + 16 * (row - 1) * k as usize, k);
-        store_row(&mut lows, row, words);
+        store_row(&mut lows, row, first_lanes(words, row_len(size, row)));
     }
     lows
 }
 
-/// Returns the parts of the block of `SIZE` samples that waits, by split `k`, after a sample at level `before`, if the fundamental
+/// Returns the parts of the block of `size` samples that waits, by split `k`, after a sample at level `before`, if the fundamental
 /// sequences of its rows are short. It takes nothing.
 #[inline(always)]
-pub fn rows_ahead<I: Intake, const SIZE: usize, const WIDTH: usize>(
+pub fn rows_ahead<I: Intake, const WIDTH: usize>(
     setting: &Setting,
+    size: usize,
     block: u64,
     before: u32,
     k: u32,
     reader: &BitReader<I>,
 ) -> Option<PartRows>
-    requires lanes { HasLanes setting.now SIZE WIDTH }
-    requires size { (SIZE ≡ 32) ⊎ (SIZE ≡ 64) }
+    requires lanes { HasLanes setting.now size WIDTH }
+    requires rows { 16 < size }
     requires before { before < value_count setting.now }
     requires there { 208 ≤ length reader.now.waiting }
     requires split { k < 3 + 3 * WIDTH }
     requires id { word (id_len setting.now) (k + 1) ≡ take (id_len setting.now) reader.now.waiting }
     ensures some { IfSome result (λ p. PartsAhead reader.now.waiting setting.now block before k
-        p.from SIZE (take SIZE p.highs) (take SIZE p.lows) p.len) }
+        p.from size (take size p.highs) (take size p.lows) p.len) }
+    ensures fit { IfSome result (λ p.
+        All (λ l. l < 2 ^ k) (take (lanes_of size) p.lows)) }
     ensures places { IfSome result (λ p. (length p.highs ≡ 64) × (length p.lows ≡ 64)) }
 {
     let _taken = reader.taken();
     let head = head_ahead::<I, WIDTH>(setting, block, before, reader);
-    let sequences = high_rows::<I, SIZE>(reader, head.len, head.omitted)?;
+    let sequences = high_rows(reader, size, head.len, head.omitted)?;
     let words = head.len + sequences.len;
-    if reader.waiting() < (words + SIZE * k as usize + 128) as u64 {
+    if reader.waiting() < (words + size * k as usize + 128) as u64 {
         return None;
     }
     let highs = sequences.highs;
-    let lows = low_rows::<I, SIZE>(reader, words, head.omitted, k);
+    let lows = low_rows(reader, size, words, head.omitted, k);
     Some(PartRows {
         from: head.from,
         highs,
         lows,
-        len: words + (SIZE - head.omitted) * k as usize,
+        len: words + (size - head.omitted) * k as usize,
     })
 }
 
-/// Writes the bytes of row `row` of a block with these parts, of samples of `WIDTH` bytes, behind those of the rows before it, the
-/// first after a sample at level `from`, if it can, as `spell_parts`. Returns the level of the last. It may write more behind these bytes.
+/// Writes the bytes of row `row`, of `count` samples of `WIDTH` bytes, of a block with these parts, behind those of the rows before it,
+/// the first after a sample at level `from`, if it can, as `spell_parts`. Returns the level of the last. It may write more behind these
+/// bytes.
 #[inline(always)]
 fn spell_row<const WIDTH: usize, const TURNS: bool>(
     setting: &Setting,
@@ -220,16 +249,18 @@ fn spell_row<const WIDTH: usize, const TURNS: bool>(
     from: u32,
     parts: &PartRows,
     row: usize,
+    count: usize,
     bytes: &mut [u8],
 ) -> Option<u32>
     requires width { HasWidth setting.now WIDTH }
     requires split { k < 3 + 3 * WIDTH }
     requires begins { from < value_count setting.now }
     requires row { row < 4 }
+    requires count { (1 ≤ count) × (count ≤ 16) }
     requires places { (length parts.now.highs ≡ 64) × (length parts.now.lows ≡ 64) }
     requires low { All (λ l. l < 2 ^ k) (take 16 (drop (16 * row) parts.now.lows)) }
     requires bytes { WIDTH * (16 * row) + 32 ≤ length bytes.old }
-    ensures some { IfSome result (λ l. SpellsParts setting.now from k 16
+    ensures some { IfSome result (λ l. SpellsParts setting.now from k count
         (take 16 (drop (16 * row) parts.now.highs)) (take 16 (drop (16 * row) parts.now.lows)) l
         (drop (WIDTH * (16 * row)) bytes.new)) }
     ensures before { take (WIDTH * (16 * row)) bytes.new ≡ take (WIDTH * (16 * row)) bytes.old }
@@ -238,35 +269,37 @@ fn spell_row<const WIDTH: usize, const TURNS: bool>(
     let highs = u8x16::from_slice(&parts.highs[16 * row..]);
     let lows = u8x16::from_slice(&parts.lows[16 * row..]);
     let place = &mut bytes[WIDTH * (16 * row)..];
-    spell_parts::<16, WIDTH, TURNS>(setting, k, from, highs, lows, place)
+    spell_parts::<WIDTH, TURNS>(setting, count, k, from, highs, lows, place)
 }
 
-/// Writes the bytes of the block with these parts, of `SIZE` samples of `WIDTH` bytes, if it can, as `spell_parts`. Returns the level of
+/// Writes the bytes of the block with these parts, of `size` samples of `WIDTH` bytes, if it can, as `spell_parts`. Returns the level of
 /// its last sample.
 #[inline(always)]
-pub fn spell_rows<const SIZE: usize, const WIDTH: usize, const TURNS: bool>(
+pub fn spell_rows<const WIDTH: usize, const TURNS: bool>(
     setting: &Setting,
+    size: usize,
     k: u32,
     parts: &PartRows,
     bytes: &mut [u8],
 ) -> Option<u32>
     requires width { HasWidth setting.now WIDTH }
-    requires size { (SIZE ≡ 32) ⊎ (SIZE ≡ 64) }
+    requires size { (16 < size) × (size ≤ 64) }
     requires split { k < 3 + 3 * WIDTH }
     requires begins { parts.now.from < value_count setting.now }
     requires places { (length parts.now.highs ≡ 64) × (length parts.now.lows ≡ 64) }
-    requires low { All (λ l. l < 2 ^ k) (take SIZE parts.now.lows) }
-    requires bytes { WIDTH * SIZE ≤ length bytes.old }
-    ensures some { IfSome result (λ l. SpellsParts setting.now parts.now.from k SIZE
-        (take SIZE parts.now.highs) (take SIZE parts.now.lows) l bytes.new) }
+    requires low { All (λ l. l < 2 ^ k) (take (lanes_of size) parts.now.lows) }
+    requires bytes { WIDTH * lanes_of size ≤ length bytes.old }
+    ensures some { IfSome result (λ l. SpellsParts setting.now parts.now.from k size
+        (take size parts.now.highs) (take size parts.now.lows) l bytes.new) }
     ensures none { IfNone result (bytes.new ≡ bytes.old) }
 {
     // Behind the last row there is room for what is written behind a row.
     let mut spelled = [0; 160];
     let mut last = parts.from;
-    for row in 0..SIZE / 16 {
-        last = spell_row::<WIDTH, TURNS>(setting, k, last, parts, row, &mut spelled)?;
+    for row in 0..(size + 15) / 16 {
+        let count = row_len(size, row);
+        last = spell_row::<WIDTH, TURNS>(setting, k, last, parts, row, count, &mut spelled)?;
     }
-    bytes[..WIDTH * SIZE].copy_from_slice(&spelled[..WIDTH * SIZE]);
+    bytes[..WIDTH * size].copy_from_slice(&spelled[..WIDTH * size]);
     Some(last)
 }

@@ -5,4 +5,5 @@ pub mod ReadLevels
 pub mod ReadSamples
 pub mod SpelledPatterns
 pub mod SpellingLemmas
+pub mod SpellingLengths
 pub mod WordLanes

@@ -43,7 +43,7 @@ use Rattle.rice_stream.proofs.lemmas.DecodedSamples.{decoded_nothing, ends_here,
 use Rattle.rice_stream.proofs.lemmas.DecodingLemmas.{still_asked}
 use Rattle.rice_stream.proofs.lemmas.SetsRead.{sets-none}
 use Rattle.rice_code.specs.decode.Rows.{AreCounted}
-use Rattle.rice_stream.proofs.lemmas.SpellingLengths.{spellings-append}
+use Rattle.rice_samples.proofs.lemmas.bytes.SpellingLengths.{spellings-append}
 
 -- more samples are wanted than are written
 pub goes_on : (s : Parameters) (asked : Option ℕ) (blocks written : ℕ) (all : List ℤ) → length all ≡ s.block * blocks → written ≡ length (cut_to s asked 0 all)

@@ -20,7 +20,7 @@ use Rattle.rice_stream.specs.declared.outcome.Fault.{Fault}
 use Rattle.rice_stream.specs.declared.outcome.Fault.TheVariants.{Read, Write, TooLong, SampleOutOfRange, SampleCut, CodeEnds, RunPastSegment, ResidualTooLarge}
 use Rattle.rice_stream.proofs.lemmas.BoundLemmas.{Settles, early_bounded, all_bounded}
 use Rattle.rice_stream.proofs.lemmas.EncodingLemmas.{Follows-all, settled_by}
-use Rattle.rice_stream.proofs.lemmas.SpellingLengths.{length-spellings, spellings-append}
+use Rattle.rice_samples.proofs.lemmas.bytes.SpellingLengths.{length-spellings, spellings-append}
 
 -- a call that stops early is within the bounds
 pub within_early : (s : Parameters) (r : Report) (xs : List ℤ) → Settles s xs → ReportsTaken s r xs → EncodesWithin s r

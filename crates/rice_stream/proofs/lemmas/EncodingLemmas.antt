@@ -25,7 +25,7 @@ use Rattle.rice_stream.specs.Encodes.{ReportsAll}
 use Rattle.rice_stream.specs.Writes.{TakesPart}
 use Rattle.rice_stream.specs.declared.encoding.Encoding.{Encoding}
 use Rattle.rice_stream.specs.declared.outcome.Report.{Report}
-use Rattle.rice_stream.proofs.lemmas.SpellingLengths.{spellings-append}
+use Rattle.rice_samples.proofs.lemmas.bytes.SpellingLengths.{spellings-append}
 use Rattle.std.proofs.Math.Seq.{take-append_seam}
 use Rattle.std.proofs.lemmas.List.{length-take-le, drop-take, take-take}
 use Rattle.std.proofs.lemmas.List.Elements.{All-take}

@@ -27,7 +27,7 @@ use Rattle.rice_stream.specs.Feeding.{IsSeam}
 use Rattle.rice_stream.specs.Laws.{Piece, AreFed, TakeInParts, last_seam, place_behind, FeedingIsEncoding, IsPlace, SeamsTellPlaces}
 use Rattle.rice_stream.specs.declared.seam.Seam.{Seam}
 use Rattle.rice_stream.proofs.lemmas.EncodingLemmas.{code_nothing, settled_nothing}
-use Rattle.rice_stream.proofs.lemmas.SpellingLengths.{length-spelling, length-spellings, spellings-append}
+use Rattle.rice_samples.proofs.lemmas.bytes.SpellingLengths.{length-spelling, length-spellings, spellings-append}
 
 -- one spelling is of one sample
 one_sample : (s : Parameters) (x y : ℤ) → IsLegal s → IsSample s x → IsSample s y → spelling s x ≡ spelling s y → x ≡ y

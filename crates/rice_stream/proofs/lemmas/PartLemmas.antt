@@ -12,7 +12,7 @@ use Rattle.rice_stream.specs.EncodingState.{Beginning, IsEncodingOf, FailsAt, Re
 use Rattle.rice_stream.specs.declared.encoding.Encoding.{Encoding}
 use Rattle.rice_stream.specs.declared.outcome.Fault.{Fault}
 use Rattle.rice_stream.specs.declared.outcome.Fault.TheVariants.{Read, Write, TooLong, SampleOutOfRange, SampleCut, CodeEnds, RunPastSegment, ResidualTooLarge}
-use Rattle.rice_stream.proofs.lemmas.SpellingLengths.{length-spellings, spellings-append}
+use Rattle.rice_samples.proofs.lemmas.bytes.SpellingLengths.{length-spellings, spellings-append}
 
 -- the samples of one part, and then those of the next
 reads_on : (s : Parameters) (xs ys : List ℤ) (front part rest : List ℕ) → front ≡ spellings s xs → All (IsSample s) xs → Reads s part ys rest → Reads s (front ++ part) (xs ++ ys) rest

@@ -27,7 +27,7 @@ use Rattle.rice_stream.specs.declared.outcome.Fault.{Fault}
 use Rattle.rice_stream.specs.declared.outcome.Fault.TheVariants.{Write}
 use Rattle.rice_stream.proofs.lemmas.DecodingEnds.{Ends, progress_with_block, write_ends}
 use Rattle.rice_stream.proofs.lemmas.DecodingLemmas.{Advances, gains_block}
-use Rattle.rice_stream.proofs.lemmas.SpellingLengths.{length-spellings, spellings-append}
+use Rattle.rice_samples.proofs.lemmas.bytes.SpellingLengths.{length-spellings, spellings-append}
 
 -- the front of a repeated pattern
 pub take-repeated : (m n : ℕ) (xs : List ℕ) → m ≤ n → take (length xs * m) (repeated n xs) ≡ repeated m xs

@@ -51,13 +51,12 @@ lanes_size s size bytes_of_one has = (λ i. width_is s size bytes_of_one has i *
 -- They are few.
 pub lanes_few : (s : Parameters) (size bytes_of_one : ℕ) → HasLanes s size bytes_of_one → bytes_of_one * size ≤ 512
 lanes_few s size bytes_of_one has =
-    let few : size ≤ 64 = elim has.sizes [ inl e ↦ omega (arith, e) | inr e ↦ elim e [ inl f ↦ omega (arith, f) | inr f ↦ elim f [ inl g ↦ omega (arith, g) | inr g ↦ omega (arith, g) ] ] ] in
+    let few = has.few in
     elim has.samples.widths [ inl e ↦ (let m : bytes_of_one * size ≡ 1 * size = ap (λ w. w * size) e in omega (arith, few, m)) | inr e ↦ (let m : bytes_of_one * size ≡ 2 * size = ap (λ w. w * size) e in omega (arith, few, m)) ]
 
 -- the samples of a block are at the front of its lanes
-pub lanes_front : (s t : Parameters) (size bytes_of_one count : ℕ) (samples : List ℤ) (bytes : List ℕ) → HasLanes s size bytes_of_one → t ≡ s → count ≡ s.block
+pub lanes_front : (s t : Parameters) (size bytes_of_one count : ℕ) (samples : List ℤ) (bytes : List ℕ) → HasLanes s s.block bytes_of_one → t ≡ s → count ≡ s.block → size ≡ count
     → length samples ≡ s.block → take (width t * length samples) bytes ≡ spellings t samples
     → take (bytes_of_one * size) bytes ≡ spellings s (take count samples)
-lanes_front s t size bytes_of_one count samples bytes has same all len spelled =
-    let many : size ≡ count = sym has.size_is ∙ sym all in
-    ap (λ n. take (bytes_of_one * n) bytes) many ∙ spelled_front s t bytes_of_one count samples bytes same (width_is s size bytes_of_one has) all len spelled
+lanes_front s t size bytes_of_one count samples bytes has same all many len spelled =
+    ap (λ n. take (bytes_of_one * n) bytes) many ∙ spelled_front s t bytes_of_one count samples bytes same (width_is s s.block bytes_of_one has) all len spelled

@@ -24,7 +24,7 @@ use Rattle.rice_stream.proofs.lemmas.PullingLemmas.{Steps, gives_next, goes_on_a
 use Rattle.rice_stream.proofs.lemmas.RowsWritten.{gives_with_more_steps}
 use Rattle.rice_stream.proofs.lemmas.RunsWritten.{advances_in_run, run_is_more}
 use Rattle.rice_stream.proofs.lemmas.SpelledBlocks.{advances_spelled, width_is}
-use Rattle.rice_stream.proofs.lemmas.SpellingLengths.{length-spellings, spellings-append}
+use Rattle.rice_samples.proofs.lemmas.bytes.SpellingLengths.{length-spellings, spellings-append}
 
 -- one call of the decoder
 pub gives_one : {I : Type 0} {s : Parameters} {stand next : Stand} {q : DecoderState} {r new : Reader I} {steps steps_new : ℕ} {xs : List ℤ} (o : Origin) (front : List Bool) (given : List ℤ)

@@ -1,6 +1,6 @@
 -- A block without compression that waits, and is predicted.
-use Rattle.std.proofs.Common.{◌≡◌, ℕ, zero, suc, ◌+◌, ◌-◌, ◌*◌, ◌^◌, ◌<◌, ◌≤◌, Bool, true, List, [], ◌∷◌, ◌++◌, length, take, drop, take-take, replicate, refl, sym, ◌∙◌, ap, subst, arith, Option, inl, inr}
-use Rattle.std.specs.Prelude.{All, ◌⊎◌, flat_map, slice_index_or, IfSome, IfNone}
+use Rattle.std.proofs.Common.{◌≡◌, ℕ, zero, suc, ◌+◌, ◌-◌, ◌*◌, ◌^◌, ◌<◌, ◌≤◌, Bool, true, List, [], ◌∷◌, ◌++◌, length, take, drop, take-take, replicate, refl, sym, ◌∙◌, ap, subst, arith, Option}
+use Rattle.std.specs.Prelude.{All, flat_map, slice_index_or, IfSome, IfNone}
 use Rattle.std.specs.Simd.Lanes.{put_chunk}
 use Rattle.std.proofs.lemmas.Simd.{take_more_put_chunk}
 use Rattle.std.proofs.Math.Seq.{take-add}
@@ -26,7 +26,7 @@ use Rattle.rice_code.specs.decode.BlocksAhead.{BlockAhead, HasLanes, HasWidth, S
 use Rattle.rice_code.specs.decode.Decoder.{GivesBlock}
 use Rattle.rice_code.specs.decode.ReadSets.{reference_place}
 use Rattle.rice_code.specs.decode.FieldsAhead.{HeadAhead, LowsAhead, UncompressedAhead}
-use Rattle.rice_code.proofs.lemmas.decode.SplitAhead.{ranks_fit, some_samples, take-ranks}
+use Rattle.rice_code.proofs.lemmas.decode.SplitAhead.{ranks_fit, take-ranks}
 use Rattle.rice_code.proofs.lemmas.decode.ReadLemmas.{coded-placed, zero-placed}
 use Rattle.rice_code.proofs.lemmas.decode.RestoredBlocks.{contents_restored}
 use Rattle.rice_code.proofs.lemmas.decode.SplitRows.{RowsSpelled, row_spelled}
@@ -93,7 +93,7 @@ pub whole_spelled : (waiting : List Bool) (s : Parameters) (b before from omitte
     → HeadAhead waiting s b before from omitted head → UncompressedAhead waiting s from omitted head size l bytes → head + (size - omitted) * s.bits ≤ length waiting
     → SpelledAhead waiting s b (value_at s before) size l (head + (size - omitted) * s.bits) bytes
 whole_spelled waiting s b before from omitted head size l bytes has id begin whole within =
-    let some = some_samples s size 1 has in
+    let some : 1 ≤ size = omega (arith, has.some) in
     let near = whole.spelled.near in
     let r = begin.reference in
     let a = begin.part in
@@ -114,16 +114,13 @@ whole_spelled waiting s b before from omitted head size l bytes has id begin who
       spelled = whole.spelled.spelled;
     }
 
-pub one_row_least : (size : ℕ) → (size ≡ 8) ⊎ (size ≡ 16) → 8 ≤ size
-one_row_least size sizes = elim sizes [ inl e ↦ omega (arith, e) | inr e ↦ omega (arith, e) ]
-
 -- the bytes of a row of one byte each
-pub row_spelled_in_turn : (s : Parameters) (from size : ℕ) (residuals levels old spelled : List ℕ) → 1 ≤ s.bits → HasWidth s 1 → (size ≡ 8) ⊎ (size ≡ 16) → length residuals ≡ 16 → length levels ≡ 16 → All (λ l. l < value_count s) levels
+pub row_spelled_in_turn : (s : Parameters) (from size : ℕ) (residuals levels old spelled : List ℕ) → 1 ≤ s.bits → HasWidth s 1 → (1 ≤ size) × (size ≤ 16) → length residuals ≡ 16 → length levels ≡ 16 → All (λ l. l < value_count s) levels
     → ranks_below (value_count s) from levels ≡ residuals → 16 ≤ length old → length spelled ≡ 16 → spelled ≡ spellings s (values_at s levels)
     → SpellsParts s from s.bits size (replicate size 0) (take size residuals) (slice_index_or levels (size - 1) 0) (put_chunk 0 old spelled)
 row_spelled_in_turn s from size residuals levels old spelled some has sizes many len legal ranked room count is =
-    let most : size ≤ 16 = elim sizes [ inl e ↦ omega (arith, e) | inr e ↦ omega (arith, e) ] in
-    let least : 1 ≤ size = elim sizes [ inl e ↦ omega (arith, e) | inr e ↦ omega (arith, e) ] in
+    let most = sizes.1 in
+    let least = sizes.0 in
     let narrow = has.narrow refl in
     let one : width s * size ≡ size = ap (λ w. w * size) (one_byte s narrow) ∙ omega arith in
     let front : take size (put_chunk 0 old spelled) ≡ take size spelled = sym (take-take size 16 (put_chunk 0 old spelled) most) ∙ ap (take size) (take_more_put_chunk 0 old spelled 16 (omega (arith, count)) (omega (arith, room))) in
@@ -159,21 +156,19 @@ lows-first waiting skip o k n lows few inside ahead =
     }
 
 -- one row more of one byte each
-pub row_turned : (s : Parameters) (from k row last l : ℕ) (residuals bytes now : List ℕ) → HasWidth s 1 → row < 4 → length residuals ≡ 64 → take (16 * row) now ≡ take (16 * row) bytes
-    → RowsSpelled s from k (16 * row) (replicate 64 0) residuals last bytes → SpellsParts s last k 16 (replicate 16 0) (take 16 (take 16 (drop (16 * row) residuals))) l (drop (16 * row) now)
-    → RowsSpelled s from k (16 * (row + 1)) (replicate 64 0) residuals l now
-row_turned s from k row last l residuals bytes now has lt len front before more =
+pub row_turned : (s : Parameters) (from k row n last l : ℕ) (residuals bytes now : List ℕ) → HasWidth s 1 → row < 4 → 1 ≤ n → n ≤ 16 → length residuals ≡ 64 → take (16 * row) now ≡ take (16 * row) bytes
+    → RowsSpelled s from k (16 * row) (replicate 64 0) residuals last bytes → SpellsParts s last k n (replicate n 0) (take n (take 16 (drop (16 * row) residuals))) l (drop (16 * row) now)
+    → RowsSpelled s from k (16 * row + n) (replicate 64 0) residuals l now
+row_turned s from k row n last l residuals bytes now has lt some most len front before more =
     let once : 1 * (16 * row) ≡ 16 * row = omega arith in
-    let zeros : take 16 (drop (16 * row) (replicate 64 0)) ≡ replicate 16 0 = ap (take 16) (drop-replicate (16 * row) 64 0) ∙ take-replicate 16 (64 - 16 * row) 0 (omega (arith, lt)) in
-    let twice : take 16 (take 16 (drop (16 * row) residuals)) ≡ take 16 (drop (16 * row) residuals) = take-take 16 16 (drop (16 * row) residuals) (omega arith) in
-    let next : 16 * row + 16 ≡ 16 * (row + 1) = omega arith in
+    let zeros : take n (drop (16 * row) (replicate 64 0)) ≡ replicate n 0 = ap (take n) (drop-replicate (16 * row) 64 0) ∙ take-replicate n (64 - 16 * row) 0 (omega (arith, lt, most)) in
+    let twice : take n (take 16 (drop (16 * row) residuals)) ≡ take n (drop (16 * row) residuals) = take-take n 16 (drop (16 * row) residuals) most in
     let many : length {A = ℕ} (replicate 64 0) ≡ 64 = length-replicate {A = ℕ} 64 0 in
-    let spelled : SpellsParts s last k 16 (take 16 (drop (16 * row) (replicate 64 0))) (take 16 (drop (16 * row) residuals)) l (drop (1 * (16 * row)) now) =
-    subst (λ n. SpellsParts s last k 16 (take 16 (drop (16 * row) (replicate 64 0))) (take 16 (drop (16 * row) residuals)) l (drop n now)) (sym once)
-    (subst (λ hs. SpellsParts s last k 16 hs (take 16 (drop (16 * row) residuals)) l (drop (16 * row) now)) (sym zeros)
-    (subst (λ ds. SpellsParts s last k 16 (replicate 16 0) ds l (drop (16 * row) now)) twice more)) in
-    subst (λ n. RowsSpelled s from k n (replicate 64 0) residuals l now) next
-    (row_spelled s from k (16 * row) last l 1 (replicate 64 0) residuals bytes now has (len ∙ sym many) (omega (arith, lt, many)) (ap (λ n. take n now) once ∙ (front ∙ ap (λ n. take n bytes) (sym once))) before spelled)
+    let spelled : SpellsParts s last k n (take n (drop (16 * row) (replicate 64 0))) (take n (drop (16 * row) residuals)) l (drop (1 * (16 * row)) now) =
+    subst (λ m. SpellsParts s last k n (take n (drop (16 * row) (replicate 64 0))) (take n (drop (16 * row) residuals)) l (drop m now)) (sym once)
+    (subst (λ hs. SpellsParts s last k n hs (take n (drop (16 * row) residuals)) l (drop (16 * row) now)) (sym zeros)
+    (subst (λ ds. SpellsParts s last k n (replicate n 0) ds l (drop (16 * row) now)) twice more)) in
+    row_spelled s from k (16 * row) n last l 1 (replicate 64 0) residuals bytes now has some (len ∙ sym many) (omega (arith, lt, most, many)) (ap (λ n. take n now) once ∙ (front ∙ ap (λ n. take n bytes) (sym once))) before spelled
 
 -- all of them
 pub rows_turned : (s : Parameters) (from k size last : ℕ) (residuals bytes : List ℕ) → 1 ≤ size → size ≤ 64 → length residuals ≡ 64 → RowsSpelled s from k size (replicate 64 0) residuals last bytes

@@ -1,11 +1,12 @@
 -- A block by a split that waits, from its parts.
 use Rattle.std.proofs.Common.{◌≡◌, ℕ, zero, suc, ◌+◌, ◌-◌, ◌*◌, ◌/◌, ◌^◌, ◌<◌, ◌≤◌, Bool, true, false, List, [], ◌∷◌, ◌++◌, length, take, drop, refl, sym, ◌∙◌, ap, subst, arith, take-take, replicate, append_assoc, length-append, Option, Some, None, inl, inr}
-use Rattle.std.specs.Prelude.{◌≢◌, ◌⊎◌, All, flat_map, IfSome, IfNone, slice_index_or}
+use Rattle.std.specs.Prelude.{All, flat_map, IfSome, IfNone, slice_index_or}
 use Rattle.std.specs.Simd.Lanes.{put_chunk}
 use Rattle.std.proofs.lemmas.Simd.{length-put_chunk, take_more_put_chunk}
 use Rattle.rice_bits.specs.read.Reader.{Reader, Takes}
 use Rattle.rice_samples.specs.bytes.Spelling.{spelling, spellings}
 use Rattle.rice_samples.proofs.lemmas.bytes.ByteLanes.{bytes-front, one_byte}
+use Rattle.rice_samples.proofs.lemmas.bytes.SpellingLengths.{length-spellings}
 use Rattle.rice_code.specs.code.Layout.{padding}
 use Rattle.rice_code.specs.decode.Decoder.{Skips, TakesSet, with_mark}
 use Rattle.rice_code.specs.decode.DecoderState.{DecoderState, next_block_place}
@@ -16,7 +17,7 @@ use Rattle.std.proofs.lemmas.Bool.Decides.{nat_tests}
 use Rattle.rice_samples.proofs.lemmas.predict.HalfLanes.{two_bytes}
 use Rattle.std.proofs.Math.Nat.{mul-le-mul_right}
 use Rattle.std.proofs.lemmas.Nat.{pow_pos}
-use Rattle.std.proofs.lemmas.List.{drop-drop, get_or-take, length-replicate, length-take-le, get_or-append-add, take_all, take_at}
+use Rattle.std.proofs.lemmas.List.{drop-drop, get_or-take, length-replicate, length-take-le, get_or-append-add, take-append-drop, take-append-le, take_at}
 use Rattle.std.proofs.lemmas.List.Elements.{All-append, All-cons, All-nil, All-replicate, All-take}
 use Rattle.rice_bits.specs.Bits.{word, fundamental_sequence}
 use Rattle.rice_bits.specs.lanes.Sequences.{BeginWithSequences}
@@ -62,14 +63,14 @@ take-ranks zero count p xs = refl
 take-ranks (suc n) count p [] = refl
 take-ranks (suc n) count p (x ∷ xs) = ap (λ ds. rank_below count p x ∷ ds) (take-ranks n count x xs)
 
-take-joined : (n k : ℕ) (ms ls : List ℕ) → take n (joined_parts k ms ls) ≡ joined_parts k (take n ms) (take n ls)
+pub take-joined : (n k : ℕ) (ms ls : List ℕ) → take n (joined_parts k ms ls) ≡ joined_parts k (take n ms) (take n ls)
 take-joined zero k ms ls = refl
 take-joined (suc n) k [] ls = refl
 take-joined (suc n) k (m ∷ ms) [] = refl
 take-joined (suc n) k (m ∷ ms) (l ∷ ls) = ap (λ ds. (m * 2 ^ k + l) ∷ ds) (take-joined n k ms ls)
 
 -- the first of the numbers that stand before zeros
-first_of : (size : ℕ) (xs ys : List ℕ) → length xs ≡ 16 → size ≤ 16 → ys ≡ take size xs ++ replicate (16 - size) 0 → take size ys ≡ take size xs
+pub first_of : (size : ℕ) (xs ys : List ℕ) → length xs ≡ 16 → size ≤ 16 → ys ≡ take size xs ++ replicate (16 - size) 0 → take size ys ≡ take size xs
 first_of size xs ys n h e = ap (take size) e ∙ take_at (take size xs) (replicate (16 - size) 0) size (length-take-le size xs (omega (arith, n, h)))
 
 -- the block of a split whose parts were found
@@ -129,33 +130,6 @@ width_known s width has =
     ] in
     record { id_is = all.0; short = all.1; few = all.2 }
 
-pub some_samples : (s : Parameters) (size width : ℕ) → HasLanes s size width → 1 ≤ size
-some_samples s size width has = elim has.sizes [
-  | inl e ↦ omega (arith, e)
-  | inr (inl e) ↦ omega (arith, e)
-  | inr (inr (inl e)) ↦ omega (arith, e)
-  | inr (inr (inr e)) ↦ omega (arith, e)
-]
-
--- blocks of one row, and of more
-pub one_row : (s : Parameters) (size width : ℕ) → HasLanes s size width → size ≤ 16 → (size ≡ 8) ⊎ (size ≡ 16)
-one_row s size width has row = elim has.sizes [
-  | inl e ↦ inl e
-  | inr (inl e) ↦ inr e
-  | inr (inr (inl e)) ↦ absurd (omega (arith, e, row))
-  | inr (inr (inr e)) ↦ absurd (omega (arith, e, row))
-]
-
-pub more_rows : (s : Parameters) (size width : ℕ) → HasLanes s size width → 16 < size → (size ≡ 32) ⊎ (size ≡ 64)
-more_rows s size width has rows = elim has.sizes [
-  | inl e ↦ absurd (omega (arith, e, rows))
-  | inr (inl e) ↦ absurd (omega (arith, e, rows))
-  | inr (inr e) ↦ e
-]
-
-pub one_row_most : (size : ℕ) → (size ≡ 8) ⊎ (size ≡ 16) → size ≤ 16
-one_row_most size sizes = elim sizes [ inl e ↦ omega (arith, e) | inr e ↦ omega (arith, e) ]
-
 pub split_fits : (s : Parameters) (width k : ℕ) → HasWidth s width → k < 3 + 3 * width → (k ≤ k_max s) × (k ≤ 8)
 split_fits s width k has lt =
     let known = width_known s width has in
@@ -190,7 +164,7 @@ pub plain_ahead : (waiting : List Bool) (s : Parameters) (b before k head n size
     → PartsAhead waiting s b before k before 16 highs lows (head + n + size * k)
 plain_ahead waiting s b before k head n size width numbers words highs lows has most none lt there id begins head_here found len low spelled_words high_is low_is =
     let known = width_known s width has.samples in
-    let some = some_samples s size width has in
+    let some : 1 ≤ size = omega (arith, has.some) in
     let split = split_fits s width k has.samples lt in
     let ms = take size numbers in
     let ls = take size words in
@@ -242,7 +216,7 @@ pub behind_reference_ahead : (waiting : List Bool) (s : Parameters) (b before fr
 behind_reference_ahead waiting s b before from v k id bits n size width numbers words numbers_behind words_behind highs lows has most reference lt there id_word
     id_is bits_are fits value begins pat found len low spelled_words number_is word_is high_is low_is =
     let known = width_known s width has.samples in
-    let some = some_samples s size width has in
+    let some : 1 ≤ size = omega (arith, has.some) in
     let narrow = known.few in
     let split = split_fits s width k has.samples lt in
     let m = size - 1 in
@@ -298,21 +272,40 @@ bytes_near s from k size highs lows levels old spelled some has most near room c
       spelled = ap (λ n. take n (put_chunk 0 old spelled)) one ∙ (front ∙ (ap (take size) is ∙ bytes-front s size levels some narrow near.legal));
     }
 
--- two bytes of each of eight samples, and of sixteen
-pub words_near : (s : Parameters) (from k size : ℕ) (highs lows first second old spelled : List ℕ) → size ≡ 8 → HasWidth s 2
+-- the spellings of two lists
+pub spelled_both : (s : Parameters) (xs ys : List ℕ) → spellings s (values_at s xs) ++ spellings s (values_at s ys) ≡ spellings s (values_at s (xs ++ ys))
+spelled_both s [] ys = refl
+spelled_both s (x ∷ xs) ys = append_assoc (spelling s (value_at s x)) (spellings s (values_at s xs)) (spellings s (values_at s ys)) ∙ ap (λ l. spelling s (value_at s x) ++ l) (spelled_both s xs ys)
+
+-- the first of the samples that are spelled in two bytes each
+words_front : (s : Parameters) (size : ℕ) (levels : List ℕ) → width s ≡ 2 → size ≤ length levels
+    → take (2 * size) (spellings s (values_at s levels)) ≡ spellings s (values_at s (take size levels))
+words_front s size levels two most =
+    let first = spellings s (values_at s (take size levels)) in
+    let rest = spellings s (values_at s (drop size levels)) in
+    let len : length first ≡ 2 * size = length-spellings s (values_at s (take size levels))
+    ∙ (λ j. two j * (length-values s (take size levels) ∙ length-take-le size levels most) j) in
+    ap (λ ls. take (2 * size) (spellings s (values_at s ls))) (sym (take-append-drop size levels))
+    ∙ (ap (take (2 * size)) (sym (spelled_both s (take size levels) (drop size levels)))
+    ∙ (ap (λ n. take n (first ++ rest)) (sym len) ∙ take-append_seam first rest))
+
+-- two bytes of each of at most eight samples, and of more
+pub words_near : (s : Parameters) (from k size : ℕ) (highs lows first second old spelled : List ℕ) → 1 ≤ size → size ≤ 8 → HasWidth s 2
     → AreLevelsOfParts s from k highs lows (first ++ second) → length first ≡ 8 → 32 ≤ length old
-    → length spelled ≡ 16 → spelled ≡ spellings s (values_at s first) → SpellsParts s from k size highs lows (slice_index_or first 7 0) (put_chunk 0 old spelled)
-words_near s from k size highs lows first second old spelled eight has near len room count is =
+    → length spelled ≡ 16 → spelled ≡ spellings s (values_at s first) → SpellsParts s from k size highs lows (slice_index_or first (size - 1) 0) (put_chunk 0 old spelled)
+words_near s from k size highs lows first second old spelled some most has near len room count is =
     let wide = has.wide refl in
-    let two : width s * size ≡ 16 = (λ j. two_bytes s wide.0 wide.1 j * eight j) in
+    let two = two_bytes s wide.0 wide.1 in
     let front : take 16 (put_chunk 0 old spelled) ≡ spelled = take_more_put_chunk 0 old spelled 16 (omega (arith, count)) (omega (arith, room)) in
-    let levels : take size (first ++ second) ≡ first = ap (λ n. take n (first ++ second)) (eight ∙ sym len) ∙ take-append_seam first second in
-    let last : slice_index_or first 7 0 ≡ slice_index_or (first ++ second) 7 0 = sym (get_or-append first second 0 7 (omega (arith, len))) in
+    let part : take (2 * size) (put_chunk 0 old spelled) ≡ take (2 * size) spelled =
+    sym (take-take (2 * size) 16 (put_chunk 0 old spelled) (omega (arith, most))) ∙ ap (take (2 * size)) front in
+    let levels : take size first ≡ take size (first ++ second) = sym (take-append-le size first second (omega (arith, most, len))) in
     record {
       levels = first ++ second;
       near = near;
-      last_is = last ∙ ap (λ n. slice_index_or (first ++ second) (n - 1) 0) (sym eight);
-      spelled = ap (λ n. take n (put_chunk 0 old spelled)) two ∙ (front ∙ (is ∙ ap (λ l. spellings s (values_at s l)) (sym levels)));
+      last_is = sym (get_or-append first second 0 (size - 1) (omega (arith, len, some, most)));
+      spelled = ap (λ n. take (n * size) (put_chunk 0 old spelled)) two
+          ∙ (part ∙ (ap (take (2 * size)) is ∙ (words_front s size first two (omega (arith, most, len)) ∙ ap (λ l. spellings s (values_at s l)) levels)));
     }
 
 -- the bytes of a block that was looked at, taken and spelled
@@ -325,7 +318,7 @@ pub bytes_given : {I : Type 0} (start marked middle new : Reader I) (first steps
     → GivesBytes start new first last p q bytes
 bytes_given start marked middle new first steps last p q lanes len l size bytes_of_one bytes legal has ahead marks takes counted skips skipped forward last_is moves spelled =
     let s = p.setting in
-    let some = some_samples s size bytes_of_one has in
+    let some : 1 ≤ size = omega (arith, has.some) in
     let levels = take s.block lanes in
     let samples = values_at s levels in
     let long : length levels ≡ size = length-take-le s.block lanes ahead.enough ∙ has.size_is in
@@ -362,31 +355,27 @@ pub all_behind : (P : ℕ → Type 0) (xs ys : List ℕ) → All P (xs ++ ys) �
 all_behind P [] ys h = h
 all_behind P (x ∷ xs) ys h = all_behind P xs ys (λ i d lt. h (suc i) d (omega (arith, lt)))
 
-pub spelled_both : (s : Parameters) (xs ys : List ℕ) → spellings s (values_at s xs) ++ spellings s (values_at s ys) ≡ spellings s (values_at s (xs ++ ys))
-spelled_both s [] ys = refl
-spelled_both s (x ∷ xs) ys = append_assoc (spelling s (value_at s x)) (spellings s (values_at s xs)) (spellings s (values_at s ys)) ∙ ap (λ l. spelling s (value_at s x) ++ l) (spelled_both s xs ys)
-
-pub sixteen_words_near : (s : Parameters) (from k size : ℕ) (highs lows first second old spelled more : List ℕ) → HasWidth s 2 → (size ≡ 8) ⊎ (size ≡ 16)
-    → size ≢ 8 → AreLevelsOfParts s from k highs lows (first ++ second) → length first ≡ 8 → length second ≡ 8 → 32 ≤ length old
+pub sixteen_words_near : (s : Parameters) (from k size : ℕ) (highs lows first second old spelled more : List ℕ) → HasWidth s 2 → 8 < size → size ≤ 16
+    → AreLevelsOfParts s from k highs lows (first ++ second) → length first ≡ 8 → length second ≡ 8 → 32 ≤ length old
     → length spelled ≡ 16 → length more ≡ 16 → spelled ≡ spellings s (values_at s first) → more ≡ spellings s (values_at s second)
-    → SpellsParts s from k size highs lows (slice_index_or second 7 0) (put_chunk 16 (put_chunk 0 old spelled) more)
-sixteen_words_near s from k size highs lows first second old spelled more has sizes other near len many room count counted is more_is =
+    → SpellsParts s from k size highs lows (slice_index_or second (size - 9) 0) (put_chunk 16 (put_chunk 0 old spelled) more)
+sixteen_words_near s from k size highs lows first second old spelled more has some most near len many room count counted is more_is =
     let wide = has.wide refl in
-    let sixteen : size ≡ 16 = elim sizes [ inl e ↦ absurd (other e) | inr e ↦ e ] in
-    let two : width s * size ≡ 32 = (λ j. two_bytes s wide.0 wide.1 j * sixteen j) in
+    let two = two_bytes s wide.0 wide.1 in
+    let all = put_chunk 16 (put_chunk 0 old spelled) more in
     let long : length (put_chunk 0 old spelled) ≡ length old = length-put_chunk 0 old spelled in
     let front : take 16 (put_chunk 0 old spelled) ≡ spelled = take_more_put_chunk 0 old spelled 16 (omega (arith, count)) (omega (arith, room)) in
-    let both : take 32 (put_chunk 16 (put_chunk 0 old spelled) more) ≡ spelled ++ more = take_more_put_chunk 16 (put_chunk 0 old spelled) more 32
+    let both : take 32 all ≡ spelled ++ more = take_more_put_chunk 16 (put_chunk 0 old spelled) more 32
     (omega (arith, counted)) (omega (arith, room, long)) ∙ ap (λ l. l ++ more) front in
+    let spelt : take 32 all ≡ spellings s (values_at s (first ++ second)) = both ∙ ((λ j. is j ++ more_is j) ∙ spelled_both s first second) in
     let whole : length (first ++ second) ≡ 16 = length-append first second ∙ omega (arith, len, many) in
-    let levels : take size (first ++ second) ≡ first ++ second = take_all size (first ++ second) (omega (arith, whole, sixteen)) in
-    let place : length first + 7 ≡ size - 1 = omega (arith, len, sixteen) in
+    let place : length first + (size - 9) ≡ size - 1 = omega (arith, len, some) in
     record {
       levels = first ++ second;
       near = near;
-      last_is = sym (get_or-append-add first second 7 0) ∙ ap (λ n. slice_index_or (first ++ second) n 0) place;
-      spelled = ap (λ n. take n (put_chunk 16 (put_chunk 0 old spelled) more)) two
-          ∙ (both ∙ ((λ j. is j ++ more_is j) ∙ (spelled_both s first second ∙ ap (λ l. spellings s (values_at s l)) (sym levels))));
+      last_is = sym (get_or-append-add first second (size - 9) 0) ∙ ap (λ n. slice_index_or (first ++ second) n 0) place;
+      spelled = ap (λ n. take (n * size) all) two
+          ∙ (sym (take-take (2 * size) 32 all (omega (arith, most))) ∙ (ap (take (2 * size)) spelt ∙ words_front s size (first ++ second) two (omega (arith, most, whole))));
     }
 
 -- a block whose bytes are written

@@ -1,11 +1,11 @@
 -- A block by a split that waits, in rows of sixteen residuals.
-use Rattle.std.proofs.Common.{◌≡◌, ℕ, zero, suc, ◌+◌, ◌-◌, ◌*◌, ◌/◌, ◌^◌, ◌<◌, ◌≤◌, Bool, true, List, [], ◌∷◌, ◌++◌, length, take, drop, take-take, replicate, refl, sym, ◌∙◌, ap, subst, arith, length-append, Some, inl, inr}
-use Rattle.std.specs.Prelude.{All, ◌⊎◌, flat_map, slice_index_or}
-use Rattle.std.proofs.Math.Seq.{take-add, take-append_seam}
+use Rattle.std.proofs.Common.{◌≡◌, ℕ, zero, suc, ◌+◌, ◌-◌, ◌*◌, ◌/◌, ◌%◌, ◌^◌, ◌<◌, ◌≤◌, Bool, true, List, [], ◌∷◌, ◌++◌, length, take, drop, take-take, replicate, refl, sym, ◌∙◌, ap, subst, arith, length-append, Some, inl, inr}
+use Rattle.std.specs.Prelude.{All, ◌⊎◌, flat_map, min, slice_index_or}
+use Rattle.std.proofs.Math.Seq.{take-add, take-append-add, take-append_seam}
 use Rattle.std.proofs.Math.Nat.{add-mul, mul-add, mul-le-mul_right}
 use Rattle.std.proofs.lemmas.Grind.{flat_map-append}
 use Rattle.std.proofs.lemmas.Nat.{pow_pos}
-use Rattle.std.proofs.lemmas.List.{drop-append-le, drop-drop, length-drop, length-take-le, take-append-le, take_all}
+use Rattle.std.proofs.lemmas.List.{drop-append-le, drop-drop, get_or-take, length-drop, length-take-le, take-append-le, take_all}
 use Rattle.std.proofs.lemmas.List.Elements.{All-append, All-cons, All-drop, All-nil, All-take}
 use Rattle.rice_bits.specs.Bits.{word, fundamental_sequence}
 use Rattle.rice_bits.specs.lanes.Sequences.{BeginWithSequences}
@@ -19,10 +19,10 @@ use Rattle.rice_samples.specs.predict.Residuals.{last_number, pattern, ranks_bel
 use Rattle.rice_samples.proofs.lemmas.bytes.ByteLanes.{one_byte}
 use Rattle.rice_samples.proofs.lemmas.predict.HalfLanes.{last_is as last_at, two_bytes}
 use Rattle.rice_samples.proofs.lemmas.predict.RestoredLevels.{ranks_below-append}
-use Rattle.rice_code.specs.decode.BlocksAhead.{BlockAhead, HasLanes, HasWidth, PartsAhead, SpellsParts}
+use Rattle.rice_code.specs.decode.BlocksAhead.{BlockAhead, HasLanes, HasWidth, PartsAhead, SpellsParts, lanes_of}
 use Rattle.rice_code.specs.decode.ReadSets.{reference_place}
-use Rattle.rice_code.specs.decode.FieldsAhead.{HeadAhead, HighsAhead, LowsAhead}
-use Rattle.rice_code.proofs.lemmas.decode.SplitAhead.{all_behind, some_samples, spelled_both, split_ahead, split_fits, width_known}
+use Rattle.rice_code.specs.decode.FieldsAhead.{HeadAhead, HighsAhead, LowsAhead, rows_len}
+use Rattle.rice_code.proofs.lemmas.decode.SplitAhead.{all_behind, first_of, spelled_both, split_ahead, split_fits, take-joined, take-ranks, width_known}
 
 -- what stands before the sequences of a block with a reference sample
 pub head_behind_reference : (waiting : List Bool) (s : Parameters) (b before from v id bits w : ℕ) → HasWidth s w → is_reference s b ≡ true → id ≡ id_len s
@@ -55,23 +55,40 @@ length-behind (suc zero) numbers row few len is = ap length is ∙ length-take-l
 length-behind (suc (suc o)) numbers row few len is = absurd (omega (arith, few))
 
 -- a row of fundamental sequences
-pub row-highs : (waiting : List Bool) (skip o n : ℕ) (numbers row : List ℕ) → o ≤ 1 → skip + 64 ≤ length waiting
-    → BeginWithSequences (drop skip waiting) (16 - o) numbers n → row ≡ take 16 (replicate o 0 ++ numbers) → HighsAhead waiting skip o row n
-row-highs waiting skip zero n numbers row few there found is =
+pub row-highs : (waiting : List Bool) (skip o n count : ℕ) (numbers row : List ℕ) → o ≤ 1 → o < count → skip + 64 ≤ length waiting
+    → BeginWithSequences (drop skip waiting) (count - o) numbers n → row ≡ take count (replicate o 0 ++ numbers) → HighsAhead waiting skip o row n
+row-highs waiting skip zero n count numbers row few some there found is =
     let short = found.few in
     record {
       zeros = refl;
-      spelled = ap (flat_map fundamental_sequence) is ∙ found.spelled;
+      spelled = ap (flat_map fundamental_sequence) is ∙ subst (λ c. flat_map fundamental_sequence (take c numbers) ≡ take n (drop skip waiting)) (omega arith) found.spelled;
       within = omega (arith, there, short);
     }
-row-highs waiting skip (suc zero) n numbers row few there found is =
+row-highs waiting skip (suc zero) n (suc m) numbers row few some there found is =
     let short = found.few in
     record {
       zeros = ap (take 1) is;
-      spelled = ap (λ xs. flat_map fundamental_sequence (drop 1 xs)) is ∙ found.spelled;
+      spelled = ap (λ xs. flat_map fundamental_sequence (drop 1 xs)) is ∙ subst (λ c. flat_map fundamental_sequence (take c numbers) ≡ take n (drop skip waiting)) (omega arith) found.spelled;
       within = omega (arith, there, short);
     }
-row-highs waiting skip (suc (suc o)) n numbers row few there found is = absurd (omega (arith, few))
+row-highs waiting skip (suc zero) n zero numbers row few some there found is = absurd (omega (arith, some))
+row-highs waiting skip (suc (suc o)) n count numbers row few some there found is = absurd (omega (arith, few))
+
+-- the first numbers of a row, with zeros behind them
+pub first_of_row : (o count : ℕ) (numbers behind row : List ℕ) → o ≤ 1 → count ≤ 16 → length numbers ≡ 16 → behind ≡ take 16 (replicate o 0 ++ numbers)
+    → row ≡ take count behind ++ replicate (16 - count) 0 → take count row ≡ take count (replicate o 0 ++ numbers)
+first_of_row o count numbers behind row few most len is row_is =
+    first_of count behind row (length-behind o numbers behind few len is) most row_is
+    ∙ (ap (take count) is ∙ take-take count 16 (replicate o 0 ++ numbers) most)
+
+-- a row that is stored behind those before it
+pub stored_row : (row count : ℕ) (numbers old new : List ℕ) → count ≤ 16 → 16 * row ≤ length old → length numbers ≡ 16
+    → take (16 * (row + 1)) new ≡ take (16 * row) old ++ numbers → take (16 * row + count) new ≡ take (16 * row) old ++ take count numbers
+stored_row row count numbers old new most room len value =
+    let front = take (16 * row) old in
+    let front_len : length front ≡ 16 * row = length-take-le (16 * row) old room in
+    sym (take-take (16 * row + count) (16 * (row + 1)) new (omega (arith, most)))
+    ∙ (ap (take (16 * row + count)) value ∙ (ap (λ n. take (n + count) (front ++ numbers)) (sym front_len) ∙ take-append-add front numbers count))
 
 -- one row more of fundamental sequences
 pub highs-row : (waiting : List Bool) (skip omitted len n : ℕ) (highs row : List ℕ) → omitted ≤ length highs → HighsAhead waiting skip omitted highs len
@@ -111,20 +128,27 @@ row-lows waiting skip (suc zero) k words row few len low bits is =
 row-lows waiting skip (suc (suc o)) k words row few len low bits is = absurd (omega (arith, few))
 
 -- one row more of words
-pub lows-row : (waiting : List Bool) (skip omitted k at : ℕ) (lows row : List ℕ) → omitted ≤ length lows → LowsAhead waiting skip omitted k lows → at ≡ skip + (length lows - omitted) * k
-    → length row ≡ 16 → All (λ l. l < 2 ^ k) row → flat_map (word k) row ≡ take (16 * k) (drop at waiting) → LowsAhead waiting skip omitted k (lows ++ row)
-lows-row waiting skip omitted k at lows row few before place len low bits =
+pub lows-row : (waiting : List Bool) (skip omitted k at count : ℕ) (lows row : List ℕ) → omitted ≤ length lows → LowsAhead waiting skip omitted k lows → at ≡ skip + (length lows - omitted) * k
+    → length row ≡ count → All (λ l. l < 2 ^ k) row → flat_map (word k) row ≡ take (count * k) (drop at waiting) → LowsAhead waiting skip omitted k (lows ++ row)
+lows-row waiting skip omitted k at count lows row few before place len low bits =
     let part = length lows - omitted in
-    let more : part + 16 ≡ length (lows ++ row) - omitted = omega (arith, length-append lows row, len, few) in
-    let all : part * k + 16 * k ≡ (length (lows ++ row) - omitted) * k = sym (add-mul part 16 k) ∙ ap (λ n. n * k) more in
+    let more : part + count ≡ length (lows ++ row) - omitted = omega (arith, length-append lows row, len, few) in
+    let all : part * k + count * k ≡ (length (lows ++ row) - omitted) * k = sym (add-mul part count k) ∙ ap (λ n. n * k) more in
     record {
       zeros = take-append-le omitted lows row few ∙ before.zeros;
       low = All-append (λ l. l < 2 ^ k) lows row before.low low;
       spelled =
           ap (flat_map (word k)) (drop-append-le omitted lows row few)
-          ∙ (flat_map-append (word k) (drop omitted lows) row ∙ ((λ j. before.spelled j ++ (bits ∙ ap (λ m. take (16 * k) (drop m waiting)) place) j)
-          ∙ (behind-both waiting skip (part * k) (16 * k) ∙ ap (λ n. take n (drop skip waiting)) all)));
+          ∙ (flat_map-append (word k) (drop omitted lows) row ∙ ((λ j. before.spelled j ++ (bits ∙ ap (λ m. take (count * k) (drop m waiting)) place) j)
+          ∙ (behind-both waiting skip (part * k) (count * k) ∙ ap (λ n. take n (drop skip waiting)) all)));
     }
+
+-- the first words of a row
+pub words-row : (waiting : List Bool) (k at count : ℕ) (words row : List ℕ) → count ≤ 16 → length words ≡ 16 → flat_map (word k) words ≡ take (16 * k) (drop at waiting)
+    → row ≡ take count words ++ replicate (16 - count) 0 → flat_map (word k) (take count row) ≡ take (count * k) (drop at waiting)
+words-row waiting k at count words row most len bits is =
+    ap (flat_map (word k)) (first_of count words row len most is)
+    ∙ (words-front k count words (omega (arith, len, most)) ∙ (ap (take (count * k)) bits ∙ take-take (count * k) (16 * k) (drop at waiting) (mul-le-mul_right k most)))
 
 -- parts of which the first are zeros, joined
 zeros-joined : (n k : ℕ) (highs lows : List ℕ) → length lows ≡ length highs → n ≤ length highs → take n highs ≡ replicate n 0 → take n lows ≡ replicate n 0
@@ -146,7 +170,7 @@ pub rows_parts : (waiting : List Bool) (s : Parameters) (b before k from omitted
     → length highs ≡ size → length lows ≡ size → head + n + (size - omitted) * k ≤ length waiting
     → PartsAhead waiting s b before k from size highs lows (head + n + (size - omitted) * k)
 rows_parts waiting s b before k from omitted head n size bytes_of_one highs lows has lt id begin high low many much within =
-    let some = some_samples s size bytes_of_one has in
+    let some : 1 ≤ size = omega (arith, has.some) in
     let split = split_fits s bytes_of_one k has.samples lt in
     let r = begin.reference in
     let a = begin.part in
@@ -225,33 +249,51 @@ none_spelled s from k highs lows bytes begins =
       spelled = ap (λ n. take n bytes) none;
     }
 
+-- the first of the samples that have parts
+pub spells_front : (s : Parameters) (p k n l : ℕ) (highs lows bytes : List ℕ) → 1 ≤ n → n ≤ length highs → SpellsParts s p k n highs lows l bytes
+    → SpellsParts s p k n (take n highs) (take n lows) l bytes
+spells_front s p k n l highs lows bytes some most all =
+    let levels = take n all.levels in
+    let len : length levels ≡ n = length-take-le n all.levels (let same = all.near.len in omega (arith, same, most)) in
+    record {
+      levels = levels;
+      near = record {
+        len = len ∙ sym (length-take-le n highs most);
+        legal = All-take (λ l. l < value_count s) n all.levels all.near.legal;
+        ranked = take-ranks n (value_count s) p all.levels ∙ (ap (take n) all.near.ranked ∙ take-joined n k highs lows);
+      };
+      last_is = all.last_is ∙ sym (get_or-take n all.levels (n - 1) 0 (omega (arith, some)));
+      spelled = all.spelled ∙ ap (λ ls. spellings s (values_at s ls)) (sym (take_all n levels (omega (arith, len))));
+    }
+
 -- one row more
-pub row_spelled : (s : Parameters) (from k count last l w : ℕ) (highs lows bytes now : List ℕ) → HasWidth s w → length lows ≡ length highs
-    → count + 16 ≤ length highs → take (w * count) now ≡ take (w * count) bytes
+pub row_spelled : (s : Parameters) (from k count n last l w : ℕ) (highs lows bytes now : List ℕ) → HasWidth s w → 1 ≤ n → length lows ≡ length highs
+    → count + n ≤ length highs → take (w * count) now ≡ take (w * count) bytes
     → RowsSpelled s from k count highs lows last bytes
-    → SpellsParts s last k 16 (take 16 (drop count highs)) (take 16 (drop count lows)) l (drop (w * count) now) → RowsSpelled s from k (count + 16) highs lows l now
-row_spelled s from k count last l w highs lows bytes now has same room front before more =
+    → SpellsParts s last k n (take n (drop count highs)) (take n (drop count lows)) l (drop (w * count) now) → RowsSpelled s from k (count + n) highs lows l now
+row_spelled s from k count n last l w highs lows bytes now has some same room front before more =
     let one = bytes_of_width s w has in
-    let next_highs = take 16 (drop count highs) in
-    let next_lows = take 16 (drop count lows) in
+    let next_highs = take n (drop count highs) in
+    let next_lows = take n (drop count lows) in
     let levels = before.levels ++ more.levels in
     let as_many : length (take count lows) ≡ length (take count highs) = length-take-le count lows (omega (arith, same, room)) ∙ sym (length-take-le count highs (omega (arith, room))) in
     let behind : length (drop count highs) ≡ length highs - count = length-drop count highs in
-    let sixteen : length more.levels ≡ 16 = more.near.len ∙ length-take-le 16 (drop count highs) (omega (arith, behind, room)) in
-    let last_level : l ≡ last_number last more.levels = more.last_is ∙ sym (last_at last 15 more.levels sixteen) in
-    let whole : take 16 more.levels ≡ more.levels = take_all 16 more.levels (omega (arith, sixteen)) in
-    let place : width s * (count + 16) ≡ w * count + width s * 16 = mul-add (width s) count 16 ∙ ap (λ v. v * count + width s * 16) one in
+    let many : length more.levels ≡ n = more.near.len ∙ length-take-le n (drop count highs) (omega (arith, behind, room)) in
+    let end : length more.levels ≡ suc (n - 1) = omega (arith, many, some) in
+    let last_level : l ≡ last_number last more.levels = more.last_is ∙ sym (last_at last (n - 1) more.levels end) in
+    let whole : take n more.levels ≡ more.levels = take_all n more.levels (omega (arith, many)) in
+    let place : width s * (count + n) ≡ w * count + width s * n = mul-add (width s) count n ∙ ap (λ v. v * count + width s * n) one in
     let joint = rows_near s from last k (take count highs) (take count lows) before.levels next_highs next_lows more.levels as_many before.last_is before.near more.near in
     record {
       levels = levels;
       near =
-          subst (λ hs. AreLevelsOfParts s from k hs (take (count + 16) lows) levels) (sym (take-add count 16 highs))
-          (subst (λ ls. AreLevelsOfParts s from k (take count highs ++ next_highs) ls levels) (sym (take-add count 16 lows)) joint);
+          subst (λ hs. AreLevelsOfParts s from k hs (take (count + n) lows) levels) (sym (take-add count n highs))
+          (subst (λ ls. AreLevelsOfParts s from k (take count highs ++ next_highs) ls levels) (sym (take-add count n lows)) joint);
       last_is = last_level ∙ (ap (λ p. last_number p more.levels) before.last_is ∙ sym (last-append from before.levels more.levels));
-      legal = subst (λ v. v < value_count s) (sym more.last_is) (more.near.legal 15 0 (omega (arith, sixteen)));
+      legal = subst (λ v. v < value_count s) (sym more.last_is) (more.near.legal (n - 1) 0 (omega (arith, many, some)));
       spelled =
           ap (λ n. take n now) place
-          ∙ (take-add (w * count) (width s * 16) now
+          ∙ (take-add (w * count) (width s * n) now
           ∙ ((λ j. (front ∙ (ap (λ v. take (v * count) bytes) (sym one) ∙ before.spelled)) j ++ (more.spelled ∙ ap (λ ls. spellings s (values_at s ls)) whole)
           j) ∙ spelled_both s before.levels more.levels));
     }
@@ -278,12 +320,24 @@ all_spelled s from k size last w highs lows bytes old has some room there rows =
           ∙ (take-append_seam front rest ∙ (ap (λ v. take (v * size) bytes) (sym one) ∙ (rows.spelled ∙ ap (λ ls. spellings s (values_at s ls)) (sym whole))));
     }
 
--- whole rows of a block
-pub rows_end : (size row : ℕ) → (size ≡ 32) ⊎ (size ≡ 64) → row ≤ size / 16 → size / 16 ≤ row → 16 * row ≡ size
-rows_end size row sizes most least = elim sizes [ inl f ↦ omega (arith, most, least, f) | inr f ↦ omega (arith, most, least, f) ]
+-- the rows of a block: those before a row, all of them, and a row among them
+pub rows_before : (size row : ℕ) → 16 * row < size → rows_len size row ≡ 16 * row
+rows_before size row lt = omega (arith, lt)
 
-pub row_inside : (size row : ℕ) → (size ≡ 32) ⊎ (size ≡ 64) → row < size / 16 → (row < 4) × (16 * row + 16 ≤ size) × (size ≤ 64)
-row_inside size row sizes lt = elim sizes [ inl f ↦ (omega (arith, lt, f), omega (arith, lt, f), omega (arith, f)) | inr f ↦ (omega (arith, lt, f), omega (arith, lt, f), omega (arith, f)) ]
+pub rows_end : (size row : ℕ) → (size + 15) / 16 ≤ row → rows_len size row ≡ size
+rows_end size row least = omega (arith, least)
+
+pub whole_row : (size row : ℕ) → 16 * row < size → size % 16 ≡ 0 → 16 * row + 16 ≡ rows_len size (row + 1)
+whole_row size row lt none = omega (arith, lt, none)
+
+pub part_of_row : (size row count : ℕ) → 16 * row < size → count ≡ min (size - 16 * row) 16 → 16 * row + count ≡ rows_len size (row + 1)
+part_of_row size row count lt is = omega (arith, lt, is)
+
+pub row_inside : (size row : ℕ) → size ≤ 64 → row < (size + 15) / 16 → (row < 4) × (16 * row < size) × (16 * row + 16 ≤ lanes_of size) × (lanes_of size ≤ 64)
+row_inside size row most lt = (omega (arith, lt, most), omega (arith, lt), omega (arith, lt), omega (arith, most))
+
+pub lanes_most : (size : ℕ) → size ≤ 64 → (size ≤ lanes_of size) × (lanes_of size ≤ 64)
+lanes_most size most = (omega arith, omega (arith, most))
 
 -- where the words of a row begin
 pub row_place : (skip row o k : ℕ) → 1 ≤ row → o ≤ 1 → skip + (16 - o) * k + 16 * (row - 1) * k ≡ skip + (16 * row - o) * k
@@ -297,10 +351,11 @@ pub all_of_row : (P : ℕ → Type 0) (count size : ℕ) (xs : List ℕ) → cou
 all_of_row P count size xs inside all =
     all_behind P (take count xs) (take 16 (drop count xs)) (subst (All P) (take-take (count + 16) size xs inside ∙ take-add count 16 xs) (All-take P (count + 16) (take size xs) all))
 
-pub all_inside : (w size : ℕ) → (w ≡ 1) ⊎ (w ≡ 2) → (size ≡ 32) ⊎ (size ≡ 64) → w * size ≤ 160
-all_inside w size widths sizes =
-    let most : size ≤ 64 = elim sizes [ inl f ↦ omega (arith, f) | inr f ↦ omega (arith, f) ] in
-    elim widths [ inl e ↦ omega (arith, ap (λ v. v * size) e, most) | inr e ↦ omega (arith, ap (λ v. v * size) e, most) ]
-
-pub most_rows : (size : ℕ) → (size ≡ 32) ⊎ (size ≡ 64) → (1 ≤ size) × (size ≤ 64)
-most_rows size sizes = elim sizes [ inl f ↦ (omega (arith, f), omega (arith, f)) | inr f ↦ (omega (arith, f), omega (arith, f)) ]
+-- the bytes of a block, and of its lanes
+pub all_inside : (w size : ℕ) → (w ≡ 1) ⊎ (w ≡ 2) → size ≤ 64 → (w * size ≤ 160) × (w * size ≤ w * lanes_of size)
+all_inside w size widths most =
+    let lanes = lanes_most size most in
+    elim widths [
+      | inl e ↦ (omega (arith, ap (λ v. v * size) e, most), omega (arith, ap (λ v. v * size) e, ap (λ v. v * lanes_of size) e, lanes.0))
+      | inr e ↦ (omega (arith, ap (λ v. v * size) e, most), omega (arith, ap (λ v. v * size) e, ap (λ v. v * lanes_of size) e, lanes.0))
+    ]

@@ -185,8 +185,8 @@ returns-in-Err-write_all-clause-call g c =
     let all = c.is_whole-whole.ensures spelled.0 ∙ c.block-block.ensures.value in
     let some = block_is_wanted c.args.asked old.written c.wanted-count.ensures.value c.block-block.ensures.value c.if-count-eq0.false in
     let is = c.wanted-count.ensures.value ∙ ap (wanted_of c.args.asked old.written) c.block-block.ensures.value in
-    let bytes = lanes_front s old.decoder.setting g.row.SIZE g.row.WIDTH c.wanted-count.result spelled.2.samples new.bytes
-    (c.requires.lanes (c.next_bytes.ensures.sized c.if-next_bytes.true)) at.setting all block.len spelled.2.spelled in
+    let bytes = lanes_front s old.decoder.setting c.known_or.result g.row.WIDTH c.wanted-count.result spelled.2.samples new.bytes
+    (c.requires.lanes (c.next_bytes.ensures.lanes c.if-next_bytes.true)) at.setting all c.known_or.ensures block.len spelled.2.spelled in
     let part = subst (λ (l : List ℕ). TakesPart (g.O.Outlet.taken old.outlet) (g.O.Outlet.taken c.write_all.new.outlet) l) bytes c.in-Err-write_all.ensures.err.0 in
     write_ends c.wanted-count.result new.decoder legal i.runs is some (gains_block legal i.runs a) part c.ended-in-Err-write_all.ensures.reports
 
@@ -204,8 +204,8 @@ decode_all-preserved-then-next_bytes g c =
     let all = c.is_whole-whole.ensures spelled.0 ∙ c.block-block.ensures.value in
     let some = block_is_wanted c.args.asked old.written c.wanted-count.ensures.value c.block-block.ensures.value c.if-count-eq0.false in
     let is = c.wanted-count.ensures.value ∙ ap (wanted_of c.args.asked old.written) c.block-block.ensures.value in
-    let bytes = lanes_front s old.decoder.setting g.row.SIZE g.row.WIDTH c.wanted-count.result spelled.2.samples new.bytes
-    (c.requires.lanes (c.next_bytes.ensures.sized c.if-next_bytes.true)) at.setting all block.len spelled.2.spelled in
+    let bytes = lanes_front s old.decoder.setting c.known_or.result g.row.WIDTH c.wanted-count.result spelled.2.samples new.bytes
+    (c.requires.lanes (c.next_bytes.ensures.lanes c.if-next_bytes.true)) at.setting all c.known_or.ensures block.len spelled.2.spelled in
     let put = subst (λ (l : List ℕ). Appends (g.O.Outlet.taken old.outlet) (g.O.Outlet.taken c.write_all.new.outlet) l) bytes c.in-Ok-write_all.ensures.ok.0 in
     let new_run : new.decoder.run * new.decoder.setting.block ≡ new.decoder.run * s.block = ap (λ t. new.decoder.run * t.block) (c.next_bytes.ensures.setting ∙ at.setting) in
     let none : old.decoder.run * s.block ≡ 0 = ap (λ n. n * s.block) spelled.1 ∙ omega arith in

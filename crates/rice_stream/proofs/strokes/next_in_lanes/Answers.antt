@@ -1,4 +1,5 @@
-use Rattle.std.proofs.Common.{◌≡◌, ◌+◌, ◌-◌, ◌*◌, ◌∙◌, ap, arith, sym}
+use Rattle.std.proofs.Common.{◌≡◌, ◌+◌, ◌-◌, ◌*◌, ◌∙◌, ap, arith, subst, sym}
+use Rattle.rice_code.specs.decode.BlocksAhead.{HasLanes}
 use Rattle.rice_code.specs.decode.DecoderState.{DecoderState}
 use Rattle.rice_stream.specs.Pulling.{stand_at}
 use Rattle.rice_stream.proofs.lemmas.SpelledBlocks.{lanes_few, lanes_size}
@@ -15,14 +16,16 @@ returns-clause-gives g c =
     let says = c.next_bytes.ensures.some c.if-not-next_bytes.false in
     let taken : new.reader.taken - c.taken-before.result ≡ new.reader.taken - r.taken = omega (arith, c.taken-before.ensures.value) in
     let steps : c.tick.new.self ≡ stand.steps = omega (arith, c.tick.ensures, c.new-meter.ensures) in
-    let k = lanes_stroke c.args.setting.now stand c.stand_behind-stand.result c.args.decoder.now new.self r new.reader g.row.WIDTH g.row.SIZE c.tick.new.self new.meter
+    let has = subst (λ n. HasLanes c.args.setting.now n g.row.WIDTH) (sym (c.known_or-size.ensures ∙ c.block.ensures.value)) c.requires.lanes in
+    let k = lanes_stroke c.args.setting.now stand c.stand_behind-stand.result c.args.decoder.now new.self r new.reader g.row.WIDTH c.known_or-size.result c.tick.new.self new.meter
     new.bytes know.0 know.1 know.2 know.3 c.requires.reads c.requires.aligned c.requires.state says.0 steps c.stand_behind-stand.ensures.state
-    c.next_bytes.ensures.setting c.next_bytes.ensures.stopped says.1 c.next_bytes.ensures.steps c.requires.lanes
-    (c.stand_behind-stand.ensures.numbers ∙ (λ i. stand_at (stand.samples + g.row.SIZE) (stand.bits + taken i) (new.meter + g.row.SIZE) new.self)) in
-    stroke_written (g.row.WIDTH * g.row.SIZE) c.args.at new.bytes c.args.samples.now c.copy_at.new.samples k (let few = lanes_few c.args.setting.now g.row.SIZE g.row.WIDTH c.requires.lanes in omega (arith, few, c.next_bytes.auto.bytes, c.told-bytes)) c.copy_at.ensures
+    c.next_bytes.ensures.setting c.next_bytes.ensures.stopped says.1 c.next_bytes.ensures.steps has
+    (c.stand_behind-stand.ensures.numbers ∙ (λ i. stand_at (stand.samples + c.known_or-size.result) (stand.bits + taken i) (new.meter + c.known_or-size.result) new.self)) in
+    stroke_written (g.row.WIDTH * c.known_or-size.result) c.args.at new.bytes c.args.samples.now c.copy_at.new.samples k (let few = lanes_few c.args.setting.now c.known_or-size.result g.row.WIDTH has in omega (arith, few, c.next_bytes.auto.bytes, c.told-bytes)) c.copy_at.ensures
 
 pub copy_at-requires : goal.copy_at-requires
 copy_at-requires g c =
-    let same = lanes_size c.args.setting.now g.row.SIZE g.row.WIDTH c.requires.lanes in
-    let len = length-take-le (g.row.WIDTH * g.row.SIZE) c.next_bytes.new.bytes (let few = lanes_few c.args.setting.now g.row.SIZE g.row.WIDTH c.requires.lanes in omega (arith, few, c.next_bytes.auto.bytes, c.told-bytes)) in
+    let has = subst (λ n. HasLanes c.args.setting.now n g.row.WIDTH) (sym (c.known_or-size.ensures ∙ c.block.ensures.value)) c.requires.lanes in
+    let same = lanes_size c.args.setting.now c.known_or-size.result g.row.WIDTH has in
+    let len = length-take-le (g.row.WIDTH * c.known_or-size.result) c.next_bytes.new.bytes (let few = lanes_few c.args.setting.now c.known_or-size.result g.row.WIDTH has in omega (arith, few, c.next_bytes.auto.bytes, c.told-bytes)) in
     omega (arith, same, len, c.requires.room)

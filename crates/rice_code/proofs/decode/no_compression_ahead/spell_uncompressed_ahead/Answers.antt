@@ -8,7 +8,7 @@ pub returns : goal.returns
 returns g c =
     let a = c.args in
     let s = a.setting.now in
-    let size = g.row.SIZE in
+    let size = a.size in
     let waiting = a.reader.now.waiting in
     let head = c.head_ahead-head in
     let bits : c.bits-bits.result ≡ s.bits = c.bits-bits.ensures.value in

@@ -1,9 +1,8 @@
 use Rattle.std.proofs.Common.{◌^◌, ◌<◌, All, arith, subst, take}
 use Rattle.std.proofs.lemmas.List.{length-take-le}
 use Rattle.rice_code.specs.decode.FieldsAhead.{LowsAhead}
-use Rattle.rice_code.proofs.lemmas.decode.SplitAhead.{one_row_most}
 use Rattle.rice_code.proofs.lemmas.decode.SplitRows.{length-behind, row-lows}
-use Rattle.rice_code.proofs.lemmas.decode.NoCompressionAhead.{lows-first, one_row_least}
+use Rattle.rice_code.proofs.lemmas.decode.NoCompressionAhead.{lows-first}
 use Rattle.rice_code.proofs.decode.no_compression_ahead.spell_uncompressed_row.Goals as goal
 
 pub restore_and_spell-requires-clause-residuals : goal.restore_and_spell-requires-clause-residuals
@@ -19,9 +18,9 @@ returns g c =
     let a = c.args in
     let words = c.words_ahead.ensures in
     let row = c.behind_omitted-residuals.result in
-    let size = g.row.SIZE in
-    let most = one_row_most size c.requires.size in
-    let least = one_row_least size c.requires.size in
+    let size = a.size in
+    let most = c.requires.size.1 in
+    let least = c.requires.size.0 in
     let len = length-behind a.omitted c.words_ahead.result row c.requires.omitted words.len c.behind_omitted-residuals.ensures in
     let lows = row-lows a.reader.now.waiting a.skip a.omitted c.bits-bits.result c.words_ahead.result row c.requires.omitted words.len words.fit words.bits c.behind_omitted-residuals.ensures in
     let all = lows-first a.reader.now.waiting a.skip a.omitted c.bits-bits.result size row (omega (arith, c.requires.omitted, least)) (omega (arith, most, len)) lows in

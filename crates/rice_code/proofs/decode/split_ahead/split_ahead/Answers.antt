@@ -8,7 +8,7 @@ pub returns : goal.returns
 returns g c =
     let s = c.args.setting.now in
     let waiting = c.args.reader.now.waiting in
-    let known = width_known s g.row.WIDTH c.requires.lanes.samples in
+    let known = width_known s g.row.WIDTH c.requires.width in
     let id = c.number_ahead-id.result in
     let same : id ≡ id - 1 + 1 = omega (arith, c.if-id-lt1.false) in
     let here = c.number_ahead-id.ensures.bits in

@@ -1,4 +1,4 @@
-use Rattle.std.proofs.Common.{◌<◌}
+use Rattle.std.proofs.Common.{◌<◌, arith}
 use Rattle.rice_samples.specs.Parameters.{value_count}
 use Rattle.rice_code.proofs.lemmas.decode.SplitAhead.{all_behind, sixteen_words_near, words_near}
 use Rattle.rice_code.proofs.decode.split_lanes.spell_words.Goals as goal
@@ -6,11 +6,11 @@ use Rattle.rice_code.proofs.decode.split_lanes.spell_words.Goals as goal
 pub spelled_words-requires-2-clause-legal : goal.spelled_words-requires-2-clause-legal
 spelled_words-requires-2-clause-legal g c = all_behind (λ l. l < value_count c.args.setting.now) c.in_ok-near.near.first c.in_ok-near.near.second c.in_ok-near.ensures.levels.legal
 
-pub returns-then-this-eq8-clause-some : goal.returns-then-this-eq8-clause-some
-returns-then-this-eq8-clause-some g c =
+pub returns-then-size-le8-clause-some : goal.returns-then-size-le8-clause-some
+returns-then-size-le8-clause-some g c =
     let a = c.args in
     let near = c.in_ok-near in
-    words_near a.setting.now a.from a.k g.row.SIZE a.highs a.lows near.near.first near.near.second a.bytes.now c.spelled_words.result c.if-this-eq8.true
+    words_near a.setting.now a.from a.k a.size a.highs a.lows near.near.first near.near.second a.bytes.now c.spelled_words.result c.requires.size.0 c.if-size-le8.true
     c.requires.width near.ensures.levels near.ensures.halves.0 c.requires.bytes
     c.spelled_words.ensures.len c.spelled_words.ensures.value
 
@@ -18,6 +18,6 @@ pub returns-clause-some : goal.returns-clause-some
 returns-clause-some g c =
     let a = c.args in
     let near = c.in_ok-near in
-    sixteen_words_near a.setting.now a.from a.k g.row.SIZE a.highs a.lows near.near.first near.near.second a.bytes.now c.spelled_words.result
-    c.spelled_words-2.result c.requires.width c.requires.size c.if-this-eq8.false near.ensures.levels
+    sixteen_words_near a.setting.now a.from a.k a.size a.highs a.lows near.near.first near.near.second a.bytes.now c.spelled_words.result
+    c.spelled_words-2.result c.requires.width (omega (arith, c.if-size-le8.false)) c.requires.size.1 near.ensures.levels
     near.ensures.halves.0 near.ensures.halves.1 c.requires.bytes c.spelled_words.ensures.len c.spelled_words-2.ensures.len c.spelled_words.ensures.value c.spelled_words-2.ensures.value

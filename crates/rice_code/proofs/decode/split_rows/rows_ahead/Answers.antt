@@ -1,20 +1,20 @@
 use Rattle.std.proofs.Common.{◌-◌, ◌*◌, ◌≤◌, arith, take}
 use Rattle.std.proofs.Math.Nat.{mul-le-mul_right}
 use Rattle.std.proofs.lemmas.List.{length-take-le}
-use Rattle.rice_code.proofs.lemmas.decode.SplitRows.{most_rows, rows_parts}
+use Rattle.rice_code.proofs.lemmas.decode.SplitRows.{rows_parts}
 use Rattle.rice_code.proofs.decode.split_rows.rows_ahead.Goals as goal
 
 pub returns-clause-some : goal.returns-clause-some
 returns-clause-some g c =
     let a = c.args in
-    let size = g.row.SIZE in
+    let size = a.size in
     let head = c.head_ahead-head in
     let sequences = c.in_ok-sequences in
     let lows = c.low_rows-lows in
-    let most = most_rows size c.requires.size in
+    let most = c.requires.lanes.few in
     let part : (size - head.result.omitted) * a.k ≤ size * a.k = mul-le-mul_right a.k (omega arith) in
     rows_parts a.reader.now.waiting a.setting.now a.block a.before a.k head.result.from head.result.omitted head.result.len sequences.sequences.len size
     g.row.WIDTH (take size sequences.sequences.highs) (take size lows.result) c.requires.lanes c.requires.split c.requires.id
-    head.ensures sequences.ensures.some lows.ensures.lows (length-take-le size sequences.sequences.highs (omega (arith, most.1, sequences.ensures.places)))
-    (length-take-le size lows.result (omega (arith, most.1, lows.ensures.places)))
+    head.ensures sequences.ensures.some lows.ensures.lows (length-take-le size sequences.sequences.highs (omega (arith, most, sequences.ensures.places)))
+    (length-take-le size lows.result (omega (arith, most, lows.ensures.places)))
     (omega (arith, part, c.if-waiting-words.false, c.waiting.ensures))

@@ -1,9 +1,10 @@
-use Rattle.std.proofs.Common.{◌≡◌, ◌*◌, length}
+use Rattle.std.proofs.Common.{◌≡◌, length}
+use Rattle.rice_code.specs.decode.FieldsAhead.{rows_len}
 use Rattle.rice_code.proofs.lemmas.decode.SplitRows.{RowsSpelled}
 use Rattle.rice_code.proofs.decode.split_rows.spell_rows.Given as goal
 
 abbrev pub invariant-loop-row : goal.invariant-loop-row
 invariant-loop-row g l = record {
   room : length l.spelled ≡ 160;
-  rows : RowsSpelled l.fn.setting l.fn.parts.from l.fn.k (16 * l.row) l.fn.parts.highs l.fn.parts.lows l.last l.spelled;
+  rows : RowsSpelled l.fn.setting l.fn.parts.from l.fn.k (rows_len l.fn.size l.row) l.fn.parts.highs l.fn.parts.lows l.last l.spelled;
 }
