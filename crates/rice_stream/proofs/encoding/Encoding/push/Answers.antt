@@ -1,8 +1,17 @@
-use Rattle.std.proofs.Common.{arith, ◌<◌, length, take}
+use Rattle.std.proofs.Common.{arith, rules, ◌<◌, length, take}
 use Rattle.rice_samples.specs.Parameters.{values_at}
 use Rattle.rice_samples.proofs.lemmas.setting.ValuesAt.{length-values}
 use Rattle.rice_stream.proofs.lemmas.EncodingLemmas.{none_whole, all_written, fails_in}
 use Rattle.rice_stream.proofs.encoding.Encoding.push.Goals as goal
+
+pub take-taken-requires : goal.take-taken-requires
+take-taken-requires g c = (search rules, (_, c.requires.ready))
+
+pub returns-then-len-lt8-clause-count : goal.returns-then-len-lt8-clause-count
+returns-then-len-lt8-clause-count g c = (c.take-taken.ensures.some c.requires.some, c.take-taken.ensures.count)
+
+pub returns-in-Ok-clause-count : goal.returns-in-Ok-clause-count
+returns-in-Ok-clause-count g c = (c.take-taken.ensures.some c.requires.some, c.take-taken.ensures.count)
 
 pub returns-then-len-lt8-clause-ok : goal.returns-then-len-lt8-clause-ok
 returns-then-len-lt8-clause-ok g c s old xs h =
