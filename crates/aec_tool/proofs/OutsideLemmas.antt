@@ -4,8 +4,8 @@ use Rattle.std.specs.Prelude.{is_ok}
 use Rattle.rice_bits.specs.declared.device.WriteFault.{WriteFault}
 use Rattle.rice_bits.specs.device.Outlet.{Room, Appends}
 use Rattle.rice_stream.specs.Calls.{Call, Happens, Fails}
-use Rattle.rice_stream.specs.Encodes.{Encodes}
-use Rattle.rice_stream.specs.Decodes.{Decodes}
+use Rattle.rice_stream.specs.Encodes.{EncodesBetween}
+use Rattle.rice_stream.specs.Decodes.{DecodesBetween}
 use Rattle.rice_stream.specs.declared.outcome.Outcome.{Outcome}
 use Rattle.aec_tool.specs.Plan.{PlanView}
 use Rattle.aec_tool.specs.Outside.{Outside, Said, Holds, HasTakenNothing, Finishes, begun, holding, new_mode, source_bytes, source_id, place_of, is_creatable}
@@ -32,8 +32,8 @@ took_all (Some a) (Some b) (room, e, empty) bytes h =
 
 -- the engine that the plan asks for
 pub engine_of : (p : PlanView) (decode : Bool) (left left' : Option (List ℕ)) (taken taken' : Option Room) (done : Outcome)
-    → (decode ≡ false → (c : Call) × Happens left left' taken taken' c × Encodes p.setting c done.report done.fault)
-    → (decode ≡ true → (c : Call) × Happens left left' taken taken' c × Decodes p.setting p.samples c done.report done.fault)
+    → (decode ≡ false → EncodesBetween p.setting left left' taken taken' done.report done.fault)
+    → (decode ≡ true → DecodesBetween p.setting p.samples left left' taken taken' done.report done.fault)
     → (c : Call) × Happens left left' taken taken' c × EngineOf decode p c done
 engine_of p true left left' taken taken' done encodes decodes = decodes refl
 engine_of p false left left' taken taken' done encodes decodes = encodes refl

@@ -2,7 +2,7 @@
 use Rattle.std.proofs.Common.{◌≡◌, ◌∙◌, ◌+◌, ap, ℕ, Bool, true, false, List, Option, Some, None, Result, Ok, Err, refl}
 use Rattle.rice_bits.specs.device.Outlet.{Room}
 use Rattle.rice_stream.specs.Calls.{Call, Happens, Fails}
-use Rattle.rice_stream.specs.Decodes.{Decodes}
+use Rattle.rice_stream.specs.Decodes.{DecodesBetween}
 use Rattle.rice_stream.specs.declared.outcome.Outcome.{Outcome}
 use Rattle.rice_stream.specs.declared.outcome.Fault.{Fault}
 use Rattle.rice_stream.specs.declared.outcome.Fault.TheVariants.{Read, TooLong}
@@ -35,7 +35,7 @@ looks_in_vain reads true is_wanted before bits left given other e is none told l
 
 -- decoding is what a plan that decodes asks for
 pub decoded : (p : PlanView) (decode : Bool) (left left' : Option (List ℕ)) (taken taken' : Option Room) (done : Outcome) → decode ≡ true
-    → ((c : Call) × Happens left left' taken taken' c × Decodes p.setting p.samples c done.report done.fault)
+    → DecodesBetween p.setting p.samples left left' taken taken' done.report done.fault
     → (c : Call) × Happens left left' taken taken' c × EngineOf decode p c done
 decoded p true left left' taken taken' done e call = call
 decoded p false left left' taken taken' done e call = let bad : ⊥ = cc in absurd bad

@@ -29,7 +29,8 @@ pub fn perform<'a, S: System<'a>>(system: &mut S, plan: &Plan<'a>) -> u8
     requires decodes { plan.now.dest ≡ None → plan.now.decode ≡ true }
     ensures { (o : Outside) → S.told system.old ≡ Some o → (after : Outside) ×
         (S.told system.new ≡ Some after)
-        × Performs S.Source.left S.Source.failed S.Dest.taken S.Dest.failed (plan_view plan.now) o after result }
+        × Performs S.Source.left S.Source.failed S.Dest.taken S.Dest.failed
+        (plan_view plan.now) o after result }
 {
     if plan.verbose {
         system.watch();
@@ -102,7 +103,8 @@ fn create<'a, S: System<'a>>(
     ensures sound { IfOk result (λ d. S.Dest.failed d ≡ 0) }
     ensures silent { S.told system.old ≡ None → S.told system.new ≡ None }
     ensures creates { (o : Outside) → S.told system.old ≡ Some o →
-        Creates S.Dest.taken (place_of name.entry.now mode) (is_creatable o name.entry.now) o (S.told system.new) result }
+        Creates S.Dest.taken (place_of name.entry.now mode) (is_creatable o name.entry.now) o
+        (S.told system.new) result }
 {
     if name == STANDARD {
         return system.output();
@@ -126,7 +128,8 @@ fn write<'a, S: System<'a>>(
         id ≡ source_id o plan.now.source.now }
     ensures { (o : Outside) → S.told system.old ≡ Some o → (after : Outside) ×
         (S.told system.new ≡ Some after)
-        × Ends S.Source.left S.Source.failed S.Dest.taken S.Dest.failed (Some dest.entry.now) (plan_view plan.now) o after result }
+        × Ends S.Source.left S.Source.failed S.Dest.taken S.Dest.failed
+        (Some dest.entry.now) (plan_view plan.now) o after result }
 {
     if empties_source(system, dest, id) {
         return fail(system, Message::NoDest { name: dest });
@@ -158,8 +161,11 @@ fn transfer<'a, S: System<'a>>(
         S.told system.old ≡ Some (begun o
         (place_of name.entry.now (new_mode (source_id o plan.now.source.now)))) →
         source_bytes o plan.now.source.now ≡ Some given → S.Source.left source ≡ Some given →
-        (EmptiesSource o (plan_view plan.now) name.entry.now → ⊥) → is_creatable o name.entry.now ≡ true → (after : Outside) × (S.told system.new ≡ Some after)
-        × Runs S.Source.left S.Source.failed S.Dest.taken S.Dest.failed (plan_view plan.now) name.entry.now o after result.status result.samples }
+        (EmptiesSource o (plan_view plan.now) name.entry.now → ⊥) →
+        is_creatable o name.entry.now ≡ true → (after : Outside) ×
+        (S.told system.new ≡ Some after)
+        × Runs S.Source.left S.Source.failed S.Dest.taken S.Dest.failed
+        (plan_view plan.now) name.entry.now o after result.status result.samples }
 {
     let mut dest = dest;
     let (outcome, _) = run(plan, source, &mut dest);

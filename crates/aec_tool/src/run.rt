@@ -1,8 +1,8 @@
 //! Encoding or decoding, as a plan asks.
 ghost use Rattle.std.specs.Prelude.{◌≡◌, ◌+◌, ◌^◌, ◌<◌, true, false, Some};
-ghost use Rattle.rice_stream.specs.Calls.{Call, Happens, Fails};
-ghost use Rattle.rice_stream.specs.Decodes.{Decodes, DecodesWithin};
-ghost use Rattle.rice_stream.specs.Encodes.{Encodes, EncodesWithin};
+ghost use Rattle.rice_stream.specs.Calls.{Fails};
+ghost use Rattle.rice_stream.specs.Decodes.{DecodesBetween, DecodesWithin};
+ghost use Rattle.rice_stream.specs.Encodes.{EncodesBetween, EncodesWithin};
 
 use crate::plan::Plan;
 use rice_bits::{Intake, Outlet};
@@ -12,14 +12,14 @@ use rice_stream::{Outcome, decode, encode};
 pub fn run<I: Intake, O: Outlet>(plan: &Plan<'_>, intake: I, outlet: &mut O) -> (Outcome, I)
     requires reads { I.failed intake + 1 < 2 ^ 64 }
     requires writes { O.failed outlet.old + 1 < 2 ^ 64 }
-    ensures encodes { plan.now.decode ≡ false → (c : Call) ×
-        Happens (I.left intake) (I.left result.1) (O.taken outlet.old) (O.taken outlet.new) c ×
-        Encodes plan.now.setting c result.0.report result.0.fault }
+    ensures encodes { plan.now.decode ≡ false →
+        EncodesBetween plan.now.setting (I.left intake) (I.left result.1)
+        (O.taken outlet.old) (O.taken outlet.new) result.0.report result.0.fault }
     ensures encodes_within { plan.now.decode ≡ false →
         EncodesWithin plan.now.setting result.0.report }
-    ensures decodes { plan.now.decode ≡ true → (c : Call) ×
-        Happens (I.left intake) (I.left result.1) (O.taken outlet.old) (O.taken outlet.new) c ×
-        Decodes plan.now.setting plan.now.samples c result.0.report result.0.fault }
+    ensures decodes { plan.now.decode ≡ true →
+        DecodesBetween plan.now.setting plan.now.samples (I.left intake) (I.left result.1)
+        (O.taken outlet.old) (O.taken outlet.new) result.0.report result.0.fault }
     ensures failures { Fails result.0.fault (I.failed intake) (I.failed result.1)
         (O.failed outlet.old) (O.failed outlet.new) }
     ensures decodes_within { plan.now.decode ≡ true →

@@ -85,7 +85,8 @@ pub fn start<'a, S: System<'a>>(system: &mut S, alloc: Global, words: &'a [&'a s
     requires { (o : Outside) → S.told system.old ≡ Some o → IsFresh o }
     ensures { (o : Outside) → S.told system.old ≡ Some o → (after : Outside) ×
         (S.told system.new ≡ Some after)
-        × Starts S.Source.left S.Source.failed S.Dest.taken S.Dest.failed (texts words.entry.now) o after result }
+        × Starts S.Source.left S.Source.failed S.Dest.taken S.Dest.failed
+        (texts words.entry.now) o after result }
 {
     let matches = match matches_of(alloc, words) {
         Ok(matches) => matches,

@@ -65,7 +65,8 @@ pub trait System<'a> {
         ensures sound { IfOk result (λ d. Self.Dest.failed d ≡ 0) }
         ensures silent { told self.old ≡ None → told self.new ≡ None }
         ensures creates { (o : Outside) → told self.old ≡ Some o →
-            Creates Self.Dest.taken (Named name.entry.now mode) (o.creatable name.entry.now) o (told self.new) result };
+            Creates Self.Dest.taken (Named name.entry.now mode) (o.creatable name.entry.now) o
+            (told self.new) result };
 
     /// Ends writing. `Err` if not all bytes that the destination took have arrived.
     fn finish(&mut self, dest: Self::Dest) -> Result<(), WriteFault>

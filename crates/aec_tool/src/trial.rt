@@ -34,7 +34,8 @@ pub fn test<'a, S: System<'a>>(
     requires decodes { plan.now.decode ≡ true }
     ensures { (o : Outside) → S.told system.old ≡ Some o → (after : Outside) ×
         (S.told system.new ≡ Some after)
-        × Tests S.Source.left S.Source.failed S.Dest.taken S.Dest.failed (plan_view plan.now) o after result.status result.samples }
+        × Tests S.Source.left S.Source.failed S.Dest.taken S.Dest.failed
+        (plan_view plan.now) o after result.status result.samples }
 {
     let (outcome, _) = decode(&plan.setting, plan.samples, source, &mut Nowhere);
     let report = outcome.report;
@@ -61,7 +62,8 @@ pub fn test<'a, S: System<'a>>(
 fn tell<'a, S: System<'a>>(system: &mut S, it: Finding) -> u8
     requires fresh { (o : Outside) → S.told system.old ≡ Some o → IsFresh o }
     ensures { (o : Outside) → S.told system.old ≡ Some o →
-        ((S.told system.new ≡ Some (finding o it)) × (result ≡ 0)) ⊎ ((S.told system.new ≡ Some (saying (losing o) (Stopped faults.Write))) × (result ≡ 1)) }
+        ((S.told system.new ≡ Some (finding o it)) × (result ≡ 0)) ⊎
+        ((S.told system.new ≡ Some (saying (losing o) (Stopped faults.Write))) × (result ≡ 1)) }
 {
     match system.report(it) {
         Ok(()) => SUCCESS,
@@ -93,7 +95,8 @@ fn judge<'a, S: System<'a>>(
         id ≡ source_id o plan.now.source.now }
     ensures { (o : Outside) (given : List ℕ) → S.told system.now ≡ Some o →
         source_bytes o plan.now.source.now ≡ Some given →
-        Judges S.Source.left S.Source.failed S.Dest.taken S.Dest.failed (plan_view plan.now) o given outcome.now.report.bits outcome.now.fault result }
+        Judges S.Source.left S.Source.failed S.Dest.taken S.Dest.failed
+        (plan_view plan.now) o given outcome.now.report.bits outcome.now.fault result }
 {
     match outcome.fault {
         Some(fault) => Err(fault),
@@ -123,7 +126,8 @@ fn look<'a, S: System<'a>>(
         id ≡ source_id o plan.now.source.now }
     ensures { (o : Outside) (given : List ℕ) → S.told system.now ≡ Some o →
         source_bytes o plan.now.source.now ≡ Some given →
-        Looks S.Source.failed (is_some plan.now.samples && is_read_again o plan.now.source.now) bits given result }
+        Looks S.Source.failed (is_some plan.now.samples && is_read_again o plan.now.source.now)
+        bits given result }
 {
     if !is_looked_for(plan, id) {
         return Ok(None);

@@ -1,5 +1,5 @@
 -- What the calls that decode piece by piece do with their caller's memory.
-use Rattle.std.specs.Prelude.{◌≡◌, ℕ, ◌*◌, ◌/◌, ◌%◌, ◌^◌, ◌≤◌, Bool, true, List, [], length, ℤ}
+use Rattle.std.specs.Prelude.{◌≡◌, ℕ, ◌*◌, ◌/◌, ◌%◌, ◌≤◌, Bool, true, List, [], length, ℤ}
 use Rattle.rice_bits.specs.Limits.{most_bits_read}
 use Rattle.rice_samples.specs.Limits.{most_samples_counted}
 use Rattle.rice_samples.specs.Parameters.{Parameters, width}

@@ -2,9 +2,9 @@
 ghost use Rattle.std.specs.Prelude.{◌≡◌, ◌≢◌, ◌*◌, ◌/◌, ◌<◌, ◌≤◌, length, IfOk, IfErr, Option, Some, None};
 ghost use Rattle.rice_bits.specs.device.Slice.{slice_left, slice_state, slice_failures};
 ghost use Rattle.rice_samples.specs.Parameters.{width};
-ghost use Rattle.rice_stream.specs.Calls.{Call, Happens, Fails};
-ghost use Rattle.rice_stream.specs.Encodes.{Encodes, EncodesWithin};
-ghost use Rattle.rice_stream.specs.Decodes.{Decodes, DecodesWithin};
+ghost use Rattle.rice_stream.specs.Calls.{Fails};
+ghost use Rattle.rice_stream.specs.Encodes.{EncodesBetween, EncodesWithin};
+ghost use Rattle.rice_stream.specs.Decodes.{DecodesBetween, DecodesWithin};
 ghost use Rattle.rice_c.specs.declared.status.Status.TheVariants.{NoRoom};
 ghost use Rattle.rice_c.specs.Asked.{setting_asked};
 ghost use Rattle.rice_c.specs.Calls.{EncodesInto, DecodesInto, RefusesSetting};
@@ -54,10 +54,10 @@ fn encode_into(setting: &Setting, samples: &[u8], code: &mut [u8], report: &mut 
 fn encode_slice(setting: &Setting, intake: &mut SliceIn<'_>, outlet: &mut SliceOut<'_>) -> Outcome
     requires { slice_failures outlet.old ≡ 0 }
     ensures borrow { (slice_state outlet.new).borrow ≡ (slice_state outlet.old).borrow }
-    ensures call { (c : Call) ×
-        Happens (Some (slice_left intake.old)) (Some (slice_left intake.new))
-        (Some (slice_state outlet.old)) (Some (slice_state outlet.new)) c ×
-        Encodes setting.now c result.report result.fault }
+    ensures call { EncodesBetween setting.now
+        (Some (slice_left intake.old)) (Some (slice_left intake.new))
+        (Some (slice_state outlet.old)) (Some (slice_state outlet.new))
+        result.report result.fault }
     ensures failures { Fails result.fault 0 0 0 (slice_failures outlet.new) }
     ensures within { EncodesWithin setting.now result.report }
 {
@@ -131,10 +131,10 @@ fn decode_slice<'a>(
 ) -> (Outcome, SliceIn<'a>)
     requires { slice_failures outlet.old ≡ 0 }
     ensures borrow { (slice_state outlet.new).borrow ≡ (slice_state outlet.old).borrow }
-    ensures call { (c : Call) ×
-        Happens (Some (slice_left intake.entry)) (Some (slice_left result.1))
-        (Some (slice_state outlet.old)) (Some (slice_state outlet.new)) c ×
-        Decodes setting.now asked c result.0.report result.0.fault }
+    ensures call { DecodesBetween setting.now asked
+        (Some (slice_left intake.entry)) (Some (slice_left result.1))
+        (Some (slice_state outlet.old)) (Some (slice_state outlet.new))
+        result.0.report result.0.fault }
     ensures failures { Fails result.0.fault 0 0 0 (slice_failures outlet.new) }
     ensures within { DecodesWithin asked result.0.report }
 {

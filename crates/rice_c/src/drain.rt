@@ -1,7 +1,7 @@
 //! Decoding piece by piece, for a caller that has not all of a code, or no room for all samples. All that is kept lies in the
 //! caller's memory.
 ghost use Rattle.std.specs.Prelude.{◌≡◌, Bool, true, false, List, IfOk, IfErr, ℤ};
-ghost use Rattle.rice_stream.specs.Pulling.{Origin, IsStand, at_front};
+ghost use Rattle.rice_stream.specs.Pulling.{Origin, IsStand, IsSomeStand, at_front};
 ghost use Rattle.rice_c.specs.Asked.{setting_asked};
 ghost use Rattle.rice_c.specs.Calls.{RefusesSetting};
 ghost use Rattle.rice_c.specs.Drains.{CanBegin, OpensDrain, PullsInto};
@@ -94,8 +94,7 @@ pub extern "C" fn rice_pull(
     report: &mut RiceReport,
 ) -> u32
     requires { IfOk (setting_asked drain.old.setting) (λ s.
-        (o : Origin) × (front : List Bool) × (given : List ℤ) ×
-        IsStand s o drain.old.stand front given) }
+        IsSomeStand s drain.old.stand) }
     ensures ok { IfOk (setting_asked drain.old.setting) (λ s.
         (o : Origin) (front : List Bool) (given : List ℤ) →
         IsStand s o drain.old.stand front given →
@@ -118,8 +117,7 @@ fn pull_into(
     samples: &mut [u8],
     report: &mut RiceReport,
 ) -> u32
-    requires { (o : Origin) × (front : List Bool) × (given : List ℤ) ×
-        IsStand setting.now o drain.old.stand front given }
+    requires { IsSomeStand setting.now drain.old.stand }
     ensures { (o : Origin) (front : List Bool) (given : List ℤ) →
         IsStand setting.now o drain.old.stand front given →
         PullsInto setting.now o front given code.now samples.old samples.new drain.old drain.new

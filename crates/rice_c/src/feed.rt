@@ -5,7 +5,7 @@ ghost use Rattle.rice_samples.specs.Limits.{most_input};
 ghost use Rattle.rice_stream.specs.Calls.{Fails};
 ghost use Rattle.rice_stream.specs.Encodes.{EncodesWithin};
 ghost use Rattle.rice_stream.specs.EncodingState.{PushFails};
-ghost use Rattle.rice_stream.specs.Feeding.{IsSeam, EncodesMore, EncodesRest};
+ghost use Rattle.rice_stream.specs.Feeding.{IsSeam, IsSomeSeam, EncodesOn, EncodesToEnd};
 ghost use Rattle.rice_c.specs.Asked.{setting_asked};
 ghost use Rattle.rice_c.specs.Calls.{RefusesSetting};
 ghost use Rattle.rice_c.specs.Feeds.{Begins, PushesInto, FinishesInto, report_of_seam};
@@ -79,8 +79,8 @@ pub extern "C" fn rice_push(
     code: &mut [u8],
     report: &mut RiceReport,
 ) -> u32
-    requires { IfOk (setting_asked feed.old.setting) (λ s. (xs : List ℤ) ×
-        IsSeam s feed.old.seam xs) }
+    requires { IfOk (setting_asked feed.old.setting) (λ s.
+        IsSomeSeam s feed.old.seam) }
     ensures ok { IfOk (setting_asked feed.old.setting) (λ s. (xs : List ℤ) →
         IsSeam s feed.old.seam xs →
         PushesInto s xs samples.now code.old code.new feed.old feed.new report.new result) }
@@ -105,8 +105,8 @@ pub extern "C" fn rice_finish(
     code: &mut [u8],
     report: &mut RiceReport,
 ) -> u32
-    requires { IfOk (setting_asked feed.now.setting) (λ s. (xs : List ℤ) ×
-        IsSeam s feed.now.seam xs) }
+    requires { IfOk (setting_asked feed.now.setting) (λ s.
+        IsSomeSeam s feed.now.seam) }
     ensures ok { IfOk (setting_asked feed.now.setting) (λ s. (xs : List ℤ) →
         IsSeam s feed.now.seam xs →
         FinishesInto s xs samples.now code.old code.new report.new result) }
@@ -131,7 +131,7 @@ fn push_into(
     code: &mut [u8],
     report: &mut RiceReport,
 ) -> u32
-    requires { (xs : List ℤ) × IsSeam setting.now feed.old.seam xs }
+    requires { IsSomeSeam setting.now feed.old.seam }
     ensures { (xs : List ℤ) → IsSeam setting.now feed.old.seam xs →
         PushesInto setting.now xs samples.now code.old code.new feed.old feed.new report.new
         result }
@@ -157,11 +157,10 @@ fn push_slice(
     samples: &[u8],
     outlet: &mut SliceOut<'_>,
 ) -> Result<Seam, Fault>
-    requires seam { (xs : List ℤ) × IsSeam setting.now seam.now xs }
+    requires seam { IsSomeSeam setting.now seam.now }
     requires failures { slice_failures outlet.old ≡ 0 }
     ensures borrow { (slice_state outlet.new).borrow ≡ (slice_state outlet.old).borrow }
-    ensures did { (xs : List ℤ) → IsSeam setting.now seam.now xs →
-        EncodesMore setting.now xs samples.now (Some (slice_state outlet.old))
+    ensures did { EncodesOn setting.now seam.now samples.now (Some (slice_state outlet.old))
         (Some (slice_state outlet.new)) result }
     ensures failures { PushFails 0 (slice_failures outlet.new) result }
 {
@@ -176,7 +175,7 @@ fn finish_into(
     code: &mut [u8],
     report: &mut RiceReport,
 ) -> u32
-    requires { (xs : List ℤ) × IsSeam setting.now seam.now xs }
+    requires { IsSomeSeam setting.now seam.now }
     ensures { (xs : List ℤ) → IsSeam setting.now seam.now xs →
         FinishesInto setting.now xs samples.now code.old code.new report.new result }
 {
@@ -193,11 +192,10 @@ fn finish_slice(
     samples: &[u8],
     outlet: &mut SliceOut<'_>,
 ) -> Outcome
-    requires seam { (xs : List ℤ) × IsSeam setting.now seam.now xs }
+    requires seam { IsSomeSeam setting.now seam.now }
     requires failures { slice_failures outlet.old ≡ 0 }
     ensures borrow { (slice_state outlet.new).borrow ≡ (slice_state outlet.old).borrow }
-    ensures did { (xs : List ℤ) → IsSeam setting.now seam.now xs →
-        EncodesRest setting.now xs samples.now (Some (slice_state outlet.old))
+    ensures did { EncodesToEnd setting.now seam.now samples.now (Some (slice_state outlet.old))
         (Some (slice_state outlet.new)) result.report result.fault }
     ensures failures { Fails result.fault 0 0 0 (slice_failures outlet.new) }
     ensures within { EncodesWithin setting.now result.report }

@@ -1,7 +1,8 @@
 -- What decoding does: each way in which it ends.
-use Rattle.std.specs.Prelude.{◌≡◌, ◌≢◌, ℕ, ◌+◌, ◌-◌, ◌*◌, ◌/◌, ◌^◌, ◌≤◌, ◌⊎◌, Bool, List, [], ◌++◌, length, sum_by, take, min, Option, Some, None, IfSome, IsSome, ℤ}
+use Rattle.std.specs.Prelude.{◌≡◌, ◌≢◌, ℕ, ◌+◌, ◌-◌, ◌*◌, ◌/◌, ◌≤◌, ◌⊎◌, Bool, List, [], ◌++◌, length, sum_by, take, min, Option, Some, None, IfSome, IsSome, ℤ}
 use Rattle.std.specs.Io.KnownBytes.{IsAtEnd}
 use Rattle.rice_bits.specs.Limits.{most_bits_read, most_bytes_read, most_at_once}
+use Rattle.rice_bits.specs.device.Outlet.{Room}
 use Rattle.rice_bits.specs.Bits.{bits_of}
 use Rattle.rice_bits.specs.read.Window.{most_waiting}
 use Rattle.rice_bits.specs.read.Reader.{Reader}
@@ -13,7 +14,7 @@ use Rattle.rice_code.specs.code.Decoded.{Decoded, AreTaken, BeginsUnsound, EndsW
 use Rattle.rice_code.specs.code.CodedDataSets.{CodedDataSet, turns}
 use Rattle.rice_code.specs.code.Forms.{RunIsSound, ResidualsAreSound, blocks_in_all}
 use Rattle.rice_code.specs.code.Layout.{Lies}
-use Rattle.rice_stream.specs.Calls.{Call, WritesAndReports, StopsBetween, PassesLimit}
+use Rattle.rice_stream.specs.Calls.{Call, Happens, WritesAndReports, StopsBetween, PassesLimit}
 use Rattle.rice_stream.specs.declared.outcome.Report.{Report}
 use Rattle.rice_stream.specs.declared.outcome.Fault.{Fault}
 use Rattle.rice_stream.specs.declared.outcome.Fault.TheVariants.{Read, Write, TooLong, CodeEnds, RunPastSegment, ResidualTooLarge}
@@ -87,6 +88,10 @@ pub record Decodes (s : Parameters) (asked : Option ℕ) (c : Call) (r : Report)
   -- only the outcome `TooLong` is of more bytes
   pub limit : fault ≢ Some TooLong → length c.given ≤ most_bytes_read
   pub steps : CountsSteps s (bits_of c.given) r ending
+
+-- The call of which the devices tell decodes so: what the intake has left before and after, and what the outlet took.
+abbrev pub DecodesBetween : Parameters → Option ℕ → (left left_new : Option (List ℕ)) → (taken taken_new : Option Room) → Report → Option Fault → Type 0
+DecodesBetween s asked left left_new taken taken_new r fault = (c : Call) × Happens left left_new taken taken_new c × Decodes s asked c r fault
 
 -- the report's bounds, at every exit
 pub record DecodesWithin (asked : Option ℕ) (r : Report) : Type 0 where

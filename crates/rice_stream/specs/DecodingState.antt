@@ -1,5 +1,5 @@
 -- A decoder at work: how far it has come, and what is written of its samples.
-use Rattle.std.specs.Prelude.{◌≡◌, ℕ, ◌+◌, ◌*◌, ◌<◌, ◌≤◌, ◌^◌, Bool, List, ◌++◌, length, sum_by, replicate, All, Option, None, Some, IfSome, ℤ, pos}
+use Rattle.std.specs.Prelude.{◌≡◌, ℕ, ◌+◌, ◌*◌, ◌<◌, ◌≤◌, Bool, List, ◌++◌, length, sum_by, replicate, All, Option, None, Some, IfSome, ℤ, pos}
 use Rattle.std.specs.Io.KnownBytes.{Consumes}
 use Rattle.rice_bits.specs.Limits.{most_bits_read}
 use Rattle.rice_bits.specs.device.Outlet.{Room, Appends}

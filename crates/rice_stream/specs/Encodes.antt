@@ -1,7 +1,8 @@
 -- What encoding does: each way in which it ends.
-use Rattle.std.specs.Prelude.{◌≡◌, ◌≢◌, ℕ, ◌+◌, ◌-◌, ◌*◌, ◌^◌, ◌<◌, ◌≤◌, ◌⊎◌, List, ◌++◌, length, take, All, Option, Some, None, ℤ}
+use Rattle.std.specs.Prelude.{◌≡◌, ◌≢◌, ℕ, ◌+◌, ◌-◌, ◌*◌, ◌<◌, ◌≤◌, ◌⊎◌, List, ◌++◌, length, take, All, Option, Some, None, ℤ}
 use Rattle.std.specs.Io.KnownBytes.{IsAtEnd}
 use Rattle.rice_bits.specs.Limits.{most_at_once}
+use Rattle.rice_bits.specs.device.Outlet.{Room}
 use Rattle.rice_samples.specs.Limits.{most_input}
 use Rattle.rice_samples.specs.Parameters.{Parameters, IsSample, width}
 use Rattle.rice_samples.specs.bytes.Spelling.{Spells, spellings, SpellingEnd, AtEnd, NoSpelling, TooFew}
@@ -9,7 +10,7 @@ use Rattle.rice_code.specs.Bounds.{bit_bound, step_bound, amortised_step_bound}
 use Rattle.rice_code.specs.code.Code.{code_bits, output, early_output, complete_samples}
 use Rattle.rice_code.specs.CoderSteps.{least_steps, most_steps}
 use Rattle.rice_code.specs.code.Blocks.{fill_count_of}
-use Rattle.rice_stream.specs.Calls.{Call, StopsBetween, PassesLimit, IsWithinLimit}
+use Rattle.rice_stream.specs.Calls.{Call, Happens, StopsBetween, PassesLimit, IsWithinLimit}
 use Rattle.rice_stream.specs.declared.outcome.Report.{Report}
 use Rattle.rice_stream.specs.declared.outcome.Fault.{Fault}
 use Rattle.rice_stream.specs.declared.outcome.Fault.TheVariants.{Read, Write, TooLong, SampleOutOfRange, SampleCut}
@@ -84,6 +85,10 @@ module _ (s : Parameters) where
     pub limit : IsWithinLimit most_input fault c.given
     -- one read gives at most 4,096 bytes, and its samples are taken before the next
     pub ahead : length c.given ≤ r.samples * width s + most_at_once
+
+-- The call of which the devices tell encodes so: what the intake has left before and after, and what the outlet took.
+abbrev pub EncodesBetween : Parameters → (left left_new : Option (List ℕ)) → (taken taken_new : Option Room) → Report → Option Fault → Type 0
+EncodesBetween s left left_new taken taken_new r fault = (c : Call) × Happens left left_new taken taken_new c × Encodes s c r fault
 
 -- the report's bounds, at every exit
 pub record EncodesWithin (s : Parameters) (r : Report) : Type 0 where

@@ -1,5 +1,5 @@
 -- A coder at work: which samples it has taken, and what is written of their code.
-use Rattle.std.specs.Prelude.{◌≡◌, ℕ, ◌+◌, ◌^◌, ◌<◌, ◌≤◌, Bool, List, [], ◌∷◌, ◌++◌, length, take, drop, All, Option, Some, None, Result, Ok, Err, ℤ}
+use Rattle.std.specs.Prelude.{◌≡◌, ℕ, ◌+◌, ◌<◌, ◌≤◌, Bool, List, [], ◌∷◌, ◌++◌, length, take, drop, All, Option, Some, None, Result, Ok, Err, ℤ}
 use Rattle.std.specs.Io.KnownBytes.{Consumes}
 use Rattle.rice_bits.specs.device.Outlet.{Room, Appends}
 use Rattle.rice_bits.specs.Bits.{bits_in_bytes}
@@ -134,6 +134,14 @@ abbrev pub PushFails : {T : Type 0} → ℕ → ℕ → Result T Fault → Type 
 PushFails old new (Ok _) = new ≡ old
 PushFails old new (Err Write) = new ≡ old + 1
 PushFails old new (Err _) = new ≡ old
+
+-- an encoding whose code an outlet has taken so far can take the samples of these bytes too
+abbrev pub CanPush : {N : ℕ} → Parameters → Option Room → Encoding N → List ℕ → Type 0
+CanPush s taken e bytes = (old : Beginning) × (xs : List ℤ) × IsEncodingOf s old taken e xs × (length xs + length bytes ≤ most_input)
+
+-- and then, whatever samples it held, this becomes of those of these bytes
+abbrev pub PushesBytes : {T : Type 0} {N : ℕ} → Parameters → Option Room → Option Room → Encoding N → Encoding N → List ℕ → Result T Fault → Type 0
+PushesBytes s taken taken_new e e_new bytes result = (old : Beginning) (xs : List ℤ) → IsEncodingOf s old taken e xs → Pushes s old taken_new e_new xs bytes result
 
 -- Bytes were given so far: those of samples, whose code is written as far as it is whole, and the first bytes of one more.
 pub record EncodingProgress {N : ℕ} (s : Parameters) (left_old left : Option (List ℕ)) (taken_old taken : Option Room) (e : Encoding N) (given waiting : ℕ) (buffer : List ℕ) : Type 0 where

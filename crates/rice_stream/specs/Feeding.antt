@@ -30,6 +30,10 @@ pub record IsSeam (s : Parameters) (seam : Seam) (xs : List ℤ) : Type 0 where
   pub fits : seam.waiting < 2 ^ seam.waiting_bits
   pub limit : width s * length xs ≤ most_input
 
+-- it is one, after some samples
+abbrev pub IsSomeSeam : Parameters → Seam → Type 0
+IsSomeSeam s seam = (xs : List ℤ) × IsSeam s seam xs
+
 -- an encoding stands there, but for these bits
 pub record StandsAt {N : ℕ} (s : Parameters) (seam : Seam) (e : Encoding N) : Type 0 where
   pub coder : e.coder ≡ state_between s seam.start seam.previous
@@ -116,3 +120,11 @@ module _ (s : Parameters) (xs : List ℤ) (bytes : List ℕ) (old new : Option R
       ⊎ ((more : List ℤ) × AreAll more × ReportsAll s r (xs ++ more) × FollowsBetween (behind s xs old) new (early_output s (xs ++ more)) (output s (xs ++ more)))
   EncodesRest r (Some TooLong) = PassesAll × ReportsTaken s r xs
   EncodesRest r (Some _) = ⊥
+
+-- whatever samples the seam is of, this becomes of a piece after them
+abbrev pub EncodesOn : Parameters → Seam → List ℕ → (old new : Option Room) → Result Seam Fault → Type 0
+EncodesOn s seam bytes old new result = (xs : List ℤ) → IsSeam s seam xs → EncodesMore s xs bytes old new result
+
+-- and of the last piece
+abbrev pub EncodesToEnd : Parameters → Seam → List ℕ → (old new : Option Room) → Report → Option Fault → Type 0
+EncodesToEnd s seam bytes old new r fault = (xs : List ℤ) → IsSeam s seam xs → EncodesRest s xs bytes old new r fault

@@ -1,5 +1,5 @@
 -- What joins encoding and decoding, and each with the same piece by piece.
-use Rattle.std.specs.Prelude.{◌≡◌, ℕ, ◌+◌, ◌*◌, ◌/◌, ◌<◌, ◌≤◌, ◌⊎◌, Bool, List, [], ◌∷◌, ◌++◌, length, take, drop, Option, Some, None, Ok, ℤ, ⊤}
+use Rattle.std.specs.Prelude.{◌≡◌, ℕ, ◌+◌, ◌*◌, ◌/◌, ◌<◌, ◌≤◌, ◌⊎◌, List, [], ◌∷◌, ◌++◌, length, take, drop, Option, Some, None, Ok, ℤ, ⊤}
 use Rattle.std.specs.Io.KnownBytes.{Consumes}
 use Rattle.rice_bits.specs.Bits.{bits_of}
 use Rattle.rice_bits.specs.device.Outlet.{Room, Appends}
@@ -11,8 +11,8 @@ use Rattle.rice_code.specs.code.Decoded.{Decoded, Ending, Reached, Ended, CutOff
 use Rattle.rice_stream.specs.Calls.{Call}
 use Rattle.rice_stream.specs.Encodes.{Encodes}
 use Rattle.rice_stream.specs.Decodes.{Decodes}
-use Rattle.rice_stream.specs.Feeding.{IsSeam, EncodesMore, EncodesRest}
-use Rattle.rice_stream.specs.Pulling.{Origin, IsStand, DecodesMore, at_front}
+use Rattle.rice_stream.specs.Feeding.{IsSeam, EncodesOn, EncodesToEnd}
+use Rattle.rice_stream.specs.Pulling.{Origin, IsStand, DecodesOn, at_front}
 use Rattle.rice_stream.specs.declared.outcome.Report.{Report}
 use Rattle.rice_stream.specs.declared.outcome.Fault.{Fault}
 use Rattle.rice_stream.specs.declared.outcome.Fault.TheVariants.{Read, Write}
@@ -46,7 +46,7 @@ abbrev pub AreFed : Parameters → List ℕ → Seam → List Piece → Type 0
 AreFed s input seam [] = ⊤
 AreFed s input seam (p ∷ ps) =
     ((behind : List ℕ) × (drop (width s * seam.samples) input ≡ p.bytes ++ behind)) ×
-    ((xs : List ℤ) → IsSeam s seam xs → EncodesMore s xs p.bytes p.old p.new (Ok p.seam)) × AreFed s input p.seam ps
+    EncodesOn s seam p.bytes p.old p.new (Ok p.seam) × AreFed s input p.seam ps
 
 -- where the last of them ended
 abbrev pub last_seam : Seam → List Piece → Seam
@@ -63,7 +63,7 @@ TakeInParts (p ∷ ps) bytes = (part : List ℕ) × (rest : List ℕ) × (bytes 
 abbrev pub FeedingIsEncoding : Type 0
 FeedingIsEncoding = (s : Parameters) → IsLegal s → (input : List ℕ) (seam : Seam) (pieces : List Piece) (old new : Option Room) (fed encoded : Report) (encoding : Call) →
     IsSeam s seam [] → AreFed s input seam pieces →
-    ((xs : List ℤ) → IsSeam s (last_seam seam pieces) xs → EncodesRest s xs (drop (width s * (last_seam seam pieces).samples) input) old new fed None) →
+    EncodesToEnd s (last_seam seam pieces) (drop (width s * (last_seam seam pieces).samples) input) old new fed None →
     Encodes s encoding encoded None → encoding.given ≡ input →
     ((front : List ℕ) × (last : List ℕ) × (encoding.written ≡ front ++ last) × TakeInParts pieces front × Appends old new last) × (fed.samples ≡ encoded.samples) × (fed.bits ≡ encoded.bits)
 
@@ -79,7 +79,7 @@ pub record Pull : Type 0 where
 abbrev pub IsPulled : Parameters → List ℕ → Stand → Pull → List ℕ → Type 0
 IsPulled s code stand p behind =
     (drop (stand.bits / 8) code ≡ p.piece ++ behind) ×
-    ((o : Origin) (front : List Bool) (given : List ℤ) → IsStand s o stand front given → DecodesMore s o front given p.piece stand p.old p.new p.stand p.pause)
+    DecodesOn s stand p.piece p.old p.new p.stand p.pause
 
 -- Pieces of a code were pulled one after the other. Each ends anywhere, and has any room.
 abbrev pub ArePulled : Parameters → List ℕ → Stand → List Pull → Type 0

@@ -1,5 +1,5 @@
 -- Decoding piece by piece: where decoding stands between two calls, and what each call gives.
-use Rattle.std.specs.Prelude.{◌≡◌, ◌≢◌, ℕ, ◌+◌, ◌*◌, ◌%◌, ◌^◌, ◌<◌, ◌≤◌, Bool, true, List, [], ◌++◌, length, drop, take, sum_by, Option, Some, None, IsSome, Result, Ok, Err, ℤ, pos}
+use Rattle.std.specs.Prelude.{◌≡◌, ◌≢◌, ℕ, ◌+◌, ◌*◌, ◌%◌, ◌<◌, ◌≤◌, Bool, true, List, [], ◌++◌, length, drop, take, sum_by, Option, Some, None, IsSome, Result, Ok, Err, ℤ, pos}
 use Rattle.rice_bits.specs.Limits.{most_bits_read}
 use Rattle.rice_bits.specs.Bits.{bits_of}
 use Rattle.rice_bits.specs.read.Reader.{Reader}
@@ -17,6 +17,7 @@ use Rattle.rice_stream.specs.DecodingState.{DecodedSoFar, HasSets, HasSteps}
 use Rattle.rice_stream.specs.declared.stand.Pause.{Pause}
 use Rattle.rice_stream.specs.declared.stand.Pause.TheVariants as pauses
 use Rattle.rice_stream.specs.declared.stand.Stand.{Stand}
+use Rattle.rice_stream.specs.declared.strokes.Stroke.{Stroke}
 
 -- Where decoding began: after so many bits of a code, and so many samples.
 pub record Origin : Type 0 where
@@ -49,6 +50,10 @@ pub record IsStand (s : Parameters) (o : Origin) (stand : Stand) (front : List B
   pub bits : stand.bits ≡ o.bits + length front
   pub steps : HasSteps stand.steps (length front) (length given) (stand.run * s.block) (sum_by turns sets)
   pub limit : stand.bits ≤ most_bits_read
+
+-- decoding can stand there, after some samples
+abbrev pub IsSomeStand : Parameters → Stand → Type 0
+IsSomeStand s stand = (o : Origin) × (front : List Bool) × (given : List ℤ) × IsStand s o stand front given
 
 -- the bits of a piece, which begins with the byte that has the stand's next bit
 abbrev pub bits_ahead : Stand → List ℕ → List Bool
@@ -85,6 +90,11 @@ pub record DecodesMore (s : Parameters) (o : Origin) (front : List Bool) (given 
   pub pauses_at : PausesAt s old piece (length out_old) new rest (length samples) pause
   pub limit : pause ≢ pauses.TooLong → old.bits + 8 * length piece ≤ most_bits_read
 
+-- and so wherever decoding began, and whatever samples were given
+abbrev pub DecodesOn : Parameters → Stand → List ℕ → List ℕ → List ℕ → Stand → Pause → Type 0
+DecodesOn s old piece out_old out new pause = (o : Origin) (front : List Bool) (given : List ℤ) → IsStand s o old front given →
+    DecodesMore s o front given piece old out_old out new pause
+
 -- the state of a decoder that goes on there
 abbrev pub state_of : Parameters → Stand → DecoderState
 state_of s stand = record { setting = s; block = stand.block; before = stand.previous; run = stand.run; stopped = None }
@@ -105,6 +115,13 @@ pub record IsReadFrom {I : Type 0} (stand : Stand) (r : Reader I) : Type 0 where
   pub told : IsSome r.left
   pub taken : r.taken ≤ stand.bits
   pub limit : stand.bits + length (ahead r) ≤ most_bits_read
+
+-- Decoding stands there, and the decoder and the reader of the piece have come to it.
+pub record HasComeTo {I : Type 0} (s : Parameters) (here : Stand) (p : DecoderState) (r : Reader I) : Type 0 where
+  pub stand : IsSomeStand s here
+  pub state : p ≡ state_of s here
+  pub reads : IsReadFrom here r
+  pub aligned : here.run ≡ 0 → r.taken % 8 ≡ here.bits % 8
 
 -- blocks more were given
 pub record GivesNext {I : Type 0} (s : Parameters) (o : Origin) (front : List Bool) (given : List ℤ) (next : Stand) (old new : Reader I) (samples : List ℤ) : Type 0 where
@@ -144,6 +161,11 @@ pub record WritesStroke {I : Type 0} (s : Parameters) (stand next : Stand) (q : 
   pub some : 1 ≤ len
   pub len_is : len ≡ width s * length samples
   pub wrote : out ≡ take at out_old ++ (spellings s samples ++ drop (at + len) out_old)
+
+-- What comes of a look for blocks that are known at one stroke: they are written, or nothing has happened.
+abbrev pub TakesStroke : {I : Type 0} → Parameters → Stand → DecoderState → DecoderState → Reader I → Reader I → ℕ → List ℕ → List ℕ → Option Stroke → Type 0
+TakesStroke s stand p q old new at out_old out (Some k) = WritesStroke s stand k.stand q old new k.len at out_old out × (at + k.len ≤ length out_old)
+TakesStroke s stand p q old new at out_old out None = (q ≡ p) × (new ≡ old) × (out ≡ out_old)
 
 -- how decoding pauses where the decoder refuses
 abbrev pub pause_for : CodeFault → Pause

@@ -3,8 +3,8 @@ ghost use Rattle.std.specs.Prelude.{◌≡◌, ◌⊎◌, ◌+◌, ◌-◌, ◌*
 ghost use Rattle.rice_bits.specs.Limits.{step_limit, most_bits_read};
 ghost use Rattle.rice_code.specs.decode.BlocksAhead.{GivesBytes, HasLanes};
 ghost use Rattle.rice_code.specs.decode.Rows.{AreCounted};
-ghost use Rattle.rice_stream.specs.Calls.{Call, Happens, Fails};
-ghost use Rattle.rice_stream.specs.Decodes.{Decodes, DecodesWithin, Reports, wanted_of, ended_fault, refusal_fault};
+ghost use Rattle.rice_stream.specs.Calls.{Fails};
+ghost use Rattle.rice_stream.specs.Decodes.{DecodesBetween, DecodesWithin, Reports, wanted_of, ended_fault, refusal_fault};
 
 use crate::outcome::{Fault, Outcome, Report};
 use crate::patience::Patience;
@@ -87,9 +87,8 @@ pub fn decode<I: Intake, O: Outlet>(
 ) -> (Outcome, I)
     requires reads { I.failed intake + 1 < 2 ^ 64 }
     requires writes { O.failed outlet.old + 1 < 2 ^ 64 }
-    ensures call { (c : Call) ×
-        Happens (I.left intake) (I.left result.1) (O.taken outlet.old) (O.taken outlet.new) c ×
-        Decodes setting.now asked c result.0.report result.0.fault }
+    ensures call { DecodesBetween setting.now asked (I.left intake) (I.left result.1)
+        (O.taken outlet.old) (O.taken outlet.new) result.0.report result.0.fault }
     ensures failures { Fails result.0.fault (I.failed intake) (I.failed result.1)
         (O.failed outlet.old) (O.failed outlet.new) }
     ensures bounds { DecodesWithin asked result.0.report }
@@ -148,9 +147,8 @@ pub fn decode<I: Intake, O: Outlet>(
 fn decode_all<I: Intake, O: Outlet>(setting: &Setting, intake: I, outlet: &mut O) -> (Outcome, I)
     requires reads { I.failed intake + 1 < 2 ^ 64 }
     requires writes { O.failed outlet.old + 1 < 2 ^ 64 }
-    ensures call { (c : Call) ×
-        Happens (I.left intake) (I.left result.1) (O.taken outlet.old) (O.taken outlet.new) c ×
-        Decodes setting.now None c result.0.report result.0.fault }
+    ensures call { DecodesBetween setting.now None (I.left intake) (I.left result.1)
+        (O.taken outlet.old) (O.taken outlet.new) result.0.report result.0.fault }
     ensures failures { Fails result.0.fault (I.failed intake) (I.failed result.1)
         (O.failed outlet.old) (O.failed outlet.new) }
     ensures bounds { DecodesWithin None result.0.report }
@@ -168,9 +166,8 @@ fn decode_counted<I: Intake, O: Outlet>(
 ) -> (Outcome, I)
     requires reads { I.failed intake + 1 < 2 ^ 64 }
     requires writes { O.failed outlet.old + 1 < 2 ^ 64 }
-    ensures call { (c : Call) ×
-        Happens (I.left intake) (I.left result.1) (O.taken outlet.old) (O.taken outlet.new) c ×
-        Decodes setting.now (Some count) c result.0.report result.0.fault }
+    ensures call { DecodesBetween setting.now (Some count) (I.left intake) (I.left result.1)
+        (O.taken outlet.old) (O.taken outlet.new) result.0.report result.0.fault }
     ensures failures { Fails result.0.fault (I.failed intake) (I.failed result.1)
         (O.failed outlet.old) (O.failed outlet.new) }
     ensures bounds { DecodesWithin (Some count) result.0.report }
@@ -203,9 +200,8 @@ fn decode_in_lanes<I: Intake, O: Outlet, const SIZE: usize, const WIDTH: usize>(
     requires lanes { HasLanes setting.now setting.now.block WIDTH }
     requires reads { I.failed intake + 1 < 2 ^ 64 }
     requires writes { O.failed outlet.old + 1 < 2 ^ 64 }
-    ensures call { (c : Call) ×
-        Happens (I.left intake) (I.left result.1) (O.taken outlet.old) (O.taken outlet.new) c ×
-        Decodes setting.now asked c result.0.report result.0.fault }
+    ensures call { DecodesBetween setting.now asked (I.left intake) (I.left result.1)
+        (O.taken outlet.old) (O.taken outlet.new) result.0.report result.0.fault }
     ensures failures { Fails result.0.fault (I.failed intake) (I.failed result.1)
         (O.failed outlet.old) (O.failed outlet.new) }
     ensures bounds { DecodesWithin asked result.0.report }
@@ -258,7 +254,8 @@ pub(crate) fn is_whole(count: usize, block: u32) -> bool
 
 /// Returns whether all of the next block is wanted, and it is in a run that repeats the sample before.
 fn repeats(decoder: &Decoder, whole: bool) -> bool
-    ensures { result ≡ true → (whole ≡ true) × (0 < decoder.now.run) × (decoder.now.setting.preprocess ≡ true) }
+    ensures { result ≡ true → (whole ≡ true) × (0 < decoder.now.run) ×
+        (decoder.now.setting.preprocess ≡ true) }
 {
     whole && decoder.repeats()
 }
@@ -276,9 +273,8 @@ fn decode_blocks<I: Intake, O: Outlet, const SIZE: usize, const WIDTH: usize>(
     requires lanes { 0 < WIDTH → HasLanes setting.now setting.now.block WIDTH }
     requires reads { I.failed intake + 1 < 2 ^ 64 }
     requires writes { O.failed outlet.old + 1 < 2 ^ 64 }
-    ensures call { (c : Call) ×
-        Happens (I.left intake) (I.left result.1) (O.taken outlet.old) (O.taken outlet.new) c ×
-        Decodes setting.now asked c result.0.report result.0.fault }
+    ensures call { DecodesBetween setting.now asked (I.left intake) (I.left result.1)
+        (O.taken outlet.old) (O.taken outlet.new) result.0.report result.0.fault }
     ensures failures { Fails result.0.fault (I.failed intake) (I.failed result.1)
         (O.failed outlet.old) (O.failed outlet.new) }
     ensures bounds { DecodesWithin asked result.0.report }

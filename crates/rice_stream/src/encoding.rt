@@ -7,11 +7,11 @@ ghost use Rattle.rice_bits.specs.device.Outlet.{Room};
 ghost use Rattle.rice_bits.specs.Bits.{padded_bits};
 ghost use Rattle.rice_samples.specs.Limits.{most_input, longest_segment};
 ghost use Rattle.rice_samples.specs.Parameters.{Parameters, values_at, width};
-ghost use Rattle.rice_stream.specs.Calls.{Call, Happens, Fails};
-ghost use Rattle.rice_stream.specs.Encodes.{Encodes, EncodesWithin, ReportsTaken, ReportsAll};
-ghost use Rattle.rice_stream.specs.EncodingState.{Beginning, afresh, whole_part, CanTake, Refills, TakesSamples, CountsSamples, IsEncodingOf, FailsIn, WritesRest, Pushes, PushFails};
+ghost use Rattle.rice_stream.specs.Calls.{Fails};
+ghost use Rattle.rice_stream.specs.Encodes.{EncodesBetween, EncodesWithin, ReportsTaken, ReportsAll};
+ghost use Rattle.rice_stream.specs.EncodingState.{Beginning, afresh, whole_part, CanTake, Refills, TakesSamples, CountsSamples, IsEncodingOf, FailsIn, WritesRest, CanPush, PushesBytes, PushFails};
 ghost use Rattle.rice_samples.specs.Places.{cut};
-ghost use Rattle.rice_stream.specs.Feeding.{IsSeam, StandsAt, behind};
+ghost use Rattle.rice_stream.specs.Feeding.{IsSeam, IsSomeSeam, StandsAt, behind};
 ghost use Rattle.rice_code.specs.code.Code.{code};
 ghost use Rattle.rice_code.specs.encode.Coder.{complete_code};
 ghost use Rattle.rice_code.specs.encode.OpenSegment.{HoldsAnySegment};
@@ -72,7 +72,7 @@ impl<const N: usize> Encoding<N> {
     pub(crate) fn resume(setting: Setting, seam: &Seam) -> Self
         requires size { N ≤ longest_segment }
         requires room { HoldsAnySegment N setting }
-        requires seam { (xs : List ℤ) × IsSeam setting seam.now xs }
+        requires seam { IsSomeSeam setting seam.now }
         ensures { StandsAt setting seam.now result }
     {
         let mut meter = Meter::new();
@@ -88,8 +88,10 @@ impl<const N: usize> Encoding<N> {
 
     /// Puts the bits that wait.
     pub(crate) fn put_bits_of_seam(&mut self, seam: &Seam)
-        requires { (s : Parameters) × (xs : List ℤ) × IsSeam s seam.now xs × StandsAt s seam.now self.old }
-        ensures { (s : Parameters) (now : Option Room) (xs : List ℤ) → StandsAt s seam.now self.old →
+        requires { (s : Parameters) × (xs : List ℤ) × IsSeam s seam.now xs ×
+            StandsAt s seam.now self.old }
+        ensures { (s : Parameters) (now : Option Room) (xs : List ℤ) →
+            StandsAt s seam.now self.old →
             IsSeam s seam.now xs → IsEncodingOf s (behind s xs now) now self.new xs }
     {
         let mut aside = Meter::new();
@@ -149,7 +151,8 @@ impl<const N: usize> Encoding<N> {
         ensures count { IfOk result (λ n. (0 < n) × (n ≤ length levels.now)) }
         ensures ok { IfOk result (λ n. (s : Parameters) (old : Beginning) (xs : List ℤ) →
             IsEncodingOf s old (O.taken outlet.old) self.old xs →
-            IsEncodingOf s old (O.taken outlet.new) self.new (xs ++ take n (values_at s levels.now))) }
+            IsEncodingOf s old (O.taken outlet.new) self.new
+            (xs ++ take n (values_at s levels.now))) }
         ensures calm { OnOk result (O.failed outlet.new ≡ O.failed outlet.old) }
         ensures err { OnErr result ((s : Parameters) (old : Beginning) (xs : List ℤ) →
             IsEncodingOf s old (O.taken outlet.old) self.old xs →
@@ -197,14 +200,11 @@ impl<const N: usize> Encoding<N> {
         levels: &mut [u32],
         outlet: &mut O,
     ) -> Result<(), Fault>
-        requires ready { (old : Beginning) × (xs : List ℤ) ×
-            IsEncodingOf setting.now old (O.taken outlet.old) self.old xs ×
-            (length xs + length bytes.now ≤ most_input) }
+        requires ready { CanPush setting.now (O.taken outlet.old) self.old bytes.now }
         requires room { length bytes.now ≤ width setting.now * length levels.old }
         requires writes { O.failed outlet.old + 1 < 2 ^ 64 }
-        ensures did { (old : Beginning) (xs : List ℤ) →
-            IsEncodingOf setting.now old (O.taken outlet.old) self.old xs →
-            Pushes setting.now old (O.taken outlet.new) self.new xs bytes.now result }
+        ensures did { PushesBytes setting.now (O.taken outlet.old) (O.taken outlet.new)
+            self.old self.new bytes.now result }
         ensures failures { PushFails (O.failed outlet.old) (O.failed outlet.new) result }
         ensures room { length levels.new ≡ length levels.old }
     {
@@ -232,14 +232,11 @@ impl<const N: usize> Encoding<N> {
         levels: &mut [u32],
         outlet: &mut O,
     ) -> Result<(), Fault>
-        requires ready { (old : Beginning) × (xs : List ℤ) ×
-            IsEncodingOf setting.now old (O.taken outlet.old) self.old xs ×
-            (length xs + length bytes.now ≤ most_input) }
+        requires ready { CanPush setting.now (O.taken outlet.old) self.old bytes.now }
         requires some { (0 < length levels.old) × (length levels.old ≤ most_input) }
         requires writes { O.failed outlet.old + 1 < 2 ^ 64 }
-        ensures did { (old : Beginning) (xs : List ℤ) →
-            IsEncodingOf setting.now old (O.taken outlet.old) self.old xs →
-            Pushes setting.now old (O.taken outlet.new) self.new xs bytes.now result }
+        ensures did { PushesBytes setting.now (O.taken outlet.old) (O.taken outlet.new)
+            self.old self.new bytes.now result }
         ensures failures { PushFails (O.failed outlet.old) (O.failed outlet.new) result }
         ensures room { length levels.new ≡ length levels.old }
     {
@@ -336,7 +333,8 @@ fn refill<I: Intake>(
     requires room { waiting + most ≤ length buffer.old }
     requires countable { I.failed intake.old + 1 < 2 ^ 64 }
     ensures count { IfOk result (λ n. n ≤ most) }
-    ensures bytes { IfOk result (λ n. Refills (I.left intake.old) (I.left intake.new) buffer.old buffer.new waiting n) }
+    ensures bytes { IfOk result (λ n.
+        Refills (I.left intake.old) (I.left intake.new) buffer.old buffer.new waiting n) }
     ensures end { IfOk result (λ n. n ≡ 0 → IsAtEnd (I.left intake.new)) }
     ensures err { OnErr result (Keeps (I.left intake.old) (I.left intake.new)) }
     ensures failures { CountsFailure (I.failed intake.old) (I.failed intake.new) result }
@@ -365,10 +363,10 @@ fn carry(buffer: &mut [u8], filled: usize, waiting: usize)
 pub fn encode<I: Intake, O: Outlet>(setting: &Setting, intake: &mut I, outlet: &mut O) -> Outcome
     requires reads { I.failed intake.old + 1 < 2 ^ 64 }
     requires writes { O.failed outlet.old + 1 < 2 ^ 64 }
-    ensures call { (c : Call) ×
-        Happens (I.left intake.old) (I.left intake.new) (O.taken outlet.old) (O.taken outlet.new) c ×
-        Encodes setting.now c result.report result.fault }
-    ensures failures { Fails result.fault (I.failed intake.old) (I.failed intake.new) (O.failed outlet.old) (O.failed outlet.new) }
+    ensures call { EncodesBetween setting.now (I.left intake.old) (I.left intake.new)
+        (O.taken outlet.old) (O.taken outlet.new) result.report result.fault }
+    ensures failures { Fails result.fault (I.failed intake.old) (I.failed intake.new)
+        (O.failed outlet.old) (O.failed outlet.new) }
     ensures bounds { EncodesWithin setting.now result.report }
 {
     if has_short_intervals(setting) {
@@ -398,10 +396,10 @@ fn encode_in_row<const N: usize, I: Intake, O: Outlet>(
     requires room { HoldsAnySegment N setting.now }
     requires reads { I.failed intake.old + 1 < 2 ^ 64 }
     requires writes { O.failed outlet.old + 1 < 2 ^ 64 }
-    ensures call { (c : Call) ×
-        Happens (I.left intake.old) (I.left intake.new) (O.taken outlet.old) (O.taken outlet.new) c ×
-        Encodes setting.now c result.report result.fault }
-    ensures failures { Fails result.fault (I.failed intake.old) (I.failed intake.new) (O.failed outlet.old) (O.failed outlet.new) }
+    ensures call { EncodesBetween setting.now (I.left intake.old) (I.left intake.new)
+        (O.taken outlet.old) (O.taken outlet.new) result.report result.fault }
+    ensures failures { Fails result.fault (I.failed intake.old) (I.failed intake.new)
+        (O.failed outlet.old) (O.failed outlet.new) }
     ensures bounds { EncodesWithin setting.now result.report }
 {
     let width = setting.width() as usize;

@@ -1,12 +1,12 @@
 //! From samples to their code, piece by piece.
-ghost use Rattle.std.specs.Prelude.{◌≡◌, ◌+◌, ◌-◌, ◌*◌, ◌^◌, ◌<◌, ◌≤◌, List, ℤ};
+ghost use Rattle.std.specs.Prelude.{◌≡◌, ◌+◌, ◌-◌, ◌*◌, ◌^◌, ◌<◌, ◌≤◌};
 ghost use Rattle.rice_samples.specs.Limits.{most_input, longest_segment};
 ghost use Rattle.rice_samples.specs.Places.{cut};
 ghost use Rattle.rice_code.specs.encode.OpenSegment.{HoldsAnySegment};
 ghost use Rattle.rice_stream.specs.Calls.{Fails};
 ghost use Rattle.rice_stream.specs.Encodes.{EncodesWithin};
 ghost use Rattle.rice_stream.specs.EncodingState.{PushFails};
-ghost use Rattle.rice_stream.specs.Feeding.{IsSeam, EncodesMore, EncodesRest};
+ghost use Rattle.rice_stream.specs.Feeding.{IsSomeSeam, EncodesOn, EncodesToEnd};
 
 use crate::encoding::{Encoding, LIMIT, LONGEST, SAMPLES, SHORT, has_short_intervals};
 use crate::outcome::{Fault, Outcome};
@@ -24,10 +24,10 @@ pub fn encode_more<O: Outlet>(
     bytes: &[u8],
     outlet: &mut O,
 ) -> Result<Seam, Fault>
-    requires seam { (xs : List ℤ) × IsSeam setting.now seam.now xs }
+    requires seam { IsSomeSeam setting.now seam.now }
     requires writes { O.failed outlet.old + 1 < 2 ^ 64 }
-    ensures did { (xs : List ℤ) → IsSeam setting.now seam.now xs →
-        EncodesMore setting.now xs bytes.now (O.taken outlet.old) (O.taken outlet.new) result }
+    ensures did { EncodesOn setting.now seam.now bytes.now
+        (O.taken outlet.old) (O.taken outlet.new) result }
     ensures failures { PushFails (O.failed outlet.old) (O.failed outlet.new) result }
 {
     if has_short_intervals(setting) {
@@ -46,10 +46,10 @@ fn encode_more_in_row<const N: usize, O: Outlet>(
 ) -> Result<Seam, Fault>
     requires size { N ≤ longest_segment }
     requires room { HoldsAnySegment N setting.now }
-    requires seam { (xs : List ℤ) × IsSeam setting.now seam.now xs }
+    requires seam { IsSomeSeam setting.now seam.now }
     requires writes { O.failed outlet.old + 1 < 2 ^ 64 }
-    ensures did { (xs : List ℤ) → IsSeam setting.now seam.now xs →
-        EncodesMore setting.now xs bytes.now (O.taken outlet.old) (O.taken outlet.new) result }
+    ensures did { EncodesOn setting.now seam.now bytes.now
+        (O.taken outlet.old) (O.taken outlet.new) result }
     ensures failures { PushFails (O.failed outlet.old) (O.failed outlet.new) result }
 {
     let width = setting.width() as usize;
@@ -76,10 +76,10 @@ pub fn encode_rest<O: Outlet>(
     bytes: &[u8],
     outlet: &mut O,
 ) -> Outcome
-    requires seam { (xs : List ℤ) × IsSeam setting.now seam.now xs }
+    requires seam { IsSomeSeam setting.now seam.now }
     requires writes { O.failed outlet.old + 1 < 2 ^ 64 }
-    ensures did { (xs : List ℤ) → IsSeam setting.now seam.now xs →
-        EncodesRest setting.now xs bytes.now (O.taken outlet.old) (O.taken outlet.new) result.report result.fault }
+    ensures did { EncodesToEnd setting.now seam.now bytes.now
+        (O.taken outlet.old) (O.taken outlet.new) result.report result.fault }
     ensures failures { Fails result.fault 0 0 (O.failed outlet.old) (O.failed outlet.new) }
     ensures bounds { EncodesWithin setting.now result.report }
 {
@@ -99,10 +99,10 @@ fn encode_rest_in_row<const N: usize, O: Outlet>(
 ) -> Outcome
     requires size { N ≤ longest_segment }
     requires room { HoldsAnySegment N setting.now }
-    requires seam { (xs : List ℤ) × IsSeam setting.now seam.now xs }
+    requires seam { IsSomeSeam setting.now seam.now }
     requires writes { O.failed outlet.old + 1 < 2 ^ 64 }
-    ensures did { (xs : List ℤ) → IsSeam setting.now seam.now xs →
-        EncodesRest setting.now xs bytes.now (O.taken outlet.old) (O.taken outlet.new) result.report result.fault }
+    ensures did { EncodesToEnd setting.now seam.now bytes.now
+        (O.taken outlet.old) (O.taken outlet.new) result.report result.fault }
     ensures failures { Fails result.fault 0 0 (O.failed outlet.old) (O.failed outlet.new) }
     ensures bounds { EncodesWithin setting.now result.report }
 {

@@ -3,8 +3,8 @@ ghost use Rattle.std.specs.Prelude.{◌≡◌, ◌⊎◌, ◌+◌, ◌-◌, ◌*
 ghost use Rattle.rice_bits.specs.Limits.{step_limit, most_bits_read};
 ghost use Rattle.rice_code.specs.decode.Rows.{AreCounted};
 ghost use Rattle.rice_code.specs.decode.PlainBlocks.{IsPlain, PlainRow};
-ghost use Rattle.rice_stream.specs.Calls.{Call, Happens, Fails};
-ghost use Rattle.rice_stream.specs.Decodes.{Decodes, DecodesWithin, wanted_of};
+ghost use Rattle.rice_stream.specs.Calls.{Fails};
+ghost use Rattle.rice_stream.specs.Decodes.{DecodesBetween, DecodesWithin, wanted_of};
 ghost use Rattle.rice_stream.specs.Rows.{FailsInRow, WritesRow};
 
 use crate::decoding::{end_of, ended, fault_of, is_whole, wanted};
@@ -153,9 +153,8 @@ pub(crate) fn decode_plain<I: Intake, O: Outlet, const WIDTH: usize>(
     requires plain { IsPlain setting.now WIDTH }
     requires reads { I.failed intake + 1 < 2 ^ 64 }
     requires writes { O.failed outlet.old + 1 < 2 ^ 64 }
-    ensures call { (c : Call) ×
-        Happens (I.left intake) (I.left result.1) (O.taken outlet.old) (O.taken outlet.new) c ×
-        Decodes setting.now asked c result.0.report result.0.fault }
+    ensures call { DecodesBetween setting.now asked (I.left intake) (I.left result.1)
+        (O.taken outlet.old) (O.taken outlet.new) result.0.report result.0.fault }
     ensures failures { Fails result.0.fault (I.failed intake) (I.failed result.1)
         (O.failed outlet.old) (O.failed outlet.new) }
     ensures bounds { DecodesWithin asked result.0.report }

@@ -1,5 +1,5 @@
 //! Decodes a code piece by piece, for a caller that has not all of it, or no room for all samples. Nothing but a `Stand` is kept.
-ghost use Rattle.std.specs.Prelude.{◌≡◌, ◌≢◌, ◌+◌, ◌-◌, ◌*◌, ◌%◌, ◌<◌, ◌≤◌, ◌++◌, Bool, true, false, List, All, IsSome, IfOk, IfSome, None, Some, drop, take, length, ℤ};
+ghost use Rattle.std.specs.Prelude.{◌≡◌, ◌≢◌, ◌+◌, ◌-◌, ◌*◌, ◌<◌, ◌≤◌, ◌++◌, Bool, true, false, List, All, IsSome, IfOk, IfSome, None, Some, drop, take, length, ℤ};
 ghost use Rattle.rice_bits.specs.Limits.{most_bits_read};
 ghost use Rattle.rice_bits.specs.Bits.{bits_of};
 ghost use Rattle.rice_bits.specs.read.Reader.{new_reader};
@@ -8,7 +8,7 @@ ghost use Rattle.rice_samples.specs.bytes.Spelling.{spellings};
 ghost use Rattle.rice_code.specs.declared.decode.answer.CodeFault.TheVariants as faults;
 ghost use Rattle.rice_code.specs.decode.BlocksAhead.{HasLanes};
 ghost use Rattle.rice_code.specs.decode.PlainBlocks.{IsPlain};
-ghost use Rattle.rice_stream.specs.Pulling.{Origin, IsStand, DecodesMore, GoesOnAt, IsReadFrom, TakesNext, ahead, pause_for, state_of};
+ghost use Rattle.rice_stream.specs.Pulling.{Origin, IsStand, IsSomeStand, DecodesOn, GoesOnAt, HasComeTo, TakesNext, ahead, pause_for};
 
 use crate::decoding::has_lanes;
 use crate::patience::Patience;
@@ -34,11 +34,8 @@ pub fn decode_more(
     piece: &[u8],
     samples: &mut [u8],
 ) -> (Stand, Pause)
-    requires { (o : Origin) × (front : List Bool) × (given : List ℤ) ×
-        IsStand setting.now o stand.now front given }
-    ensures { (o : Origin) (front : List Bool) (given : List ℤ) →
-        IsStand setting.now o stand.now front given →
-        DecodesMore setting.now o front given piece.now stand.now samples.old samples.new result.0 result.1 }
+    requires { IsSomeStand setting.now stand.now }
+    ensures { DecodesOn setting.now stand.now piece.now samples.old samples.new result.0 result.1 }
 {
     if is_too_long(stand.bits, piece.len()) {
         return (*stand, Pause::TooLong);
@@ -99,11 +96,8 @@ fn decode_piece<const SIZE: usize, const WIDTH: usize, const PLAIN: bool>(
     requires lanes { PLAIN ≡ false → 0 < WIDTH → HasLanes setting.now setting.now.block WIDTH }
     requires plain { PLAIN ≡ true → IsPlain setting.now WIDTH }
     requires fits { stand.now.bits + 8 * length piece.now ≤ most_bits_read }
-    requires stand { (o : Origin) × (front : List Bool) × (given : List ℤ) ×
-        IsStand setting.now o stand.now front given }
-    ensures { (o : Origin) (front : List Bool) (given : List ℤ) →
-        IsStand setting.now o stand.now front given →
-        DecodesMore setting.now o front given piece.now stand.now samples.old samples.new result.0 result.1 }
+    requires stand { IsSomeStand setting.now stand.now }
+    ensures { DecodesOn setting.now stand.now piece.now samples.old samples.new result.0 result.1 }
 {
     let own = *setting;
     let size = own.width() as usize * own.block() as usize;
@@ -205,17 +199,15 @@ fn next_stand(
     reader: &mut BitReader<SliceIn<'_>>,
     levels: &mut ArrayVec<u32, 64>,
 ) -> Result<Option<Stand>, CodeFault>
-    requires stand { (o : Origin) × (front : List Bool) × (given : List ℤ) ×
-        IsStand setting.now o stand.now front given }
-    requires state { decoder.old ≡ state_of setting.now stand.now }
-    requires reads { IsReadFrom stand.now reader.old }
-    requires aligned { stand.now.run ≡ 0 → reader.old.taken % 8 ≡ stand.now.bits % 8 }
+    requires come { HasComeTo setting.now stand.now decoder.old reader.old }
     ensures legal { All (λ l. l < value_count setting.now) levels.new.items }
     ensures goes_on { IfOk result (λ next. IfSome next (λ next.
-        GoesOnAt setting.now stand.now next decoder.new reader.old reader.new × (length levels.new.items ≡ setting.now.block))) }
+        GoesOnAt setting.now stand.now next decoder.new reader.old reader.new ×
+        (length levels.new.items ≡ setting.now.block))) }
     ensures takes { (o : Origin) (front : List Bool) (given : List ℤ) →
         IsStand setting.now o stand.now front given →
-        TakesNext setting.now o front given stand.now reader.old reader.new (values_at setting.now levels.new.items) result }
+        TakesNext setting.now o front given stand.now reader.old reader.new
+        (values_at setting.now levels.new.items) result }
 {
     let size = setting.block() as u64;
     let before = reader.taken();

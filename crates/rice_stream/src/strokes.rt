@@ -1,11 +1,11 @@
 //! Blocks of a piece whose bytes are known at one stroke, for a caller that keeps a `Stand`.
-ghost use Rattle.std.specs.Prelude.{◌≡◌, ◌+◌, ◌-◌, ◌*◌, ◌%◌, ◌^◌, ◌<◌, ◌≤◌, Bool, true, false, List, ◌++◌, IfSome, IfNone, drop, length, replicate, take, ℤ};
+ghost use Rattle.std.specs.Prelude.{◌≡◌, ◌+◌, ◌-◌, ◌*◌, ◌^◌, ◌<◌, ◌≤◌, true, false, ◌++◌, drop, length, replicate, take};
 ghost use Rattle.rice_samples.specs.Parameters.{IsSample, width as width_of};
 ghost use Rattle.rice_samples.specs.bytes.Spelling.{spellings};
 ghost use Rattle.rice_code.specs.decode.BlocksAhead.{HasLanes};
 ghost use Rattle.rice_code.specs.decode.DecoderState.{IsDecoderState};
 ghost use Rattle.rice_code.specs.decode.PlainBlocks.{IsPlain};
-ghost use Rattle.rice_stream.specs.Pulling.{Origin, IsStand, IsReadFrom, WritesStroke, stand_at, state_of};
+ghost use Rattle.rice_stream.specs.Pulling.{HasComeTo, TakesStroke, WritesStroke, stand_at};
 
 use crate::patience::Patience;
 use crate::plain::row_ahead;
@@ -65,7 +65,8 @@ pub(crate) fn stand_behind(
     ensures numbers { result ≡ stand_at (stand.now.samples + samples)
         (stand.now.bits + (reader.now.taken - before)) (meter.now + samples) decoder.now }
     // What is known of each decoder.
-    ensures state { IsDecoderState decoder.now.setting decoder.now.block decoder.now.before decoder.now.run decoder.now.stopped }
+    ensures state { IsDecoderState decoder.now.setting decoder.now.block decoder.now.before
+        decoder.now.run decoder.now.stopped }
 {
     Stand {
         samples: stand.samples + samples,
@@ -87,15 +88,12 @@ fn next_of_run(
     at: usize,
     samples: &mut [u8],
 ) -> Stroke
-    requires stand { (o : Origin) × (front : List Bool) × (given : List ℤ) ×
-        IsStand setting.now o stand.now front given }
-    requires state { decoder.old ≡ state_of setting.now stand.now }
-    requires reads { IsReadFrom stand.now reader.now }
+    requires come { HasComeTo setting.now stand.now decoder.old reader.now }
     requires run { 0 < decoder.old.run }
     requires preprocess { decoder.old.setting.preprocess ≡ true }
     requires room { at + width_of setting.now * setting.now.block ≤ length samples.old }
-    ensures gives { WritesStroke setting.now stand.now result.stand decoder.new reader.now reader.now
-        result.len at samples.old samples.new }
+    ensures gives { WritesStroke setting.now stand.now result.stand decoder.new
+        reader.now reader.now result.len at samples.old samples.new }
     ensures room { at + result.len ≤ length samples.old }
     ensures len { length samples.new ≡ length samples.old }
 {
@@ -128,18 +126,11 @@ fn next_in_lanes<const SIZE: usize, const WIDTH: usize>(
 ) -> Option<Stroke>
     requires size { 0 < SIZE → SIZE ≡ setting.now.block }
     requires lanes { HasLanes setting.now setting.now.block WIDTH }
-    requires stand { (o : Origin) × (front : List Bool) × (given : List ℤ) ×
-        IsStand setting.now o stand.now front given }
-    requires state { decoder.old ≡ state_of setting.now stand.now }
-    requires reads { IsReadFrom stand.now reader.old }
-    requires aligned { stand.now.run ≡ 0 → reader.old.taken % 8 ≡ stand.now.bits % 8 }
+    requires come { HasComeTo setting.now stand.now decoder.old reader.old }
     requires room { at + width_of setting.now * setting.now.block ≤ length samples.old }
-    ensures gives { IfSome result (λ k. WritesStroke setting.now stand.now k.stand decoder.new
-        reader.old reader.new k.len at samples.old samples.new) }
-    ensures room { IfSome result (λ k. at + k.len ≤ length samples.old) }
+    ensures did { TakesStroke setting.now stand.now decoder.old decoder.new reader.old reader.new
+        at samples.old samples.new result }
     ensures len { length samples.new ≡ length samples.old }
-    ensures none { IfNone result ((decoder.new ≡ decoder.old) × (reader.new ≡ reader.old) ×
-        (samples.new ≡ samples.old)) }
 {
     let before = reader.taken();
     let mut meter = Meter::new();
@@ -168,18 +159,11 @@ fn next_row<const WIDTH: usize>(
 ) -> Option<Stroke>
     requires plain { IsPlain setting.now WIDTH }
     requires few { (most ≤ 480) × (WIDTH * setting.now.block * most ≤ 480) }
-    requires stand { (o : Origin) × (front : List Bool) × (given : List ℤ) ×
-        IsStand setting.now o stand.now front given }
-    requires state { decoder.old ≡ state_of setting.now stand.now }
-    requires reads { IsReadFrom stand.now reader.old }
-    requires aligned { stand.now.run ≡ 0 → reader.old.taken % 8 ≡ stand.now.bits % 8 }
+    requires come { HasComeTo setting.now stand.now decoder.old reader.old }
     requires room { at + width_of setting.now * setting.now.block ≤ length samples.old }
-    ensures gives { IfSome result (λ k. WritesStroke setting.now stand.now k.stand decoder.new
-        reader.old reader.new k.len at samples.old samples.new) }
-    ensures room { IfSome result (λ k. at + k.len ≤ length samples.old) }
+    ensures did { TakesStroke setting.now stand.now decoder.old decoder.new reader.old reader.new
+        at samples.old samples.new result }
     ensures len { length samples.new ≡ length samples.old }
-    ensures none { IfNone result ((decoder.new ≡ decoder.old) × (reader.new ≡ reader.old) ×
-        (samples.new ≡ samples.old)) }
 {
     let fit = ((samples.len() - at) / WIDTH) as u64;
     let blocks = row_ahead::<SliceIn<'_>, WIDTH>(
@@ -225,18 +209,11 @@ pub(crate) fn next_stroke<const SIZE: usize, const WIDTH: usize, const PLAIN: bo
     requires lanes { PLAIN ≡ false → 0 < WIDTH → HasLanes setting.now setting.now.block WIDTH }
     requires plain { PLAIN ≡ true → IsPlain setting.now WIDTH }
     requires few { PLAIN ≡ true → (most ≤ 480) × (WIDTH * setting.now.block * most ≤ 480) }
-    requires stand { (o : Origin) × (front : List Bool) × (given : List ℤ) ×
-        IsStand setting.now o stand.now front given }
-    requires state { decoder.old ≡ state_of setting.now stand.now }
-    requires reads { IsReadFrom stand.now reader.old }
-    requires aligned { stand.now.run ≡ 0 → reader.old.taken % 8 ≡ stand.now.bits % 8 }
+    requires come { HasComeTo setting.now stand.now decoder.old reader.old }
     requires room { at + width_of setting.now * setting.now.block ≤ length samples.old }
-    ensures gives { IfSome result (λ k. WritesStroke setting.now stand.now k.stand decoder.new
-        reader.old reader.new k.len at samples.old samples.new) }
-    ensures room { IfSome result (λ k. at + k.len ≤ length samples.old) }
+    ensures did { TakesStroke setting.now stand.now decoder.old decoder.new reader.old reader.new
+        at samples.old samples.new result }
     ensures len { length samples.new ≡ length samples.old }
-    ensures none { IfNone result ((decoder.new ≡ decoder.old) × (reader.new ≡ reader.old) ×
-        (samples.new ≡ samples.old)) }
 {
     if decoder.repeats() {
         return Some(next_of_run(setting, stand, decoder, reader, at, samples));

@@ -32,8 +32,8 @@ use Rattle.rice_code.specs.code.Forms.{IsForm, RunIsSound, ResidualsAreSound}
 use Rattle.rice_code.specs.decode.ReadSets.{SetCut}
 use Rattle.rice_code.specs.declared.decode.answer.CodeFault.{CodeFault}
 use Rattle.rice_code.specs.declared.decode.answer.CodeFault.TheVariants as faults
-use Rattle.rice_stream.specs.Calls.{Call, Happens, Fails, StopsBetween}
-use Rattle.rice_stream.specs.Decodes.{CountsSteps, Decodes, EndsInTurns, Reports, EndsDecoding, DecodesBytes, RunsOut, at_most, wanted_of, ended_fault, refusal_fault}
+use Rattle.rice_stream.specs.Calls.{Call, Fails, StopsBetween}
+use Rattle.rice_stream.specs.Decodes.{CountsSteps, DecodesBetween, EndsInTurns, Reports, EndsDecoding, DecodesBytes, RunsOut, at_most, wanted_of, ended_fault, refusal_fault}
 use Rattle.rice_stream.specs.DecodingState.{DecodedSoFar, Gains, DecodingProgress, HasRead, HasSets}
 use Rattle.rice_stream.specs.Writes.{TakesPart}
 use Rattle.rice_stream.specs.declared.outcome.Report.{Report}
@@ -184,10 +184,6 @@ progress_with_block {s = s} {asked = asked} {start = start} {out_old = out_old} 
         → cut_to s asked 0 (runs.given ++ xs) ≡ cut_to s asked 0 runs.given ++ cut_to s asked runs.blocks xs → written + w ≡ length (cut_to s asked 0 (runs.given ++ xs))
     so_many w le part cut = omega (arith, runs.has_written.count, ap length cut, length-append (cut_to s asked 0 runs.given) (cut_to s asked runs.blocks xs), part, length-take-le w xs le)
 
--- the call and what it says
-abbrev pub Ends : Parameters → Option ℕ → Option (List ℕ) → Option (List ℕ) → Option Room → Option Room → Report → Option Fault → Type 0
-Ends s asked left_old left_new out_old out r fault = (c : Call) × Happens left_old left_new out_old out c × Decodes s asked c r fault
-
 -- What is known of a call where it ends, whatever its fault: what the intake gave, the samples, the numbers and the steps.
 record Exits (s : Parameters) (asked : Option ℕ) (start left : Option (List ℕ)) (out_old out : Option Room) (rep : Report) (bytes written : List ℕ) (ending : Ending) : Type 0 where
   pub gave : Consumes start left bytes
@@ -199,11 +195,11 @@ record Exits (s : Parameters) (asked : Option ℕ) (start left : Option (List �
 call_ends_so : {s : Parameters} {asked : Option ℕ} {start left : Option (List ℕ)} {out_old out : Option Room} {rep : Report} {f : Option Fault}
     {bytes written : List ℕ} (left_new : Option (List ℕ)) (ys : List ℤ) (ending : Ending) (fault : Option Fault)
     → Exits s asked start left out_old out rep bytes written ending → left_new ≡ left → f ≡ fault → (fault ≢ Some TooLong → length bytes ≤ 2 ^ 49)
-    → EndsDecoding s asked fault (record { given = bytes; left = left; written = written }) rep ys ending → Ends s asked start left_new out_old out rep f
+    → EndsDecoding s asked fault (record { given = bytes; left = left; written = written }) rep ys ending → DecodesBetween s asked start left_new out_old out rep f
 call_ends_so {s = s} {asked = asked} {start = start} {left = left} {out_old = out_old} {out = out} {rep = rep} {f = f} {bytes = bytes} {written = written}
     left_new ys ending fault e there is limit ends =
-    subst (λ (l : Option (List ℕ)). Ends s asked start l out_old out rep f) (sym there)
-    (subst (λ (f : Option Fault). Ends s asked start left out_old out rep f) (sym is) (
+    subst (λ (l : Option (List ℕ)). DecodesBetween s asked start l out_old out rep f) (sym there)
+    (subst (λ (f : Option Fault). DecodesBetween s asked start left out_old out rep f) (sym is) (
       record { given = bytes; left = left; written = written },
       record { gave = e.gave; left = refl; took = e.took },
       record { samples = ys; ending = ending; ends = ends; ahead = e.ahead; limit = limit; steps = e.steps },
@@ -273,7 +269,7 @@ last_steps {s = s} {sets = sets} {front = front} last waiting bytes ending in_la
 pub reached_ends : {I : Type 0} {s : Parameters} {asked : Option ℕ} {start : Reader I} {out_old out : Option Room} {p : DecoderState} {r : Reader I}
     {steps written : ℕ} {rep : Report} {f : Option Fault} {left : Option (List ℕ)} {failed : ℕ} → IsLegal s
     → (runs : DecodingProgress s asked start out_old out p r steps written) → wanted_of asked written s.block ≡ 0
-    → Reports rep f left failed r written steps None → Ends s asked start.left left out_old out rep f
+    → Reports rep f left failed r written steps None → DecodesBetween s asked start.left left out_old out rep f
 reached_ends {s = s} {asked = None} legal runs none tells = absurd (let j : 2 ≤ s.block = grind (arith, legal.block) in omega arith)
 reached_ends {s = s} {asked = Some n} {p = p} {r = r} {rep = rep} {left = left} legal runs none tells =
     let j : 2 ≤ s.block = grind (arith, legal.block) in
@@ -389,7 +385,7 @@ runs_dry {s = s} {asked = asked} {p = p} {r = r} {new = new} {steps = steps} {st
 pub ended_ends : {I : Type 0} {s : Parameters} {asked : Option ℕ} {start : Reader I} {out_old out : Option Room} {p : DecoderState} {r new : Reader I}
     {steps steps_new written : ℕ} {rep : Report} {f : Option Fault} {left : Option (List ℕ)} {failed : ℕ} (blank : Bool)
     → (runs : DecodingProgress s asked start out_old out p r steps written) → wanted_of asked written s.block ≢ 0 → p.run ≡ 0 → SetEnds (with_mark r) new steps steps_new s runs.blocks blank
-    → AreCounted steps steps_new r.taken new.taken → Reports rep f left failed new written steps_new (fault_at_end asked blank written) → Ends s asked start.left left out_old out rep f
+    → AreCounted steps steps_new r.taken new.taken → Reports rep f left failed new written steps_new (fault_at_end asked blank written) → DecodesBetween s asked start.left left out_old out rep f
 unfolding ending_of
 ended_ends {s = s} {asked = asked} {start = start} {new = new} {written = written} {rep = rep} {left = left} blank runs some none ends counted tells =
     let stops = ends.cut.stops in
@@ -415,7 +411,7 @@ ended_ends {s = s} {asked = asked} {start = start} {new = new} {written = writte
 read_ends : {I : Type 0} {s : Parameters} {asked : Option ℕ} {start : Reader I} {out_old out : Option Room} {p : DecoderState} {r new : Reader I}
     {steps steps_new written : ℕ} {rep : Report} {f : Option Fault} {left : Option (List ℕ)} {failed : ℕ}
     → (runs : DecodingProgress s asked start out_old out p r steps written) → wanted_of asked written s.block ≢ 0 → p.run ≡ 0 → SetCut (with_mark r) new steps steps_new s runs.blocks bit_faults.Read
-    → AreCounted steps steps_new r.taken new.taken → Reports rep f left failed new written steps_new (Some Read) → Ends s asked start.left left out_old out rep f
+    → AreCounted steps steps_new r.taken new.taken → Reports rep f left failed new written steps_new (Some Read) → DecodesBetween s asked start.left left out_old out rep f
 read_ends {s = s} {asked = asked} {start = start} {new = new} {rep = rep} {left = left} runs some none cut counted tells =
     let blank = is_blank cut.bits in
     let dry = runs_dry blank runs some none cut refl counted tells in
@@ -434,7 +430,7 @@ long_ends : {I : Type 0} {s : Parameters} {asked : Option ℕ} {start : Reader I
     {steps steps_new written : ℕ} {rep : Report} {f : Option Fault} {left : Option (List ℕ)} {failed : ℕ}
     → (runs : DecodingProgress s asked start out_old out p r steps written) → wanted_of asked written s.block ≢ 0 → p.run ≡ 0
     → SetCut (with_mark r) new steps steps_new s runs.blocks bit_faults.TooLong
-    → AreCounted steps steps_new r.taken new.taken → Reports rep f left failed new written steps_new (Some TooLong) → Ends s asked start.left left out_old out rep f
+    → AreCounted steps steps_new r.taken new.taken → Reports rep f left failed new written steps_new (Some TooLong) → DecodesBetween s asked start.left left out_old out rep f
 long_ends {s = s} {asked = asked} {start = start} {new = new} {rep = rep} {left = left} runs some none cut counted tells =
     let blank = is_blank cut.bits in
     let dry = runs_dry blank runs some none cut refl counted tells in
@@ -459,7 +455,7 @@ refused_ends : {I : Type 0} {s : Parameters} {asked : Option ℕ} {start : Reade
     → ((last : List Bool) (count : ℕ) (unsound : BeginsUnsound s runs.blocks last (length last) P) → count ≡ turns unsound.refused → EndsInTurns s runs.blocks last ending count)
     → AreCounted steps steps_new r.taken new.taken → Reports rep f left failed new written steps_new fault
     → ((c : Call) (ys : List ℤ) → DecodesBytes s asked c rep c.given ys ending → length ys ≡ s.block * (written / s.block)
-    → EndsDecoding s asked fault c rep ys ending) → Ends s asked start.left left out_old out rep f
+    → EndsDecoding s asked fault c rep ys ending) → DecodesBetween s asked start.left left out_old out rep f
 refused_ends {s = s} {asked = asked} {start = start} {p = p} {r = r} {new = new} {steps = steps} {steps_new = steps_new} {written = written} {rep = rep}
     {left = left} P ending fault other legal runs some none refused by_rule by_turns counted tells ends =
     let b = runs.blocks in
@@ -502,7 +498,7 @@ pub write_ends : {I : Type 0} {s : Parameters} {asked : Option ℕ} {start : Rea
     {steps steps_new written : ℕ} {xs : List ℤ} {rep : Report} {f : Option Fault} {left : Option (List ℕ)} {failed : ℕ} (count : ℕ) (q : DecoderState) → IsLegal s
     → (runs : DecodingProgress s asked start out_old out p r steps written) → count ≡ wanted_of asked written s.block → wanted_of asked written s.block ≢ 0
     → Gains s r new steps steps_new runs.front runs.sets runs.blocks q.run runs.given xs → TakesPart out out_new (spellings s (take count xs))
-    → Reports rep f left failed new written steps_new (Some Write) → Ends s asked start.left left out_old out_new rep f
+    → Reports rep f left failed new written steps_new (Some Write) → DecodesBetween s asked start.left left out_old out_new rep f
 write_ends {s = s} {asked = asked} {out_old = out_old} {out = out} {out_new = out_new} {r = r} {new = new} {written = written} {xs = xs} {rep = rep}
     {left = left} count q legal runs is some gives part tells =
     let b = runs.blocks in
@@ -572,7 +568,7 @@ write_ends {s = s} {asked = asked} {out_old = out_old} {out = out} {out_new = ou
 pub refusal_ends : {I : Type 0} {s : Parameters} {asked : Option ℕ} {start : Reader I} {out_old out : Option Room} {p : DecoderState} {r new : Reader I}
     {steps steps_new written : ℕ} {rep : Report} {f : Option Fault} {left : Option (List ℕ)} {failed : ℕ} (fault : CodeFault) → IsLegal s
     → (runs : DecodingProgress s asked start out_old out p r steps written) → wanted_of asked written s.block ≢ 0 → (p.run ≡ 0) × StopsBy (with_mark r) new steps steps_new s runs.blocks (Err fault)
-    → AreCounted steps steps_new r.taken new.taken → Reports rep f left failed new written steps_new (Some (refusal_fault fault written s.block)) → Ends s asked start.left left out_old out rep f
+    → AreCounted steps steps_new r.taken new.taken → Reports rep f left failed new written steps_new (Some (refusal_fault fault written s.block)) → DecodesBetween s asked start.left left out_old out rep f
 refusal_ends faults.CodeEnds legal runs some stops counted tells = ended_ends false runs some stops.0 stops.1 counted tells
 refusal_ends {s = s} faults.RunPastSegment legal runs some stops counted tells =
     refused_ends (RunIsSound s runs.blocks) Past _ (λ e. cc) legal runs some stops.0 stops.1 (λ asked rest used goes h. (goes, h)) (λ last count h e. (h, e)) counted tells (λ c ys d n. (d, refl, n))

@@ -10,9 +10,9 @@ use Rattle.std.proofs.lemmas.List.Elements.{All-append}
 use Rattle.rice_bits.specs.device.Outlet.{Room}
 use Rattle.rice_samples.specs.Parameters.{Parameters, IsSample, width}
 use Rattle.rice_samples.specs.bytes.Spelling.{Spells, spellings, AtEnd, NoSpelling, TooFew}
-use Rattle.rice_stream.specs.Calls.{Call, Happens, Fails, PassesLimit, StopsBetween}
+use Rattle.rice_stream.specs.Calls.{Call, Fails, PassesLimit, StopsBetween}
 use Rattle.rice_stream.specs.EncodingState.{Beginning, afresh, CountsSamples, WritesRest, Reads, EncodingProgress, TakesAll, MeetsNoSpelling, MeetsFailure, Pushes, PushFails, Refills}
-use Rattle.rice_stream.specs.Encodes.{Encodes, EndsEncoding, EncodesWithin, ReportsTaken, ReportsAll, LeavesEarly, SpellsSoFar}
+use Rattle.rice_stream.specs.Encodes.{Encodes, EncodesBetween, EndsEncoding, EncodesWithin, ReportsTaken, ReportsAll, LeavesEarly, SpellsSoFar}
 use Rattle.rice_code.specs.code.Code.{code_bits, output, early_output, complete_samples}
 use Rattle.rice_stream.specs.declared.encoding.Encoding.{Encoding}
 use Rattle.rice_stream.specs.declared.outcome.Report.{Report}
@@ -69,7 +69,7 @@ given_ahead s bytes rest xs samples split few e =
 pub read_ends : {N : ℕ} (s : Parameters) (left_old left mid : Option (List ℕ)) (taken_old taken : Option Room) (e : Encoding N) (given waiting : ℕ)
     (buffer : List ℕ) (r : Report) (f : Option Fault) → EncodingProgress s left_old mid taken_old taken e given waiting buffer →
     Keeps mid left → ((xs : List ℤ) → CountsSamples s e xs → ReportsTaken s r xs) → length (take waiting buffer) < width s → width s ≤ 4 → f ≡ Some Read →
-    (c : Call) × Happens left_old left taken_old taken c × Encodes s c r f
+    EncodesBetween s left_old left taken_old taken r f
 read_ends s left_old left mid taken_old taken e given waiting buffer r f runs keeps told few narrow is =
     let xs = runs.samples in
     let c : Call = record { given = runs.bytes; left = left; written = early_output s xs } in
@@ -90,7 +90,7 @@ pub cut_ends : {N : ℕ} (s : Parameters) (left_old left mid : Option (List ℕ)
     (buffer : List ℕ) (r : Report) (f : Option Fault) → EncodingProgress s left_old mid taken_old taken e given waiting buffer →
     Consumes mid left [] → IsAtEnd left → ((xs : List ℤ) → CountsSamples s e xs → ReportsTaken s r xs) → length (take waiting buffer) < width s → width s ≤ 4
     → take waiting buffer ≢ [] → f ≡ Some (SampleCut e.samples) →
-    (c : Call) × Happens left_old left taken_old taken c × Encodes s c r f
+    EncodesBetween s left_old left taken_old taken r f
 cut_ends s left_old left mid taken_old taken e given waiting buffer r f runs gave end told few narrow some is =
     let xs = runs.samples in
     let c : Call = record { given = runs.bytes; left = left; written = early_output s xs } in
@@ -113,7 +113,7 @@ pub long_ends : {N : ℕ} (s : Parameters) (left_old left mid : Option (List ℕ
     (buffer : List ℕ) (r : Report) (f : Option Fault) (more : List ℕ) → EncodingProgress s left_old mid taken_old taken e given waiting buffer →
     Consumes mid left more → length more ≡ 1 → 281474976710656 ≤ given → ((xs : List ℤ) → CountsSamples s e xs → ReportsTaken s r xs)
     → length (take waiting buffer) < width s → width s ≤ 4 → f ≡ Some TooLong →
-    (c : Call) × Happens left_old left taken_old taken c × Encodes s c r f
+    EncodesBetween s left_old left taken_old taken r f
 long_ends s left_old left mid taken_old taken e given waiting buffer r f more runs gave one full told few narrow is =
     let xs = runs.samples in
     let c : Call = record { given = runs.bytes ++ more; left = left; written = early_output s xs } in
@@ -142,7 +142,7 @@ long_ends s left_old left mid taken_old taken e given waiting buffer r f more ru
 pub finish_ends : {N : ℕ} (s : Parameters) (left_old left mid : Option (List ℕ)) (taken_old taken new : Option Room) (e : Encoding N) (given waiting : ℕ)
     (buffer : List ℕ) (r : Report) (f : Option Fault) → (runs : EncodingProgress s left_old mid taken_old taken e given waiting buffer) →
     Consumes mid left [] → IsAtEnd left → 1 ≤ width s → take waiting buffer ≡ [] → ReportsAll s r runs.samples → WritesRest s (afresh taken_old) new runs.samples f →
-    (c : Call) × Happens left_old left taken_old new c × Encodes s c r f
+    EncodesBetween s left_old left taken_old new r f
 finish_ends s left_old left mid taken_old taken new e given waiting buffer r f runs gave end some none closes finishes = by_fault f finishes
   where
     xs : List ℤ
@@ -163,7 +163,7 @@ finish_ends s left_old left mid taken_old taken new e given waiting buffer r f r
     no_more : length runs.bytes ≤ r.samples * width s + 4096
     no_more = given_ahead s runs.bytes (take waiting buffer) xs r.samples runs.reads.split (omega (arith, ap length none)) closes.samples
 
-    by_fault : (f : Option Fault) → WritesRest s (afresh taken_old) new xs f → (c : Call) × Happens left_old left taken_old new c × Encodes s c r f
+    by_fault : (f : Option Fault) → WritesRest s (afresh taken_old) new xs f → EncodesBetween s left_old left taken_old new r f
     by_fault None took = (
       record { given = runs.bytes; left = left; written = output s xs },
       record { gave = all; left = refl; took = Follows-all taken_old new _ took },
@@ -197,13 +197,13 @@ pub push_ends : {N : ℕ} (s : Parameters) (left_old left : Option (List ℕ)) (
     (g : Option Fault) (xs : List ℤ) (given bytes : List ℕ) → given ≡ spellings s xs ++ bytes → All (IsSample s) xs →
     Consumes left_old left given → length given ≤ 281474976710656 → length bytes ≤ 4096 → 1 ≤ width s
     → ((ys : List ℤ) → CountsSamples s e ys → ReportsTaken s r ys) → g ≡ Some f → Pushes {T = Unit {0}} s (afresh taken_old) taken e xs bytes (Err f) →
-    (c : Call) × Happens left_old left taken_old taken c × Encodes s c r g
+    EncodesBetween s left_old left taken_old taken r g
 push_ends s left_old left taken_old taken e r f g xs given bytes split legal gave limit few some told is pushes =
     let result = by_fault f pushes in
-    subst (λ (g : Option Fault). (c : Call) × Happens left_old left taken_old taken c × Encodes s c r g) (sym is) result
+    subst (λ (g : Option Fault). EncodesBetween s left_old left taken_old taken r g) (sym is) result
   where
     Ends : Fault → Type 0
-    Ends f = (c : Call) × Happens left_old left taken_old taken c × Encodes s c r (Some f)
+    Ends f = EncodesBetween s left_old left taken_old taken r (Some f)
 
     joined : (more : List ℤ) (rest : List ℕ) → bytes ≡ spellings s more ++ rest → given ≡ spellings s (xs ++ more) ++ rest
     joined more rest e =

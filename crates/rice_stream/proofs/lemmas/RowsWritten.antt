@@ -14,14 +14,14 @@ use Rattle.rice_code.specs.decode.DecoderState.{DecoderState}
 use Rattle.rice_code.specs.decode.Rows.{AreCounted}
 use Rattle.rice_code.specs.decode.PlainBlocks.{GivesRow}
 use Rattle.rice_stream.specs.Calls.{Fails}
-use Rattle.rice_stream.specs.Decodes.{DecodesWithin, Reports, wanted_of}
+use Rattle.rice_stream.specs.Decodes.{DecodesBetween, DecodesWithin, Reports, wanted_of}
 use Rattle.rice_stream.specs.DecodingState.{DecodingProgress}
 use Rattle.rice_stream.specs.Rows.{FailsInRow, WritesRow, row_bytes}
 use Rattle.rice_stream.specs.Writes.{TakesPart}
 use Rattle.rice_stream.specs.declared.outcome.Fault.{Fault}
 use Rattle.rice_stream.specs.declared.outcome.Fault.TheVariants.{Write}
 use Rattle.rice_stream.specs.declared.outcome.Report.{Report}
-use Rattle.rice_stream.proofs.lemmas.DecodingEnds.{Ends, progress_with_block, write_ends}
+use Rattle.rice_stream.proofs.lemmas.DecodingEnds.{progress_with_block, write_ends}
 use Rattle.rice_stream.proofs.lemmas.DecodingLemmas.{gains_block, moves_of, samples_of_block}
 use Rattle.rice_stream.proofs.lemmas.RunsWritten.{Appends-split, all_wanted, more_wanted, part_of, progress_put}
 use Rattle.rice_stream.proofs.lemmas.SpelledBlocks.{advances_spelled, spelled_front}
@@ -120,7 +120,7 @@ pub fails_in_row : {I : Type 0} {s : Parameters} {asked : Option ℕ} {start : R
     (p q : DecoderState) (bytes : List ℕ) (written : ℕ) → IsLegal s
     → DecodingProgress s asked start out_old out p r (steps + more) written → p.run ≡ 0 → GivesRow (suc n) r new steps last p q bytes → IfSome asked (λ k. written + s.block * suc n ≤ k)
     → Appends out room (take (row_bytes s n) bytes) → TakesPart room out_new (take (row_bytes s 1) (drop (row_bytes s n) bytes))
-    → Reports rep f left failed new (written + s.block * n) (last + (more + s.block * n)) (Some Write) → Ends s asked start.left left out_old out_new rep f
+    → Reports rep f left failed new (written + s.block * n) (last + (more + s.block * n)) (Some Write) → DecodesBetween s asked start.left left out_old out_new rep f
 fails_in_row {I} {s = s} {asked = asked} {start = start} {out_old = out_old} {rep = rep} {f = f} {left = left} {failed = failed} zero more out room out_new r
     new steps last p q bytes written legal runs none (m, k, d, g, counted, none_new, (same, same_steps, same_state)) wanted put part tells =
     let at = runs.at_block in
@@ -252,7 +252,7 @@ pub row_fails : {I : Type 0} {s : Parameters} {asked : Option ℕ} {start : Read
     {steps last written all count steps_new : ℕ} {bytes : List ℕ} {rep : Report} {f : Option Fault} {left : Option (List ℕ)} {failed : ℕ} → IsLegal s
     → DecodingProgress s asked start out_old out p r steps written → p.run ≡ 0 → FailsInRow s all r new steps last p q bytes out out_new count
     → IfSome asked (λ k. written + s.block * all ≤ k) → steps_new ≡ last + count
-    → Reports rep f left failed new (written + count) steps_new (Some Write) → Ends s asked start.left left out_old out_new rep f
+    → Reports rep f left failed new (written + count) steps_new (Some Write) → DecodesBetween s asked start.left left out_old out_new rep f
 row_fails {s = s} {asked = asked} {start = start} {out_old = out_old} {out = out} {out_new = out_new} {p = p} {q = q} {r = r} {new = new} {steps = steps}
     {last = last} {written = written} {all = all} {count = count} {steps_new = steps_new} {bytes = bytes} {rep = rep} {f = f} {left = left} {failed = failed}
     legal runs none w wanted ticked tells =

@@ -21,11 +21,11 @@ use Rattle.rice_code.proofs.lemmas.code.Filling.{last_replicate}
 use Rattle.rice_code.specs.code.Decoded.{cut_to}
 use Rattle.rice_code.specs.declared.decode.answer.NextBlock.TheVariants.{Block}
 use Rattle.rice_bits.proofs.lemmas.device.OutletLemmas.{Appends-trans}
-use Rattle.rice_stream.specs.Decodes.{Reports}
+use Rattle.rice_stream.specs.Decodes.{DecodesBetween, Reports}
 use Rattle.rice_stream.specs.declared.outcome.Report.{Report}
 use Rattle.rice_stream.specs.declared.outcome.Fault.{Fault}
 use Rattle.rice_stream.specs.declared.outcome.Fault.TheVariants.{Write}
-use Rattle.rice_stream.proofs.lemmas.DecodingEnds.{Ends, progress_with_block, write_ends}
+use Rattle.rice_stream.proofs.lemmas.DecodingEnds.{progress_with_block, write_ends}
 use Rattle.rice_stream.proofs.lemmas.DecodingLemmas.{Advances, gains_block}
 use Rattle.rice_samples.proofs.lemmas.bytes.SpellingLengths.{length-spellings, spellings-append}
 
@@ -180,7 +180,7 @@ progress_with_run {s = s} {asked = asked} {start = start} {out_old = out_old} {o
 pub run_fails : {I : Type 0} {s : Parameters} {asked : Option ℕ} {start : Reader I} {out_old out out_new : Option Room} {p : DecoderState} {r : Reader I}
     {steps written count steps_new all : ℕ} {rep : Report} {f : Option Fault} {left : Option (List ℕ)} {failed : ℕ} → IsLegal s
     → DecodingProgress s asked start out_old out p r steps written → FailsInRun s asked written p out out_new count → steps_new ≡ steps + count → all ≡ written + count
-    → Reports rep f left failed r all steps_new (Some Write) → Ends s asked start.left left out_old out_new rep f
+    → Reports rep f left failed r all steps_new (Some Write) → DecodesBetween s asked start.left left out_old out_new rep f
 run_fails {s = s} {asked = asked} {start = start} {out_old = out_old} {out = out} {out_new = out_new} {p = p} {r = r} {steps = steps} {written = written}
     {count = count} {steps_new = steps_new} {all = all} {rep = rep} {f = f} {left = left} {failed = failed} legal runs w ticked are tells =
     let e = w.count_is in

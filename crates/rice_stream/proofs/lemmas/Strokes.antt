@@ -1,5 +1,5 @@
 -- Blocks that the decoder gives at one stroke, and where decoding stands behind them.
-use Rattle.std.proofs.Common.{◌≡◌, ℕ, zero, suc, ◌+◌, ◌-◌, ◌*◌, ◌%◌, ◌<◌, ◌≤◌, List, [], ◌∷◌, ◌++◌, Bool, length, take, drop, replicate, refl, sym, ◌∙◌, ap, subst, arith, append_assoc, append-nil, length-append, take-append-drop, Some, None, ℤ, inl, inr}
+use Rattle.std.proofs.Common.{◌≡◌, ℕ, zero, suc, ◌+◌, ◌-◌, ◌*◌, ◌%◌, ◌<◌, ◌≤◌, List, [], ◌++◌, Bool, length, take, drop, replicate, refl, sym, ◌∙◌, ap, subst, arith, append_assoc, append-nil, length-append, None, ℤ, inl, inr}
 use Rattle.std.specs.Prelude.{Ok}
 use Rattle.std.proofs.lemmas.List.{length-replicate, length-take-le, replicate-append-replicate}
 use Rattle.std.proofs.lemmas.List.Elements.{recursion_from_All}
@@ -9,7 +9,7 @@ use Rattle.rice_bits.specs.read.Reader.{Reader}
 use Rattle.rice_samples.specs.Parameters.{Parameters, IsSample, width}
 use Rattle.rice_samples.specs.bytes.Spelling.{spellings}
 use Rattle.rice_code.specs.decode.BlocksAhead.{GivesBytes, HasLanes}
-use Rattle.rice_code.specs.decode.Decoder.{GivesFromRun, RepeatsBlocks}
+use Rattle.rice_code.specs.decode.Decoder.{RepeatsBlocks}
 use Rattle.rice_code.specs.decode.DecoderState.{DecoderState, IsDecoderState}
 use Rattle.rice_code.specs.decode.Rows.{AreCounted}
 use Rattle.rice_code.specs.decode.PlainBlocks.{GivesRow}
@@ -17,7 +17,7 @@ use Rattle.rice_code.specs.declared.decode.answer.NextBlock.TheVariants.{Block}
 use Rattle.rice_code.proofs.lemmas.code.Filling.{last_replicate}
 use Rattle.rice_code.proofs.lemmas.code.SoundBlocks.{last_legal}
 use Rattle.rice_code.proofs.lemmas.decode.DecoderLemmas.{place_moves}
-use Rattle.rice_stream.specs.Pulling.{Origin, IsStand, GivesMore, GivesNext, GoesOnAt, WritesStroke, IsReadFrom, ahead, stand_at, state_of}
+use Rattle.rice_stream.specs.Pulling.{Origin, IsStand, GivesMore, WritesStroke, IsReadFrom, ahead, stand_at, state_of}
 use Rattle.rice_stream.specs.declared.stand.Stand.{Stand}
 use Rattle.rice_stream.proofs.lemmas.DecodingLemmas.{Advances, moves_of, samples_of_block}
 use Rattle.rice_stream.proofs.lemmas.PullingLemmas.{Steps, gives_next, goes_on_at}

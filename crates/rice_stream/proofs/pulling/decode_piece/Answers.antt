@@ -8,7 +8,7 @@ use Rattle.rice_samples.specs.Parameters.{values_at, width}
 use Rattle.rice_samples.specs.bytes.Spelling.{spellings}
 use Rattle.rice_samples.proofs.lemmas.setting.ValuesAt.{length-values}
 use Rattle.rice_code.specs.declared.decode.answer.CodeFault.TheVariants as faults
-use Rattle.rice_stream.specs.Pulling.{DecodesMore, GoesOnAt, TakesNext, ahead, state_of}
+use Rattle.rice_stream.specs.Pulling.{DecodesMore, GoesOnAt, IsReadFrom, TakesNext, ahead, state_of}
 use Rattle.rice_stream.specs.declared.stand.Pause.{Pause}
 use Rattle.rice_stream.specs.declared.stand.Stand.{Stand}
 use Rattle.rice_stream.specs.declared.stand.Pause.TheVariants as pauses
@@ -49,11 +49,17 @@ returns-then-here-eq0 g c = λ o front given h.
       nothing_ahead c.args.setting.now c.args.stand.now c.decode_all.here.block c.args.piece.now so.bits (ahead c.decode_all.reader) (let e : length c.args.piece.now ≡ 0 = search rules in e) so.parts,
     ) (λ no. c.requires.fits)
 
-pub next_stroke-requires-clause-stand : goal.next_stroke-requires-clause-stand
-next_stroke-requires-clause-stand g c =
+pub next_stroke-requires-clause-come : goal.next_stroke-requires-clause-come
+next_stroke-requires-clause-come g c =
     let know = c.requires.stand in
-    let so = c.decode_all.invariant.so_far know.0 know.1 know.2 know.3 in
-    (know.0, know.1 ++ so.bits, know.2 ++ so.samples, so.stands)
+    let i = c.decode_all.invariant in
+    let so = i.so_far know.0 know.1 know.2 know.3 in
+    record {
+      stand = (know.0, know.1 ++ so.bits, know.2 ++ so.samples, so.stands);
+      state = i.state;
+      reads = i.reads;
+      aligned = search rules;
+    }
 
 pub decode_all-preserved-in-Some : goal.decode_all-preserved-in-Some
 decode_all-preserved-in-Some g c =
@@ -61,13 +67,13 @@ decode_all-preserved-in-Some g c =
     let i = c.decode_all.invariant in
     let stroke = c.in-Some.stroke in
     let says = c.in-Some.ensures in
-    let k = says.gives in
+    let k = says.did.0 in
     let on = k.more.goes_on in
     record {
       state = on.state;
       reads = on.reads;
       aligned = λ lt. on.aligned (i.aligned lt);
-      within = omega (arith, says.len, says.room);
+      within = omega (arith, says.len, says.did.1);
       len = says.len ∙ i.len;
       so_far = λ o front given h.
           let so = i.so_far o front given h in
@@ -75,11 +81,20 @@ decode_all-preserved-in-Some g c =
           c.next_stroke.new.samples c.decode_all.reader c.next_stroke.new.reader c.decode_all.at stroke.len so (k.more.gives o (front ++ so.bits) (given ++ so.samples) so.stands) k.len_is k.wrote;
     }
 
-pub next_stand-requires-clause-stand : goal.next_stand-requires-clause-stand
-next_stand-requires-clause-stand g c =
+pub next_stand-requires : goal.next_stand-requires
+next_stand-requires g c =
     let know = c.requires.stand in
-    let so = c.decode_all.invariant.so_far know.0 know.1 know.2 know.3 in
-    (know.0, know.1 ++ so.bits, know.2 ++ so.samples, so.stands)
+    let i = c.decode_all.invariant in
+    let aligned : c.decode_all.here.run ≡ 0 → c.decode_all.reader.taken % 8 ≡ c.decode_all.here.bits % 8 = search rules in
+    let so = i.so_far know.0 know.1 know.2 know.3 in
+    record {
+      come = record {
+        stand = (know.0, know.1 ++ so.bits, know.2 ++ so.samples, so.stands);
+        state = c.in-None.ensures.did.0 ∙ i.state;
+        reads = subst (IsReadFrom c.decode_all.here) (sym c.in-None.ensures.did.1) i.reads;
+        aligned = λ none. ap (λ t. t.taken % 8) c.in-None.ensures.did.1 ∙ aligned none;
+      };
+    }
 
 pub decode_all-preserved : goal.decode_all-preserved
 decode_all-preserved g c =
@@ -101,11 +116,11 @@ decode_all-preserved g c =
     record {
       state = k.0.state;
       reads = k.0.reads;
-      aligned = λ lt. k.0.aligned (ap (λ t. t.taken % 8) c.in-None.ensures.none.1 ∙ i.aligned lt);
+      aligned = λ lt. k.0.aligned (ap (λ t. t.taken % 8) c.in-None.ensures.did.1 ∙ i.aligned lt);
       within = omega (arith, c.write_at.auto.samples, c.next_stroke.ensures.len, c.decode_all-test.true, i.within);
       len = c.write_at.auto.samples ∙ c.next_stroke.ensures.len ∙ i.len;
       so_far = λ o front given h.
-          let so = still c.in-None.ensures.none.1 c.in-None.ensures.none.2 (i.so_far o front given h) in
+          let so = still c.in-None.ensures.did.1 c.in-None.ensures.did.2 (i.so_far o front given h) in
           more_so_far s o front given (values_at s levels) c.args.piece.now c.args.stand.now c.decode_all.here next c.args.samples.now out
           c.write_at.new.samples c.next_stroke.new.reader c.next_stand.new.reader at n so
           (subst (λ (v : Option Stand). TakesNext s o (front ++ so.bits) (given ++ so.samples) here r new (values_at s levels) (Ok v)) c.in-Some-found.is
@@ -115,7 +130,7 @@ decode_all-preserved g c =
 pub returns-in-None-found : goal.returns-in-None-found
 returns-in-None-found g c = λ o front given h.
     let i = c.decode_all.invariant in
-    let so = still c.in-None.ensures.none.1 c.in-None.ensures.none.2 (i.so_far o front given h) in
+    let so = still c.in-None.ensures.did.1 c.in-None.ensures.did.2 (i.so_far o front given h) in
     let s = c.args.setting.now in
     let t = subst (λ (v : Option Stand). TakesNext s o (front ++ so.bits) (given ++ so.samples) c.decode_all.here c.next_stroke.new.reader c.next_stand.new.reader
     (values_at s c.next_stand.new.levels.items) (Ok v)) c.in-None-found.is (c.in-Ok.ensures.takes o (front ++ so.bits) (given ++ so.samples) so.stands) in
@@ -129,7 +144,7 @@ returns-in-None-found g c = λ o front given h.
 pub pause_of-requires-clause-read : goal.pause_of-requires-clause-read
 pause_of-requires-clause-read g c = λ read.
     let know = c.requires.stand in
-    let so = still c.in-None.ensures.none.1 c.in-None.ensures.none.2 (c.decode_all.invariant.so_far know.0 know.1 know.2 know.3) in
+    let so = still c.in-None.ensures.did.1 c.in-None.ensures.did.2 (c.decode_all.invariant.so_far know.0 know.1 know.2 know.3) in
     let failed = failed_once c.args.setting.now know.0 (know.1 ++ so.bits) (know.2 ++ so.samples) c.decode_all.here c.next_stroke.new.reader c.next_stand.new.reader
     (values_at c.args.setting.now c.next_stand.new.levels.items) c.in-Err.fault read (c.in-Err.ensures.takes know.0 (know.1 ++ so.bits) (know.2 ++ so.samples) so.stands) in
     omega (arith, failed, c.into_inner-intake-in-Err.ensures.failed)
@@ -137,7 +152,7 @@ pause_of-requires-clause-read g c = λ read.
 pub pause_of-requires-clause-long : goal.pause_of-requires-clause-long
 pause_of-requires-clause-long g c = λ long.
     let know = c.requires.stand in
-    let so = still c.in-None.ensures.none.1 c.in-None.ensures.none.2 (c.decode_all.invariant.so_far know.0 know.1 know.2 know.3) in
+    let so = still c.in-None.ensures.did.1 c.in-None.ensures.did.2 (c.decode_all.invariant.so_far know.0 know.1 know.2 know.3) in
     never_too_long c.args.setting.now know.0 (know.1 ++ so.bits) (know.2 ++ so.samples) c.decode_all.here c.next_stroke.new.reader c.next_stand.new.reader
     (values_at c.args.setting.now c.next_stand.new.levels.items) c.in-Err.fault long (c.in-Err.ensures.takes know.0 (know.1 ++ so.bits) (know.2 ++ so.samples) so.stands)
 
@@ -145,7 +160,7 @@ pub returns-in-Err : goal.returns-in-Err
 returns-in-Err g c = λ o front given h.
     let s = c.args.setting.now in
     let i = c.decode_all.invariant in
-    let so = still c.in-None.ensures.none.1 c.in-None.ensures.none.2 (i.so_far o front given h) in
+    let so = still c.in-None.ensures.did.1 c.in-None.ensures.did.2 (i.so_far o front given h) in
     let never : c.in-Err.fault ≡ faults.Read → ⊥ = λ read. let failed = failed_once s o (front ++ so.bits) (given ++ so.samples) c.decode_all.here c.next_stroke.new.reader c.next_stand.new.reader
     (values_at s c.next_stand.new.levels.items) c.in-Err.fault read (c.in-Err.ensures.takes o (front ++ so.bits) (given ++ so.samples) so.stands) in absurd (omega (arith, failed, c.into_inner-intake-in-Err.ensures.failed)) in
     let room = has_room s c.decode_all.at (length c.decode_all.samples) (length c.args.samples.now) (length so.samples) c.width.ensures.value

@@ -1,6 +1,5 @@
-use Rattle.std.proofs.Common.{arith, refl, rules, ◌≡◌, ◌+◌, ◌-◌, ◌*◌, ap, sym, ◌∙◌, subst, w64, to_z, of_z, FitsSigned, None, ℤ}
+use Rattle.std.proofs.Common.{arith, refl, ◌≡◌, ◌+◌, ◌-◌, ◌*◌, ap, sym, ◌∙◌, subst, None}
 use Rattle.std.specs.Prelude.{Ok, Err}
-use Rattle.std.proofs.lemmas.Int.{to_z-of_z}
 use Rattle.rice_samples.specs.Parameters.{values_at}
 use Rattle.rice_samples.proofs.lemmas.setting.ValuesAt.{length-values}
 use Rattle.rice_code.specs.decode.DecoderState.{DecoderState, IsDecoderState}
@@ -18,10 +17,10 @@ returns-in-Err-clause-takes c = λ o front given h.
     let p = c.args.decoder.now in
     let new = c.next_levels.new in
     let says = c.in-Err.ensures in
-    let setting_old : p.setting ≡ s = ap (λ (d : DecoderState). d.setting) c.requires.state in
+    let setting_old : p.setting ≡ s = ap (λ (d : DecoderState). d.setting) c.requires.come.state in
     let a = decoder_advances c.args.reader.now new.reader c.tick.new.self new.meter p new.self s new.levels.items setting_old refl says.in_run says.reads in
-    stops_next s o c.args.stand.now c.args.reader.now new.reader c.tick.new.self new.meter new.self front given (values_at s new.levels.items) c.in-Err.fault c.requires.reads
-    (subst (λ (d : DecoderState). Advances c.args.reader.now new.reader c.tick.new.self new.meter d new.self (values_at s new.levels.items) (Err c.in-Err.fault)) c.requires.state a)
+    stops_next s o c.args.stand.now c.args.reader.now new.reader c.tick.new.self new.meter new.self front given (values_at s new.levels.items) c.in-Err.fault c.requires.come.reads
+    (subst (λ (d : DecoderState). Advances c.args.reader.now new.reader c.tick.new.self new.meter d new.self (values_at s new.levels.items) (Err c.in-Err.fault)) c.requires.come.state a)
 
 pub returns-in-Done-clause-takes : goal.returns-in-Done-clause-takes
 returns-in-Done-clause-takes c = λ o front given h.
@@ -29,10 +28,10 @@ returns-in-Done-clause-takes c = λ o front given h.
     let p = c.args.decoder.now in
     let new = c.next_levels.new in
     let says = c.in-Ok.ensures in
-    let setting_old : p.setting ≡ s = ap (λ (d : DecoderState). d.setting) c.requires.state in
+    let setting_old : p.setting ≡ s = ap (λ (d : DecoderState). d.setting) c.requires.come.state in
     let a = decoder_advances c.args.reader.now new.reader c.tick.new.self new.meter p new.self s new.levels.items setting_old (ap Ok c.in-Done.is) says.in_run says.reads in
-    done_next s o c.args.stand.now c.args.reader.now new.reader c.tick.new.self new.meter new.self front given (values_at s new.levels.items) c.requires.reads
-    (subst (λ (d : DecoderState). Advances c.args.reader.now new.reader c.tick.new.self new.meter d new.self (values_at s new.levels.items) (Ok Done)) c.requires.state a)
+    done_next s o c.args.stand.now c.args.reader.now new.reader c.tick.new.self new.meter new.self front given (values_at s new.levels.items) c.requires.come.reads
+    (subst (λ (d : DecoderState). Advances c.args.reader.now new.reader c.tick.new.self new.meter d new.self (values_at s new.levels.items) (Ok Done)) c.requires.come.state a)
 
 -- the decoder gave a block
 given : (c : goal.After-stand_behind-next) → GivesMore c.args.setting.now c.args.stand.now c.stand_behind-next.result c.next_levels.new.self c.args.reader.now
@@ -47,23 +46,23 @@ given c =
     let levels = c.next_levels.new.levels.items in
     let meter = c.next_levels.new.meter in
     let says = c.in-Ok.ensures in
-    let know = c.requires.stand in
-    let setting_old : p.setting ≡ s = ap (λ (d : DecoderState). d.setting) c.requires.state in
+    let know = c.requires.come.stand in
+    let setting_old : p.setting ≡ s = ap (λ (d : DecoderState). d.setting) c.requires.come.state in
     let next = stand_at (stand.samples + c.block-size.result) (stand.bits + (new.taken - c.taken-before.result)) (meter + c.block-size.result) q in
     let setting : q.setting ≡ s = says.setting ∙ setting_old in
     let stopped : q.stopped ≡ None = says.block (ap Ok c.in-Block.is) in
     let same : q ≡ state_of s next = (λ i. record { setting = setting i; block = q.block; before = q.before; run = q.run; stopped = stopped i }) in
     let a = decoder_advances old new c.tick.new.self meter p q s levels setting_old (ap Ok c.in-Block.is) says.in_run says.reads in
-    let at_stand = subst (λ (d : DecoderState). Advances old new c.tick.new.self meter d q (values_at s levels) (Ok Block)) c.requires.state a in
-    let old_run : p.run * p.setting.block ≡ stand.run * s.block = ap (λ (d : DecoderState). d.run * d.setting.block) c.requires.state in
+    let at_stand = subst (λ (d : DecoderState). Advances old new c.tick.new.self meter d q (values_at s levels) (Ok Block)) c.requires.come.state a in
+    let old_run : p.run * p.setting.block ≡ stand.run * s.block = ap (λ (d : DecoderState). d.run * d.setting.block) c.requires.come.state in
     let new_run : q.run * q.setting.block ≡ q.run * s.block = ap (λ (d : DecoderState). d.run * d.setting.block) same in
     let steps : Steps s stand next old new c.tick.new.self meter (values_at s levels) = record {
       state = subst (λ (d : DecoderState). IsDecoderState d.setting d.block d.before d.run d.stopped) same c.stand_behind-next.ensures.state;
       advances = subst (λ (d : DecoderState). Advances old new c.tick.new.self meter (state_of s stand) d (values_at s levels) (Ok Block)) same at_stand;
       counted = says.steps;
       few = omega (arith, says.waiting, old_run, new_run, length-values s levels);
-      reads = c.requires.reads;
-      aligned = c.requires.aligned;
+      reads = c.requires.come.reads;
+      aligned = c.requires.come.aligned;
       samples = omega (arith, c.block-size.ensures.value);
       bits = omega (arith, c.taken-before.ensures.value);
       steps_old = omega (arith, c.tick.ensures, c.new-meter.ensures);
@@ -77,8 +76,8 @@ returns-clause-goes_on c =
     let p = c.args.decoder.now in
     let new = c.next_levels.new in
     let says = c.in-Ok.ensures in
-    let setting : p.setting ≡ s = ap (λ (d : DecoderState). d.setting) c.requires.state in
-    let going : p.stopped ≡ None = ap (λ (d : DecoderState). d.stopped) c.requires.state in
+    let setting : p.setting ≡ s = ap (λ (d : DecoderState). d.setting) c.requires.come.state in
+    let going : p.stopped ≡ None = ap (λ (d : DecoderState). d.stopped) c.requires.come.state in
     let a = decoder_advances c.args.reader.now new.reader c.tick.new.self new.meter p new.self s new.levels.items setting (ap Ok c.in-Block.is) says.in_run says.reads in
     let block = samples_of_block s setting going a in
     ((given c).goes_on, omega (arith, block.len, length-values s new.levels.items))

@@ -1,7 +1,7 @@
-use Rattle.std.proofs.Common.{rules, length, ◌≢◌, ◌≡◌, ◌∙◌, ap, sym, subst, List, ℕ, Some}
-use Rattle.rice_bits.specs.Bits.{bits_of, word}
+use Rattle.std.proofs.Common.{rules, length, ◌≢◌, ◌≡◌, ◌∙◌, ap, subst}
+use Rattle.rice_bits.specs.Bits.{word}
 use Rattle.rice_bits.specs.declared.device.slice.SliceIn.{SliceIn}
-use Rattle.rice_bits.specs.read.Reader.{Reader, Stops, Takes, new_reader}
+use Rattle.rice_bits.specs.read.Reader.{Reader, Stops, Takes}
 use Rattle.rice_stream.specs.Pulling.{ahead}
 use Rattle.rice_stream.proofs.lemmas.OnePulledPiece.{never_refused, nothing_skipped, skipped_bits}
 use Rattle.rice_stream.proofs.pulling.skip_bits.Goals as goal

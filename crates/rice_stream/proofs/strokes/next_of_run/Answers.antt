@@ -1,5 +1,4 @@
-use Rattle.std.proofs.Common.{◌≡◌, ◌+◌, ◌-◌, ◌*◌, ◌∙◌, arith, sym, subst, w64, to_z, of_z, to_z-of_z}
-use Rattle.rice_samples.specs.Parameters.{IsSample}
+use Rattle.std.proofs.Common.{◌≡◌, ◌+◌, ◌-◌, ◌*◌, ◌∙◌, arith, w64, to_z, of_z, to_z-of_z}
 use Rattle.rice_stream.specs.Pulling.{stand_at}
 use Rattle.rice_stream.proofs.lemmas.Strokes.{run_stroke}
 use Rattle.rice_stream.proofs.strokes.next_of_run.Goals as goal
@@ -7,7 +6,7 @@ use Rattle.rice_stream.proofs.strokes.next_of_run.Goals as goal
 pub returns-clause-gives : goal.returns-clause-gives
 returns-clause-gives c =
     let stand = c.args.stand.now in
-    let know = c.requires.stand in
+    let know = c.requires.come.stand in
     let r = c.args.reader.now in
     let p = c.args.decoder.now in
     let q = c.repeat_blocks.new.self in
@@ -18,6 +17,6 @@ returns-clause-gives c =
     let taken : r.taken - c.taken.result ≡ r.taken - r.taken = omega (arith, c.taken.ensures.value) in
     let steps : c.tick.new.self + n ≡ stand.steps + n = omega (arith, c.tick.ensures, c.new-meter.ensures) in
     run_stroke c.args.setting.now stand c.stand_behind-stand.result p q r c.width-width.result c.block-block.result blocks.result c.args.at (to_z w64 (of_z w64 z))
-    c.args.samples.now c.spell_again_at.new.samples know.0 know.1 know.2 know.3 c.requires.reads c.requires.state c.repeat_blocks.ensures.gives c.width-width.ensures.value c.block-block.ensures.value
+    c.args.samples.now c.spell_again_at.new.samples know.0 know.1 know.2 know.3 c.requires.come.reads c.requires.come.state c.repeat_blocks.ensures.gives c.width-width.ensures.value c.block-block.ensures.value
     (omega (arith, c.width-width.ensures.range)) (omega (arith, c.block-block.ensures.range)) blocks.ensures.some
     (c.stand_behind-stand.ensures.numbers ∙ (λ i. stand_at (stand.samples + n) (stand.bits + taken i) (steps i) q)) same c.spell_again_at.ensures
