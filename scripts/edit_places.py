@@ -87,9 +87,11 @@ def changed(old, new):
     return front, len(old) - back, new[front : len(new) - back]
 
 
-def around(functions, first, last):
-    """Returns the function in whose body both places lie, or None."""
-    inside = [it for it in functions if it.body <= first and last < it.end]
+def around(functions, first, last, new):
+    """Returns the function in whose body both places lie, or in whose head, where the new text there ends its body and leaves the rest
+    to a function of another name; or None."""
+    is_whole = re.search(r"\} (?:const )?fn \w+[^{}]*$", new)
+    inside = [it for it in functions if (it.start if is_whole else it.body) <= first and last < it.end]
     return max(inside, key=lambda it: it.start, default=None)
 
 

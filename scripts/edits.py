@@ -10,6 +10,10 @@ calls one that is not proved doesn't count: it is then tried in the next round. 
 constant, is tried alone. A check is of the functions that have to be judged, and of those that they call. Where the crate's
 must-fail/clauses.md names the clauses that an edit turns, a goal of each has to be open.
 
+Where goals of its function have written answers, and goals of each clause that it turns, an edit is first judged by these alone:
+its twin asks for no tactic, and a goal without an answer counts for nothing. Where the answers fit, it is tried again, with all
+its goals searched for.
+
 usage: edits [NAME ..]         the edits of these names, or of the crates of these names; all, if none is named
        edits --since COMMIT    the edits of functions whose text, definitions or proofs that commit, or one after it, changed
 """
@@ -31,7 +35,12 @@ except ImportError as why:
     sys.exit(f"edits.py: {why}: rt must-fail tries the edits one by one")
 
 HEADER = re.compile(r"^(?:\./)?(\S+?):(\d+):\d+: (error|note|warning)\b|^note: (\S+?):(\d+):\d+: |^\S")
-PROOF_FILES = ("Answers.antt", "Invariants.antt", "Proof.antt")
+ANSWERS = "Answers.antt"
+PROOF_FILES = (ANSWERS, "Invariants.antt", "Proof.antt")
+ANSWERED = re.compile(r"(?m)^pub (\S+) : goal\.\1$")
+# What stands in a twin's answers for a goal that there is not. For the open goals of a function whose answers have such a fault the
+# check prints no file to begin with, which takes it as long as all the rest.
+NO_GOAL = "no-goal"
 # How the names of twins end, which no other function's does.
 TWIN = "_twin"
 # Why a goal is open, first what says most of the edit.
@@ -44,11 +53,12 @@ MOST = 3
 
 @dataclasses.dataclass
 class Goal:
-    """A goal that is open, the function that it is of, and why it is."""
+    """A goal that is open, the function that it is of, why it is, and whether it is a written answer of it that fails."""
 
     function: str
     name: str
     why: str
+    has_answer: bool = False
 
 
 @dataclasses.dataclass
@@ -63,6 +73,8 @@ class Edit:
     change: tuple = ()
     # The number of the twin of its function that it stands in, or 0 for the function itself.
     twin: int = 0
+    # Whether the twin is still to be judged by its function's written answers alone.
+    by_answers: bool = False
 
     @property
     def name(self):
@@ -72,6 +84,18 @@ class Edit:
     def judged_name(self):
         """The name of the function, or of its twin, that this edit changes."""
         return self.function.name + (f"{TWIN}{self.twin}" if self.twin else "")
+
+    @property
+    def answered(self):
+        """The names of the goals of its function that have answers which are written."""
+        path = f"{self.crate.folder}/{proofs_of(self.function.name)}/{ANSWERS}"
+        return ANSWERED.findall(read(path)) if os.path.isfile(path) else []
+
+    @property
+    def has_answers(self):
+        """Whether its function has answers which are written, some for each clause that the edit turns."""
+        have = {(self.function.name, clause_of(it)) for it in self.answered}
+        return bool(have) and {*self.clauses} <= have
 
     @property
     def clauses(self):
@@ -111,7 +135,7 @@ def edit_of(crate, path):
         old = read(f"{crate.folder}/{file}")
         first, last, text = edit_places.changed(old, new)
         if file.startswith("src/"):
-            edit.function = edit_places.around(edit_places.functions_in(crate.name, file, old), first, last)
+            edit.function = edit_places.around(edit_places.functions_in(crate.name, file, old), first, last, text)
             edit.change = (file, first, last, text)
     return edit
 
@@ -125,7 +149,7 @@ def texts_with(edits):
         for first, last, text in sorted(changes, reverse=True):
             texts[file] = texts[file][:first] + text + texts[file][last:]
     for it in edits:
-        answers.update(twin_answers(it) if it.twin else {})
+        answers.update(proofs_with_fault(it.crate, it.function.name, f"{TWIN}{it.twin}" if it.twin else ""))
     return {**texts, **answers}
 
 
@@ -136,21 +160,27 @@ def change_of(edit, text):
         return first, last, new
     function = edit.function
     start = sum(len(line) + 1 for line in text.split("\n")[: function.first - 1])
-    twin = text[start:first] + new + text[last : function.end]
+    tactic = "#[tactic(none)] " if edit.by_answers else ""
+    twin = text[start : function.start] + tactic + text[function.start : first] + new + text[last : function.end]
     name = function.name.split("::")[-1]
     return function.end, function.end, re.sub(rf"\bfn {name}\b", f"fn {name}{TWIN}{edit.twin}", twin, count=1)
 
 
-def twin_answers(edit):
-    """Returns the texts of a twin's proof files, which are those of its function."""
-    parts = ["proofs", *edit.function.name.split("::")[1:]]
+def proofs_of(function):
+    """Returns the folder of a function's proof files."""
+    return "/".join(["proofs", *function.split("::")[1:]])
+
+
+def proofs_with_fault(crate, function, twin=""):
+    """Returns the texts of a function's proof files, or of a twin's, with a fault among the answers."""
+    path = proofs_of(function)
     # (a part that is no name by itself stands in quotes there)
-    path, module = "/".join(parts), ".".join(it if re.fullmatch(r"\w+", it) else f"«{it}»" for it in parts)
-    found = {}
+    module = ".".join(it if re.fullmatch(r"\w+", it) else f"«{it}»" for it in path.split("/"))
+    found = {f"{path}{twin}/{ANSWERS}": f"use Rattle.{crate.name}.{module}{twin}.Goals as goal\n"}
     for name in PROOF_FILES:
-        if os.path.isfile(f"{edit.crate.folder}/{path}/{name}"):
-            text = read(f"{edit.crate.folder}/{path}/{name}")
-            found[f"{path}{TWIN}{edit.twin}/{name}"] = text.replace(f".{module}.", f".{module}{TWIN}{edit.twin}.")
+        if os.path.isfile(f"{crate.folder}/{path}/{name}"):
+            found[f"{path}{twin}/{name}"] = read(f"{crate.folder}/{path}/{name}").replace(f".{module}.", f".{module}{twin}.")
+    found[f"{path}{twin}/{ANSWERS}"] += f"\npub {NO_GOAL} : goal.{NO_GOAL}\n{NO_GOAL} = {NO_GOAL}\n"
     return found
 
 
@@ -203,7 +233,8 @@ def goals_in(crate, texts, said):
         if at and at[1] and at[3] == "error" and at[1].startswith("proofs/"):
             *folders, file = at[1].split("/")
             owner = "::".join([crate.name, *folders[1:]]) if file in PROOF_FILES else at[1]
-            found.append(Goal(owner, name[1] if name else "its proof", why_open(block)))
+            if not name or name[1] != NO_GOAL:
+                found.append(Goal(owner, name[1] if name else "its proof", why_open(block), file == ANSWERS))
         elif at and at[4]:
             name = re.search(r"\(`(\S+)`\)", block)
             owner = [it for it in functions if it.file == at[4] and it.first <= int(at[5]) <= it.last]
@@ -221,14 +252,14 @@ def has_verdict(said):
 
 
 def clause_of(goal):
-    """Returns the name of the clause of its function that a goal is of, or None where it is of a callee or of a loop."""
-    found = re.fullmatch(r"returns\b(?:.*-clause-(\w+)|.*)", goal.name)
+    """Returns the name of the clause of its function that a goal of this name is of, or None where it is of a callee or of a loop."""
+    found = re.fullmatch(r"returns\b(?:.*-clause-(\w+)|.*)", goal)
     return found and (found[1] or "ensures")
 
 
 def refused(edit, goals):
     """Returns the verdict on an edit for which these goals are open: it tells them, first those that say most."""
-    is_open = {(it.function.split(TWIN)[0], clause_of(it)) for it in goals}
+    is_open = {(it.function.split(TWIN)[0], clause_of(it.name)) for it in goals}
     lost = [f"{function} {clause}" for function, clause in edit.clauses if (function, clause) not in is_open]
     if lost:
         return Verdict(False, f"NOT REFUSED FOR WHAT IT NAMES: no goal is open of {', '.join(lost)}")
@@ -240,21 +271,31 @@ def refused(edit, goals):
 def judged(edit, texts, said):
     """Returns the verdict on an edit of one body, or None where its function was not judged for one that it calls."""
     line = lines_of_functions(said).get(edit.judged_name, "")
-    if line.startswith("proved"):
-        return Verdict(False, f"NOT REFUSED: {edit.function.name} is proved with this edit")
     goals = [it for it in goals_in(edit.crate, texts, said) if it.function == edit.judged_name]
+    if edit.by_answers:
+        return judged_by_answers(edit, goals)
     if re.match(r"not proved|no proof", line) and goals:
         return refused(edit, goals)
     if re.search(r"it calls|it passes|a call of", line):
         return None
+    if line == "not proved":
+        return Verdict(False, f"NOT REFUSED: each goal of {edit.function.name} is proved with this edit")
     return Verdict(False, f"NOT JUDGED: {edit.function.name}: {line or 'the check has no line on it'}")
+
+
+def judged_by_answers(edit, goals):
+    """Returns that an edit is refused by the written answers of these goals, or None where all that it turns has to be searched for."""
+    answered = [it for it in goals if it.has_answer and it.name in edit.answered and it.why != GONE]
+    found = refused(edit, answered) if answered else None
+    return found if found and found.refused else None
 
 
 def tried_alone(edit):
     """Returns the verdict on an edit that a copy of the crate has alone."""
     if edit.why:
         return Verdict(False, f"BAD EDIT: {edit.why}")
-    status, said = check(edit.crate, edit.texts, edit.judges)
+    faults = {path: text for it in edit.judges for path, text in proofs_with_fault(edit.crate, it).items()}
+    status, said = check(edit.crate, {**faults, **edit.texts}, edit.judges)
     bad = next((it for it in said.split("\n") if rt.unread(it, edit.texts)), "")
     if bad or not has_verdict(said) or rtlib.STALE.search(said):
         return Verdict(False, f"BAD EDIT: it did not reach the prover: {bad or said.rstrip()[-300:]}")
@@ -262,7 +303,7 @@ def tried_alone(edit):
         return Verdict(False, "NOT REFUSED: all is still proved with this edit")
     goals = goals_in(edit.crate, edit.texts, said)
     if not goals:
-        return Verdict(False, "NOT JUDGED: no goal is told that is open")
+        return Verdict(False, "NOT REFUSED: no goal is told that is open")
     return refused(edit, goals)
 
 
@@ -295,12 +336,16 @@ def tried(edits):
     """Returns the verdict on each edit of a crate that is proved, and has kept its work, by the edit's path."""
     found = {it.path: tried_alone(it) for it in edits if it.why or not it.function}
     left = [it for it in edits if it.path not in found]
+    for it in left:
+        it.by_answers = not it.function.trait and it.has_answers
     while left:
         now = with_twins(left)
         verdicts = tried_together(now)
         found.update({path: it for path, it in verdicts.items() if it})
-        if not any(verdicts.values()):
+        if not any([*verdicts.values(), *(it.by_answers for it in now)]):
             found.update({it.path: tried_alone(it) for it in now})
+        for it in now:
+            it.by_answers = False
         left = [it for it in left if it.path not in found]
     return found
 
