@@ -16,7 +16,7 @@ use Rattle.rice_stream.specs.Pulling.{ahead, bytes_told}
 use Rattle.rice_stream.specs.declared.outcome.Fault.{Fault}
 use Rattle.rice_stream.specs.declared.outcome.Fault.TheVariants.{Read, TooLong}
 use Rattle.rice_stream.proofs.lemmas.PullingLemmas.{all_drawn, draws_ahead}
-use Rattle.aec_tool.specs.Behind.{LooksBehind, StoppedBy, has_one_behind}
+use Rattle.aec_tool.specs.OneBehind.{LooksBehind, StoppedBy, has_one_behind}
 
 -- no bits
 nil_of_length : {A : Type 0} (xs : List A) → length xs ≡ 0 → xs ≡ []
@@ -95,12 +95,12 @@ module _ {I : Type 0} (intake : I) (left : Option (List ℕ)) (failed k : ℕ) w
       one_in_front (suc m) rest = one_in_front m rest
 
   -- how a look ends that finds no 1
-  abbrev Explains : ℕ → BitFault → Type 0
-  Explains count (bit_faults.End told) = (bytes : List ℕ) → left ≡ Some bytes → has_one_behind k bytes ≡ false
-  Explains count bit_faults.Read = count ≡ failed + 1
-  Explains count bit_faults.TooLong = (bytes : List ℕ) → left ≡ Some bytes → 2 ^ 49 < length bytes
+  abbrev FindsNoOne : ℕ → BitFault → Type 0
+  FindsNoOne count (bit_faults.End told) = (bytes : List ℕ) → left ≡ Some bytes → has_one_behind k bytes ≡ false
+  FindsNoOne count bit_faults.Read = count ≡ failed + 1
+  FindsNoOne count bit_faults.TooLong = (bytes : List ℕ) → left ≡ Some bytes → 2 ^ 49 < length bytes
 
-  explained : (failures : I → ℕ) (count : ℕ) (fault : BitFault) (result : Result Bool Fault) → StoppedBy failures count fault result → Explains count fault → LooksBehind failures failed left k result
+  explained : (failures : I → ℕ) (count : ℕ) (fault : BitFault) (result : Result Bool Fault) → StoppedBy failures count fault result → FindsNoOne count fault → LooksBehind failures failed left k result
   explained failures count (bit_faults.End told) result by why = subst (LooksBehind failures failed left k) (sym by) (λ bytes e. sym (why bytes e))
   explained failures count bit_faults.Read result by why = subst (LooksBehind failures failed left k) (sym by.0) (by.1.0, by.1.1 ∙ why)
   explained failures count bit_faults.TooLong result by why = subst (LooksBehind failures failed left k) (sym by) why
@@ -110,7 +110,7 @@ module _ {I : Type 0} (intake : I) (left : Option (List ℕ)) (failed k : ℕ) w
       → Stops (new_reader intake left failed) new bits fault → StoppedBy failures new.failed fault result → LooksBehind failures failed left k result
   no_few failures bits new fault result few lt stops by = explained failures new.failed fault result by (why fault stops)
     where
-      why : (fault : BitFault) → Stops (new_reader intake left failed) new bits fault → Explains new.failed fault
+      why : (fault : BitFault) → Stops (new_reader intake left failed) new bits fault → FindsNoOne new.failed fault
       why (bit_faults.End told) stops = λ bytes e.
           let draws = subst (λ (l : Option (List ℕ)). Draws l stops.middle [] [] bits) e stops.draws in
           let all : bits_of bytes ≡ bits = all_drawn (Some bytes) stops.middle new.left [] bits refl draws stops.refuses.0 stops.refuses.1 in
@@ -130,7 +130,7 @@ module _ {I : Type 0} (intake : I) (left : Option (List ℕ)) (failed k : ℕ) w
       one_more (Some xs) None byte told c = absurd c
       one_more (Some xs) (Some ys) byte told c = omega (arith, ap length c)
 
-      why : (fault : BitFault) → Stops r new (replicate m false) fault → Explains new.failed fault
+      why : (fault : BitFault) → Stops r new (replicate m false) fault → FindsNoOne new.failed fault
       why (bit_faults.End told) stops = λ bytes e.
           let few = taken_few bytes v r e takes in
           let all : ahead r ≡ replicate m false = all_drawn r.left stops.middle new.left r.waiting (replicate m false) few.0 stops.draws stops.refuses.0 stops.refuses.1 in

@@ -1,4 +1,4 @@
-pub mod Behind
+pub mod OneBehind
 pub mod CommandLine
 pub mod Outside
 pub mod Performs

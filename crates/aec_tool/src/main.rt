@@ -1,19 +1,19 @@
 //! The command `aec`: the coder and decoder of CCSDS 121.0-B-3, Lossless Data Compression.
 #![tactic(auto)]
 
+mod coding;
 mod command_line;
 mod counted;
 mod entries;
 mod exit_status;
 mod finding;
 mod host;
-mod look;
 mod message;
 mod nowhere;
+mod one_behind;
 mod perform;
 mod plan;
 mod progress;
-mod run;
 mod same_file;
 mod sink;
 mod start_up;

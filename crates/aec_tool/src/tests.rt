@@ -1,5 +1,5 @@
 //! Worked examples: `start` over a runtime in memory, and over a system that tells what it holds.
 mod commands;
-mod memory;
-mod outside;
-mod told;
+mod runtime_in_memory;
+mod told_commands;
+mod told_system;

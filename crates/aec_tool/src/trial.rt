@@ -1,6 +1,6 @@
 //! The test of a code: it is decoded, and nothing is written.
 ghost use Rattle.std.specs.Prelude.{◌≡◌, ℕ, ◌⊎◌, ◌&&◌, true, List, Some, is_some};
-ghost use Rattle.aec_tool.specs.Behind.{Looks};
+ghost use Rattle.aec_tool.specs.OneBehind.{Looks};
 ghost use Rattle.aec_tool.specs.Plan.{plan_view};
 ghost use Rattle.aec_tool.specs.Outside.{Outside, IsFresh, GivesAll, Stopped, finding, losing, is_read_again, said_of, saying, source_bytes, source_id};
 ghost use Rattle.aec_tool.specs.Performs.{Tests, Judges, faulty};
@@ -8,9 +8,9 @@ ghost use Rattle.rice_stream.specs.declared.outcome.Fault.TheVariants as faults;
 
 use crate::exit_status::SUCCESS;
 use crate::finding::Finding;
-use crate::look::look_behind;
 use crate::message::Message;
 use crate::nowhere::Nowhere;
+use crate::one_behind::look_behind;
 use crate::perform::{Done, STANDARD, fail, open};
 use crate::plan::Plan;
 use crate::same_file::FileId;

@@ -1,6 +1,6 @@
 -- What contracts see of the devices that give and take bytes.
 pub mod Buffered
-pub mod Device
+pub mod Failures
 pub mod Outlet
 pub mod Slice
 pub mod Wrap

@@ -1,9 +1,9 @@
 -- The lemmas of the proofs, by what they speak of.
-pub mod Draining
+pub mod PulledNumbers
 pub mod FedPlaces
 pub mod FedRoom
-pub mod Feeding
-pub mod Passing
-pub mod Pulled
-pub mod Returning
-pub mod Room
+pub mod FedOutlets
+pub mod WrittenMemory
+pub mod PulledPieces
+pub mod ReturnedSamples
+pub mod CallRoom

@@ -1,20 +1,19 @@
 -- What the calls that feed a coder do with their caller's memory.
-use Rattle.std.specs.Prelude.{◌≡◌, ◌≢◌, ℕ, ◌≤◌, List, [], length, Option, Some, None, Result, Ok, Err, ℤ}
+use Rattle.std.specs.Prelude.{◌≡◌, ℕ, List, [], Option, Some, None, Result, Ok, Err, ℤ}
 use Rattle.rice_bits.specs.device.Outlet.{Room, begun}
 use Rattle.rice_samples.specs.Parameters.{Parameters}
 use Rattle.rice_stream.specs.Encodes.{EncodesWithin}
 use Rattle.rice_stream.specs.Feeding.{IsSeam, EncodesMore, EncodesRest}
 use Rattle.rice_stream.specs.declared.outcome.Fault.{Fault}
-use Rattle.rice_stream.specs.declared.outcome.Fault.TheVariants.{Read, Write}
 use Rattle.rice_stream.specs.declared.outcome.Report.{Report}
 use Rattle.rice_stream.specs.declared.seam.Seam.{Seam}
 use Rattle.rice_c.specs.declared.feed.RiceFeed.{RiceFeed}
 use Rattle.rice_c.specs.declared.report.RiceReport.{RiceReport}
 use Rattle.rice_c.specs.declared.setting.RiceSetting.{RiceSetting}
 use Rattle.rice_c.specs.declared.status.Status.TheVariants.{Done}
-use Rattle.rice_c.specs.Calls.{StandsInFront}
+use Rattle.rice_c.specs.Calls.{WritesFront, ReportsCall}
 use Rattle.rice_c.specs.Reports.{report_of}
-use Rattle.rice_c.specs.Statuses.{status_number, fault_status, fault_place}
+use Rattle.rice_c.specs.Statuses.{status_number}
 
 -- what is counted at a seam
 abbrev pub report_of_seam : Seam → Report
@@ -25,17 +24,6 @@ pub record Begins (s : Parameters) (setting : RiceSetting) (feed : RiceFeed) (st
   pub done : status ≡ status_number Done
   pub setting_is : feed.setting ≡ setting
   pub none : IsSeam s feed.seam []
-
--- These bytes were written at the front of a memory, and the status and the report tell it.
-pub record WritesFront (old new bytes : List ℕ) (fault : Option Fault) (r : RiceReport) (status : ℕ) : Type 0 where
-  pub front : StandsInFront bytes old new
-  pub fits : length bytes ≤ length old
-  -- a write fails only where the output is full
-  pub reads : fault ≢ Some Read
-  pub full : fault ≡ Some Write → length bytes ≡ length old
-  pub status_is : status ≡ status_number (fault_status fault)
-  pub written : r.written ≡ length bytes
-  pub place : r.place ≡ fault_place fault
 
 abbrev pub fault_of : Result Seam Fault → Option Fault
 fault_of (Ok seam) = None
@@ -54,7 +42,8 @@ pub record PushesInto (s : Parameters) (xs : List ℤ) (input old new : List ℕ
   pub encodes : EncodesMore s xs input (Some (begun name old)) (Some room) outcome
   pub feeds : feed_new ≡ fed feed_old outcome
   pub counts : report_of r ≡ report_of_seam feed_new.seam
-  pub writes : WritesFront old new room.bytes (fault_of outcome) r status
+  pub writes : WritesFront room.bytes old new (fault_of outcome)
+  pub tells : ReportsCall room.bytes (fault_of outcome) r status
 
 -- a call that encodes the last samples
 pub record FinishesInto (s : Parameters) (xs : List ℤ) (input old new : List ℕ) (r : RiceReport) (status : ℕ) : Type 0 where
@@ -63,4 +52,5 @@ pub record FinishesInto (s : Parameters) (xs : List ℤ) (input old new : List �
   pub room : Room
   pub encodes : EncodesRest s xs input (Some (begun name old)) (Some room) (report_of r) fault
   pub within : EncodesWithin s (report_of r)
-  pub writes : WritesFront old new room.bytes fault r status
+  pub writes : WritesFront room.bytes old new fault
+  pub tells : ReportsCall room.bytes fault r status

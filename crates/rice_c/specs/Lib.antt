@@ -1,4 +1,4 @@
-pub mod Asked
+pub mod AskedSetting
 pub mod Calls
 pub mod Drains
 pub mod Feeds

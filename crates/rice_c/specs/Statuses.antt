@@ -7,7 +7,7 @@ use Rattle.rice_stream.specs.declared.outcome.Fault.{Fault}
 use Rattle.rice_stream.specs.declared.outcome.Fault.TheVariants as faults
 use Rattle.rice_stream.specs.declared.stand.Pause.{Pause}
 use Rattle.rice_stream.specs.declared.stand.Pause.TheVariants as pauses
-use Rattle.rice_c.specs.Asked.{setting_asked}
+use Rattle.rice_c.specs.AskedSetting.{setting_asked}
 use Rattle.rice_c.specs.declared.setting.RiceSetting.{RiceSetting}
 use Rattle.rice_c.specs.declared.status.Status.{Status}
 use Rattle.rice_c.specs.declared.status.Status.TheVariants.{Done, BadBits, BadBlock, BadInterval, SampleOutOfRange, InputCut, CodeEnds, RunPastSegment, ResidualTooLarge, NoRoom, TooLong, OnlyZeros, MoreCode, BadPlace}

@@ -6,7 +6,7 @@ ghost use Rattle.rice_stream.specs.Calls.{Fails};
 ghost use Rattle.rice_stream.specs.Encodes.{EncodesBetween, EncodesWithin};
 ghost use Rattle.rice_stream.specs.Decodes.{DecodesBetween, DecodesWithin};
 ghost use Rattle.rice_c.specs.declared.status.Status.TheVariants.{NoRoom};
-ghost use Rattle.rice_c.specs.Asked.{setting_asked};
+ghost use Rattle.rice_c.specs.AskedSetting.{setting_asked};
 ghost use Rattle.rice_c.specs.Calls.{EncodesInto, DecodesInto, RefusesSetting};
 ghost use Rattle.rice_c.specs.Rooms.{code_room};
 ghost use Rattle.rice_c.specs.Statuses.{status_number};

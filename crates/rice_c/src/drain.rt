@@ -1,8 +1,8 @@
 //! Decoding piece by piece, for a caller that has not all of a code, or no room for all samples. All that is kept lies in the
 //! caller's memory.
-ghost use Rattle.std.specs.Prelude.{◌≡◌, Bool, true, false, List, IfOk, IfErr, ℤ};
+ghost use Rattle.std.specs.Prelude.{◌≡◌, ◌↔◌, IsTrue, Bool, List, IfOk, IfErr, ℤ};
 ghost use Rattle.rice_stream.specs.Pulling.{Origin, IsStand, IsSomeStand, at_front};
-ghost use Rattle.rice_c.specs.Asked.{setting_asked};
+ghost use Rattle.rice_c.specs.AskedSetting.{setting_asked};
 ghost use Rattle.rice_c.specs.Calls.{RefusesSetting};
 ghost use Rattle.rice_c.specs.Drains.{CanBegin, OpensDrain, PullsInto};
 ghost use Rattle.rice_c.specs.Statuses.{status_number, refusal_status as refusal_status_of};
@@ -75,8 +75,7 @@ pub extern "C" fn rice_open_at(
 
 /// Returns whether an interval can begin after so many samples and bits.
 fn can_begin(setting: &Setting, samples: u64, bits: u64) -> bool
-    ensures yes { result ≡ true → CanBegin setting.now samples bits }
-    ensures no { result ≡ false → CanBegin setting.now samples bits → ⊥ }
+    ensures { IsTrue result ↔ CanBegin setting.now samples bits }
 {
     if setting.pads() && bits % 8 > 0 {
         return false;

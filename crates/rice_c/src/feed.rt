@@ -6,7 +6,7 @@ ghost use Rattle.rice_stream.specs.Calls.{Fails};
 ghost use Rattle.rice_stream.specs.Encodes.{EncodesWithin};
 ghost use Rattle.rice_stream.specs.EncodingState.{PushFails};
 ghost use Rattle.rice_stream.specs.Feeding.{IsSeam, IsSomeSeam, EncodesOn, EncodesToEnd};
-ghost use Rattle.rice_c.specs.Asked.{setting_asked};
+ghost use Rattle.rice_c.specs.AskedSetting.{setting_asked};
 ghost use Rattle.rice_c.specs.Calls.{RefusesSetting};
 ghost use Rattle.rice_c.specs.Feeds.{Begins, PushesInto, FinishesInto, report_of_seam};
 ghost use Rattle.rice_samples.specs.Parameters.{width};

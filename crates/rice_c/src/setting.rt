@@ -3,7 +3,7 @@ ghost use Rattle.std.specs.Prelude.{◌≡◌, ◌<◌, ◌≤◌, IfOk, IfErr};
 ghost use Rattle.rice_samples.specs.Limits.{most_input};
 ghost use Rattle.rice_samples.specs.Parameters.{IsLegal, width};
 ghost use Rattle.rice_code.specs.Bounds.{step_bound};
-ghost use Rattle.rice_c.specs.Asked.{setting_asked};
+ghost use Rattle.rice_c.specs.AskedSetting.{setting_asked};
 ghost use Rattle.rice_c.specs.Rooms.{code_room, set_room};
 ghost use Rattle.rice_c.specs.Statuses.{status_number, check_of, refusal_status};
 
@@ -36,7 +36,7 @@ pub struct RiceSetting {
 }
 
 impl RiceSetting {
-    ghost use Rattle.rice_c.specs.Asked.{setting_asked};
+    ghost use Rattle.rice_c.specs.AskedSetting.{setting_asked};
 
     /// Returns the setting that is asked for, or why it is refused.
     pub fn legal(&self) -> Result<Setting, SettingFault>

@@ -1,7 +1,7 @@
 //! Spells a caller's samples as the setting wants them.
 ghost use Rattle.std.specs.Prelude.{◌≡◌, IfOk, IfErr};
-ghost use Rattle.rice_samples.specs.bytes.Patterns.{SpellsPatterns};
-ghost use Rattle.rice_c.specs.Asked.{setting_asked};
+ghost use Rattle.rice_samples.specs.bytes.SpelledPatterns.{SpellsPatterns};
+ghost use Rattle.rice_c.specs.AskedSetting.{setting_asked};
 ghost use Rattle.rice_c.specs.Statuses.{status_number, refusal_status as refusal_status_of};
 ghost use Rattle.rice_c.specs.declared.status.Status.TheVariants.{Done};
 

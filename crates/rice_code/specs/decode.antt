@@ -5,5 +5,5 @@ pub mod DecoderState
 pub mod Rows
 pub mod PlainBlocks
 pub mod ReadSets
-pub mod Restored
+pub mod BlockResiduals
 pub mod FieldsAhead

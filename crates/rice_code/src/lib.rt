@@ -6,15 +6,15 @@ pub mod decode;
 pub mod decoding_examples;
 pub mod encode;
 pub mod examples;
+mod known_len;
 pub mod laws;
-mod sizes;
 
 pub use bounds::{added_bound, bit_bound, padded_bound, set_bound, step_bound};
 pub use decode::answer::{CodeFault, NextBlock};
 pub use decode::decoder::Decoder;
 pub use encode::SegmentSink;
 pub use encode::coder::{Coder, Pushed, SizedCoder};
-pub use sizes::known_or;
+pub use known_len::known_or;
 
 // What these hold, in bytes, on a machine with pointers of eight.
 const _: () = prove!(size_of::<SegmentSink>() == 16440);

@@ -1,2 +1,3 @@
 -- Blocks of residuals.
 pub mod Pairs
+pub mod Stops

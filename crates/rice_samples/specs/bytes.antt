@@ -1,5 +1,5 @@
 -- Samples in bytes.
 pub mod PatternLanes
-pub mod Patterns
+pub mod SpelledPatterns
 pub mod Spelling
 pub mod Values

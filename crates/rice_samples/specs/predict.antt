@@ -2,3 +2,4 @@
 pub mod LevelsOfParts
 pub mod Near
 pub mod Residuals
+pub mod RestoredLevels

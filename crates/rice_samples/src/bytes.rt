@@ -1,7 +1,7 @@
 //! Samples in bytes: the one spelling of each, and reading and writing several at once.
 
 pub mod pattern_lanes;
-pub mod patterns;
 pub mod reading;
+pub mod spelled_patterns;
 pub mod spelling;
 pub mod writing;

@@ -4,17 +4,17 @@
 
 pub mod blocks;
 pub mod bytes;
-mod digits;
 pub mod examples;
 pub mod laws;
+mod patterns;
 pub mod predict;
 pub mod setting;
 
 pub use blocks::block::Block;
 pub use blocks::segment::{Residuals, Segment};
 pub use bytes::pattern_lanes::bytes_of_patterns;
-pub use bytes::patterns::spell_patterns;
 pub use bytes::reading::levels_of;
+pub use bytes::spelled_patterns::spell_patterns;
 pub use bytes::spelling::{bytes_of, sample_of};
 pub use bytes::writing::{write_spellings, write_spellings_as};
 pub use predict::preprocessor::{from_pattern, pattern, residual, restore};

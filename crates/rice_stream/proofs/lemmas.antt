@@ -9,7 +9,7 @@ pub mod EncodingLemmas
 pub mod FedPieces
 pub mod LevelLemmas
 pub mod OneDecoding
-pub mod PartLemmas
+pub mod SamplesInParts
 pub mod OnePulledPiece
 pub mod PulledPieces
 pub mod PullingLemmas

@@ -8,4 +8,4 @@ pub mod Laws
 pub mod Pulling
 pub mod Rows
 pub mod Runs
-pub mod Writes
+pub mod FailedWrites

@@ -5,7 +5,7 @@ use Rattle.rice_bits.specs.device.Outlet.{Room, Appends}
 use Rattle.rice_samples.specs.Parameters.{Parameters, width}
 use Rattle.rice_code.specs.decode.DecoderState.{DecoderState}
 use Rattle.rice_code.specs.decode.PlainBlocks.{GivesRow}
-use Rattle.rice_stream.specs.Writes.{TakesPart}
+use Rattle.rice_stream.specs.FailedWrites.{TakesPart}
 
 -- the bytes of so many blocks
 abbrev pub row_bytes : Parameters → ℕ → ℕ

@@ -5,7 +5,7 @@ use Rattle.rice_samples.specs.Parameters.{Parameters}
 use Rattle.rice_samples.specs.bytes.Spelling.{spellings}
 use Rattle.rice_code.specs.decode.Decoder.{RepeatsBlocks}
 use Rattle.rice_code.specs.decode.DecoderState.{DecoderState}
-use Rattle.rice_stream.specs.Writes.{TakesPart}
+use Rattle.rice_stream.specs.FailedWrites.{TakesPart}
 
 -- bytes that follow one another again and again
 abbrev pub repeated : ℕ → List ℕ → List ℕ

@@ -4,7 +4,7 @@ ghost use Rattle.rice_bits.specs.device.Outlet.{Appends};
 ghost use Rattle.rice_bits.specs.Bits.{whole_bytes, bits_in_bytes};
 ghost use Rattle.rice_samples.specs.Parameters.{value_count, values_at, width as width_of};
 ghost use Rattle.rice_samples.specs.bytes.Spelling.{spellings};
-ghost use Rattle.rice_stream.specs.Writes.{TakesPart};
+ghost use Rattle.rice_stream.specs.FailedWrites.{TakesPart};
 
 use rice_bits::{BitSink, Outlet, WriteFault};
 use rice_samples::{Setting, write_spellings, write_spellings_as};

@@ -1,6 +1,6 @@
+use crate::case_table::{Columns, bytes_of};
 use crate::cases::Cases;
 use crate::devices::{MemoryIn, MemoryOut, ZeroIn};
-use crate::table::{Columns, bytes_of};
 use rice_bits::{
     BitFault, BitReader, BitSink, FromBufWriter, FromReader, FromWriter, Intake, Meter, Outlet,
     ReadFault, SliceIn, SliceOut, WriteFault, join, low_digits,

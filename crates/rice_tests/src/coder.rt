@@ -1,8 +1,8 @@
 ghost use Rattle.std.specs.Prelude.{◌≡◌, ◌<◌, ◌≤◌, true, All, length};
 ghost use Rattle.rice_samples.specs.Parameters.{value_count};
 
+use crate::case_table::{Columns, bytes_of, number_of, samples_of, setting_of};
 use crate::cases::Cases;
-use crate::table::{Columns, bytes_of, number_of, samples_of, setting_of};
 use rice_bits::{BitSink, Meter};
 use rice_code::{Coder, SegmentSink, bit_bound, padded_bound, step_bound};
 use rice_samples::Setting;

@@ -1,9 +1,9 @@
 ghost use Rattle.std.specs.Prelude.{◌≡◌, ◌+◌, ◌^◌, ◌<◌, true};
 ghost use Rattle.rice_code.specs.decode.BlocksAhead.{HasLanes};
 
+use crate::case_table::{Columns, bytes_of, number_of, samples_of, setting_of};
 use crate::cases::Cases;
 use crate::devices::MemoryIn;
-use crate::table::{Columns, bytes_of, number_of, samples_of, setting_of};
 use arrayvec::ArrayVec;
 use rice_bits::{BitReader, Intake, Meter};
 use rice_code::{CodeFault, Decoder, NextBlock};

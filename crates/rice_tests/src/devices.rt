@@ -1,7 +1,7 @@
 //! Devices over memory, for tests. Those over slices can be made to work in small pieces, and to fail at a place.
 ghost use Rattle.std.specs.Prelude.{◌≡◌, ◌+◌, ◌-◌, ◌^◌, ◌<◌, ◌≤◌, ◌↔◌, length, drop, take, min, [], Some, IsErr, IsOk, IfOk, OnErr};
 ghost use Rattle.std.specs.Io.KnownBytes.{Consumes, IsAtEnd, Keeps};
-ghost use Rattle.rice_bits.specs.device.Device.{CountsFailure};
+ghost use Rattle.rice_bits.specs.device.Failures.{CountsFailure};
 ghost use Rattle.rice_bits.specs.device.Outlet as outlet;
 
 use rice_bits::{Intake, Outlet, ReadFault, WriteFault};

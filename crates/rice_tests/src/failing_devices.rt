@@ -1,7 +1,7 @@
 //! Devices that fail, and samples that are none.
+use crate::case_table::{Columns, bytes_of, fault_of, number_of, setting_of};
 use crate::cases::Cases;
 use crate::devices::{MemoryIn, MemoryOut};
-use crate::table::{Columns, bytes_of, fault_of, number_of, setting_of};
 use rice_stream::{Fault, decode, encode};
 use std::alloc::Global;
 use std::test::Fail;

@@ -8,6 +8,8 @@
 #[cfg(test)]
 mod bits;
 #[cfg(test)]
+mod case_table;
+#[cfg(test)]
 mod cases;
 #[cfg(test)]
 mod coder;
@@ -20,5 +22,3 @@ mod failing_devices;
 mod pulling;
 #[cfg(test)]
 mod samples;
-#[cfg(test)]
-mod table;

@@ -1,9 +1,9 @@
 ghost use Rattle.std.specs.Prelude.{Bool, List, ℤ};
 ghost use Rattle.rice_stream.specs.Pulling.{Origin, IsStand};
 
+use crate::case_table::setting_of;
 use crate::cases::Cases;
 use crate::devices::MemoryIn;
-use crate::table::setting_of;
 use arrayvec::ArrayVec;
 use rice_bits::{BitReader, Meter};
 use rice_code::{Decoder, NextBlock};

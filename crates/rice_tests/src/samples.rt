@@ -1,7 +1,7 @@
 ghost use Rattle.std.specs.Prelude.{◌≡◌, ◌<◌, true, All};
 
+use crate::case_table::{self, Columns, answer_to, bytes_of, setting_of};
 use crate::cases::Cases;
-use crate::table::{self, Columns, answer_to, bytes_of, setting_of};
 use rice_bits::{BitSink, Meter};
 use rice_samples::{
     Segment, Setting, SettingFault, bytes_of as bytes_of_sample, from_pattern, level_of_pattern,
@@ -534,7 +534,7 @@ fn levels_of_bytes(rt: HostRuntime) -> Result<(), Fail> {
         let mut columns = Columns::of(line);
         let setting = setting_of(columns.next())?;
         let len = columns.next().parse::<usize>()?;
-        let expected = table::samples_of(columns.next(), rt.alloc())?;
+        let expected = case_table::samples_of(columns.next(), rt.alloc())?;
         let expected = expected.as_slice();
         let width = setting.width() as usize;
         let mut read = [0; 4];

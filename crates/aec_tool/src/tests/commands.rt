@@ -2,7 +2,7 @@
 use crate::host::Host;
 use crate::progress::Progress;
 use crate::start_up::start;
-use crate::tests::memory::{Memory, Record, Told};
+use crate::tests::runtime_in_memory::{Memory, Record, Told};
 use std::test::Fail;
 
 // Eight samples of 7 bits, all 0, coded without compression.

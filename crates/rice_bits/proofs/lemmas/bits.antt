@@ -3,7 +3,7 @@ pub mod Bytes
 pub mod EightBytes
 pub mod FirstOnes
 pub mod Joining
-pub mod OneWay
+pub mod ReadInOneWay
 pub mod PieceSearch
 pub mod Words
 pub mod SinkBytes

@@ -1,7 +1,7 @@
 //! An outlet over a buffer of `std` in front of a writer.
 ghost use Rattle.std.specs.Prelude.{◌≡◌, ◌+◌, ◌^◌, ◌<◌, ◌≤◌, length, take, IfOk, OnErr};
 ghost use Rattle.std.specs.Io.Buffered.{writer_contents};
-ghost use Rattle.rice_bits.specs.device.Device.{CountsFailure};
+ghost use Rattle.rice_bits.specs.device.Failures.{CountsFailure};
 ghost use Rattle.rice_bits.specs.device.Outlet.{Appends, Keeps, known};
 
 use crate::device::{Outlet, WriteFault};

@@ -1,7 +1,7 @@
 //! Devices over slices that fail at no place of their own: one never fails, and the other only where its slice is full.
 ghost use Rattle.std.specs.Prelude.{◌≡◌, ◌+◌, ◌^◌, ◌<◌, ◌≤◌, ◌↔◌, length, drop, take, min, [], Some, IsOk, IsErr, IfOk, OnErr};
 ghost use Rattle.std.specs.Io.KnownBytes.{Consumes, IsAtEnd, Keeps};
-ghost use Rattle.rice_bits.specs.device.Device.{CountsFailure};
+ghost use Rattle.rice_bits.specs.device.Failures.{CountsFailure};
 ghost use Rattle.rice_bits.specs.device.Outlet as outlet;
 
 use crate::device::{Intake, Outlet, ReadFault, WriteFault};

@@ -14,7 +14,7 @@ use Rattle.rice_samples.proofs.lemmas.bytes.SpellingLengths.{length-spellings, s
 use Rattle.rice_c.specs.declared.feed.RiceFeed.{RiceFeed}
 use Rattle.rice_c.specs.Feeds.{fault_of, fed}
 use Rattle.rice_c.specs.Laws.{AreFed, FeedsTellPlaces, Push, last_feed, written_by}
-use Rattle.rice_c.proofs.lemmas.Room.{none_of}
+use Rattle.rice_c.proofs.lemmas.CallRoom.{none_of}
 
 -- The first samples of an input were fed, and so many bytes are written.
 record HasPushed (s : Parameters) (input : List ℕ) (feed : RiceFeed) (written : ℕ) : Type 0 where
@@ -29,7 +29,7 @@ pushes_on : (s : Parameters) (input : List ℕ) (feed : RiceFeed) (p : Push) (ps
     → AreFed s input feed (p ∷ ps) → HasPushed s input p.feed (written + p.report.written)
 pushes_on s input feed p ps written h are_fed =
     let d = are_fed.2 h.samples h.stands in
-    by_outcome d.outcome d.name d.room d.encodes d.feeds d.writes.written (none_of (fault_of d.outcome) (sym d.writes.status_is ∙ are_fed.1) d.writes.reads)
+    by_outcome d.outcome d.name d.room d.encodes d.feeds d.tells.written (none_of (fault_of d.outcome) (sym d.tells.status ∙ are_fed.1) d.writes.reads)
   where
     xs : List ℤ
     xs = h.samples

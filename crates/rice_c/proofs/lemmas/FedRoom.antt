@@ -24,7 +24,7 @@ use Rattle.rice_stream.proofs.lemmas.Seams.{cut_grows}
 use Rattle.rice_c.specs.Feeds.{fault_of}
 use Rattle.rice_c.specs.Laws.{PushRoomSuffices}
 use Rattle.rice_c.specs.Rooms.{push_room}
-use Rattle.rice_c.proofs.lemmas.Room.{bound_le, few_samples, few_whole, stops_short, write_of}
+use Rattle.rice_c.proofs.lemmas.CallRoom.{bound_le, few_samples, few_whole, stops_short, write_of}
 
 -- the samples of a feed are legal
 fed_legal : (s : Parameters) (seam : Seam) (xs : List ℤ) → IsSeam s seam xs → All (IsSample s) xs
@@ -104,9 +104,9 @@ module _ (s : Parameters) (legal : IsLegal s) (seam : Seam) (xs : List ℤ) (h :
 pub push_room_suffices : PushRoomSuffices
 push_room_suffices s legal xs input old new r status = (
   λ before after h p enough no.
-      (let e = write_of (fault_of p.outcome) (sym p.writes.status_is ∙ no) in
+      (let e = write_of (fault_of p.outcome) (sym p.tells.status ∙ no) in
       omega (arith, push_wants s legal before.seam xs h input old p.name p.room p.outcome e p.encodes, p.writes.full e, enough)),
   λ seam h p enough no.
-      (let e = write_of p.fault (sym p.writes.status_is ∙ no) in
+      (let e = write_of p.fault (sym p.tells.status ∙ no) in
       omega (arith, finish_wants s legal seam xs h input old p.name p.room _ p.fault e p.encodes, p.writes.full e, enough)),
 )

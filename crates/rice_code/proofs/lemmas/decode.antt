@@ -1,11 +1,11 @@
 -- The decoder.
 pub mod SplitAhead
-pub mod CutSets
+pub mod SetsRead
 pub mod DecoderLemmas
 pub mod RowLemmas
 pub mod JoinedResiduals
 pub mod PlainBlocksRead
-pub mod ReadLemmas
+pub mod OptionsRead
 pub mod RestoredBlocks
 pub mod FirstLanes
 pub mod SplitRows

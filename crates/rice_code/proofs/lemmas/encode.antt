@@ -9,7 +9,7 @@ pub mod RangesWritten
 pub mod PendingRuns
 pub mod PushedCode
 pub mod ChoiceLemmas
-pub mod SegmentSteps
+pub mod SegmentBlocks
 pub mod SeveralHeld
 pub mod ShortLowParts
 pub mod HighParts

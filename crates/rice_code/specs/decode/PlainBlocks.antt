@@ -3,7 +3,7 @@ use Rattle.std.specs.Prelude.{◌≡◌, ◌⊎◌, ℕ, zero, suc, ◌+◌, ◌
 use Rattle.rice_bits.specs.Bits.{word}
 use Rattle.rice_bits.specs.read.Reader.{Reader}
 use Rattle.rice_samples.specs.Parameters.{Parameters, id_len, width as width_of}
-use Rattle.rice_samples.specs.bytes.Values.{ordered_bytes}
+use Rattle.rice_samples.specs.bytes.Spelling.{ordered_bytes}
 use Rattle.rice_code.specs.decode.BlocksAhead.{GivesBytes}
 use Rattle.rice_code.specs.decode.DecoderState.{DecoderState}
 use Rattle.rice_code.specs.decode.Rows.{AreCounted}

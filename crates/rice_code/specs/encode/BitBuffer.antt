@@ -1,5 +1,5 @@
 -- Bits that are gathered before they are put into a sink, and what a put does.
-use Rattle.std.specs.Prelude.{◌≡◌, ℕ, ◌+◌, ◌^◌, ◌<◌, ◌≤◌, Bool, List, ◌++◌, length}
+use Rattle.std.specs.Prelude.{◌≡◌, ℕ, ◌+◌, ◌*◌, ◌^◌, ◌<◌, ◌≤◌, Bool, List, ◌++◌, length}
 use Rattle.rice_bits.specs.Limits.{step_limit}
 use Rattle.rice_bits.specs.Bits.{put_width}
 use Rattle.rice_samples.specs.Parameters.{Parameters}
@@ -36,6 +36,10 @@ AddsBits more sink_old fields_old sink_new fields_new meter_old meter_new = Adds
 -- there is room for a coded data set, and for `looks` looks at residuals
 abbrev pub HasRoomForSet : Parameters → CodedDataSet → ℕ → List Bool → ℕ → Type 0
 HasRoomForSet s set looks sink meter = HasRoomFor (cost s set) (cost s set + looks) (length sink) meter
+
+-- and for one of a block, of which each residual is looked at twice at most
+abbrev pub HasRoomForOption : Parameters → CodedDataSet → List Bool → ℕ → Type 0
+HasRoomForOption s set sink meter = HasRoomForSet s set (2 * s.block) sink meter
 
 -- the coded data set is put, with `least` to `most` looks at residuals
 pub record PutsSet (s : Parameters) (set : CodedDataSet) (least most : ℕ) (old new : List Bool) (meter_old meter_new : ℕ) : Type 0 where

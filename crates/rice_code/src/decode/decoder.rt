@@ -1,5 +1,5 @@
 //! Decodes coded data sets, a block a call.
-ghost use Rattle.std.specs.Prelude.{◌≡◌, ◌≢◌, ◌⊎◌, ℕ, ◌+◌, ◌-◌, ◌*◌, ◌%◌, ◌^◌, ◌<◌, ◌≤◌, true, false, All, [], length, take, None, Option, Some, IfSome, IfNone, Ok, pos};
+ghost use Rattle.std.specs.Prelude.{◌≡◌, ◌≢◌, ℕ, ◌+◌, ◌-◌, ◌*◌, ◌%◌, ◌^◌, ◌<◌, ◌≤◌, ◌↔◌, IsTrue, true, false, All, [], length, take, None, Option, Some, IfSome, IfNone, Ok, pos};
 ghost use Rattle.rice_bits.specs.Limits.{step_limit, most_bits_read};
 ghost use Rattle.rice_samples.specs.Parameters.{id_len, value_at, value_count, values_at};
 ghost use Rattle.rice_samples.specs.Places.{blocks_left};
@@ -21,7 +21,7 @@ use crate::decode::options::SetSummary;
 use crate::decode::plain_blocks::{last_of_plain, plain_len, spell_plain_row};
 use crate::decode::restoring::{restore_block, restore_zeros};
 use crate::decode::split_ahead::{spell_ahead, split_ahead, take_ahead};
-use crate::sizes::known_or;
+use crate::known_len::known_or;
 use arrayvec::ArrayVec;
 use rice_bits::{BitFault, BitReader, Intake, Meter};
 use rice_samples::Setting;
@@ -241,8 +241,7 @@ impl Decoder {
     /// Returns whether the next block is in a run.
     #[inline]
     pub fn is_in_run(&self) -> bool
-        ensures some { result ≡ true → 0 < self.now.run }
-        ensures none { result ≡ false → self.now.run ≡ 0 }
+        ensures { IsTrue result ↔ (0 < self.now.run) }
     {
         self.run != 0
     }
@@ -251,8 +250,7 @@ impl Decoder {
     /// none is known to be.
     #[inline(always)]
     pub fn repeats(&self) -> bool
-        ensures some { result ≡ true → (0 < self.now.run) × (self.now.setting.preprocess ≡ true) }
-        ensures none { result ≡ false → (self.now.run ≡ 0) ⊎ (self.now.setting.preprocess ≡ false) }
+        ensures { IsTrue result ↔ ((0 < self.now.run) × (self.now.setting.preprocess ≡ true)) }
     {
         self.is_in_run() && self.setting.preprocess()
     }

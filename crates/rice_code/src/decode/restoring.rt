@@ -5,7 +5,7 @@ ghost use Rattle.rice_samples.specs.predict.Residuals.{pattern, last_of};
 ghost use Rattle.rice_code.specs.code.Blocks.{block_data, zero_block};
 ghost use Rattle.rice_code.specs.code.SoundBlocks.{block_with};
 ghost use Rattle.rice_code.specs.code.Forms.{IsReference, IsBlock, IsZeroAtReference, AllFit};
-ghost use Rattle.rice_code.specs.decode.Restored.{residual_at};
+ghost use Rattle.rice_code.specs.decode.BlockResiduals.{residual_at};
 
 use arrayvec::ArrayVec;
 use rice_samples::{

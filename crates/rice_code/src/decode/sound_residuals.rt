@@ -1,5 +1,5 @@
 //! Joins the parts of residuals, and says whether residuals are sound.
-ghost use Rattle.std.specs.Prelude.{◌≡◌, ◌-◌, ◌/◌, ◌^◌, ◌<◌, ◌≤◌, true, false, length, slice_index, OnSome, All};
+ghost use Rattle.std.specs.Prelude.{◌≡◌, ◌-◌, ◌/◌, ◌^◌, ◌<◌, ◌≤◌, ◌↔◌, IsTrue, true, length, slice_index, OnSome, All};
 ghost use Rattle.rice_bits.specs.read.JoinedParts.{joined_parts};
 
 /// Joins each high part with the low part of k bits at its place, and writes the residual there.
@@ -22,8 +22,7 @@ pub fn join_all(highs: &[u32], k: u32, lows: &mut [u32])
 pub fn joined_are_below(bits: u32, k: u32, residuals: &[u32]) -> bool
     requires bits { (1 ≤ bits) × (bits ≤ 32) }
     requires highs { All (λ d. d / 2 ^ k ≤ (2 ^ bits - 1) / 2 ^ k) residuals.now }
-    ensures below { result ≡ true → All (λ d. d < 2 ^ bits) residuals.now }
-    ensures not_below { result ≡ false → All (λ d. d < 2 ^ bits) residuals.now → ⊥ }
+    ensures { IsTrue result ↔ All (λ d. d < 2 ^ bits) residuals.now }
 {
     // A high part that is small enough makes a residual that is, unless more digits are split off than a sample has.
     if k <= bits {
@@ -35,8 +34,7 @@ pub fn joined_are_below(bits: u32, k: u32, residuals: &[u32]) -> bool
 /// Returns whether all residuals are below `count`.
 pub fn are_below(residuals: &[u32], count: u64) -> bool
     requires { (0 < count) × (count ≤ 2 ^ 32) }
-    ensures below { result ≡ true → All (λ d. d < count) residuals.now }
-    ensures not_below { result ≡ false → All (λ d. d < count) residuals.now → ⊥ }
+    ensures { IsTrue result ↔ All (λ d. d < count) residuals.now }
 {
     // The loop is laid out for blocks of 8, with a reference and without.
     match residuals.len() {
@@ -50,8 +48,7 @@ pub fn are_below(residuals: &[u32], count: u64) -> bool
 #[inline(always)]
 pub fn each_is_below(residuals: &[u32], count: u64) -> bool
     requires { (0 < count) × (count ≤ 2 ^ 32) }
-    ensures below { result ≡ true → All (λ d. d < count) residuals.now }
-    ensures not_below { result ≡ false → All (λ d. d < count) residuals.now → ⊥ }
+    ensures { IsTrue result ↔ All (λ d. d < count) residuals.now }
 {
     let greatest = (count - 1) as u32;
     let mut all = true;
@@ -68,10 +65,8 @@ pub fn are_sound(reference: Option<u32>, few: bool, residuals: &[u32], count: u6
     requires some { 0 < length residuals.now }
     requires few { few ≡ true → All (λ d. d < 64) residuals.now }
     requires count { (0 < count) × (count ≤ 2 ^ 32) }
-    ensures sound { result ≡ true → OnSome reference (slice_index residuals.now 0 ≡ 0) ×
-        All (λ d. d < count) residuals.now }
-    ensures unsound { result ≡ false → OnSome reference (slice_index residuals.now 0 ≡ 0) ×
-        All (λ d. d < count) residuals.now → ⊥ }
+    ensures { IsTrue result ↔ (OnSome reference (slice_index residuals.now 0 ≡ 0) ×
+        All (λ d. d < count) residuals.now) }
 {
     if reference.is_some() && residuals[0] != 0 {
         return false;

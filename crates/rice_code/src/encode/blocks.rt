@@ -15,7 +15,7 @@ use crate::encode::choice::{Choice, choose};
 use crate::encode::held_block::HeldBlock;
 use crate::encode::options::{put_no_compression, put_run, put_second_extension, put_split};
 use crate::encode::prepared_setting::PreparedSetting;
-use crate::sizes::known_or;
+use crate::known_len::known_or;
 use rice_bits::Meter;
 use rice_samples::{Block, Residuals};
 

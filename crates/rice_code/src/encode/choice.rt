@@ -1,11 +1,12 @@
 //! The search for the option that codes a block in the fewest bits.
-ghost use Rattle.std.specs.Prelude.{◌≡◌, All, ℕ, ◌+◌, ◌*◌, ◌/◌, ◌^◌, ◌<◌, ◌≤◌, min, sum_by};
+ghost use Rattle.std.specs.Prelude.{◌≡◌, All, ◌+◌, ◌*◌, ◌^◌, ◌<◌, ◌≤◌, min};
 ghost use Rattle.rice_bits.specs.Limits.{step_limit};
 ghost use Rattle.rice_samples.specs.Parameters.{k_max};
+ghost use Rattle.rice_samples.specs.blocks.Stops.{IsFirstStop};
 ghost use Rattle.rice_code.specs.code.CodedDataSets.{Split, cost};
 ghost use Rattle.rice_code.specs.code.Choice.{shortest, IsBestSplit, best_split};
 ghost use Rattle.rice_code.specs.code.SoundBlocks.{IsSoundData};
-ghost use Rattle.rice_code.specs.encode.Chosen.{chosen_set, head_len, IsSplitWithin};
+ghost use Rattle.rice_code.specs.encode.ChosenOption.{chosen_set, head_len, IsSplitWithin};
 
 use crate::encode::cost::{coded_len, no_compression_cost, second_extension_cost, split_cost};
 use crate::encode::held_block::HeldBlock;
@@ -51,15 +52,8 @@ fn split_stop(
     requires sound { IsSoundData setting.now block.now }
     requires price { price ≤ 64 }
     requires meter { meter.old + setting.now.block * (k_max setting.now + 1) < step_limit }
-    ensures limit { result.0 ≤ k_max setting.now }
-    ensures value { result.1 ≡ sum_by (λ d. d / 2 ^ result.0) block.now.residuals }
+    ensures stop { IsFirstStop block.now.residuals (k_max setting.now) price result.0 result.1 }
     ensures size { result.1 ≤ 2 ^ 38 }
-    ensures falls { (j : ℕ) → j < result.0 →
-        sum_by (λ d. d / 2 ^ (j + 1)) block.now.residuals + price <
-        sum_by (λ d. d / 2 ^ j) block.now.residuals }
-    ensures stops { result.0 < k_max setting.now →
-        sum_by (λ d. d / 2 ^ result.0) block.now.residuals ≤
-        sum_by (λ d. d / 2 ^ (result.0 + 1)) block.now.residuals + price }
     ensures steps { meter.new ≡ meter.old +
         setting.now.block * (min (result.0 + 1) (k_max setting.now) + 1) }
 {

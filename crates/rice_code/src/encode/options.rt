@@ -3,11 +3,11 @@ ghost use Rattle.std.specs.Prelude.{◌≡◌, ◌+◌, ◌-◌, ◌*◌, ◌^�
 ghost use Rattle.rice_bits.specs.Bits.{word};
 ghost use Rattle.rice_samples.specs.Parameters.{k_max, value_count};
 ghost use Rattle.rice_code.specs.code.CodedDataSets.{NoCompression, SecondExtension, Split, cost as cost_of, sent_residuals, reference_bits, reference_len};
-ghost use Rattle.rice_code.specs.encode.BitBuffer.{HasRoomFor, HasRoomForSet, PutsSet};
+ghost use Rattle.rice_code.specs.encode.BitBuffer.{HasRoomFor, HasRoomForOption, HasRoomForSet, PutsSet};
 ghost use Rattle.rice_code.specs.code.Runs.{run_of_blocks};
 ghost use Rattle.rice_code.specs.encode.HeldBlocks.{zeros_of_run};
 ghost use Rattle.rice_code.specs.code.SoundBlocks.{IsSoundData};
-ghost use Rattle.rice_code.specs.encode.Chosen.{head_len};
+ghost use Rattle.rice_code.specs.encode.ChosenOption.{head_len};
 
 use crate::encode::SegmentSink;
 use crate::encode::bit_buffer::BitBuffer;
@@ -72,8 +72,7 @@ pub fn put_no_compression(
     meter: &mut Meter,
 )
     requires sound { IsSoundData setting.now block.now }
-    requires room { HasRoomForSet setting.now (NoCompression block.now) (2 * setting.now.block)
-        sink.old meter.old }
+    requires room { HasRoomForOption setting.now (NoCompression block.now) sink.old meter.old }
     ensures { PutsSet setting.now (NoCompression block.now) (setting.now.block - 1)
         (2 * setting.now.block) sink.old sink.new meter.old meter.new }
 {
@@ -99,8 +98,7 @@ pub fn put_second_extension(
     requires sound { IsSoundData setting.now block.now }
     requires cost { cost + head_len setting.now block.now ≡
         cost_of setting.now (SecondExtension block.now) }
-    requires room { HasRoomForSet setting.now (SecondExtension block.now) (2 * setting.now.block)
-        sink.old meter.old }
+    requires room { HasRoomForOption setting.now (SecondExtension block.now) sink.old meter.old }
     ensures { PutsSet setting.now (SecondExtension block.now) setting.now.block setting.now.block
         sink.old sink.new meter.old meter.new }
 {
@@ -126,8 +124,7 @@ pub fn put_split(
     requires split { k ≤ k_max setting.now }
     requires cost { cost + head_len setting.now block.now
         ≡ cost_of setting.now (Split k block.now) }
-    requires room { HasRoomForSet setting.now (Split k block.now) (2 * setting.now.block) sink.old
-        meter.old }
+    requires room { HasRoomForOption setting.now (Split k block.now) sink.old meter.old }
     ensures { PutsSet setting.now (Split k block.now) (setting.now.block - 1)
         (2 * setting.now.block) sink.old sink.new meter.old meter.new }
 {

@@ -1,11 +1,11 @@
 -- Residuals and patterns, and back.
-pub mod Folding
+pub mod RanksInPlace
 pub mod HalfLanes
 pub mod InverseLemmas
 pub mod NearVectors
 pub mod JoinedLanes
 pub mod LaneRanks
-pub mod LaneSums
+pub mod SumsOfWays
 pub mod FitsOf16Bits
 pub mod NearEights
 pub mod Patterns

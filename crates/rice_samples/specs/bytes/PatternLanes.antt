@@ -1,7 +1,7 @@
 -- Words of whole bytes, in bytes that stand one after another.
 use Rattle.std.specs.Prelude.{◌≡◌, ℕ, ◌*◌, ◌^◌, ◌<◌, Bool, List, [], ◌∷◌, length, All, flat_map}
 use Rattle.rice_bits.specs.Bits.{word}
-use Rattle.rice_samples.specs.bytes.Values.{ordered_bytes}
+use Rattle.rice_samples.specs.bytes.Spelling.{ordered_bytes}
 
 -- the bytes of each pair in the other order
 abbrev pub swapped : List ℕ → List ℕ

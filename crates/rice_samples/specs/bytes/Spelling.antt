@@ -1,14 +1,16 @@
 -- How samples stand in bytes (own rules): unsigned numbers as they are, signed ones in two's complement over the whole width.
-use Rattle.std.specs.Prelude.{◌≡◌, ◌≢◌, ℕ, ◌*◌, ◌<◌, ◌≤◌, ◌++◌, List, [], length, take, drop, All, flat_map, if◌then◌else◌, ℤ}
+use Rattle.std.specs.Prelude.{◌≡◌, ◌≢◌, ℕ, Bool, ◌*◌, ◌<◌, ◌≤◌, ◌++◌, List, [], length, take, drop, All, flat_map, if◌then◌else◌, ℤ}
 use Rattle.std.specs.Int.{bytes_high_first, bytes_low_first}
 use Rattle.rice_samples.specs.Parameters.{Parameters, width, IsSample}
 use Rattle.rice_samples.specs.predict.Residuals.{twos_complement}
 
+-- the lowest k bytes of a word, the most significant first or last
+abbrev pub ordered_bytes : Bool → ℕ → ℕ → List ℕ
+ordered_bytes msb k word = if msb then bytes_high_first k word else bytes_low_first 0 k word
+
 -- the one spelling of a sample
 abbrev pub spelling : Parameters → ℤ → List ℕ
-spelling s x =
-    let word = twos_complement (8 * width s) x in
-    if s.msb then bytes_high_first (width s) word else bytes_low_first 0 (width s) word
+spelling s x = ordered_bytes s.msb (width s) (twos_complement (8 * width s) x)
 
 abbrev pub spellings : Parameters → List ℤ → List ℕ
 spellings s xs = flat_map (spelling s) xs

@@ -4,10 +4,11 @@ ghost use Rattle.std.specs.List.{list_all};
 ghost use Rattle.rice_bits.specs.Limits.{step_limit};
 ghost use Rattle.rice_bits.specs.Bits.{word};
 ghost use Rattle.rice_samples.specs.blocks.Pairs.{pair_codes};
+ghost use Rattle.rice_samples.specs.blocks.Stops.{IsFirstStop};
 ghost use Rattle.rice_samples.specs.Parameters.{IsBlockSize};
 
-use crate::blocks::codewords::{pair_sum, pair_sum_in_32_bits};
 use crate::blocks::lanes::{all_of, all_zero, sum_shifted};
+use crate::blocks::pair_codewords::{pair_sum, pair_sum_in_32_bits};
 use crate::blocks::stops::{first_small_stop, first_stop};
 use rice_bits::{BitSink, Meter};
 use std::marker::Model;
@@ -96,13 +97,8 @@ impl Block<'_> {
         requires limit { limit ≤ 29 }
         requires price { price ≤ 64 }
         requires meter { meter.old + length self.now * (limit + 1) < step_limit }
-        ensures limit { result.0 ≤ limit }
-        ensures value { result.1 ≡ sum_by (λ d. d / 2 ^ result.0) self.now }
+        ensures stop { IsFirstStop self.now limit price result.0 result.1 }
         ensures size { result.1 ≤ 2 ^ 38 }
-        ensures falls { (j : ℕ) → j < result.0 →
-            sum_by (λ d. d / 2 ^ (j + 1)) self.now + price < sum_by (λ d. d / 2 ^ j) self.now }
-        ensures stops { result.0 < limit → sum_by (λ d. d / 2 ^ result.0) self.now ≤
-            sum_by (λ d. d / 2 ^ (result.0 + 1)) self.now + price }
         ensures steps { meter.new ≡ meter.old + length self.now * (min (result.0 + 1) limit + 1) }
     {
         let items = self.items;
@@ -118,13 +114,8 @@ impl Block<'_> {
         requires limit { limit ≤ 29 }
         requires price { price ≤ 64 }
         requires meter { meter.old + length self.now * (limit + 1) < step_limit }
-        ensures limit { result.0 ≤ limit }
-        ensures value { result.1 ≡ sum_by (λ d. d / 2 ^ result.0) self.now }
+        ensures stop { IsFirstStop self.now limit price result.0 result.1 }
         ensures size { result.1 < 2 ^ 32 }
-        ensures falls { (j : ℕ) → j < result.0 →
-            sum_by (λ d. d / 2 ^ (j + 1)) self.now + price < sum_by (λ d. d / 2 ^ j) self.now }
-        ensures stops { result.0 < limit → sum_by (λ d. d / 2 ^ result.0) self.now ≤
-            sum_by (λ d. d / 2 ^ (result.0 + 1)) self.now + price }
         ensures steps { meter.new ≡ meter.old + length self.now * (min (result.0 + 1) limit + 1) }
     {
         let items = self.items;

@@ -1,6 +1,7 @@
 //! Where the sum of residuals stops falling, digit by digit.
 ghost use Rattle.std.specs.Prelude.{◌≡◌, All, ℕ, ◌+◌, ◌*◌, ◌/◌, ◌^◌, ◌<◌, ◌≤◌, length, sum_by};
 ghost use Rattle.rice_samples.specs.Parameters.{IsBlockSize};
+ghost use Rattle.rice_samples.specs.blocks.Stops.{IsFirstStop};
 
 use crate::blocks::lanes::{all_of, small_sum, sum_shifted};
 
@@ -11,13 +12,8 @@ pub(crate) fn first_stop(items: &[u32], limit: u32, price: u64) -> (u32, u64)
     requires size { IsBlockSize (length items.now) }
     requires limit { limit ≤ 29 }
     requires price { price ≤ 64 }
-    ensures limit { result.0 ≤ limit }
-    ensures value { result.1 ≡ sum_by (λ d. d / 2 ^ result.0) items.now }
+    ensures stop { IsFirstStop items.now limit price result.0 result.1 }
     ensures size { result.1 ≤ 2 ^ 38 }
-    ensures falls { (j : ℕ) → j < result.0 →
-        sum_by (λ d. d / 2 ^ (j + 1)) items.now + price < sum_by (λ d. d / 2 ^ j) items.now }
-    ensures stops { result.0 < limit → sum_by (λ d. d / 2 ^ result.0) items.now ≤
-        sum_by (λ d. d / 2 ^ (result.0 + 1)) items.now + price }
 {
     // The loops unroll where the length is known.
     match items.len() {
@@ -34,13 +30,8 @@ fn stop_of(items: &[u32], limit: u32, price: u64) -> (u32, u64)
     requires size { IsBlockSize (length items.now) }
     requires limit { limit ≤ 29 }
     requires price { price ≤ 64 }
-    ensures limit { result.0 ≤ limit }
-    ensures value { result.1 ≡ sum_by (λ d. d / 2 ^ result.0) items.now }
+    ensures stop { IsFirstStop items.now limit price result.0 result.1 }
     ensures size { result.1 ≤ 2 ^ 38 }
-    ensures falls { (j : ℕ) → j < result.0 →
-        sum_by (λ d. d / 2 ^ (j + 1)) items.now + price < sum_by (λ d. d / 2 ^ j) items.now }
-    ensures stops { result.0 < limit → sum_by (λ d. d / 2 ^ result.0) items.now ≤
-        sum_by (λ d. d / 2 ^ (result.0 + 1)) items.now + price }
 {
     let whole = sum_shifted(items, 0);
     let mut k = sure_digits(whole, items.len(), price).min(limit);
@@ -63,12 +54,7 @@ pub(crate) fn first_small_stop(items: &[u32], limit: u32, price: u64) -> (u32, u
     requires small { All (λ d. d < 2 ^ 26) items.now }
     requires limit { limit ≤ 29 }
     requires price { price ≤ 64 }
-    ensures limit { result.0 ≤ limit }
-    ensures value { result.1 ≡ sum_by (λ d. d / 2 ^ result.0) items.now }
-    ensures falls { (j : ℕ) → j < result.0 →
-        sum_by (λ d. d / 2 ^ (j + 1)) items.now + price < sum_by (λ d. d / 2 ^ j) items.now }
-    ensures stops { result.0 < limit → sum_by (λ d. d / 2 ^ result.0) items.now ≤
-        sum_by (λ d. d / 2 ^ (result.0 + 1)) items.now + price }
+    ensures stop { IsFirstStop items.now limit price result.0 result.1 }
 {
     // The loops unroll where the length is known.
     match items.len() {
@@ -86,12 +72,7 @@ fn small_stop_of(items: &[u32], limit: u32, price: u64) -> (u32, u32)
     requires small { All (λ d. d < 2 ^ 26) items.now }
     requires limit { limit ≤ 29 }
     requires price { price ≤ 64 }
-    ensures limit { result.0 ≤ limit }
-    ensures value { result.1 ≡ sum_by (λ d. d / 2 ^ result.0) items.now }
-    ensures falls { (j : ℕ) → j < result.0 →
-        sum_by (λ d. d / 2 ^ (j + 1)) items.now + price < sum_by (λ d. d / 2 ^ j) items.now }
-    ensures stops { result.0 < limit → sum_by (λ d. d / 2 ^ result.0) items.now ≤
-        sum_by (λ d. d / 2 ^ (result.0 + 1)) items.now + price }
+    ensures stop { IsFirstStop items.now limit price result.0 result.1 }
 {
     let whole = small_sum(items, 0);
     let mut k = sure_digits(whole as u64, items.len(), price).min(limit);

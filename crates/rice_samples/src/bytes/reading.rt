@@ -6,7 +6,7 @@ ghost use Rattle.rice_samples.specs.bytes.Values.{offset};
 
 use crate::Setting;
 use crate::bytes::spelling::sample_of;
-use crate::digits::word_of;
+use crate::patterns::word_of;
 use rice_bits::low_digits;
 
 /// Reads the levels of the samples that the bytes spell, `width()` bytes each, up to the first bytes that spell no sample, and

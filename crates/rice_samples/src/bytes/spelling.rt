@@ -4,7 +4,7 @@ ghost use Rattle.rice_samples.specs.Parameters.{IsSample, width};
 ghost use Rattle.rice_samples.specs.bytes.Spelling.{spelling};
 
 use crate::Setting;
-use crate::digits::{bytes_with, digits_of, word_of};
+use crate::patterns::{bytes_with, digits_of, word_of};
 use arrayvec::ArrayVec;
 
 /// Returns the sample that `width()` bytes spell, or `None` if they spell no sample: if the unused high bits

@@ -5,7 +5,7 @@ ghost use Rattle.rice_samples.specs.predict.Residuals.{pattern as pattern_of, ra
 ghost use Rattle.rice_samples.specs.predict.Near.{way as way_of};
 
 use crate::Setting;
-use crate::digits::{digits_of, value_with};
+use crate::patterns::{digits_of, value_with};
 
 /// Returns the residual of the sample `x` after the sample `p`: below 2^n. Twice the distance, less one
 /// for a smaller sample, as far as the range of samples reaches to both sides of `p`, and beyond

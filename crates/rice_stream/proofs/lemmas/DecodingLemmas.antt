@@ -48,13 +48,13 @@ decoder_advances old new steps steps_new p q s levels {answer} {known} setting i
     (subst (λ (a : Result NextBlock CodeFault). Advances old new steps steps_new p q (values_at p.setting levels) a) is record { in_run = in_run; reads = reads })
 
 -- what the decoder says where it gives a block, inside a run and elsewhere
-pub record Inside {I : Type 0} (old new : Reader I) (steps steps_new : ℕ) (p q : DecoderState) (samples : List ℤ) : Type 0 where
+pub record InsideRun {I : Type 0} (old new : Reader I) (steps steps_new : ℕ) (p q : DecoderState) (samples : List ℤ) : Type 0 where
   pub run : 0 < p.run
   pub gives : GivesFromRun p q samples
   pub same : new ≡ old
   pub steps_are : steps_new ≡ steps
 
-pub record Outside {I : Type 0} (old new : Reader I) (steps steps_new : ℕ) (p q : DecoderState) (samples : List ℤ) : Type 0 where
+pub record OutsideRun {I : Type 0} (old new : Reader I) (steps steps_new : ℕ) (p q : DecoderState) (samples : List ℤ) : Type 0 where
   pub none : p.run ≡ 0
   pub gives : GivesSet (with_mark old) new steps steps_new p.setting p.block p.before samples q.run
   pub moves : q ≡ state_after_block p samples q.run
@@ -65,7 +65,7 @@ runs_or_not p = elim (cases_lt 0 p.run) [ inl lt ↦ inl lt | inr le ↦ inr (om
 
 -- a block was given
 pub took_block : {I : Type 0} {old new : Reader I} {steps steps_new : ℕ} {p q : DecoderState} {samples : List ℤ} → p.stopped ≡ None → Advances old new steps steps_new p q samples (Ok Block)
-    → Inside old new steps steps_new p q samples ⊎ Outside old new steps steps_new p q samples
+    → InsideRun old new steps steps_new p q samples ⊎ OutsideRun old new steps steps_new p q samples
 took_block {p = p} going a =
     elim (runs_or_not p) [
       | inl lt ↦ let k = a.in_run going lt in inl (record { run = lt; gives = k.1; same = k.2; steps_are = k.3 })

@@ -22,7 +22,7 @@ use Rattle.rice_code.proofs.lemmas.encode.PushedCode.{segment_steps_few}
 use Rattle.rice_stream.specs.EncodingState.{Beginning, afresh, Follows, CountsSamples, IsEncodingOf, TakesSamples, TakesBetween, FollowsBetween, FailsAt, FailsIn, MeetsFailure, Reads, whole_part}
 use Rattle.rice_stream.specs.Calls.{StopsBetween}
 use Rattle.rice_stream.specs.Encodes.{ReportsAll}
-use Rattle.rice_stream.specs.Writes.{TakesPart}
+use Rattle.rice_stream.specs.FailedWrites.{TakesPart}
 use Rattle.rice_stream.specs.declared.encoding.Encoding.{Encoding}
 use Rattle.rice_stream.specs.declared.outcome.Report.{Report}
 use Rattle.rice_samples.proofs.lemmas.bytes.SpellingLengths.{spellings-append}

@@ -11,8 +11,8 @@ use Rattle.rice_bits.proofs.lemmas.bits.Bytes.{bits_of-padded, bits_of-whole_byt
 use Rattle.rice_bits.proofs.lemmas.bits.Words.{length-word}
 use Rattle.rice_samples.specs.Parameters.{Parameters, IsLegal, IsSample, width}
 use Rattle.rice_samples.specs.Places.{cut}
-use Rattle.rice_samples.specs.bytes.Spelling.{spelling, spellings}
-use Rattle.rice_samples.specs.bytes.Values.{IsValue, offset, ordered_bytes}
+use Rattle.rice_samples.specs.bytes.Spelling.{spelling, spellings, ordered_bytes}
+use Rattle.rice_samples.specs.bytes.Values.{IsValue, offset}
 use Rattle.rice_samples.specs.predict.Residuals.{twos_complement}
 use Rattle.rice_samples.proofs.lemmas.bytes.SpellingLemmas.{level_spelled, wider_value}
 use Rattle.rice_samples.proofs.lemmas.setting.Levels.{pattern_fits, same_level}

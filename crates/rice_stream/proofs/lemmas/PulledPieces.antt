@@ -149,7 +149,7 @@ parts-push s first (p ∷ ps) last more part parts count writes =
     (parts.0, parts.1 ++ part, ap (λ l. l ++ part) parts.2 ∙ append_assoc parts.0 parts.1 part, parts.3, parts.4, parts-push s p.stand ps last parts.1 part parts.5 count writes)
 
 -- how the bits behind the stand end, of which so many are its piece's
-record Finishes (s : Parameters) (stand : Stand) (rest : List Bool) (ahead : ℕ) (ending : Ending) : Type 0 where
+record EndsBehind (s : Parameters) (stand : Stand) (rest : List Bool) (ahead : ℕ) (ending : Ending) : Type 0 where
   pub none : stand.run ≡ 0
   pub used : ℕ
   pub ends : EndsWith s None stand.block rest ending used
@@ -176,7 +176,7 @@ nothing_far stand piece behind e = let k = stand.bits % 8 - length (bits_of piec
 
 -- a pause behind which nothing is left is the end of the code
 pause_finishes : (s : Parameters) (old stand : Stand) (piece behind : List ℕ) (room count : ℕ) (left : List Bool) (pause : Pause) (ending : Ending)
-    → PausesAt s old piece room stand left count pause → EndsCode pause behind ending → Finishes s stand (left ++ bits_behind_stand old piece behind) (length left) ending
+    → PausesAt s old piece room stand left count pause → EndsCode pause behind ending → EndsBehind s stand (left ++ bits_behind_stand old piece behind) (length left) ending
 pause_finishes s old stand piece behind room count left pauses.Full ending at e = absurd e
 pause_finishes s old stand piece behind room count left pauses.TooLong ending at e = absurd e
 pause_finishes s old stand piece behind room count left pauses.Blank ending at e =
@@ -229,7 +229,7 @@ at_first s code o first le h = record { front = []; given = []; rest = drop o.bi
 
 -- what ends there is what the code decodes to
 decoded_all : (s : Parameters) (code : List ℕ) (o : Origin) (stand : Stand) (rest : List Bool) (ahead : ℕ) (ending : Ending) → (h : HasPulled s code o stand)
-    → h.rest ≡ rest → (f : Finishes s stand rest ahead ending)
+    → h.rest ≡ rest → (f : EndsBehind s stand rest ahead ending)
     → Decoded s (drop o.bits (bits_of code)) None h.given ending (length h.front + f.used)
 decoded_all s code o stand rest ahead ending h e f =
     let st = h.stands in

@@ -17,7 +17,7 @@ use Rattle.rice_stream.specs.Calls.{Fails}
 use Rattle.rice_stream.specs.Decodes.{DecodesBetween, DecodesWithin, Reports, wanted_of}
 use Rattle.rice_stream.specs.DecodingState.{DecodingProgress}
 use Rattle.rice_stream.specs.Rows.{FailsInRow, WritesRow, row_bytes}
-use Rattle.rice_stream.specs.Writes.{TakesPart}
+use Rattle.rice_stream.specs.FailedWrites.{TakesPart}
 use Rattle.rice_stream.specs.declared.outcome.Fault.{Fault}
 use Rattle.rice_stream.specs.declared.outcome.Fault.TheVariants.{Write}
 use Rattle.rice_stream.specs.declared.outcome.Report.{Report}

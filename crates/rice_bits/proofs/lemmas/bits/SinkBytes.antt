@@ -10,7 +10,7 @@ use Rattle.rice_bits.specs.Bits.{IsBitSink, bits_in_bytes, fundamental_sequence,
 use Rattle.rice_bits.proofs.lemmas.bits.Words.{length-word, word-nil, word-zero, word-cat, word-split, word-fs, length-fundamental_sequence, shift_fits, join_below}
 use Rattle.rice_bits.proofs.lemmas.bits.Bytes.{bits_of-nil, bits_of-append, bits_of-first, bits_of-zeros, length-bits_of, whole-bits, rest-bits}
 use Rattle.rice_bits.proofs.lemmas.bits.EightBytes.{bits_of-eight, split-bytes, length-front}
-use Rattle.rice_bits.proofs.lemmas.bits.OneWay.{word_reads}
+use Rattle.rice_bits.proofs.lemmas.bits.ReadInOneWay.{word_reads}
 
 -- the length of what a view shows
 pub length_viewed : (bytes : List ℕ) (capacity n : ℕ) (bits : List Bool) → IsBitSink capacity n bytes → length bytes ≡ capacity

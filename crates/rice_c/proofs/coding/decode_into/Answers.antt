@@ -4,7 +4,7 @@ use Rattle.rice_bits.specs.device.Slice.{slice_left, slice_state}
 use Rattle.rice_stream.specs.Calls.{Happens}
 use Rattle.rice_stream.specs.Decodes.{Decodes, DecodesWithin}
 use Rattle.rice_stream.specs.declared.outcome.Report.{Report}
-use Rattle.rice_c.proofs.lemmas.Passing.{uses_memory}
+use Rattle.rice_c.proofs.lemmas.WrittenMemory.{writes_front}
 use Rattle.rice_c.proofs.coding.decode_into.Goals as goal
 
 pub returns : goal.returns
@@ -19,10 +19,11 @@ returns c =
     record {
       call = call.0;
       fault = run.result.0.fault;
-      passes = uses_memory c.args.code.now (slice_left run.result.1) c.args.samples.now _ c.new-arg-1.given out.failures (slice_state out) call.0 run.result.0.fault happens
-          (tie ∙ sym (take-append-drop out.at out.room.now)) c.samples-1.given.1.0 run.ensures.failures c.taken-written.ensures.full;
+      takes = record { left = slice_left run.result.1; gave = happens.gave; left_is = sym happens.left };
       decodes = subst (λ (r : Report). Decodes s c.args.asked call.0 r run.result.0.fault) (sym c.tell.ensures.report) call.2;
       within = subst (λ (r : Report). DecodesWithin c.args.asked r) (sym c.tell.ensures.report) run.ensures.within;
+      writes = writes_front c.args.samples.now _ call.0.written c.new-arg-1.given out.failures (slice_state out) run.result.0.fault happens.took
+          (tie ∙ sym (take-append-drop out.at out.room.now)) c.samples-1.given.1.0 run.ensures.failures c.taken-written.ensures.full;
       tells = record {
         status = c.tell.ensures.status;
         written = c.tell.ensures.written ∙ c.taken-written.ensures.count ∙ ap length call.1.took.bytes ∙ ap (λ (r : Room). length (r.bytes ++ call.0.written)) c.new-outlet.ensures.state;

@@ -4,7 +4,7 @@ use Rattle.rice_bits.specs.device.Slice.{slice_left, slice_state}
 use Rattle.rice_stream.specs.Calls.{Happens}
 use Rattle.rice_stream.specs.Encodes.{Encodes, EncodesWithin}
 use Rattle.rice_stream.specs.declared.outcome.Report.{Report}
-use Rattle.rice_c.proofs.lemmas.Passing.{uses_memory}
+use Rattle.rice_c.proofs.lemmas.WrittenMemory.{writes_front}
 use Rattle.rice_c.proofs.coding.encode_into.Goals as goal
 
 pub returns : goal.returns
@@ -19,10 +19,11 @@ returns c =
     record {
       call = call.0;
       fault = run.result.fault;
-      passes = uses_memory c.args.samples.now (slice_left run.new.intake) c.args.code.now _ c.new-arg-1.given out.failures (slice_state out) call.0 run.result.fault happens
-          (tie ∙ sym (take-append-drop out.at out.room.now)) c.code-1.given.1.0 run.ensures.failures c.taken-written.ensures.full;
+      takes = record { left = slice_left run.new.intake; gave = happens.gave; left_is = sym happens.left };
       encodes = subst (λ (r : Report). Encodes s call.0 r run.result.fault) (sym c.tell.ensures.report) call.2;
       within = subst (λ (r : Report). EncodesWithin s r) (sym c.tell.ensures.report) run.ensures.within;
+      writes = writes_front c.args.code.now _ call.0.written c.new-arg-1.given out.failures (slice_state out) run.result.fault happens.took
+          (tie ∙ sym (take-append-drop out.at out.room.now)) c.code-1.given.1.0 run.ensures.failures c.taken-written.ensures.full;
       tells = record {
         status = c.tell.ensures.status;
         written = c.tell.ensures.written ∙ c.taken-written.ensures.count ∙ ap length call.1.took.bytes ∙ ap (λ (r : Room). length (r.bytes ++ call.0.written)) c.new-outlet.ensures.state;

@@ -1,7 +1,7 @@
 use Rattle.std.proofs.Common.{◌≢◌, ◌∙◌, ◌*◌, ◌≤◌, length, sym, subst, IfOk, Result}
 use Rattle.rice_samples.specs.Parameters.{Parameters, width}
 use Rattle.rice_samples.specs.declared.setting.SettingFault.{SettingFault}
-use Rattle.rice_c.proofs.lemmas.Returning.{decode_suffices}
+use Rattle.rice_c.proofs.lemmas.ReturnedSamples.{decode_suffices}
 use Rattle.rice_c.proofs.coding.rice_decode.Goals as goal
 
 pub returns-in-Ok-clause-room : goal.returns-in-Ok-clause-room

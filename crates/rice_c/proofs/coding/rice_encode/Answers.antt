@@ -2,7 +2,7 @@ use Rattle.std.proofs.Common.{◌≢◌, ◌∙◌, ◌/◌, ◌≤◌, length, 
 use Rattle.rice_samples.specs.Parameters.{Parameters, width}
 use Rattle.rice_samples.specs.declared.setting.SettingFault.{SettingFault}
 use Rattle.rice_c.specs.Rooms.{code_room}
-use Rattle.rice_c.proofs.lemmas.Returning.{encode_suffices}
+use Rattle.rice_c.proofs.lemmas.ReturnedSamples.{encode_suffices}
 use Rattle.rice_c.proofs.coding.rice_encode.Goals as goal
 
 pub returns-in-Ok-clause-room : goal.returns-in-Ok-clause-room

@@ -1,6 +1,6 @@
 use Rattle.std.proofs.Common.{arith, refl, ◌/◌, ◌∙◌, ap}
 use Rattle.rice_c.specs.Statuses.{status_number, pause_place}
-use Rattle.rice_c.proofs.lemmas.Draining.{bytes_fit, bytes_written, more_samples}
+use Rattle.rice_c.proofs.lemmas.PulledNumbers.{bytes_fit, bytes_written, more_samples}
 use Rattle.rice_c.proofs.drain.pull_into.Goals as goal
 
 pub overflow_sub-report : goal.overflow_sub-report

@@ -4,7 +4,8 @@ use Rattle.rice_bits.specs.device.Slice.{slice_state}
 use Rattle.rice_stream.specs.Encodes.{EncodesWithin}
 use Rattle.rice_stream.specs.Feeding.{EncodesRest}
 use Rattle.rice_stream.specs.declared.outcome.Report.{Report}
-use Rattle.rice_c.proofs.lemmas.Feeding.{rest_fills, writes_front}
+use Rattle.rice_c.proofs.lemmas.FedOutlets.{rest_fills}
+use Rattle.rice_c.proofs.lemmas.WrittenMemory.{all_in_front}
 use Rattle.rice_c.proofs.feed.finish_into.Goals as goal
 
 pub returns : goal.returns
@@ -23,8 +24,12 @@ returns c xs h =
       room = slice_state out;
       encodes = subst (λ (r : Report). EncodesRest s xs c.args.samples.now (Some start) (Some (slice_state out)) r run.result.fault) (sym c.tell.ensures.report) did;
       within = subst (λ (r : Report). EncodesWithin s r) (sym c.tell.ensures.report) run.ensures.within;
-      writes = writes_front c.args.code.now _ name out.failures (slice_state out) run.result.fault c.tell.new.self c.tell.result
+      writes = all_in_front c.args.code.now _ name out.failures (slice_state out) run.result.fault
           (rest_fills s xs c.args.samples.now start (slice_state out) run.result.report run.result.fault did)
-          (tie ∙ sym (take-append-drop out.at out.room.now)) c.code-1.given.1.0 run.ensures.failures c.taken-written.ensures.full
-          c.tell.ensures.status (c.tell.ensures.written ∙ c.taken-written.ensures.count) c.tell.ensures.place;
+          (tie ∙ sym (take-append-drop out.at out.room.now)) c.code-1.given.1.0 run.ensures.failures c.taken-written.ensures.full;
+      tells = record {
+        status = c.tell.ensures.status;
+        written = c.tell.ensures.written ∙ c.taken-written.ensures.count;
+        place = c.tell.ensures.place;
+      };
     }

@@ -1,5 +1,5 @@
 use Rattle.rice_bits.specs.device.Slice.{slice_state}
-use Rattle.rice_c.proofs.lemmas.Feeding.{rest_fills}
+use Rattle.rice_c.proofs.lemmas.FedOutlets.{rest_fills}
 use Rattle.rice_c.proofs.feed.finish_slice.Goals as goal
 
 pub returns-clause-borrow : goal.returns-clause-borrow

@@ -5,7 +5,8 @@ use Rattle.rice_stream.specs.Feeding.{EncodesMore}
 use Rattle.rice_stream.specs.declared.outcome.Fault.{Fault}
 use Rattle.rice_stream.specs.declared.seam.Seam.{Seam}
 use Rattle.rice_c.specs.Statuses.{status_number, fault_status, fault_place}
-use Rattle.rice_c.proofs.lemmas.Feeding.{more_fills, more_fails, writes_front}
+use Rattle.rice_c.proofs.lemmas.FedOutlets.{more_fills, more_fails}
+use Rattle.rice_c.proofs.lemmas.WrittenMemory.{all_in_front}
 use Rattle.rice_c.proofs.feed.push_into.Goals as goal
 
 pub returns-in-Ok : goal.returns-in-Ok
@@ -26,11 +27,14 @@ returns-in-Ok c xs h =
       encodes = did;
       feeds = refl;
       counts = c.tell.ensures.report ∙ c.outcome_at.ensures.report;
-      writes = writes_front c.args.code.now _ name out.failures (slice_state out) None c.tell.new.self c.tell.result (more_fills s xs c.args.samples.now start (slice_state out) r did)
+      writes = all_in_front c.args.code.now _ name out.failures (slice_state out) None (more_fills s xs c.args.samples.now start (slice_state out) r did)
           (tie ∙ sym (take-append-drop out.at out.room.now)) c.code-1.given.1.0
-          (more_fails s xs c.args.samples.now start (slice_state out) r out.failures did c.in-Ok.ensures.failures) c.taken-written.ensures.full
-          (c.tell.ensures.status ∙ ap (λ (f : Option Fault). status_number (fault_status f)) fault) (c.tell.ensures.written ∙ c.taken-written.ensures.count)
-          (c.tell.ensures.place ∙ ap fault_place fault);
+          (more_fails s xs c.args.samples.now start (slice_state out) r out.failures did c.in-Ok.ensures.failures) c.taken-written.ensures.full;
+      tells = record {
+        status = c.tell.ensures.status ∙ ap (λ (f : Option Fault). status_number (fault_status f)) fault;
+        written = c.tell.ensures.written ∙ c.taken-written.ensures.count;
+        place = c.tell.ensures.place ∙ ap fault_place fault;
+      };
     }
 
 pub returns-in-Err : goal.returns-in-Err
@@ -51,10 +55,13 @@ returns-in-Err c xs h =
       encodes = did;
       feeds = refl;
       counts = c.tell-in-Err.ensures.report ∙ c.outcome_at-in-Err.ensures.report;
-      writes = writes_front c.args.code.now _ name out.failures (slice_state out) (Some c.in-Err.fault) c.tell-in-Err.new.self c.tell-in-Err.result
+      writes = all_in_front c.args.code.now _ name out.failures (slice_state out) (Some c.in-Err.fault)
           (more_fills s xs c.args.samples.now start (slice_state out) r did)
           (tie ∙ sym (take-append-drop out.at out.room.now)) c.code-in-Err-1.given.1.0
-          (more_fails s xs c.args.samples.now start (slice_state out) r out.failures did c.in-Err.ensures.failures) c.taken-written-in-Err.ensures.full
-          (c.tell-in-Err.ensures.status ∙ ap (λ (f : Option Fault). status_number (fault_status f)) fault)
-          (c.tell-in-Err.ensures.written ∙ c.taken-written-in-Err.ensures.count) (c.tell-in-Err.ensures.place ∙ ap fault_place fault);
+          (more_fails s xs c.args.samples.now start (slice_state out) r out.failures did c.in-Err.ensures.failures) c.taken-written-in-Err.ensures.full;
+      tells = record {
+        status = c.tell-in-Err.ensures.status ∙ ap (λ (f : Option Fault). status_number (fault_status f)) fault;
+        written = c.tell-in-Err.ensures.written ∙ c.taken-written-in-Err.ensures.count;
+        place = c.tell-in-Err.ensures.place ∙ ap fault_place fault;
+      };
     }

@@ -1,5 +1,5 @@
 use Rattle.rice_c.proofs.lemmas.FedPlaces as fed
-use Rattle.rice_c.proofs.lemmas.Pulled as pulled
+use Rattle.rice_c.proofs.lemmas.PulledPieces as pulled
 use Rattle.rice_c.proofs.laws.places_are_told.Goals as goal
 
 pub returns-clause-drains : goal.returns-clause-drains

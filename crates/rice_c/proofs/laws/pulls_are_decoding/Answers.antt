@@ -1,4 +1,4 @@
-use Rattle.rice_c.proofs.lemmas.Pulled as pulled
+use Rattle.rice_c.proofs.lemmas.PulledPieces as pulled
 use Rattle.rice_c.proofs.laws.pulls_are_decoding.Goals as goal
 
 pub returns : goal.returns

@@ -4,7 +4,7 @@ use Rattle.rice_samples.specs.Examples.{unprocessed_defaults}
 use Rattle.rice_code.specs.code.Blocks.{BlockData}
 use Rattle.rice_code.specs.code.CodedDataSets.{Split}
 use Rattle.rice_code.specs.code.Decoded.{Reached}
-use Rattle.rice_code.proofs.lemmas.meaning.Witnesses.{Gives, all_below, unsigned_samples, decoded_by_one}
+use Rattle.rice_code.proofs.lemmas.meaning.DecodingWitnesses.{Gives, all_below, unsigned_samples, decoded_by_one}
 use Rattle.rice_code.proofs.decoding_examples.decodes_another_fill.Goals as goal
 
 abbrev block : BlockData

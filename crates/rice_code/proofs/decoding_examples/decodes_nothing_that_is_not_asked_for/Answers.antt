@@ -2,7 +2,7 @@ use Rattle.std.proofs.Common.{◌∷◌, [], Some, refl, lit≤}
 use Rattle.rice_bits.specs.Bits.{word, bits_of}
 use Rattle.rice_samples.specs.Examples.{defaults}
 use Rattle.rice_code.specs.code.Decoded.{Reached}
-use Rattle.rice_code.proofs.lemmas.meaning.Witnesses.{decoded_by_none}
+use Rattle.rice_code.proofs.lemmas.meaning.DecodingWitnesses.{decoded_by_none}
 use Rattle.rice_code.proofs.decoding_examples.decodes_nothing_that_is_not_asked_for.Goals as goal
 
 pub returns : goal.returns

@@ -3,7 +3,7 @@ use Rattle.rice_bits.specs.Bits.{word, bits_of}
 use Rattle.rice_samples.specs.Examples.{defaults}
 use Rattle.rice_code.specs.code.CodedDataSets.{ZeroBlocks}
 use Rattle.rice_code.specs.code.Decoded.{Ended, Past}
-use Rattle.rice_code.proofs.lemmas.meaning.Witnesses.{Gives, unsigned_samples, zeros_end, decoded_by_one, decoded_by_none}
+use Rattle.rice_code.proofs.lemmas.meaning.DecodingWitnesses.{Gives, unsigned_samples, zeros_end, decoded_by_one, decoded_by_none}
 use Rattle.rice_code.proofs.decoding_examples.decodes_the_longest_run.Goals as goal
 
 gives : Gives (record defaults { interval = 64 }) (ZeroBlocks (Some 0) 63) (replicate 504 (pos 0))

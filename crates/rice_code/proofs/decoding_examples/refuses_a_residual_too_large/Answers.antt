@@ -5,7 +5,7 @@ use Rattle.rice_samples.specs.Examples.{defaults, one_bit_defaults}
 use Rattle.rice_code.specs.code.Blocks.{BlockData}
 use Rattle.rice_code.specs.code.CodedDataSets.{Split}
 use Rattle.rice_code.specs.code.Decoded.{Large}
-use Rattle.rice_code.proofs.lemmas.meaning.Witnesses.{decoded_by_none}
+use Rattle.rice_code.proofs.lemmas.meaning.DecodingWitnesses.{decoded_by_none}
 use Rattle.rice_code.proofs.decoding_examples.refuses_a_residual_too_large.Goals as goal
 
 abbrev low : BlockData

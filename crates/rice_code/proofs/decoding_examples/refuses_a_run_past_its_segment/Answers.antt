@@ -3,7 +3,7 @@ use Rattle.rice_bits.specs.Bits.{word, bits_of}
 use Rattle.rice_samples.specs.Examples.{defaults}
 use Rattle.rice_code.specs.code.CodedDataSets.{ZeroBlocks}
 use Rattle.rice_code.specs.code.Decoded.{Past}
-use Rattle.rice_code.proofs.lemmas.meaning.Witnesses.{decoded_by_none}
+use Rattle.rice_code.proofs.lemmas.meaning.DecodingWitnesses.{decoded_by_none}
 use Rattle.rice_code.proofs.decoding_examples.refuses_a_run_past_its_segment.Goals as goal
 
 pub returns-clause-all : goal.returns-clause-all

@@ -4,7 +4,7 @@ use Rattle.rice_samples.specs.Examples.{defaults}
 use Rattle.rice_code.specs.code.Blocks.{BlockData}
 use Rattle.rice_code.specs.code.CodedDataSets.{SecondExtension}
 use Rattle.rice_code.specs.code.Decoded.{Large}
-use Rattle.rice_code.proofs.lemmas.meaning.Witnesses.{decoded_by_none}
+use Rattle.rice_code.proofs.lemmas.meaning.DecodingWitnesses.{decoded_by_none}
 use Rattle.rice_code.proofs.decoding_examples.refuses_a_value_at_the_reference_place.Goals as goal
 
 abbrev block : BlockData

@@ -10,7 +10,7 @@ use Rattle.rice_samples.specs.Places.{is_reference_sample, is_reference}
 use Rattle.rice_samples.specs.predict.Residuals.{rank_below, rank, residual, residuals, pattern, last_of}
 use Rattle.rice_samples.proofs.lemmas.setting.PlaceLemmas.{reference_begins}
 use Rattle.rice_code.specs.code.Blocks.{block_data, blocks_from, zero_block}
-use Rattle.rice_code.proofs.lemmas.meaning.Covers.{bool_cases, and-split, GoOn, EndsInZeros}
+use Rattle.rice_code.proofs.lemmas.meaning.CoveredBlocks.{bool_cases, and-split, GoOn, EndsInZeros}
 
 pub last_append : (p : ℤ) (xs ys : List ℤ) → last_of p (xs ++ ys) ≡ last_of (last_of p xs) ys
 last_append p [] ys = refl

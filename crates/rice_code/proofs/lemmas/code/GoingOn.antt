@@ -17,7 +17,7 @@ use Rattle.rice_code.specs.code.Forms.{blocks_in_all}
 use Rattle.rice_code.specs.code.Layout.{layout}
 use Rattle.rice_code.specs.code.CodedDataSets.{bits_of_set}
 use Rattle.rice_code.specs.code.Code.{data_sets, sets_from, code_from, code, bits_from}
-use Rattle.rice_code.proofs.lemmas.meaning.Covers.{GoOn, covers_blocks}
+use Rattle.rice_code.proofs.lemmas.meaning.CoveredBlocks.{GoOn, covers_blocks}
 use Rattle.rice_code.proofs.lemmas.code.Layouts.{laid_append, laid_inside}
 use Rattle.rice_code.proofs.lemmas.cost.PaddingBounds.{are_blocks}
 use Rattle.rice_code.proofs.lemmas.code.SoundBlocks.{all_take, blocks_sound, count_blocks}

@@ -13,7 +13,7 @@ use Rattle.rice_samples.specs.Places.{place, is_padded}
 use Rattle.rice_code.specs.code.CodedDataSets.{CodedDataSet, NoCompression, SecondExtension, Split, ZeroBlocks, RemainderOfSegment, bits_of_set}
 use Rattle.rice_code.specs.code.Forms.{blocks_in, blocks_in_all}
 use Rattle.rice_code.specs.code.Layout.{block_after, padding, bits_with_padding, layout, Lies}
-use Rattle.rice_code.proofs.lemmas.meaning.Covers.{bool_cases, and-split}
+use Rattle.rice_code.proofs.lemmas.meaning.CoveredBlocks.{bool_cases, and-split}
 
 -- without padding the texts are joined
 no_padding : (s : Parameters) (next bits : ℕ) → s.pad ≡ false → padding s next bits ≡ 0

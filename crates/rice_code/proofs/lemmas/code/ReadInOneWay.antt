@@ -7,7 +7,7 @@ use Rattle.std.proofs.Math.Nat.{mod-eq_of_lt}
 use Rattle.std.proofs.Math.Pow.{pow_mono}
 use Rattle.std.proofs.lemmas.Nat.{div-add-mod'}
 use Rattle.rice_bits.specs.Bits.{word, fundamental_sequence}
-use Rattle.rice_bits.proofs.lemmas.bits.OneWay.{word_reads, sequence_reads, pieces_read}
+use Rattle.rice_bits.proofs.lemmas.bits.ReadInOneWay.{word_reads, sequence_reads, pieces_read}
 use Rattle.rice_samples.specs.Parameters.{Parameters, IsLegal, id_len, k_max}
 use Rattle.rice_code.specs.code.Blocks.{BlockData}
 use Rattle.rice_samples.specs.blocks.Pairs.{pair_codes}

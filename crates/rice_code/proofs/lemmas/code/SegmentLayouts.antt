@@ -13,7 +13,7 @@ use Rattle.rice_code.specs.code.Decoded.{AreTaken}
 use Rattle.rice_code.specs.code.Forms.{blocks_in_all}
 use Rattle.rice_code.specs.code.SoundBlocks.{AreSoundBlocks}
 use Rattle.rice_code.specs.code.Layout.{block_after, padding, bits_with_padding, layout}
-use Rattle.rice_code.proofs.lemmas.meaning.Covers.{covers_blocks}
+use Rattle.rice_code.proofs.lemmas.meaning.CoveredBlocks.{covers_blocks}
 use Rattle.rice_code.proofs.lemmas.code.Layouts.{BeginBefore, ends_inside, sent_first, some_block}
 use Rattle.rice_code.proofs.lemmas.cost.PaddingBounds.{are_blocks}
 use Rattle.rice_code.proofs.lemmas.code.SegmentPlaces.{none_padded}

@@ -7,7 +7,7 @@ use Rattle.std.proofs.Math.Nat.{div-add-mod, mod-lt, mod-eq_of_lt, mul-le-mul_le
 use Rattle.rice_samples.specs.Parameters.{Parameters}
 use Rattle.rice_samples.specs.Places.{place, segment_start, begins_segment, blocks_left, is_padded, cut}
 use Rattle.rice_samples.proofs.lemmas.setting.PlaceLemmas.{next_place, some_left}
-use Rattle.rice_code.proofs.lemmas.meaning.Covers.{bool_cases, and-split}
+use Rattle.rice_code.proofs.lemmas.meaning.CoveredBlocks.{bool_cases, and-split}
 
 -- places go on inside a segment
 pub place_inside : (s : Parameters) (b q : ℕ) → 1 ≤ s.interval → q < blocks_left s b → place s (b + q) ≡ place s b + q

@@ -12,7 +12,7 @@ use Rattle.rice_code.specs.code.CodedDataSets.{ZeroBlocks, RemainderOfSegment}
 use Rattle.rice_code.specs.code.Choice.{shortest}
 use Rattle.rice_code.specs.code.Code.{data_sets, data_set_at}
 use Rattle.rice_code.specs.code.Runs.{zero_run, run_len}
-use Rattle.rice_code.proofs.lemmas.meaning.Covers.{bool_cases, run_inside}
+use Rattle.rice_code.proofs.lemmas.meaning.CoveredBlocks.{bool_cases, run_inside}
 
 -- a segment that begins n blocks on ends the one before
 pub ends_before : (s : Parameters) (b n : ℕ) → 1 ≤ s.interval → begins_segment s (b + suc n) ≡ true → blocks_left s b ≤ suc n

@@ -21,7 +21,7 @@ use Rattle.rice_code.proofs.lemmas.code.SoundBlocks.{blocks_sound_behind, code_i
 use Rattle.rice_code.proofs.lemmas.cost.BlockBounds.{shortest_bound, reference_bound}
 use Rattle.rice_code.proofs.lemmas.cost.Costs.{cost_is_length}
 use Rattle.rice_code.proofs.lemmas.cost.PaddingBounds.{padding_behind_is_bounded}
-use Rattle.rice_code.proofs.lemmas.meaning.Covers.{bool_cases, skipped, data_sets_plain, data_sets_start, data_sets_inside, zero_run_is, run_cons}
+use Rattle.rice_code.proofs.lemmas.meaning.CoveredBlocks.{bool_cases, skipped, data_sets_plain, data_sets_start, data_sets_inside, zero_run_is, run_cons}
 use Rattle.rice_code.proofs.lemmas.meaning.SentSets.{zero_run_is_sound}
 
 pub added_code_is_bounded : AddedCodeIsBounded

@@ -21,7 +21,7 @@ use Rattle.rice_code.proofs.lemmas.cost.Costs.{cost_is_length, numbered_run_len,
 use Rattle.rice_code.proofs.lemmas.cost.LeastRuns.{IsLeastCodeword, by_run, run_and_more}
 use Rattle.rice_code.proofs.lemmas.cost.Savings.{choice_is_least}
 use Rattle.rice_code.proofs.lemmas.cost.SmallerBlocks.{BeginAtMost, IsAtMost, begin_with, no_compression_at_most, no_compression_exceeds, second_extension_at_most, second_extension_exceeds, sound_at_most, split_at_most, split_exceeds}
-use Rattle.rice_code.proofs.lemmas.meaning.Covers.{bool_cases, data_sets_plain, shortest_covers, zero_block_is}
+use Rattle.rice_code.proofs.lemmas.meaning.CoveredBlocks.{bool_cases, data_sets_plain, shortest_covers, zero_block_is}
 
 least_split : (s : Parameters) (c : BlockData) (k : ℕ) → k ≤ k_max s → cost s (shortest s c) ≤ cost s (Split k c)
 least_split s c k le =

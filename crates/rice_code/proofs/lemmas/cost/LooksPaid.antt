@@ -18,12 +18,12 @@ use Rattle.rice_code.specs.code.Code.{data_sets, data_set_at, bits_from, code_bi
 use Rattle.rice_code.specs.code.SoundBlocks.{IsSoundData, AreSoundBlocks}
 use Rattle.rice_code.specs.Laws.{SplitIsPaid}
 use Rattle.rice_code.specs.CoderSteps.{most_looks, most_looks_at, most_steps}
-use Rattle.rice_code.proofs.lemmas.meaning.Covers.{best_keeps, bool_cases, data_sets_plain}
+use Rattle.rice_code.proofs.lemmas.meaning.CoveredBlocks.{best_keeps, bool_cases, data_sets_plain}
 use Rattle.rice_code.specs.code.Choice.{IsBestSplit, best_split, shortest, other_options}
 use Rattle.rice_samples.proofs.lemmas.blocks.FallingSums.{cut_sum, sum_halves}
 use Rattle.rice_code.proofs.lemmas.cost.Savings.{coded_sum, best_where_it_stops, best_where_it_ends, first_more}
 use Rattle.rice_code.proofs.lemmas.encode.ChoiceLemmas.{best_split_is}
-use Rattle.rice_code.proofs.lemmas.encode.SegmentSteps.{most_of_one, looks_zero, sound_of, shortest_len}
+use Rattle.rice_code.proofs.lemmas.encode.SegmentBlocks.{most_of_one, looks_zero, sound_of, shortest_len}
 use Rattle.rice_code.proofs.lemmas.encode.PushedCode.{blocks_go_on}
 use Rattle.rice_code.proofs.lemmas.code.SoundBlocks.{blocks_sound_behind, count_blocks, last_legal, code_is_bounded}
 use Rattle.rice_code.proofs.lemmas.code.GoingOn.{bits_go_on}

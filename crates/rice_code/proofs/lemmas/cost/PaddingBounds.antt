@@ -20,7 +20,7 @@ use Rattle.rice_code.specs.code.Forms.{blocks_in_all}
 use Rattle.rice_code.specs.code.Code.{sets_from, code, code_from, code_bits, bits_from}
 use Rattle.rice_code.specs.code.Decoded.{AreTaken}
 use Rattle.rice_code.specs.Bounds.{padding_bound}
-use Rattle.rice_code.proofs.lemmas.meaning.Covers.{bool_cases, GoOn, AreBlocks, covers_blocks}
+use Rattle.rice_code.proofs.lemmas.meaning.CoveredBlocks.{bool_cases, GoOn, AreBlocks, covers_blocks}
 use Rattle.rice_code.proofs.lemmas.code.Layouts.{BeginBefore, laid_plain, laid_bound}
 use Rattle.rice_code.proofs.lemmas.meaning.SentSets.{are_taken, begin_before}
 use Rattle.std.proofs.Math.Nat.{mul-le-mul_left, mul-le-mul_right}

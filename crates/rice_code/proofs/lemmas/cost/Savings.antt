@@ -13,7 +13,7 @@ use Rattle.rice_code.specs.code.Blocks.{BlockData}
 use Rattle.rice_code.specs.code.CodedDataSets.{NoCompression, SecondExtension, Split, cost, sent_residuals, sent_from, reference_len}
 use Rattle.rice_code.specs.code.Choice.{shortest, other_options, IsBestSplit}
 use Rattle.rice_code.specs.code.Forms.{IsZeroAtReference}
-use Rattle.rice_code.proofs.lemmas.meaning.Covers.{bool_cases}
+use Rattle.rice_code.proofs.lemmas.meaning.CoveredBlocks.{bool_cases}
 
 pub saving_never_rises : (s : Parameters) (c : BlockData) (k : ℕ) → 2 * cost s (Split (k + 1) c) ≤ cost s (Split k c) + cost s (Split (k + 2) c)
 saving_never_rises s c k =

@@ -27,7 +27,7 @@ use Rattle.rice_code.specs.decode.Decoder.{GivesBlock}
 use Rattle.rice_code.specs.decode.ReadSets.{reference_place}
 use Rattle.rice_code.specs.decode.FieldsAhead.{HeadAhead, LowsAhead, UncompressedAhead}
 use Rattle.rice_code.proofs.lemmas.decode.SplitAhead.{ranks_fit, take-ranks}
-use Rattle.rice_code.proofs.lemmas.decode.ReadLemmas.{coded-placed, zero-placed}
+use Rattle.rice_code.proofs.lemmas.decode.OptionsRead.{coded-placed, zero-placed}
 use Rattle.rice_code.proofs.lemmas.decode.RestoredBlocks.{contents_restored}
 use Rattle.rice_code.proofs.lemmas.decode.SplitRows.{RowsSpelled, row_spelled}
 

@@ -24,7 +24,7 @@ use Rattle.rice_samples.specs.Parameters.{Parameters, IsLegal, IsSample, id_len,
 use Rattle.rice_samples.specs.Places.{place}
 use Rattle.rice_samples.specs.predict.Residuals.{last_of, pattern}
 use Rattle.rice_samples.specs.bytes.PatternLanes.{OrdersWords}
-use Rattle.rice_samples.specs.bytes.Values.{ordered_bytes}
+use Rattle.rice_samples.specs.bytes.Spelling.{ordered_bytes}
 use Rattle.rice_samples.proofs.lemmas.bytes.WordLanes.{SamplesOfWords, samples_of_words}
 use Rattle.rice_samples.proofs.lemmas.predict.Patterns.{same_pattern}
 use Rattle.rice_samples.proofs.lemmas.setting.ValuesAboveLeast.{sample_at}

@@ -18,7 +18,7 @@ use Rattle.rice_bits.proofs.lemmas.bits.Words.{length-fundamental_sequence}
 use Rattle.rice_bits.specs.declared.read.fault.BitFault.{BitFault}
 use Rattle.rice_samples.specs.blocks.Pairs.{pair_code, pair_codes}
 use Rattle.rice_samples.proofs.lemmas.bytes.ReadSamples.{flat_map-push}
-use Rattle.rice_code.proofs.lemmas.meaning.Covers.{and-split}
+use Rattle.rice_code.proofs.lemmas.meaning.CoveredBlocks.{and-split}
 use Rattle.rice_code.specs.decode.Rows.{PairsTaken, AreCounted, HasRoom, Row, CountRow, CountsRead, PairRow, ones}
 
 pub row-none : {I : Type 0} (f : ℕ → List Bool) (P : ℕ → Type 0) (r : Reader I) (before : List ℕ)

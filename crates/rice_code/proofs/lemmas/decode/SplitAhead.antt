@@ -38,7 +38,7 @@ use Rattle.rice_code.specs.decode.BlocksAhead.{BlockAhead, GivesBytes, HasLanes,
 use Rattle.rice_code.specs.decode.ReadSets.{reference_place}
 use Rattle.rice_code.proofs.lemmas.code.ReadInOneWay.{wide_id}
 use Rattle.rice_code.proofs.lemmas.decode.JoinedResiduals.{high_pieces, low_pieces}
-use Rattle.rice_code.proofs.lemmas.decode.ReadLemmas.{coded-placed, zero-placed}
+use Rattle.rice_code.proofs.lemmas.decode.OptionsRead.{coded-placed, zero-placed}
 use Rattle.rice_code.proofs.lemmas.decode.RestoredBlocks.{contents_restored}
 
 -- ranks of numbers below `count` are below it

@@ -17,7 +17,7 @@ use Rattle.rice_code.specs.encode.Coder.{HasCodedBefore, reference_in}
 use Rattle.rice_code.specs.encode.OpenSegment.{CoderState, is_empty, next_residual, next_reference, state_after, state_with_fill}
 use Rattle.rice_code.specs.encode.HeldBlocks.{held_blocks}
 use Rattle.rice_code.specs.code.SoundBlocks.{block_with}
-use Rattle.rice_code.proofs.lemmas.meaning.Covers.{bool_cases, and-split}
+use Rattle.rice_code.proofs.lemmas.meaning.CoveredBlocks.{bool_cases, and-split}
 use Rattle.rice_code.proofs.lemmas.code.Filling.{last_append}
 use Rattle.rice_code.proofs.lemmas.code.SegmentPlaces.{place_inside}
 

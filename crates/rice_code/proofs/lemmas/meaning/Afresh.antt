@@ -22,7 +22,7 @@ use Rattle.rice_code.proofs.lemmas.code.Filling.{blocks_append}
 use Rattle.rice_code.proofs.lemmas.code.Layouts.{ends_inside, lies_at}
 use Rattle.rice_code.proofs.lemmas.code.Segments.{ends_before}
 use Rattle.rice_code.proofs.lemmas.cost.PaddingBounds.{interval_begins_segment}
-use Rattle.rice_code.proofs.lemmas.meaning.Covers.{bool_cases}
+use Rattle.rice_code.proofs.lemmas.meaning.CoveredBlocks.{bool_cases}
 use Rattle.rice_code.proofs.lemmas.meaning.DecodingGoesOn.{cut_parts}
 use Rattle.rice_code.proofs.lemmas.meaning.DecodingPlaces.{ends_there, same_all_blocks, same_lie, taken_there}
 use Rattle.rice_code.proofs.lemmas.meaning.Intervals.{first_blocks, to_byte}

@@ -22,13 +22,13 @@ use Rattle.rice_code.specs.code.CodedDataSets.{CodedDataSet, NoCompression, Seco
 use Rattle.rice_code.specs.code.Forms.{IsReference, AllFit, RunIsSound, ResidualsAreSound, blocks_in}
 use Rattle.rice_code.specs.code.Layout.{block_after, padding}
 use Rattle.rice_code.specs.code.Decoded.{Decoded, DecodedFrom, Ending, Reached, Ended, CutOff, Past, Large, IsWanted, EndsWith, cut_to}
-use Rattle.rice_code.proofs.lemmas.meaning.Covers.{bool_cases, GoOn, segment_goes_on}
+use Rattle.rice_code.proofs.lemmas.meaning.CoveredBlocks.{bool_cases, GoOn, segment_goes_on}
 use Rattle.rice_code.specs.code.SoundBlocks.{IsSoundBlock, AreSoundBlocks}
 use Rattle.rice_code.proofs.lemmas.code.SoundBlocks.{all_append, last_legal}
 use Rattle.rice_code.proofs.lemmas.meaning.SentSets.{IsSound}
 use Rattle.rice_code.proofs.lemmas.code.OnesOfForms.{forms_have_a_one}
 use Rattle.rice_code.proofs.lemmas.meaning.FormSearch.{form_piece}
-use Rattle.rice_code.proofs.lemmas.meaning.Witnesses.{decoded_from_none}
+use Rattle.rice_code.proofs.lemmas.meaning.DecodingWitnesses.{decoded_from_none}
 use Rattle.rice_code.proofs.lemmas.meaning.DecodingGoesOn.{decoding_goes_on}
 
 -- what can be decided

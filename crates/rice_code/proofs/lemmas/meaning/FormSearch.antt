@@ -9,7 +9,7 @@ use Rattle.std.proofs.lemmas.List.Elements.{All-from_recursion, recursion_from_A
 use Rattle.std.proofs.lemmas.List.Folds.{flat_map-map}
 use Rattle.std.proofs.lemmas.Nat.{pow_pos}
 use Rattle.rice_bits.specs.Bits.{word, fundamental_sequence}
-use Rattle.rice_bits.proofs.lemmas.bits.OneWay.{word_reads, sequence_reads, pieces_read, bits_read}
+use Rattle.rice_bits.proofs.lemmas.bits.ReadInOneWay.{word_reads, sequence_reads, pieces_read, bits_read}
 use Rattle.rice_bits.proofs.lemmas.bits.PieceSearch.{Piece, NoPiece, Search, word_piece, bits_piece, sequence_piece, search_pieces, two_pieces}
 use Rattle.rice_bits.proofs.lemmas.bits.Words.{length-word, followed_by, high-followed_by, word-followed_by}
 use Rattle.rice_samples.specs.Parameters.{Parameters, IsLegal, id_len, k_max, value_count}
@@ -18,7 +18,7 @@ use Rattle.rice_code.specs.code.Blocks.{BlockData}
 use Rattle.rice_samples.specs.blocks.Pairs.{pair_codes}
 use Rattle.rice_code.specs.code.CodedDataSets.{CodedDataSet, NoCompression, SecondExtension, Split, ZeroBlocks, RemainderOfSegment, bits_of_set, sent_residuals, sent_from, reference_bits, run_number}
 use Rattle.rice_code.specs.code.Forms.{IsForm, IsBlock, IsReference, IsZeroAtReference}
-use Rattle.rice_code.proofs.lemmas.meaning.Covers.{bool_cases}
+use Rattle.rice_code.proofs.lemmas.meaning.CoveredBlocks.{bool_cases}
 use Rattle.rice_samples.proofs.lemmas.blocks.PairLemmas.{unpaired, codes_of_unpaired, length-unpaired, count_pairs}
 use Rattle.rice_code.proofs.lemmas.code.ReadInOneWay.{identifier, tail, text_is, identifier_fits, wide_id, same_below, same_all, even_block, All-coded}
 
@@ -87,10 +87,10 @@ all_units (x ∷ xs) = (tt, all_units xs)
 abbrev PlainBody : Parameters → (Option ℕ × List ℕ) → List Bool
 PlainBody s p = reference_bits s p.0 ++ flat_map (word s.bits) p.1
 
-abbrev IsPlain : Parameters → ℕ → (Option ℕ × List ℕ) → Type 0
-IsPlain s b p = IsReference s b p.0 × ((length p.1 ≡ coded_count s p.0) × AllByRecursion (λ v. v < 2 ^ s.bits) p.1)
+abbrev IsUncoded : Parameters → ℕ → (Option ℕ × List ℕ) → Type 0
+IsUncoded s b p = IsReference s b p.0 × ((length p.1 ≡ coded_count s p.0) × AllByRecursion (λ v. v < 2 ^ s.bits) p.1)
 
-plain_piece : (s : Parameters) (b : ℕ) (bits : List Bool) → Search (PlainBody s) (IsPlain s b) bits
+plain_piece : (s : Parameters) (b : ℕ) (bits : List Bool) → Search (PlainBody s) (IsUncoded s b) bits
 plain_piece s b bits =
     two_pieces (reference_bits s) (IsReference s b) (λ r. flat_map (word s.bits)) (λ r xs. (length xs ≡ coded_count s r) × AllByRecursion (λ v. v < 2 ^ s.bits) xs) bits (reference_piece s b bits)
     (λ r q x y h k e. reference_reads s b r q x y h k e)
@@ -203,7 +203,7 @@ pieces_to_forms s body P R bits to from h =
 is_block : (s : Parameters) (b : ℕ) (r : Option ℕ) (ds : List ℕ) → 1 ≤ s.block → IsReference s b r → length ds ≡ coded_count s r → IsBlock s b (block_of r ds)
 is_block s b r ds j h e = record { reference = h; len = length-uncoded s r ds j e }
 
-to_plain : (s : Parameters) (b : ℕ) (x : Option ℕ × List ℕ) → 1 ≤ s.block → IsPlain s b x → (d : CodedDataSet) × IsTail s b (2 ^ id_len s - 1) d × (PlainBody s x ≡ tail s d)
+to_plain : (s : Parameters) (b : ℕ) (x : Option ℕ × List ℕ) → 1 ≤ s.block → IsUncoded s b x → (d : CodedDataSet) × IsTail s b (2 ^ id_len s - 1) d × (PlainBody s x ≡ tail s d)
 unfolding tail identifier
 to_plain s b x j h =
     let c = block_of x.0 x.1 in
@@ -213,7 +213,7 @@ to_plain s b x j h =
       ap (λ v. reference_bits s x.0 ++ flat_map (word s.bits) v) (sym (coded_uncoded x.0 x.1)),
     )
 
-from_plain : (s : Parameters) (b : ℕ) (d : CodedDataSet) → IsTail s b (2 ^ id_len s - 1) d → (x : Option ℕ × List ℕ) × IsPlain s b x × (tail s d ≡ PlainBody s x)
+from_plain : (s : Parameters) (b : ℕ) (d : CodedDataSet) → IsTail s b (2 ^ id_len s - 1) d → (x : Option ℕ × List ℕ) × IsUncoded s b x × (tail s d ≡ PlainBody s x)
 unfolding tail identifier
 from_plain s b (NoCompression c) h = (
   (c.reference, sent_residuals c),
@@ -369,7 +369,7 @@ tail_piece s b (suc k) bits legal lt =
           subst P e (pieces_to_forms s (SplitBody s) (IsSplit s b k) (IsTail s b (k + 1)) bits (λ x h. to_split s b k x j le h) (λ d h. from_split s b k d le h) (split_piece s b k bits))
       | inr whole ↦
           let e : 2 ^ id_len s - 1 ≡ suc k = omega arith in
-          subst P e (pieces_to_forms s (PlainBody s) (IsPlain s b) (IsTail s b (2 ^ id_len s - 1)) bits (λ x h. to_plain s b x j h) (λ d h. from_plain s b d h) (plain_piece s b bits))
+          subst P e (pieces_to_forms s (PlainBody s) (IsUncoded s b) (IsTail s b (2 ^ id_len s - 1)) bits (λ x h. to_plain s b x j h) (λ d h. from_plain s b d h) (plain_piece s b bits))
     ]
 
 pub form_piece : (s : Parameters) (b : ℕ) (bits : List Bool) → IsLegal s → Search (bits_of_set s) (IsForm s b) bits

@@ -25,7 +25,7 @@ use Rattle.rice_code.proofs.lemmas.code.SoundBlocks.{blocks_sound_behind, count_
 use Rattle.rice_code.proofs.lemmas.code.WholeBlocks.{not_filled}
 use Rattle.rice_code.proofs.lemmas.code.WholeBytes.{whole-append}
 use Rattle.rice_code.proofs.lemmas.cost.PaddingBounds.{are_blocks, interval_begins_segment}
-use Rattle.rice_code.proofs.lemmas.meaning.Covers.{bool_cases, covers_blocks}
+use Rattle.rice_code.proofs.lemmas.meaning.CoveredBlocks.{bool_cases, covers_blocks}
 use Rattle.rice_code.proofs.lemmas.meaning.SentSets.{are_taken}
 
 -- ---- an interval begins afresh

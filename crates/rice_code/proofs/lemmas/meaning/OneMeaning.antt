@@ -4,7 +4,7 @@ use Rattle.std.specs.Prelude.{All, Contains, IfSome, IsSomeAnd, cond}
 use Rattle.std.specs.List.{AllByRecursion}
 use Rattle.std.proofs.lemmas.List.{length-take-le, take-append-drop}
 use Rattle.std.proofs.lemmas.List.Elements.{All-contains, Contains-append_left, recursion_from_All}
-use Rattle.rice_bits.proofs.lemmas.bits.OneWay.{bits_read}
+use Rattle.rice_bits.proofs.lemmas.bits.ReadInOneWay.{bits_read}
 use Rattle.rice_samples.specs.Parameters.{Parameters, IsLegal, IsSample}
 use Rattle.rice_samples.specs.Places.{is_reference, is_reference_sample}
 use Rattle.rice_samples.specs.predict.Residuals.{pattern, residuals, residual, last_of}
@@ -14,7 +14,7 @@ use Rattle.rice_code.specs.code.CodedDataSets.{CodedDataSet, NoCompression, Seco
 use Rattle.rice_code.specs.code.Forms.{IsForm, RunIsSound, ResidualsAreSound, blocks_in, blocks_in_all}
 use Rattle.rice_code.specs.code.Layout.{block_after, padding, Lies}
 use Rattle.rice_code.specs.code.Decoded.{DecodedFrom, Ending, Reached, Ended, CutOff, Past, Large, IsWanted, AreTaken, BeginsUnsound, EndsWith, cut_to}
-use Rattle.rice_code.proofs.lemmas.meaning.Covers.{bool_cases}
+use Rattle.rice_code.proofs.lemmas.meaning.CoveredBlocks.{bool_cases}
 use Rattle.rice_code.proofs.lemmas.code.SoundBlocks.{all_take, all_drop, last_legal}
 use Rattle.rice_code.proofs.lemmas.code.ReadInOneWay.{forms_read_in_one_way}
 use Rattle.rice_code.proofs.lemmas.code.OnesOfForms.{forms_have_a_one}
@@ -94,21 +94,21 @@ same_ending s asked b rest Past Large m n legal h k = absurd (past_and_large s b
 same_ending s asked b rest Large Past m n legal h k = absurd (past_and_large s b rest n m legal k.1 h.1)
 
 -- at block b nothing of the rest is taken
-abbrev Stops : Parameters → Option ℕ → ℕ → List Bool → Type 0
-Stops s asked b rest = (d : CodedDataSet) (more : List Bool) → IsWanted s asked b → IsSound s b d → rest ≡ bits_of_set s d ++ more → ⊥
+abbrev NothingFollows : Parameters → Option ℕ → ℕ → List Bool → Type 0
+NothingFollows s asked b rest = (d : CodedDataSet) (more : List Bool) → IsWanted s asked b → IsSound s b d → rest ≡ bits_of_set s d ++ more → ⊥
 
 same_sets : (s : Parameters) (asked : Option ℕ) (b position m n : ℕ) (ds es : List CodedDataSet) (f g r q : List Bool) → IsLegal s →
     b + length (blocks_in_all s b ds) ≡ m → b + length (blocks_in_all s b es) ≡ n →
-    Lies s b position ds f → Lies s b position es g → f ++ r ≡ g ++ q → AreTaken s asked b ds → AreTaken s asked b es → Stops s asked m r → Stops s asked n q → (ds ≡ es) × (f ≡ g) × (r ≡ q)
+    Lies s b position ds f → Lies s b position es g → f ++ r ≡ g ++ q → AreTaken s asked b ds → AreTaken s asked b es → NothingFollows s asked m r → NothingFollows s asked n q → (ds ≡ es) × (f ≡ g) × (r ≡ q)
 same_sets s asked b position m n [] [] f g r q legal bm bn lf lg e tf tg sr sq =
     (refl, lf ∙ sym lg, ap (λ v. v ++ r) (sym lf) ∙ (e ∙ ap (λ v. v ++ q) lg))
 same_sets s asked b position m n [] (d ∷ es) f g r q legal bm bn lf lg e tf tg sr sq =
-    let P : ℕ → Type 0 = λ i. Stops s asked i r in
+    let P : ℕ → Type 0 = λ i. NothingFollows s asked i r in
     let here : m ≡ b = omega arith in
     let all : r ≡ bits_of_set s d ++ ((lg.0 ++ lg.1) ++ q) = ap (λ v. v ++ r) (sym lf) ∙ (e ∙ (ap (λ v. v ++ q) lg.3 ∙ append_assoc (bits_of_set s d) (lg.0 ++ lg.1) q)) in
     absurd (subst P here sr d ((lg.0 ++ lg.1) ++ q) tg.0 (tg.1, tg.2, tg.3) all)
 same_sets s asked b position m n (d ∷ ds) [] f g r q legal bm bn lf lg e tf tg sr sq =
-    let P : ℕ → Type 0 = λ i. Stops s asked i q in
+    let P : ℕ → Type 0 = λ i. NothingFollows s asked i q in
     let here : n ≡ b = omega arith in
     let all : q ≡ bits_of_set s d ++ ((lf.0 ++ lf.1) ++ r) = ap (λ v. v ++ q) (sym lg) ∙ (sym e ∙ (ap (λ v. v ++ r) lf.3 ∙ append_assoc (bits_of_set s d) (lf.0 ++ lf.1) r)) in
     absurd (subst P here sq d ((lf.0 ++ lf.1) ++ r) tf.0 (tf.1, tf.2, tf.3) all)

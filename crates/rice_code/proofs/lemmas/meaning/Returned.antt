@@ -20,7 +20,7 @@ use Rattle.rice_code.specs.code.Layout.{Lies}
 use Rattle.rice_code.specs.code.Forms.{blocks_in_all}
 use Rattle.rice_code.specs.code.Code.{sets_of, code, output}
 use Rattle.rice_code.specs.code.Decoded.{Decoded, Ending, Reached, Ended, IsWanted, EndsWith, cut_to}
-use Rattle.rice_code.proofs.lemmas.meaning.Covers.{bool_cases, and-split, GoOn, covers_blocks}
+use Rattle.rice_code.proofs.lemmas.meaning.CoveredBlocks.{bool_cases, and-split, GoOn, covers_blocks}
 use Rattle.rice_code.proofs.lemmas.code.Layouts.{lies_laid, lies_inside}
 use Rattle.rice_code.proofs.lemmas.cost.PaddingBounds.{are_blocks, interval_begins_segment, sets_begin}
 use Rattle.rice_code.proofs.lemmas.code.SoundBlocks.{all_append, all_replicate, last_legal, count_blocks, filled_len, blocks_sound_behind}

@@ -17,7 +17,7 @@ use Rattle.rice_code.specs.code.Choice.{shortest, other_options}
 use Rattle.rice_code.specs.code.Code.{data_sets}
 use Rattle.rice_code.specs.code.Runs.{zero_run, run_len}
 use Rattle.rice_code.specs.code.Decoded.{IsWanted, AreTaken}
-use Rattle.rice_code.proofs.lemmas.meaning.Covers.{bool_cases, skipped, data_sets_plain, data_sets_start, data_sets_inside, skipped_plain, skipped_go, skipped_stop, zero_run_is, best_keeps, run_cons, run_inside, shortest_covers, nothing_more}
+use Rattle.rice_code.proofs.lemmas.meaning.CoveredBlocks.{bool_cases, skipped, data_sets_plain, data_sets_start, data_sets_inside, skipped_plain, skipped_go, skipped_stop, zero_run_is, best_keeps, run_cons, run_inside, shortest_covers, nothing_more}
 use Rattle.rice_code.specs.code.SoundBlocks.{IsSoundBlock, AreSoundBlocks}
 use Rattle.rice_code.proofs.lemmas.cost.BlockBounds.{shortest_is_form}
 

@@ -7,9 +7,8 @@ use Rattle.std.proofs.lemmas.List.{drop-drop, drop_at, map-append, take_at}
 use Rattle.std.proofs.lemmas.List.Elements.{All-nil, All-push}
 use Rattle.rice_samples.specs.Parameters.{Parameters, IsSample, value_count, width}
 use Rattle.rice_samples.specs.predict.Residuals.{pattern}
-use Rattle.rice_samples.specs.bytes.Patterns.{SpellsOne, SpellsPatterns, bytes_of_words}
-use Rattle.rice_samples.specs.bytes.Spelling.{spelling, spellings}
-use Rattle.rice_samples.specs.bytes.Values.{ordered_bytes}
+use Rattle.rice_samples.specs.bytes.SpelledPatterns.{SpellsOne, SpellsPatterns, bytes_of_words}
+use Rattle.rice_samples.specs.bytes.Spelling.{spelling, spellings, ordered_bytes}
 
 -- the words in the first `at` bytes have become spellings
 pub record SpelledSoFar (s : Parameters) (old now : List ℕ) (at : ℕ) : Type 0 where

@@ -8,8 +8,8 @@ use Rattle.std.proofs.Math.Nat.{mul-add-mod_self_left}
 use Rattle.std.proofs.Math.Pow.{pow_mono}
 use Rattle.rice_samples.specs.Parameters.{level, Parameters, IsLegal, IsSample, width}
 use Rattle.rice_samples.specs.predict.Residuals.{twos_complement}
-use Rattle.rice_samples.specs.bytes.Spelling.{spelling}
-use Rattle.rice_samples.specs.bytes.Values.{offset, IsValue, ordered_bytes}
+use Rattle.rice_samples.specs.bytes.Spelling.{spelling, ordered_bytes}
+use Rattle.rice_samples.specs.bytes.Values.{offset, IsValue}
 use Rattle.rice_samples.proofs.lemmas.setting.Levels.{half_pow, pattern_fits}
 
 not_below : (a b c : ℕ) → a ≡ c + b → pos a -ℤ pos b ≡ pos c

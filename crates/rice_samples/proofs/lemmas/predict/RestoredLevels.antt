@@ -1,11 +1,13 @@
 -- Levels that are restored one after the other.
-use Rattle.std.proofs.Common.{◌≡◌, ℕ, ◌+◌, ◌<◌, ◌≤◌, arith, drop, zero, suc, length-append, List, [], ◌∷◌, ◌++◌, length, take, refl, ap, sym, subst, ◌∙◌, get_or, slice_set, All}
-use Rattle.std.proofs.lemmas.List.{length-take-le, take_more, take_more_set, get_or-take}
-use Rattle.std.proofs.lemmas.List.Elements.{All-append}
+use Rattle.std.proofs.Common.{◌≡◌, ℕ, ◌+◌, ◌<◌, ◌≤◌, arith, drop, zero, suc, length-append, List, [], ◌∷◌, ◌++◌, length, take, refl, ap, sym, subst, ◌∙◌, get_or, slice_set, All, ◌-◌, length-drop, take-append-drop}
+use Rattle.std.proofs.lemmas.List.{length-take-le, take_all, take_more, take_more_set, get_or-take}
+use Rattle.std.proofs.lemmas.List.Elements.{All-append, All-drop, All-take}
 use Rattle.std.proofs.lemmas.Slice.{take-put_mid}
 use Rattle.std.proofs.Math.Seq.{take-add}
 use borrow.Rule.Slice.PartMut.{put_mid}
+use Rattle.rice_samples.specs.Parameters.{Parameters, value_count}
 use Rattle.rice_samples.specs.predict.Residuals.{rank_below, ranks_below, last_number}
+use Rattle.rice_samples.specs.predict.RestoredLevels.{CanRestore, Restores}
 use Rattle.rice_samples.proofs.lemmas.bytes.ReadSamples.{one_legal}
 
 last_number-push : (p : ℕ) (xs : List ℕ) (x : ℕ) → last_number p (xs ++ x ∷ []) ≡ x
@@ -77,4 +79,38 @@ restored-row count before a k m last reached levels ys ds n e f room so_far smal
           ∙ (ranks_below-append count before first ys ∙ ((λ j. so_far.ranked j ++ more j) ∙ (sym (take-add a k ds) ∙ ap (λ q. take q ds) (sym e))));
       last_is = last_taken before last m now 0 f (omega (arith, long, f));
       within = subst (λ (l : ℕ). l < count) same (all last 0 there);
+    }
+
+-- ---- two halves
+
+-- the first can be restored
+pub first_can : (s : Parameters) (p k : ℕ) (ds places first : List ℕ) → CanRestore s p ds places → k ≤ length ds → length first ≡ k → CanRestore s p (take k ds) first
+first_can s p k ds places first can le len = record {
+  before = can.before;
+  residuals = All-take (λ d. d < value_count s) k ds can.residuals;
+  len = len ∙ sym (length-take-le k ds le);
+}
+
+-- and the second, behind it
+pub second_can : (s : Parameters) (p k n q : ℕ) (ds places first second : List ℕ) → CanRestore s p ds places → Restores s p (take k ds) first → length first ≡ k → k ≡ n + 1
+    → length second ≡ length ds - k → k ≤ length ds → q ≡ get_or first n 0 → CanRestore s q (take (length ds - k) (drop k ds)) second
+second_can s p k n q ds places first second can done len one rest le is =
+    let whole : take (length ds - k) (drop k ds) ≡ drop k ds = take_all (length ds - k) (drop k ds) (omega (arith, length-drop k ds)) in
+    record {
+      before = subst (λ (l : ℕ). l < value_count s) (sym is) (done.legal n 0 (omega (arith, len, one)));
+      residuals = All-take (λ d. d < value_count s) (length ds - k) (drop k ds) (All-drop (λ d. d < value_count s) k ds can.residuals);
+      len = rest ∙ sym (ap length whole ∙ length-drop k ds);
+    }
+
+-- both are
+pub both_restored : (s : Parameters) (p k n q : ℕ) (ds first second : List ℕ) → Restores s p (take k ds) first → Restores s q (take (length ds - k) (drop k ds)) second
+    → length first ≡ k → k ≡ n + 1 → q ≡ get_or first n 0 → Restores s p ds (first ++ second)
+both_restored s p k n q ds first second a b len one is =
+    let count = value_count s in
+    let whole : take (length ds - k) (drop k ds) ≡ drop k ds = take_all (length ds - k) (drop k ds) (omega (arith, length-drop k ds)) in
+    let last : q ≡ last_number p first = is ∙ last_taken p n k first 0 one (omega (arith, len, one)) ∙ ap (last_number p) (take_all k first (omega (arith, len))) in
+    let rest : ranks_below count (last_number p first) second ≡ drop k ds = ap (λ v. ranks_below count v second) (sym last) ∙ b.ranks ∙ whole in
+    record {
+      legal = All-append (λ l. l < count) first second a.legal b.legal;
+      ranks = ranks_below-append count p first second ∙ (λ j. a.ranks j ++ rest j) ∙ take-append-drop k ds;
     }

@@ -1,7 +1,8 @@
 //! Levels of samples in a row, from their residuals or their patterns.
 ghost use Rattle.std.specs.Prelude.{◌≡◌, ◌+◌, ◌%◌, ◌<◌, ◌≤◌, All, length, map, sum};
 ghost use Rattle.rice_samples.specs.Parameters.{value_count, values_at, value_at};
-ghost use Rattle.rice_samples.specs.predict.Residuals.{pattern as pattern_of, ranks_below};
+ghost use Rattle.rice_samples.specs.predict.Residuals.{pattern as pattern_of};
+ghost use Rattle.rice_samples.specs.predict.RestoredLevels.{CanRestore, Restores};
 
 use crate::Setting;
 use crate::predict::preprocessor::{number_above_along, number_with};
@@ -17,11 +18,8 @@ const FEW_BELOW: u32 = 8;
 /// one before it.
 #[inline(always)]
 pub fn restore_near_first(setting: &Setting, before: u32, residuals: &[u32], levels: &mut [u32])
-    requires before { before < value_count setting.now }
-    requires residuals { All (λ d. d < value_count setting.now) residuals.now }
-    requires len { length levels.old ≡ length residuals.now }
-    ensures legal { All (λ l. l < value_count setting.now) levels.new }
-    ensures ranks { ranks_below (value_count setting.now) before levels.new ≡ residuals.now }
+    requires can { CanRestore setting.now before residuals.now levels.old }
+    ensures { Restores setting.now before residuals.now levels.new }
 {
     // It is laid out for blocks of 8, and of 16 after a level to which few are near.
     match levels.len() {
@@ -36,11 +34,8 @@ pub fn restore_near_first(setting: &Setting, before: u32, residuals: &[u32], lev
 /// before.
 #[inline(always)]
 pub fn restore_by_selection(setting: &Setting, before: u32, residuals: &[u32], levels: &mut [u32])
-    requires before { before < value_count setting.now }
-    requires residuals { All (λ d. d < value_count setting.now) residuals.now }
-    requires len { length levels.old ≡ length residuals.now }
-    ensures legal { All (λ l. l < value_count setting.now) levels.new }
-    ensures ranks { ranks_below (value_count setting.now) before levels.new ≡ residuals.now }
+    requires can { CanRestore setting.now before residuals.now levels.old }
+    ensures { Restores setting.now before residuals.now levels.new }
 {
     match levels.len() {
         16 => restore_sixteen_in_turn(setting, before, residuals, levels),
@@ -51,12 +46,9 @@ pub fn restore_by_selection(setting: &Setting, before: u32, residuals: &[u32], l
 /// Writes the levels, eight at a time.
 #[inline(always)]
 fn restore_eights(setting: &Setting, before: u32, residuals: &[u32], levels: &mut [u32])
-    requires before { before < value_count setting.now }
-    requires residuals { All (λ d. d < value_count setting.now) residuals.now }
-    requires len { length levels.old ≡ length residuals.now }
+    requires can { CanRestore setting.now before residuals.now levels.old }
     requires eights { length residuals.now % 8 ≡ 0 }
-    ensures legal { All (λ l. l < value_count setting.now) levels.new }
-    ensures ranks { ranks_below (value_count setting.now) before levels.new ≡ residuals.now }
+    ensures { Restores setting.now before residuals.now levels.new }
 {
     let setting = *setting;
     let mut last = before;
@@ -70,12 +62,9 @@ fn restore_eights(setting: &Setting, before: u32, residuals: &[u32], levels: &mu
 /// Writes eight levels.
 #[inline(always)]
 fn restore_eight(setting: &Setting, before: u32, residuals: &[u32], levels: &mut [u32])
-    requires before { before < value_count setting.now }
-    requires residuals { All (λ d. d < value_count setting.now) residuals.now }
-    requires len { length levels.old ≡ length residuals.now }
+    requires can { CanRestore setting.now before residuals.now levels.old }
     requires eight { length residuals.now ≡ 8 }
-    ensures legal { All (λ l. l < value_count setting.now) levels.new }
-    ensures ranks { ranks_below (value_count setting.now) before levels.new ≡ residuals.now }
+    ensures { Restores setting.now before residuals.now levels.new }
 {
     if setting.bits() <= 16 {
         restore_narrow(setting, before, residuals, levels);
@@ -88,12 +77,9 @@ fn restore_eight(setting: &Setting, before: u32, residuals: &[u32], levels: &mut
 #[inline(always)]
 fn restore_narrow(setting: &Setting, before: u32, residuals: &[u32], levels: &mut [u32])
     requires narrow { setting.now.bits ≤ 16 }
-    requires before { before < value_count setting.now }
-    requires residuals { All (λ d. d < value_count setting.now) residuals.now }
-    requires len { length levels.old ≡ length residuals.now }
+    requires can { CanRestore setting.now before residuals.now levels.old }
     requires eight { length residuals.now ≡ 8 }
-    ensures legal { All (λ l. l < value_count setting.now) levels.new }
-    ensures ranks { ranks_below (value_count setting.now) before levels.new ≡ residuals.now }
+    ensures { Restores setting.now before residuals.now levels.new }
 {
     let greatest = (setting.values() - 1) as u16;
     let ranks = u32x8::from_slice(residuals).cast::<u16>();
@@ -108,12 +94,9 @@ fn restore_narrow(setting: &Setting, before: u32, residuals: &[u32], levels: &mu
 /// Writes the levels of eight samples of any number of bits.
 #[inline(always)]
 fn restore_any_width(setting: &Setting, before: u32, residuals: &[u32], levels: &mut [u32])
-    requires before { before < value_count setting.now }
-    requires residuals { All (λ d. d < value_count setting.now) residuals.now }
-    requires len { length levels.old ≡ length residuals.now }
+    requires can { CanRestore setting.now before residuals.now levels.old }
     requires eight { length residuals.now ≡ 8 }
-    ensures legal { All (λ l. l < value_count setting.now) levels.new }
-    ensures ranks { ranks_below (value_count setting.now) before levels.new ≡ residuals.now }
+    ensures { Restores setting.now before residuals.now levels.new }
 {
     let greatest = (setting.values() - 1) as u32;
     let ranks = u32x8::from_slice(residuals);
@@ -128,12 +111,9 @@ fn restore_any_width(setting: &Setting, before: u32, residuals: &[u32], levels: 
 /// Writes eight levels, of which not all are near.
 #[inline(never)]
 fn restore_far(setting: &Setting, before: u32, residuals: &[u32], levels: &mut [u32])
-    requires before { before < value_count setting.now }
-    requires residuals { All (λ d. d < value_count setting.now) residuals.now }
-    requires len { length levels.old ≡ length residuals.now }
+    requires can { CanRestore setting.now before residuals.now levels.old }
     requires eight { length residuals.now ≡ 8 }
-    ensures legal { All (λ l. l < value_count setting.now) levels.new }
-    ensures ranks { ranks_below (value_count setting.now) before levels.new ≡ residuals.now }
+    ensures { Restores setting.now before residuals.now levels.new }
 {
     restore_eight_far(setting, before, residuals, levels);
 }
@@ -141,12 +121,9 @@ fn restore_far(setting: &Setting, before: u32, residuals: &[u32], levels: &mut [
 /// Writes sixteen levels, of which few are expected to be near.
 #[inline(never)]
 fn restore_sixteen_far(setting: &Setting, before: u32, residuals: &[u32], levels: &mut [u32])
-    requires before { before < value_count setting.now }
-    requires residuals { All (λ d. d < value_count setting.now) residuals.now }
-    requires len { length levels.old ≡ length residuals.now }
+    requires can { CanRestore setting.now before residuals.now levels.old }
     requires sixteen { length residuals.now ≡ 16 }
-    ensures legal { All (λ l. l < value_count setting.now) levels.new }
-    ensures ranks { ranks_below (value_count setting.now) before levels.new ≡ residuals.now }
+    ensures { Restores setting.now before residuals.now levels.new }
 {
     let setting = *setting;
     let (first, second) = levels.split_at_mut(8);
@@ -157,12 +134,9 @@ fn restore_sixteen_far(setting: &Setting, before: u32, residuals: &[u32], levels
 /// Writes eight levels one at a time, by one comparison each where the range goes on far enough above them.
 #[inline(always)]
 fn restore_eight_far(setting: &Setting, before: u32, residuals: &[u32], levels: &mut [u32])
-    requires before { before < value_count setting.now }
-    requires residuals { All (λ d. d < value_count setting.now) residuals.now }
-    requires len { length levels.old ≡ length residuals.now }
+    requires can { CanRestore setting.now before residuals.now levels.old }
     requires eight { length residuals.now ≡ 8 }
-    ensures legal { All (λ l. l < value_count setting.now) levels.new }
-    ensures ranks { ranks_below (value_count setting.now) before levels.new ≡ residuals.now }
+    ensures { Restores setting.now before residuals.now levels.new }
 {
     let greatest = (setting.values() - 1) as u32;
     let all = u32x8::from_slice(residuals)
@@ -181,8 +155,7 @@ fn restore_with_room_above(setting: &Setting, before: u32, residuals: &[u32], le
     requires low { before + sum residuals.now < value_count setting.now }
     requires len { length levels.old ≡ length residuals.now }
     requires eight { length residuals.now ≡ 8 }
-    ensures legal { All (λ l. l < value_count setting.now) levels.new }
-    ensures ranks { ranks_below (value_count setting.now) before levels.new ≡ residuals.now }
+    ensures { Restores setting.now before residuals.now levels.new }
 {
     let _values = setting.values();
     let ways = ways(u32x8::from_slice(residuals)).to_array();
@@ -196,12 +169,9 @@ fn restore_with_room_above(setting: &Setting, before: u32, residuals: &[u32], le
 /// Writes eight levels one at a time.
 #[inline(always)]
 fn restore_eight_in_turn(setting: &Setting, before: u32, residuals: &[u32], levels: &mut [u32])
-    requires before { before < value_count setting.now }
-    requires residuals { All (λ d. d < value_count setting.now) residuals.now }
-    requires len { length levels.old ≡ length residuals.now }
+    requires can { CanRestore setting.now before residuals.now levels.old }
     requires eight { length residuals.now ≡ 8 }
-    ensures legal { All (λ l. l < value_count setting.now) levels.new }
-    ensures ranks { ranks_below (value_count setting.now) before levels.new ≡ residuals.now }
+    ensures { Restores setting.now before residuals.now levels.new }
 {
     let greatest = (setting.values() - 1) as u32;
     write_in_turn(greatest, before, residuals, levels);
@@ -210,12 +180,9 @@ fn restore_eight_in_turn(setting: &Setting, before: u32, residuals: &[u32], leve
 /// Writes eight levels one at a time. It is never inlined: in a loop, branches would be made of its selections.
 #[inline(never)]
 fn restore_in_turn(setting: &Setting, before: u32, residuals: &[u32], levels: &mut [u32])
-    requires before { before < value_count setting.now }
-    requires residuals { All (λ d. d < value_count setting.now) residuals.now }
-    requires len { length levels.old ≡ length residuals.now }
+    requires can { CanRestore setting.now before residuals.now levels.old }
     requires eight { length residuals.now ≡ 8 }
-    ensures legal { All (λ l. l < value_count setting.now) levels.new }
-    ensures ranks { ranks_below (value_count setting.now) before levels.new ≡ residuals.now }
+    ensures { Restores setting.now before residuals.now levels.new }
 {
     restore_eight_in_turn(setting, before, residuals, levels);
 }
@@ -223,12 +190,9 @@ fn restore_in_turn(setting: &Setting, before: u32, residuals: &[u32], levels: &m
 /// Writes sixteen levels one at a time. It is never inlined, as `restore_in_turn`.
 #[inline(never)]
 fn restore_sixteen_in_turn(setting: &Setting, before: u32, residuals: &[u32], levels: &mut [u32])
-    requires before { before < value_count setting.now }
-    requires residuals { All (λ d. d < value_count setting.now) residuals.now }
-    requires len { length levels.old ≡ length residuals.now }
+    requires can { CanRestore setting.now before residuals.now levels.old }
     requires sixteen { length residuals.now ≡ 16 }
-    ensures legal { All (λ l. l < value_count setting.now) levels.new }
-    ensures ranks { ranks_below (value_count setting.now) before levels.new ≡ residuals.now }
+    ensures { Restores setting.now before residuals.now levels.new }
 {
     let setting = *setting;
     let (first, second) = levels.split_at_mut(8);
@@ -239,11 +203,8 @@ fn restore_sixteen_in_turn(setting: &Setting, before: u32, residuals: &[u32], le
 /// Writes levels one at a time, sixteen in a row where their number is a multiple of sixteen.
 #[inline(never)]
 fn restore_others_in_turn(setting: &Setting, before: u32, residuals: &[u32], levels: &mut [u32])
-    requires before { before < value_count setting.now }
-    requires residuals { All (λ d. d < value_count setting.now) residuals.now }
-    requires len { length levels.old ≡ length residuals.now }
-    ensures legal { All (λ l. l < value_count setting.now) levels.new }
-    ensures ranks { ranks_below (value_count setting.now) before levels.new ≡ residuals.now }
+    requires can { CanRestore setting.now before residuals.now levels.old }
+    ensures { Restores setting.now before residuals.now levels.new }
 {
     match levels.len() {
         8 => restore_in_turn(setting, before, residuals, levels),
@@ -254,12 +215,9 @@ fn restore_others_in_turn(setting: &Setting, before: u32, residuals: &[u32], lev
 
 /// Writes levels one at a time, sixteen in a row.
 fn restore_sixteens_in_turn(setting: &Setting, before: u32, residuals: &[u32], levels: &mut [u32])
-    requires before { before < value_count setting.now }
-    requires residuals { All (λ d. d < value_count setting.now) residuals.now }
-    requires len { length levels.old ≡ length residuals.now }
+    requires can { CanRestore setting.now before residuals.now levels.old }
     requires sixteens { length residuals.now % 16 ≡ 0 }
-    ensures legal { All (λ l. l < value_count setting.now) levels.new }
-    ensures ranks { ranks_below (value_count setting.now) before levels.new ≡ residuals.now }
+    ensures { Restores setting.now before residuals.now levels.new }
 {
     let setting = *setting;
     let mut last = before;
@@ -273,11 +231,8 @@ fn restore_sixteens_in_turn(setting: &Setting, before: u32, residuals: &[u32], l
 /// Writes the levels one at a time, whatever their number.
 #[inline(never)]
 fn restore_each(setting: &Setting, before: u32, residuals: &[u32], levels: &mut [u32])
-    requires before { before < value_count setting.now }
-    requires residuals { All (λ d. d < value_count setting.now) residuals.now }
-    requires len { length levels.old ≡ length residuals.now }
-    ensures legal { All (λ l. l < value_count setting.now) levels.new }
-    ensures ranks { ranks_below (value_count setting.now) before levels.new ≡ residuals.now }
+    requires can { CanRestore setting.now before residuals.now levels.old }
+    ensures { Restores setting.now before residuals.now levels.new }
 {
     let greatest = (setting.values() - 1) as u32;
     let mut level = before;

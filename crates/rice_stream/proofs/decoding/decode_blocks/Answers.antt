@@ -2,7 +2,7 @@ use Rattle.std.proofs.Common.{arith, ◌≡◌, ◌+◌, ◌-◌, ◌*◌, ◌�
 use Rattle.std.specs.Prelude.{Ok}
 use Rattle.rice_bits.specs.device.Outlet.{Appends}
 use Rattle.rice_stream.specs.Decodes.{wanted_of, refusal_fault}
-use Rattle.rice_stream.specs.Writes.{TakesPart}
+use Rattle.rice_stream.specs.FailedWrites.{TakesPart}
 use Rattle.rice_stream.proofs.lemmas.DecodingLemmas.{decoder_advances, decoding_is_done, gains_block, moves_of, samples_of_block, stops_in_no_run}
 use Rattle.rice_stream.proofs.lemmas.DecodingEnds.{reports_as, block_is_wanted, progress_at_start, refusal_ends, refusal_fails, ended_ends, done_fails, write_ends, reached_ends, progress_with_block}
 use Rattle.rice_code.specs.decode.DecoderState.{DecoderState}

@@ -1,5 +1,5 @@
 use Rattle.std.proofs.Common.{arith, true}
-use Rattle.rice_code.proofs.lemmas.decode.CutSets.{low_bit_cut, second_low_cut, run_low_cut, second_low, run_low}
+use Rattle.rice_code.proofs.lemmas.decode.SetsRead.{low_bit_cut, second_low_cut, run_low_cut, second_low, run_low}
 use Rattle.rice_code.proofs.decode.coded_data_set.read_low_entropy.Goals as goal
 
 pub returns-in-Err-clause-err : goal.returns-in-Err-clause-err

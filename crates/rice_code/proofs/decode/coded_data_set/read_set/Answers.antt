@@ -1,5 +1,5 @@
 use Rattle.std.proofs.Common.{arith, ◌-◌, ◌∙◌, true, false}
-use Rattle.rice_code.proofs.lemmas.decode.CutSets.{cut_identifier, low_set, low_set_cut, no_compression_set, no_compression_set_cut, split_set, split_set_cut, ones_id}
+use Rattle.rice_code.proofs.lemmas.decode.SetsRead.{cut_identifier, low_set, low_set_cut, no_compression_set, no_compression_set_cut, split_set, split_set_cut, ones_id}
 use Rattle.rice_code.proofs.decode.coded_data_set.read_set.Goals as goal
 
 pub returns-in-Err-clause-err : goal.returns-in-Err-clause-err

@@ -3,7 +3,7 @@ use Rattle.std.proofs.lemmas.Result.{IfErr-weaker, IfOk-weaker}
 use Rattle.rice_bits.specs.read.Reader.{Stops}
 use Rattle.rice_code.specs.decode.Rows.{CountRow, ones}
 use Rattle.rice_code.specs.decode.ReadSets.{PartsCut, PartsRead}
-use Rattle.rice_code.proofs.lemmas.decode.ReadLemmas.{counts_read, parts_read, parts_cut_high, parts_cut_low}
+use Rattle.rice_code.proofs.lemmas.decode.OptionsRead.{counts_read, parts_read, parts_cut_high, parts_cut_low}
 use Rattle.rice_code.proofs.decode.high_and_low_parts.read_rows_of.Goals as goal
 
 pub returns-then-k-eq0-clause-ok : goal.returns-then-k-eq0-clause-ok

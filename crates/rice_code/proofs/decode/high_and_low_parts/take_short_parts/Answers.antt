@@ -1,6 +1,7 @@
 use Rattle.std.proofs.Common.{inl, inr, refl, subst, true}
+use Rattle.std.proofs.lemmas.Bool.{iff_false}
 use Rattle.rice_code.specs.decode.ReadSets.{PartsRead}
-use Rattle.rice_code.proofs.lemmas.decode.ReadLemmas.{parts_waited}
+use Rattle.rice_code.proofs.lemmas.decode.OptionsRead.{parts_waited}
 use Rattle.rice_code.proofs.decode.high_and_low_parts.take_short_parts.Goals as goal
 
 pub returns-then-most-ge63-clause-some : goal.returns-then-most-ge63-clause-some
@@ -12,7 +13,8 @@ returns-then-most-ge63-clause-some g c =
 pub returns-clause-some : goal.returns-clause-some
 returns-clause-some g c =
     let waited = c.take_waiting_parts in
+    let says = rw c.limit_of.ensures.value at c.each_is_below.ensures in
     subst (λ n. PartsRead c.args.reader.now waited.new.self c.args.most c.args.k c.each_is_below.result n waited.new.numbers) waited.auto.numbers
     (parts_waited c.args.reader.now waited.new.self c.args.most c.args.k c.each_is_below.result waited.new.numbers
-    (c.if-not-take_waiting_parts.ensures.takes refl) (λ e. inr (rw c.limit_of.ensures.value at (c.each_is_below.ensures.below e)))
-    (rw c.limit_of.ensures.value at c.each_is_below.ensures.not_below))
+    (c.if-not-take_waiting_parts.ensures.takes refl) (λ e. inr (says.0 e))
+    (iff_false says))

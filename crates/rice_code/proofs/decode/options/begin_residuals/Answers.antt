@@ -1,6 +1,6 @@
 use Rattle.std.proofs.Common.{◌∙◌, sym}
 use Rattle.std.proofs.lemmas.List.{take_more_set}
-use Rattle.rice_code.proofs.lemmas.decode.ReadLemmas.{zero-place}
+use Rattle.rice_code.proofs.lemmas.decode.OptionsRead.{zero-place}
 use Rattle.rice_code.proofs.decode.options.begin_residuals.Goals as goal
 
 pub returns-then-is_some-clause-place : goal.returns-then-is_some-clause-place

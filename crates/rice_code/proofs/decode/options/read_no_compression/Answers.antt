@@ -4,7 +4,7 @@ use Rattle.std.specs.Prelude.{flat_map}
 use Rattle.std.proofs.lemmas.Nat.{pow_pos}
 use Rattle.rice_bits.specs.Bits.{word}
 use Rattle.rice_code.specs.code.CodedDataSets.{NoCompression, sent_residuals}
-use Rattle.rice_code.proofs.lemmas.decode.ReadLemmas.{no_compression_read, residuals_behind_reference, row_after_others, coded_part, no_compression_cut, cut_at_reference}
+use Rattle.rice_code.proofs.lemmas.decode.OptionsRead.{no_compression_read, residuals_behind_reference, row_after_others, coded_part, no_compression_cut, cut_at_reference}
 use Rattle.rice_code.proofs.decode.options.read_no_compression.Goals as goal
 
 pub returns-in-Err-clause-err : goal.returns-in-Err-clause-err

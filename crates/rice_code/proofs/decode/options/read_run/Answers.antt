@@ -1,7 +1,7 @@
 use Rattle.std.proofs.Common.{◌++◌, false, replicate}
 use Rattle.rice_bits.proofs.lemmas.read.ReaderLemmas.{takes-append, stops-append}
 use Rattle.rice_code.specs.code.CodedDataSets.{reference_bits}
-use Rattle.rice_code.proofs.lemmas.decode.ReadLemmas.{run_cut, run_cut_at_reference}
+use Rattle.rice_code.proofs.lemmas.decode.OptionsRead.{run_cut, run_cut_at_reference}
 use Rattle.rice_code.proofs.decode.options.read_run.Goals as goal
 
 pub returns-in-Err-clause-err : goal.returns-in-Err-clause-err

@@ -1,9 +1,10 @@
 use Rattle.std.proofs.Common.{arith, ◌≡◌, ◌≤◌, ◌∙◌, ap, ◌-◌, ◌/◌, ◌^◌, ◌++◌, drop, refl, subst, sym, false}
 use Rattle.std.specs.Prelude.{All, flat_map}
+use Rattle.std.proofs.lemmas.Bool.{iff_false}
 use Rattle.rice_bits.specs.Bits.{word, fundamental_sequence}
 use Rattle.rice_samples.specs.Parameters.{value_count}
 use Rattle.rice_code.specs.code.CodedDataSets.{Split, sent_residuals}
-use Rattle.rice_code.proofs.lemmas.decode.ReadLemmas.{sent_part, sent_placed, up_to_end, split_large, split_joined, split_cut, parts_small, cut_at_reference}
+use Rattle.rice_code.proofs.lemmas.decode.OptionsRead.{sent_part, sent_placed, up_to_end, split_large, split_joined, split_cut, parts_small, cut_at_reference}
 use Rattle.rice_code.proofs.decode.options.read_split.Goals as goal
 
 pub returns-in-Err-clause-err : goal.returns-in-Err-clause-err
@@ -44,11 +45,12 @@ pub returns-clause-ok : goal.returns-clause-ok
 returns-clause-ok g c =
     let first = c.begin_residuals-first in
     let part = sent_part c.args.setting.now c.in-Ok.reference first.result first.new.residuals c.values-values.ensures.legal first.ensures.first (first.auto.residuals ∙ c.requires.size) in
+    let says = rw (up_to_end first.result c.read_sent.new.residuals, c.bits.ensures.value) at c.joined_are_below-sound.ensures in
     split_joined c.args.reader.now c.read_reference.new.reader c.read_sent.new.reader c.args.meter.now c.read_sent.new.meter c.args.setting.now c.args.block
     c.args.k c.in-Ok.reference _ c.in-Ok-true.field-0
     (drop first.result c.read_sent.new.residuals) _ c.joined_are_below-sound.result
     c.in-Ok.ensures.reference c.requires.k part.1 c.in-Ok.ensures.ok (rw c.values-values.ensures.value at c.in-Ok-true.ensures.ok) c.in-Ok-true.field-0-test
     (omega (arith, c.in-Ok.ensures.steps, c.in-Ok-true.ensures.steps))
     (sent_placed first.result c.in-Ok.reference first.new.residuals c.read_sent.new.residuals first.ensures.place c.in-Ok-true.ensures.stay)
-    (rw (up_to_end first.result c.read_sent.new.residuals, c.bits.ensures.value) at c.joined_are_below-sound.ensures.below)
-    (rw (up_to_end first.result c.read_sent.new.residuals, c.bits.ensures.value) at c.joined_are_below-sound.ensures.not_below)
+    says.0
+    (iff_false says)

@@ -1,5 +1,6 @@
 use Rattle.std.proofs.Common.{arith, length, take}
 use Rattle.std.proofs.lemmas.List.{length-take-le}
+use Rattle.std.proofs.lemmas.Bool.{iff_false}
 use Rattle.rice_code.proofs.lemmas.decode.RowLemmas.{counts-both, counts-judged, put_rest, sequences-stop_behind}
 use Rattle.rice_code.proofs.decode.rows.read_counts.Goals as goal
 
@@ -19,4 +20,4 @@ returns-in-Ok-clause-ok g c =
     (counts-both c.args.reader.now waiting.new.self c.read_each_count.new.reader c.args.most waiting.result _ (length c.args.counts.now) c.in-Ok.small now rest _
     waiting.ensures.within waiting.ensures.takes c.in-Ok.ensures.ok (omega (arith, waiting.auto.zeros, waiting.ensures.within, c.read_each_count.auto.counts))
     (put_rest waiting.result now rest waiting.ensures.within))
-    c.are_below.ensures.below c.are_below.ensures.not_below
+    c.are_below.ensures.0 (iff_false c.are_below.ensures)

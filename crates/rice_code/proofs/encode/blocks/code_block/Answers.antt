@@ -5,9 +5,9 @@ use Rattle.rice_code.specs.code.Choice.{shortest, best_split}
 use Rattle.rice_code.specs.code.SoundBlocks.{block_with}
 use Rattle.rice_code.specs.declared.encode.choice.Choice.{Choice}
 use Rattle.rice_code.specs.encode.BitBuffer.{PutsSet}
-use Rattle.rice_code.specs.encode.Chosen.{chosen_set}
+use Rattle.rice_code.specs.encode.ChosenOption.{chosen_set}
 use Rattle.rice_code.proofs.lemmas.encode.ChosenSets.{where_set, where_unset, puts_chosen}
-use Rattle.rice_code.proofs.lemmas.encode.SegmentSteps.{steps_least}
+use Rattle.rice_code.proofs.lemmas.encode.SegmentBlocks.{steps_least}
 use Rattle.rice_code.proofs.encode.blocks.code_block.Goals as goal
 use Rattle.rice_code.proofs.encode.blocks.code_block.Goals.{in-NoCompression, in-SecondExtension, in-Split, then-this-ne0, else-this-ne0}
 

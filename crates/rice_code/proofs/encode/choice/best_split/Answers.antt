@@ -6,7 +6,7 @@ use Rattle.rice_code.proofs.encode.choice.best_split.Goals as goal
 
 pub returns-clause-best : goal.returns-clause-best
 returns-clause-best c =
-    let stop = c.split_stop-k.ensures in
+    let stop = c.split_stop-k.ensures.stop in
     let len = c.coded_len-coded.ensures.value in
     sum_stop_is_best c.args.setting.now c.args.block.now c.split_stop-k.result.0 c.requires.sound.zero stop.limit
     (λ j lt. omega (arith, stop.falls j lt, len))
@@ -21,5 +21,5 @@ returns-clause-small c = λ none.
     let k = c.split_stop-k.result.0 in
     let here = ap (cut_sum ds) none in
     let next = ap (λ n. cut_sum ds (n + 1)) none in
-    let stops = c.split_stop-k.ensures.stops (omega (arith, none)) in
+    let stops = c.split_stop-k.ensures.stop.stops (omega (arith, none)) in
     small_sum ds (omega (arith, here, next, stops, sum_halves ds 0, c.coded_len-coded.ensures.limit))

@@ -1,8 +1,7 @@
 use Rattle.std.proofs.Common.{arith, ◌≡◌, ◌*◌, ◌^◌, ◌<◌, ◌∙◌, ap, length, sym, subst, ℕ}
 use Rattle.rice_samples.specs.Parameters.{value_at}
 use Rattle.rice_samples.specs.predict.Residuals.{twos_complement}
-use Rattle.rice_samples.specs.bytes.Spelling.{spelling}
-use Rattle.rice_samples.specs.bytes.Values.{ordered_bytes}
+use Rattle.rice_samples.specs.bytes.Spelling.{spelling, ordered_bytes}
 use Rattle.rice_samples.proofs.lemmas.bytes.LevelPatterns.{level_of_word}
 use Rattle.rice_samples.proofs.lemmas.bytes.ReadSamples.{one_len, one_read, one_legal}
 use Rattle.rice_samples.proofs.bytes.reading.read_levels.Goals as goal

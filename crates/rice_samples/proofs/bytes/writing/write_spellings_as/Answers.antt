@@ -1,8 +1,7 @@
 use Rattle.std.proofs.Common.{arith, ◌≡◌, ◌*◌, ◌<◌, ◌∙◌, length, get_or}
 use Rattle.rice_samples.specs.Parameters.{value_at, value_count}
 use Rattle.rice_samples.specs.predict.Residuals.{twos_complement}
-use Rattle.rice_samples.specs.bytes.Spelling.{spelling}
-use Rattle.rice_samples.specs.bytes.Values.{ordered_bytes}
+use Rattle.rice_samples.specs.bytes.Spelling.{spelling, ordered_bytes}
 use Rattle.rice_samples.proofs.lemmas.bytes.LevelPatterns.{word_of_level}
 use Rattle.rice_samples.proofs.lemmas.bytes.ReadSamples.{one_len, one_written}
 use Rattle.rice_samples.proofs.bytes.writing.write_spellings_as.Goals as goal

@@ -5,7 +5,7 @@ use Rattle.std.proofs.lemmas.List.{length-take, length-take-le}
 use Rattle.rice_samples.specs.Parameters.{Parameters, width}
 use Rattle.rice_samples.specs.bytes.Spelling.{spellings}
 use Rattle.rice_stream.specs.EncodingState.{IsEncodingOf, TakesAll, Pushes, Reads}
-use Rattle.rice_stream.proofs.lemmas.PartLemmas.{takes_on, stops_on, none_left, few_more}
+use Rattle.rice_stream.proofs.lemmas.SamplesInParts.{takes_on, stops_on, none_left, few_more}
 use Rattle.rice_stream.proofs.encoding.Encoding.push_all.Goals as goal
 
 -- the bytes so far are those of whole samples

@@ -1,5 +1,5 @@
 use Rattle.std.proofs.Common.{arith, ◌+◌}
-use Rattle.rice_samples.proofs.lemmas.predict.Folding.{same_rest, one_rank, rest_after}
+use Rattle.rice_samples.proofs.lemmas.predict.RanksInPlace.{same_rest, one_rank, rest_after}
 use Rattle.rice_samples.proofs.predict.residuals.rows.fold.Goals as goal
 
 pub rank_of-requires-clause-sample : goal.rank_of-requires-clause-sample

@@ -1,5 +1,5 @@
 use Rattle.std.proofs.Common.{◌^◌}
-use Rattle.rice_samples.proofs.lemmas.predict.LaneSums.{sums_are}
+use Rattle.rice_samples.proofs.lemmas.predict.SumsOfWays.{sums_are}
 use Rattle.rice_samples.proofs.predict.restoring.byte_lanes.near_numbers.Goals as goal
 
 pub returns : goal.returns

@@ -9,7 +9,7 @@ returns-then-are_near c =
     let above : c.values.result - 1 + 1 ≡ count = omega arith in
     let near = c.if-are_near.true in
     let restored = near_restored count (c.values.result - 1) (2 ^ 32) c.args.before c.args.levels.now c.args.residuals.now c.near_numbers-numbers.result
-    c.requires.len c.requires.eight above c.near_numbers-numbers.ensures
+    c.requires.can.len c.requires.eight above c.near_numbers-numbers.ensures
     (c.are_near.ensures.fit near) (c.are_near.ensures.ranks near)
     in
     record {

@@ -10,7 +10,7 @@ use Rattle.rice_samples.proofs.predict.restoring.levels.restore_narrow.Goals as 
 pub overflow_cast-ranks : goal.overflow_cast-ranks
 overflow_cast-ranks c =
     let s = c.args.setting.now in
-    lanes_fit (value_count s) c.args.residuals.now (pow-le-pow_right {n = 2} (omega arith) {i = s.bits} {j = 16} c.requires.narrow) c.requires.eight c.requires.residuals
+    lanes_fit (value_count s) c.args.residuals.now (pow-le-pow_right {n = 2} (omega arith) {i = s.bits} {j = 16} c.requires.narrow) c.requires.eight c.requires.can.residuals
 
 pub returns-then-are_near : goal.returns-then-are_near
 returns-then-are_near c =
@@ -20,7 +20,7 @@ returns-then-are_near c =
     let near = c.if-are_near.true in
     let same = map_same (take 8 ds) in
     let numbers = c.near_numbers-numbers in
-    let restored = near_restored count (c.values.result - 1) (2 ^ 16) c.args.before c.args.levels.now ds numbers.result c.requires.len c.requires.eight above
+    let restored = near_restored count (c.values.result - 1) (2 ^ 16) c.args.before c.args.levels.now ds numbers.result c.requires.can.len c.requires.eight above
     (numbers.ensures ∙ ap (near_numbers (2 ^ 16) c.args.before) same)
     (c.are_near.ensures.fit near) (c.are_near.ensures.ranks near ∙ same)
     in

@@ -1,0 +1,207 @@
+-- A segment's blocks are coded one by one.
+use Rattle.std.proofs.Common.{◌≡◌, ℕ, zero, suc, ◌+◌, ◌-◌, ◌*◌, ◌^◌, ◌<◌, ◌≤◌, min, Bool, true, false, cond, List, [], ◌∷◌, ◌++◌, length, take, drop, refl, ap, arith, sym, ◌∙◌, inl, inr, subst, append_assoc, append-nil, length-append, Option, None}
+use Rattle.std.specs.Prelude.{sum_by, slice_range}
+use Rattle.std.proofs.lemmas.Bool.{cases_lt}
+use Rattle.std.proofs.lemmas.List.{drop_all}
+use Rattle.std.proofs.lemmas.List.Sums.{sum_by-cons}
+use Rattle.std.proofs.lemmas.Grind.{flat_map-append}
+use Rattle.std.proofs.Math.Nat.{mul-le-mul_left, mul-le-mul_right}
+use Rattle.rice_samples.specs.Parameters.{Parameters, k_max}
+use Rattle.rice_samples.specs.Places.{begins_segment, blocks_left}
+use Rattle.rice_samples.proofs.lemmas.setting.PlaceLemmas.{one_less_left, last_of_segment}
+use Rattle.rice_code.specs.code.Blocks.{BlockData, is_zero_block}
+use Rattle.rice_code.specs.code.CodedDataSets.{bits_of_set, cost, bits_of_sets}
+use Rattle.rice_code.specs.code.Code.{data_sets}
+use Rattle.rice_code.specs.code.Choice.{shortest, best_split}
+use Rattle.rice_code.specs.code.Runs.{run_of_blocks}
+use Rattle.rice_code.specs.encode.HeldBlocks.{pending_zeros, pending_run, held_blocks, reference_at}
+use Rattle.rice_code.specs.code.SoundBlocks.{block_with, IsSoundData, AreSoundBlocks, IsSoundBlock}
+use Rattle.rice_code.specs.CoderSteps.{least_looks, most_looks}
+use Rattle.rice_code.proofs.lemmas.meaning.CoveredBlocks.{bool_cases, zero_block_is}
+use Rattle.rice_code.proofs.lemmas.cost.Costs.{cost_is_length}
+use Rattle.rice_code.proofs.lemmas.cost.BlockBounds.{shortest_is_form}
+use Rattle.rice_code.proofs.lemmas.encode.OptionBits.{run_text_len}
+use Rattle.rice_code.proofs.lemmas.encode.PendingRuns.{run_then_block, run_ends, zero_block_joins_run, held_at, held_len, drop_sound}
+
+-- the text of a run is as long as it costs
+pub length-pending_bits : (s : Parameters) (to_end : Bool) (r : Option ℕ) (run : ℕ) → 0 < run → length (bits_of_sets s (pending_run to_end r run)) ≡ cost s (run_of_blocks to_end r run)
+length-pending_bits s to_end r zero h = absurd (omega arith)
+length-pending_bits s to_end r (suc w) h = omega (arith, length-append (bits_of_set s (run_of_blocks to_end r (suc w))) [], run_text_len s to_end r (suc w))
+
+-- the steps of coding a block
+pub steps_least : (j k limit m0 m1 m2 n : ℕ) → m1 ≤ m0 + j * (k + 3) → m1 ≤ m0 + j * (limit + 2) → m2 ≤ m1 + n + 2 * j → m2 ≤ m0 + n + j * (min (k + 1) limit + 4)
+steps_least j k limit m0 m1 m2 n p q h =
+    elim (cases_lt (k + 1) limit) [
+      | inl lt ↦ let e : min (k + 1) limit ≡ k + 1 = omega arith in let f = ap (λ v. j * (v + 4)) e in omega (arith, f)
+      | inr le ↦ let e : min (k + 1) limit ≡ limit = omega arith in let f = ap (λ v. j * (v + 4)) e in omega (arith, f)
+    ]
+
+-- the blocks left, `i` blocks on
+pub left_inside : (s : Parameters) (b i : ℕ) → 1 ≤ s.interval → i < blocks_left s b → blocks_left s (b + i) + i ≡ blocks_left s b
+left_inside s b zero h k = let e : b + 0 ≡ b = omega arith in let f = ap (blocks_left s) e in omega (arith, f)
+left_inside s b (suc i) h k =
+    elim (bool_cases (begins_segment s (b + 1))) [
+      | inl e ↦ absurd (let f = last_of_segment s b h e in omega arith)
+      | inr e ↦
+          let f = one_less_left s b h e in
+          let ih = left_inside s (b + 1) i h (omega arith) in
+          let n : b + 1 + i ≡ b + suc i = omega arith in
+          let g = ap (blocks_left s) n in
+          omega (arith, f, ih, g)
+    ]
+
+-- the code that is still to come when `run` zero blocks before block i wait
+abbrev pub to_come : Parameters → ℕ → Option ℕ → ℕ → List ℕ → ℕ → ℕ → List Bool
+to_come s start r n ds i run = bits_of_sets s (data_sets s (start + (i - run)) false (pending_zeros s (reference_at r (i - run)) run ++ drop i (held_blocks s r n ds)))
+
+-- block i
+abbrev pub held : Parameters → Option ℕ → List ℕ → ℕ → BlockData
+held s r ds i = block_with (reference_at r i) (take s.block (drop (i * s.block) ds))
+
+pub held_range : (s : Parameters) (ds : List ℕ) (i : ℕ) → slice_range ds (i * s.block) (i * s.block + s.block) ≡ take s.block (drop (i * s.block) ds)
+held_range s ds i = let e : i * s.block + s.block - i * s.block ≡ s.block = omega arith in ap (λ n. take n (drop (i * s.block) ds)) e
+
+pub held_sound : (s : Parameters) (start : ℕ) (r : Option ℕ) (n : ℕ) (ds : List ℕ) (i : ℕ) → i < n → AreSoundBlocks s start (held_blocks s r n ds) → IsSoundBlock s (start + i) (held s r ds i)
+held_sound s start r n ds i h k = (subst (λ cs. AreSoundBlocks s (start + i) cs) (held_at s r n i ds h) (drop_sound s start i (held_blocks s r n ds) k)).0
+
+pub sound_of : (s : Parameters) (b : ℕ) (c : BlockData) → IsSoundBlock s b c → IsSoundData s c
+sound_of s b c h = record { len = h.block.len; fit = h.fit; reference = h.block.reference.fits; zero = h.at_reference }
+
+reference_first : (r : Option ℕ) (i run : ℕ) → run ≡ 0 → reference_at r i ≡ reference_at r (i - run)
+reference_first r i run e = let f : i ≡ i - run = omega arith in ap (reference_at r) f
+
+reference_later : (r : Option ℕ) (i run : ℕ) → run ≤ i → 0 < run → reference_at r i ≡ None
+reference_later r zero run h k = absurd (omega arith)
+reference_later r (suc i) run h k = refl
+
+pub next_zero : (s : Parameters) (start : ℕ) (r : Option ℕ) (n : ℕ) (ds : List ℕ) (i run : ℕ) → run ≤ i → i < n → AreSoundBlocks s start (held_blocks s r n ds) →
+    is_zero_block (held s r ds i) ≡ true → to_come s start r n ds i run ≡ to_come s start r n ds (i + 1) (run + 1)
+next_zero s start r n ds i run h k sound z =
+    let c = held s r ds i in
+    let rest = drop (i + 1) (held_blocks s r n ds) in
+    let e = held_at s r n i ds k in
+    let f = zero_block_joins_run s run (reference_at r (i - run)) (reference_at r i) c rest
+    (zero_block_is s (start + i) c (held_sound s start r n ds i k sound).block z) (reference_first r i run) (reference_later r i run h) in
+    let g : i - run ≡ i + 1 - (run + 1) = omega arith in
+    ap (λ cs. bits_of_sets s (data_sets s (start + (i - run)) false (pending_zeros s (reference_at r (i - run)) run ++ cs))) e
+    ∙ (ap (λ cs. bits_of_sets s (data_sets s (start + (i - run)) false cs)) f
+    ∙ ap (λ m. bits_of_sets s (data_sets s (start + m) false (pending_zeros s (reference_at r m) (run + 1) ++ rest))) g)
+
+run_is_inside : (s : Parameters) (start n i run : ℕ) → 1 ≤ s.interval → run ≤ i → i < n → n ≤ blocks_left s start → run < blocks_left s (start + (i - run))
+run_is_inside s start n i run h k l m = let e = left_inside s start (i - run) h (omega arith) in omega arith
+
+pub next_other : (s : Parameters) (start : ℕ) (r : Option ℕ) (n : ℕ) (ds : List ℕ) (i run : ℕ) → 1 ≤ s.interval → n ≤ blocks_left s start → run ≤ i → i < n →
+    is_zero_block (held s r ds i) ≡ false → to_come s start r n ds i run ≡ bits_of_sets s (pending_run false (reference_at r (i - run)) run)
+    ++ (bits_of_set s (shortest s (held s r ds i)) ++ to_come s start r n ds (i + 1) 0)
+next_other s start r n ds i run h m l k z =
+    let c = held s r ds i in
+    let rest = drop (i + 1) (held_blocks s r n ds) in
+    let e = held_at s r n i ds k in
+    let b = start + (i - run) in
+    let w = pending_run false (reference_at r (i - run)) run in
+    let f = run_then_block s b run (reference_at r (i - run)) c rest h (run_is_inside s start n i run h l k m) z in
+    let g : b + run + 1 ≡ start + (i + 1 - 0) = omega arith in
+    ap (λ cs. bits_of_sets s (data_sets s b false (pending_zeros s (reference_at r (i - run)) run ++ cs))) e
+    ∙ (ap (bits_of_sets s) (f ∙ ap (λ m. w ++ shortest s c ∷ data_sets s m false rest) g)
+    ∙ flat_map-append (bits_of_set s) w (shortest s c ∷ data_sets s (start + (i + 1 - 0)) false rest))
+
+pub at_end : (s : Parameters) (start : ℕ) (r : Option ℕ) (n : ℕ) (ds : List ℕ) (run : ℕ) → 1 ≤ s.interval → n ≤ blocks_left s start → run ≤ n →
+    to_come s start r n ds n run ≡ bits_of_sets s (pending_run true (reference_at r (n - run)) run)
+at_end s start r n ds run h m l =
+    let b = start + (n - run) in
+    let none = drop_all n (held_blocks s r n ds) (let e = held_len s r n ds in omega arith) in
+    ap (λ cs. bits_of_sets s (data_sets s b false (pending_zeros s (reference_at r (n - run)) run ++ cs))) none
+    ∙ (ap (λ cs. bits_of_sets s (data_sets s b false cs)) (append-nil (pending_zeros s (reference_at r (n - run)) run))
+    ∙ ap (bits_of_sets s) (run_ends s b run (reference_at r (n - run)) h (enough run l)))
+  where
+    enough : (run : ℕ) → run ≤ n → run ≤ blocks_left s (start + (n - run))
+    enough zero l = omega arith
+    enough (suc w) l = let e = left_inside s start (n - suc w) h (omega arith) in omega arith
+
+-- one block more is summed
+pub sum_next : (f : BlockData → ℕ) (i : ℕ) (cs : List BlockData) (c : BlockData) (rest : List BlockData) → drop i cs ≡ c ∷ rest → sum_by f (take (i + 1) cs) ≡ sum_by f (take i cs) + f c
+sum_next f i [] c rest e = absurd (let g : [] ≡ c ∷ rest = sym (drop_all i [] (omega arith)) ∙ e in cc)
+sum_next f zero (d ∷ cs) c rest e = let g : d ≡ c = cc in ap (λ x. sum_by f (x ∷ [])) g
+sum_next f (suc i) (d ∷ cs) c rest e =
+    let ih = sum_next f i cs c rest e in
+    let a = sum_by-cons f d (take (i + 1) cs) in
+    let b = sum_by-cons f d (take i cs) in
+    let n : suc i + 1 ≡ suc (i + 1) = omega arith in
+    let g = ap (λ n. sum_by f (take n (d ∷ cs))) n in
+    omega (arith, ih, a, b, g)
+
+pub most_of_one : (s : Parameters) (c : BlockData) → most_looks s c ≤ s.block * (k_max s + 5)
+most_of_one s c =
+    let p : s.block * (min (best_split s c + 1) (k_max s) + 5) ≤ s.block * (k_max s + 5) = mul-le-mul_left s.block (omega arith) in
+    let q : s.block * 1 ≤ s.block * (k_max s + 5) = mul-le-mul_left s.block (omega arith) in
+    elim (is_zero_block c) as (λ v. cond v s.block (s.block * (min (best_split s c + 1) (k_max s) + 5)) ≤ s.block * (k_max s + 5)) [ true ↦ omega (arith, q) | false ↦ p ]
+
+pub most_of_all : (s : Parameters) (i : ℕ) (cs : List BlockData) → sum_by (most_looks s) (take i cs) ≤ i * (s.block * (k_max s + 5))
+most_of_all s zero cs = omega arith
+most_of_all s (suc i) [] = omega arith
+most_of_all s (suc i) (c ∷ cs) =
+    let a = sum_by-cons (most_looks s) c (take i cs) in
+    let b = most_of_all s i cs in
+    let d = most_of_one s c in
+    omega (arith, a, b, d)
+
+pub looks_zero : (s : Parameters) (c : BlockData) → is_zero_block c ≡ true → (least_looks s c ≡ s.block) × (most_looks s c ≡ s.block)
+looks_zero s c e = (ap (λ v. cond v s.block (s.block * (best_split s c + 3) - 1)) e, ap (λ v. cond v s.block (s.block * (min (best_split s c + 1) (k_max s) + 5))) e)
+
+pub looks_other : (s : Parameters) (c : BlockData) → is_zero_block c ≡ false → (least_looks s c ≡ s.block * (best_split s c + 3) - 1)
+    × (most_looks s c ≡ s.block * (min (best_split s c + 1) (k_max s) + 5))
+looks_other s c e = (ap (λ v. cond v s.block (s.block * (best_split s c + 3) - 1)) e, ap (λ v. cond v s.block (s.block * (min (best_split s c + 1) (k_max s) + 5))) e)
+
+pub shortest_len : (s : Parameters) (b : ℕ) (c : BlockData) → 1 ≤ s.block → IsSoundBlock s b c → length (bits_of_set s (shortest s c)) ≡ cost s (shortest s c)
+shortest_len s b c j h = cost_is_length s b (shortest s c) j (shortest_is_form s b c h)
+
+-- what is put has room
+pub room_other : (s : Parameters) (start : ℕ) (r : Option ℕ) (n : ℕ) (ds : List ℕ) (i run : ℕ) (sink before all : List Bool) → 1 ≤ s.interval → 1 ≤ s.block
+    → n ≤ blocks_left s start → run ≤ i → i < n →
+    AreSoundBlocks s start (held_blocks s r n ds) → is_zero_block (held s r ds i) ≡ false → sink ++ to_come s start r n ds i run ≡ before ++ all →
+    length sink + length (bits_of_sets s (pending_run false (reference_at r (i - run)) run)) + cost s (shortest s (held s r ds i)) ≤ length before + length all
+room_other s start r n ds i run sink before all h j m l k sound z same =
+    let c = held s r ds i in
+    let w = bits_of_sets s (pending_run false (reference_at r (i - run)) run) in
+    let rest = to_come s start r n ds (i + 1) 0 in
+    let e = ap length (sym same ∙ ap (λ v. sink ++ v) (next_other s start r n ds i run h m l k z)) in
+    let a = length-append before all in
+    let b = length-append sink (w ++ (bits_of_set s (shortest s c) ++ rest)) in
+    let d = length-append w (bits_of_set s (shortest s c) ++ rest) in
+    let f = length-append (bits_of_set s (shortest s c)) rest in
+    let g = shortest_len s (start + i) c j (held_sound s start r n ds i k sound) in
+    omega (arith, e, a, b, d, f, g)
+
+pub room_within : (sink more before all : List Bool) → sink ++ more ≡ before ++ all → length sink + length more ≡ length before + length all
+room_within sink more before all e = omega (arith, ap length e, length-append sink more, length-append before all)
+
+-- the meter has room for one block more
+pub meter_fits : (m m0 a a0 t put total i n x : ℕ) → m + a0 ≤ m0 + a + total → total ≤ i * x → i < n → a + put ≤ a0 + t → m0 + t + n * x < 2 ^ 62 → m + put + x < 2 ^ 62
+meter_fits m m0 a a0 t put total i n x p q h k l =
+    let e : suc i * x ≤ n * x = mul-le-mul_right x h in
+    omega (arith, e)
+
+pub meter_ends : (m m0 a a0 t put total i n x : ℕ) → m + a0 ≤ m0 + a + total → total ≤ i * x → i ≤ n → a + put ≤ a0 + t → m0 + t + n * x < 2 ^ 62 → m + put < 2 ^ 62
+meter_ends m m0 a a0 t put total i n x p q h k l =
+    let e : i * x ≤ n * x = mul-le-mul_right x h in
+    omega (arith, e)
+
+pub looks_more : (j k : ℕ) → j ≤ j * (k + 5)
+looks_more j k = let e : j * 1 ≤ j * (k + 5) = mul-le-mul_left j (omega arith) in omega (arith, e)
+
+pub other_same : (sink new w x y total : List Bool) → new ≡ sink ++ w ++ x → sink ++ (w ++ (x ++ y)) ≡ total → new ++ y ≡ total
+other_same sink new w x y total e f =
+    ap (λ v. v ++ y) e ∙ (append_assoc (sink ++ w) x y ∙ (append_assoc sink w (x ++ y) ∙ f))
+
+-- the steps of one block more
+pub least_more : (j k least m0 m m' a a' a0 put total : ℕ) → 1 ≤ j → m0 + a + total ≤ m + a0 → m + put + j * (k + 4) ≤ m' + 1 → a' ≡ a + put
+    → least ≡ j * (k + 3) - 1 → m0 + a' + (total + least) ≤ m' + a0
+least_more j k least m0 m m' a a' a0 put total h p q e f =
+    let r : j * (k + 4) ≡ j * (k + 3) + j = omega arith in
+    omega (arith, r)
+
+pub most_more : (most m0 m m' a a' a0 put total x : ℕ) → m + a0 ≤ m0 + a + total → m' ≤ m + put + x → a' ≡ a + put → most ≡ x → m' + a0 ≤ m0 + a' + (total + most)
+most_more most m0 m m' a a' a0 put total x p q e f = omega arith
+
+pub length_both : (new old more : List Bool) → new ≡ old ++ more → length new ≡ length old + length more
+length_both new old more e = ap length e ∙ length-append old more

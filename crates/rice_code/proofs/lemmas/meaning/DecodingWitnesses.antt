@@ -1,0 +1,102 @@
+-- What shows that bits are decoded so: the coded data sets in them, the samples of these, and what the rest is.
+use Rattle.std.proofs.Common.{◌≡◌, ℕ, ◌+◌, ◌*◌, ◌<◌, Bool, true, false, nat_lt, map, List, [], ◌∷◌, ◌++◌, length, replicate, refl, ap, subst, sym, arith, ◌∙◌, append-nil, Option, ℤ, pos}
+use Rattle.std.specs.Prelude.{All}
+use Rattle.std.specs.List.{list_all, AllByRecursion}
+use Rattle.std.proofs.lemmas.Bool.Decides.{nat_tests}
+use Rattle.std.proofs.lemmas.Int.{ints}
+use Rattle.std.proofs.lemmas.List.Elements.{All-from_recursion, All-replicate}
+use Rattle.rice_samples.specs.Parameters.{Parameters, IsSample, value_count}
+use Rattle.rice_code.specs.code.Blocks.{blocks_from}
+use Rattle.rice_code.specs.code.CodedDataSets.{CodedDataSet, bits_of_set}
+use Rattle.rice_code.specs.code.Decoded.{Decoded, DecodedFrom, Ending, Ended, IsWanted, EndsWith, cut_to}
+use Rattle.rice_code.specs.code.Forms.{IsForm, RunIsSound, ResidualsAreSound, blocks_in}
+use Rattle.rice_code.specs.code.Layout.{block_after, padding}
+use Rattle.rice_code.proofs.lemmas.meaning.CoveredBlocks.{and-split}
+
+nat_lt-below : (limit d : ℕ) → nat_lt d limit ≡ true → d < limit
+nat_lt-below limit d e = grind (arith, nat_tests)
+
+-- numbers that a test finds small enough
+pub all_below : (limit : ℕ) (ds : List ℕ) → list_all (λ d. nat_lt d limit) ds ≡ true → All (λ d. d < limit) ds
+all_below limit ds e = All-from_recursion (λ d. d < limit) ds (each ds e)
+  where
+    each : (ds : List ℕ) → list_all (λ d. nat_lt d limit) ds ≡ true → AllByRecursion (λ d. d < limit) ds
+    each [] e = tt
+    each (d ∷ ds) e = let p = and-split (nat_lt d limit) (list_all (λ d. nat_lt d limit) ds) e in (nat_lt-below limit d p.0, each ds p.1)
+
+-- unsigned samples
+pub unsigned_samples : (s : Parameters) → s.signed ≡ false → (vs : List ℕ) → list_all (λ v. nat_lt v (value_count s)) vs ≡ true → All (IsSample s) (map pos vs)
+unsigned_samples s unsigned vs e = All-from_recursion (IsSample s) (map pos vs) (each vs e)
+  where
+    one : (v : ℕ) → v < value_count s → IsSample s (pos v)
+    one v h = rw unsigned (omega (arith, ints), omega (arith, ints))
+
+    each : (vs : List ℕ) → list_all (λ v. nat_lt v (value_count s)) vs ≡ true → AllByRecursion (IsSample s) (map pos vs)
+    each [] e = tt
+    each (v ∷ vs) e = let p = and-split (nat_lt v (value_count s)) (list_all (λ v. nat_lt v (value_count s)) vs) e in (one v (nat_lt-below (value_count s) v p.0), each vs p.1)
+
+-- only zeros are left
+pub zeros_end : (s : Parameters) (asked : Option ℕ) (b n : ℕ) → IsWanted s asked b → EndsWith s asked b (replicate n false) Ended (length (replicate n false))
+zeros_end s asked b n h = (h, All-replicate (λ bit. bit ≡ false) n false refl, refl)
+
+-- the first coded data set is sound, and stands for these samples
+pub record Gives (s : Parameters) (d : CodedDataSet) (xs : List ℤ) : Type 0 where
+  pub form : IsForm s 0 d
+  pub run : RunIsSound s 0 d
+  pub residuals : ResidualsAreSound s d
+  pub legal : All (IsSample s) xs
+  pub len : length xs ≡ s.block * length (blocks_in s 0 d)
+  pub blocks : blocks_from s 0 (pos 0) (length (blocks_in s 0 d)) xs ≡ blocks_in s 0 d
+
+-- one coded data set with its padding, and the rest
+pub decoded_by_one : (s : Parameters) (d : CodedDataSet) (xs : List ℤ) → Gives s d xs → (skipped rest bits : List Bool)
+    → length skipped ≡ padding s (block_after s 0 d) (0 + length (bits_of_set s d)) →
+    bits ≡ (bits_of_set s d ++ skipped) ++ rest → (asked : Option ℕ) → IsWanted s asked 0 → (ending : Ending) (last : ℕ) → EndsWith s asked (length (blocks_in s 0 d)) rest ending last →
+    Decoded s bits asked (cut_to s asked 0 xs) ending (length (bits_of_set s d ++ skipped) + last)
+decoded_by_one s d xs g skipped rest bits padded e asked goes ending last ends =
+    let blocks = append-nil (blocks_in s 0 d) in
+    let same = ap length blocks in
+    let place : length (blocks_in s 0 d) ≡ 0 + length (blocks_in s 0 d ++ []) = omega arith in
+    let EndsAt : ℕ → Type 0 = λ b. EndsWith s asked b rest ending last in
+    record {
+      sets = d ∷ [];
+      front = bits_of_set s d ++ skipped;
+      rest = rest;
+      parts = e;
+      lie = (skipped, [], padded, ap (λ v. bits_of_set s d ++ v) (sym (append-nil skipped)), refl);
+      taken = (goes, g.form, g.run, g.residuals, tt);
+      all = xs;
+      legal = g.legal;
+      len = g.len ∙ ap (λ n. s.block * n) (sym same);
+      blocks = (λ i. blocks_from s 0 (pos 0) (same i) xs) ∙ (g.blocks ∙ sym blocks);
+      asked_for = refl;
+      last = last;
+      ends = subst EndsAt place ends;
+      bits_used = refl;
+    }
+
+-- no coded data set is taken
+pub decoded_from_none : (s : Parameters) (b position : ℕ) (p : ℤ) (bits : List Bool) (asked : Option ℕ) (ending : Ending) (used : ℕ) → EndsWith s asked b bits ending used →
+    DecodedFrom s b position p bits asked (cut_to s asked b []) ending used
+decoded_from_none s b position p bits asked ending used ends =
+    let EndsAt : ℕ → Type 0 = λ n. EndsWith s asked n bits ending used in
+    let here : b ≡ b + 0 = omega arith in
+    record {
+      sets = [];
+      front = [];
+      rest = bits;
+      parts = refl;
+      lie = refl;
+      taken = tt;
+      all = [];
+      legal = All-from_recursion (IsSample s) [] tt;
+      len = omega arith;
+      blocks = refl;
+      asked_for = refl;
+      last = used;
+      ends = subst EndsAt here ends;
+      bits_used = omega arith;
+    }
+
+pub decoded_by_none : (s : Parameters) (bits : List Bool) (asked : Option ℕ) (ending : Ending) (used : ℕ) → EndsWith s asked 0 bits ending used → Decoded s bits asked (cut_to s asked 0 []) ending used
+decoded_by_none s bits asked ending used ends = decoded_from_none s 0 0 (pos 0) bits asked ending used ends
