@@ -2,3 +2,4 @@
 pub mod Ends
 pub mod Sequences
 pub mod Words
+pub mod WideWords

@@ -4,4 +4,5 @@ mod ends;
 pub mod gaps;
 pub mod sequences;
 mod tables_of_ends;
+pub mod wide_words;
 pub mod words;

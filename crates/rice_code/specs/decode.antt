@@ -7,3 +7,4 @@ pub mod PlainBlocks
 pub mod ReadSets
 pub mod BlockResiduals
 pub mod FieldsAhead
+pub mod WideAhead

@@ -15,3 +15,4 @@ mod sound_residuals;
 mod split_ahead;
 mod split_lanes;
 mod split_rows;
+mod wide_ahead;

@@ -26,6 +26,7 @@ pub use predict::restoring::halves_in_turn::halves_in_turn;
 pub use predict::restoring::levels::{
     level_of_pattern, levels_of_patterns, restore_by_selection, restore_near_first,
 };
+pub use predict::restoring::word_lanes::{LevelWords, near_words};
 pub use setting::{Setting, SettingFault};
 
 // What it holds, in bytes, on a machine with pointers of eight.

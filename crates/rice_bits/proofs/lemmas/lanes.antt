@@ -2,4 +2,5 @@
 pub mod LaneEnds
 pub mod LaneGaps
 pub mod LaneWords
+pub mod LaneWideWords
 pub mod SequencesAhead

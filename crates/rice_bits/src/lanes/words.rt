@@ -238,7 +238,7 @@ fn factors_of(width: u32, before: usize) -> u16x8
 
 /// Returns the bytes at these places.
 #[inline(always)]
-fn bytes_at(bytes: u8x16, places: u8x16) -> u8x16
+pub fn bytes_at(bytes: u8x16, places: u8x16) -> u8x16
     requires { All (λ p. p < 16) places }
     ensures { result ≡ map (λ p. slice_index bytes p) places }
 {

@@ -518,6 +518,19 @@ impl<I: Intake> BitReader<I> {
         self.window.words_ahead(skip, width)
     }
 
+    /// Returns the eight words of `width` bits that wait behind the first `skip` bits. It takes none.
+    #[inline(always)]
+    pub fn wide_words_ahead(&self, skip: usize, width: u32) -> u32x8
+        requires width { (1 ≤ width) × (width ≤ 24) }
+        requires there { skip + 8 * width + 64 ≤ length self.now.waiting }
+        ensures len { length result ≡ 8 }
+        ensures fit { All (λ v. v < 2 ^ width) result }
+        ensures bits { flat_map (word width) result
+            ≡ take (8 * width) (drop skip self.now.waiting) }
+    {
+        self.window.wide_words_ahead(skip, width)
+    }
+
     /// Takes the next `count` bits, which wait, and ticks once for each.
     #[inline(always)]
     pub fn pass(&mut self, count: usize, meter: &mut Meter)

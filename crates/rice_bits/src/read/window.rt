@@ -9,6 +9,7 @@ ghost use Rattle.rice_bits.specs.read.Window.{buffer_len, most_waiting};
 use crate::bits::digits::front_digits;
 use crate::bits::eight_bytes::{bits_from, store_zeros};
 use crate::lanes::sequences::{Sequences, first_sequences};
+use crate::lanes::wide_words::eight_from;
 use crate::lanes::words::sixteen_from;
 use crate::read::ends_and_gaps::find_ends;
 use crate::read::joined_parts::write_parts;
@@ -247,6 +248,20 @@ impl Window {
             ≡ take (16 * width) (drop skip (window_bits self.now)) }
     {
         sixteen_from(&self.buffer, self.at + skip, width)
+    }
+
+    /// Returns the eight words of `width` bits behind the first `skip` bits.
+    #[inline(always)]
+    pub fn wide_words_ahead(&self, skip: usize, width: u32) -> u32x8
+        requires window { IsWindow self.now }
+        requires width { (1 ≤ width) × (width ≤ 24) }
+        requires there { skip + 8 * width + 64 ≤ length (window_bits self.now) }
+        ensures len { length result ≡ 8 }
+        ensures fit { All (λ v. v < 2 ^ width) result }
+        ensures bits { flat_map (word width) result
+            ≡ take (8 * width) (drop skip (window_bits self.now)) }
+    {
+        eight_from(&self.buffer, self.at + skip, width)
     }
 
     /// Takes words of `width` bits, one for each place of `words`, and returns their number. It takes none if fewer

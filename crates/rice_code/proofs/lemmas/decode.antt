@@ -10,3 +10,4 @@ pub mod RestoredBlocks
 pub mod FirstLanes
 pub mod SplitRows
 pub mod NoCompressionAhead
+pub mod WideAhead

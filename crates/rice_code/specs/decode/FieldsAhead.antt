@@ -22,7 +22,7 @@ pub record HeadAhead (waiting : List Bool) (s : Parameters) (b before from omitt
   pub part : ℕ
   pub len_is : len ≡ id_len s + part
   pub bits : reference_bits s reference ≡ take part (drop (id_len s) waiting)
-  pub short : len ≤ 20
+  pub short : len ≤ id_len s + s.bits
 
 -- The samples of the first `rows` rows of a block: sixteen each, but for what the last one lacks.
 abbrev pub rows_len : (size rows : ℕ) → ℕ

@@ -19,8 +19,9 @@ use crate::decode::coded_data_set::read_set;
 use crate::decode::no_compression_ahead::{is_uncompressed_ahead, spell_uncompressed_ahead};
 use crate::decode::options::SetSummary;
 use crate::decode::plain_blocks::{last_of_plain, plain_len, spell_plain_row};
-use crate::decode::restoring::{restore_block, restore_zeros};
+use crate::decode::restoring::{restore_block, restore_zeros, set_len};
 use crate::decode::split_ahead::{spell_ahead, split_ahead, take_ahead};
+use crate::decode::wide_ahead::{restore_wide_ahead, wide_split_ahead};
 use crate::known_len::known_or;
 use arrayvec::ArrayVec;
 use rice_bits::{BitFault, BitReader, Intake, Meter};
@@ -549,6 +550,11 @@ impl Decoder {
             self.block = next_place(&self.setting, self.block);
             return Ok(NextBlock::Block);
         }
+        if let Some(k) = wide_split_ahead(&self.setting, reader) {
+            if self.read_wide(k, reader, meter, levels) {
+                return Ok(NextBlock::Block);
+            }
+        }
         // It is laid out for each size of blocks.
         match self.setting.block() {
             8 => self.read_sized::<I, 8>(reader, meter, levels),
@@ -557,6 +563,59 @@ impl Decoder {
             size if size < 64 => self.read_sized::<I, 0>(reader, meter, levels),
             _ => self.read_sized::<I, 64>(reader, meter, levels),
         }
+    }
+
+    /// Reads the block by split `k` that waits outside a run, of predicted samples of more than 16 bits, if its fundamental sequences are
+    /// short and all samples are near to those before them. Returns whether it did; otherwise nothing has happened, but for the levels,
+    /// which are unspecified.
+    #[inline(never)]
+    fn read_wide<I: Intake>(
+        &mut self,
+        k: u32,
+        reader: &mut BitReader<I>,
+        meter: &mut Meter,
+        levels: &mut ArrayVec<u32, 64>,
+    ) -> bool
+        requires wide { 16 < self.old.setting.bits }
+        requires preprocess { self.old.setting.preprocess ≡ true }
+        requires split { (1 ≤ k) × (k ≤ 24) }
+        requires there { 101 ≤ length reader.old.waiting }
+        requires id { word (id_len self.old.setting) (k + 1)
+            ≡ take (id_len self.old.setting) reader.old.waiting }
+        requires stopped { self.old.stopped ≡ None }
+        requires run { self.old.run ≡ 0 }
+        requires going { reader.old.refusal ≡ None }
+        requires room { meter.old + 2 * (most_bits_read - reader.old.taken) + 64 < step_limit }
+        ensures some { result ≡ true → Answers (with_mark reader.old) reader.new meter.old meter.new
+            self.old self.new (values_at self.old.setting levels.new.items) (Ok Block) ×
+            (length levels.new.items + self.new.run * self.new.setting.block
+            ≤ most_samples_of_bit * (reader.new.taken - reader.old.taken)) }
+        ensures legal { result ≡ true → All (λ l. l < value_count self.old.setting) levels.new.items }
+        ensures none { result ≡ false → (self.new ≡ self.old) × (reader.new ≡ reader.old) ×
+            (meter.new ≡ meter.old) }
+        ensures going { reader.new.refusal ≡ None }
+        ensures stopped { self.new.stopped ≡ None }
+        ensures setting { self.new.setting ≡ self.old.setting }
+        ensures steps { AreCounted meter.old meter.new reader.old.taken reader.new.taken }
+    {
+        let _taken = reader.taken();
+        // A copy stays in registers.
+        let setting = self.setting;
+        set_len(levels, setting.block() as usize);
+        let restored = match restore_wide_ahead(
+            &setting,
+            self.block,
+            self.before,
+            k,
+            reader,
+            levels.as_mut_slice(),
+        ) {
+            Some(restored) => restored,
+            None => return false,
+        };
+        take_ahead(reader, restored.len, meter);
+        let _answer = self.go_on(restored.last, 0, reader, meter);
+        true
     }
 
     /// Reads a coded data set, and restores the samples of its first block, which are `SIZE` unless that is 0, by their levels.

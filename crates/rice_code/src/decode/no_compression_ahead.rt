@@ -166,7 +166,7 @@ pub fn spell_uncompressed_ahead<I: Intake, const SIZE: usize>(
         size result.last result.len bytes.new }
 {
     let bits = setting.bits() as usize;
-    let head = head_ahead::<I, 1>(setting, block, before, reader);
+    let head = head_ahead(setting, block, before, 3, reader);
     let len = head.len + (size - head.omitted) * bits;
     let last = spell_uncompressed::<I, SIZE>(
         setting,

@@ -14,7 +14,7 @@ use rice_samples::{
 
 /// Sets the length to `len`; the contents are unspecified.
 #[inline(always)]
-fn set_len(levels: &mut ArrayVec<u32, 64>, len: usize)
+pub fn set_len(levels: &mut ArrayVec<u32, 64>, len: usize)
     requires { len ≤ 64 }
     ensures { length levels.new.items ≡ len }
 {

@@ -33,13 +33,6 @@ pub struct RowsHead {
     pub len: usize,
 }
 
-/// The high parts of the residuals of a block, in the first places, and the number of bits of their fundamental sequences.
-#[derive(Clone, Copy)]
-struct HighRows {
-    highs: [u8; 64],
-    len: usize,
-}
-
 /// Returns the number of samples of row `row` of a block of `size` samples.
 #[inline(always)]
 pub fn row_len(size: usize, row: usize) -> usize
@@ -55,23 +48,24 @@ pub fn row_len(size: usize, row: usize) -> usize
     }
 }
 
-/// Returns what stands before the fundamental sequences of the block that waits, after a sample at level `before`.
+/// Returns what stands before the fundamental sequences of the block that waits, after a sample at level `before`: identifiers have `id`
+/// bits.
 #[inline(always)]
-pub fn head_ahead<I: Intake, const WIDTH: usize>(
+pub fn head_ahead<I: Intake>(
     setting: &Setting,
     block: u64,
     before: u32,
+    id: usize,
     reader: &BitReader<I>,
 ) -> RowsHead
-    requires width { HasWidth setting.now WIDTH }
+    requires id { id ≡ id_len setting.now }
     requires preprocess { setting.now.preprocess ≡ true }
     requires before { before < value_count setting.now }
-    requires there { 20 ≤ length reader.now.waiting }
+    requires there { id_len setting.now + setting.now.bits ≤ length reader.now.waiting }
     ensures { HeadAhead reader.now.waiting setting.now block before result.from result.omitted
         result.len }
 {
     if setting.is_reference(block) {
-        let id = setting.id_len() as usize;
         let bits = setting.bits();
         let from = level_of_pattern(setting, reader.number_ahead(id, bits));
         return RowsHead {
@@ -83,7 +77,7 @@ pub fn head_ahead<I: Intake, const WIDTH: usize>(
     RowsHead {
         from: before,
         omitted: 0,
-        len: WIDTH + 2,
+        len: id,
     }
 }
 
@@ -103,7 +97,7 @@ pub fn behind_omitted(numbers: u8x16, omitted: usize) -> u8x16
 
 /// Writes the numbers to row `row`, of sixteen numbers each.
 #[inline(always)]
-fn store_row(rows: &mut [u8], row: usize, numbers: u8x16)
+pub fn store_row(rows: &mut [u8], row: usize, numbers: u8x16)
     requires row { 16 * (row + 1) ≤ length rows.old }
     requires few { length rows.old ≤ 64 }
     requires lanes { length numbers ≡ 16 }
@@ -140,33 +134,34 @@ fn row_ahead<I: Intake>(
     })
 }
 
-/// Returns the high parts of the residuals of a block of `size` samples whose fundamental sequences wait behind the first `skip` bits,
-/// if each row of them is in one look. Those that are omitted, one or none, are zeros.
+/// Writes the high parts of the residuals of a block of `size` samples whose fundamental sequences wait behind the first `skip` bits, if
+/// each row of them is in one look, and returns the number of their bits. Those that are omitted, one or none, are zeros.
 #[inline(always)]
-fn high_rows<I: Intake>(
+pub fn write_highs<I: Intake>(
     reader: &BitReader<I>,
     size: usize,
     skip: usize,
     omitted: usize,
-) -> Option<HighRows>
-    requires size { (16 < size) × (size ≤ 64) }
+    highs: &mut [u8],
+) -> Option<usize>
+    requires size { (16 ≤ size) × (size ≤ 64) }
     requires skip { skip ≤ length reader.now.waiting }
     requires omitted { omitted ≤ 1 }
-    ensures some { IfSome result (λ r. HighsAhead reader.now.waiting skip omitted
-        (take size r.highs) r.len) }
-    ensures places { IfSome result (λ r. length r.highs ≡ 64) }
+    requires places { length highs.old ≡ 64 }
+    ensures some { IfSome result (λ n. HighsAhead reader.now.waiting skip omitted
+        (take size highs.new) n) }
+    ensures places { length highs.new ≡ 64 }
 {
     let _taken = reader.taken();
     let first = row_ahead(reader, skip, omitted, 16)?;
-    let mut highs = [0; 64];
-    store_row(&mut highs, 0, first.numbers);
+    store_row(highs, 0, first.numbers);
     let mut len = first.len;
     for row in 1..(size + 15) / 16 {
         let next = row_ahead(reader, skip + len, 0, row_len(size, row))?;
-        store_row(&mut highs, row, next.numbers);
+        store_row(highs, row, next.numbers);
         len += next.len;
     }
-    Some(HighRows { highs, len })
+    Some(len)
 }
 
 /// Returns the low parts of `k` bits of the residuals of a block of `size` samples, which wait behind the first `skip` bits. Those that
@@ -223,13 +218,13 @@ pub fn rows_ahead<I: Intake, const WIDTH: usize>(
     ensures places { IfSome result (λ p. (length p.highs ≡ 64) × (length p.lows ≡ 64)) }
 {
     let _taken = reader.taken();
-    let head = head_ahead::<I, WIDTH>(setting, block, before, reader);
-    let sequences = high_rows(reader, size, head.len, head.omitted)?;
-    let words = head.len + sequences.len;
+    let head = head_ahead(setting, block, before, WIDTH + 2, reader);
+    let mut highs = [0; 64];
+    let len = write_highs(reader, size, head.len, head.omitted, &mut highs)?;
+    let words = head.len + len;
     if reader.waiting() < (words + size * k as usize + 128) as u64 {
         return None;
     }
-    let highs = sequences.highs;
     let lows = low_rows(reader, size, words, head.omitted, k);
     Some(PartRows {
         from: head.from,

@@ -15,3 +15,4 @@ pub mod Ranks
 pub mod ResidualLemmas
 pub mod RestoredLevels
 pub mod RanksInTurn
+pub mod WordLanes

@@ -9,3 +9,4 @@ pub mod halves_in_turn;
 pub mod levels;
 mod near_in_16_bits;
 mod near_in_32_bits;
+pub mod word_lanes;

@@ -42,7 +42,7 @@ lanes_below [] h i = omega arith
 lanes_below (b ∷ bytes) h zero = h.0.fits
 lanes_below (b ∷ bytes) h (suc i) = lanes_below bytes h.1 i
 
-bytes_below : (bytes : List ℕ) (ps : List ℕ) → ((i : ℕ) → get_or bytes i 0 < 256) → Each1 (λ b. b < 256) (map (λ p. slice_index bytes p) ps)
+pub bytes_below : (bytes : List ℕ) (ps : List ℕ) → ((i : ℕ) → get_or bytes i 0 < 256) → Each1 (λ b. b < 256) (map (λ p. slice_index bytes p) ps)
 bytes_below bytes [] h = tt
 bytes_below bytes (p ∷ ps) h = (h p, bytes_below bytes ps h)
 
@@ -84,10 +84,10 @@ two_at (suc q) (a ∷ bytes) h =
     let n : suc q + 1 ≡ suc (q + 1) = omega arith in
     ap (λ n. take 16 (drop n (bits_of (a ∷ bytes)))) e ∙ (two_at q bytes (omega (arith, h)) ∙ ap (λ k. word 8 (get_or (a ∷ bytes) (suc q) 0) ++ word 8 (get_or (a ∷ bytes) k 0)) (sym n))
 
-pair_word : (q : ℕ) (bytes : List ℕ) → q + 1 < length bytes → ((i : ℕ) → get_or bytes i 0 < 256) → word 16 (pair_number bytes q) ≡ take 16 (drop (8 * q) (bits_of bytes))
+pub pair_word : (q : ℕ) (bytes : List ℕ) → q + 1 < length bytes → ((i : ℕ) → get_or bytes i 0 < 256) → word 16 (pair_number bytes q) ≡ take 16 (drop (8 * q) (bits_of bytes))
 pair_word q bytes h fit = word-cat 8 8 (get_or bytes q 0) (get_or bytes (q + 1) 0) (fit (q + 1)) ∙ sym (two_at q bytes h)
 
-drop-bits_of : (q : ℕ) (bytes : List ℕ) → drop (8 * q) (bits_of bytes) ≡ bits_of (drop q bytes)
+pub drop-bits_of : (q : ℕ) (bytes : List ℕ) → drop (8 * q) (bits_of bytes) ≡ bits_of (drop q bytes)
 unfolding word bits_of
 drop-bits_of zero bytes = refl
 drop-bits_of (suc q) [] = (let e : 8 * suc q ≡ suc (suc (suc (suc (suc (suc (suc (suc (8 * q)))))))) = omega arith in ap (λ (n : ℕ). drop {A = Bool} n []) e)
@@ -97,11 +97,11 @@ drop-bits_of (suc q) (a ∷ bytes) =
 
 -- words
 
-abbrev pieces : ℕ → List Bool → ℕ → ℕ → List Bool
+abbrev pub pieces : ℕ → List Bool → ℕ → ℕ → List Bool
 pieces w bits at zero = []
 pieces w bits at (suc n) = take w (drop at bits) ++ pieces w bits (at + w) n
 
-pieces-joined : (w : ℕ) (bits : List Bool) (at n : ℕ) → pieces w bits at n ≡ take (n * w) (drop at bits)
+pub pieces-joined : (w : ℕ) (bits : List Bool) (at n : ℕ) → pieces w bits at n ≡ take (n * w) (drop at bits)
 pieces-joined w bits at zero = (let none : 0 * w ≡ 0 = omega arith in rw none refl)
 pieces-joined w bits at (suc n) =
     let all : w + n * w ≡ suc n * w = grind arith in

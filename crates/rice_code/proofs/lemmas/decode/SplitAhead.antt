@@ -1,6 +1,6 @@
 -- A block by a split that waits, from its parts.
 use Rattle.std.proofs.Common.{◌≡◌, ℕ, zero, suc, ◌+◌, ◌-◌, ◌*◌, ◌/◌, ◌^◌, ◌<◌, ◌≤◌, Bool, true, false, List, [], ◌∷◌, ◌++◌, length, take, drop, refl, sym, ◌∙◌, ap, subst, arith, take-take, replicate, append_assoc, length-append, Option, Some, None, inl, inr}
-use Rattle.std.specs.Prelude.{All, flat_map, IfSome, IfNone, slice_index_or}
+use Rattle.std.specs.Prelude.{All, flat_map, IfSome, IfNone, Ok, slice_index_or}
 use Rattle.std.specs.Simd.Lanes.{put_chunk}
 use Rattle.std.proofs.lemmas.Simd.{length-put_chunk, take_more_put_chunk}
 use Rattle.rice_bits.specs.read.Reader.{Reader, Takes}
@@ -8,7 +8,10 @@ use Rattle.rice_samples.specs.bytes.Spelling.{spelling, spellings}
 use Rattle.rice_samples.proofs.lemmas.bytes.ByteLanes.{bytes-front, one_byte}
 use Rattle.rice_samples.proofs.lemmas.bytes.SpellingLengths.{length-spellings}
 use Rattle.rice_code.specs.code.Layout.{padding}
-use Rattle.rice_code.specs.decode.Decoder.{Skips, TakesSet, with_mark}
+use Rattle.rice_code.specs.declared.decode.answer.NextBlock.TheVariants.{Block}
+use Rattle.rice_code.specs.Limits.{most_samples_of_bit}
+use Rattle.rice_code.specs.code.Forms.{blocks_in}
+use Rattle.rice_code.specs.decode.Decoder.{Answers, GivesBlock, Skips, TakesSet, with_mark}
 use Rattle.rice_code.specs.decode.DecoderState.{DecoderState, next_block_place}
 use Rattle.rice_code.proofs.lemmas.decode.DecoderLemmas.{answers_block, samples_by_bits}
 use Rattle.std.proofs.Math.ListN.{get_or-append}
@@ -17,7 +20,7 @@ use Rattle.std.proofs.lemmas.Bool.Decides.{nat_tests}
 use Rattle.rice_samples.proofs.lemmas.predict.HalfLanes.{two_bytes}
 use Rattle.std.proofs.Math.Nat.{mul-le-mul_right}
 use Rattle.std.proofs.lemmas.Nat.{pow_pos}
-use Rattle.std.proofs.lemmas.List.{drop-drop, get_or-take, length-replicate, length-take-le, get_or-append-add, take-append-drop, take-append-le, take_at}
+use Rattle.std.proofs.lemmas.List.{drop-drop, get_or-take, length-replicate, length-take-le, take_all, get_or-append-add, take-append-drop, take-append-le, take_at}
 use Rattle.std.proofs.lemmas.List.Elements.{All-append, All-cons, All-nil, All-replicate, All-take}
 use Rattle.rice_bits.specs.Bits.{word, fundamental_sequence}
 use Rattle.rice_bits.specs.lanes.Sequences.{BeginWithSequences}
@@ -307,6 +310,38 @@ words_near s from k size highs lows first second old spelled some most has near 
       spelled = ap (λ n. take (n * size) (put_chunk 0 old spelled)) two
           ∙ (part ∙ (ap (take (2 * size)) is ∙ (words_front s size first two (omega (arith, most, len)) ∙ ap (λ l. spellings s (values_at s l)) levels)));
     }
+
+-- the levels of a block that was looked at and taken
+pub levels_given : {I : Type 0} (start marked middle new : Reader I) (first steps last : ℕ) (p q : DecoderState) (levels : List ℕ) (len l : ℕ) → IsLegal p.setting → 1 ≤ p.setting.block
+    → BlockAhead start.waiting p.setting p.block p.before levels len → marked ≡ with_mark start → Takes marked middle (take len marked.waiting) → steps ≡ first + len
+    → Skips middle new (padding p.setting (p.block + 1 + 0) middle.taken) → last + middle.taken ≡ steps + new.taken → middle.taken ≤ new.taken → length levels ≡ p.setting.block
+    → l ≡ slice_index_or levels (p.setting.block - 1) 0 → q ≡ record p { block = next_block_place p.setting p.block; before = value_at p.setting l; run = 0 }
+    → Answers (with_mark start) new first last p q (values_at p.setting levels) (Ok Block) × (length levels + q.run * q.setting.block ≤ most_samples_of_bit * (new.taken - start.taken))
+levels_given start marked middle new first steps last p q levels len l legal some ahead marks takes counted skips skipped forward size last_is moves =
+    let s = p.setting in
+    let samples = values_at s levels in
+    let whole : take s.block levels ≡ levels = take_all s.block levels (omega (arith, size)) in
+    let same : marked.waiting ≡ start.waiting = ap (λ r. r.waiting) marks in
+    let bits : take len marked.waiting ≡ bits_of_set s ahead.set = ap (take len) same ∙ ahead.bits in
+    let taken_len : length (take len marked.waiting) ≡ len = ap (λ w. length (take len w)) same ∙ length-take-le len start.waiting ahead.within in
+    let taken = takes.taken in
+    let set : TakesSet marked middle first steps s p.block p.before samples 0 = record {
+      set = ahead.set;
+      form = ahead.form;
+      run_sound = ahead.run_sound;
+      residuals_sound = ahead.residuals_sound;
+      takes = subst (Takes marked middle) bits takes;
+      gives = subst (λ ls. GivesBlock s p.block p.before (values_at s ls) 0 (blocks_in s p.block ahead.set)) whole ahead.gives;
+      steps = omega (arith, counted, taken, taken_len, ahead.no_turns);
+    } in
+    let from_start : TakesSet (with_mark start) middle first steps s p.block p.before samples 0 = subst (λ r. TakesSet r middle first steps s p.block p.before samples 0) marks set in
+    let end : s.block - 1 ≡ length levels - 1 = omega (arith, size) in
+    let value : value_at s l ≡ last_of p.before samples =
+    ap (value_at s) (last_is ∙ ap (λ n. slice_index_or levels n 0) end) ∙ last_value s p.before levels (omega (arith, size, some)) in
+    let bound = samples_by_bits (with_mark start) middle first steps s p.block p.before samples 0 legal from_start in
+    let none : q.run ≡ 0 = ap (λ r. r.run) moves in
+    let many : length samples ≡ length levels = length-values s levels in
+    (answers_block start middle new first steps last p q samples 0 (value_at s l) from_start skips skipped value moves, rw none (omega (arith, bound, many, forward)))
 
 -- the bytes of a block that was looked at, taken and spelled
 pub bytes_given : {I : Type 0} (start marked middle new : Reader I) (first steps last : ℕ) (p q : DecoderState) (lanes : List ℕ) (len l size bytes_of_one : ℕ) (bytes : List ℕ)

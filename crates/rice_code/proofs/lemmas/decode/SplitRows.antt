@@ -22,14 +22,13 @@ use Rattle.rice_samples.proofs.lemmas.predict.RestoredLevels.{ranks_below-append
 use Rattle.rice_code.specs.decode.BlocksAhead.{BlockAhead, HasLanes, HasWidth, PartsAhead, SpellsParts, lanes_of}
 use Rattle.rice_code.specs.decode.ReadSets.{reference_place}
 use Rattle.rice_code.specs.decode.FieldsAhead.{HeadAhead, HighsAhead, LowsAhead, rows_len}
-use Rattle.rice_code.proofs.lemmas.decode.SplitAhead.{all_behind, first_of, spelled_both, split_ahead, split_fits, take-joined, take-ranks, width_known}
+use Rattle.rice_code.proofs.lemmas.decode.SplitAhead.{all_behind, first_of, spelled_both, split_ahead, split_fits, take-joined, take-ranks}
 
 -- what stands before the sequences of a block with a reference sample
-pub head_behind_reference : (waiting : List Bool) (s : Parameters) (b before from v id bits w : ℕ) → HasWidth s w → is_reference s b ≡ true → id ≡ id_len s
+pub head_behind_reference : (waiting : List Bool) (s : Parameters) (b before from v id bits : ℕ) → is_reference s b ≡ true → id ≡ id_len s
     → bits ≡ s.bits → v < 2 ^ bits → word bits v ≡ take bits (drop id waiting)
     → from < value_count s → pattern s (value_at s from) ≡ v → HeadAhead waiting s b before from 1 (id + bits)
-head_behind_reference waiting s b before from v id bits w has there id_is bits_are fits value begins pat =
-    let known = width_known s w has in
+head_behind_reference waiting s b before from v id bits there id_is bits_are fits value begins pat =
     record {
       reference = Some v;
       is = record { there = sym there; fits = subst (λ w. v < 2 ^ w) bits_are fits };
@@ -41,7 +40,7 @@ head_behind_reference waiting s b before from v id bits w has there id_is bits_a
       part = s.bits;
       len_is = λ j. id_is j + bits_are j;
       bits = (λ j. word (sym bits_are j) v) ∙ (value ∙ (λ j. take (bits_are j) (drop (id_is j) waiting)));
-      short = omega (arith, id_is, bits_are, known.id_is, known.short, known.few);
+      short = omega (arith, id_is, bits_are);
     }
 
 -- bits that follow one another, behind others
@@ -151,7 +150,7 @@ words-row waiting k at count words row most len bits is =
     ∙ (words-front k count words (omega (arith, len, most)) ∙ (ap (take (count * k)) bits ∙ take-take (count * k) (16 * k) (drop at waiting) (mul-le-mul_right k most)))
 
 -- parts of which the first are zeros, joined
-zeros-joined : (n k : ℕ) (highs lows : List ℕ) → length lows ≡ length highs → n ≤ length highs → take n highs ≡ replicate n 0 → take n lows ≡ replicate n 0
+pub zeros-joined : (n k : ℕ) (highs lows : List ℕ) → length lows ≡ length highs → n ≤ length highs → take n highs ≡ replicate n 0 → take n lows ≡ replicate n 0
     → joined_parts k highs lows ≡ replicate n 0 ++ joined_parts k (drop n highs) (drop n lows)
 zeros-joined zero k highs lows same few e f = refl
 zeros-joined (suc n) k [] lows same few e f = absurd (omega (arith, few))
@@ -212,7 +211,7 @@ joined-append k [] (l ∷ ls) more_highs more_lows e = absurd (omega (arith, e))
 joined-append k (h ∷ hs) [] more_highs more_lows e = absurd (omega (arith, e))
 joined-append k (h ∷ hs) (l ∷ ls) more_highs more_lows e = ap (λ ds. (h * 2 ^ k + l) ∷ ds) (joined-append k hs ls more_highs more_lows (omega (arith, e)))
 
-last-append : (p : ℕ) (xs ys : List ℕ) → last_number p (xs ++ ys) ≡ last_number (last_number p xs) ys
+pub last-append : (p : ℕ) (xs ys : List ℕ) → last_number p (xs ++ ys) ≡ last_number (last_number p xs) ys
 last-append p [] ys = refl
 last-append p (x ∷ xs) ys = last-append x xs ys
 

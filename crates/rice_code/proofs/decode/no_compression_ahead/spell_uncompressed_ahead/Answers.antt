@@ -1,6 +1,7 @@
-use Rattle.std.proofs.Common.{◌≡◌, ◌+◌, ◌-◌, ◌*◌, arith, refl, subst, sym}
+use Rattle.std.proofs.Common.{◌≡◌, ◌+◌, ◌-◌, ◌*◌, ◌≤◌, arith, refl, subst, sym}
 use Rattle.rice_samples.specs.Parameters.{value_at}
 use Rattle.rice_code.specs.decode.BlocksAhead.{SpelledAhead}
+use Rattle.rice_code.proofs.lemmas.decode.SplitAhead.{width_known}
 use Rattle.rice_code.proofs.lemmas.decode.NoCompressionAhead.{whole_spelled, words_inside}
 use Rattle.rice_code.proofs.decode.no_compression_ahead.spell_uncompressed_ahead.Goals as goal
 
@@ -13,7 +14,8 @@ returns g c =
     let head = c.head_ahead-head in
     let bits : c.bits-bits.result ≡ s.bits = c.bits-bits.ensures.value in
     let last = c.spell_uncompressed-last in
-    let short = head.ensures.short in
+    let known = width_known s 1 c.requires.lanes.samples in
+    let short : head.result.len ≤ 11 = omega (arith, head.ensures.short, known.id_is, c.requires.lanes.samples.narrow refl) in
     let part = words_inside size head.result.omitted s.bits (c.requires.lanes.samples.narrow refl) in
     subst (λ b. SpelledAhead waiting s a.block (value_at s a.before) size last.result (head.result.len + (size - head.result.omitted) * b) last.new.bytes) (sym bits)
     (whole_spelled waiting s a.block a.before head.result.from head.result.omitted head.result.len size last.result last.new.bytes c.requires.lanes c.requires.id head.ensures last.ensures (omega (arith, part, short, c.requires.there)))

@@ -9,12 +9,13 @@ returns-clause-some g c =
     let a = c.args in
     let size = a.size in
     let head = c.head_ahead-head in
-    let sequences = c.in_ok-sequences in
+    let highs = c.write_highs.new.highs in
+    let high = c.in_ok-len in
     let lows = c.low_rows-lows in
     let most = c.requires.lanes.few in
     let part : (size - head.result.omitted) * a.k ≤ size * a.k = mul-le-mul_right a.k (omega arith) in
-    rows_parts a.reader.now.waiting a.setting.now a.block a.before a.k head.result.from head.result.omitted head.result.len sequences.sequences.len size
-    g.row.WIDTH (take size sequences.sequences.highs) (take size lows.result) c.requires.lanes c.requires.split c.requires.id
-    head.ensures sequences.ensures.some lows.ensures.lows (length-take-le size sequences.sequences.highs (omega (arith, most, sequences.ensures.places)))
+    rows_parts a.reader.now.waiting a.setting.now a.block a.before a.k head.result.from head.result.omitted head.result.len high.len size
+    g.row.WIDTH (take size highs) (take size lows.result) c.requires.lanes c.requires.split c.requires.id
+    head.ensures high.ensures.some lows.ensures.lows (length-take-le size highs (omega (arith, most, high.ensures.places)))
     (length-take-le size lows.result (omega (arith, most, lows.ensures.places)))
     (omega (arith, part, c.if-waiting-words.false, c.waiting.ensures))

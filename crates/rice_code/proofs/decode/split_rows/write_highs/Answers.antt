@@ -1,8 +1,8 @@
-use Rattle.std.proofs.Common.{◌≡◌, ◌+◌, ◌*◌, ◌≤◌, ◌∙◌, ap, arith, length, take, replicate, subst, sym}
+use Rattle.std.proofs.Common.{◌≡◌, ◌+◌, ◌*◌, ◌≤◌, ◌∙◌, ap, arith, length, take, subst, sym}
 use Rattle.std.proofs.lemmas.List.{length-take-le}
 use Rattle.rice_code.specs.decode.FieldsAhead.{HighsAhead, rows_len}
 use Rattle.rice_code.proofs.lemmas.decode.SplitRows.{highs-row, row_inside, rows_before, rows_end, stored_row}
-use Rattle.rice_code.proofs.decode.split_rows.high_rows.Goals as goal
+use Rattle.rice_code.proofs.decode.split_rows.write_highs.Goals as goal
 
 pub overflow_add-skip : goal.overflow_add-skip
 overflow_add-skip g c = let inside = c.loop-row.invariant.rows.within in record { fits = omega (arith, inside, c.taken-taken.ensures.waiting) }
@@ -15,10 +15,10 @@ loop-row-init g c =
     let first = c.in_ok-first in
     let one : rows_len c.args.size 1 ≡ 16 = omega (arith, c.requires.size.0) in
     record {
-      places = c.store_row.ensures.len;
+      places = c.store_row.ensures.len ∙ c.requires.places;
       rows =
           subst (λ xs. HighsAhead c.args.reader.now.waiting c.args.skip c.args.omitted xs first.first.len)
-          (sym (ap (λ n. take n c.store_row.new.rows) one ∙ stored_row 0 16 first.first.numbers (replicate 64 0) c.store_row.new.rows (omega arith) (omega arith) first.ensures.lanes c.store_row.ensures.value))
+          (sym (ap (λ n. take n c.store_row.new.rows) one ∙ stored_row 0 16 first.first.numbers c.args.highs.now c.store_row.new.rows (omega arith) (omega (arith, c.requires.places)) first.ensures.lanes c.store_row.ensures.value))
           first.ensures.some;
     }
 

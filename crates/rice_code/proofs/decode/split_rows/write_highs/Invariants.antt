@@ -1,6 +1,6 @@
 use Rattle.std.proofs.Common.{◌≡◌, length, take}
 use Rattle.rice_code.specs.decode.FieldsAhead.{HighsAhead, rows_len}
-use Rattle.rice_code.proofs.decode.split_rows.high_rows.Given as goal
+use Rattle.rice_code.proofs.decode.split_rows.write_highs.Given as goal
 
 abbrev pub invariant-loop-row : goal.invariant-loop-row
 invariant-loop-row g l = record {
