@@ -4,4 +4,5 @@ pub mod pattern_lanes;
 pub mod reading;
 pub mod spelled_patterns;
 pub mod spelling;
+pub mod three_bytes;
 pub mod writing;

@@ -16,6 +16,7 @@ pub use bytes::pattern_lanes::bytes_of_patterns;
 pub use bytes::reading::levels_of;
 pub use bytes::spelled_patterns::spell_patterns;
 pub use bytes::spelling::{bytes_of, sample_of};
+pub use bytes::three_bytes::write_threes;
 pub use bytes::writing::{write_spellings, write_spellings_as};
 pub use predict::preprocessor::{from_pattern, pattern, residual, restore};
 pub use predict::residuals::rows::pattern_at;

@@ -1,5 +1,5 @@
 //! Decodes a code piece by piece, for a caller that has not all of it, or no room for all samples. Nothing but a `Stand` is kept.
-ghost use Rattle.std.specs.Prelude.{◌≡◌, ◌≢◌, ◌+◌, ◌-◌, ◌*◌, ◌<◌, ◌≤◌, ◌++◌, Bool, true, false, List, All, IsSome, IfOk, IfSome, None, Some, drop, take, length, ℤ};
+ghost use Rattle.std.specs.Prelude.{◌≡◌, ◌≢◌, ◌+◌, ◌-◌, ◌*◌, ◌%◌, ◌<◌, ◌≤◌, ◌++◌, Bool, true, false, List, All, IsSome, IfOk, IfSome, None, Some, drop, take, length, ℤ};
 ghost use Rattle.rice_bits.specs.Limits.{most_bits_read};
 ghost use Rattle.rice_bits.specs.Bits.{bits_of};
 ghost use Rattle.rice_bits.specs.read.Reader.{new_reader};
@@ -18,7 +18,7 @@ use crate::strokes::{copy_at, next_stroke, stand_behind};
 use arrayvec::ArrayVec;
 use rice_bits::{BitReader, Meter, SliceIn};
 use rice_code::{CodeFault, Decoder, NextBlock};
-use rice_samples::{Setting, write_spellings, write_spellings_as};
+use rice_samples::{Setting, write_spellings, write_spellings_as, write_threes};
 
 /// The most bits of a code.
 const LIMIT: u64 = 1 << 52;
@@ -241,7 +241,7 @@ fn write_at(setting: &Setting, levels: &[u32], bytes: &mut [u8; 512], at: usize,
         (1, msb, 16) => write_sized_at(setting, 1, msb, 16, levels, bytes, at, samples),
         (2, false, 8) => write_sized_at(setting, 2, false, 8, levels, bytes, at, samples),
         (2, false, 16) => write_sized_at(setting, 2, false, 16, levels, bytes, at, samples),
-        (3, false, 8) => write_sized_at(setting, 3, false, 8, levels, bytes, at, samples),
+        (3, _, 8) => write_three_bytes_each_at(setting, 8, levels, bytes, at, samples),
         _ => write_others_at(setting, levels, bytes, at, samples),
     }
 }
@@ -264,6 +264,9 @@ fn write_others_at(
 {
     match (setting.width(), setting.msb(), levels.len()) {
         (1, msb, 64) => write_sized_at(setting, 1, msb, 64, levels, bytes, at, samples),
+        (3, _, count) if count % 8 == 0 => {
+            write_three_bytes_each_at(setting, count, levels, bytes, at, samples);
+        }
         (4, false, 32) => write_sized_at(setting, 4, false, 32, levels, bytes, at, samples),
         (4, false, 64) => write_sized_at(setting, 4, false, 64, levels, bytes, at, samples),
         (width, _, count) => {
@@ -272,6 +275,30 @@ fn write_others_at(
             copy_at(spelled, at, samples);
         }
     }
+}
+
+/// Writes the bytes of `count` samples of three bytes each, whole eights of them, at this place.
+#[inline(always)]
+fn write_three_bytes_each_at(
+    setting: &Setting,
+    count: usize,
+    levels: &[u32],
+    bytes: &mut [u8; 512],
+    at: usize,
+    samples: &mut [u8],
+)
+    requires legal { All (λ l. l < value_count setting.now) levels.now }
+    requires three { width_of setting.now ≡ 3 }
+    requires count { length levels.now ≡ count }
+    requires eights { count % 8 ≡ 0 }
+    requires few { count ≤ 64 }
+    requires room { at + 3 * count ≤ length samples.old }
+    ensures { samples.new ≡ take at
+        samples.old ++ (spellings setting.now (values_at setting.now levels.now)
+        ++ drop (at + 3 * count) samples.old) }
+{
+    write_threes(setting, &levels[..count], bytes);
+    copy_at(&bytes[..3 * count], at, samples);
 }
 
 /// Writes the bytes of `count` samples at this place. It is laid out for what is known of the arguments, which are the width and the

@@ -1,5 +1,5 @@
 //! Writing all bytes of a slice, of a sink, or of samples.
-ghost use Rattle.std.specs.Prelude.{◌≡◌, ◌+◌, ◌^◌, ◌<◌, ◌≤◌, All, length, drop, take, OnOk, OnErr, IfErr};
+ghost use Rattle.std.specs.Prelude.{◌≡◌, ◌+◌, ◌*◌, ◌%◌, ◌^◌, ◌<◌, ◌≤◌, All, length, drop, take, OnOk, OnErr, IfErr};
 ghost use Rattle.rice_bits.specs.device.Outlet.{Appends};
 ghost use Rattle.rice_bits.specs.Bits.{whole_bytes, bits_in_bytes};
 ghost use Rattle.rice_samples.specs.Parameters.{value_count, values_at, width as width_of};
@@ -7,7 +7,7 @@ ghost use Rattle.rice_samples.specs.bytes.Spelling.{spellings};
 ghost use Rattle.rice_stream.specs.FailedWrites.{TakesPart};
 
 use rice_bits::{BitSink, Outlet, WriteFault};
-use rice_samples::{Setting, write_spellings, write_spellings_as};
+use rice_samples::{Setting, write_spellings, write_spellings_as, write_threes};
 
 /// Writes all of the bytes. `WriteFault` only if the outlet fails, which has then taken a part of them, and not all.
 #[inline(always)]
@@ -134,7 +134,10 @@ fn write_other_samples<O: Outlet>(
 {
     match (setting.width(), setting.msb(), levels.len()) {
         (1, msb, 64) => write_sized(setting, 1, msb, 64, levels, bytes, outlet),
-        (3, false, 8) => write_sized(setting, 3, false, 8, levels, bytes, outlet),
+        (3, _, 8) => write_three_bytes_each(setting, 8, levels, bytes, outlet),
+        (3, _, count) if count % 8 == 0 => {
+            write_three_bytes_each(setting, count, levels, bytes, outlet)
+        }
         (4, false, 32) => write_sized(setting, 4, false, 32, levels, bytes, outlet),
         (4, false, 64) => write_sized(setting, 4, false, 64, levels, bytes, outlet),
         (width, _, count) => {
@@ -143,6 +146,32 @@ fn write_other_samples<O: Outlet>(
             write_all(outlet, spelled)
         }
     }
+}
+
+/// Writes the bytes of `count` samples of three bytes each, whole eights of them.
+#[inline(always)]
+fn write_three_bytes_each<O: Outlet>(
+    setting: &Setting,
+    count: usize,
+    levels: &[u32],
+    bytes: &mut [u8; 512],
+    outlet: &mut O,
+) -> Result<(), WriteFault>
+    requires legal { All (λ l. l < value_count setting.now) levels.now }
+    requires three { width_of setting.now ≡ 3 }
+    requires count { length levels.now ≡ count }
+    requires eights { count % 8 ≡ 0 }
+    requires few { count ≤ 64 }
+    requires counted { O.failed outlet.old + 1 < 2 ^ 64 }
+    ensures ok { OnOk result (Appends (O.taken outlet.old) (O.taken outlet.new)
+        (spellings setting.now (values_at setting.now levels.now)) ×
+        (O.failed outlet.new ≡ O.failed outlet.old)) }
+    ensures err { OnErr result (TakesPart (O.taken outlet.old) (O.taken outlet.new)
+        (spellings setting.now (values_at setting.now levels.now)) ×
+        (O.failed outlet.new ≡ O.failed outlet.old + 1)) }
+{
+    write_threes(setting, &levels[..count], bytes);
+    write_all(outlet, &bytes[..3 * count])
 }
 
 /// Writes the bytes of `count` samples. It is laid out for what is known of the arguments, which

@@ -7,3 +7,4 @@ pub mod SpelledPatterns
 pub mod SpellingLemmas
 pub mod SpellingLengths
 pub mod WordLanes
+pub mod ThreeBytes
