@@ -355,34 +355,30 @@ bytes_given start marked middle new first steps last p q lanes len l size bytes_
     let s = p.setting in
     let some : 1 ≤ size = omega (arith, has.some) in
     let levels = take s.block lanes in
-    let samples = values_at s levels in
     let long : length levels ≡ size = length-take-le s.block lanes ahead.enough ∙ has.size_is in
-    let many : length samples ≡ size = length-values s levels ∙ long in
-    let same : marked.waiting ≡ start.waiting = ap (λ r. r.waiting) marks in
-    let bits : take len marked.waiting ≡ bits_of_set s ahead.set = ap (take len) same ∙ ahead.bits in
-    let taken_len : length (take len marked.waiting) ≡ len = ap (λ w. length (take len w)) same ∙ length-take-le len start.waiting ahead.within in
-    let taken = takes.taken in
-    let set : TakesSet marked middle first steps s p.block p.before samples 0 = record {
+    let many : length (values_at s levels) ≡ size = length-values s levels ∙ long in
+    let whole : take s.block levels ≡ levels = take_all s.block levels (omega (arith, long, has.size_is)) in
+    let inside : size - 1 < s.block = omega (arith, some, has.size_is) in
+    let end : size - 1 ≡ s.block - 1 = omega (arith, has.size_is) in
+    let first_ahead : BlockAhead start.waiting s p.block p.before levels len = record {
       set = ahead.set;
       form = ahead.form;
       run_sound = ahead.run_sound;
       residuals_sound = ahead.residuals_sound;
-      takes = subst (Takes marked middle) bits takes;
-      gives = ahead.gives;
-      steps = omega (arith, counted, taken, taken_len, ahead.no_turns);
+      within = ahead.within;
+      bits = ahead.bits;
+      no_turns = ahead.no_turns;
+      enough = omega (arith, long, has.size_is);
+      legal = All-take (λ l. l < value_count s) s.block lanes ahead.legal;
+      gives = subst (λ ls. GivesBlock s p.block p.before (values_at s ls) 0 (blocks_in s p.block ahead.set)) (sym whole) ahead.gives;
     } in
-    let from_start : TakesSet (with_mark start) middle first steps s p.block p.before samples 0 = subst (λ r. TakesSet r middle first steps s p.block p.before samples 0) marks set in
-    let end : length levels - 1 ≡ size - 1 = omega (arith, long) in
-    let inside : size - 1 < s.block = omega (arith, some, has.size_is) in
-    let value : value_at s l ≡ last_of p.before samples =
-    ap (value_at s) (last_is ∙ (sym (get_or-take s.block lanes (size - 1) 0 inside) ∙ ap (λ n. slice_index_or levels n 0) (sym end))) ∙ last_value s p.before levels (omega (arith, long, some)) in
-    let bound = samples_by_bits (with_mark start) middle first steps s p.block p.before samples 0 legal from_start in
-    let none : q.run ≡ 0 = ap (λ r. r.run) moves in
+    let given = levels_given start marked middle new first steps last p q levels len l legal (omega (arith, some, has.size_is)) first_ahead marks takes counted skips skipped forward
+    (omega (arith, long, has.size_is)) (last_is ∙ (sym (get_or-take s.block lanes (size - 1) 0 inside) ∙ ap (λ n. slice_index_or levels n 0) end)) moves in
     record {
-      samples = samples;
-      answers = answers_block start middle new first steps last p q samples 0 (value_at s l) from_start skips skipped value moves;
+      samples = values_at s levels;
+      answers = given.0;
       spelled = ap (λ n. take (width s * n) bytes) many ∙ (spelled ∙ ap (λ n. spellings s (values_at s (take n lanes))) (sym has.size_is));
-      by_bits = rw none (omega (arith, bound, forward));
+      by_bits = subst (λ n. n + q.run * q.setting.block ≤ most_samples_of_bit * (new.taken - start.taken)) (sym (length-values s levels)) given.1;
     }
 
 -- the second part of a list
