@@ -326,7 +326,8 @@ impl Decoder {
         requires stopped { self.old.stopped ≡ None }
         requires going { reader.old.refusal ≡ None }
         requires room { meter.old + 2 * (most_bits_read - reader.old.taken) + 64 < step_limit }
-        requires bytes { (32 ≤ length bytes.old) × (WIDTH * lanes_of self.old.setting.block ≤ length bytes.old) }
+        requires bytes { (32 ≤ length bytes.old) ×
+            (WIDTH * lanes_of self.old.setting.block ≤ length bytes.old) }
         ensures some { result ≡ true → (self.old.run ≡ 0) ×
             GivesBytes reader.old reader.new meter.old meter.new self.old self.new bytes.new }
         ensures none { result ≡ false → (self.new ≡ self.old) × (reader.new ≡ reader.old) ×
@@ -380,7 +381,8 @@ impl Decoder {
             ≡ take (id_len self.old.setting) reader.old.waiting }
         requires going { reader.old.refusal ≡ None }
         requires room { meter.old + 2 * (most_bits_read - reader.old.taken) + 64 < step_limit }
-        requires bytes { (32 ≤ length bytes.old) × (WIDTH * lanes_of self.old.setting.block ≤ length bytes.old) }
+        requires bytes { (32 ≤ length bytes.old) ×
+            (WIDTH * lanes_of self.old.setting.block ≤ length bytes.old) }
         ensures some { result ≡ true →
             GivesBytes reader.old reader.new meter.old meter.new self.old self.new bytes.new }
         ensures none { result ≡ false → (self.new ≡ self.old) × (reader.new ≡ reader.old) ×
