@@ -47,6 +47,8 @@ TWIN = "_twin"
 FALSE, OPEN, LIMIT, UNFIT, GONE = WHYS = [
     "values make it false", "no proof was found", "the prover gave up", "its answer does not fit", "a proof names what is gone",
 ]
+# The folder of a crate with the work that its own check has kept.
+WORK = rtlib.KEPT[1]
 # The number of open goals that are told of an edit.
 MOST = 3
 
@@ -75,6 +77,8 @@ class Edit:
     twin: int = 0
     # Whether the twin is still to be judged by its function's written answers alone.
     by_answers: bool = False
+    # Whether it is known to be right: the check that judges it by the answers searches for its goals too, in another twin.
+    is_control: bool = False
 
     @property
     def name(self):
@@ -189,17 +193,17 @@ def check(crate, texts, functions):
     functions are named, it is of these and of those that they call alone."""
     with tempfile.TemporaryDirectory(prefix="edits-", dir=f"{crate.folder}/out") as room:
         os.mkdir(f"{room}/out")
-        for part in [*rtlib.PARTS, rtlib.KEPT[1]]:
+        for part, to, how in [*((it, it, "-a") for it in rtlib.PARTS), (WORK, rtlib.KEPT[1], "-al")]:
             if os.path.isdir(f"{crate.folder}/{part}"):
                 # (the toolchain writes no file twice, so links serve for copies)
-                how = "-al" if part == rtlib.KEPT[1] else "-a"
-                subprocess.run(["cp", how, f"{crate.folder}/{part}", f"{room}/{part}"], check=True)
+                subprocess.run(["cp", how, f"{crate.folder}/{part}", f"{room}/{to}"], check=True)
         for file, text in texts.items():
             os.makedirs(os.path.dirname(f"{room}/{file}"), exist_ok=True)
             with open(f"{room}/{file}", "w", encoding="utf-8") as it:
                 it.write(text)
         only = [word for it in functions for word in ("--only", it.split("::", 1)[1])]
-        words = [*rtlib.guarded(), rtlib.RATTLE, "check", *crate.words(["--jobs", "1", *only], keeps=False)]
+        # (a proof that runs beside it comes first)
+        words = [*rtlib.guarded(), "nice", "-n", "5", rtlib.RATTLE, "check", *crate.words(["--jobs", "1", *only], keeps=False)]
         how = {"cwd": room, "stdin": subprocess.DEVNULL, "stdout": subprocess.PIPE, "stderr": subprocess.STDOUT}
         ran = subprocess.run(words, errors="replace", **how)
     return ran.returncode, ran.stdout
@@ -314,17 +318,26 @@ def tried_together(edits):
     # (the answers of a twin may name what its edit took away, which says something of that edit alone)
     sources = [it for it in texts if it.startswith("src/")]
     if has_verdict(said) and not any(rt.unread(it, sources) for it in said.split("\n")):
-        return {it.path: judged(it, texts, said) for it in edits}
+        return first_of({it.path: judged(it, texts, said)} for it in edits)
     if len(edits) == 1:
         return {edits[0].path: tried_alone(edits[0])}
     half = len(edits) // 2
-    return {**tried_together(edits[:half]), **tried_together(edits[half:])}
+    return first_of(tried_together(it) for it in (edits[:half], edits[half:]))
+
+
+def first_of(verdicts):
+    """Returns the first verdict of these on each edit, or None where none of them has one."""
+    found = {}
+    for some in verdicts:
+        found.update({path: it for path, it in some.items() if not found.get(path)})
+    return found
 
 
 def with_twins(edits):
     """Returns those of these edits that one check can try, each in a twin of its function, or in a method of a trait itself."""
     found, places = [], collections.Counter()
-    for it in edits:
+    searched = [dataclasses.replace(it, by_answers=False) for it in edits if it.is_control and it.by_answers]
+    for it in [*edits, *searched]:
         places[it.function.name] += 1
         it.twin = 0 if it.function.trait else places[it.function.name]
         if it.twin or places[it.function.name] == 1:

@@ -7,6 +7,7 @@ is another one, whose `rt` can't have its parts replaced like this, it is `rt ci
 
 usage: gate
 """
+import dataclasses
 import os
 import re
 import shutil
@@ -21,33 +22,61 @@ except ImportError as why:
     print(f"gate.py: {why}: so this is rt ci alone, which tries each edit by a check of its own", flush=True)
     os.execvp("rt", ["rt", "ci"])
 import edits
+import lanes
 
 CONTROLS = "scripts/edit_controls"
 # What the last run said, for scripts/release.
 RECORD = "out/gate.txt"
+# When each task of the last run began and ended.
+TIMES = "out/gate_times.txt"
 # The most that a check of a crate's edits has been seen to take, in bytes, and some more.
 MEMORY_OF_EDITS = 3_000_000_000
+# What a proof takes, at one job for each of four processors, of the memory that the toolchain plans for it, and some more.
+SHARE_OF_MEMORY = 0.5
 # About how many seconds of a processor an edit takes, and the most that a part of a crate's edits is to take: each part reads all that
 # is below the crate first, in some 10 seconds.
 SECONDS_OF_EDIT = {"rice_bits": 4, "rice_samples": 2, "rice_code": 7, "rice_stream": 10, "rice_c": 6, "aec_tool": 9, "rice_tests": 5}
 SECONDS_OF_PART = 400
 
 
-def in_lanes(run_tasks, tried):
-    """Plans a crate's tests after the crate, whose work they take, and its proof, for which all that is above it waits, with
-    nearly all processors, whatever runs beside it."""
-    def run(tasks):
-        # (the libraries' proofs are kept whole, so that later commands take them)
-        rt.Crate.cuts_libraries = False
-        tasks = tasks if TRIES_EACH else in_parts(tasks, tried)
-        most = rt.processors() - 1
-        for key, (waits, lines, memory, call) in tasks.items():
-            if key[1] == "proof":
-                tasks[key] = waits, lines, memory, lambda given, jobs, call=call: call(given, max(jobs, most))
-            elif key[1] == "tests":
-                tasks[key] = [*waits, (key[0], "proof")], lines, memory, call
-        return run_tasks(tasks)
-    return run
+def in_lanes(tasks, tried):
+    """Runs the tasks: a crate's tests and its edits after its proof, whose work they take."""
+    # (the libraries' proofs are kept whole, so that later commands take them)
+    rt.Crate.cuts_libraries = False
+    tasks = tasks if TRIES_EACH else in_parts(tasks, tried)
+    for key, (waits, lines, memory, call) in tasks.items():
+        if key[1] == "proof":
+            tasks[key] = waits, lines, memory * SHARE_OF_MEMORY, set_aside_by(key[0], call)
+        elif key[1] == "tests":
+            tasks[key] = [*waits, (key[0], "proof")], lines, memory * SHARE_OF_MEMORY, call
+    run = lanes.Lanes(tasks, rt.processors(), 0.85 * rt.free())
+    try:
+        return run.run()
+    finally:
+        record_times(run.times)
+        for crate in os.listdir("crates"):
+            shutil.rmtree(f"crates/{crate}/{edits.WORK}", ignore_errors=True)
+
+
+def set_aside_by(name, call):
+    """Returns the call of a crate's proof that leaves the work which it has kept for its edits too, beside whose checks that of the
+    crate's tests goes on with it."""
+    folder = f"{os.getcwd()}/crates/{name}"
+
+    def prove(given, jobs):
+        well = call(given, jobs)
+        if well:
+            subprocess.run(["cp", "-al", f"{folder}/{rtlib.KEPT[1]}", f"{folder}/{edits.WORK}"], check=True)
+        return well
+    return prove
+
+
+def record_times(times):
+    start = min((it for it, _ in times.values()), default=0)
+    rows = sorted((first - start, last - first, *map(str, key)) for key, (first, last) in times.items())
+    os.makedirs("out", exist_ok=True)
+    with open(TIMES, "w", encoding="utf-8") as it:
+        it.write("from second, seconds, task\n" + "".join(f"{row[0]:6.0f} {row[1]:6.0f} {' '.join(row[2:])}\n" for row in rows))
 
 
 def parts_of(crate, paths):
@@ -64,21 +93,20 @@ def seconds_of_edit(crate):
     return SECONDS_OF_EDIT.get(crate.name, 5)
 
 
-def add_parts(tasks, crate, paths, waits, is_well):
+def add_parts(tasks, crate, paths):
     """Adds the tasks that try a crate's edits, part by part, and returns their keys."""
-    keys = []
+    keys, proof = [], (crate.name, "proof")
     for number, part in enumerate(parts_of(crate, paths)):
-        call = lambda given, _jobs, part=part, number=number: try_edits(crate, part, number) if is_well(given) else {}
-        # (after the tests too, whose check writes into the work that is copied)
+        call = lambda given, _jobs, part=part, number=number: try_edits(crate, part, number) if given[proof] else {}
         keys.append((crate.name, "edits", number))
         # (the longest begin first, in whatever crate)
-        tasks[keys[-1]] = waits, len(part) * seconds_of_edit(crate), MEMORY_OF_EDITS, call
+        tasks[keys[-1]] = [proof], len(part) * seconds_of_edit(crate), MEMORY_OF_EDITS, call
     return keys
 
 
-def add_edits(tasks, crate, paths, _first, waits, is_well, *_):
+def add_edits(tasks, crate, paths, *_):
     """Adds the tasks that try a crate's edits, and returns what gives their results, and what gives those of earlier runs: none."""
-    keys = add_parts(tasks, crate, paths, waits, lambda given: is_well(given, len(paths)))
+    keys = add_parts(tasks, crate, paths)
     kind = lambda refused: rt.REFUSED if refused else rt.MISSED
     return lambda given: [(kind(it), said) for it, said in told(crate, paths, verdicts_of(keys, given))], dict
 
@@ -91,7 +119,7 @@ def in_parts(tasks, tried):
         if key[1] == "edits":
             crate = by_name[key[0]]
             paths = rt.edits_of(crate)[0]
-            keys = add_parts(found, crate, paths, waits, lambda given, waits=waits: all(given[it] for it in waits))
+            keys = add_parts(found, crate, paths)
             take = lambda given, jobs, keys=keys, call=call: tried.update(verdicts_of(keys, given)) or call(given, jobs)
             found[key] = [*waits, *keys], 0, 0, take
         else:
@@ -110,10 +138,11 @@ def controls_of(crate):
 
 def try_edits(crate, paths, number):
     """Returns the verdicts on some of a crate's edits, with the first of which the controls are tried."""
+    found = [edits.edit_of(crate, it) for it in paths]
     if number == 0:
         edits.remember(crate)
-        paths = [*paths, *controls_of(crate)]
-    return edits.tried([edits.edit_of(crate, it) for it in paths])
+        found += [dataclasses.replace(edits.edit_of(crate, it), is_control=True) for it in controls_of(crate)]
+    return edits.tried(found)
 
 
 def told(crate, paths, verdicts):
@@ -173,7 +202,8 @@ def main():
     keep_work()
     counts = Counts(rt.run)
     tried = {}
-    rt.in_lanes, rt.run, rt.print = in_lanes(rt.in_lanes, tried), counts, counts.print
+    rt.in_lanes, rt.run, rt.print = lambda tasks: in_lanes(tasks, tried), counts, counts.print
+    edits.WORK = "out/before_edits"
     if not TRIES_EACH:
         rt.must_fail_all = lambda crate, paths, _flags: told(crate, paths, tried)
         return rt.ci()
