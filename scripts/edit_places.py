@@ -79,6 +79,19 @@ def functions_in(crate, file, text):
     return found
 
 
+def beside(function, text):
+    """Returns the place behind the impl of a trait that a method stands in, and the lines that open one of its type alone, where the
+    same definitions are in scope; or None where its head has another form."""
+    lines = text.split("\n")
+    at = max(number for number in range(function.first) if lines[number].startswith(("impl", "trait ", "pub trait ")))
+    head = re.fullmatch(rf"(impl(?:<.*>)?) {function.trait}(?:<.*>)? for (.* {{)", lines[at])
+    if not head:
+        return None
+    imports = re.findall(r"(?m)^    ghost use [^;]*;$", "\n".join(lines[at : function.first]))
+    behind = sum(len(line) + 1 for line in lines[: lines.index("}", function.last) + 1])
+    return behind, "\n".join([f"{head[1]} {head[2]}", *imports, ""])
+
+
 def changed(old, new):
     """Returns the first and the last place of the old text that differ from the new, and the new text between them."""
     most = min(len(old), len(new))

@@ -4,8 +4,8 @@
 What has to be shown of a function comes from its own body and from the contracts, types and constants that it names, never
 from another body. So edits of the bodies of different functions stand in one copy of the crate, and one check over the work
 that the crate's own check has kept tries them all. Each edit stands in a twin of its function, which has another name, the same
-contract and the same answers, so that what calls the function goes on to call what is proved. But a method of a trait has no
-twin: its edits take turns in the method itself. An edit is refused where a goal of its own function is open. That its function
+contract and the same answers, so that what calls the function goes on to call what is proved; the twin of a method of a trait
+is one of its type alone. An edit is refused where a goal of its own function is open. That its function
 calls one that is not proved doesn't count: it is then tried in the next round. An edit that changes more than one body, or a
 constant, is tried alone. A check is of the functions that have to be judged, and of those that they call. Where the crate's
 must-fail/clauses.md names the clauses that an edit turns, a goal of each has to be open.
@@ -85,9 +85,20 @@ class Edit:
         return f"{self.crate.name}/{os.path.basename(self.path)[: -len('.edit')]}"
 
     @property
+    def has_twin(self):
+        """Whether a twin of its function can stand beside that: for a method of a trait, one of its type alone, where the method has
+        clauses of its own, and not the trait's."""
+        text, function = read(f"{self.crate.folder}/{self.function.file}"), self.function
+        has_clauses = re.search(r"\n *ensures\b", text[function.start : function.body])
+        return not function.trait or bool(has_clauses and edit_places.beside(function, text))
+
+    @property
     def judged_name(self):
         """The name of the function, or of its twin, that this edit changes."""
-        return self.function.name + (f"{TWIN}{self.twin}" if self.twin else "")
+        if not self.twin:
+            return self.function.name
+        owner = f"::{self.function.type}"
+        return f"{self.function.name.replace(owner + self.function.trait, owner, 1)}{TWIN}{self.twin}"
 
     @property
     def answered(self):
@@ -153,7 +164,7 @@ def texts_with(edits):
         for first, last, text in sorted(changes, reverse=True):
             texts[file] = texts[file][:first] + text + texts[file][last:]
     for it in edits:
-        answers.update(proofs_with_fault(it.crate, it.function.name, f"{TWIN}{it.twin}" if it.twin else ""))
+        answers.update(proofs_with_fault(it.crate, it.function.name, it.judged_name))
     return {**texts, **answers}
 
 
@@ -167,7 +178,11 @@ def change_of(edit, text):
     tactic = "#[tactic(none)] " if edit.by_answers else ""
     twin = text[start : function.start] + tactic + text[function.start : first] + new + text[last : function.end]
     name = function.name.split("::")[-1]
-    return function.end, function.end, re.sub(rf"\bfn {name}\b", f"fn {name}{TWIN}{edit.twin}", twin, count=1)
+    twin = re.sub(rf"\bfn {name}\b", f"fn {name}{TWIN}{edit.twin}", twin, count=1)
+    if not function.trait:
+        return function.end, function.end, twin
+    behind, opens = edit_places.beside(function, text)
+    return behind, behind, f"{opens}{twin}}}\n"
 
 
 def proofs_of(function):
@@ -175,16 +190,21 @@ def proofs_of(function):
     return "/".join(["proofs", *function.split("::")[1:]])
 
 
-def proofs_with_fault(crate, function, twin=""):
-    """Returns the texts of a function's proof files, or of a twin's, with a fault among the answers."""
-    path = proofs_of(function)
+def module_of(function):
+    """Returns the name of the module of a function's proof files, in its crate."""
     # (a part that is no name by itself stands in quotes there)
-    module = ".".join(it if re.fullmatch(r"\w+", it) else f"«{it}»" for it in path.split("/"))
-    found = {f"{path}{twin}/{ANSWERS}": f"use Rattle.{crate.name}.{module}{twin}.Goals as goal\n"}
+    return ".".join(it if re.fullmatch(r"\w+", it) else f"«{it}»" for it in proofs_of(function).split("/"))
+
+
+def proofs_with_fault(crate, function, twin):
+    """Returns the texts of a function's proof files as those of its twin, or its own, with a fault among the answers."""
+    path, module = proofs_of(twin), module_of(twin)
+    found = {f"{path}/{ANSWERS}": f"use Rattle.{crate.name}.{module}.Goals as goal\n"}
     for name in PROOF_FILES:
-        if os.path.isfile(f"{crate.folder}/{path}/{name}"):
-            found[f"{path}{twin}/{name}"] = read(f"{crate.folder}/{path}/{name}").replace(f".{module}.", f".{module}{twin}.")
-    found[f"{path}{twin}/{ANSWERS}"] += f"\npub {NO_GOAL} : goal.{NO_GOAL}\n{NO_GOAL} = {NO_GOAL}\n"
+        file = f"{crate.folder}/{proofs_of(function)}/{name}"
+        if os.path.isfile(file):
+            found[f"{path}/{name}"] = read(file).replace(f".{module_of(function)}.", f".{module}.")
+    found[f"{path}/{ANSWERS}"] += f"\npub {NO_GOAL} : goal.{NO_GOAL}\n{NO_GOAL} = {NO_GOAL}\n"
     return found
 
 
@@ -263,13 +283,15 @@ def clause_of(goal):
 
 def refused(edit, goals):
     """Returns the verdict on an edit for which these goals are open: it tells them, first those that say most."""
-    is_open = {(it.function.split(TWIN)[0], clause_of(it.name)) for it in goals}
+    own = {edit.judged_name: edit.function.name} if edit.function else {}
+    goals = [dataclasses.replace(it, function=own.get(it.function, it.function)) for it in goals]
+    is_open = {(it.function, clause_of(it.name)) for it in goals}
     lost = [f"{function} {clause}" for function, clause in edit.clauses if (function, clause) not in is_open]
     if lost:
         return Verdict(False, f"NOT REFUSED FOR WHAT IT NAMES: no goal is open of {', '.join(lost)}")
     first = sorted(goals, key=lambda it: WHYS.index(it.why))
     names = dict.fromkeys(f"`{it.name}` ({it.why})" for it in first if it.function == first[0].function)
-    return Verdict(True, f"refused, as it must be: {first[0].function.split(TWIN)[0]}: {', '.join([*names][:MOST])}")
+    return Verdict(True, f"refused, as it must be: {first[0].function}: {', '.join([*names][:MOST])}")
 
 
 def judged(edit, texts, said):
@@ -298,7 +320,7 @@ def tried_alone(edit):
     """Returns the verdict on an edit that a copy of the crate has alone."""
     if edit.why:
         return Verdict(False, f"BAD EDIT: {edit.why}")
-    faults = {path: text for it in edit.judges for path, text in proofs_with_fault(edit.crate, it).items()}
+    faults = {path: text for it in edit.judges for path, text in proofs_with_fault(edit.crate, it, it).items()}
     status, said = check(edit.crate, {**faults, **edit.texts}, edit.judges)
     bad = next((it for it in said.split("\n") if rt.unread(it, edit.texts)), "")
     if bad or not has_verdict(said) or rtlib.STALE.search(said):
@@ -334,12 +356,12 @@ def first_of(verdicts):
 
 
 def with_twins(edits):
-    """Returns those of these edits that one check can try, each in a twin of its function, or in a method of a trait itself."""
+    """Returns those of these edits that one check can try, each in a twin of its function, or else in the function itself."""
     found, places = [], collections.Counter()
     searched = [dataclasses.replace(it, by_answers=False) for it in edits if it.is_control and it.by_answers]
     for it in [*edits, *searched]:
         places[it.function.name] += 1
-        it.twin = 0 if it.function.trait else places[it.function.name]
+        it.twin = places[it.function.name] if it.has_twin else 0
         if it.twin or places[it.function.name] == 1:
             found.append(it)
     return found
@@ -350,7 +372,7 @@ def tried(edits):
     found = {it.path: tried_alone(it) for it in edits if it.why or not it.function}
     left = [it for it in edits if it.path not in found]
     for it in left:
-        it.by_answers = not it.function.trait and it.has_answers
+        it.by_answers = it.has_twin and it.has_answers
     while left:
         now = with_twins(left)
         verdicts = tried_together(now)
