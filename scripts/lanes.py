@@ -51,7 +51,8 @@ class Lanes:
         for key in [it for it in left if all(below in self.given for below in self.tasks[it][0])]:
             is_proof, taken = key[1] in PROOFS, sum(self.tasks[it][2] for it in self.running.values())
             has_room = not self.running or taken + self.tasks[key][2] <= self.memory
-            if has_room and (is_proof or len(self.running) < self.processors):
+            # (one more than there are processors: a part of edits that ends last has then begun sooner)
+            if has_room and (is_proof or len(self.running) <= self.processors):
                 yield key
             elif is_proof:
                 # (it waits for memory, which edits would take again and again)
