@@ -145,7 +145,7 @@ def house():
     fills = {"rice_bits": PALE, "rice_samples": LIGHT, "rice_code": MIDDLE}
     ways = [
         ("encode", 395, "-|>", ("bytes", "levels", "residuals of a\nsegment", "an option for\neach block", "fields", "bits", "bytes"),
-         ("levels_of", "push_some", "search", "options", "BitBuffer", "write_whole")),
+         ("SampleReader", "push_some", "search", "options", "BitBuffer", "write_whole")),
         ("decode", 265, "<|-", ("bytes", "levels of a\nblock", "residuals of a\nblock", "a coded\ndata set", "words and\nsequences", "bits", "bytes"),
          ("write_block", "restoring", "options", "fields", "BitReader", "Intake")),
     ]

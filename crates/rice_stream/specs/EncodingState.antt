@@ -4,8 +4,9 @@ use Rattle.std.specs.Io.KnownBytes.{Consumes}
 use Rattle.rice_bits.specs.device.Outlet.{Room, Appends}
 use Rattle.rice_bits.specs.Bits.{bits_in_bytes}
 use Rattle.rice_samples.specs.Limits.{most_input}
-use Rattle.rice_samples.specs.Parameters.{Parameters, IsSample, value_count, width}
-use Rattle.rice_samples.specs.bytes.Spelling.{spellings, EndsSpelling, NoSpelling}
+use Rattle.rice_samples.specs.Parameters.{Parameters, value_count, width}
+use Rattle.rice_samples.specs.bytes.SamplesAhead.{SamplesAhead}
+use Rattle.rice_samples.specs.bytes.Spelling.{Reads, EndsSpelling, NoSpelling}
 use Rattle.rice_stream.specs.Calls.{StopsBetween}
 use Rattle.rice_code.specs.code.Code.{code_bits, output, early_output, complete_samples}
 use Rattle.rice_code.specs.encode.Coder.{HasTaken, complete_code}
@@ -94,11 +95,6 @@ WritesRest s old new xs None = Follows old new (output s xs)
 WritesRest s old new xs (Some Write) = FollowsBetween old new (early_output s xs) (output s xs)
 WritesRest s old new xs (Some _) = ⊥
 
--- bytes that spell samples, and what is after them
-pub record Reads (s : Parameters) (bytes : List ℕ) (samples : List ℤ) (rest : List ℕ) : Type 0 where
-  pub split : bytes ≡ spellings s samples ++ rest
-  pub legal : All (IsSample s) samples
-
 -- an encoding that held xs takes what the bytes spell
 pub record TakesAll {N : ℕ} (s : Parameters) (old : Beginning) (new : Option Room) (e : Encoding N) (xs : List ℤ) (bytes : List ℕ) : Type 0 where
   pub more : List ℤ
@@ -143,20 +139,12 @@ CanPush s taken e bytes = (old : Beginning) × (xs : List ℤ) × IsEncodingOf s
 abbrev pub PushesBytes : {T : Type 0} {N : ℕ} → Parameters → Option Room → Option Room → Encoding N → Encoding N → List ℕ → Result T Fault → Type 0
 PushesBytes s taken taken_new e e_new bytes result = (old : Beginning) (xs : List ℤ) → IsEncodingOf s old taken e xs → Pushes s old taken_new e_new xs bytes result
 
--- Bytes were given so far: those of samples, whose code is written as far as it is whole, and the first bytes of one more.
-pub record EncodingProgress {N : ℕ} (s : Parameters) (left_old left : Option (List ℕ)) (taken_old taken : Option Room) (e : Encoding N) (given waiting : ℕ) (buffer : List ℕ) : Type 0 where
+-- Bytes were given so far: those of samples, whose code is written as far as it is whole, and those that wait.
+pub record EncodingProgress {N : ℕ} (s : Parameters) (left_old left : Option (List ℕ)) (taken_old taken : Option Room) (e : Encoding N) (r : SamplesAhead) : Type 0 where
   pub bytes : List ℕ
   pub samples : List ℤ
-  pub reads : Reads s bytes samples (take waiting buffer)
-  pub count : given ≡ length bytes
-  pub limit : given ≤ most_input
-  pub few : waiting < width s
+  pub setting : r.setting ≡ s
+  pub reads : Reads s bytes samples r.waiting
+  pub count : r.given ≡ length bytes
   pub gave : Consumes left_old left bytes
   pub holds : IsEncodingOf s (afresh taken_old) taken e samples
-
--- Bytes were put after those that wait in a buffer.
-pub record Refills (left_old left_new : Option (List ℕ)) (old new : List ℕ) (waiting count : ℕ) : Type 0 where
-  pub given : List ℕ
-  pub length_is : length given ≡ count
-  pub gave : Consumes left_old left_new given
-  pub front : take (waiting + count) new ≡ take waiting old ++ given

@@ -5,13 +5,13 @@ use Rattle.rice_bits.specs.Bits.{bits_in_bytes, word}
 use Rattle.rice_samples.specs.Limits.{most_input}
 use Rattle.rice_samples.specs.Parameters.{Parameters, IsSample, width}
 use Rattle.rice_samples.specs.Places.{cut}
-use Rattle.rice_samples.specs.bytes.Spelling.{spellings, EndsSpelling, NoSpelling, TooFew}
+use Rattle.rice_samples.specs.bytes.Spelling.{Reads, spellings, EndsSpelling, NoSpelling, TooFew}
 use Rattle.rice_code.specs.code.Code.{code_bits, output, early_output, complete_samples}
 use Rattle.rice_code.specs.encode.Coder.{HasTaken, complete_code}
 use Rattle.rice_code.specs.encode.OpenSegment.{state_between}
 use Rattle.rice_code.specs.CoderSteps.{least_steps, most_steps}
 use Rattle.rice_stream.specs.Encodes.{ReportsTaken, ReportsAll}
-use Rattle.rice_stream.specs.EncodingState.{Beginning, Follows, FollowsBetween, Reads}
+use Rattle.rice_stream.specs.EncodingState.{Beginning, Follows, FollowsBetween}
 use Rattle.rice_stream.specs.declared.outcome.Fault.{Fault}
 use Rattle.rice_stream.specs.declared.outcome.Fault.TheVariants.{Write, TooLong, SampleOutOfRange, SampleCut}
 use Rattle.rice_stream.specs.declared.outcome.Report.{Report}

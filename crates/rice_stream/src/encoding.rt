@@ -1,15 +1,12 @@
 //! From samples to their code.
-ghost use Rattle.std.specs.Prelude.{◌≡◌, ◌+◌, ◌-◌, ◌*◌, ◌^◌, ◌<◌, ◌≤◌, List, [], ◌++◌, length, take, drop, true, Option, Some, OnOk, OnErr, IfOk, ℤ};
-ghost use Rattle.std.specs.Io.KnownBytes.{IsAtEnd, Keeps};
-ghost use Rattle.rice_bits.specs.Limits.{most_at_once};
-ghost use Rattle.rice_bits.specs.device.Failures.{CountsFailure};
+ghost use Rattle.std.specs.Prelude.{◌≡◌, ◌+◌, ◌-◌, ◌*◌, ◌^◌, ◌<◌, ◌≤◌, List, [], ◌++◌, length, take, true, Option, Some, OnOk, OnErr, IfOk, ℤ};
 ghost use Rattle.rice_bits.specs.device.Outlet.{Room};
 ghost use Rattle.rice_bits.specs.Bits.{padded_bits};
 ghost use Rattle.rice_samples.specs.Limits.{most_input, longest_segment};
 ghost use Rattle.rice_samples.specs.Parameters.{Parameters, values_at, width};
 ghost use Rattle.rice_stream.specs.Calls.{Fails};
-ghost use Rattle.rice_stream.specs.Encodes.{EncodesBetween, EncodesWithin, ReportsTaken, ReportsAll};
-ghost use Rattle.rice_stream.specs.EncodingState.{Beginning, afresh, whole_part, CanTake, Refills, TakesSamples, CountsSamples, IsEncodingOf, FailsIn, WritesRest, CanPush, PushesBytes, PushFails};
+ghost use Rattle.rice_stream.specs.Encodes.{EncodesBetween, EncodesWithin, ReportsTaken, ReportsAll, fault_at};
+ghost use Rattle.rice_stream.specs.EncodingState.{Beginning, afresh, whole_part, CanTake, TakesSamples, CountsSamples, IsEncodingOf, FailsIn, WritesRest, CanPush, PushesBytes, PushFails};
 ghost use Rattle.rice_samples.specs.Places.{cut};
 ghost use Rattle.rice_stream.specs.Feeding.{IsSeam, IsSomeSeam, StandsAt, behind};
 ghost use Rattle.rice_code.specs.code.Code.{code};
@@ -19,15 +16,9 @@ ghost use Rattle.rice_code.specs.encode.OpenSegment.{HoldsAnySegment};
 use crate::outcome::{Fault, Outcome, Report};
 use crate::seam::{Seam, waiting_number};
 use crate::write::write_whole;
-use rice_bits::{BitSink, Intake, Meter, Outlet, ReadFault, WriteFault};
+use rice_bits::{BitSink, Intake, Meter, Outlet, WriteFault};
 use rice_code::{SegmentSink, SizedCoder};
-use rice_samples::{Setting, levels_of};
-
-/// The limit of the input, in bytes.
-pub(crate) const LIMIT: u64 = 1 << 48;
-
-/// The size of a read, in bytes.
-const PIECE: usize = 4096;
+use rice_samples::{SampleFault, SampleReader, Setting, first_levels};
 
 /// The number of samples that are taken from bytes at a time.
 pub(crate) const SAMPLES: usize = 512;
@@ -163,10 +154,8 @@ impl<const N: usize> Encoding<N> {
         if self.sink.len() < 8 {
             return Ok(taken);
         }
-        match write_whole(&mut self.sink, outlet) {
-            Ok(()) => Ok(taken),
-            Err(fault) => Err(fault),
-        }
+        write_whole(&mut self.sink, outlet)?;
+        Ok(taken)
     }
 
     /// Takes all samples, and writes the bytes that each segment completes before it takes the next sample.
@@ -184,41 +173,7 @@ impl<const N: usize> Encoding<N> {
     {
         let mut at = 0;
         while at < levels.len() {
-            match self.push(&levels[at..], outlet) {
-                Ok(taken) => at += taken,
-                Err(fault) => return Err(fault),
-            }
-        }
-        Ok(())
-    }
-
-    /// Takes the samples that a part of the bytes spells, for which `levels` has room, as `push_all` does.
-    fn push_part<O: Outlet>(
-        &mut self,
-        setting: &Setting,
-        bytes: &[u8],
-        levels: &mut [u32],
-        outlet: &mut O,
-    ) -> Result<(), Fault>
-        requires ready { CanPush setting.now (O.taken outlet.old) self.old bytes.now }
-        requires room { length bytes.now ≤ width setting.now * length levels.old }
-        requires writes { O.failed outlet.old + 1 < 2 ^ 64 }
-        ensures did { PushesBytes setting.now (O.taken outlet.old) (O.taken outlet.new)
-            self.old self.new bytes.now result }
-        ensures failures { PushFails (O.failed outlet.old) (O.failed outlet.new) result }
-        ensures room { length levels.new ≡ length levels.old }
-    {
-        let width = setting.width() as usize;
-        let count = bytes.len() / width;
-        let found = levels_of(setting, &bytes[..count * width], &mut levels[..count]);
-        match self.push_each(&levels[..found], outlet) {
-            Ok(()) => {}
-            Err(_) => return Err(Fault::Write),
-        }
-        if found < count {
-            return Err(Fault::SampleOutOfRange {
-                index: self.samples,
-            });
+            at += self.push(&levels[at..], outlet)?;
         }
         Ok(())
     }
@@ -233,20 +188,24 @@ impl<const N: usize> Encoding<N> {
         outlet: &mut O,
     ) -> Result<(), Fault>
         requires ready { CanPush setting.now (O.taken outlet.old) self.old bytes.now }
-        requires some { (0 < length levels.old) × (length levels.old ≤ most_input) }
+        requires some { 0 < length levels.old }
         requires writes { O.failed outlet.old + 1 < 2 ^ 64 }
         ensures did { PushesBytes setting.now (O.taken outlet.old) (O.taken outlet.new)
             self.old self.new bytes.now result }
         ensures failures { PushFails (O.failed outlet.old) (O.failed outlet.new) result }
-        ensures room { length levels.new ≡ length levels.old }
     {
-        let most = setting.width() as usize * levels.len();
+        let width = setting.width() as usize;
         let mut at = 0;
-        while at < bytes.len() {
-            let count = most.min(bytes.len() - at);
-            match self.push_part(setting, &bytes[at..at + count], levels, outlet) {
-                Ok(()) => at += count,
-                Err(why) => return Err(why),
+        while width <= bytes.len() - at {
+            let count = first_levels(setting, &bytes[at..], levels);
+            if count == 0 {
+                return Err(Fault::SampleOutOfRange {
+                    index: self.samples,
+                });
+            }
+            match self.push_each(&levels[..count], outlet) {
+                Ok(()) => at += width * count,
+                Err(_) => return Err(Fault::Write),
             }
         }
         Ok(())
@@ -307,53 +266,16 @@ impl<const N: usize> Encoding<N> {
     }
 }
 
-/// Returns the number of bytes to request next, with `given` read so far and `waiting` left in the buffer.
-fn piece(given: u64, waiting: usize) -> usize
-    requires { waiting < 4 }
-    ensures some { 0 < result }
-    ensures most { result + waiting ≤ most_at_once }
-    ensures limit { given < most_input → given + result ≤ most_input }
-    ensures last { most_input ≤ given → result ≡ 1 }
+/// Returns the fault of an encoding whose next sample, number `index`, can not be read.
+fn fault_at(fault: SampleFault, index: u64) -> Fault
+    ensures { result ≡ fault_at fault index }
 {
-    if given < LIMIT {
-        (LIMIT - given).min((PIECE - waiting) as u64) as usize
-    } else {
-        1
+    match fault {
+        SampleFault::Read => Fault::Read,
+        SampleFault::Cut => Fault::SampleCut { index },
+        SampleFault::TooLong => Fault::TooLong,
+        SampleFault::OutOfRange => Fault::SampleOutOfRange { index },
     }
-}
-
-/// Puts the next bytes, at most `most`, after those that wait in the buffer, and returns their number.
-fn refill<I: Intake>(
-    intake: &mut I,
-    buffer: &mut [u8],
-    waiting: usize,
-    most: usize,
-) -> Result<usize, ReadFault>
-    requires some { 0 < most }
-    requires room { waiting + most ≤ length buffer.old }
-    requires countable { I.failed intake.old + 1 < 2 ^ 64 }
-    ensures count { IfOk result (λ n. n ≤ most) }
-    ensures bytes { IfOk result (λ n.
-        Refills (I.left intake.old) (I.left intake.new) buffer.old buffer.new waiting n) }
-    ensures end { IfOk result (λ n. n ≡ 0 → IsAtEnd (I.left intake.new)) }
-    ensures err { OnErr result (Keeps (I.left intake.old) (I.left intake.new)) }
-    ensures failures { CountsFailure (I.failed intake.old) (I.failed intake.new) result }
-{
-    let end = waiting + most;
-    match intake.fill(&mut buffer[waiting..end]) {
-        Ok(count) => Ok(count),
-        Err(fault) => Err(fault),
-    }
-}
-
-/// Moves the last `waiting` bytes before `filled` to the front.
-fn carry(buffer: &mut [u8], filled: usize, waiting: usize)
-    requires order { waiting ≤ filled }
-    requires within { filled ≤ length buffer.old }
-    ensures front { take waiting buffer.new ≡ drop (filled - waiting) (take filled buffer.old) }
-    ensures len { length buffer.new ≡ length buffer.old }
-{
-    buffer.copy_within(filled - waiting..filled, 0);
 }
 
 /// Encodes the samples that the intake's bytes spell, and writes their code to the outlet.
@@ -402,34 +324,20 @@ fn encode_in_row<const N: usize, I: Intake, O: Outlet>(
         (O.failed outlet.old) (O.failed outlet.new) }
     ensures bounds { EncodesWithin setting.now result.report }
 {
-    let width = setting.width() as usize;
     let mut encoding = Encoding::<N>::new(*setting);
-    let mut buffer = [0u8; PIECE];
+    let mut samples = SampleReader::new(*setting);
     let mut levels = [0u32; SAMPLES];
-    let mut waiting = 0;
-    let mut given = 0u64;
-    'fill_all: loop {
-        let count = match refill(intake, &mut buffer, waiting, piece(given, waiting)) {
+    'encode_all: loop {
+        let count = match samples.next(intake, &mut levels) {
             Ok(count) => count,
-            Err(_) => return encoding.stopped(Fault::Read),
+            Err(fault) => return encoding.stopped(fault_at(fault, encoding.taken())),
         };
         if count == 0 {
-            if waiting > 0 {
-                let index = encoding.samples;
-                return encoding.stopped(Fault::SampleCut { index });
-            }
             return encoding.finish(outlet);
         }
-        if given >= LIMIT {
-            return encoding.stopped(Fault::TooLong);
-        }
-        given += count as u64;
-        let filled = waiting + count;
-        match encoding.push_all(setting, &buffer[..filled], &mut levels, outlet) {
+        match encoding.push_each(&levels[..count], outlet) {
             Ok(()) => {}
-            Err(fault) => return encoding.stopped(fault),
+            Err(_) => return encoding.stopped(Fault::Write),
         }
-        waiting = filled % width;
-        carry(&mut buffer, filled, waiting);
     }
 }

@@ -8,11 +8,11 @@ ghost use Rattle.rice_stream.specs.Encodes.{EncodesWithin};
 ghost use Rattle.rice_stream.specs.EncodingState.{PushFails};
 ghost use Rattle.rice_stream.specs.Feeding.{IsSomeSeam, EncodesOn, EncodesToEnd};
 
-use crate::encoding::{Encoding, LIMIT, LONGEST, SAMPLES, SHORT, has_short_intervals};
+use crate::encoding::{Encoding, LONGEST, SAMPLES, SHORT, has_short_intervals};
 use crate::outcome::{Fault, Outcome};
 use crate::seam::Seam;
 use rice_bits::Outlet;
-use rice_samples::Setting;
+use rice_samples::{MOST_INPUT, Setting};
 
 /// Encodes the next samples, which the bytes spell, and returns where their code ends.
 ///
@@ -62,10 +62,7 @@ fn encode_more_in_row<const N: usize, O: Outlet>(
     let mut encoding = Encoding::<N>::resume(*setting, seam);
     encoding.put_bits_of_seam(seam);
     let mut levels = [0u32; SAMPLES];
-    match encoding.push_all(setting, part, &mut levels, outlet) {
-        Ok(()) => {}
-        Err(fault) => return Err(fault),
-    }
+    encoding.push_all(setting, part, &mut levels, outlet)?;
     Ok(encoding.seam())
 }
 
@@ -131,7 +128,7 @@ fn bytes_left(width: usize, samples: u64) -> u64
     ensures value { result ≡ most_input - width * samples }
     ensures few { 0 < width → samples + result ≤ most_input }
 {
-    LIMIT.saturating_sub(width as u64 * samples)
+    MOST_INPUT.saturating_sub(width as u64 * samples)
 }
 
 /// Returns how many of `samples` samples make whole segments.

@@ -213,11 +213,7 @@ fn next_stand(
     let before = reader.taken();
     let mut meter = Meter::new();
     meter.tick(stand.steps);
-    let step = match decoder.next_levels(reader, &mut meter, levels) {
-        Ok(step) => step,
-        Err(fault) => return Err(fault),
-    };
-    match step {
+    match decoder.next_levels(reader, &mut meter, levels)? {
         NextBlock::Block => {}
         NextBlock::Done => return Ok(None),
     }

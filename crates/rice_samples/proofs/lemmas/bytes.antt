@@ -1,5 +1,7 @@
 -- Spelling, and reading samples from bytes.
+pub mod BufferLemmas
 pub mod ByteLanes
+pub mod GivenSamples
 pub mod LevelPatterns
 pub mod ReadLevels
 pub mod ReadSamples

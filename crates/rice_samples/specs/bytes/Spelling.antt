@@ -37,6 +37,11 @@ pub record Spells (s : Parameters) (bytes : List ℕ) (samples : List ℤ) (stop
   pub legal : All (IsSample s) samples
   pub stops : EndsSpelling s rest stop
 
+-- bytes that spell samples, and what is after them
+pub record Reads (s : Parameters) (bytes : List ℕ) (samples : List ℤ) (rest : List ℕ) : Type 0 where
+  pub split : bytes ≡ spellings s samples ++ rest
+  pub legal : All (IsSample s) samples
+
 -- The first `count` of some numbers are the samples that bytes spell, up to the first bytes that spell none.
 pub record ReadsSamples (s : Parameters) (bytes : List ℕ) (numbers : List ℤ) (count : ℕ) : Type 0 where
   pub legal : All (IsSample s) (take count numbers)

@@ -1,7 +1,7 @@
 //! Levels of samples from the bytes of several.
-ghost use Rattle.std.specs.Prelude.{◌≡◌, true, ◌*◌, ◌^◌, ◌<◌, ◌≤◌, All, length, take};
+ghost use Rattle.std.specs.Prelude.{◌≡◌, true, ◌*◌, ◌^◌, ◌<◌, ◌≤◌, All, length, take, drop};
 ghost use Rattle.rice_samples.specs.Parameters.{value_count, values_at, width as width_of};
-ghost use Rattle.rice_samples.specs.bytes.Spelling.{ReadsSamples, spellings};
+ghost use Rattle.rice_samples.specs.bytes.Spelling.{Reads, ReadsSamples, IsNoSpelling, spellings};
 ghost use Rattle.rice_samples.specs.bytes.Values.{offset};
 
 use crate::Setting;
@@ -24,6 +24,25 @@ pub fn levels_of(setting: &Setting, bytes: &[u8], levels: &mut [u32]) -> usize
         return levels.len();
     }
     read_each(setting, bytes, levels)
+}
+
+/// Reads the levels of the samples at the front of the bytes, as many as are whole and `levels` has room for, up to the first bytes
+/// that spell no sample, and returns their number. What `levels` holds after them is unspecified.
+pub fn first_levels(setting: &Setting, bytes: &[u8], levels: &mut [u32]) -> usize
+    requires some { width_of setting.now ≤ length bytes.now }
+    requires room { 0 < length levels.old }
+    ensures count { result ≤ length levels.new }
+    ensures len { length levels.new ≡ length levels.old }
+    ensures legal { All (λ l. l < value_count setting.now) (take result levels.new) }
+    ensures within { width_of setting.now * result ≤ length bytes.now }
+    ensures reads { Reads setting.now bytes.now (take result (values_at setting.now levels.new))
+        (drop (width_of setting.now * result) bytes.now) }
+    // Nothing is read only where the first bytes spell no sample.
+    ensures none { result ≡ 0 → IsNoSpelling setting.now bytes.now }
+{
+    let width = setting.width() as usize;
+    let count = levels.len().min(bytes.len() / width);
+    levels_of(setting, &bytes[..width * count], &mut levels[..count])
 }
 
 /// Returns whether all of these are levels of samples.

@@ -1,5 +1,5 @@
 -- A coder at work takes a sample, writes, and ends.
-use Rattle.std.proofs.Common.{◌≡◌, ℕ, ◌+◌, ◌-◌, ◌*◌, ◌<◌, ◌≤◌, Bool, List, [], ◌∷◌, ◌++◌, length, take, drop, replicate, false, refl, ap, arith, sym, ◌∙◌, subst, append_assoc, append-nil, length-append, length-drop, take-append-drop, Option, ℤ, pos, zero, suc}
+use Rattle.std.proofs.Common.{◌≡◌, ℕ, ◌+◌, ◌*◌, ◌<◌, ◌≤◌, Bool, List, [], ◌∷◌, ◌++◌, length, take, drop, replicate, false, refl, ap, arith, sym, ◌∙◌, subst, append_assoc, append-nil, length-append, length-drop, take-append-drop, Option, ℤ, pos, zero, suc}
 use Rattle.std.specs.Prelude.{All, sum_by}
 use Rattle.std.specs.Int.{div_ceil}
 use Rattle.rice_code.specs.code.CodedDataSets.{bits_of_set}
@@ -10,26 +10,26 @@ use Rattle.rice_bits.specs.device.Outlet.{Room, Appends}
 use Rattle.rice_bits.proofs.lemmas.device.OutletLemmas.{Appends-nil, Appends-trans}
 use Rattle.rice_bits.proofs.lemmas.bits.Bytes.{whole_short}
 use Rattle.rice_bits.specs.Bits.{bits_in_bytes, bits_to_byte, padded_bits, whole_bytes}
-use Rattle.rice_samples.specs.Parameters.{Parameters, IsSample, width}
+use Rattle.rice_samples.specs.Parameters.{Parameters, IsSample}
 use Rattle.rice_samples.specs.Places.{block_count, cut}
 use Rattle.rice_samples.specs.predict.Residuals.{filled_samples}
-use Rattle.rice_samples.specs.bytes.Spelling.{spellings}
+use Rattle.rice_samples.specs.bytes.Spelling.{Reads, spellings}
 use Rattle.rice_code.specs.encode.Coder.{HasTaken, IsAlignedWith, AddsCode, PushesSamples, CompletesNone, complete_code}
 use Rattle.rice_code.specs.encode.OpenSegment.{CoderState}
 use Rattle.rice_code.specs.code.Code.{code, code_bits, early_output}
 use Rattle.rice_code.specs.CoderSteps.{least_looks, most_looks, least_looks_at, most_looks_at, least_steps, most_steps, segment_steps}
 use Rattle.rice_code.proofs.lemmas.encode.PushedCode.{segment_steps_few}
-use Rattle.rice_stream.specs.EncodingState.{Beginning, afresh, Follows, CountsSamples, IsEncodingOf, TakesSamples, TakesBetween, FollowsBetween, FailsAt, FailsIn, MeetsFailure, Reads, whole_part}
+use Rattle.rice_stream.specs.EncodingState.{Beginning, afresh, Follows, CountsSamples, IsEncodingOf, TakesSamples, TakesBetween, FollowsBetween, FailsAt, FailsIn, MeetsFailure, whole_part}
 use Rattle.rice_stream.specs.Calls.{StopsBetween}
 use Rattle.rice_stream.specs.Encodes.{ReportsAll}
 use Rattle.rice_stream.specs.FailedWrites.{TakesPart}
 use Rattle.rice_stream.specs.declared.encoding.Encoding.{Encoding}
 use Rattle.rice_stream.specs.declared.outcome.Report.{Report}
+use Rattle.rice_samples.proofs.lemmas.bytes.GivenSamples.{reads_then}
 use Rattle.rice_samples.proofs.lemmas.bytes.SpellingLengths.{spellings-append}
 use Rattle.std.proofs.Math.Seq.{take-append_seam}
-use Rattle.std.proofs.lemmas.List.{length-take-le, drop-take, take-take}
+use Rattle.std.proofs.lemmas.List.{length-take-le}
 use Rattle.std.proofs.lemmas.List.Elements.{All-take}
-use Rattle.std.proofs.Math.Nat.{mul-le-mul_left}
 use Rattle.rice_stream.proofs.lemmas.BoundLemmas.{Settles, taken_settles, early_bounded, all_bounded, few_steps, few_bits}
 use Rattle.rice_stream.proofs.lemmas.WholeBytes.{length-part, more_bytes, more_rest}
 
@@ -263,28 +263,6 @@ samples_end s old now e r sink end xs n h finishes bits samples fill =
       (λ i. sym all i ++ replicate (sym gap i) false) ∙ append_assoc part sink (replicate (bits_to_byte (length sink)) false) ∙ ap (λ l. part ++ l) (sym fill),
     )
 
--- the bytes of the first of some samples
-pub first_of : (s : Parameters) (bytes : List ℕ) (count n : ℕ) (ys : List ℤ) → n ≤ count → take (width s * n) (take (width s * count) bytes) ≡ spellings s ys
-    → All (IsSample s) ys → Reads s bytes ys (drop (width s * n) bytes)
-first_of s bytes count n ys le front legal =
-    let w = width s in
-    let more : w * n ≤ w * count = mul-le-mul_left w le in
-    let first = take-take (w * n) (w * count) bytes more in
-    record { split = sym (take-append-drop (w * n) bytes) ∙ ap (λ l. l ++ drop (w * n) bytes) (sym first ∙ front); legal = legal }
-
--- what stands after them
-pub behind_them : (s : Parameters) (bytes : List ℕ) (count n : ℕ) → n < count → width s * count ≤ length bytes → (width s ≤ length (drop (width s * n) bytes))
-    × (take (width s) (drop (width s * n) (take (width s * count) bytes)) ≡ take (width s) (drop (width s * n) bytes))
-behind_them s bytes count n lt within =
-    let w = width s in
-    let more : w * (n + 1) ≤ w * count = mul-le-mul_left w (omega arith) in
-    let same : w * n + (w + (w * count - w * n - w)) ≡ w * count = omega arith in
-    let len = length-drop (w * n) bytes in (
-      omega (arith, len, more, within),
-      ap (λ m. take w (drop (w * n) (take m bytes))) (sym same) ∙ ap (take w) (drop-take (w * n) (w + (w * count - w * n - w)) bytes)
-          ∙ take-take w (w + (w * count - w * n - w)) (drop (w * n) bytes) (omega arith),
-    )
-
 All-front : {X : Type 0} (P : X → Type 0) (xs ys : List X) → All P (xs ++ ys) → All P xs
 All-front P xs ys h = subst (All P) (take-append_seam xs ys) (All-take P (length xs) (xs ++ ys) h)
 
@@ -304,3 +282,14 @@ fails_among s old new e xs ys bytes rest reads f =
       };
       fails = f.fails;
     }
+
+-- and others stand before them
+pub fails_behind : {N : ℕ} (s : Parameters) (old : Beginning) (new : Option Room) (e : Encoding N) (xs more : List ℤ) (bytes rest : List ℕ) → Reads s bytes more rest
+    → MeetsFailure s old new e (xs ++ more) rest → MeetsFailure s old new e xs bytes
+fails_behind s old new e xs more bytes rest reads m = record {
+  more = more ++ m.more;
+  last = m.last;
+  rest = m.rest;
+  reads = subst (λ (ys : List ℤ). Reads s bytes ys m.rest) (sym (append_assoc more m.more (m.last ∷ []))) (reads_then s bytes rest m.rest more (m.more ++ m.last ∷ []) reads m.reads);
+  fails = subst (λ (ys : List ℤ). FailsAt s old new e ys m.last) (append_assoc xs more m.more) m.fails;
+}

@@ -1,73 +1,48 @@
 -- Samples are taken from one part of the bytes after another.
-use Rattle.std.proofs.Common.{◌≡◌, ℕ, ◌+◌, ◌*◌, ◌<◌, ◌≤◌, List, [], ◌∷◌, ◌++◌, length, Option, Err, refl, ap, arith, sym, ◌∙◌, subst, append_assoc, append-nil, length-append, inl, inr, ℤ}
-use Rattle.std.specs.Prelude.{All}
+use Rattle.std.proofs.Common.{◌≡◌, ℕ, ◌+◌, ◌*◌, ◌<◌, ◌≤◌, List, [], ◌∷◌, ◌++◌, length, Option, Err, refl, ap, arith, sym, ◌∙◌, append-nil, length-append, inl, inr, ℤ}
 use Rattle.std.proofs.Math.Nat.{mul-le-mul_left}
 use Rattle.std.proofs.lemmas.Bool.{cases_lt}
 use Rattle.std.proofs.lemmas.List.{take-append-le}
-use Rattle.std.proofs.lemmas.List.Elements.{All-append}
 use Rattle.rice_bits.specs.device.Outlet.{Room}
-use Rattle.rice_samples.specs.Parameters.{Parameters, IsSample, width}
-use Rattle.rice_samples.specs.bytes.Spelling.{spellings, EndsSpelling, NoSpelling}
-use Rattle.rice_stream.specs.EncodingState.{Beginning, IsEncodingOf, FailsAt, Reads, TakesAll, Pushes}
+use Rattle.rice_samples.specs.Parameters.{Parameters, width}
+use Rattle.rice_samples.specs.bytes.Spelling.{Reads, spellings, EndsSpelling, NoSpelling}
+use Rattle.rice_stream.specs.EncodingState.{Beginning, Pushes}
 use Rattle.rice_stream.specs.declared.encoding.Encoding.{Encoding}
 use Rattle.rice_stream.specs.declared.outcome.Fault.{Fault}
 use Rattle.rice_stream.specs.declared.outcome.Fault.TheVariants.{Read, Write, TooLong, SampleOutOfRange, SampleCut, CodeEnds, RunPastSegment, ResidualTooLarge}
-use Rattle.rice_samples.proofs.lemmas.bytes.SpellingLengths.{length-spellings, spellings-append}
-
--- the samples of one part, and then those of the next
-reads_on : (s : Parameters) (xs ys : List ℤ) (front part rest : List ℕ) → front ≡ spellings s xs → All (IsSample s) xs → Reads s part ys rest → Reads s (front ++ part) (xs ++ ys) rest
-reads_on s xs ys front part rest spelled legal r = record {
-  split = (λ i. spelled i ++ r.split i) ∙ sym (append_assoc (spellings s xs) (spellings s ys) rest) ∙ ap (λ l. l ++ rest) (sym (spellings-append s xs ys));
-  legal = All-append (IsSample s) xs ys legal r.legal;
-}
-
--- bytes after them change nothing
-reads_before : (s : Parameters) (xs : List ℤ) (bytes rest behind : List ℕ) → Reads s bytes xs rest → Reads s (bytes ++ behind) xs (rest ++ behind)
-reads_before s xs bytes rest behind r = record {
-  split = ap (λ l. l ++ behind) r.split ∙ append_assoc (spellings s xs) rest behind;
-  legal = r.legal;
-}
+use Rattle.rice_samples.proofs.lemmas.bytes.GivenSamples.{reads_before}
+use Rattle.rice_samples.proofs.lemmas.bytes.SpellingLengths.{length-spellings}
 
 -- what spells no sample spells none with more behind it
 no_spelling_before : (s : Parameters) (rest behind : List ℕ) → EndsSpelling s rest NoSpelling → EndsSpelling s (rest ++ behind) NoSpelling
 no_spelling_before s rest behind h = (omega (arith, h.0, length-append rest behind), λ x k e. h.1 x k (sym (take-append-le (width s) rest behind h.0) ∙ e))
 
-module _ {N : ℕ} (s : Parameters) (old : Beginning) (new : Option Room) (e : Encoding N) (xs more : List ℤ) (front part : List ℕ)
-    (spelled : front ≡ spellings s more) (legal : All (IsSample s) more) where
-  pub takes_on : TakesAll s old new e (xs ++ more) part → TakesAll s old new e xs (front ++ part)
-  takes_on h = record {
-    more = more ++ h.more;
-    rest = h.rest;
-    reads = reads_on s more h.more front part h.rest spelled legal h.reads;
-    few = h.few;
-    holds = subst (λ (l : List ℤ). IsEncodingOf s old new e l) (append_assoc xs more h.more) h.holds;
-  }
-
-  pub stops_on : (behind : List ℕ) (fault : Fault) → Pushes {T = Unit {0}} s old new e (xs ++ more) part (Err fault) → Pushes {T = Unit {0}} s old new e xs ((front ++ part) ++ behind) (Err fault)
-  stops_on behind (SampleOutOfRange index) (h, named) = (
-    record {
-      more = more ++ h.more;
-      rest = h.rest ++ behind;
-      reads = reads_before s (more ++ h.more) (front ++ part) h.rest behind (reads_on s more h.more front part h.rest spelled legal h.reads);
-      none = no_spelling_before s h.rest behind h.none;
-      holds = subst (λ (l : List ℤ). IsEncodingOf s old new e l) (append_assoc xs more h.more) h.holds;
-    },
-    named,
-  )
-  stops_on behind Write h = record {
-    more = more ++ h.more;
-    last = h.last;
+-- behind the bytes where taking stops may stand any others
+pub stops_before : {N : ℕ} (s : Parameters) (old : Beginning) (new : Option Room) (e : Encoding N) (xs : List ℤ) (bytes behind : List ℕ) (fault : Fault)
+    → Pushes {T = Unit {0}} s old new e xs bytes (Err fault) → Pushes {T = Unit {0}} s old new e xs (bytes ++ behind) (Err fault)
+stops_before s old new e xs bytes behind (SampleOutOfRange index) (h, named) = (
+  record {
+    more = h.more;
     rest = h.rest ++ behind;
-    reads = reads_before s ((more ++ h.more) ++ h.last ∷ []) (front ++ part) h.rest behind
-        (subst (λ (l : List ℤ). Reads s (front ++ part) l h.rest) (sym (append_assoc more h.more (h.last ∷ []))) (reads_on s more (h.more ++ h.last ∷ []) front part h.rest spelled legal h.reads));
-    fails = subst (λ (l : List ℤ). FailsAt s old new e l h.last) (append_assoc xs more h.more) h.fails;
-  }
-  stops_on behind Read h = absurd h
-  stops_on behind TooLong h = absurd h
-  stops_on behind (SampleCut index) h = absurd h
-  stops_on behind (CodeEnds samples) h = absurd h
-  stops_on behind (RunPastSegment block) h = absurd h
-  stops_on behind (ResidualTooLarge block) h = absurd h
+    reads = reads_before s h.more bytes h.rest behind h.reads;
+    none = no_spelling_before s h.rest behind h.none;
+    holds = h.holds;
+  },
+  named,
+)
+stops_before s old new e xs bytes behind Write h = record {
+  more = h.more;
+  last = h.last;
+  rest = h.rest ++ behind;
+  reads = reads_before s (h.more ++ h.last ∷ []) bytes h.rest behind h.reads;
+  fails = h.fails;
+}
+stops_before s old new e xs bytes behind Read h = absurd h
+stops_before s old new e xs bytes behind TooLong h = absurd h
+stops_before s old new e xs bytes behind (SampleCut index) h = absurd h
+stops_before s old new e xs bytes behind (CodeEnds samples) h = absurd h
+stops_before s old new e xs bytes behind (RunPastSegment block) h = absurd h
+stops_before s old new e xs bytes behind (ResidualTooLarge block) h = absurd h
 
 -- nothing is left of a part that has the bytes of whole samples
 pub none_left : (s : Parameters) (more : List ℤ) (bytes rest : List ℕ) (k : ℕ) → Reads s bytes more rest → length rest < width s → length bytes ≡ width s * k → bytes ≡ spellings s more

@@ -1,7 +1,6 @@
 -- The code between two segments: what is kept of it, and how it goes on.
 use Rattle.std.proofs.Common.{◌≡◌, ℕ, ◌+◌, ◌-◌, ◌*◌, ◌/◌, ◌%◌, ◌^◌, ◌<◌, ◌≤◌, ◌++◌, Bool, false, List, [], ◌∷◌, length, take, drop, replicate, slice_index_or, Option, Some, None, Err, refl, ap, sym, ◌∙◌, subst, arith, inl, inr, append-nil, length-append, take-append-drop, ℤ}
 use Rattle.std.proofs.lemmas.Bool.{cases_lt}
-use Rattle.std.proofs.lemmas.Bool.Decides.{nat_tests}
 use Rattle.std.proofs.lemmas.List.{take_at, length-take-le, length-replicate}
 use Rattle.std.proofs.lemmas.Nat.{shr_below}
 use Rattle.std.proofs.Math.Nat.{mul-le-mul_left, mul-mod_right, div-add-mod}
@@ -12,14 +11,14 @@ use Rattle.rice_bits.proofs.lemmas.bits.Bytes.{bits_of-padded, length-bits_of}
 use Rattle.rice_bits.proofs.lemmas.bits.Words.{length-word, word-nil, word-split}
 use Rattle.rice_samples.specs.Parameters.{Parameters, IsLegal, width}
 use Rattle.rice_samples.specs.Places.{cut}
-use Rattle.rice_samples.specs.bytes.Spelling.{spellings}
+use Rattle.rice_samples.specs.bytes.Spelling.{Reads, spellings}
 use Rattle.rice_samples.proofs.lemmas.setting.CutLemmas.{cut_is_start, cut_is_greatest}
 use Rattle.rice_code.specs.code.Code.{early_output}
 use Rattle.rice_code.specs.encode.Coder.{HasTaken}
 use Rattle.rice_code.specs.encode.OpenSegment.{state_between}
 use Rattle.rice_code.proofs.lemmas.encode.PushedCode.{holds_nothing, between_all}
 use Rattle.rice_stream.specs.Encodes.{ReportsTaken, ReportsAll}
-use Rattle.rice_stream.specs.EncodingState.{Beginning, CountsSamples, IsEncodingOf, Reads, TakesAll, Pushes, WritesRest}
+use Rattle.rice_stream.specs.EncodingState.{Beginning, CountsSamples, IsEncodingOf, TakesAll, Pushes, WritesRest}
 use Rattle.rice_stream.specs.Feeding.{IsSeam, behind, bytes_in_all, samples_to_take, TakesPiece, EncodesMore, AreAll, EncodesRest}
 use Rattle.rice_stream.specs.declared.encoding.Encoding.{Encoding}
 use Rattle.rice_stream.specs.declared.outcome.Fault.{Fault}
@@ -27,8 +26,8 @@ use Rattle.rice_stream.specs.declared.outcome.Fault.TheVariants.{Read, Write, To
 use Rattle.rice_stream.specs.declared.outcome.Report.{Report}
 use Rattle.rice_stream.specs.declared.seam.Seam.{Seam}
 use Rattle.rice_stream.proofs.lemmas.EncodingLemmas.{counts_small}
-use Rattle.rice_stream.proofs.lemmas.SamplesInParts.{stops_on, none_left, few_more}
-use Rattle.rice_samples.proofs.lemmas.bytes.SpellingLengths.{length-spellings}
+use Rattle.rice_stream.proofs.lemmas.SamplesInParts.{stops_before, none_left, few_more}
+use Rattle.rice_samples.proofs.lemmas.bytes.SpellingLengths.{some_width, length-spellings}
 
 pub no_bits : (bits : List Bool) → length bits ≡ 0 → word (length bits) 0 ≡ bits
 no_bits [] e = word-nil 0
@@ -76,9 +75,6 @@ pub byte_fits : (x n k : ℕ) → x < 256 → n < 8 → k ≡ n → x / 2 ^ (8 -
 byte_fits x n k byte few is = shr_below x n (8 - k) (let e : n + (8 - k) ≡ 8 = omega arith in subst (λ m. x < 2 ^ m) (sym e) byte)
 
 -- ---- where the code goes on
-
-pub some_width : (s : Parameters) → 1 ≤ width s
-some_width s = grind (arith, nat_tests)
 
 abbrev pub encoding_at : (N : ℕ) → Parameters → Seam → Encoding N
 encoding_at N s seam = record { coder = state_between s seam.start seam.previous; sink = word seam.waiting_bits seam.waiting; meter = seam.steps; samples = seam.samples; bits = seam.bits }
@@ -186,8 +182,7 @@ pub stopped_in : {N : ℕ} (s : Parameters) (old : Beginning) (new : Option Room
     → Pushes {T = Unit {0}} s old new e xs (take k bytes) (Err f) → Pushes {T = Unit {0}} s old new e xs bytes (Err f)
 stopped_in s old new e xs bytes k f h =
     subst (λ (l : List ℕ). Pushes {T = Unit {0}} s old new e xs l (Err f)) (take-append-drop k bytes)
-    (stops_on s old new e xs [] [] (take k bytes) refl (λ k d lt. absurd (omega arith)) (drop k bytes) f
-    (subst (λ (l : List ℤ). Pushes {T = Unit {0}} s old new e l (take k bytes) (Err f)) (sym (append-nil xs)) h))
+    (stops_before s old new e xs (take k bytes) (drop k bytes) f h)
 
 -- a sample that is refused is one of those that these bytes are of
 refused_within : (s : Parameters) (more : List ℤ) (part rest : List ℕ) (count : ℕ) → Reads s part more rest → width s ≤ length rest → length part ≤ width s * count → length more < count

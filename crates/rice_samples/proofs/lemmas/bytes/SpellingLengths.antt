@@ -1,6 +1,7 @@
 -- How many bytes samples take.
-use Rattle.std.proofs.Common.{◌≡◌, ℕ, zero, suc, ◌+◌, ◌*◌, Bool, true, false, cond, List, [], ◌∷◌, ◌++◌, length, refl, ap, arith, ◌∙◌, length-append, ℤ}
+use Rattle.std.proofs.Common.{◌≡◌, ℕ, zero, suc, ◌+◌, ◌*◌, ◌≤◌, Bool, true, false, cond, List, [], ◌∷◌, ◌++◌, length, refl, ap, arith, ◌∙◌, length-append, ℤ}
 use Rattle.std.specs.Int.{bytes_low_first, bytes_high_first}
+use Rattle.std.proofs.lemmas.Bool.Decides.{nat_tests}
 use Rattle.std.proofs.lemmas.Grind.{flat_map-append}
 use Rattle.rice_samples.specs.Parameters.{Parameters, width}
 use Rattle.rice_samples.specs.predict.Residuals.{twos_complement}
@@ -30,3 +31,10 @@ length-spellings s (x ∷ xs) = length-append (spelling s x) (spellings s xs) �
 
 pub spellings-append : (s : Parameters) (xs ys : List ℤ) → spellings s (xs ++ ys) ≡ spellings s xs ++ spellings s ys
 spellings-append s xs ys = flat_map-append (spelling s) xs ys
+
+-- a sample has one byte to four
+pub some_width : (s : Parameters) → 1 ≤ width s
+some_width s = grind (arith, nat_tests)
+
+pub narrow_width : (s : Parameters) → width s ≤ 4
+narrow_width s = grind (arith, nat_tests)

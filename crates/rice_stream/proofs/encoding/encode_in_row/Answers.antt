@@ -1,31 +1,32 @@
-use Rattle.std.proofs.Common.{arith, rules, ◌∷◌, ◌≡◌, ◌≢◌, ◌+◌, ◌<◌, ◌≤◌, ◌++◌, List, [], length, length-append, take, refl, ap, ◌∙◌, subst, ℕ}
-use Rattle.std.proofs.lemmas.List.{length-take, length-take-le}
-use Rattle.std.specs.Io.KnownBytes.{Consumes}
-use Rattle.std.proofs.KnownBytes.{Consumes-nil, Consumes-trans}
-use Rattle.rice_samples.specs.Parameters.{width}
-use Rattle.rice_stream.specs.EncodingState.{afresh}
+use Rattle.std.proofs.Common.{arith, rules, ◌≡◌, ◌+◌, ◌*◌, ◌<◌, ◌≤◌, ◌++◌, ◌∷◌, List, [], length, length-append, take, refl, ap, sym, ◌∙◌, subst, ℕ, ℤ, Option, Some}
+use Rattle.std.specs.Prelude.{All}
+use Rattle.std.proofs.lemmas.List.{length-take-le, take-map}
+use Rattle.std.proofs.KnownBytes.{Consumes-nil}
+use Rattle.rice_samples.specs.Parameters.{Parameters, value_at, value_count, values_at, width}
+use Rattle.rice_samples.specs.bytes.SamplesAhead.{GivesSamples}
+use Rattle.rice_samples.proofs.lemmas.setting.ValuesAt.{length-values}
+use Rattle.rice_stream.specs.EncodingState.{afresh, FailsIn, IsEncodingOf}
+use Rattle.rice_stream.specs.Encodes.{fault_at, EncodesBetween}
+use Rattle.rice_stream.specs.declared.outcome.Fault.{Fault}
 use Rattle.rice_stream.proofs.lemmas.EncodingLemmas.{settled_by}
-use Rattle.rice_stream.proofs.lemmas.EncodingEnds.{within_early, within_all, read_ends, cut_ends, long_ends, finish_ends, push_ends, push_fails, push_within, in_hand, runs_on, runs_count}
+use Rattle.rice_stream.proofs.lemmas.EncodingEnds.{within_early, within_all, few_given, reads_further, reads_none, reading_ends, reading_fails, finish_ends, writing_ends}
 use Rattle.rice_stream.proofs.encoding.encode_in_row.Goals as goal
 
--- no bytes
-nothing : (l : List ℕ) → length l ≡ 0 → l ≡ []
-nothing [] e = refl
-nothing (x ∷ l) e = absurd (omega arith)
+-- so many samples are taken
+taken_count : (s : Parameters) (levels : List ℕ) (n : ℕ) → n ≤ length levels → (length (take n levels) ≡ n) × (length (take n (values_at s levels)) ≡ n)
+taken_count s levels n le = (length-take-le n levels le, length-take-le n (values_at s levels) (omega (arith, length-values s levels)))
 
-pub fill_all-init : goal.fill_all-init
-fill_all-init g c = record {
+pub encode_all-init : goal.encode_all-init
+encode_all-init g c = record {
   runs = record {
     bytes = [];
     samples = [];
-    reads = record { split = refl; legal = λ k d lt. absurd (omega arith) };
-    count = refl;
-    limit = omega arith;
-    few = omega (arith, c.width-width.ensures.value, c.width-width.ensures.range);
+    setting = ap (λ r. r.setting) c.new-samples.ensures;
+    reads = record { split = ap (λ r. r.waiting) (sym c.new-samples.ensures); legal = λ k d lt. absurd (omega arith) };
+    count = ap (λ r. r.given) c.new-samples.ensures;
     gave = Consumes-nil (g.I.Intake.left c.args.intake.now);
     holds = c.new-encoding.ensures (g.O.Outlet.taken c.args.outlet.now);
   };
-  size = refl;
   room = refl;
   reads = refl;
   writes = refl;
@@ -33,180 +34,144 @@ fill_all-init g c = record {
 
 pub returns-in-Err-clause-call : goal.returns-in-Err-clause-call
 returns-in-Err-clause-call g c =
-    let s = c.args.setting.now in
-    let i = c.fill_all.invariant in
-    let few : length (take c.fill_all.waiting c.fill_all.buffer) < width s = omega
-    (arith, i.runs.few, length-take-le c.fill_all.waiting c.fill_all.buffer (omega (arith, i.size, i.runs.few, c.width-width.ensures.value, c.width-width.ensures.range))) in
-    read_ends s (g.I.Intake.left c.args.intake.now) (g.I.Intake.left c.refill.new.intake) (g.I.Intake.left c.fill_all.intake) (g.O.Outlet.taken c.args.outlet.now) (g.O.Outlet.taken c.fill_all.outlet)
-    c.fill_all.encoding c.fill_all.given c.fill_all.waiting c.fill_all.buffer c.stopped.result.report c.stopped.result.fault i.runs c.in-Err.ensures.err
-    (λ xs h. c.stopped.ensures.told s xs h) few (omega (arith, c.width-width.ensures.value, c.width-width.ensures.range)) c.stopped.ensures.fault
+    let i = c.encode_all.invariant in
+    let fault = c.fault_at.ensures ∙ ap (fault_at c.in-Err.fault) c.taken.ensures in
+    reading_ends c.args.setting.now (g.I.Intake.left c.args.intake.now) (g.I.Intake.left c.encode_all.intake) (g.I.Intake.left c.next.new.intake)
+    (g.O.Outlet.taken c.args.outlet.now) (g.O.Outlet.taken c.encode_all.outlet) c.encode_all.encoding c.encode_all.samples c.next.new.self c.in-Err.fault
+    c.stopped.result.report c.stopped.result.fault i.runs c.in-Err.ensures.err c.in-Err.ensures.limits.0 c.in-Err.ensures.limits.1
+    (λ xs h. c.stopped.ensures.told c.args.setting.now xs h) (c.stopped.ensures.fault ∙ ap Some fault)
 
 pub returns-in-Err-clause-bounds : goal.returns-in-Err-clause-bounds
 returns-in-Err-clause-bounds g c =
     let s = c.args.setting.now in
-    let i = c.fill_all.invariant in
-    let k = i.runs.holds.counts in
-    within_early s c.stopped.result.report i.runs.samples (settled_by s c.fill_all.encoding i.runs.samples k) (c.stopped.ensures.told s i.runs.samples k)
-
-pub returns-then-waiting-gt0-clause-call : goal.returns-then-waiting-gt0-clause-call
-returns-then-waiting-gt0-clause-call g c =
-    let s = c.args.setting.now in
-    let i = c.fill_all.invariant in
-    let o = c.stopped-then-waiting-gt0 in
-    let n = length-take-le c.fill_all.waiting c.fill_all.buffer (omega (arith, i.size, i.runs.few, c.width-width.ensures.value, c.width-width.ensures.range)) in
-    let few : length (take c.fill_all.waiting c.fill_all.buffer) < width s = omega (arith, i.runs.few, n) in
-    let some : take c.fill_all.waiting c.fill_all.buffer ≢ [] = λ e. omega (arith, ap length e, n, c.if-waiting-gt0.true) in
-    let more = c.in-Ok.ensures.bytes in
-    let none : more.given ≡ [] = nothing more.given (omega (arith, more.length_is, c.if-count-eq0.true)) in
-    cut_ends s (g.I.Intake.left c.args.intake.now) (g.I.Intake.left c.refill.new.intake) (g.I.Intake.left c.fill_all.intake) (g.O.Outlet.taken c.args.outlet.now) (g.O.Outlet.taken c.fill_all.outlet)
-    c.fill_all.encoding c.fill_all.given c.fill_all.waiting c.fill_all.buffer o.result.report o.result.fault i.runs
-    (subst (λ (l : List ℕ). Consumes (g.I.Intake.left c.fill_all.intake) (g.I.Intake.left c.refill.new.intake) l) none more.gave)
-    (c.in-Ok.ensures.end c.if-count-eq0.true) (λ xs h. o.ensures.told s xs h) few (omega (arith, c.width-width.ensures.value, c.width-width.ensures.range)) some o.ensures.fault
-
-pub returns-then-waiting-gt0-clause-bounds : goal.returns-then-waiting-gt0-clause-bounds
-returns-then-waiting-gt0-clause-bounds g c =
-    let s = c.args.setting.now in
-    let i = c.fill_all.invariant in
-    let k = i.runs.holds.counts in
-    within_early s c.stopped-then-waiting-gt0.result.report i.runs.samples (settled_by s c.fill_all.encoding i.runs.samples k) (c.stopped-then-waiting-gt0.ensures.told s i.runs.samples k)
+    let runs = c.encode_all.invariant.runs in
+    let k = runs.holds.counts in
+    within_early s c.stopped.result.report runs.samples (settled_by s c.encode_all.encoding runs.samples k) (c.stopped.ensures.told s runs.samples k)
 
 pub finish-requires : goal.finish-requires
 finish-requires g c =
     let s = c.args.setting.now in
-    let i = c.fill_all.invariant in
-    let n = runs_count s (g.I.Intake.left c.args.intake.now) (g.I.Intake.left c.fill_all.intake) (g.O.Outlet.taken c.args.outlet.now)
-    (g.O.Outlet.taken c.fill_all.outlet) c.fill_all.encoding c.fill_all.given c.fill_all.waiting c.fill_all.buffer i.runs
-    (omega (arith, c.width-width.ensures.value, c.width-width.ensures.range)) (omega (arith, i.size, i.runs.few, c.width-width.ensures.value, c.width-width.ensures.range)) in
-    (search rules, ((s, afresh (g.O.Outlet.taken c.args.outlet.now), i.runs.samples, i.runs.holds, omega (arith, n, i.runs.limit)), omega (arith, c.requires.writes, i.writes)))
+    let i = c.encode_all.invariant in
+    let start = g.O.Outlet.taken c.args.outlet.now in
+    let few = few_given s (g.I.Intake.left c.args.intake.now) (g.I.Intake.left c.encode_all.intake) (g.I.Intake.left c.next.new.intake) start
+    (g.O.Outlet.taken c.encode_all.outlet) c.encode_all.encoding c.encode_all.samples c.next.new.self _ i.runs c.in-Ok.ensures.gives in
+    (search rules, ((s, afresh start, i.runs.samples, i.runs.holds, omega (arith, few, c.in-Ok.ensures.limits.1)), omega (arith, c.requires.writes, i.writes)))
 
 pub returns-then-count-eq0-clause-call : goal.returns-then-count-eq0-clause-call
 returns-then-count-eq0-clause-call g c =
     let s = c.args.setting.now in
-    let i = c.fill_all.invariant in
-    let more = c.in-Ok.ensures.bytes in
-    let none : more.given ≡ [] = nothing more.given (omega (arith, more.length_is, c.if-count-eq0.true)) in
-    let zero : c.fill_all.waiting ≡ 0 = omega (arith, c.if-waiting-gt0.false) in
+    let left = g.I.Intake.left c.encode_all.intake in
+    let new = g.I.Intake.left c.next.new.intake in
     let start = g.O.Outlet.taken c.args.outlet.now in
-    let did = c.finish.ensures.did s (afresh start) i.runs.samples i.runs.holds in
-    finish_ends s (g.I.Intake.left c.args.intake.now) (g.I.Intake.left c.refill.new.intake) (g.I.Intake.left c.fill_all.intake) start
-    (g.O.Outlet.taken c.fill_all.outlet) (g.O.Outlet.taken c.finish.new.outlet)
-    c.fill_all.encoding c.fill_all.given c.fill_all.waiting c.fill_all.buffer c.finish.result.report c.finish.result.fault i.runs
-    (subst (λ (l : List ℕ). Consumes (g.I.Intake.left c.fill_all.intake) (g.I.Intake.left c.refill.new.intake) l) none more.gave) (c.in-Ok.ensures.end c.if-count-eq0.true)
-    (omega (arith, c.width-width.ensures.value, c.width-width.ensures.range)) (ap (λ n. take n c.fill_all.buffer) zero) did.0 did.1
+    let values = values_at c.encode_all.samples.setting c.next.new.levels in
+    let gives = subst (λ (n : ℕ). GivesSamples c.encode_all.samples c.next.new.self left new (take n values)) c.if-count-eq0.true c.in-Ok.ensures.gives in
+    let runs = reads_none s (g.I.Intake.left c.args.intake.now) left new start (g.O.Outlet.taken c.encode_all.outlet) c.encode_all.encoding c.encode_all.samples c.next.new.self
+    c.encode_all.invariant.runs gives in
+    let did = c.finish.ensures.did s (afresh start) runs.samples runs.holds in
+    let end = c.in-Ok.ensures.end c.if-count-eq0.true in
+    finish_ends s (g.I.Intake.left c.args.intake.now) new start (g.O.Outlet.taken c.encode_all.outlet) (g.O.Outlet.taken c.finish.new.outlet) c.encode_all.encoding c.next.new.self
+    c.finish.result.report c.finish.result.fault runs end.1 end.0 c.in-Ok.ensures.limits.1 did.0 did.1
 
 pub returns-then-count-eq0-clause-bounds : goal.returns-then-count-eq0-clause-bounds
 returns-then-count-eq0-clause-bounds g c =
     let s = c.args.setting.now in
-    let i = c.fill_all.invariant in
-    let did = c.finish.ensures.did s (afresh (g.O.Outlet.taken c.args.outlet.now)) i.runs.samples i.runs.holds in
-    within_all s c.finish.result.report i.runs.samples (settled_by s c.fill_all.encoding i.runs.samples i.runs.holds.counts) did.0
+    let runs = c.encode_all.invariant.runs in
+    let did = c.finish.ensures.did s (afresh (g.O.Outlet.taken c.args.outlet.now)) runs.samples runs.holds in
+    within_all s c.finish.result.report runs.samples (settled_by s c.encode_all.encoding runs.samples runs.holds.counts) did.0
 
-pub returns-then-given-ge-LIMIT-clause-call : goal.returns-then-given-ge-LIMIT-clause-call
-returns-then-given-ge-LIMIT-clause-call g c =
+pub push_each-requires : goal.push_each-requires
+push_each-requires g c =
     let s = c.args.setting.now in
-    let i = c.fill_all.invariant in
-    let o = c.stopped-then-given-ge-LIMIT in
-    let few : length (take c.fill_all.waiting c.fill_all.buffer) < width s = omega
-    (arith, i.runs.few, length-take-le c.fill_all.waiting c.fill_all.buffer (omega (arith, i.size, i.runs.few, c.width-width.ensures.value, c.width-width.ensures.range))) in
-    let more = c.in-Ok.ensures.bytes in
-    let one : length more.given ≡ 1 = omega (arith, more.length_is, c.if-count-eq0.false, c.in-Ok.ensures.count, c.piece.ensures.last c.if-given-ge-LIMIT.true) in
-    long_ends s (g.I.Intake.left c.args.intake.now) (g.I.Intake.left c.refill.new.intake) (g.I.Intake.left c.fill_all.intake) (g.O.Outlet.taken c.args.outlet.now) (g.O.Outlet.taken c.fill_all.outlet)
-    c.fill_all.encoding c.fill_all.given c.fill_all.waiting c.fill_all.buffer o.result.report o.result.fault more.given i.runs more.gave one
-    c.if-given-ge-LIMIT.true (λ xs h. o.ensures.told s xs h) few (omega (arith, c.width-width.ensures.value, c.width-width.ensures.range)) o.ensures.fault
-
-pub returns-then-given-ge-LIMIT-clause-bounds : goal.returns-then-given-ge-LIMIT-clause-bounds
-returns-then-given-ge-LIMIT-clause-bounds g c =
-    let s = c.args.setting.now in
-    let i = c.fill_all.invariant in
-    let k = i.runs.holds.counts in
-    within_early s c.stopped-then-given-ge-LIMIT.result.report i.runs.samples (settled_by s c.fill_all.encoding i.runs.samples k) (c.stopped-then-given-ge-LIMIT.ensures.told s i.runs.samples k)
-
-pub push_all-requires : goal.push_all-requires
-push_all-requires g c =
-    let s = c.args.setting.now in
-    let i = c.fill_all.invariant in
-    let most : c.fill_all.waiting ≤ length c.fill_all.buffer = omega (arith, i.size, i.runs.few, c.width-width.ensures.value, c.width-width.ensures.range) in
-    let n = runs_count s (g.I.Intake.left c.args.intake.now) (g.I.Intake.left c.fill_all.intake) (g.O.Outlet.taken c.args.outlet.now)
-    (g.O.Outlet.taken c.fill_all.outlet) c.fill_all.encoding c.fill_all.given c.fill_all.waiting c.fill_all.buffer i.runs
-    (omega (arith, c.width-width.ensures.value, c.width-width.ensures.range)) most in
-    let more = c.in-Ok.ensures.bytes in
-    let limit = c.piece.ensures.limit (omega (arith, c.if-given-ge-LIMIT.false)) in (
+    let i = c.encode_all.invariant in
+    let start = g.O.Outlet.taken c.args.outlet.now in
+    let says = c.in-Ok.ensures in
+    let few = few_given s (g.I.Intake.left c.args.intake.now) (g.I.Intake.left c.encode_all.intake) (g.I.Intake.left c.next.new.intake) start
+    (g.O.Outlet.taken c.encode_all.outlet) c.encode_all.encoding c.encode_all.samples c.next.new.self _ i.runs says.gives in
+    let n = taken_count c.encode_all.samples.setting c.next.new.levels c.in-Ok.count says.count in (
       search rules,
       (
-        (
-          afresh (g.O.Outlet.taken c.args.outlet.now),
-          i.runs.samples,
-          i.runs.holds,
-          omega
-              (arith, n, limit, c.in-Ok.ensures.count, length-take (c.fill_all.waiting + c.in-Ok.count) c.refill.new.buffer),
-        ),
-        ((omega (arith, i.room), omega (arith, i.room)), omega (arith, c.requires.writes, i.writes)),
+        record {
+          setting = s;
+          start = afresh start;
+          before = i.runs.samples;
+          holds = i.runs.holds;
+          legal = subst (λ (s : Parameters). All (λ l. l < value_count s) (take c.in-Ok.count c.next.new.levels)) i.runs.setting says.legal;
+          few = omega (arith, few, n.0, n.1, says.limits.1);
+        },
+        omega (arith, c.requires.writes, i.writes),
       ),
     )
 
-pub returns-in-Err-push_all-clause-call : goal.returns-in-Err-push_all-clause-call
-returns-in-Err-push_all-clause-call g c =
+pub encode_all-smaller : goal.encode_all-smaller
+encode_all-smaller g c =
     let s = c.args.setting.now in
-    let i = c.fill_all.invariant in
-    let o = c.stopped-in-Err-push_all in
+    let runs = c.encode_all.invariant.runs in
     let start = g.O.Outlet.taken c.args.outlet.now in
-    let left_old = g.I.Intake.left c.args.intake.now in
-    let left = g.I.Intake.left c.refill.new.intake in
-    let mid = g.I.Intake.left c.fill_all.intake in
-    let more = c.in-Ok.ensures.bytes in
-    let filled = c.fill_all.waiting + c.in-Ok.count in
-    let bytes = take filled c.refill.new.buffer in
-    push_ends s left_old left start (g.O.Outlet.taken c.push_all.new.outlet) c.push_all.new.self o.result.report c.in-Err-push_all.fault o.result.fault
-    i.runs.samples (i.runs.bytes ++ more.given) bytes
-    (in_hand s left_old left mid start (g.O.Outlet.taken c.fill_all.outlet) c.fill_all.encoding c.fill_all.given c.fill_all.waiting c.in-Ok.count c.fill_all.buffer c.refill.new.buffer i.runs more)
-    i.runs.reads.legal (Consumes-trans left_old mid left i.runs.bytes more.given i.runs.gave more.gave)
-    (omega (
-      arith,
-      length-append i.runs.bytes more.given,
-      more.length_is,
-      i.runs.count,
-      c.in-Ok.ensures.count,
-      c.piece.ensures.limit
-          (omega (arith, c.if-given-ge-LIMIT.false)),
-    )) (omega (arith, c.in-Ok.ensures.count, c.piece.ensures.most, length-take filled c.refill.new.buffer))
-    (omega (arith, c.width-width.ensures.value, c.width-width.ensures.range))
-    (λ xs h. o.ensures.told s xs h) o.ensures.fault (c.in-Err-push_all.ensures.did (afresh start) i.runs.samples i.runs.holds)
+    let says = c.in-Ok.ensures in
+    let few = few_given s (g.I.Intake.left c.args.intake.now) (g.I.Intake.left c.encode_all.intake) (g.I.Intake.left c.next.new.intake) start
+    (g.O.Outlet.taken c.encode_all.outlet) c.encode_all.encoding c.encode_all.samples c.next.new.self _ runs says.gives in
+    let n = taken_count c.encode_all.samples.setting c.next.new.levels c.in-Ok.count says.count in
+    let more = take c.in-Ok.count c.next.new.levels in
+    let all = c.in-Ok-push_each.ensures.ok s (afresh start) runs.samples runs.holds in
+    omega (arith, few, n.0, n.1, says.limits.1, runs.holds.counts.samples, all.counts.samples, length-append runs.samples (values_at s more), length-values s more, c.if-count-eq0.false)
 
-pub returns-in-Err-push_all-clause-failures : goal.returns-in-Err-push_all-clause-failures
-returns-in-Err-push_all-clause-failures g c =
+pub encode_all-preserved : goal.encode_all-preserved
+encode_all-preserved g c =
     let s = c.args.setting.now in
-    let i = c.fill_all.invariant in
+    let i = c.encode_all.invariant in
+    let left = g.I.Intake.left c.encode_all.intake in
+    let new = g.I.Intake.left c.next.new.intake in
     let start = g.O.Outlet.taken c.args.outlet.now in
-    push_fails s (afresh start) (g.O.Outlet.taken c.push_all.new.outlet) c.push_all.new.self i.runs.samples
-    (take (c.fill_all.waiting + c.in-Ok.count) c.refill.new.buffer) c.in-Err-push_all.fault c.stopped-in-Err-push_all.result.fault
-    (g.I.Intake.failed c.args.intake.now) (g.I.Intake.failed c.refill.new.intake) (g.O.Outlet.failed c.args.outlet.now) (g.O.Outlet.failed c.fill_all.outlet) (g.O.Outlet.failed c.push_all.new.outlet)
-    (c.in-Ok.ensures.failures ∙ i.reads) i.writes (c.in-Err-push_all.ensures.did (afresh start) i.runs.samples i.runs.holds) c.in-Err-push_all.ensures.failures c.stopped-in-Err-push_all.ensures.fault
-
-pub returns-in-Err-push_all-clause-bounds : goal.returns-in-Err-push_all-clause-bounds
-returns-in-Err-push_all-clause-bounds g c =
-    let s = c.args.setting.now in
-    let i = c.fill_all.invariant in
-    let o = c.stopped-in-Err-push_all in
-    let start = g.O.Outlet.taken c.args.outlet.now in
-    push_within s (afresh start) (g.O.Outlet.taken c.push_all.new.outlet) c.push_all.new.self o.result.report c.in-Err-push_all.fault i.runs.samples
-    (take (c.fill_all.waiting + c.in-Ok.count) c.refill.new.buffer) (λ xs h. o.ensures.told s xs h) (c.in-Err-push_all.ensures.did (afresh start) i.runs.samples i.runs.holds)
-
-pub fill_all-preserved : goal.fill_all-preserved
-fill_all-preserved g c =
-    let s = c.args.setting.now in
-    let i = c.fill_all.invariant in
-    let start = g.O.Outlet.taken c.args.outlet.now in
-    let more = c.in-Ok.ensures.bytes in
-    let filled = c.fill_all.waiting + c.in-Ok.count in
-    let most : c.fill_all.waiting ≤ length c.fill_all.buffer = omega (arith, i.size, i.runs.few, c.width-width.ensures.value, c.width-width.ensures.range) in
-    let limit : c.fill_all.given + c.in-Ok.count ≤ 281474976710656 = omega (arith, c.piece.ensures.limit (omega (arith, c.if-given-ge-LIMIT.false)), c.in-Ok.ensures.count) in
+    let taken = g.O.Outlet.taken c.push_each.new.outlet in
+    let levels = c.next.new.levels in
+    let n = c.in-Ok.count in
+    let ys = take n (values_at s levels) in
+    let gives = subst (λ (s : Parameters). GivesSamples c.encode_all.samples c.next.new.self left new (take n (values_at s levels))) i.runs.setting c.in-Ok.ensures.gives in
+    let holds = subst (λ (l : List ℤ). IsEncodingOf s (afresh start) taken c.push_each.new.self (i.runs.samples ++ l)) (sym (take-map (value_at s) n levels))
+    (c.in-Ok-push_each.ensures.ok s (afresh start) i.runs.samples i.runs.holds) in
     record {
-      runs = runs_on s (g.I.Intake.left c.args.intake.now) (g.I.Intake.left c.refill.new.intake) (g.I.Intake.left c.fill_all.intake) start
-          (g.O.Outlet.taken c.fill_all.outlet) (g.O.Outlet.taken c.push_all.new.outlet)
-          c.fill_all.encoding c.push_all.new.self c.fill_all.given c.fill_all.waiting c.in-Ok.count c.width-width.result _ c.fill_all.buffer c.refill.new.buffer c.carry.new.buffer i.runs more
-          (c.in-Ok-push_all.ensures.did (afresh start) i.runs.samples i.runs.holds) c.width-width.ensures.value most refl c.carry.ensures.front limit;
-      size = c.carry.ensures.len ∙ c.refill.auto.buffer ∙ i.size;
-      room = c.in-Ok-push_all.ensures.room ∙ i.room;
+      runs = reads_further s (g.I.Intake.left c.args.intake.now) left new start (g.O.Outlet.taken c.encode_all.outlet) taken c.encode_all.encoding c.push_each.new.self
+          c.encode_all.samples c.next.new.self ys i.runs gives holds;
+      room = c.in-Ok.ensures.len ∙ i.room;
       reads = c.in-Ok.ensures.failures ∙ i.reads;
-      writes = c.in-Ok-push_all.ensures.failures ∙ i.writes;
+      writes = c.in-Ok-push_each.ensures.calm ∙ i.writes;
     }
+
+pub returns-in-Err-push_each-clause-call : goal.returns-in-Err-push_each-clause-call
+returns-in-Err-push_each-clause-call g c =
+    let s = c.args.setting.now in
+    let runs = c.encode_all.invariant.runs in
+    let left_old = g.I.Intake.left c.args.intake.now in
+    let left = g.I.Intake.left c.encode_all.intake in
+    let new = g.I.Intake.left c.next.new.intake in
+    let start = g.O.Outlet.taken c.args.outlet.now in
+    let taken = g.O.Outlet.taken c.push_each.new.outlet in
+    let levels = c.next.new.levels in
+    let says = c.in-Ok.ensures in
+    let n = c.in-Ok.count in
+    let ys = take n (values_at s levels) in
+    let o = c.stopped-in-Err-push_each in
+    let gives = subst (λ (s : Parameters). GivesSamples c.encode_all.samples c.next.new.self left new (take n (values_at s levels))) runs.setting says.gives in
+    let fails = subst (λ (l : List ℤ). FailsIn s (afresh start) taken c.push_each.new.self runs.samples l) (sym (take-map (value_at s) n levels))
+    (c.in-Err-push_each.ensures.err s (afresh start) runs.samples runs.holds) in
+    let count : length ys ≡ n = (taken_count s levels n says.count).1 in
+    let piece : width s * n + length c.next.new.self.waiting ≤ 4096 = subst (λ (s : Parameters). width s * n + length c.next.new.self.waiting ≤ 4096) runs.setting says.piece in
+    subst (λ (f : Option Fault). EncodesBetween s left_old new start taken o.result.report f) (sym o.ensures.fault)
+    (writing_ends s left_old left new start (g.O.Outlet.taken c.encode_all.outlet) taken c.encode_all.encoding c.push_each.new.self c.encode_all.samples c.next.new.self
+    o.result.report ys runs gives fails (omega (arith, piece, ap (λ n. width s * n) count)) says.limits.1 (λ xs h. o.ensures.told s xs h))
+
+pub returns-in-Err-push_each-clause-bounds : goal.returns-in-Err-push_each-clause-bounds
+returns-in-Err-push_each-clause-bounds g c =
+    let s = c.args.setting.now in
+    let runs = c.encode_all.invariant.runs in
+    let fails = c.in-Err-push_each.ensures.err s (afresh (g.O.Outlet.taken c.args.outlet.now)) runs.samples runs.holds in
+    let xs = (runs.samples ++ fails.before) ++ fails.last ∷ [] in
+    let k = fails.fails.counts in
+    within_early s c.stopped-in-Err-push_each.result.report xs (settled_by s c.push_each.new.self xs k) (c.stopped-in-Err-push_each.ensures.told s xs k)
+
+pub returns-in-Err-clause-failures : goal.returns-in-Err-clause-failures
+returns-in-Err-clause-failures g c =
+    let i = c.encode_all.invariant in
+    let fault = c.stopped.ensures.fault ∙ ap Some c.fault_at.ensures in
+    reading_fails c.in-Err.fault c.taken.result c.stopped.result.fault (g.I.Intake.failed c.args.intake.now) (g.I.Intake.failed c.encode_all.intake) (g.I.Intake.failed c.next.new.intake)
+    (g.O.Outlet.failed c.args.outlet.now) (g.O.Outlet.failed c.encode_all.outlet) fault c.in-Err.ensures.failures i.reads i.writes

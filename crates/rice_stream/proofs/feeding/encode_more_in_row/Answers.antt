@@ -1,11 +1,13 @@
 use Rattle.std.proofs.Common.{arith, rules, ◌≡◌, ◌+◌, ◌-◌, ◌*◌, ◌/◌, ◌≤◌, length, take, refl, subst, ℕ, Err}
 use Rattle.std.proofs.lemmas.List.{length-take}
+use Rattle.std.proofs.lemmas.Result.{err_from_is_err_and}
 use Rattle.rice_samples.specs.Parameters.{width}
 use Rattle.rice_samples.specs.Places.{cut}
 use Rattle.rice_stream.specs.EncodingState.{TakesAll, Pushes}
+use Rattle.rice_samples.proofs.lemmas.bytes.SpellingLengths.{some_width}
 use Rattle.rice_stream.specs.Feeding.{behind}
 use Rattle.rice_stream.proofs.lemmas.EncodingLemmas.{sink_short}
-use Rattle.rice_stream.proofs.lemmas.Seams.{fit_in, few_all, some_width, cut_grows, goes_on, more_stops}
+use Rattle.rice_stream.proofs.lemmas.Seams.{fit_in, few_all, cut_grows, goes_on, more_stops}
 use Rattle.rice_stream.proofs.feeding.encode_more_in_row.Goals as goal
 
 pub overflow_sub-count : goal.overflow_sub-count
@@ -54,7 +56,7 @@ push_all-requires g c =
                 bytes,
           ),
         ),
-        ((omega arith, omega arith), c.requires.writes),
+        (omega arith, c.requires.writes),
       ),
     )
 
@@ -63,7 +65,7 @@ seam-requires g c =
     let now = g.O.Outlet.taken c.args.outlet.now in
     let s = c.args.setting.now in
     let xs = c.requires.seam.0 in
-    let t = c.in-Ok.ensures.did (behind s xs now) xs (c.put_bits_of_seam.ensures c.args.setting.now now xs c.resume-encoding.ensures c.requires.seam.1) in
+    let t = c.in_ok-push_all.ensures.did (behind s xs now) xs (c.put_bits_of_seam.ensures c.args.setting.now now xs c.resume-encoding.ensures c.requires.seam.1) in
     (search rules, omega (arith, sink_short s (behind s xs now) _ _ _ t.holds))
 
 pub returns-clause-did : goal.returns-clause-did
@@ -78,7 +80,7 @@ returns-clause-did g c xs h =
     let all = c.in_whole_segments.result in
     let count = all - seam.samples in
     let t = subst (λ (w : ℕ). TakesAll s (behind s xs now) new e xs (take (w * count) bytes)) c.width-width.ensures.value
-    (c.in-Ok.ensures.did (behind s xs now) xs (c.put_bits_of_seam.ensures c.args.setting.now now xs c.resume-encoding.ensures h)) in
+    (c.in_ok-push_all.ensures.did (behind s xs now) xs (c.put_bits_of_seam.ensures c.args.setting.now now xs c.resume-encoding.ensures h)) in
     let size : w * seam.samples ≡ width s * length xs = (λ i. c.width-width.ensures.value i * h.samples i) in
     let limit : width s * length xs + length bytes ≤ 281474976710656 = omega (arith, size, h.limit, c.bytes_left.ensures.value, c.if-bytes-bytes_left.false) in
     let per : length bytes / w ≡ length bytes / width s = (λ i. length bytes / c.width-width.ensures.value i) in
@@ -87,8 +89,8 @@ returns-clause-did g c xs h =
     goes_on s now new e seam c.seam.result xs bytes count h t (omega (arith, c.in_whole_segments.ensures.value, total, grows, h.samples))
     (fit_in (width s) (length bytes) count (omega (arith, c.in_whole_segments.ensures.limit, per))) limit (λ ys k whole few. c.seam.ensures s (behind s xs now) new ys k whole few)
 
-pub returns-in-Err-clause-did : goal.returns-in-Err-clause-did
-returns-in-Err-clause-did g c xs h =
+pub returns-in_err-push_all-clause-did : goal.returns-in_err-push_all-clause-did
+returns-in_err-push_all-clause-did g c xs h =
     let now = g.O.Outlet.taken c.args.outlet.now in
     let new = g.O.Outlet.taken c.push_all.new.outlet in
     let s = c.args.setting.now in
@@ -97,13 +99,14 @@ returns-in-Err-clause-did g c xs h =
     let e = c.push_all.new.self in
     let w = c.width-width.result in
     let count = c.in_whole_segments.result - seam.samples in
-    let fault = c.in-Err.fault in
+    let fault = c.in_err-push_all.field-0.0 in
     let stops = subst (λ (w : ℕ). Pushes {T = Unit {0}} s (behind s xs now) new e xs (take (w * count) bytes) (Err fault)) c.width-width.ensures.value
-    (c.in-Err.ensures.did (behind s xs now) xs (c.put_bits_of_seam.ensures c.args.setting.now now xs c.resume-encoding.ensures h)) in
+    (c.in_err-push_all.ensures.did (behind s xs now) xs (c.put_bits_of_seam.ensures c.args.setting.now now xs c.resume-encoding.ensures h)) in
     let size : w * seam.samples ≡ width s * length xs = (λ i. c.width-width.ensures.value i * h.samples i) in
     let limit : width s * length xs + length bytes ≤ 281474976710656 = omega (arith, size, h.limit, c.bytes_left.ensures.value, c.if-bytes-bytes_left.false) in
     let per : length bytes / w ≡ length bytes / width s = (λ i. length bytes / c.width-width.ensures.value i) in
     let total : cut s (seam.samples + length bytes / w) ≡ cut s (length xs + length bytes / width s) = (λ i. cut s (h.samples i + per i)) in
     let grows = cut_grows s seam xs (length xs + length bytes / width s) h (omega arith) in
-    more_stops s now new e xs bytes count fault limit (omega (arith, c.in_whole_segments.ensures.value, total, grows, h.samples))
-    (fit_in (width s) (length bytes) count (omega (arith, c.in_whole_segments.ensures.limit, per))) stops
+    let p = err_from_is_err_and c.from_residual.result c.from_residual.ensures.1 in
+    rw (p.1, p.2) (more_stops s now new e xs bytes count fault limit (omega (arith, c.in_whole_segments.ensures.value, total, grows, h.samples))
+    (fit_in (width s) (length bytes) count (omega (arith, c.in_whole_segments.ensures.limit, per))) stops)

@@ -1,9 +1,10 @@
 use Rattle.std.proofs.Common.{arith, rules, refl, ◌≡◌, ◌+◌, ◌*◌, ◌≤◌, ◌%◌, ◌++◌, ◌∙◌, ap, sym, subst, length}
 use Rattle.rice_samples.specs.Parameters.{width}
+use Rattle.rice_samples.proofs.lemmas.bytes.SpellingLengths.{some_width}
 use Rattle.rice_stream.specs.Feeding.{behind, EncodesRest}
 use Rattle.rice_stream.proofs.lemmas.EncodingEnds.{push_fails, push_within, within_early, within_all}
 use Rattle.rice_stream.proofs.lemmas.EncodingLemmas.{settled_by}
-use Rattle.rice_stream.proofs.lemmas.Seams.{few_all, some_width, rest_stops, rest_cut, rest_all, takes_few}
+use Rattle.rice_stream.proofs.lemmas.Seams.{few_all, rest_stops, rest_cut, rest_all, takes_few}
 use Rattle.rice_stream.proofs.feeding.encode_rest_in_row.Goals as goal
 
 pub bytes_left-requires-clause-samples : goal.bytes_left-requires-clause-samples
@@ -42,7 +43,7 @@ push_all-requires g c =
       search rules,
       (
         (behind c.args.setting.now xs now, xs, holds, omega (arith, few, c.if-bytes-bytes_left.false, c.taken.ensures, holds.counts.samples)),
-        ((omega arith, omega arith), c.requires.writes),
+        (omega arith, c.requires.writes),
       ),
     )
 

@@ -1,5 +1,6 @@
 use Rattle.std.proofs.Common.{arith, refl, ◌≡◌, ◌+◌, ◌-◌, ◌*◌, ap, sym, ◌∙◌, subst, None}
 use Rattle.std.specs.Prelude.{Ok, Err}
+use Rattle.std.proofs.lemmas.Result.{err_from_is_err_and}
 use Rattle.rice_samples.specs.Parameters.{values_at}
 use Rattle.rice_samples.proofs.lemmas.setting.ValuesAt.{length-values}
 use Rattle.rice_code.specs.decode.DecoderState.{DecoderState, IsDecoderState}
@@ -11,23 +12,24 @@ use Rattle.rice_stream.proofs.lemmas.PullingLemmas.{Steps, done_next, stops_next
 use Rattle.rice_stream.proofs.lemmas.Strokes.{gives_one}
 use Rattle.rice_stream.proofs.pulling.next_stand.Goals as goal
 
-pub returns-in-Err-clause-takes : goal.returns-in-Err-clause-takes
-returns-in-Err-clause-takes c = λ o front given h.
+pub returns-in_err-next_levels-clause-takes : goal.returns-in_err-next_levels-clause-takes
+returns-in_err-next_levels-clause-takes c = λ o front given h.
     let s = c.args.setting.now in
     let p = c.args.decoder.now in
     let new = c.next_levels.new in
-    let says = c.in-Err.ensures in
+    let says = c.in_err-next_levels.ensures in
     let setting_old : p.setting ≡ s = ap (λ (d : DecoderState). d.setting) c.requires.come.state in
     let a = decoder_advances c.args.reader.now new.reader c.tick.new.self new.meter p new.self s new.levels.items setting_old refl says.in_run says.reads in
-    stops_next s o c.args.stand.now c.args.reader.now new.reader c.tick.new.self new.meter new.self front given (values_at s new.levels.items) c.in-Err.fault c.requires.come.reads
-    (subst (λ (d : DecoderState). Advances c.args.reader.now new.reader c.tick.new.self new.meter d new.self (values_at s new.levels.items) (Err c.in-Err.fault)) c.requires.come.state a)
+    let r = err_from_is_err_and c.from_residual.result c.from_residual.ensures.1 in
+    rw (r.1, r.2) (stops_next s o c.args.stand.now c.args.reader.now new.reader c.tick.new.self new.meter new.self front given (values_at s new.levels.items) c.in_err-next_levels.field-0.0 c.requires.come.reads
+    (subst (λ (d : DecoderState). Advances c.args.reader.now new.reader c.tick.new.self new.meter d new.self (values_at s new.levels.items) (Err c.in_err-next_levels.field-0.0)) c.requires.come.state a))
 
 pub returns-in-Done-clause-takes : goal.returns-in-Done-clause-takes
 returns-in-Done-clause-takes c = λ o front given h.
     let s = c.args.setting.now in
     let p = c.args.decoder.now in
     let new = c.next_levels.new in
-    let says = c.in-Ok.ensures in
+    let says = c.in_ok-next_levels.ensures in
     let setting_old : p.setting ≡ s = ap (λ (d : DecoderState). d.setting) c.requires.come.state in
     let a = decoder_advances c.args.reader.now new.reader c.tick.new.self new.meter p new.self s new.levels.items setting_old (ap Ok c.in-Done.is) says.in_run says.reads in
     done_next s o c.args.stand.now c.args.reader.now new.reader c.tick.new.self new.meter new.self front given (values_at s new.levels.items) c.requires.come.reads
@@ -45,7 +47,7 @@ given c =
     let q = c.next_levels.new.self in
     let levels = c.next_levels.new.levels.items in
     let meter = c.next_levels.new.meter in
-    let says = c.in-Ok.ensures in
+    let says = c.in_ok-next_levels.ensures in
     let know = c.requires.come.stand in
     let setting_old : p.setting ≡ s = ap (λ (d : DecoderState). d.setting) c.requires.come.state in
     let next = stand_at (stand.samples + c.block-size.result) (stand.bits + (new.taken - c.taken-before.result)) (meter + c.block-size.result) q in
@@ -75,7 +77,7 @@ returns-clause-goes_on c =
     let s = c.args.setting.now in
     let p = c.args.decoder.now in
     let new = c.next_levels.new in
-    let says = c.in-Ok.ensures in
+    let says = c.in_ok-next_levels.ensures in
     let setting : p.setting ≡ s = ap (λ (d : DecoderState). d.setting) c.requires.come.state in
     let going : p.stopped ≡ None = ap (λ (d : DecoderState). d.stopped) c.requires.come.state in
     let a = decoder_advances c.args.reader.now new.reader c.tick.new.self new.meter p new.self s new.levels.items setting (ap Ok c.in-Block.is) says.in_run says.reads in

@@ -1,114 +1,120 @@
-use Rattle.std.proofs.Common.{arith, rules, ◌≡◌, ◌+◌, ◌-◌, ◌*◌, ◌<◌, ◌≤◌, ◌++◌, [], length, take, drop, refl, ap, sym, ◌∙◌, subst, append-nil, length-append, length-drop, take-append-drop, List, ℕ, ℤ, Err}
-use Rattle.std.proofs.Math.Nat.{mul-le-mul_left, mul-le-mul_right}
-use Rattle.std.proofs.Math.Seq.{take-add, take-length}
-use Rattle.std.proofs.lemmas.List.{length-take, length-take-le}
-use Rattle.rice_samples.specs.Parameters.{Parameters, width}
-use Rattle.rice_samples.specs.bytes.Spelling.{spellings}
-use Rattle.rice_stream.specs.EncodingState.{IsEncodingOf, TakesAll, Pushes, Reads}
-use Rattle.rice_stream.proofs.lemmas.SamplesInParts.{takes_on, stops_on, none_left, few_more}
+use Rattle.std.proofs.Common.{arith, rules, ◌≡◌, ◌+◌, ◌-◌, ◌*◌, ◌≤◌, ◌++◌, [], length, take, drop, refl, ap, sym, ◌∙◌, subst, append_assoc, append-nil, length-append, length-drop, List, ℕ, ℤ}
+use Rattle.std.specs.Prelude.{min}
+use Rattle.std.proofs.Math.Nat.{mul-le-mul_left}
+use Rattle.std.proofs.Math.Seq.{take-length}
+use Rattle.std.proofs.lemmas.List.{drop-drop, length-take, take-map}
+use Rattle.rice_samples.specs.Parameters.{Parameters, value_at, values_at, width}
+use Rattle.rice_samples.proofs.lemmas.bytes.SpellingLengths.{some_width}
+use Rattle.rice_samples.proofs.lemmas.setting.ValuesAt.{length-values}
+use Rattle.rice_samples.specs.bytes.Spelling.{Reads, IsNoSpelling}
+use Rattle.rice_samples.proofs.lemmas.bytes.GivenSamples.{reads_then}
+use Rattle.rice_stream.specs.EncodingState.{IsEncodingOf, FailsIn}
+use Rattle.rice_stream.proofs.lemmas.EncodingLemmas.{fails_among, fails_behind}
+use Rattle.rice_stream.proofs.lemmas.SamplesInParts.{few_more}
 use Rattle.rice_stream.proofs.encoding.Encoding.push_all.Goals as goal
 
--- the bytes so far are those of whole samples
-spelled_so_far : (s : Parameters) (at : ℕ) (bytes rest : List ℕ) (more : List ℤ) (k : ℕ) → Reads s (take at bytes) more rest → length rest < width s
-    → at ≤ length bytes → at ≡ width s * k → take at bytes ≡ spellings s more
-spelled_so_far s at bytes rest more k r few within whole = none_left s more (take at bytes) rest k r few (length-take-le at bytes within ∙ whole)
-
--- and the next part of them
-next_part : (at count : ℕ) (bytes : List ℕ) → take (at + count) bytes ≡ take at bytes ++ take (at + count - at) (drop at bytes)
-next_part at count bytes =
-    let n : count ≡ at + count - at = omega arith in
-    take-add at count bytes ∙ ap (λ m. take at bytes ++ take m (drop at bytes)) n
+-- the bytes from a place on
+from : (at : ℕ) (bytes : List ℕ) → take (length bytes - at) (drop at bytes) ≡ drop at bytes
+from at bytes = ap (λ n. take n (drop at bytes)) (sym (length-drop at bytes)) ∙ take-length (drop at bytes)
 
 pub loop-at-init : goal.loop-at-init
 loop-at-init g c = record {
   within = omega arith;
-  whole = λ lt. (0, omega arith);
-  part = λ old xs h. record {
-    more = [];
-    rest = [];
-    reads = record { split = refl; legal = λ k d lt. absurd (omega arith) };
-    few = omega (arith, c.width.ensures.value, c.width.ensures.range);
-    holds = subst (λ (l : List ℤ). IsEncodingOf c.args.setting.now old (g.O.Outlet.taken c.args.outlet.now) c.args.self.now l) (sym (append-nil xs)) h;
-  };
+  part = λ old xs h. ([], record { split = refl; legal = λ k d lt. absurd (omega arith) }, subst (λ (l : List ℤ). IsEncodingOf c.args.setting.now old (g.O.Outlet.taken c.args.outlet.now) c.args.self.now l) (sym (append-nil xs)) h);
   failures = refl;
   room = refl;
 }
 
-pub overflow_mul-most : goal.overflow_mul-most
-overflow_mul-most g c =
-    let most : c.width.result * length c.args.levels.now ≤ 4 * length c.args.levels.now = mul-le-mul_right (length c.args.levels.now) c.width.ensures.range.1 in
-    omega (arith, most, c.requires.some.1)
+-- what is read of them, of all bytes
+read_from : (s : Parameters) (bytes : List ℕ) (at n w : ℕ) (ys : List ℤ) → Reads s (take (length bytes - at) (drop at bytes)) ys (drop (width s * n) (take (length bytes - at) (drop at bytes)))
+    → w ≡ width s → Reads s (drop at bytes) ys (drop (at + w * n) bytes)
+read_from s bytes at n w ys r e =
+    let here = subst (λ (l : List ℕ). Reads s l ys (drop (width s * n) l)) (from at bytes) r in
+    let behind = drop-drop (width s * n) at bytes ∙ ap (λ w. drop (at + w * n) bytes) (sym e) in
+    subst (Reads s (drop at bytes) ys) behind here
+
+pub returns-then-count-eq0-clause-did : goal.returns-then-count-eq0-clause-did
+returns-then-count-eq0-clause-did g c old xs h =
+    let s = c.args.setting.now in
+    let bytes = c.args.bytes.now in
+    let at = c.loop-at.at in
+    let p = c.loop-at.invariant.part old xs h in
+    let wide : width s ≤ length (drop at bytes) = omega (arith, length-drop at bytes, c.loop-at-test.true, c.width-width.ensures.value) in
+    let none = subst (IsNoSpelling s) (from at bytes) (c.first_levels-count.ensures.none c.if-count-eq0.true) in
+    (record { more = p.0; rest = drop at bytes; reads = p.1; none = (wide, none); holds = p.2 }, refl)
+
+pub push_each-requires : goal.push_each-requires
+push_each-requires g c =
+    let s = c.args.setting.now in
+    let bytes = c.args.bytes.now in
+    let at = c.loop-at.at in
+    let f = c.first_levels-count in
+    let r = c.requires.ready in
+    let p = c.loop-at.invariant.part r.0 r.1 r.2 in
+    let ys = take f.result (values_at s f.new.levels) in
+    let here = read_from s bytes at f.result c.width-width.result ys f.ensures.reads c.width-width.ensures.value in
+    let all = reads_then s bytes (drop at bytes) (drop (at + c.width-width.result * f.result) bytes) p.0 ys p.1 here in
+    let few = few_more s (p.0 ++ ys) bytes (drop (at + c.width-width.result * f.result) bytes) all (some_width s) in
+    let n : length ys ≡ length (take f.result f.new.levels) = length-take f.result (values_at s f.new.levels) ∙ ap (min f.result) (length-values s f.new.levels) ∙ sym (length-take f.result f.new.levels) in (
+      search rules,
+      (
+        record {
+          setting = s;
+          start = r.0;
+          before = r.1 ++ p.0;
+          holds = p.2;
+          legal = f.ensures.legal;
+          few = omega (arith, r.3, few, length-append r.1 p.0, length-append p.0 ys, n);
+        },
+        omega (arith, c.requires.writes, c.loop-at.invariant.failures),
+      ),
+    )
 
 pub loop-at-smaller : goal.loop-at-smaller
 loop-at-smaller g c =
-    let some : c.width.result * 1 ≤ c.width.result * length c.args.levels.now = mul-le-mul_left c.width.result c.requires.some.0 in
-    omega (arith, some, c.width.ensures.range.0, c.min-count.ensures, c.loop-at-test.true)
-
-pub push_part-requires : goal.push_part-requires
-push_part-requires g c =
-    let s = c.args.setting.now in
-    let bytes = c.args.bytes.now in
-    let r = c.requires.ready in
-    let i = c.loop-at.invariant in
-    let at = c.loop-at.at in
-    let count = c.min-count.result in
-    let h = i.part r.0 r.1 r.2 in
-    let few = few_more s h.more (take at bytes) h.rest h.reads (omega (arith, c.width.ensures.value, c.width.ensures.range)) in
-    let all = length-take-le at bytes i.within in
-    let part = length-take (at + count - at) (drop at bytes) in
-    let most : c.width.result * length c.args.levels.now ≡ width s * length c.args.levels.now = ap (λ v. v * length c.args.levels.now) c.width.ensures.value in
-    let room : width s * length c.loop-at.levels ≡ width s * length c.args.levels.now = ap (λ v. width s * v) i.room in (
-      search rules,
-      (
-        (r.0, r.1 ++ h.more, h.holds, omega (arith, length-append r.1 h.more, few, all, part, length-drop at bytes, r.3, i.within)),
-        (omega (arith, part, c.min-count.ensures, most, room), omega (arith, c.requires.writes, i.failures)),
-      ),
-    )
+    let n = c.first_levels-count.result in
+    let some : c.width-width.result * 1 ≤ c.width-width.result * n = mul-le-mul_left c.width-width.result (omega (arith, c.if-count-eq0.false)) in
+    omega (arith, some, c.width-width.ensures.range.0, c.loop-at-test.true)
 
 pub loop-at-preserved : goal.loop-at-preserved
 loop-at-preserved g c =
     let s = c.args.setting.now in
     let bytes = c.args.bytes.now in
-    let i = c.loop-at.invariant in
     let at = c.loop-at.at in
-    let count = c.min-count.result in
-    let new = g.O.Outlet.taken c.push_part.new.outlet in
-    let k = i.whole c.loop-at-test.true in
-    let n = length c.args.levels.now in
-    let most : c.width.result * n ≡ width s * n = ap (λ v. v * n) c.width.ensures.value in
+    let f = c.first_levels-count in
+    let i = c.loop-at.invariant in
+    let w = c.width-width.result in
+    let size : w * f.result ≡ width s * f.result = ap (λ w. w * f.result) c.width-width.ensures.value in
     record {
-      within = omega (arith, c.min-count.ensures, i.within);
-      whole = λ lt. (let full : count ≡ width s * n = omega (arith, c.min-count.ensures, most, lt) in
-          (k.0 + n, ap (λ m. m + count) k.1 ∙ ap (λ m. width s * k.0 + m) full ∙ (let e : width s * k.0 + width s * n ≡ width s * (k.0 + n) = omega arith in e)));
+      within = omega (arith, size, f.ensures.within, ap length (from at bytes), length-drop at bytes, i.within);
       part = λ old xs h. (let p = i.part old xs h in
-          let spelled = spelled_so_far s at bytes p.rest p.more k.0 p.reads p.few i.within k.1 in
-          subst (λ (l : List ℕ). TakesAll s old new c.push_part.new.self xs l) (sym (next_part at count bytes))
-          (takes_on s old new c.push_part.new.self xs p.more (take at bytes) (take (at + count - at) (drop at bytes)) spelled p.reads.legal (c.in-Ok.ensures.did old (xs ++ p.more) p.holds)));
-      failures = c.in-Ok.ensures.failures ∙ i.failures;
-      room = c.in-Ok.ensures.room ∙ i.room;
+          let ys = take f.result (values_at s f.new.levels) in
+          let taken = ap (λ l. (xs ++ p.0) ++ l) (sym (take-map (value_at s) f.result f.new.levels)) ∙ append_assoc xs p.0 ys in (
+            p.0 ++ ys,
+            reads_then s bytes (drop at bytes) (drop (at + w * f.result) bytes) p.0 ys p.1 (read_from s bytes at f.result w ys f.ensures.reads c.width-width.ensures.value),
+            subst (λ (l : List ℤ). IsEncodingOf s old (g.O.Outlet.taken c.push_each.new.outlet) c.push_each.new.self l) taken (c.in-Ok.ensures.ok s old (xs ++ p.0) p.2),
+          ));
+      failures = c.in-Ok.ensures.calm ∙ i.failures;
+      room = f.ensures.len ∙ i.room;
     }
 
 pub returns-in-Err-clause-did : goal.returns-in-Err-clause-did
 returns-in-Err-clause-did g c old xs h =
     let s = c.args.setting.now in
     let bytes = c.args.bytes.now in
-    let i = c.loop-at.invariant in
     let at = c.loop-at.at in
-    let count = c.min-count.result in
-    let new = g.O.Outlet.taken c.push_part.new.outlet in
-    let k = i.whole c.loop-at-test.true in
-    let p = i.part old xs h in
-    let spelled = spelled_so_far s at bytes p.rest p.more k.0 p.reads p.few i.within k.1 in
-    let behind = drop (at + count) bytes in
-    let whole : (take at bytes ++ take (at + count - at) (drop at bytes)) ++ behind ≡ bytes = ap (λ l. l ++ behind) (sym (next_part at count bytes)) ∙ take-append-drop (at + count) bytes in
-    subst (λ (l : List ℕ). Pushes {T = Unit {0}} s old new c.push_part.new.self xs l (Err c.in-Err.why)) whole
-    (stops_on s old new c.push_part.new.self xs p.more (take at bytes) (take (at + count - at) (drop at bytes)) spelled p.reads.legal behind c.in-Err.why
-    (c.in-Err.ensures.did old (xs ++ p.more) p.holds))
+    let f = c.first_levels-count in
+    let p = c.loop-at.invariant.part old xs h in
+    let ys = take f.result (values_at s f.new.levels) in
+    let new = g.O.Outlet.taken c.push_each.new.outlet in
+    let e = c.push_each.new.self in
+    let fails = subst (λ (l : List ℤ). FailsIn s old new e (xs ++ p.0) l) (sym (take-map (value_at s) f.result f.new.levels)) (c.in-Err.ensures.err s old (xs ++ p.0) p.2) in
+    fails_behind s old new e xs p.0 bytes (drop at bytes) p.1
+    (fails_among s old new e (xs ++ p.0) ys (drop at bytes) _ (read_from s bytes at f.result c.width-width.result ys f.ensures.reads c.width-width.ensures.value) fails)
 
 pub returns-clause-did : goal.returns-clause-did
 returns-clause-did g c old xs h =
     let bytes = c.args.bytes.now in
-    let i = c.loop-at.invariant in
     let at = c.loop-at.at in
-    let all : at ≡ length bytes = omega (arith, i.within, c.loop-at-test.false) in
-    subst (λ (l : List ℕ). TakesAll c.args.setting.now old (g.O.Outlet.taken c.loop-at.outlet) c.loop-at.self xs l) (ap (λ n. take n bytes) all ∙ take-length bytes) (i.part old xs h)
+    let p = c.loop-at.invariant.part old xs h in
+    record { more = p.0; rest = drop at bytes; reads = p.1; few = omega (arith, length-drop at bytes, c.loop-at-test.false, c.width-width.ensures.value); holds = p.2 }

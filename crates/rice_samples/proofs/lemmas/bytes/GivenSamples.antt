@@ -1,0 +1,122 @@
+-- What a reader of samples gives, one call after another.
+use Rattle.std.proofs.Common.{◌≡◌, ℕ, ◌+◌, ◌-◌, ◌*◌, ◌<◌, ◌≤◌, List, [], ◌∷◌, ◌++◌, length, take, drop, Option, refl, ap, arith, sym, ◌∙◌, subst, append_assoc, append-nil, length-append, take-append-drop, ℤ}
+use Rattle.std.proofs.KnownBytes.{Consumes-nil, Consumes-trans}
+use Rattle.std.specs.Io.KnownBytes.{Consumes}
+use Rattle.std.specs.Prelude.{All}
+use Rattle.std.proofs.Math.Nat.{mul-le-mul_left}
+use Rattle.std.proofs.lemmas.List.{drop-take, take-take}
+use Rattle.std.proofs.lemmas.List.Elements.{All-append}
+use Rattle.rice_samples.specs.Limits.{most_input}
+use Rattle.rice_samples.specs.Parameters.{Parameters, IsSample, values_at, width}
+use Rattle.rice_samples.specs.bytes.Spelling.{Reads, IsNoSpelling, spellings}
+use Rattle.rice_samples.specs.bytes.SamplesAhead.{SamplesAhead, GivesSamples, StopsSamples, LacksSample}
+use Rattle.rice_samples.specs.declared.bytes.sample_fault.SampleFault.{SampleFault}
+use Rattle.rice_samples.specs.declared.bytes.sample_fault.SampleFault.TheVariants.{Read, Cut, TooLong, OutOfRange}
+use Rattle.rice_samples.proofs.lemmas.bytes.SpellingLengths.{spellings-append}
+
+-- some samples, and then others
+pub reads_then : (s : Parameters) (bytes rest last : List ℕ) (xs ys : List ℤ) → Reads s bytes xs rest → Reads s rest ys last → Reads s bytes (xs ++ ys) last
+reads_then s bytes rest last xs ys f g = record {
+  split = f.split ∙ ap (λ l. spellings s xs ++ l) g.split ∙ sym (append_assoc (spellings s xs) (spellings s ys) last) ∙ ap (λ l. l ++ last) (sym (spellings-append s xs ys));
+  legal = All-append (IsSample s) xs ys f.legal g.legal;
+}
+
+-- bytes after them change nothing
+pub reads_before : (s : Parameters) (xs : List ℤ) (bytes rest behind : List ℕ) → Reads s bytes xs rest → Reads s (bytes ++ behind) xs (rest ++ behind)
+reads_before s xs bytes rest behind r = record {
+  split = ap (λ l. l ++ behind) r.split ∙ append_assoc (spellings s xs) rest behind;
+  legal = r.legal;
+}
+
+-- the first of some samples, of which several are looked at
+pub first_reads : (s : Parameters) (bytes : List ℕ) (count n : ℕ) (ys : List ℤ) → n ≤ count → take (width s * n) (take (width s * count) bytes) ≡ spellings s ys
+    → All (IsSample s) ys → Reads s bytes ys (drop (width s * n) bytes)
+first_reads s bytes count n ys le front legal =
+    let w = width s in
+    let more : w * n ≤ w * count = mul-le-mul_left w le in
+    let first = take-take (w * n) (w * count) bytes more in
+    record { split = sym (take-append-drop (w * n) bytes) ∙ ap (λ l. l ++ drop (w * n) bytes) (sym first ∙ front); legal = legal }
+
+-- and none, where the first is no sample
+pub none_first : (s : Parameters) (bytes : List ℕ) (count n : ℕ) → 0 < count → n ≡ 0 → IsNoSpelling s (drop (width s * n) (take (width s * count) bytes)) → IsNoSpelling s bytes
+none_first s bytes count n some zero none x sample e =
+    let w = width s in
+    let more : w * 1 ≤ w * count = mul-le-mul_left w some in
+    let least : w ≤ w * count = omega (arith, more) in
+    let front : w * n ≡ 0 = ap (λ n. w * n) zero ∙ (omega arith) in
+    none x sample (ap (λ m. take w (drop m (take (w * count) bytes))) front ∙ take-take w (w * count) bytes least ∙ e)
+
+-- what waits is as it was
+pub gives_none : (old new : SamplesAhead) (l : Option (List ℕ)) → new.waiting ≡ old.waiting → new.given ≡ old.given → new.setting ≡ old.setting → GivesSamples old new l l []
+gives_none old new l waits given setting = record {
+  bytes = [];
+  gave = Consumes-nil l;
+  given = omega (arith, given);
+  setting = setting;
+  reads = record { split = append-nil old.waiting ∙ sym waits; legal = λ k d lt. absurd (omega arith) };
+}
+
+-- samples are taken, then or later
+pub gives_on : (a b c : SamplesAhead) (l m n : Option (List ℕ)) (xs : List ℤ) → GivesSamples a b l m [] → GivesSamples b c m n xs → GivesSamples a c l n xs
+gives_on a b c l m n xs f g =
+    let r = subst (λ (s : Parameters). Reads s (b.waiting ++ g.bytes) xs c.waiting) f.setting g.reads in
+    record {
+      bytes = f.bytes ++ g.bytes;
+      gave = Consumes-trans l m n f.bytes g.bytes f.gave g.gave;
+      given = omega (arith, f.given, g.given, length-append f.bytes g.bytes);
+      setting = g.setting ∙ f.setting;
+      reads = record {
+        split = sym (append_assoc a.waiting f.bytes g.bytes) ∙ ap (λ l. l ++ g.bytes) f.reads.split ∙ r.split;
+        legal = r.legal;
+      };
+    }
+
+-- or no more are
+pub stops_then : (fault : SampleFault) (a b c : SamplesAhead) (l m n : Option (List ℕ)) → GivesSamples a b l m [] → StopsSamples fault b c m n → StopsSamples fault a c l n
+stops_then Read a b c l m n f g = (gives_on a b c l m n [] f g.0, g.1)
+stops_then Cut a b c l m n f g = (gives_on a b c l m n [] f g.0, g.1, g.2)
+stops_then TooLong a b c l m n f g = (
+  record { full = g.0.full; left_then = g.0.left_then; gives = gives_on a b c l m g.0.left_then [] f g.0.gives; last = g.0.last; gave = g.0.gave },
+  g.1,
+)
+stops_then OutOfRange a b c l m n f g = (gives_on a b c l m n [] f g.0, g.1)
+
+-- samples are taken of the bytes that wait
+pub gives_taken : (old new : SamplesAhead) (l : Option (List ℕ)) (bytes rest : List ℕ) (xs : List ℤ) → Reads old.setting bytes xs rest → bytes ≡ old.waiting → new.waiting ≡ rest
+    → new.given ≡ old.given → new.setting ≡ old.setting → GivesSamples old new l l xs
+gives_taken old new l bytes rest xs r all left given setting = record {
+  bytes = [];
+  gave = Consumes-nil l;
+  given = omega (arith, given);
+  setting = setting;
+  reads = record { split = append-nil old.waiting ∙ sym all ∙ r.split ∙ ap (λ l. spellings old.setting xs ++ l) (sym left); legal = r.legal };
+}
+
+-- the bytes between two places, in either order
+pub bytes_between : (at end : ℕ) (l : List ℕ) → at ≤ end → take (end - at) (drop at l) ≡ drop at (take end l)
+bytes_between at end l le = let e : at + (end - at) ≡ end = omega arith in sym (drop-take at (end - at) l) ∙ ap (λ n. drop at (take n l)) e
+
+-- a byte came that is one too many
+pub stops_long : (old new : SamplesAhead) (l m : Option (List ℕ)) (bytes : List ℕ) → Consumes l m bytes → length bytes ≡ 1 → old.given ≡ most_input → LacksSample old
+    → new.waiting ≡ old.waiting → new.given ≡ old.given → new.setting ≡ old.setting → StopsSamples TooLong old new l m
+stops_long old new l m bytes gave one full lacks waits given setting =
+    let byte = single bytes one in (
+      record {
+        full = given ∙ full;
+        left_then = l;
+        gives = gives_none old new l waits given setting;
+        last = byte.0;
+        gave = subst (Consumes l m) byte.1 gave;
+      },
+      subst (λ (n : ℕ). length new.waiting < n) (ap width (sym setting)) (subst (λ (l : List ℕ). length l < width old.setting) (sym waits) lacks),
+    )
+  where
+    single : (l : List ℕ) → length l ≡ 1 → (x : ℕ) × (l ≡ x ∷ [])
+    single [] e = absurd (omega arith)
+    single (x ∷ []) e = (x, refl)
+    single (x ∷ y ∷ l) e = absurd (omega arith)
+
+-- what a call takes after reads
+pub gives_after : (a b c : SamplesAhead) (l m : Option (List ℕ)) (levels : List ℕ) (n : ℕ) → GivesSamples a b l m []
+    → ((left : Option (List ℕ)) → GivesSamples b c left left (take n (values_at b.setting levels))) → GivesSamples a c l m (take n (values_at a.setting levels))
+gives_after a b c l m levels n f g = gives_on a b c l m m _ f (subst (λ (s : Parameters). GivesSamples b c m m (take n (values_at s levels))) f.setting (g m))
