@@ -105,6 +105,43 @@ fn put_all_words(rt: HostRuntime) -> Result<(), Fail> {
     Ok(())
 }
 
+/// How many of the lowest digits of eight words are put after 1010 and 101, and the bytes of all.
+const WHOLE_WORDS: &str = "8  | AAF1DE1E01FFBFC002
+    16 | AAACF19BDE1E1E0001FFFF37BF59C00002
+    32 | AA2468ACF113579BDE1E1E1E1E00000001FFFFFFFE26AF37BE48D159C100000002";
+
+#[test]
+fn put_eight_whole_words(rt: HostRuntime) -> Result<(), Fail> {
+    let mut cases = Cases::new();
+    let words = [
+        0x1234_5678,
+        0x89AB_CDEF,
+        0x0F0F_0F0F,
+        0,
+        0xFFFF_FFFF,
+        0x1357_9BDF,
+        0x2468_ACE0,
+        0x8000_0001,
+    ];
+    for line in WHOLE_WORDS.lines() {
+        cases.of_line(line);
+        let mut columns = Columns::of(line);
+        let width = columns.next().parse::<u32>()?;
+        let expected = bytes_of(columns.next(), rt.alloc())?;
+        assert!(rt; width == 8 || width == 16 || width == 32);
+        let mut sink = BitSink::<40>::new();
+        let mut meter = Meter::new();
+        sink.put(0b1010, 4, &mut meter);
+        sink.put_whole_words(0b101, 3, &words, width, &mut meter);
+        cases.check(sink.len() == 7 + 8 * width as u64);
+        cases.check(meter.steps() == 7 + 8 * width as u64);
+        sink.pad();
+        cases.check(sink.whole() == expected.as_slice());
+    }
+    cases.end(&rt);
+    Ok(())
+}
+
 #[test]
 fn put_sequences(rt: HostRuntime) -> Result<(), Fail> {
     let mut cases = Cases::new();

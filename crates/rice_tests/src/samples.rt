@@ -441,6 +441,18 @@ fn digits_of_a_block(rt: HostRuntime) {
         0x56, 0x7E, 0x45, 0x67, 0xF0,
     ];
     cases.check(sink.whole() == digits.as_slice());
+
+    let mut meter = Meter::new();
+    let mut sink = BitSink::<20>::new();
+    block.put_whole_digits(0b10110, 5, 16, &mut sink, &mut meter);
+    cases.check(meter.steps() == 141);
+    cases.check(sink.len() == 133);
+    sink.pad();
+    let digits = [
+        0xB2, 0xB3, 0xC2, 0xB3, 0xCA, 0xB3, 0xD2, 0xB3, 0xDA, 0xB3, 0xE2, 0xB3, 0xEA, 0xB3, 0xF2,
+        0xB3, 0xF8,
+    ];
+    cases.check(sink.whole() == digits.as_slice());
     cases.end(&rt);
 }
 

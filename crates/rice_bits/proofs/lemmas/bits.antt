@@ -5,5 +5,6 @@ pub mod FirstOnes
 pub mod Joining
 pub mod ReadInOneWay
 pub mod PieceSearch
+pub mod WholeWords
 pub mod Words
 pub mod SinkBytes

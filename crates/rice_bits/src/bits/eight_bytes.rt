@@ -33,6 +33,15 @@ fn store(bytes: &mut [u8], at: usize, word: u64)
     least_byte_first(word).copy_to_slice(&mut bytes[at..]);
 }
 
+/// Writes the eight bytes of `digits`, most significant first, from the place `at` on.
+#[inline(always)]
+pub fn store_word(bytes: &mut [u8], at: usize, digits: u64)
+    requires { at + 8 ≤ length bytes.old }
+    ensures { bytes.new ≡ take at bytes.old ++ (to_be_bytes w64 digits ++ drop (at + 8) bytes.old) }
+{
+    store(bytes, at, digits.swap_bytes());
+}
+
 /// Returns the digits of `byte` and then those of `word`, as the eight bytes that spell them, the first
 /// as the least significant.
 #[inline]

@@ -1,11 +1,12 @@
 //! A list of bits that is gathered into bytes.
 ghost use Rattle.std.specs.Prelude.{◌≡◌, ◌+◌, ◌-◌, ◌*◌, ◌%◌, ◌^◌, ◌<◌, ◌≤◌, ◌↔◌, IsTrue, Bool, false, List, [], ◌++◌, length, drop, flat_map, replicate};
 ghost use Rattle.rice_bits.specs.Limits.{step_limit};
-ghost use Rattle.rice_bits.specs.Bits.{fundamental_sequence, word, whole_bytes, bits_in_bytes, bits_to_byte, put_width, IsBitSink, Joins, Puts};
+ghost use Rattle.rice_bits.specs.Bits.{fundamental_sequence, word, whole_bytes, bits_in_bytes, bits_to_byte, put_width, IsBitSink, IsWholeWidth, Joins, Puts};
 
 use crate::Meter;
 use crate::bits::digits::{join, low_digits, to_front};
 use crate::bits::eight_bytes::{front, join_bytes, join_one, keep_byte};
+use crate::bits::whole_words::join_whole_bytes;
 use std::marker::Model;
 
 /// A list of at most `8 * N` bits, gathered into bytes, most significant bit first.
@@ -108,6 +109,32 @@ impl<const N: usize> BitSink<N> {
         self.bits = join_words(&mut self.bytes, self.bits, words, width);
     }
 
+    /// Appends the `count` binary digits of `value`, and then the `width` lowest ones of each of the words, all most significant
+    /// first, and ticks once for each digit.
+    ///
+    /// The digits go out 64 at a time, for which words of 8, 16 or 32 digits come in eights.
+    #[inline(always)]
+    pub fn put_whole_words(
+        &mut self,
+        value: u64,
+        count: u32,
+        words: &[u32],
+        width: u32,
+        meter: &mut Meter,
+    )
+        requires count { (1 ≤ count) × (count ≤ 48) }
+        requires value { value < 2 ^ count }
+        requires width { IsWholeWidth width }
+        requires eights { (8 ≤ length words.now) × (length words.now % 8 ≡ 0) }
+        requires room { length self.old + (count + width * length words.now) ≤ 8 * N }
+        requires meter { meter.old + (count + width * length words.now) < step_limit }
+        ensures { Puts (word count value ++ flat_map (word width) words.now)
+            (count + width * length words.now) self.old self.new meter.old meter.new }
+    {
+        meter.tick(count as u64 + width as u64 * words.len() as u64);
+        self.bits = join_whole_words(&mut self.bytes, self.bits, value, count, words, width);
+    }
+
     /// Appends the fundamental sequence of `m`, `m` zeros and a one, and ticks once for each bit
     /// (CCSDS 121.0-B-3, section 3, fundamental sequence).
     #[inline]
@@ -177,6 +204,58 @@ fn join_words(bytes: &mut [u8], bits: u64, words: &[u32], width: u32) -> u64
     } else {
         join_each(bytes, bits, words, width)
     }
+}
+
+/// Joins the `count` digits of `value`, and then the `width` lowest digits of each of the words, to the first `bits` bits, and
+/// returns how many bits there are then.
+#[inline(always)]
+fn join_whole_words(
+    bytes: &mut [u8],
+    bits: u64,
+    value: u64,
+    count: u32,
+    words: &[u32],
+    width: u32,
+) -> u64
+    requires count { (1 ≤ count) × (count ≤ 48) }
+    requires value { value < 2 ^ count }
+    requires width { IsWholeWidth width }
+    requires eights { (8 ≤ length words.now) × (length words.now % 8 ≡ 0) }
+    requires bits { IsBitSink (length bytes.old) bits bytes.old }
+    requires room { bits + (count + width * length words.now) ≤ 8 * length bytes.old }
+    ensures { Joins (word count value ++ flat_map (word width) words.now)
+        (count + width * length words.now) bits result bytes.old bytes.new }
+{
+    // The loop is laid out for each width.
+    match width {
+        8 => join_words_of(bytes, bits, value, count, words, 8),
+        16 => join_words_of(bytes, bits, value, count, words, 16),
+        _ => join_words_of(bytes, bits, value, count, words, 32),
+    }
+}
+
+/// As `join_whole_words`, for a width that the compiler knows.
+#[inline(always)]
+fn join_words_of(
+    bytes: &mut [u8],
+    bits: u64,
+    value: u64,
+    count: u32,
+    words: &[u32],
+    width: u32,
+) -> u64
+    requires count { (1 ≤ count) × (count ≤ 48) }
+    requires value { value < 2 ^ count }
+    requires width { IsWholeWidth width }
+    requires eights { (8 ≤ length words.now) × (length words.now % 8 ≡ 0) }
+    requires bits { IsBitSink (length bytes.old) bits bytes.old }
+    requires room { bits + (count + width * length words.now) ≤ 8 * length bytes.old }
+    ensures { Joins (word count value ++ flat_map (word width) words.now)
+        (count + width * length words.now) bits result bytes.old bytes.new }
+{
+    let left = (bits % 8) as u32 + count;
+    let (all, last) = join_whole_bytes(bytes, bits, value, count, words, width);
+    join_digits(bytes, all, last % (1 << left), left)
 }
 
 /// As `join_words`, one word at a time.

@@ -1,10 +1,11 @@
 //! A buffer of bits, which puts several fields into a sink at once.
-ghost use Rattle.std.specs.Prelude.{◌≡◌, ◌+◌, ◌^◌, ◌<◌, ◌≤◌, ◌++◌, [], length};
-ghost use Rattle.rice_bits.specs.Bits.{word, fundamental_sequence, put_width};
+ghost use Rattle.std.specs.Prelude.{◌≡◌, ◌+◌, ◌*◌, ◌%◌, ◌^◌, ◌<◌, ◌≤◌, ◌++◌, [], flat_map, length};
+ghost use Rattle.rice_bits.specs.Bits.{word, fundamental_sequence, put_width, IsWholeWidth};
 ghost use Rattle.rice_code.specs.encode.BitBuffer.{HasRoomFor, AddsFields};
 
 use crate::encode::SegmentSink;
 use rice_bits::{Meter, join};
+use rice_samples::Block;
 use std::marker::Model;
 
 /// Holds at most 56 bits that are still to be put into a sink.
@@ -123,6 +124,37 @@ impl BitBuffer {
         self.add_fs(b, sink, meter);
         self.add_fs(c, sink, meter);
         self.add_fs(d, sink, meter);
+    }
+
+    /// Returns the number of the bits.
+    #[inline(always)]
+    pub fn len(&self) -> u32
+        ensures { result ≡ length self.now }
+    {
+        self.width
+    }
+
+    /// Puts the bits, and then the `width` lowest digits of each residual of the block, which come in eights.
+    #[inline(always)]
+    pub fn put_before(
+        &self,
+        block: &Block<'_>,
+        width: u32,
+        sink: &mut SegmentSink,
+        meter: &mut Meter,
+    )
+        requires bits { (1 ≤ length self.now) × (length self.now ≤ 48) }
+        requires width { IsWholeWidth width }
+        requires eights { length block.now % 8 ≡ 0 }
+        requires room { HasRoomFor (length block.now * width) (length block.now * (width + 1))
+            (length sink.old + length self.now) (meter.old + length self.now) }
+        ensures bits { sink.new ≡ sink.old ++ self.now ++ flat_map (word width) block.now }
+        ensures len { length sink.new ≡ length sink.old + length self.now +
+            length block.now * width }
+        ensures steps { meter.new ≡ meter.old + length self.now + length block.now * (width + 1) }
+    {
+        let count = self.width;
+        block.put_whole_digits(self.value, count, width, sink, meter);
     }
 
     /// Puts the bits into the sink, and is empty then.

@@ -52,7 +52,7 @@ fn code_block<const SIZE: usize, const REFERENCE: bool>(
     let mut steps = Meter::new();
     let (choice, bits) = choose(&own, &block, &mut steps);
     match choice {
-        Choice::NoCompression => put_no_compression(&own, &block, sink, &mut steps),
+        Choice::NoCompression => put_no_compression::<SIZE>(&own, &block, sink, &mut steps),
         Choice::SecondExtension => put_second_extension(&own, bits, &block, sink, &mut steps),
         Choice::Split(k) => put_split(&own, k, bits, &block, sink, &mut steps),
     }

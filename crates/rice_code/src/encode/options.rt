@@ -1,6 +1,6 @@
 //! Writing coded data sets: a block by each option, and runs of zero blocks.
-ghost use Rattle.std.specs.Prelude.{◌≡◌, ◌+◌, ◌-◌, ◌*◌, ◌^◌, ◌<◌, ◌≤◌, ◌++◌, length, drop, IfSome};
-ghost use Rattle.rice_bits.specs.Bits.{word};
+ghost use Rattle.std.specs.Prelude.{◌≡◌, ◌+◌, ◌-◌, ◌*◌, ◌%◌, ◌^◌, ◌<◌, ◌≤◌, ◌↔◌, IsTrue, ◌++◌, flat_map, length, drop, IfSome};
+ghost use Rattle.rice_bits.specs.Bits.{word, IsWholeWidth};
 ghost use Rattle.rice_samples.specs.Parameters.{k_max, value_count};
 ghost use Rattle.rice_code.specs.code.CodedDataSets.{NoCompression, SecondExtension, Split, cost as cost_of, sent_residuals, reference_bits, reference_len};
 ghost use Rattle.rice_code.specs.encode.BitBuffer.{HasRoomFor, HasRoomForOption, HasRoomForSet, PutsSet};
@@ -63,9 +63,9 @@ fn first_coded(block: &HeldBlock<'_>) -> usize
     }
 }
 
-/// Appends the block, coded by no compression.
+/// Appends the block, coded by no compression. What it does is laid out for `SIZE` residuals, if that is not 0.
 #[inline(always)]
-pub fn put_no_compression(
+pub fn put_no_compression<const SIZE: usize>(
     setting: &PreparedSetting,
     block: &HeldBlock<'_>,
     sink: &mut SegmentSink,
@@ -82,8 +82,55 @@ pub fn put_no_compression(
     let bits = setting.bits();
     let _block = setting.block();
     let mut fields = begin(setting, (1 << id) - 1, id, block.reference(), sink, meter);
+    let head = fields.len();
+    if from == 0 && residuals.len() % 8 == 0 && 0 < head && head <= 48 && is_whole_width(bits) {
+        if SIZE == 8 || SIZE == 16 {
+            fields.put_before(residuals, bits, sink, meter);
+            return;
+        }
+        let mut steps = Meter::new();
+        put_whole(
+            fields,
+            residuals.sized(residuals.len()),
+            bits,
+            sink,
+            &mut steps,
+        );
+        meter.tick(steps.steps());
+        return;
+    }
     put_low(residuals, from, bits, &mut fields, sink, meter);
     fields.put(sink, meter);
+}
+
+/// Puts the bits of the buffer, and then the `width` digits of each residual, in a call of its own.
+#[inline(never)]
+fn put_whole(
+    fields: BitBuffer,
+    block: Block<'_>,
+    width: u32,
+    sink: &mut SegmentSink,
+    meter: &mut Meter,
+)
+    requires bits { (1 ≤ length fields) × (length fields ≤ 48) }
+    requires width { IsWholeWidth width }
+    requires eights { length block % 8 ≡ 0 }
+    requires room { HasRoomFor (length block * width) (length block * (width + 1))
+        (length sink.old + length fields) (meter.old + length fields) }
+    ensures bits { sink.new ≡ sink.old ++ fields ++ flat_map (word width) block.entry }
+    ensures len { length sink.new ≡ length sink.old + length fields +
+        length block.entry * width }
+    ensures steps { meter.new ≡ meter.old + length fields + length block.entry * (width + 1) }
+{
+    fields.put_before(&block, width, sink, meter);
+}
+
+/// Returns whether words of `width` digits are bytes, and some of them have 64 digits.
+#[inline(always)]
+fn is_whole_width(width: u32) -> bool
+    ensures { IsTrue result ↔ IsWholeWidth width }
+{
+    width == 8 || width == 16 || width == 32
 }
 
 /// Appends the block, coded by second extension, which takes `cost` bits without the head.

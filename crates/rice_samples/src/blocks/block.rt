@@ -1,8 +1,8 @@
 //! Blocks of residuals, which are read only by calls that count their steps.
-ghost use Rattle.std.specs.Prelude.{◌≡◌, All, ℕ, ◌+◌, ◌-◌, ◌*◌, ◌/◌, ◌^◌, ◌==◌, ◌<◌, ◌≤◌, ◌++◌, drop, flat_map, min, length, slice_index, sum_by};
+ghost use Rattle.std.specs.Prelude.{◌≡◌, All, ℕ, ◌+◌, ◌-◌, ◌*◌, ◌/◌, ◌%◌, ◌^◌, ◌==◌, ◌<◌, ◌≤◌, ◌++◌, drop, flat_map, min, length, slice_index, sum_by};
 ghost use Rattle.std.specs.List.{list_all};
 ghost use Rattle.rice_bits.specs.Limits.{step_limit};
-ghost use Rattle.rice_bits.specs.Bits.{word};
+ghost use Rattle.rice_bits.specs.Bits.{word, IsWholeWidth};
 ghost use Rattle.rice_samples.specs.blocks.Pairs.{pair_codes};
 ghost use Rattle.rice_samples.specs.blocks.Stops.{IsFirstStop};
 ghost use Rattle.rice_samples.specs.Parameters.{IsBlockSize};
@@ -16,7 +16,7 @@ use std::marker::Model;
 /// The residuals of a block, an even number of them up to 64, lent by a segment. Contracts see their list.
 ///
 /// Each look at a residual is a step. The calls below tick one for each residual of the block, `at` ticks one, `four_at` four,
-/// `put_digits` one for each that it puts and one for each digit, and `first_stop` and `first_small_stop` the looks of the definition.
+/// `put_digits` and `put_whole_digits` one for each that they put and one for each digit, and `first_stop` and `first_small_stop` the looks of the definition.
 /// `len` and `sized` tick none. No other call reveals anything about the residuals. A block is never empty.
 #[derive(Drop)]
 pub struct Block<'a> {
@@ -201,6 +201,34 @@ impl Block<'_> {
         let coded = &items[from..];
         meter.tick(coded.len() as u64);
         sink.put_words(coded, width, meter);
+    }
+
+    /// Appends the `count` binary digits of `value`, and then the `width` lowest ones of each residual, where these come in
+    /// eights, to the sink, for a step for each residual, and a step for each digit. The digits go out 64 at a time.
+    #[inline(always)]
+    pub fn put_whole_digits<const N: usize>(
+        &self,
+        value: u64,
+        count: u32,
+        width: u32,
+        sink: &mut BitSink<N>,
+        meter: &mut Meter,
+    )
+        requires count { (1 ≤ count) × (count ≤ 48) }
+        requires value { value < 2 ^ count }
+        requires width { IsWholeWidth width }
+        requires eights { length self.now % 8 ≡ 0 }
+        requires room { length sink.old + (count + width * length self.now) ≤ 8 * N }
+        requires meter { meter.old + length self.now + (count + width * length self.now)
+            < step_limit }
+        ensures bits { sink.new ≡ sink.old ++ (word count value ++
+            flat_map (word width) self.now) }
+        ensures len { length sink.new ≡ length sink.old + (count + width * length self.now) }
+        ensures steps { meter.new ≡ meter.old + length self.now +
+            (count + width * length self.now) }
+    {
+        let all = self.look(meter);
+        sink.put_whole_words(value, count, all, width, meter);
     }
 
     /// Ticks the looks of a search up to `limit` that stopped at `k`.

@@ -185,7 +185,7 @@ moved_to_front : (b h k n : ℕ) → b ≡ h * 2 ^ k → k + 56 ≡ n → b * 2 
 moved_to_front b h k n e f = ap (λ c. c * 2 ^ 56) e ∙ (mul-mul h (2 ^ k) (2 ^ 56) ∙ ap (λ c. h * c) (sym (pow-add 2 k 56) ∙ ap (λ c. 2 ^ c) f))
 
 -- digits that are joined to those of a byte
-joined_to_byte : (b g width value : ℕ) → b % 2 ^ (8 - g) ≡ 0 → g < 8 → g + width < 64
+joined_to_byte : (b g width value : ℕ) → b % 2 ^ (8 - g) ≡ 0 → g < 8 → g + width ≤ 64
     → b * 2 ^ 56 + value * 2 ^ (64 - (g + width)) ≡ (b / 2 ^ (8 - g) * 2 ^ width + value) * 2 ^ (64 - (g + width))
 joined_to_byte b g width value zeros short narrow =
     let h : ℕ = b / 2 ^ (8 - g) in
@@ -197,7 +197,7 @@ joined_to_byte b g width value zeros short narrow =
     ap (λ n. n + value * 2 ^ s) (high ∙ ap (λ n. h * n) (ap (λ n. 2 ^ n) (sym split) ∙ pow-add 2 width s)) ∙ add-mul-mul h (2 ^ width) (2 ^ s) value
 
 -- so they fit eight bytes
-pub joined_below : (b g width value : ℕ) → b < 256 → b % 2 ^ (8 - g) ≡ 0 → g < 8 → g + width < 64 → value < 2 ^ width
+pub joined_below : (b g width value : ℕ) → b < 256 → b % 2 ^ (8 - g) ≡ 0 → g < 8 → g + width ≤ 64 → value < 2 ^ width
     → b * 2 ^ 56 + value * 2 ^ (64 - (g + width)) < 2 ^ 64
 joined_below b g width value byte zeros short narrow below =
     let size : g + (8 - g) ≡ 8 = omega arith in
@@ -206,7 +206,7 @@ joined_below b g width value byte zeros short narrow below =
     (shift_fits (g + width) (64 - (g + width)) (b / 2 ^ (8 - g) * 2 ^ width + value) (join_below g width (b / 2 ^ (8 - g)) value h below) (omega arith))
 
 -- digits that come after the bits
-pub gathered-put : (old new : List ℕ) (n width value : ℕ) → n + width ≤ 8 * length old → width ≤ 56 → value < 2 ^ width → drop n (bits_of old) ≡ replicate (8 * length old - n) false
+pub gathered-put : (old new : List ℕ) (n width value : ℕ) → n + width ≤ 8 * length old → n % 8 + width ≤ 64 → value < 2 ^ width → drop n (bits_of old) ≡ replicate (8 * length old - n) false
     → new ≡ take (length old) (take (n / 8) old ++ (to_be_bytes w64 (slice_index old (n / 8) * 2 ^ 56 + value * 2 ^ (64 - (n % 8 + width))) ++ drop (n / 8 + 8) old))
     → (take (n + width) (bits_of new) ≡ take n (bits_of old) ++ word width value) × (drop (n + width) (bits_of new) ≡ replicate (8 * length old - (n + width)) false)
 gathered-put old new n width value room narrow below zeros e =

@@ -13,7 +13,7 @@ all_ones : (n : ℕ) → n ≤ 5 → (1 * 2 ^ n) % 4294967296 - 1 ≡ 2 ^ n - 1
 all_ones n h = let few : 2 ^ n ≤ 2 ^ 5 = pow-le-pow_right {n = 2} (omega arith) {i = n} {j = 5} h in omega (arith, few)
 
 pub put_low-requires-clause-room : goal.put_low-requires-clause-room
-put_low-requires-clause-room c =
+put_low-requires-clause-room g c =
     let sent = sent_are (sent_residuals c.args.block.now) c.args.block.now.residuals c.residuals-residuals.result.now c.first_coded-from.result
     c.args.setting.now.bits 0 c.first_coded-from.ensures.coded c.residuals-residuals.ensures in
     let s = c.args.setting.now in
@@ -28,7 +28,7 @@ put_low-requires-clause-room c =
     }
 
 pub returns : goal.returns
-returns c =
+returns g c =
     let sent = sent_are (sent_residuals c.args.block.now) c.args.block.now.residuals c.residuals-residuals.result.now c.first_coded-from.result
     c.args.setting.now.bits 0 c.first_coded-from.ensures.coded c.residuals-residuals.ensures in
     let s = c.args.setting.now in
