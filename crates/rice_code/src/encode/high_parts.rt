@@ -87,7 +87,7 @@ fn put_sixteens(
     block: Block<'_>,
     from: usize,
     k: u32,
-    mut fields: BitBuffer,
+    fields: BitBuffer,
     sink: &mut SegmentSink,
     meter: &mut Meter,
 ) -> BitBuffer
@@ -99,10 +99,35 @@ fn put_sixteens(
     ensures { AddsOnes k (length block.entry) (length block.entry - from) (drop from block.entry)
         sink.old fields sink.new result meter.old meter.new }
 {
+    // A count of its own stays in a register.
+    let mut steps = Meter::new();
+    let fields = put_each_sixteen(&block, from, k, fields, sink, &mut steps);
+    meter.tick(steps.steps());
+    fields
+}
+
+/// Adds them where what it counts is in a register, and returns the buffer.
+#[inline(always)]
+fn put_each_sixteen(
+    block: &Block<'_>,
+    from: usize,
+    k: u32,
+    mut fields: BitBuffer,
+    sink: &mut SegmentSink,
+    meter: &mut Meter,
+) -> BitBuffer
+    requires split { k ≤ 29 }
+    requires from { from ≤ 1 }
+    requires sixteens { length block.now % 16 ≡ 0 }
+    requires room { HasRoomForOnes k (length block.now) (length block.now - from) (drop from block.now)
+        (length sink.old + length fields) (meter.old + length fields) }
+    ensures { AddsOnes k (length block.now) (length block.now - from) (drop from block.now)
+        sink.old fields sink.new result meter.old meter.new }
+{
     let len = block.len();
-    put_sixteen_high(&block, 0, from, k, &mut fields, sink, meter);
+    put_sixteen_high(block, 0, from, k, &mut fields, sink, meter);
     for i in 1..len / 16 {
-        put_sixteen_high(&block, 16 * i, 0, k, &mut fields, sink, meter);
+        put_sixteen_high(block, 16 * i, 0, k, &mut fields, sink, meter);
     }
     fields
 }

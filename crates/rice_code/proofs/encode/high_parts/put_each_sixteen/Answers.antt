@@ -3,11 +3,11 @@ use Rattle.std.specs.Prelude.{flat_map, slice_range, sum_by}
 use Rattle.rice_bits.specs.Bits.{fundamental_sequence}
 use Rattle.rice_code.proofs.lemmas.encode.RangesWritten.{split_summed}
 use Rattle.rice_code.proofs.lemmas.encode.ShortLowParts.{eight_added}
-use Rattle.rice_code.proofs.encode.high_parts.put_sixteens.Goals as goal
+use Rattle.rice_code.proofs.encode.high_parts.put_each_sixteen.Goals as goal
 
 pub loop-i-init : goal.loop-i-init
 loop-i-init c =
-    let xs = c.args.block in
+    let xs = c.args.block.now in
     let from = c.args.from in
     let f = λ (d : ℕ). fundamental_sequence (d / 2 ^ c.args.k) in
     let start : 0 + from ≡ from = omega arith in
@@ -23,7 +23,7 @@ loop-i-init c =
 
 pub loop-i-preserved : goal.loop-i-preserved
 loop-i-preserved c =
-    let xs = c.args.block in
+    let xs = c.args.block.now in
     let f = λ (d : ℕ). fundamental_sequence (d / 2 ^ c.args.k) in
     let i = 16 * c.loop-i.i in
     let n = 16 * (c.loop-i.i + 1) in

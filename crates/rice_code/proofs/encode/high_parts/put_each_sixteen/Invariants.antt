@@ -1,7 +1,7 @@
 use Rattle.std.proofs.Common.{◌≡◌, ◌+◌, ◌-◌, ◌*◌, ◌/◌, ◌^◌, ◌≤◌, ◌++◌, length, drop}
 use Rattle.std.specs.Prelude.{flat_map, sum_by}
 use Rattle.rice_bits.specs.Bits.{fundamental_sequence}
-use Rattle.rice_code.proofs.encode.high_parts.put_sixteens.Given as goal
+use Rattle.rice_code.proofs.encode.high_parts.put_each_sixteen.Given as goal
 
 abbrev pub invariant-loop-i : goal.invariant-loop-i
 invariant-loop-i l = record {
