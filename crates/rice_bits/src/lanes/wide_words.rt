@@ -1,9 +1,9 @@
-//! Four or eight words of up to 24 bits at a time, from any bit of a slice on.
+//! Four or eight words of up to 24 bits, or four of 32, at a time, from any bit of a slice on.
 ghost use Rattle.std.specs.Prelude.{◌≡◌, ◌+◌, ◌-◌, ◌*◌, ◌/◌, ◌^◌, ◌<◌, ◌≤◌, All, drop, flat_map, length, map, take};
 ghost use Rattle.rice_bits.specs.Bits.{bits_of, word};
 ghost use Rattle.rice_bits.specs.lanes.WideWords.{four, quad_factors, quad_number, quad_places};
 
-use crate::lanes::words::bytes_at;
+use crate::lanes::words::{bytes_at, sixteen_from};
 use std::simd::prelude::*;
 
 /// For each width up to 24 and each number of bits before the first of four words, the places of the four bytes in which each word
@@ -413,4 +413,35 @@ pub fn eight_from(bytes: &[u8], at: usize, width: u32) -> u32x8
     let first = four_from(bytes, at, width);
     let second = four_from(bytes, at + 4 * width as usize, width);
     first.shuffle(second, [0, 1, 2, 3, 4, 5, 6, 7])
+}
+
+/// Returns the numbers of the bytes from each fourth of sixteen on.
+#[inline(always)]
+fn fourth_quads(bytes: u8x16) -> u32x4
+    requires { length bytes ≡ 16 }
+    ensures { result ≡ map (λ j. quad_number bytes ((0 + j * 32) / 8)) four }
+{
+    let last_first = [3, 2, 1, 0, 7, 6, 5, 4, 11, 10, 9, 8, 15, 14, 13, 12];
+    u32x4::from_le_bytes(bytes_at(bytes, u8x16::from_array(last_first)))
+}
+
+/// Returns the numbers that sixteen bytes spell, four bytes each.
+#[inline(always)]
+fn four_numbers(bytes: u8x16) -> u32x4
+    requires { length bytes ≡ 16 }
+    ensures len { length result ≡ 4 }
+    ensures bits { flat_map (word 32) result ≡ bits_of bytes }
+{
+    fourth_quads(bytes)
+}
+
+/// Returns the four words of 32 bits from bit `at` on.
+#[inline(always)]
+pub fn four_whole_from(bytes: &[u8], at: usize) -> u32x4
+    requires at { at < 2 ^ 32 }
+    requires room { at / 8 + 24 ≤ length bytes.now }
+    ensures len { length result ≡ 4 }
+    ensures bits { flat_map (word 32) result ≡ take 128 (drop at (bits_of bytes.now)) }
+{
+    four_numbers(sixteen_from(bytes, at, 8))
 }

@@ -5,6 +5,7 @@ ghost use Rattle.rice_bits.specs.read.Window.{buffer_len, most_waiting};
 
 use crate::bits::digits::digits_behind;
 use crate::bits::eight_bytes::{eight_bytes_from, load};
+use crate::lanes::wide_words::four_whole_from;
 use crate::read::eight_words::eight_from;
 use crate::read::four_words::four_from;
 use std::simd::prelude::*;
@@ -34,8 +35,11 @@ pub fn words_from(bytes: &[u8], at: usize, width: u32, words: &mut [u32])
     if width == 0 {
         return words.fill(0);
     }
-    if width > 28 || words.len() < 4 {
+    if words.len() < 4 {
         return each_from(bytes, at, width, words);
+    }
+    if width > 28 {
+        return long_from(bytes, at, width, words);
     }
     if width > 8 || words.len() % 8 != 0 {
         return fours_from(bytes, at, width, words);
@@ -139,6 +143,42 @@ fn each_four_from(bytes: &[u8], at: usize, width: u32, words: &mut [u32])
     // The last four may begin among those before them.
     let four = four_from(bytes, at + last * width as usize, width);
     four.copy_to_slice(&mut words[last..]);
+}
+
+/// As `words_from`, for words of 29 to 32 bits.
+#[inline(never)]
+fn long_from(bytes: &[u8], at: usize, width: u32, words: &mut [u32])
+    requires width { width ≤ 32 }
+    requires some { 4 ≤ length words.old }
+    requires few { length words.old ≤ 64 }
+    requires within { at + length words.old * width ≤ most_waiting }
+    requires room { buffer_len ≤ length bytes.now }
+    ensures fit { All (λ v. v < 2 ^ width) words.new }
+    ensures bits { flat_map (word width) words.new
+        ≡ take (length words.new * width) (drop at (bits_of bytes.now)) }
+{
+    if width < 32 {
+        return each_from(bytes, at, width, words);
+    }
+    whole_from(bytes, at, words);
+}
+
+/// As `words_from`, for words of 32 bits, four at a time.
+#[inline(always)]
+fn whole_from(bytes: &[u8], at: usize, words: &mut [u32])
+    requires some { 4 ≤ length words.old }
+    requires few { length words.old ≤ 64 }
+    requires within { at + length words.old * 32 ≤ most_waiting }
+    requires room { buffer_len ≤ length bytes.now }
+    ensures bits { flat_map (word 32) words.new
+        ≡ take (length words.new * 32) (drop at (bits_of bytes.now)) }
+{
+    let last = words.len() - 4;
+    for i in 0..(last + 3) / 4 {
+        four_whole_from(bytes, at + 128 * i).copy_to_slice(&mut words[4 * i..]);
+    }
+    // The last four may begin among those before them.
+    four_whole_from(bytes, at + last * 32).copy_to_slice(&mut words[last..]);
 }
 
 /// As `words_from`, one word at a time.
