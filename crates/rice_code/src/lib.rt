@@ -19,6 +19,6 @@ pub use known_len::known_or;
 // What these hold, in bytes, on a machine with pointers of eight.
 const _: () = prove!(size_of::<SegmentSink>() == 16440);
 
-const _: () = prove!(size_of::<Coder>() == 16448);
+const _: () = prove!(size_of::<Coder>() == 16456);
 
-const _: () = prove!(size_of::<Decoder>() == 560);
+const _: () = prove!(size_of::<Decoder>() == 568);

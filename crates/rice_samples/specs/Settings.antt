@@ -1,7 +1,8 @@
 -- Which settings there are, and which of their parameters is refused first.
-use Rattle.std.specs.Prelude.{ℕ, Bool, ◌≤◌, ◌%◌, if◌then◌else◌, nat_le, ◌&&◌, ◌||◌, ◌==◌, Result, Ok, Err}
+use Rattle.std.specs.Prelude.{ℕ, Bool, ◌≡◌, ◌+◌, ◌≤◌, ◌%◌, if◌then◌else◌, nat_le, ◌&&◌, ◌||◌, ◌==◌, Result, Ok, Err}
 use Rattle.rice_samples.specs.Limits.{longest_interval}
-use Rattle.rice_samples.specs.Parameters.{Parameters, IsBlockSize, IsStandardSize}
+use Rattle.rice_samples.specs.Parameters.{Parameters, IsBlockSize, IsStandardSize, value_count}
+use Rattle.rice_samples.specs.bytes.Values.{offset as offset_of}
 use Rattle.rice_samples.specs.declared.setting.SettingFault.{SettingFault}
 use Rattle.rice_samples.specs.declared.setting.SettingFault.TheVariants.{BadBits, BadBlock, BadAnyBlock, BadInterval}
 
@@ -16,6 +17,10 @@ parameters bits block interval signed msb three preprocess pad = record {
   preprocess = preprocess;
   pad = pad;
 }
+
+-- the greatest level of these, and the number of levels of values below 0
+abbrev pub HasLevels : Parameters → ℕ → ℕ → Type 0
+HasLevels s greatest offset = (greatest + 1 ≡ value_count s) × (offset ≡ offset_of s)
 
 abbrev pub HasLegalBits : Parameters → Type 0
 HasLegalBits s = (1 ≤ s.bits) × (s.bits ≤ 32)

@@ -1,5 +1,5 @@
 //! The setting of a coder and a decoder.
-ghost use Rattle.std.specs.Prelude.{◌≡◌, ◌-◌, ◌*◌, ◌%◌, ◌^◌, ◌<◌, ◌≤◌, ◌↔◌, IsTrue, IsOk, IfErr};
+ghost use Rattle.std.specs.Prelude.{◌≡◌, ◌+◌, ◌-◌, if◌then◌else◌, ◌*◌, ◌%◌, ◌^◌, ◌<◌, ◌≤◌, ◌↔◌, IsTrue, IsOk, IfErr};
 ghost use Rattle.rice_samples.specs.Limits.{longest_interval};
 ghost use Rattle.rice_samples.specs.Parameters.{Parameters, IsLegal, IsSample, id_len, k_max, width, value_at as value_at_level, value_count, least, level, level as level_of};
 ghost use Rattle.rice_samples.specs.Places.{segment_blocks, blocks_left, is_reference};
@@ -38,17 +38,22 @@ pub struct Setting {
     three: bool,
     preprocess: bool,
     pad: bool,
+    /// The greatest level, and the number of levels of values below 0: computed once, since each block asks for them.
+    greatest: u32,
+    offset: u32,
 }
 
 impl Model for Setting {
-    ghost use Rattle.rice_samples.specs.Parameters.{Parameters, IsLegal};
-    ghost use Rattle.rice_samples.specs.Settings.{parameters};
+    ghost use Rattle.std.specs.Prelude.{◌-◌};
+    ghost use Rattle.rice_samples.specs.Parameters.{Parameters, IsLegal, value_count};
+    ghost use Rattle.rice_samples.specs.Settings.{parameters, HasLevels};
+    ghost use Rattle.rice_samples.specs.bytes.Values.{offset as offset_of};
 
     ghost Value = { Parameters };
 
     ghost view = { λ s. parameters s.bits s.block s.interval s.signed s.msb s.three s.preprocess s.pad };
 
-    ghost invariant = { λ s. IsLegal (parameters s.bits s.block s.interval s.signed s.msb s.three s.preprocess s.pad) };
+    ghost invariant = { λ s. IsLegal (parameters s.bits s.block s.interval s.signed s.msb s.three s.preprocess s.pad) × HasLevels (parameters s.bits s.block s.interval s.signed s.msb s.three s.preprocess s.pad) s.greatest s.offset };
 
     ghost inverse = { λ p. record {
       bits = p.bits;
@@ -59,7 +64,25 @@ impl Model for Setting {
       three = p.three;
       preprocess = p.preprocess;
       pad = p.pad;
+      greatest = value_count p - 1;
+      offset = offset_of p;
     } };
+}
+
+/// Returns the greatest level of samples of `bits` bits.
+fn greatest_level(bits: u32) -> u32
+    requires { (1 ≤ bits) × (bits ≤ 32) }
+    ensures { result + 1 ≡ 2 ^ bits }
+{
+    ((1u64 << bits) - 1) as u32
+}
+
+/// Returns the number of levels of values below 0, of samples of `bits` bits.
+fn levels_below_zero(bits: u32, signed: bool) -> u32
+    requires { (1 ≤ bits) × (bits ≤ 32) }
+    ensures { result ≡ if signed then 2 ^ (bits - 1) else 0 }
+{
+    if signed { 1 << (bits - 1) } else { 0 }
 }
 
 impl Setting {
@@ -136,6 +159,8 @@ impl Setting {
             three,
             preprocess,
             pad,
+            greatest: greatest_level(bits),
+            offset: levels_below_zero(bits, signed),
         })
     }
 
@@ -256,7 +281,7 @@ impl Setting {
         ensures { IsTrue result ↔ IsSample self.now x }
     {
         let least = self.least();
-        least <= x && x < least + (1 << self.bits)
+        least <= x && x <= least + self.greatest as i64
     }
 
     /// Returns the least value that a sample can have.
@@ -265,11 +290,7 @@ impl Setting {
         ensures value { result ≡ least self.now }
         ensures legal { IsLegal self.now }
     {
-        if self.signed {
-            -(1 << (self.bits - 1))
-        } else {
-            0
-        }
+        -(self.offset as i64)
     }
 
     /// Returns the number of legal values below 0.
@@ -279,7 +300,7 @@ impl Setting {
         ensures range { result ≤ 2 ^ 31 }
         ensures legal { IsLegal self.now }
     {
-        if self.signed { 1 << (self.bits - 1) } else { 0 }
+        self.offset as u64
     }
 
     /// Returns the number of values that a sample can have, and so a residual: 2^n.
@@ -289,7 +310,7 @@ impl Setting {
         ensures range { (2 ≤ result) × (result ≤ 2 ^ 32) }
         ensures legal { IsLegal self.now }
     {
-        1 << self.bits
+        self.greatest as u64 + 1
     }
 
     /// Returns the level of `x`: the number of legal values below it.

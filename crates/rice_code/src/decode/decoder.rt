@@ -135,7 +135,7 @@ fn write_values(setting: &Setting, levels: &[u32], values: &mut ArrayVec<i64, 64
 
 /// Decodes coded data sets, a block a call.
 ///
-/// It takes 560 bytes of memory. In contracts its value is its state: the setting, the place of the next block, the
+/// It takes 568 bytes of memory. In contracts its value is its state: the setting, the place of the next block, the
 /// sample before it, the zero blocks of a run that are still to come, and what it answers once it has stopped.
 #[derive(Drop)]
 pub struct Decoder {

@@ -157,6 +157,7 @@ pub fn spell_uncompressed_ahead<I: Intake, const SIZE: usize>(
 ) -> SpelledBlock
     requires size { 0 < SIZE → SIZE ≡ size }
     requires lanes { HasLanes setting.now size 1 }
+    requires place { block < setting.now.interval }
     requires before { before < value_count setting.now }
     requires there { 148 + 8 * size ≤ length reader.now.waiting }
     requires id { word (id_len setting.now) (2 ^ id_len setting.now - 1)

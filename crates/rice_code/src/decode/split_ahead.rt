@@ -70,6 +70,7 @@ pub fn spell_ahead<I: Intake, const SIZE: usize, const WIDTH: usize, const TURNS
 ) -> Option<SpelledBlock>
     requires size { 0 < SIZE → SIZE ≡ size }
     requires lanes { HasLanes setting.now size WIDTH }
+    requires place { block < setting.now.interval }
     requires before { before < value_count setting.now }
     requires there { 208 ≤ length reader.now.waiting }
     requires split { k < 3 + 3 * WIDTH }
@@ -97,6 +98,7 @@ fn spell_in_one<I: Intake, const WIDTH: usize, const TURNS: bool>(
     bytes: &mut [u8],
 ) -> Option<SpelledBlock>
     requires lanes { HasLanes setting.now size WIDTH }
+    requires place { block < setting.now.interval }
     requires row { size ≤ 16 }
     requires before { before < value_count setting.now }
     requires there { 208 ≤ length reader.now.waiting }
@@ -135,6 +137,7 @@ fn spell_in_rows<I: Intake, const WIDTH: usize, const TURNS: bool>(
     bytes: &mut [u8],
 ) -> Option<SpelledBlock>
     requires lanes { HasLanes setting.now size WIDTH }
+    requires place { block < setting.now.interval }
     requires rows { 16 < size }
     requires before { before < value_count setting.now }
     requires there { 208 ≤ length reader.now.waiting }

@@ -73,6 +73,17 @@ fn first_half(numbers: u8x16) -> u8x16
     )
 }
 
+/// Returns whether the first sample of block `block` of its interval is a reference sample, where samples are predicted.
+#[inline(always)]
+pub fn begins_interval(setting: &Setting, block: u64) -> bool
+    requires preprocess { setting.now.preprocess ≡ true }
+    requires place { block < setting.now.interval }
+    ensures { result ≡ is_reference setting.now block }
+{
+    let _interval = setting.interval();
+    block == 0
+}
+
 /// Returns the parts of the block of `size` samples that waits, by split `k`, after a sample at level `before`, if its fundamental
 /// sequences are short. It takes nothing.
 #[inline(always)]
@@ -86,6 +97,7 @@ pub fn parts_ahead<I: Intake, const WIDTH: usize>(
 ) -> Option<PartLanes>
     requires lanes { HasLanes setting.now size WIDTH }
     requires row { size ≤ 16 }
+    requires place { block < setting.now.interval }
     requires before { before < value_count setting.now }
     requires there { 208 ≤ length reader.now.waiting }
     requires split { k < 3 + 3 * WIDTH }
@@ -93,7 +105,7 @@ pub fn parts_ahead<I: Intake, const WIDTH: usize>(
     ensures { IfSome result (λ p. PartsAhead reader.now.waiting setting.now block before k
         p.from 16 p.highs p.lows p.len) }
 {
-    if setting.is_reference(block) {
+    if begins_interval(setting, block) {
         return parts_behind_reference::<I, WIDTH>(setting, size, block, before, k, reader);
     }
     plain_parts::<I, WIDTH>(setting, size, block, before, k, reader)

@@ -5,7 +5,7 @@ ghost use Rattle.rice_samples.specs.Parameters.{id_len, value_count};
 ghost use Rattle.rice_code.specs.decode.BlocksAhead.{HasLanes, HasWidth, PartsAhead, SpellsParts, lanes_of};
 ghost use Rattle.rice_code.specs.decode.FieldsAhead.{HeadAhead, HighsAhead, LowsAhead, rows_len};
 
-use crate::decode::split_lanes::{first_lanes, spell_parts};
+use crate::decode::split_lanes::{begins_interval, first_lanes, spell_parts};
 use rice_bits::{BitReader, Intake, Sequences, behind_zero};
 use rice_samples::{Setting, level_of_pattern};
 use std::simd::prelude::*;
@@ -60,12 +60,13 @@ pub fn head_ahead<I: Intake>(
 ) -> RowsHead
     requires id { id ≡ id_len setting.now }
     requires preprocess { setting.now.preprocess ≡ true }
+    requires place { block < setting.now.interval }
     requires before { before < value_count setting.now }
     requires there { id_len setting.now + setting.now.bits ≤ length reader.now.waiting }
     ensures { HeadAhead reader.now.waiting setting.now block before result.from result.omitted
         result.len }
 {
-    if setting.is_reference(block) {
+    if begins_interval(setting, block) {
         let bits = setting.bits();
         let from = level_of_pattern(setting, reader.number_ahead(id, bits));
         return RowsHead {
@@ -206,6 +207,7 @@ pub fn rows_ahead<I: Intake, const WIDTH: usize>(
     reader: &BitReader<I>,
 ) -> Option<PartRows>
     requires lanes { HasLanes setting.now size WIDTH }
+    requires place { block < setting.now.interval }
     requires rows { 16 < size }
     requires before { before < value_count setting.now }
     requires there { 208 ≤ length reader.now.waiting }

@@ -225,6 +225,7 @@ pub fn restore_wide_ahead<I: Intake>(
     requires wide { 16 < setting.now.bits }
     requires preprocess { setting.now.preprocess ≡ true }
     requires size { length levels.old ≡ setting.now.block }
+    requires place { block < setting.now.interval }
     requires before { before < value_count setting.now }
     requires there { 101 ≤ length reader.now.waiting }
     requires split { (1 ≤ k) × (k ≤ 24) }

@@ -31,7 +31,7 @@ pub struct SizedCoder<const N: usize> {
     segment: OpenSegment<N>,
 }
 
-/// A coder for any setting. It takes 16,448 bytes of memory.
+/// A coder for any setting. It takes 16,456 bytes of memory.
 pub type Coder = SizedCoder<4096>;
 
 impl<const N: usize> Model for SizedCoder<N> {

@@ -2,11 +2,11 @@ use Rattle.std.proofs.Common.{◌∙◌, sym}
 use Rattle.rice_code.proofs.lemmas.decode.SplitRows.{head_behind_reference}
 use Rattle.rice_code.proofs.decode.split_rows.head_ahead.Goals as goal
 
-pub returns-then-is_reference : goal.returns-then-is_reference
-returns-then-is_reference g c =
+pub returns-then-begins_interval : goal.returns-then-begins_interval
+returns-then-begins_interval g c =
     let a = c.args in
     let number = c.number_ahead.ensures in
     let from = c.level_of_pattern-from in
     head_behind_reference a.reader.now.waiting a.setting.now a.block a.before from.result c.number_ahead.result a.id c.bits-bits.result
-    (sym c.is_reference.ensures ∙ c.if-is_reference.true) c.requires.id c.bits-bits.ensures.value
+    (sym c.begins_interval.ensures ∙ c.if-begins_interval.true) c.requires.id c.bits-bits.ensures.value
     number.below number.bits from.ensures.below from.ensures.pattern
