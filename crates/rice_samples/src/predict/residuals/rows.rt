@@ -77,11 +77,24 @@ pub(crate) fn write_patterns(setting: &Setting, levels: &[u32], patterns: &mut [
 {
     let setting = *setting;
     if !setting.signed() {
-        patterns.copy_from_slice(levels);
+        copy_levels(levels, patterns);
         return;
     }
     for i in 0..levels.len() {
         patterns[i] = pattern_at(&setting, levels[i]);
+    }
+}
+
+/// Copies the levels.
+#[inline(always)]
+fn copy_levels(levels: &[u32], patterns: &mut [u32])
+    requires { length patterns.old ≡ length levels.now }
+    ensures { patterns.new ≡ levels.now }
+{
+    // The shortest segments are two blocks of eight: to copy these takes no call.
+    match levels.len() {
+        16 => patterns[..16].copy_from_slice(&levels[..16]),
+        _ => patterns.copy_from_slice(levels),
     }
 }
 

@@ -4,7 +4,7 @@ use Rattle.rice_samples.proofs.predict.residuals.rows.write_patterns.Goals as go
 
 pub returns-then-not-signed : goal.returns-then-not-signed
 returns-then-not-signed c =
-    c.copy_from_slice.ensures.after ∙ sym (unsigned_patterns c.args.setting.now c.args.levels.now (sym c.signed.ensures ∙ c.if-not-signed.true))
+    c.copy_levels.ensures ∙ sym (unsigned_patterns c.args.setting.now c.args.levels.now (sym c.signed.ensures ∙ c.if-not-signed.true))
 
 pub loop-i-preserved : goal.loop-i-preserved
 loop-i-preserved c =
