@@ -1,4 +1,5 @@
 use Rattle.std.proofs.Common.{◌≡◌, ◌+◌, ◌-◌, ◌*◌, ◌∙◌, arith, w64, to_z, of_z, to_z-of_z}
+use Rattle.std.proofs.lemmas.Grind.{common_steps}
 use Rattle.rice_stream.specs.Pulling.{stand_at}
 use Rattle.rice_stream.proofs.lemmas.Strokes.{run_stroke}
 use Rattle.rice_stream.proofs.strokes.next_of_run.Goals as goal
@@ -20,3 +21,6 @@ returns-clause-gives c =
     c.args.samples.now c.spell_again_at.new.samples know.0 know.1 know.2 know.3 c.requires.come.reads c.requires.come.state c.repeat_blocks.ensures.gives c.width-width.ensures.value c.block-block.ensures.value
     (omega (arith, c.width-width.ensures.range)) (omega (arith, c.block-block.ensures.range)) blocks.ensures.some
     (c.stand_behind-stand.ensures.numbers ∙ (λ i. stand_at (stand.samples + n) (stand.bits + taken i) (steps i) q)) same c.spell_again_at.ensures
+
+pub returns-clause-room : goal.returns-clause-room
+returns-clause-room c = grind (arith, common_steps)

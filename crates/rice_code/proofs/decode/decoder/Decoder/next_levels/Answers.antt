@@ -1,4 +1,5 @@
 use Rattle.std.proofs.Common.{arith, ◌-◌, ◌∙◌, refl}
+use Rattle.std.proofs.lemmas.Grind.{common_steps}
 use Rattle.rice_samples.specs.Parameters.{value_at, values_at}
 use Rattle.rice_samples.proofs.lemmas.setting.ValuesAboveLeast.{sample_at}
 use Rattle.rice_samples.proofs.lemmas.setting.ValuesAt.{legal_values, length-values}
@@ -29,3 +30,6 @@ returns-then-self-gt0-clause-in_run g c none pos =
       refl,
       refl,
     )
+
+pub returns-then-read_wide-clause-reads : goal.returns-then-read_wide-clause-reads
+returns-then-read_wide-clause-reads g c = grind (arith, common_steps)

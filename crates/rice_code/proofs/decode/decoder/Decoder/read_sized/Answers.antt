@@ -1,4 +1,5 @@
 use Rattle.std.proofs.Common.{arith, ◌≡◌, ◌-◌, ◌∙◌, ap, refl, subst, true, []}
+use Rattle.std.proofs.lemmas.Grind.{common_steps}
 use Rattle.rice_samples.specs.Parameters.{value_at, values_at}
 use Rattle.rice_samples.proofs.lemmas.setting.ValuesAt.{legal_values, length-values}
 use Rattle.rice_code.specs.decode.Decoder.{TakesSet, StopsBy, answer_to, with_mark}
@@ -115,3 +116,9 @@ returns-in-Err-clause-reads g c =
     (values_at st.setting c.stop-in-Err.new.levels.items) (answer_to c.in-Err.fault)
     (subst (λ r. StopsBy r c.read_set.new.reader c.args.meter.now c.read_set.new.meter st.setting st.block (answer_to c.in-Err.fault)) marks stops)
     (rw c.answer_of.ensures at c.stop-in-Err.ensures.stops) none)
+
+pub returns-then-not-sound-clause-reads : goal.returns-then-not-sound-clause-reads
+returns-then-not-sound-clause-reads g c = grind (arith, common_steps)
+
+pub returns-in-None-clause-reads : goal.returns-in-None-clause-reads
+returns-in-None-clause-reads g c = grind (arith, common_steps)

@@ -1,4 +1,5 @@
 use Rattle.std.proofs.Common.{◌≡◌, ◌+◌, ◌-◌, ◌*◌, ◌%◌, ◌<◌, ◌∙◌, suc, arith, ap, drop, length, subst, sym, take}
+use Rattle.std.proofs.lemmas.Grind.{common_steps}
 use Rattle.std.proofs.lemmas.List.{length-take-le}
 use Rattle.rice_bits.specs.Bits.{word}
 use Rattle.rice_bits.specs.read.Reader.{Takes}
@@ -68,3 +69,6 @@ returns-clause-gives g c =
     let given = row_given n a.reader.now new a.meter.now steps a.self.now q l w a.bytes.now legal c.requires.plain within c.requires.going row takes
     (omega (arith, c.take_ahead.ensures.steps, together)) c.take_ahead.ensures.limit below spelled moves in
     subst (λ k. GivesRow k a.reader.now new a.meter.now steps a.self.now q a.bytes.now) (sym size) given
+
+pub returns-clause-run : goal.returns-clause-run
+returns-clause-run g c = grind (arith, common_steps)

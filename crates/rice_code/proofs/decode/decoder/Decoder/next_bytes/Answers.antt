@@ -1,0 +1,6 @@
+use Rattle.std.proofs.Common.{arith}
+use Rattle.std.proofs.lemmas.Grind.{common_steps}
+use Rattle.rice_code.proofs.decode.decoder.Decoder.next_bytes.Goals as goal
+
+pub returns-then-is_uncompressed_ahead-clause-some : goal.returns-then-is_uncompressed_ahead-clause-some
+returns-then-is_uncompressed_ahead-clause-some g c = grind (arith, common_steps)
