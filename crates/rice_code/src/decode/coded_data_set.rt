@@ -29,24 +29,17 @@ fn read_low_entropy<I: Intake>(
         (LowEntropyCut reader.old reader.new meter.old meter.new setting.now block) }
     ensures steps { AreCounted meter.old meter.new reader.old.taken reader.new.taken }
 {
-    let bit = match reader.take(1, meter) {
-        Ok(bit) => bit,
-        Err(fault) => return Err(fault),
-    };
+    let bit = reader.take(1, meter)?;
     if bit == 0 {
-        return match read_run(setting, block, reader, meter) {
-            Ok((reference, zeros)) => Ok(SetSummary::Zeros { reference, zeros }),
-            Err(fault) => Err(fault),
-        };
+        let (reference, zeros) = read_run(setting, block, reader, meter)?;
+        return Ok(SetSummary::Zeros { reference, zeros });
     }
-    match read_second_extension(setting, block, reader, meter, residuals, codes) {
-        Ok(head) => Ok(SetSummary::Residuals {
-            reference: head.reference,
-            sound: head.sound,
-            near: true,
-        }),
-        Err(fault) => Err(fault),
-    }
+    let head = read_second_extension(setting, block, reader, meter, residuals, codes)?;
+    Ok(SetSummary::Residuals {
+        reference: head.reference,
+        sound: head.sound,
+        near: true,
+    })
 }
 
 /// Reads all bits of one coded data set, and refuses none that has its form. `highs` is scratch space.
@@ -70,32 +63,23 @@ pub fn read_set<I: Intake>(
     ensures steps { AreCounted meter.old meter.new reader.old.taken reader.new.taken }
 {
     let width = setting.id_len();
-    let id = match reader.take(width, meter) {
-        Ok(id) => id,
-        Err(fault) => return Err(fault),
-    };
+    let id = reader.take(width, meter)?;
     if id == 0 {
-        return match read_low_entropy(setting, block, reader, meter, residuals, highs) {
-            Ok(taken) => Ok(taken),
-            Err(fault) => Err(fault),
-        };
+        let taken = read_low_entropy(setting, block, reader, meter, residuals, highs)?;
+        return Ok(taken);
     }
     if id == (1 << width) - 1 {
-        return match read_no_compression(setting, block, reader, meter, residuals) {
-            Ok(head) => Ok(SetSummary::Residuals {
-                reference: head.reference,
-                sound: head.sound,
-                near: false,
-            }),
-            Err(fault) => Err(fault),
-        };
-    }
-    match read_split(setting, block, id - 1, reader, meter, residuals, highs) {
-        Ok(head) => Ok(SetSummary::Residuals {
+        let head = read_no_compression(setting, block, reader, meter, residuals)?;
+        return Ok(SetSummary::Residuals {
             reference: head.reference,
             sound: head.sound,
-            near: true,
-        }),
-        Err(fault) => Err(fault),
+            near: false,
+        });
     }
+    let head = read_split(setting, block, id - 1, reader, meter, residuals, highs)?;
+    Ok(SetSummary::Residuals {
+        reference: head.reference,
+        sound: head.sound,
+        near: true,
+    })
 }

@@ -165,13 +165,8 @@ fn read_rows_of<I: Intake>(
     if k == 0 {
         return read_counts(reader, meter, most, residuals);
     }
-    let small = match read_counts(reader, meter, most, highs) {
-        Ok(small) => small,
-        Err(fault) => return Err(fault),
-    };
-    if let Err(fault) = read_words(reader, meter, k, residuals) {
-        return Err(fault);
-    }
+    let small = read_counts(reader, meter, most, highs)?;
+    read_words(reader, meter, k, residuals)?;
     if small {
         join_all(highs, k, residuals);
     }

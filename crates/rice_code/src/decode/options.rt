@@ -58,10 +58,8 @@ pub fn read_reference<I: Intake>(
     if !setting.is_reference(block) {
         return Ok(None);
     }
-    match reader.take(setting.bits(), meter) {
-        Ok(value) => Ok(Some(value)),
-        Err(fault) => Err(fault),
-    }
+    let value = reader.take(setting.bits(), meter)?;
+    Ok(Some(value))
 }
 
 /// Writes a 0 at the place of the reference sample, if there is one. Returns where the residuals that are sent begin.
@@ -96,14 +94,9 @@ pub fn read_run<I: Intake>(
     ensures steps { meter.new + reader.old.taken ≡ meter.old + reader.new.taken }
     ensures limit { reader.new.taken ≤ most_bits_read }
 {
-    let reference = match read_reference(setting, block, reader, meter) {
-        Ok(reference) => reference,
-        Err(fault) => return Err(fault),
-    };
-    match reader.take_fs(meter) {
-        Ok(zeros) => Ok((reference, zeros)),
-        Err(fault) => Err(fault),
-    }
+    let reference = read_reference(setting, block, reader, meter)?;
+    let zeros = reader.take_fs(meter)?;
+    Ok((reference, zeros))
 }
 
 /// Reads a block that is not compressed.
@@ -123,15 +116,10 @@ pub fn read_no_compression<I: Intake>(
     ensures err { IfErr result (BlockCut reader.old reader.new setting.now block NoCompression) }
     ensures steps { AreCounted meter.old meter.new reader.old.taken reader.new.taken }
 {
-    let reference = match read_reference(setting, block, reader, meter) {
-        Ok(reference) => reference,
-        Err(fault) => return Err(fault),
-    };
+    let reference = read_reference(setting, block, reader, meter)?;
     let width = setting.bits();
     let first = begin_residuals(reference, residuals);
-    if let Err(fault) = read_words(reader, meter, width, &mut residuals[first..]) {
-        return Err(fault);
-    }
+    read_words(reader, meter, width, &mut residuals[first..])?;
     Ok(BlockSummary {
         reference,
         sound: true,
@@ -156,18 +144,11 @@ pub fn read_second_extension<I: Intake>(
     ensures err { IfErr result (BlockCut reader.old reader.new setting.now block SecondExtension) }
     ensures steps { AreCounted meter.old meter.new reader.old.taken reader.new.taken }
 {
-    let reference = match read_reference(setting, block, reader, meter) {
-        Ok(reference) => reference,
-        Err(fault) => return Err(fault),
-    };
+    let reference = read_reference(setting, block, reader, meter)?;
     let values = setting.values();
-    match read_pairs(reader, meter, codes, residuals) {
-        Ok(few) => {
-            let sound = are_sound(reference, few, residuals, values);
-            Ok(BlockSummary { reference, sound })
-        }
-        Err(fault) => Err(fault),
-    }
+    let few = read_pairs(reader, meter, codes, residuals)?;
+    let sound = are_sound(reference, few, residuals, values);
+    Ok(BlockSummary { reference, sound })
 }
 
 /// Reads a block that is coded by split sample option `k`. `highs` is scratch space for the high parts.
@@ -192,22 +173,16 @@ pub fn read_split<I: Intake>(
     ensures err { IfErr result (BlockCut reader.old reader.new setting.now block (Split k)) }
     ensures steps { AreCounted meter.old meter.new reader.old.taken reader.new.taken }
 {
-    let reference = match read_reference(setting, block, reader, meter) {
-        Ok(reference) => reference,
-        Err(fault) => return Err(fault),
-    };
+    let reference = read_reference(setting, block, reader, meter)?;
     let values = setting.values();
     let most = (values - 1) >> k;
     let first = begin_residuals(reference, residuals);
-    match read_sent(reader, meter, most, k, first, highs, residuals) {
-        Ok(true) => {}
-        Ok(false) => {
-            return Ok(BlockSummary {
-                reference,
-                sound: false,
-            });
-        }
-        Err(fault) => return Err(fault),
+    let small = read_sent(reader, meter, most, k, first, highs, residuals)?;
+    if !small {
+        return Ok(BlockSummary {
+            reference,
+            sound: false,
+        });
     }
     let sound = joined_are_below(setting.bits(), k, &residuals[first..]);
     Ok(BlockSummary { reference, sound })

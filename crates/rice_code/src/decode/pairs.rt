@@ -125,14 +125,10 @@ fn read_each_pair<I: Intake>(
     ensures steps { AreCounted meter.old meter.new reader.old.taken reader.new.taken }
 {
     for done in 0..out.len() / 2 {
-        match reader.take_fs(meter) {
-            Ok(g) => {
-                let (a, b) = pair_of(g, meter);
-                out[2 * done] = a;
-                out[2 * done + 1] = b;
-            }
-            Err(fault) => return Err(fault),
-        }
+        let g = reader.take_fs(meter)?;
+        let (a, b) = pair_of(g, meter);
+        out[2 * done] = a;
+        out[2 * done + 1] = b;
     }
     Ok(())
 }
@@ -208,8 +204,6 @@ pub fn read_pairs<I: Intake>(
     if some == count {
         return Ok(true);
     }
-    if let Err(fault) = read_each_pair(reader, meter, &mut out[2 * some..]) {
-        return Err(fault);
-    }
+    read_each_pair(reader, meter, &mut out[2 * some..])?;
     Ok(false)
 }

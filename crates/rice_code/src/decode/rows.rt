@@ -25,10 +25,7 @@ fn read_each_word<I: Intake>(
     ensures limit { reader.new.taken ≤ most_bits_read }
 {
     for done in 0..words.len() {
-        match reader.take(width, meter) {
-            Ok(value) => words[done] = value,
-            Err(fault) => return Err(fault),
-        }
+        words[done] = reader.take(width, meter)?;
     }
     Ok(())
 }
@@ -54,9 +51,7 @@ pub fn read_words<I: Intake>(
     if some == words.len() {
         return Ok(());
     }
-    if let Err(fault) = read_each_word(reader, meter, width, &mut words[some..]) {
-        return Err(fault);
-    }
+    read_each_word(reader, meter, width, &mut words[some..])?;
     Ok(())
 }
 
@@ -84,13 +79,9 @@ fn read_some_counts<I: Intake>(
     if some > 0 {
         return Ok((some, true));
     }
-    match reader.take_fs(meter) {
-        Ok(zeros) => {
-            counts[0] = zeros.min(most) as u32;
-            Ok((1, zeros <= most))
-        }
-        Err(fault) => Err(fault),
-    }
+    let zeros = reader.take_fs(meter)?;
+    counts[0] = zeros.min(most) as u32;
+    Ok((1, zeros <= most))
 }
 
 /// Reads a fundamental sequence for each place of `counts`, and writes the number of its zeros there. Returns `false`
@@ -115,13 +106,9 @@ fn read_each_count<I: Intake>(
     let mut small = true;
     let mut done = 0;
     while done < counts.len() {
-        match read_some_counts(reader, meter, most, &mut counts[done..]) {
-            Ok((some, fit)) => {
-                done += some;
-                small = small & fit;
-            }
-            Err(fault) => return Err(fault),
-        }
+        let (some, fit) = read_some_counts(reader, meter, most, &mut counts[done..])?;
+        done += some;
+        small = small & fit;
     }
     Ok(small)
 }
@@ -147,10 +134,8 @@ pub fn read_counts<I: Intake>(
 {
     let some = reader.take_waiting_fs(counts, meter);
     if some < counts.len() {
-        return match read_each_count(reader, meter, most, &mut counts[some..]) {
-            Ok(small) => Ok(small & are_below(counts, most + 1)),
-            Err(fault) => Err(fault),
-        };
+        let small = read_each_count(reader, meter, most, &mut counts[some..])?;
+        return Ok(small & are_below(counts, most + 1));
     }
     // Numbers that wait together are below 64.
     if most >= 63 {

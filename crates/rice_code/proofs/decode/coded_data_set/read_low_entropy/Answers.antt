@@ -1,32 +1,36 @@
 use Rattle.std.proofs.Common.{arith, true}
 use Rattle.rice_code.proofs.lemmas.decode.SetsRead.{low_bit_cut, second_low_cut, run_low_cut, second_low, run_low}
+use Rattle.std.proofs.lemmas.Result.{err_from_is_err_and}
 use Rattle.rice_code.proofs.decode.coded_data_set.read_low_entropy.Goals as goal
 
-pub returns-in-Err-clause-err : goal.returns-in-Err-clause-err
-returns-in-Err-clause-err g c =
-    let e = c.in-Err.ensures.err c.requires.going in
-    low_bit_cut c.args.reader.now c.take.new.self c.args.meter.now c.take.new.meter c.args.setting.now c.args.block e.0 c.in-Err.fault e.1 e.2 c.in-Err.ensures.steps
+pub returns-in_err-bit-clause-err : goal.returns-in_err-bit-clause-err
+returns-in_err-bit-clause-err g c =
+    let e = c.in_err-bit.ensures.err c.requires.going in
+    let p = err_from_is_err_and c.from_residual.result c.from_residual.ensures.1 in
+    rw (p.1, p.2) (low_bit_cut c.args.reader.now c.take.new.self c.args.meter.now c.take.new.meter c.args.setting.now c.args.block e.0 c.in_err-bit.field-0.0 e.1 e.2 c.in_err-bit.ensures.steps)
 
-pub returns-in-Ok-read_run-clause-ok : goal.returns-in-Ok-read_run-clause-ok
-returns-in-Ok-read_run-clause-ok g c =
+pub returns-then-bit-eq0-clause-ok : goal.returns-then-bit-eq0-clause-ok
+returns-then-bit-eq0-clause-ok g c =
     run_low c.args.reader.now c.take.new.self c.read_run.new.reader c.args.meter.now c.take.new.meter c.read_run.new.meter c.args.setting.now c.args.block
-    c.in-Ok-read_run.reference c.in-Ok-read_run.zeros c.args.residuals.now
-    (rw c.if-bit-eq0.true at c.in-Ok.ensures.ok.1) c.in-Ok.ensures.steps c.in-Ok-read_run.ensures.reference c.in-Ok-read_run.ensures.ok c.in-Ok-read_run.ensures.steps
+    c.in_ok-reference.reference c.in_ok-reference.zeros c.args.residuals.now
+    (rw c.if-bit-eq0.true at c.in_ok-bit.ensures.ok.1) c.in_ok-bit.ensures.steps c.in_ok-reference.ensures.reference c.in_ok-reference.ensures.ok c.in_ok-reference.ensures.steps
 
-pub returns-in-Err-read_run-clause-err : goal.returns-in-Err-read_run-clause-err
-returns-in-Err-read_run-clause-err g c =
-    let e = c.in-Err-read_run.ensures.err in
-    run_low_cut c.args.reader.now c.take.new.self c.read_run.new.reader c.args.meter.now c.take.new.meter c.read_run.new.meter c.args.setting.now c.args.block e.0 c.in-Err-read_run.fault
-    (rw c.if-bit-eq0.true at c.in-Ok.ensures.ok.1) c.in-Ok.ensures.steps e.1 c.in-Err-read_run.ensures.steps e.2
+pub returns-in_err-reference-clause-err : goal.returns-in_err-reference-clause-err
+returns-in_err-reference-clause-err g c =
+    let e = c.in_err-reference.ensures.err in
+    let p = err_from_is_err_and c.from_residual-in_err-reference.result c.from_residual-in_err-reference.ensures.1 in
+    rw (p.1, p.2) (run_low_cut c.args.reader.now c.take.new.self c.read_run.new.reader c.args.meter.now c.take.new.meter c.read_run.new.meter c.args.setting.now c.args.block e.0 c.in_err-reference.field-0.0
+    (rw c.if-bit-eq0.true at c.in_ok-bit.ensures.ok.1) c.in_ok-bit.ensures.steps e.1 c.in_err-reference.ensures.steps e.2)
 
-pub returns-in-Ok-read_second_extension-clause-ok : goal.returns-in-Ok-read_second_extension-clause-ok
-returns-in-Ok-read_second_extension-clause-ok g c =
+pub returns-clause-ok : goal.returns-clause-ok
+returns-clause-ok g c =
     second_low c.args.reader.now c.take.new.self c.read_second_extension.new.reader c.args.meter.now c.take.new.meter c.read_second_extension.new.meter
-    c.args.setting.now c.args.block c.in-Ok.bit c.in-Ok-read_second_extension.head.reference c.in-Ok-read_second_extension.head.sound true c.read_second_extension.new.residuals
-    c.in-Ok.ensures.ok.0 (omega arith) c.in-Ok.ensures.ok.1 c.in-Ok.ensures.steps c.in-Ok-read_second_extension.ensures.ok
+    c.args.setting.now c.args.block c.in_ok-bit.bit c.in_ok-head.head.reference c.in_ok-head.head.sound true c.read_second_extension.new.residuals
+    c.in_ok-bit.ensures.ok.0 (omega arith) c.in_ok-bit.ensures.ok.1 c.in_ok-bit.ensures.steps c.in_ok-head.ensures.ok
 
-pub returns-in-Err-read_second_extension-clause-err : goal.returns-in-Err-read_second_extension-clause-err
-returns-in-Err-read_second_extension-clause-err g c =
-    second_low_cut c.args.reader.now c.take.new.self c.read_second_extension.new.reader c.args.meter.now c.read_second_extension.new.meter c.args.setting.now
-    c.args.block c.in-Ok.bit c.in-Err-read_second_extension.fault
-    c.in-Ok.ensures.ok.0 (omega arith) c.in-Ok.ensures.ok.1 c.in-Err-read_second_extension.ensures.err
+pub returns-in_err-head-clause-err : goal.returns-in_err-head-clause-err
+returns-in_err-head-clause-err g c =
+    let p = err_from_is_err_and c.from_residual-in_err-head.result c.from_residual-in_err-head.ensures.1 in
+    rw (p.1, p.2) (second_low_cut c.args.reader.now c.take.new.self c.read_second_extension.new.reader c.args.meter.now c.read_second_extension.new.meter c.args.setting.now
+    c.args.block c.in_ok-bit.bit c.in_err-head.field-0.0
+    c.in_ok-bit.ensures.ok.0 (omega arith) c.in_ok-bit.ensures.ok.1 c.in_err-head.ensures.err)
