@@ -6,5 +6,6 @@ pub mod Joining
 pub mod ReadInOneWay
 pub mod PieceSearch
 pub mod WholeWords
+pub mod WordPairs
 pub mod Words
 pub mod SinkBytes

@@ -4,9 +4,10 @@ ghost use Rattle.rice_bits.specs.Limits.{step_limit};
 ghost use Rattle.rice_bits.specs.Bits.{fundamental_sequence, word, whole_bytes, bits_in_bytes, bits_to_byte, put_width, IsBitSink, IsWholeWidth, Joins, Puts};
 
 use crate::Meter;
-use crate::bits::digits::{join, low_digits, to_front};
+use crate::bits::digits::{low_digits, to_front};
 use crate::bits::eight_bytes::{front, join_bytes, join_one, keep_byte};
 use crate::bits::whole_words::join_whole_bytes;
+use crate::bits::word_pairs::two_pairs;
 use std::marker::Model;
 
 /// A list of at most `8 * N` bits, gathered into bytes, most significant bit first.
@@ -200,7 +201,7 @@ fn join_words(bytes: &mut [u8], bits: u64, words: &[u32], width: u32) -> u64
         bytes.old bytes.new }
 {
     if width <= 28 {
-        join_pairs(bytes, bits, words, width)
+        join_fours(bytes, bits, words, width)
     } else {
         join_each(bytes, bits, words, width)
     }
@@ -274,9 +275,9 @@ fn join_each(bytes: &mut [u8], bits: u64, words: &[u32], width: u32) -> u64
     bits
 }
 
-/// As `join_words`, two words at a time: the digits of two are at most 56.
+/// As `join_words`, four words at a time, by two joins: the digits of two are at most 56.
 #[inline(always)]
-fn join_pairs(bytes: &mut [u8], bits: u64, words: &[u32], width: u32) -> u64
+fn join_fours(bytes: &mut [u8], bits: u64, words: &[u32], width: u32) -> u64
     requires width { width ≤ 28 }
     requires bits { IsBitSink (length bytes.old) bits bytes.old }
     requires room { bits + width * length words.now ≤ 8 * length bytes.old }
@@ -284,14 +285,26 @@ fn join_pairs(bytes: &mut [u8], bits: u64, words: &[u32], width: u32) -> u64
         bytes.old bytes.new }
 {
     let mut bits = bits;
-    let pairs = words.len() / 2;
-    for i in 0..pairs {
-        let pair = join(
-            low_digits(words[2 * i], width),
-            width,
-            low_digits(words[2 * i + 1], width),
-        );
-        bits = join_digits(bytes, bits, pair, 2 * width);
+    let fours = words.len() / 4;
+    for i in 0..fours {
+        let (first, last) = two_pairs(words, 4 * i, width);
+        bits = join_two(bytes, bits, first, last, 2 * width);
     }
-    join_each(bytes, bits, &words[2 * pairs..], width)
+    join_each(bytes, bits, &words[4 * fours..], width)
+}
+
+/// Joins the `width` digits of `first`, and then those of `last`, to the first `bits` bits, and returns how many bits there are
+/// then.
+#[inline(always)]
+fn join_two(bytes: &mut [u8], bits: u64, first: u64, last: u64, width: u32) -> u64
+    requires width { width ≤ put_width }
+    requires first { first < 2 ^ width }
+    requires last { last < 2 ^ width }
+    requires bits { IsBitSink (length bytes.old) bits bytes.old }
+    requires room { bits + 2 * width ≤ 8 * length bytes.old }
+    ensures { Joins (word width first ++ word width last) (2 * width) bits result bytes.old
+        bytes.new }
+{
+    let half = join_digits(bytes, bits, first, width);
+    join_digits(bytes, half, last, width)
 }

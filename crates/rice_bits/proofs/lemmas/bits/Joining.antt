@@ -1,5 +1,5 @@
 -- Bits that are joined to bits, one after the other.
-use Rattle.std.proofs.Common.{◌≡◌, ℕ, ◌+◌, ◌-◌, ◌*◌, ◌/◌, ◌%◌, ◌^◌, ◌<◌, ◌≤◌, Bool, List, [], ◌∷◌, ◌++◌, length, take, drop, get_or, sym, ◌∙◌, ap, arith, subst, append_assoc, append-nil, length-append}
+use Rattle.std.proofs.Common.{◌≡◌, ℕ, ◌+◌, ◌-◌, ◌*◌, ◌%◌, ◌^◌, ◌<◌, ◌≤◌, Bool, List, [], ◌∷◌, ◌++◌, length, take, drop, get_or, sym, ◌∙◌, ap, arith, subst, append_assoc, append-nil, length-append}
 use Rattle.std.specs.Prelude.{flat_map}
 use Rattle.std.proofs.lemmas.Grind.{flat_map-append}
 use Rattle.std.proofs.lemmas.List.{length-drop, take_all, take_more, take-append-drop}
@@ -49,14 +49,6 @@ pub pair_word : (w c d h l all : ℕ) → h ≡ c % 2 ^ w → l ≡ d % 2 ^ w �
 pair_word w c d h l all f g q e =
     let size : 2 * w ≡ w + w = omega arith in
     ap (λ n. word n all) size ∙ (ap (word (w + w)) e ∙ (word-cat w w h l q ∙ (λ i. low_word w c h f i ++ low_word w d l g i)))
-
--- the digits of two words are among those of all
-pub room_for_two : (w i n : ℕ) → i < n / 2 → w * (2 * i) + 2 * w ≤ w * n
-room_for_two w i n h =
-    let rest : ℕ = n - (2 * i + 2) in
-    let all : n ≡ 2 * i + 2 + rest = omega arith in
-    let digits : w * n ≡ w * (2 * i + 2 + rest) = ap (λ k. w * k) all in
-    omega (arith, digits)
 
 -- the digits of the first words, and of the others
 pub digits_before : (w m : ℕ) (xs : List ℕ) → m ≤ length xs → w * length xs ≡ w * m + w * length (drop m xs)

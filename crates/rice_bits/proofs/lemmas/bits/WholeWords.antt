@@ -15,6 +15,7 @@ use Rattle.rice_bits.proofs.lemmas.bits.Bytes.{each_byte}
 use Rattle.rice_bits.proofs.lemmas.bits.EightBytes.{bits_of-eight, eight-fit, word-mod}
 use Rattle.rice_bits.proofs.lemmas.bits.Joining.{join-more, pair_word}
 use Rattle.rice_bits.proofs.lemmas.bits.SinkBytes.{gathered-put, joined_below, last_zeros}
+use Rattle.rice_bits.proofs.lemmas.bits.WordPairs.{first_four}
 use Rattle.rice_bits.proofs.lemmas.bits.Words.{join_below, shift_fits, word-cat, word-split}
 
 -- two words of 32 digits
@@ -36,16 +37,11 @@ pub four_words : (ws : List ℕ) (at a b c d first last v : ℕ) → at + 4 ≤ 
     → word 64 v ≡ flat_map (word 16) (take (at + 4 - at) (drop at ws))
 four_words ws at a b c d first last v room ea eb ec ed fa fb fc fd ef el e =
     let count : at + 4 - at ≡ 4 = omega arith in
-    let n2 : at + 1 + 1 ≡ at + 2 = omega arith in
-    let n3 : at + 2 + 1 ≡ at + 3 = omega arith in
     let x = get_or ws at 0 in
     let y = get_or ws (at + 1) 0 in
     let z = get_or ws (at + 2) 0 in
     let u = get_or ws (at + 3) 0 in
-    let four : drop at ws ≡ x ∷ y ∷ z ∷ u ∷ drop (at + 3 + 1) ws =
-    drop_more ws at 0 (omega (arith, room)) ∙ ap (λ d. x ∷ d)
-    ((drop_more ws (at + 1) 0 (omega (arith, room)) ∙ ap (λ n. y ∷ drop n ws) n2) ∙ ap (λ d. y ∷ d)
-    ((drop_more ws (at + 2) 0 (omega (arith, room)) ∙ ap (λ n. z ∷ drop n ws) n3) ∙ ap (λ d. z ∷ d) (drop_more ws (at + 3) 0 (omega (arith, room))))) in
+    let four = first_four ws at room in
     let front : word 32 first ≡ word 16 x ++ word 16 y = pair_word 16 x y a b first ea eb fb ef in
     let back : word 32 last ≡ word 16 z ++ word 16 u = pair_word 16 z u c d last ec ed fd el in
     ap (word 64) e ∙ (word-cat 32 32 first last (omega (arith, el, fc, fd)) ∙ ((λ i. front i ++ back i)
