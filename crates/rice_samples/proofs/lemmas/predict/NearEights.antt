@@ -64,19 +64,19 @@ ways_are w ds n fits = eight_lanes (λ ds. Each1 (Fits w) ds → ways_of w ds �
 
 -- sums
 
-pub sums_of_two : (m : ℕ) (xs : List ℕ) → length xs ≡ 8 →
+pub plus_one_before : (m : ℕ) (xs : List ℕ) → length xs ≡ 8 →
     zip2 (λ x y. (x + y) % m) xs (0 ∷ get_or xs 0 0 ∷ get_or xs 1 0 ∷ get_or xs 2 0 ∷ get_or xs 3 0 ∷ get_or xs 4 0 ∷ get_or xs 5 0 ∷ get_or xs 6 0 ∷ []) ≡ sums_behind m 1 xs
-sums_of_two m xs n = eight_lanes (λ xs. zip2 (λ x y. (x + y) % m) xs
+plus_one_before m xs n = eight_lanes (λ xs. zip2 (λ x y. (x + y) % m) xs
     (0 ∷ get_or xs 0 0 ∷ get_or xs 1 0 ∷ get_or xs 2 0 ∷ get_or xs 3 0 ∷ get_or xs 4 0 ∷ get_or xs 5 0 ∷ get_or xs 6 0 ∷ []) ≡ sums_behind m 1 xs) (λ a b c d e f g h. refl) xs n
 
-pub sums_of_four : (m : ℕ) (xs : List ℕ) → length xs ≡ 8 →
+pub plus_two_before : (m : ℕ) (xs : List ℕ) → length xs ≡ 8 →
     zip2 (λ x y. (x + y) % m) xs (0 ∷ 0 ∷ get_or xs 0 0 ∷ get_or xs 1 0 ∷ get_or xs 2 0 ∷ get_or xs 3 0 ∷ get_or xs 4 0 ∷ get_or xs 5 0 ∷ []) ≡ sums_behind m 2 xs
-sums_of_four m xs n = eight_lanes (λ xs. zip2 (λ x y. (x + y) % m) xs
+plus_two_before m xs n = eight_lanes (λ xs. zip2 (λ x y. (x + y) % m) xs
     (0 ∷ 0 ∷ get_or xs 0 0 ∷ get_or xs 1 0 ∷ get_or xs 2 0 ∷ get_or xs 3 0 ∷ get_or xs 4 0 ∷ get_or xs 5 0 ∷ []) ≡ sums_behind m 2 xs) (λ a b c d e f g h. refl) xs n
 
-pub sums_of_eight : (m : ℕ) (xs : List ℕ) → length xs ≡ 8 →
+pub plus_four_before : (m : ℕ) (xs : List ℕ) → length xs ≡ 8 →
     zip2 (λ x y. (x + y) % m) xs (0 ∷ 0 ∷ 0 ∷ 0 ∷ get_or xs 0 0 ∷ get_or xs 1 0 ∷ get_or xs 2 0 ∷ get_or xs 3 0 ∷ []) ≡ sums_behind m 4 xs
-sums_of_eight m xs n = eight_lanes (λ xs. zip2 (λ x y. (x + y) % m) xs (0 ∷ 0 ∷ 0 ∷ 0 ∷ get_or xs 0 0 ∷ get_or xs 1 0 ∷ get_or xs 2 0 ∷ get_or xs 3 0 ∷ [])
+plus_four_before m xs n = eight_lanes (λ xs. zip2 (λ x y. (x + y) % m) xs (0 ∷ 0 ∷ 0 ∷ 0 ∷ get_or xs 0 0 ∷ get_or xs 1 0 ∷ get_or xs 2 0 ∷ get_or xs 3 0 ∷ [])
     ≡ sums_behind m 4 xs) (λ a b c d e f g h. refl) xs n
 
 -- in each lane the sum of all ways up to its own

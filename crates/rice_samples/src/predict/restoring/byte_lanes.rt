@@ -89,7 +89,7 @@ fn near_numbers(p: u8, ranks: u8x16) -> u8x16
     requires { length ranks ≡ 16 }
     ensures { result ≡ near_numbers_of (2 ^ 8) p ranks }
 {
-    sums_of_sixteen(sums_of_eight(sums_of_four(sums_of_two(ways(ranks))))) + u8x16::splat(p)
+    plus_eight_before(plus_four_before(plus_two_before(plus_one_before(ways(ranks))))) + u8x16::splat(p)
 }
 
 /// Returns the way to each number, if it is near. The ways wrap, as their sums do.
@@ -104,7 +104,7 @@ pub(crate) fn ways(ranks: u8x16) -> u8x16
 
 /// Returns the sum of each number and the one before it.
 #[inline(always)]
-fn sums_of_two(numbers: u8x16) -> u8x16
+fn plus_one_before(numbers: u8x16) -> u8x16
     requires { length numbers ≡ 16 }
     ensures { result ≡ sums_behind (2 ^ 8) 1 numbers }
 {
@@ -119,7 +119,7 @@ fn sums_of_two(numbers: u8x16) -> u8x16
 
 /// Returns the sum of each number and the one two places before it.
 #[inline(always)]
-fn sums_of_four(numbers: u8x16) -> u8x16
+fn plus_two_before(numbers: u8x16) -> u8x16
     requires { length numbers ≡ 16 }
     ensures { result ≡ sums_behind (2 ^ 8) 2 numbers }
 {
@@ -134,7 +134,7 @@ fn sums_of_four(numbers: u8x16) -> u8x16
 
 /// Returns the sum of each number and the one four places before it.
 #[inline(always)]
-fn sums_of_eight(numbers: u8x16) -> u8x16
+fn plus_four_before(numbers: u8x16) -> u8x16
     requires { length numbers ≡ 16 }
     ensures { result ≡ sums_behind (2 ^ 8) 4 numbers }
 {
@@ -149,7 +149,7 @@ fn sums_of_eight(numbers: u8x16) -> u8x16
 
 /// Returns the sum of each number and the one eight places before it.
 #[inline(always)]
-fn sums_of_sixteen(numbers: u8x16) -> u8x16
+fn plus_eight_before(numbers: u8x16) -> u8x16
     requires { length numbers ≡ 16 }
     ensures { result ≡ sums_behind (2 ^ 8) 8 numbers }
 {

@@ -11,7 +11,7 @@ pub(crate) fn near_numbers(p: u16, ranks: u16x8) -> u16x8
     requires { length ranks ≡ 8 }
     ensures { result ≡ near_numbers_of (2 ^ 16) p ranks }
 {
-    sums_of_eight(sums_of_four(sums_of_two(ways(ranks)))) + u16x8::splat(p)
+    plus_four_before(plus_two_before(plus_one_before(ways(ranks)))) + u16x8::splat(p)
 }
 
 /// Returns the way to each number, if it is near. The ways wrap, as their sums do.
@@ -26,7 +26,7 @@ pub(crate) fn ways(ranks: u16x8) -> u16x8
 
 /// Returns the sum of each number and the one before it.
 #[inline(always)]
-fn sums_of_two(numbers: u16x8) -> u16x8
+fn plus_one_before(numbers: u16x8) -> u16x8
     requires { length numbers ≡ 8 }
     ensures { result ≡ sums_behind (2 ^ 16) 1 numbers }
 {
@@ -35,7 +35,7 @@ fn sums_of_two(numbers: u16x8) -> u16x8
 
 /// Returns the sum of each number and the one two places before it.
 #[inline(always)]
-fn sums_of_four(numbers: u16x8) -> u16x8
+fn plus_two_before(numbers: u16x8) -> u16x8
     requires { length numbers ≡ 8 }
     ensures { result ≡ sums_behind (2 ^ 16) 2 numbers }
 {
@@ -44,7 +44,7 @@ fn sums_of_four(numbers: u16x8) -> u16x8
 
 /// Returns the sum of each number and the one four places before it.
 #[inline(always)]
-fn sums_of_eight(numbers: u16x8) -> u16x8
+fn plus_four_before(numbers: u16x8) -> u16x8
     requires { length numbers ≡ 8 }
     ensures { result ≡ sums_behind (2 ^ 16) 4 numbers }
 {
