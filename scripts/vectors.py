@@ -94,7 +94,7 @@ def script(name):
 
 
 def slug(text):
-    return "-".join(re.findall(r"[a-z0-9]+", text.lower())[:8])
+    return "-".join(re.findall(r"[a-z0-9]+", text.lower()))
 
 
 def from_rows():
