@@ -1,5 +1,5 @@
 //! Words of 8, 16 or 32 digits, joined to bits 64 digits at a time.
-ghost use Rattle.std.specs.Prelude.{◌≡◌, ◌⊎◌, ℕ, ◌+◌, ◌-◌, ◌*◌, ◌/◌, ◌%◌, ◌^◌, ◌<◌, ◌≤◌, ◌++◌, flat_map, length, map, slice_range};
+ghost use Rattle.std.specs.Prelude.{◌≡◌, ℕ, ◌+◌, ◌-◌, ◌*◌, ◌/◌, ◌%◌, ◌^◌, ◌<◌, ◌≤◌, ◌++◌, flat_map, length, map, slice_range};
 ghost use Rattle.rice_bits.specs.Bits.{word, IsBitSink, IsWholeWidth, Joins, JoinsAllBut};
 
 use crate::bits::digits::{join, low_digits};
