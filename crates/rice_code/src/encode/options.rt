@@ -1,5 +1,5 @@
 //! Writing coded data sets: a block by each option, and runs of zero blocks.
-ghost use Rattle.std.specs.Prelude.{◌≡◌, ◌+◌, ◌-◌, ◌*◌, ◌%◌, ◌^◌, ◌<◌, ◌≤◌, ◌↔◌, IsTrue, ◌++◌, flat_map, length, drop, IfSome};
+ghost use Rattle.std.specs.Prelude.{◌≡◌, ◌+◌, ◌-◌, ◌*◌, ◌%◌, ◌^◌, ◌<◌, ◌≤◌, ◌↔◌, IsTrue, ◌++◌, None, flat_map, length, drop, IfSome};
 ghost use Rattle.rice_bits.specs.Bits.{word, IsWholeWidth};
 ghost use Rattle.rice_samples.specs.Parameters.{k_max, value_count};
 ghost use Rattle.rice_code.specs.code.CodedDataSets.{NoCompression, SecondExtension, Split, cost as cost_of, sent_residuals, reference_bits, reference_len};
@@ -42,6 +42,7 @@ fn begin(
         length sink.old + width + reference_len setting.now reference }
     ensures steps { meter.new + length result ≡
         meter.old + width + reference_len setting.now reference }
+    ensures alone { reference ≡ None → length result ≡ width }
 {
     let mut fields = BitBuffer::of(identifier as u64, width);
     if let Some(v) = reference {
@@ -56,6 +57,7 @@ fn begin(
 fn first_coded(block: &HeldBlock<'_>) -> usize
     ensures coded { sent_residuals block.now ≡ drop result block.now.residuals }
     ensures limit { result ≤ 1 }
+    ensures none { result ≡ 0 → block.now.reference ≡ None }
 {
     match block.reference() {
         Some(_) => 1,
@@ -82,12 +84,22 @@ pub fn put_no_compression<const SIZE: usize>(
     let bits = setting.bits();
     let _block = setting.block();
     let mut fields = begin(setting, (1 << id) - 1, id, block.reference(), sink, meter);
-    let head = fields.len();
-    if from == 0 && residuals.len() % 8 == 0 && 0 < head && head <= 48 && is_whole_width(bits) {
-        if SIZE == 8 || SIZE == 16 {
-            fields.put_before(residuals, bits, sink, meter);
-            return;
-        }
+    // What is put is laid out for each width.
+    let whole = from == 0 && residuals.len() % 8 == 0;
+    let here = SIZE == 8 || SIZE == 16;
+    if whole && here && bits == 8 {
+        fields.put_before(residuals, 8, sink, meter);
+        return;
+    }
+    if whole && here && bits == 16 {
+        fields.put_before(residuals, 16, sink, meter);
+        return;
+    }
+    if whole && here && bits == 32 {
+        fields.put_before(residuals, 32, sink, meter);
+        return;
+    }
+    if whole && is_whole_width(bits) {
         let mut steps = Meter::new();
         put_whole(
             fields,

@@ -27,6 +27,21 @@ put_low-requires-clause-room g c =
       steps = omega (arith, all, sent.count, sent.digits, bits, len, ref);
     }
 
+pub put-requires : goal.put-requires
+put-requires g c =
+    let sent = sent_are (sent_residuals c.args.block.now) c.args.block.now.residuals c.residuals-residuals.result.now c.first_coded-from.result
+    c.args.setting.now.bits 0 c.first_coded-from.ensures.coded c.residuals-residuals.ensures in
+    let s = c.args.setting.now in
+    let j : 2 ≤ s.block = grind (arith, c.bits-bits.ensures.legal.block) in
+    let all = coded_and_reference s c.args.block.now.reference c.args.block.now.residuals (omega (arith, c.requires.sound.len)) in
+    let bits = ap (λ n. (length c.residuals-residuals.result.now - c.first_coded-from.result) * n) c.bits-bits.ensures.value in
+    let len = ap length c.residuals-residuals.ensures in
+    let ref = ap (reference_len s) c.reference.ensures in
+    record {
+      room = omega (arith, all, sent.count, sent.digits, bits, len, ref, c.put_low.ensures.len);
+      steps = omega (arith, all, sent.count, sent.digits, bits, len, ref, c.put_low.ensures.len, c.put_low.ensures.steps);
+    }
+
 pub returns : goal.returns
 returns g c =
     let sent = sent_are (sent_residuals c.args.block.now) c.args.block.now.residuals c.residuals-residuals.result.now c.first_coded-from.result
