@@ -31,13 +31,13 @@ pub fn decodes_nothing_that_is_not_asked_for()
 {}
 
 /// Another split than the coder takes.
-pub fn decodes_another_split()
+pub fn decodes_a_longer_split_than_the_coder_takes()
     ensures { Decoded defaults (bits_of (0x40 ∷ 0x15 ∷ 0x55 ∷ 0x80 ∷
         [])) None (numbers_from 0 8) Ended 32 }
 {}
 
 /// A block of one sample without preprocessing, filled with zeros: nine bits fewer than the coder's, which repeats that sample.
-pub fn decodes_another_fill()
+pub fn decodes_a_block_filled_with_zeros()
     ensures { Decoded unprocessed_defaults (bits_of (0xC0 ∷ 0x3F ∷ 0xE0 ∷ replicate 5 0x00)) (Some 1) (pos 0xF0 ∷
         []) Reached 58 }
 {}

@@ -1,5 +1,5 @@
 //! The laws of code and decoding, each the contract of a function that does nothing. Their statements are in `specs/Laws.antt`.
-ghost use Rattle.rice_code.specs.Laws.{ReturnsSamples, ReturnsSamplesAndFill, DecodedIsOne, CodesDiffer, RefusedBytesAreNoOutput, OwnBytesAreRecognised, AllBytesAreDecoded, FormsAreReadInOneWay, FormsHaveAOne, CodeGrows, CodeIsBounded, PaddedCodeIsBounded, AddedCodeIsBounded, SetsAreBounded, CodeIsJoined, CostIsLength, ChoiceIsLeast, NoSetsAreShorter, NoCodeIsShorter, NoOutputIsShorter, SavingNeverRises, FirstStopIsBest, ChoiceIsOfThree, CodeGoesOn, BitsGoOn, CodeStandsInIntervals, CodeStandsInBytes, DecodingGoesOn, DecodingStandsInPlaces, SplitIsPaid, RunIsNeverLonger, StepsAreBounded, StepsArePaid, AllStepsAreBounded, IntervalsBeginAfresh, IntervalsAreJoined, PaddedIntervalsAreJoined, IntervalsAreDecodedAlone, DecodingBeginsAfresh, DamageStaysInItsInterval};
+ghost use Rattle.rice_code.specs.Laws.{ReturnsSamples, ReturnsSamplesAndFill, DecodedIsOne, CodesDiffer, RefusedBytesAreNoOutput, OwnBytesAreRecognised, AllBytesAreDecoded, FormsAreReadInOneWay, FormsHaveAOne, CodeGrows, CodeIsBounded, PaddedCodeIsBounded, AddedCodeIsBounded, SetsAreBounded, CodeIsJoined, CostIsLength, ChoiceIsLeast, NoSetsAreShorter, NoCodeIsShorter, NoOutputIsShorter, SavingNeverRises, FirstStopIsBest, ChoiceIsOfThree, CodeGoesOn, BitsGoOn, CodeDependsOnPlaceInInterval, CodeDependsOnPlaceInByte, DecodingGoesOn, DecodingDependsOnPlacesAlone, SplitIsPaid, RunIsNeverLonger, StepsAreBounded, StepsArePaid, AllStepsAreBounded, IntervalsBeginAfresh, IntervalsAreJoined, PaddedIntervalsAreJoined, IntervalsAreDecodedAlone, DecodingBeginsAfresh, DamageStaysInItsInterval};
 
 /// With the number of samples, the output decodes to exactly these samples.
 pub fn returns_samples()
@@ -117,9 +117,9 @@ pub fn code_goes_on()
 {}
 
 /// Code depends on its position only by the block's place in its interval and the bit's place in its byte.
-pub fn code_stands_in_places()
-    ensures intervals { CodeStandsInIntervals }
-    ensures bytes { CodeStandsInBytes }
+pub fn code_depends_on_places_alone()
+    ensures intervals { CodeDependsOnPlaceInInterval }
+    ensures bytes { CodeDependsOnPlaceInByte }
 {}
 
 /// After a valid coded data set decoding goes on from its last sample.
@@ -128,8 +128,8 @@ pub fn decoding_goes_on()
 {}
 
 /// Without a number of samples, decoding depends on its position only by the places in the interval and in the byte.
-pub fn decoding_stands_in_places()
-    ensures { DecodingStandsInPlaces }
+pub fn decoding_depends_on_places_alone()
+    ensures { DecodingDependsOnPlacesAlone }
 {}
 
 /// The steps of coding are bounded, for the blocks of each segment and for all samples.

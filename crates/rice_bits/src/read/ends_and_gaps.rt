@@ -76,7 +76,7 @@ pub fn narrow_gaps(ends: &[u8], at: usize) -> u16x8
 {
     let here = u8x8::from_slice(&ends[at..]);
     let next = u8x8::from_slice(&ends[at + 1..]);
-    excess(excess(next, here), u8x8::splat(1)).cast::<u16>()
+    above_or_zero(above_or_zero(next, here), u8x8::splat(1)).cast::<u16>()
 }
 
 /// As `narrow_gaps`, in wider lanes.
@@ -98,20 +98,20 @@ fn four_gaps(ends: &[u8], at: usize) -> u32x4
 {
     let here = u8x4::from_slice(&ends[at..]);
     let next = u8x4::from_slice(&ends[at + 1..]);
-    excess_of_four(excess_of_four(next, here), u8x4::splat(1)).cast::<u32>()
+    four_above_or_zero(four_above_or_zero(next, here), u8x4::splat(1)).cast::<u32>()
 }
 
 /// Returns by how much a number is above the other, or 0, in each lane.
 #[inline(always)]
-fn excess(a: u8x8, b: u8x8) -> u8x8
+fn above_or_zero(a: u8x8, b: u8x8) -> u8x8
     ensures { result ≡ zip2 (λ x y. x - y) a b }
 {
     a.saturating_sub(b)
 }
 
-/// As `excess`, in four lanes.
+/// As `above_or_zero`, in four lanes.
 #[inline(always)]
-fn excess_of_four(a: u8x4, b: u8x4) -> u8x4
+fn four_above_or_zero(a: u8x4, b: u8x4) -> u8x4
     ensures { result ≡ zip2 (λ x y. x - y) a b }
 {
     a.saturating_sub(b)

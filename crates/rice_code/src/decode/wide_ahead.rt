@@ -112,7 +112,7 @@ fn restore_eight<I: Intake>(
 /// Writes eight levels behind the first `at`, of samples the first of which stands after one at level `from`, and whose residuals have the
 /// high parts behind the first `at` and these low parts. Returns the last. `None` if not all samples are near to those before them.
 #[inline(always)]
-fn write_eight(
+fn restore_eight_at(
     setting: &Setting,
     from: u32,
     k: u32,
@@ -141,7 +141,7 @@ fn write_eight(
 /// the low parts that wait behind the first `skip` bits, less those that are omitted, one or none. Returns the last. `None` if not all
 /// samples are near to those before them.
 #[inline(always)]
-fn write_eights<I: Intake>(
+fn restore_eights<I: Intake>(
     setting: &Setting,
     from: u32,
     omitted: usize,
@@ -166,11 +166,11 @@ fn write_eights<I: Intake>(
 {
     let _taken = reader.taken();
     let first = words_behind_omitted(reader.wide_words_ahead(skip, k), omitted);
-    let mut last = write_eight(setting, from, k, highs, first, 0, levels)?;
+    let mut last = restore_eight_at(setting, from, k, highs, first, 0, levels)?;
     let second = skip + (8 - omitted) * k as usize;
     for eight in 1..levels.len() / 8 {
         let lows = reader.wide_words_ahead(second + 8 * (eight - 1) * k as usize, k);
-        last = write_eight(setting, last, k, highs, lows, 8 * eight, levels)?;
+        last = restore_eight_at(setting, last, k, highs, lows, 8 * eight, levels)?;
     }
     Some(last)
 }
@@ -204,7 +204,7 @@ fn restore_rows<I: Intake>(
     if reader.waiting() < (words + size * k as usize) as u64 + LOOK {
         return None;
     }
-    let last = write_eights(setting, from, omitted, words, k, &highs, reader, levels)?;
+    let last = restore_eights(setting, from, omitted, words, k, &highs, reader, levels)?;
     Some(SpelledBlock {
         last,
         len: words + (size - omitted) * k as usize,

@@ -114,16 +114,16 @@ ends-more before bytes i lt =
     ap (ends_after before) (bits-more bytes i lt) ∙ (ends-append before front byte ∙ ap (λ k. ends_after before front ++ ends_after (before + k) byte) len)
 
 -- differences that stop at 0, in lanes
-one_excess : (x y : ℕ) → x < 256 → y < 256 → (cond (nat_lt x y) y x + (256 - y)) % 256 ≡ x - y
-one_excess x y h k = grind (arith, nat_tests)
+one_above_or_zero : (x y : ℕ) → x < 256 → y < 256 → (cond (nat_lt x y) y x + (256 - y)) % 256 ≡ x - y
+one_above_or_zero x y h k = grind (arith, nat_tests)
 
 abbrev pub wrapped_sub : ℕ → ℕ → ℕ
 wrapped_sub a b = (a + (256 - b)) % 256
 
-pub lanes_excess : (xs ys : List ℕ) → Each1 (Fits w8) xs → Each1 (Fits w8) ys → zip2 wrapped_sub (sel_l (zip2 nat_lt xs ys) ys xs) ys ≡ zip2 (λ x y. x - y) xs ys
-lanes_excess [] ys h k = refl
-lanes_excess (x ∷ xs) [] h k = refl
-lanes_excess (x ∷ xs) (y ∷ ys) h k = λ i. one_excess x y h.0.fits k.0.fits i ∷ lanes_excess xs ys h.1 k.1 i
+pub lanes_above_or_zero : (xs ys : List ℕ) → Each1 (Fits w8) xs → Each1 (Fits w8) ys → zip2 wrapped_sub (sel_l (zip2 nat_lt xs ys) ys xs) ys ≡ zip2 (λ x y. x - y) xs ys
+lanes_above_or_zero [] ys h k = refl
+lanes_above_or_zero (x ∷ xs) [] h k = refl
+lanes_above_or_zero (x ∷ xs) (y ∷ ys) h k = λ i. one_above_or_zero x y h.0.fits k.0.fits i ∷ lanes_above_or_zero xs ys h.1 k.1 i
 
 pub map_same : (xs : List ℕ) → map (λ d. d) xs ≡ xs
 map_same [] = refl

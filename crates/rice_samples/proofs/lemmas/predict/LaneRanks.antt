@@ -22,13 +22,13 @@ wrapped_sub a b = (a + (65536 - b)) % 65536
 abbrev pub wrapped_add : ℕ → ℕ → ℕ
 wrapped_add a b = (a + b) % 65536
 
-one_excess : (x y : ℕ) → x < 65536 → y < 65536 → wrapped_sub (cond (nat_lt x y) y x) y ≡ x - y
-one_excess x y h k = grind (arith, nat_tests)
+one_above_or_zero : (x y : ℕ) → x < 65536 → y < 65536 → wrapped_sub (cond (nat_lt x y) y x) y ≡ x - y
+one_above_or_zero x y h k = grind (arith, nat_tests)
 
-pub lanes_excess : (xs ys : List ℕ) → Each1 (Fits w16) xs → Each1 (Fits w16) ys → zip2 wrapped_sub (sel_l (zip2 nat_lt xs ys) ys xs) ys ≡ zip2 (λ x y. x - y) xs ys
-lanes_excess [] ys h k = refl
-lanes_excess (x ∷ xs) [] h k = refl
-lanes_excess (x ∷ xs) (y ∷ ys) h k = λ i. one_excess x y h.0.fits k.0.fits i ∷ lanes_excess xs ys h.1 k.1 i
+pub lanes_above_or_zero : (xs ys : List ℕ) → Each1 (Fits w16) xs → Each1 (Fits w16) ys → zip2 wrapped_sub (sel_l (zip2 nat_lt xs ys) ys xs) ys ≡ zip2 (λ x y. x - y) xs ys
+lanes_above_or_zero [] ys h k = refl
+lanes_above_or_zero (x ∷ xs) [] h k = refl
+lanes_above_or_zero (x ∷ xs) (y ∷ ys) h k = λ i. one_above_or_zero x y h.0.fits k.0.fits i ∷ lanes_above_or_zero xs ys h.1 k.1 i
 
 one_rank : (g p x : ℕ) → g < 65536 → p ≤ g → x ≤ g →
     wrapped_add (wrapped_add (p - x) (x - p)) (min (wrapped_add (x - p) (p - x - 1)) (min p (wrapped_sub g p))) ≡ rank_below (g + 1) p x

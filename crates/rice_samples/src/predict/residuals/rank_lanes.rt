@@ -55,9 +55,9 @@ fn eight_ranks(greatest: u16, before: u16x8, numbers: u16x8) -> u16x8
     ensures { result ≡ zip2 (rank_below (greatest + 1)) before numbers }
 {
     // One of the two ways is 0.
-    let down = excess(before, numbers);
-    let up = excess(numbers, before);
-    let nearer = up + excess(down, u16x8::splat(1));
+    let down = above_or_zero(before, numbers);
+    let up = above_or_zero(numbers, before);
+    let nearer = up + above_or_zero(down, u16x8::splat(1));
     let reach = least(before, u16x8::splat(greatest) - before);
     down + up + least(nearer, reach)
 }
@@ -72,7 +72,7 @@ fn least(a: u16x8, b: u16x8) -> u16x8
 
 /// Returns by how much a number is above the other, or 0, in each lane.
 #[inline(always)]
-fn excess(a: u16x8, b: u16x8) -> u16x8
+fn above_or_zero(a: u16x8, b: u16x8) -> u16x8
     ensures { result ≡ zip2 (λ x y. x - y) a b }
 {
     a.saturating_sub(b)

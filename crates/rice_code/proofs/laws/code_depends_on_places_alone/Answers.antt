@@ -1,7 +1,7 @@
 use Rattle.std.proofs.Common.{◌+◌, length}
 use Rattle.rice_samples.specs.Places.{block_count}
 use Rattle.rice_code.specs.code.Code.{sets_from}
-use Rattle.rice_code.proofs.laws.code_stands_in_places.Goals as goal
+use Rattle.rice_code.proofs.laws.code_depends_on_places_alone.Goals as goal
 use Rattle.rice_code.proofs.lemmas.code.Layouts.{laid_at}
 use Rattle.rice_code.proofs.lemmas.code.BlockPlaces.{code_stands_in_intervals}
 

@@ -2,7 +2,7 @@ use Rattle.std.proofs.Common.{◌≡◌, ◌*◌, ◌<◌, length, take}
 use Rattle.rice_samples.specs.Parameters.{value_count}
 use Rattle.rice_samples.specs.predict.Residuals.{last_number}
 use Rattle.rice_code.specs.decode.WideAhead.{LevelsAhead}
-use Rattle.rice_code.proofs.decode.wide_ahead.write_eights.Given as goal
+use Rattle.rice_code.proofs.decode.wide_ahead.restore_eights.Given as goal
 
 abbrev pub invariant-loop-eight : goal.invariant-loop-eight
 invariant-loop-eight g l = record {

@@ -5,7 +5,7 @@ use Rattle.rice_code.specs.code.Blocks.{BlockData}
 use Rattle.rice_code.specs.code.CodedDataSets.{Split}
 use Rattle.rice_code.specs.code.Decoded.{Reached}
 use Rattle.rice_code.proofs.lemmas.meaning.DecodingWitnesses.{Gives, all_below, unsigned_samples, decoded_by_one}
-use Rattle.rice_code.proofs.decoding_examples.decodes_another_fill.Goals as goal
+use Rattle.rice_code.proofs.decoding_examples.decodes_a_block_filled_with_zeros.Goals as goal
 
 abbrev block : BlockData
 block = record { reference = None; residuals = 0xF0 ∷ replicate 7 0 }

@@ -3,7 +3,7 @@ use Rattle.std.specs.Simd.Lanes.{put_chunk}
 use Rattle.std.proofs.lemmas.List.{length-drop, length-take-le}
 use Rattle.std.proofs.lemmas.Simd.{take_more_put_chunk}
 use Rattle.rice_code.proofs.lemmas.decode.WideAhead.{eight_written}
-use Rattle.rice_code.proofs.decode.wide_ahead.write_eight.Goals as goal
+use Rattle.rice_code.proofs.decode.wide_ahead.restore_eight_at.Goals as goal
 
 pub returns-clause-some : goal.returns-clause-some
 returns-clause-some c =

@@ -1,4 +1,4 @@
-use Rattle.rice_code.proofs.laws.decoding_stands_in_places.Goals as goal
+use Rattle.rice_code.proofs.laws.decoding_depends_on_places_alone.Goals as goal
 use Rattle.rice_code.proofs.lemmas.meaning.DecodingPlaces as places
 
 pub returns : goal.returns
