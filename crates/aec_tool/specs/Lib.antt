@@ -1,3 +1,4 @@
+-- What contracts of the command cite: its words, its plan, what it does, and the system outside.
 pub mod OneBehind
 pub mod CommandLine
 pub mod Outside

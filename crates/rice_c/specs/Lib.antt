@@ -1,3 +1,4 @@
+-- What contracts of the calls for C cite: their settings, statuses, reports and memory, and what each call does.
 pub mod AskedSetting
 pub mod Calls
 pub mod Drains

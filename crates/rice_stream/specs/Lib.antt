@@ -1,3 +1,4 @@
+-- What contracts of this crate cite: what `encode` and `decode` do, at once and in pieces, and their states between.
 pub mod Calls
 pub mod Decodes
 pub mod DecodingState

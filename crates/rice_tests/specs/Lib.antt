@@ -1,1 +1,2 @@
+-- What contracts of the tests cite: devices over memory.
 pub mod Devices

@@ -146,19 +146,19 @@ select_max (x ∷ xs) (y ∷ ys) =
 abbrev masks : Width → List ℕ → List ℕ → List Bool
 masks w xs ys = map (top (hbits w)) (zip2 (λ a b. cond (nat_lt a b) (2 ^ bits w - 1) 0) xs ys)
 
-abbrev gaps : ℕ → ℕ → List ℕ → List ℕ
-gaps m g xs = zip2 (λ a b. (a + (m - b)) % m) (replicate 8 g) xs
+abbrev up_to_greatest : ℕ → ℕ → List ℕ → List ℕ
+up_to_greatest m g xs = zip2 (λ a b. (a + (m - b)) % m) (replicate 8 g) xs
 
 pub bounds_are : (w : Width) (g : ℕ) (xs : List ℕ) → length xs ≡ 8 →
-    (let reaches = sel_l (masks w xs (gaps (2 ^ bits w) g xs)) xs (gaps (2 ^ bits w) g xs) in
+    (let reaches = sel_l (masks w xs (up_to_greatest (2 ^ bits w) g xs)) xs (up_to_greatest (2 ^ bits w) g xs) in
     zip2 (λ x y. (x + y) % 2 ^ bits w) reaches reaches) ≡ map (bound (2 ^ bits w) g) xs
 bounds_are w g xs n =
-    let ys = gaps (2 ^ bits w) g xs in
+    let ys = up_to_greatest (2 ^ bits w) g xs in
     let least : sel_l (masks w xs ys) xs ys ≡ zip2 min xs ys = ap (λ ms. sel_l ms xs ys) (tops_compared w nat_lt xs ys) ∙ select_min xs ys in
     (λ j. zip2 (λ x y. (x + y) % 2 ^ bits w) (least j) (least j)) ∙ of_least (2 ^ bits w) g xs n
   where
-    of_least : (m g : ℕ) (xs : List ℕ) → length xs ≡ 8 → zip2 (λ x y. (x + y) % m) (zip2 min xs (gaps m g xs)) (zip2 min xs (gaps m g xs)) ≡ map (bound m g) xs
-    of_least m g xs n = eight_lanes (λ xs. zip2 (λ x y. (x + y) % m) (zip2 min xs (gaps m g xs)) (zip2 min xs (gaps m g xs)) ≡ map (bound m g) xs) (λ a b c d e f g h. refl) xs n
+    of_least : (m g : ℕ) (xs : List ℕ) → length xs ≡ 8 → zip2 (λ x y. (x + y) % m) (zip2 min xs (up_to_greatest m g xs)) (zip2 min xs (up_to_greatest m g xs)) ≡ map (bound m g) xs
+    of_least m g xs n = eight_lanes (λ xs. zip2 (λ x y. (x + y) % m) (zip2 min xs (up_to_greatest m g xs)) (zip2 min xs (up_to_greatest m g xs)) ≡ map (bound m g) xs) (λ a b c d e f g h. refl) xs n
 
 -- the test
 

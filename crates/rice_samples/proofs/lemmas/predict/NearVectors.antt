@@ -71,19 +71,19 @@ greater_selected (x ∷ xs) (y ∷ ys) =
 abbrev masks : Width → List ℕ → List ℕ → List Bool
 masks w xs ys = map (top (hbits w)) (zip2 (λ a b. cond (nat_lt a b) (2 ^ bits w - 1) 0) xs ys)
 
-abbrev gaps : ℕ → ℕ → ℕ → List ℕ → List ℕ
-gaps n m g xs = zip2 (λ a b. (a + (m - b)) % m) (replicate n g) xs
+abbrev up_to_greatest : ℕ → ℕ → ℕ → List ℕ → List ℕ
+up_to_greatest n m g xs = zip2 (λ a b. (a + (m - b)) % m) (replicate n g) xs
 
-of_least : (n m g : ℕ) (xs : List ℕ) → length xs ≡ n → zip2 (λ x y. (x + y) % m) (zip2 min xs (gaps n m g xs)) (zip2 min xs (gaps n m g xs)) ≡ map (bound m g) xs
+of_least : (n m g : ℕ) (xs : List ℕ) → length xs ≡ n → zip2 (λ x y. (x + y) % m) (zip2 min xs (up_to_greatest n m g xs)) (zip2 min xs (up_to_greatest n m g xs)) ≡ map (bound m g) xs
 of_least n m g [] e = refl
 of_least zero m g (x ∷ xs) e = absurd (omega arith)
 of_least (suc n) m g (x ∷ xs) e = ap (λ z. bound m g x ∷ z) (of_least n m g xs (omega arith))
 
 pub vector_of_bounds : (w : Width) (n g : ℕ) (xs : List ℕ) → length xs ≡ n →
-    (let reaches = sel_l (masks w xs (gaps n (2 ^ bits w) g xs)) xs (gaps n (2 ^ bits w) g xs) in
+    (let reaches = sel_l (masks w xs (up_to_greatest n (2 ^ bits w) g xs)) xs (up_to_greatest n (2 ^ bits w) g xs) in
     zip2 (λ x y. (x + y) % 2 ^ bits w) reaches reaches) ≡ map (bound (2 ^ bits w) g) xs
 vector_of_bounds w n g xs e =
-    let ys = gaps n (2 ^ bits w) g xs in
+    let ys = up_to_greatest n (2 ^ bits w) g xs in
     let least : sel_l (masks w xs ys) xs ys ≡ zip2 min xs ys = ap (λ ms. sel_l ms xs ys) (tops_compared w nat_lt xs ys) ∙ lesser_selected xs ys in
     (λ j. zip2 (λ x y. (x + y) % 2 ^ bits w) (least j) (least j)) ∙ of_least n (2 ^ bits w) g xs e
 

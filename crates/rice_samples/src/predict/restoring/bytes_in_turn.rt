@@ -16,7 +16,7 @@ use std::simd::prelude::*;
 struct Turns {
     ranks: [u8; 16],
     ways: [u8; 16],
-    halves: [u8; 16],
+    half_ranks: [u8; 16],
     highs: [u8; 16],
 }
 
@@ -36,7 +36,7 @@ pub fn levels_in_turn(setting: &Setting, before: u32, residuals: u8x16) -> Level
     let turns = Turns {
         ranks: residuals.to_array(),
         ways: ways(residuals).to_array(),
-        halves: halves(residuals).to_array(),
+        half_ranks: half_ranks(residuals).to_array(),
         highs: below_greatest(greatest, residuals).to_array(),
     };
     let mut levels = [0; 16];
@@ -76,7 +76,7 @@ pub fn joined_in_turn(
 
 /// Returns half of each rank, up.
 #[inline(always)]
-fn halves(ranks: u8x16) -> u8x16
+fn half_ranks(ranks: u8x16) -> u8x16
     requires { length ranks ≡ 16 }
     ensures { result ≡ map (λ d. (d + 1) / 2) ranks }
 {
@@ -103,7 +103,7 @@ fn write_in_turn(greatest: u32, p: u32, turns: &Turns, numbers: &mut [u8])
     requires ranks { All (λ d. d ≤ greatest) turns.now.ranks }
     requires sixteen { length turns.now.ranks ≡ 16 }
     requires ways { turns.now.ways ≡ map (way_of (2 ^ 8)) turns.now.ranks }
-    requires halves { turns.now.halves ≡ map (λ d. (d + 1) / 2) turns.now.ranks }
+    requires half_ranks { turns.now.half_ranks ≡ map (λ d. (d + 1) / 2) turns.now.ranks }
     requires highs { turns.now.highs ≡ map (λ d. greatest - d) turns.now.ranks }
     requires len { length numbers.old ≡ 16 }
     ensures len { length numbers.new ≡ 16 }
@@ -117,7 +117,7 @@ fn write_in_turn(greatest: u32, p: u32, turns: &Turns, numbers: &mut [u8])
             number,
             turns.ranks[i],
             turns.ways[i],
-            turns.halves[i],
+            turns.half_ranks[i],
             turns.highs[i],
         );
         numbers[i] = number as u8;

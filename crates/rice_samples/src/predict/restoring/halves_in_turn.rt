@@ -17,7 +17,7 @@ use std::simd::prelude::*;
 struct Turns {
     ranks: [u16; 8],
     ways: [u16; 8],
-    halves: [u16; 8],
+    half_ranks: [u16; 8],
     highs: [u16; 8],
 }
 
@@ -71,7 +71,7 @@ fn excess_over(ranks: u16x8, most: u16) -> u16x8
 
 /// Returns half of each rank, up.
 #[inline(always)]
-fn halves(ranks: u16x8) -> u16x8
+fn half_ranks(ranks: u16x8) -> u16x8
     requires { length ranks ≡ 8 }
     ensures { result ≡ map (λ d. (d + 1) / 2) ranks }
 {
@@ -105,7 +105,7 @@ fn write_eight(greatest: u16, p: u32, ranks: u16x8, numbers: &mut [u16]) -> u32
     let turns = Turns {
         ranks: ranks.to_array(),
         ways: ways(ranks).to_array(),
-        halves: halves(ranks).to_array(),
+        half_ranks: half_ranks(ranks).to_array(),
         highs: below_greatest(greatest, ranks).to_array(),
     };
     write_in_turn(greatest as u32, p, &turns, numbers)
@@ -119,7 +119,7 @@ fn write_in_turn(greatest: u32, p: u32, turns: &Turns, numbers: &mut [u16]) -> u
     requires ranks { All (λ d. d ≤ greatest) turns.now.ranks }
     requires eight { length turns.now.ranks ≡ 8 }
     requires ways { turns.now.ways ≡ map (way_of (2 ^ 16)) turns.now.ranks }
-    requires halves { turns.now.halves ≡ map (λ d. (d + 1) / 2) turns.now.ranks }
+    requires half_ranks { turns.now.half_ranks ≡ map (λ d. (d + 1) / 2) turns.now.ranks }
     requires highs { turns.now.highs ≡ map (λ d. greatest - d) turns.now.ranks }
     requires len { length numbers.old ≡ 8 }
     ensures len { length numbers.new ≡ 8 }
@@ -135,7 +135,7 @@ fn write_in_turn(greatest: u32, p: u32, turns: &Turns, numbers: &mut [u16]) -> u
             number,
             turns.ranks[i],
             turns.ways[i],
-            turns.halves[i],
+            turns.half_ranks[i],
             turns.highs[i],
         );
         numbers[i] = number as u16;
