@@ -9,7 +9,7 @@ use std::simd::prelude::*;
 
 /// Returns the number of ones of `byte`.
 #[inline]
-fn ones_of(byte: u8) -> usize
+fn count_ones_of(byte: u8) -> usize
     ensures value { result ≡ length (ends_after 0 (word 8 byte)) }
     ensures few { result ≤ 8 }
 {
@@ -29,7 +29,7 @@ fn write_ends(byte: u8, before: u8, found: usize, ends: &mut [u8]) -> usize
 {
     let row = u8x8::from_array(ends_of(byte)) + u8x8::splat(before);
     row.copy_to_slice(&mut ends[found + 1..]);
-    found + ones_of(byte)
+    found + count_ones_of(byte)
 }
 
 /// Writes the ends of the ones of `bytes`, which stand after `before` bits, after the first `found` + 1 places.

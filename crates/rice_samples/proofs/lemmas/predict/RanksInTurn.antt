@@ -9,15 +9,15 @@ use Rattle.std.proofs.lemmas.List.Elements.{All-head, All-tail}
 use Rattle.std.proofs.Math.Nat.{add-mod_right, mod-eq_of_lt}
 
 -- how far each rank is below the greatest number
-pub below_greatest_are : (w : Width) (greatest n : ℕ) (ds : List ℕ) → length ds ≡ n → greatest < 2 ^ bits w → All (λ d. d ≤ greatest) ds
+pub distances_below_greatest_are : (w : Width) (greatest n : ℕ) (ds : List ℕ) → length ds ≡ n → greatest < 2 ^ bits w → All (λ d. d ≤ greatest) ds
     → zip2 (λ a b. (a + (2 ^ bits w - b)) % 2 ^ bits w) (replicate n greatest) ds ≡ map (λ d. greatest - d) ds
-below_greatest_are w greatest zero [] e fits h = refl
-below_greatest_are w greatest zero (d ∷ ds) e fits h = absurd (omega arith)
-below_greatest_are w greatest (suc n) [] e fits h = absurd (omega arith)
-below_greatest_are w greatest (suc n) (d ∷ ds) e fits h =
+distances_below_greatest_are w greatest zero [] e fits h = refl
+distances_below_greatest_are w greatest zero (d ∷ ds) e fits h = absurd (omega arith)
+distances_below_greatest_are w greatest (suc n) [] e fits h = absurd (omega arith)
+distances_below_greatest_are w greatest (suc n) (d ∷ ds) e fits h =
     let below = All-head (λ d. d ≤ greatest) d ds h in
     let one : (greatest + (2 ^ bits w - d)) % 2 ^ bits w ≡ greatest - d = wrapped (2 ^ bits w) d below fits in
-    let others = below_greatest_are w greatest n ds (omega arith) fits (All-tail (λ d. d ≤ greatest) d ds h) in
+    let others = distances_below_greatest_are w greatest n ds (omega arith) fits (All-tail (λ d. d ≤ greatest) d ds h) in
     λ j. one j ∷ others j
   where
     wrapped : (m d : ℕ) → d ≤ greatest → greatest < m → (greatest + (m - d)) % m ≡ greatest - d

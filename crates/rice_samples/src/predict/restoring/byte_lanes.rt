@@ -89,7 +89,8 @@ fn near_numbers(p: u8, ranks: u8x16) -> u8x16
     requires { length ranks ≡ 16 }
     ensures { result ≡ near_numbers_of (2 ^ 8) p ranks }
 {
-    plus_eight_before(plus_four_before(plus_two_before(plus_one_before(ways(ranks))))) + u8x16::splat(p)
+    plus_eight_before(plus_four_before(plus_two_before(plus_one_before(ways(ranks)))))
+        + u8x16::splat(p)
 }
 
 /// Returns the way to each number, if it is near. The ways wrap, as their sums do.

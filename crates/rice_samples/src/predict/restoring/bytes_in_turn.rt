@@ -37,7 +37,7 @@ pub fn levels_in_turn(setting: &Setting, before: u32, residuals: u8x16) -> Level
         ranks: residuals.to_array(),
         ways: ways(residuals).to_array(),
         half_ranks: half_ranks(residuals).to_array(),
-        highs: below_greatest(greatest, residuals).to_array(),
+        highs: distances_below_greatest(greatest, residuals).to_array(),
     };
     let mut levels = [0; 16];
     write_in_turn(greatest as u32, before, &turns, &mut levels);
@@ -86,7 +86,7 @@ fn half_ranks(ranks: u8x16) -> u8x16
 
 /// Returns how far each rank is below `greatest`.
 #[inline(always)]
-fn below_greatest(greatest: u8, ranks: u8x16) -> u8x16
+fn distances_below_greatest(greatest: u8, ranks: u8x16) -> u8x16
     requires ranks { All (λ d. d ≤ greatest) ranks }
     requires lanes { length ranks ≡ 16 }
     ensures { result ≡ map (λ d. greatest - d) ranks }

@@ -18,17 +18,23 @@ pub(crate) fn write_in_turn(greatest: u32, p: u32, ranks: &[u32], numbers: &mut 
 {
     let lanes = u32x8::from_slice(ranks);
     let ways = ways(lanes).to_array();
-    let below_greatest = below_greatest(greatest, lanes).to_array();
+    let distances_below_greatest = distances_below_greatest(greatest, lanes).to_array();
     let mut number = p;
     for i in 0..8 {
-        number = selected_number(greatest, number, ranks[i], ways[i], below_greatest[i]);
+        number = selected_number(
+            greatest,
+            number,
+            ranks[i],
+            ways[i],
+            distances_below_greatest[i],
+        );
         numbers[i] = number;
     }
 }
 
 /// Returns how far each rank is below `greatest`.
 #[inline(always)]
-fn below_greatest(greatest: u32, ranks: u32x8) -> u32x8
+fn distances_below_greatest(greatest: u32, ranks: u32x8) -> u32x8
     requires ranks { All (λ d. d ≤ greatest) ranks }
     requires lanes { length ranks ≡ 8 }
     ensures { result ≡ map (λ d. greatest - d) ranks }

@@ -81,7 +81,7 @@ fn half_ranks(ranks: u16x8) -> u16x8
 
 /// Returns how far each rank is below `greatest`.
 #[inline(always)]
-fn below_greatest(greatest: u16, ranks: u16x8) -> u16x8
+fn distances_below_greatest(greatest: u16, ranks: u16x8) -> u16x8
     requires ranks { All (λ d. d ≤ greatest) ranks }
     requires lanes { length ranks ≡ 8 }
     ensures { result ≡ map (λ d. greatest - d) ranks }
@@ -106,7 +106,7 @@ fn write_eight(greatest: u16, p: u32, ranks: u16x8, numbers: &mut [u16]) -> u32
         ranks: ranks.to_array(),
         ways: ways(ranks).to_array(),
         half_ranks: half_ranks(ranks).to_array(),
-        highs: below_greatest(greatest, ranks).to_array(),
+        highs: distances_below_greatest(greatest, ranks).to_array(),
     };
     write_in_turn(greatest as u32, p, &turns, numbers)
 }

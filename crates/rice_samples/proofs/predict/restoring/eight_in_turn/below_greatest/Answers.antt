@@ -1,6 +1,0 @@
-use Rattle.std.proofs.Common.{w32}
-use Rattle.rice_samples.proofs.lemmas.predict.RanksInTurn.{below_greatest_are}
-use Rattle.rice_samples.proofs.predict.restoring.eight_in_turn.below_greatest.Goals as goal
-
-pub returns : goal.returns
-returns c = below_greatest_are w32 c.args.greatest 8 c.args.ranks c.requires.lanes c.ranges.greatest.fits c.requires.ranks
