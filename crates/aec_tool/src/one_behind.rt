@@ -20,10 +20,7 @@ fn skip<I: Intake + Drop>(intake: &mut I, count: u64) -> Result<(), ReadFault>
     let mut left = count;
     while left > 0 {
         let most = left.min(PIECE as u64) as usize;
-        let taken = match intake.fill(&mut buffer[..most]) {
-            Ok(taken) => taken,
-            Err(_) => return Err(ReadFault),
-        };
+        let taken = intake.fill(&mut buffer[..most])?;
         if taken == 0 {
             return Ok(());
         }

@@ -136,8 +136,6 @@ fn look<'a, S: System<'a>>(
         Ok(opened) => opened,
         Err(_) => return Err(Fault::Read),
     };
-    match look_behind(source, bits) {
-        Ok(more) => Ok(Some(more)),
-        Err(fault) => Err(fault),
-    }
+    let more = look_behind(source, bits)?;
+    Ok(Some(more))
 }

@@ -77,13 +77,9 @@ pub fn write_whole<const N: usize, O: Outlet>(
         (whole_bytes sink.old) ×
         (O.failed outlet.new ≡ O.failed outlet.old + 1)) }
 {
-    match write_all(outlet, sink.whole()) {
-        Ok(()) => {
-            sink.drop_whole();
-            Ok(())
-        }
-        Err(fault) => Err(fault),
-    }
+    write_all(outlet, sink.whole())?;
+    sink.drop_whole();
+    Ok(())
 }
 
 /// Writes the bytes of the samples of a block, for which `bytes` has room.
