@@ -32,7 +32,7 @@ pub(crate) const SHORT: usize = 128;
 
 /// A coder with room for `N` residuals, its sink, its meter, and what it has counted for the report.
 #[derive(Drop)]
-pub struct Encoding<const N: usize> {
+pub(crate) struct Encoding<const N: usize> {
     coder: SizedCoder<N>,
     sink: SegmentSink,
     meter: Meter,
