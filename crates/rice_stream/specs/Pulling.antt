@@ -4,7 +4,7 @@ use Rattle.rice_bits.specs.Limits.{most_bits_read}
 use Rattle.rice_bits.specs.Bits.{bits_of}
 use Rattle.rice_bits.specs.read.Reader.{Reader}
 use Rattle.rice_samples.specs.Limits.{most_samples_counted}
-use Rattle.rice_samples.specs.Parameters.{Parameters, width}
+use Rattle.rice_samples.specs.Parameters.{Parameters, values_at, width}
 use Rattle.rice_samples.specs.Places.{place}
 use Rattle.rice_samples.specs.predict.Residuals.{last_of}
 use Rattle.rice_samples.specs.bytes.Spelling.{spellings}
@@ -174,3 +174,7 @@ pause_for faults.RunPastSegment = pauses.RunPastSegment
 pause_for faults.ResidualTooLarge = pauses.ResidualTooLarge
 pause_for faults.Read = pauses.Cut
 pause_for faults.TooLong = pauses.Cut
+
+-- some bytes with the spellings of the samples of these levels at a place
+abbrev pub spelled_at : Parameters → ℕ → List ℕ → List ℕ → List ℕ
+spelled_at s at levels out = take at out ++ (spellings s (values_at s levels) ++ drop (at + width s * length levels) out)

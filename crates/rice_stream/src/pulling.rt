@@ -1,14 +1,13 @@
 //! Decodes a code piece by piece, for a caller that has not all of it, or no room for all samples. Nothing but a `Stand` is kept.
-ghost use Rattle.std.specs.Prelude.{◌≡◌, ◌≢◌, ◌+◌, ◌-◌, ◌*◌, ◌%◌, ◌<◌, ◌≤◌, ◌++◌, Bool, true, false, List, All, IsSome, IfOk, IfSome, None, Some, drop, take, length, ℤ};
+ghost use Rattle.std.specs.Prelude.{◌≡◌, ◌≢◌, ◌+◌, ◌-◌, ◌*◌, ◌%◌, ◌<◌, ◌≤◌, Bool, true, false, List, All, IsSome, IfOk, IfSome, None, Some, drop, length, ℤ};
 ghost use Rattle.rice_bits.specs.Limits.{most_bits_read};
 ghost use Rattle.rice_bits.specs.Bits.{bits_of};
 ghost use Rattle.rice_bits.specs.read.Reader.{new_reader};
 ghost use Rattle.rice_samples.specs.Parameters.{value_count, values_at, width as width_of};
-ghost use Rattle.rice_samples.specs.bytes.Spelling.{spellings};
 ghost use Rattle.rice_code.specs.declared.decode.answer.CodeFault.TheVariants as faults;
 ghost use Rattle.rice_code.specs.decode.BlocksAhead.{HasLanes};
 ghost use Rattle.rice_code.specs.decode.PlainBlocks.{IsPlain};
-ghost use Rattle.rice_stream.specs.Pulling.{Origin, IsStand, IsSomeStand, DecodesOn, GoesOnAt, HasComeTo, TakesNext, ahead, pause_for};
+ghost use Rattle.rice_stream.specs.Pulling.{Origin, IsStand, IsSomeStand, DecodesOn, GoesOnAt, HasComeTo, TakesNext, ahead, pause_for, spelled_at};
 
 use crate::decoding::has_lanes;
 use crate::patience::Patience;
@@ -227,9 +226,7 @@ fn write_at(setting: &Setting, levels: &[u32], bytes: &mut [u8; 512], at: usize,
     requires legal { All (λ l. l < value_count setting.now) levels.now }
     requires few { length levels.now ≤ 64 }
     requires room { at + width_of setting.now * length levels.now ≤ length samples.old }
-    ensures { samples.new ≡ take at
-        samples.old ++ (spellings setting.now (values_at setting.now levels.now)
-        ++ drop (at + width_of setting.now * length levels.now) samples.old) }
+    ensures { samples.new ≡ spelled_at setting.now at levels.now samples.old }
 {
     // Laid out for the blocks that are written most.
     match (setting.width(), setting.msb(), levels.len()) {
@@ -254,9 +251,7 @@ fn write_others_at(
     requires legal { All (λ l. l < value_count setting.now) levels.now }
     requires few { length levels.now ≤ 64 }
     requires room { at + width_of setting.now * length levels.now ≤ length samples.old }
-    ensures { samples.new ≡ take at
-        samples.old ++ (spellings setting.now (values_at setting.now levels.now)
-        ++ drop (at + width_of setting.now * length levels.now) samples.old) }
+    ensures { samples.new ≡ spelled_at setting.now at levels.now samples.old }
 {
     match (setting.width(), setting.msb(), levels.len()) {
         (1, msb, 64) => write_sized_at(setting, 1, msb, 64, levels, bytes, at, samples),
@@ -289,9 +284,7 @@ fn write_three_bytes_each_at(
     requires eights { count % 8 ≡ 0 }
     requires few { count ≤ 64 }
     requires room { at + 3 * count ≤ length samples.old }
-    ensures { samples.new ≡ take at
-        samples.old ++ (spellings setting.now (values_at setting.now levels.now)
-        ++ drop (at + 3 * count) samples.old) }
+    ensures { samples.new ≡ spelled_at setting.now at levels.now samples.old }
 {
     write_threes(setting, &levels[..count], bytes);
     copy_at(&bytes[..3 * count], at, samples);
@@ -316,9 +309,7 @@ fn write_sized_at(
     requires count { length levels.now ≡ count }
     requires few { count ≤ 64 }
     requires room { at + width * count ≤ length samples.old }
-    ensures { samples.new ≡ take at
-        samples.old ++ (spellings setting.now (values_at setting.now levels.now)
-        ++ drop (at + width * count) samples.old) }
+    ensures { samples.new ≡ spelled_at setting.now at levels.now samples.old }
 {
     let spelled = &mut bytes[..width * count];
     write_spellings_as(setting, width, msb, &levels[..count], spelled);
