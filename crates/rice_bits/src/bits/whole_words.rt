@@ -121,7 +121,8 @@ fn join_first(bytes: &mut [u8], bits: u64, value: u64, count: u32, first: u64) -
     requires value { value < 2 ^ count }
     requires bits { IsBitSink (length bytes.old) bits bytes.old }
     requires room { bits + (count + 64) ≤ 8 * length bytes.old }
-    ensures joins { Joins (word count value ++ word (64 - (bits % 8 + count)) (first / 2 ^ (bits % 8 + count)))
+    ensures joins { Joins (word count value ++
+        word (64 - (bits % 8 + count)) (first / 2 ^ (bits % 8 + count)))
         (64 - bits % 8) bits result bytes.old bytes.new }
     ensures whole { result % 8 ≡ 0 }
 {

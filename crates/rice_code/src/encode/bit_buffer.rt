@@ -126,14 +126,6 @@ impl BitBuffer {
         self.add_fs(d, sink, meter);
     }
 
-    /// Returns the number of the bits.
-    #[inline(always)]
-    pub fn len(&self) -> u32
-        ensures { result ≡ length self.now }
-    {
-        self.width
-    }
-
     /// Puts the bits, and then the `width` lowest digits of each residual of the block, which come in eights.
     #[inline(always)]
     pub fn put_before(

@@ -119,8 +119,8 @@ fn put_each_sixteen(
     requires split { k ≤ 29 }
     requires from { from ≤ 1 }
     requires sixteens { length block.now % 16 ≡ 0 }
-    requires room { HasRoomForOnes k (length block.now) (length block.now - from) (drop from block.now)
-        (length sink.old + length fields) (meter.old + length fields) }
+    requires room { HasRoomForOnes k (length block.now) (length block.now - from)
+        (drop from block.now) (length sink.old + length fields) (meter.old + length fields) }
     ensures { AddsOnes k (length block.now) (length block.now - from) (drop from block.now)
         sink.old fields sink.new result meter.old meter.new }
 {
