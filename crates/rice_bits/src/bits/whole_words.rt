@@ -34,7 +34,7 @@ pub fn join_whole_bytes(
     let mut all = join_first(bytes, bits, value, count, last);
     for i in 1..words.len() / per {
         let next = words_at(words, per * i, width);
-        all = join_next(bytes, all, seam(last, next, left));
+        all = join_next(bytes, all, digits_across(last, next, left));
         last = next;
     }
     (all, last)
@@ -150,7 +150,7 @@ fn join_next(bytes: &mut [u8], bits: u64, digits: u64) -> u64
 
 /// Returns the number of the last `left` digits of `last`, and then the first digits of `next`, 64 in all.
 #[inline(always)]
-fn seam(last: u64, next: u64, left: u32) -> u64
+fn digits_across(last: u64, next: u64, left: u32) -> u64
     requires { (1 ≤ left) × (left < 64) }
     ensures { word 64 result ≡ word left last ++ word (64 - left) (next / 2 ^ left) }
 {

@@ -355,7 +355,7 @@ impl Decoder {
         }
         let size = known_or::<SIZE>(self.setting.block() as usize);
         if is_uncompressed_ahead::<I, WIDTH>(&self.setting, size, reader) {
-            self.read_whole::<I, SIZE>(reader, meter, bytes);
+            self.read_uncompressed::<I, SIZE>(reader, meter, bytes);
             return true;
         }
         false
@@ -413,7 +413,7 @@ impl Decoder {
 
     /// Reads the block without compression that waits outside a run, and writes its bytes.
     #[inline(never)]
-    fn read_whole<I: Intake, const SIZE: usize>(
+    fn read_uncompressed<I: Intake, const SIZE: usize>(
         &mut self,
         reader: &mut BitReader<I>,
         meter: &mut Meter,

@@ -46,7 +46,7 @@ pub fn first_lanes(numbers: u8x16, count: usize) -> u8x16
 {
     match count {
         16 => numbers,
-        8 => first_half(numbers),
+        8 => first_eight(numbers),
         _ => cleared_behind(numbers, count),
     }
 }
@@ -63,7 +63,7 @@ fn cleared_behind(numbers: u8x16, count: usize) -> u8x16
 
 /// Returns the first eight numbers, with zeros behind them.
 #[inline(always)]
-fn first_half(numbers: u8x16) -> u8x16
+fn first_eight(numbers: u8x16) -> u8x16
     requires { length numbers ≡ 16 }
     ensures { result ≡ take 8 numbers ++ replicate 8 0 }
 {

@@ -87,7 +87,7 @@ fn refill<I: Intake>(
 }
 
 /// Moves the last `waiting` bytes before `filled` to the front.
-fn carry(buffer: &mut [u8], filled: usize, waiting: usize)
+fn move_to_front(buffer: &mut [u8], filled: usize, waiting: usize)
     requires order { waiting ≤ filled }
     requires within { filled ≤ length buffer.old }
     ensures front { take waiting buffer.new ≡ drop (filled - waiting) (take filled buffer.old) }
@@ -144,7 +144,7 @@ impl SampleReader {
     {
         let _width = self.setting.width();
         let waiting = self.end - self.at;
-        carry(&mut self.buffer, self.end, waiting);
+        move_to_front(&mut self.buffer, self.end, waiting);
         self.at = 0;
         self.end = waiting;
         let most = piece(self.given, waiting);

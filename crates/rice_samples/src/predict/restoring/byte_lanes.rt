@@ -36,7 +36,7 @@ pub fn near_levels(
 {
     let greatest = (setting.values() - 1) as u8;
     let before = before as u8;
-    let ranks = joined(highs, lows, width);
+    let ranks = join_parts(highs, lows, width);
     let levels = near_numbers(before, ranks);
     let far = excess_over_near(greatest, before, ranks, levels);
     // What is above in any lane is seen by one test.
@@ -60,7 +60,7 @@ pub fn spelled_bytes(setting: &Setting, levels: u8x16) -> u8x16
 
 /// Returns the numbers times a power of 2, if they are small enough.
 #[inline(always)]
-fn raised(numbers: u8x16, width: u32) -> u8x16
+fn times_power_of_two(numbers: u8x16, width: u32) -> u8x16
     requires width { width ≤ 7 }
     requires len { length numbers ≡ 16 }
     ensures len { length result ≡ 16 }
@@ -73,14 +73,14 @@ fn raised(numbers: u8x16, width: u32) -> u8x16
 
 /// Joins high parts and low parts of `width` digits, if the high parts are small enough.
 #[inline(always)]
-pub(crate) fn joined(highs: u8x16, lows: u8x16, width: u32) -> u8x16
+pub(crate) fn join_parts(highs: u8x16, lows: u8x16, width: u32) -> u8x16
     requires width { width ≤ 7 }
     requires len { (length highs ≡ 16) × (length lows ≡ 16) }
     requires lows { All (λ v. v < 2 ^ width) lows }
     ensures len { length result ≡ 16 }
     ensures value { All (λ m. m ≤ 255 / 2 ^ width) highs → result ≡ joined_parts width highs lows }
 {
-    raised(highs, width) + lows
+    times_power_of_two(highs, width) + lows
 }
 
 /// Returns the numbers with these ranks, the first from `p` and each other from the one before it, if all are near.

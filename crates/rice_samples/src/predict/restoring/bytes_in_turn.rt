@@ -7,7 +7,7 @@ ghost use Rattle.rice_samples.specs.predict.LevelsOfParts.{AreLevelsOfParts};
 ghost use Rattle.rice_samples.specs.predict.Near.{way as way_of};
 
 use crate::Setting;
-use crate::predict::restoring::byte_lanes::{LevelLanes, are_zeros, excess_over, joined, ways};
+use crate::predict::restoring::byte_lanes::{LevelLanes, are_zeros, excess_over, join_parts, ways};
 use std::simd::prelude::*;
 
 /// What sixteen numbers are selected from, by their ranks: the rank, the way to a number that is near, half the rank, and how far the
@@ -64,7 +64,7 @@ pub fn joined_in_turn(
     ensures { IfSome result (λ l. AreLevelsOfParts setting.now before width highs lows l.levels) }
 {
     let greatest = (setting.values() - 1) as u8;
-    let residuals = joined(highs, lows, width);
+    let residuals = join_parts(highs, lows, width);
     if !are_zeros(
         excess_over(highs, 255 >> width),
         excess_over(residuals, greatest),

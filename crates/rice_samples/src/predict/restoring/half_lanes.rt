@@ -39,8 +39,8 @@ pub fn near_halves(
 {
     let greatest = (setting.values() - 1) as u16;
     let before = before as u16;
-    let first_ranks = joined(first_half(highs), first_half(lows), width);
-    let second_ranks = joined(second_half(highs), second_half(lows), width);
+    let first_ranks = join_parts(first_eight(highs), first_eight(lows), width);
+    let second_ranks = join_parts(second_eight(highs), second_eight(lows), width);
     let first = near_numbers(before, first_ranks);
     let last = first.to_array()[7];
     let second = near_numbers(last, second_ranks);
@@ -84,7 +84,7 @@ pub(crate) fn in_pairs_swapped(bytes: u8x16) -> u8x16
 
 /// Returns the first eight numbers, in lanes of 16 bits.
 #[inline(always)]
-pub(crate) fn first_half(numbers: u8x16) -> u16x8
+pub(crate) fn first_eight(numbers: u8x16) -> u16x8
     requires { length numbers ≡ 16 }
     ensures { result ≡ take 8 numbers }
 {
@@ -95,7 +95,7 @@ pub(crate) fn first_half(numbers: u8x16) -> u16x8
 
 /// Returns the last eight numbers, in lanes of 16 bits.
 #[inline(always)]
-pub(crate) fn second_half(numbers: u8x16) -> u16x8
+pub(crate) fn second_eight(numbers: u8x16) -> u16x8
     requires { length numbers ≡ 16 }
     ensures { result ≡ drop 8 numbers }
 {
@@ -106,7 +106,7 @@ pub(crate) fn second_half(numbers: u8x16) -> u16x8
 
 /// Joins high parts below 256 and low parts of `width` digits.
 #[inline(always)]
-pub(crate) fn joined(highs: u16x8, lows: u16x8, width: u32) -> u16x8
+pub(crate) fn join_parts(highs: u16x8, lows: u16x8, width: u32) -> u16x8
     requires width { width ≤ 8 }
     requires len { (length highs ≡ 8) × (length lows ≡ 8) }
     requires highs { All (λ m. m < 256) highs }

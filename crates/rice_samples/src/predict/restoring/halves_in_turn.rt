@@ -7,7 +7,7 @@ ghost use Rattle.rice_samples.specs.predict.LevelsOfParts.{AreLevelsOfParts};
 ghost use Rattle.rice_samples.specs.predict.Near.{way as way_of};
 
 use crate::Setting;
-use crate::predict::restoring::half_lanes::{LevelHalves, first_half, joined, second_half};
+use crate::predict::restoring::half_lanes::{LevelHalves, first_eight, join_parts, second_eight};
 use crate::predict::restoring::near_in_16_bits::{are_zeros, ways};
 use std::simd::prelude::*;
 
@@ -41,8 +41,8 @@ pub fn halves_in_turn(
     ensures halves { IfSome result (λ l. (length l.first ≡ 8) × (length l.second ≡ 8)) }
 {
     let greatest = (setting.values() - 1) as u16;
-    let first_ranks = joined(first_half(highs), first_half(lows), width);
-    let second_ranks = joined(second_half(highs), second_half(lows), width);
+    let first_ranks = join_parts(first_eight(highs), first_eight(lows), width);
+    let second_ranks = join_parts(second_eight(highs), second_eight(lows), width);
     if !are_zeros(
         excess_over(first_ranks, greatest),
         excess_over(second_ranks, greatest),

@@ -31,7 +31,7 @@ pub fn near_words(
     ensures { IfSome result (λ l. AreLevelsOfParts setting.now before width highs lows l.levels) }
 {
     let greatest = (setting.values() - 1) as u32;
-    let ranks = joined(highs.cast::<u32>(), lows, width);
+    let ranks = join_parts(highs.cast::<u32>(), lows, width);
     let levels = near_numbers(before, ranks);
     if !are_near(greatest, before, ranks, levels) {
         return None;
@@ -41,7 +41,7 @@ pub fn near_words(
 
 /// Joins high parts below 256 and low parts of `width` digits.
 #[inline(always)]
-fn joined(highs: u32x8, lows: u32x8, width: u32) -> u32x8
+fn join_parts(highs: u32x8, lows: u32x8, width: u32) -> u32x8
     requires width { width ≤ 24 }
     requires len { (length highs ≡ 8) × (length lows ≡ 8) }
     requires highs { All (λ m. m < 256) highs }

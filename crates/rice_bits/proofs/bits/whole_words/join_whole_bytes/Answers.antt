@@ -11,6 +11,6 @@ loop-i-init c =
 pub loop-i-preserved : goal.loop-i-preserved
 loop-i-preserved c =
     let per = c.words_in_64-per in
-    words-joins (c.args.bits % 8 + c.args.count) c.loop-i.last c.words_at-next.result c.seam.result c.args.count c.args.value c.args.width per.result c.loop-i.i c.args.bits c.loop-i.all c.join_next-all.result
-    c.args.words.now _ _ _ (omega (arith, c.loop-i.auto.i)) (omega (arith, c.requires.count.1)) per.ensures.all c.loop-i.invariant c.join_next-all.ensures.joins c.seam.ensures c.join_next-all.ensures.whole
+    words-joins (c.args.bits % 8 + c.args.count) c.loop-i.last c.words_at-next.result c.digits_across.result c.args.count c.args.value c.args.width per.result c.loop-i.i c.args.bits c.loop-i.all c.join_next-all.result
+    c.args.words.now _ _ _ (omega (arith, c.loop-i.auto.i)) (omega (arith, c.requires.count.1)) per.ensures.all c.loop-i.invariant c.join_next-all.ensures.joins c.digits_across.ensures c.join_next-all.ensures.whole
     (c.words_at-next.ensures per.result per.ensures.all)

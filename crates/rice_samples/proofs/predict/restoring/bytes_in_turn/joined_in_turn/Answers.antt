@@ -16,5 +16,5 @@ returns c =
     record {
       len = levels.len ∙ sym c.requires.len.0;
       legal = levels.legal;
-      ranked = levels.ranked ∙ c.joined-residuals.ensures.value small;
+      ranked = levels.ranked ∙ c.join_parts-residuals.ensures.value small;
     }

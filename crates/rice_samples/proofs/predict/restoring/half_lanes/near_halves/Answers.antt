@@ -22,35 +22,35 @@ returns-clause-levels c =
     let legal : a.before ≤ greatest = omega (arith, c.requires.before, count) in
     let none = test.first refl in
     let small = c.excess_over_near-first_far.ensures.fit legal none in
-    let first_len : length first ≡ 8 = ap length c.near_numbers-first.ensures ∙ (length-near_numbers (2 ^ 16) a.before c.joined-first_ranks.result ∙ c.joined-first_ranks.ensures.len) in
-    let second_len : length second ≡ 8 = ap length c.near_numbers-second.ensures ∙ (length-near_numbers (2 ^ 16) last c.joined-second_ranks.result ∙ c.joined-second_ranks.ensures.len) in
+    let first_len : length first ≡ 8 = ap length c.near_numbers-first.ensures ∙ (length-near_numbers (2 ^ 16) a.before c.join_parts-first_ranks.result ∙ c.join_parts-first_ranks.ensures.len) in
+    let second_len : length second ≡ 8 = ap length c.near_numbers-second.ensures ∙ (length-near_numbers (2 ^ 16) last c.join_parts-second_ranks.result ∙ c.join_parts-second_ranks.ensures.len) in
     let inside : last ≤ greatest = small 7 0 (omega (arith, first_len)) in
     let more = test.second refl in
     halves_are a.setting.now a.before a.width greatest last a.highs a.lows first second count c.requires.len.0 c.requires.len.1 first_len second_len refl small
     (c.excess_over_near-second_far.ensures.fit inside more)
-    (c.excess_over_near-first_far.ensures.ranks legal none ∙ (c.joined-first_ranks.ensures.value ∙ (λ j. joined_parts a.width (c.first_half.ensures j) (c.first_half-2.ensures j))))
-    (c.excess_over_near-second_far.ensures.ranks inside more ∙ (c.joined-second_ranks.ensures.value ∙ (λ j. joined_parts a.width (c.second_half.ensures j) (c.second_half-2.ensures j))))
+    (c.excess_over_near-first_far.ensures.ranks legal none ∙ (c.join_parts-first_ranks.ensures.value ∙ (λ j. joined_parts a.width (c.first_eight.ensures j) (c.first_eight-2.ensures j))))
+    (c.excess_over_near-second_far.ensures.ranks inside more ∙ (c.join_parts-second_ranks.ensures.value ∙ (λ j. joined_parts a.width (c.second_eight.ensures j) (c.second_eight-2.ensures j))))
 
 pub returns-clause-halves : goal.returns-clause-halves
 returns-clause-halves c =
     let first_len : length c.near_numbers-first.result ≡ 8 = ap length c.near_numbers-first.ensures
-    ∙ (length-near_numbers (2 ^ 16) c.args.before c.joined-first_ranks.result ∙ c.joined-first_ranks.ensures.len) in
+    ∙ (length-near_numbers (2 ^ 16) c.args.before c.join_parts-first_ranks.result ∙ c.join_parts-first_ranks.ensures.len) in
     let second_len : length c.near_numbers-second.result ≡ 8 = ap length c.near_numbers-second.ensures
-    ∙ (length-near_numbers (2 ^ 16) (slice_index_or c.near_numbers-first.result 7 0) c.joined-second_ranks.result ∙ c.joined-second_ranks.ensures.len) in
+    ∙ (length-near_numbers (2 ^ 16) (slice_index_or c.near_numbers-first.result 7 0) c.join_parts-second_ranks.result ∙ c.join_parts-second_ranks.ensures.len) in
     (first_len, second_len)
 
 -- lanes of 8 bits
 all_fit : (xs : List ℕ) → Each1 (Fits w8) xs → All (λ m. m < 256) xs
 all_fit xs h = λ i d lt. let f = Each1-get_or (Fits w8) xs i d lt h in f.fits
 
-pub joined-first_ranks-requires-clause-highs : goal.joined-first_ranks-requires-clause-highs
-joined-first_ranks-requires-clause-highs c = subst (All (λ m. m < 256)) (sym c.first_half.ensures) (All-take (λ m. m < 256) 8 c.args.highs (all_fit c.args.highs c.fits-highs.1))
+pub join_parts-first_ranks-requires-clause-highs : goal.join_parts-first_ranks-requires-clause-highs
+join_parts-first_ranks-requires-clause-highs c = subst (All (λ m. m < 256)) (sym c.first_eight.ensures) (All-take (λ m. m < 256) 8 c.args.highs (all_fit c.args.highs c.fits-highs.1))
 
-pub joined-first_ranks-requires-clause-lows : goal.joined-first_ranks-requires-clause-lows
-joined-first_ranks-requires-clause-lows c = subst (All (λ v. v < 2 ^ c.args.width)) (sym c.first_half-2.ensures) (All-take (λ v. v < 2 ^ c.args.width) 8 c.args.lows c.requires.lows)
+pub join_parts-first_ranks-requires-clause-lows : goal.join_parts-first_ranks-requires-clause-lows
+join_parts-first_ranks-requires-clause-lows c = subst (All (λ v. v < 2 ^ c.args.width)) (sym c.first_eight-2.ensures) (All-take (λ v. v < 2 ^ c.args.width) 8 c.args.lows c.requires.lows)
 
-pub joined-second_ranks-requires-clause-highs : goal.joined-second_ranks-requires-clause-highs
-joined-second_ranks-requires-clause-highs c = subst (All (λ m. m < 256)) (sym c.second_half.ensures) (All-drop (λ m. m < 256) 8 c.args.highs (all_fit c.args.highs c.fits-highs.1))
+pub join_parts-second_ranks-requires-clause-highs : goal.join_parts-second_ranks-requires-clause-highs
+join_parts-second_ranks-requires-clause-highs c = subst (All (λ m. m < 256)) (sym c.second_eight.ensures) (All-drop (λ m. m < 256) 8 c.args.highs (all_fit c.args.highs c.fits-highs.1))
 
-pub joined-second_ranks-requires-clause-lows : goal.joined-second_ranks-requires-clause-lows
-joined-second_ranks-requires-clause-lows c = subst (All (λ v. v < 2 ^ c.args.width)) (sym c.second_half-2.ensures) (All-drop (λ v. v < 2 ^ c.args.width) 8 c.args.lows c.requires.lows)
+pub join_parts-second_ranks-requires-clause-lows : goal.join_parts-second_ranks-requires-clause-lows
+join_parts-second_ranks-requires-clause-lows c = subst (All (λ v. v < 2 ^ c.args.width)) (sym c.second_eight-2.ensures) (All-drop (λ v. v < 2 ^ c.args.width) 8 c.args.lows c.requires.lows)

@@ -7,8 +7,8 @@ use Rattle.rice_samples.proofs.lemmas.predict.NearEights.{length-near_numbers}
 use Rattle.rice_samples.proofs.lemmas.predict.WordLanes.{widened_fit}
 use Rattle.rice_samples.proofs.predict.restoring.word_lanes.near_words.Goals as goal
 
-pub joined-ranks-requires-clause-highs : goal.joined-ranks-requires-clause-highs
-joined-ranks-requires-clause-highs c = widened_fit c.args.highs c.fits-highs.1
+pub join_parts-ranks-requires-clause-highs : goal.join_parts-ranks-requires-clause-highs
+join_parts-ranks-requires-clause-highs c = widened_fit c.args.highs c.fits-highs.1
 
 pub returns : goal.returns
 returns c =
@@ -16,7 +16,7 @@ returns c =
     let values = c.values.ensures in
     let greatest = c.values.result - 1 in
     let count : greatest + 1 ≡ value_count a.setting.now = omega (arith, values.value, values.range) in
-    let ranks = c.joined-ranks in
+    let ranks = c.join_parts-ranks in
     let levels = c.near_numbers-levels in
     let near = c.if-not-are_near.ensures in
     let small = near.fit refl in

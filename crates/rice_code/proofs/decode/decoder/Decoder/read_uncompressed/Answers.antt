@@ -4,7 +4,7 @@ use Rattle.rice_code.specs.decode.BlocksAhead.{HasLanes, SpelledAhead}
 use Rattle.rice_code.specs.decode.Decoder.{with_mark}
 use Rattle.rice_code.specs.decode.DecoderState.{DecoderState}
 use Rattle.rice_code.proofs.lemmas.decode.SplitAhead.{bytes_given}
-use Rattle.rice_code.proofs.decode.decoder.Decoder.read_whole.Goals as goal
+use Rattle.rice_code.proofs.decode.decoder.Decoder.read_uncompressed.Goals as goal
 
 pub returns-clause-gives : goal.returns-clause-gives
 returns-clause-gives g c =
