@@ -16,7 +16,7 @@ import sys
 import tempfile
 
 ROOT = pathlib.Path(__file__).resolve().parent.parent
-WRAP = "crates/rice_bits/src/device/wrap.rt"
+WRAP = "crates/rice_bits/src/device/over_std.rt"
 BUFFERED = "crates/rice_bits/src/device/buffered.rt"
 HOST = "crates/aec_tool/src/host.rt"
 

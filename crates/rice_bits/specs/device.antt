@@ -2,5 +2,5 @@
 pub mod Buffered
 pub mod Failures
 pub mod Outlet
+pub mod OverStd
 pub mod Slice
-pub mod Wrap

@@ -1,7 +1,7 @@
 -- What a contract sees of the devices over readers and writers.
 use Rattle.std.specs.Prelude.{ℕ}
-use Rattle.rice_bits.specs.declared.device.wrap.FromReader.{FromReader}
-use Rattle.rice_bits.specs.declared.device.wrap.FromWriter.{FromWriter}
+use Rattle.rice_bits.specs.declared.device.over_std.FromReader.{FromReader}
+use Rattle.rice_bits.specs.declared.device.over_std.FromWriter.{FromWriter}
 
 -- the reader that the intake is over
 abbrev pub reader_of : {R : Type 0} → FromReader R → R
