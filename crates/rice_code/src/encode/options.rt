@@ -84,22 +84,11 @@ pub fn put_no_compression<const SIZE: usize>(
     let bits = setting.bits();
     let _block = setting.block();
     let mut fields = begin(setting, (1 << id) - 1, id, block.reference(), sink, meter);
-    // What is put is laid out for each width.
-    let whole = from == 0 && residuals.len() % 8 == 0;
-    let here = SIZE == 8 || SIZE == 16;
-    if whole && here && bits == 8 {
-        fields.put_before(residuals, 8, sink, meter);
-        return;
-    }
-    if whole && here && bits == 16 {
-        fields.put_before(residuals, 16, sink, meter);
-        return;
-    }
-    if whole && here && bits == 32 {
-        fields.put_before(residuals, 32, sink, meter);
-        return;
-    }
-    if whole && is_whole_width(bits) {
+    if from == 0 && residuals.len() % 8 == 0 && is_whole_width(bits) {
+        if SIZE == 8 || SIZE == 16 {
+            fields.put_before(residuals, bits, sink, meter);
+            return;
+        }
         let mut steps = Meter::new();
         put_whole(
             fields,
