@@ -2,11 +2,12 @@ ghost use Rattle.std.specs.Prelude.{◌≡◌, ◌<◌, true, All};
 
 use crate::case_table::{self, Columns, answer_to, bytes_of, setting_of};
 use crate::cases::Cases;
-use rice_bits::{BitSink, Meter};
+use rice_bits::{BitSink, Meter, SliceIn};
 use rice_samples::{
-    Segment, Setting, SettingFault, bytes_of as bytes_of_sample, from_pattern, level_of_pattern,
-    levels_of, levels_of_patterns, pattern, pattern_at, residual, restore, restore_near_first,
-    sample_of, spell_patterns, write_spellings, write_spellings_as,
+    SampleFault, SampleReader, Segment, Setting, SettingFault, bytes_of as bytes_of_sample,
+    first_levels, from_pattern, level_of_pattern, levels_of, levels_of_patterns, pattern,
+    pattern_at, residual, restore, restore_near_first, sample_of, spell_patterns, write_spellings,
+    write_spellings_as,
 };
 use std::test::Fail;
 
@@ -570,6 +571,32 @@ fn levels_of_bytes(rt: HostRuntime) -> Result<(), Fail> {
         write_spellings_as(&setting, width, setting.msb(), levels, &mut back[..end]);
         cases.check(&back[..end] == &bytes[..end]);
     }
+    cases.end(&rt);
+    Ok(())
+}
+
+/// Of 10 bits 1,024 is no sample, and a byte alone is none.
+#[test]
+fn samples_of_an_intake(rt: HostRuntime) -> Result<(), Fail> {
+    let mut cases = Cases::new();
+    let setting = of_bits(10, false)?;
+    let mut levels = [0; 4];
+    let mut intake = SliceIn::new(&[1, 2, 255, 3, 0, 4]);
+    let mut samples = SampleReader::new(setting);
+    cases.check(samples.next(&mut intake, &mut levels) == Ok(2));
+    cases.check(levels[..2] == [513, 1023]);
+    cases.check(samples.next(&mut intake, &mut levels) == Err(SampleFault::OutOfRange));
+
+    let mut intake = SliceIn::new(&[1, 2, 3]);
+    let mut samples = SampleReader::new(setting);
+    cases.check(samples.next(&mut intake, &mut levels) == Ok(1));
+    cases.check(samples.next(&mut intake, &mut levels) == Err(SampleFault::Cut));
+
+    let mut intake = SliceIn::new(&[1, 2]);
+    let mut samples = SampleReader::new(setting);
+    cases.check(samples.next(&mut intake, &mut levels) == Ok(1));
+    cases.check(samples.next(&mut intake, &mut levels) == Ok(0));
+    cases.check(first_levels(&setting, &[255, 3, 0, 4], &mut levels) == 1);
     cases.end(&rt);
     Ok(())
 }
