@@ -223,7 +223,7 @@ def check(crate, texts, functions):
                 it.write(text)
         only = [word for it in functions for word in ("--only", it.split("::", 1)[1])]
         # (a proof that runs beside it comes first)
-        words = [*rtlib.guarded(), "nice", "-n", "5", rtlib.RATTLE, "check", *crate.words(["--jobs", "1", *only], keeps=False)]
+        words = [*rtlib.guarded(), "nice", "-n", "19", rtlib.RATTLE, "check", *crate.words(["--jobs", "1", *only], keeps=False)]
         how = {"cwd": room, "stdin": subprocess.DEVNULL, "stdout": subprocess.PIPE, "stderr": subprocess.STDOUT}
         ran = subprocess.run(words, errors="replace", **how)
     return ran.returncode, ran.stdout
