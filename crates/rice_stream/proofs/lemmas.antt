@@ -1,5 +1,5 @@
 -- The lemmas of the proofs, by what they speak of.
-pub mod BoundLemmas
+pub mod EncodingBounds
 pub mod DecodedSamples
 pub mod DecodingEnds
 pub mod DecodingLemmas

@@ -19,7 +19,7 @@ use Rattle.rice_stream.specs.declared.encoding.Encoding.{Encoding}
 use Rattle.rice_stream.specs.declared.outcome.Report.{Report}
 use Rattle.rice_stream.specs.declared.outcome.Fault.{Fault}
 use Rattle.rice_stream.specs.declared.outcome.Fault.TheVariants.{Read, Write, TooLong, SampleOutOfRange, SampleCut, CodeEnds, RunPastSegment, ResidualTooLarge}
-use Rattle.rice_stream.proofs.lemmas.BoundLemmas.{Settles, early_bounded, all_bounded}
+use Rattle.rice_stream.proofs.lemmas.EncodingBounds.{Settles, early_bounded, all_bounded}
 use Rattle.rice_stream.proofs.lemmas.EncodingLemmas.{Follows-all, fails_among, settled_by}
 use Rattle.rice_samples.proofs.lemmas.bytes.GivenSamples.{reads_then, reads_before}
 use Rattle.rice_samples.proofs.lemmas.bytes.SpellingLengths.{length-spellings, some_width, narrow_width}

@@ -20,7 +20,7 @@ use Rattle.rice_code.proofs.lemmas.meaning.OneMeaning.{decoded_is_one}
 use Rattle.rice_code.proofs.lemmas.cost.PaddingBounds.{padding_is_bounded}
 use Rattle.rice_code.proofs.lemmas.meaning.Returned as returned
 use Rattle.rice_code.proofs.lemmas.code.SoundBlocks.{code_is_bounded}
-use Rattle.rice_stream.proofs.lemmas.BoundLemmas.{block_bound_le}
+use Rattle.rice_stream.proofs.lemmas.EncodingBounds.{block_bound_le}
 use Rattle.rice_samples.proofs.lemmas.bytes.SpellingLengths.{length-spellings, spellings-append}
 use Rattle.rice_stream.specs.Calls.{Call, PassesLimit}
 use Rattle.rice_stream.specs.Decodes.{DecodesBytes, EndsDecoding}
