@@ -575,6 +575,13 @@ fn levels_of_bytes(rt: HostRuntime) -> Result<(), Fail> {
     Ok(())
 }
 
+const FAULTS: [(SampleFault, &str); 4] = [
+    (SampleFault::Read, "read failed"),
+    (SampleFault::Cut, "input ends inside a sample"),
+    (SampleFault::TooLong, "input is too long"),
+    (SampleFault::OutOfRange, "sample is out of range"),
+];
+
 /// Of 10 bits 1,024 is no sample, and a byte alone is none.
 #[test]
 fn samples_of_an_intake(rt: HostRuntime) -> Result<(), Fail> {
@@ -597,6 +604,11 @@ fn samples_of_an_intake(rt: HostRuntime) -> Result<(), Fail> {
     cases.check(samples.next(&mut intake, &mut levels) == Ok(1));
     cases.check(samples.next(&mut intake, &mut levels) == Ok(0));
     cases.check(first_levels(&setting, &[255, 3, 0, 4], &mut levels) == 1);
+    for i in 0..FAULTS.len() {
+        let (fault, text) = FAULTS[i];
+        let printed = format!(in rt.alloc(); "{fault}")?;
+        cases.check(printed.as_str() == text);
+    }
     cases.end(&rt);
     Ok(())
 }

@@ -4,7 +4,7 @@ use Rattle.std.specs.Io.KnownBytes.{Consumes, IsAtEnd}
 use Rattle.rice_bits.specs.Limits.{most_at_once}
 use Rattle.rice_samples.specs.Limits.{most_input}
 use Rattle.rice_samples.specs.Parameters.{Parameters, width}
-use Rattle.rice_samples.specs.bytes.Spelling.{Reads, EndsSpelling, NoSpelling, TooFew}
+use Rattle.rice_samples.specs.bytes.Spelling.{Reads, EndsSpelling, IsNoSpelling, NoSpelling, TooFew}
 use Rattle.rice_samples.specs.declared.bytes.sample_fault.SampleFault.{SampleFault}
 use Rattle.rice_samples.specs.declared.bytes.sample_fault.SampleFault.TheVariants.{Read, Cut, TooLong, OutOfRange}
 
@@ -33,6 +33,10 @@ pub record GivesSamples (old new : SamplesAhead) (left left_new : Option (List �
 -- too few bytes wait to spell a sample
 abbrev pub LacksSample : SamplesAhead → Type 0
 LacksSample r = length r.waiting < width r.setting
+
+-- too few bytes wait, or the first spell no sample
+abbrev pub LeavesNoSample : SamplesAhead → Type 0
+LeavesNoSample r = width r.setting ≤ length r.waiting → IsNoSpelling r.setting r.waiting
 
 -- The intake gave all bytes that it may give, and then one more, which is lost.
 pub record PassesInput (old new : SamplesAhead) (left left_new : Option (List ℕ)) : Type 0 where

@@ -16,7 +16,8 @@ use std::marker::Model;
 /// The residuals of a block, an even number of them up to 64, lent by a segment. Contracts see their list.
 ///
 /// Each look at a residual is a step. The calls below tick one for each residual of the block, `at` ticks one, `four_at` four,
-/// `put_digits` and `put_whole_digits` one for each that they put and one for each digit, and `first_stop` and `first_small_stop` the looks of the definition.
+/// `put_digits` and `put_whole_digits` one for each that they put and one for each digit, and `first_stop` and
+/// `first_small_stop` the looks of the definition.
 /// `len` and `sized` tick none. No other call reveals anything about the residuals. A block is never empty.
 #[derive(Drop)]
 pub struct Block<'a> {

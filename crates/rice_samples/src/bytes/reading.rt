@@ -1,5 +1,5 @@
 //! Levels of samples from the bytes of several.
-ghost use Rattle.std.specs.Prelude.{◌≡◌, true, ◌*◌, ◌^◌, ◌<◌, ◌≤◌, All, length, take, drop};
+ghost use Rattle.std.specs.Prelude.{◌≡◌, true, ◌+◌, ◌*◌, ◌^◌, ◌<◌, ◌≤◌, All, length, take, drop};
 ghost use Rattle.rice_samples.specs.Parameters.{value_count, values_at, width as width_of};
 ghost use Rattle.rice_samples.specs.bytes.Spelling.{Reads, ReadsSamples, IsNoSpelling, spellings};
 ghost use Rattle.rice_samples.specs.bytes.Values.{offset};
@@ -37,7 +37,10 @@ pub fn first_levels(setting: &Setting, bytes: &[u8], levels: &mut [u32]) -> usiz
     ensures within { width_of setting.now * result ≤ length bytes.now }
     ensures reads { Reads setting.now bytes.now (take result (values_at setting.now levels.new))
         (drop (width_of setting.now * result) bytes.now) }
-    // Nothing is read only where the first bytes spell no sample.
+    // Fewer than there is room for are read only where the next bytes are too few, or spell no sample.
+    ensures stop { result < length levels.new →
+        width_of setting.now * (result + 1) ≤ length bytes.now →
+        IsNoSpelling setting.now (drop (width_of setting.now * result) bytes.now) }
     ensures none { result ≡ 0 → IsNoSpelling setting.now bytes.now }
 {
     let width = setting.width() as usize;

@@ -6,7 +6,7 @@ ghost use Rattle.rice_bits.specs.device.Failures.{CountsFailure};
 ghost use Rattle.rice_samples.specs.Limits.{most_input};
 ghost use Rattle.rice_samples.specs.Parameters.{value_count, values_at, width as width_of};
 ghost use Rattle.rice_samples.specs.bytes.Spelling.{EndsSpelling, NoSpelling};
-ghost use Rattle.rice_samples.specs.bytes.SamplesAhead.{IsWithinLimits, unread, GivesSamples, LacksSample, StopsSamples, CountsReads, Refills};
+ghost use Rattle.rice_samples.specs.bytes.SamplesAhead.{IsWithinLimits, unread, GivesSamples, LacksSample, LeavesNoSample, StopsSamples, CountsReads, Refills};
 
 use crate::Setting;
 use crate::bytes::reading::first_levels;
@@ -175,6 +175,7 @@ impl SampleReader {
             (take result (values_at self.old.setting levels.new)) }
         ensures none { result ≡ 0 →
             EndsSpelling self.new.setting self.new.waiting NoSpelling }
+        ensures stop { result < length levels.new → LeavesNoSample self.new }
         ensures piece { width_of self.old.setting * result + length self.new.waiting
             ≤ most_at_once }
         ensures limits { IsWithinLimits self.new }
@@ -205,6 +206,11 @@ impl SampleReader {
             (take n (values_at self.old.setting levels.new))) }
         ensures end { IfOk result (λ n. n ≡ 0 →
             (self.new.waiting ≡ []) × IsAtEnd (I.left intake.new)) }
+        // Fewer than there is room for are given only where no sample is left to wait.
+        ensures stop { IfOk result (λ n. n < length levels.new → LeavesNoSample self.new) }
+        // Where a sample waits the intake is not called.
+        ensures calm { width_of self.old.setting ≤ length self.old.waiting →
+            intake.new ≡ intake.old }
         ensures err { IfErr result (λ fault. StopsSamples fault self.old self.new
             (I.left intake.old) (I.left intake.new)) }
         // At most 4,096 bytes wait at a time.

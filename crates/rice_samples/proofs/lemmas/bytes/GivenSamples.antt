@@ -1,8 +1,7 @@
 -- What a reader of samples gives, one call after another.
-use Rattle.std.proofs.Common.{◌≡◌, ℕ, ◌+◌, ◌-◌, ◌*◌, ◌<◌, ◌≤◌, List, [], ◌∷◌, ◌++◌, length, take, drop, Option, refl, ap, arith, sym, ◌∙◌, subst, append_assoc, append-nil, length-append, take-append-drop, ℤ}
+use Rattle.std.proofs.Common.{◌≡◌, ℕ, suc, ◌+◌, ◌-◌, ◌*◌, ◌<◌, ◌≤◌, List, [], ◌∷◌, ◌++◌, length, take, drop, Option, refl, ap, arith, sym, ◌∙◌, subst, append_assoc, append-nil, length-append, ℤ}
 use Rattle.std.proofs.KnownBytes.{Consumes-nil, Consumes-trans}
 use Rattle.std.specs.Io.KnownBytes.{Consumes}
-use Rattle.std.specs.Prelude.{All}
 use Rattle.std.proofs.Math.Nat.{mul-le-mul_left}
 use Rattle.std.proofs.lemmas.List.{drop-take, take-take}
 use Rattle.std.proofs.lemmas.List.Elements.{All-append}
@@ -28,23 +27,16 @@ reads_before s xs bytes rest behind r = record {
   legal = r.legal;
 }
 
--- the first of some samples, of which several are looked at
-pub first_reads : (s : Parameters) (bytes : List ℕ) (count n : ℕ) (ys : List ℤ) → n ≤ count → take (width s * n) (take (width s * count) bytes) ≡ spellings s ys
-    → All (IsSample s) ys → Reads s bytes ys (drop (width s * n) bytes)
-first_reads s bytes count n ys le front legal =
+-- what is no sample among the bytes that are looked at is none among all
+pub stops_first : (s : Parameters) (bytes : List ℕ) (count n : ℕ) → n < count → IsNoSpelling s (drop (width s * n) (take (width s * count) bytes)) → IsNoSpelling s (drop (width s * n) bytes)
+stops_first s bytes count n lt none x sample e =
     let w = width s in
-    let more : w * n ≤ w * count = mul-le-mul_left w le in
-    let first = take-take (w * n) (w * count) bytes more in
-    record { split = sym (take-append-drop (w * n) bytes) ∙ ap (λ l. l ++ drop (w * n) bytes) (sym first ∙ front); legal = legal }
-
--- and none, where the first is no sample
-pub none_first : (s : Parameters) (bytes : List ℕ) (count n : ℕ) → 0 < count → n ≡ 0 → IsNoSpelling s (drop (width s * n) (take (width s * count) bytes)) → IsNoSpelling s bytes
-none_first s bytes count n some zero none x sample e =
-    let w = width s in
-    let more : w * 1 ≤ w * count = mul-le-mul_left w some in
-    let least : w ≤ w * count = omega (arith, more) in
-    let front : w * n ≡ 0 = ap (λ n. w * n) zero ∙ (omega arith) in
-    none x sample (ap (λ m. take w (drop m (take (w * count) bytes))) front ∙ take-take w (w * count) bytes least ∙ e)
+    let more : w * suc n ≤ w * count = mul-le-mul_left w lt in
+    let next : w * n + w ≡ w * suc n = grind arith in
+    let all : w * n + (w * count - w * n) ≡ w * count = omega (arith, more, next) in
+    let enough : w ≤ w * count - w * n = omega (arith, more, next) in
+    none x sample (ap (λ m. take w (drop (w * n) (take m bytes))) (sym all)
+    ∙ (ap (take w) (drop-take (w * n) (w * count - w * n) bytes) ∙ (take-take w (w * count - w * n) (drop (w * n) bytes) enough ∙ e)))
 
 -- what waits is as it was
 pub gives_none : (old new : SamplesAhead) (l : Option (List ℕ)) → new.waiting ≡ old.waiting → new.given ≡ old.given → new.setting ≡ old.setting → GivesSamples old new l l []

@@ -91,7 +91,7 @@ fn copy_levels(levels: &[u32], patterns: &mut [u32])
     requires { length patterns.old ≡ length levels.now }
     ensures { patterns.new ≡ levels.now }
 {
-    // The shortest segments are two blocks of eight: to copy these takes no call.
+    // A segment of two blocks of eight, as by default, is copied without a call.
     match levels.len() {
         16 => patterns[..16].copy_from_slice(&levels[..16]),
         _ => patterns.copy_from_slice(levels),
