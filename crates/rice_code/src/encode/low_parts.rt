@@ -5,9 +5,8 @@ ghost use Rattle.rice_code.specs.encode.SentParts.{HasRoomForLow, AddsLow};
 
 use crate::encode::SegmentSink;
 use crate::encode::bit_buffer::BitBuffer;
-use rice_bits::{Meter, join, low_digits};
+use rice_bits::{Meter, join, low_digits, two_pairs};
 use rice_samples::Block;
-use std::simd::prelude::*;
 
 /// Adds the `width` lowest digits of each residual from number `from` on.
 #[inline(always)]
@@ -114,22 +113,6 @@ fn four_low(four: (u32, u32, u32, u32), width: u32) -> u64
     ensures bits { word (4 * width) result ≡
         word width four.0 ++ word width four.1 ++ word width four.2 ++ word width four.3 }
 {
-    let (first, last) = two_pairs(four, width);
+    let (first, last) = two_pairs(&[four.0, four.1, four.2, four.3], 0, width);
     join(first, 2 * width, last)
-}
-
-/// Returns the number whose digits are the lowest digits of the first two numbers, and that of the other two.
-#[inline(always)]
-fn two_pairs(four: (u32, u32, u32, u32), width: u32) -> (u64, u64)
-    requires { width ≤ 14 }
-    ensures first_fits { result.0 < 2 ^ (2 * width) }
-    ensures last_fits { result.1 < 2 ^ (2 * width) }
-    ensures first { word (2 * width) result.0 ≡ word width four.0 ++ word width four.1 }
-    ensures last { word (2 * width) result.1 ≡ word width four.2 ++ word width four.3 }
-{
-    let mask = u32x4::splat((1 << width) - 1);
-    let low = u32x4::from_array([four.0, four.1, four.2, four.3]) & mask;
-    let high = low.swizzle([0, 2]).cast::<u64>() << u64x2::splat(width as u64);
-    let pairs = (high | low.swizzle([1, 3]).cast::<u64>()).to_array();
-    (pairs[0], pairs[1])
 }

@@ -5,7 +5,7 @@ use Rattle.std.specs.Simd.Lanes.{zip2}
 use Rattle.std.proofs.lemmas.List.Elements.{All-cons, All-nil}
 use Rattle.std.specs.List.{slice_index}
 use Rattle.std.proofs.lemmas.List.{drop_more}
-use Rattle.std.proofs.lemmas.Nat.{and_mask, mod_below, one_shl, or_shifted, pow_pos}
+use Rattle.std.proofs.lemmas.Nat.{and_mask, mod_below, or_shifted, pow_pos}
 use Rattle.rice_bits.specs.Bits.{word}
 use Rattle.rice_bits.proofs.lemmas.bits.Joining.{pair_fits, pair_word, two_words_more}
 use Rattle.rice_bits.proofs.lemmas.bits.Words.{shift_fits}
@@ -23,18 +23,6 @@ low_fit w (x ∷ ws) = All-cons (λ v. v < 2 ^ w) (x % 2 ^ w) (map (λ d. d % 2 
 -- a number that is moved up, and another in its place
 joined_or : (w a b : ℕ) → w ≤ 28 → a < 2 ^ w → b < 2 ^ w → bit_or (a * 2 ^ w % 18446744073709551616) b ≡ a * 2 ^ w + b
 joined_or w a b few h l = ap (λ x. bit_or x b) (mod-eq_of_lt (shift_fits w w a h (omega (arith, few)))) ∙ or_shifted a w b l
-
--- the lowest digits of a number in a lane, moved up, and those of another in their place
-pub lanes_joined : (w a b x : ℕ) → w ≤ 28 → x ≡ bit_or (bit_and a (1 * 2 ^ w % 4294967296 - 1) * 2 ^ w % 18446744073709551616) (bit_and b (1 * 2 ^ w % 4294967296 - 1))
-    → (x < 2 ^ (2 * w)) × (word (2 * w) x ≡ word w a ++ word w b)
-lanes_joined w a b x few e =
-    let mask : 1 * 2 ^ w % 4294967296 - 1 ≡ 2 ^ w - 1 = ap (λ p. p - 1) (one_shl w 32 (omega (arith, few))) in
-    let h = mod_below a (2 ^ w) (pow_pos w) in
-    let l = mod_below b (2 ^ w) (pow_pos w) in
-    let joined : x ≡ a % 2 ^ w * 2 ^ w + b % 2 ^ w =
-    e ∙ (ap (λ m. bit_or (bit_and a m * 2 ^ w % 18446744073709551616) (bit_and b m)) mask
-    ∙ ((λ i. bit_or (and_mask a w i * 2 ^ w % 18446744073709551616) (and_mask b w i)) ∙ joined_or w (a % 2 ^ w) (b % 2 ^ w) few h l)) in
-    (pair_fits w _ _ _ h l joined, pair_word w a b _ _ _ refl refl l joined)
 
 -- each two of four numbers in lanes
 pub pairs_are : (low : List ℕ) (w : ℕ) → length low ≡ 4 → w ≤ 28 → All (λ v. v < 2 ^ w) low
