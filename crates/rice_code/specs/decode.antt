@@ -1,5 +1,6 @@
 -- What contracts see of the decoder, and what its parts say to each other.
 pub mod BlocksAhead
+pub mod BlocksInRow
 pub mod Decoder
 pub mod DecoderState
 pub mod Rows

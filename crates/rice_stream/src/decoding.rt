@@ -1,16 +1,18 @@
 //! Decodes a code to its samples.
-ghost use Rattle.std.specs.Prelude.{◌≡◌, ◌⊎◌, ◌+◌, ◌-◌, ◌*◌, ◌^◌, ◌<◌, ◌≤◌, Option, None, Some, true, false};
+ghost use Rattle.std.specs.Prelude.{◌≡◌, ◌⊎◌, ◌+◌, ◌-◌, ◌*◌, ◌^◌, ◌<◌, ◌≤◌, IfSome, Option, None, Some, true};
 ghost use Rattle.rice_bits.specs.Limits.{step_limit, most_bits_read};
-ghost use Rattle.rice_code.specs.decode.BlocksAhead.{GivesBytes, HasLanes};
+ghost use Rattle.rice_code.specs.decode.BlocksAhead.{HasLanes};
+ghost use Rattle.rice_code.specs.decode.BlocksInRow.{GivesBlocks};
 ghost use Rattle.rice_code.specs.decode.Rows.{AreCounted};
 ghost use Rattle.rice_stream.specs.Calls.{Fails};
+ghost use Rattle.rice_stream.specs.declared.outcome.Fault.TheVariants.{Write};
 ghost use Rattle.rice_stream.specs.Decodes.{DecodesBetween, DecodesWithin, Reports, wanted_of, ended_fault, refusal_fault};
 
 use crate::outcome::{Fault, Outcome, Report};
 use crate::patience::Patience;
-use crate::plain::{decode_plain, is_plain};
+use crate::plain::{blocks_wanted, decode_plain, is_plain};
 use crate::runs::write_run;
-use crate::write::{write_all, write_block};
+use crate::write::{write_block, write_counted};
 use arrayvec::ArrayVec;
 use rice_bits::{BitReader, Intake, Meter, Outlet};
 use rice_code::{CodeFault, Decoder, NextBlock, known_or};
@@ -76,7 +78,7 @@ pub(crate) fn ended<I: Intake>(
 
 /// Decodes the code that `intake` gives, and writes its samples to `outlet`: as many as are asked for, or all.
 ///
-/// Each block is written before the next is taken. With a count of 0 the intake is not called. Returns what was done,
+/// What is taken is written before more is drawn from the intake. With a count of 0 the intake is not called. Returns what was done,
 /// and the intake.
 #[inline(always)]
 pub fn decode<I: Intake, O: Outlet>(
@@ -210,26 +212,56 @@ fn decode_in_lanes<I: Intake, O: Outlet, const SIZE: usize, const WIDTH: usize>(
     decode_blocks::<I, O, SIZE, WIDTH>(setting, asked, intake, outlet)
 }
 
-/// Gives the bytes of the next block, if `whole` says that all of it is wanted, it is to be looked at, and it can be decoded at one
-/// stroke. Returns whether it was; otherwise nothing has happened to the decoder, the reader, the meter and the bytes.
+/// The bytes of a row of blocks, at most. Up to 32 more are written behind them.
+const ROOM: usize = 480;
+
+/// The blocks of a row, at most.
+const MOST: usize = 64;
+
+/// Returns the number of blocks in lanes that a row has room for.
+#[inline(always)]
+pub(crate) fn blocks_in_lanes<const SIZE: usize, const WIDTH: usize>(setting: &Setting) -> usize
+    requires size { 0 < SIZE → SIZE ≡ setting.now.block }
+    requires lanes { HasLanes setting.now setting.now.block WIDTH }
+    ensures few { (1 ≤ result) × (result ≤ 64) }
+    ensures room { WIDTH * setting.now.block * result ≤ 480 }
+{
+    (ROOM / (WIDTH * known_or::<SIZE>(setting.block() as usize))).min(MOST)
+}
+
+/// Gives the bytes of the next blocks, at most `fit`, if `whole` says that all of the next one is wanted, it is to be looked at, and they
+/// can be decoded at one stroke. Returns how many; if none, nothing has happened to the decoder, the reader, the meter and the bytes.
 #[inline(always)]
 fn next_bytes<I: Intake, const SIZE: usize, const WIDTH: usize>(
-    decoder: &mut Decoder,
+    setting: &Setting,
+    asked: Option<u64>,
+    written: u64,
+    fit: usize,
     whole: bool,
     patience: &mut Patience,
+    decoder: &mut Decoder,
     reader: &mut BitReader<I>,
     meter: &mut Meter,
     bytes: &mut [u8; 512],
-) -> bool
-    requires size { 0 < SIZE → SIZE ≡ decoder.old.setting.block }
-    requires lanes { 0 < WIDTH → HasLanes decoder.old.setting decoder.old.setting.block WIDTH }
+    ends: &mut [u32; 64],
+) -> usize
+    requires setting { decoder.old.setting ≡ setting.now }
+    requires size { 0 < SIZE → SIZE ≡ setting.now.block }
+    requires lanes { 0 < WIDTH → HasLanes setting.now setting.now.block WIDTH }
+    requires few { (1 ≤ fit) × (fit ≤ 64) }
+    requires fit { WIDTH * setting.now.block * fit ≤ 480 }
+    requires whole { whole ≡ true → wanted_of asked written setting.now.block ≡ setting.now.block }
     requires stopped { decoder.old.stopped ≡ None }
     requires going { reader.old.refusal ≡ None }
     requires room { meter.old + 2 * (most_bits_read - reader.old.taken) + 64 < step_limit }
-    ensures lanes { result ≡ true → 0 < WIDTH }
-    ensures some { result ≡ true → (whole ≡ true) × (decoder.old.run ≡ 0) ×
-        GivesBytes reader.old reader.new meter.old meter.new decoder.old decoder.new bytes.new }
-    ensures none { result ≡ false → (decoder.new ≡ decoder.old) × (reader.new ≡ reader.old) ×
+    ensures lanes { 0 < result → 0 < WIDTH }
+    ensures few { result ≤ 64 }
+    ensures room { WIDTH * setting.now.block * result ≤ 480 }
+    ensures wanted { 0 < result → IfSome asked (λ n. written + setting.now.block * result ≤ n) }
+    ensures some { 0 < result → (decoder.old.run ≡ 0) ×
+        GivesBlocks result reader.old reader.new meter.old meter.new decoder.old decoder.new bytes.new
+        ends.new }
+    ensures none { result ≡ 0 → (decoder.new ≡ decoder.old) × (reader.new ≡ reader.old) ×
         (meter.new ≡ meter.old) × (bytes.new ≡ bytes.old) }
     ensures going { reader.new.refusal ≡ None }
     ensures stopped { decoder.new.stopped ≡ None }
@@ -238,11 +270,35 @@ fn next_bytes<I: Intake, const SIZE: usize, const WIDTH: usize>(
 {
     let _taken = reader.taken();
     if WIDTH == 0 || !whole || !patience.is_due() {
-        return false;
+        return 0;
     }
-    let found = decoder.next_bytes::<I, SIZE, WIDTH>(reader, meter, bytes);
-    patience.note(found);
+    let most = blocks_wanted(setting, asked, written, fit);
+    let found = decoder.next_bytes::<I, SIZE, WIDTH>(most, reader, meter, bytes, ends);
+    patience.note(found > 0);
     found
+}
+
+/// Returns the report of decoding that ends because the outlet fails, after `samples` samples, `bits` bits and `steps` steps, and the
+/// intake. The reader may have taken more bits that waited.
+fn failed_behind<I: Intake>(
+    samples: u64,
+    bits: u64,
+    steps: u64,
+    reader: BitReader<I>,
+) -> (Outcome, I)
+    ensures told { (result.0.report.samples ≡ samples) × (result.0.report.bits ≡ bits) ×
+        (result.0.report.steps ≡ steps) × (result.0.fault ≡ Some Write) }
+    ensures intake { result.1 ≡ reader.intake }
+    ensures left { I.left result.1 ≡ reader.left }
+    ensures failed { I.failed result.1 ≡ reader.failed }
+{
+    let report = Report {
+        samples,
+        bits,
+        steps,
+    };
+    let fault = Some(Fault::Write);
+    (Outcome { report, fault }, reader.into_inner())
 }
 
 /// Returns whether all of the next block is wanted, of `count` samples that are.
@@ -289,8 +345,14 @@ fn decode_blocks<I: Intake, O: Outlet, const SIZE: usize, const WIDTH: usize>(
     let mut meter = Meter::new();
     let mut levels = ArrayVec::new();
     let mut patience = Patience::new();
-    // Declared here, and not where it is filled, so that it is not cleared for each block.
+    let fit = if WIDTH == 0 {
+        1
+    } else {
+        blocks_in_lanes::<SIZE, WIDTH>(&own)
+    };
+    // Declared here, and not where they are filled, so that they are not cleared for each block.
     let mut bytes = [0; 512];
+    let mut ends = [0; 64];
     let mut written = 0u64;
     'decode_all: loop {
         let count = wanted(asked, written, block);
@@ -312,19 +374,38 @@ fn decode_blocks<I: Intake, O: Outlet, const SIZE: usize, const WIDTH: usize>(
                 }
             }
         }
-        if next_bytes::<I, SIZE, WIDTH>(
-            &mut decoder,
+        let begin = reader.taken();
+        let steps = meter.steps();
+        let blocks = next_bytes::<I, SIZE, WIDTH>(
+            &own,
+            asked,
+            written,
+            fit,
             whole,
             &mut patience,
+            &mut decoder,
             &mut reader,
             &mut meter,
             &mut bytes,
-        ) {
-            match write_all(outlet, &bytes[..WIDTH * known_or::<SIZE>(count)]) {
+            &mut ends,
+        );
+        if blocks > 0 {
+            let size = WIDTH * known_or::<SIZE>(block as usize);
+            match write_counted(outlet, &bytes[..size * blocks]) {
                 Ok(()) => {}
-                Err(_) => return ended(Some(Fault::Write), written, reader, &meter),
+                Err(taken) => {
+                    let some = taken / size;
+                    let more = ends[some] as u64;
+                    let samples = block as u64 * some as u64;
+                    return failed_behind(
+                        written + samples,
+                        begin + more,
+                        steps + more + samples,
+                        reader,
+                    );
+                }
             }
-            let samples = count as u64;
+            let samples = block as u64 * blocks as u64;
             written += samples;
             meter.tick(samples);
             continue 'decode_all;

@@ -47,9 +47,15 @@ fn row_bytes<const WIDTH: usize>(setting: &Setting, blocks: usize) -> usize
 
 /// Returns how many blocks are wanted whole, at most `fit`, where the next one is.
 #[inline(always)]
-fn blocks_wanted(setting: &Setting, asked: Option<u64>, written: u64, fit: usize) -> usize
+pub(crate) fn blocks_wanted(
+    setting: &Setting,
+    asked: Option<u64>,
+    written: u64,
+    fit: usize,
+) -> usize
     requires few { fit ≤ 480 }
     requires wanted { wanted_of asked written setting.now.block ≡ setting.now.block }
+    ensures some { 1 ≤ fit → 1 ≤ result }
     ensures few { result ≤ fit }
     ensures wanted { IfSome asked (λ n. written + setting.now.block * result ≤ n) }
 {

@@ -9,7 +9,7 @@ ghost use Rattle.rice_code.specs.decode.BlocksAhead.{HasLanes};
 ghost use Rattle.rice_code.specs.decode.PlainBlocks.{IsPlain};
 ghost use Rattle.rice_stream.specs.Pulling.{Origin, IsStand, IsSomeStand, DecodesOn, GoesOnAt, HasComeTo, TakesNext, ahead, pause_for, spelled_at};
 
-use crate::decoding::has_lanes;
+use crate::decoding::{blocks_in_lanes, has_lanes};
 use crate::patience::Patience;
 use crate::plain::{blocks_of_row, is_plain};
 use crate::stand::{Pause, Stand};
@@ -109,11 +109,14 @@ fn decode_piece<const SIZE: usize, const WIDTH: usize, const PLAIN: bool>(
     let mut levels = ArrayVec::new();
     let most = if PLAIN {
         blocks_of_row::<WIDTH>(&own)
+    } else if WIDTH > 0 {
+        blocks_in_lanes::<SIZE, WIDTH>(&own)
     } else {
-        0
+        1
     };
     let mut patience = Patience::new();
     let mut bytes = [0; 512];
+    let mut ends = [0; 64];
     let mut here = *stand;
     let mut at = 0;
     'decode_all: while samples.len() - at >= size {
@@ -129,6 +132,7 @@ fn decode_piece<const SIZE: usize, const WIDTH: usize, const PLAIN: bool>(
             &mut decoder,
             &mut reader,
             &mut bytes,
+            &mut ends,
             at,
             samples,
         ) {

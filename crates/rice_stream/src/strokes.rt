@@ -8,11 +8,11 @@ ghost use Rattle.rice_code.specs.decode.PlainBlocks.{IsPlain};
 ghost use Rattle.rice_stream.specs.Pulling.{HasComeTo, TakesStroke, WritesStroke, stand_at};
 
 use crate::patience::Patience;
-use crate::plain::row_ahead;
+use crate::plain::{blocks_wanted, row_ahead};
 use crate::runs::{blocks_at_once, spell_again};
 use crate::stand::Stand;
 use rice_bits::{BitReader, Meter, SliceIn};
-use rice_code::{Decoder, known_or};
+use rice_code::Decoder;
 use rice_samples::Setting;
 
 /// Where decoding stands behind blocks that were given at one stroke, and the number of their bytes.
@@ -113,36 +113,45 @@ fn next_of_run(
     Stroke { stand, len }
 }
 
-/// Writes the samples of the next block at this place, if it can be decoded in lanes. Otherwise nothing has happened.
+/// Writes the samples of the next blocks at this place, at most `most`, if they can be decoded in lanes. Otherwise nothing has happened.
 #[inline(always)]
 fn next_in_lanes<const SIZE: usize, const WIDTH: usize>(
     setting: &Setting,
     stand: &Stand,
+    most: usize,
     decoder: &mut Decoder,
     reader: &mut BitReader<SliceIn<'_>>,
     bytes: &mut [u8; 512],
+    ends: &mut [u32; 64],
     at: usize,
     samples: &mut [u8],
 ) -> Option<Stroke>
     requires size { 0 < SIZE → SIZE ≡ setting.now.block }
     requires lanes { HasLanes setting.now setting.now.block WIDTH }
+    requires some { (1 ≤ most) × (most ≤ 64) }
+    requires few { WIDTH * setting.now.block * most ≤ 480 }
     requires come { HasComeTo setting.now stand.now decoder.old reader.old }
     requires room { at + width_of setting.now * setting.now.block ≤ length samples.old }
     ensures did { TakesStroke setting.now stand.now decoder.old decoder.new reader.old reader.new
         at samples.old samples.new result }
     ensures len { length samples.new ≡ length samples.old }
 {
+    let fit = ((samples.len() - at) / WIDTH) as u64;
+    let most = blocks_wanted(setting, Some(fit), 0, most);
     let before = reader.taken();
     let mut meter = Meter::new();
     meter.tick(stand.steps);
-    if !decoder.next_bytes::<SliceIn<'_>, SIZE, WIDTH>(reader, &mut meter, bytes) {
+    let blocks = decoder.next_bytes::<SliceIn<'_>, SIZE, WIDTH>(
+        most, reader, &mut meter, bytes, ends,
+    );
+    if blocks == 0 {
         return None;
     }
-    let size = known_or::<SIZE>(setting.block() as usize);
-    let stand = stand_behind(stand, size as u64, before, decoder, reader, &meter);
-    let len = WIDTH * size;
+    let given = setting.block() as u64 * blocks as u64;
+    let behind = stand_behind(stand, given, before, decoder, reader, &meter);
+    let len = WIDTH * given as usize;
     copy_at(&bytes[..len], at, samples);
-    Some(Stroke { stand, len })
+    Some(Stroke { stand: behind, len })
 }
 
 /// Writes the samples of the next blocks at this place, if they are not compressed and wait. Otherwise nothing has happened.
@@ -191,8 +200,8 @@ fn next_row<const WIDTH: usize>(
 }
 
 /// Writes the samples of the next blocks at this place, as many as there is room for and are known at one stroke, and returns where
-/// decoding stands behind them. If none is, nothing has happened to the decoder, the reader and the samples. Blocks without compression
-/// are at most `most`.
+/// decoding stands behind them. If none is, nothing has happened to the decoder, the reader and the samples. Outside a run they are at
+/// most `most`.
 #[inline(always)]
 pub(crate) fn next_stroke<const SIZE: usize, const WIDTH: usize, const PLAIN: bool>(
     setting: &Setting,
@@ -202,13 +211,15 @@ pub(crate) fn next_stroke<const SIZE: usize, const WIDTH: usize, const PLAIN: bo
     decoder: &mut Decoder,
     reader: &mut BitReader<SliceIn<'_>>,
     bytes: &mut [u8; 512],
+    ends: &mut [u32; 64],
     at: usize,
     samples: &mut [u8],
 ) -> Option<Stroke>
     requires size { 0 < SIZE → SIZE ≡ setting.now.block }
     requires lanes { PLAIN ≡ false → 0 < WIDTH → HasLanes setting.now setting.now.block WIDTH }
     requires plain { PLAIN ≡ true → IsPlain setting.now WIDTH }
-    requires few { PLAIN ≡ true → (most ≤ 480) × (WIDTH * setting.now.block * most ≤ 480) }
+    requires some { PLAIN ≡ false → (1 ≤ most) × (most ≤ 64) }
+    requires few { (most ≤ 480) × (WIDTH * setting.now.block * most ≤ 480) }
     requires come { HasComeTo setting.now stand.now decoder.old reader.old }
     requires room { at + width_of setting.now * setting.now.block ≤ length samples.old }
     ensures did { TakesStroke setting.now stand.now decoder.old decoder.new reader.old reader.new
@@ -224,7 +235,9 @@ pub(crate) fn next_stroke<const SIZE: usize, const WIDTH: usize, const PLAIN: bo
     if WIDTH == 0 || !patience.is_due() {
         return None;
     }
-    let found = next_in_lanes::<SIZE, WIDTH>(setting, stand, decoder, reader, bytes, at, samples);
+    let found = next_in_lanes::<SIZE, WIDTH>(
+        setting, stand, most, decoder, reader, bytes, ends, at, samples,
+    );
     patience.note(found.is_some());
     found
 }

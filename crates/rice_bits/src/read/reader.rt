@@ -539,6 +539,7 @@ impl<I: Intake> BitReader<I> {
         requires meter { meter.old + count < step_limit }
         ensures takes { Takes self.old self.new (take count self.old.waiting) }
         ensures idle { self.new.intake ≡ self.old.intake }
+        ensures left { self.new.left ≡ self.old.left }
         ensures limit { self.new.taken ≤ most_bits_read }
         ensures steps { meter.new ≡ meter.old + count }
     {

@@ -5,6 +5,7 @@ pub mod DecoderLemmas
 pub mod RowLemmas
 pub mod JoinedResiduals
 pub mod PlainBlocksRead
+pub mod BlocksInRow
 pub mod OptionsRead
 pub mod RestoredBlocks
 pub mod FirstLanes

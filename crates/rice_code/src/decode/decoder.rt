@@ -6,7 +6,8 @@ ghost use Rattle.rice_samples.specs.Places.{blocks_left};
 ghost use Rattle.rice_bits.specs.Bits.{word};
 ghost use Rattle.rice_code.specs.Limits.{most_samples_of_bit};
 ghost use Rattle.rice_code.specs.code.Forms.{RunIsSound, blocks_in, zero_blocks};
-ghost use Rattle.rice_code.specs.decode.BlocksAhead.{GivesBytes, HasLanes, lanes_of};
+ghost use Rattle.rice_code.specs.decode.BlocksAhead.{HasLanes, lanes_of};
+ghost use Rattle.rice_code.specs.decode.BlocksInRow.{GivesBlocks, GivesOneBlock};
 ghost use Rattle.rice_code.specs.decode.Rows.{AreCounted};
 ghost use Rattle.rice_code.specs.decode.PlainBlocks.{GivesRow, IsPlain, PlainRow};
 ghost use Rattle.rice_code.specs.decode.Decoder.{Skips, answer_to};
@@ -310,27 +311,32 @@ impl Decoder {
         answer
     }
 
-    /// Reads the next coded data set and writes the bytes of its block, of samples of `WIDTH` bytes, to the front of `bytes`. `SIZE`, if it
-    /// is not 0, is the number of samples of a block. It has to be coded by a split of at most 5, or of at most 8 where samples have two
+    /// Reads coded data sets and writes the bytes of their blocks, of samples of `WIDTH` bytes, to the front of `bytes`. `SIZE`, if it
+    /// is not 0, is the number of samples of a block. Each has to be coded by a split of at most 5, or of at most 8 where samples have two
     /// bytes, with short fundamental sequences, or not to be compressed where they have one; and 208 bits, or 148 and eight for each sample,
-    /// have to wait. Returns whether it did; otherwise nothing has happened, and [`next_levels`](Self::next_levels) gives the block.
+    /// have to wait. Returns how many it read, at most `most`, and writes to `ends` how many bits it had taken behind each. If it is 0,
+    /// nothing has happened, and [`next_levels`](Self::next_levels) gives the block.
     #[inline(always)]
     pub fn next_bytes<I: Intake, const SIZE: usize, const WIDTH: usize>(
         &mut self,
+        most: usize,
         reader: &mut BitReader<I>,
         meter: &mut Meter,
         bytes: &mut [u8],
-    ) -> bool
+        ends: &mut [u32; 64],
+    ) -> usize
         requires size { 0 < SIZE → SIZE ≡ self.old.setting.block }
         requires lanes { HasLanes self.old.setting self.old.setting.block WIDTH }
         requires stopped { self.old.stopped ≡ None }
         requires going { reader.old.refusal ≡ None }
         requires room { meter.old + 2 * (most_bits_read - reader.old.taken) + 64 < step_limit }
-        requires bytes { (32 ≤ length bytes.old) ×
-            (WIDTH * lanes_of self.old.setting.block ≤ length bytes.old) }
-        ensures some { result ≡ true → (self.old.run ≡ 0) ×
-            GivesBytes reader.old reader.new meter.old meter.new self.old self.new bytes.new }
-        ensures none { result ≡ false → (self.new ≡ self.old) × (reader.new ≡ reader.old) ×
+        requires few { (1 ≤ most) × (most ≤ 64) }
+        requires bytes { WIDTH * self.old.setting.block * most + 32 ≤ length bytes.old }
+        ensures most { result ≤ most }
+        ensures some { 0 < result → (self.old.run ≡ 0) ×
+            GivesBlocks result reader.old reader.new meter.old meter.new self.old self.new bytes.new
+            ends.new }
+        ensures none { result ≡ 0 → (self.new ≡ self.old) × (reader.new ≡ reader.old) ×
             (meter.new ≡ meter.old) × (bytes.new ≡ bytes.old) }
         // It may be called again with this reader.
         ensures going { reader.new.refusal ≡ None }
@@ -341,30 +347,116 @@ impl Decoder {
     {
         let _taken = reader.taken();
         if self.run > 0 {
-            return false;
+            return 0;
         }
         if let Some(k) = split_ahead::<I, WIDTH>(&self.setting, reader) {
             if self.before < FEW_BELOW {
-                return self.read_in_lanes::<I, SIZE, WIDTH, true>(k, reader, meter, bytes);
+                return self.read_far::<I, SIZE, WIDTH>(k, reader, meter, bytes, ends);
             }
             // Most samples are near to those before them. A call for others in the same function would take registers from these.
-            if self.read_in_lanes::<I, SIZE, WIDTH, false>(k, reader, meter, bytes) {
-                return true;
+            let blocks = self.read_row::<I, SIZE, WIDTH>(most, reader, meter, bytes, ends);
+            if blocks > 0 {
+                return blocks;
             }
-            return self.read_in_lanes::<I, SIZE, WIDTH, true>(k, reader, meter, bytes);
+            return self.read_far::<I, SIZE, WIDTH>(k, reader, meter, bytes, ends);
         }
         let size = known_or::<SIZE>(self.setting.block() as usize);
         if is_uncompressed_ahead::<I, WIDTH>(&self.setting, size, reader) {
-            self.read_uncompressed::<I, SIZE>(reader, meter, bytes);
-            return true;
+            return self.read_uncompressed_row::<I, SIZE>(most, reader, meter, bytes, ends);
         }
-        false
+        0
     }
 
-    /// As `next_bytes`, outside a run, of a block by split `k`: by `TURNS` of any samples, else of samples that are near to those before
-    /// them.
+    /// As `next_bytes`, outside a run, of blocks by a split whose samples are near to those before them.
     #[inline(never)]
-    fn read_in_lanes<I: Intake, const SIZE: usize, const WIDTH: usize, const TURNS: bool>(
+    fn read_row<I: Intake, const SIZE: usize, const WIDTH: usize>(
+        &mut self,
+        most: usize,
+        reader: &mut BitReader<I>,
+        meter: &mut Meter,
+        bytes: &mut [u8],
+        ends: &mut [u32; 64],
+    ) -> usize
+        requires size { 0 < SIZE → SIZE ≡ self.old.setting.block }
+        requires lanes { HasLanes self.old.setting self.old.setting.block WIDTH }
+        requires stopped { self.old.stopped ≡ None }
+        requires run { self.old.run ≡ 0 }
+        requires going { reader.old.refusal ≡ None }
+        requires room { meter.old + 2 * (most_bits_read - reader.old.taken) + 64 < step_limit }
+        requires few { most ≤ 64 }
+        requires bytes { WIDTH * self.old.setting.block * most + 32 ≤ length bytes.old }
+        ensures most { result ≤ most }
+        ensures some { 0 < result →
+            GivesBlocks result reader.old reader.new meter.old meter.new self.old self.new bytes.new
+            ends.new }
+        ensures none { result ≡ 0 → (self.new ≡ self.old) × (reader.new ≡ reader.old) ×
+            (meter.new ≡ meter.old) × (bytes.new ≡ bytes.old) }
+        ensures going { reader.new.refusal ≡ None }
+        ensures stopped { self.new.stopped ≡ None }
+        ensures setting { self.new.setting ≡ self.old.setting }
+        ensures steps { AreCounted meter.old meter.new reader.old.taken reader.new.taken }
+    {
+        let begin = reader.taken();
+        let len = WIDTH * known_or::<SIZE>(self.setting.block() as usize);
+        for i in 0..most {
+            let k = match split_ahead::<I, WIDTH>(&self.setting, reader) {
+                Some(k) => k,
+                None => return i,
+            };
+            let own = &mut bytes[len * i..];
+            if !self.read_block::<I, SIZE, WIDTH, false>(k, reader, meter, own) {
+                return i;
+            }
+            ends[i] = (reader.taken() - begin) as u32;
+        }
+        most
+    }
+
+    /// As `next_bytes`, outside a run, of one block by split `k`, whatever its samples are.
+    #[inline(never)]
+    fn read_far<I: Intake, const SIZE: usize, const WIDTH: usize>(
+        &mut self,
+        k: u32,
+        reader: &mut BitReader<I>,
+        meter: &mut Meter,
+        bytes: &mut [u8],
+        ends: &mut [u32; 64],
+    ) -> usize
+        requires size { 0 < SIZE → SIZE ≡ self.old.setting.block }
+        requires lanes { HasLanes self.old.setting self.old.setting.block WIDTH }
+        requires stopped { self.old.stopped ≡ None }
+        requires run { self.old.run ≡ 0 }
+        requires there { 208 ≤ length reader.old.waiting }
+        requires split { k < 3 + 3 * WIDTH }
+        requires id { word (id_len self.old.setting) (k + 1)
+            ≡ take (id_len self.old.setting) reader.old.waiting }
+        requires going { reader.old.refusal ≡ None }
+        requires room { meter.old + 2 * (most_bits_read - reader.old.taken) + 64 < step_limit }
+        requires bytes { (32 ≤ length bytes.old) ×
+            (WIDTH * lanes_of self.old.setting.block ≤ length bytes.old) }
+        ensures most { result ≤ 1 }
+        ensures some { 0 < result →
+            GivesBlocks result reader.old reader.new meter.old meter.new self.old self.new bytes.new
+            ends.new }
+        ensures none { result ≡ 0 → (self.new ≡ self.old) × (reader.new ≡ reader.old) ×
+            (meter.new ≡ meter.old) × (bytes.new ≡ bytes.old) }
+        ensures going { reader.new.refusal ≡ None }
+        ensures stopped { self.new.stopped ≡ None }
+        ensures setting { self.new.setting ≡ self.old.setting }
+        ensures steps { AreCounted meter.old meter.new reader.old.taken reader.new.taken }
+    {
+        let begin = reader.taken();
+        if !self.read_block::<I, SIZE, WIDTH, true>(k, reader, meter, bytes) {
+            return 0;
+        }
+        ends[0] = (reader.taken() - begin) as u32;
+        1
+    }
+
+    /// Reads the block by split `k` that waits outside a run, and writes its bytes: by `TURNS` of any samples, else of samples that are
+    /// near to those before them. Returns whether it did; otherwise nothing has happened.
+    #[inline(always)]
+    fn read_block<I: Intake, const SIZE: usize, const WIDTH: usize, const TURNS: bool>(
         &mut self,
         k: u32,
         reader: &mut BitReader<I>,
@@ -384,7 +476,7 @@ impl Decoder {
         requires bytes { (32 ≤ length bytes.old) ×
             (WIDTH * lanes_of self.old.setting.block ≤ length bytes.old) }
         ensures some { result ≡ true →
-            GivesBytes reader.old reader.new meter.old meter.new self.old self.new bytes.new }
+            GivesOneBlock reader.old reader.new meter.old meter.new self.old self.new bytes.new }
         ensures none { result ≡ false → (self.new ≡ self.old) × (reader.new ≡ reader.old) ×
             (meter.new ≡ meter.old) × (bytes.new ≡ bytes.old) }
         ensures going { reader.new.refusal ≡ None }
@@ -411,8 +503,49 @@ impl Decoder {
         true
     }
 
-    /// Reads the block without compression that waits outside a run, and writes its bytes.
+    /// As `next_bytes`, outside a run, of blocks without compression, of samples of one byte.
     #[inline(never)]
+    fn read_uncompressed_row<I: Intake, const SIZE: usize>(
+        &mut self,
+        most: usize,
+        reader: &mut BitReader<I>,
+        meter: &mut Meter,
+        bytes: &mut [u8],
+        ends: &mut [u32; 64],
+    ) -> usize
+        requires size { 0 < SIZE → SIZE ≡ self.old.setting.block }
+        requires lanes { HasLanes self.old.setting self.old.setting.block 1 }
+        requires stopped { self.old.stopped ≡ None }
+        requires run { self.old.run ≡ 0 }
+        requires going { reader.old.refusal ≡ None }
+        requires room { meter.old + 2 * (most_bits_read - reader.old.taken) + 64 < step_limit }
+        requires few { most ≤ 64 }
+        requires bytes { self.old.setting.block * most + 32 ≤ length bytes.old }
+        ensures most { result ≤ most }
+        ensures some { 0 < result →
+            GivesBlocks result reader.old reader.new meter.old meter.new self.old self.new bytes.new
+            ends.new }
+        ensures none { result ≡ 0 → (self.new ≡ self.old) × (reader.new ≡ reader.old) ×
+            (meter.new ≡ meter.old) × (bytes.new ≡ bytes.old) }
+        ensures going { reader.new.refusal ≡ None }
+        ensures stopped { self.new.stopped ≡ None }
+        ensures setting { self.new.setting ≡ self.old.setting }
+        ensures steps { AreCounted meter.old meter.new reader.old.taken reader.new.taken }
+    {
+        let start = reader.taken();
+        let size = known_or::<SIZE>(self.setting.block() as usize);
+        for i in 0..most {
+            if !is_uncompressed_ahead::<I, 1>(&self.setting, size, reader) {
+                return i;
+            }
+            self.read_uncompressed::<I, SIZE>(reader, meter, &mut bytes[size * i..]);
+            ends[i] = (reader.taken() - start) as u32;
+        }
+        most
+    }
+
+    /// Reads the block without compression that waits outside a run, and writes its bytes.
+    #[inline(always)]
     fn read_uncompressed<I: Intake, const SIZE: usize>(
         &mut self,
         reader: &mut BitReader<I>,
@@ -429,7 +562,7 @@ impl Decoder {
         requires going { reader.old.refusal ≡ None }
         requires room { meter.old + 2 * (most_bits_read - reader.old.taken) + 64 < step_limit }
         requires bytes { lanes_of self.old.setting.block ≤ length bytes.old }
-        ensures gives { GivesBytes reader.old reader.new meter.old meter.new self.old self.new
+        ensures gives { GivesOneBlock reader.old reader.new meter.old meter.new self.old self.new
             bytes.new }
         ensures going { reader.new.refusal ≡ None }
         ensures stopped { self.new.stopped ≡ None }

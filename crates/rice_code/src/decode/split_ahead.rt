@@ -163,6 +163,7 @@ pub fn take_ahead<I: Intake>(reader: &mut BitReader<I>, len: usize, meter: &mut 
     requires there { len ≤ length reader.old.waiting }
     requires meter { meter.old + len < step_limit }
     ensures takes { Takes (with_mark reader.old) reader.new (take len reader.old.waiting) }
+    ensures left { reader.new.left ≡ reader.old.left }
     ensures limit { reader.new.taken ≤ most_bits_read }
     ensures steps { meter.new ≡ meter.old + len }
 {

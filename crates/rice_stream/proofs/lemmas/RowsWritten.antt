@@ -1,14 +1,16 @@
 -- Blocks in a row that are written at once.
-use Rattle.std.proofs.Common.{◌≡◌, ℕ, zero, suc, ◌+◌, ◌-◌, ◌*◌, ◌/◌, ◌%◌, ◌<◌, ◌≤◌, List, ◌++◌, length, take, drop, refl, sym, ◌∙◌, ap, subst, arith, length-drop, take-take, Option, Some, None, ℤ}
-use Rattle.std.specs.Prelude.{IfSome}
-use Rattle.std.proofs.Math.Nat.{div-add-mod, lt_of_mul-lt-mul_left, mod-lt, mul-le-mul_left, mul-le-mul_right}
+use Rattle.std.proofs.Common.{◌≡◌, ℕ, zero, suc, ◌+◌, ◌-◌, ◌*◌, ◌/◌, ◌%◌, ◌^◌, ◌<◌, ◌≤◌, List, ◌++◌, length, take, drop, refl, sym, ◌∙◌, ap, subst, arith, length-drop, take-take, Option, Some, None, ℤ, inl, inr}
+use Rattle.std.specs.Prelude.{IfSome, slice_index_or}
+use Rattle.std.proofs.Math.Nat.{div-add-mod, lt_of_mul-lt-mul_left, mod-lt, mul-le-mul_left, mul-le-mul_right, mul-pos}
 use Rattle.std.proofs.Math.Seq.{take-add}
 use Rattle.std.proofs.lemmas.List.{drop-drop, length-take-le}
 use Rattle.rice_bits.specs.read.Reader.{Reader}
 use Rattle.rice_bits.specs.device.Outlet.{Room, Appends}
 use Rattle.rice_samples.specs.Parameters.{Parameters, IsLegal, width}
 use Rattle.rice_samples.specs.bytes.Spelling.{spellings}
-use Rattle.rice_code.specs.decode.BlocksAhead.{GivesBytes}
+use Rattle.rice_code.specs.decode.BlocksAhead.{GivesBytes, HasLanes}
+use Rattle.rice_code.specs.decode.BlocksInRow.{GivesBlocks, StoodBehind, TakesWaiting}
+use Rattle.rice_code.proofs.lemmas.decode.BlocksInRow.{width_is}
 use Rattle.rice_code.specs.decode.Decoder.{GivesSet, with_mark}
 use Rattle.rice_code.specs.decode.DecoderState.{DecoderState}
 use Rattle.rice_code.specs.decode.Rows.{AreCounted}
@@ -316,3 +318,114 @@ row_takes {s = s} {p = p} {q = q} {r = r} {new = new} {steps = steps} {last = la
     let m : s.block * 1 ≤ s.block * blocks = mul-le-mul_left s.block some in
     let one : s.block * 1 ≡ s.block = omega arith in
     omega (arith, costs.by_bits, m, one, j)
+
+-- ---- a row of which it is known where the decoder stood behind each block
+
+-- a place among the bytes of a row is in one of its blocks
+pub in_block : (all taken size : ℕ) → 1 ≤ size → taken < size * all → taken / size < all
+in_block all taken size some short =
+    let split : size * (taken / size) + taken % size ≡ taken = div-add-mod taken size in
+    lt_of_mul-lt-mul_left size (omega (arith, split, short))
+
+-- the row was cut in the block after these
+pub cut_behind : {I : Type 0} {s : Parameters} {old : Reader I} {steps more : ℕ} {p : DecoderState} {bytes : List ℕ} {out out_new : Option Room} (all taken size : ℕ) (row : List ℕ)
+    → 1 ≤ size → size ≡ width s * s.block → row ≡ take (row_bytes s all) bytes → row_bytes s all ≤ length bytes → taken < length row
+    → (b : StoodBehind (suc (taken / size)) old steps p bytes more) → Appends out out_new (take taken row)
+    → FailsInRow s all old b.reader steps b.steps_there p b.state bytes out out_new (s.block * (taken / size))
+cut_behind {s = s} {old = old} {steps = steps} {p = p} {bytes = bytes} {out = out} {out_new = out_new} all taken size row some wide is there short b put =
+    row_cut s all taken size old b.reader steps b.steps_there p b.state bytes row out out_new some wide is there short b.row put
+
+-- its bits and steps
+pub counted_behind : {I : Type 0} {n steps more : ℕ} {old : Reader I} {p : DecoderState} {bytes : List ℕ} → (b : StoodBehind n old steps p bytes more)
+    → old.taken + length old.waiting ≤ 2 ^ 52 → AreCounted steps b.steps_there old.taken b.reader.taken
+counted_behind b limit =
+    let bits = b.waited.bits in
+    let taken = b.taken in
+    let ticked = b.ticked in
+    record { forward = omega (arith, taken); limit = omega (arith, bits, limit); least = omega (arith, taken, ticked); most = omega (arith, taken, ticked) }
+
+-- what is reported of it by a reader that has taken more
+pub told_behind : {I : Type 0} {n steps more : ℕ} {old new : Reader I} {p : DecoderState} {bytes : List ℕ} {rep : Report} {f : Option Fault} {left : Option (List ℕ)} {failed : ℕ} (samples count : ℕ)
+    → (b : StoodBehind n old steps p bytes more) → TakesWaiting old new → length old.waiting ≤ 32768 → old.taken + length old.waiting ≤ 2 ^ 52
+    → (rep.samples ≡ samples) × (rep.bits ≡ old.taken + more) × (rep.steps ≡ steps + more + count) × (f ≡ Some Write) → left ≡ new.left → failed ≡ new.failed
+    → Reports rep f left failed b.reader samples (b.steps_there + count) (Some Write)
+told_behind samples count b waits few limit told left_is failed_is =
+    let bits = b.waited.bits in
+    let taken = b.taken in
+    let ticked = b.ticked in
+    record {
+      samples_are = told.0;
+      bits_are = told.1 ∙ sym taken;
+      steps_are = told.2 ∙ ap (λ k. k + count) (sym ticked);
+      fault_is = told.3;
+      left_is = left_is ∙ waits.left ∙ sym b.waited.left;
+      failed_is = failed_is ∙ waits.failed ∙ sym b.waited.failed;
+      ahead = omega (arith, bits, taken, few);
+      limit = omega (arith, bits, limit);
+    }
+
+-- The bytes of a row of blocks in lanes.
+pub record LanesRow (s : Parameters) (size all : ℕ) (bytes : List ℕ) : Type 0 where
+  pub wide : size ≡ width s * s.block
+  pub some : 1 ≤ size
+  pub is : take (size * all) bytes ≡ take (row_bytes s all) bytes
+  pub there : row_bytes s all ≤ length bytes
+  pub long : length (take (size * all) bytes) ≡ size * all
+
+pub lanes_row : (s : Parameters) (w block all : ℕ) (bytes : List ℕ) → HasLanes s s.block w → block ≡ s.block → w * s.block * all ≤ 480 → length bytes ≡ 512 → LanesRow s (w * block) all bytes
+lanes_row s w block all bytes has same few long =
+    let wide : w * block ≡ width s * s.block = λ j. width_is s s.block w has j * same j in
+    let own : w * block * all ≡ w * s.block * all = ap (λ n. w * n * all) same in
+    let bytes_of : w * block * all ≡ row_bytes s all = ap (λ n. n * all) wide in
+    let j : 2 ≤ s.block = has.some in
+    record {
+      wide = wide;
+      some = mul-pos (elim has.samples.widths [ inl e ↦ omega (arith, e) | inr e ↦ omega (arith, e) ]) (omega (arith, same, j));
+      is = ap (λ n. take n bytes) bytes_of;
+      there = omega (arith, bytes_of, own, few, long);
+      long = length-take-le (w * block * all) bytes (omega (arith, own, few, long));
+    }
+
+-- The outlet failed in a row, and this is reported.
+pub record FailsBehind {I : Type 0} (s : Parameters) (all : ℕ) (old : Reader I) (steps : ℕ) (p : DecoderState) (bytes : List ℕ) (out out_new : Option Room) (rep : Report) (f : Option Fault)
+    (left : Option (List ℕ)) (failed written : ℕ) : Type 0 where
+  pub reader : Reader I
+  pub steps_there : ℕ
+  pub state : DecoderState
+  pub count : ℕ
+  pub fails : FailsInRow s all old reader steps steps_there p state bytes out out_new count
+  pub counted : AreCounted steps steps_there old.taken reader.taken
+  pub tells : Reports rep f left failed reader (written + count) (steps_there + count) (Some Write)
+
+pub fails_behind : {I : Type 0} (s : Parameters) (all taken w size block written begin begun : ℕ) (old new : Reader I) (steps steps_new : ℕ) (p q : DecoderState) (bytes ends : List ℕ) (out out_new : Option Room)
+    (rep : Report) (f : Option Fault) (left : Option (List ℕ)) (failed : ℕ) → HasLanes s s.block w → size ≡ s.block → block ≡ s.block → w * s.block * all ≤ 480 → length bytes ≡ 512
+    → GivesBlocks all old new steps steps_new p q bytes ends → begin ≡ old.taken → begun ≡ steps → length old.waiting ≤ 32768 → begin + length old.waiting ≤ 2 ^ 52
+    → taken < length (take (w * size * all) bytes) → Appends out out_new (take taken (take (w * size * all) bytes))
+    → (rep.samples ≡ written + block * (taken / (w * size))) × (rep.bits ≡ begin + slice_index_or ends (taken / (w * size)) 0)
+    × (rep.steps ≡ begun + slice_index_or ends (taken / (w * size)) 0 + block * (taken / (w * size))) × (f ≡ Some Write)
+    → left ≡ new.left → failed ≡ new.failed → FailsBehind s all old steps p bytes out out_new rep f left failed written
+fails_behind s all taken w size block written begin begun old new steps steps_new p q bytes ends out out_new rep f left failed has same own few long given at ticked waiting limit short put told left_is failed_is =
+    let row = lanes_row s w size all bytes has same few long in
+    let n = taken / (w * size) in
+    let more = slice_index_or ends n 0 in
+    let b = given.ends_are n (in_block all taken (w * size) row.some (omega (arith, short, row.long))) in
+    let many : block * n ≡ s.block * n = ap (λ k. k * n) own in
+    let inside : old.taken + length old.waiting ≤ 2 ^ 52 = omega (arith, at, limit) in
+    record {
+      reader = b.reader;
+      steps_there = b.steps_there;
+      state = b.state;
+      count = s.block * n;
+      fails = cut_behind all taken (w * size) (take (w * size * all) bytes) row.some row.wide row.is row.there short b put;
+      counted = counted_behind b inside;
+      tells = told_behind (written + s.block * n) (s.block * n) b given.waited waiting inside
+          (told.0 ∙ ap (λ k. written + k) many, told.1 ∙ ap (λ k. k + more) at, told.2 ∙ (λ j. ticked j + more + many j), told.3) left_is failed_is;
+    }
+
+-- all of it is written
+pub lanes_written : {I : Type 0} (s : Parameters) (all w size count : ℕ) (old new : Reader I) (steps steps_new : ℕ) (p q : DecoderState) (bytes ends : List ℕ) (out out_new : Option Room)
+    → HasLanes s s.block w → size ≡ s.block → w * s.block * all ≤ 480 → length bytes ≡ 512 → count ≡ s.block * all
+    → GivesBlocks all old new steps steps_new p q bytes ends → Appends out out_new (take (w * size * all) bytes) → WritesRow s all old new steps steps_new p q bytes out out_new count
+lanes_written s all w size count old new steps steps_new p q bytes ends out out_new has same few long many given put =
+    let row = lanes_row s w size all bytes has same few long in
+    record { count_is = many; gives = given.row; put = subst (λ l. Appends out out_new l) row.is put }

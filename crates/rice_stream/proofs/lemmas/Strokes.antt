@@ -1,14 +1,14 @@
 -- Blocks that the decoder gives at one stroke, and where decoding stands behind them.
-use Rattle.std.proofs.Common.{◌≡◌, ℕ, zero, suc, ◌+◌, ◌-◌, ◌*◌, ◌%◌, ◌<◌, ◌≤◌, List, [], ◌++◌, Bool, length, take, drop, replicate, refl, sym, ◌∙◌, ap, subst, arith, append_assoc, append-nil, length-append, None, ℤ, inl, inr}
+use Rattle.std.proofs.Common.{◌≡◌, ℕ, zero, suc, ◌+◌, ◌-◌, ◌*◌, ◌/◌, ◌%◌, ◌<◌, ◌≤◌, List, [], ◌++◌, Bool, length, take, drop, replicate, refl, sym, ◌∙◌, ap, subst, arith, append_assoc, append-nil, length-append, None, ℤ}
 use Rattle.std.specs.Prelude.{Ok}
 use Rattle.std.proofs.lemmas.List.{length-replicate, length-take-le, replicate-append-replicate}
 use Rattle.std.proofs.lemmas.List.Elements.{recursion_from_All}
-use Rattle.std.proofs.Math.Nat.{mul-pos}
+use Rattle.std.proofs.Math.Nat.{div-add-mod, mul-le-mul_left, mul-pos}
 use Rattle.std.proofs.Math.Seq.{take-add}
 use Rattle.rice_bits.specs.read.Reader.{Reader}
 use Rattle.rice_samples.specs.Parameters.{Parameters, IsSample, width}
 use Rattle.rice_samples.specs.bytes.Spelling.{spellings}
-use Rattle.rice_code.specs.decode.BlocksAhead.{GivesBytes, HasLanes}
+use Rattle.rice_code.specs.decode.BlocksAhead.{GivesBytes}
 use Rattle.rice_code.specs.decode.Decoder.{RepeatsBlocks}
 use Rattle.rice_code.specs.decode.DecoderState.{DecoderState, IsDecoderState}
 use Rattle.rice_code.specs.decode.Rows.{AreCounted}
@@ -23,7 +23,7 @@ use Rattle.rice_stream.proofs.lemmas.DecodingLemmas.{Advances, moves_of, samples
 use Rattle.rice_stream.proofs.lemmas.PullingLemmas.{Steps, gives_next, goes_on_at}
 use Rattle.rice_stream.proofs.lemmas.RowsWritten.{gives_with_more_steps}
 use Rattle.rice_stream.proofs.lemmas.RunsWritten.{advances_in_run, run_is_more}
-use Rattle.rice_stream.proofs.lemmas.SpelledBlocks.{advances_spelled, width_is}
+use Rattle.rice_stream.proofs.lemmas.SpelledBlocks.{advances_spelled}
 use Rattle.rice_samples.proofs.lemmas.bytes.SpellingLengths.{length-spellings, spellings-append}
 
 -- one call of the decoder
@@ -277,34 +277,13 @@ row_stroke s stand next p q r new w b n steps last bytes o front given h reads a
       spelled = ap (λ k. take k bytes) size ∙ on.spelled;
     }
 
--- a block in lanes
-pub lanes_stroke : {I : Type 0} (s : Parameters) (stand next : Stand) (p q : DecoderState) (r new : Reader I) (w b steps last : ℕ) (bytes : List ℕ) (o : Origin) (front : List Bool) (given : List ℤ)
-    → IsStand s o stand front given → IsReadFrom stand r → (stand.run ≡ 0 → r.taken % 8 ≡ stand.bits % 8) → p ≡ state_of s stand → p.run ≡ 0 → steps ≡ stand.steps
-    → IsDecoderState q.setting q.block q.before q.run q.stopped → q.setting ≡ p.setting → q.stopped ≡ None
-    → GivesBytes r new steps last p q bytes → AreCounted steps last r.taken new.taken → HasLanes s b w
-    → next ≡ stand_at (stand.samples + b) (stand.bits + (new.taken - r.taken)) (last + b) q → GivesStroke s stand next q r new (w * b) bytes
-lanes_stroke s stand next p q r new w b steps last bytes o front given h reads aligned state none ticked is_state setting stopped g counted has is =
-    let run : stand.run ≡ 0 = sym (ap (λ (d : DecoderState). d.run) state) ∙ none in
-    let own : q.setting ≡ s = setting ∙ ap (λ (d : DecoderState). d.setting) state in
-    let here : IsDecoderState s q.block q.before q.run None = subst (λ (t : Parameters). IsDecoderState t q.block q.before q.run None) own
-    (subst (λ t. IsDecoderState q.setting q.block q.before q.run t) stopped is_state) in
-    let many : b ≡ s.block = sym has.size_is in
-    let wide = width_is s b w has in
-    let size : w * b ≡ width s * s.block = (λ i. wide i * many i) in
-    let one_block : s.block * 1 ≡ s.block = omega arith in
-    let j : 2 ≤ s.block = grind (arith, h.state.legal.block) in
-    let all : last + b ≡ last + (0 + s.block) = omega (arith, many) in
-    let there : next ≡ stand_at (stand.samples + s.block) (stand.bits + (new.taken - r.taken)) (last + (0 + s.block)) q =
-    is ∙ (λ i. stand_at (stand.samples + many i) (stand.bits + (new.taken - r.taken)) (all i) q) in
-    let on = spelled_on 0 s stand q r new steps last bytes o front given h reads (aligned run) run (omega (arith, ticked)) here own stopped
-    (subst (λ (d : DecoderState). GivesBytes r new steps last d q bytes) state g) counted in
-    record {
-      samples = on.samples;
-      more = subst (λ (t : Stand). GivesMore s stand t q r new on.samples) (sym there) on.more;
-      some = mul-pos (elim has.samples.widths [ inl e ↦ omega (arith, e) | inr e ↦ omega (arith, e) ]) (omega (arith, many, j));
-      len_is = size ∙ ap (λ k. width s * k) (sym (on.len ∙ one_block));
-      spelled = ap (λ k. take k bytes) (size ∙ ap (λ k. width s * k) (sym one_block)) ∙ on.spelled;
-    }
+-- as many blocks as have room
+pub row_has_room : (w block n most at total : ℕ) → n ≤ most → 0 + block * most ≤ (total - at) / w → at ≤ total → at + w * (block * n) ≤ total
+row_has_room w block n most at total few fit inside =
+    let some = mul-le-mul_left block few in
+    let all : w * (block * n) ≤ w * ((total - at) / w) = mul-le-mul_left w (omega (arith, some, fit)) in
+    let split : w * ((total - at) / w) + (total - at) % w ≡ total - at = div-add-mod (total - at) w in
+    omega (arith, all, split, inside)
 
 -- its bytes are copied
 pub stroke_written : {I : Type 0} {s : Parameters} {stand next : Stand} {q : DecoderState} {r new : Reader I} (len at : ℕ) (bytes out out_new : List ℕ)

@@ -6,7 +6,8 @@ use Rattle.rice_stream.specs.FailedWrites.{TakesPart}
 use Rattle.rice_stream.proofs.lemmas.DecodingLemmas.{decoder_advances, decoding_is_done, gains_block, moves_of, samples_of_block, stops_in_no_run}
 use Rattle.rice_stream.proofs.lemmas.DecodingEnds.{reports_as, block_is_wanted, progress_at_start, refusal_ends, refusal_fails, ended_ends, done_fails, write_ends, reached_ends, progress_with_block}
 use Rattle.rice_code.specs.decode.DecoderState.{DecoderState}
-use Rattle.rice_stream.proofs.lemmas.SpelledBlocks.{advances_spelled, lanes_front, progress_unchanged}
+use Rattle.rice_stream.proofs.lemmas.SpelledBlocks.{progress_unchanged}
+use Rattle.rice_stream.proofs.lemmas.RowsWritten.{fails_behind, in_block, lanes_row, lanes_written, progress_with_row, row_fails, row_fails_so, row_fails_within, row_takes}
 use Rattle.rice_samples.proofs.lemmas.setting.ValuesAt.{length-values}
 use Rattle.rice_stream.proofs.lemmas.LevelLemmas.{few_legal, few_spelled}
 use Rattle.rice_stream.proofs.lemmas.RunsWritten.{progress_with_run, run_fails, run_shrinks}
@@ -24,8 +25,8 @@ write_block-requires-clause-legal g c =
     let i = c.decode_all.invariant in
     let old = c.decode_all in
     let new = c.next_levels.new in
-    let mid = c.next_bytes.new in
-    let same = c.next_bytes.ensures.none c.if-next_bytes.false in
+    let mid = c.next_bytes-blocks.new in
+    let same = c.next_bytes-blocks.ensures.none (omega (arith, c.if-blocks-gt0.false)) in
     let runs = progress_unchanged same.0 same.1 same.2 i.runs in
     let a = decoder_advances mid.reader new.reader mid.meter new.meter mid.decoder new.self s new.levels.items runs.at_block.setting (ap Ok c.in-Block.is)
     c.in-Ok-next_levels.ensures.in_run c.in-Ok-next_levels.ensures.reads in
@@ -43,8 +44,8 @@ returns-in-Err-next_levels-clause-call g c =
     let i = c.decode_all.invariant in
     let old = c.decode_all in
     let new = c.next_levels.new in
-    let mid = c.next_bytes.new in
-    let same = c.next_bytes.ensures.none c.if-next_bytes.false in
+    let mid = c.next_bytes-blocks.new in
+    let same = c.next_bytes-blocks.ensures.none (omega (arith, c.if-blocks-gt0.false)) in
     let runs = progress_unchanged same.0 same.1 same.2 i.runs in
     let a = decoder_advances mid.reader new.reader mid.meter new.meter mid.decoder new.self s new.levels.items runs.at_block.setting refl
     c.in-Err-next_levels.ensures.in_run c.in-Err-next_levels.ensures.reads in
@@ -59,8 +60,8 @@ returns-in-Err-next_levels-clause-failures g c =
     let i = c.decode_all.invariant in
     let old = c.decode_all in
     let new = c.next_levels.new in
-    let mid = c.next_bytes.new in
-    let same = c.next_bytes.ensures.none c.if-next_bytes.false in
+    let mid = c.next_bytes-blocks.new in
+    let same = c.next_bytes-blocks.ensures.none (omega (arith, c.if-blocks-gt0.false)) in
     let runs = progress_unchanged same.0 same.1 same.2 i.runs in
     let a = decoder_advances mid.reader new.reader mid.meter new.meter mid.decoder new.self s new.levels.items runs.at_block.setting refl
     c.in-Err-next_levels.ensures.in_run c.in-Err-next_levels.ensures.reads in
@@ -73,8 +74,8 @@ returns-in-Done-clause-call g c =
     let i = c.decode_all.invariant in
     let old = c.decode_all in
     let new = c.next_levels.new in
-    let mid = c.next_bytes.new in
-    let same = c.next_bytes.ensures.none c.if-next_bytes.false in
+    let mid = c.next_bytes-blocks.new in
+    let same = c.next_bytes-blocks.ensures.none (omega (arith, c.if-blocks-gt0.false)) in
     let runs = progress_unchanged same.0 same.1 same.2 i.runs in
     let a = decoder_advances mid.reader new.reader mid.meter new.meter mid.decoder new.self s new.levels.items runs.at_block.setting (ap Ok c.in-Done.is)
     c.in-Ok-next_levels.ensures.in_run c.in-Ok-next_levels.ensures.reads in
@@ -89,8 +90,8 @@ returns-in-Done-clause-failures g c =
     let i = c.decode_all.invariant in
     let old = c.decode_all in
     let new = c.next_levels.new in
-    let mid = c.next_bytes.new in
-    let same = c.next_bytes.ensures.none c.if-next_bytes.false in
+    let mid = c.next_bytes-blocks.new in
+    let same = c.next_bytes-blocks.ensures.none (omega (arith, c.if-blocks-gt0.false)) in
     let runs = progress_unchanged same.0 same.1 same.2 i.runs in
     let a = decoder_advances mid.reader new.reader mid.meter new.meter mid.decoder new.self s new.levels.items runs.at_block.setting (ap Ok c.in-Done.is)
     c.in-Ok-next_levels.ensures.in_run c.in-Ok-next_levels.ensures.reads in
@@ -103,8 +104,8 @@ returns-in-Err-write_block-clause-call g c =
     let i = c.decode_all.invariant in
     let old = c.decode_all in
     let new = c.next_levels.new in
-    let mid = c.next_bytes.new in
-    let same = c.next_bytes.ensures.none c.if-next_bytes.false in
+    let mid = c.next_bytes-blocks.new in
+    let same = c.next_bytes-blocks.ensures.none (omega (arith, c.if-blocks-gt0.false)) in
     let runs = progress_unchanged same.0 same.1 same.2 i.runs in
     let a = decoder_advances mid.reader new.reader mid.meter new.meter mid.decoder new.self s new.levels.items runs.at_block.setting (ap Ok c.in-Block.is)
     c.in-Ok-next_levels.ensures.in_run c.in-Ok-next_levels.ensures.reads in
@@ -121,8 +122,8 @@ decode_all-smaller g c =
     let i = c.decode_all.invariant in
     let old = c.decode_all in
     let new = c.next_levels.new in
-    let mid = c.next_bytes.new in
-    let same = c.next_bytes.ensures.none c.if-next_bytes.false in
+    let mid = c.next_bytes-blocks.new in
+    let same = c.next_bytes-blocks.ensures.none (omega (arith, c.if-blocks-gt0.false)) in
     let runs = progress_unchanged same.0 same.1 same.2 i.runs in
     let a = decoder_advances mid.reader new.reader mid.meter new.meter mid.decoder new.self s new.levels.items runs.at_block.setting (ap Ok c.in-Block.is)
     c.in-Ok-next_levels.ensures.in_run c.in-Ok-next_levels.ensures.reads in
@@ -146,8 +147,8 @@ decode_all-preserved g c =
     let i = c.decode_all.invariant in
     let old = c.decode_all in
     let new = c.next_levels.new in
-    let mid = c.next_bytes.new in
-    let same = c.next_bytes.ensures.none c.if-next_bytes.false in
+    let mid = c.next_bytes-blocks.new in
+    let same = c.next_bytes-blocks.ensures.none (omega (arith, c.if-blocks-gt0.false)) in
     let runs = progress_unchanged same.0 same.1 same.2 i.runs in
     let a = decoder_advances mid.reader new.reader mid.meter new.meter mid.decoder new.self s new.levels.items runs.at_block.setting (ap Ok c.in-Block.is)
     c.in-Ok-next_levels.ensures.in_run c.in-Ok-next_levels.ensures.reads in
@@ -171,50 +172,116 @@ decode_all-preserved g c =
 pub returns-then-count-eq0-clause-idle : goal.returns-then-count-eq0-clause-idle
 returns-then-count-eq0-clause-idle g c none = c.ended.ensures.intake ∙ ap (λ r. r.intake) (c.decode_all.invariant.runs.idle none)
 
-pub returns-in-Err-write_all-clause-call : goal.returns-in-Err-write_all-clause-call
-returns-in-Err-write_all-clause-call g c =
+pub bounds-ends-some : goal.bounds-ends-some
+bounds-ends-some g c =
     let s = c.args.setting.now in
     let i = c.decode_all.invariant in
     let old = c.decode_all in
-    let new = c.next_bytes.new in
-    let at = i.runs.at_block in
-    let spelled = c.next_bytes.ensures.some c.if-next_bytes.true in
-    let a = advances_spelled spelled.1 spelled.2 in
-    let block = samples_of_block s at.setting at.going a in
-    let legal = c.block-block.ensures.legal in
-    let all = c.is_whole-whole.ensures spelled.0 ∙ c.block-block.ensures.value in
-    let some = block_is_wanted c.args.asked old.written c.wanted-count.ensures.value c.block-block.ensures.value c.if-count-eq0.false in
-    let is = c.wanted-count.ensures.value ∙ ap (wanted_of c.args.asked old.written) c.block-block.ensures.value in
-    let bytes = lanes_front s old.decoder.setting c.known_or.result g.row.WIDTH c.wanted-count.result spelled.2.samples new.bytes
-    (c.requires.lanes (c.next_bytes.ensures.lanes c.if-next_bytes.true)) at.setting all c.known_or.ensures block.len spelled.2.spelled in
-    let part = subst (λ (l : List ℕ). TakesPart (g.O.Outlet.taken old.outlet) (g.O.Outlet.taken c.write_all.new.outlet) l) bytes c.in-Err-write_all.ensures.err.0 in
-    write_ends c.wanted-count.result new.decoder legal i.runs is some (gains_block legal i.runs a) part c.ended-in-Err-write_all.ensures.reports
+    let new = c.next_bytes-blocks.new in
+    let row = c.next_bytes-blocks.ensures in
+    let some = c.if-blocks-gt0.true in
+    let given = row.some some in
+    let all = c.next_bytes-blocks.result in
+    let same : c.known_or-size.result ≡ s.block = c.known_or-size.ensures ∙ c.block-block.ensures.value in
+    let bytes = lanes_row s g.row.WIDTH c.known_or-size.result all new.bytes (c.requires.lanes (row.lanes some)) same row.room c.next_bytes-blocks.array_long in
+    let inside = in_block all c.in-Err-write_counted.taken (g.row.WIDTH * c.known_or-size.result) bytes.some (omega (arith, c.in-Err-write_counted.ensures.err.0, bytes.long)) in
+    omega (arith, inside, row.few)
 
-pub decode_all-preserved-then-next_bytes : goal.decode_all-preserved-then-next_bytes
-decode_all-preserved-then-next_bytes g c =
+pub returns-in-Err-write_counted-clause-call : goal.returns-in-Err-write_counted-clause-call
+returns-in-Err-write_counted-clause-call g c =
     let s = c.args.setting.now in
     let i = c.decode_all.invariant in
     let old = c.decode_all in
-    let new = c.next_bytes.new in
-    let at = i.runs.at_block in
-    let spelled = c.next_bytes.ensures.some c.if-next_bytes.true in
-    let a = advances_spelled spelled.1 spelled.2 in
-    let block = samples_of_block s at.setting at.going a in
-    let legal = c.block-block.ensures.legal in
-    let all = c.is_whole-whole.ensures spelled.0 ∙ c.block-block.ensures.value in
-    let some = block_is_wanted c.args.asked old.written c.wanted-count.ensures.value c.block-block.ensures.value c.if-count-eq0.false in
-    let is = c.wanted-count.ensures.value ∙ ap (wanted_of c.args.asked old.written) c.block-block.ensures.value in
-    let bytes = lanes_front s old.decoder.setting c.known_or.result g.row.WIDTH c.wanted-count.result spelled.2.samples new.bytes
-    (c.requires.lanes (c.next_bytes.ensures.lanes c.if-next_bytes.true)) at.setting all c.known_or.ensures block.len spelled.2.spelled in
-    let put = subst (λ (l : List ℕ). Appends (g.O.Outlet.taken old.outlet) (g.O.Outlet.taken c.write_all.new.outlet) l) bytes c.in-Ok-write_all.ensures.ok.0 in
-    let new_run : new.decoder.run * new.decoder.setting.block ≡ new.decoder.run * s.block = ap (λ t. new.decoder.run * t.block) (c.next_bytes.ensures.setting ∙ at.setting) in
-    let none : old.decoder.run * s.block ≡ 0 = ap (λ n. n * s.block) spelled.1 ∙ omega arith in
-    let few : s.block + new.decoder.run * s.block ≤ old.decoder.run * s.block + 456 * (new.reader.taken - old.reader.taken) = omega (arith, block.len, spelled.2.by_bits, none, new_run) in
+    let new = c.next_bytes-blocks.new in
+    let row = c.next_bytes-blocks.ensures in
+    let some = c.if-blocks-gt0.true in
+    let given = row.some some in
+    let all = c.next_bytes-blocks.result in
+    let same : c.known_or-size.result ≡ s.block = c.known_or-size.ensures ∙ c.block-block.ensures.value in
+    let err = c.in-Err-write_counted.ensures.err in
+    let fails = fails_behind s all c.in-Err-write_counted.taken g.row.WIDTH c.known_or-size.result c.block-block.result old.written c.taken-begin.result c.steps-steps.result
+    old.reader new.reader old.meter new.meter old.decoder new.decoder new.bytes new.ends (g.O.Outlet.taken old.outlet) (g.O.Outlet.taken c.write_counted.new.outlet)
+    c.failed_behind.result.0.report c.failed_behind.result.0.fault (g.I.Intake.left c.failed_behind.result.1) (g.I.Intake.failed c.failed_behind.result.1)
+    (c.requires.lanes (row.lanes some)) same c.block-block.ensures.value row.room c.next_bytes-blocks.array_long given.1 c.taken-begin.ensures.value c.steps-steps.ensures.value
+    c.taken-begin.ensures.waiting c.taken-begin.ensures.limit err.0 err.1 c.failed_behind.ensures.told c.failed_behind.ensures.left c.failed_behind.ensures.failed in
+    row_fails c.block-block.ensures.legal i.runs given.0 fails.fails (row.wanted some) refl fails.tells
+
+pub returns-in-Err-write_counted-clause-failures : goal.returns-in-Err-write_counted-clause-failures
+returns-in-Err-write_counted-clause-failures g c =
+    let s = c.args.setting.now in
+    let i = c.decode_all.invariant in
+    let old = c.decode_all in
+    let new = c.next_bytes-blocks.new in
+    let row = c.next_bytes-blocks.ensures in
+    let some = c.if-blocks-gt0.true in
+    let given = row.some some in
+    let all = c.next_bytes-blocks.result in
+    let same : c.known_or-size.result ≡ s.block = c.known_or-size.ensures ∙ c.block-block.ensures.value in
+    let err = c.in-Err-write_counted.ensures.err in
+    let fails = fails_behind s all c.in-Err-write_counted.taken g.row.WIDTH c.known_or-size.result c.block-block.result old.written c.taken-begin.result c.steps-steps.result
+    old.reader new.reader old.meter new.meter old.decoder new.decoder new.bytes new.ends (g.O.Outlet.taken old.outlet) (g.O.Outlet.taken c.write_counted.new.outlet)
+    c.failed_behind.result.0.report c.failed_behind.result.0.fault (g.I.Intake.left c.failed_behind.result.1) (g.I.Intake.failed c.failed_behind.result.1)
+    (c.requires.lanes (row.lanes some)) same c.block-block.ensures.value row.room c.next_bytes-blocks.array_long given.1 c.taken-begin.ensures.value c.steps-steps.ensures.value
+    c.taken-begin.ensures.waiting c.taken-begin.ensures.limit err.0 err.1 c.failed_behind.ensures.told c.failed_behind.ensures.left c.failed_behind.ensures.failed in
+    row_fails_so (g.O.Outlet.failed c.args.outlet.now) (g.O.Outlet.failed c.write_counted.new.outlet) i.runs given.0 fails.fails (err.2 ∙ ap (λ n. n + 1) i.writes) fails.tells
+
+pub returns-in-Err-write_counted-clause-bounds : goal.returns-in-Err-write_counted-clause-bounds
+returns-in-Err-write_counted-clause-bounds g c =
+    let s = c.args.setting.now in
+    let i = c.decode_all.invariant in
+    let old = c.decode_all in
+    let new = c.next_bytes-blocks.new in
+    let row = c.next_bytes-blocks.ensures in
+    let some = c.if-blocks-gt0.true in
+    let given = row.some some in
+    let all = c.next_bytes-blocks.result in
+    let same : c.known_or-size.result ≡ s.block = c.known_or-size.ensures ∙ c.block-block.ensures.value in
+    let err = c.in-Err-write_counted.ensures.err in
+    let fails = fails_behind s all c.in-Err-write_counted.taken g.row.WIDTH c.known_or-size.result c.block-block.result old.written c.taken-begin.result c.steps-steps.result
+    old.reader new.reader old.meter new.meter old.decoder new.decoder new.bytes new.ends (g.O.Outlet.taken old.outlet) (g.O.Outlet.taken c.write_counted.new.outlet)
+    c.failed_behind.result.0.report c.failed_behind.result.0.fault (g.I.Intake.left c.failed_behind.result.1) (g.I.Intake.failed c.failed_behind.result.1)
+    (c.requires.lanes (row.lanes some)) same c.block-block.ensures.value row.room c.next_bytes-blocks.array_long given.1 c.taken-begin.ensures.value c.steps-steps.ensures.value
+    c.taken-begin.ensures.waiting c.taken-begin.ensures.limit err.0 err.1 c.failed_behind.ensures.told c.failed_behind.ensures.left c.failed_behind.ensures.failed in
+    row_fails_within i.runs given.0 fails.fails fails.counted (row.wanted some) refl fails.tells
+
+pub decode_all-preserved-then-blocks-gt0 : goal.decode_all-preserved-then-blocks-gt0
+decode_all-preserved-then-blocks-gt0 g c =
+    let s = c.args.setting.now in
+    let i = c.decode_all.invariant in
+    let old = c.decode_all in
+    let new = c.next_bytes-blocks.new in
+    let row = c.next_bytes-blocks.ensures in
+    let some = c.if-blocks-gt0.true in
+    let given = row.some some in
+    let all = c.next_bytes-blocks.result in
+    let same : c.known_or-size.result ≡ s.block = c.known_or-size.ensures ∙ c.block-block.ensures.value in
+    let ok = c.in-Ok-write_counted.ensures.ok in
+    let wrote = lanes_written s all g.row.WIDTH c.known_or-size.result (c.block-block.result * all) old.reader new.reader old.meter new.meter old.decoder new.decoder new.bytes new.ends
+    (g.O.Outlet.taken old.outlet) (g.O.Outlet.taken c.write_counted.new.outlet) (c.requires.lanes (row.lanes some)) same row.room c.next_bytes-blocks.array_long
+    (ap (λ k. k * all) c.block-block.ensures.value) given.1 ok.0 in
     record {
-      runs = progress_with_block c.wanted-count.result c.tick-then-next_bytes.new.self legal i.runs is some (gains_block legal i.runs a) (moves_of at.going a)
-          (record { counted = c.next_bytes.ensures.steps; few = few }) c.tick-then-next_bytes.ensures put;
-      writes = c.in-Ok-write_all.ensures.ok.1 ∙ i.writes;
+      runs = progress_with_row c.block-block.ensures.legal i.runs given.0 wrote (row.wanted some) c.tick-then-blocks-gt0.ensures;
+      writes = ok.1 ∙ i.writes;
     }
+
+pub decode_all-smaller-then-blocks-gt0 : goal.decode_all-smaller-then-blocks-gt0
+decode_all-smaller-then-blocks-gt0 g c =
+    let s = c.args.setting.now in
+    let i = c.decode_all.invariant in
+    let old = c.decode_all in
+    let new = c.next_bytes-blocks.new in
+    let row = c.next_bytes-blocks.ensures in
+    let some = c.if-blocks-gt0.true in
+    let given = row.some some in
+    let all = c.next_bytes-blocks.result in
+    let same : c.known_or-size.result ≡ s.block = c.known_or-size.ensures ∙ c.block-block.ensures.value in
+    let ok = c.in-Ok-write_counted.ensures.ok in
+    let wrote = lanes_written s all g.row.WIDTH c.known_or-size.result (c.block-block.result * all) old.reader new.reader old.meter new.meter old.decoder new.decoder new.bytes new.ends
+    (g.O.Outlet.taken old.outlet) (g.O.Outlet.taken c.write_counted.new.outlet) (c.requires.lanes (row.lanes some)) same row.room c.next_bytes-blocks.array_long
+    (ap (λ k. k * all) c.block-block.ensures.value) given.1 ok.0 in
+    let more = row_takes c.block-block.ensures.legal i.runs given.0 some wrote in
+    let none : new.decoder.run * new.decoder.setting.block ≡ 0 = ap (λ n. n * new.decoder.setting.block) given.1.run ∙ omega arith in
+    omega (arith, more, none, row.steps.limit)
 
 pub returns-in-Err-clause-call : goal.returns-in-Err-clause-call
 returns-in-Err-clause-call g c =

@@ -1,9 +1,8 @@
-use Rattle.std.proofs.Common.{◌≡◌, ◌+◌, ◌-◌, ◌*◌, ◌∙◌, arith, subst, sym}
-use Rattle.rice_code.specs.decode.BlocksAhead.{HasLanes}
+use Rattle.std.proofs.Common.{length, ◌≡◌, ◌+◌, ◌-◌, ◌*◌, ◌/◌, ◌∙◌, ◌≤◌, ap, arith, inl, inr, subst, sym}
+use Rattle.std.proofs.Math.Nat.{mul-le-mul_left}
+use Rattle.rice_code.proofs.lemmas.decode.BlocksInRow.{width_is}
 use Rattle.rice_stream.specs.Pulling.{stand_at}
-use Rattle.rice_stream.proofs.lemmas.SpelledBlocks.{lanes_few, lanes_size}
-use Rattle.std.proofs.lemmas.List.{length-take-le}
-use Rattle.rice_stream.proofs.lemmas.Strokes.{lanes_stroke, stroke_written}
+use Rattle.rice_stream.proofs.lemmas.Strokes.{row_has_room, row_stroke, stroke_written}
 use Rattle.rice_stream.proofs.strokes.next_in_lanes.Goals as goal
 
 pub returns-clause-did : goal.returns-clause-did
@@ -11,22 +10,24 @@ returns-clause-did g c =
     let stand = c.args.stand.now in
     let know = c.requires.come.stand in
     let r = c.args.reader.now in
-    let new = c.next_bytes.new in
-    let says = c.next_bytes.ensures.some c.if-not-next_bytes.false in
+    let new = c.next_bytes-blocks.new in
+    let blocks = c.next_bytes-blocks.result in
+    let n = c.block.result * blocks in
+    let some : 1 ≤ blocks = omega (arith, c.if-blocks-eq0.false) in
+    let says = c.next_bytes-blocks.ensures.some some in
     let taken : new.reader.taken - c.taken-before.result ≡ new.reader.taken - r.taken = omega (arith, c.taken-before.ensures.value) in
     let steps : c.tick.new.self ≡ stand.steps = omega (arith, c.tick.ensures, c.new-meter.ensures) in
-    let size = c.known_or-size.result in
-    let has = subst (λ n. HasLanes c.args.setting.now n g.row.WIDTH) (sym (c.known_or-size.ensures ∙ c.block.ensures.value)) c.requires.lanes in
-    let k = lanes_stroke c.args.setting.now stand c.stand_behind-stand.result c.args.decoder.now new.self r new.reader g.row.WIDTH size c.tick.new.self new.meter
-    new.bytes know.0 know.1 know.2 know.3 c.requires.come.reads c.requires.come.aligned c.requires.come.state says.0 steps c.stand_behind-stand.ensures.state
-    c.next_bytes.ensures.setting c.next_bytes.ensures.stopped says.1 c.next_bytes.ensures.steps has
-    (c.stand_behind-stand.ensures.numbers ∙ (λ i. stand_at (stand.samples + size) (stand.bits + taken i) (new.meter + size) new.self)) in
-    let same = lanes_size c.args.setting.now size g.row.WIDTH has in
-    (stroke_written (g.row.WIDTH * size) c.args.at new.bytes c.args.samples.now c.copy_at.new.samples k (let few = lanes_few c.args.setting.now size g.row.WIDTH has in omega (arith, few, c.next_bytes.auto.bytes, c.told-bytes)) c.copy_at.ensures, omega (arith, same, c.requires.room))
-
-pub copy_at-requires : goal.copy_at-requires
-copy_at-requires g c =
-    let has = subst (λ n. HasLanes c.args.setting.now n g.row.WIDTH) (sym (c.known_or-size.ensures ∙ c.block.ensures.value)) c.requires.lanes in
-    let same = lanes_size c.args.setting.now c.known_or-size.result g.row.WIDTH has in
-    let len = length-take-le (g.row.WIDTH * c.known_or-size.result) c.next_bytes.new.bytes (let few = lanes_few c.args.setting.now c.known_or-size.result g.row.WIDTH has in omega (arith, few, c.next_bytes.auto.bytes, c.told-bytes)) in
-    omega (arith, same, len, c.requires.room)
+    let s = c.args.setting.now in
+    let w = g.row.WIDTH in
+    let most : blocks ≤ c.args.most = omega (arith, c.next_bytes-blocks.ensures.most, c.blocks_wanted-most.ensures.few) in
+    let least = mul-le-mul_left (w * s.block) most in
+    let same : w * n ≡ w * s.block * blocks = ap (λ b. w * (b * blocks)) c.block.ensures.value ∙ omega arith in
+    let few : w * n ≤ 512 = omega (arith, same, least, c.requires.few) in
+    let fit : 0 + c.block.result * c.blocks_wanted-most.result ≤ (length c.args.samples.now - c.args.at) / w =
+    subst (λ b. 0 + b * c.blocks_wanted-most.result ≤ (length c.args.samples.now - c.args.at) / w) (sym c.block.ensures.value) c.blocks_wanted-most.ensures.wanted in
+    let inside : c.args.at ≤ length c.args.samples.now = omega (arith, c.requires.room) in
+    let k = row_stroke s stand c.stand_behind-behind.result c.args.decoder.now new.self r new.reader w c.block.result blocks c.tick.new.self new.meter
+    new.bytes know.0 know.1 know.2 know.3 c.requires.come.reads c.requires.come.aligned c.requires.come.state says.0 steps says.1.row (width_is s s.block w c.requires.lanes) c.block.ensures.value
+    (elim c.requires.lanes.samples.widths [ inl e ↦ omega (arith, e) | inr e ↦ omega (arith, e) ]) (omega (arith, c.block.ensures.range)) some
+    (c.stand_behind-behind.ensures.numbers ∙ (λ i. stand_at (stand.samples + n) (stand.bits + taken i) (new.meter + n) new.self)) in
+    (stroke_written (w * n) c.args.at new.bytes c.args.samples.now c.copy_at.new.samples k (omega (arith, few, c.next_bytes-blocks.auto.bytes, c.told-bytes)) c.copy_at.ensures, row_has_room w c.block.result blocks c.blocks_wanted-most.result c.args.at (length c.args.samples.now) c.next_bytes-blocks.ensures.most fit inside)
