@@ -5,6 +5,7 @@ pub mod InverseLemmas
 pub mod NearVectors
 pub mod JoinedLanes
 pub mod LaneRanks
+pub mod ByteRanks
 pub mod SumsOfWays
 pub mod FitsOf16Bits
 pub mod NearEights

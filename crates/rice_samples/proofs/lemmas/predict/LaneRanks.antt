@@ -1,9 +1,11 @@
 -- Ranks in the lanes of vectors.
-use Rattle.std.proofs.Common.{◌≡◌, ℕ, zero, suc, ◌+◌, ◌-◌, ◌*◌, ◌%◌, ◌<◌, ◌≤◌, cond, nat_lt, List, [], ◌∷◌, ◌++◌, get_or, take, drop, length, min, refl, ap, arith, sym, ◌∙◌, Fits, w16}
+use Rattle.std.proofs.Common.{◌≡◌, ℕ, zero, suc, ◌+◌, ◌-◌, ◌%◌, ◌<◌, ◌≤◌, cond, nat_lt, List, [], ◌∷◌, ◌++◌, get_or, take, drop, length, min, refl, ap, arith, sym, ◌∙◌, Fits, w16}
 use Rattle.std.specs.Prelude.{replicate, slice_range}
-use Rattle.std.specs.Simd.Lanes.{zip2, Each1, sel_l}
+use Rattle.std.specs.List.{range_with_len}
+use Rattle.std.specs.Simd.Lanes.{zip2, Each1, pick_l, sel_l}
 use Rattle.std.proofs.lemmas.Bool.Decides.{nat_tests}
-use Rattle.std.proofs.lemmas.List.{length-drop, length-take-le}
+use Rattle.std.proofs.lemmas.List.{length-append, length-drop, length-take-le}
+use Rattle.std.proofs.lemmas.Simd.{pick_l-range_with_len}
 use Rattle.std.proofs.Math.Seq.{take-add}
 use Rattle.rice_samples.specs.predict.Residuals.{rank_below, ranks_below, last_number}
 
@@ -45,20 +47,6 @@ lanes_ranked g (suc n) [] xs h e f hp hx = absurd (omega arith)
 lanes_ranked g (suc n) (p ∷ ps) [] h e f hp hx = absurd (omega arith)
 lanes_ranked g (suc n) (p ∷ ps) (x ∷ xs) h e f hp hx = λ i. one_rank g p x h hp.0 hx.0 i ∷ lanes_ranked g n ps xs h (omega arith) (omega arith) hp.1 hx.1 i
 
--- a vector of eight lanes
-eight_of : {A : Type 0} (xs : List A) (d : A) → length xs ≡ 8 →
-    xs ≡ get_or xs 0 d ∷ get_or xs 1 d ∷ get_or xs 2 d ∷ get_or xs 3 d ∷ get_or xs 4 d ∷ get_or xs 5 d ∷ get_or xs 6 d ∷ get_or xs 7 d ∷ []
-eight_of (a ∷ b ∷ c ∷ d ∷ e ∷ f ∷ g ∷ h ∷ []) o e' = refl
-eight_of [] o e = absurd (omega arith)
-eight_of (a ∷ []) o e = absurd (omega arith)
-eight_of (a ∷ b ∷ []) o e = absurd (omega arith)
-eight_of (a ∷ b ∷ c ∷ []) o e = absurd (omega arith)
-eight_of (a ∷ b ∷ c ∷ d ∷ []) o e = absurd (omega arith)
-eight_of (a ∷ b ∷ c ∷ d ∷ f ∷ []) o e = absurd (omega arith)
-eight_of (a ∷ b ∷ c ∷ d ∷ f ∷ g ∷ []) o e = absurd (omega arith)
-eight_of (a ∷ b ∷ c ∷ d ∷ f ∷ g ∷ h ∷ []) o e = absurd (omega arith)
-eight_of (a ∷ b ∷ c ∷ d ∷ f ∷ g ∷ h ∷ i ∷ j ∷ xs) o e = absurd (omega arith)
-
 each_get : (n k : ℕ) (xs : List ℕ) → Each1 (λ x. x < n) xs → k < length xs → get_or xs k 0 < n
 each_get n k [] h lt = absurd (omega arith)
 each_get n zero (x ∷ xs) h lt = h.0
@@ -73,8 +61,8 @@ pub each_below : (n g : ℕ) (xs : List ℕ) → g + 1 ≡ n → Each1 (λ x. x 
 each_below n g [] e h = tt
 each_below n g (x ∷ xs) e h = (omega (arith, h.0), each_below n g xs e h.1)
 
-pub shifted_below : (n g : ℕ) (before levels : List ℕ) → g + 1 ≡ n → length before ≡ 8 → Each1 (λ x. x < n) before → Each1 (λ x. x < n) levels → Each1 (λ x. x ≤ g) (get_or before 7 0 ∷ take 7 levels)
-shifted_below n g before levels e len h k = let b = each_get n 7 before h (omega arith) in (omega (arith, b), each_below n g (take 7 levels) e (each_taken n 7 levels k))
+pub shifted_below : (m n g : ℕ) (before levels : List ℕ) → g + 1 ≡ n → length before ≡ suc m → Each1 (λ x. x < n) before → Each1 (λ x. x < n) levels → Each1 (λ x. x ≤ g) (get_or before m 0 ∷ take m levels)
+shifted_below m n g before levels e len h k = let b = each_get n m before h (omega arith) in (omega (arith, b), each_below n g (take m levels) e (each_taken n m levels k))
 
 -- as many of the first list as the second has
 zip2_taken : (f : ℕ → ℕ → ℕ) (n : ℕ) (xs ys : List ℕ) → length ys ≡ n → zip2 f (take n xs) ys ≡ zip2 f xs ys
@@ -92,26 +80,42 @@ ranked_each : (n b : ℕ) (xs : List ℕ) → zip2 (rank_below n) (b ∷ xs) xs 
 ranked_each n b [] = refl
 ranked_each n b (x ∷ xs) = ap (λ v. rank_below n b x ∷ v) (ranked_each n x xs)
 
-pub ranked_eight : (n b : ℕ) (xs : List ℕ) → length xs ≡ 8 → zip2 (rank_below n) (b ∷ take 7 xs) xs ≡ ranks_below n b xs
-ranked_eight n b xs len = zip2_taken (rank_below n) 8 (b ∷ xs) xs len ∙ ranked_each n b xs
+pub ranked_row : (m n b : ℕ) (xs : List ℕ) → length xs ≡ suc m → zip2 (rank_below n) (b ∷ take m xs) xs ≡ ranks_below n b xs
+ranked_row m n b xs len = zip2_taken (rank_below n) (suc m) (b ∷ xs) xs len ∙ ranked_each n b xs
 
 last-append : (p : ℕ) (xs ys : List ℕ) → last_number p (xs ++ ys) ≡ last_number (last_number p xs) ys
 last-append p [] ys = refl
 last-append p (x ∷ xs) ys = last-append x xs ys
 
--- the levels up to the next eight
-pub next_eight : (i n : ℕ) (xs : List ℕ) → n ≡ 8 * i + 8 → take (8 * (i + 1)) xs ≡ take (8 * i) xs ++ slice_range xs (8 * i) n
-next_eight i n xs e =
-    let more : 8 * (i + 1) ≡ 8 * i + 8 = omega arith in
-    let count : 8 ≡ n - 8 * i = omega (arith, e) in
-    ap (λ k. take k xs) more ∙ (take-add (8 * i) 8 xs ∙ ap (λ k. take (8 * i) xs ++ take k (drop (8 * i) xs)) count)
+-- the levels up to the end of the next row of m
+pub next_row : (m at n : ℕ) (xs : List ℕ) → n ≡ at + m → take (at + m) xs ≡ take at xs ++ slice_range xs at n
+next_row m at n xs e =
+    let count : m ≡ n - at = omega (arith, e) in
+    take-add at m xs ∙ ap (λ k. take at xs ++ take k (drop at xs)) count
 
-pub last_of_eight : (p : ℕ) (xs ys : List ℕ) → length ys ≡ 8 → get_or ys 7 0 ≡ last_number p (xs ++ ys)
-last_of_eight p xs ys len = ap (λ v. get_or v 7 0) (eight_of ys 0 len) ∙ sym (last-append p xs ys ∙ ap (last_number (last_number p xs)) (eight_of ys 0 len))
+last_number_of : (m p : ℕ) (ys : List ℕ) → length ys ≡ suc m → get_or ys m 0 ≡ last_number p ys
+last_number_of m p [] len = absurd (omega arith)
+last_number_of zero p (y ∷ []) len = refl
+last_number_of zero p (y ∷ z ∷ ys) len = absurd (omega arith)
+last_number_of (suc m) p (y ∷ ys) len = last_number_of m y ys (omega arith)
 
-pub eight_long : (xs : List ℕ) (i n : ℕ) → n ≡ 8 * i + 8 → n ≤ length xs → length (slice_range xs (8 * i) n) ≡ 8
-eight_long xs i n e le = length-take-le (n - 8 * i) (drop (8 * i) xs) (omega (arith, length-drop (8 * i) xs)) ∙ (omega (arith, e))
+pub last_of_row : (m p : ℕ) (xs ys : List ℕ) → length ys ≡ suc m → get_or ys m 0 ≡ last_number p (xs ++ ys)
+last_of_row m p xs ys len = last_number_of m (last_number p xs) ys len ∙ sym (last-append p xs ys)
+
+pub row_long : (m at n : ℕ) (xs : List ℕ) → n ≡ at + m → n ≤ length xs → length (slice_range xs at n) ≡ m
+row_long m at n xs e le = length-take-le (n - at) (drop at xs) (omega (arith, length-drop at xs)) ∙ (omega (arith, e))
 
 pub length-ranks_below : (n p : ℕ) (xs : List ℕ) → length (ranks_below n p xs) ≡ length xs
 length-ranks_below n p [] = refl
 length-ranks_below n p (x ∷ xs) = ap (λ k. suc k) (length-ranks_below n x xs)
+
+seam : (k m : ℕ) (xs ys : List ℕ) → length xs ≡ suc m → take (suc k) (drop m (xs ++ ys)) ≡ get_or xs m 0 ∷ take k ys
+seam k m [] ys e = absurd (omega arith)
+seam k zero (x ∷ []) ys e = refl
+seam k zero (x ∷ y ∷ xs) ys e = absurd (omega arith)
+seam k (suc m) (x ∷ xs) ys e = seam k m xs ys (omega arith)
+
+-- the last lane of a vector, and all but the last of another, where both lie one behind the other
+pub last_and_others : (m : ℕ) (xs ys : List ℕ) → length xs ≡ suc m → length ys ≡ suc m →
+    pick_l 0 (xs ++ ys) (range_with_len m (suc m)) ≡ get_or xs m 0 ∷ take m ys
+last_and_others m xs ys e f = pick_l-range_with_len 0 (xs ++ ys) m (suc m) (omega (arith, e, f, length-append xs ys)) ∙ seam m m xs ys e

@@ -5,6 +5,7 @@ ghost use Rattle.rice_samples.specs.predict.Residuals.{pattern as pattern_of, ra
 
 use crate::Setting;
 use crate::predict::preprocessor::rank_of;
+use crate::predict::residuals::byte_ranks::write_sixteen_ranks;
 use crate::predict::residuals::rank_lanes::write_eight_ranks;
 
 /// Writes the residuals of the samples with these levels: of the first one after the sample at level `p`, and of each other
@@ -19,6 +20,26 @@ pub(crate) fn write_residuals(setting: &Setting, p: u32, levels: &[u32], residua
         write_any_width(setting, p, levels, residuals);
         return;
     }
+    if setting.bits() > 8 || levels.len() < 16 {
+        write_by_eights(setting, p, levels, residuals);
+        return;
+    }
+    write_sixteen_ranks(setting, p, levels, residuals);
+    let end = 16 * (levels.len() / 16);
+    if end < levels.len() {
+        let last = last_level(p, &levels[..end]);
+        write_by_eights(setting, last, &levels[end..], &mut residuals[end..]);
+    }
+}
+
+/// Writes the residuals of samples of at most 16 bits, eight at a time, and of the last ones one at a time.
+fn write_by_eights(setting: &Setting, p: u32, levels: &[u32], residuals: &mut [u32])
+    requires narrow { setting.now.bits ≤ 16 }
+    requires before { p < value_count setting.now }
+    requires legal { All (λ l. l < value_count setting.now) levels.now }
+    requires len { length residuals.old ≡ length levels.now }
+    ensures { residuals.new ≡ ranks_below (value_count setting.now) p levels.now }
+{
     write_eight_ranks(setting, p, levels, residuals);
     let end = 8 * (levels.len() / 8);
     if end < levels.len() {
