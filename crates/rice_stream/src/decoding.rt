@@ -99,35 +99,11 @@ pub fn decode<I: Intake, O: Outlet>(
 {
     // Each of these loops is laid out for what is known of its blocks. They are calls, so that only one of them takes room on the
     // stack.
-    if has_lanes::<8, 1>(setting) {
-        return decode_in_lanes::<I, O, 8, 1>(setting, asked, intake, outlet);
+    if has_lanes::<1>(setting) {
+        return decode_sizes::<I, O, 1>(setting, asked, intake, outlet);
     }
-    if has_lanes::<16, 1>(setting) {
-        return decode_in_lanes::<I, O, 16, 1>(setting, asked, intake, outlet);
-    }
-    if has_lanes::<32, 1>(setting) {
-        return decode_in_lanes::<I, O, 32, 1>(setting, asked, intake, outlet);
-    }
-    if has_lanes::<64, 1>(setting) {
-        return decode_in_lanes::<I, O, 64, 1>(setting, asked, intake, outlet);
-    }
-    if has_lanes::<8, 2>(setting) {
-        return decode_in_lanes::<I, O, 8, 2>(setting, asked, intake, outlet);
-    }
-    if has_lanes::<16, 2>(setting) {
-        return decode_in_lanes::<I, O, 16, 2>(setting, asked, intake, outlet);
-    }
-    if has_lanes::<32, 2>(setting) {
-        return decode_in_lanes::<I, O, 32, 2>(setting, asked, intake, outlet);
-    }
-    if has_lanes::<64, 2>(setting) {
-        return decode_in_lanes::<I, O, 64, 2>(setting, asked, intake, outlet);
-    }
-    if has_lanes::<0, 1>(setting) {
-        return decode_in_lanes::<I, O, 0, 1>(setting, asked, intake, outlet);
-    }
-    if has_lanes::<0, 2>(setting) {
-        return decode_in_lanes::<I, O, 0, 2>(setting, asked, intake, outlet);
+    if has_lanes::<2>(setting) {
+        return decode_sizes::<I, O, 2>(setting, asked, intake, outlet);
     }
     if is_plain::<1>(setting) {
         return decode_plain::<I, O, 1>(setting, asked, intake, outlet);
@@ -178,16 +154,41 @@ fn decode_counted<I: Intake, O: Outlet>(
     decode_blocks::<I, O, 0, 0>(setting, Some(count), intake, outlet)
 }
 
-/// Returns whether blocks have samples of `WIDTH` bytes, and the decoder may give their bytes at one stroke; and, unless `SIZE` is 0,
-/// that many samples.
-pub(crate) fn has_lanes<const SIZE: usize, const WIDTH: usize>(setting: &Setting) -> bool
+/// Returns whether samples have `WIDTH` bytes, and the decoder may give the bytes of a block of them at one stroke.
+pub(crate) fn has_lanes<const WIDTH: usize>(setting: &Setting) -> bool
     requires widths { (WIDTH ≡ 1) ⊎ (WIDTH ≡ 2) }
-    ensures size { result ≡ true → 0 < SIZE → SIZE ≡ setting.now.block }
-    ensures lanes { result ≡ true → HasLanes setting.now setting.now.block WIDTH }
+    ensures { result ≡ true → HasLanes setting.now setting.now.block WIDTH }
 {
     let bits = setting.bits() as usize;
     let wide = 8 * (WIDTH - 1) < bits && bits <= 8 * WIDTH;
-    wide && setting.preprocess() && (SIZE == 0 || setting.block() as usize == SIZE)
+    wide && setting.preprocess()
+}
+
+/// Decodes blocks of samples of `WIDTH` bytes that may be decoded at one stroke, by the loop for their size.
+#[inline(always)]
+fn decode_sizes<I: Intake, O: Outlet, const WIDTH: usize>(
+    setting: &Setting,
+    asked: Option<u64>,
+    intake: I,
+    outlet: &mut O,
+) -> (Outcome, I)
+    requires lanes { HasLanes setting.now setting.now.block WIDTH }
+    requires reads { I.failed intake + 1 < 2 ^ 64 }
+    requires writes { O.failed outlet.old + 1 < 2 ^ 64 }
+    ensures call { DecodesBetween setting.now asked (I.left intake) (I.left result.1)
+        (O.taken outlet.old) (O.taken outlet.new) result.0.report result.0.fault }
+    ensures failures { Fails result.0.fault (I.failed intake) (I.failed result.1)
+        (O.failed outlet.old) (O.failed outlet.new) }
+    ensures bounds { DecodesWithin asked result.0.report }
+    ensures idle { asked ≡ Some 0 → result.1 ≡ intake }
+{
+    match setting.block() {
+        8 => decode_in_lanes::<I, O, 8, WIDTH>(setting, asked, intake, outlet),
+        16 => decode_in_lanes::<I, O, 16, WIDTH>(setting, asked, intake, outlet),
+        32 => decode_in_lanes::<I, O, 32, WIDTH>(setting, asked, intake, outlet),
+        64 => decode_in_lanes::<I, O, 64, WIDTH>(setting, asked, intake, outlet),
+        _ => decode_in_lanes::<I, O, 0, WIDTH>(setting, asked, intake, outlet),
+    }
 }
 
 /// Decodes blocks of `SIZE` samples, unless that is 0, of `WIDTH` bytes that may be decoded at one stroke.

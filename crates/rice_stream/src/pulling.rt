@@ -40,35 +40,11 @@ pub fn decode_more(
         return (*stand, Pause::TooLong);
     }
     // As `decode`, it has a loop for each shape of blocks.
-    if has_lanes::<8, 1>(setting) {
-        return decode_piece::<8, 1, false>(setting, stand, piece, samples);
+    if has_lanes::<1>(setting) {
+        return decode_piece_of_sizes::<1>(setting, stand, piece, samples);
     }
-    if has_lanes::<16, 1>(setting) {
-        return decode_piece::<16, 1, false>(setting, stand, piece, samples);
-    }
-    if has_lanes::<32, 1>(setting) {
-        return decode_piece::<32, 1, false>(setting, stand, piece, samples);
-    }
-    if has_lanes::<64, 1>(setting) {
-        return decode_piece::<64, 1, false>(setting, stand, piece, samples);
-    }
-    if has_lanes::<8, 2>(setting) {
-        return decode_piece::<8, 2, false>(setting, stand, piece, samples);
-    }
-    if has_lanes::<16, 2>(setting) {
-        return decode_piece::<16, 2, false>(setting, stand, piece, samples);
-    }
-    if has_lanes::<32, 2>(setting) {
-        return decode_piece::<32, 2, false>(setting, stand, piece, samples);
-    }
-    if has_lanes::<64, 2>(setting) {
-        return decode_piece::<64, 2, false>(setting, stand, piece, samples);
-    }
-    if has_lanes::<0, 1>(setting) {
-        return decode_piece::<0, 1, false>(setting, stand, piece, samples);
-    }
-    if has_lanes::<0, 2>(setting) {
-        return decode_piece::<0, 2, false>(setting, stand, piece, samples);
+    if has_lanes::<2>(setting) {
+        return decode_piece_of_sizes::<2>(setting, stand, piece, samples);
     }
     if is_plain::<1>(setting) {
         return decode_piece::<0, 1, true>(setting, stand, piece, samples);
@@ -80,6 +56,29 @@ pub fn decode_more(
         return decode_piece::<0, 4, true>(setting, stand, piece, samples);
     }
     decode_piece::<0, 0, false>(setting, stand, piece, samples)
+}
+
+/// Decodes a piece that does not pass the limit of a code, of blocks of samples of `WIDTH` bytes whose bytes may be known at one stroke,
+/// by the loop for their size.
+#[inline(always)]
+fn decode_piece_of_sizes<const WIDTH: usize>(
+    setting: &Setting,
+    stand: &Stand,
+    piece: &[u8],
+    samples: &mut [u8],
+) -> (Stand, Pause)
+    requires lanes { HasLanes setting.now setting.now.block WIDTH }
+    requires fits { stand.now.bits + 8 * length piece.now ≤ most_bits_read }
+    requires stand { IsSomeStand setting.now stand.now }
+    ensures { DecodesOn setting.now stand.now piece.now samples.old samples.new result.0 result.1 }
+{
+    match setting.block() {
+        8 => decode_piece::<8, WIDTH, false>(setting, stand, piece, samples),
+        16 => decode_piece::<16, WIDTH, false>(setting, stand, piece, samples),
+        32 => decode_piece::<32, WIDTH, false>(setting, stand, piece, samples),
+        64 => decode_piece::<64, WIDTH, false>(setting, stand, piece, samples),
+        _ => decode_piece::<0, WIDTH, false>(setting, stand, piece, samples),
+    }
 }
 
 /// Decodes a piece that does not pass the limit of a code. `WIDTH`, if it is not 0, is the number of bytes of each sample of blocks whose
