@@ -1,5 +1,5 @@
 -- The command line, as its parser reads it.
-use Rattle.std.specs.Prelude.{◌≡◌, ◌⊎◌, ℕ, Bool, true, false, List, [], ◌∷◌, codes, Some}
+use Rattle.std.specs.Prelude.{◌≡◌, ◌⊎◌, ℕ, Bool, true, false, List, [], ◌∷◌, ◌++◌, codes, Some}
 use Rattle.std.specs.Option.{option_map_or}
 use Rattle.std.specs.Str.{bytes_eq}
 use Rattle.clap.specs.Words.{Rule, App, Row, Text, IsAmong, new_rule, one_of, rows_of, found_of, matches_of, fault_of, with_rule}
@@ -36,19 +36,34 @@ samples_rule =
 abbrev pub name_rule : Text → Rule
 name_rule id = record (new_rule id) { value_names = 1; required = true }
 
+-- the rules of the options of one letter, in alphabetical order up to `-j`
+abbrev pub rules_up_to_j : List Rule
+rules_up_to_j =
+    flag_rule (codes "3") 51 (codes "three-bytes") ∷ flag_rule (codes "N") 78 (codes "no-preprocess") ∷ buffer_rule
+    ∷ flag_rule (codes "d") 100 (codes "decompress") ∷ number_rule (codes "j") 106 (codes "block") (codes "8") ∷ []
+
+-- those from `-m` on
+abbrev pub rules_from_m : List Rule
+rules_from_m =
+    flag_rule (codes "m") 109 (codes "big-endian") ∷ number_rule (codes "n") 110 (codes "bits") (codes "8")
+    ∷ flag_rule (codes "p") 112 (codes "pad") ∷ number_rule (codes "r") 114 (codes "interval") (codes "2")
+    ∷ flag_rule (codes "s") 115 (codes "signed") ∷ []
+
+-- those that have no letter
+abbrev pub long_rules : List Rule
+long_rules = samples_rule ∷ long_flag_rule (codes "test") ∷ long_flag_rule (codes "verbose") ∷ []
+
+-- a command with these rules behind its own
+abbrev pub with_rules : App → List Rule → App
+with_rules a [] = a
+with_rules a (rule ∷ rules) = with_rules (with_rule a rule) rules
+
 -- The command of a test: the options and one name, in order.
 unfoldable pub aec_test : App
 aec_test = record {
   top = record (new_shape (codes "aec")) {
     has_version = true;
-    rules =
-        flag_rule (codes "3") 51 (codes "three-bytes") ∷ flag_rule (codes "N") 78 (codes "no-preprocess") ∷ buffer_rule
-        ∷ flag_rule (codes "d") 100 (codes "decompress") ∷ number_rule (codes "j") 106 (codes "block") (codes "8")
-        ∷ flag_rule (codes "m") 109 (codes "big-endian") ∷ number_rule (codes "n") 110 (codes "bits") (codes "8")
-        ∷ flag_rule (codes "p") 112 (codes "pad") ∷ number_rule (codes "r") 114 (codes "interval") (codes "2")
-        ∷ flag_rule (codes "s") 115 (codes "signed") ∷ samples_rule ∷ long_flag_rule (codes "test")
-        ∷ long_flag_rule (codes "verbose")
-        ∷ name_rule (codes "source") ∷ [];
+    rules = rules_up_to_j ++ rules_from_m ++ long_rules ++ name_rule (codes "source") ∷ [];
   };
   subs = [];
 }

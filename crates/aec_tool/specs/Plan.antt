@@ -100,11 +100,16 @@ plan_with_entries f (Some bits) (Some block) (Some interval) (Some source) =
     plan_with_setting f source (setting_in f bits block interval)
 plan_with_entries f bits block interval source = Err fault.Unreadable
 
+-- the plan that the entries give besides those that `plan_in` looks at first
+abbrev pub plan_by_entries : Found → Result PlanView PlanFault
+plan_by_entries f =
+    plan_with_entries f (number_in (2 ^ 32) f (codes "n")) (number_in (2 ^ 32) f (codes "j"))
+    (number_in (2 ^ 32) f (codes "r")) (first_value f (codes "source"))
+
 -- the plan that the entries give, or the first reason to refuse them
 abbrev pub plan_in : Found → Result PlanView PlanFault
 plan_in f =
     if is_some (samples_in f) && not (decodes f) then Err fault.SamplesWithoutDecode
     else (if tests f && is_some (first_value f (codes "dest")) then Err fault.TestWithDest
     else (if not (tests f) && not (is_some (first_value f (codes "dest"))) then Err fault.Unreadable
-    else plan_with_entries f (number_in (2 ^ 32) f (codes "n")) (number_in (2 ^ 32) f (codes "j"))
-    (number_in (2 ^ 32) f (codes "r")) (first_value f (codes "source"))))
+    else plan_by_entries f))

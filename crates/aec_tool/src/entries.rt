@@ -1,11 +1,11 @@
 //! The entries of the parsed command line.
-ghost use Rattle.std.specs.Prelude.{◌≡◌, ◌^◌};
-ghost use Rattle.clap.specs.Words.{found_of};
-ghost use Rattle.aec_tool.specs.Plan.{is_flagged, number_in, plan_in, answer_view};
+ghost use Rattle.std.specs.Prelude.{◌≡◌, ◌^◌, codes, option_map};
+ghost use Rattle.clap.specs.Words.{first_value, found_of};
+ghost use Rattle.aec_tool.specs.Plan.{answer_view, decodes, is_flagged, number_in, plan_by_entries, plan_in, samples_in, setting_in};
 
 use crate::plan::{Plan, PlanFault};
 use clap::ArgMatches;
-use rice_samples::Setting;
+use rice_samples::{Setting, SettingFault};
 
 /// Returns whether a flag was used.
 pub fn is_used(matches: &ArgMatches<'_>, id: &str) -> bool
@@ -28,6 +28,23 @@ fn long_number(matches: &ArgMatches<'_>, id: &str) -> Option<u64>
     matches.get_one::<u64>(id)
 }
 
+/// Returns the setting of these numbers and of the flags that were used.
+fn setting_of(
+    matches: &ArgMatches<'_>,
+    bits: u32,
+    block: u32,
+    interval: u32,
+) -> Result<Setting, SettingFault>
+    ensures { result ≡ setting_in (found_of matches.now) bits block interval }
+{
+    let signed = is_used(matches, "s");
+    let msb = is_used(matches, "m");
+    let three = is_used(matches, "3");
+    let preprocess = !is_used(matches, "N");
+    let pad = is_used(matches, "p");
+    Setting::new(bits, block, interval, signed, msb, three, preprocess, pad)
+}
+
 /// The plan that the matches ask for. Refused, in this order, are `--samples` without `-d`, a test with a destination, a missing or
 /// unreadable entry, and what `Setting::new` refuses.
 pub fn plan_of<'a>(matches: &ArgMatches<'a>) -> Result<Plan<'a>, PlanFault>
@@ -46,6 +63,21 @@ pub fn plan_of<'a>(matches: &ArgMatches<'a>) -> Result<Plan<'a>, PlanFault>
     if !test && dest.is_none() {
         return Err(PlanFault::Unreadable);
     }
+    plan_with_entries(matches, decode, samples, dest)
+}
+
+/// Returns the plan of the entries that are still to be read.
+fn plan_with_entries<'a>(
+    matches: &ArgMatches<'a>,
+    decode: bool,
+    samples: Option<u64>,
+    dest: Option<&'a str>,
+) -> Result<Plan<'a>, PlanFault>
+    requires decode { decode ≡ decodes (found_of matches.now) }
+    requires samples { samples ≡ samples_in (found_of matches.now) }
+    requires dest { option_map (λ name. name.now) dest ≡ first_value (found_of matches.now) (codes "dest") }
+    ensures { answer_view result ≡ plan_by_entries (found_of matches.now) }
+{
     let Some(bits) = number(matches, "n") else {
         return Err(PlanFault::Unreadable);
     };
@@ -58,13 +90,8 @@ pub fn plan_of<'a>(matches: &ArgMatches<'a>) -> Result<Plan<'a>, PlanFault>
     let Some(source) = matches.get_str("source") else {
         return Err(PlanFault::Unreadable);
     };
-    let signed = is_used(matches, "s");
-    let msb = is_used(matches, "m");
-    let three = is_used(matches, "3");
-    let preprocess = !is_used(matches, "N");
-    let pad = is_used(matches, "p");
     let verbose = is_used(matches, "verbose");
-    match Setting::new(bits, block, interval, signed, msb, three, preprocess, pad) {
+    match setting_of(matches, bits, block, interval) {
         Ok(setting) => Ok(Plan {
             setting,
             decode,
