@@ -1,5 +1,5 @@
 //! Sixteen fundamental sequences at a time.
-ghost use Rattle.std.specs.Prelude.{◌≤◌, IfSome};
+ghost use Rattle.std.specs.Prelude.{◌*◌, ◌≤◌, IfSome};
 ghost use Rattle.rice_bits.specs.Bits.{word};
 ghost use Rattle.rice_bits.specs.lanes.Sequences.{BeginWithSequences};
 
@@ -20,7 +20,8 @@ pub struct Sequences {
 pub fn first_sequences(front: u64, bytes: usize, count: usize) -> Option<Sequences>
     requires bytes { (1 ≤ bytes) × (bytes ≤ 7) }
     requires count { (1 ≤ count) × (count ≤ 16) }
-    ensures { IfSome result (λ s. BeginWithSequences (word 64 front) count s.numbers s.len) }
+    ensures begin { IfSome result (λ s. BeginWithSequences (word 64 front) count s.numbers s.len) }
+    ensures within { IfSome result (λ s. s.len ≤ 8 * bytes) }
 {
     if ones_in(front, bytes) < count {
         return None;

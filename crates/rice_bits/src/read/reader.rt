@@ -492,6 +492,31 @@ impl<I: Intake> BitReader<I> {
         self.window.number_ahead(skip, width)
     }
 
+    /// Returns the number that the first `width` bits that wait spell, where 57 wait. It takes none.
+    #[inline(always)]
+    pub fn first_number(&self, width: u32) -> u32
+        requires width { width ≤ 32 }
+        requires there { 57 ≤ length self.now.waiting }
+        ensures below { result < 2 ^ width }
+        ensures bits { word width result ≡ take width self.now.waiting }
+    {
+        self.window.first_number(width)
+    }
+
+    /// Returns the first `count` fundamental sequences that wait behind the first `skip` bits, as [`sequences_ahead`](Self::sequences_ahead)
+    /// does, where these bytes end within the first 57 bits: with a number before them, all is one load.
+    #[inline(always)]
+    pub fn sequences_soon(&self, skip: usize, bytes: usize, count: usize) -> Option<Sequences>
+        requires bytes { (1 ≤ bytes) × (bytes ≤ 7) }
+        requires count { (1 ≤ count) × (count ≤ 16) }
+        requires within { skip + 8 * bytes ≤ 57 }
+        requires there { 57 ≤ length self.now.waiting }
+        ensures { IfSome result (λ s.
+            BeginWithSequences (drop skip self.now.waiting) count s.numbers s.len) }
+    {
+        self.window.sequences_soon(skip, bytes, count)
+    }
+
     /// Returns the first `count` fundamental sequences that wait behind the first `skip` bits, if they end within so many bytes.
     /// It takes none.
     #[inline(always)]

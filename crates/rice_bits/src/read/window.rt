@@ -223,6 +223,32 @@ impl Window {
         number_from(&self.buffer, self.at + skip, width) as u32
     }
 
+    /// Returns the number that the first `width` bits spell.
+    #[inline(always)]
+    pub fn first_number(&self, width: u32) -> u32
+        requires window { IsWindow self.now }
+        requires width { width ≤ 32 }
+        requires there { 57 ≤ length (window_bits self.now) }
+        ensures below { result < 2 ^ width }
+        ensures bits { word width result ≡ take width (window_bits self.now) }
+    {
+        front_digits(self.ahead(), width) as u32
+    }
+
+    /// As `sequences_ahead`, where these bytes end within the first 57 bits.
+    #[inline(always)]
+    pub fn sequences_soon(&self, skip: usize, bytes: usize, count: usize) -> Option<Sequences>
+        requires window { IsWindow self.now }
+        requires bytes { (1 ≤ bytes) × (bytes ≤ 7) }
+        requires count { (1 ≤ count) × (count ≤ 16) }
+        requires within { skip + 8 * bytes ≤ 57 }
+        requires there { 57 ≤ length (window_bits self.now) }
+        ensures { IfSome result (λ s.
+            BeginWithSequences (drop skip (window_bits self.now)) count s.numbers s.len) }
+    {
+        first_sequences(self.ahead() << skip, bytes, count)
+    }
+
     /// Returns the first `count` fundamental sequences behind the first `skip` bits, if they end within so many bytes.
     #[inline(always)]
     pub fn sequences_ahead(&self, skip: usize, bytes: usize, count: usize) -> Option<Sequences>

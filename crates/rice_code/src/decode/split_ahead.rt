@@ -30,7 +30,7 @@ pub fn split_ahead<I: Intake, const WIDTH: usize>(
     if reader.waiting() < LOOKS {
         return None;
     }
-    let id = reader.number_ahead(0, WIDTH as u32 + 2);
+    let id = reader.first_number(WIDTH as u32 + 2);
     if id < 1 || id > 3 + 3 * WIDTH as u32 {
         return None;
     }

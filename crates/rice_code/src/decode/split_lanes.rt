@@ -132,7 +132,7 @@ fn plain_parts<I: Intake, const WIDTH: usize>(
         p.from 16 p.highs p.lows p.len) }
 {
     let head = WIDTH + 2;
-    let sequences = reader.sequences_ahead(head, sequence_bytes(size), size)?;
+    let sequences = reader.sequences_soon(head, sequence_bytes(size), size)?;
     let words = head + sequences.len;
     Some(PartLanes {
         from: before,

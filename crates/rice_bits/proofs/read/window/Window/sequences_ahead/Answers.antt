@@ -15,4 +15,4 @@ bits_from-requires c =
 
 pub returns : goal.returns
 returns c =
-    sequences-wait c.args.self.now c.args.skip c.args.count c.bits_from.result c.first_sequences.result c.requires.window c.requires.there c.bits_from.ensures c.first_sequences.ensures
+    sequences-wait c.args.self.now c.args.skip c.args.count c.bits_from.result c.first_sequences.result c.requires.window c.requires.there c.bits_from.ensures c.first_sequences.ensures.begin
