@@ -17,7 +17,7 @@ import edit_places
 ENSURES = re.compile(r"(?m)^ *ensures(?: (\w+))? \{")
 MODULE = re.compile(r"(?m)^pub mod (\w+);")
 EXPORTED = re.compile(r"(?m)^pub use ([\w:]+?)(?:::\{(.*?)\})?;")
-TURNED = re.compile(r"(?m)^\| `(\w+)` \| `(\S+)` \| (`\w+`(?:, `\w+`)*) \|$")
+TURNED = re.compile(r"(?m)^\| `([\w-]+)` \| `(\S+)` \| (`\w+`(?:, `\w+`)*) \|$")
 EXCUSED = re.compile(r"(?m)^\| `(\S+::\S+)` \| (`\w+`(?:, `\w+`)*) \| (\S.*) \|$")
 # The name of a clause that has none of its own.
 UNNAMED = "ensures"
