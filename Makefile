@@ -205,7 +205,7 @@ check:
 	$(call are_built,aec,aec)
 	$(call are_built,librice.a librice.so,library)
 	scripts/rows.py ./aec scripts/rows.txt librice.so
-	scripts/devices ./aec
+	scripts/hostile_devices ./aec
 	scripts/hostile.py ./aec 1000
 
 dist:
@@ -241,7 +241,7 @@ rows: aec library
 	scripts/rows.py ./aec scripts/rows.txt librice.so
 
 hostile: aec
-	scripts/devices ./aec
+	scripts/hostile_devices ./aec
 	scripts/hostile.py ./aec $(RANDOM_INPUTS)
 
 interop: aec
@@ -324,7 +324,7 @@ bench-library: library
 	scripts/bench_library librice.a
 
 wrappers:
-	scripts/wrappers.py
+	scripts/wrong_wrappers.py
 
 clauses:
 	scripts/clauses.py
@@ -333,7 +333,7 @@ trusted:
 	scripts/trusted.py
 
 imports:
-	scripts/imports.py
+	scripts/unused_imports.py
 
 plant:
-	scripts/plant.py
+	scripts/plant_wrong_bodies.py

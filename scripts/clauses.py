@@ -5,9 +5,12 @@ A crate's must-fail/clauses.md has a table of edits with the clauses whose goals
 to, and one of clauses that no edit can turn, with reasons. Here each clause of a public function (its `ensures`) has to stand
 in one of them, and nothing else may. The laws are functions that do nothing, so there is nothing in them to turn.
 
+An edit of one function's body has that function's name before the hyphen of its own, behind its type or its file where there is more.
+
 usage: clauses
 """
 import collections
+import glob
 import os
 import re
 import sys
@@ -89,6 +92,26 @@ def excused(crate):
     return {(function, it) for function, names, _ in EXCUSED.findall(read(page(crate))) for it in re.findall(r"\w+", names)}
 
 
+def function_of(crate, path, texts):
+    """Returns the name of the function whose body alone an edit changes, or None."""
+    text = read(path)
+    files, olds = re.findall(r"(?m)^file: (.*)$", text), re.findall(r"(?m)^old: (.*)$", text)
+    if len(files) != 1 or files[0] not in texts:
+        return None
+    source = texts[files[0]]
+    functions = edit_places.functions_in(crate, files[0], source)
+    places = [(source.find(it), source.find(it) + len(it)) for it in olds]
+    found = {edit_places.around(functions, first, last, "") for first, last in places}
+    return found.pop().name.split("::")[-1] if len(found) == 1 and None not in found else None
+
+
+def misnamed(crate, texts):
+    """Returns the edits of one function's body whose name does not begin with it, each with the function's name."""
+    paths = sorted(glob.glob(f"crates/{crate}/must-fail/*.edit"))
+    named = [(os.path.basename(it).removesuffix(".edit"), function_of(crate, it, texts)) for it in paths]
+    return [(edit, it) for edit, it in named if it and not f"_{edit}".partition("-")[0].endswith(f"_{it}")]
+
+
 def unread_rows(crate):
     """Returns the rows of the crate's page that are neither of these."""
     rows = [it for it in read(page(crate)).splitlines() if it.startswith("| `")]
@@ -107,6 +130,7 @@ def faults(crate):
     found += [f"an edit turns what is excused: {name} {it}" for name, it in sorted(excuses & named)]
     found += [f"no function {name}" for name in sorted({it for it, _ in named} - own)]
     found += [f"no edit {it}" for it in sorted(edits) if not os.path.exists(f"crates/{crate}/must-fail/{it}.edit")]
+    found += [f"the edit {edit} is not named after {it}" for edit, it in misnamed(crate, sources(crate))]
     return [f"{page(crate)}: {it}" for it in found], [len(functions), len(clauses), len(clauses & named), len(excuses)]
 
 

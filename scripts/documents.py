@@ -119,7 +119,7 @@ def wrong_edits():
     """The edits that docs/PROOFS.md names and that are none, and those that it does not name."""
     tables = re.findall(r"(?m)^\|.*\| edits that must fail \|\n((?:\|.*\n)*)", read("docs/PROOFS.md"))
     cells = [row.rpartition("|")[0].rpartition("|")[2] for table in tables for row in table.splitlines()]
-    named = {name for cell in cells if cell.startswith(" `") for name in re.findall(r"`(\w+)`", cell)}
+    named = {name for cell in cells if cell.startswith(" `") for name in re.findall(r"`([\w-]+)`", cell)}
     edits = {os.path.basename(path).removesuffix(".edit") for path in glob.glob("crates/*/must-fail/*.edit")}
     for name in sorted(named - edits):
         yield f"docs/PROOFS.md: no edit {name}"

@@ -22,7 +22,7 @@ except ImportError as why:
     print(f"gate.py: {why}: so this is rt ci alone, which tries each edit by a check of its own", flush=True)
     os.execvp("rt", ["rt", "ci"])
 import edits
-import lanes
+import gate_tasks
 
 CONTROLS = "scripts/edit_controls"
 # What the last run said, for scripts/release.
@@ -49,7 +49,7 @@ def in_lanes(tasks, tried):
             tasks[key] = waits, lines, memory * SHARE_OF_MEMORY, set_aside_by(key[0], call)
         elif key[1] == "tests":
             tasks[key] = [*waits, (key[0], "proof")], lines, memory * SHARE_OF_MEMORY, call
-    run = lanes.Lanes(tasks, rt.processors(), 0.85 * rt.free())
+    run = gate_tasks.Lanes(tasks, rt.processors(), 0.85 * rt.free())
     try:
         return run.run()
     finally:

@@ -1,5 +1,5 @@
 -- What contracts see of the devices that give and take bytes.
-pub mod Buffered
+pub mod OverBufWriter
 pub mod Failures
 pub mod Outlet
 pub mod OverStd

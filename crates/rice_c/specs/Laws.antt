@@ -7,15 +7,15 @@ use Rattle.rice_code.specs.code.Code.{output}
 use Rattle.rice_stream.specs.Laws.{IsPlace, place_at, place_behind}
 use Rattle.rice_stream.specs.Pulling.{Origin, IsStand}
 use Rattle.rice_stream.specs.declared.seam.Seam.{Seam}
-use Rattle.rice_c.specs.declared.drain.RiceDrain.{RiceDrain}
-use Rattle.rice_c.specs.declared.feed.RiceFeed.{RiceFeed}
+use Rattle.rice_c.specs.declared.pulling.RiceDrain.{RiceDrain}
+use Rattle.rice_c.specs.declared.feeding.RiceFeed.{RiceFeed}
 use Rattle.rice_c.specs.declared.report.RiceReport.{RiceReport}
 use Rattle.rice_c.specs.declared.setting.RiceSetting.{RiceSetting}
 use Rattle.rice_c.specs.declared.status.Status.{Status}
 use Rattle.rice_c.specs.declared.status.Status.TheVariants.{Done, NoRoom, CodeEnds, RunPastSegment, ResidualTooLarge, OnlyZeros, MoreCode}
 use Rattle.rice_c.specs.Calls.{EncodesInto, DecodesInto, StandsInFront}
-use Rattle.rice_c.specs.Drains.{OpensDrain, PullsInto}
-use Rattle.rice_c.specs.Feeds.{Begins, PushesInto, FinishesInto}
+use Rattle.rice_c.specs.Pulling.{OpensDrain, PullsInto}
+use Rattle.rice_c.specs.Feeding.{Begins, PushesInto, FinishesInto}
 use Rattle.rice_c.specs.Rooms.{code_room, push_room}
 use Rattle.rice_c.specs.Statuses.{status_number}
 

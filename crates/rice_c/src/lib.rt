@@ -4,9 +4,9 @@
 #![tactic(auto)]
 
 pub mod coding;
-pub mod drain;
-pub mod feed;
+pub mod feeding;
 pub mod laws;
+pub mod pulling;
 pub mod report;
 pub mod setting;
 pub mod spelling;
@@ -18,6 +18,6 @@ const _: () = prove!(size_of::<setting::RiceSetting>() == 20);
 
 const _: () = prove!(size_of::<report::RiceReport>() == 40);
 
-const _: () = prove!(size_of::<feed::RiceFeed>() == 72);
+const _: () = prove!(size_of::<feeding::RiceFeed>() == 72);
 
-const _: () = prove!(size_of::<drain::RiceDrain>() == 64);
+const _: () = prove!(size_of::<pulling::RiceDrain>() == 64);

@@ -1,9 +1,9 @@
 -- What contracts see of the decoder, and what its parts say to each other.
-pub mod BlocksAhead
+pub mod BlocksInOnePass
 pub mod BlocksInRow
 pub mod Decoder
 pub mod DecoderState
-pub mod Rows
+pub mod RowsOfFields
 pub mod PlainBlocks
 pub mod ReadSets
 pub mod BlockResiduals

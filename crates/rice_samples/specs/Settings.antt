@@ -2,7 +2,7 @@
 use Rattle.std.specs.Prelude.{ℕ, Bool, ◌≡◌, ◌+◌, ◌≤◌, ◌%◌, if◌then◌else◌, nat_le, ◌&&◌, ◌||◌, ◌==◌, Result, Ok, Err}
 use Rattle.rice_samples.specs.Limits.{longest_interval}
 use Rattle.rice_samples.specs.Parameters.{Parameters, IsBlockSize, IsStandardSize, value_count}
-use Rattle.rice_samples.specs.bytes.Values.{offset as offset_of}
+use Rattle.rice_samples.specs.bytes.ValueRange.{offset as offset_of}
 use Rattle.rice_samples.specs.declared.setting.SettingFault.{SettingFault}
 use Rattle.rice_samples.specs.declared.setting.SettingFault.TheVariants.{BadBits, BadBlock, BadAnyBlock, BadInterval}
 

@@ -1,6 +1,6 @@
 -- Samples in bytes.
 pub mod PatternLanes
-pub mod SamplesAhead
+pub mod SampleReader
 pub mod SpelledPatterns
 pub mod Spelling
-pub mod Values
+pub mod ValueRange

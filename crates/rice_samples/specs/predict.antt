@@ -1,5 +1,5 @@
 -- The preprocessor.
 pub mod LevelsOfParts
-pub mod Near
+pub mod NearNumbers
 pub mod Residuals
 pub mod RestoredLevels

@@ -23,7 +23,7 @@ pub use bytes::writing::{write_spellings, write_spellings_as};
 pub use predict::preprocessor::{from_pattern, pattern, residual, restore};
 pub use predict::residuals::rows::pattern_at;
 pub use predict::restoring::byte_lanes::{LevelLanes, near_levels, spelled_bytes};
-pub use predict::restoring::bytes_in_turn::{joined_in_turn, levels_in_turn};
+pub use predict::restoring::bytes_in_turn::{levels_in_turn, levels_of_parts_in_turn};
 pub use predict::restoring::half_lanes::{LevelHalves, near_halves, spelled_words};
 pub use predict::restoring::halves_in_turn::halves_in_turn;
 pub use predict::restoring::levels::{

@@ -2,7 +2,7 @@
 ghost use Rattle.std.specs.Prelude.{◌≡◌, ◌-◌, ◌*◌, ◌^◌, ◌<◌, ◌≤◌, length, ℤ, pos, neg_ℤ, ◌≤ℤ◌, ◌<ℤ◌};
 ghost use Rattle.rice_samples.specs.bytes.Spelling.{ordered_bytes};
 ghost use Rattle.rice_samples.specs.predict.Residuals.{twos_complement};
-ghost use Rattle.rice_samples.specs.bytes.Values.{IsValue};
+ghost use Rattle.rice_samples.specs.bytes.ValueRange.{IsValue};
 
 use arrayvec::ArrayVec;
 
@@ -20,7 +20,7 @@ pub(crate) fn digits_of(x: i64, bits: u32) -> u32
 
 /// Returns the value with these `bits` binary digits, in two's complement if `signed`.
 #[inline]
-pub(crate) fn value_with(digits: u32, bits: u32, signed: bool) -> i64
+pub(crate) fn value_of_digits(digits: u32, bits: u32, signed: bool) -> i64
     requires bits { (1 ≤ bits) × (bits ≤ 32) }
     requires digits { digits < 2 ^ bits }
     ensures value { IsValue bits signed result }
@@ -63,7 +63,7 @@ pub(crate) fn bytes_with(word: u32, width: u32, msb: bool) -> ArrayVec<u8, 4>
     let mut bytes = [0; 4];
     let lowest = &mut bytes[..width as usize];
     store_word(word, msb, lowest);
-    vector_of(lowest)
+    byte_vector_of(lowest)
 }
 
 /// Stores the lowest bytes of a word in all places of a slice.
@@ -90,7 +90,7 @@ pub(crate) fn store_word(word: u32, msb: bool, bytes: &mut [u8])
 
 /// Returns the bytes in a vector.
 #[inline]
-fn vector_of(bytes: &[u8]) -> ArrayVec<u8, 4>
+fn byte_vector_of(bytes: &[u8]) -> ArrayVec<u8, 4>
     requires { length bytes.now ≤ 4 }
     ensures { result.items ≡ bytes.now }
 {

@@ -5,7 +5,7 @@ ghost use Rattle.rice_samples.specs.Parameters.{Parameters, IsLegal, IsSample, i
 ghost use Rattle.rice_samples.specs.Places.{segment_blocks, blocks_left, is_reference};
 ghost use Rattle.rice_samples.specs.Parameters.{IsBlockSize, IsStandardSize};
 ghost use Rattle.rice_samples.specs.Settings.{parameters, setting_of, any_setting_of, IsRefused, IsRefusedOfAny};
-ghost use Rattle.rice_samples.specs.bytes.Values.{offset};
+ghost use Rattle.rice_samples.specs.bytes.ValueRange.{offset};
 
 use std::marker::Model;
 use thiserror::Error;
@@ -47,7 +47,7 @@ impl Model for Setting {
     ghost use Rattle.std.specs.Prelude.{◌-◌};
     ghost use Rattle.rice_samples.specs.Parameters.{Parameters, IsLegal, value_count};
     ghost use Rattle.rice_samples.specs.Settings.{parameters, HasLevels};
-    ghost use Rattle.rice_samples.specs.bytes.Values.{offset as offset_of};
+    ghost use Rattle.rice_samples.specs.bytes.ValueRange.{offset as offset_of};
 
     ghost Value = { Parameters };
 

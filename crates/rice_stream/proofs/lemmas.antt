@@ -6,7 +6,7 @@ pub mod DecodingLemmas
 pub mod EncodingEnds
 pub mod EncodingLemmas
 pub mod FedPieces
-pub mod LevelLemmas
+pub mod SamplesByLevels
 pub mod OneDecoding
 pub mod SamplesInParts
 pub mod OnePulledPiece

@@ -5,7 +5,7 @@ use Rattle.rice_bits.specs.device.Outlet.{Room, Appends}
 use Rattle.rice_bits.specs.Bits.{bits_in_bytes}
 use Rattle.rice_samples.specs.Limits.{most_input}
 use Rattle.rice_samples.specs.Parameters.{Parameters, value_count, width}
-use Rattle.rice_samples.specs.bytes.SamplesAhead.{SamplesAhead}
+use Rattle.rice_samples.specs.bytes.SampleReader.{SamplesAhead}
 use Rattle.rice_samples.specs.bytes.Spelling.{Reads, EndsSpelling, NoSpelling}
 use Rattle.rice_stream.specs.Calls.{StopsBetween}
 use Rattle.rice_code.specs.code.Code.{code_bits, output, early_output, complete_samples}

@@ -7,6 +7,6 @@ pub mod EncodingState
 pub mod Feeding
 pub mod Laws
 pub mod Pulling
-pub mod Rows
-pub mod Runs
+pub mod RowsOfBlocks
+pub mod RunsOfBlocks
 pub mod FailedWrites

@@ -1,11 +1,11 @@
 //! Decodes samples that are not predicted, and use all bits of 1, 2 or 4 bytes: blocks without compression are copied.
 ghost use Rattle.std.specs.Prelude.{◌≡◌, ◌⊎◌, ◌+◌, ◌-◌, ◌*◌, ◌^◌, ◌<◌, ◌≤◌, Some, None, IfErr, IfOk, IfSome, OnErr, OnOk, true};
 ghost use Rattle.rice_bits.specs.Limits.{step_limit, most_bits_read};
-ghost use Rattle.rice_code.specs.decode.Rows.{AreCounted};
+ghost use Rattle.rice_code.specs.decode.RowsOfFields.{AreCounted};
 ghost use Rattle.rice_code.specs.decode.PlainBlocks.{IsPlain, PlainRow};
 ghost use Rattle.rice_stream.specs.Calls.{Fails};
 ghost use Rattle.rice_stream.specs.Decodes.{DecodesBetween, DecodesWithin, wanted_of};
-ghost use Rattle.rice_stream.specs.Rows.{FailsInRow, WritesRow};
+ghost use Rattle.rice_stream.specs.RowsOfBlocks.{FailsInRow, WritesRow};
 
 use crate::decoding::{end_of, ended, fault_of, is_whole, wanted};
 use crate::outcome::{Fault, Outcome};

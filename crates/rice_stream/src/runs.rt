@@ -3,7 +3,7 @@ ghost use Rattle.std.specs.Prelude.{◌≡◌, ◌+◌, ◌*◌, ◌^◌, ◌<�
 ghost use Rattle.rice_samples.specs.Parameters.{IsSample, width as width_of};
 ghost use Rattle.rice_samples.specs.bytes.Spelling.{spellings};
 ghost use Rattle.rice_stream.specs.Decodes.{wanted_of};
-ghost use Rattle.rice_stream.specs.Runs.{FailsInRun, WritesRun, repeated};
+ghost use Rattle.rice_stream.specs.RunsOfBlocks.{FailsInRun, WritesRun, repeated};
 
 use crate::write::write_counted;
 use rice_bits::Outlet;
@@ -14,7 +14,7 @@ use rice_samples::{Setting, bytes_of};
 pub const ROOM: usize = 512;
 
 /// Fills the bytes with `count` copies of the pattern.
-fn repeat(pattern: &[u8], count: usize, bytes: &mut [u8])
+fn repeat_pattern(pattern: &[u8], count: usize, bytes: &mut [u8])
     requires pattern { 1 ≤ length pattern.now }
     requires count { 1 ≤ count }
     requires len { length bytes.old ≡ length pattern.now * count }
@@ -31,7 +31,7 @@ fn repeat(pattern: &[u8], count: usize, bytes: &mut [u8])
 }
 
 /// Fills the bytes with the spellings of `count` samples that are all `sample`.
-pub(crate) fn spell_again(setting: &Setting, sample: i64, count: usize, bytes: &mut [u8])
+pub(crate) fn spell_one_sample_again(setting: &Setting, sample: i64, count: usize, bytes: &mut [u8])
     requires sample { IsSample setting.now sample }
     requires count { 1 ≤ count }
     requires len { length bytes.old ≡ width_of setting.now * count }
@@ -44,7 +44,7 @@ pub(crate) fn spell_again(setting: &Setting, sample: i64, count: usize, bytes: &
         bytes.fill(pattern[0]);
         return;
     }
-    repeat(pattern, count, bytes);
+    repeat_pattern(pattern, count, bytes);
 }
 
 /// Returns how many of the next `run` blocks are written at once: those of which all samples are wanted, as many as `ROOM` bytes have
@@ -104,7 +104,7 @@ pub fn write_run<O: Outlet>(
     let count = block as usize * blocks as usize;
     let width = setting.width() as usize;
     let spelled = &mut bytes[..width * count];
-    spell_again(setting, sample, count, spelled);
+    spell_one_sample_again(setting, sample, count, spelled);
     match write_counted(outlet, spelled) {
         Ok(()) => Ok(count as u64),
         Err(taken) => Err((taken / (width * block as usize)) as u64 * block as u64),

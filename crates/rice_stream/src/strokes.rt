@@ -2,14 +2,14 @@
 ghost use Rattle.std.specs.Prelude.{◌≡◌, ◌+◌, ◌-◌, ◌*◌, ◌^◌, ◌<◌, ◌≤◌, true, false, ◌++◌, drop, length, replicate, take};
 ghost use Rattle.rice_samples.specs.Parameters.{IsSample, width as width_of};
 ghost use Rattle.rice_samples.specs.bytes.Spelling.{spellings};
-ghost use Rattle.rice_code.specs.decode.BlocksAhead.{HasLanes};
+ghost use Rattle.rice_code.specs.decode.BlocksInOnePass.{HasLanes};
 ghost use Rattle.rice_code.specs.decode.DecoderState.{IsDecoderState};
 ghost use Rattle.rice_code.specs.decode.PlainBlocks.{IsPlain};
 ghost use Rattle.rice_stream.specs.Pulling.{HasComeTo, TakesStroke, WritesStroke, stand_at};
 
 use crate::patience::Patience;
 use crate::plain::{blocks_wanted, row_ahead};
-use crate::runs::{blocks_at_once, spell_again};
+use crate::runs::{blocks_at_once, spell_one_sample_again};
 use crate::stand::Stand;
 use rice_bits::{BitReader, Meter, SliceIn};
 use rice_code::Decoder;
@@ -44,7 +44,7 @@ fn spell_again_at(setting: &Setting, sample: i64, count: usize, at: usize, sampl
         ++ drop (at + width_of setting.now * count) samples.old) }
 {
     let len = setting.width() as usize * count;
-    spell_again(setting, sample, count, &mut samples[at..at + len]);
+    spell_one_sample_again(setting, sample, count, &mut samples[at..at + len]);
 }
 
 /// Returns where decoding stands behind `samples` samples more. The reader had taken `before` bits at `stand`, and the steps of those
@@ -156,7 +156,7 @@ fn next_in_lanes<const SIZE: usize, const WIDTH: usize>(
 
 /// Writes the samples of the next blocks at this place, if they are not compressed and wait. Otherwise nothing has happened.
 #[inline(always)]
-fn next_row<const WIDTH: usize>(
+fn next_plain_blocks<const WIDTH: usize>(
     setting: &Setting,
     stand: &Stand,
     most: usize,
@@ -230,7 +230,9 @@ pub(crate) fn next_stroke<const SIZE: usize, const WIDTH: usize, const PLAIN: bo
         return Some(next_of_run(setting, stand, decoder, reader, at, samples));
     }
     if PLAIN {
-        return next_row::<WIDTH>(setting, stand, most, decoder, reader, bytes, at, samples);
+        return next_plain_blocks::<WIDTH>(
+            setting, stand, most, decoder, reader, bytes, at, samples,
+        );
     }
     if WIDTH == 0 || !patience.is_due() {
         return None;

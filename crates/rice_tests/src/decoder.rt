@@ -1,5 +1,5 @@
 ghost use Rattle.std.specs.Prelude.{◌≡◌, ◌+◌, ◌^◌, ◌<◌, true};
-ghost use Rattle.rice_code.specs.decode.BlocksAhead.{HasLanes};
+ghost use Rattle.rice_code.specs.decode.BlocksInOnePass.{HasLanes};
 
 use crate::case_table::{Columns, bytes_of, number_of, samples_of, setting_of};
 use crate::cases::Cases;

@@ -1,11 +1,11 @@
 -- Bits, words and bytes.
-pub mod Bytes
+pub mod BytesAndBits
 pub mod EightBytes
-pub mod FirstOnes
-pub mod Joining
-pub mod ReadInOneWay
-pub mod PieceSearch
+pub mod FirstOneOfWord
+pub mod JoinedBits
+pub mod WordsReadInOneWay
+pub mod PiecesAtFront
 pub mod WholeWords
 pub mod WordPairs
-pub mod Words
+pub mod WordsAndNumbers
 pub mod SinkBytes

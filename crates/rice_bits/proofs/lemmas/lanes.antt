@@ -1,6 +1,6 @@
 -- Lanes of ends, of numbers of zeros, and of words.
-pub mod LaneEnds
-pub mod LaneGaps
-pub mod LaneWords
-pub mod LaneWideWords
+pub mod EndsInLanes
+pub mod GapsInLanes
+pub mod WordsInTwoBytes
+pub mod WordsInFourBytes
 pub mod SequencesAhead

@@ -1,6 +1,6 @@
 -- What a reader takes, and where it stops.
-pub mod Blank
-pub mod Drawing
+pub mod BlankBits
+pub mod DrawnBytes
 pub mod FourWords
 pub mod TakenSequences
 pub mod EndsAndGapsLemmas

@@ -28,6 +28,10 @@ window_taken w = 8 * w.given - (w.end - w.at)
 abbrev pub bits_near : Window → ℕ
 bits_near w = min (64 - w.at % 8) (length (window_bits w))
 
+-- the words of `width` bits from bit `at` of some bytes on
+abbrev pub AreWordsFrom : List ℕ → ℕ → ℕ → List ℕ → Type 0
+AreWordsFrom bytes at width words = flat_map (word width) words ≡ take (length words * width) (drop at (bits_of bytes))
+
 pub record IsWindow (w : Window) : Type 0 where
   pub size : length w.buffer ≡ buffer_len
   pub marked : w.marked ≤ w.at

@@ -26,7 +26,7 @@ fn least_byte_first(word: u64) -> u8x8
 
 /// Writes the eight bytes of `word`, least significant first, from the place `at` on.
 #[inline]
-fn store(bytes: &mut [u8], at: usize, word: u64)
+fn store_least_byte_first(bytes: &mut [u8], at: usize, word: u64)
     requires { at + 8 ≤ length bytes.old }
     ensures { bytes.new ≡ take at bytes.old ++ (to_le_bytes w64 word ++ drop (at + 8) bytes.old) }
 {
@@ -39,13 +39,13 @@ pub fn store_word(bytes: &mut [u8], at: usize, digits: u64)
     requires { at + 8 ≤ length bytes.old }
     ensures { bytes.new ≡ take at bytes.old ++ (to_be_bytes w64 digits ++ drop (at + 8) bytes.old) }
 {
-    store(bytes, at, digits.swap_bytes());
+    store_least_byte_first(bytes, at, digits.swap_bytes());
 }
 
 /// Returns the digits of `byte` and then those of `word`, as the eight bytes that spell them, the first
 /// as the least significant.
 #[inline]
-fn joined(byte: u8, word: u64) -> u64
+fn joined_behind_byte(byte: u8, word: u64) -> u64
     requires { byte * 2 ^ 56 + word < 2 ^ 64 }
     ensures { to_le_bytes w64 result ≡ to_be_bytes w64 (byte * 2 ^ 56 + word) }
 {
@@ -62,8 +62,8 @@ pub fn join_bytes(bytes: &mut [u8], at: usize, word: u64)
         (to_be_bytes w64 (slice_index bytes.old at * 2 ^ 56 + word) ++ drop (at + 8) bytes.old)) }
 {
     if 8 <= bytes.len() && at <= bytes.len() - 8 {
-        let eight = joined(bytes[at], word);
-        store(bytes, at, eight);
+        let eight = joined_behind_byte(bytes[at], word);
+        store_least_byte_first(bytes, at, eight);
     } else if at < bytes.len() {
         join_last_bytes(bytes, at, word);
     }
@@ -80,14 +80,14 @@ fn join_last_bytes(bytes: &mut [u8], at: usize, word: u64)
         to_be_bytes w64 (slice_index bytes.old at * 2 ^ 56 + word)) }
 {
     let mut eight = [0; 8];
-    store(&mut eight, 0, joined(bytes[at], word));
+    store_least_byte_first(&mut eight, 0, joined_behind_byte(bytes[at], word));
     let left = bytes.len() - at;
     bytes[at..].copy_from_slice(&eight[..left]);
 }
 
 /// Joins a 1 at the bit number `at`.
 #[inline]
-pub fn join_one(bytes: &mut [u8], at: u64)
+pub fn join_one_bit(bytes: &mut [u8], at: u64)
     requires { at < 8 * length bytes.old }
     ensures { bytes.new ≡ set bytes.old (at / 8)
         (bit_or (slice_index bytes.old (at / 8)) (2 ^ (7 - at % 8))) }
@@ -99,7 +99,7 @@ pub fn join_one(bytes: &mut [u8], at: u64)
 /// Moves the byte at the place `at` to the front, or a zero where there is none, and writes zeros after
 /// it, up to that place at least.
 #[inline]
-pub fn keep_byte(bytes: &mut [u8], at: usize)
+pub fn move_byte_to_front(bytes: &mut [u8], at: usize)
     requires { at ≤ length bytes.old }
     ensures { (count : ℕ) × (at ≤ count) × (bytes.new ≡
         take (length bytes.old) (slice_index bytes.old at ∷ replicate count 0 ++

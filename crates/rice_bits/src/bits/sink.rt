@@ -5,7 +5,7 @@ ghost use Rattle.rice_bits.specs.Bits.{fundamental_sequence, word, whole_bytes, 
 
 use crate::Meter;
 use crate::bits::digits::{low_digits, to_front};
-use crate::bits::eight_bytes::{front, join_bytes, join_one, keep_byte};
+use crate::bits::eight_bytes::{front, join_bytes, join_one_bit, move_byte_to_front};
 use crate::bits::whole_words::join_whole_bytes;
 use crate::bits::word_pairs::two_pairs;
 use std::marker::Model;
@@ -146,7 +146,7 @@ impl<const N: usize> BitSink<N> {
     {
         let count = m + 1;
         meter.tick(count);
-        join_one(&mut self.bytes, self.bits + m);
+        join_one_bit(&mut self.bytes, self.bits + m);
         self.bits += count;
     }
 
@@ -164,7 +164,7 @@ impl<const N: usize> BitSink<N> {
         ensures bits { self.new ≡ drop (bits_in_bytes (length self.old)) self.old }
         ensures len { length self.new ≡ length self.old % 8 }
     {
-        keep_byte(&mut self.bytes, (self.bits / 8) as usize);
+        move_byte_to_front(&mut self.bytes, (self.bits / 8) as usize);
         self.bits %= 8;
     }
 
@@ -201,9 +201,9 @@ fn join_words(bytes: &mut [u8], bits: u64, words: &[u32], width: u32) -> u64
         bytes.old bytes.new }
 {
     if width <= 28 {
-        join_fours(bytes, bits, words, width)
+        join_words_by_fours(bytes, bits, words, width)
     } else {
-        join_each(bytes, bits, words, width)
+        join_each_word(bytes, bits, words, width)
     }
 }
 
@@ -229,15 +229,15 @@ fn join_whole_words(
 {
     // The loop is laid out for each width.
     match width {
-        8 => join_words_of(bytes, bits, value, count, words, 8),
-        16 => join_words_of(bytes, bits, value, count, words, 16),
-        _ => join_words_of(bytes, bits, value, count, words, 32),
+        8 => join_words_of_known_width(bytes, bits, value, count, words, 8),
+        16 => join_words_of_known_width(bytes, bits, value, count, words, 16),
+        _ => join_words_of_known_width(bytes, bits, value, count, words, 32),
     }
 }
 
 /// As `join_whole_words`, for a width that the compiler knows.
 #[inline(always)]
-fn join_words_of(
+fn join_words_of_known_width(
     bytes: &mut [u8],
     bits: u64,
     value: u64,
@@ -261,7 +261,7 @@ fn join_words_of(
 
 /// As `join_words`, one word at a time.
 #[inline(always)]
-fn join_each(bytes: &mut [u8], bits: u64, words: &[u32], width: u32) -> u64
+fn join_each_word(bytes: &mut [u8], bits: u64, words: &[u32], width: u32) -> u64
     requires width { width ≤ 32 }
     requires bits { IsBitSink (length bytes.old) bits bytes.old }
     requires room { bits + width * length words.now ≤ 8 * length bytes.old }
@@ -277,7 +277,7 @@ fn join_each(bytes: &mut [u8], bits: u64, words: &[u32], width: u32) -> u64
 
 /// As `join_words`, four words at a time, by two joins: the digits of two are at most 56.
 #[inline(always)]
-fn join_fours(bytes: &mut [u8], bits: u64, words: &[u32], width: u32) -> u64
+fn join_words_by_fours(bytes: &mut [u8], bits: u64, words: &[u32], width: u32) -> u64
     requires width { width ≤ 28 }
     requires bits { IsBitSink (length bytes.old) bits bytes.old }
     requires room { bits + width * length words.now ≤ 8 * length bytes.old }
@@ -288,15 +288,15 @@ fn join_fours(bytes: &mut [u8], bits: u64, words: &[u32], width: u32) -> u64
     let fours = words.len() / 4;
     for i in 0..fours {
         let (first, last) = two_pairs(words, 4 * i, width);
-        bits = join_two(bytes, bits, first, last, 2 * width);
+        bits = join_two_words(bytes, bits, first, last, 2 * width);
     }
-    join_each(bytes, bits, &words[4 * fours..], width)
+    join_each_word(bytes, bits, &words[4 * fours..], width)
 }
 
 /// Joins the `width` digits of `first`, and then those of `last`, to the first `bits` bits, and returns how many bits there are
 /// then.
 #[inline(always)]
-fn join_two(bytes: &mut [u8], bits: u64, first: u64, last: u64, width: u32) -> u64
+fn join_two_words(bytes: &mut [u8], bits: u64, first: u64, last: u64, width: u32) -> u64
     requires width { width ≤ put_width }
     requires first { first < 2 ^ width }
     requires last { last < 2 ^ width }

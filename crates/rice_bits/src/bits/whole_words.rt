@@ -31,10 +31,10 @@ pub fn join_whole_bytes(
     let left = (bits % 8) as u32 + count;
     let per = words_in_64(width);
     let mut last = words_at(words, 0, width);
-    let mut all = join_first(bytes, bits, value, count, last);
+    let mut all = join_up_to_whole_byte(bytes, bits, value, count, last);
     for i in 1..words.len() / per {
         let next = words_at(words, per * i, width);
-        all = join_next(bytes, all, digits_across(last, next, left));
+        all = join_64_digits_to_whole_bytes(bytes, all, digits_of_two_words(last, next, left));
         last = next;
     }
     (all, last)
@@ -64,15 +64,15 @@ fn words_at(words: &[u32], at: usize, width: u32) -> u64
         word 64 result ≡ flat_map (word width) (slice_range words.now at (at + n)) }
 {
     match width {
-        8 => eight_at(words, at),
-        16 => four_at(words, at),
-        _ => two_at(words, at),
+        8 => eight_words_at(words, at),
+        16 => four_words_at(words, at),
+        _ => two_words_at(words, at),
     }
 }
 
 /// Returns the number of the lowest 8 digits of eight words.
 #[inline(always)]
-fn eight_at(words: &[u32], at: usize) -> u64
+fn eight_words_at(words: &[u32], at: usize) -> u64
     requires { at + 8 ≤ length words.now }
     ensures { word 64 result ≡ flat_map (word 8) (slice_range words.now at (at + 8)) }
 {
@@ -91,7 +91,7 @@ fn lowest_bytes(words: u32x8) -> u8x8
 
 /// Returns the number of the lowest 16 digits of four words.
 #[inline(always)]
-fn four_at(words: &[u32], at: usize) -> u64
+fn four_words_at(words: &[u32], at: usize) -> u64
     requires { at + 4 ≤ length words.now }
     ensures { word 64 result ≡ flat_map (word 16) (slice_range words.now at (at + 4)) }
 {
@@ -106,7 +106,7 @@ fn four_at(words: &[u32], at: usize) -> u64
 
 /// Returns the number of the 32 digits of two words.
 #[inline(always)]
-fn two_at(words: &[u32], at: usize) -> u64
+fn two_words_at(words: &[u32], at: usize) -> u64
     requires { at + 2 ≤ length words.now }
     ensures { word 64 result ≡ flat_map (word 32) (slice_range words.now at (at + 2)) }
 {
@@ -116,7 +116,7 @@ fn two_at(words: &[u32], at: usize) -> u64
 /// Joins the `count` digits of `value`, and then the first digits of `first`, up to a whole byte. Returns how many bits there
 /// are then.
 #[inline(always)]
-fn join_first(bytes: &mut [u8], bits: u64, value: u64, count: u32, first: u64) -> u64
+fn join_up_to_whole_byte(bytes: &mut [u8], bits: u64, value: u64, count: u32, first: u64) -> u64
     requires count { (1 ≤ count) × (count ≤ 48) }
     requires value { value < 2 ^ count }
     requires bits { IsBitSink (length bytes.old) bits bytes.old }
@@ -137,7 +137,7 @@ fn join_first(bytes: &mut [u8], bits: u64, value: u64, count: u32, first: u64) -
 
 /// Joins the 64 digits of `digits` behind whole bytes, and returns how many bits there are then.
 #[inline(always)]
-fn join_next(bytes: &mut [u8], bits: u64, digits: u64) -> u64
+fn join_64_digits_to_whole_bytes(bytes: &mut [u8], bits: u64, digits: u64) -> u64
     requires whole { bits % 8 ≡ 0 }
     requires bits { IsBitSink (length bytes.old) bits bytes.old }
     requires room { bits + 64 ≤ 8 * length bytes.old }
@@ -150,7 +150,7 @@ fn join_next(bytes: &mut [u8], bits: u64, digits: u64) -> u64
 
 /// Returns the number of the last `left` digits of `last`, and then the first digits of `next`, 64 in all.
 #[inline(always)]
-fn digits_across(last: u64, next: u64, left: u32) -> u64
+fn digits_of_two_words(last: u64, next: u64, left: u32) -> u64
     requires { (1 ≤ left) × (left < 64) }
     ensures { word 64 result ≡ word left last ++ word (64 - left) (next / 2 ^ left) }
 {

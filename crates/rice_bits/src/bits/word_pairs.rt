@@ -18,7 +18,7 @@ pub fn two_pairs(words: &[u32], at: usize, width: u32) -> (u64, u64)
         word width (slice_index words.now (at + 3)) }
 {
     let low = lowest_digits(u32x4::from_slice(&words[at..]), width);
-    let pairs = pairs_of(low, width).to_array();
+    let pairs = joined_pairs(low, width).to_array();
     (pairs[0], pairs[1])
 }
 
@@ -34,7 +34,7 @@ fn lowest_digits(words: u32x4, width: u32) -> u32x4
 
 /// Joins the first two numbers, and the last two.
 #[inline(always)]
-fn pairs_of(low: u32x4, width: u32) -> u64x2
+fn joined_pairs(low: u32x4, width: u32) -> u64x2
     requires width { width ≤ 28 }
     requires lanes { length low ≡ 4 }
     requires fit { All (λ v. v < 2 ^ width) low }

@@ -17,7 +17,7 @@ static SLIDE: [u8; 64] = [
 
 /// Returns the places of the lanes that stand as many lanes further on as the first `place` bytes of a word have ones, beside `zeros`.
 #[inline(always)]
-fn places_behind(place: usize, zeros: usize) -> u8x16
+fn places_behind_ones(place: usize, zeros: usize) -> u8x16
     requires place { place ≤ 6 }
     requires zeros { zeros ≤ 8 * place }
     ensures { result ≡ places_behind_of (8 * place - zeros) }
@@ -28,13 +28,13 @@ fn places_behind(place: usize, zeros: usize) -> u8x16
 
 /// Moves lanes as many places on as the first `place` bytes of a word have ones, beside `zeros`, with zeros before them.
 #[inline(always)]
-fn moved(lanes: u8x16, place: usize, zeros: usize) -> u8x16
+fn moved_by_ones(lanes: u8x16, place: usize, zeros: usize) -> u8x16
     requires place { place ≤ 6 }
     requires zeros { zeros ≤ 8 * place }
     requires lanes { length lanes ≡ 16 }
     ensures { result ≡ take 16 (replicate (8 * place - zeros) 0 ++ lanes) }
 {
-    lanes.swizzle_dyn(places_behind(place, zeros))
+    lanes.swizzle_dyn(places_behind_ones(place, zeros))
 }
 
 /// Returns the ends of the ones of `byte`, which stands at `place` of a word.
@@ -80,13 +80,13 @@ fn zeros_in(front: u64, bytes: usize) -> usize
 
 /// Adds the ends of the ones of the byte at `place` of a word to those of the bytes before it.
 #[inline(always)]
-fn with_byte(front: u64, place: usize, before: u8x16) -> u8x16
+fn with_ends_of_byte(front: u64, place: usize, before: u8x16) -> u8x16
     requires place { (1 ≤ place) × (place < 7) }
     requires before { before ≡ in_lanes (ends_after 0 (take (8 * place) (word 64 front))) }
     ensures { result ≡ in_lanes (ends_after 0 (take (8 * (place + 1)) (word 64 front))) }
 {
     let more = ends_at(place, byte_at(front, place));
-    before | moved(more, place, zeros_in(front, place))
+    before | moved_by_ones(more, place, zeros_in(front, place))
 }
 
 /// Returns the ends of the ones of the first bytes of a word, as many as there are lanes for, and zeros behind them.
@@ -97,7 +97,7 @@ pub fn first_ends(front: u64, bytes: usize) -> u8x16
 {
     let mut ends = ends_at(0, byte_at(front, 0));
     for place in 1..bytes {
-        ends = with_byte(front, place, ends);
+        ends = with_ends_of_byte(front, place, ends);
     }
     ends
 }

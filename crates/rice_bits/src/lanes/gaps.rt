@@ -9,7 +9,7 @@ use std::simd::prelude::*;
 
 /// Returns by how much a number is above the other, or 0, in each lane.
 #[inline(always)]
-fn above_or_zero(a: u8x16, b: u8x16) -> u8x16
+fn excess_over(a: u8x16, b: u8x16) -> u8x16
     ensures { result ≡ zip2 (λ x y. x - y) a b }
 {
     a.saturating_sub(b)
@@ -35,7 +35,7 @@ pub fn gaps_of(ends: u8x16) -> u8x16
     requires { length ends ≡ 16 }
     ensures { result ≡ gaps (0 ∷ ends) }
 {
-    above_or_zero(above_or_zero(ends, behind_zero(ends)), u8x16::splat(1))
+    excess_over(excess_over(ends, behind_zero(ends)), u8x16::splat(1))
 }
 
 /// Returns the number of bits of the first `count` fundamental sequences of a word, whose ends are among those of its first

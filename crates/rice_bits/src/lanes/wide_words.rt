@@ -3,7 +3,7 @@ ghost use Rattle.std.specs.Prelude.{◌≡◌, ◌+◌, ◌-◌, ◌*◌, ◌/�
 ghost use Rattle.rice_bits.specs.Bits.{bits_of, word};
 ghost use Rattle.rice_bits.specs.lanes.WideWords.{four, quad_factors, quad_number, quad_places};
 
-use crate::lanes::words::{bytes_at, sixteen_from};
+use crate::lanes::words::{bytes_at_places, sixteen_words_from};
 use std::simd::prelude::*;
 
 /// For each width up to 24 and each number of bits before the first of four words, the places of the four bytes in which each word
@@ -348,7 +348,7 @@ static FACTORS: [[[u32; 4]; 8]; 8] = [
 
 /// Returns the places of the four bytes in which each of four words lies.
 #[inline(always)]
-fn places_of(width: u32, before: usize) -> u8x16
+fn byte_places_of(width: u32, before: usize) -> u8x16
     requires width { width ≤ 24 }
     requires before { before < 8 }
     ensures { result ≡ quad_places width before }
@@ -358,7 +358,7 @@ fn places_of(width: u32, before: usize) -> u8x16
 
 /// Returns the powers of 2 that move each of four words to the front of its four bytes.
 #[inline(always)]
-fn factors_of(width: u32, before: usize) -> u32x4
+fn factors_to_front(width: u32, before: usize) -> u32x4
     requires before { before < 8 }
     ensures { result ≡ quad_factors width before }
 {
@@ -367,12 +367,12 @@ fn factors_of(width: u32, before: usize) -> u32x4
 
 /// Returns the numbers of the four bytes in which each of four words lies.
 #[inline(always)]
-fn quads_of(bytes: u8x16, width: u32, before: usize) -> u32x4
+fn four_bytes_that_hold_each(bytes: u8x16, width: u32, before: usize) -> u32x4
     requires width { width ≤ 24 }
     requires before { before < 8 }
     ensures { result ≡ map (λ j. quad_number bytes ((before + j * width) / 8)) four }
 {
-    u32x4::from_le_bytes(bytes_at(bytes, places_of(width, before)))
+    u32x4::from_le_bytes(bytes_at_places(bytes, byte_places_of(width, before)))
 }
 
 /// Returns the four words of `width` bits behind the first bits of sixteen bytes.
@@ -385,12 +385,13 @@ fn four_words_in(bytes: u8x16, width: u32, before: usize) -> u32x4
     ensures fit { All (λ v. v < 2 ^ width) result }
     ensures bits { flat_map (word width) result ≡ take (4 * width) (drop before (bits_of bytes)) }
 {
-    (quads_of(bytes, width, before) * factors_of(width, before)) >> u32x4::splat(32 - width)
+    (four_bytes_that_hold_each(bytes, width, before) * factors_to_front(width, before))
+        >> u32x4::splat(32 - width)
 }
 
 /// Returns the four words of `width` bits from bit `at` on.
 #[inline(always)]
-fn four_from(bytes: &[u8], at: usize, width: u32) -> u32x4
+fn four_words_from(bytes: &[u8], at: usize, width: u32) -> u32x4
     requires width { (1 ≤ width) × (width ≤ 24) }
     requires room { at / 8 + 16 ≤ length bytes.now }
     ensures len { length result ≡ 4 }
@@ -402,7 +403,7 @@ fn four_from(bytes: &[u8], at: usize, width: u32) -> u32x4
 
 /// Returns the eight words of `width` bits from bit `at` on.
 #[inline(always)]
-pub fn eight_from(bytes: &[u8], at: usize, width: u32) -> u32x8
+pub fn eight_words_from(bytes: &[u8], at: usize, width: u32) -> u32x8
     requires width { (1 ≤ width) × (width ≤ 24) }
     requires at { at < 2 ^ 32 }
     requires room { (at + 4 * width) / 8 + 16 ≤ length bytes.now }
@@ -410,19 +411,19 @@ pub fn eight_from(bytes: &[u8], at: usize, width: u32) -> u32x8
     ensures fit { All (λ v. v < 2 ^ width) result }
     ensures bits { flat_map (word width) result ≡ take (8 * width) (drop at (bits_of bytes.now)) }
 {
-    let first = four_from(bytes, at, width);
-    let second = four_from(bytes, at + 4 * width as usize, width);
+    let first = four_words_from(bytes, at, width);
+    let second = four_words_from(bytes, at + 4 * width as usize, width);
     first.shuffle(second, [0, 1, 2, 3, 4, 5, 6, 7])
 }
 
 /// Returns the numbers of the bytes from each fourth of sixteen on.
 #[inline(always)]
-fn fourth_quads(bytes: u8x16) -> u32x4
+fn four_bytes_from_each_fourth(bytes: u8x16) -> u32x4
     requires { length bytes ≡ 16 }
     ensures { result ≡ map (λ j. quad_number bytes ((0 + j * 32) / 8)) four }
 {
     let last_first = [3, 2, 1, 0, 7, 6, 5, 4, 11, 10, 9, 8, 15, 14, 13, 12];
-    u32x4::from_le_bytes(bytes_at(bytes, u8x16::from_array(last_first)))
+    u32x4::from_le_bytes(bytes_at_places(bytes, u8x16::from_array(last_first)))
 }
 
 /// Returns the numbers that sixteen bytes spell, four bytes each.
@@ -432,16 +433,16 @@ fn four_numbers(bytes: u8x16) -> u32x4
     ensures len { length result ≡ 4 }
     ensures bits { flat_map (word 32) result ≡ bits_of bytes }
 {
-    fourth_quads(bytes)
+    four_bytes_from_each_fourth(bytes)
 }
 
 /// Returns the four words of 32 bits from bit `at` on.
 #[inline(always)]
-pub fn four_whole_from(bytes: &[u8], at: usize) -> u32x4
+pub fn four_words_of_32_bits_from(bytes: &[u8], at: usize) -> u32x4
     requires at { at < 2 ^ 32 }
     requires room { at / 8 + 24 ≤ length bytes.now }
     ensures len { length result ≡ 4 }
     ensures bits { flat_map (word 32) result ≡ take 128 (drop at (bits_of bytes.now)) }
 {
-    four_numbers(sixteen_from(bytes, at, 8))
+    four_numbers(sixteen_words_from(bytes, at, 8))
 }

@@ -218,7 +218,7 @@ static FACTORS: [[[u16; 8]; 8]; 10] = [
 
 /// Returns the places of the two bytes in which each of eight words lies.
 #[inline(always)]
-fn places_of(width: u32, before: usize) -> u8x16
+fn byte_places_of(width: u32, before: usize) -> u8x16
     requires width { width ≤ 9 }
     requires before { before < 8 }
     ensures { result ≡ places width before }
@@ -228,7 +228,7 @@ fn places_of(width: u32, before: usize) -> u8x16
 
 /// Returns the powers of 2 that move each of eight words to the front of its two bytes.
 #[inline(always)]
-fn factors_of(width: u32, before: usize) -> u16x8
+fn factors_to_front(width: u32, before: usize) -> u16x8
     requires width { width ≤ 9 }
     requires before { before < 8 }
     ensures { result ≡ factors width before }
@@ -238,7 +238,7 @@ fn factors_of(width: u32, before: usize) -> u16x8
 
 /// Returns the bytes at these places.
 #[inline(always)]
-pub fn bytes_at(bytes: u8x16, places: u8x16) -> u8x16
+pub fn bytes_at_places(bytes: u8x16, places: u8x16) -> u8x16
     requires { All (λ p. p < 16) places }
     ensures { result ≡ map (λ p. slice_index bytes p) places }
 {
@@ -247,12 +247,12 @@ pub fn bytes_at(bytes: u8x16, places: u8x16) -> u8x16
 
 /// Returns the numbers of the two bytes in which each of eight words lies.
 #[inline(always)]
-fn pairs_of(bytes: u8x16, width: u32, before: usize) -> u16x8
+fn two_bytes_that_hold_each(bytes: u8x16, width: u32, before: usize) -> u16x8
     requires width { width ≤ 9 }
     requires before { before < 8 }
     ensures { result ≡ map (λ j. pair_number bytes ((before + j * width) / 8)) eight }
 {
-    u16x8::from_le_bytes(bytes_at(bytes, places_of(width, before)))
+    u16x8::from_le_bytes(bytes_at_places(bytes, byte_places_of(width, before)))
 }
 
 /// Returns the eight words of `width` bits behind the first bits of sixteen bytes.
@@ -266,13 +266,13 @@ fn eight_words_in(bytes: u8x16, width: u32, before: usize) -> u16x8
     ensures bits { flat_map (word width) result ≡ take (8 * width) (drop before (bits_of bytes)) }
 {
     // In two steps, since a shift by all sixteen digits would be needed for words of none.
-    let fronts = pairs_of(bytes, width, before) * factors_of(width, before);
+    let fronts = two_bytes_that_hold_each(bytes, width, before) * factors_to_front(width, before);
     (fronts >> u16x8::splat(1)) >> u16x8::splat(15 - width as u16)
 }
 
 /// Returns the eight words of `width` bits from bit `at` on.
 #[inline(always)]
-fn eight_from(bytes: &[u8], at: usize, width: u32) -> u16x8
+fn eight_words_from(bytes: &[u8], at: usize, width: u32) -> u16x8
     requires width { width ≤ 9 }
     requires room { at / 8 + 16 ≤ length bytes.now }
     ensures len { length result ≡ 8 }
@@ -284,7 +284,7 @@ fn eight_from(bytes: &[u8], at: usize, width: u32) -> u16x8
 
 /// Returns the numbers of both, one after the other, in narrower lanes.
 #[inline(always)]
-fn narrow(first: u16x8, second: u16x8) -> u8x16
+fn joined_in_narrow_lanes(first: u16x8, second: u16x8) -> u8x16
     requires len { (length first ≡ 8) × (length second ≡ 8) }
     requires first { All (λ v. v < 256) first }
     requires second { All (λ v. v < 256) second }
@@ -300,7 +300,7 @@ fn narrow(first: u16x8, second: u16x8) -> u8x16
 
 /// Returns the sixteen words of `width` bits from bit `at` on.
 #[inline(always)]
-pub fn sixteen_from(bytes: &[u8], at: usize, width: u32) -> u8x16
+pub fn sixteen_words_from(bytes: &[u8], at: usize, width: u32) -> u8x16
     requires width { width ≤ 8 }
     requires at { at < 2 ^ 32 }
     requires room { (at + 8 * width) / 8 + 16 ≤ length bytes.now }
@@ -308,6 +308,9 @@ pub fn sixteen_from(bytes: &[u8], at: usize, width: u32) -> u8x16
     ensures fit { All (λ v. v < 2 ^ width) result }
     ensures bits { flat_map (word width) result ≡ take (16 * width) (drop at (bits_of bytes.now)) }
 {
-    let first = eight_from(bytes, at, width);
-    narrow(first, eight_from(bytes, at + 8 * width as usize, width))
+    let first = eight_words_from(bytes, at, width);
+    joined_in_narrow_lanes(
+        first,
+        eight_words_from(bytes, at + 8 * width as usize, width),
+    )
 }

@@ -33,7 +33,7 @@ static FACTORS: [[u16; 8]; 8] = [
 
 /// Returns the places of the two bytes in which each of eight words of `width` digits lies.
 #[inline(always)]
-fn places_of(width: u32) -> u8x16
+fn byte_places_of(width: u32) -> u8x16
     requires { width ≤ 7 }
     ensures { result ≡ word_places width }
 {
@@ -42,7 +42,7 @@ fn places_of(width: u32) -> u8x16
 
 /// Returns the powers of 2 that move each of eight words of `width` digits to the front of its two bytes.
 #[inline(always)]
-fn factors_of(width: u32) -> u16x8
+fn factors_to_front(width: u32) -> u16x8
     requires { width ≤ 7 }
     ensures { result ≡ word_factors width }
 {
@@ -51,7 +51,7 @@ fn factors_of(width: u32) -> u16x8
 
 /// Returns the bytes at these places.
 #[inline(always)]
-fn bytes_at(bytes: u8x16, places: u8x16) -> u8x16
+fn bytes_at_places(bytes: u8x16, places: u8x16) -> u8x16
     requires { All (λ p. p < 16) places }
     ensures { result ≡ map (λ p. slice_index bytes p) places }
 {
@@ -60,12 +60,12 @@ fn bytes_at(bytes: u8x16, places: u8x16) -> u8x16
 
 /// Returns the numbers of the two bytes in which each of eight words of `width` digits lies.
 #[inline(always)]
-fn pairs_of(digits: u64, width: u32) -> u16x8
+fn two_bytes_that_hold_each(digits: u64, width: u32) -> u16x8
     requires { width ≤ 7 }
     ensures { result ≡ map (λ j. digits / 2 ^ (48 - 8 * (j * width / 8)) % 2 ^ 16) eight }
 {
     let bytes = u64x2::from_array([digits, 0]).to_le_bytes();
-    u16x8::from_le_bytes(bytes_at(bytes, places_of(width)))
+    u16x8::from_le_bytes(bytes_at_places(bytes, byte_places_of(width)))
 }
 
 /// Returns the numbers of the eight words of `width` digits that 64 digits begin with.
@@ -76,12 +76,13 @@ fn eight_words(digits: u64, width: u32) -> u16x8
     ensures fit { All (λ v. v < 2 ^ width) result }
     ensures bits { flat_map (word width) result ≡ take (8 * width) (word 64 digits) }
 {
-    (pairs_of(digits, width) * factors_of(width)) >> u16x8::splat(16 - width as u16)
+    (two_bytes_that_hold_each(digits, width) * factors_to_front(width))
+        >> u16x8::splat(16 - width as u16)
 }
 
 /// Returns the eight words of `width` bits from bit `at` on.
 #[inline(always)]
-pub fn eight_from(bytes: &[u8], at: usize, width: u32) -> u16x8
+pub fn eight_words_from(bytes: &[u8], at: usize, width: u32) -> u16x8
     requires width { (1 ≤ width) × (width ≤ 7) }
     requires room { at / 8 + 8 ≤ length bytes.now }
     ensures len { length result ≡ 8 }

@@ -19,7 +19,7 @@ fn count_ones_of(byte: u8) -> usize
 /// Writes the ends of the ones of `byte`, which stands after `before` bits, after the first `found` + 1 places.
 /// Returns the number of ends found with these.
 #[inline]
-fn write_ends(byte: u8, before: u8, found: usize, ends: &mut [u8]) -> usize
+fn write_ends_of_byte(byte: u8, before: u8, found: usize, ends: &mut [u8]) -> usize
     requires before { before ≤ 56 }
     requires room { found + 9 ≤ length ends.old }
     ensures found { result ≡ found + length (ends_after before (word 8 byte)) }
@@ -35,7 +35,7 @@ fn write_ends(byte: u8, before: u8, found: usize, ends: &mut [u8]) -> usize
 /// Writes the ends of the ones of `bytes`, which stand after `before` bits, after the first `found` + 1 places.
 /// Returns the number of ends found with these.
 #[inline(always)]
-fn write_all_ends(bytes: &[u8], before: u8, found: usize, ends: &mut [u8]) -> usize
+fn write_ends_of_bytes(bytes: &[u8], before: u8, found: usize, ends: &mut [u8]) -> usize
     requires before { before + 8 * length bytes.now ≤ 64 }
     requires room { found + 8 * length bytes.now + 1 ≤ length ends.old }
     ensures found { result ≡ found + length (ends_after before (bits_of bytes.now)) }
@@ -45,7 +45,7 @@ fn write_all_ends(bytes: &[u8], before: u8, found: usize, ends: &mut [u8]) -> us
 {
     let mut all = found;
     for i in 0..bytes.len() {
-        all = write_ends(bytes[i], before + 8 * i as u8, all, ends);
+        all = write_ends_of_byte(bytes[i], before + 8 * i as u8, all, ends);
     }
     all
 }
@@ -59,11 +59,11 @@ pub fn find_ends(front: u64, wanted: usize, ends: &mut [u8]) -> usize
     ensures { IsSearched front ends.new result }
 {
     let bytes = front.to_be_bytes();
-    let found = write_all_ends(&bytes[..4], 0, 0, ends);
+    let found = write_ends_of_bytes(&bytes[..4], 0, 0, ends);
     if found >= wanted {
         return found;
     }
-    write_all_ends(&bytes[4..7], 32, found, ends)
+    write_ends_of_bytes(&bytes[4..7], 32, found, ends)
 }
 
 /// Returns how many bits stand between an end and the next, for each of eight ends from the place `at` on.
@@ -76,7 +76,7 @@ pub fn narrow_gaps(ends: &[u8], at: usize) -> u16x8
 {
     let here = u8x8::from_slice(&ends[at..]);
     let next = u8x8::from_slice(&ends[at + 1..]);
-    above_or_zero(above_or_zero(next, here), u8x8::splat(1)).cast::<u16>()
+    excess_over(excess_over(next, here), u8x8::splat(1)).cast::<u16>()
 }
 
 /// As `narrow_gaps`, in wider lanes.
@@ -98,20 +98,20 @@ fn four_gaps(ends: &[u8], at: usize) -> u32x4
 {
     let here = u8x4::from_slice(&ends[at..]);
     let next = u8x4::from_slice(&ends[at + 1..]);
-    four_above_or_zero(four_above_or_zero(next, here), u8x4::splat(1)).cast::<u32>()
+    four_excess_over(four_excess_over(next, here), u8x4::splat(1)).cast::<u32>()
 }
 
 /// Returns by how much a number is above the other, or 0, in each lane.
 #[inline(always)]
-fn above_or_zero(a: u8x8, b: u8x8) -> u8x8
+fn excess_over(a: u8x8, b: u8x8) -> u8x8
     ensures { result ≡ zip2 (λ x y. x - y) a b }
 {
     a.saturating_sub(b)
 }
 
-/// As `above_or_zero`, in four lanes.
+/// As `excess_over`, in four lanes.
 #[inline(always)]
-fn four_above_or_zero(a: u8x4, b: u8x4) -> u8x4
+fn four_excess_over(a: u8x4, b: u8x4) -> u8x4
     ensures { result ≡ zip2 (λ x y. x - y) a b }
 {
     a.saturating_sub(b)
@@ -119,7 +119,7 @@ fn four_above_or_zero(a: u8x4, b: u8x4) -> u8x4
 
 /// As `write_gaps`, eight at a time.
 #[inline]
-fn write_eights(ends: &[u8], zeros: &mut [u32])
+fn write_gaps_by_eights(ends: &[u8], zeros: &mut [u32])
     requires some { 8 ≤ length zeros.old }
     requires room { length zeros.old < length ends.now }
     ensures { zeros.new ≡ take (length zeros.old) (gaps ends.now) }
@@ -134,7 +134,7 @@ fn write_eights(ends: &[u8], zeros: &mut [u32])
 
 /// As `write_gaps`, four and then the last four.
 #[inline]
-fn write_fours(ends: &[u8], zeros: &mut [u32])
+fn write_gaps_by_fours(ends: &[u8], zeros: &mut [u32])
     requires some { (4 ≤ length zeros.old) × (length zeros.old ≤ 8) }
     requires room { length zeros.old < length ends.now }
     ensures { zeros.new ≡ take (length zeros.old) (gaps ends.now) }
@@ -151,10 +151,10 @@ pub fn write_gaps(ends: &[u8], zeros: &mut [u32])
     ensures { zeros.new ≡ take (length zeros.old) (gaps ends.now) }
 {
     if zeros.len() >= 8 {
-        return write_eights(ends, zeros);
+        return write_gaps_by_eights(ends, zeros);
     }
     if zeros.len() >= 4 {
-        return write_fours(ends, zeros);
+        return write_gaps_by_fours(ends, zeros);
     }
     for i in 0..zeros.len() {
         zeros[i] = ends[i + 1].saturating_sub(ends[i]).saturating_sub(1) as u32;

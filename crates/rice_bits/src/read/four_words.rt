@@ -8,7 +8,7 @@ use std::simd::prelude::*;
 
 /// Returns the first two words of `width` digits of each of two words of 64.
 #[inline(always)]
-fn four_words(first: u64, second: u64, width: u32) -> u32x4
+fn first_two_words_of_both(first: u64, second: u64, width: u32) -> u32x4
     requires width { (1 ≤ width) × (width ≤ 28) }
     ensures len { length result ≡ 4 }
     ensures fit { All (λ v. v < 2 ^ width) result }
@@ -24,7 +24,7 @@ fn four_words(first: u64, second: u64, width: u32) -> u32x4
 
 /// Returns the four words of `width` bits from bit `at` on, two from each of two words of the machine.
 #[inline(always)]
-pub fn four_from(bytes: &[u8], at: usize, width: u32) -> u32x4
+pub fn four_words_from(bytes: &[u8], at: usize, width: u32) -> u32x4
     requires width { (1 ≤ width) × (width ≤ 28) }
     requires within { at + 4 * width ≤ most_waiting }
     requires room { buffer_len ≤ length bytes.now }
@@ -34,5 +34,5 @@ pub fn four_from(bytes: &[u8], at: usize, width: u32) -> u32x4
 {
     let first = bits_from(bytes, at);
     let second = bits_from(bytes, at + 2 * width as usize);
-    four_words(first, second, width)
+    first_two_words_of_both(first, second, width)
 }

@@ -3,7 +3,7 @@ ghost use Rattle.std.specs.Prelude.{◌≡◌, ◌+◌, ◌*◌, ◌%◌, ◌^�
 ghost use Rattle.rice_bits.specs.read.JoinedParts.{AreWritten, joined_parts};
 ghost use Rattle.rice_bits.specs.read.Window.{buffer_len, most_waiting};
 
-use crate::read::eight_words::eight_from;
+use crate::read::eight_words::eight_words_from;
 use crate::read::ends_and_gaps::narrow_gaps;
 use std::simd::prelude::*;
 
@@ -22,7 +22,7 @@ fn joined_eight(highs: u16x8, lows: u16x8, width: u32) -> u32x8
 
 /// Writes eight numbers after the first `done`.
 #[inline(always)]
-fn write_eight(
+fn write_eight_joined(
     bytes: &[u8],
     at: usize,
     width: u32,
@@ -38,14 +38,14 @@ fn write_eight(
     requires written { AreWritten bytes.now at width ends.now done numbers.old }
     ensures { AreWritten bytes.now at width ends.now (done + 8) numbers.new }
 {
-    let words = eight_from(bytes, at + done * width as usize, width);
+    let words = eight_words_from(bytes, at + done * width as usize, width);
     let eight = joined_eight(narrow_gaps(ends, done), words, width);
     eight.copy_to_slice(&mut numbers[done..]);
 }
 
 /// Writes seven numbers after the first `done`.
 #[inline(always)]
-fn write_seven(
+fn write_seven_joined(
     bytes: &[u8],
     at: usize,
     width: u32,
@@ -61,7 +61,7 @@ fn write_seven(
     requires written { AreWritten bytes.now at width ends.now done numbers.old }
     ensures { AreWritten bytes.now at width ends.now (done + 7) numbers.new }
 {
-    let words = eight_from(bytes, at + done * width as usize, width);
+    let words = eight_words_from(bytes, at + done * width as usize, width);
     let eight = joined_eight(narrow_gaps(ends, done), words, width);
     // Four of them are the first, and four the last, which begin among these.
     eight
@@ -75,7 +75,7 @@ fn write_seven(
 /// Writes numbers whose high parts are as many as bits stand between each of the first ends and the next, and whose low parts
 /// are the words of `width` bits from bit `at` on.
 #[inline(always)]
-pub fn write_parts(bytes: &[u8], at: usize, width: u32, ends: &[u8; 64], numbers: &mut [u32])
+pub fn write_joined(bytes: &[u8], at: usize, width: u32, ends: &[u8; 64], numbers: &mut [u32])
     requires width { (1 ≤ width) × (width ≤ 7) }
     requires count { (length numbers.old + 1) % 8 ≤ 1 }
     requires few { length numbers.old ≤ 16 }
@@ -84,9 +84,9 @@ pub fn write_parts(bytes: &[u8], at: usize, width: u32, ends: &[u8; 64], numbers
     ensures { AreWritten bytes.now at width ends.now (length numbers.old) numbers.new }
 {
     for i in 0..numbers.len() / 8 {
-        write_eight(bytes, at, width, ends, 8 * i, numbers);
+        write_eight_joined(bytes, at, width, ends, 8 * i, numbers);
     }
     if numbers.len() % 8 != 0 {
-        write_seven(bytes, at, width, ends, numbers.len() - 7, numbers);
+        write_seven_joined(bytes, at, width, ends, numbers.len() - 7, numbers);
     }
 }

@@ -51,7 +51,7 @@ impl<I: Intake> Model for BitReader<I> {
 }
 
 /// Asks the intake for the bytes after the first `given`, and returns how many it put at the front of `buffer`.
-fn ask<I: Intake>(
+fn ask_intake<I: Intake>(
     intake: &mut I,
     buffer: &mut [u8],
     given: u64,
@@ -88,7 +88,7 @@ fn ask<I: Intake>(
 }
 
 /// Draws bytes from the intake when no bit waits.
-fn draw<I: Intake>(
+fn draw_bytes<I: Intake>(
     intake: &mut I,
     window: &mut Window,
     blank_before: &mut bool,
@@ -111,21 +111,21 @@ fn draw<I: Intake>(
 {
     // Other bytes may take the place of the bits that were taken.
     *blank_before = window.is_blank(*blank_before);
-    match ask(intake, &mut window.buffer, window.given, *blank_before) {
+    match ask_intake(intake, &mut window.buffer, window.given, *blank_before) {
         Ok(count) => {
-            window.hold(count);
+            window.hold_bytes(count);
             Ok(())
         }
         Err(fault) => {
             // The intake may have left anything in the buffer.
-            window.hold(0);
+            window.hold_bytes(0);
             Err(fault)
         }
     }
 }
 
 /// Draws bytes from the intake if no bit waits.
-fn supply<I: Intake>(
+fn draw_if_empty<I: Intake>(
     intake: &mut I,
     window: &mut Window,
     blank_before: &mut bool,
@@ -149,7 +149,7 @@ fn supply<I: Intake>(
     if window.len() > 0 {
         return Ok(());
     }
-    draw(intake, window, blank_before)
+    draw_bytes(intake, window, blank_before)
 }
 
 impl<I: Intake> BitReader<I> {
@@ -231,7 +231,7 @@ impl<I: Intake> BitReader<I> {
         if let Some(value) = self.take_ready(width, meter) {
             return Ok(value);
         }
-        let value = self.take_across(width, meter);
+        let value = self.take_with_draws(width, meter);
         match self.refusal {
             None => Ok(value),
             Some(fault) => Err(fault),
@@ -251,7 +251,7 @@ impl<I: Intake> BitReader<I> {
         ensures steps { meter.new + self.old.taken ≡ meter.old + self.new.taken }
         ensures limit { self.new.taken ≤ most_bits_read }
     {
-        let number = self.window.take_of_more(width)?;
+        let number = self.window.take_if_more_wait(width)?;
         meter.tick(width as u64);
         Some(number as u32)
     }
@@ -259,7 +259,7 @@ impl<I: Intake> BitReader<I> {
     /// Takes the next `width` bits, and calls the intake when too few wait. If it leaves a refusal, the result means
     /// nothing.
     #[inline(never)]
-    fn take_across(&mut self, width: u32, meter: &mut Meter) -> u32
+    fn take_with_draws(&mut self, width: u32, meter: &mut Meter) -> u32
         requires width { width ≤ 32 }
         requires meter { meter.old + width < step_limit }
         ensures ok { self.new.refusal ≡ None → (result < 2 ^ width) ×
@@ -282,7 +282,7 @@ impl<I: Intake> BitReader<I> {
         let mut value = 0;
         let mut left = width;
         while left > 0 {
-            match self.take_some(left, meter) {
+            match self.take_some_digits(left, meter) {
                 Ok((digits, count)) => {
                     value = join(value, count, digits);
                     left -= count;
@@ -316,7 +316,7 @@ impl<I: Intake> BitReader<I> {
         if let Some(zeros) = self.take_fs_ready(meter) {
             return Ok(zeros);
         }
-        let zeros = self.take_fs_across(meter);
+        let zeros = self.take_fs_with_draws(meter);
         match self.refusal {
             None => Ok(zeros),
             Some(fault) => Err(fault),
@@ -344,7 +344,7 @@ impl<I: Intake> BitReader<I> {
     /// Takes a fundamental sequence, and calls the intake when no 1 waits. If it leaves a refusal, the result means
     /// nothing.
     #[inline(never)]
-    fn take_fs_across(&mut self, meter: &mut Meter) -> u64
+    fn take_fs_with_draws(&mut self, meter: &mut Meter) -> u64
         requires meter { meter.old + (most_bits_read - self.old.taken) < step_limit }
         ensures ok { self.new.refusal ≡ None →
             Takes self.old self.new (fundamental_sequence result) }
@@ -364,7 +364,7 @@ impl<I: Intake> BitReader<I> {
         }
         let mut zeros = 0;
         loop {
-            match self.take_run(meter) {
+            match self.take_zeros_and_one(meter) {
                 Ok((count, true)) => return zeros + count,
                 Ok((count, false)) => zeros += count,
                 Err(_) => return 0,
@@ -373,7 +373,7 @@ impl<I: Intake> BitReader<I> {
     }
 
     /// Takes some zeros, or zeros and a 1. Returns the number of zeros, and whether there was a 1.
-    fn take_run(&mut self, meter: &mut Meter) -> Result<(u64, bool), BitFault>
+    fn take_zeros_and_one(&mut self, meter: &mut Meter) -> Result<(u64, bool), BitFault>
         requires going { self.old.refusal ≡ None }
         requires meter { meter.old + (most_bits_read - self.old.taken) < step_limit }
         ensures one { IfOk result (λ r. r.1 ≡ true →
@@ -385,7 +385,11 @@ impl<I: Intake> BitReader<I> {
         ensures steps { meter.new + self.old.taken ≡ meter.old + self.new.taken }
         ensures limit { self.new.taken ≤ most_bits_read }
     {
-        if let Err(refusal) = supply(&mut self.intake, &mut self.window, &mut self.blank_before) {
+        if let Err(refusal) = draw_if_empty(
+            &mut self.intake,
+            &mut self.window,
+            &mut self.blank_before,
+        ) {
             self.refusal = Some(refusal);
             return Err(refusal);
         }
@@ -595,7 +599,7 @@ impl<I: Intake> BitReader<I> {
     }
 
     /// Takes up to `most` digits, at least one. Returns the number that they spell, and their count.
-    fn take_some(&mut self, most: u32, meter: &mut Meter) -> Result<(u64, u32), BitFault>
+    fn take_some_digits(&mut self, most: u32, meter: &mut Meter) -> Result<(u64, u32), BitFault>
         requires going { self.old.refusal ≡ None }
         requires some { 0 < most }
         requires width { most ≤ 32 }
@@ -607,12 +611,16 @@ impl<I: Intake> BitReader<I> {
         ensures steps { meter.new + self.old.taken ≡ meter.old + self.new.taken }
         ensures limit { self.new.taken ≤ most_bits_read }
     {
-        if let Err(fault) = supply(&mut self.intake, &mut self.window, &mut self.blank_before) {
+        if let Err(fault) = draw_if_empty(
+            &mut self.intake,
+            &mut self.window,
+            &mut self.blank_before,
+        ) {
             self.refusal = Some(fault);
             return Err(fault);
         }
         let count = most.min(self.window.len() as u32);
-        let digits = self.window.take_first(count);
+        let digits = self.window.take_first_bits(count);
         meter.tick(count as u64);
         Ok((digits, count))
     }

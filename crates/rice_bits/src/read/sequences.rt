@@ -13,7 +13,7 @@ pub struct Parted {
 /// Takes fundamental sequences from the front of a word, and writes the numbers of their zeros to the first places
 /// of `zeros`.
 #[inline(always)]
-pub fn part_sequences(front: u64, zeros: &mut [u32]) -> Parted
+pub fn write_sequences_of_word(front: u64, zeros: &mut [u32]) -> Parted
     ensures { AreParted front zeros.old zeros.new result.used result.taken }
 {
     let mut ends = [0; 64];

@@ -9,11 +9,11 @@ ghost use Rattle.rice_bits.specs.read.Window.{buffer_len, most_waiting};
 use crate::bits::digits::front_digits;
 use crate::bits::eight_bytes::{bits_from, store_zeros};
 use crate::lanes::sequences::{Sequences, first_sequences};
-use crate::lanes::wide_words::eight_from;
-use crate::lanes::words::sixteen_from;
+use crate::lanes::wide_words::eight_words_from;
+use crate::lanes::words::sixteen_words_from;
 use crate::read::ends_and_gaps::find_ends;
-use crate::read::joined_parts::write_parts;
-use crate::read::sequences::part_sequences;
+use crate::read::joined_parts::write_joined;
+use crate::read::sequences::write_sequences_of_word;
 use crate::read::words::{number_from, words_from};
 use std::simd::prelude::*;
 
@@ -65,7 +65,7 @@ impl Window {
     }
 
     /// Makes the first `count` bytes of the buffer the ones that wait, and forgets all others.
-    pub fn hold(&mut self, count: usize)
+    pub fn hold_bytes(&mut self, count: usize)
         requires size { length self.old.buffer ≡ buffer_len }
         requires count { count ≤ most_at_once }
         requires limit { self.old.given + count ≤ most_bytes_read }
@@ -139,7 +139,7 @@ impl Window {
 
     /// Returns the next bits at the front of a word, followed by zeros: all that wait, or at least 57 of them.
     #[inline]
-    fn ahead(&self) -> u64
+    fn next_bits(&self) -> u64
         requires { IsWindow self.now }
         ensures { word 64 result
             ≡ take (bits_near self.now) (window_bits self.now)
@@ -150,7 +150,7 @@ impl Window {
 
     /// Takes the first `width` bits if more wait.
     #[inline]
-    pub fn take_of_more(&mut self, width: u32) -> Option<u64>
+    pub fn take_if_more_wait(&mut self, width: u32) -> Option<u64>
         requires window { IsWindow self.old }
         requires width { width ≤ 32 }
         ensures window { IsWindow self.new }
@@ -169,7 +169,7 @@ impl Window {
     }
 
     /// Takes the first `count` bits.
-    pub fn take_first(&mut self, count: u32) -> u64
+    pub fn take_first_bits(&mut self, count: u32) -> u64
         requires window { IsWindow self.old }
         requires few { count ≤ 32 }
         requires there { count ≤ length (window_bits self.old) }
@@ -193,7 +193,7 @@ impl Window {
             ≡ replicate (min 57 (length (window_bits self.now))) false) }
     {
         // After one zero more, the zeros before the 1 are as many as the bits up to and including it.
-        let behind_zero = self.ahead() >> 1;
+        let behind_zero = self.next_bits() >> 1;
         if behind_zero == 0 {
             return None;
         }
@@ -232,7 +232,7 @@ impl Window {
         ensures below { result < 2 ^ width }
         ensures bits { word width result ≡ take width (window_bits self.now) }
     {
-        front_digits(self.ahead(), width) as u32
+        front_digits(self.next_bits(), width) as u32
     }
 
     /// As `sequences_ahead`, where these bytes end within the first 57 bits.
@@ -246,7 +246,7 @@ impl Window {
         ensures { IfSome result (λ s.
             BeginWithSequences (drop skip (window_bits self.now)) count s.numbers s.len) }
     {
-        first_sequences(self.ahead() << skip, bytes, count)
+        first_sequences(self.next_bits() << skip, bytes, count)
     }
 
     /// Returns the first `count` fundamental sequences behind the first `skip` bits, if they end within so many bytes.
@@ -273,7 +273,7 @@ impl Window {
         ensures bits { flat_map (word width) result
             ≡ take (16 * width) (drop skip (window_bits self.now)) }
     {
-        sixteen_from(&self.buffer, self.at + skip, width)
+        sixteen_words_from(&self.buffer, self.at + skip, width)
     }
 
     /// Returns the eight words of `width` bits behind the first `skip` bits.
@@ -287,7 +287,7 @@ impl Window {
         ensures bits { flat_map (word width) result
             ≡ take (8 * width) (drop skip (window_bits self.now)) }
     {
-        eight_from(&self.buffer, self.at + skip, width)
+        eight_words_from(&self.buffer, self.at + skip, width)
     }
 
     /// Takes words of `width` bits, one for each place of `words`, and returns their number. It takes none if fewer
@@ -322,7 +322,7 @@ impl Window {
         ensures passes { Passes self.old self.new
             (flat_map fundamental_sequence (take result zeros.new)) }
     {
-        let parted = part_sequences(self.ahead(), zeros);
+        let parted = write_sequences_of_word(self.next_bits(), zeros);
         self.at += parted.used;
         parted.taken
     }
@@ -341,7 +341,7 @@ impl Window {
         ensures none { result ≡ false → self.new ≡ self.old }
     {
         let mut ends = [0; 64];
-        let found = find_ends(self.ahead(), numbers.len(), &mut ends);
+        let found = find_ends(self.next_bits(), numbers.len(), &mut ends);
         if found < numbers.len() {
             return false;
         }
@@ -350,7 +350,7 @@ impl Window {
         if next > self.end {
             return false;
         }
-        write_parts(&self.buffer, words, width, &ends, numbers);
+        write_joined(&self.buffer, words, width, &ends, numbers);
         self.at = next;
         true
     }

@@ -10,7 +10,7 @@ use Rattle.std.proofs.lemmas.Grind.{div_ceil_times}
 use Rattle.std.proofs.lemmas.List.{length-replicate, length-take}
 use Rattle.std.proofs.lemmas.List.Elements.{All-take}
 use Rattle.rice_bits.specs.Bits.{bits_in_bytes, bits_to_byte, padded_bits, whole_bytes}
-use Rattle.rice_bits.proofs.lemmas.bits.Bytes.{bits_of-whole_bytes, length-bits_of}
+use Rattle.rice_bits.proofs.lemmas.bits.BytesAndBits.{bits_of-whole_bytes, length-bits_of}
 use Rattle.rice_samples.specs.Parameters.{Parameters, IsLegal, IsSample, width}
 use Rattle.rice_samples.specs.Places.{block_count, interval_count, cut}
 use Rattle.rice_samples.specs.bytes.Spelling.{spellings}
@@ -18,7 +18,7 @@ use Rattle.rice_code.specs.Bounds.{block_bound, bit_bound, padding_bound, padded
 use Rattle.rice_code.specs.code.Code.{code, output, early_output}
 use Rattle.rice_code.proofs.lemmas.cost.PaddingBounds.{padding_is_bounded}
 use Rattle.rice_code.proofs.lemmas.code.SoundBlocks.{code_is_bounded}
-use Rattle.rice_samples.proofs.lemmas.setting.Levels.{zero_is_sample}
+use Rattle.rice_samples.proofs.lemmas.setting.LevelsOfSamples.{zero_is_sample}
 use Rattle.rice_samples.proofs.lemmas.bytes.SpellingLengths.{length-spellings}
 use Rattle.rice_stream.specs.Calls.{Call, StopsBetween}
 use Rattle.rice_stream.specs.Encodes.{Encodes, FailsBehind, FailsAtEnd}

@@ -9,7 +9,7 @@ use Rattle.rice_stream.specs.declared.outcome.Fault.{Fault}
 use Rattle.rice_stream.specs.declared.outcome.Fault.TheVariants.{Read, Write, TooLong, SampleOutOfRange, SampleCut, CodeEnds, RunPastSegment, ResidualTooLarge}
 use Rattle.rice_stream.specs.declared.outcome.Report.{Report}
 use Rattle.rice_stream.specs.declared.seam.Seam.{Seam}
-use Rattle.rice_c.specs.Feeds.{fault_of}
+use Rattle.rice_c.specs.Feeding.{fault_of}
 
 -- the room of an outlet that was not used
 room_of : Option Room → Room → Room

@@ -11,8 +11,8 @@ use Rattle.rice_stream.specs.declared.outcome.Fault.{Fault}
 use Rattle.rice_stream.specs.declared.seam.Seam.{Seam}
 use Rattle.rice_stream.proofs.lemmas.FedPieces.{nothing_early, place_of_seam}
 use Rattle.rice_samples.proofs.lemmas.bytes.SpellingLengths.{length-spellings, spellings-append}
-use Rattle.rice_c.specs.declared.feed.RiceFeed.{RiceFeed}
-use Rattle.rice_c.specs.Feeds.{fault_of, fed}
+use Rattle.rice_c.specs.declared.feeding.RiceFeed.{RiceFeed}
+use Rattle.rice_c.specs.Feeding.{fault_of, fed}
 use Rattle.rice_c.specs.Laws.{AreFed, FeedsTellPlaces, Push, last_feed, written_by}
 use Rattle.rice_c.proofs.lemmas.CallRoom.{none_of}
 

@@ -4,12 +4,12 @@ use Rattle.std.proofs.Math.Nat.{mul-div_cancel_left, mul-le-mul_left}
 use Rattle.std.proofs.lemmas.Bool.{cases_lt}
 use Rattle.std.proofs.lemmas.List.{length-take-le, take_at}
 use Rattle.rice_bits.specs.Bits.{bits_of}
-use Rattle.rice_bits.proofs.lemmas.bits.Bytes.{bits_of-append}
+use Rattle.rice_bits.proofs.lemmas.bits.BytesAndBits.{bits_of-append}
 use Rattle.rice_samples.specs.Parameters.{Parameters, IsLegal, width}
 use Rattle.rice_samples.specs.bytes.Spelling.{spellings}
-use Rattle.rice_samples.proofs.lemmas.setting.Levels.{zero_is_sample}
+use Rattle.rice_samples.proofs.lemmas.setting.LevelsOfSamples.{zero_is_sample}
 use Rattle.rice_code.specs.code.Decoded.{Decoded, Ending, Reached, Ended, CutOff, Past, Large}
-use Rattle.rice_code.proofs.lemmas.meaning.OneMeaning.{decoded_is_one}
+use Rattle.rice_code.proofs.lemmas.meaning.DecodedInOneWay.{decoded_is_one}
 use Rattle.rice_stream.specs.Decodes.{EndsDecoding}
 use Rattle.rice_stream.specs.Laws.{EndsCode, IsPlace, place_at}
 use Rattle.rice_stream.specs.Laws as stream
@@ -24,7 +24,7 @@ use Rattle.rice_stream.proofs.lemmas.OneDecoding.{FaultOf, decodes_as, never_rea
 use Rattle.rice_stream.proofs.lemmas.PulledPieces.{seek_all, seek_enough, stands_tell_places}
 use Rattle.rice_stream.proofs.lemmas.ReturnedBytes.{decoded_before}
 use Rattle.rice_samples.proofs.lemmas.bytes.SpellingLengths.{length-spellings, spellings-append}
-use Rattle.rice_c.specs.declared.drain.RiceDrain.{RiceDrain}
+use Rattle.rice_c.specs.declared.pulling.RiceDrain.{RiceDrain}
 use Rattle.rice_c.specs.declared.report.RiceReport.{RiceReport}
 use Rattle.rice_c.specs.declared.status.Status.{Status}
 use Rattle.rice_c.specs.declared.status.Status.TheVariants as statuses

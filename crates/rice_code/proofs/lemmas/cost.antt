@@ -2,11 +2,11 @@
 pub mod AddedCodeBound
 pub mod BlockBounds
 pub mod CodeEnds
-pub mod Costs
+pub mod CostIsLength
 pub mod LeastCode
 pub mod LeastRuns
 pub mod LooksPaid
 pub mod PaddingBounds
 pub mod PairCosts
-pub mod Savings
-pub mod SmallerBlocks
+pub mod SplitSavings
+pub mod CostsOfSmallerBlocks

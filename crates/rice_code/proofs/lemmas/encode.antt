@@ -5,12 +5,12 @@ pub mod HeldSamples
 pub mod JoinedWords
 pub mod OpenSegments
 pub mod OptionBits
-pub mod RangesWritten
+pub mod PartsInRanges
 pub mod PendingRuns
 pub mod PushedCode
 pub mod ChoiceLemmas
 pub mod SegmentBlocks
-pub mod SeveralHeld
+pub mod SeveralSamplesHeld
 pub mod ShortLowParts
 pub mod HighParts
 pub mod PushedSamples

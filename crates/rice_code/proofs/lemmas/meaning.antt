@@ -1,14 +1,14 @@
 -- What bits stand for: one thing, always something, and the samples that were coded.
-pub mod Afresh
-pub mod AllBytes
+pub mod DecodingBeginsAfresh
+pub mod AllBytesAreDecoded
 pub mod CoveredBlocks
 pub mod DecodingGoesOn
 pub mod DecodingPlaces
-pub mod Intervals
+pub mod IntervalsStandAlone
 pub mod NoShorterCode
-pub mod OneMeaning
+pub mod DecodedInOneWay
 pub mod OutputBytes
-pub mod FormSearch
-pub mod Returned
+pub mod FormsAtFront
+pub mod SamplesAreReturned
 pub mod SentSets
 pub mod DecodingWitnesses

@@ -1,7 +1,7 @@
 -- Blocks that a decoder gives in a row, and where it stood behind each of them.
 use Rattle.std.specs.Prelude.{◌≡◌, ℕ, suc, ◌+◌, ◌<◌, List, length, slice_index_or}
 use Rattle.rice_bits.specs.read.Reader.{Reader}
-use Rattle.rice_code.specs.decode.BlocksAhead.{GivesBytes}
+use Rattle.rice_code.specs.decode.BlocksInOnePass.{GivesBytes}
 use Rattle.rice_code.specs.decode.DecoderState.{DecoderState}
 use Rattle.rice_code.specs.decode.PlainBlocks.{GivesRow}
 

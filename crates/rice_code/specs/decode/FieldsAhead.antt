@@ -6,7 +6,7 @@ use Rattle.rice_samples.specs.Parameters.{Parameters, id_len, value_at, value_co
 use Rattle.rice_samples.specs.predict.Residuals.{pattern}
 use Rattle.rice_code.specs.code.CodedDataSets.{reference_bits}
 use Rattle.rice_code.specs.code.Forms.{IsReference}
-use Rattle.rice_code.specs.decode.BlocksAhead.{SpellsParts}
+use Rattle.rice_code.specs.decode.BlocksInOnePass.{SpellsParts}
 use Rattle.rice_code.specs.decode.ReadSets.{reference_place}
 
 -- The first `len` bits are identifier and reference sample, if there is one, of block b after a sample at level `before`. Its first

@@ -4,9 +4,9 @@ use Rattle.rice_bits.specs.Bits.{word}
 use Rattle.rice_bits.specs.read.Reader.{Reader}
 use Rattle.rice_samples.specs.Parameters.{Parameters, id_len, width as width_of}
 use Rattle.rice_samples.specs.bytes.Spelling.{ordered_bytes}
-use Rattle.rice_code.specs.decode.BlocksAhead.{GivesBytes}
+use Rattle.rice_code.specs.decode.BlocksInOnePass.{GivesBytes}
 use Rattle.rice_code.specs.decode.DecoderState.{DecoderState}
-use Rattle.rice_code.specs.decode.Rows.{AreCounted}
+use Rattle.rice_code.specs.decode.RowsOfFields.{AreCounted}
 
 -- Samples are not predicted, and use all bits of 1, 2 or 4 bytes, and intervals are not padded.
 pub record IsPlain (s : Parameters) (width : ℕ) : Type 0 where

@@ -1,6 +1,6 @@
 //! Reads one coded data set.
 ghost use Rattle.std.specs.Prelude.{◌≡◌, ◌-◌, ◌<◌, length, None, IfOk, IfErr};
-ghost use Rattle.rice_code.specs.decode.Rows.{HasRoom, AreCounted};
+ghost use Rattle.rice_code.specs.decode.RowsOfFields.{HasRoom, AreCounted};
 ghost use Rattle.rice_code.specs.decode.ReadSets.{LowEntropyRead, LowEntropyCut, SetRead, SetCut};
 
 use crate::decode::options::{

@@ -6,9 +6,9 @@ ghost use Rattle.rice_samples.specs.Places.{blocks_left};
 ghost use Rattle.rice_bits.specs.Bits.{word};
 ghost use Rattle.rice_code.specs.Limits.{most_samples_of_bit};
 ghost use Rattle.rice_code.specs.code.Forms.{RunIsSound, blocks_in, zero_blocks};
-ghost use Rattle.rice_code.specs.decode.BlocksAhead.{HasLanes, lanes_of};
+ghost use Rattle.rice_code.specs.decode.BlocksInOnePass.{HasLanes, lanes_of};
 ghost use Rattle.rice_code.specs.decode.BlocksInRow.{GivesBlocks, GivesOneBlock};
-ghost use Rattle.rice_code.specs.decode.Rows.{AreCounted};
+ghost use Rattle.rice_code.specs.decode.RowsOfFields.{AreCounted};
 ghost use Rattle.rice_code.specs.decode.PlainBlocks.{GivesRow, IsPlain, PlainRow};
 ghost use Rattle.rice_code.specs.decode.Decoder.{Skips, answer_to};
 ghost use Rattle.rice_code.specs.decode.DecoderState.{next_block_place, place_after};
@@ -499,7 +499,7 @@ impl Decoder {
             None => return false,
         };
         take_ahead(reader, spelled.len, meter);
-        let _answer = self.go_on(spelled.last, 0, reader, meter);
+        let _answer = self.go_to_next_block(spelled.last, 0, reader, meter);
         true
     }
 
@@ -580,7 +580,7 @@ impl Decoder {
             bytes,
         );
         take_ahead(reader, spelled.len, meter);
-        let _answer = self.go_on(spelled.last, 0, reader, meter);
+        let _answer = self.go_to_next_block(spelled.last, 0, reader, meter);
     }
 
     /// Returns how many of the next coded data sets, at most `most`, are blocks without compression and wait one behind another, where
@@ -692,11 +692,11 @@ impl Decoder {
         }
         // It is laid out for each size of blocks.
         match self.setting.block() {
-            8 => self.read_sized::<I, 8>(reader, meter, levels),
-            16 => self.read_sized::<I, 16>(reader, meter, levels),
-            32 => self.read_sized::<I, 32>(reader, meter, levels),
-            size if size < 64 => self.read_sized::<I, 0>(reader, meter, levels),
-            _ => self.read_sized::<I, 64>(reader, meter, levels),
+            8 => self.read_and_restore::<I, 8>(reader, meter, levels),
+            16 => self.read_and_restore::<I, 16>(reader, meter, levels),
+            32 => self.read_and_restore::<I, 32>(reader, meter, levels),
+            size if size < 64 => self.read_and_restore::<I, 0>(reader, meter, levels),
+            _ => self.read_and_restore::<I, 64>(reader, meter, levels),
         }
     }
 
@@ -749,13 +749,13 @@ impl Decoder {
             None => return false,
         };
         take_ahead(reader, restored.len, meter);
-        let _answer = self.go_on(restored.last, 0, reader, meter);
+        let _answer = self.go_to_next_block(restored.last, 0, reader, meter);
         true
     }
 
     /// Reads a coded data set, and restores the samples of its first block, which are `SIZE` unless that is 0, by their levels.
     #[inline(never)]
-    fn read_sized<I: Intake, const SIZE: usize>(
+    fn read_and_restore<I: Intake, const SIZE: usize>(
         &mut self,
         reader: &mut BitReader<I>,
         meter: &mut Meter,
@@ -798,12 +798,12 @@ impl Decoder {
                 let last = restore_block(
                     setting, block, before, reference, residuals, near, levels,
                 );
-                self.go_on(last, 0, reader, meter)
+                self.go_to_next_block(last, 0, reader, meter)
             }
             Ok(SetSummary::Zeros { reference, zeros }) => match run_blocks(setting, block, zeros) {
                 Some(count) => {
                     let last = restore_zeros(setting, block, before, reference, levels);
-                    self.go_on(last, count - 1, reader, meter)
+                    self.go_to_next_block(last, count - 1, reader, meter)
                 }
                 None => self.stop(Err(CodeFault::RunPastSegment), levels),
             },
@@ -814,7 +814,7 @@ impl Decoder {
     /// Goes to the next block, after a data set of which `last` is the level of the last sample of the first block, and which `run`
     /// zero blocks follow.
     #[inline(always)]
-    fn go_on<I: Intake>(
+    fn go_to_next_block<I: Intake>(
         &mut self,
         last: u32,
         run: u32,

@@ -1,7 +1,7 @@
 //! Reads the high and the low parts of residuals.
 ghost use Rattle.std.specs.Prelude.{◌≡◌, ◌+◌, ◌-◌, ◌*◌, ◌/◌, ◌^◌, ◌<◌, ◌≤◌, length, None, IfNone, IfSome, IfOk, IfErr};
 ghost use Rattle.rice_bits.specs.Limits.{most_bits_read};
-ghost use Rattle.rice_code.specs.decode.Rows.{HasRoom};
+ghost use Rattle.rice_code.specs.decode.RowsOfFields.{HasRoom};
 ghost use Rattle.rice_code.specs.decode.ReadSets.{PartsRead, PartsCut};
 
 use crate::decode::rows::{read_counts, read_words};
@@ -38,7 +38,7 @@ pub fn read_parts<I: Intake>(
 }
 
 /// Returns the least number whose high part, without `k` digits, is above `most`.
-fn limit_of(most: u64, k: u32) -> u64
+fn least_with_high_part_above(most: u64, k: u32) -> u64
     requires k { k ≤ 29 }
     requires most { most ≤ (2 ^ 32 - 1) / 2 ^ k }
     ensures value { result ≡ (most + 1) * 2 ^ k }
@@ -138,7 +138,7 @@ fn take_short_parts<I: Intake>(
     if most >= 63 {
         return Some(true);
     }
-    Some(each_is_below(residuals, limit_of(most, k)))
+    Some(each_is_below(residuals, least_with_high_part_above(most, k)))
 }
 
 /// As `read_rows`, with the loops for any number of residuals.

@@ -2,11 +2,11 @@
 ghost use Rattle.std.specs.Prelude.{◌≡◌, ◌+◌, ◌-◌, ◌*◌, ◌^◌, ◌<◌, ◌≤◌, All, drop, length, replicate, true, take};
 ghost use Rattle.rice_bits.specs.Bits.{word};
 ghost use Rattle.rice_samples.specs.Parameters.{id_len, value_at, value_count};
-ghost use Rattle.rice_code.specs.decode.BlocksAhead.{HasLanes, HasWidth, SpelledAhead, SpellsParts, lanes_of};
+ghost use Rattle.rice_code.specs.decode.BlocksInOnePass.{HasLanes, HasWidth, SpelledAhead, SpellsParts, lanes_of};
 ghost use Rattle.rice_code.specs.decode.FieldsAhead.{UncompressedAhead};
 
 use crate::decode::split_ahead::{SpelledBlock, has_rows};
-use crate::decode::split_rows::{behind_omitted, head_ahead, low_rows, row_len};
+use crate::decode::split_rows::{behind_omitted, head_ahead, low_parts_in_rows, row_len};
 use rice_bits::{BitReader, Intake};
 use rice_samples::{Setting, levels_in_turn, spelled_bytes};
 use std::simd::prelude::*;
@@ -135,7 +135,7 @@ fn spell_uncompressed_rows<I: Intake>(
         bytes.new }
 {
     let bits = setting.bits();
-    let residuals = low_rows(reader, size, skip, omitted, bits);
+    let residuals = low_parts_in_rows(reader, size, skip, omitted, bits);
     let mut last = from;
     for row in 0..(size + 15) / 16 {
         let count = row_len(size, row);

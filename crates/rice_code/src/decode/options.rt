@@ -6,7 +6,7 @@ ghost use Rattle.rice_samples.specs.Parameters.{k_max};
 ghost use Rattle.rice_samples.specs.Places.{is_reference};
 ghost use Rattle.rice_code.specs.code.CodedDataSets.{NoCompression, SecondExtension, Split, reference_bits, run_tail};
 ghost use Rattle.rice_code.specs.code.Forms.{IsReference};
-ghost use Rattle.rice_code.specs.decode.Rows.{HasRoom, AreCounted};
+ghost use Rattle.rice_code.specs.decode.RowsOfFields.{HasRoom, AreCounted};
 ghost use Rattle.rice_code.specs.decode.ReadSets.{BlockRead, BlockCut, PartsRead, PartsCut, reference_place};
 
 use crate::decode::high_and_low_parts::read_parts;
@@ -64,7 +64,7 @@ pub fn read_reference<I: Intake>(
 
 /// Writes a 0 at the place of the reference sample, if there is one. Returns where the residuals that are sent begin.
 #[inline(always)]
-pub fn begin_residuals(reference: Option<u32>, residuals: &mut [u32]) -> usize
+pub fn write_zero_for_reference(reference: Option<u32>, residuals: &mut [u32]) -> usize
     requires { 0 < length residuals.old }
     ensures first { result ≡ length (reference_place reference) }
     ensures place { take result residuals.new ≡ reference_place reference }
@@ -118,7 +118,7 @@ pub fn read_no_compression<I: Intake>(
 {
     let reference = read_reference(setting, block, reader, meter)?;
     let width = setting.bits();
-    let first = begin_residuals(reference, residuals);
+    let first = write_zero_for_reference(reference, residuals);
     read_words(reader, meter, width, &mut residuals[first..])?;
     Ok(BlockSummary {
         reference,
@@ -176,7 +176,7 @@ pub fn read_split<I: Intake>(
     let reference = read_reference(setting, block, reader, meter)?;
     let values = setting.values();
     let most = (values - 1) >> k;
-    let first = begin_residuals(reference, residuals);
+    let first = write_zero_for_reference(reference, residuals);
     let small = read_sent(reader, meter, most, k, first, highs, residuals)?;
     if !small {
         return Ok(BlockSummary {

@@ -3,7 +3,7 @@ ghost use Rattle.std.specs.Prelude.{◌≡◌, ◌+◌, ◌-◌, ◌/◌, ◌<�
 ghost use Rattle.rice_bits.specs.Limits.{most_bits_read, step_limit};
 ghost use Rattle.rice_bits.specs.read.Reader.{Stops};
 ghost use Rattle.rice_samples.specs.blocks.Pairs.{pair_codes, pair_code};
-ghost use Rattle.rice_code.specs.decode.Rows.{HasRoom, AreCounted, PairRow, PairsTaken, ones};
+ghost use Rattle.rice_code.specs.decode.RowsOfFields.{HasRoom, AreCounted, PairRow, PairsTaken, ones};
 
 use rice_bits::{BitFault, BitReader, Intake, Meter};
 
@@ -80,7 +80,7 @@ static PAIRS: [[u32; 2]; 64] = [
 
 /// Returns the pair that the number `g` stands for.
 #[inline]
-pub fn pair_of_few(g: u32) -> (u32, u32)
+pub fn pair_in_table(g: u32) -> (u32, u32)
     requires { g < 64 }
     ensures pair { pair_code result.0 result.1 ≡ g }
     ensures few { result.0 + result.1 ≤ g }
@@ -147,7 +147,7 @@ fn write_pairs(codes: &[u32], out: &mut [u32]) -> u64
     // The sums of the first parts and of the second, side by side.
     let mut sums = 0u64;
     for i in 0..codes.len() {
-        let (a, b) = pair_of_few(codes[i]);
+        let (a, b) = pair_in_table(codes[i]);
         out[2 * i] = a;
         out[2 * i + 1] = b;
         sums += a as u64 + b as u64 * SECOND;

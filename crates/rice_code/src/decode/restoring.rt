@@ -54,7 +54,7 @@ fn write_levels(
         return;
     }
     // A residual of 0 stands at the place of the reference sample, and so it is restored as the sample before it.
-    let before = reference_or(setting, reference, before);
+    let before = reference_level_or_before(setting, reference, before);
     if near {
         restore_near_first(setting, before, residuals, levels);
     } else {
@@ -64,7 +64,7 @@ fn write_levels(
 
 /// Returns the level of the reference sample, or `before` if there is none.
 #[inline]
-fn reference_or(setting: &Setting, reference: Option<u32>, before: u32) -> u32
+fn reference_level_or_before(setting: &Setting, reference: Option<u32>, before: u32) -> u32
     requires before { before < value_count setting.now }
     requires reference { IfSome reference (λ v. v < value_count setting.now) }
     ensures below { result < value_count setting.now }
@@ -130,7 +130,7 @@ fn level_of_zero(setting: &Setting, reference: Option<u32>, before: u32) -> u32
     if !setting.preprocess() {
         return level_of_pattern(setting, 0);
     }
-    reference_or(setting, reference, before)
+    reference_level_or_before(setting, reference, before)
 }
 
 /// Writes `value` to all places.

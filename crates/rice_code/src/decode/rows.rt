@@ -2,7 +2,7 @@
 ghost use Rattle.std.specs.Prelude.{◌≡◌, ℕ, ◌+◌, ◌-◌, ◌*◌, ◌^◌, ◌<◌, ◌≤◌, Bool, false, List, length, replicate, take, None, IfOk, IfErr, OnOk};
 ghost use Rattle.rice_bits.specs.Limits.{most_bits_read};
 ghost use Rattle.rice_bits.specs.read.Reader.{Stops};
-ghost use Rattle.rice_code.specs.decode.Rows.{HasRoom, WordRow, CountRow, CountsRead, ones};
+ghost use Rattle.rice_code.specs.decode.RowsOfFields.{HasRoom, WordRow, CountRow, CountsRead, ones};
 
 use crate::decode::sound_residuals::are_below;
 use rice_bits::{BitFault, BitReader, Intake, Meter};

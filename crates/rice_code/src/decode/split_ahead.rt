@@ -4,11 +4,11 @@ ghost use Rattle.rice_bits.specs.Limits.{step_limit, most_bits_read};
 ghost use Rattle.rice_bits.specs.Bits.{word};
 ghost use Rattle.rice_bits.specs.read.Reader.{Takes};
 ghost use Rattle.rice_samples.specs.Parameters.{id_len, value_at, value_count};
-ghost use Rattle.rice_code.specs.decode.BlocksAhead.{HasLanes, HasWidth, SpelledAhead, lanes_of};
+ghost use Rattle.rice_code.specs.decode.BlocksInOnePass.{HasLanes, HasWidth, SpelledAhead, lanes_of};
 ghost use Rattle.rice_code.specs.decode.Decoder.{with_mark};
 
 use crate::decode::split_lanes::{parts_ahead, spell_parts};
-use crate::decode::split_rows::{rows_ahead, spell_rows};
+use crate::decode::split_rows::{parts_in_rows_ahead, spell_rows};
 use rice_bits::{BitReader, Intake, Meter};
 use rice_samples::Setting;
 
@@ -148,7 +148,7 @@ fn spell_in_rows<I: Intake, const WIDTH: usize, const TURNS: bool>(
         (value_at setting.now before) size r.last r.len bytes.new) }
     ensures none { IfNone result (bytes.new ≡ bytes.old) }
 {
-    let parts = rows_ahead::<I, WIDTH>(setting, size, block, before, k, reader)?;
+    let parts = parts_in_rows_ahead::<I, WIDTH>(setting, size, block, before, k, reader)?;
     let last = spell_rows::<WIDTH, TURNS>(setting, size, k, &parts, bytes)?;
     Some(SpelledBlock {
         last,

@@ -4,11 +4,11 @@ ghost use Rattle.rice_bits.specs.Bits.{word};
 ghost use Rattle.rice_samples.specs.Parameters.{id_len, value_count};
 ghost use Rattle.rice_samples.specs.Places.{is_reference};
 ghost use Rattle.rice_samples.specs.predict.LevelsOfParts.{AreLevelsOfParts};
-ghost use Rattle.rice_code.specs.decode.BlocksAhead.{HasLanes, HasWidth, PartsAhead, SpellsParts};
+ghost use Rattle.rice_code.specs.decode.BlocksInOnePass.{HasLanes, HasWidth, PartsAhead, SpellsParts};
 
 use rice_bits::{BitReader, Intake, behind_zero};
 use rice_samples::{
-    LevelHalves, LevelLanes, Setting, halves_in_turn, joined_in_turn, level_of_pattern,
+    LevelHalves, LevelLanes, Setting, halves_in_turn, level_of_pattern, levels_of_parts_in_turn,
     near_halves, near_levels, spelled_bytes, spelled_words,
 };
 use std::simd::prelude::*;
@@ -46,14 +46,14 @@ pub fn first_lanes(numbers: u8x16, count: usize) -> u8x16
 {
     match count {
         16 => numbers,
-        8 => first_eight(numbers),
-        _ => cleared_behind(numbers, count),
+        8 => first_eight_then_zeros(numbers),
+        _ => first_then_zeros(numbers, count),
     }
 }
 
 /// Returns the first `count` numbers, with zeros behind them.
 #[inline(always)]
-fn cleared_behind(numbers: u8x16, count: usize) -> u8x16
+fn first_then_zeros(numbers: u8x16, count: usize) -> u8x16
     requires count { count ≤ 16 }
     requires len { length numbers ≡ 16 }
     ensures { result ≡ take count numbers ++ replicate (16 - count) 0 }
@@ -63,7 +63,7 @@ fn cleared_behind(numbers: u8x16, count: usize) -> u8x16
 
 /// Returns the first eight numbers, with zeros behind them.
 #[inline(always)]
-fn first_eight(numbers: u8x16) -> u8x16
+fn first_eight_then_zeros(numbers: u8x16) -> u8x16
     requires { length numbers ≡ 16 }
     ensures { result ≡ take 8 numbers ++ replicate 8 0 }
 {
@@ -108,12 +108,12 @@ pub fn parts_ahead<I: Intake, const WIDTH: usize>(
     if begins_interval(setting, block) {
         return parts_behind_reference::<I, WIDTH>(setting, size, block, before, k, reader);
     }
-    plain_parts::<I, WIDTH>(setting, size, block, before, k, reader)
+    parts_without_reference::<I, WIDTH>(setting, size, block, before, k, reader)
 }
 
 /// As `parts_ahead`, for a block that has no reference sample.
 #[inline(always)]
-fn plain_parts<I: Intake, const WIDTH: usize>(
+fn parts_without_reference<I: Intake, const WIDTH: usize>(
     setting: &Setting,
     size: usize,
     block: u64,
@@ -225,7 +225,7 @@ fn row_levels<const TURNS: bool>(
     ensures { IfSome result (λ l. AreLevelsOfParts setting.now from k highs lows l.levels) }
 {
     if TURNS {
-        return joined_in_turn(setting, from, highs, lows, k);
+        return levels_of_parts_in_turn(setting, from, highs, lows, k);
     }
     near_levels(setting, from, highs, lows, k)
 }

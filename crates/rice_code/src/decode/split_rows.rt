@@ -2,7 +2,7 @@
 ghost use Rattle.std.specs.Prelude.{◌≡◌, ◌+◌, ◌-◌, ◌*◌, ◌^◌, ◌<◌, ◌≤◌, ◌++◌, All, IfSome, IfNone, drop, length, replicate, true, take};
 ghost use Rattle.rice_bits.specs.Bits.{word};
 ghost use Rattle.rice_samples.specs.Parameters.{id_len, value_count};
-ghost use Rattle.rice_code.specs.decode.BlocksAhead.{HasLanes, HasWidth, PartsAhead, SpellsParts, lanes_of};
+ghost use Rattle.rice_code.specs.decode.BlocksInOnePass.{HasLanes, HasWidth, PartsAhead, SpellsParts, lanes_of};
 ghost use Rattle.rice_code.specs.decode.FieldsAhead.{HeadAhead, HighsAhead, LowsAhead, rows_len};
 
 use crate::decode::split_lanes::{begins_interval, first_lanes, spell_parts};
@@ -111,7 +111,7 @@ pub fn store_row(rows: &mut [u8], row: usize, numbers: u8x16)
 /// Returns the high parts of a row of `count` residuals whose fundamental sequences wait behind the first `skip` bits, if all of them
 /// are in one look, and zeros behind them. Those that are omitted, one or none, are zeros.
 #[inline(always)]
-fn row_ahead<I: Intake>(
+fn high_parts_of_row_ahead<I: Intake>(
     reader: &BitReader<I>,
     skip: usize,
     omitted: usize,
@@ -138,7 +138,7 @@ fn row_ahead<I: Intake>(
 /// Writes the high parts of the residuals of a block of `size` samples whose fundamental sequences wait behind the first `skip` bits, if
 /// each row of them is in one look, and returns the number of their bits. Those that are omitted, one or none, are zeros.
 #[inline(always)]
-pub fn write_highs<I: Intake>(
+pub fn write_high_parts<I: Intake>(
     reader: &BitReader<I>,
     size: usize,
     skip: usize,
@@ -154,11 +154,11 @@ pub fn write_highs<I: Intake>(
     ensures places { length highs.new ≡ 64 }
 {
     let _taken = reader.taken();
-    let first = row_ahead(reader, skip, omitted, 16)?;
+    let first = high_parts_of_row_ahead(reader, skip, omitted, 16)?;
     store_row(highs, 0, first.numbers);
     let mut len = first.len;
     for row in 1..(size + 15) / 16 {
-        let next = row_ahead(reader, skip + len, 0, row_len(size, row))?;
+        let next = high_parts_of_row_ahead(reader, skip + len, 0, row_len(size, row))?;
         store_row(highs, row, next.numbers);
         len += next.len;
     }
@@ -168,7 +168,7 @@ pub fn write_highs<I: Intake>(
 /// Returns the low parts of `k` bits of the residuals of a block of `size` samples, which wait behind the first `skip` bits. Those that
 /// are omitted, one or none, are zeros.
 #[inline(always)]
-pub fn low_rows<I: Intake>(
+pub fn low_parts_in_rows<I: Intake>(
     reader: &BitReader<I>,
     size: usize,
     skip: usize,
@@ -198,7 +198,7 @@ pub fn low_rows<I: Intake>(
 /// Returns the parts of the block of `size` samples that waits, by split `k`, after a sample at level `before`, if the fundamental
 /// sequences of its rows are short. It takes nothing.
 #[inline(always)]
-pub fn rows_ahead<I: Intake, const WIDTH: usize>(
+pub fn parts_in_rows_ahead<I: Intake, const WIDTH: usize>(
     setting: &Setting,
     size: usize,
     block: u64,
@@ -222,12 +222,12 @@ pub fn rows_ahead<I: Intake, const WIDTH: usize>(
     let _taken = reader.taken();
     let head = head_ahead(setting, block, before, WIDTH + 2, reader);
     let mut highs = [0; 64];
-    let len = write_highs(reader, size, head.len, head.omitted, &mut highs)?;
+    let len = write_high_parts(reader, size, head.len, head.omitted, &mut highs)?;
     let words = head.len + len;
     if reader.waiting() < (words + size * k as usize + 128) as u64 {
         return None;
     }
-    let lows = low_rows(reader, size, words, head.omitted, k);
+    let lows = low_parts_in_rows(reader, size, words, head.omitted, k);
     Some(PartRows {
         from: head.from,
         highs,

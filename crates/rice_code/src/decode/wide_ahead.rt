@@ -3,11 +3,11 @@ ghost use Rattle.std.specs.Prelude.{◌≡◌, ◌+◌, ◌-◌, ◌*◌, ◌%�
 ghost use Rattle.rice_bits.specs.Bits.{word};
 ghost use Rattle.rice_samples.specs.Parameters.{id_len, value_at, value_count};
 ghost use Rattle.rice_samples.specs.predict.Residuals.{last_number};
-ghost use Rattle.rice_code.specs.decode.BlocksAhead.{BlockAhead};
+ghost use Rattle.rice_code.specs.decode.BlocksInOnePass.{BlockAhead};
 ghost use Rattle.rice_code.specs.decode.WideAhead.{EightLevels, LevelsAhead, RestoredAhead};
 
 use crate::decode::split_ahead::SpelledBlock;
-use crate::decode::split_rows::{head_ahead, write_highs};
+use crate::decode::split_rows::{head_ahead, write_high_parts};
 use rice_bits::{BitReader, Intake};
 use rice_samples::{Setting, near_words};
 use std::simd::prelude::*;
@@ -200,7 +200,7 @@ fn restore_rows<I: Intake>(
     let _taken = reader.taken();
     let size = levels.len();
     let mut highs = [0; 64];
-    let words = skip + write_highs(reader, size, skip, omitted, &mut highs)?;
+    let words = skip + write_high_parts(reader, size, skip, omitted, &mut highs)?;
     if reader.waiting() < (words + size * k as usize) as u64 + LOOK {
         return None;
     }

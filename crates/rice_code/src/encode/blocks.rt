@@ -61,7 +61,7 @@ fn code_block<const SIZE: usize, const REFERENCE: bool>(
 
 /// Appends the code of the run of `run` zero blocks that are pending, if there are any.
 #[inline(always)]
-fn put_pending(
+fn put_pending_run(
     setting: &PreparedSetting,
     reference: Option<u32>,
     run: u32,
@@ -86,7 +86,7 @@ fn put_pending(
 /// Appends the code of the run of `run` zero blocks that are pending before another block, if there are any. The first of
 /// them is block `first` of the segment, whose block 0 has the reference, if there is one.
 #[inline(always)]
-fn put_before(
+fn put_run_before_block(
     setting: &PreparedSetting,
     reference: Option<u32>,
     first: usize,
@@ -110,7 +110,7 @@ fn put_before(
     // Which reference it is, is asked only where a run is pending.
     if run > 0 {
         let head = reference_of(reference, first);
-        put_pending(setting, head, run, false, sink, meter);
+        put_pending_run(setting, head, run, false, sink, meter);
     }
 }
 
@@ -146,7 +146,7 @@ fn code_next<const SIZE: usize>(
     if block.residuals().is_zero(meter) {
         return run + 1;
     }
-    put_before(setting, reference, first, run, sink, meter);
+    put_run_before_block(setting, reference, first, run, sink, meter);
     let (own, residuals) = block.into_parts();
     match own {
         Some(word) => code_block::<SIZE, true>(setting, word, residuals, sink, meter),
@@ -241,5 +241,5 @@ fn code_each<const SIZE: usize, const N: usize>(
         );
     }
     let first = reference_of(reference, count - run as usize);
-    put_pending(setting, first, run, true, sink, meter);
+    put_pending_run(setting, first, run, true, sink, meter);
 }

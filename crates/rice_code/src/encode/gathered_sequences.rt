@@ -43,7 +43,7 @@ pub fn with_four(ones: Ones, four: (u32, u32, u32, u32)) -> Ones
 
 /// Begins with the fundamental sequences of the four numbers from number `from` on, which is one of the first two.
 #[inline(always)]
-pub fn first_ones(four: (u32, u32, u32, u32), from: usize) -> Ones
+pub fn begin_ones(four: (u32, u32, u32, u32), from: usize) -> Ones
     requires { from ≤ 1 }
     ensures most { 2 ^ 39 ≤ result.left }
     ensures some { result.left < 2 ^ 40 }
@@ -95,7 +95,7 @@ pub struct GatheredRow {
 
 /// Begins a number of `total` digits.
 #[inline(always)]
-pub fn no_sequences(total: u64) -> GatheredRow
+pub fn begin_without_sequences(total: u64) -> GatheredRow
     ensures left { result.left ≡ total }
     ensures bits { HasFront result.value result.left [] }
 {
@@ -139,7 +139,7 @@ pub fn with_four_sequences(row: GatheredRow, four: (u32, u32, u32, u32)) -> Gath
 /// Begins a number of `total` digits with the fundamental sequences of the four numbers from number `from` on, which is one
 /// of the first two.
 #[inline(always)]
-pub fn sequences_of_four(four: (u32, u32, u32, u32), from: usize, total: u64) -> GatheredRow
+pub fn begin_sequences_with_four(four: (u32, u32, u32, u32), from: usize, total: u64) -> GatheredRow
     requires from { from ≤ 1 }
     requires some { length (sequences_from from four.0 four.1 four.2 four.3) ≤ total }
     requires few { total ≤ 56 }
@@ -147,7 +147,7 @@ pub fn sequences_of_four(four: (u32, u32, u32, u32), from: usize, total: u64) ->
     ensures bits { HasFront result.value result.left
         (sequences_from from four.0 four.1 four.2 four.3) }
 {
-    let none = no_sequences(total);
+    let none = begin_without_sequences(total);
     if from == 0 {
         return with_four_sequences(none, four);
     }

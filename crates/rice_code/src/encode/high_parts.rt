@@ -8,7 +8,8 @@ ghost use Rattle.rice_code.specs.encode.SentParts.{HasRoomForOnes, AddsOnes};
 use crate::encode::SegmentSink;
 use crate::encode::bit_buffer::BitBuffer;
 use crate::encode::gathered_sequences::{
-    Ones, are_short, first_ones, number_of_ones, sequences_of_four, with_four, with_four_sequences,
+    Ones, are_short, begin_ones, begin_sequences_with_four, number_of_ones, with_four,
+    with_four_sequences,
 };
 use rice_bits::Meter;
 use rice_samples::Block;
@@ -248,7 +249,7 @@ fn put_eight(
         sink.old fields.old sink.new fields.new meter.old meter.new }
 {
     if total <= 56 {
-        let row = with_four_sequences(sequences_of_four(a, from, total), b);
+        let row = with_four_sequences(begin_sequences_with_four(a, from, total), b);
         fields.add(row.value, total as u32, sink, meter);
         return;
     }
@@ -285,7 +286,7 @@ fn put_whole_sixteen(
         sink.old fields.old sink.new fields.new meter.old meter.new }
 {
     if total <= 56 {
-        let half = with_four_sequences(sequences_of_four(a, from, total), b);
+        let half = with_four_sequences(begin_sequences_with_four(a, from, total), b);
         let row = with_four_sequences(with_four_sequences(half, c), d);
         fields.add(row.value, total as u32, sink, meter);
         return;
@@ -318,7 +319,7 @@ fn put_sixteen(
         four_sequences c.0 c.1 c.2 c.3 ++ four_sequences d.0 d.1 d.2 d.3)
         sink.old fields.old sink.new fields.new meter.old meter.new }
 {
-    let ones = with_four(with_four(with_four(first_ones(a, from), b), c), d);
+    let ones = with_four(with_four(with_four(begin_ones(a, from), b), c), d);
     if are_short(ones) {
         add_ones(ones, fields, sink, meter);
         return;

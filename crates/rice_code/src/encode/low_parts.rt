@@ -80,7 +80,7 @@ fn put_four_low(
 {
     for i in 0..(block.len() - from) / 4 {
         let four = block.four_at(from + 4 * i, meter);
-        fields.add(four_low(four, width), 4 * width, sink, meter);
+        fields.add(four_low_parts(four, width), 4 * width, sink, meter);
     }
 }
 
@@ -107,7 +107,7 @@ fn put_many_digits(
 
 /// Returns the number whose digits are the lowest digits of four numbers, one after the other.
 #[inline(always)]
-fn four_low(four: (u32, u32, u32, u32), width: u32) -> u64
+fn four_low_parts(four: (u32, u32, u32, u32), width: u32) -> u64
     requires { width ≤ 14 }
     ensures fits { result < 2 ^ (4 * width) }
     ensures bits { word (4 * width) result ≡

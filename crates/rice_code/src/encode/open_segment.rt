@@ -190,7 +190,7 @@ impl<const N: usize> OpenSegment<N> {
         ensures { self.new ≡ state_with_later self.old (value_at self.old.setting before)
             (values_at self.old.setting levels.now) }
     {
-        push_later(&self.setting, before, levels, &mut self.residuals);
+        push_behind_first(&self.setting, before, levels, &mut self.residuals);
         self.previous = levels[levels.len() - 1];
     }
 
@@ -341,7 +341,7 @@ fn note_reference(setting: &PreparedSetting, first: bool, reference: &mut Option
 }
 
 /// Adds the residuals of samples after the one at level `previous`, none of which is the first of an interval.
-fn push_later<const N: usize>(
+fn push_behind_first<const N: usize>(
     setting: &PreparedSetting,
     previous: u32,
     levels: &[u32],

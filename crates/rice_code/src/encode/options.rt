@@ -23,7 +23,7 @@ use rice_samples::Block;
 /// Begins a coded data set: returns a buffer after the `width` digits of its identifier, with the flag
 /// after it where there is one, and the reference, if there is one.
 #[inline(always)]
-fn begin(
+fn begin_set(
     setting: &PreparedSetting,
     identifier: u32,
     width: u32,
@@ -83,7 +83,7 @@ pub fn put_no_compression<const SIZE: usize>(
     let from = first_coded(block);
     let bits = setting.bits();
     let _block = setting.block();
-    let mut fields = begin(setting, (1 << id) - 1, id, block.reference(), sink, meter);
+    let mut fields = begin_set(setting, (1 << id) - 1, id, block.reference(), sink, meter);
     if from == 0 && residuals.len() % 8 == 0 && is_whole_width(bits) {
         if SIZE == 8 || SIZE == 16 {
             fields.put_before(residuals, bits, sink, meter);
@@ -153,7 +153,7 @@ pub fn put_second_extension(
     let residuals = block.residuals();
     let id = setting.id_len();
     let _block = setting.block();
-    let mut fields = begin(setting, 1, id + 1, block.reference(), sink, meter);
+    let mut fields = begin_set(setting, 1, id + 1, block.reference(), sink, meter);
     put_pairs(residuals, cost - 1, &mut fields, sink, meter);
     fields.put(sink, meter);
 }
@@ -181,7 +181,7 @@ pub fn put_split(
     let from = first_coded(block);
     let _limit = setting.k_max();
     let _block = setting.block();
-    let mut fields = begin(setting, k + 1, id, block.reference(), sink, meter);
+    let mut fields = begin_set(setting, k + 1, id, block.reference(), sink, meter);
     let digits = (residuals.len() - from) as u64 * k as u64;
     put_high(residuals, from, k, cost - digits, &mut fields, sink, meter);
     if k == 0 {
@@ -216,7 +216,7 @@ pub fn put_run(
         meter.new }
 {
     let id = setting.id_len();
-    let mut fields = begin(setting, 0, id + 1, reference, sink, meter);
+    let mut fields = begin_set(setting, 0, id + 1, reference, sink, meter);
     fields.put(sink, meter);
     sink.put_fs(sent_zeros(z, to_end), meter);
 }

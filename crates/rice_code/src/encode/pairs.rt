@@ -7,7 +7,7 @@ ghost use Rattle.rice_code.specs.encode.SentParts.{pairs_len};
 
 use crate::encode::SegmentSink;
 use crate::encode::bit_buffer::BitBuffer;
-use crate::encode::gathered_sequences::{no_sequences, with_sequence};
+use crate::encode::gathered_sequences::{begin_without_sequences, with_sequence};
 use rice_bits::Meter;
 use rice_samples::Block;
 
@@ -66,7 +66,7 @@ fn put_short_pairs(
         (pairs_len block.now) (length block.now + pairs_len block.now)
         sink.old fields.old sink.new fields.new meter.old meter.new }
 {
-    let mut row = no_sequences(total);
+    let mut row = begin_without_sequences(total);
     for i in 0..block.len() / 2 {
         let a = block.at(2 * i, meter);
         let b = block.at(2 * i + 1, meter);

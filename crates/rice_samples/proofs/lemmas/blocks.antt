@@ -1,5 +1,5 @@
 -- Sums, tests and pairs of the residuals of a block.
 pub mod FallingSums
-pub mod LaneLemmas
-pub mod PairLemmas
+pub mod EightsInLanes
+pub mod PairNumbers
 pub mod PairSums

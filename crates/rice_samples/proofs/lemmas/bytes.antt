@@ -1,6 +1,6 @@
 -- Spelling, and reading samples from bytes.
-pub mod BufferLemmas
-pub mod ByteLanes
+pub mod BufferOfReader
+pub mod LevelsSpelledInByteLanes
 pub mod GivenSamples
 pub mod LevelPatterns
 pub mod ReadLevels
@@ -8,5 +8,5 @@ pub mod ReadSamples
 pub mod SpelledPatterns
 pub mod SpellingLemmas
 pub mod SpellingLengths
-pub mod WordLanes
+pub mod LanesOfWholeBytes
 pub mod ThreeBytes

@@ -1,15 +1,15 @@
 -- Residuals and patterns, and back.
-pub mod RanksInPlace
+pub mod NumbersReplacedByRanks
 pub mod HalfLanes
-pub mod InverseLemmas
+pub mod InverseRanksAndPatterns
 pub mod NearVectors
-pub mod JoinedLanes
+pub mod JoinedPartsInLanes
 pub mod LaneRanks
 pub mod ByteRanks
 pub mod SumsOfWays
-pub mod FitsOf16Bits
+pub mod NumbersThatFit16Bits
 pub mod NearEights
-pub mod Patterns
+pub mod DistinctPatterns
 pub mod RankLaws
 pub mod RankedLevels
 pub mod Ranks

@@ -2,6 +2,6 @@
 pub mod ValueCounts
 pub mod CutLemmas
 pub mod ValuesAboveLeast
-pub mod Levels
+pub mod LevelsOfSamples
 pub mod PlaceLemmas
 pub mod ValuesAt

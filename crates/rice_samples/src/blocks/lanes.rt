@@ -46,7 +46,7 @@ fn each_is_zero(items: &[u32]) -> bool
 
 /// The digits that are set in some of the numbers.
 #[inline]
-pub(crate) fn set_digits(items: &[u32]) -> u32
+pub(crate) fn digits_set_in_any(items: &[u32]) -> u32
     requires { length items.now % 8 ≡ 0 }
     ensures { All (λ d. d ≤ result) items.now }
 {

@@ -3,7 +3,7 @@ ghost use Rattle.std.specs.Prelude.{◌≡◌, ◌+◌, ◌%◌, ◌^◌, ◌<�
 ghost use Rattle.rice_samples.specs.blocks.Pairs.{pair_code, pair_codes};
 ghost use Rattle.rice_samples.specs.Parameters.{IsBlockSize};
 
-use crate::blocks::lanes::{all_of, set_digits};
+use crate::blocks::lanes::{all_of, digits_set_in_any};
 
 /// The bits of the codewords of all pairs.
 #[inline]
@@ -28,7 +28,7 @@ fn least_wide_pair_sum(items: &[u32]) -> u128
     ensures value { result ≡ sum_by (λ g. g + 1) (pair_codes items.now) }
     ensures limit { result ≤ 2 ^ 72 }
 {
-    let digits = set_digits(items);
+    let digits = digits_set_in_any(items);
     if digits < 1 << 12 {
         pair_sum_in_32_bits(items) as u128
     } else if digits < 1 << 28 {

@@ -35,9 +35,9 @@ fn stop_of(items: &[u32], limit: u32, price: u64) -> (u32, u64)
 {
     let whole = sum_shifted(items, 0);
     let mut k = sure_digits(whole, items.len(), price).min(limit);
-    let mut sum = sum_behind(items, k, whole);
+    let mut sum = sum_without_digits(items, k, whole);
     while k < limit {
-        let next = sum_behind(items, k + 1, whole);
+        let next = sum_without_digits(items, k + 1, whole);
         if sum <= next + price {
             return (k, sum);
         }
@@ -103,7 +103,7 @@ fn sure_digits(sum: u64, len: usize, price: u64) -> u32
 
 /// Returns the sum of the numbers without their `k` lowest digits, where `whole` is their sum.
 #[inline(always)]
-fn sum_behind(items: &[u32], k: u32, whole: u64) -> u64
+fn sum_without_digits(items: &[u32], k: u32, whole: u64) -> u64
     requires size { IsBlockSize (length items.now) }
     requires shift { k < 32 }
     requires whole { whole ≡ sum_by (λ d. d / 2 ^ 0) items.now }

@@ -3,7 +3,7 @@ ghost use Rattle.std.specs.Prelude.{◌≡◌, ◌⊎◌, ◌^◌, ◌<◌, All,
 ghost use Rattle.rice_samples.specs.bytes.PatternLanes.{OrdersWords, turned_in_fours};
 
 use crate::Setting;
-use crate::predict::restoring::half_lanes::in_pairs_swapped;
+use crate::predict::restoring::half_lanes::byte_pairs_swapped;
 use std::simd::prelude::*;
 
 /// Returns the bytes that spell samples of `WIDTH` bytes, all bits of which they use. Their patterns stand in sixteen bytes, one
@@ -23,14 +23,14 @@ pub fn bytes_of_patterns<const WIDTH: usize>(setting: &Setting, patterns: u8x16)
         return patterns;
     }
     if WIDTH == 2 {
-        return in_pairs_swapped(patterns);
+        return byte_pairs_swapped(patterns);
     }
-    in_fours_turned(patterns)
+    byte_fours_turned(patterns)
 }
 
 /// Returns the bytes of each four in the opposite order.
 #[inline(always)]
-fn in_fours_turned(bytes: u8x16) -> u8x16
+fn byte_fours_turned(bytes: u8x16) -> u8x16
     requires { length bytes ≡ 16 }
     ensures { result ≡ turned_in_fours bytes }
 {

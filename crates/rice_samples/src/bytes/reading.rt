@@ -2,7 +2,7 @@
 ghost use Rattle.std.specs.Prelude.{◌≡◌, true, ◌+◌, ◌*◌, ◌^◌, ◌<◌, ◌≤◌, All, length, take, drop};
 ghost use Rattle.rice_samples.specs.Parameters.{value_count, values_at, width as width_of};
 ghost use Rattle.rice_samples.specs.bytes.Spelling.{Reads, ReadsSamples, IsNoSpelling, spellings};
-ghost use Rattle.rice_samples.specs.bytes.Values.{offset};
+ghost use Rattle.rice_samples.specs.bytes.ValueRange.{offset};
 
 use crate::Setting;
 use crate::bytes::spelling::sample_of;
@@ -23,7 +23,7 @@ pub fn levels_of(setting: &Setting, bytes: &[u8], levels: &mut [u32]) -> usize
     if setting.bits() == 8 * setting.width() || are_legal(setting, levels) {
         return levels.len();
     }
-    read_each(setting, bytes, levels)
+    read_levels_one_by_one(setting, bytes, levels)
 }
 
 /// Reads the levels of the samples at the front of the bytes, as many as are whole and `levels` has room for, up to the first bytes
@@ -61,7 +61,7 @@ fn are_legal(setting: &Setting, levels: &[u32]) -> bool
 }
 
 /// Reads the levels one by one, as `levels_of` does.
-fn read_each(setting: &Setting, bytes: &[u8], levels: &mut [u32]) -> usize
+fn read_levels_one_by_one(setting: &Setting, bytes: &[u8], levels: &mut [u32]) -> usize
     requires { length bytes.now ≡ width_of setting.now * length levels.old }
     ensures count { result ≤ length levels.new }
     ensures len { length levels.new ≡ length levels.old }

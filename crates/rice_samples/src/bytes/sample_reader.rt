@@ -6,7 +6,7 @@ ghost use Rattle.rice_bits.specs.device.Failures.{CountsFailure};
 ghost use Rattle.rice_samples.specs.Limits.{most_input};
 ghost use Rattle.rice_samples.specs.Parameters.{value_count, values_at, width as width_of};
 ghost use Rattle.rice_samples.specs.bytes.Spelling.{EndsSpelling, NoSpelling};
-ghost use Rattle.rice_samples.specs.bytes.SamplesAhead.{IsWithinLimits, unread, GivesSamples, LacksSample, LeavesNoSample, StopsSamples, CountsReads, Refills};
+ghost use Rattle.rice_samples.specs.bytes.SampleReader.{IsWithinLimits, unread, GivesSamples, LacksSample, LeavesNoSample, StopsSamples, CountsReads, Refills};
 
 use crate::Setting;
 use crate::bytes::reading::first_levels;
@@ -40,7 +40,7 @@ impl Model for SampleReader {
     ghost use Rattle.rice_bits.specs.Limits.{most_at_once};
     ghost use Rattle.rice_samples.specs.Limits.{most_input};
     ghost use Rattle.rice_samples.specs.bytes.Spelling.{EndsSpelling, NoSpelling};
-    ghost use Rattle.rice_samples.specs.bytes.SamplesAhead.{SamplesAhead};
+    ghost use Rattle.rice_samples.specs.bytes.SampleReader.{SamplesAhead};
 
     ghost Value = { SamplesAhead };
 
@@ -50,7 +50,7 @@ impl Model for SampleReader {
 }
 
 /// Returns the number of bytes to request next, with `given` read so far and `waiting` left in the buffer.
-fn piece(given: u64, waiting: usize) -> usize
+fn bytes_to_ask_for(given: u64, waiting: usize) -> usize
     requires { waiting < 4 }
     ensures some { 0 < result }
     ensures most { result + waiting ≤ most_at_once }
@@ -147,7 +147,7 @@ impl SampleReader {
         move_to_front(&mut self.buffer, self.end, waiting);
         self.at = 0;
         self.end = waiting;
-        let most = piece(self.given, waiting);
+        let most = bytes_to_ask_for(self.given, waiting);
         let count = match refill(intake, &mut self.buffer, waiting, most) {
             Ok(count) => count,
             Err(_) => return Err(SampleFault::Read),

@@ -2,10 +2,10 @@
 ghost use Rattle.std.specs.Prelude.{◌≡◌, ℕ, ◌+◌, ◌^◌, ◌<◌, ◌≤◌, ℤ};
 ghost use Rattle.rice_samples.specs.Parameters.{IsSample, value_count};
 ghost use Rattle.rice_samples.specs.predict.Residuals.{pattern as pattern_of, rank, rank_below};
-ghost use Rattle.rice_samples.specs.predict.Near.{way as way_of};
+ghost use Rattle.rice_samples.specs.predict.NearNumbers.{way as way_of};
 
 use crate::Setting;
-use crate::patterns::{digits_of, value_with};
+use crate::patterns::{digits_of, value_of_digits};
 
 /// Returns the residual of the sample `x` after the sample `p`: below 2^n. Twice the distance, less one
 /// for a smaller sample, as far as the range of samples reaches to both sides of `p`, and beyond
@@ -56,7 +56,7 @@ pub fn from_pattern(setting: &Setting, v: u32) -> i64
     ensures pattern { pattern_of setting.now result ≡ v }
     ensures only { (x : ℤ) → IsSample setting.now x → pattern_of setting.now x ≡ v → result ≡ x }
 {
-    value_with(v, setting.bits(), setting.signed())
+    value_of_digits(v, setting.bits(), setting.signed())
 }
 
 /// Returns the rank of `x` from `p` among the numbers up to `greatest`, by folding.

@@ -6,7 +6,7 @@ use Rattle.std.proofs.Math.Seq.{take-length}
 use Rattle.std.proofs.lemmas.List.{length-replicate, take-append-le, take_all}
 use Rattle.rice_samples.specs.Parameters.{Parameters, IsLegal, IsSample}
 use Rattle.rice_samples.specs.predict.Residuals.{last_of}
-use Rattle.rice_samples.proofs.lemmas.setting.Levels.{zero_is_sample}
+use Rattle.rice_samples.proofs.lemmas.setting.LevelsOfSamples.{zero_is_sample}
 use Rattle.rice_code.specs.code.Blocks.{BlockData, block_data, zero_block, blocks_from}
 use Rattle.rice_code.specs.code.CodedDataSets.{CodedDataSet, bits_of_set}
 use Rattle.rice_code.specs.code.Decoded.{Decoded, DecodedFrom, Ending, Reached, EndsWith, IsWanted, cut_to}
@@ -15,9 +15,9 @@ use Rattle.rice_code.specs.code.Forms.{IsForm, RunIsSound, ResidualsAreSound, bl
 use Rattle.rice_code.specs.code.SoundBlocks.{AreSoundBlocks}
 use Rattle.rice_code.specs.code.Layout.{block_after, padding}
 use Rattle.rice_code.proofs.lemmas.meaning.DecodingGoesOn.{decoding_goes_on}
-use Rattle.rice_code.proofs.lemmas.code.Filling.{last_append, blocks_append}
+use Rattle.rice_code.proofs.lemmas.code.FilledBlocks.{last_append, blocks_append}
 use Rattle.rice_code.proofs.lemmas.code.SoundBlocks.{last_legal}
-use Rattle.rice_code.proofs.lemmas.meaning.AllBytes.{blocks_have_samples, blocks_are_sound}
+use Rattle.rice_code.proofs.lemmas.meaning.AllBytesAreDecoded.{blocks_have_samples, blocks_are_sound}
 use Rattle.rice_stream.specs.DecodingState.{DecodedSoFar, AreOfRun}
 
 take_nothing : {X : Type 0} (n : ℕ) → take {A = X} n [] ≡ []

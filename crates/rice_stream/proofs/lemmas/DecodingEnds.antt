@@ -17,13 +17,13 @@ use Rattle.rice_bits.specs.read.Reader.{Reader, Draws, is_blank, new_reader}
 use Rattle.rice_bits.specs.read.Window.{most_waiting}
 use Rattle.rice_bits.specs.declared.read.fault.BitFault.{BitFault}
 use Rattle.rice_bits.specs.declared.read.fault.BitFault.TheVariants as bit_faults
-use Rattle.rice_bits.proofs.lemmas.bits.Bytes.{bits_of-nil, bits_of-append, length-bits_of}
+use Rattle.rice_bits.proofs.lemmas.bits.BytesAndBits.{bits_of-nil, bits_of-append, length-bits_of}
 use Rattle.rice_samples.specs.Parameters.{Parameters, IsLegal}
 use Rattle.rice_samples.specs.Places.{place}
 use Rattle.rice_samples.specs.predict.Residuals.{last_of}
 use Rattle.rice_samples.specs.bytes.Spelling.{spellings}
 use Rattle.rice_code.specs.code.Decoded.{Decoded, Ending, EndsWith, Reached, Ended, CutOff, Past, Large, BeginsUnsound, IsWanted, cut_to}
-use Rattle.rice_code.proofs.lemmas.code.Filling.{last_append}
+use Rattle.rice_code.proofs.lemmas.code.FilledBlocks.{last_append}
 use Rattle.rice_code.proofs.lemmas.code.BlockPlaces.{place_step}
 use Rattle.rice_code.specs.code.CodedDataSets.{CodedDataSet, bits_of_set, turns}
 use Rattle.rice_code.specs.decode.Decoder.{StopsBy, SetEnds, SetRefused, with_mark}
@@ -42,7 +42,7 @@ use Rattle.rice_stream.specs.declared.outcome.Fault.TheVariants.{Read, Write, To
 use Rattle.rice_stream.proofs.lemmas.DecodedSamples.{decoded_nothing, ends_here, ends_reached, cut_nothing, cut_more, cut_none}
 use Rattle.rice_stream.proofs.lemmas.DecodingLemmas.{still_asked}
 use Rattle.rice_stream.proofs.lemmas.SetsRead.{sets-none}
-use Rattle.rice_code.specs.decode.Rows.{AreCounted}
+use Rattle.rice_code.specs.decode.RowsOfFields.{AreCounted}
 use Rattle.rice_samples.proofs.lemmas.bytes.SpellingLengths.{spellings-append}
 
 -- more samples are wanted than are written

@@ -7,7 +7,7 @@ use Rattle.std.proofs.Math.Nat.{mod-lt, mod-eq_of_lt}
 use Rattle.std.proofs.lemmas.Bool.{cases_lt}
 use Rattle.rice_bits.specs.Bits.{bits_to_byte}
 use Rattle.rice_bits.specs.read.Reader.{Reader}
-use Rattle.rice_bits.proofs.lemmas.bits.Bytes.{bits_of-nil}
+use Rattle.rice_bits.proofs.lemmas.bits.BytesAndBits.{bits_of-nil}
 use Rattle.rice_samples.specs.Parameters.{Parameters, IsLegal, IsSample, values_at}
 use Rattle.rice_samples.specs.Places.{place}
 use Rattle.rice_samples.specs.predict.Residuals.{last_of}

@@ -7,7 +7,7 @@ use Rattle.std.proofs.Math.Seq.{take-append_seam}
 use Rattle.std.proofs.KnownBytes.{Consumes-trans}
 use Rattle.rice_bits.specs.device.Outlet.{Room}
 use Rattle.rice_samples.specs.Parameters.{Parameters, IsSample, width}
-use Rattle.rice_samples.specs.bytes.SamplesAhead.{SamplesAhead, GivesSamples, StopsSamples, CountsReads}
+use Rattle.rice_samples.specs.bytes.SampleReader.{SamplesAhead, GivesSamples, StopsSamples, CountsReads}
 use Rattle.rice_samples.specs.bytes.Spelling.{Spells, Reads, spellings, EndsSpelling, AtEnd, NoSpelling, TooFew}
 use Rattle.rice_samples.specs.declared.bytes.sample_fault.SampleFault.{SampleFault}
 use Rattle.rice_samples.specs.declared.bytes.sample_fault.SampleFault.TheVariants as faults

@@ -8,7 +8,7 @@ use Rattle.rice_code.specs.code.Code.{data_sets, complete_samples}
 use Rattle.rice_code.specs.code.Layout.{layout}
 use Rattle.rice_bits.specs.device.Outlet.{Room, Appends}
 use Rattle.rice_bits.proofs.lemmas.device.OutletLemmas.{Appends-nil, Appends-trans}
-use Rattle.rice_bits.proofs.lemmas.bits.Bytes.{whole_short}
+use Rattle.rice_bits.proofs.lemmas.bits.BytesAndBits.{whole_short}
 use Rattle.rice_bits.specs.Bits.{bits_in_bytes, bits_to_byte, padded_bits, whole_bytes}
 use Rattle.rice_samples.specs.Parameters.{Parameters, IsSample}
 use Rattle.rice_samples.specs.Places.{block_count, cut}

@@ -7,22 +7,22 @@ use Rattle.std.proofs.Math.Seq.{take-length}
 use Rattle.std.proofs.lemmas.List.{take_at, drop_at, length-take}
 use Rattle.std.proofs.lemmas.List.Elements.{All-append, All-from_recursion, All-head, All-nil, All-tail}
 use Rattle.rice_bits.specs.Bits.{bits_in_bytes, bits_of, bits_to_byte, whole_bytes}
-use Rattle.rice_bits.proofs.lemmas.bits.Bytes.{bits_of-padded, bits_of-whole_bytes, length-bits_of}
-use Rattle.rice_bits.proofs.lemmas.bits.Words.{length-word}
+use Rattle.rice_bits.proofs.lemmas.bits.BytesAndBits.{bits_of-padded, bits_of-whole_bytes, length-bits_of}
+use Rattle.rice_bits.proofs.lemmas.bits.WordsAndNumbers.{length-word}
 use Rattle.rice_samples.specs.Parameters.{Parameters, IsLegal, IsSample, width}
 use Rattle.rice_samples.specs.Places.{cut}
 use Rattle.rice_samples.specs.bytes.Spelling.{spelling, spellings, ordered_bytes}
-use Rattle.rice_samples.specs.bytes.Values.{IsValue, offset}
+use Rattle.rice_samples.specs.bytes.ValueRange.{IsValue, offset}
 use Rattle.rice_samples.specs.predict.Residuals.{twos_complement}
 use Rattle.rice_samples.proofs.lemmas.bytes.SpellingLemmas.{level_spelled, wider_value}
-use Rattle.rice_samples.proofs.lemmas.setting.Levels.{pattern_fits, same_level}
+use Rattle.rice_samples.proofs.lemmas.setting.LevelsOfSamples.{pattern_fits, same_level}
 use Rattle.rice_code.specs.Laws.{AreIntervals}
 use Rattle.rice_code.specs.code.Code.{code, code_bits, early_output, output}
 use Rattle.rice_code.specs.code.Decoded.{Decoded, Reached}
 use Rattle.rice_code.specs.encode.Coder.{complete_code}
 use Rattle.rice_code.specs.encode.OpenSegment.{state_between}
 use Rattle.rice_code.proofs.lemmas.encode.PushedCode.{between_all, complete_are_coded}
-use Rattle.rice_code.proofs.lemmas.meaning.Intervals.{intervals_are_decoded_alone, intervals_are_joined}
+use Rattle.rice_code.proofs.lemmas.meaning.IntervalsStandAlone.{intervals_are_decoded_alone, intervals_are_joined}
 use Rattle.rice_stream.specs.Feeding.{IsSeam}
 use Rattle.rice_stream.specs.Laws.{Piece, AreFed, TakeInParts, last_seam, place_behind, FeedingIsEncoding, IsPlace, SeamsTellPlaces}
 use Rattle.rice_stream.specs.declared.seam.Seam.{Seam}

@@ -6,17 +6,17 @@ use Rattle.std.proofs.Math.Nat.{mul-le-mul_left}
 use Rattle.std.proofs.Math.Seq.{take-append_seam}
 use Rattle.std.proofs.lemmas.List.{take-append-le, take_all}
 use Rattle.rice_bits.specs.Bits.{bits_of}
-use Rattle.rice_bits.proofs.lemmas.bits.Bytes.{bits_of-append, length-bits_of}
+use Rattle.rice_bits.proofs.lemmas.bits.BytesAndBits.{bits_of-append, length-bits_of}
 use Rattle.rice_samples.specs.Parameters.{Parameters, IsLegal}
 use Rattle.rice_samples.specs.bytes.Spelling.{spellings}
-use Rattle.rice_samples.proofs.lemmas.setting.Levels.{zero_is_sample}
+use Rattle.rice_samples.proofs.lemmas.setting.LevelsOfSamples.{zero_is_sample}
 use Rattle.rice_code.specs.code.CodedDataSets.{CodedDataSet, bits_of_set}
 use Rattle.rice_code.specs.code.Decoded.{AreTaken, BeginsUnsound, Decoded, Ending, EndsWith, Reached, Ended, CutOff, Past, Large}
 use Rattle.rice_code.specs.code.Forms.{blocks_in_all}
 use Rattle.rice_code.specs.code.Layout.{block_after}
 use Rattle.rice_code.proofs.lemmas.code.Layouts.{ends_inside}
 use Rattle.rice_code.proofs.lemmas.meaning.DecodingPlaces.{ends_there}
-use Rattle.rice_code.proofs.lemmas.meaning.OneMeaning.{decoded_is_one}
+use Rattle.rice_code.proofs.lemmas.meaning.DecodedInOneWay.{decoded_is_one}
 use Rattle.rice_stream.specs.Calls.{Call}
 use Rattle.rice_stream.specs.Decodes.{DecodesBytes, EndsDecoding, RunsOut}
 use Rattle.rice_stream.specs.declared.outcome.Report.{Report}

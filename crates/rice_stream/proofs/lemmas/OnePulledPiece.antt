@@ -7,8 +7,8 @@ use Rattle.rice_bits.specs.read.Reader.{Reader, Stops, Takes, new_reader}
 use Rattle.rice_bits.specs.declared.read.fault.BitFault.{BitFault}
 use Rattle.rice_bits.specs.declared.read.fault.BitFault.TheVariants as bit_faults
 use Rattle.rice_stream.proofs.lemmas.PullingLemmas.{all_drawn, draws_ahead}
-use Rattle.rice_bits.proofs.lemmas.bits.Bytes.{length-bits_of}
-use Rattle.rice_bits.proofs.lemmas.bits.Words.{length-word}
+use Rattle.rice_bits.proofs.lemmas.bits.BytesAndBits.{length-bits_of}
+use Rattle.rice_bits.proofs.lemmas.bits.WordsAndNumbers.{length-word}
 use Rattle.rice_samples.specs.Parameters.{Parameters, width}
 use Rattle.rice_samples.specs.bytes.Spelling.{spellings}
 use Rattle.rice_code.specs.code.Decoded.{EndsWith, Ended}
@@ -154,7 +154,7 @@ nothing_skipped k piece e = nil_of_length (bits_of piece) (omega (arith, length-
     ∙ sym (nil_of_length (drop k (bits_of piece)) (omega (arith, length-drop k (bits_of piece), length-bits_of piece)))
 
 -- the front of some bits, and what is behind it
-drop_front : (xs ys : List Bool) → drop (length xs) (xs ++ ys) ≡ ys
+pub drop_front : (xs ys : List Bool) → drop (length xs) (xs ++ ys) ≡ ys
 drop_front [] ys = refl
 drop_front (x ∷ xs) ys = drop_front xs ys
 

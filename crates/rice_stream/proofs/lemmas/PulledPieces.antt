@@ -4,13 +4,13 @@ use Rattle.std.proofs.Math.Nat.{mul-le-mul_left}
 use Rattle.std.proofs.Math.Seq.{drop-nil, take-length}
 use Rattle.std.proofs.lemmas.List.{drop-drop}
 use Rattle.rice_bits.specs.Bits.{bits_of}
-use Rattle.rice_bits.proofs.lemmas.bits.Bytes.{bits_of-append, bits_of-nil, length-bits_of}
+use Rattle.rice_bits.proofs.lemmas.bits.BytesAndBits.{bits_of-append, bits_of-nil, length-bits_of}
 use Rattle.rice_samples.specs.Parameters.{Parameters, width}
 use Rattle.rice_samples.specs.Places.{place}
 use Rattle.rice_samples.specs.bytes.Spelling.{spellings}
 use Rattle.rice_code.specs.code.CodedDataSets.{CodedDataSet, bits_of_set}
 use Rattle.rice_code.specs.code.Decoded.{BeginsUnsound, Decoded, Ending, Reached, Ended, CutOff, EndsWith, IsWanted}
-use Rattle.rice_code.proofs.lemmas.meaning.Afresh.{decoding_begins_afresh}
+use Rattle.rice_code.proofs.lemmas.meaning.DecodingBeginsAfresh.{decoding_begins_afresh}
 use Rattle.rice_code.proofs.lemmas.meaning.DecodingPlaces.{end_there}
 use Rattle.rice_stream.specs.DecodingState.{DecodedSoFar}
 use Rattle.rice_stream.specs.Laws.{ArePulled, EndsCode, EnoughBehindIsDecoding, EnoughIsDecoding, FrontIsPlace, GiveInParts, IsPlace, IsPulled, Pull, PullsAreDecoding, SeekingIsDecoding, StandsTellPlaces, last_stand}
@@ -20,6 +20,7 @@ use Rattle.rice_stream.specs.declared.stand.Pause.TheVariants as pauses
 use Rattle.rice_stream.specs.declared.stand.Stand.{Stand}
 use Rattle.rice_stream.proofs.lemmas.DecodedSamples.{at_end, ends_here, ends_reached}
 use Rattle.rice_stream.proofs.lemmas.DecodingLemmas.{same_place}
+use Rattle.rice_stream.proofs.lemmas.OnePulledPiece.{drop_front}
 
 -- Bits of a code were pulled from where decoding began, and a stand is behind them.
 record HasPulled (s : Parameters) (code : List ℕ) (o : Origin) (stand : Stand) : Type 0 where
@@ -35,10 +36,6 @@ drop_both : (k : ℕ) (xs ys : List Bool) → drop k (xs ++ ys) ≡ drop k xs ++
 drop_both zero xs ys = let e : 0 - length xs ≡ 0 = omega arith in ap (λ n. xs ++ drop n ys) (sym e)
 drop_both (suc k) [] ys = let e : suc k - 0 ≡ suc k = omega arith in ap (λ n. drop n ys) (sym e)
 drop_both (suc k) (x ∷ xs) ys = let e : k - length xs ≡ suc k - suc (length xs) = omega arith in drop_both k xs ys ∙ ap (λ n. drop k xs ++ drop n ys) e
-
-drop_front : (xs ys : List Bool) → drop (length xs) (xs ++ ys) ≡ ys
-drop_front [] ys = refl
-drop_front (x ∷ xs) ys = drop_front xs ys
 
 -- the bits of bytes behind the first
 drop_bits : (n k : ℕ) (code : List ℕ) → n ≤ length code → drop (8 * n + k) (bits_of code) ≡ drop k (bits_of (drop n code))

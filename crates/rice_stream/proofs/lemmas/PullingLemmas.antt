@@ -5,7 +5,7 @@ use Rattle.std.specs.Io.KnownBytes.{Consumes, IsAtEnd}
 use Rattle.rice_bits.specs.Bits.{bits_of}
 use Rattle.rice_bits.specs.read.Reader.{Reader, Draws}
 use Rattle.rice_bits.specs.declared.read.fault.BitFault.TheVariants as bit_faults
-use Rattle.rice_bits.proofs.lemmas.bits.Bytes.{bits_of-nil, bits_of-append, length-bits_of}
+use Rattle.rice_bits.proofs.lemmas.bits.BytesAndBits.{bits_of-nil, bits_of-append, length-bits_of}
 use Rattle.rice_samples.specs.Parameters.{Parameters}
 use Rattle.rice_samples.specs.Places.{place}
 use Rattle.rice_samples.specs.predict.Residuals.{last_of}
@@ -14,12 +14,12 @@ use Rattle.rice_code.specs.code.Decoded.{BeginsUnsound, EndsWith, Ended, CutOff}
 use Rattle.rice_code.specs.code.Layout.{padding}
 use Rattle.rice_code.specs.decode.Decoder.{SetEnds, SetRefused, StopsBy, with_mark}
 use Rattle.rice_code.specs.decode.DecoderState.{DecoderState, IsDecoderState}
-use Rattle.rice_code.specs.decode.Rows.{AreCounted}
+use Rattle.rice_code.specs.decode.RowsOfFields.{AreCounted}
 use Rattle.rice_code.specs.decode.ReadSets.{SetCut}
 use Rattle.rice_code.specs.declared.decode.answer.CodeFault.{CodeFault}
 use Rattle.rice_code.specs.declared.decode.answer.CodeFault.TheVariants as faults
 use Rattle.rice_code.specs.declared.decode.answer.NextBlock.TheVariants.{Block, Done}
-use Rattle.rice_code.proofs.lemmas.code.Filling.{last_append}
+use Rattle.rice_code.proofs.lemmas.code.FilledBlocks.{last_append}
 use Rattle.rice_stream.specs.DecodingState.{DecodedSoFar, Gains, HasSets}
 use Rattle.rice_stream.specs.Pulling.{Origin, IsStand, MayBegin, GivesNext, GoesOnAt, IsReadFrom, TakesNext, ahead, bytes_told, state_of}
 use Rattle.rice_stream.specs.declared.stand.Stand.{Stand}

@@ -9,16 +9,16 @@ use Rattle.std.proofs.lemmas.Grind.{div_ceil_times}
 use Rattle.std.proofs.lemmas.List.{length-replicate}
 use Rattle.std.specs.Io.KnownBytes.{Consumes, IsAtEnd}
 use Rattle.rice_bits.specs.Bits.{bits_of, bits_to_byte}
-use Rattle.rice_bits.proofs.lemmas.bits.Bytes.{bits_of-append, bits_of-padded, length-bits_of}
+use Rattle.rice_bits.proofs.lemmas.bits.BytesAndBits.{bits_of-append, bits_of-padded, length-bits_of}
 use Rattle.rice_samples.specs.Parameters.{Parameters, IsLegal, IsSample, id_len, width}
 use Rattle.rice_samples.specs.Places.{block_count, interval_count}
 use Rattle.rice_samples.specs.bytes.Spelling.{spellings}
-use Rattle.rice_samples.proofs.lemmas.setting.Levels.{zero_is_sample}
+use Rattle.rice_samples.proofs.lemmas.setting.LevelsOfSamples.{zero_is_sample}
 use Rattle.rice_code.specs.code.Code.{code, output}
 use Rattle.rice_code.specs.code.Decoded.{Decoded, Ending, EndsWith, Reached, Ended, CutOff, Past, Large}
-use Rattle.rice_code.proofs.lemmas.meaning.OneMeaning.{decoded_is_one}
+use Rattle.rice_code.proofs.lemmas.meaning.DecodedInOneWay.{decoded_is_one}
 use Rattle.rice_code.proofs.lemmas.cost.PaddingBounds.{padding_is_bounded}
-use Rattle.rice_code.proofs.lemmas.meaning.Returned as returned
+use Rattle.rice_code.proofs.lemmas.meaning.SamplesAreReturned as returned
 use Rattle.rice_code.proofs.lemmas.code.SoundBlocks.{code_is_bounded}
 use Rattle.rice_stream.proofs.lemmas.EncodingBounds.{block_bound_le}
 use Rattle.rice_samples.proofs.lemmas.bytes.SpellingLengths.{length-spellings, spellings-append}

@@ -8,17 +8,17 @@ use Rattle.rice_bits.specs.read.Reader.{Reader}
 use Rattle.rice_bits.specs.device.Outlet.{Room, Appends}
 use Rattle.rice_samples.specs.Parameters.{Parameters, IsLegal, width}
 use Rattle.rice_samples.specs.bytes.Spelling.{spellings}
-use Rattle.rice_code.specs.decode.BlocksAhead.{GivesBytes, HasLanes}
+use Rattle.rice_code.specs.decode.BlocksInOnePass.{GivesBytes, HasLanes}
 use Rattle.rice_code.specs.decode.BlocksInRow.{GivesBlocks, StoodBehind, TakesWaiting}
 use Rattle.rice_code.proofs.lemmas.decode.BlocksInRow.{width_is}
 use Rattle.rice_code.specs.decode.Decoder.{GivesSet, with_mark}
 use Rattle.rice_code.specs.decode.DecoderState.{DecoderState}
-use Rattle.rice_code.specs.decode.Rows.{AreCounted}
+use Rattle.rice_code.specs.decode.RowsOfFields.{AreCounted}
 use Rattle.rice_code.specs.decode.PlainBlocks.{GivesRow}
 use Rattle.rice_stream.specs.Calls.{Fails}
 use Rattle.rice_stream.specs.Decodes.{DecodesBetween, DecodesWithin, Reports, wanted_of}
 use Rattle.rice_stream.specs.DecodingState.{DecodingProgress}
-use Rattle.rice_stream.specs.Rows.{FailsInRow, WritesRow, row_bytes}
+use Rattle.rice_stream.specs.RowsOfBlocks.{FailsInRow, WritesRow, row_bytes}
 use Rattle.rice_stream.specs.FailedWrites.{TakesPart}
 use Rattle.rice_stream.specs.declared.outcome.Fault.{Fault}
 use Rattle.rice_stream.specs.declared.outcome.Fault.TheVariants.{Write}

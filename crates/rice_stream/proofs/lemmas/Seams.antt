@@ -7,8 +7,8 @@ use Rattle.std.proofs.Math.Nat.{mul-le-mul_left, mul-mod_right, div-add-mod}
 use Rattle.rice_bits.specs.device.Outlet.{Room}
 use Rattle.rice_bits.proofs.lemmas.device.OutletLemmas.{Appends-nil}
 use Rattle.rice_bits.specs.Bits.{bits_of, bits_to_byte, padded_bits, whole_bytes, word}
-use Rattle.rice_bits.proofs.lemmas.bits.Bytes.{bits_of-padded, length-bits_of}
-use Rattle.rice_bits.proofs.lemmas.bits.Words.{length-word, word-nil, word-split}
+use Rattle.rice_bits.proofs.lemmas.bits.BytesAndBits.{bits_of-padded, length-bits_of}
+use Rattle.rice_bits.proofs.lemmas.bits.WordsAndNumbers.{length-word, word-nil, word-split}
 use Rattle.rice_samples.specs.Parameters.{Parameters, IsLegal, width}
 use Rattle.rice_samples.specs.Places.{cut}
 use Rattle.rice_samples.specs.bytes.Spelling.{Reads, spellings}

@@ -8,13 +8,13 @@ use Rattle.std.proofs.Math.Seq.{take-add}
 use Rattle.rice_bits.specs.read.Reader.{Reader}
 use Rattle.rice_samples.specs.Parameters.{Parameters, IsSample, width}
 use Rattle.rice_samples.specs.bytes.Spelling.{spellings}
-use Rattle.rice_code.specs.decode.BlocksAhead.{GivesBytes}
+use Rattle.rice_code.specs.decode.BlocksInOnePass.{GivesBytes}
 use Rattle.rice_code.specs.decode.Decoder.{RepeatsBlocks}
 use Rattle.rice_code.specs.decode.DecoderState.{DecoderState, IsDecoderState}
-use Rattle.rice_code.specs.decode.Rows.{AreCounted}
+use Rattle.rice_code.specs.decode.RowsOfFields.{AreCounted}
 use Rattle.rice_code.specs.decode.PlainBlocks.{GivesRow}
 use Rattle.rice_code.specs.declared.decode.answer.NextBlock.TheVariants.{Block}
-use Rattle.rice_code.proofs.lemmas.code.Filling.{last_replicate}
+use Rattle.rice_code.proofs.lemmas.code.FilledBlocks.{last_replicate}
 use Rattle.rice_code.proofs.lemmas.code.SoundBlocks.{last_legal}
 use Rattle.rice_code.proofs.lemmas.decode.DecoderLemmas.{place_moves}
 use Rattle.rice_stream.specs.Pulling.{Origin, IsStand, GivesMore, WritesStroke, IsReadFrom, ahead, stand_at, state_of}

@@ -2,7 +2,7 @@
 use Rattle.std.proofs.Common.{arith, ◌≡◌, ◌+◌, ◌*◌, ◌/◌, ◌<◌, Bool, List, ◌++◌, length, drop, ap, sym, ◌∙◌, append-nil, length-append, length-drop, take-append-drop}
 use Rattle.std.proofs.Math.Seq.{drop-append-add}
 use Rattle.std.proofs.lemmas.List.{length-take-le}
-use Rattle.rice_bits.proofs.lemmas.bits.Bytes.{whole_short}
+use Rattle.rice_bits.proofs.lemmas.bits.BytesAndBits.{whole_short}
 use Rattle.rice_bits.specs.Bits.{whole_bytes, bits_in_bytes}
 use Rattle.rice_code.proofs.lemmas.code.WholeBytes.{whole-append}
 use Rattle.rice_stream.specs.EncodingState.{whole_part}

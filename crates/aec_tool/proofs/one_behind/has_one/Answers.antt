@@ -1,7 +1,7 @@
 use Rattle.std.proofs.Common.{subst}
 use Rattle.rice_bits.specs.Bits.{word}
 use Rattle.rice_bits.specs.read.Reader.{Takes}
-use Rattle.aec_tool.proofs.BehindLemmas.{found_one, no_one}
+use Rattle.aec_tool.proofs.OneBehindLemmas.{found_one, no_one}
 use Rattle.aec_tool.proofs.one_behind.has_one.Goals as goal
 
 pub returns-in-Ok-take_fs : goal.returns-in-Ok-take_fs

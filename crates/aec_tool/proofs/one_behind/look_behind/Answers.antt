@@ -1,6 +1,6 @@
 use Rattle.std.proofs.Common.{arith, ◌/◌, ◌%◌, subst}
 use Rattle.aec_tool.specs.OneBehind.{LooksBehind}
-use Rattle.aec_tool.proofs.BehindLemmas.{looks_all}
+use Rattle.aec_tool.proofs.OneBehindLemmas.{looks_all}
 use Rattle.aec_tool.proofs.one_behind.look_behind.Goals as goal
 
 pub returns-in-Ok : goal.returns-in-Ok

@@ -1,6 +1,6 @@
 use Rattle.std.proofs.Common.{rules, arith, ◌≡◌, ◌∙◌, ◌+◌, ◌-◌, ◌≤◌, Some, ap, drop, take, length}
 use Rattle.std.proofs.lemmas.List.{length-take}
-use Rattle.aec_tool.proofs.BehindLemmas.{skipped_all, skipped_more}
+use Rattle.aec_tool.proofs.OneBehindLemmas.{skipped_all, skipped_more}
 use Rattle.aec_tool.proofs.one_behind.skip.Goals as goal
 
 pub returns-then-taken-eq0-clause-rest : goal.returns-then-taken-eq0-clause-rest

@@ -1,4 +1,4 @@
-use Rattle.rice_bits.proofs.lemmas.bits.Bytes.{whole-bits, each_byte}
+use Rattle.rice_bits.proofs.lemmas.bits.BytesAndBits.{whole-bits, each_byte}
 use Rattle.rice_bits.proofs.laws.bits_keep_bytes.Goals as goal
 
 pub returns : goal.returns

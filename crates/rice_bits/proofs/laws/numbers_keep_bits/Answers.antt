@@ -1,4 +1,4 @@
-use Rattle.rice_bits.proofs.lemmas.bits.Words.{word-number_of}
+use Rattle.rice_bits.proofs.lemmas.bits.WordsAndNumbers.{word-number_of}
 use Rattle.rice_bits.proofs.laws.numbers_keep_bits.Goals as goal
 
 pub returns : goal.returns

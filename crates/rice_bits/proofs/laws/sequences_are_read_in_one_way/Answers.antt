@@ -1,4 +1,4 @@
-use Rattle.rice_bits.proofs.lemmas.bits.ReadInOneWay.{sequence_reads}
+use Rattle.rice_bits.proofs.lemmas.bits.WordsReadInOneWay.{sequence_reads}
 use Rattle.rice_bits.proofs.laws.sequences_are_read_in_one_way.Goals as goal
 
 pub returns : goal.returns

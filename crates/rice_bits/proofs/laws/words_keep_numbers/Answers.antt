@@ -1,4 +1,4 @@
-use Rattle.rice_bits.proofs.lemmas.bits.Words.{number_of-word}
+use Rattle.rice_bits.proofs.lemmas.bits.WordsAndNumbers.{number_of-word}
 use Rattle.rice_bits.proofs.laws.words_keep_numbers.Goals as goal
 
 pub returns : goal.returns

@@ -7,8 +7,8 @@ use Rattle.std.proofs.lemmas.List.{take-append-drop, length-take-le}
 use Rattle.std.proofs.lemmas.List.Elements.{All-cons, All-nil}
 use Rattle.std.proofs.Math.Nat.{mod-lt, pow-suc}
 use Rattle.rice_bits.specs.Bits.{word, bits_of}
-use Rattle.rice_bits.proofs.lemmas.bits.Words.{word-nil, word-low, word-split}
-use Rattle.rice_bits.proofs.lemmas.bits.Bytes.{bits_of-append, each_byte, length-bits_of}
+use Rattle.rice_bits.proofs.lemmas.bits.WordsAndNumbers.{word-nil, word-low, word-split}
+use Rattle.rice_bits.proofs.lemmas.bits.BytesAndBits.{bits_of-append, each_byte, length-bits_of}
 
 -- the lowest digits are those of the low part
 pub word-mod : (k b n : ℕ) → k ≤ b → word k (n % 2 ^ b) ≡ word k n

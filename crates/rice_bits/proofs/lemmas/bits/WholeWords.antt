@@ -11,12 +11,12 @@ use mir.Val.{Fits}
 use Rattle.rice_bits.specs.Bits.{IsWholeWidth, Joins, JoinsAllBut, bits_of, word}
 use Rattle.std.proofs.Math.Nat.{mul-mod_left}
 use Rattle.std.proofs.Math.Seq.{take-add}
-use Rattle.rice_bits.proofs.lemmas.bits.Bytes.{each_byte}
+use Rattle.rice_bits.proofs.lemmas.bits.BytesAndBits.{each_byte}
 use Rattle.rice_bits.proofs.lemmas.bits.EightBytes.{bits_of-eight, eight-fit, word-mod}
-use Rattle.rice_bits.proofs.lemmas.bits.Joining.{join-more, pair_word}
+use Rattle.rice_bits.proofs.lemmas.bits.JoinedBits.{join-more, pair_word}
 use Rattle.rice_bits.proofs.lemmas.bits.SinkBytes.{gathered-put, joined_below, last_zeros}
 use Rattle.rice_bits.proofs.lemmas.bits.WordPairs.{first_four}
-use Rattle.rice_bits.proofs.lemmas.bits.Words.{join_below, shift_fits, word-cat, word-split}
+use Rattle.rice_bits.proofs.lemmas.bits.WordsAndNumbers.{join_below, shift_fits, word-cat, word-split}
 
 -- two words of 32 digits
 pub two_words : (ws : List ℕ) (at v : ℕ) → at + 2 ≤ length ws → get_or ws (at + 1) 0 < 2 ^ 32 → v ≡ get_or ws at 0 * 2 ^ 32 + get_or ws (at + 1) 0

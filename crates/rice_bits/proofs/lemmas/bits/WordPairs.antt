@@ -7,8 +7,8 @@ use Rattle.std.specs.List.{slice_index}
 use Rattle.std.proofs.lemmas.List.{drop_more}
 use Rattle.std.proofs.lemmas.Nat.{and_mask, mod_below, or_shifted, pow_pos}
 use Rattle.rice_bits.specs.Bits.{word}
-use Rattle.rice_bits.proofs.lemmas.bits.Joining.{pair_fits, pair_word, two_words_more}
-use Rattle.rice_bits.proofs.lemmas.bits.Words.{shift_fits}
+use Rattle.rice_bits.proofs.lemmas.bits.JoinedBits.{pair_fits, pair_word, two_words_more}
+use Rattle.rice_bits.proofs.lemmas.bits.WordsAndNumbers.{shift_fits}
 
 -- the lowest digits of numbers in lanes
 pub masked_low : (w : ℕ) (ws : List ℕ) (n : ℕ) → length ws ≡ n → zip2 bit_and ws (replicate n (2 ^ w - 1)) ≡ map (λ d. d % 2 ^ w) ws

@@ -17,8 +17,9 @@ use Rattle.rice_bits.specs.read.EndsAndGaps.{IsSearched, end_row, ends_after, ga
 use Rattle.rice_bits.specs.read.Window.{AreParted}
 use Rattle.rice_bits.proofs.lemmas.bits.EightBytes.{bits_of-eight}
 use Rattle.rice_bits.proofs.lemmas.read.WindowLemmas.{take-bits_of}
-use Rattle.rice_bits.proofs.lemmas.bits.Bytes.{bits_of-append, length-bits_of}
-use Rattle.rice_bits.proofs.lemmas.bits.Words.{length-fundamental_sequence, length-word}
+use Rattle.rice_bits.proofs.lemmas.bits.BytesAndBits.{bits_of-append, length-bits_of}
+use Rattle.rice_bits.proofs.lemmas.bits.WordsAndNumbers.{length-fundamental_sequence, length-word}
+use Rattle.rice_bits.proofs.lemmas.lanes.WordsInTwoBytes.{map_same}
 
 -- the table's rows
 pub row_of : (byte : ℕ) (d : List ℕ) → byte < 256 → get_or ENDS byte d ≡ end_row byte
@@ -124,10 +125,6 @@ pub lanes_above_or_zero : (xs ys : List ℕ) → Each1 (Fits w8) xs → Each1 (F
 lanes_above_or_zero [] ys h k = refl
 lanes_above_or_zero (x ∷ xs) [] h k = refl
 lanes_above_or_zero (x ∷ xs) (y ∷ ys) h k = λ i. one_above_or_zero x y h.0.fits k.0.fits i ∷ lanes_above_or_zero xs ys h.1 k.1 i
-
-pub map_same : (xs : List ℕ) → map (λ d. d) xs ≡ xs
-map_same [] = refl
-map_same (x ∷ xs) = ap (λ ys. x ∷ ys) (map_same xs)
 
 gaps-lanes : (n : ℕ) (told : List ℕ) → n < length told
     → zip2 (λ x y. x - y) (zip2 (λ x y. x - y) (take n (drop 1 told)) (take n told)) (replicate n 1) ≡ take n (gaps told)

@@ -8,8 +8,8 @@ use Rattle.rice_bits.specs.declared.read.fault.BitFault.{BitFault}
 use Rattle.rice_bits.specs.read.Reader.{Draws, Takes, Stops, Refuses, Reader, is_blank}
 use Rattle.rice_bits.specs.read.Window.{Passes, window_bits, window_passed, window_taken}
 use Rattle.rice_bits.specs.declared.read.window.Window.{Window}
-use Rattle.rice_bits.proofs.lemmas.read.Blank.{and-assoc, and-true, blank-append, blank_joined, one_behind_zeros}
-use Rattle.rice_bits.proofs.lemmas.read.Drawing.{draws-append, draws-waiting}
+use Rattle.rice_bits.proofs.lemmas.read.BlankBits.{and-assoc, and-true, blank-append, blank_joined, one_behind_zeros}
+use Rattle.rice_bits.proofs.lemmas.read.DrawnBytes.{draws-append, draws-waiting}
 
 -- bits are taken of those that a window has
 pub takes_passed : {I : Type 0} (old : Reader I) (intake : I) (left : Option (List ℕ)) (failed : ℕ) (mid new : Window) (before : Bool) (refusal : Option BitFault) (bits : List Bool)

@@ -4,7 +4,7 @@ use Rattle.std.specs.Prelude.{All, flat_map}
 use Rattle.std.proofs.lemmas.List.{length-take-le, take-append-drop, take_more_set}
 use Rattle.std.proofs.lemmas.List.Elements.{All-push}
 use Rattle.std.proofs.lemmas.Nat.{mod-mul-add, mod_below, pow-add, pow_pos, shr_split}
-use Rattle.rice_bits.proofs.lemmas.bits.Words.{length-word, shift_fits}
+use Rattle.rice_bits.proofs.lemmas.bits.WordsAndNumbers.{length-word, shift_fits}
 use Rattle.rice_bits.specs.Bits.{word, fundamental_sequence}
 use Rattle.rice_bits.specs.read.Window.{AreParted}
 

@@ -3,7 +3,7 @@ use Rattle.std.proofs.Common.{◌≡◌, ℕ, zero, suc, inl, inr, ◌+◌, ◌-
 use Rattle.std.specs.Prelude.{All, bit_or, flat_map, slice_index, slice_range, ◌==◌, ◌&&◌}
 use Rattle.std.proofs.lemmas.Grind.{flat_map-append}
 use Rattle.rice_bits.specs.read.Reader.{is_blank}
-use Rattle.rice_bits.proofs.lemmas.read.Blank.{blank-append, blank-word}
+use Rattle.rice_bits.proofs.lemmas.read.BlankBits.{blank-append, blank-word}
 use Rattle.std.specs.Int.{to_be_bytes, w64}
 use Rattle.std.proofs.Math.Nat.{mul-le-mul_right}
 use Rattle.std.proofs.lemmas.Nat.{mod_below, or_shifted, pow_pos, shr_split}
@@ -17,10 +17,10 @@ use Rattle.std.proofs.lemmas.List.{append-nil, drop-append-le, drop-drop, drop-t
 use Rattle.rice_bits.specs.Bits.{fundamental_sequence, number_of, word, bits_of}
 use Rattle.rice_bits.specs.read.Window.{IsWindow, Passes, bits_near, window_bits, window_passed}
 use Rattle.rice_bits.specs.declared.read.window.Window.{Window}
-use Rattle.rice_bits.proofs.lemmas.bits.Bytes.{bits_of-append, bits_of-first, bits_of-zeros, length-bits_of}
+use Rattle.rice_bits.proofs.lemmas.bits.BytesAndBits.{bits_of-append, bits_of-first, bits_of-zeros, length-bits_of}
 use Rattle.rice_bits.proofs.lemmas.bits.EightBytes.{bits_of-eight}
-use Rattle.rice_bits.proofs.lemmas.bits.FirstOnes.{front_below, take-front, word-moved, word-parts}
-use Rattle.rice_bits.proofs.lemmas.bits.Words.{length-fundamental_sequence, length-word, number_of-word, word-cat, word-nil, word-split, word-zero}
+use Rattle.rice_bits.proofs.lemmas.bits.FirstOneOfWord.{front_below, take-front, word-moved, word-parts}
+use Rattle.rice_bits.proofs.lemmas.bits.WordsAndNumbers.{length-fundamental_sequence, length-word, number_of-word, word-cat, word-nil, word-split, word-zero}
 
 -- a part of a list is its two parts
 between-join : {A : Type 0} (xs : List A) (a s e : ℕ) → a ≤ s → s ≤ e → slice_range xs a s ++ slice_range xs s e ≡ slice_range xs a e

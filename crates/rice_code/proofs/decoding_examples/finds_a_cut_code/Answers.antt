@@ -9,7 +9,7 @@ use Rattle.rice_code.specs.code.CodedDataSets.{CodedDataSet, Split, bits_of_set}
 use Rattle.rice_code.specs.code.Decoded.{CutOff}
 use Rattle.rice_code.specs.code.Forms.{IsForm}
 use Rattle.rice_code.proofs.lemmas.meaning.DecodingWitnesses.{decoded_by_none}
-use Rattle.rice_code.proofs.lemmas.code.ReadInOneWay.{forms_read_in_one_way}
+use Rattle.rice_code.proofs.lemmas.code.FormsReadInOneWay.{forms_read_in_one_way}
 use Rattle.rice_code.proofs.decoding_examples.finds_a_cut_code.Goals as goal
 
 abbrev block : BlockData

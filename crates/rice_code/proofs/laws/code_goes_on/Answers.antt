@@ -1,5 +1,5 @@
 use Rattle.rice_code.proofs.laws.code_goes_on.Goals as goal
-use Rattle.rice_code.proofs.lemmas.code.GoingOn as going
+use Rattle.rice_code.proofs.lemmas.code.CodeGoesOn as going
 
 pub returns-clause-code : goal.returns-clause-code
 returns-clause-code c = going.code_goes_on

@@ -1,5 +1,5 @@
 use Rattle.rice_code.proofs.laws.intervals_stand_alone.Goals as goal
-use Rattle.rice_code.proofs.lemmas.meaning.Intervals as intervals
+use Rattle.rice_code.proofs.lemmas.meaning.IntervalsStandAlone as intervals
 
 pub returns-clause-afresh : goal.returns-clause-afresh
 returns-clause-afresh c = intervals.intervals_begin_afresh

@@ -1,5 +1,5 @@
 use Rattle.std.proofs.Common.{arith, pos}
-use Rattle.rice_samples.proofs.lemmas.setting.Levels.{zero_is_sample}
+use Rattle.rice_samples.proofs.lemmas.setting.LevelsOfSamples.{zero_is_sample}
 use Rattle.rice_code.proofs.laws.padded_code_is_bounded.Goals as goal
 use Rattle.rice_code.proofs.lemmas.cost.PaddingBounds.{padding_is_bounded}
 use Rattle.rice_code.proofs.lemmas.code.SoundBlocks.{code_is_bounded}

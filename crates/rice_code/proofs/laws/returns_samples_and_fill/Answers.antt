@@ -1,5 +1,5 @@
 use Rattle.rice_code.proofs.laws.returns_samples_and_fill.Goals as goal
-use Rattle.rice_code.proofs.lemmas.meaning.Returned as returned
+use Rattle.rice_code.proofs.lemmas.meaning.SamplesAreReturned as returned
 
 pub returns : goal.returns
 returns c = returned.returns_samples_and_fill

@@ -5,13 +5,13 @@ use Rattle.std.proofs.lemmas.Bool.Decides.{nat_tests}
 use Rattle.std.proofs.lemmas.List.Elements.{Contains-append_left, Contains-append_right, Contains-push}
 use Rattle.std.proofs.Math.Nat.{mod-eq_of_lt}
 use Rattle.rice_bits.specs.Bits.{word, fundamental_sequence}
-use Rattle.rice_bits.proofs.lemmas.bits.ReadInOneWay.{digit_split}
+use Rattle.rice_bits.proofs.lemmas.bits.WordsReadInOneWay.{digit_split}
 use Rattle.rice_samples.specs.Parameters.{Parameters, IsLegal, id_len}
 use Rattle.rice_samples.specs.blocks.Pairs.{pair_codes}
 use Rattle.rice_code.specs.code.CodedDataSets.{CodedDataSet, NoCompression, SecondExtension, Split, ZeroBlocks, RemainderOfSegment, bits_of_set, sent_residuals, reference_bits, run_number}
 use Rattle.rice_code.specs.code.Forms.{IsForm}
 use Rattle.rice_code.proofs.lemmas.meaning.CoveredBlocks.{bool_cases}
-use Rattle.rice_code.proofs.lemmas.code.ReadInOneWay.{wide_id}
+use Rattle.rice_code.proofs.lemmas.code.FormsReadInOneWay.{wide_id}
 
 -- the word of a number has a one, where its digits are not all zeros
 word_has_one : (w v : ℕ) → 1 ≤ v % 2 ^ w → Contains (word w v) true

@@ -10,7 +10,7 @@ use Rattle.std.proofs.Math.Nat.{div-add-mod, mod-lt, mod-eq_of_lt, mod_self}
 use Rattle.rice_samples.specs.Parameters.{Parameters, IsLegal, IsSample, value_count}
 use Rattle.rice_samples.specs.Places.{is_reference, block_count}
 use Rattle.rice_samples.specs.predict.Residuals.{pattern, residuals, last_of, filled_samples}
-use Rattle.rice_samples.proofs.lemmas.setting.Levels.{pattern_fits}
+use Rattle.rice_samples.proofs.lemmas.setting.LevelsOfSamples.{pattern_fits}
 use Rattle.rice_samples.proofs.lemmas.predict.ResidualLemmas.{length-residuals, residuals_fit, zero_at_reference}
 use Rattle.rice_code.specs.code.Blocks.{block_data, blocks_from, blocks_of}
 use Rattle.rice_code.specs.code.Code.{bits_from}

@@ -7,7 +7,7 @@ use Rattle.rice_samples.specs.Parameters.{Parameters, IsLegal, IsSample}
 use Rattle.rice_samples.specs.Places.{begins_segment}
 use Rattle.rice_samples.specs.predict.Residuals.{last_of}
 use Rattle.rice_samples.proofs.lemmas.setting.CutLemmas.{cut_is_start}
-use Rattle.rice_samples.proofs.lemmas.setting.Levels.{zero_is_sample}
+use Rattle.rice_samples.proofs.lemmas.setting.LevelsOfSamples.{zero_is_sample}
 use Rattle.rice_code.specs.Bounds.{set_bound}
 use Rattle.rice_code.specs.Laws.{AddedCodeIsBounded, SetsAreBounded}
 use Rattle.rice_code.specs.code.Blocks.{BlockData, is_zero_block}
@@ -16,10 +16,10 @@ use Rattle.rice_code.specs.code.CodedDataSets.{CodedDataSet, bits_of_set, cost, 
 use Rattle.rice_code.specs.code.Forms.{IsReference, RunIsSound}
 use Rattle.rice_code.specs.code.Runs.{zero_run, run_len}
 use Rattle.rice_code.specs.code.SoundBlocks.{AreSoundBlocks}
-use Rattle.rice_code.proofs.lemmas.code.GoingOn.{code_goes_on}
+use Rattle.rice_code.proofs.lemmas.code.CodeGoesOn.{code_goes_on}
 use Rattle.rice_code.proofs.lemmas.code.SoundBlocks.{blocks_sound_behind, code_is_bounded, last_legal}
 use Rattle.rice_code.proofs.lemmas.cost.BlockBounds.{shortest_bound, reference_bound}
-use Rattle.rice_code.proofs.lemmas.cost.Costs.{cost_is_length}
+use Rattle.rice_code.proofs.lemmas.cost.CostIsLength.{cost_is_length}
 use Rattle.rice_code.proofs.lemmas.cost.PaddingBounds.{padding_behind_is_bounded}
 use Rattle.rice_code.proofs.lemmas.meaning.CoveredBlocks.{bool_cases, skipped, data_sets_plain, data_sets_start, data_sets_inside, zero_run_is, run_cons}
 use Rattle.rice_code.proofs.lemmas.meaning.SentSets.{zero_run_is_sound}

@@ -17,7 +17,7 @@ use Rattle.rice_code.specs.Bounds.{block_bound}
 use Rattle.rice_code.specs.Laws.{RunIsNeverLonger}
 use Rattle.rice_code.specs.code.Runs.{zero_run, run_len}
 use Rattle.rice_code.proofs.lemmas.meaning.CoveredBlocks.{bool_cases, skipped, data_sets_plain, data_sets_start, data_sets_inside, skipped_nil, skipped_plain, skipped_go, skipped_stop, zero_run_is, best_keeps, run_cons}
-use Rattle.rice_code.proofs.lemmas.cost.Costs.{cost_is_length}
+use Rattle.rice_code.proofs.lemmas.cost.CostIsLength.{cost_is_length}
 
 -- one that costs no more than the first wins
 best_costs : (f : CodedDataSet → ℕ) (a : CodedDataSet) (xs : List CodedDataSet) → f (best_of (λ x y. nat_lt (f x) (f y)) a xs) ≤ f a

@@ -12,9 +12,9 @@ use Rattle.rice_code.specs.code.Forms.{zero_blocks}
 use Rattle.rice_code.specs.code.Layout.{block_after}
 use Rattle.rice_code.specs.code.Runs.{run_len, zero_run}
 use Rattle.rice_code.specs.encode.HeldBlocks.{zeros_of_run}
-use Rattle.rice_code.proofs.lemmas.code.Segments.{head_of_segment}
+use Rattle.rice_code.proofs.lemmas.code.SegmentsOneByOne.{head_of_segment}
 use Rattle.rice_code.proofs.lemmas.cost.CodeEnds.{IsFill, code_end, ends_later}
-use Rattle.rice_code.proofs.lemmas.cost.SmallerBlocks.{BeginAtMost, zero_at_most}
+use Rattle.rice_code.proofs.lemmas.cost.CostsOfSmallerBlocks.{BeginAtMost, zero_at_most}
 use Rattle.rice_code.proofs.lemmas.encode.OptionBits.{run_cost, run_text_len}
 use Rattle.rice_code.proofs.lemmas.encode.PendingRuns.{count_zeros, is_zero_zeros, skip_zeros}
 use Rattle.rice_code.proofs.lemmas.encode.SegmentBlocks.{left_inside}

@@ -9,7 +9,7 @@ use Rattle.std.proofs.Math.Nat.{mul-le-mul_left, div-eq_of_lt}
 use Rattle.rice_samples.specs.Parameters.{Parameters, IsLegal, IsSample, id_len, k_max}
 use Rattle.rice_samples.specs.Places.{begins_segment, block_count}
 use Rattle.rice_samples.specs.predict.Residuals.{last_of, filled_samples}
-use Rattle.rice_samples.proofs.lemmas.setting.Levels.{zero_is_sample}
+use Rattle.rice_samples.proofs.lemmas.setting.LevelsOfSamples.{zero_is_sample}
 use Rattle.rice_samples.specs.blocks.Pairs.{pair_code, pair_codes}
 use Rattle.rice_code.specs.code.Blocks.{BlockData, blocks_of, is_zero_block}
 use Rattle.rice_code.specs.Bounds.{block_bound, step_bound, amortised_step_bound}
@@ -21,12 +21,12 @@ use Rattle.rice_code.specs.CoderSteps.{most_looks, most_looks_at, most_steps}
 use Rattle.rice_code.proofs.lemmas.meaning.CoveredBlocks.{best_keeps, bool_cases, data_sets_plain}
 use Rattle.rice_code.specs.code.Choice.{IsBestSplit, best_split, shortest, other_options}
 use Rattle.rice_samples.proofs.lemmas.blocks.FallingSums.{cut_sum, sum_halves}
-use Rattle.rice_code.proofs.lemmas.cost.Savings.{coded_sum, best_where_it_stops, best_where_it_ends, first_more}
+use Rattle.rice_code.proofs.lemmas.cost.SplitSavings.{coded_sum, best_where_it_stops, best_where_it_ends, first_more}
 use Rattle.rice_code.proofs.lemmas.encode.ChoiceLemmas.{best_split_is}
 use Rattle.rice_code.proofs.lemmas.encode.SegmentBlocks.{most_of_one, looks_zero, sound_of, shortest_len}
 use Rattle.rice_code.proofs.lemmas.encode.PushedCode.{blocks_go_on}
 use Rattle.rice_code.proofs.lemmas.code.SoundBlocks.{blocks_sound_behind, count_blocks, last_legal, code_is_bounded}
-use Rattle.rice_code.proofs.lemmas.code.GoingOn.{bits_go_on}
+use Rattle.rice_code.proofs.lemmas.code.CodeGoesOn.{bits_go_on}
 
 none_above : (n : ℕ) (ds : List ℕ) → AllByRecursion (λ d. d < 2 ^ n) ds → cut_sum ds n ≡ 0
 none_above n [] h = omega arith

@@ -13,7 +13,7 @@ use Rattle.std.proofs.lemmas.Nat.{div-mul-add}
 use Rattle.rice_samples.specs.Parameters.{Parameters, IsLegal, IsSample}
 use Rattle.rice_samples.specs.Places.{place, begins_segment, block_count, interval_count}
 use Rattle.rice_samples.specs.predict.Residuals.{filled_samples}
-use Rattle.rice_samples.proofs.lemmas.setting.Levels.{zero_is_sample}
+use Rattle.rice_samples.proofs.lemmas.setting.LevelsOfSamples.{zero_is_sample}
 use Rattle.rice_code.specs.code.Blocks.{BlockData, blocks_of, zero_block}
 use Rattle.rice_code.specs.code.CodedDataSets.{bits_of_set}
 use Rattle.rice_code.specs.code.Forms.{blocks_in_all}

@@ -8,17 +8,17 @@ use borrow.Rule.Slice.PartMut.{put_mid}
 use Rattle.rice_code.proofs.lemmas.decode.PlainBlocksRead.{written_from}
 use Rattle.std.proofs.lemmas.List.{drop-drop, drop-take, drop_at, length-take-le, get_or-set_same, get_or-set_other}
 use Rattle.rice_bits.specs.Bits.{bits_of}
-use Rattle.rice_bits.proofs.lemmas.bits.Bytes.{bits_of-nil}
+use Rattle.rice_bits.proofs.lemmas.bits.BytesAndBits.{bits_of-nil}
 use Rattle.rice_bits.specs.read.Reader.{Reader, Takes}
 use Rattle.rice_samples.specs.Parameters.{Parameters, width}
-use Rattle.rice_samples.proofs.lemmas.bytes.ByteLanes.{one_byte}
+use Rattle.rice_samples.proofs.lemmas.bytes.LevelsSpelledInByteLanes.{one_byte}
 use Rattle.rice_samples.proofs.lemmas.predict.HalfLanes.{two_bytes}
-use Rattle.rice_code.specs.decode.BlocksAhead.{GivesBytes, HasLanes, lanes_of}
+use Rattle.rice_code.specs.decode.BlocksInOnePass.{GivesBytes, HasLanes, lanes_of}
 use Rattle.rice_code.specs.decode.BlocksInRow.{GivesBlocks, GivesOneBlock, StoodBehind, TakesWaiting}
 use Rattle.rice_code.specs.decode.Decoder.{Skips, with_mark}
 use Rattle.rice_code.specs.decode.DecoderState.{DecoderState}
 use Rattle.rice_code.specs.decode.PlainBlocks.{GivesRow}
-use Rattle.rice_code.specs.decode.Rows.{AreCounted}
+use Rattle.rice_code.specs.decode.RowsOfFields.{AreCounted}
 
 -- ---- bits that wait
 

@@ -7,10 +7,10 @@ use Rattle.std.proofs.Math.Nat.{mod-eq_of_lt}
 use Rattle.std.proofs.Math.Nat.{mul-le-mul_left}
 use Rattle.std.proofs.lemmas.List.{length-replicate}
 use Rattle.std.proofs.lemmas.List.Elements.{All-replicate}
-use Rattle.rice_code.proofs.lemmas.code.Filling.{last_replicate, repeated_block}
+use Rattle.rice_code.proofs.lemmas.code.FilledBlocks.{last_replicate, repeated_block}
 use Rattle.rice_bits.specs.Bits.{word, fundamental_sequence}
-use Rattle.rice_bits.proofs.lemmas.bits.Words.{length-word, length-fundamental_sequence}
-use Rattle.rice_code.proofs.lemmas.code.ReadInOneWay.{long_id}
+use Rattle.rice_bits.proofs.lemmas.bits.WordsAndNumbers.{length-word, length-fundamental_sequence}
+use Rattle.rice_code.proofs.lemmas.code.FormsReadInOneWay.{long_id}
 use Rattle.rice_bits.specs.read.Reader.{Reader, Takes, is_blank}
 use Rattle.rice_samples.specs.Parameters.{Parameters, IsSample, IsLegal, id_len}
 use Rattle.rice_samples.specs.Places.{blocks_left, begins_segment, is_reference, place}

@@ -9,7 +9,7 @@ use Rattle.std.proofs.lemmas.Nat.{div-mul-add, pow_pos, pow-add}
 use Rattle.std.proofs.lemmas.Bool.{leb-true, leb-false}
 use Rattle.std.proofs.Math.Nat.{le-div_iff_mul-le, div-lt_iff_lt-mul, mod-eq_of_lt, mul-le-mul_right}
 use Rattle.rice_bits.specs.Bits.{word, fundamental_sequence}
-use Rattle.rice_bits.proofs.lemmas.bits.Words.{word-low}
+use Rattle.rice_bits.proofs.lemmas.bits.WordsAndNumbers.{word-low}
 use Rattle.rice_bits.proofs.lemmas.read.JoinedPartsLemmas.{length-joined}
 use Rattle.rice_bits.specs.read.JoinedParts.{joined_parts}
 

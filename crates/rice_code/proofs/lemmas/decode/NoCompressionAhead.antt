@@ -13,7 +13,7 @@ use Rattle.rice_bits.proofs.lemmas.read.WindowLemmas.{words-front}
 use Rattle.rice_samples.specs.Parameters.{Parameters, id_len, value_at, value_count, values_at, width}
 use Rattle.rice_samples.specs.bytes.Spelling.{spellings}
 use Rattle.rice_samples.specs.predict.Residuals.{pattern, ranks_below}
-use Rattle.rice_samples.proofs.lemmas.bytes.ByteLanes.{bytes-front, one_byte}
+use Rattle.rice_samples.proofs.lemmas.bytes.LevelsSpelledInByteLanes.{bytes-front, one_byte}
 use Rattle.rice_samples.specs.predict.LevelsOfParts.{AreLevelsOfParts}
 use Rattle.rice_samples.proofs.lemmas.predict.HalfLanes.{last_is as last_at}
 use Rattle.rice_samples.proofs.lemmas.predict.LaneRanks.{length-ranks_below}
@@ -22,7 +22,7 @@ use Rattle.rice_samples.proofs.lemmas.setting.ValuesAt.{legal_values, length-val
 use Rattle.rice_code.specs.code.Blocks.{BlockData}
 use Rattle.rice_code.specs.code.CodedDataSets.{NoCompression, reference_bits}
 use Rattle.rice_code.specs.code.Forms.{IsReference}
-use Rattle.rice_code.specs.decode.BlocksAhead.{BlockAhead, HasLanes, HasWidth, SpelledAhead, SpellsParts}
+use Rattle.rice_code.specs.decode.BlocksInOnePass.{BlockAhead, HasLanes, HasWidth, SpelledAhead, SpellsParts}
 use Rattle.rice_code.specs.decode.Decoder.{GivesBlock}
 use Rattle.rice_code.specs.decode.ReadSets.{reference_place}
 use Rattle.rice_code.specs.decode.FieldsAhead.{HeadAhead, LowsAhead, UncompressedAhead}

@@ -6,27 +6,28 @@ use Rattle.std.proofs.lemmas.List.Elements.{All-replicate}
 use Rattle.rice_bits.specs.Bits.{word, fundamental_sequence}
 use Rattle.rice_bits.specs.read.Reader.{Reader, Takes, Stops}
 use Rattle.rice_bits.specs.declared.read.fault.BitFault.{BitFault}
-use Rattle.rice_bits.proofs.lemmas.bits.ReadInOneWay.{sequence_reads}
+use Rattle.rice_bits.proofs.lemmas.bits.WordsReadInOneWay.{sequence_reads}
 use Rattle.rice_bits.proofs.lemmas.read.ReaderLemmas.{takes-append, stops-append}
-pub use Rattle.rice_bits.proofs.lemmas.bits.Joining.{up_to_end}
-use Rattle.rice_bits.proofs.lemmas.bits.Words.{length-word, word-nil}
+pub use Rattle.rice_bits.proofs.lemmas.bits.JoinedBits.{up_to_end}
+use Rattle.rice_bits.proofs.lemmas.bits.WordsAndNumbers.{length-word}
 use Rattle.rice_samples.specs.Parameters.{Parameters, IsBlockSize, IsLegal, value_count, k_max}
 use Rattle.rice_samples.specs.Places.{is_reference}
 use Rattle.rice_code.specs.code.Blocks.{BlockData}
 use Rattle.rice_samples.specs.blocks.Pairs.{pair_codes}
 use Rattle.rice_code.specs.code.CodedDataSets.{CodedDataSet, NoCompression, SecondExtension, Split, sent_residuals, sent_from, reference_bits, run_tail}
 use Rattle.rice_code.specs.code.Forms.{IsForm, IsReference, IsBlock}
-use Rattle.rice_code.specs.decode.Rows.{Row, CountRow, WordRow, PairRow, ones}
+use Rattle.rice_code.specs.decode.RowsOfFields.{Row, CountRow, WordRow, PairRow, ones}
 use Rattle.rice_code.specs.decode.ReadSets.{BlockRead, BlockCut, PartsRead, PartsCut, reference_place, set_tail}
 use Rattle.rice_bits.specs.read.JoinedParts.{TakesParts, joined_parts}
-use Rattle.rice_samples.proofs.lemmas.blocks.PairLemmas.{count_pairs}
+use Rattle.rice_samples.proofs.lemmas.blocks.PairNumbers.{count_pairs}
 use Rattle.rice_bits.proofs.lemmas.read.WindowLemmas.{length-words}
 use Rattle.rice_code.proofs.lemmas.decode.RowLemmas.{put_rest, ones-append, ones-zeros, ones-sequence, ones-sequences}
 use Rattle.rice_code.proofs.lemmas.decode.JoinedResiduals.{high_pieces, highs_of_joined, joined_below, low_pieces, highs_small, joined_highs}
 use Rattle.rice_bits.proofs.lemmas.read.JoinedPartsLemmas.{length-joined}
 use Rattle.std.proofs.lemmas.Nat.{pow_pos}
 use borrow.Rule.Slice.PartMut.{put_mid}
-use Rattle.rice_code.proofs.lemmas.code.ReadInOneWay.{after_reference}
+use Rattle.rice_code.proofs.lemmas.code.FormsReadInOneWay.{after_reference}
+use Rattle.rice_code.proofs.lemmas.encode.OptionBits.{no_digits}
 
 pub coded-placed : (r : Option ℕ) (vs : List ℕ) → sent_from r (reference_place r ++ vs) ≡ vs
 coded-placed None vs = refl
@@ -235,10 +236,6 @@ parts_read old mid new most k small count told lows residuals high low joined = 
   told = λ e. ((high.told_are e).1, joined e ∙ (ap (λ xs. joined_parts k xs lows) (high.told_are e).0 ∙ ap (joined_parts k high.values) low.appended));
   refused = high.refused;
 }
-
-no_digits : (xs : List ℕ) → flat_map (word 0) xs ≡ []
-no_digits [] = refl
-no_digits (x ∷ xs) = ap (λ bits. bits ++ flat_map (word 0) xs) (word-nil x) ∙ no_digits xs
 
 joined_without_low : (ms : List ℕ) → joined_parts 0 ms (replicate (length ms) 0) ≡ ms
 joined_without_low [] = refl

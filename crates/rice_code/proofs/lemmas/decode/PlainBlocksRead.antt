@@ -16,30 +16,30 @@ use Rattle.std.proofs.lemmas.Slice.{drop-put_mid, take-put_mid}
 use borrow.Rule.Slice.PartMut.{put_mid}
 use Rattle.rice_bits.specs.Bits.{bits_of, bits_to_byte, number_of, word}
 use Rattle.rice_bits.specs.read.Reader.{Reader, Takes, is_blank}
-use Rattle.rice_bits.proofs.lemmas.bits.Bytes.{bits_of-nil}
-use Rattle.rice_bits.proofs.lemmas.read.Blank.{blank-append}
-use Rattle.rice_bits.proofs.lemmas.read.Drawing.{draws-waiting}
-use Rattle.rice_bits.proofs.lemmas.bits.Words.{length-word, number_of-word}
+use Rattle.rice_bits.proofs.lemmas.bits.BytesAndBits.{bits_of-nil}
+use Rattle.rice_bits.proofs.lemmas.read.BlankBits.{blank-append}
+use Rattle.rice_bits.proofs.lemmas.read.DrawnBytes.{draws-waiting}
+use Rattle.rice_bits.proofs.lemmas.bits.WordsAndNumbers.{length-word, number_of-word}
 use Rattle.rice_samples.specs.Parameters.{Parameters, IsLegal, IsSample, id_len, value_at, value_count, width}
 use Rattle.rice_samples.specs.Places.{place}
 use Rattle.rice_samples.specs.predict.Residuals.{last_of, pattern}
 use Rattle.rice_samples.specs.bytes.PatternLanes.{OrdersWords}
 use Rattle.rice_samples.specs.bytes.Spelling.{ordered_bytes}
-use Rattle.rice_samples.proofs.lemmas.bytes.WordLanes.{SamplesOfWords, samples_of_words}
-use Rattle.rice_samples.proofs.lemmas.predict.Patterns.{same_pattern}
+use Rattle.rice_samples.proofs.lemmas.bytes.LanesOfWholeBytes.{SamplesOfWords, samples_of_words}
+use Rattle.rice_samples.proofs.lemmas.predict.DistinctPatterns.{same_pattern}
 use Rattle.rice_samples.proofs.lemmas.setting.ValuesAboveLeast.{sample_at}
-use Rattle.rice_samples.proofs.lemmas.setting.Levels.{pattern_fits}
+use Rattle.rice_samples.proofs.lemmas.setting.LevelsOfSamples.{pattern_fits}
 use Rattle.rice_samples.proofs.lemmas.setting.ValuesAt.{last_at}
 use Rattle.rice_code.specs.code.Blocks.{BlockData}
 use Rattle.rice_code.specs.code.CodedDataSets.{NoCompression, bits_of_set}
 use Rattle.rice_code.specs.code.Forms.{IsReference}
 use Rattle.rice_code.specs.code.Layout.{padding}
-use Rattle.rice_code.specs.decode.BlocksAhead.{GivesBytes}
+use Rattle.rice_code.specs.decode.BlocksInOnePass.{GivesBytes}
 use Rattle.rice_code.specs.decode.Decoder.{Skips, TakesSet, with_mark}
 use Rattle.rice_code.specs.decode.DecoderState.{DecoderState, next_block_place}
-use Rattle.rice_code.specs.decode.Rows.{AreCounted}
+use Rattle.rice_code.specs.decode.RowsOfFields.{AreCounted}
 use Rattle.rice_code.specs.decode.PlainBlocks.{GivesRow, IsPlain, PlainBlock, PlainRow, WordsAhead, plain_bits}
-use Rattle.rice_code.proofs.lemmas.code.ReadInOneWay.{long_id}
+use Rattle.rice_code.proofs.lemmas.code.FormsReadInOneWay.{long_id}
 use Rattle.rice_code.proofs.lemmas.decode.DecoderLemmas.{answers_block, next_within, samples_by_bits}
 use Rattle.rice_code.proofs.lemmas.decode.RestoredBlocks.{contents_of_patterns}
 

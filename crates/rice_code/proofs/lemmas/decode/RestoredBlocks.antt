@@ -8,7 +8,7 @@ use Rattle.std.proofs.lemmas.Nat.{mod-mul-add}
 use Rattle.std.proofs.lemmas.List.{drop_all, take_all}
 use Rattle.std.proofs.Math.Dec.{eqb-suc-zero}
 use Rattle.rice_samples.specs.Parameters.{Parameters, IsSample, level, value_count}
-use Rattle.rice_samples.proofs.lemmas.setting.Levels.{same_level}
+use Rattle.rice_samples.proofs.lemmas.setting.LevelsOfSamples.{same_level}
 use Rattle.rice_samples.proofs.lemmas.predict.Ranks.{rank_injective}
 use Rattle.rice_samples.specs.Places.{is_reference, is_reference_sample, place}
 use Rattle.rice_samples.specs.predict.Residuals.{residual, residuals, rank, ranks, pattern}
@@ -16,7 +16,7 @@ use Rattle.rice_code.specs.code.Blocks.{block_data, zero_block}
 use Rattle.rice_code.specs.code.Forms.{IsReference}
 use Rattle.rice_code.specs.decode.BlockResiduals.{residual_at}
 use Rattle.rice_code.proofs.lemmas.meaning.CoveredBlocks.{bool_cases}
-use Rattle.rice_code.proofs.lemmas.code.Filling.{Repeats, repeated_all, same_rank}
+use Rattle.rice_code.proofs.lemmas.code.FilledBlocks.{Repeats, repeated_all, same_rank}
 
 -- of a block's samples only the first is a reference, if the block has one
 pub reference_within : (s : Parameters) (b j : ℕ) → j < s.block → is_reference_sample s (s.block * b + j) ≡ (is_reference s b && j == 0)

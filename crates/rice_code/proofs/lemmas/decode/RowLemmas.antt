@@ -14,12 +14,12 @@ use Rattle.rice_bits.specs.Bits.{word, fundamental_sequence}
 use Rattle.rice_bits.specs.read.Reader.{Reader, Takes, Stops}
 use Rattle.rice_bits.proofs.lemmas.read.ReaderLemmas.{takes-none, takes-append, stops-append}
 use Rattle.rice_bits.proofs.lemmas.read.WindowLemmas.{length-words}
-use Rattle.rice_bits.proofs.lemmas.bits.Words.{length-fundamental_sequence}
+use Rattle.rice_bits.proofs.lemmas.bits.WordsAndNumbers.{length-fundamental_sequence}
 use Rattle.rice_bits.specs.declared.read.fault.BitFault.{BitFault}
 use Rattle.rice_samples.specs.blocks.Pairs.{pair_code, pair_codes}
 use Rattle.rice_samples.proofs.lemmas.bytes.ReadSamples.{flat_map-push}
 use Rattle.rice_code.proofs.lemmas.meaning.CoveredBlocks.{and-split}
-use Rattle.rice_code.specs.decode.Rows.{PairsTaken, AreCounted, HasRoom, Row, CountRow, CountsRead, PairRow, ones}
+use Rattle.rice_code.specs.decode.RowsOfFields.{PairsTaken, AreCounted, HasRoom, Row, CountRow, CountsRead, PairRow, ones}
 
 pub row-none : {I : Type 0} (f : ℕ → List Bool) (P : ℕ → Type 0) (r : Reader I) (before : List ℕ)
     → r.refusal ≡ None → Row f P r r 0 before before
@@ -59,7 +59,7 @@ counts-one old mid new most fits counts none m v some e before t good bad =
 all_front : (P : ℕ → Type 0) (xs ys : List ℕ) → All P (xs ++ ys) → All P xs
 all_front P xs ys h = λ i d lt. subst P (get_or_append_left xs ys d i lt) (h i d (omega (arith, length-append xs ys, lt)))
 
-all_back : (P : ℕ → Type 0) (xs ys : List ℕ) → All P (xs ++ ys) → All P ys
+pub all_back : (P : ℕ → Type 0) (xs ys : List ℕ) → All P (xs ++ ys) → All P ys
 all_back P xs ys h = λ i d lt. subst P (get_or-append-add xs ys i d) (h (length xs + i) d (omega (arith, length-append xs ys, lt)))
 
 -- more of them

@@ -8,15 +8,15 @@ use Rattle.rice_bits.specs.Bits.{word}
 use Rattle.rice_bits.specs.read.Reader.{Reader, Takes, Stops, is_blank}
 use Rattle.rice_bits.specs.declared.read.fault.BitFault.{BitFault}
 use Rattle.rice_bits.proofs.lemmas.read.ReaderLemmas.{takes-append, stops-append}
-use Rattle.rice_bits.proofs.lemmas.bits.Words.{length-word}
-use Rattle.rice_bits.proofs.lemmas.read.Blank.{blank-append, blank-word_positive}
+use Rattle.rice_bits.proofs.lemmas.bits.WordsAndNumbers.{length-word}
+use Rattle.rice_bits.proofs.lemmas.read.BlankBits.{blank-append, blank-word_positive}
 use Rattle.rice_samples.specs.Parameters.{Parameters, id_len}
 use Rattle.rice_code.specs.code.Blocks.{BlockData}
 use Rattle.rice_code.specs.code.CodedDataSets.{CodedDataSet, NoCompression, SecondExtension, Split, ZeroBlocks, RemainderOfSegment, bits_of_set, run_number, no_compression_tail, second_extension_tail, split_tail, run_tail}
 use Rattle.rice_code.specs.code.Forms.{IsForm, IsReference}
 use Rattle.rice_code.specs.decode.ReadSets.{BlockRead, BlockCut, SetRead, SetCut, LowEntropyRead, LowEntropyCut, low_entropy_tail, IsLowEntropy}
 use Rattle.rice_code.specs.declared.decode.options.SetSummary.TheVariants.{Residuals, Zeros}
-use Rattle.rice_code.proofs.lemmas.code.ReadInOneWay.{head_reads, identifier, tail, wide_id}
+use Rattle.rice_code.proofs.lemmas.code.FormsReadInOneWay.{head_reads, identifier, tail, wide_id}
 
 -- a word of less than the identifier begins nothing
 pub cut_identifier : (s : Parameters) (b : ℕ) (bits : List Bool) → length bits < id_len s → (d : CodedDataSet) (more : List Bool) → IsForm s b d → bits ≡ bits_of_set s d ++ more → ⊥
@@ -25,7 +25,7 @@ cut_identifier s b bits lt d more form e =
       arith,
       ap length e,
       length-append (bits_of_set s d) more,
-      ap length (Rattle.rice_code.proofs.lemmas.code.ReadInOneWay.text_is s d),
+      ap length (Rattle.rice_code.proofs.lemmas.code.FormsReadInOneWay.text_is s d),
       length-append
           (word (id_len s) (identifier s d)) (tail s d),
       length-word (id_len s) (identifier s d),

@@ -5,7 +5,7 @@ use Rattle.std.specs.Simd.Lanes.{put_chunk}
 use Rattle.std.proofs.lemmas.Simd.{length-put_chunk, take_more_put_chunk}
 use Rattle.rice_bits.specs.read.Reader.{Reader, Takes}
 use Rattle.rice_samples.specs.bytes.Spelling.{spelling, spellings}
-use Rattle.rice_samples.proofs.lemmas.bytes.ByteLanes.{bytes-front, one_byte}
+use Rattle.rice_samples.proofs.lemmas.bytes.LevelsSpelledInByteLanes.{bytes-front, one_byte}
 use Rattle.rice_samples.proofs.lemmas.bytes.SpellingLengths.{length-spellings}
 use Rattle.rice_code.specs.code.Layout.{padding}
 use Rattle.rice_code.specs.declared.decode.answer.NextBlock.TheVariants.{Block}
@@ -37,12 +37,13 @@ use Rattle.rice_samples.proofs.lemmas.setting.ValuesAt.{last_value, legal_values
 use Rattle.rice_code.specs.code.Blocks.{BlockData}
 use Rattle.rice_code.specs.code.CodedDataSets.{Split, bits_of_set, reference_bits, sent_from}
 use Rattle.rice_code.specs.code.Forms.{IsReference}
-use Rattle.rice_code.specs.decode.BlocksAhead.{BlockAhead, GivesBytes, HasLanes, HasWidth, PartsAhead, SpelledAhead, SpellsParts}
+use Rattle.rice_code.specs.decode.BlocksInOnePass.{BlockAhead, GivesBytes, HasLanes, HasWidth, PartsAhead, SpellsParts}
 use Rattle.rice_code.specs.decode.ReadSets.{reference_place}
-use Rattle.rice_code.proofs.lemmas.code.ReadInOneWay.{wide_id}
+use Rattle.rice_code.proofs.lemmas.code.FormsReadInOneWay.{wide_id}
 use Rattle.rice_code.proofs.lemmas.decode.JoinedResiduals.{high_pieces, low_pieces}
 use Rattle.rice_code.proofs.lemmas.decode.OptionsRead.{coded-placed, zero-placed}
 use Rattle.rice_code.proofs.lemmas.decode.RestoredBlocks.{contents_restored}
+use Rattle.rice_code.proofs.lemmas.decode.RowLemmas.{all_back}
 
 -- ranks of numbers below `count` are below it
 pub ranks_fit : (count p : ℕ) (xs : List ℕ) → p < count → All (λ x. x < count) xs → All (λ d. d < count) (ranks_below count p xs)
@@ -381,11 +382,6 @@ bytes_given start marked middle new first steps last p q lanes len l size bytes_
       by_bits = subst (λ n. n + q.run * q.setting.block ≤ most_samples_of_bit * (new.taken - start.taken)) (sym (length-values s levels)) given.1;
     }
 
--- the second part of a list
-pub all_behind : (P : ℕ → Type 0) (xs ys : List ℕ) → All P (xs ++ ys) → All P ys
-all_behind P [] ys h = h
-all_behind P (x ∷ xs) ys h = all_behind P xs ys (λ i d lt. h (suc i) d (omega (arith, lt)))
-
 pub sixteen_words_near : (s : Parameters) (from k size : ℕ) (highs lows first second old spelled more : List ℕ) → HasWidth s 2 → 8 < size → size ≤ 16
     → AreLevelsOfParts s from k highs lows (first ++ second) → length first ≡ 8 → length second ≡ 8 → 32 ≤ length old
     → length spelled ≡ 16 → length more ≡ 16 → spelled ≡ spellings s (values_at s first) → more ≡ spellings s (values_at s second)
@@ -408,10 +404,3 @@ sixteen_words_near s from k size highs lows first second old spelled more has so
       spelled = ap (λ n. take (n * size) all) two
           ∙ (sym (take-take (2 * size) 32 all (omega (arith, most))) ∙ (ap (take (2 * size)) spelt ∙ words_front s size (first ++ second) two (omega (arith, most, whole))));
     }
-
--- a block whose bytes are written
-pub spelled_ahead : (waiting : List Bool) (s : Parameters) (b before k from size l len : ℕ) (count : ℕ) (highs lows bytes : List ℕ)
-    → PartsAhead waiting s b before k from count highs lows len → SpellsParts s from k size highs lows l bytes
-    → SpelledAhead waiting s b (value_at s before) size l len bytes
-spelled_ahead waiting s b before k from size l len count highs lows bytes parts near =
-    record { levels = near.levels; ahead = parts.whole near.levels near.near; last_is = near.last_is; spelled = near.spelled }

@@ -16,13 +16,14 @@ use Rattle.rice_samples.specs.bytes.Spelling.{spellings}
 use Rattle.rice_samples.specs.predict.LevelsOfParts.{AreLevelsOfParts}
 use Rattle.rice_samples.specs.Places.{is_reference}
 use Rattle.rice_samples.specs.predict.Residuals.{last_number, pattern, ranks_below}
-use Rattle.rice_samples.proofs.lemmas.bytes.ByteLanes.{one_byte}
+use Rattle.rice_samples.proofs.lemmas.bytes.LevelsSpelledInByteLanes.{one_byte}
 use Rattle.rice_samples.proofs.lemmas.predict.HalfLanes.{last_is as last_at, two_bytes}
 use Rattle.rice_samples.proofs.lemmas.predict.RestoredLevels.{ranks_below-append}
-use Rattle.rice_code.specs.decode.BlocksAhead.{BlockAhead, HasLanes, HasWidth, PartsAhead, SpellsParts, lanes_of}
+use Rattle.rice_code.specs.decode.BlocksInOnePass.{BlockAhead, HasLanes, HasWidth, PartsAhead, SpellsParts, lanes_of}
 use Rattle.rice_code.specs.decode.ReadSets.{reference_place}
 use Rattle.rice_code.specs.decode.FieldsAhead.{HeadAhead, HighsAhead, LowsAhead, rows_len}
-use Rattle.rice_code.proofs.lemmas.decode.SplitAhead.{all_behind, first_of, spelled_both, split_ahead, split_fits, take-joined, take-ranks}
+use Rattle.rice_code.proofs.lemmas.decode.SplitAhead.{first_of, spelled_both, split_ahead, split_fits, take-joined, take-ranks}
+use Rattle.rice_code.proofs.lemmas.decode.RowLemmas.{all_back}
 
 -- what stands before the sequences of a block with a reference sample
 pub head_behind_reference : (waiting : List Bool) (s : Parameters) (b before from v id bits : ℕ) → is_reference s b ≡ true → id ≡ id_len s
@@ -348,7 +349,7 @@ row_place skip row o k some few =
 -- a row of the first of some numbers
 pub all_of_row : (P : ℕ → Type 0) (count size : ℕ) (xs : List ℕ) → count + 16 ≤ size → All P (take size xs) → All P (take 16 (drop count xs))
 all_of_row P count size xs inside all =
-    all_behind P (take count xs) (take 16 (drop count xs)) (subst (All P) (take-take (count + 16) size xs inside ∙ take-add count 16 xs) (All-take P (count + 16) (take size xs) all))
+    all_back P (take count xs) (take 16 (drop count xs)) (subst (All P) (take-take (count + 16) size xs inside ∙ take-add count 16 xs) (All-take P (count + 16) (take size xs) all))
 
 -- the bytes of a block, and of its lanes
 pub all_inside : (w size : ℕ) → (w ≡ 1) ⊎ (w ≡ 2) → size ≤ 64 → (w * size ≤ 160) × (w * size ≤ w * lanes_of size)

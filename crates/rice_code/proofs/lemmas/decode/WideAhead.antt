@@ -15,7 +15,7 @@ use Rattle.rice_samples.specs.Parameters.{Parameters, id_len, k_max, value_at, v
 use Rattle.rice_samples.specs.predict.LevelsOfParts.{AreLevelsOfParts}
 use Rattle.rice_samples.specs.predict.Residuals.{last_number, ranks_below}
 use Rattle.rice_samples.proofs.lemmas.predict.HalfLanes.{last_is as last_at}
-use Rattle.rice_code.specs.decode.BlocksAhead.{BlockAhead}
+use Rattle.rice_code.specs.decode.BlocksInOnePass.{BlockAhead}
 use Rattle.rice_code.specs.decode.FieldsAhead.{HeadAhead, HighsAhead, LowsAhead}
 use Rattle.rice_code.specs.decode.ReadSets.{reference_place}
 use Rattle.rice_code.specs.decode.WideAhead.{EightLevels, LevelsAhead, RestoredAhead}

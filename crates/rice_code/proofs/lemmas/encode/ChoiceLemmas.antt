@@ -11,7 +11,7 @@ use Rattle.rice_samples.proofs.lemmas.blocks.FallingSums.{cut_sum}
 use Rattle.rice_code.specs.code.Blocks.{BlockData}
 use Rattle.rice_code.specs.code.Choice.{shortest, IsBestSplit, best_split}
 use Rattle.rice_code.specs.code.CodedDataSets.{NoCompression, SecondExtension, Split, cost, reference_len, sent_from}
-use Rattle.rice_code.proofs.lemmas.cost.Savings.{first_is_kept, nat_lt-true, not_less, best_numbered, shortest_is}
+use Rattle.rice_code.proofs.lemmas.cost.SplitSavings.{first_is_kept, nat_lt-true, not_less, best_numbered, shortest_is}
 
 map_same : (xs : List ℕ) → map (λ k. k) xs ≡ xs
 map_same [] = refl

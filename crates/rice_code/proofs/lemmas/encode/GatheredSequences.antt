@@ -4,7 +4,7 @@ use Rattle.std.specs.Prelude.{bit_or}
 use Rattle.std.proofs.lemmas.Nat.{pow-add, pow_pos, or_shifted, one_shl, div-mul-add}
 use Rattle.std.proofs.Math.Nat.{pow-le-pow_right}
 use Rattle.rice_bits.specs.Bits.{word, number_of, fundamental_sequence}
-use Rattle.rice_bits.proofs.lemmas.bits.Words.{word-cat, word-fs, word-number_of, number_of-word, number_of-lt, join_below, length-fundamental_sequence}
+use Rattle.rice_bits.proofs.lemmas.bits.WordsAndNumbers.{word-cat, word-fs, word-number_of, number_of-word, number_of-lt, join_below, length-fundamental_sequence}
 use Rattle.rice_code.specs.encode.GatheredSequences.{HasFront, Gathers, HasDigits}
 use Rattle.rice_code.proofs.lemmas.encode.JoinedWords.{one_fits}
 

@@ -4,7 +4,7 @@ use Rattle.std.specs.Prelude.{flat_map, slice_range, if◌then◌else◌}
 use Rattle.std.proofs.lemmas.List.{drop-drop, length-drop, length-take-le}
 use Rattle.std.proofs.lemmas.List.Sums.{sum_by-cons}
 use Rattle.rice_bits.specs.Bits.{fundamental_sequence}
-use Rattle.rice_bits.proofs.lemmas.bits.Words.{length-fundamental_sequence}
+use Rattle.rice_bits.proofs.lemmas.bits.WordsAndNumbers.{length-fundamental_sequence}
 use Rattle.rice_code.specs.encode.GatheredSequences.{four_sequences, sequences_from}
 use Rattle.rice_code.proofs.lemmas.encode.OptionBits.{four_more}
 

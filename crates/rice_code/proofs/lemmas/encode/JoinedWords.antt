@@ -3,7 +3,7 @@ use Rattle.std.proofs.Common.{◌≡◌, ℕ, ◌+◌, ◌*◌, ◌^◌, ◌<◌
 use Rattle.std.proofs.Math.Nat.{pow-le-pow_right}
 use Rattle.std.proofs.lemmas.Nat.{pow-add, pow_pos}
 use Rattle.rice_bits.specs.Bits.{word}
-use Rattle.rice_bits.proofs.lemmas.bits.Words.{length-word, word-cat, join_below}
+use Rattle.rice_bits.proofs.lemmas.bits.WordsAndNumbers.{length-word, word-cat, join_below}
 use Rattle.rice_code.specs.encode.BitBuffer.{IsShort}
 
 pub length-word_is : (width value : ℕ) (bits : List Bool) → word width value ≡ bits → length bits ≡ width

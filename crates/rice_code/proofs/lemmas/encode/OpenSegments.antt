@@ -8,7 +8,7 @@ use Rattle.std.proofs.Math.Nat.{div-add-mod, mod-lt, mod-eq_of_lt, mod_self, mul
 use Rattle.rice_bits.specs.Bits.{bits_to_byte}
 use Rattle.rice_samples.specs.Parameters.{Parameters, IsLegal, id_len}
 use Rattle.rice_samples.specs.Places.{place, blocks_left}
-use Rattle.rice_samples.proofs.lemmas.setting.Levels.{zero_is_sample}
+use Rattle.rice_samples.proofs.lemmas.setting.LevelsOfSamples.{zero_is_sample}
 use Rattle.rice_samples.proofs.lemmas.setting.PlaceLemmas.{some_left}
 use Rattle.rice_code.specs.code.Code.{data_sets}
 use Rattle.rice_code.specs.encode.OpenSegment.{CoderState, IsOpen, HoldsAnySegment, empty_state, state_after_segment, next_start, blocks_held, contents_held, sets_held, code_held, HoldsSoundBlocks, CodesHeld}

@@ -10,8 +10,8 @@ use Rattle.rice_code.specs.code.CodedDataSets.{bits_of_set, cost, reference_bits
 use Rattle.rice_code.specs.code.Runs.{run_of_blocks}
 use Rattle.rice_code.specs.encode.HeldBlocks.{zeros_of_run}
 use Rattle.rice_bits.specs.Bits.{word, fundamental_sequence}
-use Rattle.rice_code.proofs.lemmas.cost.Costs.{length_pieces, numbered_run_len, remainder_len}
-use Rattle.rice_bits.proofs.lemmas.bits.Words.{length-fundamental_sequence, word-fs, word-zero, word-cat, word-nil}
+use Rattle.rice_code.proofs.lemmas.cost.CostIsLength.{length_pieces, numbered_run_len, remainder_len}
+use Rattle.rice_bits.proofs.lemmas.bits.WordsAndNumbers.{length-fundamental_sequence, word-fs, word-zero, word-cat, word-nil}
 
 -- What joins a split block: identifier and reference sample, the fundamental sequences of the high parts, and then the words of the low
 -- parts, put into a sink one after the other, are the text of its coded data set.

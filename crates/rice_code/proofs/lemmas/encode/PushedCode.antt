@@ -14,7 +14,7 @@ use Rattle.rice_samples.specs.Places.{place, begins_segment, blocks_left, cut, b
 use Rattle.rice_samples.specs.predict.Residuals.{last_of, filled_samples}
 use Rattle.rice_samples.proofs.lemmas.setting.PlaceLemmas.{some_left}
 use Rattle.rice_samples.proofs.lemmas.predict.ResidualLemmas.{length-residuals}
-use Rattle.rice_samples.proofs.lemmas.setting.Levels.{zero_is_sample}
+use Rattle.rice_samples.proofs.lemmas.setting.LevelsOfSamples.{zero_is_sample}
 use Rattle.rice_code.specs.code.Blocks.{BlockData, blocks_from, blocks_of, fill_count_of, fill_count}
 use Rattle.rice_code.specs.code.Code.{code, code_bits, data_sets, complete_samples}
 use Rattle.rice_code.specs.encode.Coder.{reference_in, HasCodedBefore, HasTaken, IsCoder, AddsCode}
@@ -26,8 +26,8 @@ use Rattle.rice_code.specs.code.Layout.{layout}
 use Rattle.rice_code.specs.Bounds.{block_bound}
 use Rattle.rice_code.specs.CoderSteps.{least_looks, most_looks, least_looks_at, most_looks_at, least_steps, most_steps, coding_steps, segment_steps}
 use Rattle.rice_code.proofs.lemmas.meaning.CoveredBlocks.{bool_cases}
-use Rattle.rice_code.proofs.lemmas.code.Filling.{last_append, blocks_append}
-use Rattle.rice_code.proofs.lemmas.code.GoingOn.{filled_behind, own_blocks, code_goes_on, bits_go_on}
+use Rattle.rice_code.proofs.lemmas.code.FilledBlocks.{last_append, blocks_append}
+use Rattle.rice_code.proofs.lemmas.code.CodeGoesOn.{filled_behind, own_blocks, code_goes_on, bits_go_on}
 use Rattle.rice_code.proofs.lemmas.encode.HeldSamples.{held_are, one_more, holds_fill, all_first}
 use Rattle.rice_code.proofs.lemmas.code.Layouts.{laid_plain, laid_at}
 use Rattle.rice_code.proofs.lemmas.encode.OpenSegments.{fill_inside}

@@ -16,7 +16,7 @@ use Rattle.rice_code.specs.code.Blocks.{fill_count}
 use Rattle.rice_code.specs.encode.OpenSegment.{CoderState, IsWhole, state_after, state_after_all, state_after_segment, state_with_fill, next_residual, HoldsSoundBlocks, CodesHeld}
 use Rattle.rice_code.specs.CoderSteps.{coding_steps, segment_steps}
 use Rattle.rice_code.proofs.lemmas.encode.PushedCode.{stays_open, stays_open_completes_none, short_of, pending_are, whole_sound, takes_last_of_segment, whole_segment_adds_code, AddsHeldCode, adds_code, adds_nothing, steps_of_segment}
-use Rattle.rice_code.proofs.lemmas.encode.SeveralHeld.{state_after_all-none, state_after_all-cons, state_after_all-snoc, length-state_after_all}
+use Rattle.rice_code.proofs.lemmas.encode.SeveralSamplesHeld.{state_after_all-none, state_after_all-cons, state_after_all-snoc, length-state_after_all}
 
 -- samples that leave the segment open
 pub several_stay_open : (coder : CoderState) (ys xs : List ℤ) → HasTaken coder xs → AllByRecursion (IsSample coder.setting) ys

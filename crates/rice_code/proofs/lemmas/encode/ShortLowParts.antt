@@ -6,9 +6,9 @@ use Rattle.std.proofs.lemmas.Nat.{and_mask, mod_below, pow_pos}
 use Rattle.std.proofs.lemmas.Grind.{flat_map-append}
 use Rattle.std.proofs.lemmas.List.Folds.{drop_split}
 use Rattle.rice_bits.specs.Bits.{word}
-use Rattle.rice_bits.proofs.lemmas.bits.Words.{length-word, word-split}
+use Rattle.rice_bits.proofs.lemmas.bits.WordsAndNumbers.{length-word, word-split}
 use Rattle.rice_bits.proofs.lemmas.bits.EightBytes.{word-mod}
-use Rattle.rice_bits.proofs.lemmas.bits.Joining.{low_word}
+use Rattle.rice_bits.proofs.lemmas.bits.JoinedBits.{low_word}
 use Rattle.rice_code.proofs.lemmas.encode.JoinedWords.{four_words}
 use Rattle.rice_code.proofs.lemmas.encode.OptionBits.{four_more}
 

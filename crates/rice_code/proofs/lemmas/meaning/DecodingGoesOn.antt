@@ -9,7 +9,7 @@ use Rattle.rice_code.specs.code.CodedDataSets.{CodedDataSet, bits_of_set}
 use Rattle.rice_code.specs.code.Forms.{IsForm, RunIsSound, ResidualsAreSound, blocks_in, blocks_in_all}
 use Rattle.rice_code.specs.code.Layout.{block_after, padding}
 use Rattle.rice_code.specs.code.Decoded.{DecodedFrom, Ending, IsWanted, EndsWith, cut_to}
-use Rattle.rice_code.proofs.lemmas.code.Filling.{blocks_append}
+use Rattle.rice_code.proofs.lemmas.code.FilledBlocks.{blocks_append}
 
 take_parts : (n : ℕ) (xs ys : List ℤ) → take n xs ++ take (n - length xs) ys ≡ take n (xs ++ ys)
 take_parts n [] ys = let e : n - 0 ≡ n = omega arith in ap (λ m. take n (let v : List ℤ = [] in v) ++ take m ys) e ∙ nothing n

@@ -5,7 +5,7 @@ use Rattle.std.proofs.lemmas.List.{drop-append-le, length-replicate, length-take
 use Rattle.std.proofs.Math.Nat.{mod-lt, mod_self}
 use Rattle.std.proofs.Math.Seq.{take-append-add, take-length}
 use Rattle.rice_bits.specs.Bits.{bits_of, bits_to_byte}
-use Rattle.rice_bits.proofs.lemmas.bits.Bytes.{bits_of-padded, length-bits_of}
+use Rattle.rice_bits.proofs.lemmas.bits.BytesAndBits.{bits_of-padded, length-bits_of}
 use Rattle.rice_samples.specs.Parameters.{Parameters, IsLegal}
 use Rattle.rice_samples.specs.Places.{block_count}
 use Rattle.rice_samples.specs.predict.Residuals.{residuals, last_of, filled_samples}
@@ -17,11 +17,11 @@ use Rattle.rice_code.specs.code.CodedDataSets.{CodedDataSet}
 use Rattle.rice_code.specs.code.Decoded.{AreTaken, Decoded, Ending, cut_to}
 use Rattle.rice_code.specs.code.Forms.{blocks_in_all}
 use Rattle.rice_code.specs.code.Layout.{block_after}
-use Rattle.rice_code.proofs.lemmas.code.Filling.{last_behind, repeated_all}
+use Rattle.rice_code.proofs.lemmas.code.FilledBlocks.{last_behind, repeated_all}
 use Rattle.rice_code.proofs.lemmas.code.SoundBlocks.{count_blocks, filled_len}
 use Rattle.rice_code.proofs.lemmas.cost.CodeEnds.{padded, padded_is, sent_padded, taken_padded}
 use Rattle.rice_code.proofs.lemmas.cost.LeastCode.{ends_no_later}
-use Rattle.rice_code.proofs.lemmas.cost.SmallerBlocks.{AreAtMost, BeginAtMost, IsAtMost, at_most_itself}
+use Rattle.rice_code.proofs.lemmas.cost.CostsOfSmallerBlocks.{AreAtMost, BeginAtMost, IsAtMost, at_most_itself}
 
 -- ---- samples that repeat the last one have the least residuals
 

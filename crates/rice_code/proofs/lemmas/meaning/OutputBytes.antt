@@ -5,12 +5,12 @@ use Rattle.std.proofs.lemmas.List.{length-take-le}
 use Rattle.std.proofs.lemmas.List.Elements.{All-take}
 use Rattle.rice_bits.specs.Bits.{bits_of}
 use Rattle.rice_samples.specs.Parameters.{Parameters, IsLegal, IsSample}
-use Rattle.rice_samples.proofs.lemmas.setting.Levels.{zero_is_sample}
+use Rattle.rice_samples.proofs.lemmas.setting.LevelsOfSamples.{zero_is_sample}
 use Rattle.rice_code.specs.Laws.{CodesDiffer, RefusedBytesAreNoOutput, IsOutputOf, OwnBytesAreRecognised}
 use Rattle.rice_code.specs.code.Code.{output}
 use Rattle.rice_code.specs.code.Decoded.{Decoded, Ending, Reached}
-use Rattle.rice_code.proofs.lemmas.meaning.OneMeaning.{decoded_is_one}
-use Rattle.rice_code.proofs.lemmas.meaning.Returned.{returns_samples}
+use Rattle.rice_code.proofs.lemmas.meaning.DecodedInOneWay.{decoded_is_one}
+use Rattle.rice_code.proofs.lemmas.meaning.SamplesAreReturned.{returns_samples}
 
 -- what the output of samples decodes to, by their number
 decodes_to : (s : Parameters) → IsLegal s → (bytes : List ℕ) (count : ℕ) (xs ys : List ℤ) (ending : Ending) (used : ℕ) → All (IsSample s) xs → length xs ≡ count → output s xs ≡ bytes

@@ -1,7 +1,7 @@
 use Rattle.rice_samples.proofs.laws.patterns_are_all_numbers.Goals as goal
-use Rattle.rice_samples.proofs.lemmas.setting.Levels.{pattern_fits}
-use Rattle.rice_samples.proofs.lemmas.predict.Patterns.{same_pattern}
-use Rattle.rice_samples.proofs.lemmas.predict.InverseLemmas.{has_pattern}
+use Rattle.rice_samples.proofs.lemmas.setting.LevelsOfSamples.{pattern_fits}
+use Rattle.rice_samples.proofs.lemmas.predict.DistinctPatterns.{same_pattern}
+use Rattle.rice_samples.proofs.lemmas.predict.InverseRanksAndPatterns.{has_pattern}
 
 pub returns-clause-bounded : goal.returns-clause-bounded
 returns-clause-bounded c = λ s legal x hx. pattern_fits s x legal.bits_from hx

@@ -1,8 +1,8 @@
 use Rattle.rice_samples.proofs.laws.ranks_are_all_numbers.Goals as goal
 use Rattle.rice_samples.specs.Parameters.{value_count, level}
 use Rattle.rice_samples.proofs.lemmas.predict.Ranks.{rank_fits, rank_injective}
-use Rattle.rice_samples.proofs.lemmas.setting.Levels.{same_level}
-use Rattle.rice_samples.proofs.lemmas.predict.InverseLemmas.{has_rank}
+use Rattle.rice_samples.proofs.lemmas.setting.LevelsOfSamples.{same_level}
+use Rattle.rice_samples.proofs.lemmas.predict.InverseRanksAndPatterns.{has_rank}
 
 pub returns-clause-bounded : goal.returns-clause-bounded
 returns-clause-bounded c = λ s legal p x hp hx. rank_fits (value_count s) (level s p) (level s x) hp.1 hx.1

@@ -8,7 +8,7 @@ use Rattle.std.proofs.lemmas.List.Elements.{All-append}
 use Rattle.rice_samples.specs.Limits.{most_input}
 use Rattle.rice_samples.specs.Parameters.{Parameters, IsSample, values_at, width}
 use Rattle.rice_samples.specs.bytes.Spelling.{Reads, IsNoSpelling, spellings}
-use Rattle.rice_samples.specs.bytes.SamplesAhead.{SamplesAhead, GivesSamples, StopsSamples, LacksSample}
+use Rattle.rice_samples.specs.bytes.SampleReader.{SamplesAhead, GivesSamples, StopsSamples, LacksSample}
 use Rattle.rice_samples.specs.declared.bytes.sample_fault.SampleFault.{SampleFault}
 use Rattle.rice_samples.specs.declared.bytes.sample_fault.SampleFault.TheVariants.{Read, Cut, TooLong, OutOfRange}
 use Rattle.rice_samples.proofs.lemmas.bytes.SpellingLengths.{spellings-append}

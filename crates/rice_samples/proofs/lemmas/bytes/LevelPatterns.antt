@@ -8,11 +8,11 @@ use Rattle.std.proofs.Math.Nat.{mod-add-mod, mul-le-mul_right}
 use Rattle.std.proofs.Math.Pow.{mod-mod-pow, pow_mono}
 use Rattle.rice_samples.specs.Parameters.{Parameters, least, level, value_at, value_count, values_at}
 use Rattle.rice_samples.specs.predict.Residuals.{pattern, twos_complement}
-use Rattle.rice_samples.specs.bytes.Values.{offset, IsValue}
+use Rattle.rice_samples.specs.bytes.ValueRange.{offset, IsValue}
 use Rattle.rice_samples.proofs.lemmas.bytes.SpellingLemmas.{level_from_pattern, mod_once, offset_limit, same_offset, wider_value}
-use Rattle.rice_samples.proofs.lemmas.predict.InverseLemmas.{has_pattern}
+use Rattle.rice_samples.proofs.lemmas.predict.InverseRanksAndPatterns.{has_pattern}
 use Rattle.rice_samples.proofs.lemmas.setting.ValuesAboveLeast.{gap_above, sample_at}
-use Rattle.rice_samples.proofs.lemmas.setting.Levels.{pattern_fits}
+use Rattle.rice_samples.proofs.lemmas.setting.LevelsOfSamples.{pattern_fits}
 use Rattle.rice_samples.proofs.lemmas.setting.ValuesAt.{value_of_level}
 
 -- a level that the offset has turned is that of the value with this pattern

@@ -9,8 +9,8 @@ use Rattle.std.proofs.Math.Pow.{pow_mono}
 use Rattle.rice_samples.specs.Parameters.{level, Parameters, IsLegal, IsSample, width}
 use Rattle.rice_samples.specs.predict.Residuals.{twos_complement}
 use Rattle.rice_samples.specs.bytes.Spelling.{spelling, ordered_bytes}
-use Rattle.rice_samples.specs.bytes.Values.{offset, IsValue}
-use Rattle.rice_samples.proofs.lemmas.setting.Levels.{half_pow, pattern_fits}
+use Rattle.rice_samples.specs.bytes.ValueRange.{offset, IsValue}
+use Rattle.rice_samples.proofs.lemmas.setting.LevelsOfSamples.{half_pow, pattern_fits}
 
 not_below : (a b c : ℕ) → a ≡ c + b → pos a -ℤ pos b ≡ pos c
 not_below a b c e = omega (arith, ints)

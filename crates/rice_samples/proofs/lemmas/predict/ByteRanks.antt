@@ -5,7 +5,7 @@ use Rattle.std.specs.Simd.Lanes.{zip2, Each1, sel_l}
 use Rattle.std.proofs.lemmas.Bool.Decides.{nat_tests}
 use Rattle.std.proofs.lemmas.List.{take_all}
 use Rattle.rice_samples.specs.predict.Residuals.{rank_below}
-use Rattle.rice_samples.proofs.lemmas.predict.FitsOf16Bits.{each_of_all}
+use Rattle.rice_samples.proofs.lemmas.predict.NumbersThatFit16Bits.{each_of_all}
 
 -- a difference that wraps
 abbrev pub wrapped_sub : ℕ → ℕ → ℕ

@@ -12,10 +12,10 @@ use Rattle.rice_samples.specs.predict.LevelsOfParts.{AreLevelsOfParts}
 use Rattle.rice_samples.specs.bytes.PatternLanes.{swapped}
 use Rattle.rice_samples.specs.predict.Residuals.{last_number, ranks_below, twos_complement}
 use Rattle.rice_samples.specs.bytes.Spelling.{spelling, spellings}
-use Rattle.rice_samples.specs.bytes.Values.{offset}
+use Rattle.rice_samples.specs.bytes.ValueRange.{offset}
 use Rattle.rice_samples.proofs.lemmas.bytes.LevelPatterns.{word_of_level}
 use Rattle.rice_samples.proofs.lemmas.bytes.SpellingLemmas.{offset_limit}
-use Rattle.rice_samples.proofs.lemmas.predict.JoinedLanes.{bytes_of, parted}
+use Rattle.rice_samples.proofs.lemmas.predict.JoinedPartsInLanes.{bytes_of, parted}
 use Rattle.rice_samples.proofs.lemmas.predict.SumsOfWays.{sixteen_lanes}
 use Rattle.rice_samples.proofs.lemmas.predict.RestoredLevels.{ranks_below-append}
 

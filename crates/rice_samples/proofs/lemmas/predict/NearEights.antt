@@ -12,8 +12,8 @@ use Rattle.std.proofs.lemmas.List.{length-take-le, take_all}
 use Rattle.std.proofs.lemmas.Simd.{put_chunk_whole, tops_compared, Each1-get_or, Each1-weaker}
 use Rattle.std.proofs.Math.Nat.{mod-add-mod, add-mod-mod, mod-eq_of_lt, add-mod_right}
 use Rattle.rice_samples.specs.predict.Residuals.{rank_below, ranks_below}
-use Rattle.rice_samples.specs.predict.Near.{way, near_numbers, sums_behind, reach, bound}
-use Rattle.rice_samples.proofs.lemmas.blocks.LaneLemmas.{lanes_below_digits, length-map}
+use Rattle.rice_samples.specs.predict.NearNumbers.{way, near_numbers, sums_behind, reach, bound}
+use Rattle.rice_samples.proofs.lemmas.blocks.EightsInLanes.{lanes_below_digits, length-map}
 use Rattle.rice_samples.proofs.lemmas.predict.Ranks.{rank_above, rank_under}
 
 -- a vector of eight lanes
@@ -129,14 +129,14 @@ all_before p xs n = eight_lanes (λ xs. (p ∷ get_or xs 0 0 ∷ get_or xs 1 0 �
 
 -- bounds
 
-select_min : (xs ys : List ℕ) → sel_l (zip2 nat_lt xs ys) xs ys ≡ zip2 min xs ys
+pub select_min : (xs ys : List ℕ) → sel_l (zip2 nat_lt xs ys) xs ys ≡ zip2 min xs ys
 select_min [] ys = refl
 select_min (x ∷ xs) [] = refl
 select_min (x ∷ xs) (y ∷ ys) =
     let one : cond (nat_lt x y) x y ≡ min x y = grind (arith, nat_tests) in
     λ j. one j ∷ select_min xs ys j
 
-select_max : (xs ys : List ℕ) → sel_l (zip2 nat_lt xs ys) ys xs ≡ zip2 max xs ys
+pub select_max : (xs ys : List ℕ) → sel_l (zip2 nat_lt xs ys) ys xs ≡ zip2 max xs ys
 select_max [] ys = refl
 select_max (x ∷ xs) [] = refl
 select_max (x ∷ xs) (y ∷ ys) =

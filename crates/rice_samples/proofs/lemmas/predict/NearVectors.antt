@@ -17,9 +17,9 @@ use Rattle.rice_samples.specs.predict.Residuals.{ranks_below}
 use Rattle.rice_bits.specs.read.JoinedParts.{joined_parts}
 use Rattle.rice_samples.specs.Parameters.{Parameters, value_count}
 use Rattle.rice_samples.specs.predict.LevelsOfParts.{AreLevelsOfParts}
-use Rattle.rice_samples.specs.predict.Near.{way, near_numbers, sums_behind, reach, bound}
-use Rattle.rice_samples.proofs.lemmas.blocks.LaneLemmas.{lanes_below_digits, length-map, parts_below}
-use Rattle.rice_samples.proofs.lemmas.predict.NearEights.{length-near_numbers, near_ranks, way_lane}
+use Rattle.rice_samples.specs.predict.NearNumbers.{way, near_numbers, sums_behind, reach, bound}
+use Rattle.rice_samples.proofs.lemmas.blocks.EightsInLanes.{lanes_below_digits, length-map, parts_below}
+use Rattle.rice_samples.proofs.lemmas.predict.NearEights.{select_max, select_min, length-near_numbers, near_ranks, way_lane}
 
 -- ways
 
@@ -54,20 +54,6 @@ before_are p n xs e = ap (λ z. p ∷ z) (pick_l-range_with_len 0 xs 0 n (omega 
 
 -- bounds
 
-lesser_selected : (xs ys : List ℕ) → sel_l (zip2 nat_lt xs ys) xs ys ≡ zip2 min xs ys
-lesser_selected [] ys = refl
-lesser_selected (x ∷ xs) [] = refl
-lesser_selected (x ∷ xs) (y ∷ ys) =
-    let one : cond (nat_lt x y) x y ≡ min x y = grind (arith, nat_tests) in
-    λ j. one j ∷ lesser_selected xs ys j
-
-greater_selected : (xs ys : List ℕ) → sel_l (zip2 nat_lt xs ys) ys xs ≡ zip2 max xs ys
-greater_selected [] ys = refl
-greater_selected (x ∷ xs) [] = refl
-greater_selected (x ∷ xs) (y ∷ ys) =
-    let one : cond (nat_lt x y) y x ≡ max x y = grind (arith, nat_tests) in
-    λ j. one j ∷ greater_selected xs ys j
-
 abbrev masks : Width → List ℕ → List ℕ → List Bool
 masks w xs ys = map (top (hbits w)) (zip2 (λ a b. cond (nat_lt a b) (2 ^ bits w - 1) 0) xs ys)
 
@@ -84,7 +70,7 @@ pub vector_of_bounds : (w : Width) (n g : ℕ) (xs : List ℕ) → length xs ≡
     zip2 (λ x y. (x + y) % 2 ^ bits w) reaches reaches) ≡ map (bound (2 ^ bits w) g) xs
 vector_of_bounds w n g xs e =
     let ys = up_to_greatest n (2 ^ bits w) g xs in
-    let least : sel_l (masks w xs ys) xs ys ≡ zip2 min xs ys = ap (λ ms. sel_l ms xs ys) (tops_compared w nat_lt xs ys) ∙ lesser_selected xs ys in
+    let least : sel_l (masks w xs ys) xs ys ≡ zip2 min xs ys = ap (λ ms. sel_l ms xs ys) (tops_compared w nat_lt xs ys) ∙ select_min xs ys in
     (λ j. zip2 (λ x y. (x + y) % 2 ^ bits w) (least j) (least j)) ∙ of_least n (2 ^ bits w) g xs e
 
 -- the tests
@@ -102,7 +88,7 @@ one_excess m d b h k = elim (cases_lt b d) [
 pub excess_of_each : (w : Width) (ds bs : List ℕ) → Each1 (Fits w) ds → Each1 (Fits w) bs
     → zip2 (λ a b. (a + (2 ^ bits w - b)) % 2 ^ bits w) (sel_l (masks w ds bs) bs ds) bs ≡ zip2 (λ d b. d - b) ds bs
 excess_of_each w ds bs h k =
-    let most : sel_l (masks w ds bs) bs ds ≡ zip2 max ds bs = ap (λ ms. sel_l ms bs ds) (tops_compared w nat_lt ds bs) ∙ greater_selected ds bs in
+    let most : sel_l (masks w ds bs) bs ds ≡ zip2 max ds bs = ap (λ ms. sel_l ms bs ds) (tops_compared w nat_lt ds bs) ∙ select_max ds bs in
     ap (λ ys. zip2 (λ a b. (a + (2 ^ bits w - b)) % 2 ^ bits w) ys bs) most ∙ each ds bs h k
   where
     each : (ds bs : List ℕ) → Each1 (Fits w) ds → Each1 (Fits w) bs → zip2 (λ a b. (a + (2 ^ bits w - b)) % 2 ^ bits w) (zip2 max ds bs) bs ≡ zip2 (λ d b. d - b) ds bs

@@ -8,7 +8,7 @@ use Rattle.rice_samples.specs.Parameters.{Parameters, IsSample, level, value_cou
 use Rattle.rice_samples.specs.Places.{is_reference_sample, is_reference}
 use Rattle.rice_samples.specs.predict.Residuals.{rank, residual, residuals, pattern}
 use Rattle.rice_samples.proofs.lemmas.predict.Ranks.{rank_fits}
-use Rattle.rice_samples.proofs.lemmas.setting.Levels.{pattern_fits}
+use Rattle.rice_samples.proofs.lemmas.setting.LevelsOfSamples.{pattern_fits}
 
 pub length-residuals : (s : Parameters) (i : ℕ) (p : ℤ) (xs : List ℤ) → length (residuals s i p xs) ≡ length xs
 length-residuals s i p [] = refl

@@ -5,7 +5,7 @@ use Rattle.std.proofs.lemmas.List.Elements.{All-map}
 use Rattle.rice_samples.specs.Parameters.{Parameters, IsSample, least, level, value_at, value_count, values_at}
 use Rattle.rice_samples.specs.predict.Residuals.{rank_below, ranks, ranks_below, last_of}
 use Rattle.rice_samples.proofs.lemmas.setting.ValuesAboveLeast.{gap_above, sample_at}
-use Rattle.rice_samples.proofs.lemmas.setting.Levels.{same_level}
+use Rattle.rice_samples.proofs.lemmas.setting.LevelsOfSamples.{same_level}
 
 pub level_of_value : (s : Parameters) (l : ℕ) → level s (value_at s l) ≡ l
 level_of_value s l = gap_above (least s) l
@@ -49,7 +49,3 @@ same_levels s xs ys e = sym (levels_are s xs) ∙ (ap (map (level s)) e ∙ leve
     levels_are : (s : Parameters) (ls : List ℕ) → map (level s) (values_at s ls) ≡ ls
     levels_are s [] = refl
     levels_are s (l ∷ ls) = λ i. level_of_value s l i ∷ levels_are s ls i
-
--- levels of values that are all the same
-pub levels_repeat : (s : Parameters) (n l : ℕ) (ls : List ℕ) → values_at s ls ≡ replicate n (value_at s l) → ls ≡ replicate n l
-levels_repeat s n l ls e = same_levels s ls (replicate n l) (e ∙ sym (values_replicate s n l))

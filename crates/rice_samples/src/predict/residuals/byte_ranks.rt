@@ -61,16 +61,16 @@ fn sixteen_ranks(greatest: u8, before: u8x16, numbers: u8x16) -> u8x16
     ensures { result ≡ zip2 (rank_below (greatest + 1)) before numbers }
 {
     // One of the two ways is 0.
-    let down = above_or_zero(before, numbers);
-    let up = above_or_zero(numbers, before);
-    let nearer = up + above_or_zero(down, u8x16::splat(1));
-    let reach = least(before, u8x16::splat(greatest) - before);
-    down + up + least(nearer, reach)
+    let down = excess_over(before, numbers);
+    let up = excess_over(numbers, before);
+    let nearer = up + excess_over(down, u8x16::splat(1));
+    let reach = lesser_numbers(before, u8x16::splat(greatest) - before);
+    down + up + lesser_numbers(nearer, reach)
 }
 
 /// Returns the lesser of two numbers in each lane.
 #[inline(always)]
-fn least(a: u8x16, b: u8x16) -> u8x16
+fn lesser_numbers(a: u8x16, b: u8x16) -> u8x16
     ensures { result ≡ zip2 min a b }
 {
     a.simd_min(b)
@@ -78,7 +78,7 @@ fn least(a: u8x16, b: u8x16) -> u8x16
 
 /// Returns by how much a number is above the other, or 0, in each lane.
 #[inline(always)]
-fn above_or_zero(a: u8x16, b: u8x16) -> u8x16
+fn excess_over(a: u8x16, b: u8x16) -> u8x16
     ensures { result ≡ zip2 (λ x y. x - y) a b }
 {
     a.saturating_sub(b)

@@ -21,7 +21,7 @@ pub(crate) fn write_eight_ranks(setting: &Setting, p: u32, levels: &[u32], resid
     let greatest = (setting.values() - 1) as u16;
     let mut before = u16x8::splat(p as u16);
     for i in 0..levels.len() / 8 {
-        let eight = eight_narrow(&levels[8 * i..8 * i + 8]);
+        let eight = eight_in_narrow_lanes(&levels[8 * i..8 * i + 8]);
         eight_ranks(greatest, last_before(before, eight), eight)
             .cast::<u32>()
             .copy_to_slice(&mut residuals[8 * i..]);
@@ -31,7 +31,7 @@ pub(crate) fn write_eight_ranks(setting: &Setting, p: u32, levels: &[u32], resid
 
 /// Returns eight numbers below 2^16 in narrow lanes.
 #[inline(always)]
-fn eight_narrow(numbers: &[u32]) -> u16x8
+fn eight_in_narrow_lanes(numbers: &[u32]) -> u16x8
     requires narrow { All (λ x. x < 2 ^ 16) numbers.now }
     requires eight { length numbers.now ≡ 8 }
     ensures { result ≡ numbers.now }
@@ -55,16 +55,16 @@ fn eight_ranks(greatest: u16, before: u16x8, numbers: u16x8) -> u16x8
     ensures { result ≡ zip2 (rank_below (greatest + 1)) before numbers }
 {
     // One of the two ways is 0.
-    let down = above_or_zero(before, numbers);
-    let up = above_or_zero(numbers, before);
-    let nearer = up + above_or_zero(down, u16x8::splat(1));
-    let reach = least(before, u16x8::splat(greatest) - before);
-    down + up + least(nearer, reach)
+    let down = excess_over(before, numbers);
+    let up = excess_over(numbers, before);
+    let nearer = up + excess_over(down, u16x8::splat(1));
+    let reach = lesser_numbers(before, u16x8::splat(greatest) - before);
+    down + up + lesser_numbers(nearer, reach)
 }
 
 /// Returns the lesser of two numbers in each lane.
 #[inline(always)]
-fn least(a: u16x8, b: u16x8) -> u16x8
+fn lesser_numbers(a: u16x8, b: u16x8) -> u16x8
     ensures { result ≡ zip2 min a b }
 {
     a.simd_min(b)
@@ -72,7 +72,7 @@ fn least(a: u16x8, b: u16x8) -> u16x8
 
 /// Returns by how much a number is above the other, or 0, in each lane.
 #[inline(always)]
-fn above_or_zero(a: u16x8, b: u16x8) -> u16x8
+fn excess_over(a: u16x8, b: u16x8) -> u16x8
     ensures { result ≡ zip2 (λ x y. x - y) a b }
 {
     a.saturating_sub(b)

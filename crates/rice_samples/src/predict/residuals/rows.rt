@@ -17,7 +17,7 @@ pub(crate) fn write_residuals(setting: &Setting, p: u32, levels: &[u32], residua
     ensures { residuals.new ≡ ranks_below (value_count setting.now) p levels.now }
 {
     if setting.bits() > 16 {
-        write_any_width(setting, p, levels, residuals);
+        write_residuals_of_any_width(setting, p, levels, residuals);
         return;
     }
     if setting.bits() > 8 || levels.len() < 16 {
@@ -44,7 +44,7 @@ fn write_by_eights(setting: &Setting, p: u32, levels: &[u32], residuals: &mut [u
     let end = 8 * (levels.len() / 8);
     if end < levels.len() {
         let last = last_level(p, &levels[..end]);
-        write_any_width(setting, last, &levels[end..], &mut residuals[end..]);
+        write_residuals_of_any_width(setting, last, &levels[end..], &mut residuals[end..]);
     }
 }
 
@@ -63,7 +63,7 @@ fn last_level(p: u32, levels: &[u32]) -> u32
 ///
 /// It is never inlined, so that what calls it for few samples, or for none, saves no registers for it.
 #[inline(never)]
-fn write_any_width(setting: &Setting, p: u32, levels: &[u32], residuals: &mut [u32])
+fn write_residuals_of_any_width(setting: &Setting, p: u32, levels: &[u32], residuals: &mut [u32])
     requires before { p < value_count setting.now }
     requires legal { All (λ l. l < value_count setting.now) levels.now }
     requires len { length residuals.old ≡ length levels.now }
@@ -71,11 +71,11 @@ fn write_any_width(setting: &Setting, p: u32, levels: &[u32], residuals: &mut [u
 {
     let greatest = (setting.values() - 1) as u32;
     residuals.copy_from_slice(levels);
-    fold(greatest, p, residuals);
+    replace_by_ranks(greatest, p, residuals);
 }
 
 /// Replaces numbers up to `greatest` by their ranks: of the first from `p`, and of each other from the one before it.
-fn fold(greatest: u32, p: u32, numbers: &mut [u32])
+fn replace_by_ranks(greatest: u32, p: u32, numbers: &mut [u32])
     requires before { p ≤ greatest }
     requires numbers { All (λ x. x ≤ greatest) numbers.old }
     ensures { numbers.new ≡ ranks_below (greatest + 1) p numbers.old }

@@ -5,7 +5,7 @@ ghost use Rattle.rice_samples.specs.Parameters.{value_count, values_at};
 ghost use Rattle.rice_samples.specs.bytes.Spelling.{spellings};
 ghost use Rattle.rice_samples.specs.predict.Residuals.{ranks_below};
 ghost use Rattle.rice_samples.specs.predict.LevelsOfParts.{AreLevelsOfParts};
-ghost use Rattle.rice_samples.specs.predict.Near.{near_numbers as near_numbers_of, way, bound, sums_behind};
+ghost use Rattle.rice_samples.specs.predict.NearNumbers.{near_numbers as near_numbers_of, way, bound, sums_behind};
 
 use crate::Setting;
 use std::simd::prelude::*;
@@ -40,7 +40,7 @@ pub fn near_levels(
     let levels = near_numbers(before, ranks);
     let far = excess_over_near(greatest, before, ranks, levels);
     // What is above in any lane is seen by one test.
-    if !are_zeros(excess_over(highs, 255 >> width), far) {
+    if !both_are_zeros(excess_over(highs, 255 >> width), far) {
         return None;
     }
     Some(LevelLanes { levels })
@@ -89,13 +89,13 @@ fn near_numbers(p: u8, ranks: u8x16) -> u8x16
     requires { length ranks ≡ 16 }
     ensures { result ≡ near_numbers_of (2 ^ 8) p ranks }
 {
-    plus_eight_before(plus_four_before(plus_two_before(plus_one_before(ways(ranks)))))
+    plus_eight_before(plus_four_before(plus_two_before(plus_one_before(near_ways(ranks)))))
         + u8x16::splat(p)
 }
 
 /// Returns the way to each number, if it is near. The ways wrap, as their sums do.
 #[inline(always)]
-pub(crate) fn ways(ranks: u8x16) -> u8x16
+pub(crate) fn near_ways(ranks: u8x16) -> u8x16
     requires { length ranks ≡ 16 }
     ensures { result ≡ map (way (2 ^ 8)) ranks }
 {
@@ -172,12 +172,12 @@ fn excess_over_near(greatest: u8, p: u8, ranks: u8x16, numbers: u8x16) -> u8x16
     ensures ranks { result ≡ replicate 16 0 → ranks_below (greatest + 1) p numbers ≡ ranks }
 {
     // The first number that is not near still has the true one before it, so it is seen here.
-    ranks.saturating_sub(bounds_from(greatest, all_before(p, numbers)))
+    ranks.saturating_sub(greatest_near_ranks(greatest, numbers_before_each(p, numbers)))
 }
 
 /// Returns the number before each of these.
 #[inline(always)]
-fn all_before(p: u8, numbers: u8x16) -> u8x16
+fn numbers_before_each(p: u8, numbers: u8x16) -> u8x16
     requires { length numbers ≡ 16 }
     ensures { result ≡ take 16 (p ∷ numbers) }
 {
@@ -191,7 +191,7 @@ fn all_before(p: u8, numbers: u8x16) -> u8x16
 
 /// Returns the greatest rank that is near to each of these numbers.
 #[inline(always)]
-fn bounds_from(greatest: u8, numbers: u8x16) -> u8x16
+fn greatest_near_ranks(greatest: u8, numbers: u8x16) -> u8x16
     requires { length numbers ≡ 16 }
     ensures { result ≡ map (bound (2 ^ 8) greatest) numbers }
 {
@@ -211,7 +211,7 @@ pub(crate) fn excess_over(numbers: u8x16, most: u8) -> u8x16
 
 /// Returns whether both vectors are all zeros.
 #[inline(always)]
-pub(crate) fn are_zeros(a: u8x16, b: u8x16) -> bool
+pub(crate) fn both_are_zeros(a: u8x16, b: u8x16) -> bool
     requires { (length a ≡ 16) × (length b ≡ 16) }
     ensures first { result ≡ true → a ≡ replicate 16 0 }
     ensures second { result ≡ true → b ≡ replicate 16 0 }

@@ -4,10 +4,12 @@ ghost use Rattle.std.specs.Prelude.{◌≡◌, ◌+◌, ◌-◌, ◌/◌, ◌^�
 ghost use Rattle.rice_samples.specs.Parameters.{value_count};
 ghost use Rattle.rice_samples.specs.predict.Residuals.{rank_below, ranks_below};
 ghost use Rattle.rice_samples.specs.predict.LevelsOfParts.{AreLevelsOfParts};
-ghost use Rattle.rice_samples.specs.predict.Near.{way as way_of};
+ghost use Rattle.rice_samples.specs.predict.NearNumbers.{way as way_of};
 
 use crate::Setting;
-use crate::predict::restoring::byte_lanes::{LevelLanes, are_zeros, excess_over, join_parts, ways};
+use crate::predict::restoring::byte_lanes::{
+    LevelLanes, both_are_zeros, excess_over, join_parts, near_ways,
+};
 use std::simd::prelude::*;
 
 /// What sixteen numbers are selected from, by their ranks: the rank, the way to a number that is near, half the rank, and how far the
@@ -35,12 +37,12 @@ pub fn levels_in_turn(setting: &Setting, before: u32, residuals: u8x16) -> Level
     let greatest = (setting.values() - 1) as u8;
     let turns = Turns {
         ranks: residuals.to_array(),
-        ways: ways(residuals).to_array(),
+        ways: near_ways(residuals).to_array(),
         half_ranks: half_ranks(residuals).to_array(),
         highs: distances_below_greatest(greatest, residuals).to_array(),
     };
     let mut levels = [0; 16];
-    write_in_turn(greatest as u32, before, &turns, &mut levels);
+    write_numbers_in_turn(greatest as u32, before, &turns, &mut levels);
     LevelLanes {
         levels: u8x16::from_array(levels),
     }
@@ -49,7 +51,7 @@ pub fn levels_in_turn(setting: &Setting, before: u32, residuals: u8x16) -> Level
 /// Returns the levels of sixteen samples, of which the residuals have these high parts and these low parts of `width` bits: the first
 /// after a sample at level `before`, and each other after the one before it. `None` if a residual is too large.
 #[inline(never)]
-pub fn joined_in_turn(
+pub fn levels_of_parts_in_turn(
     setting: &Setting,
     before: u32,
     highs: u8x16,
@@ -65,7 +67,7 @@ pub fn joined_in_turn(
 {
     let greatest = (setting.values() - 1) as u8;
     let residuals = join_parts(highs, lows, width);
-    if !are_zeros(
+    if !both_are_zeros(
         excess_over(highs, 255 >> width),
         excess_over(residuals, greatest),
     ) {
@@ -97,7 +99,7 @@ fn distances_below_greatest(greatest: u8, ranks: u8x16) -> u8x16
 /// Writes the numbers up to `greatest` with these ranks: the first from `p`, and each other from the one before it. It is never inlined:
 /// in a loop, branches would be made of its selections.
 #[inline(never)]
-fn write_in_turn(greatest: u32, p: u32, turns: &Turns, numbers: &mut [u8])
+fn write_numbers_in_turn(greatest: u32, p: u32, turns: &Turns, numbers: &mut [u8])
     requires before { p ≤ greatest }
     requires narrow { greatest < 2 ^ 8 }
     requires ranks { All (λ d. d ≤ greatest) turns.now.ranks }
@@ -126,7 +128,7 @@ fn write_in_turn(greatest: u32, p: u32, turns: &Turns, numbers: &mut [u8])
 
 /// Returns a way that wraps at 2^8 as one that wraps at 2^32.
 #[inline(always)]
-fn widened(way: u8) -> u32
+fn widened_way(way: u8) -> u32
     ensures { result ≡ if nat_lt way 128 then way else way + (2 ^ 32 - 2 ^ 8) }
 {
     (way.cast_signed() as i32).cast_unsigned()
@@ -147,7 +149,7 @@ fn next_number(greatest: u32, p: u32, d: u8, way: u8, half: u8, high: u8) -> u32
     // All are computed, so that the machine selects one and does not branch. They are widened, so that no comparison is with a byte that
     // is loaded for it alone, of which a branch would be made.
     let half = half as u32;
-    let near = p.wrapping_add(widened(way));
+    let near = p.wrapping_add(widened_way(way));
     let below = if p < half { d as u32 } else { near };
     if p + half > greatest {
         high as u32

@@ -1,14 +1,14 @@
 //! Eight numbers from their ranks, one after another. It is made for numbers of which many are far from the one before.
 ghost use Rattle.std.specs.Prelude.{◌≡◌, ◌+◌, ◌-◌, ◌^◌, ◌≤◌, All, length, map};
 ghost use Rattle.rice_samples.specs.predict.Residuals.{rank_below, ranks_below};
-ghost use Rattle.rice_samples.specs.predict.Near.{way as way_of};
+ghost use Rattle.rice_samples.specs.predict.NearNumbers.{way as way_of};
 
-use crate::predict::restoring::near_in_32_bits::ways;
+use crate::predict::restoring::near_in_32_bits::near_ways;
 use std::simd::prelude::*;
 
 /// Writes the numbers up to `greatest` with these ranks: the first from `p`, and each other from the one before it.
 #[inline(always)]
-pub(crate) fn write_in_turn(greatest: u32, p: u32, ranks: &[u32], numbers: &mut [u32])
+pub(crate) fn write_numbers_in_turn(greatest: u32, p: u32, ranks: &[u32], numbers: &mut [u32])
     requires before { p ≤ greatest }
     requires ranks { All (λ d. d ≤ greatest) ranks.now }
     requires len { length numbers.old ≡ length ranks.now }
@@ -17,7 +17,7 @@ pub(crate) fn write_in_turn(greatest: u32, p: u32, ranks: &[u32], numbers: &mut 
     ensures ranks { ranks_below (greatest + 1) p numbers.new ≡ ranks.now }
 {
     let lanes = u32x8::from_slice(ranks);
-    let ways = ways(lanes).to_array();
+    let ways = near_ways(lanes).to_array();
     let distances_below_greatest = distances_below_greatest(greatest, lanes).to_array();
     let mut number = p;
     for i in 0..8 {

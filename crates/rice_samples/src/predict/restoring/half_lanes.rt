@@ -7,7 +7,7 @@ ghost use Rattle.rice_samples.specs.predict.LevelsOfParts.{AreLevelsOfParts};
 ghost use Rattle.rice_samples.specs.bytes.PatternLanes.{swapped};
 
 use crate::Setting;
-use crate::predict::restoring::near_in_16_bits::{are_zeros, excess_over_near, near_numbers};
+use crate::predict::restoring::near_in_16_bits::{both_are_zeros, excess_over_near, near_numbers};
 use std::simd::prelude::*;
 
 /// The levels of sixteen samples of at most 16 bits: those of eight, and then of the other eight.
@@ -39,15 +39,15 @@ pub fn near_halves(
 {
     let greatest = (setting.values() - 1) as u16;
     let before = before as u16;
-    let first_ranks = join_parts(first_eight(highs), first_eight(lows), width);
-    let second_ranks = join_parts(second_eight(highs), second_eight(lows), width);
+    let first_ranks = join_parts(first_halves(highs), first_halves(lows), width);
+    let second_ranks = join_parts(last_halves(highs), last_halves(lows), width);
     let first = near_numbers(before, first_ranks);
     let last = first.to_array()[7];
     let second = near_numbers(last, second_ranks);
     let first_far = excess_over_near(greatest, before, first_ranks, first);
     let second_far = excess_over_near(greatest, last, second_ranks, second);
     // What is above in any lane is seen by one test.
-    if !are_zeros(first_far, second_far) {
+    if !both_are_zeros(first_far, second_far) {
         return None;
     }
     Some(LevelHalves { first, second })
@@ -65,14 +65,14 @@ pub fn spelled_words(setting: &Setting, levels: u16x8) -> u8x16
 {
     let least_byte_first = (levels - u16x8::splat(setting.offset() as u16)).to_le_bytes();
     if setting.msb() {
-        return in_pairs_swapped(least_byte_first);
+        return byte_pairs_swapped(least_byte_first);
     }
     least_byte_first
 }
 
 /// Returns the bytes of each pair in the other order.
 #[inline(always)]
-pub(crate) fn in_pairs_swapped(bytes: u8x16) -> u8x16
+pub(crate) fn byte_pairs_swapped(bytes: u8x16) -> u8x16
     requires { length bytes ≡ 16 }
     ensures { result ≡ swapped bytes }
 {
@@ -84,7 +84,7 @@ pub(crate) fn in_pairs_swapped(bytes: u8x16) -> u8x16
 
 /// Returns the first eight numbers, in lanes of 16 bits.
 #[inline(always)]
-pub(crate) fn first_eight(numbers: u8x16) -> u16x8
+pub(crate) fn first_halves(numbers: u8x16) -> u16x8
     requires { length numbers ≡ 16 }
     ensures { result ≡ take 8 numbers }
 {
@@ -95,7 +95,7 @@ pub(crate) fn first_eight(numbers: u8x16) -> u16x8
 
 /// Returns the last eight numbers, in lanes of 16 bits.
 #[inline(always)]
-pub(crate) fn second_eight(numbers: u8x16) -> u16x8
+pub(crate) fn last_halves(numbers: u8x16) -> u16x8
     requires { length numbers ≡ 16 }
     ensures { result ≡ drop 8 numbers }
 {

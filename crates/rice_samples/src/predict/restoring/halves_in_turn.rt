@@ -4,11 +4,11 @@ ghost use Rattle.std.specs.Prelude.{◌≡◌, ◌+◌, ◌-◌, ◌/◌, ◌^�
 ghost use Rattle.rice_samples.specs.Parameters.{value_count};
 ghost use Rattle.rice_samples.specs.predict.Residuals.{last_number, rank_below, ranks_below};
 ghost use Rattle.rice_samples.specs.predict.LevelsOfParts.{AreLevelsOfParts};
-ghost use Rattle.rice_samples.specs.predict.Near.{way as way_of};
+ghost use Rattle.rice_samples.specs.predict.NearNumbers.{way as way_of};
 
 use crate::Setting;
-use crate::predict::restoring::half_lanes::{LevelHalves, first_eight, join_parts, second_eight};
-use crate::predict::restoring::near_in_16_bits::{are_zeros, ways};
+use crate::predict::restoring::half_lanes::{LevelHalves, first_halves, join_parts, last_halves};
+use crate::predict::restoring::near_in_16_bits::{both_are_zeros, near_ways};
 use std::simd::prelude::*;
 
 /// What eight numbers are selected from, by their ranks: the rank, the way to a number that is near, half the rank, and how far the rank
@@ -41,18 +41,18 @@ pub fn halves_in_turn(
     ensures halves { IfSome result (λ l. (length l.first ≡ 8) × (length l.second ≡ 8)) }
 {
     let greatest = (setting.values() - 1) as u16;
-    let first_ranks = join_parts(first_eight(highs), first_eight(lows), width);
-    let second_ranks = join_parts(second_eight(highs), second_eight(lows), width);
-    if !are_zeros(
+    let first_ranks = join_parts(first_halves(highs), first_halves(lows), width);
+    let second_ranks = join_parts(last_halves(highs), last_halves(lows), width);
+    if !both_are_zeros(
         excess_over(first_ranks, greatest),
         excess_over(second_ranks, greatest),
     ) {
         return None;
     }
     let mut first = [0; 8];
-    let middle = write_eight(greatest, before, first_ranks, &mut first);
+    let middle = write_eight_in_turn(greatest, before, first_ranks, &mut first);
     let mut second = [0; 8];
-    write_eight(greatest, middle, second_ranks, &mut second);
+    write_eight_in_turn(greatest, middle, second_ranks, &mut second);
     Some(LevelHalves {
         first: u16x8::from_array(first),
         second: u16x8::from_array(second),
@@ -91,7 +91,7 @@ fn distances_below_greatest(greatest: u16, ranks: u16x8) -> u16x8
 
 /// Writes the numbers up to `greatest` with these ranks: the first from `p`, and each other from the one before it. Returns the last.
 #[inline(always)]
-fn write_eight(greatest: u16, p: u32, ranks: u16x8, numbers: &mut [u16]) -> u32
+fn write_eight_in_turn(greatest: u16, p: u32, ranks: u16x8, numbers: &mut [u16]) -> u32
     requires before { p ≤ greatest }
     requires ranks { All (λ d. d ≤ greatest) ranks }
     requires lanes { length ranks ≡ 8 }
@@ -104,16 +104,16 @@ fn write_eight(greatest: u16, p: u32, ranks: u16x8, numbers: &mut [u16]) -> u32
 {
     let turns = Turns {
         ranks: ranks.to_array(),
-        ways: ways(ranks).to_array(),
+        ways: near_ways(ranks).to_array(),
         half_ranks: half_ranks(ranks).to_array(),
         highs: distances_below_greatest(greatest, ranks).to_array(),
     };
-    write_in_turn(greatest as u32, p, &turns, numbers)
+    write_numbers_in_turn(greatest as u32, p, &turns, numbers)
 }
 
-/// As `write_eight`, from what the numbers are selected from. It is never inlined: in a loop, branches would be made of its selections.
+/// As `write_eight_in_turn`, from what the numbers are selected from. It is never inlined: in a loop, branches would be made of its selections.
 #[inline(never)]
-fn write_in_turn(greatest: u32, p: u32, turns: &Turns, numbers: &mut [u16]) -> u32
+fn write_numbers_in_turn(greatest: u32, p: u32, turns: &Turns, numbers: &mut [u16]) -> u32
     requires before { p ≤ greatest }
     requires narrow { greatest < 2 ^ 16 }
     requires ranks { All (λ d. d ≤ greatest) turns.now.ranks }
@@ -145,7 +145,7 @@ fn write_in_turn(greatest: u32, p: u32, turns: &Turns, numbers: &mut [u16]) -> u
 
 /// Returns a way that wraps at 2^16 as one that wraps at 2^32.
 #[inline(always)]
-fn widened(way: u16) -> u32
+fn widened_way(way: u16) -> u32
     ensures { result ≡ if nat_lt way (2 ^ 15) then way else way + (2 ^ 32 - 2 ^ 16) }
 {
     (way.cast_signed() as i32).cast_unsigned()
@@ -165,7 +165,7 @@ fn next_number(greatest: u32, p: u32, d: u16, way: u16, half: u16, high: u16) ->
 {
     // All are computed and widened, as for samples of at most 8 bits.
     let half = half as u32;
-    let near = p.wrapping_add(widened(way));
+    let near = p.wrapping_add(widened_way(way));
     let below = if p < half { d as u32 } else { near };
     if p + half > greatest {
         high as u32

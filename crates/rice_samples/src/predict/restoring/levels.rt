@@ -6,9 +6,9 @@ ghost use Rattle.rice_samples.specs.predict.RestoredLevels.{CanRestore, Restores
 
 use crate::Setting;
 use crate::predict::preprocessor::{number_above_along, number_with};
-use crate::predict::restoring::eight_in_turn::write_in_turn;
+use crate::predict::restoring::eight_in_turn::write_numbers_in_turn;
 use crate::predict::restoring::near_in_16_bits;
-use crate::predict::restoring::near_in_32_bits::{are_near, near_numbers, ways};
+use crate::predict::restoring::near_in_32_bits::{are_near, near_numbers, near_ways};
 use std::simd::prelude::*;
 
 /// The least level that so many others are near to that near ones are expected after it.
@@ -158,7 +158,7 @@ fn restore_with_room_above(setting: &Setting, before: u32, residuals: &[u32], le
     ensures { Restores setting.now before residuals.now levels.new }
 {
     let _values = setting.values();
-    let ways = ways(u32x8::from_slice(residuals)).to_array();
+    let ways = near_ways(u32x8::from_slice(residuals)).to_array();
     let mut level = before;
     for i in 0..8 {
         level = number_above_along(level, residuals[i], ways[i]);
@@ -174,7 +174,7 @@ fn restore_eight_in_turn(setting: &Setting, before: u32, residuals: &[u32], leve
     ensures { Restores setting.now before residuals.now levels.new }
 {
     let greatest = (setting.values() - 1) as u32;
-    write_in_turn(greatest, before, residuals, levels);
+    write_numbers_in_turn(greatest, before, residuals, levels);
 }
 
 /// Writes eight levels one at a time. It is never inlined: in a loop, branches would be made of its selections.

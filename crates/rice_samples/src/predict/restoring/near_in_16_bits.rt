@@ -1,7 +1,7 @@
 //! Eight numbers of at most 16 bits from their ranks at a time, in lanes of 16 bits.
 ghost use Rattle.std.specs.Prelude.{◌≡◌, ◌+◌, ◌^◌, ◌≤◌, ◌∷◌, All, length, map, replicate, true, take};
 ghost use Rattle.rice_samples.specs.predict.Residuals.{ranks_below};
-ghost use Rattle.rice_samples.specs.predict.Near.{near_numbers as near_numbers_of, way, bound, sums_behind};
+ghost use Rattle.rice_samples.specs.predict.NearNumbers.{near_numbers as near_numbers_of, way, bound, sums_behind};
 
 use std::simd::prelude::*;
 
@@ -11,12 +11,12 @@ pub(crate) fn near_numbers(p: u16, ranks: u16x8) -> u16x8
     requires { length ranks ≡ 8 }
     ensures { result ≡ near_numbers_of (2 ^ 16) p ranks }
 {
-    plus_four_before(plus_two_before(plus_one_before(ways(ranks)))) + u16x8::splat(p)
+    plus_four_before(plus_two_before(plus_one_before(near_ways(ranks)))) + u16x8::splat(p)
 }
 
 /// Returns the way to each number, if it is near. The ways wrap, as their sums do.
 #[inline(always)]
-pub(crate) fn ways(ranks: u16x8) -> u16x8
+pub(crate) fn near_ways(ranks: u16x8) -> u16x8
     requires { length ranks ≡ 8 }
     ensures { result ≡ map (way (2 ^ 16)) ranks }
 {
@@ -62,7 +62,7 @@ pub(crate) fn excess_over_near(greatest: u16, p: u16, ranks: u16x8, numbers: u16
         ranks_below (greatest + 1) p numbers ≡ ranks }
 {
     // The first number that is not near still has the true one before it, so it is seen here.
-    ranks.saturating_sub(bounds_from(greatest, all_before(p, numbers)))
+    ranks.saturating_sub(greatest_near_ranks(greatest, numbers_before_each(p, numbers)))
 }
 
 /// Returns whether each number is so near to the one before it that the range up to `greatest` reaches as far to both
@@ -76,12 +76,12 @@ pub(crate) fn are_near(greatest: u16, p: u16, ranks: u16x8, numbers: u16x8) -> b
     ensures ranks { result ≡ true → ranks_below (greatest + 1) p numbers ≡ ranks }
 {
     let far = excess_over_near(greatest, p, ranks, numbers);
-    are_zeros(far, far)
+    both_are_zeros(far, far)
 }
 
 /// Returns whether both vectors are all zeros.
 #[inline(always)]
-pub(crate) fn are_zeros(a: u16x8, b: u16x8) -> bool
+pub(crate) fn both_are_zeros(a: u16x8, b: u16x8) -> bool
     requires { (length a ≡ 8) × (length b ≡ 8) }
     ensures first { result ≡ true → a ≡ replicate 8 0 }
     ensures second { result ≡ true → b ≡ replicate 8 0 }
@@ -91,7 +91,7 @@ pub(crate) fn are_zeros(a: u16x8, b: u16x8) -> bool
 
 /// Returns the number before each of these.
 #[inline(always)]
-fn all_before(p: u16, numbers: u16x8) -> u16x8
+fn numbers_before_each(p: u16, numbers: u16x8) -> u16x8
     requires { length numbers ≡ 8 }
     ensures { result ≡ take 8 (p ∷ numbers) }
 {
@@ -100,7 +100,7 @@ fn all_before(p: u16, numbers: u16x8) -> u16x8
 
 /// Returns the greatest rank that is near to each of these numbers.
 #[inline(always)]
-fn bounds_from(greatest: u16, numbers: u16x8) -> u16x8
+fn greatest_near_ranks(greatest: u16, numbers: u16x8) -> u16x8
     requires { length numbers ≡ 8 }
     ensures { result ≡ map (bound (2 ^ 16) greatest) numbers }
 {

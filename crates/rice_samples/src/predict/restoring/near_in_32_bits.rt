@@ -1,7 +1,7 @@
 //! Eight numbers from their ranks at a time, in lanes of 32 bits.
 ghost use Rattle.std.specs.Prelude.{◌≡◌, ◌+◌, ◌^◌, ◌≤◌, ◌∷◌, All, length, map, true, take};
 ghost use Rattle.rice_samples.specs.predict.Residuals.{ranks_below};
-ghost use Rattle.rice_samples.specs.predict.Near.{near_numbers as near_numbers_of, way, bound, sums_behind};
+ghost use Rattle.rice_samples.specs.predict.NearNumbers.{near_numbers as near_numbers_of, way, bound, sums_behind};
 
 use std::simd::prelude::*;
 
@@ -11,12 +11,12 @@ pub(crate) fn near_numbers(p: u32, ranks: u32x8) -> u32x8
     requires { length ranks ≡ 8 }
     ensures { result ≡ near_numbers_of (2 ^ 32) p ranks }
 {
-    plus_four_before(plus_two_before(plus_one_before(ways(ranks)))) + u32x8::splat(p)
+    plus_four_before(plus_two_before(plus_one_before(near_ways(ranks)))) + u32x8::splat(p)
 }
 
 /// Returns the way to each number, if it is near. The ways wrap, as their sums do.
 #[inline(always)]
-pub(crate) fn ways(ranks: u32x8) -> u32x8
+pub(crate) fn near_ways(ranks: u32x8) -> u32x8
     requires { length ranks ≡ 8 }
     ensures { result ≡ map (way (2 ^ 32)) ranks }
 {
@@ -62,13 +62,13 @@ pub(crate) fn are_near(greatest: u32, p: u32, ranks: u32x8, numbers: u32x8) -> b
     ensures ranks { result ≡ true → ranks_below (greatest + 1) p numbers ≡ ranks }
 {
     // The first number that is not near still has the true one before it, so it is seen here.
-    let bounds = bounds_from(greatest, all_before(p, numbers));
+    let bounds = greatest_near_ranks(greatest, numbers_before_each(p, numbers));
     ranks.saturating_sub(bounds).reduce_or() == 0
 }
 
 /// Returns the number before each of these.
 #[inline(always)]
-fn all_before(p: u32, numbers: u32x8) -> u32x8
+fn numbers_before_each(p: u32, numbers: u32x8) -> u32x8
     requires { length numbers ≡ 8 }
     ensures { result ≡ take 8 (p ∷ numbers) }
 {
@@ -77,7 +77,7 @@ fn all_before(p: u32, numbers: u32x8) -> u32x8
 
 /// Returns the greatest rank that is near to each of these numbers.
 #[inline(always)]
-fn bounds_from(greatest: u32, numbers: u32x8) -> u32x8
+fn greatest_near_ranks(greatest: u32, numbers: u32x8) -> u32x8
     requires { length numbers ≡ 8 }
     ensures { result ≡ map (bound (2 ^ 32) greatest) numbers }
 {

@@ -3,7 +3,7 @@ use Rattle.std.proofs.Math.Nat.{le-mul_of_pos_right}
 use Rattle.rice_samples.specs.Parameters.{width}
 use Rattle.rice_code.specs.decode.PlainBlocks.{GivesRow, IsPlain}
 use Rattle.rice_code.proofs.lemmas.decode.PlainBlocksRead.{plain_width}
-use Rattle.rice_stream.specs.Rows.{FailsInRow, row_bytes}
+use Rattle.rice_stream.specs.RowsOfBlocks.{FailsInRow, row_bytes}
 use Rattle.rice_stream.proofs.lemmas.RowsWritten.{row_cut}
 use Rattle.rice_stream.proofs.plain.write_row.Goals as goal
 

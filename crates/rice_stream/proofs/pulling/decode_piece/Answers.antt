@@ -3,7 +3,7 @@ use Rattle.std.specs.Prelude.{Ok, IfSome, ◌%◌, ◌<◌}
 use Rattle.std.proofs.lemmas.Int.{to_z-of_z}
 use Rattle.std.proofs.Math.Nat.{mul-pos}
 use Rattle.rice_bits.specs.Bits.{bits_of}
-use Rattle.rice_bits.proofs.lemmas.bits.Bytes.{length-bits_of}
+use Rattle.rice_bits.proofs.lemmas.bits.BytesAndBits.{length-bits_of}
 use Rattle.rice_samples.specs.Parameters.{values_at, width}
 use Rattle.rice_samples.specs.bytes.Spelling.{spellings}
 use Rattle.rice_samples.proofs.lemmas.setting.ValuesAt.{length-values}

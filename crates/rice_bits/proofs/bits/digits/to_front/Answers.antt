@@ -2,7 +2,7 @@ use Rattle.std.proofs.Common.{◌≡◌, ℕ, zero, suc, ◌+◌, ◌-◌, ◌*�
 use Rattle.std.specs.Prelude.{bit_or}
 use Rattle.std.proofs.Math.Nat.{div-eq_of_lt}
 use Rattle.std.proofs.lemmas.Nat.{or_shifted}
-use Rattle.rice_bits.proofs.lemmas.bits.Words.{shift_fits}
+use Rattle.rice_bits.proofs.lemmas.bits.WordsAndNumbers.{shift_fits}
 use Rattle.rice_bits.proofs.bits.digits.to_front.Goals as goal
 
 -- a rotation of digits that stand alone

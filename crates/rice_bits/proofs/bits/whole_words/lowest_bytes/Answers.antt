@@ -1,7 +1,7 @@
 use Rattle.std.proofs.Common.{◌∙◌, sym, subst}
 use Rattle.std.specs.Simd.Lanes.{Each1}
 use Rattle.rice_bits.proofs.lemmas.bits.WholeWords.{lowest_fit, masked}
-use Rattle.rice_bits.proofs.lemmas.lanes.LaneWords.{map_same}
+use Rattle.rice_bits.proofs.lemmas.lanes.WordsInTwoBytes.{map_same}
 use Rattle.rice_bits.proofs.bits.whole_words.lowest_bytes.Goals as goal
 
 pub overflow_cast-result : goal.overflow_cast-result

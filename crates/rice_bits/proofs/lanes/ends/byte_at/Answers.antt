@@ -1,4 +1,4 @@
-use Rattle.rice_bits.proofs.lemmas.lanes.LaneEnds.{byte-of}
+use Rattle.rice_bits.proofs.lemmas.lanes.EndsInLanes.{byte-of}
 use Rattle.rice_bits.proofs.lanes.ends.byte_at.Goals as goal
 
 pub returns : goal.returns

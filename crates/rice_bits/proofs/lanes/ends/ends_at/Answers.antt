@@ -1,4 +1,4 @@
-use Rattle.rice_bits.proofs.lemmas.lanes.LaneEnds.{row-lanes}
+use Rattle.rice_bits.proofs.lemmas.lanes.EndsInLanes.{row-lanes}
 use Rattle.rice_bits.proofs.lanes.ends.ends_at.Goals as goal
 
 pub returns : goal.returns

@@ -1,9 +1,9 @@
 use Rattle.std.proofs.Common.{◌*◌, ◌≡◌, arith, length, take}
 use Rattle.std.proofs.lemmas.List.{length-take-le}
 use Rattle.rice_bits.specs.Bits.{word}
-use Rattle.rice_bits.proofs.lemmas.bits.Words.{length-word}
+use Rattle.rice_bits.proofs.lemmas.bits.WordsAndNumbers.{length-word}
 use Rattle.rice_bits.proofs.lemmas.read.EndsAndGapsLemmas.{few-ends}
-use Rattle.rice_bits.proofs.lemmas.lanes.LaneEnds.{ones-of}
+use Rattle.rice_bits.proofs.lemmas.lanes.EndsInLanes.{ones-of}
 use Rattle.rice_bits.proofs.lanes.ends.ones_in.Goals as goal
 
 pub returns-clause-value : goal.returns-clause-value

@@ -1,5 +1,5 @@
 use Rattle.std.proofs.Common.{◌*◌, arith}
-use Rattle.rice_bits.proofs.lemmas.lanes.LaneEnds.{zeros-of}
+use Rattle.rice_bits.proofs.lemmas.lanes.EndsInLanes.{zeros-of}
 use Rattle.rice_bits.proofs.lanes.ends.zeros_in.Goals as goal
 
 pub returns-clause-value : goal.returns-clause-value

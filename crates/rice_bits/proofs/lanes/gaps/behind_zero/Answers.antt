@@ -1,4 +1,4 @@
-use Rattle.rice_bits.proofs.lemmas.lanes.LaneGaps.{behind-zero}
+use Rattle.rice_bits.proofs.lemmas.lanes.GapsInLanes.{behind-zero}
 use Rattle.rice_bits.proofs.lanes.gaps.behind_zero.Goals as goal
 
 pub returns : goal.returns

@@ -1,4 +1,4 @@
-use Rattle.rice_bits.proofs.lemmas.lanes.LaneGaps.{lanes-spell}
+use Rattle.rice_bits.proofs.lemmas.lanes.GapsInLanes.{lanes-spell}
 use Rattle.rice_bits.proofs.lanes.gaps.len_of_sequences.Goals as goal
 
 pub returns-clause-inside : goal.returns-clause-inside

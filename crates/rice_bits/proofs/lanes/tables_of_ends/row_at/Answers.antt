@@ -1,4 +1,4 @@
-use Rattle.rice_bits.proofs.lemmas.lanes.LaneEnds.{row_of}
+use Rattle.rice_bits.proofs.lemmas.lanes.EndsInLanes.{row_of}
 use Rattle.rice_bits.proofs.lanes.tables_of_ends.row_at.Goals as goal
 
 pub returns : goal.returns

@@ -1,5 +1,5 @@
 use Rattle.std.proofs.Common.{◌∙◌}
-use Rattle.rice_bits.proofs.lemmas.read.EndsAndGapsLemmas.{map_same}
+use Rattle.rice_bits.proofs.lemmas.lanes.WordsInTwoBytes.{map_same}
 use Rattle.rice_bits.proofs.read.ends_and_gaps.eight_gaps.Goals as goal
 
 pub returns-clause-value : goal.returns-clause-value

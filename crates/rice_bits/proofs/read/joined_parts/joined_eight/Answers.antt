@@ -1,6 +1,6 @@
 use Rattle.std.proofs.Common.{◌∙◌}
-use Rattle.rice_bits.proofs.lemmas.read.EndsAndGapsLemmas.{map_same}
 use Rattle.rice_bits.proofs.lemmas.read.JoinedPartsLemmas.{joined-lanes}
+use Rattle.rice_bits.proofs.lemmas.lanes.WordsInTwoBytes.{map_same}
 use Rattle.rice_bits.proofs.read.joined_parts.joined_eight.Goals as goal
 
 pub returns-clause-value : goal.returns-clause-value

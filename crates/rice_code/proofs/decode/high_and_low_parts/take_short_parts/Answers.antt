@@ -13,7 +13,7 @@ returns-then-most-ge63-clause-some g c =
 pub returns-clause-some : goal.returns-clause-some
 returns-clause-some g c =
     let waited = c.take_waiting_parts in
-    let says = rw c.limit_of.ensures.value at c.each_is_below.ensures in
+    let says = rw c.least_with_high_part_above.ensures.value at c.each_is_below.ensures in
     subst (λ n. PartsRead c.args.reader.now waited.new.self c.args.most c.args.k c.each_is_below.result n waited.new.numbers) waited.auto.numbers
     (parts_waited c.args.reader.now waited.new.self c.args.most c.args.k c.each_is_below.result waited.new.numbers
     (c.if-not-take_waiting_parts.ensures.takes refl) (λ e. inr (says.0 e))

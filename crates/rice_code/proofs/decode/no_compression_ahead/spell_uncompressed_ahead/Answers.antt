@@ -1,6 +1,6 @@
 use Rattle.std.proofs.Common.{◌≡◌, ◌+◌, ◌-◌, ◌*◌, ◌≤◌, arith, refl, subst, sym}
 use Rattle.rice_samples.specs.Parameters.{value_at}
-use Rattle.rice_code.specs.decode.BlocksAhead.{SpelledAhead}
+use Rattle.rice_code.specs.decode.BlocksInOnePass.{SpelledAhead}
 use Rattle.rice_code.proofs.lemmas.decode.SplitAhead.{width_known}
 use Rattle.rice_code.proofs.lemmas.decode.NoCompressionAhead.{whole_spelled, words_inside}
 use Rattle.rice_code.proofs.decode.no_compression_ahead.spell_uncompressed_ahead.Goals as goal

@@ -1,14 +1,14 @@
 use Rattle.std.proofs.Common.{◌*◌, ◌^◌, ◌<◌, ◌≤◌, ◌∙◌, arith, drop, refl, replicate, subst, take, All}
 use Rattle.std.proofs.Math.Nat.{mul_comm, mul-le-mul_right}
 use Rattle.std.proofs.lemmas.List.{length-take-le}
-use Rattle.rice_code.specs.decode.BlocksAhead.{lanes_of}
+use Rattle.rice_code.specs.decode.BlocksInOnePass.{lanes_of}
 use Rattle.rice_code.specs.decode.FieldsAhead.{LowsAhead}
 use Rattle.rice_code.proofs.lemmas.decode.SplitRows.{RowsSpelled, all_of_row, none_spelled, row_inside, rows_before, rows_end}
 use Rattle.rice_code.proofs.lemmas.decode.NoCompressionAhead.{row_turned, rows_turned}
 use Rattle.rice_code.proofs.decode.no_compression_ahead.spell_uncompressed_rows.Goals as goal
 
-pub low_rows-residuals-requires-clause-there : goal.low_rows-residuals-requires-clause-there
-low_rows-residuals-requires-clause-there g c =
+pub low_parts_in_rows-residuals-requires-clause-there : goal.low_parts_in_rows-residuals-requires-clause-there
+low_parts_in_rows-residuals-requires-clause-there g c =
     let bits = c.bits-bits.result in
     let part : bits * c.args.size ≤ 8 * c.args.size = mul-le-mul_right c.args.size (omega (arith, c.requires.width.narrow refl, c.bits-bits.ensures.value)) in
     omega (arith, part, mul_comm c.args.size bits, c.requires.there)
@@ -19,16 +19,16 @@ restore_and_spell_row-last-requires-clause-begins g c = c.loop-row.invariant.row
 pub restore_and_spell_row-last-requires-clause-residuals : goal.restore_and_spell_row-last-requires-clause-residuals
 restore_and_spell_row-last-requires-clause-residuals g c =
     let inside = row_inside c.args.size c.loop-row.row c.requires.size.1 c.loop-row-test.true in
-    let row = take 16 (drop (16 * c.loop-row.row) c.low_rows-residuals.result) in
+    let row = take 16 (drop (16 * c.loop-row.row) c.low_parts_in_rows-residuals.result) in
     subst (λ n. All (λ l. l < 2 ^ n) row) c.bits-bits.ensures.value
-    (all_of_row (λ l. l < 2 ^ c.bits-bits.result) (16 * c.loop-row.row) (lanes_of c.args.size) c.low_rows-residuals.result inside.2 c.low_rows-residuals.ensures.fit)
+    (all_of_row (λ l. l < 2 ^ c.bits-bits.result) (16 * c.loop-row.row) (lanes_of c.args.size) c.low_parts_in_rows-residuals.result inside.2 c.low_parts_in_rows-residuals.ensures.fit)
 
 pub loop-row-init : goal.loop-row-init
 loop-row-init g c = record {
   room = refl;
   rows =
-      subst (λ n. RowsSpelled c.args.setting.now c.args.from c.args.setting.now.bits n (replicate 64 0) c.low_rows-residuals.result c.args.from c.args.bytes.now) (omega arith)
-      (none_spelled c.args.setting.now c.args.from c.args.setting.now.bits (replicate 64 0) c.low_rows-residuals.result c.args.bytes.now c.requires.begins);
+      subst (λ n. RowsSpelled c.args.setting.now c.args.from c.args.setting.now.bits n (replicate 64 0) c.low_parts_in_rows-residuals.result c.args.from c.args.bytes.now) (omega arith)
+      (none_spelled c.args.setting.now c.args.from c.args.setting.now.bits (replicate 64 0) c.low_parts_in_rows-residuals.result c.args.bytes.now c.requires.begins);
 }
 
 pub loop-row-preserved : goal.loop-row-preserved
@@ -39,13 +39,13 @@ loop-row-preserved g c =
     let size = c.args.size in
     let row = c.row_len-count in
     let inside = row_inside size l.row c.requires.size.1 c.loop-row-test.true in
-    let before = subst (λ n. RowsSpelled s c.args.from s.bits n (replicate 64 0) c.low_rows-residuals.result l.last l.bytes) (rows_before size l.row inside.1) l.invariant.rows in
+    let before = subst (λ n. RowsSpelled s c.args.from s.bits n (replicate 64 0) c.low_parts_in_rows-residuals.result l.last l.bytes) (rows_before size l.row inside.1) l.invariant.rows in
     record {
       room = next.ensures.len ∙ l.invariant.room;
       rows =
-          subst (λ n. RowsSpelled s c.args.from s.bits n (replicate 64 0) c.low_rows-residuals.result next.result next.new.bytes) row.ensures.end
-          (row_turned s c.args.from s.bits l.row row.result l.last next.result c.low_rows-residuals.result l.bytes next.new.bytes c.requires.width inside.0 row.ensures.some.0 row.ensures.some.1
-          c.low_rows-residuals.ensures.places next.ensures.before before next.ensures.spelled);
+          subst (λ n. RowsSpelled s c.args.from s.bits n (replicate 64 0) c.low_parts_in_rows-residuals.result next.result next.new.bytes) row.ensures.end
+          (row_turned s c.args.from s.bits l.row row.result l.last next.result c.low_parts_in_rows-residuals.result l.bytes next.new.bytes c.requires.width inside.0 row.ensures.some.0 row.ensures.some.1
+          c.low_parts_in_rows-residuals.ensures.places next.ensures.before before next.ensures.spelled);
     }
 
 pub returns : goal.returns
@@ -54,7 +54,7 @@ returns g c =
     let s = a.setting.now in
     let l = c.loop-row in
     let size = a.size in
-    let lows = c.low_rows-residuals in
+    let lows = c.low_parts_in_rows-residuals in
     let most = c.requires.size in
     let rows = subst (λ n. RowsSpelled s a.from s.bits n (replicate 64 0) lows.result l.last l.bytes) (rows_end size l.row (omega (arith, c.loop-row-test.false))) l.invariant.rows in
     record {

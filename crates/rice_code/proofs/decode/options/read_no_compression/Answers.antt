@@ -19,7 +19,7 @@ returns-in_err-reference-clause-err g c =
 pub returns-clause-ok : goal.returns-clause-ok
 returns-clause-ok g c =
     let s = c.args.setting.now in
-    let first = c.begin_residuals-first in
+    let first = c.write_zero_for_reference-first in
     let part = coded_part s c.in_ok-reference.reference first.result first.new.residuals c.bits-width.ensures.legal first.ensures.first (first.auto.residuals ∙ c.requires.size) in
     let row = (rw c.bits-width.ensures.value at c.in_ok-read_words.ensures.ok) in
     no_compression_read c.args.reader.now c.read_reference.new.reader c.read_words.new.reader c.args.meter.now c.read_words.new.meter s c.args.block c.in_ok-reference.reference _ _
@@ -31,7 +31,7 @@ returns-clause-ok g c =
 pub returns-in_err-read_words-clause-err : goal.returns-in_err-read_words-clause-err
 returns-in_err-read_words-clause-err g c =
     let s = c.args.setting.now in
-    let first = c.begin_residuals-first in
+    let first = c.write_zero_for_reference-first in
     let part = coded_part s c.in_ok-reference.reference first.result first.new.residuals c.bits-width.ensures.legal first.ensures.first (first.auto.residuals ∙ c.requires.size) in
     let e = rw c.bits-width.ensures.value at c.in_err-read_words.ensures.err in
     let p = err_from_is_err_and c.from_residual-in_err-read_words.result c.from_residual-in_err-read_words.ensures.1 in

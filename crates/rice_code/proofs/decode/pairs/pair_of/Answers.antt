@@ -1,5 +1,5 @@
 use Rattle.std.proofs.Common.{arith, ◌^◌, ◌<◌}
-use Rattle.rice_samples.proofs.lemmas.blocks.PairLemmas.{triangle_none, triangle-more, triangle_small, pair_is}
+use Rattle.rice_samples.proofs.lemmas.blocks.PairNumbers.{triangle_none, triangle-more, triangle_small, pair_is}
 use Rattle.rice_code.proofs.decode.pairs.pair_of.Goals as goal
 
 pub loop-sum-init : goal.loop-sum-init

@@ -1,5 +1,5 @@
 use Rattle.std.proofs.Common.{◌+◌, ◌≡◌, ◌≤◌}
-use Rattle.rice_samples.proofs.lemmas.blocks.PairLemmas.{triangle}
+use Rattle.rice_samples.proofs.lemmas.blocks.PairNumbers.{triangle}
 use Rattle.rice_code.proofs.decode.pairs.pair_of.Given as goal
 
 abbrev pub invariant-loop-sum : goal.invariant-loop-sum

@@ -1,5 +1,5 @@
 use Rattle.std.proofs.Common.{arith, ◌+◌, ◌/◌, length, take}
-use Rattle.rice_samples.proofs.lemmas.blocks.PairLemmas.{count_pairs}
+use Rattle.rice_samples.proofs.lemmas.blocks.PairNumbers.{count_pairs}
 use Rattle.rice_code.proofs.lemmas.decode.RowLemmas.{pairs-none, pairs-more, sequences-stop, two_more}
 use Rattle.rice_samples.specs.blocks.Pairs.{pair_codes}
 use Rattle.std.proofs.lemmas.Result.{err_from_is_err_and}

@@ -1,7 +1,7 @@
 use Rattle.std.specs.Prelude.{All}
 use Rattle.std.proofs.Common.{◌≡◌, ◌+◌, ◌*◌, ◌/◌, ◌++◌, ◌∙◌, ap, arith, length, subst, take, ◌<◌}
 use Rattle.std.proofs.lemmas.List.{take_all}
-use Rattle.rice_samples.proofs.lemmas.blocks.PairLemmas.{count_pairs}
+use Rattle.rice_samples.proofs.lemmas.blocks.PairNumbers.{count_pairs}
 use Rattle.rice_samples.specs.blocks.Pairs.{pair_codes}
 use Rattle.rice_code.proofs.lemmas.decode.RowLemmas.{counted-both, pairs-both, pairs-whole, put_rest, sequences-stop_behind}
 use Rattle.std.proofs.lemmas.Result.{err_from_is_err_and}

@@ -13,17 +13,17 @@ pub loop-i-preserved : goal.loop-i-preserved
 loop-i-preserved c =
     let l = c.loop-i in
     let codes = c.args.codes.now in
-    let a = c.pair_of_few-a.result.0 in
-    let b = c.pair_of_few-a.result.1 in
+    let a = c.pair_in_table-a.result.0 in
+    let b = c.pair_in_table-a.result.1 in
     let front = take (l.i + l.i) l.out in
     let room : l.i < length l.out / 2 = omega (arith, c.loop-i-test.true, c.requires.room, l.auto.out) in
     let two = two_more l.i l.out a b room in
     let len : length front ≡ l.i + l.i = length-take-le (l.i + l.i) l.out (omega (arith, room)) in
-    let small : a + b < 64 = omega (arith, c.pair_of_few-a.ensures.few, c.requires.codes l.i 0 c.loop-i-test.true) in
+    let small : a + b < 64 = omega (arith, c.pair_in_table-a.ensures.few, c.requires.codes l.i 0 c.loop-i-test.true) in
     let more = both_more l.sums a b (omega (arith, l.invariant.first, small, c.loop-i-test.true, c.requires.count)) in
     record {
       pairs = ap pair_codes two ∙ (pair_codes-push l.i front a b len
-          ∙ ((λ j. l.invariant.pairs j ++ c.pair_of_few-a.ensures.pair j ∷ []) ∙ sym (take_more codes l.i 0 c.loop-i-test.true)));
+          ∙ ((λ j. l.invariant.pairs j ++ c.pair_in_table-a.ensures.pair j ∷ []) ∙ sym (take_more codes l.i 0 c.loop-i-test.true)));
       total = omega (arith, l.invariant.total, more.0, more.1, ap sum two, sum-push2 front a b);
       first = omega (arith, l.invariant.first, more.0, small);
       second = omega (arith, l.invariant.second, more.1, small);

@@ -5,7 +5,7 @@ use Rattle.rice_samples.specs.Parameters.{value_at, value_count, values_at}
 use Rattle.rice_samples.proofs.lemmas.setting.ValuesAt.{values_replicate}
 use Rattle.rice_samples.specs.predict.Residuals.{last_of}
 use Rattle.rice_code.specs.code.Blocks.{block_data}
-use Rattle.rice_code.proofs.lemmas.code.Filling.{last_replicate}
+use Rattle.rice_code.proofs.lemmas.code.FilledBlocks.{last_replicate}
 use Rattle.rice_code.proofs.lemmas.decode.RestoredBlocks.{refill_all, zeros_restored}
 use Rattle.rice_code.proofs.decode.restoring.restore_zeros.Goals as goal
 

@@ -19,7 +19,7 @@ returns-then-not-preprocess-clause-contents c =
 pub returns-then-near-clause-contents : goal.returns-then-near-clause-contents
 returns-then-near-clause-contents c =
     let s = c.args.setting.now in
-    let from = c.reference_or-before in
+    let from = c.reference_level_or_before-before in
     let ls = c.restore_near_first.new.levels in
     let some : 1 ≤ s.block = omega (arith, c.requires.legal.block) in
     let len : length (values_at s ls) ≡ s.block = length-values s ls ∙ (c.restore_near_first.auto.levels ∙ c.requires.len) in
@@ -31,7 +31,7 @@ returns-then-near-clause-contents c =
 pub returns-else-near-clause-contents : goal.returns-else-near-clause-contents
 returns-else-near-clause-contents c =
     let s = c.args.setting.now in
-    let from = c.reference_or-before in
+    let from = c.reference_level_or_before-before in
     let ls = c.restore_by_selection.new.levels in
     let some : 1 ≤ s.block = omega (arith, c.requires.legal.block) in
     let len : length (values_at s ls) ≡ s.block = length-values s ls ∙ (c.restore_by_selection.auto.levels ∙ c.requires.len) in

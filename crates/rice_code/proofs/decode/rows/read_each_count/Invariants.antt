@@ -1,5 +1,5 @@
 use Rattle.std.proofs.Common.{◌+◌, ◌-◌, ◌≡◌, ◌^◌, ◌≤◌, length, take}
-use Rattle.rice_code.specs.decode.Rows.{CountsRead}
+use Rattle.rice_code.specs.decode.RowsOfFields.{CountsRead}
 use Rattle.rice_code.proofs.decode.rows.read_each_count.Given as goal
 
 abbrev pub invariant-loop-done : goal.invariant-loop-done

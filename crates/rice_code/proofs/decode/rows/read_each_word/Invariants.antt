@@ -1,6 +1,6 @@
 use Rattle.std.proofs.Common.{◌+◌, ◌≡◌, ◌^◌, ◌<◌, ◌≤◌, [], take}
 use Rattle.rice_bits.specs.Bits.{word}
-use Rattle.rice_code.specs.decode.Rows.{Row}
+use Rattle.rice_code.specs.decode.RowsOfFields.{Row}
 use Rattle.rice_code.proofs.decode.rows.read_each_word.Given as goal
 
 abbrev pub invariant-loop-done : goal.invariant-loop-done

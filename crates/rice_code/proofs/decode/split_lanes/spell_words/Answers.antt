@@ -1,10 +1,11 @@
 use Rattle.std.proofs.Common.{◌<◌, arith}
 use Rattle.rice_samples.specs.Parameters.{value_count}
-use Rattle.rice_code.proofs.lemmas.decode.SplitAhead.{all_behind, sixteen_words_near, words_near}
+use Rattle.rice_code.proofs.lemmas.decode.SplitAhead.{sixteen_words_near, words_near}
+use Rattle.rice_code.proofs.lemmas.decode.RowLemmas.{all_back}
 use Rattle.rice_code.proofs.decode.split_lanes.spell_words.Goals as goal
 
 pub spelled_words-requires-2-clause-legal : goal.spelled_words-requires-2-clause-legal
-spelled_words-requires-2-clause-legal g c = all_behind (λ l. l < value_count c.args.setting.now) c.in_ok-near.near.first c.in_ok-near.near.second c.in_ok-near.ensures.levels.legal
+spelled_words-requires-2-clause-legal g c = all_back (λ l. l < value_count c.args.setting.now) c.in_ok-near.near.first c.in_ok-near.near.second c.in_ok-near.ensures.levels.legal
 
 pub returns-then-size-le8-clause-some : goal.returns-then-size-le8-clause-some
 returns-then-size-le8-clause-some g c =

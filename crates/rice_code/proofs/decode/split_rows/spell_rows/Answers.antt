@@ -1,6 +1,6 @@
 use Rattle.std.proofs.Common.{◌≡◌, ◌-◌, ◌*◌, ◌^◌, ◌<◌, ◌++◌, ◌∙◌, ap, arith, drop, length, take, subst, sym}
 use Rattle.std.proofs.lemmas.List.{length-drop, length-take-le, take-take}
-use Rattle.rice_code.specs.decode.BlocksAhead.{SpellsParts, lanes_of}
+use Rattle.rice_code.specs.decode.BlocksInOnePass.{SpellsParts, lanes_of}
 use Rattle.rice_code.proofs.lemmas.decode.SplitRows.{RowsSpelled, all_inside, all_of_row, all_spelled, row_inside, row_spelled, rows_before, rows_end, spells_front}
 use Rattle.rice_code.proofs.decode.split_rows.spell_rows.Goals as goal
 

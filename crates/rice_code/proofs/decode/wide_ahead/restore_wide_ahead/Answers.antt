@@ -1,7 +1,7 @@
 use Rattle.std.proofs.Common.{◌≡◌, ◌-◌, ◌∙◌, arith}
 use Rattle.std.specs.Prelude.{slice_index_or}
 use Rattle.rice_samples.specs.Parameters.{value_at}
-use Rattle.rice_code.specs.decode.BlocksAhead.{BlockAhead}
+use Rattle.rice_code.specs.decode.BlocksInOnePass.{BlockAhead}
 use Rattle.rice_code.specs.decode.WideAhead.{RestoredAhead}
 use Rattle.rice_code.proofs.lemmas.decode.WideAhead.{if_some, wide_block, wide_splits}
 use Rattle.rice_code.proofs.decode.wide_ahead.restore_wide_ahead.Goals as goal

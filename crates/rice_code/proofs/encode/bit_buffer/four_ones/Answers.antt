@@ -1,5 +1,5 @@
 use Rattle.std.proofs.Common.{arith, ◌+◌}
-use Rattle.rice_bits.proofs.lemmas.bits.Words.{word-fs}
+use Rattle.rice_bits.proofs.lemmas.bits.WordsAndNumbers.{word-fs}
 use Rattle.rice_code.proofs.lemmas.encode.JoinedWords.{joined_fits, high_small, one_fits, four_words}
 use Rattle.rice_code.proofs.encode.bit_buffer.four_ones.Goals as goal
 

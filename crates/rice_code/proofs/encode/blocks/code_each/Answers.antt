@@ -124,8 +124,8 @@ loop-i-preserved g c =
     ]
 
 -- the invariant at the end
-pub put_pending-requires-clause-room : goal.put_pending-requires-clause-room
-put_pending-requires-clause-room g c =
+pub put_pending_run-requires-clause-room : goal.put_pending_run-requires-clause-room
+put_pending_run-requires-clause-room g c =
     let s = c.args.setting.now in
     let n = c.args.count in
     let ds = c.args.segment.now in
@@ -154,14 +154,14 @@ returns g c =
     let run = c.loop-i.run in
     let same = sym (ap (λ i. c.loop-i.sink ++ to_come s c.args.start c.args.reference n ds i run) i) ∙ c.loop-i.invariant.same in
     let ends = ap (λ v. c.loop-i.sink ++ v) (at_end s c.args.start c.args.reference n ds run c.block-size.ensures.legal.interval_from c.requires.few (omega arith)) in
-    let put : c.put_pending.new.sink ≡ c.args.sink.now ++ all = c.put_pending.ensures.bits
+    let put : c.put_pending_run.new.sink ≡ c.args.sink.now ++ all = c.put_pending_run.ensures.bits
     ∙ (ap (λ f. c.loop-i.sink ++ bits_of_sets s (pending_run true f run)) c.reference_of-first.ensures ∙ (sym ends ∙ same)) in
     let len = held_len s c.args.reference n ds in
     let least = ap (sum_by (least_looks s)) (take_all c.loop-i.i cs (omega (arith, len))) in
     let most = ap (sum_by (most_looks s)) (take_all c.loop-i.i cs (omega (arith, len))) in
-    let a = length_both c.put_pending.new.sink c.args.sink.now all put in
+    let a = length_both c.put_pending_run.new.sink c.args.sink.now all put in
     record {
       bits = put;
-      steps_from = omega (arith, least, a, c.put_pending.ensures.len, c.put_pending.ensures.steps, c.loop-i.invariant.steps_from);
-      steps_to = omega (arith, most, a, c.put_pending.ensures.len, c.put_pending.ensures.steps, c.loop-i.invariant.steps_to);
+      steps_from = omega (arith, least, a, c.put_pending_run.ensures.len, c.put_pending_run.ensures.steps, c.loop-i.invariant.steps_from);
+      steps_to = omega (arith, most, a, c.put_pending_run.ensures.len, c.put_pending_run.ensures.steps, c.loop-i.invariant.steps_to);
     }

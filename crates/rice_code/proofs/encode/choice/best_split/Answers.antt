@@ -1,6 +1,6 @@
 use Rattle.std.proofs.Common.{◌+◌, ap, arith}
 use Rattle.rice_samples.proofs.lemmas.blocks.FallingSums.{cut_sum, sum_halves}
-use Rattle.rice_code.proofs.lemmas.cost.Savings.{sum_stop_is_best}
+use Rattle.rice_code.proofs.lemmas.cost.SplitSavings.{sum_stop_is_best}
 use Rattle.rice_code.proofs.lemmas.encode.ChoiceLemmas.{best_split_is, small_sum}
 use Rattle.rice_code.proofs.encode.choice.best_split.Goals as goal
 

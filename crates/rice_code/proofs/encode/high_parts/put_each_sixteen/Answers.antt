@@ -1,7 +1,7 @@
 use Rattle.std.proofs.Common.{arith, ◌≡◌, ℕ, ◌+◌, ◌*◌, ◌/◌, ◌^◌, ◌++◌, ◌∙◌, ap, refl}
 use Rattle.std.specs.Prelude.{flat_map, slice_range, sum_by}
 use Rattle.rice_bits.specs.Bits.{fundamental_sequence}
-use Rattle.rice_code.proofs.lemmas.encode.RangesWritten.{split_summed}
+use Rattle.rice_code.proofs.lemmas.encode.PartsInRanges.{split_summed}
 use Rattle.rice_code.proofs.lemmas.encode.ShortLowParts.{eight_added}
 use Rattle.rice_code.proofs.encode.high_parts.put_each_sixteen.Goals as goal
 

@@ -11,8 +11,8 @@ add-requires-clause-value c =
     let row = c.with_four_sequences-row in
     let len = length-append w x in
     let four = length-four c.args.b.0 c.args.b.1 c.args.b.2 c.args.b.3 in
-    let none : row.result.left ≡ 0 = omega (arith, len, four, c.requires.total, c.sequences_of_four.ensures.left, row.ensures.left) in
-    let spelled = all_digits_filled row.result.value row.result.left c.args.total (w ++ x) none (omega (arith, c.requires.total)) (row.ensures.bits w c.sequences_of_four.ensures.bits) in
+    let none : row.result.left ≡ 0 = omega (arith, len, four, c.requires.total, c.begin_sequences_with_four.ensures.left, row.ensures.left) in
+    let spelled = all_digits_filled row.result.value row.result.left c.args.total (w ++ x) none (omega (arith, c.requires.total)) (row.ensures.bits w c.begin_sequences_with_four.ensures.bits) in
     spelled.fits
 
 pub returns-then-total-le56 : goal.returns-then-total-le56
@@ -22,8 +22,8 @@ returns-then-total-le56 c =
     let row = c.with_four_sequences-row in
     let len = length-append w x in
     let four = length-four c.args.b.0 c.args.b.1 c.args.b.2 c.args.b.3 in
-    let none : row.result.left ≡ 0 = omega (arith, len, four, c.requires.total, c.sequences_of_four.ensures.left, row.ensures.left) in
-    let spelled = all_digits_filled row.result.value row.result.left c.args.total (w ++ x) none (omega (arith, c.requires.total)) (row.ensures.bits w c.sequences_of_four.ensures.bits) in
+    let none : row.result.left ≡ 0 = omega (arith, len, four, c.requires.total, c.begin_sequences_with_four.ensures.left, row.ensures.left) in
+    let spelled = all_digits_filled row.result.value row.result.left c.args.total (w ++ x) none (omega (arith, c.requires.total)) (row.ensures.bits w c.begin_sequences_with_four.ensures.bits) in
     record {
       bits = c.add.ensures.bits ∙ ap (λ v. c.args.sink.now ++ c.args.fields.now ++ v) spelled.digits;
       len = omega (arith, c.requires.total, c.add.ensures.len);

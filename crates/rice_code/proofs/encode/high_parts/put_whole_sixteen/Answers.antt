@@ -43,7 +43,7 @@ with_four_sequences-half-requires-clause-some c =
     let four_x = length-four c.args.b.0 c.args.b.1 c.args.b.2 c.args.b.3 in
     let four_y = length-four c.args.c.0 c.args.c.1 c.args.c.2 c.args.c.3 in
     let four_z = length-four c.args.d.0 c.args.d.1 c.args.d.2 c.args.d.3 in
-    omega (arith, whole, parts, four_x, four_y, four_z, c.requires.total, c.sequences_of_four.ensures.left)
+    omega (arith, whole, parts, four_x, four_y, four_z, c.requires.total, c.begin_sequences_with_four.ensures.left)
 
 pub with_four_sequences-requires-clause-some : goal.with_four_sequences-requires-clause-some
 with_four_sequences-requires-clause-some c =
@@ -56,7 +56,7 @@ with_four_sequences-requires-clause-some c =
     let four_x = length-four c.args.b.0 c.args.b.1 c.args.b.2 c.args.b.3 in
     let four_y = length-four c.args.c.0 c.args.c.1 c.args.c.2 c.args.c.3 in
     let four_z = length-four c.args.d.0 c.args.d.1 c.args.d.2 c.args.d.3 in
-    omega (arith, whole, parts, four_x, four_y, four_z, c.requires.total, c.sequences_of_four.ensures.left, c.with_four_sequences-half.ensures.left)
+    omega (arith, whole, parts, four_x, four_y, four_z, c.requires.total, c.begin_sequences_with_four.ensures.left, c.with_four_sequences-half.ensures.left)
 
 pub with_four_sequences-row-requires-clause-some : goal.with_four_sequences-row-requires-clause-some
 with_four_sequences-row-requires-clause-some c =
@@ -69,7 +69,7 @@ with_four_sequences-row-requires-clause-some c =
     let four_x = length-four c.args.b.0 c.args.b.1 c.args.b.2 c.args.b.3 in
     let four_y = length-four c.args.c.0 c.args.c.1 c.args.c.2 c.args.c.3 in
     let four_z = length-four c.args.d.0 c.args.d.1 c.args.d.2 c.args.d.3 in
-    omega (arith, whole, parts, four_x, four_y, four_z, c.requires.total, c.sequences_of_four.ensures.left, c.with_four_sequences-half.ensures.left, c.with_four_sequences.ensures.left)
+    omega (arith, whole, parts, four_x, four_y, four_z, c.requires.total, c.begin_sequences_with_four.ensures.left, c.with_four_sequences-half.ensures.left, c.with_four_sequences.ensures.left)
 
 pub add-requires-clause-value : goal.add-requires-clause-value
 add-requires-clause-value c =
@@ -91,12 +91,12 @@ add-requires-clause-value c =
       four_y,
       four_z,
       c.requires.total,
-      c.sequences_of_four.ensures.left,
+      c.begin_sequences_with_four.ensures.left,
       c.with_four_sequences-half.ensures.left,
       c.with_four_sequences.ensures.left,
       row.ensures.left,
     ) in
-    let half = c.with_four_sequences-half.ensures.bits w c.sequences_of_four.ensures.bits in
+    let half = c.with_four_sequences-half.ensures.bits w c.begin_sequences_with_four.ensures.bits in
     let more = c.with_four_sequences.ensures.bits _ half in
     let spelled = all_digits_filled row.result.value row.result.left c.args.total (w ++ x ++ y ++ z) none (omega (arith, c.requires.total)) (row.ensures.bits _ more) in
     spelled.fits
@@ -121,12 +121,12 @@ returns-then-total-le56 c =
       four_y,
       four_z,
       c.requires.total,
-      c.sequences_of_four.ensures.left,
+      c.begin_sequences_with_four.ensures.left,
       c.with_four_sequences-half.ensures.left,
       c.with_four_sequences.ensures.left,
       row.ensures.left,
     ) in
-    let half = c.with_four_sequences-half.ensures.bits w c.sequences_of_four.ensures.bits in
+    let half = c.with_four_sequences-half.ensures.bits w c.begin_sequences_with_four.ensures.bits in
     let more = c.with_four_sequences.ensures.bits _ half in
     let spelled = all_digits_filled row.result.value row.result.left c.args.total (w ++ x ++ y ++ z) none (omega (arith, c.requires.total)) (row.ensures.bits _ more) in
     record {

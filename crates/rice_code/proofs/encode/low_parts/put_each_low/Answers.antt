@@ -1,7 +1,7 @@
 use Rattle.std.proofs.Common.{arith, ◌+◌, ◌++◌, ◌∙◌, ap}
 use Rattle.rice_bits.specs.Bits.{word}
-use Rattle.rice_bits.proofs.lemmas.bits.Joining.{low_word}
-use Rattle.rice_code.proofs.lemmas.encode.RangesWritten.{none_written, none_times, one_written, one_more_times, split_times}
+use Rattle.rice_bits.proofs.lemmas.bits.JoinedBits.{low_word}
+use Rattle.rice_code.proofs.lemmas.encode.PartsInRanges.{none_written, none_times, one_written, one_more_times, split_times}
 use Rattle.rice_code.proofs.encode.low_parts.put_each_low.Goals as goal
 
 pub loop-i-init : goal.loop-i-init

@@ -11,7 +11,7 @@ loop-i-preserved c =
     let four = c.four_at-four.ensures in
     let f = four_fewer (length xs) i (c.args.from + 4 * (c.loop-i.i + 1)) w (omega arith) (omega arith) in
     let g = four_fewer (length xs) i (c.args.from + 4 * (c.loop-i.i + 1)) (w + 1) (omega arith) (omega arith) in
-    let words = c.four_low.ensures.bits ∙ (λ j. word w (four.first j) ++ word w (four.second j) ++ word w (four.third j) ++ word w (four.last j)) in
+    let words = c.four_low_parts.ensures.bits ∙ (λ j. word w (four.first j) ++ word w (four.second j) ++ word w (four.third j) ++ word w (four.last j)) in
     record {
       same = four_added (word w) xs i (c.args.from + 4 * (c.loop-i.i + 1)) (c.loop-i.sink ++ c.loop-i.fields) _ _ (omega arith) (omega arith)
           (c.add.ensures.bits ∙ ap (λ v. c.loop-i.sink ++ c.loop-i.fields ++ v) words) c.loop-i.invariant.same;

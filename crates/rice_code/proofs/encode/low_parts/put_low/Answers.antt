@@ -1,6 +1,6 @@
 use Rattle.std.proofs.Common.{arith, ◌+◌, ◌-◌, ◌%◌, ◌++◌, length}
 use Rattle.rice_bits.specs.Bits.{word}
-use Rattle.rice_code.proofs.lemmas.encode.RangesWritten.{both_written, split_times}
+use Rattle.rice_code.proofs.lemmas.encode.PartsInRanges.{both_written, split_times}
 use Rattle.rice_code.proofs.encode.low_parts.put_low.Goals as goal
 
 pub returns : goal.returns

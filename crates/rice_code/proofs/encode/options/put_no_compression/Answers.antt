@@ -4,7 +4,7 @@ use Rattle.std.proofs.Math.Nat.{pow-le-pow_right}
 use Rattle.rice_bits.specs.Bits.{word}
 use Rattle.rice_samples.specs.Parameters.{id_len}
 use Rattle.rice_code.specs.code.CodedDataSets.{reference_bits, reference_len, sent_residuals}
-use Rattle.rice_code.proofs.lemmas.cost.Costs.{coded_and_reference}
+use Rattle.rice_code.proofs.lemmas.cost.CostIsLength.{coded_and_reference}
 use Rattle.rice_code.proofs.lemmas.encode.OptionBits.{sent_are}
 use Rattle.rice_code.proofs.encode.options.put_no_compression.Goals as goal
 
@@ -54,7 +54,7 @@ returns g c =
     let ref = ap (reference_len s) c.reference.ensures in
     let id = all_ones c.id_len-id.result (omega (arith, c.id_len-id.ensures.range)) ∙ ap (λ n. 2 ^ n - 1) c.id_len-id.ensures.value in
     let body = (λ i. flat_map (word (c.bits-bits.ensures.value i)) (drop c.first_coded-from.result c.residuals-residuals.result.now)) ∙ sent.bits (word s.bits) in
-    let two = c.begin-fields.ensures.bits ∙ (λ i. c.args.sink.now ++ word (c.id_len-id.ensures.value i) (id i) ++ reference_bits s (c.reference.ensures i)) in
+    let two = c.begin_set-fields.ensures.bits ∙ (λ i. c.args.sink.now ++ word (c.id_len-id.ensures.value i) (id i) ++ reference_bits s (c.reference.ensures i)) in
     let three = c.put.ensures.bits ∙ (c.put_low.ensures.bits ∙ (λ i. two i ++ body i)) in
     let first = word (id_len s) (2 ^ id_len s - 1) in
     let low = flat_map (word s.bits) (sent_residuals c.args.block.now) in

@@ -8,9 +8,9 @@ use Rattle.rice_code.proofs.encode.pairs.put_short_pairs.Goals as goal
 
 pub loop-i-init : goal.loop-i-init
 loop-i-init c = record {
-  left = omega (arith, c.no_sequences-row.ensures.left, c.requires.total);
-  few = omega (arith, c.no_sequences-row.ensures.left, c.requires.short);
-  filled = ([], c.no_sequences-row.ensures.bits, refl);
+  left = omega (arith, c.begin_without_sequences-row.ensures.left, c.requires.total);
+  few = omega (arith, c.begin_without_sequences-row.ensures.left, c.requires.short);
+  filled = ([], c.begin_without_sequences-row.ensures.bits, refl);
   steps = omega arith;
 }
 

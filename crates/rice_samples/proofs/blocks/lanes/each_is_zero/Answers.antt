@@ -1,5 +1,5 @@
 use Rattle.std.proofs.Common.{sym}
-use Rattle.rice_samples.proofs.lemmas.blocks.LaneLemmas.{more_zeros, some_digits}
+use Rattle.rice_samples.proofs.lemmas.blocks.EightsInLanes.{more_zeros, some_digits}
 use Rattle.rice_samples.proofs.blocks.lanes.each_is_zero.Goals as goal
 
 pub returns-then-items-i-ne0 : goal.returns-then-items-i-ne0

@@ -1,6 +1,6 @@
 use Rattle.std.proofs.Common.{arith, ◌^◌, w32}
 use Rattle.std.proofs.lemmas.Simd.{adds_fit, sum_fits}
-use Rattle.rice_samples.proofs.lemmas.blocks.LaneLemmas.{sums_below, sum_added, lanes_added, whole_sum, total_below}
+use Rattle.rice_samples.proofs.lemmas.blocks.EightsInLanes.{sums_below, sum_added, lanes_added, whole_sum, total_below}
 use Rattle.rice_samples.proofs.blocks.lanes.small_sum_of_eights.Goals as goal
 
 pub overflow_add-sums : goal.overflow_add-sums

@@ -1,6 +1,6 @@
 use Rattle.std.proofs.Common.{arith, w32, w64, lit≤}
 use Rattle.std.proofs.lemmas.Simd.{sum_fits, widens}
-use Rattle.rice_samples.proofs.lemmas.blocks.LaneLemmas.{map_same, sum_added, lanes_added, whole_sum, total_fits, sum_limited, narrow_fits, narrow_lanes, narrow_below}
+use Rattle.rice_samples.proofs.lemmas.blocks.EightsInLanes.{map_same, sum_added, lanes_added, whole_sum, total_fits, sum_limited, narrow_fits, narrow_lanes, narrow_below}
 use Rattle.rice_samples.proofs.blocks.lanes.sum_in_lanes_of_32.Goals as goal
 
 pub overflow_add-total : goal.overflow_add-total

@@ -1,6 +1,6 @@
 use Rattle.std.proofs.Common.{arith, w64}
 use Rattle.std.proofs.lemmas.Simd.{adds_fit, sum_fits}
-use Rattle.rice_samples.proofs.lemmas.blocks.LaneLemmas.{map_same, sums_fit, sum_added, lanes_added, whole_sum, total_fits, sum_limited}
+use Rattle.rice_samples.proofs.lemmas.blocks.EightsInLanes.{map_same, sums_fit, sum_added, lanes_added, whole_sum, total_fits, sum_limited}
 use Rattle.rice_samples.proofs.blocks.lanes.sum_in_lanes_of_64.Goals as goal
 
 pub overflow_add-total : goal.overflow_add-total

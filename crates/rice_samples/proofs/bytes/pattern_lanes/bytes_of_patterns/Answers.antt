@@ -1,5 +1,5 @@
 use Rattle.std.proofs.Common.{◌≡◌, length, ap, sym, ◌∙◌, inl, inr}
-use Rattle.rice_samples.proofs.lemmas.bytes.WordLanes.{kept_words, length-swapped, length-turned, single_words, swapped_words, turned_words}
+use Rattle.rice_samples.proofs.lemmas.bytes.LanesOfWholeBytes.{kept_words, length-swapped, length-turned, single_words, swapped_words, turned_words}
 use Rattle.rice_samples.proofs.bytes.pattern_lanes.bytes_of_patterns.Goals as goal
 
 pub returns-then-msb-clause-words : goal.returns-then-msb-clause-words
@@ -10,11 +10,11 @@ returns-then-this-eq1-clause-words g c = single_words c.args.setting.now.msb g.r
 
 pub returns-then-this-eq2-clause-words : goal.returns-then-this-eq2-clause-words
 returns-then-this-eq2-clause-words g c =
-    swapped_words c.args.setting.now.msb g.row.WIDTH c.args.patterns c.in_pairs_swapped.result c.if-this-eq2.true (sym c.msb.ensures ∙ c.if-msb.false)
-    c.requires.lanes c.requires.fit c.in_pairs_swapped.ensures
+    swapped_words c.args.setting.now.msb g.row.WIDTH c.args.patterns c.byte_pairs_swapped.result c.if-this-eq2.true (sym c.msb.ensures ∙ c.if-msb.false)
+    c.requires.lanes c.requires.fit c.byte_pairs_swapped.ensures
 
 pub returns-then-this-eq2-clause-len : goal.returns-then-this-eq2-clause-len
-returns-then-this-eq2-clause-len g c = ap length c.in_pairs_swapped.ensures ∙ length-swapped c.args.patterns c.requires.lanes
+returns-then-this-eq2-clause-len g c = ap length c.byte_pairs_swapped.ensures ∙ length-swapped c.args.patterns c.requires.lanes
 
 pub returns-clause-words : goal.returns-clause-words
 returns-clause-words g c =
@@ -22,7 +22,7 @@ returns-clause-words g c =
       | inl e ↦ absurd (c.if-this-eq1.false e)
       | inr other ↦ elim other [ inl e ↦ absurd (c.if-this-eq2.false e) | inr e ↦ e ]
     ] in
-    turned_words c.args.setting.now.msb g.row.WIDTH c.args.patterns c.in_fours_turned.result four (sym c.msb.ensures ∙ c.if-msb.false) c.requires.lanes c.requires.fit c.in_fours_turned.ensures
+    turned_words c.args.setting.now.msb g.row.WIDTH c.args.patterns c.byte_fours_turned.result four (sym c.msb.ensures ∙ c.if-msb.false) c.requires.lanes c.requires.fit c.byte_fours_turned.ensures
 
 pub returns-clause-len : goal.returns-clause-len
-returns-clause-len g c = ap length c.in_fours_turned.ensures ∙ length-turned c.args.patterns c.requires.lanes
+returns-clause-len g c = ap length c.byte_fours_turned.ensures ∙ length-turned c.args.patterns c.requires.lanes

@@ -1,4 +1,4 @@
-use Rattle.rice_samples.proofs.lemmas.bytes.BufferLemmas.{front_is_carried}
+use Rattle.rice_samples.proofs.lemmas.bytes.BufferOfReader.{front_is_carried}
 use Rattle.rice_samples.proofs.bytes.sample_reader.move_to_front.Goals as goal
 
 pub returns-clause-front : goal.returns-clause-front

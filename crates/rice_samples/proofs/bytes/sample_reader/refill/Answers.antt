@@ -1,5 +1,5 @@
 use Rattle.std.proofs.Common.{arith, ◌+◌, ◌-◌}
-use Rattle.rice_samples.proofs.lemmas.bytes.BufferLemmas.{refills}
+use Rattle.rice_samples.proofs.lemmas.bytes.BufferOfReader.{refills}
 use Rattle.rice_samples.proofs.bytes.sample_reader.refill.Goals as goal
 
 pub returns-clause-bytes : goal.returns-clause-bytes

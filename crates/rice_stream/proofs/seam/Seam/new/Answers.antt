@@ -1,6 +1,6 @@
 use Rattle.std.proofs.Common.{arith, ◌≡◌, ◌≤◌, ◌∙◌, refl, ap, sym, drop, length, []}
 use Rattle.rice_bits.specs.Bits.{bits_in_bytes}
-use Rattle.rice_bits.proofs.lemmas.bits.Words.{word-nil}
+use Rattle.rice_bits.proofs.lemmas.bits.WordsAndNumbers.{word-nil}
 use Rattle.rice_code.specs.code.Code.{code, code_bits, complete_samples}
 use Rattle.rice_code.specs.CoderSteps.{least_steps, most_steps}
 use Rattle.rice_code.proofs.lemmas.encode.PushedCode.{none_taken}

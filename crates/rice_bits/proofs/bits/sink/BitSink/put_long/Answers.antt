@@ -1,7 +1,7 @@
 use Rattle.std.proofs.Common.{arith}
-use Rattle.rice_bits.proofs.lemmas.bits.Joining.{joined-puts}
+use Rattle.rice_bits.proofs.lemmas.bits.JoinedBits.{joined-puts}
 use Rattle.rice_bits.proofs.lemmas.bits.SinkBytes.{length_viewed}
-use Rattle.rice_bits.proofs.lemmas.bits.Words.{length-word}
+use Rattle.rice_bits.proofs.lemmas.bits.WordsAndNumbers.{length-word}
 use Rattle.rice_bits.proofs.bits.sink.BitSink.put_long.Goals as goal
 
 pub join_digits-self-inside-requires-clause-room : goal.join_digits-self-inside-requires-clause-room

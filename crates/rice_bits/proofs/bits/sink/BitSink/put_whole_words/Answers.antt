@@ -1,9 +1,9 @@
 use Rattle.std.proofs.Common.{◌≡◌, ◌+◌, ◌*◌, ◌++◌, arith, length, length-append}
 use Rattle.std.specs.Prelude.{flat_map}
 use Rattle.rice_bits.specs.Bits.{word}
-use Rattle.rice_bits.proofs.lemmas.bits.Joining.{joined-puts}
+use Rattle.rice_bits.proofs.lemmas.bits.JoinedBits.{joined-puts}
 use Rattle.rice_bits.proofs.lemmas.bits.SinkBytes.{length_viewed}
-use Rattle.rice_bits.proofs.lemmas.bits.Words.{length-word}
+use Rattle.rice_bits.proofs.lemmas.bits.WordsAndNumbers.{length-word}
 use Rattle.rice_bits.proofs.lemmas.read.WindowLemmas.{length-words}
 use Rattle.rice_bits.proofs.bits.sink.BitSink.put_whole_words.Goals as goal
 

@@ -1,5 +1,5 @@
 use Rattle.std.proofs.Common.{arith}
-use Rattle.rice_bits.proofs.lemmas.bits.Joining.{joined-puts}
+use Rattle.rice_bits.proofs.lemmas.bits.JoinedBits.{joined-puts}
 use Rattle.rice_bits.proofs.lemmas.bits.SinkBytes.{length_viewed}
 use Rattle.rice_bits.proofs.lemmas.read.WindowLemmas.{length-words}
 use Rattle.rice_bits.proofs.bits.sink.BitSink.put_words.Goals as goal

@@ -4,7 +4,7 @@ use Rattle.std.specs.Prelude.{◌&&◌}
 use Rattle.rice_bits.specs.Bits.{bits_to_byte}
 use Rattle.rice_bits.specs.read.Window.{window_bits, window_passed, window_taken}
 use Rattle.rice_bits.specs.read.Reader.{is_blank}
-use Rattle.rice_bits.proofs.lemmas.read.Blank.{and-true}
+use Rattle.rice_bits.proofs.lemmas.read.BlankBits.{and-true}
 use Rattle.rice_bits.proofs.lemmas.read.WindowLemmas.{length-window}
 use Rattle.rice_bits.proofs.read.reader.BitReader.align.Goals as goal
 

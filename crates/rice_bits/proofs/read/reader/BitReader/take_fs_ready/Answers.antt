@@ -1,6 +1,6 @@
 use Rattle.std.proofs.Common.{◌≡◌, ◌<◌, ap, refl, None, length, arith}
 use Rattle.rice_bits.specs.read.Window.{window_bits}
-use Rattle.rice_bits.proofs.lemmas.read.Drawing.{draws-waiting}
+use Rattle.rice_bits.proofs.lemmas.read.DrawnBytes.{draws-waiting}
 use Rattle.rice_bits.proofs.lemmas.read.ReaderLemmas.{not_refused, takes_passed}
 use Rattle.rice_bits.proofs.lemmas.read.WindowLemmas.{length-window}
 use Rattle.rice_bits.proofs.read.reader.BitReader.take_fs_ready.Goals as goal

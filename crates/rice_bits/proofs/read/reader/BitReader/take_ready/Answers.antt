@@ -1,6 +1,6 @@
 use Rattle.std.proofs.Common.{ap, sym, ◌∙◌, refl, arith}
-use Rattle.rice_bits.proofs.lemmas.bits.Words.{length-word}
-use Rattle.rice_bits.proofs.lemmas.read.Drawing.{draws-waiting}
+use Rattle.rice_bits.proofs.lemmas.bits.WordsAndNumbers.{length-word}
+use Rattle.rice_bits.proofs.lemmas.read.DrawnBytes.{draws-waiting}
 use Rattle.rice_bits.proofs.lemmas.read.ReaderLemmas.{not_refused, takes_passed}
 use Rattle.rice_bits.proofs.read.reader.BitReader.take_ready.Goals as goal
 

@@ -2,7 +2,7 @@ use Rattle.std.proofs.Common.{◌≡◌, ap, ◌∙◌, refl, None, arith, take,
 use Rattle.std.specs.Prelude.{flat_map}
 use Rattle.rice_bits.specs.Bits.{word}
 use Rattle.rice_bits.specs.read.Window.{window_bits}
-use Rattle.rice_bits.proofs.lemmas.read.Drawing.{draws-waiting}
+use Rattle.rice_bits.proofs.lemmas.read.DrawnBytes.{draws-waiting}
 use Rattle.rice_bits.proofs.lemmas.read.ReaderLemmas.{takes_passed}
 use Rattle.rice_bits.proofs.read.reader.BitReader.take_waiting.Goals as goal
 

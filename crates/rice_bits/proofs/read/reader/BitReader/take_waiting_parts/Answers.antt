@@ -1,5 +1,5 @@
 use Rattle.std.proofs.Common.{◌≡◌, ap, ◌∙◌, refl, None}
-use Rattle.rice_bits.proofs.lemmas.read.Drawing.{draws-waiting}
+use Rattle.rice_bits.proofs.lemmas.read.DrawnBytes.{draws-waiting}
 use Rattle.rice_bits.proofs.lemmas.read.ReaderLemmas.{takes_passed}
 use Rattle.rice_bits.proofs.read.reader.BitReader.take_waiting_parts.Goals as goal
 

@@ -14,25 +14,25 @@ returns-clause-passes c e =
     let w = c.args.self.now in
     let width = c.args.width in
     let n = length c.args.numbers.now in
-    let front = c.ahead.result in
+    let front = c.next_bits.result in
     let told = c.find_ends-found.new.ends in
     let used = get_or told n 0 in
     let next = w.at + used + n * width in
     let some = take n (gaps told) in
     let highs = take n some in
     let fs = flat_map fundamental_sequence highs in
-    let written = c.write_parts.ensures in
+    let written = c.write_joined.ensures in
     let ws = flat_map (word width) written.words in
     let same : highs ≡ some = take-take n n (gaps told) (omega arith) in
     let len : length some ≡ n = length-take-le n (gaps told) (omega (arith, c.requires.few, c.find_ends-found.auto.ends, length-gaps told (omega (arith, c.find_ends-found.auto.ends)))) in
-    let many : length c.write_parts.new.numbers ≡ n = c.write_parts.auto.numbers in
+    let many : length c.write_joined.new.numbers ≡ n = c.write_joined.auto.numbers in
     let parted = ends-parted front told some some c.find_ends-found.result n c.find_ends-found.ensures (omega (arith, c.if-found-numbers.false)) (omega (arith, len)) same refl in
     let split = parted-bits front some some used n parted in
-    let short = sequences-within highs _ _ _ (sym split ∙ c.ahead.ensures) in
+    let short = sequences-within highs _ _ _ (sym split ∙ c.next_bits.ensures) in
     let long : length fs ≡ used = length-parted front some some used n parted in
     let there = near-there w fs c.requires.window short in
     let mid = record w { at = w.at + used } in
-    let first = window-front w (w.at + used) front fs _ c.requires.window c.ahead.ensures split short (omega (arith, long)) in
+    let first = window-front w (w.at + used) front fs _ c.requires.window c.next_bits.ensures split short (omega (arith, long)) in
     let window = window-moved w (w.at + used) c.requires.window (omega arith) (omega (arith, there, long)) in
     let second = window-passes mid next (n * width) ws window refl (omega (arith, c.if-next-self.false)) written.bits in
     record {
@@ -43,7 +43,7 @@ returns-clause-passes c e =
         as_many_lows = written.len ∙ sym many;
         few = parted.each;
         low = written.fit;
-        joined = sym (take_all n c.write_parts.new.numbers (omega (arith, many))) ∙ (written.joined ∙ ap (λ ms. joined_parts width ms written.words) (sym same));
+        joined = sym (take_all n c.write_joined.new.numbers (omega (arith, many))) ∙ (written.joined ∙ ap (λ ms. joined_parts width ms written.words) (sym same));
       };
       passes = passes-append w mid _ fs ws first second;
     }

@@ -7,14 +7,14 @@ use Rattle.rice_bits.proofs.read.window.Window.take_sequences.Goals as goal
 
 pub returns-clause-window : goal.returns-clause-window
 returns-clause-window c =
-    let parted = c.part_sequences-parted.ensures in
-    let there = near-there c.args.self.now (flat_map fundamental_sequence (take c.part_sequences-parted.result.taken c.part_sequences-parted.new.zeros)) c.requires.window
-    (sequences-within _ _ _ _ (sym (parted-bits _ _ _ _ _ parted) ∙ c.ahead.ensures)) in
+    let parted = c.write_sequences_of_word-parted.ensures in
+    let there = near-there c.args.self.now (flat_map fundamental_sequence (take c.write_sequences_of_word-parted.result.taken c.write_sequences_of_word-parted.new.zeros)) c.requires.window
+    (sequences-within _ _ _ _ (sym (parted-bits _ _ _ _ _ parted) ∙ c.next_bits.ensures)) in
     window-moved c.args.self.now _ c.requires.window (omega arith) (omega (arith, there, length-parted _ _ _ _ _ parted))
 
 pub returns-clause-passes : goal.returns-clause-passes
 returns-clause-passes c =
-    let parted = c.part_sequences-parted.ensures in
+    let parted = c.write_sequences_of_word-parted.ensures in
     let split = parted-bits _ _ _ _ _ parted in
-    let short = sequences-within _ _ _ _ (sym split ∙ c.ahead.ensures) in
-    window-front _ _ c.ahead.result _ _ c.requires.window c.ahead.ensures split short (omega (arith, length-parted _ _ _ _ _ parted))
+    let short = sequences-within _ _ _ _ (sym split ∙ c.next_bits.ensures) in
+    window-front _ _ c.next_bits.result _ _ c.requires.window c.next_bits.ensures split short (omega (arith, length-parted _ _ _ _ _ parted))

@@ -7,16 +7,16 @@ overflow_add-self c =
     let h = c.requires.window in
     record { fits = omega (arith, c.requires.there, length-window c.args.self.now h, h.ordered, h.fits) }
 
-pub sixteen_from-requires-clause-at : goal.sixteen_from-requires-clause-at
-sixteen_from-requires-clause-at c =
+pub sixteen_words_from-requires-clause-at : goal.sixteen_words_from-requires-clause-at
+sixteen_words_from-requires-clause-at c =
     let h = c.requires.window in
     omega (arith, c.requires.there, length-window c.args.self.now h, h.ordered, h.fits)
 
-pub sixteen_from-requires-clause-room : goal.sixteen_from-requires-clause-room
-sixteen_from-requires-clause-room c =
+pub sixteen_words_from-requires-clause-room : goal.sixteen_words_from-requires-clause-room
+sixteen_words_from-requires-clause-room c =
     let h = c.requires.window in
     omega (arith, c.requires.there, c.requires.width, length-window c.args.self.now h, h.size, h.ordered, h.fits)
 
 pub returns-clause-bits : goal.returns-clause-bits
 returns-clause-bits c =
-    c.sixteen_from.ensures.bits ∙ sym (part-waits c.args.self.now c.args.skip (16 * c.args.width) c.requires.window (omega (arith, c.requires.there, c.requires.width)))
+    c.sixteen_words_from.ensures.bits ∙ sym (part-waits c.args.self.now c.args.skip (16 * c.args.width) c.requires.window (omega (arith, c.requires.there, c.requires.width)))

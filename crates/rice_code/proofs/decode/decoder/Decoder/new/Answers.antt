@@ -1,4 +1,4 @@
-use Rattle.rice_samples.proofs.lemmas.setting.Levels.{zero_is_sample}
+use Rattle.rice_samples.proofs.lemmas.setting.LevelsOfSamples.{zero_is_sample}
 use Rattle.rice_code.proofs.decode.decoder.Decoder.new.Goals as goal
 
 pub level-before-requires : goal.level-before-requires

@@ -2,7 +2,7 @@ use Rattle.std.proofs.Common.{◌≡◌, ◌+◌, ◌-◌, ◌*◌, ◌∙◌, s
 use Rattle.std.specs.Prelude.{slice_set}
 use Rattle.std.proofs.lemmas.List.{length-set, length-take-le}
 use Rattle.rice_samples.specs.Parameters.{Parameters, width}
-use Rattle.rice_code.specs.decode.BlocksAhead.{lanes_of}
+use Rattle.rice_code.specs.decode.BlocksInOnePass.{lanes_of}
 use Rattle.rice_code.specs.decode.BlocksInRow.{GivesBlocks}
 use Rattle.rice_code.specs.decode.DecoderState.{DecoderState}
 use Rattle.rice_code.proofs.lemmas.decode.BlocksInRow.{block_room, kept_before, narrow_width, one_block_more, width_is, written_behind}

@@ -1,6 +1,6 @@
 use Rattle.std.proofs.Common.{◌≡◌, None, length}
 use Rattle.rice_code.specs.decode.BlocksInRow.{GivesBlocks}
-use Rattle.rice_code.specs.decode.Rows.{AreCounted}
+use Rattle.rice_code.specs.decode.RowsOfFields.{AreCounted}
 use Rattle.rice_code.proofs.decode.decoder.Decoder.read_row.Given as goal
 
 abbrev pub invariant-loop-i : goal.invariant-loop-i

@@ -2,7 +2,7 @@ use Rattle.std.proofs.Common.{◌≡◌, ◌+◌, ◌-◌, ◌*◌, ◌<◌, ◌
 use Rattle.std.specs.Prelude.{Ok, slice_index_or}
 use Rattle.rice_samples.specs.Parameters.{IsLegal, value_count, values_at}
 use Rattle.rice_code.specs.Limits.{most_samples_of_bit}
-use Rattle.rice_code.specs.decode.BlocksAhead.{BlockAhead}
+use Rattle.rice_code.specs.decode.BlocksInOnePass.{BlockAhead}
 use Rattle.rice_code.specs.decode.Decoder.{Answers, with_mark}
 use Rattle.rice_code.specs.decode.DecoderState.{DecoderState}
 use Rattle.rice_code.specs.declared.decode.answer.NextBlock.TheVariants.{Block}
@@ -15,7 +15,7 @@ returns-clause-some g c _ =
     let view = c.self.view_is in
     let start = c.args.reader.now in
     let p = c.args.self.now in
-    let new = c.go_on-answer.new in
+    let new = c.go_to_next_block-answer.new in
     let restored = c.in-Some.restored in
     let levels = c.restore_wide_ahead.new.levels in
     let places = c.set_len.new.levels.items in
@@ -28,8 +28,8 @@ returns-clause-some g c _ =
     × (length ls + new.self.run * new.self.setting.block ≤ most_samples_of_bit * (new.reader.taken - start.taken)))
     (sym (places_written size levels places (c.restore_wide_ahead.ensures.len ∙ sym c.block.ensures.value) c.set_len.ensures))
     (levels_given start (with_mark start) c.take_ahead.new.reader new.reader c.args.meter.now c.take_ahead.new.meter new.meter p new.self levels restored.len restored.last
-    legal some known.0 refl c.take_ahead.ensures.takes c.take_ahead.ensures.steps c.go_on-answer.ensures.skips c.go_on-answer.ensures.steps
-    (omega (arith, c.go_on-answer.ensures.few)) same known.1 c.go_on-answer.ensures.moves)
+    legal some known.0 refl c.take_ahead.ensures.takes c.take_ahead.ensures.steps c.go_to_next_block-answer.ensures.skips c.go_to_next_block-answer.ensures.steps
+    (omega (arith, c.go_to_next_block-answer.ensures.few)) same known.1 c.go_to_next_block-answer.ensures.moves)
 
 pub returns-clause-legal : goal.returns-clause-legal
 returns-clause-legal g c _ =

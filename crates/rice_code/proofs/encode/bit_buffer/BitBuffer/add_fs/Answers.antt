@@ -1,5 +1,5 @@
 use Rattle.std.proofs.Common.{◌++◌, ◌∙◌, ap}
-use Rattle.rice_bits.proofs.lemmas.bits.Words.{word-fs}
+use Rattle.rice_bits.proofs.lemmas.bits.WordsAndNumbers.{word-fs}
 use Rattle.rice_code.proofs.lemmas.encode.JoinedWords.{one_fits}
 use Rattle.rice_code.proofs.encode.bit_buffer.BitBuffer.add_fs.Goals as goal
 

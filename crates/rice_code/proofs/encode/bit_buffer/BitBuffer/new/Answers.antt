@@ -1,5 +1,5 @@
 use Rattle.std.proofs.Common.{ap, length}
-use Rattle.rice_bits.proofs.lemmas.bits.Words.{word-nil}
+use Rattle.rice_bits.proofs.lemmas.bits.WordsAndNumbers.{word-nil}
 use Rattle.rice_code.proofs.encode.bit_buffer.BitBuffer.new.Goals as goal
 
 pub returns-clause-bits : goal.returns-clause-bits

@@ -1,4 +1,4 @@
-use Rattle.rice_bits.proofs.lemmas.bits.Words.{length-word}
+use Rattle.rice_bits.proofs.lemmas.bits.WordsAndNumbers.{length-word}
 use Rattle.rice_code.proofs.encode.bit_buffer.BitBuffer.of.Goals as goal
 
 pub returns-clause-len : goal.returns-clause-len

@@ -1,5 +1,5 @@
 use Rattle.std.proofs.Common.{rules, arith}
-use Rattle.rice_bits.proofs.lemmas.bits.Words.{word-nil}
+use Rattle.rice_bits.proofs.lemmas.bits.WordsAndNumbers.{word-nil}
 use Rattle.rice_code.proofs.lemmas.encode.JoinedWords.{length-word_is}
 use Rattle.rice_code.proofs.encode.bit_buffer.BitBuffer.put.Goals as goal
 

@@ -1,5 +1,5 @@
 use Rattle.std.proofs.Common.{◌≡◌, ◌∙◌, ap, arith, length, sym}
-use Rattle.rice_bits.proofs.lemmas.bits.Words.{length-word}
+use Rattle.rice_bits.proofs.lemmas.bits.WordsAndNumbers.{length-word}
 use Rattle.rice_code.proofs.encode.bit_buffer.BitBuffer.put_before.Goals as goal
 
 pub put_whole_digits-requires : goal.put_whole_digits-requires

@@ -3,7 +3,7 @@ use Rattle.std.specs.Prelude.{IfSome, if◌then◌else◌}
 use Rattle.rice_samples.specs.Parameters.{IsSample, value_count}
 use Rattle.std.proofs.lemmas.Int.{to_z-of_z}
 use Rattle.rice_code.specs.encode.OpenSegment.{CoderState}
-use Rattle.rice_samples.proofs.lemmas.setting.Levels.{pattern_fits}
+use Rattle.rice_samples.proofs.lemmas.setting.LevelsOfSamples.{pattern_fits}
 use Rattle.rice_samples.proofs.lemmas.setting.ValuesAboveLeast.{sample_at}
 use Rattle.rice_code.proofs.encode.open_segment.OpenSegment.hold.Goals as goal
 

@@ -3,7 +3,7 @@ use Rattle.std.specs.Prelude.{◌==◌}
 use Rattle.rice_samples.specs.Parameters.{Parameters, value_at, values_at}
 use Rattle.rice_samples.specs.predict.Residuals.{pattern}
 use Rattle.rice_code.specs.encode.OpenSegment.{CoderState, is_first, state_after_all, state_with_later}
-use Rattle.rice_code.proofs.lemmas.encode.SeveralHeld.{state_after_all-first}
+use Rattle.rice_code.proofs.lemmas.encode.SeveralSamplesHeld.{state_after_all-first}
 use Rattle.rice_code.proofs.encode.open_segment.OpenSegment.hold_all.Goals as goal
 
 not_none : (n : ℕ) → (n == 0) ≡ false → 0 < n

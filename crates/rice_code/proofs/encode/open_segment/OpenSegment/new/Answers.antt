@@ -1,5 +1,5 @@
 use Rattle.std.proofs.Common.{List, ℕ, ℤ, subst, sym, None, pos}
-use Rattle.rice_samples.proofs.lemmas.setting.Levels.{zero_is_sample}
+use Rattle.rice_samples.proofs.lemmas.setting.LevelsOfSamples.{zero_is_sample}
 use Rattle.rice_code.specs.encode.OpenSegment.{HoldsAnySegment, IsOpen}
 use Rattle.rice_code.proofs.lemmas.encode.OpenSegments.{first_is_open}
 use Rattle.rice_code.proofs.encode.open_segment.OpenSegment.new.Goals as goal

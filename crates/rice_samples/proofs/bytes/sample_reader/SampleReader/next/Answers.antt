@@ -1,7 +1,7 @@
 use Rattle.std.proofs.Common.{take, subst, ℕ}
 use Rattle.std.proofs.lemmas.Result.{err_from_is_err_and}
 use Rattle.rice_samples.specs.Parameters.{values_at}
-use Rattle.rice_samples.specs.bytes.SamplesAhead.{GivesSamples}
+use Rattle.rice_samples.specs.bytes.SampleReader.{GivesSamples}
 use Rattle.rice_samples.proofs.lemmas.bytes.GivenSamples.{gives_after, stops_then}
 use Rattle.rice_samples.proofs.bytes.sample_reader.SampleReader.next.Goals as goal
 

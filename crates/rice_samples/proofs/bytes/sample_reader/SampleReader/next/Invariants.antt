@@ -1,6 +1,6 @@
 use Rattle.std.proofs.Common.{◌≡◌, ◌-◌, ◌≤◌, length, []}
 use Rattle.rice_samples.specs.Parameters.{width}
-use Rattle.rice_samples.specs.bytes.SamplesAhead.{GivesSamples}
+use Rattle.rice_samples.specs.bytes.SampleReader.{GivesSamples}
 use Rattle.rice_samples.proofs.bytes.sample_reader.SampleReader.next.Given as goal
 
 abbrev pub invariant-loop-self : goal.invariant-loop-self

@@ -1,7 +1,7 @@
 use Rattle.std.proofs.Common.{◌≡◌, ◌+◌, ◌-◌, ◌*◌, ◌≤◌, length, take, drop, ap, arith, ◌∙◌, sym, refl, subst, List, ℕ}
 use Rattle.std.proofs.lemmas.List.{drop-drop, length-drop}
 use Rattle.rice_samples.specs.Parameters.{width}
-use Rattle.rice_samples.specs.bytes.SamplesAhead.{SamplesAhead}
+use Rattle.rice_samples.specs.bytes.SampleReader.{SamplesAhead}
 use Rattle.rice_samples.specs.bytes.Spelling.{IsNoSpelling, EndsSpelling, NoSpelling}
 use Rattle.rice_samples.proofs.lemmas.bytes.GivenSamples.{bytes_between, gives_taken}
 use Rattle.rice_samples.proofs.bytes.sample_reader.SampleReader.take.Goals as goal

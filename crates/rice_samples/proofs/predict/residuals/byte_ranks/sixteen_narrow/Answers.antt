@@ -1,6 +1,6 @@
 use Rattle.std.proofs.Common.{arith, ◌∙◌, take}
 use Rattle.std.proofs.lemmas.List.{take_all}
-use Rattle.rice_samples.proofs.lemmas.blocks.LaneLemmas.{map_same}
+use Rattle.rice_samples.proofs.lemmas.blocks.EightsInLanes.{map_same}
 use Rattle.rice_samples.proofs.lemmas.predict.ByteRanks.{bytes_fit}
 use Rattle.rice_samples.proofs.predict.residuals.byte_ranks.sixteen_narrow.Goals as goal
 

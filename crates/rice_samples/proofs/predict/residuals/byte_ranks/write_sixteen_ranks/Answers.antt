@@ -5,9 +5,9 @@ use Rattle.std.proofs.lemmas.Simd.{take_more_put_chunk, length-put_chunk}
 use Rattle.std.proofs.Math.Nat.{pow-le-pow_right}
 use Rattle.rice_samples.specs.Parameters.{value_count}
 use Rattle.rice_samples.specs.predict.Residuals.{rank_below, ranks_below, last_number}
-use Rattle.rice_samples.proofs.lemmas.blocks.LaneLemmas.{map_same}
+use Rattle.rice_samples.proofs.lemmas.blocks.EightsInLanes.{map_same}
 use Rattle.rice_samples.proofs.lemmas.predict.LaneRanks.{each_below, shifted_below, ranked_row, next_row, last_of_row, row_long, length-ranks_below}
-use Rattle.rice_samples.proofs.lemmas.predict.FitsOf16Bits.{each_of_all}
+use Rattle.rice_samples.proofs.lemmas.predict.NumbersThatFit16Bits.{each_of_all}
 use Rattle.rice_samples.proofs.lemmas.predict.RankedLevels.{legal_row}
 use Rattle.rice_samples.proofs.lemmas.predict.RestoredLevels.{ranks_below-append}
 use Rattle.rice_samples.proofs.predict.residuals.byte_ranks.write_sixteen_ranks.Goals as goal

@@ -1,7 +1,7 @@
 use Rattle.std.proofs.Common.{◌+◌, ◌%◌, ◌∙◌, ap, arith, sym}
 use Rattle.std.specs.Simd.Lanes.{zip2}
 use Rattle.std.proofs.lemmas.Simd.{length-zip2}
-use Rattle.rice_samples.proofs.lemmas.predict.JoinedLanes.{bytes-joined}
+use Rattle.rice_samples.proofs.lemmas.predict.JoinedPartsInLanes.{bytes-joined}
 use Rattle.rice_samples.proofs.predict.restoring.byte_lanes.join_parts.Goals as goal
 
 pub returns-clause-len : goal.returns-clause-len

@@ -7,7 +7,7 @@ pub returns : goal.returns
 returns c =
     let a = c.args in
     let values = c.values.ensures in
-    let test = c.if-not-are_zeros.ensures in
+    let test = c.if-not-both_are_zeros.ensures in
     let small = c.excess_over.ensures.value (test.first refl) in
     let count : c.values.result - 1 + 1 ≡ value_count a.setting.now = omega (arith, values.value, values.range) in
     near_levels_are a.setting.now (2 ^ 8) a.before a.width (c.values.result - 1) a.highs a.lows c.join_parts-ranks.result c.near_numbers-levels.result count

@@ -1,6 +1,6 @@
 use Rattle.std.proofs.Common.{◌+◌, ◌-◌, ◌%◌, ◌∙◌, replicate}
 use Rattle.std.proofs.lemmas.Simd.{length-zip2}
-use Rattle.rice_samples.proofs.lemmas.bytes.ByteLanes.{bytes-spelled}
+use Rattle.rice_samples.proofs.lemmas.bytes.LevelsSpelledInByteLanes.{bytes-spelled}
 use Rattle.rice_samples.proofs.predict.restoring.byte_lanes.spelled_bytes.Goals as goal
 
 pub returns-clause-value : goal.returns-clause-value

@@ -1,4 +1,4 @@
-use Rattle.rice_samples.proofs.lemmas.predict.JoinedLanes.{highs-raised}
+use Rattle.rice_samples.proofs.lemmas.predict.JoinedPartsInLanes.{highs-raised}
 use Rattle.rice_samples.proofs.predict.restoring.byte_lanes.times_power_of_two.Goals as goal
 
 pub returns-clause-value : goal.returns-clause-value

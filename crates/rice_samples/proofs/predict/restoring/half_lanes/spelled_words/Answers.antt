@@ -7,7 +7,7 @@ pub returns-then-msb-clause-value : goal.returns-then-msb-clause-value
 returns-then-msb-clause-value c =
     let s = c.args.setting.now in
     let offset = c.offset.ensures in
-    c.in_pairs_swapped.ensures ∙ (ap swapped (words_parted c.offset.result c.args.levels c.requires.len)
+    c.byte_pairs_swapped.ensures ∙ (ap swapped (words_parted c.offset.result c.args.levels c.requires.len)
     ∙ high-spelled s 8 c.offset.result c.args.levels offset.legal.bits_from c.requires.wide c.requires.narrow (sym c.msb.ensures ∙ c.if-msb.true) offset.value c.requires.len c.requires.legal)
 
 pub returns-clause-value : goal.returns-clause-value

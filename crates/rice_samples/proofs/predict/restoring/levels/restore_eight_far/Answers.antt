@@ -1,5 +1,5 @@
 use Rattle.std.proofs.Common.{arith}
-use Rattle.rice_samples.proofs.lemmas.blocks.LaneLemmas.{sum_of_eight}
+use Rattle.rice_samples.proofs.lemmas.blocks.EightsInLanes.{sum_of_eight}
 use Rattle.rice_samples.proofs.predict.restoring.levels.restore_eight_far.Goals as goal
 
 pub restore_with_room_above-requires-clause-low : goal.restore_with_room_above-requires-clause-low

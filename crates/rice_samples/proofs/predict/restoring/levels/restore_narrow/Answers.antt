@@ -1,9 +1,9 @@
 use Rattle.std.proofs.Common.{arith, ◌≡◌, ◌+◌, ◌-◌, ◌^◌, ◌∙◌, ap, take}
 use Rattle.std.proofs.Math.Nat.{pow-le-pow_right}
 use Rattle.rice_samples.specs.Parameters.{value_count}
-use Rattle.rice_samples.specs.predict.Near.{near_numbers}
-use Rattle.rice_samples.proofs.lemmas.blocks.LaneLemmas.{map_same}
-use Rattle.rice_samples.proofs.lemmas.predict.FitsOf16Bits.{lanes_fit}
+use Rattle.rice_samples.specs.predict.NearNumbers.{near_numbers}
+use Rattle.rice_samples.proofs.lemmas.blocks.EightsInLanes.{map_same}
+use Rattle.rice_samples.proofs.lemmas.predict.NumbersThatFit16Bits.{lanes_fit}
 use Rattle.rice_samples.proofs.lemmas.predict.NearEights.{near_restored}
 use Rattle.rice_samples.proofs.predict.restoring.levels.restore_narrow.Goals as goal
 

@@ -1,0 +1,53 @@
+use Rattle.std.proofs.Common.{◌≡◌, ℕ, zero, suc, ◌+◌, ◌-◌, ◌<◌, ◌≤◌, ◌∙◌, List, [], ◌∷◌, ◌++◌, inl, inr, refl, ap, sym, arith, length, drop, take, replicate, length-append, min, set, false}
+use Rattle.std.specs.Prelude.{◌==◌}
+use Rattle.std.specs.List.{slice_index}
+use Rattle.std.proofs.lemmas.Bool.{cases_lt}
+use Rattle.std.proofs.lemmas.List.{append-nil, drop_all, get_or_past, length-drop, length-replicate, take-append-le, take-replicate, take_all}
+use Rattle.rice_bits.proofs.bits.eight_bytes.move_byte_to_front.Goals as goal
+use Rattle.rice_bits.proofs.bits.eight_bytes.move_byte_to_front.Goals.{then-at-bytes, else-at-bytes}
+
+-- zeros, of which the first becomes a byte
+zeros_behind : (bytes zeros : List ℕ) (some count k : ℕ) → some ≡ suc count → some ≤ length bytes → zeros ≡ replicate some 0 ++ drop some bytes
+    → set zeros 0 k ≡ take (length bytes) (k ∷ replicate count 0 ++ drop (count + 1) bytes)
+zeros_behind bytes zeros some count k more most e =
+    let next : count + 1 ≡ suc count = omega arith in
+    let size : length (k ∷ replicate count 0 ++ drop (suc count) bytes) ≤ length bytes =
+    omega (arith, length-append (replicate count 0) (drop (suc count) bytes), length-replicate {A = ℕ} count 0, length-drop (suc count) bytes) in
+    rw (e, more, next) (sym (take_all (length bytes) _ size))
+
+-- the same where all are zeros
+zeros_alone : (bytes zeros : List ℕ) (at size : ℕ) → size ≡ length bytes → 0 < size → size ≤ at → zeros ≡ replicate size 0 ++ drop size bytes
+    → set zeros 0 0 ≡ take size (0 ∷ replicate at 0 ++ drop (at + 1) bytes)
+zeros_alone bytes zeros at zero same some past e = absurd (omega arith)
+zeros_alone bytes zeros at (suc n) same some past e =
+    let behind : drop (suc n) bytes ≡ [] = drop_all (suc n) bytes (omega (arith, same)) in
+    let long : n ≤ length (replicate {A = ℕ} at 0) = omega (arith, length-replicate {A = ℕ} at 0) in
+    rw (e, behind, append-nil {A = ℕ} (replicate n 0), take-append-le n (replicate {A = ℕ} at 0) (drop (at + 1) bytes) long, take-replicate {X = ℕ} n at 0 (omega arith)) refl
+
+front_kept : (bytes zeros : List ℕ) (at some k : ℕ) → 0 < length bytes → min (at + 1) (length bytes) ≤ some → some ≤ length bytes
+    → zeros ≡ replicate some 0 ++ drop some bytes → k ≡ slice_index bytes at
+    → (count : ℕ) × (at ≤ count) × (set zeros 0 k ≡ take (length bytes) (slice_index bytes at ∷ replicate count 0 ++ drop (count + 1) bytes))
+front_kept bytes zeros at some k full least most e byte = elim (cases_lt at (length bytes)) [
+  | inl i ↦ (some - 1, omega (arith, least), rw (← byte) (zeros_behind bytes zeros some (some - 1) k (omega (arith, least)) most e))
+  | inr i ↦
+      let none : slice_index bytes at ≡ 0 = get_or_past bytes at 0 i in
+      let all : some ≡ length bytes = omega (arith, least, most) in
+      (at, omega arith, rw (byte, none) (zeros_alone bytes zeros at (length bytes) refl full i (e ∙ ap (λ n. replicate n 0 ++ drop n bytes) all)))
+]
+
+not_none : (n : ℕ) → (n == 0) ≡ false → 0 < n
+not_none zero e = absurd cc
+not_none (suc n) e = omega arith
+
+-- the byte that is kept
+byte_kept : (c : goal.Then-not-is_empty) → c.if-at-bytes.kept ≡ slice_index c.args.bytes.now c.args.at
+byte_kept c = elim c.if-at-bytes.branch [
+  | then-at-bytes w ↦ w.kept-is
+  | else-at-bytes w ↦ w.kept-is ∙ sym (get_or_past c.args.bytes.now c.args.at 0 (omega (arith, w.if-at-bytes)))
+]
+
+pub returns-then-not-is_empty : goal.returns-then-not-is_empty
+returns-then-not-is_empty c =
+    let some = c.store_front_zeros.ensures in
+    front_kept c.args.bytes.now c.store_front_zeros.new.bytes c.args.at some.0 c.if-at-bytes.kept
+    (omega (arith, not_none _ (sym c.is_empty.ensures ∙ c.if-not-is_empty.true))) some.1 some.2 some.3 (byte_kept c)

@@ -1,9 +1,0 @@
-use Rattle.std.proofs.Common.{◌-◌, ◌*◌, arith}
-use Rattle.rice_bits.proofs.lemmas.lanes.LaneEnds.{byte-joined}
-use Rattle.rice_bits.proofs.lanes.ends.with_byte.Goals as goal
-
-pub returns : goal.returns
-returns c =
-    byte-joined c.args.front c.args.place c.byte_at.result c.args.before c.ends_at-more.result c.moved.result (8 * c.args.place - c.zeros_in.result)
-    c.requires.place.1 c.requires.before c.byte_at.ensures c.ends_at-more.ensures
-    (omega (arith, c.zeros_in.ensures.value)) c.moved.ensures

@@ -1,7 +1,0 @@
-use Rattle.std.proofs.Common.{◌∙◌}
-use Rattle.rice_bits.specs.Bits.{bits_of}
-use Rattle.rice_bits.proofs.lanes.wide_words.four_whole_from.Goals as goal
-
-pub returns-clause-bits : goal.returns-clause-bits
-unfolding bits_of
-returns-clause-bits c = c.four_numbers.ensures.bits ∙ c.sixteen_from.ensures.bits

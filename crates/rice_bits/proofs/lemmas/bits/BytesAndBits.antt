@@ -1,0 +1,112 @@
+-- Bytes and their bits.
+use Rattle.std.proofs.Common.{◌≡◌, ℕ, zero, suc, ◌+◌, ◌*◌, ◌<◌, Bool, false, List, [], ◌∷◌, ◌++◌, length, drop, take, replicate, refl, sym, ◌∙◌, ap, inl, inr, arith, append_assoc, length-append, get_or}
+use Rattle.std.specs.Prelude.{All}
+use Rattle.std.proofs.Math.Seq.{take-length}
+use Rattle.std.proofs.lemmas.List.{length-replicate, get_or_past, replicate-append-replicate, drop_at}
+use Rattle.std.proofs.lemmas.Bool.{cases_lt}
+use Rattle.std.proofs.lemmas.List.Elements.{All-get_or}
+use Rattle.rice_bits.specs.Bits.{bits_in_bytes, bits_to_byte, padded_bits, word, bits_of, whole_bytes}
+use Rattle.rice_bits.proofs.lemmas.bits.WordsAndNumbers.{length-word, word-zero, number_of-word, word-number_of}
+
+pub bits_of-nil : bits_of [] ≡ []
+unfolding bits_of
+bits_of-nil = refl
+
+pub bits_of-first : (b : ℕ) (bytes : List ℕ) → bits_of (b ∷ bytes) ≡ word 8 b ++ bits_of bytes
+unfolding bits_of
+bits_of-first b bytes = refl
+
+pub bits_of-append : (xs ys : List ℕ) → bits_of (xs ++ ys) ≡ bits_of xs ++ bits_of ys
+unfolding bits_of
+bits_of-append [] ys = refl
+bits_of-append (x ∷ xs) ys = rw (bits_of-append xs ys) (sym (append_assoc (word 8 x) _ _))
+
+pub length-bits_of : (xs : List ℕ) → length (bits_of xs) ≡ 8 * length xs
+unfolding bits_of
+length-bits_of [] = refl
+length-bits_of (x ∷ xs) = omega (arith, length-append (word 8 x) (bits_of xs), length-word 8 x, length-bits_of xs)
+
+pub bits_of-zeros : (n : ℕ) → bits_of (replicate n 0) ≡ replicate (8 * n) false
+unfolding bits_of
+bits_of-zeros zero = refl
+bits_of-zeros (suc n) =
+    let e : 8 + 8 * n ≡ 8 * suc n = omega arith in
+    rw (word-zero 8, bits_of-zeros n, ← e) (replicate-append-replicate 8 (8 * n) false)
+
+-- the first byte of bits is that of their first word
+whole_word : (b : ℕ) (rest : List Bool) → b < 256 → whole_bytes (word 8 b ++ rest) ≡ b ∷ whole_bytes rest
+unfolding whole_bytes word
+whole_word b rest h = ap (λ n. n ∷ whole_bytes rest) (unfold word in number_of-word 8 b h)
+
+pub whole_short : (rest : List Bool) → length rest < 8 → whole_bytes rest ≡ []
+unfolding whole_bytes
+whole_short [] h = refl
+whole_short (a ∷ []) h = refl
+whole_short (a ∷ b ∷ []) h = refl
+whole_short (a ∷ b ∷ c ∷ []) h = refl
+whole_short (a ∷ b ∷ c ∷ d ∷ []) h = refl
+whole_short (a ∷ b ∷ c ∷ d ∷ e ∷ []) h = refl
+whole_short (a ∷ b ∷ c ∷ d ∷ e ∷ f ∷ []) h = refl
+whole_short (a ∷ b ∷ c ∷ d ∷ e ∷ f ∷ g ∷ []) h = refl
+whole_short (a ∷ b ∷ c ∷ d ∷ e ∷ f ∷ g ∷ i ∷ rest) h = absurd (omega arith)
+
+-- the whole bytes of the bits of bytes, and fewer than eight bits after them, are these bytes
+pub whole-bits : (bytes : List ℕ) (rest : List Bool) → ((i : ℕ) → get_or bytes i 0 < 256) → length rest < 8
+    → whole_bytes (bits_of bytes ++ rest) ≡ bytes
+unfolding bits_of
+whole-bits [] rest f h = whole_short rest h
+whole-bits (b ∷ bytes) rest f h =
+    rw (append_assoc (word 8 b) (bits_of bytes) rest, whole_word b (bits_of bytes ++ rest) (f 0), whole-bits bytes rest (λ i. f (suc i)) h) refl
+
+-- the bits that are no whole byte
+pub rest-bits : (bytes : List ℕ) (rest : List Bool) → length rest < 8
+    → drop (bits_in_bytes (length (bits_of bytes ++ rest))) (bits_of bytes ++ rest) ≡ rest
+rest-bits bytes rest h =
+    let n : length (bits_of bytes ++ rest) ≡ 8 * length bytes + length rest = omega (arith, length-append (bits_of bytes) rest, length-bits_of bytes) in
+    let e : bits_in_bytes (length (bits_of bytes ++ rest)) ≡ length (bits_of bytes) = omega (arith, n, length-bits_of bytes) in
+    rw e (drop_at (bits_of bytes) rest (length (bits_of bytes)) refl)
+
+-- each number in the list is a byte, and so is the 0 past its end
+pub each_byte : (bytes : List ℕ) → All (λ b. b < 256) bytes → (i : ℕ) → get_or bytes i 0 < 256
+each_byte bytes f i = elim (cases_lt i (length bytes)) [
+  | inl h ↦ All-get_or (λ b. b < 256) bytes i 0 h f
+  | inr h ↦ rw (get_or_past bytes i 0 h) (omega arith)
+]
+
+-- eight bits more make one byte more
+next_byte : (n : ℕ) → bits_in_bytes (suc (suc (suc (suc (suc (suc (suc (suc n)))))))) ≡ suc (suc (suc (suc (suc (suc (suc (suc (bits_in_bytes n))))))))
+next_byte n = omega arith
+
+-- bits of whole bytes are their front, eight bits at a time
+byte_again : (a b c d e f g h : Bool) (bits : List Bool) → bits_of (whole_bytes bits) ≡ take (bits_in_bytes (length bits)) bits
+    → bits_of (whole_bytes (a ∷ b ∷ c ∷ d ∷ e ∷ f ∷ g ∷ h ∷ bits)) ≡ a ∷ b ∷ c ∷ d ∷ e ∷ f ∷ g ∷ h ∷ take (bits_in_bytes (length bits)) bits
+unfolding bits_of whole_bytes
+byte_again a b c d e f g h bits rest = (let first = word-number_of (a ∷ b ∷ c ∷ d ∷ e ∷ f ∷ g ∷ h ∷ []) in λ i. first i ++ rest i)
+
+-- fewer than eight bits have no whole byte
+short_bytes : (bits : List Bool) → length bits < 8 → bits_of (whole_bytes bits) ≡ take (bits_in_bytes (length bits)) bits
+short_bytes bits h =
+    let none : bits_in_bytes (length bits) ≡ 0 = omega arith in
+    ap bits_of (whole_short bits h) ∙ (bits_of-nil ∙ ap (λ n. take n bits) (sym none))
+
+-- the whole bytes have the bits that they were made of
+pub bits_of-whole_bytes : (bits : List Bool) → bits_of (whole_bytes bits) ≡ take (bits_in_bytes (length bits)) bits
+bits_of-whole_bytes (a ∷ b ∷ c ∷ d ∷ e ∷ f ∷ g ∷ h ∷ bits) =
+    byte_again a b c d e f g h bits (bits_of-whole_bytes bits)
+    ∙ ap (λ n. take n (a ∷ b ∷ c ∷ d ∷ e ∷ f ∷ g ∷ h ∷ bits)) (sym (next_byte (length bits)))
+bits_of-whole_bytes [] = short_bytes [] (omega arith)
+bits_of-whole_bytes (a ∷ []) = short_bytes (a ∷ []) (omega arith)
+bits_of-whole_bytes (a ∷ b ∷ []) = short_bytes (a ∷ b ∷ []) (omega arith)
+bits_of-whole_bytes (a ∷ b ∷ c ∷ []) = short_bytes (a ∷ b ∷ c ∷ []) (omega arith)
+bits_of-whole_bytes (a ∷ b ∷ c ∷ d ∷ []) = short_bytes (a ∷ b ∷ c ∷ d ∷ []) (omega arith)
+bits_of-whole_bytes (a ∷ b ∷ c ∷ d ∷ e ∷ []) = short_bytes (a ∷ b ∷ c ∷ d ∷ e ∷ []) (omega arith)
+bits_of-whole_bytes (a ∷ b ∷ c ∷ d ∷ e ∷ f ∷ []) = short_bytes (a ∷ b ∷ c ∷ d ∷ e ∷ f ∷ []) (omega arith)
+bits_of-whole_bytes (a ∷ b ∷ c ∷ d ∷ e ∷ f ∷ g ∷ []) = short_bytes (a ∷ b ∷ c ∷ d ∷ e ∷ f ∷ g ∷ []) (omega arith)
+
+-- padded bits are whole bytes
+pub bits_of-padded : (bits : List Bool) → bits_of (whole_bytes (padded_bits bits)) ≡ padded_bits bits
+bits_of-padded bits =
+    let n : length (padded_bits bits) ≡ length bits + bits_to_byte (length bits) = length-append bits (replicate (bits_to_byte (length bits)) false)
+    ∙ ap (λ n. length bits + n) (length-replicate (bits_to_byte (length bits)) false) in
+    let whole : bits_in_bytes (length (padded_bits bits)) ≡ length (padded_bits bits) = omega arith in
+    bits_of-whole_bytes (padded_bits bits) ∙ (ap (λ n. take n (padded_bits bits)) whole ∙ take-length (padded_bits bits))

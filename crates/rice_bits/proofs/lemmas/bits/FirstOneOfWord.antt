@@ -1,0 +1,53 @@
+-- The first bits of a word, and its first 1.
+use Rattle.std.proofs.Common.{◌≡◌, ℕ, zero, suc, ◌+◌, ◌-◌, ◌*◌, ◌/◌, ◌%◌, ◌^◌, ◌<◌, ◌≤◌, false, ◌++◌, take, replicate, sym, ◌∙◌, ap, subst, arith}
+use Rattle.std.proofs.Math.Nat.{pow-suc}
+use Rattle.std.proofs.Math.Seq.{take-append_seam}
+use lib.Count.{count_leading_zeros, leading_of_zero}
+use Rattle.std.proofs.lemmas.Nat.{div-mul-add, leading_top, pow_pos, shr_below}
+use Rattle.rice_bits.specs.Bits.{word, fundamental_sequence}
+use Rattle.rice_bits.proofs.lemmas.bits.EightBytes.{word-mod}
+use Rattle.rice_bits.proofs.lemmas.bits.WordsAndNumbers.{length-word, word-cat, word-fs, word-split, word-zero}
+
+-- the first digits of a number are a number of so many digits
+pub front_below : (w n v : ℕ) → n ≤ w → v < 2 ^ w → v / 2 ^ (w - n) < 2 ^ n
+front_below w n v h p =
+    let e : n + (w - n) ≡ w = omega arith in
+    shr_below v n (w - n) (subst (λ k. v < 2 ^ k) (sym e) p)
+
+-- what stands before the digits after the first 1 is that 1
+pub one_high : (v : ℕ) → 0 < v → v < 2 ^ 64 → 1 ≡ v / 2 ^ (63 - count_leading_zeros 64 v)
+one_high v p h =
+    let t = leading_top 64 v p h in
+    let j : 63 - count_leading_zeros 64 v ≡ t.0 = omega (arith, t.1) in
+    let below : v - 2 ^ t.0 < 2 ^ t.0 = omega (arith, t.2, t.3, pow-suc 2 t.0) in
+    let whole : 1 * 2 ^ t.0 + (v - 2 ^ t.0) ≡ v = omega (arith, t.2) in
+    sym (ap (λ k. v / 2 ^ k) j ∙ (ap (λ n. n / 2 ^ t.0) (sym whole) ∙ div-mul-add 1 (2 ^ t.0) (v - 2 ^ t.0) below))
+
+-- a number is its first digits and the others
+pub word-parts : (size n m : ℕ) → n ≤ size → word size m ≡ word n (m / 2 ^ (size - n)) ++ word (size - n) m
+word-parts size n m h =
+    let e : n + (size - n) ≡ size = omega arith in
+    ap (λ k. word k m) (sym e) ∙ (word-split n (size - n) m ∙ ap (λ v. word n (m / 2 ^ (size - n)) ++ v) (word-mod (size - n) (size - n) m (omega arith)))
+
+-- the others stand at the front when the first are moved out
+pub word-moved : (size n m : ℕ) → n ≤ size → word size (m * 2 ^ n % 2 ^ size) ≡ word (size - n) m ++ replicate n false
+word-moved size n m h =
+    let e : (size - n) + n ≡ size = omega arith in
+    let plain : m * 2 ^ n + 0 ≡ m * 2 ^ n = omega arith in
+    word-mod size size (m * 2 ^ n) (omega arith)
+    ∙ (ap (λ k. word k (m * 2 ^ n)) (sym e) ∙ (ap (word (size - n + n)) (sym plain)
+    ∙ (word-cat (size - n) n m 0 (pow_pos n) ∙ ap (λ v. word (size - n) m ++ v) (word-zero n))))
+
+pub take-front : (size n m : ℕ) → n ≤ size → take n (word size m) ≡ word n (m / 2 ^ (size - n))
+take-front size n m h =
+    let front = word n (m / 2 ^ (size - n)) in
+    ap (take n) (word-parts size n m h) ∙ (ap (λ k. take k (front ++ word (size - n) m)) (sym (length-word n (m / 2 ^ (size - n)))) ∙ take-append_seam front (word (size - n) m))
+
+-- the digits up to and with the first 1
+pub first_run : (m : ℕ) → count_leading_zeros 64 m < 64 → m < 2 ^ 64
+    → word (count_leading_zeros 64 m + 1) (m / 2 ^ (64 - (count_leading_zeros 64 m + 1))) ≡ fundamental_sequence (count_leading_zeros 64 m)
+first_run zero short fits = absurd (omega (arith, short, leading_of_zero 64))
+first_run (suc m) short fits =
+    let z = count_leading_zeros 64 (suc m) in
+    let e : 64 - (z + 1) ≡ 63 - z = omega arith in
+    ap (λ k. word (z + 1) (suc m / 2 ^ k)) e ∙ (ap (word (z + 1)) (sym (one_high (suc m) (omega arith) fits)) ∙ word-fs z)

@@ -1,0 +1,88 @@
+-- Bytes that are drawn from an intake, and the bits taken of them.
+use Rattle.std.proofs.Common.{◌+◌, ◌-◌, ◌*◌, inl, inr, ◌≡◌, ℕ, ◌<◌, ◌≤◌, length-append, Bool, List, [], ◌∷◌, ◌++◌, length, take, get_or, refl, sym, ◌∙◌, ap, arith, append_assoc, Option, Some, None}
+use Rattle.std.specs.Io.KnownBytes.{Consumes, Keeps}
+use Rattle.std.proofs.lemmas.List.{append-nil}
+use Rattle.rice_bits.specs.Limits.{most_at_once}
+use Rattle.rice_bits.specs.Bits.{bits_of}
+use Rattle.std.proofs.lemmas.Bool.{cases_lt}
+use Rattle.rice_bits.specs.read.Reader.{Draws, Supplies}
+use Rattle.rice_bits.proofs.lemmas.bits.BytesAndBits.{bits_of-nil, bits_of-append, length-bits_of}
+
+-- nothing is drawn where the known bytes stay
+pub consumes-none : (old new : Option (List ℕ)) → Keeps old new → Consumes old new []
+consumes-none None new h = h
+consumes-none (Some xs) None h = h
+consumes-none (Some xs) (Some ys) h = sym h
+
+pub consumes-nil : (a : Option (List ℕ)) → Consumes a a []
+consumes-nil None = tt
+consumes-nil (Some xs) = refl
+
+-- one part is drawn after another
+pub consumes-append : (a b c : Option (List ℕ)) (xs ys : List ℕ) → Consumes a b xs → Consumes b c ys → Consumes a c (xs ++ ys)
+consumes-append None b c xs ys p q = tt
+consumes-append (Some u) None c xs ys p q = absurd p
+consumes-append (Some u) (Some v) None xs ys p q = absurd q
+consumes-append (Some u) (Some v) (Some w) xs ys p q = p ∙ ap (λ z. xs ++ z) q ∙ sym (append_assoc xs ys w)
+
+-- what is needed for the bits of the second part alone is needed for both
+needed-append : (old mid a b ab xs ys xys : ℕ) → ab ≡ a + b → xys ≡ xs + ys → old + 8 * a ≡ xs + mid
+    → (0 < a → old + 8 * (a - most_at_once) < xs) → (0 < b → mid + 8 * (b - most_at_once) < ys) → 0 < ab → old + 8 * (ab - most_at_once) < xys
+needed-append old mid a b ab xs ys xys e f n p q some = elim (cases_lt 0 b) [
+  | inl more ↦ (let second = q more in omega (arith, second, e, f, n))
+  | inr none ↦ (let first = p (omega (arith, e, some, none)) in omega (arith, first, e, f, none))
+]
+
+pub draws-append : (a b c : Option (List ℕ)) (old mid new xs ys : List Bool) → Draws a b old mid xs → Draws b c mid new ys → Draws a c old new (xs ++ ys)
+draws-append a b c old mid new xs ys p q =
+    let lengths : length old + 8 * length p.given ≡ length xs + length mid =
+    omega (arith, ap length p.split, length-append old (bits_of p.given), length-append xs mid, length-bits_of p.given) in
+    record {
+      given = p.given ++ q.given;
+      consumed = consumes-append a b c p.given q.given p.consumed q.consumed;
+      needed = λ some. needed-append _ _ _ _ _ _ _ _ (length-append p.given q.given) (length-append xs ys) lengths p.needed q.needed some;
+      split =
+          rw (
+            bits_of-append p.given q.given,
+            ← append_assoc old (bits_of p.given) (bits_of q.given),
+            p.split,
+            append_assoc xs mid (bits_of q.given),
+            q.split,
+          ) (sym (append_assoc xs ys new));
+    }
+
+pub take-one : (xs : List ℕ) (n : ℕ) → n ≡ 1 → n ≤ length xs → take n xs ≡ get_or xs 0 0 ∷ []
+take-one [] n e h = absurd (omega arith)
+take-one (x ∷ xs) n e h = rw e refl
+
+-- nothing is supplied
+pub supplies-none : (a : Option (List ℕ)) (old : List Bool) → Supplies a a old old
+supplies-none a old = record {
+  given = [];
+  consumed = consumes-nil a;
+  split = rw bits_of-nil (append-nil old);
+  at_once = omega arith;
+  needed = λ some. absurd (omega arith);
+}
+
+-- bits are taken of those that wait, and nothing is drawn
+pub draws-waiting : (a : Option (List ℕ)) (old new xs : List Bool) → old ≡ xs ++ new → Draws a a old new xs
+draws-waiting a old new xs e = record {
+  given = [];
+  consumed = consumes-nil a;
+  split = rw bits_of-nil (append-nil old ∙ e);
+  needed = λ some. absurd (omega arith);
+}
+
+-- at least one bit is taken of those that wait after a supply
+pub draws-supplied : (a b : Option (List ℕ)) (old mid new xs : List Bool) → 0 < length xs → Supplies a b old mid → mid ≡ xs ++ new → Draws a b old new xs
+draws-supplied a b old mid new xs taken s e = record {
+  given = s.given;
+  consumed = s.consumed;
+  split = s.split ∙ e;
+  needed = λ some. omega (arith, s.at_once, ap length (s.needed some));
+}
+
+-- nothing is drawn where nothing waits
+pub draws_nothing : (a : Option (List ℕ)) (old : List Bool) → old ≡ [] → Draws a a old [] []
+draws_nothing a old e = draws-waiting a old [] [] e

@@ -1,5 +1,0 @@
-use Rattle.rice_bits.proofs.lemmas.read.WindowLemmas.{near-ahead}
-use Rattle.rice_bits.proofs.read.window.Window.ahead.Goals as goal
-
-pub returns : goal.returns
-returns c = near-ahead c.args.self.now c.bits_from.result c.requires c.bits_from.ensures

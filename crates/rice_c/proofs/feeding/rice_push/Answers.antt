@@ -1,0 +1,16 @@
+use Rattle.std.proofs.Common.{◌≢◌, ◌∙◌, ◌/◌, ◌≤◌, length, sym, subst, IfOk, Result, List, ℤ}
+use Rattle.rice_samples.specs.Parameters.{Parameters, width}
+use Rattle.rice_samples.specs.declared.setting.SettingFault.{SettingFault}
+use Rattle.rice_stream.specs.Feeding.{IsSeam}
+use Rattle.rice_c.specs.Rooms.{push_room}
+use Rattle.rice_c.proofs.lemmas.FedRoom.{push_room_suffices}
+use Rattle.rice_c.proofs.feeding.rice_push.Goals as goal
+
+pub returns-in-Ok-clause-room : goal.returns-in-Ok-clause-room
+returns-in-Ok-clause-room c =
+    let same = sym c.in-Ok.is ∙ c.legal.ensures.answer in
+    let stands = subst (λ (r : Result Parameters SettingFault). IfOk r (λ s. (xs : List ℤ) × IsSeam s c.args.feed.now.seam xs)) (sym same) c.requires in
+    let room = (push_room_suffices c.in-Ok.setting c.in-Ok.ensures.legal stands.0 c.args.samples.now c.args.code.now c.push_into.new.code c.push_into.new.report c.push_into.result).0 in
+    subst (λ (r : Result Parameters SettingFault). IfOk r
+    (λ s. push_room s c.args.feed.now.seam.waiting_bits (length c.args.samples.now / width s) ≤ length c.args.code.now → c.push_into.result ≢ 9)) same
+    (room c.args.feed.now c.push_into.new.feed stands.1 (c.push_into.ensures stands.0 stands.1))

@@ -1,0 +1,110 @@
+-- What a coder holds when it takes several samples.
+use Rattle.std.proofs.Common.{◌≡◌, ℕ, suc, ◌+◌, ◌*◌, ◌≤◌, ◌==◌, Bool, true, false, cond, ◌&&◌, List, [], ◌∷◌, ◌++◌, length, map, All, refl, ap, arith, sym, ◌∙◌, append_assoc, append-nil, length-append, Some, ℤ}
+use Rattle.std.proofs.Math.Bool.{and-false}
+use Rattle.std.proofs.lemmas.List.Elements.{recursion_from_All}
+use Rattle.rice_samples.specs.Parameters.{Parameters, IsSample, level, value_count}
+use Rattle.rice_samples.specs.Places.{blocks_left}
+use Rattle.rice_samples.specs.predict.Residuals.{pattern, rank, ranks, last_of}
+use Rattle.rice_code.specs.encode.OpenSegment.{CoderState, IsOpen, is_empty, is_first, next_residual, next_residuals, next_references, later_residuals, state_after, state_after_all, state_with_later}
+use Rattle.rice_code.proofs.lemmas.code.FilledBlocks.{same_rank}
+use Rattle.rice_code.proofs.lemmas.code.SoundBlocks.{last_legal}
+
+-- samples after others, with preprocessing and without
+pub later_ranks : (s : Parameters) (p : ℤ) (xs : List ℤ) → s.preprocess ≡ true → later_residuals s p xs ≡ ranks s p xs
+later_ranks s p [] e = refl
+later_ranks s p (x ∷ xs) e = let rest = later_ranks s x xs e in λ i. cond (e i) (rank s p x) (pattern s x) ∷ rest i
+
+pub later_patterns : (s : Parameters) (p : ℤ) (xs : List ℤ) → s.preprocess ≡ false → later_residuals s p xs ≡ map (pattern s) xs
+later_patterns s p [] e = refl
+later_patterns s p (x ∷ xs) e = let rest = later_patterns s x xs e in λ i. cond (e i) (rank s p x) (pattern s x) ∷ rest i
+
+pub length-later : (s : Parameters) (p : ℤ) (xs : List ℤ) → length (later_residuals s p xs) ≡ length xs
+length-later s p [] = refl
+length-later s p (x ∷ xs) = ap (λ n. suc n) (length-later s x xs)
+
+length-next : (coder : CoderState) (xs : List ℤ) → length (next_residuals coder xs) ≡ length xs
+length-next coder [] = refl
+length-next coder (x ∷ xs) = ap (λ n. suc n) (length-later coder.setting x xs)
+
+pub length-state_after_all : (coder : CoderState) (xs : List ℤ) → length (state_after_all coder xs).residuals ≡ length coder.residuals + length xs
+length-state_after_all coder xs = length-append coder.residuals (next_residuals coder xs) ∙ ap (λ n. length coder.residuals + n) (length-next coder xs)
+
+-- where the next sample is no reference sample
+next_later : (coder : CoderState) (xs : List ℤ) → (coder.setting.preprocess && is_first coder) ≡ false → next_residuals coder xs ≡ later_residuals coder.setting coder.previous xs
+next_later coder [] e = refl
+next_later coder (x ∷ xs) e = ap (λ d. d ∷ later_residuals coder.setting x xs) (by_way coder.setting.preprocess (is_first coder) e)
+  where
+    by_way : (a b : Bool) → (a && b) ≡ false → cond a (cond b 0 (rank coder.setting coder.previous x)) (pattern coder.setting x) ≡ cond a
+        (rank coder.setting coder.previous x) (pattern coder.setting x)
+    by_way false b e = refl
+    by_way true false e = refl
+    by_way true true e = absurd (let f : true ≡ false = e in cc)
+
+next_none : (coder : CoderState) (xs : List ℤ) → (coder.setting.preprocess && is_first coder) ≡ false → next_references coder xs ≡ coder.reference
+next_none coder [] e = refl
+next_none coder (x ∷ xs) e = ap (λ v. cond v (Some (pattern coder.setting x)) coder.reference) e
+
+-- no sample,
+pub state_after_all-none : (coder : CoderState) (xs : List ℤ) → length xs ≡ 0 → state_after_all coder xs ≡ coder
+state_after_all-none coder [] e = λ i. record { setting = coder.setting; residuals = append-nil coder.residuals i; reference = coder.reference; previous = coder.previous; start = coder.start }
+state_after_all-none coder (x ∷ xs) e = absurd (omega arith)
+
+pub not_first : (coder : CoderState) (x : ℤ) → (coder.setting.preprocess && is_first (state_after coder x)) ≡ false
+not_first coder x = ap (λ v. coder.setting.preprocess && (v && coder.start == 0)) (some coder.residuals (next_residual coder x)) ∙ and-false coder.setting.preprocess
+  where
+    some : (ds : List ℕ) (d : ℕ) → is_empty (ds ++ d ∷ []) ≡ false
+    some [] d = refl
+    some (e ∷ ds) d = refl
+
+-- one first,
+pub state_after_all-cons : (coder : CoderState) (x : ℤ) (xs : List ℤ) → state_after_all (state_after coder x) xs ≡ state_after_all coder (x ∷ xs)
+state_after_all-cons coder x xs =
+    let d = next_residual coder x in
+    let ds = append_assoc coder.residuals (d ∷ []) (next_residuals (state_after coder x) xs) ∙ ap (λ v. coder.residuals ++ d ∷ v) (next_later (state_after coder x) xs (not_first coder x)) in
+    let r = next_none (state_after coder x) xs (not_first coder x) in
+    λ i. record { setting = coder.setting; residuals = ds i; reference = r i; previous = last_of x xs; start = coder.start }
+
+-- and one last
+pub state_after_all-snoc : (coder : CoderState) (xs : List ℤ) (x : ℤ) → state_after_all coder (xs ++ x ∷ []) ≡ state_after (state_after_all coder xs) x
+state_after_all-snoc coder [] x = sym (ap (λ v. state_after v x) (state_after_all-none coder [] refl))
+state_after_all-snoc coder (y ∷ ys) x = sym (state_after_all-cons coder y (ys ++ x ∷ []))
+    ∙ (state_after_all-snoc (state_after coder y) ys x ∙ ap (λ v. state_after v x) (state_after_all-cons coder y ys))
+
+-- the segment stays open
+pub open_later : (coder : CoderState) (end : ℕ) (p : ℤ) (ds : List ℕ) (xs : List ℤ) → IsOpen coder end → IsSample coder.setting p
+    → ds ≡ coder.residuals ++ later_residuals coder.setting p xs → All (IsSample coder.setting) xs →
+    length coder.residuals + length xs ≤ coder.setting.block * blocks_left coder.setting coder.start →
+    IsOpen (record { setting = coder.setting; residuals = ds; reference = coder.reference; previous = last_of p xs; start = coder.start }) end
+open_later coder end p ds xs h sample e legal room = record {
+  legal = h.legal;
+  place = h.place;
+  begins = h.begins;
+  few = let l = ap length e ∙ length-append coder.residuals (later_residuals coder.setting p xs) in let m = length-later coder.setting p xs in omega (arith, l, m, room);
+  previous = last_legal coder.setting p xs sample (recursion_from_All (IsSample coder.setting) xs legal);
+  reference = h.reference;
+  ends = h.ends;
+}
+
+-- After a reference the samples are held as after that sample itself.
+pub state_after_all-first : (coder : CoderState) (x : ℤ) (xs : List ℤ) → (coder.setting.preprocess && is_first coder) ≡ true →
+    state_with_later (record {
+      setting = coder.setting;
+      residuals = coder.residuals;
+      reference = Some (pattern coder.setting x);
+      previous = coder.previous;
+      start = coder.start;
+    }) x (x ∷ xs) ≡ state_after_all coder (x ∷ xs)
+state_after_all-first coder x xs e =
+    let d = by_way coder.setting.preprocess (is_first coder) e in
+    λ i. record {
+      setting = coder.setting;
+      residuals = coder.residuals ++ d i ∷ later_residuals coder.setting x xs;
+      reference = cond (sym e i) (Some (pattern coder.setting x)) coder.reference;
+      previous = last_of x xs;
+      start = coder.start;
+    }
+  where
+    by_way : (a b : Bool) → (a && b) ≡ true → cond a (rank coder.setting x x) (pattern coder.setting x) ≡ cond a (cond b 0 (rank coder.setting coder.previous x)) (pattern coder.setting x)
+    by_way false b e = absurd (let f : false ≡ true = e in cc)
+    by_way true false e = absurd (let f : false ≡ true = e in cc)
+    by_way true true e = same_rank (value_count coder.setting) (level coder.setting x)

@@ -1,0 +1,235 @@
+-- Intervals stand alone: their code begins afresh, ends with a byte where intervals are padded, and is decoded by itself.
+use Rattle.std.proofs.Common.{◌≡◌, ℕ, zero, suc, ◌+◌, ◌-◌, ◌*◌, ◌/◌, ◌%◌, ◌<◌, ◌≤◌, ◌==◌, min, Bool, true, false, cond, ◌&&◌, List, [], ◌∷◌, ◌++◌, length, take, drop, replicate, refl, ap, arith, sym, ◌∙◌, inl, inr, subst, append_assoc, append-nil, length-append, Some, None, ℤ, pos}
+use Rattle.std.specs.Int.{div_ceil}
+use Rattle.std.proofs.lemmas.List.{length-replicate, drop_at}
+use Rattle.std.proofs.lemmas.List.Elements.{recursion_from_All}
+use Rattle.std.proofs.Math.Nat.{mul-div_cancel_left, mul-le-mul_left, mul-mod_right, mod-eq_of_lt}
+use Rattle.std.proofs.Math.Seq.{take-length}
+use Rattle.rice_bits.specs.Bits.{bits_of, bits_to_byte, padded_bits, whole_bytes}
+use Rattle.rice_bits.proofs.lemmas.bits.BytesAndBits.{bits_of-append, bits_of-padded}
+use Rattle.rice_samples.specs.Parameters.{Parameters, IsLegal, IsSample}
+use Rattle.rice_samples.specs.Places.{place, is_padded, is_reference, is_reference_sample, block_count}
+use Rattle.rice_samples.specs.predict.Residuals.{rank, pattern, residual, residuals, last_of, filled_samples}
+use Rattle.rice_samples.proofs.lemmas.setting.LevelsOfSamples.{zero_is_sample}
+use Rattle.rice_code.specs.Laws.{AreIntervals, IntervalsBeginAfresh, IntervalsAreJoined, PaddedIntervalsAreJoined, IntervalsAreDecodedAlone, DamageStaysInItsInterval}
+use Rattle.rice_code.specs.code.Blocks.{block_data, blocks_from, blocks_of, zero_block}
+use Rattle.rice_code.specs.code.Code.{data_sets, sets_of, sets_from, code, code_from, output}
+use Rattle.rice_code.specs.code.CodedDataSets.{CodedDataSet, bits_of_set}
+use Rattle.rice_code.specs.code.Decoded.{Decoded, Reached}
+use Rattle.rice_code.specs.code.Forms.{blocks_in_all}
+use Rattle.rice_code.specs.code.Layout.{block_after, padding, layout}
+use Rattle.rice_code.proofs.lemmas.code.BlockPlaces.{code_stands_in_intervals}
+use Rattle.rice_code.proofs.lemmas.code.CodeGoesOn.{code_goes_on, no_zeros_past_segment, own_blocks}
+use Rattle.rice_code.proofs.lemmas.code.Layouts.{ends_inside, laid_at, laid_plain, lies_inside, sent_first}
+use Rattle.rice_code.proofs.lemmas.code.SoundBlocks.{blocks_sound_behind, count_blocks}
+use Rattle.rice_code.proofs.lemmas.code.WholeBlocks.{not_filled}
+use Rattle.rice_code.proofs.lemmas.code.WholeBytes.{whole-append}
+use Rattle.rice_code.proofs.lemmas.cost.PaddingBounds.{are_blocks, interval_begins_segment}
+use Rattle.rice_code.proofs.lemmas.meaning.CoveredBlocks.{bool_cases, covers_blocks}
+use Rattle.rice_code.proofs.lemmas.meaning.SentSets.{are_taken}
+
+-- ---- an interval begins afresh
+
+-- its first sample is a reference sample, or is coded as it is
+first_residual : (s : Parameters) (b : ℕ) (p q x : ℤ) → 1 ≤ s.block → place s b ≡ 0 → residual s (s.block * b) p x ≡ residual s (s.block * b) q x
+first_residual s b p q x j e = elim (bool_cases s.preprocess) [ inl on ↦ at p on ∙ sym (at q on) | inr off ↦ alone p off ∙ sym (alone q off) ]
+  where
+    i : ℕ
+    i = s.block * b
+
+    is_first : s.preprocess ≡ true → is_reference_sample s i ≡ true
+    is_first on =
+        ap (λ n. (s.preprocess && place s n == 0) && i % s.block == 0) (mul-div_cancel_left b j)
+        ∙ (ap (λ n. (s.preprocess && n == 0) && i % s.block == 0) e
+        ∙ (ap (λ n. (s.preprocess && 0 == 0) && n == 0) (mul-mod_right s.block b) ∙ ap (λ v. (v && 0 == 0) && 0 == 0) on))
+
+    at : (p : ℤ) → s.preprocess ≡ true → residual s i p x ≡ cond s.preprocess 0 (pattern s x)
+    at p on = ap (λ v. cond s.preprocess (cond v 0 (rank s p x)) (pattern s x)) (is_first on)
+
+    alone : (p : ℤ) → s.preprocess ≡ false → residual s i p x ≡ pattern s x
+    alone p off = ap (λ v. cond v (cond (is_reference_sample s i) 0 (rank s p x)) (pattern s x)) off
+
+first_block : (s : Parameters) (b : ℕ) (p q x : ℤ) (ys : List ℤ) → 1 ≤ s.block → place s b ≡ 0 → block_data s b p (x ∷ ys) ≡ block_data s b q (x ∷ ys)
+first_block s b p q x ys j e =
+    let first = first_residual s b p q x j e in
+    λ i. record { reference = cond (is_reference s b) (Some (pattern s x)) None; residuals = first i ∷ residuals s (s.block * b + 1) x ys }
+
+pub first_blocks : (s : Parameters) (b : ℕ) (p q : ℤ) (n : ℕ) (x : ℤ) (xs : List ℤ) → 1 ≤ s.block → place s b ≡ 0 → blocks_from s b p n (x ∷ xs) ≡ blocks_from s b q n (x ∷ xs)
+first_blocks s b p q zero x xs j e = refl
+first_blocks s b p q (suc n) x xs j e =
+    let more : s.block ≡ suc (s.block - 1) = omega (arith, j) in
+    let front : take s.block (x ∷ xs) ≡ x ∷ take (s.block - 1) xs = ap (λ m. take m (x ∷ xs)) more in
+    let ys = take (s.block - 1) xs in
+    let rest = blocks_from s (b + 1) (last_of x ys) n (drop s.block (x ∷ xs)) in
+    (λ i. block_data s b p (front i) ∷ blocks_from s (b + 1) (last_of p (front i)) n (drop s.block (x ∷ xs)))
+    ∙ (ap (λ c. c ∷ rest) (first_block s b p q x ys j e)
+    ∙ sym (λ i. block_data s b q (front i) ∷ blocks_from s (b + 1) (last_of q (front i)) n (drop s.block (x ∷ xs))))
+
+none_of_none : (j : ℕ) → 1 ≤ j → div_ceil 0 j ≡ 0
+none_of_none j h = omega arith
+
+no_code : (s : Parameters) (b position : ℕ) (p : ℤ) → 1 ≤ s.block → code_from s b position p [] ≡ []
+no_code s b position p j = ap (λ n. layout s (b + n) b position (data_sets s b false (blocks_from s b p n (filled_samples s p [])))) (none_of_none s.block j)
+
+-- the sample before it does not matter
+whatever_before : (s : Parameters) (position : ℕ) (p q : ℤ) (xs : List ℤ) → IsLegal s → code_from s 0 position p xs ≡ code_from s 0 position q xs
+whatever_before s position p q [] legal = let j : 1 ≤ s.block = grind (arith, legal.block) in no_code s 0 position p j ∙ sym (no_code s 0 position q j)
+whatever_before s position p q (x ∷ xs) legal =
+    let j : 1 ≤ s.block = grind (arith, legal.block) in
+    let n = block_count s (length (x ∷ xs)) in
+    ap (λ cs. layout s (0 + n) 0 position (data_sets s 0 false cs)) (first_blocks s 0 p q n x (xs ++ replicate _ (last_of x xs)) j (mod-eq_of_lt legal.interval_from))
+
+-- nor does its number
+stands_alone : (s : Parameters) → IsLegal s → (b position : ℕ) (p : ℤ) (xs : List ℤ) → place s b ≡ 0 → code_from s b position p xs ≡ code_from s 0 position (pos 0) xs
+stands_alone s legal b position p xs e = code_stands_in_intervals s legal b 0 position p xs (e ∙ sym (mod-eq_of_lt legal.interval_from)) ∙ whatever_before s position p (pos 0) xs legal
+
+pub intervals_begin_afresh : IntervalsBeginAfresh
+intervals_begin_afresh s legal b position p xs e =
+    let same : position % 8 ≡ position % 8 % 8 = omega arith in
+    stands_alone s legal b position p xs e ∙ laid_at s (0 + block_count s (length xs)) 0 position (position % 8) (sets_from s 0 (pos 0) xs) same
+
+-- ---- and ends with a byte
+
+pub to_byte : (n : ℕ) → (n + bits_to_byte n) % 8 ≡ 0
+to_byte n = omega arith
+
+-- where the last coded data set ends an interval, the bits do with a byte
+laid_to_byte : (s : Parameters) (end b position : ℕ) (ds : List CodedDataSet) → is_padded s end ≡ true → b + length (blocks_in_all s b ds) ≡ end
+    → (ds ≡ [] → position % 8 ≡ 0) → (position + length (layout s end b position ds)) % 8 ≡ 0
+laid_to_byte s end b position [] pads reach whole = let here : position + 0 ≡ position = omega arith in ap (λ n. n % 8) here ∙ whole refl
+laid_to_byte s end b position (d ∷ ds) pads reach whole =
+    let next = block_after s b d in
+    let first = sent_first s end b position d in
+    let at = position + length first in
+    let rest = layout s end next at ds in
+    let all : at + length rest ≡ position + length (first ++ rest) = omega (arith, length-append first rest) in
+    ap (λ n. n % 8) (sym all) ∙ laid_to_byte s end next at ds pads (ends_inside s b d ds ∙ reach) last
+  where
+    last : ds ≡ [] → (position + length (sent_first s end b position d)) % 8 ≡ 0
+    last none =
+        let t = bits_of_set s d in
+        let bits = position + length t in
+        let next = block_after s b d in
+        let end_is : min end next ≡ end = omega (arith, ends_inside s b d ds, reach, ap (λ l. length (blocks_in_all s next l)) none) in
+        let count : padding s (min end next) bits ≡ bits_to_byte bits = ap (λ m. padding s m bits) end_is ∙ ap (λ v. cond v (bits_to_byte bits) 0) pads in
+        let size : position + length (sent_first s end b position d) ≡ bits + bits_to_byte bits = omega
+        (arith, length-append t (replicate (padding s (min end next) bits) false), length-replicate (padding s (min end next) bits) false, count) in
+        ap (λ n. n % 8) size ∙ to_byte bits
+
+-- What is known of the code of whole intervals: their blocks, and that no run goes past the last of them.
+record Whole (s : Parameters) (xs : List ℤ) : Type 0 where
+  pub blocks : ℕ
+  pub begins : place s (0 + blocks) ≡ 0
+  pub len : length xs ≡ s.block * blocks
+  pub count : block_count s (length xs) ≡ blocks
+  pub reach : length (blocks_in_all s 0 (sets_of s xs)) ≡ blocks
+  pub own : blocks_of s 0 (pos 0) xs ≡ blocks_from s 0 (pos 0) blocks xs
+
+intervals_are_whole : (s : Parameters) → IsLegal s → (count : ℕ) (xs : List ℤ) → AreIntervals s count xs → Whole s xs
+intervals_are_whole s legal count xs h =
+    let j : 1 ≤ s.block = grind (arith, legal.block) in
+    let n = s.interval * count in
+    let here : 0 + n ≡ n = omega arith in
+    let begins : place s (0 + n) ≡ 0 = ap (λ m. m % s.interval) here ∙ mul-mod_right s.interval count in
+    let own = own_blocks s 0 n (pos 0) xs j h.len in
+    record {
+      blocks = n;
+      begins = begins;
+      len = h.len;
+      count = (not_filled s n (pos 0) xs j h.len).1;
+      reach = ap (λ cs. length (blocks_in_all s 0 (data_sets s 0 false cs))) own
+          ∙ no_zeros_past_segment s 0 (pos 0) n xs legal (zero_is_sample s legal.bits_from) h.legal h.len (interval_begins_segment s (0 + n) begins);
+      own = own;
+    }
+
+code_to_byte : (s : Parameters) (xs : List ℤ) → s.pad ≡ true → Whole s xs → length (code s xs) % 8 ≡ 0
+code_to_byte s xs pads w =
+    let end = 0 + block_count s (length xs) in
+    let begins : place s end ≡ 0 = ap (λ n. place s (0 + n)) w.count ∙ w.begins in
+    let padded : is_padded s end ≡ true = ap (λ n. s.pad && n == 0) begins ∙ ap (λ v. v && 0 == 0) pads in
+    let all : 0 + length (code s xs) ≡ length (code s xs) = omega arith in
+    ap (λ n. n % 8) (sym all) ∙ laid_to_byte s end 0 0 (sets_of s xs) padded (omega (arith, w.reach, w.count)) (λ none. refl)
+
+pub intervals_are_joined : IntervalsAreJoined
+intervals_are_joined s legal count xs ys h =
+    let w = intervals_are_whole s legal count xs h in
+    let first = code s xs in
+    let n = block_count s (length ys) in
+    let goes = code_goes_on s legal 0 0 w.blocks (pos 0) xs ys (zero_is_sample s legal.bits_from) h.legal w.len (interval_begins_segment s (0 + w.blocks) w.begins) in
+    let alone = stands_alone s legal (0 + w.blocks) (0 + length first) (last_of (pos 0) xs) ys w.begins in
+    goes ∙ ap (λ l. first ++ l) (alone ∙ elim (bool_cases s.pad) [
+      | inl pads ↦ let byte : (0 + length first) % 8 ≡ 0 % 8 = omega (arith, code_to_byte s xs pads w) in laid_at s (0 + n) 0 (0 + length first) 0 (sets_of s ys) byte
+      | inr plain ↦ laid_plain s (0 + n) 0 (0 + length first) (sets_of s ys) plain ∙ sym (laid_plain s (0 + n) 0 0 (sets_of s ys) plain)
+    ])
+
+-- bits that end with a byte are filled by nothing, and those after them as if they stood alone
+not_padded : (a : List Bool) → length a % 8 ≡ 0 → padded_bits a ≡ a
+not_padded a e = let none : bits_to_byte (length a) ≡ 0 = omega (arith, e) in ap (λ n. a ++ replicate n false) none ∙ append-nil a
+
+padded_behind : (a b : List Bool) → length a % 8 ≡ 0 → padded_bits (a ++ b) ≡ a ++ padded_bits b
+padded_behind a b e =
+    let same : bits_to_byte (length (a ++ b)) ≡ bits_to_byte (length b) = omega (arith, e, length-append a b) in
+    ap (λ n. (a ++ b) ++ replicate n false) same ∙ append_assoc a b (replicate (bits_to_byte (length b)) false)
+
+bytes_joined : (a b : List Bool) → length a % 8 ≡ 0 → whole_bytes (padded_bits (a ++ b)) ≡ whole_bytes (padded_bits a) ++ whole_bytes (padded_bits b)
+bytes_joined a b e =
+    let count : length a ≡ 8 * (length a / 8) = omega (arith, e) in
+    ap whole_bytes (padded_behind a b e) ∙ (whole-append (length a / 8) a (padded_bits b) count ∙ ap (λ l. whole_bytes l ++ whole_bytes (padded_bits b)) (sym (not_padded a e)))
+
+pub padded_intervals_are_joined : PaddedIntervalsAreJoined
+padded_intervals_are_joined s legal pads count xs ys h =
+    ap (λ l. whole_bytes (padded_bits l)) (intervals_are_joined s legal count xs ys h) ∙ bytes_joined (code s xs) (code s ys) (code_to_byte s xs pads (intervals_are_whole s legal count xs h))
+
+-- ---- and is decoded by itself
+
+pub intervals_are_decoded_alone : IntervalsAreDecodedAlone
+intervals_are_decoded_alone s legal count xs rest h =
+    let j : 1 ≤ s.block = grind (arith, legal.block) in
+    let w = intervals_are_whole s legal count xs h in
+    let cs = blocks_of s 0 (pos 0) xs in
+    let sets = sets_of s xs in
+    let sound = blocks_sound_behind s 0 (pos 0) xs legal j (zero_is_sample s legal.bits_from) (recursion_from_All (IsSample s) xs h.legal) in
+    let cover = covers_blocks s 0 false cs legal.interval_from (are_blocks s 0 cs sound) in
+    let size : length cs ≡ w.blocks = count_blocks s 0 (pos 0) (block_count s (length xs)) (filled_samples s (pos 0) xs) ∙ w.count in
+    let none : cover.fill ≡ 0 = omega (arith, w.reach, ap length cover.blocks, length-append cs (replicate cover.fill (zero_block s None)), length-replicate cover.fill (zero_block s None), size) in
+    let found : blocks_in_all s 0 sets ≡ cs = cover.blocks ∙ (ap (λ n. cs ++ replicate n (zero_block s None)) none ∙ append-nil cs) in
+    let all : length xs - s.block * 0 ≡ length xs = omega arith in
+    record {
+      sets = sets;
+      front = code s xs;
+      rest = rest;
+      parts = refl;
+      lie = lies_inside s (0 + block_count s (length xs)) 0 0 sets (omega (arith, w.reach, w.count));
+      taken = are_taken s (Some (length xs)) 0 false cs legal.interval_from sound
+          (λ i lt. wanted s.block i (length cs) (length xs) j (omega (arith, lt)) (omega (arith, w.len, ap (λ n. s.block * n) size)));
+      all = xs;
+      legal = h.legal;
+      len = w.len ∙ ap (λ n. s.block * n) (sym w.reach);
+      blocks = ap (λ n. blocks_from s 0 (pos 0) n xs) w.reach ∙ (sym w.own ∙ sym found);
+      asked_for = sym (ap (λ n. take n xs) all ∙ take-length xs);
+      last = 0;
+      ends = (omega (arith, w.len, ap (λ n. s.block * n) w.reach), refl);
+      bits_used = omega arith;
+    }
+  where
+    wanted : (j i n m : ℕ) → 1 ≤ j → i < n → m ≡ j * n → j * i < m
+    wanted j i n m some lt e = let le : j * suc i ≤ j * n = mul-le-mul_left j (omega arith) in omega (arith, le, some, e)
+
+-- ---- what is damaged
+
+pub damage_stays : DamageStaysInItsInterval
+damage_stays s legal pads m n xs ys zs damaged h k same =
+    let first = output s xs in
+    let last = output s zs in
+    let whole_code = padded_bits (code s xs) in
+    let spelled : bits_of first ≡ code s xs = bits_of-padded (code s xs) ∙ not_padded (code s xs) (code_to_byte s xs pads (intervals_are_whole s legal m xs h)) in
+    let bits : bits_of ((first ++ damaged) ++ last) ≡ code s xs ++ (bits_of damaged ++ bits_of last) =
+    bits_of-append (first ++ damaged) last ∙ (ap (λ l. l ++ bits_of last) (bits_of-append first damaged ∙ ap (λ l. l ++ bits_of damaged) spelled)
+    ∙ append_assoc (code s xs) (bits_of damaged) (bits_of last)) in
+    let decoded = intervals_are_decoded_alone s legal m xs (bits_of damaged ++ bits_of last) h in
+    let size : length (first ++ damaged) ≡ length (output s (xs ++ ys)) = omega
+    (arith, ap length (padded_intervals_are_joined s legal pads m xs ys h), length-append first (output s ys), length-append first damaged, same) in (
+      subst (λ (l : List Bool). Decoded s l (Some (length xs)) xs Reached (length (bits_of first))) (sym bits)
+          (subst (λ (l : List Bool). Decoded s (code s xs ++ (bits_of damaged ++ bits_of last)) (Some (length xs)) xs Reached (length l)) (sym spelled) decoded),
+      drop_at (first ++ damaged) last (length (output s (xs ++ ys))) size,
+    )

@@ -1,0 +1,86 @@
+-- A sample has its own pattern, and after each other sample its own residual.
+use Rattle.std.proofs.Common.{◌≡◌, ℕ, zero, suc, ◌+◌, ◌-◌, ◌*◌, ◌/◌, ◌%◌, ◌^◌, ◌<◌, ◌≤◌, ◌==◌, Bool, true, false, cond, ◌&&◌, List, [], ◌∷◌, length, refl, ap, arith, sym, ◌∙◌, ℤ, pos, negsuc, neg_ℤ, ◌≤ℤ◌, ◌<ℤ◌, w64}
+use Rattle.std.specs.List.{AllByRecursion}
+use Rattle.std.specs.Int.{cast_unsigned, int_gap}
+use Rattle.std.proofs.lemmas.Bool.Decides.{nat_tests}
+use Rattle.std.proofs.lemmas.Int.{ints}
+use Rattle.std.proofs.lemmas.Nat.{mod-mul-add, pow-add, pow_pos}
+use Rattle.std.proofs.Math.Nat.{mul-add-mod_self_left, mod-eq_of_lt, mul-div_cancel_left}
+use Rattle.rice_samples.specs.Parameters.{Parameters, IsSample, level, value_count}
+use Rattle.rice_samples.specs.Places.{is_reference_sample, is_reference}
+use Rattle.rice_samples.specs.predict.Residuals.{twos_complement, pattern, rank, residual, residuals}
+use Rattle.rice_samples.proofs.lemmas.predict.Ranks.{rank_injective}
+use Rattle.rice_samples.proofs.lemmas.setting.LevelsOfSamples.{half_pow, same_level}
+
+-- the lowest digits of a small number in 64 bits
+pub low_digits : (bits : ℕ) (x : ℤ) → bits ≤ 32 → neg_ℤ (pos (2 ^ bits)) ≤ℤ x → x <ℤ pos (2 ^ bits) → cast_unsigned w64 x % 2 ^ bits ≡ twos_complement bits x
+low_digits bits (pos v) few from below = mod-eq_of_lt (omega (arith, ints))
+low_digits bits (negsuc v) few from below = negative (2 ^ (64 - bits)) (2 ^ bits) v
+    (let e : 64 ≡ 64 - bits + bits = omega arith in sym (ap (λ n. 2 ^ n) e ∙ pow-add 2 (64 - bits) bits)) (pow_pos (64 - bits)) (omega (arith, ints))
+  where
+    negative : (parts p v : ℕ) → parts * p ≡ 2 ^ 64 → 0 < parts → v < p → (2 ^ 64 - suc v) % p ≡ p - 1 - v
+    negative zero p v e some lt = absurd (omega arith)
+    negative (suc parts) p v e some lt = let f : 2 ^ 64 - suc v ≡ parts * p + (p - 1 - v) = omega arith in rw f (mod-mul-add parts p (p - 1 - v) (omega arith))
+
+same_signed : (n half : ℕ) (x y : ℤ) → 2 ^ n ≡ half + half → 0 < half → neg_ℤ (pos half) ≤ℤ x → int_gap (neg_ℤ (pos half)) x < 2 ^ n → neg_ℤ (pos half) ≤ℤ y → int_gap (neg_ℤ (pos half)) y < 2 ^ n →
+    twos_complement n x ≡ twos_complement n y → x ≡ y
+same_signed n zero x y e lt h k l m f = absurd (omega arith)
+same_signed n (suc half) (pos v) (pos w) e lt h k l m f = ap (λ d. pos d) f
+same_signed n (suc half) (pos v) (negsuc w) e lt h k l m f = absurd (omega (arith, ints))
+same_signed n (suc half) (negsuc v) (pos w) e lt h k l m f = absurd (omega (arith, ints))
+same_signed n (suc half) (negsuc v) (negsuc w) e lt h k l m f = ap (λ d. negsuc d) (omega (arith, ints))
+
+same_unsigned : (n : ℕ) (x y : ℤ) → pos 0 ≤ℤ x → pos 0 ≤ℤ y → twos_complement n x ≡ twos_complement n y → x ≡ y
+same_unsigned n (pos v) (pos w) h k f = ap (λ d. pos d) f
+same_unsigned n (pos v) (negsuc w) h k f = absurd (omega (arith, ints))
+same_unsigned n (negsuc v) y h k f = absurd (omega (arith, ints))
+
+pub same_pattern : (s : Parameters) (x y : ℤ) → 1 ≤ s.bits → IsSample s x → IsSample s y → pattern s x ≡ pattern s y → x ≡ y
+same_pattern s x y h k l e = by_sign s.signed s.bits h k.0 k.1 l.0 l.1 e
+  where
+    by_sign : (signed : Bool) (n : ℕ) → 1 ≤ n → cond signed (neg_ℤ (pos (2 ^ (n - 1)))) (pos 0) ≤ℤ x → int_gap (cond signed (neg_ℤ (pos (2 ^ (n - 1)))) (pos 0)) x < 2 ^ n →
+        cond signed (neg_ℤ (pos (2 ^ (n - 1)))) (pos 0) ≤ℤ y → int_gap (cond signed (neg_ℤ (pos (2 ^ (n - 1)))) (pos 0)) y < 2 ^ n → twos_complement n x ≡ twos_complement n y → x ≡ y
+    by_sign true n h a b c d e = same_signed n (2 ^ (n - 1)) x y (half_pow n h) (pow_pos (n - 1)) a b c d e
+    by_sign false n h a b c d e = same_unsigned n x y a c e
+
+-- where a sample is no reference, its residual tells it
+pub same_residual : (s : Parameters) (i : ℕ) (p x y : ℤ) → 1 ≤ s.bits → IsSample s p → IsSample s x → IsSample s y → is_reference_sample s i ≡ false → residual s i p x ≡ residual s i p y → x ≡ y
+same_residual s i p x y n h k l r e = by_way s.preprocess (is_reference_sample s i) r e
+  where
+    by_way : (a b : Bool) → b ≡ false → cond a (cond b 0 (rank s p x)) (pattern s x) ≡ cond a (cond b 0 (rank s p y)) (pattern s y) → x ≡ y
+    by_way true true r e = absurd (let f : true ≡ false = r in cc)
+    by_way true false r e = same_level s x y k l (rank_injective (value_count s) (level s p) (level s x) (level s y) h.1 k.1 l.1 e)
+    by_way false b r e = same_pattern s x y n k l e
+
+pub same_residuals : (s : Parameters) (i : ℕ) (p : ℤ) (xs ys : List ℤ) → 1 ≤ s.bits → IsSample s p → AllByRecursion (IsSample s) xs → AllByRecursion (IsSample s) ys →
+    ((t : ℕ) → t < length xs → is_reference_sample s (i + t) ≡ false) → residuals s i p xs ≡ residuals s i p ys → xs ≡ ys
+same_residuals s i p [] [] n h k l r e = refl
+same_residuals s i p [] (y ∷ ys) n h k l r e = absurd cc
+same_residuals s i p (x ∷ xs) [] n h k l r e = absurd cc
+same_residuals s i p (x ∷ xs) (y ∷ ys) n h k l r e =
+    let one : residual s i p x ≡ residual s i p y = cc in
+    let others : residuals s (i + 1) x xs ≡ residuals s (i + 1) y ys = cc in
+    let here : is_reference_sample s i ≡ false = (let z : i ≡ i + 0 = omega arith in ap (λ m. is_reference_sample s m) z) ∙ r 0 (omega arith) in
+    let first = same_residual s i p x y n h k.0 l.0 here one in
+    let later = λ (t : ℕ) (lt : t < length xs). (let z : i + 1 + t ≡ i + suc t = omega arith in ap (λ m. is_reference_sample s m) z) ∙ r (suc t) (omega arith) in
+    let rest = same_residuals s (i + 1) x xs ys n k.0 k.1 l.1 later (others ∙ ap (λ v. residuals s (i + 1) v ys) (sym first)) in
+    λ j. first j ∷ rest j
+
+-- only the first sample of a block is a reference
+pub inside_block : (s : Parameters) (b t : ℕ) → 1 ≤ t → t < s.block → is_reference_sample s (s.block * b + t) ≡ false
+inside_block s b t h lt =
+    let m : (s.block * b + t) % s.block ≡ t = mul-add-mod_self_left s.block b t ∙ mod-eq_of_lt lt in
+    ap (λ v. is_reference s ((s.block * b + t) / s.block) && (v == 0)) m
+    ∙ (ap (λ v. is_reference s ((s.block * b + t) / s.block) && v) (some t h) ∙ never (is_reference s ((s.block * b + t) / s.block)))
+  where
+    some : (t : ℕ) → 1 ≤ t → (t == 0) ≡ false
+    some t h = grind (arith, nat_tests)
+
+    never : (v : Bool) → (v && false) ≡ false
+    never true = refl
+    never false = refl
+
+pub no_reference_at : (s : Parameters) (b : ℕ) → 1 ≤ s.block → is_reference s b ≡ false → is_reference_sample s (s.block * b) ≡ false
+no_reference_at s b h e =
+    let q : s.block * b / s.block ≡ b = mul-div_cancel_left b h in
+    ap (λ m. is_reference s m && (s.block * b % s.block == 0)) q ∙ ap (λ v. v && (s.block * b % s.block == 0)) e

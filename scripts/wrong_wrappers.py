@@ -1,0 +1,105 @@
+#!/usr/bin/env python3
+"""Turns the wrappers of readers, writers and the runtime into wrong ones, and has the tests refuse each.
+
+A contract sees of a reader or a writer of `std` the bytes that it tells, and not its failures. So a wrapper that never calls what it
+wraps, and says that it failed, meets all its clauses, and so does one that tries again: the tests alone say no. The same holds of the
+command's system, since a runtime of `std` tells nothing of its files. The wrong bodies are put into copies of the sources, where the
+tests are run, with nothing proved.
+
+usage: wrong_wrappers.py
+"""
+import pathlib
+import re
+import shutil
+import subprocess
+import sys
+import tempfile
+
+ROOT = pathlib.Path(__file__).resolve().parent.parent
+WRAP = "crates/rice_bits/src/device/over_std.rt"
+BUFFERED = "crates/rice_bits/src/device/over_buf_writer.rt"
+HOST = "crates/aec_tool/src/host.rt"
+
+READ = """\
+        match self.reader.read(buf) {
+            Ok(count) => Ok(count),
+            Err(_) => {
+                self.failures += 1;
+                Err(ReadFault)
+            }
+        }
+"""
+WRITE = """\
+        match self.writer.write(bytes) {
+            Ok(count) if count > 0 => Ok(count),
+            _ => {
+                self.failures += 1;
+                Err(WriteFault)
+            }
+        }
+"""
+READ_TWICE = """\
+        if let Ok(count) = self.reader.read(buf) {
+            return Ok(count);
+        }
+""" + READ
+FAIL_READ = "        self.failures += 1;\n        Err(ReadFault)\n"
+FAIL_WRITE = "        self.failures += 1;\n        Err(WriteFault)\n"
+
+FLUSH = """\
+        match dest.into_inner().flush() {
+            Ok(()) => Ok(()),
+            Err(_) => Err(WriteFault),
+        }
+"""
+FLUSH_UNSEEN = "        let _ = dest.into_inner().flush();\n        Ok(())\n"
+
+# The bodies that are wrong in one copy, with the crate of the tests: of each what is wrong, the file, the body as it stands, the wrong
+# one, and a test that refuses it. Each of these tests refuses one of them alone.
+WRONG = [
+    ("rice_tests", [
+        ("FromReader never reads", WRAP, READ, FAIL_READ, "bits::devices_over_readers"),
+        ("FromWriter never writes", WRAP, WRITE, FAIL_WRITE, "bits::devices_over_writers"),
+        ("FromBufWriter never writes", BUFFERED, WRITE, FAIL_WRITE, "bits::devices_over_buffers"),
+    ]),
+    ("rice_tests", [("FromReader tries again", WRAP, READ, READ_TWICE, "bits::devices_over_readers")]),
+    ("aec_tool", [("Host opens the root", HOST, "File::open(self.rt, name)", 'File::open(self.rt, "/")', "tests::commands::reads_and_writes_files")]),
+    ("aec_tool", [("Host creates no file", HOST, "options.open(self.rt, name)", "File::open(self.rt, name)", "tests::commands::reads_and_writes_files")]),
+    ("aec_tool", [("Host passes over a failed flush", HOST, FLUSH, FLUSH_UNSEEN, "tests::commands::tells_that_the_flush_failed")]),
+]
+
+
+def failed_tests(folder, crate):
+    """Runs the tests of a crate in a folder, and returns the names of those that fail."""
+    run = subprocess.run(["rt", "try", "--test"], cwd=folder / "crates" / crate, capture_output=True, text=True)
+    if "test result:" not in run.stdout:
+        sys.exit(f"wrappers: the tests did not run: {run.stdout}{run.stderr}")
+    return re.findall(r"^test (\S+) \.\.\. FAILED", run.stdout, re.MULTILINE)
+
+
+def turn(folder, name, file, body, wrong):
+    """Puts a wrong body into the sources in a folder."""
+    source = folder / file
+    text = source.read_text()
+    if text.count(body) != 1:
+        sys.exit(f"wrappers: {name}: the body does not stand once in {file}")
+    source.write_text(text.replace(body, wrong))
+
+
+def main():
+    for crate, bodies in WRONG:
+        with tempfile.TemporaryDirectory() as where:
+            folder = pathlib.Path(where)
+            shutil.copytree(ROOT / "crates", folder / "crates", ignore=shutil.ignore_patterns("out"))
+            for top in ("crates.txt", "HANDLES"):
+                shutil.copy(ROOT / top, folder / top)
+            for name, file, body, wrong, _ in bodies:
+                turn(folder, name, file, body, wrong)
+            failed = failed_tests(folder, crate)
+            for name, *_, test in bodies:
+                if test not in failed:
+                    sys.exit(f"wrappers: {name}: {test} was to fail, and these did: {failed}")
+                print(f"wrappers: {name}: refused by {test}", flush=True)
+
+
+main()
