@@ -78,8 +78,9 @@ pub(crate) fn ended<I: Intake>(
 
 /// Decodes the code that `intake` gives, and writes its samples to `outlet`: as many as are asked for, or all.
 ///
-/// What is taken is written before more is drawn from the intake. With a count of 0 the intake is not called. Returns what was done,
-/// and the intake.
+/// It is as if each block were written before the next is taken: where the outlet fails, the report is of the blocks that it took
+/// whole, and the intake is called only where all samples by then are written. With a count of 0 it is not called. Returns what was
+/// done, and the intake.
 #[inline(always)]
 pub fn decode<I: Intake, O: Outlet>(
     setting: &Setting,
