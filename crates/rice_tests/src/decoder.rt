@@ -191,7 +191,7 @@ fn has_eights(setting: &Setting) -> bool
     setting.bits() <= 8 && setting.preprocess() && setting.block() == 8
 }
 
-/// A block of which all bits wait is given as bytes.
+/// A block of which all bits wait is given as bytes, with the number of its bits.
 #[test]
 fn bytes_of_a_block(rt: HostRuntime) -> Result<(), Fail> {
     let mut cases = Cases::new();
@@ -204,15 +204,25 @@ fn bytes_of_a_block(rt: HostRuntime) -> Result<(), Fail> {
     let mut decoder = Decoder::new(setting);
     let mut meter = Meter::new();
     let mut levels = ArrayVec::new();
-    let mut bytes = [0; 32];
+    let mut bytes = [0; 40];
+    let mut ends = [0; 64];
     if has_eights(&setting) {
-        cases.check(!decoder.next_bytes::<_, 8, 1>(&mut reader, &mut meter, &mut bytes));
+        let none = decoder.next_bytes::<_, 8, 1>(1, &mut reader, &mut meter, &mut bytes, &mut ends);
+        cases.check(none == 0);
         let first = decoder.next_levels(&mut reader, &mut meter, &mut levels);
         cases.check(first == Ok(NextBlock::Block));
         if first == Ok(NextBlock::Block) {
-            cases.check(decoder.next_bytes::<_, 8, 1>(&mut reader, &mut meter, &mut bytes));
+            let one = decoder.next_bytes::<_, 8, 1>(
+                1,
+                &mut reader,
+                &mut meter,
+                &mut bytes,
+                &mut ends,
+            );
+            cases.check(one == 1);
         }
     }
+    cases.check(ends[0] == 27);
     cases.check(bytes[..8] == [8, 9, 10, 11, 12, 13, 14, 15]);
     cases.check(reader.taken() == 58);
     cases.check(meter.steps() == 58);
