@@ -32,7 +32,7 @@ help:
 	@echo 'make released               try these in a clean Debian (as root, by debootstrap)'
 	@echo 'make two-builds             build and pack all once more in another folder, and compare'
 	@echo 'make clean                  remove what was built, and what was kept of proofs'
-	@echo 'make test                   prove everything from nothing, try the edits that must fail, and run all tests (thirty-five minutes)'
+	@echo 'make test                   prove everything from nothing, try the edits that must fail, and run all tests (forty minutes)'
 	@echo 'make test-each              the same by the toolchain alone, each edit by a check of its own'
 	@echo 'make rows                   run the cases of scripts/rows.txt with ./aec and the library'
 	@echo 'make hostile                run ./aec on damaged and random codes, and on files and streams that fail'

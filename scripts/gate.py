@@ -36,7 +36,7 @@ SHARE_OF_MEMORY = 0.5
 # About how many seconds of a processor an edit takes, and the most that a part of a crate's edits is to take: each part reads all that
 # is below the crate first, in some 10 seconds.
 SECONDS_OF_EDIT = {"rice_bits": 4, "rice_samples": 2, "rice_code": 7, "rice_stream": 10, "rice_c": 4, "aec_tool": 9, "rice_tests": 3}
-SECONDS_OF_PART = 720
+SECONDS_OF_PART = 450
 
 
 def in_lanes(tasks, tried):
