@@ -1,5 +1,6 @@
 //! Decodes a code to its samples.
-ghost use Rattle.std.specs.Prelude.{◌≡◌, ◌⊎◌, ◌+◌, ◌-◌, ◌*◌, ◌^◌, ◌<◌, ◌≤◌, IfSome, Option, None, Some, true};
+ghost use Rattle.std.specs.Prelude.{◌≡◌, ◌⊎◌, ◌+◌, ◌-◌, ◌*◌, ◌^◌, ◌<◌, ◌≤◌, IfErr, IfSome, OnOk, Option, None, Some, length, take, true};
+ghost use Rattle.rice_bits.specs.device.Outlet.{Appends};
 ghost use Rattle.rice_bits.specs.Limits.{step_limit, most_bits_read};
 ghost use Rattle.rice_code.specs.decode.BlocksInOnePass.{HasLanes};
 ghost use Rattle.rice_code.specs.decode.BlocksInRow.{GivesBlocks};
@@ -10,9 +11,9 @@ ghost use Rattle.rice_stream.specs.Decodes.{DecodesBetween, DecodesWithin, Repor
 
 use crate::outcome::{Fault, Outcome, Report};
 use crate::patience::Patience;
-use crate::plain::{blocks_wanted, decode_plain, is_plain};
+use crate::plain::{ROOM, blocks_wanted, decode_plain, is_plain};
 use crate::runs::write_run;
-use crate::write::{write_block, write_counted};
+use crate::write::{write_block, write_counted, write_in_calls};
 use arrayvec::ArrayVec;
 use rice_bits::{BitReader, Intake, Meter, Outlet};
 use rice_code::{CodeFault, Decoder, NextBlock, known_or};
@@ -214,9 +215,6 @@ fn decode_in_lanes<I: Intake, O: Outlet, const SIZE: usize, const WIDTH: usize>(
     decode_blocks::<I, O, SIZE, WIDTH>(setting, asked, intake, outlet)
 }
 
-/// The bytes of a row of blocks, at most. Up to 32 more are written behind them.
-const ROOM: usize = 480;
-
 /// The blocks of a row, at most.
 const MOST: usize = 64;
 
@@ -318,6 +316,29 @@ fn repeats(decoder: &Decoder, whole: bool) -> bool
     whole && decoder.repeats()
 }
 
+/// Writes the bytes of `blocks` blocks, of `size` bytes each. If the outlet fails, an error has the number of those that it took.
+#[inline(always)]
+fn write_blocks<O: Outlet>(
+    outlet: &mut O,
+    bytes: &[u8; 512],
+    size: usize,
+    blocks: usize,
+) -> Result<(), usize>
+    requires fit { size * blocks ≤ 512 }
+    requires counted { O.failed outlet.old + 1 < 2 ^ 64 }
+    ensures ok { OnOk result (Appends (O.taken outlet.old) (O.taken outlet.new)
+        (take (size * blocks) bytes.now) × (O.failed outlet.new ≡ O.failed outlet.old)) }
+    ensures err { IfErr result (λ n. (n < length (take (size * blocks) bytes.now)) ×
+        Appends (O.taken outlet.old) (O.taken outlet.new) (take n (take (size * blocks) bytes.now)) ×
+        (O.failed outlet.new ≡ O.failed outlet.old + 1)) }
+{
+    // One block has a length that is known where the loop is laid out for it.
+    if blocks == 1 {
+        return write_counted(outlet, &bytes[..size]);
+    }
+    write_in_calls(outlet, &bytes[..size * blocks])
+}
+
 /// Decodes, whatever is asked for. `WIDTH`, if it is not 0, is the number of bytes of each sample of blocks whose bytes may be decoded
 /// at one stroke, and `SIZE`, if it is not 0, that of the samples of each.
 #[inline(always)]
@@ -393,7 +414,7 @@ fn decode_blocks<I: Intake, O: Outlet, const SIZE: usize, const WIDTH: usize>(
         );
         if blocks > 0 {
             let size = WIDTH * known_or::<SIZE>(block as usize);
-            match write_counted(outlet, &bytes[..size * blocks]) {
+            match write_blocks(outlet, &bytes, size, blocks) {
                 Ok(()) => {}
                 Err(taken) => {
                     let some = taken / size;

@@ -23,8 +23,8 @@ pub(crate) fn is_plain<const WIDTH: usize>(setting: &Setting) -> bool
     !setting.preprocess() && !setting.pads() && setting.bits() as usize == 8 * WIDTH
 }
 
-/// The bytes of a row of blocks, at most. Up to 15 more are written behind them.
-const ROOM: usize = 480;
+/// The bytes of a row of blocks, at most. Up to 32 more are written behind them.
+pub(crate) const ROOM: usize = 480;
 
 /// Returns the number of blocks that a row has room for.
 pub(crate) fn blocks_of_row<const WIDTH: usize>(setting: &Setting) -> usize

@@ -18,33 +18,38 @@ pub fn write_all<O: Outlet>(outlet: &mut O, bytes: &[u8]) -> Result<(), WriteFau
     ensures err { OnErr result (TakesPart (O.taken outlet.old) (O.taken outlet.new) bytes.now ×
         (O.failed outlet.new ≡ O.failed outlet.old + 1)) }
 {
-    if bytes.is_empty() {
-        return Ok(());
-    }
-    match outlet.put(bytes) {
-        Ok(count) if count == bytes.len() => Ok(()),
-        Ok(count) => write_rest(outlet, &bytes[count..]),
-        Err(fault) => Err(fault),
-    }
-}
-
-/// Writes all of the bytes, in as many calls as it takes.
-#[inline(never)]
-fn write_rest<O: Outlet>(outlet: &mut O, bytes: &[u8]) -> Result<(), WriteFault>
-    requires { O.failed outlet.old + 1 < 2 ^ 64 }
-    ensures ok { OnOk result (Appends (O.taken outlet.old) (O.taken outlet.new) bytes.now ×
-        (O.failed outlet.new ≡ O.failed outlet.old)) }
-    ensures err { OnErr result (TakesPart (O.taken outlet.old) (O.taken outlet.new) bytes.now ×
-        (O.failed outlet.new ≡ O.failed outlet.old + 1)) }
-{
     match write_counted(outlet, bytes) {
         Ok(()) => Ok(()),
         Err(_) => Err(WriteFault),
     }
 }
 
-/// Writes all of the bytes, in as many calls as it takes. If the outlet fails, an error has the number of those that it took.
+/// Writes all of the bytes. If the outlet fails, an error has the number of those that it took.
+#[inline(always)]
 pub fn write_counted<O: Outlet>(outlet: &mut O, bytes: &[u8]) -> Result<(), usize>
+    requires { O.failed outlet.old + 1 < 2 ^ 64 }
+    ensures ok { OnOk result (Appends (O.taken outlet.old) (O.taken outlet.new) bytes.now ×
+        (O.failed outlet.new ≡ O.failed outlet.old)) }
+    ensures err { IfErr result (λ n. (n < length bytes.now) ×
+        Appends (O.taken outlet.old) (O.taken outlet.new) (take n bytes.now) ×
+        (O.failed outlet.new ≡ O.failed outlet.old + 1)) }
+{
+    if bytes.is_empty() {
+        return Ok(());
+    }
+    match outlet.put(bytes) {
+        Ok(count) if count == bytes.len() => Ok(()),
+        Ok(count) => match write_in_calls(outlet, &bytes[count..]) {
+            Ok(()) => Ok(()),
+            Err(more) => Err(count + more),
+        },
+        Err(_) => Err(0),
+    }
+}
+
+/// Writes all of the bytes, in as many calls as it takes. If the outlet fails, an error has the number of those that it took.
+#[inline(never)]
+pub fn write_in_calls<O: Outlet>(outlet: &mut O, bytes: &[u8]) -> Result<(), usize>
     requires { O.failed outlet.old + 1 < 2 ^ 64 }
     ensures ok { OnOk result (Appends (O.taken outlet.old) (O.taken outlet.new) bytes.now ×
         (O.failed outlet.new ≡ O.failed outlet.old)) }

@@ -184,11 +184,11 @@ bounds-ends-some g c =
     let all = c.next_bytes-blocks.result in
     let same : c.known_or-size.result ≡ s.block = c.known_or-size.ensures ∙ c.block-block.ensures.value in
     let bytes = lanes_row s g.row.WIDTH c.known_or-size.result all new.bytes (c.requires.lanes (row.lanes some)) same row.room c.next_bytes-blocks.array_long in
-    let inside = in_block all c.in-Err-write_counted.taken (g.row.WIDTH * c.known_or-size.result) bytes.some (omega (arith, c.in-Err-write_counted.ensures.err.0, bytes.long)) in
+    let inside = in_block all c.in-Err-write_blocks.taken (g.row.WIDTH * c.known_or-size.result) bytes.some (omega (arith, c.in-Err-write_blocks.ensures.err.0, bytes.long)) in
     omega (arith, inside, row.few)
 
-pub returns-in-Err-write_counted-clause-call : goal.returns-in-Err-write_counted-clause-call
-returns-in-Err-write_counted-clause-call g c =
+pub returns-in-Err-write_blocks-clause-call : goal.returns-in-Err-write_blocks-clause-call
+returns-in-Err-write_blocks-clause-call g c =
     let s = c.args.setting.now in
     let i = c.decode_all.invariant in
     let old = c.decode_all in
@@ -198,16 +198,16 @@ returns-in-Err-write_counted-clause-call g c =
     let given = row.some some in
     let all = c.next_bytes-blocks.result in
     let same : c.known_or-size.result ≡ s.block = c.known_or-size.ensures ∙ c.block-block.ensures.value in
-    let err = c.in-Err-write_counted.ensures.err in
-    let fails = fails_behind s all c.in-Err-write_counted.taken g.row.WIDTH c.known_or-size.result c.block-block.result old.written c.taken-begin.result c.steps-steps.result
-    old.reader new.reader old.meter new.meter old.decoder new.decoder new.bytes new.ends (g.O.Outlet.taken old.outlet) (g.O.Outlet.taken c.write_counted.new.outlet)
+    let err = c.in-Err-write_blocks.ensures.err in
+    let fails = fails_behind s all c.in-Err-write_blocks.taken g.row.WIDTH c.known_or-size.result c.block-block.result old.written c.taken-begin.result c.steps-steps.result
+    old.reader new.reader old.meter new.meter old.decoder new.decoder new.bytes new.ends (g.O.Outlet.taken old.outlet) (g.O.Outlet.taken c.write_blocks.new.outlet)
     c.failed_behind.result.0.report c.failed_behind.result.0.fault (g.I.Intake.left c.failed_behind.result.1) (g.I.Intake.failed c.failed_behind.result.1)
     (c.requires.lanes (row.lanes some)) same c.block-block.ensures.value row.room c.next_bytes-blocks.array_long given.1 c.taken-begin.ensures.value c.steps-steps.ensures.value
     c.taken-begin.ensures.waiting c.taken-begin.ensures.limit err.0 err.1 c.failed_behind.ensures.told c.failed_behind.ensures.left c.failed_behind.ensures.failed in
     row_fails c.block-block.ensures.legal i.runs given.0 fails.fails (row.wanted some) refl fails.tells
 
-pub returns-in-Err-write_counted-clause-failures : goal.returns-in-Err-write_counted-clause-failures
-returns-in-Err-write_counted-clause-failures g c =
+pub returns-in-Err-write_blocks-clause-failures : goal.returns-in-Err-write_blocks-clause-failures
+returns-in-Err-write_blocks-clause-failures g c =
     let s = c.args.setting.now in
     let i = c.decode_all.invariant in
     let old = c.decode_all in
@@ -217,16 +217,16 @@ returns-in-Err-write_counted-clause-failures g c =
     let given = row.some some in
     let all = c.next_bytes-blocks.result in
     let same : c.known_or-size.result ≡ s.block = c.known_or-size.ensures ∙ c.block-block.ensures.value in
-    let err = c.in-Err-write_counted.ensures.err in
-    let fails = fails_behind s all c.in-Err-write_counted.taken g.row.WIDTH c.known_or-size.result c.block-block.result old.written c.taken-begin.result c.steps-steps.result
-    old.reader new.reader old.meter new.meter old.decoder new.decoder new.bytes new.ends (g.O.Outlet.taken old.outlet) (g.O.Outlet.taken c.write_counted.new.outlet)
+    let err = c.in-Err-write_blocks.ensures.err in
+    let fails = fails_behind s all c.in-Err-write_blocks.taken g.row.WIDTH c.known_or-size.result c.block-block.result old.written c.taken-begin.result c.steps-steps.result
+    old.reader new.reader old.meter new.meter old.decoder new.decoder new.bytes new.ends (g.O.Outlet.taken old.outlet) (g.O.Outlet.taken c.write_blocks.new.outlet)
     c.failed_behind.result.0.report c.failed_behind.result.0.fault (g.I.Intake.left c.failed_behind.result.1) (g.I.Intake.failed c.failed_behind.result.1)
     (c.requires.lanes (row.lanes some)) same c.block-block.ensures.value row.room c.next_bytes-blocks.array_long given.1 c.taken-begin.ensures.value c.steps-steps.ensures.value
     c.taken-begin.ensures.waiting c.taken-begin.ensures.limit err.0 err.1 c.failed_behind.ensures.told c.failed_behind.ensures.left c.failed_behind.ensures.failed in
-    row_fails_so (g.O.Outlet.failed c.args.outlet.now) (g.O.Outlet.failed c.write_counted.new.outlet) i.runs given.0 fails.fails (err.2 ∙ ap (λ n. n + 1) i.writes) fails.tells
+    row_fails_so (g.O.Outlet.failed c.args.outlet.now) (g.O.Outlet.failed c.write_blocks.new.outlet) i.runs given.0 fails.fails (err.2 ∙ ap (λ n. n + 1) i.writes) fails.tells
 
-pub returns-in-Err-write_counted-clause-bounds : goal.returns-in-Err-write_counted-clause-bounds
-returns-in-Err-write_counted-clause-bounds g c =
+pub returns-in-Err-write_blocks-clause-bounds : goal.returns-in-Err-write_blocks-clause-bounds
+returns-in-Err-write_blocks-clause-bounds g c =
     let s = c.args.setting.now in
     let i = c.decode_all.invariant in
     let old = c.decode_all in
@@ -236,9 +236,9 @@ returns-in-Err-write_counted-clause-bounds g c =
     let given = row.some some in
     let all = c.next_bytes-blocks.result in
     let same : c.known_or-size.result ≡ s.block = c.known_or-size.ensures ∙ c.block-block.ensures.value in
-    let err = c.in-Err-write_counted.ensures.err in
-    let fails = fails_behind s all c.in-Err-write_counted.taken g.row.WIDTH c.known_or-size.result c.block-block.result old.written c.taken-begin.result c.steps-steps.result
-    old.reader new.reader old.meter new.meter old.decoder new.decoder new.bytes new.ends (g.O.Outlet.taken old.outlet) (g.O.Outlet.taken c.write_counted.new.outlet)
+    let err = c.in-Err-write_blocks.ensures.err in
+    let fails = fails_behind s all c.in-Err-write_blocks.taken g.row.WIDTH c.known_or-size.result c.block-block.result old.written c.taken-begin.result c.steps-steps.result
+    old.reader new.reader old.meter new.meter old.decoder new.decoder new.bytes new.ends (g.O.Outlet.taken old.outlet) (g.O.Outlet.taken c.write_blocks.new.outlet)
     c.failed_behind.result.0.report c.failed_behind.result.0.fault (g.I.Intake.left c.failed_behind.result.1) (g.I.Intake.failed c.failed_behind.result.1)
     (c.requires.lanes (row.lanes some)) same c.block-block.ensures.value row.room c.next_bytes-blocks.array_long given.1 c.taken-begin.ensures.value c.steps-steps.ensures.value
     c.taken-begin.ensures.waiting c.taken-begin.ensures.limit err.0 err.1 c.failed_behind.ensures.told c.failed_behind.ensures.left c.failed_behind.ensures.failed in
@@ -255,9 +255,9 @@ decode_all-preserved-then-blocks-gt0 g c =
     let given = row.some some in
     let all = c.next_bytes-blocks.result in
     let same : c.known_or-size.result ≡ s.block = c.known_or-size.ensures ∙ c.block-block.ensures.value in
-    let ok = c.in-Ok-write_counted.ensures.ok in
+    let ok = c.in-Ok-write_blocks.ensures.ok in
     let wrote = lanes_written s all g.row.WIDTH c.known_or-size.result (c.block-block.result * all) old.reader new.reader old.meter new.meter old.decoder new.decoder new.bytes new.ends
-    (g.O.Outlet.taken old.outlet) (g.O.Outlet.taken c.write_counted.new.outlet) (c.requires.lanes (row.lanes some)) same row.room c.next_bytes-blocks.array_long
+    (g.O.Outlet.taken old.outlet) (g.O.Outlet.taken c.write_blocks.new.outlet) (c.requires.lanes (row.lanes some)) same row.room c.next_bytes-blocks.array_long
     (ap (λ k. k * all) c.block-block.ensures.value) given.1 ok.0 in
     record {
       runs = progress_with_row c.block-block.ensures.legal i.runs given.0 wrote (row.wanted some) c.tick-then-blocks-gt0.ensures;
@@ -275,9 +275,9 @@ decode_all-smaller-then-blocks-gt0 g c =
     let given = row.some some in
     let all = c.next_bytes-blocks.result in
     let same : c.known_or-size.result ≡ s.block = c.known_or-size.ensures ∙ c.block-block.ensures.value in
-    let ok = c.in-Ok-write_counted.ensures.ok in
+    let ok = c.in-Ok-write_blocks.ensures.ok in
     let wrote = lanes_written s all g.row.WIDTH c.known_or-size.result (c.block-block.result * all) old.reader new.reader old.meter new.meter old.decoder new.decoder new.bytes new.ends
-    (g.O.Outlet.taken old.outlet) (g.O.Outlet.taken c.write_counted.new.outlet) (c.requires.lanes (row.lanes some)) same row.room c.next_bytes-blocks.array_long
+    (g.O.Outlet.taken old.outlet) (g.O.Outlet.taken c.write_blocks.new.outlet) (c.requires.lanes (row.lanes some)) same row.room c.next_bytes-blocks.array_long
     (ap (λ k. k * all) c.block-block.ensures.value) given.1 ok.0 in
     let more = row_takes c.block-block.ensures.legal i.runs given.0 some wrote in
     let none : new.decoder.run * new.decoder.setting.block ≡ 0 = ap (λ n. n * new.decoder.setting.block) given.1.run ∙ omega arith in

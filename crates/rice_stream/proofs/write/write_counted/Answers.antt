@@ -1,30 +1,20 @@
-use Rattle.std.proofs.Common.{arith, ◌≡◌, ◌+◌, ap, sym, ◌∙◌, subst, length, take, drop, length-drop, ◌-◌}
+use Rattle.std.proofs.Common.{arith, ◌≡◌, ◌∙◌, ◌-◌, ◌+◌, ap, sym, subst, length, take, drop, length-drop}
 use Rattle.std.proofs.Math.Seq.{take-length, take-add}
 use Rattle.rice_bits.specs.device.Outlet.{Appends}
-use Rattle.rice_bits.proofs.lemmas.device.OutletLemmas.{Appends-trans, Appends-kept}
+use Rattle.rice_bits.proofs.lemmas.device.OutletLemmas.{Appends-trans}
 use Rattle.rice_stream.proofs.write.write_counted.Goals as goal
 
-pub loop-done-preserved : goal.loop-done-preserved
-loop-done-preserved g c =
+pub returns-in-Err-write_in_calls-clause-err : goal.returns-in-Err-write_in_calls-clause-err
+returns-in-Err-write_in_calls-clause-err g c =
     let taken = g.O.Outlet.taken in
     let bytes = c.args.bytes.now in
-    let n = c.loop-done.done in
+    let n = c.in-Ok.count in
+    let more = c.in-Err-write_in_calls.more in
     let whole : take (length bytes - n) (drop n bytes) ≡ drop n bytes = ap (λ k. take k (drop n bytes)) (sym (length-drop n bytes)) ∙ take-length (drop n bytes) in
-    let more : take c.in-Ok.count (take (length bytes - n) (drop n bytes)) ≡ take c.in-Ok.count (drop n bytes) = ap (take c.in-Ok.count) whole in
-    let step = subst (λ l. Appends (taken c.loop-done.outlet) (taken c.put.new.self) l) more c.in-Ok.ensures.bytes in
-    let joined = Appends-trans (taken c.args.outlet.now) (taken c.loop-done.outlet) (taken c.put.new.self) (take n bytes) (take c.in-Ok.count (drop n bytes)) c.loop-done.invariant.took step in
-    record {
-      within = omega (arith, c.in-Ok.ensures.count, c.loop-done.invariant.within, ap length whole, length-drop n bytes);
-      took = subst (λ l. Appends (taken c.args.outlet.now) (taken c.put.new.self) l) (sym (take-add n c.in-Ok.count bytes)) joined;
-      failures = c.in-Ok.ensures.failures ∙ c.loop-done.invariant.failures;
-    }
-
-pub returns-in-Err-clause-err : goal.returns-in-Err-clause-err
-returns-in-Err-clause-err g c =
-    let taken = g.O.Outlet.taken in
-    let bytes = c.args.bytes.now in
-    let n = c.loop-done.done in (
-      c.loop-done-test.true,
-      Appends-kept (taken c.args.outlet.now) (taken c.loop-done.outlet) (taken c.put.new.self) (take n bytes) c.loop-done.invariant.took c.in-Err.ensures.err,
-      c.in-Err.ensures.failures ∙ ap (λ k. k + 1) c.loop-done.invariant.failures,
+    let err = c.in-Err-write_in_calls.ensures.err in
+    let step = subst (λ l. Appends (taken c.put.new.self) (taken c.write_in_calls.new.outlet) l) (ap (take more) whole) err.1 in
+    let joined = Appends-trans (taken c.args.outlet.now) (taken c.put.new.self) (taken c.write_in_calls.new.outlet) (take n bytes) (take more (drop n bytes)) c.in-Ok.ensures.bytes step in (
+      omega (arith, err.0, ap length whole, length-drop n bytes),
+      subst (λ l. Appends (taken c.args.outlet.now) (taken c.write_in_calls.new.outlet) l) (sym (take-add n more bytes)) joined,
+      err.2 ∙ ap (λ k. k + 1) c.in-Ok.ensures.failures,
     )

@@ -1,6 +1,6 @@
 use Rattle.std.proofs.Common.{length, ◌-◌, ◌≡◌, ◌≤◌, take}
 use Rattle.rice_bits.specs.device.Outlet.{Appends}
-use Rattle.rice_stream.proofs.write.write_counted.Given as goal
+use Rattle.rice_stream.proofs.write.write_in_calls.Given as goal
 
 abbrev pub invariant-loop-done : goal.invariant-loop-done
 invariant-loop-done g l = record {
