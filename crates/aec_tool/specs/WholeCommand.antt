@@ -4,7 +4,7 @@ use Rattle.clap.specs.Words.{Text, found_of}
 use Rattle.clap.specs.declared.parser.matches.ArgMatches.{ArgMatches}
 use Rattle.clap.specs.declared.error.kind.ErrorKind.{ErrorKind}
 use Rattle.clap.specs.declared.error.kind.ErrorKind.TheVariants as kind
-use Rattle.rice_bits.specs.device.Outlet.{Room}
+use Rattle.rice_bits.specs.device.OutletRoom.{Room}
 use Rattle.aec_tool.specs.declared.plan.PlanFault.{PlanFault}
 use Rattle.aec_tool.specs.CommandLine.{AreParsedTo, AreRefusedFor}
 use Rattle.aec_tool.specs.Outside.{Outside, LacksMemory, Refused, saying, showing}

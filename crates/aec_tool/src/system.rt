@@ -1,7 +1,7 @@
 //! What the command asks of the system that it runs on.
 ghost use Rattle.std.specs.Prelude.{◌≡◌, true, Option, Some, None, IfOk};
 ghost use Rattle.clap.specs.Words.{kind_of};
-ghost use Rattle.rice_bits.specs.device.Outlet.{Room};
+ghost use Rattle.rice_bits.specs.device.OutletRoom.{Room};
 
 use crate::finding::Finding;
 use crate::message::Message;

@@ -1,6 +1,6 @@
 -- What contracts see of the devices that give and take bytes.
 pub mod OverBufWriter
 pub mod Failures
-pub mod Outlet
+pub mod OutletRoom
 pub mod OverStd
 pub mod Slice

@@ -1,5 +1,5 @@
 -- Fundamental sequences and words in the lanes of a vector.
 pub mod Ends
 pub mod Sequences
-pub mod Words
-pub mod WideWords
+pub mod WordPlaces
+pub mod WideWordPlaces

@@ -1,6 +1,6 @@
 -- What the calls that feed a coder do with their caller's memory.
 use Rattle.std.specs.Prelude.{◌≡◌, ℕ, List, [], Option, Some, None, Result, Ok, Err, ℤ}
-use Rattle.rice_bits.specs.device.Outlet.{Room, begun}
+use Rattle.rice_bits.specs.device.OutletRoom.{Room, begun}
 use Rattle.rice_samples.specs.Parameters.{Parameters}
 use Rattle.rice_stream.specs.Encodes.{EncodesWithin}
 use Rattle.rice_stream.specs.Feeding.{IsSeam, EncodesMore, EncodesRest}

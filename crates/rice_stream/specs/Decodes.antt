@@ -2,7 +2,7 @@
 use Rattle.std.specs.Prelude.{◌≡◌, ◌≢◌, ℕ, ◌+◌, ◌-◌, ◌*◌, ◌/◌, ◌≤◌, ◌⊎◌, Bool, List, [], ◌++◌, length, sum_by, take, min, Option, Some, None, IfSome, IsSome, ℤ}
 use Rattle.std.specs.Io.KnownBytes.{IsAtEnd}
 use Rattle.rice_bits.specs.Limits.{most_bits_read, most_bytes_read, most_at_once}
-use Rattle.rice_bits.specs.device.Outlet.{Room}
+use Rattle.rice_bits.specs.device.OutletRoom.{Room}
 use Rattle.rice_bits.specs.Bits.{bits_of}
 use Rattle.rice_bits.specs.read.Window.{most_waiting}
 use Rattle.rice_bits.specs.read.Reader.{Reader}

@@ -2,7 +2,7 @@
 use Rattle.std.specs.Prelude.{◌≡◌, ℕ, ◌+◌, ◌*◌, ◌<◌, ◌≤◌, Bool, List, ◌++◌, length, sum_by, replicate, All, Option, None, Some, IfSome, ℤ, pos}
 use Rattle.std.specs.Io.KnownBytes.{Consumes}
 use Rattle.rice_bits.specs.Limits.{most_bits_read}
-use Rattle.rice_bits.specs.device.Outlet.{Room, Appends}
+use Rattle.rice_bits.specs.device.OutletRoom.{Room, Appends}
 use Rattle.rice_bits.specs.Bits.{bits_of}
 use Rattle.rice_bits.specs.read.Reader.{Reader, Draws}
 use Rattle.rice_samples.specs.Parameters.{Parameters, IsSample}

@@ -1,6 +1,6 @@
 -- Encoding piece by piece: where the code stands between two calls, and what each call writes.
 use Rattle.std.specs.Prelude.{◌≡◌, ℕ, ◌+◌, ◌*◌, ◌/◌, ◌^◌, ◌<◌, ◌≤◌, ◌⊎◌, List, [], ◌∷◌, ◌++◌, length, drop, All, Option, Some, None, Result, Ok, Err, ℤ}
-use Rattle.rice_bits.specs.device.Outlet.{Room}
+use Rattle.rice_bits.specs.device.OutletRoom.{Room}
 use Rattle.rice_bits.specs.Bits.{bits_in_bytes, word}
 use Rattle.rice_samples.specs.Limits.{most_input}
 use Rattle.rice_samples.specs.Parameters.{Parameters, IsSample, width}

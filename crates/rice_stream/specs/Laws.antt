@@ -2,7 +2,7 @@
 use Rattle.std.specs.Prelude.{◌≡◌, ℕ, ◌+◌, ◌*◌, ◌/◌, ◌<◌, ◌≤◌, ◌⊎◌, List, [], ◌∷◌, ◌++◌, length, take, drop, Option, Some, None, Ok, ℤ, ⊤}
 use Rattle.std.specs.Io.KnownBytes.{Consumes}
 use Rattle.rice_bits.specs.Bits.{bits_of}
-use Rattle.rice_bits.specs.device.Outlet.{Room, Appends}
+use Rattle.rice_bits.specs.device.OutletRoom.{Room, Appends}
 use Rattle.rice_samples.specs.Parameters.{Parameters, IsLegal, width}
 use Rattle.rice_samples.specs.bytes.Spelling.{spellings}
 use Rattle.rice_code.specs.Laws.{BeginsInterval}

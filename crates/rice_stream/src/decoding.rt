@@ -1,6 +1,6 @@
 //! Decodes a code to its samples.
 ghost use Rattle.std.specs.Prelude.{◌≡◌, ◌⊎◌, ◌+◌, ◌-◌, ◌*◌, ◌^◌, ◌<◌, ◌≤◌, IfErr, IfSome, OnOk, Option, None, Some, length, take, true};
-ghost use Rattle.rice_bits.specs.device.Outlet.{Appends};
+ghost use Rattle.rice_bits.specs.device.OutletRoom.{Appends};
 ghost use Rattle.rice_bits.specs.Limits.{step_limit, most_bits_read};
 ghost use Rattle.rice_code.specs.decode.BlocksInOnePass.{HasLanes};
 ghost use Rattle.rice_code.specs.decode.BlocksInRow.{GivesBlocks};

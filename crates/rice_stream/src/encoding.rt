@@ -1,6 +1,6 @@
 //! From samples to their code.
 ghost use Rattle.std.specs.Prelude.{◌≡◌, ◌+◌, ◌-◌, ◌*◌, ◌^◌, ◌<◌, ◌≤◌, List, [], ◌++◌, length, take, true, Option, Some, OnOk, OnErr, IfOk, ℤ};
-ghost use Rattle.rice_bits.specs.device.Outlet.{Room};
+ghost use Rattle.rice_bits.specs.device.OutletRoom.{Room};
 ghost use Rattle.rice_bits.specs.Bits.{padded_bits};
 ghost use Rattle.rice_samples.specs.Limits.{most_input, longest_segment};
 ghost use Rattle.rice_samples.specs.Parameters.{Parameters, values_at, width};

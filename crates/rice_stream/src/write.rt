@@ -1,6 +1,6 @@
 //! Writing all bytes of a slice, of a sink, or of samples.
 ghost use Rattle.std.specs.Prelude.{◌≡◌, ◌+◌, ◌%◌, ◌^◌, ◌<◌, ◌≤◌, All, length, drop, take, OnOk, OnErr, IfErr};
-ghost use Rattle.rice_bits.specs.device.Outlet.{Appends};
+ghost use Rattle.rice_bits.specs.device.OutletRoom.{Appends};
 ghost use Rattle.rice_bits.specs.Bits.{whole_bytes, bits_in_bytes};
 ghost use Rattle.rice_samples.specs.Parameters.{value_count, values_at, width as width_of};
 ghost use Rattle.rice_samples.specs.bytes.Spelling.{spellings};

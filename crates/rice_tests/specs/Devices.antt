@@ -1,6 +1,6 @@
 -- What a contract sees of the devices over memory.
 use Rattle.std.specs.Prelude.{ℕ, ◌-◌, min, length, List, take, drop, Option, None, Some}
-use Rattle.rice_bits.specs.device.Outlet.{Room}
+use Rattle.rice_bits.specs.device.OutletRoom.{Room}
 use Rattle.rice_tests.specs.declared.devices.MemoryIn.{MemoryIn}
 use Rattle.rice_tests.specs.declared.devices.ZeroIn.{ZeroIn}
 use Rattle.rice_tests.specs.declared.devices.MemoryOut.{MemoryOut}

@@ -57,7 +57,7 @@ fn put_long_words(rt: HostRuntime) -> Result<(), Fail> {
     let mut sink = BitSink::<8>::new();
     let mut meter = Meter::new();
     sink.put(0xA, 4, &mut meter);
-    sink.put_long(0x12_3456_789A_BCDE, 56, &mut meter);
+    sink.put_up_to_56_digits(0x12_3456_789A_BCDE, 56, &mut meter);
     cases.check(sink.len() == 60);
     cases.check(meter.steps() == 60);
     sink.pad();
@@ -67,7 +67,7 @@ fn put_long_words(rt: HostRuntime) -> Result<(), Fail> {
     let mut sink = BitSink::<8>::new();
     let mut meter = Meter::new();
     sink.put(0x55, 7, &mut meter);
-    sink.put_long(0x80_0000_0000_0001, 56, &mut meter);
+    sink.put_up_to_56_digits(0x80_0000_0000_0001, 56, &mut meter);
     sink.pad();
     let expected = [0xAB, 0, 0, 0, 0, 0, 0, 2];
     cases.check(sink.whole() == expected.as_slice());
@@ -132,7 +132,7 @@ fn put_eight_whole_words(rt: HostRuntime) -> Result<(), Fail> {
         let mut sink = BitSink::<40>::new();
         let mut meter = Meter::new();
         sink.put(0b1010, 4, &mut meter);
-        sink.put_whole_words(0b101, 3, &words, width, &mut meter);
+        sink.put_number_and_whole_words(0b101, 3, &words, width, &mut meter);
         cases.check(sink.len() == 7 + 8 * width as u64);
         cases.check(meter.steps() == 7 + 8 * width as u64);
         sink.pad();

@@ -1,7 +1,7 @@
 //! A system in memory that tells all that it holds.
 ghost use Rattle.std.specs.Prelude.{◌≡◌, None, Some, true, if◌then◌else◌, not, option_map};
 ghost use Rattle.std.specs.Str.{bytes_eq};
-ghost use Rattle.rice_bits.specs.device.Outlet.{known};
+ghost use Rattle.rice_bits.specs.device.OutletRoom.{known};
 
 use crate::finding::Finding;
 use crate::message::Message;

@@ -4,7 +4,7 @@ pub mod EightBytes
 pub mod FirstOneOfWord
 pub mod JoinedBits
 pub mod WordsReadInOneWay
-pub mod PiecesAtFront
+pub mod FieldsAtFront
 pub mod WholeWords
 pub mod WordPairs
 pub mod WordsAndNumbers

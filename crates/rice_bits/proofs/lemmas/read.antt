@@ -1,7 +1,7 @@
 -- What a reader takes, and where it stops.
 pub mod BlankBits
 pub mod DrawnBytes
-pub mod FourWords
+pub mod FourWordsLemmas
 pub mod TakenSequences
 pub mod EndsAndGapsLemmas
 pub mod JoinedPartsLemmas

@@ -1,6 +1,6 @@
 -- What a contract sees of the devices over slices that fail at no place of their own.
 use Rattle.std.specs.Prelude.{ℕ, List, take, drop}
-use Rattle.rice_bits.specs.device.Outlet.{Room}
+use Rattle.rice_bits.specs.device.OutletRoom.{Room}
 use Rattle.rice_bits.specs.declared.device.slice.SliceIn.{SliceIn}
 use Rattle.rice_bits.specs.declared.device.slice.SliceOut.{SliceOut}
 

@@ -87,7 +87,7 @@ fn join_last_bytes(bytes: &mut [u8], at: usize, word: u64)
 
 /// Joins a 1 at the bit number `at`.
 #[inline]
-pub fn join_one_bit(bytes: &mut [u8], at: u64)
+pub fn join_one_at_bit(bytes: &mut [u8], at: u64)
     requires { at < 8 * length bytes.old }
     ensures { bytes.new ≡ set bytes.old (at / 8)
         (bit_or (slice_index bytes.old (at / 8)) (2 ^ (7 - at % 8))) }
@@ -163,7 +163,7 @@ pub fn load(bytes: &[u8], at: usize) -> u64
 
 /// Returns the 57 to 64 bits from bit `at` on, at the front of a word.
 #[inline]
-pub fn bits_from(bytes: &[u8], at: usize) -> u64
+pub fn at_least_57_bits_from(bytes: &[u8], at: usize) -> u64
     requires { at / 8 + 8 ≤ length bytes.now }
     ensures { word 64 result
         ≡ take (64 - at % 8) (drop at (bits_of bytes.now)) ++ replicate (at % 8) false }
@@ -173,13 +173,13 @@ pub fn bits_from(bytes: &[u8], at: usize) -> u64
 
 /// Returns the 64 bits from bit `at` on.
 #[inline(always)]
-fn word_from(bytes: &[u8], at: usize) -> u64
+fn word_of_64_bits_from(bytes: &[u8], at: usize) -> u64
     requires { at / 8 + 9 ≤ length bytes.now }
     ensures { word 64 result ≡ take 64 (drop at (bits_of bytes.now)) }
 {
     // Where the first of them begins a byte, no bit is taken from the ninth.
     let ninth = bytes[at / 8 + 8] as u64;
-    bits_from(bytes, at) | (ninth >> (8 - at % 8))
+    at_least_57_bits_from(bytes, at) | (ninth >> (8 - at % 8))
 }
 
 /// Returns the eight bytes that the 64 bits from bit `at` on spell.
@@ -190,5 +190,5 @@ pub fn eight_bytes_from(bytes: &[u8], at: usize) -> u8x8
     ensures fit { All (λ b. b < 2 ^ 8) result }
     ensures bits { flat_map (word 8) result ≡ take (8 * 8) (drop at (bits_of bytes.now)) }
 {
-    least_byte_first(word_from(bytes, at).swap_bytes())
+    least_byte_first(word_of_64_bits_from(bytes, at).swap_bytes())
 }

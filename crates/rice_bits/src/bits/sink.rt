@@ -5,8 +5,8 @@ ghost use Rattle.rice_bits.specs.Bits.{fundamental_sequence, word, whole_bytes, 
 
 use crate::Meter;
 use crate::bits::digits::{low_digits, to_front};
-use crate::bits::eight_bytes::{front, join_bytes, join_one_bit, move_byte_to_front};
-use crate::bits::whole_words::join_whole_bytes;
+use crate::bits::eight_bytes::{front, join_bytes, join_one_at_bit, move_byte_to_front};
+use crate::bits::whole_words::join_all_but_last_digits;
 use crate::bits::word_pairs::two_pairs;
 use std::marker::Model;
 
@@ -79,14 +79,14 @@ impl<const N: usize> BitSink<N> {
         requires meter { meter.old + width < step_limit }
         ensures { Puts (word width value) width self.old self.new meter.old meter.new }
     {
-        self.put_long(value as u64, width, meter);
+        self.put_up_to_56_digits(value as u64, width, meter);
     }
 
     /// Appends the `width` binary digits of `value`, most significant first, and ticks once for each.
     ///
     /// They are at most 56, so that they fit eight bytes after the bits of a byte that is not whole.
     #[inline(always)]
-    pub fn put_long(&mut self, value: u64, width: u32, meter: &mut Meter)
+    pub fn put_up_to_56_digits(&mut self, value: u64, width: u32, meter: &mut Meter)
         requires width { width ≤ put_width }
         requires value { value < 2 ^ width }
         requires room { length self.old + width ≤ 8 * N }
@@ -115,7 +115,7 @@ impl<const N: usize> BitSink<N> {
     ///
     /// The digits go out 64 at a time, for which words of 8, 16 or 32 digits come in eights.
     #[inline(always)]
-    pub fn put_whole_words(
+    pub fn put_number_and_whole_words(
         &mut self,
         value: u64,
         count: u32,
@@ -133,7 +133,14 @@ impl<const N: usize> BitSink<N> {
             (count + width * length words.now) self.old self.new meter.old meter.new }
     {
         meter.tick(count as u64 + width as u64 * words.len() as u64);
-        self.bits = join_whole_words(&mut self.bytes, self.bits, value, count, words, width);
+        self.bits = join_number_and_whole_words(
+            &mut self.bytes,
+            self.bits,
+            value,
+            count,
+            words,
+            width,
+        );
     }
 
     /// Appends the fundamental sequence of `m`, `m` zeros and a one, and ticks once for each bit
@@ -146,7 +153,7 @@ impl<const N: usize> BitSink<N> {
     {
         let count = m + 1;
         meter.tick(count);
-        join_one_bit(&mut self.bytes, self.bits + m);
+        join_one_at_bit(&mut self.bytes, self.bits + m);
         self.bits += count;
     }
 
@@ -210,7 +217,7 @@ fn join_words(bytes: &mut [u8], bits: u64, words: &[u32], width: u32) -> u64
 /// Joins the `count` digits of `value`, and then the `width` lowest digits of each of the words, to the first `bits` bits, and
 /// returns how many bits there are then.
 #[inline(always)]
-fn join_whole_words(
+fn join_number_and_whole_words(
     bytes: &mut [u8],
     bits: u64,
     value: u64,
@@ -229,15 +236,15 @@ fn join_whole_words(
 {
     // The loop is laid out for each width.
     match width {
-        8 => join_words_of_known_width(bytes, bits, value, count, words, 8),
-        16 => join_words_of_known_width(bytes, bits, value, count, words, 16),
-        _ => join_words_of_known_width(bytes, bits, value, count, words, 32),
+        8 => join_whole_words_of_known_width(bytes, bits, value, count, words, 8),
+        16 => join_whole_words_of_known_width(bytes, bits, value, count, words, 16),
+        _ => join_whole_words_of_known_width(bytes, bits, value, count, words, 32),
     }
 }
 
-/// As `join_whole_words`, for a width that the compiler knows.
+/// As `join_number_and_whole_words`, for a width that the compiler knows.
 #[inline(always)]
-fn join_words_of_known_width(
+fn join_whole_words_of_known_width(
     bytes: &mut [u8],
     bits: u64,
     value: u64,
@@ -255,7 +262,7 @@ fn join_words_of_known_width(
         (count + width * length words.now) bits result bytes.old bytes.new }
 {
     let left = (bits % 8) as u32 + count;
-    let (all, last) = join_whole_bytes(bytes, bits, value, count, words, width);
+    let (all, last) = join_all_but_last_digits(bytes, bits, value, count, words, width);
     join_digits(bytes, all, last % (1 << left), left)
 }
 

@@ -10,7 +10,7 @@ use std::simd::prelude::*;
 /// `bits % 8 + count`, which stand behind whole bytes. Returns how many bits there are then, and a number that ends in the
 /// digits that are left.
 #[inline(always)]
-pub fn join_whole_bytes(
+pub fn join_all_but_last_digits(
     bytes: &mut [u8],
     bits: u64,
     value: u64,
@@ -34,7 +34,7 @@ pub fn join_whole_bytes(
     let mut all = join_up_to_whole_byte(bytes, bits, value, count, last);
     for i in 1..words.len() / per {
         let next = words_at(words, per * i, width);
-        all = join_64_digits_to_whole_bytes(bytes, all, digits_of_two_words(last, next, left));
+        all = join_64_digits_to_whole_bytes(bytes, all, digits_across_two_words(last, next, left));
         last = next;
     }
     (all, last)
@@ -64,15 +64,15 @@ fn words_at(words: &[u32], at: usize, width: u32) -> u64
         word 64 result ≡ flat_map (word width) (slice_range words.now at (at + n)) }
 {
     match width {
-        8 => eight_words_at(words, at),
-        16 => four_words_at(words, at),
-        _ => two_words_at(words, at),
+        8 => joined_words_of_8_digits(words, at),
+        16 => joined_words_of_16_digits(words, at),
+        _ => joined_words_of_32_digits(words, at),
     }
 }
 
 /// Returns the number of the lowest 8 digits of eight words.
 #[inline(always)]
-fn eight_words_at(words: &[u32], at: usize) -> u64
+fn joined_words_of_8_digits(words: &[u32], at: usize) -> u64
     requires { at + 8 ≤ length words.now }
     ensures { word 64 result ≡ flat_map (word 8) (slice_range words.now at (at + 8)) }
 {
@@ -91,7 +91,7 @@ fn lowest_bytes(words: u32x8) -> u8x8
 
 /// Returns the number of the lowest 16 digits of four words.
 #[inline(always)]
-fn four_words_at(words: &[u32], at: usize) -> u64
+fn joined_words_of_16_digits(words: &[u32], at: usize) -> u64
     requires { at + 4 ≤ length words.now }
     ensures { word 64 result ≡ flat_map (word 16) (slice_range words.now at (at + 4)) }
 {
@@ -106,7 +106,7 @@ fn four_words_at(words: &[u32], at: usize) -> u64
 
 /// Returns the number of the 32 digits of two words.
 #[inline(always)]
-fn two_words_at(words: &[u32], at: usize) -> u64
+fn joined_words_of_32_digits(words: &[u32], at: usize) -> u64
     requires { at + 2 ≤ length words.now }
     ensures { word 64 result ≡ flat_map (word 32) (slice_range words.now at (at + 2)) }
 {
@@ -150,7 +150,7 @@ fn join_64_digits_to_whole_bytes(bytes: &mut [u8], bits: u64, digits: u64) -> u6
 
 /// Returns the number of the last `left` digits of `last`, and then the first digits of `next`, 64 in all.
 #[inline(always)]
-fn digits_of_two_words(last: u64, next: u64, left: u32) -> u64
+fn digits_across_two_words(last: u64, next: u64, left: u32) -> u64
     requires { (1 ≤ left) × (left < 64) }
     ensures { word 64 result ≡ word left last ++ word (64 - left) (next / 2 ^ left) }
 {

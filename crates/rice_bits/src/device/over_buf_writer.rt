@@ -2,7 +2,7 @@
 ghost use Rattle.std.specs.Prelude.{◌≡◌, ◌+◌, ◌^◌, ◌<◌, ◌≤◌, length, take, IfOk, OnErr};
 ghost use Rattle.std.specs.Io.Buffered.{writer_contents};
 ghost use Rattle.rice_bits.specs.device.Failures.{CountsFailure};
-ghost use Rattle.rice_bits.specs.device.Outlet.{Appends, Keeps, known};
+ghost use Rattle.rice_bits.specs.device.OutletRoom.{Appends, Keeps, known};
 
 use crate::device::{Outlet, WriteFault};
 use std::io::{BufWriter, Write};

@@ -71,7 +71,7 @@ impl<W: Write> FromWriter<W> {
 }
 
 impl<W: Write> Outlet for FromWriter<W> {
-    ghost use Rattle.rice_bits.specs.device.Outlet.{known};
+    ghost use Rattle.rice_bits.specs.device.OutletRoom.{known};
 
     ghost taken = { λ s. known (W.contents s.writer) };
 

@@ -2,7 +2,7 @@
 ghost use Rattle.std.specs.Prelude.{◌≡◌, ◌+◌, ◌^◌, ◌<◌, ◌≤◌, ◌↔◌, length, drop, take, min, [], Some, IsOk, IsErr, IfOk, OnErr};
 ghost use Rattle.std.specs.Io.KnownBytes.{Consumes, IsAtEnd, Keeps};
 ghost use Rattle.rice_bits.specs.device.Failures.{CountsFailure};
-ghost use Rattle.rice_bits.specs.device.Outlet as outlet;
+ghost use Rattle.rice_bits.specs.device.OutletRoom as outlet;
 
 use crate::device::{Intake, Outlet, ReadFault, WriteFault};
 

@@ -4,7 +4,7 @@ ghost use Rattle.rice_bits.specs.Bits.{word};
 ghost use Rattle.rice_bits.specs.read.EndsAndGaps.{ends_after};
 ghost use Rattle.rice_bits.specs.lanes.Ends.{in_lanes, places_behind as places_behind_of};
 
-use crate::lanes::tables_of_ends::row_at;
+use crate::lanes::tables_of_ends::row_of_byte_at;
 use std::simd::prelude::*;
 
 /// Places that no lane has, and then the places of all sixteen lanes.
@@ -17,7 +17,7 @@ static SLIDE: [u8; 64] = [
 
 /// Returns the places of the lanes that stand as many lanes further on as the first `place` bytes of a word have ones, beside `zeros`.
 #[inline(always)]
-fn places_behind_ones(place: usize, zeros: usize) -> u8x16
+fn lane_places_moved_by_ones(place: usize, zeros: usize) -> u8x16
     requires place { place ≤ 6 }
     requires zeros { zeros ≤ 8 * place }
     ensures { result ≡ places_behind_of (8 * place - zeros) }
@@ -34,16 +34,16 @@ fn moved_by_ones(lanes: u8x16, place: usize, zeros: usize) -> u8x16
     requires lanes { length lanes ≡ 16 }
     ensures { result ≡ take 16 (replicate (8 * place - zeros) 0 ++ lanes) }
 {
-    lanes.swizzle_dyn(places_behind_ones(place, zeros))
+    lanes.swizzle_dyn(lane_places_moved_by_ones(place, zeros))
 }
 
 /// Returns the ends of the ones of `byte`, which stands at `place` of a word.
 #[inline(always)]
-fn ends_at(place: usize, byte: u8) -> u8x16
+fn ends_of_byte_at(place: usize, byte: u8) -> u8x16
     requires { place < 7 }
     ensures { result ≡ in_lanes (ends_after (8 * place) (word 8 byte)) }
 {
-    u8x8::from_array(row_at(place, byte)).shuffle(
+    u8x8::from_array(row_of_byte_at(place, byte)).shuffle(
         u8x8::splat(0),
         [0, 1, 2, 3, 4, 5, 6, 7, 8, 9, 10, 11, 12, 13, 14, 15],
     )
@@ -60,7 +60,7 @@ fn byte_at(front: u64, place: usize) -> u8
 
 /// Returns the number of ones in the first bytes of a word.
 #[inline(always)]
-pub fn ones_in(front: u64, bytes: usize) -> usize
+pub fn count_ones_in(front: u64, bytes: usize) -> usize
     requires { (1 ≤ bytes) × (bytes ≤ 8) }
     ensures value { result ≡ length (ends_after 0 (take (8 * bytes) (word 64 front))) }
     ensures most { result ≤ 8 * bytes }
@@ -70,7 +70,7 @@ pub fn ones_in(front: u64, bytes: usize) -> usize
 
 /// Returns the number of zeros in the first bytes of a word.
 #[inline(always)]
-fn zeros_in(front: u64, bytes: usize) -> usize
+fn count_zeros_in(front: u64, bytes: usize) -> usize
     requires { (1 ≤ bytes) × (bytes ≤ 8) }
     ensures value { result + length (ends_after 0 (take (8 * bytes) (word 64 front))) ≡ 8 * bytes }
     ensures most { result ≤ 8 * bytes }
@@ -85,8 +85,8 @@ fn with_ends_of_byte(front: u64, place: usize, before: u8x16) -> u8x16
     requires before { before ≡ in_lanes (ends_after 0 (take (8 * place) (word 64 front))) }
     ensures { result ≡ in_lanes (ends_after 0 (take (8 * (place + 1)) (word 64 front))) }
 {
-    let more = ends_at(place, byte_at(front, place));
-    before | moved_by_ones(more, place, zeros_in(front, place))
+    let more = ends_of_byte_at(place, byte_at(front, place));
+    before | moved_by_ones(more, place, count_zeros_in(front, place))
 }
 
 /// Returns the ends of the ones of the first bytes of a word, as many as there are lanes for, and zeros behind them.
@@ -95,7 +95,7 @@ pub fn first_ends(front: u64, bytes: usize) -> u8x16
     requires { (1 ≤ bytes) × (bytes ≤ 7) }
     ensures { result ≡ in_lanes (ends_after 0 (take (8 * bytes) (word 64 front))) }
 {
-    let mut ends = ends_at(0, byte_at(front, 0));
+    let mut ends = ends_of_byte_at(0, byte_at(front, 0));
     for place in 1..bytes {
         ends = with_ends_of_byte(front, place, ends);
     }

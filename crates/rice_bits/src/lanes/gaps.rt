@@ -17,7 +17,7 @@ fn excess_over(a: u8x16, b: u8x16) -> u8x16
 
 /// Returns 0 and then all numbers but the last.
 #[inline(always)]
-pub fn behind_zero(numbers: u8x16) -> u8x16
+pub fn zero_and_all_but_last(numbers: u8x16) -> u8x16
     requires { length numbers ≡ 16 }
     ensures { result ≡ take 16 (0 ∷ numbers) }
 {
@@ -35,7 +35,10 @@ pub fn gaps_of(ends: u8x16) -> u8x16
     requires { length ends ≡ 16 }
     ensures { result ≡ gaps (0 ∷ ends) }
 {
-    excess_over(excess_over(ends, behind_zero(ends)), u8x16::splat(1))
+    excess_over(
+        excess_over(ends, zero_and_all_but_last(ends)),
+        u8x16::splat(1),
+    )
 }
 
 /// Returns the number of bits of the first `count` fundamental sequences of a word, whose ends are among those of its first

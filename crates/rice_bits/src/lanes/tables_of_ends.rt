@@ -1814,7 +1814,7 @@ static ROWS: [[[u8; 8]; 256]; 7] = [
 
 /// Returns, for each 1 of `byte` at a place of a word, the number of bits of the word up to and including it, and then zeros.
 #[inline(always)]
-pub(crate) fn row_at(place: usize, byte: u8) -> [u8; 8]
+pub(crate) fn row_of_byte_at(place: usize, byte: u8) -> [u8; 8]
     requires { place < 7 }
     ensures { result ≡ row_of_place place byte }
 {

@@ -1,7 +1,7 @@
 //! Four or eight words of up to 24 bits, or four of 32, at a time, from any bit of a slice on.
 ghost use Rattle.std.specs.Prelude.{◌≡◌, ◌+◌, ◌-◌, ◌*◌, ◌/◌, ◌^◌, ◌<◌, ◌≤◌, All, drop, flat_map, length, map, take};
 ghost use Rattle.rice_bits.specs.Bits.{bits_of, word};
-ghost use Rattle.rice_bits.specs.lanes.WideWords.{four, quad_factors, quad_number, quad_places};
+ghost use Rattle.rice_bits.specs.lanes.WideWordPlaces.{four, quad_factors, quad_number, quad_places};
 
 use crate::lanes::words::{bytes_at_places, sixteen_words_from};
 use std::simd::prelude::*;
@@ -428,7 +428,7 @@ fn four_bytes_from_each_fourth(bytes: u8x16) -> u32x4
 
 /// Returns the numbers that sixteen bytes spell, four bytes each.
 #[inline(always)]
-fn four_numbers(bytes: u8x16) -> u32x4
+fn numbers_of_four_bytes_each(bytes: u8x16) -> u32x4
     requires { length bytes ≡ 16 }
     ensures len { length result ≡ 4 }
     ensures bits { flat_map (word 32) result ≡ bits_of bytes }
@@ -444,5 +444,5 @@ pub fn four_words_of_32_bits_from(bytes: &[u8], at: usize) -> u32x4
     ensures len { length result ≡ 4 }
     ensures bits { flat_map (word 32) result ≡ take 128 (drop at (bits_of bytes.now)) }
 {
-    four_numbers(sixteen_words_from(bytes, at, 8))
+    numbers_of_four_bytes_each(sixteen_words_from(bytes, at, 8))
 }

@@ -2,7 +2,7 @@
 ghost use Rattle.std.specs.Prelude.{◌≡◌, ◌+◌, ◌-◌, ◌*◌, ◌/◌, ◌^◌, ◌<◌, ◌≤◌, ◌++◌, All, drop, flat_map, length, map, slice_index, take};
 ghost use Rattle.rice_bits.specs.Bits.{bits_of, word};
 ghost use Rattle.rice_bits.specs.read.EightWordPlaces.{eight};
-ghost use Rattle.rice_bits.specs.lanes.Words.{pair_number, factors, places};
+ghost use Rattle.rice_bits.specs.lanes.WordPlaces.{pair_number, factors, places};
 
 use std::simd::prelude::*;
 

@@ -3,7 +3,7 @@ ghost use Rattle.std.specs.Prelude.{◌≡◌, ◌+◌, ◌-◌, ◌*◌, ◌/�
 ghost use Rattle.rice_bits.specs.Bits.{bits_of, word};
 ghost use Rattle.rice_bits.specs.read.EightWordPlaces.{eight, word_factors, word_places};
 
-use crate::bits::eight_bytes::bits_from;
+use crate::bits::eight_bytes::at_least_57_bits_from;
 use std::simd::prelude::*;
 
 /// For each width up to 7, the places of the two bytes in which each of eight words lies: the second byte, and then the
@@ -70,7 +70,7 @@ fn two_bytes_that_hold_each(digits: u64, width: u32) -> u16x8
 
 /// Returns the numbers of the eight words of `width` digits that 64 digits begin with.
 #[inline(always)]
-fn eight_words(digits: u64, width: u32) -> u16x8
+fn first_eight_words(digits: u64, width: u32) -> u16x8
     requires { (1 ≤ width) × (width ≤ 7) }
     ensures len { length result ≡ 8 }
     ensures fit { All (λ v. v < 2 ^ width) result }
@@ -89,5 +89,5 @@ pub fn eight_words_from(bytes: &[u8], at: usize, width: u32) -> u16x8
     ensures fit { All (λ v. v < 2 ^ width) result }
     ensures bits { flat_map (word width) result ≡ take (8 * width) (drop at (bits_of bytes.now)) }
 {
-    eight_words(bits_from(bytes, at), width)
+    first_eight_words(at_least_57_bits_from(bytes, at), width)
 }

@@ -68,7 +68,7 @@ pub fn find_ends(front: u64, wanted: usize, ends: &mut [u8]) -> usize
 
 /// Returns how many bits stand between an end and the next, for each of eight ends from the place `at` on.
 #[inline(always)]
-pub fn narrow_gaps(ends: &[u8], at: usize) -> u16x8
+pub fn eight_narrow_gaps(ends: &[u8], at: usize) -> u16x8
     requires { at + 9 ≤ length ends.now }
     ensures len { length result ≡ 8 }
     ensures few { All (λ m. m < 256) result }
@@ -79,14 +79,14 @@ pub fn narrow_gaps(ends: &[u8], at: usize) -> u16x8
     excess_over(excess_over(next, here), u8x8::splat(1)).cast::<u16>()
 }
 
-/// As `narrow_gaps`, in wider lanes.
+/// As `eight_narrow_gaps`, in wider lanes.
 #[inline(always)]
-fn eight_gaps(ends: &[u8], at: usize) -> u32x8
+fn eight_wide_gaps(ends: &[u8], at: usize) -> u32x8
     requires { at + 9 ≤ length ends.now }
     ensures len { length result ≡ 8 }
     ensures value { result ≡ take 8 (drop at (gaps ends.now)) }
 {
-    narrow_gaps(ends, at).cast::<u32>()
+    eight_narrow_gaps(ends, at).cast::<u32>()
 }
 
 /// Returns how many bits stand between an end and the next, for each of four ends from the place `at` on.
@@ -126,10 +126,10 @@ fn write_gaps_by_eights(ends: &[u8], zeros: &mut [u32])
 {
     let last = zeros.len() - 8;
     for i in 0..(last + 7) / 8 {
-        eight_gaps(ends, 8 * i).copy_to_slice(&mut zeros[8 * i..]);
+        eight_wide_gaps(ends, 8 * i).copy_to_slice(&mut zeros[8 * i..]);
     }
     // The last eight may begin among those before them.
-    eight_gaps(ends, last).copy_to_slice(&mut zeros[last..]);
+    eight_wide_gaps(ends, last).copy_to_slice(&mut zeros[last..]);
 }
 
 /// As `write_gaps`, four and then the last four.

@@ -3,7 +3,7 @@ ghost use Rattle.std.specs.Prelude.{◌≡◌, ◌+◌, ◌*◌, ◌^◌, ◌<�
 ghost use Rattle.rice_bits.specs.Bits.{bits_of, word};
 ghost use Rattle.rice_bits.specs.read.Window.{buffer_len, most_waiting};
 
-use crate::bits::eight_bytes::bits_from;
+use crate::bits::eight_bytes::at_least_57_bits_from;
 use std::simd::prelude::*;
 
 /// Returns the first two words of `width` digits of each of two words of 64.
@@ -32,7 +32,7 @@ pub fn four_words_from(bytes: &[u8], at: usize, width: u32) -> u32x4
     ensures fit { All (λ v. v < 2 ^ width) result }
     ensures bits { flat_map (word width) result ≡ take (4 * width) (drop at (bits_of bytes.now)) }
 {
-    let first = bits_from(bytes, at);
-    let second = bits_from(bytes, at + 2 * width as usize);
+    let first = at_least_57_bits_from(bytes, at);
+    let second = at_least_57_bits_from(bytes, at + 2 * width as usize);
     first_two_words_of_both(first, second, width)
 }

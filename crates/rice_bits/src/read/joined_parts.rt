@@ -4,7 +4,7 @@ ghost use Rattle.rice_bits.specs.read.JoinedParts.{AreWritten, joined_parts};
 ghost use Rattle.rice_bits.specs.read.Window.{buffer_len, most_waiting};
 
 use crate::read::eight_words::eight_words_from;
-use crate::read::ends_and_gaps::narrow_gaps;
+use crate::read::ends_and_gaps::eight_narrow_gaps;
 use std::simd::prelude::*;
 
 /// Joins eight high parts and low parts of `width` digits.
@@ -39,7 +39,7 @@ fn write_eight_joined(
     ensures { AreWritten bytes.now at width ends.now (done + 8) numbers.new }
 {
     let words = eight_words_from(bytes, at + done * width as usize, width);
-    let eight = joined_eight(narrow_gaps(ends, done), words, width);
+    let eight = joined_eight(eight_narrow_gaps(ends, done), words, width);
     eight.copy_to_slice(&mut numbers[done..]);
 }
 
@@ -62,7 +62,7 @@ fn write_seven_joined(
     ensures { AreWritten bytes.now at width ends.now (done + 7) numbers.new }
 {
     let words = eight_words_from(bytes, at + done * width as usize, width);
-    let eight = joined_eight(narrow_gaps(ends, done), words, width);
+    let eight = joined_eight(eight_narrow_gaps(ends, done), words, width);
     // Four of them are the first, and four the last, which begin among these.
     eight
         .swizzle([0, 1, 2, 3])

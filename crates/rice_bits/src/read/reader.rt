@@ -113,12 +113,12 @@ fn draw_bytes<I: Intake>(
     *blank_before = window.is_blank(*blank_before);
     match ask_intake(intake, &mut window.buffer, window.given, *blank_before) {
         Ok(count) => {
-            window.hold_bytes(count);
+            window.hold_new_bytes(count);
             Ok(())
         }
         Err(fault) => {
             // The intake may have left anything in the buffer.
-            window.hold_bytes(0);
+            window.hold_new_bytes(0);
             Err(fault)
         }
     }
@@ -146,7 +146,7 @@ fn draw_if_empty<I: Intake>(
         (I.failed intake.new) (window_taken window.old)
         (blank_before.old && is_blank (window_passed window.old))) }
 {
-    if window.len() > 0 {
+    if window.waiting() > 0 {
         return Ok(());
     }
     draw_bytes(intake, window, blank_before)
@@ -228,7 +228,7 @@ impl<I: Intake> BitReader<I> {
         ensures idle { width ≤ length self.old.waiting → self.new.intake ≡ self.old.intake }
         ensures steps { meter.new + self.old.taken ≡ meter.old + self.new.taken }
     {
-        if let Some(value) = self.take_ready(width, meter) {
+        if let Some(value) = self.take_if_more_wait(width, meter) {
             return Ok(value);
         }
         let value = self.take_with_draws(width, meter);
@@ -240,7 +240,7 @@ impl<I: Intake> BitReader<I> {
 
     /// Takes the next `width` bits if more wait.
     #[inline]
-    fn take_ready(&mut self, width: u32, meter: &mut Meter) -> Option<u32>
+    fn take_if_more_wait(&mut self, width: u32, meter: &mut Meter) -> Option<u32>
         requires width { width ≤ 32 }
         requires meter { meter.old + width < step_limit }
         ensures some { IfSome result (λ v. (v < 2 ^ width) ×
@@ -313,7 +313,7 @@ impl<I: Intake> BitReader<I> {
         ensures idle { is_blank self.old.waiting ≡ false → self.new.intake ≡ self.old.intake }
         ensures steps { meter.new + self.old.taken ≡ meter.old + self.new.taken }
     {
-        if let Some(zeros) = self.take_fs_ready(meter) {
+        if let Some(zeros) = self.take_fs_if_soon(meter) {
             return Ok(zeros);
         }
         let zeros = self.take_fs_with_draws(meter);
@@ -325,7 +325,7 @@ impl<I: Intake> BitReader<I> {
 
     /// Takes a fundamental sequence if its 1 comes soon.
     #[inline]
-    fn take_fs_ready(&mut self, meter: &mut Meter) -> Option<u64>
+    fn take_fs_if_soon(&mut self, meter: &mut Meter) -> Option<u64>
         requires meter { meter.old + (most_bits_read - self.old.taken) < step_limit }
         ensures some { IfSome result (λ m. Takes self.old self.new (fundamental_sequence m)) }
         ensures going { IsSome result → self.old.refusal ≡ None }
@@ -334,7 +334,7 @@ impl<I: Intake> BitReader<I> {
         ensures steps { meter.new + self.old.taken ≡ meter.old + self.new.taken }
         ensures limit { self.new.taken ≤ most_bits_read }
     {
-        let count = self.window.sequence_ahead()?;
+        let count = self.window.len_of_sequence_ahead()?;
         // The meter first: after its store the place is moved by one addition in memory.
         meter.tick(count);
         self.window.pass(count);
@@ -393,12 +393,12 @@ impl<I: Intake> BitReader<I> {
             self.refusal = Some(refusal);
             return Err(refusal);
         }
-        if let Some(count) = self.window.sequence_ahead() {
+        if let Some(count) = self.window.len_of_sequence_ahead() {
             meter.tick(count);
             self.window.pass(count);
             return Ok((count - 1, true));
         }
-        let zeros = AHEAD.min(self.window.len()) as u64;
+        let zeros = AHEAD.min(self.window.waiting()) as u64;
         meter.tick(zeros);
         self.window.pass(zeros);
         Ok((zeros, false))
@@ -421,9 +421,9 @@ impl<I: Intake> BitReader<I> {
         ensures steps { meter.new + self.old.taken ≡ meter.old + self.new.taken }
         ensures limit { self.new.taken ≤ most_bits_read }
     {
-        let before = self.window.len();
+        let before = self.window.waiting();
         let taken = self.window.take_words(width, words);
-        let left = self.window.len();
+        let left = self.window.waiting();
         meter.tick((before - left) as u64);
         taken
     }
@@ -446,9 +446,9 @@ impl<I: Intake> BitReader<I> {
         ensures steps { meter.new + self.old.taken ≡ meter.old + self.new.taken }
         ensures limit { self.new.taken ≤ most_bits_read }
     {
-        let before = self.window.len();
+        let before = self.window.waiting();
         let taken = self.window.take_sequences(zeros);
-        meter.tick((before - self.window.len()) as u64);
+        meter.tick((before - self.window.waiting()) as u64);
         taken
     }
 
@@ -471,9 +471,9 @@ impl<I: Intake> BitReader<I> {
         ensures steps { meter.new + self.old.taken ≡ meter.old + self.new.taken }
         ensures limit { self.new.taken ≤ most_bits_read }
     {
-        let before = self.window.len();
+        let before = self.window.waiting();
         let taken = self.window.take_parts(width, numbers);
-        meter.tick((before - self.window.len()) as u64);
+        meter.tick((before - self.window.waiting()) as u64);
         taken
     }
 
@@ -482,7 +482,7 @@ impl<I: Intake> BitReader<I> {
     pub fn waiting(&self) -> u64
         ensures { result ≡ length self.now.waiting }
     {
-        self.window.len() as u64
+        self.window.waiting() as u64
     }
 
     /// Returns the number that `width` bits spell, most significant first, which wait behind the first `skip`. It takes none.
@@ -592,7 +592,7 @@ impl<I: Intake> BitReader<I> {
     {
         // The bits of the gap do not count: those before it are looked at now, and the mark passes it.
         self.blank_before = self.window.is_blank(self.blank_before);
-        let gap = (self.window.len() % 8) as u64;
+        let gap = (self.window.waiting() % 8) as u64;
         self.window.pass(gap);
         self.window.mark();
         meter.tick(gap);
@@ -619,7 +619,7 @@ impl<I: Intake> BitReader<I> {
             self.refusal = Some(fault);
             return Err(fault);
         }
-        let count = most.min(self.window.len() as u32);
+        let count = most.min(self.window.waiting() as u32);
         let digits = self.window.take_first_bits(count);
         meter.tick(count as u64);
         Ok((digits, count))

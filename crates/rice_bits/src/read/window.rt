@@ -7,7 +7,7 @@ ghost use Rattle.rice_bits.specs.read.Reader.{is_blank};
 ghost use Rattle.rice_bits.specs.read.Window.{buffer_len, most_waiting};
 
 use crate::bits::digits::front_digits;
-use crate::bits::eight_bytes::{bits_from, store_zeros};
+use crate::bits::eight_bytes::{at_least_57_bits_from, store_zeros};
 use crate::lanes::sequences::{Sequences, first_sequences};
 use crate::lanes::wide_words::eight_words_from;
 use crate::lanes::words::sixteen_words_from;
@@ -65,7 +65,7 @@ impl Window {
     }
 
     /// Makes the first `count` bytes of the buffer the ones that wait, and forgets all others.
-    pub fn hold_bytes(&mut self, count: usize)
+    pub fn hold_new_bytes(&mut self, count: usize)
         requires size { length self.old.buffer ≡ buffer_len }
         requires count { count ≤ most_at_once }
         requires limit { self.old.given + count ≤ most_bytes_read }
@@ -83,7 +83,7 @@ impl Window {
 
     /// Returns the number of bits that wait.
     #[inline]
-    pub fn len(&self) -> usize
+    pub fn waiting(&self) -> usize
         requires { IsWindow self.now }
         ensures value { result ≡ length (window_bits self.now) }
         ensures piece { result ≤ most_waiting }
@@ -118,18 +118,18 @@ impl Window {
         requires { IsWindow self.now }
         ensures { result ≡ (before && is_blank (window_passed self.now)) }
     {
-        before && self.has_passed_zeros()
+        before && self.has_passed_zeros_alone()
     }
 
     /// Returns whether no bit taken since the mark is a 1.
-    fn has_passed_zeros(&self) -> bool
+    fn has_passed_zeros_alone(&self) -> bool
         requires { IsWindow self.now }
         ensures { result ≡ is_blank (window_passed self.now) }
     {
         let mut seen = self.marked;
         while seen < self.at {
             let count = AHEAD.min(self.at - seen);
-            if front_digits(bits_from(&self.buffer, seen), count as u32) != 0 {
+            if front_digits(at_least_57_bits_from(&self.buffer, seen), count as u32) != 0 {
                 return false;
             }
             seen += count;
@@ -145,7 +145,7 @@ impl Window {
             ≡ take (bits_near self.now) (window_bits self.now)
             ++ replicate (64 - bits_near self.now) false }
     {
-        bits_from(&self.buffer, self.at)
+        at_least_57_bits_from(&self.buffer, self.at)
     }
 
     /// Takes the first `width` bits if more wait.
@@ -184,7 +184,7 @@ impl Window {
 
     /// Returns the number of bits up to and including the first 1, if it comes soon.
     #[inline]
-    pub fn sequence_ahead(&self) -> Option<u64>
+    pub fn len_of_sequence_ahead(&self) -> Option<u64>
         requires { IsWindow self.now }
         ensures some { IfSome result (λ n. (0 < n) × (n ≤ length (window_bits self.now)) ×
             (take n (window_bits self.now) ≡ fundamental_sequence (n - 1))) }
@@ -259,7 +259,11 @@ impl Window {
         ensures { IfSome result (λ s.
             BeginWithSequences (drop skip (window_bits self.now)) count s.numbers s.len) }
     {
-        first_sequences(bits_from(&self.buffer, self.at + skip), bytes, count)
+        first_sequences(
+            at_least_57_bits_from(&self.buffer, self.at + skip),
+            bytes,
+            count,
+        )
     }
 
     /// Returns the sixteen words of `width` bits behind the first `skip` bits.

@@ -1,6 +1,6 @@
 -- What an outlet takes of a piece that is fed.
 use Rattle.std.proofs.Common.{◌≡◌, ℕ, List, [], Option, Some, None, Result, Ok, Err, refl, sym, ◌∙◌, ap, inl, inr, append-nil, ℤ}
-use Rattle.rice_bits.specs.device.Outlet.{Room, Fills}
+use Rattle.rice_bits.specs.device.OutletRoom.{Room, Fills}
 use Rattle.rice_samples.specs.Parameters.{Parameters}
 use Rattle.rice_stream.specs.Calls.{Fails}
 use Rattle.rice_stream.specs.EncodingState.{PushFails}

@@ -6,7 +6,7 @@ ghost use Rattle.rice_samples.specs.Places.{is_reference};
 ghost use Rattle.rice_samples.specs.predict.LevelsOfParts.{AreLevelsOfParts};
 ghost use Rattle.rice_code.specs.decode.BlocksInOnePass.{HasLanes, HasWidth, PartsAhead, SpellsParts};
 
-use rice_bits::{BitReader, Intake, behind_zero};
+use rice_bits::{BitReader, Intake, zero_and_all_but_last};
 use rice_samples::{
     LevelHalves, LevelLanes, Setting, halves_in_turn, level_of_pattern, levels_of_parts_in_turn,
     near_halves, near_levels, spelled_bytes, spelled_words,
@@ -171,8 +171,8 @@ fn parts_behind_reference<I: Intake, const WIDTH: usize>(
     // A residual of 0 stands at the place of the reference sample.
     Some(PartLanes {
         from: first,
-        highs: first_lanes(behind_zero(sequences.numbers), size),
-        lows: first_lanes(behind_zero(reader.words_ahead(words, k)), size),
+        highs: first_lanes(zero_and_all_but_last(sequences.numbers), size),
+        lows: first_lanes(zero_and_all_but_last(reader.words_ahead(words, k)), size),
         len: words + (size - 1) * k as usize,
     })
 }

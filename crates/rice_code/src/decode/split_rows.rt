@@ -6,7 +6,7 @@ ghost use Rattle.rice_code.specs.decode.BlocksInOnePass.{HasLanes, HasWidth, Par
 ghost use Rattle.rice_code.specs.decode.FieldsAhead.{HeadAhead, HighsAhead, LowsAhead, rows_len};
 
 use crate::decode::split_lanes::{begins_interval, first_lanes, spell_parts};
-use rice_bits::{BitReader, Intake, Sequences, behind_zero};
+use rice_bits::{BitReader, Intake, Sequences, zero_and_all_but_last};
 use rice_samples::{Setting, level_of_pattern};
 use std::simd::prelude::*;
 
@@ -92,7 +92,7 @@ pub fn behind_omitted(numbers: u8x16, omitted: usize) -> u8x16
     if omitted == 0 {
         numbers
     } else {
-        behind_zero(numbers)
+        zero_and_all_but_last(numbers)
     }
 }
 

@@ -159,7 +159,7 @@ impl BitBuffer {
         ensures len { length sink.new ≡ length sink.old + length self.old }
         ensures steps { meter.new ≡ meter.old + length self.old }
     {
-        sink.put_long(self.value, self.width, meter);
+        sink.put_up_to_56_digits(self.value, self.width, meter);
         self.value = 0;
         self.width = 0;
     }

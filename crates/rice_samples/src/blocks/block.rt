@@ -229,7 +229,7 @@ impl Block<'_> {
             (count + width * length self.now) }
     {
         let all = self.look(meter);
-        sink.put_whole_words(value, count, all, width, meter);
+        sink.put_number_and_whole_words(value, count, all, width, meter);
     }
 
     /// Ticks the looks of a search up to `limit` that stopped at `k`.

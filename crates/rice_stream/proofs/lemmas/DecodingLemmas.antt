@@ -28,7 +28,7 @@ use Rattle.rice_bits.specs.declared.read.fault.BitFault.{BitFault}
 use Rattle.rice_stream.specs.Decodes.{wanted_of}
 use Rattle.std.proofs.lemmas.List.{length-replicate}
 use Rattle.std.proofs.lemmas.List.Sums.{sum_by_push}
-use Rattle.rice_bits.specs.device.Outlet.{Room}
+use Rattle.rice_bits.specs.device.OutletRoom.{Room}
 use Rattle.rice_stream.specs.DecodingState.{DecodedSoFar, Gains, DecodingProgress, HasSets}
 use Rattle.rice_stream.proofs.lemmas.SetsRead.{sets-push}
 use Rattle.rice_stream.proofs.lemmas.DecodedSamples.{decoded_with_set, decoded_with_run_block}

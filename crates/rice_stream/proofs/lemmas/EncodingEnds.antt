@@ -5,7 +5,7 @@ use Rattle.std.specs.Io.KnownBytes.{IsAtEnd}
 use Rattle.std.proofs.Math.Nat.{mul-le-mul_right}
 use Rattle.std.proofs.Math.Seq.{take-append_seam}
 use Rattle.std.proofs.KnownBytes.{Consumes-trans}
-use Rattle.rice_bits.specs.device.Outlet.{Room}
+use Rattle.rice_bits.specs.device.OutletRoom.{Room}
 use Rattle.rice_samples.specs.Parameters.{Parameters, IsSample, width}
 use Rattle.rice_samples.specs.bytes.SampleReader.{SamplesAhead, GivesSamples, StopsSamples, CountsReads}
 use Rattle.rice_samples.specs.bytes.Spelling.{Spells, Reads, spellings, EndsSpelling, AtEnd, NoSpelling, TooFew}

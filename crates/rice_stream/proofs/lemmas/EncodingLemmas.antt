@@ -6,7 +6,7 @@ use Rattle.rice_code.specs.code.CodedDataSets.{bits_of_set}
 use Rattle.rice_code.specs.code.Blocks.{blocks_from, fill_count_of}
 use Rattle.rice_code.specs.code.Code.{data_sets, complete_samples}
 use Rattle.rice_code.specs.code.Layout.{layout}
-use Rattle.rice_bits.specs.device.Outlet.{Room, Appends}
+use Rattle.rice_bits.specs.device.OutletRoom.{Room, Appends}
 use Rattle.rice_bits.proofs.lemmas.device.OutletLemmas.{Appends-nil, Appends-trans}
 use Rattle.rice_bits.proofs.lemmas.bits.BytesAndBits.{whole_short}
 use Rattle.rice_bits.specs.Bits.{bits_in_bytes, bits_to_byte, padded_bits, whole_bytes}

@@ -7,7 +7,7 @@ use Rattle.std.proofs.Math.Seq.{paste, take-append-add, take-append_seam}
 use Rattle.std.proofs.lemmas.List.Edits.{take-paste}
 use Rattle.std.proofs.lemmas.List.{length-replicate, drop-drop, take-append-le, replicate-append-replicate, take_all}
 use Rattle.rice_bits.specs.read.Reader.{Reader}
-use Rattle.rice_bits.specs.device.Outlet.{Room, Appends}
+use Rattle.rice_bits.specs.device.OutletRoom.{Room, Appends}
 use Rattle.rice_samples.specs.Parameters.{Parameters, IsLegal, width}
 use Rattle.rice_samples.specs.bytes.Spelling.{spelling, spellings}
 use Rattle.rice_code.specs.code.Blocks.{zero_block}

@@ -3,7 +3,7 @@ use Rattle.std.proofs.Common.{◌≡◌, ℕ, ◌+◌, ◌*◌, ◌<◌, ◌≤�
 use Rattle.std.proofs.Math.Nat.{mul-le-mul_left}
 use Rattle.std.proofs.lemmas.Bool.{cases_lt}
 use Rattle.std.proofs.lemmas.List.{take-append-le}
-use Rattle.rice_bits.specs.device.Outlet.{Room}
+use Rattle.rice_bits.specs.device.OutletRoom.{Room}
 use Rattle.rice_samples.specs.Parameters.{Parameters, width}
 use Rattle.rice_samples.specs.bytes.Spelling.{Reads, spellings, EndsSpelling, NoSpelling}
 use Rattle.rice_stream.specs.EncodingState.{Beginning, Pushes}

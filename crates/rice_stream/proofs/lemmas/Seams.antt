@@ -4,7 +4,7 @@ use Rattle.std.proofs.lemmas.Bool.{cases_lt}
 use Rattle.std.proofs.lemmas.List.{take_at, length-take-le, length-replicate}
 use Rattle.std.proofs.lemmas.Nat.{shr_below}
 use Rattle.std.proofs.Math.Nat.{mul-le-mul_left, mul-mod_right, div-add-mod}
-use Rattle.rice_bits.specs.device.Outlet.{Room}
+use Rattle.rice_bits.specs.device.OutletRoom.{Room}
 use Rattle.rice_bits.proofs.lemmas.device.OutletLemmas.{Appends-nil}
 use Rattle.rice_bits.specs.Bits.{bits_of, bits_to_byte, padded_bits, whole_bytes, word}
 use Rattle.rice_bits.proofs.lemmas.bits.BytesAndBits.{bits_of-padded, length-bits_of}

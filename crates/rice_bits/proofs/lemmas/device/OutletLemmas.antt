@@ -5,7 +5,7 @@ use Rattle.std.proofs.Math.Seq.{drop-nil}
 use Rattle.std.proofs.lemmas.Slice.{take-put_mid, drop-put_mid}
 use borrow.Rule.Slice.PartMut.{put_mid}
 use Rattle.std.specs.Io.KnownBytes as bytes
-use Rattle.rice_bits.specs.device.Outlet.{Room, known, Fills, Appends, Keeps}
+use Rattle.rice_bits.specs.device.OutletRoom.{Room, known, Fills, Appends, Keeps}
 
 pub Appends-nil : (a : Option Room) → Appends a a []
 Appends-nil None = tt

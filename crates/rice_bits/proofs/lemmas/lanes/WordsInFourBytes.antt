@@ -10,8 +10,8 @@ use Rattle.std.proofs.lemmas.List.Elements.{All-cons, All-nil}
 use Rattle.std.proofs.lemmas.List.FromFn.{get_or-map-range_with_len}
 use Rattle.std.proofs.lemmas.Simd.{Each1-get_or, get_or_wider, pick_l_whole}
 use Rattle.rice_bits.specs.Bits.{bits_of, word}
-use Rattle.rice_bits.specs.lanes.Words.{pair_number}
-use Rattle.rice_bits.specs.lanes.WideWords.{four, places_from, quad_factors, quad_number, quad_places}
+use Rattle.rice_bits.specs.lanes.WordPlaces.{pair_number}
+use Rattle.rice_bits.specs.lanes.WideWordPlaces.{four, places_from, quad_factors, quad_number, quad_places}
 use Rattle.rice_bits.specs.declared.lanes.wide_words.TheConstants.{PLACES, FACTORS}
 use Rattle.rice_bits.proofs.lemmas.bits.FirstOneOfWord.{front_below}
 use Rattle.rice_bits.proofs.lemmas.bits.WordsAndNumbers.{word-cat}

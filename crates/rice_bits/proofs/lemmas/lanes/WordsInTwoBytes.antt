@@ -16,7 +16,7 @@ use Rattle.rice_bits.specs.read.EightWordPlaces.{eight}
 use Rattle.rice_bits.proofs.lemmas.bits.FirstOneOfWord.{front_below}
 use Rattle.rice_bits.proofs.lemmas.bits.WordsAndNumbers.{word-cat}
 use Rattle.rice_bits.proofs.lemmas.read.WindowLemmas.{take-bits_of, word-behind}
-use Rattle.rice_bits.specs.lanes.Words.{pair_number, factors, places}
+use Rattle.rice_bits.specs.lanes.WordPlaces.{pair_number, factors, places}
 use Rattle.rice_bits.specs.declared.lanes.words.TheConstants.{PLACES, FACTORS}
 
 -- the tables

@@ -1,5 +1,5 @@
 use Rattle.std.proofs.Common.{◌++◌, List, ℕ, Some, sym, ◌∙◌, subst, ap, length, take-append-drop}
-use Rattle.rice_bits.specs.device.Outlet.{Room, begun}
+use Rattle.rice_bits.specs.device.OutletRoom.{Room, begun}
 use Rattle.rice_bits.specs.device.Slice.{slice_left, slice_state}
 use Rattle.rice_stream.specs.Calls.{Happens}
 use Rattle.rice_stream.specs.Decodes.{Decodes, DecodesWithin}

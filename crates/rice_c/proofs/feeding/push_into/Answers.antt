@@ -1,5 +1,5 @@
 use Rattle.std.proofs.Common.{◌∙◌, Some, None, Option, Result, Ok, Err, sym, subst, ap, refl, take-append-drop}
-use Rattle.rice_bits.specs.device.Outlet.{Room, begun}
+use Rattle.rice_bits.specs.device.OutletRoom.{Room, begun}
 use Rattle.rice_bits.specs.device.Slice.{slice_state}
 use Rattle.rice_stream.specs.Feeding.{EncodesMore}
 use Rattle.rice_stream.specs.declared.outcome.Fault.{Fault}

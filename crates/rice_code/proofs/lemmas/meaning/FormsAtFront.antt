@@ -10,7 +10,7 @@ use Rattle.std.proofs.lemmas.List.Folds.{flat_map-map}
 use Rattle.std.proofs.lemmas.Nat.{pow_pos}
 use Rattle.rice_bits.specs.Bits.{word, fundamental_sequence}
 use Rattle.rice_bits.proofs.lemmas.bits.WordsReadInOneWay.{word_reads, sequence_reads, pieces_read, bits_read}
-use Rattle.rice_bits.proofs.lemmas.bits.PiecesAtFront.{Piece, NoPiece, Search, word_piece, bits_piece, sequence_piece, search_pieces, two_pieces}
+use Rattle.rice_bits.proofs.lemmas.bits.FieldsAtFront.{Piece, NoPiece, Search, word_piece, bits_piece, sequence_piece, search_pieces, two_pieces}
 use Rattle.rice_bits.proofs.lemmas.bits.WordsAndNumbers.{length-word, followed_by, high-followed_by, word-followed_by}
 use Rattle.rice_samples.specs.Parameters.{Parameters, IsLegal, id_len, k_max, value_count}
 use Rattle.rice_samples.specs.Places.{is_reference}

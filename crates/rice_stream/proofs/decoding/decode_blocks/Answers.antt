@@ -1,6 +1,6 @@
 use Rattle.std.proofs.Common.{arith, ◌≡◌, ◌+◌, ◌-◌, ◌*◌, ◌≤◌, List, ℕ, ap, refl, sym, ◌∙◌, subst, true, Some}
 use Rattle.std.specs.Prelude.{Ok}
-use Rattle.rice_bits.specs.device.Outlet.{Appends}
+use Rattle.rice_bits.specs.device.OutletRoom.{Appends}
 use Rattle.rice_stream.specs.Decodes.{wanted_of, refusal_fault}
 use Rattle.rice_stream.specs.FailedWrites.{TakesPart}
 use Rattle.rice_stream.proofs.lemmas.DecodingLemmas.{decoder_advances, decoding_is_done, gains_block, moves_of, samples_of_block, stops_in_no_run}

@@ -1,6 +1,6 @@
 use Rattle.std.proofs.Common.{arith, ◌≡◌, ◌+◌, ap, sym, ◌∙◌, subst, length, take, drop, length-drop, ◌-◌}
 use Rattle.std.proofs.Math.Seq.{take-length, take-add}
-use Rattle.rice_bits.specs.device.Outlet.{Appends}
+use Rattle.rice_bits.specs.device.OutletRoom.{Appends}
 use Rattle.rice_bits.proofs.lemmas.device.OutletLemmas.{Appends-trans, Appends-kept}
 use Rattle.rice_stream.proofs.write.write_in_calls.Goals as goal
 

@@ -4,4 +4,4 @@ use Rattle.rice_bits.proofs.lanes.wide_words.four_words_of_32_bits_from.Goals as
 
 pub returns-clause-bits : goal.returns-clause-bits
 unfolding bits_of
-returns-clause-bits c = c.four_numbers.ensures.bits ∙ c.sixteen_words_from.ensures.bits
+returns-clause-bits c = c.numbers_of_four_bytes_each.ensures.bits ∙ c.sixteen_words_from.ensures.bits

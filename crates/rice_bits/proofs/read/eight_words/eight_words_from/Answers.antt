@@ -5,5 +5,5 @@ use Rattle.rice_bits.proofs.read.eight_words.eight_words_from.Goals as goal
 
 pub returns-clause-bits : goal.returns-clause-bits
 returns-clause-bits c =
-    eight-ahead c.args.width (c.args.at % 8) c.bits_from.result (drop c.args.at (bits_of c.args.bytes.now)) c.eight_words.result c.requires.width.1
-    (omega arith) c.bits_from.ensures c.eight_words.ensures.bits
+    eight-ahead c.args.width (c.args.at % 8) c.at_least_57_bits_from.result (drop c.args.at (bits_of c.args.bytes.now)) c.first_eight_words.result c.requires.width.1
+    (omega arith) c.at_least_57_bits_from.ensures c.first_eight_words.ensures.bits

@@ -1,4 +1,4 @@
-use Rattle.rice_bits.proofs.lemmas.read.FourWords.{four-fit, four-words}
+use Rattle.rice_bits.proofs.lemmas.read.FourWordsLemmas.{four-fit, four-words}
 use Rattle.rice_bits.proofs.read.four_words.first_two_words_of_both.Goals as goal
 
 pub returns-clause-fit : goal.returns-clause-fit

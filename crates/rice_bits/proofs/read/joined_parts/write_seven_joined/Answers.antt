@@ -20,6 +20,6 @@ returns c =
     written-more c.args.bytes.now c.args.at w c.args.ends.now done 7 c.args.numbers.now _ (take 7 words.result) (take 7 eight.result) c.requires.written
     (length-take-le 7 words.result (omega (arith, words.ensures.len))) (All-take (λ v. v < 2 ^ w) 7 words.result words.ensures.fit)
     (words-front w 7 words.result (omega (arith, words.ensures.len)) ∙ (ap (take (7 * w)) words.ensures.bits ∙ take-take (7 * w) (8 * w) behind few))
-    (ap (take 7) eight.ensures.value ∙ (take-joined w 7 c.narrow_gaps.result words.result
-    ∙ ap (λ ms. joined_parts w ms (take 7 words.result)) (ap (take 7) c.narrow_gaps.ensures.value ∙ take-take 7 8 (drop done (gaps c.args.ends.now)) (omega arith))))
+    (ap (take 7) eight.ensures.value ∙ (take-joined w 7 c.eight_narrow_gaps.result words.result
+    ∙ ap (λ ms. joined_parts w ms (take 7 words.result)) (ap (take 7) c.eight_narrow_gaps.ensures.value ∙ take-take 7 8 (drop done (gaps c.args.ends.now)) (omega arith))))
     (seven-written done c.args.numbers.now eight.result _ _ eight.ensures.len c.requires.inside split.0 split.1) (omega (arith, c.requires.inside, c.requires.few, c.told-ends))

@@ -4,7 +4,7 @@ use Rattle.std.specs.Simd.Lanes.{put_chunk}
 use Rattle.std.proofs.lemmas.Simd.{length-put_chunk}
 use Rattle.rice_bits.specs.Bits.{word, bits_of}
 use Rattle.rice_bits.specs.read.Window.{most_waiting}
-use Rattle.rice_bits.proofs.lemmas.read.FourWords.{four-within}
+use Rattle.rice_bits.proofs.lemmas.read.FourWordsLemmas.{four-within}
 use Rattle.rice_bits.proofs.lemmas.read.WindowLemmas.{words-written, all-written, all-last, words-last}
 use Rattle.rice_bits.proofs.read.words.inlined_words_by_fours_from.Goals as goal
 

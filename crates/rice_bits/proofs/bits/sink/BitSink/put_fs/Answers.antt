@@ -4,8 +4,8 @@ use Rattle.rice_bits.proofs.lemmas.bits.WordsAndNumbers.{length-fundamental_sequ
 use Rattle.rice_bits.proofs.lemmas.bits.SinkBytes.{gathered-one, length_viewed}
 use Rattle.rice_bits.proofs.bits.sink.BitSink.put_fs.Goals as goal
 
-pub join_one_bit-requires : goal.join_one_bit-requires
-join_one_bit-requires g c =
+pub join_one_at_bit-requires : goal.join_one_at_bit-requires
+join_one_at_bit-requires g c =
     let before : length c.args.self.now ≡ c.self.inside.bits = length_viewed _ _ _ _ c.self.invariant c.self.told c.self.view_is in
     omega (arith, before, c.requires.room, c.self.told)
 
@@ -14,7 +14,7 @@ invariant_of-self g c =
     let before : length c.args.self.now ≡ c.self.inside.bits = length_viewed _ _ _ _ c.self.invariant c.self.told c.self.view_is in
     let zeros : drop c.self.inside.bits (bits_of c.self.inside.bytes) ≡ replicate (8 * length c.self.inside.bytes - c.self.inside.bits) false =
     c.self.invariant.zeros ∙ ap (λ n. replicate (8 * n - c.self.inside.bits) false) (sym c.self.told) in
-    let one = gathered-one c.self.inside.bytes c.join_one_bit.new.bytes c.self.inside.bits c.args.m (omega (arith, before, c.requires.room, c.self.told)) zeros c.join_one_bit.ensures in
+    let one = gathered-one c.self.inside.bytes c.join_one_at_bit.new.bytes c.self.inside.bits c.args.m (omega (arith, before, c.requires.room, c.self.told)) zeros c.join_one_at_bit.ensures in
     record {
       room = omega (arith, before, c.requires.room);
       zeros = one.1 ∙ ap (λ n. replicate (8 * n - (c.self.inside.bits + (c.args.m + 1))) false) c.self.told;
@@ -26,8 +26,8 @@ returns g c =
     let before : length c.args.self.now ≡ c.self.inside.bits = length_viewed _ _ _ _ c.self.invariant c.self.told c.self.view_is in
     let zeros : drop c.self.inside.bits (bits_of c.self.inside.bytes) ≡ replicate (8 * length c.self.inside.bytes - c.self.inside.bits) false =
     c.self.invariant.zeros ∙ ap (λ n. replicate (8 * n - c.self.inside.bits) false) (sym c.self.told) in
-    let put : take (c.self.inside.bits + (c.args.m + 1)) (bits_of c.join_one_bit.new.bytes) ≡ c.args.self.now ++ fundamental_sequence c.args.m = rw (← c.self.view_is)
-    (gathered-one c.self.inside.bytes c.join_one_bit.new.bytes c.self.inside.bits c.args.m (omega (arith, before, c.requires.room, c.self.told)) zeros c.join_one_bit.ensures).0 in
+    let put : take (c.self.inside.bits + (c.args.m + 1)) (bits_of c.join_one_at_bit.new.bytes) ≡ c.args.self.now ++ fundamental_sequence c.args.m = rw (← c.self.view_is)
+    (gathered-one c.self.inside.bytes c.join_one_at_bit.new.bytes c.self.inside.bits c.args.m (omega (arith, before, c.requires.room, c.self.told)) zeros c.join_one_at_bit.ensures).0 in
     record {
       bits = put;
       len = omega (arith, ap length put, length-append c.args.self.now (fundamental_sequence c.args.m), length-fundamental_sequence c.args.m);

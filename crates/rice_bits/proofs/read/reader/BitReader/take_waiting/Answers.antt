@@ -20,7 +20,7 @@ returns-clause-steps g c =
       taken.ensures.passes.taken,
       ap length taken.ensures.passes.split
           ∙ length-append (flat_map (word c.args.width) (take taken.result taken.new.words)) (window_bits taken.new.self),
-      c.len-before.ensures.value,
-      c.len-left.ensures.value,
+      c.waiting-before.ensures.value,
+      c.waiting-left.ensures.value,
       ap (λ r. r.taken) c.self.view_is,
     )

@@ -37,7 +37,7 @@ tick-requires-2 g c =
       arith,
       c.requires.meter,
       c.min-zeros.ensures,
-      c.len.ensures.value,
+      c.waiting.ensures.value,
       length-window _ c.draw_if_empty.ensures.window,
       c.draw_if_empty.ensures.window.limit,
       c.draw_if_empty.ensures.window.held,
@@ -48,9 +48,9 @@ tick-requires-2 g c =
 pub returns-clause-zeros : goal.returns-clause-zeros
 returns-clause-zeros g c _ =
     let supply = c.in_default.ensures in
-    let some : 0 < c.min-zeros.result = omega (arith, c.min-zeros.ensures, c.len.ensures.value, supply.some) in
-    let few : c.min-zeros.result ≡ min 57 (length (window_bits c.draw_if_empty.new.window)) = c.min-zeros.ensures ∙ ap (min 57) c.len.ensures.value in
-    let zeros : take c.min-zeros.result (window_bits c.draw_if_empty.new.window) ≡ replicate c.min-zeros.result false = rw few c.in_default-sequence_ahead.ensures.none in
+    let some : 0 < c.min-zeros.result = omega (arith, c.min-zeros.ensures, c.waiting.ensures.value, supply.some) in
+    let few : c.min-zeros.result ≡ min 57 (length (window_bits c.draw_if_empty.new.window)) = c.min-zeros.ensures ∙ ap (min 57) c.waiting.ensures.value in
+    let zeros : take c.min-zeros.result (window_bits c.draw_if_empty.new.window) ≡ replicate c.min-zeros.result false = rw few c.in_default-len_of_sequence_ahead.ensures.none in
     let passes = subst (λ bits. Passes c.draw_if_empty.new.window c.pass-2.new.self bits) zeros c.pass-2.ensures.passes in
     let none : c.self.inside.refusal ≡ None = ap (λ r. r.refusal) c.self.view_is ∙ c.requires.going in (
       some,

@@ -8,11 +8,11 @@ overflow_add-self c =
     let h = c.requires.window in
     record { fits = omega (arith, c.requires.there, length-window c.args.self.now h, h.ordered, h.fits) }
 
-pub bits_from-requires : goal.bits_from-requires
-bits_from-requires c =
+pub at_least_57_bits_from-requires : goal.at_least_57_bits_from-requires
+at_least_57_bits_from-requires c =
     let h = c.requires.window in
     omega (arith, c.requires.there, length-window c.args.self.now h, h.size, h.ordered, h.fits)
 
 pub returns : goal.returns
 returns c =
-    sequences-wait c.args.self.now c.args.skip c.args.count c.bits_from.result c.first_sequences.result c.requires.window c.requires.there c.bits_from.ensures c.first_sequences.ensures.begin
+    sequences-wait c.args.self.now c.args.skip c.args.count c.at_least_57_bits_from.result c.first_sequences.result c.requires.window c.requires.there c.at_least_57_bits_from.ensures c.first_sequences.ensures.begin

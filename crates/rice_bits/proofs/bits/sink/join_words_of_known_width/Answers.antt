@@ -1,7 +1,0 @@
-use Rattle.std.proofs.Common.{◌+◌, ◌%◌, arith, length}
-use Rattle.rice_bits.proofs.lemmas.bits.WholeWords.{last-joins}
-use Rattle.rice_bits.proofs.bits.sink.join_words_of_known_width.Goals as goal
-
-pub returns : goal.returns
-returns c =
-    last-joins (c.args.bits % 8 + c.args.count) _ c.args.count c.args.width (length c.args.words.now) c.args.bits _ _ _ _ _ _ c.requires.width c.requires.eights.0 (omega arith) (omega (arith, c.requires.count.1)) c.join_whole_bytes-all.ensures c.join_digits.ensures
