@@ -1,6 +1,6 @@
 -- Samples in bytes.
 pub mod PatternLanes
 pub mod SampleReader
-pub mod SpelledPatterns
+pub mod UnusedBits
 pub mod Spelling
 pub mod ValueRange

@@ -1,7 +1,7 @@
 //! Blocks of residuals, which are read only by calls that count their steps.
 
 pub mod block;
-mod lanes;
-mod pair_codewords;
+mod pair_codeword_lengths;
 pub mod segment;
 mod stops;
+mod tests_and_sums;

@@ -4,7 +4,7 @@ pub mod pattern_lanes;
 pub mod reading;
 pub mod sample_fault;
 pub mod sample_reader;
-pub mod spelled_patterns;
 pub mod spelling;
 pub mod three_bytes;
+pub mod unused_bits;
 pub mod writing;

@@ -16,15 +16,15 @@ pub use bytes::pattern_lanes::bytes_of_patterns;
 pub use bytes::reading::{first_levels, levels_of};
 pub use bytes::sample_fault::SampleFault;
 pub use bytes::sample_reader::{MOST_INPUT, SampleReader};
-pub use bytes::spelled_patterns::spell_patterns;
 pub use bytes::spelling::{bytes_of, sample_of};
 pub use bytes::three_bytes::write_threes;
-pub use bytes::writing::{write_spellings, write_spellings_as};
+pub use bytes::unused_bits::set_unused_bits;
+pub use bytes::writing::{write_spellings, write_spellings_laid_out};
 pub use predict::preprocessor::{from_pattern, pattern, residual, restore};
-pub use predict::residuals::rows::pattern_at;
-pub use predict::restoring::byte_lanes::{LevelLanes, near_levels, spelled_bytes};
+pub use predict::residuals::from_levels::pattern_of_level;
+pub use predict::restoring::byte_lanes::{LevelLanes, near_levels, spelled_in_one_byte};
 pub use predict::restoring::bytes_in_turn::{levels_in_turn, levels_of_parts_in_turn};
-pub use predict::restoring::half_lanes::{LevelHalves, near_halves, spelled_words};
+pub use predict::restoring::half_lanes::{LevelHalves, near_halves, spelled_in_two_bytes};
 pub use predict::restoring::halves_in_turn::halves_in_turn;
 pub use predict::restoring::levels::{
     level_of_pattern, levels_of_patterns, restore_by_selection, restore_near_first,

@@ -63,7 +63,7 @@ pub(crate) fn bytes_with(word: u32, width: u32, msb: bool) -> ArrayVec<u8, 4>
     let mut bytes = [0; 4];
     let lowest = &mut bytes[..width as usize];
     store_word(word, msb, lowest);
-    byte_vector_of(lowest)
+    bytes_in_array_vec(lowest)
 }
 
 /// Stores the lowest bytes of a word in all places of a slice.
@@ -90,7 +90,7 @@ pub(crate) fn store_word(word: u32, msb: bool, bytes: &mut [u8])
 
 /// Returns the bytes in a vector.
 #[inline]
-fn byte_vector_of(bytes: &[u8]) -> ArrayVec<u8, 4>
+fn bytes_in_array_vec(bytes: &[u8]) -> ArrayVec<u8, 4>
     requires { length bytes.now ≤ 4 }
     ensures { result.items ≡ bytes.now }
 {

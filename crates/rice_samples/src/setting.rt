@@ -305,7 +305,7 @@ impl Setting {
 
     /// Returns the number of values that a sample can have, and so a residual: 2^n.
     #[inline]
-    pub fn values(&self) -> u64
+    pub fn number_of_values(&self) -> u64
         ensures value { result ≡ value_count self.now }
         ensures range { (2 ≤ result) × (result ≤ 2 ^ 32) }
         ensures legal { IsLegal self.now }

@@ -17,7 +17,7 @@ use crate::strokes::{copy_at, next_stroke, stand_behind};
 use arrayvec::ArrayVec;
 use rice_bits::{BitReader, Meter, SliceIn};
 use rice_code::{CodeFault, Decoder, NextBlock};
-use rice_samples::{Setting, write_spellings, write_spellings_as, write_threes};
+use rice_samples::{Setting, write_spellings, write_spellings_laid_out, write_threes};
 
 /// The most bits of a code.
 const LIMIT: u64 = 1 << 52;
@@ -315,7 +315,7 @@ fn write_sized_at(
     ensures { samples.new ≡ spelled_at setting.now at levels.now samples.old }
 {
     let spelled = &mut bytes[..width * count];
-    write_spellings_as(setting, width, msb, &levels[..count], spelled);
+    write_spellings_laid_out(setting, width, msb, &levels[..count], spelled);
     copy_at(spelled, at, samples);
 }
 

@@ -7,7 +7,7 @@ ghost use Rattle.rice_samples.specs.bytes.Spelling.{spellings};
 ghost use Rattle.rice_stream.specs.FailedWrites.{TakesPart};
 
 use rice_bits::{BitSink, Outlet, WriteFault};
-use rice_samples::{Setting, write_spellings, write_spellings_as, write_threes};
+use rice_samples::{Setting, write_spellings, write_spellings_laid_out, write_threes};
 
 /// Writes all of the bytes. `WriteFault` only if the outlet fails, which has then taken a part of them, and not all.
 #[inline(always)]
@@ -201,6 +201,6 @@ fn write_sized<O: Outlet>(
         (O.failed outlet.new ≡ O.failed outlet.old + 1)) }
 {
     let spelled = &mut bytes[..width * count];
-    write_spellings_as(setting, width, msb, &levels[..count], spelled);
+    write_spellings_laid_out(setting, width, msb, &levels[..count], spelled);
     write_all(outlet, spelled)
 }

@@ -68,7 +68,7 @@ fn are_legal(setting: &Setting, levels: &[u32]) -> bool
     ensures { result ≡ true → All (λ l. l < value_count setting.now) levels.now }
 {
     for i in 0..levels.len() {
-        if levels[i] as u64 >= setting.values() {
+        if levels[i] as u64 >= setting.number_of_values() {
             return false;
         }
     }

@@ -6,8 +6,8 @@ use rice_bits::{BitSink, Meter, SliceIn};
 use rice_samples::{
     SampleFault, SampleReader, Segment, Setting, SettingFault, bytes_of as bytes_of_sample,
     first_levels, from_pattern, level_of_pattern, levels_of, levels_of_patterns, pattern,
-    pattern_at, residual, restore, restore_near_first, sample_of, spell_patterns, write_spellings,
-    write_spellings_as,
+    pattern_of_level, residual, restore, restore_near_first, sample_of, set_unused_bits,
+    write_spellings, write_spellings_laid_out,
 };
 use std::test::Fail;
 
@@ -194,9 +194,9 @@ fn patterns(rt: HostRuntime) -> Result<(), Fail> {
         cases.check(from_pattern(&setting, digits) == x);
         cases.check(level_of_pattern(&setting, digits) == level);
         cases.check(setting.level(x) == level as u64);
-        assert!(rt; (level as u64) < setting.values());
+        assert!(rt; (level as u64) < setting.number_of_values());
         cases.check(setting.value_at(level as u64) == x);
-        cases.check(pattern_at(&setting, level) == word);
+        cases.check(pattern_of_level(&setting, level) == word);
     }
     cases.end(&rt);
     Ok(())
@@ -476,9 +476,9 @@ fn samples_in_a_row(rt: HostRuntime) -> Result<(), Fail> {
     let levels = [6, 5, 5, 4, 0, 255, 0, 255];
     // Those of -1, -128, 127, 0, 1, 2, -2 and -127.
     let negative = [127, 0, 255, 128, 129, 130, 126, 1];
-    assert!(rt; 5 < setting.values());
-    assert!(rt; are_below(setting.values(), &levels));
-    assert!(rt; are_below(signed.values(), &negative));
+    assert!(rt; 5 < setting.number_of_values());
+    assert!(rt; are_below(setting.number_of_values(), &levels));
+    assert!(rt; are_below(signed.number_of_values(), &negative));
     let mut segment = Segment::new();
     segment.push_residuals(&setting, 5, &levels);
     segment.push_patterns(&signed, &negative);
@@ -502,9 +502,9 @@ fn samples_restored_in_a_row(rt: HostRuntime) -> Result<(), Fail> {
     let signed = of_bits(8, true)?;
     let residuals = [2, 1, 0, 1, 7, 255, 255, 255];
     let patterns = [255, 128, 127, 0, 1, 2, 254, 129];
-    assert!(rt; 5 < setting.values());
-    assert!(rt; are_below(setting.values(), &residuals));
-    assert!(rt; are_below(signed.values(), &patterns));
+    assert!(rt; 5 < setting.number_of_values());
+    assert!(rt; are_below(setting.number_of_values(), &residuals));
+    assert!(rt; are_below(signed.number_of_values(), &patterns));
     let mut levels = [0; 8];
     restore_near_first(&setting, 5, &residuals, &mut levels);
     cases.check(levels == [6, 5, 5, 4, 0, 255, 0, 255]);
@@ -563,12 +563,12 @@ fn levels_of_bytes(rt: HostRuntime) -> Result<(), Fail> {
         }
         let levels = &levels[..expected.len()];
         cases.check(&read[..taken] == levels);
-        assert!(rt; are_below(setting.values(), levels));
+        assert!(rt; are_below(setting.number_of_values(), levels));
         let mut back = [0; 12];
         write_spellings(&setting, levels, &mut back[..end]);
         cases.check(&back[..end] == &bytes[..end]);
         let mut back = [0; 12];
-        write_spellings_as(&setting, width, setting.msb(), levels, &mut back[..end]);
+        write_spellings_laid_out(&setting, width, setting.msb(), levels, &mut back[..end]);
         cases.check(&back[..end] == &bytes[..end]);
     }
     cases.end(&rt);
@@ -618,9 +618,9 @@ fn samples_of_an_intake(rt: HostRuntime) -> Result<(), Fail> {
 fn unused_bits(rt: HostRuntime) -> Result<(), Fail> {
     let mut cases = Cases::new();
     let mut bytes = [0x23, 0xA1, 0xFF, 0x5F, 0x77];
-    spell_patterns(&setting_of("n12 s")?, &mut bytes);
+    set_unused_bits(&setting_of("n12 s")?, &mut bytes);
     cases.check(bytes == [0x23, 0x01, 0xFF, 0xFF, 0x77]);
-    spell_patterns(&setting_of("n12")?, &mut bytes);
+    set_unused_bits(&setting_of("n12")?, &mut bytes);
     cases.check(bytes == [0x23, 0x01, 0xFF, 0x0F, 0x77]);
     cases.end(&rt);
     Ok(())

@@ -8,7 +8,7 @@ ghost use Rattle.rice_code.specs.decode.FieldsAhead.{UncompressedAhead};
 use crate::decode::split_ahead::{SpelledBlock, has_rows};
 use crate::decode::split_rows::{behind_omitted, head_ahead, low_parts_in_rows, row_len};
 use rice_bits::{BitReader, Intake};
-use rice_samples::{Setting, levels_in_turn, spelled_bytes};
+use rice_samples::{Setting, levels_in_turn, spelled_in_one_byte};
 use std::simd::prelude::*;
 
 /// The bits before the words of a block, and those behind them that are looked at with them, at most.
@@ -55,7 +55,7 @@ fn restore_and_spell(
 {
     let _bits = setting.bits();
     let turned = levels_in_turn(setting, from, residuals);
-    spelled_bytes(setting, turned.levels).copy_to_slice(bytes);
+    spelled_in_one_byte(setting, turned.levels).copy_to_slice(bytes);
     turned.levels.to_array()[size - 1] as u32
 }
 

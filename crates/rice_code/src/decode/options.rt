@@ -145,7 +145,7 @@ pub fn read_second_extension<I: Intake>(
     ensures steps { AreCounted meter.old meter.new reader.old.taken reader.new.taken }
 {
     let reference = read_reference(setting, block, reader, meter)?;
-    let values = setting.values();
+    let values = setting.number_of_values();
     let few = read_pairs(reader, meter, codes, residuals)?;
     let sound = are_sound(reference, few, residuals, values);
     Ok(BlockSummary { reference, sound })
@@ -174,7 +174,7 @@ pub fn read_split<I: Intake>(
     ensures steps { AreCounted meter.old meter.new reader.old.taken reader.new.taken }
 {
     let reference = read_reference(setting, block, reader, meter)?;
-    let values = setting.values();
+    let values = setting.number_of_values();
     let most = (values - 1) >> k;
     let first = write_zero_for_reference(reference, residuals);
     let small = read_sent(reader, meter, most, k, first, highs, residuals)?;

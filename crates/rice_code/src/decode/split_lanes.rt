@@ -9,7 +9,7 @@ ghost use Rattle.rice_code.specs.decode.BlocksInOnePass.{HasLanes, HasWidth, Par
 use rice_bits::{BitReader, Intake, zero_and_all_but_last};
 use rice_samples::{
     LevelHalves, LevelLanes, Setting, halves_in_turn, level_of_pattern, levels_of_parts_in_turn,
-    near_halves, near_levels, spelled_bytes, spelled_words,
+    near_halves, near_levels, spelled_in_one_byte, spelled_in_two_bytes,
 };
 use std::simd::prelude::*;
 
@@ -278,7 +278,7 @@ fn spell_bytes<const TURNS: bool>(
 {
     let _bits = setting.bits();
     let near = row_levels::<TURNS>(setting, from, highs, lows, k)?;
-    spelled_bytes(setting, near.levels).copy_to_slice(bytes);
+    spelled_in_one_byte(setting, near.levels).copy_to_slice(bytes);
     Some(near.levels.to_array()[size - 1] as u32)
 }
 
@@ -304,10 +304,10 @@ fn spell_words<const TURNS: bool>(
     ensures none { IfNone result (bytes.new ≡ bytes.old) }
 {
     let near = row_halves::<TURNS>(setting, from, highs, lows, k)?;
-    spelled_words(setting, near.first).copy_to_slice(bytes);
+    spelled_in_two_bytes(setting, near.first).copy_to_slice(bytes);
     if size <= 8 {
         return Some(near.first.to_array()[size - 1] as u32);
     }
-    spelled_words(setting, near.second).copy_to_slice(&mut bytes[16..]);
+    spelled_in_two_bytes(setting, near.second).copy_to_slice(&mut bytes[16..]);
     Some(near.second.to_array()[size - 9] as u32)
 }

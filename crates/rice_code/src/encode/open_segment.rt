@@ -14,7 +14,7 @@ use crate::encode::SegmentSink;
 use crate::encode::blocks::code_blocks;
 use crate::encode::prepared_setting::PreparedSetting;
 use rice_bits::Meter;
-use rice_samples::{Residuals, Setting, pattern, pattern_at, residual};
+use rice_samples::{Residuals, Setting, pattern, pattern_of_level, residual};
 use std::marker::Model;
 
 /// The residuals of a segment that is not coded yet, at most `N`, and what is known of it.
@@ -172,7 +172,7 @@ impl<const N: usize> OpenSegment<N> {
         // The residual of a sample after itself is 0, as it is at a reference place.
         if self.is_reference_next() {
             let first = levels[0];
-            self.reference = Some(pattern_at(self.setting.plain(), first));
+            self.reference = Some(pattern_of_level(self.setting.plain(), first));
             self.hold_after(first, levels);
         } else {
             self.hold_after(self.previous, levels);

@@ -2,4 +2,4 @@
 pub mod FallingSums
 pub mod EightsInLanes
 pub mod PairNumbers
-pub mod PairSums
+pub mod CodesOfPairsInTurn

@@ -5,7 +5,7 @@ pub mod GivenSamples
 pub mod LevelPatterns
 pub mod ReadLevels
 pub mod ReadSamples
-pub mod SpelledPatterns
+pub mod UnusedBits
 pub mod SpellingLemmas
 pub mod SpellingLengths
 pub mod LanesOfWholeBytes

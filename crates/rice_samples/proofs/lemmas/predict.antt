@@ -15,5 +15,5 @@ pub mod RankedLevels
 pub mod Ranks
 pub mod ResidualLemmas
 pub mod RestoredLevels
-pub mod RanksInTurn
+pub mod RanksPreparedForTurns
 pub mod WordLanes

@@ -7,9 +7,9 @@ ghost use Rattle.rice_samples.specs.blocks.Pairs.{pair_codes};
 ghost use Rattle.rice_samples.specs.blocks.Stops.{IsFirstStop};
 ghost use Rattle.rice_samples.specs.Parameters.{IsBlockSize};
 
-use crate::blocks::lanes::{all_of, all_zero, sum_shifted};
-use crate::blocks::pair_codewords::{pair_sum, pair_sum_in_32_bits};
+use crate::blocks::pair_codeword_lengths::{pair_sum, pair_sum_in_32_bits};
 use crate::blocks::stops::{first_small_stop, first_stop};
+use crate::blocks::tests_and_sums::{all_of, all_zero, sum_shifted};
 use rice_bits::{BitSink, Meter};
 use std::marker::Model;
 

@@ -5,7 +5,7 @@ ghost use Rattle.rice_samples.specs.Parameters.{value_count, values_at};
 ghost use Rattle.rice_samples.specs.predict.Residuals.{pattern, ranks_below};
 ghost use Rattle.rice_samples.specs.Parameters.{IsBlockSize};
 
-use crate::predict::residuals::rows::{write_patterns, write_residuals};
+use crate::predict::residuals::from_levels::{write_patterns, write_residuals};
 use crate::{Block, Setting};
 use std::marker::Model;
 

@@ -3,7 +3,7 @@ ghost use Rattle.std.specs.Prelude.{◌≡◌, All, ℕ, ◌+◌, ◌*◌, ◌/�
 ghost use Rattle.rice_samples.specs.Parameters.{IsBlockSize};
 ghost use Rattle.rice_samples.specs.blocks.Stops.{IsFirstStop};
 
-use crate::blocks::lanes::{all_of, small_sum, sum_shifted};
+use crate::blocks::tests_and_sums::{all_of, small_sum_shifted, sum_shifted};
 
 /// The first `k`, up to `limit`, at which one digit more takes no more than `price` off the sum of the numbers without
 /// their `k` lowest digits, and this sum.
@@ -34,7 +34,7 @@ fn stop_of(items: &[u32], limit: u32, price: u64) -> (u32, u64)
     ensures size { result.1 ≤ 2 ^ 38 }
 {
     let whole = sum_shifted(items, 0);
-    let mut k = sure_digits(whole, items.len(), price).min(limit);
+    let mut k = digits_surely_above_price(whole, items.len(), price).min(limit);
     let mut sum = sum_without_digits(items, k, whole);
     while k < limit {
         let next = sum_without_digits(items, k + 1, whole);
@@ -74,11 +74,11 @@ fn small_stop_of(items: &[u32], limit: u32, price: u64) -> (u32, u32)
     requires price { price ≤ 64 }
     ensures stop { IsFirstStop items.now limit price result.0 result.1 }
 {
-    let whole = small_sum(items, 0);
-    let mut k = sure_digits(whole as u64, items.len(), price).min(limit);
-    let mut sum = small_sum(items, k);
+    let whole = small_sum_shifted(items, 0);
+    let mut k = digits_surely_above_price(whole as u64, items.len(), price).min(limit);
+    let mut sum = small_sum_shifted(items, k);
     while k < limit {
-        let next = small_sum(items, k + 1);
+        let next = small_sum_shifted(items, k + 1);
         if sum as u64 <= next as u64 + price {
             return (k, sum);
         }
@@ -90,7 +90,7 @@ fn small_stop_of(items: &[u32], limit: u32, price: u64) -> (u32, u32)
 
 /// Returns how many of the lowest digits of `len` numbers surely take more than `price` each off their sum, one after another.
 #[inline(always)]
-fn sure_digits(sum: u64, len: usize, price: u64) -> u32
+fn digits_surely_above_price(sum: u64, len: usize, price: u64) -> u32
     requires len { len ≤ 64 }
     requires price { price ≤ 64 }
     ensures { (j : ℕ) → j < result → (len + 2 * price) * 2 ^ j ≤ sum }
@@ -113,7 +113,7 @@ fn sum_without_digits(items: &[u32], k: u32, whole: u64) -> u64
 {
     match k {
         0 => whole,
-        _ if whole < 1 << 32 => small_sum(items, k) as u64,
+        _ if whole < 1 << 32 => small_sum_shifted(items, k) as u64,
         _ => sum_shifted(items, k),
     }
 }

@@ -25,12 +25,12 @@ pub fn bytes_of_patterns<const WIDTH: usize>(setting: &Setting, patterns: u8x16)
     if WIDTH == 2 {
         return byte_pairs_swapped(patterns);
     }
-    byte_fours_turned(patterns)
+    byte_fours_reversed(patterns)
 }
 
 /// Returns the bytes of each four in the opposite order.
 #[inline(always)]
-fn byte_fours_turned(bytes: u8x16) -> u8x16
+fn byte_fours_reversed(bytes: u8x16) -> u8x16
     requires { length bytes ≡ 16 }
     ensures { result ≡ turned_in_fours bytes }
 {

@@ -20,7 +20,7 @@ pub fn levels_of(setting: &Setting, bytes: &[u8], levels: &mut [u32]) -> usize
 {
     read_levels_of(setting, bytes, levels);
     // Where samples have all bits of their bytes, any bytes spell samples.
-    if setting.bits() == 8 * setting.width() || are_legal(setting, levels) {
+    if setting.bits() == 8 * setting.width() || are_levels_of_samples(setting, levels) {
         return levels.len();
     }
     read_levels_one_by_one(setting, bytes, levels)
@@ -49,10 +49,10 @@ pub fn first_levels(setting: &Setting, bytes: &[u8], levels: &mut [u32]) -> usiz
 }
 
 /// Returns whether all of these are levels of samples.
-fn are_legal(setting: &Setting, levels: &[u32]) -> bool
+fn are_levels_of_samples(setting: &Setting, levels: &[u32]) -> bool
     ensures { result ≡ true → All (λ l. l < value_count setting.now) levels.now }
 {
-    let greatest = (setting.values() - 1) as u32;
+    let greatest = (setting.number_of_values() - 1) as u32;
     let mut all = true;
     for i in 0..levels.len() {
         all = all & (levels[i] <= greatest);
@@ -88,20 +88,27 @@ fn read_levels_of(setting: &Setting, bytes: &[u8], levels: &mut [u32])
 {
     // The loop is laid out for each of these: with a known width and order it reads a sample at one stroke.
     match (setting.width(), setting.msb(), setting.signed()) {
-        (1, msb, false) => read_levels(setting, 1, msb, false, bytes, levels),
-        (1, msb, signed) => read_levels(setting, 1, msb, signed, bytes, levels),
-        (2, false, false) => read_levels(setting, 2, false, false, bytes, levels),
-        (2, true, false) => read_levels(setting, 2, true, false, bytes, levels),
-        (2, msb, signed) => read_levels(setting, 2, msb, signed, bytes, levels),
-        (3, false, signed) => read_levels(setting, 3, false, signed, bytes, levels),
-        (width, msb, signed) => read_levels(setting, width as usize, msb, signed, bytes, levels),
+        (1, msb, false) => read_levels_laid_out(setting, 1, msb, false, bytes, levels),
+        (1, msb, signed) => read_levels_laid_out(setting, 1, msb, signed, bytes, levels),
+        (2, false, false) => read_levels_laid_out(setting, 2, false, false, bytes, levels),
+        (2, true, false) => read_levels_laid_out(setting, 2, true, false, bytes, levels),
+        (2, msb, signed) => read_levels_laid_out(setting, 2, msb, signed, bytes, levels),
+        (3, false, signed) => read_levels_laid_out(setting, 3, false, signed, bytes, levels),
+        (width, msb, signed) => read_levels_laid_out(
+            setting,
+            width as usize,
+            msb,
+            signed,
+            bytes,
+            levels,
+        ),
     }
 }
 
 /// Reads the levels, as `read_levels_of` does. It is laid out for a width, an order of bytes and a sign that the compiler knows,
 /// which are those of the setting.
 #[inline(always)]
-fn read_levels(
+fn read_levels_laid_out(
     setting: &Setting,
     width: usize,
     msb: bool,

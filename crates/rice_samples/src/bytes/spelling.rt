@@ -19,7 +19,7 @@ pub fn sample_of(setting: &Setting, bytes: &[u8]) -> Option<i64>
 {
     let word = word_of(bytes, setting.msb());
     let level = (word as u64 + setting.offset()) % (1 << (8 * setting.width()));
-    if level < setting.values() {
+    if level < setting.number_of_values() {
         Some(setting.value_at(level))
     } else {
         None

@@ -17,14 +17,14 @@ pub fn write_spellings(setting: &Setting, levels: &[u32], bytes: &mut [u8])
     // The loop is laid out for each of these: with a known width and order it writes a sample at one stroke, with a known length
     // a block.
     match (setting.width(), setting.msb(), levels.len()) {
-        (1, msb, 8) => write_spellings_as(setting, 1, msb, &levels[..8], bytes),
-        (1, msb, 16) => write_spellings_as(setting, 1, msb, &levels[..16], bytes),
-        (2, false, 16) => write_spellings_as(setting, 2, false, &levels[..16], bytes),
-        (1, msb, _) => write_spellings_as(setting, 1, msb, levels, bytes),
-        (2, false, _) => write_spellings_as(setting, 2, false, levels, bytes),
-        (2, true, _) => write_spellings_as(setting, 2, true, levels, bytes),
-        (3, false, _) => write_spellings_as(setting, 3, false, levels, bytes),
-        (4, false, _) => write_spellings_as(setting, 4, false, levels, bytes),
+        (1, msb, 8) => write_spellings_laid_out(setting, 1, msb, &levels[..8], bytes),
+        (1, msb, 16) => write_spellings_laid_out(setting, 1, msb, &levels[..16], bytes),
+        (2, false, 16) => write_spellings_laid_out(setting, 2, false, &levels[..16], bytes),
+        (1, msb, _) => write_spellings_laid_out(setting, 1, msb, levels, bytes),
+        (2, false, _) => write_spellings_laid_out(setting, 2, false, levels, bytes),
+        (2, true, _) => write_spellings_laid_out(setting, 2, true, levels, bytes),
+        (3, false, _) => write_spellings_laid_out(setting, 3, false, levels, bytes),
+        (4, false, _) => write_spellings_laid_out(setting, 4, false, levels, bytes),
         _ => write_others(setting, levels, bytes),
     }
 }
@@ -37,13 +37,13 @@ fn write_others(setting: &Setting, levels: &[u32], bytes: &mut [u8])
     ensures { bytes.new ≡ spellings setting.now (values_at setting.now levels.now) }
 {
     let width = setting.width() as usize;
-    write_spellings_as(setting, width, setting.msb(), levels, bytes);
+    write_spellings_laid_out(setting, width, setting.msb(), levels, bytes);
 }
 
 /// Writes the spellings, as `write_spellings` does. It is laid out for a width and an order of bytes that the
 /// compiler knows, which are those of the setting.
 #[inline(always)]
-pub fn write_spellings_as(
+pub fn write_spellings_laid_out(
     setting: &Setting,
     width: usize,
     msb: bool,

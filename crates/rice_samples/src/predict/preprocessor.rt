@@ -18,7 +18,7 @@ pub fn residual(setting: &Setting, p: i64, x: i64) -> u32
     ensures fits { result < value_count setting.now }
 {
     rank_of(
-        (setting.values() - 1) as u32,
+        (setting.number_of_values() - 1) as u32,
         setting.level(p) as u32,
         setting.level(x) as u32,
     )
@@ -33,7 +33,7 @@ pub fn restore(setting: &Setting, p: i64, d: u32) -> i64
     ensures rank { rank setting.now p result ≡ d }
     ensures only { (x : ℤ) → IsSample setting.now x → rank setting.now p x ≡ d → result ≡ x }
 {
-    let greatest = (setting.values() - 1) as u32;
+    let greatest = (setting.number_of_values() - 1) as u32;
     let level = number_with(greatest, setting.level(p) as u32, d);
     setting.value_at(level as u64)
 }

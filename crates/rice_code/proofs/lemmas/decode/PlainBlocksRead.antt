@@ -29,7 +29,7 @@ use Rattle.rice_samples.proofs.lemmas.bytes.LanesOfWholeBytes.{SamplesOfWords, s
 use Rattle.rice_samples.proofs.lemmas.predict.DistinctPatterns.{same_pattern}
 use Rattle.rice_samples.proofs.lemmas.setting.ValuesAboveLeast.{sample_at}
 use Rattle.rice_samples.proofs.lemmas.setting.LevelsOfSamples.{pattern_fits}
-use Rattle.rice_samples.proofs.lemmas.setting.ValuesAt.{last_at}
+use Rattle.rice_samples.proofs.lemmas.setting.ValuesByLevels.{last_at}
 use Rattle.rice_code.specs.code.Blocks.{BlockData}
 use Rattle.rice_code.specs.code.CodedDataSets.{NoCompression, bits_of_set}
 use Rattle.rice_code.specs.code.Forms.{IsReference}

@@ -10,7 +10,12 @@ use std::simd::prelude::*;
 /// Writes the residuals of the first samples, sixteen at a time, as long as there are sixteen: of the first one after the sample at
 /// level `p`, and of each other after the one before it.
 #[inline(always)]
-pub(crate) fn write_sixteen_ranks(setting: &Setting, p: u32, levels: &[u32], residuals: &mut [u32])
+pub(crate) fn write_ranks_by_sixteens(
+    setting: &Setting,
+    p: u32,
+    levels: &[u32],
+    residuals: &mut [u32],
+)
     requires narrow { setting.now.bits ≤ 8 }
     requires before { p < value_count setting.now }
     requires legal { All (λ l. l < value_count setting.now) levels.now }
@@ -19,11 +24,11 @@ pub(crate) fn write_sixteen_ranks(setting: &Setting, p: u32, levels: &[u32], res
     ensures value { take (16 * (length levels.now / 16)) residuals.new ≡
         ranks_below (value_count setting.now) p (take (16 * (length levels.now / 16)) levels.now) }
 {
-    let greatest = (setting.values() - 1) as u8;
+    let greatest = (setting.number_of_values() - 1) as u8;
     let mut before = u8x16::splat(p as u8);
     for i in 0..levels.len() / 16 {
-        let sixteen = sixteen_narrow(&levels[16 * i..16 * i + 16]);
-        sixteen_ranks(greatest, last_before(before, sixteen), sixteen)
+        let sixteen = sixteen_in_narrow_lanes(&levels[16 * i..16 * i + 16]);
+        sixteen_ranks(greatest, numbers_before_each(before, sixteen), sixteen)
             .cast::<u32>()
             .copy_to_slice(&mut residuals[16 * i..]);
         before = sixteen;
@@ -32,7 +37,7 @@ pub(crate) fn write_sixteen_ranks(setting: &Setting, p: u32, levels: &[u32], res
 
 /// Returns sixteen numbers below 2^8 in narrow lanes.
 #[inline(always)]
-fn sixteen_narrow(numbers: &[u32]) -> u8x16
+fn sixteen_in_narrow_lanes(numbers: &[u32]) -> u8x16
     requires narrow { All (λ x. x < 2 ^ 8) numbers.now }
     requires sixteen { length numbers.now ≡ 16 }
     ensures { result ≡ numbers.now }
@@ -42,7 +47,7 @@ fn sixteen_narrow(numbers: &[u32]) -> u8x16
 
 /// Returns the last of the numbers `before`, and all but the last of `numbers`.
 #[inline(always)]
-fn last_before(before: u8x16, numbers: u8x16) -> u8x16
+fn numbers_before_each(before: u8x16, numbers: u8x16) -> u8x16
     ensures { result ≡ get_or before 15 0 ∷ take 15 numbers }
 {
     before.shuffle(

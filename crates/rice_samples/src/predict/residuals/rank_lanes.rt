@@ -9,7 +9,12 @@ use std::simd::prelude::*;
 
 /// Writes the residuals of the first samples, eight at a time, as long as there are eight: of the first one after the sample at
 /// level `p`, and of each other after the one before it.
-pub(crate) fn write_eight_ranks(setting: &Setting, p: u32, levels: &[u32], residuals: &mut [u32])
+pub(crate) fn write_ranks_by_eights(
+    setting: &Setting,
+    p: u32,
+    levels: &[u32],
+    residuals: &mut [u32],
+)
     requires narrow { setting.now.bits ≤ 16 }
     requires before { p < value_count setting.now }
     requires legal { All (λ l. l < value_count setting.now) levels.now }
@@ -18,11 +23,11 @@ pub(crate) fn write_eight_ranks(setting: &Setting, p: u32, levels: &[u32], resid
     ensures value { take (8 * (length levels.now / 8)) residuals.new ≡
         ranks_below (value_count setting.now) p (take (8 * (length levels.now / 8)) levels.now) }
 {
-    let greatest = (setting.values() - 1) as u16;
+    let greatest = (setting.number_of_values() - 1) as u16;
     let mut before = u16x8::splat(p as u16);
     for i in 0..levels.len() / 8 {
         let eight = eight_in_narrow_lanes(&levels[8 * i..8 * i + 8]);
-        eight_ranks(greatest, last_before(before, eight), eight)
+        eight_ranks(greatest, numbers_before_each(before, eight), eight)
             .cast::<u32>()
             .copy_to_slice(&mut residuals[8 * i..]);
         before = eight;
@@ -41,7 +46,7 @@ fn eight_in_narrow_lanes(numbers: &[u32]) -> u16x8
 
 /// Returns the last of the numbers `before`, and all but the last of `numbers`.
 #[inline(always)]
-fn last_before(before: u16x8, numbers: u16x8) -> u16x8
+fn numbers_before_each(before: u16x8, numbers: u16x8) -> u16x8
     ensures { result ≡ get_or before 7 0 ∷ take 7 numbers }
 {
     before.shuffle(numbers, [7, 8, 9, 10, 11, 12, 13, 14])

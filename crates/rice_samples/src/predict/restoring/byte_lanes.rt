@@ -34,7 +34,7 @@ pub fn near_levels(
     requires lows { All (λ v. v < 2 ^ width) lows }
     ensures { IfSome result (λ l. AreLevelsOfParts setting.now before width highs lows l.levels) }
 {
-    let greatest = (setting.values() - 1) as u8;
+    let greatest = (setting.number_of_values() - 1) as u8;
     let before = before as u8;
     let ranks = join_parts(highs, lows, width);
     let levels = near_numbers(before, ranks);
@@ -48,7 +48,7 @@ pub fn near_levels(
 
 /// Returns the bytes that spell sixteen samples of at most 8 bits, of which these are the levels.
 #[inline(always)]
-pub fn spelled_bytes(setting: &Setting, levels: u8x16) -> u8x16
+pub fn spelled_in_one_byte(setting: &Setting, levels: u8x16) -> u8x16
     requires narrow { setting.now.bits ≤ 8 }
     requires len { length levels ≡ 16 }
     requires legal { All (λ l. l < value_count setting.now) levels }

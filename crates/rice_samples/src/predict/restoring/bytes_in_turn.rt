@@ -34,7 +34,7 @@ pub fn levels_in_turn(setting: &Setting, before: u32, residuals: u8x16) -> Level
     ensures legal { All (λ l. l < value_count setting.now) result.levels }
     ensures ranked { ranks_below (value_count setting.now) before result.levels ≡ residuals }
 {
-    let greatest = (setting.values() - 1) as u8;
+    let greatest = (setting.number_of_values() - 1) as u8;
     let turns = Turns {
         ranks: residuals.to_array(),
         ways: near_ways(residuals).to_array(),
@@ -65,7 +65,7 @@ pub fn levels_of_parts_in_turn(
     requires lows { All (λ v. v < 2 ^ width) lows }
     ensures { IfSome result (λ l. AreLevelsOfParts setting.now before width highs lows l.levels) }
 {
-    let greatest = (setting.values() - 1) as u8;
+    let greatest = (setting.number_of_values() - 1) as u8;
     let residuals = join_parts(highs, lows, width);
     if !both_are_zeros(
         excess_over(highs, 255 >> width),

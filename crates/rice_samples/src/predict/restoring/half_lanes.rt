@@ -37,10 +37,10 @@ pub fn near_halves(
         AreLevelsOfParts setting.now before width highs lows (l.first ++ l.second)) }
     ensures halves { IfSome result (λ l. (length l.first ≡ 8) × (length l.second ≡ 8)) }
 {
-    let greatest = (setting.values() - 1) as u16;
+    let greatest = (setting.number_of_values() - 1) as u16;
     let before = before as u16;
-    let first_ranks = join_parts(first_halves(highs), first_halves(lows), width);
-    let second_ranks = join_parts(last_halves(highs), last_halves(lows), width);
+    let first_ranks = join_parts(first_eight_widened(highs), first_eight_widened(lows), width);
+    let second_ranks = join_parts(last_eight_widened(highs), last_eight_widened(lows), width);
     let first = near_numbers(before, first_ranks);
     let last = first.to_array()[7];
     let second = near_numbers(last, second_ranks);
@@ -55,7 +55,7 @@ pub fn near_halves(
 
 /// Returns the bytes that spell eight samples of 9 to 16 bits, of which these are the levels.
 #[inline(always)]
-pub fn spelled_words(setting: &Setting, levels: u16x8) -> u8x16
+pub fn spelled_in_two_bytes(setting: &Setting, levels: u16x8) -> u8x16
     requires wide { 8 < setting.now.bits }
     requires narrow { setting.now.bits ≤ 16 }
     requires len { length levels ≡ 8 }
@@ -84,7 +84,7 @@ pub(crate) fn byte_pairs_swapped(bytes: u8x16) -> u8x16
 
 /// Returns the first eight numbers, in lanes of 16 bits.
 #[inline(always)]
-pub(crate) fn first_halves(numbers: u8x16) -> u16x8
+pub(crate) fn first_eight_widened(numbers: u8x16) -> u16x8
     requires { length numbers ≡ 16 }
     ensures { result ≡ take 8 numbers }
 {
@@ -95,7 +95,7 @@ pub(crate) fn first_halves(numbers: u8x16) -> u16x8
 
 /// Returns the last eight numbers, in lanes of 16 bits.
 #[inline(always)]
-pub(crate) fn last_halves(numbers: u8x16) -> u16x8
+pub(crate) fn last_eight_widened(numbers: u8x16) -> u16x8
     requires { length numbers ≡ 16 }
     ensures { result ≡ drop 8 numbers }
 {

@@ -7,7 +7,9 @@ ghost use Rattle.rice_samples.specs.predict.LevelsOfParts.{AreLevelsOfParts};
 ghost use Rattle.rice_samples.specs.predict.NearNumbers.{way as way_of};
 
 use crate::Setting;
-use crate::predict::restoring::half_lanes::{LevelHalves, first_halves, join_parts, last_halves};
+use crate::predict::restoring::half_lanes::{
+    LevelHalves, first_eight_widened, join_parts, last_eight_widened,
+};
 use crate::predict::restoring::near_in_16_bits::{both_are_zeros, near_ways};
 use std::simd::prelude::*;
 
@@ -40,9 +42,9 @@ pub fn halves_in_turn(
         AreLevelsOfParts setting.now before width highs lows (l.first ++ l.second)) }
     ensures halves { IfSome result (λ l. (length l.first ≡ 8) × (length l.second ≡ 8)) }
 {
-    let greatest = (setting.values() - 1) as u16;
-    let first_ranks = join_parts(first_halves(highs), first_halves(lows), width);
-    let second_ranks = join_parts(last_halves(highs), last_halves(lows), width);
+    let greatest = (setting.number_of_values() - 1) as u16;
+    let first_ranks = join_parts(first_eight_widened(highs), first_eight_widened(lows), width);
+    let second_ranks = join_parts(last_eight_widened(highs), last_eight_widened(lows), width);
     if !both_are_zeros(
         excess_over(first_ranks, greatest),
         excess_over(second_ranks, greatest),

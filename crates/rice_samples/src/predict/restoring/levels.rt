@@ -25,8 +25,8 @@ pub fn restore_near_first(setting: &Setting, before: u32, residuals: &[u32], lev
     match levels.len() {
         8 => restore_eight(setting, before, residuals, levels),
         16 if before < FEW_BELOW => restore_sixteen_far(setting, before, residuals, levels),
-        len if len % 8 == 0 => restore_eights(setting, before, residuals, levels),
-        _ => restore_each(setting, before, residuals, levels),
+        len if len % 8 == 0 => restore_by_eights(setting, before, residuals, levels),
+        _ => restore_any_number_in_turn(setting, before, residuals, levels),
     }
 }
 
@@ -45,7 +45,7 @@ pub fn restore_by_selection(setting: &Setting, before: u32, residuals: &[u32], l
 
 /// Writes the levels, eight at a time.
 #[inline(always)]
-fn restore_eights(setting: &Setting, before: u32, residuals: &[u32], levels: &mut [u32])
+fn restore_by_eights(setting: &Setting, before: u32, residuals: &[u32], levels: &mut [u32])
     requires can { CanRestore setting.now before residuals.now levels.old }
     requires eights { length residuals.now % 8 ≡ 0 }
     ensures { Restores setting.now before residuals.now levels.new }
@@ -67,50 +67,50 @@ fn restore_eight(setting: &Setting, before: u32, residuals: &[u32], levels: &mut
     ensures { Restores setting.now before residuals.now levels.new }
 {
     if setting.bits() <= 16 {
-        restore_narrow(setting, before, residuals, levels);
+        restore_eight_narrow(setting, before, residuals, levels);
     } else {
-        restore_any_width(setting, before, residuals, levels);
+        restore_eight_of_any_width(setting, before, residuals, levels);
     }
 }
 
 /// Writes the levels of eight samples of at most 16 bits.
 #[inline(always)]
-fn restore_narrow(setting: &Setting, before: u32, residuals: &[u32], levels: &mut [u32])
+fn restore_eight_narrow(setting: &Setting, before: u32, residuals: &[u32], levels: &mut [u32])
     requires narrow { setting.now.bits ≤ 16 }
     requires can { CanRestore setting.now before residuals.now levels.old }
     requires eight { length residuals.now ≡ 8 }
     ensures { Restores setting.now before residuals.now levels.new }
 {
-    let greatest = (setting.values() - 1) as u16;
+    let greatest = (setting.number_of_values() - 1) as u16;
     let ranks = u32x8::from_slice(residuals).cast::<u16>();
     let numbers = near_in_16_bits::near_numbers(before as u16, ranks);
     if near_in_16_bits::are_near(greatest, before as u16, ranks, numbers) {
         numbers.cast::<u32>().copy_to_slice(levels);
     } else {
-        restore_far(setting, before, residuals, levels);
+        restore_eight_not_all_near(setting, before, residuals, levels);
     }
 }
 
 /// Writes the levels of eight samples of any number of bits.
 #[inline(always)]
-fn restore_any_width(setting: &Setting, before: u32, residuals: &[u32], levels: &mut [u32])
+fn restore_eight_of_any_width(setting: &Setting, before: u32, residuals: &[u32], levels: &mut [u32])
     requires can { CanRestore setting.now before residuals.now levels.old }
     requires eight { length residuals.now ≡ 8 }
     ensures { Restores setting.now before residuals.now levels.new }
 {
-    let greatest = (setting.values() - 1) as u32;
+    let greatest = (setting.number_of_values() - 1) as u32;
     let ranks = u32x8::from_slice(residuals);
     let numbers = near_numbers(before, ranks);
     if are_near(greatest, before, ranks, numbers) {
         numbers.copy_to_slice(levels);
     } else {
-        restore_far(setting, before, residuals, levels);
+        restore_eight_not_all_near(setting, before, residuals, levels);
     }
 }
 
 /// Writes eight levels, of which not all are near.
 #[inline(never)]
-fn restore_far(setting: &Setting, before: u32, residuals: &[u32], levels: &mut [u32])
+fn restore_eight_not_all_near(setting: &Setting, before: u32, residuals: &[u32], levels: &mut [u32])
     requires can { CanRestore setting.now before residuals.now levels.old }
     requires eight { length residuals.now ≡ 8 }
     ensures { Restores setting.now before residuals.now levels.new }
@@ -138,12 +138,12 @@ fn restore_eight_far(setting: &Setting, before: u32, residuals: &[u32], levels: 
     requires eight { length residuals.now ≡ 8 }
     ensures { Restores setting.now before residuals.now levels.new }
 {
-    let greatest = (setting.values() - 1) as u32;
+    let greatest = (setting.number_of_values() - 1) as u32;
     let all = u32x8::from_slice(residuals)
         .cast::<u64>()
         .strict_reduce_sum();
     if before as u64 + all <= greatest as u64 {
-        return restore_with_room_above(setting, before, residuals, levels);
+        return restore_with_sum_in_range(setting, before, residuals, levels);
     }
     restore_in_turn(setting, before, residuals, levels);
 }
@@ -151,13 +151,13 @@ fn restore_eight_far(setting: &Setting, before: u32, residuals: &[u32], levels: 
 /// Writes eight levels one at a time, where the range goes on above `before` for the sum of the residuals. There a level that
 /// is not near is its residual.
 #[inline(always)]
-fn restore_with_room_above(setting: &Setting, before: u32, residuals: &[u32], levels: &mut [u32])
+fn restore_with_sum_in_range(setting: &Setting, before: u32, residuals: &[u32], levels: &mut [u32])
     requires low { before + sum residuals.now < value_count setting.now }
     requires len { length levels.old ≡ length residuals.now }
     requires eight { length residuals.now ≡ 8 }
     ensures { Restores setting.now before residuals.now levels.new }
 {
-    let _values = setting.values();
+    let _values = setting.number_of_values();
     let ways = near_ways(u32x8::from_slice(residuals)).to_array();
     let mut level = before;
     for i in 0..8 {
@@ -173,7 +173,7 @@ fn restore_eight_in_turn(setting: &Setting, before: u32, residuals: &[u32], leve
     requires eight { length residuals.now ≡ 8 }
     ensures { Restores setting.now before residuals.now levels.new }
 {
-    let greatest = (setting.values() - 1) as u32;
+    let greatest = (setting.number_of_values() - 1) as u32;
     write_numbers_in_turn(greatest, before, residuals, levels);
 }
 
@@ -209,7 +209,7 @@ fn restore_others_in_turn(setting: &Setting, before: u32, residuals: &[u32], lev
     match levels.len() {
         8 => restore_in_turn(setting, before, residuals, levels),
         len if len % 16 == 0 => restore_sixteens_in_turn(setting, before, residuals, levels),
-        _ => restore_each(setting, before, residuals, levels),
+        _ => restore_any_number_in_turn(setting, before, residuals, levels),
     }
 }
 
@@ -230,11 +230,11 @@ fn restore_sixteens_in_turn(setting: &Setting, before: u32, residuals: &[u32], l
 
 /// Writes the levels one at a time, whatever their number.
 #[inline(never)]
-fn restore_each(setting: &Setting, before: u32, residuals: &[u32], levels: &mut [u32])
+fn restore_any_number_in_turn(setting: &Setting, before: u32, residuals: &[u32], levels: &mut [u32])
     requires can { CanRestore setting.now before residuals.now levels.old }
     ensures { Restores setting.now before residuals.now levels.new }
 {
-    let greatest = (setting.values() - 1) as u32;
+    let greatest = (setting.number_of_values() - 1) as u32;
     let mut level = before;
     for i in 0..levels.len() {
         level = number_with(greatest, level, residuals[i]);
@@ -268,6 +268,6 @@ pub fn level_of_pattern(setting: &Setting, v: u32) -> u32
     ensures below { result < value_count setting.now }
     ensures pattern { pattern_of setting.now (value_at setting.now result) ≡ v }
 {
-    let greatest = (setting.values() - 1) as u32;
+    let greatest = (setting.number_of_values() - 1) as u32;
     v.wrapping_add(setting.offset() as u32) & greatest
 }

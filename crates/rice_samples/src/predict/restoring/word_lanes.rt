@@ -30,7 +30,7 @@ pub fn near_words(
     requires lows { All (λ v. v < 2 ^ width) lows }
     ensures { IfSome result (λ l. AreLevelsOfParts setting.now before width highs lows l.levels) }
 {
-    let greatest = (setting.values() - 1) as u32;
+    let greatest = (setting.number_of_values() - 1) as u32;
     let ranks = join_parts(highs.cast::<u32>(), lows, width);
     let levels = near_numbers(before, ranks);
     if !are_near(greatest, before, ranks, levels) {

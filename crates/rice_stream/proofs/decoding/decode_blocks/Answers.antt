@@ -8,7 +8,7 @@ use Rattle.rice_stream.proofs.lemmas.DecodingEnds.{reports_as, block_is_wanted, 
 use Rattle.rice_code.specs.decode.DecoderState.{DecoderState}
 use Rattle.rice_stream.proofs.lemmas.SpelledBlocks.{progress_unchanged}
 use Rattle.rice_stream.proofs.lemmas.RowsWritten.{fails_behind, in_block, lanes_row, lanes_written, progress_with_row, row_fails, row_fails_so, row_fails_within, row_takes}
-use Rattle.rice_samples.proofs.lemmas.setting.ValuesAt.{length-values}
+use Rattle.rice_samples.proofs.lemmas.setting.ValuesByLevels.{length-values}
 use Rattle.rice_stream.proofs.lemmas.SamplesByLevels.{few_legal, few_spelled}
 use Rattle.rice_stream.proofs.lemmas.RunsWritten.{progress_with_run, run_fails, run_shrinks}
 use Rattle.rice_stream.proofs.decoding.decode_blocks.Goals as goal

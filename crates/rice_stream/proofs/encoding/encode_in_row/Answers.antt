@@ -4,7 +4,7 @@ use Rattle.std.proofs.lemmas.List.{length-take-le, take-map}
 use Rattle.std.proofs.KnownBytes.{Consumes-nil}
 use Rattle.rice_samples.specs.Parameters.{Parameters, value_at, value_count, values_at, width}
 use Rattle.rice_samples.specs.bytes.SampleReader.{GivesSamples}
-use Rattle.rice_samples.proofs.lemmas.setting.ValuesAt.{length-values}
+use Rattle.rice_samples.proofs.lemmas.setting.ValuesByLevels.{length-values}
 use Rattle.rice_stream.specs.EncodingState.{afresh, FailsIn, IsEncodingOf}
 use Rattle.rice_stream.specs.Encodes.{fault_at, EncodesBetween}
 use Rattle.rice_stream.specs.declared.outcome.Fault.{Fault}

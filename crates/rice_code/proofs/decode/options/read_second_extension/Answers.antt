@@ -21,13 +21,13 @@ returns-in_err-few-clause-err g c =
     let p = err_from_is_err_and c.from_residual-in_err-few.result c.from_residual-in_err-few.ensures.1 in
     rw (p.1, p.2) (second_extension_cut c.args.reader.now c.read_reference.new.reader c.read_pairs.new.reader c.args.setting.now c.args.block c.in_ok-reference.reference
     (length c.args.residuals.now / 2) e.0 c.in_err-few.field-0.0
-    c.in_ok-reference.ensures.reference (ap (λ n. n / 2 + n / 2) c.requires.size ∙ two_halves c.args.setting.now.block c.values-values.ensures.legal.block) c.in_ok-reference.ensures.ok e.1 e.2)
+    c.in_ok-reference.ensures.reference (ap (λ n. n / 2 + n / 2) c.requires.size ∙ two_halves c.args.setting.now.block c.number_of_values-values.ensures.legal.block) c.in_ok-reference.ensures.ok e.1 e.2)
 
 pub returns-clause-ok : goal.returns-clause-ok
 returns-clause-ok g c =
-    let says = rw c.values-values.ensures.value at c.are_sound-sound.ensures in
+    let says = rw c.number_of_values-values.ensures.value at c.are_sound-sound.ensures in
     second_extension_read c.args.reader.now c.read_reference.new.reader c.read_pairs.new.reader c.args.meter.now c.read_reference.new.meter
     c.read_pairs.new.meter c.args.setting.now c.args.block c.in_ok-reference.reference (length c.args.residuals.now / 2) c.read_pairs.new.out c.are_sound-sound.result
-    c.in_ok-reference.ensures.reference (ap (λ n. n / 2 + n / 2) c.requires.size ∙ two_halves c.args.setting.now.block c.values-values.ensures.legal.block)
+    c.in_ok-reference.ensures.reference (ap (λ n. n / 2 + n / 2) c.requires.size ∙ two_halves c.args.setting.now.block c.number_of_values-values.ensures.legal.block)
     c.in_ok-reference.ensures.ok c.in_ok-few.ensures.ok c.in_ok-reference.ensures.steps
     says.0 (iff_false says)

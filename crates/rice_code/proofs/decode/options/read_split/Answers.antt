@@ -19,7 +19,7 @@ returns-in_err-reference-clause-err g c =
 pub returns-in_err-small-clause-err : goal.returns-in_err-small-clause-err
 returns-in_err-small-clause-err g c =
     let first = c.write_zero_for_reference-first in
-    let part = sent_part c.args.setting.now c.in_ok-reference.reference first.result first.new.residuals c.values-values.ensures.legal first.ensures.first (first.auto.residuals ∙ c.requires.size) in
+    let part = sent_part c.args.setting.now c.in_ok-reference.reference first.result first.new.residuals c.number_of_values-values.ensures.legal first.ensures.first (first.auto.residuals ∙ c.requires.size) in
     let p = err_from_is_err_and c.from_residual-in_err-small.result c.from_residual-in_err-small.ensures.1 in
     rw (p.1, p.2) (split_cut c.args.reader.now c.read_reference.new.reader c.read_sent.new.reader c.args.setting.now c.args.block c.args.k c.in_ok-reference.reference _ c.in_err-small.field-0.0
     c.in_ok-reference.ensures.reference part.1 c.in_ok-reference.ensures.ok c.in_err-small.ensures.err)
@@ -27,11 +27,11 @@ returns-in_err-small-clause-err g c =
 pub returns-then-not-small-clause-ok : goal.returns-then-not-small-clause-ok
 returns-then-not-small-clause-ok g c =
     let first = c.write_zero_for_reference-first in
-    let part = sent_part c.args.setting.now c.in_ok-reference.reference first.result first.new.residuals c.values-values.ensures.legal first.ensures.first (first.auto.residuals ∙ c.requires.size) in
+    let part = sent_part c.args.setting.now c.in_ok-reference.reference first.result first.new.residuals c.number_of_values-values.ensures.legal first.ensures.first (first.auto.residuals ∙ c.requires.size) in
     split_large c.args.reader.now c.read_reference.new.reader c.read_sent.new.reader c.args.meter.now c.read_sent.new.meter c.args.setting.now c.args.block c.args.k c.in_ok-reference.reference _ false
     (drop first.result c.read_sent.new.residuals) _
     c.in_ok-reference.ensures.reference c.requires.k part.1 c.in_ok-reference.ensures.ok
-    (rw (c.values-values.ensures.value, c.if-not-small.true) at c.in_ok-small.ensures.ok) refl (omega (arith, c.in_ok-reference.ensures.steps, c.in_ok-small.ensures.steps))
+    (rw (c.number_of_values-values.ensures.value, c.if-not-small.true) at c.in_ok-small.ensures.ok) refl (omega (arith, c.in_ok-reference.ensures.steps, c.in_ok-small.ensures.steps))
 
 pub joined_are_below-sound-requires-clause-highs : goal.joined_are_below-sound-requires-clause-highs
 joined_are_below-sound-requires-clause-highs g c =
@@ -39,7 +39,7 @@ joined_are_below-sound-requires-clause-highs g c =
     let many = value_count c.args.setting.now in
     let sent = drop c.write_zero_for_reference-first.result c.read_sent.new.residuals in
     let same : many ≡ 2 ^ c.bits.result = ap (λ n. 2 ^ n) (sym c.bits.ensures.value) in
-    let read = rw c.values-values.ensures.value at c.in_ok-small.ensures.ok in
+    let read = rw c.number_of_values-values.ensures.value at c.in_ok-small.ensures.ok in
     subst (λ ds. All (λ d. d / 2 ^ k ≤ (2 ^ c.bits.result - 1) / 2 ^ k) ds) (sym (up_to_end c.write_zero_for_reference-first.result c.read_sent.new.residuals))
     (subst (λ n. All (λ d. d / 2 ^ k ≤ (n - 1) / 2 ^ k) sent) same
     (parts_small c.read_reference.new.reader c.read_sent.new.reader _ k c.in_ok-small.small _ sent read c.if-not-small.false))
@@ -47,12 +47,12 @@ joined_are_below-sound-requires-clause-highs g c =
 pub returns-clause-ok : goal.returns-clause-ok
 returns-clause-ok g c =
     let first = c.write_zero_for_reference-first in
-    let part = sent_part c.args.setting.now c.in_ok-reference.reference first.result first.new.residuals c.values-values.ensures.legal first.ensures.first (first.auto.residuals ∙ c.requires.size) in
+    let part = sent_part c.args.setting.now c.in_ok-reference.reference first.result first.new.residuals c.number_of_values-values.ensures.legal first.ensures.first (first.auto.residuals ∙ c.requires.size) in
     let says = rw (up_to_end first.result c.read_sent.new.residuals, c.bits.ensures.value) at c.joined_are_below-sound.ensures in
     split_joined c.args.reader.now c.read_reference.new.reader c.read_sent.new.reader c.args.meter.now c.read_sent.new.meter c.args.setting.now c.args.block
     c.args.k c.in_ok-reference.reference _ c.in_ok-small.small
     (drop first.result c.read_sent.new.residuals) _ c.joined_are_below-sound.result
-    c.in_ok-reference.ensures.reference c.requires.k part.1 c.in_ok-reference.ensures.ok (rw c.values-values.ensures.value at c.in_ok-small.ensures.ok) c.if-not-small.false
+    c.in_ok-reference.ensures.reference c.requires.k part.1 c.in_ok-reference.ensures.ok (rw c.number_of_values-values.ensures.value at c.in_ok-small.ensures.ok) c.if-not-small.false
     (omega (arith, c.in_ok-reference.ensures.steps, c.in_ok-small.ensures.steps))
     (sent_placed first.result c.in_ok-reference.reference first.new.residuals c.read_sent.new.residuals first.ensures.place c.in_ok-small.ensures.stay)
     says.0

@@ -1,7 +1,7 @@
 use Rattle.std.proofs.Common.{arith, ◌≡◌, ◌-◌, ◌∙◌, ap, sym, length, slice_index_or}
 use Rattle.rice_samples.specs.Parameters.{value_at, values_at}
 use Rattle.rice_samples.specs.predict.Residuals.{last_of}
-use Rattle.rice_samples.proofs.lemmas.setting.ValuesAt.{last_value}
+use Rattle.rice_samples.proofs.lemmas.setting.ValuesByLevels.{last_value}
 use Rattle.rice_code.specs.code.Blocks.{block_data}
 use Rattle.rice_code.proofs.lemmas.decode.RestoredBlocks.{refill_all}
 use Rattle.rice_code.proofs.decode.restoring.restore_block.Goals as goal

@@ -2,7 +2,7 @@ use Rattle.std.proofs.Common.{arith, ℕ, zero, suc, ℤ, ◌≡◌, ◌<◌, �
 use Rattle.std.proofs.lemmas.List.Elements.{All-replicate}
 use Rattle.std.specs.List.{refill}
 use Rattle.rice_samples.specs.Parameters.{value_at, value_count, values_at}
-use Rattle.rice_samples.proofs.lemmas.setting.ValuesAt.{values_replicate}
+use Rattle.rice_samples.proofs.lemmas.setting.ValuesByLevels.{values_replicate}
 use Rattle.rice_samples.specs.predict.Residuals.{last_of}
 use Rattle.rice_code.specs.code.Blocks.{block_data}
 use Rattle.rice_code.proofs.lemmas.code.FilledBlocks.{last_replicate}

@@ -1,7 +1,7 @@
 use Rattle.std.proofs.Common.{◌∙◌, ap, w64}
 use Rattle.std.proofs.lemmas.Int.{to_z-of_z}
 use Rattle.rice_samples.specs.Parameters.{level, value_at}
-use Rattle.rice_samples.proofs.lemmas.setting.ValuesAt.{value_of_level}
+use Rattle.rice_samples.proofs.lemmas.setting.ValuesByLevels.{value_of_level}
 use Rattle.rice_code.proofs.encode.open_segment.level_of.Goals as goal
 
 pub returns-clause-value : goal.returns-clause-value

@@ -1,7 +1,7 @@
 use Rattle.std.proofs.Common.{◌≡◌, true, false, ◌∙◌, ◌++◌, ap, map, sym, rules}
 use Rattle.rice_samples.specs.Parameters.{Parameters, value_at, value_count, values_at}
 use Rattle.rice_samples.specs.predict.Residuals.{pattern, ranks_below}
-use Rattle.rice_samples.proofs.lemmas.setting.ValuesAt.{ranks_of_values}
+use Rattle.rice_samples.proofs.lemmas.setting.ValuesByLevels.{ranks_of_values}
 use Rattle.rice_code.proofs.lemmas.encode.SeveralSamplesHeld.{later_ranks, later_patterns}
 use Rattle.rice_code.proofs.encode.open_segment.push_behind_first.Goals as goal
 

@@ -9,7 +9,7 @@ loop-k-init c =
       at_most = omega arith;
       value = c.sum_without_digits-sum.ensures.value;
       few = c.sum_without_digits-sum.ensures.limit;
-      falls = λ j h. large_falls xs c.args.price j (omega (arith, c.requires.size)) (omega (arith, c.sum_shifted-whole.ensures.value, c.sure_digits.ensures j (omega arith)));
+      falls = λ j h. large_falls xs c.args.price j (omega (arith, c.requires.size)) (omega (arith, c.sum_shifted-whole.ensures.value, c.digits_surely_above_price.ensures j (omega arith)));
     }
 
 pub loop-k-preserved : goal.loop-k-preserved

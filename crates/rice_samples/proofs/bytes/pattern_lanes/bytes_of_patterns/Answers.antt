@@ -22,7 +22,7 @@ returns-clause-words g c =
       | inl e ↦ absurd (c.if-this-eq1.false e)
       | inr other ↦ elim other [ inl e ↦ absurd (c.if-this-eq2.false e) | inr e ↦ e ]
     ] in
-    turned_words c.args.setting.now.msb g.row.WIDTH c.args.patterns c.byte_fours_turned.result four (sym c.msb.ensures ∙ c.if-msb.false) c.requires.lanes c.requires.fit c.byte_fours_turned.ensures
+    turned_words c.args.setting.now.msb g.row.WIDTH c.args.patterns c.byte_fours_reversed.result four (sym c.msb.ensures ∙ c.if-msb.false) c.requires.lanes c.requires.fit c.byte_fours_reversed.ensures
 
 pub returns-clause-len : goal.returns-clause-len
-returns-clause-len g c = ap length c.byte_fours_turned.ensures ∙ length-turned c.args.patterns c.requires.lanes
+returns-clause-len g c = ap length c.byte_fours_reversed.ensures ∙ length-turned c.args.patterns c.requires.lanes

@@ -2,7 +2,7 @@ use Rattle.std.proofs.Common.{arith, ◌≡◌, ◌*◌, ◌^◌, ◌<◌, All, 
 use Rattle.rice_samples.specs.Parameters.{value_count}
 use Rattle.rice_samples.specs.Parameters.{width as width_of}
 use Rattle.rice_samples.proofs.lemmas.bytes.ReadLevels.{reads_all}
-use Rattle.rice_samples.proofs.bytes.reading.levels_of.Goals.{then-bits-width-via-then-bits-width, then-bits-width-via-else-bits-width+then-are_legal}
+use Rattle.rice_samples.proofs.bytes.reading.levels_of.Goals.{then-bits-width-via-then-bits-width, then-bits-width-via-else-bits-width+then-are_levels_of_samples}
 use Rattle.rice_samples.proofs.bytes.reading.levels_of.Goals as goal
 
 pub returns-then-bits-width-clause-reads : goal.returns-then-bits-width-clause-reads
@@ -14,6 +14,6 @@ returns-then-bits-width-clause-reads c =
       | then-bits-width-via-then-bits-width w ↦
           let e : 8 * width_of s ≡ s.bits = omega arith in
           subst (λ (n : ℕ). All (λ l. l < 2 ^ n) levels) e read.ensures.fit
-      | then-bits-width-via-else-bits-width+then-are_legal w ↦ w.are_legal.ensures w.if-are_legal.true
+      | then-bits-width-via-else-bits-width+then-are_levels_of_samples w ↦ w.are_levels_of_samples.ensures w.if-are_levels_of_samples.true
     ] in
     reads_all s c.args.bytes.now levels (c.requires ∙ ap (λ n. width_of s * n) (sym read.ensures.len)) legal read.ensures.spelled

@@ -5,8 +5,8 @@ use Rattle.rice_samples.specs.Parameters.{level, value_count}
 use Rattle.rice_samples.proofs.lemmas.bytes.SpellingLemmas.{spelled_level, level_spelled}
 use Rattle.rice_samples.proofs.bytes.spelling.sample_of.Goals as goal
 
-pub returns-then-level-values-clause-value : goal.returns-then-level-values-clause-value
-returns-then-level-values-clause-value c =
+pub returns-then-level-number_of_values-clause-value : goal.returns-then-level-number_of_values-clause-value
+returns-then-level-number_of_values-clause-value c =
     let s = c.args.setting.now in
     let word = c.word_of-word in
     let w = c.width.ensures in
@@ -20,8 +20,8 @@ returns-then-level-values-clause-value c =
           c.offset.ensures.value w.value c.requires w.holds_bits w.range.0 word.ensures.bytes word.ensures.fits x.ensures.sample e,
     )
 
-pub returns-else-level-values-clause-none : goal.returns-else-level-values-clause-none
-returns-else-level-values-clause-none c = λ y sample spells.
+pub returns-else-level-number_of_values-clause-none : goal.returns-else-level-number_of_values-clause-none
+returns-else-level-number_of_values-clause-none c = λ y sample spells.
     let s = c.args.setting.now in
     let word = c.word_of-word in
     let w = c.width.ensures in
@@ -29,5 +29,5 @@ returns-else-level-values-clause-none c = λ y sample spells.
     let e = level_spelled s c.args.bytes.now c.msb.result c.width.result word.result c.offset.result y w.legal c.msb.ensures c.offset.ensures.value w.value
     c.requires w.holds_bits w.range.0 w.range.1 word.ensures.bytes word.ensures.fits sample spells in
     let below : level s y < value_count s = sample.1 in
-    let far = rw shift at c.if-level-values.false in
-    absurd (omega (arith, e, below, far, c.values.ensures.value))
+    let far = rw shift at c.if-level-number_of_values.false in
+    absurd (omega (arith, e, below, far, c.number_of_values.ensures.value))

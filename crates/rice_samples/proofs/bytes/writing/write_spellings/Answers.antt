@@ -8,4 +8,4 @@ pub returns-in-2-false-eq16 : goal.returns-in-2-false-eq16
 returns-in-2-false-eq16 c =
     let s = c.args.setting.now in
     let all = take_all 16 c.args.levels.now (omega (arith, c.in-2-false-eq16.is-2)) in
-    c.write_spellings_as-in-2-false-eq16.ensures ∙ ap (λ l. spellings s (values_at s l)) all
+    c.write_spellings_laid_out-in-2-false-eq16.ensures ∙ ap (λ l. spellings s (values_at s l)) all

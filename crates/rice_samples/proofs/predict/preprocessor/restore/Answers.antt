@@ -11,11 +11,11 @@ returns-clause-only c = λ x sample e.
     let s = c.args.setting.now in
     let p = c.args.p in
     let y = c.value_at.result in
-    let count : c.values.result - 1 + 1 ≡ value_count s = omega arith in
+    let count : c.number_of_values.result - 1 + 1 ≡ value_count s = omega arith in
     let before : c.level.result ≡ level s p = c.level.ensures.value ∙ ap (level s) (to_z-of_z w64 p c.ranges.p) in
     let back = sym count in
     let from = sym before in
-    let made : rank s p y ≡ rank_below (c.values.result - 1 + 1) c.level.result c.number_with-level.result = (λ j. rank_below (back j) (from j) (c.value_at.ensures.level j)) in
+    let made : rank s p y ≡ rank_below (c.number_of_values.result - 1 + 1) c.level.result c.number_with-level.result = (λ j. rank_below (back j) (from j) (c.value_at.ensures.level j)) in
     let same : rank s p y ≡ rank s p x = made ∙ c.number_with-level.ensures.rank ∙ sym e in
     let fits : FitsSigned w64 y = search rules in
     rw (to_z-of_z w64 y fits)

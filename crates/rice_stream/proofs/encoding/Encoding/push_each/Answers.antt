@@ -5,7 +5,7 @@ use Rattle.std.proofs.lemmas.List.{drop-map, length-take-le}
 use Rattle.std.proofs.lemmas.List.Elements.{All-drop}
 use Rattle.std.proofs.lemmas.Result.{err_from_is_err_and}
 use Rattle.rice_samples.specs.Parameters.{Parameters, value_at, value_count, values_at}
-use Rattle.rice_samples.proofs.lemmas.setting.ValuesAt.{length-values}
+use Rattle.rice_samples.proofs.lemmas.setting.ValuesByLevels.{length-values}
 use Rattle.rice_stream.specs.EncodingState.{IsEncodingOf, FailsIn}
 use Rattle.rice_stream.proofs.lemmas.EncodingLemmas.{fails_later}
 use Rattle.rice_stream.proofs.encoding.Encoding.push_each.Goals as goal

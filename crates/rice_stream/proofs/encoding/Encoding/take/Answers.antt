@@ -2,7 +2,7 @@ use Rattle.std.proofs.Common.{arith, rules, ◌≡◌, ◌<◌, ◌∙◌, ◌+�
 use Rattle.std.specs.Prelude.{All}
 use Rattle.std.proofs.lemmas.List.{length-take-le, take-take}
 use Rattle.rice_samples.specs.Parameters.{Parameters, value_count, values_at}
-use Rattle.rice_samples.proofs.lemmas.setting.ValuesAt.{length-values}
+use Rattle.rice_samples.proofs.lemmas.setting.ValuesByLevels.{length-values}
 use Rattle.rice_code.specs.code.Code.{code_bits, complete_samples}
 use Rattle.rice_code.specs.encode.Coder.{CompletesNone}
 use Rattle.rice_stream.specs.EncodingState.{TakesSamples}

@@ -1,7 +1,7 @@
 use Rattle.std.proofs.Common.{◌≡◌, ◌∙◌, ap, length}
 use Rattle.std.proofs.lemmas.Option.{IfSome_then}
 use Rattle.rice_samples.specs.Parameters.{values_at}
-use Rattle.rice_samples.proofs.lemmas.setting.ValuesAt.{length-values}
+use Rattle.rice_samples.proofs.lemmas.setting.ValuesByLevels.{length-values}
 use Rattle.rice_code.proofs.decode.decoder.Decoder.next_block.Goals as goal
 
 -- the samples are those at the levels

@@ -1,7 +1,7 @@
 use Rattle.std.proofs.Common.{arith, ◌≡◌, ◌-◌, ◌∙◌, ap, refl, subst, true, []}
 use Rattle.std.proofs.lemmas.Grind.{common_steps}
 use Rattle.rice_samples.specs.Parameters.{value_at, values_at}
-use Rattle.rice_samples.proofs.lemmas.setting.ValuesAt.{legal_values, length-values}
+use Rattle.rice_samples.proofs.lemmas.setting.ValuesByLevels.{legal_values, length-values}
 use Rattle.rice_code.specs.decode.Decoder.{TakesSet, StopsBy, answer_to, with_mark}
 use Rattle.rice_code.proofs.lemmas.decode.DecoderLemmas.{answers_block, answers_stop, block_given, run_given, samples_by_bits, stops_by}
 use Rattle.rice_code.proofs.decode.decoder.Decoder.read_and_restore.Goals as goal

@@ -3,7 +3,7 @@ use Rattle.rice_samples.specs.Parameters.{value_at, value_count, values_at}
 use Rattle.rice_samples.specs.Places.{blocks_left}
 use Rattle.rice_samples.specs.predict.Residuals.{last_of}
 use Rattle.rice_samples.proofs.lemmas.setting.ValuesAboveLeast.{sample_at}
-use Rattle.rice_samples.proofs.lemmas.setting.ValuesAt.{last_value, legal_values, length-values}
+use Rattle.rice_samples.proofs.lemmas.setting.ValuesByLevels.{last_value, legal_values, length-values}
 use Rattle.rice_code.specs.encode.OpenSegment.{CoderState, IsOpen, later_residuals, state_with_later}
 use Rattle.rice_code.proofs.lemmas.encode.SeveralSamplesHeld.{open_later}
 use Rattle.rice_code.proofs.encode.open_segment.OpenSegment.hold_after.Goals as goal

@@ -1,5 +1,5 @@
 use Rattle.std.proofs.Common.{w8, arith}
-use Rattle.rice_samples.proofs.lemmas.predict.RanksInTurn.{halves_are}
+use Rattle.rice_samples.proofs.lemmas.predict.RanksPreparedForTurns.{halves_are}
 use Rattle.rice_samples.proofs.predict.restoring.bytes_in_turn.half_ranks.Goals as goal
 
 pub returns : goal.returns

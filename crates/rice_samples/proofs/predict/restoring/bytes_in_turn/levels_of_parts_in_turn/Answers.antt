@@ -4,8 +4,8 @@ use Rattle.rice_samples.proofs.predict.restoring.bytes_in_turn.levels_of_parts_i
 
 pub levels_in_turn-requires-clause-residuals : goal.levels_in_turn-requires-clause-residuals
 levels_in_turn-requires-clause-residuals c =
-    let values = c.values.ensures in
-    let count : c.values.result - 1 + 1 ≡ value_count c.args.setting.now = omega (arith, values.value, values.range) in
+    let values = c.number_of_values.ensures in
+    let count : c.number_of_values.result - 1 + 1 ≡ value_count c.args.setting.now = omega (arith, values.value, values.range) in
     let small = c.excess_over-2.ensures.value (c.if-not-both_are_zeros.ensures.second refl) in
     λ i d lt. let fit = small i d lt in omega (arith, count, fit)
 

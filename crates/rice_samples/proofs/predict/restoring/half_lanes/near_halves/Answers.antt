@@ -12,8 +12,8 @@ use Rattle.rice_samples.proofs.predict.restoring.half_lanes.near_halves.Goals as
 pub returns-clause-levels : goal.returns-clause-levels
 returns-clause-levels c =
     let a = c.args in
-    let values = c.values.ensures in
-    let greatest = c.values.result - 1 in
+    let values = c.number_of_values.ensures in
+    let greatest = c.number_of_values.result - 1 in
     let test = c.if-not-both_are_zeros.ensures in
     let count : greatest + 1 ≡ value_count a.setting.now = omega (arith, values.value, values.range) in
     let first = c.near_numbers-first.result in
@@ -28,8 +28,8 @@ returns-clause-levels c =
     let more = test.second refl in
     halves_are a.setting.now a.before a.width greatest last a.highs a.lows first second count c.requires.len.0 c.requires.len.1 first_len second_len refl small
     (c.excess_over_near-second_far.ensures.fit inside more)
-    (c.excess_over_near-first_far.ensures.ranks legal none ∙ (c.join_parts-first_ranks.ensures.value ∙ (λ j. joined_parts a.width (c.first_halves.ensures j) (c.first_halves-2.ensures j))))
-    (c.excess_over_near-second_far.ensures.ranks inside more ∙ (c.join_parts-second_ranks.ensures.value ∙ (λ j. joined_parts a.width (c.last_halves.ensures j) (c.last_halves-2.ensures j))))
+    (c.excess_over_near-first_far.ensures.ranks legal none ∙ (c.join_parts-first_ranks.ensures.value ∙ (λ j. joined_parts a.width (c.first_eight_widened.ensures j) (c.first_eight_widened-2.ensures j))))
+    (c.excess_over_near-second_far.ensures.ranks inside more ∙ (c.join_parts-second_ranks.ensures.value ∙ (λ j. joined_parts a.width (c.last_eight_widened.ensures j) (c.last_eight_widened-2.ensures j))))
 
 pub returns-clause-halves : goal.returns-clause-halves
 returns-clause-halves c =
@@ -44,13 +44,13 @@ all_fit : (xs : List ℕ) → Each1 (Fits w8) xs → All (λ m. m < 256) xs
 all_fit xs h = λ i d lt. let f = Each1-get_or (Fits w8) xs i d lt h in f.fits
 
 pub join_parts-first_ranks-requires-clause-highs : goal.join_parts-first_ranks-requires-clause-highs
-join_parts-first_ranks-requires-clause-highs c = subst (All (λ m. m < 256)) (sym c.first_halves.ensures) (All-take (λ m. m < 256) 8 c.args.highs (all_fit c.args.highs c.fits-highs.1))
+join_parts-first_ranks-requires-clause-highs c = subst (All (λ m. m < 256)) (sym c.first_eight_widened.ensures) (All-take (λ m. m < 256) 8 c.args.highs (all_fit c.args.highs c.fits-highs.1))
 
 pub join_parts-first_ranks-requires-clause-lows : goal.join_parts-first_ranks-requires-clause-lows
-join_parts-first_ranks-requires-clause-lows c = subst (All (λ v. v < 2 ^ c.args.width)) (sym c.first_halves-2.ensures) (All-take (λ v. v < 2 ^ c.args.width) 8 c.args.lows c.requires.lows)
+join_parts-first_ranks-requires-clause-lows c = subst (All (λ v. v < 2 ^ c.args.width)) (sym c.first_eight_widened-2.ensures) (All-take (λ v. v < 2 ^ c.args.width) 8 c.args.lows c.requires.lows)
 
 pub join_parts-second_ranks-requires-clause-highs : goal.join_parts-second_ranks-requires-clause-highs
-join_parts-second_ranks-requires-clause-highs c = subst (All (λ m. m < 256)) (sym c.last_halves.ensures) (All-drop (λ m. m < 256) 8 c.args.highs (all_fit c.args.highs c.fits-highs.1))
+join_parts-second_ranks-requires-clause-highs c = subst (All (λ m. m < 256)) (sym c.last_eight_widened.ensures) (All-drop (λ m. m < 256) 8 c.args.highs (all_fit c.args.highs c.fits-highs.1))
 
 pub join_parts-second_ranks-requires-clause-lows : goal.join_parts-second_ranks-requires-clause-lows
-join_parts-second_ranks-requires-clause-lows c = subst (All (λ v. v < 2 ^ c.args.width)) (sym c.last_halves-2.ensures) (All-drop (λ v. v < 2 ^ c.args.width) 8 c.args.lows c.requires.lows)
+join_parts-second_ranks-requires-clause-lows c = subst (All (λ v. v < 2 ^ c.args.width)) (sym c.last_eight_widened-2.ensures) (All-drop (λ v. v < 2 ^ c.args.width) 8 c.args.lows c.requires.lows)

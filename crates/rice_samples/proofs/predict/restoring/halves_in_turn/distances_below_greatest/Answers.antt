@@ -1,5 +1,5 @@
 use Rattle.std.proofs.Common.{w16}
-use Rattle.rice_samples.proofs.lemmas.predict.RanksInTurn.{distances_below_greatest_are}
+use Rattle.rice_samples.proofs.lemmas.predict.RanksPreparedForTurns.{distances_below_greatest_are}
 use Rattle.rice_samples.proofs.predict.restoring.halves_in_turn.distances_below_greatest.Goals as goal
 
 pub returns : goal.returns

@@ -12,8 +12,8 @@ use Rattle.rice_samples.proofs.predict.restoring.halves_in_turn.halves_in_turn.G
 pub returns-clause-levels : goal.returns-clause-levels
 returns-clause-levels c =
     let a = c.args in
-    let values = c.values.ensures in
-    let greatest = c.values.result - 1 in
+    let values = c.number_of_values.ensures in
+    let greatest = c.number_of_values.result - 1 in
     let count : greatest + 1 ≡ value_count a.setting.now = omega (arith, values.value, values.range) in
     let one = c.write_eight_in_turn-middle in
     let two = c.write_eight_in_turn in
@@ -24,21 +24,21 @@ returns-clause-levels c =
     let small : All (λ x. x ≤ greatest) first = λ i d lt. let f = one.ensures.fit i d lt in omega (arith, f) in
     let more : All (λ x. x ≤ greatest) second = λ i d lt. let f = two.ensures.fit i d lt in omega (arith, f) in
     halves_are a.setting.now a.before a.width greatest last a.highs a.lows first second count c.requires.len.0 c.requires.len.1 one.ensures.len two.ensures.len refl small more
-    (one.ensures.ranks ∙ (c.join_parts-first_ranks.ensures.value ∙ (λ j. joined_parts a.width (c.first_halves.ensures j) (c.first_halves-2.ensures j))))
-    (subst (λ p. ranks_below (greatest + 1) p second ≡ c.join_parts-second_ranks.result) reached two.ensures.ranks ∙ (c.join_parts-second_ranks.ensures.value ∙ (λ j. joined_parts a.width (c.last_halves.ensures j) (c.last_halves-2.ensures j))))
+    (one.ensures.ranks ∙ (c.join_parts-first_ranks.ensures.value ∙ (λ j. joined_parts a.width (c.first_eight_widened.ensures j) (c.first_eight_widened-2.ensures j))))
+    (subst (λ p. ranks_below (greatest + 1) p second ≡ c.join_parts-second_ranks.result) reached two.ensures.ranks ∙ (c.join_parts-second_ranks.ensures.value ∙ (λ j. joined_parts a.width (c.last_eight_widened.ensures j) (c.last_eight_widened-2.ensures j))))
 
 -- lanes of 8 bits
 all_fit : (xs : List ℕ) → Each1 (Fits w8) xs → All (λ m. m < 256) xs
 all_fit xs h = λ i d lt. let f = Each1-get_or (Fits w8) xs i d lt h in f.fits
 
 pub join_parts-first_ranks-requires-clause-highs : goal.join_parts-first_ranks-requires-clause-highs
-join_parts-first_ranks-requires-clause-highs c = subst (All (λ m. m < 256)) (sym c.first_halves.ensures) (All-take (λ m. m < 256) 8 c.args.highs (all_fit c.args.highs c.fits-highs.1))
+join_parts-first_ranks-requires-clause-highs c = subst (All (λ m. m < 256)) (sym c.first_eight_widened.ensures) (All-take (λ m. m < 256) 8 c.args.highs (all_fit c.args.highs c.fits-highs.1))
 
 pub join_parts-first_ranks-requires-clause-lows : goal.join_parts-first_ranks-requires-clause-lows
-join_parts-first_ranks-requires-clause-lows c = subst (All (λ v. v < 2 ^ c.args.width)) (sym c.first_halves-2.ensures) (All-take (λ v. v < 2 ^ c.args.width) 8 c.args.lows c.requires.lows)
+join_parts-first_ranks-requires-clause-lows c = subst (All (λ v. v < 2 ^ c.args.width)) (sym c.first_eight_widened-2.ensures) (All-take (λ v. v < 2 ^ c.args.width) 8 c.args.lows c.requires.lows)
 
 pub join_parts-second_ranks-requires-clause-highs : goal.join_parts-second_ranks-requires-clause-highs
-join_parts-second_ranks-requires-clause-highs c = subst (All (λ m. m < 256)) (sym c.last_halves.ensures) (All-drop (λ m. m < 256) 8 c.args.highs (all_fit c.args.highs c.fits-highs.1))
+join_parts-second_ranks-requires-clause-highs c = subst (All (λ m. m < 256)) (sym c.last_eight_widened.ensures) (All-drop (λ m. m < 256) 8 c.args.highs (all_fit c.args.highs c.fits-highs.1))
 
 pub join_parts-second_ranks-requires-clause-lows : goal.join_parts-second_ranks-requires-clause-lows
-join_parts-second_ranks-requires-clause-lows c = subst (All (λ v. v < 2 ^ c.args.width)) (sym c.last_halves-2.ensures) (All-drop (λ v. v < 2 ^ c.args.width) 8 c.args.lows c.requires.lows)
+join_parts-second_ranks-requires-clause-lows c = subst (All (λ v. v < 2 ^ c.args.width)) (sym c.last_eight_widened-2.ensures) (All-drop (λ v. v < 2 ^ c.args.width) 8 c.args.lows c.requires.lows)

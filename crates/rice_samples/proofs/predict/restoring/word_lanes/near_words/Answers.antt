@@ -13,8 +13,8 @@ join_parts-ranks-requires-clause-highs c = widened_fit c.args.highs c.fits-highs
 pub returns : goal.returns
 returns c =
     let a = c.args in
-    let values = c.values.ensures in
-    let greatest = c.values.result - 1 in
+    let values = c.number_of_values.ensures in
+    let greatest = c.number_of_values.result - 1 in
     let count : greatest + 1 ≡ value_count a.setting.now = omega (arith, values.value, values.range) in
     let ranks = c.join_parts-ranks in
     let levels = c.near_numbers-levels in

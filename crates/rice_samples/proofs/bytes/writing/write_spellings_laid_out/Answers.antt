@@ -1,0 +1,27 @@
+use Rattle.std.proofs.Common.{arith, ◌≡◌, ◌*◌, ◌<◌, ◌∙◌, length, get_or}
+use Rattle.rice_samples.specs.Parameters.{value_at, value_count}
+use Rattle.rice_samples.specs.predict.Residuals.{twos_complement}
+use Rattle.rice_samples.specs.bytes.Spelling.{spelling, ordered_bytes}
+use Rattle.rice_samples.proofs.lemmas.bytes.LevelPatterns.{word_of_level}
+use Rattle.rice_samples.proofs.lemmas.bytes.ReadSamples.{one_len, one_written}
+use Rattle.rice_samples.proofs.bytes.writing.write_spellings_laid_out.Goals as goal
+
+pub loop-i-preserved : goal.loop-i-preserved
+loop-i-preserved c =
+    let s = c.args.setting.now in
+    let w = c.args.width in
+    let i = c.loop-i.i in
+    let levels = c.args.levels.now in
+    let level = get_or levels i 0 in
+    let bytes = c.loop-i.bytes in
+    let len = c.loop-i.auto.bytes ∙ c.requires.len in
+    let part = one_len w i (length levels) bytes (omega arith) len in
+    let legal : level < value_count s = c.requires.legal i 0 (omega arith) in
+    let wide = c.width-width.ensures in
+    let digits : c.low_digits-word.result ≡ twos_complement (8 * w) (value_at s level) = c.low_digits-word.ensures.value
+    ∙ word_of_level s (8 * w) level c.offset-offset.result wide.legal.bits_from (omega (arith, wide.holds_bits, wide.value, c.requires.width))
+    (omega (arith, wide.range.1, wide.value, c.requires.width)) c.offset-offset.ensures.value legal
+    in
+    let word = digits ∙ (λ j. twos_complement (8 * c.requires.width j) (value_at s level)) in
+    one_written (spelling s) (value_at s) w i _ bytes c.store_word.new.bytes levels (omega arith) len (c.store_word.auto.bytes ∙ part) c.loop-i.invariant
+    (c.store_word.ensures ∙ (λ j. ordered_bytes (c.requires.order j) ((part ∙ c.requires.width) j) (word j)))
