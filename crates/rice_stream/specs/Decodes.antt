@@ -18,8 +18,8 @@ use Rattle.rice_stream.specs.Calls.{Call, Happens, WritesAndReports, StopsBetwee
 use Rattle.rice_stream.specs.declared.outcome.Report.{Report}
 use Rattle.rice_stream.specs.declared.outcome.Fault.{Fault}
 use Rattle.rice_stream.specs.declared.outcome.Fault.TheVariants.{Read, Write, TooLong, CodeEnds, RunPastSegment, ResidualTooLarge}
-use Rattle.rice_code.specs.declared.decode.answer.CodeFault.{CodeFault}
-use Rattle.rice_code.specs.declared.decode.answer.CodeFault.TheVariants as codes
+use Rattle.rice_code.specs.declared.decode.call_results.CodeFault.{CodeFault}
+use Rattle.rice_code.specs.declared.decode.call_results.CodeFault.TheVariants as codes
 
 -- the bytes decode so, and these samples and bits are what the call left
 abbrev pub DecodesBytes : Parameters → Option ℕ → Call → Report → List ℕ → List ℤ → Ending → Type 0

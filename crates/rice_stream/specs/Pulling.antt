@@ -11,8 +11,8 @@ use Rattle.rice_samples.specs.bytes.Spelling.{spellings}
 use Rattle.rice_code.specs.code.CodedDataSets.{CodedDataSet, turns}
 use Rattle.rice_code.specs.code.Decoded.{Ended, CutOff, Past, Large, EndsWith}
 use Rattle.rice_code.specs.decode.DecoderState.{DecoderState, IsDecoderState}
-use Rattle.rice_code.specs.declared.decode.answer.CodeFault.{CodeFault}
-use Rattle.rice_code.specs.declared.decode.answer.CodeFault.TheVariants as faults
+use Rattle.rice_code.specs.declared.decode.call_results.CodeFault.{CodeFault}
+use Rattle.rice_code.specs.declared.decode.call_results.CodeFault.TheVariants as faults
 use Rattle.rice_stream.specs.DecodingState.{DecodedSoFar, HasSets, HasSteps}
 use Rattle.rice_stream.specs.declared.stand.Pause.{Pause}
 use Rattle.rice_stream.specs.declared.stand.Pause.TheVariants as pauses

@@ -137,12 +137,12 @@ fn write_row<I: Intake, O: Outlet, const WIDTH: usize>(
     let len = row_bytes::<WIDTH>(setting, blocks);
     match write_counted(outlet, &bytes[..len]) {
         Ok(()) => {
-            decoder.take_plain_blocks::<I, WIDTH>(blocks, reader, meter, bytes);
+            decoder.pass_plain_blocks::<I, WIDTH>(blocks, reader, meter, bytes);
             Ok(block * blocks as u64)
         }
         Err(taken) => {
             let whole = taken / size;
-            decoder.take_plain_blocks::<I, WIDTH>(whole + 1, reader, meter, bytes);
+            decoder.pass_plain_blocks::<I, WIDTH>(whole + 1, reader, meter, bytes);
             Err(block * whole as u64)
         }
     }

@@ -4,7 +4,7 @@ ghost use Rattle.rice_bits.specs.Limits.{most_bits_read};
 ghost use Rattle.rice_bits.specs.Bits.{bits_of};
 ghost use Rattle.rice_bits.specs.read.Reader.{new_reader};
 ghost use Rattle.rice_samples.specs.Parameters.{value_count, values_at, width as width_of};
-ghost use Rattle.rice_code.specs.declared.decode.answer.CodeFault.TheVariants as faults;
+ghost use Rattle.rice_code.specs.declared.decode.call_results.CodeFault.TheVariants as faults;
 ghost use Rattle.rice_code.specs.decode.BlocksInOnePass.{HasLanes};
 ghost use Rattle.rice_code.specs.decode.PlainBlocks.{IsPlain};
 ghost use Rattle.rice_stream.specs.Pulling.{Origin, IsStand, IsSomeStand, DecodesOn, GoesOnAt, HasComeTo, TakesNext, ahead, pause_for, spelled_at};

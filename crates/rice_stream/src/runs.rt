@@ -100,7 +100,7 @@ pub fn write_run<O: Outlet>(
     let _place = decoder.block();
     let sample = decoder.before();
     let blocks = blocks_at_once(setting, asked, written, decoder.run());
-    decoder.repeat_blocks(blocks);
+    decoder.pass_blocks_of_run(blocks);
     let count = block as usize * blocks as usize;
     let width = setting.width() as usize;
     let spelled = &mut bytes[..width * count];

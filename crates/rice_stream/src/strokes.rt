@@ -105,7 +105,7 @@ fn next_of_run(
     meter.tick(stand.steps);
     let sample = decoder.before();
     let blocks = blocks_at_once(setting, Some(fit), 0, decoder.run());
-    decoder.repeat_blocks(blocks);
+    decoder.pass_blocks_of_run(blocks);
     let count = block * blocks as u64;
     let stand = stand_behind(stand, count, reader.taken(), decoder, reader, &meter);
     let len = width * count as usize;
@@ -191,7 +191,7 @@ fn next_plain_blocks<const WIDTH: usize>(
     let before = reader.taken();
     let mut meter = Meter::new();
     meter.tick(stand.steps);
-    decoder.take_plain_blocks::<SliceIn<'_>, WIDTH>(blocks, reader, &mut meter, bytes);
+    decoder.pass_plain_blocks::<SliceIn<'_>, WIDTH>(blocks, reader, &mut meter, bytes);
     let count = setting.block() as u64 * blocks as u64;
     let stand = stand_behind(stand, count, before, decoder, reader, &meter);
     let len = WIDTH * count as usize;

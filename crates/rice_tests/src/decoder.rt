@@ -174,7 +174,7 @@ fn repeated_samples(rt: HostRuntime) -> Result<(), Fail> {
     cases.check(decoder.next_levels(&mut reader, &mut meter, &mut levels) == Ok(NextBlock::Block));
     cases.check(levels.as_slice() == [0; 8].as_slice());
     if decoder.repeats() {
-        decoder.repeat_blocks(1);
+        decoder.pass_blocks_of_run(1);
     }
     cases.check(decoder.waiting() == 0);
     cases.check(!decoder.repeats());

@@ -1,5 +1,5 @@
 -- The code: its blocks, coded data sets and their layout.
-pub mod BlockPlaces
+pub mod BlocksByPlaceAlone
 pub mod FilledBlocks
 pub mod CodeGoesOn
 pub mod Layouts

@@ -1,11 +1,11 @@
 -- How many bits and looks the options take.
 pub mod AddedCodeBound
 pub mod BlockBounds
-pub mod CodeEnds
+pub mod WhereSetsEnd
 pub mod CostIsLength
 pub mod LeastCode
 pub mod LeastRuns
-pub mod LooksPaid
+pub mod BestSplitsPaid
 pub mod PaddingBounds
 pub mod PairCosts
 pub mod SplitSavings

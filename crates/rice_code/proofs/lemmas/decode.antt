@@ -2,13 +2,13 @@
 pub mod SplitAhead
 pub mod SetsRead
 pub mod DecoderLemmas
-pub mod RowLemmas
+pub mod RowsOfFields
 pub mod JoinedResiduals
 pub mod PlainBlocksRead
 pub mod BlocksInRow
 pub mod OptionsRead
 pub mod RestoredBlocks
 pub mod FirstLanes
-pub mod SplitRows
+pub mod SplitInSixteens
 pub mod NoCompressionAhead
 pub mod WideAhead

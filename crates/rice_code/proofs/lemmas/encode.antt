@@ -4,8 +4,8 @@ pub mod GatheredSequences
 pub mod HeldSamples
 pub mod JoinedWords
 pub mod OpenSegments
-pub mod OptionBits
-pub mod PartsInRanges
+pub mod OptionTexts
+pub mod PartsInTurn
 pub mod PendingRuns
 pub mod PushedCode
 pub mod ChoiceLemmas

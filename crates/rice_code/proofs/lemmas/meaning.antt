@@ -3,12 +3,12 @@ pub mod DecodingBeginsAfresh
 pub mod AllBytesAreDecoded
 pub mod CoveredBlocks
 pub mod DecodingGoesOn
-pub mod DecodingPlaces
+pub mod DecodingByPlacesAlone
 pub mod IntervalsStandAlone
 pub mod NoShorterCode
 pub mod DecodedInOneWay
-pub mod OutputBytes
+pub mod OutputsRecognised
 pub mod FormsAtFront
 pub mod SamplesAreReturned
-pub mod SentSets
+pub mod SentSetsAreTaken
 pub mod DecodingWitnesses

@@ -9,7 +9,7 @@ use Rattle.rice_code.specs.code.CodedDataSets.{CodedDataSet, bits_of_set, turns}
 use Rattle.rice_code.specs.code.Forms.{IsForm, RunIsSound, ResidualsAreSound, blocks_in}
 use Rattle.rice_code.specs.decode.Decoder.{Answers, GivesBlock, with_mark}
 use Rattle.rice_code.specs.decode.DecoderState.{DecoderState}
-use Rattle.rice_code.specs.declared.decode.answer.NextBlock.TheVariants.{Block}
+use Rattle.rice_code.specs.declared.decode.call_results.NextBlock.TheVariants.{Block}
 
 -- Samples of `width` bytes that may be decoded in the lanes of vectors: of at most 16 bits.
 pub record HasWidth (s : Parameters) (width : ℕ) : Type 0 where

@@ -9,10 +9,10 @@ use Rattle.rice_code.specs.code.CodedDataSets.{CodedDataSet, bits_of_set, turns}
 use Rattle.rice_code.specs.code.Forms.{IsForm, RunIsSound, ResidualsAreSound, blocks_in}
 use Rattle.rice_code.specs.code.Layout.{block_after, padding}
 use Rattle.rice_code.specs.decode.ReadSets.{SetCut}
-use Rattle.rice_code.specs.declared.decode.answer.NextBlock.{NextBlock}
-use Rattle.rice_code.specs.declared.decode.answer.NextBlock.TheVariants.{Block, Done}
-use Rattle.rice_code.specs.declared.decode.answer.CodeFault.{CodeFault}
-use Rattle.rice_code.specs.declared.decode.answer.CodeFault.TheVariants as faults
+use Rattle.rice_code.specs.declared.decode.call_results.NextBlock.{NextBlock}
+use Rattle.rice_code.specs.declared.decode.call_results.NextBlock.TheVariants.{Block, Done}
+use Rattle.rice_code.specs.declared.decode.call_results.CodeFault.{CodeFault}
+use Rattle.rice_code.specs.declared.decode.call_results.CodeFault.TheVariants as faults
 use Rattle.rice_code.specs.decode.DecoderState.{DecoderState, state_after_block}
 
 -- These are the samples, after sample p, of the first of these blocks, which begin at block b; `run` zero blocks follow it.

@@ -3,9 +3,9 @@ use Rattle.std.specs.Prelude.{◌≡◌, ◌≢◌, ℕ, ◌+◌, ◌<◌, ◌�
 use Rattle.rice_samples.specs.Parameters.{Parameters, IsLegal, IsSample}
 use Rattle.rice_samples.specs.Places.{blocks_left, begins_segment}
 use Rattle.rice_samples.specs.predict.Residuals.{last_of}
-use Rattle.rice_code.specs.declared.decode.answer.NextBlock.{NextBlock}
-use Rattle.rice_code.specs.declared.decode.answer.NextBlock.TheVariants.{Block}
-use Rattle.rice_code.specs.declared.decode.answer.CodeFault.{CodeFault}
+use Rattle.rice_code.specs.declared.decode.call_results.NextBlock.{NextBlock}
+use Rattle.rice_code.specs.declared.decode.call_results.NextBlock.TheVariants.{Block}
+use Rattle.rice_code.specs.declared.decode.call_results.CodeFault.{CodeFault}
 
 -- The state of a decoder.
 pub record DecoderState : Type 0 where

@@ -15,13 +15,13 @@ ghost use Rattle.rice_code.specs.decode.DecoderState.{next_block_place, place_af
 ghost use Rattle.rice_code.specs.code.Layout.{padding};
 ghost use Rattle.rice_code.specs.code.CodedDataSets.{run_with_zeros};
 
-use crate::decode::answer::{CodeFault, NextBlock};
+use crate::decode::call_results::{CodeFault, NextBlock};
 use crate::decode::coded_data_set::read_set;
 use crate::decode::no_compression_ahead::{is_uncompressed_ahead, spell_uncompressed_ahead};
 use crate::decode::options::SetSummary;
 use crate::decode::plain_blocks::{last_of_plain, plain_len, spell_plain_row};
-use crate::decode::restoring::{restore_block, restore_zeros, set_len};
-use crate::decode::split_ahead::{spell_ahead, split_ahead, take_ahead};
+use crate::decode::restoring::{restore_block, restore_zero_block, set_len};
+use crate::decode::split_ahead::{spell_ahead, split_of_block_ahead, take_ahead};
 use crate::decode::wide_ahead::{restore_wide_ahead, wide_split_ahead};
 use crate::known_len::known_or;
 use arrayvec::ArrayVec;
@@ -165,7 +165,7 @@ impl Model for Decoder {
 impl Decoder {
     ghost use Rattle.rice_code.specs.decode.DecoderState.{IsDecoderState};
     ghost use Rattle.rice_code.specs.decode.Decoder.{Answers, GivesFromRun, RepeatsBlocks, with_mark};
-    ghost use Rattle.rice_code.specs.declared.decode.answer.NextBlock.TheVariants.{Block};
+    ghost use Rattle.rice_code.specs.declared.decode.call_results.NextBlock.TheVariants.{Block};
 
     /// Returns a decoder at the beginning of a code.
     pub fn new(setting: Setting) -> Self
@@ -259,7 +259,7 @@ impl Decoder {
 
     /// Goes past the next `count` blocks of a run: each of their samples is the sample before them.
     #[inline(always)]
-    pub fn repeat_blocks(&mut self, count: u32)
+    pub fn pass_blocks_of_run(&mut self, count: u32)
         requires run { count ≤ self.old.run }
         requires preprocess { self.old.setting.preprocess ≡ true }
         ensures gives { RepeatsBlocks count self.old self.new }
@@ -349,27 +349,31 @@ impl Decoder {
         if self.run > 0 {
             return 0;
         }
-        if let Some(k) = split_ahead::<I, WIDTH>(&self.setting, reader) {
+        if let Some(k) = split_of_block_ahead::<I, WIDTH>(&self.setting, reader) {
             if self.before < FEW_BELOW {
-                return self.read_far::<I, SIZE, WIDTH>(k, reader, meter, bytes, ends);
+                return self.read_far_split_to_bytes::<I, SIZE, WIDTH>(
+                    k, reader, meter, bytes, ends,
+                );
             }
             // Most samples are near to those before them. A call for others in the same function would take registers from these.
-            let blocks = self.read_row::<I, SIZE, WIDTH>(most, reader, meter, bytes, ends);
+            let blocks = self.read_near_row_to_bytes::<I, SIZE, WIDTH>(
+                most, reader, meter, bytes, ends,
+            );
             if blocks > 0 {
                 return blocks;
             }
-            return self.read_far::<I, SIZE, WIDTH>(k, reader, meter, bytes, ends);
+            return self.read_far_split_to_bytes::<I, SIZE, WIDTH>(k, reader, meter, bytes, ends);
         }
         let size = known_or::<SIZE>(self.setting.block() as usize);
         if is_uncompressed_ahead::<I, WIDTH>(&self.setting, size, reader) {
-            return self.read_uncompressed_row::<I, SIZE>(most, reader, meter, bytes, ends);
+            return self.read_uncompressed_row_to_bytes::<I, SIZE>(most, reader, meter, bytes, ends);
         }
         0
     }
 
     /// As `next_bytes`, outside a run, of blocks by a split whose samples are near to those before them.
     #[inline(never)]
-    fn read_row<I: Intake, const SIZE: usize, const WIDTH: usize>(
+    fn read_near_row_to_bytes<I: Intake, const SIZE: usize, const WIDTH: usize>(
         &mut self,
         most: usize,
         reader: &mut BitReader<I>,
@@ -399,12 +403,12 @@ impl Decoder {
         let begin = reader.taken();
         let len = WIDTH * known_or::<SIZE>(self.setting.block() as usize);
         for i in 0..most {
-            let k = match split_ahead::<I, WIDTH>(&self.setting, reader) {
+            let k = match split_of_block_ahead::<I, WIDTH>(&self.setting, reader) {
                 Some(k) => k,
                 None => return i,
             };
             let own = &mut bytes[len * i..];
-            if !self.read_block::<I, SIZE, WIDTH, false>(k, reader, meter, own) {
+            if !self.read_split_to_bytes::<I, SIZE, WIDTH, false>(k, reader, meter, own) {
                 return i;
             }
             ends[i] = (reader.taken() - begin) as u32;
@@ -414,7 +418,7 @@ impl Decoder {
 
     /// As `next_bytes`, outside a run, of one block by split `k`, whatever its samples are.
     #[inline(never)]
-    fn read_far<I: Intake, const SIZE: usize, const WIDTH: usize>(
+    fn read_far_split_to_bytes<I: Intake, const SIZE: usize, const WIDTH: usize>(
         &mut self,
         k: u32,
         reader: &mut BitReader<I>,
@@ -446,7 +450,7 @@ impl Decoder {
         ensures steps { AreCounted meter.old meter.new reader.old.taken reader.new.taken }
     {
         let begin = reader.taken();
-        if !self.read_block::<I, SIZE, WIDTH, true>(k, reader, meter, bytes) {
+        if !self.read_split_to_bytes::<I, SIZE, WIDTH, true>(k, reader, meter, bytes) {
             return 0;
         }
         ends[0] = (reader.taken() - begin) as u32;
@@ -456,7 +460,7 @@ impl Decoder {
     /// Reads the block by split `k` that waits outside a run, and writes its bytes: by `TURNS` of any samples, else of samples that are
     /// near to those before them. Returns whether it did; otherwise nothing has happened.
     #[inline(always)]
-    fn read_block<I: Intake, const SIZE: usize, const WIDTH: usize, const TURNS: bool>(
+    fn read_split_to_bytes<I: Intake, const SIZE: usize, const WIDTH: usize, const TURNS: bool>(
         &mut self,
         k: u32,
         reader: &mut BitReader<I>,
@@ -505,7 +509,7 @@ impl Decoder {
 
     /// As `next_bytes`, outside a run, of blocks without compression, of samples of one byte.
     #[inline(never)]
-    fn read_uncompressed_row<I: Intake, const SIZE: usize>(
+    fn read_uncompressed_row_to_bytes<I: Intake, const SIZE: usize>(
         &mut self,
         most: usize,
         reader: &mut BitReader<I>,
@@ -538,7 +542,7 @@ impl Decoder {
             if !is_uncompressed_ahead::<I, 1>(&self.setting, size, reader) {
                 return i;
             }
-            self.read_uncompressed::<I, SIZE>(reader, meter, &mut bytes[size * i..]);
+            self.read_uncompressed_to_bytes::<I, SIZE>(reader, meter, &mut bytes[size * i..]);
             ends[i] = (reader.taken() - start) as u32;
         }
         most
@@ -546,7 +550,7 @@ impl Decoder {
 
     /// Reads the block without compression that waits outside a run, and writes its bytes.
     #[inline(always)]
-    fn read_uncompressed<I: Intake, const SIZE: usize>(
+    fn read_uncompressed_to_bytes<I: Intake, const SIZE: usize>(
         &mut self,
         reader: &mut BitReader<I>,
         meter: &mut Meter,
@@ -585,7 +589,7 @@ impl Decoder {
 
     /// Returns how many of the next coded data sets, at most `most`, are blocks without compression and wait one behind another, where
     /// samples are not predicted and use all bits of `WIDTH` bytes. Writes the bytes of these blocks. It takes nothing:
-    /// [`take_plain_blocks`](Self::take_plain_blocks) does.
+    /// [`pass_plain_blocks`](Self::pass_plain_blocks) does.
     #[inline(always)]
     pub fn plain_blocks<I: Intake, const WIDTH: usize>(
         &self,
@@ -604,7 +608,7 @@ impl Decoder {
 
     /// Goes past the next `count` blocks, outside a run, which are not compressed and have these bytes.
     #[inline(always)]
-    pub fn take_plain_blocks<I: Intake, const WIDTH: usize>(
+    pub fn pass_plain_blocks<I: Intake, const WIDTH: usize>(
         &mut self,
         count: usize,
         reader: &mut BitReader<I>,
@@ -679,14 +683,14 @@ impl Decoder {
             return answer;
         }
         if self.run > 0 {
-            let last = restore_zeros(&self.setting, self.block, self.before, None, levels);
+            let last = restore_zero_block(&self.setting, self.block, self.before, None, levels);
             self.run -= 1;
             self.before = last;
             self.block = next_place(&self.setting, self.block);
             return Ok(NextBlock::Block);
         }
         if let Some(k) = wide_split_ahead(&self.setting, reader) {
-            if self.read_wide(k, reader, meter, levels) {
+            if self.read_wide_split_to_levels(k, reader, meter, levels) {
                 return Ok(NextBlock::Block);
             }
         }
@@ -704,7 +708,7 @@ impl Decoder {
     /// short and all samples are near to those before them. Returns whether it did; otherwise nothing has happened, but for the levels,
     /// which are unspecified.
     #[inline(never)]
-    fn read_wide<I: Intake>(
+    fn read_wide_split_to_levels<I: Intake>(
         &mut self,
         k: u32,
         reader: &mut BitReader<I>,
@@ -802,7 +806,7 @@ impl Decoder {
             }
             Ok(SetSummary::Zeros { reference, zeros }) => match run_blocks(setting, block, zeros) {
                 Some(count) => {
-                    let last = restore_zeros(setting, block, before, reference, levels);
+                    let last = restore_zero_block(setting, block, before, reference, levels);
                     self.go_to_next_block(last, count - 1, reader, meter)
                 }
                 None => self.stop(Err(CodeFault::RunPastSegment), levels),

@@ -4,8 +4,8 @@ ghost use Rattle.rice_bits.specs.Limits.{most_bits_read};
 ghost use Rattle.rice_code.specs.decode.RowsOfFields.{HasRoom};
 ghost use Rattle.rice_code.specs.decode.ReadSets.{PartsRead, PartsCut};
 
-use crate::decode::rows::{read_counts, read_words};
-use crate::decode::sound_residuals::{each_is_below, join_all};
+use crate::decode::rows_of_fields::{read_sequences, read_words};
+use crate::decode::sound_residuals::{any_number_are_below, join_all_parts};
 use rice_bits::{BitFault, BitReader, Intake, Meter};
 
 /// Reads the fundamental sequences of the high parts of residuals and then their low parts, words of `k` bits, and joins
@@ -31,9 +31,9 @@ pub fn read_parts<I: Intake>(
     ensures steps { meter.new + reader.old.taken ≡ meter.old + reader.new.taken }
     ensures limit { reader.new.taken ≤ most_bits_read }
 {
-    match take_short_parts(reader, meter, most, k, residuals) {
+    match take_waiting_short_parts(reader, meter, most, k, residuals) {
         Some(small) => Ok(small),
-        None => read_rows(reader, meter, most, k, highs, residuals),
+        None => read_sequences_then_words(reader, meter, most, k, highs, residuals),
     }
 }
 
@@ -49,7 +49,7 @@ fn least_with_high_part_above(most: u64, k: u32) -> u64
 
 /// As `read_parts`, all sequences and then all words.
 #[inline(never)]
-fn read_rows<I: Intake>(
+fn read_sequences_then_words<I: Intake>(
     reader: &mut BitReader<I>,
     meter: &mut Meter,
     most: u64,
@@ -70,9 +70,9 @@ fn read_rows<I: Intake>(
 {
     // It is laid out for blocks of 8 and of 64, with a reference and without, and for 16 and 32 residuals.
     match residuals.len() {
-        7 => read_rows_of(reader, meter, most, k, &mut highs[..7], &mut residuals[..7]),
-        8 => read_rows_of(reader, meter, most, k, &mut highs[..8], &mut residuals[..8]),
-        16 => read_rows_of(
+        7 => read_any_number_of_parts(reader, meter, most, k, &mut highs[..7], &mut residuals[..7]),
+        8 => read_any_number_of_parts(reader, meter, most, k, &mut highs[..8], &mut residuals[..8]),
+        16 => read_any_number_of_parts(
             reader,
             meter,
             most,
@@ -80,7 +80,7 @@ fn read_rows<I: Intake>(
             &mut highs[..16],
             &mut residuals[..16],
         ),
-        32 => read_rows_of(
+        32 => read_any_number_of_parts(
             reader,
             meter,
             most,
@@ -88,7 +88,7 @@ fn read_rows<I: Intake>(
             &mut highs[..32],
             &mut residuals[..32],
         ),
-        63 => read_rows_of(
+        63 => read_any_number_of_parts(
             reader,
             meter,
             most,
@@ -96,7 +96,7 @@ fn read_rows<I: Intake>(
             &mut highs[..63],
             &mut residuals[..63],
         ),
-        64 => read_rows_of(
+        64 => read_any_number_of_parts(
             reader,
             meter,
             most,
@@ -104,14 +104,14 @@ fn read_rows<I: Intake>(
             &mut highs[..64],
             &mut residuals[..64],
         ),
-        _ => read_rows_of(reader, meter, most, k, highs, residuals),
+        _ => read_any_number_of_parts(reader, meter, most, k, highs, residuals),
     }
 }
 
 /// As `read_parts`, if the parts wait together, the low ones have 1 to 7 bits, and the block has 8 or 16 residuals. Otherwise
 /// takes nothing and returns `None`.
 #[inline(always)]
-fn take_short_parts<I: Intake>(
+fn take_waiting_short_parts<I: Intake>(
     reader: &mut BitReader<I>,
     meter: &mut Meter,
     most: u64,
@@ -138,12 +138,12 @@ fn take_short_parts<I: Intake>(
     if most >= 63 {
         return Some(true);
     }
-    Some(each_is_below(residuals, least_with_high_part_above(most, k)))
+    Some(any_number_are_below(residuals, least_with_high_part_above(most, k)))
 }
 
-/// As `read_rows`, with the loops for any number of residuals.
+/// As `read_sequences_then_words`, with the loops for any number of residuals.
 #[inline(always)]
-fn read_rows_of<I: Intake>(
+fn read_any_number_of_parts<I: Intake>(
     reader: &mut BitReader<I>,
     meter: &mut Meter,
     most: u64,
@@ -163,12 +163,12 @@ fn read_rows_of<I: Intake>(
     ensures limit { reader.new.taken ≤ most_bits_read }
 {
     if k == 0 {
-        return read_counts(reader, meter, most, residuals);
+        return read_sequences(reader, meter, most, residuals);
     }
-    let small = read_counts(reader, meter, most, highs)?;
+    let small = read_sequences(reader, meter, most, highs)?;
     read_words(reader, meter, k, residuals)?;
     if small {
-        join_all(highs, k, residuals);
+        join_all_parts(highs, k, residuals);
     }
     Ok(small)
 }

@@ -6,7 +6,7 @@ ghost use Rattle.rice_code.specs.decode.BlocksInOnePass.{HasLanes, HasWidth, Spe
 ghost use Rattle.rice_code.specs.decode.FieldsAhead.{UncompressedAhead};
 
 use crate::decode::split_ahead::{SpelledBlock, has_rows};
-use crate::decode::split_rows::{behind_omitted, head_ahead, low_parts_in_rows, row_len};
+use crate::decode::split_in_sixteens::{behind_omitted, head_ahead, low_parts_in_rows, row_len};
 use rice_bits::{BitReader, Intake};
 use rice_samples::{Setting, levels_in_turn, spelled_in_one_byte};
 use std::simd::prelude::*;

@@ -11,7 +11,7 @@ ghost use Rattle.rice_code.specs.decode.ReadSets.{BlockRead, BlockCut, PartsRead
 
 use crate::decode::high_and_low_parts::read_parts;
 use crate::decode::pairs::read_pairs;
-use crate::decode::rows::read_words;
+use crate::decode::rows_of_fields::read_words;
 use crate::decode::sound_residuals::{are_sound, joined_are_below};
 use rice_bits::{BitFault, BitReader, Intake, Meter};
 use rice_samples::Setting;

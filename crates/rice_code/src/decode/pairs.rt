@@ -110,7 +110,7 @@ pub fn pair_of(g: u64, meter: &mut Meter) -> (u32, u32)
 
 /// Reads a codeword for each pair of places of `out`, one after another, and writes the pair that it stands for.
 #[inline(never)]
-fn read_each_pair<I: Intake>(
+fn read_pairs_one_by_one<I: Intake>(
     reader: &mut BitReader<I>,
     meter: &mut Meter,
     out: &mut [u32],
@@ -204,6 +204,6 @@ pub fn read_pairs<I: Intake>(
     if some == count {
         return Ok(true);
     }
-    read_each_pair(reader, meter, &mut out[2 * some..])?;
+    read_pairs_one_by_one(reader, meter, &mut out[2 * some..])?;
     Ok(false)
 }

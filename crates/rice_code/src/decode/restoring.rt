@@ -149,7 +149,7 @@ fn fill_all(levels: &mut [u32], value: u32)
 /// Restores the samples of a zero block after a sample at level `before`: each is the reference sample, or the sample before if
 /// there is none. Returns the level of the last of them.
 #[inline(always)]
-pub fn restore_zeros(
+pub fn restore_zero_block(
     setting: &Setting,
     block: u64,
     before: u32,

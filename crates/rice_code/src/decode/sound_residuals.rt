@@ -4,7 +4,7 @@ ghost use Rattle.rice_bits.specs.read.JoinedParts.{joined_parts};
 
 /// Joins each high part with the low part of k bits at its place, and writes the residual there.
 #[inline(always)]
-pub fn join_all(highs: &[u32], k: u32, lows: &mut [u32])
+pub fn join_all_parts(highs: &[u32], k: u32, lows: &mut [u32])
     requires same { length lows.old ≡ length highs.now }
     requires k { k ≤ 29 }
     requires highs { All (λ h. h ≤ (2 ^ 32 - 1) / 2 ^ k) highs.now }
@@ -38,15 +38,15 @@ pub fn are_below(residuals: &[u32], count: u64) -> bool
 {
     // The loop is laid out for blocks of 8, with a reference and without.
     match residuals.len() {
-        7 => each_is_below(&residuals[..7], count),
-        8 => each_is_below(&residuals[..8], count),
-        _ => each_is_below(residuals, count),
+        7 => any_number_are_below(&residuals[..7], count),
+        8 => any_number_are_below(&residuals[..8], count),
+        _ => any_number_are_below(residuals, count),
     }
 }
 
 /// As `are_below`, with a loop over residuals of any number.
 #[inline(always)]
-pub fn each_is_below(residuals: &[u32], count: u64) -> bool
+pub fn any_number_are_below(residuals: &[u32], count: u64) -> bool
     requires { (0 < count) × (count ≤ 2 ^ 32) }
     ensures { IsTrue result ↔ All (λ d. d < count) residuals.now }
 {

@@ -7,8 +7,8 @@ ghost use Rattle.rice_samples.specs.Parameters.{id_len, value_at, value_count};
 ghost use Rattle.rice_code.specs.decode.BlocksInOnePass.{HasLanes, HasWidth, SpelledAhead, lanes_of};
 ghost use Rattle.rice_code.specs.decode.Decoder.{with_mark};
 
+use crate::decode::split_in_sixteens::{parts_in_rows_ahead, spell_rows};
 use crate::decode::split_lanes::{parts_ahead, spell_parts};
-use crate::decode::split_rows::{parts_in_rows_ahead, spell_rows};
 use rice_bits::{BitReader, Intake, Meter};
 use rice_samples::Setting;
 
@@ -19,7 +19,7 @@ const LOOKS: u64 = 208;
 /// Returns the split of the block that waits, if it is one that leaves few low bits, and so many bits wait that all of the block may
 /// be looked at. Its samples have `WIDTH` bytes.
 #[inline(always)]
-pub fn split_ahead<I: Intake, const WIDTH: usize>(
+pub fn split_of_block_ahead<I: Intake, const WIDTH: usize>(
     setting: &Setting,
     reader: &BitReader<I>,
 ) -> Option<u32>

@@ -201,9 +201,9 @@ pub fn spell_parts<const WIDTH: usize, const TURNS: bool>(
     ensures none { IfNone result (bytes.new ≡ bytes.old) }
 {
     if WIDTH == 1 {
-        spell_bytes::<TURNS>(setting, size, k, from, highs, lows, bytes)
+        spell_in_one_byte::<TURNS>(setting, size, k, from, highs, lows, bytes)
     } else {
-        spell_words::<TURNS>(setting, size, k, from, highs, lows, bytes)
+        spell_in_two_bytes::<TURNS>(setting, size, k, from, highs, lows, bytes)
     }
 }
 
@@ -257,7 +257,7 @@ fn row_halves<const TURNS: bool>(
 
 /// As `spell_parts`, of samples of one byte.
 #[inline(always)]
-fn spell_bytes<const TURNS: bool>(
+fn spell_in_one_byte<const TURNS: bool>(
     setting: &Setting,
     size: usize,
     k: u32,
@@ -284,7 +284,7 @@ fn spell_bytes<const TURNS: bool>(
 
 /// As `spell_parts`, of samples of two bytes.
 #[inline(always)]
-fn spell_words<const TURNS: bool>(
+fn spell_in_two_bytes<const TURNS: bool>(
     setting: &Setting,
     size: usize,
     k: u32,

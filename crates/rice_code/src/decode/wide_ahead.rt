@@ -7,7 +7,7 @@ ghost use Rattle.rice_code.specs.decode.BlocksInOnePass.{BlockAhead};
 ghost use Rattle.rice_code.specs.decode.WideAhead.{EightLevels, LevelsAhead, RestoredAhead};
 
 use crate::decode::split_ahead::SpelledBlock;
-use crate::decode::split_rows::{head_ahead, write_high_parts};
+use crate::decode::split_in_sixteens::{head_ahead, write_high_parts};
 use rice_bits::{BitReader, Intake};
 use rice_samples::{Setting, near_words};
 use std::simd::prelude::*;
@@ -75,7 +75,7 @@ fn eight_behind_omitted(numbers: u8x16, omitted: usize) -> u8x8
 /// behind the first `skip` bits, less those that are omitted, one or none. `None` if they are long, or not all samples are near to those
 /// before them.
 #[inline(always)]
-fn restore_eight<I: Intake>(
+fn restore_block_of_eight<I: Intake>(
     setting: &Setting,
     from: u32,
     omitted: usize,
@@ -141,7 +141,7 @@ fn restore_eight_at(
 /// the low parts that wait behind the first `skip` bits, less those that are omitted, one or none. Returns the last. `None` if not all
 /// samples are near to those before them.
 #[inline(always)]
-fn restore_eights<I: Intake>(
+fn restore_block_of_eights<I: Intake>(
     setting: &Setting,
     from: u32,
     omitted: usize,
@@ -175,7 +175,7 @@ fn restore_eights<I: Intake>(
     Some(last)
 }
 
-/// As `restore_eight`, of a block of rows of sixteen samples.
+/// As `restore_block_of_eight`, of a block of rows of sixteen samples.
 #[inline(always)]
 fn restore_rows<I: Intake>(
     setting: &Setting,
@@ -204,7 +204,7 @@ fn restore_rows<I: Intake>(
     if reader.waiting() < (words + size * k as usize) as u64 + LOOK {
         return None;
     }
-    let last = restore_eights(setting, from, omitted, words, k, &highs, reader, levels)?;
+    let last = restore_block_of_eights(setting, from, omitted, words, k, &highs, reader, levels)?;
     Some(SpelledBlock {
         last,
         len: words + (size - omitted) * k as usize,
@@ -239,7 +239,7 @@ pub fn restore_wide_ahead<I: Intake>(
     let head = head_ahead(setting, block, before, ID_LEN, reader);
     let size = levels.len();
     if size == 8 {
-        return restore_eight(
+        return restore_block_of_eight(
             setting,
             head.from,
             head.omitted,

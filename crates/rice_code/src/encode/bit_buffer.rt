@@ -117,7 +117,12 @@ impl BitBuffer {
         let (a, b, c, d) = m;
         let sum = a as u64 + b as u64 + c as u64 + d as u64;
         if sum <= 52 {
-            self.add(four_ones(a, b, c, d), sum as u32 + 4, sink, meter);
+            self.add(
+                four_short_sequences(a, b, c, d),
+                sum as u32 + 4,
+                sink,
+                meter,
+            );
             return;
         }
         self.add_fs(a, sink, meter);
@@ -128,7 +133,7 @@ impl BitBuffer {
 
     /// Puts the bits, and then the `width` lowest digits of each residual of the block, which come in eights.
     #[inline(always)]
-    pub fn put_before(
+    pub fn put_with_digits_of_block(
         &self,
         block: &Block<'_>,
         width: u32,
@@ -167,7 +172,7 @@ impl BitBuffer {
 
 /// Returns the number whose digits are the fundamental sequences of four small numbers.
 #[inline(always)]
-fn four_ones(a: u32, b: u32, c: u32, d: u32) -> u64
+fn four_short_sequences(a: u32, b: u32, c: u32, d: u32) -> u64
     requires { a + b + c + d ≤ 52 }
     ensures fits { result < 2 ^ (a + b + c + d + 4) }
     ensures bits { word (a + b + c + d + 4) result

@@ -190,19 +190,19 @@ pub fn code_blocks<const N: usize>(
 {
     // The loop is laid out for each size of blocks.
     match setting.block() {
-        8 => code_each::<8, N>(setting, start, reference, count, segment, sink, meter),
-        16 => code_each::<16, N>(setting, start, reference, count, segment, sink, meter),
-        32 => code_each::<32, N>(setting, start, reference, count, segment, sink, meter),
-        size if size < 64 => code_each::<0, N>(
+        8 => code_blocks_of_size::<8, N>(setting, start, reference, count, segment, sink, meter),
+        16 => code_blocks_of_size::<16, N>(setting, start, reference, count, segment, sink, meter),
+        32 => code_blocks_of_size::<32, N>(setting, start, reference, count, segment, sink, meter),
+        size if size < 64 => code_blocks_of_size::<0, N>(
             setting, start, reference, count, segment, sink, meter,
         ),
-        _ => code_each::<64, N>(setting, start, reference, count, segment, sink, meter),
+        _ => code_blocks_of_size::<64, N>(setting, start, reference, count, segment, sink, meter),
     }
 }
 
 /// Appends the code of the first `count` blocks, of `SIZE` samples each, of a segment that begins at place `start`.
 #[inline(always)]
-fn code_each<const SIZE: usize, const N: usize>(
+fn code_blocks_of_size<const SIZE: usize, const N: usize>(
     setting: &PreparedSetting,
     start: u32,
     reference: Option<u32>,

@@ -13,7 +13,7 @@ pub struct Ones {
 
 /// Adds the fundamental sequence of `m`.
 #[inline(always)]
-fn with_one(ones: Ones, m: u32) -> Ones
+fn ones_with_sequence(ones: Ones, m: u32) -> Ones
     requires { m < ones.left }
     ensures left { result.left + m + 1 ≡ ones.left }
     ensures bits { (bits : List Bool) → Gathers ones.word ones.left bits →
@@ -28,22 +28,22 @@ fn with_one(ones: Ones, m: u32) -> Ones
 
 /// Adds the fundamental sequences of four numbers.
 #[inline(always)]
-pub fn with_four(ones: Ones, four: (u32, u32, u32, u32)) -> Ones
+pub fn ones_with_four_sequences(ones: Ones, four: (u32, u32, u32, u32)) -> Ones
     requires { 2 ^ 36 ≤ ones.left }
     ensures most { ones.left ≤ result.left + 2 ^ 34 }
     ensures some { result.left < ones.left }
     ensures bits { (bits : List Bool) → Gathers ones.word ones.left bits →
         Gathers result.word result.left (bits ++ four_sequences four.0 four.1 four.2 four.3) }
 {
-    let one = with_one(ones, four.0);
-    let two = with_one(one, four.1);
-    let three = with_one(two, four.2);
-    with_one(three, four.3)
+    let one = ones_with_sequence(ones, four.0);
+    let two = ones_with_sequence(one, four.1);
+    let three = ones_with_sequence(two, four.2);
+    ones_with_sequence(three, four.3)
 }
 
 /// Begins with the fundamental sequences of the four numbers from number `from` on, which is one of the first two.
 #[inline(always)]
-pub fn begin_ones(four: (u32, u32, u32, u32), from: usize) -> Ones
+pub fn begin_ones_with_four(four: (u32, u32, u32, u32), from: usize) -> Ones
     requires { from ≤ 1 }
     ensures most { 2 ^ 39 ≤ result.left }
     ensures some { result.left < 2 ^ 40 }
@@ -55,11 +55,11 @@ pub fn begin_ones(four: (u32, u32, u32, u32), from: usize) -> Ones
         left: 1 << 40,
     };
     if from == 0 {
-        return with_four(none, four);
+        return ones_with_four_sequences(none, four);
     }
-    let one = with_one(none, four.1);
-    let two = with_one(one, four.2);
-    with_one(two, four.3)
+    let one = ones_with_sequence(none, four.1);
+    let two = ones_with_sequence(one, four.2);
+    ones_with_sequence(two, four.3)
 }
 
 /// Returns whether the sequences are at most 56 bits.
@@ -72,7 +72,7 @@ pub fn are_short(ones: Ones) -> bool
 
 /// Returns the number whose digits are the sequences, and the number of the digits.
 #[inline(always)]
-pub fn number_of_ones(ones: Ones) -> (u64, u32)
+pub fn number_and_len_of_ones(ones: Ones) -> (u64, u32)
     requires short { 2 ^ 40 - 56 ≤ ones.left }
     requires some { ones.left < 2 ^ 40 }
     ensures width { result.1 ≤ 56 }
@@ -107,7 +107,7 @@ pub fn begin_without_sequences(total: u64) -> GatheredRow
 
 /// Adds the fundamental sequence of `m`.
 #[inline(always)]
-pub fn with_sequence(row: GatheredRow, m: u32) -> GatheredRow
+pub fn digits_with_sequence(row: GatheredRow, m: u32) -> GatheredRow
     requires some { m < row.left }
     requires few { row.left ≤ 56 }
     ensures left { result.left + m + 1 ≡ row.left }
@@ -123,17 +123,17 @@ pub fn with_sequence(row: GatheredRow, m: u32) -> GatheredRow
 
 /// Adds the fundamental sequences of four numbers.
 #[inline(always)]
-pub fn with_four_sequences(row: GatheredRow, four: (u32, u32, u32, u32)) -> GatheredRow
+pub fn digits_with_four_sequences(row: GatheredRow, four: (u32, u32, u32, u32)) -> GatheredRow
     requires some { four.0 + four.1 + four.2 + four.3 + 4 ≤ row.left }
     requires few { row.left ≤ 56 }
     ensures left { result.left + (four.0 + four.1 + four.2 + four.3 + 4) ≡ row.left }
     ensures bits { (bits : List Bool) → HasFront row.value row.left bits →
         HasFront result.value result.left (bits ++ four_sequences four.0 four.1 four.2 four.3) }
 {
-    let one = with_sequence(row, four.0);
-    let two = with_sequence(one, four.1);
-    let three = with_sequence(two, four.2);
-    with_sequence(three, four.3)
+    let one = digits_with_sequence(row, four.0);
+    let two = digits_with_sequence(one, four.1);
+    let three = digits_with_sequence(two, four.2);
+    digits_with_sequence(three, four.3)
 }
 
 /// Begins a number of `total` digits with the fundamental sequences of the four numbers from number `from` on, which is one
@@ -149,9 +149,9 @@ pub fn begin_sequences_with_four(four: (u32, u32, u32, u32), from: usize, total:
 {
     let none = begin_without_sequences(total);
     if from == 0 {
-        return with_four_sequences(none, four);
+        return digits_with_four_sequences(none, four);
     }
-    let one = with_sequence(none, four.1);
-    let two = with_sequence(one, four.2);
-    with_sequence(two, four.3)
+    let one = digits_with_sequence(none, four.1);
+    let two = digits_with_sequence(one, four.2);
+    digits_with_sequence(two, four.3)
 }

@@ -8,8 +8,8 @@ ghost use Rattle.rice_code.specs.encode.SentParts.{HasRoomForOnes, AddsOnes};
 use crate::encode::SegmentSink;
 use crate::encode::bit_buffer::BitBuffer;
 use crate::encode::gathered_sequences::{
-    Ones, are_short, begin_ones, begin_sequences_with_four, number_of_ones, with_four,
-    with_four_sequences,
+    Ones, are_short, begin_ones_with_four, begin_sequences_with_four, digits_with_four_sequences,
+    number_and_len_of_ones, ones_with_four_sequences,
 };
 use rice_bits::Meter;
 use rice_samples::Block;
@@ -37,17 +37,17 @@ pub fn put_high(
 {
     let len = block.len();
     if len == 8 {
-        put_eight_high(block, from, k, total, fields, sink, meter);
+        put_first_eight_high(block, from, k, total, fields, sink, meter);
         return;
     }
     if len == 16 {
-        put_all_sixteen(block, from, k, total, fields, sink, meter);
+        put_first_sixteen_high(block, from, k, total, fields, sink, meter);
         return;
     }
     let held = std::mem::replace(fields, BitBuffer::new());
     let mut steps = Meter::new();
     if len % 16 != 0 {
-        *fields = put_each_high(block.sized(len), from, k, held, sink, &mut steps);
+        *fields = put_high_one_by_one(block.sized(len), from, k, held, sink, &mut steps);
         meter.tick(steps.steps());
         return;
     }
@@ -57,7 +57,7 @@ pub fn put_high(
 
 /// Adds those of a block of any number of residuals, one by one, and returns the buffer.
 #[inline(never)]
-fn put_each_high(
+fn put_high_one_by_one(
     block: Block<'_>,
     from: usize,
     k: u32,
@@ -102,14 +102,14 @@ fn put_sixteens(
 {
     // A count of its own stays in a register.
     let mut steps = Meter::new();
-    let fields = put_each_sixteen(&block, from, k, fields, sink, &mut steps);
+    let fields = put_sixteens_in_registers(&block, from, k, fields, sink, &mut steps);
     meter.tick(steps.steps());
     fields
 }
 
 /// Adds them where what it counts is in a register, and returns the buffer.
 #[inline(always)]
-fn put_each_sixteen(
+fn put_sixteens_in_registers(
     block: &Block<'_>,
     from: usize,
     k: u32,
@@ -126,16 +126,16 @@ fn put_each_sixteen(
         sink.old fields sink.new result meter.old meter.new }
 {
     let len = block.len();
-    put_sixteen_high(block, 0, from, k, &mut fields, sink, meter);
+    put_sixteen_high_at(block, 0, from, k, &mut fields, sink, meter);
     for i in 1..len / 16 {
-        put_sixteen_high(block, 16 * i, 0, k, &mut fields, sink, meter);
+        put_sixteen_high_at(block, 16 * i, 0, k, &mut fields, sink, meter);
     }
     fields
 }
 
 /// Adds those of the first eight residuals from number `from` on: `total` bits.
 #[inline(always)]
-fn put_eight_high(
+fn put_first_eight_high(
     block: &Block<'_>,
     from: usize,
     k: u32,
@@ -155,12 +155,12 @@ fn put_eight_high(
 {
     let a = high_four(block, 0, k, meter);
     let b = high_four(block, 4, k, meter);
-    put_eight(a, b, from, total, fields, sink, meter);
+    put_eight_sequences(a, b, from, total, fields, sink, meter);
 }
 
 /// Adds those of the first 16 residuals from number `from` on: `total` bits.
 #[inline(always)]
-fn put_all_sixteen(
+fn put_first_sixteen_high(
     block: &Block<'_>,
     from: usize,
     k: u32,
@@ -182,12 +182,12 @@ fn put_all_sixteen(
     let b = high_four(block, 4, k, meter);
     let c = high_four(block, 8, k, meter);
     let d = high_four(block, 12, k, meter);
-    put_whole_sixteen(a, b, c, d, from, total, fields, sink, meter);
+    put_sixteen_sequences_of_known_len(a, b, c, d, from, total, fields, sink, meter);
 }
 
 /// Adds those of 16 residuals, of which the first is number `at`, from the one with number `from` among them on.
 #[inline(always)]
-fn put_sixteen_high(
+fn put_sixteen_high_at(
     block: &Block<'_>,
     at: usize,
     from: usize,
@@ -209,7 +209,7 @@ fn put_sixteen_high(
     let b = high_four(block, at + 4, k, meter);
     let c = high_four(block, at + 8, k, meter);
     let d = high_four(block, at + 12, k, meter);
-    put_sixteen(a, b, c, d, from, fields, sink, meter);
+    put_sixteen_sequences(a, b, c, d, from, fields, sink, meter);
 }
 
 /// Returns residuals number `at` to `at + 3` without their `k` lowest digits.
@@ -230,7 +230,7 @@ fn high_four(block: &Block<'_>, at: usize, k: u32, meter: &mut Meter) -> (u32, u
 
 /// Adds the fundamental sequences of eight numbers, from number `from` on: `total` bits.
 #[inline(always)]
-fn put_eight(
+fn put_eight_sequences(
     a: (u32, u32, u32, u32),
     b: (u32, u32, u32, u32),
     from: usize,
@@ -249,7 +249,7 @@ fn put_eight(
         sink.old fields.old sink.new fields.new meter.old meter.new }
 {
     if total <= 56 {
-        let row = with_four_sequences(begin_sequences_with_four(a, from, total), b);
+        let row = digits_with_four_sequences(begin_sequences_with_four(a, from, total), b);
         fields.add(row.value, total as u32, sink, meter);
         return;
     }
@@ -262,7 +262,7 @@ fn put_eight(
 
 /// Adds the fundamental sequences of 16 numbers, from number `from` on: `total` bits.
 #[inline(always)]
-fn put_whole_sixteen(
+fn put_sixteen_sequences_of_known_len(
     a: (u32, u32, u32, u32),
     b: (u32, u32, u32, u32),
     c: (u32, u32, u32, u32),
@@ -286,21 +286,21 @@ fn put_whole_sixteen(
         sink.old fields.old sink.new fields.new meter.old meter.new }
 {
     if total <= 56 {
-        let half = with_four_sequences(begin_sequences_with_four(a, from, total), b);
-        let row = with_four_sequences(with_four_sequences(half, c), d);
+        let half = digits_with_four_sequences(begin_sequences_with_four(a, from, total), b);
+        let row = digits_with_four_sequences(digits_with_four_sequences(half, c), d);
         fields.add(row.value, total as u32, sink, meter);
         return;
     }
     let held = std::mem::replace(fields, BitBuffer::new());
     let mut steps = Meter::new();
     let held = put_four_from(a, from, held, sink, &mut steps);
-    *fields = put_twelve(b, c, d, held, sink, &mut steps);
+    *fields = put_twelve_sequences(b, c, d, held, sink, &mut steps);
     meter.tick(steps.steps());
 }
 
 /// Adds the fundamental sequences of 16 numbers, from number `from` on.
 #[inline(always)]
-fn put_sixteen(
+fn put_sixteen_sequences(
     a: (u32, u32, u32, u32),
     b: (u32, u32, u32, u32),
     c: (u32, u32, u32, u32),
@@ -319,7 +319,13 @@ fn put_sixteen(
         four_sequences c.0 c.1 c.2 c.3 ++ four_sequences d.0 d.1 d.2 d.3)
         sink.old fields.old sink.new fields.new meter.old meter.new }
 {
-    let ones = with_four(with_four(with_four(begin_ones(a, from), b), c), d);
+    let ones = ones_with_four_sequences(
+        ones_with_four_sequences(
+            ones_with_four_sequences(begin_ones_with_four(a, from), b),
+            c,
+        ),
+        d,
+    );
     if are_short(ones) {
         add_ones(ones, fields, sink, meter);
         return;
@@ -327,7 +333,7 @@ fn put_sixteen(
     let held = std::mem::replace(fields, BitBuffer::new());
     let mut steps = Meter::new();
     let held = put_four_from(a, from, held, sink, &mut steps);
-    *fields = put_twelve(b, c, d, held, sink, &mut steps);
+    *fields = put_twelve_sequences(b, c, d, held, sink, &mut steps);
     meter.tick(steps.steps());
 }
 
@@ -341,7 +347,7 @@ fn add_ones(ones: Ones, fields: &mut BitBuffer, sink: &mut SegmentSink, meter: &
     ensures { (bits : List Bool) → Gathers ones.word ones.left bits →
         AddsBits bits sink.old fields.old sink.new fields.new meter.old meter.new }
 {
-    let (value, width) = number_of_ones(ones);
+    let (value, width) = number_and_len_of_ones(ones);
     fields.add(value, width, sink, meter);
 }
 
@@ -375,7 +381,7 @@ fn put_four_from(
 /// Adds the fundamental sequences of twelve numbers, and returns the buffer.
 #[cold]
 #[inline(never)]
-fn put_twelve(
+fn put_twelve_sequences(
     b: (u32, u32, u32, u32),
     c: (u32, u32, u32, u32),
     d: (u32, u32, u32, u32),

@@ -31,13 +31,13 @@ pub fn put_low(
     }
     let end = block.len();
     let fours = from + (end - from) % 4;
-    put_each_low(block, from, fours, width, fields, sink, meter);
-    put_four_low(block, fours, width, fields, sink, meter);
+    put_low_one_by_one(block, from, fours, width, fields, sink, meter);
+    put_low_by_fours(block, fours, width, fields, sink, meter);
 }
 
 /// Adds those of residuals `from` to `to`, one at a time.
 #[inline(always)]
-fn put_each_low(
+fn put_low_one_by_one(
     block: &Block<'_>,
     from: usize,
     to: usize,
@@ -62,7 +62,7 @@ fn put_each_low(
 
 /// Adds those of the residuals from number `from` on, four at a time.
 #[inline(always)]
-fn put_four_low(
+fn put_low_by_fours(
     block: &Block<'_>,
     from: usize,
     width: u32,
@@ -80,7 +80,7 @@ fn put_four_low(
 {
     for i in 0..(block.len() - from) / 4 {
         let four = block.four_at(from + 4 * i, meter);
-        fields.add(four_low_parts(four, width), 4 * width, sink, meter);
+        fields.add(four_low_parts_joined(four, width), 4 * width, sink, meter);
     }
 }
 
@@ -107,7 +107,7 @@ fn put_many_digits(
 
 /// Returns the number whose digits are the lowest digits of four numbers, one after the other.
 #[inline(always)]
-fn four_low_parts(four: (u32, u32, u32, u32), width: u32) -> u64
+fn four_low_parts_joined(four: (u32, u32, u32, u32), width: u32) -> u64
     requires { width ≤ 14 }
     ensures fits { result < 2 ^ (4 * width) }
     ensures bits { word (4 * width) result ≡

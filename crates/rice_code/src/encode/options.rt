@@ -86,7 +86,7 @@ pub fn put_no_compression<const SIZE: usize>(
     let mut fields = begin_set(setting, (1 << id) - 1, id, block.reference(), sink, meter);
     if from == 0 && residuals.len() % 8 == 0 && is_whole_width(bits) {
         if SIZE == 8 || SIZE == 16 {
-            fields.put_before(residuals, bits, sink, meter);
+            fields.put_with_digits_of_block(residuals, bits, sink, meter);
             return;
         }
         let mut steps = Meter::new();
@@ -123,7 +123,7 @@ fn put_whole(
         length block.entry * width }
     ensures steps { meter.new ≡ meter.old + length fields + length block.entry * (width + 1) }
 {
-    fields.put_before(&block, width, sink, meter);
+    fields.put_with_digits_of_block(&block, width, sink, meter);
 }
 
 /// Returns whether words of `width` digits are bytes, and some of them have 64 digits.

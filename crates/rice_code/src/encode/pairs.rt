@@ -7,7 +7,7 @@ ghost use Rattle.rice_code.specs.encode.SentParts.{pairs_len};
 
 use crate::encode::SegmentSink;
 use crate::encode::bit_buffer::BitBuffer;
-use crate::encode::gathered_sequences::{begin_without_sequences, with_sequence};
+use crate::encode::gathered_sequences::{begin_without_sequences, digits_with_sequence};
 use rice_bits::Meter;
 use rice_samples::Block;
 
@@ -70,7 +70,7 @@ fn put_short_pairs(
     for i in 0..block.len() / 2 {
         let a = block.at(2 * i, meter);
         let b = block.at(2 * i + 1, meter);
-        row = with_sequence(row, codeword_of(a, b));
+        row = digits_with_sequence(row, codeword_of(a, b));
     }
     fields.add(row.value, total as u32, sink, meter);
 }

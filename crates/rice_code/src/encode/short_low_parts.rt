@@ -55,11 +55,11 @@ pub fn put_short_low(
         sink.old fields.old sink.new fields.new meter.old meter.new }
 {
     let eights = block.len() / 8;
-    let first = eight_low(block, 0, width, meter);
+    let first = eight_low_parts_joined(block, 0, width, meter);
     let (digits, count) = digits_from(first, from, width);
     fields.add(digits, count, sink, meter);
     for i in 1..eights {
-        let eight = eight_low(block, 8 * i, width, meter);
+        let eight = eight_low_parts_joined(block, 8 * i, width, meter);
         fields.add(eight, 8 * width, sink, meter);
     }
 }
@@ -84,7 +84,7 @@ fn digits_from(eight: u64, from: usize, width: u32) -> (u64, u32)
 
 /// Returns the number whose digits are the lowest digits of the eight residuals from number `at` on, one after the other.
 #[inline(always)]
-fn eight_low(block: &Block<'_>, at: usize, width: u32, meter: &mut Meter) -> u64
+fn eight_low_parts_joined(block: &Block<'_>, at: usize, width: u32, meter: &mut Meter) -> u64
     requires width { width ≤ 7 }
     requires inside { at + 7 < length block.now }
     requires meter { meter.old + 8 < step_limit }

@@ -24,14 +24,14 @@ use Rattle.rice_samples.specs.predict.Residuals.{last_of}
 use Rattle.rice_samples.specs.bytes.Spelling.{spellings}
 use Rattle.rice_code.specs.code.Decoded.{Decoded, Ending, EndsWith, Reached, Ended, CutOff, Past, Large, BeginsUnsound, IsWanted, cut_to}
 use Rattle.rice_code.proofs.lemmas.code.FilledBlocks.{last_append}
-use Rattle.rice_code.proofs.lemmas.code.BlockPlaces.{place_step}
+use Rattle.rice_code.proofs.lemmas.code.BlocksByPlaceAlone.{place_step}
 use Rattle.rice_code.specs.code.CodedDataSets.{CodedDataSet, bits_of_set, turns}
 use Rattle.rice_code.specs.decode.Decoder.{StopsBy, SetEnds, SetRefused, with_mark}
 use Rattle.rice_code.specs.decode.DecoderState.{DecoderState, state_after_block, next_block_place}
 use Rattle.rice_code.specs.code.Forms.{IsForm, RunIsSound, ResidualsAreSound}
 use Rattle.rice_code.specs.decode.ReadSets.{SetCut}
-use Rattle.rice_code.specs.declared.decode.answer.CodeFault.{CodeFault}
-use Rattle.rice_code.specs.declared.decode.answer.CodeFault.TheVariants as faults
+use Rattle.rice_code.specs.declared.decode.call_results.CodeFault.{CodeFault}
+use Rattle.rice_code.specs.declared.decode.call_results.CodeFault.TheVariants as faults
 use Rattle.rice_stream.specs.Calls.{Call, Fails, StopsBetween}
 use Rattle.rice_stream.specs.Decodes.{CountsSteps, DecodesBetween, EndsInTurns, Reports, EndsDecoding, DecodesBytes, RunsOut, at_most, wanted_of, ended_fault, refusal_fault}
 use Rattle.rice_stream.specs.DecodingState.{DecodedSoFar, Gains, DecodingProgress, HasRead, HasSets}

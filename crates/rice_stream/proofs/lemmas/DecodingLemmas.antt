@@ -18,12 +18,12 @@ use Rattle.rice_code.specs.decode.DecoderState.{DecoderState, state_after_block}
 use Rattle.rice_code.specs.code.Forms.{blocks_in}
 use Rattle.rice_code.specs.code.Layout.{block_after, padding}
 use Rattle.rice_code.specs.decode.ReadSets.{SetCut}
-use Rattle.rice_code.specs.declared.decode.answer.NextBlock.{NextBlock}
-use Rattle.rice_code.specs.declared.decode.answer.NextBlock.TheVariants.{Block, Done}
-use Rattle.rice_code.specs.declared.decode.answer.CodeFault.{CodeFault}
-use Rattle.rice_code.specs.declared.decode.answer.CodeFault.TheVariants as faults
-use Rattle.rice_code.proofs.lemmas.meaning.DecodingPlaces.{next_place, form_there, run_there}
-use Rattle.rice_code.proofs.lemmas.code.BlockPlaces.{same_blocks_in, same_contents}
+use Rattle.rice_code.specs.declared.decode.call_results.NextBlock.{NextBlock}
+use Rattle.rice_code.specs.declared.decode.call_results.NextBlock.TheVariants.{Block, Done}
+use Rattle.rice_code.specs.declared.decode.call_results.CodeFault.{CodeFault}
+use Rattle.rice_code.specs.declared.decode.call_results.CodeFault.TheVariants as faults
+use Rattle.rice_code.proofs.lemmas.meaning.DecodingByPlacesAlone.{next_place, form_there, run_there}
+use Rattle.rice_code.proofs.lemmas.code.BlocksByPlaceAlone.{same_blocks_in, same_contents}
 use Rattle.rice_bits.specs.declared.read.fault.BitFault.{BitFault}
 use Rattle.rice_stream.specs.Decodes.{wanted_of}
 use Rattle.std.proofs.lemmas.List.{length-replicate}

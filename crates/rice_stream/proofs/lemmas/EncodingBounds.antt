@@ -20,7 +20,7 @@ use Rattle.rice_code.specs.encode.OpenSegment.{CoderState}
 use Rattle.rice_code.specs.CoderSteps.{most_steps}
 use Rattle.rice_code.proofs.lemmas.encode.PushedCode.{complete_are_coded}
 use Rattle.rice_code.proofs.lemmas.encode.HeldSamples.{all_first}
-use Rattle.rice_code.proofs.lemmas.cost.LooksPaid.{all_steps_are_bounded}
+use Rattle.rice_code.proofs.lemmas.cost.BestSplitsPaid.{all_steps_are_bounded}
 use Rattle.rice_code.proofs.lemmas.code.SoundBlocks.{code_is_bounded, filled_len}
 
 -- what is so of the samples that a coder stands for, and of those that make whole segments

@@ -15,7 +15,7 @@ use Rattle.rice_code.specs.code.Decoded.{AreTaken, BeginsUnsound, Decoded, Endin
 use Rattle.rice_code.specs.code.Forms.{blocks_in_all}
 use Rattle.rice_code.specs.code.Layout.{block_after}
 use Rattle.rice_code.proofs.lemmas.code.Layouts.{ends_inside}
-use Rattle.rice_code.proofs.lemmas.meaning.DecodingPlaces.{ends_there}
+use Rattle.rice_code.proofs.lemmas.meaning.DecodingByPlacesAlone.{ends_there}
 use Rattle.rice_code.proofs.lemmas.meaning.DecodedInOneWay.{decoded_is_one}
 use Rattle.rice_stream.specs.Calls.{Call}
 use Rattle.rice_stream.specs.Decodes.{DecodesBytes, EndsDecoding, RunsOut}

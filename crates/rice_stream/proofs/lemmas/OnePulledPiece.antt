@@ -12,8 +12,8 @@ use Rattle.rice_bits.proofs.lemmas.bits.WordsAndNumbers.{length-word}
 use Rattle.rice_samples.specs.Parameters.{Parameters, width}
 use Rattle.rice_samples.specs.bytes.Spelling.{spellings}
 use Rattle.rice_code.specs.code.Decoded.{EndsWith, Ended}
-use Rattle.rice_code.specs.declared.decode.answer.CodeFault.{CodeFault}
-use Rattle.rice_code.specs.declared.decode.answer.CodeFault.TheVariants as faults
+use Rattle.rice_code.specs.declared.decode.call_results.CodeFault.{CodeFault}
+use Rattle.rice_code.specs.declared.decode.call_results.CodeFault.TheVariants as faults
 use Rattle.std.specs.Prelude.{◌^◌, Err}
 use Rattle.rice_stream.specs.Pulling.{Origin, IsStand, DecodesMore, GivesNext, HasRoomForBlock, PausesAt, TakesNext, ahead, bits_ahead, pause_for}
 use Rattle.rice_stream.specs.declared.stand.Pause.{Pause}

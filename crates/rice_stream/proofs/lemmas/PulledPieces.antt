@@ -11,7 +11,7 @@ use Rattle.rice_samples.specs.bytes.Spelling.{spellings}
 use Rattle.rice_code.specs.code.CodedDataSets.{CodedDataSet, bits_of_set}
 use Rattle.rice_code.specs.code.Decoded.{BeginsUnsound, Decoded, Ending, Reached, Ended, CutOff, EndsWith, IsWanted}
 use Rattle.rice_code.proofs.lemmas.meaning.DecodingBeginsAfresh.{decoding_begins_afresh}
-use Rattle.rice_code.proofs.lemmas.meaning.DecodingPlaces.{end_there}
+use Rattle.rice_code.proofs.lemmas.meaning.DecodingByPlacesAlone.{end_there}
 use Rattle.rice_stream.specs.DecodingState.{DecodedSoFar}
 use Rattle.rice_stream.specs.Laws.{ArePulled, EndsCode, EnoughBehindIsDecoding, EnoughIsDecoding, FrontIsPlace, GiveInParts, IsPlace, IsPulled, Pull, PullsAreDecoding, SeekingIsDecoding, StandsTellPlaces, last_stand}
 use Rattle.rice_stream.specs.Pulling.{Origin, IsStand, PausesAt, at_front, bits_ahead}

@@ -1,5 +1,5 @@
 use Rattle.rice_code.proofs.laws.decoding_depends_on_places_alone.Goals as goal
-use Rattle.rice_code.proofs.lemmas.meaning.DecodingPlaces as places
+use Rattle.rice_code.proofs.lemmas.meaning.DecodingByPlacesAlone as places
 
 pub returns : goal.returns
 returns c = places.decoding_stands

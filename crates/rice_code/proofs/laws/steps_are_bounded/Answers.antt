@@ -1,4 +1,4 @@
-use Rattle.rice_code.proofs.lemmas.cost.LooksPaid.{steps_are_bounded, steps_are_paid, all_steps_are_bounded}
+use Rattle.rice_code.proofs.lemmas.cost.BestSplitsPaid.{steps_are_bounded, steps_are_paid, all_steps_are_bounded}
 use Rattle.rice_code.proofs.laws.steps_are_bounded.Goals as goal
 
 pub returns-clause-blocks : goal.returns-clause-blocks

@@ -17,7 +17,7 @@ use Rattle.rice_code.proofs.lemmas.meaning.CoveredBlocks.{covers_blocks}
 use Rattle.rice_code.proofs.lemmas.code.Layouts.{BeginBefore, ends_inside, sent_first, some_block}
 use Rattle.rice_code.proofs.lemmas.cost.PaddingBounds.{are_blocks}
 use Rattle.rice_code.proofs.lemmas.code.SegmentPlaces.{none_padded}
-use Rattle.rice_code.proofs.lemmas.meaning.SentSets.{are_taken, begin_before}
+use Rattle.rice_code.proofs.lemmas.meaning.SentSetsAreTaken.{are_taken, begin_before}
 
 -- only the last can be padded, since the others end inside
 laid_to_end : (s : Parameters) (end b position : ℕ) (d : CodedDataSet) (ds : List CodedDataSet) → ((m : ℕ) → b < m → m < end → is_padded s m ≡ false)

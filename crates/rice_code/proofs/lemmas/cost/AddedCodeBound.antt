@@ -22,7 +22,7 @@ use Rattle.rice_code.proofs.lemmas.cost.BlockBounds.{shortest_bound, reference_b
 use Rattle.rice_code.proofs.lemmas.cost.CostIsLength.{cost_is_length}
 use Rattle.rice_code.proofs.lemmas.cost.PaddingBounds.{padding_behind_is_bounded}
 use Rattle.rice_code.proofs.lemmas.meaning.CoveredBlocks.{bool_cases, skipped, data_sets_plain, data_sets_start, data_sets_inside, zero_run_is, run_cons}
-use Rattle.rice_code.proofs.lemmas.meaning.SentSets.{zero_run_is_sound}
+use Rattle.rice_code.proofs.lemmas.meaning.SentSetsAreTaken.{zero_run_is_sound}
 
 pub added_code_is_bounded : AddedCodeIsBounded
 added_code_is_bounded s legal xs ys h k whole =

@@ -13,9 +13,9 @@ use Rattle.rice_code.specs.code.Layout.{block_after}
 use Rattle.rice_code.specs.code.Runs.{run_len, zero_run}
 use Rattle.rice_code.specs.encode.HeldBlocks.{zeros_of_run}
 use Rattle.rice_code.proofs.lemmas.code.SegmentsOneByOne.{head_of_segment}
-use Rattle.rice_code.proofs.lemmas.cost.CodeEnds.{IsFill, code_end, ends_later}
+use Rattle.rice_code.proofs.lemmas.cost.WhereSetsEnd.{IsFill, code_end, ends_later}
 use Rattle.rice_code.proofs.lemmas.cost.CostsOfSmallerBlocks.{BeginAtMost, zero_at_most}
-use Rattle.rice_code.proofs.lemmas.encode.OptionBits.{run_cost, run_text_len}
+use Rattle.rice_code.proofs.lemmas.encode.OptionTexts.{run_cost, run_text_len}
 use Rattle.rice_code.proofs.lemmas.encode.PendingRuns.{count_zeros, is_zero_zeros, skip_zeros}
 use Rattle.rice_code.proofs.lemmas.encode.SegmentBlocks.{left_inside}
 use Rattle.rice_code.proofs.lemmas.meaning.CoveredBlocks.{bool_cases, data_sets_inside, data_sets_plain, data_sets_start, nothing_more, run_cons, run_inside, skipped, skipped_go, skipped_nil, skipped_plain, skipped_stop, zero_run_is}

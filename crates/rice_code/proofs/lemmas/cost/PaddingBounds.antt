@@ -22,7 +22,7 @@ use Rattle.rice_code.specs.code.Decoded.{AreTaken}
 use Rattle.rice_code.specs.Bounds.{padding_bound}
 use Rattle.rice_code.proofs.lemmas.meaning.CoveredBlocks.{bool_cases, GoOn, AreBlocks, covers_blocks}
 use Rattle.rice_code.proofs.lemmas.code.Layouts.{BeginBefore, laid_plain, laid_bound}
-use Rattle.rice_code.proofs.lemmas.meaning.SentSets.{are_taken, begin_before}
+use Rattle.rice_code.proofs.lemmas.meaning.SentSetsAreTaken.{are_taken, begin_before}
 use Rattle.std.proofs.Math.Nat.{mul-le-mul_left, mul-le-mul_right}
 use Rattle.rice_code.specs.code.SoundBlocks.{AreSoundBlocks}
 use Rattle.rice_code.proofs.lemmas.code.SoundBlocks.{count_blocks, blocks_sound_behind}

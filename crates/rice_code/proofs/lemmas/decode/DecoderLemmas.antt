@@ -27,9 +27,9 @@ use Rattle.rice_code.specs.decode.DecoderState.{DecoderState, IsDecoderState, ne
 use Rattle.rice_bits.specs.declared.read.fault.BitFault.{BitFault}
 use Rattle.rice_bits.specs.declared.read.fault.BitFault.TheVariants as bit_faults
 use Rattle.rice_samples.specs.predict.Residuals.{last_of}
-use Rattle.rice_code.specs.declared.decode.answer.NextBlock.{NextBlock}
-use Rattle.rice_code.specs.declared.decode.answer.NextBlock.TheVariants.{Block, Done}
-use Rattle.rice_code.specs.declared.decode.answer.CodeFault.{CodeFault}
+use Rattle.rice_code.specs.declared.decode.call_results.NextBlock.{NextBlock}
+use Rattle.rice_code.specs.declared.decode.call_results.NextBlock.TheVariants.{Block, Done}
+use Rattle.rice_code.specs.declared.decode.call_results.CodeFault.{CodeFault}
 
 -- a run says no residuals
 run_residuals : (s : Parameters) (reference : Option ℕ) (zeros : ℕ) → ResidualsAreSound s (run_with_zeros reference zeros)

@@ -29,7 +29,7 @@ use Rattle.rice_code.specs.decode.FieldsAhead.{HeadAhead, LowsAhead, Uncompresse
 use Rattle.rice_code.proofs.lemmas.decode.SplitAhead.{ranks_fit, take-ranks}
 use Rattle.rice_code.proofs.lemmas.decode.OptionsRead.{coded-placed, zero-placed}
 use Rattle.rice_code.proofs.lemmas.decode.RestoredBlocks.{contents_restored}
-use Rattle.rice_code.proofs.lemmas.decode.SplitRows.{RowsSpelled, row_spelled}
+use Rattle.rice_code.proofs.lemmas.decode.SplitInSixteens.{RowsSpelled, row_spelled}
 
 -- high parts of zeros change nothing
 no_highs : (n k : ℕ) (ls : List ℕ) → length ls ≡ n → joined_parts k (replicate n 0) ls ≡ ls

@@ -21,13 +21,13 @@ use Rattle.rice_code.specs.decode.ReadSets.{BlockRead, BlockCut, PartsRead, Part
 use Rattle.rice_bits.specs.read.JoinedParts.{TakesParts, joined_parts}
 use Rattle.rice_samples.proofs.lemmas.blocks.PairNumbers.{count_pairs}
 use Rattle.rice_bits.proofs.lemmas.read.WindowLemmas.{length-words}
-use Rattle.rice_code.proofs.lemmas.decode.RowLemmas.{put_rest, ones-append, ones-zeros, ones-sequence, ones-sequences}
+use Rattle.rice_code.proofs.lemmas.decode.RowsOfFields.{put_rest, ones-append, ones-zeros, ones-sequence, ones-sequences}
 use Rattle.rice_code.proofs.lemmas.decode.JoinedResiduals.{high_pieces, highs_of_joined, joined_below, low_pieces, highs_small, joined_highs}
 use Rattle.rice_bits.proofs.lemmas.read.JoinedPartsLemmas.{length-joined}
 use Rattle.std.proofs.lemmas.Nat.{pow_pos}
 use borrow.Rule.Slice.PartMut.{put_mid}
 use Rattle.rice_code.proofs.lemmas.code.FormsReadInOneWay.{after_reference}
-use Rattle.rice_code.proofs.lemmas.encode.OptionBits.{no_digits}
+use Rattle.rice_code.proofs.lemmas.encode.OptionTexts.{no_digits}
 
 pub coded-placed : (r : Option ℕ) (vs : List ℕ) → sent_from r (reference_place r ++ vs) ≡ vs
 coded-placed None vs = refl

@@ -8,7 +8,7 @@ use Rattle.rice_samples.specs.bytes.Spelling.{spelling, spellings}
 use Rattle.rice_samples.proofs.lemmas.bytes.LevelsSpelledInByteLanes.{bytes-front, one_byte}
 use Rattle.rice_samples.proofs.lemmas.bytes.SpellingLengths.{length-spellings}
 use Rattle.rice_code.specs.code.Layout.{padding}
-use Rattle.rice_code.specs.declared.decode.answer.NextBlock.TheVariants.{Block}
+use Rattle.rice_code.specs.declared.decode.call_results.NextBlock.TheVariants.{Block}
 use Rattle.rice_code.specs.Limits.{most_samples_of_bit}
 use Rattle.rice_code.specs.code.Forms.{blocks_in}
 use Rattle.rice_code.specs.decode.Decoder.{Answers, GivesBlock, Skips, TakesSet, with_mark}
@@ -43,7 +43,7 @@ use Rattle.rice_code.proofs.lemmas.code.FormsReadInOneWay.{wide_id}
 use Rattle.rice_code.proofs.lemmas.decode.JoinedResiduals.{high_pieces, low_pieces}
 use Rattle.rice_code.proofs.lemmas.decode.OptionsRead.{coded-placed, zero-placed}
 use Rattle.rice_code.proofs.lemmas.decode.RestoredBlocks.{contents_restored}
-use Rattle.rice_code.proofs.lemmas.decode.RowLemmas.{all_back}
+use Rattle.rice_code.proofs.lemmas.decode.RowsOfFields.{all_back}
 
 -- ranks of numbers below `count` are below it
 pub ranks_fit : (count p : ℕ) (xs : List ℕ) → p < count → All (λ x. x < count) xs → All (λ d. d < count) (ranks_below count p xs)

@@ -20,7 +20,7 @@ use Rattle.rice_code.specs.decode.FieldsAhead.{HeadAhead, HighsAhead, LowsAhead}
 use Rattle.rice_code.specs.decode.ReadSets.{reference_place}
 use Rattle.rice_code.specs.decode.WideAhead.{EightLevels, LevelsAhead, RestoredAhead}
 use Rattle.rice_code.proofs.lemmas.decode.SplitAhead.{split_ahead}
-use Rattle.rice_code.proofs.lemmas.decode.SplitRows.{last-append, lows-row, rows_near, zeros-joined}
+use Rattle.rice_code.proofs.lemmas.decode.SplitInSixteens.{last-append, lows-row, rows_near, zeros-joined}
 
 -- identifiers of samples of more than 16 bits
 pub wide_id : (s : Parameters) → 16 < s.bits → id_len s ≡ 5

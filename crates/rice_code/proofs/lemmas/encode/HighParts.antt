@@ -6,7 +6,7 @@ use Rattle.std.proofs.lemmas.List.Sums.{sum_by-cons}
 use Rattle.rice_bits.specs.Bits.{fundamental_sequence}
 use Rattle.rice_bits.proofs.lemmas.bits.WordsAndNumbers.{length-fundamental_sequence}
 use Rattle.rice_code.specs.encode.GatheredSequences.{four_sequences, sequences_from}
-use Rattle.rice_code.proofs.lemmas.encode.OptionBits.{four_more}
+use Rattle.rice_code.proofs.lemmas.encode.OptionTexts.{four_more}
 
 pub length-high : (k : ℕ) (ds : List ℕ) → length (flat_map (λ d. fundamental_sequence (d / 2 ^ k)) ds) ≡ length ds + sum_by (λ d. d / 2 ^ k) ds
 length-high k [] = refl

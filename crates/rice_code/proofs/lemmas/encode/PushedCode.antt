@@ -31,7 +31,7 @@ use Rattle.rice_code.proofs.lemmas.code.CodeGoesOn.{filled_behind, own_blocks, c
 use Rattle.rice_code.proofs.lemmas.encode.HeldSamples.{held_are, one_more, holds_fill, all_first}
 use Rattle.rice_code.proofs.lemmas.code.Layouts.{laid_plain, laid_at}
 use Rattle.rice_code.proofs.lemmas.encode.OpenSegments.{fill_inside}
-use Rattle.rice_code.proofs.lemmas.code.BlockPlaces.{same_blocks, same_data_sets, same_reference, place_step, code_stands_in_intervals}
+use Rattle.rice_code.proofs.lemmas.code.BlocksByPlaceAlone.{same_blocks, same_data_sets, same_reference, place_step, code_stands_in_intervals}
 use Rattle.rice_code.proofs.lemmas.code.SegmentPlaces.{begins_next, cut_is, next_start_is}
 use Rattle.rice_code.proofs.lemmas.code.SoundBlocks.{blocks_sound, last_legal, filled_len}
 use Rattle.rice_code.proofs.lemmas.code.WholeBlocks.{not_filled}

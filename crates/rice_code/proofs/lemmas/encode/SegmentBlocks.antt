@@ -20,7 +20,7 @@ use Rattle.rice_code.specs.CoderSteps.{least_looks, most_looks}
 use Rattle.rice_code.proofs.lemmas.meaning.CoveredBlocks.{bool_cases, zero_block_is}
 use Rattle.rice_code.proofs.lemmas.cost.CostIsLength.{cost_is_length}
 use Rattle.rice_code.proofs.lemmas.cost.BlockBounds.{shortest_is_form}
-use Rattle.rice_code.proofs.lemmas.encode.OptionBits.{run_text_len}
+use Rattle.rice_code.proofs.lemmas.encode.OptionTexts.{run_text_len}
 use Rattle.rice_code.proofs.lemmas.encode.PendingRuns.{run_then_block, run_ends, zero_block_joins_run, held_at, held_len, drop_sound}
 
 -- the text of a run is as long as it costs

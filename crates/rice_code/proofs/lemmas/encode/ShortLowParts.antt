@@ -10,7 +10,7 @@ use Rattle.rice_bits.proofs.lemmas.bits.WordsAndNumbers.{length-word, word-split
 use Rattle.rice_bits.proofs.lemmas.bits.EightBytes.{word-mod}
 use Rattle.rice_bits.proofs.lemmas.bits.JoinedBits.{low_word}
 use Rattle.rice_code.proofs.lemmas.encode.JoinedWords.{four_words}
-use Rattle.rice_code.proofs.lemmas.encode.OptionBits.{four_more}
+use Rattle.rice_code.proofs.lemmas.encode.OptionTexts.{four_more}
 
 -- four products in lanes of 32 bits, and the sum of the sums of neighbours
 abbrev pub lanes_joined : ℕ → ℕ → ℕ → ℕ → ℕ → ℕ

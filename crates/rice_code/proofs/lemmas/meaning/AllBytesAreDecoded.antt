@@ -25,7 +25,7 @@ use Rattle.rice_code.specs.code.Decoded.{Decoded, DecodedFrom, Ending, Reached, 
 use Rattle.rice_code.proofs.lemmas.meaning.CoveredBlocks.{bool_cases, GoOn, segment_goes_on}
 use Rattle.rice_code.specs.code.SoundBlocks.{IsSoundBlock, AreSoundBlocks}
 use Rattle.rice_code.proofs.lemmas.code.SoundBlocks.{all_append, last_legal}
-use Rattle.rice_code.proofs.lemmas.meaning.SentSets.{IsSound}
+use Rattle.rice_code.proofs.lemmas.meaning.SentSetsAreTaken.{IsSound}
 use Rattle.rice_code.proofs.lemmas.code.OnesOfForms.{forms_have_a_one}
 use Rattle.rice_code.proofs.lemmas.meaning.FormsAtFront.{form_piece}
 use Rattle.rice_code.proofs.lemmas.meaning.DecodingWitnesses.{decoded_from_none}

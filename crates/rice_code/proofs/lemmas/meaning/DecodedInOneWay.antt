@@ -18,7 +18,7 @@ use Rattle.rice_code.proofs.lemmas.meaning.CoveredBlocks.{bool_cases}
 use Rattle.rice_code.proofs.lemmas.code.SoundBlocks.{all_take, all_drop, last_legal}
 use Rattle.rice_code.proofs.lemmas.code.FormsReadInOneWay.{forms_read_in_one_way}
 use Rattle.rice_code.proofs.lemmas.code.OnesOfForms.{forms_have_a_one}
-use Rattle.rice_code.proofs.lemmas.meaning.SentSets.{IsSound}
+use Rattle.rice_code.proofs.lemmas.meaning.SentSetsAreTaken.{IsSound}
 
 -- what excludes each other
 reached_or_not : (asked : Option ℕ) (m : ℕ) → IsSomeAnd asked (λ n. n ≤ m) → IfSome asked (λ n. m < n) → ⊥

@@ -17,14 +17,14 @@ use Rattle.rice_code.specs.code.CodedDataSets.{CodedDataSet, NoCompression, Seco
 use Rattle.rice_code.specs.code.Decoded.{AreTaken, Decoded, DecodedFrom, Ending, Reached, EndsWith, IsWanted, cut_to}
 use Rattle.rice_code.specs.code.Forms.{RunIsSound, blocks_in, blocks_in_all}
 use Rattle.rice_code.specs.code.Layout.{block_after, padding, Lies}
-use Rattle.rice_code.proofs.lemmas.code.BlockPlaces.{place_on, same_blocks}
+use Rattle.rice_code.proofs.lemmas.code.BlocksByPlaceAlone.{place_on, same_blocks}
 use Rattle.rice_code.proofs.lemmas.code.FilledBlocks.{blocks_append}
 use Rattle.rice_code.proofs.lemmas.code.Layouts.{ends_inside, lies_at}
 use Rattle.rice_code.proofs.lemmas.code.SegmentsOneByOne.{ends_before}
 use Rattle.rice_code.proofs.lemmas.cost.PaddingBounds.{interval_begins_segment}
 use Rattle.rice_code.proofs.lemmas.meaning.CoveredBlocks.{bool_cases}
 use Rattle.rice_code.proofs.lemmas.meaning.DecodingGoesOn.{cut_parts}
-use Rattle.rice_code.proofs.lemmas.meaning.DecodingPlaces.{ends_there, same_all_blocks, same_lie, taken_there}
+use Rattle.rice_code.proofs.lemmas.meaning.DecodingByPlacesAlone.{ends_there, same_all_blocks, same_lie, taken_there}
 use Rattle.rice_code.proofs.lemmas.meaning.IntervalsStandAlone.{first_blocks, to_byte}
 
 -- ---- coded data sets at another block, and after other bits

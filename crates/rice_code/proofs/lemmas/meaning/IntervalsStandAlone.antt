@@ -18,7 +18,7 @@ use Rattle.rice_code.specs.code.CodedDataSets.{CodedDataSet, bits_of_set}
 use Rattle.rice_code.specs.code.Decoded.{Decoded, Reached}
 use Rattle.rice_code.specs.code.Forms.{blocks_in_all}
 use Rattle.rice_code.specs.code.Layout.{block_after, padding, layout}
-use Rattle.rice_code.proofs.lemmas.code.BlockPlaces.{code_stands_in_intervals}
+use Rattle.rice_code.proofs.lemmas.code.BlocksByPlaceAlone.{code_stands_in_intervals}
 use Rattle.rice_code.proofs.lemmas.code.CodeGoesOn.{code_goes_on, no_zeros_past_segment, own_blocks}
 use Rattle.rice_code.proofs.lemmas.code.Layouts.{ends_inside, laid_at, laid_plain, lies_inside, sent_first}
 use Rattle.rice_code.proofs.lemmas.code.SoundBlocks.{blocks_sound_behind, count_blocks}
@@ -26,7 +26,7 @@ use Rattle.rice_code.proofs.lemmas.code.WholeBlocks.{not_filled}
 use Rattle.rice_code.proofs.lemmas.code.WholeBytes.{whole-append}
 use Rattle.rice_code.proofs.lemmas.cost.PaddingBounds.{are_blocks, interval_begins_segment}
 use Rattle.rice_code.proofs.lemmas.meaning.CoveredBlocks.{bool_cases, covers_blocks}
-use Rattle.rice_code.proofs.lemmas.meaning.SentSets.{are_taken}
+use Rattle.rice_code.proofs.lemmas.meaning.SentSetsAreTaken.{are_taken}
 
 -- ---- an interval begins afresh
 

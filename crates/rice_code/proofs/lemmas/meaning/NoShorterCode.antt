@@ -19,7 +19,7 @@ use Rattle.rice_code.specs.code.Forms.{blocks_in_all}
 use Rattle.rice_code.specs.code.Layout.{block_after}
 use Rattle.rice_code.proofs.lemmas.code.FilledBlocks.{last_behind, repeated_all}
 use Rattle.rice_code.proofs.lemmas.code.SoundBlocks.{count_blocks, filled_len}
-use Rattle.rice_code.proofs.lemmas.cost.CodeEnds.{padded, padded_is, sent_padded, taken_padded}
+use Rattle.rice_code.proofs.lemmas.cost.WhereSetsEnd.{padded, padded_is, sent_padded, taken_padded}
 use Rattle.rice_code.proofs.lemmas.cost.LeastCode.{ends_no_later}
 use Rattle.rice_code.proofs.lemmas.cost.CostsOfSmallerBlocks.{AreAtMost, BeginAtMost, IsAtMost, at_most_itself}
 

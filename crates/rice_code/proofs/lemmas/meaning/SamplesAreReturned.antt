@@ -24,7 +24,7 @@ use Rattle.rice_code.proofs.lemmas.meaning.CoveredBlocks.{bool_cases, and-split,
 use Rattle.rice_code.proofs.lemmas.code.Layouts.{lies_laid, lies_inside}
 use Rattle.rice_code.proofs.lemmas.cost.PaddingBounds.{are_blocks, interval_begins_segment, sets_begin}
 use Rattle.rice_code.proofs.lemmas.code.SoundBlocks.{all_append, all_replicate, last_legal, count_blocks, filled_len, blocks_sound_behind}
-use Rattle.rice_code.proofs.lemmas.meaning.SentSets.{are_taken}
+use Rattle.rice_code.proofs.lemmas.meaning.SentSetsAreTaken.{are_taken}
 use Rattle.rice_code.proofs.lemmas.code.FilledBlocks.{blocks_append, repeated_blocks, last_repeats}
 
 -- What the output of samples decodes to, whether their number is known or not.

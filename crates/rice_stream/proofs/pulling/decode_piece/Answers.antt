@@ -7,7 +7,7 @@ use Rattle.rice_bits.proofs.lemmas.bits.BytesAndBits.{length-bits_of}
 use Rattle.rice_samples.specs.Parameters.{values_at, width}
 use Rattle.rice_samples.specs.bytes.Spelling.{spellings}
 use Rattle.rice_samples.proofs.lemmas.setting.ValuesByLevels.{length-values}
-use Rattle.rice_code.specs.declared.decode.answer.CodeFault.TheVariants as faults
+use Rattle.rice_code.specs.declared.decode.call_results.CodeFault.TheVariants as faults
 use Rattle.rice_stream.specs.Pulling.{DecodesMore, GoesOnAt, IsReadFrom, TakesNext, ahead, state_of}
 use Rattle.rice_stream.specs.declared.stand.Pause.{Pause}
 use Rattle.rice_stream.specs.declared.stand.Stand.{Stand}

@@ -10,7 +10,7 @@ returns-clause-gives c =
     let know = c.requires.come.stand in
     let r = c.args.reader.now in
     let p = c.args.decoder.now in
-    let q = c.repeat_blocks.new.self in
+    let q = c.pass_blocks_of_run.new.self in
     let z = c.before-sample.result in
     let blocks = c.blocks_at_once-blocks in
     let n = c.block-block.result * blocks.result in
@@ -18,7 +18,7 @@ returns-clause-gives c =
     let taken : r.taken - c.taken.result ≡ r.taken - r.taken = omega (arith, c.taken.ensures.value) in
     let steps : c.tick.new.self + n ≡ stand.steps + n = omega (arith, c.tick.ensures, c.new-meter.ensures) in
     run_stroke c.args.setting.now stand c.stand_behind-stand.result p q r c.width-width.result c.block-block.result blocks.result c.args.at (to_z w64 (of_z w64 z))
-    c.args.samples.now c.spell_again_at.new.samples know.0 know.1 know.2 know.3 c.requires.come.reads c.requires.come.state c.repeat_blocks.ensures.gives c.width-width.ensures.value c.block-block.ensures.value
+    c.args.samples.now c.spell_again_at.new.samples know.0 know.1 know.2 know.3 c.requires.come.reads c.requires.come.state c.pass_blocks_of_run.ensures.gives c.width-width.ensures.value c.block-block.ensures.value
     (omega (arith, c.width-width.ensures.range)) (omega (arith, c.block-block.ensures.range)) blocks.ensures.some
     (c.stand_behind-stand.ensures.numbers ∙ (λ i. stand_at (stand.samples + n) (stand.bits + taken i) (steps i) q)) same c.spell_again_at.ensures
 

@@ -1,7 +1,7 @@
 use Rattle.std.proofs.Common.{◌^◌, ◌<◌, All, arith, subst, take}
 use Rattle.std.proofs.lemmas.List.{length-take-le}
 use Rattle.rice_code.specs.decode.FieldsAhead.{LowsAhead}
-use Rattle.rice_code.proofs.lemmas.decode.SplitRows.{length-behind, row-lows}
+use Rattle.rice_code.proofs.lemmas.decode.SplitInSixteens.{length-behind, row-lows}
 use Rattle.rice_code.proofs.lemmas.decode.NoCompressionAhead.{lows-first}
 use Rattle.rice_code.proofs.decode.no_compression_ahead.spell_uncompressed_row.Goals as goal
 

@@ -3,7 +3,7 @@ use Rattle.std.proofs.Math.Nat.{mul_comm, mul-le-mul_right}
 use Rattle.std.proofs.lemmas.List.{length-take-le}
 use Rattle.rice_code.specs.decode.BlocksInOnePass.{lanes_of}
 use Rattle.rice_code.specs.decode.FieldsAhead.{LowsAhead}
-use Rattle.rice_code.proofs.lemmas.decode.SplitRows.{RowsSpelled, all_of_row, none_spelled, row_inside, rows_before, rows_end}
+use Rattle.rice_code.proofs.lemmas.decode.SplitInSixteens.{RowsSpelled, all_of_row, none_spelled, row_inside, rows_before, rows_end}
 use Rattle.rice_code.proofs.lemmas.decode.NoCompressionAhead.{row_turned, rows_turned}
 use Rattle.rice_code.proofs.decode.no_compression_ahead.spell_uncompressed_rows.Goals as goal
 

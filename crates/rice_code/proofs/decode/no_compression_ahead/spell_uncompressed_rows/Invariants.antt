@@ -1,6 +1,6 @@
 use Rattle.std.proofs.Common.{◌≡◌, length, replicate}
 use Rattle.rice_code.specs.decode.FieldsAhead.{rows_len}
-use Rattle.rice_code.proofs.lemmas.decode.SplitRows.{RowsSpelled}
+use Rattle.rice_code.proofs.lemmas.decode.SplitInSixteens.{RowsSpelled}
 use Rattle.rice_code.proofs.decode.no_compression_ahead.spell_uncompressed_rows.Given as goal
 
 abbrev pub invariant-loop-row : goal.invariant-loop-row

@@ -4,7 +4,7 @@ use Rattle.std.proofs.lemmas.List.{get_or-map}
 use Rattle.std.proofs.lemmas.List.FromFn.{get_or-range_with_len}
 use Rattle.rice_samples.specs.blocks.Pairs.{pair_code}
 use Rattle.rice_code.specs.declared.decode.pairs.TheConstants.{PAIRS}
-use Rattle.rice_code.proofs.lemmas.decode.RowLemmas.{sum_within}
+use Rattle.rice_code.proofs.lemmas.decode.RowsOfFields.{sum_within}
 use Rattle.rice_code.proofs.decode.pairs.pair_in_table.Goals as goal
 
 stands_for : (g : ℕ) → g < 64 → pair_code (get_or (get_or PAIRS g []) 0 0) (get_or (get_or PAIRS g []) 1 0) ≡ g

@@ -3,7 +3,7 @@ use Rattle.std.proofs.Common.{◌≡◌, ◌+◌, ◌*◌, ◌/◌, ◌++◌, �
 use Rattle.std.proofs.lemmas.List.{take_all}
 use Rattle.rice_samples.proofs.lemmas.blocks.PairNumbers.{count_pairs}
 use Rattle.rice_samples.specs.blocks.Pairs.{pair_codes}
-use Rattle.rice_code.proofs.lemmas.decode.RowLemmas.{counted-both, pairs-both, pairs-whole, put_rest, sequences-stop_behind}
+use Rattle.rice_code.proofs.lemmas.decode.RowsOfFields.{counted-both, pairs-both, pairs-whole, put_rest, sequences-stop_behind}
 use Rattle.std.proofs.lemmas.Result.{err_from_is_err_and}
 use Rattle.rice_code.proofs.decode.pairs.read_pairs.Goals as goal
 
@@ -18,30 +18,30 @@ returns-then-some-count-clause-few g c =
     let w = c.take_waiting_pairs-some in
     λ _. subst (λ xs. All (λ d. d < 64) xs) (take_all (w.result + w.result) w.new.out (omega (arith, c.if-some-count.true, w.auto.out, c.requires.even))) w.ensures.taken.few
 
-pub returns-in_err-read_each_pair-clause-err : goal.returns-in_err-read_each_pair-clause-err
-returns-in_err-read_each_pair-clause-err g c =
+pub returns-in_err-read_pairs_one_by_one-clause-err : goal.returns-in_err-read_pairs_one_by_one-clause-err
+returns-in_err-read_pairs_one_by_one-clause-err g c =
     let w = c.take_waiting_pairs-some in
     let front = take (w.result + w.result) w.new.out in
     let p = err_from_is_err_and c.from_residual.result c.from_residual.ensures.1 in
-    rw (p.1, p.2) (sequences-stop_behind c.args.reader.now w.new.reader c.read_each_pair.new.reader (pair_codes front) _ (length c.args.out.now / 2) c.in_err-read_each_pair.field-0.0 w.ensures.taken.row.takes
-    (omega (arith, count_pairs w.result front w.ensures.taken.row.len, w.ensures.within, w.auto.out, c.read_each_pair.auto.out)) c.in_err-read_each_pair.ensures.err)
+    rw (p.1, p.2) (sequences-stop_behind c.args.reader.now w.new.reader c.read_pairs_one_by_one.new.reader (pair_codes front) _ (length c.args.out.now / 2) c.in_err-read_pairs_one_by_one.field-0.0 w.ensures.taken.row.takes
+    (omega (arith, count_pairs w.result front w.ensures.taken.row.len, w.ensures.within, w.auto.out, c.read_pairs_one_by_one.auto.out)) c.in_err-read_pairs_one_by_one.ensures.err)
 
-pub returns-in_err-read_each_pair-clause-steps : goal.returns-in_err-read_each_pair-clause-steps
-returns-in_err-read_each_pair-clause-steps g c =
+pub returns-in_err-read_pairs_one_by_one-clause-steps : goal.returns-in_err-read_pairs_one_by_one-clause-steps
+returns-in_err-read_pairs_one_by_one-clause-steps g c =
     let w = c.take_waiting_pairs-some in
-    counted-both c.args.meter.now w.new.meter c.read_each_pair.new.meter c.args.reader.now.taken w.new.reader.taken c.read_each_pair.new.reader.taken w.ensures.taken.counted c.in_err-read_each_pair.ensures.steps
+    counted-both c.args.meter.now w.new.meter c.read_pairs_one_by_one.new.meter c.args.reader.now.taken w.new.reader.taken c.read_pairs_one_by_one.new.reader.taken w.ensures.taken.counted c.in_err-read_pairs_one_by_one.ensures.steps
 
 pub returns-clause-steps : goal.returns-clause-steps
 returns-clause-steps g c =
     let w = c.take_waiting_pairs-some in
-    counted-both c.args.meter.now w.new.meter c.read_each_pair.new.meter c.args.reader.now.taken w.new.reader.taken c.read_each_pair.new.reader.taken w.ensures.taken.counted c.in_ok-read_each_pair.ensures.steps
+    counted-both c.args.meter.now w.new.meter c.read_pairs_one_by_one.new.meter c.args.reader.now.taken w.new.reader.taken c.read_pairs_one_by_one.new.reader.taken w.ensures.taken.counted c.in_ok-read_pairs_one_by_one.ensures.steps
 
 pub returns-clause-ok : goal.returns-clause-ok
 returns-clause-ok g c =
     let w = c.take_waiting_pairs-some in
-    let rest = c.read_each_pair.new.out in
+    let rest = c.read_pairs_one_by_one.new.out in
     let twice : 2 * w.result ≡ w.result + w.result = omega arith in
-    pairs-both c.args.reader.now w.new.reader c.read_each_pair.new.reader w.result _ (length c.args.out.now / 2) (take (w.result + w.result) w.new.out) rest _
-    c.args.meter.now w.new.meter c.read_each_pair.new.meter
-    w.ensures.taken.row c.in_ok-read_each_pair.ensures.ok (omega (arith, w.ensures.within, w.auto.out, c.read_each_pair.auto.out))
+    pairs-both c.args.reader.now w.new.reader c.read_pairs_one_by_one.new.reader w.result _ (length c.args.out.now / 2) (take (w.result + w.result) w.new.out) rest _
+    c.args.meter.now w.new.meter c.read_pairs_one_by_one.new.meter
+    w.ensures.taken.row c.in_ok-read_pairs_one_by_one.ensures.ok (omega (arith, w.ensures.within, w.auto.out, c.read_pairs_one_by_one.auto.out))
     (put_rest (2 * w.result) w.new.out rest (omega (arith, w.ensures.within, w.auto.out)) ∙ ap (λ k. take k w.new.out ++ rest) twice)

@@ -1,5 +1,5 @@
 use Rattle.std.proofs.Common.{◌+◌, arith, refl}
-use Rattle.rice_code.proofs.lemmas.decode.RowLemmas.{pairs-taken}
+use Rattle.rice_code.proofs.lemmas.decode.RowsOfFields.{pairs-taken}
 use Rattle.rice_code.proofs.decode.pairs.take_waiting_pairs.Goals as goal
 
 pub tick-requires : goal.tick-requires

@@ -3,7 +3,7 @@ use Rattle.std.proofs.lemmas.List.{length-take-le, take_more}
 use Rattle.std.specs.Prelude.{All}
 use Rattle.std.proofs.lemmas.List.Elements.{All-push}
 use Rattle.rice_samples.specs.blocks.Pairs.{pair_codes}
-use Rattle.rice_code.proofs.lemmas.decode.RowLemmas.{pair_codes-push, sum-push2, two_more}
+use Rattle.rice_code.proofs.lemmas.decode.RowsOfFields.{pair_codes-push, sum-push2, two_more}
 use Rattle.rice_code.proofs.decode.pairs.write_pairs.Goals as goal
 
 both_more : (s a b : ℕ) → s % 2 ^ 32 + a < 2 ^ 32 → ((s + (a + b * 2 ^ 32)) % 2 ^ 32 ≡ s % 2 ^ 32 + a) × ((s + (a + b * 2 ^ 32)) / 2 ^ 32 ≡ s / 2 ^ 32 + b)

@@ -5,7 +5,7 @@ use Rattle.rice_bits.specs.Bits.{word}
 use Rattle.rice_samples.specs.Parameters.{id_len}
 use Rattle.rice_code.specs.code.CodedDataSets.{reference_bits, reference_len, sent_residuals}
 use Rattle.rice_code.proofs.lemmas.cost.CostIsLength.{coded_and_reference}
-use Rattle.rice_code.proofs.lemmas.encode.OptionBits.{sent_are}
+use Rattle.rice_code.proofs.lemmas.encode.OptionTexts.{sent_are}
 use Rattle.rice_code.proofs.encode.options.put_no_compression.Goals as goal
 
 -- the identifier does not wrap

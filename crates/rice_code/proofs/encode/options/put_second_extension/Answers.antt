@@ -5,7 +5,7 @@ use Rattle.rice_samples.specs.Parameters.{id_len}
 use Rattle.rice_samples.specs.blocks.Pairs.{pair_codes}
 use Rattle.rice_code.specs.code.CodedDataSets.{reference_bits, reference_len}
 use Rattle.rice_code.specs.encode.SentParts.{pairs_len}
-use Rattle.rice_code.proofs.lemmas.encode.OptionBits.{word_flag, append_flagged}
+use Rattle.rice_code.proofs.lemmas.encode.OptionTexts.{word_flag, append_flagged}
 use Rattle.rice_code.proofs.encode.options.put_second_extension.Goals as goal
 
 pub returns : goal.returns

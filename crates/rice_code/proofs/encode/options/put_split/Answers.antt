@@ -3,7 +3,7 @@ use Rattle.std.specs.Prelude.{flat_map}
 use Rattle.rice_bits.specs.Bits.{word, fundamental_sequence}
 use Rattle.rice_samples.specs.Parameters.{id_len}
 use Rattle.rice_code.specs.code.CodedDataSets.{reference_bits, reference_len, sent_residuals}
-use Rattle.rice_code.proofs.lemmas.encode.OptionBits.{no_digits, sent_are, split_is_joined}
+use Rattle.rice_code.proofs.lemmas.encode.OptionTexts.{no_digits, sent_are, split_is_joined}
 use Rattle.rice_code.proofs.encode.options.put_split.Goals as goal
 
 pub put_low-requires-clause-room : goal.put_low-requires-clause-room

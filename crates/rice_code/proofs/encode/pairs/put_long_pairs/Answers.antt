@@ -1,7 +1,7 @@
 use Rattle.std.proofs.lemmas.Grind.{common_steps}
 use Rattle.std.proofs.Common.{arith, ◌+◌, ap}
 use Rattle.std.specs.Prelude.{sum_by}
-use Rattle.rice_code.proofs.lemmas.encode.OptionBits.{pairs_left}
+use Rattle.rice_code.proofs.lemmas.encode.OptionTexts.{pairs_left}
 use Rattle.rice_code.proofs.encode.pairs.put_long_pairs.Goals as goal
 
 pub at-a-requires-clause-meter : goal.at-a-requires-clause-meter

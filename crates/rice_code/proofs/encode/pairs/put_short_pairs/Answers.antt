@@ -3,7 +3,7 @@ use Rattle.std.specs.Prelude.{flat_map, sum_by}
 use Rattle.rice_bits.specs.Bits.{fundamental_sequence}
 use Rattle.rice_samples.specs.blocks.Pairs.{pair_code, pair_codes}
 use Rattle.rice_code.proofs.lemmas.encode.GatheredSequences.{all_digits_filled}
-use Rattle.rice_code.proofs.lemmas.encode.OptionBits.{pairs_left, pairs_left_sum, no_pairs_left, length-pairs}
+use Rattle.rice_code.proofs.lemmas.encode.OptionTexts.{pairs_left, pairs_left_sum, no_pairs_left, length-pairs}
 use Rattle.rice_code.proofs.encode.pairs.put_short_pairs.Goals as goal
 
 pub loop-i-init : goal.loop-i-init
@@ -24,8 +24,8 @@ codeword_of-requires c =
     (λ j. pair_code (c.at-a.ensures.value j) (c.at-b.ensures.value j)) in
     omega (arith, f, m, c.loop-i.invariant.left, c.loop-i.invariant.few)
 
-pub with_sequence-row-requires-clause-some : goal.with_sequence-row-requires-clause-some
-with_sequence-row-requires-clause-some c =
+pub digits_with_sequence-row-requires-clause-some : goal.digits_with_sequence-row-requires-clause-some
+digits_with_sequence-row-requires-clause-some c =
     let f = pairs_left_sum c.loop-i.i c.args.block.now (omega arith) in
     let m : c.codeword_of.result ≡ pair_code (get_or c.args.block.now (2 * c.loop-i.i) 0) (get_or c.args.block.now (2 * c.loop-i.i + 1) 0) =
     c.codeword_of.ensures ∙ (λ j. pair_code (c.at-a.ensures.value j) (c.at-b.ensures.value j)) in
@@ -43,9 +43,9 @@ loop-i-preserved c =
     let same = append_assoc bits (fundamental_sequence c.codeword_of.result) rest
     ∙ (ap (λ n. bits ++ (fundamental_sequence n ++ rest)) m ∙ (ap (λ v. bits ++ flat_map fundamental_sequence v) (sym e) ∙ c.loop-i.invariant.filled.2)) in
     record {
-      left = omega (arith, f, m, c.loop-i.invariant.left, c.with_sequence-row.ensures.left);
-      few = omega (arith, c.loop-i.invariant.few, c.with_sequence-row.ensures.left);
-      filled = (bits ++ fundamental_sequence c.codeword_of.result, c.with_sequence-row.ensures.bits bits c.loop-i.invariant.filled.1, same);
+      left = omega (arith, f, m, c.loop-i.invariant.left, c.digits_with_sequence-row.ensures.left);
+      few = omega (arith, c.loop-i.invariant.few, c.digits_with_sequence-row.ensures.left);
+      filled = (bits ++ fundamental_sequence c.codeword_of.result, c.digits_with_sequence-row.ensures.bits bits c.loop-i.invariant.filled.1, same);
       steps = omega arith;
     }
 

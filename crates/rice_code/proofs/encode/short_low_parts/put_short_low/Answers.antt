@@ -9,10 +9,10 @@ loop-i-init c =
     let w = c.args.width in
     let from = c.args.from in
     let xs = c.args.block.now in
-    let first = c.eight_low-first.result in
+    let first = c.eight_low_parts_joined-first.result in
     let all = c.args.sink.now ++ c.args.fields.now in
     let words = (λ j. word (c.digits_from-digits.ensures.count j) (c.digits_from-digits.ensures.value j))
-    ∙ tail_of_eight w from first xs c.requires.from (omega (arith, c.len-eights.ensures.range.0, c.len-eights.ensures.value)) c.eight_low-first.ensures.bits in
+    ∙ tail_of_eight w from first xs c.requires.from (omega (arith, c.len-eights.ensures.range.0, c.len-eights.ensures.value)) c.eight_low_parts_joined-first.ensures.bits in
     let less = first_eight_fewer (length xs) from w c.requires.from (omega (arith, c.len-eights.ensures.range.0, c.len-eights.ensures.value)) in
     record {
       after = omega arith;
@@ -33,7 +33,7 @@ loop-i-preserved c =
     let row = ap (λ m. flat_map (word w) (slice_range xs i m)) next in
     record {
       after = omega arith;
-      same = eight_added (word w) xs i n all _ _ (omega arith) (c.add-in-loop-i.ensures.bits ∙ ap (λ v. all ++ v) (c.eight_low-eight.ensures.bits ∙ sym row)) c.loop-i.invariant.same;
+      same = eight_added (word w) xs i n all _ _ (omega arith) (c.add-in-loop-i.ensures.bits ∙ ap (λ v. all ++ v) (c.eight_low_parts_joined-eight.ensures.bits ∙ sym row)) c.loop-i.invariant.same;
       len = omega (arith, less);
       steps = omega (arith, less);
     }

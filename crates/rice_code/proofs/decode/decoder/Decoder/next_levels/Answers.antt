@@ -10,7 +10,7 @@ pub invariant_of-self : goal.invariant_of-self
 invariant_of-self g c =
     let st = c.self.inside in
     let state = c.self.invariant.1 in
-    let last = c.restore_zeros-last in (
+    let last = c.restore_zero_block-last in (
       last.ensures.below,
       place_moves st.setting st.block c.next_place-self-inside.result (st.run - 1) (value_at st.setting last.result) st.stopped
           state.legal state.within c.next_place-self-inside.ensures (sample_at st.setting last.result last.ensures.below)
@@ -21,7 +21,7 @@ pub returns-then-self-gt0-clause-in_run : goal.returns-then-self-gt0-clause-in_r
 returns-then-self-gt0-clause-in_run g c none pos =
     let st = c.self.inside in
     let s = st.setting in
-    let last = c.restore_zeros-last in
+    let last = c.restore_zero_block-last in
     let ls = last.new.levels.items in
     rw (← c.self.view_is) (
       refl,
@@ -31,5 +31,5 @@ returns-then-self-gt0-clause-in_run g c none pos =
       refl,
     )
 
-pub returns-then-read_wide-clause-reads : goal.returns-then-read_wide-clause-reads
-returns-then-read_wide-clause-reads g c = grind (arith, common_steps)
+pub returns-then-read_wide_split_to_levels-clause-reads : goal.returns-then-read_wide_split_to_levels-clause-reads
+returns-then-read_wide_split_to_levels-clause-reads g c = grind (arith, common_steps)

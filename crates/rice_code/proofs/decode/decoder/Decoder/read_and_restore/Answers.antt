@@ -55,7 +55,7 @@ returns-else-not-sound-clause-waiting g c =
 pub returns-in-Some-clause-reads : goal.returns-in-Some-clause-reads
 returns-in-Some-clause-reads g c =
     let st = c.self.inside in
-    let last = c.restore_zeros-last in
+    let last = c.restore_zero_block-last in
     let s = st.setting in
     let p = value_at s st.before in
     let ls = last.new.levels.items in
@@ -87,7 +87,7 @@ returns-in-Some-clause-steps g c =
 pub returns-in-Some-clause-waiting : goal.returns-in-Some-clause-waiting
 returns-in-Some-clause-waiting g c =
     let st = c.self.inside in
-    let last = c.restore_zeros-last in
+    let last = c.restore_zero_block-last in
     let s = st.setting in
     let p = value_at s st.before in
     let ls = last.new.levels.items in
