@@ -3,7 +3,7 @@ use Rattle.std.proofs.Common.{◌≡◌, ◌∙◌, ℕ, Bool, true, false, List
 use Rattle.std.specs.Prelude.{is_ok}
 use Rattle.rice_bits.specs.declared.device.WriteFault.{WriteFault}
 use Rattle.rice_bits.specs.device.OutletRoom.{Room, Appends}
-use Rattle.rice_stream.specs.Calls.{Call, Happens, Fails}
+use Rattle.rice_stream.specs.DevicesInCalls.{Call, Happens, Fails}
 use Rattle.rice_stream.specs.Encodes.{EncodesBetween}
 use Rattle.rice_stream.specs.Decodes.{DecodesBetween}
 use Rattle.rice_stream.specs.declared.outcome.Outcome.{Outcome}

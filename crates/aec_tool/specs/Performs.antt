@@ -2,7 +2,7 @@
 use Rattle.std.specs.Prelude.{◌≡◌, ℕ, ◌-◌, ◌/◌, Bool, true, false, ◌&&◌, List, ◌++◌, Option, Some, None, is_some, Result, Ok, Err, ◌⊎◌}
 use Rattle.rice_bits.specs.device.OutletRoom.{Room}
 use Rattle.rice_samples.specs.Parameters.{Parameters}
-use Rattle.rice_stream.specs.Calls.{Call, Happens, Fails}
+use Rattle.rice_stream.specs.DevicesInCalls.{Call, Happens, Fails}
 use Rattle.rice_stream.specs.Encodes.{Encodes}
 use Rattle.rice_stream.specs.Decodes.{Decodes}
 use Rattle.rice_stream.specs.declared.outcome.Outcome.{Outcome}

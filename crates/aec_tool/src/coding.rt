@@ -1,6 +1,6 @@
 //! Encoding or decoding, as a plan asks.
 ghost use Rattle.std.specs.Prelude.{◌≡◌, ◌+◌, ◌^◌, ◌<◌, true, false, Some};
-ghost use Rattle.rice_stream.specs.Calls.{Fails};
+ghost use Rattle.rice_stream.specs.DevicesInCalls.{Fails};
 ghost use Rattle.rice_stream.specs.Decodes.{DecodesBetween, DecodesWithin};
 ghost use Rattle.rice_stream.specs.Encodes.{EncodesBetween, EncodesWithin};
 

@@ -3,7 +3,7 @@ use Rattle.std.specs.Prelude.{◌≡◌, ◌≢◌, ℕ, ◌≤◌, List, ◌++�
 use Rattle.std.specs.Io.KnownBytes.{Consumes}
 use Rattle.rice_samples.specs.Parameters.{Parameters}
 use Rattle.rice_samples.specs.declared.setting.SettingFault.{SettingFault}
-use Rattle.rice_stream.specs.Calls.{Call}
+use Rattle.rice_stream.specs.DevicesInCalls.{Call}
 use Rattle.rice_stream.specs.Encodes.{Encodes, EncodesWithin}
 use Rattle.rice_stream.specs.Decodes.{Decodes, DecodesWithin}
 use Rattle.rice_stream.specs.declared.outcome.Fault.{Fault}

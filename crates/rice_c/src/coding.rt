@@ -2,7 +2,7 @@
 ghost use Rattle.std.specs.Prelude.{◌≡◌, ◌≢◌, ◌*◌, ◌/◌, ◌<◌, ◌≤◌, length, IfOk, IfErr, Option, Some, None};
 ghost use Rattle.rice_bits.specs.device.Slice.{slice_left, slice_state, slice_failures};
 ghost use Rattle.rice_samples.specs.Parameters.{width};
-ghost use Rattle.rice_stream.specs.Calls.{Fails};
+ghost use Rattle.rice_stream.specs.DevicesInCalls.{Fails};
 ghost use Rattle.rice_stream.specs.Encodes.{EncodesBetween, EncodesWithin};
 ghost use Rattle.rice_stream.specs.Decodes.{DecodesBetween, DecodesWithin};
 ghost use Rattle.rice_c.specs.declared.status.Status.TheVariants.{NoRoom};

@@ -2,7 +2,7 @@
 ghost use Rattle.std.specs.Prelude.{◌≡◌, ◌≢◌, ◌/◌, ◌<◌, ◌≤◌, length, List, Some, IfOk, IfErr, ℤ};
 ghost use Rattle.rice_bits.specs.device.Slice.{slice_state, slice_failures};
 ghost use Rattle.rice_samples.specs.Limits.{most_input};
-ghost use Rattle.rice_stream.specs.Calls.{Fails};
+ghost use Rattle.rice_stream.specs.DevicesInCalls.{Fails};
 ghost use Rattle.rice_stream.specs.Encodes.{EncodesWithin};
 ghost use Rattle.rice_stream.specs.EncodingState.{PushFails};
 ghost use Rattle.rice_stream.specs.Feeding.{IsSeam, IsSomeSeam, EncodesOn, EncodesToEnd};

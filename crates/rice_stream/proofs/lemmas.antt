@@ -7,8 +7,8 @@ pub mod EncodingEnds
 pub mod EncodingLemmas
 pub mod FedPieces
 pub mod SamplesByLevels
-pub mod OneDecoding
-pub mod SamplesInParts
+pub mod CallsDecodeAsDefined
+pub mod SamplesTakenInTurn
 pub mod OnePulledPiece
 pub mod PulledPieces
 pub mod PullingLemmas

@@ -14,7 +14,7 @@ use Rattle.rice_code.specs.code.Decoded.{Decoded, AreTaken, BeginsUnsound, EndsW
 use Rattle.rice_code.specs.code.CodedDataSets.{CodedDataSet, turns}
 use Rattle.rice_code.specs.code.Forms.{RunIsSound, ResidualsAreSound, blocks_in_all}
 use Rattle.rice_code.specs.code.Layout.{Lies}
-use Rattle.rice_stream.specs.Calls.{Call, Happens, WritesAndReports, StopsBetween, PassesLimit}
+use Rattle.rice_stream.specs.DevicesInCalls.{Call, Happens, WritesAndReports, StopsBetween, PassesLimit}
 use Rattle.rice_stream.specs.declared.outcome.Report.{Report}
 use Rattle.rice_stream.specs.declared.outcome.Fault.{Fault}
 use Rattle.rice_stream.specs.declared.outcome.Fault.TheVariants.{Read, Write, TooLong, CodeEnds, RunPastSegment, ResidualTooLarge}

@@ -10,7 +10,7 @@ use Rattle.rice_code.specs.Bounds.{bit_bound, step_bound, amortised_step_bound}
 use Rattle.rice_code.specs.code.Code.{code_bits, output, early_output, complete_samples}
 use Rattle.rice_code.specs.CoderSteps.{least_steps, most_steps}
 use Rattle.rice_code.specs.code.Blocks.{fill_count_of}
-use Rattle.rice_stream.specs.Calls.{Call, Happens, StopsBetween, PassesLimit, IsWithinLimit}
+use Rattle.rice_stream.specs.DevicesInCalls.{Call, Happens, StopsBetween, PassesLimit, IsWithinLimit}
 use Rattle.rice_samples.specs.declared.bytes.sample_fault.SampleFault.{SampleFault}
 use Rattle.rice_samples.specs.declared.bytes.sample_fault.SampleFault.TheVariants as faults
 use Rattle.rice_stream.specs.declared.outcome.Report.{Report}

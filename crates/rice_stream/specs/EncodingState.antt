@@ -7,7 +7,7 @@ use Rattle.rice_samples.specs.Limits.{most_input}
 use Rattle.rice_samples.specs.Parameters.{Parameters, value_count, width}
 use Rattle.rice_samples.specs.bytes.SampleReader.{SamplesAhead}
 use Rattle.rice_samples.specs.bytes.Spelling.{Reads, EndsSpelling, NoSpelling}
-use Rattle.rice_stream.specs.Calls.{StopsBetween}
+use Rattle.rice_stream.specs.DevicesInCalls.{StopsBetween}
 use Rattle.rice_code.specs.code.Code.{code_bits, output, early_output, complete_samples}
 use Rattle.rice_code.specs.encode.Coder.{HasTaken, complete_code}
 use Rattle.rice_code.specs.CoderSteps.{least_steps, most_steps}

@@ -8,7 +8,7 @@ use Rattle.rice_samples.specs.bytes.Spelling.{spellings}
 use Rattle.rice_code.specs.Laws.{BeginsInterval}
 use Rattle.rice_code.specs.code.Code.{output}
 use Rattle.rice_code.specs.code.Decoded.{Decoded, Ending, Reached, Ended, CutOff, Past, Large}
-use Rattle.rice_stream.specs.Calls.{Call}
+use Rattle.rice_stream.specs.DevicesInCalls.{Call}
 use Rattle.rice_stream.specs.Encodes.{Encodes}
 use Rattle.rice_stream.specs.Decodes.{Decodes}
 use Rattle.rice_stream.specs.Feeding.{IsSeam, EncodesOn, EncodesToEnd}

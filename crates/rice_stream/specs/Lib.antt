@@ -1,5 +1,5 @@
 -- What contracts of this crate cite: what `encode` and `decode` do, at once and in pieces, and their states between.
-pub mod Calls
+pub mod DevicesInCalls
 pub mod Decodes
 pub mod DecodingState
 pub mod Encodes

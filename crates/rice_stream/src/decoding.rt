@@ -5,7 +5,7 @@ ghost use Rattle.rice_bits.specs.Limits.{step_limit, most_bits_read};
 ghost use Rattle.rice_code.specs.decode.BlocksInOnePass.{HasLanes};
 ghost use Rattle.rice_code.specs.decode.BlocksInRow.{GivesBlocks};
 ghost use Rattle.rice_code.specs.decode.RowsOfFields.{AreCounted};
-ghost use Rattle.rice_stream.specs.Calls.{Fails};
+ghost use Rattle.rice_stream.specs.DevicesInCalls.{Fails};
 ghost use Rattle.rice_stream.specs.declared.outcome.Fault.TheVariants.{Write};
 ghost use Rattle.rice_stream.specs.Decodes.{DecodesBetween, DecodesWithin, Reports, wanted_of, ended_fault, refusal_fault};
 

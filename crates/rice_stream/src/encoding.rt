@@ -4,7 +4,7 @@ ghost use Rattle.rice_bits.specs.device.OutletRoom.{Room};
 ghost use Rattle.rice_bits.specs.Bits.{padded_bits};
 ghost use Rattle.rice_samples.specs.Limits.{most_input, longest_segment};
 ghost use Rattle.rice_samples.specs.Parameters.{Parameters, values_at, width};
-ghost use Rattle.rice_stream.specs.Calls.{Fails};
+ghost use Rattle.rice_stream.specs.DevicesInCalls.{Fails};
 ghost use Rattle.rice_stream.specs.Encodes.{EncodesBetween, EncodesWithin, ReportsTaken, ReportsAll, fault_at};
 ghost use Rattle.rice_stream.specs.EncodingState.{Beginning, afresh, whole_part, CanTake, TakesSamples, CountsSamples, IsEncodingOf, FailsIn, WritesRest, CanPush, PushesBytes, PushFails};
 ghost use Rattle.rice_samples.specs.Places.{cut};
@@ -159,7 +159,11 @@ impl<const N: usize> Encoding<N> {
     }
 
     /// Takes all samples, and writes the bytes that each segment completes before it takes the next sample.
-    fn push_each<O: Outlet>(&mut self, levels: &[u32], outlet: &mut O) -> Result<(), WriteFault>
+    fn push_all_levels<O: Outlet>(
+        &mut self,
+        levels: &[u32],
+        outlet: &mut O,
+    ) -> Result<(), WriteFault>
         requires ready { CanTake (O.taken outlet.old) self.old levels.now }
         requires writes { O.failed outlet.old + 1 < 2 ^ 64 }
         ensures ok { OnOk result ((s : Parameters) (old : Beginning) (xs : List ℤ) →
@@ -180,7 +184,7 @@ impl<const N: usize> Encoding<N> {
 
     /// Takes the samples that the bytes spell, some at a time, and writes the bytes that they complete. A last sample that is
     /// cut is left. `levels` is scratch space.
-    pub(crate) fn push_all<O: Outlet>(
+    pub(crate) fn push_samples_of_bytes<O: Outlet>(
         &mut self,
         setting: &Setting,
         bytes: &[u8],
@@ -203,7 +207,7 @@ impl<const N: usize> Encoding<N> {
                     index: self.samples,
                 });
             }
-            match self.push_each(&levels[..count], outlet) {
+            match self.push_all_levels(&levels[..count], outlet) {
                 Ok(()) => at += width * count,
                 Err(_) => return Err(Fault::Write),
             }
@@ -212,7 +216,7 @@ impl<const N: usize> Encoding<N> {
     }
 
     /// Codes the samples that wait, fills the last byte, and returns the report. The sink then holds the rest of the code.
-    fn close(&mut self) -> Report
+    fn code_rest_and_fill(&mut self) -> Report
         requires { (s : Parameters) × (old : Beginning) × (now : Option Room) ×
             (xs : List ℤ) × IsEncodingOf s old now self.old xs × (length xs ≤ most_input) }
         ensures { (s : Parameters) (old : Beginning) (now : Option Room) (xs : List ℤ) →
@@ -240,7 +244,7 @@ impl<const N: usize> Encoding<N> {
             ReportsAll s result.report xs × WritesRest s old (O.taken outlet.new) xs result.fault }
         ensures failures { Fails result.fault 0 0 (O.failed outlet.old) (O.failed outlet.new) }
     {
-        let report = self.close();
+        let report = self.code_rest_and_fill();
         let fault = match write_whole(&mut self.sink, outlet) {
             Ok(()) => None,
             Err(_) => Some(Fault::Write),
@@ -292,9 +296,9 @@ pub fn encode<I: Intake, O: Outlet>(setting: &Setting, intake: &mut I, outlet: &
     ensures bounds { EncodesWithin setting.now result.report }
 {
     if has_short_intervals(setting) {
-        return encode_in_row::<SHORT, I, O>(setting, intake, outlet);
+        return encode_by_sized_coder::<SHORT, I, O>(setting, intake, outlet);
     }
-    encode_in_row::<LONGEST, I, O>(setting, intake, outlet)
+    encode_by_sized_coder::<LONGEST, I, O>(setting, intake, outlet)
 }
 
 /// Returns whether a short row holds the residuals of each segment.
@@ -309,7 +313,7 @@ pub(crate) fn has_short_intervals(setting: &Setting) -> bool
 ///
 /// It is never inlined, so that a call takes the stack of one row.
 #[inline(never)]
-fn encode_in_row<const N: usize, I: Intake, O: Outlet>(
+fn encode_by_sized_coder<const N: usize, I: Intake, O: Outlet>(
     setting: &Setting,
     intake: &mut I,
     outlet: &mut O,
@@ -335,7 +339,7 @@ fn encode_in_row<const N: usize, I: Intake, O: Outlet>(
         if count == 0 {
             return encoding.finish(outlet);
         }
-        match encoding.push_each(&levels[..count], outlet) {
+        match encoding.push_all_levels(&levels[..count], outlet) {
             Ok(()) => {}
             Err(_) => return encoding.stopped(Fault::Write),
         }

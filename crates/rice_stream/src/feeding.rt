@@ -3,7 +3,7 @@ ghost use Rattle.std.specs.Prelude.{◌≡◌, ◌+◌, ◌-◌, ◌*◌, ◌^�
 ghost use Rattle.rice_samples.specs.Limits.{most_input, longest_segment};
 ghost use Rattle.rice_samples.specs.Places.{cut};
 ghost use Rattle.rice_code.specs.encode.OpenSegment.{HoldsAnySegment};
-ghost use Rattle.rice_stream.specs.Calls.{Fails};
+ghost use Rattle.rice_stream.specs.DevicesInCalls.{Fails};
 ghost use Rattle.rice_stream.specs.Encodes.{EncodesWithin};
 ghost use Rattle.rice_stream.specs.EncodingState.{PushFails};
 ghost use Rattle.rice_stream.specs.Feeding.{IsSomeSeam, EncodesOn, EncodesToEnd};
@@ -31,14 +31,14 @@ pub fn encode_more<O: Outlet>(
     ensures failures { PushFails (O.failed outlet.old) (O.failed outlet.new) result }
 {
     if has_short_intervals(setting) {
-        return encode_more_in_row::<SHORT, O>(setting, seam, bytes, outlet);
+        return encode_more_by_sized_coder::<SHORT, O>(setting, seam, bytes, outlet);
     }
-    encode_more_in_row::<LONGEST, O>(setting, seam, bytes, outlet)
+    encode_more_by_sized_coder::<LONGEST, O>(setting, seam, bytes, outlet)
 }
 
 /// Encodes as `encode_more` does, where a row of `N` holds the residuals of each segment.
 #[inline(never)]
-fn encode_more_in_row<const N: usize, O: Outlet>(
+fn encode_more_by_sized_coder<const N: usize, O: Outlet>(
     setting: &Setting,
     seam: &Seam,
     bytes: &[u8],
@@ -62,7 +62,7 @@ fn encode_more_in_row<const N: usize, O: Outlet>(
     let mut encoding = Encoding::<N>::resume(*setting, seam);
     encoding.put_bits_of_seam(seam);
     let mut levels = [0u32; SAMPLES];
-    encoding.push_all(setting, part, &mut levels, outlet)?;
+    encoding.push_samples_of_bytes(setting, part, &mut levels, outlet)?;
     Ok(encoding.seam())
 }
 
@@ -81,14 +81,14 @@ pub fn encode_rest<O: Outlet>(
     ensures bounds { EncodesWithin setting.now result.report }
 {
     if has_short_intervals(setting) {
-        return encode_rest_in_row::<SHORT, O>(setting, seam, bytes, outlet);
+        return encode_rest_by_sized_coder::<SHORT, O>(setting, seam, bytes, outlet);
     }
-    encode_rest_in_row::<LONGEST, O>(setting, seam, bytes, outlet)
+    encode_rest_by_sized_coder::<LONGEST, O>(setting, seam, bytes, outlet)
 }
 
 /// Encodes as `encode_rest` does, where a row of `N` holds the residuals of each segment.
 #[inline(never)]
-fn encode_rest_in_row<const N: usize, O: Outlet>(
+fn encode_rest_by_sized_coder<const N: usize, O: Outlet>(
     setting: &Setting,
     seam: &Seam,
     bytes: &[u8],
@@ -110,7 +110,7 @@ fn encode_rest_in_row<const N: usize, O: Outlet>(
         return encoding.stopped(Fault::TooLong);
     }
     let mut levels = [0u32; SAMPLES];
-    match encoding.push_all(setting, bytes, &mut levels, outlet) {
+    match encoding.push_samples_of_bytes(setting, bytes, &mut levels, outlet) {
         Ok(()) => {}
         Err(fault) => return encoding.stopped(fault),
     }

@@ -22,20 +22,20 @@ pub fn pulls_are_decoding()
 {}
 
 /// The first samples that are pulled, to a count, are those of decoding with that count.
-pub fn enough_is_decoding()
+pub fn pulls_to_a_count_are_decoding()
     ensures { EnoughIsDecoding }
 {}
 
 /// A code that is pulled piece by piece from where one of its intervals begins, to where it ends or to a count, gives the samples that the
 /// whole code decodes to from there on. The front of a code is such a place.
-pub fn seeking_is_decoding()
+pub fn pulls_from_an_interval_are_decoding()
     ensures front { FrontIsPlace }
     ensures all { SeekingIsDecoding }
     ensures enough { EnoughBehindIsDecoding }
 {}
 
 /// Where an interval ends, a stand and a seam tell the place at which the next begins.
-pub fn places_are_told()
+pub fn places_of_intervals_are_told()
     ensures stands { StandsTellPlaces }
     ensures seams { SeamsTellPlaces }
 {}

@@ -3,7 +3,7 @@ ghost use Rattle.std.specs.Prelude.{◌≡◌, ◌⊎◌, ◌+◌, ◌-◌, ◌*
 ghost use Rattle.rice_bits.specs.Limits.{step_limit, most_bits_read};
 ghost use Rattle.rice_code.specs.decode.RowsOfFields.{AreCounted};
 ghost use Rattle.rice_code.specs.decode.PlainBlocks.{IsPlain, PlainRow};
-ghost use Rattle.rice_stream.specs.Calls.{Fails};
+ghost use Rattle.rice_stream.specs.DevicesInCalls.{Fails};
 ghost use Rattle.rice_stream.specs.Decodes.{DecodesBetween, DecodesWithin, wanted_of};
 ghost use Rattle.rice_stream.specs.RowsOfBlocks.{FailsInRow, WritesRow};
 
@@ -71,7 +71,7 @@ pub(crate) fn blocks_wanted(
 /// Returns how many of the next blocks, at most `fit`, are wanted whole, are not compressed, and wait, and writes their bytes. `whole`
 /// says whether the next one is wanted whole.
 #[inline(always)]
-pub(crate) fn row_ahead<I: Intake, const WIDTH: usize>(
+pub(crate) fn spell_row_ahead<I: Intake, const WIDTH: usize>(
     setting: &Setting,
     asked: Option<u64>,
     written: u64,
@@ -182,7 +182,7 @@ pub(crate) fn decode_plain<I: Intake, O: Outlet, const WIDTH: usize>(
             return ended(None, written, reader, &meter);
         }
         let whole = is_whole(count, block);
-        let blocks = row_ahead::<I, WIDTH>(
+        let blocks = spell_row_ahead::<I, WIDTH>(
             &own, asked, written, fit, whole, &decoder, &reader, &mut bytes,
         );
         if blocks > 0 {

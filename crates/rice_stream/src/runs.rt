@@ -14,7 +14,7 @@ use rice_samples::{Setting, bytes_of};
 pub const ROOM: usize = 512;
 
 /// Fills the bytes with `count` copies of the pattern.
-fn repeat_pattern(pattern: &[u8], count: usize, bytes: &mut [u8])
+fn repeat_bytes(pattern: &[u8], count: usize, bytes: &mut [u8])
     requires pattern { 1 ≤ length pattern.now }
     requires count { 1 ≤ count }
     requires len { length bytes.old ≡ length pattern.now * count }
@@ -31,7 +31,7 @@ fn repeat_pattern(pattern: &[u8], count: usize, bytes: &mut [u8])
 }
 
 /// Fills the bytes with the spellings of `count` samples that are all `sample`.
-pub(crate) fn spell_one_sample_again(setting: &Setting, sample: i64, count: usize, bytes: &mut [u8])
+pub(crate) fn spell_copies_of_sample(setting: &Setting, sample: i64, count: usize, bytes: &mut [u8])
     requires sample { IsSample setting.now sample }
     requires count { 1 ≤ count }
     requires len { length bytes.old ≡ width_of setting.now * count }
@@ -44,7 +44,7 @@ pub(crate) fn spell_one_sample_again(setting: &Setting, sample: i64, count: usiz
         bytes.fill(pattern[0]);
         return;
     }
-    repeat_pattern(pattern, count, bytes);
+    repeat_bytes(pattern, count, bytes);
 }
 
 /// Returns how many of the next `run` blocks are written at once: those of which all samples are wanted, as many as `ROOM` bytes have
@@ -104,7 +104,7 @@ pub fn write_run<O: Outlet>(
     let count = block as usize * blocks as usize;
     let width = setting.width() as usize;
     let spelled = &mut bytes[..width * count];
-    spell_one_sample_again(setting, sample, count, spelled);
+    spell_copies_of_sample(setting, sample, count, spelled);
     match write_counted(outlet, spelled) {
         Ok(()) => Ok(count as u64),
         Err(taken) => Err((taken / (width * block as usize)) as u64 * block as u64),

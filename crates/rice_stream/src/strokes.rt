@@ -8,8 +8,8 @@ ghost use Rattle.rice_code.specs.decode.PlainBlocks.{IsPlain};
 ghost use Rattle.rice_stream.specs.Pulling.{HasComeTo, TakesStroke, WritesStroke, stand_at};
 
 use crate::patience::Patience;
-use crate::plain::{blocks_wanted, row_ahead};
-use crate::runs::{blocks_at_once, spell_one_sample_again};
+use crate::plain::{blocks_wanted, spell_row_ahead};
+use crate::runs::{blocks_at_once, spell_copies_of_sample};
 use crate::stand::Stand;
 use rice_bits::{BitReader, Meter, SliceIn};
 use rice_code::Decoder;
@@ -44,7 +44,7 @@ fn spell_again_at(setting: &Setting, sample: i64, count: usize, at: usize, sampl
         ++ drop (at + width_of setting.now * count) samples.old) }
 {
     let len = setting.width() as usize * count;
-    spell_one_sample_again(setting, sample, count, &mut samples[at..at + len]);
+    spell_copies_of_sample(setting, sample, count, &mut samples[at..at + len]);
 }
 
 /// Returns where decoding stands behind `samples` samples more. The reader had taken `before` bits at `stand`, and the steps of those
@@ -175,7 +175,7 @@ fn next_plain_blocks<const WIDTH: usize>(
     ensures len { length samples.new ≡ length samples.old }
 {
     let fit = ((samples.len() - at) / WIDTH) as u64;
-    let blocks = row_ahead::<SliceIn<'_>, WIDTH>(
+    let blocks = spell_row_ahead::<SliceIn<'_>, WIDTH>(
         setting,
         Some(fit),
         0,

@@ -20,7 +20,7 @@ use Rattle.rice_code.proofs.lemmas.cost.PaddingBounds.{padding_is_bounded}
 use Rattle.rice_code.proofs.lemmas.code.SoundBlocks.{code_is_bounded}
 use Rattle.rice_samples.proofs.lemmas.setting.LevelsOfSamples.{zero_is_sample}
 use Rattle.rice_samples.proofs.lemmas.bytes.SpellingLengths.{length-spellings}
-use Rattle.rice_stream.specs.Calls.{Call, StopsBetween}
+use Rattle.rice_stream.specs.DevicesInCalls.{Call, StopsBetween}
 use Rattle.rice_stream.specs.Encodes.{Encodes, FailsBehind, FailsAtEnd}
 use Rattle.rice_stream.specs.Decodes.{Decodes}
 use Rattle.rice_stream.specs.declared.outcome.Report.{Report}

@@ -2,7 +2,7 @@
 use Rattle.std.proofs.Common.{◌≡◌, ℕ, List, [], Option, Some, None, Result, Ok, Err, refl, sym, ◌∙◌, ap, inl, inr, append-nil, ℤ}
 use Rattle.rice_bits.specs.device.OutletRoom.{Room, Fills}
 use Rattle.rice_samples.specs.Parameters.{Parameters}
-use Rattle.rice_stream.specs.Calls.{Fails}
+use Rattle.rice_stream.specs.DevicesInCalls.{Fails}
 use Rattle.rice_stream.specs.EncodingState.{PushFails}
 use Rattle.rice_stream.specs.Feeding.{EncodesMore, EncodesRest}
 use Rattle.rice_stream.specs.declared.outcome.Fault.{Fault}

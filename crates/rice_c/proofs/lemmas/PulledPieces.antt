@@ -20,7 +20,7 @@ use Rattle.rice_stream.specs.declared.outcome.Fault.TheVariants as faults
 use Rattle.rice_stream.specs.declared.stand.Pause.{Pause}
 use Rattle.rice_stream.specs.declared.stand.Pause.TheVariants as pauses
 use Rattle.rice_stream.specs.declared.stand.Stand.{Stand}
-use Rattle.rice_stream.proofs.lemmas.OneDecoding.{FaultOf, decodes_as, never_reached}
+use Rattle.rice_stream.proofs.lemmas.CallsDecodeAsDefined.{FaultOf, decodes_as, never_reached}
 use Rattle.rice_stream.proofs.lemmas.PulledPieces.{seek_all, seek_enough, stands_tell_places}
 use Rattle.rice_stream.proofs.lemmas.ReturnedBytes.{decoded_before}
 use Rattle.rice_samples.proofs.lemmas.bytes.SpellingLengths.{length-spellings, spellings-append}

@@ -6,7 +6,7 @@ use Rattle.rice_samples.specs.Parameters.{Parameters, IsLegal, width}
 use Rattle.rice_samples.specs.bytes.Spelling.{spellings}
 use Rattle.rice_samples.proofs.lemmas.bytes.SpellingLengths.{length-spellings}
 use Rattle.rice_stream.proofs.lemmas.ReturnedBytes as stream
-use Rattle.rice_stream.specs.Calls.{Call}
+use Rattle.rice_stream.specs.DevicesInCalls.{Call}
 use Rattle.rice_stream.specs.Encodes.{Encodes}
 use Rattle.rice_stream.specs.Decodes.{Decodes}
 use Rattle.rice_stream.specs.declared.outcome.Fault.{Fault}

@@ -1,7 +1,7 @@
 -- What became of the slice that an outlet began with.
 use Rattle.std.proofs.Common.{◌≡◌, ◌≢◌, ℕ, ◌+◌, ◌<◌, List, [], ◌++◌, length, Option, Some, sym, ◌∙◌, ap, subst, arith, length-append}
 use Rattle.rice_bits.specs.device.OutletRoom.{Room, begun, Fills}
-use Rattle.rice_stream.specs.Calls.{Fails}
+use Rattle.rice_stream.specs.DevicesInCalls.{Fails}
 use Rattle.rice_stream.specs.declared.outcome.Fault.{Fault}
 use Rattle.rice_stream.specs.declared.outcome.Fault.TheVariants.{Read, Write}
 use Rattle.rice_c.specs.Calls.{WritesFront}

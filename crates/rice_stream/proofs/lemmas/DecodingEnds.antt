@@ -32,7 +32,7 @@ use Rattle.rice_code.specs.code.Forms.{IsForm, RunIsSound, ResidualsAreSound}
 use Rattle.rice_code.specs.decode.ReadSets.{SetCut}
 use Rattle.rice_code.specs.declared.decode.call_results.CodeFault.{CodeFault}
 use Rattle.rice_code.specs.declared.decode.call_results.CodeFault.TheVariants as faults
-use Rattle.rice_stream.specs.Calls.{Call, Fails, StopsBetween}
+use Rattle.rice_stream.specs.DevicesInCalls.{Call, Fails, StopsBetween}
 use Rattle.rice_stream.specs.Decodes.{CountsSteps, DecodesBetween, EndsInTurns, Reports, EndsDecoding, DecodesBytes, RunsOut, at_most, wanted_of, ended_fault, refusal_fault}
 use Rattle.rice_stream.specs.DecodingState.{DecodedSoFar, Gains, DecodingProgress, HasRead, HasSets}
 use Rattle.rice_stream.specs.FailedWrites.{TakesPart}

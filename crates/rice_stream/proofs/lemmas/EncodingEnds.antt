@@ -11,7 +11,7 @@ use Rattle.rice_samples.specs.bytes.SampleReader.{SamplesAhead, GivesSamples, St
 use Rattle.rice_samples.specs.bytes.Spelling.{Spells, Reads, spellings, EndsSpelling, AtEnd, NoSpelling, TooFew}
 use Rattle.rice_samples.specs.declared.bytes.sample_fault.SampleFault.{SampleFault}
 use Rattle.rice_samples.specs.declared.bytes.sample_fault.SampleFault.TheVariants as faults
-use Rattle.rice_stream.specs.Calls.{Fails, IsWithinLimit, PassesLimit, StopsBetween}
+use Rattle.rice_stream.specs.DevicesInCalls.{Fails, IsWithinLimit, PassesLimit, StopsBetween}
 use Rattle.rice_stream.specs.EncodingState.{Beginning, afresh, IsEncodingOf, CountsSamples, FailsIn, WritesRest, EncodingProgress, Pushes, PushFails}
 use Rattle.rice_stream.specs.Encodes.{fault_at, EncodesBetween, EndsEncoding, EncodesWithin, ReportsTaken, ReportsAll, LeavesEarly, SpellsSoFar}
 use Rattle.rice_code.specs.code.Code.{code_bits, output, early_output, complete_samples}
@@ -23,7 +23,7 @@ use Rattle.rice_stream.proofs.lemmas.EncodingBounds.{Settles, early_bounded, all
 use Rattle.rice_stream.proofs.lemmas.EncodingLemmas.{Follows-all, fails_among, settled_by}
 use Rattle.rice_samples.proofs.lemmas.bytes.GivenSamples.{reads_then, reads_before}
 use Rattle.rice_samples.proofs.lemmas.bytes.SpellingLengths.{length-spellings, some_width, narrow_width}
-use Rattle.rice_stream.proofs.lemmas.SamplesInParts.{few_more}
+use Rattle.rice_stream.proofs.lemmas.SamplesTakenInTurn.{few_more}
 
 -- a call that stops early is within the bounds
 pub within_early : (s : Parameters) (r : Report) (xs : List ℤ) → Settles s xs → ReportsTaken s r xs → EncodesWithin s r

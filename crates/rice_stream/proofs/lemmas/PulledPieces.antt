@@ -315,8 +315,8 @@ pulls_are_decoding s code first pulls last behind ending begins pulled last_pull
     (p.samples, p.used, p.parts, p.decoded)
 
 -- and up to a number of samples
-pub enough_is_decoding : EnoughIsDecoding
-enough_is_decoding s code first pulls n begins pulled enough few =
+pub pulls_to_a_count_are_decoding : EnoughIsDecoding
+pulls_to_a_count_are_decoding s code first pulls n begins pulled enough few =
     let p = pulled_enough s code at_front first pulls n (omega arith) begins pulled (omega (arith, enough)) (omega (arith, few)) in
     let bits : p.used ≡ (last_stand first pulls).bits = omega (arith, p.bits) in
     (p.samples, p.parts, subst (λ (m : ℕ). Decoded s (bits_of code) (Some n) (take n p.samples) Reached m) bits p.decoded)
@@ -357,8 +357,8 @@ seek_all s code o before first pulls last behind ending place begins pulled last
       count = omega (arith, p.count, place.count, length-append before p.samples);
     }
 
-pub seeking_is_decoding : SeekingIsDecoding
-seeking_is_decoding s code o before first pulls last behind ending place begins pulled last_pulled ends =
+pub pulls_from_an_interval_are_decoding : SeekingIsDecoding
+pulls_from_an_interval_are_decoding s code o before first pulls last behind ending place begins pulled last_pulled ends =
     let p = seek_all s code o before first pulls last behind ending place begins pulled last_pulled ends in
     (p.samples, p.used, p.parts, p.decoded)
 

@@ -22,7 +22,7 @@ use Rattle.rice_code.proofs.lemmas.meaning.SamplesAreReturned as returned
 use Rattle.rice_code.proofs.lemmas.code.SoundBlocks.{code_is_bounded}
 use Rattle.rice_stream.proofs.lemmas.EncodingBounds.{block_bound_le}
 use Rattle.rice_samples.proofs.lemmas.bytes.SpellingLengths.{length-spellings, spellings-append}
-use Rattle.rice_stream.specs.Calls.{Call, PassesLimit}
+use Rattle.rice_stream.specs.DevicesInCalls.{Call, PassesLimit}
 use Rattle.rice_stream.specs.Decodes.{DecodesBytes, EndsDecoding}
 use Rattle.rice_stream.specs.Laws.{ReturnsBytes, ReturnsBytesAndFill}
 use Rattle.rice_stream.specs.declared.outcome.Fault.{Fault}

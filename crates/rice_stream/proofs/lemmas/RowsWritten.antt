@@ -15,7 +15,7 @@ use Rattle.rice_code.specs.decode.Decoder.{GivesSet, with_mark}
 use Rattle.rice_code.specs.decode.DecoderState.{DecoderState}
 use Rattle.rice_code.specs.decode.RowsOfFields.{AreCounted}
 use Rattle.rice_code.specs.decode.PlainBlocks.{GivesRow}
-use Rattle.rice_stream.specs.Calls.{Fails}
+use Rattle.rice_stream.specs.DevicesInCalls.{Fails}
 use Rattle.rice_stream.specs.Decodes.{DecodesBetween, DecodesWithin, Reports, wanted_of}
 use Rattle.rice_stream.specs.DecodingState.{DecodingProgress}
 use Rattle.rice_stream.specs.RowsOfBlocks.{FailsInRow, WritesRow, row_bytes}

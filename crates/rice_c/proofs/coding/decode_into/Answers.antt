@@ -1,7 +1,7 @@
 use Rattle.std.proofs.Common.{◌++◌, List, ℕ, Some, sym, ◌∙◌, subst, ap, length, take-append-drop}
 use Rattle.rice_bits.specs.device.OutletRoom.{Room, begun}
 use Rattle.rice_bits.specs.device.Slice.{slice_left, slice_state}
-use Rattle.rice_stream.specs.Calls.{Happens}
+use Rattle.rice_stream.specs.DevicesInCalls.{Happens}
 use Rattle.rice_stream.specs.Decodes.{Decodes, DecodesWithin}
 use Rattle.rice_stream.specs.declared.outcome.Report.{Report}
 use Rattle.rice_c.proofs.lemmas.WrittenMemory.{writes_front}

@@ -1,7 +1,7 @@
 use Rattle.rice_stream.proofs.encoding.encode.Goals as goal
 
-pub encode_in_row-requires-clause-room : goal.encode_in_row-requires-clause-room
-encode_in_row-requires-clause-room g c = c.has_short_intervals.ensures.short c.if-has_short_intervals.true
+pub encode_by_sized_coder-requires-clause-room : goal.encode_by_sized_coder-requires-clause-room
+encode_by_sized_coder-requires-clause-room g c = c.has_short_intervals.ensures.short c.if-has_short_intervals.true
 
-pub encode_in_row-requires-2-clause-room : goal.encode_in_row-requires-2-clause-room
-encode_in_row-requires-2-clause-room g c = c.has_short_intervals.ensures.any
+pub encode_by_sized_coder-requires-2-clause-room : goal.encode_by_sized_coder-requires-2-clause-room
+encode_by_sized_coder-requires-2-clause-room g c = c.has_short_intervals.ensures.any

@@ -145,27 +145,27 @@ returns-then-count-eq0-clause-idle g c none = c.ended.ensures.intake ∙ ap (λ 
 
 pub returns-in-Err-clause-call : goal.returns-in-Err-clause-call
 returns-in-Err-clause-call g c =
-    let row = c.row_ahead-blocks.ensures in
+    let row = c.spell_row_ahead-blocks.ensures in
     let some = c.if-blocks-gt0.true in
     row_fails c.block-block.ensures.legal c.decode_all.invariant.runs (row.run some) c.in-Err.ensures.err (row.wanted some) c.tick-in-Err.ensures c.ended-in-Err.ensures.reports
 
 pub returns-in-Err-clause-failures : goal.returns-in-Err-clause-failures
 returns-in-Err-clause-failures g c =
     let i = c.decode_all.invariant in
-    let row = c.row_ahead-blocks.ensures in
+    let row = c.spell_row_ahead-blocks.ensures in
     row_fails_so (g.O.Outlet.failed c.args.outlet.now) (g.O.Outlet.failed c.write_row.new.outlet) i.runs (row.run c.if-blocks-gt0.true) c.in-Err.ensures.err
     (c.in-Err.ensures.failure ∙ ap (λ n. n + 1) i.writes) c.ended-in-Err.ensures.reports
 
 pub returns-in-Err-clause-bounds : goal.returns-in-Err-clause-bounds
 returns-in-Err-clause-bounds g c =
-    let row = c.row_ahead-blocks.ensures in
+    let row = c.spell_row_ahead-blocks.ensures in
     let some = c.if-blocks-gt0.true in
     row_fails_within c.decode_all.invariant.runs (row.run some) c.in-Err.ensures.err c.in-Err.ensures.counted (row.wanted some) c.tick-in-Err.ensures c.ended-in-Err.ensures.reports
 
 pub decode_all-preserved-in-Ok : goal.decode_all-preserved-in-Ok
 decode_all-preserved-in-Ok g c =
     let i = c.decode_all.invariant in
-    let row = c.row_ahead-blocks.ensures in
+    let row = c.spell_row_ahead-blocks.ensures in
     let some = c.if-blocks-gt0.true in
     record {
       runs = progress_with_row c.block-block.ensures.legal i.runs (row.run some) c.in-Ok.ensures.ok (row.wanted some) c.tick.ensures;
@@ -175,7 +175,7 @@ decode_all-preserved-in-Ok g c =
 pub decode_all-smaller-in-Ok : goal.decode_all-smaller-in-Ok
 decode_all-smaller-in-Ok g c =
     let i = c.decode_all.invariant in
-    let row = c.row_ahead-blocks.ensures in
+    let row = c.spell_row_ahead-blocks.ensures in
     let some = c.if-blocks-gt0.true in
     let more = row_takes c.block-block.ensures.legal i.runs (row.run some) some c.in-Ok.ensures.ok in
     let none : c.write_row.new.decoder.run * c.write_row.new.decoder.setting.block ≡ 0 = ap (λ n. n * c.write_row.new.decoder.setting.block) c.in-Ok.ensures.run ∙ omega arith in

@@ -10,8 +10,8 @@ slice_bounds-spelled-end g c =
     (let w = c.width-width.ensures.value in let b = c.block-block.ensures.value in rw (w, b) (let r = c.blocks_at_once-blocks.ensures.room in omega (arith, r))) in
     omega (arith, e)
 
-pub spell_one_sample_again-requires-clause-sample : goal.spell_one_sample_again-requires-clause-sample
-spell_one_sample_again-requires-clause-sample g c =
+pub spell_copies_of_sample-requires-clause-sample : goal.spell_copies_of_sample-requires-clause-sample
+spell_copies_of_sample-requires-clause-sample g c =
     let p = c.args.decoder.now in
     let z = c.before-sample.result in
     let same : to_z w64 (of_z w64 z) ≡ z = to_z-of_z {w = w64} {z = z} (record { sfits = c.before-sample.type_inv }) in
@@ -27,9 +27,9 @@ returns-in-Err-clause-err g c =
     let blocks = c.blocks_at_once-blocks in
     let width = c.width-width.ensures in
     let block = c.block-block.ensures in
-    let spelled = c.spell_one_sample_again.ensures ∙ ap (λ x. spellings s (replicate (c.block-block.result * blocks.result) x)) same in
+    let spelled = c.spell_copies_of_sample.ensures ∙ ap (λ x. spellings s (replicate (c.block-block.result * blocks.result) x)) same in
     let taken = c.in-Err.ensures.err in
     run_cut s c.args.asked c.args.written blocks.result c.in-Err.taken c.width-width.result c.block-block.result p c.pass_blocks_of_run.new.self
-    (g.O.Outlet.taken c.args.outlet.now) (g.O.Outlet.taken c.write_counted.new.outlet) c.spell_one_sample_again.new.bytes
+    (g.O.Outlet.taken c.args.outlet.now) (g.O.Outlet.taken c.write_counted.new.outlet) c.spell_copies_of_sample.new.bytes
     (omega (arith, block.value, block.range)) (omega (arith, width.value, width.range)) width.value block.value c.pass_blocks_of_run.ensures.gives
     c.pass_blocks_of_run.ensures.run blocks.ensures.wanted spelled taken.0 taken.1

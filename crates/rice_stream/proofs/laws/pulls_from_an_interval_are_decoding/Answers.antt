@@ -1,11 +1,11 @@
 use Rattle.rice_stream.proofs.lemmas.PulledPieces as pulled
-use Rattle.rice_stream.proofs.laws.seeking_is_decoding.Goals as goal
+use Rattle.rice_stream.proofs.laws.pulls_from_an_interval_are_decoding.Goals as goal
 
 pub returns-clause-front : goal.returns-clause-front
 returns-clause-front c = pulled.front_is_place
 
 pub returns-clause-all : goal.returns-clause-all
-returns-clause-all c = pulled.seeking_is_decoding
+returns-clause-all c = pulled.pulls_from_an_interval_are_decoding
 
 pub returns-clause-enough : goal.returns-clause-enough
 returns-clause-enough c = pulled.enough_behind_is_decoding

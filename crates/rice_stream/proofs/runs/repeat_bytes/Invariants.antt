@@ -1,6 +1,6 @@
 use Rattle.std.proofs.Common.{◌≡◌, ◌-◌, ◌*◌, ◌≤◌, length, take}
 use Rattle.rice_stream.specs.RunsOfBlocks.{repeated}
-use Rattle.rice_stream.proofs.runs.repeat_pattern.Given as goal
+use Rattle.rice_stream.proofs.runs.repeat_bytes.Given as goal
 
 abbrev pub invariant-repeat : goal.invariant-repeat
 invariant-repeat l = record {

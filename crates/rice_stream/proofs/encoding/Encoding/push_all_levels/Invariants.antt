@@ -1,7 +1,7 @@
 use Rattle.std.proofs.Common.{◌≡◌, ◌≤◌, ◌-◌, ◌++◌, List, length, take, ℤ}
 use Rattle.rice_samples.specs.Parameters.{Parameters, values_at}
 use Rattle.rice_stream.specs.EncodingState.{Beginning, IsEncodingOf}
-use Rattle.rice_stream.proofs.encoding.Encoding.push_each.Given as goal
+use Rattle.rice_stream.proofs.encoding.Encoding.push_all_levels.Given as goal
 
 abbrev pub invariant-loop-at : goal.invariant-loop-at
 invariant-loop-at g l = record {

@@ -1,7 +1,7 @@
 use Rattle.std.proofs.Common.{◌≡◌, ◌≤◌, ◌+◌, ◌*◌, ◌∙◌, ap, arith, length, take}
 use Rattle.std.proofs.Math.Nat.{mul-le-mul_left}
 use Rattle.rice_stream.proofs.lemmas.RunsWritten.{copied-on, first-copy}
-use Rattle.rice_stream.proofs.runs.repeat_pattern.Goals as goal
+use Rattle.rice_stream.proofs.runs.repeat_bytes.Goals as goal
 
 pub copy_within-requires-clause-dest_in_bounds : goal.copy_within-requires-clause-dest_in_bounds
 copy_within-requires-clause-dest_in_bounds c =

@@ -17,7 +17,7 @@ use Rattle.rice_code.specs.code.Layout.{block_after}
 use Rattle.rice_code.proofs.lemmas.code.Layouts.{ends_inside}
 use Rattle.rice_code.proofs.lemmas.meaning.DecodingByPlacesAlone.{ends_there}
 use Rattle.rice_code.proofs.lemmas.meaning.DecodedInOneWay.{decoded_is_one}
-use Rattle.rice_stream.specs.Calls.{Call}
+use Rattle.rice_stream.specs.DevicesInCalls.{Call}
 use Rattle.rice_stream.specs.Decodes.{DecodesBytes, EndsDecoding, RunsOut}
 use Rattle.rice_stream.specs.declared.outcome.Report.{Report}
 use Rattle.rice_stream.specs.declared.outcome.Fault.{Fault}

@@ -1,7 +1,7 @@
 use Rattle.std.proofs.Common.{List, ℤ, length, drop, ◌-◌, ◌++◌, ◌≡◌, ◌≤◌}
 use Rattle.rice_samples.specs.bytes.Spelling.{Reads}
 use Rattle.rice_stream.specs.EncodingState.{Beginning, IsEncodingOf}
-use Rattle.rice_stream.proofs.encoding.Encoding.push_all.Given as goal
+use Rattle.rice_stream.proofs.encoding.Encoding.push_samples_of_bytes.Given as goal
 
 abbrev pub invariant-loop-at : goal.invariant-loop-at
 invariant-loop-at g l = record {

@@ -5,7 +5,7 @@ use Rattle.rice_code.specs.code.Blocks.{fill_count_of}
 use Rattle.rice_code.specs.encode.Coder.{AddsCode}
 use Rattle.rice_stream.specs.declared.outcome.Report.{Report}
 use Rattle.rice_stream.proofs.lemmas.EncodingLemmas.{all_small, counts_small, sink_short, samples_end}
-use Rattle.rice_stream.proofs.encoding.Encoding.close.Goals as goal
+use Rattle.rice_stream.proofs.encoding.Encoding.code_rest_and_fill.Goals as goal
 
 pub finish_reset-bits-requires : goal.finish_reset-bits-requires
 finish_reset-bits-requires g c =

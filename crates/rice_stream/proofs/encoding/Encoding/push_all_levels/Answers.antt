@@ -8,7 +8,7 @@ use Rattle.rice_samples.specs.Parameters.{Parameters, value_at, value_count, val
 use Rattle.rice_samples.proofs.lemmas.setting.ValuesByLevels.{length-values}
 use Rattle.rice_stream.specs.EncodingState.{IsEncodingOf, FailsIn}
 use Rattle.rice_stream.proofs.lemmas.EncodingLemmas.{fails_later}
-use Rattle.rice_stream.proofs.encoding.Encoding.push_each.Goals as goal
+use Rattle.rice_stream.proofs.encoding.Encoding.push_all_levels.Goals as goal
 
 -- the levels from a place on, and the samples
 from : (at : ℕ) (levels : List ℕ) → take (length levels - at) (drop at levels) ≡ drop at levels

@@ -10,7 +10,7 @@ use Rattle.rice_stream.specs.Encodes.{fault_at, EncodesBetween}
 use Rattle.rice_stream.specs.declared.outcome.Fault.{Fault}
 use Rattle.rice_stream.proofs.lemmas.EncodingLemmas.{settled_by}
 use Rattle.rice_stream.proofs.lemmas.EncodingEnds.{within_early, within_all, few_given, reads_further, reads_none, reading_ends, reading_fails, finish_ends, writing_ends}
-use Rattle.rice_stream.proofs.encoding.encode_in_row.Goals as goal
+use Rattle.rice_stream.proofs.encoding.encode_by_sized_coder.Goals as goal
 
 -- so many samples are taken
 taken_count : (s : Parameters) (levels : List ℕ) (n : ℕ) → n ≤ length levels → (length (take n levels) ≡ n) × (length (take n (values_at s levels)) ≡ n)
@@ -79,8 +79,8 @@ returns-then-count-eq0-clause-bounds g c =
     let did = c.finish.ensures.did s (afresh (g.O.Outlet.taken c.args.outlet.now)) runs.samples runs.holds in
     within_all s c.finish.result.report runs.samples (settled_by s c.encode_all.encoding runs.samples runs.holds.counts) did.0
 
-pub push_each-requires : goal.push_each-requires
-push_each-requires g c =
+pub push_all_levels-requires : goal.push_all_levels-requires
+push_all_levels-requires g c =
     let s = c.args.setting.now in
     let i = c.encode_all.invariant in
     let start = g.O.Outlet.taken c.args.outlet.now in
@@ -112,7 +112,7 @@ encode_all-smaller g c =
     (g.O.Outlet.taken c.encode_all.outlet) c.encode_all.encoding c.encode_all.samples c.next.new.self _ runs says.gives in
     let n = taken_count c.encode_all.samples.setting c.next.new.levels c.in-Ok.count says.count in
     let more = take c.in-Ok.count c.next.new.levels in
-    let all = c.in-Ok-push_each.ensures.ok s (afresh start) runs.samples runs.holds in
+    let all = c.in-Ok-push_all_levels.ensures.ok s (afresh start) runs.samples runs.holds in
     omega (arith, few, n.0, n.1, says.limits.1, runs.holds.counts.samples, all.counts.samples, length-append runs.samples (values_at s more), length-values s more, c.if-count-eq0.false)
 
 pub encode_all-preserved : goal.encode_all-preserved
@@ -122,52 +122,52 @@ encode_all-preserved g c =
     let left = g.I.Intake.left c.encode_all.intake in
     let new = g.I.Intake.left c.next.new.intake in
     let start = g.O.Outlet.taken c.args.outlet.now in
-    let taken = g.O.Outlet.taken c.push_each.new.outlet in
+    let taken = g.O.Outlet.taken c.push_all_levels.new.outlet in
     let levels = c.next.new.levels in
     let n = c.in-Ok.count in
     let ys = take n (values_at s levels) in
     let gives = subst (λ (s : Parameters). GivesSamples c.encode_all.samples c.next.new.self left new (take n (values_at s levels))) i.runs.setting c.in-Ok.ensures.gives in
-    let holds = subst (λ (l : List ℤ). IsEncodingOf s (afresh start) taken c.push_each.new.self (i.runs.samples ++ l)) (sym (take-map (value_at s) n levels))
-    (c.in-Ok-push_each.ensures.ok s (afresh start) i.runs.samples i.runs.holds) in
+    let holds = subst (λ (l : List ℤ). IsEncodingOf s (afresh start) taken c.push_all_levels.new.self (i.runs.samples ++ l)) (sym (take-map (value_at s) n levels))
+    (c.in-Ok-push_all_levels.ensures.ok s (afresh start) i.runs.samples i.runs.holds) in
     record {
-      runs = reads_further s (g.I.Intake.left c.args.intake.now) left new start (g.O.Outlet.taken c.encode_all.outlet) taken c.encode_all.encoding c.push_each.new.self
+      runs = reads_further s (g.I.Intake.left c.args.intake.now) left new start (g.O.Outlet.taken c.encode_all.outlet) taken c.encode_all.encoding c.push_all_levels.new.self
           c.encode_all.samples c.next.new.self ys i.runs gives holds;
       room = c.in-Ok.ensures.len ∙ i.room;
       reads = c.in-Ok.ensures.failures ∙ i.reads;
-      writes = c.in-Ok-push_each.ensures.calm ∙ i.writes;
+      writes = c.in-Ok-push_all_levels.ensures.calm ∙ i.writes;
     }
 
-pub returns-in-Err-push_each-clause-call : goal.returns-in-Err-push_each-clause-call
-returns-in-Err-push_each-clause-call g c =
+pub returns-in-Err-push_all_levels-clause-call : goal.returns-in-Err-push_all_levels-clause-call
+returns-in-Err-push_all_levels-clause-call g c =
     let s = c.args.setting.now in
     let runs = c.encode_all.invariant.runs in
     let left_old = g.I.Intake.left c.args.intake.now in
     let left = g.I.Intake.left c.encode_all.intake in
     let new = g.I.Intake.left c.next.new.intake in
     let start = g.O.Outlet.taken c.args.outlet.now in
-    let taken = g.O.Outlet.taken c.push_each.new.outlet in
+    let taken = g.O.Outlet.taken c.push_all_levels.new.outlet in
     let levels = c.next.new.levels in
     let says = c.in-Ok.ensures in
     let n = c.in-Ok.count in
     let ys = take n (values_at s levels) in
-    let o = c.stopped-in-Err-push_each in
+    let o = c.stopped-in-Err-push_all_levels in
     let gives = subst (λ (s : Parameters). GivesSamples c.encode_all.samples c.next.new.self left new (take n (values_at s levels))) runs.setting says.gives in
-    let fails = subst (λ (l : List ℤ). FailsIn s (afresh start) taken c.push_each.new.self runs.samples l) (sym (take-map (value_at s) n levels))
-    (c.in-Err-push_each.ensures.err s (afresh start) runs.samples runs.holds) in
+    let fails = subst (λ (l : List ℤ). FailsIn s (afresh start) taken c.push_all_levels.new.self runs.samples l) (sym (take-map (value_at s) n levels))
+    (c.in-Err-push_all_levels.ensures.err s (afresh start) runs.samples runs.holds) in
     let count : length ys ≡ n = (taken_count s levels n says.count).1 in
     let piece : width s * n + length c.next.new.self.waiting ≤ 4096 = subst (λ (s : Parameters). width s * n + length c.next.new.self.waiting ≤ 4096) runs.setting says.piece in
     subst (λ (f : Option Fault). EncodesBetween s left_old new start taken o.result.report f) (sym o.ensures.fault)
-    (writing_ends s left_old left new start (g.O.Outlet.taken c.encode_all.outlet) taken c.encode_all.encoding c.push_each.new.self c.encode_all.samples c.next.new.self
+    (writing_ends s left_old left new start (g.O.Outlet.taken c.encode_all.outlet) taken c.encode_all.encoding c.push_all_levels.new.self c.encode_all.samples c.next.new.self
     o.result.report ys runs gives fails (omega (arith, piece, ap (λ n. width s * n) count)) says.limits.1 (λ xs h. o.ensures.told s xs h))
 
-pub returns-in-Err-push_each-clause-bounds : goal.returns-in-Err-push_each-clause-bounds
-returns-in-Err-push_each-clause-bounds g c =
+pub returns-in-Err-push_all_levels-clause-bounds : goal.returns-in-Err-push_all_levels-clause-bounds
+returns-in-Err-push_all_levels-clause-bounds g c =
     let s = c.args.setting.now in
     let runs = c.encode_all.invariant.runs in
-    let fails = c.in-Err-push_each.ensures.err s (afresh (g.O.Outlet.taken c.args.outlet.now)) runs.samples runs.holds in
+    let fails = c.in-Err-push_all_levels.ensures.err s (afresh (g.O.Outlet.taken c.args.outlet.now)) runs.samples runs.holds in
     let xs = (runs.samples ++ fails.before) ++ fails.last ∷ [] in
     let k = fails.fails.counts in
-    within_early s c.stopped-in-Err-push_each.result.report xs (settled_by s c.push_each.new.self xs k) (c.stopped-in-Err-push_each.ensures.told s xs k)
+    within_early s c.stopped-in-Err-push_all_levels.result.report xs (settled_by s c.push_all_levels.new.self xs k) (c.stopped-in-Err-push_all_levels.ensures.told s xs k)
 
 pub returns-in-Err-clause-failures : goal.returns-in-Err-clause-failures
 returns-in-Err-clause-failures g c =

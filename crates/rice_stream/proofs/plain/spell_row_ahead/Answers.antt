@@ -1,6 +1,6 @@
 use Rattle.std.proofs.Common.{arith}
 use Rattle.std.proofs.lemmas.Grind.{common_steps}
-use Rattle.rice_stream.proofs.plain.row_ahead.Goals as goal
+use Rattle.rice_stream.proofs.plain.spell_row_ahead.Goals as goal
 
 pub returns-clause-row : goal.returns-clause-row
 returns-clause-row g c = c.plain_blocks.ensures.row

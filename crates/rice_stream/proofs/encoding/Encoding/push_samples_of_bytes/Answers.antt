@@ -10,8 +10,8 @@ use Rattle.rice_samples.specs.bytes.Spelling.{Reads, IsNoSpelling}
 use Rattle.rice_samples.proofs.lemmas.bytes.GivenSamples.{reads_then}
 use Rattle.rice_stream.specs.EncodingState.{IsEncodingOf, FailsIn}
 use Rattle.rice_stream.proofs.lemmas.EncodingLemmas.{fails_among, fails_behind}
-use Rattle.rice_stream.proofs.lemmas.SamplesInParts.{few_more}
-use Rattle.rice_stream.proofs.encoding.Encoding.push_all.Goals as goal
+use Rattle.rice_stream.proofs.lemmas.SamplesTakenInTurn.{few_more}
+use Rattle.rice_stream.proofs.encoding.Encoding.push_samples_of_bytes.Goals as goal
 
 -- the bytes from a place on
 from : (at : ℕ) (bytes : List ℕ) → take (length bytes - at) (drop at bytes) ≡ drop at bytes
@@ -43,8 +43,8 @@ returns-then-count-eq0-clause-did g c old xs h =
     let none = subst (IsNoSpelling s) (from at bytes) (c.first_levels-count.ensures.none c.if-count-eq0.true) in
     (record { more = p.0; rest = drop at bytes; reads = p.1; none = (wide, none); holds = p.2 }, refl)
 
-pub push_each-requires : goal.push_each-requires
-push_each-requires g c =
+pub push_all_levels-requires : goal.push_all_levels-requires
+push_all_levels-requires g c =
     let s = c.args.setting.now in
     let bytes = c.args.bytes.now in
     let at = c.loop-at.at in
@@ -92,7 +92,7 @@ loop-at-preserved g c =
           let taken = ap (λ l. (xs ++ p.0) ++ l) (sym (take-map (value_at s) f.result f.new.levels)) ∙ append_assoc xs p.0 ys in (
             p.0 ++ ys,
             reads_then s bytes (drop at bytes) (drop (at + w * f.result) bytes) p.0 ys p.1 (read_from s bytes at f.result w ys f.ensures.reads c.width-width.ensures.value),
-            subst (λ (l : List ℤ). IsEncodingOf s old (g.O.Outlet.taken c.push_each.new.outlet) c.push_each.new.self l) taken (c.in-Ok.ensures.ok s old (xs ++ p.0) p.2),
+            subst (λ (l : List ℤ). IsEncodingOf s old (g.O.Outlet.taken c.push_all_levels.new.outlet) c.push_all_levels.new.self l) taken (c.in-Ok.ensures.ok s old (xs ++ p.0) p.2),
           ));
       failures = c.in-Ok.ensures.calm ∙ i.failures;
       room = f.ensures.len ∙ i.room;
@@ -106,8 +106,8 @@ returns-in-Err-clause-did g c old xs h =
     let f = c.first_levels-count in
     let p = c.loop-at.invariant.part old xs h in
     let ys = take f.result (values_at s f.new.levels) in
-    let new = g.O.Outlet.taken c.push_each.new.outlet in
-    let e = c.push_each.new.self in
+    let new = g.O.Outlet.taken c.push_all_levels.new.outlet in
+    let e = c.push_all_levels.new.self in
     let fails = subst (λ (l : List ℤ). FailsIn s old new e (xs ++ p.0) l) (sym (take-map (value_at s) f.result f.new.levels)) (c.in-Err.ensures.err s old (xs ++ p.0) p.2) in
     fails_behind s old new e xs p.0 bytes (drop at bytes) p.1
     (fails_among s old new e (xs ++ p.0) ys (drop at bytes) _ (read_from s bytes at f.result c.width-width.result ys f.ensures.reads c.width-width.ensures.value) fails)

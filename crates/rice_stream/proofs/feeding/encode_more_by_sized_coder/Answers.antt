@@ -8,7 +8,7 @@ use Rattle.rice_samples.proofs.lemmas.bytes.SpellingLengths.{some_width}
 use Rattle.rice_stream.specs.Feeding.{behind}
 use Rattle.rice_stream.proofs.lemmas.EncodingLemmas.{sink_short}
 use Rattle.rice_stream.proofs.lemmas.Seams.{fit_in, few_all, cut_grows, goes_on, more_stops}
-use Rattle.rice_stream.proofs.feeding.encode_more_in_row.Goals as goal
+use Rattle.rice_stream.proofs.feeding.encode_more_by_sized_coder.Goals as goal
 
 pub overflow_sub-count : goal.overflow_sub-count
 overflow_sub-count g c =
@@ -34,8 +34,8 @@ resume-encoding-requires g c = (search rules, (c.requires.size, (c.requires.room
 pub put_bits_of_seam-requires : goal.put_bits_of_seam-requires
 put_bits_of_seam-requires g c = (search rules, (c.args.setting.now, c.requires.seam.0, c.requires.seam.1, c.resume-encoding.ensures))
 
-pub push_all-requires : goal.push_all-requires
-push_all-requires g c =
+pub push_samples_of_bytes-requires : goal.push_samples_of_bytes-requires
+push_samples_of_bytes-requires g c =
     let now = g.O.Outlet.taken c.args.outlet.now in
     let xs = c.requires.seam.0 in
     let h = c.requires.seam.1 in
@@ -65,22 +65,22 @@ seam-requires g c =
     let now = g.O.Outlet.taken c.args.outlet.now in
     let s = c.args.setting.now in
     let xs = c.requires.seam.0 in
-    let t = c.in_ok-push_all.ensures.did (behind s xs now) xs (c.put_bits_of_seam.ensures c.args.setting.now now xs c.resume-encoding.ensures c.requires.seam.1) in
+    let t = c.in_ok-push_samples_of_bytes.ensures.did (behind s xs now) xs (c.put_bits_of_seam.ensures c.args.setting.now now xs c.resume-encoding.ensures c.requires.seam.1) in
     (search rules, omega (arith, sink_short s (behind s xs now) _ _ _ t.holds))
 
 pub returns-clause-did : goal.returns-clause-did
 returns-clause-did g c xs h =
     let now = g.O.Outlet.taken c.args.outlet.now in
-    let new = g.O.Outlet.taken c.push_all.new.outlet in
+    let new = g.O.Outlet.taken c.push_samples_of_bytes.new.outlet in
     let s = c.args.setting.now in
     let seam = c.args.seam.now in
     let bytes = c.args.bytes.now in
-    let e = c.push_all.new.self in
+    let e = c.push_samples_of_bytes.new.self in
     let w = c.width-width.result in
     let all = c.in_whole_segments.result in
     let count = all - seam.samples in
     let t = subst (λ (w : ℕ). TakesAll s (behind s xs now) new e xs (take (w * count) bytes)) c.width-width.ensures.value
-    (c.in_ok-push_all.ensures.did (behind s xs now) xs (c.put_bits_of_seam.ensures c.args.setting.now now xs c.resume-encoding.ensures h)) in
+    (c.in_ok-push_samples_of_bytes.ensures.did (behind s xs now) xs (c.put_bits_of_seam.ensures c.args.setting.now now xs c.resume-encoding.ensures h)) in
     let size : w * seam.samples ≡ width s * length xs = (λ i. c.width-width.ensures.value i * h.samples i) in
     let limit : width s * length xs + length bytes ≤ 281474976710656 = omega (arith, size, h.limit, c.bytes_left.ensures.value, c.if-bytes-bytes_left.false) in
     let per : length bytes / w ≡ length bytes / width s = (λ i. length bytes / c.width-width.ensures.value i) in
@@ -89,19 +89,19 @@ returns-clause-did g c xs h =
     goes_on s now new e seam c.seam.result xs bytes count h t (omega (arith, c.in_whole_segments.ensures.value, total, grows, h.samples))
     (fit_in (width s) (length bytes) count (omega (arith, c.in_whole_segments.ensures.limit, per))) limit (λ ys k whole few. c.seam.ensures s (behind s xs now) new ys k whole few)
 
-pub returns-in_err-push_all-clause-did : goal.returns-in_err-push_all-clause-did
-returns-in_err-push_all-clause-did g c xs h =
+pub returns-in_err-push_samples_of_bytes-clause-did : goal.returns-in_err-push_samples_of_bytes-clause-did
+returns-in_err-push_samples_of_bytes-clause-did g c xs h =
     let now = g.O.Outlet.taken c.args.outlet.now in
-    let new = g.O.Outlet.taken c.push_all.new.outlet in
+    let new = g.O.Outlet.taken c.push_samples_of_bytes.new.outlet in
     let s = c.args.setting.now in
     let seam = c.args.seam.now in
     let bytes = c.args.bytes.now in
-    let e = c.push_all.new.self in
+    let e = c.push_samples_of_bytes.new.self in
     let w = c.width-width.result in
     let count = c.in_whole_segments.result - seam.samples in
-    let fault = c.in_err-push_all.field-0.0 in
+    let fault = c.in_err-push_samples_of_bytes.field-0.0 in
     let stops = subst (λ (w : ℕ). Pushes {T = Unit {0}} s (behind s xs now) new e xs (take (w * count) bytes) (Err fault)) c.width-width.ensures.value
-    (c.in_err-push_all.ensures.did (behind s xs now) xs (c.put_bits_of_seam.ensures c.args.setting.now now xs c.resume-encoding.ensures h)) in
+    (c.in_err-push_samples_of_bytes.ensures.did (behind s xs now) xs (c.put_bits_of_seam.ensures c.args.setting.now now xs c.resume-encoding.ensures h)) in
     let size : w * seam.samples ≡ width s * length xs = (λ i. c.width-width.ensures.value i * h.samples i) in
     let limit : width s * length xs + length bytes ≤ 281474976710656 = omega (arith, size, h.limit, c.bytes_left.ensures.value, c.if-bytes-bytes_left.false) in
     let per : length bytes / w ≡ length bytes / width s = (λ i. length bytes / c.width-width.ensures.value i) in

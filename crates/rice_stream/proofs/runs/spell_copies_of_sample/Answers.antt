@@ -3,7 +3,7 @@ use Rattle.rice_samples.specs.Parameters.{width}
 use Rattle.rice_samples.specs.bytes.Spelling.{spelling}
 use Rattle.rice_stream.specs.RunsOfBlocks.{repeated}
 use Rattle.rice_stream.proofs.lemmas.RunsWritten.{filled-byte, spellings-repeat}
-use Rattle.rice_stream.proofs.runs.spell_one_sample_again.Goals as goal
+use Rattle.rice_stream.proofs.runs.spell_copies_of_sample.Goals as goal
 
 pub returns-then-pattern-eq1 : goal.returns-then-pattern-eq1
 returns-then-pattern-eq1 c =
@@ -23,4 +23,4 @@ returns c =
     let x = c.args.sample in
     let same : to_z w64 (of_z w64 x) ≡ x = to_z-of_z {w = w64} {z = x} c.ranges.sample in
     let is = c.as_slice-pattern.ensures.value ∙ (c.bytes_of-spelling.ensures.value ∙ ap (spelling s) same) in
-    c.repeat_pattern.ensures ∙ (ap (repeated c.args.count) is ∙ sym (spellings-repeat s c.args.count x))
+    c.repeat_bytes.ensures ∙ (ap (repeated c.args.count) is ∙ sym (spellings-repeat s c.args.count x))

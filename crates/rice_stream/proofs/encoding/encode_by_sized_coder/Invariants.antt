@@ -1,6 +1,6 @@
 use Rattle.std.proofs.Common.{◌≡◌, ◌-◌, ◌^◌, length}
 use Rattle.rice_stream.specs.EncodingState.{EncodingProgress}
-use Rattle.rice_stream.proofs.encoding.encode_in_row.Given as goal
+use Rattle.rice_stream.proofs.encoding.encode_by_sized_coder.Given as goal
 
 abbrev pub invariant-encode_all : goal.invariant-encode_all
 invariant-encode_all g l = record {

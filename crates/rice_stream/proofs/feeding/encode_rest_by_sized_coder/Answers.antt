@@ -5,7 +5,7 @@ use Rattle.rice_stream.specs.Feeding.{behind, EncodesRest}
 use Rattle.rice_stream.proofs.lemmas.EncodingEnds.{push_fails, push_within, within_early, within_all}
 use Rattle.rice_stream.proofs.lemmas.EncodingLemmas.{settled_by}
 use Rattle.rice_stream.proofs.lemmas.Seams.{few_all, rest_stops, rest_cut, rest_all, takes_few}
-use Rattle.rice_stream.proofs.feeding.encode_rest_in_row.Goals as goal
+use Rattle.rice_stream.proofs.feeding.encode_rest_by_sized_coder.Goals as goal
 
 pub bytes_left-requires-clause-samples : goal.bytes_left-requires-clause-samples
 bytes_left-requires-clause-samples g c =
@@ -33,8 +33,8 @@ resume-encoding-requires g c = (search rules, (c.requires.size, (c.requires.room
 pub put_bits_of_seam-requires : goal.put_bits_of_seam-requires
 put_bits_of_seam-requires g c = (search rules, (c.args.setting.now, c.requires.seam.0, c.requires.seam.1, c.resume-encoding.ensures))
 
-pub push_all-requires : goal.push_all-requires
-push_all-requires g c =
+pub push_samples_of_bytes-requires : goal.push_samples_of_bytes-requires
+push_samples_of_bytes-requires g c =
     let now = g.O.Outlet.taken c.args.outlet.now in
     let xs = c.requires.seam.0 in
     let h = c.requires.seam.1 in
@@ -50,30 +50,30 @@ push_all-requires g c =
 pub returns-in-Err-clause-did : goal.returns-in-Err-clause-did
 returns-in-Err-clause-did g c xs h =
     let now = g.O.Outlet.taken c.args.outlet.now in
-    let new = g.O.Outlet.taken c.push_all.new.outlet in
+    let new = g.O.Outlet.taken c.push_samples_of_bytes.new.outlet in
     let s = c.args.setting.now in
     let o = c.stopped-in-Err in
     let size : c.width-width.result * c.taken.result ≡ width s * length xs =
     (λ i. c.width-width.ensures.value i * (c.taken.ensures ∙ (c.put_bits_of_seam.ensures c.args.setting.now now xs c.resume-encoding.ensures h).counts.samples) i) in
     let limit : width s * length xs + length c.args.bytes.now ≤ 281474976710656 = omega (arith, size, h.limit, c.bytes_left.ensures.value, c.if-bytes-bytes_left.false) in
-    rest_stops s now new c.push_all.new.self o.result.report xs c.args.bytes.now limit c.in-Err.fault o.result.fault o.ensures.fault (λ ys k. o.ensures.told s ys k)
+    rest_stops s now new c.push_samples_of_bytes.new.self o.result.report xs c.args.bytes.now limit c.in-Err.fault o.result.fault o.ensures.fault (λ ys k. o.ensures.told s ys k)
     (c.in-Err.ensures.did (behind s xs now) xs (c.put_bits_of_seam.ensures c.args.setting.now now xs c.resume-encoding.ensures h))
 
 pub returns-in-Err-clause-failures : goal.returns-in-Err-clause-failures
 returns-in-Err-clause-failures g c =
     let now = g.O.Outlet.taken c.args.outlet.now in
-    let new = g.O.Outlet.taken c.push_all.new.outlet in
+    let new = g.O.Outlet.taken c.push_samples_of_bytes.new.outlet in
     let s = c.args.setting.now in
     let xs = c.requires.seam.0 in
     let h = c.requires.seam.1 in
-    push_fails s (behind s xs now) new c.push_all.new.self xs c.args.bytes.now c.in-Err.fault c.stopped-in-Err.result.fault 0 0
-    (g.O.Outlet.failed c.args.outlet.now) (g.O.Outlet.failed c.args.outlet.now) (g.O.Outlet.failed c.push_all.new.outlet)
+    push_fails s (behind s xs now) new c.push_samples_of_bytes.new.self xs c.args.bytes.now c.in-Err.fault c.stopped-in-Err.result.fault 0 0
+    (g.O.Outlet.failed c.args.outlet.now) (g.O.Outlet.failed c.args.outlet.now) (g.O.Outlet.failed c.push_samples_of_bytes.new.outlet)
     refl refl (c.in-Err.ensures.did (behind s xs now) xs (c.put_bits_of_seam.ensures c.args.setting.now now xs c.resume-encoding.ensures h)) c.in-Err.ensures.failures c.stopped-in-Err.ensures.fault
 
 pub returns-then-bytes-width-gt0-clause-did : goal.returns-then-bytes-width-gt0-clause-did
 returns-then-bytes-width-gt0-clause-did g c xs h =
     let now = g.O.Outlet.taken c.args.outlet.now in
-    let new = g.O.Outlet.taken c.push_all.new.outlet in
+    let new = g.O.Outlet.taken c.push_samples_of_bytes.new.outlet in
     let s = c.args.setting.now in
     let o = c.stopped-then-bytes-width-gt0 in
     let bytes = c.args.bytes.now in
@@ -81,13 +81,13 @@ returns-then-bytes-width-gt0-clause-did g c xs h =
     let size : c.width-width.result * c.taken.result ≡ width s * length xs =
     (λ i. c.width-width.ensures.value i * (c.taken.ensures ∙ (c.put_bits_of_seam.ensures c.args.setting.now now xs c.resume-encoding.ensures h).counts.samples) i) in
     let limit : width s * length xs + length c.args.bytes.now ≤ 281474976710656 = omega (arith, size, h.limit, c.bytes_left.ensures.value, c.if-bytes-bytes_left.false) in
-    rest_cut s now new c.push_all.new.self o.result.report xs bytes limit c.taken-index.result o.result.fault o.ensures.fault c.taken-index.ensures (λ ys k. o.ensures.told s ys k)
+    rest_cut s now new c.push_samples_of_bytes.new.self o.result.report xs bytes limit c.taken-index.result o.result.fault o.ensures.fault c.taken-index.ensures (λ ys k. o.ensures.told s ys k)
     (c.in-Ok.ensures.did (behind s xs now) xs (c.put_bits_of_seam.ensures c.args.setting.now now xs c.resume-encoding.ensures h)) (omega (arith, same, c.if-bytes-width-gt0.true))
 
 pub finish-requires : goal.finish-requires
 finish-requires g c =
     let now = g.O.Outlet.taken c.args.outlet.now in
-    let new = g.O.Outlet.taken c.push_all.new.outlet in
+    let new = g.O.Outlet.taken c.push_samples_of_bytes.new.outlet in
     let s = c.args.setting.now in
     let xs = c.requires.seam.0 in
     let h = c.requires.seam.1 in
@@ -101,7 +101,7 @@ finish-requires g c =
           behind s xs now,
           xs ++ t.more,
           t.holds,
-          takes_few s (behind s xs now) new c.push_all.new.self xs c.args.bytes.now
+          takes_few s (behind s xs now) new c.push_samples_of_bytes.new.self xs c.args.bytes.now
               (omega (arith, few, c.if-bytes-bytes_left.false, c.taken.ensures, holds.counts.samples)) t,
         ),
         omega (arith, c.requires.writes, c.in-Ok.ensures.failures),
@@ -111,7 +111,7 @@ finish-requires g c =
 pub returns-clause-did : goal.returns-clause-did
 returns-clause-did g c xs h =
     let now = g.O.Outlet.taken c.args.outlet.now in
-    let mid = g.O.Outlet.taken c.push_all.new.outlet in
+    let mid = g.O.Outlet.taken c.push_samples_of_bytes.new.outlet in
     let new = g.O.Outlet.taken c.finish.new.outlet in
     let s = c.args.setting.now in
     let bytes = c.args.bytes.now in
@@ -121,7 +121,7 @@ returns-clause-did g c xs h =
     let size : c.width-width.result * c.taken.result ≡ width s * length xs =
     (λ i. c.width-width.ensures.value i * (c.taken.ensures ∙ (c.put_bits_of_seam.ensures c.args.setting.now now xs c.resume-encoding.ensures h).counts.samples) i) in
     let limit : width s * length xs + length c.args.bytes.now ≤ 281474976710656 = omega (arith, size, h.limit, c.bytes_left.ensures.value, c.if-bytes-bytes_left.false) in
-    rest_all s now mid c.push_all.new.self c.finish.result.report xs bytes limit c.finish.result.fault t new (omega (arith, same, c.if-bytes-width-gt0.false)) did.0 did.1
+    rest_all s now mid c.push_samples_of_bytes.new.self c.finish.result.report xs bytes limit c.finish.result.fault t new (omega (arith, same, c.if-bytes-width-gt0.false)) did.0 did.1
 
 pub returns-then-bytes-bytes_left-clause-bounds : goal.returns-then-bytes-bytes_left-clause-bounds
 returns-then-bytes-bytes_left-clause-bounds g c =
@@ -134,10 +134,10 @@ returns-then-bytes-bytes_left-clause-bounds g c =
 pub returns-in-Err-clause-bounds : goal.returns-in-Err-clause-bounds
 returns-in-Err-clause-bounds g c =
     let now = g.O.Outlet.taken c.args.outlet.now in
-    let new = g.O.Outlet.taken c.push_all.new.outlet in
+    let new = g.O.Outlet.taken c.push_samples_of_bytes.new.outlet in
     let s = c.args.setting.now in
     let xs = c.requires.seam.0 in
-    push_within s (behind s xs now) new c.push_all.new.self c.stopped-in-Err.result.report c.in-Err.fault xs c.args.bytes.now (λ ys k. c.stopped-in-Err.ensures.told s ys k)
+    push_within s (behind s xs now) new c.push_samples_of_bytes.new.self c.stopped-in-Err.result.report c.in-Err.fault xs c.args.bytes.now (λ ys k. c.stopped-in-Err.ensures.told s ys k)
     (c.in-Err.ensures.did (behind s xs now) xs (c.put_bits_of_seam.ensures c.args.setting.now now xs c.resume-encoding.ensures c.requires.seam.1))
 
 pub returns-then-bytes-width-gt0-clause-bounds : goal.returns-then-bytes-width-gt0-clause-bounds
@@ -147,7 +147,7 @@ returns-then-bytes-width-gt0-clause-bounds g c =
     let xs = c.requires.seam.0 in
     let t = c.in-Ok.ensures.did (behind s xs now) xs (c.put_bits_of_seam.ensures c.args.setting.now now xs c.resume-encoding.ensures c.requires.seam.1) in
     let k = t.holds.counts in
-    within_early s c.stopped-then-bytes-width-gt0.result.report (xs ++ t.more) (settled_by s c.push_all.new.self (xs ++ t.more) k) (c.stopped-then-bytes-width-gt0.ensures.told s (xs ++ t.more) k)
+    within_early s c.stopped-then-bytes-width-gt0.result.report (xs ++ t.more) (settled_by s c.push_samples_of_bytes.new.self (xs ++ t.more) k) (c.stopped-then-bytes-width-gt0.ensures.told s (xs ++ t.more) k)
 
 pub returns-clause-bounds : goal.returns-clause-bounds
 returns-clause-bounds g c =
@@ -156,4 +156,4 @@ returns-clause-bounds g c =
     let xs = c.requires.seam.0 in
     let t = c.in-Ok.ensures.did (behind s xs now) xs (c.put_bits_of_seam.ensures c.args.setting.now now xs c.resume-encoding.ensures c.requires.seam.1) in
     let did = c.finish.ensures.did s (behind s xs now) (xs ++ t.more) t.holds in
-    within_all s c.finish.result.report (xs ++ t.more) (settled_by s c.push_all.new.self (xs ++ t.more) t.holds.counts) did.0
+    within_all s c.finish.result.report (xs ++ t.more) (settled_by s c.push_samples_of_bytes.new.self (xs ++ t.more) t.holds.counts) did.0
