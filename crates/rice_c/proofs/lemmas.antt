@@ -1,5 +1,5 @@
 -- The lemmas of the proofs, by what they speak of.
-pub mod PulledNumbers
+pub mod PulledPieceByNumbers
 pub mod FedPlaces
 pub mod FedRoom
 pub mod FedOutlets

@@ -16,7 +16,7 @@ use Rattle.rice_c.specs.declared.status.Status.TheVariants.{Done, NoRoom, CodeEn
 use Rattle.rice_c.specs.Calls.{EncodesInto, DecodesInto, StandsInFront}
 use Rattle.rice_c.specs.Pulling.{OpensDrain, PullsInto}
 use Rattle.rice_c.specs.Feeding.{Begins, PushesInto, FinishesInto}
-use Rattle.rice_c.specs.Rooms.{code_room, push_room}
+use Rattle.rice_c.specs.SufficientRoom.{code_room, push_room}
 use Rattle.rice_c.specs.Statuses.{status_number}
 
 -- A call that decodes is given what a call that encoded all has written, the number of its samples, and room for their bytes.

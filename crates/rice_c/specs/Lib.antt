@@ -5,5 +5,5 @@ pub mod Pulling
 pub mod Feeding
 pub mod Laws
 pub mod Reports
-pub mod Rooms
+pub mod SufficientRoom
 pub mod Statuses

@@ -8,7 +8,7 @@ ghost use Rattle.rice_stream.specs.Decodes.{DecodesBetween, DecodesWithin};
 ghost use Rattle.rice_c.specs.declared.status.Status.TheVariants.{NoRoom};
 ghost use Rattle.rice_c.specs.AskedSetting.{setting_asked};
 ghost use Rattle.rice_c.specs.Calls.{EncodesInto, DecodesInto, RefusesSetting};
-ghost use Rattle.rice_c.specs.Rooms.{code_room};
+ghost use Rattle.rice_c.specs.SufficientRoom.{code_room};
 ghost use Rattle.rice_c.specs.Statuses.{status_number};
 
 use crate::report::RiceReport;
@@ -45,13 +45,17 @@ fn encode_into(setting: &Setting, samples: &[u8], code: &mut [u8], report: &mut 
 {
     let mut intake = SliceIn::new(samples);
     let mut outlet = SliceOut::new(code);
-    let outcome = encode_slice(setting, &mut intake, &mut outlet);
+    let outcome = encode_slice_to_slice(setting, &mut intake, &mut outlet);
     let written = outlet.taken();
     report.tell(&outcome, written)
 }
 
 /// Encodes from a slice to a slice.
-fn encode_slice(setting: &Setting, intake: &mut SliceIn<'_>, outlet: &mut SliceOut<'_>) -> Outcome
+fn encode_slice_to_slice(
+    setting: &Setting,
+    intake: &mut SliceIn<'_>,
+    outlet: &mut SliceOut<'_>,
+) -> Outcome
     requires { slice_failures outlet.old ≡ 0 }
     ensures borrow { (slice_state outlet.new).borrow ≡ (slice_state outlet.old).borrow }
     ensures call { EncodesBetween setting.now
@@ -117,13 +121,13 @@ fn decode_into(
 {
     let intake = SliceIn::new(code);
     let mut outlet = SliceOut::new(samples);
-    let (outcome, _) = decode_slice(setting, asked, intake, &mut outlet);
+    let (outcome, _) = decode_slice_to_slice(setting, asked, intake, &mut outlet);
     let written = outlet.taken();
     report.tell(&outcome, written)
 }
 
 /// Decodes from a slice to a slice.
-fn decode_slice<'a>(
+fn decode_slice_to_slice<'a>(
     setting: &Setting,
     asked: Option<u64>,
     intake: SliceIn<'a>,

@@ -10,7 +10,7 @@ ghost use Rattle.rice_c.specs.AskedSetting.{setting_asked};
 ghost use Rattle.rice_c.specs.Calls.{RefusesSetting};
 ghost use Rattle.rice_c.specs.Feeding.{Begins, PushesInto, FinishesInto, report_of_seam};
 ghost use Rattle.rice_samples.specs.Parameters.{width};
-ghost use Rattle.rice_c.specs.Rooms.{push_room};
+ghost use Rattle.rice_c.specs.SufficientRoom.{push_room};
 ghost use Rattle.rice_c.specs.declared.status.Status.TheVariants.{NoRoom};
 ghost use Rattle.rice_c.specs.Statuses.{status_number, refusal_status as refusal_status_of};
 
@@ -137,7 +137,7 @@ fn push_into(
         result }
 {
     let mut outlet = SliceOut::new(code);
-    match push_slice(setting, &feed.seam, samples, &mut outlet) {
+    match push_slice_to_slice(setting, &feed.seam, samples, &mut outlet) {
         Ok(seam) => {
             feed.seam = seam;
             let written = outlet.taken();
@@ -151,7 +151,7 @@ fn push_into(
 }
 
 /// Encodes more samples, from a slice to a slice.
-fn push_slice(
+fn push_slice_to_slice(
     setting: &Setting,
     seam: &Seam,
     samples: &[u8],
@@ -180,13 +180,13 @@ fn finish_into(
         FinishesInto setting.now xs samples.now code.old code.new report.new result }
 {
     let mut outlet = SliceOut::new(code);
-    let outcome = finish_slice(setting, seam, samples, &mut outlet);
+    let outcome = finish_slice_to_slice(setting, seam, samples, &mut outlet);
     let written = outlet.taken();
     report.tell(&outcome, written)
 }
 
 /// Encodes the last samples, from a slice to a slice.
-fn finish_slice(
+fn finish_slice_to_slice(
     setting: &Setting,
     seam: &Seam,
     samples: &[u8],

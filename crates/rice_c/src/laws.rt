@@ -28,12 +28,12 @@ pub fn pulls_are_decoding()
 {}
 
 /// The first samples that are pulled, to a count, are those of decoding with that count.
-pub fn enough_is_decoding()
+pub fn pulls_to_a_count_are_decoding()
     ensures { EnoughIsDecoding }
 {}
 
 /// Where an interval ends, a drain and a feed tell the place at which the next begins.
-pub fn places_are_told()
+pub fn places_of_intervals_are_told()
     ensures drains { DrainsTellPlaces }
     ensures feeds { FeedsTellPlaces }
 {}

@@ -4,7 +4,7 @@ ghost use Rattle.rice_samples.specs.Limits.{most_input};
 ghost use Rattle.rice_samples.specs.Parameters.{IsLegal, width};
 ghost use Rattle.rice_code.specs.Bounds.{step_bound};
 ghost use Rattle.rice_c.specs.AskedSetting.{setting_asked};
-ghost use Rattle.rice_c.specs.Rooms.{code_room, set_room};
+ghost use Rattle.rice_c.specs.SufficientRoom.{code_room, set_room};
 ghost use Rattle.rice_c.specs.Statuses.{status_number, check_of, refusal_status};
 
 use crate::status::{Status, refusal_status};

@@ -26,7 +26,7 @@ use Rattle.rice_stream.specs.Decodes.{Decodes}
 use Rattle.rice_stream.specs.declared.outcome.Report.{Report}
 use Rattle.rice_stream.specs.declared.outcome.Fault.{Fault}
 use Rattle.rice_stream.specs.declared.outcome.Fault.TheVariants.{Read, Write, TooLong, SampleOutOfRange, SampleCut, CodeEnds, RunPastSegment, ResidualTooLarge}
-use Rattle.rice_c.specs.Rooms.{code_room}
+use Rattle.rice_c.specs.SufficientRoom.{code_room}
 use Rattle.rice_c.specs.Statuses.{status_number, fault_status}
 
 -- ---- more samples want no less room

@@ -23,7 +23,7 @@ use Rattle.rice_stream.proofs.lemmas.FedPieces.{code_of_seam}
 use Rattle.rice_stream.proofs.lemmas.Seams.{cut_grows}
 use Rattle.rice_c.specs.Feeding.{fault_of}
 use Rattle.rice_c.specs.Laws.{PushRoomSuffices}
-use Rattle.rice_c.specs.Rooms.{push_room}
+use Rattle.rice_c.specs.SufficientRoom.{push_room}
 use Rattle.rice_c.proofs.lemmas.CallRoom.{bound_le, few_samples, few_whole, stops_short, write_of}
 
 -- the samples of a feed are legal

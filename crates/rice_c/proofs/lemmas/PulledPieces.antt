@@ -32,7 +32,7 @@ use Rattle.rice_c.specs.Calls.{DecodesInto, StandsInFront}
 use Rattle.rice_c.specs.Laws.{ArePulled, DrainsTellPlaces, EndsAll, EnoughIsDecoding, IsPulled, Pull, PullsAreDecoding, WriteInParts, last_drain, place_all}
 use Rattle.rice_c.specs.Reports.{report_of}
 use Rattle.rice_c.specs.Statuses.{status_number, pause_status, fault_status, fault_place, pause_place}
-use Rattle.rice_c.proofs.lemmas.PulledNumbers.{more_samples}
+use Rattle.rice_c.proofs.lemmas.PulledPieceByNumbers.{more_samples}
 use Rattle.rice_c.proofs.lemmas.ReturnedSamples.{decode_suffices}
 
 -- ---- the pulls, as those of the engine
@@ -221,8 +221,8 @@ pulls_are_decoding s code o before setting first opened pulls last behind old ne
     )
 
 -- and up to a number of samples
-pub enough_is_decoding : EnoughIsDecoding
-enough_is_decoding s code o before setting first opened pulls n old new report status place opens pulled enough few d room =
+pub pulls_to_a_count_are_decoding : EnoughIsDecoding
+pulls_to_a_count_are_decoding s code o before setting first opened pulls n old new report status place opens pulled enough few d room =
     let begins = opens.none in
     let legal = begins.state.legal in
     let at = same_last first pulls in

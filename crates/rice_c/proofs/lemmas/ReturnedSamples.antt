@@ -16,7 +16,7 @@ use Rattle.rice_c.specs.declared.status.Status.TheVariants.{Done, NoRoom}
 use Rattle.rice_c.specs.Calls.{EncodesInto, DecodesInto, StandsInFront}
 use Rattle.rice_c.specs.Laws.{ReturnsBytes, ReturnsBytesAndFill, RoomSuffices}
 use Rattle.rice_c.specs.Reports.{report_of}
-use Rattle.rice_c.specs.Rooms.{code_room}
+use Rattle.rice_c.specs.SufficientRoom.{code_room}
 use Rattle.rice_c.specs.Statuses.{status_number, fault_status}
 use Rattle.rice_c.proofs.lemmas.CallRoom.{encode_wants, decode_wants, write_of, none_of}
 

@@ -9,7 +9,7 @@ use Rattle.rice_c.proofs.coding.decode_into.Goals as goal
 
 pub returns : goal.returns
 returns c =
-    let run = c.decode_slice in
+    let run = c.decode_slice_to_slice in
     let out = run.new.outlet in
     let s = c.args.setting.now in
     let call = run.ensures.call in

@@ -9,7 +9,7 @@ use Rattle.rice_c.proofs.coding.encode_into.Goals as goal
 
 pub returns : goal.returns
 returns c =
-    let run = c.encode_slice-outcome in
+    let run = c.encode_slice_to_slice-outcome in
     let out = run.new.outlet in
     let s = c.args.setting.now in
     let call = run.ensures.call in

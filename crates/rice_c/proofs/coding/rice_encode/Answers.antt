@@ -1,7 +1,7 @@
 use Rattle.std.proofs.Common.{◌≢◌, ◌∙◌, ◌/◌, ◌≤◌, length, sym, subst, IfOk, Result}
 use Rattle.rice_samples.specs.Parameters.{Parameters, width}
 use Rattle.rice_samples.specs.declared.setting.SettingFault.{SettingFault}
-use Rattle.rice_c.specs.Rooms.{code_room}
+use Rattle.rice_c.specs.SufficientRoom.{code_room}
 use Rattle.rice_c.proofs.lemmas.ReturnedSamples.{encode_suffices}
 use Rattle.rice_c.proofs.coding.rice_encode.Goals as goal
 

@@ -11,7 +11,7 @@ use Rattle.rice_c.proofs.feeding.finish_into.Goals as goal
 pub returns : goal.returns
 returns c xs h =
     let s = c.args.setting.now in
-    let run = c.finish_slice-outcome in
+    let run = c.finish_slice_to_slice-outcome in
     let out = run.new.outlet in
     let name = c.new-arg-1.given in
     let start = begun name c.args.code.now in

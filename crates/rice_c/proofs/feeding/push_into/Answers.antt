@@ -12,7 +12,7 @@ use Rattle.rice_c.proofs.feeding.push_into.Goals as goal
 pub returns-in-Ok : goal.returns-in-Ok
 returns-in-Ok c xs h =
     let s = c.args.setting.now in
-    let out = c.push_slice.new.outlet in
+    let out = c.push_slice_to_slice.new.outlet in
     let name = c.new-arg-1.given in
     let start = begun name c.args.code.now in
     let r : Result Seam Fault = Ok c.in-Ok.seam in
@@ -40,7 +40,7 @@ returns-in-Ok c xs h =
 pub returns-in-Err : goal.returns-in-Err
 returns-in-Err c xs h =
     let s = c.args.setting.now in
-    let out = c.push_slice.new.outlet in
+    let out = c.push_slice_to_slice.new.outlet in
     let name = c.new-arg-1.given in
     let start = begun name c.args.code.now in
     let r : Result Seam Fault = Err c.in-Err.fault in

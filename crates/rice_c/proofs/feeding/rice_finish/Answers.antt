@@ -2,7 +2,7 @@ use Rattle.std.proofs.Common.{◌≢◌, ◌∙◌, ◌/◌, ◌≤◌, length, 
 use Rattle.rice_samples.specs.Parameters.{Parameters, width}
 use Rattle.rice_samples.specs.declared.setting.SettingFault.{SettingFault}
 use Rattle.rice_stream.specs.Feeding.{IsSeam}
-use Rattle.rice_c.specs.Rooms.{push_room}
+use Rattle.rice_c.specs.SufficientRoom.{push_room}
 use Rattle.rice_c.proofs.lemmas.FedRoom.{push_room_suffices}
 use Rattle.rice_c.proofs.feeding.rice_finish.Goals as goal
 

@@ -1,6 +1,6 @@
 use Rattle.rice_bits.specs.device.Slice.{slice_state}
 use Rattle.rice_c.proofs.lemmas.FedOutlets.{more_fills}
-use Rattle.rice_c.proofs.feeding.push_slice.Goals as goal
+use Rattle.rice_c.proofs.feeding.push_slice_to_slice.Goals as goal
 
 pub returns-clause-borrow : goal.returns-clause-borrow
 returns-clause-borrow c =
