@@ -15,14 +15,14 @@ pub fn is_used(matches: &ArgMatches<'_>, id: &str) -> bool
 }
 
 /// Returns the number of an option, if it can be read.
-fn number(matches: &ArgMatches<'_>, id: &str) -> Option<u32>
+fn number_of_32_bits(matches: &ArgMatches<'_>, id: &str) -> Option<u32>
     ensures { result ≡ number_in (2 ^ 32) (found_of matches.now) id.now }
 {
     matches.get_one::<u32>(id)
 }
 
 /// Returns the long number of an option, if it can be read.
-fn long_number(matches: &ArgMatches<'_>, id: &str) -> Option<u64>
+fn number_of_64_bits(matches: &ArgMatches<'_>, id: &str) -> Option<u64>
     ensures { result ≡ number_in (2 ^ 64) (found_of matches.now) id.now }
 {
     matches.get_one::<u64>(id)
@@ -52,7 +52,7 @@ pub fn plan_of<'a>(matches: &ArgMatches<'a>) -> Result<Plan<'a>, PlanFault>
 {
     let test = is_used(matches, "test");
     let decode = is_used(matches, "d") || test;
-    let samples = long_number(matches, "samples");
+    let samples = number_of_64_bits(matches, "samples");
     if samples.is_some() && !decode {
         return Err(PlanFault::SamplesWithoutDecode);
     }
@@ -78,13 +78,13 @@ fn plan_with_entries<'a>(
     requires dest { option_map (λ name. name.now) dest ≡ first_value (found_of matches.now) (codes "dest") }
     ensures { answer_view result ≡ plan_by_entries (found_of matches.now) }
 {
-    let Some(bits) = number(matches, "n") else {
+    let Some(bits) = number_of_32_bits(matches, "n") else {
         return Err(PlanFault::Unreadable);
     };
-    let Some(block) = number(matches, "j") else {
+    let Some(block) = number_of_32_bits(matches, "j") else {
         return Err(PlanFault::Unreadable);
     };
-    let Some(interval) = number(matches, "r") else {
+    let Some(interval) = number_of_32_bits(matches, "r") else {
         return Err(PlanFault::Unreadable);
     };
     let Some(source) = matches.get_str("source") else {

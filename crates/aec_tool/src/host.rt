@@ -2,12 +2,12 @@
 ghost use Rattle.std.specs.Prelude.{None};
 
 use crate::counted::Counted;
+use crate::destination::Sink;
 use crate::finding::Finding;
 use crate::message::Message;
 use crate::progress::Progress;
 use crate::same_file::{FileId, known_id};
-use crate::sink::Sink;
-use crate::stream::Stream;
+use crate::source::Stream;
 use crate::system::{CreateFault, OpenFault, System};
 use clap::Error;
 use rice_bits::{FromBufWriter, FromReader, WriteFault};

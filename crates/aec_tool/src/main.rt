@@ -4,6 +4,7 @@
 mod coding;
 mod command_line;
 mod counted;
+mod destination;
 mod entries;
 mod exit_status;
 mod finding;
@@ -15,9 +16,8 @@ mod perform;
 mod plan;
 mod progress;
 mod same_file;
-mod sink;
+mod source;
 mod start_up;
-mod stream;
 mod system;
 #[cfg(test)]
 mod tests;

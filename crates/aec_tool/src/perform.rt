@@ -37,7 +37,7 @@ pub fn perform<'a, S: System<'a>>(system: &mut S, plan: &Plan<'a>) -> u8
     }
     match open(system, plan.source) {
         Ok((source, id)) => match plan.dest {
-            Some(dest) => write(system, plan, dest, source, id),
+            Some(dest) => create_and_write(system, plan, dest, source, id),
             None => {
                 let done = test(system, plan, source, id);
                 close(system, plan, done)
@@ -113,7 +113,7 @@ fn create<'a, S: System<'a>>(
 }
 
 /// Creates the destination, unless that would empty the source, and writes to it.
-fn write<'a, S: System<'a>>(
+fn create_and_write<'a, S: System<'a>>(
     system: &mut S,
     plan: &Plan<'a>,
     dest: &'a str,

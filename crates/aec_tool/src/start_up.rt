@@ -7,7 +7,7 @@ ghost use Rattle.aec_tool.specs.CommandLine.{aec, aec_test, AreParsedBy, ArePars
 ghost use Rattle.aec_tool.specs.Outside.{Outside, IsFresh};
 ghost use Rattle.aec_tool.specs.WholeCommand.{Starts, Explains};
 
-use crate::command_line::{command, test_command};
+use crate::command_line::{command, command_with_one_name};
 use crate::entries::{is_used, plan_of};
 use crate::exit_status::SUCCESS;
 use crate::host::Host;
@@ -29,7 +29,7 @@ fn matches_of<'a>(alloc: Global, words: &'a [&'a str]) -> Result<ArgMatches<'a>,
     ensures ok { IfOk result (AreParsedTo (texts words.entry.now)) }
     ensures err { IfErr result (λ e. AreRefusedFor (texts words.entry.now) (kind_of e)) }
 {
-    let error = match matches_of_all(alloc, words) {
+    let error = match matches_of_both_names(alloc, words) {
         Ok(matches) => return Ok(matches),
         Err(error) => error,
     };
@@ -40,7 +40,7 @@ fn matches_of<'a>(alloc: Global, words: &'a [&'a str]) -> Result<ArgMatches<'a>,
 }
 
 /// Parses words that have both names.
-fn matches_of_all<'a>(alloc: Global, words: &'a [&'a str]) -> Result<ArgMatches<'a>, Error>
+fn matches_of_both_names<'a>(alloc: Global, words: &'a [&'a str]) -> Result<ArgMatches<'a>, Error>
     ensures ok { IfOk result (AreParsedBy aec (texts words.entry.now)) }
     ensures err { IfErr result (λ e. IsRefusedBy aec (texts words.entry.now) (kind_of e)) }
 {
@@ -48,11 +48,11 @@ fn matches_of_all<'a>(alloc: Global, words: &'a [&'a str]) -> Result<ArgMatches<
 }
 
 /// Parses words that have one name.
-fn matches_of_one<'a>(alloc: Global, words: &'a [&'a str]) -> Result<ArgMatches<'a>, Error>
+fn matches_of_one_name<'a>(alloc: Global, words: &'a [&'a str]) -> Result<ArgMatches<'a>, Error>
     ensures ok { IfOk result (AreParsedBy aec_test (texts words.entry.now)) }
     ensures err { IfErr result (λ e. IsRefusedBy aec_test (texts words.entry.now) (kind_of e)) }
 {
-    test_command(alloc)?.try_get_matches_from(words)
+    command_with_one_name(alloc)?.try_get_matches_from(words)
 }
 
 /// Parses words as those of a test, or says by `error` why they are not in order.
@@ -66,7 +66,7 @@ fn matches_of_test<'a>(
     ensures ok { IfOk result (AreParsedTo (texts words.entry.now)) }
     ensures err { IfErr result (λ e. AreRefusedFor (texts words.entry.now) (kind_of e)) }
 {
-    match matches_of_one(alloc, words) {
+    match matches_of_one_name(alloc, words) {
         Ok(matches) => {
             if is_used(&matches, "test") {
                 return Ok(matches);

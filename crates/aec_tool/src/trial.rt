@@ -47,7 +47,7 @@ pub fn test<'a, S: System<'a>>(
                 more,
             };
             Done {
-                status: tell(system, it),
+                status: tell_finding(system, it),
                 samples: report.samples,
             }
         }
@@ -59,7 +59,7 @@ pub fn test<'a, S: System<'a>>(
 }
 
 /// Writes what was found to standard output, and returns the exit status.
-fn tell<'a, S: System<'a>>(system: &mut S, it: Finding) -> u8
+fn tell_finding<'a, S: System<'a>>(system: &mut S, it: Finding) -> u8
     requires fresh { (o : Outside) → S.told system.old ≡ Some o → IsFresh o }
     ensures { (o : Outside) → S.told system.old ≡ Some o →
         ((S.told system.new ≡ Some (finding o it)) × (result ≡ 0)) ⊎

@@ -5,4 +5,4 @@ use Rattle.aec_tool.proofs.command_line.command.Goals as goal
 -- the other name is added
 pub returns : goal.returns
 unfolding aec
-returns c = added_last _ _ _ _ c.arg.result c.arg.ensures c.dest.ensures.local c.dest.ensures.rule c.in_ok-test_command.ensures
+returns c = added_last _ _ _ _ c.arg.result c.arg.ensures c.dest.ensures.local c.dest.ensures.rule c.in_ok-command_with_one_name.ensures

@@ -10,19 +10,19 @@ returns-in-Ok g c = λ o told.
     let all = c.requires.bytes o told in
     let done = decoded (plan_view c.args.plan.now) _ _ _ _ _ c.decode.result.0 c.requires.decodes c.decode.ensures.call in
     let judges = rw c.in-Ok.is at (c.judge.ensures o all.0 told all.1) in
-    elim (c.tell.ensures o told) [
+    elim (c.tell_finding.ensures o told) [
       | inl done_so ↦ (
         tested c.args.plan.now.setting c.decode.result.0.report (Ok c.in-Ok.more) true o,
         done_so.0,
         tests_of _ _ _ _ (plan_view c.args.plan.now) o
-            _ c.tell.result c.decode.result.0.report.samples all.0 c.args.source c.decode.result.1 c.decode.result.0 (Ok c.in-Ok.more) true all.1 c.requires.sound all.2
+            _ c.tell_finding.result c.decode.result.0.report.samples all.0 c.args.source c.decode.result.1 c.decode.result.0 (Ok c.in-Ok.more) true all.1 c.requires.sound all.2
             done c.decode.ensures.failures judges refl done_so.1 refl,
       )
       | inr failed ↦ (
         tested c.args.plan.now.setting c.decode.result.0.report (Ok c.in-Ok.more) false o,
         failed.0,
         tests_of _ _ _ _ (plan_view c.args.plan.now) o _
-            c.tell.result c.decode.result.0.report.samples all.0 c.args.source c.decode.result.1 c.decode.result.0 (Ok c.in-Ok.more) false all.1 c.requires.sound all.2
+            c.tell_finding.result c.decode.result.0.report.samples all.0 c.args.source c.decode.result.1 c.decode.result.0 (Ok c.in-Ok.more) false all.1 c.requires.sound all.2
             done c.decode.ensures.failures judges refl failed.1 refl,
       )
     ]

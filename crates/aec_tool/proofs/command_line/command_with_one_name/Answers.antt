@@ -3,7 +3,7 @@ use Rattle.clap.specs.Words.{App, app_of, new_app}
 use Rattle.clap.specs.Simple.{app_of_fields}
 use Rattle.aec_tool.specs.CommandLine.{aec_test, with_rules, rules_up_to_j, rules_from_m, long_rules}
 use Rattle.aec_tool.proofs.CommandLineLemmas.{added_last}
-use Rattle.aec_tool.proofs.command_line.test_command.Goals as goal
+use Rattle.aec_tool.proofs.command_line.command_with_one_name.Goals as goal
 
 -- the options, and then the name
 pub returns : goal.returns

@@ -4,7 +4,7 @@ use Rattle.aec_tool.specs.Plan.{plan_view}
 use Rattle.aec_tool.specs.Outside.{HasTakenNothing, begun, closing, new_mode, refusing, place_of, source_id, AreOneFile}
 use Rattle.aec_tool.specs.Performs.{EmptiesSource, Runs}
 use Rattle.aec_tool.proofs.OutsideLemmas.{holds_after}
-use Rattle.aec_tool.proofs.perform.write.Goals as goal
+use Rattle.aec_tool.proofs.perform.create_and_write.Goals as goal
 
 pub transfer-done-requires : goal.transfer-done-requires
 transfer-done-requires g c κs = (

@@ -1,6 +1,6 @@
 use Rattle.aec_tool.specs.CommandLine.{aec}
 use Rattle.aec_tool.proofs.CommandLineLemmas.{aec_is_free, aec_is_simple, parsed, refused}
-use Rattle.aec_tool.proofs.start_up.matches_of_all.Goals as goal
+use Rattle.aec_tool.proofs.start_up.matches_of_both_names.Goals as goal
 
 pub returns : goal.returns
 returns c =

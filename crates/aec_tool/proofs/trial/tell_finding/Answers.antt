@@ -1,7 +1,7 @@
 use Rattle.std.proofs.Common.{◌≡◌, None, refl}
 use Rattle.aec_tool.specs.Outside.{losing}
 use Rattle.aec_tool.proofs.OutsideLemmas.{holds_after}
-use Rattle.aec_tool.proofs.trial.tell.Goals as goal
+use Rattle.aec_tool.proofs.trial.tell_finding.Goals as goal
 
 pub fail-requires : goal.fail-requires
 fail-requires g c κs = (
