@@ -1,3 +1,5 @@
+use Rattle.std.proofs.lemmas.Grind.{common_steps}
+use Rattle.std.proofs.Common.{arith}
 use Rattle.rice_stream.proofs.feeding.encode_rest.Goals as goal
 
 pub encode_rest_by_sized_coder-requires-clause-room : goal.encode_rest_by_sized_coder-requires-clause-room
@@ -5,3 +7,12 @@ encode_rest_by_sized_coder-requires-clause-room g c = c.has_short_intervals.ensu
 
 pub encode_rest_by_sized_coder-requires-2-clause-room : goal.encode_rest_by_sized_coder-requires-2-clause-room
 encode_rest_by_sized_coder-requires-2-clause-room g c = c.has_short_intervals.ensures.any
+
+pub returns-then-has_short_intervals-clause-did : goal.returns-then-has_short_intervals-clause-did
+returns-then-has_short_intervals-clause-did g c = grind (arith, common_steps)
+
+pub returns-then-has_short_intervals-clause-failures : goal.returns-then-has_short_intervals-clause-failures
+returns-then-has_short_intervals-clause-failures g c = grind (arith, common_steps)
+
+pub returns-then-has_short_intervals-clause-bounds : goal.returns-then-has_short_intervals-clause-bounds
+returns-then-has_short_intervals-clause-bounds g c = grind (arith, common_steps)

@@ -1,3 +1,4 @@
+use Rattle.std.proofs.lemmas.Grind.{common_steps}
 use Rattle.std.proofs.Common.{◌≡◌, sym, suc, ◌*◌, ◌/◌, ◌<◌, ◌≤◌, arith, length, subst, take, drop, ◌∙◌, ℕ, length-append}
 use Rattle.std.proofs.Math.Nat.{le-div_iff_mul-le}
 use Rattle.std.proofs.lemmas.List.{length-drop, length-map, length-take-le}
@@ -24,3 +25,18 @@ returns-clause-stop c more room =
     let lt : n < count = omega (arith, few, whole, c.min-count.ensures) in
     stops_first s bytes count n lt (subst (λ (k : ℕ). IsNoSpelling s (drop (width s * n) (take (k * count) bytes))) is
     (read.ensures.reads.stop (omega (arith, lt, len, length-map read.new.levels (value_at s)))))
+
+pub returns-clause-legal : goal.returns-clause-legal
+returns-clause-legal c = grind (arith, common_steps)
+
+pub returns-clause-reads : goal.returns-clause-reads
+returns-clause-reads c = grind (arith, common_steps)
+
+pub returns-clause-count : goal.returns-clause-count
+returns-clause-count c = grind (arith, common_steps)
+
+pub returns-clause-within : goal.returns-clause-within
+returns-clause-within c = grind (arith, common_steps)
+
+pub returns-clause-none : goal.returns-clause-none
+returns-clause-none c = grind (arith, common_steps)

@@ -1,3 +1,4 @@
+use Rattle.std.proofs.lemmas.Grind.{common_steps}
 use Rattle.std.proofs.Common.{arith, ◌≡◌, ◌*◌, ◌^◌, ◌<◌, All, ap, sym, ◌∙◌, subst, ℕ}
 use Rattle.rice_samples.specs.Parameters.{value_count}
 use Rattle.rice_samples.specs.Parameters.{width as width_of}
@@ -17,3 +18,12 @@ returns-then-bits-width-clause-reads c =
       | then-bits-width-via-else-bits-width+then-are_levels_of_samples w ↦ w.are_levels_of_samples.ensures w.if-are_levels_of_samples.true
     ] in
     reads_all s c.args.bytes.now levels (c.requires ∙ ap (λ n. width_of s * n) (sym read.ensures.len)) legal read.ensures.spelled
+
+pub returns-clause-legal : goal.returns-clause-legal
+returns-clause-legal c = grind (arith, common_steps)
+
+pub returns-clause-reads : goal.returns-clause-reads
+returns-clause-reads c = grind (arith, common_steps)
+
+pub returns-clause-count : goal.returns-clause-count
+returns-clause-count c = grind (arith, common_steps)

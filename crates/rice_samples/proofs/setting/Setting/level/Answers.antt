@@ -1,3 +1,4 @@
+use Rattle.std.proofs.lemmas.Grind.{common_steps}
 use Rattle.std.proofs.Common.{arith}
 use Rattle.std.proofs.lemmas.Int.{ints}
 use Rattle.rice_samples.specs.Parameters.{least}
@@ -15,3 +16,6 @@ returns-clause-fits c =
     let s = c.args.self.now in
     let legal = c.least.ensures.legal in
     omega (arith, ints, least_low s legal, least_high s, count_limit s legal, gap_is (least s) c.args.x c.requires.0, c.requires.1)
+
+pub returns-clause-below : goal.returns-clause-below
+returns-clause-below c = grind (arith, common_steps)

@@ -1,3 +1,4 @@
+use Rattle.std.proofs.lemmas.Grind.{common_steps}
 use Rattle.std.proofs.Common.{◌≡◌, ap, ◌∙◌, refl, None, arith, take, length-append, length}
 use Rattle.std.specs.Prelude.{flat_map}
 use Rattle.rice_bits.specs.Bits.{fundamental_sequence}
@@ -24,3 +25,6 @@ returns-clause-steps g c =
       c.waiting.ensures.value,
       ap (λ r. r.taken) c.self.view_is,
     )
+
+pub returns-clause-rest : goal.returns-clause-rest
+returns-clause-rest g c = grind (arith, common_steps)

@@ -1,4 +1,5 @@
-use Rattle.std.proofs.Common.{[], subst, sym}
+use Rattle.std.proofs.lemmas.Grind.{common_steps}
+use Rattle.std.proofs.Common.{arith, [], subst, sym}
 use Rattle.rice_code.specs.encode.Coder.{IsCoder, HasTaken}
 use Rattle.rice_code.specs.encode.OpenSegment.{CoderState}
 use Rattle.rice_code.proofs.lemmas.encode.PushedCode.{none_taken}
@@ -9,3 +10,6 @@ invariant_of-result g c = subst IsCoder (sym c.new.ensures) (record { samples = 
 
 pub returns-clause-taken : goal.returns-clause-taken
 returns-clause-taken g c = subst (λ (v : CoderState). HasTaken v []) (sym c.new.ensures) (none_taken c.args.setting c.block-block.ensures.legal)
+
+pub returns-clause-setting : goal.returns-clause-setting
+returns-clause-setting g c = grind (arith, common_steps)

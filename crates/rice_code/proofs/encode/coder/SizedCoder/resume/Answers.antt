@@ -18,3 +18,6 @@ pub invariant_of-result : goal.invariant_of-result
 invariant_of-result g c =
     let same = to_z-of_z w64 c.args.previous c.ranges.previous in
     subst IsCoder (sym (c.resume.ensures ∙ ap (state_between c.args.setting c.args.start) same)) (record { samples = c.requires.taken.0; taken = c.requires.taken.1 })
+
+pub returns : goal.returns
+returns g c = search rules

@@ -1,4 +1,5 @@
-use Rattle.std.proofs.Common.{take, subst, ℕ}
+use Rattle.std.proofs.lemmas.Grind.{common_steps}
+use Rattle.std.proofs.Common.{arith, take, subst, ℕ}
 use Rattle.std.proofs.lemmas.Result.{err_from_is_err_and}
 use Rattle.rice_samples.specs.Parameters.{values_at}
 use Rattle.rice_samples.specs.bytes.SampleReader.{GivesSamples}
@@ -23,3 +24,18 @@ pub returns-in_default-clause-gives : goal.returns-in_default-clause-gives
 returns-in_default-clause-gives g c =
     gives_after c.args.self.now c.loop-self.self c.take.new.self (g.I.Intake.left c.args.intake.now) (g.I.Intake.left c.loop-self.intake) c.take.new.levels c.take.result
     c.loop-self.invariant.gives c.take.ensures.gives
+
+pub returns-in_default-clause-count : goal.returns-in_default-clause-count
+returns-in_default-clause-count g c = grind (arith, common_steps)
+
+pub returns-in_default-clause-legal : goal.returns-in_default-clause-legal
+returns-in_default-clause-legal g c = grind (arith, common_steps)
+
+pub returns-in_default-clause-piece : goal.returns-in_default-clause-piece
+returns-in_default-clause-piece g c = grind (arith, common_steps)
+
+pub returns-in-0-clause-calm : goal.returns-in-0-clause-calm
+returns-in-0-clause-calm g c = grind (arith, common_steps)
+
+pub returns-in_default-clause-stop : goal.returns-in_default-clause-stop
+returns-in_default-clause-stop g c = grind (arith, common_steps)
