@@ -130,8 +130,8 @@ impl<'a, 'r, R: Runtime + AllocGlobal> System<'a> for Host<'r, R> {
         self.progress.watch(self.rt);
     }
 
-    fn close(&mut self, decode: bool, samples: u64) {
-        self.progress.close(self.rt, decode, samples);
+    fn write_closing_line(&mut self, decode: bool, samples: u64) {
+        self.progress.write_closing_line(self.rt, decode, samples);
     }
 
     fn report(&mut self, it: Finding) -> Result<(), WriteFault> {

@@ -40,7 +40,7 @@ pub fn perform<'a, S: System<'a>>(system: &mut S, plan: &Plan<'a>) -> u8
             Some(dest) => create_and_write(system, plan, dest, source, id),
             None => {
                 let done = test(system, plan, source, id);
-                close(system, plan, done)
+                write_closing_line(system, plan, done)
             }
         },
         Err(_) => fail(system, Message::NoSource { name: plan.source }),
@@ -59,13 +59,13 @@ pub fn fail<'a, S: System<'a>>(system: &mut S, message: Message<'a>) -> u8
 }
 
 /// Writes the closing line, if the plan asks for it, and returns the status.
-fn close<'a, S: System<'a>>(system: &mut S, plan: &Plan<'a>, done: Done) -> u8
+fn write_closing_line<'a, S: System<'a>>(system: &mut S, plan: &Plan<'a>, done: Done) -> u8
     ensures closes { (o : Outside) → S.told system.old ≡ Some o →
         S.told system.new ≡ Some (closing plan.now.verbose done.samples o) }
     ensures status { result ≡ done.status }
 {
     if plan.verbose {
-        system.close(plan.decode, done.samples);
+        system.write_closing_line(plan.decode, done.samples);
     }
     done.status
 }
@@ -137,7 +137,7 @@ fn create_and_write<'a, S: System<'a>>(
     match create(system, dest, mode_for(id)) {
         Ok(begun) => {
             let done = transfer(system, plan, dest, source, begun);
-            close(system, plan, done)
+            write_closing_line(system, plan, done)
         }
         Err(CreateFault::NoMemory) => fail(system, Message::NoMemory),
         Err(CreateFault::Refused) => fail(system, Message::NoDest { name: dest }),

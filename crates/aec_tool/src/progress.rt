@@ -81,7 +81,7 @@ impl Progress {
     }
 
     /// Writes the closing line.
-    pub fn close<R: Clock + Eprint>(&self, rt: &R, decode: bool, samples: u64) {
+    pub fn write_closing_line<R: Clock + Eprint>(&self, rt: &R, decode: bool, samples: u64) {
         let (read, written) = (self.read.get(), self.written.get());
         if self.shown.get() > 0 {
             let _ = eprint!(rt; "\r");

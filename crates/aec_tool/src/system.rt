@@ -87,7 +87,7 @@ pub trait System<'a> {
 
     /// Writes the closing line to standard error: so many samples, the bytes in and out, their ratio, and the time. A failure is
     /// passed over.
-    fn close(&mut self, decode: bool, samples: u64)
+    fn write_closing_line(&mut self, decode: bool, samples: u64)
         ensures silent { told self.old ≡ None → told self.new ≡ None }
         ensures closes { (o : Outside) → told self.old ≡ Some o →
             told self.new ≡ Some (closing true samples o) };

@@ -165,7 +165,7 @@ impl<'a> System<'a> for Told<'a> {
 
     fn watch(&self) {}
 
-    fn close(&mut self, _decode: bool, samples: u64) {
+    fn write_closing_line(&mut self, _decode: bool, samples: u64) {
         self.closed = Some(samples);
     }
 

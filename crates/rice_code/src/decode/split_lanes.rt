@@ -47,13 +47,13 @@ pub fn first_lanes(numbers: u8x16, count: usize) -> u8x16
     match count {
         16 => numbers,
         8 => first_eight_then_zeros(numbers),
-        _ => first_then_zeros(numbers, count),
+        _ => first_numbers_then_zeros(numbers, count),
     }
 }
 
 /// Returns the first `count` numbers, with zeros behind them.
 #[inline(always)]
-fn first_then_zeros(numbers: u8x16, count: usize) -> u8x16
+fn first_numbers_then_zeros(numbers: u8x16, count: usize) -> u8x16
     requires count { count ≤ 16 }
     requires len { length numbers ≡ 16 }
     ensures { result ≡ take count numbers ++ replicate (16 - count) 0 }

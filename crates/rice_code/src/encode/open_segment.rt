@@ -190,7 +190,7 @@ impl<const N: usize> OpenSegment<N> {
         ensures { self.new ≡ state_with_later self.old (value_at self.old.setting before)
             (values_at self.old.setting levels.now) }
     {
-        push_behind_first(&self.setting, before, levels, &mut self.residuals);
+        push_each_after_the_one_before(&self.setting, before, levels, &mut self.residuals);
         self.previous = levels[levels.len() - 1];
     }
 
@@ -340,8 +340,9 @@ fn note_reference(setting: &PreparedSetting, first: bool, reference: &mut Option
     }
 }
 
-/// Adds the residuals of samples after the one at level `previous`, none of which is the first of an interval.
-fn push_behind_first<const N: usize>(
+/// Adds the residuals of samples: of the first one after the sample at level `previous`, and of each other after the one before it.
+/// A reference sample comes after itself, and has the residual 0.
+fn push_each_after_the_one_before<const N: usize>(
     setting: &PreparedSetting,
     previous: u32,
     levels: &[u32],

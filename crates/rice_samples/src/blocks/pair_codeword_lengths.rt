@@ -14,15 +14,15 @@ pub(crate) fn pair_sum(items: &[u32]) -> u128
 {
     // The loops unroll where the length is known.
     match items.len() {
-        8 => least_wide_pair_sum(all_of(items, 8)),
-        len if len % 8 == 0 => least_wide_pair_sum(items),
+        8 => pair_sum_in_32_64_or_128_bits(all_of(items, 8)),
+        len if len % 8 == 0 => pair_sum_in_32_64_or_128_bits(items),
         _ => pair_sum_in_128_bits(items),
     }
 }
 
-/// The same, counted in 32 or 64 bits where all residuals are so small.
+/// The same, counted in 32 or 64 bits where all residuals are so small, and else in 128.
 #[inline(always)]
-fn least_wide_pair_sum(items: &[u32]) -> u128
+fn pair_sum_in_32_64_or_128_bits(items: &[u32]) -> u128
     requires size { IsBlockSize (length items.now) }
     requires eights { length items.now % 8 ≡ 0 }
     ensures value { result ≡ sum_by (λ g. g + 1) (pair_codes items.now) }

@@ -37,9 +37,9 @@ returns-in-Ok g c = λ o told.
     bad in
     let mode : c.mode_for.result ≡ new_mode (source_id o c.args.plan.now.source.now) = c.mode_for.ensures ∙ ap new_mode (c.requires.id o told) in
     let ran = c.transfer-done.ensures o all.0 (made.0 ∙ ap (λ m. Some (begun o (place_of c.args.dest.now m))) mode) all.1 all.2 keeps made.1 in
-    let status = sym c.close.ensures.status in (
+    let status = sym c.write_closing_line.ensures.status in (
       closing c.args.plan.now.verbose c.transfer-done.result.samples ran.0,
-      c.close.ensures.closes ran.0 ran.1,
+      c.write_closing_line.ensures.closes ran.0 ran.1,
       inr (
           inr (
             ran.0,

@@ -22,8 +22,8 @@ invariant_of-self g c =
     (λ (v : CoderState). length v.residuals + length levels ≤ v.setting.block * blocks_left v.setting v.start) (sym c.self.view_is) c.requires.room in
     let last = last_value s p levels c.requires.some in (
       legal (length levels - 1) 0 (omega (arith, c.requires.some)),
-      subst (λ v. IsOpen (record { setting = s; residuals = c.push_behind_first.new.segment; reference = i.reference; previous = v; start = i.start }) i.end) (sym last)
-          (open_later st i.end p c.push_behind_first.new.segment xs c.self.invariant.1 (sample_at s c.args.before within) c.push_behind_first.ensures
+      subst (λ v. IsOpen (record { setting = s; residuals = c.push_each_after_the_one_before.new.segment; reference = i.reference; previous = v; start = i.start }) i.end) (sym last)
+          (open_later st i.end p c.push_each_after_the_one_before.new.segment xs c.self.invariant.1 (sample_at s c.args.before within) c.push_each_after_the_one_before.ensures
           (legal_values s levels legal) (omega (arith, room, length-values s levels))),
       c.self.invariant.2,
     )
@@ -35,6 +35,6 @@ returns g c =
     let levels = c.args.levels.now in
     let p = value_at s c.args.before in
     let same : List ℕ → ℤ → CoderState = λ residuals previous. record { setting = s; residuals = residuals; reference = i.reference; previous = previous; start = i.start } in
-    let new : same c.push_behind_first.new.segment (value_at s (slice_index_or levels (length levels - 1) 0)) ≡ same
-    (i.residuals ++ later_residuals s p (values_at s levels)) (last_of p (values_at s levels)) = λ j. same (c.push_behind_first.ensures j) (last_value s p levels c.requires.some j) in
+    let new : same c.push_each_after_the_one_before.new.segment (value_at s (slice_index_or levels (length levels - 1) 0)) ≡ same
+    (i.residuals ++ later_residuals s p (values_at s levels)) (last_of p (values_at s levels)) = λ j. same (c.push_each_after_the_one_before.ensures j) (last_value s p levels c.requires.some j) in
     new ∙ ap (λ (v : CoderState). state_with_later v (value_at v.setting c.args.before) (values_at v.setting levels)) c.self.view_is

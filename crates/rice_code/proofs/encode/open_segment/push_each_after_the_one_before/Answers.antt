@@ -3,7 +3,7 @@ use Rattle.rice_samples.specs.Parameters.{Parameters, value_at, value_count, val
 use Rattle.rice_samples.specs.predict.Residuals.{pattern, ranks_below}
 use Rattle.rice_samples.proofs.lemmas.setting.ValuesByLevels.{ranks_of_values}
 use Rattle.rice_code.proofs.lemmas.encode.SeveralSamplesHeld.{later_ranks, later_patterns}
-use Rattle.rice_code.proofs.encode.open_segment.push_behind_first.Goals as goal
+use Rattle.rice_code.proofs.encode.open_segment.push_each_after_the_one_before.Goals as goal
 
 pub returns-then-preprocess : goal.returns-then-preprocess
 returns-then-preprocess g c =
