@@ -1,4 +1,5 @@
-use Rattle.std.proofs.Common.{◌≢◌, ◌∙◌, ◌/◌, ◌≤◌, length, sym, subst, IfOk, Result, List, ℤ}
+use Rattle.std.proofs.lemmas.Grind.{common_steps}
+use Rattle.std.proofs.Common.{arith, ◌≢◌, ◌∙◌, ◌/◌, ◌≤◌, length, sym, subst, IfOk, Result, List, ℤ}
 use Rattle.rice_samples.specs.Parameters.{Parameters, width}
 use Rattle.rice_samples.specs.declared.setting.SettingFault.{SettingFault}
 use Rattle.rice_stream.specs.Feeding.{IsSeam}
@@ -14,3 +15,6 @@ returns-in-Ok-clause-room c =
     subst (λ (r : Result Parameters SettingFault). IfOk r
     (λ s. push_room s c.args.feed.now.seam.waiting_bits (length c.args.samples.now / width s) ≤ length c.args.code.now → c.push_into.result ≢ 9)) same
     (room c.args.feed.now c.push_into.new.feed stands.1 (c.push_into.ensures stands.0 stands.1))
+
+pub returns-in-Ok-clause-ok : goal.returns-in-Ok-clause-ok
+returns-in-Ok-clause-ok c = grind (arith, common_steps)
