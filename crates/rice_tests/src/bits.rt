@@ -1,3 +1,5 @@
+ghost use Rattle.std.specs.Prelude.{◌<◌};
+
 use crate::case_table::{Columns, bytes_of};
 use crate::cases::Cases;
 use crate::devices::{MemoryIn, MemoryOut, ZeroIn};
@@ -89,7 +91,7 @@ fn put_all_words(rt: HostRuntime) -> Result<(), Fail> {
     for line in WORDS.lines() {
         cases.of_line(line);
         let mut columns = Columns::of(line);
-        let width = columns.next().parse::<u32>()?;
+        let width = columns.next_u32()?;
         let expected = bytes_of(columns.next(), rt.alloc())?;
         assert!(rt; width <= 32);
         let mut sink = BitSink::<16>::new();
@@ -126,7 +128,7 @@ fn put_eight_whole_words(rt: HostRuntime) -> Result<(), Fail> {
     for line in WHOLE_WORDS.lines() {
         cases.of_line(line);
         let mut columns = Columns::of(line);
-        let width = columns.next().parse::<u32>()?;
+        let width = columns.next_u32()?;
         let expected = bytes_of(columns.next(), rt.alloc())?;
         assert!(rt; width == 8 || width == 16 || width == 32);
         let mut sink = BitSink::<40>::new();
@@ -168,64 +170,98 @@ fn put_sequences(rt: HostRuntime) -> Result<(), Fail> {
 #[test]
 fn read_words_and_sequences(rt: HostRuntime) -> Result<(), Fail> {
     let mut cases = Cases::new();
-    let long = [0, 0, 0, 0, 0, 0, 0, 1, 0xDE, 0xAD, 0xBE, 0xEF];
     for piece in PIECES.iter().copied().filter(|piece| *piece > 0) {
-        let mut meter = Meter::new();
-        let mut reader = BitReader::new(MemoryIn::new(&[0, 0x58], piece, None));
-        cases.check(reader.take(4, &mut meter) == Ok(0));
-        cases.check(reader.take(8, &mut meter) == Ok(5));
-        cases.check(reader.take_fs(&mut meter) == Ok(0));
-        let end = BitFault::End { blank: false };
-        cases.check(reader.take_fs(&mut meter) == Err(end));
-        cases.check(reader.taken() == 16);
-        cases.check(meter.steps() == 16);
-        reader.mark();
-        cases.check(reader.take(0, &mut meter) == Err(end));
-
-        let mut meter = Meter::new();
-        let mut reader = BitReader::new(MemoryIn::new(&long, piece, None));
-        cases.check(reader.take_fs(&mut meter) == Ok(63));
-        cases.check(reader.take(32, &mut meter) == Ok(3735928559));
-        cases.check(meter.steps() == 96);
+        read_words_and_a_sequence(&mut cases, piece);
+        read_a_long_sequence_and_a_word(&mut cases, piece);
     }
     cases.end(&rt);
     Ok(())
+}
+
+fn read_words_and_a_sequence(cases: &mut Cases<'_>, piece: usize)
+    requires { 0 < piece }
+{
+    let mut meter = Meter::new();
+    let mut reader = BitReader::new(MemoryIn::new(&[0, 0x58], piece, None));
+    cases.check(reader.take(4, &mut meter) == Ok(0));
+    cases.check(reader.take(8, &mut meter) == Ok(5));
+    cases.check(reader.take_fs(&mut meter) == Ok(0));
+    let end = BitFault::End { blank: false };
+    cases.check(reader.take_fs(&mut meter) == Err(end));
+    cases.check(reader.taken() == 16);
+    cases.check(meter.steps() == 16);
+    reader.mark();
+    cases.check(reader.take(0, &mut meter) == Err(end));
+}
+
+fn read_a_long_sequence_and_a_word(cases: &mut Cases<'_>, piece: usize)
+    requires { 0 < piece }
+{
+    let long = [0, 0, 0, 0, 0, 0, 0, 1, 0xDE, 0xAD, 0xBE, 0xEF];
+    let mut meter = Meter::new();
+    let mut reader = BitReader::new(MemoryIn::new(&long, piece, None));
+    cases.check(reader.take_fs(&mut meter) == Ok(63));
+    cases.check(reader.take(32, &mut meter) == Ok(3735928559));
+    cases.check(meter.steps() == 96);
 }
 
 #[test]
 fn read_to_the_end(rt: HostRuntime) -> Result<(), Fail> {
     let mut cases = Cases::new();
     for piece in PIECES.iter().copied().filter(|piece| *piece > 0) {
-        let mut meter = Meter::new();
-        let mut reader = BitReader::new(MemoryIn::new(&[0, 0x58], piece, None));
-        cases.check(reader.take(13, &mut meter) == Ok(11));
-        reader.mark();
-        let blank = BitFault::End { blank: true };
-        cases.check(reader.take_fs(&mut meter) == Err(blank));
-
-        let mut reader = BitReader::new(MemoryIn::new(&[], piece, None));
-        cases.check(reader.take(0, &mut meter) == Ok(0));
-        cases.check(reader.take(1, &mut meter) == Err(blank));
-
-        let mut reader = BitReader::new(MemoryIn::new(&[0xFF], piece, Some(0)));
-        cases.check(reader.take(1, &mut meter) == Err(BitFault::Read));
-        cases.check(reader.take(1, &mut meter) == Err(BitFault::Read));
-        cases.check(reader.into_inner().failures() == 1);
-
-        let long = [0, 0, 0, 0, 0, 0, 0, 0, 0x80];
-        let mut reader = BitReader::new(MemoryIn::new(&long, piece, None));
-        cases.check(reader.take_fs(&mut meter) == Ok(64));
-        reader.mark();
-        reader.align(&mut meter);
-        cases.check(reader.taken() == 72);
-        cases.check(reader.take(1, &mut meter) == Err(blank));
+        read_where_zeros_are_left(&mut cases, piece);
+        read_where_nothing_is_left(&mut cases, piece);
+        read_where_the_intake_fails(&mut cases, piece);
+        read_to_the_end_of_a_byte(&mut cases, piece);
     }
     cases.end(&rt);
     Ok(())
 }
 
+fn read_where_zeros_are_left(cases: &mut Cases<'_>, piece: usize)
+    requires { 0 < piece }
+{
+    let mut meter = Meter::new();
+    let mut reader = BitReader::new(MemoryIn::new(&[0, 0x58], piece, None));
+    cases.check(reader.take(13, &mut meter) == Ok(11));
+    reader.mark();
+    cases.check(reader.take_fs(&mut meter) == Err(BitFault::End { blank: true }));
+}
+
+fn read_where_nothing_is_left(cases: &mut Cases<'_>, piece: usize)
+    requires { 0 < piece }
+{
+    let mut meter = Meter::new();
+    let mut reader = BitReader::new(MemoryIn::new(&[], piece, None));
+    cases.check(reader.take(0, &mut meter) == Ok(0));
+    cases.check(reader.take(1, &mut meter) == Err(BitFault::End { blank: true }));
+}
+
+fn read_where_the_intake_fails(cases: &mut Cases<'_>, piece: usize)
+    requires { 0 < piece }
+{
+    let mut meter = Meter::new();
+    let mut reader = BitReader::new(MemoryIn::new(&[0xFF], piece, Some(0)));
+    cases.check(reader.take(1, &mut meter) == Err(BitFault::Read));
+    cases.check(reader.take(1, &mut meter) == Err(BitFault::Read));
+    cases.check(reader.into_inner().failures() == 1);
+}
+
+fn read_to_the_end_of_a_byte(cases: &mut Cases<'_>, piece: usize)
+    requires { 0 < piece }
+{
+    let mut meter = Meter::new();
+    let long = [0, 0, 0, 0, 0, 0, 0, 0, 0x80];
+    let mut reader = BitReader::new(MemoryIn::new(&long, piece, None));
+    cases.check(reader.take_fs(&mut meter) == Ok(64));
+    reader.mark();
+    reader.align(&mut meter);
+    cases.check(reader.taken() == 72);
+    cases.check(reader.take(1, &mut meter) == Err(BitFault::End { blank: true }));
+}
+
 #[test]
-fn take_what_waits(rt: HostRuntime) -> Result<(), Fail> {
+fn take_words_that_wait(rt: HostRuntime) -> Result<(), Fail> {
     let mut cases = Cases::new();
     let bytes = [0x12, 0x34, 0x56, 0x78, 0x9A, 0xBC, 0xDE, 0xF0, 0x12, 0x34];
     let mut meter = Meter::new();
@@ -236,7 +272,13 @@ fn take_what_waits(rt: HostRuntime) -> Result<(), Fail> {
     cases.check(reader.take_waiting(4, &mut words, &mut meter) == 3);
     cases.check(words == [3, 4, 5]);
     cases.check((reader.taken(), meter.steps()) == (20, 20));
+    cases.end(&rt);
+    Ok(())
+}
 
+#[test]
+fn take_sequences_that_wait(rt: HostRuntime) -> Result<(), Fail> {
+    let mut cases = Cases::new();
     // 0x18 is 00011, 000 and then zeros.
     let bytes = [0x80, 0x18, 0, 0, 0, 0, 0, 0, 0, 1];
     let mut meter = Meter::new();

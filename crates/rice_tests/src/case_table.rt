@@ -30,6 +30,23 @@ impl<'a> Columns<'a> {
             }
         }
     }
+
+    /// Returns the number in the next column.
+    pub fn next_u32(&mut self) -> Result<u32, Fail> {
+        Ok(self.next().parse::<u32>()?)
+    }
+
+    pub fn next_u64(&mut self) -> Result<u64, Fail> {
+        Ok(self.next().parse::<u64>()?)
+    }
+
+    pub fn next_usize(&mut self) -> Result<usize, Fail> {
+        Ok(self.next().parse::<usize>()?)
+    }
+
+    pub fn next_i64(&mut self) -> Result<i64, Fail> {
+        Ok(self.next().parse::<i64>()?)
+    }
 }
 
 /// Returns the setting of options such as `n16 j32 r64 s`, those of the command line without dashes: `s` signed, `m` most

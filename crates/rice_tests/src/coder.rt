@@ -26,7 +26,7 @@ fn push(
     x: i64,
     sink: &mut SegmentSink,
     meter: &mut Meter,
-) -> Result<(), Fail>
+)
     requires setting { coder.old.setting ≡ setting.now }
     requires room { length sink.old ≤ 7 }
     ensures setting { coder.new.setting ≡ setting.now }
@@ -35,7 +35,6 @@ fn push(
     assert!(rt; setting.in_range(x));
     assert!(rt; meter.steps() < 1 << 61);
     coder.push(x, sink, meter);
-    Ok(())
 }
 
 /// Codes samples, and takes the whole bytes out of the sink after each of them.
@@ -46,7 +45,7 @@ fn code(rt: &impl Abort, alloc: Global, setting: Setting, samples: &[i64]) -> Re
     let mut meter = Meter::new();
     let mut bytes = Vec::new(alloc);
     for &x in samples {
-        push(rt, &setting, &mut coder, x, &mut sink, &mut meter)?;
+        push(rt, &setting, &mut coder, x, &mut sink, &mut meter);
         bytes.extend_from_slice(sink.whole())?;
         sink.drop_whole();
     }
@@ -98,7 +97,7 @@ fn push_some(
     levels: &[u32],
     sink: &mut SegmentSink,
     meter: &mut Meter,
-) -> Result<usize, Fail>
+) -> usize
     requires setting { coder.old.setting ≡ setting.now }
     requires room { length sink.old ≤ 7 }
     ensures setting { coder.new.setting ≡ setting.now }
@@ -106,7 +105,7 @@ fn push_some(
     let _block = setting.block();
     assert!(rt; are_legal(setting, levels));
     assert!(rt; meter.steps() < 1 << 61);
-    Ok(coder.push_some(levels, sink, meter).samples)
+    coder.push_some(levels, sink, meter).samples
 }
 
 /// Codes samples as `code` does, several at a time.
@@ -127,7 +126,7 @@ fn code_some(
     let mut taken: usize = 0;
     for _ in 0..levels.len() {
         let rest = &levels[taken.min(levels.len())..];
-        let more = push_some(rt, &setting, &mut coder, rest, &mut sink, &mut meter)?;
+        let more = push_some(rt, &setting, &mut coder, rest, &mut sink, &mut meter);
         taken = taken.saturating_add(more);
         bytes.extend_from_slice(sink.whole())?;
         sink.drop_whole();
@@ -209,7 +208,7 @@ fn pending_samples(rt: HostRuntime) -> Result<(), Fail> {
     for waiting in 0..16u32 {
         cases.check(coder.pending() == waiting);
         assert_eq!(rt; sink.len(), 0);
-        push(&rt, &setting, &mut coder, 5, &mut sink, &mut meter)?;
+        push(&rt, &setting, &mut coder, 5, &mut sink, &mut meter);
     }
     cases.check((coder.pending(), sink.len()) == (0, 14));
     cases.end(&rt);

@@ -36,10 +36,7 @@ fn stops<'a>(cases: &mut Cases<'a>, alloc: Global, table: &'a str) -> Result<(),
 
 /// Returns the place of a column, or `None` where it is empty.
 fn place_of(text: &str) -> Result<Option<usize>, Fail> {
-    match number_of(text)? {
-        Some(place) => Ok(Some(usize::try_from(place)?)),
-        None => Ok(None),
-    }
+    Ok(number_of(text)?.map(|place| place as usize))
 }
 
 // Bytes that spell no sample, an intake that fails at each place of sixteen samples, and an outlet that fails at each place of

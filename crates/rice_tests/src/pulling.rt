@@ -12,7 +12,7 @@ use rice_stream::{Pause, Stand, decode_more};
 use std::test::Fail;
 
 /// Pulls a piece into room for these samples, of a byte each, and looks that they are given, and why it ends there.
-fn pull(
+fn pull_and_check_piece(
     cases: &mut Cases<'_>,
     setting: &Setting,
     stand: &Stand,
@@ -42,7 +42,7 @@ fn pieces_of_a_code(rt: HostRuntime) -> Result<(), Fail> {
     let setting = setting_of("")?;
     let first = Stand::new(&setting);
     cases.check(stands_at(first, 0, 0, 0, 0));
-    let still = pull(
+    let still = pull_and_check_piece(
         &mut cases,
         &setting,
         &first,
@@ -51,7 +51,7 @@ fn pieces_of_a_code(rt: HostRuntime) -> Result<(), Fail> {
         Pause::Blank,
     );
     cases.check(stands_at(still, 0, 0, 0, 0));
-    let still = pull(
+    let still = pull_and_check_piece(
         &mut cases,
         &setting,
         &still,
@@ -59,7 +59,7 @@ fn pieces_of_a_code(rt: HostRuntime) -> Result<(), Fail> {
         &[0xEE; 8],
         Pause::Cut,
     );
-    let next = pull(
+    let next = pull_and_check_piece(
         &mut cases,
         &setting,
         &still,
@@ -68,7 +68,7 @@ fn pieces_of_a_code(rt: HostRuntime) -> Result<(), Fail> {
         Pause::Full,
     );
     cases.check(stands_at(next, 8, 13, 1, 0));
-    let last = pull(
+    let last = pull_and_check_piece(
         &mut cases,
         &setting,
         &next,
@@ -86,7 +86,7 @@ fn pieces_of_a_code(rt: HostRuntime) -> Result<(), Fail> {
 fn a_run_over_two_pieces(rt: HostRuntime) -> Result<(), Fail> {
     let mut cases = Cases::new();
     let setting = setting_of("")?;
-    let next = pull(
+    let next = pull_and_check_piece(
         &mut cases,
         &setting,
         &Stand::new(&setting),
@@ -95,7 +95,7 @@ fn a_run_over_two_pieces(rt: HostRuntime) -> Result<(), Fail> {
         Pause::Full,
     );
     cases.check(stands_at(next, 8, 14, 1, 1));
-    let last = pull(&mut cases, &setting, &next, &[], &[5; 8], Pause::Full);
+    let last = pull_and_check_piece(&mut cases, &setting, &next, &[], &[5; 8], Pause::Full);
     cases.check(stands_at(last, 16, 14, 0, 0));
     cases.end(&rt);
     Ok(())
@@ -108,7 +108,7 @@ fn an_interval_from_its_place(rt: HostRuntime) -> Result<(), Fail> {
     let setting = setting_of("r1 p")?;
     let second = Stand::at(&setting, 8, 16);
     cases.check(stands_at(second, 8, 16, 0, 0));
-    let last = pull(
+    let last = pull_and_check_piece(
         &mut cases,
         &setting,
         &second,

@@ -9,6 +9,7 @@ use rice_samples::{
     pattern_of_level, residual, restore, restore_near_first, sample_of, set_unused_bits,
     write_spellings, write_spellings_laid_out,
 };
+use std::process::Abort;
 use std::test::Fail;
 
 /// A setting of predicted samples, least significant byte first.
@@ -49,7 +50,7 @@ fn block_sizes_are_refused(rt: HostRuntime) -> Result<(), Fail> {
     for line in REFUSED_BLOCKS.lines() {
         cases.of_line(line);
         let mut columns = Columns::of(line);
-        let block = columns.next().parse::<u32>()?;
+        let block = columns.next_u32()?;
         let answer = Setting::with_any_block(8, block, 2, false, false, false, true, false);
         let fault = answer.expect_err(&rt, "a refusal");
         let printed = format!(in rt.alloc(); "{fault}")?;
@@ -75,14 +76,14 @@ fn getters(rt: HostRuntime) -> Result<(), Fail> {
     for line in GETTERS.lines() {
         cases.of_line(line);
         let mut columns = Columns::of(line);
-        let bits = columns.next().parse::<u32>()?;
+        let bits = columns.next_u32()?;
         let setting = Setting::new(bits, 16, 130, true, true, false, true, true)?;
         cases.check(setting.bits() == bits);
         cases.check(setting.block() == 16);
         cases.check(setting.interval() == 130);
-        cases.check(setting.id_len() == columns.next().parse::<u32>()?);
-        cases.check(setting.k_max() == columns.next().parse::<u32>()?);
-        cases.check(setting.width() == columns.next().parse::<u32>()?);
+        cases.check(setting.id_len() == columns.next_u32()?);
+        cases.check(setting.k_max() == columns.next_u32()?);
+        cases.check(setting.width() == columns.next_u32()?);
         cases.check(setting.preprocess() && setting.pads());
     }
     cases.end(&rt);
@@ -143,21 +144,31 @@ fn samples_are_spelled(rt: HostRuntime) -> Result<(), Fail> {
         let mut columns = Columns::of(line);
         let setting = setting_of(columns.next())?;
         let bytes = bytes_of(columns.next(), rt.alloc())?;
-        let bytes = bytes.as_slice();
         let sample = sample_in(columns.next())?;
-        cases.check(bytes.len() == setting.width() as usize);
-        if bytes.len() == setting.width() as usize {
-            cases.check(sample_of(&setting, bytes) == sample);
-        }
-        if let Some(x) = sample {
-            assert!(rt; setting.in_range(x));
-            if setting.in_range(x) {
-                cases.check(bytes_of_sample(&setting, x).as_slice() == bytes);
-            }
-        }
+        sample_is_read_and_spelled(&mut cases, &setting, bytes.as_slice(), sample);
     }
     cases.end(&rt);
     Ok(())
+}
+
+fn sample_is_read_and_spelled(
+    cases: &mut Cases<'_>,
+    setting: &Setting,
+    bytes: &[u8],
+    sample: Option<i64>,
+) {
+    let is_one = bytes.len() == setting.width() as usize;
+    cases.check(is_one);
+    if is_one {
+        cases.check(sample_of(setting, bytes) == sample);
+    }
+    if let Some(x) = sample {
+        let is_sample = setting.in_range(x);
+        cases.check(is_sample);
+        if is_sample {
+            cases.check(bytes_of_sample(setting, x).as_slice() == bytes);
+        }
+    }
 }
 
 /// Returns the sample of a column, or `None` where it is empty.
@@ -185,9 +196,9 @@ fn patterns(rt: HostRuntime) -> Result<(), Fail> {
         cases.of_line(line);
         let mut columns = Columns::of(line);
         let setting = setting_of(columns.next())?;
-        let x = columns.next().parse::<i64>()?;
-        let word = columns.next().parse::<u32>()?;
-        let level = columns.next().parse::<u32>()?;
+        let x = columns.next_i64()?;
+        let word = columns.next_u32()?;
+        let level = columns.next_u32()?;
         assert!(rt; setting.in_range(x));
         let digits = pattern(&setting, x);
         cases.check(digits == word);
@@ -237,9 +248,9 @@ fn residuals(rt: HostRuntime) -> Result<(), Fail> {
         cases.of_line(line);
         let mut columns = Columns::of(line);
         let setting = setting_of(columns.next())?;
-        let p = columns.next().parse::<i64>()?;
-        let x = columns.next().parse::<i64>()?;
-        let expected = columns.next().parse::<u32>()?;
+        let p = columns.next_i64()?;
+        let x = columns.next_i64()?;
+        let expected = columns.next_u32()?;
         assert!(rt; setting.in_range(p));
         assert!(rt; setting.in_range(x));
         let d = residual(&setting, p, x);
@@ -299,10 +310,10 @@ fn sums_of_blocks(rt: HostRuntime) -> Result<(), Fail> {
     for line in SUMS.lines() {
         cases.of_line(line);
         let mut columns = Columns::of(line);
-        let size = columns.next().parse::<usize>()?;
-        let value = columns.next().parse::<u32>()?;
-        let k = columns.next().parse::<u32>()?;
-        let sum = columns.next().parse::<u64>()?;
+        let size = columns.next_usize()?;
+        let value = columns.next_u32()?;
+        let k = columns.next_u32()?;
+        let sum = columns.next_u64()?;
         let segment = segment_of(size, value);
         assert!(rt; segment.len() == size && k <= 29);
         assert!(rt; size == 8 || size == 16 || size == 32 || size == 64);
@@ -330,12 +341,12 @@ fn stops(rt: HostRuntime) -> Result<(), Fail> {
     for line in STOPS.lines() {
         cases.of_line(line);
         let mut columns = Columns::of(line);
-        let size = columns.next().parse::<usize>()?;
-        let value = columns.next().parse::<u32>()?;
-        let limit = columns.next().parse::<u32>()?;
-        let k = columns.next().parse::<u32>()?;
-        let sum = columns.next().parse::<u64>()?;
-        let steps = columns.next().parse::<u64>()?;
+        let size = columns.next_usize()?;
+        let value = columns.next_u32()?;
+        let limit = columns.next_u32()?;
+        let k = columns.next_u32()?;
+        let sum = columns.next_u64()?;
+        let steps = columns.next_u64()?;
         let segment = segment_of(size, value);
         assert!(rt; !segment.is_empty());
         assert!(rt; segment.len() == size && limit <= 29);
@@ -541,46 +552,80 @@ const ROWS: &str = "3         | 4 | 1 2 255 254
 fn levels_of_bytes(rt: HostRuntime) -> Result<(), Fail> {
     let mut cases = Cases::new();
     let bytes = bytes_of("0102FFFE0080020103000004", rt.alloc())?;
-    let bytes = bytes.as_slice();
     for line in ROWS.lines() {
         cases.of_line(line);
         let mut columns = Columns::of(line);
         let setting = setting_of(columns.next())?;
-        let len = columns.next().parse::<usize>()?;
-        let expected = case_table::samples_of(columns.next(), rt.alloc())?;
-        let expected = expected.as_slice();
-        let width = setting.width() as usize;
-        let mut read = [0; 4];
-        assert!(rt; len <= 4 && width * len <= bytes.len());
-        let taken = levels_of(&setting, &bytes[..width * len], &mut read[..len]);
-        let end = width * expected.len();
-        assert!(rt; end <= 12 && end <= bytes.len());
-        assert!(rt; expected.len() <= 4);
-        let mut levels = [0; 4];
-        for i in 0..expected.len() {
-            assert!(rt; i < 4);
-            levels[i] = level_of(&setting, expected[i]);
-        }
-        let levels = &levels[..expected.len()];
-        cases.check(&read[..taken] == levels);
-        assert!(rt; are_below(setting.number_of_values(), levels));
-        let mut back = [0; 12];
-        write_spellings(&setting, levels, &mut back[..end]);
-        cases.check(&back[..end] == &bytes[..end]);
-        let mut back = [0; 12];
-        write_spellings_laid_out(&setting, width, setting.msb(), levels, &mut back[..end]);
-        cases.check(&back[..end] == &bytes[..end]);
+        let len = columns.next_usize()?;
+        let samples = case_table::samples_of(columns.next(), rt.alloc())?;
+        row_is_read_and_written(
+            &mut cases,
+            &rt,
+            &setting,
+            bytes.as_slice(),
+            len,
+            samples.as_slice(),
+        );
     }
     cases.end(&rt);
     Ok(())
 }
 
-const FAULTS: [(SampleFault, &str); 4] = [
-    (SampleFault::Read, "read failed"),
-    (SampleFault::Cut, "input ends inside a sample"),
-    (SampleFault::TooLong, "input is too long"),
-    (SampleFault::OutOfRange, "sample is out of range"),
-];
+/// Reads `len` samples of the bytes, of which those given are samples, and writes these.
+fn row_is_read_and_written(
+    cases: &mut Cases<'_>,
+    rt: &impl Abort,
+    setting: &Setting,
+    bytes: &[u8],
+    len: usize,
+    samples: &[i64],
+) {
+    assert!(rt; samples.len() <= 4);
+    let mut levels = [0; 4];
+    for i in 0..samples.len() {
+        assert!(rt; i < 4);
+        levels[i] = level_of(setting, samples[i]);
+    }
+    let levels = &levels[..samples.len()];
+    row_is_read(cases, rt, setting, bytes, len, levels);
+    row_is_written(cases, rt, setting, bytes, levels);
+}
+
+fn row_is_read(
+    cases: &mut Cases<'_>,
+    rt: &impl Abort,
+    setting: &Setting,
+    bytes: &[u8],
+    len: usize,
+    levels: &[u32],
+) {
+    assert!(rt; len <= 4);
+    let end = setting.width() as usize * len;
+    let mut read = [0; 4];
+    assert!(rt; end <= bytes.len());
+    let taken = levels_of(setting, &bytes[..end], &mut read[..len]);
+    cases.check(&read[..taken] == levels);
+}
+
+/// Writes the samples with these levels in both ways.
+fn row_is_written(
+    cases: &mut Cases<'_>,
+    rt: &impl Abort,
+    setting: &Setting,
+    bytes: &[u8],
+    levels: &[u32],
+) {
+    let width = setting.width() as usize;
+    let end = width * levels.len();
+    assert!(rt; end <= 12 && end <= bytes.len());
+    assert!(rt; are_below(setting.number_of_values(), levels));
+    let mut written = [0; 12];
+    write_spellings(setting, levels, &mut written[..end]);
+    cases.check(&written[..end] == &bytes[..end]);
+    let mut written = [0; 12];
+    write_spellings_laid_out(setting, width, setting.msb(), levels, &mut written[..end]);
+    cases.check(&written[..end] == &bytes[..end]);
+}
 
 /// Of 10 bits 1,024 is no sample, and a byte alone is none.
 #[test]
@@ -593,7 +638,17 @@ fn samples_of_an_intake(rt: HostRuntime) -> Result<(), Fail> {
     cases.check(samples.next(&mut intake, &mut levels) == Ok(2));
     cases.check(levels[..2] == [513, 1023]);
     cases.check(samples.next(&mut intake, &mut levels) == Err(SampleFault::OutOfRange));
+    cases.check(first_levels(&setting, &[255, 3, 0, 4], &mut levels) == 1);
+    cases.end(&rt);
+    Ok(())
+}
 
+/// A sample is cut, and an input ends behind one.
+#[test]
+fn the_end_of_an_intake(rt: HostRuntime) -> Result<(), Fail> {
+    let mut cases = Cases::new();
+    let setting = of_bits(10, false)?;
+    let mut levels = [0; 4];
     let mut intake = SliceIn::new(&[1, 2, 3]);
     let mut samples = SampleReader::new(setting);
     cases.check(samples.next(&mut intake, &mut levels) == Ok(1));
@@ -603,7 +658,20 @@ fn samples_of_an_intake(rt: HostRuntime) -> Result<(), Fail> {
     let mut samples = SampleReader::new(setting);
     cases.check(samples.next(&mut intake, &mut levels) == Ok(1));
     cases.check(samples.next(&mut intake, &mut levels) == Ok(0));
-    cases.check(first_levels(&setting, &[255, 3, 0, 4], &mut levels) == 1);
+    cases.end(&rt);
+    Ok(())
+}
+
+const FAULTS: [(SampleFault, &str); 4] = [
+    (SampleFault::Read, "read failed"),
+    (SampleFault::Cut, "input ends inside a sample"),
+    (SampleFault::TooLong, "input is too long"),
+    (SampleFault::OutOfRange, "sample is out of range"),
+];
+
+#[test]
+fn texts_of_faults(rt: HostRuntime) -> Result<(), Fail> {
+    let mut cases = Cases::new();
     for i in 0..FAULTS.len() {
         let (fault, text) = FAULTS[i];
         let printed = format!(in rt.alloc(); "{fault}")?;

@@ -1,5 +1,5 @@
 use Rattle.std.proofs.Common.{◌++◌}
-use Rattle.rice_tests.proofs.pulling.pull.Goals as goal
+use Rattle.rice_tests.proofs.pulling.pull_and_check_piece.Goals as goal
 
 pub returns : goal.returns
 returns c =
